@@ -1,0 +1,97 @@
+-- What follows where no fault was found in the rows of a graph.
+use Rattle.std.proofs.Common.{◌≡◌, ℕ, zero, suc, ◌^◌, ◌<◌, ◌≤◌, Bool, true, false, ltb, leb, ◌&&◌, List, [], ◌∷◌, length, get_or, Option, Some, None, Ok, refl, sym, ap, ◌∙◌, subst, arith, leb-true, map, take}
+use Rattle.std.proofs.lemmas.List.{length-map, length-take-le, get_or-map, get_or-take, get_or_default}
+use Rattle.std.proofs.lemmas.Bool.{and_parts, not-true, eqb-false}
+use borrow.Author.Tests.{ltb-true}
+use Rattle.std.specs.List.{All}
+use Rattle.chip_graph.specs.declared.edge.Edge.{Edge}
+use Rattle.chip_graph.specs.declared.edge.End.{End}
+use Rattle.chip_graph.specs.declared.edge.End.TheVariants.{Tail, Head}
+use Rattle.chip_graph.specs.declared.fault.GraphFault.TheVariants as graph_fault
+use Rattle.chip_graph.specs.Ends.{end_of, edge_of}
+use Rattle.chip_graph.specs.Multigraph.{Multigraph, IsEdge, IsGraph, ReachesSink, edge_at}
+use Rattle.chip_graph.specs.Faults.{first_of_faults, unless, checked, fault_of_edge, fault_of_edges, fault_of_rows}
+
+module _ {F : Type 0} where
+  -- no first fault, no fault
+  none_of : (fault later : Option F) → first_of_faults fault later ≡ None → (fault ≡ None) × (later ≡ None)
+  none_of None later is = (refl, is)
+  none_of (Some fault) later is = cc
+
+  -- a test without a fault is passed
+  passed : (test : Bool) (fault : F) → unless test fault ≡ None → test ≡ true
+  passed true fault is = refl
+  passed false fault is = cc
+
+  -- where the test of a fault is passed, there is none
+  pub accepted : (fault : Option F) → Ok tt ≡ checked fault → fault ≡ None
+  accepted None is = refl
+  accepted (Some fault) is = cc
+
+edge_ok : (vertices sink i : ℕ) (edge : Edge) → fault_of_edge vertices sink i edge ≡ None → IsEdge vertices sink edge
+edge_ok vertices sink i edge is =
+    let ends = none_of _ _ is in
+    let mults = none_of _ _ ends.1 in
+    let loops = none_of _ _ mults.1 in
+    let inside = and_parts _ _ (passed _ _ ends.0) in
+    let some = and_parts _ _ (passed _ _ mults.0) in
+    record {
+      tail_is_vertex = ltb-true _ _ inside.0;
+      head_is_vertex = ltb-true _ _ inside.1;
+      some_chips = ltb-true _ _ some.0;
+      few_chips = leb-true _ _ some.1;
+      no_loop = eqb-false _ _ (not-true _ (passed _ _ loops.0));
+      not_from_sink = eqb-false _ _ (not-true _ (passed _ _ loops.1));
+    }
+
+edges_ok : (vertices sink i : ℕ) (edges : List Edge) → fault_of_edges vertices sink i edges ≡ None → (e : ℕ) → e < length edges → IsEdge vertices sink (edge_of edges e)
+edges_ok vertices sink i [] is e l = absurd (omega arith)
+edges_ok vertices sink i (edge ∷ edges) is zero l = edge_ok vertices sink i edge (none_of _ _ is).0
+edges_ok vertices sink i (edge ∷ edges) is (suc e) l = edges_ok vertices sink (suc i) edges (none_of _ _ is).1 e (omega arith)
+
+module _ (G : Multigraph) (is : fault_of_rows G ≡ None) where
+  pub rows_vertices : (0 < G.vertices) × (G.vertices ≤ 4096)
+  rows_vertices = let both = and_parts _ _ (passed _ _ (none_of _ _ is).0) in (ltb-true _ _ both.0, leb-true _ _ both.1)
+
+  pub rows_sink : G.sink < G.vertices
+  rows_sink = ltb-true _ _ (passed _ _ (none_of _ _ (none_of _ _ is).1).0)
+
+  pub rows_few : length G.edges ≤ 65536
+  rows_few = leb-true _ _ (passed _ _ (none_of _ _ (none_of _ _ (none_of _ _ is).1).1).0)
+
+  rows_edges : fault_of_edges G.vertices G.sink 0 G.edges ≡ None
+  rows_edges =
+      let sink = (none_of (unless (ltb 0 G.vertices && leb G.vertices 4096) graph_fault.Vertices) _ is).1 in
+      let count = (none_of (unless (ltb G.sink G.vertices) graph_fault.Sink) _ sink).1 in
+      (none_of (unless (leb (length G.edges) 65536) graph_fault.EdgeCount) _ count).1
+
+  pub rows_edge : (e : ℕ) → e < length G.edges → IsEdge G.vertices G.sink (edge_at G e)
+  rows_edge = edges_ok G.vertices G.sink 0 G.edges rows_edges
+
+  pub rows_end : (end : End) (e : ℕ) → e < length G.edges → end_of end (edge_at G e) < G.vertices
+  rows_end Tail e l = (rows_edge e l).tail_is_vertex
+  rows_end Head e l = (rows_edge e l).head_is_vertex
+
+  pub rows_graph : ((v : ℕ) → v < G.vertices → ReachesSink G v) → IsGraph G
+  rows_graph all = record {
+    some_vertex = rows_vertices.0;
+    few_vertices = rows_vertices.1;
+    sink_is_vertex = rows_sink;
+    few_edges = rows_few;
+    edges_fit = rows_edge;
+    all_reach = all;
+  }
+
+-- what stands before a place that all distances fill
+pub some_before : (distances : List ℕ) (found : List (Option ℕ)) (v u : ℕ) → v ≤ length found → map Some distances ≡ take v found → u < v → (d : ℕ) × (get_or found u None ≡ Some d)
+some_before distances found v u le same l =
+    let many : length distances ≡ v = sym (length-map distances Some) ∙ ap length same ∙ length-take-le v found le in
+    (get_or distances u 0, sym (get_or-take v found u None l) ∙ ap (λ (ds : List (Option ℕ)). get_or ds u None) (sym same) ∙ get_or-map Some distances u 0 None (omega arith))
+
+-- the tails as a fact on each edge
+pub rows_tails : (G : Multigraph) → fault_of_rows G ≡ None → All (λ (edge : Edge). edge.tail < G.vertices) G.edges
+rows_tails G is e d l = subst (λ (edge : Edge). edge.tail < G.vertices) (get_or_default G.edges e (record { tail = 0; head = 0; mult = 0 }) d l) (rows_end G is Tail e l)
+
+-- no multiplicity is large
+pub rows_mults : (G : Multigraph) → fault_of_rows G ≡ None → (e : ℕ) → e < length G.edges → (edge_at G e).mult ≤ 2 ^ 20
+rows_mults G is e l = (rows_edge G is e l).few_chips

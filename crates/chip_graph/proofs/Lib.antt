@@ -1,0 +1,8 @@
+pub mod SumLemmas
+pub mod RowLemmas
+pub mod PickLemmas
+pub mod FaultLemmas
+pub mod IndexLemmas
+pub mod AnswerLemmas
+pub mod Walks
+pub mod Spreading

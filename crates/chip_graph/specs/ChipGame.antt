@@ -1,0 +1,16 @@
+-- A chip-firing game, as plain data.
+use Rattle.std.specs.Prelude.{◌≡◌, ℕ, ◌^◌, ◌≤◌, List, length, sum}
+use Rattle.chip_graph.specs.Multigraph.{Multigraph, IsGraph}
+
+-- what a `Game` shows: the graph, the chips at the start by vertex, and how often each vertex may fire
+pub record ChipGame : Type 0 where
+  pub graph : Multigraph
+  pub start : List ℕ
+  pub limit : ℕ
+
+-- a game within the limits
+pub record IsGame (g : ChipGame) : Type 0 where
+  pub graph_fits : IsGraph g.graph
+  pub start_fits : length g.start ≡ g.graph.vertices
+  pub few_chips : sum g.start ≤ 2 ^ 40
+  pub low_limit : g.limit ≤ 2 ^ 40

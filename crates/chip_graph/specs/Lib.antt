@@ -1,0 +1,11 @@
+pub mod Sums
+pub mod Multigraph
+pub mod ChipGame
+pub mod Rows
+pub mod Ends
+pub mod Faults
+pub mod Distances
+pub mod Found
+pub mod Index
+pub mod GameFields
+pub mod Laws

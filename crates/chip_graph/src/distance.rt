@@ -1,0 +1,88 @@
+ghost use Rattle.std.specs.Prelude.{◌≡◌, ℕ, ◌<◌, ◌≤◌, [], length, replicate, IfOk, All, slice_get, vec_len};
+ghost use Rattle.std.specs.Option.{ForSome};
+ghost use Rattle.chip_graph.specs.Multigraph.{edges_in};
+ghost use Rattle.chip_graph.specs.Distances.{AreDistances};
+ghost use Rattle.chip_graph.specs.Found.{found, with_vertex, with_tails};
+
+use crate::edge::Edge;
+use std::alloc::{AllocError, Global};
+
+/// A vertex that a search has reached, and how far it is from the sink.
+#[derive(Clone, Copy)]
+struct Reached {
+    vertex: u64,
+    distance: u64,
+}
+
+/// What a search from the sink backwards has found so far.
+#[derive(Drop)]
+struct Search {
+    /// By vertex.
+    distances: Vec<Option<u64>>,
+    /// The vertices that have a distance, nearest first.
+    reached: Vec<Reached>,
+}
+
+impl Search {
+    /// The sink alone is reached.
+    fn begin(alloc: Global, vertices: usize, sink: u64) -> Result<Self, AllocError>
+        requires { sink < vertices }
+        ensures { IfOk result (λ search. found search ≡ with_vertex sink 0 (record { distances = replicate vertices None; reached = [] })) }
+    {
+        let mut distances = Vec::new(alloc);
+        distances.resize(vertices, None)?;
+        let reached = Vec::with_capacity(alloc, vertices)?;
+        let mut search = Search { distances, reached };
+        search.reach(sink, 0)?;
+        Ok(search)
+    }
+
+    /// Notes this distance, unless the vertex was reached before.
+    fn reach(&mut self, vertex: u64, distance: u64) -> Result<(), AllocError>
+        requires { vertex < vec_len self.old.distances }
+        ensures { IfOk result (λ _. found self.new ≡ with_vertex vertex distance (found self.old)) }
+    {
+        if self.distances[vertex as usize].is_none() {
+            self.reached.push(Reached { vertex, distance })?;
+            self.distances[vertex as usize] = Some(distance);
+        }
+        Ok(())
+    }
+
+    /// Reaches the tails of these edges.
+    fn reach_tails(&mut self, distance: u64, edges: &[Edge], ins: &[u64]) -> Result<(), AllocError>
+        requires edges { All (λ e. e < length edges.now) ins.now }
+        requires tails { All (λ edge. edge.tail < vec_len self.old.distances) edges.now }
+        ensures { IfOk result (λ _. found self.new ≡ with_tails edges.now distance ins.now (found self.old)) }
+    {
+        for edge in ins {
+            self.reach(edges[*edge as usize].tail, distance)?;
+        }
+        Ok(())
+    }
+}
+
+/// How far each vertex is from the sink: the length of a shortest walk, or `None` where no walk leads there.
+///
+/// `ins` has the edges into each vertex, ascending, by their places.
+pub(crate) fn distances(
+    alloc: Global,
+    sink: u64,
+    edges: &[Edge],
+    ins: &[Vec<u64>],
+) -> Result<Vec<Option<u64>>, AllocError>
+    requires sink_is_vertex { sink < length ins.now }
+    requires few_vertices { length ins.now ≤ 4096 }
+    requires tails_are_vertices { All (λ edge. edge.tail < length ins.now) edges.now }
+    requires ins { (v : ℕ) → ForSome (slice_get ins.now v) (λ row. row.items ≡ edges_in (record { vertices = length ins.now; sink = sink; edges = edges.now }) v) }
+    ensures { IfOk result (λ distances. AreDistances (record { vertices = length ins.now; sink = sink; edges = edges.now }) distances.items) }
+{
+    let mut search = Search::begin(alloc, ins.len(), sink)?;
+    let mut next = 0;
+    while next < search.reached.len() {
+        let Reached { vertex, distance } = search.reached[next];
+        search.reach_tails(distance + 1, edges, &ins[vertex as usize])?;
+        next += 1;
+    }
+    Ok(search.distances)
+}

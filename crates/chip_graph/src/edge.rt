@@ -1,0 +1,35 @@
+ghost use Rattle.std.specs.Prelude.{◌≡◌};
+
+/// One row of a graph: `mult` parallel edges from `tail` to `head`.
+///
+/// Several rows may join the same two vertices; each is an edge of its own, named by its place.
+#[derive(Clone, Copy, Debug, PartialEq, Eq)]
+pub struct Edge {
+    /// The vertex that it leaves.
+    pub tail: u64,
+    /// The vertex that it goes into.
+    pub head: u64,
+    /// How many chips one firing of the tail sends along it.
+    pub mult: u64,
+}
+
+/// One of the two ends of an edge.
+#[derive(Clone, Copy, Debug, PartialEq, Eq)]
+pub(crate) enum End {
+    Tail,
+    Head,
+}
+
+impl Edge {
+    ghost use Rattle.chip_graph.specs.Ends.{end_of};
+
+    /// The vertex at this end.
+    pub(crate) fn at(&self, end: End) -> u64
+        ensures { result ≡ end_of end self.now }
+    {
+        match end {
+            End::Tail => self.tail,
+            End::Head => self.head,
+        }
+    }
+}

@@ -1,0 +1,70 @@
+use std::alloc::{AllocError, AllocFailed};
+use thiserror::Error;
+
+/// Why rows of edges are no graph: the first reason in this order.
+#[derive(Debug, Drop, PartialEq, Eq, Error)]
+pub enum GraphFault {
+    /// There are no vertices, or more than 4,096.
+    #[error("there must be 1 to 4096 vertices")]
+    Vertices,
+    /// The sink is no vertex.
+    #[error("the sink is no vertex")]
+    Sink,
+    /// There are more than 65,536 edges.
+    #[error("there are more than 65536 edges")]
+    EdgeCount,
+    /// An end of this edge is no vertex.
+    #[error("edge {0} has an end that is no vertex")]
+    Endpoint(u64),
+    /// This edge sends no chips, or more than 1,048,576.
+    #[error("edge {0} must send 1 to 1048576 chips")]
+    Mult(u64),
+    /// This edge goes back into its tail.
+    #[error("edge {0} is a loop")]
+    Loop(u64),
+    /// This edge leaves the sink.
+    #[error("edge {0} leaves the sink")]
+    FromSink(u64),
+    /// No walk leads from this vertex to the sink, and it is the least such vertex.
+    #[error("no walk leads from vertex {0} to the sink")]
+    Unreached(u64),
+    /// Memory ran out.
+    #[error("out of memory")]
+    NoMemory,
+}
+
+impl<T: Drop> From<AllocFailed<T>> for GraphFault {
+    ghost use Rattle.std.specs.Prelude.{◌≡◌};
+    ghost use Rattle.chip_graph.specs.declared.fault.GraphFault.TheVariants.{NoMemory};
+
+    ghost from_gives = { λ _ fault. fault ≡ NoMemory };
+
+    fn from(_error: AllocFailed<T>) -> GraphFault {
+        GraphFault::NoMemory
+    }
+}
+
+impl From<AllocError> for GraphFault {
+    ghost use Rattle.std.specs.Prelude.{◌≡◌};
+    ghost use Rattle.chip_graph.specs.declared.fault.GraphFault.TheVariants.{NoMemory};
+
+    ghost from_gives = { λ _ fault. fault ≡ NoMemory };
+
+    fn from(_error: AllocError) -> GraphFault {
+        GraphFault::NoMemory
+    }
+}
+
+/// Why a graph, a start and a limit are no game: the first reason in this order.
+#[derive(Clone, Copy, Debug, PartialEq, Eq, Error)]
+pub enum GameFault {
+    /// The start has not one number for each vertex.
+    #[error("the start must have one number for each vertex")]
+    StartLength,
+    /// There are more than 1,099,511,627,776 chips in all.
+    #[error("there are more than 1099511627776 chips")]
+    Total,
+    /// The firing limit is above 1,099,511,627,776.
+    #[error("the firing limit is above 1099511627776")]
+    Limit,
+}

@@ -1,0 +1,103 @@
+ghost use Rattle.std.specs.Prelude.{◌≡◌, ◌^◌, ◌<◌, ◌≤◌, IfSome, IfNone, sum};
+
+use crate::fault::GameFault;
+use crate::graph::Graph;
+use std::marker::Model;
+
+/// The most chips that a game holds.
+pub const MAX_TOTAL: u64 = 1 << 40;
+/// The greatest firing limit.
+pub const MAX_LIMIT: u64 = 1 << 40;
+
+/// A chip-firing game: a graph, the chips at the start, and how often each vertex may fire.
+#[derive(Debug, Drop)]
+pub struct Game {
+    graph: Graph,
+    start: Vec<u64>,
+    limit: u64,
+    total: u64,
+}
+
+impl Model for Game {
+    ghost use Rattle.chip_graph.specs.ChipGame.{ChipGame};
+
+    ghost Value = { ChipGame };
+
+    ghost use Rattle.chip_graph.specs.GameFields.{game_of, IsCounted};
+
+    ghost view = { game_of };
+
+    ghost invariant = { IsCounted };
+}
+
+impl Game {
+    ghost use Rattle.std.specs.Prelude.{◌≡◌, sum};
+    ghost use Rattle.chip_graph.specs.ChipGame.{IsGame};
+    ghost use Rattle.chip_graph.specs.Faults.{MakesGame};
+
+    /// A game, or the first reason why it is none. `start` has the chips of each vertex.
+    pub fn new(graph: Graph, start: Vec<u64>, limit: u64) -> Result<Game, GameFault>
+        ensures { MakesGame (record { graph = graph; start = start.items; limit = limit }) result }
+    {
+        if start.len() as u64 != graph.vertices() {
+            return Err(GameFault::StartLength);
+        }
+        let total = total_of(&start).ok_or(GameFault::Total)?;
+        if limit > MAX_LIMIT {
+            return Err(GameFault::Limit);
+        }
+        Ok(Game {
+            graph,
+            start,
+            limit,
+            total,
+        })
+    }
+
+    /// The graph that is played on.
+    pub fn graph(&self) -> &Graph
+        ensures value { result.now ≡ self.now.graph }
+        ensures game { IsGame self.now }
+    {
+        &self.graph
+    }
+
+    /// The chips at the start, one number for each vertex.
+    pub fn start(&self) -> &[u64]
+        ensures value { result.now ≡ self.now.start }
+        ensures game { IsGame self.now }
+    {
+        &self.start
+    }
+
+    /// How often each vertex may fire at most, up to 2^40.
+    pub fn limit(&self) -> u64
+        ensures value { result ≡ self.now.limit }
+        ensures game { IsGame self.now }
+    {
+        self.limit
+    }
+
+    /// How many chips there are in all, up to 2^40.
+    pub fn total(&self) -> u64
+        ensures value { result ≡ sum self.now.start }
+        ensures game { IsGame self.now }
+    {
+        self.total
+    }
+}
+
+/// The sum, or `None` where it is above 2^40.
+fn total_of(chips: &[u64]) -> Option<u64>
+    ensures some { IfSome result (λ total. (total ≡ sum chips.now) × (total ≤ 2 ^ 40)) }
+    ensures none { IfNone result (2 ^ 40 < sum chips.now) }
+{
+    let mut total = 0u64;
+    for count in chips {
+        if *count > MAX_TOTAL - total {
+            return None;
+        }
+        total += *count;
+    }
+    Some(total)
+}

@@ -1,0 +1,201 @@
+ghost use Rattle.std.specs.Prelude.{◌≡◌, ◌+◌, ◌<◌, ◌⊎◌, ℕ, map, length, take, IfOk, IfErr, slice_index_or, Some, None};
+ghost use Rattle.chip_graph.specs.Faults.{checked, fault_of_edge, fault_of_rows};
+ghost use Rattle.chip_graph.specs.declared.fault.GraphFault.TheVariants.{NoMemory, Unreached};
+
+use crate::distance::distances;
+use crate::edge::{Edge, End};
+use crate::fault::GraphFault;
+use crate::index;
+use crate::rows::Rows;
+use std::alloc::Global;
+use std::marker::Model;
+
+/// The most vertices that a graph has.
+pub const MAX_VERTICES: u64 = 4_096;
+/// The most edges that a graph has.
+pub const MAX_EDGES: usize = 65_536;
+/// The most chips that one firing sends along one edge.
+pub const MAX_MULT: u64 = 1_048_576;
+
+/// A directed multigraph with a global sink: a vertex with no edge out, which every vertex reaches.
+///
+/// Vertices are the numbers below `vertices()`, and edges are named by their place in `edges()`.
+/// What is asked of a vertex is made once, with the graph, and answered in constant time.
+#[derive(Debug, Drop)]
+pub struct Graph {
+    vertices: u64,
+    sink: u64,
+    edges: Vec<Edge>,
+    degrees: Vec<u64>,
+    distances: Vec<u64>,
+    outs: Rows<u64>,
+    ins: Rows<u64>,
+    links: Rows<Edge>,
+}
+
+impl Model for Graph {
+    ghost use Rattle.chip_graph.specs.Multigraph.{Multigraph};
+
+    ghost Value = { Multigraph };
+
+    ghost use Rattle.chip_graph.specs.Index.{graph_of, IsIndexed};
+
+    ghost view = { graph_of };
+
+    ghost invariant = { IsIndexed };
+}
+
+impl Graph {
+    ghost use Rattle.std.specs.Prelude.{◌≡◌, ◌<◌, map};
+    ghost use Rattle.chip_graph.specs.Multigraph.{Multigraph, IsGraph, IsDistance, edge_at, edges_out, edges_in, degree};
+    ghost use Rattle.chip_graph.specs.Faults.{MakesGraph};
+
+    /// A graph of these edges, or the first reason why it is none; in time linear in vertices and edges.
+    pub fn new(
+        alloc: Global,
+        vertices: u64,
+        sink: u64,
+        edges: Vec<Edge>,
+    ) -> Result<Graph, GraphFault>
+        ensures { MakesGraph (record { vertices = vertices; sink = sink; edges = edges.items }) result }
+    {
+        let rows = edges.as_slice();
+        check_rows(vertices, sink, rows)?;
+        let outs = index::edges_by(alloc, vertices, rows, End::Tail)?;
+        let ins = index::edges_by(alloc, vertices, rows, End::Head)?;
+        let found = distances(alloc, sink, rows, &ins)?;
+        let distances = all_reached(alloc, &found)?;
+        let degrees = index::degrees(alloc, vertices, rows)?;
+        let links = index::edges_side_by_side(alloc, rows, &outs)?;
+        let outs = index::side_by_side(alloc, &outs)?;
+        let ins = index::side_by_side(alloc, &ins)?;
+        Ok(Graph {
+            vertices,
+            sink,
+            edges,
+            degrees,
+            distances,
+            outs,
+            ins,
+            links,
+        })
+    }
+
+    /// How many vertices there are: 1 to 4,096.
+    pub fn vertices(&self) -> u64
+        ensures value { result ≡ self.now.vertices }
+        ensures graph { IsGraph self.now }
+    {
+        self.vertices
+    }
+
+    /// The sink, which never fires.
+    pub fn sink(&self) -> u64
+        ensures value { result ≡ self.now.sink }
+        ensures graph { IsGraph self.now }
+    {
+        self.sink
+    }
+
+    /// The edges, named by their places.
+    pub fn edges(&self) -> &[Edge]
+        ensures value { result.now ≡ self.now.edges }
+        ensures graph { IsGraph self.now }
+    {
+        &self.edges
+    }
+
+    /// The sum of `mult` over the edges out of this vertex, below 2^37.
+    pub fn out_degree(&self, vertex: u64) -> u64
+        requires { vertex < self.now.vertices }
+        ensures { result ≡ degree self.now vertex }
+    {
+        self.degrees[vertex as usize]
+    }
+
+    /// The edges out of this vertex, ascending.
+    pub fn outs(&self, vertex: u64) -> &[u64]
+        requires { vertex < self.now.vertices }
+        ensures { result.now ≡ edges_out self.now vertex }
+    {
+        self.outs.row(vertex as usize)
+    }
+
+    /// The edges into this vertex, ascending.
+    pub fn ins(&self, vertex: u64) -> &[u64]
+        requires { vertex < self.now.vertices }
+        ensures { result.now ≡ edges_in self.now vertex }
+    {
+        self.ins.row(vertex as usize)
+    }
+
+    /// The edges out of this vertex as they are, in the order of `outs`, side by side in memory.
+    pub fn links(&self, vertex: u64) -> &[Edge]
+        requires { vertex < self.now.vertices }
+        ensures { result.now ≡ map (edge_at self.now) (edges_out self.now vertex) }
+    {
+        self.links.row(vertex as usize)
+    }
+
+    /// The least number of edges from this vertex to the sink; 0 at the sink.
+    pub fn distance(&self, vertex: u64) -> u64
+        requires { vertex < self.now.vertices }
+        ensures { IsDistance self.now vertex result }
+    {
+        self.distances[vertex as usize]
+    }
+}
+
+/// The first thing wrong with edge `i`, if anything is.
+fn check_edge(vertices: u64, sink: u64, i: u64, edge: &Edge) -> Result<(), GraphFault>
+    ensures { result ≡ checked (fault_of_edge vertices sink i edge.now) }
+{
+    if edge.tail >= vertices || edge.head >= vertices {
+        return Err(GraphFault::Endpoint(i));
+    }
+    if edge.mult == 0 || edge.mult > MAX_MULT {
+        return Err(GraphFault::Mult(i));
+    }
+    if edge.tail == edge.head {
+        return Err(GraphFault::Loop(i));
+    }
+    if edge.tail == sink {
+        return Err(GraphFault::FromSink(i));
+    }
+    Ok(())
+}
+
+/// The first thing wrong with these rows, walks aside.
+fn check_rows(vertices: u64, sink: u64, edges: &[Edge]) -> Result<(), GraphFault>
+    ensures { result ≡ checked (fault_of_rows (record { vertices = vertices; sink = sink; edges = edges.now })) }
+{
+    if vertices == 0 || vertices > MAX_VERTICES {
+        return Err(GraphFault::Vertices);
+    }
+    if sink >= vertices {
+        return Err(GraphFault::Sink);
+    }
+    if edges.len() > MAX_EDGES {
+        return Err(GraphFault::EdgeCount);
+    }
+    for (i, edge) in edges.iter().enumerate() {
+        check_edge(vertices, sink, i as u64, edge)?;
+    }
+    Ok(())
+}
+
+/// The distances, or the least vertex that has none.
+fn all_reached(alloc: Global, found: &[Option<u64>]) -> Result<Vec<u64>, GraphFault>
+    ensures all { IfOk result (λ distances. map Some distances.items ≡ found.now) }
+    ensures none { IfErr result
+        (λ fault. (fault ≡ NoMemory) ⊎ ((v : ℕ) × (fault ≡ Unreached v) × (v < length found.now) × (slice_index_or found.now v None ≡ None) × ((u : ℕ) → u < v → (d : ℕ) × (slice_index_or found.now u None ≡ Some d)))) }
+{
+    let mut distances = Vec::new(alloc);
+    for (v, distance) in found.iter().enumerate() {
+        match distance {
+            Some(distance) => distances.push(*distance)?,
+            None => return Err(GraphFault::Unreached(v as u64)),
+        }
+    }
+    Ok(distances)
+}

@@ -1,0 +1,9 @@
+//! Laws over the definitions alone, as contracts of functions that do nothing.
+
+ghost use Rattle.chip_graph.specs.Laws.{OneAnswer};
+
+/// A graph has no fault, and nothing has two first faults: so `Graph::new` accepts exactly the graphs,
+/// and refuses all else by exactly its first fault, want of memory aside.
+pub fn one_answer()
+    ensures { OneAnswer }
+{}

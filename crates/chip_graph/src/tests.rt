@@ -1,0 +1,129 @@
+//! Worked refusals and answers, with values from outside.
+
+use crate::{Edge, Game, GameFault, Graph, GraphFault};
+use std::alloc::Global;
+use std::test::Fail;
+
+fn edges(alloc: Global, rows: &[(u64, u64, u64)]) -> Result<Vec<Edge>, GraphFault> {
+    let mut edges = Vec::new(alloc);
+    for (tail, head, mult) in rows {
+        edges.push(Edge {
+            tail: *tail,
+            head: *head,
+            mult: *mult,
+        })?;
+    }
+    Ok(edges)
+}
+
+fn graph(
+    alloc: Global,
+    vertices: u64,
+    sink: u64,
+    rows: &[(u64, u64, u64)],
+) -> Result<Graph, GraphFault> {
+    Graph::new(alloc, vertices, sink, edges(alloc, rows)?)
+}
+
+const TRIANGLE: [(u64, u64, u64); 4] = [(0, 1, 1), (0, 2, 1), (1, 0, 1), (1, 2, 1)];
+
+#[test]
+fn shows_the_triangle(rt: HostRuntime) -> Result<(), Fail> {
+    let triangle = graph(rt.alloc(), 3, 2, &TRIANGLE)?;
+    assert_eq!(rt; triangle.vertices(), 3);
+    assert_eq!(rt; triangle.sink(), 2);
+    assert_eq!(rt; triangle.edges().len(), 4);
+    assert_eq!(rt; triangle.vertices(), 3);
+    for (vertex, degree, distance, outs, ins) in [
+        (0, 2, 1, [0, 1].as_slice(), [2].as_slice()),
+        (1, 2, 1, [2, 3].as_slice(), [0].as_slice()),
+        (2, 0, 0, [].as_slice(), [1, 3].as_slice()),
+    ] {
+        assert!(rt; vertex < triangle.vertices());
+        assert_eq!(rt; triangle.out_degree(vertex), degree, "degree of {vertex}");
+        assert_eq!(rt; triangle.distance(vertex), distance, "distance of {vertex}");
+        assert_eq!(rt; triangle.outs(vertex), outs, "edges out of {vertex}");
+        assert_eq!(rt; triangle.ins(vertex), ins, "edges into {vertex}");
+        assert_eq!(rt;
+            triangle.links(vertex).len(),
+            outs.len(),
+            "links of {vertex}"
+        );
+    }
+    Ok(())
+}
+
+#[test]
+fn names_the_first_fault(rt: HostRuntime) {
+    let alloc = rt.alloc();
+    for (vertices, sink, rows, fault) in [
+        (0, 0, [].as_slice(), Some(GraphFault::Vertices)),
+        (4097, 4097, [].as_slice(), Some(GraphFault::Vertices)),
+        (3, 3, [].as_slice(), Some(GraphFault::Sink)),
+        (3, 2, [(0, 3, 0)].as_slice(), Some(GraphFault::Endpoint(0))),
+        (3, 2, [(0, 0, 0)].as_slice(), Some(GraphFault::Mult(0))),
+        (
+            3,
+            2,
+            [(0, 1, 1_048_577)].as_slice(),
+            Some(GraphFault::Mult(0)),
+        ),
+        (3, 2, [(1, 1, 1)].as_slice(), Some(GraphFault::Loop(0))),
+        (3, 2, [(2, 2, 1)].as_slice(), Some(GraphFault::Loop(0))),
+        (
+            3,
+            2,
+            [(0, 2, 1), (2, 0, 1)].as_slice(),
+            Some(GraphFault::FromSink(1)),
+        ),
+        (
+            4,
+            3,
+            [(0, 1, 1), (1, 0, 1), (2, 3, 1)].as_slice(),
+            Some(GraphFault::Unreached(0)),
+        ),
+        (
+            4,
+            3,
+            [(0, 3, 1), (2, 1, 1), (1, 2, 1)].as_slice(),
+            Some(GraphFault::Unreached(1)),
+        ),
+        (1, 0, [].as_slice(), None),
+    ] {
+        assert_eq!(rt;
+            graph(alloc, vertices, sink, rows).err(),
+            fault,
+            "{vertices} {sink} {rows:?}"
+        );
+    }
+}
+
+#[test]
+fn refuses_games(rt: HostRuntime) -> Result<(), Fail> {
+    let alloc = rt.alloc();
+    for (start, limit, fault) in [
+        ([1, 2].as_slice(), 1, Some(GameFault::StartLength)),
+        ([1 << 40, 1, 0].as_slice(), 1 << 41, Some(GameFault::Total)),
+        (
+            [u64::MAX, u64::MAX, 2].as_slice(),
+            0,
+            Some(GameFault::Total),
+        ),
+        ([0, 0, 0].as_slice(), (1 << 40) + 1, Some(GameFault::Limit)),
+        ([1 << 40, 0, 0].as_slice(), 1 << 40, None),
+    ] {
+        let game = Game::new(graph(alloc, 3, 2, &TRIANGLE)?, start.to_vec(alloc)?, limit);
+        match game {
+            Ok(game) => {
+                assert_eq!(rt; game.start(), start);
+                assert_eq!(rt;
+                    (game.limit(), game.total(), game.graph().vertices()),
+                    (limit, 1 << 40, 3)
+                );
+                assert_eq!(rt; fault, None);
+            }
+            Err(found) => assert_eq!(rt; Some(found), fault),
+        }
+    }
+    Ok(())
+}

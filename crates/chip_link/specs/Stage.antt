@@ -1,0 +1,32 @@
+-- How the fields of a running tail are seen.
+use Rattle.std.specs.Prelude.{ℕ, ◌^◌, ◌<◌, ◌≤◌, Bool, true, false, Option, Some, None}
+use Rattle.chip_link.specs.declared.tail.Stage.{Stage}
+use Rattle.chip_link.specs.declared.tail.Stage.TheVariants as At
+
+-- the count that is claimed and not put
+abbrev pub held_count : Stage → Option ℕ
+held_count (At.Held count) = Some count
+held_count At.Idle = None
+held_count At.Clear = None
+held_count At.Refused = None
+
+-- the next cell was seen empty
+abbrev pub is_clear : Stage → Bool
+is_clear At.Clear = true
+is_clear At.Idle = false
+is_clear (At.Held count) = false
+is_clear At.Refused = false
+
+-- a claim was refused by a seal
+abbrev pub is_refused : Stage → Bool
+is_refused At.Refused = true
+is_refused At.Idle = false
+is_refused At.Clear = false
+is_refused (At.Held count) = false
+
+-- how many claims go with a stage: a place is left where the cell was seen empty, and what is held was claimed
+abbrev pub HasClaims : Stage → ℕ → Type 0
+HasClaims At.Clear claims = claims < 2 ^ 62
+HasClaims (At.Held count) claims = (0 < claims) × (claims ≤ 2 ^ 62)
+HasClaims At.Idle claims = claims ≤ 2 ^ 62
+HasClaims At.Refused claims = claims ≤ 2 ^ 62

@@ -1,0 +1,31 @@
+/// What may happen in a net: one operation on one shared word, made by one vertex, by the root or by the stopper.
+#[derive(Clone, Copy, Debug, PartialEq, Eq)]
+pub enum Event {
+    /// The head of this edge takes the next message, where there is one.
+    Take(u64),
+    /// The head of this edge acknowledges all that it may.
+    Ack(u64),
+    /// The vertex fires `count` times in a row.
+    Fire { vertex: u64, count: u64 },
+    /// The tail of this edge looks whether the next cell is empty.
+    Clear(u64),
+    /// The tail of this edge claims the next place for what is pending on it.
+    Claim(u64),
+    /// The tail of this edge puts what it claimed into its cell.
+    Put(u64),
+    /// This vertex stops firing and sending for good.
+    Halt(u64),
+    /// The tail of this edge, or the root, counts the acknowledgements that came.
+    Settle(u64),
+    /// The stopper seals this edge.
+    Seal(u64),
+    /// The root reads how often this vertex fired, after it closed.
+    Read(u64),
+}
+
+/// An event that was made, with the word that it saw before its operation, or 0 where it looks at none.
+#[derive(Clone, Copy, Debug, PartialEq, Eq)]
+pub struct Did {
+    pub event: Event,
+    pub seen: u64,
+}

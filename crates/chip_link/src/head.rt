@@ -1,0 +1,65 @@
+ghost use Rattle.std.specs.Prelude.{◌≡◌, ◌^◌, ◌<◌, ◌≤◌};
+ghost use Rattle.chip_link.specs.Ends.{new_head, head_cell, head_after_take, message_taken};
+
+use crate::message::Message;
+use std::marker::Model;
+
+/// The end of an edge that receives. It swaps the cell of the next place (`cell`) with 0 and notes what it found
+/// there (`taken`).
+#[derive(Debug, Drop)]
+pub struct HeadLink {
+    edge: u64,
+    ring: u64,
+    taken: u64,
+}
+
+impl Model for HeadLink {
+    ghost use Rattle.std.specs.Prelude.{◌<◌, ◌≤◌};
+    ghost use Rattle.chip_link.specs.Ends.{HeadState};
+
+    ghost Value = { HeadState };
+
+    ghost view = { λ a. record { edge = a.edge; ring = a.ring; taken = a.taken } };
+
+    ghost invariant = { λ a. (0 < a.ring) × (a.ring ≤ 64) };
+}
+
+impl HeadLink {
+    /// The head of an edge from which nothing was taken, with a ring of 1 to 64 cells.
+    pub fn new(edge: u64, ring: u64) -> HeadLink
+        requires { (0 < ring) × (ring ≤ 64) }
+        ensures { result ≡ new_head edge ring }
+    {
+        HeadLink {
+            edge,
+            ring,
+            taken: 0,
+        }
+    }
+
+    /// The cell of the next place to take, from 0.
+    pub fn cell(&self) -> u64
+        ensures cell { result ≡ head_cell self.now }
+        ensures inside { result < self.now.ring }
+    {
+        self.taken % self.ring
+    }
+
+    /// The message that was found in that cell, or `None` where it was empty. At most 2^62 messages are taken.
+    pub fn taken(&mut self, old_cell: u64) -> Option<Message>
+        requires { self.old.taken < 2 ^ 62 }
+        ensures message { result ≡ message_taken old_cell self.old }
+        ensures after { self.new ≡ head_after_take old_cell self.old }
+    {
+        if old_cell == 0 {
+            return None;
+        }
+        let place = self.taken;
+        self.taken += 1;
+        Some(Message {
+            edge: self.edge,
+            place,
+            count: old_cell,
+        })
+    }
+}

@@ -1,0 +1,47 @@
+//! What holds of every edge and every word, as the contracts of functions that do nothing.
+
+ghost use Rattle.chip_link.specs.Laws.{TakesPrefix, ClaimsInOrder, NothingAfterSeal, WordTells, SealsAllClaims};
+ghost use Rattle.chip_link.specs.WordLaws.{EdgeWordReads, EdgeWordStands, AddsClaims, AddedReads, SealsWord, SealedReads, ExchangesWord, ExpectsUnsealed};
+ghost use Rattle.chip_link.specs.WordLaws.{FiredWordReads, FiredWordStands, AddsFirings, AddedFiringsRead, HaltsWord, HaltReads, HaltsByLimit, HaltByLimitReads};
+ghost use Rattle.chip_link.specs.Rows.{OneCellTail, OneCellHead, RingOfTwo, SealedBetween};
+
+/// One edge, end to end, for every ring and every list of steps: looks, claims, puts, takes and seals in any order.
+pub fn one_edge()
+    ensures prefix { TakesPrefix }
+    ensures in_order { ClaimsInOrder }
+    ensures sealed { NothingAfterSeal }
+    ensures word { WordTells }
+    ensures all_claims { SealsAllClaims }
+{}
+
+/// What a word of an edge stands for, and what an atomic operation makes of that.
+pub fn edge_words()
+    ensures reads { EdgeWordReads }
+    ensures stands { EdgeWordStands }
+    ensures adds { AddsClaims }
+    ensures added { AddedReads }
+    ensures seals { SealsWord }
+    ensures sealed { SealedReads }
+    ensures exchanges { ExchangesWord }
+    ensures expected { ExpectsUnsealed }
+{}
+
+/// What a word of a vertex stands for, and what an atomic operation makes of that.
+pub fn fired_words()
+    ensures reads { FiredWordReads }
+    ensures stands { FiredWordStands }
+    ensures adds { AddsFirings }
+    ensures added { AddedFiringsRead }
+    ensures halts { HaltsWord }
+    ensures halted { HaltReads }
+    ensures halts_by_limit { HaltsByLimit }
+    ensures halted_by_limit { HaltByLimitReads }
+{}
+
+/// Small runs of one edge, as the definitions compute them.
+pub fn worked_rows()
+    ensures one_cell_tail { OneCellTail }
+    ensures one_cell_head { OneCellHead }
+    ensures ring_of_two { RingOfTwo }
+    ensures sealed_between { SealedBetween }
+{}

@@ -1,0 +1,10 @@
+/// A message that was claimed or taken.
+#[derive(Clone, Copy, Debug, PartialEq, Eq)]
+pub struct Message {
+    /// The edge that it goes over.
+    pub edge: u64,
+    /// How many messages were sent on this edge before it.
+    pub place: u64,
+    /// How many chips it carries, at least 1.
+    pub count: u64,
+}

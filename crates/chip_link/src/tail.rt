@@ -1,0 +1,135 @@
+ghost use Rattle.std.specs.Prelude.{◌≡◌, ℕ, ◌^◌, ◌<◌, ◌≤◌, ◌&&◌, ◌==◌, ◌↔◌, IsTrue, IsNone, IfSome};
+ghost use Rattle.chip_link.specs.Words.{claims_in, sealed_in};
+ghost use Rattle.chip_link.specs.Ends.{TailState, new_tail, tail_cell, may_clear, tail_after_clear, claim_words, tail_after_claim, message_claimed, put_of, tail_after_put};
+
+use crate::message::Message;
+use std::marker::Model;
+
+/// The end of an edge that sends. For each message it looks at the cell of the next place (`cell`, `cleared`),
+/// claims that place (`claim_next`, `claimed`) and stores the count in the cell (`put_value`).
+#[derive(Debug, Drop)]
+pub struct TailLink {
+    edge: u64,
+    ring: u64,
+    claims: u64,
+    stage: Stage,
+}
+
+/// How far the tail is with the next message.
+#[derive(Debug, Drop)]
+enum Stage {
+    /// Nothing is under way.
+    Idle,
+    /// The cell of the next place was seen empty.
+    Clear,
+    /// A message of so many chips is claimed and not put.
+    Held(u64),
+    /// A claim was refused by a seal: nothing is sent any more.
+    Refused,
+}
+
+/// No place from here on is claimed, so that a count of claims stays far below the seal's bit.
+const MOST_CLAIMS: u64 = 1 << 62;
+
+impl Model for TailLink {
+    ghost use Rattle.std.specs.Prelude.{◌<◌, ◌≤◌};
+    ghost use Rattle.chip_link.specs.Ends.{TailState};
+
+    ghost Value = { TailState };
+
+    ghost use Rattle.chip_link.specs.Stage.{held_count, is_clear, is_refused, HasClaims};
+
+    ghost view = { λ a. record { edge = a.edge; ring = a.ring; claims = a.claims; held = held_count a.stage; clear = is_clear a.stage; refused = is_refused a.stage } };
+
+    ghost invariant = { λ a. (0 < a.ring) × (a.ring ≤ 64) × HasClaims a.stage a.claims };
+}
+
+impl TailLink {
+    /// The tail of an edge on which nothing was sent, with a ring of 1 to 64 cells.
+    pub fn new(edge: u64, ring: u64) -> TailLink
+        requires { (0 < ring) × (ring ≤ 64) }
+        ensures { result ≡ new_tail edge ring }
+    {
+        TailLink {
+            edge,
+            ring,
+            claims: 0,
+            stage: Stage::Idle,
+        }
+    }
+
+    /// The cell of the next place to claim, from 0.
+    pub fn cell(&self) -> u64
+        ensures cell { result ≡ tail_cell self.now }
+        ensures inside { result < self.now.ring }
+    {
+        self.claims % self.ring
+    }
+
+    /// Notes what was found in that cell, and says whether a claim may follow. It may not, and nothing changes,
+    /// while a message is claimed and not put, after a refusal, and once 2^62 places are claimed.
+    pub fn cleared(&mut self, old_cell: u64) -> bool
+        ensures answer { result ≡ (may_clear self.old && old_cell == 0) }
+        ensures after { self.new ≡ tail_after_clear old_cell self.old }
+    {
+        match self.stage {
+            Stage::Idle | Stage::Clear => {
+                let is_clear = old_cell == 0 && self.claims < MOST_CLAIMS;
+                self.stage = if is_clear { Stage::Clear } else { Stage::Idle };
+                is_clear
+            }
+            Stage::Held(_) | Stage::Refused => false,
+        }
+    }
+
+    /// The word that the next claim expects and the word that it leaves. `None` unless the cell was seen empty.
+    pub fn claim_next(&self) -> Option<(u64, u64)>
+        ensures words { result ≡ claim_words self.now }
+        ensures small { IfSome result (λ words. words.0 < 2 ^ 62) }
+    {
+        match self.stage {
+            Stage::Clear => Some((self.claims, self.claims + 1)),
+            Stage::Idle | Stage::Held(_) | Stage::Refused => None,
+        }
+    }
+
+    /// Notes the word that the claim's exchange saw, for a message of `count` chips, 1 to 2^40.
+    /// The message is sent where that was the expected word; else the edge is sealed, and the refusal is noted.
+    pub fn claimed(&mut self, old_word: u64, count: u64) -> Option<Message>
+        requires clear { IsTrue self.old.clear }
+        requires word { claims_in old_word ≡ self.old.claims }
+        requires count { (1 ≤ count) × (count ≤ 2 ^ 40) }
+        ensures message { result ≡ message_claimed old_word count self.old }
+        ensures after { self.new ≡ tail_after_claim old_word count self.old }
+        ensures refused { IsNone result ↔ IsTrue (sealed_in old_word) }
+    {
+        if old_word != self.claims {
+            self.stage = Stage::Refused;
+            return None;
+        }
+        let place = self.claims;
+        self.claims += 1;
+        self.stage = Stage::Held(count);
+        Some(Message {
+            edge: self.edge,
+            place,
+            count,
+        })
+    }
+
+    /// The cell and the value to store in it, and notes that they are stored. `None` unless a message is claimed
+    /// and not put.
+    pub fn put_value(&mut self) -> Option<(u64, u64)>
+        ensures value { result ≡ put_of self.old }
+        ensures inside { IfSome result (λ stored. stored.0 < self.old.ring) }
+        ensures after { self.new ≡ tail_after_put self.old }
+    {
+        match self.stage {
+            Stage::Held(count) => {
+                self.stage = Stage::Idle;
+                Some(((self.claims - 1) % self.ring, count))
+            }
+            Stage::Idle | Stage::Clear | Stage::Refused => None,
+        }
+    }
+}

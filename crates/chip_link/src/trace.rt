@@ -1,0 +1,8 @@
+/// What a vertex writes down of its own run, in order.
+#[derive(Clone, Copy, Debug, PartialEq, Eq)]
+pub enum TraceRow {
+    /// It took a message of `count` chips from `edge`.
+    Take { edge: u64, count: u64 },
+    /// It fired `k` times in a row.
+    Fire { k: u64 },
+}

@@ -1,0 +1,102 @@
+ghost use Rattle.std.specs.Prelude.{◌≡◌, ◌^◌, ◌<◌, IsTrue, IfSome, is_some};
+ghost use Rattle.chip_link.specs.Words.{edge_word, claims_in, sealed_in, fired_word, fired_in, halted_in, by_limit_in, is_fired_word};
+
+/// What the word of an edge stands for.
+#[derive(Clone, Copy, Debug, PartialEq, Eq)]
+pub struct EdgeWord {
+    /// How many messages were claimed on the edge.
+    pub claims: u64,
+    /// Whether the edge is sealed, so that every further claim is refused.
+    pub sealed: bool,
+    pub ghost in_range: { claims < 2 ^ 63 },
+}
+
+impl EdgeWord {
+    /// What a seal sets in the word, by a `fetch_or`.
+    pub const SEAL: u64 = 1 << 63;
+
+    /// The word that stands for this value.
+    pub fn to_word(self) -> u64
+        ensures word { result ≡ edge_word self.claims self.sealed }
+        ensures claims { claims_in result ≡ self.claims }
+        ensures sealed { sealed_in result ≡ self.sealed }
+    {
+        if self.sealed {
+            self.claims | Self::SEAL
+        } else {
+            self.claims
+        }
+    }
+
+    /// The value that a word stands for: every word is one of some edge.
+    pub fn from_word(word: u64) -> EdgeWord
+        ensures claims { result.claims ≡ claims_in word }
+        ensures sealed { result.sealed ≡ sealed_in word }
+        ensures word { edge_word result.claims result.sealed ≡ word }
+    {
+        EdgeWord {
+            claims: word & !Self::SEAL,
+            sealed: word & Self::SEAL != 0,
+        }
+    }
+}
+
+/// What the word of a vertex stands for.
+#[derive(Clone, Copy, Debug, PartialEq, Eq)]
+pub struct FiredWord {
+    /// How often the vertex fired.
+    pub fired: u64,
+    /// Whether it never fires again.
+    pub halted: bool,
+    /// Whether its firing limit was the cause of that. The other cause is a seal.
+    pub by_limit: bool,
+    pub ghost in_range: { fired < 2 ^ 62 },
+    pub ghost has_cause: { IsTrue by_limit → IsTrue halted },
+}
+
+impl FiredWord {
+    /// What a halt after a refused claim sets in the word, by a `fetch_or`.
+    pub const HALT: u64 = 1 << 63;
+
+    /// What a halt by the limit sets in the word, by a `fetch_or`.
+    pub const HALT_BY_LIMIT: u64 = Self::HALT | Self::LIMIT;
+
+    const LIMIT: u64 = 1 << 62;
+
+    /// The word that stands for this value.
+    pub fn to_word(self) -> u64
+        ensures word { result ≡ fired_word self.fired self.halted self.by_limit }
+        ensures fired { fired_in result ≡ self.fired }
+        ensures halted { halted_in result ≡ self.halted }
+        ensures by_limit { by_limit_in result ≡ self.by_limit }
+    {
+        if self.by_limit {
+            self.fired | Self::HALT_BY_LIMIT
+        } else if self.halted {
+            self.fired | Self::HALT
+        } else {
+            self.fired
+        }
+    }
+
+    /// The value that a word stands for. `None` where it stands for none: a limit that is met, and no halt.
+    #[tactic(auto, using(crate::proofs::WordLaws::limit_stands))]
+    pub fn from_word(word: u64) -> Option<FiredWord>
+        ensures some { is_some result ≡ is_fired_word word }
+        ensures fired { IfSome result (λ value. value.fired ≡ fired_in word) }
+        ensures halted { IfSome result (λ value. value.halted ≡ halted_in word) }
+        ensures by_limit { IfSome result (λ value. value.by_limit ≡ by_limit_in word) }
+        ensures word { IfSome result (λ value. fired_word value.fired value.halted value.by_limit ≡ word) }
+    {
+        let halted = word & Self::HALT != 0;
+        let by_limit = word & Self::LIMIT != 0;
+        if by_limit && !halted {
+            return None;
+        }
+        Some(FiredWord {
+            fired: word & !Self::HALT_BY_LIMIT,
+            halted,
+            by_limit,
+        })
+    }
+}

@@ -1,0 +1,8 @@
+pub mod Lookups
+pub mod Totals
+pub mod Changes
+pub mod Writes
+pub mod Fresh
+pub mod Places
+pub mod Allowed
+pub mod Soundness

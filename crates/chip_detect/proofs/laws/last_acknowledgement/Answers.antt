@@ -1,0 +1,5 @@
+use Rattle.chip_detect.proofs.Soundness.{neutral_only_when_done}
+use Rattle.chip_detect.proofs.laws.last_acknowledgement.Goals as goal
+
+pub returns : goal.returns
+returns c = neutral_only_when_done

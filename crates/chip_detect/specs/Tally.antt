@@ -1,0 +1,56 @@
+-- Tallies of edges: how many messages there were on each edge, and how many of them are answered.
+-- On an edge into a vertex a message is answered by the vertex's own acknowledgement, on an edge
+-- out of it by one that the vertex has settled. What isn't answered is open.
+use Rattle.std.specs.Prelude.{◌≡◌, ℕ, ◌+◌, ◌-◌, ◌^◌, ◌≤◌, ◌==◌, if◌then◌else◌, List, [], ◌∷◌, length, map, sum_by}
+use Rattle.std.specs.List.Sorted.{IsStrictlyIncreasing}
+pub use Rattle.chip_detect.specs.declared.tallies.Tally.{Tally}
+
+-- the greatest number of messages on one edge
+abbrev pub message_limit : ℕ
+message_limit = 2 ^ 40
+
+-- the greatest number of edges on one side of a vertex: all edges of a graph and a root edge
+abbrev pub edge_limit : ℕ
+edge_limit = 2 ^ 16 + 1
+
+-- the edges that have a tally, in its order
+abbrev pub edges_of : List Tally → List ℕ
+edges_of ts = map (λ t. t.edge) ts
+
+-- what f reads off the tally of the edge e; 0 where e has none
+abbrev pub look : (Tally → ℕ) → List Tally → ℕ → ℕ
+look f [] e = 0
+look f (t ∷ ts) e = if t.edge == e then f t else look f ts e
+
+-- how many messages there were on an edge
+abbrev pub messages_on : List Tally → ℕ → ℕ
+messages_on ts = look (λ t. t.messages) ts
+
+-- how many of them are answered
+abbrev pub answered_on : List Tally → ℕ → ℕ
+answered_on ts = look (λ t. t.answered) ts
+
+-- how many of them are still open
+abbrev pub open_on : List Tally → ℕ → ℕ
+open_on ts e = messages_on ts e - answered_on ts e
+
+-- how many are open on all edges together
+abbrev pub all_open : List Tally → ℕ
+all_open ts = sum_by (open_on ts) (edges_of ts)
+
+-- each edge has one tally, within the limits, and no more is answered than there was
+pub record AreTallies (ts : List Tally) : Type 0 where
+  pub ascending : IsStrictlyIncreasing (edges_of ts)
+  pub few : length (edges_of ts) ≤ edge_limit
+  pub within : (e : ℕ) → messages_on ts e ≤ message_limit
+  pub answered : (e : ℕ) → answered_on ts e ≤ messages_on ts e
+
+-- the tally of an edge without any message
+abbrev pub fresh_tally : ℕ → Tally
+fresh_tally e = record { edge = e; messages = 0; answered = 0 }
+
+-- these edges have a tally each, without any message
+pub record AreFresh (ts : List Tally) (edges : List ℕ) : Type 0 where
+  pub these : edges_of ts ≡ edges
+  pub messages : (e : ℕ) → messages_on ts e ≡ 0
+  pub answered : (e : ℕ) → answered_on ts e ≡ 0

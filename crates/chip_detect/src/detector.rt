@@ -1,0 +1,149 @@
+ghost use Rattle.std.specs.Prelude.{◌≡◌, ℕ, ◌-◌, ◌<◌, ◌≤◌, true, length, Contains, IfOk};
+ghost use Rattle.std.specs.List.Sorted.{IsStrictlyIncreasing};
+
+use crate::tallies::Tallies;
+use std::alloc::{AllocError, Global};
+use std::marker::Model;
+
+/// What one vertex knows of the detection. The root keeps one too: it has no edges into it, and its
+/// deficit says whether the computation has ended.
+///
+/// Contracts see it as plain books: for each edge into the vertex how many messages were got and
+/// acknowledged, for each edge out of it how many were sent and settled, and the parent edge.
+/// An edge is found by binary search, the deficit is kept, and `new` alone takes memory.
+#[derive(Debug, Drop)]
+pub struct Detect {
+    // An open message here is one that the vertex owes an acknowledgement.
+    ins: Tallies,
+    // An open message here is one whose acknowledgement it waits for.
+    outs: Tallies,
+    // The edge of the message that engaged the vertex, until that message is acknowledged.
+    parent: Option<u64>,
+}
+
+impl Model for Detect {
+    ghost use Rattle.chip_detect.specs.Books.{Books, IsSound};
+
+    ghost Value = { Books };
+
+    ghost view = { λ d. record { ins = d.ins; outs = d.outs; parent = d.parent } };
+
+    ghost invariant = { λ d. IsSound (record { ins = d.ins; outs = d.outs; parent = d.parent }) };
+}
+
+impl Detect {
+    ghost use Rattle.chip_detect.specs.Tally.{edge_limit, message_limit};
+    ghost use Rattle.chip_detect.specs.Books.{Books, IsSound, IsFresh, in_edges, out_edges, got_of, sent_of, settled_of, owed, deficit, is_engaged};
+    ghost use Rattle.chip_detect.specs.Acknowledging.{may_ack};
+    ghost use Rattle.chip_detect.specs.Steps.{Gets, Acknowledges, Sends, Settles};
+
+    /// The books of a neutral vertex with these edges into it and out of it, on which nothing was
+    /// got or sent yet. Refused only for want of memory.
+    pub fn new(alloc: Global, ins: &[u64], outs: &[u64]) -> Result<Self, AllocError>
+        requires ins_ascending { IsStrictlyIncreasing ins.now }
+        requires outs_ascending { IsStrictlyIncreasing outs.now }
+        requires few_ins { length ins.now ≤ edge_limit }
+        requires few_outs { length outs.now ≤ edge_limit }
+        ensures fresh { IfOk result (λ books. IsFresh books ins.now outs.now) }
+        ensures sound { IfOk result IsSound }
+    {
+        Ok(Detect {
+            ins: Tallies::new(alloc, ins)?,
+            outs: Tallies::new(alloc, outs)?,
+            parent: None,
+        })
+    }
+
+    /// Notes a message that came on the edge.
+    pub fn got(&mut self, edge: u64)
+        requires into { Contains (in_edges self.old) edge }
+        requires room { got_of self.old edge < message_limit }
+        ensures gets { Gets self.old self.new edge }
+        ensures sound { IsSound self.new }
+    {
+        self.ins.add_message(edge);
+        self.parent = self.parent.or(Some(edge));
+    }
+
+    /// How many messages of the edge may be acknowledged now; `passive` says whether the vertex is.
+    pub fn may_ack(&self, edge: u64, passive: bool) -> u64
+        requires { Contains (in_edges self.now) edge }
+        ensures { result ≡ may_ack self.now edge passive }
+    {
+        let owed = self.owed(edge);
+        let is_done = self.ins.all_open() == owed && passive && self.deficit() == 0;
+        if self.parent == Some(edge) && !is_done {
+            owed - 1
+        } else {
+            owed
+        }
+    }
+
+    /// Notes that `count` messages of the edge were acknowledged.
+    pub fn acked(&mut self, edge: u64, count: u64)
+        requires into { Contains (in_edges self.old) edge }
+        requires allowed { count ≤ may_ack self.old edge true }
+        ensures acknowledges { Acknowledges self.old self.new edge count }
+        ensures sound { IsSound self.new }
+    {
+        self.ins.add_answers(edge, count);
+        if self.parent == Some(edge) && self.ins.open(edge) == 0 {
+            self.parent = None;
+        }
+    }
+
+    /// Notes a message that was sent on the edge.
+    pub fn sent(&mut self, edge: u64)
+        requires out { Contains (out_edges self.old) edge }
+        requires room { sent_of self.old edge < message_limit }
+        ensures sends { Sends self.old self.new edge }
+        ensures sound { IsSound self.new }
+    {
+        self.outs.add_message(edge);
+    }
+
+    /// Notes that the edge's head has acknowledged `word` of its messages from the beginning on.
+    /// The answer is how many of these are new.
+    pub fn settled(&mut self, edge: u64, word: u64) -> u64
+        requires out { Contains (out_edges self.old) edge }
+        requires no_fewer { settled_of self.old edge ≤ word }
+        requires sent { word ≤ sent_of self.old edge }
+        ensures more { result ≡ word - settled_of self.old edge }
+        ensures settles { Settles self.old self.new edge result }
+        ensures sound { IsSound self.new }
+    {
+        let more = word - self.outs.answered(edge);
+        self.outs.add_answers(edge, more);
+        more
+    }
+
+    /// How many acknowledgements the vertex waits for, in constant time.
+    pub fn deficit(&self) -> u64
+        ensures { result ≡ deficit self.now }
+    {
+        self.outs.all_open()
+    }
+
+    /// How many acknowledgements the vertex owes on the edge.
+    pub fn owed(&self, edge: u64) -> u64
+        requires { Contains (in_edges self.now) edge }
+        ensures { result ≡ owed self.now edge }
+    {
+        self.ins.open(edge)
+    }
+
+    /// Whether a message engaged the vertex and isn't acknowledged yet.
+    pub fn engaged(&self) -> bool
+        ensures { result ≡ is_engaged self.now }
+    {
+        self.parent.is_some()
+    }
+
+    /// The edge of the message that engaged the vertex, where it is engaged.
+    pub fn parent(&self) -> Option<u64>
+        ensures parent { result ≡ self.now.parent }
+        ensures sound { IsSound self.now }
+    {
+        self.parent
+    }
+}

@@ -1,0 +1,31 @@
+//! What the rules of the books come to, for every vertex and every step.
+ghost use Rattle.chip_detect.specs.Laws.{StepsKeepSoundness, NeutralOnlyWhenDone, NoMoreThanOwed, ParentGoesWithAll};
+ghost use Rattle.chip_detect.specs.Examples.{EngagingMessageLast, TwoOnTheParentEdge};
+
+/// Every step keeps the books sound: an engaged vertex owes something on its parent edge, and a
+/// neutral one owes nothing.
+pub fn soundness()
+    ensures { StepsKeepSoundness }
+{}
+
+/// A vertex becomes neutral by its last acknowledgement alone.
+pub fn last_acknowledgement()
+    ensures { NeutralOnlyWhenDone }
+{}
+
+/// Acknowledgements never outnumber what is owed.
+pub fn no_more_than_owed()
+    ensures { NoMoreThanOwed }
+{}
+
+/// A vertex loses its parent by acknowledging all that it owes on the parent edge, and by nothing
+/// less.
+pub fn parent_goes_with_all()
+    ensures { ParentGoesWithAll }
+{}
+
+/// Two worked rows, computed on the definitions.
+pub fn worked_rows()
+    ensures engaging_message_last { EngagingMessageLast }
+    ensures two_on_the_parent_edge { TwoOnTheParentEdge }
+{}

@@ -1,0 +1,12 @@
+//! A vertex's bookkeeping for the detection of termination, after Dijkstra and Scholten: which
+//! messages it owes an acknowledgement, which acknowledgements it waits for, and which message
+//! engaged it. `docs/DETECTOR.md` tells the method.
+#![tactic(auto)]
+
+pub use detector::Detect;
+
+mod detector;
+pub mod laws;
+mod tallies;
+#[cfg(test)]
+mod tests;

@@ -1,0 +1,22 @@
+-- How often a vertex can fire, by its distance from the sink.
+use Rattle.std.specs.Prelude.{ℕ, zero, suc, ◌+◌, ◌*◌, ◌<◌, ◌≤◌, max, List, length}
+use Rattle.chip_graph.specs.Multigraph.{Multigraph, degree, IsWalk, IsDistance}
+
+-- the greatest of f 0 to f (n - 1), or 0
+abbrev pub greatest_below : ℕ → (ℕ → ℕ) → ℕ
+greatest_below zero f = 0
+greatest_below (suc n) f = max (greatest_below n f) (f n)
+
+-- the greatest out-degree
+abbrev pub greatest_degree : Multigraph → ℕ
+greatest_degree G = greatest_below G.vertices (degree G)
+
+-- some vertex has this distance from the sink, and none is further away
+pub record IsGreatestDistance (G : Multigraph) (distance : ℕ) : Type 0 where
+  pub reached : (v : ℕ) × (v < G.vertices) × IsDistance G v distance
+  pub greatest : (v : ℕ) → v < G.vertices → (es : List ℕ) × IsWalk G v es G.sink × (length es ≤ distance)
+
+-- the bound at a distance, where there are so many chips and no out-degree is above the given one
+abbrev pub firing_bound : ℕ → ℕ → ℕ → ℕ
+firing_bound total degree zero = 0
+firing_bound total degree (suc distance) = total + degree * firing_bound total degree distance

@@ -1,0 +1,13 @@
+pub use Rattle.chip_graph.specs.Sums
+pub use Rattle.chip_graph.specs.Multigraph
+pub use Rattle.chip_graph.specs.ChipGame
+pub mod Firing
+pub mod Sequence
+pub mod Counted
+pub mod Bound
+pub mod Laws
+pub mod Triangle
+pub mod Rounds
+pub mod Play
+pub mod Outcomes
+pub mod Faults

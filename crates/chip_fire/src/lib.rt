@@ -1,0 +1,17 @@
+//! Firings, firing sequences and their laws, and the plain player of chip-firing games.
+#![tactic(auto)]
+
+pub use bound::enough;
+pub use counted::{AfterFault, after, after_into};
+pub use firing::{NotLegal, fire};
+pub use outcome::Outcome;
+pub use player::plain;
+
+pub mod bound;
+pub mod counted;
+pub mod firing;
+pub mod laws;
+pub mod outcome;
+pub mod player;
+#[cfg(test)]
+mod tests;

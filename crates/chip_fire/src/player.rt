@@ -1,0 +1,132 @@
+ghost use Rattle.std.specs.Prelude.{◌≡◌, ℕ, ◌*◌, ◌<◌, ◌≤◌, ◌/◌, IfOk, length, slice_index};
+ghost use Rattle.std.specs.Bool.{OnTrue, OnFalse};
+ghost use Rattle.chip_graph.specs.Multigraph.{degree};
+ghost use Rattle.chip_fire.specs.Firing.{IsLegal, legal_vertices};
+ghost use Rattle.chip_fire.specs.Outcomes.{IsOutcome};
+ghost use Rattle.chip_fire.specs.Play.{IsPlayed};
+ghost use Rattle.chip_fire.specs.Rounds.{IsInRange, PlaysOn, firings_left, IsSwept};
+
+use crate::firing::fire_batch;
+use crate::outcome::Outcome;
+use chip_graph::{Game, Graph};
+use std::alloc::{AllocError, Global};
+
+/// Plays a game to its end within the limit, on one thread.
+///
+/// Each vertex in turn fires as often in a row as its chips and the limit allow, round after round
+/// until none fires. The order is this function's own: the outcome is that of every order.
+pub fn plain(alloc: Global, game: &Game) -> Result<Outcome, AllocError>
+    ensures played { IfOk result (IsPlayed game.now) }
+    ensures in_range { IfOk result IsOutcome }
+{
+    let graph = game.graph();
+    let mut chips = Vec::from_slice(alloc, game.start())?;
+    let mut fired = vec![in alloc; 0; graph.vertices() as usize]?;
+    play(graph, game.limit(), &mut chips, &mut fired);
+    let over = still_legal(alloc, graph, &chips)?;
+    Ok(Outcome {
+        fired,
+        chips,
+        over,
+        sealed: Vec::new(alloc),
+    })
+}
+
+/// Makes rounds until none fires a vertex.
+fn play(graph: &Graph, limit: u64, chips: &mut [u64], fired: &mut [u64])
+    requires { IsInRange graph.now limit chips.old fired.old }
+    ensures in_range { IsInRange graph.now limit chips.new fired.new }
+    ensures plays { PlaysOn graph.now chips.old fired.old chips.new fired.new }
+    ensures ended { (v : ℕ) → IsLegal graph.now (slice_index chips.new) v → slice_index fired.new v ≡ limit }
+{
+    'rounds: while round(graph, limit, chips, fired) {}
+}
+
+/// Lets each vertex fire as often as it may, first those with even numbers and then those with odd
+/// ones; whether any did.
+///
+/// Neighbours on paths and grids differ by an odd number, so a sweep over every second vertex seldom
+/// reads what it has just written: in ascending order a path takes nearly twice as long.
+fn round(graph: &Graph, limit: u64, chips: &mut [u64], fired: &mut [u64]) -> bool
+    requires { IsInRange graph.now limit chips.old fired.old }
+    ensures in_range { IsInRange graph.now limit chips.new fired.new }
+    ensures plays { PlaysOn graph.now chips.old fired.old chips.new fired.new }
+    ensures some_fired { OnTrue result (firings_left graph.now limit fired.new < firings_left graph.now limit fired.old) }
+    ensures none_fired { OnFalse result ((v : ℕ) → IsLegal graph.now (slice_index chips.new) v → slice_index fired.new v ≡ limit) }
+{
+    let even = sweep(graph, limit, 0, chips, fired);
+    let odd = sweep(graph, limit, 1, chips, fired);
+    even || odd
+}
+
+/// Lets every second vertex from the first one on fire as often as it may; whether any did.
+fn sweep(graph: &Graph, limit: u64, first: u64, chips: &mut [u64], fired: &mut [u64]) -> bool
+    requires in_range { IsInRange graph.now limit chips.old fired.old }
+    requires first_or_second { first ≤ 1 }
+    ensures { IsSwept graph.now limit first chips.old fired.old chips.new fired.new result graph.now.vertices }
+{
+    let sink = graph.sink();
+    let mut any = false;
+    for step in 0..(graph.vertices() + 1 - first) / 2 {
+        let vertex = first + 2 * step;
+        if vertex != sink && turn(graph, limit, vertex, chips, fired) {
+            any = true;
+        }
+    }
+    any
+}
+
+/// Lets a vertex fire as often in a row as its chips and the limit allow; whether it did.
+#[inline]
+fn turn(graph: &Graph, limit: u64, vertex: u64, chips: &mut [u64], fired: &mut [u64]) -> bool
+    requires is_vertex { vertex < graph.now.vertices }
+    requires not_sink { vertex ≡ graph.now.sink → ⊥ }
+    requires in_range { IsInRange graph.now limit chips.old fired.old }
+    ensures in_range { IsInRange graph.now limit chips.new fired.new }
+    ensures plays { PlaysOn graph.now chips.old fired.old chips.new fired.new }
+    ensures fires { OnTrue result (firings_left graph.now limit fired.new < firings_left graph.now limit fired.old) }
+    ensures rests { OnFalse result ((chips.new ≡ chips.old) × (fired.new ≡ fired.old) × (IsLegal graph.now (slice_index chips.old) vertex → slice_index fired.old vertex ≡ limit)) }
+{
+    let v = vertex as usize;
+    let degree = graph.out_degree(vertex);
+    let has = chips[v];
+    let left = limit - fired[v];
+    if has < degree || left == 0 {
+        return false;
+    }
+    let k = times_in(has, degree).min(left);
+    fired[v] += k;
+    fire_batch(chips, graph, vertex, k);
+    true
+}
+
+/// The quotient of numbers of which the first is not the smaller one, without the slow division
+/// where it can be: mostly the quotient is 1, and nearly always both numbers fit 32 bits.
+#[inline]
+fn times_in(chips: u64, degree: u64) -> u64
+    requires some { 0 < degree }
+    requires enough { degree ≤ chips }
+    ensures { result ≡ chips / degree }
+{
+    if chips - degree < degree {
+        1
+    } else if chips <= u64::from(u32::MAX) {
+        u64::from(chips as u32 / degree as u32)
+    } else {
+        chips / degree
+    }
+}
+
+/// The vertices that are legal, ascending.
+fn still_legal(alloc: Global, graph: &Graph, chips: &[u64]) -> Result<Vec<u64>, AllocError>
+    requires { length chips.now ≡ graph.now.vertices }
+    ensures { IfOk result (λ legal. legal.items ≡ legal_vertices graph.now (slice_index chips.now)) }
+{
+    let mut legal = Vec::new(alloc);
+    for vertex in 0..graph.vertices() {
+        if vertex != graph.sink() && graph.out_degree(vertex) <= chips[vertex as usize] {
+            legal.push(vertex)?;
+        }
+    }
+    Ok(legal)
+}

@@ -1,0 +1,162 @@
+//! Games worked out by hand, and each call once. What holds for all inputs stands in the contracts.
+
+ghost use Rattle.std.specs.Prelude.{◌≡◌, ◌<◌, IfOk};
+
+use super::*;
+use chip_graph::{Edge, Game, Graph};
+use std::alloc::Global;
+use std::process::Abort;
+use std::test::Fail;
+
+/// A graph of these edges: tail, head and chips.
+fn graph_of(
+    alloc: Global,
+    vertices: u64,
+    sink: u64,
+    rows: &[(u64, u64, u64)],
+) -> Result<Graph, Fail>
+    ensures { IfOk result (λ graph. graph.vertices ≡ vertices) }
+{
+    let mut edges = Vec::new(alloc);
+    for (tail, head, mult) in rows {
+        edges.push(Edge {
+            tail: *tail,
+            head: *head,
+            mult: *mult,
+        })?;
+    }
+    Ok(Graph::new(alloc, vertices, sink, edges)?)
+}
+
+/// The game on the triangle, whose sink is 2.
+fn triangle(alloc: Global, start: &[u64], limit: u64) -> Result<Game, Fail>
+    ensures { IfOk result (λ game. game.graph.vertices ≡ 3) }
+{
+    let rows = [(0, 1, 1), (0, 2, 1), (1, 0, 1), (1, 2, 1)];
+    let graph = graph_of(alloc, 3, 2, &rows)?;
+    Ok(Game::new(graph, Vec::from_slice(alloc, start)?, limit)?)
+}
+
+/// The game with one edge, from vertex 0 to the sink.
+fn one_edge(alloc: Global, mult: u64, chips: u64) -> Result<Game, Fail> {
+    let graph = graph_of(alloc, 2, 1, &[(0, 1, mult)])?;
+    Ok(Game::new(graph, Vec::from_slice(alloc, &[chips, 0])?, 1 << 40)?)
+}
+
+/// A chain whose sink is its last vertex.
+fn chain(alloc: Global, vertices: u64, mult: u64) -> Result<Graph, Fail>
+    requires { 0 < vertices }
+{
+    let mut rows = Vec::new(alloc);
+    for vertex in 0..vertices - 1 {
+        rows.push((vertex, vertex + 1, mult))?;
+    }
+    graph_of(alloc, vertices, vertices - 1, &rows)
+}
+
+/// Plays a game, and compares how often each vertex fired, the chips at the end and the halted vertices.
+fn play(
+    rt: &(impl AllocGlobal + Abort),
+    game: &Game,
+    fired: &[u64],
+    chips: &[u64],
+    over: &[u64],
+) -> Result<(), Fail> {
+    let outcome = plain(rt.alloc(), game)?;
+    assert_eq!(rt; outcome.fired.as_slice(), fired);
+    assert_eq!(rt; outcome.chips.as_slice(), chips);
+    assert_eq!(rt; outcome.over.as_slice(), over);
+    assert!(rt; outcome.sealed.is_empty());
+    Ok(())
+}
+
+#[test]
+fn one_chip_short(rt: HostRuntime) -> Result<(), Fail> {
+    let game = triangle(rt.alloc(), &[3, 0, 0], 1 << 40)?;
+    play(&rt, &game, &[1, 0, 0], &[1, 1, 1], &[])
+}
+
+#[test]
+fn small_triangle(rt: HostRuntime) -> Result<(), Fail> {
+    let game = triangle(rt.alloc(), &[4, 0, 0], 1 << 40)?;
+    play(&rt, &game, &[2, 1, 0], &[1, 0, 3], &[])
+}
+
+#[test]
+fn fires_again(rt: HostRuntime) -> Result<(), Fail> {
+    let game = triangle(rt.alloc(), &[5, 0, 0], 1 << 40)?;
+    play(&rt, &game, &[3, 1, 0], &[0, 1, 4], &[])
+}
+
+#[test]
+fn limit_of_two(rt: HostRuntime) -> Result<(), Fail> {
+    let game = triangle(rt.alloc(), &[5, 0, 0], 2)?;
+    play(&rt, &game, &[2, 1, 0], &[2, 0, 3], &[0])
+}
+
+#[test]
+fn batch_of_two(rt: HostRuntime) -> Result<(), Fail> {
+    let game = one_edge(rt.alloc(), 3, 7)?;
+    play(&rt, &game, &[2, 0], &[1, 6], &[])
+}
+
+#[test]
+fn largest_total(rt: HostRuntime) -> Result<(), Fail> {
+    let largest = 1_099_511_627_776;
+    let game = one_edge(rt.alloc(), 1, largest)?;
+    play(&rt, &game, &[largest, 0], &[0, largest], &[])
+}
+
+#[test]
+fn positions_by_counts(rt: HostRuntime) -> Result<(), Fail> {
+    let game = triangle(rt.alloc(), &[4, 0, 0], 1 << 40)?;
+    let chips = after(rt.alloc(), &game, &[2, 1, 0])?;
+    assert_eq!(rt; chips.as_slice(), [1, 0, 3].as_slice());
+    let mut into = [7, 7, 7];
+    assert_eq!(rt; after_into(&game, &[2, 1, 0], &mut into), Ok(()));
+    assert_eq!(rt; into, [1, 0, 3]);
+    let most = u64::MAX;
+    for (fired, vertex) in [([0, 1, 0], 1), ([3, 0, 0], 0), ([most, most, 0], 0)] {
+        let negative = Err(AfterFault::Negative(vertex));
+        assert_eq!(rt; after_into(&game, &fired, &mut into), negative);
+        assert_eq!(rt; into, [1, 0, 3]);
+    }
+    Ok(())
+}
+
+#[test]
+fn negative_counts(rt: HostRuntime) -> Result<(), Fail> {
+    let game = triangle(rt.alloc(), &[4, 0, 0], 1 << 40)?;
+    match after(rt.alloc(), &game, &[0, 1, 0]) {
+        Err(AfterFault::Negative(vertex)) => assert_eq!(rt; vertex, 1),
+        Err(AfterFault::NoMemory) => return Err("out of memory".into()),
+        Ok(_) => panic!(rt; "vertex 1 had nothing to fire"),
+    }
+    Ok(())
+}
+
+#[test]
+fn limits(rt: HostRuntime) -> Result<(), Fail> {
+    let alloc = rt.alloc();
+    assert_eq!(rt; enough(&chain(alloc, 3, 1)?, 3), Some(6));
+    assert_eq!(rt; enough(triangle(alloc, &[4, 0, 0], 0)?.graph(), 4), Some(4));
+    assert_eq!(rt; enough(&chain(alloc, 41, 2)?, 1), Some(1_099_511_627_775));
+    assert_eq!(rt; enough(&chain(alloc, 42, 2)?, 1), None);
+    assert_eq!(rt; enough(&chain(alloc, 1, 1)?, 1 << 40), Some(0));
+    Ok(())
+}
+
+#[test]
+fn firings(rt: HostRuntime) -> Result<(), Fail> {
+    let game = triangle(rt.alloc(), &[4, 0, 0], 1 << 40)?;
+    let graph = game.graph();
+    for (vertex, k) in [(2, 1), (0, 0), (0, 3), (1, 1), (0, u64::MAX)] {
+        let mut position = [4, 0, 0];
+        assert_eq!(rt; fire(&mut position, graph, vertex, k), Err(NotLegal));
+        assert_eq!(rt; position, [4, 0, 0]);
+    }
+    let mut position = [4, 0, 0];
+    assert_eq!(rt; fire(&mut position, graph, 0, 2), Ok(()));
+    assert_eq!(rt; position, [0, 2, 2]);
+    Ok(())
+}

@@ -1,0 +1,6 @@
+mod NumberLemmas
+mod JsonLemmas
+mod ChipsLemmas
+mod RowLemmas
+mod FieldLemmas
+mod Worked

@@ -1,0 +1,9 @@
+pub use Rattle.chip_graph.specs.Multigraph
+pub use Rattle.chip_graph.specs.Faults
+pub mod Answer
+pub mod GraphFaults
+pub mod GraphText
+pub mod Numbers
+pub mod Rows
+pub mod Standing
+pub mod ChipsText

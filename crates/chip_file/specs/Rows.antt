@@ -1,0 +1,34 @@
+-- Files of rows: a header, and the rows under it.
+use Rattle.std.specs.Prelude.{ℕ, Bool, false, List, [], ◌∷◌, ◌++◌, Option, None, bytes_eq}
+use Rattle.std.specs.Cmp.Lexicographic.{pointwise}
+use Rattle.csv.specs.Reading.{records, default_config, strip_bom}
+use Rattle.chip_graph.specs.Faults.{first_of_faults}
+use Rattle.chip_file.specs.declared.fault.FileFault.{FileFault}
+
+-- a record: its fields, each a list of bytes
+abbrev pub Row : Type 0
+Row = List (List ℕ)
+
+-- the records that csv reads in a text: with commas, without trimming, the header among them
+abbrev pub records_of : List ℕ → List Row
+records_of text = records default_config (strip_bom text)
+
+-- a record has exactly these fields
+abbrev pub has_fields : Row → Row → Bool
+has_fields fields row = pointwise bytes_eq row fields
+
+-- the first record is this header
+abbrev pub has_header : Row → List Row → Bool
+has_header header [] = false
+has_header header (row ∷ rows) = has_fields header row
+
+-- the rows under the header
+abbrev pub rows_under_header : List Row → List Row
+rows_under_header [] = []
+rows_under_header (row ∷ rows) = rows
+
+-- the first fault of rows, by the fault of a row below those before it, where `before` come before all of them
+abbrev pub first_row_fault : (List Row → Row → Option FileFault) → List Row → List Row → Option FileFault
+first_row_fault row_fault before [] = None
+first_row_fault row_fault before (row ∷ rows) =
+    first_of_faults (row_fault before row) (first_row_fault row_fault (before ++ row ∷ []) rows)

@@ -1,0 +1,28 @@
+-- Where a reader of rows stands in a text.
+use Rattle.std.specs.Prelude.{◌≡◌, ℕ, ◌+◌, Bool, true, false, List, [], ◌∷◌, length, Option, Some, IsSome, unwrap_or}
+use Rattle.std.specs.Borrow.{Bor}
+use Rattle.csv.specs.Reading.{Ready, default_config, reader_config, reader_state, reader_trim, is_flexible, source_of, records_from}
+use Rattle.csv.specs.declared.reader.Reader.{Reader}
+use Rattle.csv.specs.declared.reader.Trim.TheVariants as trim
+use Rattle.chip_file.specs.Rows.{Row}
+
+-- the bytes that a reader of a slice has left, where it hasn't failed
+abbrev pub source : Reader (Bor (List ℕ)) → Option (List ℕ)
+source reader = source_of (λ s. Some s.now) reader
+
+-- the records that it has left
+abbrev pub rows_left : Reader (Bor (List ℕ)) → List Row
+rows_left reader = records_from default_config (length (unwrap_or (source reader) []) + 1) (reader_state reader) (unwrap_or (source reader) [])
+
+-- it reads as the files of rows are read, and hasn't failed
+pub record IsOpen (reader : Reader (Bor (List ℕ))) : Type 0 where
+  pub config : reader_config reader ≡ default_config
+  pub trim : reader_trim reader ≡ trim.None
+  pub flexible : is_flexible reader ≡ true
+  pub ready : Ready reader
+  pub source : IsSome (source reader)
+
+-- a read found a row, the first of those that were left, or found that none was left
+abbrev pub TakesRow : Bool → Row → List Row → List Row → Type 0
+TakesRow true row old new = old ≡ row ∷ new
+TakesRow false row old new = old ≡ []

@@ -1,0 +1,118 @@
+ghost use Rattle.std.specs.Prelude.{◌≡◌, ◌^◌, ◌≤◌, nat_le, Some, None, is_some, unwrap_or, IfSome, IfOk, OnOk, IfErr, length, map, sum, replicate, slice_index_or, slice_set};
+ghost use Rattle.csv.specs.Records.{fields_of};
+ghost use Rattle.chip_file.specs.Answer.{Answers, Gives, max_bytes};
+ghost use Rattle.chip_file.specs.ChipsText.{chips_of_text, chips_text_fault, AreNamed, row_fault, vertex_in, chips_in};
+ghost use Rattle.chip_file.specs.Rows.{records_of};
+
+use crate::fault::FileFault;
+use crate::number::number_at;
+use crate::rows;
+use crate::whole::read_whole;
+use chip_graph::game::MAX_TOTAL;
+use csv::ByteRecord;
+use std::alloc::{AllocError, Global};
+use std::io::Read;
+
+/// The header of a file of chips.
+const HEADER: [&str; 2] = ["vertex", "chips"];
+
+/// The chips of each of so many vertices by a file of rows, or the first thing wrong with the file.
+///
+/// A vertex that no row names has 0.
+pub fn read_chips<R: Read>(
+    alloc: Global,
+    reader: &mut R,
+    vertices: u64,
+) -> Result<Vec<u64>, FileFault>
+    ensures { IfSome (R.remaining reader.old) (λ text. Answers text
+        (λ chips. chips_of_text vertices text ≡ Some chips.items)
+        (λ f. chips_text_fault vertices text ≡ Some f) result) }
+{
+    let text = read_whole(alloc, reader)?;
+    chips_of_text(alloc, &text, vertices)
+}
+
+/// The chips that a text means.
+fn chips_of_text(alloc: Global, text: &[u8], vertices: u64) -> Result<Vec<u64>, FileFault>
+    requires { length text.now ≤ max_bytes }
+    ensures { Gives (λ chips. chips_of_text vertices text.now ≡ Some chips.items)
+        (λ f. chips_text_fault vertices text.now ≡ Some f) result }
+{
+    let named = chips_named(alloc, text, vertices)?;
+    let chips = chips_or_none(alloc, &named)?;
+    if fits_total(&chips) {
+        Ok(chips)
+    } else {
+        Err(FileFault::Total)
+    }
+}
+
+/// The chips of each vertex that a row names.
+fn chips_named(alloc: Global, text: &[u8], vertices: u64) -> Result<Vec<Option<u64>>, FileFault>
+    requires { length text.now ≤ max_bytes }
+    ensures { Gives (λ named. AreNamed vertices (records_of text.now) named.items)
+        (λ f. chips_text_fault vertices text.now ≡ Some f) result }
+{
+    let mut reader = rows::records(alloc, text);
+    let mut row = ByteRecord::new(alloc);
+    rows::read_header(&mut reader, &mut row, &HEADER)?;
+    let mut named = none_named(alloc, vertices)?;
+    let mut index = 0;
+    while rows::read_row(&mut reader, &mut row)? {
+        note_row(&mut named, &row, index)?;
+        index += 1;
+    }
+    Ok(named)
+}
+
+/// No chips yet for any vertex.
+fn none_named(alloc: Global, vertices: u64) -> Result<Vec<Option<u64>>, AllocError>
+    ensures { IfOk result (λ named. named.items ≡ replicate vertices None) }
+{
+    vec![in alloc; None; vertices as usize]
+}
+
+/// Notes what the row with this index gives; `named` has the chips of the vertices that the rows before it named.
+fn note_row(named: &mut [Option<u64>], row: &ByteRecord, index: u64) -> Result<(), FileFault>
+    ensures ok { OnOk result (
+        (row_fault (length named.old) (λ v. is_some (slice_index_or named.old v None)) index (fields_of row.now) ≡ None)
+        × (named.new ≡ slice_set named.old (vertex_in (fields_of row.now)) (Some (chips_in (fields_of row.now))))) }
+    ensures err { IfErr result (λ f.
+        row_fault (length named.old) (λ v. is_some (slice_index_or named.old v None)) index (fields_of row.now) ≡ Some f) }
+{
+    if row.len() != HEADER.len() {
+        return Err(FileFault::Row(index));
+    }
+    let vertex = number_at(row, 0).ok_or(FileFault::Number(index))?;
+    let chips = number_at(row, 1).ok_or(FileFault::Number(index))?;
+    if vertex >= named.len() as u64 {
+        return Err(FileFault::Vertex(index));
+    }
+    let place = vertex as usize;
+    if named[place].is_some() {
+        return Err(FileFault::Repeated(index));
+    }
+    named[place] = Some(chips);
+    Ok(())
+}
+
+/// The chips of each vertex, 0 for one that no row named.
+fn chips_or_none(alloc: Global, named: &[Option<u64>]) -> Result<Vec<u64>, AllocError>
+    ensures { IfOk result (λ chips. chips.items ≡ map (λ chips. unwrap_or chips 0) named.now) }
+{
+    named.iter().map(|chips| chips.unwrap_or(0)).collect(alloc)
+}
+
+/// Whether there are no more chips in all than a game holds.
+fn fits_total(chips: &[u64]) -> bool
+    ensures { result ≡ nat_le (sum chips.now) (2 ^ 40) }
+{
+    let mut room = MAX_TOTAL;
+    for count in chips {
+        if *count > room {
+            return false;
+        }
+        room -= *count;
+    }
+    true
+}

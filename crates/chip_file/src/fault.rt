@@ -1,0 +1,83 @@
+use chip_graph::GraphFault;
+use std::alloc::{AllocError, AllocFailed};
+use thiserror::Error;
+
+/// Why a file was not read: the first reason in the order of its reader.
+#[derive(Debug, Drop, PartialEq, Eq, Error)]
+pub enum FileFault {
+    /// The bytes are no UTF-8, or no JSON.
+    #[error("the text is no JSON")]
+    NotJson,
+    /// The JSON is not an object of the four members of a graph.
+    #[error("the JSON has not the shape of a graph")]
+    Shape,
+    /// The version is not 1.
+    #[error("the version is not 1")]
+    Version,
+    /// The rows are no graph. It is never the want of memory, which is a fault of its own.
+    #[error(transparent)]
+    Graph(GraphFault),
+    /// The first record is not the header, or there is none.
+    #[error("the first record is not the header")]
+    Header,
+    /// This row has another number of fields than the header.
+    #[error("row {0} has another number of fields than the header")]
+    Row(u64),
+    /// A field of this row must be a number and isn't one.
+    #[error("a field of row {0} is no number")]
+    Number(u64),
+    /// This row names a vertex that the graph has not.
+    #[error("row {0} names no vertex")]
+    Vertex(u64),
+    /// This row names a vertex that an earlier row named.
+    #[error("row {0} names a vertex again")]
+    Repeated(u64),
+    /// There are more than 1,099,511,627,776 chips in all.
+    #[error("there are more than 1099511627776 chips")]
+    Total,
+    /// A read failed.
+    #[error("a read failed")]
+    Read,
+    /// The input has more than 16,777,216 bytes.
+    #[error("there are more than 16777216 bytes")]
+    TooLong,
+    /// Memory ran out.
+    #[error("out of memory")]
+    NoMemory,
+}
+
+impl From<AllocError> for FileFault {
+    ghost use Rattle.std.specs.Prelude.{◌≡◌};
+    ghost use Rattle.chip_file.specs.declared.fault.FileFault.TheVariants.{NoMemory};
+
+    ghost from_gives = { λ _ fault. fault ≡ NoMemory };
+
+    fn from(_error: AllocError) -> FileFault {
+        FileFault::NoMemory
+    }
+}
+
+impl<T: Drop> From<AllocFailed<T>> for FileFault {
+    ghost use Rattle.std.specs.Prelude.{◌≡◌};
+    ghost use Rattle.chip_file.specs.declared.fault.FileFault.TheVariants.{NoMemory};
+
+    ghost from_gives = { λ _ fault. fault ≡ NoMemory };
+
+    fn from(_error: AllocFailed<T>) -> FileFault {
+        FileFault::NoMemory
+    }
+}
+
+impl From<GraphFault> for FileFault {
+    ghost use Rattle.std.specs.Prelude.{◌≡◌};
+    ghost use Rattle.chip_file.specs.GraphFaults.{of_graph_fault};
+
+    ghost from_gives = { λ graph_fault fault. fault ≡ of_graph_fault graph_fault };
+
+    fn from(fault: GraphFault) -> FileFault {
+        match fault {
+            GraphFault::NoMemory => FileFault::NoMemory,
+            fault => FileFault::Graph(fault),
+        }
+    }
+}

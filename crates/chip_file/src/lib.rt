@@ -1,0 +1,22 @@
+//! Readers of the files that chipfire takes: graphs as JSON, and chips as rows of CSV.
+//!
+//! Every reader takes the whole of its input first (`read_whole`). What a text means is a definition: of a graph over
+//! the value that `serde_json` reads (`specs/GraphText.antt`), of chips over the records that `csv` gives
+//! (`specs/ChipsText.antt`). A reader answers that meaning, or the first thing wrong with the text. Contracts speak of
+//! readers that tell their bytes, as a slice does. `docs/FORMATS.md` shows the files.
+#![tactic(auto)]
+
+pub use chips::read_chips;
+pub use fault::FileFault;
+pub use graph::read_graph;
+pub use whole::{MAX_BYTES, read_whole};
+
+mod chips;
+mod fault;
+mod graph;
+mod json;
+mod number;
+mod rows;
+#[cfg(test)]
+mod tests;
+mod whole;

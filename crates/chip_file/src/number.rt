@@ -1,0 +1,36 @@
+//! Numbers in the rows of a file.
+
+ghost use Rattle.std.specs.Prelude.{◌≡◌};
+ghost use Rattle.std.specs.Str.{all_ascii_digits};
+ghost use Rattle.csv.specs.Records.{fields_of};
+ghost use Rattle.chip_file.specs.Numbers.{number_at, number_of};
+
+use csv::ByteRecord;
+use std::str;
+
+/// The most digits that a number has, leading zeros among them.
+const MAX_DIGITS: usize = 20;
+
+/// The number in a row's field at a place, if it is one.
+pub(crate) fn number_at(row: &ByteRecord, place: usize) -> Option<u64>
+    ensures { result ≡ number_at place (fields_of row.now) }
+{
+    row.get(place).and_then(number_of)
+}
+
+/// The number that a field is, if it is one.
+fn number_of(field: &[u8]) -> Option<u64>
+    ensures { result ≡ number_of field.now }
+{
+    if field.len() > MAX_DIGITS || !is_digits(field) {
+        return None;
+    }
+    str::from_utf8(field).ok()?.parse().ok()
+}
+
+/// Whether each byte is an ASCII digit. `parse` alone would take a plus sign.
+fn is_digits(field: &[u8]) -> bool
+    ensures { result ≡ all_ascii_digits field.now }
+{
+    field.iter().all(u8::is_ascii_digit)
+}

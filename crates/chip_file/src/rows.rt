@@ -1,0 +1,81 @@
+//! Files of rows: a header, and the rows under it.
+
+ghost use Rattle.std.specs.Prelude.{◌≡◌, ◌⊎◌, true, false, map, IfOk, OnOk, IfErr};
+ghost use Rattle.csv.specs.Records.{fields_of};
+ghost use Rattle.chip_file.specs.Answer.{IsOfMachine};
+ghost use Rattle.chip_file.specs.Rows.{records_of, has_fields, has_header, rows_under_header};
+ghost use Rattle.chip_file.specs.Standing.{IsOpen, TakesRow, rows_left};
+ghost use Rattle.chip_file.specs.declared.fault.FileFault.TheVariants as fault;
+
+use crate::fault::FileFault;
+use csv::{ByteRecord, ErrorKind, Reader, ReaderBuilder};
+use std::alloc::Global;
+
+/// A reader of the records of a text, the header among them.
+pub(crate) fn records(alloc: Global, text: &[u8]) -> Reader<&[u8]>
+    ensures reads { IsOpen result }
+    ensures rows { rows_left result ≡ records_of text.now }
+{
+    ReaderBuilder::new()
+        .has_headers(false)
+        .flexible(true)
+        .from_reader(alloc, text)
+}
+
+/// Reads the header, which has exactly these fields.
+pub(crate) fn read_header(
+    reader: &mut Reader<&[u8]>,
+    row: &mut ByteRecord,
+    header: &[&str],
+) -> Result<(), FileFault>
+    requires { IsOpen reader.old }
+    ensures ok { OnOk result (IsOpen reader.new
+        × (has_header (map (λ name. name.now) header.now) (rows_left reader.old) ≡ true)
+        × (rows_left reader.new ≡ rows_under_header (rows_left reader.old))) }
+    ensures err { IfErr result (λ f. IsOfMachine f ⊎ ((f ≡ fault.Header)
+        × (has_header (map (λ name. name.now) header.now) (rows_left reader.old) ≡ false))) }
+{
+    if read_row(reader, row)? && has_fields(row, header) {
+        Ok(())
+    } else {
+        Err(FileFault::Header)
+    }
+}
+
+/// Reads the next record into `row`, and says whether there was one.
+pub(crate) fn read_row(reader: &mut Reader<&[u8]>, row: &mut ByteRecord) -> Result<bool, FileFault>
+    requires { IsOpen reader.old }
+    ensures ok { IfOk result (λ found. IsOpen reader.new
+        × TakesRow found (fields_of row.new) (rows_left reader.old) (rows_left reader.new)) }
+    ensures err { IfErr result IsOfMachine }
+{
+    match reader.read_byte_record(row) {
+        Ok(found) => Ok(found),
+        Err(error) => Err(fault_of(&error)),
+    }
+}
+
+/// Whether a record has exactly these fields.
+fn has_fields(row: &ByteRecord, fields: &[&str]) -> bool
+    ensures { result ≡ has_fields (map (λ field. field.now) fields.now) (fields_of row.now) }
+{
+    if row.len() != fields.len() {
+        return false;
+    }
+    for (place, field) in fields.iter().enumerate() {
+        if row.get(place) != Some(field.as_bytes()) {
+            return false;
+        }
+    }
+    true
+}
+
+/// The fault of the machine that stopped a reader.
+fn fault_of(error: &csv::Error) -> FileFault
+    ensures { IsOfMachine result }
+{
+    match error.kind() {
+        ErrorKind::OutOfMemory => FileFault::NoMemory,
+        _ => FileFault::Read,
+    }
+}

@@ -1,0 +1,300 @@
+//! Worked files, with values from outside, and readers that are slow or fail.
+
+use crate::{FileFault, MAX_BYTES, read_chips, read_graph, read_whole};
+use chip_graph::{Edge, GraphFault};
+use std::io;
+use std::io::{ErrorKind, Read};
+use std::test::Fail;
+
+const TRIANGLE: &str =
+    "{\"edges\":[[0,1,1],[0,2,1],[1,0,1],[1,2,1]],\"sink\":2,\"version\":1,\"vertices\":3}";
+
+/// Gives one byte at each read, and may fail at one of them.
+#[derive(Drop)]
+struct Slow<'t> {
+    text: &'t [u8],
+    reads: usize,
+    fails_at: Option<usize>,
+}
+
+impl Slow<'_> {
+    fn new(text: &[u8], fails_at: Option<usize>) -> Slow<'_> {
+        Slow {
+            text,
+            reads: 0,
+            fails_at,
+        }
+    }
+}
+
+impl Read for Slow<'_> {
+    fn read(&mut self, buf: &mut [u8]) -> io::Result<usize> {
+        let read = self.reads;
+        self.reads = read.saturating_add(1);
+        if self.fails_at == Some(read) {
+            return Err(io::Error::from(ErrorKind::Interrupted));
+        }
+        let count = self.text.len().min(buf.len()).min(1);
+        buf[..count].copy_from_slice(&self.text[..count]);
+        self.text = &self.text[count..];
+        Ok(count)
+    }
+}
+
+/// Never ends, and counts its reads, of one byte each.
+#[derive(Drop)]
+struct Endless(u64);
+
+impl Read for Endless {
+    fn read(&mut self, buf: &mut [u8]) -> io::Result<usize> {
+        self.0 = self.0.saturating_add(1);
+        Ok(buf.len().min(1))
+    }
+}
+
+#[test]
+fn reads_the_triangle(rt: HostRuntime) -> Result<(), Fail> {
+    let graph = read_graph(rt.alloc(), &mut TRIANGLE.as_bytes())?;
+    assert_eq!(rt; graph.vertices(), 3);
+    assert_eq!(rt; graph.sink(), 2);
+    let edges = [(0, 1), (0, 2), (1, 0), (1, 2)].map(|(tail, head)| Edge {
+        tail,
+        head,
+        mult: 1,
+    });
+    assert_eq!(rt; graph.edges(), edges.as_slice());
+    Ok(())
+}
+
+#[test]
+fn names_the_first_fault_of_a_graph(rt: HostRuntime) {
+    let unreached = FileFault::Graph(GraphFault::Unreached(0));
+    for (text, fault) in [
+        (TRIANGLE, None),
+        (
+            "{\"edges\":[],\"sink\":0,\"version\":1,\"vertices\":1}",
+            None,
+        ),
+        (
+            " {\"sink\":7, \"vertices\":1,\"edges\":[],\"version\":1,\"sink\":0}\r\n",
+            None,
+        ),
+        (
+            "{\"edges\":[[0,1,1],[1,0,1],[2,3,1]],\"sink\":3,\"version\":1,\"vertices\":4}",
+            Some(unreached),
+        ),
+        (
+            "{\"edges\":[[1,1,1]],\"sink\":2,\"version\":1,\"vertices\":3}",
+            Some(FileFault::Graph(GraphFault::Loop(0))),
+        ),
+        (
+            "{\"edges\":[[2,2,1]],\"sink\":2,\"version\":1,\"vertices\":3}",
+            Some(FileFault::Graph(GraphFault::Loop(0))),
+        ),
+        (
+            "{\"edges\":[],\"sink\":0,\"version\":1,\"vertices\":0}",
+            Some(FileFault::Graph(GraphFault::Vertices)),
+        ),
+        (
+            "{\"edges\":[],\"sink\":0,\"version\":2,\"vertices\":0}",
+            Some(FileFault::Version),
+        ),
+        (
+            "{\"edges\":[],\"sink\":0,\"version\":1,\"vertices\":1,\"x\":0}",
+            Some(FileFault::Shape),
+        ),
+        (
+            "{\"edges\":[],\"sink\":0,\"version\":1}",
+            Some(FileFault::Shape),
+        ),
+        (
+            "{\"edges\":[[0,1,1.5]],\"sink\":1,\"version\":2,\"vertices\":2}",
+            Some(FileFault::Shape),
+        ),
+        (
+            "{\"edges\":[[0,1]],\"sink\":1,\"version\":1,\"vertices\":2}",
+            Some(FileFault::Shape),
+        ),
+        (
+            "{\"edges\":[[0,1,1,1]],\"sink\":1,\"version\":1,\"vertices\":2}",
+            Some(FileFault::Shape),
+        ),
+        (
+            "{\"edges\":[],\"sink\":-0,\"version\":1,\"vertices\":1}",
+            Some(FileFault::Shape),
+        ),
+        (
+            "{\"edges\":[],\"sink\":0,\"version\":1,\"vertices\":1e0}",
+            Some(FileFault::Shape),
+        ),
+        (
+            "{\"edges\":[],\"sink\":18446744073709551616,\"version\":1,\"vertices\":1}",
+            Some(FileFault::Shape),
+        ),
+        (
+            "{\"edges\":[],\"sink\":18446744073709551615,\"version\":1,\"vertices\":1}",
+            Some(FileFault::Graph(GraphFault::Sink)),
+        ),
+        ("[]", Some(FileFault::Shape)),
+        ("", Some(FileFault::NotJson)),
+        ("{}}", Some(FileFault::NotJson)),
+        ("\u{feff}{}", Some(FileFault::NotJson)),
+        ("1e400", Some(FileFault::NotJson)),
+        ("1e300", Some(FileFault::Shape)),
+    ] {
+        assert_eq!(rt;
+            read_graph(rt.alloc(), &mut text.as_bytes()).err(),
+            fault,
+            "{text}"
+        );
+    }
+    assert_eq!(rt;
+        read_graph(rt.alloc(), &mut [b'[', 0xff, b']'].as_slice()).err(),
+        Some(FileFault::NotJson)
+    );
+    assert_eq!(rt;
+        read_graph(rt.alloc(), &mut [b'['; 200].as_slice()).err(),
+        Some(FileFault::NotJson)
+    );
+}
+
+#[test]
+fn each_cut_of_the_triangle_is_no_json(rt: HostRuntime) {
+    let text = TRIANGLE.as_bytes();
+    for end in 0..text.len() {
+        assert_eq!(rt;
+            read_graph(rt.alloc(), &mut &text[..end]).err(),
+            Some(FileFault::NotJson),
+            "the first {end} bytes"
+        );
+    }
+}
+
+#[test]
+fn reads_chips(rt: HostRuntime) -> Result<(), Fail> {
+    for (text, chips) in [
+        ("vertex,chips\n", [0, 0, 0]),
+        ("vertex,chips\n00,04\n", [4, 0, 0]),
+        ("vertex,chips\r\n2,7\r\n\r\n0,4", [4, 0, 7]),
+        ("\"vertex\",\"chips\"\n\"1\",\"5\"\n", [0, 5, 0]),
+        ("\u{feff}vertex,chips\n1,1099511627776\n", [0, 1 << 40, 0]),
+        ("vertex,chips\n1,\"2", [0, 2, 0]),
+        ("vertex,chips\n1,00000000000000000002\n", [0, 2, 0]),
+    ] {
+        let read = read_chips(rt.alloc(), &mut text.as_bytes(), 3)?;
+        assert_eq!(rt; read.as_slice(), chips.as_slice(), "{text}");
+    }
+    Ok(())
+}
+
+#[test]
+fn names_the_first_fault_of_chips(rt: HostRuntime) {
+    for (text, fault) in [
+        ("", FileFault::Header),
+        ("0,4\n", FileFault::Header),
+        ("vertex,chips,more\n", FileFault::Header),
+        ("vertex\n", FileFault::Header),
+        ("vertex, chips\n", FileFault::Header),
+        ("chips,vertex\n", FileFault::Header),
+        ("vertex,chips\n0,4\n0,1\n", FileFault::Repeated(1)),
+        ("vertex,chips\n0,-1\n", FileFault::Number(0)),
+        ("vertex,chips\n0,+1\n", FileFault::Number(0)),
+        ("vertex,chips\n0,\n", FileFault::Number(0)),
+        ("vertex,chips\n0, 1\n", FileFault::Number(0)),
+        ("vertex,chips\n0,1e3\n", FileFault::Number(0)),
+        (
+            "vertex,chips\n0,18446744073709551616\n",
+            FileFault::Number(0),
+        ),
+        (
+            "vertex,chips\n0,000000000000000000001\n",
+            FileFault::Number(0),
+        ),
+        ("vertex,chips\n0,4\nvertex,chips\n", FileFault::Number(1)),
+        ("vertex,chips\n3,x\n", FileFault::Number(0)),
+        ("vertex,chips\n3,1\n", FileFault::Vertex(0)),
+        (
+            "vertex,chips\n18446744073709551615,1\n",
+            FileFault::Vertex(0),
+        ),
+        ("vertex,chips\n0\n", FileFault::Row(0)),
+        ("vertex,chips\n1,1\n0,1,1\n", FileFault::Row(1)),
+        ("vertex,chips\n0,1099511627777\n", FileFault::Total),
+        ("vertex,chips\n0,1099511627776\n1,1\n", FileFault::Total),
+        (
+            "vertex,chips\n0,18446744073709551615\n1,1\n5,5\n",
+            FileFault::Vertex(2),
+        ),
+    ] {
+        assert_eq!(rt;
+            read_chips(rt.alloc(), &mut text.as_bytes(), 3).err(),
+            Some(fault),
+            "{text}"
+        );
+    }
+    assert_eq!(rt;
+        read_chips(rt.alloc(), &mut [0xff, b','].as_slice(), 3).err(),
+        Some(FileFault::Header)
+    );
+}
+
+#[test]
+fn slow_readers_give_the_same(rt: HostRuntime) -> Result<(), Fail> {
+    let text = TRIANGLE.as_bytes();
+    let graph = read_graph(rt.alloc(), &mut Slow::new(text, None))?;
+    assert_eq!(rt; (graph.vertices(), graph.edges().len()), (3, 4));
+    let rows = b"vertex,chips\n2,3\n0,1\n";
+    let chips = read_chips(rt.alloc(), &mut Slow::new(rows, None), 3)?;
+    assert_eq!(rt; chips.as_slice(), [1, 0, 3].as_slice());
+    let mut slow = Slow::new(text, None);
+    assert_eq!(rt; read_whole(rt.alloc(), &mut slow)?.as_slice(), text);
+    assert_eq!(rt; slow.reads, text.len().saturating_add(1));
+    Ok(())
+}
+
+#[test]
+fn a_failing_read_is_told(rt: HostRuntime) {
+    let text = TRIANGLE.as_bytes();
+    for read in 0..=text.len() {
+        let mut slow = Slow::new(text, Some(read));
+        assert_eq!(rt;
+            read_graph(rt.alloc(), &mut slow).err(),
+            Some(FileFault::Read)
+        );
+        assert_eq!(rt; slow.reads, read.saturating_add(1), "no further read");
+    }
+    let rows = b"vertex,chips\n2,3\n";
+    for read in [0, 5, 12, 16, 17] {
+        let mut slow = Slow::new(rows, Some(read));
+        assert_eq!(rt;
+            read_chips(rt.alloc(), &mut slow, 3).err(),
+            Some(FileFault::Read)
+        );
+    }
+}
+
+#[test]
+fn the_longest_input(rt: HostRuntime) -> Result<(), Fail> {
+    let alloc = rt.alloc();
+    let mut spaces = vec![in alloc; b' '; MAX_BYTES]?;
+    assert_eq!(rt;
+        read_graph(alloc, &mut spaces.as_slice()).err(),
+        Some(FileFault::NotJson)
+    );
+    spaces.push(b' ')?;
+    assert_eq!(rt;
+        read_graph(alloc, &mut spaces.as_slice()).err(),
+        Some(FileFault::TooLong)
+    );
+    assert_eq!(rt;
+        read_chips(alloc, &mut spaces.as_slice(), 3).err(),
+        Some(FileFault::TooLong)
+    );
+    let mut endless = Endless(0);
+    assert_eq!(rt;
+        read_whole(alloc, &mut endless).err(),
+        Some(FileFault::TooLong)
+    );
+    assert_eq!(rt; endless.0, 16_777_217, "one read more than bytes");
+    Ok(())
+}

@@ -1,0 +1,2 @@
+pub mod ReportText
+pub mod Written

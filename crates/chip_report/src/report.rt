@@ -1,0 +1,69 @@
+//! The report of an outcome: one line of compact JSON.
+
+ghost use Rattle.std.specs.Prelude.{◌≡◌, ◌++◌, IfOk, string_bytes};
+ghost use Rattle.std.specs.Fmt.{decimal};
+ghost use Rattle.chip_report.specs.ReportText.{member_text, array_text, bool_text, is_closed, report_text};
+
+use chip_fire::Outcome;
+use std::alloc::{AllocError, Global};
+
+/// The report of an outcome, ending in a newline.
+pub fn report(alloc: Global, outcome: &Outcome) -> Result<Vec<u8>, AllocError>
+    ensures { IfOk result (λ bytes. bytes.items ≡ report_text outcome.now) }
+{
+    let mut text = String::new(alloc);
+    text.push_str("{\"chips\":")?;
+    push_array(&mut text, &outcome.chips)?;
+    text.push_str(",\"closed\":")?;
+    push_bool(&mut text, is_closed(outcome))?;
+    text.push_str(",\"fired\":")?;
+    push_array(&mut text, &outcome.fired)?;
+    text.push_str(",\"over\":")?;
+    push_array(&mut text, &outcome.over)?;
+    text.push_str(",\"sealed\":")?;
+    push_array(&mut text, &outcome.sealed)?;
+    text.push_str(",\"version\":1}\n")?;
+    Ok(text.into_bytes())
+}
+
+/// Whether no vertex halted.
+pub fn is_closed(outcome: &Outcome) -> bool
+    ensures { result ≡ is_closed outcome.now }
+{
+    outcome.over.is_empty() && outcome.sealed.is_empty()
+}
+
+/// Appends a truth value.
+fn push_bool(text: &mut String, value: bool) -> Result<(), AllocError>
+    ensures { IfOk result (λ _. string_bytes text.new ≡ string_bytes text.old ++ bool_text value) }
+{
+    text.push_str(if value { "true" } else { "false" })
+}
+
+/// Appends numbers as a JSON array.
+fn push_array(text: &mut String, numbers: &[u64]) -> Result<(), AllocError>
+    ensures { IfOk result (λ _. string_bytes text.new ≡ string_bytes text.old ++ array_text numbers.now) }
+{
+    text.push_str("[")?;
+    for (i, number) in numbers.iter().enumerate() {
+        push_member(text, i, *number)?;
+    }
+    text.push_str("]")
+}
+
+/// Appends a number as the member of an array behind so many others.
+fn push_member(text: &mut String, before: usize, number: u64) -> Result<(), AllocError>
+    ensures { IfOk result (λ _. string_bytes text.new ≡ string_bytes text.old ++ member_text before number) }
+{
+    if before > 0 {
+        text.push_str(",")?;
+    }
+    push_number(text, number)
+}
+
+/// Appends a number in decimal.
+fn push_number(text: &mut String, number: u64) -> Result<(), AllocError>
+    ensures { IfOk result (λ _. string_bytes text.new ≡ string_bytes text.old ++ decimal number) }
+{
+    write!(text, "{number}")
+}

@@ -1,0 +1,13 @@
+/// The exit status of a command that did all it was to do.
+pub const CLOSED: u8 = 0;
+/// The exit status where some vertex halted.
+pub const HALTED: u8 = 2;
+
+/// How a command ended that wrote its output.
+#[derive(Clone, Copy, Debug, PartialEq, Eq)]
+pub struct Ended {
+    /// The exit status.
+    pub status: u8,
+    /// Whether a trace that was asked for was cut.
+    pub cut: bool,
+}

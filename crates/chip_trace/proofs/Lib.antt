@@ -1,0 +1,11 @@
+pub mod PrefixLemmas
+pub mod RowLemmas
+pub mod GreatestLemmas
+pub mod NumberLemmas
+pub mod KeptLemmas
+pub mod LookLemmas
+pub mod LeftLemmas
+pub mod ReplayLemmas
+pub mod VerdictLemmas
+pub mod StuckLemmas
+pub mod TextLemmas

@@ -1,0 +1,49 @@
+-- Lists and how they begin.
+use Rattle.std.proofs.Common.{◌≡◌, ℕ, zero, suc, ◌≤◌, List, [], ◌∷◌, ◌++◌, length, take, drop, refl, sym, ap, ◌∙◌, arith}
+use Rattle.std.specs.Prelude.{slice_get, Option, Some, None}
+use Rattle.std.proofs.Math.Seq.{take-append_seam}
+use Rattle.std.proofs.lemmas.List.{take-append-le, take-append-drop}
+
+module _ {A : Type 0} where
+  -- a beginning is what its length takes
+  pub beginning_is : (xs rest all : List A) → xs ++ rest ≡ all → xs ≡ take (length xs) all
+  beginning_is xs rest all is = sym (take-append_seam xs rest) ∙ ap (take (length xs)) is
+
+  -- two beginnings of one length are one
+  pub same_beginning : (xs r ys s all : List A) → xs ++ r ≡ all → ys ++ s ≡ all → length xs ≡ length ys → xs ≡ ys
+  same_beginning xs r ys s all p q e = beginning_is xs r all p ∙ ap (λ (n : ℕ). take n all) e ∙ sym (beginning_is ys s all q)
+
+  -- of two beginnings the longer one goes on from the shorter one
+  pub longer_beginning : (xs r ys s all : List A) → xs ++ r ≡ all → ys ++ s ≡ all → length xs ≤ length ys → (more : List A) × (xs ++ more ≡ ys)
+  longer_beginning xs r ys s all p q l = (
+    drop (length xs) ys,
+    ap (λ (zs : List A). zs ++ drop (length xs) ys) (beginning_is xs r all p ∙ ap (take (length xs)) (sym q) ∙ take-append-le (length xs) ys s l)
+        ∙ take-append-drop (length xs) ys,
+  )
+
+  -- what stands in a beginning stands in the list
+  pub slice_get_keeps : (xs ys : List A) (i : ℕ) (x : A) → slice_get xs i ≡ Some x → slice_get (xs ++ ys) i ≡ Some x
+  slice_get_keeps [] ys i x is = absurd (cc is)
+  slice_get_keeps (z ∷ zs) ys zero x is = is
+  slice_get_keeps (z ∷ zs) ys (suc i) x is = slice_get_keeps zs ys i x is
+
+  -- what comes behind a beginning
+  pub slice_get_seam : (xs : List A) (y : A) (ys : List A) → slice_get (xs ++ y ∷ ys) (length xs) ≡ Some y
+  slice_get_seam [] y ys = refl
+  slice_get_seam (x ∷ xs) y ys = slice_get_seam xs y ys
+
+  -- a place that holds nothing is past the end
+  pub slice_get_none : (xs : List A) (i : ℕ) → slice_get xs i ≡ None → length xs ≤ i
+  slice_get_none [] i is = omega arith
+  slice_get_none (x ∷ xs) zero is = absurd (cc is)
+  slice_get_none (x ∷ xs) (suc i) is = let a = slice_get_none xs i is in omega arith
+
+  -- a place that holds something ends the beginning up to it
+  pub take_slice_get : (xs : List A) (i : ℕ) (x : A) → slice_get xs i ≡ Some x → take (suc i) xs ≡ take i xs ++ x ∷ []
+  take_slice_get [] i x is = absurd (cc is)
+  take_slice_get (z ∷ zs) zero x is = ap (λ (o : Option A). got o) is
+    where
+      got : Option A → List A
+      got None = z ∷ []
+      got (Some y) = y ∷ []
+  take_slice_get (z ∷ zs) (suc i) x is = ap (λ (l : List A). z ∷ l) (take_slice_get zs i x is)

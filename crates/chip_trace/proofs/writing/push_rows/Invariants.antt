@@ -1,0 +1,6 @@
+use Rattle.std.proofs.Common.{◌≡◌, ◌++◌, take, string_bytes}
+use Rattle.chip_trace.specs.TraceText.{rows_text}
+use Rattle.chip_trace.proofs.writing.push_rows.Given as goal
+
+abbrev pub invariant-loop-row : goal.invariant-loop-row
+invariant-loop-row l = string_bytes l.text ≡ string_bytes l.initial.text ++ rows_text l.vertex (take l.row-index l.rows)

@@ -1,0 +1,8 @@
+pub mod Interleaving
+pub mod Progress
+pub mod Examples
+pub mod Runner
+pub mod Agenda
+pub mod Kept
+pub mod Replay
+pub mod TraceText

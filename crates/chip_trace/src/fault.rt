@@ -1,0 +1,62 @@
+use std::alloc::{AllocError, AllocFailed};
+use thiserror::Error;
+
+/// Why recorded runs have no interleaving.
+#[derive(Clone, Copy, Debug, PartialEq, Eq, Error)]
+pub enum ReplayFault {
+    /// At greatest progress the next row of this vertex is wrong, or it waits where none is wrong.
+    #[error("vertex {vertex} is stuck at its row {row}")]
+    Stuck {
+        /// The vertex.
+        vertex: u64,
+        /// The place of the row in its trace, from 0.
+        row: u64,
+    },
+    /// Memory ran out.
+    #[error("out of memory")]
+    NoMemory,
+}
+
+impl From<AllocError> for ReplayFault {
+    ghost use Rattle.std.specs.Prelude.{◌≡◌};
+    ghost use Rattle.chip_trace.specs.declared.fault.ReplayFault.TheVariants.{NoMemory};
+
+    ghost from_gives = { λ _ fault. fault ≡ NoMemory };
+
+    fn from(_error: AllocError) -> ReplayFault {
+        ReplayFault::NoMemory
+    }
+}
+
+impl<T: Drop> From<AllocFailed<T>> for ReplayFault {
+    ghost use Rattle.std.specs.Prelude.{◌≡◌};
+    ghost use Rattle.chip_trace.specs.declared.fault.ReplayFault.TheVariants.{NoMemory};
+
+    ghost from_gives = { λ _ fault. fault ≡ NoMemory };
+
+    fn from(_error: AllocFailed<T>) -> ReplayFault {
+        ReplayFault::NoMemory
+    }
+}
+
+/// Why recorded runs were not written.
+#[derive(Clone, Copy, Debug, PartialEq, Eq, Error)]
+pub enum TraceFault {
+    /// A write failed; some of the text may have gone out before.
+    #[error("a write failed")]
+    Write,
+    /// Memory ran out.
+    #[error("out of memory")]
+    NoMemory,
+}
+
+impl From<AllocError> for TraceFault {
+    ghost use Rattle.std.specs.Prelude.{◌≡◌};
+    ghost use Rattle.chip_trace.specs.declared.fault.TraceFault.TheVariants.{NoMemory};
+
+    ghost from_gives = { λ _ fault. fault ≡ NoMemory };
+
+    fn from(_error: AllocError) -> TraceFault {
+        TraceFault::NoMemory
+    }
+}

@@ -1,0 +1,112 @@
+//! A look at the next row of a vertex: is it met?
+
+ghost use Rattle.std.specs.Prelude.{◌≡◌, ◌+◌, ◌^◌, ◌<◌, length, map, sum, slice_get, slice_index, OnSome};
+ghost use Rattle.chip_graph.specs.ChipGame.{IsGame};
+ghost use Rattle.chip_trace.specs.Interleaving.{messages, goes_into, may_fire};
+ghost use Rattle.chip_trace.specs.Kept.{runner_at, row_after, IsKept, Finds};
+
+use crate::progress::Progress;
+use crate::runner::Runner;
+use chip_graph::{Game, Graph};
+use chip_link::TraceRow;
+
+/// What a look at the next row of a vertex finds.
+#[derive(Clone, Copy, Debug)]
+pub(crate) enum Look {
+    /// There is none: all its rows are used.
+    Done,
+    /// It is met: this is the row.
+    Met(TraceRow),
+    /// It is wrong.
+    Wrong,
+    /// It waits for the next message of this edge.
+    Waits(u64),
+}
+
+/// Looks at the next row of this vertex.
+pub(crate) fn look_at(
+    game: &Game,
+    traces: &[Vec<TraceRow>],
+    progress: &Progress,
+    vertex: u64,
+) -> Look
+    requires is_vertex { vertex < game.now.graph.vertices }
+    requires trace_each { length traces.now ≡ game.now.graph.vertices }
+    requires kept { IsKept game.now (map (λ t. t.items) traces.now) progress.now }
+    ensures { Finds game.now (map (λ t. t.items) traces.now) progress.now vertex result }
+{
+    match next_row(traces, progress, vertex) {
+        None => Look::Done,
+        Some(TraceRow::Take { edge, count }) => {
+            if !goes_into(game.graph(), vertex, edge) {
+                return Look::Wrong;
+            }
+            match next_message(game, progress, edge) {
+                None => Look::Waits(edge),
+                Some(message) if message == u128::from(count) => {
+                    Look::Met(TraceRow::Take { edge, count })
+                }
+                Some(_) => Look::Wrong,
+            }
+        }
+        Some(TraceRow::Fire { k }) => {
+            if may_fire(game, &progress.runners[vertex as usize], vertex, k) {
+                Look::Met(TraceRow::Fire { k })
+            } else {
+                Look::Wrong
+            }
+        }
+    }
+}
+
+/// The next unused row of this vertex, if it has one.
+fn next_row(traces: &[Vec<TraceRow>], progress: &Progress, vertex: u64) -> Option<TraceRow>
+    requires has_trace { vertex < length traces.now }
+    requires has_runner { vertex < length progress.now.runners.items }
+    ensures row { result ≡ row_after (map (λ t. t.items) traces.now) progress.now vertex }
+    ensures room { OnSome result ((runner_at progress.now vertex).used + 1 < 2 ^ 64) }
+{
+    traces[vertex as usize].get(progress.used(vertex)).copied()
+}
+
+/// Whether this edge goes into the vertex; its root edge does.
+fn goes_into(graph: &Graph, vertex: u64, edge: u64) -> bool
+    ensures { result ≡ goes_into graph.now vertex edge }
+{
+    let edges = graph.edges();
+    match edges.get(edge as usize) {
+        Some(row) => row.head == vertex,
+        None => edge - edges.len() as u64 == vertex,
+    }
+}
+
+/// The first message of this edge that was not taken, if there is one.
+fn next_message(game: &Game, progress: &Progress, edge: u64) -> Option<u128>
+    requires runner_each { length progress.now.runners.items ≡ game.now.graph.vertices }
+    requires taken_each { length progress.now.taken.items ≡ length game.now.graph.edges + game.now.graph.vertices }
+    requires is_edge { edge < length game.now.graph.edges + game.now.graph.vertices }
+    ensures { result ≡ slice_get (messages game.now (λ u. (runner_at progress.now u).fires) edge) (slice_index progress.now.taken.items edge) }
+{
+    let edges = game.graph().edges();
+    let taken = progress.taken[edge as usize];
+    match edges.get(edge as usize) {
+        Some(row) => {
+            let k = progress.runners[row.tail as usize].firing(taken)?;
+            Some(u128::from(k) * u128::from(row.mult))
+        }
+        None => {
+            let chips = game.start()[edge as usize - edges.len()];
+            (chips > 0 && taken == 0).then_some(u128::from(chips))
+        }
+    }
+}
+
+/// Whether the vertex may fire `k` times.
+fn may_fire(game: &Game, runner: &Runner, vertex: u64, k: u64) -> bool
+    requires { vertex < game.now.graph.vertices }
+    ensures value { result ≡ may_fire game.now vertex (sum runner.now.fires) runner.now.chips k }
+    ensures game { IsGame game.now }
+{
+    let graph = game.graph();
+    vertex != graph.sink() && k > 0 && runner.can_pay(k, graph.out_degree(vertex), game.limit())
+}

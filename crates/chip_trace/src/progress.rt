@@ -1,0 +1,75 @@
+use crate::runner::Runner;
+use chip_graph::Game;
+use chip_link::TraceRow;
+use std::alloc::{AllocError, Global};
+
+/// How far a replay has come: its vertices, how many messages of each edge were taken (root edges behind the
+/// graph's), and the firings so far with their vertices.
+#[derive(Debug, Drop)]
+pub(crate) struct Progress {
+    pub(crate) runners: Vec<Runner>,
+    pub(crate) taken: Vec<usize>,
+    pub(crate) firings: Vec<(u64, u64)>,
+}
+
+impl Progress {
+    ghost use Rattle.std.specs.Prelude.{◌≡◌, ◌+◌, ◌^◌, ◌<◌, [], length, replicate, IfOk};
+    ghost use Rattle.chip_trace.specs.Runner.{at_start};
+    ghost use Rattle.chip_trace.specs.Kept.{runner_at, UsesRow, FitsRow};
+
+    /// No row used.
+    pub(crate) fn new(alloc: Global, game: &Game) -> Result<Progress, AllocError>
+        ensures runners { IfOk result (λ p. p.runners.items ≡ replicate game.now.graph.vertices at_start) }
+        ensures taken { IfOk result (λ p. p.taken.items ≡ replicate (length game.now.graph.edges + game.now.graph.vertices) 0) }
+        ensures firings { IfOk result (λ p. p.firings.items ≡ []) }
+    {
+        let vertices = game.graph().vertices();
+        Ok(Progress {
+            runners: runners_at_start(alloc, vertices)?,
+            taken: vec![in alloc; 0; game.graph().edges().len() + vertices as usize]?,
+            firings: Vec::new(alloc),
+        })
+    }
+
+    /// How many rows this vertex has used.
+    pub(crate) fn used(&self, vertex: u64) -> usize
+        requires { vertex < length self.now.runners.items }
+        ensures { result ≡ (runner_at self.now vertex).used }
+    {
+        self.runners[vertex as usize].used()
+    }
+
+    /// Notes that this vertex has used this row.
+    pub(crate) fn use_row(&mut self, vertex: u64, row: TraceRow) -> Result<(), AllocError>
+        requires has_runner { vertex < length self.old.runners.items }
+        requires room { (runner_at self.old vertex).used + 1 < 2 ^ 64 }
+        requires fits { FitsRow vertex row self.old }
+        ensures { IfOk result (λ _. UsesRow vertex row self.old self.new) }
+    {
+        match row {
+            TraceRow::Take { edge, count } => {
+                self.runners[vertex as usize].take(count);
+                self.taken[edge as usize] += 1;
+            }
+            TraceRow::Fire { k } => {
+                self.firings.push((vertex, k))?;
+                self.runners[vertex as usize].fire(k)?;
+            }
+        }
+        Ok(())
+    }
+}
+
+ghost use Rattle.std.specs.Prelude.{◌≡◌, replicate, IfOk};
+ghost use Rattle.chip_trace.specs.Runner.{at_start};
+
+/// So many vertices that have used no row.
+fn runners_at_start(alloc: Global, count: u64) -> Result<Vec<Runner>, AllocError>
+    ensures { IfOk result (λ runners. runners.items ≡ replicate count at_start) }
+{
+    let mut runners = Vec::new(alloc);
+    for _ in 0..count {
+        runners.push(Runner::new(alloc))?;
+    }
+    Ok(runners)
+}

@@ -1,0 +1,145 @@
+//! Replaying recorded runs.
+
+ghost use Rattle.std.specs.Prelude.{◌≡◌, ◌+◌, ◌^◌, ◌<◌, ℕ, length, map, IfOk, MatchOption, MatchResult};
+ghost use Rattle.chip_trace.specs.Kept.{runner_at, IsKept, UsesRow, FitsRow, MayUse, IsSettled, GoesOn};
+ghost use Rattle.chip_trace.specs.Replay.{AreFirings, IsReplayFault};
+
+use crate::agenda::Agenda;
+use crate::fault::ReplayFault;
+use crate::look::{Look, look_at};
+use crate::progress::Progress;
+use crate::verdict::vertex_to_blame;
+use chip_graph::Game;
+use chip_link::TraceRow;
+use std::alloc::{AllocError, Global};
+
+/// Notes that a vertex has used a row that is met, and wakes those that waited for it.
+fn use_met(
+    progress: &mut Progress,
+    agenda: &mut Agenda,
+    vertex: u64,
+    row: TraceRow,
+) -> Result<(), AllocError>
+    requires is_vertex { vertex < agenda.old.vertices }
+    requires has_runner { vertex < length progress.old.runners.items }
+    requires room { (runner_at progress.old vertex).used + 1 < 2 ^ 64 }
+    requires fits { FitsRow vertex row progress.old }
+    ensures uses { IfOk result (λ _. UsesRow vertex row progress.old progress.new) }
+    ensures same { agenda.new.vertices ≡ agenda.old.vertices }
+    ensures few { agenda.new.due < agenda.old.due + 2 ^ 64 }
+{
+    progress.use_row(vertex, row)?;
+    if let TraceRow::Fire { .. } = row {
+        agenda.wake(vertex)?;
+    }
+    Ok(())
+}
+
+/// Uses the rows of this vertex as long as they are met.
+fn advance(
+    game: &Game,
+    traces: &[Vec<TraceRow>],
+    progress: &mut Progress,
+    agenda: &mut Agenda,
+    vertex: u64,
+) -> Result<(), AllocError>
+    requires is_vertex { vertex < game.now.graph.vertices }
+    requires trace_each { length traces.now ≡ game.now.graph.vertices }
+    requires agenda_each { agenda.old.vertices ≡ game.now.graph.vertices }
+    requires kept { IsKept game.now (map (λ t. t.items) traces.now) progress.old }
+    ensures { IfOk result (λ _. GoesOn game.now (map (λ t. t.items) traces.now) progress.old agenda.old progress.new agenda.new) }
+{
+    loop {
+        match look_at(game, traces, progress, vertex) {
+            Look::Met(row) => use_met(progress, agenda, vertex, row)?,
+            Look::Waits(edge) => {
+                if let Some(edge) = game.graph().edges().get(edge as usize) {
+                    agenda.wait_for(vertex, edge.tail)?;
+                }
+                return Ok(());
+            }
+            Look::Done | Look::Wrong => return Ok(()),
+        }
+    }
+}
+
+/// Looks at all vertices on the agenda, and at those that come onto it.
+fn run_agenda(
+    game: &Game,
+    traces: &[Vec<TraceRow>],
+    progress: &mut Progress,
+    agenda: &mut Agenda,
+) -> Result<(), AllocError>
+    requires trace_each { length traces.now ≡ game.now.graph.vertices }
+    requires agenda_each { agenda.old.vertices ≡ game.now.graph.vertices }
+    requires kept { IsKept game.now (map (λ t. t.items) traces.now) progress.old }
+    ensures { IfOk result (λ _. GoesOn game.now (map (λ t. t.items) traces.now) progress.old agenda.old progress.new agenda.new) }
+{
+    while let Some(vertex) = agenda.next() {
+        advance(game, traces, progress, agenda, vertex)?;
+    }
+    Ok(())
+}
+
+/// The least vertex whose next row is met, with that row.
+fn first_met(game: &Game, traces: &[Vec<TraceRow>], progress: &Progress) -> Option<(u64, TraceRow)>
+    requires trace_each { length traces.now ≡ game.now.graph.vertices }
+    requires kept { IsKept game.now (map (λ t. t.items) traces.now) progress.now }
+    ensures { MatchOption result
+        (IsSettled game.now (map (λ t. t.items) traces.now) progress.now)
+        (λ found. (found.0 < game.now.graph.vertices) × MayUse game.now (map (λ t. t.items) traces.now) progress.now found.0 found.1) }
+{
+    for vertex in 0..game.graph().vertices() {
+        if let Look::Met(row) = look_at(game, traces, progress, vertex) {
+            return Some((vertex, row));
+        }
+    }
+    None
+}
+
+/// Uses rows until no next row is met.
+///
+/// The agenda only saves looks: that nothing more is met is seen by a last look at every vertex.
+fn settle(
+    game: &Game,
+    traces: &[Vec<TraceRow>],
+    progress: &mut Progress,
+    agenda: &mut Agenda,
+) -> Result<(), AllocError>
+    requires trace_each { length traces.now ≡ game.now.graph.vertices }
+    requires agenda_each { agenda.old.vertices ≡ game.now.graph.vertices }
+    requires kept { IsKept game.now (map (λ t. t.items) traces.now) progress.old }
+    ensures kept { IfOk result (λ _. IsKept game.now (map (λ t. t.items) traces.now) progress.new) }
+    ensures settled { IfOk result (λ _. IsSettled game.now (map (λ t. t.items) traces.now) progress.new) }
+{
+    loop {
+        run_agenda(game, traces, progress, agenda)?;
+        match first_met(game, traces, progress) {
+            Some((vertex, row)) => use_met(progress, agenda, vertex, row)?,
+            None => return Ok(()),
+        }
+    }
+}
+
+/// The firings of one interleaving of recorded runs, each with its vertex, in its order; in time linear in rows and edges.
+///
+/// `traces` has the rows of each vertex.
+pub fn replay(
+    alloc: Global,
+    game: &Game,
+    traces: &[Vec<TraceRow>],
+) -> Result<Vec<(u64, u64)>, ReplayFault>
+    requires { length traces.now ≡ game.now.graph.vertices }
+    ensures { MatchResult result (λ fired. AreFirings game.now (map (λ t. t.items) traces.now) fired.items) (IsReplayFault game.now (map (λ t. t.items) traces.now)) }
+{
+    let mut progress = Progress::new(alloc, game)?;
+    let mut agenda = Agenda::of_all(alloc, game.graph().vertices())?;
+    settle(game, traces, &mut progress, &mut agenda)?;
+    match vertex_to_blame(game, traces, &progress) {
+        Some(vertex) => Err(ReplayFault::Stuck {
+            vertex,
+            row: progress.used(vertex) as u64,
+        }),
+        None => Ok(progress.firings),
+    }
+}

@@ -1,0 +1,71 @@
+-- A new actor stands for the opening of its vertex.
+use Rattle.std.proofs.Common.{◌≡◌, ℕ, zero, suc, get_or, ◌+◌, ◌<◌, ◌≤◌, false, eqb, List, [], ◌∷◌, length, map, None, refl, sym, ap, ◌∙◌, subst, arith}
+use mathlib.Core.Logic.{dite}
+use native.Mathlib.Decide.{ℕ_discrete}
+use Rattle.std.specs.List.{Contains}
+use Rattle.std.proofs.lemmas.List.{get_or_default}
+use Rattle.chip_graph.specs.Multigraph.{edges_out, degree}
+use Rattle.chip_graph.specs.ChipGame.{ChipGame, IsGame}
+use Rattle.chip_graph.proofs.SumLemmas.{cond_yes, cond_no, tested_none}
+use Rattle.chip_link.specs.Ends.{HeadState, new_head}
+use Rattle.chip_detect.specs.Books.{Books, IsSound, IsFresh}
+use Rattle.chip_actor.specs.Edges.{all_edges, tail_of}
+use Rattle.chip_actor.specs.Part.{opened, first_put}
+use Rattle.chip_actor.specs.Ends.{OutEnd, OutEnds, InEnds, on_edge, no_out, fresh_out, IsFreshOuts, IsFreshIns}
+use Rattle.chip_actor.specs.Actor.{Actor, StandsFor}
+use Rattle.chip_actor.proofs.Opening.{opening_keeps, first_few}
+use Rattle.chip_actor.proofs.Standing.{among_new_outs, among_new_ins}
+
+-- an end that was made from its number
+made_end : {T : Type 0} (none : T) (f : ℕ → T) (xs : List ℕ) (e : ℕ) → Contains xs e → on_edge none xs (map f xs) e ≡ f e
+made_end {T} none f xs e (k, l, at) = by_place xs k l (sym (get_or_default xs k e 0 l) ∙ at)
+  where
+    by_place : (xs : List ℕ) (k : ℕ) → k < length xs → get_or xs k 0 ≡ e → on_edge none xs (map f xs) e ≡ f e
+    by_place [] k l at = absurd (omega arith)
+    by_place (x ∷ xs) zero l at = cond_yes x e (f x) (on_edge none xs (map f xs) e) at ∙ ap f at
+    by_place (x ∷ xs) (suc k) l at = dite (ℕ_discrete x e)
+        (λ y. cond_yes x e (f x) (on_edge none xs (map f xs) e) y ∙ ap f y)
+        (λ n. cond_no x e (f x) (on_edge none xs (map f xs) e) n ∙ by_place xs k (omega arith) at)
+
+module _ (g : ChipGame) (ring v : ℕ) (game : IsGame g) (some_ring : 0 < ring) (small_ring : ring ≤ 64) (vertex : v < g.graph.vertices) (os : OutEnds) (is : InEnds) (b : Books)
+    (outs : IsFreshOuts g.graph ring v os) (ins : IsFreshIns g.graph ring v is) (fresh : IsFresh b is.edges (edges_out g.graph v)) (sound : IsSound b) where
+  pub opens : (a : Actor) → a ≡ (let n : Actor = record { vertex = v; is_sink = eqb v g.graph.sink; degree = degree g.graph v; limit = g.limit; chips = 0; fired = 0; halt = None; outs = os; ins = is; detect = b; pending = 0; unput = 0; refused = 0 } in n) → StandsFor g ring (opened g) a
+  opens a eq = subst (StandsFor g ring (opened g)) (sym eq) record {
+    knows = record {
+      game = game;
+      some_ring = some_ring;
+      small_ring = small_ring;
+      vertex = vertex;
+      is_sink = refl;
+      degree = refl;
+      limit = refl;
+      outs = outs.edges;
+      ins = ins.edges;
+      detect_outs = fresh.outs.these;
+      detect_ins = fresh.ins.these ∙ ins.edges;
+    };
+    kept = opening_keeps g game v;
+    few_chips = omega arith;
+    few_pending = omega arith;
+    chips = refl;
+    fired = refl;
+    halt = refl;
+    outs = λ e at.
+        (λ j. on_edge no_out (outs.edges j) (outs.ends j) e) ∙ made_end no_out (fresh_out g.graph ring) (edges_out g.graph v) e (among_new_outs g v vertex e at)
+        ∙ (λ j. let n : OutEnd = record { mult = (fresh_out g.graph ring e).mult; pending = 0; refused = false; held = None; link = record { edge = e; ring = ring; claims = none_claimed e at j; held = None; clear = false; refused = false } } in n);
+    ins = λ e at. ap (λ (ts : List HeadState). on_edge (new_head 0 1) is.edges ts e) ins.ends ∙ made_end (new_head 0 1) (λ (e : ℕ). new_head e ring) is.edges e (subst (λ (xs : List ℕ). Contains xs e) (sym ins.edges) (among_new_ins g v vertex e at));
+    books = record {
+      sound = sound;
+      parent = fresh.parent;
+      got = λ e at. fresh.ins.messages e;
+      acked = λ e at. fresh.ins.answered e;
+      sent = λ e at. fresh.outs.messages e ∙ none_claimed e at;
+      settled = λ e at. fresh.outs.answered e;
+    };
+    pending = sym (tested_none (all_edges g) (λ e. eqb (tail_of g e) v) (λ e. 0) (λ e l on. refl));
+    unput = sym (tested_none (all_edges g) (λ e. eqb (tail_of g e) v) (λ e. 0) (λ e l on. refl));
+    refused = sym (tested_none (all_edges g) (λ e. eqb (tail_of g e) v) (λ e. 0) (λ e l on. refl));
+  }
+    where
+      none_claimed : (e : ℕ) → tail_of g e ≡ v → 0 ≡ length (first_put g e) + 0
+      none_claimed e at = let few = first_few g e (Rattle.chip_actor.proofs.PartLemmas.tail_inside g e (subst (λ (n : ℕ). n < g.graph.vertices) (sym at) vertex)) in omega arith

@@ -1,0 +1,13 @@
+pub mod EdgeLemmas
+pub mod RuleLemmas
+pub mod PartLemmas
+pub mod Opening
+pub mod Lookups
+pub mod EndLemmas
+pub mod PickedLemmas
+pub mod Standing
+pub mod Stepping
+pub mod Making
+pub mod ActorOpening
+pub mod WorkedTurns
+pub mod TurnLemmas

@@ -1,0 +1,23 @@
+use Rattle.std.proofs.Common.{◌≡◌, ◌<◌, ◌^◌, ◌∙◌, ap, sym, subst}
+use Rattle.chip_link.specs.Ends.{HeadState, message_taken, head_after_take}
+use Rattle.chip_actor.specs.Ends.{InEnds, in_on}
+use Rattle.chip_actor.proofs.EndLemmas.{found_in, changes_in}
+use Rattle.chip_actor.proofs.ins.Ins.take.Goals as goal
+use Rattle.chip_actor.proofs.ins.Ins.take.Goals.{After-index_mut-end}
+
+-- the end that was found is the edge's
+is : (c : After-index_mut-end) → c.index_mut-end.result.now ≡ in_on c.args.self.now c.args.edge
+is c =
+    found_in (record { edges = c.self.inside.edges.items; ends = c.self.inside.ends.items }) c.self.invariant c.place_of-place.result c.args.edge (rw c.deref.ensures.value at c.place_of-place.ensures.within) (rw c.deref.ensures.value at c.place_of-place.ensures.edge) c.index_mut-end.result.now c.index_mut-end.ensures.value
+    ∙ ap (λ (is : InEnds). in_on is c.args.edge) c.self.view_is
+
+pub taken-requires : goal.taken-requires
+taken-requires c = subst (λ (h : HeadState). h.taken < 2 ^ 62) (sym (is c)) c.requires.few
+
+pub returns-clause-message : goal.returns-clause-message
+returns-clause-message c = c.taken.ensures.message ∙ ap (message_taken c.args.cell) (is (goal.at.returns-clause-message c).After-index_mut-end)
+
+pub returns-clause-after : goal.returns-clause-after
+returns-clause-after c = rw (← c.self.view_is)
+    (changes_in (record { edges = c.self.inside.edges.items; ends = c.self.inside.ends.items }) c.self.invariant c.place_of-place.result c.args.edge (rw c.deref.ensures.value at c.place_of-place.ensures.within) (rw c.deref.ensures.value at c.place_of-place.ensures.edge) c.index_mut-end.result.now c.index_mut-end.ensures.value
+    c.taken.new.self (head_after_take c.args.cell) c.taken.ensures.after)

@@ -1,0 +1,66 @@
+-- The operation that an event needs, the event that an operation makes, and which words an operation may have seen.
+use Rattle.std.specs.Prelude.{◌≡◌, ◌≢◌, ℕ, ◌+◌, ◌-◌, ◌%◌, ◌^◌, ◌<◌, ◌≤◌, length, sum, Option, Some, None, Result, Ok, Err, option_to_list}
+use Rattle.chip_actor.specs.declared.act.Act.{Act}
+use Rattle.chip_actor.specs.declared.act.Act.TheVariants as Do
+pub use Rattle.chip_actor.specs.declared.act.Observed.{Observed}
+use Rattle.chip_graph.specs.ChipGame.{ChipGame}
+use Rattle.chip_link.specs.Words.{claims_in}
+use Rattle.chip_link.specs.Link.{claims_of}
+use Rattle.chip_detect.specs.Tally.{message_limit}
+use Rattle.chip_actor.specs.Edges.{head_of}
+use Rattle.chip_actor.specs.Part.{Part, may_ack, cause, is_by_limit}
+use Rattle.chip_actor.specs.Rules.{Rule, Event, Take, Ack, Fire, Clear, Claim, Put, Halt, Settle, Seal, Read, unmet}
+use Rattle.chip_actor.specs.Steps.{Reply, part_of, does, reply_of}
+use Rattle.chip_actor.specs.Actor.{Actor, WhateverPart, StandsFor}
+
+-- the operation that an event of a vertex needs, where its rules are met. A message with place p stands in cell p % ring, and the one
+-- that is claimed and not put has the last place. A seal and a read are no operations of a vertex
+abbrev pub act_of : ChipGame → ℕ → Event → Part → Act
+act_of g ring (Take e) s = Do.Take e (length (s.into e).got % ring)
+act_of g ring (Ack e) s = Do.Ack e (may_ack g (head_of g e) s e)
+act_of g ring (Fire v k) s = Do.Fire k
+act_of g ring (Clear e) s = Do.Clear e (claims_of (s.out e).link % ring)
+act_of g ring (Claim e) s = Do.Claim e (claims_of (s.out e).link) (claims_of (s.out e).link + 1)
+act_of g ring (Put e) s = Do.Put e ((claims_of (s.out e).link - 1) % ring) (sum (option_to_list (s.out e).link.held))
+act_of g ring (Halt v) s = Do.Halt (is_by_limit (cause g v s))
+act_of g ring (Settle e) s = Do.Settle e
+act_of g ring (Seal e) s = Do.End
+act_of g ring (Read v) s = Do.End
+
+-- the event that an operation of the vertex v makes. `End` is none: it is given an event that no vertex makes
+abbrev pub event_of : ℕ → Act → Event
+event_of v (Do.Take e cell) = Take e
+event_of v (Do.Settle e) = Settle e
+event_of v (Do.Fire k) = Fire v k
+event_of v (Do.Clear e cell) = Clear e
+event_of v (Do.Claim e expected new) = Claim e
+event_of v (Do.Put e cell value) = Put e
+event_of v (Do.Halt by_limit) = Halt v
+event_of v (Do.Ack e count) = Ack e
+event_of v Do.End = Seal 0
+
+-- the operation, or the first rule that isn't met
+abbrev pub verdict : Option Rule → Act → Result Act Rule
+verdict None act = Ok act
+verdict (Some rule) act = Err rule
+
+-- what an operation may have seen: a message keeps the chips and the number of messages within the limits, the edge word is as the tail
+-- left it but for a seal, and acknowledgements never outnumber messages
+abbrev pub FitsSeen : Part → Event → ℕ → Type 0
+FitsSeen s (Take e) seen = seen ≢ 0 → (s.chips + seen ≤ 2 ^ 40) × (length (s.into e).got < message_limit)
+FitsSeen s (Claim e) seen = claims_in seen ≡ claims_of (s.out e).link
+FitsSeen s (Settle e) seen = ((s.out e).settled ≤ seen) × (seen ≤ claims_of (s.out e).link)
+FitsSeen s _ seen = Unit {0}
+
+-- the vertex v may make this event, and may have seen this
+abbrev pub CanDo : ChipGame → Part → ℕ → Event → ℕ → Type 0
+CanDo g s v x seen = (part_of g x ≡ v) × (unmet g x s ≡ None) × FitsSeen s x seen
+
+-- an operation that `may` gave, with a word that it may have seen
+abbrev pub IsDue : ChipGame → ℕ → Part → ℕ → Observed → Type 0
+IsDue g ring s v o = CanDo g s v (event_of v o.act) o.seen × (o.act ≡ act_of g ring (event_of v o.act) s)
+
+-- the actor made this event and answered this: whatever part it stood for, it stands for that part after the event
+abbrev pub Makes : Actor → Actor → Event → ℕ → Reply → Type 0
+Makes old new x seen reply =
+    WhateverPart old (λ g ring s. CanDo g s old.vertex x seen → StandsFor g ring (does g (record { event = x; seen = seen }) s) new × (reply ≡ reply_of g x seen s))

@@ -1,0 +1,86 @@
+-- A running actor, and when it stands for a part of the core.
+use Rattle.std.specs.Prelude.{◌≡◌, ℕ, ◌^◌, ◌<◌, ◌≤◌, Bool, not, ◌&&◌, ◌||◌, nat_le, is_some, ◌==◌, [], ◌∷◌, ◌++◌, length, Option}
+use Rattle.chip_graph.specs.Multigraph.{edges_out, edges_in, degree}
+use Rattle.chip_graph.specs.ChipGame.{ChipGame, IsGame}
+use Rattle.chip_link.specs.Ends.{put_of}
+use Rattle.chip_link.specs.Link.{claims_of, tail_state, head_state}
+use Rattle.chip_detect.specs.Books.{Books, IsSound, in_edges, out_edges, got_of, acked_of, sent_of, settled_of}
+use Rattle.chip_actor.specs.Edges.{root_edge, tail_of, head_of, mult_of}
+use Rattle.chip_actor.specs.Part.{Part, Out, Cause, pending_of, unput, refusals}
+use Rattle.chip_actor.specs.Kept.{KeepsPart}
+use Rattle.chip_actor.specs.Ends.{OutEnds, InEnds, OutEnd, out_on, in_on}
+
+-- what an `ActorState` shows. The last three are sums over the edges out of it, so that nobody has to add them up: what is pending, how
+-- many messages are claimed and not put, and on how many edges a claim was refused
+pub record Actor : Type 0 where
+  pub vertex : ℕ
+  pub is_sink : Bool
+  pub degree : ℕ
+  pub limit : ℕ
+  pub chips : ℕ
+  pub fired : ℕ
+  pub halt : Option Cause
+  pub outs : OutEnds
+  pub ins : InEnds
+  pub detect : Books
+  pub pending : ℕ
+  pub unput : ℕ
+  pub refused : ℕ
+
+-- the edge e as its tail keeps it at run time
+abbrev pub out_end : ChipGame → ℕ → ℕ → Out → OutEnd
+out_end g ring e o = record { mult = mult_of g e; pending = o.pending; refused = o.link.refused; held = put_of (tail_state e ring o.link); link = tail_state e ring o.link }
+
+-- the actor knows the game of its vertex
+pub record KnowsGame (g : ChipGame) (ring : ℕ) (a : Actor) : Type 0 where
+  pub game : IsGame g
+  pub some_ring : 0 < ring
+  pub small_ring : ring ≤ 64
+  pub vertex : a.vertex < g.graph.vertices
+  pub is_sink : a.is_sink ≡ (a.vertex == g.graph.sink)
+  pub degree : a.degree ≡ degree g.graph a.vertex
+  pub limit : a.limit ≡ g.limit
+  pub outs : a.outs.edges ≡ edges_out g.graph a.vertex
+  pub ins : a.ins.edges ≡ edges_in g.graph a.vertex ++ root_edge g a.vertex ∷ []
+  pub detect_outs : out_edges a.detect ≡ edges_out g.graph a.vertex
+  pub detect_ins : in_edges a.detect ≡ edges_in g.graph a.vertex ++ root_edge g a.vertex ∷ []
+
+-- the actor's books of the detector say what the part says
+pub record KeepsBooks (g : ChipGame) (s : Part) (v : ℕ) (b : Books) : Type 0 where
+  pub sound : IsSound b
+  pub parent : b.parent ≡ s.parent
+  pub got : (e : ℕ) → head_of g e ≡ v → got_of b e ≡ length (s.into e).got
+  pub acked : (e : ℕ) → head_of g e ≡ v → acked_of b e ≡ (s.into e).acked
+  pub sent : (e : ℕ) → tail_of g e ≡ v → sent_of b e ≡ claims_of (s.out e).link
+  pub settled : (e : ℕ) → tail_of g e ≡ v → settled_of b e ≡ (s.out e).settled
+
+-- the actor stands for the part s of its vertex: it keeps of every edge what the part says
+pub record StandsFor (g : ChipGame) (ring : ℕ) (s : Part) (a : Actor) : Type 0 where
+  pub knows : KnowsGame g ring a
+  pub kept : KeepsPart g a.vertex s
+  pub few_chips : s.chips ≤ 2 ^ 40
+  pub few_pending : a.pending ≤ 2 ^ 40
+  pub chips : a.chips ≡ s.chips
+  pub fired : a.fired ≡ s.fired
+  pub halt : a.halt ≡ s.halt
+  pub outs : (e : ℕ) → tail_of g e ≡ a.vertex → out_on a.outs e ≡ out_end g ring e (s.out e)
+  pub ins : (e : ℕ) → head_of g e ≡ a.vertex → in_on a.ins e ≡ head_state e ring (s.into e).got
+  pub books : KeepsBooks g s a.vertex a.detect
+  pub pending : a.pending ≡ pending_of g a.vertex s
+  pub unput : a.unput ≡ unput g a.vertex s
+  pub refused : a.refused ≡ refusals g a.vertex s
+
+-- whatever part an actor stands for
+abbrev pub WhateverPart : Actor → (ChipGame → ℕ → Part → Type 0) → Type 0
+WhateverPart a P = (g : ChipGame) (ring : ℕ) (s : Part) → StandsFor g ring s a → P g ring s
+
+-- it stands for some part, of which this holds
+abbrev pub SomePart : Actor → (ChipGame → ℕ → Part → Type 0) → Type 0
+SomePart a P = (g : ChipGame) × (ring : ℕ) × (s : Part) × StandsFor g ring s a × P g ring s
+
+-- what the actor makes of its own numbers: it is legal, and it is passive
+abbrev pub is_legal_now : Actor → Bool
+is_legal_now a = not a.is_sink && nat_le a.degree a.chips
+
+abbrev pub is_passive_now : Actor → Bool
+is_passive_now a = a.unput == 0 && (is_some a.halt || (a.pending == 0 && not (is_legal_now a)))

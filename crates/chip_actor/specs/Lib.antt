@@ -1,0 +1,13 @@
+pub mod Numbers
+pub mod Edges
+pub mod Part
+pub mod Rules
+pub mod Steps
+pub mod Kept
+pub mod Ends
+pub mod Actor
+pub mod Acting
+pub mod Turn
+pub mod Counting
+pub mod Rows
+pub mod Laws

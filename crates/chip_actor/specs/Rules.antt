@@ -1,0 +1,59 @@
+-- The rules of each event, in their order, asked of the part that makes it. What another part did is asked of no rule.
+use Rattle.std.specs.Prelude.{◌+◌, ◌*◌, Bool, true, false, not, ◌&&◌, ◌==◌, nat_lt, nat_le, List, [], ◌∷◌, Option, Some, None, is_some}
+pub use Rattle.chip_link.specs.declared.event.Event.{Event}
+pub use Rattle.chip_link.specs.declared.event.Event.TheVariants.{Take, Ack, Fire, Clear, Claim, Put, Halt, Settle, Seal, Read}
+pub use Rattle.chip_actor.specs.declared.rule.Rule.{Rule}
+use Rattle.chip_actor.specs.declared.rule.Rule.TheVariants.{NoSuch, Sink, Halted, Pending, Zero, Limit, NotLegal, NothingPending, Refused, Unput, NotCleared, NotClaimed, NoCause, NothingOwed, Engaged, NotClosed}
+use Rattle.chip_graph.specs.Multigraph.{degree}
+use Rattle.chip_graph.specs.ChipGame.{ChipGame}
+use Rattle.chip_actor.specs.Edges.{graph_edges, all_edges, head_of, root}
+use Rattle.chip_actor.specs.Part.{Part, is_running, owed, may_ack, pending_of, unput, cause, deficit}
+
+-- the rule is met, and so on with the rest; else it is the answer
+abbrev pub need : Bool → Rule → Option Rule → Option Rule
+need true rule rest = rest
+need false rule rest = Some rule
+
+-- the first rule of an event that isn't met
+abbrev pub unmet : ChipGame → Event → Part → Option Rule
+unmet g (Take e) s = need (nat_lt e (all_edges g)) NoSuch None
+unmet g (Ack e) s =
+    need (nat_lt e (all_edges g)) NoSuch
+    (need (not (owed (s.into e) == 0)) NothingOwed
+    (need (not (may_ack g (head_of g e) s e == 0)) Engaged None))
+unmet g (Fire v k) s =
+    need (nat_lt v g.graph.vertices) NoSuch
+    (need (not (v == g.graph.sink)) Sink
+    (need (is_running s.halt) Halted
+    (need (pending_of g v s == 0 && unput g v s == 0) Pending
+    (need (not (k == 0)) Zero
+    (need (nat_le (s.fired + k) g.limit) Limit
+    (need (nat_le (k * degree g.graph v) s.chips) NotLegal None))))))
+unmet g (Clear e) s =
+    need (nat_lt e (graph_edges g)) NoSuch
+    (need (is_running s.halt) Halted
+    (need (not (s.out e).link.refused) Refused
+    (need (not ((s.out e).pending == 0)) NothingPending None)))
+unmet g (Claim e) s =
+    need (nat_lt e (graph_edges g)) NoSuch
+    (need (is_running s.halt) Halted
+    (need (s.out e).link.clear NotCleared None))
+unmet g (Put e) s =
+    need (nat_lt e (graph_edges g)) NoSuch
+    (need (is_some (s.out e).link.held) NotClaimed None)
+unmet g (Halt v) s =
+    need (nat_lt v g.graph.vertices) NoSuch
+    (need (not (v == g.graph.sink)) Sink
+    (need (is_running s.halt) Halted
+    (need (unput g v s == 0) Unput
+    (need (is_some (cause g v s)) NoCause None))))
+unmet g (Settle e) s = need (nat_lt e (all_edges g)) NoSuch None
+unmet g (Seal e) s = need (nat_lt e (graph_edges g)) NoSuch None
+unmet g (Read v) s =
+    need (nat_lt v g.graph.vertices) NoSuch
+    (need (deficit g (root g) s == 0) NotClosed None)
+
+-- the first of some rules that isn't met
+abbrev pub first_unmet : List (Bool × Rule) → Option Rule
+first_unmet [] = None
+first_unmet (rule ∷ rules) = need rule.0 rule.1 (first_unmet rules)

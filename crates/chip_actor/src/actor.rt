@@ -1,0 +1,423 @@
+ghost use Rattle.std.specs.Prelude.{◌≡◌, ◌≢◌, ◌+◌, ◌*◌, ◌<◌, ◌≤◌, ◌==◌, not, ◌&&◌, ◌||◌, nat_le, is_none, IfOk, IfSome, None, ⊤};
+
+use crate::act::{Act, Observed};
+use crate::cause::{Cause, is_by_limit};
+use crate::ins::Ins;
+use crate::outs::Outs;
+use crate::reply::Reply;
+use crate::rule::{Rule, first_unmet};
+use chip_detect::Detect;
+use chip_graph::Game;
+use chip_link::Event;
+use std::alloc::{AllocError, Global};
+use std::marker::Model;
+
+/// The state of one vertex of a running machine.
+///
+/// Contracts see it as plain data (`specs/Actor.antt`) and say what it does to the part of the core that it stands for.
+/// A call takes time logarithmic in the vertex's edges at most, but that a firing takes time linear in the edges out of it.
+#[derive(Debug, Drop)]
+pub struct ActorState {
+    vertex: u64,
+    is_sink: bool,
+    degree: u64,
+    limit: u64,
+    chips: u64,
+    fired: u64,
+    halt: Option<Cause>,
+    outs: Outs,
+    ins: Ins,
+    detect: Detect,
+    // What is pending on all edges out of the vertex, how many messages are claimed and not put, and on how many edges a claim was
+    // refused: so that nobody has to add them up.
+    pending: u64,
+    unput: u64,
+    refused: u64,
+}
+
+impl Model for ActorState {
+    ghost use Rattle.chip_actor.specs.Actor.{Actor};
+
+    ghost Value = { Actor };
+
+    ghost view = { λ a. record {
+      vertex = a.vertex;
+      is_sink = a.is_sink;
+      degree = a.degree;
+      limit = a.limit;
+      chips = a.chips;
+      fired = a.fired;
+      halt = a.halt;
+      outs = a.outs;
+      ins = a.ins;
+      detect = a.detect;
+      pending = a.pending;
+      unput = a.unput;
+      refused = a.refused;
+    } };
+}
+
+impl ActorState {
+    ghost use Rattle.chip_detect.specs.Acknowledging.{may_ack};
+    ghost use Rattle.chip_actor.specs.Part.{opened, is_passive, cause};
+    ghost use Rattle.chip_actor.specs.Edges.{tail_of, head_of};
+    ghost use Rattle.chip_actor.specs.Rules.{unmet};
+    ghost use Rattle.chip_actor.specs.Steps.{part_of};
+    ghost use Rattle.chip_actor.specs.Acting.{act_of, event_of, verdict, CanDo, IsDue, Makes};
+    ghost use Rattle.chip_actor.specs.Actor.{Actor, StandsFor, WhateverPart, SomePart, is_legal_now, is_passive_now};
+    ghost use Rattle.chip_link.specs.declared.event.Event.TheVariants.{Take, Ack, Fire, Clear, Claim, Put, Halt, Settle};
+
+    /// How many chips the vertex holds.
+    pub fn chips(&self) -> u64
+        ensures value { result ≡ self.now.chips }
+        ensures part { WhateverPart self.now (λ g ring s. result ≡ s.chips) }
+    {
+        self.chips
+    }
+
+    /// How often it fired.
+    pub fn fired(&self) -> u64
+        ensures value { result ≡ self.now.fired }
+        ensures part { WhateverPart self.now (λ g ring s. result ≡ s.fired) }
+    {
+        self.fired
+    }
+
+    /// Why it halted, where it did.
+    pub fn halted(&self) -> Option<Cause>
+        ensures value { result ≡ self.now.halt }
+        ensures part { WhateverPart self.now (λ g ring s. result ≡ s.halt) }
+    {
+        self.halt
+    }
+
+    /// The vertex's books of the detector.
+    pub fn detect(&self) -> &Detect
+        ensures { result.now ≡ self.now.detect }
+    {
+        &self.detect
+    }
+
+    /// What is left to send of the last batch, on an edge out of the vertex.
+    pub fn pending(&self, edge: u64) -> u64
+        requires { SomePart self.now (λ g ring s. tail_of g edge ≡ self.now.vertex) }
+        ensures { WhateverPart self.now (λ g ring s. tail_of g edge ≡ self.now.vertex → result ≡ (s.out edge).pending) }
+    {
+        self.outs.get(edge).pending
+    }
+
+    /// Whether the vertex has nothing to do unless a message comes.
+    pub fn passive(&self) -> bool
+        ensures value { result ≡ is_passive_now self.now }
+        ensures part { WhateverPart self.now (λ g ring s. result ≡ is_passive g self.now.vertex s) }
+    {
+        self.unput == 0 && (self.halt.is_some() || self.pending == 0 && !self.is_legal())
+    }
+
+    // It isn't the sink, and it has the chips for one firing.
+    fn is_legal(&self) -> bool
+        ensures { result ≡ is_legal_now self.now }
+    {
+        !self.is_sink && self.chips >= self.degree
+    }
+
+    // Why it may halt now, if it may.
+    fn cause(&self) -> Option<Cause>
+        ensures { WhateverPart self.now (λ g ring s. result ≡ cause g self.now.vertex s) }
+    {
+        if self.refused > 0 {
+            Some(Cause::SealedEdge)
+        } else if self.pending == 0 && self.is_legal() && self.fired == self.limit {
+            Some(Cause::FiringLimit)
+        } else {
+            None
+        }
+    }
+
+    // It has the chips for so many firings.
+    fn affords(&self, count: u64) -> bool
+        ensures { result ≡ nat_le (count * self.now.degree) self.now.chips }
+    {
+        let chips = self.chips;
+        match count.checked_mul(self.degree) {
+            Some(cost) => cost <= chips,
+            None => false,
+        }
+    }
+
+    // Nothing is pending, nor claimed and not put.
+    fn is_idle(&self) -> bool
+        ensures { result ≡ (self.now.pending == 0 && self.now.unput == 0) }
+    {
+        self.pending == 0 && self.unput == 0
+    }
+
+    fn ack_rule(&self, edge: u64) -> Option<Rule>
+        requires { SomePart self.now (λ g ring s. head_of g edge ≡ self.now.vertex) }
+        ensures { WhateverPart self.now (λ g ring s. head_of g edge ≡ self.now.vertex → result ≡ unmet g (Ack edge) s) }
+    {
+        first_unmet(&[
+            (self.detect.owed(edge) != 0, Rule::NothingOwed),
+            (
+                self.detect.may_ack(edge, self.passive()) != 0,
+                Rule::Engaged,
+            ),
+        ])
+    }
+
+    fn fire_rule(&self, count: u64) -> Option<Rule>
+        requires { SomePart self.now (λ g ring s. ⊤) }
+        ensures { WhateverPart self.now (λ g ring s. result ≡ unmet g (Fire self.now.vertex count) s) }
+    {
+        first_unmet(&[
+            (!self.is_sink, Rule::Sink),
+            (self.halt.is_none(), Rule::Halted),
+            (self.is_idle(), Rule::Pending),
+            (count != 0, Rule::Zero),
+            (count <= self.limit - self.fired, Rule::Limit),
+            (self.affords(count), Rule::NotLegal),
+        ])
+    }
+
+    fn clear_rule(&self, edge: u64) -> Option<Rule>
+        requires { SomePart self.now (λ g ring s. tail_of g edge ≡ self.now.vertex) }
+        ensures { WhateverPart self.now (λ g ring s. tail_of g edge ≡ self.now.vertex → result ≡ unmet g (Clear edge) s) }
+    {
+        let out = self.outs.get(edge);
+        first_unmet(&[
+            (self.halt.is_none(), Rule::Halted),
+            (!out.refused, Rule::Refused),
+            (out.pending != 0, Rule::NothingPending),
+        ])
+    }
+
+    fn claim_rule(&self, edge: u64) -> Option<Rule>
+        requires { SomePart self.now (λ g ring s. tail_of g edge ≡ self.now.vertex) }
+        ensures { WhateverPart self.now (λ g ring s. tail_of g edge ≡ self.now.vertex → result ≡ unmet g (Claim edge) s) }
+    {
+        let is_clear = self.outs.get(edge).link.claim_next().is_some();
+        first_unmet(&[
+            (self.halt.is_none(), Rule::Halted),
+            (is_clear, Rule::NotCleared),
+        ])
+    }
+
+    fn put_rule(&self, edge: u64) -> Option<Rule>
+        requires { SomePart self.now (λ g ring s. tail_of g edge ≡ self.now.vertex) }
+        ensures { WhateverPart self.now (λ g ring s. tail_of g edge ≡ self.now.vertex → result ≡ unmet g (Put edge) s) }
+    {
+        first_unmet(&[(self.outs.get(edge).held.is_some(), Rule::NotClaimed)])
+    }
+
+    fn halt_rule(&self) -> Option<Rule>
+        ensures { WhateverPart self.now (λ g ring s. result ≡ unmet g (Halt self.now.vertex) s) }
+    {
+        first_unmet(&[
+            (!self.is_sink, Rule::Sink),
+            (self.halt.is_none(), Rule::Halted),
+            (self.unput == 0, Rule::Unput),
+            (self.cause().is_some(), Rule::NoCause),
+        ])
+    }
+
+    // The first rule of an event of the vertex that isn't met.
+    fn unmet(&self, event: &Event) -> Option<Rule>
+        requires { SomePart self.now (λ g ring s. part_of g event.now ≡ self.now.vertex) }
+        ensures { WhateverPart self.now (λ g ring s. part_of g event.now ≡ self.now.vertex → result ≡ unmet g event.now s) }
+    {
+        match *event {
+            Event::Take(_) | Event::Settle(_) => None,
+            Event::Ack(edge) => self.ack_rule(edge),
+            Event::Fire { count, .. } => self.fire_rule(count),
+            Event::Clear(edge) => self.clear_rule(edge),
+            Event::Claim(edge) => self.claim_rule(edge),
+            Event::Put(edge) => self.put_rule(edge),
+            Event::Halt(_) => self.halt_rule(),
+            Event::Seal(_) | Event::Read(_) => unreachable!(),
+        }
+    }
+
+    // The operation that an event of the vertex needs, whose rules are met.
+    fn act(&self, event: &Event) -> Act
+        requires { SomePart self.now (λ g ring s. (part_of g event.now ≡ self.now.vertex) × (unmet g event.now s ≡ None)) }
+        ensures { WhateverPart self.now (λ g ring s. part_of g event.now ≡ self.now.vertex → unmet g event.now s ≡ None → result ≡ act_of g ring event.now s) }
+    {
+        match *event {
+            Event::Take(edge) => Act::Take {
+                edge,
+                cell: self.ins.cell(edge),
+            },
+            Event::Settle(edge) => Act::Settle { edge },
+            Event::Ack(edge) => Act::Ack {
+                edge,
+                count: self.detect.may_ack(edge, self.passive()),
+            },
+            Event::Fire { count, .. } => Act::Fire { k: count },
+            Event::Clear(edge) => Act::Clear {
+                edge,
+                cell: self.outs.get(edge).link.cell(),
+            },
+            Event::Claim(edge) => {
+                let (expected, new) = self.outs.get(edge).link.claim_next().unwrap();
+                Act::Claim {
+                    edge,
+                    expected,
+                    new,
+                }
+            }
+            Event::Put(edge) => {
+                let (cell, value) = self.outs.get(edge).held.unwrap();
+                Act::Put { edge, cell, value }
+            }
+            Event::Halt(_) => Act::Halt {
+                by_limit: is_by_limit(self.cause()),
+            },
+            Event::Seal(_) | Event::Read(_) => unreachable!(),
+        }
+    }
+
+    /// The operation that an event of this vertex needs, or the first of its rules that isn't met. Takes and acknowledgements are
+    /// of edges into the vertex, all others of the vertex itself or of edges out of it.
+    pub fn may(&self, event: &Event) -> Result<Act, Rule>
+        requires { SomePart self.now (λ g ring s. part_of g event.now ≡ self.now.vertex) }
+        ensures { WhateverPart self.now (λ g ring s. part_of g event.now ≡ self.now.vertex → result ≡ verdict (unmet g event.now s) (act_of g ring event.now s)) }
+    {
+        match self.unmet(event) {
+            Some(rule) => Err(rule),
+            None => Ok(self.act(event)),
+        }
+    }
+
+    fn take(&mut self, edge: u64, seen: u64) -> Reply
+        requires { SomePart self.old (λ g ring s. CanDo g s self.old.vertex (Take edge) seen) }
+        ensures { Makes self.old self.new (Take edge) seen result }
+    {
+        let Some(message) = self.ins.take(edge, seen) else {
+            return Reply::Empty;
+        };
+        self.chips += seen;
+        self.detect.got(edge);
+        Reply::Got(message)
+    }
+
+    fn settle(&mut self, edge: u64, seen: u64) -> Reply
+        requires { SomePart self.old (λ g ring s. CanDo g s self.old.vertex (Settle edge) seen) }
+        ensures { Makes self.old self.new (Settle edge) seen result }
+    {
+        Reply::Done(self.detect.settled(edge, seen))
+    }
+
+    fn fire(&mut self, k: u64, seen: u64) -> Reply
+        requires { SomePart self.old (λ g ring s. CanDo g s self.old.vertex (Fire self.old.vertex k) seen) }
+        ensures { Makes self.old self.new (Fire self.old.vertex k) seen result }
+    {
+        let cost = k * self.degree;
+        self.chips -= cost;
+        self.fired += k;
+        self.pending = cost;
+        self.outs.fire(k);
+        Reply::Done(self.fired)
+    }
+
+    fn clear(&mut self, edge: u64, seen: u64) -> Reply
+        requires { SomePart self.old (λ g ring s. CanDo g s self.old.vertex (Clear edge) seen) }
+        ensures { Makes self.old self.new (Clear edge) seen result }
+    {
+        let Some((place, _)) = self.outs.clear(edge, seen) else {
+            return Reply::Full;
+        };
+        Reply::Done(place)
+    }
+
+    fn claim(&mut self, edge: u64, seen: u64) -> Reply
+        requires { SomePart self.old (λ g ring s. CanDo g s self.old.vertex (Claim edge) seen) }
+        ensures { Makes self.old self.new (Claim edge) seen result }
+    {
+        let Some(message) = self.outs.claim(edge, seen) else {
+            self.refused += 1;
+            return Reply::Sealed;
+        };
+        self.pending -= message.count;
+        self.unput += 1;
+        self.detect.sent(edge);
+        Reply::Sent(message)
+    }
+
+    fn put(&mut self, edge: u64, seen: u64) -> Reply
+        requires { SomePart self.old (λ g ring s. CanDo g s self.old.vertex (Put edge) seen) }
+        ensures { Makes self.old self.new (Put edge) seen result }
+    {
+        let (_, count) = self.outs.get(edge).held.unwrap();
+        self.outs.put(edge);
+        self.unput -= 1;
+        Reply::Done(count)
+    }
+
+    fn stop(&mut self, seen: u64) -> Reply
+        requires { SomePart self.old (λ g ring s. CanDo g s self.old.vertex (Halt self.old.vertex) seen) }
+        ensures { Makes self.old self.new (Halt self.old.vertex) seen result }
+    {
+        self.halt = self.cause();
+        if self.refused == 0 {
+            return Reply::Done(1);
+        }
+        Reply::Done(0)
+    }
+
+    fn acknowledge(&mut self, edge: u64, seen: u64) -> Reply
+        requires { SomePart self.old (λ g ring s. CanDo g s self.old.vertex (Ack edge) seen) }
+        ensures { Makes self.old self.new (Ack edge) seen result }
+    {
+        let count = self.detect.may_ack(edge, self.passive());
+        self.detect.acked(edge, count);
+        Reply::Done(count)
+    }
+
+    /// The reply to an operation that was made, and the state after it. The operation is one that `may` gave for this state, and the
+    /// word that it saw fits: see `FitsSeen`.
+    pub fn apply(&mut self, observed: Observed) -> Reply
+        requires { SomePart self.old (λ g ring s. IsDue g ring s self.old.vertex observed) }
+        ensures { Makes self.old self.new (event_of self.old.vertex observed.act) observed.seen result }
+    {
+        let seen = observed.seen;
+        match observed.act {
+            Act::Take { edge, .. } => self.take(edge, seen),
+            Act::Settle { edge } => self.settle(edge, seen),
+            Act::Fire { k } => self.fire(k, seen),
+            Act::Clear { edge, .. } => self.clear(edge, seen),
+            Act::Claim { edge, .. } => self.claim(edge, seen),
+            Act::Put { edge, .. } => self.put(edge, seen),
+            Act::Halt { .. } => self.stop(seen),
+            Act::Ack { edge, .. } => self.acknowledge(edge, seen),
+            Act::End => unreachable!(),
+        }
+    }
+
+    /// The state of a vertex at the opening, with rings of 1 to 64 cells. It takes all the memory that the vertex ever needs.
+    pub fn new(alloc: Global, game: &Game, vertex: u64, ring: u64) -> Result<ActorState, AllocError>
+        requires vertex { vertex < game.now.graph.vertices }
+        requires ring { (0 < ring) × (ring ≤ 64) }
+        ensures vertex { IfOk result (λ actor. actor.vertex ≡ vertex) }
+        ensures opened { IfOk result (StandsFor game.now ring (opened game.now)) }
+    {
+        let graph = game.graph();
+        let outs = Outs::new(alloc, graph, vertex, ring)?;
+        let ins = Ins::new(alloc, graph, vertex, ring)?;
+        let detect = Detect::new(alloc, ins.edges(), graph.outs(vertex))?;
+        Ok(ActorState {
+            vertex,
+            is_sink: vertex == graph.sink(),
+            degree: graph.out_degree(vertex),
+            limit: game.limit(),
+            chips: 0,
+            fired: 0,
+            halt: None,
+            outs,
+            ins,
+            detect,
+            pending: 0,
+            unput: 0,
+            refused: 0,
+        })
+    }
+}

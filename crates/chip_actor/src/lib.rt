@@ -1,0 +1,24 @@
+//! One vertex of a running machine: its state, the rule of each event, and the order of a turn.
+//!
+//! `docs/CORE.md` has the table of events and the turn in words. The definitions stand in `specs/`: the edges with the root's among
+//! them (`Edges`), the part of the core that one vertex, the root or the stopper keeps (`Part`), the rules of an event in their
+//! order (`Rules`), and what an event does to the part that makes it (`Steps`).
+#![tactic(auto)]
+
+mod act;
+mod actor;
+mod cause;
+mod ins;
+pub mod laws;
+mod outs;
+mod place;
+mod reply;
+mod rule;
+#[cfg(test)]
+mod tests;
+
+pub use act::{Act, Observed};
+pub use actor::ActorState;
+pub use cause::Cause;
+pub use reply::Reply;
+pub use rule::Rule;

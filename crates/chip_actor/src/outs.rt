@@ -1,0 +1,133 @@
+ghost use Rattle.std.specs.Prelude.{◌≡◌, ℕ, ◌*◌, ◌^◌, ◌<◌, ◌≤◌, length, map, IfOk, Contains, IsTrue, Option, slice_index_or};
+
+use crate::place::place_of;
+use chip_graph::Graph;
+use chip_link::{Message, TailLink};
+use std::alloc::{AllocError, Global};
+use std::marker::Model;
+
+/// One edge out of a vertex.
+#[derive(Debug, Drop)]
+pub(crate) struct OutEnd {
+    /// The chips that one firing sends along it.
+    pub(crate) mult: u64,
+    /// What is left to send of the last batch.
+    pub(crate) pending: u64,
+    /// A claim was refused by a seal.
+    pub(crate) refused: bool,
+    /// The cell and the count of the message that is claimed and not put.
+    pub(crate) held: Option<(u64, u64)>,
+    pub(crate) link: TailLink,
+}
+
+/// The edges out of a vertex, by ascending numbers. The numbers stand apart, so that a search reads nothing else.
+#[derive(Debug, Drop)]
+pub(crate) struct Outs {
+    edges: Vec<u64>,
+    ends: Vec<OutEnd>,
+}
+
+impl Model for Outs {
+    ghost use Rattle.chip_actor.specs.Ends.{OutEnds, AreApart};
+
+    ghost Value = { OutEnds };
+
+    ghost view = { λ a. record { edges = a.edges.items; ends = a.ends.items } };
+
+    ghost invariant = { λ a. AreApart a.edges.items a.ends.items };
+}
+
+impl Outs {
+    ghost use Rattle.chip_link.specs.Words.{claims_in};
+    ghost use Rattle.chip_link.specs.Ends.{put_of, message_claimed, may_clear, claim_words, tail_after_clear};
+    ghost use Rattle.chip_actor.specs.Ends.{OutEnds, OutEnd, out_on, ChangesOut, ChangesOuts, IsFreshOuts, out_after_clear, out_after_claim, out_after_put, out_after_fire};
+
+    /// What is known of an edge.
+    pub(crate) fn get(&self, edge: u64) -> &OutEnd
+        requires { Contains self.now.edges edge }
+        ensures { result.now ≡ out_on self.now edge }
+    {
+        &self.ends[place_of(&self.edges, edge)]
+    }
+
+    /// Notes what a look at the edge's cell found, and gives the words of a claim that may follow, the first of which is its place.
+    pub(crate) fn clear(&mut self, edge: u64, cell: u64) -> Option<(u64, u64)>
+        requires { Contains self.old.edges edge }
+        ensures words { result ≡ claim_words (tail_after_clear cell (out_on self.old edge).link) }
+        ensures after { ChangesOut self.old self.new edge (out_after_clear cell) }
+    {
+        let place = place_of(&self.edges, edge);
+        let out = &mut self.ends[place];
+        let _is_clear = out.link.cleared(cell);
+        out.link.claim_next()
+    }
+
+    /// Notes the word that a claim for all that is pending saw.
+    pub(crate) fn claim(&mut self, edge: u64, word: u64) -> Option<Message>
+        requires among { Contains self.old.edges edge }
+        requires clear { IsTrue (out_on self.old edge).link.clear }
+        requires word { claims_in word ≡ (out_on self.old edge).link.claims }
+        requires count { (1 ≤ (out_on self.old edge).pending) × ((out_on self.old edge).pending ≤ 2 ^ 40) }
+        ensures message { result ≡ message_claimed word (out_on self.old edge).pending (out_on self.old edge).link }
+        ensures after { ChangesOut self.old self.new edge (out_after_claim word) }
+    {
+        let place = place_of(&self.edges, edge);
+        let out = &mut self.ends[place];
+        let cell = out.link.cell();
+        let Some(message) = out.link.claimed(word, out.pending) else {
+            out.refused = true;
+            return None;
+        };
+        out.held = Some((cell, out.pending));
+        out.pending = 0;
+        Some(message)
+    }
+
+    /// Notes that what was claimed is stored.
+    pub(crate) fn put(&mut self, edge: u64)
+        requires { Contains self.old.edges edge }
+        ensures { ChangesOut self.old self.new edge out_after_put }
+    {
+        let place = place_of(&self.edges, edge);
+        let out = &mut self.ends[place];
+        let _stored = out.link.put_value();
+        out.held = None;
+    }
+
+    /// Notes that the vertex fired `k` times in a row.
+    pub(crate) fn fire(&mut self, k: u64)
+        requires { (e : ℕ) → Contains self.old.edges e → k * (out_on self.old e).mult < 2 ^ 64 }
+        ensures { ChangesOuts self.old self.new (out_after_fire k) }
+    {
+        for out in self.ends.iter_mut() {
+            out.pending = k * out.mult;
+        }
+    }
+
+    /// The edges out of a vertex, on which nothing was sent.
+    pub(crate) fn new(
+        alloc: Global,
+        graph: &Graph,
+        vertex: u64,
+        ring: u64,
+    ) -> Result<Outs, AllocError>
+        requires vertex { vertex < graph.now.vertices }
+        requires ring { (0 < ring) × (ring ≤ 64) }
+        ensures { IfOk result (λ outs. IsFreshOuts graph.now ring vertex outs) }
+    {
+        let numbers = graph.outs(vertex);
+        let edges = Vec::from_slice(alloc, numbers)?;
+        let mut ends = Vec::with_capacity(alloc, numbers.len())?;
+        let rows = graph.edges();
+        for &edge in numbers {
+            ends.push_reserved(OutEnd {
+                mult: rows[edge as usize].mult,
+                pending: 0,
+                refused: false,
+                held: None,
+                link: TailLink::new(edge, ring),
+            });
+        }
+        Ok(Outs { edges, ends })
+    }
+}

@@ -7,6 +7,8 @@ use Rattle.std.proofs.lemmas.Option.{slice_get_within, get_or_from_slice_get}
 use Rattle.chip_graph.specs.declared.fault.GraphFault.{GraphFault}
 use Rattle.chip_graph.specs.declared.fault.GraphFault.TheVariants as graph_fault
 use Rattle.chip_graph.specs.Multigraph.{Multigraph, IsDistance, ReachesSink}
+use Rattle.chip_graph.specs.declared.edge.Edge.{Edge}
+use Rattle.chip_graph.specs.Index.{IsIndex}
 use Rattle.chip_graph.specs.Faults.{fault_of_rows, IsGraphFault, MakesGraph}
 use Rattle.chip_graph.specs.Distances.{IsDistanceOf, AreDistances}
 
@@ -64,3 +66,9 @@ unreached_fault G found are none v fault is l missing before =
 pub refused : (G : Multigraph) (result : Result Multigraph GraphFault) (fault : GraphFault) → IsErrAnd result (λ e. e ≡ fault) → (fault ≡ graph_fault.NoMemory) ⊎ IsGraphFault G fault → MakesGraph G result
 refused G (Ok graph) fault is why = absurd is
 refused G (Err e) fault is why = let P : GraphFault → Type 0 = (λ f. (f ≡ graph_fault.NoMemory) ⊎ IsGraphFault G f) in subst P (sym is) why
+
+-- what stands beside the edges of a graph stands beside the same edges elsewhere
+pub copied : (n s : ℕ) {es es' : List Edge} {ds ds' ts ts' : List ℕ} {os os' is is' : List (List ℕ)} {ls ls' : List (List Edge)}
+    → es' ≡ es → ds' ≡ ds → ts' ≡ ts → os' ≡ os → is' ≡ is → ls' ≡ ls
+    → IsIndex (record { vertices = n; sink = s; edges = es }) ds ts os is ls → IsIndex (record { vertices = n; sink = s; edges = es' }) ds' ts' os' is' ls'
+copied n s e d t o i l h = rw e (rw d (rw t (rw o (rw i (rw l h)))))

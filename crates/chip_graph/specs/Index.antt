@@ -1,6 +1,7 @@
 -- What a graph keeps beside its edges, and that this is what follows from them.
-use Rattle.std.specs.Prelude.{◌≡◌, ℕ, ◌<◌, [], length, map, slice_index, slice_index_or}
+use Rattle.std.specs.Prelude.{◌≡◌, ℕ, ◌<◌, List, [], length, map, slice_index, slice_index_or}
 use Rattle.chip_graph.specs.declared.graph.Graph.TheInside.{Inside}
+use Rattle.chip_graph.specs.declared.edge.Edge.{Edge}
 use Rattle.chip_graph.specs.Multigraph.{Multigraph, IsGraph, IsDistance, edge_at, edges_out, edges_in, degree}
 
 -- the graph without what follows from its edges
@@ -8,15 +9,19 @@ abbrev pub graph_of : Inside → Multigraph
 graph_of a = record { vertices = a.vertices; sink = a.sink; edges = a.edges.items }
 
 -- degrees, distances and rows are those of the graph
-pub record IsIndexed (a : Inside) : Type 0 where
-  pub graph : IsGraph (graph_of a)
-  pub degree_each : length a.degrees.items ≡ a.vertices
-  pub degrees : (v : ℕ) → v < a.vertices → slice_index a.degrees.items v ≡ degree (graph_of a) v
-  pub distance_each : length a.distances.items ≡ a.vertices
-  pub distances : (v : ℕ) → v < a.vertices → IsDistance (graph_of a) v (slice_index a.distances.items v)
-  pub outs_each : length a.outs ≡ a.vertices
-  pub outs : (v : ℕ) → v < a.vertices → slice_index_or a.outs v [] ≡ edges_out (graph_of a) v
-  pub ins_each : length a.ins ≡ a.vertices
-  pub ins : (v : ℕ) → v < a.vertices → slice_index_or a.ins v [] ≡ edges_in (graph_of a) v
-  pub links_each : length a.links ≡ a.vertices
-  pub links : (v : ℕ) → v < a.vertices → slice_index_or a.links v [] ≡ map (edge_at (graph_of a)) (edges_out (graph_of a) v)
+pub record IsIndex (G : Multigraph) (degree_of distance_of : List ℕ) (outs_of ins_of : List (List ℕ)) (links_of : List (List Edge)) : Type 0 where
+  pub graph : IsGraph G
+  pub degree_each : length degree_of ≡ G.vertices
+  pub degrees : (v : ℕ) → v < G.vertices → slice_index degree_of v ≡ degree G v
+  pub distance_each : length distance_of ≡ G.vertices
+  pub distances : (v : ℕ) → v < G.vertices → IsDistance G v (slice_index distance_of v)
+  pub outs_each : length outs_of ≡ G.vertices
+  pub outs : (v : ℕ) → v < G.vertices → slice_index_or outs_of v [] ≡ edges_out G v
+  pub ins_each : length ins_of ≡ G.vertices
+  pub ins : (v : ℕ) → v < G.vertices → slice_index_or ins_of v [] ≡ edges_in G v
+  pub links_each : length links_of ≡ G.vertices
+  pub links : (v : ℕ) → v < G.vertices → slice_index_or links_of v [] ≡ map (edge_at G) (edges_out G v)
+
+-- what stands beside the edges follows from them
+abbrev pub IsIndexed : Inside → Type 0
+IsIndexed a = IsIndex (graph_of a) a.degrees.items a.distances.items a.outs a.ins a.links

@@ -1,7 +1,8 @@
-ghost use Rattle.std.specs.Prelude.{◌≡◌, ◌^◌, ◌<◌, ◌≤◌, IfSome, IfNone, sum};
+ghost use Rattle.std.specs.Prelude.{◌≡◌, ◌^◌, ◌<◌, ◌≤◌, IfOk, IfSome, IfNone, sum};
 
 use crate::fault::GameFault;
 use crate::graph::Graph;
+use std::alloc::{AllocError, Global};
 use std::marker::Model;
 
 /// The most chips that a game holds.
@@ -51,6 +52,24 @@ impl Game {
             start,
             limit,
             total,
+        })
+    }
+
+    /// An equal game; in time linear in vertices and edges.
+    pub fn copy(&self, alloc: Global) -> Result<Game, AllocError>
+        ensures { IfOk result (λ game. game ≡ self.now) }
+    {
+        let Game {
+            graph,
+            start,
+            limit,
+            total,
+        } = self;
+        Ok(Game {
+            graph: graph.copy(alloc)?,
+            start: Vec::from_slice(alloc, start)?,
+            limit: *limit,
+            total: *total,
         })
     }
 

@@ -7,7 +7,7 @@ use crate::edge::{Edge, End};
 use crate::fault::GraphFault;
 use crate::index;
 use crate::rows::Rows;
-use std::alloc::Global;
+use std::alloc::{AllocError, Global};
 use std::marker::Model;
 
 /// The most vertices that a graph has.
@@ -78,6 +78,32 @@ impl Graph {
             outs,
             ins,
             links,
+        })
+    }
+
+    /// An equal graph; in time linear in vertices and edges.
+    pub fn copy(&self, alloc: Global) -> Result<Graph, AllocError>
+        ensures { IfOk result (λ graph. graph ≡ self.now) }
+    {
+        let Graph {
+            vertices,
+            sink,
+            edges,
+            degrees,
+            distances,
+            outs,
+            ins,
+            links,
+        } = self;
+        Ok(Graph {
+            vertices: *vertices,
+            sink: *sink,
+            edges: Vec::from_slice(alloc, edges)?,
+            degrees: Vec::from_slice(alloc, degrees)?,
+            distances: Vec::from_slice(alloc, distances)?,
+            outs: outs.copy(alloc)?,
+            ins: ins.copy(alloc)?,
+            links: links.copy(alloc)?,
         })
     }
 

@@ -55,4 +55,14 @@ impl<T: Copy> Rows<T> {
         let end = self.starts[i + 1];
         &self.members[start..end]
     }
+
+    /// The same rows once more.
+    pub(crate) fn copy(&self, alloc: Global) -> Result<Self, AllocError>
+        ensures { IfOk result (λ rows. rows ≡ self.now) }
+    {
+        Ok(Rows {
+            starts: Vec::from_slice(alloc, &self.starts)?,
+            members: Vec::from_slice(alloc, &self.members)?,
+        })
+    }
 }

@@ -127,3 +127,16 @@ fn refuses_games(rt: HostRuntime) -> Result<(), Fail> {
     }
     Ok(())
 }
+
+#[test]
+fn copies_a_game(rt: HostRuntime) -> Result<(), Fail> {
+    let alloc = rt.alloc();
+    let start = [4, 0, 0].as_slice();
+    let game = Game::new(graph(alloc, 3, 2, &TRIANGLE)?, start.to_vec(alloc)?, 7)?;
+    let copy = game.copy(alloc)?;
+    assert_eq!(rt; copy.start(), start);
+    assert_eq!(rt; (copy.limit(), copy.total()), (7, 4));
+    assert_eq!(rt; copy.graph().edges(), game.graph().edges());
+    assert_eq!(rt; (copy.graph().vertices(), copy.graph().sink()), (3, 2));
+    Ok(())
+}

@@ -2,5 +2,8 @@ mod NumberLemmas
 mod JsonLemmas
 mod ChipsLemmas
 mod RowLemmas
+mod RecordLemmas
+mod KindLemmas
+mod TraceLemmas
 mod FieldLemmas
 mod Worked

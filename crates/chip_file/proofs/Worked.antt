@@ -5,9 +5,14 @@ use Rattle.serde_json.proofs.OnLiterals.{serde_json_on_literals}
 use Rattle.csv.proofs.OnLiterals.{csv_on_literals}
 use Rattle.csv.specs.Records.{field_at}
 use Rattle.chip_graph.specs.declared.edge.Edge.{Edge}
+use Rattle.chip_graph.specs.Multigraph.{Multigraph}
+use Rattle.chip_link.specs.declared.event.Event.TheVariants as event
+use Rattle.chip_link.specs.declared.trace.TraceRow.TheVariants as row
 use Rattle.chip_file.specs.declared.fault.FileFault.TheVariants as fault
 use Rattle.chip_file.specs.GraphText.{json_of, file_of_text, graph_of_text}
 use Rattle.chip_file.specs.ChipsText.{chips_of_text, chips_text_fault}
+use Rattle.chip_file.specs.ScheduleText.{schedule_of_text, schedule_text_fault}
+use Rattle.chip_file.specs.TraceText.{traces_of_text, trace_text_fault}
 
 abbrev edge : ℕ → ℕ → ℕ → Edge
 edge tail head mult = record { tail = tail; head = head; mult = mult }
@@ -15,8 +20,11 @@ edge tail head mult = record { tail = tail; head = head; mult = mult }
 abbrev triangle_text : List ℕ
 triangle_text = codes "{\"edges\":[[0,1,1],[0,2,1],[1,0,1],[1,2,1]],\"sink\":2,\"version\":1,\"vertices\":3}"
 
+abbrev triangle_graph : Multigraph
+triangle_graph = record { vertices = 3; sink = 2; edges = edge 0 1 1 ∷ edge 0 2 1 ∷ edge 1 0 1 ∷ edge 1 2 1 ∷ [] }
+
 -- the triangle
-triangle : graph_of_text triangle_text ≡ Some (record { vertices = 3; sink = 2; edges = edge 0 1 1 ∷ edge 0 2 1 ∷ edge 1 0 1 ∷ edge 1 2 1 ∷ [] })
+triangle : graph_of_text triangle_text ≡ Some triangle_graph
 unfolding serde_json_on_literals is_utf8 chars
 triangle = refl
 
@@ -72,3 +80,67 @@ one_field_short = refl
 one_chip_too_many : chips_text_fault 2 (codes "vertex,chips\n0,1099511627776\n1,1\n") ≡ Some fault.Total
 unfolding csv_on_literals field_at
 one_chip_too_many = refl
+
+-- the schedule of sealed half way, on the triangle
+sealed_half_way : schedule_of_text triangle_graph (codes "event,at,count\nseal,1,0\ntake,4,0\nfire,0,2\nclear,0,0\nclaim,0,0\nput,0,0\nclear,1,0\nclaim,1,0\nhalt,0,0\n")
+    ≡ Some (event.Seal 1 ∷ event.Take 4 ∷ event.Fire 0 2 ∷ event.Clear 0 ∷ event.Claim 0 ∷ event.Put 0 ∷ event.Clear 1 ∷ event.Claim 1 ∷ event.Halt 0 ∷ [])
+unfolding csv_on_literals field_at
+sealed_half_way = refl
+
+-- the other kinds, at the last root edge and the last vertex
+last_places : schedule_of_text triangle_graph (codes "event,at,count\nack,6,0\nsettle,6,0\nread,2,7") ≡ Some (event.Ack 6 ∷ event.Settle 6 ∷ event.Read 2 ∷ [])
+unfolding csv_on_literals field_at
+last_places = refl
+
+-- the refusals of a schedule's rows: each before those after it
+header_of_traces : schedule_text_fault triangle_graph (codes "vertex,kind,edge,count\n") ≡ Some fault.Header
+unfolding csv_on_literals field_at
+header_of_traces = refl
+
+no_count : schedule_text_fault triangle_graph (codes "event,at,count\nseal,1,0\nspin,9\n") ≡ Some (fault.Row 1)
+unfolding csv_on_literals field_at
+no_count = refl
+
+kind_before_number : schedule_text_fault triangle_graph (codes "event,at,count\nTake,x,0\n") ≡ Some (fault.Kind 0)
+unfolding csv_on_literals field_at
+kind_before_number = refl
+
+number_before_place : schedule_text_fault triangle_graph (codes "event,at,count\ntake,7,x\n") ≡ Some (fault.Number 0)
+unfolding csv_on_literals field_at
+number_before_place = refl
+
+no_such_edge : schedule_text_fault triangle_graph (codes "event,at,count\ntake,7,0\n") ≡ Some (fault.Vertex 0)
+unfolding csv_on_literals field_at
+no_such_edge = refl
+
+no_such_vertex : schedule_text_fault triangle_graph (codes "event,at,count\ntake,3,0\nhalt,3,0\n") ≡ Some (fault.Vertex 1)
+unfolding csv_on_literals field_at
+no_such_vertex = refl
+
+-- the recorded runs of the small triangle, the rows of vertex 1 first and those of the others mixed
+mixed_rows : traces_of_text triangle_graph (codes "vertex,kind,edge,count\n1,take,0,2\n1,fire,0,1\n0,take,4,4\n2,take,1,2\n0,fire,9,2\n2,take,3,1\n0,take,2,1\n")
+    ≡ Some ((row.Take 4 4 ∷ row.Fire 2 ∷ row.Take 2 1 ∷ []) ∷ (row.Take 0 2 ∷ row.Fire 1 ∷ []) ∷ (row.Take 1 2 ∷ row.Take 3 1 ∷ []) ∷ [])
+unfolding csv_on_literals field_at
+mixed_rows = refl
+
+-- nothing was recorded
+no_rows : traces_of_text triangle_graph (codes "vertex,kind,edge,count") ≡ Some ([] ∷ [] ∷ [] ∷ [])
+unfolding csv_on_literals field_at
+no_rows = refl
+
+-- the refusals of rows of recorded runs
+no_kind : trace_text_fault triangle_graph (codes "vertex,kind,edge,count\nx,put,0,0\n") ≡ Some (fault.Kind 0)
+unfolding csv_on_literals field_at
+no_kind = refl
+
+edge_is_no_number : trace_text_fault triangle_graph (codes "vertex,kind,edge,count\n3,fire,,1\n") ≡ Some (fault.Number 0)
+unfolding csv_on_literals field_at
+edge_is_no_number = refl
+
+edge_out_of_range : trace_text_fault triangle_graph (codes "vertex,kind,edge,count\n0,take,6,1\n0,take,7,1\n") ≡ Some (fault.Vertex 1)
+unfolding csv_on_literals field_at
+edge_out_of_range = refl
+
+vertex_out_of_range : trace_text_fault triangle_graph (codes "vertex,kind,edge,count\n3,fire,0,1\n") ≡ Some (fault.Vertex 0)
+unfolding csv_on_literals field_at
+vertex_out_of_range = refl

@@ -1,11 +1,11 @@
 -- The chips that a text of rows means, and what is wrong with a text that means none.
-use Rattle.std.specs.Prelude.{◌≡◌, ℕ, Bool, true, ◌^◌, ◌<◌, ◌==◌, nat_lt, nat_le, ◌&&◌, not, if◌then◌else◌, List, [], ◌∷◌, codes, length, map, slice_index_or, sum, Option, None, Some, is_some, is_none, unwrap_or}
+use Rattle.std.specs.Prelude.{◌≡◌, ℕ, Bool, ◌^◌, ◌<◌, ◌==◌, nat_lt, nat_le, ◌&&◌, not, if◌then◌else◌, List, [], ◌∷◌, codes, length, map, slice_index_or, sum, Option, None, Some, is_some, is_none, unwrap_or}
 use Rattle.std.specs.List.{range_with_len}
 use Rattle.chip_graph.specs.Faults.{first_of_faults, unless}
 use Rattle.chip_file.specs.declared.fault.FileFault.{FileFault}
 use Rattle.chip_file.specs.declared.fault.FileFault.TheVariants as fault
-use Rattle.chip_file.specs.Numbers.{number_at}
-use Rattle.chip_file.specs.Rows.{Row, records_of, has_header, rows_under_header, first_row_fault}
+use Rattle.chip_file.specs.Numbers.{number_at, number_in}
+use Rattle.chip_file.specs.Rows.{Row, records_of, rows_under_header, records_fault}
 
 -- the header of a file of chips
 abbrev pub chips_header : Row
@@ -13,11 +13,11 @@ chips_header = codes "vertex" ∷ codes "chips" ∷ []
 
 -- the vertex that a row names
 abbrev pub vertex_in : Row → ℕ
-vertex_in row = unwrap_or (number_at 0 row) 0
+vertex_in = number_in 0
 
 -- the chips that a row gives
 abbrev pub chips_in : Row → ℕ
-chips_in row = unwrap_or (number_at 1 row) 0
+chips_in = number_in 1
 
 -- the chips that rows give a vertex, if one of them names it
 abbrev pub chips_named : List Row → ℕ → Option ℕ
@@ -43,9 +43,8 @@ chips_of_rows vertices rows = map (λ v. unwrap_or (chips_named rows v) 0) (rang
 -- the first thing wrong with the records of a file of chips
 abbrev pub chips_fault : ℕ → List Row → Option FileFault
 chips_fault vertices records =
-    first_of_faults (unless (has_header chips_header records) fault.Header)
-    (first_of_faults (first_row_fault (chips_row_fault vertices) [] (rows_under_header records))
-    (unless (nat_le (sum (chips_of_rows vertices (rows_under_header records))) (2 ^ 40)) fault.Total))
+    first_of_faults (records_fault chips_header (chips_row_fault vertices) records)
+    (unless (nat_le (sum (chips_of_rows vertices (rows_under_header records))) (2 ^ 40)) fault.Total)
 
 -- the first thing wrong with a text of chips
 abbrev pub chips_text_fault : ℕ → List ℕ → Option FileFault
@@ -58,7 +57,6 @@ chips_of_text vertices text =
 
 -- nothing is wrong with the header and the rows, and these are the chips of each vertex that a row names
 pub record AreNamed (vertices : ℕ) (records : List Row) (named : List (Option ℕ)) : Type 0 where
-  pub headed : has_header chips_header records ≡ true
-  pub no_fault : first_row_fault (chips_row_fault vertices) [] (rows_under_header records) ≡ None
+  pub no_fault : records_fault chips_header (chips_row_fault vertices) records ≡ None
   pub as_many : length named ≡ vertices
   pub each : (v : ℕ) → v < vertices → slice_index_or named v None ≡ chips_named (rows_under_header records) v

@@ -7,3 +7,6 @@ pub mod Numbers
 pub mod Rows
 pub mod Standing
 pub mod ChipsText
+pub mod Kinds
+pub mod TraceText
+pub mod ScheduleText

@@ -1,5 +1,5 @@
 -- Numbers in the rows of a file.
-use Rattle.std.specs.Prelude.{ℕ, ◌^◌, nat_lt, nat_le, ◌&&◌, if◌then◌else◌, List, length, Option, None, Some, option_and_then}
+use Rattle.std.specs.Prelude.{ℕ, ◌^◌, nat_lt, nat_le, ◌&&◌, if◌then◌else◌, List, length, Option, None, Some, option_and_then, unwrap_or}
 use Rattle.std.specs.Str.{all_ascii_digits}
 use Rattle.std.specs.Str.Parse.{digits_value}
 use Rattle.csv.specs.Records.{field_at}
@@ -14,3 +14,7 @@ number_of field =
 -- the number in the field at a place of a row
 abbrev pub number_at : ℕ → List (List ℕ) → Option ℕ
 number_at place row = option_and_then number_of (field_at row place)
+
+-- the same, 0 where the field is no number
+abbrev pub number_in : ℕ → List (List ℕ) → ℕ
+number_in place row = unwrap_or (number_at place row) 0

@@ -1,9 +1,12 @@
 -- Files of rows: a header, and the rows under it.
-use Rattle.std.specs.Prelude.{ℕ, Bool, false, List, [], ◌∷◌, ◌++◌, Option, None, bytes_eq}
+use Rattle.std.specs.Prelude.{ℕ, Bool, false, if◌then◌else◌, List, [], ◌∷◌, ◌++◌, length, Option, None, Some, option_and_then, bytes_eq}
 use Rattle.std.specs.Cmp.Lexicographic.{pointwise}
+use Rattle.std.specs.Str.{is_utf8}
+use Rattle.csv.specs.Records.{field_at}
 use Rattle.csv.specs.Reading.{records, default_config, strip_bom}
-use Rattle.chip_graph.specs.Faults.{first_of_faults}
+use Rattle.chip_graph.specs.Faults.{first_of_faults, unless}
 use Rattle.chip_file.specs.declared.fault.FileFault.{FileFault}
+use Rattle.chip_file.specs.declared.fault.FileFault.TheVariants as fault
 
 -- a record: its fields, each a list of bytes
 abbrev pub Row : Type 0
@@ -12,6 +15,10 @@ Row = List (List ℕ)
 -- the records that csv reads in a text: with commas, without trimming, the header among them
 abbrev pub records_of : List ℕ → List Row
 records_of text = records default_config (strip_bom text)
+
+-- the text in the field at a place of a row: none where the row is too short, or the field is no UTF-8
+abbrev pub text_at : ℕ → Row → Option (List ℕ)
+text_at place row = option_and_then (λ field. if is_utf8 field then Some field else None) (field_at row place)
 
 -- a record has exactly these fields
 abbrev pub has_fields : Row → Row → Bool
@@ -32,3 +39,12 @@ abbrev pub first_row_fault : (List Row → Row → Option FileFault) → List Ro
 first_row_fault row_fault before [] = None
 first_row_fault row_fault before (row ∷ rows) =
     first_of_faults (row_fault before row) (first_row_fault row_fault (before ++ row ∷ []) rows)
+
+-- the fault of a row that its index decides
+abbrev pub by_index : (ℕ → Row → Option FileFault) → List Row → Row → Option FileFault
+by_index row_fault before row = row_fault (length before) row
+
+-- the first thing wrong with records that have this header: the header itself, or a row under it
+abbrev pub records_fault : Row → (List Row → Row → Option FileFault) → List Row → Option FileFault
+records_fault header row_fault records =
+    first_of_faults (unless (has_header header records) fault.Header) (first_row_fault row_fault [] (rows_under_header records))

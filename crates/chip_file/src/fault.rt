@@ -32,6 +32,9 @@ pub enum FileFault {
     /// This row names a vertex that an earlier row named.
     #[error("row {0} names a vertex again")]
     Repeated(u64),
+    /// The kind of this row is none of the file's kinds.
+    #[error("row {0} has no such kind")]
+    Kind(u64),
     /// There are more than 1,099,511,627,776 chips in all.
     #[error("there are more than 1099511627776 chips")]
     Total,

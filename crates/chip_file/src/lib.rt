@@ -1,14 +1,17 @@
-//! Readers of the files that chipfire takes: graphs as JSON, and chips as rows of CSV.
+//! Readers of the files that chipfire takes: graphs as JSON; chips, schedules and traces as rows of CSV.
 //!
 //! Every reader takes the whole of its input first (`read_whole`). What a text means is a definition: of a graph over
-//! the value that `serde_json` reads (`specs/GraphText.antt`), of chips over the records that `csv` gives
-//! (`specs/ChipsText.antt`). A reader answers that meaning, or the first thing wrong with the text. Contracts speak of
-//! readers that tell their bytes, as a slice does. `docs/FORMATS.md` shows the files.
+//! the value that `serde_json` reads (`specs/GraphText.antt`), of chips, schedules and traces over the records that
+//! `csv` gives (`specs/ChipsText.antt`, `specs/ScheduleText.antt`, `specs/TraceText.antt`). A reader answers that
+//! meaning, or the first thing wrong with the text. Contracts speak of readers that tell their bytes, as a slice does.
+//! `docs/FORMATS.md` shows the files.
 #![tactic(auto)]
 
 pub use chips::read_chips;
 pub use fault::FileFault;
 pub use graph::read_graph;
+pub use schedule::read_schedule;
+pub use trace::read_trace;
 pub use whole::{MAX_BYTES, read_whole};
 
 mod chips;
@@ -18,5 +21,9 @@ mod json;
 mod number;
 mod rows;
 #[cfg(test)]
+mod run_tests;
+mod schedule;
+#[cfg(test)]
 mod tests;
+mod trace;
 mod whole;

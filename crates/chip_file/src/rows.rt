@@ -1,15 +1,16 @@
 //! Files of rows: a header, and the rows under it.
 
-ghost use Rattle.std.specs.Prelude.{◌≡◌, ◌⊎◌, true, false, map, IfOk, OnOk, IfErr};
+ghost use Rattle.std.specs.Prelude.{◌≡◌, ◌⊎◌, true, false, map, option_map, IfOk, OnOk, IfErr};
 ghost use Rattle.csv.specs.Records.{fields_of};
 ghost use Rattle.chip_file.specs.Answer.{IsOfMachine};
-ghost use Rattle.chip_file.specs.Rows.{records_of, has_fields, has_header, rows_under_header};
+ghost use Rattle.chip_file.specs.Rows.{records_of, has_fields, has_header, rows_under_header, text_at};
 ghost use Rattle.chip_file.specs.Standing.{IsOpen, TakesRow, rows_left};
 ghost use Rattle.chip_file.specs.declared.fault.FileFault.TheVariants as fault;
 
 use crate::fault::FileFault;
 use csv::{ByteRecord, ErrorKind, Reader, ReaderBuilder};
 use std::alloc::Global;
+use std::str;
 
 /// A reader of the records of a text, the header among them.
 pub(crate) fn records(alloc: Global, text: &[u8]) -> Reader<&[u8]>
@@ -53,6 +54,13 @@ pub(crate) fn read_row(reader: &mut Reader<&[u8]>, row: &mut ByteRecord) -> Resu
         Ok(found) => Ok(found),
         Err(error) => Err(fault_of(&error)),
     }
+}
+
+/// The text in a row's field at a place: none where the row is too short, or the field is no UTF-8.
+pub(crate) fn text_at(row: &ByteRecord, place: usize) -> Option<&str>
+    ensures { option_map (λ text. text.now) result ≡ text_at place (fields_of row.now) }
+{
+    str::from_utf8(row.get(place)?).ok()
 }
 
 /// Whether a record has exactly these fields.

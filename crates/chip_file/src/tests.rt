@@ -6,19 +6,20 @@ use std::io;
 use std::io::{ErrorKind, Read};
 use std::test::Fail;
 
-const TRIANGLE: &str =
+/// The triangle: its root edges are 4, 5 and 6.
+pub(crate) const TRIANGLE: &str =
     "{\"edges\":[[0,1,1],[0,2,1],[1,0,1],[1,2,1]],\"sink\":2,\"version\":1,\"vertices\":3}";
 
 /// Gives one byte at each read, and may fail at one of them.
 #[derive(Drop)]
-struct Slow<'t> {
+pub(crate) struct Slow<'t> {
     text: &'t [u8],
     reads: usize,
     fails_at: Option<usize>,
 }
 
 impl Slow<'_> {
-    fn new(text: &[u8], fails_at: Option<usize>) -> Slow<'_> {
+    pub(crate) fn new(text: &[u8], fails_at: Option<usize>) -> Slow<'_> {
         Slow {
             text,
             reads: 0,

@@ -1,0 +1,149 @@
+//! Schedules as rows of text.
+
+ghost use Rattle.std.specs.Prelude.{◌≡◌, ◌≤◌, length, map, Some, None, IfOk, IfErr, IfSome};
+ghost use Rattle.csv.specs.Records.{fields_of};
+ghost use Rattle.chip_file.specs.Answer.{Answers, Gives, max_bytes};
+ghost use Rattle.chip_file.specs.Kinds.{kind_named, kind_at};
+ghost use Rattle.chip_file.specs.ScheduleText.{event_kinds, is_at_vertex, places_for, event_of_kind, event_in, event_fault, schedule_text_fault, schedule_of_text};
+
+use crate::fault::FileFault;
+use crate::number::number_at;
+use crate::rows;
+use crate::whole::read_whole;
+use chip_graph::Graph;
+use chip_link::Event;
+use csv::ByteRecord;
+use std::alloc::Global;
+use std::io::Read;
+
+/// The header of a schedule.
+const HEADER: [&str; 3] = ["event", "at", "count"];
+
+/// What an event of a schedule may be.
+#[derive(Clone, Copy)]
+enum EventKind {
+    Take,
+    Ack,
+    Fire,
+    Clear,
+    Claim,
+    Put,
+    Halt,
+    Settle,
+    Seal,
+    Read,
+}
+
+impl EventKind {
+    /// The kind of this name.
+    fn named(name: &str) -> Option<EventKind>
+        ensures { result ≡ kind_named event_kinds name.now }
+    {
+        match name {
+            "take" => Some(EventKind::Take),
+            "ack" => Some(EventKind::Ack),
+            "fire" => Some(EventKind::Fire),
+            "clear" => Some(EventKind::Clear),
+            "claim" => Some(EventKind::Claim),
+            "put" => Some(EventKind::Put),
+            "halt" => Some(EventKind::Halt),
+            "settle" => Some(EventKind::Settle),
+            "seal" => Some(EventKind::Seal),
+            "read" => Some(EventKind::Read),
+            _ => None,
+        }
+    }
+
+    /// The kind in a row's field at a place, if it is one.
+    fn at(row: &ByteRecord, place: usize) -> Option<EventKind>
+        ensures { result ≡ kind_at event_kinds place (fields_of row.now) }
+    {
+        EventKind::named(rows::text_at(row, place)?)
+    }
+
+    /// Whether an event of this kind is at a vertex; else it is at an edge.
+    fn is_at_vertex(self) -> bool
+        ensures { result ≡ is_at_vertex self }
+    {
+        matches!(self, EventKind::Fire | EventKind::Halt | EventKind::Read)
+    }
+
+    /// How many places a graph has for events of this kind: its vertices, or its edges with a root edge for each vertex.
+    fn places(self, graph: &Graph) -> u64
+        ensures { result ≡ places_for graph.now self }
+    {
+        if self.is_at_vertex() {
+            graph.vertices()
+        } else {
+            graph.edges().len() as u64 + graph.vertices()
+        }
+    }
+
+    /// The event of this kind at a place; only a firing has a count.
+    fn event(self, at: u64, count: u64) -> Event
+        ensures { result ≡ event_of_kind self at count }
+    {
+        match self {
+            EventKind::Take => Event::Take(at),
+            EventKind::Ack => Event::Ack(at),
+            EventKind::Fire => Event::Fire { vertex: at, count },
+            EventKind::Clear => Event::Clear(at),
+            EventKind::Claim => Event::Claim(at),
+            EventKind::Put => Event::Put(at),
+            EventKind::Halt => Event::Halt(at),
+            EventKind::Settle => Event::Settle(at),
+            EventKind::Seal => Event::Seal(at),
+            EventKind::Read => Event::Read(at),
+        }
+    }
+}
+
+/// The events of a schedule by a file of rows, in order, or the first thing wrong with the file.
+pub fn read_schedule<R: Read>(
+    alloc: Global,
+    reader: &mut R,
+    graph: &Graph,
+) -> Result<Vec<Event>, FileFault>
+    ensures { IfSome (R.remaining reader.old) (λ text. Answers text
+        (λ events. schedule_of_text graph.now text ≡ Some events.items)
+        (λ f. schedule_text_fault graph.now text ≡ Some f) result) }
+{
+    let text = read_whole(alloc, reader)?;
+    events_of_text(alloc, &text, graph)
+}
+
+/// The events that a text means.
+fn events_of_text(alloc: Global, text: &[u8], graph: &Graph) -> Result<Vec<Event>, FileFault>
+    requires { length text.now ≤ max_bytes }
+    ensures { Gives (λ events. schedule_of_text graph.now text.now ≡ Some events.items)
+        (λ f. schedule_text_fault graph.now text.now ≡ Some f) result }
+{
+    let mut reader = rows::records(alloc, text);
+    let mut row = ByteRecord::new(alloc);
+    rows::read_header(&mut reader, &mut row, &HEADER)?;
+    let mut events = Vec::new(alloc);
+    let mut index = 0;
+    while rows::read_row(&mut reader, &mut row)? {
+        events.push(event_of(graph, &row, index)?)?;
+        index += 1;
+    }
+    Ok(events)
+}
+
+/// The event of the row with this index.
+fn event_of(graph: &Graph, row: &ByteRecord, index: u64) -> Result<Event, FileFault>
+    ensures ok { IfOk result (λ event.
+        (event_fault graph.now index (fields_of row.now) ≡ None) × (event ≡ event_in (fields_of row.now))) }
+    ensures err { IfErr result (λ f. event_fault graph.now index (fields_of row.now) ≡ Some f) }
+{
+    if row.len() != HEADER.len() {
+        return Err(FileFault::Row(index));
+    }
+    let kind = EventKind::at(row, 0).ok_or(FileFault::Kind(index))?;
+    let at = number_at(row, 1).ok_or(FileFault::Number(index))?;
+    let count = number_at(row, 2).ok_or(FileFault::Number(index))?;
+    if at >= kind.places(graph) {
+        return Err(FileFault::Vertex(index));
+    }
+    Ok(kind.event(at, count))
+}

@@ -1,0 +1,146 @@
+//! Recorded runs as rows of text.
+
+ghost use Rattle.std.specs.Prelude.{◌≡◌, ◌≤◌, [], length, map, replicate, Some, None, IfOk, IfErr, IfSome};
+ghost use Rattle.csv.specs.Records.{fields_of};
+ghost use Rattle.chip_file.specs.Answer.{Answers, Gives, max_bytes};
+ghost use Rattle.chip_file.specs.Kinds.{kind_named, kind_at};
+ghost use Rattle.chip_file.specs.Numbers.{number_in};
+ghost use Rattle.chip_file.specs.TraceText.{trace_kinds, row_of_kind, names_edge, trace_row_in, trace_row_fault, trace_text_fault, traces_of_text};
+
+use crate::fault::FileFault;
+use crate::number::number_at;
+use crate::rows;
+use crate::whole::read_whole;
+use chip_graph::Graph;
+use chip_link::TraceRow;
+use csv::ByteRecord;
+use std::alloc::{AllocError, Global};
+use std::io::Read;
+
+/// The header of a file of recorded runs.
+const HEADER: [&str; 4] = ["vertex", "kind", "edge", "count"];
+
+/// What a row of a recorded run may be of.
+#[derive(Clone, Copy)]
+enum TraceKind {
+    Take,
+    Fire,
+}
+
+impl TraceKind {
+    /// The kind of this name.
+    fn named(name: &str) -> Option<TraceKind>
+        ensures { result ≡ kind_named trace_kinds name.now }
+    {
+        match name {
+            "take" => Some(TraceKind::Take),
+            "fire" => Some(TraceKind::Fire),
+            _ => None,
+        }
+    }
+
+    /// The kind in a row's field at a place, if it is one.
+    fn at(row: &ByteRecord, place: usize) -> Option<TraceKind>
+        ensures { result ≡ kind_at trace_kinds place (fields_of row.now) }
+    {
+        TraceKind::named(rows::text_at(row, place)?)
+    }
+
+    /// The row of this kind; a firing is over no edge.
+    fn row(self, edge: u64, count: u64) -> TraceRow
+        ensures { result ≡ row_of_kind self edge count }
+    {
+        match self {
+            TraceKind::Take => TraceRow::Take { edge, count },
+            TraceKind::Fire => TraceRow::Fire { k: count },
+        }
+    }
+}
+
+/// The recorded run of each vertex by a file of rows, or the first thing wrong with the file.
+///
+/// The rows of one vertex keep the order of the file.
+pub fn read_trace<R: Read>(
+    alloc: Global,
+    reader: &mut R,
+    graph: &Graph,
+) -> Result<Vec<Vec<TraceRow>>, FileFault>
+    ensures means { IfSome (R.remaining reader.old) (λ text. Answers text
+        (λ traces. traces_of_text graph.now text ≡ Some (map (λ trace. trace.items) traces.items))
+        (λ f. trace_text_fault graph.now text ≡ Some f) result) }
+
+    // At any reader.
+    ensures each { IfOk result (λ traces. length traces.items ≡ graph.now.vertices) }
+{
+    let text = read_whole(alloc, reader)?;
+    traces_of_text(alloc, &text, graph)
+}
+
+/// The recorded runs that a text means.
+fn traces_of_text(
+    alloc: Global,
+    text: &[u8],
+    graph: &Graph,
+) -> Result<Vec<Vec<TraceRow>>, FileFault>
+    requires { length text.now ≤ max_bytes }
+    ensures means { Gives
+        (λ traces. traces_of_text graph.now text.now ≡ Some (map (λ trace. trace.items) traces.items))
+        (λ f. trace_text_fault graph.now text.now ≡ Some f) result }
+    ensures each { IfOk result (λ traces. length traces.items ≡ graph.now.vertices) }
+{
+    let mut reader = rows::records(alloc, text);
+    let mut row = ByteRecord::new(alloc);
+    rows::read_header(&mut reader, &mut row, &HEADER)?;
+    let mut traces = empty_traces(alloc, graph.vertices())?;
+    let mut index = 0;
+    while rows::read_row(&mut reader, &mut row)? {
+        let (vertex, recorded) = row_of(graph, &row, index)?;
+        let trace = &mut traces[vertex as usize];
+        trace.push(recorded)?;
+        index += 1;
+    }
+    Ok(traces)
+}
+
+/// So many runs of which nothing is recorded.
+fn empty_traces(alloc: Global, vertices: u64) -> Result<Vec<Vec<TraceRow>>, AllocError>
+    ensures { IfOk result (λ traces. map (λ trace. trace.items) traces.items ≡ replicate vertices []) }
+{
+    let mut traces = Vec::with_capacity(alloc, vertices as usize)?;
+    for _ in 0..vertices {
+        traces.push(Vec::new(alloc))?;
+    }
+    Ok(traces)
+}
+
+/// The vertex that the row with this index names, and what it says.
+fn row_of(graph: &Graph, row: &ByteRecord, index: u64) -> Result<(u64, TraceRow), FileFault>
+    ensures ok { IfOk result (λ found.
+        (trace_row_fault graph.now index (fields_of row.now) ≡ None)
+        × (found.0 ≡ number_in 0 (fields_of row.now))
+        × (found.1 ≡ trace_row_in (fields_of row.now))) }
+    ensures err { IfErr result (λ f. trace_row_fault graph.now index (fields_of row.now) ≡ Some f) }
+{
+    if row.len() != HEADER.len() {
+        return Err(FileFault::Row(index));
+    }
+    let kind = TraceKind::at(row, 1).ok_or(FileFault::Kind(index))?;
+    let vertex = number_at(row, 0).ok_or(FileFault::Number(index))?;
+    let edge = number_at(row, 2).ok_or(FileFault::Number(index))?;
+    let count = number_at(row, 3).ok_or(FileFault::Number(index))?;
+    let recorded = kind.row(edge, count);
+    if vertex >= graph.vertices() || !names_edge(graph, recorded) {
+        return Err(FileFault::Vertex(index));
+    }
+    Ok((vertex, recorded))
+}
+
+/// Whether a row names an edge that is there, a root edge among them; a firing names none.
+fn names_edge(graph: &Graph, row: TraceRow) -> bool
+    ensures { result ≡ names_edge graph.now row }
+{
+    match row {
+        TraceRow::Take { edge, .. } => edge < graph.edges().len() as u64 + graph.vertices(),
+        TraceRow::Fire { .. } => true,
+    }
+}

@@ -8,9 +8,16 @@ use Rattle.chip_graph.specs.ChipGame.{ChipGame}
 use Rattle.chip_file.specs.Answer.{Answers}
 use Rattle.chip_file.specs.GraphText.{MeansGraph, IsGraphTextFault}
 use Rattle.chip_file.specs.ChipsText.{chips_of_text}
+use Rattle.chip_file.specs.TraceText.{traces_of_text}
 use Rattle.chip_file.specs.declared.fault.FileFault.{FileFault}
-use Rattle.chipfire.specs.Faults.{fault_of_file}
-use Rattle.chipfire.specs.PlainCommand.{IsRefused, RefusesText, MeansGame, RefusesInputs, GivesGame, Reports, PlainAnswers}
+use Rattle.chip_trace.specs.declared.fault.ReplayFault.{ReplayFault}
+use Rattle.chip_trace.specs.declared.fault.ReplayFault.TheVariants as replay_fault
+use Rattle.chip_trace.specs.Replay.{IsReplayFault}
+use Rattle.chipfire.specs.Faults.{fault_of_file, fault_of_replay}
+use Rattle.chipfire.specs.Inputs.{IsRefused, RefusesText, MeansGame, RefusesInputs, GivesGame}
+use Rattle.chipfire.specs.PlainCommand.{Reports, PlainAnswers}
+use Rattle.chip_link.specs.declared.trace.TraceRow.{TraceRow}
+use Rattle.chipfire.specs.ReplayCommand.{MeansTraces, AreReplayed, RefusesTraces, ReplayAnswers}
 use Rattle.chipfire.specs.CheckCommand.{IsShown, CheckAnswers}
 use Rattle.chip_report.specs.Written.{WritesAll}
 use Rattle.chip_report.specs.declared.write.WriteFault.{WriteFault}
@@ -58,3 +65,24 @@ refused_check text known (Err fault) P is why = inl (why fault is, Keeps-same kn
 pub failed_check : (text : List ℕ) (old new : Option (List ℕ)) (result : Result Ended Fault) (P : Fault → Type 0) → IsErrAnd result P → (G : Multigraph) → MeansGraph text G → (lines : List ℕ) → IsShown G lines → (w : WriteFault) → ((fault : Fault) → P fault → fault ≡ Write w) → WritesAll old new lines (Err w) → CheckAnswers text old new result
 failed_check text old new (Ok ended) P is G means lines shown w why wrote = absurd is
 failed_check text old new (Err fault) P is G means lines shown w why wrote = inr (G, lines, means, shown, w, why fault is, wrote)
+
+-- the same of `replay`
+pub refused_replay : (graph_text chips_text trace_text : List ℕ) (limit : ℕ) (known : Option (List ℕ)) (result : Result Ended Fault) (P : Fault → Type 0) → IsErrAnd result P → ((fault : Fault) → P fault → RefusesTraces graph_text chips_text trace_text limit fault ⊎ (fault ≡ NoMemory)) → ReplayAnswers graph_text chips_text trace_text limit known known result
+refused_replay graph_text chips_text trace_text limit known (Ok ended) P is why = absurd is
+refused_replay graph_text chips_text trace_text limit known (Err fault) P is why = inl (why fault is, Keeps-same known)
+
+pub failed_replay : (graph_text chips_text trace_text : List ℕ) (limit : ℕ) (old new : Option (List ℕ)) (result : Result Ended Fault) (P : Fault → Type 0) → IsErrAnd result P → (g : ChipGame) (traces : List (List TraceRow)) → MeansTraces graph_text chips_text trace_text limit g traces → (lines : List ℕ) → AreReplayed g traces lines → (w : WriteFault) → ((fault : Fault) → P fault → fault ≡ Write w) → WritesAll old new lines (Err w) → ReplayAnswers graph_text chips_text trace_text limit old new result
+failed_replay graph_text chips_text trace_text limit old new (Ok ended) P is g traces means lines replayed w why wrote = absurd is
+failed_replay graph_text chips_text trace_text limit old new (Err fault) P is g traces means lines replayed w why wrote = inr (g, traces, means, lines, replayed, w, why fault is, wrote)
+
+-- what a replay refuses is why nothing is replayed
+pub refused_stuck : (graph_text chips_text trace_text : List ℕ) (limit : ℕ) (g : ChipGame) (traces : List (List TraceRow)) → MeansTraces graph_text chips_text trace_text limit g traces → (f : ReplayFault) → IsReplayFault g traces f → (fault : Fault) → fault ≡ fault_of_replay f → RefusesTraces graph_text chips_text trace_text limit fault ⊎ (fault ≡ NoMemory)
+refused_stuck graph_text chips_text trace_text limit g traces means (replay_fault.Stuck vertex row) stuck fault is = inl (inr (inr (g, traces, means, vertex, row, is, stuck)))
+refused_stuck graph_text chips_text trace_text limit g traces means replay_fault.NoMemory stuck fault is = inr is
+
+-- the traces of a game that the texts mean
+pub means_traces : (graph_text chips_text trace_text : List ℕ) (limit : ℕ) (g : ChipGame) (traces : List (List TraceRow)) (G : Multigraph) → G ≡ g.graph → MeansGame graph_text chips_text limit g → traces_of_text G trace_text ≡ Some traces → MeansTraces graph_text chips_text trace_text limit g traces
+means_traces graph_text chips_text trace_text limit g traces G same game each = record {
+  game = game;
+  each = subst (λ (G : Multigraph). traces_of_text G trace_text ≡ Some traces) same each;
+}

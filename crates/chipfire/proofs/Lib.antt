@@ -1,2 +1,3 @@
 pub mod CheckLemmas
 pub mod EngineLemmas
+pub mod LineLemmas

@@ -4,7 +4,7 @@ use Rattle.std.specs.Fmt.{decimal}
 use Rattle.std.specs.Io.KnownBytes.{Appends, Keeps}
 use Rattle.chip_graph.specs.Multigraph.{Multigraph, IsDistance, degree}
 use Rattle.chip_file.specs.GraphText.{MeansGraph, IsGraphTextFault}
-use Rattle.chipfire.specs.PlainCommand.{RefusesText}
+use Rattle.chipfire.specs.Inputs.{RefusesText}
 use Rattle.chip_report.specs.Written.{WritesAll}
 use Rattle.chipfire.specs.declared.ended.Ended.{Ended}
 use Rattle.chipfire.specs.declared.fault.Fault.{Fault}

@@ -1,10 +1,17 @@
--- The faults of files among those of commands.
+-- The faults of libraries among those of commands.
 use Rattle.chip_file.specs.declared.fault.FileFault.{FileFault}
 use Rattle.chip_file.specs.declared.fault.FileFault.TheVariants as file
+use Rattle.chip_trace.specs.declared.fault.ReplayFault.{ReplayFault}
+use Rattle.chip_trace.specs.declared.fault.ReplayFault.TheVariants as replay
 use Rattle.chipfire.specs.declared.fault.Fault.{Fault}
-use Rattle.chipfire.specs.declared.fault.Fault.TheVariants.{File, NoMemory}
+use Rattle.chipfire.specs.declared.fault.Fault.TheVariants.{File, Stuck, NoMemory}
 
 -- want of memory is one fault, whoever met it
 abbrev pub fault_of_file : FileFault → Fault
 fault_of_file file.NoMemory = NoMemory
 fault_of_file fault = File fault
+
+-- the fault of recorded runs that do not fit together
+abbrev pub fault_of_replay : ReplayFault → Fault
+fault_of_replay (replay.Stuck vertex row) = Stuck vertex row
+fault_of_replay replay.NoMemory = NoMemory

@@ -1,3 +1,6 @@
 pub mod Faults
+pub mod Inputs
+pub mod Lines
 pub mod PlainCommand
 pub mod CheckCommand
+pub mod ReplayCommand

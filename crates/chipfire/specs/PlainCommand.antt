@@ -1,54 +1,20 @@
 -- From the bytes of a graph file and a chips file to those of a report.
-use Rattle.std.specs.Prelude.{◌≡◌, ◌⊎◌, ℕ, ◌^◌, ◌<◌, ◌≤◌, length, List, Bool, false, if◌then◌else◌, Option, Some, Result, Ok, Err}
+use Rattle.std.specs.Prelude.{◌≡◌, ◌⊎◌, ℕ, List, false, if◌then◌else◌, Option, Result, Ok, Err}
 use Rattle.std.specs.Io.KnownBytes.{Appends, Keeps}
-use Rattle.chip_graph.specs.Multigraph.{Multigraph}
 use Rattle.chip_graph.specs.ChipGame.{ChipGame}
-use Rattle.chip_graph.specs.Faults.{fault_of_game}
-use Rattle.chip_graph.specs.declared.fault.GameFault.{GameFault}
-use Rattle.chip_file.specs.Answer.{IsOfMachine, max_bytes}
-use Rattle.chip_file.specs.GraphText.{MeansGraph, IsGraphTextFault}
-use Rattle.chip_file.specs.ChipsText.{chips_of_text, chips_text_fault}
-use Rattle.chip_file.specs.declared.fault.FileFault.{FileFault}
-use Rattle.chip_file.specs.declared.fault.FileFault.TheVariants as file_fault
 use Rattle.chip_fire.specs.Play.{IsPlayed}
 use Rattle.chip_fire.specs.declared.outcome.Outcome.{Outcome}
 use Rattle.chip_report.specs.ReportText.{is_closed, report_text}
 use Rattle.chip_report.specs.Written.{WritesAll}
-use Rattle.chipfire.specs.Faults.{fault_of_file}
 use Rattle.chip_report.specs.declared.write.WriteFault.{WriteFault}
+use Rattle.chipfire.specs.Inputs.{MeansGame, RefusesInputs}
 use Rattle.chipfire.specs.declared.ended.Ended.{Ended}
 use Rattle.chipfire.specs.declared.fault.Fault.{Fault}
-use Rattle.chipfire.specs.declared.fault.Fault.TheVariants.{Game, Write, NoMemory}
-
--- two texts and a limit mean this game
-pub record MeansGame (graph_text chips_text : List ℕ) (limit : ℕ) (g : ChipGame) : Type 0 where
-  pub graph : MeansGraph graph_text g.graph
-  pub start : chips_of_text g.graph.vertices chips_text ≡ Some g.start
-  pub limited : g.limit ≡ limit
+use Rattle.chipfire.specs.declared.fault.Fault.TheVariants.{Write, NoMemory}
 
 -- the exit status: 2 where the limit left a vertex legal
 abbrev pub plain_status : Outcome → ℕ
 plain_status outcome = if is_closed outcome then 0 else 2
-
--- the machine failed on a text, or the text is too long, or it has this fault
-abbrev pub IsRefused : List ℕ → (FileFault → Type 0) → FileFault → Type 0
-IsRefused text IsFault f = IsOfMachine f ⊎ ((max_bytes < length text) × (f ≡ file_fault.TooLong)) ⊎ ((length text ≤ max_bytes) × IsFault f)
-
--- reading a text failed by this fault
-abbrev pub RefusesText : List ℕ → (FileFault → Type 0) → Fault → Type 0
-RefusesText text IsFault fault = (f : FileFault) × (fault ≡ fault_of_file f) × IsRefused text IsFault f
-
--- why the inputs are no game: the first fault of the graph, of the chips, or of the game that they make with the limit
-abbrev pub RefusesInputs : List ℕ → List ℕ → ℕ → Fault → Type 0
-RefusesInputs graph_text chips_text limit fault =
-    RefusesText graph_text (IsGraphTextFault graph_text) fault
-    ⊎ ((G : Multigraph) × MeansGraph graph_text G × RefusesText chips_text (λ f. chips_text_fault G.vertices chips_text ≡ Some f) fault)
-    ⊎ ((g : ChipGame) × MeansGame graph_text chips_text limit g × (f : GameFault) × (fault_of_game g ≡ Some f) × (fault ≡ Game f))
-
--- what reading the inputs answers
-abbrev pub GivesGame : List ℕ → List ℕ → ℕ → Result ChipGame Fault → Type 0
-GivesGame graph_text chips_text limit (Ok g) = MeansGame graph_text chips_text limit g
-GivesGame graph_text chips_text limit (Err fault) = RefusesInputs graph_text chips_text limit fault
 
 -- a text and a status are the report of a game played to its end, and its status
 abbrev pub Reports : ChipGame → List ℕ → ℕ → Type 0

@@ -28,6 +28,12 @@ pub enum Request<'a> {
         chips: FileWord<'a>,
         limit: u64,
     },
+    Replay {
+        graph: FileWord<'a>,
+        chips: FileWord<'a>,
+        trace: FileWord<'a>,
+        limit: u64,
+    },
 }
 
 const AFTER_HELP: &str = "\
@@ -57,10 +63,21 @@ pub fn parse<'a>(alloc: Global, words: &'a [String]) -> Result<Request<'a>, Faul
         "plain" => Ok(Request::Plain {
             graph: files(0).ok_or(Fault::Usage)?,
             chips: files(1).ok_or(Fault::Usage)?,
-            limit: found.get_one::<u64>("limit").unwrap_or(MAX_LIMIT),
+            limit: limit_of(found),
+        }),
+        "replay" => Ok(Request::Replay {
+            graph: files(0).ok_or(Fault::Usage)?,
+            chips: files(1).ok_or(Fault::Usage)?,
+            trace: files(2).ok_or(Fault::Usage)?,
+            limit: limit_of(found),
         }),
         _ => Err(Fault::Usage),
     }
+}
+
+/// The firing limit that was asked for, or the greatest.
+fn limit_of(found: &ArgMatches) -> u64 {
+    found.get_one::<u64>("limit").unwrap_or(MAX_LIMIT)
 }
 
 /// The program as the command-line library knows it.
@@ -73,13 +90,20 @@ fn program<'a>(alloc: Global) -> Result<Command<'a>, AllocError> {
         .arg(file(alloc, "GRAPH", "The graph, as JSON"))?
         .arg(file(alloc, "CHIPS", "The chips at the start, as rows"))?
         .arg(limit(alloc))?;
+    let replay = Command::new(alloc, "replay")
+        .about("Replays a recorded run and writes its firings, in an order in which they fit together")
+        .arg(file(alloc, "GRAPH", "The graph, as JSON"))?
+        .arg(file(alloc, "CHIPS", "The chips at the start, as rows"))?
+        .arg(file(alloc, "TRACE", "What each vertex took and fired, as rows"))?
+        .arg(limit(alloc))?;
     Command::new(alloc, "chipfire")
         .about("A chip-firing machine that is proved right")
         .after_help(AFTER_HELP)
         .disable_help_subcommand(true)
         .subcommand_required(true)
         .subcommand(check)?
-        .subcommand(plain)
+        .subcommand(plain)?
+        .subcommand(replay)
 }
 
 /// A file that a command needs.

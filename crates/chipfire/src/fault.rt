@@ -3,6 +3,7 @@
 use chip_file::FileFault;
 use chip_graph::{GameFault, GraphFault};
 use chip_report::WriteFault;
+use chip_trace::ReplayFault;
 use std::alloc::{AllocError, AllocFailed};
 use std::error::Error;
 use std::fmt;
@@ -14,6 +15,8 @@ pub enum Fault {
     File(FileFault),
     /// The numbers of a game.
     Game(GameFault),
+    /// The recorded runs of a trace do not fit together; at greatest progress this row of this vertex is to blame.
+    Stuck { vertex: u64, row: u64 },
     /// The output, and how many bytes of it went out.
     Write(WriteFault),
     /// The words are no command.
@@ -46,6 +49,20 @@ impl From<GameFault> for Fault {
 
     fn from(fault: GameFault) -> Fault {
         Fault::Game(fault)
+    }
+}
+
+impl From<ReplayFault> for Fault {
+    ghost use Rattle.std.specs.Prelude.{◌≡◌};
+    ghost use Rattle.chipfire.specs.Faults.{fault_of_replay};
+
+    ghost from_gives = { λ replay fault. fault ≡ fault_of_replay replay };
+
+    fn from(fault: ReplayFault) -> Fault {
+        match fault {
+            ReplayFault::Stuck { vertex, row } => Fault::Stuck { vertex, row },
+            ReplayFault::NoMemory => Fault::NoMemory,
+        }
     }
 }
 
@@ -82,15 +99,23 @@ impl<T: Drop> From<AllocFailed<T>> for Fault {
     }
 }
 
+/// The numbers that are printed with a fault: where it is.
+#[derive(Clone, Copy, Debug, PartialEq, Eq)]
+pub enum Place {
+    Nowhere,
+    At(u64),
+    AtRow { vertex: u64, row: u64 },
+}
+
 /// A fault as it is printed: its number, its name, and the place that it names.
 #[derive(Clone, Copy, Debug, PartialEq, Eq)]
 pub struct FaultLine {
     pub number: u64,
     pub name: &'static str,
-    pub place: Option<u64>,
+    pub place: Place,
 }
 
-fn line(number: u64, name: &'static str, place: Option<u64>) -> FaultLine {
+fn line(number: u64, name: &'static str, place: Place) -> FaultLine {
     FaultLine {
         number,
         name,
@@ -100,41 +125,42 @@ fn line(number: u64, name: &'static str, place: Option<u64>) -> FaultLine {
 
 fn graph_line(fault: &GraphFault) -> FaultLine {
     match fault {
-        GraphFault::Vertices => line(1, "Vertices", None),
-        GraphFault::Sink => line(2, "Sink", None),
-        GraphFault::EdgeCount => line(3, "EdgeCount", None),
-        GraphFault::Endpoint(edge) => line(4, "Endpoint", Some(*edge)),
-        GraphFault::Mult(edge) => line(5, "Mult", Some(*edge)),
-        GraphFault::Loop(edge) => line(6, "Loop", Some(*edge)),
-        GraphFault::FromSink(edge) => line(7, "FromSink", Some(*edge)),
-        GraphFault::Unreached(vertex) => line(8, "Unreached", Some(*vertex)),
-        GraphFault::NoMemory => line(90, "NoMemory", None),
+        GraphFault::Vertices => line(1, "Vertices", Place::Nowhere),
+        GraphFault::Sink => line(2, "Sink", Place::Nowhere),
+        GraphFault::EdgeCount => line(3, "EdgeCount", Place::Nowhere),
+        GraphFault::Endpoint(edge) => line(4, "Endpoint", Place::At(*edge)),
+        GraphFault::Mult(edge) => line(5, "Mult", Place::At(*edge)),
+        GraphFault::Loop(edge) => line(6, "Loop", Place::At(*edge)),
+        GraphFault::FromSink(edge) => line(7, "FromSink", Place::At(*edge)),
+        GraphFault::Unreached(vertex) => line(8, "Unreached", Place::At(*vertex)),
+        GraphFault::NoMemory => line(90, "NoMemory", Place::Nowhere),
     }
 }
 
 fn game_line(fault: &GameFault) -> FaultLine {
     match fault {
-        GameFault::StartLength => line(9, "StartLength", None),
-        GameFault::Total => line(10, "Total", None),
-        GameFault::Limit => line(11, "Limit", None),
+        GameFault::StartLength => line(9, "StartLength", Place::Nowhere),
+        GameFault::Total => line(10, "Total", Place::Nowhere),
+        GameFault::Limit => line(11, "Limit", Place::Nowhere),
     }
 }
 
 fn file_line(fault: &FileFault) -> FaultLine {
     match fault {
         FileFault::Graph(fault) => graph_line(fault),
-        FileFault::Total => line(10, "Total", None),
-        FileFault::NotJson => line(20, "NotJson", None),
-        FileFault::Shape => line(21, "Shape", None),
-        FileFault::Version => line(22, "Version", None),
-        FileFault::Header => line(23, "Header", None),
-        FileFault::Row(row) => line(24, "Row", Some(*row)),
-        FileFault::Number(row) => line(25, "Number", Some(*row)),
-        FileFault::Vertex(row) => line(26, "Vertex", Some(*row)),
-        FileFault::Repeated(row) => line(27, "Repeated", Some(*row)),
-        FileFault::Read => line(29, "Read", None),
-        FileFault::TooLong => line(30, "TooLong", None),
-        FileFault::NoMemory => line(90, "NoMemory", None),
+        FileFault::Total => line(10, "Total", Place::Nowhere),
+        FileFault::NotJson => line(20, "NotJson", Place::Nowhere),
+        FileFault::Shape => line(21, "Shape", Place::Nowhere),
+        FileFault::Version => line(22, "Version", Place::Nowhere),
+        FileFault::Header => line(23, "Header", Place::Nowhere),
+        FileFault::Row(row) => line(24, "Row", Place::At(*row)),
+        FileFault::Number(row) => line(25, "Number", Place::At(*row)),
+        FileFault::Vertex(row) => line(26, "Vertex", Place::At(*row)),
+        FileFault::Repeated(row) => line(27, "Repeated", Place::At(*row)),
+        FileFault::Kind(row) => line(28, "Kind", Place::At(*row)),
+        FileFault::Read => line(29, "Read", Place::Nowhere),
+        FileFault::TooLong => line(30, "TooLong", Place::Nowhere),
+        FileFault::NoMemory => line(90, "NoMemory", Place::Nowhere),
     }
 }
 
@@ -144,10 +170,18 @@ impl Fault {
         match self {
             Fault::File(fault) => file_line(fault),
             Fault::Game(fault) => game_line(fault),
-            Fault::Write(fault) => line(93, "Write", Some(fault.written)),
-            Fault::Usage => line(91, "Usage", None),
-            Fault::Open(position) => line(92, "Open", Some(*position)),
-            Fault::NoMemory => line(90, "NoMemory", None),
+            Fault::Stuck { vertex, row } => line(
+                70,
+                "Stuck",
+                Place::AtRow {
+                    vertex: *vertex,
+                    row: *row,
+                },
+            ),
+            Fault::Write(fault) => line(93, "Write", Place::At(fault.written)),
+            Fault::Usage => line(91, "Usage", Place::Nowhere),
+            Fault::Open(position) => line(92, "Open", Place::At(*position)),
+            Fault::NoMemory => line(90, "NoMemory", Place::Nowhere),
         }
     }
 }
@@ -161,8 +195,9 @@ impl fmt::Display for Fault {
         } = self.line();
         write!(f, "fault {number} {name}")?;
         match place {
-            Some(place) => write!(f, " {place}"),
-            None => Ok(()),
+            Place::Nowhere => Ok(()),
+            Place::At(place) => write!(f, " {place}"),
+            Place::AtRow { vertex, row } => write!(f, " {vertex} {row}"),
         }
     }
 }

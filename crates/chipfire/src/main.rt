@@ -1,6 +1,6 @@
 //! chipfire: a chip-firing machine that is proved right.
 //!
-//! Each command is an engine over readers and a writer (`plain`, `check`), whose contract goes from the bytes that are
+//! Each command is an engine over readers and a writer (`plain`, `check`, `replay`), whose contract goes from the bytes that are
 //! read to the bytes that are written. This file reads the words, opens the files and calls the engine.
 #![tactic(auto)]
 
@@ -16,7 +16,9 @@ pub mod check;
 pub mod command;
 pub mod ended;
 pub mod fault;
+pub mod inputs;
 pub mod plain;
+pub mod replay;
 #[cfg(test)]
 mod tests;
 
@@ -64,6 +66,23 @@ fn run<R: Env + Files + Print + AllocGlobal>(rt: &R) -> Result<Ended, Fault> {
         } => {
             let (mut graph, mut chips) = (open(rt, graph)?, open(rt, chips)?);
             plain::plain_engine(alloc, &mut graph, &mut chips, limit, &mut output)
+        }
+        Request::Replay {
+            graph,
+            chips,
+            trace,
+            limit,
+        } => {
+            let (mut graph, mut chips) = (open(rt, graph)?, open(rt, chips)?);
+            let mut trace = open(rt, trace)?;
+            replay::replay_engine(
+                alloc,
+                &mut graph,
+                &mut chips,
+                &mut trace,
+                limit,
+                &mut output,
+            )
         }
     }
 }

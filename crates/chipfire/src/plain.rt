@@ -2,11 +2,11 @@
 
 ghost use Rattle.std.specs.Prelude.{◌≡◌, IfOk};
 ghost use Rattle.std.specs.Option.{ForSome};
-ghost use Rattle.chipfire.specs.PlainCommand.{GivesGame, Reports, PlainAnswers, plain_status};
+ghost use Rattle.chipfire.specs.PlainCommand.{Reports, PlainAnswers, plain_status};
 
 use crate::ended::{CLOSED, Ended, HALTED};
 use crate::fault::Fault;
-use chip_file::{read_chips, read_graph};
+use crate::inputs::read_game;
 use chip_fire::{Outcome, plain};
 use chip_graph::Game;
 use chip_report::report::{is_closed, report};
@@ -32,22 +32,6 @@ pub fn plain_engine<G: Read, C: Read, W: Write>(
     let (text, status) = played(alloc, &game)?;
     write_all_of(output, &text)?;
     Ok(Ended { status, cut: false })
-}
-
-/// The game that two files and a limit mean.
-fn read_game<G: Read, C: Read>(
-    alloc: Global,
-    graph: &mut G,
-    chips: &mut C,
-    limit: u64,
-) -> Result<Game, Fault>
-    ensures { ForSome (G.remaining graph.old)
-        (λ graph_text. ForSome (C.remaining chips.old)
-        (λ chips_text. GivesGame graph_text chips_text limit result)) }
-{
-    let graph = read_graph(alloc, graph)?;
-    let start = read_chips(alloc, chips, graph.vertices())?;
-    Ok(Game::new(graph, start, limit)?)
 }
 
 /// The report of a game played to its end, and the exit status.

@@ -4,9 +4,12 @@ use crate::check::check_engine;
 use crate::ended::Ended;
 use crate::fault::Fault;
 use crate::plain::plain_engine;
-use chip_file::FileFault;
+use crate::replay::replay_engine;
+use chip_file::{FileFault, read_graph, read_trace};
 use chip_graph::{GameFault, GraphFault};
+use chip_link::TraceRow;
 use chip_report::{WriteFault, write_all_of};
+use chip_trace::write_trace;
 use std::alloc::Global;
 use std::io;
 use std::io::Write;
@@ -143,6 +146,62 @@ fn refuses_inputs(rt: HostRuntime) {
     }
 }
 
+/// The rows of vertex 1 stand first, though it cannot begin.
+const RUN: &str = "vertex,kind,edge,count\n1,take,0,2\n1,fire,0,1\n0,take,4,4\n0,fire,0,2\n0,take,2,1\n2,take,1,2\n2,take,3,1\n";
+
+#[test]
+fn replays_the_triangle(rt: HostRuntime) {
+    let wrong = "vertex,kind,edge,count\n1,take,0,1\n1,fire,0,1\n0,take,4,4\n0,fire,0,2\n0,take,2,1\n2,take,1,2\n2,take,3,1\n";
+    for (trace, limit, wanted, lines) in [
+        (RUN, NO_LIMIT, closed(0), "fire 0 2\nfire 1 1\n"),
+        (RUN, 2, closed(0), "fire 0 2\nfire 1 1\n"),
+        (RUN, 1, Err(Fault::Stuck { vertex: 0, row: 1 }), ""),
+        (wrong, NO_LIMIT, Err(Fault::Stuck { vertex: 1, row: 0 }), ""),
+        ("", NO_LIMIT, Err(Fault::File(FileFault::Header)), ""),
+        (
+            "vertex,kind,edge,count\n0,taken,4,4\n",
+            NO_LIMIT,
+            Err(Fault::File(FileFault::Kind(0))),
+            "",
+        ),
+    ] {
+        let mut output = Vec::new(rt.alloc());
+        let ended = replay_engine(
+            rt.alloc(),
+            &mut TRIANGLE.as_bytes(),
+            &mut "vertex,chips\n0,4\n".as_bytes(),
+            &mut trace.as_bytes(),
+            limit,
+            &mut output,
+        );
+        assert_eq!(rt; ended, wanted);
+        assert_eq!(rt; output.as_slice(), lines.as_bytes());
+    }
+}
+
+#[test]
+fn reads_the_traces_that_were_written(rt: HostRuntime) -> Result<(), Fail> {
+    let alloc = rt.alloc();
+    let graph = read_graph(alloc, &mut TRIANGLE.as_bytes())?;
+    let first = [
+        TraceRow::Take { edge: 4, count: 4 },
+        TraceRow::Fire { k: 2 },
+        TraceRow::Take { edge: 2, count: 1 },
+    ];
+    let sink = [TraceRow::Take { edge: 1, count: 2 }];
+    let mut text = Vec::new(alloc);
+    write_trace(alloc, &[&first, &[], &sink], &mut text)?;
+    let read = read_trace(alloc, &mut text.as_slice(), &graph)?;
+    assert_eq!(rt; read.len(), 3);
+    for (trace, written) in read
+        .iter()
+        .zip([first.as_slice(), [].as_slice(), sink.as_slice()])
+    {
+        assert_eq!(rt; trace.as_slice(), written);
+    }
+    Ok(())
+}
+
 /// A writer that takes one byte at each write, and fails from some number of bytes on.
 #[derive(Drop)]
 struct Trickle {
@@ -197,6 +256,11 @@ fn prints_faults(rt: HostRuntime) -> Result<(), Fail> {
         (Fault::File(FileFault::Number(3)), "fault 25 Number 3"),
         (Fault::Game(GameFault::Limit), "fault 11 Limit"),
         (Fault::Write(WriteFault { written: 7 }), "fault 93 Write 7"),
+        (
+            Fault::Stuck { vertex: 1, row: 0 },
+            "fault 70 Stuck 1 0",
+        ),
+        (Fault::File(FileFault::Kind(2)), "fault 28 Kind 2"),
         (Fault::Usage, "fault 91 Usage"),
         (Fault::Open(2), "fault 92 Open 2"),
         (Fault::NoMemory, "fault 90 NoMemory"),

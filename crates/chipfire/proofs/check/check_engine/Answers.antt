@@ -1,7 +1,7 @@
 use Rattle.std.proofs.Common.{◌≡◌, List, ℕ, inl, inr, refl, Some, Ok, Err, sym, subst, ◌∙◌, ap, string_bytes}
 use Rattle.chip_file.specs.Answer.{Answers}
 use Rattle.chip_file.specs.GraphText.{MeansGraph, IsGraphTextFault}
-use Rattle.chipfire.specs.PlainCommand.{IsRefused}
+use Rattle.chipfire.specs.Inputs.{IsRefused}
 use Rattle.chipfire.specs.CheckCommand.{IsShown}
 use Rattle.chipfire.proofs.EngineLemmas.{at_some, refused_check, failed_check}
 use Rattle.chipfire.proofs.check.check_engine.Goals as goal

@@ -1,5 +1,6 @@
 use Rattle.std.proofs.Common.{◌≡◌, List, ℕ, inl, inr, refl, Some, Ok, Err, sym, subst, ◌∙◌, ap}
-use Rattle.chipfire.specs.PlainCommand.{RefusesInputs, Reports}
+use Rattle.chipfire.specs.Inputs.{RefusesInputs}
+use Rattle.chipfire.specs.PlainCommand.{Reports}
 use Rattle.chipfire.proofs.EngineLemmas.{refused_plain, failed_plain}
 use Rattle.chipfire.proofs.plain.plain_engine.Goals as goal
 

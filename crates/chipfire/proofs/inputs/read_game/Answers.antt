@@ -4,9 +4,9 @@ use Rattle.chip_graph.specs.ChipGame.{ChipGame}
 use Rattle.chip_file.specs.Answer.{Answers}
 use Rattle.chip_file.specs.GraphText.{MeansGraph, IsGraphTextFault}
 use Rattle.chip_file.specs.ChipsText.{chips_of_text, chips_text_fault}
-use Rattle.chipfire.specs.PlainCommand.{IsRefused, MeansGame}
+use Rattle.chipfire.specs.Inputs.{IsRefused, MeansGame}
 use Rattle.chipfire.proofs.EngineLemmas.{at_some, refused_game, means_game}
-use Rattle.chipfire.proofs.plain.read_game.Goals as goal
+use Rattle.chipfire.proofs.inputs.read_game.Goals as goal
 
 pub returns-in_err-graph : goal.returns-in_err-graph
 returns-in_err-graph g c = λ graph_text graph_is chips_text chips_is.

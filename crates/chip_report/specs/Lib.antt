@@ -1,2 +1,6 @@
+pub mod Laws
+pub mod OutcomeParts
+pub mod ReportJson
 pub mod ReportText
+pub mod Reportable
 pub mod Written

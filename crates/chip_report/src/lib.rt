@@ -1,9 +1,19 @@
-//! The report of an outcome, and exact writing.
+//! The report of an outcome, written and read, and exact writing.
 //!
-//! A report is one line of compact JSON (`specs/ReportText.antt`), made whole before anything of it is written.
+//! A report is one line of compact JSON (`specs/ReportText.antt`), made whole before anything of it is written. Only
+//! the report of an outcome that a game can have is read (`specs/Reportable.antt`).
 #![tactic(auto)]
 
+pub use fault::ReportFault;
+pub use read::read_report;
 pub use write::{WriteFault, write_all_of};
 
+pub mod fault;
+pub mod laws;
+mod parse;
+pub mod read;
 pub mod report;
+mod reportable;
+#[cfg(test)]
+mod tests;
 pub mod write;

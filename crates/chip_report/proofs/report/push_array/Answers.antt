@@ -1,4 +1,4 @@
-use Rattle.std.proofs.Common.{◌≡◌, ◌++◌, ◌+◌, List, ℕ, map, take, get_or, sym, ap, ◌∙◌, append_assoc, arith, string_bytes}
+use Rattle.std.proofs.Common.{◌++◌, List, ℕ, map, take, get_or, sym, ap, ◌∙◌, append_assoc, string_bytes}
 use Rattle.std.specs.List.{join_with_byte}
 use Rattle.std.specs.Fmt.{decimal}
 use Rattle.chip_report.specs.ReportText.{comma, member_text}

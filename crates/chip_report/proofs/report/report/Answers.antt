@@ -1,4 +1,3 @@
-use Rattle.std.proofs.Common.{◌≡◌, ◌++◌, List, ℕ, refl, sym, ap, ◌∙◌}
 use Rattle.chip_report.proofs.report.report.Goals as goal
 
 pub returns : goal.returns

@@ -1,4 +1,4 @@
-use Rattle.std.proofs.Common.{◌≡◌, ◌+◌, ◌-◌, ◌≤◌, length, take, drop, sym, ap, ◌∙◌, arith}
+use Rattle.std.proofs.Common.{◌+◌, ◌-◌, length, take, drop}
 use Rattle.chip_report.proofs.WrittenLemmas.{Appends-more, taken_on}
 use Rattle.chip_report.proofs.write.write_all_of.Goals as goal
 

@@ -1,0 +1,19 @@
+-- The parts of what a game's outcome is (`IsOutcome`), list by list.
+use Rattle.std.specs.Prelude.{◌≡◌, ℕ, ◌^◌, ◌<◌, ◌≤◌, List, length, All, Contains}
+use Rattle.std.specs.List.Sorted.{IsStrictlyIncreasing}
+
+-- one number in range for each of 1 to 4,096 vertices
+abbrev pub AreCounts : List ℕ → ℕ → Type 0
+AreCounts numbers vertices = (length numbers ≡ vertices) × (0 < vertices) × (vertices ≤ 4096) × All (λ n. n ≤ 2 ^ 40) numbers
+
+-- an ascending list of vertices
+abbrev pub AscendBelow : List ℕ → ℕ → Type 0
+AscendBelow list vertices = IsStrictlyIncreasing list × All (λ v. v < vertices) list
+
+-- no vertex in both lists
+abbrev pub AreApart : List ℕ → List ℕ → Type 0
+AreApart over sealed = (v : ℕ) → Contains over v → Contains sealed v → ⊥
+
+-- two such lists, with no vertex in both
+abbrev pub AreHalted : List ℕ → List ℕ → ℕ → Type 0
+AreHalted over sealed vertices = AscendBelow over vertices × AscendBelow sealed vertices × AreApart over sealed

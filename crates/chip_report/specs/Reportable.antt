@@ -1,0 +1,32 @@
+-- Which bytes are a report, and of which outcome.
+use Rattle.std.specs.Prelude.{◌≡◌, ◌⊎◌, ℕ, List, Result, Ok, Err}
+use Rattle.chip_fire.specs.declared.outcome.Outcome.{Outcome}
+use Rattle.chip_fire.specs.Outcomes.{IsOutcome}
+use Rattle.chip_report.specs.ReportText.{report_text}
+use Rattle.chip_report.specs.declared.fault.ReportFault.{ReportFault}
+use Rattle.chip_report.specs.declared.fault.ReportFault.TheVariants as fault
+
+-- the numbers of an outcome, without where they lie in memory
+pub record Told : Type 0 where
+  pub fired : List ℕ
+  pub chips : List ℕ
+  pub over : List ℕ
+  pub sealed : List ℕ
+
+-- what an outcome tells
+abbrev pub told : Outcome → Told
+told outcome = record { fired = outcome.fired.items; chips = outcome.chips.items; over = outcome.over.items; sealed = outcome.sealed.items }
+
+-- a report takes the outcome, and the bytes are its report
+pub record IsReportOf (bytes : List ℕ) (outcome : Outcome) : Type 0 where
+  pub reportable : IsOutcome outcome
+  pub spelled : bytes ≡ report_text outcome
+
+-- the bytes are the report of no outcome
+abbrev pub IsNoReport : List ℕ → Type 0
+IsNoReport bytes = (outcome : Outcome) → IsReportOf bytes outcome → ⊥
+
+-- a value that is right, or `NotReport` where there is none; memory may always run out
+abbrev pub Gives : {T : Type 0} → (T → Type 0) → Type 0 → Result T ReportFault → Type 0
+Gives IsRight HasNone (Ok value) = IsRight value
+Gives IsRight HasNone (Err f) = (f ≡ fault.NoMemory) ⊎ ((f ≡ fault.NotReport) × HasNone)

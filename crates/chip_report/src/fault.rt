@@ -1,0 +1,24 @@
+use std::alloc::AllocError;
+use thiserror::Error;
+
+/// Why bytes were not read as a report.
+#[derive(Clone, Copy, Debug, PartialEq, Eq, Error)]
+pub enum ReportFault {
+    /// The bytes are the report of no outcome.
+    #[error("the bytes are no report")]
+    NotReport,
+    /// Memory ran out.
+    #[error("out of memory")]
+    NoMemory,
+}
+
+impl From<AllocError> for ReportFault {
+    ghost use Rattle.std.specs.Prelude.{◌≡◌};
+    ghost use Rattle.chip_report.specs.declared.fault.ReportFault.TheVariants.{NoMemory};
+
+    ghost from_gives = { λ _ fault. fault ≡ NoMemory };
+
+    fn from(_error: AllocError) -> ReportFault {
+        ReportFault::NoMemory
+    }
+}

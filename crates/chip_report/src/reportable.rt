@@ -1,0 +1,75 @@
+//! Which outcomes a report takes.
+
+ghost use Rattle.std.specs.Prelude.{◌≡◌, ◌↔◌, true, Contains};
+ghost use Rattle.std.specs.List.Sorted.{IsStrictlyIncreasing};
+ghost use Rattle.chip_fire.specs.Outcomes.{IsOutcome};
+ghost use Rattle.chip_report.specs.OutcomeParts.{AreCounts, AscendBelow, AreApart, AreHalted};
+
+use chip_fire::Outcome;
+
+/// The most vertices of a graph.
+const MAX_VERTICES: usize = 4_096;
+/// The most chips of a game, and the most firings of a vertex.
+const MAX_NUMBER: u64 = 1 << 40;
+
+/// Whether the numbers are in range, and the halted vertices two ascending lists with none in both.
+pub(crate) fn is_outcome(outcome: &Outcome) -> bool
+    ensures { (result ≡ true) ↔ IsOutcome outcome.now }
+{
+    let vertices = outcome.fired.len();
+    are_counts(&outcome.fired, vertices)
+        && are_counts(&outcome.chips, vertices)
+        && are_halted(&outcome.over, &outcome.sealed, vertices as u64)
+}
+
+/// Whether the numbers are one for each vertex, in range.
+fn are_counts(numbers: &[u64], vertices: usize) -> bool
+    ensures { (result ≡ true) ↔ AreCounts numbers.now vertices }
+{
+    numbers.len() == vertices
+        && 0 < vertices
+        && vertices <= MAX_VERTICES
+        && numbers.iter().all(|number| *number <= MAX_NUMBER)
+}
+
+/// Whether the lists of halted vertices ascend, with none in both.
+fn are_halted(over: &[u64], sealed: &[u64], vertices: u64) -> bool
+    ensures { (result ≡ true) ↔ AreHalted over.now sealed.now vertices }
+{
+    ascend_below(over, vertices) && ascend_below(sealed, vertices) && are_apart(over, sealed)
+}
+
+/// Whether vertices ascend, below their number.
+fn ascend_below(list: &[u64], vertices: u64) -> bool
+    ensures { (result ≡ true) ↔ AscendBelow list.now vertices }
+{
+    ascend(list) && list.iter().all(|vertex| *vertex < vertices)
+}
+
+/// Whether each number is below the next.
+fn ascend(list: &[u64]) -> bool
+    ensures { (result ≡ true) ↔ IsStrictlyIncreasing list.now }
+{
+    list.is_sorted_by(|one, next| one < next)
+}
+
+/// Whether no vertex stands in both of two lists, of which the second ascends.
+fn are_apart(over: &[u64], sealed: &[u64]) -> bool
+    requires { IsStrictlyIncreasing sealed.now }
+    ensures { (result ≡ true) ↔ AreApart over.now sealed.now }
+{
+    for vertex in over {
+        if stands_in(sealed, *vertex) {
+            return false;
+        }
+    }
+    true
+}
+
+/// Whether a vertex stands in an ascending list.
+fn stands_in(list: &[u64], vertex: u64) -> bool
+    requires { IsStrictlyIncreasing list.now }
+    ensures { (result ≡ true) ↔ Contains list.now vertex }
+{
+    list.binary_search(&vertex).is_ok()
+}

@@ -1,0 +1,12 @@
+pub mod LogLemmas
+pub mod OrderLemmas
+pub mod PositionLemmas
+pub mod ReachingLemmas
+pub mod ReplyLemmas
+pub mod NumberLemmas
+pub mod ClosingLemmas
+pub mod ReadLemmas
+pub mod MessageLemmas
+pub mod HeadlineLemmas
+pub mod WorkedCloses
+pub mod WorkedOrder

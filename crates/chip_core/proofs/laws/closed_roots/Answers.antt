@@ -1,0 +1,9 @@
+use Rattle.chip_core.proofs.ClosingLemmas.{nothing_in_flight_law}
+use Rattle.chip_core.proofs.ReadLemmas.{reads_tell}
+use Rattle.chip_core.proofs.laws.closed_roots.Goals as goal
+
+pub returns-clause-in_flight : goal.returns-clause-in_flight
+returns-clause-in_flight c = nothing_in_flight_law
+
+pub returns-clause-reads : goal.returns-clause-reads
+returns-clause-reads c = reads_tell

@@ -1,0 +1,9 @@
+pub mod Core
+pub mod Messages
+pub mod Positions
+pub mod Detection
+pub mod Histories
+pub mod Replies
+pub mod Headline
+pub mod Laws
+pub mod Rows

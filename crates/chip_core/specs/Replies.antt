@@ -1,0 +1,38 @@
+-- The replies by which nothing was done, and the replies to lists of events that follow one another.
+use Rattle.std.specs.Prelude.{◌≡◌, ℕ, Bool, true, false, List, ◌++◌, length}
+use Rattle.chip_graph.specs.ChipGame.{ChipGame}
+use Rattle.chip_actor.specs.declared.reply.Reply.TheVariants.{Empty, Full, Sealed, NotNow}
+use Rattle.chip_core.specs.Core.{Log, Event, Reply, Part, part_in, step, replies_to, log_after}
+
+-- nothing was there to take, no cell was free, the edge was sealed, or a rule wasn't met
+abbrev pub is_idle : Reply → Bool
+is_idle Empty = true
+is_idle Full = true
+is_idle Sealed = true
+is_idle (NotNow rule) = true
+is_idle _ = false
+
+-- two parts that differ in their notes of a clear and of a refusal alone
+pub record DifferInNotes (s t : Part) : Type 0 where
+  pub chips : s.chips ≡ t.chips
+  pub fired : s.fired ≡ t.fired
+  pub halt : s.halt ≡ t.halt
+  pub parent : s.parent ≡ t.parent
+  pub put : (e : ℕ) → (s.out e).link.put ≡ (t.out e).link.put
+  pub held : (e : ℕ) → (s.out e).link.held ≡ (t.out e).link.held
+  pub pending : (e : ℕ) → (s.out e).pending ≡ (t.out e).pending
+  pub settled : (e : ℕ) → (s.out e).settled ≡ (t.out e).settled
+  pub got : (e : ℕ) → (s.into e).got ≡ (t.into e).got
+  pub acked : (e : ℕ) → (s.into e).acked ≡ (t.into e).acked
+  pub stop : (e : ℕ) → s.stop e ≡ t.stop e
+
+-- such a reply leaves all parts but for their notes, whatever was done before
+abbrev pub IdleStepsLeave : Type 0
+IdleStepsLeave = (g : ChipGame) (ring : ℕ) (log : Log) (x : Event) → is_idle (step g ring log x).1 ≡ true → (p : ℕ) → DifferInNotes (part_in g (step g ring log x).0 p) (part_in g log p)
+
+-- there is a reply to each event, and events that follow others are answered as a run after that of the others
+abbrev pub RunsGoOn : Type 0
+RunsGoOn = (g : ChipGame) (ring : ℕ) (log : Log) (xs ys : List Event) →
+    (length (replies_to g ring log xs) ≡ length xs)
+    × (replies_to g ring log (xs ++ ys) ≡ replies_to g ring log xs ++ replies_to g ring (log_after g ring log xs) ys)
+    × (log_after g ring log (xs ++ ys) ≡ log_after g ring (log_after g ring log xs) ys)

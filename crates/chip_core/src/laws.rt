@@ -1,0 +1,78 @@
+//! What holds of every game, every ring and every list of events, as the contracts of functions that do nothing.
+//!
+//! The core theorem stands last. What is before it speaks of the legal logs, which are those of the runs from the opening.
+
+ghost use Rattle.chip_core.specs.Rows.{ChipsOnTheSink, FullRing, SealedHalfWay, EngagingMessageLast, RingOfTwo, TwoEngaged, WholeSchedule, StoppedByLimit, StoppedBySeal};
+ghost use Rattle.chip_core.specs.Laws.{LegalLogsAreRuns, PartsByTheirOwnEvents, PartsAreKept, SeenFits, CountsOfEdges, ChipsOfEdges, NumbersAreSmall, CellsTell, WordsTell, SealsStand, SentStands, OpeningMessages, InOrderFromTheOpening, HeldFromTheOpening, NothingInFlight, ReadsTell};
+ghost use Rattle.chip_core.specs.Replies.{IdleStepsLeave, RunsGoOn};
+ghost use Rattle.chip_core.specs.Headline.{CoreTheorem};
+
+/// Small runs, as the definitions compute them.
+pub fn worked_runs()
+    ensures chips_on_the_sink { ChipsOnTheSink }
+    ensures full_ring { FullRing }
+    ensures sealed_half_way { SealedHalfWay }
+    ensures engaging_message_last { EngagingMessageLast }
+    ensures ring_of_two { RingOfTwo }
+    ensures two_engaged { TwoEngaged }
+{}
+
+/// Whole runs of a small game until the root closes, with no vertex halted, one halted by its limit, and one halted by a seal.
+pub fn worked_closes()
+    ensures none_halted { WholeSchedule }
+    ensures stopped_by_limit { StoppedByLimit }
+    ensures stopped_by_seal { StoppedBySeal }
+{}
+
+/// The legal logs are those that runs leave, and a part is what its own events make of it.
+pub fn logs()
+    ensures runs { LegalLogsAreRuns }
+    ensures own_events { PartsByTheirOwnEvents }
+{}
+
+/// What replies tell, and what a reply leaves by which nothing was done.
+pub fn replies()
+    ensures go_on { RunsGoOn }
+    ensures idle { IdleStepsLeave }
+{}
+
+/// What one part keeps in every legal log, also by what its events see of the others.
+pub fn parts()
+    ensures kept { PartsAreKept }
+    ensures seen { SeenFits }
+{}
+
+/// The counts and the chips of every edge, and how large they get.
+pub fn edges()
+    ensures counts { CountsOfEdges }
+    ensures chips { ChipsOfEdges }
+    ensures numbers { NumbersAreSmall }
+{}
+
+/// What the shared cells and words tell.
+pub fn words()
+    ensures cells { CellsTell }
+    ensures words { WordsTell }
+    ensures seals { SealsStand }
+{}
+
+/// The messages that replies tell of are those of the parts.
+pub fn messages()
+    ensures sent { SentStands }
+    ensures opening { OpeningMessages }
+    ensures in_order { InOrderFromTheOpening }
+    ensures held { HeldFromTheOpening }
+{}
+
+/// Where the root is closed.
+pub fn closed_roots()
+    ensures in_flight { NothingInFlight }
+    ensures reads { ReadsTell }
+{}
+
+/// For every list of actor steps, each edge has delivered a prefix of what was sent on it, each message once and in order, and nothing
+/// is sent after its seal; where the root closes, every edge has delivered everything and, unless a vertex halted, chips and firing
+/// counts are those of every one-thread legal firing that ends with no vertex legal.
+pub fn core_theorem()
+    ensures { CoreTheorem }
+{}

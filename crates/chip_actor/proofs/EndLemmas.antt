@@ -1,9 +1,9 @@
 -- The ends of a vertex's edges: what a search finds there, and what a write at the place that it found changes.
 use Rattle.std.proofs.lemmas.List.{take_more, take_more_set, drop-set-lt, map-append}
 use Rattle.std.proofs.Math.Seq.{drop-cons}
-use Rattle.std.proofs.Common.{◌≡◌, ℕ, suc, ◌+◌, ◌<◌, true, cond, eqb, List, [], ◌∷◌, ◌++◌, length, take, drop, map, get_or, set, Some, None, refl, sym, ap, ◌∙◌, arith}
+use Rattle.std.proofs.Common.{◌≡◌, ℕ, suc, ◌+◌, ◌<◌, ◌≤◌, subst, true, cond, eqb, List, [], ◌∷◌, ◌++◌, length, take, drop, map, get_or, set, Some, None, refl, sym, ap, ◌∙◌, arith}
 use mathlib.Core.Logic.{dite}
-use native.Mathlib.Decide.{ℕ_discrete}
+use native.Mathlib.Decide.{ℕ_discrete, dec_lt}
 use Rattle.chip_graph.proofs.SumLemmas.{cond_yes, cond_no}
 use Rattle.chip_detect.proofs.Lookups.{ascends}
 use Rattle.chip_link.specs.declared.message.Message.{Message}
@@ -75,3 +75,14 @@ module _ {T : Type 0} (f : T → T) (old xs : List T) (i : ℕ) (d : T) (lengths
     where
       tails : {x y : T} {us vs : List T} → x ∷ us ≡ y ∷ vs → us ≡ vs
       tails e = cc
+
+-- what holds up to an index, and at it, holds up to the next one
+pub from_more : (P : ℕ → Type 0) (from i : ℕ) → ((k : ℕ) → from ≤ k → k < i → P k) → P i → (k : ℕ) → from ≤ k → k < i + 1 → P k
+from_more P from i below here k le lt = dite (dec_lt k i) (λ l. below k le l) (λ n. subst P (let z : i ≡ k = omega arith in z) here)
+
+-- the edge at a place, by its number
+module _ (os now : OutEnds) (same : os ≡ now) (apart : AreApart os.edges os.ends) (place : ℕ) (within : place < length now.edges) (end : OutEnd) (was : end ≡ get_or os.ends place end) where
+  pub out_there : end ≡ out_on now (get_or now.edges place 0)
+  out_there =
+      let inside = subst (λ (o : OutEnds). place < length o.edges) (sym same) within in
+      found_out os apart place (get_or os.edges place 0) inside refl end was ∙ ap (λ (o : OutEnds). out_on o (get_or o.edges place 0)) same

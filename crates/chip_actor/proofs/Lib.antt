@@ -11,3 +11,8 @@ pub mod Making
 pub mod ActorOpening
 pub mod WorkedTurns
 pub mod TurnLemmas
+pub mod CursorLemmas
+pub mod TurnSteps
+pub mod TurnActor
+pub mod CompletingTurns
+pub mod AskLemmas

@@ -61,12 +61,12 @@ take_made a e seen is b m change message gets sound = λ g ring s stands can.
     let sent : Some m ≡ Some (message_of e (length (s.into e).got) seen)
     = message ∙ cond_no seen 0 None (Some (record { edge = (in_on a.ins e).edge; place = (in_on a.ins e).taken; count = seen })) some ∙ (λ j. Some (record { edge = (stands.ins e can.0 j).edge; place = (stands.ins e can.0 j).taken; count = seen })) in
     let is_message : m ≡ message_of e (length (s.into e).got) seen = cc in
-    (takes g ring s a stands e seen can.0 can.1 some fits.0 is change b gets sound, ap Got is_message ∙ sym (cond_no seen 0 Empty (Got (message_of e (length (s.into e).got) seen)) some))
+    (takes g ring s a stands e seen can.0 can.1 some fits.0 is change b gets sound, ap Got is_message ∙ sym (cond_no seen 0 Empty (Got (message_of e (length (s.into e).got) seen)) some), refl)
 
 pub take_empty : (a : Actor) (e seen : ℕ) (is : InEnds) → ChangesIn a.ins is e (head_after_take seen) → None ≡ message_taken seen (in_on a.ins e) → Makes a (record a { ins = is }) (Take e) seen Empty
 take_empty a e seen is change message = λ g ring s stands can.
     let none : seen ≡ 0 = dite (ℕ_discrete seen 0) (λ z. z) (λ n. absurd (differ (message ∙ cond_no seen 0 None (Some (record { edge = (in_on a.ins e).edge; place = (in_on a.ins e).taken; count = seen })) n))) in
-    (takes_none g ring s a stands e seen none is change, sym (cond_yes seen 0 Empty (Got (message_of e (length (s.into e).got) seen)) none))
+    (takes_none g ring s a stands e seen none is change, sym (cond_yes seen 0 Empty (Got (message_of e (length (s.into e).got) seen)) none), refl)
   where
     differ : {m : Message} → None ≡ Some m → ⊥
     differ q = cc
@@ -85,7 +85,7 @@ may_settle a e seen (g, ring, s, stands, can) =
 
 pub settle_made : (a : Actor) (e seen more : ℕ) (b : Books) → more ≡ seen - settled_of a.detect e → Settles a.detect b e more → IsSound b → Makes a (record a { detect = b }) (Settle e) seen (Done more)
 settle_made a e seen more b is change sound = λ g ring s stands can.
-    (settles g ring s a stands e seen can.0 can.1 b (subst (λ (n : ℕ). Settles a.detect b e n) is change) sound, ap Done (is ∙ ap (λ (n : ℕ). seen - n) (stands.books.settled e can.0)))
+    (settles g ring s a stands e seen can.0 can.1 b (subst (λ (n : ℕ). Settles a.detect b e n) is change) sound, ap Done (is ∙ ap (λ (n : ℕ). seen - n) (stands.books.settled e can.0)), refl)
 
 -- ---- an acknowledgement
 
@@ -105,13 +105,13 @@ pub ack_made : (a : Actor) (e seen count : ℕ) (b : Books) → count ≡ detect
 ack_made a e seen count b is change sound = λ g ring s stands can.
     let all = is ∙ may_ack_is g ring s a stands e can.0 in
     let within : count ≤ books.owed a.detect e = (let w = within_owed e a.detect.parent (books.owed a.detect e) (books.all_owed a.detect) (books.deficit a.detect) (is_passive_now a) in omega arith) in
-    (acknowledges g ring s a stands e count can.0 can.1 all b change sound (parent_goes_with_all a.detect b e count stands.books.sound within change) seen, ap Done all)
+    (acknowledges g ring s a stands e count can.0 can.1 all b change sound (parent_goes_with_all a.detect b e count stands.books.sound within change) seen, ap Done all, refl)
 
 -- ---- a halt
 
 pub halt_made : (a : Actor) (seen : ℕ) (halt : Option Cause) (n : ℕ) → WhateverPart a (λ g ring s. halt ≡ cause g a.vertex s) → n ≡ (if eqb a.refused 0 then 1 else 0) → Makes a (record a { halt = halt }) (Halt a.vertex) seen (Done n)
 halt_made a seen halt n is reply = λ g ring s stands can.
-    (halts g ring s a stands a.vertex seen refl can.1 halt (is g ring s stands), ap Done (reply ∙ ap (λ (r : ℕ). if eqb r 0 then 1 else 0) stands.refused))
+    (halts g ring s a stands a.vertex seen refl can.1 halt (is g ring s stands), ap Done (reply ∙ ap (λ (r : ℕ). if eqb r 0 then 1 else 0) stands.refused), refl)
 
 -- ---- a look at a cell
 
@@ -126,7 +126,7 @@ pub clear_made : (a : Actor) (e seen : ℕ) (os : OutEnds) (words : Option (ℕ 
 clear_made a e seen os words is change = λ g ring s stands can.
     let link : Tail = (s.out e).link in
     let looked = is ∙ (λ j. claim_words (tail_after_clear seen (stands.outs e can.0 j).link)) ∙ ap claim_words (Rattle.chip_link.proofs.States.tail_clears e ring link seen (may_look g ring s a stands e can.0 can.1)) in
-    (clears g ring s a stands e seen can.0 can.1 os change, ap clear_reply looked ∙ by_cell (eqb seen 0) (claims_of link))
+    (clears g ring s a stands e seen can.0 can.1 os change, ap clear_reply looked ∙ by_cell (eqb seen 0) (claims_of link), refl)
   where
     by_cell : (b : Bool) (n : ℕ) → clear_reply (cond b (Some (n, n + 1)) None) ≡ cond b (Done n) Full
     by_cell true n = refl
@@ -205,6 +205,7 @@ claim_made a e seen os b m change message sends sound = λ g ring s stands can.
       subst (λ (k : ℕ). StandsFor g ring (does g (record { event = Claim e; seen = seen }) s) (record a { outs = os; detect = b; pending = a.pending - k; unput = a.unput + 1 })) (sym (ap (λ (x : Message). x.count) is_message))
           (claims g ring s a stands e seen can.0 can.1 hit os change b sends sound),
       ap Sent is_message ∙ sym (cond_yes seen n (Sent (message_of e n (s.out e).pending)) Sealed hit),
+      refl,
     )
   where
     differ : Some m ≡ None → ⊥
@@ -215,7 +216,7 @@ claim_sealed a e seen os change message = λ g ring s stands can.
     let n : ℕ = claims_of (s.out e).link in
     let sent = message ∙ (λ j. message_claimed seen (stands.outs e can.0 j).pending (stands.outs e can.0 j).link) in
     let miss : seen ≢ n = (λ z. differ (sent ∙ cond_yes seen n (Some (message_of e n (s.out e).pending)) None z)) in
-    (is_refused g ring s a stands e seen can.0 can.1 miss os change, sym (cond_no seen n (Sent (message_of e n (s.out e).pending)) Sealed miss))
+    (is_refused g ring s a stands e seen can.0 can.1 miss os change, sym (cond_no seen n (Sent (message_of e n (s.out e).pending)) Sealed miss), refl)
   where
     differ : {m : Message} → None ≡ Some m → ⊥
     differ q = cc
@@ -242,7 +243,7 @@ put_made a e seen os held is change = λ g ring s stands can.
     let was : Some held ≡ Some (cell, count) = sym is ∙ ap (λ (o : OutEnd). o.held) (stands.outs e can.0) ∙ (λ j. Rattle.std.proofs.Common.option_map (λ (c : ℕ). (cell, c)) (met.1.1 j)) in
     let same : held ≡ (cell, count) = cc in
     let total : count ≡ sum (option_to_list (s.out e).link.held) = (let t : sum (option_to_list (s.out e).link.held) ≡ count + 0 = ap (λ (h : Option ℕ). sum (option_to_list h)) met.1.1 ∙ sum_one count in omega arith) in
-    (puts g ring s a stands e seen can.0 can.1 os change, ap (λ (h : ℕ × ℕ). Done h.1) same ∙ ap Done total)
+    (puts g ring s a stands e seen can.0 can.1 os change, ap (λ (h : ℕ × ℕ). Done h.1) same ∙ ap Done total, refl)
   where
     sum_one : (n : ℕ) → sum (n ∷ []) ≡ n + 0
     sum_one n = omega arith
@@ -264,7 +265,7 @@ fire_fits a k seen (g, ring, s, stands, can) e among =
     omega arith
 
 pub fire_made : (a : Actor) (k seen : ℕ) (os : OutEnds) → ChangesOuts a.outs os (out_after_fire k) → Makes a (record a { chips = a.chips - k * a.degree; fired = a.fired + k; outs = os; pending = k * a.degree }) (Fire a.vertex k) seen (Done (a.fired + k))
-fire_made a k seen os change = λ g ring s stands can. (fires g ring s a stands a.vertex k seen refl can.1 os change, ap (λ (n : ℕ). Done (n + k)) stands.fired)
+fire_made a k seen os change = λ g ring s stands can. (fires g ring s a stands a.vertex k seen refl can.1 os change, ap (λ (n : ℕ). Done (n + k)) stands.fired, refl)
 
 -- the message that a claim sent carries what was pending
 pub message_count : (word n : ℕ) (t : TailState) (m : Message) → Some m ≡ message_claimed word n t → m.count ≡ n

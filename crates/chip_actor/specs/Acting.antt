@@ -60,7 +60,7 @@ CanDo g s v x seen = (part_of g x ≡ v) × (unmet g x s ≡ None) × FitsSeen s
 abbrev pub IsDue : ChipGame → ℕ → Part → ℕ → Observed → Type 0
 IsDue g ring s v o = CanDo g s v (event_of v o.act) o.seen × (o.act ≡ act_of g ring (event_of v o.act) s)
 
--- the actor made this event and answered this: whatever part it stood for, it stands for that part after the event
+-- the actor made this event and answered this: whatever part it stood for, it stands for that part after the event, at the same vertex
 abbrev pub Makes : Actor → Actor → Event → ℕ → Reply → Type 0
 Makes old new x seen reply =
-    WhateverPart old (λ g ring s. CanDo g s old.vertex x seen → StandsFor g ring (does g (record { event = x; seen = seen }) s) new × (reply ≡ reply_of g x seen s))
+    WhateverPart old (λ g ring s. CanDo g s old.vertex x seen → StandsFor g ring (does g (record { event = x; seen = seen }) s) new × (reply ≡ reply_of g x seen s) × (new.vertex ≡ old.vertex))

@@ -8,6 +8,8 @@ pub mod Ends
 pub mod Actor
 pub mod Acting
 pub mod Turn
+pub mod Cursor
 pub mod Counting
 pub mod Rows
+pub mod Asking
 pub mod Laws

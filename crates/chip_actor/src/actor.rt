@@ -12,6 +12,8 @@ use chip_link::Event;
 use std::alloc::{AllocError, Global};
 use std::marker::Model;
 
+mod turn;
+
 /// The state of one vertex of a running machine.
 ///
 /// Contracts see it as plain data (`specs/Actor.antt`) and say what it does to the part of the core that it stands for.

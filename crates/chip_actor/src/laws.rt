@@ -2,6 +2,7 @@
 
 ghost use Rattle.chip_actor.specs.Rows.{SentWithFullRing, SealedHalfWay, EngagingMessageLast, FirstTurn, TurnBegunInTheMiddle};
 ghost use Rattle.chip_actor.specs.Laws.{RulesMean, OpeningKeeps, EventsKeep, SumsAddRootEdges, TurnIsBounded};
+ghost use Rattle.chip_actor.specs.Cursor.{UnderWayIsBounded};
 
 /// Small runs of one vertex, as the definitions compute them.
 pub fn worked_rows()
@@ -28,7 +29,8 @@ pub fn worked_turns()
     ensures in_the_middle { TurnBegunInTheMiddle }
 {}
 
-/// How long a turn is at most, wherever it begins.
+/// How long a turn is at most, wherever it begins, and how long it is while it is under way.
 pub fn turns()
     ensures bounded { TurnIsBounded }
+    ensures under_way { UnderWayIsBounded }
 {}

@@ -1,4 +1,4 @@
-ghost use Rattle.std.specs.Prelude.{◌≡◌, ℕ, ◌*◌, ◌^◌, ◌<◌, ◌≤◌, length, map, IfOk, Contains, IsTrue, Option, slice_index_or};
+ghost use Rattle.std.specs.Prelude.{◌≡◌, ℕ, ◌*◌, ◌^◌, ◌<◌, ◌≤◌, length, map, IfOk, Contains, IsTrue, Option, slice_index, slice_index_or, not, is_some, ◌==◌};
 
 use crate::place::place_of;
 use chip_graph::Graph;
@@ -39,6 +39,7 @@ impl Model for Outs {
 
 impl Outs {
     ghost use Rattle.chip_link.specs.Words.{claims_in};
+    ghost use Rattle.chip_actor.specs.Cursor.{IsFirstFrom};
     ghost use Rattle.chip_link.specs.Ends.{put_of, message_claimed, may_clear, claim_words, tail_after_clear};
     ghost use Rattle.chip_actor.specs.Ends.{OutEnds, OutEnd, out_on, ChangesOut, ChangesOuts, IsFreshOuts, out_after_clear, out_after_claim, out_after_put, out_after_fire};
 
@@ -48,6 +49,45 @@ impl Outs {
         ensures { result.now ≡ out_on self.now edge }
     {
         &self.ends[place_of(&self.edges, edge)]
+    }
+
+    /// The numbers of the edges.
+    pub(crate) fn edges(&self) -> &[u64]
+        ensures { result.now ≡ self.now.edges }
+    {
+        &self.edges
+    }
+
+    /// What is known of the edge at a place.
+    pub(crate) fn at(&self, place: usize) -> &OutEnd
+        requires { place < length self.now.edges }
+        ensures { result.now ≡ out_on self.now (slice_index self.now.edges place) }
+    {
+        &self.ends[place]
+    }
+
+    /// The first place from this one on with an edge on which a message is claimed and not put.
+    pub(crate) fn next_held(&self, place: usize) -> Option<usize>
+        ensures { IsFirstFrom (λ e. is_some (out_on self.now e).held) self.now.edges place result }
+    {
+        for next in place..self.ends.len() {
+            if self.ends[next].held.is_some() {
+                return Some(next);
+            }
+        }
+        None
+    }
+
+    /// The first place from this one on with an edge on which something is pending.
+    pub(crate) fn next_pending(&self, place: usize) -> Option<usize>
+        ensures { IsFirstFrom (λ e. not ((out_on self.now e).pending == 0)) self.now.edges place result }
+    {
+        for next in place..self.ends.len() {
+            if self.ends[next].pending != 0 {
+                return Some(next);
+            }
+        }
+        None
     }
 
     /// Notes what a look at the edge's cell found, and gives the words of a claim that may follow, the first of which is its place.

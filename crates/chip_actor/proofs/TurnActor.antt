@@ -1,0 +1,65 @@
+-- What an actor finds in its own lists is what its part says.
+use Rattle.std.proofs.Common.{◌≡◌, ℕ, ◌<◌, Bool, true, false, not, cond, eqb, List, length, slice_index, Option, Some, None, is_some, option_map, refl, sym, ap, ◌∙◌, subst, arith}
+use Rattle.chip_graph.specs.ChipGame.{ChipGame}
+use Rattle.chip_link.specs.Ends.{claim_words}
+use Rattle.chip_detect.specs.Acknowledging as detector
+use Rattle.chip_actor.specs.Edges.{tail_of, head_of}
+use Rattle.chip_actor.specs.Part.{Part, may_ack}
+use Rattle.chip_actor.specs.Ends.{OutEnd, out_on}
+use Rattle.chip_actor.specs.Actor.{Actor, StandsFor, is_passive_now, out_end}
+use Rattle.chip_actor.specs.Turn.{ins_of, outs_of}
+use Rattle.chip_actor.specs.Cursor.{IsFirstFrom, out_at}
+use Rattle.chip_actor.proofs.Standing.{may_ack_is}
+use Rattle.chip_actor.proofs.TurnSteps.{in_enters, out_leaves}
+
+-- by an equal test the first place is the same
+first_same : (t u : ℕ → Bool) (xs : List ℕ) → ((k : ℕ) → k < length xs → t (slice_index xs k) ≡ u (slice_index xs k)) → (from : ℕ) (r : Option ℕ) → IsFirstFrom t xs from r → IsFirstFrom u xs from r
+first_same t u xs same from None none = λ k le lt. sym (same k lt) ∙ none k le lt
+first_same t u xs same from (Some i) (le, lt, passes, none) = (le, lt, sym (same i lt) ∙ passes, λ k a b. sym (same k (omega arith)) ∙ none k a b)
+
+is_some_map : (o : Option ℕ) (f : ℕ → ℕ × ℕ) → is_some (option_map f o) ≡ is_some o
+is_some_map None f = refl
+is_some_map (Some x) f = refl
+
+is_some_where : (b : Bool) (x : ℕ × ℕ) → is_some (cond b (Some x) None) ≡ b
+is_some_where true x = refl
+is_some_where false x = refl
+
+module _ (g : ChipGame) (ring : ℕ) (s : Part) (a : Actor) (stands : StandsFor g ring s a) where
+  pub held_is : (e : ℕ) → tail_of g e ≡ a.vertex → is_some (out_on a.outs e).held ≡ is_some (s.out e).link.held
+  held_is e at = ap (λ (o : OutEnd). is_some o.held) (stands.outs e at) ∙ is_some_map (s.out e).link.held _
+
+  pub pending_is : (e : ℕ) → tail_of g e ≡ a.vertex → (out_on a.outs e).pending ≡ (s.out e).pending
+  pending_is e at = ap (λ (o : OutEnd). o.pending) (stands.outs e at)
+
+  -- the edge at a place of those out of it
+  pub out_at_place : (b : Actor) → b ≡ a → (place : ℕ) → place < length (outs_of g a.vertex)
+      → out_on b.outs (slice_index b.outs.edges place) ≡ out_end g ring (out_at g a.vertex place) (s.out (out_at g a.vertex place))
+  out_at_place b same place within =
+      ap (λ (x : Actor). out_on x.outs (slice_index x.outs.edges place)) same ∙ ap (λ (xs : List ℕ). out_on a.outs (slice_index xs place)) stands.knows.outs
+      ∙ stands.outs (out_at g a.vertex place) (out_leaves g a.vertex place within)
+
+  pub held_at_place : (b : Actor) → b ≡ a → (place : ℕ) → place < length (outs_of g a.vertex) → is_some (out_on b.outs (slice_index b.outs.edges place)).held ≡ is_some (s.out (out_at g a.vertex place)).link.held
+  held_at_place b same place within = ap (λ (o : OutEnd). is_some o.held) (out_at_place b same place within) ∙ is_some_map (s.out (out_at g a.vertex place)).link.held _
+
+  pub clear_at_place : (b : Actor) → b ≡ a → (place : ℕ) → place < length (outs_of g a.vertex)
+      → is_some (claim_words (out_on b.outs (slice_index b.outs.edges place)).link) ≡ (s.out (out_at g a.vertex place)).link.clear
+  clear_at_place b same place within = ap (λ (o : OutEnd). is_some (claim_words o.link)) (out_at_place b same place within) ∙ is_some_where (s.out (out_at g a.vertex place)).link.clear _
+
+  pub first_held : (b : Actor) → b ≡ a → (from : ℕ) (r : Option ℕ) → IsFirstFrom (λ e. is_some (out_on b.outs e).held) b.outs.edges from r → IsFirstFrom (λ e. is_some (s.out e).link.held) (outs_of g a.vertex) from r
+  first_held b same from r found =
+      let first = subst (λ (x : Actor). IsFirstFrom (λ e. is_some (out_on x.outs e).held) x.outs.edges from r) same found in
+      first_same (λ e. is_some (out_on a.outs e).held) (λ e. is_some (s.out e).link.held) (outs_of g a.vertex) (λ k l. held_is _ (out_leaves g a.vertex k l)) from r
+      (subst (λ (xs : List ℕ). IsFirstFrom (λ e. is_some (out_on a.outs e).held) xs from r) stands.knows.outs first)
+
+  pub first_pending : (b : Actor) → b ≡ a → (from : ℕ) (r : Option ℕ) → IsFirstFrom (λ e. not (eqb (out_on b.outs e).pending 0)) b.outs.edges from r → IsFirstFrom (λ e. not (eqb (s.out e).pending 0)) (outs_of g a.vertex) from r
+  first_pending b same from r found =
+      let first = subst (λ (x : Actor). IsFirstFrom (λ e. not (eqb (out_on x.outs e).pending 0)) x.outs.edges from r) same found in
+      first_same (λ e. not (eqb (out_on a.outs e).pending 0)) (λ e. not (eqb (s.out e).pending 0)) (outs_of g a.vertex) (λ k l. ap (λ (n : ℕ). not (eqb n 0)) (pending_is _ (out_leaves g a.vertex k l))) from r
+      (subst (λ (xs : List ℕ). IsFirstFrom (λ e. not (eqb (out_on a.outs e).pending 0)) xs from r) stands.knows.outs first)
+
+  pub first_owed : (from : ℕ) (r : Option ℕ) → IsFirstFrom (λ e. not (eqb (detector.may_ack a.detect e (is_passive_now a)) 0)) a.ins.edges from r → IsFirstFrom (λ e. not (eqb (may_ack g (head_of g e) s e) 0)) (ins_of g a.vertex) from r
+  first_owed from r first =
+      first_same (λ e. not (eqb (detector.may_ack a.detect e (is_passive_now a)) 0)) (λ e. not (eqb (may_ack g (head_of g e) s e) 0)) (ins_of g a.vertex)
+      (λ k l. ap (λ (n : ℕ). not (eqb n 0)) (may_ack_is g ring s a stands _ (in_enters g a.vertex k l))) from r
+      (subst (λ (xs : List ℕ). IsFirstFrom (λ e. not (eqb (detector.may_ack a.detect e (is_passive_now a)) 0)) xs from r) stands.knows.ins first)

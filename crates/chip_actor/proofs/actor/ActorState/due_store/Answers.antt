@@ -1,0 +1,24 @@
+use Rattle.std.proofs.Common.{◌∙◌, ℕ, ◌+◌, List, is_some, sym, ap, subst, get_or}
+use Rattle.chip_actor.specs.declared.cursor.Cursor.TheVariants as At
+use Rattle.chip_actor.specs.Rules.{Put, Halt}
+use Rattle.chip_actor.specs.Actor.{Actor}
+use Rattle.chip_actor.specs.Ends.{OutEnd}
+use Rattle.chip_actor.specs.Cursor.{GoesBy}
+use Rattle.chip_actor.proofs.TurnSteps.{store_due, stop_due}
+use Rattle.chip_actor.proofs.TurnActor.{held_at_place}
+use Rattle.chip_actor.proofs.actor.ActorState.due_store.Goals as goal
+
+pub returns-then-is_some : goal.returns-then-is_some
+returns-then-is_some c = λ g ring s stands at.
+    let v : ℕ = c.args.self.now.vertex in
+    let n : ℕ = c.args.place in
+    let edges = c.edges.ensures ∙ ap (λ (a : Actor). a.outs.edges) c.self.view_is ∙ stands.knows.outs in
+    let held = sym (held_at_place g ring s c.args.self.now stands _ c.self.view_is n at.0) ∙ sym (ap (λ (o : OutEnd). is_some o.held) c.at.ensures) ∙ sym c.is_some.ensures ∙ c.if-is_some.true in
+    subst (λ (xs : List ℕ). GoesBy g v s (At.Store n) (Put (get_or xs n 0)) (At.Send (n + 1))) (sym edges) (store_due g v stands.knows.vertex s n at held)
+
+pub returns : goal.returns
+returns c = λ g ring s stands at.
+    let v : ℕ = c.args.self.now.vertex in
+    let n : ℕ = c.args.place in
+    let none = sym (held_at_place g ring s c.args.self.now stands _ c.self.view_is n at.0) ∙ sym (ap (λ (o : OutEnd). is_some o.held) c.at.ensures) ∙ sym c.is_some.ensures ∙ c.if-is_some.false in
+    subst (λ (a : Actor). GoesBy g v s (At.Store n) (Halt a.vertex) At.Limit) (sym c.self.view_is) (stop_due g v stands.knows.vertex s stands.knows.game n at none)

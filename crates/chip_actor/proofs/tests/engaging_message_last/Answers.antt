@@ -1,0 +1,21 @@
+use Rattle.std.proofs.Common.{◌≡◌, ◌∙◌, ℕ, List, [], ◌∷◌, true, refl}
+use Rattle.chip_actor.specs.declared.act.Act.{Act}
+use Rattle.chip_actor.specs.declared.reply.Reply.TheVariants.{Empty}
+use Rattle.chip_actor.specs.Part.{opened}
+use Rattle.chip_actor.specs.Rules.{Event, Take, Ack}
+use Rattle.chip_actor.specs.Steps.{Reply}
+use Rattle.chip_actor.specs.Asking.{game_on, may_play}
+use Rattle.chip_actor.proofs.tests.engaging_message_last.Goals as goal
+
+-- the script, whose replies don't matter here
+abbrev questions : List (Event × ℕ × Reply)
+questions = (Take 0, 1, Empty) ∷ (Take 1, 1, Empty) ∷ (Ack 0, 0, Empty) ∷ (Ack 1, 0, Empty) ∷ (Ack 0, 0, Empty) ∷ []
+
+abbrev turn : List (Act × ℕ)
+turn = []
+
+plays : may_play (game_on 2 ((0, 1) ∷ (0, 1) ∷ []) (2 ∷ 0 ∷ [])) 1 (opened (game_on 2 ((0, 1) ∷ (0, 1) ∷ []) (2 ∷ 0 ∷ []))) questions turn ≡ true
+plays = refl
+
+pub play-requires : goal.play-requires
+play-requires g c = (c.in_ok-game.game, 1, opened c.in_ok-game.game, c.in_ok-actor.ensures.opened, (λ j. may_play (c.in_ok-game.ensures j) (c.in_ok-actor.ensures.vertex j) (opened (c.in_ok-game.ensures j)) questions turn) ∙ plays)

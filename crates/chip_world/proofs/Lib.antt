@@ -1,0 +1,14 @@
+pub mod WordLemmas
+pub mod VertexLemmas
+pub mod SameVertex
+pub mod StepLemmas
+pub mod CountedLemmas
+pub mod OpeningLemmas
+pub mod FlightLemmas
+pub mod HandLemmas
+pub mod RunLemmas
+pub mod OutcomeLemmas
+pub mod WorkedOutcomes
+pub mod DriveLemmas
+pub mod DeterminedLemmas
+pub mod WorkedDrives

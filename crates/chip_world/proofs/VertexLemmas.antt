@@ -1,0 +1,72 @@
+-- The vertex that makes an event.
+use Rattle.std.proofs.Common.{◌≡◌, ℕ, ◌<◌, Bool, true, false, cond, ltb, Option, Some, None, refl, sym, ◌∙◌, subst, true≢false}
+use Rattle.std.proofs.lemmas.Bool.{ltb-true}
+use Rattle.chip_graph.specs.ChipGame.{ChipGame, IsGame}
+use Rattle.chip_graph.proofs.SumLemmas.{by_test, cond_false}
+use Rattle.chip_actor.specs.Rules.{need}
+use Rattle.chip_actor.specs.declared.rule.Rule.{Rule}
+use Rattle.chip_actor.specs.declared.rule.Rule.TheVariants.{NoSuch}
+use Rattle.chip_core.specs.Core.{Event, Take, Ack, Fire, Clear, Claim, Put, Halt, Settle, Seal, Read, Part, unmet, part_of, tail_of, head_of, all_edges, graph_edges}
+use Rattle.chip_core.proofs.LogLemmas.{head_inside, tail_inside}
+use Rattle.chip_world.specs.Makers.{head_if, tail_if, vertex_if, vertex_of, is_of_others}
+
+-- a value that is given only where a test passes
+given : (b : Bool) (n v : ℕ) → cond b (Some n) None ≡ Some v → (b ≡ true) × (n ≡ v)
+given true n v is = (refl, cc)
+given false n v is = absurd (cc)
+
+withheld : (b : Bool) (n : ℕ) → cond b (Some n) None ≡ None → b ≡ false
+withheld true n is = absurd (cc)
+withheld false n is = refl
+
+pub refused : (b : Bool) (rule : Rule) (rest : Option Rule) → b ≡ false → need b rule rest ≡ Some rule
+refused true rule rest is = absurd (true≢false is)
+refused false rule rest is = refl
+
+pub passes : (b : Bool) (rule : Rule) (rest : Option Rule) → b ≡ true → need b rule rest ≡ rest
+passes true rule rest is = refl
+passes false rule rest is = absurd (true≢false (sym is))
+
+module _ (g : ChipGame) where
+  IsMaker : Event → ℕ → Type 0
+  IsMaker x v = (part_of g x ≡ v) × (v < g.graph.vertices)
+
+  module _ (game : IsGame g) where
+    by_head : (e v : ℕ) → head_if g e ≡ Some v → (head_of g e ≡ v) × (v < g.graph.vertices)
+    by_head e v is = let at = given (ltb e (all_edges g)) (head_of g e) v is in (at.1, subst (λ (n : ℕ). n < g.graph.vertices) at.1 (head_inside g game e (ltb-true e (all_edges g) at.0)))
+
+    by_tail : (e v : ℕ) → tail_if g e ≡ Some v → (tail_of g e ≡ v) × (v < g.graph.vertices)
+    by_tail e v is = let at = given (ltb e (graph_edges g)) (tail_of g e) v is in (at.1, subst (λ (n : ℕ). n < g.graph.vertices) at.1 (tail_inside g game e (ltb-true e (graph_edges g) at.0)))
+
+    by_vertex : (u v : ℕ) → vertex_if g u ≡ Some v → (u ≡ v) × (v < g.graph.vertices)
+    by_vertex u v is = let at = given (ltb u g.graph.vertices) u v is in (at.1, subst (λ (n : ℕ). n < g.graph.vertices) at.1 (ltb-true u g.graph.vertices at.0))
+
+    -- the vertex that was found makes the event
+    pub found : (x : Event) (v : ℕ) → vertex_of g x ≡ Some v → (part_of g x ≡ v) × (v < g.graph.vertices)
+    found (Take e) v is = by_head e v is
+    found (Ack e) v is = by_head e v is
+    found (Fire u k) v is = by_vertex u v is
+    found (Clear e) v is = by_tail e v is
+    found (Claim e) v is = by_tail e v is
+    found (Put e) v is = by_tail e v is
+    found (Halt u) v is = by_vertex u v is
+    found (Settle e) v is = by_tail e v is
+    found (Seal e) v is = absurd (cc)
+    found (Read u) v is = absurd (cc)
+
+  -- the settle of an edge of the graph is its tail's
+  pub settles_graph_edge : (e : ℕ) → is_of_others g (Settle e) ≡ false → ltb e (graph_edges g) ≡ true
+  settles_graph_edge e is = by_test (ltb e (graph_edges g)) (λ yes. yes) (λ no. absurd (true≢false (sym (cond_false (ltb e (graph_edges g)) false true no) ∙ is)))
+
+  -- where none was found the event names no edge and no vertex
+  pub missing : (x : Event) (s : Part) → is_of_others g x ≡ false → vertex_of g x ≡ None → unmet g x s ≡ Some NoSuch
+  missing (Take e) s mine is = refused _ NoSuch _ (withheld (ltb e (all_edges g)) (head_of g e) is)
+  missing (Ack e) s mine is = refused _ NoSuch _ (withheld (ltb e (all_edges g)) (head_of g e) is)
+  missing (Fire u k) s mine is = refused _ NoSuch _ (withheld (ltb u g.graph.vertices) u is)
+  missing (Clear e) s mine is = refused _ NoSuch _ (withheld (ltb e (graph_edges g)) (tail_of g e) is)
+  missing (Claim e) s mine is = refused _ NoSuch _ (withheld (ltb e (graph_edges g)) (tail_of g e) is)
+  missing (Put e) s mine is = refused _ NoSuch _ (withheld (ltb e (graph_edges g)) (tail_of g e) is)
+  missing (Halt u) s mine is = refused _ NoSuch _ (withheld (ltb u g.graph.vertices) u is)
+  missing (Settle e) s mine is = absurd (true≢false (sym (settles_graph_edge e mine) ∙ withheld (ltb e (graph_edges g)) (tail_of g e) is))
+  missing (Seal e) s mine is = absurd (true≢false mine)
+  missing (Read u) s mine is = absurd (true≢false mine)

@@ -1,0 +1,72 @@
+-- The worked drives, phase by phase.
+use Rattle.std.proofs.Common.{◌≡◌, ℕ, [], ◌∷◌, refl, arith}
+use Rattle.chip_actor.specs.Part.{Part, opened}
+use Rattle.chip_actor.specs.Steps.{does}
+use Rattle.chip_actor.specs.Rows.{saw}
+use Rattle.chip_core.specs.Core.{Take, Ack, Settle}
+use Rattle.chip_core.proofs.ReadLemmas.{closed_is}
+use Rattle.chip_world.specs.Rounds.{IsTurnAfter, IsOpen}
+use Rattle.chip_world.specs.DriveRows.{sink_alone, OneRoundCloses, NoRoundLeavesOpen}
+
+still_open : IsOpen sink_alone []
+still_open closed = let none : ◌≡◌ {A = ℕ} 1 0 = closed 0 (omega arith) refl in absurd (omega arith)
+
+turn_of_sink : IsTurnAfter sink_alone 1 0 [] (saw (Ack 0) 0 ∷ saw (Take 0) 5 ∷ [])
+turn_of_sink =
+    let s1 : Part = does sink_alone (saw (Take 0) 5) (opened sink_alone) in
+    let s2 : Part = does sink_alone (saw (Ack 0) 0) s1 in
+    record {
+      operations = saw (Take 0) 5 ∷ saw (Ack 0) 0 ∷ [];
+      are_turn = (
+        s2,
+        (
+          saw (Take 0) 5 ∷ [],
+          s1,
+          saw (Ack 0) 0 ∷ [],
+          refl,
+          (saw (Take 0) 5 ∷ [], s1, [], refl, (5, [], refl, (refl, refl)), (refl, refl)),
+          (
+            [],
+            s1,
+            saw (Ack 0) 0 ∷ [],
+            refl,
+            (refl, refl),
+            (
+              [],
+              s1,
+              saw (Ack 0) 0 ∷ [],
+              refl,
+              (refl, refl),
+              (
+                [],
+                s1,
+                saw (Ack 0) 0 ∷ [],
+                refl,
+                (refl, refl),
+                (
+                  [],
+                  s1,
+                  saw (Ack 0) 0 ∷ [],
+                  refl,
+                  (refl, refl),
+                  ([], s1, saw (Ack 0) 0 ∷ [], refl, (refl, refl), (saw (Ack 0) 0 ∷ [], s2, [], refl, (saw (Ack 0) 0 ∷ [], s2, [], refl, (0, [], refl, (refl, refl)), (refl, refl)), (refl, refl))),
+                ),
+              ),
+            ),
+          ),
+        ),
+      );
+      all_made = refl;
+      all_fit = ((tt, (refl, refl)), (refl, refl));
+    }
+
+pub one_round_closes : OneRoundCloses
+one_round_closes = record {
+  count = 1;
+  within = omega arith;
+  are_rounds = ([], refl, still_open, (saw (Ack 0) 0 ∷ saw (Take 0) 5 ∷ [], ([], refl, turn_of_sink), refl));
+  answers = (closed_is sink_alone (saw (Settle 0) 1 ∷ saw (Ack 0) 0 ∷ saw (Take 0) 5 ∷ [])).0 refl;
+}
+
+pub no_round_leaves_open : NoRoundLeavesOpen
+no_round_leaves_open = record { count = 0; within = omega arith; are_rounds = refl; answers = (refl, refl, still_open) }

@@ -1,0 +1,5 @@
+use Rattle.chip_world.specs.Rounds.{Leads, AreRounds}
+use Rattle.chip_world.proofs.world.World.drive.Given as goal
+
+abbrev pub invariant-loop : goal.invariant-loop
+invariant-loop l = Leads l.fn.self l.self (λ g ring before now. AreRounds g ring l.counter before now)

@@ -1,0 +1,42 @@
+use Rattle.std.proofs.Common.{◌∙◌, ◌<◌, ◌≤◌, ◌^◌, ℕ, subst, arith}
+use Rattle.chip_core.proofs.LogLemmas.{edge_counts}
+use Rattle.chip_core.proofs.NumberLemmas.{claims_most}
+use Rattle.chip_world.specs.World.{StandsForLog}
+use Rattle.chip_world.proofs.FlightLemmas.{flight_more}
+use Rattle.chip_world.proofs.world.World.in_flight.Goals as goal
+
+-- no more messages are delivered than sent, and not many are sent
+record InRange (first claims : ℕ) : Type 0 where
+  behind : first ≤ claims
+  few : claims ≤ 2 ^ 40
+
+in_range : (c : goal.After-sent-claims) → InRange c.delivered-first.result c.sent-claims.result
+in_range c =
+    let some = c.self.invariant in
+    let at = subst (StandsForLog some.0 some.1 some.2) c.self.view_is some.3 in
+    let first = c.delivered-first.ensures some.0 some.1 some.2 at in
+    let claims = c.sent-claims.ensures some.0 some.1 some.2 at in
+    let counts = edge_counts some.0 some.1 at.is_game at.some_ring some.2 at.legal c.args.edge in
+    let c2 = counts.2 in let c3 = counts.3 in
+    let most = claims_most some.0 some.1 at.is_game at.some_ring some.2 at.legal c.args.edge in
+    record { behind = omega arith; few = omega arith }
+
+pub overflow_sub-claims : goal.overflow_sub-claims
+overflow_sub-claims c = (in_range c).behind
+
+pub overflow_add-claims : goal.overflow_add-claims
+overflow_add-claims c = let r = in_range c in let few = r.few in let room = c.requires.room in omega arith
+
+pub loop-place-preserved : goal.loop-place-preserved
+loop-place-preserved c =
+    let inv = c.loop-place.invariant in let later = c.loop-place.auto.place in let before = c.loop-place-test.true in
+    record {
+      so_far = λ g ring log stands.
+          let first = c.delivered-first.ensures g ring log stands in
+          let claims = c.sent-claims.ensures g ring log stands in
+          c.push_reserved.ensures.items
+          ∙ flight_more g log c.args.edge c.delivered-first.result c.loop-place.place c.count_at-count.result c.loop-place.messages.items first later (subst (λ (n : ℕ). c.loop-place.place < n) claims before)
+          (c.count_at-count.ensures g ring log stands (subst (λ (n : ℕ). n ≤ c.loop-place.place) first later) (subst (λ (n : ℕ). c.loop-place.place < n) claims before)) (inv.so_far g ring log stands);
+      many = (let more = c.push_reserved.ensures.len in let many = inv.many in omega arith);
+      room = (let same = c.push_reserved.ensures.capacity in let room = inv.room in omega arith);
+    }

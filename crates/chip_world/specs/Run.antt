@@ -1,0 +1,89 @@
+-- A run of a list of events, on its way.
+use Rattle.std.specs.Prelude.{◌≡◌, ℕ, ◌+◌, ◌<◌, ◌≤◌, ◌==◌, if◌then◌else◌, Bool, false, List, [], ◌∷◌, ◌++◌, length, map, slice_index, slice_index_or}
+use Rattle.std.specs.Vec.{vec_len, vec_capacity}
+use Rattle.chip_graph.specs.ChipGame.{ChipGame}
+use Rattle.chip_actor.specs.Rules.{Take, Claim}
+use Rattle.chip_actor.specs.declared.reply.Reply.TheVariants.{Got, Sent}
+use Rattle.chip_core.specs.Core.{Log, Event, Reply, all_edges, log_after, replies_to}
+use Rattle.chip_core.specs.Messages.{Message, sent_in, delivered_in, sent_on, delivered_on}
+use Rattle.chip_core.specs.Headline.{Headline}
+use Rattle.chip_world.specs.declared.running.Record.{Record}
+use Rattle.chip_world.specs.Lanes.{Lane, lane_at, with_message}
+use Rattle.chip_world.specs.declared.running.Notes.{Notes}
+use Rattle.chip_world.specs.World.{WorldState, StandsForLog}
+
+-- an event is a claim, or a take, of the edge e
+abbrev pub is_claim_of : ℕ → Event → Bool
+is_claim_of e (Claim i) = i == e
+is_claim_of e _ = false
+
+abbrev pub is_take_of : ℕ → Event → Bool
+is_take_of e (Take i) = i == e
+is_take_of e _ = false
+
+-- how many of these events are
+abbrev pub count_among : (Event → Bool) → List Event → ℕ
+count_among test [] = 0
+count_among test (x ∷ xs) = (if test x then 1 else 0) + count_among test xs
+
+-- these counts are those of the events of each edge
+pub record Counts (test : ℕ → Event → Bool) (edges : ℕ) (xs : List Event) (counts : List ℕ) : Type 0 where
+  pub count_is : length counts ≡ edges
+  pub each : (e : ℕ) → e < edges → slice_index counts e ≡ count_among (test e) xs
+  pub few : (e : ℕ) → e < edges → slice_index counts e ≤ length xs
+
+-- one more is counted for this edge, where it is there
+abbrev pub CountsMore : ℕ → List ℕ → List ℕ → Type 0
+CountsMore edge old new = (length new ≡ length old) × ((e : ℕ) → e < length old → slice_index new e ≡ slice_index old e + (if edge == e then 1 else 0))
+
+-- the lists after an event with this reply
+abbrev pub sent_after : Event → Reply → List Lane → List Lane
+sent_after (Claim e) (Sent message) lanes = with_message e message lanes
+sent_after _ _ lanes = lanes
+
+abbrev pub delivered_after : Event → Reply → List Lane → List Lane
+delivered_after (Take e) (Got message) lanes = with_message e message lanes
+delivered_after _ _ lanes = lanes
+
+-- a message that was sent, or delivered, is of one of so many edges
+abbrev pub SentOnEdge : Event → Reply → ℕ → Type 0
+SentOnEdge (Claim e) (Sent message) edges = e < edges
+SentOnEdge _ _ edges = Unit {0}
+
+abbrev pub GotOnEdge : Event → Reply → ℕ → Type 0
+GotOnEdge (Take e) (Got message) edges = e < edges
+GotOnEdge _ _ edges = Unit {0}
+
+-- room for each message of these events that may come
+abbrev pub HasRoom : (ℕ → Event → Bool) → List Event → List Lane → Type 0
+HasRoom test xs lanes = (e : ℕ) → e < length lanes → length (lane_at lanes e).messages + count_among (test e) xs ≤ (lane_at lanes e).capacity
+
+-- room for all that these events bring
+pub record HasRooms (xs : List Event) (n : Notes) : Type 0 where
+  pub replies : vec_len n.replies + length xs ≤ vec_capacity n.replies
+  pub sent : HasRoom is_claim_of xs n.sent
+  pub delivered : HasRoom is_take_of xs n.delivered
+
+-- of the events xs, asked for after the log, these are left, asked for after the log `now`, and the rest is noted
+pub record IsNotedUpTo (g : ChipGame) (ring : ℕ) (log : Log) (xs : List Event) (now : Log) (left : List Event) (n : Notes) : Type 0 where
+  pub after : log_after g ring log xs ≡ log_after g ring now left
+  pub replies : replies_to g ring log xs ≡ n.replies.items ++ replies_to g ring now left
+  pub sent_each : length n.sent ≡ all_edges g
+  pub sent : (e : ℕ) → e < all_edges g → sent_on g ring log xs e ≡ (lane_at n.sent e).messages ++ sent_in e left (replies_to g ring now left)
+  pub delivered_each : length n.delivered ≡ all_edges g
+  pub delivered : (e : ℕ) → e < all_edges g → delivered_on g ring log xs e ≡ (lane_at n.delivered e).messages ++ delivered_in e left (replies_to g ring now left)
+
+-- the record of the run of xs after this log: the replies; and of each edge, what was in flight before it and what it sent, and what it
+-- delivered
+pub record IsRecordOf (g : ChipGame) (ring : ℕ) (log : Log) (xs : List Event) (replies : List Reply) (sent delivered : List (List Message)) : Type 0 where
+  pub replies_are : replies ≡ replies_to g ring log xs
+  pub sent_each : length sent ≡ all_edges g
+  pub sent_on_edge : (e : ℕ) → e < all_edges g → slice_index_or sent e [] ≡ sent_on g ring log xs e
+  pub delivered_each : length delivered ≡ all_edges g
+  pub delivered_on_edge : (e : ℕ) → e < all_edges g → slice_index_or delivered e [] ≡ delivered_on g ring log xs e
+
+-- the world ran xs: it stands for the log after them, this is the record, and the core theorem holds of the run
+pub record Runs (g : ChipGame) (ring : ℕ) (log : Log) (xs : List Event) (new : WorldState) (r : Record) : Type 0 where
+  pub world : StandsForLog g ring (log_after g ring log xs) new
+  pub recorded : IsRecordOf g ring log xs r.replies.items (map (λ t. t.items) r.sent.items) (map (λ t. t.items) r.delivered.items)
+  pub headline : Headline g ring log xs

@@ -1,0 +1,82 @@
+-- The words that the ends of an edge share, and what an operation on them sees and leaves.
+use Rattle.std.specs.Prelude.{ℕ, ◌+◌, ◌^◌, ◌<◌, ◌==◌, if◌then◌else◌, List, [], length, replicate, slice_index, slice_index_or, slice_set, bit_or}
+use Rattle.chip_link.specs.Words.{exchanged}
+use Rattle.chip_actor.specs.declared.act.Act.{Act}
+use Rattle.chip_actor.specs.declared.act.Act.TheVariants as Do
+
+-- the words of one edge: the edge word, how many of its messages were acknowledged, and its ring of cells
+pub record EdgeState : Type 0 where
+  pub word : ℕ
+  pub acknowledged : ℕ
+  pub cells : List ℕ
+
+-- the words of an edge that isn't there
+abbrev pub no_words : EdgeState
+no_words = record { word = 0; acknowledged = 0; cells = [] }
+
+-- the words of an edge
+abbrev pub words_of : List EdgeState → ℕ → EdgeState
+words_of words e = slice_index_or words e no_words
+
+-- what stands in a cell of an edge
+abbrev pub cell_of : List EdgeState → ℕ → ℕ → ℕ
+cell_of words e cell = slice_index (words_of words e).cells cell
+
+-- one cell is written
+abbrev pub with_cell : ℕ → ℕ → EdgeState → EdgeState
+with_cell cell value w = record w { cells = slice_set w.cells cell value }
+
+-- the exchange of a claim
+abbrev pub with_claim : ℕ → ℕ → EdgeState → EdgeState
+with_claim expected new w = record w { word = exchanged expected new w.word }
+
+-- so many more messages are acknowledged
+abbrev pub with_acks : ℕ → EdgeState → EdgeState
+with_acks count w = record w { acknowledged = w.acknowledged + count }
+
+-- the edge is sealed
+abbrev pub with_seal : EdgeState → EdgeState
+with_seal w = record w { word = bit_or w.word (2 ^ 63) }
+
+-- the words of one edge are changed so
+abbrev pub changed : ℕ → (EdgeState → EdgeState) → List EdgeState → List EdgeState
+changed e f words = slice_set words e (f (words_of words e))
+
+-- the words of an edge that opens with a message of so many chips, or with none where these are 0
+abbrev pub opening_words : ℕ → ℕ → EdgeState
+opening_words ring chips = record { word = if chips == 0 then 0 else 1; acknowledged = 0; cells = slice_set (replicate ring 0) 0 chips }
+
+-- what an operation sees: a fired word is kept by its vertex alone, and what is stored or added looks at nothing
+abbrev pub seen_in : Act → List EdgeState → ℕ
+seen_in (Do.Take e cell) words = cell_of words e cell
+seen_in (Do.Settle e) words = (words_of words e).acknowledged
+seen_in (Do.Clear e cell) words = cell_of words e cell
+seen_in (Do.Claim e expected new) words = (words_of words e).word
+seen_in _ words = 0
+
+-- the words after an operation
+abbrev pub words_after : Act → List EdgeState → List EdgeState
+words_after (Do.Take e cell) words = changed e (with_cell cell 0) words
+words_after (Do.Claim e expected new) words = changed e (with_claim expected new) words
+words_after (Do.Put e cell value) words = changed e (with_cell cell value) words
+words_after (Do.Ack e count) words = changed e (with_acks count) words
+words_after _ words = words
+
+-- an edge is there, and so is a cell of its ring
+abbrev pub HasCell : List EdgeState → ℕ → ℕ → Type 0
+HasCell words e cell = (e < length words) × (cell < length (words_of words e).cells)
+
+-- the words of an operation are there, and a sum fits
+abbrev pub CanPerform : Act → List EdgeState → Type 0
+CanPerform (Do.Take e cell) words = HasCell words e cell
+CanPerform (Do.Settle e) words = e < length words
+CanPerform (Do.Clear e cell) words = HasCell words e cell
+CanPerform (Do.Claim e expected new) words = e < length words
+CanPerform (Do.Put e cell value) words = HasCell words e cell
+CanPerform (Do.Ack e count) words = (e < length words) × ((words_of words e).acknowledged + count < 2 ^ 64)
+CanPerform _ words = Unit {0}
+
+-- what an operation stores into a cell, or 0
+abbrev pub stored_by : Act → ℕ
+stored_by (Do.Put e cell value) = value
+stored_by _ = 0

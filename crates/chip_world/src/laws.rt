@@ -1,0 +1,10 @@
+//! Worked drives, as the contracts of a function that does nothing.
+
+ghost use Rattle.chip_world.specs.DriveRows.{TriangleRootEdges, OneRoundCloses, NoRoundLeavesOpen};
+
+/// Small drives, as the definitions compute them.
+pub fn worked_drives()
+    ensures triangle_root_edges { TriangleRootEdges }
+    ensures one_round_closes { OneRoundCloses }
+    ensures no_round_leaves_open { NoRoundLeavesOpen }
+{}

@@ -1,0 +1,230 @@
+ghost use Rattle.std.specs.Prelude.{◌≡◌, ◌+◌, ◌^◌, ◌<◌, ◌==◌, if◌then◌else◌, length, slice_index, slice_set, replicate, IfOk};
+ghost use Rattle.chip_link.specs.Words.{exchanged};
+
+use chip_actor::Act;
+use chip_graph::Game;
+use chip_link::EdgeWord;
+use std::alloc::{AllocError, Global};
+use std::marker::Model;
+
+/// The shared words of one edge, as a net has them: the edge word, the word of acknowledgements and the ring of cells.
+#[derive(Debug, Drop)]
+pub(crate) struct EdgeWords {
+    word: u64,
+    acknowledged: u64,
+    cells: Vec<u64>,
+}
+
+impl Model for EdgeWords {
+    ghost use Rattle.chip_world.specs.SharedWords.{EdgeState};
+
+    ghost Value = { EdgeState };
+
+    ghost view = { λ a. record { word = a.word; acknowledged = a.acknowledged; cells = a.cells.items } };
+}
+
+impl EdgeWords {
+    ghost use Rattle.chip_world.specs.SharedWords.{with_cell, with_claim, with_acks, with_seal, opening_words};
+
+    /// The words of an edge that opens with a message of so many chips, or with none where these are 0.
+    fn new(alloc: Global, ring: u64, chips: u64) -> Result<EdgeWords, AllocError>
+        requires { 0 < ring }
+        ensures { IfOk result (λ edge. edge ≡ opening_words ring chips) }
+    {
+        let mut cells = vec![in alloc; 0; ring as usize]?;
+        cells[0] = chips;
+        Ok(EdgeWords {
+            word: if chips == 0 { 0 } else { 1 },
+            acknowledged: 0,
+            cells,
+        })
+    }
+
+    fn load(&self, cell: u64) -> u64
+        requires { cell < length self.now.cells }
+        ensures { result ≡ slice_index self.now.cells cell }
+    {
+        self.cells[cell as usize]
+    }
+
+    fn store(&mut self, cell: u64, value: u64)
+        requires { cell < length self.old.cells }
+        ensures { self.new ≡ with_cell cell value self.old }
+    {
+        self.cells[cell as usize] = value;
+    }
+
+    /// One try to put `new` in the place of `expected`; the word that was there.
+    fn exchange(&mut self, expected: u64, new: u64) -> u64
+        ensures seen { result ≡ self.old.word }
+        ensures after { self.new ≡ with_claim expected new self.old }
+    {
+        let word = self.word;
+        if word == expected {
+            self.word = new;
+        }
+        word
+    }
+
+    fn seal(&mut self) -> u64
+        ensures seen { result ≡ self.old.word }
+        ensures after { self.new ≡ with_seal self.old }
+    {
+        let word = self.word;
+        self.word = word | EdgeWord::SEAL;
+        word
+    }
+
+    fn acknowledge(&mut self, count: u64)
+        requires { self.old.acknowledged + count < 2 ^ 64 }
+        ensures { self.new ≡ with_acks count self.old }
+    {
+        self.acknowledged += count;
+    }
+}
+
+/// The shared words of all edges, the root edges behind the graph's.
+#[derive(Debug, Drop)]
+pub(crate) struct Words {
+    edges: Vec<EdgeWords>,
+}
+
+impl Model for Words {
+    ghost use Rattle.std.specs.Prelude.{List};
+    ghost use Rattle.chip_world.specs.SharedWords.{EdgeState};
+
+    ghost Value = { List EdgeState };
+
+    ghost view = { λ a. a.edges.items };
+}
+
+impl Words {
+    ghost use Rattle.chip_world.specs.SharedWords.{HasCell, cell_of, words_of, changed, with_seal, opening_words, seen_in, words_after, CanPerform};
+    ghost use Rattle.chip_actor.specs.Edges.{all_edges};
+    ghost use Rattle.chip_world.specs.World.{AreOpeningWords};
+
+    /// The words of a game that opens.
+    pub(crate) fn new(alloc: Global, game: &Game, ring: u64) -> Result<Words, AllocError>
+        requires { 0 < ring }
+        ensures { IfOk result (AreOpeningWords game.now ring (all_edges game.now)) }
+    {
+        let all_edges = game.graph().edges().len() + game.start().len();
+        let mut edges = Vec::with_capacity(alloc, all_edges)?;
+        for edge in 0..all_edges {
+            edges.push_reserved(EdgeWords::new(alloc, ring, first_chips(game, edge))?);
+        }
+        Ok(Words { edges })
+    }
+
+    /// Makes an operation, and gives the word that it saw, or 0 where it looks at none.
+    pub(crate) fn perform(&mut self, act: Act) -> u64
+        requires { CanPerform act self.old }
+        ensures seen { result ≡ seen_in act self.old }
+        ensures after { self.new ≡ words_after act self.old }
+    {
+        match act {
+            Act::Take { edge, cell } => {
+                let words = &mut self.edges[edge as usize];
+                let count = words.load(cell);
+                words.store(cell, 0);
+                count
+            }
+            Act::Settle { edge } => self.acknowledged(edge),
+            Act::Clear { edge, cell } => {
+                let words = &self.edges[edge as usize];
+                words.load(cell)
+            }
+            Act::Claim {
+                edge,
+                expected,
+                new,
+            } => {
+                let words = &mut self.edges[edge as usize];
+                words.exchange(expected, new)
+            }
+            Act::Put { edge, cell, value } => {
+                let words = &mut self.edges[edge as usize];
+                words.store(cell, value);
+                0
+            }
+            Act::Ack { edge, count } => {
+                let words = &mut self.edges[edge as usize];
+                words.acknowledge(count);
+                0
+            }
+            Act::Fire { .. } | Act::Halt { .. } | Act::End => 0,
+        }
+    }
+
+    /// Seals an edge, and gives the edge word that was there.
+    pub(crate) fn seal(&mut self, edge: u64) -> u64
+        requires { edge < length self.old }
+        ensures seen { result ≡ (words_of self.old edge).word }
+        ensures after { self.new ≡ changed edge with_seal self.old }
+    {
+        let words = &mut self.edges[edge as usize];
+        words.seal()
+    }
+
+    /// A cell of an edge.
+    pub(crate) fn load(&self, edge: u64, cell: u64) -> u64
+        requires { HasCell self.now edge cell }
+        ensures { result ≡ cell_of self.now edge cell }
+    {
+        let words = &self.edges[edge as usize];
+        words.load(cell)
+    }
+
+    /// The edge word of an edge.
+    pub(crate) fn word(&self, edge: u64) -> u64
+        requires { edge < length self.now }
+        ensures { result ≡ (words_of self.now edge).word }
+    {
+        let words = &self.edges[edge as usize];
+        words.word
+    }
+
+    /// The word of acknowledgements of an edge.
+    pub(crate) fn acknowledged(&self, edge: u64) -> u64
+        requires { edge < length self.now }
+        ensures { result ≡ (words_of self.now edge).acknowledged }
+    {
+        let words = &self.edges[edge as usize];
+        words.acknowledged
+    }
+}
+
+ghost use Rattle.chip_actor.specs.Edges.{all_edges};
+ghost use Rattle.chip_world.specs.World.{first_chips};
+
+/// The chips with which an edge opens: on a root edge those that its vertex starts with.
+fn first_chips(game: &Game, edge: usize) -> u64
+    requires { edge < all_edges game.now }
+    ensures { result ≡ first_chips game.now edge }
+{
+    let graph_edges = game.graph().edges().len();
+    if edge < graph_edges {
+        0
+    } else {
+        game.start()[edge - graph_edges]
+    }
+}
+
+ghost use Rattle.chip_world.specs.SharedWords.{stored_by};
+
+/// What an operation stores into a cell, or 0 where it stores nothing.
+pub(crate) fn stored_by(act: Act) -> u64
+    ensures { result ≡ stored_by act }
+{
+    match act {
+        Act::Put { value, .. } => value,
+        Act::Take { .. }
+        | Act::Settle { .. }
+        | Act::Fire { .. }
+        | Act::Clear { .. }
+        | Act::Claim { .. }
+        | Act::Halt { .. }
+        | Act::Ack { .. }
+        | Act::End => 0,
+    }
+}

@@ -1,23 +1,24 @@
 -- From the parts of an engine to its whole.
-use Rattle.std.proofs.Common.{◌≡◌, ◌⊎◌, ℕ, ◌≤◌, List, Option, Some, None, Result, Ok, Err, refl, sym, ap, ◌∙◌, subst, inl, inr, arith}
+use Rattle.std.proofs.Common.{◌≡◌, ◌⊎◌, ℕ, List, Option, Some, None, Result, Ok, Err, refl, sym, ap, ◌∙◌, subst, inl, inr}
 use Rattle.std.specs.Option.{IfSome}
 use Rattle.std.specs.Result.{IsErrAnd}
-use Rattle.std.specs.Io.KnownBytes.{Appends, Keeps}
+use Rattle.std.specs.Io.KnownBytes.{Keeps}
 use Rattle.chip_graph.specs.Multigraph.{Multigraph}
 use Rattle.chip_graph.specs.ChipGame.{ChipGame}
-use Rattle.chip_file.specs.Answer.{Answers}
 use Rattle.chip_file.specs.GraphText.{MeansGraph, IsGraphTextFault}
 use Rattle.chip_file.specs.ChipsText.{chips_of_text}
 use Rattle.chip_file.specs.TraceText.{traces_of_text}
-use Rattle.chip_file.specs.declared.fault.FileFault.{FileFault}
+use Rattle.chip_file.specs.ScheduleText.{schedule_of_text}
 use Rattle.chip_trace.specs.declared.fault.ReplayFault.{ReplayFault}
 use Rattle.chip_trace.specs.declared.fault.ReplayFault.TheVariants as replay_fault
 use Rattle.chip_trace.specs.Replay.{IsReplayFault}
-use Rattle.chipfire.specs.Faults.{fault_of_file, fault_of_replay}
-use Rattle.chipfire.specs.Inputs.{IsRefused, RefusesText, MeansGame, RefusesInputs, GivesGame}
+use Rattle.chipfire.specs.Faults.{fault_of_replay}
+use Rattle.chipfire.specs.Inputs.{RefusesText, MeansGame, RefusesInputs, GivesGame}
 use Rattle.chipfire.specs.PlainCommand.{Reports, PlainAnswers}
 use Rattle.chip_link.specs.declared.trace.TraceRow.{TraceRow}
 use Rattle.chipfire.specs.ReplayCommand.{MeansTraces, AreReplayed, RefusesTraces, ReplayAnswers}
+use Rattle.chip_link.specs.declared.event.Event.{Event}
+use Rattle.chipfire.specs.SimulateCommand.{MeansEvents, RefusesEvents, Simulates, SimulateAnswers}
 use Rattle.chipfire.specs.CheckCommand.{IsShown, CheckAnswers}
 use Rattle.chip_report.specs.Written.{WritesAll}
 use Rattle.chip_report.specs.declared.write.WriteFault.{WriteFault}
@@ -85,4 +86,20 @@ pub means_traces : (graph_text chips_text trace_text : List ℕ) (limit : ℕ) (
 means_traces graph_text chips_text trace_text limit g traces G same game each = record {
   game = game;
   each = subst (λ (G : Multigraph). traces_of_text G trace_text ≡ Some traces) same each;
+}
+
+-- the same of `simulate`
+pub refused_simulate : (graph_text chips_text schedule_text : List ℕ) (limit ring rounds : ℕ) (known : Option (List ℕ)) (result : Result Ended Fault) (P : Fault → Type 0) → IsErrAnd result P → ((fault : Fault) → P fault → RefusesEvents graph_text chips_text schedule_text limit fault ⊎ (fault ≡ NoMemory)) → SimulateAnswers graph_text chips_text schedule_text limit ring rounds known known result
+refused_simulate graph_text chips_text schedule_text limit ring rounds known (Ok ended) P is why = absurd is
+refused_simulate graph_text chips_text schedule_text limit ring rounds known (Err fault) P is why = inl (why fault is, Keeps-same known)
+
+pub failed_simulate : (graph_text chips_text schedule_text : List ℕ) (limit ring rounds : ℕ) (old new : Option (List ℕ)) (result : Result Ended Fault) (P : Fault → Type 0) → IsErrAnd result P → (g : ChipGame) (events : List Event) → MeansEvents graph_text chips_text schedule_text limit g events → (text : List ℕ) (status : ℕ) → Simulates g ring rounds events text status → (w : WriteFault) → ((fault : Fault) → P fault → fault ≡ Write w) → WritesAll old new text (Err w) → SimulateAnswers graph_text chips_text schedule_text limit ring rounds old new result
+failed_simulate graph_text chips_text schedule_text limit ring rounds old new (Ok ended) P is g events means text status simulates w why wrote = absurd is
+failed_simulate graph_text chips_text schedule_text limit ring rounds old new (Err fault) P is g events means text status simulates w why wrote = inr (g, events, means, text, status, simulates, w, why fault is, wrote)
+
+-- the events for a game that the texts mean
+pub means_events : (graph_text chips_text schedule_text : List ℕ) (limit : ℕ) (g : ChipGame) (events : List Event) (G : Multigraph) → G ≡ g.graph → MeansGame graph_text chips_text limit g → schedule_of_text G schedule_text ≡ Some events → MeansEvents graph_text chips_text schedule_text limit g events
+means_events graph_text chips_text schedule_text limit g events G same game each = record {
+  game = game;
+  each = subst (λ (G : Multigraph). schedule_of_text G schedule_text ≡ Some events) same each;
 }

@@ -4,3 +4,4 @@ pub mod Lines
 pub mod PlainCommand
 pub mod CheckCommand
 pub mod ReplayCommand
+pub mod SimulateCommand

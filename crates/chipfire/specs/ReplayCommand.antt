@@ -34,7 +34,7 @@ RefusesTraces graph_text chips_text trace_text limit fault =
     RefusesInputs graph_text chips_text limit fault
     ⊎ ((g : ChipGame) × MeansGame graph_text chips_text limit g × RefusesText trace_text (λ f. trace_text_fault g.graph trace_text ≡ Some f) fault)
     ⊎ ((g : ChipGame) × (traces : List (List TraceRow)) × MeansTraces graph_text chips_text trace_text limit g traces
-      × (vertex : ℕ) × (row : ℕ) × (fault ≡ Stuck vertex row) × IsStuck g traces vertex row)
+    × (vertex : ℕ) × (row : ℕ) × (fault ≡ Stuck vertex row) × IsStuck g traces vertex row)
 
 -- what `replay` answers: the firings of an interleaving; or nothing is written and the inputs are refused; or the output failed
 abbrev pub ReplayAnswers : List ℕ → List ℕ → List ℕ → ℕ → Option (List ℕ) → Option (List ℕ) → Result Ended Fault → Type 0
@@ -44,4 +44,4 @@ ReplayAnswers graph_text chips_text trace_text limit old new (Ok ended) =
 ReplayAnswers graph_text chips_text trace_text limit old new (Err fault) =
     ((RefusesTraces graph_text chips_text trace_text limit fault ⊎ (fault ≡ NoMemory)) × Keeps old new)
     ⊎ ((g : ChipGame) × (traces : List (List TraceRow)) × MeansTraces graph_text chips_text trace_text limit g traces
-      × (lines : List ℕ) × AreReplayed g traces lines × (w : WriteFault) × (fault ≡ Write w) × WritesAll old new lines (Err w))
+    × (lines : List ℕ) × AreReplayed g traces lines × (w : WriteFault) × (fault ≡ Write w) × WritesAll old new lines (Err w))

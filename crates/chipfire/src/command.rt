@@ -15,6 +15,21 @@ pub struct FileWord<'a> {
     pub position: u64,
 }
 
+/// The most cells that the ring of an edge has.
+pub const MAX_RING: u64 = 64;
+
+/// A simulation that the words ask for.
+#[derive(Clone, Copy, Debug, PartialEq, Eq)]
+pub struct Simulation<'a> {
+    pub graph: FileWord<'a>,
+    pub chips: FileWord<'a>,
+    pub schedule: FileWord<'a>,
+    pub limit: u64,
+    /// 1 to 64.
+    pub ring: u64,
+    pub rounds: u64,
+}
+
 /// What the words ask for.
 #[derive(Debug, Drop)]
 pub enum Request<'a> {
@@ -28,6 +43,7 @@ pub enum Request<'a> {
         chips: FileWord<'a>,
         limit: u64,
     },
+    Simulate(Simulation<'a>),
     Replay {
         graph: FileWord<'a>,
         chips: FileWord<'a>,
@@ -38,7 +54,7 @@ pub enum Request<'a> {
 
 const AFTER_HELP: &str = "\
 Exit status: 0 done, or closed with no vertex halted; 1 a fault, which is one line on
-standard error; 2 closed with some vertex halted by its limit.
+standard error; 2 closed with some vertex halted; 3 the root is open.
 
 Without words the report of a small game that is built in is written.";
 
@@ -65,6 +81,14 @@ pub fn parse<'a>(alloc: Global, words: &'a [String]) -> Result<Request<'a>, Faul
             chips: files(1).ok_or(Fault::Usage)?,
             limit: limit_of(found),
         }),
+        "simulate" => Ok(Request::Simulate(Simulation {
+            graph: files(0).ok_or(Fault::Usage)?,
+            chips: files(1).ok_or(Fault::Usage)?,
+            schedule: files(2).ok_or(Fault::Usage)?,
+            limit: limit_of(found),
+            ring: found.get_one::<u64>("ring").unwrap_or(1),
+            rounds: found.get_one::<u64>("rounds").unwrap_or(0),
+        })),
         "replay" => Ok(Request::Replay {
             graph: files(0).ok_or(Fault::Usage)?,
             chips: files(1).ok_or(Fault::Usage)?,
@@ -90,8 +114,24 @@ fn program<'a>(alloc: Global) -> Result<Command<'a>, AllocError> {
         .arg(file(alloc, "GRAPH", "The graph, as JSON"))?
         .arg(file(alloc, "CHIPS", "The chips at the start, as rows"))?
         .arg(limit(alloc))?;
+    let simulate = Command::new(alloc, "simulate")
+        .about(
+            "Runs a schedule on the detector, and writes each reply and the report where the root closes",
+        )
+        .arg(file(alloc, "GRAPH", "The graph, as JSON"))?
+        .arg(file(alloc, "CHIPS", "The chips at the start, as rows"))?
+        .arg(file(
+            alloc,
+            "SCHEDULE",
+            "What happens, one event after another, as rows",
+        ))?
+        .arg(limit(alloc))?
+        .arg(ring(alloc))?
+        .arg(rounds(alloc))?;
     let replay = Command::new(alloc, "replay")
-        .about("Replays a recorded run and writes its firings, in an order in which they fit together")
+        .about(
+            "Replays a recorded run and writes its firings, in an order in which they fit together",
+        )
         .arg(file(alloc, "GRAPH", "The graph, as JSON"))?
         .arg(file(alloc, "CHIPS", "The chips at the start, as rows"))?
         .arg(file(alloc, "TRACE", "What each vertex took and fired, as rows"))?
@@ -103,6 +143,7 @@ fn program<'a>(alloc: Global) -> Result<Command<'a>, AllocError> {
         .subcommand_required(true)
         .subcommand(check)?
         .subcommand(plain)?
+        .subcommand(simulate)?
         .subcommand(replay)
 }
 
@@ -117,6 +158,24 @@ fn limit<'a>(alloc: Global) -> Arg<'a> {
         .long("limit")
         .value_name("F")
         .help("How often each vertex may fire, 0 to 2^40 [default: 2^40]")
+        .value_parser(value_parser!(u64).range(0..=1_099_511_627_776))
+}
+
+/// How many messages an edge holds.
+fn ring<'a>(alloc: Global) -> Arg<'a> {
+    Arg::new(alloc, "ring")
+        .long("ring")
+        .value_name("R")
+        .help("How many cells the ring of an edge has, 1 to 64 [default: 1]")
+        .value_parser(value_parser!(u64).range(1..=64))
+}
+
+/// How many rounds of turns follow a schedule at most.
+fn rounds<'a>(alloc: Global) -> Arg<'a> {
+    Arg::new(alloc, "rounds")
+        .long("rounds")
+        .value_name("N")
+        .help("How many rounds of turns follow, until the root closes, 0 to 2^40 [default: 0]")
         .value_parser(value_parser!(u64).range(0..=1_099_511_627_776))
 }
 

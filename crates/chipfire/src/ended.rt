@@ -3,6 +3,9 @@ pub const CLOSED: u8 = 0;
 /// The exit status where some vertex halted.
 pub const HALTED: u8 = 2;
 
+/// The exit status where the root of a simulation is still open.
+pub const OPEN: u8 = 3;
+
 /// How a command ended that wrote its output.
 #[derive(Clone, Copy, Debug, PartialEq, Eq)]
 pub struct Ended {

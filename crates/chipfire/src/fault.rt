@@ -4,6 +4,7 @@ use chip_file::FileFault;
 use chip_graph::{GameFault, GraphFault};
 use chip_report::WriteFault;
 use chip_trace::ReplayFault;
+use chip_world::WorldFault;
 use std::alloc::{AllocError, AllocFailed};
 use std::error::Error;
 use std::fmt;
@@ -15,6 +16,8 @@ pub enum Fault {
     File(FileFault),
     /// The numbers of a game.
     Game(GameFault),
+    /// The root of a simulated run is not closed, so there is no outcome.
+    NotClosed,
     /// The recorded runs of a trace do not fit together; at greatest progress this row of this vertex is to blame.
     Stuck { vertex: u64, row: u64 },
     /// The output, and how many bytes of it went out.
@@ -62,6 +65,20 @@ impl From<ReplayFault> for Fault {
         match fault {
             ReplayFault::Stuck { vertex, row } => Fault::Stuck { vertex, row },
             ReplayFault::NoMemory => Fault::NoMemory,
+        }
+    }
+}
+
+impl From<WorldFault> for Fault {
+    ghost use Rattle.std.specs.Prelude.{◌≡◌};
+    ghost use Rattle.chipfire.specs.Faults.{fault_of_world};
+
+    ghost from_gives = { λ world fault. fault ≡ fault_of_world world };
+
+    fn from(fault: WorldFault) -> Fault {
+        match fault {
+            WorldFault::NotClosed => Fault::NotClosed,
+            WorldFault::NoMemory => Fault::NoMemory,
         }
     }
 }
@@ -170,6 +187,7 @@ impl Fault {
         match self {
             Fault::File(fault) => file_line(fault),
             Fault::Game(fault) => game_line(fault),
+            Fault::NotClosed => line(42, "NotClosed", Place::Nowhere),
             Fault::Stuck { vertex, row } => line(
                 70,
                 "Stuck",

@@ -1,11 +1,11 @@
 //! chipfire: a chip-firing machine that is proved right.
 //!
-//! Each command is an engine over readers and a writer (`plain`, `check`, `replay`), whose contract goes from the bytes that are
+//! Each command is an engine over readers and a writer (`plain`, `check`, `simulate`, `replay`), whose contract goes from the bytes that are
 //! read to the bytes that are written. This file reads the words, opens the files and calls the engine.
 #![tactic(auto)]
 
 use chip_report::write_all_of;
-use command::{FileWord, Request};
+use command::{FileWord, MAX_RING, Request, Simulation};
 use ended::Ended;
 use fault::Fault;
 use std::process::ExitCode;
@@ -19,6 +19,7 @@ pub mod fault;
 pub mod inputs;
 pub mod plain;
 pub mod replay;
+pub mod simulate;
 #[cfg(test)]
 mod tests;
 
@@ -67,6 +68,7 @@ fn run<R: Env + Files + Print + AllocGlobal>(rt: &R) -> Result<Ended, Fault> {
             let (mut graph, mut chips) = (open(rt, graph)?, open(rt, chips)?);
             plain::plain_engine(alloc, &mut graph, &mut chips, limit, &mut output)
         }
+        Request::Simulate(asked) => run_simulation(rt, &asked, &mut output),
         Request::Replay {
             graph,
             chips,
@@ -85,6 +87,30 @@ fn run<R: Env + Files + Print + AllocGlobal>(rt: &R) -> Result<Ended, Fault> {
             )
         }
     }
+}
+
+/// Simulates what was asked for. The ring is in range already by the option's own range.
+fn run_simulation<R: Files + AllocGlobal, W: io::Write>(
+    rt: &R,
+    asked: &Simulation<'_>,
+    output: &mut W,
+) -> Result<Ended, Fault> {
+    if asked.ring == 0 || asked.ring > MAX_RING {
+        return Err(Fault::Usage);
+    }
+    let mut graph = open(rt, asked.graph)?;
+    let mut chips = open(rt, asked.chips)?;
+    let mut schedule = open(rt, asked.schedule)?;
+    simulate::simulate_engine(
+        rt.alloc(),
+        &mut graph,
+        &mut chips,
+        &mut schedule,
+        asked.limit,
+        asked.ring,
+        asked.rounds,
+        output,
+    )
 }
 
 /// Opens the file that a word names.

@@ -44,7 +44,7 @@ fn played(alloc: Global, game: &Game) -> Result<(Vec<u8>, u8), AllocError>
 }
 
 /// The exit status that tells whether some vertex halted.
-fn status_of(outcome: &Outcome) -> u8
+pub(crate) fn status_of(outcome: &Outcome) -> u8
     ensures { result ≡ plain_status outcome.now }
 {
     if is_closed(outcome) { CLOSED } else { HALTED }

@@ -5,6 +5,7 @@ use crate::ended::Ended;
 use crate::fault::Fault;
 use crate::plain::plain_engine;
 use crate::replay::replay_engine;
+use crate::simulate::simulate_engine;
 use chip_file::{FileFault, read_graph, read_trace};
 use chip_graph::{GameFault, GraphFault};
 use chip_link::TraceRow;
@@ -147,11 +148,13 @@ fn refuses_inputs(rt: HostRuntime) {
 }
 
 /// The rows of vertex 1 stand first, though it cannot begin.
-const RUN: &str = "vertex,kind,edge,count\n1,take,0,2\n1,fire,0,1\n0,take,4,4\n0,fire,0,2\n0,take,2,1\n2,take,1,2\n2,take,3,1\n";
+const RUN: &str =
+    "vertex,kind,edge,count\n1,take,0,2\n1,fire,0,1\n0,take,4,4\n0,fire,0,2\n0,take,2,1\n2,take,1,2\n2,take,3,1\n";
 
 #[test]
 fn replays_the_triangle(rt: HostRuntime) {
-    let wrong = "vertex,kind,edge,count\n1,take,0,1\n1,fire,0,1\n0,take,4,4\n0,fire,0,2\n0,take,2,1\n2,take,1,2\n2,take,3,1\n";
+    let wrong =
+        "vertex,kind,edge,count\n1,take,0,1\n1,fire,0,1\n0,take,4,4\n0,fire,0,2\n0,take,2,1\n2,take,1,2\n2,take,3,1\n";
     for (trace, limit, wanted, lines) in [
         (RUN, NO_LIMIT, closed(0), "fire 0 2\nfire 1 1\n"),
         (RUN, 2, closed(0), "fire 0 2\nfire 1 1\n"),
@@ -176,6 +179,44 @@ fn replays_the_triangle(rt: HostRuntime) {
         );
         assert_eq!(rt; ended, wanted);
         assert_eq!(rt; output.as_slice(), lines.as_bytes());
+    }
+}
+
+/// Edge 1 is sealed before vertex 0 sends on it.
+const HALF: &str =
+    "event,at,count\nseal,1,0\ntake,4,0\nfire,0,2\nclear,0,0\nclaim,0,0\nput,0,0\nclear,1,0\nclaim,1,0\nhalt,0,0\n";
+
+#[test]
+fn simulates_what_is_sealed_half_way(rt: HostRuntime) {
+    let closed_late =
+        "done 0\ngot 0 4\ndone 2\ndone 0\nsent 0 2\ndone 2\ndone 0\nsealed\ndone 0\nroot closed\n{\"chips\":[1,0,3],\"closed\":false,\"fired\":[2,1,0],\"over\":[],\"sealed\":[0],\"version\":1}\n";
+    let left_open =
+        "done 0\ngot 0 4\ndone 2\ndone 0\nsent 0 2\ndone 2\ndone 0\nsealed\ndone 0\nroot open\n";
+    for (schedule, ring, rounds, wanted, text) in [
+        (HALF, 1, 10, closed(2), closed_late),
+        (HALF, 64, 3, closed(2), closed_late),
+        (HALF, 1, 2, closed(3), left_open),
+        (
+            "event,at,count\nfires,0,2\n",
+            1,
+            10,
+            Err(Fault::File(FileFault::Kind(0))),
+            "",
+        ),
+    ] {
+        let mut output = Vec::new(rt.alloc());
+        let ended = simulate_engine(
+            rt.alloc(),
+            &mut TRIANGLE.as_bytes(),
+            &mut "vertex,chips\n0,4\n".as_bytes(),
+            &mut schedule.as_bytes(),
+            NO_LIMIT,
+            ring,
+            rounds,
+            &mut output,
+        );
+        assert_eq!(rt; ended, wanted);
+        assert_eq!(rt; output.as_slice(), text.as_bytes());
     }
 }
 
@@ -256,11 +297,9 @@ fn prints_faults(rt: HostRuntime) -> Result<(), Fail> {
         (Fault::File(FileFault::Number(3)), "fault 25 Number 3"),
         (Fault::Game(GameFault::Limit), "fault 11 Limit"),
         (Fault::Write(WriteFault { written: 7 }), "fault 93 Write 7"),
-        (
-            Fault::Stuck { vertex: 1, row: 0 },
-            "fault 70 Stuck 1 0",
-        ),
+        (Fault::Stuck { vertex: 1, row: 0 }, "fault 70 Stuck 1 0"),
         (Fault::File(FileFault::Kind(2)), "fault 28 Kind 2"),
+        (Fault::NotClosed, "fault 42 NotClosed"),
         (Fault::Usage, "fault 91 Usage"),
         (Fault::Open(2), "fault 92 Open 2"),
         (Fault::NoMemory, "fault 90 NoMemory"),

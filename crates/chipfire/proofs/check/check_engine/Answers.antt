@@ -1,4 +1,4 @@
-use Rattle.std.proofs.Common.{◌≡◌, List, ℕ, inl, inr, refl, Some, Ok, Err, sym, subst, ◌∙◌, ap, string_bytes}
+use Rattle.std.proofs.Common.{inl, inr, refl, Ok, sym, subst}
 use Rattle.chip_file.specs.Answer.{Answers}
 use Rattle.chip_file.specs.GraphText.{MeansGraph, IsGraphTextFault}
 use Rattle.chipfire.specs.Inputs.{IsRefused}

@@ -1,7 +1,7 @@
-use Rattle.std.proofs.Common.{◌≡◌, ℕ, ◌+◌, ◌<◌, ◌++◌, List, [], ◌∷◌, length, slice_index, string_bytes, refl, sym, ap, ◌∙◌, append_assoc, subst, arith}
+use Rattle.std.proofs.Common.{◌≡◌, ℕ, ◌+◌, ◌<◌, ◌++◌, [], ◌∷◌, length, slice_index, string_bytes, ap, ◌∙◌, subst, arith}
 use Rattle.std.proofs.lemmas.List.{length-append}
-use Rattle.chip_graph.specs.Multigraph.{IsDistance, degree}
-use Rattle.chipfire.specs.CheckCommand.{head_text, vertex_text, vertices_text}
+use Rattle.chip_graph.specs.Multigraph.{IsDistance}
+use Rattle.chipfire.specs.CheckCommand.{head_text, vertices_text}
 use Rattle.chipfire.proofs.CheckLemmas.{shown_more, distances_more}
 use Rattle.chipfire.proofs.check.shown.Goals as goal
 

@@ -1,5 +1,4 @@
-use Rattle.std.proofs.Common.{◌≡◌, List, ℕ, inl, inr, refl, Some, Ok, Err, sym, subst, ◌∙◌, ap}
-use Rattle.chip_graph.specs.Multigraph.{Multigraph}
+use Rattle.std.proofs.Common.{◌≡◌, ℕ, inl, inr, refl, Some, Ok, Err, sym, subst}
 use Rattle.chip_graph.specs.ChipGame.{ChipGame}
 use Rattle.chip_file.specs.Answer.{Answers}
 use Rattle.chip_file.specs.GraphText.{MeansGraph, IsGraphTextFault}

@@ -1,4 +1,4 @@
-use Rattle.std.proofs.Common.{◌≡◌, List, ℕ, inl, inr, refl, Some, Ok, Err, sym, subst, ◌∙◌, ap}
+use Rattle.std.proofs.Common.{List, ℕ, inl, inr, refl, sym, subst}
 use Rattle.chipfire.specs.Inputs.{RefusesInputs}
 use Rattle.chipfire.specs.PlainCommand.{Reports}
 use Rattle.chipfire.proofs.EngineLemmas.{refused_plain, failed_plain}

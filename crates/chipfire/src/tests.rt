@@ -204,6 +204,7 @@ fn simulates_what_is_sealed_half_way(rt: HostRuntime) {
             "",
         ),
     ] {
+        assert!(rt; 0 < ring && ring <= 64);
         let mut output = Vec::new(rt.alloc());
         let ended = simulate_engine(
             rt.alloc(),

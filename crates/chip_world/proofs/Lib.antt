@@ -1,6 +1,5 @@
 pub mod WordLemmas
 pub mod VertexLemmas
-pub mod SameVertex
 pub mod StepLemmas
 pub mod CountedLemmas
 pub mod OpeningLemmas

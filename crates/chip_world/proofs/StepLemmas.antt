@@ -23,7 +23,6 @@ use Rattle.chip_world.specs.World.{WorldState, RootState, ShowsEdge, IsActor, Is
 use Rattle.chip_core.proofs.NumberLemmas.{fits_seen}
 use Rattle.chip_world.proofs.WordLemmas.{seal_shown, sees_seal, settle_shown, sees_settle, length-words_after, can_perform, sees_words, words_shown}
 use Rattle.chip_world.proofs.VertexLemmas.{refused, passes, found}
-use Rattle.chip_world.proofs.SameVertex.{same_vertex}
 
 -- an operation that was given is needed, and every rule is met
 given : (o : Option Rule) (needed act : Act) → Ok act ≡ verdict o needed → (o ≡ None) × (needed ≡ act)
@@ -140,7 +139,7 @@ module _ (g : ChipGame) (ring : ℕ) (log : Log) (w : WorldState) (stands : Stan
           new_actor : IsActor g ring (did ∷ log) v new
           unfolding s did
           new_actor = record {
-            vertex_is = same_vertex g ring s a new x seen reply stands_part can_do makes ∙ actor.vertex_is;
+            vertex_is = (makes g ring s stands_part can_do).2 ∙ actor.vertex_is;
             stands = subst (λ (p : Part). StandsFor g ring p new) (sym (part_here g did log v is_due.mine))
                 (subst (λ (u : ℕ). StandsFor g ring (does g did (part_in g log u)) new) is_due.mine (subst (λ (n : ℕ). StandsFor g ring (does g (record { event = x; seen = n }) s) new) sees_it (makes g ring s stands_part can_do).0));
           }

@@ -52,7 +52,7 @@ module _ (g : ChipGame) (ring v : ℕ) (game : IsGame g) (some_ring : 0 < ring) 
     halt = refl;
     outs = λ e at.
         (λ j. on_edge no_out (outs.edges j) (outs.ends j) e) ∙ made_end no_out (fresh_out g.graph ring) (edges_out g.graph v) e (among_new_outs g v vertex e at)
-        ∙ (λ j. let n : OutEnd = record { mult = (fresh_out g.graph ring e).mult; pending = 0; refused = false; held = None; link = record { edge = e; ring = ring; claims = none_claimed e at j; held = None; clear = false; refused = false } } in n);
+        ∙ (λ j. let n : OutEnd = record { mult = (fresh_out g.graph ring e).mult; pending = 0; link = record { edge = e; ring = ring; claims = none_claimed e at j; held = None; clear = false; refused = false } } in n);
     ins = λ e at. ap (λ (ts : List HeadState). on_edge (new_head 0 1) is.edges ts e) ins.ends ∙ made_end (new_head 0 1) (λ (e : ℕ). new_head e ring) is.edges e (subst (λ (xs : List ℕ). Contains xs e) (sym ins.edges) (among_new_ins g v vertex e at));
     books = record {
       sound = sound;

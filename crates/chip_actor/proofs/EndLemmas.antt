@@ -1,13 +1,13 @@
 -- The ends of a vertex's edges: what a search finds there, and what a write at the place that it found changes.
 use Rattle.std.proofs.lemmas.List.{take_more, take_more_set, drop-set-lt, map-append}
 use Rattle.std.proofs.Math.Seq.{drop-cons}
-use Rattle.std.proofs.Common.{◌≡◌, ℕ, suc, ◌+◌, ◌<◌, ◌≤◌, subst, true, cond, eqb, List, [], ◌∷◌, ◌++◌, length, take, drop, map, get_or, set, Some, None, refl, sym, ap, ◌∙◌, arith}
+use Rattle.std.proofs.Common.{◌≡◌, ℕ, suc, ◌+◌, ◌<◌, ◌≤◌, subst, cond, eqb, List, [], ◌∷◌, ◌++◌, length, take, drop, map, get_or, set, Some, None, refl, sym, ap, ◌∙◌, arith}
 use mathlib.Core.Logic.{dite}
 use native.Mathlib.Decide.{ℕ_discrete, dec_lt}
 use Rattle.chip_graph.proofs.SumLemmas.{cond_yes, cond_no}
 use Rattle.chip_detect.proofs.Lookups.{ascends}
 use Rattle.chip_link.specs.declared.message.Message.{Message}
-use Rattle.chip_link.specs.Ends.{HeadState, message_claimed, tail_cell, tail_after_claim, new_head}
+use Rattle.chip_link.specs.Ends.{HeadState, message_claimed, tail_after_claim, new_head}
 use Rattle.chip_actor.specs.Ends.{on_edge, OutEnd, OutEnds, InEnds, no_out, out_on, in_on, AreApart, ChangesOut, ChangesIn, out_after_claim}
 use Rattle.chip_actor.proofs.Lookups.{on_edge_at, on_edge_changed}
 
@@ -32,21 +32,24 @@ module _ (is : InEnds) (apart : AreApart is.edges is.ends) (i e : ℕ) (within :
   pub changes_in : (new : HeadState) (f : HeadState → HeadState) → new ≡ f old → ChangesIn is (record { edges = is.edges; ends = set is.ends i new }) e f
   changes_in new f eq = record { edges = refl; each = changed (new_head 0 1) is.edges is.ends apart i e within at old was new f eq }
 
+-- an end with a claim, and with so much pending
+abbrev claiming : ℕ → OutEnd → ℕ → OutEnd
+claiming word o pending = record o { pending = pending; link = tail_after_claim word o.pending o.link }
+
 -- a claim that is answered by a message sent all that was pending
-pub claim_taken : (word : ℕ) (o : OutEnd) (m : Message) → Some m ≡ message_claimed word o.pending o.link
-    → (let n : OutEnd = record { mult = o.mult; pending = 0; refused = o.refused; held = Some (tail_cell o.link, o.pending); link = tail_after_claim word o.pending o.link } in n) ≡ out_after_claim word o
+pub claim_taken : (word : ℕ) (o : OutEnd) (m : Message) → Some m ≡ message_claimed word o.pending o.link → (let n : OutEnd = record o { pending = 0; link = tail_after_claim word o.pending o.link } in n) ≡ out_after_claim word o
 claim_taken word o m sent = dite (ℕ_discrete word o.link.claims)
-    (λ hit. sym (cond_yes word o.link.claims _ _ hit))
+    (λ hit. ap (claiming word o) (sym (cond_yes word o.link.claims 0 o.pending hit)))
     (λ miss. absurd (not_sent (sent ∙ cond_no word o.link.claims _ None miss)))
   where
     not_sent : Some m ≡ None → ⊥
     not_sent q = cc
 
 -- one that is refused leaves it
-pub claim_refused : (word : ℕ) (o : OutEnd) → None ≡ message_claimed word o.pending o.link → (let n : OutEnd = record o { refused = true; link = tail_after_claim word o.pending o.link } in n) ≡ out_after_claim word o
+pub claim_refused : (word : ℕ) (o : OutEnd) → None ≡ message_claimed word o.pending o.link → (let n : OutEnd = record o { link = tail_after_claim word o.pending o.link } in n) ≡ out_after_claim word o
 claim_refused word o sent = dite (ℕ_discrete word o.link.claims)
     (λ hit. absurd (not_none (sent ∙ cond_yes word o.link.claims _ None hit)))
-    (λ miss. sym (cond_no word o.link.claims _ _ miss))
+    (λ miss. ap (claiming word o) (sym (cond_no word o.link.claims 0 o.pending miss)))
   where
     not_none : {m : Message} → None ≡ Some m → ⊥
     not_none q = cc

@@ -8,7 +8,7 @@ use Rattle.chip_graph.specs.Sums.{sum_below}
 use Rattle.chip_graph.proofs.SumLemmas.{cond_yes, cond_no, cond_true, cond_false, by_test, tested_term}
 use Rattle.chip_link.specs.declared.message.Message.{Message}
 use Rattle.chip_link.specs.Words.{claims_in}
-use Rattle.chip_link.specs.Ends.{TailState, HeadState, claim_words, tail_after_clear, message_claimed, message_taken, head_after_take}
+use Rattle.chip_link.specs.Ends.{TailState, HeadState, claim_words, put_of, tail_after_clear, message_claimed, message_taken, head_after_take}
 use Rattle.chip_link.specs.Link.{Tail, claims_of}
 use Rattle.chip_detect.specs.Tally.{message_limit}
 use Rattle.chip_detect.specs.Books.{Books, IsSound, in_edges, out_edges, got_of, sent_of, settled_of}
@@ -235,12 +235,12 @@ may_put a e seen (g, ring, s, stands, can) =
     let all-is = stands.unput in
     record { among = among_outs g ring s a stands e can.0; some_unput = omega arith }
 
-pub put_made : (a : Actor) (e seen : ℕ) (os : OutEnds) (held : ℕ × ℕ) → (out_on a.outs e).held ≡ Some held → ChangesOut a.outs os e out_after_put → Makes a (record a { outs = os; unput = a.unput - 1 }) (Put e) seen (Done held.1)
+pub put_made : (a : Actor) (e seen : ℕ) (os : OutEnds) (held : ℕ × ℕ) → put_of (out_on a.outs e).link ≡ Some held → ChangesOut a.outs os e out_after_put → Makes a (record a { outs = os; unput = a.unput - 1 }) (Put e) seen (Done held.1)
 put_made a e seen os held is change = λ g ring s stands can.
     let met = rules_met g (Put e) s can.1 in
     let count : ℕ = met.1.0 in
     let cell : ℕ = (claims_of (s.out e).link - 1) % ring in
-    let was : Some held ≡ Some (cell, count) = sym is ∙ ap (λ (o : OutEnd). o.held) (stands.outs e can.0) ∙ (λ j. Rattle.std.proofs.Common.option_map (λ (c : ℕ). (cell, c)) (met.1.1 j)) in
+    let was : Some held ≡ Some (cell, count) = sym is ∙ ap (λ (o : OutEnd). put_of o.link) (stands.outs e can.0) ∙ (λ j. Rattle.std.proofs.Common.option_map (λ (c : ℕ). (cell, c)) (met.1.1 j)) in
     let same : held ≡ (cell, count) = cc in
     let total : count ≡ sum (option_to_list (s.out e).link.held) = (let t : sum (option_to_list (s.out e).link.held) ≡ count + 0 = ap (λ (h : Option ℕ). sum (option_to_list h)) met.1.1 ∙ sum_one count in omega arith) in
     (puts g ring s a stands e seen can.0 can.1 os change, ap (λ (h : ℕ × ℕ). Done h.1) same ∙ ap Done total, refl)

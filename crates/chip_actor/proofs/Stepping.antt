@@ -5,7 +5,7 @@ use native.Mathlib.Decide.{ℕ_discrete}
 use Rattle.chip_graph.specs.Multigraph.{degree}
 use Rattle.chip_graph.specs.ChipGame.{ChipGame}
 use Rattle.chip_graph.proofs.SumLemmas.{cond_yes, cond_no, tested_ext, tested_scale, tested_move}
-use Rattle.chip_link.specs.Ends.{may_clear, put_of, head_after_take}
+use Rattle.chip_link.specs.Ends.{may_clear, head_after_take}
 use Rattle.chip_link.specs.Link.{Tail, claims_of, after_clear, after_claim, after_put, after_take, tail_state, head_state}
 use Rattle.chip_link.proofs.States.{tail_clears, tail_claims, tail_puts, head_takes}
 use Rattle.chip_detect.specs.Tally.{edges_of, messages_on, answered_on}
@@ -184,8 +184,8 @@ module _ (g : ChipGame) (ring : ℕ) (s : Part) (a : Actor) (stands : StandsFor 
       (λ n. cond_no e i _ _ n ∙ stands.outs i at ∙ rest i n)
 
   -- what an end shows of its link
-  link_end : (e mult pending : ℕ) {t u : Tail} → t ≡ u → (let n : OutEnd = record { mult = mult; pending = pending; refused = t.refused; held = put_of (tail_state e ring t); link = tail_state e ring t } in n) ≡ record { mult = mult; pending = pending; refused = u.refused; held = put_of (tail_state e ring u); link = tail_state e ring u }
-  link_end e mult pending q = λ j. let n : OutEnd = record { mult = mult; pending = pending; refused = (q j).refused; held = put_of (tail_state e ring (q j)); link = tail_state e ring (q j) } in n
+  link_end : (e mult pending : ℕ) {t u : Tail} → t ≡ u → (let n : OutEnd = record { mult = mult; pending = pending; link = tail_state e ring t } in n) ≡ record { mult = mult; pending = pending; link = tail_state e ring u }
+  link_end e mult pending q = λ j. let n : OutEnd = record { mult = mult; pending = pending; link = tail_state e ring (q j) } in n
 
   -- a vertex looks at a cell only with a place left
   pub may_look : (e : ℕ) → tail_of g e ≡ a.vertex → unmet g (Clear e) s ≡ None → may_clear (tail_state e ring (s.out e).link) ≡ true
@@ -209,7 +209,7 @@ module _ (g : ChipGame) (ring : ℕ) (s : Part) (a : Actor) (stands : StandsFor 
     outs = out_still e os (out_after_clear seen) change (λ i. record { link = link_after (Clear e) seen i (s.out i); pending = (s.out i).pending; settled = (s.out i).settled })
         (λ mine.
         let o : Out = s.out e in
-        (λ j. let n : OutEnd = record { mult = mult_of g e; pending = o.pending; refused = o.link.refused; held = put_of (tail_state e ring o.link); link = tail_clears e ring o.link seen (may_look e at may) j } in n)
+        (λ j. let n : OutEnd = record { mult = mult_of g e; pending = o.pending; link = tail_clears e ring o.link seen (may_look e at may) j } in n)
         ∙ link_end e (mult_of g e) o.pending (sym (cond_yes e e (after_clear seen o.link) o.link refl)))
         (λ i n. link_end i (mult_of g i) (s.out i).pending (sym (cond_no e i (after_clear seen (s.out i).link) (s.out i).link n)));
     ins = stands.ins;
@@ -256,10 +256,10 @@ module _ (g : ChipGame) (ring : ℕ) (s : Part) (a : Actor) (stands : StandsFor 
         fired = stands.fired;
         halt = stands.halt;
         outs = out_still e os (out_after_claim seen) change (λ i. record { link = link_after (Claim e) seen i (s.out i); pending = pending_after g (Claim e) seen i (s.out i); settled = (s.out i).settled })
-            (λ mine. cond_yes seen (claims_of o.link) _ _ hit
-            ∙ (λ j. let n : OutEnd = record { mult = mult_of g e; pending = 0; refused = o.link.refused; held = Some (place o.link empty j % ring, o.pending); link = (tail_claims e ring o.link o.pending seen hand ∙ ap (tail_state e ring) is_sent) j } in n)
-            ∙ (λ j. let n : OutEnd = record { mult = mult_of g e; pending = sym pending_is j; refused = (sym link_is j).refused; held = put_of (tail_state e ring (sym link_is j)); link = tail_state e ring (sym link_is j) } in n))
-            (λ i n. λ j. let q : OutEnd = record { mult = mult_of g i; pending = sym (cond_no e i (cond (eqb seen (claims_of (s.out i).link)) 0 (s.out i).pending) (s.out i).pending n) j; refused = (sym (else' i n) j).refused; held = put_of (tail_state i ring (sym (else' i n) j)); link = tail_state i ring (sym (else' i n) j) } in q);
+            (λ mine.
+            (λ j. let n : OutEnd = record { mult = mult_of g e; pending = cond_yes seen (claims_of o.link) 0 o.pending hit j; link = (tail_claims e ring o.link o.pending seen hand ∙ ap (tail_state e ring) is_sent) j } in n)
+            ∙ (λ j. let n : OutEnd = record { mult = mult_of g e; pending = sym pending_is j; link = tail_state e ring (sym link_is j) } in n))
+            (λ i n. λ j. let q : OutEnd = record { mult = mult_of g i; pending = sym (cond_no e i (cond (eqb seen (claims_of (s.out i).link)) 0 (s.out i).pending) (s.out i).pending n) j; link = tail_state i ring (sym (else' i n) j) } in q);
         ins = stands.ins;
         books = record {
           sound = sound;
@@ -285,9 +285,6 @@ module _ (g : ChipGame) (ring : ℕ) (s : Part) (a : Actor) (stands : StandsFor 
             (λ y. subst (λ (k : ℕ). ◌≡◌ {A = ℕ} (cond (s.out k).link.refused 1 0) (cond (link_after (Claim e) seen k (s.out k)).refused 1 0)) y (ap (λ (t : Tail). cond t.refused 1 0) (sym link_is)))
             (λ n. ap (λ (t : Tail). cond t.refused 1 0) (sym (else' i n))));
       }
-    where
-      place : (t : Tail) → length (option_to_list t.held) ≡ 0 → claims_of t ≡ (length t.put + 1) - 1
-      place t none = omega arith
 
   -- a claim that a seal refuses
   pub is_refused : (e seen : ℕ) → tail_of g e ≡ a.vertex → unmet g (Claim e) s ≡ None → seen ≢ claims_of (s.out e).link → (os : OutEnds) → ChangesOut a.outs os e (out_after_claim seen)
@@ -313,10 +310,10 @@ module _ (g : ChipGame) (ring : ℕ) (s : Part) (a : Actor) (stands : StandsFor 
         fired = stands.fired;
         halt = stands.halt;
         outs = out_still e os (out_after_claim seen) change (λ i. record { link = link_after (Claim e) seen i (s.out i); pending = pending_after g (Claim e) seen i (s.out i); settled = (s.out i).settled })
-            (λ mine. cond_no seen (claims_of o.link) _ _ miss
-            ∙ (λ j. let n : OutEnd = record { mult = mult_of g e; pending = o.pending; refused = true; held = put_of (tail_state e ring o.link); link = (tail_claims e ring o.link o.pending seen hand ∙ ap (tail_state e ring) is_left) j } in n)
-            ∙ (λ j. let n : OutEnd = record { mult = mult_of g e; pending = sym pending_is j; refused = (sym link_is j).refused; held = put_of (tail_state e ring (sym link_is j)); link = tail_state e ring (sym link_is j) } in n))
-            (λ i n. λ j. let q : OutEnd = record { mult = mult_of g i; pending = sym (pending_else i n) j; refused = (sym (else' i n) j).refused; held = put_of (tail_state i ring (sym (else' i n) j)); link = tail_state i ring (sym (else' i n) j) } in q);
+            (λ mine.
+            (λ j. let n : OutEnd = record { mult = mult_of g e; pending = cond_no seen (claims_of o.link) 0 o.pending miss j; link = (tail_claims e ring o.link o.pending seen hand ∙ ap (tail_state e ring) is_left) j } in n)
+            ∙ (λ j. let n : OutEnd = record { mult = mult_of g e; pending = sym pending_is j; link = tail_state e ring (sym link_is j) } in n))
+            (λ i n. λ j. let q : OutEnd = record { mult = mult_of g i; pending = sym (pending_else i n) j; link = tail_state i ring (sym (else' i n) j) } in q);
         ins = stands.ins;
         books = record {
           sound = stands.books.sound;
@@ -359,7 +356,7 @@ module _ (g : ChipGame) (ring : ℕ) (s : Part) (a : Actor) (stands : StandsFor 
         halt = stands.halt;
         outs = out_still e os out_after_put change (λ i. record { link = link_after (Put e) seen i (s.out i); pending = (s.out i).pending; settled = (s.out i).settled })
             (λ mine.
-            (λ j. let n : OutEnd = record { mult = mult_of g e; pending = o.pending; refused = o.link.refused; held = None; link = tail_puts e ring o.link j } in n)
+            (λ j. let n : OutEnd = record { mult = mult_of g e; pending = o.pending; link = tail_puts e ring o.link j } in n)
             ∙ link_end e (mult_of g e) o.pending (sym link_is))
             (λ i n. link_end i (mult_of g i) (s.out i).pending (sym (else' i n)));
         ins = stands.ins;
@@ -405,7 +402,7 @@ module _ (g : ChipGame) (ring : ℕ) (s : Part) (a : Actor) (stands : StandsFor 
         fired = ap (λ (n : ℕ). n + k) stands.fired;
         halt = stands.halt;
         outs = λ i mine. change.each i (Rattle.chip_actor.proofs.Standing.among_outs g ring s a stands i mine) ∙ ap (out_after_fire k) (stands.outs i mine)
-            ∙ (λ j. let n : OutEnd = record { mult = mult_of g i; pending = sym (cond_yes (tail_of g i) v (k * mult_of g i) (s.out i).pending (mine ∙ sym at)) j; refused = (s.out i).link.refused; held = put_of (tail_state i ring (s.out i).link); link = tail_state i ring (s.out i).link } in n);
+            ∙ (λ j. let n : OutEnd = record { mult = mult_of g i; pending = sym (cond_yes (tail_of g i) v (k * mult_of g i) (s.out i).pending (mine ∙ sym at)) j; link = tail_state i ring (s.out i).link } in n);
         ins = stands.ins;
         books = record { sound = stands.books.sound; parent = stands.books.parent; got = stands.books.got; acked = stands.books.acked; sent = stands.books.sent; settled = stands.books.settled };
         pending =

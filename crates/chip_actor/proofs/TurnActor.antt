@@ -1,7 +1,7 @@
 -- What an actor finds in its own lists is what its part says.
 use Rattle.std.proofs.Common.{◌≡◌, ℕ, ◌<◌, Bool, true, false, not, cond, eqb, List, length, slice_index, Option, Some, None, is_some, option_map, refl, sym, ap, ◌∙◌, subst, arith}
 use Rattle.chip_graph.specs.ChipGame.{ChipGame}
-use Rattle.chip_link.specs.Ends.{claim_words}
+use Rattle.chip_link.specs.Ends.{claim_words, put_of}
 use Rattle.chip_detect.specs.Acknowledging as detector
 use Rattle.chip_actor.specs.Edges.{tail_of, head_of}
 use Rattle.chip_actor.specs.Part.{Part, may_ack}
@@ -26,8 +26,8 @@ is_some_where true x = refl
 is_some_where false x = refl
 
 module _ (g : ChipGame) (ring : ℕ) (s : Part) (a : Actor) (stands : StandsFor g ring s a) where
-  pub held_is : (e : ℕ) → tail_of g e ≡ a.vertex → is_some (out_on a.outs e).held ≡ is_some (s.out e).link.held
-  held_is e at = ap (λ (o : OutEnd). is_some o.held) (stands.outs e at) ∙ is_some_map (s.out e).link.held _
+  pub held_is : (e : ℕ) → tail_of g e ≡ a.vertex → is_some (put_of (out_on a.outs e).link) ≡ is_some (s.out e).link.held
+  held_is e at = ap (λ (o : OutEnd). is_some (put_of o.link)) (stands.outs e at) ∙ is_some_map (s.out e).link.held _
 
   pub pending_is : (e : ℕ) → tail_of g e ≡ a.vertex → (out_on a.outs e).pending ≡ (s.out e).pending
   pending_is e at = ap (λ (o : OutEnd). o.pending) (stands.outs e at)
@@ -39,18 +39,18 @@ module _ (g : ChipGame) (ring : ℕ) (s : Part) (a : Actor) (stands : StandsFor 
       ap (λ (x : Actor). out_on x.outs (slice_index x.outs.edges place)) same ∙ ap (λ (xs : List ℕ). out_on a.outs (slice_index xs place)) stands.knows.outs
       ∙ stands.outs (out_at g a.vertex place) (out_leaves g a.vertex place within)
 
-  pub held_at_place : (b : Actor) → b ≡ a → (place : ℕ) → place < length (outs_of g a.vertex) → is_some (out_on b.outs (slice_index b.outs.edges place)).held ≡ is_some (s.out (out_at g a.vertex place)).link.held
-  held_at_place b same place within = ap (λ (o : OutEnd). is_some o.held) (out_at_place b same place within) ∙ is_some_map (s.out (out_at g a.vertex place)).link.held _
+  pub held_at_place : (b : Actor) → b ≡ a → (place : ℕ) → place < length (outs_of g a.vertex) → is_some (put_of (out_on b.outs (slice_index b.outs.edges place)).link) ≡ is_some (s.out (out_at g a.vertex place)).link.held
+  held_at_place b same place within = ap (λ (o : OutEnd). is_some (put_of o.link)) (out_at_place b same place within) ∙ is_some_map (s.out (out_at g a.vertex place)).link.held _
 
   pub clear_at_place : (b : Actor) → b ≡ a → (place : ℕ) → place < length (outs_of g a.vertex)
       → is_some (claim_words (out_on b.outs (slice_index b.outs.edges place)).link) ≡ (s.out (out_at g a.vertex place)).link.clear
   clear_at_place b same place within = ap (λ (o : OutEnd). is_some (claim_words o.link)) (out_at_place b same place within) ∙ is_some_where (s.out (out_at g a.vertex place)).link.clear _
 
-  pub first_held : (b : Actor) → b ≡ a → (from : ℕ) (r : Option ℕ) → IsFirstFrom (λ e. is_some (out_on b.outs e).held) b.outs.edges from r → IsFirstFrom (λ e. is_some (s.out e).link.held) (outs_of g a.vertex) from r
+  pub first_held : (b : Actor) → b ≡ a → (from : ℕ) (r : Option ℕ) → IsFirstFrom (λ e. is_some (put_of (out_on b.outs e).link)) b.outs.edges from r → IsFirstFrom (λ e. is_some (s.out e).link.held) (outs_of g a.vertex) from r
   first_held b same from r found =
-      let first = subst (λ (x : Actor). IsFirstFrom (λ e. is_some (out_on x.outs e).held) x.outs.edges from r) same found in
-      first_same (λ e. is_some (out_on a.outs e).held) (λ e. is_some (s.out e).link.held) (outs_of g a.vertex) (λ k l. held_is _ (out_leaves g a.vertex k l)) from r
-      (subst (λ (xs : List ℕ). IsFirstFrom (λ e. is_some (out_on a.outs e).held) xs from r) stands.knows.outs first)
+      let first = subst (λ (x : Actor). IsFirstFrom (λ e. is_some (put_of (out_on x.outs e).link)) x.outs.edges from r) same found in
+      first_same (λ e. is_some (put_of (out_on a.outs e).link)) (λ e. is_some (s.out e).link.held) (outs_of g a.vertex) (λ k l. held_is _ (out_leaves g a.vertex k l)) from r
+      (subst (λ (xs : List ℕ). IsFirstFrom (λ e. is_some (put_of (out_on a.outs e).link)) xs from r) stands.knows.outs first)
 
   pub first_pending : (b : Actor) → b ≡ a → (from : ℕ) (r : Option ℕ) → IsFirstFrom (λ e. not (eqb (out_on b.outs e).pending 0)) b.outs.edges from r → IsFirstFrom (λ e. not (eqb (s.out e).pending 0)) (outs_of g a.vertex) from r
   first_pending b same from r found =

@@ -2,7 +2,6 @@
 use Rattle.std.specs.Prelude.{◌≡◌, ℕ, ◌^◌, ◌<◌, ◌≤◌, Bool, not, ◌&&◌, ◌||◌, nat_le, is_some, ◌==◌, [], ◌∷◌, ◌++◌, length, Option}
 use Rattle.chip_graph.specs.Multigraph.{edges_out, edges_in, degree}
 use Rattle.chip_graph.specs.ChipGame.{ChipGame, IsGame}
-use Rattle.chip_link.specs.Ends.{put_of}
 use Rattle.chip_link.specs.Link.{claims_of, tail_state, head_state}
 use Rattle.chip_detect.specs.Books.{Books, IsSound, in_edges, out_edges, got_of, acked_of, sent_of, settled_of}
 use Rattle.chip_actor.specs.Edges.{root_edge, tail_of, head_of, mult_of}
@@ -29,7 +28,7 @@ pub record Actor : Type 0 where
 
 -- the edge e as its tail keeps it at run time
 abbrev pub out_end : ChipGame → ℕ → ℕ → Out → OutEnd
-out_end g ring e o = record { mult = mult_of g e; pending = o.pending; refused = o.link.refused; held = put_of (tail_state e ring o.link); link = tail_state e ring o.link }
+out_end g ring e o = record { mult = mult_of g e; pending = o.pending; link = tail_state e ring o.link }
 
 -- the actor knows the game of its vertex
 pub record KnowsGame (g : ChipGame) (ring : ℕ) (a : Actor) : Type 0 where

@@ -1,8 +1,8 @@
 -- The ends of a vertex's edges as its actor keeps them: the numbers of the edges, ascending, and beside each what stands at that place.
-use Rattle.std.specs.Prelude.{◌≡◌, ℕ, ◌+◌, ◌*◌, ◌==◌, if◌then◌else◌, List, [], ◌∷◌, ◌++◌, length, map, true, false, Some, None}
+use Rattle.std.specs.Prelude.{◌≡◌, ℕ, ◌+◌, ◌*◌, ◌==◌, if◌then◌else◌, List, [], ◌∷◌, ◌++◌, length, map}
 use Rattle.std.specs.List.{Contains}
 use Rattle.std.specs.List.Sorted.{IsStrictlyIncreasing}
-use Rattle.chip_link.specs.Ends.{HeadState, new_tail, tail_cell, new_head, tail_after_clear, tail_after_claim, tail_after_put}
+use Rattle.chip_link.specs.Ends.{HeadState, new_tail, new_head, tail_after_clear, tail_after_claim, tail_after_put}
 use Rattle.chip_graph.specs.Multigraph.{Multigraph, edge_at, edges_out, edges_in}
 pub use Rattle.chip_actor.specs.declared.outs.OutEnd.{OutEnd}
 
@@ -24,7 +24,7 @@ pub record InEnds : Type 0 where
 
 -- nothing is known of an edge that isn't there
 abbrev pub no_out : OutEnd
-no_out = record { mult = 0; pending = 0; refused = false; held = None; link = new_tail 0 1 }
+no_out = record { mult = 0; pending = 0; link = new_tail 0 1 }
 
 -- an edge out of the vertex
 abbrev pub out_on : OutEnds → ℕ → OutEnd
@@ -61,13 +61,11 @@ out_after_clear cell o = record o { link = tail_after_clear cell o.link }
 -- a claim for all that is pending saw this word
 abbrev pub out_after_claim : ℕ → OutEnd → OutEnd
 out_after_claim word o =
-    if word == o.link.claims
-    then record { mult = o.mult; pending = 0; refused = o.refused; held = Some (tail_cell o.link, o.pending); link = tail_after_claim word o.pending o.link }
-    else record o { refused = true; link = tail_after_claim word o.pending o.link }
+    record o { pending = if word == o.link.claims then 0 else o.pending; link = tail_after_claim word o.pending o.link }
 
 -- what was claimed is put
 abbrev pub out_after_put : OutEnd → OutEnd
-out_after_put o = record o { held = None; link = tail_after_put o.link }
+out_after_put o = record o { link = tail_after_put o.link }
 
 -- the vertex fired so often
 abbrev pub out_after_fire : ℕ → OutEnd → OutEnd
@@ -75,7 +73,7 @@ out_after_fire k o = record o { pending = k * o.mult }
 
 -- an edge on which nothing was sent
 abbrev pub fresh_out : Multigraph → ℕ → ℕ → OutEnd
-fresh_out G ring e = record { mult = (edge_at G e).mult; pending = 0; refused = false; held = None; link = new_tail e ring }
+fresh_out G ring e = record { mult = (edge_at G e).mult; pending = 0; link = new_tail e ring }
 
 -- the ends of a vertex's edges as they open
 pub record IsFreshOuts (G : Multigraph) (ring v : ℕ) (os : OutEnds) : Type 0 where

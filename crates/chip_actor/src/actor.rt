@@ -188,7 +188,7 @@ impl ActorState {
         let out = self.outs.get(edge);
         first_unmet(&[
             (self.halt.is_none(), Rule::Halted),
-            (!out.refused, Rule::Refused),
+            (!out.link.refused(), Rule::Refused),
             (out.pending != 0, Rule::NothingPending),
         ])
     }
@@ -208,7 +208,7 @@ impl ActorState {
         requires { SomePart self.now (λ g ring s. tail_of g edge ≡ self.now.vertex) }
         ensures { WhateverPart self.now (λ g ring s. tail_of g edge ≡ self.now.vertex → result ≡ unmet g (Put edge) s) }
     {
-        first_unmet(&[(self.outs.get(edge).held.is_some(), Rule::NotClaimed)])
+        first_unmet(&[(self.outs.get(edge).link.held().is_some(), Rule::NotClaimed)])
     }
 
     fn halt_rule(&self) -> Option<Rule>
@@ -268,7 +268,7 @@ impl ActorState {
                 }
             }
             Event::Put(edge) => {
-                let (cell, value) = self.outs.get(edge).held.unwrap();
+                let (cell, value) = self.outs.get(edge).link.held().unwrap();
                 Act::Put { edge, cell, value }
             }
             Event::Halt(_) => Act::Halt {
@@ -349,8 +349,7 @@ impl ActorState {
         requires { SomePart self.old (λ g ring s. CanDo g s self.old.vertex (Put edge) seen) }
         ensures { Makes self.old self.new (Put edge) seen result }
     {
-        let (_, count) = self.outs.get(edge).held.unwrap();
-        self.outs.put(edge);
+        let (_, count) = self.outs.put(edge).unwrap();
         self.unput -= 1;
         Reply::Done(count)
     }

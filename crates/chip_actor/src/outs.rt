@@ -13,10 +13,6 @@ pub(crate) struct OutEnd {
     pub(crate) mult: u64,
     /// What is left to send of the last batch.
     pub(crate) pending: u64,
-    /// A claim was refused by a seal.
-    pub(crate) refused: bool,
-    /// The cell and the count of the message that is claimed and not put.
-    pub(crate) held: Option<(u64, u64)>,
     pub(crate) link: TailLink,
 }
 
@@ -68,10 +64,10 @@ impl Outs {
 
     /// The first place from this one on with an edge on which a message is claimed and not put.
     pub(crate) fn next_held(&self, place: usize) -> Option<usize>
-        ensures { IsFirstFrom (λ e. is_some (out_on self.now e).held) self.now.edges place result }
+        ensures { IsFirstFrom (λ e. is_some (put_of (out_on self.now e).link)) self.now.edges place result }
     {
         for next in place..self.ends.len() {
-            if self.ends[next].held.is_some() {
+            if self.ends[next].link.held().is_some() {
                 return Some(next);
             }
         }
@@ -113,25 +109,20 @@ impl Outs {
     {
         let place = place_of(&self.edges, edge);
         let out = &mut self.ends[place];
-        let cell = out.link.cell();
-        let Some(message) = out.link.claimed(word, out.pending) else {
-            out.refused = true;
-            return None;
-        };
-        out.held = Some((cell, out.pending));
+        let message = out.link.claimed(word, out.pending)?;
         out.pending = 0;
         Some(message)
     }
 
-    /// Notes that what was claimed is stored.
-    pub(crate) fn put(&mut self, edge: u64)
+    /// The cell and the value of what is claimed and not put, and notes that it is stored.
+    pub(crate) fn put(&mut self, edge: u64) -> Option<(u64, u64)>
         requires { Contains self.old.edges edge }
-        ensures { ChangesOut self.old self.new edge out_after_put }
+        ensures stored { result ≡ put_of (out_on self.old edge).link }
+        ensures after { ChangesOut self.old self.new edge out_after_put }
     {
         let place = place_of(&self.edges, edge);
         let out = &mut self.ends[place];
-        let _stored = out.link.put_value();
-        out.held = None;
+        out.link.put_value()
     }
 
     /// Notes that the vertex fired `k` times in a row.
@@ -163,8 +154,6 @@ impl Outs {
             ends.push_reserved(OutEnd {
                 mult: rows[edge as usize].mult,
                 pending: 0,
-                refused: false,
-                held: None,
                 link: TailLink::new(edge, ring),
             });
         }

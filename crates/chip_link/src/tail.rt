@@ -117,6 +117,17 @@ impl TailLink {
         })
     }
 
+    /// The cell and the value of the message that is claimed and not put. `None` where there is none.
+    pub fn held(&self) -> Option<(u64, u64)>
+        ensures value { result ≡ put_of self.now }
+        ensures inside { IfSome result (λ stored. stored.0 < self.now.ring) }
+    {
+        match self.stage {
+            Stage::Held(count) => Some(((self.claims - 1) % self.ring, count)),
+            Stage::Idle | Stage::Clear | Stage::Refused => None,
+        }
+    }
+
     /// The cell and the value to store in it, and notes that they are stored. `None` unless a message is claimed
     /// and not put.
     pub fn put_value(&mut self) -> Option<(u64, u64)>
@@ -124,12 +135,18 @@ impl TailLink {
         ensures inside { IfSome result (λ stored. stored.0 < self.old.ring) }
         ensures after { self.new ≡ tail_after_put self.old }
     {
+        let stored = self.held()?;
+        self.stage = Stage::Idle;
+        Some(stored)
+    }
+
+    /// Whether a claim was refused by a seal, after which nothing is sent any more.
+    pub fn refused(&self) -> bool
+        ensures { result ≡ self.now.refused }
+    {
         match self.stage {
-            Stage::Held(count) => {
-                self.stage = Stage::Idle;
-                Some(((self.claims - 1) % self.ring, count))
-            }
-            Stage::Idle | Stage::Clear | Stage::Refused => None,
+            Stage::Refused => true,
+            Stage::Idle | Stage::Clear | Stage::Held(_) => false,
         }
     }
 }

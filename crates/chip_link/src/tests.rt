@@ -60,12 +60,16 @@ fn one_cell(rt: HostRuntime) {
     };
     assert_eq!(rt; tail.claimed(0, 2), Some(sent));
     assert!(rt; !tail.cleared(0));
+    assert_eq!(rt; tail.held(), Some((0, 2)));
     assert_eq!(rt; tail.put_value(), Some((0, 2)));
     assert_eq!(rt; tail.put_value(), None);
+    assert_eq!(rt; tail.held(), None);
     assert!(rt; !tail.cleared(2));
     assert!(rt; tail.cleared(0));
     assert_eq!(rt; tail.claim_next(), Some((1, 2)));
+    assert!(rt; !tail.refused());
     assert_eq!(rt; tail.claimed(9_223_372_036_854_775_809, 5), None);
+    assert!(rt; tail.refused());
     assert_eq!(rt; tail.claim_next(), None);
     assert!(rt; !tail.cleared(0));
 

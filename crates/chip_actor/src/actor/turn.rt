@@ -141,7 +141,7 @@ impl ActorState {
         ensures { DueAt self.now (Cursor.Store place) result }
     {
         let edge = self.outs.edges()[place];
-        if self.outs.at(place).held.is_some() {
+        if self.outs.at(place).link.held().is_some() {
             return Some((Event::Put(edge), Cursor::Send(place + 1)));
         }
         Some((Event::Halt(self.vertex), Cursor::Limit))

@@ -1,5 +1,6 @@
 use Rattle.std.proofs.Common.{◌∙◌, ℕ, ◌+◌, List, is_some, sym, ap, subst, get_or}
 use Rattle.chip_actor.specs.declared.cursor.Cursor.TheVariants as At
+use Rattle.chip_link.specs.Ends.{put_of}
 use Rattle.chip_actor.specs.Rules.{Put, Halt}
 use Rattle.chip_actor.specs.Actor.{Actor}
 use Rattle.chip_actor.specs.Ends.{OutEnd}
@@ -13,12 +14,12 @@ returns-then-is_some c = λ g ring s stands at.
     let v : ℕ = c.args.self.now.vertex in
     let n : ℕ = c.args.place in
     let edges = c.edges.ensures ∙ ap (λ (a : Actor). a.outs.edges) c.self.view_is ∙ stands.knows.outs in
-    let held = sym (held_at_place g ring s c.args.self.now stands _ c.self.view_is n at.0) ∙ sym (ap (λ (o : OutEnd). is_some o.held) c.at.ensures) ∙ sym c.is_some.ensures ∙ c.if-is_some.true in
+    let held = sym (held_at_place g ring s c.args.self.now stands _ c.self.view_is n at.0) ∙ sym (ap (λ (o : OutEnd). is_some (put_of o.link)) c.at.ensures) ∙ sym (ap is_some c.held.ensures.value) ∙ sym c.is_some.ensures ∙ c.if-is_some.true in
     subst (λ (xs : List ℕ). GoesBy g v s (At.Store n) (Put (get_or xs n 0)) (At.Send (n + 1))) (sym edges) (store_due g v stands.knows.vertex s n at held)
 
 pub returns : goal.returns
 returns c = λ g ring s stands at.
     let v : ℕ = c.args.self.now.vertex in
     let n : ℕ = c.args.place in
-    let none = sym (held_at_place g ring s c.args.self.now stands _ c.self.view_is n at.0) ∙ sym (ap (λ (o : OutEnd). is_some o.held) c.at.ensures) ∙ sym c.is_some.ensures ∙ c.if-is_some.false in
+    let none = sym (held_at_place g ring s c.args.self.now stands _ c.self.view_is n at.0) ∙ sym (ap (λ (o : OutEnd). is_some (put_of o.link)) c.at.ensures) ∙ sym (ap is_some c.held.ensures.value) ∙ sym c.is_some.ensures ∙ c.if-is_some.false in
     subst (λ (a : Actor). GoesBy g v s (At.Store n) (Halt a.vertex) At.Limit) (sym c.self.view_is) (stop_due g v stands.knows.vertex s stands.knows.game n at none)

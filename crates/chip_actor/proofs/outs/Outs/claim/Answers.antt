@@ -1,4 +1,4 @@
-use Rattle.std.proofs.Common.{◌≡◌, ◌∙◌, ap, sym, subst, ◌^◌, ◌≤◌, IsTrue, set, true, Some}
+use Rattle.std.proofs.Common.{◌≡◌, ◌∙◌, ap, sym, subst, ◌^◌, ◌≤◌, IsTrue, set}
 use Rattle.chip_link.specs.Words.{claims_in}
 use Rattle.chip_link.specs.Ends.{TailState, message_claimed}
 use Rattle.chip_actor.specs.Ends.{OutEnds, OutEnd, out_on, out_after_claim, ChangesOut}
@@ -30,17 +30,19 @@ wrote c new eq = rw (← c.self.view_is)
 
 pub returns-clause-message : goal.returns-clause-message
 returns-clause-message c =
-    sym c.in-Some.is ∙ c.claimed.ensures.message ∙ ap (λ (o : OutEnd). message_claimed c.args.word o.pending o.link) (is (goal.at.returns-clause-message c).After-index_mut-out)
+    c.in_ok-message.ensures.message ∙ ap (λ (o : OutEnd). message_claimed c.args.word o.pending o.link) (is (goal.at.returns-clause-message c).After-index_mut-out)
 
 pub returns-clause-after : goal.returns-clause-after
 returns-clause-after c =
     let o : OutEnd = c.index_mut-out.result.now in
     wrote (goal.at.returns-clause-after c).After-index_mut-out _
-    ((λ j. let n : OutEnd = record { mult = o.mult; pending = 0; refused = o.refused; held = Some (c.cell-cell.ensures.cell j, o.pending); link = c.claimed.ensures.after j } in n)
-    ∙ claim_taken c.args.word o c.in-Some.message (sym c.in-Some.is ∙ c.claimed.ensures.message))
+    (ap (λ (t : TailState). let n : OutEnd = record o { pending = 0; link = t } in n) c.claimed.ensures.after ∙ claim_taken c.args.word o c.in_ok-message.message c.in_ok-message.ensures.message)
 
-pub returns-in_default-clause-after : goal.returns-in_default-clause-after
-returns-in_default-clause-after c =
+pub returns-in_err-message-clause-message : goal.returns-in_err-message-clause-message
+returns-in_err-message-clause-message c = c.from_residual.ensures ∙ c.in_err-message.ensures.message ∙ ap (λ (o : OutEnd). message_claimed c.args.word o.pending o.link) (is (goal.at.returns-in_err-message-clause-message c).After-index_mut-out)
+
+pub returns-in_err-message-clause-after : goal.returns-in_err-message-clause-after
+returns-in_err-message-clause-after c =
     let o : OutEnd = c.index_mut-out.result.now in
-    wrote (goal.at.returns-in_default-clause-after c).After-index_mut-out _
-    (ap (λ (t : TailState). record o { refused = true; link = t }) c.claimed.ensures.after ∙ claim_refused c.args.word o (sym c.in_default.is ∙ c.claimed.ensures.message))
+    wrote (goal.at.returns-in_err-message-clause-after c).After-index_mut-out _
+    (ap (λ (t : TailState). let n : OutEnd = record o { link = t } in n) c.claimed.ensures.after ∙ claim_refused c.args.word o c.in_err-message.ensures.message)

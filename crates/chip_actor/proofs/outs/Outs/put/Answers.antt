@@ -1,10 +1,20 @@
-use Rattle.std.proofs.Common.{ap, None}
-use Rattle.chip_link.specs.Ends.{TailState}
-use Rattle.chip_actor.specs.Ends.{out_after_put}
-use Rattle.chip_actor.proofs.EndLemmas.{changes_out}
+use Rattle.std.proofs.Common.{◌≡◌, ◌∙◌, ap}
+use Rattle.chip_link.specs.Ends.{TailState, put_of}
+use Rattle.chip_actor.specs.Ends.{OutEnds, OutEnd, out_on, out_after_put}
+use Rattle.chip_actor.proofs.EndLemmas.{changes_out, found_out}
 use Rattle.chip_actor.proofs.outs.Outs.put.Goals as goal
+use Rattle.chip_actor.proofs.outs.Outs.put.Goals.{After-index_mut-out}
 
-pub returns : goal.returns
-returns c = rw (← c.self.view_is)
+-- the end that was found is the edge's
+there : (c : After-index_mut-out) → c.index_mut-out.result.now ≡ out_on c.args.self.now c.args.edge
+there c =
+    found_out (record { edges = c.self.inside.edges.items; ends = c.self.inside.ends.items }) c.self.invariant c.place_of-place.result c.args.edge (rw c.deref.ensures.value at c.place_of-place.ensures.within) (rw c.deref.ensures.value at c.place_of-place.ensures.edge) c.index_mut-out.result.now c.index_mut-out.ensures.value
+    ∙ ap (λ (os : OutEnds). out_on os c.args.edge) c.self.view_is
+
+pub returns-clause-stored : goal.returns-clause-stored
+returns-clause-stored c = c.put_value.ensures.value ∙ ap (λ (o : OutEnd). put_of o.link) (there (goal.at.returns-clause-stored c).After-index_mut-out)
+
+pub returns-clause-after : goal.returns-clause-after
+returns-clause-after c = rw (← c.self.view_is)
     (changes_out (record { edges = c.self.inside.edges.items; ends = c.self.inside.ends.items }) c.self.invariant c.place_of-place.result c.args.edge (rw c.deref.ensures.value at c.place_of-place.ensures.within) (rw c.deref.ensures.value at c.place_of-place.ensures.edge) c.index_mut-out.result.now c.index_mut-out.ensures.value
-    (record c.index_mut-out.result.now { held = None; link = c.put_value-stored.new.self }) out_after_put (ap (λ (t : TailState). record c.index_mut-out.result.now { held = None; link = t }) c.put_value-stored.ensures.after))
+    (record c.index_mut-out.result.now { link = c.put_value.new.self }) out_after_put (ap (λ (t : TailState). record c.index_mut-out.result.now { link = t }) c.put_value.ensures.after))

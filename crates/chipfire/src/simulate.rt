@@ -1,10 +1,10 @@
 //! `simulate`: the core's replies to a schedule, and the report where the root closes.
 
-ghost use Rattle.std.specs.Prelude.{◌≡◌, ◌++◌, ◌<◌, ◌≤◌, ℕ, IfOk, IfErr, codes, string_bytes};
+ghost use Rattle.std.specs.Prelude.{◌≡◌, ◌++◌, ◌<◌, ◌≤◌, ℕ, [], IfOk, IfErr, codes, string_bytes};
 ghost use Rattle.std.specs.Option.{ForSome};
 ghost use Rattle.chip_graph.specs.ChipGame.{ChipGame};
 ghost use Rattle.chipfire.specs.Lines.{lines_text};
-ghost use Rattle.chip_core.specs.Core.{Log, IsClosed};
+ghost use Rattle.chip_core.specs.Core.{Log, IsClosed, log_after, replies_to};
 ghost use Rattle.chip_world.specs.World.{StandsForLog, WhateverLog};
 ghost use Rattle.chip_world.specs.declared.world.driving.Drive.TheVariants.{Closed};
 ghost use Rattle.chipfire.specs.declared.fault.Fault.TheVariants.{NoMemory};
@@ -61,13 +61,28 @@ fn simulated(
     ensures ok { IfOk result (λ made. Simulates game.now ring rounds events.now made.0.items made.1) }
     ensures err { IfErr result (λ fault. fault ≡ NoMemory) }
 {
-    let mut world = World::open(alloc, game, ring)?;
-    let record = world.run(alloc, events)?;
-    let mut text = lines_of(alloc, &record.replies)?.into_bytes();
+    let (mut world, mut text) = scheduled(alloc, game, events, ring)?;
     let drive = world.drive(rounds);
     let (end, status) = end_of(alloc, &world, drive)?;
     text.extend_from_slice(&end)?;
     Ok((text, status))
+}
+
+/// The world after a schedule from the opening, and the lines of its replies.
+fn scheduled(
+    alloc: Global,
+    game: &Game,
+    events: &[Event],
+    ring: u64,
+) -> Result<(World, Vec<u8>), AllocError>
+    requires { (0 < ring) × (ring ≤ 64) }
+    ensures world { IfOk result (λ made. StandsForLog game.now ring (log_after game.now ring [] events.now) made.0) }
+    ensures lines { IfOk result (λ made. made.1.items ≡ lines_text reply_text (replies_to game.now ring [] events.now)) }
+{
+    let mut world = World::open(alloc, game, ring)?;
+    let record = world.run(alloc, events)?;
+    let lines = lines_of(alloc, &record.replies)?;
+    Ok((world, lines.into_bytes()))
 }
 
 /// The end of a run whose rounds ended so, and the exit status.

@@ -1,14 +1,11 @@
-use Rattle.std.proofs.Common.{◌++◌, List, ℕ, Vec, Global, ap, ◌∙◌, subst}
+use Rattle.std.proofs.Common.{◌++◌, List, ℕ, ap, ◌∙◌, subst}
 use Rattle.chip_world.specs.Rounds.{AnswersDrive}
 use Rattle.chip_world.specs.declared.world.driving.Drive.{Drive}
-use Rattle.chipfire.specs.Lines.{lines_text}
-use Rattle.chipfire.specs.SimulateCommand.{reply_text}
 use Rattle.chipfire.proofs.simulate.simulated.Goals as goal
 
 pub end_of-requires : goal.end_of-requires
 end_of-requires c =
-    let ran = c.in_ok-record.ensures c.args.game.now c.args.ring _ c.in_ok-world.ensures in
-    let driven = c.drive-drive.ensures.drives c.args.game.now c.args.ring _ ran.world in (
+    let driven = c.drive-drive.ensures.drives c.args.game.now c.args.ring _ c.in_ok-world.ensures.world in (
       c.args.game.now,
       c.args.ring,
       driven.0,
@@ -18,8 +15,7 @@ end_of-requires c =
 
 pub returns-clause-ok : goal.returns-clause-ok
 returns-clause-ok c =
-    let ran = c.in_ok-record.ensures c.args.game.now c.args.ring _ c.in_ok-world.ensures in
-    let driven = c.drive-drive.ensures.drives c.args.game.now c.args.ring _ ran.world in
+    let driven = c.drive-drive.ensures.drives c.args.game.now c.args.ring _ c.in_ok-world.ensures.world in
     record {
       after = driven.0;
       drive = c.drive-drive.result;
@@ -27,8 +23,7 @@ returns-clause-ok c =
       end = c.in_ok-end.end.items;
       lines =
           c.in_ok-extend_from_slice.ensures.items
-          ∙ ap (λ (t : List ℕ). c.into_bytes-text.result.items ++ t) c.deref-2.ensures.value
-          ∙ ap (λ (t : List ℕ). t ++ c.in_ok-end.end.items)
-          (ap (λ (v : Vec ℕ Global). v.items) c.into_bytes-text.ensures.value ∙ c.in_ok-lines_of.ensures ∙ ap (lines_text reply_text) (c.deref.ensures.value ∙ ran.recorded.replies_are));
+          ∙ ap (λ (t : List ℕ). c.in_ok-world.text.items ++ t) c.deref.ensures.value
+          ∙ ap (λ (t : List ℕ). t ++ c.in_ok-end.end.items) c.in_ok-world.ensures.lines;
       ends = c.in_ok-end.ensures.ok c.args.game.now c.args.ring driven.0 driven.1;
     }

@@ -178,6 +178,7 @@ impl World {
         ensures messages { IfOk result (λ v. WhateverLog self.now (λ g ring log. v.items ≡ in_flight g log edge)) }
         ensures room { IfOk result (λ v. vec_len v + room ≤ vec_capacity v) }
     {
+        // With a field read, the proof has the world's invariant: some log leaves it.
         let _ring = self.ring;
         let first = self.delivered(edge);
         let claims = self.sent(edge);

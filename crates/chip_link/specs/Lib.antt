@@ -1,8 +1,9 @@
 pub mod Words
 pub mod WordLaws
+pub mod Rings
 pub mod Ends
 pub mod Link
 pub mod Edge
 pub mod Laws
-pub mod Rows
+pub mod Worked
 pub mod Stage

@@ -5,8 +5,8 @@ pub enum Event {
     Take(u64),
     /// The head of this edge acknowledges all that it may.
     Ack(u64),
-    /// The vertex fires `count` times in a row.
-    Fire { vertex: u64, count: u64 },
+    /// The vertex fires `k` times in a row.
+    Fire { vertex: u64, k: u64 },
     /// The tail of this edge looks whether the next cell is empty.
     Clear(u64),
     /// The tail of this edge claims the next place for what is pending on it.
@@ -23,9 +23,9 @@ pub enum Event {
     Read(u64),
 }
 
-/// An event that was made, with the word that it saw before its operation, or 0 where it looks at none.
+/// An event that was made, with the word that its operation found, or 0 of a store.
 #[derive(Clone, Copy, Debug, PartialEq, Eq)]
-pub struct Did {
+pub struct Step {
     pub event: Event,
     pub seen: u64,
 }

@@ -1,7 +1,8 @@
-ghost use Rattle.std.specs.Prelude.{◌≡◌, ◌^◌, ◌<◌, ◌≤◌};
+ghost use Rattle.std.specs.Prelude.{◌≡◌, ◌^◌, ◌<◌};
 ghost use Rattle.chip_link.specs.Ends.{new_head, head_cell, head_after_take, message_taken};
 
 use crate::message::Message;
+use crate::ring::Ring;
 use std::marker::Model;
 
 /// The end of an edge that receives. It swaps the cell of the next place (`cell`) with 0 and notes what it found
@@ -9,25 +10,21 @@ use std::marker::Model;
 #[derive(Debug, Drop)]
 pub struct HeadLink {
     edge: u64,
-    ring: u64,
+    ring: Ring,
     taken: u64,
 }
 
 impl Model for HeadLink {
-    ghost use Rattle.std.specs.Prelude.{◌<◌, ◌≤◌};
     ghost use Rattle.chip_link.specs.Ends.{HeadState};
 
     ghost Value = { HeadState };
 
     ghost view = { λ a. record { edge = a.edge; ring = a.ring; taken = a.taken } };
-
-    ghost invariant = { λ a. (0 < a.ring) × (a.ring ≤ 64) };
 }
 
 impl HeadLink {
-    /// The head of an edge from which nothing was taken, with a ring of 1 to 64 cells.
-    pub fn new(edge: u64, ring: u64) -> HeadLink
-        requires { (0 < ring) × (ring ≤ 64) }
+    /// The head of an edge from which nothing was taken, with such a ring.
+    pub fn new(edge: u64, ring: Ring) -> HeadLink
         ensures { result ≡ new_head edge ring }
     {
         HeadLink {
@@ -42,7 +39,7 @@ impl HeadLink {
         ensures cell { result ≡ head_cell self.now }
         ensures inside { result < self.now.ring }
     {
-        self.taken % self.ring
+        self.taken % self.ring.cells()
     }
 
     /// The message that was found in that cell, or `None` where it was empty. At most 2^62 messages are taken.

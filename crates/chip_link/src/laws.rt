@@ -3,7 +3,7 @@
 ghost use Rattle.chip_link.specs.Laws.{TakesPrefix, ClaimsInOrder, NothingAfterSeal, WordTells, SealsAllClaims};
 ghost use Rattle.chip_link.specs.WordLaws.{EdgeWordReads, EdgeWordStands, AddsClaims, AddedReads, SealsWord, SealedReads, ExchangesWord, ExpectsUnsealed};
 ghost use Rattle.chip_link.specs.WordLaws.{FiredWordReads, FiredWordStands, AddsFirings, AddedFiringsRead, HaltsWord, HaltReads, HaltsByLimit, HaltByLimitReads};
-ghost use Rattle.chip_link.specs.Rows.{OneCellTail, OneCellHead, RingOfTwo, SealedBetween};
+ghost use Rattle.chip_link.specs.Worked.{OneCellTail, OneCellHead, RingOfTwo, SealedBetween};
 
 /// One edge, end to end, for every ring and every list of steps: looks, claims, puts, takes and seals in any order.
 pub fn one_edge()
@@ -39,7 +39,7 @@ pub fn fired_words()
 {}
 
 /// Small runs of one edge, as the definitions compute them.
-pub fn worked_rows()
+pub fn worked_edges()
     ensures one_cell_tail { OneCellTail }
     ensures one_cell_head { OneCellHead }
     ensures ring_of_two { RingOfTwo }

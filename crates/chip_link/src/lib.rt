@@ -10,15 +10,17 @@ mod event;
 mod head;
 pub mod laws;
 mod message;
+mod ring;
 mod tail;
 #[cfg(test)]
 mod tests;
 mod trace;
 mod words;
 
-pub use event::{Did, Event};
+pub use event::{Event, Step};
 pub use head::HeadLink;
 pub use message::Message;
+pub use ring::{MAX_RING, Ring};
 pub use tail::TailLink;
 pub use trace::TraceRow;
 pub use words::{EdgeWord, FiredWord};

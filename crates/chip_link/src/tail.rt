@@ -3,6 +3,7 @@ ghost use Rattle.chip_link.specs.Words.{claims_in, sealed_in};
 ghost use Rattle.chip_link.specs.Ends.{TailState, new_tail, tail_cell, may_clear, tail_after_clear, claim_words, tail_after_claim, message_claimed, put_of, tail_after_put};
 
 use crate::message::Message;
+use crate::ring::Ring;
 use std::marker::Model;
 
 /// The end of an edge that sends. For each message it looks at the cell of the next place (`cell`, `cleared`),
@@ -10,7 +11,7 @@ use std::marker::Model;
 #[derive(Debug, Drop)]
 pub struct TailLink {
     edge: u64,
-    ring: u64,
+    ring: Ring,
     claims: u64,
     stage: Stage,
 }
@@ -41,13 +42,12 @@ impl Model for TailLink {
 
     ghost view = { λ a. record { edge = a.edge; ring = a.ring; claims = a.claims; held = held_count a.stage; clear = is_clear a.stage; refused = is_refused a.stage } };
 
-    ghost invariant = { λ a. (0 < a.ring) × (a.ring ≤ 64) × HasClaims a.stage a.claims };
+    ghost invariant = { λ a. HasClaims a.stage a.claims };
 }
 
 impl TailLink {
-    /// The tail of an edge on which nothing was sent, with a ring of 1 to 64 cells.
-    pub fn new(edge: u64, ring: u64) -> TailLink
-        requires { (0 < ring) × (ring ≤ 64) }
+    /// The tail of an edge on which nothing was sent, with such a ring.
+    pub fn new(edge: u64, ring: Ring) -> TailLink
         ensures { result ≡ new_tail edge ring }
     {
         TailLink {
@@ -63,7 +63,7 @@ impl TailLink {
         ensures cell { result ≡ tail_cell self.now }
         ensures inside { result < self.now.ring }
     {
-        self.claims % self.ring
+        self.claims % self.ring.cells()
     }
 
     /// Notes what was found in that cell, and says whether a claim may follow. It may not, and nothing changes,
@@ -123,7 +123,7 @@ impl TailLink {
         ensures inside { IfSome result (λ stored. stored.0 < self.now.ring) }
     {
         match self.stage {
-            Stage::Held(count) => Some(((self.claims - 1) % self.ring, count)),
+            Stage::Held(count) => Some(((self.claims - 1) % self.ring.cells(), count)),
             Stage::Idle | Stage::Clear | Stage::Refused => None,
         }
     }

@@ -4,6 +4,7 @@ ghost use Rattle.std.specs.Prelude.{◌+◌, ◌^◌, ◌<◌, ◌≤◌};
 
 use crate::head::HeadLink;
 use crate::message::Message;
+use crate::ring::{MAX_RING, Ring};
 use crate::tail::TailLink;
 use crate::words::{EdgeWord, FiredWord};
 use std::process::Abort;
@@ -48,7 +49,7 @@ fn receive(rt: &impl Abort, head: &mut HeadLink, cells: &mut [u64]) -> Option<(u
 
 #[test]
 fn one_cell(rt: HostRuntime) {
-    let mut tail = TailLink::new(0, 1);
+    let mut tail = TailLink::new(0, Ring::one());
     assert_eq!(rt; tail.cell(), 0);
     assert_eq!(rt; tail.claim_next(), None);
     assert!(rt; tail.cleared(0));
@@ -73,7 +74,7 @@ fn one_cell(rt: HostRuntime) {
     assert_eq!(rt; tail.claim_next(), None);
     assert!(rt; !tail.cleared(0));
 
-    let mut head = HeadLink::new(0, 1);
+    let mut head = HeadLink::new(0, Ring::one());
     assert_eq!(rt; head.cell(), 0);
     assert_eq!(rt; head.taken(0), None);
     assert_eq!(rt; head.taken(2), Some(sent));
@@ -87,8 +88,9 @@ fn one_cell(rt: HostRuntime) {
 
 #[test]
 fn ring_of_two(rt: HostRuntime) {
-    let mut tail = TailLink::new(0, 2);
-    let mut head = HeadLink::new(0, 2);
+    let ring = Ring::new(2).expect(&rt, "two cells");
+    let mut tail = TailLink::new(0, ring);
+    let mut head = HeadLink::new(0, ring);
     let mut word = 0;
     let mut cells = [0; 2];
     assert_eq!(rt;
@@ -113,40 +115,44 @@ fn ring_of_two(rt: HostRuntime) {
 
 #[test]
 fn rings_wrap(rt: HostRuntime) {
-    for ring in [1, 2, 3, 63, 64] {
-        assert!(rt; 0 < ring && ring <= 64);
+    for size in [1, 2, 3, 63, MAX_RING] {
+        let ring = Ring::new(size).expect(&rt, "1 to 64 cells");
+        assert_eq!(rt; ring.cells(), size);
         let mut tail = TailLink::new(9, ring);
         let mut head = HeadLink::new(9, ring);
         let mut word = 0;
         let mut cells = [0; 64];
         // The ring is kept full from its first turn on, so each further message waits for a take.
         for place in 0..300 {
-            if place >= ring {
+            if place >= size {
                 assert_eq!(rt;
                     send(&rt, &mut tail, &mut word, &mut cells, 1),
                     None,
-                    "ring {ring}"
+                    "ring of {size}"
                 );
-                let oldest = place - ring;
+                let oldest = place - size;
                 assert_eq!(rt;
                     receive(&rt, &mut head, &mut cells),
-                    Some((oldest, oldest % 5 + 1, oldest % ring))
+                    Some((oldest, oldest % 5 + 1, oldest % size))
                 );
             }
             assert_eq!(rt;
                 send(&rt, &mut tail, &mut word, &mut cells, place % 5 + 1),
-                Some((place, place % ring))
+                Some((place, place % size))
             );
         }
-        for left in 300 - ring..300 {
+        for left in 300 - size..300 {
             assert_eq!(rt;
                 receive(&rt, &mut head, &mut cells),
-                Some((left, left % 5 + 1, left % ring))
+                Some((left, left % 5 + 1, left % size))
             );
         }
-        assert_eq!(rt; receive(&rt, &mut head, &mut cells), None, "ring {ring}");
+        assert_eq!(rt; receive(&rt, &mut head, &mut cells), None, "ring of {size}");
         assert_eq!(rt; word, 300);
     }
+    assert_eq!(rt; Ring::new(0), None);
+    assert_eq!(rt; Ring::new(MAX_RING + 1), None);
+    assert_eq!(rt; Ring::one().cells(), 1);
 }
 
 #[test]

@@ -1,4 +1,4 @@
--- Worked rows of one edge, as the definitions compute them.
+-- Worked runs of one edge, as the definitions compute them.
 use Rattle.std.specs.Prelude.{◌≡◌, ℕ, ◌+◌, ◌^◌, true, false, List, [], ◌∷◌, Some, None}
 use Rattle.chip_link.specs.declared.message.Message.{Message}
 use Rattle.chip_link.specs.Ends.{TailState, new_tail, tail_cell, may_clear, tail_after_clear, claim_words, tail_after_claim, message_claimed, put_of, tail_after_put, HeadState, new_head, head_after_take, message_taken}

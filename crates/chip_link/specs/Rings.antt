@@ -1,0 +1,14 @@
+-- How many cells the ring of an edge has.
+use Rattle.std.specs.Prelude.{ℕ, ◌<◌, ◌≤◌, ◌&&◌, nat_lt, nat_le, if◌then◌else◌, Option, Some, None}
+
+-- the most that it has
+abbrev pub max_ring : ℕ
+max_ring = 64
+
+-- a ring has so many cells
+abbrev pub IsRing : ℕ → Type 0
+IsRing cells = (0 < cells) × (cells ≤ max_ring)
+
+-- the ring of so many cells, where there is one
+abbrev pub ring_of : ℕ → Option ℕ
+ring_of cells = if nat_lt 0 cells && nat_le cells max_ring then Some cells else None

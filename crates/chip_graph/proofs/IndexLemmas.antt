@@ -63,9 +63,9 @@ unreached_fault G found are none v fault is l missing before =
     )
 
 -- a refusal for a reason that holds is an answer
-pub refused : (G : Multigraph) (result : Result Multigraph GraphFault) (fault : GraphFault) → IsErrAnd result (λ e. e ≡ fault) → (fault ≡ graph_fault.NoMemory) ⊎ IsGraphFault G fault → MakesGraph G result
+pub refused : (G : Multigraph) (result : Result Multigraph GraphFault) (fault : GraphFault) → IsErrAnd result (λ e. e ≡ fault) → ((fault ≡ graph_fault.NoMemory) × (fault_of_rows G ≡ None)) ⊎ IsGraphFault G fault → MakesGraph G result
 refused G (Ok graph) fault is why = absurd is
-refused G (Err e) fault is why = let P : GraphFault → Type 0 = (λ f. (f ≡ graph_fault.NoMemory) ⊎ IsGraphFault G f) in subst P (sym is) why
+refused G (Err e) fault is why = let P : GraphFault → Type 0 = (λ f. ((f ≡ graph_fault.NoMemory) × (fault_of_rows G ≡ None)) ⊎ IsGraphFault G f) in subst P (sym is) why
 
 -- what stands beside the edges of a graph stands beside the same edges elsewhere
 pub copied : (n s : ℕ) {es es' : List Edge} {ds ds' ts ts' : List ℕ} {os os' is is' : List (List ℕ)} {ls ls' : List (List Edge)}

@@ -1,5 +1,5 @@
 pub mod SumLemmas
-pub mod RowLemmas
+pub mod PackedListLemmas
 pub mod PickLemmas
 pub mod FaultLemmas
 pub mod IndexLemmas

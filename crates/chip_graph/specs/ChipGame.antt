@@ -1,5 +1,6 @@
 -- A chip-firing game, as plain data.
-use Rattle.std.specs.Prelude.{◌≡◌, ℕ, ◌^◌, ◌≤◌, List, length, sum}
+use Rattle.std.specs.Prelude.{◌≡◌, ℕ, ◌≤◌, List, length, sum}
+use Rattle.chip_graph.specs.Limits.{max_total, max_limit}
 use Rattle.chip_graph.specs.Multigraph.{Multigraph, IsGraph}
 
 -- what a `Game` shows: the graph, the chips at the start by vertex, and how often each vertex may fire
@@ -12,5 +13,5 @@ pub record ChipGame : Type 0 where
 pub record IsGame (g : ChipGame) : Type 0 where
   pub graph_fits : IsGraph g.graph
   pub start_fits : length g.start ≡ g.graph.vertices
-  pub few_chips : sum g.start ≤ 2 ^ 40
-  pub low_limit : g.limit ≤ 2 ^ 40
+  pub few_chips : sum g.start ≤ max_total
+  pub low_limit : g.limit ≤ max_limit

@@ -1,10 +1,12 @@
 -- What is wrong with a graph or a game: the first fault in order.
-use Rattle.std.specs.Prelude.{◌≡◌, ℕ, suc, ◌^◌, ◌<◌, ◌==◌, nat_lt, nat_le, Bool, ◌&&◌, not, if◌then◌else◌, Option, Some, None, List, [], ◌∷◌, length, sum, Result, Ok, Err, ◌⊎◌}
+use Rattle.std.specs.Prelude.{◌≡◌, ◌⊎◌, ℕ, suc, ◌<◌, ◌==◌, nat_lt, nat_le, Bool, ◌&&◌, not, if◌then◌else◌}
+use Rattle.std.specs.Prelude.{List, [], ◌∷◌, length, sum, Option, Some, None, Result, Ok, Err}
 use Rattle.chip_graph.specs.declared.edge.Edge.{Edge}
 use Rattle.chip_graph.specs.declared.fault.GraphFault.{GraphFault}
 use Rattle.chip_graph.specs.declared.fault.GraphFault.TheVariants as graph_fault
 use Rattle.chip_graph.specs.declared.fault.GameFault.{GameFault}
 use Rattle.chip_graph.specs.declared.fault.GameFault.TheVariants as game_fault
+use Rattle.chip_graph.specs.Limits.{max_vertices, max_edges, max_mult, max_total, max_limit}
 use Rattle.chip_graph.specs.Multigraph.{Multigraph, ReachesSink, IsGraph}
 use Rattle.chip_graph.specs.ChipGame.{ChipGame}
 
@@ -21,21 +23,22 @@ unless test fault = if test then None else Some fault
 abbrev pub fault_of_edge : ℕ → ℕ → ℕ → Edge → Option GraphFault
 fault_of_edge vertices sink i edge =
     first_of_faults (unless (nat_lt edge.tail vertices && nat_lt edge.head vertices) (graph_fault.Endpoint i))
-    (first_of_faults (unless (nat_lt 0 edge.mult && nat_le edge.mult (2 ^ 20)) (graph_fault.Mult i))
+    (first_of_faults (unless (nat_lt 0 edge.mult && nat_le edge.mult max_mult) (graph_fault.Mult i))
     (first_of_faults (unless (not (edge.tail == edge.head)) (graph_fault.Loop i))
     (unless (not (edge.tail == sink)) (graph_fault.FromSink i))))
 
--- the first thing wrong with the edges, of which the first has the place i
+-- the first thing wrong with the edges, of which the first has the number i
 abbrev pub fault_of_edges : ℕ → ℕ → ℕ → List Edge → Option GraphFault
 fault_of_edges vertices sink i [] = None
-fault_of_edges vertices sink i (edge ∷ edges) = first_of_faults (fault_of_edge vertices sink i edge) (fault_of_edges vertices sink (suc i) edges)
+fault_of_edges vertices sink i (edge ∷ edges) =
+    first_of_faults (fault_of_edge vertices sink i edge) (fault_of_edges vertices sink (suc i) edges)
 
 -- the first thing wrong with a graph, walks aside
 abbrev pub fault_of_rows : Multigraph → Option GraphFault
 fault_of_rows G =
-    first_of_faults (unless (nat_lt 0 G.vertices && nat_le G.vertices 4096) graph_fault.Vertices)
+    first_of_faults (unless (nat_lt 0 G.vertices && nat_le G.vertices max_vertices) graph_fault.Vertices)
     (first_of_faults (unless (nat_lt G.sink G.vertices) graph_fault.Sink)
-    (first_of_faults (unless (nat_le (length G.edges) 65536) graph_fault.EdgeCount)
+    (first_of_faults (unless (nat_le (length G.edges) max_edges) graph_fault.EdgeCount)
     (fault_of_edges G.vertices G.sink 0 G.edges)))
 
 -- v is the least vertex from which no walk leads to the sink
@@ -46,24 +49,27 @@ pub record IsUnreached (G : Multigraph) (v : ℕ) : Type 0 where
 
 -- the first fault of a graph
 abbrev pub IsGraphFault : Multigraph → GraphFault → Type 0
-IsGraphFault G fault = (fault_of_rows G ≡ Some fault) ⊎ ((fault_of_rows G ≡ None) × (v : ℕ) × (fault ≡ graph_fault.Unreached v) × IsUnreached G v)
+IsGraphFault G fault =
+    (fault_of_rows G ≡ Some fault)
+    ⊎ ((fault_of_rows G ≡ None) × (v : ℕ) × (fault ≡ graph_fault.Unreached v) × IsUnreached G v)
 
 -- a test that is passed, or fails by its fault
 abbrev pub checked : {F : Type 0} → Option F → Result (Unit {0}) F
 checked None = Ok tt
 checked (Some fault) = Err fault
 
--- what making a graph answers: the graph where it is one, else its first fault, or want of memory
+-- what making a graph answers: the graph where it is one, else its first fault; want of memory only where the rows have
+-- no fault, since nothing grows before they are looked at
 abbrev pub MakesGraph : Multigraph → Result Multigraph GraphFault → Type 0
 MakesGraph G (Ok graph) = (graph ≡ G) × IsGraph G
-MakesGraph G (Err fault) = (fault ≡ graph_fault.NoMemory) ⊎ IsGraphFault G fault
+MakesGraph G (Err fault) = ((fault ≡ graph_fault.NoMemory) × (fault_of_rows G ≡ None)) ⊎ IsGraphFault G fault
 
 -- the first fault of a game on a graph
 abbrev pub fault_of_game : ChipGame → Option GameFault
 fault_of_game g =
     first_of_faults (unless (length g.start == g.graph.vertices) game_fault.StartLength)
-    (first_of_faults (unless (nat_le (sum g.start) (2 ^ 40)) game_fault.Total)
-    (unless (nat_le g.limit (2 ^ 40)) game_fault.Limit))
+    (first_of_faults (unless (nat_le (sum g.start) max_total) game_fault.Total)
+    (unless (nat_le g.limit max_limit) game_fault.Limit))
 
 -- what making a game answers: the game where it is one, else its first fault
 abbrev pub MakesGame : ChipGame → Result ChipGame GameFault → Type 0

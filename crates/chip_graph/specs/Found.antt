@@ -1,8 +1,10 @@
 -- What a search for distances has found on its way.
-use Rattle.std.specs.Prelude.{ℕ, List, [], ◌∷◌, ◌++◌, fold, Option, Some, None, is_some, slice_index_or, slice_set, if◌then◌else◌}
+use Rattle.std.specs.Prelude.{ℕ, if◌then◌else◌, Option, Some, None, is_some}
+use Rattle.std.specs.Prelude.{List, [], ◌∷◌, ◌++◌, fold, slice_index_or, slice_set}
 use Rattle.chip_graph.specs.declared.edge.Edge.{Edge}
 use Rattle.chip_graph.specs.declared.distance.Reached.{Reached}
 use Rattle.chip_graph.specs.declared.distance.Search.{Search}
+use Rattle.chip_graph.specs.Ends.{edge_of}
 
 -- the distances by vertex, and the vertices that have one, in the order in which they were reached
 pub record Found : Type 0 where
@@ -15,8 +17,14 @@ found s = record { distances = s.distances.items; reached = s.reached.items }
 
 -- v is reached at this distance, unless it was reached before
 abbrev pub with_vertex : ℕ → ℕ → Found → Found
-with_vertex v d f = if is_some (slice_index_or f.distances v None) then f else record { distances = slice_set f.distances v (Some d); reached = f.reached ++ record { vertex = v; distance = d } ∷ [] }
+with_vertex v d f =
+    if is_some (slice_index_or f.distances v None)
+    then f
+    else record {
+      distances = slice_set f.distances v (Some d);
+      reached = f.reached ++ record { vertex = v; distance = d } ∷ [];
+    }
 
 -- the tails of these edges are reached at this distance, unless they were reached before
 abbrev pub with_tails : List Edge → ℕ → List ℕ → Found → Found
-with_tails edges d es f = fold (λ g e. with_vertex (slice_index_or edges e (record { tail = 0; head = 0; mult = 0 })).tail d g) f es
+with_tails edges d es f = fold (λ g e. with_vertex (edge_of edges e).tail d g) f es

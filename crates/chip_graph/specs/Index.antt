@@ -8,8 +8,9 @@ use Rattle.chip_graph.specs.Multigraph.{Multigraph, IsGraph, IsDistance, edge_at
 abbrev pub graph_of : Inside → Multigraph
 graph_of a = record { vertices = a.vertices; sink = a.sink; edges = a.edges.items }
 
--- degrees, distances and rows are those of the graph
-pub record IsIndex (G : Multigraph) (degree_of distance_of : List ℕ) (outs_of ins_of : List (List ℕ)) (links_of : List (List Edge)) : Type 0 where
+-- degrees, distances and lists are those of the graph
+pub record IsIndex (G : Multigraph) (degree_of distance_of : List ℕ) (outs_of ins_of : List (List ℕ))
+    (links_of : List (List Edge)) : Type 0 where
   pub graph : IsGraph G
   pub degree_each : length degree_of ≡ G.vertices
   pub degrees : (v : ℕ) → v < G.vertices → slice_index degree_of v ≡ degree G v

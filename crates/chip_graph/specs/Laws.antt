@@ -6,4 +6,6 @@ use Rattle.chip_graph.specs.Faults.{IsGraphFault}
 
 -- a graph has no fault, and nothing has two first faults
 abbrev pub OneAnswer : Type 0
-OneAnswer = (G : Multigraph) (fault : GraphFault) → IsGraphFault G fault → (IsGraph G → ⊥) × ((other : GraphFault) → IsGraphFault G other → other ≡ fault)
+OneAnswer =
+    (G : Multigraph) (fault : GraphFault) → IsGraphFault G fault
+    → (IsGraph G → ⊥) × ((other : GraphFault) → IsGraphFault G other → other ≡ fault)

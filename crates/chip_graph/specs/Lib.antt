@@ -1,7 +1,10 @@
+pub mod Limits
 pub mod Sums
 pub mod Multigraph
+pub mod Edges
 pub mod ChipGame
-pub mod Rows
+pub mod Worked
+pub mod PackedLists
 pub mod Ends
 pub mod Faults
 pub mod Distances

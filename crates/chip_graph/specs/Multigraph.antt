@@ -1,15 +1,17 @@
--- A directed multigraph with a global sink (Björner and Lovász, Chip-firing games on directed graphs, 1992), as plain data.
-use Rattle.std.specs.Prelude.{◌≡◌, ◌≢◌, ℕ, ◌^◌, ◌<◌, ◌≤◌, ◌==◌, if◌then◌else◌, List, [], ◌∷◌, length, slice_index_or}
+-- A directed multigraph with a global sink, as plain data
+-- (Björner and Lovász, Chip-firing games on directed graphs, 1992).
+use Rattle.std.specs.Prelude.{◌≡◌, ◌≢◌, ℕ, ◌<◌, ◌≤◌, ◌==◌, if◌then◌else◌, List, [], ◌∷◌, length, slice_index_or}
 use Rattle.chip_graph.specs.declared.edge.Edge.{Edge}
+use Rattle.chip_graph.specs.Limits.{max_vertices, max_edges, max_mult}
 use Rattle.chip_graph.specs.Sums.{sum_below, picked}
 
--- what a `Graph` shows: vertices 0 to vertices - 1, the sink, and the edges, named by their places
+-- what a `Graph` shows: vertices 0 to vertices - 1, the sink, and the edges, named by their numbers
 pub record Multigraph : Type 0 where
   pub vertices : ℕ
   pub sink : ℕ
   pub edges : List Edge
 
--- the edge at a place
+-- the edge that has this number
 abbrev pub edge_at : Multigraph → ℕ → Edge
 edge_at G e = slice_index_or G.edges e (record { tail = 0; head = 0; mult = 0 })
 
@@ -52,15 +54,15 @@ pub record IsEdge (vertices sink : ℕ) (edge : Edge) : Type 0 where
   pub tail_is_vertex : edge.tail < vertices
   pub head_is_vertex : edge.head < vertices
   pub some_chips : 0 < edge.mult
-  pub few_chips : edge.mult ≤ 2 ^ 20
+  pub few_chips : edge.mult ≤ max_mult
   pub no_loop : edge.tail ≢ edge.head
   pub not_from_sink : edge.tail ≢ sink
 
 -- a graph within the limits, in which every vertex reaches the sink
 pub record IsGraph (G : Multigraph) : Type 0 where
   pub some_vertex : 0 < G.vertices
-  pub few_vertices : G.vertices ≤ 4096
+  pub few_vertices : G.vertices ≤ max_vertices
   pub sink_is_vertex : G.sink < G.vertices
-  pub few_edges : length G.edges ≤ 65536
+  pub few_edges : length G.edges ≤ max_edges
   pub edges_fit : (e : ℕ) → e < length G.edges → IsEdge G.vertices G.sink (edge_at G e)
   pub all_reach : (v : ℕ) → v < G.vertices → ReachesSink G v

@@ -1,5 +1,6 @@
 ghost use Rattle.std.specs.Prelude.{◌≡◌, ℕ, ◌<◌, ◌≤◌, [], length, replicate, IfOk, All, slice_get, vec_len};
 ghost use Rattle.std.specs.Option.{ForSome};
+ghost use Rattle.chip_graph.specs.Limits.{max_vertices};
 ghost use Rattle.chip_graph.specs.Multigraph.{edges_in};
 ghost use Rattle.chip_graph.specs.Distances.{AreDistances};
 ghost use Rattle.chip_graph.specs.Found.{found, with_vertex, with_tails};
@@ -27,7 +28,8 @@ impl Search {
     /// The sink alone is reached.
     fn begin(alloc: Global, vertices: usize, sink: u64) -> Result<Self, AllocError>
         requires { sink < vertices }
-        ensures { IfOk result (λ search. found search ≡ with_vertex sink 0 (record { distances = replicate vertices None; reached = [] })) }
+        ensures { IfOk result (λ search.
+            found search ≡ with_vertex sink 0 (record { distances = replicate vertices None; reached = [] })) }
     {
         let mut distances = Vec::new(alloc);
         distances.resize(vertices, None)?;
@@ -64,7 +66,7 @@ impl Search {
 
 /// How far each vertex is from the sink: the length of a shortest walk, or `None` where no walk leads there.
 ///
-/// `ins` has the edges into each vertex, ascending, by their places.
+/// `ins` has the edges into each vertex, ascending, by their numbers.
 pub(crate) fn distances(
     alloc: Global,
     sink: u64,
@@ -72,10 +74,12 @@ pub(crate) fn distances(
     ins: &[Vec<u64>],
 ) -> Result<Vec<Option<u64>>, AllocError>
     requires sink_is_vertex { sink < length ins.now }
-    requires few_vertices { length ins.now ≤ 4096 }
+    requires few_vertices { length ins.now ≤ max_vertices }
     requires tails_are_vertices { All (λ edge. edge.tail < length ins.now) edges.now }
-    requires ins { (v : ℕ) → ForSome (slice_get ins.now v) (λ row. row.items ≡ edges_in (record { vertices = length ins.now; sink = sink; edges = edges.now }) v) }
-    ensures { IfOk result (λ distances. AreDistances (record { vertices = length ins.now; sink = sink; edges = edges.now }) distances.items) }
+    requires ins { (v : ℕ) → ForSome (slice_get ins.now v) (λ list.
+        list.items ≡ edges_in (record { vertices = length ins.now; sink = sink; edges = edges.now }) v) }
+    ensures { IfOk result (λ distances.
+        AreDistances (record { vertices = length ins.now; sink = sink; edges = edges.now }) distances.items) }
 {
     let mut search = Search::begin(alloc, ins.len(), sink)?;
     let mut next = 0;

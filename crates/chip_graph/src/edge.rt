@@ -2,7 +2,7 @@ ghost use Rattle.std.specs.Prelude.{◌≡◌};
 
 /// One row of a graph: `mult` parallel edges from `tail` to `head`.
 ///
-/// Several rows may join the same two vertices; each is an edge of its own, named by its place.
+/// Several rows may join the same two vertices; each is an edge of its own, named by its number: its index in the list.
 #[derive(Clone, Copy, Debug, PartialEq, Eq)]
 pub struct Edge {
     /// The vertex that it leaves.
@@ -13,10 +13,24 @@ pub struct Edge {
     pub mult: u64,
 }
 
+/// An edge of a running game.
+#[derive(Clone, Copy, Debug, PartialEq, Eq)]
+pub enum AnyEdge {
+    /// One of the graph's own.
+    Own(Edge),
+    /// The root edge into a vertex, on which its chips at the start come.
+    Root {
+        /// The vertex that it goes into.
+        head: u64,
+    },
+}
+
 /// One of the two ends of an edge.
 #[derive(Clone, Copy, Debug, PartialEq, Eq)]
 pub(crate) enum End {
+    /// The vertex that it leaves.
     Tail,
+    /// The vertex that it goes into.
     Head,
 }
 

@@ -1,21 +1,24 @@
-ghost use Rattle.std.specs.Prelude.{◌≡◌, ◌^◌, ◌<◌, ◌≤◌, IfOk, IfSome, IfNone, sum};
+ghost use Rattle.std.specs.Prelude.{◌≡◌, ◌<◌, ◌≤◌, IfOk, IfSome, IfNone, sum};
+ghost use Rattle.chip_graph.specs.Limits.{max_total};
 
 use crate::fault::GameFault;
 use crate::graph::Graph;
 use std::alloc::{AllocError, Global};
 use std::marker::Model;
 
-/// The most chips that a game holds.
+/// The most chips that a game holds: 2^40.
 pub const MAX_TOTAL: u64 = 1 << 40;
-/// The greatest firing limit.
+/// The greatest firing limit: 2^40.
 pub const MAX_LIMIT: u64 = 1 << 40;
 
 /// A chip-firing game: a graph, the chips at the start, and how often each vertex may fire.
 #[derive(Debug, Drop)]
 pub struct Game {
     graph: Graph,
+    /// By vertex.
     start: Vec<u64>,
     limit: u64,
+    /// The sum of `start`.
     total: u64,
 }
 
@@ -89,7 +92,7 @@ impl Game {
         &self.start
     }
 
-    /// How often each vertex may fire at most, up to 2^40.
+    /// How often each vertex may fire at most, up to `MAX_LIMIT`.
     pub fn limit(&self) -> u64
         ensures value { result ≡ self.now.limit }
         ensures game { IsGame self.now }
@@ -97,7 +100,7 @@ impl Game {
         self.limit
     }
 
-    /// How many chips there are in all, up to 2^40.
+    /// How many chips there are in all, up to `MAX_TOTAL`.
     pub fn total(&self) -> u64
         ensures value { result ≡ sum self.now.start }
         ensures game { IsGame self.now }
@@ -106,10 +109,10 @@ impl Game {
     }
 }
 
-/// The sum, or `None` where it is above 2^40.
+/// The sum, or `None` where it is above `MAX_TOTAL`.
 fn total_of(chips: &[u64]) -> Option<u64>
-    ensures some { IfSome result (λ total. (total ≡ sum chips.now) × (total ≤ 2 ^ 40)) }
-    ensures none { IfNone result (2 ^ 40 < sum chips.now) }
+    ensures some { IfSome result (λ total. (total ≡ sum chips.now) × (total ≤ max_total)) }
+    ensures none { IfNone result (max_total < sum chips.now) }
 {
     let mut total = 0u64;
     for count in chips {

@@ -3,10 +3,10 @@ ghost use Rattle.chip_graph.specs.Faults.{checked, fault_of_edge, fault_of_rows}
 ghost use Rattle.chip_graph.specs.declared.fault.GraphFault.TheVariants.{NoMemory, Unreached};
 
 use crate::distance::distances;
-use crate::edge::{Edge, End};
+use crate::edge::{AnyEdge, Edge, End};
 use crate::fault::GraphFault;
 use crate::index;
-use crate::rows::Rows;
+use crate::packed_lists::PackedLists;
 use std::alloc::{AllocError, Global};
 use std::marker::Model;
 
@@ -19,18 +19,24 @@ pub const MAX_MULT: u64 = 1_048_576;
 
 /// A directed multigraph with a global sink: a vertex with no edge out, which every vertex reaches.
 ///
-/// Vertices are the numbers below `vertices()`, and edges are named by their place in `edges()`.
+/// Vertices are the numbers below `vertices()`, and edges are named by their numbers: their indices in `edges()`.
 /// What is asked of a vertex is made once, with the graph, and answered in constant time.
 #[derive(Debug, Drop)]
 pub struct Graph {
     vertices: u64,
     sink: u64,
+    /// By number.
     edges: Vec<Edge>,
+    /// The out-degrees, by vertex.
     degrees: Vec<u64>,
+    /// How far each vertex is from the sink, by vertex.
     distances: Vec<u64>,
-    outs: Rows<u64>,
-    ins: Rows<u64>,
-    links: Rows<Edge>,
+    /// The edges out of each vertex, ascending.
+    outs: PackedLists<u64>,
+    /// The edges into each vertex, ascending.
+    ins: PackedLists<u64>,
+    /// The edges out of each vertex as they are, in the order of `outs`.
+    links: PackedLists<Edge>,
 }
 
 impl Model for Graph {
@@ -47,7 +53,9 @@ impl Model for Graph {
 
 impl Graph {
     ghost use Rattle.std.specs.Prelude.{◌≡◌, ◌<◌, map};
-    ghost use Rattle.chip_graph.specs.Multigraph.{Multigraph, IsGraph, IsDistance, edge_at, edges_out, edges_in, degree};
+    ghost use Rattle.chip_graph.specs.Multigraph.{Multigraph, IsGraph, IsDistance};
+    ghost use Rattle.chip_graph.specs.Multigraph.{edge_at, edges_out, edges_in, degree};
+    ghost use Rattle.chip_graph.specs.Edges.{all_edges, root_edge, IsNumbered};
     ghost use Rattle.chip_graph.specs.Faults.{MakesGraph};
 
     /// A graph of these edges, or the first reason why it is none; in time linear in vertices and edges.
@@ -107,7 +115,7 @@ impl Graph {
         })
     }
 
-    /// How many vertices there are: 1 to 4,096.
+    /// How many vertices there are: 1 to `MAX_VERTICES`.
     pub fn vertices(&self) -> u64
         ensures value { result ≡ self.now.vertices }
         ensures graph { IsGraph self.now }
@@ -123,12 +131,46 @@ impl Graph {
         self.sink
     }
 
-    /// The edges, named by their places.
+    /// The graph's own edges, named by their indices.
     pub fn edges(&self) -> &[Edge]
         ensures value { result.now ≡ self.now.edges }
         ensures graph { IsGraph self.now }
     {
         &self.edges
+    }
+
+    /// How many edges a running game has: the graph's own, and then a root edge for each vertex.
+    pub fn all_edges(&self) -> u64
+        ensures value { result ≡ all_edges self.now }
+        ensures graph { IsGraph self.now }
+    {
+        self.edges.len() as u64 + self.vertices
+    }
+
+    /// The number of the root edge into this vertex.
+    pub fn root_edge(&self, vertex: u64) -> u64
+        requires { vertex < self.now.vertices }
+        ensures value { result ≡ root_edge self.now vertex }
+        ensures graph { IsGraph self.now }
+    {
+        self.edges.len() as u64 + vertex
+    }
+
+    /// The edge that has this number, or `None` from `all_edges()` on.
+    pub fn edge(&self, number: u64) -> Option<AnyEdge>
+        ensures edge { IsNumbered self.now number result }
+        ensures graph { IsGraph self.now }
+    {
+        let graph_edges = self.edges.len() as u64;
+        if number < graph_edges {
+            Some(AnyEdge::Own(self.edges[number as usize]))
+        } else if number < self.all_edges() {
+            Some(AnyEdge::Root {
+                head: number - graph_edges,
+            })
+        } else {
+            None
+        }
     }
 
     /// The sum of `mult` over the edges out of this vertex, below 2^37.
@@ -144,7 +186,7 @@ impl Graph {
         requires { vertex < self.now.vertices }
         ensures { result.now ≡ edges_out self.now vertex }
     {
-        self.outs.row(vertex as usize)
+        self.outs.list(vertex as usize)
     }
 
     /// The edges into this vertex, ascending.
@@ -152,7 +194,7 @@ impl Graph {
         requires { vertex < self.now.vertices }
         ensures { result.now ≡ edges_in self.now vertex }
     {
-        self.ins.row(vertex as usize)
+        self.ins.list(vertex as usize)
     }
 
     /// The edges out of this vertex as they are, in the order of `outs`, side by side in memory.
@@ -160,7 +202,7 @@ impl Graph {
         requires { vertex < self.now.vertices }
         ensures { result.now ≡ map (edge_at self.now) (edges_out self.now vertex) }
     {
-        self.links.row(vertex as usize)
+        self.links.list(vertex as usize)
     }
 
     /// The least number of edges from this vertex to the sink; 0 at the sink.
@@ -214,7 +256,10 @@ fn check_rows(vertices: u64, sink: u64, edges: &[Edge]) -> Result<(), GraphFault
 fn all_reached(alloc: Global, found: &[Option<u64>]) -> Result<Vec<u64>, GraphFault>
     ensures all { IfOk result (λ distances. map Some distances.items ≡ found.now) }
     ensures none { IfErr result
-        (λ fault. (fault ≡ NoMemory) ⊎ ((v : ℕ) × (fault ≡ Unreached v) × (v < length found.now) × (slice_index_or found.now v None ≡ None) × ((u : ℕ) → u < v → (d : ℕ) × (slice_index_or found.now u None ≡ Some d)))) }
+        (λ fault. (fault ≡ NoMemory) ⊎ ((v : ℕ) × (fault ≡ Unreached v)
+        × (v < length found.now)
+        × (slice_index_or found.now v None ≡ None)
+        × ((u : ℕ) → u < v → (d : ℕ) × (slice_index_or found.now u None ≡ Some d)))) }
 {
     let mut distances = Vec::new(alloc);
     for (v, distance) in found.iter().enumerate() {

@@ -5,10 +5,10 @@
 //! (`specs/Multigraph.antt`), and a `Game` as graph, start and limit (`specs/ChipGame.antt`).
 #![tactic(auto)]
 
-pub use edge::Edge;
+pub use edge::{AnyEdge, Edge};
 pub use fault::{GameFault, GraphFault};
-pub use game::Game;
-pub use graph::Graph;
+pub use game::{Game, MAX_LIMIT, MAX_TOTAL};
+pub use graph::{Graph, MAX_EDGES, MAX_MULT, MAX_VERTICES};
 
 mod distance;
 pub mod edge;
@@ -17,6 +17,6 @@ pub mod game;
 pub mod graph;
 mod index;
 pub mod laws;
-mod rows;
+mod packed_lists;
 #[cfg(test)]
 mod tests;

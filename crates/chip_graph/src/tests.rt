@@ -1,6 +1,6 @@
 //! Worked refusals and answers, with values from outside.
 
-use crate::{Edge, Game, GameFault, Graph, GraphFault};
+use crate::{AnyEdge, Edge, Game, GameFault, Graph, GraphFault};
 use std::alloc::Global;
 use std::test::Fail;
 
@@ -50,6 +50,30 @@ fn shows_the_triangle(rt: HostRuntime) -> Result<(), Fail> {
             "links of {vertex}"
         );
     }
+    Ok(())
+}
+
+#[test]
+fn numbers_the_edges(rt: HostRuntime) -> Result<(), Fail> {
+    let triangle = graph(rt.alloc(), 3, 2, &TRIANGLE)?;
+    assert_eq!(rt; triangle.all_edges(), 7);
+    let back = Edge {
+        tail: 1,
+        head: 0,
+        mult: 1,
+    };
+    assert_eq!(rt; triangle.edge(2), Some(AnyEdge::Own(back)));
+    for vertex in 0..triangle.vertices() {
+        assert!(rt; vertex < triangle.vertices());
+        let root_edge = triangle.root_edge(vertex);
+        assert_eq!(rt; root_edge, 4 + vertex);
+        assert_eq!(rt;
+            triangle.edge(root_edge),
+            Some(AnyEdge::Root { head: vertex })
+        );
+    }
+    assert_eq!(rt; triangle.edge(7), None);
+    assert_eq!(rt; triangle.edge(u64::MAX), None);
     Ok(())
 }
 

@@ -2,6 +2,7 @@ use Rattle.std.proofs.Common.{ℕ, ◌<◌, [], map, get_or, sym, ap, subst, ◌
 use Rattle.std.specs.List.{All}
 use Rattle.std.proofs.lemmas.List.{length-map}
 use Rattle.chip_graph.specs.declared.edge.End.TheVariants.{Tail, Head}
+use Rattle.chip_graph.specs.declared.fault.GraphFault.TheVariants.{NoMemory}
 use Rattle.chip_graph.specs.Multigraph.{Multigraph}
 use Rattle.chip_graph.specs.Distances.{AreDistances}
 use Rattle.chip_graph.specs.Ends.{edge_of}
@@ -50,9 +51,21 @@ returns-in_err-distances c =
     let found = c.deref-2.ensures.value in
     rw (← c.as_slice-rows.ensures.value)
     (refused G c.from_residual-in_err-distances.result c.in_err-distances.field-0.0 c.from_residual-in_err-distances.ensures.1
-    (⊎_elim (λ memory. inl memory)
+    (⊎_elim (λ memory. inl (memory, none))
     (λ missing. inr (unreached_fault G c.deref-2.result.now (subst (AreDistances G) (sym found) are) none missing.0 c.in_err-distances.field-0.0 missing.1 missing.2 missing.3 missing.4))
     c.in_err-distances.ensures.none))
+
+pub returns-in_err-outs-2 : goal.returns-in_err-outs-2
+returns-in_err-outs-2 c =
+    let G : Multigraph = record { vertices = c.args.vertices; sink = c.args.sink; edges = c.as_slice-rows.result.now } in
+    rw (← c.as_slice-rows.ensures.value)
+    (refused G c.from_residual-in_err-outs-2.result NoMemory c.from_residual-in_err-outs-2.ensures.1 (inl (refl, accepted _ c.in_ok-check_rows.ensures)))
+
+pub returns-in_err-ins-2 : goal.returns-in_err-ins-2
+returns-in_err-ins-2 c =
+    let G : Multigraph = record { vertices = c.args.vertices; sink = c.args.sink; edges = c.as_slice-rows.result.now } in
+    rw (← c.as_slice-rows.ensures.value)
+    (refused G c.from_residual-in_err-ins-2.result NoMemory c.from_residual-in_err-ins-2.ensures.1 (inl (refl, accepted _ c.in_ok-check_rows.ensures)))
 
 pub invariant_of-result : goal.invariant_of-result
 invariant_of-result c =

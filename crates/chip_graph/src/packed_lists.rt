@@ -6,48 +6,48 @@ use std::marker::Model;
 
 /// Lists that lie side by side in one vector, and are told apart by where they start.
 #[derive(Debug, Drop)]
-pub(crate) struct Rows<T> {
+pub(crate) struct PackedLists<T> {
     starts: Vec<usize>,
     members: Vec<T>,
 }
 
-impl<T> Model for Rows<T> {
+impl<T> Model for PackedLists<T> {
     ghost use Rattle.std.specs.Prelude.{List};
-    ghost use Rattle.chip_graph.specs.Rows.{rows_of, AreStarts};
+    ghost use Rattle.chip_graph.specs.PackedLists.{lists_of, AreStarts};
     ghost use Rattle.std.specs.Prelude.{length};
 
     ghost Value = { List (List T) };
 
-    ghost view = { λ r. rows_of r.starts.items r.members.items };
+    ghost view = { λ p. lists_of p.starts.items p.members.items };
 
-    ghost invariant = { λ r. AreStarts r.starts.items (length r.members.items) };
+    ghost invariant = { λ p. AreStarts p.starts.items (length p.members.items) };
 }
 
-impl<T: Copy> Rows<T> {
-    /// No row yet.
+impl<T: Copy> PackedLists<T> {
+    /// No list yet.
     pub(crate) fn new(alloc: Global) -> Result<Self, AllocError>
-        ensures { IfOk result (λ rows. rows ≡ []) }
+        ensures { IfOk result (λ lists. lists ≡ []) }
     {
         let mut starts = Vec::new(alloc);
         starts.push(0)?;
-        Ok(Rows {
+        Ok(PackedLists {
             starts,
             members: Vec::new(alloc),
         })
     }
 
-    /// One more row, behind the others.
-    pub(crate) fn push(&mut self, row: &[T]) -> Result<(), AllocError>
-        ensures { IfOk result (λ _. self.new ≡ self.old ++ row.now ∷ []) }
+    /// One more list, behind the others.
+    pub(crate) fn push(&mut self, list: &[T]) -> Result<(), AllocError>
+        ensures { IfOk result (λ _. self.new ≡ self.old ++ list.now ∷ []) }
     {
         self.starts.reserve(1)?;
-        self.members.extend_from_slice(row)?;
+        self.members.extend_from_slice(list)?;
         self.starts.push_reserved(self.members.len());
         Ok(())
     }
 
-    /// The row with this number.
-    pub(crate) fn row(&self, i: usize) -> &[T]
+    /// The list with this index.
+    pub(crate) fn list(&self, i: usize) -> &[T]
         requires { i < length self.now }
         ensures { result.now ≡ slice_index_or self.now i result.now }
     {
@@ -56,11 +56,11 @@ impl<T: Copy> Rows<T> {
         &self.members[start..end]
     }
 
-    /// The same rows once more.
+    /// The same lists once more.
     pub(crate) fn copy(&self, alloc: Global) -> Result<Self, AllocError>
-        ensures { IfOk result (λ rows. rows ≡ self.now) }
+        ensures { IfOk result (λ lists. lists ≡ self.now) }
     {
-        Ok(Rows {
+        Ok(PackedLists {
             starts: Vec::from_slice(alloc, &self.starts)?,
             members: Vec::from_slice(alloc, &self.members)?,
         })

@@ -3,6 +3,6 @@ pub mod Totals
 pub mod Changes
 pub mod Writes
 pub mod Fresh
-pub mod Places
+pub mod Indices
 pub mod Allowed
 pub mod Soundness

@@ -1,7 +1,8 @@
--- Tallies by place, looked up by the number of an edge.
-use Rattle.std.proofs.Common.{◌≡◌, ℕ, zero, suc, ◌<◌, ◌≢◌, eqb, if◌then◌else◌, List, [], ◌∷◌, length, get_or, set, ◌⊎◌, refl, inl, inr, arith}
+-- Tallies by index, looked up by the number of an edge.
+use Rattle.std.proofs.Common.{◌≡◌, ℕ, zero, suc, ◌<◌, ◌≢◌, eqb, if◌then◌else◌, List, [], ◌∷◌, length, get_or, set, ◌⊎◌, refl, sym, ◌∙◌, inl, inr, arith}
+use Rattle.std.specs.List.{Contains}
 use Rattle.std.specs.List.Sorted.{IsStrictlyIncreasing}
-use Rattle.std.proofs.lemmas.List.{length-map}
+use Rattle.std.proofs.lemmas.List.{length-map, get_or_default}
 use Rattle.std.proofs.lemmas.List.Kept.{AllPairs-from_increasing}
 use Rattle.std.proofs.lemmas.Bool.Decides.{nat_tests, eqb_tells}
 use Rattle.chip_detect.specs.Tally.{Tally, edges_of, look}
@@ -19,6 +20,10 @@ ascends_tail x xs up i j lt in_range = up (suc i) (suc j) (omega arith) (omega a
 -- the number in front is none of the others
 pub not_in_front : (x : ℕ) (xs : List ℕ) (i : ℕ) → Ascends (x ∷ xs) → i < length xs → get_or xs i 0 ≢ x
 not_in_front x xs i up in_range same = omega (arith, up 0 (suc i) (omega arith) (omega arith))
+
+-- what stands at an index is among them
+pub stands_among : (xs : List ℕ) (i e : ℕ) → i < length xs → get_or xs i 0 ≡ e → Contains xs e
+stands_among xs i e in_range at = (i, in_range, sym (get_or_default xs i 0 e in_range) ∙ at)
 
 -- where an edge stands, its look-up reads the tally there
 pub look_at : (f : Tally → ℕ) (ts : List Tally) (i : ℕ) (d : Tally) → Ascends (edges_of ts) → i < length ts → look f ts (get_or (edges_of ts) i 0) ≡ f (get_or ts i d)
@@ -38,7 +43,7 @@ look_set f (t ∷ ts) (suc i) u e up in_range same =
     let rest = look_set f ts i u e (ascends_tail t.edge (edges_of ts) up) (omega arith) same in
     grind (arith, nat_tests)
 
--- an edge has a place, or its look-up gives 0
+-- an edge has an index, or its look-up gives 0
 pub absent_or_at : (ts : List Tally) (e : ℕ) → ((f : Tally → ℕ) → look f ts e ≡ 0) ⊎ ((i : ℕ) × (i < length (edges_of ts)) × (get_or (edges_of ts) i 0 ≡ e))
 absent_or_at [] e = inl (λ f. refl)
 absent_or_at (t ∷ ts) e = elim (eqb_tells t.edge e) [

@@ -4,4 +4,4 @@ pub mod Acknowledging
 pub mod Change
 pub mod Steps
 pub mod Laws
-pub mod Examples
+pub mod Worked

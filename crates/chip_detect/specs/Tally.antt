@@ -1,7 +1,7 @@
 -- Tallies of edges: how many messages there were on each edge, and how many of them are answered.
 -- On an edge into a vertex a message is answered by the vertex's own acknowledgement, on an edge
 -- out of it by one that the vertex has settled. What isn't answered is open.
-use Rattle.std.specs.Prelude.{◌≡◌, ℕ, ◌+◌, ◌-◌, ◌^◌, ◌≤◌, ◌==◌, if◌then◌else◌, List, [], ◌∷◌, length, map, sum_by}
+use Rattle.std.specs.Prelude.{◌≡◌, ℕ, ◌+◌, ◌-◌, ◌^◌, ◌≤◌, ◌==◌, if◌then◌else◌, List, [], ◌∷◌, length, map, sum_by, Contains}
 use Rattle.std.specs.List.Sorted.{IsStrictlyIncreasing}
 pub use Rattle.chip_detect.specs.declared.tallies.Tally.{Tally}
 
@@ -45,12 +45,17 @@ pub record AreTallies (ts : List Tally) : Type 0 where
   pub within : (e : ℕ) → messages_on ts e ≤ message_limit
   pub answered : (e : ℕ) → answered_on ts e ≤ messages_on ts e
 
+-- the edges of a given list, whatever its order and however often it names each
+pub record AreEdgesOf (given edges : List ℕ) : Type 0 where
+  pub all : (e : ℕ) → Contains given e → Contains edges e
+  pub none_else : (e : ℕ) → Contains edges e → Contains given e
+
 -- the tally of an edge without any message
 abbrev pub fresh_tally : ℕ → Tally
 fresh_tally e = record { edge = e; messages = 0; answered = 0 }
 
--- these edges have a tally each, without any message
+-- the edges of a list have a tally each, without any message
 pub record AreFresh (ts : List Tally) (edges : List ℕ) : Type 0 where
-  pub these : edges_of ts ≡ edges
+  pub these : AreEdgesOf edges (edges_of ts)
   pub messages : (e : ℕ) → messages_on ts e ≡ 0
   pub answered : (e : ℕ) → answered_on ts e ≡ 0

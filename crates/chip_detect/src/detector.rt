@@ -1,5 +1,4 @@
-ghost use Rattle.std.specs.Prelude.{◌≡◌, ℕ, ◌-◌, ◌<◌, ◌≤◌, true, length, Contains, IfOk};
-ghost use Rattle.std.specs.List.Sorted.{IsStrictlyIncreasing};
+ghost use Rattle.std.specs.Prelude.{◌≡◌, ℕ, ◌-◌, ◌<◌, ◌≤◌, true, length, slice_index, Contains, IfOk};
 
 use crate::tallies::Tallies;
 use std::alloc::{AllocError, Global};
@@ -10,14 +9,16 @@ use std::marker::Model;
 ///
 /// Contracts see it as plain books: for each edge into the vertex how many messages were got and
 /// acknowledged, for each edge out of it how many were sent and settled, and the parent edge.
-/// An edge is found by binary search, the deficit is kept, and `new` alone takes memory.
+/// An edge is found by binary search. Whoever goes through the edges in ascending order knows where
+/// each stands, and gives its index to the calls whose names end in `_at`, which look for nothing.
+/// The deficit is kept, and `new` alone takes memory.
 #[derive(Debug, Drop)]
 pub struct Detect {
-    // An open message here is one that the vertex owes an acknowledgement.
+    /// An open message here is one that the vertex owes an acknowledgement.
     ins: Tallies,
-    // An open message here is one whose acknowledgement it waits for.
+    /// An open message here is one whose acknowledgement it waits for.
     outs: Tallies,
-    // The edge of the message that engaged the vertex, until that message is acknowledged.
+    /// The edge of the message that engaged the vertex, until that message is acknowledged.
     parent: Option<u64>,
 }
 
@@ -33,15 +34,15 @@ impl Model for Detect {
 
 impl Detect {
     ghost use Rattle.chip_detect.specs.Tally.{edge_limit, message_limit};
-    ghost use Rattle.chip_detect.specs.Books.{Books, IsSound, IsFresh, in_edges, out_edges, got_of, sent_of, settled_of, owed, deficit, is_engaged};
+    ghost use Rattle.chip_detect.specs.Books.{Books, IsSound, IsFresh, in_edges, out_edges, is_engaged};
+    ghost use Rattle.chip_detect.specs.Books.{got_of, sent_of, settled_of, owed, deficit};
     ghost use Rattle.chip_detect.specs.Acknowledging.{may_ack};
     ghost use Rattle.chip_detect.specs.Steps.{Gets, Acknowledges, Sends, Settles};
 
     /// The books of a neutral vertex with these edges into it and out of it, on which nothing was
-    /// got or sent yet. Refused only for want of memory.
+    /// got or sent yet. The lists may be in any order, and name an edge more than once. Refused
+    /// only for want of memory.
     pub fn new(alloc: Global, ins: &[u64], outs: &[u64]) -> Result<Self, AllocError>
-        requires ins_ascending { IsStrictlyIncreasing ins.now }
-        requires outs_ascending { IsStrictlyIncreasing outs.now }
         requires few_ins { length ins.now ≤ edge_limit }
         requires few_outs { length outs.now ≤ edge_limit }
         ensures fresh { IfOk result (λ books. IsFresh books ins.now outs.now) }
@@ -61,7 +62,19 @@ impl Detect {
         ensures gets { Gets self.old self.new edge }
         ensures sound { IsSound self.new }
     {
-        self.ins.add_message(edge);
+        let index = self.ins.index_of(edge);
+        self.got_at(index, edge);
+    }
+
+    /// Notes a message that came on the edge at this index of those into the vertex.
+    pub fn got_at(&mut self, index: usize, edge: u64)
+        requires within { index < length (in_edges self.old) }
+        requires edge { slice_index (in_edges self.old) index ≡ edge }
+        requires room { got_of self.old edge < message_limit }
+        ensures gets { Gets self.old self.new edge }
+        ensures sound { IsSound self.new }
+    {
+        self.ins.add_message_at(index, edge);
         self.parent = self.parent.or(Some(edge));
     }
 
@@ -70,7 +83,16 @@ impl Detect {
         requires { Contains (in_edges self.now) edge }
         ensures { result ≡ may_ack self.now edge passive }
     {
-        let owed = self.owed(edge);
+        self.may_ack_at(self.ins.index_of(edge), edge, passive)
+    }
+
+    /// How many messages of the edge at this index of those into the vertex may be acknowledged now.
+    pub fn may_ack_at(&self, index: usize, edge: u64, passive: bool) -> u64
+        requires within { index < length (in_edges self.now) }
+        requires edge { slice_index (in_edges self.now) index ≡ edge }
+        ensures { result ≡ may_ack self.now edge passive }
+    {
+        let owed = self.ins.open_at(index, edge);
         let is_done = self.ins.all_open() == owed && passive && self.deficit() == 0;
         if self.parent == Some(edge) && !is_done {
             owed - 1
@@ -86,8 +108,20 @@ impl Detect {
         ensures acknowledges { Acknowledges self.old self.new edge count }
         ensures sound { IsSound self.new }
     {
-        self.ins.add_answers(edge, count);
-        if self.parent == Some(edge) && self.ins.open(edge) == 0 {
+        let index = self.ins.index_of(edge);
+        self.acked_at(index, edge, count);
+    }
+
+    /// Notes that `count` messages of the edge at this index of those into the vertex were acknowledged.
+    pub fn acked_at(&mut self, index: usize, edge: u64, count: u64)
+        requires within { index < length (in_edges self.old) }
+        requires edge { slice_index (in_edges self.old) index ≡ edge }
+        requires allowed { count ≤ may_ack self.old edge true }
+        ensures acknowledges { Acknowledges self.old self.new edge count }
+        ensures sound { IsSound self.new }
+    {
+        self.ins.add_answers_at(index, edge, count);
+        if self.parent == Some(edge) && self.ins.open_at(index, edge) == 0 {
             self.parent = None;
         }
     }
@@ -99,7 +133,19 @@ impl Detect {
         ensures sends { Sends self.old self.new edge }
         ensures sound { IsSound self.new }
     {
-        self.outs.add_message(edge);
+        let index = self.outs.index_of(edge);
+        self.sent_at(index, edge);
+    }
+
+    /// Notes a message that was sent on the edge at this index of those out of the vertex.
+    pub fn sent_at(&mut self, index: usize, edge: u64)
+        requires within { index < length (out_edges self.old) }
+        requires edge { slice_index (out_edges self.old) index ≡ edge }
+        requires room { sent_of self.old edge < message_limit }
+        ensures sends { Sends self.old self.new edge }
+        ensures sound { IsSound self.new }
+    {
+        self.outs.add_message_at(index, edge);
     }
 
     /// Notes that the edge's head has acknowledged `word` of its messages from the beginning on.
@@ -112,8 +158,22 @@ impl Detect {
         ensures settles { Settles self.old self.new edge result }
         ensures sound { IsSound self.new }
     {
-        let more = word - self.outs.answered(edge);
-        self.outs.add_answers(edge, more);
+        let index = self.outs.index_of(edge);
+        self.settled_at(index, edge, word)
+    }
+
+    /// Notes the same of the edge at this index of those out of the vertex.
+    pub fn settled_at(&mut self, index: usize, edge: u64, word: u64) -> u64
+        requires within { index < length (out_edges self.old) }
+        requires edge { slice_index (out_edges self.old) index ≡ edge }
+        requires no_fewer { settled_of self.old edge ≤ word }
+        requires sent { word ≤ sent_of self.old edge }
+        ensures more { result ≡ word - settled_of self.old edge }
+        ensures settles { Settles self.old self.new edge result }
+        ensures sound { IsSound self.new }
+    {
+        let more = word - self.outs.answered_at(index, edge);
+        self.outs.add_answers_at(index, edge, more);
         more
     }
 
@@ -129,7 +189,7 @@ impl Detect {
         requires { Contains (in_edges self.now) edge }
         ensures { result ≡ owed self.now edge }
     {
-        self.ins.open(edge)
+        self.ins.open_at(self.ins.index_of(edge), edge)
     }
 
     /// Whether a message engaged the vertex and isn't acknowledged yet.

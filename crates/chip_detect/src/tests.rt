@@ -1,9 +1,30 @@
+ghost use Rattle.std.specs.Prelude.{◌≡◌, ◌≤◌, IfOk, length};
+ghost use Rattle.std.specs.List.Sorted.{IsStrictlyIncreasing};
+ghost use Rattle.chip_detect.specs.Tally.{edge_limit};
+ghost use Rattle.chip_detect.specs.Books.{IsSound, IsFresh, in_edges, out_edges};
+
 use super::*;
+use std::alloc::Global;
 use std::test::Fail;
+
+/// The books of a neutral vertex with these edges, each list ascending.
+fn neutral(alloc: Global, ins: &[u64], outs: &[u64]) -> Result<Detect, Fail>
+    requires ins { IsStrictlyIncreasing ins.now }
+    requires outs { IsStrictlyIncreasing outs.now }
+    requires few_ins { length ins.now ≤ edge_limit }
+    requires few_outs { length outs.now ≤ edge_limit }
+    ensures ins { IfOk result (λ books. in_edges books ≡ ins.now) }
+    ensures outs { IfOk result (λ books. out_edges books ≡ outs.now) }
+    ensures fresh { IfOk result (λ books. IsFresh books ins.now outs.now) }
+    ensures sound { IfOk result IsSound }
+{
+    let detect = Detect::new(alloc, ins, outs)?;
+    Ok(detect)
+}
 
 #[test]
 fn engaging_message_last(rt: HostRuntime) -> Result<(), Fail> {
-    let mut detect = Detect::new(rt.alloc(), &[0, 1, 3], &[])?;
+    let mut detect = neutral(rt.alloc(), &[0, 1, 3], &[])?;
     assert!(rt; !detect.engaged());
     detect.got(0);
     detect.got(1);
@@ -19,7 +40,7 @@ fn engaging_message_last(rt: HostRuntime) -> Result<(), Fail> {
 
 #[test]
 fn two_on_the_parent_edge(rt: HostRuntime) -> Result<(), Fail> {
-    let mut detect = Detect::new(rt.alloc(), &[0, 1, 3], &[])?;
+    let mut detect = neutral(rt.alloc(), &[0, 1, 3], &[])?;
     detect.got(0);
     detect.got(0);
     assert_eq!(rt; detect.owed(0), 2);
@@ -30,7 +51,7 @@ fn two_on_the_parent_edge(rt: HostRuntime) -> Result<(), Fail> {
 
 #[test]
 fn deficit_of_two_edges(rt: HostRuntime) -> Result<(), Fail> {
-    let mut detect = Detect::new(rt.alloc(), &[7], &[2, 5])?;
+    let mut detect = neutral(rt.alloc(), &[7], &[2, 5])?;
     detect.got(7);
     detect.sent(2);
     detect.sent(5);
@@ -41,5 +62,13 @@ fn deficit_of_two_edges(rt: HostRuntime) -> Result<(), Fail> {
     assert_eq!(rt; detect.deficit(), 1);
     assert_eq!(rt; detect.settled(2, 1), 1);
     assert_eq!(rt; detect.may_ack(7, true), 1);
+    Ok(())
+}
+
+#[test]
+fn lists_in_any_order(rt: HostRuntime) -> Result<(), Fail> {
+    let detect = Detect::new(rt.alloc(), &[3, 0, 3, 1], &[9, 4, 9, 9])?;
+    assert!(rt; !detect.engaged());
+    assert_eq!(rt; detect.deficit(), 0);
     Ok(())
 }

@@ -1,4 +1,4 @@
--- Two worked rows: a vertex with the edges 0, 1 and 3 into it and none out of it.
+-- Two worked examples: a vertex with the edges 0, 1 and 3 into it and none out of it.
 use Rattle.std.specs.Prelude.{◌≡◌, ℕ, true, false, [], ◌∷◌, Option, Some, None}
 use Rattle.chip_detect.specs.Tally.{Tally}
 use Rattle.chip_detect.specs.Books.{Books, is_engaged}

@@ -1,6 +1,6 @@
 use Rattle.std.proofs.Common.{refl, arith}
 use Rattle.std.proofs.lemmas.Bool.Decides.{nat_tests}
-use Rattle.chip_detect.proofs.laws.worked_rows.Goals as goal
+use Rattle.chip_detect.proofs.laws.worked.Goals as goal
 
 pub returns-clause-engaging_message_last : goal.returns-clause-engaging_message_last
 returns-clause-engaging_message_last c = record {

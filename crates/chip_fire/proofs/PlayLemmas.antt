@@ -1,6 +1,7 @@
 -- The plain player: turns, rounds, and what they come to.
-use Rattle.std.proofs.Common.{◌≡◌, ◌≢◌, ℕ, zero, suc, ◌+◌, ◌-◌, ◌*◌, ◌/◌, ◌^◌, ◌<◌, ◌≤◌, Bool, true, false, not, ◌&&◌, eqb, leb, All, Contains, List, [], ◌++◌, length, sum, get_or, set, slice_index, replicate, ◌⊎◌, inl, inr, ⊎_elim, refl, sym, ap, ◌∙◌, subst, arith, length-set, get_or-set_same, get_or-set_other, mul-add, mul_comm, mul-le-mul_left}
+use Rattle.std.proofs.Common.{◌≡◌, ◌≢◌, ℕ, zero, suc, ◌+◌, ◌-◌, ◌*◌, ◌/◌, ◌^◌, ◌<◌, ◌≤◌, Bool, true, false, not, ◌&&◌, eqb, leb, All, Contains, List, [], length, sum, get_or, set, slice_index, replicate, ◌⊎◌, inl, inr, ⊎_elim, refl, sym, ap, ◌∙◌, subst, arith, length-set, get_or-set_same, get_or-set_other, mul-add, mul_comm, mul-le-mul_left}
 use Rattle.std.specs.List.Sorted.{IsStrictlyIncreasing}
+use Rattle.std.proofs.lemmas.List.{length-replicate}
 use Rattle.std.proofs.lemmas.List.Elements.{All-from_get_or}
 use Rattle.std.proofs.lemmas.List.Sums.{get_or-le-sum_by}
 use Rattle.std.specs.Bool.{OnFalse}
@@ -10,17 +11,21 @@ use Rattle.chip_graph.specs.Sums.{sum_below}
 use Rattle.chip_graph.specs.Multigraph.{Multigraph, degree}
 use Rattle.chip_graph.specs.ChipGame.{ChipGame, IsGame}
 use Rattle.chip_graph.proofs.PickLemmas.{All-picked}
-use Rattle.chip_graph.proofs.SumLemmas.{cond_yes, cond_no, sum_below_ext, sum_below_move, sum_by_place}
+use Rattle.chip_graph.proofs.SumLemmas.{cond_yes, cond_no, sum_below_move, sum_by_place}
 use Rattle.chip_fire.specs.declared.outcome.Outcome.{Outcome}
 use Rattle.chip_fire.specs.Outcomes.{IsOutcome}
 use Rattle.chip_fire.specs.Firing.{IsLegal, legal_vertices}
-use Rattle.chip_fire.specs.Sequence.{position_after, IsFiringSequence, counts, IsWholePlay}
+use Rattle.chip_fire.specs.Sequence.{position_after, counts, IsWholePlay}
+use Rattle.chip_fire.specs.Counted.{IsAfter}
+use Rattle.chip_fire.specs.Certificate.{AreForced, IsCertified, AreBurnt, IsOnTheWay}
 use Rattle.chip_fire.specs.Play.{IsPlayed}
-use Rattle.chip_fire.specs.Rounds.{IsInRange, PlaysBy, PlaysOn, firings_left, IsSwept}
-use Rattle.chip_fire.proofs.FiringLemmas.{counts-append, counts-replicate, position-append, sequence-append, batch}
-use Rattle.chip_fire.proofs.EndLemmas.{one_end}
+use Rattle.chip_fire.specs.Rounds.{IsInRange, IsBegun, StaysOnTheWay, firings_left, IsSwept}
+use Rattle.chip_fire.proofs.FiringLemmas.{counts-replicate, batch}
+use Rattle.chip_fire.proofs.EndLemmas.{continued}
+use Rattle.chip_fire.proofs.CertificateLemmas.{certified_counts, led, on_the_way, none_forced, start_on_the_way, same_way, playing_on, end_of_the_way, led_after}
 use Rattle.chip_fire.proofs.LegalLemmas.{picked_ascends}
-use Rattle.chip_fire.proofs.BoundLemmas.{chips_are_kept}
+use Rattle.chip_fire.proofs.BurningLemmas.{burnt_counts}
+use Rattle.chip_fire.proofs.BoundLemmas.{led_total}
 
 -- ---- quotients
 
@@ -37,28 +42,6 @@ pub quotient_some : (x d : ℕ) → 0 < d → d ≤ x → 0 < x / d
 quotient_some x d some enough = dite (dec_lt 0 (x / d))
     (λ l. l)
     (λ nl. let none : x / d ≡ 0 = omega arith in let a : d * (x / d) ≡ d * 0 = ap (λ (n : ℕ). d * n) none in absurd (omega arith))
-
--- ---- playing on
-
--- nothing is played
-pub plays_none : (G : Multigraph) (chips fired : List ℕ) → PlaysOn G chips fired chips fired
-plays_none G chips fired = ([], record { sequence = tt; position = λ u. refl; counted = λ u. omega arith })
-
--- one after the other
-pub plays_both : (G : Multigraph) (chips fired chips' fired' chips'' fired'' : List ℕ) → PlaysOn G chips fired chips' fired' → PlaysOn G chips' fired' chips'' fired'' → PlaysOn G chips fired chips'' fired''
-plays_both G chips fired chips' fired' chips'' fired'' one two =
-    let vs : List ℕ = one.0 in
-    let first : PlaysBy G chips fired chips' fired' vs = one.1 in
-    let ws : List ℕ = two.0 in
-    let second : PlaysBy G chips' fired' chips'' fired'' ws = two.1 in
-    let there : slice_index chips' ≡ position_after G (slice_index chips) vs = (λ i u. first.position u i) in (
-      vs ++ ws,
-      record {
-        sequence = sequence-append G vs ws (slice_index chips) first.sequence (subst (λ (x : ℕ → ℕ). IsFiringSequence G x ws) there second.sequence);
-        position = λ u. second.position u ∙ ap (λ (x : ℕ → ℕ). position_after G x ws u) there ∙ sym (ap (λ (x : ℕ → ℕ). x u) (position-append G vs ws (slice_index chips)));
-        counted = λ u. (let a = first.counted u in let b = second.counted u in let c = counts-append vs ws u in omega arith);
-      },
-    )
 
 -- ---- one turn
 
@@ -85,17 +68,18 @@ module _ (G : Multigraph) (limit : ℕ) (chips fired : List ℕ) (ok : IsInRange
     low_limit = ok.low_limit;
   }
 
-  pub turn_plays : v ≢ G.sink → k * degree G v ≤ get_or chips v 0 → (now : List ℕ) → ((u : ℕ) → get_or now u 0 ≡ position_after G (slice_index chips) (replicate k v) u) → PlaysOn G chips fired now counted
-  turn_plays other can now is = (
-    replicate k v,
-    record {
-      sequence = batch G v k (slice_index chips) is_vertex other can;
-      position = is;
-      counted = λ u. dite (ℕ_discrete v u)
-          (λ e. (let a : get_or counted u 0 ≡ get_or fired u 0 + k = subst (λ (w : ℕ). get_or counted w 0 ≡ get_or fired w 0 + k) e counted_here in let b = counts-replicate k v u in let c = cond_yes v u k 0 e in omega arith))
-          (λ ne. (let a = counted_else u ne in let b = counts-replicate k v u in let c = cond_no v u k 0 ne in omega arith));
-    },
-  )
+  -- the counts are those of k firings more
+  counted_more : (u : ℕ) → get_or counted u 0 ≡ get_or fired u 0 + counts (replicate k v) u
+  counted_more u = dite (ℕ_discrete v u)
+      (λ e. (let a : get_or counted u 0 ≡ get_or fired u 0 + k = subst (λ (w : ℕ). get_or counted w 0 ≡ get_or fired w 0 + k) e counted_here in let b = counts-replicate k v u in let c = cond_yes v u k 0 e in omega arith))
+      (λ ne. (let a = counted_else u ne in let b = counts-replicate k v u in let c = cond_no v u k 0 ne in omega arith))
+
+  pub turn_stays : get_or fired v 0 + k ≤ limit → v ≢ G.sink → k * degree G v ≤ get_or chips v 0 → (now : List ℕ) → ((u : ℕ) → get_or now u 0 ≡ position_after G (slice_index chips) (replicate k v) u) → StaysOnTheWay G limit chips fired now counted
+  turn_stays room other can now same x is = same_way G x limit (position_after G (slice_index chips) (replicate k v)) (λ u. slice_index fired u + counts (replicate k v) u) (slice_index now) (slice_index counted)
+      (playing_on G x limit (slice_index chips) (slice_index fired) is (replicate k v) (batch G v k (slice_index chips) is_vertex other can) (λ u. dite (ℕ_discrete v u)
+      (λ e. subst (λ (w : ℕ). get_or fired w 0 + counts (replicate k v) w ≤ limit) e (let a = counted_here in let b = counted_more v in omega arith))
+      (λ ne. (let a = counted_else u ne in let b = counted_more u in let c = ok.low_counts u in omega arith))))
+      same counted_more
 
   pub turn_less : get_or fired v 0 + k ≤ limit → 0 < k → firings_left G limit counted < firings_left G limit fired
   turn_less room some =
@@ -115,7 +99,7 @@ module _ (G : Multigraph) (limit first : ℕ) (chips fired chips' fired' : List 
   pub sweep_rests : (IsLegal G (slice_index chips') (first + 2 * i) → slice_index fired' (first + 2 * i) ≡ limit) → IsSwept G limit first chips fired chips' fired' any (first + 2 * (i + 1))
   sweep_rests rests = record {
     in_range = so_far.in_range;
-    plays = so_far.plays;
+    stays = so_far.stays;
     fewer = so_far.fewer;
     some_fired = so_far.some_fired;
     none_fired = on_false any (λ none. (none.0, none.1, λ j l can. dite (ℕ_discrete j i) (λ e. subst (λ (w : ℕ). slice_index fired' (first + 2 * w) ≡ limit) (sym e) (rests (subst (λ (w : ℕ). IsLegal G (slice_index chips') (first + 2 * w)) e can))) (λ ne. none.2 j (omega arith) can))) so_far.none_fired;
@@ -126,10 +110,10 @@ module _ (G : Multigraph) (limit first : ℕ) (chips fired chips' fired' : List 
   sweep_sink is = sweep_rests (λ can. absurd (can.not_sink is))
 
   -- a vertex that fires
-  pub sweep_fires : (chips'' fired'' : List ℕ) → IsInRange G limit chips'' fired'' → PlaysOn G chips' fired' chips'' fired'' → firings_left G limit fired'' < firings_left G limit fired' → IsSwept G limit first chips fired chips'' fired'' true (first + 2 * (i + 1))
-  sweep_fires chips'' fired'' in_range plays less = record {
+  pub sweep_fires : (chips'' fired'' : List ℕ) → IsInRange G limit chips'' fired'' → StaysOnTheWay G limit chips' fired' chips'' fired'' → firings_left G limit fired'' < firings_left G limit fired' → IsSwept G limit first chips fired chips'' fired'' true (first + 2 * (i + 1))
+  sweep_fires chips'' fired'' in_range stays less = record {
     in_range = in_range;
-    plays = plays_both G chips fired chips' fired' chips'' fired'' so_far.plays plays;
+    stays = λ x is. stays x (so_far.stays x is);
     fewer = (let a = so_far.fewer in omega arith);
     some_fired = (let a = so_far.fewer in let b : firings_left G limit fired'' < firings_left G limit fired = omega arith in b);
     none_fired = tt;
@@ -164,52 +148,78 @@ zeros zero v = refl
 zeros (suc n) zero = refl
 zeros (suc n) (suc v) = zeros n v
 
--- no chip is lost in playing on
-pub plays_kept : (G : Multigraph) (limit : ℕ) (chips fired chips' fired' : List ℕ) → length chips ≡ G.vertices → IsInRange G limit chips' fired' → PlaysOn G chips fired chips' fired' → sum chips' ≡ sum chips
-plays_kept G limit chips fired chips' fired' each ok plays =
-    let by : PlaysBy G chips fired chips' fired' plays.0 = plays.1 in
-    sum_by_place chips'
-    ∙ ap (λ (n : ℕ). sum_below n (slice_index chips')) ok.chips_each
-    ∙ sum_below_ext G.vertices _ _ (λ u l. by.position u)
-    ∙ chips_are_kept G ok.graph_fits (slice_index chips) plays.0 by.sequence
-    ∙ sym (sum_by_place chips ∙ ap (λ (n : ℕ). sum_below n (slice_index chips)) each)
+-- where a play may begin
 
-module _ (G : Multigraph) (limit : ℕ) (start chips fired : List ℕ) (ok : IsInRange G limit chips fired) (plays : PlaysOn G start (replicate G.vertices 0) chips fired) (ended : (v : ℕ) → IsLegal G (slice_index chips) v → slice_index fired v ≡ limit) where
-  by : PlaysBy G start (replicate G.vertices 0) chips fired plays.0
-  by = plays.1
-
-  counts_are : (v : ℕ) → slice_index fired v ≡ counts plays.0 v
-  counts_are v = let a = by.counted v in let b = zeros G.vertices v in omega arith
-
-  there : slice_index chips ≡ position_after G (slice_index start) plays.0
-  there i u = by.position u i
-
-  -- what was played is a whole play
-  pub played : IsWholePlay G (slice_index start) limit plays.0
-  played = record {
-    sequence = by.sequence;
-    within = λ v. (let a = ok.low_counts v in let b = counts_are v in omega arith);
-    ended = λ v can. (let a = ended v (subst (λ (x : ℕ → ℕ). IsLegal G x v) (sym there) can) in let b = counts_are v in omega arith);
+module _ (g : ChipGame) (ok : IsGame g) where
+  -- the start, where nothing has fired
+  begun_at_start : IsBegun g g.start (replicate g.graph.vertices 0)
+  begun_at_start = record {
+    in_range = record {
+      graph_fits = ok.graph_fits;
+      chips_each = ok.start_fits;
+      fired_each = length-replicate g.graph.vertices 0;
+      few_chips = ok.few_chips;
+      low_counts = λ v. (let a = zeros g.graph.vertices v in omega arith);
+      low_limit = ok.low_limit;
+    };
+    on_the_way = same_way g.graph (slice_index g.start) g.limit (slice_index g.start) (λ v. 0) (slice_index g.start) (slice_index (replicate g.graph.vertices 0)) (start_on_the_way g.graph (slice_index g.start) g.limit) (λ u. refl) (zeros g.graph.vertices);
   }
 
-  -- so every whole play has these counts
-  pub played_counts : (vs : List ℕ) → IsWholePlay G (slice_index start) limit vs → (v : ℕ) → slice_index fired v ≡ counts vs v
-  played_counts vs whole v = counts_are v ∙ (one_end G (slice_index start) limit plays.0 vs played whole).0 v
+  pub begun_none : (chips fired : List ℕ) → chips ≡ g.start → fired ≡ replicate g.graph.vertices 0 → IsBegun g chips fired
+  begun_none chips fired is_chips is_fired = subst (λ (l : List ℕ). IsBegun g l fired) (sym is_chips) (subst (IsBegun g g.start) (sym is_fired) begun_at_start)
 
-  -- and ends with these chips
-  pub played_position : (vs : List ℕ) → IsWholePlay G (slice_index start) limit vs → (v : ℕ) → slice_index chips v ≡ position_after G (slice_index start) vs v
-  played_position vs whole v = by.position v ∙ (one_end G (slice_index start) limit plays.0 vs played whole).1 v
+  module _ (chips fired counts : List ℕ) (each : length counts ≡ g.graph.vertices) (low : (v : ℕ) → slice_index fired v ≤ g.limit) (forced : AreForced g.graph (slice_index g.start) g.limit (slice_index fired)) (after : IsAfter g counts chips) where
+    -- counts that are forced, and within the limit where they are above those that are
+    begun_forced : ((v : ℕ) → slice_index fired v < slice_index counts v → slice_index counts v ≤ g.limit) → AreForced g.graph (slice_index g.start) g.limit (slice_index counts) → IsBegun g chips counts
+    begun_forced within all = record {
+      in_range = record {
+        graph_fits = ok.graph_fits;
+        chips_each = after.chips_each;
+        fired_each = each;
+        few_chips = (let a = after.kept in let b = ok.few_chips in omega arith);
+        low_counts = λ v. dite (dec_lt (slice_index fired v) (slice_index counts v)) (within v) (λ none. let a = low v in omega arith);
+        low_limit = ok.low_limit;
+      };
+      on_the_way = on_the_way g.graph (slice_index g.start) g.limit (slice_index chips) (slice_index counts) (led_after g ok counts chips each after) all;
+    }
+
+    pub begun_certified : IsCertified g.graph (slice_index g.start) g.limit (slice_index fired) (slice_index counts) → IsBegun g chips counts
+    begun_certified certified = begun_forced (λ v some. (certified v some).within)
+        (certified_counts g.graph ok.graph_fits (slice_index g.start) g.limit (slice_index fired) (slice_index counts) forced certified)
+
+    pub begun_burnt : (order : List ℕ) → AreBurnt g.graph (slice_index g.start) g.limit (slice_index fired) (slice_index counts) (slice_index order) → IsBegun g chips counts
+    begun_burnt order burnt = begun_forced (λ v some. (burnt v some).within)
+        (burnt_counts g.graph ok.graph_fits (slice_index g.start) g.limit (slice_index fired) (slice_index counts) (slice_index order) forced burnt)
+
+-- a play that has begun, some rounds on
+pub begun_on : (g : ChipGame) (chips fired chips' fired' now now' : List ℕ) → IsBegun g chips fired → IsInRange g.graph g.limit chips' fired' → StaysOnTheWay g.graph g.limit chips fired chips' fired' → now ≡ chips' → now' ≡ fired' → IsBegun g now now'
+begun_on g chips fired chips' fired' now now' begun in_range stays is_chips is_fired = subst (λ (l : List ℕ). IsBegun g l now') (sym is_chips) (subst (IsBegun g chips') (sym is_fired) (record { in_range = in_range; on_the_way = stays (slice_index g.start) begun.on_the_way }))
+
+-- where a play ends
+
+module _ (G : Multigraph) (limit : ℕ) (start chips fired : List ℕ) (ok : IsInRange G limit chips fired) (is : IsOnTheWay G (slice_index start) limit (slice_index chips) (slice_index fired)) (ended : (v : ℕ) → IsLegal G (slice_index chips) v → slice_index fired v ≡ limit) where
+  -- every whole play has these counts and ends with these chips
+  at_end : (vs : List ℕ) → IsWholePlay G (slice_index start) limit vs → ((v : ℕ) → slice_index fired v ≡ counts vs v) × ((v : ℕ) → slice_index chips v ≡ position_after G (slice_index start) vs v)
+  at_end = end_of_the_way G (slice_index start) limit (slice_index chips) (slice_index fired) is ended
+
+  -- no chip is lost
+  kept : length start ≡ G.vertices → sum chips ≡ sum start
+  kept each =
+      sum_by_place chips
+      ∙ ap (λ (n : ℕ). sum_below n (slice_index chips)) ok.chips_each
+      ∙ led_total G ok.graph_fits (slice_index start) (slice_index fired) (slice_index chips) (λ u l. led G (slice_index start) limit (slice_index chips) (slice_index fired) is u)
+      ∙ sym (sum_by_place start ∙ ap (λ (n : ℕ). sum_below n (slice_index start)) each)
 
   -- all that a player answers
   pub game_played : (o : Outcome) → length start ≡ G.vertices → o.fired.items ≡ fired → o.chips.items ≡ chips → o.over.items ≡ legal_vertices G (slice_index chips) → o.sealed.items ≡ [] → IsPlayed (record { graph = G; start = start; limit = limit }) o
   game_played o each is_fired is_chips over sealed = record {
-    ends = (plays.0, played);
+    ends = continued G (slice_index start) limit [] tt (λ v. omega arith);
     fired_each = ap length is_fired ∙ ok.fired_each;
     chips_each = ap length is_chips ∙ ok.chips_each;
-    counted = λ vs whole v. ap (λ (l : List ℕ). slice_index l v) is_fired ∙ played_counts vs whole v;
-    position = λ vs whole v. ap (λ (l : List ℕ). slice_index l v) is_chips ∙ played_position vs whole v;
+    counted = λ vs whole v. ap (λ (l : List ℕ). slice_index l v) is_fired ∙ (at_end vs whole).0 v;
+    position = λ vs whole v. ap (λ (l : List ℕ). slice_index l v) is_chips ∙ (at_end vs whole).1 v;
     low_counts = λ v. subst (λ (l : List ℕ). slice_index l v ≤ limit) (sym is_fired) (ok.low_counts v);
-    kept = ap sum is_chips ∙ plays_kept G limit start (replicate G.vertices 0) chips fired each ok plays;
+    kept = ap sum is_chips ∙ kept each;
     over = over ∙ sym (ap (λ (l : List ℕ). legal_vertices G (slice_index l)) is_chips);
     sealed = sealed;
   }

@@ -4,6 +4,7 @@ pub use Rattle.chip_graph.specs.ChipGame
 pub mod Firing
 pub mod Sequence
 pub mod Counted
+pub mod Certificate
 pub mod Bound
 pub mod Laws
 pub mod Triangle
@@ -11,3 +12,4 @@ pub mod Rounds
 pub mod Play
 pub mod Outcomes
 pub mod Faults
+pub mod Resume

@@ -4,7 +4,8 @@
 //! law needs the global sink it says so. `docs/GAME.md` goes through them in this order.
 
 ghost use Rattle.chip_fire.specs.Triangle.{SmallTriangle, OneChipShort};
-ghost use Rattle.chip_fire.specs.Laws.{LegalVertices, PositionByCounts, Batch, Diamond, LeastAction, OneEnd, Continuation, ChipsAreKept, FiringBound, Enough, AbelianProperty, MoreChips};
+ghost use Rattle.chip_fire.specs.Laws.{LegalVertices, PositionByCounts, Batch, Diamond, LeastAction, OneEnd, Continuation, ChipsAreKept, FiringBound, Enough, AbelianProperty, MoreChips, CertifiedCounts, BurntCounts, FiredBurn, ScriptCounts, PlayingOn, EndOfTheWay};
+ghost use Rattle.chip_fire.specs.Resume.{SittingsAddUp, PlayedIsSitting};
 
 /// The game on the smallest graph on which a vertex sends chips back, played by hand.
 pub fn triangle()
@@ -70,4 +71,43 @@ pub fn abelian_property()
 /// Chips added to a position keep a sequence legal.
 pub fn more_chips()
     ensures { MoreChips }
+{}
+
+/// What is certified by whole numbers at each vertex is reached by every sequence that has ended.
+pub fn certified_counts()
+    ensures { CertifiedCounts }
+{}
+
+/// What passes the burning test at each vertex is reached by every sequence that has ended: where no
+/// in-degree is above the degree.
+pub fn burnt_counts()
+    ensures { BurntCounts }
+{}
+
+/// The burning test loses nothing where no in-degree is above the degree: what a sequence fires passes it,
+/// by the order in which its vertices fire for the last time.
+pub fn fired_burn()
+    ensures { FiredBurn }
+{}
+
+/// The burning test for any graph: a sequence that could be played last takes the place of each vertex
+/// once.
+pub fn script_counts()
+    ensures { ScriptCounts }
+{}
+
+/// From counts that must be reached, each firing that is legal there leads to counts that must be reached.
+pub fn playing_on()
+    ensures { PlayingOn }
+{}
+
+/// Where nothing may go on, counts that must be reached are those of every whole play.
+pub fn end_of_the_way()
+    ensures { EndOfTheWay }
+{}
+
+/// The sittings of a play add up, however many there are and whatever stopped each.
+pub fn sittings()
+    ensures add_up { SittingsAddUp }
+    ensures played { PlayedIsSitting }
 {}

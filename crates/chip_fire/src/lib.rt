@@ -6,12 +6,17 @@ pub use counted::{AfterFault, after, after_into};
 pub use firing::{NotLegal, fire};
 pub use outcome::Outcome;
 pub use player::plain;
+pub use sitting::{ResumeFault, Resumed, resume};
 
 pub mod bound;
+mod certificate;
 pub mod counted;
 pub mod firing;
 pub mod laws;
 pub mod outcome;
 pub mod player;
+pub mod sitting;
+mod soon;
+mod start;
 #[cfg(test)]
 mod tests;

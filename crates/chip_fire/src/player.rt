@@ -4,24 +4,25 @@ ghost use Rattle.chip_graph.specs.Multigraph.{degree};
 ghost use Rattle.chip_fire.specs.Firing.{IsLegal, legal_vertices};
 ghost use Rattle.chip_fire.specs.Outcomes.{IsOutcome};
 ghost use Rattle.chip_fire.specs.Play.{IsPlayed};
-ghost use Rattle.chip_fire.specs.Rounds.{IsInRange, PlaysOn, firings_left, IsSwept};
+ghost use Rattle.chip_fire.specs.Rounds.{IsInRange, StaysOnTheWay, firings_left, IsSwept};
 
 use crate::firing::fire_batch;
 use crate::outcome::Outcome;
+use crate::start::start;
 use chip_graph::{Game, Graph};
 use std::alloc::{AllocError, Global};
 
 /// Plays a game to its end within the limit, on one thread.
 ///
-/// Each vertex in turn fires as often in a row as its chips and the limit allow, round after round
-/// until none fires. The order is this function's own: the outcome is that of every order.
+/// It begins where `start` says. Then each vertex in turn fires as often in a row as its chips and the
+/// limit allow, round after round until none fires. The way is this function's own: the outcome is
+/// that of every order.
 pub fn plain(alloc: Global, game: &Game) -> Result<Outcome, AllocError>
     ensures played { IfOk result (IsPlayed game.now) }
     ensures in_range { IfOk result IsOutcome }
 {
     let graph = game.graph();
-    let mut chips = Vec::from_slice(alloc, game.start())?;
-    let mut fired = vec![in alloc; 0; graph.vertices() as usize]?;
+    let (mut chips, mut fired) = start(alloc, game)?;
     play(graph, game.limit(), &mut chips, &mut fired);
     let over = still_legal(alloc, graph, &chips)?;
     Ok(Outcome {
@@ -36,31 +37,45 @@ pub fn plain(alloc: Global, game: &Game) -> Result<Outcome, AllocError>
 fn play(graph: &Graph, limit: u64, chips: &mut [u64], fired: &mut [u64])
     requires { IsInRange graph.now limit chips.old fired.old }
     ensures in_range { IsInRange graph.now limit chips.new fired.new }
-    ensures plays { PlaysOn graph.now chips.old fired.old chips.new fired.new }
+    ensures stays { StaysOnTheWay graph.now limit chips.old fired.old chips.new fired.new }
     ensures ended { (v : ℕ) → IsLegal graph.now (slice_index chips.new) v → slice_index fired.new v ≡ limit }
 {
-    'rounds: while round(graph, limit, chips, fired) {}
+    let mut turns = 0u64;
+    'rounds: while round(graph, limit, chips, fired, &mut turns) {}
 }
 
 /// Lets each vertex fire as often as it may, first those with even numbers and then those with odd
-/// ones; whether any did.
+/// ones; whether any did. How many did is added to `turns`, up to 2^64 - 1.
 ///
 /// Neighbours on paths and grids differ by an odd number, so a sweep over every second vertex seldom
 /// reads what it has just written: in ascending order a path takes nearly twice as long.
-fn round(graph: &Graph, limit: u64, chips: &mut [u64], fired: &mut [u64]) -> bool
+pub(crate) fn round(
+    graph: &Graph,
+    limit: u64,
+    chips: &mut [u64],
+    fired: &mut [u64],
+    turns: &mut u64,
+) -> bool
     requires { IsInRange graph.now limit chips.old fired.old }
     ensures in_range { IsInRange graph.now limit chips.new fired.new }
-    ensures plays { PlaysOn graph.now chips.old fired.old chips.new fired.new }
+    ensures stays { StaysOnTheWay graph.now limit chips.old fired.old chips.new fired.new }
     ensures some_fired { OnTrue result (firings_left graph.now limit fired.new < firings_left graph.now limit fired.old) }
     ensures none_fired { OnFalse result ((v : ℕ) → IsLegal graph.now (slice_index chips.new) v → slice_index fired.new v ≡ limit) }
 {
-    let even = sweep(graph, limit, 0, chips, fired);
-    let odd = sweep(graph, limit, 1, chips, fired);
+    let even = sweep(graph, limit, 0, chips, fired, turns);
+    let odd = sweep(graph, limit, 1, chips, fired, turns);
     even || odd
 }
 
 /// Lets every second vertex from the first one on fire as often as it may; whether any did.
-fn sweep(graph: &Graph, limit: u64, first: u64, chips: &mut [u64], fired: &mut [u64]) -> bool
+fn sweep(
+    graph: &Graph,
+    limit: u64,
+    first: u64,
+    chips: &mut [u64],
+    fired: &mut [u64],
+    turns: &mut u64,
+) -> bool
     requires in_range { IsInRange graph.now limit chips.old fired.old }
     requires first_or_second { first ≤ 1 }
     ensures { IsSwept graph.now limit first chips.old fired.old chips.new fired.new result graph.now.vertices }
@@ -71,6 +86,7 @@ fn sweep(graph: &Graph, limit: u64, first: u64, chips: &mut [u64], fired: &mut [
         let vertex = first + 2 * step;
         if vertex != sink && turn(graph, limit, vertex, chips, fired) {
             any = true;
+            *turns = turns.saturating_add(1);
         }
     }
     any
@@ -83,7 +99,7 @@ fn turn(graph: &Graph, limit: u64, vertex: u64, chips: &mut [u64], fired: &mut [
     requires not_sink { vertex ≡ graph.now.sink → ⊥ }
     requires in_range { IsInRange graph.now limit chips.old fired.old }
     ensures in_range { IsInRange graph.now limit chips.new fired.new }
-    ensures plays { PlaysOn graph.now chips.old fired.old chips.new fired.new }
+    ensures stays { StaysOnTheWay graph.now limit chips.old fired.old chips.new fired.new }
     ensures fires { OnTrue result (firings_left graph.now limit fired.new < firings_left graph.now limit fired.old) }
     ensures rests { OnFalse result ((chips.new ≡ chips.old) × (fired.new ≡ fired.old) × (IsLegal graph.now (slice_index chips.old) vertex → slice_index fired.old vertex ≡ limit)) }
 {

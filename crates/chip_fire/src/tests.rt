@@ -1,6 +1,7 @@
 //! Games worked out by hand, and each call once. What holds for all inputs stands in the contracts.
 
 ghost use Rattle.std.specs.Prelude.{◌≡◌, ◌<◌, IfOk};
+ghost use Rattle.chip_fire.specs.Resume.{IsResumed};
 
 use super::*;
 use chip_graph::{Edge, Game, Graph};
@@ -108,6 +109,37 @@ fn largest_total(rt: HostRuntime) -> Result<(), Fail> {
 }
 
 #[test]
+fn six_chips(rt: HostRuntime) -> Result<(), Fail> {
+    let game = triangle(rt.alloc(), &[6, 0, 0], 1 << 40)?;
+    play(&rt, &game, &[3, 1, 0], &[1, 1, 4], &[])
+}
+
+/// As many vertices as there may be, on a path whose ends lose chips: firing alone would take minutes.
+#[test]
+fn long_path(rt: HostRuntime) -> Result<(), Fail> {
+    let alloc = rt.alloc();
+    let length = 4095u64;
+    let mut rows = Vec::new(alloc);
+    for vertex in 0..length {
+        rows.push((vertex, vertex + 1, 1))?;
+        rows.push((vertex, vertex.checked_sub(1).unwrap_or(length), 1))?;
+    }
+    let graph = graph_of(alloc, length + 1, length, &rows)?;
+    let mut start = vec![in alloc; 0; 4096]?;
+    if let Some(chips) = start.get_mut(2047) {
+        *chips = 1 << 20;
+    }
+    let outcome = plain(alloc, &Game::new(graph, start, 1 << 40)?)?;
+    assert_eq!(rt; outcome.fired.get(2047).copied(), Some(1_071_645_696));
+    assert_eq!(rt; outcome.fired.get(0).copied(), Some(522_241));
+    assert_eq!(rt; outcome.chips.get(2047).copied(), Some(0));
+    assert_eq!(rt; outcome.chips.get(0).copied(), Some(1));
+    assert_eq!(rt; outcome.chips.get(4095).copied(), Some(1_044_482));
+    assert!(rt; outcome.over.is_empty());
+    Ok(())
+}
+
+#[test]
 fn positions_by_counts(rt: HostRuntime) -> Result<(), Fail> {
     let game = triangle(rt.alloc(), &[4, 0, 0], 1 << 40)?;
     let chips = after(rt.alloc(), &game, &[2, 1, 0])?;
@@ -158,5 +190,51 @@ fn firings(rt: HostRuntime) -> Result<(), Fail> {
     let mut position = [4, 0, 0];
     assert_eq!(rt; fire(&mut position, graph, 0, 2), Ok(()));
     assert_eq!(rt; position, [0, 2, 2]);
+    Ok(())
+}
+
+/// Goes on with a play on the triangle, and compares what the sitting fired, the chips at its end and what was fired before.
+fn go_on(
+    rt: &(impl AllocGlobal + Abort),
+    earlier: &Resumed,
+    limit: u64,
+    fired: &[u64],
+    chips: &[u64],
+    prior: &[u64],
+) -> Result<Resumed, Fail>
+    requires { IsResumed earlier.now }
+    ensures { IfOk result IsResumed }
+{
+    let graph = graph_of(
+        rt.alloc(),
+        3,
+        2,
+        &[(0, 1, 1), (0, 2, 1), (1, 0, 1), (1, 2, 1)],
+    )?;
+    let resumed = resume(rt.alloc(), graph, earlier, limit)?;
+    assert_eq!(rt; resumed.outcome.fired.as_slice(), fired);
+    assert_eq!(rt; resumed.outcome.chips.as_slice(), chips);
+    assert_eq!(rt; resumed.prior.as_slice(), prior);
+    Ok(resumed)
+}
+
+#[test]
+fn three_sittings(rt: HostRuntime) -> Result<(), Fail> {
+    let alloc = rt.alloc();
+    let first = Resumed::first(alloc, plain(alloc, &triangle(alloc, &[5, 0, 0], 2)?)?)?;
+    let second = go_on(&rt, &first, 0, &[0, 0, 0], &[2, 0, 3], &[2, 1, 0])?;
+    assert_eq!(&rt; second.outcome.over.as_slice(), [0].as_slice());
+    let third = go_on(&rt, &second, 1 << 40, &[1, 0, 0], &[0, 1, 4], &[2, 1, 0])?;
+    assert!(&rt; third.outcome.over.is_empty());
+    Ok(())
+}
+
+#[test]
+fn another_graph(rt: HostRuntime) -> Result<(), Fail> {
+    let alloc = rt.alloc();
+    let first = Resumed::first(alloc, plain(alloc, &triangle(alloc, &[5, 0, 0], 2)?)?)?;
+    let graph = graph_of(alloc, 2, 1, &[(0, 1, 1)])?;
+    let answer = resume(alloc, graph, &first, (1 << 40) + 1);
+    assert_eq!(&rt; answer, Err(ResumeFault::Mismatch));
     Ok(())
 }

@@ -1,0 +1,137 @@
+ghost use Rattle.std.specs.Prelude.{◌≡◌, ◌≢◌, ℕ, ◌+◌, ◌<◌, ◌≤◌, ◌↔◌, nat_le, if◌then◌else◌, List, length, slice_index, IfOk, IsTrue, MatchOption};
+ghost use Rattle.chip_graph.specs.Multigraph.{degree};
+ghost use Rattle.chip_graph.specs.ChipGame.{IsGame};
+ghost use Rattle.chip_fire.specs.Counted.{IsAfter};
+ghost use Rattle.chip_fire.specs.Certificate.{AreForced, IsCertified, AreBurnt, in_degree, late_in_degree};
+ghost use Rattle.chip_fire.specs.Rounds.{IsBegun};
+
+use crate::counted::{AfterFault, after};
+use chip_graph::{Game, Graph};
+use std::alloc::{AllocError, Global};
+
+/// The position by these counts, where a test shows that every play within the limit that has ended
+/// fires each vertex at least so often: a play may begin there.
+///
+/// Any counts may be asked for, on top of some that every such play is known to reach. One test is
+/// passed where each vertex that fires beyond these lacks at most one chip then to fire once more; the
+/// other is the burning test, by these ranks, and finds more where no vertex has a greater in-degree
+/// than out-degree.
+pub(crate) fn certified(
+    alloc: Global,
+    game: &Game,
+    fired: &[u64],
+    counts: &[u64],
+    order: &[u64],
+) -> Result<Option<Vec<u64>>, AllocError>
+    requires fired_each { length fired.now ≡ game.now.graph.vertices }
+    requires counts_each { length counts.now ≡ game.now.graph.vertices }
+    requires order_each { length order.now ≡ game.now.graph.vertices }
+    requires within { (v : ℕ) → slice_index fired.now v ≤ game.now.limit }
+    requires forced { AreForced game.now.graph (slice_index game.now.start) game.now.limit (slice_index fired.now) }
+    ensures { IfOk result
+        (λ found. MatchOption found
+        ((chips : List ℕ) → IsAfter game.now counts.now chips → (IsCertified game.now.graph (slice_index game.now.start) game.now.limit (slice_index fired.now) (slice_index counts.now) → ⊥) × (AreBurnt game.now.graph (slice_index game.now.start) game.now.limit (slice_index fired.now) (slice_index counts.now) (slice_index order.now) → ⊥))
+        (λ chips. IsBegun game.now chips.items counts.now)) }
+{
+    let _game = game.graph();
+    let chips = match after(alloc, game, counts) {
+        Ok(chips) => chips,
+        Err(AfterFault::Negative(_)) => return Ok(None),
+        Err(AfterFault::NoMemory) => return Err(AllocError),
+    };
+    if all_earned(game, fired, counts, &chips) {
+        return Ok(Some(chips));
+    }
+    if all_burnt(game, fired, counts, order, &chips) {
+        return Ok(Some(chips));
+    }
+    Ok(None)
+}
+
+/// Whether each vertex that fires more often by the counts than it has fired lacks at most one chip
+/// then, by the chips that the counts leave.
+fn all_earned(game: &Game, fired: &[u64], counts: &[u64], chips: &[u64]) -> bool
+    requires fired_each { length fired.now ≡ game.now.graph.vertices }
+    requires counts_each { length counts.now ≡ game.now.graph.vertices }
+    requires after { IsAfter game.now counts.now chips.now }
+    ensures { IsTrue result ↔ IsCertified game.now.graph (slice_index game.now.start) game.now.limit (slice_index fired.now) (slice_index counts.now) }
+{
+    for vertex in 0..game.graph().vertices() {
+        let v = vertex as usize;
+        if counts[v] > fired[v] && !is_earned(game, vertex, counts[v], chips[v]) {
+            return false;
+        }
+    }
+    true
+}
+
+/// Whether this vertex may have fired so often, where it has these chips left.
+fn is_earned(game: &Game, vertex: u64, times: u64, left: u64) -> bool
+    requires { vertex < game.now.graph.vertices }
+    ensures game { IsGame game.now }
+    ensures earned { IsTrue result ↔ ((vertex ≢ game.now.graph.sink) × (times ≤ game.now.limit) × (degree game.now.graph vertex ≤ left + 1)) }
+{
+    let graph = game.graph();
+    let missing = graph.out_degree(vertex).saturating_sub(left);
+    vertex != graph.sink() && times <= game.limit() && missing <= 1
+}
+
+/// Whether each vertex that fires more often by the counts than it has fired burns in the order of these
+/// ranks, by the chips that the counts leave.
+fn all_burnt(game: &Game, fired: &[u64], counts: &[u64], order: &[u64], chips: &[u64]) -> bool
+    requires fired_each { length fired.now ≡ game.now.graph.vertices }
+    requires counts_each { length counts.now ≡ game.now.graph.vertices }
+    requires order_each { length order.now ≡ game.now.graph.vertices }
+    requires after { IsAfter game.now counts.now chips.now }
+    ensures { IsTrue result ↔ AreBurnt game.now.graph (slice_index game.now.start) game.now.limit (slice_index fired.now) (slice_index counts.now) (slice_index order.now) }
+{
+    for vertex in 0..game.graph().vertices() {
+        let v = vertex as usize;
+        if counts[v] > fired[v] && !is_burnt(game, order, vertex, counts[v], chips[v]) {
+            return false;
+        }
+    }
+    true
+}
+
+/// Whether this vertex may have fired so often and burns, where it has these chips left.
+fn is_burnt(game: &Game, order: &[u64], vertex: u64, times: u64, left: u64) -> bool
+    requires is_vertex { vertex < game.now.graph.vertices }
+    requires order_each { length order.now ≡ game.now.graph.vertices }
+    ensures game { IsGame game.now }
+    ensures burnt { IsTrue result ↔ ((vertex ≢ game.now.graph.sink) × (times ≤ game.now.limit) × (in_degree game.now.graph vertex ≤ degree game.now.graph vertex) × (late_in_degree game.now.graph (slice_index order.now) vertex ≤ left)) }
+{
+    let graph = game.graph();
+    let (all, late) = brought(graph, order, vertex);
+    vertex != graph.sink()
+        && times <= game.limit()
+        && all <= graph.out_degree(vertex)
+        && late <= left
+}
+
+/// What comes into a vertex where each tail fires once: in all, and from the tails that burn no sooner.
+fn brought(graph: &Graph, order: &[u64], vertex: u64) -> (u64, u64)
+    requires is_vertex { vertex < graph.now.vertices }
+    requires order_each { length order.now ≡ graph.now.vertices }
+    ensures all { result.0 ≡ in_degree graph.now vertex }
+    ensures late { result.1 ≡ late_in_degree graph.now (slice_index order.now) vertex }
+{
+    let edges = graph.edges();
+    let own = order[vertex as usize];
+    let mut all = 0u64;
+    let mut late = 0u64;
+    for e in graph.ins(vertex) {
+        let edge = edges[*e as usize];
+        all += edge.mult;
+        late += if_late(own, order[edge.tail as usize], edge.mult);
+    }
+    (all, late)
+}
+
+/// What an edge brings, if its tail burns no sooner.
+#[inline]
+fn if_late(own: u64, tail: u64, mult: u64) -> u64
+    ensures { result ≡ (if nat_le own tail then mult else 0) }
+{
+    if own <= tail { mult } else { 0 }
+}

@@ -1,0 +1,129 @@
+//! Going on with a play that a limit or a seal stopped.
+
+ghost use Rattle.std.specs.Prelude.{◌≡◌, ℕ, ◌<◌, ◌≤◌, IfOk, IfErr, length, slice_index};
+ghost use Rattle.chip_fire.specs.Resume.{IsResumed, IsPlayFrom, Resumes, IsPriorFault, fired_in_all, max_prior};
+
+use crate::outcome::Outcome;
+use crate::player::plain;
+use chip_graph::{Game, GameFault, Graph};
+use std::alloc::{AllocError, Global};
+use thiserror::Error;
+
+/// How often a vertex may have fired before a sitting, at most.
+pub const MAX_PRIOR: u64 = 1 << 60;
+
+/// How a sitting ended, and how often each vertex fired in the sittings before it.
+#[derive(Debug, Drop, PartialEq, Eq)]
+pub struct Resumed {
+    /// The last sitting's own outcome.
+    pub outcome: Outcome,
+    /// One number for each vertex, up to 2^60.
+    pub prior: Vec<u64>,
+}
+
+impl Resumed {
+    ghost use Rattle.std.specs.Prelude.{◌≡◌, IfOk, length, replicate};
+    ghost use Rattle.chip_fire.specs.Outcomes.{IsOutcome};
+    ghost use Rattle.chip_fire.specs.Resume.{IsResumed};
+
+    /// A first sitting: nothing was fired before it.
+    pub fn first(alloc: Global, outcome: Outcome) -> Result<Resumed, AllocError>
+        requires { IsOutcome outcome }
+        ensures outcome { IfOk result (λ resumed. resumed.outcome ≡ outcome) }
+        ensures prior { IfOk result (λ resumed. resumed.prior.items ≡ replicate (length outcome.fired.items) 0) }
+        ensures in_range { IfOk result IsResumed }
+    {
+        let prior = vec![in alloc; 0; outcome.fired.len()]?;
+        Ok(Resumed { outcome, prior })
+    }
+}
+
+/// Why a play does not go on: the first reason in this order.
+#[derive(Clone, Copy, Debug, PartialEq, Eq, Error)]
+pub enum ResumeFault {
+    /// The earlier sitting was on a graph with another number of vertices.
+    #[error("the earlier play has another number of vertices")]
+    Mismatch,
+    /// The earlier sitting left more than 1,099,511,627,776 chips.
+    #[error("there are more than 1099511627776 chips")]
+    Total,
+    /// The firing limit is above 1,099,511,627,776.
+    #[error("the firing limit is above 1099511627776")]
+    Limit,
+    /// This vertex fired more than 1,152,921,504,606,846,976 times in all, and it is the least such vertex.
+    #[error("vertex {0} fired more than 1152921504606846976 times before")]
+    Prior(u64),
+    /// Memory ran out.
+    #[error("out of memory")]
+    NoMemory,
+}
+
+impl From<AllocError> for ResumeFault {
+    ghost use Rattle.std.specs.Prelude.{◌≡◌};
+    ghost use Rattle.chip_fire.specs.declared.sitting.ResumeFault.TheVariants.{NoMemory};
+
+    ghost from_gives = { λ _ fault. fault ≡ NoMemory };
+
+    fn from(_error: AllocError) -> ResumeFault {
+        ResumeFault::NoMemory
+    }
+}
+
+impl From<GameFault> for ResumeFault {
+    ghost use Rattle.std.specs.Prelude.{◌≡◌};
+    ghost use Rattle.chip_fire.specs.Resume.{resume_fault};
+
+    ghost from_gives = { λ game fault. fault ≡ resume_fault game };
+
+    fn from(fault: GameFault) -> ResumeFault {
+        match fault {
+            GameFault::StartLength => ResumeFault::Mismatch,
+            GameFault::Total => ResumeFault::Total,
+            GameFault::Limit => ResumeFault::Limit,
+        }
+    }
+}
+
+/// Plays on from where an earlier sitting ended, on the same graph, with a firing limit of this sitting's own.
+///
+/// The sitting is `plain`'s on the chips that lie there, and what was fired before it is what was fired in all so far. So the
+/// counts of all sittings add up, and where the last one ends with no vertex legal they are those of a play that was never
+/// stopped.
+pub fn resume(
+    alloc: Global,
+    graph: Graph,
+    earlier: &Resumed,
+    limit: u64,
+) -> Result<Resumed, ResumeFault>
+    requires { IsResumed earlier.now }
+    ensures answer { Resumes graph earlier.now limit result }
+    ensures goes_on { IfOk result (λ resumed. (x : ℕ → ℕ) → IsPlayFrom graph x earlier.now → IsPlayFrom graph x resumed) }
+{
+    let chips = &earlier.outcome.chips;
+    if chips.len() as u64 != graph.vertices() {
+        return Err(ResumeFault::Mismatch);
+    }
+    let start = Vec::from_slice(alloc, chips)?;
+    let game = Game::new(graph, start, limit)?;
+    let prior = fired_so_far(alloc, earlier)?;
+    let outcome = plain(alloc, &game)?;
+    Ok(Resumed { outcome, prior })
+}
+
+/// How often each vertex fired in all sittings so far, or the least vertex that did so too often.
+fn fired_so_far(alloc: Global, earlier: &Resumed) -> Result<Vec<u64>, ResumeFault>
+    requires { IsResumed earlier.now }
+    ensures ok { IfOk result (λ sums. (length sums.items ≡ length earlier.now.prior.items) × ((v : ℕ) → v < length sums.items → (slice_index sums.items v ≡ fired_in_all earlier.now v) × (fired_in_all earlier.now v ≤ max_prior))) }
+    ensures err { IfErr result (λ fault. IsPriorFault earlier.now fault) }
+{
+    let Resumed { outcome, prior } = earlier;
+    let mut sums = Vec::with_capacity(alloc, prior.len())?;
+    for vertex in 0..prior.len() {
+        let sum = prior[vertex] + outcome.fired[vertex];
+        if sum > MAX_PRIOR {
+            return Err(ResumeFault::Prior(vertex as u64));
+        }
+        sums.push_reserved(sum);
+    }
+    Ok(sums)
+}

@@ -1,0 +1,73 @@
+ghost use Rattle.std.specs.Prelude.{◌≡◌, length, slice_index};
+ghost use Rattle.chip_fire.specs.Rounds.{IsInRange, StaysOnTheWay};
+
+use crate::player::round;
+use chip_graph::Graph;
+
+/// How often each vertex and each edge out is looked at before the work is judged.
+const FIRST_LOOKS: u64 = 16;
+
+/// How often the work doubles at most.
+const DOUBLINGS: u64 = 40;
+
+/// Plays for as long as this takes it soon to an end: each time with twice the work, while that halves
+/// the chips that wait to move. Whether the play has ended.
+pub(crate) fn ends_soon(graph: &Graph, limit: u64, chips: &mut [u64], fired: &mut [u64]) -> bool
+    requires { IsInRange graph.now limit chips.old fired.old }
+    ensures in_range { IsInRange graph.now limit chips.new fired.new }
+    ensures stays { StaysOnTheWay graph.now limit chips.old fired.old chips.new fired.new }
+{
+    let looks = graph.vertices().saturating_add(graph.edges().len() as u64);
+    let mut work = looks.saturating_mul(FIRST_LOOKS);
+    let mut waited = u64::MAX;
+    'doublings: for _ in 0..DOUBLINGS {
+        let waits = waiting(graph, limit, chips, fired);
+        if waits > waited / 2 {
+            return false;
+        }
+        waited = waits;
+        if ends_by(graph, limit, work, chips, fired) {
+            return true;
+        }
+        work = work.saturating_mul(2);
+    }
+    false
+}
+
+/// The chips that legal vertices have above what they may keep, up to 2^64 - 1.
+fn waiting(graph: &Graph, limit: u64, chips: &[u64], fired: &[u64]) -> u64
+    requires { IsInRange graph.now limit chips.now fired.now }
+{
+    let mut waits = 0u64;
+    for vertex in 0..graph.vertices() {
+        let v = vertex as usize;
+        let degree = graph.out_degree(vertex);
+        if vertex != graph.sink() && chips[v] >= degree && fired[v] < limit {
+            waits = waits.saturating_add(chips[v].saturating_sub(degree).saturating_add(1));
+        }
+    }
+    waits
+}
+
+/// Makes rounds until none fires a vertex or so much work is done, in vertices and edges looked at;
+/// whether none fires one.
+fn ends_by(graph: &Graph, limit: u64, work: u64, chips: &mut [u64], fired: &mut [u64]) -> bool
+    requires { IsInRange graph.now limit chips.old fired.old }
+    ensures in_range { IsInRange graph.now limit chips.new fired.new }
+    ensures stays { StaysOnTheWay graph.now limit chips.old fired.old chips.new fired.new }
+{
+    let vertices = graph.vertices().max(1);
+    let mean_degree = graph.edges().len() as u64 / vertices;
+    let mut turns = 0u64;
+    let mut looked = 0u64;
+    'rounds: for _ in 0..work / vertices {
+        if !round(graph, limit, chips, fired, &mut turns) {
+            return true;
+        }
+        looked = looked.saturating_add(vertices);
+        if looked.saturating_add(turns.saturating_mul(mean_degree)) > work {
+            return false;
+        }
+    }
+    false
+}

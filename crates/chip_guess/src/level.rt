@@ -1,0 +1,238 @@
+ghost use Rattle.std.specs.Prelude.{◌≡◌, ◌<◌, length};
+
+use crate::number::{BIG, UNIT, firings, within};
+use chip_graph::Graph;
+use std::alloc::{AllocError, Global};
+
+/// The group of a vertex that is in none, as the sink.
+pub(crate) const NO_GROUP: usize = usize::MAX;
+
+/// What comes into a vertex, for each firing of another one.
+#[derive(Clone, Copy, Debug)]
+pub(crate) struct Link {
+    pub(crate) tail: usize,
+    pub(crate) mult: i64,
+}
+
+/// A vertex of a level.
+#[derive(Clone, Copy, Debug)]
+pub(crate) struct Node {
+    /// Where its links begin in the level's.
+    pub(crate) first: usize,
+    /// Where they end.
+    pub(crate) end: usize,
+    /// What one firing sends away; 0 for the sink.
+    pub(crate) degree: i64,
+    /// `UNIT` by the degree; 0 for the sink.
+    pub(crate) weight: i64,
+    /// Its group, a vertex of the next level.
+    pub(crate) group: usize,
+    /// What it is to send away more than it gets, by the counts of this level.
+    pub(crate) wanted: i64,
+    /// The least count that it may have.
+    pub(crate) low: i64,
+    /// The greatest one.
+    pub(crate) high: i64,
+    /// What the counts leave of `wanted`: too much, or too little where it is negative.
+    pub(crate) rest: i64,
+    /// The same before the groups moved.
+    pub(crate) rest_before: i64,
+    /// Its count before the groups moved.
+    pub(crate) count_before: i64,
+}
+
+/// A game whose vertices are groups of vertices that fire together, and counts that are worked at.
+#[derive(Debug, Drop)]
+pub(crate) struct Level {
+    pub(crate) nodes: Vec<Node>,
+    pub(crate) links: Vec<Link>,
+    pub(crate) counts: Vec<i64>,
+    /// The greatest count that cannot lead beyond `BIG`.
+    pub(crate) cap: i64,
+}
+
+/// In which order a sweep goes through the vertices.
+#[derive(Clone, Copy, Debug, PartialEq, Eq)]
+pub(crate) enum Order {
+    /// First those with even numbers, then those with odd ones.
+    EvenOdd,
+    /// Ascending.
+    Up,
+    /// Descending.
+    Down,
+}
+
+impl Node {
+    /// A vertex with the links between these numbers.
+    pub(crate) fn new(first: usize, end: usize, degree: i64) -> Node {
+        let weight = if degree > 0 { UNIT / degree } else { 0 };
+        Node {
+            first,
+            end,
+            degree,
+            weight,
+            group: NO_GROUP,
+            wanted: 0,
+            low: 0,
+            high: 0,
+            rest: 0,
+            rest_before: 0,
+            count_before: 0,
+        }
+    }
+
+    /// A number, within the counts that it may have.
+    pub(crate) fn bounded(&self, number: i128) -> i64 {
+        within(number, self.low, self.high)
+    }
+
+    /// Whether what is left of it can move its count.
+    pub(crate) fn moves(&self, own: i64) -> bool {
+        if self.rest > 0 {
+            own < self.high
+        } else {
+            own > self.low
+        }
+    }
+
+    /// What its count and those of its neighbours leave of what it is to send away.
+    #[inline]
+    fn left(&self, links: &[Link], counts: &[i64], own: i64) -> i64 {
+        let mut left = self.wanted.wrapping_sub(self.degree.wrapping_mul(own));
+        for link in links_of(self, links) {
+            left = left.wrapping_add(link.mult.wrapping_mul(count_at(counts, link.tail)));
+        }
+        left
+    }
+}
+
+/// The links into a vertex.
+#[inline]
+pub(crate) fn links_of<'a>(node: &Node, links: &'a [Link]) -> &'a [Link] {
+    links.get(node.first..node.end).unwrap_or(&[])
+}
+
+/// The count of a vertex.
+#[inline]
+fn count_at(counts: &[i64], vertex: usize) -> i64 {
+    match counts.get(vertex) {
+        Some(count) => *count,
+        None => 0,
+    }
+}
+
+/// Has a vertex fire what it has too much, or take back what it lacks.
+#[inline]
+fn level_out(nodes: &[Node], links: &[Link], counts: &mut [i64], vertex: usize)
+    requires each { length nodes.now ≡ length counts.old }
+    requires is_vertex { vertex < length counts.old }
+{
+    let node = &nodes[vertex];
+    let own = counts[vertex];
+    let more = firings(node.left(links, counts, own), node.weight);
+    counts[vertex] = own.wrapping_add(more).max(node.low).min(node.high);
+}
+
+/// Levels out each vertex once.
+fn sweep(nodes: &[Node], links: &[Link], counts: &mut [i64], order: Order)
+    requires { length nodes.now ≡ length counts.old }
+{
+    let vertices = nodes.len();
+    match order {
+        Order::Up => {
+            for vertex in 0..vertices {
+                level_out(nodes, links, counts, vertex);
+            }
+        }
+        Order::Down => {
+            for vertex in (0..vertices).rev() {
+                level_out(nodes, links, counts, vertex);
+            }
+        }
+        Order::EvenOdd => {
+            for pair in 0..vertices.div_ceil(2) {
+                level_out(nodes, links, counts, 2 * pair);
+            }
+            for pair in 0..vertices / 2 {
+                level_out(nodes, links, counts, 2 * pair + 1);
+            }
+        }
+    }
+}
+
+impl Level {
+    /// No vertex yet.
+    pub(crate) fn new(alloc: Global) -> Level {
+        Level {
+            nodes: Vec::new(alloc),
+            links: Vec::new(alloc),
+            counts: Vec::new(alloc),
+            cap: BIG,
+        }
+    }
+
+    /// The level whose groups are the vertices of a graph.
+    pub(crate) fn of_graph(alloc: Global, graph: &Graph) -> Result<Level, AllocError> {
+        let edges = graph.edges();
+        let mut level = Level::new(alloc);
+        for vertex in 0..graph.vertices() {
+            for e in graph.ins(vertex) {
+                if let Some(edge) = edges.get(*e as usize) {
+                    let mult = edge.mult.cast_signed();
+                    level.links.push(Link {
+                        tail: edge.tail as usize,
+                        mult,
+                    })?;
+                }
+            }
+            level.close_node(graph.out_degree(vertex).cast_signed())?;
+        }
+        level.find_cap();
+        Ok(level)
+    }
+
+    /// One more vertex, with the links behind those of the last one.
+    pub(crate) fn close_node(&mut self, degree: i64) -> Result<(), AllocError> {
+        let first = self.nodes.last().map_or(0, |node| node.end);
+        self.nodes.push(Node::new(first, self.links.len(), degree))?;
+        self.counts.push(0)?;
+        Ok(())
+    }
+
+    /// Finds the greatest count that cannot lead beyond `BIG`.
+    pub(crate) fn find_cap(&mut self) {
+        let mut most = 1i64;
+        for node in &self.nodes {
+            let mut comes = 0i64;
+            for link in links_of(node, &self.links) {
+                comes = comes.wrapping_add(link.mult);
+            }
+            most = most.max(comes).max(node.degree);
+        }
+        self.cap = if most > 0 { BIG / most } else { 0 };
+    }
+
+    /// Levels out each vertex once.
+    pub(crate) fn sweep(&mut self, order: Order) {
+        let nodes = self.nodes.as_slice();
+        let counts = self.counts.as_mut_slice();
+        if nodes.len() == counts.len() {
+            sweep(nodes, &self.links, counts, order);
+        }
+    }
+
+    /// Finds what the counts leave at each vertex, and the sum of what is not at rest: too much where
+    /// the count may grow, too little where it may fall.
+    pub(crate) fn find_rests(&mut self) -> i128 {
+        let mut sum = 0i128;
+        let counts = self.counts.as_slice();
+        for (node, own) in self.nodes.iter_mut().zip(counts) {
+            let left = node.left(&self.links, counts, *own);
+            node.rest = if node.degree > 0 { left } else { 0 };
+            if node.moves(*own) {
+                sum = sum.wrapping_add(i128::from(node.rest.unsigned_abs()));
+            }
+        }
+        sum
+    }
+}

@@ -1,7 +1,7 @@
 -- How noting one row after another gives the chips of a text.
 use Rattle.std.proofs.Common.{◌≡◌, ◌≢◌, ℕ, ◌<◌, Bool, true, false, List, [], ◌∷◌, ◌++◌, length, map, get_or, set, Option, None, Some, refl, ap, sym, ◌∙◌, inl, inr, ◌⊎◌, get_or-set_same, get_or-set_other, replicate, take, drop, sum, ◌^◌}
 use Rattle.std.proofs.Math.Seq.{take-append_seam}
-use Rattle.chip_file.specs.Answer.{IsOfMachine}
+use Rattle.chip_graph.specs.Limits.{max_total}
 use Rattle.std.specs.Prelude.{is_some, unwrap_or, not, ◌&&◌, ◌==◌, nat_lt, nat_le, if◌then◌else◌}
 use Rattle.std.proofs.lemmas.List.{get_or-replicate, get_or-map, length-map, length-replicate, length-set}
 use Rattle.std.proofs.lemmas.Bool.{ltb-true, eqb-true, eqb-false, not-true}
@@ -19,7 +19,7 @@ use Rattle.chip_file.specs.Rows.{Row, rows_under_header, records_of, records_fau
 -- these are the chips that the rows so far give each vertex
 pub record HaveNoted (vertices : ℕ) (before : List Row) (named : List (Option ℕ)) : Type 0 where
   pub as_many : length named ≡ vertices
-  pub places : (v : ℕ) → v < vertices → get_or named v None ≡ chips_named before v
+  pub each : (v : ℕ) → v < vertices → get_or named v None ≡ chips_named before v
 
 -- ---- the fault of a row by the table is its fault by the rows before it
 
@@ -38,7 +38,7 @@ pub table_fault : (vertices : ℕ) (before : List Row) (named : List (Option ℕ
 table_fault vertices before named index row noted counted =
     rw (noted.as_many, ← counted)
     (same_fault vertices (length before) (λ v. is_some (get_or named v None)) (λ v. is_some (chips_named before v)) row
-    (λ below. ap is_some (noted.places (vertex_in row) (ltb-true (vertex_in row) vertices below))))
+    (λ below. ap is_some (noted.each (vertex_in row) (ltb-true (vertex_in row) vertices below))))
 
 -- ---- a row with no fault
 
@@ -87,13 +87,13 @@ HaveNoted-more vertices before named row noted fine =
     let below : vertex_in row < length named = rw noted.as_many new.0 in
     record {
       as_many = length-set named (vertex_in row) (Some (chips_in row)) ∙ noted.as_many;
-      places = λ v h. set_by (vertex_in row == v) named before row v refl below new.1 (noted.places v h);
+      each = λ v h. set_by (vertex_in row == v) named before row v refl below new.1 (noted.each v h);
     }
 
 pub HaveNoted-none : (vertices : ℕ) (named : List (Option ℕ)) → named ≡ replicate vertices None → HaveNoted vertices [] named
 HaveNoted-none vertices named blank = record {
   as_many = ap length blank ∙ length-replicate vertices None;
-  places = λ v h. rw blank (get_or-replicate vertices v None None h);
+  each = λ v h. rw blank (get_or-replicate vertices v None None h);
 }
 
 -- what a slice of a vector leaves in the vector
@@ -106,9 +106,9 @@ written_back named new n e = rw (← e) (take-append_seam new (drop (length new)
 pub records_fail : (vertices : ℕ) (records : List Row) (f : FileFault) → records_fault chips_header (chips_row_fault vertices) records ≡ Some f → chips_fault vertices records ≡ Some f
 records_fail vertices records f e = rw e refl
 
-pub header_fails_chips : (vertices : ℕ) (records : List Row) (f : FileFault) → IsOfMachine f ⊎ (records_fault chips_header (chips_row_fault vertices) records ≡ Some f)
-    → IsOfMachine f ⊎ (chips_fault vertices records ≡ Some f)
-header_fails_chips vertices records f (inl machine) = inl machine
+pub header_fails_chips : (vertices : ℕ) (records : List Row) (f : FileFault) → (f ≡ fault.NoMemory) ⊎ (records_fault chips_header (chips_row_fault vertices) records ≡ Some f)
+    → (f ≡ fault.NoMemory) ⊎ (chips_fault vertices records ≡ Some f)
+header_fails_chips vertices records f (inl memory) = inl memory
 header_fails_chips vertices records f (inr e) = inr (records_fail vertices records f e)
 
 -- all rows were noted
@@ -117,14 +117,14 @@ pub HaveNoted-all : (vertices : ℕ) (records before : List Row) (named : List (
 HaveNoted-all vertices records before named noted all = record {
   no_fault = all.0;
   as_many = noted.as_many;
-  each = λ v h. rw all.1 (noted.places v h);
+  each = λ v h. rw all.1 (noted.each v h);
 }
 
 -- ---- the chips of a text
 
 -- nothing is wrong with the rows, so the total decides
 total_decides : (vertices : ℕ) (records : List Row) (named : List (Option ℕ)) → AreNamed vertices records named
-    → chips_fault vertices records ≡ unless (nat_le (sum (chips_of_rows vertices (rows_under_header records))) (2 ^ 40)) fault.Total
+    → chips_fault vertices records ≡ unless (nat_le (sum (chips_of_rows vertices (rows_under_header records))) max_total) fault.Total
 total_decides vertices records named are = rw are.no_fault refl
 
 filled : (vertices : ℕ) (records : List Row) (named : List (Option ℕ)) → AreNamed vertices records named
@@ -137,14 +137,14 @@ filled vertices records named are =
     get_or-map (λ chips. unwrap_or chips 0) named v None 0 within ∙ ap (λ chips. unwrap_or chips 0) (are.each v h))
 
 pub chips_fit : (vertices : ℕ) (text : List ℕ) (named : List (Option ℕ)) (chips : List ℕ) → AreNamed vertices (records_of text) named
-    → chips ≡ map (λ chips. unwrap_or chips 0) named → true ≡ nat_le (sum chips) (2 ^ 40) → chips_of_text vertices text ≡ Some chips
+    → chips ≡ map (λ chips. unwrap_or chips 0) named → true ≡ nat_le (sum chips) max_total → chips_of_text vertices text ≡ Some chips
 chips_fit vertices text named chips are e fits =
     let given : chips ≡ chips_of_rows vertices (rows_under_header (records_of text)) = e ∙ filled vertices (records_of text) named are in
     let none : chips_text_fault vertices text ≡ None = total_decides vertices (records_of text) named are ∙ rw (← given, ← fits) refl in
     rw none (ap Some (sym given))
 
 pub chips_exceed : (vertices : ℕ) (text : List ℕ) (named : List (Option ℕ)) (chips : List ℕ) → AreNamed vertices (records_of text) named
-    → chips ≡ map (λ chips. unwrap_or chips 0) named → false ≡ nat_le (sum chips) (2 ^ 40) → chips_text_fault vertices text ≡ Some fault.Total
+    → chips ≡ map (λ chips. unwrap_or chips 0) named → false ≡ nat_le (sum chips) max_total → chips_text_fault vertices text ≡ Some fault.Total
 chips_exceed vertices text named chips are e exceeds =
     let given : chips ≡ chips_of_rows vertices (rows_under_header (records_of text)) = e ∙ filled vertices (records_of text) named are in
     total_decides vertices (records_of text) named are ∙ rw (← given, ← exceeds) refl

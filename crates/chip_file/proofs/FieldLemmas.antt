@@ -16,15 +16,15 @@ none_there [] i h = absurd (omega arith)
 none_there (n ∷ ns) zero h = refl
 none_there (n ∷ ns) (suc i) h = none_there ns i (omega arith)
 
-at_place : (fields names : Row) (i : ℕ) → i < length names
+at_column : (fields names : Row) (i : ℕ) → i < length names
     → pointwise bytes_eq (drop i fields) (drop i names)
     ≡ (option_eq bytes_eq (field_at fields i) (Some (get_or names i [])) && pointwise bytes_eq (drop (suc i) fields) (drop (suc i) names))
 unfolding field_at
-at_place fields [] i h = absurd (omega arith)
-at_place [] (n ∷ ns) zero h = refl
-at_place (f ∷ fs) (n ∷ ns) zero h = refl
-at_place [] (n ∷ ns) (suc i) h = none_there ns i (omega arith)
-at_place (f ∷ fs) (n ∷ ns) (suc i) h = at_place fs ns i (omega arith)
+at_column fields [] i h = absurd (omega arith)
+at_column [] (n ∷ ns) zero h = refl
+at_column (f ∷ fs) (n ∷ ns) zero h = refl
+at_column [] (n ∷ ns) (suc i) h = none_there ns i (omega arith)
+at_column (f ∷ fs) (n ∷ ns) (suc i) h = at_column fs ns i (omega arith)
 
 not_not : (b : Bool) → not (not b) ≡ b
 not_not true = refl
@@ -35,7 +35,7 @@ by_texts : (got : Option (Bor (List ℕ))) (name : Bor (List ℕ))
 by_texts None name = refl
 by_texts (Some f) name = refl
 
--- the rest of a header from a place on, by the field at the place and the rest after it
+-- the rest of a header from a column on, by the field at the column and the rest after it
 pub one_field : (fields : Row) (names : List (Bor (List ℕ))) (i : ℕ) (got : Option (Bor (List ℕ))) (name d : Bor (List ℕ)) (test : Bool) → i < length names
     → option_map (λ f. f.now) got ≡ field_at fields i → name.now ≡ (get_or names i d).now
     → test ≡ not (option_eq (λ x y. bytes_eq x.now y.now) got (Some name))
@@ -45,7 +45,7 @@ one_field fields names i got name d test lt g n e =
     let this : get_or (texts names) i [] ≡ name.now = get_or-map (λ name. name.now) names i d [] lt ∙ sym n in
     let told : not test ≡ option_eq bytes_eq (field_at fields i) (Some (get_or (texts names) i [])) =
     rw (e, not_not, by_texts, g, this) refl in
-    at_place fields (texts names) i within ∙ rw (told, add-one) refl
+    at_column fields (texts names) i within ∙ rw (told, add-one) refl
 
 -- past the last field of both
 pub none_more : (fields : Row) (names : List (Bor (List ℕ))) (i : ℕ) → length fields ≡ length names → length names ≤ i

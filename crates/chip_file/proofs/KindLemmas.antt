@@ -54,9 +54,9 @@ named_in kinds None text = refl
 named_in kinds (Some name) text = named_by kinds name (is_utf8 name) text refl
 
 -- the kind of a field is the one of its text
-pub kind_of_text : {K : Type 0} (kinds : List (List ℕ × K)) (place : ℕ) (row : Row) → AreText kinds
-    → option_and_then (kind_named kinds) (text_at place row) ≡ kind_at kinds place row
-kind_of_text kinds place row text = named_in kinds (field_at row place) text
+pub kind_of_text : {K : Type 0} (kinds : List (List ℕ × K)) (column : ℕ) (row : Row) → AreText kinds
+    → option_and_then (kind_named kinds) (text_at column row) ≡ kind_at kinds column row
+kind_of_text kinds column row text = named_in kinds (field_at row column) text
 
 pub trace_kinds_text : AreText trace_kinds
 unfolding is_utf8 chars encode

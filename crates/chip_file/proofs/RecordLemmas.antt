@@ -4,7 +4,6 @@ use Rattle.std.proofs.lemmas.List.{append-nil}
 use Rattle.chip_graph.specs.Faults.{first_of_faults, unless}
 use Rattle.chip_file.specs.declared.fault.FileFault.{FileFault}
 use Rattle.chip_file.specs.declared.fault.FileFault.TheVariants as fault
-use Rattle.chip_file.specs.Answer.{IsOfMachine}
 use Rattle.chip_file.specs.Rows.{Row, records_of, has_header, rows_under_header, first_row_fault, records_fault}
 use Rattle.chip_file.proofs.RowLemmas.{few_records}
 
@@ -49,11 +48,11 @@ HasRead-all header row_fault records before left index read e headed =
     let none : first_row_fault row_fault [] (rows_under_header records) ≡ None = read.no_fault ∙ rw e refl in
     (rw (headed, none) refl, read.parts ∙ rw e (append-nil before))
 
--- the first record is not the header, or the machine failed
+-- the first record is not the header, or memory ran out
 pub header_fails : (header : Row) (row_fault : List Row → Row → Option FileFault) (records left : List Row) (f : FileFault) → left ≡ records
-    → IsOfMachine f ⊎ ((f ≡ fault.Header) × (has_header header left ≡ false))
-    → IsOfMachine f ⊎ (records_fault header row_fault records ≡ Some f)
-header_fails header row_fault records left f e (inl machine) = inl machine
+    → (f ≡ fault.NoMemory) ⊎ ((f ≡ fault.Header) × (has_header header left ≡ false))
+    → (f ≡ fault.NoMemory) ⊎ (records_fault header row_fault records ≡ Some f)
+header_fails header row_fault records left f e (inl memory) = inl memory
 header_fails header row_fault records left f e (inr other) = inr (rw (← e, other.1, other.0) refl)
 
 length-under : (records : List Row) → length (rows_under_header records) ≤ length records

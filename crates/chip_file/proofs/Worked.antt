@@ -88,9 +88,9 @@ unfolding csv_on_literals field_at
 sealed_half_way = refl
 
 -- the other kinds, at the last root edge and the last vertex
-last_places : schedule_of_text triangle_graph (codes "event,at,count\nack,6,0\nsettle,6,0\nread,2,7") ≡ Some (event.Ack 6 ∷ event.Settle 6 ∷ event.Read 2 ∷ [])
+last_sites : schedule_of_text triangle_graph (codes "event,at,count\nack,6,0\nsettle,6,0\nread,2,7") ≡ Some (event.Ack 6 ∷ event.Settle 6 ∷ event.Read 2 ∷ [])
 unfolding csv_on_literals field_at
-last_places = refl
+last_sites = refl
 
 -- the refusals of a schedule's rows: each before those after it
 header_of_traces : schedule_text_fault triangle_graph (codes "vertex,kind,edge,count\n") ≡ Some fault.Header
@@ -105,9 +105,9 @@ kind_before_number : schedule_text_fault triangle_graph (codes "event,at,count\n
 unfolding csv_on_literals field_at
 kind_before_number = refl
 
-number_before_place : schedule_text_fault triangle_graph (codes "event,at,count\ntake,7,x\n") ≡ Some (fault.Number 0)
+number_before_site : schedule_text_fault triangle_graph (codes "event,at,count\ntake,7,x\n") ≡ Some (fault.Number 0)
 unfolding csv_on_literals field_at
-number_before_place = refl
+number_before_site = refl
 
 no_such_edge : schedule_text_fault triangle_graph (codes "event,at,count\ntake,7,0\n") ≡ Some (fault.Vertex 0)
 unfolding csv_on_literals field_at

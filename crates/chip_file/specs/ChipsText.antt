@@ -1,6 +1,7 @@
 -- The chips that a text of rows means, and what is wrong with a text that means none.
 use Rattle.std.specs.Prelude.{◌≡◌, ℕ, Bool, ◌^◌, ◌<◌, ◌==◌, nat_lt, nat_le, ◌&&◌, not, if◌then◌else◌, List, [], ◌∷◌, codes, length, map, slice_index_or, sum, Option, None, Some, is_some, is_none, unwrap_or}
 use Rattle.std.specs.List.{range_with_len}
+use Rattle.chip_graph.specs.Limits.{max_total}
 use Rattle.chip_graph.specs.Faults.{first_of_faults, unless}
 use Rattle.chip_file.specs.declared.fault.FileFault.{FileFault}
 use Rattle.chip_file.specs.declared.fault.FileFault.TheVariants as fault
@@ -44,7 +45,7 @@ chips_of_rows vertices rows = map (λ v. unwrap_or (chips_named rows v) 0) (rang
 abbrev pub chips_fault : ℕ → List Row → Option FileFault
 chips_fault vertices records =
     first_of_faults (records_fault chips_header (chips_row_fault vertices) records)
-    (unless (nat_le (sum (chips_of_rows vertices (rows_under_header records))) (2 ^ 40)) fault.Total)
+    (unless (nat_le (sum (chips_of_rows vertices (rows_under_header records))) max_total) fault.Total)
 
 -- the first thing wrong with a text of chips
 abbrev pub chips_text_fault : ℕ → List ℕ → Option FileFault

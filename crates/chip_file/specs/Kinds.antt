@@ -7,6 +7,6 @@ abbrev pub kind_named : {K : Type 0} → List (List ℕ × K) → List ℕ → O
 kind_named [] name = None
 kind_named (kind ∷ kinds) name = if bytes_eq name kind.0 then Some kind.1 else kind_named kinds name
 
--- the kind in the field at a place of a row
+-- the kind in the field at a column of a row
 abbrev pub kind_at : {K : Type 0} → List (List ℕ × K) → ℕ → List (List ℕ) → Option K
-kind_at kinds place row = option_and_then (kind_named kinds) (field_at row place)
+kind_at kinds column row = option_and_then (kind_named kinds) (field_at row column)

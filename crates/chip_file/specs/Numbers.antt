@@ -11,10 +11,10 @@ number_of field =
     then Some (digits_value 10 field)
     else None
 
--- the number in the field at a place of a row
+-- the number in the field at a column of a row
 abbrev pub number_at : ℕ → List (List ℕ) → Option ℕ
-number_at place row = option_and_then number_of (field_at row place)
+number_at column row = option_and_then number_of (field_at row column)
 
 -- the same, 0 where the field is no number
 abbrev pub number_in : ℕ → List (List ℕ) → ℕ
-number_in place row = unwrap_or (number_at place row) 0
+number_in column row = unwrap_or (number_at column row) 0

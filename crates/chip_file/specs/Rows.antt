@@ -16,9 +16,9 @@ Row = List (List ℕ)
 abbrev pub records_of : List ℕ → List Row
 records_of text = records default_config (strip_bom text)
 
--- the text in the field at a place of a row: none where the row is too short, or the field is no UTF-8
+-- the text in the field at a column of a row: none where the row is too short, or the field is no UTF-8
 abbrev pub text_at : ℕ → Row → Option (List ℕ)
-text_at place row = option_and_then (λ field. if is_utf8 field then Some field else None) (field_at row place)
+text_at column row = option_and_then (λ field. if is_utf8 field then Some field else None) (field_at row column)
 
 -- a record has exactly these fields
 abbrev pub has_fields : Row → Row → Bool

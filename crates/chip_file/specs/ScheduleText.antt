@@ -1,6 +1,7 @@
 -- The schedule that a text of rows means, and what is wrong with a text that means none.
 use Rattle.std.specs.Prelude.{ℕ, ◌+◌, Bool, true, false, ◌==◌, nat_lt, ◌&&◌, if◌then◌else◌, List, [], ◌∷◌, codes, length, map, Option, None, Some, is_some, is_none, unwrap_or}
 use Rattle.chip_graph.specs.Multigraph.{Multigraph}
+use Rattle.chip_graph.specs.Edges.{all_edges}
 use Rattle.chip_graph.specs.Faults.{first_of_faults, unless}
 use Rattle.chip_link.specs.declared.event.Event.{Event}
 use Rattle.chip_link.specs.declared.event.Event.TheVariants as event
@@ -33,11 +34,11 @@ is_at_vertex kind.Halt = true
 is_at_vertex kind.Read = true
 is_at_vertex _ = false
 
--- how many places there are for an event of this kind: the vertices, or the edges with a root edge for each vertex
-abbrev pub places_for : Multigraph → EventKind → ℕ
-places_for G k = if is_at_vertex k then G.vertices else length G.edges + G.vertices
+-- how many sites there are for an event of this kind: the vertices, or all edges
+abbrev pub sites_for : Multigraph → EventKind → ℕ
+sites_for G k = if is_at_vertex k then G.vertices else all_edges G
 
--- the event of this kind at a place; only a firing has a count
+-- the event of this kind at a vertex or an edge; only a firing has a count
 abbrev pub event_of_kind : EventKind → ℕ → ℕ → Event
 event_of_kind kind.Take at count = event.Take at
 event_of_kind kind.Ack at count = event.Ack at
@@ -60,7 +61,7 @@ event_fault G index row =
     first_of_faults (unless (length row == 3) (fault.Row index))
     (first_of_faults (unless (is_some (kind_at event_kinds 0 row)) (fault.Kind index))
     (first_of_faults (unless (is_some (number_at 1 row) && is_some (number_at 2 row)) (fault.Number index))
-    (unless (nat_lt (number_in 1 row) (places_for G (kind_in row))) (fault.Vertex index))))
+    (unless (nat_lt (number_in 1 row) (sites_for G (kind_in row))) (fault.Vertex index))))
 
 -- the first thing wrong with a text of a schedule for a graph
 abbrev pub schedule_text_fault : Multigraph → List ℕ → Option FileFault

@@ -2,6 +2,7 @@
 use Rattle.std.specs.Prelude.{ℕ, ◌+◌, Bool, true, ◌==◌, nat_lt, ◌&&◌, if◌then◌else◌, List, [], ◌∷◌, codes, length, map, Option, None, Some, is_some, is_none, unwrap_or}
 use Rattle.std.specs.List.{filter, range_with_len}
 use Rattle.chip_graph.specs.Multigraph.{Multigraph}
+use Rattle.chip_graph.specs.Edges.{all_edges}
 use Rattle.chip_graph.specs.Faults.{first_of_faults, unless}
 use Rattle.chip_link.specs.declared.trace.TraceRow.{TraceRow}
 use Rattle.chip_link.specs.declared.trace.TraceRow.TheVariants.{Take, Fire}
@@ -36,7 +37,7 @@ trace_row_in row = row_of_kind (kind_in row) (number_in 2 row) (number_in 3 row)
 
 -- whether a recorded row names an edge that is there, a root edge among them; a firing names none
 abbrev pub names_edge : Multigraph → TraceRow → Bool
-names_edge G (Take edge count) = nat_lt edge (length G.edges + G.vertices)
+names_edge G (Take edge count) = nat_lt edge (all_edges G)
 names_edge G (Fire k) = true
 
 -- the first thing wrong with the row at an index

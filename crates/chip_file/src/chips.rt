@@ -1,5 +1,6 @@
 ghost use Rattle.std.specs.Prelude.{◌≡◌, ◌^◌, ◌≤◌, nat_le, Some, None, is_some, unwrap_or, IfSome, IfOk, OnOk, IfErr, length, map, sum, replicate, slice_index_or, slice_set};
 ghost use Rattle.csv.specs.Records.{fields_of};
+ghost use Rattle.chip_graph.specs.Limits.{max_total};
 ghost use Rattle.chip_file.specs.Answer.{Answers, Gives, max_bytes};
 ghost use Rattle.chip_file.specs.ChipsText.{chips_of_text, chips_text_fault, AreNamed, row_fault, vertex_in, chips_in};
 ghost use Rattle.chip_file.specs.Rows.{records_of};
@@ -8,7 +9,7 @@ use crate::fault::FileFault;
 use crate::number::number_at;
 use crate::rows;
 use crate::whole::read_whole;
-use chip_graph::game::MAX_TOTAL;
+use chip_graph::MAX_TOTAL;
 use csv::ByteRecord;
 use std::alloc::{AllocError, Global};
 use std::io::Read;
@@ -88,11 +89,11 @@ fn note_row(named: &mut [Option<u64>], row: &ByteRecord, index: u64) -> Result<(
     if vertex >= named.len() as u64 {
         return Err(FileFault::Vertex(index));
     }
-    let place = vertex as usize;
-    if named[place].is_some() {
+    let vertex = vertex as usize;
+    if named[vertex].is_some() {
         return Err(FileFault::Repeated(index));
     }
-    named[place] = Some(chips);
+    named[vertex] = Some(chips);
     Ok(())
 }
 
@@ -105,7 +106,7 @@ fn chips_or_none(alloc: Global, named: &[Option<u64>]) -> Result<Vec<u64>, Alloc
 
 /// Whether there are no more chips in all than a game holds.
 fn fits_total(chips: &[u64]) -> bool
-    ensures { result ≡ nat_le (sum chips.now) (2 ^ 40) }
+    ensures { result ≡ nat_le (sum chips.now) max_total }
 {
     let mut room = MAX_TOTAL;
     for count in chips {

@@ -11,11 +11,11 @@ use std::str;
 /// The most digits that a number has, leading zeros among them.
 const MAX_DIGITS: usize = 20;
 
-/// The number in a row's field at a place, if it is one.
-pub(crate) fn number_at(row: &ByteRecord, place: usize) -> Option<u64>
-    ensures { result ≡ number_at place (fields_of row.now) }
+/// The number in a row's field at a column, if it is one.
+pub(crate) fn number_at(row: &ByteRecord, column: usize) -> Option<u64>
+    ensures { result ≡ number_at column (fields_of row.now) }
 {
-    row.get(place).and_then(number_of)
+    row.get(column).and_then(number_of)
 }
 
 /// The number that a field is, if it is one.

@@ -2,14 +2,13 @@
 
 ghost use Rattle.std.specs.Prelude.{◌≡◌, ◌⊎◌, true, false, map, option_map, IfOk, OnOk, IfErr};
 ghost use Rattle.csv.specs.Records.{fields_of};
-ghost use Rattle.chip_file.specs.Answer.{IsOfMachine};
 ghost use Rattle.chip_file.specs.Rows.{records_of, has_fields, has_header, rows_under_header, text_at};
 ghost use Rattle.chip_file.specs.Standing.{IsOpen, TakesRow, rows_left};
 ghost use Rattle.chip_file.specs.declared.fault.FileFault.TheVariants as fault;
 
 use crate::fault::FileFault;
-use csv::{ByteRecord, ErrorKind, Reader, ReaderBuilder};
-use std::alloc::Global;
+use csv::{ByteRecord, Reader, ReaderBuilder};
+use std::alloc::{AllocError, Global};
 use std::str;
 
 /// A reader of the records of a text, the header among them.
@@ -33,7 +32,7 @@ pub(crate) fn read_header(
     ensures ok { OnOk result (IsOpen reader.new
         × (has_header (map (λ name. name.now) header.now) (rows_left reader.old) ≡ true)
         × (rows_left reader.new ≡ rows_under_header (rows_left reader.old))) }
-    ensures err { IfErr result (λ f. IsOfMachine f ⊎ ((f ≡ fault.Header)
+    ensures err { IfErr result (λ f. (f ≡ fault.NoMemory) ⊎ ((f ≡ fault.Header)
         × (has_header (map (λ name. name.now) header.now) (rows_left reader.old) ≡ false))) }
 {
     if read_row(reader, row)? && has_fields(row, header) {
@@ -44,23 +43,24 @@ pub(crate) fn read_header(
 }
 
 /// Reads the next record into `row`, and says whether there was one.
-pub(crate) fn read_row(reader: &mut Reader<&[u8]>, row: &mut ByteRecord) -> Result<bool, FileFault>
+///
+/// The text lies in memory, so that nothing is left to fail but an allocation.
+pub(crate) fn read_row(reader: &mut Reader<&[u8]>, row: &mut ByteRecord) -> Result<bool, AllocError>
     requires { IsOpen reader.old }
-    ensures ok { IfOk result (λ found. IsOpen reader.new
+    ensures { IfOk result (λ found. IsOpen reader.new
         × TakesRow found (fields_of row.new) (rows_left reader.old) (rows_left reader.new)) }
-    ensures err { IfErr result IsOfMachine }
 {
-    match reader.read_byte_record(row) {
-        Ok(found) => Ok(found),
-        Err(error) => Err(fault_of(&error)),
-    }
+    let Ok(found) = reader.read_byte_record(row) else {
+        return Err(AllocError);
+    };
+    Ok(found)
 }
 
-/// The text in a row's field at a place: none where the row is too short, or the field is no UTF-8.
-pub(crate) fn text_at(row: &ByteRecord, place: usize) -> Option<&str>
-    ensures { option_map (λ text. text.now) result ≡ text_at place (fields_of row.now) }
+/// The text in a row's field at a column: none where the row is too short, or the field is no UTF-8.
+pub(crate) fn text_at(row: &ByteRecord, column: usize) -> Option<&str>
+    ensures { option_map (λ text. text.now) result ≡ text_at column (fields_of row.now) }
 {
-    str::from_utf8(row.get(place)?).ok()
+    str::from_utf8(row.get(column)?).ok()
 }
 
 /// Whether a record has exactly these fields.
@@ -70,20 +70,10 @@ fn has_fields(row: &ByteRecord, fields: &[&str]) -> bool
     if row.len() != fields.len() {
         return false;
     }
-    for (place, field) in fields.iter().enumerate() {
-        if row.get(place) != Some(field.as_bytes()) {
+    for (column, field) in fields.iter().enumerate() {
+        if row.get(column) != Some(field.as_bytes()) {
             return false;
         }
     }
     true
-}
-
-/// The fault of the machine that stopped a reader.
-fn fault_of(error: &csv::Error) -> FileFault
-    ensures { IsOfMachine result }
-{
-    match error.kind() {
-        ErrorKind::OutOfMemory => FileFault::NoMemory,
-        _ => FileFault::Read,
-    }
 }

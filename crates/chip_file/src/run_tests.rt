@@ -25,10 +25,7 @@ const fn fire(k: u64) -> TraceRow {
 fn reads_the_schedule_of_sealed_half_way(rt: HostRuntime) -> Result<(), Fail> {
     let graph = read_graph(rt.alloc(), &mut TRIANGLE.as_bytes())?;
     let events = read_schedule(rt.alloc(), &mut SEALED_HALF_WAY.as_bytes(), &graph)?;
-    let fire = Event::Fire {
-        vertex: 0,
-        count: 2,
-    };
+    let fire = Event::Fire { vertex: 0, k: 2 };
     assert_eq!(rt;
         events.as_slice(),
         [
@@ -57,7 +54,7 @@ fn reads_every_kind_of_event(rt: HostRuntime) -> Result<(), Fail> {
             "event,at,count\nfire,2,18446744073709551615\n",
             Some(Event::Fire {
                 vertex: 2,
-                count: u64::MAX,
+                k: u64::MAX,
             }),
         ),
         ("\u{feff}event,at,count\nclear,0,0\n", Some(Event::Clear(0))),

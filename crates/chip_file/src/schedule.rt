@@ -4,7 +4,7 @@ ghost use Rattle.std.specs.Prelude.{◌≡◌, ◌≤◌, length, map, Some, Non
 ghost use Rattle.csv.specs.Records.{fields_of};
 ghost use Rattle.chip_file.specs.Answer.{Answers, Gives, max_bytes};
 ghost use Rattle.chip_file.specs.Kinds.{kind_named, kind_at};
-ghost use Rattle.chip_file.specs.ScheduleText.{event_kinds, is_at_vertex, places_for, event_of_kind, event_in, event_fault, schedule_text_fault, schedule_of_text};
+ghost use Rattle.chip_file.specs.ScheduleText.{event_kinds, is_at_vertex, sites_for, event_of_kind, event_in, event_fault, schedule_text_fault, schedule_of_text};
 
 use crate::fault::FileFault;
 use crate::number::number_at;
@@ -54,11 +54,11 @@ impl EventKind {
         }
     }
 
-    /// The kind in a row's field at a place, if it is one.
-    fn at(row: &ByteRecord, place: usize) -> Option<EventKind>
-        ensures { result ≡ kind_at event_kinds place (fields_of row.now) }
+    /// The kind in a row's field at a column, if it is one.
+    fn at(row: &ByteRecord, column: usize) -> Option<EventKind>
+        ensures { result ≡ kind_at event_kinds column (fields_of row.now) }
     {
-        EventKind::named(rows::text_at(row, place)?)
+        EventKind::named(rows::text_at(row, column)?)
     }
 
     /// Whether an event of this kind is at a vertex; else it is at an edge.
@@ -68,25 +68,28 @@ impl EventKind {
         matches!(self, EventKind::Fire | EventKind::Halt | EventKind::Read)
     }
 
-    /// How many places a graph has for events of this kind: its vertices, or its edges with a root edge for each vertex.
-    fn places(self, graph: &Graph) -> u64
-        ensures { result ≡ places_for graph.now self }
+    /// How many sites a graph has for events of this kind: its vertices, or all edges.
+    fn sites(self, graph: &Graph) -> u64
+        ensures { result ≡ sites_for graph.now self }
     {
         if self.is_at_vertex() {
             graph.vertices()
         } else {
-            graph.edges().len() as u64 + graph.vertices()
+            graph.all_edges()
         }
     }
 
-    /// The event of this kind at a place; only a firing has a count.
+    /// The event of this kind at a vertex or an edge; only a firing has a count.
     fn event(self, at: u64, count: u64) -> Event
         ensures { result ≡ event_of_kind self at count }
     {
         match self {
             EventKind::Take => Event::Take(at),
             EventKind::Ack => Event::Ack(at),
-            EventKind::Fire => Event::Fire { vertex: at, count },
+            EventKind::Fire => Event::Fire {
+                vertex: at,
+                k: count,
+            },
             EventKind::Clear => Event::Clear(at),
             EventKind::Claim => Event::Claim(at),
             EventKind::Put => Event::Put(at),
@@ -142,7 +145,7 @@ fn event_of(graph: &Graph, row: &ByteRecord, index: u64) -> Result<Event, FileFa
     let kind = EventKind::at(row, 0).ok_or(FileFault::Kind(index))?;
     let at = number_at(row, 1).ok_or(FileFault::Number(index))?;
     let count = number_at(row, 2).ok_or(FileFault::Number(index))?;
-    if at >= kind.places(graph) {
+    if at >= kind.sites(graph) {
         return Err(FileFault::Vertex(index));
     }
     Ok(kind.event(at, count))

@@ -39,11 +39,11 @@ impl TraceKind {
         }
     }
 
-    /// The kind in a row's field at a place, if it is one.
-    fn at(row: &ByteRecord, place: usize) -> Option<TraceKind>
-        ensures { result ≡ kind_at trace_kinds place (fields_of row.now) }
+    /// The kind in a row's field at a column, if it is one.
+    fn at(row: &ByteRecord, column: usize) -> Option<TraceKind>
+        ensures { result ≡ kind_at trace_kinds column (fields_of row.now) }
     {
-        TraceKind::named(rows::text_at(row, place)?)
+        TraceKind::named(rows::text_at(row, column)?)
     }
 
     /// The row of this kind; a firing is over no edge.
@@ -140,7 +140,7 @@ fn names_edge(graph: &Graph, row: TraceRow) -> bool
     ensures { result ≡ names_edge graph.now row }
 {
     match row {
-        TraceRow::Take { edge, .. } => edge < graph.edges().len() as u64 + graph.vertices(),
+        TraceRow::Take { edge, .. } => edge < graph.all_edges(),
         TraceRow::Fire { .. } => true,
     }
 }

@@ -1,6 +1,6 @@
 ghost use Rattle.std.specs.Prelude.{◌≡◌, ◌⊎◌, ◌≤◌, length, IfOk, IfErr, IfSome, OnOk};
 ghost use Rattle.std.specs.Io.KnownBytes.{IsAtEnd};
-ghost use Rattle.chip_file.specs.Answer.{Answers, IsOfMachine, max_bytes};
+ghost use Rattle.chip_file.specs.Answer.{Answers, FailsInTime, IsOfMachine, max_bytes};
 ghost use Rattle.chip_file.specs.declared.fault.FileFault.TheVariants as fault;
 
 use crate::fault::FileFault;
@@ -24,6 +24,7 @@ pub fn read_whole<R: Read>(alloc: Global, reader: &mut R) -> Result<Vec<u8>, Fil
 
     // At any reader.
     ensures few { IfOk result (λ bytes. length bytes.items ≤ max_bytes) }
+    ensures read { FailsInTime (R.remaining reader.old) (R.remaining reader.new) result }
     ensures faults { IfErr result (λ f. IsOfMachine f ⊎ (f ≡ fault.TooLong)) }
 {
     let mut bytes = Vec::new(alloc);

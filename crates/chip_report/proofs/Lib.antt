@@ -5,3 +5,4 @@ pub mod ReportLemmas
 pub mod ValueLemmas
 mod Worked
 pub mod WrittenLemmas
+pub mod ReportTwoLemmas

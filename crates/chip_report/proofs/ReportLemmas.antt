@@ -20,7 +20,7 @@ use Rattle.chip_fire.specs.declared.outcome.Outcome.{Outcome}
 use Rattle.chip_fire.specs.Outcomes.{IsOutcome}
 use Rattle.chip_report.specs.OutcomeParts.{AreCounts, AreHalted}
 use Rattle.chip_report.specs.ReportText.{comma, array_text, bool_text, is_empty, is_closed, report_text}
-use Rattle.chip_report.specs.Reportable.{Told, told, IsReportOf, IsNoReport, Gives}
+use Rattle.chip_report.specs.Reportable.{Told, told, IsReportOf, IsNoReport, GrowsForALine, Gives}
 use Rattle.chip_report.specs.declared.fault.ReportFault.{ReportFault}
 use Rattle.chip_report.specs.declared.fault.ReportFault.TheVariants as fault
 use Rattle.chip_report.specs.ReportJson.{told_by_value, told_by_json}
@@ -38,11 +38,11 @@ report_members closed t =
     (member (codes "sealed") (array (items_of t.sealed))
     (member (codes "version") (number (unsigned 1)) no_members)))))
 
-abbrev report_value : Bool → Told → Data
+abbrev pub report_value : Bool → Told → Data
 report_value closed t = object (report_members closed t)
 
 -- the text of a report, without its newline
-abbrev json_text : Bool → Told → List ℕ
+abbrev pub json_text : Bool → Told → List ℕ
 json_text closed t =
     codes "{\"chips\":" ++ (array_text t.chips
     ++ (codes ",\"closed\":" ++ (bool_text closed
@@ -61,10 +61,10 @@ newline_last : (a b c d e f g h i j k : List ℕ)
 newline_last a b c d e f g h i j k = simp append_assoc
 
 -- whether no vertex halted
-abbrev closed_of : Told → Bool
+abbrev pub closed_of : Told → Bool
 closed_of t = is_empty t.over && is_empty t.sealed
 
-with_newline : (o : Outcome) → json_text (closed_of (told o)) (told o) ++ 10 ∷ [] ≡ report_text o
+pub with_newline : (o : Outcome) → json_text (closed_of (told o)) (told o) ++ 10 ∷ [] ≡ report_text o
 with_newline o =
     newline_last (codes "{\"chips\":") (array_text o.chips.items) (codes ",\"closed\":") (bool_text (is_closed o)) (codes ",\"fired\":") (array_text o.fired.items)
     (codes ",\"over\":") (array_text o.over.items) (codes ",\"sealed\":") (array_text o.sealed.items) (codes ",\"version\":1}")
@@ -86,10 +86,10 @@ depth-value closed t = rw (depth-array t.chips, depth-array t.fired, depth-array
 back-value : (closed : Bool) (t : Told) → AreShortLists t → of_json (outline (report_value closed t)) ≡ Some (report_value closed t)
 back-value closed t h = rw (back-array t.chips h.chips, back-array t.fired h.fired, back-array t.over h.over, back-array t.sealed h.sealed, number_of-decimal 1 (lit< tt)) refl
 
-read-value : (closed : Bool) (t : Told) → AreShortLists t → read (json_text closed t) ≡ Some (report_value closed t)
+pub read-value : (closed : Bool) (t : Told) → AreShortLists t → read (json_text closed t) ≡ Some (report_value closed t)
 read-value closed t h = ap read (sym (text-value closed t)) ∙ read-compact_text (report_value closed t) (numbers-value closed t h) (depth-value closed t) (back-value closed t h)
 
-told-value : (closed : Bool) (t : Told) → told_by_value (report_value closed t) ≡ Some t
+pub told-value : (closed : Bool) (t : Told) → told_by_value (report_value closed t) ≡ Some t
 told-value closed t = rw (numbers_of-items_of t.fired, numbers_of-items_of t.chips, numbers_of-items_of t.over, numbers_of-items_of t.sealed) refl
 
 -- ---- a report is UTF-8
@@ -104,15 +104,15 @@ utf8-members : (ns : List ℕ) → AreShort ns → IsUtf8 (join_with_byte comma 
 utf8-members [] h = IsUtf8-nil
 utf8-members (n ∷ ns) h = utf8-joined n ns h
 
-utf8-array : (ns : List ℕ) → AreShort ns → IsUtf8 (array_text ns)
+pub utf8-array : (ns : List ℕ) → AreShort ns → IsUtf8 (array_text ns)
 utf8-array ns h =
     IsUtf8-append (codes "[") _ (IsUtf8-are_ascii (codes "[") refl) (IsUtf8-append (join_with_byte comma (map decimal ns)) (codes "]") (utf8-members ns h) (IsUtf8-are_ascii (codes "]") refl))
 
-utf8-boolean : (b : Bool) → IsUtf8 (bool_text b)
+pub utf8-boolean : (b : Bool) → IsUtf8 (bool_text b)
 utf8-boolean true = IsUtf8-are_ascii (codes "true") refl
 utf8-boolean false = IsUtf8-are_ascii (codes "false") refl
 
-utf8-text : (closed : Bool) (t : Told) → AreShortLists t → IsUtf8 (json_text closed t)
+pub utf8-text : (closed : Bool) (t : Told) → AreShortLists t → IsUtf8 (json_text closed t)
 utf8-text closed t h =
     IsUtf8-append (codes "{\"chips\":") _ (IsUtf8-are_ascii _ refl) (IsUtf8-append (array_text t.chips) _ (utf8-array t.chips h.chips)
     (IsUtf8-append (codes ",\"closed\":") _ (IsUtf8-are_ascii _ refl) (IsUtf8-append (bool_text closed) _ (utf8-boolean closed)
@@ -122,7 +122,7 @@ utf8-text closed t h =
 
 -- ---- what a report tells
 
-short_lists : (o : Outcome) → IsOutcome o → AreShortLists (told o)
+pub short_lists : (o : Outcome) → IsOutcome o → AreShortLists (told o)
 short_lists o h =
     let few = h.few_vertices in
     record {
@@ -143,17 +143,17 @@ told-report o json h e =
 -- ---- an outcome's numbers are all that its report depends on
 
 -- the numbers are those of an outcome that a game can have
-abbrev AreOfOutcome : Told → Type 0
+abbrev pub AreOfOutcome : Told → Type 0
 AreOfOutcome t = AreCounts t.fired (length t.fired) × AreCounts t.chips (length t.fired) × AreHalted t.over t.sealed (length t.fired)
 
-outcome_then : (o : Outcome) → IsOutcome o → AreOfOutcome (told o)
+pub outcome_then : (o : Outcome) → IsOutcome o → AreOfOutcome (told o)
 outcome_then o h = (
   (refl, h.some_vertex, h.few_vertices, h.few_firings),
   (h.same_length, h.some_vertex, h.few_vertices, h.few_chips),
   ((h.over_ascends, h.over_vertices), (h.sealed_ascends, h.sealed_vertices), h.apart),
 )
 
-outcome_if : (o : Outcome) → AreOfOutcome (told o) → IsOutcome o
+pub outcome_if : (o : Outcome) → AreOfOutcome (told o) → IsOutcome o
 outcome_if o h = record {
   same_length = h.1.0;
   some_vertex = h.0.1;
@@ -196,6 +196,11 @@ pub refused : (bytes json : List ℕ) → bytes ≡ json ++ 10 ∷ [] → (resul
 refused bytes json e (Ok o) f is why = absurd is
 refused bytes json e (Err g) f is (inl memory) = inl (is ∙ memory)
 refused bytes json e (Err g) f is (inr none) = inr (is ∙ none.0, none_told bytes json e none.1)
+
+-- bytes that end in a newline
+pub of_a_line : (bytes json : List ℕ) → bytes ≡ json ++ 10 ∷ [] → (result : Result Outcome ReportFault) → GrowsForALine bytes result
+of_a_line bytes json e (Ok o) = tt
+of_a_line bytes json e (Err f) = λ memory. (json, e)
 
 pub not_the_one_told : (bytes json : List ℕ) (found : Outcome) → bytes ≡ json ++ 10 ∷ [] → told_by_json json ≡ Some (told found) → (IsReportOf bytes found → ⊥) → IsNoReport bytes
 not_the_one_told bytes json found e one none o r =

@@ -1,5 +1,8 @@
 -- The laws of reports, as the functions of `src/laws.rt` state them.
-use Rattle.std.specs.Prelude.{◌≡◌, ◌⊎◌, Result, Ok, Err}
+use Rattle.std.specs.Prelude.{◌≡◌, ◌⊎◌, ℕ, List, Result, Ok, Err}
+use Rattle.chip_fire.specs.declared.sitting.Resumed.{Resumed}
+use Rattle.chip_fire.specs.Resume.{IsResumed}
+use Rattle.chip_report.specs.ReportTwo.{report_two_text, told_of_all, IsReportTwoOf, IsAnyReportOf, IsNoReportAtAll}
 use Rattle.chip_fire.specs.declared.outcome.Outcome.{Outcome}
 use Rattle.chip_fire.specs.Outcomes.{IsOutcome}
 use Rattle.chip_report.specs.ReportText.{report_text}
@@ -9,10 +12,28 @@ use Rattle.chip_report.specs.declared.fault.ReportFault.TheVariants as fault
 
 -- outcomes with the same report have the same numbers
 abbrev pub OneOutcome : Type 0
-OneOutcome = (one other : Outcome) → IsOutcome one → IsOutcome other → report_text one ≡ report_text other → told one ≡ told other
+OneOutcome = (one other : Outcome) → IsOutcome one → IsOutcome other → report_text one ≡ report_text other
+    → told one ≡ told other
 
--- whatever `read_report` may answer at the report of an outcome: an outcome with the same numbers, or that memory ran out
+-- whatever `read_report` may answer at the report of an outcome: an outcome with the same numbers, or that memory ran
+-- out
 abbrev pub RoundTrip : Type 0
 RoundTrip = (outcome : Outcome) → IsOutcome outcome → (answer : Result Outcome ReportFault)
     → Gives (IsReportOf (report_text outcome)) (IsNoReport (report_text outcome)) answer
     → ((read : Outcome) × (answer ≡ Ok read) × (told read ≡ told outcome)) ⊎ (answer ≡ Err fault.NoMemory)
+
+-- sittings with the same report have the same numbers
+abbrev pub OneSitting : Type 0
+OneSitting = (one other : Resumed) → IsResumed one → IsResumed other
+    → report_two_text one ≡ report_two_text other → told_of_all one ≡ told_of_all other
+
+-- whatever `read_any` may answer at the report of a sitting that went on: a sitting with the same numbers, or that
+-- memory ran out
+abbrev pub RoundTripTwo : Type 0
+RoundTripTwo = (r : Resumed) → IsResumed r → (answer : Result Resumed ReportFault)
+    → Gives (IsAnyReportOf (report_two_text r)) (IsNoReportAtAll (report_two_text r)) answer
+    → ((read : Resumed) × (answer ≡ Ok read) × (told_of_all read ≡ told_of_all r)) ⊎ (answer ≡ Err fault.NoMemory)
+
+-- no text is the report of a first sitting and of one that went on
+abbrev pub NotBoth : Type 0
+NotBoth = (bytes : List ℕ) (o : Outcome) (r : Resumed) → IsReportOf bytes o → IsReportTwoOf bytes r → ⊥

@@ -4,3 +4,4 @@ pub mod ReportJson
 pub mod ReportText
 pub mod Reportable
 pub mod Written
+pub mod ReportTwo

@@ -1,5 +1,5 @@
 -- Which bytes are a report, and of which outcome.
-use Rattle.std.specs.Prelude.{◌≡◌, ◌⊎◌, ℕ, List, Result, Ok, Err}
+use Rattle.std.specs.Prelude.{◌≡◌, ◌⊎◌, ℕ, List, [], ◌∷◌, ◌++◌, Result, Ok, Err, IfErr}
 use Rattle.chip_fire.specs.declared.outcome.Outcome.{Outcome}
 use Rattle.chip_fire.specs.Outcomes.{IsOutcome}
 use Rattle.chip_report.specs.ReportText.{report_text}
@@ -25,6 +25,10 @@ pub record IsReportOf (bytes : List ℕ) (outcome : Outcome) : Type 0 where
 -- the bytes are the report of no outcome
 abbrev pub IsNoReport : List ℕ → Type 0
 IsNoReport bytes = (outcome : Outcome) → IsReportOf bytes outcome → ⊥
+
+-- want of memory is told only of bytes that end as a report does
+abbrev pub GrowsForALine : {T : Type 0} → List ℕ → Result T ReportFault → Type 0
+GrowsForALine bytes result = IfErr result (λ f. f ≡ fault.NoMemory → (json : List ℕ) × (bytes ≡ json ++ 10 ∷ []))
 
 -- a value that is right, or `NotReport` where there is none; memory may always run out
 abbrev pub Gives : {T : Type 0} → (T → Type 0) → Type 0 → Result T ReportFault → Type 0

@@ -1,6 +1,6 @@
 //! The laws of reports: functions that do nothing, whose contracts are the laws.
 
-ghost use Rattle.chip_report.specs.Laws.{OneOutcome, RoundTrip};
+ghost use Rattle.chip_report.specs.Laws.{OneOutcome, RoundTrip, OneSitting, RoundTripTwo, NotBoth};
 
 /// A report tells its outcome.
 pub fn one_outcome()
@@ -10,4 +10,11 @@ pub fn one_outcome()
 /// What was reported is read back.
 pub fn round_trip()
     ensures { RoundTrip }
+{}
+
+/// A report of a sitting that went on tells that sitting, is read back as it, and is no report of a first one.
+pub fn sittings()
+    ensures one_sitting { OneSitting }
+    ensures round_trip { RoundTripTwo }
+    ensures not_both { NotBoth }
 {}

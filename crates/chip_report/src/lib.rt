@@ -6,6 +6,7 @@
 
 pub use fault::ReportFault;
 pub use read::read_report;
+pub use sitting::{read_any, report_two};
 pub use write::{WriteFault, write_all_of};
 
 pub mod fault;
@@ -14,6 +15,9 @@ mod parse;
 pub mod read;
 pub mod report;
 mod reportable;
+pub mod sitting;
+#[cfg(test)]
+mod sitting_tests;
 #[cfg(test)]
 mod tests;
 pub mod write;

@@ -20,7 +20,7 @@ pub(crate) fn outcome_of_json(alloc: Global, json: &[u8]) -> Result<Outcome, Rep
 }
 
 /// The JSON value of a text.
-fn value_of(alloc: Global, json: &[u8]) -> Result<Value, ReportFault>
+pub(crate) fn value_of(alloc: Global, json: &[u8]) -> Result<Value, ReportFault>
     ensures { Gives (λ value. value_of json.now ≡ Some (view value))
         (value_of json.now ≡ None) result }
 {
@@ -32,7 +32,7 @@ fn value_of(alloc: Global, json: &[u8]) -> Result<Value, ReportFault>
 }
 
 /// The outcome that an object tells.
-fn outcome_of_value(alloc: Global, value: &Value) -> Result<Outcome, ReportFault>
+pub(crate) fn outcome_of_value(alloc: Global, value: &Value) -> Result<Outcome, ReportFault>
     ensures { Gives (λ outcome. told_by_value (view value.now) ≡ Some (told outcome))
         (told_by_value (view value.now) ≡ None) result }
 {
@@ -45,7 +45,11 @@ fn outcome_of_value(alloc: Global, value: &Value) -> Result<Outcome, ReportFault
 }
 
 /// The numbers in the array under a name.
-fn numbers_under(alloc: Global, value: &Value, name: &str) -> Result<Vec<u64>, ReportFault>
+pub(crate) fn numbers_under(
+    alloc: Global,
+    value: &Value,
+    name: &str,
+) -> Result<Vec<u64>, ReportFault>
     ensures { Gives (λ numbers. numbers_under name.now (view value.now) ≡ Some numbers.items)
         (numbers_under name.now (view value.now) ≡ None) result }
 {

@@ -1,6 +1,6 @@
 //! Reading a report: exactly what `report` writes, and nothing else.
 
-ghost use Rattle.chip_report.specs.Reportable.{IsReportOf, IsNoReport, Gives};
+ghost use Rattle.chip_report.specs.Reportable.{IsReportOf, IsNoReport, Gives, GrowsForALine};
 
 use crate::fault::ReportFault;
 use crate::parse::outcome_of_json;
@@ -13,7 +13,8 @@ use std::alloc::Global;
 ///
 /// The numbers are those of the JSON, whatever else it has; writing their report anew shows whether the bytes are it.
 pub fn read_report(alloc: Global, bytes: &[u8]) -> Result<Outcome, ReportFault>
-    ensures { Gives (IsReportOf bytes.now) (IsNoReport bytes.now) result }
+    ensures outcome { Gives (IsReportOf bytes.now) (IsNoReport bytes.now) result }
+    ensures memory { GrowsForALine bytes.now result }
 {
     let Some(json) = bytes.strip_suffix(b"\n") else {
         return Err(ReportFault::NotReport);

@@ -34,14 +34,14 @@ pub fn is_closed(outcome: &Outcome) -> bool
 }
 
 /// Appends a truth value.
-fn push_bool(text: &mut String, value: bool) -> Result<(), AllocError>
+pub(crate) fn push_bool(text: &mut String, value: bool) -> Result<(), AllocError>
     ensures { IfOk result (λ _. string_bytes text.new ≡ string_bytes text.old ++ bool_text value) }
 {
     text.push_str(if value { "true" } else { "false" })
 }
 
 /// Appends numbers as a JSON array.
-fn push_array(text: &mut String, numbers: &[u64]) -> Result<(), AllocError>
+pub(crate) fn push_array(text: &mut String, numbers: &[u64]) -> Result<(), AllocError>
     ensures { IfOk result (λ _. string_bytes text.new ≡ string_bytes text.old ++ array_text numbers.now) }
 {
     text.push_str("[")?;

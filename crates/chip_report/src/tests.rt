@@ -213,6 +213,78 @@ impl Write for Trickle {
     }
 }
 
+/// Takes one byte at each write, but for the one with this index, which takes none, or fails.
+#[derive(Drop)]
+struct Hiccup {
+    taken: Vec<u8>,
+    writes: usize,
+    index: usize,
+    fails: bool,
+}
+
+impl Write for Hiccup {
+    fn write(&mut self, bytes: &[u8]) -> io::Result<usize> {
+        let write = self.writes;
+        self.writes = write.saturating_add(1);
+        match bytes.first() {
+            Some(byte) if write != self.index => {
+                self.taken.push(*byte)?;
+                Ok(1)
+            }
+            _ if self.fails => Err(io::Error::from(io::ErrorKind::Interrupted)),
+            _ => Ok(0),
+        }
+    }
+
+    fn flush(&mut self) -> io::Result<()> {
+        Ok(())
+    }
+}
+
+#[test]
+fn does_not_ask_again_after_a_failure(rt: HostRuntime) -> Result<(), Fail> {
+    let bytes = TRIANGLE.as_bytes();
+    for index in 0..bytes.len() {
+        for fails in [false, true] {
+            let mut writer = Hiccup {
+                taken: Vec::new(rt.alloc()),
+                writes: 0,
+                index,
+                fails,
+            };
+            let result = write_all_of(&mut writer, bytes);
+            let fault = WriteFault {
+                written: index as u64,
+            };
+            assert_eq!(rt; result, Err(fault));
+            assert_eq!(rt; Some(writer.taken.as_slice()), bytes.get(..index));
+            assert_eq!(rt; writer.writes, index.saturating_add(1), "no further write");
+        }
+    }
+    Ok(())
+}
+
+#[test]
+fn writes_nothing_where_there_is_nothing(rt: HostRuntime) {
+    let mut writer = Hiccup {
+        taken: Vec::new(rt.alloc()),
+        writes: 0,
+        index: 0,
+        fails: true,
+    };
+    assert_eq!(rt; write_all_of(&mut writer, b""), Ok(()));
+    assert_eq!(rt; writer.writes, 0, "the writer is not asked");
+}
+
+#[test]
+fn writes_an_output_above_one_mebibyte(rt: HostRuntime) -> Result<(), Fail> {
+    let bytes = vec![in rt.alloc(); b'7'; 1_048_577]?;
+    let mut taken = Vec::new(rt.alloc());
+    assert_eq!(rt; write_all_of(&mut taken, &bytes), Ok(()));
+    assert!(rt; taken == bytes, "all of it");
+    Ok(())
+}
+
 #[test]
 fn writes_as_far_as_the_writer_goes(rt: HostRuntime) -> Result<(), Fail> {
     let read = outcome(rt.alloc(), &[2, 1, 0], &[1, 0, 3], &[], &[])?;

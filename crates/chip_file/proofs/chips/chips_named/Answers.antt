@@ -27,7 +27,7 @@ pub returns-in_err-note_row : goal.returns-in_err-note_row
 returns-in_err-note_row c =
     let p = err_from_is_err_and c.from_residual-in_err-note_row.result c.from_residual-in_err-note_row.ensures.1 in
     let inv = c.loop-named.invariant in
-    let takes = rw c.if-branch.true at c.in_ok-read_row.ensures.ok.1 in
+    let takes = rw c.if-branch.true at c.in_ok-read_row.ensures.1 in
     let bad = rw c.deref_mut.ensures.value at c.in_err-note_row.ensures.err in
     let same = table_fault c.args.vertices inv.read.0 _ _ (fields_of c.read_row.new.row) inv.read.2 inv.read.1.counted in
     rw (p.1, p.2) (inr (records_fail c.args.vertices (records_of c.args.text.now) _
@@ -36,7 +36,7 @@ returns-in_err-note_row c =
 pub overflow_add-index : goal.overflow_add-index
 overflow_add-index c =
     let inv = c.loop-named.invariant in
-    let takes = rw c.if-branch.true at c.in_ok-read_row.ensures.ok.1 in
+    let takes = rw c.if-branch.true at c.in_ok-read_row.ensures.1 in
     let fits = index_fits _ c.args.text.now inv.read.0 _ _ _ _ inv.read.1 takes c.requires in
     search rules
 
@@ -44,13 +44,13 @@ pub loop-named-preserved : goal.loop-named-preserved
 loop-named-preserved c =
     let inv = c.loop-named.invariant in
     let row = fields_of c.read_row.new.row in
-    let takes = rw c.if-branch.true at c.in_ok-read_row.ensures.ok.1 in
+    let takes = rw c.if-branch.true at c.in_ok-read_row.ensures.1 in
     let ok = rw c.deref_mut.ensures.value at c.in_ok-note_row.ensures.ok in
     let fine = sym (table_fault c.args.vertices inv.read.0 _ _ row inv.read.2 inv.read.1.counted) ∙ ok.0 in
     let same : length c.note_row.new.named ≡ c.loop-named.named.len = ap length ok.1 ∙ length-set _ _ _ ∙ sym c.loop-named.named.ok.0 in
     let left = written_back c.loop-named.named.items c.note_row.new.named c.loop-named.named.len same ∙ ok.1 in
     record {
-      reads = c.in_ok-read_row.ensures.ok.0;
+      reads = c.in_ok-read_row.ensures.0;
       headed = inv.headed;
       read = (inv.read.0 ++ row ∷ [], HasRead-more _ _ _ _ _ _ _ inv.read.1 takes fine, rw left (HaveNoted-more c.args.vertices inv.read.0 _ row inv.read.2 fine));
     }
@@ -58,5 +58,5 @@ loop-named-preserved c =
 pub returns : goal.returns
 returns c =
     let inv = c.loop-named.invariant in
-    let takes = rw c.if-branch.false at c.in_ok-read_row.ensures.ok.1 in
+    let takes = rw c.if-branch.false at c.in_ok-read_row.ensures.1 in
     HaveNoted-all c.args.vertices (records_of c.args.text.now) inv.read.0 _ inv.read.2 (HasRead-all chips_header _ _ _ _ _ inv.read.1 takes inv.headed)

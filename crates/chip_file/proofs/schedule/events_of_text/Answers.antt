@@ -25,7 +25,7 @@ loop-events-init c =
 pub overflow_add-index : goal.overflow_add-index
 overflow_add-index c =
     let inv = c.loop-events.invariant in
-    let takes = rw c.if-branch.true at c.in_ok-read_row.ensures.ok.1 in
+    let takes = rw c.if-branch.true at c.in_ok-read_row.ensures.1 in
     let fits = index_fits _ c.args.text.now inv.read.0 _ _ _ _ inv.read.1 takes c.requires in
     search rules
 
@@ -33,10 +33,10 @@ pub loop-events-preserved : goal.loop-events-preserved
 loop-events-preserved c =
     let inv = c.loop-events.invariant in
     let row = fields_of c.read_row.new.row in
-    let takes = rw c.if-branch.true at c.in_ok-read_row.ensures.ok.1 in
+    let takes = rw c.if-branch.true at c.in_ok-read_row.ensures.1 in
     let found = c.in_ok-event_of.ensures.ok in
     record {
-      reads = c.in_ok-read_row.ensures.ok.0;
+      reads = c.in_ok-read_row.ensures.0;
       headed = inv.headed;
       read = (
         inv.read.0 ++ row ∷ [],
@@ -48,6 +48,6 @@ loop-events-preserved c =
 pub returns : goal.returns
 returns c =
     let inv = c.loop-events.invariant in
-    let takes = rw c.if-branch.false at c.in_ok-read_row.ensures.ok.1 in
+    let takes = rw c.if-branch.false at c.in_ok-read_row.ensures.1 in
     let all = HasRead-all schedule_header _ _ _ _ _ inv.read.1 takes inv.headed in
     rw (all.0, all.1) (ap Some (sym inv.read.2))

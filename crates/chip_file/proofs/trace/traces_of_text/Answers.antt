@@ -33,7 +33,7 @@ index_mut-trace-requires c =
 pub overflow_add-index : goal.overflow_add-index
 overflow_add-index c =
     let inv = c.loop-traces.invariant in
-    let takes = rw c.if-branch.true at c.in_ok-read_row.ensures.ok.1 in
+    let takes = rw c.if-branch.true at c.in_ok-read_row.ensures.1 in
     let fits = index_fits _ c.args.text.now inv.read.0 _ _ _ _ inv.read.1 takes c.requires in
     search rules
 
@@ -41,7 +41,7 @@ pub loop-traces-preserved : goal.loop-traces-preserved
 loop-traces-preserved c =
     let inv = c.loop-traces.invariant in
     let row = fields_of c.read_row.new.row in
-    let takes = rw c.if-branch.true at c.in_ok-read_row.ensures.ok.1 in
+    let takes = rw c.if-branch.true at c.in_ok-read_row.ensures.1 in
     let found = c.in_ok-vertex.ensures.ok in
     let vertex = names_vertex c.args.graph.now c.loop-traces.index row found.0 in
     let traces = c.loop-traces.traces.items in
@@ -49,7 +49,7 @@ loop-traces-preserved c =
     let inside : c.in_ok-vertex.vertex < length traces = (let named = found.1 in let each = inv.read.2.each in omega arith) in
     let was = ap (λ trace. trace.items) c.index_mut-trace.ensures.value ∙ sym (get_or-map (λ trace. trace.items) traces c.in_ok-vertex.vertex c.index_mut-trace.result.now [] inside) in
     record {
-      reads = c.in_ok-read_row.ensures.ok.0;
+      reads = c.in_ok-read_row.ensures.0;
       headed = inv.headed;
       read = (
         inv.read.0 ++ row ∷ [],
@@ -61,6 +61,6 @@ loop-traces-preserved c =
 pub returns-clause-means : goal.returns-clause-means
 returns-clause-means c =
     let inv = c.loop-traces.invariant in
-    let takes = rw c.if-branch.false at c.in_ok-read_row.ensures.ok.1 in
+    let takes = rw c.if-branch.false at c.in_ok-read_row.ensures.1 in
     let all = HasRead-all trace_header _ _ _ _ _ inv.read.1 takes inv.headed in
     HaveRecorded-all c.args.graph.now c.args.text.now _ _ inv.read.2 all.1 all.0

@@ -5,10 +5,10 @@ use Rattle.chip_file.proofs.schedule.EventKind.at.Goals as goal
 
 pub returns-in_err-text_at : goal.returns-in_err-text_at
 returns-in_err-text_at c =
-    let same = kind_of_text event_kinds c.args.place (fields_of c.args.row.now) event_kinds_text in
+    let same = kind_of_text event_kinds c.args.column (fields_of c.args.row.now) event_kinds_text in
     rw (← same, ← c.in_err-text_at.ensures) c.from_residual.ensures
 
 pub returns : goal.returns
 returns c =
-    let same = kind_of_text event_kinds c.args.place (fields_of c.args.row.now) event_kinds_text in
+    let same = kind_of_text event_kinds c.args.column (fields_of c.args.row.now) event_kinds_text in
     rw (← same, ← c.in_ok-text_at.ensures) c.named.ensures

@@ -1,0 +1,296 @@
+-- What the report of a sitting that went on tells, and which bytes are none.
+use Rattle.std.proofs.Common.{◌≡◌, ◌≢◌, ℕ, ◌^◌, ◌<◌, ◌≤◌, Bool, true, false, List, [], ◌∷◌, ◌++◌, length, codes, None}
+use Rattle.std.proofs.Common.{Some}
+use Rattle.std.proofs.Common.{Result, Ok, Err, inl, inr, refl, sym, ap, ◌∙◌, subst, arith, append_assoc, lit<, lit≤}
+use Rattle.std.specs.Prelude.{◌⊎◌, All, option_and_then, IsUtf8}
+use Rattle.std.specs.Fmt.{digits}
+use Rattle.std.specs.Result.{IsErrAnd}
+use Rattle.std.proofs.lemmas.List.{append_cancel_right}
+use Rattle.std.proofs.lemmas.List.Elements.{recursion_from_All}
+use Rattle.std.proofs.lemmas.Str.{IsUtf8-append}
+use Rattle.json.specs.Print.{escape_byte}
+use Rattle.json.specs.Tree as tree
+use Rattle.json.proofs.Printed.Decimals.{IsNumber-decimal}
+use Rattle.json.proofs.Printed.Utf8.{IsUtf8-are_ascii}
+use Rattle.serde_json.specs.Data.{Data, boolean, number, unsigned, array, object, Members, no_members, member}
+use Rattle.serde_json.specs.Read.{read, max_depth, of_json}
+use Rattle.serde_json.specs.Written.{outline, compact_text}
+use Rattle.serde_json.proofs.Numbers.{number_of-decimal}
+use Rattle.chip_fire.specs.declared.sitting.Resumed.{Resumed}
+use Rattle.chip_fire.specs.Resume.{IsResumed, max_prior}
+use Rattle.chip_report.specs.ReportText.{array_text, bool_text, is_closed, report_text}
+use Rattle.chip_report.specs.Reportable.{told, IsReportOf, IsNoReport, Gives}
+use Rattle.chip_report.specs.ReportTwo.{report_two_text, IsReportTwoOf, IsNoReportTwo, IsAnyReportOf, IsNoReportAtAll}
+use Rattle.chip_report.specs.ReportTwo.{ToldOfAll, told_of_all, told_of_all_by_value, told_of_all_by_json}
+use Rattle.chip_report.specs.declared.fault.ReportFault.{ReportFault}
+use Rattle.chip_report.specs.declared.fault.ReportFault.TheVariants as fault
+use Rattle.chip_report.proofs.JsonLemmas.{read-compact_text, items_of, AreShort, text-array, numbers-array, depth-array}
+use Rattle.chip_report.proofs.JsonLemmas.{back-array, numbers_of-items_of}
+use Rattle.chip_report.proofs.ValueLemmas.{value_of-some}
+use Rattle.chip_report.proofs.ReportLemmas.{closed_of, AreShortLists, short_lists, utf8-array, utf8-boolean}
+use Rattle.chip_report.proofs.ReportLemmas.{AreOfOutcome, outcome_then, outcome_if, json_text, read-value, utf8-text}
+use Rattle.chip_report.proofs.ReportLemmas.{told-value, with_newline}
+use Rattle.chip_report.specs.Laws.{RoundTripTwo}
+use Rattle.chip_fire.specs.declared.outcome.Outcome.{Outcome}
+use Rattle.chip_fire.specs.Outcomes.{IsOutcome}
+
+-- ---- the value of a report
+
+abbrev members_two : Bool → ToldOfAll → Members
+members_two closed t =
+    member (codes "chips") (array (items_of t.last.chips))
+    (member (codes "closed") (boolean closed)
+    (member (codes "fired") (array (items_of t.last.fired))
+    (member (codes "over") (array (items_of t.last.over))
+    (member (codes "prior") (array (items_of t.prior))
+    (member (codes "sealed") (array (items_of t.last.sealed))
+    (member (codes "version") (number (unsigned 2)) no_members))))))
+
+abbrev value_two : Bool → ToldOfAll → Data
+value_two closed t = object (members_two closed t)
+
+-- the text of a report, without its newline
+abbrev json_two : Bool → ToldOfAll → List ℕ
+json_two closed t =
+    codes "{\"chips\":" ++ (array_text t.last.chips
+    ++ (codes ",\"closed\":" ++ (bool_text closed
+    ++ (codes ",\"fired\":" ++ (array_text t.last.fired
+    ++ (codes ",\"over\":" ++ (array_text t.last.over
+    ++ (codes ",\"prior\":" ++ (array_text t.prior
+    ++ (codes ",\"sealed\":" ++ (array_text t.last.sealed
+    ++ codes ",\"version\":2}")))))))))))
+
+text-two : (closed : Bool) (t : ToldOfAll) → compact_text (value_two closed t) ≡ json_two closed t
+unfolding escape_byte digits
+text-two true t = rw (
+  text-array t.last.chips,
+  text-array t.last.fired,
+  text-array t.last.over,
+  text-array t.prior,
+  text-array t.last.sealed,
+) refl
+text-two false t = rw (
+  text-array t.last.chips,
+  text-array t.last.fired,
+  text-array t.last.over,
+  text-array t.prior,
+  text-array t.last.sealed,
+) refl
+
+newline_behind : (a b c d e f g h i j k l m : List ℕ)
+    → (a ++ (b ++ (c ++ (d ++ (e ++ (f ++ (g ++ (h ++ (i ++ (j ++ (k ++ (l ++ m)))))))))))) ++ 10 ∷ []
+    ≡ a ++ b ++ c ++ d ++ e ++ f ++ g ++ h ++ i ++ j ++ k ++ l ++ (m ++ 10 ∷ [])
+newline_behind a b c d e f g h i j k l m = simp append_assoc
+
+-- whether no vertex halted
+abbrev closed_two : ToldOfAll → Bool
+closed_two t = closed_of t.last
+
+with_newline_two : (r : Resumed) → json_two (closed_two (told_of_all r)) (told_of_all r) ++ 10 ∷ [] ≡ report_two_text r
+with_newline_two r =
+    newline_behind (codes "{\"chips\":") (array_text r.outcome.chips.items) (codes ",\"closed\":")
+    (bool_text (is_closed r.outcome)) (codes ",\"fired\":") (array_text r.outcome.fired.items)
+    (codes ",\"over\":") (array_text r.outcome.over.items) (codes ",\"prior\":") (array_text r.prior.items)
+    (codes ",\"sealed\":") (array_text r.outcome.sealed.items) (codes ",\"version\":2}")
+
+-- numbers that fit
+record AreShortTwo (t : ToldOfAll) : Type 0 where
+  pub last : AreShortLists t.last
+  pub prior : AreShort t.prior
+
+numbers-two : (closed : Bool) (t : ToldOfAll) → AreShortTwo t → tree.HasNumbers (outline (value_two closed t))
+numbers-two closed t h = (
+  numbers-array t.last.chips h.last.chips,
+  (
+    tt,
+    (
+      numbers-array t.last.fired h.last.fired,
+      (
+        numbers-array t.last.over h.last.over,
+        (
+          numbers-array t.prior h.prior,
+          (numbers-array t.last.sealed h.last.sealed, (IsNumber-decimal 2 (lit< tt), tt)),
+        ),
+      ),
+    ),
+  ),
+)
+
+depth-two : (closed : Bool) (t : ToldOfAll) → tree.depth (outline (value_two closed t)) ≤ max_depth
+depth-two closed t = rw (
+  depth-array t.last.chips,
+  depth-array t.last.fired,
+  depth-array t.last.over,
+  depth-array t.prior,
+  depth-array t.last.sealed,
+) (lit≤ tt)
+
+back-two : (closed : Bool) (t : ToldOfAll) → AreShortTwo t
+    → of_json (outline (value_two closed t)) ≡ Some (value_two closed t)
+back-two closed t h =
+    rw (
+      back-array t.last.chips h.last.chips,
+      back-array t.last.fired h.last.fired,
+      back-array t.last.over h.last.over,
+      back-array t.prior h.prior,
+      back-array t.last.sealed h.last.sealed,
+      number_of-decimal 2 (lit< tt),
+    ) refl
+
+read-two : (closed : Bool) (t : ToldOfAll) → AreShortTwo t → read (json_two closed t) ≡ Some (value_two closed t)
+read-two closed t h = ap read (sym (text-two closed t))
+    ∙ read-compact_text (value_two closed t) (numbers-two closed t h) (depth-two closed t) (back-two closed t h)
+
+told-two : (closed : Bool) (t : ToldOfAll) → told_of_all_by_value (value_two closed t) ≡ Some t
+told-two closed t = rw (
+  numbers_of-items_of t.last.fired,
+  numbers_of-items_of t.last.chips,
+  numbers_of-items_of t.last.over,
+  numbers_of-items_of t.last.sealed,
+  numbers_of-items_of t.prior,
+) refl
+
+utf8-two : (closed : Bool) (t : ToldOfAll) → AreShortTwo t → IsUtf8 (json_two closed t)
+utf8-two closed t h =
+    IsUtf8-append (codes "{\"chips\":") _ (IsUtf8-are_ascii _ refl)
+    (IsUtf8-append (array_text t.last.chips) _ (utf8-array t.last.chips h.last.chips)
+    (IsUtf8-append (codes ",\"closed\":") _ (IsUtf8-are_ascii _ refl)
+    (IsUtf8-append (bool_text closed) _ (utf8-boolean closed)
+    (IsUtf8-append (codes ",\"fired\":") _ (IsUtf8-are_ascii _ refl)
+    (IsUtf8-append (array_text t.last.fired) _ (utf8-array t.last.fired h.last.fired)
+    (IsUtf8-append (codes ",\"over\":") _ (IsUtf8-are_ascii _ refl)
+    (IsUtf8-append (array_text t.last.over) _ (utf8-array t.last.over h.last.over)
+    (IsUtf8-append (codes ",\"prior\":") _ (IsUtf8-are_ascii _ refl)
+    (IsUtf8-append (array_text t.prior) _ (utf8-array t.prior h.prior)
+    (IsUtf8-append (codes ",\"sealed\":") _ (IsUtf8-are_ascii _ refl)
+    (IsUtf8-append (array_text t.last.sealed) (codes ",\"version\":2}") (utf8-array t.last.sealed h.last.sealed)
+    (IsUtf8-are_ascii (codes ",\"version\":2}") refl))))))))))))
+
+-- ---- what a report tells
+
+short_two : (r : Resumed) → IsResumed r → AreShortTwo (told_of_all r)
+short_two r h = record {
+  last = short_lists r.outcome h.outcome_fits;
+  prior = recursion_from_All (λ n. n < 2 ^ 64) r.prior.items (λ k d l. let low = h.few_before k d l in omega arith);
+}
+
+told-report_two : (r : Resumed) (json : List ℕ) → IsResumed r → report_two_text r ≡ json ++ 10 ∷ []
+    → told_of_all_by_json json ≡ Some (told_of_all r)
+told-report_two r json h e =
+    let short = short_two r h in
+    let same : json_two (closed_two (told_of_all r)) (told_of_all r) ≡ json =
+    append_cancel_right _ json (10 ∷ []) (with_newline_two r ∙ e) in
+    ap told_of_all_by_json (sym same)
+    ∙ ap (option_and_then told_of_all_by_value)
+    (value_of-some (json_two (closed_two (told_of_all r)) (told_of_all r)) _
+    (utf8-two (closed_two (told_of_all r)) (told_of_all r) short)
+    (read-two (closed_two (told_of_all r)) (told_of_all r) short))
+    ∙ told-two (closed_two (told_of_all r)) (told_of_all r)
+
+-- ---- the numbers of a sitting are all that its report depends on
+
+-- the numbers are those of a sitting
+abbrev AreOfSitting : ToldOfAll → Type 0
+AreOfSitting t = AreOfOutcome t.last × (length t.prior ≡ length t.last.fired) × All (λ n. n ≤ max_prior) t.prior
+
+sitting_then : (r : Resumed) → IsResumed r → AreOfSitting (told_of_all r)
+sitting_then r h = (outcome_then r.outcome h.outcome_fits, h.prior_each, h.few_before)
+
+sitting_if : (r : Resumed) → AreOfSitting (told_of_all r) → IsResumed r
+sitting_if r h = record { outcome_fits = outcome_if r.outcome h.0; prior_each = h.1; few_before = h.2 }
+
+IsReportTwoOf-told : (bytes : List ℕ) (r s : Resumed) → told_of_all r ≡ told_of_all s → IsReportTwoOf bytes r
+    → IsReportTwoOf bytes s
+IsReportTwoOf-told bytes r s e is = record {
+  reportable = sitting_if s (subst AreOfSitting e (sitting_then r is.reportable));
+  spelled = is.spelled ∙ sym (with_newline_two r) ∙ ap (λ (t : ToldOfAll). json_two (closed_two t) t ++ 10 ∷ []) e
+      ∙ with_newline_two s;
+}
+
+-- ---- bytes that are no report
+
+pub none_without_newline_two : (bytes : List ℕ) → ((front : List ℕ) → bytes ≢ front ++ 10 ∷ []) → IsNoReportTwo bytes
+none_without_newline_two bytes none r is =
+    none (json_two (closed_two (told_of_all r)) (told_of_all r)) (is.spelled ∙ sym (with_newline_two r))
+
+none_told_two : (bytes json : List ℕ) → bytes ≡ json ++ 10 ∷ [] → told_of_all_by_json json ≡ None → IsNoReportTwo bytes
+none_told_two bytes json e none r is =
+    let some : told_of_all_by_json json ≡ Some (told_of_all r) =
+    told-report_two r json is.reportable (sym is.spelled ∙ e) in
+    let both : None ≡ Some (told_of_all r) = sym none ∙ some in
+    cc
+
+pub refused_two : (bytes json : List ℕ) → bytes ≡ json ++ 10 ∷ []
+    → (result : Result Resumed ReportFault) (f : ReportFault) → IsErrAnd result (λ e. e ≡ f)
+    → (f ≡ fault.NoMemory) ⊎ ((f ≡ fault.NotReport) × (told_of_all_by_json json ≡ None))
+    → Gives (IsReportTwoOf bytes) (IsNoReportTwo bytes) result
+refused_two bytes json e (Ok r) f is why = absurd is
+refused_two bytes json e (Err g) f is (inl memory) = inl (is ∙ memory)
+refused_two bytes json e (Err g) f is (inr none) = inr (is ∙ none.0, none_told_two bytes json e none.1)
+
+pub not_the_sitting_told : (bytes json : List ℕ) (found : Resumed) → bytes ≡ json ++ 10 ∷ []
+    → told_of_all_by_json json ≡ Some (told_of_all found) → (IsReportTwoOf bytes found → ⊥) → IsNoReportTwo bytes
+not_the_sitting_told bytes json found e one none r is =
+    let some : told_of_all_by_json json ≡ Some (told_of_all r) =
+    told-report_two r json is.reportable (sym is.spelled ∙ e) in
+    let both : Some (told_of_all r) ≡ Some (told_of_all found) = sym some ∙ one in
+    let same : told_of_all r ≡ told_of_all found = cc in
+    none (IsReportTwoOf-told bytes r found same is)
+
+-- neither the one nor the other
+pub none_at_all : (bytes : List ℕ) → IsNoReport bytes → IsNoReportTwo bytes → IsNoReportAtAll bytes
+none_at_all bytes none none_two r (inl first) = none r.outcome first.0
+none_at_all bytes none none_two r (inr went_on) = none_two r went_on
+
+pub any_or_none : (bytes : List ℕ) → IsNoReport bytes → (result : Result Resumed ReportFault)
+    → Gives (IsReportTwoOf bytes) (IsNoReportTwo bytes) result
+    → Gives (IsAnyReportOf bytes) (IsNoReportAtAll bytes) result
+any_or_none bytes none (Ok r) is = inr is
+any_or_none bytes none (Err f) (inl memory) = inl memory
+any_or_none bytes none (Err f) (inr (same, none_two)) = inr (same, none_at_all bytes none none_two)
+
+-- ---- the laws
+
+pub one_sitting : (r s : Resumed) → IsResumed r → IsResumed s → report_two_text r ≡ report_two_text s
+    → told_of_all r ≡ told_of_all s
+one_sitting r s h k e =
+    let json : List ℕ = json_two (closed_two (told_of_all s)) (told_of_all s) in
+    let one : told_of_all_by_json json ≡ Some (told_of_all r) =
+    told-report_two r json h (e ∙ sym (with_newline_two s)) in
+    let other : told_of_all_by_json json ≡ Some (told_of_all s) = told-report_two s json k (sym (with_newline_two s)) in
+    let both : Some (told_of_all r) ≡ Some (told_of_all s) = sym one ∙ other in
+    cc
+
+-- the report of a first sitting tells nothing of what was fired before
+nothing_prior : (o : Outcome) (json : List ℕ) → IsOutcome o → report_text o ≡ json ++ 10 ∷ []
+    → told_of_all_by_json json ≡ None
+nothing_prior o json h e =
+    let short = short_lists o h in
+    let closed : Bool = closed_of (told o) in
+    let same : json_text closed (told o) ≡ json = append_cancel_right _ json (10 ∷ []) (with_newline o ∙ e) in
+    ap told_of_all_by_json (sym same)
+    ∙ ap (option_and_then told_of_all_by_value)
+    (value_of-some (json_text closed (told o)) _ (utf8-text closed (told o) short)
+    (read-value closed (told o) short))
+    ∙ rw (told-value closed (told o)) refl
+
+-- so it is the report of no sitting that went on
+pub not_both : (bytes : List ℕ) (o : Outcome) (r : Resumed) → IsReportOf bytes o → IsReportTwoOf bytes r → ⊥
+not_both bytes o r first went_on =
+    let json : List ℕ = json_two (closed_two (told_of_all r)) (told_of_all r) in
+    let split : bytes ≡ json ++ 10 ∷ [] = went_on.spelled ∙ sym (with_newline_two r) in
+    let some : told_of_all_by_json json ≡ Some (told_of_all r) =
+    told-report_two r json went_on.reportable (sym went_on.spelled ∙ split) in
+    let none : told_of_all_by_json json ≡ None = nothing_prior o json first.reportable (sym first.spelled ∙ split) in
+    let both : None ≡ Some (told_of_all r) = sym none ∙ some in
+    cc
+
+pub round_trip_two : RoundTripTwo
+round_trip_two r h (Ok read) (inl first) =
+    absurd (not_both (report_two_text r) read.outcome r first.0 (record { reportable = h; spelled = refl }))
+round_trip_two r h (Ok read) (inr went_on) =
+    inl (read, refl, sym (one_sitting r read h went_on.reportable went_on.spelled))
+round_trip_two r h (Err f) gives = elim gives [
+  | inl memory ↦ inr (ap (λ (f : ReportFault). Err f) memory)
+  | inr none ↦ absurd (none.1 r (inr (record { reportable = h; spelled = refl })))
+]

@@ -1,0 +1,100 @@
+//! The report of a play in several sittings, written and read.
+
+ghost use Rattle.std.specs.Prelude.{◌≡◌, ◌≤◌, ◌↔◌, true, None, Some, IfOk, All, length};
+ghost use Rattle.chip_fire.specs.Resume.{IsResumed, max_prior};
+ghost use Rattle.serde_json.specs.View.{view};
+ghost use Rattle.chip_report.specs.Reportable.{Gives};
+ghost use Rattle.chip_report.specs.ReportTwo.{report_two_text, told_of_all, told_of_all_by_value, told_of_all_by_json};
+ghost use Rattle.chip_report.specs.ReportTwo.{IsReportTwoOf, IsNoReportTwo, IsAnyReportOf, IsNoReportAtAll};
+
+use crate::fault::ReportFault;
+use crate::parse::{numbers_under, outcome_of_value, value_of};
+use crate::read::read_report;
+use crate::report::{is_closed, push_array, push_bool};
+use crate::reportable::is_outcome;
+use chip_fire::Resumed;
+use chip_fire::sitting::MAX_PRIOR;
+use serde_json::Value;
+use std::alloc::{AllocError, Global};
+
+/// The report of a sitting with what was fired before it, ending in a newline.
+pub fn report_two(alloc: Global, resumed: &Resumed) -> Result<Vec<u8>, AllocError>
+    ensures { IfOk result (λ bytes. bytes.items ≡ report_two_text resumed.now) }
+{
+    let Resumed { outcome, prior } = resumed;
+    let mut text = String::new(alloc);
+    text.push_str("{\"chips\":")?;
+    push_array(&mut text, &outcome.chips)?;
+    text.push_str(",\"closed\":")?;
+    push_bool(&mut text, is_closed(outcome))?;
+    text.push_str(",\"fired\":")?;
+    push_array(&mut text, &outcome.fired)?;
+    text.push_str(",\"over\":")?;
+    push_array(&mut text, &outcome.over)?;
+    text.push_str(",\"prior\":")?;
+    push_array(&mut text, prior)?;
+    text.push_str(",\"sealed\":")?;
+    push_array(&mut text, &outcome.sealed)?;
+    text.push_str(",\"version\":2}\n")?;
+    Ok(text.into_bytes())
+}
+
+/// The sitting whose report the bytes are: of a first one, before which nothing was fired, or of one that went on.
+pub fn read_any(alloc: Global, bytes: &[u8]) -> Result<Resumed, ReportFault>
+    ensures { Gives (IsAnyReportOf bytes.now) (IsNoReportAtAll bytes.now) result }
+{
+    match read_report(alloc, bytes) {
+        Ok(outcome) => Ok(Resumed::first(alloc, outcome)?),
+        Err(ReportFault::NotReport) => read_report_two(alloc, bytes),
+        Err(ReportFault::NoMemory) => Err(ReportFault::NoMemory),
+    }
+}
+
+/// The sitting that went on whose report the bytes are, by writing the report anew.
+fn read_report_two(alloc: Global, bytes: &[u8]) -> Result<Resumed, ReportFault>
+    ensures { Gives (IsReportTwoOf bytes.now) (IsNoReportTwo bytes.now) result }
+{
+    let Some(json) = bytes.strip_suffix(b"\n") else {
+        return Err(ReportFault::NotReport);
+    };
+    let resumed = resumed_of_json(alloc, json)?;
+    if is_resumed(&resumed) && report_two(alloc, &resumed)?.as_slice() == bytes {
+        Ok(resumed)
+    } else {
+        Err(ReportFault::NotReport)
+    }
+}
+
+/// The sitting that a text of JSON tells.
+fn resumed_of_json(alloc: Global, json: &[u8]) -> Result<Resumed, ReportFault>
+    ensures { Gives (λ resumed. told_of_all_by_json json.now ≡ Some (told_of_all resumed))
+        (told_of_all_by_json json.now ≡ None) result }
+{
+    let value = value_of(alloc, json)?;
+    resumed_of_value(alloc, &value)
+}
+
+/// The sitting that an object tells.
+fn resumed_of_value(alloc: Global, value: &Value) -> Result<Resumed, ReportFault>
+    ensures { Gives (λ resumed. told_of_all_by_value (view value.now) ≡ Some (told_of_all resumed))
+        (told_of_all_by_value (view value.now) ≡ None) result }
+{
+    let outcome = outcome_of_value(alloc, value)?;
+    let prior = numbers_under(alloc, value, "prior")?;
+    Ok(Resumed { outcome, prior })
+}
+
+/// Whether the numbers are in range, one of each list for each vertex.
+fn is_resumed(resumed: &Resumed) -> bool
+    ensures { (result ≡ true) ↔ IsResumed resumed.now }
+{
+    let Resumed { outcome, prior } = resumed;
+    is_outcome(outcome) && are_priors(prior, outcome.fired.len())
+}
+
+/// Whether the numbers are one for each vertex, each at most 2^60.
+fn are_priors(prior: &[u64], vertices: usize) -> bool
+    ensures { (result ≡ true) ↔ ((length prior.now ≡ vertices) × All (λ n. n ≤ max_prior) prior.now) }
+{
+    prior.len() == vertices && prior.iter().all(|number| *number <= MAX_PRIOR)
+}

@@ -1,19 +1,22 @@
 -- A new actor stands for the opening of its vertex.
-use Rattle.std.proofs.Common.{◌≡◌, ℕ, zero, suc, get_or, ◌+◌, ◌<◌, ◌≤◌, false, eqb, List, [], ◌∷◌, length, map, None, refl, sym, ap, ◌∙◌, subst, arith}
+use Rattle.std.proofs.Common.{◌≡◌, ℕ, zero, suc, get_or, ◌+◌, ◌<◌, false, eqb, List, [], ◌∷◌, length, map, None, refl, sym, ap, ◌∙◌, subst, arith}
 use mathlib.Core.Logic.{dite}
 use native.Mathlib.Decide.{ℕ_discrete}
 use Rattle.std.specs.List.{Contains}
+use Rattle.std.specs.List.Sorted.{IsStrictlyIncreasing}
 use Rattle.std.proofs.lemmas.List.{get_or_default}
 use Rattle.chip_graph.specs.Multigraph.{edges_out, degree}
-use Rattle.chip_graph.specs.ChipGame.{ChipGame, IsGame}
+use Rattle.chip_actor.specs.Setting.{Setting, IsSetting}
 use Rattle.chip_graph.proofs.SumLemmas.{cond_yes, cond_no, tested_none}
 use Rattle.chip_link.specs.Ends.{HeadState, new_head}
 use Rattle.chip_detect.specs.Books.{Books, IsSound, IsFresh}
+use Rattle.chip_detect.proofs.Fresh.{stand_in_order}
 use Rattle.chip_actor.specs.Edges.{all_edges, tail_of}
 use Rattle.chip_actor.specs.Part.{opened, first_put}
 use Rattle.chip_actor.specs.Ends.{OutEnd, OutEnds, InEnds, on_edge, no_out, fresh_out, IsFreshOuts, IsFreshIns}
 use Rattle.chip_actor.specs.Actor.{Actor, StandsFor}
 use Rattle.chip_actor.proofs.Opening.{opening_keeps, first_few}
+use Rattle.chip_actor.proofs.PickedLemmas.{outs_rise, ins_rise}
 use Rattle.chip_actor.proofs.Standing.{among_new_outs, among_new_ins}
 
 -- an end that was made from its number
@@ -27,33 +30,31 @@ made_end {T} none f xs e (k, l, at) = by_place xs k l (sym (get_or_default xs k 
         (λ y. cond_yes x e (f x) (on_edge none xs (map f xs) e) y ∙ ap f y)
         (λ n. cond_no x e (f x) (on_edge none xs (map f xs) e) n ∙ by_place xs k (omega arith) at)
 
-module _ (g : ChipGame) (ring v : ℕ) (game : IsGame g) (some_ring : 0 < ring) (small_ring : ring ≤ 64) (vertex : v < g.graph.vertices) (os : OutEnds) (is : InEnds) (b : Books)
-    (outs : IsFreshOuts g.graph ring v os) (ins : IsFreshIns g.graph ring v is) (fresh : IsFresh b is.edges (edges_out g.graph v)) (sound : IsSound b) where
-  pub opens : (a : Actor) → a ≡ (let n : Actor = record { vertex = v; is_sink = eqb v g.graph.sink; degree = degree g.graph v; limit = g.limit; chips = 0; fired = 0; halt = None; outs = os; ins = is; detect = b; pending = 0; unput = 0; refused = 0 } in n) → StandsFor g ring (opened g) a
-  opens a eq = subst (StandsFor g ring (opened g)) (sym eq) record {
+module _ (g : Setting) (v : ℕ) (setting : IsSetting g) (vertex : v < g.graph.vertices) (os : OutEnds) (is : InEnds) (b : Books)
+    (outs : IsFreshOuts g.graph g.ring v os) (ins : IsFreshIns g.graph g.ring v is) (fresh : IsFresh b is.edges (edges_out g.graph v)) (sound : IsSound b) where
+  pub opens : (a : Actor) → a ≡ (let n : Actor = record { vertex = v; is_sink = eqb v g.graph.sink; degree = degree g.graph v; limit = g.limit; chips = 0; fired = 0; halt = None; outs = os; ins = is; detect = b; pending = 0; unput = 0; refused = 0 } in n) → StandsFor g (opened g) a
+  opens a eq = subst (StandsFor g (opened g)) (sym eq) record {
     knows = record {
-      game = game;
-      some_ring = some_ring;
-      small_ring = small_ring;
+      setting = setting;
       vertex = vertex;
       is_sink = refl;
       degree = refl;
       limit = refl;
       outs = outs.edges;
       ins = ins.edges;
-      detect_outs = fresh.outs.these;
-      detect_ins = fresh.ins.these ∙ ins.edges;
+      detect_outs = stand_in_order b.outs (edges_out g.graph v) sound.outs fresh.outs (outs_rise g.graph v);
+      detect_ins = stand_in_order b.ins is.edges sound.ins fresh.ins (subst IsStrictlyIncreasing (sym ins.edges) (ins_rise g.graph v)) ∙ ins.edges;
     };
-    kept = opening_keeps g game v;
+    kept = opening_keeps g setting.game v;
     few_chips = omega arith;
     few_pending = omega arith;
     chips = refl;
     fired = refl;
     halt = refl;
     outs = λ e at.
-        (λ j. on_edge no_out (outs.edges j) (outs.ends j) e) ∙ made_end no_out (fresh_out g.graph ring) (edges_out g.graph v) e (among_new_outs g v vertex e at)
-        ∙ (λ j. let n : OutEnd = record { mult = (fresh_out g.graph ring e).mult; pending = 0; link = record { edge = e; ring = ring; claims = none_claimed e at j; held = None; clear = false; refused = false } } in n);
-    ins = λ e at. ap (λ (ts : List HeadState). on_edge (new_head 0 1) is.edges ts e) ins.ends ∙ made_end (new_head 0 1) (λ (e : ℕ). new_head e ring) is.edges e (subst (λ (xs : List ℕ). Contains xs e) (sym ins.edges) (among_new_ins g v vertex e at));
+        (λ j. on_edge no_out (outs.edges j) (outs.ends j) e) ∙ made_end no_out (fresh_out g.graph g.ring) (edges_out g.graph v) e (among_new_outs g v vertex e at)
+        ∙ (λ j. let n : OutEnd = record { mult = (fresh_out g.graph g.ring e).mult; pending = 0; link = record { edge = e; ring = g.ring; claims = none_claimed e at j; held = None; clear = false; refused = false } } in n);
+    ins = λ e at. ap (λ (ts : List HeadState). on_edge (new_head 0 1) is.edges ts e) ins.ends ∙ made_end (new_head 0 1) (λ (e : ℕ). new_head e g.ring) is.edges e (subst (λ (xs : List ℕ). Contains xs e) (sym ins.edges) (among_new_ins g v vertex e at));
     books = record {
       sound = sound;
       parent = fresh.parent;

@@ -1,18 +1,18 @@
 -- Every turn that is under way can be completed, so the bound of a whole turn holds of it as well.
 use Rattle.std.proofs.Common.{ℕ, ◌+◌, ◌*◌, ◌<◌, ◌≤◌, Bool, true, false, List, [], ◌∷◌, ◌++◌, length, drop, Option, Some, None, refl, arith, length-append}
-use Rattle.chip_graph.specs.ChipGame.{ChipGame}
+use Rattle.chip_actor.specs.Setting.{Setting}
 use Rattle.chip_actor.specs.declared.cursor.Cursor.TheVariants as At
 use Rattle.chip_actor.specs.Part.{Part}
 use Rattle.chip_actor.specs.Kept.{KeepsPart}
 use Rattle.chip_actor.specs.Rules.{Event, Take, Ack, Fire, Clear, Claim, Put, Halt, Settle}
-use Rattle.chip_actor.specs.Steps.{Did, does}
+use Rattle.chip_actor.specs.Steps.{Step, does}
 use Rattle.chip_actor.specs.Turn.{Phase, nothing, either_phase, where_phase, and_then, each_phase, one_step, seeing, ins_of, outs_of, firing, may_fire, batch_of, putting, sending, sending_all, after_clear_phase, after_claim_phase, acknowledging, acknowledging_parent, last_acknowledgement, is_at_limit}
 use Rattle.chip_actor.specs.Cursor.{Cursor, left, out_at, claiming, storing, from_acknowledging, from_limit, from_sending, from_refusal, from_putting, from_firing, from_settling, from_taking, IsUnderWay}
 use Rattle.chip_actor.proofs.TurnLemmas.{turns_bounded}
 
 -- the phase can be made from every part
 abbrev Total : Phase → Type 0
-Total p = (s : Part) → (ds : List Did) × (after : Part) × p s ds after
+Total p = (s : Part) → (ds : List Step) × (after : Part) × p s ds after
 
 total_nothing : Total nothing
 total_nothing s = ([], s, (refl, refl))
@@ -34,7 +34,7 @@ total_each : (p : ℕ → Phase) → ((e : ℕ) → Total (p e)) → (es : List 
 total_each p some [] = total_nothing
 total_each p some (e ∷ es) = total_then (p e) (each_phase p es) (some e) (total_each p some es)
 
-module _ (g : ChipGame) (v : ℕ) where
+module _ (g : Setting) (v : ℕ) where
   -- an operation that saw 0
   total_seeing : (x : Event) (next : ℕ → Part → Phase) → ((s : Part) → Total (next 0 s)) → Total (seeing g v x next)
   total_seeing x next some s =
@@ -99,7 +99,7 @@ module _ (g : ChipGame) (v : ℕ) where
   total_left At.Parent = total_last
   total_left At.Over = total_nothing
 
-  pub under_way_bounded : v < g.graph.vertices → (first : Part) → KeepsPart g v first → (done : List Did) (cursor : Cursor) (s : Part) → IsUnderWay g v first done cursor s
+  pub under_way_bounded : v < g.graph.vertices → (first : Part) → KeepsPart g v first → (done : List Step) (cursor : Cursor) (s : Part) → IsUnderWay g v first done cursor s
       → length done ≤ (2 * length (ins_of g v) + 4 * length (outs_of g v)) + 3
   under_way_bounded vertex first kept done cursor s way =
       let rest = total_left cursor s in

@@ -1,12 +1,12 @@
 -- The edges by their numbers: whose they are, and how sums over them split into the graph's own edges and the root's.
 use Rattle.std.proofs.Common.{◌≡◌, ℕ, ◌+◌, ◌-◌, ◌<◌, ◌≤◌, cond, eqb, length, ap, arith, lt-ltb, le-ltb}
 use Rattle.chip_graph.specs.Multigraph.{IsGraph, edge_at, sum_out, sum_in, degree}
-use Rattle.chip_graph.specs.ChipGame.{ChipGame}
+use Rattle.chip_actor.specs.Setting.{Setting}
 use Rattle.chip_graph.specs.Sums.{sum_below}
 use Rattle.chip_graph.proofs.SumLemmas.{cond_yes, cond_no, cond_true, cond_false, sum_below_ext, sum_below_none, sum_below_split, sum_below_one}
 use Rattle.chip_actor.specs.Edges.{graph_edges, root_edge, root, tail_of, head_of, mult_of, over_outs, over_ins}
 
-module _ (g : ChipGame) where
+module _ (g : Setting) where
   pub tail_graph : (e : ℕ) → e < graph_edges g → tail_of g e ≡ (edge_at g.graph e).tail
   tail_graph e l = cond_true _ _ _ (lt-ltb e (length g.graph.edges) l)
 

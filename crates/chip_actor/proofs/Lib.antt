@@ -16,3 +16,7 @@ pub mod TurnSteps
 pub mod TurnActor
 pub mod CompletingTurns
 pub mod AskLemmas
+pub mod MediumLemmas
+pub mod TurnOver
+pub mod Resting
+pub mod RootLemmas

@@ -38,11 +38,11 @@ pub record MayTake (a : Actor) (e seen : ℕ) : Type 0 where
   pub into : Contains (in_edges a.detect) e
   pub room : seen ≢ 0 → (a.chips + seen ≤ 2 ^ 40) × (got_of a.detect e < message_limit)
 
-pub may_take : (a : Actor) (e seen : ℕ) → SomePart a (λ g ring s. CanDo g s a.vertex (Take e) seen) → MayTake a e seen
-may_take a e seen (g, ring, s, stands, can) = record {
-  among = among_ins g ring s a stands e can.0;
-  few = (let h = ap (λ (h : HeadState). h.taken) (stands.ins e can.0) in let l = few_got g ring s a stands e can.0 in omega arith);
-  into = books_in g ring s a stands e can.0;
+pub may_take : (a : Actor) (e seen : ℕ) → SomePart a (λ g s. CanDo g s a.vertex (Take e) seen) → MayTake a e seen
+may_take a e seen (g, s, stands, can) = record {
+  among = among_ins g s a stands e can.0;
+  few = (let h = ap (λ (h : HeadState). h.taken) (stands.ins e can.0) in let l = few_got g s a stands e can.0 in omega arith);
+  into = books_in g s a stands e can.0;
   room = λ some. (let fits = can.2 some in let c = stands.chips in let b = stands.books.got e can.0 in (omega arith, omega arith));
 }
 
@@ -55,18 +55,18 @@ message_seen seen h m is none = absurd (differ (is ∙ cond_yes seen 0 None (Som
 
 pub take_made : (a : Actor) (e seen : ℕ) (is : InEnds) (b : Books) (m : Message) → ChangesIn a.ins is e (head_after_take seen) → Some m ≡ message_taken seen (in_on a.ins e) → Gets a.detect b e → IsSound b
     → Makes a (record a { chips = a.chips + seen; ins = is; detect = b }) (Take e) seen (Got m)
-take_made a e seen is b m change message gets sound = λ g ring s stands can.
+take_made a e seen is b m change message gets sound = λ g s stands can.
     let some = message_seen seen (in_on a.ins e) m message in
     let fits = can.2 some in
     let sent : Some m ≡ Some (message_of e (length (s.into e).got) seen)
     = message ∙ cond_no seen 0 None (Some (record { edge = (in_on a.ins e).edge; place = (in_on a.ins e).taken; count = seen })) some ∙ (λ j. Some (record { edge = (stands.ins e can.0 j).edge; place = (stands.ins e can.0 j).taken; count = seen })) in
     let is_message : m ≡ message_of e (length (s.into e).got) seen = cc in
-    (takes g ring s a stands e seen can.0 can.1 some fits.0 is change b gets sound, ap Got is_message ∙ sym (cond_no seen 0 Empty (Got (message_of e (length (s.into e).got) seen)) some), refl)
+    (takes g s a stands e seen can.0 can.1 some fits.0 is change b gets sound, ap Got is_message ∙ sym (cond_no seen 0 Empty (Got (message_of e (length (s.into e).got) seen)) some), refl)
 
 pub take_empty : (a : Actor) (e seen : ℕ) (is : InEnds) → ChangesIn a.ins is e (head_after_take seen) → None ≡ message_taken seen (in_on a.ins e) → Makes a (record a { ins = is }) (Take e) seen Empty
-take_empty a e seen is change message = λ g ring s stands can.
+take_empty a e seen is change message = λ g s stands can.
     let none : seen ≡ 0 = dite (ℕ_discrete seen 0) (λ z. z) (λ n. absurd (differ (message ∙ cond_no seen 0 None (Some (record { edge = (in_on a.ins e).edge; place = (in_on a.ins e).taken; count = seen })) n))) in
-    (takes_none g ring s a stands e seen none is change, sym (cond_yes seen 0 Empty (Got (message_of e (length (s.into e).got) seen)) none), refl)
+    (takes_none g s a stands e seen none is change, sym (cond_yes seen 0 Empty (Got (message_of e (length (s.into e).got) seen)) none), refl)
   where
     differ : {m : Message} → None ≡ Some m → ⊥
     differ q = cc
@@ -78,14 +78,17 @@ pub record MaySettle (a : Actor) (e seen : ℕ) : Type 0 where
   pub no_fewer : settled_of a.detect e ≤ seen
   pub sent : seen ≤ sent_of a.detect e
 
-pub may_settle : (a : Actor) (e seen : ℕ) → SomePart a (λ g ring s. CanDo g s a.vertex (Settle e) seen) → MaySettle a e seen
-may_settle a e seen (g, ring, s, stands, can) =
+pub may_settle : (a : Actor) (e seen : ℕ) → SomePart a (λ g s. CanDo g s a.vertex (Settle e) seen) → MaySettle a e seen
+may_settle a e seen (g, s, stands, can) =
     let x = stands.books.sent e can.0 in let y = stands.books.settled e can.0 in let fits = can.2 in
-    record { out = books_out g ring s a stands e can.0; no_fewer = omega arith; sent = omega arith }
+    record { out = books_out g s a stands e can.0; no_fewer = omega arith; sent = omega arith }
+
+pub settle_among : (a : Actor) (e seen : ℕ) → SomePart a (λ g s. CanDo g s a.vertex (Settle e) seen) → Contains a.outs.edges e
+settle_among a e seen (g, s, stands, can) = among_outs g s a stands e can.0
 
 pub settle_made : (a : Actor) (e seen more : ℕ) (b : Books) → more ≡ seen - settled_of a.detect e → Settles a.detect b e more → IsSound b → Makes a (record a { detect = b }) (Settle e) seen (Done more)
-settle_made a e seen more b is change sound = λ g ring s stands can.
-    (settles g ring s a stands e seen can.0 can.1 b (subst (λ (n : ℕ). Settles a.detect b e n) is change) sound, ap Done (is ∙ ap (λ (n : ℕ). seen - n) (stands.books.settled e can.0)), refl)
+settle_made a e seen more b is change sound = λ g s stands can.
+    (settles g s a stands e seen can.0 can.1 b (subst (λ (n : ℕ). Settles a.detect b e n) is change) sound, ap Done (is ∙ ap (λ (n : ℕ). seen - n) (stands.books.settled e can.0)), refl)
 
 -- ---- an acknowledgement
 
@@ -98,35 +101,38 @@ no_more_when_active e (Some q) here all waiting false = grind (arith, nat_tests)
 pub acks_allowed : (b : Books) (e : ℕ) (p : Bool) (count : ℕ) → count ≡ detector.may_ack b e p → count ≤ detector.may_ack b e true
 acks_allowed b e p count is = let n = no_more_when_active e b.parent (books.owed b e) (books.all_owed b) (books.deficit b) p in omega arith
 
-pub ack_into : (a : Actor) (e seen : ℕ) → SomePart a (λ g ring s. CanDo g s a.vertex (Ack e) seen) → Contains (in_edges a.detect) e
-ack_into a e seen (g, ring, s, stands, can) = books_in g ring s a stands e can.0
+pub ack_among : (a : Actor) (e seen : ℕ) → SomePart a (λ g s. CanDo g s a.vertex (Ack e) seen) → Contains a.ins.edges e
+ack_among a e seen (g, s, stands, can) = among_ins g s a stands e can.0
+
+pub ack_into : (a : Actor) (e seen : ℕ) → SomePart a (λ g s. CanDo g s a.vertex (Ack e) seen) → Contains (in_edges a.detect) e
+ack_into a e seen (g, s, stands, can) = books_in g s a stands e can.0
 
 pub ack_made : (a : Actor) (e seen count : ℕ) (b : Books) → count ≡ detector.may_ack a.detect e (is_passive_now a) → Acknowledges a.detect b e count → IsSound b → Makes a (record a { detect = b }) (Ack e) seen (Done count)
-ack_made a e seen count b is change sound = λ g ring s stands can.
-    let all = is ∙ may_ack_is g ring s a stands e can.0 in
+ack_made a e seen count b is change sound = λ g s stands can.
+    let all = is ∙ may_ack_is g s a stands e can.0 in
     let within : count ≤ books.owed a.detect e = (let w = within_owed e a.detect.parent (books.owed a.detect e) (books.all_owed a.detect) (books.deficit a.detect) (is_passive_now a) in omega arith) in
-    (acknowledges g ring s a stands e count can.0 can.1 all b change sound (parent_goes_with_all a.detect b e count stands.books.sound within change) seen, ap Done all, refl)
+    (acknowledges g s a stands e count can.0 can.1 all b change sound (parent_goes_with_all a.detect b e count stands.books.sound within change) seen, ap Done all, refl)
 
 -- ---- a halt
 
-pub halt_made : (a : Actor) (seen : ℕ) (halt : Option Cause) (n : ℕ) → WhateverPart a (λ g ring s. halt ≡ cause g a.vertex s) → n ≡ (if eqb a.refused 0 then 1 else 0) → Makes a (record a { halt = halt }) (Halt a.vertex) seen (Done n)
-halt_made a seen halt n is reply = λ g ring s stands can.
-    (halts g ring s a stands a.vertex seen refl can.1 halt (is g ring s stands), ap Done (reply ∙ ap (λ (r : ℕ). if eqb r 0 then 1 else 0) stands.refused), refl)
+pub halt_made : (a : Actor) (seen : ℕ) (halt : Option Cause) (n : ℕ) → WhateverPart a (λ g s. halt ≡ cause g a.vertex s) → n ≡ (if eqb a.refused 0 then 1 else 0) → Makes a (record a { halt = halt }) (Halt a.vertex) seen (Done n)
+halt_made a seen halt n is reply = λ g s stands can.
+    (halts g s a stands a.vertex seen refl can.1 halt (is g s stands), ap Done (reply ∙ ap (λ (r : ℕ). if eqb r 0 then 1 else 0) stands.refused), refl)
 
 -- ---- a look at a cell
 
-pub clear_among : (a : Actor) (e seen : ℕ) → SomePart a (λ g ring s. CanDo g s a.vertex (Clear e) seen) → Contains a.outs.edges e
-clear_among a e seen (g, ring, s, stands, can) = among_outs g ring s a stands e can.0
+pub clear_among : (a : Actor) (e seen : ℕ) → SomePart a (λ g s. CanDo g s a.vertex (Clear e) seen) → Contains a.outs.edges e
+clear_among a e seen (g, s, stands, can) = among_outs g s a stands e can.0
 
 abbrev pub clear_reply : Option (ℕ × ℕ) → Reply
 clear_reply None = Full
 clear_reply (Some words) = Done words.0
 
 pub clear_made : (a : Actor) (e seen : ℕ) (os : OutEnds) (words : Option (ℕ × ℕ)) → words ≡ claim_words (tail_after_clear seen (out_on a.outs e).link) → ChangesOut a.outs os e (out_after_clear seen) → Makes a (record a { outs = os }) (Clear e) seen (clear_reply words)
-clear_made a e seen os words is change = λ g ring s stands can.
+clear_made a e seen os words is change = λ g s stands can.
     let link : Tail = (s.out e).link in
-    let looked = is ∙ (λ j. claim_words (tail_after_clear seen (stands.outs e can.0 j).link)) ∙ ap claim_words (Rattle.chip_link.proofs.States.tail_clears e ring link seen (may_look g ring s a stands e can.0 can.1)) in
-    (clears g ring s a stands e seen can.0 can.1 os change, ap clear_reply looked ∙ by_cell (eqb seen 0) (claims_of link), refl)
+    let looked = is ∙ (λ j. claim_words (tail_after_clear seen (stands.outs e can.0 j).link)) ∙ ap claim_words (Rattle.chip_link.proofs.States.tail_clears e g.ring link seen (may_look g s a stands e can.0 can.1)) in
+    (clears g s a stands e seen can.0 can.1 os change, ap clear_reply looked ∙ by_cell (eqb seen 0) (claims_of link), refl)
   where
     by_cell : (b : Bool) (n : ℕ) → clear_reply (cond b (Some (n, n + 1)) None) ≡ cond b (Done n) Full
     by_cell true n = refl
@@ -161,14 +167,14 @@ pub record MayClaim (a : Actor) (e seen : ℕ) : Type 0 where
   pub out : Contains (out_edges a.detect) e
   pub room : sent_of a.detect e < message_limit
 
-pub may_claim : (a : Actor) (e seen : ℕ) → SomePart a (λ g ring s. CanDo g s a.vertex (Claim e) seen) → MayClaim a e seen
-may_claim a e seen (g, ring, s, stands, can) =
+pub may_claim : (a : Actor) (e seen : ℕ) → SomePart a (λ g s. CanDo g s a.vertex (Claim e) seen) → MayClaim a e seen
+may_claim a e seen (g, s, stands, can) =
     let at = can.0 in
     let met = rules_met g (Claim e) s can.1 in
     let out = stands.kept.outs e at in
     let pends = out.clear_pends met.0 met.2 in
     let fewer = out.fewer_yet met.0 pends in
-    let fired = few_fired g ring s a stands in
+    let fired = few_fired g s a stands in
     let here = stands.outs e at in
     let pending-is : (out_on a.outs e).pending ≡ (s.out e).pending = ap (λ (o : OutEnd). o.pending) here in
     let claims-is : (out_on a.outs e).link.claims ≡ claims_of (s.out e).link = ap (λ (o : OutEnd). o.link.claims) here in
@@ -177,12 +183,12 @@ may_claim a e seen (g, ring, s, stands, can) =
     let few-unput = few_terms (all_edges g) (λ i. eqb (tail_of g i) a.vertex) (λ i. length (option_to_list (s.out i).link.held)) (λ i. at_most_one (s.out i).link.held) in
     let few-refused = few_terms (all_edges g) (λ i. eqb (tail_of g i) a.vertex) (λ i. cond (s.out i).link.refused 1 0) (λ i. one_or_none (s.out i).link.refused) in
     let unput-is = stands.unput in let refused-is = stands.refused in
-    let edges = stands.knows.game.graph_fits.few_edges in let vertices = stands.knows.game.graph_fits.few_vertices in
+    let edges = stands.knows.setting.game.graph_fits.few_edges in let vertices = stands.knows.setting.game.graph_fits.few_vertices in
     let made = out.all_made in
     let sent = stands.books.sent e at in
     let graph-edge = Rattle.chip_actor.proofs.PartLemmas.made_graph g e s.fired met.0 in
     record {
-      among = among_outs g ring s a stands e at;
+      among = among_outs g s a stands e at;
       clear = ap (λ (o : OutEnd). o.link.clear) here ∙ met.2;
       word = can.2 ∙ sym claims-is;
       some_chips = omega arith;
@@ -190,20 +196,20 @@ may_claim a e seen (g, ring, s, stands, can) =
       pending = omega arith;
       few_unput = omega arith;
       few_refused = omega arith;
-      out = books_out g ring s a stands e at;
+      out = books_out g s a stands e at;
       room = omega arith;
     }
 
 pub claim_made : (a : Actor) (e seen : ℕ) (os : OutEnds) (b : Books) (m : Message) → ChangesOut a.outs os e (out_after_claim seen) → Some m ≡ message_claimed seen (out_on a.outs e).pending (out_on a.outs e).link → Sends a.detect b e → IsSound b
     → Makes a (record a { outs = os; detect = b; pending = a.pending - m.count; unput = a.unput + 1 }) (Claim e) seen (Sent m)
-claim_made a e seen os b m change message sends sound = λ g ring s stands can.
+claim_made a e seen os b m change message sends sound = λ g s stands can.
     let n : ℕ = claims_of (s.out e).link in
     let sent = message ∙ (λ j. message_claimed seen (stands.outs e can.0 j).pending (stands.outs e can.0 j).link) in
     let hit : seen ≡ n = dite (ℕ_discrete seen n) (λ z. z) (λ z. absurd (differ (sent ∙ cond_no seen n (Some (message_of e n (s.out e).pending)) None z))) in
     let same : Some m ≡ Some (message_of e n (s.out e).pending) = sent ∙ cond_yes seen n (Some (message_of e n (s.out e).pending)) None hit in
     let is_message : m ≡ message_of e n (s.out e).pending = cc in (
-      subst (λ (k : ℕ). StandsFor g ring (does g (record { event = Claim e; seen = seen }) s) (record a { outs = os; detect = b; pending = a.pending - k; unput = a.unput + 1 })) (sym (ap (λ (x : Message). x.count) is_message))
-          (claims g ring s a stands e seen can.0 can.1 hit os change b sends sound),
+      subst (λ (k : ℕ). StandsFor g (does g (record { event = Claim e; seen = seen }) s) (record a { outs = os; detect = b; pending = a.pending - k; unput = a.unput + 1 })) (sym (ap (λ (x : Message). x.count) is_message))
+          (claims g s a stands e seen can.0 can.1 hit os change b sends sound),
       ap Sent is_message ∙ sym (cond_yes seen n (Sent (message_of e n (s.out e).pending)) Sealed hit),
       refl,
     )
@@ -212,11 +218,11 @@ claim_made a e seen os b m change message sends sound = λ g ring s stands can.
     differ q = cc
 
 pub claim_sealed : (a : Actor) (e seen : ℕ) (os : OutEnds) → ChangesOut a.outs os e (out_after_claim seen) → None ≡ message_claimed seen (out_on a.outs e).pending (out_on a.outs e).link → Makes a (record a { outs = os; refused = a.refused + 1 }) (Claim e) seen Sealed
-claim_sealed a e seen os change message = λ g ring s stands can.
+claim_sealed a e seen os change message = λ g s stands can.
     let n : ℕ = claims_of (s.out e).link in
     let sent = message ∙ (λ j. message_claimed seen (stands.outs e can.0 j).pending (stands.outs e can.0 j).link) in
     let miss : seen ≢ n = (λ z. differ (sent ∙ cond_yes seen n (Some (message_of e n (s.out e).pending)) None z)) in
-    (is_refused g ring s a stands e seen can.0 can.1 miss os change, sym (cond_no seen n (Sent (message_of e n (s.out e).pending)) Sealed miss), refl)
+    (is_refused g s a stands e seen can.0 can.1 miss os change, sym (cond_no seen n (Sent (message_of e n (s.out e).pending)) Sealed miss), refl)
   where
     differ : {m : Message} → None ≡ Some m → ⊥
     differ q = cc
@@ -227,35 +233,35 @@ pub record MayPut (a : Actor) (e : ℕ) : Type 0 where
   pub among : Contains a.outs.edges e
   pub some_unput : 1 ≤ a.unput
 
-pub may_put : (a : Actor) (e seen : ℕ) → SomePart a (λ g ring s. CanDo g s a.vertex (Put e) seen) → MayPut a e
-may_put a e seen (g, ring, s, stands, can) =
+pub may_put : (a : Actor) (e seen : ℕ) → SomePart a (λ g s. CanDo g s a.vertex (Put e) seen) → MayPut a e
+may_put a e seen (g, s, stands, can) =
     let met = rules_met g (Put e) s can.1 in
     let one : length (option_to_list (s.out e).link.held) ≡ 1 = ap (λ (h : Option ℕ). length (option_to_list h)) met.1.1 in
     let of-all = tested_term (all_edges g) (λ i. eqb (tail_of g i) a.vertex) (λ i. length (option_to_list (s.out i).link.held)) e (let z = met.0 in omega arith) (eq-eqb _ _ can.0) in
     let all-is = stands.unput in
-    record { among = among_outs g ring s a stands e can.0; some_unput = omega arith }
+    record { among = among_outs g s a stands e can.0; some_unput = omega arith }
 
 pub put_made : (a : Actor) (e seen : ℕ) (os : OutEnds) (held : ℕ × ℕ) → put_of (out_on a.outs e).link ≡ Some held → ChangesOut a.outs os e out_after_put → Makes a (record a { outs = os; unput = a.unput - 1 }) (Put e) seen (Done held.1)
-put_made a e seen os held is change = λ g ring s stands can.
+put_made a e seen os held is change = λ g s stands can.
     let met = rules_met g (Put e) s can.1 in
     let count : ℕ = met.1.0 in
-    let cell : ℕ = (claims_of (s.out e).link - 1) % ring in
+    let cell : ℕ = (claims_of (s.out e).link - 1) % g.ring in
     let was : Some held ≡ Some (cell, count) = sym is ∙ ap (λ (o : OutEnd). put_of o.link) (stands.outs e can.0) ∙ (λ j. Rattle.std.proofs.Common.option_map (λ (c : ℕ). (cell, c)) (met.1.1 j)) in
     let same : held ≡ (cell, count) = cc in
     let total : count ≡ sum (option_to_list (s.out e).link.held) = (let t : sum (option_to_list (s.out e).link.held) ≡ count + 0 = ap (λ (h : Option ℕ). sum (option_to_list h)) met.1.1 ∙ sum_one count in omega arith) in
-    (puts g ring s a stands e seen can.0 can.1 os change, ap (λ (h : ℕ × ℕ). Done h.1) same ∙ ap Done total, refl)
+    (puts g s a stands e seen can.0 can.1 os change, ap (λ (h : ℕ × ℕ). Done h.1) same ∙ ap Done total, refl)
   where
     sum_one : (n : ℕ) → sum (n ∷ []) ≡ n + 0
     sum_one n = omega arith
 
 -- ---- a firing
 
-pub fire_fits : (a : Actor) (k seen : ℕ) → SomePart a (λ g ring s. CanDo g s a.vertex (Fire a.vertex k) seen) → (e : ℕ) → Contains a.outs.edges e → k * (out_on a.outs e).mult < 2 ^ 64
-fire_fits a k seen (g, ring, s, stands, can) e among =
+pub fire_fits : (a : Actor) (k seen : ℕ) → SomePart a (λ g s. CanDo g s a.vertex (Fire a.vertex k) seen) → (e : ℕ) → Contains a.outs.edges e → k * (out_on a.outs e).mult < 2 ^ 64
+fire_fits a k seen (g, s, stands, can) e among =
     let met = rules_met g (Fire a.vertex k) s can.1 in
-    let at = Rattle.chip_actor.proofs.Standing.is_out g ring s a stands e among in
+    let at = Rattle.chip_actor.proofs.Standing.is_out g s a stands e among in
     let here = ap (λ (o : OutEnd). o.mult) (stands.outs e at) in
-    let inside = out_inside g ring s a stands e at in
+    let inside = out_inside g s a stands e at in
     let one = tested_term (all_edges g) (λ i. eqb (tail_of g i) a.vertex) (mult_of g) e (omega arith) (eq-eqb _ _ at) in
     let whole = Rattle.chip_actor.proofs.EdgeLemmas.over_outs_graph g a.vertex stands.knows.vertex (mult_of g) in
     let few = stands.few_chips in
@@ -265,7 +271,7 @@ fire_fits a k seen (g, ring, s, stands, can) e among =
     omega arith
 
 pub fire_made : (a : Actor) (k seen : ℕ) (os : OutEnds) → ChangesOuts a.outs os (out_after_fire k) → Makes a (record a { chips = a.chips - k * a.degree; fired = a.fired + k; outs = os; pending = k * a.degree }) (Fire a.vertex k) seen (Done (a.fired + k))
-fire_made a k seen os change = λ g ring s stands can. (fires g ring s a stands a.vertex k seen refl can.1 os change, ap (λ (n : ℕ). Done (n + k)) stands.fired, refl)
+fire_made a k seen os change = λ g s stands can. (fires g s a stands a.vertex k seen refl can.1 os change, ap (λ (n : ℕ). Done (n + k)) stands.fired, refl)
 
 -- the message that a claim sent carries what was pending
 pub message_count : (word n : ℕ) (t : TailState) (m : Message) → Some m ≡ message_claimed word n t → m.count ≡ n

@@ -4,7 +4,7 @@ use Rattle.std.proofs.lemmas.Bool.{and_from, not_from_false, or_right, lt-leb, a
 use mathlib.Core.Logic.{dite}
 use native.Mathlib.Decide.{ℕ_discrete, dec_lt}
 use Rattle.chip_graph.specs.Multigraph.{degree}
-use Rattle.chip_graph.specs.ChipGame.{ChipGame, IsGame}
+use Rattle.chip_actor.specs.Setting.{Setting, HasGame}
 use Rattle.chip_graph.proofs.SumLemmas.{cond_yes, cond_no, cond_true, cond_false, tested_none}
 use Rattle.chip_graph.proofs.Walks.{degree_positive}
 use Rattle.chip_link.specs.Link.{claims_of}
@@ -13,7 +13,7 @@ use Rattle.chip_actor.specs.Part.{Cause, opened, first_put, is_legal}
 use Rattle.chip_actor.specs.Kept.{KeepsPart}
 use Rattle.chip_actor.proofs.PartLemmas.{tail_inside, made_graph, made_root}
 
-module _ (g : ChipGame) where
+module _ (g : Setting) where
   first_sum : (e : ℕ) → (sum (first_put g e) + 0) + 0 ≡ made g e 0
   first_sum e = dite (dec_lt e (length g.graph.edges))
       (λ l. let none : first_put g e ≡ [] = cond_true (ltb e (length g.graph.edges)) [] _ (lt-ltb e (length g.graph.edges) l) in let a : sum (first_put g e) ≡ 0 = ap sum none in let b = made_graph g e 0 l in let c = mul-zero (mult_of g e) in omega arith)
@@ -29,7 +29,7 @@ module _ (g : ChipGame) where
   pub first_few : (e : ℕ) → e < graph_edges g → length (first_put g e) ≡ 0
   first_few e l = let none : first_put g e ≡ [] = cond_true (ltb e (length g.graph.edges)) [] _ (lt-ltb e (length g.graph.edges) l) in ap length none
 
-  pub opening_keeps : IsGame g → (p : ℕ) → KeepsPart g p (opened g)
+  pub opening_keeps : HasGame g → (p : ℕ) → KeepsPart g p (opened g)
   opening_keeps game p = record {
     outs = λ e at. record {
       all_made = first_sum e;

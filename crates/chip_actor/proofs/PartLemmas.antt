@@ -5,7 +5,7 @@ use Rattle.std.proofs.lemmas.List.Sums.{sum_by-append, sum_by_push}
 use mathlib.Core.Logic.{dite}
 use native.Mathlib.Decide.{ℕ_discrete, dec_lt}
 use Rattle.chip_graph.specs.Multigraph.{degree}
-use Rattle.chip_graph.specs.ChipGame.{ChipGame}
+use Rattle.chip_actor.specs.Setting.{Setting}
 use Rattle.chip_graph.proofs.SumLemmas.{cond_yes, cond_no, cond_true, cond_false, by_test, tested_le, tested_zero, tested_none, tested_move}
 use Rattle.chip_link.specs.Link.{Tail, claims_of, after_clear, after_claim, after_put, after_take}
 use Rattle.chip_detect.specs.Acknowledging.{is_parent, or_else}
@@ -13,7 +13,7 @@ use Rattle.chip_actor.specs.declared.cause.Cause.TheVariants.{SealedEdge, Firing
 use Rattle.chip_actor.specs.Edges.{graph_edges, all_edges, tail_of, head_of, mult_of, start_of, over_outs, over_ins, made}
 use Rattle.chip_actor.specs.Part.{Cause, Part, is_running, owed, outstanding, may_ack, all_owed, pending_of, unput, refusals, cause, is_legal, is_passive, deficit}
 use Rattle.chip_actor.specs.Rules.{Event, Take, Ack, Fire, Clear, Claim, Put, Halt, Settle, Seal, Read, unmet}
-use Rattle.chip_actor.specs.Steps.{part_of, settled_after, got_after, acked_after, halt_after, fired_after, parent_after, does, Did}
+use Rattle.chip_actor.specs.Steps.{part_of, settled_after, got_after, acked_after, halt_after, fired_after, parent_after, does, Step}
 use Rattle.chip_actor.proofs.RuleLemmas.{rules_met}
 use Rattle.chip_actor.proofs.EdgeLemmas.{tail_root}
 use Rattle.chip_actor.specs.Kept.{Met, IsNeutral, KeepsOut, KeepsPart}
@@ -33,7 +33,7 @@ held_counts : (held : Option ℕ) (count : ℕ) → held ≡ Some count → 0 < 
 held_counts None count h = absurd (cc)
 held_counts (Some c) count h = omega arith
 
-module _ (g : ChipGame) where
+module _ (g : Setting) where
   pub tail_inside : (e : ℕ) → tail_of g e < g.graph.vertices → e < graph_edges g
   tail_inside e l = dite (dec_lt e (length g.graph.edges)) (λ h. h) (λ n. let a = tail_root g e (omega arith) in absurd (omega arith))
 
@@ -445,5 +445,5 @@ module _ (g : ChipGame) where
   }
 
   -- the part that makes an event keeps it
-  pub events_keep : (x : Did) (s : Part) → unmet g x.event s ≡ None → KeepsPart g (part_of g x.event) s → KeepsPart g (part_of g x.event) (does g x s)
+  pub events_keep : (x : Step) (s : Part) → unmet g x.event s ≡ None → KeepsPart g (part_of g x.event) s → KeepsPart g (part_of g x.event) (does g x s)
   events_keep x s may ok = part_kept x.event x.seen (part_of g x.event) s refl (rules_met g x.event s may) ok

@@ -1,7 +1,7 @@
 -- The rules of an event in plain facts: each holds where none is unmet, and the other way round.
 use Rattle.std.proofs.Common.{◌≡◌, ◌≢◌, ℕ, ◌+◌, ◌*◌, ◌<◌, ◌≤◌, Bool, true, false, not, ◌&&◌, eqb, Option, Some, None, is_some, is_none, refl, sym, ap, ◌∙◌, arith, eq-eqb, ne_eqb, eqb-true, ltb-true, leb-true, lt-ltb, le-leb, true≢false}
 use Rattle.std.proofs.lemmas.Bool.{not-true, eqb-false, and_parts, and_from}
-use Rattle.chip_graph.specs.ChipGame.{ChipGame}
+use Rattle.chip_actor.specs.Setting.{Setting}
 use Rattle.chip_actor.specs.Part.{Part, Cause, is_running}
 use Rattle.chip_actor.specs.Rules.{Event, Take, Ack, Fire, Clear, Claim, Put, Halt, Settle, Seal, Read, Rule, need, unmet}
 use Rattle.chip_actor.specs.Kept.{Met}
@@ -35,7 +35,7 @@ some_of (Some c) h = (c, refl)
 is_some_of : {A : Type 0} (o : Option A) (c : A) → o ≡ Some c → is_some o ≡ true
 is_some_of o c h = ap is_some h
 
-pub rules_met : (g : ChipGame) (x : Event) (s : Part) → unmet g x s ≡ None → Met g x s
+pub rules_met : (g : Setting) (x : Event) (s : Part) → unmet g x s ≡ None → Met g x s
 rules_met g (Take e) s h = ltb-true _ _ (met _ _ _ h).0
 rules_met g (Ack e) s h = let a = met _ _ _ h in let b = met _ _ _ a.1 in let c = met _ _ _ b.1 in (ltb-true _ _ a.0, positive _ b.0, positive _ c.0)
 rules_met g (Fire v k) s h =
@@ -52,7 +52,7 @@ rules_met g (Settle e) s h = ltb-true _ _ (met _ _ _ h).0
 rules_met g (Seal e) s h = ltb-true _ _ (met _ _ _ h).0
 rules_met g (Read v) s h = let a = met _ _ _ h in let b = met _ _ _ a.1 in (ltb-true _ _ a.0, eqb-true _ _ b.0)
 
-pub met_rules : (g : ChipGame) (x : Event) (s : Part) → Met g x s → unmet g x s ≡ None
+pub met_rules : (g : Setting) (x : Event) (s : Part) → Met g x s → unmet g x s ≡ None
 met_rules g (Take e) s m = passed _ _ _ (lt-ltb _ _ m) refl
 met_rules g (Ack e) s m = passed _ _ _ (lt-ltb _ _ m.0) (passed _ _ _ (not_zero _ m.1) (passed _ _ _ (not_zero _ m.2) refl))
 met_rules g (Fire v k) s m =

@@ -6,7 +6,7 @@ use Rattle.std.specs.List.{Contains, sum_by}
 use Rattle.std.proofs.lemmas.List.Sums.{sum_by-append}
 use Rattle.std.proofs.lemmas.List.Elements.{Contains-append_left, Contains-append_right}
 use Rattle.chip_graph.specs.Multigraph.{edge_at, edges_out, edges_in, sum_in}
-use Rattle.chip_graph.specs.ChipGame.{ChipGame}
+use Rattle.chip_actor.specs.Setting.{Setting}
 use Rattle.chip_graph.proofs.SumLemmas.{tested_ext, picked_sum}
 use Rattle.chip_detect.specs.Books.{Books, in_edges, out_edges, got_of, acked_of, sent_of, settled_of}
 use Rattle.chip_detect.specs.Books as books
@@ -28,17 +28,17 @@ not_running None = refl
 not_running (Some c) = refl
 
 -- the edges out of a vertex, and into it with its root edge, are all that have it as their tail or head
-pub among_new_outs : (g : ChipGame) (v : ℕ) → v < g.graph.vertices → (e : ℕ) → tail_of g e ≡ v → Contains (edges_out g.graph v) e
+pub among_new_outs : (g : Setting) (v : ℕ) → v < g.graph.vertices → (e : ℕ) → tail_of g e ≡ v → Contains (edges_out g.graph v) e
 among_new_outs g v vertex e at =
     let l = tail_inside g e (subst (λ (n : ℕ). n < g.graph.vertices) (sym at) vertex) in
     picked_has (λ i. eqb (edge_at g.graph i).tail v) (graph_edges g) e l (eq-eqb _ _ (sym (tail_graph g e l) ∙ at))
 
-pub among_new_ins : (g : ChipGame) (v : ℕ) → v < g.graph.vertices → (e : ℕ) → head_of g e ≡ v → Contains (edges_in g.graph v ++ root_edge g v ∷ []) e
+pub among_new_ins : (g : Setting) (v : ℕ) → v < g.graph.vertices → (e : ℕ) → head_of g e ≡ v → Contains (edges_in g.graph v ++ root_edge g v ∷ []) e
 among_new_ins g v vertex e at = dite (dec_lt e (graph_edges g))
     (λ l. Contains-append_left (edges_in g.graph v) (root_edge g v ∷ []) e (picked_has (λ i. eqb (edge_at g.graph i).head v) (graph_edges g) e l (eq-eqb _ _ (sym (head_graph g e l) ∙ at))))
     (λ n. Contains-append_right (edges_in g.graph v) (root_edge g v ∷ []) e (0, omega arith, (let h = head_root g e (omega arith) in let z : graph_edges g + v ≡ e = omega arith in z)))
 
-module _ (g : ChipGame) (ring : ℕ) (s : Part) (a : Actor) (stands : StandsFor g ring s a) where
+module _ (g : Setting) (s : Part) (a : Actor) (stands : StandsFor g s a) where
   -- ---- its edges
 
   pub out_inside : (e : ℕ) → tail_of g e ≡ a.vertex → e < graph_edges g
@@ -108,7 +108,7 @@ module _ (g : ChipGame) (ring : ℕ) (s : Part) (a : Actor) (stands : StandsFor 
   few_got e at = let x = stands.books.got e at in let y = stands.books.sound.ins.within e in omega arith
 
   pub few_fired : s.fired ≤ 2 ^ 40
-  few_fired = let x = stands.kept.within in let y = stands.knows.game.low_limit in omega arith
+  few_fired = let x = stands.kept.within in let y = stands.knows.setting.game.low_limit in omega arith
 
   -- what the actor keeps as an edge out of its vertex is one
   pub is_out : (e : ℕ) → Contains a.outs.edges e → tail_of g e ≡ a.vertex

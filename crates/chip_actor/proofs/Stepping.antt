@@ -3,7 +3,7 @@ use Rattle.std.proofs.Common.{◌≡◌, ◌≢◌, ℕ, zero, suc, ◌+◌, ◌
 use mathlib.Core.Logic.{dite}
 use native.Mathlib.Decide.{ℕ_discrete}
 use Rattle.chip_graph.specs.Multigraph.{degree}
-use Rattle.chip_graph.specs.ChipGame.{ChipGame}
+use Rattle.chip_actor.specs.Setting.{Setting}
 use Rattle.chip_graph.proofs.SumLemmas.{cond_yes, cond_no, tested_ext, tested_scale, tested_move}
 use Rattle.chip_link.specs.Ends.{may_clear, head_after_take}
 use Rattle.chip_link.specs.Link.{Tail, claims_of, after_clear, after_claim, after_put, after_take, tail_state, head_state}
@@ -23,15 +23,13 @@ use Rattle.chip_actor.proofs.RuleLemmas.{rules_met}
 use Rattle.chip_actor.proofs.PartLemmas.{events_keep, idle_take, took_some}
 use Rattle.chip_actor.proofs.EdgeLemmas.{over_outs_graph}
 
-module _ (g : ChipGame) (ring : ℕ) (s : Part) (a : Actor) (stands : StandsFor g ring s a) where
+module _ (g : Setting) (s : Part) (a : Actor) (stands : StandsFor g s a) where
   -- what it knows of the game is no matter of its numbers
   knows_still : (chips fired : ℕ) (halt : Option Cause) (os : OutEnds) (is : InEnds) (b : Books) (p u r : ℕ) → os.edges ≡ a.outs.edges → is.edges ≡ a.ins.edges → edges_of b.outs ≡ edges_of a.detect.outs → edges_of b.ins ≡ edges_of a.detect.ins
-      → KnowsGame g ring (record a { chips = chips; fired = fired; halt = halt; outs = os; ins = is; detect = b; pending = p; unput = u; refused = r })
+      → KnowsGame g (record a { chips = chips; fired = fired; halt = halt; outs = os; ins = is; detect = b; pending = p; unput = u; refused = r })
   knows_still chips fired halt os is b p u r outs ins books_outs books_ins =
       let k = stands.knows in record {
-        game = k.game;
-        some_ring = k.some_ring;
-        small_ring = k.small_ring;
+        setting = k.setting;
         vertex = k.vertex;
         is_sink = k.is_sink;
         degree = k.degree;
@@ -48,13 +46,13 @@ module _ (g : ChipGame) (ring : ℕ) (s : Part) (a : Actor) (stands : StandsFor 
   -- ---- a take
 
   -- the end into which a message came
-  taken_end : (e seen : ℕ) (is : InEnds) → ChangesIn a.ins is e (head_after_take seen) → (i : ℕ) → head_of g i ≡ a.vertex → in_on is i ≡ head_state i ring (got_after (Take e) seen i (s.into i))
+  taken_end : (e seen : ℕ) (is : InEnds) → ChangesIn a.ins is e (head_after_take seen) → (i : ℕ) → head_of g i ≡ a.vertex → in_on is i ≡ head_state i g.ring (got_after (Take e) seen i (s.into i))
   taken_end e seen is change i at = change.each i ∙ dite (ℕ_discrete e i)
-      (λ y. cond_yes e i _ _ y ∙ ap (head_after_take seen) (stands.ins i at) ∙ head_takes i ring (s.into i).got seen ∙ ap (head_state i ring) (sym (cond_yes e i (after_take seen (s.into i).got) (s.into i).got y)))
-      (λ n. cond_no e i _ _ n ∙ stands.ins i at ∙ ap (head_state i ring) (sym (cond_no e i (after_take seen (s.into i).got) (s.into i).got n)))
+      (λ y. cond_yes e i _ _ y ∙ ap (head_after_take seen) (stands.ins i at) ∙ head_takes i g.ring (s.into i).got seen ∙ ap (head_state i g.ring) (sym (cond_yes e i (after_take seen (s.into i).got) (s.into i).got y)))
+      (λ n. cond_no e i _ _ n ∙ stands.ins i at ∙ ap (head_state i g.ring) (sym (cond_no e i (after_take seen (s.into i).got) (s.into i).got n)))
 
   pub takes : (e seen : ℕ) → head_of g e ≡ a.vertex → unmet g (Take e) s ≡ None → seen ≢ 0 → s.chips + seen ≤ 2 ^ 40 → (is : InEnds) → ChangesIn a.ins is e (head_after_take seen) → (b : Books) → Gets a.detect b e → IsSound b
-      → StandsFor g ring (does g (record { event = Take e; seen = seen }) s) (record a { chips = a.chips + seen; ins = is; detect = b })
+      → StandsFor g (does g (record { event = Take e; seen = seen }) s) (record a { chips = a.chips + seen; ins = is; detect = b })
   takes e seen at may some few is change b gets sound = record {
     knows = knows_still (a.chips + seen) a.fired a.halt a.outs is b a.pending a.unput a.refused refl change.edges (ap edges_of gets.outs) gets.ins.edges;
     kept = kept_still (Take e) seen at may;
@@ -81,8 +79,8 @@ module _ (g : ChipGame) (ring : ℕ) (s : Part) (a : Actor) (stands : StandsFor 
   }
 
   -- an empty cell changes nothing
-  pub takes_none : (e seen : ℕ) → seen ≡ 0 → (is : InEnds) → ChangesIn a.ins is e (head_after_take seen) → StandsFor g ring (does g (record { event = Take e; seen = seen }) s) (record a { ins = is })
-  takes_none e seen none is change = subst (λ (t : Part). StandsFor g ring t (record a { ins = is })) (sym (idle_take g e seen s none)) record {
+  pub takes_none : (e seen : ℕ) → seen ≡ 0 → (is : InEnds) → ChangesIn a.ins is e (head_after_take seen) → StandsFor g (does g (record { event = Take e; seen = seen }) s) (record a { ins = is })
+  takes_none e seen none is change = subst (λ (t : Part). StandsFor g t (record a { ins = is })) (sym (idle_take g e seen s none)) record {
     knows = knows_still a.chips a.fired a.halt a.outs is a.detect a.pending a.unput a.refused refl change.edges refl refl;
     kept = stands.kept;
     few_chips = stands.few_chips;
@@ -102,7 +100,7 @@ module _ (g : ChipGame) (ring : ℕ) (s : Part) (a : Actor) (stands : StandsFor 
 
   -- ---- a settle
 
-  pub settles : (e seen : ℕ) → tail_of g e ≡ a.vertex → unmet g (Settle e) s ≡ None → (b : Books) → Settles a.detect b e (seen - settled_of a.detect e) → IsSound b → StandsFor g ring (does g (record { event = Settle e; seen = seen }) s) (record a { detect = b })
+  pub settles : (e seen : ℕ) → tail_of g e ≡ a.vertex → unmet g (Settle e) s ≡ None → (b : Books) → Settles a.detect b e (seen - settled_of a.detect e) → IsSound b → StandsFor g (does g (record { event = Settle e; seen = seen }) s) (record a { detect = b })
   settles e seen at may b change sound = record {
     knows = knows_still a.chips a.fired a.halt a.outs a.ins b a.pending a.unput a.refused refl refl change.outs.edges (ap edges_of change.ins);
     kept = kept_still (Settle e) seen at may;
@@ -131,7 +129,7 @@ module _ (g : ChipGame) (ring : ℕ) (s : Part) (a : Actor) (stands : StandsFor 
   -- ---- an acknowledgement
 
   pub acknowledges : (e count : ℕ) → head_of g e ≡ a.vertex → unmet g (Ack e) s ≡ None → count ≡ may_ack g (head_of g e) s e → (b : Books) → Acknowledges a.detect b e count → IsSound b
-      → b.parent ≡ (if is_parent e a.detect.parent && eqb count (Rattle.chip_detect.specs.Books.owed a.detect e) then None else a.detect.parent) → (seen : ℕ) → StandsFor g ring (does g (record { event = Ack e; seen = seen }) s) (record a { detect = b })
+      → b.parent ≡ (if is_parent e a.detect.parent && eqb count (Rattle.chip_detect.specs.Books.owed a.detect e) then None else a.detect.parent) → (seen : ℕ) → StandsFor g (does g (record { event = Ack e; seen = seen }) s) (record a { detect = b })
   acknowledges e count at may all b change sound parent seen = record {
     knows = knows_still a.chips a.fired a.halt a.outs a.ins b a.pending a.unput a.refused refl refl (ap edges_of change.outs) change.ins.edges;
     kept = kept_still (Ack e) seen at may;
@@ -144,7 +142,7 @@ module _ (g : ChipGame) (ring : ℕ) (s : Part) (a : Actor) (stands : StandsFor 
     ins = stands.ins;
     books = record {
       sound = sound;
-      parent = parent ∙ (λ j. cond (is_parent e (stands.books.parent j) && eqb (all j) (Rattle.chip_actor.proofs.Standing.owed_is g ring s a stands e at j)) None (stands.books.parent j));
+      parent = parent ∙ (λ j. cond (is_parent e (stands.books.parent j) && eqb (all j) (Rattle.chip_actor.proofs.Standing.owed_is g s a stands e at j)) None (stands.books.parent j));
       got = λ i mine. change.ins.messages i ∙ stands.books.got i mine;
       acked = λ i mine. change.ins.answered i ∙ (λ j. cond (eqb e i) (stands.books.acked i mine j + all j) (stands.books.acked i mine j));
       sent = λ i mine. (λ j. messages_on (change.outs j) i) ∙ stands.books.sent i mine;
@@ -157,7 +155,7 @@ module _ (g : ChipGame) (ring : ℕ) (s : Part) (a : Actor) (stands : StandsFor 
 
   -- ---- a halt
 
-  pub halts : (v seen : ℕ) → v ≡ a.vertex → unmet g (Halt v) s ≡ None → (halt : Option Cause) → halt ≡ cause g v s → StandsFor g ring (does g (record { event = Halt v; seen = seen }) s) (record a { halt = halt })
+  pub halts : (v seen : ℕ) → v ≡ a.vertex → unmet g (Halt v) s ≡ None → (halt : Option Cause) → halt ≡ cause g v s → StandsFor g (does g (record { event = Halt v; seen = seen }) s) (record a { halt = halt })
   halts v seen at may halt is = record {
     knows = knows_still a.chips a.fired halt a.outs a.ins a.detect a.pending a.unput a.refused refl refl refl refl;
     kept = kept_still (Halt v) seen at may;
@@ -177,27 +175,27 @@ module _ (g : ChipGame) (ring : ℕ) (s : Part) (a : Actor) (stands : StandsFor 
   -- ---- a look at a cell, a claim, a put
 
   -- an edge out of the vertex that is changed, the others as they were
-  out_still : (e : ℕ) (os : OutEnds) (f : OutEnd → OutEnd) → ChangesOut a.outs os e f → (after : ℕ → Out) → (tail_of g e ≡ a.vertex → f (out_end g ring e (s.out e)) ≡ out_end g ring e (after e))
-      → ((i : ℕ) → e ≢ i → out_end g ring i (s.out i) ≡ out_end g ring i (after i)) → (i : ℕ) → tail_of g i ≡ a.vertex → out_on os i ≡ out_end g ring i (after i)
+  out_still : (e : ℕ) (os : OutEnds) (f : OutEnd → OutEnd) → ChangesOut a.outs os e f → (after : ℕ → Out) → (tail_of g e ≡ a.vertex → f (out_end g e (s.out e)) ≡ out_end g e (after e))
+      → ((i : ℕ) → e ≢ i → out_end g i (s.out i) ≡ out_end g i (after i)) → (i : ℕ) → tail_of g i ≡ a.vertex → out_on os i ≡ out_end g i (after i)
   out_still e os f change after here rest i at = change.each i ∙ dite (ℕ_discrete e i)
-      (λ y. cond_yes e i _ _ y ∙ ap f (stands.outs i at) ∙ subst (λ (k : ℕ). tail_of g k ≡ a.vertex → f (out_end g ring k (s.out k)) ≡ out_end g ring k (after k)) y here at)
+      (λ y. cond_yes e i _ _ y ∙ ap f (stands.outs i at) ∙ subst (λ (k : ℕ). tail_of g k ≡ a.vertex → f (out_end g k (s.out k)) ≡ out_end g k (after k)) y here at)
       (λ n. cond_no e i _ _ n ∙ stands.outs i at ∙ rest i n)
 
   -- what an end shows of its link
-  link_end : (e mult pending : ℕ) {t u : Tail} → t ≡ u → (let n : OutEnd = record { mult = mult; pending = pending; link = tail_state e ring t } in n) ≡ record { mult = mult; pending = pending; link = tail_state e ring u }
-  link_end e mult pending q = λ j. let n : OutEnd = record { mult = mult; pending = pending; link = tail_state e ring (q j) } in n
+  link_end : (e mult pending : ℕ) {t u : Tail} → t ≡ u → (let n : OutEnd = record { mult = mult; pending = pending; link = tail_state e g.ring t } in n) ≡ record { mult = mult; pending = pending; link = tail_state e g.ring u }
+  link_end e mult pending q = λ j. let n : OutEnd = record { mult = mult; pending = pending; link = tail_state e g.ring (q j) } in n
 
   -- a vertex looks at a cell only with a place left
-  pub may_look : (e : ℕ) → tail_of g e ≡ a.vertex → unmet g (Clear e) s ≡ None → may_clear (tail_state e ring (s.out e).link) ≡ true
+  pub may_look : (e : ℕ) → tail_of g e ≡ a.vertex → unmet g (Clear e) s ≡ None → may_clear (tail_state e g.ring (s.out e).link) ≡ true
   may_look e at may =
       let met = rules_met g (Clear e) s may in
       let out = stands.kept.outs e at in
       let hand = out.free_hand met.0 met.3 in
       let fewer = out.fewer_yet met.0 met.3 in
-      let fired = Rattle.chip_actor.proofs.Standing.few_fired g ring s a stands in
+      let fired = Rattle.chip_actor.proofs.Standing.few_fired g s a stands in
       Rattle.std.proofs.lemmas.Bool.and_from _ _ (Rattle.std.proofs.lemmas.Bool.and_from _ _ (ap Rattle.std.proofs.Common.is_none hand) (ap not met.2)) (Rattle.std.proofs.Common.lt-ltb _ _ (omega arith))
 
-  pub clears : (e seen : ℕ) → tail_of g e ≡ a.vertex → unmet g (Clear e) s ≡ None → (os : OutEnds) → ChangesOut a.outs os e (out_after_clear seen) → StandsFor g ring (does g (record { event = Clear e; seen = seen }) s) (record a { outs = os })
+  pub clears : (e seen : ℕ) → tail_of g e ≡ a.vertex → unmet g (Clear e) s ≡ None → (os : OutEnds) → ChangesOut a.outs os e (out_after_clear seen) → StandsFor g (does g (record { event = Clear e; seen = seen }) s) (record a { outs = os })
   clears e seen at may os change = record {
     knows = knows_still a.chips a.fired a.halt os a.ins a.detect a.pending a.unput a.refused change.edges refl refl refl;
     kept = kept_still (Clear e) seen at may;
@@ -209,7 +207,7 @@ module _ (g : ChipGame) (ring : ℕ) (s : Part) (a : Actor) (stands : StandsFor 
     outs = out_still e os (out_after_clear seen) change (λ i. record { link = link_after (Clear e) seen i (s.out i); pending = (s.out i).pending; settled = (s.out i).settled })
         (λ mine.
         let o : Out = s.out e in
-        (λ j. let n : OutEnd = record { mult = mult_of g e; pending = o.pending; link = tail_clears e ring o.link seen (may_look e at may) j } in n)
+        (λ j. let n : OutEnd = record { mult = mult_of g e; pending = o.pending; link = tail_clears e g.ring o.link seen (may_look e at may) j } in n)
         ∙ link_end e (mult_of g e) o.pending (sym (cond_yes e e (after_clear seen o.link) o.link refl)))
         (λ i n. link_end i (mult_of g i) (s.out i).pending (sym (cond_no e i (after_clear seen (s.out i).link) (s.out i).link n)));
     ins = stands.ins;
@@ -233,7 +231,7 @@ module _ (g : ChipGame) (ring : ℕ) (s : Part) (a : Actor) (stands : StandsFor 
 
   -- a claim that is taken
   pub claims : (e seen : ℕ) → tail_of g e ≡ a.vertex → unmet g (Claim e) s ≡ None → seen ≡ claims_of (s.out e).link → (os : OutEnds) → ChangesOut a.outs os e (out_after_claim seen) → (b : Books) → Sends a.detect b e → IsSound b
-      → StandsFor g ring (does g (record { event = Claim e; seen = seen }) s) (record a { outs = os; detect = b; pending = a.pending - (s.out e).pending; unput = a.unput + 1 })
+      → StandsFor g (does g (record { event = Claim e; seen = seen }) s) (record a { outs = os; detect = b; pending = a.pending - (s.out e).pending; unput = a.unput + 1 })
   claims e seen at may hit os change b sends sound =
       let met = rules_met g (Claim e) s may in
       let o : Out = s.out e in
@@ -257,9 +255,9 @@ module _ (g : ChipGame) (ring : ℕ) (s : Part) (a : Actor) (stands : StandsFor 
         halt = stands.halt;
         outs = out_still e os (out_after_claim seen) change (λ i. record { link = link_after (Claim e) seen i (s.out i); pending = pending_after g (Claim e) seen i (s.out i); settled = (s.out i).settled })
             (λ mine.
-            (λ j. let n : OutEnd = record { mult = mult_of g e; pending = cond_yes seen (claims_of o.link) 0 o.pending hit j; link = (tail_claims e ring o.link o.pending seen hand ∙ ap (tail_state e ring) is_sent) j } in n)
-            ∙ (λ j. let n : OutEnd = record { mult = mult_of g e; pending = sym pending_is j; link = tail_state e ring (sym link_is j) } in n))
-            (λ i n. λ j. let q : OutEnd = record { mult = mult_of g i; pending = sym (cond_no e i (cond (eqb seen (claims_of (s.out i).link)) 0 (s.out i).pending) (s.out i).pending n) j; link = tail_state i ring (sym (else' i n) j) } in q);
+            (λ j. let n : OutEnd = record { mult = mult_of g e; pending = cond_yes seen (claims_of o.link) 0 o.pending hit j; link = (tail_claims e g.ring o.link o.pending seen hand ∙ ap (tail_state e g.ring) is_sent) j } in n)
+            ∙ (λ j. let n : OutEnd = record { mult = mult_of g e; pending = sym pending_is j; link = tail_state e g.ring (sym link_is j) } in n))
+            (λ i n. λ j. let q : OutEnd = record { mult = mult_of g i; pending = sym (cond_no e i (cond (eqb seen (claims_of (s.out i).link)) 0 (s.out i).pending) (s.out i).pending n) j; link = tail_state i g.ring (sym (else' i n) j) } in q);
         ins = stands.ins;
         books = record {
           sound = sound;
@@ -288,7 +286,7 @@ module _ (g : ChipGame) (ring : ℕ) (s : Part) (a : Actor) (stands : StandsFor 
 
   -- a claim that a seal refuses
   pub is_refused : (e seen : ℕ) → tail_of g e ≡ a.vertex → unmet g (Claim e) s ≡ None → seen ≢ claims_of (s.out e).link → (os : OutEnds) → ChangesOut a.outs os e (out_after_claim seen)
-      → StandsFor g ring (does g (record { event = Claim e; seen = seen }) s) (record a { outs = os; refused = a.refused + 1 })
+      → StandsFor g (does g (record { event = Claim e; seen = seen }) s) (record a { outs = os; refused = a.refused + 1 })
   is_refused e seen at may miss os change =
       let met = rules_met g (Claim e) s may in
       let o : Out = s.out e in
@@ -311,9 +309,9 @@ module _ (g : ChipGame) (ring : ℕ) (s : Part) (a : Actor) (stands : StandsFor 
         halt = stands.halt;
         outs = out_still e os (out_after_claim seen) change (λ i. record { link = link_after (Claim e) seen i (s.out i); pending = pending_after g (Claim e) seen i (s.out i); settled = (s.out i).settled })
             (λ mine.
-            (λ j. let n : OutEnd = record { mult = mult_of g e; pending = cond_no seen (claims_of o.link) 0 o.pending miss j; link = (tail_claims e ring o.link o.pending seen hand ∙ ap (tail_state e ring) is_left) j } in n)
-            ∙ (λ j. let n : OutEnd = record { mult = mult_of g e; pending = sym pending_is j; link = tail_state e ring (sym link_is j) } in n))
-            (λ i n. λ j. let q : OutEnd = record { mult = mult_of g i; pending = sym (pending_else i n) j; link = tail_state i ring (sym (else' i n) j) } in q);
+            (λ j. let n : OutEnd = record { mult = mult_of g e; pending = cond_no seen (claims_of o.link) 0 o.pending miss j; link = (tail_claims e g.ring o.link o.pending seen hand ∙ ap (tail_state e g.ring) is_left) j } in n)
+            ∙ (λ j. let n : OutEnd = record { mult = mult_of g e; pending = sym pending_is j; link = tail_state e g.ring (sym link_is j) } in n))
+            (λ i n. λ j. let q : OutEnd = record { mult = mult_of g i; pending = sym (pending_else i n) j; link = tail_state i g.ring (sym (else' i n) j) } in q);
         ins = stands.ins;
         books = record {
           sound = stands.books.sound;
@@ -340,7 +338,7 @@ module _ (g : ChipGame) (ring : ℕ) (s : Part) (a : Actor) (stands : StandsFor 
       }
 
   -- a put
-  pub puts : (e seen : ℕ) → tail_of g e ≡ a.vertex → unmet g (Put e) s ≡ None → (os : OutEnds) → ChangesOut a.outs os e out_after_put → StandsFor g ring (does g (record { event = Put e; seen = seen }) s) (record a { outs = os; unput = a.unput - 1 })
+  pub puts : (e seen : ℕ) → tail_of g e ≡ a.vertex → unmet g (Put e) s ≡ None → (os : OutEnds) → ChangesOut a.outs os e out_after_put → StandsFor g (does g (record { event = Put e; seen = seen }) s) (record a { outs = os; unput = a.unput - 1 })
   puts e seen at may os change =
       let met = rules_met g (Put e) s may in
       let o : Out = s.out e in
@@ -356,7 +354,7 @@ module _ (g : ChipGame) (ring : ℕ) (s : Part) (a : Actor) (stands : StandsFor 
         halt = stands.halt;
         outs = out_still e os out_after_put change (λ i. record { link = link_after (Put e) seen i (s.out i); pending = (s.out i).pending; settled = (s.out i).settled })
             (λ mine.
-            (λ j. let n : OutEnd = record { mult = mult_of g e; pending = o.pending; link = tail_puts e ring o.link j } in n)
+            (λ j. let n : OutEnd = record { mult = mult_of g e; pending = o.pending; link = tail_puts e g.ring o.link j } in n)
             ∙ link_end e (mult_of g e) o.pending (sym link_is))
             (λ i n. link_end i (mult_of g i) (s.out i).pending (sym (else' i n)));
         ins = stands.ins;
@@ -389,7 +387,7 @@ module _ (g : ChipGame) (ring : ℕ) (s : Part) (a : Actor) (stands : StandsFor 
   -- ---- a firing
 
   pub fires : (v k seen : ℕ) → v ≡ a.vertex → unmet g (Fire v k) s ≡ None → (os : OutEnds) → ChangesOuts a.outs os (out_after_fire k)
-      → StandsFor g ring (does g (record { event = Fire v k; seen = seen }) s) (record a { chips = a.chips - k * a.degree; fired = a.fired + k; outs = os; pending = k * a.degree })
+      → StandsFor g (does g (record { event = Fire v k; seen = seen }) s) (record a { chips = a.chips - k * a.degree; fired = a.fired + k; outs = os; pending = k * a.degree })
   fires v k seen at may os change =
       let met = rules_met g (Fire v k) s may in
       let cost : k * a.degree ≡ k * degree g.graph v = (λ j. k * (stands.knows.degree ∙ ap (degree g.graph) (sym at)) j) in
@@ -401,8 +399,8 @@ module _ (g : ChipGame) (ring : ℕ) (s : Part) (a : Actor) (stands : StandsFor 
         chips = (λ j. stands.chips j - cost j);
         fired = ap (λ (n : ℕ). n + k) stands.fired;
         halt = stands.halt;
-        outs = λ i mine. change.each i (Rattle.chip_actor.proofs.Standing.among_outs g ring s a stands i mine) ∙ ap (out_after_fire k) (stands.outs i mine)
-            ∙ (λ j. let n : OutEnd = record { mult = mult_of g i; pending = sym (cond_yes (tail_of g i) v (k * mult_of g i) (s.out i).pending (mine ∙ sym at)) j; link = tail_state i ring (s.out i).link } in n);
+        outs = λ i mine. change.each i (Rattle.chip_actor.proofs.Standing.among_outs g s a stands i mine) ∙ ap (out_after_fire k) (stands.outs i mine)
+            ∙ (λ j. let n : OutEnd = record { mult = mult_of g i; pending = sym (cond_yes (tail_of g i) v (k * mult_of g i) (s.out i).pending (mine ∙ sym at)) j; link = tail_state i g.ring (s.out i).link } in n);
         ins = stands.ins;
         books = record { sound = stands.books.sound; parent = stands.books.parent; got = stands.books.got; acked = stands.books.acked; sent = stands.books.sent; settled = stands.books.settled };
         pending =

@@ -1,6 +1,6 @@
 -- What an actor finds in its own lists is what its part says.
-use Rattle.std.proofs.Common.{◌≡◌, ℕ, ◌<◌, Bool, true, false, not, cond, eqb, List, length, slice_index, Option, Some, None, is_some, option_map, refl, sym, ap, ◌∙◌, subst, arith}
-use Rattle.chip_graph.specs.ChipGame.{ChipGame}
+use Rattle.std.proofs.Common.{◌≡◌, ℕ, ◌<◌, Bool, true, false, not, cond, eqb, List, length, slice_index, Option, Some, None, is_some, option_to_list, option_map, refl, sym, ap, ◌∙◌, subst, arith}
+use Rattle.chip_actor.specs.Setting.{Setting}
 use Rattle.chip_link.specs.Ends.{claim_words, put_of}
 use Rattle.chip_detect.specs.Acknowledging as detector
 use Rattle.chip_actor.specs.Edges.{tail_of, head_of}
@@ -25,7 +25,11 @@ is_some_where : (b : Bool) (x : ℕ × ℕ) → is_some (cond b (Some x) None) �
 is_some_where true x = refl
 is_some_where false x = refl
 
-module _ (g : ChipGame) (ring : ℕ) (s : Part) (a : Actor) (stands : StandsFor g ring s a) where
+no_length : (o : Option ℕ) → length (option_to_list o) ≡ 0 → is_some o ≡ false
+no_length None none = refl
+no_length (Some x) none = absurd (omega arith)
+
+module _ (g : Setting) (s : Part) (a : Actor) (stands : StandsFor g s a) where
   pub held_is : (e : ℕ) → tail_of g e ≡ a.vertex → is_some (put_of (out_on a.outs e).link) ≡ is_some (s.out e).link.held
   held_is e at = ap (λ (o : OutEnd). is_some (put_of o.link)) (stands.outs e at) ∙ is_some_map (s.out e).link.held _
 
@@ -34,7 +38,7 @@ module _ (g : ChipGame) (ring : ℕ) (s : Part) (a : Actor) (stands : StandsFor 
 
   -- the edge at a place of those out of it
   pub out_at_place : (b : Actor) → b ≡ a → (place : ℕ) → place < length (outs_of g a.vertex)
-      → out_on b.outs (slice_index b.outs.edges place) ≡ out_end g ring (out_at g a.vertex place) (s.out (out_at g a.vertex place))
+      → out_on b.outs (slice_index b.outs.edges place) ≡ out_end g (out_at g a.vertex place) (s.out (out_at g a.vertex place))
   out_at_place b same place within =
       ap (λ (x : Actor). out_on x.outs (slice_index x.outs.edges place)) same ∙ ap (λ (xs : List ℕ). out_on a.outs (slice_index xs place)) stands.knows.outs
       ∙ stands.outs (out_at g a.vertex place) (out_leaves g a.vertex place within)
@@ -61,5 +65,18 @@ module _ (g : ChipGame) (ring : ℕ) (s : Part) (a : Actor) (stands : StandsFor 
   pub first_owed : (from : ℕ) (r : Option ℕ) → IsFirstFrom (λ e. not (eqb (detector.may_ack a.detect e (is_passive_now a)) 0)) a.ins.edges from r → IsFirstFrom (λ e. not (eqb (may_ack g (head_of g e) s e) 0)) (ins_of g a.vertex) from r
   first_owed from r first =
       first_same (λ e. not (eqb (detector.may_ack a.detect e (is_passive_now a)) 0)) (λ e. not (eqb (may_ack g (head_of g e) s e) 0)) (ins_of g a.vertex)
-      (λ k l. ap (λ (n : ℕ). not (eqb n 0)) (may_ack_is g ring s a stands _ (in_enters g a.vertex k l))) from r
+      (λ k l. ap (λ (n : ℕ). not (eqb n 0)) (may_ack_is g s a stands _ (in_enters g a.vertex k l))) from r
       (subst (λ (xs : List ℕ). IsFirstFrom (λ e. not (eqb (detector.may_ack a.detect e (is_passive_now a)) 0)) xs from r) stands.knows.ins first)
+
+  -- where nothing is claimed and not put, or nothing is pending, no edge has anything
+  pub none_held : a.unput ≡ 0 → (k : ℕ) → k < length (outs_of g a.vertex) → is_some (s.out (out_at g a.vertex k)).link.held ≡ false
+  none_held none k within =
+      let e : ℕ = out_at g a.vertex k in
+      let inside = Rattle.chip_actor.proofs.TurnSteps.out_inside g a.vertex k within in
+      no_length (s.out e).link.held (Rattle.chip_actor.proofs.PartLemmas.out_zero g a.vertex (λ i. length (option_to_list (s.out i).link.held)) (sym stands.unput ∙ none) e (omega arith) (out_leaves g a.vertex k within))
+
+  pub none_pending : a.pending ≡ 0 → (k : ℕ) → k < length (outs_of g a.vertex) → not (eqb (s.out (out_at g a.vertex k)).pending 0) ≡ false
+  none_pending none k within =
+      let e : ℕ = out_at g a.vertex k in
+      let inside = Rattle.chip_actor.proofs.TurnSteps.out_inside g a.vertex k within in
+      ap (λ (n : ℕ). not (eqb n 0)) (Rattle.chip_actor.proofs.PartLemmas.out_zero g a.vertex (λ i. (s.out i).pending) (sym stands.pending ∙ none) e (omega arith) (out_leaves g a.vertex k within))

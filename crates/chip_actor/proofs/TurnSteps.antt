@@ -7,7 +7,7 @@ use Rattle.std.proofs.lemmas.Bool.{not-true, eqb-false, and_parts, and_from}
 use mathlib.Core.Logic.{dite}
 use native.Mathlib.Decide.{ℕ_discrete, dec_lt}
 use Rattle.chip_graph.specs.Multigraph.{edge_at, edges_in, degree}
-use Rattle.chip_graph.specs.ChipGame.{ChipGame, IsGame}
+use Rattle.chip_actor.specs.Setting.{Setting, HasGame}
 use Rattle.chip_graph.proofs.SumLemmas.{cond_yes, cond_no, cond_true, cond_false, tested_none}
 use Rattle.chip_graph.proofs.PickLemmas.{All-picked}
 use Rattle.chip_graph.proofs.Walks.{degree_positive}
@@ -17,7 +17,7 @@ use Rattle.chip_actor.specs.declared.cursor.Cursor.TheVariants as At
 use Rattle.chip_actor.specs.Edges.{graph_edges, all_edges, root_edge, tail_of, head_of}
 use Rattle.chip_actor.specs.Part.{Part, Cause, is_running, may_ack, pending_of, unput, refusals, cause, is_legal}
 use Rattle.chip_actor.specs.Rules.{Event, Take, Ack, Fire, Clear, Claim, Put, Halt, Settle}
-use Rattle.chip_actor.specs.Steps.{Did, does}
+use Rattle.chip_actor.specs.Steps.{Step, does}
 use Rattle.chip_actor.specs.Turn.{nothing, either_phase, where_phase, and_then, each_phase, one_step, seeing, ins_of, outs_of, firing, may_fire, batch_of, putting, sending, sending_all, after_clear_phase, after_claim_phase, acknowledging, acknowledging_parent, last_acknowledgement, is_at_limit}
 use Rattle.chip_actor.specs.Cursor.{out_at, left, claiming, storing, from_firing, from_settling, from_putting, from_refusal, from_sending, from_limit, from_acknowledging, HoldsNothing, IsSending, IsAt, GoesBy}
 use Rattle.chip_actor.proofs.EdgeLemmas.{tail_graph, head_graph, head_root}
@@ -61,7 +61,7 @@ is_false false z = refl
 
 -- ---- the edges of a vertex
 
-module _ (g : ChipGame) (v : ℕ) where
+module _ (g : Setting) (v : ℕ) where
   pub out_inside : (place : ℕ) → place < length (outs_of g v) → out_at g v place < graph_edges g
   out_inside place within = All-picked (λ i. eqb (edge_at g.graph i).tail v) (graph_edges g) (graph_edges g) (omega arith) place 0 within
 
@@ -90,7 +90,7 @@ module _ (g : ChipGame) (v : ℕ) where
 
 -- ---- the phases
 
-module _ (g : ChipGame) (v : ℕ) (vertex : v < g.graph.vertices) (s : Part) where
+module _ (g : Setting) (v : ℕ) (vertex : v < g.graph.vertices) (s : Part) where
   inside : (e : ℕ) → tail_of g e ≡ v → e < graph_edges g
   inside e at = tail_inside g e (subst (λ (n : ℕ). n < g.graph.vertices) (sym at) vertex)
 
@@ -108,7 +108,7 @@ module _ (g : ChipGame) (v : ℕ) (vertex : v < g.graph.vertices) (s : Part) whe
   refused_some some = dite (dec_lt 0 (length (outs_of g v))) (λ l. l)
       (λ n. absurd (some (tested_none (all_edges g) (λ e. eqb (tail_of g e) v) (λ e. cond (s.out e).link.refused 1 0) (λ e l on. (let p = out_place g v vertex e (eqb-true _ _ on) in let a = p.1 in absurd (omega arith))))))
 
-  not_sink : IsGame g → (e : ℕ) → tail_of g e ≡ v → v ≢ g.graph.sink
+  not_sink : HasGame g → (e : ℕ) → tail_of g e ≡ v → v ≢ g.graph.sink
   not_sink game e at is = let l = inside e at in (game.graph_fits.edges_fit e l).not_from_sink (sym (tail_graph g e l) ∙ at ∙ is)
 
   cause_sealed : refusals g v s ≢ 0 → (c : Cause) × (cause g v s ≡ Some c)
@@ -150,7 +150,7 @@ module _ (g : ChipGame) (v : ℕ) (vertex : v < g.graph.vertices) (s : Part) whe
 
   -- the firing
 
-  pub may_fire_pays : IsGame g → may_fire g v s ≡ true → 0 < degree g.graph v
+  pub may_fire_pays : HasGame g → may_fire g v s ≡ true → 0 < degree g.graph v
   may_fire_pays game may =
       let legal = and_parts _ _ (and_parts _ _ (and_parts _ _ may).0).1 in
       degree_positive g.graph v (game.graph_fits.all_reach v vertex) (eqb-false _ _ (not-true _ legal.0)) (λ e l. (game.graph_fits.edges_fit e l).some_chips)
@@ -162,7 +162,7 @@ module _ (g : ChipGame) (v : ℕ) (vertex : v < g.graph.vertices) (s : Part) whe
   batch_paid : (chips cost left : ℕ) → min (chips / cost) left * cost ≤ chips
   batch_paid chips cost rest = le_trans (mul-le-mul_right cost (min-le_left (chips / cost) rest)) (div-mul-le_self chips cost)
 
-  pub fire_due : IsGame g → may_fire g v s ≡ true → GoesBy g v s At.Fire (Fire v (batch_of g v s)) (At.Put 0)
+  pub fire_due : HasGame g → may_fire g v s ≡ true → GoesBy g v s At.Fire (Fire v (batch_of g v s)) (At.Put 0)
   fire_due game may =
       let a = and_parts _ _ may in
       let b = and_parts _ _ a.0 in
@@ -234,7 +234,7 @@ module _ (g : ChipGame) (v : ℕ) (vertex : v < g.graph.vertices) (s : Part) whe
 
   -- a refusal that was noted before
 
-  pub refusal_due : IsGame g → HoldsNothing g v s → s.halt ≡ None → refusals g v s ≢ 0 → GoesBy g v s At.Refusal (Halt v) At.Limit
+  pub refusal_due : HasGame g → HoldsNothing g v s → s.halt ≡ None → refusals g v s ≢ 0 → GoesBy g v s At.Refusal (Halt v) At.Limit
   refusal_due game none runs some = record {
     mine = refl;
     met = met_rules g (Halt v) s (vertex, not_sink game (out_at g v 0) (out_leaves g v 0 (refused_some some)), runs, no_unput none, cause_sealed some);
@@ -283,7 +283,7 @@ module _ (g : ChipGame) (v : ℕ) (vertex : v < g.graph.vertices) (s : Part) whe
         );
         rest = λ seen ds after (front, m, back, is, claim, more).
             each_to (sending g v) (outs_of g v) (from_limit g v) place next from (omega arith) s (λ k a b. idle_send (out_at g v k) (none k a b)) _ after
-            (subst (λ (xs : List Did). and_then (each_phase (sending g v) (Rattle.std.proofs.Common.drop next (outs_of g v))) (from_limit g v) s (record { event = Clear e; seen = seen } ∷ xs) after) (sym is)
+            (subst (λ (xs : List Step). and_then (each_phase (sending g v) (Rattle.std.proofs.Common.drop next (outs_of g v))) (from_limit g v) s (record { event = Clear e; seen = seen } ∷ xs) after) (sym is)
             (each_more (sending g v) (outs_of g v) (from_limit g v) next within s m (record { event = Clear e; seen = seen } ∷ front) back after
             (where_yes (λ p. is_running p.halt && not (eqb (p.out e).pending 0)) (seeing g v (Clear e) (after_clear_phase g v e)) s _ m (and_from _ _ (ap is_running at.running) some) (
               seen,
@@ -293,6 +293,9 @@ module _ (g : ChipGame) (v : ℕ) (vertex : v < g.graph.vertices) (s : Part) whe
                   (ap (λ (t : Tail). t.clear) (cond_yes e e (after_clear seen (s.out e).link) (s.out e).link refl)) claim,
             )) more));
       }
+
+  pub sends_to : (place next : ℕ) → place ≤ next → next ≤ length (outs_of g v) → ((k : ℕ) → place ≤ k → k < next → not (eqb (s.out (out_at g v k)).pending 0) ≡ false) → Passes g v s (At.Send place) (At.Send next)
+  sends_to place next le within none = record { fewer = omega arith; rest = each_to (sending g v) (outs_of g v) (from_limit g v) place next le within s (λ k a b. idle_send (out_at g v k) (none k a b)) }
 
   pub sends_over : (place : ℕ) → ((k : ℕ) → place ≤ k → k < length (outs_of g v) → not (eqb (s.out (out_at g v k)).pending 0) ≡ false) → Passes g v s (At.Send place) At.Limit
   sends_over place none = record { fewer = omega arith; rest = each_none (sending g v) (outs_of g v) (from_limit g v) place s (λ k a b. idle_send (out_at g v k) (none k a b)) }
@@ -321,7 +324,7 @@ module _ (g : ChipGame) (v : ℕ) (vertex : v < g.graph.vertices) (s : Part) whe
           record { event = Claim e; seen = seen } ∷ front,
           m,
           back,
-          ap (λ (xs : List Did). record { event = Claim e; seen = seen } ∷ xs) is,
+          ap (λ (xs : List Step). record { event = Claim e; seen = seen } ∷ xs) is,
           where_yes (λ p. (p.out e).link.clear) (seeing g v (Claim e) (after_claim_phase g v e)) s _ m clear (
             seen,
             front,
@@ -363,7 +366,7 @@ module _ (g : ChipGame) (v : ℕ) (vertex : v < g.graph.vertices) (s : Part) whe
   halted_idle : (p : Part) → is_running p.halt ≡ false → (e : ℕ) → sending g v e p [] p
   halted_idle p halted e = where_no (λ q. is_running q.halt && not (eqb (q.out e).pending 0)) (seeing g v (Clear e) (after_clear_phase g v e)) p (λ j. halted j && not (eqb (p.out e).pending 0))
 
-  pub stop_due : IsGame g → (place : ℕ) → IsAt g v (At.Store place) s → is_some (s.out (out_at g v place)).link.held ≡ false → GoesBy g v s (At.Store place) (Halt v) At.Limit
+  pub stop_due : HasGame g → (place : ℕ) → IsAt g v (At.Store place) s → is_some (s.out (out_at g v place)).link.held ≡ false → GoesBy g v s (At.Store place) (Halt v) At.Limit
   stop_due game place (within, at) none =
       let e : ℕ = out_at g v place in
       let out = out_leaves g v place within in
@@ -423,6 +426,12 @@ module _ (g : ChipGame) (v : ℕ) (vertex : v < g.graph.vertices) (s : Part) whe
             (each_more (acknowledging g v) (ins_of g v) (last_acknowledgement g v) next within s (does g (record { event = Ack e; seen = seen }) s) (record { event = Ack e; seen = seen } ∷ []) ds after
             (where_yes (λ p. not (eqb (may_ack g (head_of g e) p e) 0)) (one_step g v (Ack e)) s _ _ some (seen, [], refl, (refl, refl))) h);
       }
+
+  pub acks_to : (place next : ℕ) → place ≤ next → next ≤ length (ins_of g v) → ((k : ℕ) → place ≤ k → k < next → not (eqb (may_ack g (head_of g (slice_index (ins_of g v) k)) s (slice_index (ins_of g v) k)) 0) ≡ false) → Passes g v s (At.Ack place) (At.Ack next)
+  acks_to place next le within none = record {
+    fewer = omega arith;
+    rest = each_to (acknowledging g v) (ins_of g v) (last_acknowledgement g v) place next le within s (λ k a b. where_no (λ p. not (eqb (may_ack g (head_of g (slice_index (ins_of g v) k)) p (slice_index (ins_of g v) k)) 0)) (one_step g v (Ack (slice_index (ins_of g v) k))) s (none k a b));
+  }
 
   pub acks_over : (place : ℕ) → ((k : ℕ) → place ≤ k → k < length (ins_of g v) → not (eqb (may_ack g (head_of g (slice_index (ins_of g v) k)) s (slice_index (ins_of g v) k)) 0) ≡ false) → Passes g v s (At.Ack place) At.Parent
   acks_over place none = record {

@@ -1,14 +1,14 @@
 -- The worked turns, phase by phase.
 use Rattle.std.proofs.Common.{List, [], ◌∷◌, refl}
-use Rattle.chip_graph.specs.ChipGame.{ChipGame}
+use Rattle.chip_actor.specs.Setting.{Setting}
 use Rattle.chip_actor.specs.Part.{Part, opened}
 use Rattle.chip_actor.specs.Rules.{Take, Fire, Clear, Claim, Put, Settle}
-use Rattle.chip_actor.specs.Steps.{Did, does, part_after}
-use Rattle.chip_actor.specs.Rows.{small_triangle, saw, FirstTurn, sent_in_part, TurnBegunInTheMiddle}
+use Rattle.chip_actor.specs.Steps.{Step, does, part_after}
+use Rattle.chip_actor.specs.Worked.{small_triangle, saw, FirstTurn, sent_in_part, TurnBegunInTheMiddle}
 
 first : FirstTurn
 first =
-    let g : ChipGame = small_triangle (4 ∷ 0 ∷ 0 ∷ []) in
+    let g : Setting = small_triangle (4 ∷ 0 ∷ 0 ∷ []) in
     let s0 : Part = opened g in
     let s1 : Part = does g (saw (Take 2) 0) s0 in
     let s2 : Part = does g (saw (Take 4) 4) s1 in
@@ -21,9 +21,9 @@ first =
     let s9 : Part = does g (saw (Clear 1) 0) s8 in
     let s10 : Part = does g (saw (Claim 1) 0) s9 in
     let s11 : Part = does g (saw (Put 1) 0) s10 in
-    let d5 : List Did = saw (Clear 1) 0 ∷ saw (Claim 1) 0 ∷ saw (Put 1) 0 ∷ [] in
-    let d4 : List Did = saw (Clear 0) 0 ∷ saw (Claim 0) 0 ∷ saw (Put 0) 0 ∷ [] in
-    let sends : List Did = saw (Clear 0) 0 ∷ saw (Claim 0) 0 ∷ saw (Put 0) 0 ∷ saw (Clear 1) 0 ∷ saw (Claim 1) 0 ∷ saw (Put 1) 0 ∷ [] in (
+    let d5 : List Step = saw (Clear 1) 0 ∷ saw (Claim 1) 0 ∷ saw (Put 1) 0 ∷ [] in
+    let d4 : List Step = saw (Clear 0) 0 ∷ saw (Claim 0) 0 ∷ saw (Put 0) 0 ∷ [] in
+    let sends : List Step = saw (Clear 0) 0 ∷ saw (Claim 0) 0 ∷ saw (Put 0) 0 ∷ saw (Clear 1) 0 ∷ saw (Claim 1) 0 ∷ saw (Put 1) 0 ∷ [] in (
       (
         s11,
         (
@@ -82,7 +82,7 @@ first =
 
 second : TurnBegunInTheMiddle
 second =
-    let g : ChipGame = small_triangle (6 ∷ 0 ∷ 0 ∷ []) in
+    let g : Setting = small_triangle (6 ∷ 0 ∷ 0 ∷ []) in
     let s0 : Part = part_after g (opened g) sent_in_part in
     let s1 : Part = does g (saw (Take 2) 0) s0 in
     let s2 : Part = does g (saw (Take 4) 0) s1 in

@@ -3,7 +3,7 @@ use Rattle.std.specs.Prelude.{◌≡◌, ◌≢◌, ℕ, ◌+◌, ◌-◌, ◌%�
 use Rattle.chip_actor.specs.declared.act.Act.{Act}
 use Rattle.chip_actor.specs.declared.act.Act.TheVariants as Do
 pub use Rattle.chip_actor.specs.declared.act.Observed.{Observed}
-use Rattle.chip_graph.specs.ChipGame.{ChipGame}
+use Rattle.chip_actor.specs.Setting.{Setting}
 use Rattle.chip_link.specs.Words.{claims_in}
 use Rattle.chip_link.specs.Link.{claims_of}
 use Rattle.chip_detect.specs.Tally.{message_limit}
@@ -15,17 +15,17 @@ use Rattle.chip_actor.specs.Actor.{Actor, WhateverPart, StandsFor}
 
 -- the operation that an event of a vertex needs, where its rules are met. A message with place p stands in cell p % ring, and the one
 -- that is claimed and not put has the last place. A seal and a read are no operations of a vertex
-abbrev pub act_of : ChipGame → ℕ → Event → Part → Act
-act_of g ring (Take e) s = Do.Take e (length (s.into e).got % ring)
-act_of g ring (Ack e) s = Do.Ack e (may_ack g (head_of g e) s e)
-act_of g ring (Fire v k) s = Do.Fire k
-act_of g ring (Clear e) s = Do.Clear e (claims_of (s.out e).link % ring)
-act_of g ring (Claim e) s = Do.Claim e (claims_of (s.out e).link) (claims_of (s.out e).link + 1)
-act_of g ring (Put e) s = Do.Put e ((claims_of (s.out e).link - 1) % ring) (sum (option_to_list (s.out e).link.held))
-act_of g ring (Halt v) s = Do.Halt (is_by_limit (cause g v s))
-act_of g ring (Settle e) s = Do.Settle e
-act_of g ring (Seal e) s = Do.End
-act_of g ring (Read v) s = Do.End
+abbrev pub act_of : Setting → Event → Part → Act
+act_of g (Take e) s = Do.Take e (length (s.into e).got % g.ring)
+act_of g (Ack e) s = Do.Ack e (may_ack g (head_of g e) s e)
+act_of g (Fire v k) s = Do.Fire k
+act_of g (Clear e) s = Do.Clear e (claims_of (s.out e).link % g.ring)
+act_of g (Claim e) s = Do.Claim e (claims_of (s.out e).link) (claims_of (s.out e).link + 1)
+act_of g (Put e) s = Do.Put e ((claims_of (s.out e).link - 1) % g.ring) (sum (option_to_list (s.out e).link.held))
+act_of g (Halt v) s = Do.Halt (is_by_limit (cause g v s))
+act_of g (Settle e) s = Do.Settle e
+act_of g (Seal e) s = Do.End
+act_of g (Read v) s = Do.End
 
 -- the event that an operation of the vertex v makes. `End` is none: it is given an event that no vertex makes
 abbrev pub event_of : ℕ → Act → Event
@@ -53,14 +53,14 @@ FitsSeen s (Settle e) seen = ((s.out e).settled ≤ seen) × (seen ≤ claims_of
 FitsSeen s _ seen = Unit {0}
 
 -- the vertex v may make this event, and may have seen this
-abbrev pub CanDo : ChipGame → Part → ℕ → Event → ℕ → Type 0
+abbrev pub CanDo : Setting → Part → ℕ → Event → ℕ → Type 0
 CanDo g s v x seen = (part_of g x ≡ v) × (unmet g x s ≡ None) × FitsSeen s x seen
 
 -- an operation that `may` gave, with a word that it may have seen
-abbrev pub IsDue : ChipGame → ℕ → Part → ℕ → Observed → Type 0
-IsDue g ring s v o = CanDo g s v (event_of v o.act) o.seen × (o.act ≡ act_of g ring (event_of v o.act) s)
+abbrev pub IsDue : Setting → Part → ℕ → Observed → Type 0
+IsDue g s v o = CanDo g s v (event_of v o.act) o.seen × (o.act ≡ act_of g (event_of v o.act) s)
 
 -- the actor made this event and answered this: whatever part it stood for, it stands for that part after the event, at the same vertex
 abbrev pub Makes : Actor → Actor → Event → ℕ → Reply → Type 0
 Makes old new x seen reply =
-    WhateverPart old (λ g ring s. CanDo g s old.vertex x seen → StandsFor g ring (does g (record { event = x; seen = seen }) s) new × (reply ≡ reply_of g x seen s) × (new.vertex ≡ old.vertex))
+    WhateverPart old (λ g s. CanDo g s old.vertex x seen → StandsFor g (does g (record { event = x; seen = seen }) s) new × (reply ≡ reply_of g x seen s) × (new.vertex ≡ old.vertex))

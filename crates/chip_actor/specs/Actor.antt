@@ -1,7 +1,7 @@
 -- A running actor, and when it stands for a part of the core.
 use Rattle.std.specs.Prelude.{◌≡◌, ℕ, ◌^◌, ◌<◌, ◌≤◌, Bool, not, ◌&&◌, ◌||◌, nat_le, is_some, ◌==◌, [], ◌∷◌, ◌++◌, length, Option}
 use Rattle.chip_graph.specs.Multigraph.{edges_out, edges_in, degree}
-use Rattle.chip_graph.specs.ChipGame.{ChipGame, IsGame}
+use Rattle.chip_actor.specs.Setting.{Setting, IsSetting}
 use Rattle.chip_link.specs.Link.{claims_of, tail_state, head_state}
 use Rattle.chip_detect.specs.Books.{Books, IsSound, in_edges, out_edges, got_of, acked_of, sent_of, settled_of}
 use Rattle.chip_actor.specs.Edges.{root_edge, tail_of, head_of, mult_of}
@@ -27,14 +27,12 @@ pub record Actor : Type 0 where
   pub refused : ℕ
 
 -- the edge e as its tail keeps it at run time
-abbrev pub out_end : ChipGame → ℕ → ℕ → Out → OutEnd
-out_end g ring e o = record { mult = mult_of g e; pending = o.pending; link = tail_state e ring o.link }
+abbrev pub out_end : Setting → ℕ → Out → OutEnd
+out_end g e o = record { mult = mult_of g e; pending = o.pending; link = tail_state e g.ring o.link }
 
 -- the actor knows the game of its vertex
-pub record KnowsGame (g : ChipGame) (ring : ℕ) (a : Actor) : Type 0 where
-  pub game : IsGame g
-  pub some_ring : 0 < ring
-  pub small_ring : ring ≤ 64
+pub record KnowsGame (g : Setting) (a : Actor) : Type 0 where
+  pub setting : IsSetting g
   pub vertex : a.vertex < g.graph.vertices
   pub is_sink : a.is_sink ≡ (a.vertex == g.graph.sink)
   pub degree : a.degree ≡ degree g.graph a.vertex
@@ -45,7 +43,7 @@ pub record KnowsGame (g : ChipGame) (ring : ℕ) (a : Actor) : Type 0 where
   pub detect_ins : in_edges a.detect ≡ edges_in g.graph a.vertex ++ root_edge g a.vertex ∷ []
 
 -- the actor's books of the detector say what the part says
-pub record KeepsBooks (g : ChipGame) (s : Part) (v : ℕ) (b : Books) : Type 0 where
+pub record KeepsBooks (g : Setting) (s : Part) (v : ℕ) (b : Books) : Type 0 where
   pub sound : IsSound b
   pub parent : b.parent ≡ s.parent
   pub got : (e : ℕ) → head_of g e ≡ v → got_of b e ≡ length (s.into e).got
@@ -54,28 +52,28 @@ pub record KeepsBooks (g : ChipGame) (s : Part) (v : ℕ) (b : Books) : Type 0 w
   pub settled : (e : ℕ) → tail_of g e ≡ v → settled_of b e ≡ (s.out e).settled
 
 -- the actor stands for the part s of its vertex: it keeps of every edge what the part says
-pub record StandsFor (g : ChipGame) (ring : ℕ) (s : Part) (a : Actor) : Type 0 where
-  pub knows : KnowsGame g ring a
+pub record StandsFor (g : Setting) (s : Part) (a : Actor) : Type 0 where
+  pub knows : KnowsGame g a
   pub kept : KeepsPart g a.vertex s
   pub few_chips : s.chips ≤ 2 ^ 40
   pub few_pending : a.pending ≤ 2 ^ 40
   pub chips : a.chips ≡ s.chips
   pub fired : a.fired ≡ s.fired
   pub halt : a.halt ≡ s.halt
-  pub outs : (e : ℕ) → tail_of g e ≡ a.vertex → out_on a.outs e ≡ out_end g ring e (s.out e)
-  pub ins : (e : ℕ) → head_of g e ≡ a.vertex → in_on a.ins e ≡ head_state e ring (s.into e).got
+  pub outs : (e : ℕ) → tail_of g e ≡ a.vertex → out_on a.outs e ≡ out_end g e (s.out e)
+  pub ins : (e : ℕ) → head_of g e ≡ a.vertex → in_on a.ins e ≡ head_state e g.ring (s.into e).got
   pub books : KeepsBooks g s a.vertex a.detect
   pub pending : a.pending ≡ pending_of g a.vertex s
   pub unput : a.unput ≡ unput g a.vertex s
   pub refused : a.refused ≡ refusals g a.vertex s
 
 -- whatever part an actor stands for
-abbrev pub WhateverPart : Actor → (ChipGame → ℕ → Part → Type 0) → Type 0
-WhateverPart a P = (g : ChipGame) (ring : ℕ) (s : Part) → StandsFor g ring s a → P g ring s
+abbrev pub WhateverPart : Actor → (Setting → Part → Type 0) → Type 0
+WhateverPart a P = (g : Setting) (s : Part) → StandsFor g s a → P g s
 
 -- it stands for some part, of which this holds
-abbrev pub SomePart : Actor → (ChipGame → ℕ → Part → Type 0) → Type 0
-SomePart a P = (g : ChipGame) × (ring : ℕ) × (s : Part) × StandsFor g ring s a × P g ring s
+abbrev pub SomePart : Actor → (Setting → Part → Type 0) → Type 0
+SomePart a P = (g : Setting) × (s : Part) × StandsFor g s a × P g s
 
 -- what the actor makes of its own numbers: it is legal, and it is passive
 abbrev pub is_legal_now : Actor → Bool

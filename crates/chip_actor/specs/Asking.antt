@@ -3,7 +3,8 @@
 use Rattle.std.specs.Prelude.{◌≡◌, ℕ, ◌+◌, ◌-◌, ◌^◌, Bool, true, ◌&&◌, ◌||◌, ◌==◌, nat_lt, nat_le, List, [], ◌∷◌, length, map, is_some}
 use Rattle.chip_graph.specs.declared.edge.Edge.{Edge}
 use Rattle.chip_graph.specs.ChipGame.{ChipGame}
-use Rattle.chip_actor.specs.Rows.{edge}
+use Rattle.chip_actor.specs.Setting.{Setting}
+use Rattle.chip_actor.specs.Worked.{edge}
 use Rattle.chip_link.specs.Words.{claims_in}
 use Rattle.chip_link.specs.Link.{claims_of}
 use Rattle.chip_detect.specs.Tally.{message_limit}
@@ -22,25 +23,25 @@ fits_seen s (Settle e) seen = nat_le (s.out e).settled seen && nat_le seen (clai
 fits_seen s _ seen = true
 
 -- the vertex may be asked for this event, and where it makes it, it may see this
-abbrev pub may_ask : ChipGame → ℕ → Part → Event → ℕ → Bool
+abbrev pub may_ask : Setting → ℕ → Part → Event → ℕ → Bool
 may_ask g v s x seen = part_of g x == v && (is_some (unmet g x s) || fits_seen s x seen)
 
 -- these operations may see what stands beside them, one after another
-abbrev pub may_see_all : ChipGame → ℕ → Part → List (Act × ℕ) → Bool
+abbrev pub may_see_all : Setting → ℕ → Part → List (Act × ℕ) → Bool
 may_see_all g v s [] = true
 may_see_all g v s (o ∷ os) = fits_seen s (event_of v o.0) o.1 && may_see_all g v (does g (record { event = event_of v o.0; seen = o.1 }) s) os
 
 -- the vertex may be asked for one event after another, and make these operations then. Beside each event stands what it sees, and the
 -- reply that is hoped for
-abbrev pub may_play : ChipGame → ℕ → Part → List (Event × ℕ × Reply) → List (Act × ℕ) → Bool
+abbrev pub may_play : Setting → ℕ → Part → List (Event × ℕ × Reply) → List (Act × ℕ) → Bool
 may_play g v s [] turn = may_see_all g v s turn
 may_play g v s (x ∷ xs) turn = may_ask g v s x.0 x.1 && may_play g v (asked g (record { event = x.0; seen = x.1 }) s (unmet g x.0 s)).0 xs turn
 
 -- the actor answered so: whatever part it stood for, it stands for that part after the question, at the same vertex
 abbrev pub Answers : Actor → Actor → Event → ℕ → Reply → Type 0
 Answers old new x seen reply =
-    WhateverPart old (λ g ring s. may_ask g old.vertex s x seen ≡ true
-    → StandsFor g ring (asked g (record { event = x; seen = seen }) s (unmet g x s)).0 new × (reply ≡ (asked g (record { event = x; seen = seen }) s (unmet g x s)).1) × (new.vertex ≡ old.vertex))
+    WhateverPart old (λ g s. may_ask g old.vertex s x seen ≡ true
+    → StandsFor g (asked g (record { event = x; seen = seen }) s (unmet g x s)).0 new × (reply ≡ (asked g (record { event = x; seen = seen }) s (unmet g x s)).1) × (new.vertex ≡ old.vertex))
 
 -- the game on edges with these ends, which send one chip for each firing. The sink is the last vertex
 abbrev pub edge_of : ℕ × ℕ → Edge

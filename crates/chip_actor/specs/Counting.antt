@@ -1,8 +1,8 @@
 -- Which steps of a turn count as work.
 use Rattle.std.specs.Prelude.{ℕ, ◌+◌, Bool, true, false, nat_lt, if◌then◌else◌, List, [], ◌∷◌}
-use Rattle.chip_graph.specs.ChipGame.{ChipGame}
+use Rattle.chip_actor.specs.Setting.{Setting}
 use Rattle.chip_actor.specs.Part.{Part}
-use Rattle.chip_actor.specs.Steps.{Did, does, reply_of}
+use Rattle.chip_actor.specs.Steps.{Step, does, reply_of}
 use Rattle.chip_actor.specs.Acting.{act_of}
 use Rattle.chip_actor.specs.declared.act.Act.{Act}
 use Rattle.chip_actor.specs.declared.act.Act.TheVariants as Do
@@ -37,6 +37,6 @@ is_work (Do.Ack e count) reply = true
 is_work Do.End reply = false
 
 -- how many of these steps count, from a part on
-abbrev pub work_of : ChipGame → ℕ → Part → List Did → ℕ
-work_of g ring s [] = 0
-work_of g ring s (x ∷ xs) = (if is_work (act_of g ring x.event s) (reply_of g x.event x.seen s) then 1 else 0) + work_of g ring (does g x s) xs
+abbrev pub work_of : Setting → Part → List Step → ℕ
+work_of g s [] = 0
+work_of g s (x ∷ xs) = (if is_work (act_of g x.event s) (reply_of g x.event x.seen s) then 1 else 0) + work_of g (does g x s) xs

@@ -4,17 +4,17 @@ pub use Rattle.chip_actor.specs.declared.cursor.Cursor.{Cursor}
 use Rattle.chip_actor.specs.declared.cursor.Cursor.TheVariants as At
 use Rattle.chip_actor.specs.declared.act.Act.{Act}
 use Rattle.chip_actor.specs.declared.act.Act.TheVariants as Do
-use Rattle.chip_graph.specs.ChipGame.{ChipGame}
+use Rattle.chip_actor.specs.Setting.{Setting}
 use Rattle.chip_actor.specs.Edges.{tail_of}
 use Rattle.chip_actor.specs.Part.{Part}
 use Rattle.chip_actor.specs.Rules.{Event, Take, Claim, Put, Halt, Settle, unmet}
-use Rattle.chip_actor.specs.Steps.{Did, part_of, does}
+use Rattle.chip_actor.specs.Steps.{Step, part_of, does}
 use Rattle.chip_actor.specs.Acting.{act_of, event_of}
 use Rattle.chip_actor.specs.Kept.{KeepsPart}
 use Rattle.chip_actor.specs.Actor.{Actor, WhateverPart, SomePart}
 use Rattle.chip_actor.specs.Turn.{Phase, nothing, either_phase, where_phase, and_then, each_phase, ins_of, outs_of, seeing, one_step, firing, after_claim_phase, sending, putting, sending_all, is_at_limit, acknowledging, last_acknowledgement, turn}
 
-module _ (g : ChipGame) (v : ℕ) where
+module _ (g : Setting) (v : ℕ) where
   -- the edge at a place of those out of the vertex
   abbrev pub out_at : ℕ → ℕ
   out_at place = slice_index (outs_of g v) place
@@ -111,64 +111,64 @@ most_left i o At.Parent = 1
 most_left i o At.Over = 0
 
 -- the same by the edges of the vertex v
-abbrev pub fuel : ChipGame → ℕ → Cursor → ℕ
+abbrev pub fuel : Setting → ℕ → Cursor → ℕ
 fuel g v = most_left (length (ins_of g v)) (length (outs_of g v))
 
 -- a turn of v that began from the part `first` stands at this cursor, after these operations with what each saw, with the part s
-pub record IsUnderWay (g : ChipGame) (v : ℕ) (first : Part) (done : List Did) (cursor : Cursor) (s : Part) : Type 0 where
+pub record IsUnderWay (g : Setting) (v : ℕ) (first : Part) (done : List Step) (cursor : Cursor) (s : Part) : Type 0 where
   pub fits : IsAt g v cursor s
   -- with what is left, they are a turn
-  pub rest : (ds : List Did) (after : Part) → left g v cursor s ds after → turn g v first (done ++ ds) after
+  pub rest : (ds : List Step) (after : Part) → left g v cursor s ds after → turn g v first (done ++ ds) after
 
 -- the operation is the next one of a turn: it is of an event of v whose rules are met, and whatever it sees the turn goes on at the next
 -- cursor, where fewer operations are left
-pub record IsNext (g : ChipGame) (ring v : ℕ) (first : Part) (done : List Did) (s : Part) (cursor : Cursor) (act : Act) (next : Cursor) : Type 0 where
+pub record IsNext (g : Setting) (v : ℕ) (first : Part) (done : List Step) (s : Part) (cursor : Cursor) (act : Act) (next : Cursor) : Type 0 where
   pub mine : part_of g (event_of v act) ≡ v
   pub met : unmet g (event_of v act) s ≡ None
-  pub needed : act ≡ act_of g ring (event_of v act) s
+  pub needed : act ≡ act_of g (event_of v act) s
   pub fewer : fuel g v next < fuel g v cursor
   pub goes_on : (seen : ℕ)
       → IsUnderWay g v first (done ++ record { event = event_of v act; seen = seen } ∷ []) next (does g (record { event = event_of v act; seen = seen }) s)
 
 -- the answer at a cursor of a turn that is under way: nothing more where the operations are a turn, else the next operation of it
-pub record Continues (g : ChipGame) (ring v : ℕ) (s : Part) (cursor : Cursor) (act : Act) (next : Cursor) : Type 0 where
-  pub ends : act ≡ Do.End → (first : Part) (done : List Did) → IsUnderWay g v first done cursor s → turn g v first done s
-  pub steps : act ≢ Do.End → (first : Part) (done : List Did) → IsUnderWay g v first done cursor s → IsNext g ring v first done s cursor act next
+pub record Continues (g : Setting) (v : ℕ) (s : Part) (cursor : Cursor) (act : Act) (next : Cursor) : Type 0 where
+  pub ends : act ≡ Do.End → (first : Part) (done : List Step) → IsUnderWay g v first done cursor s → turn g v first done s
+  pub steps : act ≢ Do.End → (first : Part) (done : List Step) → IsUnderWay g v first done cursor s → IsNext g v first done s cursor act next
 
 -- some turn is under way at this cursor
 abbrev pub StandsAt : Actor → Cursor → Type 0
-StandsAt a cursor = SomePart a (λ g ring s. (first : Part) × (done : List Did) × IsUnderWay g a.vertex first done cursor s)
+StandsAt a cursor = SomePart a (λ g s. (first : Part) × (done : List Step) × IsUnderWay g a.vertex first done cursor s)
 
 -- whatever turn is under way at this cursor, it goes on so
 abbrev pub TurnContinues : Actor → Cursor → Act → Cursor → Type 0
-TurnContinues a cursor act next = WhateverPart a (λ g ring s. Continues g ring a.vertex s cursor act next)
+TurnContinues a cursor act next = WhateverPart a (λ g s. Continues g a.vertex s cursor act next)
 
 -- every turn begins at this cursor
 abbrev pub Begins : Cursor → Type 0
-Begins cursor = (g : ChipGame) (v : ℕ) (s : Part) → IsUnderWay g v s [] cursor s
+Begins cursor = (g : Setting) (v : ℕ) (s : Part) → IsUnderWay g v s [] cursor s
 
 -- ---- for the phases one by one
 
 -- an event after which a turn goes on at the next cursor
-pub record GoesBy (g : ChipGame) (v : ℕ) (s : Part) (cursor : Cursor) (x : Event) (next : Cursor) : Type 0 where
+pub record GoesBy (g : Setting) (v : ℕ) (s : Part) (cursor : Cursor) (x : Event) (next : Cursor) : Type 0 where
   pub mine : part_of g x ≡ v
   pub met : unmet g x s ≡ None
   pub fewer : fuel g v next < fuel g v cursor
   pub fits : (seen : ℕ) → IsAt g v next (does g (record { event = x; seen = seen }) s)
-  pub rest : (seen : ℕ) (ds : List Did) (after : Part)
+  pub rest : (seen : ℕ) (ds : List Step) (after : Part)
       → left g v next (does g (record { event = x; seen = seen }) s) ds after → left g v cursor s (record { event = x; seen = seen } ∷ ds) after
 
 -- what is due at a cursor, with the cursor after it: nothing where nothing is left
-abbrev pub IsDueAt : ChipGame → ℕ → Part → Cursor → Option (Event × Cursor) → Type 0
+abbrev pub IsDueAt : Setting → ℕ → Part → Cursor → Option (Event × Cursor) → Type 0
 IsDueAt g v s cursor None = left g v cursor s [] s
 IsDueAt g v s cursor (Some due) = GoesBy g v s cursor due.0 due.1
 
 -- the same of whatever part the actor stands for
 abbrev pub DueAt : Actor → Cursor → Option (Event × Cursor) → Type 0
-DueAt a cursor due = WhateverPart a (λ g ring s. IsAt g a.vertex cursor s → IsDueAt g a.vertex s cursor due)
+DueAt a cursor due = WhateverPart a (λ g s. IsAt g a.vertex cursor s → IsDueAt g a.vertex s cursor due)
 
 abbrev pub MayBeAt : Actor → Cursor → Type 0
-MayBeAt a cursor = SomePart a (λ g ring s. IsAt g a.vertex cursor s)
+MayBeAt a cursor = SomePart a (λ g s. IsAt g a.vertex cursor s)
 
 -- the first place from `from` on with an element that passes the test, where there is one
 abbrev pub IsFirstFrom : (ℕ → Bool) → List ℕ → ℕ → Option ℕ → Type 0
@@ -178,5 +178,5 @@ IsFirstFrom test xs from (Some i) = (from ≤ i) × (i < length xs) × (test (sl
 -- a turn that is under way has made no more operations than a whole turn may have
 abbrev pub UnderWayIsBounded : Type 0
 UnderWayIsBounded =
-    (g : ChipGame) (v : ℕ) → v < g.graph.vertices → (first : Part) → KeepsPart g v first → (done : List Did) (cursor : Cursor) (s : Part) → IsUnderWay g v first done cursor s
+    (g : Setting) (v : ℕ) → v < g.graph.vertices → (first : Part) → KeepsPart g v first → (done : List Step) (cursor : Cursor) (s : Part) → IsUnderWay g v first done cursor s
     → length done ≤ (2 * length (ins_of g v) + 4 * length (outs_of g v)) + 3

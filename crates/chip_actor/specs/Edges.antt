@@ -2,53 +2,53 @@
 -- first chips. The root and the stopper are numbers beside the vertices. All functions are total.
 use Rattle.std.specs.Prelude.{ℕ, ◌+◌, ◌-◌, ◌*◌, ◌==◌, nat_lt, if◌then◌else◌, length, slice_index}
 use Rattle.chip_graph.specs.Multigraph.{edge_at}
-use Rattle.chip_graph.specs.ChipGame.{ChipGame}
+use Rattle.chip_actor.specs.Setting.{Setting}
 use Rattle.chip_graph.specs.Sums.{sum_below}
 
 -- how many edges the graph has
-abbrev pub graph_edges : ChipGame → ℕ
+abbrev pub graph_edges : Setting → ℕ
 graph_edges g = length g.graph.edges
 
 -- how many edges there are with the root's
-abbrev pub all_edges : ChipGame → ℕ
+abbrev pub all_edges : Setting → ℕ
 all_edges g = length g.graph.edges + g.graph.vertices
 
 -- the root, as the tail of the root edges
-abbrev pub root : ChipGame → ℕ
+abbrev pub root : Setting → ℕ
 root g = g.graph.vertices
 
 -- the stopper, who seals edges
-abbrev pub stopper : ChipGame → ℕ
+abbrev pub stopper : Setting → ℕ
 stopper g = g.graph.vertices + 1
 
 -- the edge from the root to v
-abbrev pub root_edge : ChipGame → ℕ → ℕ
+abbrev pub root_edge : Setting → ℕ → ℕ
 root_edge g v = length g.graph.edges + v
 
 -- who sends on e
-abbrev pub tail_of : ChipGame → ℕ → ℕ
+abbrev pub tail_of : Setting → ℕ → ℕ
 tail_of g e = if nat_lt e (length g.graph.edges) then (edge_at g.graph e).tail else g.graph.vertices
 
 -- who gets what is sent on e
-abbrev pub head_of : ChipGame → ℕ → ℕ
+abbrev pub head_of : Setting → ℕ → ℕ
 head_of g e = if nat_lt e (length g.graph.edges) then (edge_at g.graph e).head else e - length g.graph.edges
 
 -- the chips that one firing of its tail sends along e, 0 for a root edge
-abbrev pub mult_of : ChipGame → ℕ → ℕ
+abbrev pub mult_of : Setting → ℕ → ℕ
 mult_of g e = (edge_at g.graph e).mult
 
 -- the chips of v at the start
-abbrev pub start_of : ChipGame → ℕ → ℕ
+abbrev pub start_of : Setting → ℕ → ℕ
 start_of g v = slice_index g.start v
 
 -- the sum of f over all edges out of v
-abbrev pub over_outs : ChipGame → ℕ → (ℕ → ℕ) → ℕ
+abbrev pub over_outs : Setting → ℕ → (ℕ → ℕ) → ℕ
 over_outs g v f = sum_below (all_edges g) (λ e. if tail_of g e == v then f e else 0)
 
 -- the sum of f over all edges into v, its root edge among them
-abbrev pub over_ins : ChipGame → ℕ → (ℕ → ℕ) → ℕ
+abbrev pub over_ins : Setting → ℕ → (ℕ → ℕ) → ℕ
 over_ins g v f = sum_below (all_edges g) (λ e. if head_of g e == v then f e else 0)
 
 -- the chips that ever went into e, where its tail fired so often: on a root edge the start of its head
-abbrev pub made : ChipGame → ℕ → ℕ → ℕ
+abbrev pub made : Setting → ℕ → ℕ → ℕ
 made g e fired = if nat_lt e (length g.graph.edges) then mult_of g e * fired else start_of g (e - length g.graph.edges)

@@ -1,7 +1,7 @@
 -- What every part keeps by its own events, whatever these see: the ground of all that is proved of the whole core.
 use Rattle.std.specs.Prelude.{◌≡◌, ◌≢◌, ℕ, ◌+◌, ◌*◌, ◌<◌, ◌≤◌, true, false, Some, None, length, sum, option_to_list}
 use Rattle.chip_graph.specs.Multigraph.{degree}
-use Rattle.chip_graph.specs.ChipGame.{ChipGame}
+use Rattle.chip_actor.specs.Setting.{Setting}
 use Rattle.chip_link.specs.Link.{Tail, claims_of}
 use Rattle.chip_actor.specs.declared.cause.Cause.TheVariants.{FiringLimit}
 use Rattle.chip_actor.specs.Edges.{graph_edges, all_edges, tail_of, head_of, over_ins, made, root}
@@ -9,7 +9,7 @@ use Rattle.chip_actor.specs.Part.{Part, Cause, owed, may_ack, pending_of, unput,
 use Rattle.chip_actor.specs.Rules.{Event, Take, Ack, Fire, Clear, Claim, Put, Halt, Settle, Seal, Read}
 
 -- the rules of an event in plain facts
-abbrev pub Met : ChipGame → Event → Part → Type 0
+abbrev pub Met : Setting → Event → Part → Type 0
 Met g (Take e) s = e < all_edges g
 Met g (Ack e) s = (e < all_edges g) × (0 < owed (s.into e)) × (0 < may_ack g (head_of g e) s e)
 Met g (Fire v k) s =
@@ -23,14 +23,14 @@ Met g (Seal e) s = e < graph_edges g
 Met g (Read v) s = (v < g.graph.vertices) × (deficit g (root g) s ≡ 0)
 
 -- a vertex that the detector leaves out
-pub record IsNeutral (g : ChipGame) (v : ℕ) (s : Part) : Type 0 where
+pub record IsNeutral (g : Setting) (v : ℕ) (s : Part) : Type 0 where
   pub no_parent : s.parent ≡ None
   pub passive : is_passive g v s ≡ true
   pub nothing_owed : all_owed g v s ≡ 0
   pub no_deficit : deficit g v s ≡ 0
 
 -- what a part keeps of an edge out of it. What is said of notes and of what is pending is said of graph edges alone
-pub record KeepsOut (g : ChipGame) (e : ℕ) (t : Tail) (pending fired : ℕ) : Type 0 where
+pub record KeepsOut (g : Setting) (e : ℕ) (t : Tail) (pending fired : ℕ) : Type 0 where
   -- what was put, what is claimed and what is pending is what the firings made
   pub all_made : (sum t.put + sum (option_to_list t.held)) + pending ≡ made g e fired
   -- there is a firing for each message, and one more while something is pending
@@ -45,7 +45,7 @@ pub record KeepsOut (g : ChipGame) (e : ℕ) (t : Tail) (pending fired : ℕ) : 
   pub root_idle : graph_edges g ≤ e → pending ≡ 0
 
 -- what the part p keeps
-pub record KeepsPart (g : ChipGame) (p : ℕ) (s : Part) : Type 0 where
+pub record KeepsPart (g : Setting) (p : ℕ) (s : Part) : Type 0 where
   pub outs : (e : ℕ) → tail_of g e ≡ p → KeepsOut g e (s.out e).link (s.out e).pending s.fired
   -- what it took is what it has and what it fired
   pub chips_are : s.chips + degree g.graph p * s.fired ≡ over_ins g p (λ e. sum (s.into e).got)

@@ -1,4 +1,5 @@
 pub mod Numbers
+pub mod Setting
 pub mod Edges
 pub mod Part
 pub mod Rules
@@ -7,9 +8,11 @@ pub mod Kept
 pub mod Ends
 pub mod Actor
 pub mod Acting
+pub mod Root
 pub mod Turn
 pub mod Cursor
 pub mod Counting
-pub mod Rows
+pub mod Medium
+pub mod Worked
 pub mod Asking
 pub mod Laws

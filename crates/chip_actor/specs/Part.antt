@@ -4,7 +4,7 @@ use Rattle.std.specs.Prelude.{ℕ, ◌-◌, Bool, true, false, not, ◌&&◌, �
 pub use Rattle.chip_actor.specs.declared.cause.Cause.{Cause}
 use Rattle.chip_actor.specs.declared.cause.Cause.TheVariants.{SealedEdge, FiringLimit}
 use Rattle.chip_graph.specs.Multigraph.{degree}
-use Rattle.chip_graph.specs.ChipGame.{ChipGame}
+use Rattle.chip_actor.specs.Setting.{Setting}
 use Rattle.chip_link.specs.Link.{Tail, claims_of}
 use Rattle.chip_detect.specs.Acknowledging.{acknowledgeable}
 use Rattle.chip_actor.specs.Edges.{graph_edges, start_of, over_outs, over_ins}
@@ -32,11 +32,11 @@ pub record Part : Type 0 where
   pub stop : ℕ → Option ℕ
 
 -- the counts with which an edge opens: on the root edge of a vertex that starts with chips these chips, which are put
-abbrev pub first_put : ChipGame → ℕ → List ℕ
+abbrev pub first_put : Setting → ℕ → List ℕ
 first_put g e = if nat_lt e (graph_edges g) then [] else if start_of g (e - graph_edges g) == 0 then [] else start_of g (e - graph_edges g) ∷ []
 
 -- every part at the opening. One record serves all, since an edge is looked up in the parts of its own ends alone
-abbrev pub opened : ChipGame → Part
+abbrev pub opened : Setting → Part
 opened g = record {
   chips = 0;
   fired = 0;
@@ -60,39 +60,39 @@ abbrev pub outstanding : Out → ℕ
 outstanding o = claims_of o.link - o.settled
 
 -- the messages that v waits for the acknowledgement of, and so the root
-abbrev pub deficit : ChipGame → ℕ → Part → ℕ
+abbrev pub deficit : Setting → ℕ → Part → ℕ
 deficit g v s = over_outs g v (λ e. outstanding (s.out e))
 
 -- all that v owes
-abbrev pub all_owed : ChipGame → ℕ → Part → ℕ
+abbrev pub all_owed : Setting → ℕ → Part → ℕ
 all_owed g v s = over_ins g v (λ e. owed (s.into e))
 
 -- how many messages v has claimed and not put
-abbrev pub unput : ChipGame → ℕ → Part → ℕ
+abbrev pub unput : Setting → ℕ → Part → ℕ
 unput g v s = over_outs g v (λ e. length (option_to_list (s.out e).link.held))
 
 -- all that is pending on the edges out of v
-abbrev pub pending_of : ChipGame → ℕ → Part → ℕ
+abbrev pub pending_of : Setting → ℕ → Part → ℕ
 pending_of g v s = over_outs g v (λ e. (s.out e).pending)
 
 -- on how many edges a claim of v was refused
-abbrev pub refusals : ChipGame → ℕ → Part → ℕ
+abbrev pub refusals : Setting → ℕ → Part → ℕ
 refusals g v s = over_outs g v (λ e. if (s.out e).link.refused then 1 else 0)
 
 -- v is legal by its own chips
-abbrev pub is_legal : ChipGame → ℕ → Part → Bool
+abbrev pub is_legal : Setting → ℕ → Part → Bool
 is_legal g v s = not (v == g.graph.sink) && nat_le (degree g.graph v) s.chips
 
 -- v has nothing to do unless a message comes
-abbrev pub is_passive : ChipGame → ℕ → Part → Bool
+abbrev pub is_passive : Setting → ℕ → Part → Bool
 is_passive g v s = unput g v s == 0 && (not (is_running s.halt) || (pending_of g v s == 0 && not (is_legal g v s)))
 
 -- how many messages v may acknowledge on e
-abbrev pub may_ack : ChipGame → ℕ → Part → ℕ → ℕ
+abbrev pub may_ack : Setting → ℕ → Part → ℕ → ℕ
 may_ack g v s e = acknowledgeable e s.parent (owed (s.into e)) (all_owed g v s) (deficit g v s) (is_passive g v s)
 
 -- why v may halt, if it may
-abbrev pub cause : ChipGame → ℕ → Part → Option Cause
+abbrev pub cause : Setting → ℕ → Part → Option Cause
 cause g v s =
     if not (refusals g v s == 0) then Some SealedEdge
     else if pending_of g v s == 0 && is_legal g v s && s.fired == g.limit then Some FiringLimit

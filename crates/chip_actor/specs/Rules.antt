@@ -5,7 +5,7 @@ pub use Rattle.chip_link.specs.declared.event.Event.TheVariants.{Take, Ack, Fire
 pub use Rattle.chip_actor.specs.declared.rule.Rule.{Rule}
 use Rattle.chip_actor.specs.declared.rule.Rule.TheVariants.{NoSuch, Sink, Halted, Pending, Zero, Limit, NotLegal, NothingPending, Refused, Unput, NotCleared, NotClaimed, NoCause, NothingOwed, Engaged, NotClosed}
 use Rattle.chip_graph.specs.Multigraph.{degree}
-use Rattle.chip_graph.specs.ChipGame.{ChipGame}
+use Rattle.chip_actor.specs.Setting.{Setting}
 use Rattle.chip_actor.specs.Edges.{graph_edges, all_edges, head_of, root}
 use Rattle.chip_actor.specs.Part.{Part, is_running, owed, may_ack, pending_of, unput, cause, deficit}
 
@@ -15,7 +15,7 @@ need true rule rest = rest
 need false rule rest = Some rule
 
 -- the first rule of an event that isn't met
-abbrev pub unmet : ChipGame → Event → Part → Option Rule
+abbrev pub unmet : Setting → Event → Part → Option Rule
 unmet g (Take e) s = need (nat_lt e (all_edges g)) NoSuch None
 unmet g (Ack e) s =
     need (nat_lt e (all_edges g)) NoSuch

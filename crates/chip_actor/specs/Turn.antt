@@ -3,16 +3,16 @@
 -- claimed is put, a refusal that is noted is followed by the halt.
 use Rattle.std.specs.Prelude.{◌≡◌, ℕ, ◌-◌, ◌/◌, Bool, true, false, not, ◌&&◌, ◌==◌, nat_lt, min, List, [], ◌∷◌, ◌++◌, Option, Some, None, is_some}
 use Rattle.chip_graph.specs.Multigraph.{edges_out, edges_in, degree}
-use Rattle.chip_graph.specs.ChipGame.{ChipGame}
+use Rattle.chip_actor.specs.Setting.{Setting}
 use Rattle.chip_link.specs.Link.{claims_of}
 use Rattle.chip_actor.specs.Edges.{root_edge, head_of}
 use Rattle.chip_actor.specs.Part.{Part, is_running, pending_of, unput, refusals, is_legal, may_ack}
 use Rattle.chip_actor.specs.Rules.{Event, Take, Ack, Fire, Clear, Claim, Put, Halt, Settle}
-use Rattle.chip_actor.specs.Steps.{Did, does}
+use Rattle.chip_actor.specs.Steps.{Step, does}
 
 -- a phase of a turn: from a part, by these operations with what each saw, to a part
 abbrev pub Phase : Type 1
-Phase = Part → List Did → Part → Type 0
+Phase = Part → List Step → Part → Type 0
 
 -- no operation
 abbrev pub nothing : Phase
@@ -29,7 +29,7 @@ where_phase test p s ds after = either_phase (test s) p nothing s ds after
 
 -- one phase, and then another
 abbrev pub and_then : Phase → Phase → Phase
-and_then p q s ds after = (front : List Did) × (between : Part) × (back : List Did) × (ds ≡ front ++ back) × p s front between × q between back after
+and_then p q s ds after = (front : List Step) × (between : Part) × (back : List Step) × (ds ≡ front ++ back) × p s front between × q between back after
 
 -- the phases of these edges, in their order
 abbrev pub each_phase : (ℕ → Phase) → List ℕ → Phase
@@ -37,17 +37,17 @@ each_phase p [] = nothing
 each_phase p (e ∷ es) = and_then (p e) (each_phase p es)
 
 -- the edges into a vertex in the order of a turn: ascending, its root edge last
-abbrev pub ins_of : ChipGame → ℕ → List ℕ
+abbrev pub ins_of : Setting → ℕ → List ℕ
 ins_of g v = edges_in g.graph v ++ root_edge g v ∷ []
 
 -- the edges out of it, ascending
-abbrev pub outs_of : ChipGame → ℕ → List ℕ
+abbrev pub outs_of : Setting → ℕ → List ℕ
 outs_of g v = edges_out g.graph v
 
-module _ (g : ChipGame) (v : ℕ) where
+module _ (g : Setting) (v : ℕ) where
   -- one operation, of which the next phase may depend on what it saw
   abbrev pub seeing : Event → (ℕ → Part → Phase) → Phase
-  seeing x next s ds after = (seen : ℕ) × (rest : List Did) × (ds ≡ record { event = x; seen = seen } ∷ rest) × next seen s (does g (record { event = x; seen = seen }) s) rest after
+  seeing x next s ds after = (seen : ℕ) × (rest : List Step) × (ds ≡ record { event = x; seen = seen } ∷ rest) × next seen s (does g (record { event = x; seen = seen }) s) rest after
 
   -- one operation alone
   abbrev pub one_step : Event → Phase
@@ -115,5 +115,5 @@ module _ (g : ChipGame) (v : ℕ) where
       last_acknowledgement))))))
 
 -- these operations are a turn of v from this part
-abbrev pub IsTurn : ChipGame → ℕ → Part → List Did → Type 0
+abbrev pub IsTurn : Setting → ℕ → Part → List Step → Type 0
 IsTurn g v s ds = (after : Part) × turn g v s ds after

@@ -1,4 +1,4 @@
-ghost use Rattle.std.specs.Prelude.{◌≡◌, ◌≢◌, ◌+◌, ◌*◌, ◌<◌, ◌≤◌, ◌==◌, not, ◌&&◌, ◌||◌, nat_le, is_none, IfOk, IfSome, None, ⊤};
+ghost use Rattle.std.specs.Prelude.{◌≡◌, ◌≢◌, ◌+◌, ◌*◌, ◌<◌, ◌≤◌, ◌==◌, not, ◌&&◌, ◌||◌, nat_le, is_none, length, slice_index, IfOk, IfSome, None, ⊤};
 
 use crate::act::{Act, Observed};
 use crate::cause::{Cause, is_by_limit};
@@ -8,10 +8,11 @@ use crate::reply::Reply;
 use crate::rule::{Rule, first_unmet};
 use chip_detect::Detect;
 use chip_graph::Game;
-use chip_link::Event;
+use chip_link::{Event, Ring};
 use std::alloc::{AllocError, Global};
 use std::marker::Model;
 
+mod making;
 mod turn;
 
 /// The state of one vertex of a running machine.
@@ -61,6 +62,7 @@ impl Model for ActorState {
 
 impl ActorState {
     ghost use Rattle.chip_detect.specs.Acknowledging.{may_ack};
+    ghost use Rattle.chip_actor.specs.Setting.{setting_of};
     ghost use Rattle.chip_actor.specs.Part.{opened, is_passive, cause};
     ghost use Rattle.chip_actor.specs.Edges.{tail_of, head_of};
     ghost use Rattle.chip_actor.specs.Rules.{unmet};
@@ -69,10 +71,17 @@ impl ActorState {
     ghost use Rattle.chip_actor.specs.Actor.{Actor, StandsFor, WhateverPart, SomePart, is_legal_now, is_passive_now};
     ghost use Rattle.chip_link.specs.declared.event.Event.TheVariants.{Take, Ack, Fire, Clear, Claim, Put, Halt, Settle};
 
+    /// The vertex whose state it is.
+    pub fn vertex(&self) -> u64
+        ensures { result ≡ self.now.vertex }
+    {
+        self.vertex
+    }
+
     /// How many chips the vertex holds.
     pub fn chips(&self) -> u64
         ensures value { result ≡ self.now.chips }
-        ensures part { WhateverPart self.now (λ g ring s. result ≡ s.chips) }
+        ensures part { WhateverPart self.now (λ g s. result ≡ s.chips) }
     {
         self.chips
     }
@@ -80,7 +89,7 @@ impl ActorState {
     /// How often it fired.
     pub fn fired(&self) -> u64
         ensures value { result ≡ self.now.fired }
-        ensures part { WhateverPart self.now (λ g ring s. result ≡ s.fired) }
+        ensures part { WhateverPart self.now (λ g s. result ≡ s.fired) }
     {
         self.fired
     }
@@ -88,7 +97,7 @@ impl ActorState {
     /// Why it halted, where it did.
     pub fn halted(&self) -> Option<Cause>
         ensures value { result ≡ self.now.halt }
-        ensures part { WhateverPart self.now (λ g ring s. result ≡ s.halt) }
+        ensures part { WhateverPart self.now (λ g s. result ≡ s.halt) }
     {
         self.halt
     }
@@ -102,8 +111,8 @@ impl ActorState {
 
     /// What is left to send of the last batch, on an edge out of the vertex.
     pub fn pending(&self, edge: u64) -> u64
-        requires { SomePart self.now (λ g ring s. tail_of g edge ≡ self.now.vertex) }
-        ensures { WhateverPart self.now (λ g ring s. tail_of g edge ≡ self.now.vertex → result ≡ (s.out edge).pending) }
+        requires { SomePart self.now (λ g s. tail_of g edge ≡ self.now.vertex) }
+        ensures { WhateverPart self.now (λ g s. tail_of g edge ≡ self.now.vertex → result ≡ (s.out edge).pending) }
     {
         self.outs.get(edge).pending
     }
@@ -111,7 +120,7 @@ impl ActorState {
     /// Whether the vertex has nothing to do unless a message comes.
     pub fn passive(&self) -> bool
         ensures value { result ≡ is_passive_now self.now }
-        ensures part { WhateverPart self.now (λ g ring s. result ≡ is_passive g self.now.vertex s) }
+        ensures part { WhateverPart self.now (λ g s. result ≡ is_passive g self.now.vertex s) }
     {
         self.unput == 0 && (self.halt.is_some() || self.pending == 0 && !self.is_legal())
     }
@@ -125,7 +134,7 @@ impl ActorState {
 
     // Why it may halt now, if it may.
     fn cause(&self) -> Option<Cause>
-        ensures { WhateverPart self.now (λ g ring s. result ≡ cause g self.now.vertex s) }
+        ensures { WhateverPart self.now (λ g s. result ≡ cause g self.now.vertex s) }
     {
         if self.refused > 0 {
             Some(Cause::SealedEdge)
@@ -137,11 +146,11 @@ impl ActorState {
     }
 
     // It has the chips for so many firings.
-    fn affords(&self, count: u64) -> bool
-        ensures { result ≡ nat_le (count * self.now.degree) self.now.chips }
+    fn affords(&self, k: u64) -> bool
+        ensures { result ≡ nat_le (k * self.now.degree) self.now.chips }
     {
         let chips = self.chips;
-        match count.checked_mul(self.degree) {
+        match k.checked_mul(self.degree) {
             Some(cost) => cost <= chips,
             None => false,
         }
@@ -155,8 +164,8 @@ impl ActorState {
     }
 
     fn ack_rule(&self, edge: u64) -> Option<Rule>
-        requires { SomePart self.now (λ g ring s. head_of g edge ≡ self.now.vertex) }
-        ensures { WhateverPart self.now (λ g ring s. head_of g edge ≡ self.now.vertex → result ≡ unmet g (Ack edge) s) }
+        requires { SomePart self.now (λ g s. head_of g edge ≡ self.now.vertex) }
+        ensures { WhateverPart self.now (λ g s. head_of g edge ≡ self.now.vertex → result ≡ unmet g (Ack edge) s) }
     {
         first_unmet(&[
             (self.detect.owed(edge) != 0, Rule::NothingOwed),
@@ -167,23 +176,23 @@ impl ActorState {
         ])
     }
 
-    fn fire_rule(&self, count: u64) -> Option<Rule>
-        requires { SomePart self.now (λ g ring s. ⊤) }
-        ensures { WhateverPart self.now (λ g ring s. result ≡ unmet g (Fire self.now.vertex count) s) }
+    fn fire_rule(&self, k: u64) -> Option<Rule>
+        requires { SomePart self.now (λ g s. ⊤) }
+        ensures { WhateverPart self.now (λ g s. result ≡ unmet g (Fire self.now.vertex k) s) }
     {
         first_unmet(&[
             (!self.is_sink, Rule::Sink),
             (self.halt.is_none(), Rule::Halted),
             (self.is_idle(), Rule::Pending),
-            (count != 0, Rule::Zero),
-            (count <= self.limit - self.fired, Rule::Limit),
-            (self.affords(count), Rule::NotLegal),
+            (k != 0, Rule::Zero),
+            (k <= self.limit - self.fired, Rule::Limit),
+            (self.affords(k), Rule::NotLegal),
         ])
     }
 
     fn clear_rule(&self, edge: u64) -> Option<Rule>
-        requires { SomePart self.now (λ g ring s. tail_of g edge ≡ self.now.vertex) }
-        ensures { WhateverPart self.now (λ g ring s. tail_of g edge ≡ self.now.vertex → result ≡ unmet g (Clear edge) s) }
+        requires { SomePart self.now (λ g s. tail_of g edge ≡ self.now.vertex) }
+        ensures { WhateverPart self.now (λ g s. tail_of g edge ≡ self.now.vertex → result ≡ unmet g (Clear edge) s) }
     {
         let out = self.outs.get(edge);
         first_unmet(&[
@@ -194,8 +203,8 @@ impl ActorState {
     }
 
     fn claim_rule(&self, edge: u64) -> Option<Rule>
-        requires { SomePart self.now (λ g ring s. tail_of g edge ≡ self.now.vertex) }
-        ensures { WhateverPart self.now (λ g ring s. tail_of g edge ≡ self.now.vertex → result ≡ unmet g (Claim edge) s) }
+        requires { SomePart self.now (λ g s. tail_of g edge ≡ self.now.vertex) }
+        ensures { WhateverPart self.now (λ g s. tail_of g edge ≡ self.now.vertex → result ≡ unmet g (Claim edge) s) }
     {
         let is_clear = self.outs.get(edge).link.claim_next().is_some();
         first_unmet(&[
@@ -205,14 +214,14 @@ impl ActorState {
     }
 
     fn put_rule(&self, edge: u64) -> Option<Rule>
-        requires { SomePart self.now (λ g ring s. tail_of g edge ≡ self.now.vertex) }
-        ensures { WhateverPart self.now (λ g ring s. tail_of g edge ≡ self.now.vertex → result ≡ unmet g (Put edge) s) }
+        requires { SomePart self.now (λ g s. tail_of g edge ≡ self.now.vertex) }
+        ensures { WhateverPart self.now (λ g s. tail_of g edge ≡ self.now.vertex → result ≡ unmet g (Put edge) s) }
     {
         first_unmet(&[(self.outs.get(edge).link.held().is_some(), Rule::NotClaimed)])
     }
 
     fn halt_rule(&self) -> Option<Rule>
-        ensures { WhateverPart self.now (λ g ring s. result ≡ unmet g (Halt self.now.vertex) s) }
+        ensures { WhateverPart self.now (λ g s. result ≡ unmet g (Halt self.now.vertex) s) }
     {
         first_unmet(&[
             (!self.is_sink, Rule::Sink),
@@ -224,13 +233,13 @@ impl ActorState {
 
     // The first rule of an event of the vertex that isn't met.
     fn unmet(&self, event: &Event) -> Option<Rule>
-        requires { SomePart self.now (λ g ring s. part_of g event.now ≡ self.now.vertex) }
-        ensures { WhateverPart self.now (λ g ring s. part_of g event.now ≡ self.now.vertex → result ≡ unmet g event.now s) }
+        requires { SomePart self.now (λ g s. part_of g event.now ≡ self.now.vertex) }
+        ensures { WhateverPart self.now (λ g s. part_of g event.now ≡ self.now.vertex → result ≡ unmet g event.now s) }
     {
         match *event {
             Event::Take(_) | Event::Settle(_) => None,
             Event::Ack(edge) => self.ack_rule(edge),
-            Event::Fire { count, .. } => self.fire_rule(count),
+            Event::Fire { k, .. } => self.fire_rule(k),
             Event::Clear(edge) => self.clear_rule(edge),
             Event::Claim(edge) => self.claim_rule(edge),
             Event::Put(edge) => self.put_rule(edge),
@@ -241,8 +250,8 @@ impl ActorState {
 
     // The operation that an event of the vertex needs, whose rules are met.
     fn act(&self, event: &Event) -> Act
-        requires { SomePart self.now (λ g ring s. (part_of g event.now ≡ self.now.vertex) × (unmet g event.now s ≡ None)) }
-        ensures { WhateverPart self.now (λ g ring s. part_of g event.now ≡ self.now.vertex → unmet g event.now s ≡ None → result ≡ act_of g ring event.now s) }
+        requires { SomePart self.now (λ g s. (part_of g event.now ≡ self.now.vertex) × (unmet g event.now s ≡ None)) }
+        ensures { WhateverPart self.now (λ g s. part_of g event.now ≡ self.now.vertex → unmet g event.now s ≡ None → result ≡ act_of g event.now s) }
     {
         match *event {
             Event::Take(edge) => Act::Take {
@@ -254,7 +263,7 @@ impl ActorState {
                 edge,
                 count: self.detect.may_ack(edge, self.passive()),
             },
-            Event::Fire { count, .. } => Act::Fire { k: count },
+            Event::Fire { k, .. } => Act::Fire { k },
             Event::Clear(edge) => Act::Clear {
                 edge,
                 cell: self.outs.get(edge).link.cell(),
@@ -281,8 +290,8 @@ impl ActorState {
     /// The operation that an event of this vertex needs, or the first of its rules that isn't met. Takes and acknowledgements are
     /// of edges into the vertex, all others of the vertex itself or of edges out of it.
     pub fn may(&self, event: &Event) -> Result<Act, Rule>
-        requires { SomePart self.now (λ g ring s. part_of g event.now ≡ self.now.vertex) }
-        ensures { WhateverPart self.now (λ g ring s. part_of g event.now ≡ self.now.vertex → result ≡ verdict (unmet g event.now s) (act_of g ring event.now s)) }
+        requires { SomePart self.now (λ g s. part_of g event.now ≡ self.now.vertex) }
+        ensures { WhateverPart self.now (λ g s. part_of g event.now ≡ self.now.vertex → result ≡ verdict (unmet g event.now s) (act_of g event.now s)) }
     {
         match self.unmet(event) {
             Some(rule) => Err(rule),
@@ -290,27 +299,51 @@ impl ActorState {
         }
     }
 
+    /// A take of an edge, with what stood in its cell.
     fn take(&mut self, edge: u64, seen: u64) -> Reply
-        requires { SomePart self.old (λ g ring s. CanDo g s self.old.vertex (Take edge) seen) }
+        requires { SomePart self.old (λ g s. CanDo g s self.old.vertex (Take edge) seen) }
         ensures { Makes self.old self.new (Take edge) seen result }
     {
-        let Some(message) = self.ins.take(edge, seen) else {
+        let index = self.ins.index_of(edge);
+        self.take_at(index, edge, seen)
+    }
+
+    /// The same of the edge at this index.
+    fn take_at(&mut self, index: usize, edge: u64, seen: u64) -> Reply
+        requires within { index < length self.old.ins.edges }
+        requires edge { slice_index self.old.ins.edges index ≡ edge }
+        requires can { SomePart self.old (λ g s. CanDo g s self.old.vertex (Take edge) seen) }
+        ensures { Makes self.old self.new (Take edge) seen result }
+    {
+        let Some(message) = self.ins.take_at(index, edge, seen) else {
             return Reply::Empty;
         };
         self.chips += seen;
-        self.detect.got(edge);
+        self.detect.got_at(index, edge);
         Reply::Got(message)
     }
 
+    /// A settle of an edge, with its word of acknowledgements.
     fn settle(&mut self, edge: u64, seen: u64) -> Reply
-        requires { SomePart self.old (λ g ring s. CanDo g s self.old.vertex (Settle edge) seen) }
+        requires { SomePart self.old (λ g s. CanDo g s self.old.vertex (Settle edge) seen) }
         ensures { Makes self.old self.new (Settle edge) seen result }
     {
-        Reply::Done(self.detect.settled(edge, seen))
+        let index = self.outs.index_of(edge);
+        self.settle_at(index, edge, seen)
+    }
+
+    /// The same of the edge at this index.
+    fn settle_at(&mut self, index: usize, edge: u64, seen: u64) -> Reply
+        requires within { index < length self.old.outs.edges }
+        requires edge { slice_index self.old.outs.edges index ≡ edge }
+        requires can { SomePart self.old (λ g s. CanDo g s self.old.vertex (Settle edge) seen) }
+        ensures { Makes self.old self.new (Settle edge) seen result }
+    {
+        Reply::Done(self.detect.settled_at(index, edge, seen))
     }
 
     fn fire(&mut self, k: u64, seen: u64) -> Reply
-        requires { SomePart self.old (λ g ring s. CanDo g s self.old.vertex (Fire self.old.vertex k) seen) }
+        requires { SomePart self.old (λ g s. CanDo g s self.old.vertex (Fire self.old.vertex k) seen) }
         ensures { Makes self.old self.new (Fire self.old.vertex k) seen result }
     {
         let cost = k * self.degree;
@@ -321,41 +354,77 @@ impl ActorState {
         Reply::Done(self.fired)
     }
 
+    /// A look at the cell of an edge, with what stood in it.
     fn clear(&mut self, edge: u64, seen: u64) -> Reply
-        requires { SomePart self.old (λ g ring s. CanDo g s self.old.vertex (Clear edge) seen) }
+        requires { SomePart self.old (λ g s. CanDo g s self.old.vertex (Clear edge) seen) }
         ensures { Makes self.old self.new (Clear edge) seen result }
     {
-        let Some((place, _)) = self.outs.clear(edge, seen) else {
+        let index = self.outs.index_of(edge);
+        self.clear_at(index, edge, seen)
+    }
+
+    /// The same of the edge at this index.
+    fn clear_at(&mut self, index: usize, edge: u64, seen: u64) -> Reply
+        requires within { index < length self.old.outs.edges }
+        requires edge { slice_index self.old.outs.edges index ≡ edge }
+        requires can { SomePart self.old (λ g s. CanDo g s self.old.vertex (Clear edge) seen) }
+        ensures { Makes self.old self.new (Clear edge) seen result }
+    {
+        let Some((place, _)) = self.outs.clear_at(index, edge, seen) else {
             return Reply::Full;
         };
         Reply::Done(place)
     }
 
+    /// A claim of an edge, with its word.
     fn claim(&mut self, edge: u64, seen: u64) -> Reply
-        requires { SomePart self.old (λ g ring s. CanDo g s self.old.vertex (Claim edge) seen) }
+        requires { SomePart self.old (λ g s. CanDo g s self.old.vertex (Claim edge) seen) }
         ensures { Makes self.old self.new (Claim edge) seen result }
     {
-        let Some(message) = self.outs.claim(edge, seen) else {
+        let index = self.outs.index_of(edge);
+        self.claim_at(index, edge, seen)
+    }
+
+    /// The same of the edge at this index.
+    fn claim_at(&mut self, index: usize, edge: u64, seen: u64) -> Reply
+        requires within { index < length self.old.outs.edges }
+        requires edge { slice_index self.old.outs.edges index ≡ edge }
+        requires can { SomePart self.old (λ g s. CanDo g s self.old.vertex (Claim edge) seen) }
+        ensures { Makes self.old self.new (Claim edge) seen result }
+    {
+        let Some(message) = self.outs.claim_at(index, edge, seen) else {
             self.refused += 1;
             return Reply::Sealed;
         };
         self.pending -= message.count;
         self.unput += 1;
-        self.detect.sent(edge);
+        self.detect.sent_at(index, edge);
         Reply::Sent(message)
     }
 
+    /// A put on an edge.
     fn put(&mut self, edge: u64, seen: u64) -> Reply
-        requires { SomePart self.old (λ g ring s. CanDo g s self.old.vertex (Put edge) seen) }
+        requires { SomePart self.old (λ g s. CanDo g s self.old.vertex (Put edge) seen) }
         ensures { Makes self.old self.new (Put edge) seen result }
     {
-        let (_, count) = self.outs.put(edge).unwrap();
+        let index = self.outs.index_of(edge);
+        self.put_at(index, edge, seen)
+    }
+
+    /// The same of the edge at this index.
+    fn put_at(&mut self, index: usize, edge: u64, seen: u64) -> Reply
+        requires within { index < length self.old.outs.edges }
+        requires edge { slice_index self.old.outs.edges index ≡ edge }
+        requires can { SomePart self.old (λ g s. CanDo g s self.old.vertex (Put edge) seen) }
+        ensures { Makes self.old self.new (Put edge) seen result }
+    {
+        let (_, count) = self.outs.put_at(index, edge).unwrap();
         self.unput -= 1;
         Reply::Done(count)
     }
 
     fn stop(&mut self, seen: u64) -> Reply
-        requires { SomePart self.old (λ g ring s. CanDo g s self.old.vertex (Halt self.old.vertex) seen) }
+        requires { SomePart self.old (λ g s. CanDo g s self.old.vertex (Halt self.old.vertex) seen) }
         ensures { Makes self.old self.new (Halt self.old.vertex) seen result }
     {
         self.halt = self.cause();
@@ -365,19 +434,31 @@ impl ActorState {
         Reply::Done(0)
     }
 
+    /// An acknowledgement of an edge.
     fn acknowledge(&mut self, edge: u64, seen: u64) -> Reply
-        requires { SomePart self.old (λ g ring s. CanDo g s self.old.vertex (Ack edge) seen) }
+        requires { SomePart self.old (λ g s. CanDo g s self.old.vertex (Ack edge) seen) }
         ensures { Makes self.old self.new (Ack edge) seen result }
     {
-        let count = self.detect.may_ack(edge, self.passive());
-        self.detect.acked(edge, count);
+        let index = self.ins.index_of(edge);
+        self.acknowledge_at(index, edge, seen)
+    }
+
+    /// The same of the edge at this index.
+    fn acknowledge_at(&mut self, index: usize, edge: u64, seen: u64) -> Reply
+        requires within { index < length self.old.ins.edges }
+        requires edge { slice_index self.old.ins.edges index ≡ edge }
+        requires can { SomePart self.old (λ g s. CanDo g s self.old.vertex (Ack edge) seen) }
+        ensures { Makes self.old self.new (Ack edge) seen result }
+    {
+        let count = self.detect.may_ack_at(index, edge, self.passive());
+        self.detect.acked_at(index, edge, count);
         Reply::Done(count)
     }
 
     /// The reply to an operation that was made, and the state after it. The operation is one that `may` gave for this state, and the
     /// word that it saw fits: see `FitsSeen`.
     pub fn apply(&mut self, observed: Observed) -> Reply
-        requires { SomePart self.old (λ g ring s. IsDue g ring s self.old.vertex observed) }
+        requires { SomePart self.old (λ g s. IsDue g s self.old.vertex observed) }
         ensures { Makes self.old self.new (event_of self.old.vertex observed.act) observed.seen result }
     {
         let seen = observed.seen;
@@ -394,13 +475,19 @@ impl ActorState {
         }
     }
 
-    /// The state of a vertex at the opening, with rings of 1 to 64 cells. It takes all the memory that the vertex ever needs.
-    pub fn new(alloc: Global, game: &Game, vertex: u64, ring: u64) -> Result<ActorState, AllocError>
-        requires vertex { vertex < game.now.graph.vertices }
-        requires ring { (0 < ring) × (ring ≤ 64) }
+    /// The state of a vertex at the opening. It takes all the memory that the vertex ever needs.
+    pub fn new(
+        alloc: Global,
+        game: &Game,
+        vertex: u64,
+        ring: Ring,
+    ) -> Result<ActorState, AllocError>
+        requires { vertex < game.now.graph.vertices }
         ensures vertex { IfOk result (λ actor. actor.vertex ≡ vertex) }
-        ensures opened { IfOk result (StandsFor game.now ring (opened game.now)) }
+        ensures opened { let g = setting_of game.now ring in IfOk result (StandsFor g (opened g)) }
     {
+        // With the cells read, the proof knows that the ring is in range.
+        let _cells = ring.cells();
         let graph = game.graph();
         let outs = Outs::new(alloc, graph, vertex, ring)?;
         let ins = Ins::new(alloc, graph, vertex, ring)?;

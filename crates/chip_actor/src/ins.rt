@@ -1,9 +1,9 @@
-ghost use Rattle.std.specs.Prelude.{◌≡◌, ◌^◌, ◌<◌, ◌≤◌, length, map, IfOk, Contains};
+ghost use Rattle.std.specs.Prelude.{◌≡◌, ◌^◌, ◌<◌, ◌≤◌, length, slice_index, map, IfOk, Contains};
 ghost use Rattle.std.specs.List.Sorted.{IsStrictlyIncreasing};
 
-use crate::place::place_of;
+use crate::search::index_of;
 use chip_graph::Graph;
-use chip_link::{HeadLink, Message};
+use chip_link::{HeadLink, Message, Ring};
 use std::alloc::{AllocError, Global};
 use std::marker::Model;
 
@@ -28,23 +28,41 @@ impl Ins {
     ghost use Rattle.chip_link.specs.Ends.{head_cell, message_taken, head_after_take};
     ghost use Rattle.chip_actor.specs.Ends.{InEnds, in_on, ChangesIn, IsFreshIns};
 
+    /// The index of an edge.
+    pub(crate) fn index_of(&self, edge: u64) -> usize
+        requires { Contains self.now.edges edge }
+        ensures within { result < length self.now.edges }
+        ensures edge { slice_index self.now.edges result ≡ edge }
+    {
+        index_of(&self.edges, edge)
+    }
+
     /// The cell of the next place to take on an edge.
     pub(crate) fn cell(&self, edge: u64) -> u64
         requires { Contains self.now.edges edge }
         ensures { result ≡ head_cell (in_on self.now edge) }
     {
-        self.ends[place_of(&self.edges, edge)].cell()
+        self.cell_at(self.index_of(edge), edge)
     }
 
-    /// The message that was found in that cell.
-    pub(crate) fn take(&mut self, edge: u64, cell: u64) -> Option<Message>
-        requires among { Contains self.old.edges edge }
+    /// The same of the edge at this index.
+    pub(crate) fn cell_at(&self, index: usize, edge: u64) -> u64
+        requires within { index < length self.now.edges }
+        requires edge { slice_index self.now.edges index ≡ edge }
+        ensures { result ≡ head_cell (in_on self.now edge) }
+    {
+        self.ends[index].cell()
+    }
+
+    /// The message that was found in that cell of the edge at this index.
+    pub(crate) fn take_at(&mut self, index: usize, edge: u64, cell: u64) -> Option<Message>
+        requires within { index < length self.old.edges }
+        requires edge { slice_index self.old.edges index ≡ edge }
         requires few { (in_on self.old edge).taken < 2 ^ 62 }
         ensures message { result ≡ message_taken cell (in_on self.old edge) }
         ensures after { ChangesIn self.old self.new edge (head_after_take cell) }
     {
-        let place = place_of(&self.edges, edge);
-        let end = &mut self.ends[place];
+        let end = &mut self.ends[index];
         end.taken(cell)
     }
 
@@ -53,10 +71,9 @@ impl Ins {
         alloc: Global,
         graph: &Graph,
         vertex: u64,
-        ring: u64,
+        ring: Ring,
     ) -> Result<Ins, AllocError>
-        requires vertex { vertex < graph.now.vertices }
-        requires ring { (0 < ring) × (ring ≤ 64) }
+        requires { vertex < graph.now.vertices }
         ensures { IfOk result (λ ins. IsFreshIns graph.now ring vertex ins) }
     {
         let numbers = graph.ins(vertex);

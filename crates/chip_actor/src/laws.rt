@@ -1,11 +1,11 @@
 //! What holds of every part and every event, as the contracts of functions that do nothing.
 
-ghost use Rattle.chip_actor.specs.Rows.{SentWithFullRing, SealedHalfWay, EngagingMessageLast, FirstTurn, TurnBegunInTheMiddle};
-ghost use Rattle.chip_actor.specs.Laws.{RulesMean, OpeningKeeps, EventsKeep, SumsAddRootEdges, TurnIsBounded};
+ghost use Rattle.chip_actor.specs.Worked.{SentWithFullRing, SealedHalfWay, EngagingMessageLast, FirstTurn, TurnBegunInTheMiddle};
+ghost use Rattle.chip_actor.specs.Laws.{RulesMean, OpeningKeeps, EventsKeep, SumsAddRootEdges, TurnIsBounded, IdleTurnRests};
 ghost use Rattle.chip_actor.specs.Cursor.{UnderWayIsBounded};
 
 /// Small runs of one vertex, as the definitions compute them.
-pub fn worked_rows()
+pub fn worked_parts()
     ensures full_ring { SentWithFullRing }
     ensures sealed_half_way { SealedHalfWay }
     ensures engaging_message_last { EngagingMessageLast }
@@ -33,4 +33,9 @@ pub fn worked_turns()
 pub fn turns()
     ensures bounded { TurnIsBounded }
     ensures under_way { UnderWayIsBounded }
+{}
+
+/// What a vertex is left with by a turn in which there was nothing to do.
+pub fn idle_turns()
+    ensures { IdleTurnRests }
 {}

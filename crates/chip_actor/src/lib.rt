@@ -12,10 +12,12 @@ mod cause;
 mod cursor;
 mod ins;
 pub mod laws;
+mod medium;
 mod outs;
-mod place;
 mod reply;
+mod root;
 mod rule;
+mod search;
 #[cfg(test)]
 mod tests;
 
@@ -23,5 +25,7 @@ pub use act::{Act, Observed};
 pub use actor::ActorState;
 pub use cause::Cause;
 pub use cursor::Cursor;
+pub use medium::Medium;
 pub use reply::Reply;
+pub use root::RootState;
 pub use rule::Rule;

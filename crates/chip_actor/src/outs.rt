@@ -1,8 +1,8 @@
 ghost use Rattle.std.specs.Prelude.{◌≡◌, ℕ, ◌*◌, ◌^◌, ◌<◌, ◌≤◌, length, map, IfOk, Contains, IsTrue, Option, slice_index, slice_index_or, not, is_some, ◌==◌};
 
-use crate::place::place_of;
+use crate::search::index_of;
 use chip_graph::Graph;
-use chip_link::{Message, TailLink};
+use chip_link::{Message, Ring, TailLink};
 use std::alloc::{AllocError, Global};
 use std::marker::Model;
 
@@ -39,12 +39,21 @@ impl Outs {
     ghost use Rattle.chip_link.specs.Ends.{put_of, message_claimed, may_clear, claim_words, tail_after_clear};
     ghost use Rattle.chip_actor.specs.Ends.{OutEnds, OutEnd, out_on, ChangesOut, ChangesOuts, IsFreshOuts, out_after_clear, out_after_claim, out_after_put, out_after_fire};
 
+    /// The index of an edge.
+    pub(crate) fn index_of(&self, edge: u64) -> usize
+        requires { Contains self.now.edges edge }
+        ensures within { result < length self.now.edges }
+        ensures edge { slice_index self.now.edges result ≡ edge }
+    {
+        index_of(&self.edges, edge)
+    }
+
     /// What is known of an edge.
     pub(crate) fn get(&self, edge: u64) -> &OutEnd
         requires { Contains self.now.edges edge }
         ensures { result.now ≡ out_on self.now edge }
     {
-        &self.ends[place_of(&self.edges, edge)]
+        self.at(self.index_of(edge))
     }
 
     /// The numbers of the edges.
@@ -54,12 +63,12 @@ impl Outs {
         &self.edges
     }
 
-    /// What is known of the edge at a place.
-    pub(crate) fn at(&self, place: usize) -> &OutEnd
-        requires { place < length self.now.edges }
-        ensures { result.now ≡ out_on self.now (slice_index self.now.edges place) }
+    /// What is known of the edge at this index.
+    pub(crate) fn at(&self, index: usize) -> &OutEnd
+        requires { index < length self.now.edges }
+        ensures { result.now ≡ out_on self.now (slice_index self.now.edges index) }
     {
-        &self.ends[place]
+        &self.ends[index]
     }
 
     /// The first place from this one on with an edge on which a message is claimed and not put.
@@ -86,42 +95,42 @@ impl Outs {
         None
     }
 
-    /// Notes what a look at the edge's cell found, and gives the words of a claim that may follow, the first of which is its place.
-    pub(crate) fn clear(&mut self, edge: u64, cell: u64) -> Option<(u64, u64)>
-        requires { Contains self.old.edges edge }
+    /// Notes what a look at the cell of the edge at this index found, and gives the words of a claim that may follow, the first of which is its place.
+    pub(crate) fn clear_at(&mut self, index: usize, edge: u64, cell: u64) -> Option<(u64, u64)>
+        requires within { index < length self.old.edges }
+        requires edge { slice_index self.old.edges index ≡ edge }
         ensures words { result ≡ claim_words (tail_after_clear cell (out_on self.old edge).link) }
         ensures after { ChangesOut self.old self.new edge (out_after_clear cell) }
     {
-        let place = place_of(&self.edges, edge);
-        let out = &mut self.ends[place];
+        let out = &mut self.ends[index];
         let _is_clear = out.link.cleared(cell);
         out.link.claim_next()
     }
 
-    /// Notes the word that a claim for all that is pending saw.
-    pub(crate) fn claim(&mut self, edge: u64, word: u64) -> Option<Message>
-        requires among { Contains self.old.edges edge }
+    /// Notes the word that a claim for all that is pending on the edge at this index saw.
+    pub(crate) fn claim_at(&mut self, index: usize, edge: u64, word: u64) -> Option<Message>
+        requires within { index < length self.old.edges }
+        requires edge { slice_index self.old.edges index ≡ edge }
         requires clear { IsTrue (out_on self.old edge).link.clear }
         requires word { claims_in word ≡ (out_on self.old edge).link.claims }
         requires count { (1 ≤ (out_on self.old edge).pending) × ((out_on self.old edge).pending ≤ 2 ^ 40) }
         ensures message { result ≡ message_claimed word (out_on self.old edge).pending (out_on self.old edge).link }
         ensures after { ChangesOut self.old self.new edge (out_after_claim word) }
     {
-        let place = place_of(&self.edges, edge);
-        let out = &mut self.ends[place];
+        let out = &mut self.ends[index];
         let message = out.link.claimed(word, out.pending)?;
         out.pending = 0;
         Some(message)
     }
 
-    /// The cell and the value of what is claimed and not put, and notes that it is stored.
-    pub(crate) fn put(&mut self, edge: u64) -> Option<(u64, u64)>
-        requires { Contains self.old.edges edge }
+    /// The cell and the value of what is claimed and not put on the edge at this index, and notes that it is stored.
+    pub(crate) fn put_at(&mut self, index: usize, edge: u64) -> Option<(u64, u64)>
+        requires within { index < length self.old.edges }
+        requires edge { slice_index self.old.edges index ≡ edge }
         ensures stored { result ≡ put_of (out_on self.old edge).link }
         ensures after { ChangesOut self.old self.new edge out_after_put }
     {
-        let place = place_of(&self.edges, edge);
-        let out = &mut self.ends[place];
+        let out = &mut self.ends[index];
         out.link.put_value()
     }
 
@@ -140,10 +149,9 @@ impl Outs {
         alloc: Global,
         graph: &Graph,
         vertex: u64,
-        ring: u64,
+        ring: Ring,
     ) -> Result<Outs, AllocError>
-        requires vertex { vertex < graph.now.vertices }
-        requires ring { (0 < ring) × (ring ≤ 64) }
+        requires { vertex < graph.now.vertices }
         ensures { IfOk result (λ outs. IsFreshOuts graph.now ring vertex outs) }
     {
         let numbers = graph.outs(vertex);

@@ -1,40 +1,40 @@
 ghost use Rattle.std.specs.Prelude.{◌≡◌};
 ghost use Rattle.chip_actor.specs.Rules.{first_unmet};
 
-/// A rule of an event that isn't met. `number` gives the numbers that stand before them here.
+/// Why an event may not be made: the rule that isn't met, said by what is so instead. `number` gives the numbers that stand here.
 #[derive(Clone, Copy, Debug, PartialEq, Eq)]
 pub enum Rule {
-    /// The vertex or edge is there.
+    /// There is no such vertex or edge.
     NoSuch = 1,
-    /// The vertex isn't the sink.
+    /// The vertex is the sink.
     Sink = 2,
-    /// The vertex isn't halted; for an edge, its tail isn't.
+    /// The vertex is halted; for an edge, its tail is.
     Halted = 3,
-    /// Nothing is pending on any edge out of the vertex, and nothing claimed and not put.
+    /// Something is pending on an edge out of the vertex, or claimed and not put.
     Pending = 4,
-    /// It fires at least once.
+    /// It is to fire no time at all.
     Zero = 5,
-    /// It fires no more often than the game allows.
+    /// It would fire more often than the game allows.
     Limit = 6,
-    /// It has the chips for so many firings.
+    /// It doesn't have the chips for so many firings.
     NotLegal = 7,
-    /// Something is pending on the edge.
+    /// Nothing is pending on the edge.
     NothingPending = 8,
-    /// No claim of the edge was refused.
+    /// A claim of the edge was refused.
     Refused = 9,
-    /// Nothing is claimed and not put.
+    /// Something is claimed and not put.
     Unput = 10,
-    /// The next cell of the edge was seen empty.
+    /// The next cell of the edge was not seen empty.
     NotCleared = 11,
-    /// A message is claimed on the edge and not put.
+    /// No message is claimed on the edge and not put.
     NotClaimed = 12,
-    /// There is a cause to halt.
+    /// There is no cause to halt.
     NoCause = 13,
-    /// Something is owed on the edge.
+    /// Nothing is owed on the edge.
     NothingOwed = 14,
-    /// Something may be acknowledged on the edge.
+    /// All that is owed on the edge has to wait, since the vertex is engaged by it.
     Engaged = 15,
-    /// The root is closed.
+    /// The root isn't closed.
     NotClosed = 16,
 }
 

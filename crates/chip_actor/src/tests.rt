@@ -6,7 +6,7 @@ ghost use Rattle.chip_actor.specs.Asking.{may_ask, may_play, may_see_all, Answer
 
 use super::*;
 use chip_graph::{Edge, Game, Graph};
-use chip_link::{Event, Message};
+use chip_link::{Event, Message, Ring};
 use std::alloc::Global;
 use std::process::Abort;
 use std::test::Fail;
@@ -39,7 +39,7 @@ fn sent(edge: u64, place: u64, count: u64) -> Reply {
 
 /// Asks for an event, which is made where its rules are met.
 fn ask(actor: &mut ActorState, event: Event, seen: u64) -> Reply
-    requires { SomePart actor.old (λ g ring s. IsTrue (may_ask g actor.old.vertex s event seen)) }
+    requires { SomePart actor.old (λ g s. IsTrue (may_ask g actor.old.vertex s event seen)) }
     ensures { Answers actor.old actor.new event seen result }
 {
     match actor.may(&event) {
@@ -56,7 +56,7 @@ fn is_wanted(act: Act, wanted: Act) -> bool
     match (act, wanted) {
         (Act::Take { edge, cell }, Act::Take { edge: e, cell: c }) => edge == e && cell == c,
         (Act::Settle { edge }, Act::Settle { edge: e }) => edge == e,
-        (Act::Fire { k }, Act::Fire { k: count }) => k == count,
+        (Act::Fire { k }, Act::Fire { k: wanted }) => k == wanted,
         (Act::Clear { edge, cell }, Act::Clear { edge: e, cell: c }) => edge == e && cell == c,
         (
             Act::Claim {
@@ -84,7 +84,7 @@ fn is_wanted(act: Act, wanted: Act) -> bool
 
 /// Makes a turn of these operations, each with the word that it sees, and says how many of them count.
 fn make_turn(rt: &impl Abort, actor: &mut ActorState, turn: &[(Act, u64)]) -> usize
-    requires { SomePart actor.old (λ g ring s. IsTrue (may_see_all g actor.old.vertex s turn.now)) }
+    requires { SomePart actor.old (λ g s. IsTrue (may_see_all g actor.old.vertex s turn.now)) }
 {
     let mut cursor = Cursor::start();
     let mut counted = 0;
@@ -112,7 +112,7 @@ fn play(
     questions: &[(Event, u64, Reply)],
     turn: &[(Act, u64)],
 ) -> usize
-    requires { SomePart actor.old (λ g ring s. IsTrue (may_play g actor.old.vertex s questions.now turn.now)) }
+    requires { SomePart actor.old (λ g s. IsTrue (may_play g actor.old.vertex s questions.now turn.now)) }
 {
     for i in 0..questions.len() {
         let (event, seen, reply) = questions[i];
@@ -128,28 +128,14 @@ fn play(
 #[test]
 fn full_ring(rt: HostRuntime) -> Result<(), Fail> {
     let game = game_of(rt.alloc(), 3, &[(0, 1), (1, 2)], &[3, 0, 0])?;
-    let mut actor = ActorState::new(rt.alloc(), &game, 0, 1)?;
+    let mut actor = ActorState::new(rt.alloc(), &game, 0, Ring::one())?;
     let script = [
         (Event::Take(2), 3, got(2, 0, 3)),
-        (
-            Event::Fire {
-                vertex: 0,
-                count: 1,
-            },
-            0,
-            Reply::Done(1),
-        ),
+        (Event::Fire { vertex: 0, k: 1 }, 0, Reply::Done(1)),
         (Event::Clear(0), 0, Reply::Done(0)),
         (Event::Claim(0), 0, sent(0, 0, 1)),
         (Event::Put(0), 0, Reply::Done(1)),
-        (
-            Event::Fire {
-                vertex: 0,
-                count: 1,
-            },
-            1,
-            Reply::Done(2),
-        ),
+        (Event::Fire { vertex: 0, k: 1 }, 1, Reply::Done(2)),
         (Event::Clear(0), 1, Reply::Full),
     ];
     play(&rt, &mut actor, &script, &[]);
@@ -162,17 +148,10 @@ fn full_ring(rt: HostRuntime) -> Result<(), Fail> {
 #[test]
 fn sealed_half_way(rt: HostRuntime) -> Result<(), Fail> {
     let game = game_of(rt.alloc(), 3, &[(0, 1), (0, 2), (1, 0), (1, 2)], &[4, 0, 0])?;
-    let mut actor = ActorState::new(rt.alloc(), &game, 0, 1)?;
+    let mut actor = ActorState::new(rt.alloc(), &game, 0, Ring::one())?;
     let script = [
         (Event::Take(4), 4, got(4, 0, 4)),
-        (
-            Event::Fire {
-                vertex: 0,
-                count: 2,
-            },
-            0,
-            Reply::Done(2),
-        ),
+        (Event::Fire { vertex: 0, k: 2 }, 0, Reply::Done(2)),
         (Event::Clear(0), 0, Reply::Done(0)),
         (Event::Claim(0), 0, sent(0, 0, 2)),
         (Event::Put(0), 0, Reply::Done(2)),
@@ -191,7 +170,7 @@ fn sealed_half_way(rt: HostRuntime) -> Result<(), Fail> {
 #[test]
 fn engaging_message_last(rt: HostRuntime) -> Result<(), Fail> {
     let game = game_of(rt.alloc(), 2, &[(0, 1), (0, 1)], &[2, 0])?;
-    let mut actor = ActorState::new(rt.alloc(), &game, 1, 1)?;
+    let mut actor = ActorState::new(rt.alloc(), &game, 1, Ring::one())?;
     let script = [
         (Event::Take(0), 1, got(0, 0, 1)),
         (Event::Take(1), 1, got(1, 0, 1)),
@@ -208,7 +187,7 @@ fn engaging_message_last(rt: HostRuntime) -> Result<(), Fail> {
 #[test]
 fn first_turn(rt: HostRuntime) -> Result<(), Fail> {
     let game = game_of(rt.alloc(), 3, &[(0, 1), (0, 2), (1, 0), (1, 2)], &[4, 0, 0])?;
-    let mut actor = ActorState::new(rt.alloc(), &game, 0, 1)?;
+    let mut actor = ActorState::new(rt.alloc(), &game, 0, Ring::one())?;
     let script = [
         (Act::Take { edge: 2, cell: 0 }, 0),
         (Act::Take { edge: 4, cell: 0 }, 4),
@@ -257,17 +236,10 @@ fn first_turn(rt: HostRuntime) -> Result<(), Fail> {
 #[test]
 fn turn_begun_in_the_middle(rt: HostRuntime) -> Result<(), Fail> {
     let game = game_of(rt.alloc(), 3, &[(0, 1), (0, 2), (1, 0), (1, 2)], &[6, 0, 0])?;
-    let mut actor = ActorState::new(rt.alloc(), &game, 0, 1)?;
+    let mut actor = ActorState::new(rt.alloc(), &game, 0, Ring::one())?;
     let before = [
         (Event::Take(4), 6, got(4, 0, 6)),
-        (
-            Event::Fire {
-                vertex: 0,
-                count: 2,
-            },
-            0,
-            Reply::Done(2),
-        ),
+        (Event::Fire { vertex: 0, k: 2 }, 0, Reply::Done(2)),
         (Event::Clear(0), 0, Reply::Done(0)),
         (Event::Claim(0), 0, sent(0, 0, 2)),
         (Event::Put(0), 0, Reply::Done(2)),

@@ -1,6 +1,6 @@
 //! The order of a turn. Each function tells what is due in a phase of it, and goes on to the next phase where nothing is.
 
-ghost use Rattle.std.specs.Prelude.{◌≡◌, ◌==◌, not, ⊤};
+ghost use Rattle.std.specs.Prelude.{◌≡◌, ◌==◌, not, true, ⊤};
 
 use crate::act::Act;
 use crate::actor::ActorState;
@@ -9,7 +9,7 @@ use chip_link::Event;
 
 impl ActorState {
     ghost use Rattle.chip_actor.specs.Cursor.{StandsAt, TurnContinues, DueAt, MayBeAt, IsFirstFrom};
-    ghost use Rattle.chip_actor.specs.Turn.{may_fire, is_at_limit};
+    ghost use Rattle.chip_actor.specs.Turn.{may_fire, batch_of, is_at_limit};
     ghost use Rattle.chip_actor.specs.Actor.{WhateverPart, SomePart, is_passive_now};
     ghost use Rattle.chip_detect.specs.Acknowledging.{may_ack};
 
@@ -26,7 +26,7 @@ impl ActorState {
     }
 
     // What is due at a cursor, with the cursor after it; nothing at the end of the turn.
-    fn due(&self, cursor: Cursor) -> Option<(Event, Cursor)>
+    pub(crate) fn due(&self, cursor: Cursor) -> Option<(Event, Cursor)>
         requires { MayBeAt self.now cursor }
         ensures { DueAt self.now cursor result }
     {
@@ -66,12 +66,20 @@ impl ActorState {
         }
     }
 
-    // It may fire now.
-    fn may_fire(&self) -> bool
-        ensures { WhateverPart self.now (λ g ring s. result ≡ may_fire g self.now.vertex s) }
+    /// It may fire now.
+    pub(crate) fn may_fire(&self) -> bool
+        ensures { WhateverPart self.now (λ g s. result ≡ may_fire g self.now.vertex s) }
     {
         let is_free = self.halt.is_none() && self.pending == 0 && self.unput == 0;
         is_free && self.is_legal() && self.fired < self.limit
+    }
+
+    /// How often it fires where it may: as often as its chips and its limit allow.
+    pub(crate) fn batch(&self) -> u64
+        requires { SomePart self.now (λ g s. may_fire g self.now.vertex s ≡ true) }
+        ensures { WhateverPart self.now (λ g s. result ≡ batch_of g self.now.vertex s) }
+    {
+        (self.chips / self.degree).min(self.limit - self.fired)
     }
 
     fn due_fire(&self) -> Option<(Event, Cursor)>
@@ -80,8 +88,8 @@ impl ActorState {
     {
         if self.may_fire() {
             let vertex = self.vertex;
-            let count = (self.chips / self.degree).min(self.limit - self.fired);
-            return Some((Event::Fire { vertex, count }, Cursor::Put(0)));
+            let k = self.batch();
+            return Some((Event::Fire { vertex, k }, Cursor::Put(0)));
         }
         self.due_put(0)
     }
@@ -90,6 +98,9 @@ impl ActorState {
         requires { MayBeAt self.now (Cursor.Put place) }
         ensures { DueAt self.now (Cursor.Put place) result }
     {
+        if self.unput == 0 {
+            return self.due_refusal();
+        }
         match self.outs.next_held(place) {
             Some(place) => {
                 let edge = self.outs.edges()[place];
@@ -116,6 +127,9 @@ impl ActorState {
         requires { MayBeAt self.now (Cursor.Send place) }
         ensures { DueAt self.now (Cursor.Send place) result }
     {
+        if self.pending == 0 {
+            return self.due_limit();
+        }
         match self.outs.next_pending(place) {
             Some(place) => {
                 let edge = self.outs.edges()[place];
@@ -147,9 +161,9 @@ impl ActorState {
         Some((Event::Halt(self.vertex), Cursor::Limit))
     }
 
-    // It may halt by the limit now.
-    fn is_at_limit(&self) -> bool
-        ensures { WhateverPart self.now (λ g ring s. result ≡ is_at_limit g self.now.vertex s) }
+    /// It may halt by the limit now.
+    pub(crate) fn is_at_limit(&self) -> bool
+        ensures { WhateverPart self.now (λ g s. result ≡ is_at_limit g self.now.vertex s) }
     {
         let is_free = self.halt.is_none() && self.pending == 0;
         is_free && self.is_legal() && self.fired == self.limit
@@ -180,13 +194,13 @@ impl ActorState {
 
     // The first place from this one on with an edge on which something may be acknowledged.
     fn next_owed(&self, place: usize) -> Option<usize>
-        requires { SomePart self.now (λ g ring s. ⊤) }
+        requires { SomePart self.now (λ g s. ⊤) }
         ensures { IsFirstFrom (λ e. not (may_ack self.now.detect e (is_passive_now self.now) == 0)) self.now.ins.edges place result }
     {
         let edges = self.ins.edges();
         let passive = self.passive();
         for next in place..edges.len() {
-            if self.detect.may_ack(edges[next], passive) != 0 {
+            if self.detect.may_ack_at(next, edges[next], passive) != 0 {
                 return Some(next);
             }
         }

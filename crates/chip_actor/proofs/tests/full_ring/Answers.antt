@@ -1,6 +1,7 @@
 use Rattle.std.proofs.Common.{◌≡◌, ◌∙◌, ℕ, List, [], ◌∷◌, true, refl}
 use Rattle.chip_actor.specs.declared.act.Act.{Act}
 use Rattle.chip_actor.specs.declared.reply.Reply.TheVariants.{Empty}
+use Rattle.chip_actor.specs.Setting.{Setting, setting_of}
 use Rattle.chip_actor.specs.Part.{opened}
 use Rattle.chip_actor.specs.Rules.{Event, Take, Fire, Clear, Claim, Put}
 use Rattle.chip_actor.specs.Steps.{Reply}
@@ -14,8 +15,13 @@ questions = (Take 2, 3, Empty) ∷ (Fire 0 1, 0, Empty) ∷ (Clear 0, 0, Empty) 
 abbrev turn : List (Act × ℕ)
 turn = []
 
-plays : may_play (game_on 3 ((0, 1) ∷ (1, 2) ∷ []) (3 ∷ 0 ∷ 0 ∷ [])) 0 (opened (game_on 3 ((0, 1) ∷ (1, 2) ∷ []) (3 ∷ 0 ∷ 0 ∷ []))) questions turn ≡ true
+plays : may_play (setting_of (game_on 3 ((0, 1) ∷ (1, 2) ∷ []) (3 ∷ 0 ∷ 0 ∷ [])) 1) 0 (opened (setting_of (game_on 3 ((0, 1) ∷ (1, 2) ∷ []) (3 ∷ 0 ∷ 0 ∷ [])) 1)) questions turn ≡ true
 plays = refl
 
 pub play-requires : goal.play-requires
-play-requires g c = (c.in_ok-game.game, 1, opened c.in_ok-game.game, c.in_ok-actor.ensures.opened, (λ j. may_play (c.in_ok-game.ensures j) (c.in_ok-actor.ensures.vertex j) (opened (c.in_ok-game.ensures j)) questions turn) ∙ plays)
+play-requires g c = (
+  setting_of c.in_ok-game.game c.one.result,
+  opened (setting_of c.in_ok-game.game c.one.result),
+  c.in_ok-actor.ensures.opened,
+  (λ j. let g : Setting = setting_of (c.in_ok-game.ensures j) (c.one.ensures j) in may_play g (c.in_ok-actor.ensures.vertex j) (opened g) questions turn) ∙ plays,
+)

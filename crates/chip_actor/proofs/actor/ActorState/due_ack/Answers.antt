@@ -9,14 +9,14 @@ use Rattle.chip_actor.proofs.CursorLemmas.{passes_due}
 use Rattle.chip_actor.proofs.actor.ActorState.due_ack.Goals as goal
 
 pub returns-in-Some : goal.returns-in-Some
-returns-in-Some c = λ g ring s stands at.
+returns-in-Some c = λ g s stands at.
     let v : ℕ = c.args.self.now.vertex in
     let n : ℕ = c.in-Some.place in
-    let first = first_owed g ring s c.args.self.now stands c.args.place (Some n) c.in-Some.ensures in
+    let first = first_owed g s c.args.self.now stands c.args.place (Some n) c.in-Some.ensures in
     let edges = c.edges.ensures.edges ∙ ap (λ (a : Actor). a.ins.edges) c.self.view_is ∙ stands.knows.ins in
     subst (λ (xs : List ℕ). GoesBy g v s (At.Ack c.args.place) (Ack (get_or xs n 0)) (At.Ack (n + 1))) (sym edges) (ack_due g v stands.knows.vertex s c.args.place n first.0 first.1 first.2 first.3)
 
 pub returns-in-None : goal.returns-in-None
-returns-in-None c = λ g ring s stands at.
+returns-in-None c = λ g s stands at.
     let v : ℕ = c.args.self.now.vertex in
-    passes_due g v s (At.Ack c.args.place) At.Parent (acks_over g v stands.knows.vertex s c.args.place (first_owed g ring s c.args.self.now stands c.args.place None c.in-None.ensures)) c.due_parent.result (c.due_parent.ensures g ring s stands tt)
+    passes_due g v s (At.Ack c.args.place) At.Parent (acks_over g v stands.knows.vertex s c.args.place (first_owed g s c.args.self.now stands c.args.place None c.in-None.ensures)) c.due_parent.result (c.due_parent.ensures g s stands tt)

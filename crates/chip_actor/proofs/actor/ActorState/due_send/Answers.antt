@@ -4,19 +4,25 @@ use Rattle.chip_actor.specs.Rules.{Clear}
 use Rattle.chip_actor.specs.Actor.{Actor}
 use Rattle.chip_actor.specs.Cursor.{GoesBy}
 use Rattle.chip_actor.proofs.TurnSteps.{send_due, sends_over}
-use Rattle.chip_actor.proofs.TurnActor.{first_pending}
+use Rattle.chip_actor.proofs.TurnActor.{first_pending, none_pending}
 use Rattle.chip_actor.proofs.CursorLemmas.{passes_due}
 use Rattle.chip_actor.proofs.actor.ActorState.due_send.Goals as goal
 
 pub returns-in-Some : goal.returns-in-Some
-returns-in-Some c = λ g ring s stands at.
+returns-in-Some c = λ g s stands at.
     let v : ℕ = c.args.self.now.vertex in
     let n : ℕ = c.in-Some.place in
-    let first = first_pending g ring s c.args.self.now stands _ c.self.view_is c.args.place (Some n) c.in-Some.ensures in
+    let first = first_pending g s c.args.self.now stands _ c.self.view_is c.args.place (Some n) c.in-Some.ensures in
     let edges = c.edges.ensures ∙ ap (λ (a : Actor). a.outs.edges) c.self.view_is ∙ stands.knows.outs in
     subst (λ (xs : List ℕ). GoesBy g v s (At.Send c.args.place) (Clear (get_or xs n 0)) (At.Claim n)) (sym edges) (send_due g v stands.knows.vertex s c.args.place n at first.0 first.1 first.2 first.3)
 
 pub returns-in-None : goal.returns-in-None
-returns-in-None c = λ g ring s stands at.
+returns-in-None c = λ g s stands at.
     let v : ℕ = c.args.self.now.vertex in
-    passes_due g v s (At.Send c.args.place) At.Limit (sends_over g v stands.knows.vertex s c.args.place (first_pending g ring s c.args.self.now stands _ c.self.view_is c.args.place None c.in-None.ensures)) c.due_limit.result (c.due_limit.ensures g ring s stands at.held)
+    passes_due g v s (At.Send c.args.place) At.Limit (sends_over g v stands.knows.vertex s c.args.place (first_pending g s c.args.self.now stands _ c.self.view_is c.args.place None c.in-None.ensures)) c.due_limit-in-None.result (c.due_limit-in-None.ensures g s stands at.held)
+
+pub returns-then-self-eq0 : goal.returns-then-self-eq0
+returns-then-self-eq0 c = λ g s stands at.
+    let v : ℕ = c.args.self.now.vertex in
+    let none = none_pending g s c.args.self.now stands (sym (ap (λ (a : Actor). a.pending) c.self.view_is) ∙ c.if-self-eq0.true) in
+    passes_due g v s (At.Send c.args.place) At.Limit (sends_over g v stands.knows.vertex s c.args.place (λ k le within. none k within)) c.due_limit.result (c.due_limit.ensures g s stands at.held)

@@ -8,7 +8,7 @@ use Rattle.chip_actor.proofs.CursorLemmas.{passes_due}
 use Rattle.chip_actor.proofs.actor.ActorState.due_settle.Goals as goal
 
 pub returns-in-Some : goal.returns-in-Some
-returns-in-Some c = λ g ring s stands at.
+returns-in-Some c = λ g s stands at.
     let v : ℕ = c.args.self.now.vertex in
     let n : ℕ = c.args.place in
     let found = c.in-Some.ensures.lookup.3 in
@@ -18,9 +18,9 @@ returns-in-Some c = λ g ring s stands at.
     subst (λ (e : ℕ). GoesBy g v s (At.Settle n) (Settle e) (At.Settle (n + 1))) (sym edge) (settle_due g v stands.knows.vertex s n within)
 
 pub returns-in-None : goal.returns-in-None
-returns-in-None c = λ g ring s stands at.
+returns-in-None c = λ g s stands at.
     let v : ℕ = c.args.self.now.vertex in
     let n : ℕ = c.args.place in
     let edges = c.edges.ensures ∙ ap (λ (a : Actor). a.outs.edges) c.self.view_is ∙ stands.knows.outs in
     let over = subst (λ (xs : List ℕ). length xs ≤ n) edges c.in-None.ensures.lookup.3 in
-    passes_due g v s (At.Settle n) At.Fire (settles_over g v stands.knows.vertex s n over) c.due_fire.result (c.due_fire.ensures g ring s stands tt)
+    passes_due g v s (At.Settle n) At.Fire (settles_over g v stands.knows.vertex s n over) c.due_fire.result (c.due_fire.ensures g s stands tt)

@@ -8,7 +8,7 @@ use Rattle.chip_actor.proofs.CursorLemmas.{passes_due}
 use Rattle.chip_actor.proofs.actor.ActorState.due_take.Goals as goal
 
 pub returns-in-Some : goal.returns-in-Some
-returns-in-Some c = λ g ring s stands at.
+returns-in-Some c = λ g s stands at.
     let v : ℕ = c.args.self.now.vertex in
     let n : ℕ = c.args.place in
     let found = c.in-Some.ensures.lookup.3 in
@@ -18,9 +18,9 @@ returns-in-Some c = λ g ring s stands at.
     subst (λ (e : ℕ). GoesBy g v s (At.Take n) (Take e) (At.Take (n + 1))) (sym edge) (take_due g v stands.knows.vertex s n within)
 
 pub returns-in-None : goal.returns-in-None
-returns-in-None c = λ g ring s stands at.
+returns-in-None c = λ g s stands at.
     let v : ℕ = c.args.self.now.vertex in
     let n : ℕ = c.args.place in
     let edges = c.edges.ensures.edges ∙ ap (λ (a : Actor). a.ins.edges) c.self.view_is ∙ stands.knows.ins in
     let over = subst (λ (xs : List ℕ). length xs ≤ n) edges c.in-None.ensures.lookup.3 in
-    passes_due g v s (At.Take n) (At.Settle 0) (takes_over g v stands.knows.vertex s n over) c.due_settle.result (c.due_settle.ensures g ring s stands tt)
+    passes_due g v s (At.Take n) (At.Settle 0) (takes_over g v stands.knows.vertex s n over) c.due_settle.result (c.due_settle.ensures g s stands tt)

@@ -1,6 +1,8 @@
-use Rattle.std.proofs.Common.{◌∙◌, ◌+◌, ℕ, List, [], ◌∷◌, length, ap, subst, arith, eqb, None, length-append}
+use Rattle.std.proofs.Common.{◌∙◌, ◌+◌, ◌<◌, ◌≤◌, ℕ, List, [], ◌∷◌, length, ap, subst, arith, eqb, None, length-append}
 use Rattle.chip_graph.specs.Multigraph.{Multigraph, edge_at, edges_out, edges_in, degree}
 use Rattle.chip_detect.specs.Books.{IsFresh}
+use Rattle.chip_link.specs.Rings.{max_ring}
+use Rattle.chip_actor.specs.Setting.{setting_of}
 use Rattle.chip_actor.specs.Ends.{IsFreshOuts, IsFreshIns}
 use Rattle.chip_actor.specs.Actor.{Actor}
 use Rattle.chip_actor.proofs.PickedLemmas.{length-picked}
@@ -32,7 +34,7 @@ returns-clause-opened c =
     let sink = c.sink.ensures.value ∙ ap (λ (G : Multigraph). G.sink) same in
     let degrees = c.out_degree.ensures ∙ ap (λ (G : Multigraph). degree G c.args.vertex) same in
     let outs = c.outs-2.ensures ∙ ap (λ (G : Multigraph). edges_out G c.args.vertex) same in
-    opens c.args.game.now c.args.ring c.args.vertex c.graph-graph.ensures.game c.requires.ring.0 c.requires.ring.1 c.requires.vertex c.in_ok-outs.outs c.in_ok-ins.ins c.in_ok-detect.detect
+    opens (setting_of c.args.game.now c.args.ring) c.args.vertex record { game = c.graph-graph.ensures.game; some_ring = subst (λ (n : ℕ). 0 < n) c.cells-cells.ensures.number c.cells-cells.ensures.range.0; small_ring = subst (λ (n : ℕ). n ≤ max_ring) c.cells-cells.ensures.number c.cells-cells.ensures.range.1 } c.requires c.in_ok-outs.outs c.in_ok-ins.ins c.in_ok-detect.detect
     (subst (λ (G : Multigraph). IsFreshOuts G c.args.ring c.args.vertex c.in_ok-outs.outs) same c.in_ok-outs.ensures)
     (subst (λ (G : Multigraph). IsFreshIns G c.args.ring c.args.vertex c.in_ok-ins.ins) same c.in_ok-ins.ensures)
     (subst (λ (xs : List ℕ). IsFresh c.in_ok-detect.detect c.in_ok-ins.ins.edges xs) outs (subst (λ (xs : List ℕ). IsFresh c.in_ok-detect.detect xs c.outs-2.result.now) c.edges.ensures.edges c.in_ok-detect.ensures.fresh))

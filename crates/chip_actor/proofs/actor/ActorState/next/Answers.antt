@@ -5,21 +5,21 @@ use Rattle.chip_actor.proofs.actor.ActorState.next.Goals as goal
 pub act-requires : goal.act-requires
 act-requires c =
     let r = c.requires in
-    let goes = c.in-Some.ensures r.0 r.1 r.2 r.3 r.4.2.fits in
-    (r.0, r.1, r.2, r.3, (goes.mine, goes.met))
+    let goes = c.in-Some.ensures r.0 r.1 r.2 r.3.2.fits in
+    (r.0, r.1, r.2, (goes.mine, goes.met))
 
 pub returns-in-Some : goal.returns-in-Some
-returns-in-Some c = λ g ring s stands. record {
+returns-in-Some c = λ g s stands. record {
   ends = λ is first done way.
-      (let goes = c.in-Some.ensures g ring s stands way.fits in
-      absurd (act_is_some g ring c.args.self.now.vertex stands.knows.vertex s c.in-Some.event goes.mine (sym (c.act.ensures g ring s stands goes.mine goes.met) ∙ is)));
+      (let goes = c.in-Some.ensures g s stands way.fits in
+      absurd (act_is_some g c.args.self.now.vertex stands.knows.vertex s c.in-Some.event goes.mine (sym (c.act.ensures g s stands goes.mine goes.met) ∙ is)));
   steps = λ some first done way.
-      (let goes = c.in-Some.ensures g ring s stands way.fits in
-      is_next g ring c.args.self.now.vertex stands.knows.vertex s c.args.cursor c.in-Some.next c.in-Some.event goes first done way c.act.result (c.act.ensures g ring s stands goes.mine goes.met));
+      (let goes = c.in-Some.ensures g s stands way.fits in
+      is_next g c.args.self.now.vertex stands.knows.vertex s c.args.cursor c.in-Some.next c.in-Some.event goes first done way c.act.result (c.act.ensures g s stands goes.mine goes.met));
 }
 
 pub returns-in-None : goal.returns-in-None
-returns-in-None c = λ g ring s stands. record {
-  ends = λ is first done way. is_over g c.args.self.now.vertex s c.args.cursor (c.in-None.ensures g ring s stands way.fits) first done way;
+returns-in-None c = λ g s stands. record {
+  ends = λ is first done way. is_over g c.args.self.now.vertex s c.args.cursor (c.in-None.ensures g s stands way.fits) first done way;
   steps = λ some. absurd (some refl);
 }

@@ -1,16 +1,11 @@
-use Rattle.std.proofs.Common.{◌∙◌, sym, subst, arith}
+use Rattle.std.proofs.Common.{sym, subst}
 use Rattle.chip_actor.specs.Rules.{Put}
 use Rattle.chip_actor.specs.Actor.{Actor, SomePart}
 use Rattle.chip_actor.specs.Acting.{CanDo}
 use Rattle.chip_actor.specs.contracts.actor.ActorState.{the_view}
-use Rattle.chip_actor.proofs.Making.{may_put, put_made}
+use Rattle.chip_actor.proofs.Making.{may_put}
 use Rattle.chip_actor.proofs.actor.ActorState.put.Goals as goal
 
-pub put-requires : goal.put-requires
-put-requires c = (may_put (the_view c.self.inside) c.args.edge c.args.seen (subst (λ (a : Actor). SomePart a (λ g ring s. CanDo g s a.vertex (Put c.args.edge) c.args.seen)) (sym c.self.view_is) c.requires)).among
-
-pub overflow_sub-self : goal.overflow_sub-self
-overflow_sub-self c = let may = may_put (the_view c.self.inside) c.args.edge c.args.seen (subst (λ (a : Actor). SomePart a (λ g ring s. CanDo g s a.vertex (Put c.args.edge) c.args.seen)) (sym c.self.view_is) c.requires) in let some = may.some_unput in omega arith
-
-pub returns : goal.returns
-returns c = rw (← c.self.view_is) (put_made (the_view c.self.inside) c.args.edge c.args.seen c.put.new.self c.unwrap-count.result (sym c.put.ensures.stored ∙ c.unwrap-count.ensures) c.put.ensures.after)
+-- the edge is one of the vertex's
+pub index_of-index-requires : goal.index_of-index-requires
+index_of-index-requires c = (may_put (the_view c.self.inside) c.args.edge c.args.seen (subst (λ (a : Actor). SomePart a (λ g s. CanDo g s a.vertex (Put c.args.edge) c.args.seen)) (sym c.self.view_is) c.requires)).among

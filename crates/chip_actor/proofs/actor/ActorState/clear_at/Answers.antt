@@ -1,0 +1,15 @@
+use Rattle.std.proofs.Common.{ℕ, subst}
+use Rattle.chip_actor.specs.Rules.{Clear}
+use Rattle.chip_actor.specs.Acting.{Makes}
+use Rattle.chip_actor.specs.contracts.actor.ActorState.{the_view}
+use Rattle.chip_actor.proofs.Making.{clear_made, clear_reply}
+use Rattle.std.proofs.Common.{Option}
+use Rattle.chip_actor.proofs.actor.ActorState.clear_at.Goals as goal
+
+pub returns-in_default : goal.returns-in_default
+returns-in_default c = rw (← c.self.view_is)
+    (subst (λ (w : Option (ℕ × ℕ)). Makes (the_view c.self.inside) (record (the_view c.self.inside) { outs = c.clear_at.new.self }) (Clear c.args.edge) c.args.seen (clear_reply w)) c.in_default.is (clear_made (the_view c.self.inside) c.args.edge c.args.seen c.clear_at.new.self c.clear_at.result c.clear_at.ensures.words c.clear_at.ensures.after))
+
+pub returns : goal.returns
+returns c = rw (← c.self.view_is)
+    (subst (λ (w : Option (ℕ × ℕ)). Makes (the_view c.self.inside) (record (the_view c.self.inside) { outs = c.clear_at.new.self }) (Clear c.args.edge) c.args.seen (clear_reply w)) c.in-Some.is (clear_made (the_view c.self.inside) c.args.edge c.args.seen c.clear_at.new.self c.clear_at.result c.clear_at.ensures.words c.clear_at.ensures.after))

@@ -1,0 +1,328 @@
+//! A whole turn over a medium: loops over the edges in the order of the turn, and what is rare operation by operation.
+
+ghost use Rattle.std.specs.Prelude.{◌≡◌, ◌≢◌, ◌+◌, ◌*◌, ◌^◌, ◌<◌, ◌≤◌, length, slice_index, ◌==◌, ◌&&◌, is_none, if◌then◌else◌, MatchOption, IfSome};
+
+use crate::act::{Act, Observed};
+use crate::actor::ActorState;
+use crate::cause::is_by_limit;
+use crate::cursor::Cursor;
+use crate::medium::Medium;
+use crate::reply::Reply;
+
+impl ActorState {
+    ghost use Rattle.chip_actor.specs.Ends.{out_on};
+    ghost use Rattle.chip_actor.specs.Medium.{Meets, Moves, MeetsDue, MakesDue, MakesTurn};
+
+    /// Takes once from the edge at this index of those into the vertex.
+    fn take_here<M: Medium>(&mut self, medium: &mut M, index: usize) -> usize
+        requires within { index < length self.old.ins.edges }
+        requires meets { Meets (M.holds medium.old) self.old (Cursor.Take index) }
+        ensures moves { Moves (M.holds medium.old) self.old (Cursor.Take index) (M.holds medium.new) self.new (Cursor.Take (index + 1)) result }
+        ensures few { result ≤ 1 }
+    {
+        let edge = self.ins.edges()[index];
+        let cell = self.ins.cell_at(index, edge);
+        let seen = medium.take(edge, cell);
+        let reply = self.take_at(index, edge, seen);
+        work_of(Act::Take { edge, cell }, seen, &reply)
+    }
+
+    /// Takes once from each edge into the vertex.
+    fn take_all<M: Medium>(&mut self, medium: &mut M) -> usize
+        requires { Meets (M.holds medium.old) self.old (Cursor.Take 0) }
+        ensures moves { Moves (M.holds medium.old) self.old (Cursor.Take 0) (M.holds medium.new) self.new (Cursor.Settle 0) result }
+        ensures few { result < 2 ^ 60 }
+    {
+        let mut work = 0;
+        for index in 0..self.ins.edges().len() {
+            work += self.take_here(medium, index);
+        }
+        work
+    }
+
+    /// Settles the edge at this index of those out of the vertex.
+    fn settle_here<M: Medium>(&mut self, medium: &mut M, index: usize) -> usize
+        requires within { index < length self.old.outs.edges }
+        requires meets { Meets (M.holds medium.old) self.old (Cursor.Settle index) }
+        ensures moves { Moves (M.holds medium.old) self.old (Cursor.Settle index) (M.holds medium.new) self.new (Cursor.Settle (index + 1)) result }
+        ensures few { result ≤ 1 }
+    {
+        let edge = self.outs.edges()[index];
+        let seen = medium.settle(edge);
+        let reply = self.settle_at(index, edge, seen);
+        work_of(Act::Settle { edge }, seen, &reply)
+    }
+
+    /// Settles each edge out of the vertex.
+    fn settle_all<M: Medium>(&mut self, medium: &mut M) -> usize
+        requires { Meets (M.holds medium.old) self.old (Cursor.Settle 0) }
+        ensures moves { Moves (M.holds medium.old) self.old (Cursor.Settle 0) (M.holds medium.new) self.new Cursor.Fire result }
+        ensures few { result < 2 ^ 60 }
+    {
+        let mut work = 0;
+        for index in 0..self.outs.edges().len() {
+            work += self.settle_here(medium, index);
+        }
+        work
+    }
+
+    /// Fires, where the vertex may: as often as its chips and its limit allow.
+    fn fire_here<M: Medium>(&mut self, medium: &mut M) -> usize
+        requires { Meets (M.holds medium.old) self.old Cursor.Fire }
+        ensures moves { Moves (M.holds medium.old) self.old Cursor.Fire (M.holds medium.new) self.new (Cursor.Put 0) result }
+        ensures few { result ≤ 1 }
+    {
+        if self.may_fire() {
+            let k = self.batch();
+            let seen = medium.fire(k);
+            let reply = self.fire(k, seen);
+            return work_of(Act::Fire { k }, seen, &reply);
+        }
+        0
+    }
+
+    /// Looks at the cell of the edge at this index of those out of the vertex, on which something is pending.
+    fn clear_here<M: Medium>(&mut self, medium: &mut M, index: usize)
+        requires within { index < length self.old.outs.edges }
+        requires pends { (out_on self.old.outs (slice_index self.old.outs.edges index)).pending ≢ 0 }
+        requires meets { Meets (M.holds medium.old) self.old (Cursor.Send index) }
+        ensures { Moves (M.holds medium.old) self.old (Cursor.Send index) (M.holds medium.new) self.new (Cursor.Claim index) 0 }
+    {
+        let edge = self.outs.edges()[index];
+        let cell = self.outs.at(index).link.cell();
+        let seen = medium.clear(edge, cell);
+        self.clear_at(index, edge, seen);
+    }
+
+    /// Claims the edge at this index of those out of the vertex, unless its cell was seen full.
+    fn claim_here<M: Medium>(&mut self, medium: &mut M, index: usize) -> Option<usize>
+        requires within { index < length self.old.outs.edges }
+        requires meets { Meets (M.holds medium.old) self.old (Cursor.Claim index) }
+        ensures moves { MatchOption result
+            (Moves (M.holds medium.old) self.old (Cursor.Claim index) (M.holds medium.new) self.new (Cursor.Send (index + 1)) 0)
+            (λ work. Moves (M.holds medium.old) self.old (Cursor.Claim index) (M.holds medium.new) self.new (Cursor.Store index) work) }
+        ensures few { IfSome result (λ work. work ≤ 1) }
+    {
+        let edge = self.outs.edges()[index];
+        let Some(words) = self.outs.at(index).link.claim_next() else {
+            return None;
+        };
+        let seen = medium.claim(edge, words.0, words.1);
+        let reply = self.claim_at(index, edge, seen);
+        let act = Act::Claim {
+            edge,
+            expected: words.0,
+            new: words.1,
+        };
+        Some(work_of(act, seen, &reply))
+    }
+
+    /// Puts what was claimed on the edge at this index of those out of the vertex; where the claim was refused, halts. Whether
+    /// the turn goes on with the next edge.
+    fn store_here<M: Medium>(&mut self, medium: &mut M, index: usize) -> bool
+        requires within { index < length self.old.outs.edges }
+        requires meets { Meets (M.holds medium.old) self.old (Cursor.Store index) }
+        ensures { Moves (M.holds medium.old) self.old (Cursor.Store index)
+            (M.holds medium.new) self.new (if result then Cursor.Send (index + 1) else Cursor.Limit) 1 }
+    {
+        let edge = self.outs.edges()[index];
+        let Some(stored) = self.outs.at(index).link.held() else {
+            let seen = medium.halt(is_by_limit(self.cause()));
+            self.stop(seen);
+            return false;
+        };
+        let seen = medium.put(edge, stored.0, stored.1);
+        self.put_at(index, edge, seen);
+        true
+    }
+
+    /// Sends on the edge at this index of those out of the vertex, where something is pending on it: how many steps count, and
+    /// whether the turn goes on with the next edge.
+    fn send_here<M: Medium>(&mut self, medium: &mut M, index: usize) -> (usize, bool)
+        requires within { index < length self.old.outs.edges }
+        requires meets { Meets (M.holds medium.old) self.old (Cursor.Send index) }
+        ensures moves { Moves (M.holds medium.old) self.old (Cursor.Send index)
+            (M.holds medium.new) self.new (if result.1 then Cursor.Send (index + 1) else Cursor.Limit) result.0 }
+        ensures few { result.0 ≤ 2 }
+    {
+        if self.outs.at(index).pending == 0 {
+            return (0, true);
+        }
+        self.clear_here(medium, index);
+        let Some(claimed) = self.claim_here(medium, index) else {
+            return (0, true);
+        };
+        let goes_on = self.store_here(medium, index);
+        (claimed + 1, goes_on)
+    }
+
+    /// Sends on each edge out of the vertex on which something is pending, until a claim is refused.
+    fn send_all<M: Medium>(&mut self, medium: &mut M) -> usize
+        requires { Meets (M.holds medium.old) self.old (Cursor.Send 0) }
+        ensures moves { Moves (M.holds medium.old) self.old (Cursor.Send 0) (M.holds medium.new) self.new Cursor.Limit result }
+        ensures few { result < 2 ^ 61 }
+    {
+        let mut work = 0;
+        for index in 0..self.outs.edges().len() {
+            let (sent, goes_on) = self.send_here(medium, index);
+            work += sent;
+            if !goes_on {
+                return work;
+            }
+        }
+        work
+    }
+
+    /// Acknowledges what may be acknowledged on the edge at this index of those into the vertex.
+    fn ack_here<M: Medium>(&mut self, medium: &mut M, index: usize) -> usize
+        requires within { index < length self.old.ins.edges }
+        requires meets { Meets (M.holds medium.old) self.old (Cursor.Ack index) }
+        ensures moves { Moves (M.holds medium.old) self.old (Cursor.Ack index) (M.holds medium.new) self.new (Cursor.Ack (index + 1)) result }
+        ensures few { result ≤ 1 }
+    {
+        let edge = self.ins.edges()[index];
+        let count = self.detect.may_ack_at(index, edge, self.passive());
+        if count == 0 {
+            return 0;
+        }
+        let seen = medium.ack(edge, count);
+        let reply = self.acknowledge_at(index, edge, seen);
+        work_of(Act::Ack { edge, count }, seen, &reply)
+    }
+
+    /// Acknowledges on each edge into the vertex.
+    fn ack_all<M: Medium>(&mut self, medium: &mut M) -> usize
+        requires { Meets (M.holds medium.old) self.old (Cursor.Ack 0) }
+        ensures moves { Moves (M.holds medium.old) self.old (Cursor.Ack 0) (M.holds medium.new) self.new Cursor.Parent result }
+        ensures few { result < 2 ^ 60 }
+    {
+        let mut work = 0;
+        for index in 0..self.ins.edges().len() {
+            work += self.ack_here(medium, index);
+        }
+        work
+    }
+
+    /// Makes an operation of a turn that is due; whether it counts.
+    fn make<M: Medium>(&mut self, medium: &mut M, act: Act) -> bool
+        requires some { act ≢ Act.End }
+        requires due { MeetsDue (M.holds medium.old) self.old act }
+        ensures { MakesDue (M.holds medium.old) self.old act (M.holds medium.new) self.new result }
+    {
+        let seen = perform(medium, act);
+        let observed = Observed { act, seen };
+        let reply = self.apply(observed);
+        observed.counts(&reply)
+    }
+
+    /// Makes what is left of a turn at a cursor, operation by operation.
+    fn finish<M: Medium>(&mut self, medium: &mut M, from: Cursor) -> usize
+        requires { Meets (M.holds medium.old) self.old from }
+        ensures moves { Moves (M.holds medium.old) self.old from (M.holds medium.new) self.new Cursor.Over result }
+        ensures few { result < 2 ^ 32 }
+    {
+        let mut cursor = from;
+        let mut work = 0;
+        loop {
+            let Some((event, next)) = self.due(cursor) else {
+                return work;
+            };
+            let act = self.act(&event);
+            if self.make(medium, act) {
+                work += 1;
+            }
+            cursor = next;
+        }
+    }
+
+    /// The last acknowledgements of a turn, where the vertex is engaged: one that isn't owes none.
+    fn acknowledge_all<M: Medium>(&mut self, medium: &mut M) -> usize
+        requires { Meets (M.holds medium.old) self.old (Cursor.Ack 0) }
+        ensures moves { Moves (M.holds medium.old) self.old (Cursor.Ack 0) (M.holds medium.new) self.new Cursor.Over result }
+        ensures few { result < 2 ^ 61 }
+    {
+        if self.detect.engaged() {
+            let acked = self.ack_all(medium);
+            return acked + self.finish(medium, Cursor::Parent);
+        }
+        0
+    }
+
+    /// What is left of a turn behind the sends. A halt by the limit comes once, so that it goes operation by operation.
+    fn halt_and_acknowledge<M: Medium>(&mut self, medium: &mut M) -> usize
+        requires { Meets (M.holds medium.old) self.old Cursor.Limit }
+        ensures moves { Moves (M.holds medium.old) self.old Cursor.Limit (M.holds medium.new) self.new Cursor.Over result }
+        ensures few { result < 2 ^ 61 }
+    {
+        if self.is_at_limit() {
+            return self.finish(medium, Cursor::Limit);
+        }
+        self.acknowledge_all(medium)
+    }
+
+    /// It runs, and nothing is left from before the turn: no message that is claimed and not put, no refusal.
+    fn may_send(&self) -> bool
+        ensures { result ≡ (is_none self.now.halt && self.now.unput == 0 && self.now.refused == 0) }
+    {
+        self.halt.is_none() && self.unput == 0 && self.refused == 0
+    }
+
+    /// What is left of a turn behind the firing. A vertex that is halted, or that a schedule left in the middle of a turn, goes
+    /// operation by operation.
+    fn send_and_acknowledge<M: Medium>(&mut self, medium: &mut M) -> usize
+        requires { Meets (M.holds medium.old) self.old (Cursor.Put 0) }
+        ensures moves { Moves (M.holds medium.old) self.old (Cursor.Put 0) (M.holds medium.new) self.new Cursor.Over result }
+        ensures few { result < 2 ^ 62 }
+    {
+        if self.may_send() {
+            let sent = self.send_all(medium);
+            return sent + self.halt_and_acknowledge(medium);
+        }
+        self.finish(medium, Cursor::Put(0))
+    }
+
+    /// One whole turn over a medium; how many of its steps count as work.
+    pub fn turn<M: Medium>(&mut self, medium: &mut M) -> usize
+        requires { Meets (M.holds medium.old) self.old (Cursor.Take 0) }
+        ensures { MakesTurn (M.holds medium.old) self.old (M.holds medium.new) self.new result }
+    {
+        let taken = self.take_all(medium);
+        let settled = self.settle_all(medium);
+        let fired = self.fire_here(medium);
+        taken + settled + fired + self.send_and_acknowledge(medium)
+    }
+}
+
+ghost use Rattle.chip_actor.specs.Counting.{is_work};
+ghost use Rattle.chip_actor.specs.Medium.{MayServe, Serves};
+
+/// How much a step with this reply counts for: 1 where it is work, else 0.
+fn work_of(act: Act, seen: u64, reply: &Reply) -> usize
+    ensures { result ≡ (if is_work act reply.now then 1 else 0) }
+{
+    let observed = Observed { act, seen };
+    if observed.counts(reply) { 1 } else { 0 }
+}
+
+/// Makes an operation on the shared words, and gives the word that it saw.
+fn perform<M: Medium>(medium: &mut M, act: Act) -> u64
+    requires some { act ≢ Act.End }
+    requires may { MayServe (M.holds medium.old) act }
+    ensures { Serves (M.holds medium.old) (M.holds medium.new) act result }
+{
+    match act {
+        Act::Take { edge, cell } => medium.take(edge, cell),
+        Act::Settle { edge } => medium.settle(edge),
+        Act::Fire { k } => medium.fire(k),
+        Act::Clear { edge, cell } => medium.clear(edge, cell),
+        Act::Claim {
+            edge,
+            expected,
+            new,
+        } => medium.claim(edge, expected, new),
+        Act::Put { edge, cell, value } => medium.put(edge, cell, value),
+        Act::Halt { by_limit } => medium.halt(by_limit),
+        Act::Ack { edge, count } => medium.ack(edge, count),
+        Act::End => unreachable!(),
+    }
+}

@@ -1,6 +1,6 @@
 -- The core theorem.
 use Rattle.std.proofs.Common.{◌≡◌, ℕ, ◌<◌, ◌++◌, List, sym, ap, ◌∙◌, append-nil}
-use Rattle.chip_graph.specs.ChipGame.{ChipGame, IsGame}
+use Rattle.chip_actor.specs.Setting.{Setting, HasGame}
 use Rattle.chip_core.specs.Core.{Log, Event, IsLegalLog, log_after, IsClosed, all_edges}
 use Rattle.chip_core.specs.Messages.{Message, sent_on, delivered_on}
 use Rattle.chip_core.specs.Headline.{Headline, CoreTheorem}
@@ -10,36 +10,36 @@ use Rattle.chip_core.proofs.ReachingLemmas.{run_legal}
 use Rattle.chip_core.proofs.MessageLemmas.{nothing_after_seal, sealed_before, left_is, delivers_prefix, sent_in_order}
 use Rattle.chip_core.proofs.ClosingLemmas.{nothing_in_flight, all_ended, agrees, played, agrees_within, over, still_run}
 
-module _ (g : ChipGame) (ring : ℕ) (game : IsGame g) (some_ring : 0 < ring) (log : Log) (legal : IsLegalLog g ring log) (xs : List Event) where
+module _ (g : Setting) (game : HasGame g) (some_ring : 0 < g.ring) (log : Log) (legal : IsLegalLog g log) (xs : List Event) where
   abbrev after : Log
-  after = log_after g ring log xs
+  after = log_after g log xs
 
-  after_legal : IsLegalLog g ring after
-  after_legal = run_legal g ring log xs legal
+  after_legal : IsLegalLog g after
+  after_legal = run_legal g log xs legal
 
-  all_delivered : IsClosed g after → (e : ℕ) → e < all_edges g → delivered_on g ring log xs e ≡ sent_on g ring log xs e
+  all_delivered : IsClosed g after → (e : ℕ) → e < all_edges g → delivered_on g log xs e ≡ sent_on g log xs e
   all_delivered closed e l =
-      sym (append-nil (delivered_on g ring log xs e)) ∙ ap (λ (ms : List Message). delivered_on g ring log xs e ++ ms) (sym (nothing_in_flight g ring game some_ring after after_legal closed e l)) ∙ left_is g ring game some_ring log xs e legal
+      sym (append-nil (delivered_on g log xs e)) ∙ ap (λ (ms : List Message). delivered_on g log xs e ++ ms) (sym (nothing_in_flight g game some_ring after after_legal closed e l)) ∙ left_is g game some_ring log xs e legal
 
-  pub headline : Headline g ring log xs
+  pub headline : Headline g log xs
   headline = record {
-    prefix = λ e. delivers_prefix g ring game some_ring log xs e legal;
-    left = λ e. left_is g ring game some_ring log xs e legal;
-    in_order = λ e. sent_in_order g ring game some_ring log xs e legal;
-    sealed = nothing_after_seal g ring log xs;
-    sealed_before = sealed_before g ring log xs;
-    position = leads_to g ring game some_ring after after_legal;
-    none_below = none_below g ring game some_ring after after_legal;
-    by_counts = by_counts g ring game some_ring after after_legal;
-    made = held_is g ring game some_ring after after_legal;
-    order = detection_order g ring game some_ring after after_legal;
+    prefix = λ e. delivers_prefix g game some_ring log xs e legal;
+    left = λ e. left_is g game some_ring log xs e legal;
+    in_order = λ e. sent_in_order g game some_ring log xs e legal;
+    sealed = nothing_after_seal g log xs;
+    sealed_before = sealed_before g log xs;
+    position = leads_to g game some_ring after after_legal;
+    none_below = none_below g game some_ring after after_legal;
+    by_counts = by_counts g game some_ring after after_legal;
+    made = held_is g game some_ring after after_legal;
+    order = detection_order g game some_ring after after_legal;
     everything_delivered = all_delivered;
-    one_end = λ closed none. agrees g ring game some_ring after after_legal closed none;
-    ended = λ closed none. all_ended g ring game some_ring after after_legal closed none;
-    one_end_within = λ closed none. agrees_within g ring game some_ring after after_legal closed none;
-    ended_within = λ closed none. played g ring game some_ring after after_legal closed none;
-    over = λ closed none. over g ring game some_ring after after_legal closed none;
-    still = still_run g ring game some_ring after after_legal;
+    one_end = λ closed none. agrees g game some_ring after after_legal closed none;
+    ended = λ closed none. all_ended g game some_ring after after_legal closed none;
+    one_end_within = λ closed none. agrees_within g game some_ring after after_legal closed none;
+    ended_within = λ closed none. played g game some_ring after after_legal closed none;
+    over = λ closed none. over g game some_ring after after_legal closed none;
+    still = still_run g game some_ring after after_legal;
   }
 
 pub core_theorem : CoreTheorem

@@ -10,3 +10,6 @@ pub mod MessageLemmas
 pub mod HeadlineLemmas
 pub mod WorkedCloses
 pub mod WorkedOrder
+pub mod OutcomeLemmas
+pub mod Showing
+pub mod ReachedLemmas

@@ -6,7 +6,7 @@ use Rattle.std.proofs.lemmas.List.Sums.{sum_by-cons}
 use Rattle.std.specs.List.{slice_get}
 use mathlib.Core.Logic.{dite}
 use native.Mathlib.Decide.{ℕ_discrete}
-use Rattle.chip_graph.specs.ChipGame.{ChipGame, IsGame}
+use Rattle.chip_actor.specs.Setting.{Setting, HasGame}
 use Rattle.chip_graph.proofs.SumLemmas.{cond_yes, cond_no, by_test, cond_true, cond_false}
 use Rattle.chip_link.specs.Words.{edge_word}
 use Rattle.chip_link.specs.Link.{Tail, sent_counts, claims_of, after_clear, after_claim, after_put, after_take}
@@ -101,13 +101,13 @@ at_other P e new old here rest i = dite (ℕ_discrete e i)
     (λ same. subst (λ (k : ℕ). P k (cond (eqb e k) (new k) (old k))) same (subst (P e) (sym (cond_yes e e (new e) (old e) refl)) here))
     (λ other. subst (P i) (sym (cond_no e i (new i) (old i) other)) (rest i other))
 
-module _ (g : ChipGame) (ring : ℕ) where
+module _ (g : Setting) where
   -- ---- seals
 
   -- a claim of a sealed edge isn't answered by a message
-  refused_claim : (log : Log) (e : ℕ) → was_sealed log e ≡ true → (i : ℕ) → sent_by e (Claim i) (reply_of g (Claim i) (sees g ring log (Claim i)) (part_in g log (tail_of g i))) ≡ []
+  refused_claim : (log : Log) (e : ℕ) → was_sealed log e ≡ true → (i : ℕ) → sent_by e (Claim i) (reply_of g (Claim i) (sees g log (Claim i)) (part_in g log (tail_of g i))) ≡ []
   refused_claim log e was i =
-      let seen : ℕ = sees g ring log (Claim i) in
+      let seen : ℕ = sees g log (Claim i) in
       let t : Tail = (out_in g log i).link in
       let m : Message = message_of i (claims_of t) (out_in g log i).pending in
       dite (ℕ_discrete i e)
@@ -119,7 +119,7 @@ module _ (g : ChipGame) (ring : ℕ) where
       (λ hit. ap (sent_by e (Claim i)) (cond_true _ (Sent m) Sealed hit) ∙ cond_no i e (m ∷ []) [] other)
       (λ miss. ap (sent_by e (Claim i)) (cond_false _ (Sent m) Sealed miss)))
 
-  no_send : (log : Log) (e : ℕ) → was_sealed log e ≡ true → (x : Event) (o : Option Rule) → sent_by e x (answer g ring log x o).1 ≡ []
+  no_send : (log : Log) (e : ℕ) → was_sealed log e ≡ true → (x : Event) (o : Option Rule) → sent_by e x (answer g log x o).1 ≡ []
   no_send log e was x (Some r) = not_sent e x r
   no_send log e was (Claim i) None = refused_claim log e was i
   no_send log e was (Take i) None = refl
@@ -132,18 +132,18 @@ module _ (g : ChipGame) (ring : ℕ) where
   no_send log e was (Seal i) None = refl
   no_send log e was (Read v) None = refl
 
-  stays_sealed : (log : Log) (e : ℕ) → was_sealed log e ≡ true → (x : Event) (o : Option Rule) → was_sealed (answer g ring log x o).0 e ≡ true
+  stays_sealed : (log : Log) (e : ℕ) → was_sealed log e ≡ true → (x : Event) (o : Option Rule) → was_sealed (answer g log x o).0 e ≡ true
   stays_sealed log e was x (Some r) = was
   stays_sealed log e was x None = or_right (is_seal e x) (was_sealed log e) was
 
   -- on an edge that is sealed nothing is sent any more
-  pub sealed_before : (log : Log) (xs : List Event) (e : ℕ) → was_sealed log e ≡ true → sent_in e xs (replies_to g ring log xs) ≡ []
+  pub sealed_before : (log : Log) (xs : List Event) (e : ℕ) → was_sealed log e ≡ true → sent_in e xs (replies_to g log xs) ≡ []
   sealed_before log [] e was = refl
   sealed_before log (x ∷ xs) e was =
       let o : Option Rule = unmet g x (part_in g log (part_of g x)) in
-      ap (λ (ms : List Message). ms ++ sent_in e xs (replies_to g ring (step g ring log x).0 xs)) (no_send log e was x o) ∙ sealed_before (step g ring log x).0 xs e (stays_sealed log e was x o)
+      ap (λ (ms : List Message). ms ++ sent_in e xs (replies_to g (step g log x).0 xs)) (no_send log e was x o) ∙ sealed_before (step g log x).0 xs e (stays_sealed log e was x o)
 
-  now_sealed : (log : Log) (e : ℕ) (x : Event) (o : Option Rule) → is_seal_of e x (answer g ring log x o).1 ≡ true → was_sealed (answer g ring log x o).0 e ≡ true
+  now_sealed : (log : Log) (e : ℕ) (x : Event) (o : Option Rule) → is_seal_of e x (answer g log x o).1 ≡ true → was_sealed (answer g log x o).0 e ≡ true
   now_sealed log e x (Some r) is = absurd (true≢false (sym is ∙ not_seal e x r))
   now_sealed log e (Seal i) None is = ap (λ (b : Bool). b || was_sealed log e) is
   now_sealed log e (Take i) None is = absurd (true≢false (sym is))
@@ -157,14 +157,14 @@ module _ (g : ChipGame) (ring : ℕ) where
   now_sealed log e (Read v) None is = absurd (true≢false (sym is))
 
   -- nothing is sent after a seal
-  pub nothing_after_seal : (log : Log) (xs : List Event) (e : ℕ) → sent_after_seal e xs (replies_to g ring log xs) ≡ []
+  pub nothing_after_seal : (log : Log) (xs : List Event) (e : ℕ) → sent_after_seal e xs (replies_to g log xs) ≡ []
   nothing_after_seal log [] e = refl
   nothing_after_seal log (x ∷ xs) e =
-      let next : Log = (step g ring log x).0 in
-      let here : Bool = is_seal_of e x (step g ring log x).1 in
+      let next : Log = (step g log x).0 in
+      let here : Bool = is_seal_of e x (step g log x).1 in
       by_test here
-      (λ on. cond_true here (sent_in e xs (replies_to g ring next xs)) (sent_after_seal e xs (replies_to g ring next xs)) on ∙ sealed_before next xs e (now_sealed log e x (unmet g x (part_in g log (part_of g x))) on))
-      (λ off. cond_false here (sent_in e xs (replies_to g ring next xs)) (sent_after_seal e xs (replies_to g ring next xs)) off ∙ nothing_after_seal next xs e)
+      (λ on. cond_true here (sent_in e xs (replies_to g next xs)) (sent_after_seal e xs (replies_to g next xs)) on ∙ sealed_before next xs e (now_sealed log e x (unmet g x (part_in g log (part_of g x))) on))
+      (λ off. cond_false here (sent_in e xs (replies_to g next xs)) (sent_after_seal e xs (replies_to g next xs)) off ∙ nothing_after_seal next xs e)
 
   -- ---- what was delivered
 
@@ -172,9 +172,9 @@ module _ (g : ChipGame) (ring : ℕ) where
   abbrev got_at : Log → ℕ → List Message
   got_at log e = messages_from e 0 (into_in g log e).got
 
-  got_event : (x : Event) (log : Log) (e : ℕ) → messages_from e 0 (got_after x (sees g ring log x) e (into_in g log e)) ≡ got_at log e ++ delivered_by e x (reply_of g x (sees g ring log x) (part_in g log (part_of g x)))
+  got_event : (x : Event) (log : Log) (e : ℕ) → messages_from e 0 (got_after x (sees g log x) e (into_in g log e)) ≡ got_at log e ++ delivered_by e x (reply_of g x (sees g log x) (part_in g log (part_of g x)))
   got_event (Take i) log e =
-      let seen : ℕ = sees g ring log (Take i) in
+      let seen : ℕ = sees g log (Take i) in
       let got : List ℕ = (into_in g log i).got in
       let m : Message = message_of i (length got) seen in
       dite (ℕ_discrete seen 0)
@@ -199,38 +199,38 @@ module _ (g : ChipGame) (ring : ℕ) where
   got_event (Seal i) log e = sym (append-nil (got_at log e))
   got_event (Read v) log e = sym (append-nil (got_at log e))
 
-  got_answer : (log : Log) (x : Event) (o : Option Rule) (e : ℕ) → got_at (answer g ring log x o).0 e ≡ got_at log e ++ delivered_by e x (answer g ring log x o).1
-  got_answer log x None e = ap (messages_from e 0) (got_step g (record { event = x; seen = sees g ring log x }) log e) ∙ got_event x log e
+  got_answer : (log : Log) (x : Event) (o : Option Rule) (e : ℕ) → got_at (answer g log x o).0 e ≡ got_at log e ++ delivered_by e x (answer g log x o).1
+  got_answer log x None e = ap (messages_from e 0) (got_step g (record { event = x; seen = sees g log x }) log e) ∙ got_event x log e
   got_answer log x (Some r) e = sym (ap (λ (l : List Message). got_at log e ++ l) (not_delivered e x r) ∙ append-nil (got_at log e))
 
   -- after a run: what was delivered before it, and what its replies say
-  delivered_is : (log : Log) (xs : List Event) (e : ℕ) → got_at (log_after g ring log xs) e ≡ got_at log e ++ delivered_on g ring log xs e
+  delivered_is : (log : Log) (xs : List Event) (e : ℕ) → got_at (log_after g log xs) e ≡ got_at log e ++ delivered_on g log xs e
   delivered_is log [] e = sym (append-nil (got_at log e))
   delivered_is log (x ∷ xs) e =
-      delivered_is (step g ring log x).0 xs e
-      ∙ ap (λ (l : List Message). l ++ delivered_on g ring (step g ring log x).0 xs e) (got_answer log x (unmet g x (part_in g log (part_of g x))) e)
-      ∙ append_assoc (got_at log e) (delivered_by e x (step g ring log x).1) (delivered_on g ring (step g ring log x).0 xs e)
+      delivered_is (step g log x).0 xs e
+      ∙ ap (λ (l : List Message). l ++ delivered_on g (step g log x).0 xs e) (got_answer log x (unmet g x (part_in g log (part_of g x))) e)
+      ∙ append_assoc (got_at log e) (delivered_by e x (step g log x).1) (delivered_on g (step g log x).0 xs e)
 
-  module _ (game : IsGame g) (some_ring : 0 < ring) where
+  module _ (game : HasGame g) (some_ring : 0 < g.ring) where
     -- ---- what was sent
 
     -- all that was ever sent on e
     abbrev sent_at : Log → ℕ → List Message
     sent_at log e = messages_from e 0 (sent_counts (out_in g log e).link)
 
-    sent_event : (x : Event) (log : Log) (e : ℕ) → IsLegalLog g ring log → unmet g x (part_in g log (part_of g x)) ≡ None
-        → messages_from e 0 (sent_counts (link_after x (sees g ring log x) e (out_in g log e))) ≡ sent_at log e ++ sent_by e x (reply_of g x (sees g ring log x) (part_in g log (part_of g x)))
-    sent_event (Clear i) log e legal met = ap (messages_from e 0) (at_edge (λ j (t : Tail). sent_counts t ≡ sent_counts (out_in g log j).link) i (λ j. after_clear (sees g ring log (Clear i)) (out_in g log j).link) (λ j. (out_in g log j).link) refl (λ j. refl) e) ∙ sym (append-nil (sent_at log e))
+    sent_event : (x : Event) (log : Log) (e : ℕ) → IsLegalLog g log → unmet g x (part_in g log (part_of g x)) ≡ None
+        → messages_from e 0 (sent_counts (link_after x (sees g log x) e (out_in g log e))) ≡ sent_at log e ++ sent_by e x (reply_of g x (sees g log x) (part_in g log (part_of g x)))
+    sent_event (Clear i) log e legal met = ap (messages_from e 0) (at_edge (λ j (t : Tail). sent_counts t ≡ sent_counts (out_in g log j).link) i (λ j. after_clear (sees g log (Clear i)) (out_in g log j).link) (λ j. (out_in g log j).link) refl (λ j. refl) e) ∙ sym (append-nil (sent_at log e))
     sent_event (Put i) log e legal met = ap (messages_from e 0) (at_edge (λ j (t : Tail). sent_counts t ≡ sent_counts (out_in g log j).link) i (λ j. after_put (out_in g log j).link) (λ j. (out_in g log j).link) (append-nil (sent_counts (out_in g log i).link)) (λ j. refl) e) ∙ sym (append-nil (sent_at log e))
     sent_event (Claim i) log e legal met =
-        let seen : ℕ = sees g ring log (Claim i) in
+        let seen : ℕ = sees g log (Claim i) in
         let o : Out = out_in g log i in
         let t : Tail = o.link in
         let m : Message = message_of i (claims_of t) o.pending in
         dite (ℕ_discrete seen (claims_of t))
         (λ hit.
         let may = rules_met g (Claim i) (part_in g log (tail_of g i)) met in
-        let empty : t.held ≡ None = (edge_sound g ring game some_ring log legal i).quiet may.2 in
+        let empty : t.held ≡ None = (edge_sound g game some_ring log legal i).quiet may.2 in
         let all : sent_counts t ≡ t.put = ap (λ (h : Option ℕ). t.put ++ option_to_list h) empty ∙ append-nil t.put in
         let is : sent_counts (after_claim o.pending seen t) ≡ sent_counts t ++ o.pending ∷ [] = ap sent_counts (cond_yes seen (claims_of t) (record t { held = Some o.pending; clear = false }) (record t { clear = false; refused = true }) hit) ∙ ap (λ (l : List ℕ). l ++ o.pending ∷ []) (sym all) in
         let reply : sent_by e (Claim i) (reply_of g (Claim i) seen (part_in g log (tail_of g i))) ≡ cond (eqb i e) (m ∷ []) [] = ap (sent_by e (Claim i)) (cond_yes seen (claims_of t) (Sent m) Sealed hit) in
@@ -251,24 +251,24 @@ module _ (g : ChipGame) (ring : ℕ) where
     sent_event (Seal i) log e legal met = sym (append-nil (sent_at log e))
     sent_event (Read v) log e legal met = sym (append-nil (sent_at log e))
 
-    sent_answer : (log : Log) (x : Event) (o : Option Rule) (e : ℕ) → unmet g x (part_in g log (part_of g x)) ≡ o → IsLegalLog g ring log → sent_at (answer g ring log x o).0 e ≡ sent_at log e ++ sent_by e x (answer g ring log x o).1
-    sent_answer log x None e met legal = ap (λ (t : Tail). messages_from e 0 (sent_counts t)) (link_step g (record { event = x; seen = sees g ring log x }) log e) ∙ sent_event x log e legal met
+    sent_answer : (log : Log) (x : Event) (o : Option Rule) (e : ℕ) → unmet g x (part_in g log (part_of g x)) ≡ o → IsLegalLog g log → sent_at (answer g log x o).0 e ≡ sent_at log e ++ sent_by e x (answer g log x o).1
+    sent_answer log x None e met legal = ap (λ (t : Tail). messages_from e 0 (sent_counts t)) (link_step g (record { event = x; seen = sees g log x }) log e) ∙ sent_event x log e legal met
     sent_answer log x (Some r) e met legal = sym (ap (λ (l : List Message). sent_at log e ++ l) (not_sent e x r) ∙ append-nil (sent_at log e))
 
     -- after a run: what was sent before it, and what its replies say
-    sent_is : (log : Log) (xs : List Event) (e : ℕ) → IsLegalLog g ring log → sent_at (log_after g ring log xs) e ≡ sent_at log e ++ sent_in e xs (replies_to g ring log xs)
+    sent_is : (log : Log) (xs : List Event) (e : ℕ) → IsLegalLog g log → sent_at (log_after g log xs) e ≡ sent_at log e ++ sent_in e xs (replies_to g log xs)
     sent_is log [] e legal = sym (append-nil (sent_at log e))
     sent_is log (x ∷ xs) e legal =
-        sent_is (step g ring log x).0 xs e (step_legal g ring log x legal)
-        ∙ ap (λ (l : List Message). l ++ sent_in e xs (replies_to g ring (step g ring log x).0 xs)) (sent_answer log x (unmet g x (part_in g log (part_of g x))) e refl legal)
-        ∙ append_assoc (sent_at log e) (sent_by e x (step g ring log x).1) (sent_in e xs (replies_to g ring (step g ring log x).0 xs))
+        sent_is (step g log x).0 xs e (step_legal g log x legal)
+        ∙ ap (λ (l : List Message). l ++ sent_in e xs (replies_to g (step g log x).0 xs)) (sent_answer log x (unmet g x (part_in g log (part_of g x))) e refl legal)
+        ∙ append_assoc (sent_at log e) (sent_by e x (step g log x).1) (sent_in e xs (replies_to g (step g log x).0 xs))
 
     -- ---- what is in flight
 
     -- what was delivered and what is in flight is what was sent
-    in_flight_is : (log : Log) (e : ℕ) → IsLegalLog g ring log → sent_at log e ≡ got_at log e ++ in_flight g log e
+    in_flight_is : (log : Log) (e : ℕ) → IsLegalLog g log → sent_at log e ≡ got_at log e ++ in_flight g log e
     in_flight_is log e legal =
-        let s = edge_sound g ring game some_ring log legal e in
+        let s = edge_sound g game some_ring log legal e in
         let t = (out_in g log e).link in
         let got = (into_in g log e).got in
         let front : got ≡ take (length got) (sent_counts t) = s.prefix ∙ sym (take-append-le (length got) t.put (option_to_list t.held) s.behind) in
@@ -276,42 +276,42 @@ module _ (g : ChipGame) (ring : ℕ) where
         ap (messages_from e 0) (sym whole) ∙ messages-append e 0 got (counts_in_flight g log e) ∙ ap (λ (n : ℕ). got_at log e ++ messages_from e n (counts_in_flight g log e)) (let z : 0 + length got ≡ length got = omega arith in z)
 
     -- all that was sent after a run: what was delivered before it, and what it had to deliver
-    all_sent : (log : Log) (xs : List Event) (e : ℕ) → IsLegalLog g ring log → sent_at (log_after g ring log xs) e ≡ got_at log e ++ sent_on g ring log xs e
+    all_sent : (log : Log) (xs : List Event) (e : ℕ) → IsLegalLog g log → sent_at (log_after g log xs) e ≡ got_at log e ++ sent_on g log xs e
     all_sent log xs e legal =
-        sent_is log xs e legal ∙ ap (λ (l : List Message). l ++ sent_in e xs (replies_to g ring log xs)) (in_flight_is log e legal)
-        ∙ append_assoc (got_at log e) (in_flight g log e) (sent_in e xs (replies_to g ring log xs))
+        sent_is log xs e legal ∙ ap (λ (l : List Message). l ++ sent_in e xs (replies_to g log xs)) (in_flight_is log e legal)
+        ∙ append_assoc (got_at log e) (in_flight g log e) (sent_in e xs (replies_to g log xs))
 
     -- the prefix law, with what is left
-    pub left_is : (log : Log) (xs : List Event) (e : ℕ) → IsLegalLog g ring log → delivered_on g ring log xs e ++ in_flight g (log_after g ring log xs) e ≡ sent_on g ring log xs e
+    pub left_is : (log : Log) (xs : List Event) (e : ℕ) → IsLegalLog g log → delivered_on g log xs e ++ in_flight g (log_after g log xs) e ≡ sent_on g log xs e
     left_is log xs e legal =
-        let after : Log = log_after g ring log xs in
-        append_cancel_left (got_at log e) (delivered_on g ring log xs e ++ in_flight g after e) (sent_on g ring log xs e)
-        (sym (append_assoc (got_at log e) (delivered_on g ring log xs e) (in_flight g after e))
+        let after : Log = log_after g log xs in
+        append_cancel_left (got_at log e) (delivered_on g log xs e ++ in_flight g after e) (sent_on g log xs e)
+        (sym (append_assoc (got_at log e) (delivered_on g log xs e) (in_flight g after e))
         ∙ ap (λ (l : List Message). l ++ in_flight g after e) (sym (delivered_is log xs e))
-        ∙ sym (in_flight_is after e (run_legal g ring log xs legal))
+        ∙ sym (in_flight_is after e (run_legal g log xs legal))
         ∙ all_sent log xs e legal)
 
-    pub delivers_prefix : (log : Log) (xs : List Event) (e : ℕ) → IsLegalLog g ring log → IsPrefix (delivered_on g ring log xs e) (sent_on g ring log xs e)
-    delivers_prefix log xs e legal = (in_flight g (log_after g ring log xs) e, left_is log xs e legal)
+    pub delivers_prefix : (log : Log) (xs : List Event) (e : ℕ) → IsLegalLog g log → IsPrefix (delivered_on g log xs e) (sent_on g log xs e)
+    delivers_prefix log xs e legal = (in_flight g (log_after g log xs) e, left_is log xs e legal)
 
     -- what a run has to deliver is what the tail's part has after it, but for what was delivered before
-    pub sent_stands : (log : Log) (xs : List Event) (e : ℕ) → IsLegalLog g ring log
-        → sent_on g ring log xs e ≡ messages_from e (length (into_in g log e).got) (drop (length (into_in g log e).got) (sent_counts (out_in g (log_after g ring log xs) e).link))
+    pub sent_stands : (log : Log) (xs : List Event) (e : ℕ) → IsLegalLog g log
+        → sent_on g log xs e ≡ messages_from e (length (into_in g log e).got) (drop (length (into_in g log e).got) (sent_counts (out_in g (log_after g log xs) e).link))
     sent_stands log xs e legal =
         let n : ℕ = length (into_in g log e).got in
-        let all : List ℕ = sent_counts (out_in g (log_after g ring log xs) e).link in
+        let all : List ℕ = sent_counts (out_in g (log_after g log xs) e).link in
         let front : length (got_at log e) ≡ n = length-messages e 0 (into_in g log e).got in
         let both = ap length (all_sent log xs e legal) in
         let long = length-messages e 0 all in
-        let parts = length-append (got_at log e) (sent_on g ring log xs e) in
+        let parts = length-append (got_at log e) (sent_on g log xs e) in
         let enough : n ≤ length all = omega arith in
         let taken : length (take n all) ≡ n = Rattle.std.proofs.lemmas.List.length-take-le n all enough in
         let cut : messages_from e 0 all ≡ messages_from e 0 (take n all) ++ messages_from e n (drop n all) = ap (messages_from e 0) (sym (take-append-drop n all)) ∙ messages-append e 0 (take n all) (drop n all) ∙ ap (λ (k : ℕ). messages_from e 0 (take n all) ++ messages_from e k (drop n all)) (let z : 0 + length (take n all) ≡ n = omega arith in z) in
-        sym (drop_at (got_at log e) (sent_on g ring log xs e) n front) ∙ ap (drop n) (sym (all_sent log xs e legal) ∙ cut)
+        sym (drop_at (got_at log e) (sent_on g log xs e) n front) ∙ ap (drop n) (sym (all_sent log xs e legal) ∙ cut)
         ∙ drop_at (messages_from e 0 (take n all)) (messages_from e n (drop n all)) n (length-messages e 0 (take n all) ∙ taken)
 
-    pub sent_in_order : (log : Log) (xs : List Event) (e : ℕ) → IsLegalLog g ring log → AreInOrderFrom e (length (into_in g log e).got) (sent_on g ring log xs e)
-    sent_in_order log xs e legal = subst (AreInOrderFrom e (length (into_in g log e).got)) (sym (sent_stands log xs e legal)) (messages_in_order e (length (into_in g log e).got) (drop (length (into_in g log e).got) (sent_counts (out_in g (log_after g ring log xs) e).link)))
+    pub sent_in_order : (log : Log) (xs : List Event) (e : ℕ) → IsLegalLog g log → AreInOrderFrom e (length (into_in g log e).got) (sent_on g log xs e)
+    sent_in_order log xs e legal = subst (AreInOrderFrom e (length (into_in g log e).got)) (sym (sent_stands log xs e legal)) (messages_in_order e (length (into_in g log e).got) (drop (length (into_in g log e).got) (sent_counts (out_in g (log_after g log xs) e).link)))
 
     -- ---- from the opening
 
@@ -319,25 +319,25 @@ module _ (g : ChipGame) (ring : ℕ) where
     empty_list [] z = refl
     empty_list (x ∷ xs) z = absurd (omega arith)
 
-    pub held_from_opening : (xs : List Event) (e : ℕ) → e < graph_edges g → chips_in (sent_in e xs (replies_to g ring [] xs)) + held g (log_after g ring [] xs) e ≡ mult_of g e * fired_by g (log_after g ring [] xs) (tail_of g e)
+    pub held_from_opening : (xs : List Event) (e : ℕ) → e < graph_edges g → chips_in (sent_in e xs (replies_to g [] xs)) + held g (log_after g [] xs) e ≡ mult_of g e * fired_by g (log_after g [] xs) (tail_of g e)
     held_from_opening xs e l =
-        let after : Log = log_after g ring [] xs in
+        let after : Log = log_after g [] xs in
         let none : sent_at [] e ≡ [] = ap (messages_from e 0) (append-nil (first_put g e) ∙ empty_list (first_put g e) (first_few g e l)) in
-        let sent : sent_in e xs (replies_to g ring [] xs) ≡ sent_at after e = sym (sent_is [] xs e tt ∙ ap (λ (ms : List Message). ms ++ sent_in e xs (replies_to g ring [] xs)) none) in
-        let chips : chips_in (sent_in e xs (replies_to g ring [] xs)) ≡ sum (sent_counts (out_in g after e).link) = ap chips_in sent ∙ chips_messages e 0 (sent_counts (out_in g after e).link) in
-        let all = held_is g ring game some_ring after (run_legal g ring [] xs tt) e l in
+        let sent : sent_in e xs (replies_to g [] xs) ≡ sent_at after e = sym (sent_is [] xs e tt ∙ ap (λ (ms : List Message). ms ++ sent_in e xs (replies_to g [] xs)) none) in
+        let chips : chips_in (sent_in e xs (replies_to g [] xs)) ≡ sum (sent_counts (out_in g after e).link) = ap chips_in sent ∙ chips_messages e 0 (sent_counts (out_in g after e).link) in
+        let all = held_is g game some_ring after (run_legal g [] xs tt) e l in
         omega arith
 
 -- ---- the laws
 
 pub sent_stands_law : SentStands
-sent_stands_law g ring game some_ring log legal xs e = sent_stands g ring game some_ring log xs e legal
+sent_stands_law g game some_ring log legal xs e = sent_stands g game some_ring log xs e legal
 
 pub opening_messages : OpeningMessages
 opening_messages g e = ap (messages_from e 0) (append-nil (first_put g e))
 
 pub in_order_from_the_opening : InOrderFromTheOpening
-in_order_from_the_opening g ring game some_ring xs e p m is = let at = sent_in_order g ring game some_ring [] xs e tt p m is in (at.0, at.1 ∙ (let z : 0 + p ≡ p = omega arith in z))
+in_order_from_the_opening g game some_ring xs e p m is = let at = sent_in_order g game some_ring [] xs e tt p m is in (at.0, at.1 ∙ (let z : 0 + p ≡ p = omega arith in z))
 
 pub held_from_the_opening : HeldFromTheOpening
 held_from_the_opening = held_from_opening

@@ -5,7 +5,7 @@ use Rattle.std.proofs.lemmas.List.Sums.{sum_by-cons, get_or-le-sum_by}
 use mathlib.Core.Logic.{dite}
 use native.Mathlib.Decide.{ℕ_discrete, dec_lt}
 use Rattle.chip_graph.specs.Sums.{sum_below}
-use Rattle.chip_graph.specs.ChipGame.{ChipGame, IsGame}
+use Rattle.chip_actor.specs.Setting.{Setting, HasGame}
 use Rattle.chip_graph.proofs.SumLemmas.{cond_yes, cond_no, sum_below_term, tested_term, sum_by_place}
 use Rattle.chip_link.specs.Words.{edge_word}
 use Rattle.chip_link.specs.WordLaws.{ReadsAs, ReadsAsFired}
@@ -35,7 +35,7 @@ held_sum : (held : Option ℕ) → ((count : ℕ) → held ≡ Some count → 0 
 held_sum None some = omega arith
 held_sum (Some count) some = let a = some count refl in omega arith
 
-module _ (g : ChipGame) where
+module _ (g : Setting) where
   -- ---- seals
 
   seal_step : (x : Event) (seen e : ℕ) (stop : Option ℕ) → is_some (stop_after x seen e stop) ≡ (is_seal e x || is_some stop)
@@ -60,7 +60,7 @@ module _ (g : ChipGame) where
   seals_stand [] e = refl
   seals_stand (x ∷ log) e = ap (λ (b : Bool). is_seal e x.event || b) (seals_stand log e) ∙ sym (ap is_some (stop_step g x log e) ∙ seal_step x.event x.seen e (stop_in g log e))
 
-  module _ (ring : ℕ) (game : IsGame g) (some_ring : 0 < ring) (log : Log) (legal : IsLegalLog g ring log) where
+  module _ (game : HasGame g) (some_ring : 0 < g.ring) (log : Log) (legal : IsLegalLog g log) where
     -- ---- chips
 
     total_is : sum_below g.graph.vertices (slice_index g.start) ≡ sum g.start
@@ -69,8 +69,8 @@ module _ (g : ChipGame) where
     -- no vertex ever has more chips than the game, those on the way to it among them
     pub full_position_most : (v : ℕ) → v < g.graph.vertices → full_position g log v ≤ sum g.start
     full_position_most v l =
-        let a = (leads_to g ring game some_ring log legal).position v l in
-        let b = chips_are_kept g.graph game.graph_fits (slice_index g.start) (firings log) (is_sequence g ring game some_ring log legal) in
+        let a = (leads_to g game some_ring log legal).position v l in
+        let b = chips_are_kept g.graph game.graph_fits (slice_index g.start) (firings log) (is_sequence g game some_ring log legal) in
         let c = sum_below_term g.graph.vertices (position_after g.graph (slice_index g.start) (firings log)) v l in
         let d = total_is in
         omega arith
@@ -92,15 +92,15 @@ module _ (g : ChipGame) where
 
     -- of a graph edge: one for each firing at most
     pub few_claims : (e : ℕ) → e < graph_edges g → claims_of (out_in g log e).link ≤ g.limit
-    few_claims e l = let a = (out_kept g ring game log legal e).fewer l in let b = (part_kept g ring game log legal (tail_of g e)).within in omega arith
+    few_claims e l = let a = (out_kept g game log legal e).fewer l in let b = (part_kept g game log legal (tail_of g e)).within in omega arith
 
     -- of a root edge: one for each chip of the start at most
     pub few_root_claims : (e : ℕ) → graph_edges g ≤ e → claims_of (out_in g log e).link ≤ start_of g (e - graph_edges g)
     few_root_claims e l =
-        let s = edge_sound g ring game some_ring log legal e in
+        let s = edge_sound g game some_ring log legal e in
         let a = length_sum (out_in g log e).link.put s.counted in
         let b = held_sum (out_in g log e).link.held s.held_counted in
-        let c = (out_kept g ring game log legal e).all_made in
+        let c = (out_kept g game log legal e).all_made in
         let d = made_root g e (part_in g log (tail_of g e)).fired l in
         omega arith
 
@@ -116,7 +116,7 @@ module _ (g : ChipGame) where
         (λ n. let a = few_root_claims e (omega arith) in let b = start_most (e - graph_edges g) in let c = game.few_chips in omega arith)
 
     pub fired_most : (v : ℕ) → fired_by g log v ≤ g.limit
-    fired_most v = (part_kept g ring game log legal v).within
+    fired_most v = (part_kept g game log legal v).within
 
     pub numbers : NumbersOf g log
     numbers = record { chips = full_position_most; fired = fired_most; claims = few_claims; root_claims = few_root_claims }
@@ -124,20 +124,20 @@ module _ (g : ChipGame) where
     -- ---- cells
 
     -- a take sees 0 exactly where all that was put is delivered
-    pub empty_is : (e : ℕ) → (sees g ring log (Take e) ≡ 0) ↔ (length (into_in g log e).got ≡ length (out_in g log e).link.put)
+    pub empty_is : (e : ℕ) → (sees g log (Take e) ≡ 0) ↔ (length (into_in g log e).got ≡ length (out_in g log e).link.put)
     empty_is e =
-        let s = edge_sound g ring game some_ring log legal e in
+        let s = edge_sound g game some_ring log legal e in
         let behind = s.behind in (
           (λ none. dite (dec_lt (length (into_in g log e).got) (length (out_in g log e).link.put)) (λ l. (let a = s.counted (length (into_in g log e).got) l in absurd (omega arith))) (λ n. omega arith)),
           (λ all. get_or_past (out_in g log e).link.put (length (into_in g log e).got) 0 (omega arith)),
         )
 
     -- a take that finds a message: it is the first in flight
-    pub take_finds : (e : ℕ) → sees g ring log (Take e) ≢ 0 → (length (into_in g log e).got < length (out_in g log e).link.put) × (sees g ring log (Take e) ≤ sum (counts_in_flight g log e))
+    pub take_finds : (e : ℕ) → sees g log (Take e) ≢ 0 → (length (into_in g log e).got < length (out_in g log e).link.put) × (sees g log (Take e) ≤ sum (counts_in_flight g log e))
     take_finds e some =
         let t = (out_in g log e).link in
         let n : ℕ = length (into_in g log e).got in
-        let behind = (edge_sound g ring game some_ring log legal e).behind in
+        let behind = (edge_sound g game some_ring log legal e).behind in
         let l : n < length t.put = dite (dec_lt n (length t.put)) (λ h. h) (λ past. absurd (some (get_or_past t.put n 0 (omega arith)))) in
         let first : get_or (drop n (sent_counts t)) 0 0 ≡ get_or t.put n 0 = get_or-drop n (sent_counts t) 0 0 ∙ ap (λ (p : ℕ). get_or (sent_counts t) p 0) (let z : n + 0 ≡ n = omega arith in z) ∙ get_or_append_left t.put (option_to_list t.held) 0 n l in
         let long = length-drop n (sent_counts t) in
@@ -146,21 +146,21 @@ module _ (g : ChipGame) where
         (l, omega arith)
 
     -- a clear with nothing claimed sees another number than 0 exactly where the ring is full
-    pub full_is : (e : ℕ) → (out_in g log e).link.held ≡ None → (sees g ring log (Clear e) ≢ 0) ↔ (claims_of (out_in g log e).link ≡ length (into_in g log e).got + ring)
+    pub full_is : (e : ℕ) → (out_in g log e).link.held ≡ None → (sees g log (Clear e) ≢ 0) ↔ (claims_of (out_in g log e).link ≡ length (into_in g log e).got + g.ring)
     full_is e empty =
-        let s = edge_sound g ring game some_ring log legal e in
+        let s = edge_sound g game some_ring log legal e in
         let t = (out_in g log e).link in
         let got = (into_in g log e).got in
         let all_put = none_held t empty in (
-          (λ some. dite (ℕ_discrete (claims_of t) (length got + ring)) (λ z. z) (λ n. absurd (some (cond_no (claims_of t) (length got + ring) (get_or t.put (length got) 0) 0 n)))),
+          (λ some. dite (ℕ_discrete (claims_of t) (length got + g.ring)) (λ z. z) (λ n. absurd (some (cond_no (claims_of t) (length got + g.ring) (get_or t.put (length got) 0) 0 n)))),
           (λ full z.
               let a = s.counted (length got) (omega arith) in
-              let b : get_or t.put (length got) 0 ≡ 0 = sym (cond_yes (claims_of t) (length got + ring) (get_or t.put (length got) 0) 0 full) ∙ z in
+              let b : get_or t.put (length got) 0 ≡ 0 = sym (cond_yes (claims_of t) (length got + g.ring) (get_or t.put (length got) 0) 0 full) ∙ z in
               absurd (omega arith)),
         )
 
-    pub cells : (e : ℕ) → CellsOf g ring log e
-    cells e = record { empty = empty_is e; full = λ met. full_is e (let may = rules_met g (Clear e) (part_in g log (tail_of g e)) met in (out_kept g ring game log legal e).free_hand may.0 may.3) }
+    pub cells : (e : ℕ) → CellsOf g log e
+    cells e = record { empty = empty_is e; full = λ met. full_is e (let may = rules_met g (Clear e) (part_in g log (tail_of g e)) met in (out_kept g game log legal e).free_hand may.0 may.3) }
 
     -- ---- words
 
@@ -173,7 +173,7 @@ module _ (g : ChipGame) where
         let a = fired_most v in let b = game.low_limit in
         (fired_word_reads s.fired (is_some s.halt) (is_by_limit s.halt) (omega arith)).1
 
-    pub words : WordsOf g ring log
+    pub words : WordsOf g log
     words = record {
       unsealed = λ e off. ap (edge_word (claims_of (out_in g log e).link)) (sym (seals_stand log e) ∙ off) ∙ (let z : edge_word (claims_of (out_in g log e).link) false ≡ claims_of (out_in g log e).link = omega arith in z);
       sealed = λ e on. ap (edge_word (claims_of (out_in g log e).link)) (sym (seals_stand log e) ∙ on);
@@ -185,7 +185,7 @@ module _ (g : ChipGame) where
 
     -- ---- what an event sees keeps its part within the limits
 
-    take_fits : (e : ℕ) → e < all_edges g → FitsSeen (part_in g log (head_of g e)) (Take e) (sees g ring log (Take e))
+    take_fits : (e : ℕ) → e < all_edges g → FitsSeen (part_in g log (head_of g e)) (Take e) (sees g log (Take e))
     take_fits e l some =
         let found = take_finds e some in
         let a = chips_with_flight e l in
@@ -194,13 +194,13 @@ module _ (g : ChipGame) where
         let d = found.0 in let f = found.1 in
         (omega arith, omega arith)
 
-    settle_fits : (e : ℕ) → FitsSeen (part_in g log (tail_of g e)) (Settle e) (sees g ring log (Settle e))
+    settle_fits : (e : ℕ) → FitsSeen (part_in g log (tail_of g e)) (Settle e) (sees g log (Settle e))
     settle_fits e =
-        let c = edge_counts g ring game some_ring log legal e in
+        let c = edge_counts g game some_ring log legal e in
         let c0 = c.0 in let c1 = c.1 in let c2 = c.2 in let c3 = c.3 in
         (c0, omega arith)
 
-    pub fits_seen : (x : Event) → part_of g x < g.graph.vertices → unmet g x (part_in g log (part_of g x)) ≡ None → FitsSeen (part_in g log (part_of g x)) x (sees g ring log x)
+    pub fits_seen : (x : Event) → part_of g x < g.graph.vertices → unmet g x (part_in g log (part_of g x)) ≡ None → FitsSeen (part_in g log (part_of g x)) x (sees g log x)
     fits_seen (Take e) at met = take_fits e (rules_met g (Take e) (part_in g log (head_of g e)) met)
     fits_seen (Claim e) at met = (edge_reads e).claims_are
     fits_seen (Settle e) at met = settle_fits e
@@ -213,34 +213,34 @@ module _ (g : ChipGame) where
     fits_seen (Read v) at met = tt
 
     -- so an actor may be told of it
-    pub can_do : (x : Event) → part_of g x < g.graph.vertices → unmet g x (part_in g log (part_of g x)) ≡ None → CanDo g (part_in g log (part_of g x)) (part_of g x) x (sees g ring log x)
+    pub can_do : (x : Event) → part_of g x < g.graph.vertices → unmet g x (part_in g log (part_of g x)) ≡ None → CanDo g (part_in g log (part_of g x)) (part_of g x) x (sees g log x)
     can_do x at met = (refl, met, fits_seen x at met)
 
     pub counts_of : (e : ℕ) → CountsOf g log e
-    counts_of e = let c = edge_counts g ring game some_ring log legal e in record { settled = c.0; acked = c.1; delivered = c.2; put = c.3; claimed = c.4 }
+    counts_of e = let c = edge_counts g game some_ring log legal e in record { settled = c.0; acked = c.1; delivered = c.2; put = c.3; claimed = c.4 }
 
 -- ---- the laws
 
 pub parts_are_kept : PartsAreKept
-parts_are_kept g ring game some_ring log legal = part_kept g ring game log legal
+parts_are_kept g game some_ring log legal = part_kept g game log legal
 
 pub seen_fits : SeenFits
-seen_fits g ring game some_ring log legal = fits_seen g ring game some_ring log legal
+seen_fits g game some_ring log legal = fits_seen g game some_ring log legal
 
 pub counts_of_edges : CountsOfEdges
-counts_of_edges g ring game some_ring log legal = counts_of g ring game some_ring log legal
+counts_of_edges g game some_ring log legal = counts_of g game some_ring log legal
 
 pub chips_of_edges : ChipsOfEdges
-chips_of_edges g ring game some_ring log legal = edge_sum g ring game some_ring log legal
+chips_of_edges g game some_ring log legal = edge_sum g game some_ring log legal
 
 pub numbers_are_small : NumbersAreSmall
-numbers_are_small g ring game some_ring log legal = numbers g ring game some_ring log legal
+numbers_are_small g game some_ring log legal = numbers g game some_ring log legal
 
 pub cells_tell : CellsTell
-cells_tell g ring game some_ring log legal = cells g ring game some_ring log legal
+cells_tell g game some_ring log legal = cells g game some_ring log legal
 
 pub words_tell : WordsTell
-words_tell g ring game some_ring log legal = words g ring game some_ring log legal
+words_tell g game some_ring log legal = words g game some_ring log legal
 
 pub seals_stand_law : SealsStand
-seals_stand_law g ring game some_ring log legal e = (seals_stand g log e, λ word is. subst (IsSealedAt (claims_of (out_in g log e).link)) is (edge_sound g ring game some_ring log legal e).sealed_at)
+seals_stand_law g game some_ring log legal e = (seals_stand g log e, λ word is. subst (IsSealedAt (claims_of (out_in g log e).link)) is (edge_sound g game some_ring log legal e).sealed_at)

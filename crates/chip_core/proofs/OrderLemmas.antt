@@ -4,7 +4,7 @@ use Rattle.std.proofs.lemmas.List.{get_or_past}
 use Rattle.std.proofs.lemmas.List.Elements.{Contains-append_right}
 use mathlib.Core.Logic.{dite}
 use native.Mathlib.Decide.{ℕ_discrete, dec_lt}
-use Rattle.chip_graph.specs.ChipGame.{ChipGame, IsGame}
+use Rattle.chip_actor.specs.Setting.{Setting, HasGame}
 use Rattle.chip_graph.proofs.SumLemmas.{cond_yes, cond_no, cond_true, cond_false, by_test}
 use Rattle.chip_detect.specs.Acknowledging.{is_parent, or_else}
 use Rattle.chip_actor.specs.Part.{owed, may_ack}
@@ -12,7 +12,7 @@ use Rattle.chip_actor.specs.Steps.{parent_after}
 use Rattle.chip_actor.specs.Kept.{IsNeutral}
 use Rattle.chip_actor.proofs.RuleLemmas.{rules_met}
 use Rattle.chip_actor.proofs.PartLemmas.{out_zero}
-use Rattle.chip_core.specs.Core.{Log, Did, Event, Take, Ack, Fire, Clear, Claim, Put, Halt, Settle, Seal, Read, Part, part_of, does, part_in, out_in, into_in, IsLegalLog, IsClosed, outstanding, all_edges, tail_of, head_of, root}
+use Rattle.chip_core.specs.Core.{Log, Step, Event, Take, Ack, Fire, Clear, Claim, Put, Halt, Settle, Seal, Read, Part, part_of, does, part_in, out_in, into_in, IsLegalLog, IsClosed, outstanding, all_edges, tail_of, head_of, root}
 use Rattle.chip_core.specs.Detection.{IsTree, IsDetectionOrder}
 use Rattle.chip_core.proofs.LogLemmas.{part_here, part_else, part_kept, edge_counts, head_inside, tail_cases}
 
@@ -69,20 +69,20 @@ cases_parent (Some q) = inr (q, refl)
 none_some : (q : ℕ) (o : Option ℕ) → o ≡ None → o ≡ Some q → ⊥
 none_some q o a b = absurd (cc)
 
-module _ (g : ChipGame) (ring : ℕ) (game : IsGame g) (some_ring : 0 < ring) where
+module _ (g : Setting) (game : HasGame g) (some_ring : 0 < g.ring) where
   -- the tail of an edge with something outstanding is the root or engaged
-  busy_tail : (log : Log) → IsLegalLog g ring log → (e h : ℕ) → e < all_edges g → tail_of g e ≡ h → h < g.graph.vertices → (part_in g log h).parent ≡ None → 0 < outstanding (out_in g log e) → ⊥
+  busy_tail : (log : Log) → IsLegalLog g log → (e h : ℕ) → e < all_edges g → tail_of g e ≡ h → h < g.graph.vertices → (part_in g log h).parent ≡ None → 0 < outstanding (out_in g log e) → ⊥
   busy_tail log legal e h l at inside none some =
-      let rest = (part_kept g ring game log legal h).neutral inside none in
+      let rest = (part_kept g game log legal h).neutral inside none in
       let zero_out : outstanding ((part_in g log h).out e) ≡ 0 = out_zero g h (λ i. outstanding ((part_in g log h).out i)) rest.no_deficit e l at in
       let same : outstanding (out_in g log e) ≡ outstanding ((part_in g log h).out e) = ap (λ (p : ℕ). outstanding ((part_in g log p).out e)) at in
       absurd (omega arith)
 
   -- what is known of the parent edge of a vertex
-  pub parent_edge : (log : Log) → IsLegalLog g ring log → (v e : ℕ) → (part_in g log v).parent ≡ Some e → (e < all_edges g) × (head_of g e ≡ v) × (0 < owed (into_in g log e)) × (0 < outstanding (out_in g log e))
+  pub parent_edge : (log : Log) → IsLegalLog g log → (v e : ℕ) → (part_in g log v).parent ≡ Some e → (e < all_edges g) × (head_of g e ≡ v) × (0 < owed (into_in g log e)) × (0 < outstanding (out_in g log e))
   parent_edge log legal v e h =
-      let a = (part_kept g ring game log legal v).parents e h in
-      let c = edge_counts g ring game some_ring log legal e in
+      let a = (part_kept g game log legal v).parents e h in
+      let c = edge_counts g game some_ring log legal e in
       let o : 0 < owed (into_in g log e) = subst (λ (p : ℕ). 0 < owed ((part_in g log p).into e)) (sym a.1) a.2 in
       let c0 = c.0 in let c1 = c.1 in let c2 = c.2 in let c3 = c.3 in
       (a.0, a.1, o, omega arith)
@@ -122,24 +122,24 @@ module _ (g : ChipGame) (ring : ℕ) (game : IsGame g) (some_ring : 0 < ring) wh
   same_order : (log log' : Log) → ((v : ℕ) → parents log' v ≡ parents log v) → Ordered log → Ordered log'
   same_order log log' same o = (o.0, chain_ext (parents log) (parents log') o.0 (λ v m. same v) o.1, λ v l m. same v ∙ o.2 v l m)
 
-  keeps_parent : (x : Did) (log : Log) → ((s : Part) → (does g x s).parent ≡ s.parent) → (v : ℕ) → parents (x ∷ log) v ≡ parents log v
+  keeps_parent : (x : Step) (log : Log) → ((s : Part) → (does g x s).parent ≡ s.parent) → (v : ℕ) → parents (x ∷ log) v ≡ parents log v
   keeps_parent x log made v = dite (ℕ_discrete (part_of g x.event) v)
       (λ e. ap (λ (s : Part). s.parent) (part_here g x log v e) ∙ made (part_in g log v))
       (λ ne. ap (λ (s : Part). s.parent) (part_else g x log v ne))
 
-  same_next : (x : Did) (log : Log) → ((s : Part) → (does g x s).parent ≡ s.parent) → Ordered log → Ordered (x ∷ log)
+  same_next : (x : Step) (log : Log) → ((s : Part) → (does g x s).parent ≡ s.parent) → Ordered log → Ordered (x ∷ log)
   same_next x log made o = same_order log (x ∷ log) (keeps_parent x log made) o
 
   -- only the head's parent may be another
-  one_parent : (x : Did) (log : Log) (h : ℕ) → part_of g x.event ≡ h → (parents (x ∷ log) h ≡ parent_after g x.event x.seen (part_in g log h)) × ((v : ℕ) → v ≢ h → parents (x ∷ log) v ≡ parents log v)
+  one_parent : (x : Step) (log : Log) (h : ℕ) → part_of g x.event ≡ h → (parents (x ∷ log) h ≡ parent_after g x.event x.seen (part_in g log h)) × ((v : ℕ) → v ≢ h → parents (x ∷ log) v ≡ parents log v)
   one_parent x log h is = (ap (λ (s : Part). s.parent) (part_here g x log h is), λ v ne. ap (λ (s : Part). s.parent) (part_else g x log v (λ z. ne (sym z ∙ is))))
 
   all_parents : (log log' : Log) (h : ℕ) → parents log' h ≡ parents log h → ((v : ℕ) → v ≢ h → parents log' v ≡ parents log v) → (v : ℕ) → parents log' v ≡ parents log v
   all_parents log log' h here rest v = dite (ℕ_discrete v h) (λ e. subst (λ (u : ℕ). parents log' u ≡ parents log u) (sym e) here) (λ ne. rest v ne)
 
-  order_step : (log : Log) (ev : Event) (seen : ℕ) → IsLegalLog g ring (record { event = ev; seen = seen } ∷ log) → Ordered log → Ordered (record { event = ev; seen = seen } ∷ log)
+  order_step : (log : Log) (ev : Event) (seen : ℕ) → IsLegalLog g (record { event = ev; seen = seen } ∷ log) → Ordered log → Ordered (record { event = ev; seen = seen } ∷ log)
   order_step log (Take e) seen legal o =
-      let x : Did = record { event = Take e; seen = seen } in
+      let x : Step = record { event = Take e; seen = seen } in
       let h : ℕ = head_of g e in
       let l : e < all_edges g = rules_met g (Take e) (part_in g log h) legal.1.0 in
       let one = one_parent x log h refl in
@@ -149,7 +149,7 @@ module _ (g : ChipGame) (ring : ℕ) (game : IsGame g) (some_ring : 0 < ring) wh
       (λ was.
       let now : parents (x ∷ log) h ≡ Some e = one.0 ∙ cond_no seen 0 (parents log h) (or_else (parents log h) e) some ∙ ap (λ (p : Option ℕ). or_else p e) was in
       let fresh : Contains o.0 h → ⊥ = (λ m. chain_some (parents log) o.0 o.1 h m was) in
-      let c = edge_counts g ring game some_ring log legal.0 e in let c0 = c.0 in let c1 = c.1 in let c3 = c.3 in
+      let c = edge_counts g game some_ring log legal.0 e in let c0 = c.0 in let c1 = c.1 in let c3 = c.3 in
       let is : seen ≡ get_or (out_in g log e).link.put (length (into_in g log e).got) 0 = legal.1.1 in
       let flies : length (into_in g log e).got < length (out_in g log e).link.put = dite (dec_lt (length (into_in g log e).got) (length (out_in g log e).link.put)) (λ z. z) (λ past. absurd (some (is ∙ get_or_past (out_in g log e).link.put (length (into_in g log e).got) 0 (omega arith)))) in
       let below : (tail_of g e ≡ root g) ⊎ Contains o.0 (tail_of g e) = ⊎_elim (λ z. inl z) (λ t. ⊎_elim (λ z. inr z) (λ z. absurd (busy_tail log legal.0 e (tail_of g e) l refl t (o.2 (tail_of g e) t z) (omega arith))) (contained o.0 (tail_of g e))) (tail_cases g game e) in (
@@ -160,7 +160,7 @@ module _ (g : ChipGame) (ring : ℕ) (game : IsGame g) (some_ring : 0 < ring) wh
       (λ q. same_order log (x ∷ log) (all_parents log (x ∷ log) h (one.0 ∙ cond_no seen 0 (parents log h) (or_else (parents log h) e) some ∙ ap (λ (p : Option ℕ). or_else p e) q.1 ∙ sym q.1) one.1) o)
       (cases_parent (parents log h)))
   order_step log (Ack e) seen legal o =
-      let x : Did = record { event = Ack e; seen = seen } in
+      let x : Step = record { event = Ack e; seen = seen } in
       let h : ℕ = head_of g e in
       let s : Part = part_in g log h in
       let l : e < all_edges g = (rules_met g (Ack e) s legal.1.0).0 in
@@ -185,23 +185,23 @@ module _ (g : ChipGame) (ring : ℕ) (game : IsGame g) (some_ring : 0 < ring) wh
   order_step log (Seal e) seen legal o = same_next (record { event = Seal e; seen = seen }) log (λ s. refl) o
   order_step log (Read v) seen legal o = same_next (record { event = Read v; seen = seen }) log (λ s. refl) o
 
-  ordered : (log : Log) → IsLegalLog g ring log → Ordered log
+  ordered : (log : Log) → IsLegalLog g log → Ordered log
   ordered [] legal = ([], tt, λ v l m. refl)
   ordered (x ∷ log) legal = order_step log x.event x.seen legal (ordered log legal.0)
 
-  tree_from : (log : Log) → IsLegalLog g ring log → (vs : List ℕ) → Chain (parents log) vs → IsTree g log vs
+  tree_from : (log : Log) → IsLegalLog g log → (vs : List ℕ) → Chain (parents log) vs → IsTree g log vs
   tree_from log legal [] c = tt
   tree_from log legal (v ∷ vs) c =
       let p = parent_edge log legal v c.2.0 c.2.1 in
       (tree_from log legal vs c.0, c.1, (c.2.0, record { parent = c.2.1; is_edge = p.0; head = p.1; from_earlier = c.2.2; owes = p.2 }))
 
   -- in every legal log
-  pub detection_order : (log : Log) → IsLegalLog g ring log → (vs : List ℕ) × IsDetectionOrder g log vs
-  detection_order log legal = let o = ordered log legal in (o.0, record { tree = tree_from log legal o.0 o.1; others = λ v l m. (part_kept g ring game log legal v).neutral l (o.2 v l m) })
+  pub detection_order : (log : Log) → IsLegalLog g log → (vs : List ℕ) × IsDetectionOrder g log vs
+  detection_order log legal = let o = ordered log legal in (o.0, record { tree = tree_from log legal o.0 o.1; others = λ v l m. (part_kept g game log legal v).neutral l (o.2 v l m) })
 
   -- ---- where the root is closed
 
-  module _ (log : Log) (legal : IsLegalLog g ring log) (closed : IsClosed g log) where
+  module _ (log : Log) (legal : IsLegalLog g log) (closed : IsClosed g log) where
     no_engaged : (vs : List ℕ) → Chain (parents log) vs → vs ≡ []
     no_engaged [] c = refl
     no_engaged (v ∷ vs) c =
@@ -211,7 +211,7 @@ module _ (g : ChipGame) (ring : ℕ) (game : IsGame g) (some_ring : 0 < ring) wh
         ⊎_elim (λ z. let a = closed c.2.0 p.0 z in absurd (omega arith)) (λ z. absurd (contains_nothing (tail_of g c.2.0) (subst (λ (l : List ℕ). Contains l (tail_of g c.2.0)) none z))) c.2.2
 
     pub all_neutral : (v : ℕ) → v < g.graph.vertices → IsNeutral g v (part_in g log v)
-    all_neutral v l = let o = ordered log legal in (part_kept g ring game log legal v).neutral l (o.2 v l (λ m. contains_nothing v (subst (λ (us : List ℕ). Contains us v) (no_engaged o.0 o.1) m)))
+    all_neutral v l = let o = ordered log legal in (part_kept g game log legal v).neutral l (o.2 v l (λ m. contains_nothing v (subst (λ (us : List ℕ). Contains us v) (no_engaged o.0 o.1) m)))
 
     pub none_outstanding : (e : ℕ) → e < all_edges g → outstanding (out_in g log e) ≡ 0
     none_outstanding e l = ⊎_elim (λ z. closed e l z) (λ t. out_zero g (tail_of g e) (λ i. outstanding ((part_in g log (tail_of g e)).out i)) (all_neutral (tail_of g e) t).no_deficit e l refl) (tail_cases g game e)
@@ -219,5 +219,5 @@ module _ (g : ChipGame) (ring : ℕ) (game : IsGame g) (some_ring : 0 < ring) wh
     -- settled, acknowledged, delivered, put and sent are one number
     pub all_counts : (e : ℕ) → e < all_edges g → ((out_in g log e).settled ≡ (into_in g log e).acked) × ((into_in g log e).acked ≡ length (into_in g log e).got) × (length (into_in g log e).got ≡ length (out_in g log e).link.put) × (length (Rattle.std.proofs.Common.option_to_list (out_in g log e).link.held) ≡ 0)
     all_counts e l =
-        let a = none_outstanding e l in let c = edge_counts g ring game some_ring log legal e in let c0 = c.0 in let c1 = c.1 in let c2 = c.2 in
+        let a = none_outstanding e l in let c = edge_counts g game some_ring log legal e in let c0 = c.0 in let c1 = c.1 in let c2 = c.2 in
         (omega arith, omega arith, omega arith, omega arith)

@@ -2,16 +2,16 @@
 use Rattle.std.proofs.Common.{◌≡◌, ℕ, List, [], ◌∷◌, ◌++◌, Option, Some, None, refl, sym, ap, ◌∙◌}
 use mathlib.Core.Logic.{dite}
 use native.Mathlib.Decide.{ℕ_discrete}
-use Rattle.chip_graph.specs.ChipGame.{ChipGame}
+use Rattle.chip_actor.specs.Setting.{Setting}
 use Rattle.chip_graph.proofs.SumLemmas.{cond_yes, cond_no}
-use Rattle.chip_core.specs.Core.{Log, Did, Event, Rule, Part, opened, unmet, part_of, does, part_in, IsLegalLog, answer, step, log_after}
+use Rattle.chip_core.specs.Core.{Log, Step, Event, Rule, Part, opened, unmet, part_of, does, part_in, IsLegalLog, answer, step, log_after}
 use Rattle.chip_core.specs.Positions.{asked_in}
 use Rattle.chip_core.specs.Histories.{done_by, part_by}
 use Rattle.chip_core.specs.Laws.{PartsByTheirOwnEvents, LegalLogsAreRuns}
 use Rattle.chip_core.proofs.LogLemmas.{part_here, part_else}
 
-module _ (g : ChipGame) where
-  part_push : (s : Part) (xs : List Did) (x : Did) → part_by g s (xs ++ x ∷ []) ≡ does g x (part_by g s xs)
+module _ (g : Setting) where
+  part_push : (s : Part) (xs : List Step) (x : Step) → part_by g s (xs ++ x ∷ []) ≡ does g x (part_by g s xs)
   part_push s [] x = refl
   part_push s (y ∷ ys) x = part_push (does g y s) ys x
 
@@ -21,32 +21,31 @@ module _ (g : ChipGame) where
       (λ same. part_here g x log p same ∙ ap (does g x) (by_history log p) ∙ sym (ap (part_by g (opened g)) (cond_yes (part_of g x.event) p (done_by g p log ++ x ∷ []) (done_by g p log) same) ∙ part_push (opened g) (done_by g p log) x))
       (λ other. part_else g x log p other ∙ by_history log p ∙ sym (ap (part_by g (opened g)) (cond_no (part_of g x.event) p (done_by g p log ++ x ∷ []) (done_by g p log) other)))
 
-  module _ (ring : ℕ) where
-    pub answer_legal : (log : Log) (x : Event) (o : Option Rule) → unmet g x (part_in g log (part_of g x)) ≡ o → IsLegalLog g ring log → IsLegalLog g ring (answer g ring log x o).0
-    answer_legal log x None is legal = (legal, (is, refl))
-    answer_legal log x (Some r) is legal = legal
+  pub answer_legal : (log : Log) (x : Event) (o : Option Rule) → unmet g x (part_in g log (part_of g x)) ≡ o → IsLegalLog g log → IsLegalLog g (answer g log x o).0
+  answer_legal log x None is legal = (legal, (is, refl))
+  answer_legal log x (Some r) is legal = legal
 
-    -- one step of a legal log leaves one
-    pub step_legal : (log : Log) (x : Event) → IsLegalLog g ring log → IsLegalLog g ring (step g ring log x).0
-    step_legal log x legal = answer_legal log x (unmet g x (part_in g log (part_of g x))) refl legal
+  -- one step of a legal log leaves one
+  pub step_legal : (log : Log) (x : Event) → IsLegalLog g log → IsLegalLog g (step g log x).0
+  step_legal log x legal = answer_legal log x (unmet g x (part_in g log (part_of g x))) refl legal
 
-    -- and so does a run
-    pub run_legal : (log : Log) (xs : List Event) → IsLegalLog g ring log → IsLegalLog g ring (log_after g ring log xs)
-    run_legal log [] legal = legal
-    run_legal log (x ∷ xs) legal = run_legal (step g ring log x).0 xs (step_legal log x legal)
+  -- and so does a run
+  pub run_legal : (log : Log) (xs : List Event) → IsLegalLog g log → IsLegalLog g (log_after g log xs)
+  run_legal log [] legal = legal
+  run_legal log (x ∷ xs) legal = run_legal (step g log x).0 xs (step_legal log x legal)
 
-    run_push : (log : Log) (xs : List Event) (x : Event) → log_after g ring log (xs ++ x ∷ []) ≡ (step g ring (log_after g ring log xs) x).0
-    run_push log [] x = refl
-    run_push log (y ∷ ys) x = run_push (step g ring log y).0 ys x
+  run_push : (log : Log) (xs : List Event) (x : Event) → log_after g log (xs ++ x ∷ []) ≡ (step g (log_after g log xs) x).0
+  run_push log [] x = refl
+  run_push log (y ∷ ys) x = run_push (step g log y).0 ys x
 
-    -- a legal log is what the run of its events leaves
-    pub run_of : (log : Log) → IsLegalLog g ring log → log_after g ring [] (asked_in log) ≡ log
-    run_of [] legal = refl
-    run_of (x ∷ log) legal = run_push [] (asked_in log) x.event ∙ ap (λ (l : Log). (step g ring l x.event).0) (run_of log legal.0)
-        ∙ ap (λ (o : Option Rule). (answer g ring log x.event o).0) legal.1.0 ∙ (λ j. record { event = x.event; seen = sym legal.1.1 j } ∷ log)
+  -- a legal log is what the run of its events leaves
+  pub run_of : (log : Log) → IsLegalLog g log → log_after g [] (asked_in log) ≡ log
+  run_of [] legal = refl
+  run_of (x ∷ log) legal = run_push [] (asked_in log) x.event ∙ ap (λ (l : Log). (step g l x.event).0) (run_of log legal.0)
+      ∙ ap (λ (o : Option Rule). (answer g log x.event o).0) legal.1.0 ∙ (λ j. record { event = x.event; seen = sym legal.1.1 j } ∷ log)
 
 pub parts_by_their_own_events : PartsByTheirOwnEvents
 parts_by_their_own_events = by_history
 
 pub legal_logs_are_runs : LegalLogsAreRuns
-legal_logs_are_runs g ring = ((λ log legal xs. run_legal g ring log xs legal), run_of g ring)
+legal_logs_are_runs g = ((λ log legal xs. run_legal g log xs legal), run_of g)

@@ -2,20 +2,20 @@
 use Rattle.std.proofs.Common.{◌≡◌, ◌≢◌, ℕ, suc, true, false, cond, eqb, List, [], ◌∷◌, ◌++◌, length, Option, Some, None, refl, sym, ap, ◌∙◌, subst, true≢false}
 use mathlib.Core.Logic.{dite}
 use native.Mathlib.Decide.{ℕ_discrete}
-use Rattle.chip_graph.specs.ChipGame.{ChipGame}
+use Rattle.chip_actor.specs.Setting.{Setting}
 use Rattle.chip_graph.proofs.SumLemmas.{cond_yes, cond_no}
 use Rattle.chip_link.specs.Link.{Tail, claims_of, after_clear, after_claim}
 use Rattle.chip_actor.specs.declared.reply.Reply.TheVariants.{Got, Sent, Empty, Sealed}
 use Rattle.chip_actor.specs.Steps.{message_of}
 use Rattle.chip_actor.proofs.PartLemmas.{at_edge, idle_take}
-use Rattle.chip_core.specs.Core.{Log, Did, Event, Take, Ack, Fire, Clear, Claim, Put, Halt, Settle, Seal, Read, Rule, Reply, Part, unmet, part_of, does, reply_of, part_in, sees, answer, step, replies_to, log_after}
+use Rattle.chip_core.specs.Core.{Log, Step, Event, Take, Ack, Fire, Clear, Claim, Put, Halt, Settle, Seal, Read, Rule, Reply, Part, unmet, part_of, does, reply_of, part_in, sees, answer, step, replies_to, log_after}
 use Rattle.chip_core.specs.Replies.{is_idle, DifferInNotes, IdleStepsLeave, RunsGoOn}
 use Rattle.chip_core.proofs.LogLemmas.{part_here, part_else}
 
 same_part : (s : Part) → DifferInNotes s s
 same_part s = record { chips = refl; fired = refl; halt = refl; parent = refl; put = λ e. refl; held = λ e. refl; pending = λ e. refl; settled = λ e. refl; got = λ e. refl; acked = λ e. refl; stop = λ e. refl }
 
-module _ (g : ChipGame) where
+module _ (g : Setting) where
   full_leaves : (e seen : ℕ) (s : Part) → DifferInNotes (does g (record { event = Clear e; seen = seen }) s) s
   full_leaves e seen s = record {
     chips = refl;
@@ -66,32 +66,31 @@ module _ (g : ChipGame) where
   acting_leaves (Seal e) seen s idle = absurd (true≢false (sym idle))
   acting_leaves (Read v) seen s idle = absurd (true≢false (sym idle))
 
-  module _ (ring : ℕ) where
-    answer_leaves : (log : Log) (x : Event) (o : Option Rule) → is_idle (answer g ring log x o).1 ≡ true → (p : ℕ) → DifferInNotes (part_in g (answer g ring log x o).0 p) (part_in g log p)
-    answer_leaves log x (Some r) idle p = same_part (part_in g log p)
-    answer_leaves log x None idle p =
-        let d : Did = record { event = x; seen = sees g ring log x } in
-        dite (ℕ_discrete (part_of g x) p)
-        (λ same. subst (λ (s : Part). DifferInNotes s (part_in g log p)) (sym (part_here g d log p same))
-        (subst (λ (q : ℕ). DifferInNotes (does g d (part_in g log q)) (part_in g log q)) same (acting_leaves x (sees g ring log x) (part_in g log (part_of g x)) idle)))
-        (λ other. subst (λ (s : Part). DifferInNotes s (part_in g log p)) (sym (part_else g d log p other)) (same_part (part_in g log p)))
+  answer_leaves : (log : Log) (x : Event) (o : Option Rule) → is_idle (answer g log x o).1 ≡ true → (p : ℕ) → DifferInNotes (part_in g (answer g log x o).0 p) (part_in g log p)
+  answer_leaves log x (Some r) idle p = same_part (part_in g log p)
+  answer_leaves log x None idle p =
+      let d : Step = record { event = x; seen = sees g log x } in
+      dite (ℕ_discrete (part_of g x) p)
+      (λ same. subst (λ (s : Part). DifferInNotes s (part_in g log p)) (sym (part_here g d log p same))
+      (subst (λ (q : ℕ). DifferInNotes (does g d (part_in g log q)) (part_in g log q)) same (acting_leaves x (sees g log x) (part_in g log (part_of g x)) idle)))
+      (λ other. subst (λ (s : Part). DifferInNotes s (part_in g log p)) (sym (part_else g d log p other)) (same_part (part_in g log p)))
 
-    pub length_replies : (log : Log) (xs : List Event) → length (replies_to g ring log xs) ≡ length xs
-    length_replies log [] = refl
-    length_replies log (x ∷ xs) = ap suc (length_replies (step g ring log x).0 xs)
+  pub length_replies : (log : Log) (xs : List Event) → length (replies_to g log xs) ≡ length xs
+  length_replies log [] = refl
+  length_replies log (x ∷ xs) = ap suc (length_replies (step g log x).0 xs)
 
-    pub replies-append : (log : Log) (xs ys : List Event) → replies_to g ring log (xs ++ ys) ≡ replies_to g ring log xs ++ replies_to g ring (log_after g ring log xs) ys
-    replies-append log [] ys = refl
-    replies-append log (x ∷ xs) ys = ap (λ (rs : List Reply). (step g ring log x).1 ∷ rs) (replies-append (step g ring log x).0 xs ys)
+  pub replies-append : (log : Log) (xs ys : List Event) → replies_to g log (xs ++ ys) ≡ replies_to g log xs ++ replies_to g (log_after g log xs) ys
+  replies-append log [] ys = refl
+  replies-append log (x ∷ xs) ys = ap (λ (rs : List Reply). (step g log x).1 ∷ rs) (replies-append (step g log x).0 xs ys)
 
-    pub log_after-append : (log : Log) (xs ys : List Event) → log_after g ring log (xs ++ ys) ≡ log_after g ring (log_after g ring log xs) ys
-    log_after-append log [] ys = refl
-    log_after-append log (x ∷ xs) ys = log_after-append (step g ring log x).0 xs ys
+  pub log_after-append : (log : Log) (xs ys : List Event) → log_after g log (xs ++ ys) ≡ log_after g (log_after g log xs) ys
+  log_after-append log [] ys = refl
+  log_after-append log (x ∷ xs) ys = log_after-append (step g log x).0 xs ys
 
 -- ---- the laws
 
 pub idle_steps_leave : IdleStepsLeave
-idle_steps_leave g ring log x idle = answer_leaves g ring log x (unmet g x (part_in g log (part_of g x))) idle
+idle_steps_leave g log x idle = answer_leaves g log x (unmet g x (part_in g log (part_of g x))) idle
 
 pub runs_go_on : RunsGoOn
-runs_go_on g ring log xs ys = (length_replies g ring log xs, replies-append g ring log xs ys, log_after-append g ring log xs ys)
+runs_go_on g log xs ys = (length_replies g log xs, replies-append g log xs ys, log_after-append g log xs ys)

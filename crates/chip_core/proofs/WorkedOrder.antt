@@ -1,6 +1,6 @@
 -- The detection order of a small run, member by member.
 use Rattle.std.proofs.Common.{◌≡◌, ℕ, zero, suc, ◌<◌, [], ◌∷◌, get_or, Contains, refl, arith, inl, inr}
-use Rattle.chip_core.specs.Rows.{TwoEngaged}
+use Rattle.chip_core.specs.Worked.{TwoEngaged}
 
 -- a list of one vertex has no other
 only_one : (u v : ℕ) → u < v → Contains (u ∷ []) v → ⊥

@@ -1,6 +1,6 @@
 -- The core theorem, whole.
 use Rattle.std.specs.Prelude.{◌≡◌, ◌≢◌, ℕ, ◌+◌, ◌*◌, ◌<◌, true, List, [], ◌++◌, length, sum, slice_index, Some, None}
-use Rattle.chip_graph.specs.ChipGame.{ChipGame, IsGame}
+use Rattle.chip_actor.specs.Setting.{Setting, HasGame}
 use Rattle.chip_graph.specs.Sums.{picked}
 use Rattle.chip_link.specs.Link.{sent_counts}
 use Rattle.chip_link.specs.Laws.{IsPrefix}
@@ -15,11 +15,11 @@ use Rattle.chip_core.specs.Positions.{held, chips_at, firings, LeadsTo, AgreesWi
 use Rattle.chip_core.specs.Detection.{IsDetectionOrder}
 
 -- no vertex halted
-abbrev pub NoneHalted : ChipGame → Log → Type 0
+abbrev pub NoneHalted : Setting → Log → Type 0
 NoneHalted g log = (v : ℕ) → v < g.graph.vertices → (part_in g log v).halt ≡ None
 
 -- no vertex halted by a seal: each one that halted was stopped by its limit
-abbrev pub NoneHaltedBySeal : ChipGame → Log → Type 0
+abbrev pub NoneHaltedBySeal : Setting → Log → Type 0
 NoneHaltedBySeal g log = (v : ℕ) → v < g.graph.vertices → (part_in g log v).halt ≢ Some SealedEdge
 
 -- For every list of actor steps, each edge has delivered a prefix of what was sent on it, each message once and in order, and nothing is
@@ -28,7 +28,7 @@ NoneHaltedBySeal g log = (v : ℕ) → v < g.graph.vertices → (part_in g log v
 --
 -- The steps `xs` are asked for after the log `before`, answered by `replies`, and leave the log `after`. A run has to deliver on an edge
 -- what was in flight before it, and then what it sent
-pub record HeadlineOf (g : ChipGame) (ring : ℕ) (before : Log) (xs : List Event) (replies : List Reply) (after : Log) : Type 0 where
+pub record HeadlineOf (g : Setting) (before : Log) (xs : List Event) (replies : List Reply) (after : Log) : Type 0 where
   -- each edge has delivered a prefix of what was sent on it, and what is left of that is in flight
   pub prefix : (e : ℕ) → IsPrefix (delivered_in e xs replies) (in_flight g before e ++ sent_in e xs replies)
   pub left : (e : ℕ) → delivered_in e xs replies ++ in_flight g after e ≡ in_flight g before e ++ sent_in e xs replies
@@ -57,13 +57,13 @@ pub record HeadlineOf (g : ChipGame) (ring : ℕ) (before : Log) (xs : List Even
   pub ended_within : IsClosed g after → NoneHaltedBySeal g after → IsWholePlay g.graph (slice_index g.start) g.limit (firings after)
   pub over : IsClosed g after → NoneHaltedBySeal g after → picked (λ v. is_by_limit (part_in g after v).halt) g.graph.vertices ≡ legal_vertices g.graph (chips_at g after)
   -- and whatever is asked for afterwards, the root stays closed and no part changes but the stopper's: no list, no chip, no count, no halt
-  pub still : IsClosed g after → (ys : List Event) → IsClosed g (log_after g ring after ys) × ((p : ℕ) → p ≢ stopper g → part_in g (log_after g ring after ys) p ≡ part_in g after p)
+  pub still : IsClosed g after → (ys : List Event) → IsClosed g (log_after g after ys) × ((p : ℕ) → p ≢ stopper g → part_in g (log_after g after ys) p ≡ part_in g after p)
 
 -- the same of the steps `xs` after a log, by the replies that they get and the log that they leave
-abbrev pub Headline : ChipGame → ℕ → Log → List Event → Type 0
-Headline g ring log xs = HeadlineOf g ring log xs (replies_to g ring log xs) (log_after g ring log xs)
+abbrev pub Headline : Setting → Log → List Event → Type 0
+Headline g log xs = HeadlineOf g log xs (replies_to g log xs) (log_after g log xs)
 
 -- it holds of every game within the limits, every ring with a cell, every legal log before, be it empty or not, and every list of steps,
 -- be they refused or not
 abbrev pub CoreTheorem : Type 0
-CoreTheorem = (g : ChipGame) (ring : ℕ) → IsGame g → 0 < ring → (log : Log) → IsLegalLog g ring log → (xs : List Event) → Headline g ring log xs
+CoreTheorem = (g : Setting) → HasGame g → 0 < g.ring → (log : Log) → IsLegalLog g log → (xs : List Event) → Headline g log xs

@@ -6,4 +6,7 @@ pub mod Histories
 pub mod Replies
 pub mod Headline
 pub mod Laws
-pub mod Rows
+pub mod Worked
+pub mod Outcomes
+pub mod Words
+pub mod Reached

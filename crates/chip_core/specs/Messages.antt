@@ -1,6 +1,6 @@
 -- The messages of an edge, read off events and replies.
 use Rattle.std.specs.Prelude.{◌≡◌, ℕ, ◌+◌, ◌==◌, ◌||◌, Bool, false, if◌then◌else◌, List, [], ◌∷◌, ◌++◌, length, drop, sum_by, slice_get, Some}
-use Rattle.chip_graph.specs.ChipGame.{ChipGame}
+use Rattle.chip_actor.specs.Setting.{Setting}
 pub use Rattle.chip_link.specs.declared.message.Message.{Message}
 use Rattle.chip_link.specs.Link.{sent_counts}
 use Rattle.chip_actor.specs.declared.reply.Reply.TheVariants.{Done, Got, Sent}
@@ -53,20 +53,20 @@ messages_from e place [] = []
 messages_from e place (count ∷ counts) = message_of e place count ∷ messages_from e (place + 1) counts
 
 -- the counts that were sent on e and not delivered, in order
-abbrev pub counts_in_flight : ChipGame → Log → ℕ → List ℕ
+abbrev pub counts_in_flight : Setting → Log → ℕ → List ℕ
 counts_in_flight g log e = drop (length (into_in g log e).got) (sent_counts (out_in g log e).link)
 
 -- the messages that were sent on e and not delivered; at the opening a root edge has one where its vertex starts with chips
-abbrev pub in_flight : ChipGame → Log → ℕ → List Message
+abbrev pub in_flight : Setting → Log → ℕ → List Message
 in_flight g log e = messages_from e (length (into_in g log e).got) (counts_in_flight g log e)
 
 -- all messages that a run has to deliver on e: those that were in flight before it, and then those that it sent
-abbrev pub sent_on : ChipGame → ℕ → Log → List Event → ℕ → List Message
-sent_on g ring log xs e = in_flight g log e ++ sent_in e xs (replies_to g ring log xs)
+abbrev pub sent_on : Setting → Log → List Event → ℕ → List Message
+sent_on g log xs e = in_flight g log e ++ sent_in e xs (replies_to g log xs)
 
 -- those that it delivered
-abbrev pub delivered_on : ChipGame → ℕ → Log → List Event → ℕ → List Message
-delivered_on g ring log xs e = delivered_in e xs (replies_to g ring log xs)
+abbrev pub delivered_on : Setting → Log → List Event → ℕ → List Message
+delivered_on g log xs e = delivered_in e xs (replies_to g log xs)
 
 -- messages of the edge e, each once and in order: their places go on one by one from this one
 abbrev pub AreInOrderFrom : ℕ → ℕ → List Message → Type 0

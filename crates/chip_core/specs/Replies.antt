@@ -1,6 +1,6 @@
 -- The replies by which nothing was done, and the replies to lists of events that follow one another.
 use Rattle.std.specs.Prelude.{◌≡◌, ℕ, Bool, true, false, List, ◌++◌, length}
-use Rattle.chip_graph.specs.ChipGame.{ChipGame}
+use Rattle.chip_actor.specs.Setting.{Setting}
 use Rattle.chip_actor.specs.declared.reply.Reply.TheVariants.{Empty, Full, Sealed, NotNow}
 use Rattle.chip_core.specs.Core.{Log, Event, Reply, Part, part_in, step, replies_to, log_after}
 
@@ -28,11 +28,11 @@ pub record DifferInNotes (s t : Part) : Type 0 where
 
 -- such a reply leaves all parts but for their notes, whatever was done before
 abbrev pub IdleStepsLeave : Type 0
-IdleStepsLeave = (g : ChipGame) (ring : ℕ) (log : Log) (x : Event) → is_idle (step g ring log x).1 ≡ true → (p : ℕ) → DifferInNotes (part_in g (step g ring log x).0 p) (part_in g log p)
+IdleStepsLeave = (g : Setting) (log : Log) (x : Event) → is_idle (step g log x).1 ≡ true → (p : ℕ) → DifferInNotes (part_in g (step g log x).0 p) (part_in g log p)
 
 -- there is a reply to each event, and events that follow others are answered as a run after that of the others
 abbrev pub RunsGoOn : Type 0
-RunsGoOn = (g : ChipGame) (ring : ℕ) (log : Log) (xs ys : List Event) →
-    (length (replies_to g ring log xs) ≡ length xs)
-    × (replies_to g ring log (xs ++ ys) ≡ replies_to g ring log xs ++ replies_to g ring (log_after g ring log xs) ys)
-    × (log_after g ring log (xs ++ ys) ≡ log_after g ring (log_after g ring log xs) ys)
+RunsGoOn = (g : Setting) (log : Log) (xs ys : List Event) →
+    (length (replies_to g log xs) ≡ length xs)
+    × (replies_to g log (xs ++ ys) ≡ replies_to g log xs ++ replies_to g (log_after g log xs) ys)
+    × (log_after g log (xs ++ ys) ≡ log_after g (log_after g log xs) ys)

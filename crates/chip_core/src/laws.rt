@@ -2,9 +2,11 @@
 //!
 //! The core theorem stands last. What is before it speaks of the legal logs, which are those of the runs from the opening.
 
-ghost use Rattle.chip_core.specs.Rows.{ChipsOnTheSink, FullRing, SealedHalfWay, EngagingMessageLast, RingOfTwo, TwoEngaged, WholeSchedule, StoppedByLimit, StoppedBySeal};
+ghost use Rattle.chip_core.specs.Worked.{ChipsOnTheSink, FullRing, SealedHalfWay, EngagingMessageLast, RingOfTwo, TwoEngaged, WholeSchedule, StoppedByLimit, StoppedBySeal};
 ghost use Rattle.chip_core.specs.Laws.{LegalLogsAreRuns, PartsByTheirOwnEvents, PartsAreKept, SeenFits, CountsOfEdges, ChipsOfEdges, NumbersAreSmall, CellsTell, WordsTell, SealsStand, SentStands, OpeningMessages, InOrderFromTheOpening, HeldFromTheOpening, NothingInFlight, ReadsTell};
 ghost use Rattle.chip_core.specs.Replies.{IdleStepsLeave, RunsGoOn};
+ghost use Rattle.chip_core.specs.Words.{OperationsFind, WordsGoOn};
+ghost use Rattle.chip_core.specs.Reached.{ReachedByLegalLogs};
 ghost use Rattle.chip_core.specs.Headline.{CoreTheorem};
 
 /// Small runs, as the definitions compute them.
@@ -54,6 +56,17 @@ pub fn words()
     ensures cells { CellsTell }
     ensures words { WordsTell }
     ensures seals { SealsStand }
+{}
+
+/// Words that show a log: what an operation finds in its word is what its event sees, and what it leaves shows the longer log.
+pub fn shown_words()
+    ensures find { OperationsFind }
+    ensures go_on { WordsGoOn }
+{}
+
+/// The worlds that grow by one event at a time are those that the legal logs leave.
+pub fn reached_worlds()
+    ensures { ReachedByLegalLogs }
 {}
 
 /// The messages that replies tell of are those of the parts.

@@ -1,0 +1,44 @@
+-- What a log comes to once its root is closed.
+use Rattle.std.specs.Prelude.{◌≡◌, ℕ, ◌<◌, Bool, true, false, List, length, slice_index, Option, Some, None}
+use Rattle.chip_actor.specs.Setting.{Setting, game_of_setting}
+use Rattle.chip_graph.specs.Sums.{picked}
+use Rattle.chip_fire.specs.declared.outcome.Outcome.{Outcome}
+use Rattle.chip_fire.specs.Counted.{IsAfter}
+use Rattle.chip_fire.specs.Sequence.{position_after, IsFiringSequence, counts, IsWithin}
+use Rattle.chip_actor.specs.declared.cause.Cause.{Cause}
+use Rattle.chip_actor.specs.declared.cause.Cause.TheVariants.{SealedEdge, FiringLimit}
+use Rattle.chip_core.specs.Core.{Log, part_in, fired_by, is_by_limit}
+
+-- a seal is the cause
+abbrev pub is_by_seal : Option Cause → Bool
+is_by_seal None = false
+is_by_seal (Some SealedEdge) = true
+is_by_seal (Some FiringLimit) = false
+
+-- this is the cause
+abbrev pub is_by : Cause → Option Cause → Bool
+is_by SealedEdge h = is_by_seal h
+is_by FiringLimit h = is_by_limit h
+
+-- which of the first vertices halted for this cause, ascending
+abbrev pub halted_by : Setting → Log → Cause → ℕ → List ℕ
+halted_by g log cause count = picked (λ v. is_by cause (part_in g log v).halt) count
+
+-- how often each of the first vertices fired
+pub record AreFired (g : Setting) (log : Log) (count : ℕ) (fired : List ℕ) : Type 0 where
+  pub count_is : length fired ≡ count
+  pub each : (v : ℕ) → v < count → slice_index fired v ≡ fired_by g log v
+
+-- the outcome of a log: how often each vertex fired, the chips by these counts, and the vertices that halted, each by its cause
+pub record IsOutcomeOf (g : Setting) (log : Log) (o : Outcome) : Type 0 where
+  pub fired : AreFired g log g.graph.vertices o.fired.items
+  pub chips : IsAfter (game_of_setting g) o.fired.items o.chips.items
+  pub over : o.over.items ≡ picked (λ v. is_by_limit (part_in g log v).halt) g.graph.vertices
+  pub sealed : o.sealed.items ≡ picked (λ v. is_by_seal (part_in g log v).halt) g.graph.vertices
+
+-- one thread that fires these vertices in turn from the start, within the limit, comes to the counts and the chips of an outcome
+pub record ComesTo (g : Setting) (vs : List ℕ) (o : Outcome) : Type 0 where
+  pub sequence : IsFiringSequence g.graph (slice_index g.start) vs
+  pub within : IsWithin g.limit vs
+  pub counted : (v : ℕ) → slice_index o.fired.items v ≡ counts vs v
+  pub position : (v : ℕ) → slice_index o.chips.items v ≡ position_after g.graph (slice_index g.start) vs v

@@ -1,0 +1,87 @@
+-- The words that a running game shares: which word the operation of an event is on, what it leaves there, and what all words show of a log.
+use Rattle.std.specs.Prelude.{◌≡◌, ◌≢◌, ℕ, ◌+◌, ◌-◌, ◌%◌, ◌^◌, ◌<◌, Bool, true, false, ◌∷◌, length, sum, option_to_list, bit_or, None}
+use Rattle.chip_link.specs.Link.{Shows, claims_of}
+use Rattle.chip_link.specs.Words.{exchanged}
+use Rattle.chip_actor.specs.Setting.{Setting}
+use Rattle.chip_actor.specs.Part.{may_ack, cause, is_by_limit}
+use Rattle.chip_core.specs.Core.{Log, Event, Take, Ack, Fire, Clear, Claim, Put, Halt, Settle, Seal, Read, Part, unmet, part_of, part_in, out_in, into_in, stop_in, word_of_part, sees, all_edges, head_of}
+use Rattle.chip_core.specs.Laws.{ForEveryLog}
+
+-- a word, by what it is for: the edge word and the acknowledgements of an edge, a cell of its ring, and the fired word of a vertex
+pub data Word : Type 0 where
+  of_edge : ℕ → Word
+  of_acks : ℕ → Word
+  of_cell : ℕ → ℕ → Word
+  of_vertex : ℕ → Word
+
+-- there is such a word
+abbrev pub IsWord : Setting → Word → Type 0
+IsWord g (of_edge e) = e < all_edges g
+IsWord g (of_acks e) = e < all_edges g
+IsWord g (of_cell e i) = (e < all_edges g) × (i < g.ring)
+IsWord g (of_vertex v) = v < g.graph.vertices
+
+-- what a halt sets in a fired word, by its cause
+abbrev pub halt_bits : Bool → ℕ
+halt_bits true = 2 ^ 63 + 2 ^ 62
+halt_bits false = 2 ^ 63
+
+-- the word that an event is on, by the part that makes it
+abbrev pub touched : Setting → Event → Part → Word
+touched g (Take e) s = of_cell e (length (s.into e).got % g.ring)
+touched g (Ack e) s = of_acks e
+touched g (Fire v k) s = of_vertex v
+touched g (Clear e) s = of_cell e (claims_of (s.out e).link % g.ring)
+touched g (Claim e) s = of_edge e
+touched g (Put e) s = of_cell e ((claims_of (s.out e).link - 1) % g.ring)
+touched g (Halt v) s = of_vertex v
+touched g (Settle e) s = of_acks e
+touched g (Seal e) s = of_edge e
+touched g (Read v) s = of_vertex v
+
+-- what it leaves there, where n was found: what is added goes round at 2 ^ 64
+abbrev pub left_by : Setting → Event → Part → ℕ → ℕ
+left_by g (Take e) s n = 0
+left_by g (Ack e) s n = (n + may_ack g (head_of g e) s e) % 2 ^ 64
+left_by g (Fire v k) s n = (n + k) % 2 ^ 64
+left_by g (Clear e) s n = n
+left_by g (Claim e) s n = exchanged (claims_of (s.out e).link) (claims_of (s.out e).link + 1) n
+left_by g (Put e) s n = sum (option_to_list (s.out e).link.held)
+left_by g (Halt v) s n = bit_or n (halt_bits (is_by_limit (cause g v s)))
+left_by g (Settle e) s n = n
+left_by g (Seal e) s n = bit_or n (2 ^ 63)
+left_by g (Read v) s n = n
+
+-- what is noted as seen, where n was found: a store finds nothing
+abbrev pub noted : Event → ℕ → ℕ
+noted (Put e) n = 0
+noted _ n = n
+
+-- the words show what this log makes of the edges and the vertices
+pub record IsShown (g : Setting) (log : Log) (value : Word → ℕ) : Type 0 where
+  -- the edge word is the claims and the seal; a cell holds a count exactly where its message is put and not taken
+  pub edges : (e : ℕ) → e < all_edges g
+      → Shows g.ring (value (of_edge e)) (λ i. value (of_cell e i)) (out_in g log e).link (into_in g log e).got (stop_in g log e)
+  -- the word of acknowledgements is what the head acknowledged
+  pub acks : (e : ℕ) → e < all_edges g → value (of_acks e) ≡ (into_in g log e).acked
+  -- the fired word is the firing count, the halt and its cause
+  pub fired : (v : ℕ) → v < g.graph.vertices → value (of_vertex v) ≡ word_of_part (part_in g log v)
+
+-- the part that makes an event, after this log
+abbrev pub acting : Setting → Log → Event → Part
+acting g log x = part_in g log (part_of g x)
+
+-- an operation finds in its word, which is there, what its event sees
+abbrev pub OperationsFind : Type 0
+OperationsFind = ForEveryLog (λ g log. (value : Word → ℕ) → IsShown g log value → (x : Event) → unmet g x (acting g log x) ≡ None
+    → IsWord g (touched g x (acting g log x)) × (noted x (value (touched g x (acting g log x))) ≡ sees g log x))
+
+-- one word is changed as the operation of an event leaves it, and every other is as it was
+pub record IsLeft (g : Setting) (log : Log) (x : Event) (old new : Word → ℕ) : Type 0 where
+  pub here : new (touched g x (acting g log x)) ≡ left_by g x (acting g log x) (old (touched g x (acting g log x)))
+  pub others : (w : Word) → IsWord g w → w ≢ touched g x (acting g log x) → new w ≡ old w
+
+-- the words that it leaves show the log that is longer by the event
+abbrev pub WordsGoOn : Type 0
+WordsGoOn = ForEveryLog (λ g log. (old new : Word → ℕ) → IsShown g log old → (x : Event) → unmet g x (acting g log x) ≡ None → IsLeft g log x old new
+    → IsShown g (record { event = x; seen = sees g log x } ∷ log) new)

@@ -1,7 +1,7 @@
 -- How many messages an edge delivered, by the books of its head.
 use Rattle.std.proofs.Common.{◌≡◌, ℕ, ◌+◌, ◌<◌, length, get_or, Some, sym, ap, ◌∙◌, subst, arith}
 use Rattle.std.specs.List.{Contains}
-use Rattle.chip_graph.specs.ChipGame.{ChipGame}
+use Rattle.chip_actor.specs.Setting.{Setting}
 use Rattle.chip_detect.specs.Books.{in_edges}
 use Rattle.chip_detect.specs.Books as books
 use Rattle.chip_actor.specs.Edges.{all_edges}
@@ -15,27 +15,27 @@ use Rattle.chip_world.specs.SharedWords.{words_of, no_words}
 use Rattle.chip_world.specs.World.{WorldState, IsActor, StandsForLog}
 use Rattle.chip_world.proofs.VertexLemmas.{found}
 
-module _ (g : ChipGame) (ring : ℕ) (log : Log) (w : WorldState) (stands : StandsForLog g ring log w) (e v : ℕ) (a : Actor) (found_at : head_if w.game e ≡ Some v) (actor_is : a ≡ get_or w.actors v a) where
+module _ (g : Setting) (log : Log) (w : WorldState) (stands : StandsForLog g log w) (e v : ℕ) (a : Actor) (found_at : head_if w.setting e ≡ Some v) (actor_is : a ≡ get_or w.actors v a) where
   at : (head_of g e ≡ v) × (v < g.graph.vertices)
-  at = found g stands.is_game (Take e) v (sym (ap (λ (h : ChipGame). head_if h e) stands.game) ∙ found_at)
+  at = found g stands.is_setting.game (Take e) v (sym (ap (λ (h : Setting). head_if h e) stands.setting) ∙ found_at)
 
-  actor : IsActor g ring log v a
-  actor = subst (IsActor g ring log v) (sym actor_is) (stands.actors v at.1 a)
+  actor : IsActor g log v a
+  actor = subst (IsActor g log v) (sym actor_is) (stands.actors v at.1 a)
 
   head_is : head_of g e ≡ a.vertex
   head_is = at.0 ∙ sym actor.vertex_is
 
-  stands_part : StandsFor g ring (part_in g log (head_of g e)) a
-  stands_part = subst (λ (u : ℕ). StandsFor g ring (part_in g log u) a) (sym at.0) actor.stands
+  stands_part : StandsFor g (part_in g log (head_of g e)) a
+  stands_part = subst (λ (u : ℕ). StandsFor g (part_in g log u) a) (sym at.0) actor.stands
 
   -- the head keeps books of the edge
   pub has_books : Contains (in_edges a.detect) e
-  has_books = books_in g ring (part_in g log (head_of g e)) a stands_part e head_is
+  has_books = books_in g (part_in g log (head_of g e)) a stands_part e head_is
 
   -- what is acknowledged and what is owed make up what was delivered
   pub all_delivered : e < all_edges g → (acknowledged owes : ℕ) → acknowledged ≡ (words_of w.words e).acknowledged → owes ≡ books.owed a.detect e → acknowledged + owes ≡ length (into_in g log e).got
   all_delivered l acknowledged owes acknowledged_is owes_is =
       let word = acknowledged_is ∙ (stands.words e l no_words).acknowledged in
-      let own : owes ≡ owed (into_in g log e) = owes_is ∙ owed_is g ring (part_in g log (head_of g e)) a stands_part e head_is in
-      let acks = (part_kept g ring stands.is_game log stands.legal (head_of g e)).acks e in
+      let own : owes ≡ owed (into_in g log e) = owes_is ∙ owed_is g (part_in g log (head_of g e)) a stands_part e head_is in
+      let acks = (part_kept g stands.is_setting.game log stands.legal (head_of g e)).acks e in
       omega arith

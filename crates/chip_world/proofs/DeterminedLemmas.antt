@@ -3,50 +3,50 @@ use Rattle.std.proofs.Common.{◌≡◌, ℕ, zero, suc, ◌<◌, ◌≤◌, Boo
 use Rattle.std.proofs.lemmas.Grind.{reverse_onto}
 use mathlib.Core.Logic.{dite}
 use native.Mathlib.Decide.{ℕ_discrete, dec_lt}
-use Rattle.chip_graph.specs.ChipGame.{ChipGame}
+use Rattle.chip_actor.specs.Setting.{Setting}
 use Rattle.chip_actor.specs.Part.{Part, is_running}
 use Rattle.chip_actor.specs.Rules.{Event, Take, Ack, Fire, Clear, Claim, Put, Halt, Settle}
 use Rattle.chip_actor.specs.Turn.{Phase, nothing, either_phase, where_phase, and_then, each_phase, ins_of, outs_of, seeing, one_step, may_fire, batch_of, firing, after_claim_phase, after_clear_phase, sending, putting, sending_all, is_at_limit, acknowledging, acknowledging_parent, last_acknowledgement, turn}
-use Rattle.chip_core.specs.Core.{Log, Did, does, part_in, Fits, IsLegalLog, log_after}
+use Rattle.chip_core.specs.Core.{Log, Step, does, part_in, Fits, IsLegalLog, log_after}
 use Rattle.chip_world.specs.declared.world.driving.Drive.{Drive}
 use Rattle.chip_world.specs.declared.world.driving.Drive.TheVariants.{Closed, Unfinished}
 use Rattle.chip_world.specs.World.{WorldState, StandsForLog}
 use Rattle.chip_world.specs.Rounds.{Leads, NoOtherDrive, IsTurnAfter, AreTurns, IsRound, AreRounds, AnswersDrive, IsDrive, IsOpen, root_settles}
 
-module _ (g : ChipGame) (ring : ℕ) where
+module _ (g : Setting) where
   -- each event fits after the log and those in front of it
-  abbrev Follow : Log → List Did → Type 0
+  abbrev Follow : Log → List Step → Type 0
   Follow log [] = Unit {0}
-  Follow log (x ∷ xs) = Fits g ring log x × Follow (x ∷ log) xs
+  Follow log (x ∷ xs) = Fits g log x × Follow (x ∷ log) xs
 
   -- the log after them
-  abbrev made : Log → List Did → Log
+  abbrev made : Log → List Step → Log
   made log [] = log
   made log (x ∷ xs) = made (x ∷ log) xs
 
-  front_follows : (log : Log) (xs ys : List Did) → Follow log (xs ++ ys) → Follow log xs
+  front_follows : (log : Log) (xs ys : List Step) → Follow log (xs ++ ys) → Follow log xs
   front_follows log [] ys all = tt
   front_follows log (x ∷ xs) ys (fits, all) = (fits, front_follows (x ∷ log) xs ys all)
 
-  back_follows : (log : Log) (xs ys : List Did) → Follow log (xs ++ ys) → Follow (made log xs) ys
+  back_follows : (log : Log) (xs ys : List Step) → Follow log (xs ++ ys) → Follow (made log xs) ys
   back_follows log [] ys all = all
   back_follows log (x ∷ xs) ys (fits, all) = back_follows (x ∷ log) xs ys all
 
   -- what was before in a legal log is legal
-  before_legal : (xs log : List Did) → IsLegalLog g ring (xs ++ log) → IsLegalLog g ring log
+  before_legal : (xs log : List Step) → IsLegalLog g (xs ++ log) → IsLegalLog g log
   before_legal [] log legal = legal
   before_legal (x ∷ xs) log (legal, fits) = before_legal xs log legal
 
-  follows : (log : Log) (xs : List Did) → IsLegalLog g ring (reverse xs ++ log) → Follow log xs
+  follows : (log : Log) (xs : List Step) → IsLegalLog g (reverse xs ++ log) → Follow log xs
   follows log [] legal = tt
   follows log (x ∷ xs) legal =
       let moved : reverse (x ∷ xs) ++ log ≡ reverse xs ++ (x ∷ log) = ap (λ (l : Log). l ++ log) (reverse_onto xs x []) ∙ append_assoc (reverse xs) (x ∷ []) log in
-      let all : IsLegalLog g ring (reverse xs ++ (x ∷ log)) = subst (IsLegalLog g ring) moved legal in
+      let all : IsLegalLog g (reverse xs ++ (x ∷ log)) = subst (IsLegalLog g) moved legal in
       ((before_legal (reverse xs) (x ∷ log) all).1, follows (x ∷ log) xs all)
 
   -- from one part, after one log, such a phase goes in one way alone
   abbrev Determined : Phase → Type 0
-  Determined p = (log : Log) (s : Part) (ds ds' : List Did) (t t' : Part) → Follow log ds → Follow log ds' → p s ds t → p s ds' t' → (ds ≡ ds') × (t ≡ t')
+  Determined p = (log : Log) (s : Part) (ds ds' : List Step) (t t' : Part) → Follow log ds → Follow log ds' → p s ds t → p s ds' t' → (ds ≡ ds') × (t ≡ t')
 
   by_nothing : Determined nothing
   by_nothing log s ds ds' t t' f f' (none, same) (none', same') = (none ∙ sym none', same ∙ sym same')
@@ -63,8 +63,8 @@ module _ (g : ChipGame) (ring : ℕ) where
       let all = subst (Follow log) is f in
       let all' = subst (Follow log) is' f' in
       let a = one log s front front' m m' (front_follows log front back all) (front_follows log front' back' all') here here' in
-      let b = other (made log front) m back back' t t' (back_follows log front back all) (subst (λ (xs : List Did). Follow (made log xs) back') (sym a.0) (back_follows log front' back' all')) rest (subst (λ (n : Part). q n back' t') (sym a.1) rest') in
-      (is ∙ ap (λ (xs : List Did). xs ++ back) a.0 ∙ ap (λ (ys : List Did). front' ++ ys) b.0 ∙ sym is', b.1)
+      let b = other (made log front) m back back' t t' (back_follows log front back all) (subst (λ (xs : List Step). Follow (made log xs) back') (sym a.0) (back_follows log front' back' all')) rest (subst (λ (n : Part). q n back' t') (sym a.1) rest') in
+      (is ∙ ap (λ (xs : List Step). xs ++ back) a.0 ∙ ap (λ (ys : List Step). front' ++ ys) b.0 ∙ sym is', b.1)
 
   by_each : (p : ℕ → Phase) → ((e : ℕ) → Determined (p e)) → (es : List ℕ) → Determined (each_phase p es)
   by_each p one [] = by_nothing
@@ -79,7 +79,7 @@ module _ (g : ChipGame) (ring : ℕ) where
         let b = more seen s (record { event = x; seen = seen } ∷ log) (does g (record { event = x; seen = seen }) s) rest rest' t t' all.1
         (subst (λ (n : ℕ). Follow (record { event = x; seen = n } ∷ log) rest') (sym same) all'.1) after
         (subst (λ (n : ℕ). next n s (does g (record { event = x; seen = n }) s) rest' t') (sym same) after') in
-        (is ∙ ap (λ (n : ℕ). (let d : Did = record { event = x; seen = n } in d ∷ rest)) same ∙ ap (λ (r : List Did). (let d : Did = record { event = x; seen = seen' } in d ∷ r)) b.0 ∙ sym is', b.1)
+        (is ∙ ap (λ (n : ℕ). (let d : Step = record { event = x; seen = n } in d ∷ rest)) same ∙ ap (λ (r : List Step). (let d : Step = record { event = x; seen = seen' } in d ∷ r)) b.0 ∙ sym is', b.1)
 
     by_step : (x : Event) → Determined (one_step g v x)
     by_step x = by_seeing x (λ seen before. nothing) (λ seen before. by_nothing)
@@ -124,31 +124,31 @@ module _ (g : ChipGame) (ring : ℕ) where
         (by_then _ _ (by_where (is_at_limit g v) (one_step g v (Halt v)) (by_step (Halt v)))
         (by_then _ _ (by_each (acknowledging g v) by_acknowledging (ins_of g v)) by_last))))))
 
-    turn_determined : (before after after' : Log) → IsTurnAfter g ring v before after → IsTurnAfter g ring v before after' → after ≡ after'
+    turn_determined : (before after after' : Log) → IsTurnAfter g v before after → IsTurnAfter g v before after' → after ≡ after'
     turn_determined before after after' one other =
         let same = by_turn before (part_in g before v) one.operations other.operations one.are_turn.0 other.are_turn.0
-        (follows before one.operations (subst (IsLegalLog g ring) one.all_made one.all_fit)) (follows before other.operations (subst (IsLegalLog g ring) other.all_made other.all_fit)) one.are_turn.1 other.are_turn.1 in
-        one.all_made ∙ ap (λ (ds : List Did). reverse ds ++ before) same.0 ∙ sym other.all_made
+        (follows before one.operations (subst (IsLegalLog g) one.all_made one.all_fit)) (follows before other.operations (subst (IsLegalLog g) other.all_made other.all_fit)) one.are_turn.1 other.are_turn.1 in
+        one.all_made ∙ ap (λ (ds : List Step). reverse ds ++ before) same.0 ∙ sym other.all_made
 
-  turns_determined : (n : ℕ) (before after after' : Log) → AreTurns g ring n before after → AreTurns g ring n before after' → after ≡ after'
+  turns_determined : (n : ℕ) (before after after' : Log) → AreTurns g n before after → AreTurns g n before after' → after ≡ after'
   turns_determined zero before after after' one other = one ∙ sym other
   turns_determined (suc v) before after after' (m, firsts, last) (m', firsts', last') =
-      turn_determined v m' after after' (subst (λ (l : Log). IsTurnAfter g ring v l after) (turns_determined v before m m' firsts firsts') last) last'
+      turn_determined v m' after after' (subst (λ (l : Log). IsTurnAfter g v l after) (turns_determined v before m m' firsts firsts') last) last'
 
-  round_determined : (before after after' : Log) → IsRound g ring before after → IsRound g ring before after' → after ≡ after'
+  round_determined : (before after after' : Log) → IsRound g before after → IsRound g before after' → after ≡ after'
   round_determined before after after' (m, turns, settled) (m', turns', settled') =
-      settled ∙ ap (λ (l : Log). log_after g ring l (root_settles g g.graph.vertices)) (turns_determined g.graph.vertices before m m' turns turns') ∙ sym settled'
+      settled ∙ ap (λ (l : Log). log_after g l (root_settles g g.graph.vertices)) (turns_determined g.graph.vertices before m m' turns turns') ∙ sym settled'
 
-  rounds_determined : (n : ℕ) (before after after' : Log) → AreRounds g ring n before after → AreRounds g ring n before after' → after ≡ after'
+  rounds_determined : (n : ℕ) (before after after' : Log) → AreRounds g n before after → AreRounds g n before after' → after ≡ after'
   rounds_determined zero before after after' one other = one ∙ sym other
   rounds_determined (suc n) before after after' (m, firsts, is_open, last) (m', firsts', is_open', last') =
-      round_determined m' after after' (subst (λ (l : Log). IsRound g ring l after) (rounds_determined n before m m' firsts firsts') last) last'
+      round_determined m' after after' (subst (λ (l : Log). IsRound g l after) (rounds_determined n before m m' firsts firsts') last) last'
 
   -- the root is open after fewer rounds
-  open_earlier : (n k : ℕ) → n < k → (before after after' : Log) → AreRounds g ring n before after → AreRounds g ring k before after' → IsOpen g after
+  open_earlier : (n k : ℕ) → n < k → (before after after' : Log) → AreRounds g n before after → AreRounds g k before after' → IsOpen g after
   open_earlier n zero l before after after' one other = absurd (omega arith)
   open_earlier n (suc k) l before after after' one (m, firsts, is_open, last) = dite (ℕ_discrete n k)
-      (λ same. subst (IsOpen g) (sym (rounds_determined k before after m (subst (λ (i : ℕ). AreRounds g ring i before after) same one) firsts)) is_open)
+      (λ same. subst (IsOpen g) (sym (rounds_determined k before after m (subst (λ (i : ℕ). AreRounds g i before after) same one) firsts)) is_open)
       (λ other. open_earlier n k (omega arith) before after m one firsts)
 
   -- no drive ends where another goes on
@@ -162,18 +162,18 @@ module _ (g : ChipGame) (ring : ℕ) where
   same_answer rounds n k after (Unfinished told) Closed (told_is, all, still) other = absurd (still other)
   same_answer rounds n k after (Unfinished told) (Unfinished told') (told_is, all, still) (told_is', all', still') = ap Unfinished (told_is ∙ sym told_is')
 
-  pub drive_determined : (rounds : ℕ) (before after after' : Log) (result result' : Drive) → IsDrive g ring rounds before after result → IsDrive g ring rounds before after' result' → (after ≡ after') × (result ≡ result')
+  pub drive_determined : (rounds : ℕ) (before after after' : Log) (result result' : Drive) → IsDrive g rounds before after result → IsDrive g rounds before after' result' → (after ≡ after') × (result ≡ result')
   drive_determined rounds before after after' result result' one other = dite (ℕ_discrete one.count other.count)
       (λ same.
-      let ends = rounds_determined other.count before after after' (subst (λ (n : ℕ). AreRounds g ring n before after) same one.are_rounds) other.are_rounds in
+      let ends = rounds_determined other.count before after after' (subst (λ (n : ℕ). AreRounds g n before after) same one.are_rounds) other.are_rounds in
       (ends, same_answer rounds one.count other.count after' result result' (subst (λ (l : Log). AnswersDrive g rounds one.count l result) ends one.answers) other.answers))
       (λ differ. dite (dec_lt one.count other.count)
       (λ l. absurd (ends_last rounds one.count other.count after result l other.within (open_earlier one.count other.count l before after after' one.are_rounds other.are_rounds) one.answers))
       (λ n. (let l : other.count < one.count = omega arith in absurd (ends_last rounds other.count one.count after' result' l one.within (open_earlier other.count one.count l before after' after other.are_rounds one.are_rounds) other.answers))))
 
 -- a world that a drive leads to is the one that every drive leads to
-pub no_other : (old new : WorldState) (rounds : ℕ) (result : Drive) → Leads old new (λ g ring before after. IsDrive g ring rounds before after result) → NoOtherDrive old new rounds result
-no_other old new rounds result leads = λ g ring before stands after answer drive.
-    let own = leads g ring before stands in
-    let same = drive_determined g ring rounds before own.0 after result answer own.2 drive in
-    (subst (λ (l : Log). StandsForLog g ring l new) same.0 own.1, sym same.1)
+pub no_other : (old new : WorldState) (rounds : ℕ) (result : Drive) → Leads old new (λ g before after. IsDrive g rounds before after result) → NoOtherDrive old new rounds result
+no_other old new rounds result leads = λ g before stands after answer drive.
+    let own = leads g before stands in
+    let same = drive_determined g rounds before own.0 after result answer own.2 drive in
+    (subst (λ (l : Log). StandsForLog g l new) same.0 own.1, sym same.1)

@@ -1,70 +1,92 @@
 -- Turns, rounds and drives of a world.
-use Rattle.std.proofs.Common.{◌≡◌, ◌≢◌, ℕ, suc, ◌<◌, List, [], ◌∷◌, ◌++◌, get_or, Option, sym, ap, ◌∙◌, subst}
-use Rattle.std.proofs.lemmas.List.{reverse-append}
-use Rattle.chip_graph.specs.ChipGame.{ChipGame}
-use Rattle.chip_actor.specs.declared.act.Act.{Act}
-use Rattle.chip_actor.specs.declared.act.Act.TheVariants as Do
-use Rattle.chip_actor.specs.declared.cursor.Cursor.{Cursor}
+use Rattle.std.proofs.Common.{◌≡◌, ◌≢◌, ℕ, suc, ◌+◌, ◌<◌, ◌≤◌, List, [], ◌∷◌, ◌++◌, reverse, length, get_or, set, refl, sym, ap, ◌∙◌, subst, arith, length-set, get_or-set_same, get_or-set_other}
+use Rattle.std.specs.Bool.{⊤}
+use Rattle.std.proofs.lemmas.List.{append_assoc, reverse-append}
+use mathlib.Core.Logic.{dite}
+use native.Mathlib.Decide.{ℕ_discrete}
+use Rattle.chip_actor.specs.Setting.{Setting}
+use Rattle.chip_actor.specs.declared.cursor.Cursor.TheVariants as At
 use Rattle.chip_actor.specs.Edges.{root_edge}
-use Rattle.chip_actor.specs.Actor.{Actor}
-use Rattle.chip_actor.specs.Acting.{event_of}
-use Rattle.chip_actor.specs.Cursor.{IsUnderWay, IsNext, Continues, StandsAt, TurnContinues, fuel}
-use Rattle.chip_core.specs.Core.{Log, Did, Event, Rule, Part, Settle, unmet, part_in, sees, answer, step, log_after, IsLegalLog}
-use Rattle.chip_core.proofs.LogLemmas.{part_here}
+use Rattle.chip_actor.specs.Part.{deficit}
+use Rattle.chip_actor.specs.Actor.{Actor, StandsFor, SomePart, WhateverPart}
+use Rattle.chip_actor.specs.Medium.{AreOf, Meets, MakesTurn, IsTurnMade}
+use Rattle.chip_actor.proofs.EdgeLemmas.{tail_root}
+use Rattle.chip_core.specs.Core.{Log, Step, Part, Settle, part_of, part_in, word_of_part, tail_of, root, step, log_after}
+use Rattle.chip_core.proofs.LogLemmas.{part_else}
 use Rattle.chip_core.proofs.ReplyLemmas.{log_after-append}
-use Rattle.chip_world.specs.World.{WorldState, StandsForLog, IsActor, IsDueFor}
-use Rattle.chip_world.specs.Rounds.{TurnGoesOn, IsTurning, IsTurnAfter, root_settles}
+use Rattle.chip_world.specs.World.{WorldState, StandsForLog, IsActor, IsRoot}
+use Rattle.chip_world.specs.TurnWords.{TurnWords, Holds}
+use Rattle.chip_world.specs.Rounds.{IsTurnAfter, root_settles}
 
-module _ (g : ChipGame) (ring : ℕ) (log : Log) (w : WorldState) (stands : StandsForLog g ring log w) (v : ℕ) (inside : v < g.graph.vertices) (a : Actor) (actor_is : a ≡ get_or w.actors v a) (cursor : Cursor) where
-  actor : IsActor g ring log v a
-  actor = subst (IsActor g ring log v) (sym actor_is) (stands.actors v inside a)
+-- the steps of one part leave every other as it was
+parts_stay : (g : Setting) (v u : ℕ) → u ≢ v → (more : List Step) → AreOf g v more → (log : Log) → part_in g (reverse more ++ log) u ≡ part_in g log u
+parts_stay g v u other [] mine log = refl
+parts_stay g v u other (x ∷ xs) mine log =
+    ap (λ (l : Log). part_in g l u) (ap (λ (l : Log). l ++ log) (reverse-append (x ∷ []) xs) ∙ append_assoc (reverse xs) (x ∷ []) log)
+    ∙ parts_stay g v u other xs mine.1 (x ∷ log) ∙ part_else g x log u (λ z. other (sym z ∙ mine.0))
 
-  -- the actor stands where the turn of its vertex does
-  pub actor_stands_at : (first : Part) (done : List Did) → IsUnderWay g v first done cursor (part_in g log v) → StandsAt a cursor
-  actor_stands_at first done way = (g, ring, part_in g log v, actor.stands, (first, done, subst (λ (u : ℕ). IsUnderWay g u first done cursor (part_in g log v)) (sym actor.vertex_is) way))
+module _ (g : Setting) (log : Log) (w : WorldState) (stands : StandsForLog g log w) (v : ℕ) (inside : v < g.graph.vertices) (a : Actor) (actor_is : a ≡ get_or w.actors v a) where
+  actor : IsActor g log v a
+  actor = subst (IsActor g log v) (sym actor_is) (stands.actors v inside a)
 
-  -- it goes on as the actor does
-  pub actor_goes_on : (act : Act) (next : Cursor) → TurnContinues a cursor act next → TurnGoesOn g ring log v cursor act next
-  actor_goes_on act next goes = subst (λ (u : ℕ). Continues g ring u (part_in g log v) cursor act next) actor.vertex_is (goes g ring (part_in g log v) actor.stands)
+  -- the fired word of the vertex can be told
+  pub turn_shows_word : SomePart a (λ g s. ⊤)
+  turn_shows_word = (g, part_in g log v, actor.stands, tt)
 
-module _ (g : ChipGame) (ring v : ℕ) (cursor : Cursor) (before now : Log) (turning : IsTurning g v cursor before now) (act : Act) (next : Cursor) (goes : TurnGoesOn g ring now v cursor act next) where
-  -- the operations so far are the turn
-  pub turn_over : act ≡ Do.End → IsLegalLog g ring now → IsTurnAfter g ring v before now
-  turn_over is legal = record {
-    operations = turning.done;
-    are_turn = (part_in g now v, goes.ends is (part_in g before v) turning.done turning.under_way);
-    all_made = turning.all_made;
-    all_fit = legal;
-  }
+  module _ (fired : ℕ) (fired_is : WhateverPart a (λ g s. fired ≡ word_of_part s)) where
+    abbrev shared : TurnWords
+    shared = record { words = w.words; fired = fired }
 
-  module _ (some : act ≢ Do.End) where
-    abbrev due : IsNext g ring v (part_in g before v) turning.done (part_in g now v) cursor act next
-    due = goes.steps some (part_in g before v) turning.done turning.under_way
-
-    pub operation_is_due : IsDueFor g ring now v act
-    operation_is_due = record { inside = turning.inside; mine = due.mine; met = due.met; needed = due.needed }
-
-    pub fewer_left : fuel g v next < fuel g v cursor
-    fewer_left = due.fewer
-
-    abbrev x : Event
-    x = event_of v act
-
-    abbrev did : Did
-    did = record { event = x; seen = sees g ring now x }
-
-    -- the log after a step of it
-    stepped : (step g ring now x).0 ≡ did ∷ now
-    stepped = ap (λ (o : Option Rule). (answer g ring now x o).0) (ap (λ (u : ℕ). unmet g x (part_in g now u)) due.mine ∙ due.met)
-
-    pub still_turning : IsTurning g v next before (step g ring now x).0
-    still_turning = subst (IsTurning g v next before) (sym stepped) record {
-      inside = turning.inside;
-      done = turning.done ++ did ∷ [];
-      all_made = ap (λ (l : Log). did ∷ l) turning.all_made ∙ sym (ap (λ (l : Log). l ++ before) (reverse-append turning.done (did ∷ [])));
-      under_way = subst (IsUnderWay g v (part_in g before v) (turning.done ++ did ∷ []) next) (sym (part_here g did now v due.mine)) (due.goes_on did.seen);
+    held : Holds shared g a.vertex log (part_in g log v)
+    held = subst (λ (u : ℕ). Holds shared g u log (part_in g log v)) (sym actor.vertex_is) record {
+      inside = inside;
+      is_setting = stands.is_setting;
+      legal = stands.legal;
+      part_is = refl;
+      words_each = stands.words_each;
+      words = stands.words;
+      fired_is = fired_is g (part_in g log v) actor.stands;
     }
 
+    -- a turn may begin over the words
+    pub turn_meets : Meets (Holds shared) a (At.Take 0)
+    turn_meets = (g, log, part_in g log v, held, actor.stands, tt)
+
+    -- and it leaves the world of the log that is longer by it
+    pub turn_leads : (new : TurnWords) (b : Actor) (count : ℕ) → MakesTurn (Holds shared) a (Holds new) b count
+        → (after : Log) × StandsForLog g after (record w { actors = set w.actors v b; words = new.words }) × IsTurnAfter g v log after
+    turn_leads new b count makes =
+        let made = subst (λ (u : ℕ). (more : List Step) × (t : Part) × IsTurnMade (Holds new) g u log (part_in g log v) b count more t) actor.vertex_is (makes g log (part_in g log v) held actor.stands) in
+        let more : List Step = made.0 in
+        let is = made.2 in
+        let after : Log = reverse more ++ log in
+        let others : (u : ℕ) → u ≢ v → part_in g after u ≡ part_in g log u = λ u other. parts_stay g v u other more is.mine log in
+        let b_is : IsActor g after v b = record { vertex_is = is.vertex; stands = subst (λ (p : Part). StandsFor g p b) is.held.part_is is.stands } in
+        let of_root : part_in g after (root g) ≡ part_in g log (root g) = others (root g) (λ z. (let l = inside in absurd (omega arith))) in (
+          after,
+          record {
+            setting = stands.setting;
+            is_setting = stands.is_setting;
+            legal = is.held.legal;
+            actors_each = length-set w.actors v b ∙ stands.actors_each;
+            actors = λ u l d. dite (ℕ_discrete u v)
+                (λ same. subst (λ (n : ℕ). IsActor g after n (get_or (set w.actors v b) n d)) (sym same) (subst (IsActor g after v) (sym (get_or-set_same w.actors v b d (let each = stands.actors_each in omega arith))) b_is))
+                (λ other. subst (IsActor g after u) (sym (get_or-set_other w.actors v u b d other)) record {
+                  vertex_is = (stands.actors u l d).vertex_is;
+                  stands = subst (λ (p : Part). StandsFor g p (get_or w.actors u d)) (sym (others u other)) (stands.actors u l d).stands;
+                });
+            words_each = is.held.words_each;
+            words = is.held.words;
+            root_keeps = record {
+              settled_each = stands.root_keeps.settled_each;
+              settled = λ u l. stands.root_keeps.settled u l
+                  ∙ sym (ap (λ (s : Part). (s.out (root_edge g u)).settled) (others (tail_of g (root_edge g u)) (λ z. (let at = tail_root g (root_edge g u) (omega arith) in let l = inside in absurd (omega arith)))));
+              outstanding = stands.root_keeps.outstanding ∙ sym (ap (λ (s : Part). deficit g (root g) s) of_root);
+            };
+          },
+          record { operations = more; are_turn = (made.1, is.is_turn); all_made = refl; all_fit = is.held.legal },
+        )
+
 -- one more root edge is settled
-pub settles_more : (g : ChipGame) (ring : ℕ) (before now : Log) (v : ℕ) → now ≡ log_after g ring before (root_settles g v) → (step g ring now (Settle (root_edge g v))).0 ≡ log_after g ring before (root_settles g (suc v))
-settles_more g ring before now v is = ap (λ (l : Log). (step g ring l (Settle (root_edge g v))).0) is ∙ sym (log_after-append g ring before (root_settles g v) (Settle (root_edge g v) ∷ []))
+pub settles_more : (g : Setting) (before now : Log) (v : ℕ) → now ≡ log_after g before (root_settles g v) → (step g now (Settle (root_edge g v))).0 ≡ log_after g before (root_settles g (suc v))
+settles_more g before now v is = ap (λ (l : Log). (step g l (Settle (root_edge g v))).0) is ∙ sym (log_after-append g before (root_settles g v) (Settle (root_edge g v) ∷ []))

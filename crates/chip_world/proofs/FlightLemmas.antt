@@ -4,7 +4,7 @@ use Rattle.std.proofs.lemmas.List.{get_or_past, get_or_append_left, get_or_push,
 use Rattle.std.proofs.Math.Seq.{take-length}
 use mathlib.Core.Logic.{dite}
 use native.Mathlib.Decide.{dec_lt}
-use Rattle.chip_graph.specs.ChipGame.{ChipGame}
+use Rattle.chip_actor.specs.Setting.{Setting}
 use Rattle.chip_graph.proofs.SumLemmas.{cond_no}
 use Rattle.chip_link.specs.Link.{Tail, claims_of, sent_counts, after_clear, after_claim, after_put, Sound, Shows}
 use Rattle.chip_link.proofs.Sounds.{none_held, one_held}
@@ -24,7 +24,7 @@ use Rattle.chip_world.proofs.VertexLemmas.{passes}
 use Rattle.chip_core.specs.Core.{Rule, unmet, into_in, Log, Event, Take, Ack, Fire, Clear, Claim, Put, Halt, Settle, Seal, Read, Part, Out, part_of, part_in, out_in, IsLegalLog, graph_edges}
 use Rattle.chip_core.proofs.LogLemmas.{link_step}
 
-module _ (g : ChipGame) where
+module _ (g : Setting) where
   -- nobody sends on a root edge
   root_unsent : (e : ℕ) → graph_edges g ≤ e → (x : Event) (seen : ℕ) (s : Part) (o : Out) → Met g x s → link_after x seen e o ≡ o.link
   root_unsent e past (Clear i) seen s o met = cond_no i e (after_clear seen o.link) o.link (λ z. absurd (omega (arith, met.0)))
@@ -38,11 +38,11 @@ module _ (g : ChipGame) where
   root_unsent e past (Seal i) seen s o met = refl
   root_unsent e past (Read v) seen s o met = refl
 
-  pub root_holds_none : (ring : ℕ) (e : ℕ) → graph_edges g ≤ e → (log : Log) → IsLegalLog g ring log → (out_in g log e).link.held ≡ None
-  root_holds_none ring e past [] legal = refl
-  root_holds_none ring e past (x ∷ log) legal =
+  pub root_holds_none : (e : ℕ) → graph_edges g ≤ e → (log : Log) → IsLegalLog g log → (out_in g log e).link.held ≡ None
+  root_holds_none e past [] legal = refl
+  root_holds_none e past (x ∷ log) legal =
       ap (λ (t : Tail). t.held) (link_step g x log e ∙ root_unsent e past x.event x.seen (part_in g log (part_of g x.event)) (out_in g log e) (rules_met g x.event (part_in g log (part_of g x.event)) legal.1.0))
-      ∙ root_holds_none ring e past log legal.0
+      ∙ root_holds_none e past log legal.0
 
 -- a hand is empty or holds one
 hand : (held : Option ℕ) → Rattle.std.proofs.Common.◌⊎◌ (held ≡ None) ((count : ℕ) × (held ≡ Some count))
@@ -77,24 +77,24 @@ module _ (ring word : ℕ) (cell : ℕ → ℕ) (t : Tail) (got : List ℕ) (sto
       (hand t.held))
 
 -- the count that a put would store is the one in the hand
-pub put_stores : (g : ChipGame) (ring e : ℕ) (s : Part) (act : Act) → ◌≡◌ {A = Result Act Rule} (Ok act) (verdict (unmet g (Put e) s) (act_of g ring (Put e) s)) → stored_by act ≡ sum (option_to_list (s.out e).link.held)
-put_stores g ring e s act is = by_rule (unmet g (Put e) s) is
+pub put_stores : (g : Setting) (e : ℕ) (s : Part) (act : Act) → ◌≡◌ {A = Result Act Rule} (Ok act) (verdict (unmet g (Put e) s) (act_of g (Put e) s)) → stored_by act ≡ sum (option_to_list (s.out e).link.held)
+put_stores g e s act is = by_rule (unmet g (Put e) s) is
   where
-    by_rule : (o : Option Rule) → ◌≡◌ {A = Result Act Rule} (Ok act) (verdict o (act_of g ring (Put e) s)) → stored_by act ≡ sum (option_to_list (s.out e).link.held)
-    by_rule None is = let same : act ≡ act_of g ring (Put e) s = cc in ap stored_by same
+    by_rule : (o : Option Rule) → ◌≡◌ {A = Result Act Rule} (Ok act) (verdict o (act_of g (Put e) s)) → stored_by act ≡ sum (option_to_list (s.out e).link.held)
+    by_rule None is = let same : act ≡ act_of g (Put e) s = cc in ap stored_by same
     by_rule (Some rule) is = absurd (cc)
 
 -- where no put is due the hand is empty
-pub put_refused : (g : ChipGame) (ring e : ℕ) (s : Part) (rule : Rule) → e < graph_edges g → ◌≡◌ {A = Result Act Rule} (Err rule) (verdict (unmet g (Put e) s) (act_of g ring (Put e) s)) → (s.out e).link.held ≡ None
-put_refused g ring e s rule l is = ⊎_elim (λ none. none) (λ some. absurd (by_rule (unmet g (Put e) s) (passes (ltb e (graph_edges g)) _ _ (lt-ltb e (graph_edges g) l) ∙ ap (λ (h : Option ℕ). need (Rattle.std.proofs.Common.is_some h) NotClaimed None) some.1) is)) (hand (s.out e).link.held)
+pub put_refused : (g : Setting) (e : ℕ) (s : Part) (rule : Rule) → e < graph_edges g → ◌≡◌ {A = Result Act Rule} (Err rule) (verdict (unmet g (Put e) s) (act_of g (Put e) s)) → (s.out e).link.held ≡ None
+put_refused g e s rule l is = ⊎_elim (λ none. none) (λ some. absurd (by_rule (unmet g (Put e) s) (passes (ltb e (graph_edges g)) _ _ (lt-ltb e (graph_edges g) l) ∙ ap (λ (h : Option ℕ). need (Rattle.std.proofs.Common.is_some h) NotClaimed None) some.1) is)) (hand (s.out e).link.held)
   where
-    by_rule : (o : Option Rule) → o ≡ None → ◌≡◌ {A = Result Act Rule} (Err rule) (verdict o (act_of g ring (Put e) s)) → ⊥
+    by_rule : (o : Option Rule) → o ≡ None → ◌≡◌ {A = Result Act Rule} (Err rule) (verdict o (act_of g (Put e) s)) → ⊥
     by_rule None none is = absurd (cc)
     by_rule (Some first) none is = absurd (cc)
 
 -- ---- the messages in flight, one after another
 
-module _ (g : ChipGame) (log : Log) (e : ℕ) where
+module _ (g : Setting) (log : Log) (e : ℕ) where
   flight_long : (first : ℕ) → first ≡ length (into_in g log e).got → length (counts_in_flight g log e) ≡ claims_of (out_in g log e).link - first
   flight_long first is = length-drop (length (into_in g log e).got) (sent_counts (out_in g log e).link) ∙ (let n = length-sent_counts (out_in g log e).link in omega arith)
 

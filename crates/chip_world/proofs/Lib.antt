@@ -1,12 +1,12 @@
 pub mod WordLemmas
 pub mod VertexLemmas
 pub mod StepLemmas
+pub mod TurnWordLemmas
 pub mod CountedLemmas
 pub mod OpeningLemmas
 pub mod FlightLemmas
 pub mod HandLemmas
 pub mod RunLemmas
-pub mod OutcomeLemmas
 pub mod WorkedOutcomes
 pub mod DriveLemmas
 pub mod DeterminedLemmas

@@ -3,7 +3,7 @@ use Rattle.std.proofs.Common.{◌≡◌, ◌≢◌, ℕ, ◌+◌, ◌-◌, ◌<�
 use Rattle.std.proofs.lemmas.List.{get_or-replicate, get_or_past, get_or_push, get_or_append_left, length-replicate}
 use mathlib.Core.Logic.{dite}
 use native.Mathlib.Decide.{ℕ_discrete, dec_lt}
-use Rattle.chip_graph.specs.ChipGame.{ChipGame, IsGame}
+use Rattle.chip_actor.specs.Setting.{Setting, game_of_setting, IsSetting}
 use Rattle.chip_graph.proofs.SumLemmas.{cond_yes, cond_no, cond_true, cond_false, sum_below_split, sum_below_none, sum_below_ext}
 use Rattle.chip_link.specs.Link.{Shows}
 use Rattle.chip_link.proofs.Shown.{fresh_shows, first_shows}
@@ -48,50 +48,47 @@ ring_shows ring chips some_ring put put_is = dite (ℕ_discrete chips 0)
         (λ same. ap cells same ∙ first_cell ring chips some_ring ∙ none)
         (λ other. get_or-set_other (replicate ring 0) 0 i chips 0 other ∙ dite (dec_lt i ring) (λ l. get_or-replicate ring i 0 0 l) (λ past. get_or_past (replicate ring 0) i 0 (subst (λ (n : ℕ). n ≤ i) (sym (length-replicate ring 0)) (omega arith))))
 
-module _ (g : ChipGame) (ring : ℕ) (game : IsGame g) (some_ring : 0 < ring) where
-  first_put_is : (e : ℕ) → first_put g e ≡ cond (eqb (first_chips g e) 0) [] (first_chips g e ∷ [])
+module _ (g : Setting) (is_setting : IsSetting g) where
+  first_put_is : (e : ℕ) → first_put g e ≡ cond (eqb (first_chips (game_of_setting g) e) 0) [] (first_chips (game_of_setting g) e ∷ [])
   first_put_is e = dite (dec_lt e (graph_edges g))
-      (λ l. cond_true (ltb e (graph_edges g)) [] _ (lt-ltb e (graph_edges g) l) ∙ sym (cond_yes (first_chips g e) 0 [] (first_chips g e ∷ []) (cond_true (ltb e (graph_edges g)) 0 (start_of g (e - graph_edges g)) (lt-ltb e (graph_edges g) l))))
+      (λ l. cond_true (ltb e (graph_edges g)) [] _ (lt-ltb e (graph_edges g) l) ∙ sym (cond_yes (first_chips (game_of_setting g) e) 0 [] (first_chips (game_of_setting g) e ∷ []) (cond_true (ltb e (graph_edges g)) 0 (start_of g (e - graph_edges g)) (lt-ltb e (graph_edges g) l))))
       (λ n. let past = le-ltb e (graph_edges g) (omega arith) in
       cond_false (ltb e (graph_edges g)) [] _ past ∙ ap (λ (c : ℕ). cond (eqb c 0) [] (c ∷ [])) (sym (cond_false (ltb e (graph_edges g)) 0 (start_of g (e - graph_edges g)) past)))
 
-  edge_shown : (e : ℕ) → ShowsEdge g ring [] e (opening_words ring (first_chips g e))
+  edge_shown : (e : ℕ) → ShowsEdge g [] e (opening_words g.ring (first_chips (game_of_setting g) e))
   edge_shown e = record {
-    cells_each = length-set (replicate ring 0) 0 (first_chips g e) ∙ length-replicate ring 0;
-    shows = ring_shows ring (first_chips g e) some_ring (first_put g e) (first_put_is e);
+    cells_each = length-set (replicate g.ring 0) 0 (first_chips (game_of_setting g) e) ∙ length-replicate g.ring 0;
+    shows = ring_shows g.ring (first_chips (game_of_setting g) e) is_setting.some_ring (first_put g e) (first_put_is e);
     acknowledged = refl;
   }
 
   one_each : (v : ℕ) → outstanding ((opened g).out (root_edge g v)) ≡ cond (eqb (start_of g v) 0) 0 1
   one_each v =
-      let chips : first_chips g (root_edge g v) ≡ start_of g v = cond_false (ltb (root_edge g v) (graph_edges g)) 0 _ (le-ltb (root_edge g v) (graph_edges g) (omega arith)) ∙ ap (start_of g) (let z : root_edge g v - graph_edges g ≡ v = omega arith in z) in
+      let chips : first_chips (game_of_setting g) (root_edge g v) ≡ start_of g v = cond_false (ltb (root_edge g v) (graph_edges g)) 0 _ (le-ltb (root_edge g v) (graph_edges g) (omega arith)) ∙ ap (start_of g) (let z : root_edge g v - graph_edges g ≡ v = omega arith in z) in
       let put : first_put g (root_edge g v) ≡ cond (eqb (start_of g v) 0) [] (start_of g v ∷ []) = first_put_is (root_edge g v) ∙ ap (λ (c : ℕ). cond (eqb c 0) [] (c ∷ [])) chips in
       ap (λ (l : List ℕ). (length l + 0) - 0) put ∙ dite (ℕ_discrete (start_of g v) 0)
       (λ z. ap (λ (l : List ℕ). (length l + 0) - 0) (cond_yes (start_of g v) 0 [] (start_of g v ∷ []) z) ∙ sym (cond_yes (start_of g v) 0 0 1 z))
       (λ z. ap (λ (l : List ℕ). (length l + 0) - 0) (cond_no (start_of g v) 0 [] (start_of g v ∷ []) z) ∙ sym (cond_no (start_of g v) 0 0 1 z))
 
   -- one message is outstanding on the root edge of each vertex that starts with chips
-  all_outstanding : with_chips g g.graph.vertices ≡ deficit g (root g) (opened g)
+  all_outstanding : with_chips (game_of_setting g) g.graph.vertices ≡ deficit g (root g) (opened g)
   all_outstanding =
       let f : ℕ → ℕ = λ e. cond (eqb (tail_of g e) (root g)) (outstanding ((opened g).out e)) 0 in
       let parted = sum_below_split (graph_edges g) g.graph.vertices f in
-      let none = sum_below_none (graph_edges g) f (λ e l. cond_no (tail_of g e) (root g) _ 0 (λ z. (let inside = tail_inside g game e l in absurd (omega arith)))) in
+      let none = sum_below_none (graph_edges g) f (λ e l. cond_no (tail_of g e) (root g) _ 0 (λ z. (let inside = tail_inside g is_setting.game e l in absurd (omega arith)))) in
       let each = sum_below_ext g.graph.vertices (λ v. f (graph_edges g + v)) (λ v. cond (eqb (start_of g v) 0) 0 1) (λ v l. cond_yes (tail_of g (root_edge g v)) (root g) _ 0 (tail_root g (root_edge g v) (omega arith)) ∙ one_each v) in
       omega arith
 
-  pub opens : (w : WorldState) → ring ≤ 64 → w.game ≡ g → w.ring ≡ ring → AreOpeningActors g ring g.graph.vertices w.actors → AreOpeningWords g ring (all_edges g) w.words → w.root.settled ≡ replicate g.graph.vertices 0 → w.root.outstanding ≡ with_chips g g.graph.vertices
-      → StandsForLog g ring [] w
-  opens w small_ring game_is ring_is actors words settled outstanding_is = record {
-    game = game_is;
-    ring_is = ring_is;
-    is_game = game;
-    some_ring = some_ring;
-    small_ring = small_ring;
+  pub opens : (w : WorldState) → w.setting ≡ g → AreOpeningActors g g.graph.vertices w.actors → AreOpeningWords g (all_edges g) w.words → w.root.settled ≡ replicate g.graph.vertices 0 → w.root.outstanding ≡ with_chips (game_of_setting g) g.graph.vertices
+      → StandsForLog g [] w
+  opens w setting actors words settled outstanding_is = record {
+    setting = setting;
+    is_setting = is_setting;
     legal = tt;
     actors_each = actors.count_is;
     actors = actors.each;
     words_each = words.count_is;
-    words = λ e l d. subst (ShowsEdge g ring [] e) (sym (words.each e l d)) (edge_shown e);
+    words = λ e l d. subst (ShowsEdge g [] e) (sym (words.each e l d)) (edge_shown e);
     root_keeps = record {
       settled_each = ap (λ (l : List ℕ). length l) settled ∙ length-replicate g.graph.vertices 0;
       settled = λ v l. ap (λ (s : List ℕ). slice_index s v) settled ∙ get_or-replicate g.graph.vertices v 0 0 l;

@@ -4,15 +4,16 @@ use Rattle.std.proofs.lemmas.List.{get_or-map, length-map, take_more, get_or_pus
 use Rattle.std.proofs.lemmas.Bool.{ltb-true}
 use mathlib.Core.Logic.{dite}
 use native.Mathlib.Decide.{ℕ_discrete}
-use Rattle.chip_graph.specs.ChipGame.{ChipGame}
+use Rattle.chip_actor.specs.Setting.{Setting, HasGame}
 use Rattle.chip_graph.proofs.SumLemmas.{by_test, cond_yes, cond_no}
 use Rattle.chip_actor.specs.declared.reply.Reply.TheVariants.{Done, Got, Sent, Empty, Full, Sealed, NotNow}
 use Rattle.chip_actor.specs.declared.rule.Rule.TheVariants.{NoSuch}
-use Rattle.chip_core.specs.Core.{Log, Event, Take, Ack, Fire, Clear, Claim, Put, Halt, Settle, Seal, Read, Reply, Rule, unmet, part_of, part_in, answer, step, replies_to, all_edges, graph_edges}
+use Rattle.chip_core.specs.Core.{Log, Event, Take, Ack, Fire, Clear, Claim, Put, Halt, Settle, Seal, Read, Reply, Rule, unmet, part_of, part_in, answer, step, log_after, replies_to, all_edges, graph_edges}
 use Rattle.chip_core.specs.Messages.{Message, sent_by, delivered_by, sent_in, delivered_in}
-use Rattle.chip_world.specs.declared.running.Notes.{Notes}
+use Rattle.chip_world.specs.declared.world.running.Notes.{Notes}
 use Rattle.chip_world.specs.Lanes.{Lane, no_lane, lane_at, with_message}
-use Rattle.chip_world.specs.Run.{is_claim_of, is_take_of, count_among, Counts, sent_after, delivered_after, SentOnEdge, GotOnEdge, HasRoom, HasRooms, IsNotedUpTo, IsRecordOf}
+use Rattle.chip_world.specs.Run.{is_claim_of, is_take_of, count_among, Counts, sent_after, delivered_after, SentOnEdge, GotOnEdge, HasRoom, HasRooms, IsNotedUpTo, IsRecordOf, IsHeldByReplies}
+use Rattle.chip_core.proofs.MessageLemmas.{held_from_the_opening}
 use Rattle.chip_world.proofs.VertexLemmas.{refused}
 
 -- ---- counts
@@ -74,50 +75,50 @@ lane_push lanes lane n e count l = dite (ℕ_discrete e n)
 -- ---- a message that an event brings is of an edge
 
 -- the answer to an event whose edge isn't there
-step_refused : (g : ChipGame) (ring : ℕ) (log : Log) (x : Event) (rule : Rule) → unmet g x (part_in g log (part_of g x)) ≡ Some rule → (step g ring log x).1 ≡ NotNow rule
-step_refused g ring log x rule is = ap (λ (o : Option Rule). (answer g ring log x o).1) is
+step_refused : (g : Setting) (log : Log) (x : Event) (rule : Rule) → unmet g x (part_in g log (part_of g x)) ≡ Some rule → (step g log x).1 ≡ NotNow rule
+step_refused g log x rule is = ap (λ (o : Option Rule). (answer g log x o).1) is
 
-pub sent_on_edge : (g : ChipGame) (ring : ℕ) (log : Log) (x : Event) (r : Reply) → r ≡ (step g ring log x).1 → SentOnEdge x r (all_edges g)
-sent_on_edge g ring log (Claim e) (Sent m) is = by_test (ltb e (graph_edges g)) (λ yes. let l = ltb-true e (graph_edges g) yes in omega arith) (λ no. absurd (clash m (is ∙ step_refused g ring log (Claim e) NoSuch (refused (ltb e (graph_edges g)) NoSuch _ no))))
+pub sent_on_edge : (g : Setting) (log : Log) (x : Event) (r : Reply) → r ≡ (step g log x).1 → SentOnEdge x r (all_edges g)
+sent_on_edge g log (Claim e) (Sent m) is = by_test (ltb e (graph_edges g)) (λ yes. let l = ltb-true e (graph_edges g) yes in omega arith) (λ no. absurd (clash m (is ∙ step_refused g log (Claim e) NoSuch (refused (ltb e (graph_edges g)) NoSuch _ no))))
   where
     clash : (m : Message) → Sent m ≡ NotNow NoSuch → ⊥
     clash m q = absurd (cc)
-sent_on_edge g ring log (Claim e) (Done n) is = tt
-sent_on_edge g ring log (Claim e) (Got m) is = tt
-sent_on_edge g ring log (Claim e) Empty is = tt
-sent_on_edge g ring log (Claim e) Full is = tt
-sent_on_edge g ring log (Claim e) Sealed is = tt
-sent_on_edge g ring log (Claim e) (NotNow rule) is = tt
-sent_on_edge g ring log (Take e) r is = tt
-sent_on_edge g ring log (Ack e) r is = tt
-sent_on_edge g ring log (Fire v k) r is = tt
-sent_on_edge g ring log (Clear e) r is = tt
-sent_on_edge g ring log (Put e) r is = tt
-sent_on_edge g ring log (Halt v) r is = tt
-sent_on_edge g ring log (Settle e) r is = tt
-sent_on_edge g ring log (Seal e) r is = tt
-sent_on_edge g ring log (Read v) r is = tt
+sent_on_edge g log (Claim e) (Done n) is = tt
+sent_on_edge g log (Claim e) (Got m) is = tt
+sent_on_edge g log (Claim e) Empty is = tt
+sent_on_edge g log (Claim e) Full is = tt
+sent_on_edge g log (Claim e) Sealed is = tt
+sent_on_edge g log (Claim e) (NotNow rule) is = tt
+sent_on_edge g log (Take e) r is = tt
+sent_on_edge g log (Ack e) r is = tt
+sent_on_edge g log (Fire v k) r is = tt
+sent_on_edge g log (Clear e) r is = tt
+sent_on_edge g log (Put e) r is = tt
+sent_on_edge g log (Halt v) r is = tt
+sent_on_edge g log (Settle e) r is = tt
+sent_on_edge g log (Seal e) r is = tt
+sent_on_edge g log (Read v) r is = tt
 
-pub got_on_edge : (g : ChipGame) (ring : ℕ) (log : Log) (x : Event) (r : Reply) → r ≡ (step g ring log x).1 → GotOnEdge x r (all_edges g)
-got_on_edge g ring log (Take e) (Got m) is = by_test (ltb e (all_edges g)) (λ yes. ltb-true e (all_edges g) yes) (λ no. absurd (clash m (is ∙ step_refused g ring log (Take e) NoSuch (refused (ltb e (all_edges g)) NoSuch _ no))))
+pub got_on_edge : (g : Setting) (log : Log) (x : Event) (r : Reply) → r ≡ (step g log x).1 → GotOnEdge x r (all_edges g)
+got_on_edge g log (Take e) (Got m) is = by_test (ltb e (all_edges g)) (λ yes. ltb-true e (all_edges g) yes) (λ no. absurd (clash m (is ∙ step_refused g log (Take e) NoSuch (refused (ltb e (all_edges g)) NoSuch _ no))))
   where
     clash : (m : Message) → Got m ≡ NotNow NoSuch → ⊥
     clash m q = absurd (cc)
-got_on_edge g ring log (Take e) (Done n) is = tt
-got_on_edge g ring log (Take e) (Sent m) is = tt
-got_on_edge g ring log (Take e) Empty is = tt
-got_on_edge g ring log (Take e) Full is = tt
-got_on_edge g ring log (Take e) Sealed is = tt
-got_on_edge g ring log (Take e) (NotNow rule) is = tt
-got_on_edge g ring log (Claim e) r is = tt
-got_on_edge g ring log (Ack e) r is = tt
-got_on_edge g ring log (Fire v k) r is = tt
-got_on_edge g ring log (Clear e) r is = tt
-got_on_edge g ring log (Put e) r is = tt
-got_on_edge g ring log (Halt v) r is = tt
-got_on_edge g ring log (Settle e) r is = tt
-got_on_edge g ring log (Seal e) r is = tt
-got_on_edge g ring log (Read v) r is = tt
+got_on_edge g log (Take e) (Done n) is = tt
+got_on_edge g log (Take e) (Sent m) is = tt
+got_on_edge g log (Take e) Empty is = tt
+got_on_edge g log (Take e) Full is = tt
+got_on_edge g log (Take e) Sealed is = tt
+got_on_edge g log (Take e) (NotNow rule) is = tt
+got_on_edge g log (Claim e) r is = tt
+got_on_edge g log (Ack e) r is = tt
+got_on_edge g log (Fire v k) r is = tt
+got_on_edge g log (Clear e) r is = tt
+got_on_edge g log (Put e) r is = tt
+got_on_edge g log (Halt v) r is = tt
+got_on_edge g log (Settle e) r is = tt
+got_on_edge g log (Seal e) r is = tt
+got_on_edge g log (Read v) r is = tt
 
 -- ---- the list of an edge after an event
 
@@ -243,9 +244,9 @@ module _ (x : Event) (rest : List Event) (r : Reply) (n new : Notes) (replies : 
         let long = got_longer x r n.delivered e m in let a = has.delivered e m in let b = ap (λ (ms : List Message). length ms) long.messages in let d = length-append (lane_at n.delivered e).messages (delivered_by e x r) in let f = long.capacity in let h = long.few in omega arith);
   }
 
-  pub noted_more : (g : ChipGame) (ring : ℕ) (log : Log) (xs : List Event) (now : Log) → r ≡ (step g ring now x).1 → IsNotedUpTo g ring log xs now (x ∷ rest) n → IsNotedUpTo g ring log xs (step g ring now x).0 rest new
-  noted_more g ring log xs now is noted =
-      let left : List Reply = replies_to g ring (step g ring now x).0 rest in
+  pub noted_more : (g : Setting) (log : Log) (xs : List Event) (now : Log) → r ≡ (step g now x).1 → IsNotedUpTo g log xs now (x ∷ rest) n → IsNotedUpTo g log xs (step g now x).0 rest new
+  noted_more g log xs now is noted =
+      let left : List Reply = replies_to g (step g now x).0 rest in
       record {
         after = noted.after;
         replies = noted.replies ∙ ap (λ (y : Reply). n.replies.items ++ y ∷ left) (sym is) ∙ sym (append_assoc n.replies.items (r ∷ []) left) ∙ ap (λ (l : List Reply). l ++ left) (sym replies);
@@ -262,12 +263,22 @@ module _ (x : Event) (rest : List Event) (r : Reply) (n new : Notes) (replies : 
       }
 
 -- all is noted
-pub all_noted : (g : ChipGame) (ring : ℕ) (log : Log) (xs : List Event) (now : Log) (n : Notes) (replies : List Reply) (sent delivered : List (List Message)) → IsNotedUpTo g ring log xs now [] n
-    → replies ≡ n.replies.items → sent ≡ map (λ (lane : Lane). lane.messages) n.sent → delivered ≡ map (λ (lane : Lane). lane.messages) n.delivered → IsRecordOf g ring log xs replies sent delivered
-all_noted g ring log xs now n replies sent delivered noted replies_are sent_is delivered_is = record {
+pub all_noted : (g : Setting) (log : Log) (xs : List Event) (now : Log) (n : Notes) (replies : List Reply) (sent delivered : List (List Message)) → IsNotedUpTo g log xs now [] n
+    → replies ≡ n.replies.items → sent ≡ map (λ (lane : Lane). lane.messages) n.sent → delivered ≡ map (λ (lane : Lane). lane.messages) n.delivered → IsRecordOf g log xs replies sent delivered
+all_noted g log xs now n replies sent delivered noted replies_are sent_is delivered_is = record {
   replies_are = replies_are ∙ sym (append-nil n.replies.items) ∙ sym noted.replies;
   sent_each = ap (λ (l : List (List Message)). length l) sent_is ∙ length-map n.sent (λ (lane : Lane). lane.messages) ∙ noted.sent_each;
   sent_on_edge = λ e l. ap (λ (ms : List (List Message)). get_or ms e []) sent_is ∙ get_or-map (λ (lane : Lane). lane.messages) n.sent e no_lane [] (subst (λ (k : ℕ). e < k) (sym noted.sent_each) l) ∙ sym (append-nil (lane_at n.sent e).messages) ∙ sym (noted.sent e l);
   delivered_each = ap (λ (l : List (List Message)). length l) delivered_is ∙ length-map n.delivered (λ (lane : Lane). lane.messages) ∙ noted.delivered_each;
   delivered_on_edge = λ e l. ap (λ (ms : List (List Message)). get_or ms e []) delivered_is ∙ get_or-map (λ (lane : Lane). lane.messages) n.delivered e no_lane [] (subst (λ (k : ℕ). e < k) (sym noted.delivered_each) l) ∙ sym (append-nil (lane_at n.delivered e).messages) ∙ sym (noted.delivered e l);
 }
+
+-- what is held in a run from the opening, by its replies
+pub held_by_replies : (g : Setting) → HasGame g → 0 < g.ring → (log : Log) (xs : List Event) (replies : List Reply) → replies ≡ replies_to g log xs → log ≡ [] → IsHeldByReplies g (log_after g log xs) xs replies
+held_by_replies g game some_ring log xs replies is opening =
+    subst (λ (rs : List Reply). IsHeldByReplies g (log_after g log xs) xs rs) (sym is)
+    (subst (λ (before : Log). IsHeldByReplies g (log_after g before xs) xs (replies_to g before xs)) (sym opening) (held_from_the_opening g game some_ring xs))
+
+-- one reply more
+pub answered_more : (old new rest : List Reply) (reply first : Reply) → new ≡ old ++ reply ∷ [] → reply ≡ first → old ++ first ∷ rest ≡ new ++ rest
+answered_more old new rest reply first is same = ap (λ (r : Reply). old ++ r ∷ rest) (sym same) ∙ sym (append_assoc old (reply ∷ []) rest) ∙ ap (λ (l : List Reply). l ++ rest) (sym is)

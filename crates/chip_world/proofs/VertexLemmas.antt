@@ -1,7 +1,7 @@
 -- The vertex that makes an event.
 use Rattle.std.proofs.Common.{◌≡◌, ℕ, ◌<◌, Bool, true, false, cond, ltb, Option, Some, None, refl, sym, ◌∙◌, subst, true≢false}
 use Rattle.std.proofs.lemmas.Bool.{ltb-true}
-use Rattle.chip_graph.specs.ChipGame.{ChipGame, IsGame}
+use Rattle.chip_actor.specs.Setting.{Setting, HasGame}
 use Rattle.chip_graph.proofs.SumLemmas.{by_test, cond_false}
 use Rattle.chip_actor.specs.Rules.{need}
 use Rattle.chip_actor.specs.declared.rule.Rule.{Rule}
@@ -27,11 +27,11 @@ pub passes : (b : Bool) (rule : Rule) (rest : Option Rule) → b ≡ true → ne
 passes true rule rest is = refl
 passes false rule rest is = absurd (true≢false (sym is))
 
-module _ (g : ChipGame) where
+module _ (g : Setting) where
   IsMaker : Event → ℕ → Type 0
   IsMaker x v = (part_of g x ≡ v) × (v < g.graph.vertices)
 
-  module _ (game : IsGame g) where
+  module _ (game : HasGame g) where
     by_head : (e v : ℕ) → head_if g e ≡ Some v → (head_of g e ≡ v) × (v < g.graph.vertices)
     by_head e v is = let at = given (ltb e (all_edges g)) (head_of g e) v is in (at.1, subst (λ (n : ℕ). n < g.graph.vertices) at.1 (head_inside g game e (ltb-true e (all_edges g) at.0)))
 

@@ -2,16 +2,16 @@
 use Rattle.std.proofs.Common.{◌≡◌, ℕ, [], ◌∷◌, refl, arith}
 use Rattle.chip_actor.specs.Part.{Part, opened}
 use Rattle.chip_actor.specs.Steps.{does}
-use Rattle.chip_actor.specs.Rows.{saw}
+use Rattle.chip_actor.specs.Worked.{saw}
 use Rattle.chip_core.specs.Core.{Take, Ack, Settle}
 use Rattle.chip_core.proofs.ReadLemmas.{closed_is}
 use Rattle.chip_world.specs.Rounds.{IsTurnAfter, IsOpen}
-use Rattle.chip_world.specs.DriveRows.{sink_alone, OneRoundCloses, NoRoundLeavesOpen}
+use Rattle.chip_world.specs.Worked.{sink_alone, OneRoundCloses, NoRoundLeavesOpen}
 
 still_open : IsOpen sink_alone []
 still_open closed = let none : ◌≡◌ {A = ℕ} 1 0 = closed 0 (omega arith) refl in absurd (omega arith)
 
-turn_of_sink : IsTurnAfter sink_alone 1 0 [] (saw (Ack 0) 0 ∷ saw (Take 0) 5 ∷ [])
+turn_of_sink : IsTurnAfter sink_alone 0 [] (saw (Ack 0) 0 ∷ saw (Take 0) 5 ∷ [])
 turn_of_sink =
     let s1 : Part = does sink_alone (saw (Take 0) 5) (opened sink_alone) in
     let s2 : Part = does sink_alone (saw (Ack 0) 0) s1 in

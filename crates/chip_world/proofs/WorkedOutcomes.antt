@@ -1,21 +1,21 @@
 -- The lists of an outcome after runs that were played by hand, as the definitions compute them: one with a vertex that the limit halted, one with a
 -- vertex that a seal halted.
 use Rattle.std.proofs.Common.{◌≡◌, ℕ, zero, suc, ◌<◌, [], ◌∷◌, slice_index, refl, arith}
-use Rattle.chip_graph.specs.ChipGame.{ChipGame}
+use Rattle.chip_actor.specs.Setting.{Setting}
 use Rattle.chip_actor.specs.declared.cause.Cause.TheVariants.{SealedEdge, FiringLimit}
-use Rattle.chip_actor.specs.Rows.{small_triangle}
+use Rattle.chip_actor.specs.Worked.{small_triangle}
 use Rattle.chip_core.specs.Core.{Log, fired_by, log_after}
-use Rattle.chip_core.specs.Rows.{limit_of_two, stopped_by_limit, played_on}
-use Rattle.chip_world.specs.WorldOutcome.{halted_by, AreFired}
+use Rattle.chip_core.specs.Worked.{limit_of_two, stopped_by_limit, played_on}
+use Rattle.chip_core.specs.Outcomes.{halted_by, AreFired}
 
-abbrev four_chips : ChipGame
+abbrev four_chips : Setting
 four_chips = small_triangle (4 ∷ 0 ∷ 0 ∷ [])
 
 abbrev at_limit : Log
-at_limit = log_after limit_of_two 1 [] stopped_by_limit
+at_limit = log_after limit_of_two [] stopped_by_limit
 
 abbrev at_seal : Log
-at_seal = log_after four_chips 1 [] played_on
+at_seal = log_after four_chips [] played_on
 
 over_at_limit : halted_by limit_of_two at_limit FiringLimit 3 ≡ 0 ∷ []
 over_at_limit = refl

@@ -1,8 +1,8 @@
 pub mod SharedWords
 pub mod Makers
 pub mod World
+pub mod TurnWords
 pub mod Lanes
 pub mod Run
-pub mod WorldOutcome
 pub mod Rounds
-pub mod DriveRows
+pub mod Worked

@@ -1,30 +1,30 @@
 -- Which vertex makes an event.
 use Rattle.std.specs.Prelude.{ℕ, Bool, true, false, nat_lt, if◌then◌else◌, Option, Some, None}
-use Rattle.chip_graph.specs.ChipGame.{ChipGame}
+use Rattle.chip_actor.specs.Setting.{Setting}
 use Rattle.chip_core.specs.Core.{Event, tail_of, head_of, all_edges, graph_edges}
 use Rattle.chip_actor.specs.Rules.{Take, Ack, Fire, Clear, Claim, Put, Halt, Settle, Seal, Read}
 
 -- the head of an edge, if the edge is there
-abbrev pub head_if : ChipGame → ℕ → Option ℕ
+abbrev pub head_if : Setting → ℕ → Option ℕ
 head_if g e = if nat_lt e (all_edges g) then Some (head_of g e) else None
 
 -- the tail of an edge of the graph, if it is one
-abbrev pub tail_if : ChipGame → ℕ → Option ℕ
+abbrev pub tail_if : Setting → ℕ → Option ℕ
 tail_if g e = if nat_lt e (graph_edges g) then Some (tail_of g e) else None
 
 -- a vertex, if it is one
-abbrev pub vertex_if : ChipGame → ℕ → Option ℕ
+abbrev pub vertex_if : Setting → ℕ → Option ℕ
 vertex_if g v = if nat_lt v g.graph.vertices then Some v else None
 
 -- an event that no vertex makes: a seal is the stopper's, a read and the settle of a root edge are the root's
-abbrev pub is_of_others : ChipGame → Event → Bool
+abbrev pub is_of_others : Setting → Event → Bool
 is_of_others g (Settle e) = if nat_lt e (graph_edges g) then false else true
 is_of_others g (Seal e) = true
 is_of_others g (Read v) = true
 is_of_others g _ = false
 
 -- the vertex that makes an event, if the event names an edge or a vertex that is there
-abbrev pub vertex_of : ChipGame → Event → Option ℕ
+abbrev pub vertex_of : Setting → Event → Option ℕ
 vertex_of g (Take e) = head_if g e
 vertex_of g (Ack e) = head_if g e
 vertex_of g (Fire v k) = vertex_if g v

@@ -46,13 +46,17 @@ changed e f words = slice_set words e (f (words_of words e))
 abbrev pub opening_words : ℕ → ℕ → EdgeState
 opening_words ring chips = record { word = if chips == 0 then 0 else 1; acknowledged = 0; cells = slice_set (replicate ring 0) 0 chips }
 
--- what an operation sees: a fired word is kept by its vertex alone, and what is stored or added looks at nothing
-abbrev pub seen_in : Act → List EdgeState → ℕ
-seen_in (Do.Take e cell) words = cell_of words e cell
-seen_in (Do.Settle e) words = (words_of words e).acknowledged
-seen_in (Do.Clear e cell) words = cell_of words e cell
-seen_in (Do.Claim e expected new) words = (words_of words e).word
-seen_in _ words = 0
+-- what an operation finds. A fired word is kept by its vertex alone, and given here; a store finds nothing
+abbrev pub seen_in : Act → ℕ → List EdgeState → ℕ
+seen_in (Do.Take e cell) fired words = cell_of words e cell
+seen_in (Do.Settle e) fired words = (words_of words e).acknowledged
+seen_in (Do.Ack e count) fired words = (words_of words e).acknowledged
+seen_in (Do.Clear e cell) fired words = cell_of words e cell
+seen_in (Do.Claim e expected new) fired words = (words_of words e).word
+seen_in (Do.Fire k) fired words = fired
+seen_in (Do.Halt by_limit) fired words = fired
+seen_in (Do.Put e cell value) fired words = 0
+seen_in Do.End fired words = 0
 
 -- the words after an operation
 abbrev pub words_after : Act → List EdgeState → List EdgeState

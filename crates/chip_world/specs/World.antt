@@ -1,9 +1,10 @@
 -- A running world, and when it stands for a log of the core.
-use Rattle.std.specs.Prelude.{◌≡◌, ℕ, ◌-◌, ◌<◌, ◌≤◌, ◌==◌, nat_lt, if◌then◌else◌, List, [], length, slice_index, slice_index_or, None}
-use Rattle.chip_graph.specs.ChipGame.{ChipGame, IsGame}
+use Rattle.std.specs.Prelude.{◌≡◌, ℕ, ◌-◌, ◌<◌, ◌==◌, nat_lt, if◌then◌else◌, List, [], length, slice_index, slice_index_or, None}
+use Rattle.chip_graph.specs.ChipGame.{ChipGame}
+use Rattle.chip_actor.specs.Setting.{Setting, game_of_setting, IsSetting}
 use Rattle.chip_graph.specs.Sums.{sum_below}
 use Rattle.chip_link.specs.Link.{Shows}
-use Rattle.chip_actor.specs.Edges.{graph_edges, root_edge, start_of}
+use Rattle.chip_actor.specs.Edges.{root_edge}
 use Rattle.chip_actor.specs.Part.{deficit}
 use Rattle.chip_actor.specs.Actor as vertex
 use Rattle.chip_actor.specs.declared.act.Act.{Act}
@@ -16,86 +17,82 @@ pub record RootState : Type 0 where
   pub settled : List ℕ
   pub outstanding : ℕ
 
--- what a `World` shows: its game and ring, an actor for each vertex, the shared words of each edge, and what the root keeps
+-- what a `World` shows: its setting, an actor for each vertex, the shared words of each edge, and what the root keeps
 pub record WorldState : Type 0 where
-  pub game : ChipGame
-  pub ring : ℕ
+  pub setting : Setting
   pub actors : List vertex.Actor
   pub words : List EdgeState
   pub root : RootState
 
 -- the words of the edge e are what this log makes of them
-pub record ShowsEdge (g : ChipGame) (ring : ℕ) (log : Log) (e : ℕ) (w : EdgeState) : Type 0 where
-  pub cells_each : length w.cells ≡ ring
-  pub shows : Shows ring w.word (slice_index w.cells) (out_in g log e).link (into_in g log e).got (stop_in g log e)
+pub record ShowsEdge (g : Setting) (log : Log) (e : ℕ) (w : EdgeState) : Type 0 where
+  pub cells_each : length w.cells ≡ g.ring
+  pub shows : Shows g.ring w.word (slice_index w.cells) (out_in g log e).link (into_in g log e).got (stop_in g log e)
   pub acknowledged : w.acknowledged ≡ (into_in g log e).acked
 
 -- the actor of v stands for the part of v
-pub record IsActor (g : ChipGame) (ring : ℕ) (log : Log) (v : ℕ) (a : vertex.Actor) : Type 0 where
+pub record IsActor (g : Setting) (log : Log) (v : ℕ) (a : vertex.Actor) : Type 0 where
   pub vertex_is : a.vertex ≡ v
-  pub stands : vertex.StandsFor g ring (part_in g log v) a
+  pub stands : vertex.StandsFor g (part_in g log v) a
 
 -- the root keeps what its part says
-pub record IsRoot (g : ChipGame) (log : Log) (r : RootState) : Type 0 where
+pub record IsRoot (g : Setting) (log : Log) (r : RootState) : Type 0 where
   pub settled_each : length r.settled ≡ g.graph.vertices
   pub settled : (v : ℕ) → v < g.graph.vertices → slice_index r.settled v ≡ (out_in g log (root_edge g v)).settled
   pub outstanding : r.outstanding ≡ deficit g (root g) (part_in g log (root g))
 
 -- the world is the one that this log leaves
-pub record StandsForLog (g : ChipGame) (ring : ℕ) (log : Log) (w : WorldState) : Type 0 where
-  pub game : w.game ≡ g
-  pub ring_is : w.ring ≡ ring
-  pub is_game : IsGame g
-  pub some_ring : 0 < ring
-  pub small_ring : ring ≤ 64
-  pub legal : IsLegalLog g ring log
+pub record StandsForLog (g : Setting) (log : Log) (w : WorldState) : Type 0 where
+  pub setting : w.setting ≡ g
+  pub is_setting : IsSetting g
+  pub legal : IsLegalLog g log
   pub actors_each : length w.actors ≡ g.graph.vertices
-  pub actors : (v : ℕ) → v < g.graph.vertices → (d : vertex.Actor) → IsActor g ring log v (slice_index_or w.actors v d)
+  pub actors : (v : ℕ) → v < g.graph.vertices → (d : vertex.Actor) → IsActor g log v (slice_index_or w.actors v d)
   pub words_each : length w.words ≡ all_edges g
-  pub words : (e : ℕ) → e < all_edges g → (d : EdgeState) → ShowsEdge g ring log e (slice_index_or w.words e d)
+  pub words : (e : ℕ) → e < all_edges g → (d : EdgeState) → ShowsEdge g log e (slice_index_or w.words e d)
   pub root_keeps : IsRoot g log w.root
 
 -- some log leaves it
 abbrev pub SomeLog : WorldState → Type 0
-SomeLog w = (g : ChipGame) × (ring : ℕ) × (log : Log) × StandsForLog g ring log w
+SomeLog w = (g : Setting) × (log : Log) × StandsForLog g log w
 
 -- whatever log leaves it
-abbrev pub WhateverLog : WorldState → (ChipGame → ℕ → Log → Type 0) → Type 0
-WhateverLog w P = (g : ChipGame) (ring : ℕ) (log : Log) → StandsForLog g ring log w → P g ring log
+abbrev pub WhateverLog : WorldState → (Setting → Log → Type 0) → Type 0
+WhateverLog w P = (g : Setting) (log : Log) → StandsForLog g log w → P g log
 
 -- some log leaves it, of which this holds
-abbrev pub SomeLogWhere : WorldState → (ChipGame → ℕ → Log → Type 0) → Type 0
-SomeLogWhere w P = (g : ChipGame) × (ring : ℕ) × (log : Log) × StandsForLog g ring log w × P g ring log
+abbrev pub SomeLogWhere : WorldState → (Setting → Log → Type 0) → Type 0
+SomeLogWhere w P = (g : Setting) × (log : Log) × StandsForLog g log w × P g log
 
 -- the world is the one after a step of the core for this event, and this is the reply
-abbrev pub MakesStep : ChipGame → ℕ → Log → Event → WorldState → Reply → Type 0
-MakesStep g ring log x new reply = StandsForLog g ring (step g ring log x).0 new × (reply ≡ (step g ring log x).1)
+abbrev pub MakesStep : Setting → Log → Event → WorldState → Reply → Type 0
+MakesStep g log x new reply = StandsForLog g (step g log x).0 new × (reply ≡ (step g log x).1)
 
 -- the world made one step of the core for this event, and answered this
 abbrev pub Steps : WorldState → WorldState → Event → Reply → Type 0
-Steps old new x reply = WhateverLog old (λ g ring log. MakesStep g ring log x new reply)
+Steps old new x reply = WhateverLog old (λ g log. MakesStep g log x new reply)
 
 -- the operation is the one that an event of the vertex v needs, whose rules are met
-pub record IsDueFor (g : ChipGame) (ring : ℕ) (log : Log) (v : ℕ) (act : Act) : Type 0 where
+pub record IsDueFor (g : Setting) (log : Log) (v : ℕ) (act : Act) : Type 0 where
   pub inside : v < g.graph.vertices
   pub mine : part_of g (event_of v act) ≡ v
   pub met : unmet g (event_of v act) (part_in g log v) ≡ None
-  pub needed : act ≡ act_of g ring (event_of v act) (part_in g log v)
+  pub needed : act ≡ act_of g (event_of v act) (part_in g log v)
 
 -- the chips with which an edge opens: on a root edge those that its vertex starts with
 abbrev pub first_chips : ChipGame → ℕ → ℕ
-first_chips g e = if nat_lt e (graph_edges g) then 0 else start_of g (e - graph_edges g)
+first_chips game e = if nat_lt e (length game.graph.edges) then 0 else slice_index game.start (e - length game.graph.edges)
 
 -- the words of the first edges as the game opens
-pub record AreOpeningWords (g : ChipGame) (ring count : ℕ) (words : List EdgeState) : Type 0 where
+pub record AreOpeningWords (g : Setting) (count : ℕ) (words : List EdgeState) : Type 0 where
   pub count_is : length words ≡ count
-  pub each : (e : ℕ) → e < count → (d : EdgeState) → slice_index_or words e d ≡ opening_words ring (first_chips g e)
+  pub each : (e : ℕ) → e < count → (d : EdgeState) → slice_index_or words e d ≡ opening_words g.ring (first_chips (game_of_setting g) e)
 
 -- an actor for each of the first vertices as the game opens
-pub record AreOpeningActors (g : ChipGame) (ring count : ℕ) (actors : List vertex.Actor) : Type 0 where
+pub record AreOpeningActors (g : Setting) (count : ℕ) (actors : List vertex.Actor) : Type 0 where
   pub count_is : length actors ≡ count
-  pub each : (v : ℕ) → v < count → (d : vertex.Actor) → IsActor g ring [] v (slice_index_or actors v d)
+  pub each : (v : ℕ) → v < count → (d : vertex.Actor) → IsActor g [] v (slice_index_or actors v d)
 
 -- how many of the first vertices start with chips
 abbrev pub with_chips : ChipGame → ℕ → ℕ
-with_chips g count = sum_below count (λ v. if start_of g v == 0 then 0 else 1)
+with_chips game count = sum_below count (λ v. if slice_index game.start v == 0 then 0 else 1)

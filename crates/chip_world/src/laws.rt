@@ -1,6 +1,6 @@
 //! Worked drives, as the contracts of a function that does nothing.
 
-ghost use Rattle.chip_world.specs.DriveRows.{TriangleRootEdges, OneRoundCloses, NoRoundLeavesOpen};
+ghost use Rattle.chip_world.specs.Worked.{TriangleRootEdges, OneRoundCloses, NoRoundLeavesOpen};
 
 /// Small drives, as the definitions compute them.
 pub fn worked_drives()

@@ -7,16 +7,14 @@
 mod fault;
 mod lanes;
 pub mod laws;
-mod outcome;
 #[cfg(test)]
 mod outcome_tests;
 mod root;
-mod running;
 #[cfg(test)]
 mod tests;
+mod turn_words;
 mod words;
 mod world;
 
 pub use fault::WorldFault;
-pub use running::Record;
-pub use world::{Drive, World};
+pub use world::{Drive, Record, World};

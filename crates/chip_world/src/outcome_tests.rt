@@ -3,7 +3,7 @@
 use crate::{World, WorldFault};
 use chip_actor::Reply;
 use chip_graph::{Edge, Game, Graph};
-use chip_link::Event;
+use chip_link::{Event, Ring};
 use std::alloc::Global;
 use std::process::Abort;
 use std::test::Fail;
@@ -20,7 +20,7 @@ fn triangle(alloc: Global, start: &[u64], limit: u64) -> Result<World, Fail> {
     }
     let graph = Graph::new(alloc, 3, 2, edges)?;
     let game = Game::new(graph, Vec::from_slice(alloc, start)?, limit)?;
-    Ok(World::open(alloc, &game, 1)?)
+    Ok(World::open(alloc, &game, Ring::one())?)
 }
 
 /// Makes these events, none of which may be refused.
@@ -57,10 +57,7 @@ fn ends(
 /// Vertex 0 fires twice and sends, and then vertex 1 fires once.
 const FIRINGS: [Event; 18] = [
     Event::Take(4),
-    Event::Fire {
-        vertex: 0,
-        count: 2,
-    },
+    Event::Fire { vertex: 0, k: 2 },
     Event::Clear(0),
     Event::Claim(0),
     Event::Put(0),
@@ -68,10 +65,7 @@ const FIRINGS: [Event; 18] = [
     Event::Claim(1),
     Event::Put(1),
     Event::Take(0),
-    Event::Fire {
-        vertex: 1,
-        count: 1,
-    },
+    Event::Fire { vertex: 1, k: 1 },
     Event::Clear(2),
     Event::Claim(2),
     Event::Put(2),
@@ -98,10 +92,7 @@ const CLOSING: [Event; 8] = [
 const SEALED_HALF_WAY: [Event; 9] = [
     Event::Seal(1),
     Event::Take(4),
-    Event::Fire {
-        vertex: 0,
-        count: 2,
-    },
+    Event::Fire { vertex: 0, k: 2 },
     Event::Clear(0),
     Event::Claim(0),
     Event::Put(0),
@@ -113,10 +104,7 @@ const SEALED_HALF_WAY: [Event; 9] = [
 /// What is left to do then.
 const PLAYED_ON: [Event; 18] = [
     Event::Take(0),
-    Event::Fire {
-        vertex: 1,
-        count: 1,
-    },
+    Event::Fire { vertex: 1, k: 1 },
     Event::Clear(2),
     Event::Claim(2),
     Event::Put(2),

@@ -3,11 +3,12 @@
 use super::*;
 use chip_actor::{Reply, Rule};
 use chip_graph::{Edge, Game, Graph};
-use chip_link::{Event, Message};
+use chip_link::{Event, Message, Ring};
 use std::alloc::Global;
 use std::process::Abort;
 use std::test::Fail;
 
+/// A game on these edges, which send one chip for each firing. The last vertex is the sink.
 fn game(alloc: Global, edges: &[(u64, u64)], start: &[u64]) -> Result<Game, Fail> {
     let mut rows = Vec::new(alloc);
     for &(tail, head) in edges {
@@ -22,20 +23,38 @@ fn game(alloc: Global, edges: &[(u64, u64)], start: &[u64]) -> Result<Game, Fail
     Ok(Game::new(graph, Vec::from_slice(alloc, start)?, 1 << 40)?)
 }
 
+/// Two vertices that send to each other, and both to the sink 2.
 const TRIANGLE: [(u64, u64); 4] = [(0, 1), (0, 2), (1, 0), (1, 2)];
 
+/// A chain of two edges to the sink 2.
 const CHAIN: [(u64, u64); 2] = [(0, 1), (1, 2)];
 
+/// A message by edge, place and count.
+fn message(edge: u64, place: u64, count: u64) -> Message {
+    Message { edge, place, count }
+}
+
+/// The reply to a take of this message.
 fn got(edge: u64, place: u64, count: u64) -> Reply {
-    Reply::Got(Message { edge, place, count })
+    Reply::Got(message(edge, place, count))
 }
 
+/// The reply to a claim for this message.
 fn sent(edge: u64, place: u64, count: u64) -> Reply {
-    Reply::Sent(Message { edge, place, count })
+    Reply::Sent(message(edge, place, count))
 }
 
-fn fire(vertex: u64, count: u64) -> Event {
-    Event::Fire { vertex, count }
+/// A firing of a vertex, `k` times in a row.
+fn fire(vertex: u64, k: u64) -> Event {
+    Event::Fire { vertex, k }
+}
+
+/// Compares the messages of all edges.
+fn expect_lists(rt: &impl Abort, lists: &[Vec<Message>], wanted: &[&[Message]]) {
+    assert_eq!(rt; lists.len(), wanted.len());
+    for (list, messages) in lists.iter().zip(wanted) {
+        assert_eq!(rt; list.as_slice(), *messages);
+    }
 }
 
 /// Runs some events, each with the reply that it is to have.
@@ -60,7 +79,7 @@ fn expect(
 #[test]
 fn chips_on_the_sink(rt: HostRuntime) -> Result<(), Fail> {
     let game = game(rt.alloc(), &TRIANGLE, &[0, 0, 9])?;
-    let mut world = World::open(rt.alloc(), &game, 1)?;
+    let mut world = World::open(rt.alloc(), &game, Ring::one())?;
     assert!(rt; !world.closed());
     assert_eq!(rt;
         world.outcome(rt.alloc()).err(),
@@ -84,7 +103,7 @@ fn chips_on_the_sink(rt: HostRuntime) -> Result<(), Fail> {
 #[test]
 fn full_ring(rt: HostRuntime) -> Result<(), Fail> {
     let game = game(rt.alloc(), &CHAIN, &[3, 0, 0])?;
-    let mut world = World::open(rt.alloc(), &game, 1)?;
+    let mut world = World::open(rt.alloc(), &game, Ring::one())?;
     let steps = [
         (Event::Take(2), got(2, 0, 3)),
         (fire(0, 1), Reply::Done(1)),
@@ -95,15 +114,20 @@ fn full_ring(rt: HostRuntime) -> Result<(), Fail> {
         (Event::Clear(0), Reply::Full),
     ];
     let record = expect(&rt, rt.alloc(), &mut world, &steps)?;
-    assert_eq!(rt; record.sent.len(), 5);
-    assert_eq!(rt; record.delivered.len(), 5);
+    let first = message(2, 0, 3);
+    expect_lists(
+        &rt,
+        &record.sent,
+        &[&[message(0, 0, 1)], &[], &[first], &[], &[]],
+    );
+    expect_lists(&rt, &record.delivered, &[&[], &[], &[first], &[], &[]]);
     Ok(())
 }
 
 #[test]
 fn sealed_half_way(rt: HostRuntime) -> Result<(), Fail> {
     let game = game(rt.alloc(), &TRIANGLE, &[4, 0, 0])?;
-    let mut world = World::open(rt.alloc(), &game, 1)?;
+    let mut world = World::open(rt.alloc(), &game, Ring::one())?;
     let steps = [
         (Event::Seal(1), Reply::Done(0)),
         (Event::Take(4), got(4, 0, 4)),
@@ -122,7 +146,7 @@ fn sealed_half_way(rt: HostRuntime) -> Result<(), Fail> {
 #[test]
 fn engaging_message_last(rt: HostRuntime) -> Result<(), Fail> {
     let game = game(rt.alloc(), &[(0, 1), (0, 1)], &[2, 0])?;
-    let mut world = World::open(rt.alloc(), &game, 1)?;
+    let mut world = World::open(rt.alloc(), &game, Ring::one())?;
     let steps = [
         (Event::Take(2), got(2, 0, 2)),
         (fire(0, 1), Reply::Done(1)),
@@ -145,7 +169,7 @@ fn engaging_message_last(rt: HostRuntime) -> Result<(), Fail> {
 #[test]
 fn ring_of_two(rt: HostRuntime) -> Result<(), Fail> {
     let game = game(rt.alloc(), &CHAIN, &[3, 0, 0])?;
-    let mut world = World::open(rt.alloc(), &game, 2)?;
+    let mut world = World::open(rt.alloc(), &game, Ring::new(2).expect(&rt, "two cells"))?;
     let steps = [
         (Event::Take(2), got(2, 0, 3)),
         (fire(0, 1), Reply::Done(1)),

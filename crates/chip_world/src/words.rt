@@ -3,7 +3,7 @@ ghost use Rattle.chip_link.specs.Words.{exchanged};
 
 use chip_actor::Act;
 use chip_graph::Game;
-use chip_link::EdgeWord;
+use chip_link::{EdgeWord, Ring};
 use std::alloc::{AllocError, Global};
 use std::marker::Model;
 
@@ -27,11 +27,10 @@ impl EdgeWords {
     ghost use Rattle.chip_world.specs.SharedWords.{with_cell, with_claim, with_acks, with_seal, opening_words};
 
     /// The words of an edge that opens with a message of so many chips, or with none where these are 0.
-    fn new(alloc: Global, ring: u64, chips: u64) -> Result<EdgeWords, AllocError>
-        requires { 0 < ring }
+    fn new(alloc: Global, ring: Ring, chips: u64) -> Result<EdgeWords, AllocError>
         ensures { IfOk result (λ edge. edge ≡ opening_words ring chips) }
     {
-        let mut cells = vec![in alloc; 0; ring as usize]?;
+        let mut cells = vec![in alloc; 0; ring.cells() as usize]?;
         cells[0] = chips;
         Ok(EdgeWords {
             word: if chips == 0 { 0 } else { 1 },
@@ -75,11 +74,14 @@ impl EdgeWords {
         word
     }
 
-    fn acknowledge(&mut self, count: u64)
+    fn acknowledge(&mut self, count: u64) -> u64
         requires { self.old.acknowledged + count < 2 ^ 64 }
-        ensures { self.new ≡ with_acks count self.old }
+        ensures seen { result ≡ self.old.acknowledged }
+        ensures after { self.new ≡ with_acks count self.old }
     {
-        self.acknowledged += count;
+        let before = self.acknowledged;
+        self.acknowledged = before + count;
+        before
     }
 }
 
@@ -99,14 +101,14 @@ impl Model for Words {
 }
 
 impl Words {
-    ghost use Rattle.chip_world.specs.SharedWords.{HasCell, cell_of, words_of, changed, with_seal, opening_words, seen_in, words_after, CanPerform};
+    ghost use Rattle.chip_world.specs.SharedWords.{HasCell, cell_of, words_of, changed, with_cell, with_claim, with_acks, with_seal, opening_words, seen_in, words_after, CanPerform};
+    ghost use Rattle.chip_actor.specs.Setting.{setting_of};
     ghost use Rattle.chip_actor.specs.Edges.{all_edges};
     ghost use Rattle.chip_world.specs.World.{AreOpeningWords};
 
     /// The words of a game that opens.
-    pub(crate) fn new(alloc: Global, game: &Game, ring: u64) -> Result<Words, AllocError>
-        requires { 0 < ring }
-        ensures { IfOk result (AreOpeningWords game.now ring (all_edges game.now)) }
+    pub(crate) fn new(alloc: Global, game: &Game, ring: Ring) -> Result<Words, AllocError>
+        ensures { let g = setting_of game.now ring in IfOk result (AreOpeningWords g (all_edges g)) }
     {
         let all_edges = game.graph().edges().len() + game.start().len();
         let mut edges = Vec::with_capacity(alloc, all_edges)?;
@@ -116,44 +118,71 @@ impl Words {
         Ok(Words { edges })
     }
 
-    /// Makes an operation, and gives the word that it saw, or 0 where it looks at none.
-    pub(crate) fn perform(&mut self, act: Act) -> u64
+    /// Makes an operation, and gives the word that it found, or 0 of a store. `fired` is the fired word of its vertex.
+    pub(crate) fn perform(&mut self, act: Act, fired: u64) -> u64
         requires { CanPerform act self.old }
-        ensures seen { result ≡ seen_in act self.old }
+        ensures seen { result ≡ seen_in act fired self.old }
         ensures after { self.new ≡ words_after act self.old }
     {
         match act {
-            Act::Take { edge, cell } => {
-                let words = &mut self.edges[edge as usize];
-                let count = words.load(cell);
-                words.store(cell, 0);
-                count
-            }
+            Act::Take { edge, cell } => self.take(edge, cell),
             Act::Settle { edge } => self.acknowledged(edge),
-            Act::Clear { edge, cell } => {
-                let words = &self.edges[edge as usize];
-                words.load(cell)
-            }
+            Act::Clear { edge, cell } => self.load(edge, cell),
             Act::Claim {
                 edge,
                 expected,
                 new,
-            } => {
-                let words = &mut self.edges[edge as usize];
-                words.exchange(expected, new)
-            }
+            } => self.exchange(edge, expected, new),
             Act::Put { edge, cell, value } => {
-                let words = &mut self.edges[edge as usize];
-                words.store(cell, value);
+                self.store(edge, cell, value);
                 0
             }
-            Act::Ack { edge, count } => {
-                let words = &mut self.edges[edge as usize];
-                words.acknowledge(count);
-                0
-            }
-            Act::Fire { .. } | Act::Halt { .. } | Act::End => 0,
+            Act::Ack { edge, count } => self.acknowledge(edge, count),
+            Act::Fire { .. } | Act::Halt { .. } => fired,
+            Act::End => 0,
         }
+    }
+
+    /// Swaps a cell of an edge with 0, and gives what was there.
+    pub(crate) fn take(&mut self, edge: u64, cell: u64) -> u64
+        requires { HasCell self.old edge cell }
+        ensures seen { result ≡ cell_of self.old edge cell }
+        ensures after { self.new ≡ changed edge (with_cell cell 0) self.old }
+    {
+        let words = &mut self.edges[edge as usize];
+        let count = words.load(cell);
+        words.store(cell, 0);
+        count
+    }
+
+    /// Stores a value into a cell of an edge.
+    pub(crate) fn store(&mut self, edge: u64, cell: u64, value: u64)
+        requires { HasCell self.old edge cell }
+        ensures { self.new ≡ changed edge (with_cell cell value) self.old }
+    {
+        let words = &mut self.edges[edge as usize];
+        words.store(cell, value);
+    }
+
+    /// One try to put `new` in the place of `expected` in the edge word; the word that was there.
+    pub(crate) fn exchange(&mut self, edge: u64, expected: u64, new: u64) -> u64
+        requires { edge < length self.old }
+        ensures seen { result ≡ (words_of self.old edge).word }
+        ensures after { self.new ≡ changed edge (with_claim expected new) self.old }
+    {
+        let words = &mut self.edges[edge as usize];
+        words.exchange(expected, new)
+    }
+
+    /// Adds to the word of acknowledgements of an edge, and gives the word that was there.
+    pub(crate) fn acknowledge(&mut self, edge: u64, count: u64) -> u64
+        requires edge { edge < length self.old }
+        requires room { (words_of self.old edge).acknowledged + count < 2 ^ 64 }
+        ensures seen { result ≡ (words_of self.old edge).acknowledged }
+        ensures after { self.new ≡ changed edge (with_acks count) self.old }
+    {
+        let words = &mut self.edges[edge as usize];
+        words.acknowledge(count)
     }
 
     /// Seals an edge, and gives the edge word that was there.
@@ -194,12 +223,11 @@ impl Words {
     }
 }
 
-ghost use Rattle.chip_actor.specs.Edges.{all_edges};
 ghost use Rattle.chip_world.specs.World.{first_chips};
 
 /// The chips with which an edge opens: on a root edge those that its vertex starts with.
 fn first_chips(game: &Game, edge: usize) -> u64
-    requires { edge < all_edges game.now }
+    requires { edge < length game.now.graph.edges + game.now.graph.vertices }
     ensures { result ≡ first_chips game.now edge }
 {
     let graph_edges = game.graph().edges().len();

@@ -1,13 +1,17 @@
 ghost use Rattle.std.specs.Prelude.{◌≡◌, ◌+◌, ◌^◌, ◌<◌, ◌≤◌, ◌↔◌, [], length, sum, slice_index, option_to_list, IsTrue, IfOk, false};
 
 mod driving;
+mod outcome;
+mod running;
 
 use crate::root::Root;
+use crate::turn_words::TurnWords;
 use crate::words::{Words, stored_by};
 use chip_actor::{Act, ActorState, Cause, Observed, Reply, Rule};
 use chip_graph::Game;
-use chip_link::{EdgeWord, Event, Message};
+use chip_link::{EdgeWord, Event, FiredWord, Message, Ring};
 pub use driving::Drive;
+pub use running::Record;
 use std::alloc::{AllocError, Global};
 use std::marker::Model;
 
@@ -17,30 +21,29 @@ use std::marker::Model;
 #[derive(Debug, Drop)]
 pub struct World {
     game: Game,
-    ring: u64,
+    ring: Ring,
     actors: Vec<ActorState>,
-    words: Words,
+    shared: TurnWords,
     root: Root,
 }
 
 impl Model for World {
+    ghost use Rattle.chip_actor.specs.Setting.{setting_of};
     ghost use Rattle.chip_world.specs.World.{WorldState, SomeLog};
 
     ghost Value = { WorldState };
 
     ghost view = { λ a. record {
-      game = a.game;
-      ring = a.ring;
+      setting = setting_of a.game a.ring;
       actors = a.actors.items;
-      words = a.words;
+      words = a.shared.words;
       root = a.root;
     } };
 
     ghost invariant = { λ a. SomeLog (record {
-      game = a.game;
-      ring = a.ring;
+      setting = setting_of a.game a.ring;
       actors = a.actors.items;
-      words = a.words;
+      words = a.shared.words;
       root = a.root;
     }) };
 }
@@ -50,16 +53,16 @@ impl World {
     ghost use Rattle.chip_link.specs.Link.{claims_of, sent_counts};
     ghost use Rattle.chip_core.specs.Messages.{in_flight};
     ghost use Rattle.std.specs.Vec.{vec_len, vec_capacity};
+    ghost use Rattle.chip_actor.specs.Setting.{setting_of, game_of_setting};
     ghost use Rattle.chip_actor.specs.Edges.{graph_edges, all_edges};
     ghost use Rattle.chip_world.specs.Makers.{head_if, tail_if, vertex_if, vertex_of, is_of_others};
     ghost use Rattle.chip_actor.specs.Acting.{event_of};
     ghost use Rattle.chip_world.specs.World.{StandsForLog, SomeLog, WhateverLog, SomeLogWhere, IsDueFor, MakesStep, Steps};
     ghost use Rattle.chip_link.specs.declared.event.Event.TheVariants.{Seal, Settle, Read};
 
-    /// A game that opens, with rings of 1 to 64 cells: no vertex has chips yet, and those that it starts with are on its root edge.
-    pub fn open(alloc: Global, game: &Game, ring: u64) -> Result<World, AllocError>
-        requires { (0 < ring) × (ring ≤ 64) }
-        ensures { IfOk result (StandsForLog game.now ring []) }
+    /// A game that opens: no vertex has chips yet, and those that it starts with are on its root edge.
+    pub fn open(alloc: Global, game: &Game, ring: Ring) -> Result<World, AllocError>
+        ensures { IfOk result (StandsForLog (setting_of game.now ring) []) }
     {
         let actors = opening_actors(alloc, game, ring)?;
         let words = Words::new(alloc, game, ring)?;
@@ -68,14 +71,14 @@ impl World {
             game: game.copy(alloc)?,
             ring,
             actors,
-            words,
+            shared: TurnWords { words, fired: 0 },
             root,
         })
     }
 
     /// The game in play, of which some log leaves this world.
     pub(crate) fn game(&self) -> &Game
-        ensures value { result.now ≡ self.now.game }
+        ensures value { result.now ≡ game_of_setting self.now.setting }
         ensures some_log { SomeLog self.now }
     {
         &self.game
@@ -83,7 +86,7 @@ impl World {
 
     // The head of an edge, if it is one.
     fn head(&self, edge: u64) -> Option<u64>
-        ensures { result ≡ head_if self.now.game edge }
+        ensures { result ≡ head_if self.now.setting edge }
     {
         let graph = self.game.graph();
         let edges = graph.edges();
@@ -99,7 +102,7 @@ impl World {
 
     // The tail of an edge of the graph, if it is one.
     fn tail(&self, edge: u64) -> Option<u64>
-        ensures { result ≡ tail_if self.now.game edge }
+        ensures { result ≡ tail_if self.now.setting edge }
     {
         let edges = self.game.graph().edges();
         if edge < edges.len() as u64 {
@@ -110,7 +113,7 @@ impl World {
     }
 
     fn vertex(&self, vertex: u64) -> Option<u64>
-        ensures { result ≡ vertex_if self.now.game vertex }
+        ensures { result ≡ vertex_if self.now.setting vertex }
     {
         if vertex < self.game.graph().vertices() {
             Some(vertex)
@@ -121,7 +124,7 @@ impl World {
 
     // The vertex that makes an event, if there is one.
     fn vertex_of(&self, event: Event) -> Option<u64>
-        ensures { result ≡ vertex_of self.now.game event }
+        ensures { result ≡ vertex_of self.now.setting event }
     {
         match event {
             Event::Take(edge) | Event::Ack(edge) => self.head(edge),
@@ -135,7 +138,7 @@ impl World {
 
     /// How many edges there are, the root's among them.
     pub(crate) fn all_edges(&self) -> usize
-        ensures value { result ≡ all_edges self.now.game }
+        ensures value { result ≡ all_edges self.now.setting }
         ensures few { result ≤ 69632 }
         ensures some { SomeLog self.now }
     {
@@ -145,7 +148,7 @@ impl World {
 
     // The chips of the message that is claimed on an edge and not put, if there is one.
     fn held(&self, edge: u64) -> u64
-        ensures { WhateverLog self.now (λ g ring log. result ≡ sum (option_to_list (out_in g log edge).link.held)) }
+        ensures { WhateverLog self.now (λ g log. result ≡ sum (option_to_list (out_in g log edge).link.held)) }
     {
         let Some(tail) = self.tail(edge) else {
             return 0;
@@ -159,10 +162,10 @@ impl World {
 
     // The chips of a message that was sent and not delivered.
     fn count_at(&self, edge: u64, place: u64) -> u64
-        requires { edge < all_edges self.now.game }
-        ensures { WhateverLog self.now (λ g ring log. length (into_in g log edge).got ≤ place → place < claims_of (out_in g log edge).link → result ≡ slice_index (sent_counts (out_in g log edge).link) place) }
+        requires { edge < all_edges self.now.setting }
+        ensures { WhateverLog self.now (λ g log. length (into_in g log edge).got ≤ place → place < claims_of (out_in g log edge).link → result ≡ slice_index (sent_counts (out_in g log edge).link) place) }
     {
-        let count = self.words.load(edge, place % self.ring);
+        let count = self.shared.words.load(edge, place % self.ring.cells());
         if count == 0 { self.held(edge) } else { count }
     }
 
@@ -173,9 +176,9 @@ impl World {
         edge: u64,
         room: usize,
     ) -> Result<Vec<Message>, AllocError>
-        requires edge { edge < all_edges self.now.game }
+        requires edge { edge < all_edges self.now.setting }
         requires room { room < 2 ^ 63 }
-        ensures messages { IfOk result (λ v. WhateverLog self.now (λ g ring log. v.items ≡ in_flight g log edge)) }
+        ensures messages { IfOk result (λ v. WhateverLog self.now (λ g log. v.items ≡ in_flight g log edge)) }
         ensures room { IfOk result (λ v. vec_len v + room ≤ vec_capacity v) }
     {
         // With a field read, the proof has the world's invariant: some log leaves it.
@@ -192,7 +195,7 @@ impl World {
 
     // An event of a vertex.
     fn act(&mut self, event: Event) -> Reply
-        requires { is_of_others self.old.game event ≡ false }
+        requires { is_of_others self.old.setting event ≡ false }
         ensures { Steps self.old self.new event result }
     {
         let Some(vertex) = self.vertex_of(event) else {
@@ -207,11 +210,12 @@ impl World {
 
     // A vertex makes an operation that is due for it.
     fn make(&mut self, vertex: u64, act: Act) -> Reply
-        requires { SomeLogWhere self.old (λ g ring log. IsDueFor g ring log vertex act) }
-        ensures { WhateverLog self.old (λ g ring log. IsDueFor g ring log vertex act → MakesStep g ring log (event_of vertex act) self.new result) }
+        requires { SomeLogWhere self.old (λ g log. IsDueFor g log vertex act) }
+        ensures { WhateverLog self.old (λ g log. IsDueFor g log vertex act → MakesStep g log (event_of vertex act) self.new result) }
     {
-        let seen = self.words.perform(act);
         let actor = &mut self.actors[vertex as usize];
+        let fired = fired_word(actor);
+        let seen = self.shared.words.perform(act, fired);
         actor.apply(Observed { act, seen })
     }
 
@@ -222,12 +226,12 @@ impl World {
         if edge >= self.game.graph().edges().len() as u64 {
             return Reply::NotNow(Rule::NoSuch);
         }
-        Reply::Done(EdgeWord::from_word(self.words.seal(edge)).claims)
+        Reply::Done(EdgeWord::from_word(self.shared.words.seal(edge)).claims)
     }
 
     // The root counts the acknowledgements of an edge behind the graph's.
     fn settle(&mut self, edge: u64) -> Reply
-        requires { graph_edges self.old.game ≤ edge }
+        requires { graph_edges self.old.setting ≤ edge }
         ensures { Steps self.old self.new (Settle edge) result }
     {
         let graph = self.game.graph();
@@ -235,7 +239,7 @@ impl World {
         if vertex >= graph.vertices() {
             return Reply::NotNow(Rule::NoSuch);
         }
-        let word = self.words.acknowledged(edge);
+        let word = self.shared.words.acknowledged(edge);
         Reply::Done(self.root.settle(vertex, word))
     }
 
@@ -267,63 +271,81 @@ impl World {
 
     /// Whether as many messages are settled as were sent on each root edge.
     pub fn closed(&self) -> bool
-        ensures { WhateverLog self.now (λ g ring log. IsTrue result ↔ IsClosed g log) }
+        ensures { WhateverLog self.now (λ g log. IsTrue result ↔ IsClosed g log) }
     {
         self.root.closed()
     }
 
     /// How many messages were sent on this edge; root edges come after the graph's.
     pub fn sent(&self, edge: u64) -> u64
-        requires { edge < all_edges self.now.game }
-        ensures { WhateverLog self.now (λ g ring log. result ≡ claims_of (out_in g log edge).link) }
+        requires { edge < all_edges self.now.setting }
+        ensures { WhateverLog self.now (λ g log. result ≡ claims_of (out_in g log edge).link) }
     {
-        EdgeWord::from_word(self.words.word(edge)).claims
+        EdgeWord::from_word(self.shared.words.word(edge)).claims
     }
 
     /// How many messages were delivered on this edge.
     pub fn delivered(&self, edge: u64) -> u64
-        requires { edge < all_edges self.now.game }
-        ensures { WhateverLog self.now (λ g ring log. result ≡ length (into_in g log edge).got) }
+        requires { edge < all_edges self.now.setting }
+        ensures { WhateverLog self.now (λ g log. result ≡ length (into_in g log edge).got) }
     {
         let head = self.head(edge).unwrap();
         let owed = self.actors[head as usize].detect().owed(edge);
-        self.words.acknowledged(edge) + owed
+        self.shared.words.acknowledged(edge) + owed
     }
 
     /// How many chips this vertex holds.
     pub fn chips(&self, vertex: u64) -> u64
-        requires { vertex < self.now.game.graph.vertices }
-        ensures { WhateverLog self.now (λ g ring log. result ≡ (part_in g log vertex).chips) }
+        requires { vertex < self.now.setting.graph.vertices }
+        ensures { WhateverLog self.now (λ g log. result ≡ (part_in g log vertex).chips) }
     {
         self.actors[vertex as usize].chips()
     }
 
     /// How often it fired.
     pub fn fired(&self, vertex: u64) -> u64
-        requires { vertex < self.now.game.graph.vertices }
-        ensures { WhateverLog self.now (λ g ring log. result ≡ fired_by g log vertex) }
+        requires { vertex < self.now.setting.graph.vertices }
+        ensures { WhateverLog self.now (λ g log. result ≡ fired_by g log vertex) }
     {
         self.actors[vertex as usize].fired()
     }
 
     /// Why it halted, where it did.
     pub fn halted(&self, vertex: u64) -> Option<Cause>
-        requires { vertex < self.now.game.graph.vertices }
-        ensures { WhateverLog self.now (λ g ring log. result ≡ (part_in g log vertex).halt) }
+        requires { vertex < self.now.setting.graph.vertices }
+        ensures { WhateverLog self.now (λ g log. result ≡ (part_in g log vertex).halt) }
     {
         self.actors[vertex as usize].halted()
     }
 }
 
-ghost use Rattle.chip_graph.specs.ChipGame.{IsGame};
+ghost use Rattle.chip_actor.specs.Setting.{setting_of, IsSetting};
 ghost use Rattle.chip_world.specs.World.{AreOpeningActors};
+ghost use Rattle.chip_actor.specs.Actor.{SomePart, WhateverPart};
+ghost use Rattle.chip_core.specs.Core.{word_of_part};
+ghost use Rattle.std.specs.Prelude.{⊤};
+
+/// The word that stands for the firings and the halt of a vertex.
+fn fired_word(actor: &ActorState) -> u64
+    requires { SomePart actor.now (λ g s. ⊤) }
+    ensures { WhateverPart actor.now (λ g s. result ≡ word_of_part s) }
+{
+    let halt = actor.halted();
+    let word = FiredWord {
+        fired: actor.fired(),
+        halted: halt.is_some(),
+        by_limit: halt == Some(Cause::FiringLimit),
+    };
+    word.to_word()
+}
 
 /// An actor for each vertex.
-fn opening_actors(alloc: Global, game: &Game, ring: u64) -> Result<Vec<ActorState>, AllocError>
-    requires { (0 < ring) × (ring ≤ 64) }
-    ensures game { IsGame game.now }
-    ensures actors { IfOk result (λ actors. AreOpeningActors game.now ring game.now.graph.vertices actors.items) }
+fn opening_actors(alloc: Global, game: &Game, ring: Ring) -> Result<Vec<ActorState>, AllocError>
+    ensures setting { IsSetting (setting_of game.now ring) }
+    ensures actors { let g = setting_of game.now ring in IfOk result (λ actors. AreOpeningActors g g.graph.vertices actors.items) }
 {
+    // With the cells read, the proof knows that the ring is in range.
+    let _cells = ring.cells();
     let vertices = game.graph().vertices();
     let mut actors = Vec::with_capacity(alloc, vertices as usize)?;
     for vertex in 0..vertices {

@@ -4,7 +4,7 @@ use super::Drive;
 use crate::World;
 use chip_actor::{Cause, Reply, Rule};
 use chip_graph::{Edge, Game, Graph};
-use chip_link::{Event, Message};
+use chip_link::{Event, Message, Ring};
 use std::alloc::Global;
 use std::process::Abort;
 use std::test::Fail;
@@ -54,36 +54,53 @@ fn delivered(world: &World, counts: &[u64]) -> bool {
     true
 }
 
-/// Whether a drive of ten rounds closes the game, and ends with these chips and firings.
-fn closes(alloc: Global, game: &Game, vertices: &[(u64, u64)]) -> Result<bool, Fail> {
-    let mut world = World::open(alloc, game, 1)?;
-    Ok(world.drive(10) == Drive::Closed && stands(&world, vertices))
+/// Drives a game for ten rounds, which are to close it with these chips and firings, and with these vertices halted by the limit.
+fn closes(
+    rt: &(impl AllocGlobal + Abort),
+    game: &Game,
+    vertices: &[(u64, u64)],
+    over: &[u64],
+) -> Result<(), Fail> {
+    let mut world = World::open(rt.alloc(), game, Ring::one())?;
+    assert_eq!(rt; world.drive(10), Drive::Closed);
+    assert!(rt; stands(&world, vertices));
+    let outcome = world.outcome(rt.alloc())?;
+    assert_eq!(rt; outcome.over.as_slice(), over);
+    assert_eq!(rt; outcome.sealed.len(), 0);
+    Ok(())
 }
 
 #[test]
 fn drives_to_the_end(rt: HostRuntime) -> Result<(), Fail> {
     let alloc = rt.alloc();
     let most = 1 << 40;
-    let mut empty = World::open(alloc, &small_triangle(alloc, &[0, 0, 0], most)?, 1)?;
+    let mut empty = World::open(
+        alloc,
+        &small_triangle(alloc, &[0, 0, 0], most)?,
+        Ring::one(),
+    )?;
     assert_eq!(rt; empty.drive(0), Drive::Closed);
     let one_short = small_triangle(alloc, &[3, 0, 0], most)?;
-    assert!(rt; closes(alloc, &one_short, &[(1, 1), (1, 0), (1, 0)])?);
+    closes(&rt, &one_short, &[(1, 1), (1, 0), (1, 0)], &[])?;
     let four_chips = small_triangle(alloc, &[4, 0, 0], most)?;
-    assert!(rt; closes(alloc, &four_chips, &[(1, 2), (0, 1), (3, 0)])?);
+    closes(&rt, &four_chips, &[(1, 2), (0, 1), (3, 0)], &[])?;
     let fires_again = small_triangle(alloc, &[5, 0, 0], most)?;
-    assert!(rt; closes(alloc, &fires_again, &[(0, 3), (1, 1), (4, 0)])?);
+    closes(&rt, &fires_again, &[(0, 3), (1, 1), (4, 0)], &[])?;
     let batch_of_two = game(alloc, &[(0, 1, 3)], &[7, 0], most)?;
-    assert!(rt; closes(alloc, &batch_of_two, &[(1, 2), (6, 0)])?);
+    closes(&rt, &batch_of_two, &[(1, 2), (6, 0)], &[])?;
     let limit_of_two = small_triangle(alloc, &[5, 0, 0], 2)?;
-    assert!(rt; closes(alloc, &limit_of_two, &[(2, 2), (0, 1), (3, 0)])?);
+    closes(&rt, &limit_of_two, &[(2, 2), (0, 1), (3, 0)], &[0])?;
     let largest_total = game(alloc, &[(0, 1, 1)], &[most, 0], most)?;
-    assert!(rt; closes(alloc, &largest_total, &[(0, most), (most, 0)])?);
-    Ok(())
+    closes(&rt, &largest_total, &[(0, most), (most, 0)], &[])
 }
 
 /// A firing that is half sent: the edge to the sink is sealed before it.
 fn sealed_half_way(rt: &impl Abort, alloc: Global) -> Result<World, Fail> {
-    let mut world = World::open(alloc, &small_triangle(alloc, &[4, 0, 0], 1 << 40)?, 1)?;
+    let mut world = World::open(
+        alloc,
+        &small_triangle(alloc, &[4, 0, 0], 1 << 40)?,
+        Ring::one(),
+    )?;
     let message = |edge, count| Message {
         edge,
         place: 0,
@@ -91,13 +108,7 @@ fn sealed_half_way(rt: &impl Abort, alloc: Global) -> Result<World, Fail> {
     };
     assert_eq!(rt; world.step(Event::Seal(1)), Reply::Done(0));
     assert_eq!(rt; world.step(Event::Take(4)), Reply::Got(message(4, 4)));
-    assert_eq!(rt;
-        world.step(Event::Fire {
-            vertex: 0,
-            count: 2
-        }),
-        Reply::Done(2)
-    );
+    assert_eq!(rt; world.step(Event::Fire { vertex: 0, k: 2 }), Reply::Done(2));
     assert_eq!(rt; world.step(Event::Clear(0)), Reply::Done(0));
     assert_eq!(rt; world.step(Event::Claim(0)), Reply::Sent(message(0, 2)));
     assert_eq!(rt; world.step(Event::Put(0)), Reply::Done(2));

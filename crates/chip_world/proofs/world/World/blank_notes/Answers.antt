@@ -31,9 +31,9 @@ loop-edge-preserved c =
     let many = inv.sent_each in let many_too = inv.delivered_each in
     record {
       sent_each = ap (λ (l : List Lane). length l) sent ∙ (let long = length-append c.loop-edge.sent (first ∷ []) in omega arith);
-      sent = λ e l g ring log stands. ap (λ (ls : List Lane). (lane_at ls e).messages) sent ∙ ⊎_elim
-          (λ old. ap (λ (x : Lane). x.messages) old.1 ∙ inv.sent e old.0 g ring log stands)
-          (λ new. ap (λ (x : Lane). x.messages) new.1 ∙ c.in_ok-in_flight.ensures.messages g ring log stands ∙ ap (in_flight g log) (sym new.0))
+      sent = λ e l g log stands. ap (λ (ls : List Lane). (lane_at ls e).messages) sent ∙ ⊎_elim
+          (λ old. ap (λ (x : Lane). x.messages) old.1 ∙ inv.sent e old.0 g log stands)
+          (λ new. ap (λ (x : Lane). x.messages) new.1 ∙ c.in_ok-in_flight.ensures.messages g log stands ∙ ap (in_flight g log) (sym new.0))
           (lane_push c.loop-edge.sent first n e many l);
       sent_room = λ e l. subst (λ (ls : List Lane). length (lane_at ls e).messages + get_or c.in_ok-tally.tally.claims.items e 0 ≤ (lane_at ls e).capacity) (sym sent) (⊎_elim
           (λ old. subst (λ (x : Lane). length x.messages + get_or c.in_ok-tally.tally.claims.items e 0 ≤ x.capacity) (sym old.1) (inv.sent_room e old.0))

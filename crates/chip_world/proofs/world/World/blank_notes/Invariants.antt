@@ -7,7 +7,7 @@ use Rattle.chip_world.proofs.world.World.blank_notes.Given as goal
 abbrev pub invariant-loop-edge : goal.invariant-loop-edge
 invariant-loop-edge l = record {
   sent_each : length l.sent ≡ l.edge;
-  sent : (e : ℕ) → e < l.edge → WhateverLog l.self (λ g ring log. (lane_at l.sent e).messages ≡ in_flight g log e);
+  sent : (e : ℕ) → e < l.edge → WhateverLog l.self (λ g log. (lane_at l.sent e).messages ≡ in_flight g log e);
   sent_room : (e : ℕ) → e < l.edge → length (lane_at l.sent e).messages + slice_index l.tally.claims.items e ≤ (lane_at l.sent e).capacity;
   delivered_each : length l.delivered ≡ l.edge;
   delivered : (e : ℕ) → e < l.edge → (lane_at l.delivered e).messages ≡ [];

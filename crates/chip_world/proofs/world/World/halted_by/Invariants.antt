@@ -1,7 +1,7 @@
 use Rattle.std.proofs.Common.{◌≡◌}
 use Rattle.chip_world.specs.World.{WhateverLog}
-use Rattle.chip_world.specs.WorldOutcome.{halted_by}
+use Rattle.chip_core.specs.Outcomes.{halted_by}
 use Rattle.chip_world.proofs.world.World.halted_by.Given as goal
 
 abbrev pub invariant-loop-vertex : goal.invariant-loop-vertex
-invariant-loop-vertex l = WhateverLog l.self (λ g ring log. l.halted.items ≡ halted_by g log l.cause l.vertex)
+invariant-loop-vertex l = WhateverLog l.self (λ g log. l.halted.items ≡ halted_by g log l.cause l.vertex)

@@ -13,12 +13,12 @@ record InRange (first claims : ℕ) : Type 0 where
 in_range : (c : goal.After-sent-claims) → InRange c.delivered-first.result c.sent-claims.result
 in_range c =
     let some = c.self.invariant in
-    let at = subst (StandsForLog some.0 some.1 some.2) c.self.view_is some.3 in
-    let first = c.delivered-first.ensures some.0 some.1 some.2 at in
-    let claims = c.sent-claims.ensures some.0 some.1 some.2 at in
-    let counts = edge_counts some.0 some.1 at.is_game at.some_ring some.2 at.legal c.args.edge in
+    let at = subst (StandsForLog some.0 some.1) c.self.view_is some.2 in
+    let first = c.delivered-first.ensures some.0 some.1 at in
+    let claims = c.sent-claims.ensures some.0 some.1 at in
+    let counts = edge_counts some.0 at.is_setting.game at.is_setting.some_ring some.1 at.legal c.args.edge in
     let c2 = counts.2 in let c3 = counts.3 in
-    let most = claims_most some.0 some.1 at.is_game at.some_ring some.2 at.legal c.args.edge in
+    let most = claims_most some.0 at.is_setting.game at.is_setting.some_ring some.1 at.legal c.args.edge in
     record { behind = omega arith; few = omega arith }
 
 pub overflow_sub-claims : goal.overflow_sub-claims
@@ -31,12 +31,12 @@ pub loop-place-preserved : goal.loop-place-preserved
 loop-place-preserved c =
     let inv = c.loop-place.invariant in let later = c.loop-place.auto.place in let before = c.loop-place-test.true in
     record {
-      so_far = λ g ring log stands.
-          let first = c.delivered-first.ensures g ring log stands in
-          let claims = c.sent-claims.ensures g ring log stands in
+      so_far = λ g log stands.
+          let first = c.delivered-first.ensures g log stands in
+          let claims = c.sent-claims.ensures g log stands in
           c.push_reserved.ensures.items
           ∙ flight_more g log c.args.edge c.delivered-first.result c.loop-place.place c.count_at-count.result c.loop-place.messages.items first later (subst (λ (n : ℕ). c.loop-place.place < n) claims before)
-          (c.count_at-count.ensures g ring log stands (subst (λ (n : ℕ). n ≤ c.loop-place.place) first later) (subst (λ (n : ℕ). c.loop-place.place < n) claims before)) (inv.so_far g ring log stands);
+          (c.count_at-count.ensures g log stands (subst (λ (n : ℕ). n ≤ c.loop-place.place) first later) (subst (λ (n : ℕ). c.loop-place.place < n) claims before)) (inv.so_far g log stands);
       many = (let more = c.push_reserved.ensures.len in let many = inv.many in omega arith);
       room = (let same = c.push_reserved.ensures.capacity in let room = inv.room in omega arith);
     }

@@ -1,17 +1,19 @@
-use Rattle.std.proofs.Common.{[]}
+use Rattle.std.proofs.Common.{[], ap}
+use Rattle.chip_graph.specs.ChipGame.{ChipGame}
+use Rattle.chip_actor.specs.Setting.{setting_of}
 use Rattle.chip_world.specs.World.{WorldState, StandsForLog}
 use Rattle.chip_world.proofs.OpeningLemmas.{opens}
 use Rattle.chip_world.proofs.world.World.«open».Goals as goal
 
-opened : (c : goal.In_ok-copy) → StandsForLog c.args.game.now c.args.ring []
-    (let w : WorldState = record { game = c.in_ok-copy.field-0; ring = c.args.ring; actors = c.in_ok-actors.actors.items; words = c.in_ok-words.words; root = c.in_ok-root.root } in w)
+opened : (c : goal.In_ok-copy) → StandsForLog (setting_of c.args.game.now c.args.ring) []
+    (let w : WorldState = record { setting = setting_of c.in_ok-copy.field-0 c.args.ring; actors = c.in_ok-actors.actors.items; words = c.in_ok-words.words; root = c.in_ok-root.root } in w)
 opened c =
-    opens c.args.game.now c.args.ring c.opening_actors.ensures.game c.requires.0
-    (let w : WorldState = record { game = c.in_ok-copy.field-0; ring = c.args.ring; actors = c.in_ok-actors.actors.items; words = c.in_ok-words.words; root = c.in_ok-root.root } in w)
-    c.requires.1 c.in_ok-copy.ensures Rattle.std.proofs.Common.refl c.in_ok-actors.ensures.actors c.in_ok-words.ensures c.in_ok-root.ensures.settled c.in_ok-root.ensures.outstanding
+    opens (setting_of c.args.game.now c.args.ring) c.opening_actors.ensures.setting
+    (let w : WorldState = record { setting = setting_of c.in_ok-copy.field-0 c.args.ring; actors = c.in_ok-actors.actors.items; words = c.in_ok-words.words; root = c.in_ok-root.root } in w)
+    (ap (λ (game : ChipGame). setting_of game c.args.ring) c.in_ok-copy.ensures) c.in_ok-actors.ensures.actors c.in_ok-words.ensures c.in_ok-root.ensures.settled c.in_ok-root.ensures.outstanding
 
 pub invariant_of-result : goal.invariant_of-result
-invariant_of-result c = (c.args.game.now, c.args.ring, [], opened c)
+invariant_of-result c = (setting_of c.args.game.now c.args.ring, [], opened c)
 
 pub returns : goal.returns
 returns c = opened c

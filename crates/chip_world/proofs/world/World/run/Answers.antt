@@ -5,20 +5,20 @@ use Rattle.chip_core.specs.Core.{Log, Event, Take, step}
 use Rattle.chip_core.proofs.HeadlineLemmas.{core_theorem}
 use Rattle.chip_world.specs.World.{StandsForLog}
 use Rattle.chip_world.specs.Run.{SentOnEdge, GotOnEdge, HasRooms, IsNotedUpTo}
-use Rattle.chip_world.proofs.RunLemmas.{sent_on_edge, got_on_edge, rooms_rest, noted_more, all_noted}
+use Rattle.chip_world.proofs.RunLemmas.{sent_on_edge, got_on_edge, rooms_rest, noted_more, all_noted, held_by_replies}
 use Rattle.chip_world.proofs.world.World.run.Goals as goal
 
 pub add-requires-clause-sent : goal.add-requires-clause-sent
 add-requires-clause-sent c =
     let some = c.blank_notes.ensures.some in
-    let now = c.loop-event.invariant.noted some.0 some.1 some.2 some.3 in
-    subst (SentOnEdge (get_or c.args.events.now c.loop-event.event-index (Take 0)) c.step-reply.result) (sym now.2.sent_each) (sent_on_edge some.0 some.1 now.0 _ c.step-reply.result (c.step-reply.ensures some.0 some.1 now.0 now.1).1)
+    let now = c.loop-event.invariant.noted some.0 some.1 some.2 in
+    subst (SentOnEdge (get_or c.args.events.now c.loop-event.event-index (Take 0)) c.step-reply.result) (sym now.2.sent_each) (sent_on_edge some.0 now.0 _ c.step-reply.result (c.step-reply.ensures some.0 now.0 now.1).1)
 
 pub add-requires-clause-delivered : goal.add-requires-clause-delivered
 add-requires-clause-delivered c =
     let some = c.blank_notes.ensures.some in
-    let now = c.loop-event.invariant.noted some.0 some.1 some.2 some.3 in
-    subst (GotOnEdge (get_or c.args.events.now c.loop-event.event-index (Take 0)) c.step-reply.result) (sym now.2.delivered_each) (got_on_edge some.0 some.1 now.0 _ c.step-reply.result (c.step-reply.ensures some.0 some.1 now.0 now.1).1)
+    let now = c.loop-event.invariant.noted some.0 some.1 some.2 in
+    subst (GotOnEdge (get_or c.args.events.now c.loop-event.event-index (Take 0)) c.step-reply.result) (sym now.2.delivered_each) (got_on_edge some.0 now.0 _ c.step-reply.result (c.step-reply.ensures some.0 now.0 now.1).1)
 
 pub loop-event-preserved : goal.loop-event-preserved
 loop-event-preserved c =
@@ -29,20 +29,22 @@ loop-event-preserved c =
     let cut : drop i events ≡ x ∷ rest = drop-cons events i (Take 0) c.loop-event-test.true ∙ ap (λ (n : ℕ). x ∷ drop n events) (sym (add-one i)) in
     record {
       rooms = rooms_rest x rest c.step-reply.result c.loop-event.notes c.add.new.self c.add.ensures.replies c.add.ensures.sent c.add.ensures.delivered c.add.ensures.room (subst (λ (xs : List Event). HasRooms xs c.loop-event.notes) cut c.loop-event.invariant.rooms);
-      noted = λ g ring log stands.
-          let now = c.loop-event.invariant.noted g ring log stands in
-          let made = c.step-reply.ensures g ring now.0 now.1 in
-          ((step g ring now.0 x).0, made.0, noted_more x rest c.step-reply.result c.loop-event.notes c.add.new.self c.add.ensures.replies c.add.ensures.sent c.add.ensures.delivered g ring log events now.0 made.1 (subst (λ (xs : List Event). IsNotedUpTo g ring log events now.0 xs c.loop-event.notes) cut now.2));
+      noted = λ g log stands.
+          let now = c.loop-event.invariant.noted g log stands in
+          let made = c.step-reply.ensures g now.0 now.1 in
+          ((step g now.0 x).0, made.0, noted_more x rest c.step-reply.result c.loop-event.notes c.add.new.self c.add.ensures.replies c.add.ensures.sent c.add.ensures.delivered g log events now.0 made.1 (subst (λ (xs : List Event). IsNotedUpTo g log events now.0 xs c.loop-event.notes) cut now.2));
     }
 
 pub returns : goal.returns
-returns c = λ g ring log stands.
+returns c = λ g log stands.
     let events : List Event = c.args.events.now in
-    let now = c.loop-event.invariant.noted g ring log stands in
+    let now = c.loop-event.invariant.noted g log stands in
     let none : drop c.loop-event.event-index events ≡ [] = drop_of_length-le events c.loop-event-test.false in
-    let done = subst (λ (xs : List Event). IsNotedUpTo g ring log events now.0 xs c.loop-event.notes) none now.2 in
+    let done = subst (λ (xs : List Event). IsNotedUpTo g log events now.0 xs c.loop-event.notes) none now.2 in
+    let recorded = all_noted g log events now.0 c.loop-event.notes c.finish.result.replies.items _ _ done c.finish.ensures.replies c.finish.ensures.sent c.finish.ensures.delivered in
     record {
-      world = subst (λ (after : Log). StandsForLog g ring after c.loop-event.self) (sym done.after) now.1;
-      recorded = all_noted g ring log events now.0 c.loop-event.notes c.finish.result.replies.items _ _ done c.finish.ensures.replies c.finish.ensures.sent c.finish.ensures.delivered;
-      headline = core_theorem g ring stands.is_game stands.some_ring log stands.legal events;
+      world = subst (λ (after : Log). StandsForLog g after c.loop-event.self) (sym done.after) now.1;
+      recorded = recorded;
+      headline = core_theorem g stands.is_setting.game stands.is_setting.some_ring log stands.legal events;
+      held = held_by_replies g stands.is_setting.game stands.is_setting.some_ring log events c.finish.result.replies.items recorded.replies_are;
     }

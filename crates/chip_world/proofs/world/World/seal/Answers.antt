@@ -1,6 +1,6 @@
 use Rattle.std.proofs.Common.{◌≡◌, ◌∙◌, ◌<◌, ℕ, length, List, ap, sym, subst}
 use Rattle.chip_graph.specs.Multigraph.{Multigraph}
-use Rattle.chip_graph.specs.ChipGame.{ChipGame}
+use Rattle.chip_actor.specs.Setting.{Setting}
 use Rattle.chip_link.specs.Words.{claims_in}
 use Rattle.chip_actor.specs.Edges.{graph_edges}
 use Rattle.chip_actor.specs.Rules.{Seal}
@@ -13,16 +13,16 @@ use Rattle.chip_world.proofs.StepLemmas.{seal_makes}
 use Rattle.chip_world.proofs.world.World.seal.Goals as goal
 
 -- whatever log the world stood for, it made one step of it
-made : (c : goal.After-from_word) → (g : ChipGame) (ring : ℕ) (log : Log) → StandsForLog g ring log (the_view c.self.inside)
-    → StandsForLog g ring (step g ring log (Seal c.args.edge)).0 (record (the_view c.self.inside) { words = c.seal.new.self }) × (Done c.from_word.result.claims ≡ (step g ring log (Seal c.args.edge)).1)
-made c g ring log stands =
+made : (c : goal.After-from_word) → (g : Setting) (log : Log) → StandsForLog g log (the_view c.self.inside)
+    → StandsForLog g (step g log (Seal c.args.edge)).0 (record (the_view c.self.inside) { words = c.seal.new.self }) × (Done c.from_word.result.claims ≡ (step g log (Seal c.args.edge)).1)
+made c g log stands =
     let w : WorldState = the_view c.self.inside in
-    let edges : length c.edges.result.now ≡ graph_edges g = ap length c.edges.ensures.value ∙ ap (λ (G : Multigraph). length G.edges) (c.graph.ensures.value ∙ ap (λ (h : ChipGame). h.graph) stands.game) in
-    subst (λ (words : List EdgeState). StandsForLog g ring (step g ring log (Seal c.args.edge)).0 (record w { words = words }) × (Done c.from_word.result.claims ≡ (step g ring log (Seal c.args.edge)).1)) (sym c.seal.ensures.after)
-    (seal_makes g ring log w stands c.args.edge (subst (λ (n : ℕ). c.args.edge < n) edges c.if-edge-edges.false) c.from_word.result.claims (c.from_word.ensures.claims ∙ ap claims_in c.seal.ensures.seen))
+    let edges : length c.edges.result.now ≡ graph_edges g = ap length c.edges.ensures.value ∙ ap (λ (G : Multigraph). length G.edges) (c.graph.ensures.value ∙ ap (λ (h : Setting). h.graph) stands.setting) in
+    subst (λ (words : List EdgeState). StandsForLog g (step g log (Seal c.args.edge)).0 (record w { words = words }) × (Done c.from_word.result.claims ≡ (step g log (Seal c.args.edge)).1)) (sym c.seal.ensures.after)
+    (seal_makes g log w stands c.args.edge (subst (λ (n : ℕ). c.args.edge < n) edges c.if-edge-edges.false) c.from_word.result.claims (c.from_word.ensures.claims ∙ ap claims_in c.seal.ensures.seen))
 
 pub invariant_of-self : goal.invariant_of-self
-invariant_of-self c = let some = c.self.invariant in (some.0, some.1, (step some.0 some.1 some.2 (Seal c.args.edge)).0, (made c some.0 some.1 some.2 some.3).0)
+invariant_of-self c = let some = c.self.invariant in (some.0, (step some.0 some.1 (Seal c.args.edge)).0, (made c some.0 some.1 some.2).0)
 
 pub returns : goal.returns
-returns c = λ g ring log stands. made c g ring log (subst (StandsForLog g ring log) (sym c.self.view_is) stands)
+returns c = λ g log stands. made c g log (subst (StandsForLog g log) (sym c.self.view_is) stands)

@@ -1,5 +1,5 @@
 use Rattle.std.proofs.Common.{◌∙◌, ◌<◌, ap, sym, subst}
-use Rattle.chip_graph.specs.ChipGame.{ChipGame}
+use Rattle.chip_actor.specs.Setting.{Setting}
 use Rattle.chip_link.specs.Words.{claims_in}
 use Rattle.chip_actor.specs.Edges.{all_edges}
 use Rattle.chip_world.specs.World.{StandsForLog}
@@ -7,7 +7,7 @@ use Rattle.chip_world.proofs.WordLemmas.{claims_told}
 use Rattle.chip_world.proofs.world.World.sent.Goals as goal
 
 pub returns : goal.returns
-returns c = λ g ring log at.
-    let stands = subst (StandsForLog g ring log) (sym c.self.view_is) at in
-    let inside = subst (λ (h : ChipGame). c.args.edge < all_edges h) at.game c.requires in
-    c.from_word.ensures.claims ∙ ap claims_in c.word.ensures ∙ claims_told g ring stands.is_game stands.some_ring log stands.legal c.self.inside.words stands.words_each stands.words c.args.edge inside
+returns c = λ g log at.
+    let stands = subst (StandsForLog g log) (sym c.self.view_is) at in
+    let inside = subst (λ (h : Setting). c.args.edge < all_edges h) at.setting c.requires in
+    c.from_word.ensures.claims ∙ ap claims_in c.word.ensures ∙ claims_told g stands.is_setting.game stands.is_setting.some_ring log stands.legal c.self.inside.shared.words stands.words_each stands.words c.args.edge inside

@@ -1,33 +1,34 @@
 use Rattle.std.proofs.Common.{◌≡◌, ◌+◌, ℕ, suc, List, length, ◌∙◌, ap, subst, arith}
 use Rattle.chip_graph.specs.declared.edge.Edge.{Edge}
 use Rattle.chip_graph.specs.Multigraph.{Multigraph}
-use Rattle.chip_graph.specs.ChipGame.{ChipGame}
+use Rattle.chip_actor.specs.Setting.{Setting}
 use Rattle.chip_actor.specs.Edges.{root_edge}
 use Rattle.chip_core.specs.Core.{Settle, step, log_after}
 use Rattle.chip_world.specs.World.{WorldState, StandsForLog}
+use Rattle.chip_world.specs.contracts.world.World.{the_view}
 use Rattle.chip_world.specs.Rounds.{root_settles}
 use Rattle.chip_world.proofs.DriveLemmas.{settles_more}
 use Rattle.chip_world.proofs.world.World.settle_roots.Goals as goal
 
 pub loop-vertex-preserved : goal.loop-vertex-preserved
-loop-vertex-preserved c = λ g ring before stands.
+loop-vertex-preserved c = λ g before stands.
     let v : ℕ = c.loop-vertex.vertex in
-    let here = c.loop-vertex.invariant g ring before stands in
-    let game : c.self.inside.game ≡ g = ap (λ (w : WorldState). w.game) c.self.view_is ∙ stands.game in
-    let edges : length c.edges.result.now ≡ length g.graph.edges = ap (λ (es : List Edge). length es) c.edges.ensures.value ∙ ap (λ (G : Multigraph). length G.edges) c.graph-graph.ensures.value ∙ ap (λ (h : ChipGame). length h.graph.edges) game in
-    let made = c.settle.ensures g ring here.0 here.1 in
+    let here = c.loop-vertex.invariant g before stands in
+    let setting : (the_view c.self.inside).setting ≡ g = ap (λ (w : WorldState). w.setting) c.self.view_is ∙ stands.setting in
+    let edges : length c.edges.result.now ≡ length g.graph.edges = ap (λ (es : List Edge). length es) c.edges.ensures.value ∙ ap (λ (G : Multigraph). length G.edges) c.graph-graph.ensures.value ∙ ap (λ (h : Setting). length h.graph.edges) setting in
+    let made = c.settle.ensures g here.0 here.1 in
     let more : suc v ≡ v + 1 = omega arith in (
-      (step g ring here.0 (Settle (root_edge g v))).0,
-      subst (λ (n : ℕ). StandsForLog g ring (step g ring here.0 (Settle (n + v))).0 c.settle.new.self) edges made.0,
-      subst (λ (n : ℕ). (step g ring here.0 (Settle (root_edge g v))).0 ≡ log_after g ring before (root_settles g n)) more (settles_more g ring before here.0 v here.2),
+      (step g here.0 (Settle (root_edge g v))).0,
+      subst (λ (n : ℕ). StandsForLog g (step g here.0 (Settle (n + v))).0 c.settle.new.self) edges made.0,
+      subst (λ (n : ℕ). (step g here.0 (Settle (root_edge g v))).0 ≡ log_after g before (root_settles g n)) more (settles_more g before here.0 v here.2),
     )
 
 pub returns : goal.returns
-returns c = λ g ring before stands.
-    let here = c.loop-vertex.invariant g ring before stands in
-    let game : c.self.inside.game ≡ g = ap (λ (w : WorldState). w.game) c.self.view_is ∙ stands.game in
-    let last : c.vertices-vertex-end.result ≡ g.graph.vertices = c.vertices-vertex-end.ensures.value ∙ ap (λ (G : Multigraph). G.vertices) c.graph-graph.ensures.value ∙ ap (λ (h : ChipGame). h.graph.vertices) game in
+returns c = λ g before stands.
+    let here = c.loop-vertex.invariant g before stands in
+    let setting : (the_view c.self.inside).setting ≡ g = ap (λ (w : WorldState). w.setting) c.self.view_is ∙ stands.setting in
+    let last : c.vertices-vertex-end.result ≡ g.graph.vertices = c.vertices-vertex-end.ensures.value ∙ ap (λ (G : Multigraph). G.vertices) c.graph-graph.ensures.value ∙ ap (λ (h : Setting). h.graph.vertices) setting in
     let below = c.loop-vertex.auto.vertex-end in
     let above = c.loop-vertex-test.false in
     let all : c.loop-vertex.vertex ≡ g.graph.vertices = omega arith in
-    (here.0, here.1, here.2 ∙ ap (λ (n : ℕ). log_after g ring before (root_settles g n)) all)
+    (here.0, here.1, here.2 ∙ ap (λ (n : ℕ). log_after g before (root_settles g n)) all)

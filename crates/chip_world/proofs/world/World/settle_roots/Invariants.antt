@@ -4,4 +4,4 @@ use Rattle.chip_world.specs.Rounds.{Leads, root_settles}
 use Rattle.chip_world.proofs.world.World.settle_roots.Given as goal
 
 abbrev pub invariant-loop-vertex : goal.invariant-loop-vertex
-invariant-loop-vertex l = Leads l.fn.self l.self (λ g ring before now. now ≡ log_after g ring before (root_settles g l.vertex))
+invariant-loop-vertex l = Leads l.fn.self l.self (λ g before now. now ≡ log_after g before (root_settles g l.vertex))

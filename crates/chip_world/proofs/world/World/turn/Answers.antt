@@ -1,45 +1,37 @@
-use Rattle.std.proofs.Common.{◌<◌, sym, subst}
-use Rattle.chip_graph.specs.ChipGame.{ChipGame}
-use Rattle.chip_actor.specs.Acting.{event_of}
-use Rattle.chip_actor.specs.Cursor.{fuel}
-use Rattle.chip_core.specs.Core.{part_in, step}
-use Rattle.chip_world.proofs.DriveLemmas.{turn_over, operation_is_due, fewer_left, still_turning}
+use Rattle.std.proofs.Common.{◌<◌, set, sym, ◌∙◌, subst}
+use Rattle.chip_actor.specs.Setting.{Setting}
+use Rattle.chip_core.specs.Core.{Log}
+use Rattle.chip_world.specs.World.{WorldState, StandsForLog, SomeLogWhere}
+use Rattle.chip_world.specs.Rounds.{IsTurnAfter}
+use Rattle.chip_world.specs.contracts.world.World.{the_view}
+use Rattle.chip_world.proofs.DriveLemmas.{turn_shows_word, turn_meets, turn_leads}
 use Rattle.chip_world.proofs.world.World.turn.Goals as goal
+use Rattle.chip_world.proofs.world.World.turn.Goals.{After-turn}
 
-pub next_of-act-requires : goal.next_of-act-requires
-next_of-act-requires c =
-    let start = c.requires in
-    let here = c.loop-self.invariant start.0 start.1 start.2 start.3 in
-    (start.0, start.1, here.0, here.1, (here.2.inside, part_in start.0 start.2 c.args.vertex, here.2.done, here.2.under_way))
+pub fired_word-fired-requires : goal.fired_word-fired-requires
+fired_word-fired-requires c =
+    let s = subst (λ (w : WorldState). SomeLogWhere w (λ g log. c.args.vertex < g.graph.vertices)) (sym c.self.view_is) c.requires in
+    turn_shows_word s.0 s.1 (the_view c.self.inside) s.2 c.args.vertex s.3 c.index_mut-actor.result.now c.index_mut-actor.ensures.value
 
-pub returns-in-End : goal.returns-in-End
-returns-in-End c = λ g ring before stands.
-    let here = c.loop-self.invariant g ring before stands in
-    (here.0, here.1, turn_over g ring c.args.vertex c.loop-self.cursor before here.0 here.2 c.next_of-act.result.0 c.next_of-act.result.1 (c.next_of-act.ensures g ring here.0 here.1) c.in-End.is here.1.legal)
+pub turn-requires : goal.turn-requires
+turn-requires c =
+    let s = subst (λ (w : WorldState). SomeLogWhere w (λ g log. c.args.vertex < g.graph.vertices)) (sym c.self.view_is) c.requires in
+    turn_meets s.0 s.1 (the_view c.self.inside) s.2 c.args.vertex s.3 c.index_mut-actor.result.now c.index_mut-actor.ensures.value c.fired_word-fired.result c.fired_word-fired.ensures
 
-pub make-requires : goal.make-requires
-make-requires c =
-    let start = c.requires in
-    let here = c.loop-self.invariant start.0 start.1 start.2 start.3 in
-    (start.0, start.1, here.0, here.1, operation_is_due start.0 start.1 c.args.vertex c.loop-self.cursor start.2 here.0 here.2 c.next_of-act.result.0 c.next_of-act.result.1 (c.next_of-act.ensures start.0 start.1 here.0 here.1) c.in_default.not-End)
+-- whatever log the world stood for, the turn was made after it
+made : (c : After-turn) → (g : Setting) (log : Log) → StandsForLog g log (the_view c.self.inside) → c.args.vertex < g.graph.vertices
+    → (after : Log) × StandsForLog g after (record (the_view c.self.inside) { actors = set c.self.inside.actors.items c.args.vertex c.turn.new.self; words = c.turn.new.medium.words }) × IsTurnAfter g c.args.vertex log after
+made c g log stands inside =
+    turn_leads g log (the_view c.self.inside) stands c.args.vertex inside c.index_mut-actor.result.now c.index_mut-actor.ensures.value c.fired_word-fired.result c.fired_word-fired.ensures c.turn.new.medium c.turn.new.self c.turn.result c.turn.ensures
 
-pub loop-self-smaller : goal.loop-self-smaller
-loop-self-smaller c =
-    let start = c.requires in
-    let here = c.loop-self.invariant start.0 start.1 start.2 start.3 in
-    let goes = c.next_of-act.ensures start.0 start.1 here.0 here.1 in
-    let due = operation_is_due start.0 start.1 c.args.vertex c.loop-self.cursor start.2 here.0 here.2 c.next_of-act.result.0 c.next_of-act.result.1 goes c.in_default.not-End in
-    let made = c.make.ensures start.0 start.1 here.0 here.1 due in
-    let fewer = fewer_left start.0 start.1 c.args.vertex c.loop-self.cursor start.2 here.0 here.2 c.next_of-act.result.0 c.next_of-act.result.1 goes c.in_default.not-End in
-    subst (λ (h : ChipGame). fuel h c.args.vertex c.next_of-act.result.1 < fuel c.loop-self.self.game c.args.vertex c.loop-self.cursor) (sym made.0.game)
-    (subst (λ (h : ChipGame). fuel start.0 c.args.vertex c.next_of-act.result.1 < fuel h c.args.vertex c.loop-self.cursor) (sym here.1.game) fewer)
+pub invariant_of-self : goal.invariant_of-self
+invariant_of-self c =
+    let s = subst (λ (w : WorldState). SomeLogWhere w (λ g log. c.args.vertex < g.graph.vertices)) (sym c.self.view_is) c.requires in
+    let m = made (goal.at.invariant_of-self c).After-turn s.0 s.1 s.2 s.3 in
+    (s.0, m.0, m.1)
 
-pub loop-self-preserved : goal.loop-self-preserved
-loop-self-preserved c = λ g ring before stands.
-    let here = c.loop-self.invariant g ring before stands in
-    let goes = c.next_of-act.ensures g ring here.0 here.1 in
-    let due = operation_is_due g ring c.args.vertex c.loop-self.cursor before here.0 here.2 c.next_of-act.result.0 c.next_of-act.result.1 goes c.in_default.not-End in (
-      (step g ring here.0 (event_of c.args.vertex c.next_of-act.result.0)).0,
-      (c.make.ensures g ring here.0 here.1 due).0,
-      still_turning g ring c.args.vertex c.loop-self.cursor before here.0 here.2 c.next_of-act.result.0 c.next_of-act.result.1 goes c.in_default.not-End,
-    )
+pub returns : goal.returns
+returns c = λ g log stands.
+    let some = subst (λ (w : WorldState). SomeLogWhere w (λ g log. c.args.vertex < g.graph.vertices)) (sym c.self.view_is) c.requires in
+    let here = subst (StandsForLog g log) (sym c.self.view_is) stands in
+    made (goal.at.returns c).After-turn g log here (subst (λ (h : Setting). c.args.vertex < h.graph.vertices) (sym some.2.setting ∙ here.setting) some.3)

@@ -1,6 +1,6 @@
 use Rattle.std.proofs.Common.{◌≡◌, ◌<◌, ◌+◌, ℕ, suc, ◌∙◌, ap, subst, arith}
 use Rattle.chip_graph.specs.Multigraph.{Multigraph}
-use Rattle.chip_graph.specs.ChipGame.{ChipGame}
+use Rattle.chip_actor.specs.Setting.{Setting}
 use Rattle.chip_world.specs.World.{StandsForLog}
 use Rattle.chip_world.specs.Rounds.{AreTurns}
 use Rattle.chip_world.proofs.world.World.turns.Goals as goal
@@ -8,13 +8,13 @@ use Rattle.chip_world.proofs.world.World.turns.Goals as goal
 pub turn-requires : goal.turn-requires
 turn-requires c =
     let some = c.self.invariant in
-    let here = c.loop-vertex.invariant some.0 some.1 some.2 (subst (StandsForLog some.0 some.1 some.2) c.self.view_is some.3) in
-    let end = c.vertices-vertex-end.ensures.value ∙ ap (λ (G : Multigraph). G.vertices) c.graph.ensures.value ∙ ap (λ (h : ChipGame). h.graph.vertices) some.3.game in
-    (some.0, some.1, here.0, here.1, subst (λ (n : ℕ). c.loop-vertex.vertex < n) end c.loop-vertex-test.true)
+    let here = c.loop-vertex.invariant some.0 some.1 (subst (StandsForLog some.0 some.1) c.self.view_is some.2) in
+    let end = c.vertices-vertex-end.ensures.value ∙ ap (λ (G : Multigraph). G.vertices) c.graph.ensures.value ∙ ap (λ (h : Setting). h.graph.vertices) some.2.setting in
+    (some.0, here.0, here.1, subst (λ (n : ℕ). c.loop-vertex.vertex < n) end c.loop-vertex-test.true)
 
 pub loop-vertex-preserved : goal.loop-vertex-preserved
-loop-vertex-preserved c = λ g ring before stands.
-    let here = c.loop-vertex.invariant g ring before stands in
-    let after = c.turn.ensures g ring here.0 here.1 in
+loop-vertex-preserved c = λ g before stands.
+    let here = c.loop-vertex.invariant g before stands in
+    let after = c.turn.ensures g here.0 here.1 in
     let more : suc c.loop-vertex.vertex ≡ c.loop-vertex.vertex + 1 = omega arith in
-    (after.0, after.1, subst (λ (n : ℕ). AreTurns g ring n before after.0) more (here.0, here.2, after.2))
+    (after.0, after.1, subst (λ (n : ℕ). AreTurns g n before after.0) more (here.0, here.2, after.2))

@@ -2,4 +2,4 @@ use Rattle.chip_world.specs.Rounds.{Leads, AreTurns}
 use Rattle.chip_world.proofs.world.World.turns.Given as goal
 
 abbrev pub invariant-loop-vertex : goal.invariant-loop-vertex
-invariant-loop-vertex l = Leads l.fn.self l.self (λ g ring before now. AreTurns g ring l.vertex before now)
+invariant-loop-vertex l = Leads l.fn.self l.self (λ g before now. AreTurns g l.vertex before now)

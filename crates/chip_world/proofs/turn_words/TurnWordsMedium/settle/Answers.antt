@@ -1,0 +1,10 @@
+use Rattle.std.proofs.Common.{refl}
+use Rattle.chip_actor.specs.declared.act.Act.TheVariants as Do
+use Rattle.chip_world.proofs.TurnWordLemmas.{finds_some, serves}
+use Rattle.chip_world.proofs.turn_words.TurnWordsMedium.settle.Goals as goal
+
+pub acknowledged-requires : goal.acknowledged-requires
+acknowledged-requires c = finds_some c.args.self.now (Do.Settle c.args.edge) c.requires
+
+pub returns : goal.returns
+returns c = serves c.args.self.now _ (Do.Settle c.args.edge) _ c.acknowledged.ensures refl refl (λ g v seen s. refl)

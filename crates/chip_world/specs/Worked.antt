@@ -1,0 +1,23 @@
+-- A worked drive, as the definitions compute it.
+use Rattle.std.specs.Prelude.{◌≡◌, ◌^◌, [], ◌∷◌}
+use Rattle.chip_actor.specs.Setting.{Setting}
+use Rattle.chip_actor.specs.Worked.{small_triangle, saw}
+use Rattle.chip_core.specs.Core.{Take, Ack, Settle}
+use Rattle.chip_world.specs.declared.world.driving.Drive.TheVariants.{Closed, Unfinished}
+use Rattle.chip_world.specs.Rounds.{root_settles, IsDrive}
+
+-- the root edges of the triangle come after its four edges
+abbrev pub TriangleRootEdges : Type 0
+TriangleRootEdges = root_settles (small_triangle (4 ∷ 0 ∷ 0 ∷ [])) 3 ≡ Settle 4 ∷ Settle 5 ∷ Settle 6 ∷ []
+
+-- the sink alone, with five chips
+abbrev pub sink_alone : Setting
+sink_alone = record { graph = record { vertices = 1; sink = 0; edges = [] }; start = 5 ∷ []; limit = 2 ^ 40; ring = 1 }
+
+-- it takes its chips and acknowledges them, and the root settles them: one round of ten is enough
+abbrev pub OneRoundCloses : Type 0
+OneRoundCloses = IsDrive sink_alone 10 [] (saw (Settle 0) 1 ∷ saw (Ack 0) 0 ∷ saw (Take 0) 5 ∷ []) Closed
+
+-- no round is made where none is asked for
+abbrev pub NoRoundLeavesOpen : Type 0
+NoRoundLeavesOpen = IsDrive sink_alone 0 [] [] (Unfinished 0)

@@ -1,0 +1,69 @@
+ghost use Rattle.std.specs.Prelude.{◌≡◌, ◌+◌, if◌then◌else◌};
+
+use crate::words::Words;
+use chip_actor::Medium;
+use chip_link::FiredWord;
+
+/// The shared words as the vertex whose turn it is finds them: those of all edges, and its own fired word. A net keeps that
+/// word among them; here its actor alone knows it, and it is noted when the turn begins.
+#[derive(Debug, Drop)]
+pub(crate) struct TurnWords {
+    pub(crate) words: Words,
+    pub(crate) fired: u64,
+}
+
+impl Medium for TurnWords {
+    ghost use Rattle.chip_world.specs.TurnWords.{Holds};
+
+    ghost holds = { λ w. Holds w };
+
+    fn take(&mut self, edge: u64, cell: u64) -> u64 {
+        self.words.take(edge, cell)
+    }
+
+    fn settle(&mut self, edge: u64) -> u64 {
+        self.words.acknowledged(edge)
+    }
+
+    fn fire(&mut self, k: u64) -> u64 {
+        let before = self.fired;
+        self.fired = before + k;
+        before
+    }
+
+    fn clear(&mut self, edge: u64, cell: u64) -> u64 {
+        self.words.load(edge, cell)
+    }
+
+    fn claim(&mut self, edge: u64, expected: u64, new: u64) -> u64 {
+        self.words.exchange(edge, expected, new)
+    }
+
+    fn put(&mut self, edge: u64, cell: u64, value: u64) -> u64 {
+        self.words.store(edge, cell, value);
+        0
+    }
+
+    fn halt(&mut self, by_limit: bool) -> u64 {
+        let before = self.fired;
+        self.fired = before | halt_bits(by_limit);
+        before
+    }
+
+    fn ack(&mut self, edge: u64, count: u64) -> u64 {
+        self.words.acknowledge(edge, count)
+    }
+}
+
+ghost use Rattle.chip_core.specs.Words.{halt_bits};
+
+/// What a halt sets in the fired word, by its cause.
+fn halt_bits(by_limit: bool) -> u64
+    ensures { result ≡ halt_bits by_limit }
+{
+    if by_limit {
+        FiredWord::HALT_BY_LIMIT
+    } else {
+        FiredWord::HALT
+    }
+}

@@ -1,0 +1,160 @@
+ghost use Rattle.std.specs.Prelude.{◌≡◌, ℕ, ◌^◌, ◌<◌, ◌∷◌, [], ◌++◌, length, map, slice_index, IfOk, MatchResult};
+ghost use Rattle.std.specs.Vec.{vec_capacity};
+
+use super::World;
+use crate::lanes::Lanes;
+use chip_actor::Reply;
+use chip_link::{Event, Message};
+use std::alloc::{AllocError, Global};
+
+/// What a run of events came to. Edges have their numbers, the root edges after the graph's.
+#[derive(Debug, Drop)]
+pub struct Record {
+    /// The reply to each event.
+    pub replies: Vec<Reply>,
+    /// Of each edge, the messages that were sent and not delivered when the run began, and then those that it sent.
+    pub sent: Vec<Vec<Message>>,
+    /// Of each edge, the messages that the run delivered.
+    pub delivered: Vec<Vec<Message>>,
+}
+
+/// A record that is written, with room for all that may come.
+#[derive(Debug, Drop)]
+pub(crate) struct Notes {
+    pub(crate) replies: Vec<Reply>,
+    pub(crate) sent: Lanes,
+    pub(crate) delivered: Lanes,
+}
+
+impl Notes {
+    ghost use Rattle.chip_world.specs.Run.{HasRooms, SentOnEdge, GotOnEdge, sent_after, delivered_after};
+    ghost use Rattle.chip_world.specs.Lanes.{lane_at};
+
+    /// Notes the reply to an event.
+    pub(crate) fn add(&mut self, event: Event, reply: Reply)
+        requires room { HasRooms (event ∷ []) self.old }
+        requires sent { SentOnEdge event reply (length self.old.sent) }
+        requires delivered { GotOnEdge event reply (length self.old.delivered) }
+        ensures replies { self.new.replies.items ≡ self.old.replies.items ++ reply ∷ [] }
+        ensures room { vec_capacity self.new.replies ≡ vec_capacity self.old.replies }
+        ensures sent { self.new.sent ≡ sent_after event reply self.old.sent }
+        ensures delivered { self.new.delivered ≡ delivered_after event reply self.old.delivered }
+    {
+        match (event, reply) {
+            (Event::Claim(edge), Reply::Sent(message)) => self.sent.push(edge, message),
+            (Event::Take(edge), Reply::Got(message)) => self.delivered.push(edge, message),
+            _ => {}
+        }
+        self.replies.push_reserved(reply);
+    }
+
+    /// The record that was written.
+    pub(crate) fn finish(self) -> Record
+        ensures replies { result.replies.items ≡ self.replies.items }
+        ensures sent { map (λ t. t.items) result.sent.items ≡ map (λ lane. lane.messages) self.sent }
+        ensures delivered { map (λ t. t.items) result.delivered.items ≡ map (λ lane. lane.messages) self.delivered }
+    {
+        let Notes {
+            replies,
+            sent,
+            delivered,
+        } = self;
+        Record {
+            replies,
+            sent: sent.into_lists(),
+            delivered: delivered.into_lists(),
+        }
+    }
+}
+
+ghost use Rattle.chip_world.specs.Run.{is_claim_of, is_take_of, count_among, Counts, CountsMore};
+
+/// How many events of a list are about each edge.
+#[derive(Debug, Drop)]
+struct Tally {
+    claims: Vec<usize>,
+    takes: Vec<usize>,
+}
+
+impl Tally {
+    /// The counts of these events, where there are so many edges.
+    fn new(alloc: Global, all_edges: usize, events: &[Event]) -> Result<Tally, AllocError>
+        ensures claims { IfOk result (λ tally. Counts is_claim_of all_edges events.now tally.claims.items) }
+        ensures takes { IfOk result (λ tally. Counts is_take_of all_edges events.now tally.takes.items) }
+    {
+        let mut claims = vec![in alloc; 0; all_edges]?;
+        let mut takes = vec![in alloc; 0; all_edges]?;
+        for event in events {
+            match *event {
+                Event::Claim(edge) => count_one(&mut claims, edge),
+                Event::Take(edge) => count_one(&mut takes, edge),
+                _ => {}
+            }
+        }
+        Ok(Tally { claims, takes })
+    }
+}
+
+/// Counts one event of an edge, if the edge is there.
+fn count_one(counts: &mut Vec<usize>, edge: u64)
+    requires { (e : ℕ) → e < length counts.old.items → slice_index counts.old.items e < 2 ^ 63 }
+    ensures { CountsMore edge counts.old.items counts.new.items }
+{
+    if (edge as usize) < counts.len() {
+        counts[edge as usize] += 1;
+    }
+}
+
+impl World {
+    ghost use Rattle.chip_world.specs.World.{SomeLog, WhateverLog};
+    ghost use Rattle.chip_world.specs.Run.{HasRooms, IsNotedUpTo, Runs, AnswersAll};
+
+    /// An empty record, with room for all that these events may bring.
+    fn blank_notes(&self, alloc: Global, events: &[Event]) -> Result<Notes, AllocError>
+        ensures some { SomeLog self.now }
+        ensures rooms { IfOk result (HasRooms events.now) }
+        ensures begins { IfOk result (λ notes. WhateverLog self.now (λ g log. IsNotedUpTo g log events.now log events.now notes)) }
+    {
+        let all_edges = self.all_edges();
+        let tally = Tally::new(alloc, all_edges, events)?;
+        let mut sent = Lanes::new(alloc);
+        let mut delivered = Lanes::new(alloc);
+        for edge in 0..all_edges {
+            sent.add(self.in_flight(alloc, edge as u64, tally.claims[edge])?)?;
+            delivered.add(Vec::with_capacity(alloc, tally.takes[edge])?)?;
+        }
+        Ok(Notes {
+            replies: Vec::with_capacity(alloc, events.len())?,
+            sent,
+            delivered,
+        })
+    }
+
+    /// Makes these events, one after another. All memory is taken before the first one: where it runs out, the world is as it was.
+    pub fn run(&mut self, alloc: Global, events: &[Event]) -> Result<Record, AllocError>
+        ensures { MatchResult result
+            (λ r. WhateverLog self.old (λ g log. Runs g log events.now self.new r))
+            (λ _. self.new ≡ self.old) }
+    {
+        let mut notes = self.blank_notes(alloc, events)?;
+        for event in events {
+            let reply = self.step(*event);
+            notes.add(*event, reply);
+        }
+        Ok(notes.finish())
+    }
+
+    /// The same for a caller that wants the replies alone: no message is listed.
+    pub fn answer(&mut self, alloc: Global, events: &[Event]) -> Result<Vec<Reply>, AllocError>
+        ensures { MatchResult result
+            (λ replies. WhateverLog self.old (λ g log. AnswersAll g log events.now self.new replies.items))
+            (λ _. self.new ≡ self.old) }
+    {
+        let mut replies = Vec::with_capacity(alloc, events.len())?;
+        for event in events {
+            let reply = self.step(*event);
+            replies.push_reserved(reply);
+        }
+        Ok(replies)
+    }
+}

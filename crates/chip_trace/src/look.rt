@@ -2,12 +2,13 @@
 
 ghost use Rattle.std.specs.Prelude.{◌≡◌, ◌+◌, ◌^◌, ◌<◌, length, map, sum, slice_get, slice_index, OnSome};
 ghost use Rattle.chip_graph.specs.ChipGame.{IsGame};
+ghost use Rattle.chip_graph.specs.Edges.{all_edges};
 ghost use Rattle.chip_trace.specs.Interleaving.{messages, goes_into, may_fire};
 ghost use Rattle.chip_trace.specs.Kept.{runner_at, row_after, IsKept, Finds};
 
 use crate::progress::Progress;
 use crate::runner::Runner;
-use chip_graph::{Game, Graph};
+use chip_graph::{AnyEdge, Edge, Game, Graph};
 use chip_link::TraceRow;
 
 /// What a look at the next row of a vertex finds.
@@ -71,31 +72,32 @@ fn next_row(traces: &[Vec<TraceRow>], progress: &Progress, vertex: u64) -> Optio
 
 /// Whether this edge goes into the vertex; its root edge does.
 fn goes_into(graph: &Graph, vertex: u64, edge: u64) -> bool
+    requires { vertex < graph.now.vertices }
     ensures { result ≡ goes_into graph.now vertex edge }
 {
-    let edges = graph.edges();
-    match edges.get(edge as usize) {
-        Some(row) => row.head == vertex,
-        None => edge - edges.len() as u64 == vertex,
+    match graph.edge(edge) {
+        Some(AnyEdge::Own(Edge { head, .. }) | AnyEdge::Root { head }) => head == vertex,
+        None => false,
     }
 }
 
 /// The first message of this edge that was not taken, if there is one.
 fn next_message(game: &Game, progress: &Progress, edge: u64) -> Option<u128>
     requires runner_each { length progress.now.runners.items ≡ game.now.graph.vertices }
-    requires taken_each { length progress.now.taken.items ≡ length game.now.graph.edges + game.now.graph.vertices }
-    requires is_edge { edge < length game.now.graph.edges + game.now.graph.vertices }
-    ensures { result ≡ slice_get (messages game.now (λ u. (runner_at progress.now u).fires) edge) (slice_index progress.now.taken.items edge) }
+    requires taken_each { length progress.now.taken.items ≡ all_edges game.now.graph }
+    requires is_edge { edge < all_edges game.now.graph }
+    ensures { result
+        ≡ slice_get (messages game.now (λ u. (runner_at progress.now u).fires) edge)
+        (slice_index progress.now.taken.items edge) }
 {
-    let edges = game.graph().edges();
     let taken = progress.taken[edge as usize];
-    match edges.get(edge as usize) {
-        Some(row) => {
-            let k = progress.runners[row.tail as usize].firing(taken)?;
-            Some(u128::from(k) * u128::from(row.mult))
+    match game.graph().edge(edge)? {
+        AnyEdge::Own(Edge { tail, mult, .. }) => {
+            let k = progress.runners[tail as usize].firing(taken)?;
+            Some(u128::from(k) * u128::from(mult))
         }
-        None => {
-            let chips = game.start()[edge as usize - edges.len()];
+        AnyEdge::Root { head } => {
+            let chips = game.start()[head as usize];
             (chips > 0 && taken == 0).then_some(u128::from(chips))
         }
     }

@@ -3,30 +3,33 @@ use chip_graph::Game;
 use chip_link::TraceRow;
 use std::alloc::{AllocError, Global};
 
-/// How far a replay has come: its vertices, how many messages of each edge were taken (root edges behind the
-/// graph's), and the firings so far with their vertices.
+/// How far a replay has come.
 #[derive(Debug, Drop)]
 pub(crate) struct Progress {
+    /// By vertex.
     pub(crate) runners: Vec<Runner>,
+    /// How many messages were taken, by edge.
     pub(crate) taken: Vec<usize>,
+    /// The vertex of each firing, and how often it fired.
     pub(crate) firings: Vec<(u64, u64)>,
 }
 
 impl Progress {
     ghost use Rattle.std.specs.Prelude.{◌≡◌, ◌+◌, ◌^◌, ◌<◌, [], length, replicate, IfOk};
+    ghost use Rattle.chip_graph.specs.Edges.{all_edges};
     ghost use Rattle.chip_trace.specs.Runner.{at_start};
     ghost use Rattle.chip_trace.specs.Kept.{runner_at, UsesRow, FitsRow};
 
     /// No row used.
     pub(crate) fn new(alloc: Global, game: &Game) -> Result<Progress, AllocError>
         ensures runners { IfOk result (λ p. p.runners.items ≡ replicate game.now.graph.vertices at_start) }
-        ensures taken { IfOk result (λ p. p.taken.items ≡ replicate (length game.now.graph.edges + game.now.graph.vertices) 0) }
+        ensures taken { IfOk result (λ p. p.taken.items ≡ replicate (all_edges game.now.graph) 0) }
         ensures firings { IfOk result (λ p. p.firings.items ≡ []) }
     {
         let vertices = game.graph().vertices();
         Ok(Progress {
             runners: runners_at_start(alloc, vertices)?,
-            taken: vec![in alloc; 0; game.graph().edges().len() + vertices as usize]?,
+            taken: vec![in alloc; 0; game.graph().all_edges() as usize]?,
             firings: Vec::new(alloc),
         })
     }

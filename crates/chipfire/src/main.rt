@@ -1,29 +1,22 @@
 //! chipfire: a chip-firing machine that is proved right.
 //!
-//! Each command is an engine over readers and a writer (`plain`, `check`, `simulate`, `replay`), whose contract goes from the bytes that are
-//! read to the bytes that are written. This file reads the words, opens the files and calls the engine.
+//! Each command is an engine of `chip_engine`, whose contract goes from the bytes that it reads to the bytes that it
+//! writes. The program reads the arguments, opens the files that they name and calls the engine.
 #![tactic(auto)]
 
+use arguments::{FileArgument, GameArguments, Request, SimulationArguments};
+pub use chip_engine::{
+    DONE, Ended, Fault, check_engine, plain_engine, replay_engine, simulate_engine,
+};
+use chip_graph::MAX_LIMIT;
 use chip_report::write_all_of;
-use command::{FileWord, MAX_RING, Request, Simulation};
-use ended::Ended;
-use fault::Fault;
 use std::process::ExitCode;
 use std::rt::{Env, Files};
 use std::{env, fs, io};
 
-pub mod check;
-pub mod command;
-pub mod ended;
-pub mod fault;
-pub mod inputs;
-pub mod plain;
-pub mod replay;
-pub mod simulate;
-#[cfg(test)]
-mod tests;
+mod arguments;
 
-/// The graph of the game that is played without words.
+/// The graph of the game that is played without arguments.
 const TRIANGLE: &str =
     "{\"edges\":[[0,1,1],[0,2,1],[1,0,1],[1,2,1]],\"sink\":2,\"version\":1,\"vertices\":3}";
 /// Its chips.
@@ -40,89 +33,87 @@ fn main(rt: HostRuntime) -> ExitCode {
     }
 }
 
-/// Does what the words ask for.
+/// Does what the arguments ask for.
 fn run<R: Env + Files + Print + AllocGlobal>(rt: &R) -> Result<Ended, Fault> {
     let alloc = rt.alloc();
-    let words: Vec<String> = env::args(rt)
-        .map_err(|error| unless_memory(error, Fault::Usage))?
-        .collect(alloc)?;
+    let arguments: Vec<String> = env::args(rt).map_err(fault_of_arguments)?.collect(alloc)?;
     let mut output = io::writer(rt);
-    if words.len() < 2 {
+    if arguments.len() < 2 {
         let (mut graph, mut chips) = (TRIANGLE.as_bytes(), FOUR_CHIPS.as_bytes());
-        return plain::plain_engine(
-            alloc,
-            &mut graph,
-            &mut chips,
-            chip_graph::game::MAX_LIMIT,
-            &mut output,
-        );
+        return plain_engine(alloc, &mut graph, &mut chips, MAX_LIMIT, &mut output);
     }
-    match command::parse(alloc, &words)? {
+    match arguments::parse(alloc, &arguments)? {
         Request::Help(text) => help(text.as_str(), &mut output),
-        Request::Check { graph } => check::check_engine(alloc, &mut open(rt, graph)?, &mut output),
-        Request::Plain {
-            graph,
-            chips,
-            limit,
-        } => {
-            let (mut graph, mut chips) = (open(rt, graph)?, open(rt, chips)?);
-            plain::plain_engine(alloc, &mut graph, &mut chips, limit, &mut output)
-        }
-        Request::Simulate(asked) => run_simulation(rt, &asked, &mut output),
-        Request::Replay {
-            graph,
-            chips,
-            trace,
-            limit,
-        } => {
-            let (mut graph, mut chips) = (open(rt, graph)?, open(rt, chips)?);
-            let mut trace = open(rt, trace)?;
-            replay::replay_engine(
-                alloc,
-                &mut graph,
-                &mut chips,
-                &mut trace,
-                limit,
-                &mut output,
-            )
-        }
+        Request::Check(graph) => check_engine(alloc, &mut open(rt, graph)?, &mut output),
+        Request::Plain(game) => play(rt, game, &mut output),
+        Request::Simulate(asked) => simulate(rt, asked, &mut output),
+        Request::Replay(game, trace) => replay(rt, game, trace, &mut output),
     }
 }
 
-/// Simulates what was asked for. The ring is in range already by the option's own range.
-fn run_simulation<R: Files + AllocGlobal, W: io::Write>(
+/// Plays a game on one thread.
+fn play<R: Files + AllocGlobal, W: io::Write>(
     rt: &R,
-    asked: &Simulation<'_>,
+    game: GameArguments<'_>,
     output: &mut W,
 ) -> Result<Ended, Fault> {
-    if asked.ring == 0 || asked.ring > MAX_RING {
-        return Err(Fault::Usage);
-    }
-    let mut graph = open(rt, asked.graph)?;
-    let mut chips = open(rt, asked.chips)?;
+    let mut graph = open(rt, game.graph)?;
+    let mut chips = open(rt, game.chips)?;
+    plain_engine(rt.alloc(), &mut graph, &mut chips, game.limit, output)
+}
+
+/// Runs a schedule.
+fn simulate<R: Files + AllocGlobal, W: io::Write>(
+    rt: &R,
+    asked: SimulationArguments<'_>,
+    output: &mut W,
+) -> Result<Ended, Fault> {
+    let mut graph = open(rt, asked.game.graph)?;
+    let mut chips = open(rt, asked.game.chips)?;
     let mut schedule = open(rt, asked.schedule)?;
-    simulate::simulate_engine(
+    simulate_engine(
         rt.alloc(),
         &mut graph,
         &mut chips,
         &mut schedule,
-        asked.limit,
+        asked.game.limit,
         asked.ring,
         asked.rounds,
         output,
     )
 }
 
-/// Opens the file that a word names.
-fn open<R: Files>(rt: &R, file: FileWord<'_>) -> Result<R::File, Fault> {
-    fs::open(rt, file.path).map_err(|error| unless_memory(error, Fault::Open(file.position)))
+/// Replays a recorded run.
+fn replay<R: Files + AllocGlobal, W: io::Write>(
+    rt: &R,
+    game: GameArguments<'_>,
+    trace: FileArgument<'_>,
+    output: &mut W,
+) -> Result<Ended, Fault> {
+    let mut graph = open(rt, game.graph)?;
+    let mut chips = open(rt, game.chips)?;
+    let mut trace = open(rt, trace)?;
+    replay_engine(
+        rt.alloc(),
+        &mut graph,
+        &mut chips,
+        &mut trace,
+        game.limit,
+        output,
+    )
 }
 
-/// The fault of a call that failed, where it did not fail for want of memory.
-fn unless_memory(error: io::Error, fault: Fault) -> Fault {
+/// Opens the file that an argument names. Nothing is allocated for it, so where the system wants memory the file could
+/// not be opened.
+fn open<R: Files>(rt: &R, file: FileArgument<'_>) -> Result<R::File, Fault> {
+    fs::open(rt, file.path).map_err(|_| Fault::Open(file.number))
+}
+
+/// Why there are no arguments: there is no memory for them, or one is no UTF-8.
+fn fault_of_arguments(error: io::Error) -> Fault {
     match error.kind() {
         io::ErrorKind::OutOfMemory => Fault::NoMemory,
-        _ => fault,
+        _ => Fault::Usage,
     }
 }
 
@@ -130,7 +121,7 @@ fn unless_memory(error: io::Error, fault: Fault) -> Fault {
 fn help<W: io::Write>(text: &str, output: &mut W) -> Result<Ended, Fault> {
     write_all_of(output, text.as_bytes())?;
     Ok(Ended {
-        status: ended::CLOSED,
+        status: DONE,
         cut: false,
     })
 }

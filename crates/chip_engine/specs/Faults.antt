@@ -1,0 +1,24 @@
+-- The faults of libraries among those of commands.
+use Rattle.chip_file.specs.declared.fault.FileFault.{FileFault}
+use Rattle.chip_file.specs.declared.fault.FileFault.TheVariants as file
+use Rattle.chip_trace.specs.declared.fault.ReplayFault.{ReplayFault}
+use Rattle.chip_trace.specs.declared.fault.ReplayFault.TheVariants as replay
+use Rattle.chip_world.specs.declared.fault.WorldFault.{WorldFault}
+use Rattle.chip_world.specs.declared.fault.WorldFault.TheVariants as world
+use Rattle.chip_engine.specs.declared.fault.Fault.{Fault}
+use Rattle.chip_engine.specs.declared.fault.Fault.TheVariants.{File, Stuck, NotClosed, NoMemory}
+
+-- want of memory is one fault, whoever met it
+abbrev pub fault_of_file : FileFault → Fault
+fault_of_file file.NoMemory = NoMemory
+fault_of_file fault = File fault
+
+-- the fault of recorded runs that do not fit together
+abbrev pub fault_of_replay : ReplayFault → Fault
+fault_of_replay (replay.Stuck vertex row) = Stuck vertex row
+fault_of_replay replay.NoMemory = NoMemory
+
+-- the fault of a world that gives no outcome
+abbrev pub fault_of_world : WorldFault → Fault
+fault_of_world world.NotClosed = NotClosed
+fault_of_world world.NoMemory = NoMemory

@@ -1,0 +1,94 @@
+-- From the bytes of a graph file, a chips file and a schedule to the replies of the core, and to the report where the
+-- root closes.
+use Rattle.std.specs.Prelude.{◌≡◌, ◌⊎◌, ℕ, List, [], ◌++◌, codes, false, Option, Some, Result, Ok, Err}
+use Rattle.std.specs.Fmt.{decimal}
+use Rattle.std.specs.Io.KnownBytes.{Appends, Keeps}
+use Rattle.chip_graph.specs.ChipGame.{ChipGame}
+use Rattle.chip_link.specs.declared.event.Event.{Event}
+use Rattle.chip_link.specs.declared.message.Message.{Message}
+use Rattle.chip_actor.specs.declared.reply.Reply.{Reply}
+use Rattle.chip_actor.specs.declared.reply.Reply.TheVariants.{Done, Got, Sent, Empty, Full, Sealed, NotNow}
+use Rattle.chip_actor.specs.Setting.{Setting, setting_of, game_of_setting}
+use Rattle.chip_actor.specs.Numbers.{number_of}
+use Rattle.chip_core.specs.Core.{Log, replies_to, log_after}
+use Rattle.chip_core.specs.Headline.{NoneHaltedBySeal}
+use Rattle.chip_world.specs.declared.world.driving.Drive.{Drive}
+use Rattle.chip_world.specs.declared.world.driving.Drive.TheVariants.{Closed, Unfinished}
+use Rattle.chip_world.specs.Rounds.{IsDrive}
+use Rattle.chip_core.specs.Outcomes.{IsOutcomeOf}
+use Rattle.chip_file.specs.ScheduleText.{schedule_of_text, schedule_text_fault}
+use Rattle.chip_fire.specs.declared.outcome.Outcome.{Outcome}
+use Rattle.chip_report.specs.ReportText.{report_text}
+use Rattle.chip_report.specs.Written.{WritesAll}
+use Rattle.chip_report.specs.declared.write.WriteFault.{WriteFault}
+use Rattle.chip_engine.specs.Inputs.{Reads, MeansGame, RefusesInputs, RefusesText}
+use Rattle.chip_engine.specs.Lines.{lines_text}
+use Rattle.chip_engine.specs.PlainCommand.{plain_status, Reports}
+use Rattle.chip_engine.specs.declared.ended.Ended.{Ended}
+use Rattle.chip_engine.specs.declared.fault.Fault.{Fault}
+use Rattle.chip_engine.specs.declared.fault.Fault.TheVariants.{Write, NoMemory}
+
+-- a message's place and count
+abbrev pub message_text : Message → List ℕ
+message_text message = decimal message.place ++ codes " " ++ decimal message.count
+
+-- a reply as a line; a rule that is not met is told by its number
+abbrev pub reply_text : Reply → List ℕ
+reply_text (Done number) = codes "done " ++ decimal number ++ codes "\n"
+reply_text (Got message) = codes "got " ++ message_text message ++ codes "\n"
+reply_text (Sent message) = codes "sent " ++ message_text message ++ codes "\n"
+reply_text Empty = codes "empty\n"
+reply_text Full = codes "full\n"
+reply_text Sealed = codes "sealed\n"
+reply_text (NotNow rule) = codes "not-now " ++ decimal (number_of rule) ++ codes "\n"
+
+-- the end of a closed run: the report of its outcome and the status that `plain` has for it; unless a vertex halted by
+-- a seal, it is what `plain` writes for the game, and its status
+pub record EndsClosed (g : Setting) (log : Log) (end : List ℕ) (status : ℕ) : Type 0 where
+  pub outcome : Outcome
+  pub outcome_is : IsOutcomeOf g log outcome
+  pub reported : end ≡ codes "root closed\n" ++ report_text outcome
+  pub status_is : status ≡ plain_status outcome
+  pub plays : NoneHaltedBySeal g log → Reports (game_of_setting g) (report_text outcome) status
+
+-- the end of a run, by how its rounds ended
+abbrev pub EndsBy : Setting → Log → Drive → List ℕ → ℕ → Type 0
+EndsBy g log Closed end status = EndsClosed g log end status
+EndsBy g log (Unfinished rounds) end status = (end ≡ codes "root open\n") × (status ≡ 3)
+
+-- the text and the status of a simulation: the replies to the events from the opening on, at most so many rounds, and
+-- the end
+pub record Simulates (g : Setting) (rounds : ℕ) (events : List Event) (text : List ℕ) (status : ℕ) : Type 0 where
+  pub after : Log
+  pub drive : Drive
+  pub driven : IsDrive g rounds (log_after g [] events) after drive
+  pub end : List ℕ
+  pub lines : text ≡ lines_text reply_text (replies_to g [] events) ++ end
+  pub ends : EndsBy g after drive end status
+
+-- three texts and a limit mean this game and these events for it
+pub record MeansEvents (graph_text chips_text schedule_text : List ℕ) (limit : ℕ) (g : ChipGame)
+    (events : List Event) : Type 0 where
+  pub game : MeansGame graph_text chips_text limit g
+  pub each : Reads schedule_text (schedule_of_text g.graph schedule_text ≡ Some events)
+
+-- why nothing is simulated: the inputs make no game, or the schedule has a fault
+abbrev pub RefusesEvents : List ℕ → List ℕ → List ℕ → ℕ → Fault → Type 0
+RefusesEvents graph_text chips_text schedule_text limit fault =
+    RefusesInputs graph_text chips_text limit fault
+    ⊎ ((g : ChipGame) × MeansGame graph_text chips_text limit g
+    × RefusesText schedule_text (λ f. schedule_text_fault g.graph schedule_text ≡ Some f) fault)
+
+-- what `simulate` answers: the text of the simulation; or nothing is written and the inputs are refused; or the output
+-- failed
+abbrev pub SimulateAnswers : List ℕ → List ℕ → List ℕ → ℕ → ℕ → ℕ
+    → Option (List ℕ) → Option (List ℕ) → Result Ended Fault → Type 0
+SimulateAnswers graph_text chips_text schedule_text limit ring rounds old new (Ok ended) =
+    (g : ChipGame) × (events : List Event) × MeansEvents graph_text chips_text schedule_text limit g events
+    × (text : List ℕ) × Simulates (setting_of g ring) rounds events text ended.status
+    × Appends old new text × (ended.cut ≡ false)
+SimulateAnswers graph_text chips_text schedule_text limit ring rounds old new (Err fault) =
+    ((RefusesEvents graph_text chips_text schedule_text limit fault ⊎ (fault ≡ NoMemory)) × Keeps old new)
+    ⊎ ((g : ChipGame) × (events : List Event) × MeansEvents graph_text chips_text schedule_text limit g events
+    × (text : List ℕ) × (status : ℕ) × Simulates (setting_of g ring) rounds events text status
+    × (w : WriteFault) × (fault ≡ Write w) × WritesAll old new text (Err w))

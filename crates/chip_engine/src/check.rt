@@ -1,0 +1,71 @@
+//! `check`: a valid graph, shown in lines.
+
+ghost use Rattle.std.specs.Prelude.{◌≡◌, ◌++◌, ◌<◌, ℕ, IfOk, codes, string_bytes};
+ghost use Rattle.std.specs.Option.{ForSome};
+ghost use Rattle.chip_graph.specs.Multigraph.{IsDistance, degree};
+ghost use Rattle.chip_engine.specs.CheckCommand.{CheckAnswers, IsShown, head_text, vertex_text};
+
+use crate::ended::{DONE, Ended};
+use crate::fault::Fault;
+use chip_file::read_graph;
+use chip_graph::Graph;
+use chip_report::write_all_of;
+use std::alloc::{AllocError, Global};
+use std::io::{Read, Write};
+
+/// Shows the graph of a file: its numbers of vertices and edges, its sink, and each vertex with its
+/// out-degree and its distance to the sink, a line each.
+pub fn check_engine<G: Read, W: Write>(
+    alloc: Global,
+    graph: &mut G,
+    output: &mut W,
+) -> Result<Ended, Fault>
+    ensures { ForSome (G.remaining graph.old)
+        (λ text. CheckAnswers text (W.contents output.old) (W.contents output.new) result) }
+{
+    let graph = read_graph(alloc, graph)?;
+    let text = shown(alloc, &graph)?;
+    write_all_of(output, text.as_bytes())?;
+    Ok(Ended {
+        status: DONE,
+        cut: false,
+    })
+}
+
+/// The lines of a graph.
+fn shown(alloc: Global, graph: &Graph) -> Result<String, AllocError>
+    ensures { IfOk result (λ text. IsShown graph.now (string_bytes text)) }
+{
+    let mut text = String::new(alloc);
+    push_head(&mut text, graph)?;
+    for vertex in 0..graph.vertices() {
+        push_vertex(
+            &mut text,
+            vertex,
+            graph.out_degree(vertex),
+            graph.distance(vertex),
+        )?;
+    }
+    Ok(text)
+}
+
+/// Appends the lines on the graph as a whole.
+fn push_head(text: &mut String, graph: &Graph) -> Result<(), AllocError>
+    ensures { IfOk result (λ _. string_bytes text.new ≡ string_bytes text.old ++ head_text graph.now) }
+{
+    let vertices = graph.vertices();
+    let edges = graph.edges().len();
+    let sink = graph.sink();
+    write!(text, "vertices {vertices}\nedges {edges}\nsink {sink}\n")
+}
+
+/// Appends the line of a vertex.
+fn push_vertex(text: &mut String, vertex: u64, degree: u64, distance: u64) -> Result<(), AllocError>
+    ensures { IfOk result
+        (λ _. string_bytes text.new ≡ string_bytes text.old ++ vertex_text vertex degree distance) }
+{
+    write!(
+        text,
+        "vertex {vertex} degree {degree} distance {distance}\n"
+    )
+}

@@ -1,0 +1,15 @@
+/// The exit status of a command that did all it was to do; of a game, that it closed and no vertex halted.
+pub const DONE: u8 = 0;
+/// The exit status where some vertex halted.
+pub const HALTED: u8 = 2;
+/// The exit status where the root of a simulation is still open.
+pub const OPEN: u8 = 3;
+
+/// How a command ended that wrote its output.
+#[derive(Clone, Copy, Debug, PartialEq, Eq)]
+pub struct Ended {
+    /// The exit status.
+    pub status: u8,
+    /// Whether a trace that was asked for was cut.
+    pub cut: bool,
+}

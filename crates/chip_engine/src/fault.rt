@@ -1,0 +1,240 @@
+//! What can go wrong with a command, and the one table of numbers and names.
+
+ghost use Rattle.std.specs.Prelude.{◌≡◌};
+ghost use Rattle.chip_engine.specs.FaultNumbers.{number_of_graph_fault, number_of_game_fault, number_of_file_fault};
+ghost use Rattle.chip_engine.specs.FaultNumbers.{location_of_graph_fault, location_of_file_fault};
+ghost use Rattle.chip_engine.specs.declared.fault.Location.TheVariants.{Nowhere};
+
+use chip_file::FileFault;
+use chip_graph::{GameFault, GraphFault};
+use chip_report::WriteFault;
+use chip_trace::ReplayFault;
+use chip_world::WorldFault;
+use std::alloc::{AllocError, AllocFailed};
+use std::fmt;
+use thiserror::Error;
+
+/// Why a command failed.
+#[derive(Debug, Drop, PartialEq, Eq, Error)]
+#[error("{}", self.line())]
+pub enum Fault {
+    /// The text of a file, or its bytes.
+    File(FileFault),
+    /// The numbers of a game.
+    Game(GameFault),
+    /// The root of a simulated run is not closed, so there is no outcome.
+    NotClosed,
+    /// The recorded runs of a trace do not fit together; at greatest progress this row of this vertex is to blame.
+    Stuck { vertex: u64, row: u64 },
+    /// The output, and how many bytes of it went out.
+    Write(WriteFault),
+    /// The arguments are no command.
+    Usage,
+    /// The file that this argument names, by its number from 1 behind the command, could not be opened.
+    Open(u64),
+    /// Memory ran out.
+    NoMemory,
+}
+
+impl From<FileFault> for Fault {
+    ghost use Rattle.std.specs.Prelude.{◌≡◌};
+    ghost use Rattle.chip_engine.specs.Faults.{fault_of_file};
+
+    ghost from_gives = { λ file fault. fault ≡ fault_of_file file };
+
+    fn from(fault: FileFault) -> Fault {
+        match fault {
+            FileFault::NoMemory => Fault::NoMemory,
+            fault => Fault::File(fault),
+        }
+    }
+}
+
+impl From<GameFault> for Fault {
+    ghost use Rattle.std.specs.Prelude.{◌≡◌};
+    ghost use Rattle.chip_engine.specs.declared.fault.Fault.TheVariants.{Game};
+
+    ghost from_gives = { λ game fault. fault ≡ Game game };
+
+    fn from(fault: GameFault) -> Fault {
+        Fault::Game(fault)
+    }
+}
+
+impl From<ReplayFault> for Fault {
+    ghost use Rattle.std.specs.Prelude.{◌≡◌};
+    ghost use Rattle.chip_engine.specs.Faults.{fault_of_replay};
+
+    ghost from_gives = { λ replay fault. fault ≡ fault_of_replay replay };
+
+    fn from(fault: ReplayFault) -> Fault {
+        match fault {
+            ReplayFault::Stuck { vertex, row } => Fault::Stuck { vertex, row },
+            ReplayFault::NoMemory => Fault::NoMemory,
+        }
+    }
+}
+
+impl From<WorldFault> for Fault {
+    ghost use Rattle.std.specs.Prelude.{◌≡◌};
+    ghost use Rattle.chip_engine.specs.Faults.{fault_of_world};
+
+    ghost from_gives = { λ world fault. fault ≡ fault_of_world world };
+
+    fn from(fault: WorldFault) -> Fault {
+        match fault {
+            WorldFault::NotClosed => Fault::NotClosed,
+            WorldFault::NoMemory => Fault::NoMemory,
+        }
+    }
+}
+
+impl From<WriteFault> for Fault {
+    ghost use Rattle.std.specs.Prelude.{◌≡◌};
+    ghost use Rattle.chip_engine.specs.declared.fault.Fault.TheVariants.{Write};
+
+    ghost from_gives = { λ write fault. fault ≡ Write write };
+
+    fn from(fault: WriteFault) -> Fault {
+        Fault::Write(fault)
+    }
+}
+
+impl From<AllocError> for Fault {
+    ghost use Rattle.std.specs.Prelude.{◌≡◌};
+    ghost use Rattle.chip_engine.specs.declared.fault.Fault.TheVariants.{NoMemory};
+
+    ghost from_gives = { λ _ fault. fault ≡ NoMemory };
+
+    fn from(_error: AllocError) -> Fault {
+        Fault::NoMemory
+    }
+}
+
+impl<T: Drop> From<AllocFailed<T>> for Fault {
+    ghost use Rattle.std.specs.Prelude.{◌≡◌};
+    ghost use Rattle.chip_engine.specs.declared.fault.Fault.TheVariants.{NoMemory};
+
+    ghost from_gives = { λ _ fault. fault ≡ NoMemory };
+
+    fn from(_error: AllocFailed<T>) -> Fault {
+        Fault::NoMemory
+    }
+}
+
+/// Where a fault is, by the numbers that are printed behind its name.
+#[derive(Clone, Copy, Debug, PartialEq, Eq)]
+pub enum Location {
+    Nowhere,
+    /// An edge, a vertex, a row, an argument or a number of bytes.
+    At(u64),
+    AtRow { vertex: u64, row: u64 },
+}
+
+impl fmt::Display for Location {
+    fn fmt<W: fmt::Write>(&self, f: &mut fmt::Formatter<W>) -> fmt::Result {
+        match self {
+            Location::Nowhere => Ok(()),
+            Location::At(number) => write!(f, " {number}"),
+            Location::AtRow { vertex, row } => write!(f, " {vertex} {row}"),
+        }
+    }
+}
+
+/// A fault as it is printed: its number, its name, and where it is.
+#[derive(Clone, Copy, Debug, PartialEq, Eq, Error)]
+#[error("fault {number} {name}{location}")]
+pub struct FaultLine {
+    pub number: u64,
+    pub name: &'static str,
+    pub location: Location,
+}
+
+/// A line of the table.
+fn line(number: u64, name: &'static str, location: Location) -> FaultLine
+    ensures { (result.number ≡ number) × (result.location ≡ location) }
+{
+    FaultLine {
+        number,
+        name,
+        location,
+    }
+}
+
+/// The lines of faults of a graph.
+fn graph_line(fault: &GraphFault) -> FaultLine
+    ensures number { result.number ≡ number_of_graph_fault fault.now }
+    ensures location { result.location ≡ location_of_graph_fault fault.now }
+{
+    match fault {
+        GraphFault::Vertices => line(1, "Vertices", Location::Nowhere),
+        GraphFault::Sink => line(2, "Sink", Location::Nowhere),
+        GraphFault::EdgeCount => line(3, "EdgeCount", Location::Nowhere),
+        GraphFault::Endpoint(edge) => line(4, "Endpoint", Location::At(*edge)),
+        GraphFault::Mult(edge) => line(5, "Mult", Location::At(*edge)),
+        GraphFault::Loop(edge) => line(6, "Loop", Location::At(*edge)),
+        GraphFault::FromSink(edge) => line(7, "FromSink", Location::At(*edge)),
+        GraphFault::Unreached(vertex) => line(8, "Unreached", Location::At(*vertex)),
+        GraphFault::NoMemory => line(90, "NoMemory", Location::Nowhere),
+    }
+}
+
+/// The lines of faults of a game.
+fn game_line(fault: &GameFault) -> FaultLine
+    ensures number { result.number ≡ number_of_game_fault fault.now }
+    ensures location { result.location ≡ Nowhere }
+{
+    match fault {
+        GameFault::StartLength => line(9, "StartLength", Location::Nowhere),
+        GameFault::Total => line(10, "Total", Location::Nowhere),
+        GameFault::Limit => line(11, "Limit", Location::Nowhere),
+    }
+}
+
+/// The lines of faults of a file.
+fn file_line(fault: &FileFault) -> FaultLine
+    ensures number { result.number ≡ number_of_file_fault fault.now }
+    ensures location { result.location ≡ location_of_file_fault fault.now }
+{
+    match fault {
+        FileFault::Graph(fault) => graph_line(fault),
+        FileFault::Total => line(10, "Total", Location::Nowhere),
+        FileFault::NotJson => line(20, "NotJson", Location::Nowhere),
+        FileFault::Shape => line(21, "Shape", Location::Nowhere),
+        FileFault::Version => line(22, "Version", Location::Nowhere),
+        FileFault::Header => line(23, "Header", Location::Nowhere),
+        FileFault::Row(row) => line(24, "Row", Location::At(*row)),
+        FileFault::Number(row) => line(25, "Number", Location::At(*row)),
+        FileFault::Vertex(row) => line(26, "Vertex", Location::At(*row)),
+        FileFault::Repeated(row) => line(27, "Repeated", Location::At(*row)),
+        FileFault::Kind(row) => line(28, "Kind", Location::At(*row)),
+        FileFault::Read => line(29, "Read", Location::Nowhere),
+        FileFault::TooLong => line(30, "TooLong", Location::Nowhere),
+        FileFault::NoMemory => line(90, "NoMemory", Location::Nowhere),
+    }
+}
+
+impl Fault {
+    ghost use Rattle.std.specs.Prelude.{◌≡◌};
+    ghost use Rattle.chip_engine.specs.FaultNumbers.{number_of, location_of};
+
+    /// The number, the name and the location of this fault.
+    pub fn line(&self) -> FaultLine
+        ensures number { result.number ≡ number_of self.now }
+        ensures location { result.location ≡ location_of self.now }
+    {
+        match self {
+            Fault::File(fault) => file_line(fault),
+            Fault::Game(fault) => game_line(fault),
+            Fault::NotClosed => line(42, "NotClosed", Location::Nowhere),
+            Fault::Stuck { vertex, row } => {
+                let (vertex, row) = (*vertex, *row);
+                line(70, "Stuck", Location::AtRow { vertex, row })
+            }
+            Fault::NoMemory => line(90, "NoMemory", Location::Nowhere),
+            Fault::Usage => line(91, "Usage", Location::Nowhere),
+            Fault::Open(argument) => line(92, "Open", Location::At(*argument)),
+            Fault::Write(fault) => line(93, "Write", Location::At(fault.written)),
+        }
+    }
+}

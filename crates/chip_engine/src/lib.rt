@@ -1,0 +1,25 @@
+//! The engines of chipfire: each is a command, from the bytes that it reads to the bytes that it writes.
+//!
+//! An engine takes readers and a writer, and its contract goes from what the readers hold to what the writer is given
+//! (`specs/`). It opens no file and knows no command line. What can go wrong is a `Fault`, and one table gives each its
+//! number and its name.
+#![tactic(auto)]
+
+pub use check::check_engine;
+pub use ended::{DONE, Ended, HALTED, OPEN};
+pub use fault::{Fault, FaultLine, Location};
+pub use plain::plain_engine;
+pub use replay::replay_engine;
+pub use simulate::simulate_engine;
+
+mod check;
+mod ended;
+mod fault;
+#[cfg(test)]
+mod fault_tests;
+mod inputs;
+mod plain;
+mod replay;
+mod simulate;
+#[cfg(test)]
+mod tests;

@@ -1,0 +1,52 @@
+//! `plain`: the report of a game played on one thread.
+
+ghost use Rattle.std.specs.Prelude.{◌≡◌, IfOk};
+ghost use Rattle.std.specs.Option.{ForSome};
+ghost use Rattle.chip_engine.specs.PlainCommand.{Reports, PlainAnswers, plain_status};
+
+use crate::ended::{DONE, Ended, HALTED};
+use crate::fault::Fault;
+use crate::inputs::read_game;
+use chip_fire::{Outcome, plain};
+use chip_graph::Game;
+use chip_report::report::{is_closed, report};
+use chip_report::write_all_of;
+use std::alloc::{AllocError, Global};
+use std::io::{Read, Write};
+
+/// Plays the game of a graph file, a chips file and a firing limit, and writes its report.
+///
+/// The report is made whole before the first byte is written.
+pub fn plain_engine<G: Read, C: Read, W: Write>(
+    alloc: Global,
+    graph: &mut G,
+    chips: &mut C,
+    limit: u64,
+    output: &mut W,
+) -> Result<Ended, Fault>
+    ensures { ForSome (G.remaining graph.old)
+        (λ graph_text. ForSome (C.remaining chips.old)
+        (λ chips_text. PlainAnswers graph_text chips_text limit
+        (W.contents output.old) (W.contents output.new) result)) }
+{
+    let game = read_game(alloc, graph, chips, limit)?;
+    let (text, status) = played(alloc, &game)?;
+    write_all_of(output, &text)?;
+    Ok(Ended { status, cut: false })
+}
+
+/// The report of a game played to its end, and the exit status.
+fn played(alloc: Global, game: &Game) -> Result<(Vec<u8>, u8), AllocError>
+    ensures { IfOk result (λ made. Reports game.now made.0.items made.1) }
+{
+    let outcome = plain(alloc, game)?;
+    let text = report(alloc, &outcome)?;
+    Ok((text, status_of(&outcome)))
+}
+
+/// The exit status that tells whether some vertex halted.
+pub(crate) fn status_of(outcome: &Outcome) -> u8
+    ensures { result ≡ plain_status outcome.now }
+{
+    if is_closed(outcome) { DONE } else { HALTED }
+}

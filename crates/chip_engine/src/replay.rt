@@ -1,0 +1,60 @@
+//! `replay`: the firings of a recorded run, in an order in which all rows fit together.
+
+ghost use Rattle.std.specs.Prelude.{◌≡◌, ◌++◌, IfOk, string_bytes};
+ghost use Rattle.std.specs.Option.{ForSome};
+ghost use Rattle.chip_engine.specs.Lines.{lines_text};
+ghost use Rattle.chip_engine.specs.ReplayCommand.{ReplayAnswers, firing_text};
+
+use crate::ended::{DONE, Ended};
+use crate::fault::Fault;
+use crate::inputs::read_game;
+use chip_file::read_trace;
+use chip_report::write_all_of;
+use chip_trace::replay;
+use std::alloc::{AllocError, Global};
+use std::io::{Read, Write};
+
+/// Replays the traces of a file on the game of a graph file, a chips file and a firing limit, and writes a line for
+/// each firing.
+pub fn replay_engine<G: Read, C: Read, T: Read, W: Write>(
+    alloc: Global,
+    graph: &mut G,
+    chips: &mut C,
+    trace: &mut T,
+    limit: u64,
+    output: &mut W,
+) -> Result<Ended, Fault>
+    ensures { ForSome (G.remaining graph.old)
+        (λ graph_text. ForSome (C.remaining chips.old)
+        (λ chips_text. ForSome (T.remaining trace.old)
+        (λ trace_text. ReplayAnswers graph_text chips_text trace_text limit
+        (W.contents output.old) (W.contents output.new) result))) }
+{
+    let game = read_game(alloc, graph, chips, limit)?;
+    let traces = read_trace(alloc, trace, game.graph())?;
+    let firings = replay(alloc, &game, &traces)?;
+    let lines = lines_of(alloc, &firings)?;
+    write_all_of(output, lines.as_bytes())?;
+    Ok(Ended {
+        status: DONE,
+        cut: false,
+    })
+}
+
+/// The lines of firings.
+fn lines_of(alloc: Global, firings: &[(u64, u64)]) -> Result<String, AllocError>
+    ensures { IfOk result (λ lines. string_bytes lines ≡ lines_text firing_text firings.now) }
+{
+    let mut lines = String::new(alloc);
+    for (vertex, count) in firings {
+        push_firing(&mut lines, *vertex, *count)?;
+    }
+    Ok(lines)
+}
+
+/// Appends the line of a firing.
+fn push_firing(lines: &mut String, vertex: u64, count: u64) -> Result<(), AllocError>
+    ensures { IfOk result (λ _. string_bytes lines.new ≡ string_bytes lines.old ++ firing_text (vertex, count)) }
+{
+    write!(lines, "fire {vertex} {count}\n")
+}

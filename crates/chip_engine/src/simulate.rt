@@ -1,0 +1,150 @@
+//! `simulate`: the core's replies to a schedule, and the report where the root closes.
+
+ghost use Rattle.std.specs.Prelude.{◌≡◌, ◌++◌, [], IfOk, IfErr, codes, string_bytes};
+ghost use Rattle.std.specs.Option.{ForSome};
+ghost use Rattle.chip_actor.specs.Setting.{Setting, setting_of};
+ghost use Rattle.chip_engine.specs.Lines.{lines_text};
+ghost use Rattle.chip_core.specs.Core.{Log, IsClosed, log_after, replies_to};
+ghost use Rattle.chip_world.specs.World.{StandsForLog, WhateverLog};
+ghost use Rattle.chip_world.specs.declared.world.driving.Drive.TheVariants.{Closed};
+ghost use Rattle.chip_engine.specs.declared.fault.Fault.TheVariants.{NoMemory};
+ghost use Rattle.chip_engine.specs.SimulateCommand.{SimulateAnswers, Simulates, EndsClosed, EndsBy};
+ghost use Rattle.chip_engine.specs.SimulateCommand.{message_text, reply_text};
+
+use crate::ended::{Ended, OPEN};
+use crate::fault::Fault;
+use crate::inputs::read_game;
+use crate::plain::status_of;
+use chip_actor::Reply;
+use chip_file::read_schedule;
+use chip_graph::Game;
+use chip_link::{Event, Message, Ring};
+use chip_report::report::report;
+use chip_report::write_all_of;
+use chip_world::{Drive, World};
+use std::alloc::{AllocError, Global};
+use std::io::{Read, Write};
+
+/// Runs a schedule on the game of a graph file, a chips file and a firing limit, with rings of so many cells, and then
+/// so many rounds of turns at most; writes a line for each reply of the schedule, and the report where the root closes.
+pub fn simulate_engine<G: Read, C: Read, S: Read, W: Write>(
+    alloc: Global,
+    graph: &mut G,
+    chips: &mut C,
+    schedule: &mut S,
+    limit: u64,
+    ring: Ring,
+    rounds: u64,
+    output: &mut W,
+) -> Result<Ended, Fault>
+    ensures { ForSome (G.remaining graph.old)
+        (λ graph_text. ForSome (C.remaining chips.old)
+        (λ chips_text. ForSome (S.remaining schedule.old)
+        (λ schedule_text. SimulateAnswers graph_text chips_text schedule_text limit ring rounds
+        (W.contents output.old) (W.contents output.new) result))) }
+{
+    let game = read_game(alloc, graph, chips, limit)?;
+    let events = read_schedule(alloc, schedule, game.graph())?;
+    let (text, status) = simulated(alloc, &game, &events, ring, rounds)?;
+    write_all_of(output, &text)?;
+    Ok(Ended { status, cut: false })
+}
+
+/// The lines of a simulation, and the exit status.
+fn simulated(
+    alloc: Global,
+    game: &Game,
+    events: &[Event],
+    ring: Ring,
+    rounds: u64,
+) -> Result<(Vec<u8>, u8), Fault>
+    ensures ok { IfOk result (λ made. Simulates (setting_of game.now ring) rounds events.now made.0.items made.1) }
+    ensures err { IfErr result (λ fault. fault ≡ NoMemory) }
+{
+    let (mut world, mut text) = scheduled(alloc, game, events, ring)?;
+    let drive = world.drive(rounds);
+    let (end, status) = end_of(alloc, &world, drive)?;
+    text.extend_from_slice(&end)?;
+    Ok((text, status))
+}
+
+/// The world after a schedule from the opening, and the lines of its replies.
+fn scheduled(
+    alloc: Global,
+    game: &Game,
+    events: &[Event],
+    ring: Ring,
+) -> Result<(World, Vec<u8>), AllocError>
+    ensures world { IfOk result
+        (λ made. let g = setting_of game.now ring in StandsForLog g (log_after g [] events.now) made.0) }
+    ensures lines { IfOk result
+        (λ made. made.1.items ≡ lines_text reply_text (replies_to (setting_of game.now ring) [] events.now)) }
+{
+    let mut world = World::open(alloc, game, ring)?;
+    let record = world.run(alloc, events)?;
+    let lines = lines_of(alloc, &record.replies)?;
+    Ok((world, lines.into_bytes()))
+}
+
+/// The end of a run whose rounds ended so, and the exit status.
+fn end_of(alloc: Global, world: &World, drive: Drive) -> Result<(Vec<u8>, u8), Fault>
+    requires { (g : Setting) × (log : Log) × StandsForLog g log world.now
+        × (drive ≡ Closed → IsClosed g log) }
+    ensures ok { IfOk result (λ made. WhateverLog world.now (λ g log. EndsBy g log drive made.0.items made.1)) }
+    ensures err { IfErr result (λ fault. fault ≡ NoMemory) }
+{
+    match drive {
+        Drive::Closed => closed(alloc, world),
+        Drive::Unfinished(_) => Ok((Vec::from_slice(alloc, b"root open\n")?, OPEN)),
+    }
+}
+
+/// The end of a closed run, its report, and the exit status.
+fn closed(alloc: Global, world: &World) -> Result<(Vec<u8>, u8), Fault>
+    requires { (g : Setting) × (log : Log) × StandsForLog g log world.now × IsClosed g log }
+    ensures ok { IfOk result (λ made. WhateverLog world.now (λ g log. EndsClosed g log made.0.items made.1)) }
+    ensures err { IfErr result (λ fault. fault ≡ NoMemory) }
+{
+    let outcome = world.outcome(alloc)?;
+    let mut end = Vec::from_slice(alloc, b"root closed\n")?;
+    end.extend_from_slice(&report(alloc, &outcome)?)?;
+    Ok((end, status_of(&outcome)))
+}
+
+/// The lines of replies.
+fn lines_of(alloc: Global, replies: &[Reply]) -> Result<String, AllocError>
+    ensures { IfOk result (λ lines. string_bytes lines ≡ lines_text reply_text replies.now) }
+{
+    let mut lines = String::new(alloc);
+    for reply in replies {
+        push_reply(&mut lines, *reply)?;
+    }
+    Ok(lines)
+}
+
+/// Appends the line of a reply.
+fn push_reply(lines: &mut String, reply: Reply) -> Result<(), AllocError>
+    ensures { IfOk result (λ _. string_bytes lines.new ≡ string_bytes lines.old ++ reply_text reply) }
+{
+    match reply {
+        Reply::Done(number) => write!(lines, "done {number}\n"),
+        Reply::Got(message) => push_message(lines, "got", message),
+        Reply::Sent(message) => push_message(lines, "sent", message),
+        Reply::Empty => lines.push_str("empty\n"),
+        Reply::Full => lines.push_str("full\n"),
+        Reply::Sealed => lines.push_str("sealed\n"),
+        Reply::NotNow(rule) => {
+            let number = rule.number();
+            write!(lines, "not-now {number}\n")
+        }
+    }
+}
+
+/// Appends a line that names a message by its place and its count.
+fn push_message(lines: &mut String, what: &str, message: Message) -> Result<(), AllocError>
+    ensures { IfOk result (λ _. string_bytes lines.new
+        ≡ string_bytes lines.old ++ what.now ++ codes " " ++ message_text message ++ codes "\n") }
+{
+    let Message { place, count, .. } = message;
+    write!(lines, "{what} {place} {count}\n")
+}

@@ -1,7 +1,0 @@
-use Rattle.std.proofs.Common.{◌≡◌, take, string_bytes}
-use Rattle.chipfire.specs.Lines.{lines_text}
-use Rattle.chipfire.specs.ReplayCommand.{firing_text}
-use Rattle.chipfire.proofs.replay.lines_of.Given as goal
-
-abbrev pub invariant-loop-vertex : goal.invariant-loop-vertex
-invariant-loop-vertex l = string_bytes l.lines ≡ lines_text firing_text (take l.vertex-index l.firings)

@@ -1,7 +1,0 @@
-pub mod Faults
-pub mod Inputs
-pub mod Lines
-pub mod PlainCommand
-pub mod CheckCommand
-pub mod ReplayCommand
-pub mod SimulateCommand

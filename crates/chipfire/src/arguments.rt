@@ -1,0 +1,242 @@
+//! The arguments of the program, and what they ask for.
+
+use chip_engine::Fault;
+use chip_graph::MAX_LIMIT;
+use chip_link::Ring;
+use clap::error::ErrorKind;
+use clap::{Arg, ArgMatches, Command, value_parser};
+use std::alloc::{AllocError, Global};
+
+/// The most rounds that follow a schedule.
+const MAX_ROUNDS: u64 = 1 << 40;
+
+/// A file that an argument names.
+#[derive(Clone, Copy)]
+pub struct FileArgument<'a> {
+    /// Its name.
+    pub path: &'a str,
+    /// The number of the argument, from 1 for the first behind the command.
+    pub number: u64,
+}
+
+/// A game that the arguments name: its files, and how often each vertex may fire.
+#[derive(Clone, Copy)]
+pub struct GameArguments<'a> {
+    pub graph: FileArgument<'a>,
+    pub chips: FileArgument<'a>,
+    /// Up to 2^40.
+    pub limit: u64,
+}
+
+/// A simulation that the arguments ask for.
+#[derive(Clone, Copy)]
+pub struct SimulationArguments<'a> {
+    pub game: GameArguments<'a>,
+    pub schedule: FileArgument<'a>,
+    pub ring: Ring,
+    /// Up to 2^40.
+    pub rounds: u64,
+}
+
+/// What the arguments ask for.
+#[derive(Drop)]
+pub enum Request<'a> {
+    /// The help, to be printed.
+    Help(String),
+    Check(FileArgument<'a>),
+    Plain(GameArguments<'a>),
+    Simulate(SimulationArguments<'a>),
+    /// The game, and the file of the traces.
+    Replay(GameArguments<'a>, FileArgument<'a>),
+}
+
+const AFTER_HELP: &str = "\
+Exit status: 0 done, or closed with no vertex halted; 1 a fault, which is one line on
+standard error; 2 closed with some vertex halted; 3 the root is open.
+
+Without arguments the report of a small game that is built in is written.";
+
+/// Reads the arguments, the program's own name first.
+pub fn parse<'a>(alloc: Global, arguments: &'a [String]) -> Result<Request<'a>, Fault> {
+    match program(alloc)?.try_get_matches_from(arguments) {
+        Ok(matches) => request_of(&matches, arguments),
+        Err(error) => match error.kind() {
+            ErrorKind::DisplayHelp => Ok(Request::Help(error.to_string(alloc)?)),
+            ErrorKind::OutOfMemory => Err(Fault::NoMemory),
+            _ => Err(Fault::Usage),
+        },
+    }
+}
+
+/// What arguments that the command-line library took ask for.
+fn request_of<'a>(matches: &ArgMatches<'a>, arguments: &[String]) -> Result<Request<'a>, Fault> {
+    let (name, found) = matches.subcommand().ok_or(Fault::Usage)?;
+    match name {
+        "check" => Ok(Request::Check(file_of(found, "GRAPH", arguments, 0)?)),
+        "plain" => Ok(Request::Plain(game_of(found, arguments)?)),
+        "simulate" => Ok(Request::Simulate(SimulationArguments {
+            game: game_of(found, arguments)?,
+            schedule: file_of(found, "SCHEDULE", arguments, 2)?,
+            ring: ring_of(found)?,
+            rounds: found.get_one::<u64>("rounds").unwrap_or(0),
+        })),
+        "replay" => Ok(Request::Replay(
+            game_of(found, arguments)?,
+            file_of(found, "TRACE", arguments, 2)?,
+        )),
+        _ => Err(Fault::Usage),
+    }
+}
+
+/// The game that a command's arguments name.
+fn game_of<'a>(found: &ArgMatches<'a>, arguments: &[String]) -> Result<GameArguments<'a>, Fault> {
+    Ok(GameArguments {
+        graph: file_of(found, "GRAPH", arguments, 0)?,
+        chips: file_of(found, "CHIPS", arguments, 1)?,
+        limit: found.get_one::<u64>("limit").unwrap_or(MAX_LIMIT),
+    })
+}
+
+/// The ring that is asked for, or that of one cell.
+fn ring_of(found: &ArgMatches<'_>) -> Result<Ring, Fault> {
+    match found.get_one::<u64>("ring") {
+        Some(cells) => Ring::new(cells).ok_or(Fault::Usage),
+        None => Ok(Ring::one()),
+    }
+}
+
+/// The file of this name among a command's files, of which it has so many before it.
+fn file_of<'a>(
+    found: &ArgMatches<'a>,
+    name: &str,
+    arguments: &[String],
+    files_before: u64,
+) -> Result<FileArgument<'a>, Fault> {
+    Ok(FileArgument {
+        path: found.get_str(name).ok_or(Fault::Usage)?,
+        number: number_of(arguments, files_before).ok_or(Fault::Usage)?,
+    })
+}
+
+/// The number of the argument that names a file and has so many files before it, to be told where it cannot be opened.
+///
+/// An option is no file, nor is the argument behind it, where its value stands; behind `--` each argument is a file.
+fn number_of(arguments: &[String], files_before: u64) -> Option<u64> {
+    let mut files_left = files_before;
+    let mut is_value = false;
+    let mut only_files = false;
+    for (index, argument) in arguments.iter().enumerate().skip(2) {
+        let argument = argument.as_str();
+        if is_value {
+            is_value = false;
+        } else if only_files || !argument.starts_with("--") {
+            if files_left == 0 {
+                return Some(index as u64 - 1);
+            }
+            files_left -= 1;
+        } else if argument == "--" {
+            only_files = true;
+        } else {
+            is_value = !argument.contains('=');
+        }
+    }
+    None
+}
+
+/// The program as the command-line library knows it.
+fn program<'a>(alloc: Global) -> Result<Command<'a>, AllocError> {
+    Command::new(alloc, "chipfire")
+        .about("A chip-firing machine that is proved right")
+        .after_help(AFTER_HELP)
+        .disable_help_subcommand(true)
+        .subcommand_required(true)
+        .subcommand(check(alloc)?)?
+        .subcommand(plain(alloc)?)?
+        .subcommand(simulate(alloc)?)?
+        .subcommand(replay(alloc)?)
+}
+
+/// The command that shows a graph.
+fn check<'a>(alloc: Global) -> Result<Command<'a>, AllocError> {
+    Command::new(alloc, "check")
+        .about("Shows a graph: each vertex with its out-degree and its distance to the sink")
+        .arg(file(alloc, "GRAPH", "The graph, as JSON"))
+}
+
+/// The command that plays a game on one thread.
+fn plain<'a>(alloc: Global) -> Result<Command<'a>, AllocError> {
+    game(
+        alloc,
+        "plain",
+        "Plays a game on one thread and writes its report",
+    )?
+    .arg(limit(alloc))
+}
+
+/// The command that runs a schedule.
+fn simulate<'a>(alloc: Global) -> Result<Command<'a>, AllocError> {
+    game(
+        alloc,
+        "simulate",
+        "Runs a schedule on the detector, and writes each reply and the report where the root closes",
+    )?
+    .arg(file(
+        alloc,
+        "SCHEDULE",
+        "What happens, one event after another, as rows",
+    ))?
+    .arg(limit(alloc))?
+    .arg(ring(alloc))?
+    .arg(rounds(alloc))
+}
+
+/// The command that replays a recorded run.
+fn replay<'a>(alloc: Global) -> Result<Command<'a>, AllocError> {
+    game(
+        alloc,
+        "replay",
+        "Replays a recorded run and writes its firings, in an order in which they fit together",
+    )?
+    .arg(file(alloc, "TRACE", "What each vertex took and fired, as rows"))?
+    .arg(limit(alloc))
+}
+
+/// A command that begins with the files of a game.
+fn game<'a>(alloc: Global, name: &'a str, about: &'a str) -> Result<Command<'a>, AllocError> {
+    Command::new(alloc, name)
+        .about(about)
+        .arg(file(alloc, "GRAPH", "The graph, as JSON"))?
+        .arg(file(alloc, "CHIPS", "The chips at the start, as rows"))
+}
+
+/// A file that a command needs.
+fn file<'a>(alloc: Global, name: &'a str, help: &'a str) -> Arg<'a> {
+    Arg::new(alloc, name).required(true).help(help)
+}
+
+/// How often each vertex may fire.
+fn limit<'a>(alloc: Global) -> Arg<'a> {
+    Arg::new(alloc, "limit")
+        .long("limit")
+        .value_name("F")
+        .help("How often each vertex may fire, 0 to 2^40 [default: 2^40]")
+        .value_parser(value_parser!(u64).range(0..=MAX_LIMIT as i64))
+}
+
+/// How many messages an edge holds; `Ring` itself knows which numbers of cells there are.
+fn ring<'a>(alloc: Global) -> Arg<'a> {
+    Arg::new(alloc, "ring")
+        .long("ring")
+        .value_name("R")
+        .help("How many cells the ring of an edge has, 1 to 64 [default: 1]")
+        .value_parser(value_parser!(u64))
+}
+
+/// How many rounds of turns follow a schedule at most.
+fn rounds<'a>(alloc: Global) -> Arg<'a> {
+    Arg::new(alloc, "rounds")
+        .long("rounds")
+        .value_name("N")
+        .help("How many rounds of turns follow, until the root closes, 0 to 2^40 [default: 0]")
+        .value_parser(value_parser!(u64).range(0..=MAX_ROUNDS as i64))
+}

@@ -29,22 +29,77 @@ def grid(side, chips):
     return sink + 1, sink, edges, chips
 
 
+SIDE = 63
+
+
 def grid_peak(_):
-    side = 63
-    return grid(side, {side * side // 2: 2**20})
+    return grid(SIDE, {SIDE * SIDE // 2: 2**20})
+
+
+def grid_great(_):
+    return grid(SIDE, {SIDE * SIDE // 2: 2**40})
 
 
 def grid_six(_):
-    side = 63
-    return grid(side, {v: 6 for v in range(side * side)})
+    return grid(SIDE, {v: 6 for v in range(SIDE * SIDE)})
+
+
+def grid_critical(_):
+    """One chip too many in the middle of a grid that is full: it goes over every vertex, and all is over soon."""
+    return grid(SIDE, {v: 4 if v == SIDE * SIDE // 2 else 3 for v in range(SIDE * SIDE)})
+
+
+def torus(_):
+    """A grid whose borders are joined, with chips far from the one vertex that is the sink."""
+    side = 64
+    edges = []
+    for v in range(1, side * side):
+        line, column = divmod(v, side)
+        beside = [(line - 1, column), (line, column - 1), (line, column + 1), (line + 1, column)]
+        edges += [(v, a % side * side + b % side, 1) for a, b in beside]
+    return side * side, 0, edges, {side * side // 2 + side // 2: 2**20}
+
+
+def grid_corner(_):
+    """A square grid that loses chips at one corner alone, which is the sink."""
+    side = 64
+    _, outside, edges, chips = grid(side, {side * side // 2 + side // 2: 2**14})
+    return side * side, 0, [it for it in edges if it[0] != 0 and it[1] != outside], chips
+
+
+def path_of(length, chips):
+    """A path whose edges go both ways, and whose ends lose chips to the sink."""
+    sink = length
+    edges = [(v, u, 1) for v in range(length) for u in (v - 1, v + 1) if 0 <= u < length]
+    edges += [(0, sink, 1), (length - 1, sink, 1)]
+    return length + 1, sink, edges, {length // 2: chips}
 
 
 def path(_):
-    """A path whose edges go both ways, and whose ends lose chips to the sink."""
-    length = sink = 255
-    edges = [(v, u, 1) for v in range(length) for u in (v - 1, v + 1) if 0 <= u < length]
-    edges += [(0, sink, 1), (length - 1, sink, 1)]
-    return length + 1, sink, edges, {length // 2: 2**16}
+    return path_of(255, 2**16)
+
+
+def path_511(_):
+    return path_of(511, 2**18)
+
+
+def path_4095(_):
+    """Too long to be played by firing alone: that would take minutes."""
+    return path_of(4095, 2**20)
+
+
+def star(_):
+    """A middle that sends a chip to each of 4,094 leaves, which send it back, and one to the sink."""
+    leaves, sink = range(1, VERTICES - 1), VERTICES - 1
+    edges = [(0, leaf, 1) for leaf in leaves] + [(leaf, 0, 1) for leaf in leaves] + [(0, sink, 1)]
+    return VERTICES, sink, edges, {0: 2**24}
+
+
+def uphill(_):
+    """A chain on which each vertex but the last sends two chips back for one that it sends on."""
+    length = sink = 20
+    edges = [(v, v + 1, 1) for v in range(length)] + [(v, v - 1, 2) for v in range(1, length)]
+    return length + 1, sink, edges, {0: 64}
 
 
 def random_graph(draw):
@@ -84,7 +139,22 @@ def largest(draw):
 
 
 # Each name has a hyphen for each underscore of its function.
-GAMES = [grid_peak, grid_six, path, random_graph, chain, largest]
+GAMES = [
+    grid_peak,
+    grid_great,
+    grid_six,
+    grid_critical,
+    grid_corner,
+    torus,
+    path,
+    path_511,
+    path_4095,
+    star,
+    random_graph,
+    chain,
+    uphill,
+    largest,
+]
 
 
 def reaches_the_sink(vertices, sink, edges):

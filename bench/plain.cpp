@@ -1,10 +1,11 @@
 // The plain player once more, in C++, on one thread: the yardstick of bench/run. It reads the same files and writes the
 // same bytes as `chipfire plain GRAPH CHIPS`, for files that are right; of wrong ones it only says that they are wrong.
 //
-//     plain list|passes GRAPH CHIPS [LIMIT]
+//     plain list|passes|rounds GRAPH CHIPS [LIMIT]
 //
 // `list` keeps the vertices that got chips in a first-in-first-out list. `passes` goes over all vertices in ascending
-// order until a pass fires nothing, and divides by 64 bits only where it must. Both fire in batches.
+// order until a pass fires nothing, and divides by 64 bits only where it must; `rounds` does so first over those with
+// even numbers and then over those with odd ones. All fire in batches.
 
 #include <fcntl.h>
 #include <unistd.h>
@@ -279,20 +280,32 @@ inline std::uint64_t quotient(std::uint64_t chips, std::uint64_t degree) {
     return chips / degree;
 }
 
-void play_by_passes(Game& game) {
+// Fires what may fire among every `step`-th vertex from `first` on; whether any did.
+bool pass(Game& game, std::size_t first, std::size_t step) {
     const std::size_t vertices = game.vertices();
+    bool has_fired = false;
+    for (std::size_t v = first; v < vertices; v += step) {
+        if (!game.is_legal(v) || game.fired[v] == game.limit) continue;
+        std::uint64_t batch = quotient(game.chips[v], game.degree[v]);
+        if (batch > game.limit - game.fired[v]) batch = game.limit - game.fired[v];
+        game.chips[v] -= batch * game.degree[v];
+        game.fired[v] += batch;
+        for (std::uint32_t e = game.first[v]; e < game.first[v + 1]; ++e)
+            game.chips[game.outs[e].head] += batch * game.outs[e].mult;
+        has_fired = true;
+    }
+    return has_fired;
+}
+
+void play_by_passes(Game& game) {
+    while (pass(game, 0, 1)) {
+    }
+}
+
+void play_by_rounds(Game& game) {
     for (bool has_fired = true; has_fired;) {
-        has_fired = false;
-        for (std::size_t v = 0; v < vertices; ++v) {
-            if (!game.is_legal(v) || game.fired[v] == game.limit) continue;
-            std::uint64_t batch = quotient(game.chips[v], game.degree[v]);
-            if (batch > game.limit - game.fired[v]) batch = game.limit - game.fired[v];
-            game.chips[v] -= batch * game.degree[v];
-            game.fired[v] += batch;
-            for (std::uint32_t e = game.first[v]; e < game.first[v + 1]; ++e)
-                game.chips[game.outs[e].head] += batch * game.outs[e].mult;
-            has_fired = true;
-        }
+        has_fired = pass(game, 0, 2);
+        has_fired |= pass(game, 1, 2);
     }
 }
 
@@ -329,12 +342,14 @@ void write_all(const std::string& text) {
 
 int main(int count, char** words) {
     const std::string_view way = count > 1 ? words[1] : "";
-    if (count < 4 || count > 5 || (way != "list" && way != "passes")) stop("plain list|passes GRAPH CHIPS [LIMIT]");
+    if (count < 4 || count > 5 || (way != "list" && way != "passes" && way != "rounds"))
+        stop("plain list|passes|rounds GRAPH CHIPS [LIMIT]");
     const std::uint64_t limit = count == 5 ? std::strtoull(words[4], nullptr, 10) : greatest_total;
     const Graph graph = read_graph(words[2]);
     Game game(graph, read_chips(words[3], graph.vertices), limit);
     if (way == "list") play_by_list(game);
-    else play_by_passes(game);
+    else if (way == "passes") play_by_passes(game);
+    else play_by_rounds(game);
     std::vector<std::uint64_t> over;
     for (std::size_t v = 0; v < game.vertices(); ++v) {
         if (game.is_legal(v)) over.push_back(v);

@@ -7,8 +7,6 @@
 mod fault;
 mod lanes;
 pub mod laws;
-#[cfg(test)]
-mod outcome_tests;
 mod root;
 #[cfg(test)]
 mod tests;

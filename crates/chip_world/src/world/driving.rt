@@ -1,8 +1,5 @@
 ghost use Rattle.std.specs.Prelude.{◌<◌};
 
-#[cfg(test)]
-mod tests;
-
 use super::{World, fired_word};
 
 /// Where a drive ended.

@@ -1,5 +1,6 @@
 -- A new actor stands for the opening of its vertex.
-use Rattle.std.proofs.Common.{◌≡◌, ℕ, zero, suc, get_or, ◌+◌, ◌<◌, false, eqb, List, [], ◌∷◌, length, map, None, refl, sym, ap, ◌∙◌, subst, arith}
+use Rattle.std.proofs.Common.{◌≡◌, ℕ, zero, suc, get_or, ◌+◌, ◌<◌, false, eqb, List, [], ◌∷◌, length, map, None, refl}
+use Rattle.std.proofs.Common.{sym, ap, ◌∙◌, subst, arith}
 use mathlib.Core.Logic.{dite}
 use native.Mathlib.Decide.{ℕ_discrete}
 use Rattle.std.specs.List.{Contains}
@@ -20,7 +21,8 @@ use Rattle.chip_actor.proofs.PickedLemmas.{outs_rise, ins_rise}
 use Rattle.chip_actor.proofs.Standing.{among_new_outs, among_new_ins}
 
 -- an end that was made from its number
-made_end : {T : Type 0} (none : T) (f : ℕ → T) (xs : List ℕ) (e : ℕ) → Contains xs e → on_edge none xs (map f xs) e ≡ f e
+made_end : {T : Type 0} (none : T) (f : ℕ → T) (xs : List ℕ) (e : ℕ) → Contains xs e
+    → on_edge none xs (map f xs) e ≡ f e
 made_end {T} none f xs e (k, l, at) = by_place xs k l (sym (get_or_default xs k e 0 l) ∙ at)
   where
     by_place : (xs : List ℕ) (k : ℕ) → k < length xs → get_or xs k 0 ≡ e → on_edge none xs (map f xs) e ≡ f e
@@ -30,9 +32,27 @@ made_end {T} none f xs e (k, l, at) = by_place xs k l (sym (get_or_default xs k 
         (λ y. cond_yes x e (f x) (on_edge none xs (map f xs) e) y ∙ ap f y)
         (λ n. cond_no x e (f x) (on_edge none xs (map f xs) e) n ∙ by_place xs k (omega arith) at)
 
-module _ (g : Setting) (v : ℕ) (setting : IsSetting g) (vertex : v < g.graph.vertices) (os : OutEnds) (is : InEnds) (b : Books)
-    (outs : IsFreshOuts g.graph g.ring v os) (ins : IsFreshIns g.graph g.ring v is) (fresh : IsFresh b is.edges (edges_out g.graph v)) (sound : IsSound b) where
-  pub opens : (a : Actor) → a ≡ (let n : Actor = record { vertex = v; is_sink = eqb v g.graph.sink; degree = degree g.graph v; limit = g.limit; chips = 0; fired = 0; halt = None; outs = os; ins = is; detect = b; pending = 0; unput = 0; refused = 0 } in n) → StandsFor g (opened g) a
+module _ (g : Setting) (v : ℕ) (setting : IsSetting g) (vertex : v < g.graph.vertices) (os : OutEnds) (is : InEnds)
+    (b : Books)
+    (outs : IsFreshOuts g.graph g.ring v os) (ins : IsFreshIns g.graph g.ring v is)
+    (fresh : IsFresh b is.edges (edges_out g.graph v)) (sound : IsSound b) where
+  pub opens : (a : Actor) → a
+      ≡ (let n : Actor = record {
+        vertex = v;
+        is_sink = eqb v g.graph.sink;
+        degree = degree g.graph v;
+        limit = g.limit;
+        chips = 0;
+        fired = 0;
+        halt = None;
+        outs = os;
+        ins = is;
+        detect = b;
+        pending = 0;
+        unput = 0;
+        refused = 0;
+      } in n)
+      → StandsFor g (opened g) a
   opens a eq = subst (StandsFor g (opened g)) (sym eq) record {
     knows = record {
       setting = setting;
@@ -43,7 +63,8 @@ module _ (g : Setting) (v : ℕ) (setting : IsSetting g) (vertex : v < g.graph.v
       outs = outs.edges;
       ins = ins.edges;
       detect_outs = stand_in_order b.outs (edges_out g.graph v) sound.outs fresh.outs (outs_rise g.graph v);
-      detect_ins = stand_in_order b.ins is.edges sound.ins fresh.ins (subst IsStrictlyIncreasing (sym ins.edges) (ins_rise g.graph v)) ∙ ins.edges;
+      detect_ins = stand_in_order b.ins is.edges sound.ins fresh.ins
+          (subst IsStrictlyIncreasing (sym ins.edges) (ins_rise g.graph v)) ∙ ins.edges;
     };
     kept = opening_keeps g setting.game v;
     few_chips = omega arith;
@@ -52,9 +73,23 @@ module _ (g : Setting) (v : ℕ) (setting : IsSetting g) (vertex : v < g.graph.v
     fired = refl;
     halt = refl;
     outs = λ e at.
-        (λ j. on_edge no_out (outs.edges j) (outs.ends j) e) ∙ made_end no_out (fresh_out g.graph g.ring) (edges_out g.graph v) e (among_new_outs g v vertex e at)
-        ∙ (λ j. let n : OutEnd = record { mult = (fresh_out g.graph g.ring e).mult; pending = 0; link = record { edge = e; ring = g.ring; claims = none_claimed e at j; held = None; clear = false; refused = false } } in n);
-    ins = λ e at. ap (λ (ts : List HeadState). on_edge (new_head 0 1) is.edges ts e) ins.ends ∙ made_end (new_head 0 1) (λ (e : ℕ). new_head e g.ring) is.edges e (subst (λ (xs : List ℕ). Contains xs e) (sym ins.edges) (among_new_ins g v vertex e at));
+        (λ j. on_edge no_out (outs.edges j) (outs.ends j) e)
+        ∙ made_end no_out (fresh_out g.graph g.ring) (edges_out g.graph v) e (among_new_outs g v vertex e at)
+        ∙ (λ j. let n : OutEnd = record {
+          mult = (fresh_out g.graph g.ring e).mult;
+          pending = 0;
+          link = record {
+            edge = e;
+            ring = g.ring;
+            claims = none_claimed e at j;
+            held = None;
+            clear = false;
+            refused = false;
+          };
+        } in n);
+    ins = λ e at. ap (λ (ts : List HeadState). on_edge (new_head 0 1) is.edges ts e) ins.ends
+        ∙ made_end (new_head 0 1) (λ (e : ℕ). new_head e g.ring) is.edges e
+        (subst (λ (xs : List ℕ). Contains xs e) (sym ins.edges) (among_new_ins g v vertex e at));
     books = record {
       sound = sound;
       parent = fresh.parent;
@@ -69,4 +104,6 @@ module _ (g : Setting) (v : ℕ) (setting : IsSetting g) (vertex : v < g.graph.v
   }
     where
       none_claimed : (e : ℕ) → tail_of g e ≡ v → 0 ≡ length (first_put g e) + 0
-      none_claimed e at = let few = first_few g e (Rattle.chip_actor.proofs.PartLemmas.tail_inside g e (subst (λ (n : ℕ). n < g.graph.vertices) (sym at) vertex)) in omega arith
+      none_claimed e at = let few = first_few g e
+          (Rattle.chip_actor.proofs.PartLemmas.tail_inside g e (subst (λ (n : ℕ). n < g.graph.vertices) (sym at) vertex))
+          in omega arith

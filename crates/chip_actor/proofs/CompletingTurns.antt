@@ -1,13 +1,19 @@
 -- Every turn that is under way can be completed, so the bound of a whole turn holds of it as well.
-use Rattle.std.proofs.Common.{ℕ, ◌+◌, ◌*◌, ◌<◌, ◌≤◌, Bool, true, false, List, [], ◌∷◌, ◌++◌, length, drop, Option, Some, None, refl, arith, length-append}
+use Rattle.std.proofs.Common.{ℕ, ◌+◌, ◌*◌, ◌<◌, ◌≤◌, Bool, true, false, List, [], ◌∷◌, ◌++◌, length, drop, Option, Some}
+use Rattle.std.proofs.Common.{None, refl, arith, length-append}
 use Rattle.chip_actor.specs.Setting.{Setting}
 use Rattle.chip_actor.specs.declared.cursor.Cursor.TheVariants as At
 use Rattle.chip_actor.specs.Part.{Part}
 use Rattle.chip_actor.specs.Kept.{KeepsPart}
 use Rattle.chip_actor.specs.Rules.{Event, Take, Ack, Fire, Clear, Claim, Put, Halt, Settle}
 use Rattle.chip_actor.specs.Steps.{Step, does}
-use Rattle.chip_actor.specs.Turn.{Phase, nothing, either_phase, where_phase, and_then, each_phase, one_step, seeing, ins_of, outs_of, firing, may_fire, batch_of, putting, sending, sending_all, after_clear_phase, after_claim_phase, acknowledging, acknowledging_parent, last_acknowledgement, is_at_limit}
-use Rattle.chip_actor.specs.Cursor.{Cursor, left, out_at, claiming, storing, from_acknowledging, from_limit, from_sending, from_refusal, from_putting, from_firing, from_settling, from_taking, IsUnderWay}
+use Rattle.chip_actor.specs.Turn.{Phase, nothing, either_phase, where_phase, and_then, each_phase, one_step, seeing}
+use Rattle.chip_actor.specs.Turn.{ins_of, outs_of, firing, may_fire, batch_of, putting, sending, sending_all}
+use Rattle.chip_actor.specs.Turn.{after_clear_phase, after_claim_phase, acknowledging, acknowledging_parent}
+use Rattle.chip_actor.specs.Turn.{last_acknowledgement, is_at_limit}
+use Rattle.chip_actor.specs.Cursor.{Cursor, left, out_at, claiming, storing, from_acknowledging, from_limit}
+use Rattle.chip_actor.specs.Cursor.{from_sending, from_refusal, from_putting, from_firing, from_settling, from_taking}
+use Rattle.chip_actor.specs.Cursor.{IsUnderWay}
 use Rattle.chip_actor.proofs.TurnLemmas.{turns_bounded}
 
 -- the phase can be made from every part
@@ -45,13 +51,17 @@ module _ (g : Setting) (v : ℕ) where
   total_step x = total_seeing x (λ seen before. nothing) (λ s. total_nothing)
 
   total_claim : (e : ℕ) → Total (seeing g v (Claim e) (after_claim_phase g v e))
-  total_claim e = total_seeing (Claim e) (after_claim_phase g v e) (λ s. total_either _ (one_step g v (Put e)) (one_step g v (Halt v)) (total_step (Put e)) (total_step (Halt v)))
+  total_claim e = total_seeing (Claim e) (after_claim_phase g v e)
+      (λ s. total_either _ (one_step g v (Put e)) (one_step g v (Halt v)) (total_step (Put e)) (total_step (Halt v)))
 
   total_sending : (e : ℕ) → Total (sending g v e)
-  total_sending e = total_where _ (seeing g v (Clear e) (after_clear_phase g v e)) (total_seeing (Clear e) (after_clear_phase g v e) (λ s. total_claim e))
+  total_sending e = total_where _ (seeing g v (Clear e) (after_clear_phase g v e))
+      (total_seeing (Clear e) (after_clear_phase g v e) (λ s. total_claim e))
 
   total_sending_all : Total (sending_all g v)
-  total_sending_all s = total_either _ _ nothing (total_either _ (each_phase (sending g v) (outs_of g v)) (one_step g v (Halt v)) (total_each (sending g v) total_sending (outs_of g v)) (total_step (Halt v))) total_nothing s
+  total_sending_all s = total_either _ _ nothing
+      (total_either _ (each_phase (sending g v) (outs_of g v)) (one_step g v (Halt v))
+      (total_each (sending g v) total_sending (outs_of g v)) (total_step (Halt v))) total_nothing s
 
   total_parent : (parent : Option ℕ) → Total (acknowledging_parent g v parent)
   total_parent None = total_nothing
@@ -61,28 +71,41 @@ module _ (g : Setting) (v : ℕ) where
   total_last s = total_parent s.parent s
 
   total_acknowledging : (place : ℕ) → Total (from_acknowledging g v place)
-  total_acknowledging place = total_then (each_phase (acknowledging g v) (drop place (ins_of g v))) (last_acknowledgement g v) (total_each (acknowledging g v) (λ e. total_where _ (one_step g v (Ack e)) (total_step (Ack e))) (drop place (ins_of g v))) total_last
+  total_acknowledging place = total_then (each_phase (acknowledging g v) (drop place (ins_of g v)))
+      (last_acknowledgement g v)
+      (total_each (acknowledging g v) (λ e. total_where _ (one_step g v (Ack e)) (total_step (Ack e)))
+      (drop place (ins_of g v))) total_last
 
   total_limit : Total (from_limit g v)
-  total_limit = total_then (where_phase (is_at_limit g v) (one_step g v (Halt v))) (from_acknowledging g v 0) (total_where (is_at_limit g v) (one_step g v (Halt v)) (total_step (Halt v))) (total_acknowledging 0)
+  total_limit = total_then (where_phase (is_at_limit g v) (one_step g v (Halt v))) (from_acknowledging g v 0)
+      (total_where (is_at_limit g v) (one_step g v (Halt v)) (total_step (Halt v))) (total_acknowledging 0)
 
   total_from_sending : (place : ℕ) → Total (from_sending g v place)
-  total_from_sending place = total_then (each_phase (sending g v) (drop place (outs_of g v))) (from_limit g v) (total_each (sending g v) total_sending (drop place (outs_of g v))) total_limit
+  total_from_sending place = total_then (each_phase (sending g v) (drop place (outs_of g v))) (from_limit g v)
+      (total_each (sending g v) total_sending (drop place (outs_of g v))) total_limit
 
   total_refusal : Total (from_refusal g v)
   total_refusal = total_then (sending_all g v) (from_limit g v) total_sending_all total_limit
 
   total_putting : (place : ℕ) → Total (from_putting g v place)
-  total_putting place = total_then (each_phase (putting g v) (drop place (outs_of g v))) (from_refusal g v) (total_each (putting g v) (λ e. total_where _ (one_step g v (Put e)) (total_step (Put e))) (drop place (outs_of g v))) total_refusal
+  total_putting place = total_then (each_phase (putting g v) (drop place (outs_of g v))) (from_refusal g v)
+      (total_each (putting g v) (λ e. total_where _ (one_step g v (Put e)) (total_step (Put e)))
+      (drop place (outs_of g v))) total_refusal
 
   total_firing : Total (from_firing g v)
-  total_firing = total_then (firing g v) (from_putting g v 0) (λ s. total_where (may_fire g v) (one_step g v (Fire v (batch_of g v s))) (total_step (Fire v (batch_of g v s))) s) (total_putting 0)
+  total_firing = total_then (firing g v) (from_putting g v 0)
+      (λ s. total_where (may_fire g v) (one_step g v (Fire v (batch_of g v s))) (total_step (Fire v (batch_of g v s))) s)
+      (total_putting 0)
 
   total_settling : (place : ℕ) → Total (from_settling g v place)
-  total_settling place = total_then (each_phase (λ e. one_step g v (Settle e)) (drop place (outs_of g v))) (from_firing g v) (total_each (λ e. one_step g v (Settle e)) (λ e. total_step (Settle e)) (drop place (outs_of g v))) total_firing
+  total_settling place = total_then (each_phase (λ e. one_step g v (Settle e)) (drop place (outs_of g v)))
+      (from_firing g v) (total_each (λ e. one_step g v (Settle e))
+      (λ e. total_step (Settle e)) (drop place (outs_of g v))) total_firing
 
   total_taking : (place : ℕ) → Total (from_taking g v place)
-  total_taking place = total_then (each_phase (λ e. one_step g v (Take e)) (drop place (ins_of g v))) (from_settling g v 0) (total_each (λ e. one_step g v (Take e)) (λ e. total_step (Take e)) (drop place (ins_of g v))) (total_settling 0)
+  total_taking place = total_then (each_phase (λ e. one_step g v (Take e)) (drop place (ins_of g v)))
+      (from_settling g v 0) (total_each (λ e. one_step g v (Take e)) (λ e. total_step (Take e)) (drop place (ins_of g v)))
+      (total_settling 0)
 
   total_left : (cursor : Cursor) → Total (left g v cursor)
   total_left (At.Take place) = total_taking place
@@ -91,15 +114,19 @@ module _ (g : Setting) (v : ℕ) where
   total_left (At.Put place) = total_putting place
   total_left At.Refusal = total_refusal
   total_left (At.Send place) = total_from_sending place
-  total_left (At.Claim place) = total_then (claiming g v (out_at g v place)) (from_sending g v (place + 1)) (total_where _ (seeing g v (Claim (out_at g v place)) (after_claim_phase g v (out_at g v place))) (total_claim (out_at g v place))) (total_from_sending (place + 1))
+  total_left (At.Claim place) = total_then (claiming g v (out_at g v place)) (from_sending g v (place + 1))
+      (total_where _ (seeing g v (Claim (out_at g v place)) (after_claim_phase g v (out_at g v place)))
+      (total_claim (out_at g v place))) (total_from_sending (place + 1))
   total_left (At.Store place) = total_then (storing g v (out_at g v place)) (from_sending g v (place + 1))
-      (λ s. total_either _ (one_step g v (Put (out_at g v place))) (one_step g v (Halt v)) (total_step (Put (out_at g v place))) (total_step (Halt v)) s) (total_from_sending (place + 1))
+      (λ s. total_either _ (one_step g v (Put (out_at g v place))) (one_step g v (Halt v))
+      (total_step (Put (out_at g v place))) (total_step (Halt v)) s) (total_from_sending (place + 1))
   total_left At.Limit = total_limit
   total_left (At.Ack place) = total_acknowledging place
   total_left At.Parent = total_last
   total_left At.Over = total_nothing
 
-  pub under_way_bounded : v < g.graph.vertices → (first : Part) → KeepsPart g v first → (done : List Step) (cursor : Cursor) (s : Part) → IsUnderWay g v first done cursor s
+  pub under_way_bounded : v < g.graph.vertices → (first : Part) → KeepsPart g v first
+      → (done : List Step) (cursor : Cursor) (s : Part) → IsUnderWay g v first done cursor s
       → length done ≤ (2 * length (ins_of g v) + 4 * length (outs_of g v)) + 3
   under_way_bounded vertex first kept done cursor s way =
       let rest = total_left cursor s in

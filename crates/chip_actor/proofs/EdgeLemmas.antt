@@ -3,7 +3,8 @@ use Rattle.std.proofs.Common.{◌≡◌, ℕ, ◌+◌, ◌-◌, ◌<◌, ◌≤�
 use Rattle.chip_graph.specs.Multigraph.{IsGraph, edge_at, sum_out, sum_in, degree}
 use Rattle.chip_actor.specs.Setting.{Setting}
 use Rattle.chip_graph.specs.Sums.{sum_below}
-use Rattle.chip_graph.proofs.SumLemmas.{cond_yes, cond_no, cond_true, cond_false, sum_below_ext, sum_below_none, sum_below_split, sum_below_one}
+use Rattle.chip_graph.proofs.SumLemmas.{cond_yes, cond_no, cond_true, cond_false, sum_below_ext, sum_below_none}
+use Rattle.chip_graph.proofs.SumLemmas.{sum_below_split, sum_below_one}
 use Rattle.chip_actor.specs.Edges.{graph_edges, root_edge, root, tail_of, head_of, mult_of, over_outs, over_ins}
 
 module _ (g : Setting) where
@@ -24,22 +25,33 @@ module _ (g : Setting) where
       let m : ℕ = graph_edges g in
       let n : ℕ = g.graph.vertices in
       let whole = sum_below_split m n (λ e. cond (eqb (tail_of g e) v) (f e) 0) in
-      let own : sum_below m (λ e. cond (eqb (tail_of g e) v) (f e) 0) ≡ sum_out g.graph v f = sum_below_ext m _ _ (λ e l. ap (λ (t : ℕ). cond (eqb t v) (f e) 0) (tail_graph e l)) in
-      let roots : sum_below n (λ i. cond (eqb (tail_of g (m + i)) v) (f (m + i)) 0) ≡ 0 = sum_below_none n _ (λ i l. (let at = tail_root (m + i) (omega arith) in cond_no (tail_of g (m + i)) v (f (m + i)) 0 (omega arith))) in
+      let own : sum_below m (λ e. cond (eqb (tail_of g e) v) (f e) 0) ≡ sum_out g.graph v f = sum_below_ext m _ _
+      (λ e l. ap (λ (t : ℕ). cond (eqb t v) (f e) 0) (tail_graph e l)) in
+      let roots : sum_below n (λ i. cond (eqb (tail_of g (m + i)) v) (f (m + i)) 0)
+      ≡ 0 = sum_below_none n _ (λ i l. (let at = tail_root (m + i) (omega arith) in
+      cond_no (tail_of g (m + i)) v (f (m + i)) 0 (omega arith))) in
       omega arith
 
-  pub over_ins_graph : (v : ℕ) → v < g.graph.vertices → (f : ℕ → ℕ) → over_ins g v f ≡ sum_in g.graph v f + f (root_edge g v)
+  pub over_ins_graph : (v : ℕ) → v < g.graph.vertices → (f : ℕ → ℕ)
+      → over_ins g v f ≡ sum_in g.graph v f + f (root_edge g v)
   over_ins_graph v vertex f =
       let m : ℕ = graph_edges g in
       let n : ℕ = g.graph.vertices in
       let whole = sum_below_split m n (λ e. cond (eqb (head_of g e) v) (f e) 0) in
-      let own : sum_below m (λ e. cond (eqb (head_of g e) v) (f e) 0) ≡ sum_in g.graph v f = sum_below_ext m _ _ (λ e l. ap (λ (t : ℕ). cond (eqb t v) (f e) 0) (head_graph e l)) in
-      let roots : sum_below n (λ i. cond (eqb (head_of g (m + i)) v) (f (m + i)) 0) ≡ cond (eqb (head_of g (m + v)) v) (f (m + v)) 0
-      = sum_below_one n (λ i. cond (eqb (head_of g (m + i)) v) (f (m + i)) 0) v vertex (λ i l ne. (let at = head_root (m + i) (omega arith) in cond_no (head_of g (m + i)) v (f (m + i)) 0 (omega arith))) in
+      let own : sum_below m (λ e. cond (eqb (head_of g e) v) (f e) 0) ≡ sum_in g.graph v f = sum_below_ext m _ _
+      (λ e l. ap (λ (t : ℕ). cond (eqb t v) (f e) 0) (head_graph e l)) in
+      let roots : sum_below n (λ i. cond (eqb (head_of g (m + i)) v) (f (m + i)) 0)
+      ≡ cond (eqb (head_of g (m + v)) v) (f (m + v)) 0
+      = sum_below_one n (λ i. cond (eqb (head_of g (m + i)) v) (f (m + i)) 0) v vertex
+      (λ i l ne. (let at = head_root (m + i) (omega arith) in
+      cond_no (head_of g (m + i)) v (f (m + i)) 0 (omega arith))) in
       let at : head_of g (m + v) ≡ v = (let a = head_root (m + v) (omega arith) in omega arith) in
-      let one : cond (eqb (head_of g (m + v)) v) (f (m + v)) 0 ≡ f (m + v) = cond_yes (head_of g (m + v)) v (f (m + v)) 0 at in
+      let one : cond (eqb (head_of g (m + v)) v) (f (m + v)) 0
+      ≡ f (m + v) = cond_yes (head_of g (m + v)) v (f (m + v)) 0 at in
       omega arith
 
   pub sums_add_root_edges : IsGraph g.graph → (v : ℕ) → v < g.graph.vertices → (f : ℕ → ℕ)
-      → (over_outs g v f ≡ sum_out g.graph v f) × (over_outs g v (mult_of g) ≡ degree g.graph v) × (over_ins g v f ≡ sum_in g.graph v f + f (root_edge g v))
-  sums_add_root_edges graph v vertex f = (over_outs_graph v vertex f, over_outs_graph v vertex (mult_of g), over_ins_graph v vertex f)
+      → (over_outs g v f ≡ sum_out g.graph v f) × (over_outs g v (mult_of g) ≡ degree g.graph v)
+      × (over_ins g v f ≡ sum_in g.graph v f + f (root_edge g v))
+  sums_add_root_edges graph v vertex f =
+      (over_outs_graph v vertex f, over_outs_graph v vertex (mult_of g), over_ins_graph v vertex f)

@@ -1,5 +1,8 @@
 -- Each call that makes an event: what its parts ask, and what it comes to.
-use Rattle.std.proofs.Common.{◌≡◌, ◌≢◌, ℕ, zero, suc, ◌+◌, ◌-◌, ◌*◌, ◌<◌, ◌≤◌, ◌^◌, ◌%◌, Bool, true, false, not, ◌&&◌, cond, if◌then◌else◌, eqb, List, [], ◌∷◌, ◌++◌, length, sum, Option, Some, None, is_some, IsTrue, option_to_list, refl, sym, ap, ◌∙◌, subst, arith, eq-eqb, eqb-true, true≢false, append-nil}
+use Rattle.std.proofs.Common.{◌≡◌, ◌≢◌, ℕ, zero, suc, ◌+◌, ◌-◌, ◌*◌, ◌<◌, ◌≤◌, ◌^◌, ◌%◌, Bool, true, false, not, ◌&&◌}
+use Rattle.std.proofs.Common.{cond, if◌then◌else◌, eqb, List, [], ◌∷◌, ◌++◌, length, sum, Option, Some, None, is_some}
+use Rattle.std.proofs.Common.{IsTrue, option_to_list, refl, sym, ap, ◌∙◌, subst, arith, eq-eqb, eqb-true, true≢false}
+use Rattle.std.proofs.Common.{append-nil}
 use mathlib.Core.Logic.{dite}
 use native.Mathlib.Decide.{ℕ_discrete}
 use Rattle.std.specs.List.{Contains}
@@ -8,7 +11,8 @@ use Rattle.chip_graph.specs.Sums.{sum_below}
 use Rattle.chip_graph.proofs.SumLemmas.{cond_yes, cond_no, cond_true, cond_false, by_test, tested_term}
 use Rattle.chip_link.specs.declared.message.Message.{Message}
 use Rattle.chip_link.specs.Words.{claims_in}
-use Rattle.chip_link.specs.Ends.{TailState, HeadState, claim_words, put_of, tail_after_clear, message_claimed, message_taken, head_after_take}
+use Rattle.chip_link.specs.Ends.{TailState, HeadState, claim_words, put_of, tail_after_clear, message_claimed}
+use Rattle.chip_link.specs.Ends.{message_taken, head_after_take}
 use Rattle.chip_link.specs.Link.{Tail, claims_of}
 use Rattle.chip_detect.specs.Tally.{message_limit}
 use Rattle.chip_detect.specs.Books.{Books, IsSound, in_edges, out_edges, got_of, sent_of, settled_of}
@@ -23,12 +27,15 @@ use Rattle.chip_actor.specs.Part.{Cause, cause}
 use Rattle.chip_actor.specs.Rules.{Take, Ack, Fire, Clear, Claim, Put, Halt, Settle}
 use Rattle.chip_actor.specs.Steps.{Reply, message_of, does}
 use Rattle.chip_actor.specs.declared.reply.Reply.TheVariants.{Done, Got, Sent, Empty, Full, Sealed}
-use Rattle.chip_actor.specs.Ends.{OutEnd, OutEnds, InEnds, out_on, in_on, ChangesOut, ChangesOuts, ChangesIn, out_after_clear, out_after_claim, out_after_put, out_after_fire}
+use Rattle.chip_actor.specs.Ends.{OutEnd, OutEnds, InEnds, out_on, in_on, ChangesOut, ChangesOuts, ChangesIn}
+use Rattle.chip_actor.specs.Ends.{out_after_clear, out_after_claim, out_after_put, out_after_fire}
 use Rattle.chip_actor.specs.Actor.{Actor, StandsFor, SomePart, WhateverPart, is_passive_now}
 use Rattle.chip_actor.specs.Acting.{CanDo, Makes}
 use Rattle.chip_actor.proofs.RuleLemmas.{rules_met}
-use Rattle.chip_actor.proofs.Standing.{among_outs, among_ins, books_in, books_out, out_inside, owed_is, may_ack_is, few_got, few_fired}
-use Rattle.chip_actor.proofs.Stepping.{takes, takes_none, settles, acknowledges, halts, clears, may_look, claims, is_refused, puts, fires}
+use Rattle.chip_actor.proofs.Standing.{among_outs, among_ins, books_in, books_out, out_inside, owed_is, may_ack_is}
+use Rattle.chip_actor.proofs.Standing.{few_got, few_fired}
+use Rattle.chip_actor.proofs.Stepping.{takes, takes_none, settles, acknowledges, halts, clears, may_look, claims}
+use Rattle.chip_actor.proofs.Stepping.{is_refused, puts, fires}
 
 -- ---- a take
 
@@ -41,32 +48,51 @@ pub record MayTake (a : Actor) (e seen : ℕ) : Type 0 where
 pub may_take : (a : Actor) (e seen : ℕ) → SomePart a (λ g s. CanDo g s a.vertex (Take e) seen) → MayTake a e seen
 may_take a e seen (g, s, stands, can) = record {
   among = among_ins g s a stands e can.0;
-  few = (let h = ap (λ (h : HeadState). h.taken) (stands.ins e can.0) in let l = few_got g s a stands e can.0 in omega arith);
+  few = (let h = ap (λ (h : HeadState). h.taken) (stands.ins e can.0) in let l = few_got g s a stands e can.0 in
+      omega arith);
   into = books_in g s a stands e can.0;
-  room = λ some. (let fits = can.2 some in let c = stands.chips in let b = stands.books.got e can.0 in (omega arith, omega arith));
+  room = λ some. (let fits = can.2 some in let c = stands.chips in let b = stands.books.got e can.0 in
+      (omega arith, omega arith));
 }
 
 -- a message came out of a cell that wasn't empty
 pub message_seen : (seen : ℕ) (h : HeadState) (m : Message) → Some m ≡ message_taken seen h → seen ≢ 0
-message_seen seen h m is none = absurd (differ (is ∙ cond_yes seen 0 None (Some (record { edge = h.edge; place = h.taken; count = seen })) none))
+message_seen seen h m is none = absurd
+    (differ (is ∙ cond_yes seen 0 None (Some (record { edge = h.edge; place = h.taken; count = seen })) none))
   where
     differ : Some m ≡ None → ⊥
     differ q = cc
 
-pub take_made : (a : Actor) (e seen : ℕ) (is : InEnds) (b : Books) (m : Message) → ChangesIn a.ins is e (head_after_take seen) → Some m ≡ message_taken seen (in_on a.ins e) → Gets a.detect b e → IsSound b
+pub take_made : (a : Actor) (e seen : ℕ) (is : InEnds) (b : Books) (m : Message)
+    → ChangesIn a.ins is e (head_after_take seen) → Some m ≡ message_taken seen (in_on a.ins e) → Gets a.detect b e
+    → IsSound b
     → Makes a (record a { chips = a.chips + seen; ins = is; detect = b }) (Take e) seen (Got m)
 take_made a e seen is b m change message gets sound = λ g s stands can.
     let some = message_seen seen (in_on a.ins e) m message in
     let fits = can.2 some in
     let sent : Some m ≡ Some (message_of e (length (s.into e).got) seen)
-    = message ∙ cond_no seen 0 None (Some (record { edge = (in_on a.ins e).edge; place = (in_on a.ins e).taken; count = seen })) some ∙ (λ j. Some (record { edge = (stands.ins e can.0 j).edge; place = (stands.ins e can.0 j).taken; count = seen })) in
-    let is_message : m ≡ message_of e (length (s.into e).got) seen = cc in
-    (takes g s a stands e seen can.0 can.1 some fits.0 is change b gets sound, ap Got is_message ∙ sym (cond_no seen 0 Empty (Got (message_of e (length (s.into e).got) seen)) some), refl)
+    = message ∙ cond_no seen 0 None
+    (Some (record { edge = (in_on a.ins e).edge; place = (in_on a.ins e).taken; count = seen })) some
+    ∙ (λ j. Some (record { edge = (stands.ins e can.0 j).edge; place = (stands.ins e can.0 j).taken; count = seen }))
+    in
+    let is_message : m ≡ message_of e (length (s.into e).got) seen = cc in (
+      takes g s a stands e seen can.0 can.1 some fits.0 is change b gets sound,
+      ap Got is_message
+          ∙ sym (cond_no seen 0 Empty (Got (message_of e (length (s.into e).got) seen)) some),
+      refl,
+    )
 
-pub take_empty : (a : Actor) (e seen : ℕ) (is : InEnds) → ChangesIn a.ins is e (head_after_take seen) → None ≡ message_taken seen (in_on a.ins e) → Makes a (record a { ins = is }) (Take e) seen Empty
+pub take_empty : (a : Actor) (e seen : ℕ) (is : InEnds) → ChangesIn a.ins is e (head_after_take seen)
+    → None ≡ message_taken seen (in_on a.ins e) → Makes a (record a { ins = is }) (Take e) seen Empty
 take_empty a e seen is change message = λ g s stands can.
-    let none : seen ≡ 0 = dite (ℕ_discrete seen 0) (λ z. z) (λ n. absurd (differ (message ∙ cond_no seen 0 None (Some (record { edge = (in_on a.ins e).edge; place = (in_on a.ins e).taken; count = seen })) n))) in
-    (takes_none g s a stands e seen none is change, sym (cond_yes seen 0 Empty (Got (message_of e (length (s.into e).got) seen)) none), refl)
+    let none : seen ≡ 0 = dite (ℕ_discrete seen 0) (λ z. z)
+    (λ n. absurd (differ (message
+    ∙ cond_no seen 0 None (Some (record { edge = (in_on a.ins e).edge; place = (in_on a.ins e).taken; count = seen }))
+    n))) in (
+      takes_none g s a stands e seen none is change,
+      sym (cond_yes seen 0 Empty (Got (message_of e (length (s.into e).got) seen)) none),
+      refl,
+    )
   where
     differ : {m : Message} → None ≡ Some m → ⊥
     differ q = cc
@@ -83,56 +109,87 @@ may_settle a e seen (g, s, stands, can) =
     let x = stands.books.sent e can.0 in let y = stands.books.settled e can.0 in let fits = can.2 in
     record { out = books_out g s a stands e can.0; no_fewer = omega arith; sent = omega arith }
 
-pub settle_among : (a : Actor) (e seen : ℕ) → SomePart a (λ g s. CanDo g s a.vertex (Settle e) seen) → Contains a.outs.edges e
+pub settle_among : (a : Actor) (e seen : ℕ) → SomePart a (λ g s. CanDo g s a.vertex (Settle e) seen)
+    → Contains a.outs.edges e
 settle_among a e seen (g, s, stands, can) = among_outs g s a stands e can.0
 
-pub settle_made : (a : Actor) (e seen more : ℕ) (b : Books) → more ≡ seen - settled_of a.detect e → Settles a.detect b e more → IsSound b → Makes a (record a { detect = b }) (Settle e) seen (Done more)
-settle_made a e seen more b is change sound = λ g s stands can.
-    (settles g s a stands e seen can.0 can.1 b (subst (λ (n : ℕ). Settles a.detect b e n) is change) sound, ap Done (is ∙ ap (λ (n : ℕ). seen - n) (stands.books.settled e can.0)), refl)
+pub settle_made : (a : Actor) (e seen more : ℕ) (b : Books) → more ≡ seen - settled_of a.detect e
+    → Settles a.detect b e more → IsSound b → Makes a (record a { detect = b }) (Settle e) seen (Done more)
+settle_made a e seen more b is change sound = λ g s stands can. (
+  settles g s a stands e seen can.0 can.1 b (subst (λ (n : ℕ). Settles a.detect b e n) is change) sound,
+  ap Done (is
+      ∙ ap (λ (n : ℕ). seen - n) (stands.books.settled e can.0)),
+  refl,
+)
 
 -- ---- an acknowledgement
 
 -- an active vertex may acknowledge no more than a passive one
-no_more_when_active : (e : ℕ) (parent : Option ℕ) (here all waiting : ℕ) (p : Bool) → acknowledgeable e parent here all waiting p ≤ acknowledgeable e parent here all waiting true
+no_more_when_active : (e : ℕ) (parent : Option ℕ) (here all waiting : ℕ) (p : Bool)
+    → acknowledgeable e parent here all waiting p ≤ acknowledgeable e parent here all waiting true
 no_more_when_active e parent here all waiting true = omega arith
 no_more_when_active e None here all waiting false = omega arith
 no_more_when_active e (Some q) here all waiting false = grind (arith, nat_tests)
 
-pub acks_allowed : (b : Books) (e : ℕ) (p : Bool) (count : ℕ) → count ≡ detector.may_ack b e p → count ≤ detector.may_ack b e true
-acks_allowed b e p count is = let n = no_more_when_active e b.parent (books.owed b e) (books.all_owed b) (books.deficit b) p in omega arith
+pub acks_allowed : (b : Books) (e : ℕ) (p : Bool) (count : ℕ) → count ≡ detector.may_ack b e p
+    → count ≤ detector.may_ack b e true
+acks_allowed b e p count is = let n = no_more_when_active e b.parent (books.owed b e) (books.all_owed b)
+    (books.deficit b) p in omega arith
 
 pub ack_among : (a : Actor) (e seen : ℕ) → SomePart a (λ g s. CanDo g s a.vertex (Ack e) seen) → Contains a.ins.edges e
 ack_among a e seen (g, s, stands, can) = among_ins g s a stands e can.0
 
-pub ack_into : (a : Actor) (e seen : ℕ) → SomePart a (λ g s. CanDo g s a.vertex (Ack e) seen) → Contains (in_edges a.detect) e
+pub ack_into : (a : Actor) (e seen : ℕ) → SomePart a (λ g s. CanDo g s a.vertex (Ack e) seen)
+    → Contains (in_edges a.detect) e
 ack_into a e seen (g, s, stands, can) = books_in g s a stands e can.0
 
-pub ack_made : (a : Actor) (e seen count : ℕ) (b : Books) → count ≡ detector.may_ack a.detect e (is_passive_now a) → Acknowledges a.detect b e count → IsSound b → Makes a (record a { detect = b }) (Ack e) seen (Done count)
+pub ack_made : (a : Actor) (e seen count : ℕ) (b : Books) → count ≡ detector.may_ack a.detect e (is_passive_now a)
+    → Acknowledges a.detect b e count → IsSound b → Makes a (record a { detect = b }) (Ack e) seen (Done count)
 ack_made a e seen count b is change sound = λ g s stands can.
     let all = is ∙ may_ack_is g s a stands e can.0 in
-    let within : count ≤ books.owed a.detect e = (let w = within_owed e a.detect.parent (books.owed a.detect e) (books.all_owed a.detect) (books.deficit a.detect) (is_passive_now a) in omega arith) in
-    (acknowledges g s a stands e count can.0 can.1 all b change sound (parent_goes_with_all a.detect b e count stands.books.sound within change) seen, ap Done all, refl)
+    let within : count ≤ books.owed a.detect e =
+    (let w = within_owed e a.detect.parent (books.owed a.detect e) (books.all_owed a.detect) (books.deficit a.detect)
+    (is_passive_now a) in omega arith) in (
+      acknowledges g s a stands e count can.0 can.1 all b change sound
+          (parent_goes_with_all a.detect b e count stands.books.sound within change) seen,
+      ap Done all,
+      refl,
+    )
 
 -- ---- a halt
 
-pub halt_made : (a : Actor) (seen : ℕ) (halt : Option Cause) (n : ℕ) → WhateverPart a (λ g s. halt ≡ cause g a.vertex s) → n ≡ (if eqb a.refused 0 then 1 else 0) → Makes a (record a { halt = halt }) (Halt a.vertex) seen (Done n)
-halt_made a seen halt n is reply = λ g s stands can.
-    (halts g s a stands a.vertex seen refl can.1 halt (is g s stands), ap Done (reply ∙ ap (λ (r : ℕ). if eqb r 0 then 1 else 0) stands.refused), refl)
+pub halt_made : (a : Actor) (seen : ℕ) (halt : Option Cause) (n : ℕ) → WhateverPart a (λ g s. halt ≡ cause g a.vertex s)
+    → n ≡ (if eqb a.refused 0 then 1 else 0) → Makes a (record a { halt = halt }) (Halt a.vertex) seen (Done n)
+halt_made a seen halt n is reply = λ g s stands can. (
+  halts g s a stands a.vertex seen refl can.1 halt (is g s stands),
+  ap Done (reply
+      ∙ ap (λ (r : ℕ). if eqb r 0 then 1 else 0) stands.refused),
+  refl,
+)
 
 -- ---- a look at a cell
 
-pub clear_among : (a : Actor) (e seen : ℕ) → SomePart a (λ g s. CanDo g s a.vertex (Clear e) seen) → Contains a.outs.edges e
+pub clear_among : (a : Actor) (e seen : ℕ) → SomePart a (λ g s. CanDo g s a.vertex (Clear e) seen)
+    → Contains a.outs.edges e
 clear_among a e seen (g, s, stands, can) = among_outs g s a stands e can.0
 
 abbrev pub clear_reply : Option (ℕ × ℕ) → Reply
 clear_reply None = Full
 clear_reply (Some words) = Done words.0
 
-pub clear_made : (a : Actor) (e seen : ℕ) (os : OutEnds) (words : Option (ℕ × ℕ)) → words ≡ claim_words (tail_after_clear seen (out_on a.outs e).link) → ChangesOut a.outs os e (out_after_clear seen) → Makes a (record a { outs = os }) (Clear e) seen (clear_reply words)
+pub clear_made : (a : Actor) (e seen : ℕ) (os : OutEnds) (words : Option (ℕ × ℕ))
+    → words ≡ claim_words (tail_after_clear seen (out_on a.outs e).link) → ChangesOut a.outs os e (out_after_clear seen)
+    → Makes a (record a { outs = os }) (Clear e) seen (clear_reply words)
 clear_made a e seen os words is change = λ g s stands can.
     let link : Tail = (s.out e).link in
-    let looked = is ∙ (λ j. claim_words (tail_after_clear seen (stands.outs e can.0 j).link)) ∙ ap claim_words (Rattle.chip_link.proofs.States.tail_clears e g.ring link seen (may_look g s a stands e can.0 can.1)) in
-    (clears g s a stands e seen can.0 can.1 os change, ap clear_reply looked ∙ by_cell (eqb seen 0) (claims_of link), refl)
+    let looked = is ∙ (λ j. claim_words (tail_after_clear seen (stands.outs e can.0 j).link))
+    ∙ ap claim_words (Rattle.chip_link.proofs.States.tail_clears e g.ring link seen
+    (may_look g s a stands e can.0 can.1)) in (
+      clears g s a stands e seen can.0 can.1 os change,
+      ap clear_reply looked
+          ∙ by_cell (eqb seen 0) (claims_of link),
+      refl,
+    )
   where
     by_cell : (b : Bool) (n : ℕ) → clear_reply (cond b (Some (n, n + 1)) None) ≡ cond b (Done n) Full
     by_cell true n = refl
@@ -145,7 +202,8 @@ few_terms : (n : ℕ) (t : ℕ → Bool) (f : ℕ → ℕ) → ((e : ℕ) → f 
 few_terms zero t f ones = omega arith
 few_terms (suc n) t f ones =
     let before = few_terms n t f ones in let here = ones n in
-    by_test (t n) (λ y. let a = cond_true (t n) (f n) 0 y in omega arith) (λ z. let a = cond_false (t n) (f n) 0 z in omega arith)
+    by_test (t n) (λ y. let a = cond_true (t n) (f n) 0 y in omega arith) (λ z. let a = cond_false (t n) (f n) 0 z in
+    omega arith)
 
 at_most_one : (o : Option ℕ) → length (option_to_list o) ≤ 1
 at_most_one None = omega arith
@@ -177,13 +235,18 @@ may_claim a e seen (g, s, stands, can) =
     let fired = few_fired g s a stands in
     let here = stands.outs e at in
     let pending-is : (out_on a.outs e).pending ≡ (s.out e).pending = ap (λ (o : OutEnd). o.pending) here in
-    let claims-is : (out_on a.outs e).link.claims ≡ claims_of (s.out e).link = ap (λ (o : OutEnd). o.link.claims) here in
-    let of-all = tested_term (all_edges g) (λ i. eqb (tail_of g i) a.vertex) (λ i. (s.out i).pending) e (omega arith) (eq-eqb _ _ at) in
+    let claims-is : (out_on a.outs e).link.claims ≡ claims_of (s.out e).link = ap (λ (o : OutEnd). o.link.claims) here
+    in
+    let of-all = tested_term (all_edges g) (λ i. eqb (tail_of g i) a.vertex) (λ i. (s.out i).pending) e (omega arith)
+    (eq-eqb _ _ at) in
     let all-is = stands.pending in
-    let few-unput = few_terms (all_edges g) (λ i. eqb (tail_of g i) a.vertex) (λ i. length (option_to_list (s.out i).link.held)) (λ i. at_most_one (s.out i).link.held) in
-    let few-refused = few_terms (all_edges g) (λ i. eqb (tail_of g i) a.vertex) (λ i. cond (s.out i).link.refused 1 0) (λ i. one_or_none (s.out i).link.refused) in
+    let few-unput = few_terms (all_edges g) (λ i. eqb (tail_of g i) a.vertex)
+    (λ i. length (option_to_list (s.out i).link.held)) (λ i. at_most_one (s.out i).link.held) in
+    let few-refused = few_terms (all_edges g) (λ i. eqb (tail_of g i) a.vertex) (λ i. cond (s.out i).link.refused 1 0)
+    (λ i. one_or_none (s.out i).link.refused) in
     let unput-is = stands.unput in let refused-is = stands.refused in
-    let edges = stands.knows.setting.game.graph_fits.few_edges in let vertices = stands.knows.setting.game.graph_fits.few_vertices in
+    let edges = stands.knows.setting.game.graph_fits.few_edges in
+    let vertices = stands.knows.setting.game.graph_fits.few_vertices in
     let made = out.all_made in
     let sent = stands.books.sent e at in
     let graph-edge = Rattle.chip_actor.proofs.PartLemmas.made_graph g e s.fired met.0 in
@@ -200,15 +263,22 @@ may_claim a e seen (g, s, stands, can) =
       room = omega arith;
     }
 
-pub claim_made : (a : Actor) (e seen : ℕ) (os : OutEnds) (b : Books) (m : Message) → ChangesOut a.outs os e (out_after_claim seen) → Some m ≡ message_claimed seen (out_on a.outs e).pending (out_on a.outs e).link → Sends a.detect b e → IsSound b
-    → Makes a (record a { outs = os; detect = b; pending = a.pending - m.count; unput = a.unput + 1 }) (Claim e) seen (Sent m)
+pub claim_made : (a : Actor) (e seen : ℕ) (os : OutEnds) (b : Books) (m : Message)
+    → ChangesOut a.outs os e (out_after_claim seen)
+    → Some m ≡ message_claimed seen (out_on a.outs e).pending (out_on a.outs e).link → Sends a.detect b e → IsSound b
+    → Makes a (record a { outs = os; detect = b; pending = a.pending - m.count; unput = a.unput + 1 }) (Claim e) seen
+    (Sent m)
 claim_made a e seen os b m change message sends sound = λ g s stands can.
     let n : ℕ = claims_of (s.out e).link in
     let sent = message ∙ (λ j. message_claimed seen (stands.outs e can.0 j).pending (stands.outs e can.0 j).link) in
-    let hit : seen ≡ n = dite (ℕ_discrete seen n) (λ z. z) (λ z. absurd (differ (sent ∙ cond_no seen n (Some (message_of e n (s.out e).pending)) None z))) in
-    let same : Some m ≡ Some (message_of e n (s.out e).pending) = sent ∙ cond_yes seen n (Some (message_of e n (s.out e).pending)) None hit in
+    let hit : seen ≡ n = dite (ℕ_discrete seen n) (λ z. z)
+    (λ z. absurd (differ (sent ∙ cond_no seen n (Some (message_of e n (s.out e).pending)) None z))) in
+    let same : Some m ≡ Some (message_of e n (s.out e).pending) = sent
+    ∙ cond_yes seen n (Some (message_of e n (s.out e).pending)) None hit in
     let is_message : m ≡ message_of e n (s.out e).pending = cc in (
-      subst (λ (k : ℕ). StandsFor g (does g (record { event = Claim e; seen = seen }) s) (record a { outs = os; detect = b; pending = a.pending - k; unput = a.unput + 1 })) (sym (ap (λ (x : Message). x.count) is_message))
+      subst (λ (k : ℕ). StandsFor g (does g (record { event = Claim e; seen = seen }) s)
+          (record a { outs = os; detect = b; pending = a.pending - k; unput = a.unput + 1 }))
+          (sym (ap (λ (x : Message). x.count) is_message))
           (claims g s a stands e seen can.0 can.1 hit os change b sends sound),
       ap Sent is_message ∙ sym (cond_yes seen n (Sent (message_of e n (s.out e).pending)) Sealed hit),
       refl,
@@ -217,12 +287,17 @@ claim_made a e seen os b m change message sends sound = λ g s stands can.
     differ : Some m ≡ None → ⊥
     differ q = cc
 
-pub claim_sealed : (a : Actor) (e seen : ℕ) (os : OutEnds) → ChangesOut a.outs os e (out_after_claim seen) → None ≡ message_claimed seen (out_on a.outs e).pending (out_on a.outs e).link → Makes a (record a { outs = os; refused = a.refused + 1 }) (Claim e) seen Sealed
+pub claim_sealed : (a : Actor) (e seen : ℕ) (os : OutEnds) → ChangesOut a.outs os e (out_after_claim seen)
+    → None ≡ message_claimed seen (out_on a.outs e).pending (out_on a.outs e).link
+    → Makes a (record a { outs = os; refused = a.refused + 1 }) (Claim e) seen Sealed
 claim_sealed a e seen os change message = λ g s stands can.
     let n : ℕ = claims_of (s.out e).link in
     let sent = message ∙ (λ j. message_claimed seen (stands.outs e can.0 j).pending (stands.outs e can.0 j).link) in
-    let miss : seen ≢ n = (λ z. differ (sent ∙ cond_yes seen n (Some (message_of e n (s.out e).pending)) None z)) in
-    (is_refused g s a stands e seen can.0 can.1 miss os change, sym (cond_no seen n (Sent (message_of e n (s.out e).pending)) Sealed miss), refl)
+    let miss : seen ≢ n = (λ z. differ (sent ∙ cond_yes seen n (Some (message_of e n (s.out e).pending)) None z)) in (
+      is_refused g s a stands e seen can.0 can.1 miss os change,
+      sym (cond_no seen n (Sent (message_of e n (s.out e).pending)) Sealed miss),
+      refl,
+    )
   where
     differ : {m : Message} → None ≡ Some m → ⊥
     differ q = cc
@@ -236,19 +311,26 @@ pub record MayPut (a : Actor) (e : ℕ) : Type 0 where
 pub may_put : (a : Actor) (e seen : ℕ) → SomePart a (λ g s. CanDo g s a.vertex (Put e) seen) → MayPut a e
 may_put a e seen (g, s, stands, can) =
     let met = rules_met g (Put e) s can.1 in
-    let one : length (option_to_list (s.out e).link.held) ≡ 1 = ap (λ (h : Option ℕ). length (option_to_list h)) met.1.1 in
-    let of-all = tested_term (all_edges g) (λ i. eqb (tail_of g i) a.vertex) (λ i. length (option_to_list (s.out i).link.held)) e (let z = met.0 in omega arith) (eq-eqb _ _ can.0) in
+    let one : length (option_to_list (s.out e).link.held) ≡ 1 = ap (λ (h : Option ℕ). length (option_to_list h)) met.1.1
+    in
+    let of-all = tested_term (all_edges g) (λ i. eqb (tail_of g i) a.vertex)
+    (λ i. length (option_to_list (s.out i).link.held)) e (let z = met.0 in omega arith) (eq-eqb _ _ can.0) in
     let all-is = stands.unput in
     record { among = among_outs g s a stands e can.0; some_unput = omega arith }
 
-pub put_made : (a : Actor) (e seen : ℕ) (os : OutEnds) (held : ℕ × ℕ) → put_of (out_on a.outs e).link ≡ Some held → ChangesOut a.outs os e out_after_put → Makes a (record a { outs = os; unput = a.unput - 1 }) (Put e) seen (Done held.1)
+pub put_made : (a : Actor) (e seen : ℕ) (os : OutEnds) (held : ℕ × ℕ) → put_of (out_on a.outs e).link ≡ Some held
+    → ChangesOut a.outs os e out_after_put
+    → Makes a (record a { outs = os; unput = a.unput - 1 }) (Put e) seen (Done held.1)
 put_made a e seen os held is change = λ g s stands can.
     let met = rules_met g (Put e) s can.1 in
     let count : ℕ = met.1.0 in
     let cell : ℕ = (claims_of (s.out e).link - 1) % g.ring in
-    let was : Some held ≡ Some (cell, count) = sym is ∙ ap (λ (o : OutEnd). put_of o.link) (stands.outs e can.0) ∙ (λ j. Rattle.std.proofs.Common.option_map (λ (c : ℕ). (cell, c)) (met.1.1 j)) in
+    let was : Some held ≡ Some (cell, count) = sym is ∙ ap (λ (o : OutEnd). put_of o.link) (stands.outs e can.0)
+    ∙ (λ j. Rattle.std.proofs.Common.option_map (λ (c : ℕ). (cell, c)) (met.1.1 j)) in
     let same : held ≡ (cell, count) = cc in
-    let total : count ≡ sum (option_to_list (s.out e).link.held) = (let t : sum (option_to_list (s.out e).link.held) ≡ count + 0 = ap (λ (h : Option ℕ). sum (option_to_list h)) met.1.1 ∙ sum_one count in omega arith) in
+    let total : count ≡ sum (option_to_list (s.out e).link.held) =
+    (let t : sum (option_to_list (s.out e).link.held)
+    ≡ count + 0 = ap (λ (h : Option ℕ). sum (option_to_list h)) met.1.1 ∙ sum_one count in omega arith) in
     (puts g s a stands e seen can.0 can.1 os change, ap (λ (h : ℕ × ℕ). Done h.1) same ∙ ap Done total, refl)
   where
     sum_one : (n : ℕ) → sum (n ∷ []) ≡ n + 0
@@ -256,7 +338,8 @@ put_made a e seen os held is change = λ g s stands can.
 
 -- ---- a firing
 
-pub fire_fits : (a : Actor) (k seen : ℕ) → SomePart a (λ g s. CanDo g s a.vertex (Fire a.vertex k) seen) → (e : ℕ) → Contains a.outs.edges e → k * (out_on a.outs e).mult < 2 ^ 64
+pub fire_fits : (a : Actor) (k seen : ℕ) → SomePart a (λ g s. CanDo g s a.vertex (Fire a.vertex k) seen) → (e : ℕ)
+    → Contains a.outs.edges e → k * (out_on a.outs e).mult < 2 ^ 64
 fire_fits a k seen (g, s, stands, can) e among =
     let met = rules_met g (Fire a.vertex k) s can.1 in
     let at = Rattle.chip_actor.proofs.Standing.is_out g s a stands e among in
@@ -270,17 +353,27 @@ fire_fits a k seen (g, s, stands, can) e among =
     let most = Rattle.std.proofs.Math.Nat.mul-le-mul_left k less in
     omega arith
 
-pub fire_made : (a : Actor) (k seen : ℕ) (os : OutEnds) → ChangesOuts a.outs os (out_after_fire k) → Makes a (record a { chips = a.chips - k * a.degree; fired = a.fired + k; outs = os; pending = k * a.degree }) (Fire a.vertex k) seen (Done (a.fired + k))
-fire_made a k seen os change = λ g s stands can. (fires g s a stands a.vertex k seen refl can.1 os change, ap (λ (n : ℕ). Done (n + k)) stands.fired, refl)
+pub fire_made : (a : Actor) (k seen : ℕ) (os : OutEnds) → ChangesOuts a.outs os (out_after_fire k)
+    → Makes a (record a { chips = a.chips - k * a.degree; fired = a.fired + k; outs = os; pending = k * a.degree })
+    (Fire a.vertex k) seen (Done (a.fired + k))
+fire_made a k seen os change = λ g s stands can. (
+  fires g s a stands a.vertex k seen refl can.1 os change,
+  ap
+      (λ (n : ℕ). Done (n + k)) stands.fired,
+  refl,
+)
 
 -- the message that a claim sent carries what was pending
 pub message_count : (word n : ℕ) (t : TailState) (m : Message) → Some m ≡ message_claimed word n t → m.count ≡ n
 message_count word n t m is = by_test (eqb word t.claims)
-    (λ y. counts (is ∙ cond_true (eqb word t.claims) (Some (record { edge = t.edge; place = t.claims; count = n })) None y))
-    (λ z. absurd (differ (is ∙ cond_false (eqb word t.claims) (Some (record { edge = t.edge; place = t.claims; count = n })) None z)))
+    (λ y. counts (is ∙ cond_true (eqb word t.claims) (Some (record { edge = t.edge; place = t.claims; count = n })) None
+    y))
+    (λ z. absurd (differ (is ∙ cond_false (eqb word t.claims)
+    (Some (record { edge = t.edge; place = t.claims; count = n })) None z)))
   where
     counts : Some m ≡ Some (record { edge = t.edge; place = t.claims; count = n }) → m.count ≡ n
-    counts q = let same : m ≡ record { edge = t.edge; place = t.claims; count = n } = cc in ap (λ (x : Message). x.count) same
+    counts q = let same : m ≡ record { edge = t.edge; place = t.claims; count = n } = cc in
+        ap (λ (x : Message). x.count) same
 
     differ : Some m ≡ None → ⊥
     differ q = cc

@@ -1,5 +1,6 @@
 -- The numbers that pass a test, as a list: they ascend, and each of them is there.
-use Rattle.std.proofs.Common.{◌≡◌, ℕ, zero, suc, ◌+◌, ◌<◌, ◌≤◌, Bool, true, cond, List, [], ◌∷◌, ◌++◌, length, get_or, sym, ap, ◌∙◌, subst, arith, length-append, append-nil}
+use Rattle.std.proofs.Common.{◌≡◌, ℕ, zero, suc, ◌+◌, ◌<◌, ◌≤◌, Bool, true, cond, List, [], ◌∷◌, ◌++◌, length, get_or}
+use Rattle.std.proofs.Common.{sym, ap, ◌∙◌, subst, arith, length-append, append-nil}
 use mathlib.Core.Logic.{dite}
 use native.Mathlib.Decide.{ℕ_discrete, dec_lt}
 use Rattle.std.specs.List.{All, Contains}
@@ -16,7 +17,8 @@ use Rattle.chip_graph.proofs.PickLemmas.{All-picked}
 use Rattle.chip_graph.proofs.SumLemmas.{by_test, cond_true}
 
 -- a number above all others may stand at the end
-pub rises_push : (xs : List ℕ) (y : ℕ) → IsStrictlyIncreasing xs → All (λ x. x < y) xs → IsStrictlyIncreasing (xs ++ y ∷ [])
+pub rises_push : (xs : List ℕ) (y : ℕ) → IsStrictlyIncreasing xs → All (λ x. x < y) xs
+    → IsStrictlyIncreasing (xs ++ y ∷ [])
 rises_push xs y rising below k l =
     let long = length-append xs (y ∷ []) in
     let here = get_or_append_left xs (y ∷ []) 0 k (omega arith) in
@@ -24,22 +26,26 @@ rises_push xs y rising below k l =
     (λ inside. let next = get_or_append_left xs (y ∷ []) 0 (k + 1) inside in let up = rising k inside in omega arith)
     (λ last.
     let end : k + 1 ≡ length xs = omega arith in
-    let next : get_or (xs ++ y ∷ []) (k + 1) 0 ≡ y = ap (λ (j : ℕ). get_or (xs ++ y ∷ []) j 0) end ∙ get_or-append_seam xs y [] 0 in
+    let next : get_or (xs ++ y ∷ []) (k + 1) 0 ≡ y = ap (λ (j : ℕ). get_or (xs ++ y ∷ []) j 0) end
+    ∙ get_or-append_seam xs y [] 0 in
     let up = below k 0 (omega arith) in
     omega arith)
 
 pub picked_rises : (test : ℕ → Bool) (n : ℕ) → IsStrictlyIncreasing (picked test n)
 picked_rises test zero = λ k l. absurd (omega arith)
 picked_rises test (suc n) = by_test (test n)
-    (λ is. subst (λ (t : Bool). IsStrictlyIncreasing (picked test n ++ cond t (n ∷ []) [])) (sym is) (rises_push (picked test n) n (picked_rises test n) (All-picked test n n (omega arith))))
-    (λ is. subst (λ (t : Bool). IsStrictlyIncreasing (picked test n ++ cond t (n ∷ []) [])) (sym is) (subst IsStrictlyIncreasing (sym (append-nil (picked test n))) (picked_rises test n)))
+    (λ is. subst (λ (t : Bool). IsStrictlyIncreasing (picked test n ++ cond t (n ∷ []) [])) (sym is)
+    (rises_push (picked test n) n (picked_rises test n) (All-picked test n n (omega arith))))
+    (λ is. subst (λ (t : Bool). IsStrictlyIncreasing (picked test n ++ cond t (n ∷ []) [])) (sym is)
+    (subst IsStrictlyIncreasing (sym (append-nil (picked test n))) (picked_rises test n)))
 
 -- a number that passes is there
 pub picked_has : (test : ℕ → Bool) (n e : ℕ) → e < n → test e ≡ true → Contains (picked test n) e
 picked_has test zero e l on = absurd (omega arith)
 picked_has test (suc n) e l on = dite (ℕ_discrete e n)
     (λ same. Contains-append_right (picked test n) (cond (test n) (n ∷ []) []) e
-    (subst (λ (xs : List ℕ). Contains xs e) (sym (cond_true (test n) (n ∷ []) [] (subst (λ (k : ℕ). test k ≡ true) same on))) (0, omega arith, sym same)))
+    (subst (λ (xs : List ℕ). Contains xs e)
+    (sym (cond_true (test n) (n ∷ []) [] (subst (λ (k : ℕ). test k ≡ true) same on))) (0, omega arith, sym same)))
     (λ other. Contains-append_left (picked test n) (cond (test n) (n ∷ []) []) e (picked_has test n e (omega arith) on))
 
 -- the edges out of a vertex and into it
@@ -53,23 +59,33 @@ outs_below G v = All-picked (λ e. eqb (edge_at G e).tail v) (length G.edges) (l
 pub ins_rise : (G : Multigraph) (v : ℕ) → IsStrictlyIncreasing (edges_in G v ++ (length G.edges + v) ∷ [])
 ins_rise G v =
     rises_push (edges_in G v) (length G.edges + v) (picked_rises (λ e. eqb (edge_at G e).head v) (length G.edges))
-    (λ k d l. let below = All-picked (λ e. eqb (edge_at G e).head v) (length G.edges) (length G.edges) (omega arith) k d l in omega arith)
+    (λ k d l. let below = All-picked (λ e. eqb (edge_at G e).head v) (length G.edges) (length G.edges)
+    (omega arith) k d l in omega arith)
 
 -- a list that was made from the numbers of edges, one end after another
-pub made_apart : {T : Type 0} (edges : List ℕ) (f : ℕ → T) (ts : List T) (i : ℕ) → IsStrictlyIncreasing edges → ts ≡ map f (take i edges) → length edges ≤ i → AreApart edges ts
-made_apart edges f ts i rising is all = record { ascending = rising; one_each = ap length is ∙ length-map (take i edges) f ∙ ap length (take_all i edges all) }
+pub made_apart : {T : Type 0} (edges : List ℕ) (f : ℕ → T) (ts : List T) (i : ℕ) → IsStrictlyIncreasing edges
+    → ts ≡ map f (take i edges) → length edges ≤ i → AreApart edges ts
+made_apart edges f ts i rising is all = record {
+  ascending = rising;
+  one_each = ap length is
+      ∙ length-map (take i edges) f ∙ ap length (take_all i edges all);
+}
 
 -- what is there passes
 pub picked_passes : (test : ℕ → Bool) (n : ℕ) → All (λ e. test e ≡ true) (picked test n)
 picked_passes test zero = All-nil (λ e. test e ≡ true)
 picked_passes test (suc n) = by_test (test n)
-    (λ is. subst (λ (t : Bool). All (λ e. test e ≡ true) (picked test n ++ cond t (n ∷ []) [])) (sym is) (All-push (λ e. test e ≡ true) (picked test n) n (picked_passes test n) is))
-    (λ is. subst (λ (t : Bool). All (λ e. test e ≡ true) (picked test n ++ cond t (n ∷ []) [])) (sym is) (subst (All (λ e. test e ≡ true)) (sym (append-nil (picked test n))) (picked_passes test n)))
+    (λ is. subst (λ (t : Bool). All (λ e. test e ≡ true) (picked test n ++ cond t (n ∷ []) [])) (sym is)
+    (All-push (λ e. test e ≡ true) (picked test n) n (picked_passes test n) is))
+    (λ is. subst (λ (t : Bool). All (λ e. test e ≡ true) (picked test n ++ cond t (n ∷ []) [])) (sym is)
+    (subst (All (λ e. test e ≡ true)) (sym (append-nil (picked test n))) (picked_passes test n)))
 
 pub length-picked : (test : ℕ → Bool) (n : ℕ) → length (picked test n) ≤ n
 length-picked test zero = omega arith
 length-picked test (suc n) =
     let before = length-picked test n in
     by_test (test n)
-    (λ is. let l = ap length (ap (λ (t : Bool). picked test n ++ cond t (n ∷ []) []) is) in let m = length-append (picked test n) (n ∷ []) in omega arith)
-    (λ is. let l = ap length (ap (λ (t : Bool). picked test n ++ cond t (n ∷ []) []) is) in let m = length-append (picked test n) [] in omega arith)
+    (λ is. let l = ap length (ap (λ (t : Bool). picked test n ++ cond t (n ∷ []) []) is) in
+    let m = length-append (picked test n) (n ∷ []) in omega arith)
+    (λ is. let l = ap length (ap (λ (t : Bool). picked test n ++ cond t (n ∷ []) []) is) in
+    let m = length-append (picked test n) [] in omega arith)

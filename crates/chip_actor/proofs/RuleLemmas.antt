@@ -1,9 +1,12 @@
 -- The rules of an event in plain facts: each holds where none is unmet, and the other way round.
-use Rattle.std.proofs.Common.{◌≡◌, ◌≢◌, ℕ, ◌+◌, ◌*◌, ◌<◌, ◌≤◌, Bool, true, false, not, ◌&&◌, eqb, Option, Some, None, is_some, is_none, refl, sym, ap, ◌∙◌, arith, eq-eqb, ne_eqb, eqb-true, ltb-true, leb-true, lt-ltb, le-leb, true≢false}
+use Rattle.std.proofs.Common.{◌≡◌, ◌≢◌, ℕ, ◌+◌, ◌*◌, ◌<◌, ◌≤◌, Bool, true, false, not, ◌&&◌, eqb, Option, Some, None}
+use Rattle.std.proofs.Common.{is_some, is_none, refl, sym, ap, ◌∙◌, arith, eq-eqb, ne_eqb, eqb-true, ltb-true, leb-true}
+use Rattle.std.proofs.Common.{lt-ltb, le-leb, true≢false}
 use Rattle.std.proofs.lemmas.Bool.{not-true, eqb-false, and_parts, and_from}
 use Rattle.chip_actor.specs.Setting.{Setting}
 use Rattle.chip_actor.specs.Part.{Part, Cause, is_running}
-use Rattle.chip_actor.specs.Rules.{Event, Take, Ack, Fire, Clear, Claim, Put, Halt, Settle, Seal, Read, Rule, need, unmet}
+use Rattle.chip_actor.specs.Rules.{Event, Take, Ack, Fire, Clear, Claim, Put, Halt, Settle, Seal, Read, Rule, need}
+use Rattle.chip_actor.specs.Rules.{unmet}
 use Rattle.chip_actor.specs.Kept.{Met}
 
 -- the first of some rules, and the rest
@@ -37,16 +40,29 @@ is_some_of o c h = ap is_some h
 
 pub rules_met : (g : Setting) (x : Event) (s : Part) → unmet g x s ≡ None → Met g x s
 rules_met g (Take e) s h = ltb-true _ _ (met _ _ _ h).0
-rules_met g (Ack e) s h = let a = met _ _ _ h in let b = met _ _ _ a.1 in let c = met _ _ _ b.1 in (ltb-true _ _ a.0, positive _ b.0, positive _ c.0)
+rules_met g (Ack e) s h = let a = met _ _ _ h in let b = met _ _ _ a.1 in let c = met _ _ _ b.1 in
+    (ltb-true _ _ a.0, positive _ b.0, positive _ c.0)
 rules_met g (Fire v k) s h =
-    let a = met _ _ _ h in let b = met _ _ _ a.1 in let c = met _ _ _ b.1 in let d = met _ _ _ c.1 in let e = met _ _ _ d.1 in let f = met _ _ _ e.1 in let i = met _ _ _ f.1 in
-    let both = and_parts _ _ d.0 in
-    (ltb-true _ _ a.0, eqb-false _ _ (not-true _ b.0), running _ c.0, eqb-true _ _ both.0, eqb-true _ _ both.1, positive _ e.0, leb-true _ _ f.0, leb-true _ _ i.0)
-rules_met g (Clear e) s h = let a = met _ _ _ h in let b = met _ _ _ a.1 in let c = met _ _ _ b.1 in let d = met _ _ _ c.1 in (ltb-true _ _ a.0, running _ b.0, not-true _ c.0, positive _ d.0)
-rules_met g (Claim e) s h = let a = met _ _ _ h in let b = met _ _ _ a.1 in let c = met _ _ _ b.1 in (ltb-true _ _ a.0, running _ b.0, c.0)
+    let a = met _ _ _ h in let b = met _ _ _ a.1 in let c = met _ _ _ b.1 in let d = met _ _ _ c.1 in
+    let e = met _ _ _ d.1 in let f = met _ _ _ e.1 in let i = met _ _ _ f.1 in
+    let both = and_parts _ _ d.0 in (
+      ltb-true _ _ a.0,
+      eqb-false _ _ (not-true _ b.0),
+      running _ c.0,
+      eqb-true _ _ both.0,
+      eqb-true _ _ both.1,
+      positive _ e.0,
+      leb-true _ _ f.0,
+      leb-true _ _ i.0,
+    )
+rules_met g (Clear e) s h = let a = met _ _ _ h in let b = met _ _ _ a.1 in let c = met _ _ _ b.1 in
+    let d = met _ _ _ c.1 in (ltb-true _ _ a.0, running _ b.0, not-true _ c.0, positive _ d.0)
+rules_met g (Claim e) s h = let a = met _ _ _ h in let b = met _ _ _ a.1 in let c = met _ _ _ b.1 in
+    (ltb-true _ _ a.0, running _ b.0, c.0)
 rules_met g (Put e) s h = let a = met _ _ _ h in let b = met _ _ _ a.1 in (ltb-true _ _ a.0, some_of _ b.0)
 rules_met g (Halt v) s h =
-    let a = met _ _ _ h in let b = met _ _ _ a.1 in let c = met _ _ _ b.1 in let d = met _ _ _ c.1 in let e = met _ _ _ d.1 in
+    let a = met _ _ _ h in let b = met _ _ _ a.1 in let c = met _ _ _ b.1 in let d = met _ _ _ c.1 in
+    let e = met _ _ _ d.1 in
     (ltb-true _ _ a.0, eqb-false _ _ (not-true _ b.0), running _ c.0, eqb-true _ _ d.0, some_of _ e.0)
 rules_met g (Settle e) s h = ltb-true _ _ (met _ _ _ h).0
 rules_met g (Seal e) s h = ltb-true _ _ (met _ _ _ h).0
@@ -54,14 +70,20 @@ rules_met g (Read v) s h = let a = met _ _ _ h in let b = met _ _ _ a.1 in (ltb-
 
 pub met_rules : (g : Setting) (x : Event) (s : Part) → Met g x s → unmet g x s ≡ None
 met_rules g (Take e) s m = passed _ _ _ (lt-ltb _ _ m) refl
-met_rules g (Ack e) s m = passed _ _ _ (lt-ltb _ _ m.0) (passed _ _ _ (not_zero _ m.1) (passed _ _ _ (not_zero _ m.2) refl))
+met_rules g (Ack e) s m = passed _ _ _ (lt-ltb _ _ m.0)
+    (passed _ _ _ (not_zero _ m.1) (passed _ _ _ (not_zero _ m.2) refl))
 met_rules g (Fire v k) s m =
-    passed _ _ _ (lt-ltb _ _ m.0) (passed _ _ _ (differs _ _ m.1) (passed _ _ _ (ap is_running m.2) (passed _ _ _ (and_from _ _ (eq-eqb _ _ m.3) (eq-eqb _ _ m.4))
+    passed _ _ _ (lt-ltb _ _ m.0)
+    (passed _ _ _ (differs _ _ m.1)
+    (passed _ _ _ (ap is_running m.2) (passed _ _ _ (and_from _ _ (eq-eqb _ _ m.3) (eq-eqb _ _ m.4))
     (passed _ _ _ (not_zero _ m.5) (passed _ _ _ (le-leb _ _ m.6) (passed _ _ _ (le-leb _ _ m.7) refl))))))
-met_rules g (Clear e) s m = passed _ _ _ (lt-ltb _ _ m.0) (passed _ _ _ (ap is_running m.1) (passed _ _ _ (ap not m.2) (passed _ _ _ (not_zero _ m.3) refl)))
+met_rules g (Clear e) s m = passed _ _ _ (lt-ltb _ _ m.0)
+    (passed _ _ _ (ap is_running m.1) (passed _ _ _ (ap not m.2) (passed _ _ _ (not_zero _ m.3) refl)))
 met_rules g (Claim e) s m = passed _ _ _ (lt-ltb _ _ m.0) (passed _ _ _ (ap is_running m.1) (passed _ _ _ m.2 refl))
 met_rules g (Put e) s m = passed _ _ _ (lt-ltb _ _ m.0) (passed _ _ _ (is_some_of _ _ m.1.1) refl)
-met_rules g (Halt v) s m = passed _ _ _ (lt-ltb _ _ m.0) (passed _ _ _ (differs _ _ m.1) (passed _ _ _ (ap is_running m.2) (passed _ _ _ (eq-eqb _ _ m.3) (passed _ _ _ (is_some_of _ _ m.4.1) refl))))
+met_rules g (Halt v) s m = passed _ _ _ (lt-ltb _ _ m.0)
+    (passed _ _ _ (differs _ _ m.1)
+    (passed _ _ _ (ap is_running m.2) (passed _ _ _ (eq-eqb _ _ m.3) (passed _ _ _ (is_some_of _ _ m.4.1) refl))))
 met_rules g (Settle e) s m = passed _ _ _ (lt-ltb _ _ m) refl
 met_rules g (Seal e) s m = passed _ _ _ (lt-ltb _ _ m) refl
 met_rules g (Read v) s m = passed _ _ _ (lt-ltb _ _ m.0) (passed _ _ _ (eq-eqb _ _ m.1) refl)

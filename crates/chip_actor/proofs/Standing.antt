@@ -1,5 +1,7 @@
 -- What an actor that stands for a part knows of it.
-use Rattle.std.proofs.Common.{◌≡◌, ◌≢◌, ℕ, ◌+◌, ◌-◌, ◌*◌, ◌<◌, ◌≤◌, ◌^◌, Bool, true, false, not, ◌&&◌, ◌||◌, cond, eqb, leb, List, [], ◌∷◌, ◌++◌, length, Option, Some, None, is_some, is_none, option_to_list, refl, sym, ap, ◌∙◌, subst, arith, eq-eqb}
+use Rattle.std.proofs.Common.{◌≡◌, ◌≢◌, ℕ, ◌+◌, ◌-◌, ◌*◌, ◌<◌, ◌≤◌, ◌^◌, Bool, true, false, not, ◌&&◌, ◌||◌, cond, eqb}
+use Rattle.std.proofs.Common.{leb, List, [], ◌∷◌, ◌++◌, length, Option, Some, None, is_some, is_none, option_to_list}
+use Rattle.std.proofs.Common.{refl, sym, ap, ◌∙◌, subst, arith, eq-eqb}
 use mathlib.Core.Logic.{dite}
 use native.Mathlib.Decide.{dec_lt}
 use Rattle.std.specs.List.{Contains, sum_by}
@@ -28,15 +30,19 @@ not_running None = refl
 not_running (Some c) = refl
 
 -- the edges out of a vertex, and into it with its root edge, are all that have it as their tail or head
-pub among_new_outs : (g : Setting) (v : ℕ) → v < g.graph.vertices → (e : ℕ) → tail_of g e ≡ v → Contains (edges_out g.graph v) e
+pub among_new_outs : (g : Setting) (v : ℕ) → v < g.graph.vertices → (e : ℕ) → tail_of g e ≡ v
+    → Contains (edges_out g.graph v) e
 among_new_outs g v vertex e at =
     let l = tail_inside g e (subst (λ (n : ℕ). n < g.graph.vertices) (sym at) vertex) in
     picked_has (λ i. eqb (edge_at g.graph i).tail v) (graph_edges g) e l (eq-eqb _ _ (sym (tail_graph g e l) ∙ at))
 
-pub among_new_ins : (g : Setting) (v : ℕ) → v < g.graph.vertices → (e : ℕ) → head_of g e ≡ v → Contains (edges_in g.graph v ++ root_edge g v ∷ []) e
+pub among_new_ins : (g : Setting) (v : ℕ) → v < g.graph.vertices → (e : ℕ) → head_of g e ≡ v
+    → Contains (edges_in g.graph v ++ root_edge g v ∷ []) e
 among_new_ins g v vertex e at = dite (dec_lt e (graph_edges g))
-    (λ l. Contains-append_left (edges_in g.graph v) (root_edge g v ∷ []) e (picked_has (λ i. eqb (edge_at g.graph i).head v) (graph_edges g) e l (eq-eqb _ _ (sym (head_graph g e l) ∙ at))))
-    (λ n. Contains-append_right (edges_in g.graph v) (root_edge g v ∷ []) e (0, omega arith, (let h = head_root g e (omega arith) in let z : graph_edges g + v ≡ e = omega arith in z)))
+    (λ l. Contains-append_left (edges_in g.graph v) (root_edge g v ∷ []) e
+    (picked_has (λ i. eqb (edge_at g.graph i).head v) (graph_edges g) e l (eq-eqb _ _ (sym (head_graph g e l) ∙ at))))
+    (λ n. Contains-append_right (edges_in g.graph v) (root_edge g v ∷ []) e
+    (0, omega arith, (let h = head_root g e (omega arith) in let z : graph_edges g + v ≡ e = omega arith in z)))
 
 module _ (g : Setting) (s : Part) (a : Actor) (stands : StandsFor g s a) where
   -- ---- its edges
@@ -54,7 +60,8 @@ module _ (g : Setting) (s : Part) (a : Actor) (stands : StandsFor g s a) where
   books_out e at = subst (λ (xs : List ℕ). Contains xs e) (sym stands.knows.detect_outs) (has_out e at)
 
   pub in_inside : (e : ℕ) → head_of g e ≡ a.vertex → e < all_edges g
-  in_inside e at = dite (dec_lt e (graph_edges g)) (λ l. omega arith) (λ n. let h = head_root g e (omega arith) in let v = stands.knows.vertex in omega arith)
+  in_inside e at = dite (dec_lt e (graph_edges g)) (λ l. omega arith) (λ n. let h = head_root g e (omega arith) in
+      let v = stands.knows.vertex in omega arith)
 
   has_in : (e : ℕ) → head_of g e ≡ a.vertex → Contains (edges_in g.graph a.vertex ++ root_edge g a.vertex ∷ []) e
   has_in = among_new_ins g a.vertex stands.knows.vertex
@@ -77,7 +84,9 @@ module _ (g : Setting) (s : Part) (a : Actor) (stands : StandsFor g s a) where
   deficit_is =
       ap (sum_by (books.outstanding a.detect)) stands.knows.detect_outs
       ∙ picked_sum (books.outstanding a.detect) (λ e. eqb (edge_at g.graph e).tail a.vertex) (graph_edges g)
-      ∙ tested_ext (graph_edges g) (λ e. eqb (edge_at g.graph e).tail a.vertex) (books.outstanding a.detect) (λ e. outstanding (s.out e)) (λ e l on. outstanding_is e (tail_graph g e l ∙ Rattle.std.proofs.Common.eqb-true _ _ on))
+      ∙ tested_ext (graph_edges g) (λ e. eqb (edge_at g.graph e).tail a.vertex) (books.outstanding a.detect)
+      (λ e. outstanding (s.out e))
+      (λ e l on. outstanding_is e (tail_graph g e l ∙ Rattle.std.proofs.Common.eqb-true _ _ on))
       ∙ sym (over_outs_graph g a.vertex stands.knows.vertex (λ e. outstanding (s.out e)))
 
   pub all_owed_is : books.all_owed a.detect ≡ all_owed g a.vertex s
@@ -86,9 +95,12 @@ module _ (g : Setting) (s : Part) (a : Actor) (stands : StandsFor g s a) where
       let split = sum_by-append (books.owed a.detect) (edges_in g.graph a.vertex) (root_edge g a.vertex ∷ []) in
       let all = ap (sum_by (books.owed a.detect)) stands.knows.detect_ins in
       let own = picked_sum (books.owed a.detect) (λ e. eqb (edge_at g.graph e).head a.vertex) (graph_edges g) in
-      let same : sum_by (books.owed a.detect) (edges_in g.graph a.vertex) ≡ sum_in g.graph a.vertex (λ e. owed (s.into e))
-      = own ∙ tested_ext (graph_edges g) (λ e. eqb (edge_at g.graph e).head a.vertex) (books.owed a.detect) (λ e. owed (s.into e)) (λ e l on. owed_is e (head_graph g e l ∙ Rattle.std.proofs.Common.eqb-true _ _ on)) in
-      let last = owed_is (root_edge g a.vertex) (let h = head_root g (root_edge g a.vertex) (omega arith) in omega arith) in
+      let same : sum_by (books.owed a.detect) (edges_in g.graph a.vertex)
+      ≡ sum_in g.graph a.vertex (λ e. owed (s.into e))
+      = own ∙ tested_ext (graph_edges g) (λ e. eqb (edge_at g.graph e).head a.vertex) (books.owed a.detect)
+      (λ e. owed (s.into e)) (λ e l on. owed_is e (head_graph g e l ∙ Rattle.std.proofs.Common.eqb-true _ _ on)) in
+      let last = owed_is (root_edge g a.vertex) (let h = head_root g (root_edge g a.vertex) (omega arith) in
+      omega arith) in
       let sum = over_ins_graph g a.vertex v (λ e. owed (s.into e)) in
       omega arith
 
@@ -96,11 +108,14 @@ module _ (g : Setting) (s : Part) (a : Actor) (stands : StandsFor g s a) where
   legal_is = λ j. not (stands.knows.is_sink j) && leb (stands.knows.degree j) (stands.chips j)
 
   pub passive_is : is_passive_now a ≡ is_passive g a.vertex s
-  passive_is = λ j. eqb (stands.unput j) 0 && ((ap is_some stands.halt ∙ not_running s.halt) j || (eqb (stands.pending j) 0 && not (legal_is j)))
+  passive_is = λ j. eqb (stands.unput j) 0
+      && ((ap is_some stands.halt ∙ not_running s.halt) j || (eqb (stands.pending j) 0 && not (legal_is j)))
 
-  pub may_ack_is : (e : ℕ) → head_of g e ≡ a.vertex → detector.may_ack a.detect e (is_passive_now a) ≡ may_ack g (head_of g e) s e
+  pub may_ack_is : (e : ℕ) → head_of g e ≡ a.vertex
+      → detector.may_ack a.detect e (is_passive_now a) ≡ may_ack g (head_of g e) s e
   may_ack_is e at =
-      (λ j. acknowledgeable e (stands.books.parent j) (owed_is e at j) (all_owed_is j) (deficit_is j) (passive_is j)) ∙ ap (λ (v : ℕ). may_ack g v s e) (sym at)
+      (λ j. acknowledgeable e (stands.books.parent j) (owed_is e at j) (all_owed_is j) (deficit_is j) (passive_is j))
+      ∙ ap (λ (v : ℕ). may_ack g v s e) (sym at)
 
   -- ---- limits
 
@@ -115,6 +130,8 @@ module _ (g : Setting) (s : Part) (a : Actor) (stands : StandsFor g s a) where
   is_out e among =
       let there = subst (λ (xs : List ℕ). Contains xs e) stands.knows.outs among in
       let test : ℕ → Bool = λ i. eqb (edge_at g.graph i).tail a.vertex in
-      let passes = All-contains (λ i. test i ≡ true) (edges_out g.graph a.vertex) e (picked_passes test (graph_edges g)) there in
-      let below = All-contains (λ i. i < graph_edges g) (edges_out g.graph a.vertex) e (All-picked test (graph_edges g) (graph_edges g) (omega arith)) there in
+      let passes = All-contains (λ i. test i ≡ true) (edges_out g.graph a.vertex) e
+      (picked_passes test (graph_edges g)) there in
+      let below = All-contains (λ i. i < graph_edges g) (edges_out g.graph a.vertex) e
+      (All-picked test (graph_edges g) (graph_edges g) (omega arith)) there in
       tail_graph g e below ∙ Rattle.std.proofs.Common.eqb-true _ _ passes

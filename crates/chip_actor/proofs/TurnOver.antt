@@ -1,5 +1,7 @@
 -- Each phase of a turn over a medium: which operation is due, and where the turn passes on without one.
-use Rattle.std.proofs.Common.{◌≡◌, ◌≢◌, ℕ, ◌+◌, ◌-◌, ◌%◌, ◌<◌, ◌≤◌, Bool, true, false, not, ◌&&◌, eqb, List, [], length, sum, slice_index, Option, Some, None, is_some, is_none, option_map, option_to_list, refl, sym, ap, ◌∙◌, subst, arith, eq-eqb, ne_eqb, eqb-true}
+use Rattle.std.proofs.Common.{◌≡◌, ◌≢◌, ℕ, ◌+◌, ◌-◌, ◌%◌, ◌<◌, ◌≤◌, Bool, true, false, not, ◌&&◌, eqb, List, [], length}
+use Rattle.std.proofs.Common.{sum, slice_index, Option, Some, None, is_some, is_none, option_map, option_to_list, refl}
+use Rattle.std.proofs.Common.{sym, ap, ◌∙◌, subst, arith, eq-eqb, ne_eqb, eqb-true}
 use Rattle.std.proofs.lemmas.Bool.{and_parts}
 use Rattle.std.proofs.lemmas.List.Sums.{sum_by-cons}
 use Rattle.chip_graph.proofs.SumLemmas.{cond_true}
@@ -19,7 +21,10 @@ use Rattle.chip_actor.specs.Actor.{Actor, StandsFor, WhateverPart, is_passive_no
 use Rattle.chip_actor.specs.Medium.{Holding, Moves}
 use Rattle.chip_actor.proofs.Standing.{may_ack_is}
 use Rattle.chip_actor.proofs.PartLemmas.{may_le}
-use Rattle.chip_actor.proofs.TurnSteps.{take_due, takes_over, settle_due, settles_over, in_enters, out_leaves, fire_due, no_fire_due, puts_over, puts_fit, refusal_none, sends_begin, send_due, sends_to, sends_over, claim_due, claim_over, store_due, stop_due, no_limit_due, ack_due, acks_to, acks_over, no_parent}
+use Rattle.chip_actor.proofs.TurnSteps.{take_due, takes_over, settle_due, settles_over, in_enters, out_leaves, fire_due}
+use Rattle.chip_actor.proofs.TurnSteps.{no_fire_due, puts_over, puts_fit, refusal_none, sends_begin, send_due, sends_to}
+use Rattle.chip_actor.proofs.TurnSteps.{sends_over, claim_due, claim_over, store_due, stop_due, no_limit_due, ack_due}
+use Rattle.chip_actor.proofs.TurnSteps.{acks_to, acks_over, no_parent}
 use Rattle.chip_actor.proofs.TurnActor.{pending_is, held_at_place, clear_at_place, none_held}
 use Rattle.chip_actor.proofs.MediumLemmas.{DueBy, moves_past, moves_on, turn_ends}
 
@@ -45,36 +50,63 @@ module _ (g : Setting) (s : Part) (a : Actor) (stands : StandsFor g s a) (index 
 
 -- ---- takes
 
-pub take_by : (a : Actor) (index edge cell : ℕ) → index < length a.ins.edges → slice_index a.ins.edges index ≡ edge → cell ≡ head_cell (in_on a.ins edge) → DueBy a (At.Take index) (Do.Take edge cell) (Take edge) (At.Take (index + 1))
+pub take_by : (a : Actor) (index edge cell : ℕ) → index < length a.ins.edges → slice_index a.ins.edges index ≡ edge
+    → cell ≡ head_cell (in_on a.ins edge)
+    → DueBy a (At.Take index) (Do.Take edge cell) (Take edge) (At.Take (index + 1))
 take_by a index edge cell within is at-cell = λ g s stands at.
     let v : ℕ = a.vertex in (
-      subst (λ (e : ℕ). GoesBy g v s (At.Take index) (Take e) (At.Take (index + 1))) (in_there g s a stands index edge is) (take_due g v stands.knows.vertex s index (in_within g s a stands index edge within)),
+      subst (λ (e : ℕ). GoesBy g v s (At.Take index) (Take e) (At.Take (index + 1)))
+          (in_there g s a stands index edge is)
+          (take_due g v stands.knows.vertex s index (in_within g s a stands index edge within)),
       ap (Do.Take edge) (at-cell ∙ ap head_cell (stands.ins edge (in_mine g s a stands index edge within is))),
     )
 
-pub takes_end : (H : Holding) (a : Actor) (index : ℕ) → length a.ins.edges ≤ index → Moves H a (At.Take index) H a (At.Settle 0) 0
-takes_end H a index over = moves_past H a (At.Take index) (At.Settle 0) (λ g s stands at.
-    (tt, takes_over g a.vertex stands.knows.vertex s index (subst (λ (xs : List ℕ). length xs ≤ index) stands.knows.ins over)))
+pub takes_end : (H : Holding) (a : Actor) (index : ℕ) → length a.ins.edges ≤ index
+    → Moves H a (At.Take index) H a (At.Settle 0) 0
+takes_end H a index over = moves_past H a (At.Take index) (At.Settle 0) (λ g s stands at. (
+  tt,
+  takes_over g a.vertex stands.knows.vertex s index
+      (subst (λ (xs : List ℕ). length xs ≤ index) stands.knows.ins over),
+))
 
 -- ---- settles
 
-pub settle_by : (a : Actor) (index edge : ℕ) → index < length a.outs.edges → slice_index a.outs.edges index ≡ edge → DueBy a (At.Settle index) (Do.Settle edge) (Settle edge) (At.Settle (index + 1))
+pub settle_by : (a : Actor) (index edge : ℕ) → index < length a.outs.edges → slice_index a.outs.edges index ≡ edge
+    → DueBy a (At.Settle index) (Do.Settle edge) (Settle edge) (At.Settle (index + 1))
 settle_by a index edge within is = λ g s stands at.
-    let v : ℕ = a.vertex in
-    (subst (λ (e : ℕ). GoesBy g v s (At.Settle index) (Settle e) (At.Settle (index + 1))) (out_there g s a stands index edge is) (settle_due g v stands.knows.vertex s index (out_within g s a stands index edge within)), refl)
+    let v : ℕ = a.vertex in (
+      subst (λ (e : ℕ). GoesBy g v s (At.Settle index) (Settle e) (At.Settle (index + 1)))
+          (out_there g s a stands index edge is)
+          (settle_due g v stands.knows.vertex s index (out_within g s a stands index edge within)),
+      refl,
+    )
 
-pub settles_end : (H : Holding) (a : Actor) (index : ℕ) → length a.outs.edges ≤ index → Moves H a (At.Settle index) H a At.Fire 0
-settles_end H a index over = moves_past H a (At.Settle index) At.Fire (λ g s stands at.
-    (tt, settles_over g a.vertex stands.knows.vertex s index (subst (λ (xs : List ℕ). length xs ≤ index) stands.knows.outs over)))
+pub settles_end : (H : Holding) (a : Actor) (index : ℕ) → length a.outs.edges ≤ index
+    → Moves H a (At.Settle index) H a At.Fire 0
+settles_end H a index over = moves_past H a (At.Settle index) At.Fire (λ g s stands at. (
+  tt,
+  settles_over g a.vertex stands.knows.vertex s index
+      (subst (λ (xs : List ℕ). length xs ≤ index) stands.knows.outs over),
+))
 
 -- ---- the firing
 
-pub fire_by : (a : Actor) (k : ℕ) → WhateverPart a (λ g s. true ≡ may_fire g a.vertex s) → WhateverPart a (λ g s. k ≡ batch_of g a.vertex s) → DueBy a At.Fire (Do.Fire k) (Fire a.vertex k) (At.Put 0)
-fire_by a k may batch = λ g s stands at.
-    (subst (λ (n : ℕ). GoesBy g a.vertex s At.Fire (Fire a.vertex n) (At.Put 0)) (sym (batch g s stands)) (fire_due g a.vertex stands.knows.vertex s stands.knows.setting.game (sym (may g s stands))), refl)
+pub fire_by : (a : Actor) (k : ℕ) → WhateverPart a (λ g s. true ≡ may_fire g a.vertex s)
+    → WhateverPart a (λ g s. k ≡ batch_of g a.vertex s) → DueBy a At.Fire (Do.Fire k) (Fire a.vertex k) (At.Put 0)
+fire_by a k may batch = λ g s stands at. (
+  subst (λ (n : ℕ). GoesBy g a.vertex s At.Fire (Fire a.vertex n) (At.Put 0)) (sym (batch g s stands))
+      (fire_due g a.vertex stands.knows.vertex s stands.knows.setting.game (sym (may g s stands))),
+  refl,
+)
 
-pub no_fire : (H : Holding) (a : Actor) → WhateverPart a (λ g s. false ≡ may_fire g a.vertex s) → Moves H a At.Fire H a (At.Put 0) 0
-no_fire H a may = moves_past H a At.Fire (At.Put 0) (λ g s stands at. ((λ k l. absurd (omega arith)), no_fire_due g a.vertex stands.knows.vertex s (sym (may g s stands))))
+pub no_fire : (H : Holding) (a : Actor) → WhateverPart a (λ g s. false ≡ may_fire g a.vertex s)
+    → Moves H a At.Fire H a (At.Put 0) 0
+no_fire H a may = moves_past H a At.Fire (At.Put 0)
+    (λ g s stands at. (
+      (λ k l. absurd (omega arith)),
+      no_fire_due g a.vertex stands.knows.vertex s
+          (sym (may g s stands)),
+    ))
 
 -- ---- sends
 
@@ -83,70 +115,90 @@ runs None on = refl
 runs (Some c) on = absurd (cc)
 
 -- nothing is left from before the turn, and the edges are gone through
-pub nothing_before : (H : Holding) (a : Actor) → (is_none a.halt && eqb a.unput 0 && eqb a.refused 0) ≡ true → Moves H a (At.Put 0) H a (At.Send 0) 0
+pub nothing_before : (H : Holding) (a : Actor) → (is_none a.halt && eqb a.unput 0 && eqb a.refused 0) ≡ true
+    → Moves H a (At.Put 0) H a (At.Send 0) 0
 nothing_before H a may =
     let p = and_parts _ _ may in
     let q = and_parts _ _ p.0 in
     let none-held : a.unput ≡ 0 = eqb-true _ _ q.1 in
     let none-refused : a.refused ≡ 0 = eqb-true _ _ p.1 in
     moves_on H H H a a a (At.Put 0) At.Refusal (At.Send 0) 0 0
-    (moves_past H a (At.Put 0) At.Refusal (λ g s stands at. let none = none_held g s a stands none-held in
-    (puts_fit g a.vertex stands.knows.vertex s 0 at (λ k le within. none k within), puts_over g a.vertex stands.knows.vertex s 0 (λ k le within. none k within))))
+    (moves_past H a (At.Put 0) At.Refusal (λ g s stands at. let none = none_held g s a stands none-held in (
+      puts_fit g a.vertex stands.knows.vertex s 0 at (λ k le within. none k within),
+      puts_over g a.vertex stands.knows.vertex s 0 (λ k le within. none k within),
+    )))
     (moves_past H a At.Refusal (At.Send 0) (λ g s stands at.
     let running = runs s.halt (sym (ap is_none stands.halt) ∙ q.0) in
-    let none : refusals g a.vertex s ≡ 0 = sym stands.refused ∙ none-refused in
-    (sends_begin g a.vertex stands.knows.vertex s at running none, refusal_none g a.vertex stands.knows.vertex s running none)))
+    let none : refusals g a.vertex s ≡ 0 = sym stands.refused ∙ none-refused in (
+      sends_begin g a.vertex stands.knows.vertex s at running none,
+      refusal_none g a.vertex stands.knows.vertex s running none,
+    )))
 
-module _ (a : Actor) (index edge : ℕ) (within : index < length a.outs.edges) (is : slice_index a.outs.edges index ≡ edge) where
-  pub clear_by : (cell : ℕ) → (out_on a.outs edge).pending ≢ 0 → cell ≡ tail_cell (out_on a.outs edge).link → DueBy a (At.Send index) (Do.Clear edge cell) (Clear edge) (At.Claim index)
+module _ (a : Actor) (index edge : ℕ) (within : index < length a.outs.edges) (is : slice_index a.outs.edges index
+    ≡ edge) where
+  pub clear_by : (cell : ℕ) → (out_on a.outs edge).pending ≢ 0 → cell ≡ tail_cell (out_on a.outs edge).link
+      → DueBy a (At.Send index) (Do.Clear edge cell) (Clear edge) (At.Claim index)
   clear_by cell pends at-cell = λ g s stands at.
       let v : ℕ = a.vertex in
       let there = out_there g s a stands index edge is in
       let mine = out_mine g s a stands index edge within is in
       let some : not (eqb (s.out (out_at g v index)).pending 0) ≡ true
-      = ap not (ne_eqb _ _ (λ z. pends (pending_is g s a stands edge mine ∙ ap (λ (e : ℕ). (s.out e).pending) (sym there) ∙ z))) in (
+      = ap not (ne_eqb _ _ (λ z. pends (pending_is g s a stands edge mine
+      ∙ ap (λ (e : ℕ). (s.out e).pending) (sym there) ∙ z))) in (
         subst (λ (e : ℕ). GoesBy g v s (At.Send index) (Clear e) (At.Claim index)) there
-            (send_due g v stands.knows.vertex s index index at (omega arith) (out_within g s a stands index edge within) some (λ k le lt. absurd (omega arith))),
+            (send_due g v stands.knows.vertex s index index at (omega arith)
+            (out_within g s a stands index edge within) some (λ k le lt. absurd (omega arith))),
         ap (Do.Clear edge) (at-cell ∙ ap (λ (o : OutEnd). tail_cell o.link) (stands.outs edge mine)),
       )
 
-  pub send_none : (H : Holding) → (out_on a.outs edge).pending ≡ 0 → Moves H a (At.Send index) H a (At.Send (index + 1)) 0
+  pub send_none : (H : Holding) → (out_on a.outs edge).pending ≡ 0
+      → Moves H a (At.Send index) H a (At.Send (index + 1)) 0
   send_none H none = moves_past H a (At.Send index) (At.Send (index + 1)) (λ g s stands at.
       let v : ℕ = a.vertex in
       let there = out_there g s a stands index edge is in
       let mine = out_mine g s a stands index edge within is in
       let inside = out_within g s a stands index edge within in
       let zero : not (eqb (s.out (out_at g v index)).pending 0) ≡ false
-      = ap not (eq-eqb _ _ (ap (λ (e : ℕ). (s.out e).pending) there ∙ sym (pending_is g s a stands edge mine) ∙ none)) in (
+      = ap not (eq-eqb _ _ (ap (λ (e : ℕ). (s.out e).pending) there ∙ sym (pending_is g s a stands edge mine) ∙ none))
+      in (
         at,
         sends_to g v stands.knows.vertex s index (index + 1) (omega arith) (omega arith)
-            (λ k le lt. subst (λ (i : ℕ). not (eqb (s.out (out_at g v i)).pending 0) ≡ false) (let z : index ≡ k = omega arith in z) zero),
+            (λ k le lt. subst (λ (i : ℕ). not (eqb (s.out (out_at g v i)).pending 0) ≡ false)
+            (let z : index ≡ k = omega arith in z) zero),
       ))
 
   -- what the actor tells of the edge, by its index
   at_index : (P : OutEnd → Bool) → P (out_on a.outs edge) ≡ P (out_on a.outs (slice_index a.outs.edges index))
   at_index P = ap (λ (e : ℕ). P (out_on a.outs e)) (sym is)
 
-  pub claim_by : (w : ℕ × ℕ) → Some w ≡ claim_words (out_on a.outs edge).link → DueBy a (At.Claim index) (Do.Claim edge w.0 w.1) (Claim edge) (At.Store index)
+  pub claim_by : (w : ℕ × ℕ) → Some w ≡ claim_words (out_on a.outs edge).link
+      → DueBy a (At.Claim index) (Do.Claim edge w.0 w.1) (Claim edge) (At.Store index)
   claim_by w words = λ g s stands at.
       let v : ℕ = a.vertex in
       let there = out_there g s a stands index edge is in
       let mine = out_mine g s a stands index edge within is in
-      let clear = sym (clear_at_place g s a stands a refl index at.0) ∙ sym (at_index (λ (o : OutEnd). is_some (claim_words o.link))) ∙ sym (ap is_some words) in
+      let clear = sym (clear_at_place g s a stands a refl index at.0)
+      ∙ sym (at_index (λ (o : OutEnd). is_some (claim_words o.link))) ∙ sym (ap is_some words) in
       let n : ℕ = claims_of (s.out edge).link in
       let same : Some w ≡ Some (n, n + 1)
-      = words ∙ ap (λ (o : OutEnd). claim_words o.link) (stands.outs edge mine) ∙ cond_true (s.out edge).link.clear (Some (n, n + 1)) None (ap (λ (e : ℕ). (s.out e).link.clear) (sym there) ∙ clear) in
+      = words ∙ ap (λ (o : OutEnd). claim_words o.link) (stands.outs edge mine)
+      ∙ cond_true (s.out edge).link.clear (Some (n, n + 1)) None (ap (λ (e : ℕ). (s.out e).link.clear) (sym there)
+      ∙ clear) in
       let one : w ≡ (n, n + 1) = cc in (
-        subst (λ (e : ℕ). GoesBy g v s (At.Claim index) (Claim e) (At.Store index)) there (claim_due g v stands.knows.vertex s index at clear),
+        subst (λ (e : ℕ). GoesBy g v s (At.Claim index) (Claim e) (At.Store index)) there
+            (claim_due g v stands.knows.vertex s index at clear),
         (λ j. Do.Claim edge (one j).0 (one j).1),
       )
 
-  pub claim_none : (H : Holding) → None ≡ claim_words (out_on a.outs edge).link → Moves H a (At.Claim index) H a (At.Send (index + 1)) 0
+  pub claim_none : (H : Holding) → None ≡ claim_words (out_on a.outs edge).link
+      → Moves H a (At.Claim index) H a (At.Send (index + 1)) 0
   claim_none H words = moves_past H a (At.Claim index) (At.Send (index + 1)) (λ g s stands at.
-      let full = sym (clear_at_place g s a stands a refl index at.0) ∙ sym (at_index (λ (o : OutEnd). is_some (claim_words o.link))) ∙ sym (ap is_some words) in
+      let full = sym (clear_at_place g s a stands a refl index at.0)
+      ∙ sym (at_index (λ (o : OutEnd). is_some (claim_words o.link))) ∙ sym (ap is_some words) in
       (at.1, claim_over g a.vertex stands.knows.vertex s index at full))
 
-  stored_act : (n : ℕ) (h : Option ℕ) (w : ℕ × ℕ) → Some w ≡ option_map (λ (c : ℕ). (n, c)) h → Do.Put edge w.0 w.1 ≡ Do.Put edge n (sum (option_to_list h))
+  stored_act : (n : ℕ) (h : Option ℕ) (w : ℕ × ℕ) → Some w ≡ option_map (λ (c : ℕ). (n, c)) h
+      → Do.Put edge w.0 w.1 ≡ Do.Put edge n (sum (option_to_list h))
   stored_act n None w none = absurd (differ none)
     where
       differ : {w : ℕ × ℕ} → Some w ≡ None → ⊥
@@ -157,44 +209,59 @@ module _ (a : Actor) (index edge : ℕ) (within : index < length a.outs.edges) (
       let value : w.1 ≡ sum (option_to_list (Some c)) = omega (arith, second, sum_by-cons (λ (x : ℕ). x) c []) in
       (λ j. Do.Put edge (one j).0 (value j))
 
-  pub store_by : (w : ℕ × ℕ) → Some w ≡ put_of (out_on a.outs edge).link → DueBy a (At.Store index) (Do.Put edge w.0 w.1) (Put edge) (At.Send (index + 1))
+  pub store_by : (w : ℕ × ℕ) → Some w ≡ put_of (out_on a.outs edge).link
+      → DueBy a (At.Store index) (Do.Put edge w.0 w.1) (Put edge) (At.Send (index + 1))
   store_by w stored = λ g s stands at.
       let v : ℕ = a.vertex in
       let there = out_there g s a stands index edge is in
       let mine = out_mine g s a stands index edge within is in
-      let held = sym (held_at_place g s a stands a refl index at.0) ∙ sym (at_index (λ (o : OutEnd). is_some (put_of o.link))) ∙ sym (ap is_some stored) in (
-        subst (λ (e : ℕ). GoesBy g v s (At.Store index) (Put e) (At.Send (index + 1))) there (store_due g v stands.knows.vertex s index at held),
-        stored_act ((claims_of (s.out edge).link - 1) % g.ring) (s.out edge).link.held w (stored ∙ ap (λ (o : OutEnd). put_of o.link) (stands.outs edge mine)),
+      let held = sym (held_at_place g s a stands a refl index at.0)
+      ∙ sym (at_index (λ (o : OutEnd). is_some (put_of o.link))) ∙ sym (ap is_some stored) in (
+        subst (λ (e : ℕ). GoesBy g v s (At.Store index) (Put e) (At.Send (index + 1))) there
+            (store_due g v stands.knows.vertex s index at held),
+        stored_act ((claims_of (s.out edge).link - 1) % g.ring) (s.out edge).link.held w (stored
+            ∙ ap (λ (o : OutEnd). put_of o.link) (stands.outs edge mine)),
       )
 
-  pub stop_by : (by_limit : Bool) → None ≡ put_of (out_on a.outs edge).link → WhateverPart a (λ g s. by_limit ≡ is_by_limit (cause g a.vertex s)) → DueBy a (At.Store index) (Do.Halt by_limit) (Halt a.vertex) At.Limit
+  pub stop_by : (by_limit : Bool) → None ≡ put_of (out_on a.outs edge).link
+      → WhateverPart a (λ g s. by_limit ≡ is_by_limit (cause g a.vertex s))
+      → DueBy a (At.Store index) (Do.Halt by_limit) (Halt a.vertex) At.Limit
   stop_by by_limit stored why = λ g s stands at.
-      let none = sym (held_at_place g s a stands a refl index at.0) ∙ sym (at_index (λ (o : OutEnd). is_some (put_of o.link))) ∙ sym (ap is_some stored) in
+      let none = sym (held_at_place g s a stands a refl index at.0)
+      ∙ sym (at_index (λ (o : OutEnd). is_some (put_of o.link))) ∙ sym (ap is_some stored) in
       (stop_due g a.vertex stands.knows.vertex s stands.knows.setting.game index at none, ap Do.Halt (why g s stands))
 
-pub sends_end : (H : Holding) (a : Actor) (index : ℕ) → length a.outs.edges ≤ index → Moves H a (At.Send index) H a At.Limit 0
+pub sends_end : (H : Holding) (a : Actor) (index : ℕ) → length a.outs.edges ≤ index
+    → Moves H a (At.Send index) H a At.Limit 0
 sends_end H a index over = moves_past H a (At.Send index) At.Limit (λ g s stands at.
     let past = subst (λ (xs : List ℕ). length xs ≤ index) stands.knows.outs over in
     (at.held, sends_over g a.vertex stands.knows.vertex s index (λ k le within. absurd (omega arith))))
 
-pub no_limit : (H : Holding) (a : Actor) → WhateverPart a (λ g s. false ≡ is_at_limit g a.vertex s) → Moves H a At.Limit H a (At.Ack 0) 0
-no_limit H a off = moves_past H a At.Limit (At.Ack 0) (λ g s stands at. (tt, no_limit_due g a.vertex stands.knows.vertex s (sym (off g s stands))))
+pub no_limit : (H : Holding) (a : Actor) → WhateverPart a (λ g s. false ≡ is_at_limit g a.vertex s)
+    → Moves H a At.Limit H a (At.Ack 0) 0
+no_limit H a off = moves_past H a At.Limit (At.Ack 0)
+    (λ g s stands at. (tt, no_limit_due g a.vertex stands.knows.vertex s (sym (off g s stands))))
 
 -- ---- acknowledgements
 
-module _ (a : Actor) (index edge count : ℕ) (within : index < length a.ins.edges) (is : slice_index a.ins.edges index ≡ edge) (count-is : count ≡ detector.may_ack a.detect edge (is_passive_now a)) where
+module _ (a : Actor) (index edge count : ℕ) (within : index < length a.ins.edges) (is : slice_index a.ins.edges index
+    ≡ edge) (count-is : count ≡ detector.may_ack a.detect edge (is_passive_now a)) where
   -- the count is the part's
   part_count : (g : Setting) (s : Part) (stands : StandsFor g s a) → count ≡ may_ack g (head_of g edge) s edge
   part_count g s stands = count-is ∙ may_ack_is g s a stands edge (in_mine g s a stands index edge within is)
 
-  here_count : (g : Setting) (s : Part) (stands : StandsFor g s a) → count ≡ may_ack g (head_of g (slice_index (ins_of g a.vertex) index)) s (slice_index (ins_of g a.vertex) index)
-  here_count g s stands = part_count g s stands ∙ ap (λ (e : ℕ). may_ack g (head_of g e) s e) (sym (in_there g s a stands index edge is))
+  here_count : (g : Setting) (s : Part) (stands : StandsFor g s a)
+      → count ≡ may_ack g (head_of g (slice_index (ins_of g a.vertex) index)) s (slice_index (ins_of g a.vertex) index)
+  here_count g s stands = part_count g s stands
+      ∙ ap (λ (e : ℕ). may_ack g (head_of g e) s e) (sym (in_there g s a stands index edge is))
 
   pub ack_by : count ≢ 0 → DueBy a (At.Ack index) (Do.Ack edge count) (Ack edge) (At.Ack (index + 1))
   ack_by some = λ g s stands at.
       let v : ℕ = a.vertex in (
-        subst (λ (e : ℕ). GoesBy g v s (At.Ack index) (Ack e) (At.Ack (index + 1))) (in_there g s a stands index edge is)
-            (ack_due g v stands.knows.vertex s index index (omega arith) (in_within g s a stands index edge within) (ap not (ne_eqb _ _ (λ z. some (here_count g s stands ∙ z)))) (λ k le lt. absurd (omega arith))),
+        subst (λ (e : ℕ). GoesBy g v s (At.Ack index) (Ack e) (At.Ack (index + 1)))
+            (in_there g s a stands index edge is)
+            (ack_due g v stands.knows.vertex s index index (omega arith) (in_within g s a stands index edge within)
+            (ap not (ne_eqb _ _ (λ z. some (here_count g s stands ∙ z)))) (λ k le lt. absurd (omega arith))),
         ap (Do.Ack edge) (part_count g s stands),
       )
 
@@ -202,13 +269,17 @@ module _ (a : Actor) (index edge count : ℕ) (within : index < length a.ins.edg
   ack_none H none = moves_past H a (At.Ack index) (At.Ack (index + 1)) (λ g s stands at.
       let v : ℕ = a.vertex in
       let inside = in_within g s a stands index edge within in
-      let zero : not (eqb (may_ack g (head_of g (slice_index (ins_of g v) index)) s (slice_index (ins_of g v) index)) 0) ≡ false = ap not (eq-eqb _ _ (sym (here_count g s stands) ∙ none)) in (
+      let zero : not (eqb (may_ack g (head_of g (slice_index (ins_of g v) index)) s (slice_index (ins_of g v) index)) 0)
+      ≡ false = ap not (eq-eqb _ _ (sym (here_count g s stands) ∙ none)) in (
         tt,
         acks_to g v stands.knows.vertex s index (index + 1) (omega arith) (omega arith)
-            (λ k le lt. subst (λ (i : ℕ). not (eqb (may_ack g (head_of g (slice_index (ins_of g v) i)) s (slice_index (ins_of g v) i)) 0) ≡ false) (let z : index ≡ k = omega arith in z) zero),
+            (λ k le lt. subst (λ (i : ℕ). not
+            (eqb (may_ack g (head_of g (slice_index (ins_of g v) i)) s (slice_index (ins_of g v) i)) 0) ≡ false)
+            (let z : index ≡ k = omega arith in z) zero),
       ))
 
-pub acks_end : (H : Holding) (a : Actor) (index : ℕ) → length a.ins.edges ≤ index → Moves H a (At.Ack index) H a At.Parent 0
+pub acks_end : (H : Holding) (a : Actor) (index : ℕ) → length a.ins.edges ≤ index
+    → Moves H a (At.Ack index) H a At.Parent 0
 acks_end H a index over = moves_past H a (At.Ack index) At.Parent (λ g s stands at.
     let past = subst (λ (xs : List ℕ). length xs ≤ index) stands.knows.ins over in
     (tt, acks_over g a.vertex stands.knows.vertex s index (λ k le within. absurd (omega arith))))
@@ -223,13 +294,21 @@ nothing_owed H a off =
     moves_on H H H a a a (At.Ack 0) At.Parent At.Over 0 0
     (moves_past H a (At.Ack 0) At.Parent (λ g s stands at.
     let v : ℕ = a.vertex in
-    let none : s.parent ≡ None = sym stands.books.parent ∙ neutral a.detect.parent off in
-    (tt, acks_over g v stands.knows.vertex s 0 (λ k le within. ap not (eq-eqb _ _ (owes_none g s a stands none (slice_index (ins_of g v) k) (in_enters g v k within)))))))
-    (turn_ends H a At.Parent (λ g s stands at. no_parent g a.vertex stands.knows.vertex s (sym stands.books.parent ∙ neutral a.detect.parent off)))
+    let none : s.parent ≡ None = sym stands.books.parent ∙ neutral a.detect.parent off in (
+      tt,
+      acks_over g v stands.knows.vertex s 0
+          (λ k le within. ap not (eq-eqb _ _
+          (owes_none g s a stands none (slice_index (ins_of g v) k) (in_enters g v k within)))),
+    )))
+    (turn_ends H a At.Parent (λ g s stands at. no_parent g a.vertex stands.knows.vertex s (sym stands.books.parent
+    ∙ neutral a.detect.parent off)))
   where
-    owes_none : (g : Setting) (s : Part) (a : Actor) (stands : StandsFor g s a) → s.parent ≡ None → (e : ℕ) → head_of g e ≡ a.vertex → may_ack g (head_of g e) s e ≡ 0
+    owes_none : (g : Setting) (s : Part) (a : Actor) (stands : StandsFor g s a) → s.parent ≡ None → (e : ℕ)
+        → head_of g e ≡ a.vertex → may_ack g (head_of g e) s e ≡ 0
     owes_none g s a stands none e mine =
         let idle = (stands.kept.neutral stands.knows.vertex none).nothing_owed in
-        let one = Rattle.chip_actor.proofs.PartLemmas.in_zero g a.vertex (λ i. Rattle.chip_actor.specs.Part.owed (s.into i)) idle e (Rattle.chip_actor.proofs.Standing.in_inside g s a stands e mine) mine in
+        let one = Rattle.chip_actor.proofs.PartLemmas.in_zero g a.vertex
+        (λ i. Rattle.chip_actor.specs.Part.owed (s.into i)) idle e
+        (Rattle.chip_actor.proofs.Standing.in_inside g s a stands e mine) mine in
         let most = may_le g (head_of g e) e s in
         omega arith

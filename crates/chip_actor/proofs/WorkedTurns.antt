@@ -23,7 +23,8 @@ first =
     let s11 : Part = does g (saw (Put 1) 0) s10 in
     let d5 : List Step = saw (Clear 1) 0 ∷ saw (Claim 1) 0 ∷ saw (Put 1) 0 ∷ [] in
     let d4 : List Step = saw (Clear 0) 0 ∷ saw (Claim 0) 0 ∷ saw (Put 0) 0 ∷ [] in
-    let sends : List Step = saw (Clear 0) 0 ∷ saw (Claim 0) 0 ∷ saw (Put 0) 0 ∷ saw (Clear 1) 0 ∷ saw (Claim 1) 0 ∷ saw (Put 1) 0 ∷ [] in (
+    let sends : List Step = saw (Clear 0) 0 ∷ saw (Claim 0) 0 ∷ saw (Put 0) 0 ∷ saw (Clear 1) 0 ∷ saw (Claim 1) 0
+    ∷ saw (Put 1) 0 ∷ [] in (
       (
         s11,
         (
@@ -31,13 +32,29 @@ first =
           s2,
           saw (Settle 0) 0 ∷ saw (Settle 1) 0 ∷ saw (Fire 0 2) 0 ∷ sends,
           refl,
-          (saw (Take 2) 0 ∷ [], s1, saw (Take 4) 4 ∷ [], refl, (0, [], refl, (refl, refl)), (saw (Take 4) 4 ∷ [], s2, [], refl, (4, [], refl, (refl, refl)), (refl, refl))),
+          (
+            saw (Take 2) 0 ∷ [],
+            s1,
+            saw (Take 4) 4
+                ∷ [],
+            refl,
+            (0, [], refl, (refl, refl)),
+            (saw (Take 4) 4 ∷ [], s2, [], refl, (4, [], refl, (refl, refl)), (refl, refl)),
+          ),
           (
             saw (Settle 0) 0 ∷ saw (Settle 1) 0 ∷ [],
             s4,
             saw (Fire 0 2) 0 ∷ sends,
             refl,
-            (saw (Settle 0) 0 ∷ [], s3, saw (Settle 1) 0 ∷ [], refl, (0, [], refl, (refl, refl)), (saw (Settle 1) 0 ∷ [], s4, [], refl, (0, [], refl, (refl, refl)), (refl, refl))),
+            (
+              saw (Settle 0) 0 ∷ [],
+              s3,
+              saw (Settle 1) 0
+                  ∷ [],
+              refl,
+              (0, [], refl, (refl, refl)),
+              (saw (Settle 1) 0 ∷ [], s4, [], refl, (0, [], refl, (refl, refl)), (refl, refl)),
+            ),
             (
               saw (Fire 0 2) 0 ∷ [],
               s5,
@@ -60,8 +77,27 @@ first =
                     s8,
                     d5,
                     refl,
-                    (0, saw (Claim 0) 0 ∷ saw (Put 0) 0 ∷ [], refl, (0, saw (Put 0) 0 ∷ [], refl, (0, [], refl, (refl, refl)))),
-                    (d5, s11, [], refl, (0, saw (Claim 1) 0 ∷ saw (Put 1) 0 ∷ [], refl, (0, saw (Put 1) 0 ∷ [], refl, (0, [], refl, (refl, refl)))), (refl, refl)),
+                    (
+                      0,
+                      saw (Claim 0) 0 ∷ saw (Put 0) 0
+                          ∷ [],
+                      refl,
+                      (0, saw (Put 0) 0 ∷ [], refl, (0, [], refl, (refl, refl))),
+                    ),
+                    (
+                      d5,
+                      s11,
+                      [],
+                      refl,
+                      (
+                        0,
+                        saw (Claim 1) 0 ∷ saw (Put 1) 0
+                            ∷ [],
+                        refl,
+                        (0, saw (Put 1) 0 ∷ [], refl, (0, [], refl, (refl, refl))),
+                      ),
+                      (refl, refl),
+                    ),
                   ),
                   (
                     [],
@@ -69,7 +105,21 @@ first =
                     [],
                     refl,
                     (refl, refl),
-                    ([], s11, [], refl, ([], s11, [], refl, (refl, refl), ([], s11, [], refl, (refl, refl), (refl, refl))), (refl, refl)),
+                    (
+                      [],
+                      s11,
+                      [],
+                      refl,
+                      (
+                        [],
+                        s11,
+                        [],
+                        refl,
+                        (refl, refl),
+                        ([], s11, [], refl, (refl, refl), (refl, refl)),
+                      ),
+                      (refl, refl),
+                    ),
                   ),
                 ),
               ),
@@ -97,13 +147,29 @@ second =
           s2,
           saw (Settle 0) 0 ∷ saw (Settle 1) 0 ∷ saw (Put 1) 0 ∷ [],
           refl,
-          (saw (Take 2) 0 ∷ [], s1, saw (Take 4) 0 ∷ [], refl, (0, [], refl, (refl, refl)), (saw (Take 4) 0 ∷ [], s2, [], refl, (0, [], refl, (refl, refl)), (refl, refl))),
+          (
+            saw (Take 2) 0 ∷ [],
+            s1,
+            saw (Take 4) 0
+                ∷ [],
+            refl,
+            (0, [], refl, (refl, refl)),
+            (saw (Take 4) 0 ∷ [], s2, [], refl, (0, [], refl, (refl, refl)), (refl, refl)),
+          ),
           (
             saw (Settle 0) 0 ∷ saw (Settle 1) 0 ∷ [],
             s4,
             saw (Put 1) 0 ∷ [],
             refl,
-            (saw (Settle 0) 0 ∷ [], s3, saw (Settle 1) 0 ∷ [], refl, (0, [], refl, (refl, refl)), (saw (Settle 1) 0 ∷ [], s4, [], refl, (0, [], refl, (refl, refl)), (refl, refl))),
+            (
+              saw (Settle 0) 0 ∷ [],
+              s3,
+              saw (Settle 1) 0
+                  ∷ [],
+              refl,
+              (0, [], refl, (refl, refl)),
+              (saw (Settle 1) 0 ∷ [], s4, [], refl, (0, [], refl, (refl, refl)), (refl, refl)),
+            ),
             (
               [],
               s4,
@@ -115,7 +181,14 @@ second =
                 s5,
                 [],
                 refl,
-                ([], s4, saw (Put 1) 0 ∷ [], refl, (refl, refl), (saw (Put 1) 0 ∷ [], s5, [], refl, (0, [], refl, (refl, refl)), (refl, refl))),
+                (
+                  [],
+                  s4,
+                  saw (Put 1) 0 ∷ [],
+                  refl,
+                  (refl, refl),
+                  (saw (Put 1) 0 ∷ [], s5, [], refl, (0, [], refl, (refl, refl)), (refl, refl)),
+                ),
                 (
                   [],
                   s5,
@@ -128,7 +201,14 @@ second =
                     [],
                     refl,
                     (refl, refl),
-                    ([], s5, [], refl, ([], s5, [], refl, (refl, refl), ([], s5, [], refl, (refl, refl), (refl, refl))), (refl, refl)),
+                    (
+                      [],
+                      s5,
+                      [],
+                      refl,
+                      ([], s5, [], refl, (refl, refl), ([], s5, [], refl, (refl, refl), (refl, refl))),
+                      (refl, refl),
+                    ),
                   ),
                 ),
               ),

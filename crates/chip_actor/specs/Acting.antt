@@ -1,5 +1,6 @@
 -- The operation that an event needs, the event that an operation makes, and which words an operation may have seen.
-use Rattle.std.specs.Prelude.{◌≡◌, ◌≢◌, ℕ, ◌+◌, ◌-◌, ◌%◌, ◌^◌, ◌<◌, ◌≤◌, length, sum, Option, Some, None, Result, Ok, Err, option_to_list}
+use Rattle.std.specs.Prelude.{◌≡◌, ◌≢◌, ℕ, ◌+◌, ◌-◌, ◌%◌, ◌^◌, ◌<◌, ◌≤◌, length, sum, Option, Some, None, Result, Ok}
+use Rattle.std.specs.Prelude.{Err, option_to_list}
 use Rattle.chip_actor.specs.declared.act.Act.{Act}
 use Rattle.chip_actor.specs.declared.act.Act.TheVariants as Do
 pub use Rattle.chip_actor.specs.declared.act.Observed.{Observed}
@@ -13,8 +14,8 @@ use Rattle.chip_actor.specs.Rules.{Rule, Event, Take, Ack, Fire, Clear, Claim, P
 use Rattle.chip_actor.specs.Steps.{Reply, part_of, does, reply_of}
 use Rattle.chip_actor.specs.Actor.{Actor, WhateverPart, StandsFor}
 
--- the operation that an event of a vertex needs, where its rules are met. A message with place p stands in cell p % ring, and the one
--- that is claimed and not put has the last place. A seal and a read are no operations of a vertex
+-- the operation that an event of a vertex needs, where its rules are met. A message with place p stands in cell p %
+-- ring, and the one that is claimed and not put has the last place. A seal and a read are no operations of a vertex
 abbrev pub act_of : Setting → Event → Part → Act
 act_of g (Take e) s = Do.Take e (length (s.into e).got % g.ring)
 act_of g (Ack e) s = Do.Ack e (may_ack g (head_of g e) s e)
@@ -44,8 +45,8 @@ abbrev pub verdict : Option Rule → Act → Result Act Rule
 verdict None act = Ok act
 verdict (Some rule) act = Err rule
 
--- what an operation may have seen: a message keeps the chips and the number of messages within the limits, the edge word is as the tail
--- left it but for a seal, and acknowledgements never outnumber messages
+-- what an operation may have seen: a message keeps the chips and the number of messages within the limits, the edge
+-- word is as the tail left it but for a seal, and acknowledgements never outnumber messages
 abbrev pub FitsSeen : Part → Event → ℕ → Type 0
 FitsSeen s (Take e) seen = seen ≢ 0 → (s.chips + seen ≤ 2 ^ 40) × (length (s.into e).got < message_limit)
 FitsSeen s (Claim e) seen = claims_in seen ≡ claims_of (s.out e).link
@@ -60,7 +61,10 @@ CanDo g s v x seen = (part_of g x ≡ v) × (unmet g x s ≡ None) × FitsSeen s
 abbrev pub IsDue : Setting → Part → ℕ → Observed → Type 0
 IsDue g s v o = CanDo g s v (event_of v o.act) o.seen × (o.act ≡ act_of g (event_of v o.act) s)
 
--- the actor made this event and answered this: whatever part it stood for, it stands for that part after the event, at the same vertex
+-- the actor made this event and answered this: whatever part it stood for, it stands for that part after the event, at
+-- the same vertex
 abbrev pub Makes : Actor → Actor → Event → ℕ → Reply → Type 0
 Makes old new x seen reply =
-    WhateverPart old (λ g s. CanDo g s old.vertex x seen → StandsFor g (does g (record { event = x; seen = seen }) s) new × (reply ≡ reply_of g x seen s) × (new.vertex ≡ old.vertex))
+    WhateverPart old (λ g s. CanDo g s old.vertex x seen
+    → StandsFor g (does g (record { event = x; seen = seen }) s) new × (reply ≡ reply_of g x seen s)
+    × (new.vertex ≡ old.vertex))

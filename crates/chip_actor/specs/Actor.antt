@@ -1,5 +1,6 @@
 -- A running actor, and when it stands for a part of the core.
-use Rattle.std.specs.Prelude.{◌≡◌, ℕ, ◌^◌, ◌<◌, ◌≤◌, Bool, not, ◌&&◌, ◌||◌, nat_le, is_some, ◌==◌, [], ◌∷◌, ◌++◌, length, Option}
+use Rattle.std.specs.Prelude.{◌≡◌, ℕ, ◌^◌, ◌<◌, ◌≤◌, Bool, not, ◌&&◌, ◌||◌, nat_le, is_some, ◌==◌, [], ◌∷◌, ◌++◌}
+use Rattle.std.specs.Prelude.{length, Option}
 use Rattle.chip_graph.specs.Multigraph.{edges_out, edges_in, degree}
 use Rattle.chip_actor.specs.Setting.{Setting, IsSetting}
 use Rattle.chip_link.specs.Link.{claims_of, tail_state, head_state}
@@ -9,8 +10,8 @@ use Rattle.chip_actor.specs.Part.{Part, Out, Cause, pending_of, unput, refusals}
 use Rattle.chip_actor.specs.Kept.{KeepsPart}
 use Rattle.chip_actor.specs.Ends.{OutEnds, InEnds, OutEnd, out_on, in_on}
 
--- what an `ActorState` shows. The last three are sums over the edges out of it, so that nobody has to add them up: what is pending, how
--- many messages are claimed and not put, and on how many edges a claim was refused
+-- what an `ActorState` shows. The last three are sums over the edges out of it, so that nobody has to add them up: what
+-- is pending, how many messages are claimed and not put, and on how many edges a claim was refused
 pub record Actor : Type 0 where
   pub vertex : ℕ
   pub is_sink : Bool

@@ -1,6 +1,7 @@
--- Lists of events and of operations of one vertex, each with a word that it may see: what the tests give to an actor. The tests of a list
--- compute.
-use Rattle.std.specs.Prelude.{◌≡◌, ℕ, ◌+◌, ◌-◌, ◌^◌, Bool, true, ◌&&◌, ◌||◌, ◌==◌, nat_lt, nat_le, List, [], ◌∷◌, length, map, is_some}
+-- Lists of events and of operations of one vertex, each with a word that it may see: what the tests give to an actor.
+-- The tests of a list compute.
+use Rattle.std.specs.Prelude.{◌≡◌, ℕ, ◌+◌, ◌-◌, ◌^◌, Bool, true, ◌&&◌, ◌||◌, ◌==◌, nat_lt, nat_le, List, [], ◌∷◌}
+use Rattle.std.specs.Prelude.{length, map, is_some}
 use Rattle.chip_graph.specs.declared.edge.Edge.{Edge}
 use Rattle.chip_graph.specs.ChipGame.{ChipGame}
 use Rattle.chip_actor.specs.Setting.{Setting}
@@ -17,7 +18,8 @@ use Rattle.chip_actor.specs.Actor.{Actor, WhateverPart, StandsFor}
 
 -- an operation of this event may see this
 abbrev pub fits_seen : Part → Event → ℕ → Bool
-fits_seen s (Take e) seen = seen == 0 || (nat_le (s.chips + seen) (2 ^ 40) && nat_lt (length (s.into e).got) message_limit)
+fits_seen s (Take e) seen = seen == 0
+    || (nat_le (s.chips + seen) (2 ^ 40) && nat_lt (length (s.into e).got) message_limit)
 fits_seen s (Claim e) seen = claims_in seen == claims_of (s.out e).link
 fits_seen s (Settle e) seen = nat_le (s.out e).settled seen && nat_le seen (claims_of (s.out e).link)
 fits_seen s _ seen = true
@@ -29,23 +31,31 @@ may_ask g v s x seen = part_of g x == v && (is_some (unmet g x s) || fits_seen s
 -- these operations may see what stands beside them, one after another
 abbrev pub may_see_all : Setting → ℕ → Part → List (Act × ℕ) → Bool
 may_see_all g v s [] = true
-may_see_all g v s (o ∷ os) = fits_seen s (event_of v o.0) o.1 && may_see_all g v (does g (record { event = event_of v o.0; seen = o.1 }) s) os
+may_see_all g v s (o ∷ os) = fits_seen s (event_of v o.0) o.1
+    && may_see_all g v (does g (record { event = event_of v o.0; seen = o.1 }) s) os
 
--- the vertex may be asked for one event after another, and make these operations then. Beside each event stands what it sees, and the
--- reply that is hoped for
+-- the vertex may be asked for one event after another, and make these operations then. Beside each event stands what it
+-- sees, and the reply that is hoped for
 abbrev pub may_play : Setting → ℕ → Part → List (Event × ℕ × Reply) → List (Act × ℕ) → Bool
 may_play g v s [] turn = may_see_all g v s turn
-may_play g v s (x ∷ xs) turn = may_ask g v s x.0 x.1 && may_play g v (asked g (record { event = x.0; seen = x.1 }) s (unmet g x.0 s)).0 xs turn
+may_play g v s (x ∷ xs) turn = may_ask g v s x.0 x.1
+    && may_play g v (asked g (record { event = x.0; seen = x.1 }) s (unmet g x.0 s)).0 xs turn
 
 -- the actor answered so: whatever part it stood for, it stands for that part after the question, at the same vertex
 abbrev pub Answers : Actor → Actor → Event → ℕ → Reply → Type 0
 Answers old new x seen reply =
     WhateverPart old (λ g s. may_ask g old.vertex s x seen ≡ true
-    → StandsFor g (asked g (record { event = x; seen = seen }) s (unmet g x s)).0 new × (reply ≡ (asked g (record { event = x; seen = seen }) s (unmet g x s)).1) × (new.vertex ≡ old.vertex))
+    → StandsFor g (asked g (record { event = x; seen = seen }) s (unmet g x s)).0 new
+    × (reply ≡ (asked g (record { event = x; seen = seen }) s (unmet g x s)).1) × (new.vertex ≡ old.vertex))
 
 -- the game on edges with these ends, which send one chip for each firing. The sink is the last vertex
 abbrev pub edge_of : ℕ × ℕ → Edge
 edge_of ends = edge ends.0 ends.1
 
 abbrev pub game_on : ℕ → List (ℕ × ℕ) → List ℕ → ChipGame
-game_on vertices ends start = record { graph = record { vertices = vertices; sink = vertices - 1; edges = map edge_of ends }; start = start; limit = 2 ^ 40 }
+game_on vertices ends start =
+    record {
+      graph = record { vertices = vertices; sink = vertices - 1; edges = map edge_of ends };
+      start = start;
+      limit = 2 ^ 40;
+    }

@@ -24,7 +24,8 @@ abbrev pub is_more : Reply → Bool
 is_more (Done more) = nat_lt 0 more
 is_more _ = false
 
--- a take of a message, a firing, a claim that was taken, a put, a halt, an acknowledgement, and a settle with something new
+-- a take of a message, a firing, a claim that was taken, a put, a halt, an acknowledgement, and a settle with something
+-- new
 abbrev pub is_work : Act → Reply → Bool
 is_work (Do.Take e cell) reply = is_got reply
 is_work (Do.Settle e) reply = is_more reply
@@ -39,4 +40,5 @@ is_work Do.End reply = false
 -- how many of these steps count, from a part on
 abbrev pub work_of : Setting → Part → List Step → ℕ
 work_of g s [] = 0
-work_of g s (x ∷ xs) = (if is_work (act_of g x.event s) (reply_of g x.event x.seen s) then 1 else 0) + work_of g (does g x s) xs
+work_of g s (x ∷ xs) = (if is_work (act_of g x.event s) (reply_of g x.event x.seen s) then 1 else 0)
+    + work_of g (does g x s) xs

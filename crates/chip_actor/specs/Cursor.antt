@@ -1,5 +1,6 @@
 -- Where a turn stands between two of its operations, what is left of it there, and the next operation.
-use Rattle.std.specs.Prelude.{◌≡◌, ◌≢◌, ℕ, ◌+◌, ◌-◌, ◌*◌, ◌<◌, ◌≤◌, Bool, true, false, not, List, [], ◌∷◌, ◌++◌, drop, length, slice_index, Option, Some, None, is_some}
+use Rattle.std.specs.Prelude.{◌≡◌, ◌≢◌, ℕ, ◌+◌, ◌-◌, ◌*◌, ◌<◌, ◌≤◌, Bool, true, false, not, List, [], ◌∷◌, ◌++◌, drop}
+use Rattle.std.specs.Prelude.{length, slice_index, Option, Some, None, is_some}
 pub use Rattle.chip_actor.specs.declared.cursor.Cursor.{Cursor}
 use Rattle.chip_actor.specs.declared.cursor.Cursor.TheVariants as At
 use Rattle.chip_actor.specs.declared.act.Act.{Act}
@@ -12,16 +13,20 @@ use Rattle.chip_actor.specs.Steps.{Step, part_of, does}
 use Rattle.chip_actor.specs.Acting.{act_of, event_of}
 use Rattle.chip_actor.specs.Kept.{KeepsPart}
 use Rattle.chip_actor.specs.Actor.{Actor, WhateverPart, SomePart}
-use Rattle.chip_actor.specs.Turn.{Phase, nothing, either_phase, where_phase, and_then, each_phase, ins_of, outs_of, seeing, one_step, firing, after_claim_phase, sending, putting, sending_all, is_at_limit, acknowledging, last_acknowledgement, turn}
+use Rattle.chip_actor.specs.Turn.{Phase, nothing, either_phase, where_phase, and_then, each_phase, ins_of, outs_of}
+use Rattle.chip_actor.specs.Turn.{seeing, one_step, firing, after_claim_phase, sending, putting, sending_all}
+use Rattle.chip_actor.specs.Turn.{is_at_limit, acknowledging, last_acknowledgement, turn}
 
 module _ (g : Setting) (v : ℕ) where
   -- the edge at a place of those out of the vertex
   abbrev pub out_at : ℕ → ℕ
   out_at place = slice_index (outs_of g v) place
 
-  -- what is left of a turn from a phase on, from the last phase to the first. A phase that goes through edges is left from a place on
+  -- what is left of a turn from a phase on, from the last phase to the first. A phase that goes through edges is left
+  -- from a place on
   abbrev pub from_acknowledging : ℕ → Phase
-  from_acknowledging place = and_then (each_phase (acknowledging g v) (drop place (ins_of g v))) (last_acknowledgement g v)
+  from_acknowledging place = and_then (each_phase (acknowledging g v) (drop place (ins_of g v)))
+      (last_acknowledgement g v)
 
   abbrev pub from_limit : Phase
   from_limit = and_then (where_phase (is_at_limit g v) (one_step g v (Halt v))) (from_acknowledging 0)
@@ -50,7 +55,8 @@ module _ (g : Setting) (v : ℕ) where
 
   -- an edge that was claimed: the message is put, or a halt follows where the claim was refused
   abbrev pub storing : ℕ → Phase
-  storing e s ds after = either_phase (is_some (s.out e).link.held) (one_step g v (Put e)) (one_step g v (Halt v)) s ds after
+  storing e s ds after = either_phase (is_some (s.out e).link.held) (one_step g v (Put e))
+      (one_step g v (Halt v)) s ds after
 
   -- what is left of a turn at a cursor
   abbrev pub left : Cursor → Phase
@@ -94,8 +100,8 @@ module _ (g : Setting) (v : ℕ) where
   IsAt At.Limit s = HoldsNothing s
   IsAt _ s = Unit {0}
 
--- how many operations may be left at a cursor, for a vertex with so many edges into it and out of it. An edge out of it is counted once for
--- a put and three times for what it may send, though no turn does both
+-- how many operations may be left at a cursor, for a vertex with so many edges into it and out of it. An edge out of it
+-- is counted once for a put and three times for what it may send, though no turn does both
 abbrev pub most_left : ℕ → ℕ → Cursor → ℕ
 most_left i o (At.Take place) = (i - place) + o + 1 + o + 3 * o + 1 + i + 1
 most_left i o (At.Settle place) = (o - place) + 1 + o + 3 * o + 1 + i + 1
@@ -114,26 +120,33 @@ most_left i o At.Over = 0
 abbrev pub fuel : Setting → ℕ → Cursor → ℕ
 fuel g v = most_left (length (ins_of g v)) (length (outs_of g v))
 
--- a turn of v that began from the part `first` stands at this cursor, after these operations with what each saw, with the part s
-pub record IsUnderWay (g : Setting) (v : ℕ) (first : Part) (done : List Step) (cursor : Cursor) (s : Part) : Type 0 where
+-- a turn of v that began from the part `first` stands at this cursor, after these operations with what each saw, with
+-- the part s
+pub record IsUnderWay (g : Setting) (v : ℕ) (first : Part) (done : List Step) (cursor : Cursor)
+    (s : Part) : Type 0 where
   pub fits : IsAt g v cursor s
   -- with what is left, they are a turn
   pub rest : (ds : List Step) (after : Part) → left g v cursor s ds after → turn g v first (done ++ ds) after
 
--- the operation is the next one of a turn: it is of an event of v whose rules are met, and whatever it sees the turn goes on at the next
--- cursor, where fewer operations are left
-pub record IsNext (g : Setting) (v : ℕ) (first : Part) (done : List Step) (s : Part) (cursor : Cursor) (act : Act) (next : Cursor) : Type 0 where
+-- the operation is the next one of a turn: it is of an event of v whose rules are met, and whatever it sees the turn
+-- goes on at the next cursor, where fewer operations are left
+pub record IsNext (g : Setting) (v : ℕ) (first : Part) (done : List Step) (s : Part) (cursor : Cursor) (act : Act)
+    (next : Cursor) : Type 0 where
   pub mine : part_of g (event_of v act) ≡ v
   pub met : unmet g (event_of v act) s ≡ None
   pub needed : act ≡ act_of g (event_of v act) s
   pub fewer : fuel g v next < fuel g v cursor
   pub goes_on : (seen : ℕ)
-      → IsUnderWay g v first (done ++ record { event = event_of v act; seen = seen } ∷ []) next (does g (record { event = event_of v act; seen = seen }) s)
+      → IsUnderWay g v first (done ++ record { event = event_of v act; seen = seen } ∷ []) next
+      (does g (record { event = event_of v act; seen = seen }) s)
 
--- the answer at a cursor of a turn that is under way: nothing more where the operations are a turn, else the next operation of it
+-- the answer at a cursor of a turn that is under way: nothing more where the operations are a turn, else the next
+-- operation of it
 pub record Continues (g : Setting) (v : ℕ) (s : Part) (cursor : Cursor) (act : Act) (next : Cursor) : Type 0 where
-  pub ends : act ≡ Do.End → (first : Part) (done : List Step) → IsUnderWay g v first done cursor s → turn g v first done s
-  pub steps : act ≢ Do.End → (first : Part) (done : List Step) → IsUnderWay g v first done cursor s → IsNext g v first done s cursor act next
+  pub ends : act ≡ Do.End → (first : Part) (done : List Step) → IsUnderWay g v first done cursor s
+      → turn g v first done s
+  pub steps : act ≢ Do.End → (first : Part) (done : List Step) → IsUnderWay g v first done cursor s
+      → IsNext g v first done s cursor act next
 
 -- some turn is under way at this cursor
 abbrev pub StandsAt : Actor → Cursor → Type 0
@@ -156,7 +169,8 @@ pub record GoesBy (g : Setting) (v : ℕ) (s : Part) (cursor : Cursor) (x : Even
   pub fewer : fuel g v next < fuel g v cursor
   pub fits : (seen : ℕ) → IsAt g v next (does g (record { event = x; seen = seen }) s)
   pub rest : (seen : ℕ) (ds : List Step) (after : Part)
-      → left g v next (does g (record { event = x; seen = seen }) s) ds after → left g v cursor s (record { event = x; seen = seen } ∷ ds) after
+      → left g v next (does g (record { event = x; seen = seen }) s) ds after
+      → left g v cursor s (record { event = x; seen = seen } ∷ ds) after
 
 -- what is due at a cursor, with the cursor after it: nothing where nothing is left
 abbrev pub IsDueAt : Setting → ℕ → Part → Cursor → Option (Event × Cursor) → Type 0
@@ -173,10 +187,12 @@ MayBeAt a cursor = SomePart a (λ g s. IsAt g a.vertex cursor s)
 -- the first place from `from` on with an element that passes the test, where there is one
 abbrev pub IsFirstFrom : (ℕ → Bool) → List ℕ → ℕ → Option ℕ → Type 0
 IsFirstFrom test xs from None = (k : ℕ) → from ≤ k → k < length xs → test (slice_index xs k) ≡ false
-IsFirstFrom test xs from (Some i) = (from ≤ i) × (i < length xs) × (test (slice_index xs i) ≡ true) × ((k : ℕ) → from ≤ k → k < i → test (slice_index xs k) ≡ false)
+IsFirstFrom test xs from (Some i) = (from ≤ i) × (i < length xs) × (test (slice_index xs i) ≡ true)
+    × ((k : ℕ) → from ≤ k → k < i → test (slice_index xs k) ≡ false)
 
 -- a turn that is under way has made no more operations than a whole turn may have
 abbrev pub UnderWayIsBounded : Type 0
 UnderWayIsBounded =
-    (g : Setting) (v : ℕ) → v < g.graph.vertices → (first : Part) → KeepsPart g v first → (done : List Step) (cursor : Cursor) (s : Part) → IsUnderWay g v first done cursor s
+    (g : Setting) (v : ℕ) → v < g.graph.vertices → (first : Part) → KeepsPart g v first
+    → (done : List Step) (cursor : Cursor) (s : Part) → IsUnderWay g v first done cursor s
     → length done ≤ (2 * length (ins_of g v) + 4 * length (outs_of g v)) + 3

@@ -1,5 +1,5 @@
--- The edges of a running game by their numbers: the graph's own edges, and after them for each vertex v the root edge that brings its
--- first chips. The root and the stopper are numbers beside the vertices. All functions are total.
+-- The edges of a running game by their numbers: the graph's own edges, and after them for each vertex v the root edge
+-- that brings its first chips. The root and the stopper are numbers beside the vertices. All functions are total.
 use Rattle.std.specs.Prelude.{ℕ, ◌+◌, ◌-◌, ◌*◌, ◌==◌, nat_lt, if◌then◌else◌, length, slice_index}
 use Rattle.chip_graph.specs.Multigraph.{edge_at}
 use Rattle.chip_actor.specs.Setting.{Setting}

@@ -1,4 +1,5 @@
--- The ends of a vertex's edges as its actor keeps them: the numbers of the edges, ascending, and beside each what stands at that place.
+-- The ends of a vertex's edges as its actor keeps them: the numbers of the edges, ascending, and beside each what
+-- stands at that place.
 use Rattle.std.specs.Prelude.{◌≡◌, ℕ, ◌+◌, ◌*◌, ◌==◌, if◌then◌else◌, List, [], ◌∷◌, ◌++◌, length, map}
 use Rattle.std.specs.List.{Contains}
 use Rattle.std.specs.List.Sorted.{IsStrictlyIncreasing}

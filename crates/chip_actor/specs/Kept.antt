@@ -5,7 +5,8 @@ use Rattle.chip_actor.specs.Setting.{Setting}
 use Rattle.chip_link.specs.Link.{Tail, claims_of}
 use Rattle.chip_actor.specs.declared.cause.Cause.TheVariants.{FiringLimit}
 use Rattle.chip_actor.specs.Edges.{graph_edges, all_edges, tail_of, head_of, over_ins, made, root}
-use Rattle.chip_actor.specs.Part.{Part, Cause, owed, may_ack, pending_of, unput, cause, deficit, all_owed, is_passive, is_legal}
+use Rattle.chip_actor.specs.Part.{Part, Cause, owed, may_ack, pending_of, unput, cause, deficit, all_owed, is_passive}
+use Rattle.chip_actor.specs.Part.{is_legal}
 use Rattle.chip_actor.specs.Rules.{Event, Take, Ack, Fire, Clear, Claim, Put, Halt, Settle, Seal, Read}
 
 -- the rules of an event in plain facts
@@ -13,11 +14,13 @@ abbrev pub Met : Setting → Event → Part → Type 0
 Met g (Take e) s = e < all_edges g
 Met g (Ack e) s = (e < all_edges g) × (0 < owed (s.into e)) × (0 < may_ack g (head_of g e) s e)
 Met g (Fire v k) s =
-    (v < g.graph.vertices) × (v ≢ g.graph.sink) × (s.halt ≡ None) × (pending_of g v s ≡ 0) × (unput g v s ≡ 0) × (0 < k) × (s.fired + k ≤ g.limit) × (k * degree g.graph v ≤ s.chips)
+    (v < g.graph.vertices) × (v ≢ g.graph.sink) × (s.halt ≡ None) × (pending_of g v s ≡ 0) × (unput g v s ≡ 0) × (0 < k)
+    × (s.fired + k ≤ g.limit) × (k * degree g.graph v ≤ s.chips)
 Met g (Clear e) s = (e < graph_edges g) × (s.halt ≡ None) × ((s.out e).link.refused ≡ false) × (0 < (s.out e).pending)
 Met g (Claim e) s = (e < graph_edges g) × (s.halt ≡ None) × ((s.out e).link.clear ≡ true)
 Met g (Put e) s = (e < graph_edges g) × ((count : ℕ) × ((s.out e).link.held ≡ Some count))
-Met g (Halt v) s = (v < g.graph.vertices) × (v ≢ g.graph.sink) × (s.halt ≡ None) × (unput g v s ≡ 0) × ((c : Cause) × (cause g v s ≡ Some c))
+Met g (Halt v) s = (v < g.graph.vertices) × (v ≢ g.graph.sink) × (s.halt ≡ None) × (unput g v s ≡ 0)
+    × ((c : Cause) × (cause g v s ≡ Some c))
 Met g (Settle e) s = e < all_edges g
 Met g (Seal e) s = e < graph_edges g
 Met g (Read v) s = (v < g.graph.vertices) × (deficit g (root g) s ≡ 0)

@@ -19,19 +19,22 @@ abbrev pub OpeningKeeps : Type 0
 OpeningKeeps = (g : Setting) → HasGame g → (p : ℕ) → KeepsPart g p (opened g)
 
 abbrev pub EventsKeep : Type 0
-EventsKeep = (g : Setting) (x : Step) (s : Part) → unmet g x.event s ≡ None → KeepsPart g (part_of g x.event) s → KeepsPart g (part_of g x.event) (does g x s)
+EventsKeep = (g : Setting) (x : Step) (s : Part) → unmet g x.event s ≡ None → KeepsPart g (part_of g x.event) s
+    → KeepsPart g (part_of g x.event) (does g x s)
 
 -- sums over the edges out of a vertex are the graph's, and those over the edges into it have the root edge's term more
 abbrev pub SumsAddRootEdges : Type 0
 SumsAddRootEdges =
     (g : Setting) → IsGraph g.graph → (v : ℕ) → v < g.graph.vertices → (f : ℕ → ℕ)
-    → (over_outs g v f ≡ sum_out g.graph v f) × (over_outs g v (mult_of g) ≡ degree g.graph v) × (over_ins g v f ≡ sum_in g.graph v f + f (root_edge g v))
+    → (over_outs g v f ≡ sum_out g.graph v f) × (over_outs g v (mult_of g) ≡ degree g.graph v)
+    × (over_ins g v f ≡ sum_in g.graph v f + f (root_edge g v))
 
--- a turn that begins from a part that is kept has at most so many operations: two for each edge into the vertex, four for each edge out of
--- it, and three more
+-- a turn that begins from a part that is kept has at most so many operations: two for each edge into the vertex, four
+-- for each edge out of it, and three more
 abbrev pub TurnIsBounded : Type 0
 TurnIsBounded =
-    (g : Setting) (v : ℕ) → v < g.graph.vertices → (s : Part) → KeepsPart g v s → (ds : List Step) → IsTurn g v s ds → length ds ≤ (2 * length (ins_of g v) + 4 * length (outs_of g v)) + 3
+    (g : Setting) (v : ℕ) → v < g.graph.vertices → (s : Part) → KeepsPart g v s → (ds : List Step) → IsTurn g v s ds
+    → length ds ≤ (2 * length (ins_of g v) + 4 * length (outs_of g v)) + 3
 
 -- a turn of which no step counts leaves a passive vertex neutral, or waiting for acknowledgements
 abbrev pub IdleTurnRests : Type 0

@@ -1,5 +1,6 @@
--- A medium: whoever makes the operations of one vertex on shared words. It holds a record of the steps that the vertex made, each with the
--- word that it saw; an operation makes the record longer by one step, and the word that it answers fits. A turn makes it longer by a turn.
+-- A medium: whoever makes the operations of one vertex on shared words. It holds a record of the steps that the vertex
+-- made, each with the word that it saw; an operation makes the record longer by one step, and the word that it answers
+-- fits. A turn makes it longer by a turn.
 use Rattle.std.specs.Prelude.{◌≡◌, ℕ, Bool, ◌+◌, List, [], ◌∷◌, ◌++◌, reverse, None}
 use Rattle.chip_actor.specs.Setting.{Setting}
 use Rattle.chip_actor.specs.declared.act.Act.{Act}
@@ -12,7 +13,8 @@ use Rattle.chip_actor.specs.Cursor.{Cursor, left, IsAt}
 use Rattle.chip_actor.specs.Counting.{work_of, is_work}
 use Rattle.chip_actor.specs.Actor.{Actor, StandsFor}
 
--- what a medium holds: of a game that is set up so, for this vertex, these steps, the latest first, which leave this part
+-- what a medium holds: of a game that is set up so, for this vertex, these steps, the latest first, which leave this
+-- part
 abbrev pub Holding : Type 1
 Holding = Setting → ℕ → List Step → Part → Type 0
 
@@ -27,27 +29,33 @@ abbrev pub MayServe : Holding → Act → Type 0
 MayServe held act = (g : Setting) × (v : ℕ) × (ds : List Step) × (s : Part) × held g v ds s × IsDueBy g v s act
 
 -- the record is longer by this step of the vertex v, and the word that it saw fits
-pub record IsLonger (now : Holding) (g : Setting) (v : ℕ) (ds : List Step) (s : Part) (act : Act) (seen : ℕ) : Type 0 where
+pub record IsLonger (now : Holding) (g : Setting) (v : ℕ) (ds : List Step) (s : Part) (act : Act)
+    (seen : ℕ) : Type 0 where
   pub fits : FitsSeen s (event_of v act) seen
-  pub held : now g v (record { event = event_of v act; seen = seen } ∷ ds) (does g (record { event = event_of v act; seen = seen }) s)
+  pub held : now g v (record { event = event_of v act; seen = seen } ∷ ds)
+      (does g (record { event = event_of v act; seen = seen }) s)
 
 -- whatever record was held after which the operation is due, it is longer by it
 abbrev pub Serves : Holding → Holding → Act → ℕ → Type 0
-Serves old new act seen = (g : Setting) (v : ℕ) (ds : List Step) (s : Part) → old g v ds s → IsDueBy g v s act → IsLonger new g v ds s act seen
+Serves old new act seen = (g : Setting) (v : ℕ) (ds : List Step) (s : Part) → old g v ds s → IsDueBy g v s act
+    → IsLonger new g v ds s act seen
 
 -- ---- a turn
 
 -- some record is held that leaves the part that the actor stands for, and a turn may stand there
 abbrev pub Meets : Holding → Actor → Cursor → Type 0
-Meets held a cursor = (g : Setting) × (ds : List Step) × (s : Part) × held g a.vertex ds s × StandsFor g s a × IsAt g a.vertex cursor s
+Meets held a cursor = (g : Setting) × (ds : List Step) × (s : Part) × held g a.vertex ds s × StandsFor g s a
+    × IsAt g a.vertex cursor s
 
 -- these steps are of the vertex v
 abbrev pub AreOf : Setting → ℕ → List Step → Type 0
 AreOf g v [] = Unit {0}
 AreOf g v (x ∷ xs) = (part_of g x.event ≡ v) × AreOf g v xs
 
--- by these steps a turn of v goes on from one cursor to another, so many of them count, and the actor b stands for the part after them
-pub record GoesOn (now : Holding) (g : Setting) (v : ℕ) (ds : List Step) (s : Part) (from : Cursor) (b : Actor) (to : Cursor) (count : ℕ) (more : List Step) (t : Part) : Type 0 where
+-- by these steps a turn of v goes on from one cursor to another, so many of them count, and the actor b stands for the
+-- part after them
+pub record GoesOn (now : Holding) (g : Setting) (v : ℕ) (ds : List Step) (s : Part) (from : Cursor) (b : Actor)
+    (to : Cursor) (count : ℕ) (more : List Step) (t : Part) : Type 0 where
   pub held : now g v (reverse more ++ ds) t
   pub mine : AreOf g v more
   pub stands : StandsFor g t b
@@ -56,14 +64,17 @@ pub record GoesOn (now : Holding) (g : Setting) (v : ℕ) (ds : List Step) (s : 
   pub rest : (xs : List Step) (after : Part) → left g v to t xs after → left g v from s (more ++ xs) after
   pub counted : (xs : List Step) → work_of g s (more ++ xs) ≡ count + work_of g t xs
 
--- whatever record was held, with the part that the actor stood for, a turn that stood at the first cursor went on to the second
+-- whatever record was held, with the part that the actor stood for, a turn that stood at the first cursor went on to
+-- the second
 abbrev pub Moves : Holding → Actor → Cursor → Holding → Actor → Cursor → ℕ → Type 0
 Moves old a from new b to count =
     (g : Setting) (ds : List Step) (s : Part) → old g a.vertex ds s → StandsFor g s a → IsAt g a.vertex from s
     → (more : List Step) × (t : Part) × GoesOn new g a.vertex ds s from b to count more t
 
--- the record is longer by one whole turn of the vertex, of which so many steps count, and the actor stands for the part after it
-pub record IsTurnMade (now : Holding) (g : Setting) (v : ℕ) (ds : List Step) (s : Part) (b : Actor) (count : ℕ) (more : List Step) (t : Part) : Type 0 where
+-- the record is longer by one whole turn of the vertex, of which so many steps count, and the actor stands for the part
+-- after it
+pub record IsTurnMade (now : Holding) (g : Setting) (v : ℕ) (ds : List Step) (s : Part) (b : Actor) (count : ℕ)
+    (more : List Step) (t : Part) : Type 0 where
   pub held : now g v (reverse more ++ ds) t
   pub mine : AreOf g v more
   pub stands : StandsFor g t b
@@ -78,11 +89,14 @@ MakesTurn old a new b count =
 
 -- some record is held after which the operation is due for the actor
 abbrev pub MeetsDue : Holding → Actor → Act → Type 0
-MeetsDue held a act = (g : Setting) × (ds : List Step) × (s : Part) × held g a.vertex ds s × StandsFor g s a × IsDueBy g a.vertex s act
+MeetsDue held a act = (g : Setting) × (ds : List Step) × (s : Part) × held g a.vertex ds s × StandsFor g s a
+    × IsDueBy g a.vertex s act
 
 -- by the operation the record is longer and the actor stands for the part after it, and this is whether it counts
-pub record IsMade (now : Holding) (g : Setting) (v : ℕ) (ds : List Step) (s : Part) (act : Act) (b : Actor) (counts : Bool) (seen : ℕ) : Type 0 where
-  pub held : now g v (record { event = event_of v act; seen = seen } ∷ ds) (does g (record { event = event_of v act; seen = seen }) s)
+pub record IsMade (now : Holding) (g : Setting) (v : ℕ) (ds : List Step) (s : Part) (act : Act) (b : Actor)
+    (counts : Bool) (seen : ℕ) : Type 0 where
+  pub held : now g v (record { event = event_of v act; seen = seen } ∷ ds)
+      (does g (record { event = event_of v act; seen = seen }) s)
   pub stands : StandsFor g (does g (record { event = event_of v act; seen = seen }) s) b
   pub vertex : b.vertex ≡ v
   pub counted : counts ≡ is_work act (reply_of g (event_of v act) seen s)

@@ -1,7 +1,9 @@
 -- The numbers by which outputs tell rules.
 use Rattle.std.specs.Prelude.{ℕ}
 use Rattle.chip_actor.specs.declared.rule.Rule.{Rule}
-use Rattle.chip_actor.specs.declared.rule.Rule.TheVariants.{NoSuch, Sink, Halted, Pending, Zero, Limit, NotLegal, NothingPending, Refused, Unput, NotCleared, NotClaimed, NoCause, NothingOwed, Engaged, NotClosed}
+use Rattle.chip_actor.specs.declared.rule.Rule.TheVariants.{NoSuch, Sink, Halted, Pending, Zero, Limit, NotLegal}
+use Rattle.chip_actor.specs.declared.rule.Rule.TheVariants.{NothingPending, Refused, Unput, NotCleared, NotClaimed}
+use Rattle.chip_actor.specs.declared.rule.Rule.TheVariants.{NoCause, NothingOwed, Engaged, NotClosed}
 
 -- the number of a rule
 abbrev pub number_of : Rule → ℕ

@@ -1,6 +1,8 @@
--- One part of the core: the state that one vertex alone changes, or the root, or the stopper. All three have the same record, by the
--- numbers of edges: an edge is looked up in the part of its own tail, of its own head and of the stopper, and nowhere else.
-use Rattle.std.specs.Prelude.{ℕ, ◌-◌, Bool, true, false, not, ◌&&◌, ◌||◌, ◌==◌, nat_lt, nat_le, if◌then◌else◌, List, [], ◌∷◌, length, Option, Some, None, is_none, option_to_list}
+-- One part of the core: the state that one vertex alone changes, or the root, or the stopper. All three have the same
+-- record, by the numbers of edges: an edge is looked up in the part of its own tail, of its own head and of the
+-- stopper, and nowhere else.
+use Rattle.std.specs.Prelude.{ℕ, ◌-◌, Bool, true, false, not, ◌&&◌, ◌||◌, ◌==◌, nat_lt, nat_le, if◌then◌else◌, List, []}
+use Rattle.std.specs.Prelude.{◌∷◌, length, Option, Some, None, is_none, option_to_list}
 pub use Rattle.chip_actor.specs.declared.cause.Cause.{Cause}
 use Rattle.chip_actor.specs.declared.cause.Cause.TheVariants.{SealedEdge, FiringLimit}
 use Rattle.chip_graph.specs.Multigraph.{degree}
@@ -9,19 +11,21 @@ use Rattle.chip_link.specs.Link.{Tail, claims_of}
 use Rattle.chip_detect.specs.Acknowledging.{acknowledgeable}
 use Rattle.chip_actor.specs.Edges.{graph_edges, start_of, over_outs, over_ins}
 
--- an edge, as the part of its tail has it: what was sent, what is left to send of the last batch, and how many messages are settled
+-- an edge, as the part of its tail has it: what was sent, what is left to send of the last batch, and how many messages
+-- are settled
 pub record Out : Type 0 where
   pub link : Tail
   pub pending : ℕ
   pub settled : ℕ
 
--- an edge, as the part of its head has it: the counts of the messages that were taken, in order, and how many are acknowledged
+-- an edge, as the part of its head has it: the counts of the messages that were taken, in order, and how many are
+-- acknowledged
 pub record Into : Type 0 where
   pub got : List ℕ
   pub acked : ℕ
 
--- a part: chips and firings of the vertex, why it halted if it did, the edge of the message that engaged it, all edges, and for each
--- edge the word that its first seal saw
+-- a part: chips and firings of the vertex, why it halted if it did, the edge of the message that engaged it, all edges,
+-- and for each edge the word that its first seal saw
 pub record Part : Type 0 where
   pub chips : ℕ
   pub fired : ℕ
@@ -33,7 +37,8 @@ pub record Part : Type 0 where
 
 -- the counts with which an edge opens: on the root edge of a vertex that starts with chips these chips, which are put
 abbrev pub first_put : Setting → ℕ → List ℕ
-first_put g e = if nat_lt e (graph_edges g) then [] else if start_of g (e - graph_edges g) == 0 then [] else start_of g (e - graph_edges g) ∷ []
+first_put g e = if nat_lt e (graph_edges g) then [] else if start_of g (e - graph_edges g) == 0 then []
+    else start_of g (e - graph_edges g) ∷ []
 
 -- every part at the opening. One record serves all, since an edge is looked up in the parts of its own ends alone
 abbrev pub opened : Setting → Part
@@ -42,7 +47,11 @@ opened g = record {
   fired = 0;
   halt = None;
   parent = None;
-  out = λ e. record { link = record { put = first_put g e; held = None; clear = false; refused = false }; pending = 0; settled = 0 };
+  out = λ e. record {
+    link = record { put = first_put g e; held = None; clear = false; refused = false };
+    pending = 0;
+    settled = 0;
+  };
   into = λ e. record { got = []; acked = 0 };
   stop = λ e. None;
 }

@@ -1,5 +1,6 @@
 -- The root at run time, and when it stands for the root's part of the core.
-use Rattle.std.specs.Prelude.{◌≡◌, ℕ, ◌<◌, ◌==◌, Bool, true, false, nat_le, if◌then◌else◌, List, length, slice_index, None}
+use Rattle.std.specs.Prelude.{◌≡◌, ℕ, ◌<◌, ◌==◌, Bool, true, false, nat_le, if◌then◌else◌, List, length, slice_index}
+use Rattle.std.specs.Prelude.{None}
 use Rattle.chip_graph.specs.Sums.{sum_below}
 use Rattle.chip_actor.specs.Setting.{Setting}
 use Rattle.chip_actor.specs.Edges.{graph_edges, root_edge, root}
@@ -8,8 +9,8 @@ use Rattle.chip_actor.specs.Rules.{Event, Settle, Read, unmet}
 use Rattle.chip_actor.specs.Steps.{Reply, does, reply_of}
 use Rattle.chip_actor.specs.Acting.{FitsSeen}
 
--- what a `RootState` shows: how many edges the graph has; by vertices, how many messages of the root edge are settled; and how many are
--- outstanding on all of them
+-- what a `RootState` shows: how many edges the graph has; by vertices, how many messages of the root edge are settled;
+-- and how many are outstanding on all of them
 pub record Root : Type 0 where
   pub graph_edges : ℕ
   pub settled : List ℕ
@@ -43,7 +44,8 @@ RootCanDo g s x seen = (is_of_root g x ≡ true) × (unmet g x s ≡ None) × Fi
 -- the root made this event and answered this: whatever part it stood for, it stands for that part after the event
 abbrev pub RootMakes : Root → Root → Event → ℕ → Reply → Type 0
 RootMakes old new x seen reply =
-    WhateverRoot old (λ g s. RootCanDo g s x seen → RootStandsFor g (does g (record { event = x; seen = seen }) s) new × (reply ≡ reply_of g x seen s))
+    WhateverRoot old (λ g s. RootCanDo g s x seen → RootStandsFor g (does g (record { event = x; seen = seen }) s) new
+    × (reply ≡ reply_of g x seen s))
 
 -- how many of the first vertices start with chips
 abbrev pub with_chips : List ℕ → ℕ → ℕ

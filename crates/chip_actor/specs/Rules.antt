@@ -1,9 +1,13 @@
 -- The rules of each event, in their order, asked of the part that makes it. What another part did is asked of no rule.
-use Rattle.std.specs.Prelude.{◌+◌, ◌*◌, Bool, true, false, not, ◌&&◌, ◌==◌, nat_lt, nat_le, List, [], ◌∷◌, Option, Some, None, is_some}
+use Rattle.std.specs.Prelude.{◌+◌, ◌*◌, Bool, true, false, not, ◌&&◌, ◌==◌, nat_lt, nat_le, List, [], ◌∷◌, Option, Some}
+use Rattle.std.specs.Prelude.{None, is_some}
 pub use Rattle.chip_link.specs.declared.event.Event.{Event}
-pub use Rattle.chip_link.specs.declared.event.Event.TheVariants.{Take, Ack, Fire, Clear, Claim, Put, Halt, Settle, Seal, Read}
+pub use Rattle.chip_link.specs.declared.event.Event.TheVariants.{Take, Ack, Fire, Clear, Claim, Put, Halt, Settle, Seal}
+pub use Rattle.chip_link.specs.declared.event.Event.TheVariants.{Read}
 pub use Rattle.chip_actor.specs.declared.rule.Rule.{Rule}
-use Rattle.chip_actor.specs.declared.rule.Rule.TheVariants.{NoSuch, Sink, Halted, Pending, Zero, Limit, NotLegal, NothingPending, Refused, Unput, NotCleared, NotClaimed, NoCause, NothingOwed, Engaged, NotClosed}
+use Rattle.chip_actor.specs.declared.rule.Rule.TheVariants.{NoSuch, Sink, Halted, Pending, Zero, Limit, NotLegal}
+use Rattle.chip_actor.specs.declared.rule.Rule.TheVariants.{NothingPending, Refused, Unput, NotCleared, NotClaimed}
+use Rattle.chip_actor.specs.declared.rule.Rule.TheVariants.{NoCause, NothingOwed, Engaged, NotClosed}
 use Rattle.chip_graph.specs.Multigraph.{degree}
 use Rattle.chip_actor.specs.Setting.{Setting}
 use Rattle.chip_actor.specs.Edges.{graph_edges, all_edges, head_of, root}

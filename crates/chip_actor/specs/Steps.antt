@@ -1,6 +1,7 @@
--- What an event does to the part that makes it, field by field, and the reply. `seen` is the word that the event's operation found, 0
--- of a store; it is all that an event learns of other parts.
-use Rattle.std.specs.Prelude.{ℕ, ◌+◌, ◌-◌, ◌*◌, ◌&&◌, ◌==◌, if◌then◌else◌, List, [], ◌∷◌, sum, length, Option, Some, None, option_to_list}
+-- What an event does to the part that makes it, field by field, and the reply. `seen` is the word that the event's
+-- operation found, 0 of a store; it is all that an event learns of other parts.
+use Rattle.std.specs.Prelude.{ℕ, ◌+◌, ◌-◌, ◌*◌, ◌&&◌, ◌==◌, if◌then◌else◌, List, [], ◌∷◌, sum, length, Option, Some}
+use Rattle.std.specs.Prelude.{None, option_to_list}
 use Rattle.chip_link.specs.declared.message.Message.{Message}
 pub use Rattle.chip_link.specs.declared.event.Step.{Step}
 pub use Rattle.chip_actor.specs.declared.reply.Reply.{Reply}
@@ -43,10 +44,12 @@ abbrev pub halt_after : Setting → Event → Part → Option Cause
 halt_after g (Halt v) s = cause g v s
 halt_after g _ s = s.halt
 
--- the first message engages a neutral vertex; it is neutral again once all that it owes on its parent edge is acknowledged
+-- the first message engages a neutral vertex; it is neutral again once all that it owes on its parent edge is
+-- acknowledged
 abbrev pub parent_after : Setting → Event → ℕ → Part → Option ℕ
 parent_after g (Take e) seen s = if seen == 0 then s.parent else or_else s.parent e
-parent_after g (Ack e) seen s = if is_parent e s.parent && may_ack g (head_of g e) s e == owed (s.into e) then None else s.parent
+parent_after g (Ack e) seen s = if is_parent e s.parent && may_ack g (head_of g e) s e == owed (s.into e) then None
+    else s.parent
 parent_after g _ seen s = s.parent
 
 -- what was sent on the edge i
@@ -89,7 +92,11 @@ does g x s = record {
   fired = fired_after x.event s.fired;
   halt = halt_after g x.event s;
   parent = parent_after g x.event x.seen s;
-  out = λ i. record { link = link_after x.event x.seen i (s.out i); pending = pending_after g x.event x.seen i (s.out i); settled = settled_after x.event x.seen i (s.out i) };
+  out = λ i. record {
+    link = link_after x.event x.seen i (s.out i);
+    pending = pending_after g x.event x.seen i (s.out i);
+    settled = settled_after x.event x.seen i (s.out i);
+  };
   into = λ i. record { got = got_after x.event x.seen i (s.into i); acked = acked_after g x.event s i (s.into i) };
   stop = λ i. stop_after x.event x.seen i (s.stop i);
 }
@@ -104,7 +111,8 @@ reply_of g (Take e) seen s = if seen == 0 then Empty else Got (message_of e (len
 reply_of g (Ack e) seen s = Done (may_ack g (head_of g e) s e)
 reply_of g (Fire v k) seen s = Done (s.fired + k)
 reply_of g (Clear e) seen s = if seen == 0 then Done (claims_of (s.out e).link) else Full
-reply_of g (Claim e) seen s = if seen == claims_of (s.out e).link then Sent (message_of e (claims_of (s.out e).link) (s.out e).pending) else Sealed
+reply_of g (Claim e) seen s = if seen == claims_of (s.out e).link
+    then Sent (message_of e (claims_of (s.out e).link) (s.out e).pending) else Sealed
 reply_of g (Put e) seen s = Done (sum (option_to_list (s.out e).link.held))
 reply_of g (Halt v) seen s = Done (if refusals g v s == 0 then 1 else 0)
 reply_of g (Settle e) seen s = Done (seen - (s.out e).settled)

@@ -1,7 +1,8 @@
--- One turn of a vertex: which operations it makes, in which order, and what follows from what each of them saw. A turn is told as phases
--- that come one after another. Where a schedule left the vertex in the middle of a turn, the same phases go on from there: what was
--- claimed is put, a refusal that is noted is followed by the halt.
-use Rattle.std.specs.Prelude.{◌≡◌, ℕ, ◌-◌, ◌/◌, Bool, true, false, not, ◌&&◌, ◌==◌, nat_lt, min, List, [], ◌∷◌, ◌++◌, Option, Some, None, is_some}
+-- One turn of a vertex: which operations it makes, in which order, and what follows from what each of them saw. A turn
+-- is told as phases that come one after another. Where a schedule left the vertex in the middle of a turn, the same
+-- phases go on from there: what was claimed is put, a refusal that is noted is followed by the halt.
+use Rattle.std.specs.Prelude.{◌≡◌, ℕ, ◌-◌, ◌/◌, Bool, true, false, not, ◌&&◌, ◌==◌, nat_lt, min, List, [], ◌∷◌, ◌++◌}
+use Rattle.std.specs.Prelude.{Option, Some, None, is_some}
 use Rattle.chip_graph.specs.Multigraph.{edges_out, edges_in, degree}
 use Rattle.chip_actor.specs.Setting.{Setting}
 use Rattle.chip_link.specs.Link.{claims_of}
@@ -29,7 +30,8 @@ where_phase test p s ds after = either_phase (test s) p nothing s ds after
 
 -- one phase, and then another
 abbrev pub and_then : Phase → Phase → Phase
-and_then p q s ds after = (front : List Step) × (between : Part) × (back : List Step) × (ds ≡ front ++ back) × p s front between × q between back after
+and_then p q s ds after = (front : List Step) × (between : Part) × (back : List Step) × (ds ≡ front ++ back)
+    × p s front between × q between back after
 
 -- the phases of these edges, in their order
 abbrev pub each_phase : (ℕ → Phase) → List ℕ → Phase
@@ -47,7 +49,8 @@ outs_of g v = edges_out g.graph v
 module _ (g : Setting) (v : ℕ) where
   -- one operation, of which the next phase may depend on what it saw
   abbrev pub seeing : Event → (ℕ → Part → Phase) → Phase
-  seeing x next s ds after = (seen : ℕ) × (rest : List Step) × (ds ≡ record { event = x; seen = seen } ∷ rest) × next seen s (does g (record { event = x; seen = seen }) s) rest after
+  seeing x next s ds after = (seen : ℕ) × (rest : List Step) × (ds ≡ record { event = x; seen = seen } ∷ rest)
+      × next seen s (does g (record { event = x; seen = seen }) s) rest after
 
   -- one operation alone
   abbrev pub one_step : Event → Phase
@@ -55,7 +58,8 @@ module _ (g : Setting) (v : ℕ) where
 
   -- it may fire now: not the sink, not halted, nothing pending, nothing claimed and not put, legal, and below its limit
   abbrev pub may_fire : Part → Bool
-  may_fire s = is_running s.halt && pending_of g v s == 0 && unput g v s == 0 && is_legal g v s && nat_lt s.fired g.limit
+  may_fire s = is_running s.halt && pending_of g v s == 0 && unput g v s == 0 && is_legal g v s
+      && nat_lt s.fired g.limit
 
   -- as often as its chips and its limit allow
   abbrev pub batch_of : Part → ℕ
@@ -66,7 +70,8 @@ module _ (g : Setting) (v : ℕ) where
 
   -- what was claimed is put, and a halt follows at once where a claim was refused
   abbrev pub after_claim_phase : ℕ → ℕ → Part → Phase
-  after_claim_phase e seen before = either_phase (seen == claims_of (before.out e).link) (one_step (Put e)) (one_step (Halt v))
+  after_claim_phase e seen before = either_phase (seen == claims_of (before.out e).link) (one_step (Put e))
+      (one_step (Halt v))
 
   -- a message is sent where the cell was empty
   abbrev pub after_clear_phase : ℕ → ℕ → Part → Phase
@@ -74,7 +79,8 @@ module _ (g : Setting) (v : ℕ) where
 
   -- an edge with something pending, unless the vertex has halted
   abbrev pub sending : ℕ → Phase
-  sending e = where_phase (λ s. is_running s.halt && not ((s.out e).pending == 0)) (seeing (Clear e) (after_clear_phase e))
+  sending e = where_phase (λ s. is_running s.halt && not ((s.out e).pending == 0))
+      (seeing (Clear e) (after_clear_phase e))
 
   -- an edge with a message that is claimed and not put
   abbrev pub putting : ℕ → Phase

@@ -2,7 +2,8 @@ ghost use Rattle.std.specs.Prelude.{◌≡◌};
 
 use crate::reply::Reply;
 
-/// One atomic operation on one word of the machine, as a vertex makes it. A `cell` is a place within the edge's ring, from 0.
+/// One atomic operation on one word of the machine, as a vertex makes it. A `cell` is a place within the edge's ring,
+/// from 0.
 #[derive(Clone, Copy, Debug, PartialEq, Eq)]
 pub enum Act {
     /// Swap the cell with 0.
@@ -35,8 +36,8 @@ pub struct Observed {
 impl Observed {
     ghost use Rattle.chip_actor.specs.Counting.{is_work};
 
-    /// Whether a step with this reply counts as work of a turn: it took a message, fired, sent, put, halted, acknowledged, or settled
-    /// something new.
+    /// Whether a step with this reply counts as work of a turn: it took a message, fired, sent, put, halted,
+    /// acknowledged, or settled something new.
     pub fn counts(&self, reply: &Reply) -> bool
         ensures { result ≡ is_work self.now.act reply.now }
     {

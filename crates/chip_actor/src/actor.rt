@@ -1,4 +1,5 @@
-ghost use Rattle.std.specs.Prelude.{◌≡◌, ◌≢◌, ◌+◌, ◌*◌, ◌<◌, ◌≤◌, ◌==◌, not, ◌&&◌, ◌||◌, nat_le, is_none, length, slice_index, IfOk, IfSome, None, ⊤};
+ghost use Rattle.std.specs.Prelude.{◌≡◌, ◌≢◌, ◌+◌, ◌*◌, ◌<◌, ◌≤◌, ◌==◌, not, ◌&&◌, ◌||◌, nat_le, is_none, length};
+ghost use Rattle.std.specs.Prelude.{slice_index, IfOk, IfSome, None, ⊤};
 
 use crate::act::{Act, Observed};
 use crate::cause::{Cause, is_by_limit};
@@ -18,7 +19,8 @@ mod turn;
 /// The state of one vertex of a running machine.
 ///
 /// Contracts see it as plain data (`specs/Actor.antt`) and say what it does to the part of the core that it stands for.
-/// A call takes time logarithmic in the vertex's edges at most, but that a firing takes time linear in the edges out of it.
+/// A call takes time logarithmic in the vertex's edges at most, but that a firing takes time linear in the edges out of
+/// it.
 #[derive(Debug, Drop)]
 pub struct ActorState {
     vertex: u64,
@@ -31,8 +33,8 @@ pub struct ActorState {
     outs: Outs,
     ins: Ins,
     detect: Detect,
-    // What is pending on all edges out of the vertex, how many messages are claimed and not put, and on how many edges a claim was
-    // refused: so that nobody has to add them up.
+    // What is pending on all edges out of the vertex, how many messages are claimed and not put, and on how many edges
+    // a claim was refused: so that nobody has to add them up.
     pending: u64,
     unput: u64,
     refused: u64,
@@ -69,7 +71,8 @@ impl ActorState {
     ghost use Rattle.chip_actor.specs.Steps.{part_of};
     ghost use Rattle.chip_actor.specs.Acting.{act_of, event_of, verdict, CanDo, IsDue, Makes};
     ghost use Rattle.chip_actor.specs.Actor.{Actor, StandsFor, WhateverPart, SomePart, is_legal_now, is_passive_now};
-    ghost use Rattle.chip_link.specs.declared.event.Event.TheVariants.{Take, Ack, Fire, Clear, Claim, Put, Halt, Settle};
+    ghost use Rattle.chip_link.specs.declared.event.Event.TheVariants.{Take, Ack, Fire, Clear, Claim, Put, Halt};
+    ghost use Rattle.chip_link.specs.declared.event.Event.TheVariants.{Settle};
 
     /// The vertex whose state it is.
     pub fn vertex(&self) -> u64
@@ -251,7 +254,8 @@ impl ActorState {
     // The operation that an event of the vertex needs, whose rules are met.
     fn act(&self, event: &Event) -> Act
         requires { SomePart self.now (λ g s. (part_of g event.now ≡ self.now.vertex) × (unmet g event.now s ≡ None)) }
-        ensures { WhateverPart self.now (λ g s. part_of g event.now ≡ self.now.vertex → unmet g event.now s ≡ None → result ≡ act_of g event.now s) }
+        ensures { WhateverPart self.now (λ g s. part_of g event.now ≡ self.now.vertex → unmet g event.now s ≡ None
+            → result ≡ act_of g event.now s) }
     {
         match *event {
             Event::Take(edge) => Act::Take {
@@ -287,11 +291,12 @@ impl ActorState {
         }
     }
 
-    /// The operation that an event of this vertex needs, or the first of its rules that isn't met. Takes and acknowledgements are
-    /// of edges into the vertex, all others of the vertex itself or of edges out of it.
+    /// The operation that an event of this vertex needs, or the first of its rules that isn't met. Takes and
+    /// acknowledgements are of edges into the vertex, all others of the vertex itself or of edges out of it.
     pub fn may(&self, event: &Event) -> Result<Act, Rule>
         requires { SomePart self.now (λ g s. part_of g event.now ≡ self.now.vertex) }
-        ensures { WhateverPart self.now (λ g s. part_of g event.now ≡ self.now.vertex → result ≡ verdict (unmet g event.now s) (act_of g event.now s)) }
+        ensures { WhateverPart self.now (λ g s. part_of g event.now ≡ self.now.vertex
+            → result ≡ verdict (unmet g event.now s) (act_of g event.now s)) }
     {
         match self.unmet(event) {
             Some(rule) => Err(rule),
@@ -455,8 +460,8 @@ impl ActorState {
         Reply::Done(count)
     }
 
-    /// The reply to an operation that was made, and the state after it. The operation is one that `may` gave for this state, and the
-    /// word that it saw fits: see `FitsSeen`.
+    /// The reply to an operation that was made, and the state after it. The operation is one that `may` gave for this
+    /// state, and the word that it saw fits: see `FitsSeen`.
     pub fn apply(&mut self, observed: Observed) -> Reply
         requires { SomePart self.old (λ g s. IsDue g s self.old.vertex observed) }
         ensures { Makes self.old self.new (event_of self.old.vertex observed.act) observed.seen result }

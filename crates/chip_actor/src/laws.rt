@@ -1,7 +1,9 @@
 //! What holds of every part and every event, as the contracts of functions that do nothing.
 
-ghost use Rattle.chip_actor.specs.Worked.{SentWithFullRing, SealedHalfWay, EngagingMessageLast, FirstTurn, TurnBegunInTheMiddle};
-ghost use Rattle.chip_actor.specs.Laws.{RulesMean, OpeningKeeps, EventsKeep, SumsAddRootEdges, TurnIsBounded, IdleTurnRests};
+ghost use Rattle.chip_actor.specs.Worked.{SentWithFullRing, SealedHalfWay, EngagingMessageLast, FirstTurn};
+ghost use Rattle.chip_actor.specs.Worked.{TurnBegunInTheMiddle};
+ghost use Rattle.chip_actor.specs.Laws.{RulesMean, OpeningKeeps, EventsKeep, SumsAddRootEdges, TurnIsBounded};
+ghost use Rattle.chip_actor.specs.Laws.{IdleTurnRests};
 ghost use Rattle.chip_actor.specs.Cursor.{UnderWayIsBounded};
 
 /// Small runs of one vertex, as the definitions compute them.

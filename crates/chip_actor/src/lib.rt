@@ -1,9 +1,9 @@
 //! One vertex of a running machine: its state, the rule of each event, and the order of a turn.
 //!
-//! `docs/CORE.md` has the table of events and the turn in words. The definitions stand in `specs/`: the edges with the root's among
-//! them (`Edges`), the part of the core that one vertex, the root or the stopper keeps (`Part`), the rules of an event in their
-//! order (`Rules`), what an event does to the part that makes it (`Steps`), the order of a turn (`Turn`), and what is left of a turn at a
-//! cursor (`Cursor`).
+//! `docs/CORE.md` has the table of events and the turn in words. The definitions stand in `specs/`: the edges with the
+//! root's among them (`Edges`), the part of the core that one vertex, the root or the stopper keeps (`Part`), the rules
+//! of an event in their order (`Rules`), what an event does to the part that makes it (`Steps`), the order of a turn
+//! (`Turn`), and what is left of a turn at a cursor (`Cursor`).
 #![tactic(auto)]
 
 mod act;

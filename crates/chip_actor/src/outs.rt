@@ -1,4 +1,5 @@
-ghost use Rattle.std.specs.Prelude.{◌≡◌, ℕ, ◌*◌, ◌^◌, ◌<◌, ◌≤◌, length, map, IfOk, Contains, IsTrue, Option, slice_index, slice_index_or, not, is_some, ◌==◌};
+ghost use Rattle.std.specs.Prelude.{◌≡◌, ℕ, ◌*◌, ◌^◌, ◌<◌, ◌≤◌, length, map, IfOk, Contains, IsTrue, Option};
+ghost use Rattle.std.specs.Prelude.{slice_index, slice_index_or, not, is_some, ◌==◌};
 
 use crate::search::index_of;
 use chip_graph::Graph;
@@ -37,7 +38,8 @@ impl Outs {
     ghost use Rattle.chip_link.specs.Words.{claims_in};
     ghost use Rattle.chip_actor.specs.Cursor.{IsFirstFrom};
     ghost use Rattle.chip_link.specs.Ends.{put_of, message_claimed, may_clear, claim_words, tail_after_clear};
-    ghost use Rattle.chip_actor.specs.Ends.{OutEnds, OutEnd, out_on, ChangesOut, ChangesOuts, IsFreshOuts, out_after_clear, out_after_claim, out_after_put, out_after_fire};
+    ghost use Rattle.chip_actor.specs.Ends.{OutEnds, OutEnd, out_on, ChangesOut, ChangesOuts, IsFreshOuts};
+    ghost use Rattle.chip_actor.specs.Ends.{out_after_clear, out_after_claim, out_after_put, out_after_fire};
 
     /// The index of an edge.
     pub(crate) fn index_of(&self, edge: u64) -> usize
@@ -95,7 +97,8 @@ impl Outs {
         None
     }
 
-    /// Notes what a look at the cell of the edge at this index found, and gives the words of a claim that may follow, the first of which is its place.
+    /// Notes what a look at the cell of the edge at this index found, and gives the words of a claim that may follow,
+    /// the first of which is its place.
     pub(crate) fn clear_at(&mut self, index: usize, edge: u64, cell: u64) -> Option<(u64, u64)>
         requires within { index < length self.old.edges }
         requires edge { slice_index self.old.edges index ≡ edge }

@@ -7,7 +7,8 @@ use chip_link::Event;
 use std::alloc::{AllocError, Global};
 use std::marker::Model;
 
-/// The root at run time: of each root edge, by vertices, how many messages are settled, and how many are outstanding on all of them.
+/// The root at run time: of each root edge, by vertices, how many messages are settled, and how many are outstanding on
+/// all of them.
 #[derive(Debug, Drop)]
 pub struct RootState {
     graph_edges: u64,
@@ -33,12 +34,15 @@ impl RootState {
     ghost use Rattle.chip_actor.specs.Edges.{root};
     ghost use Rattle.chip_actor.specs.Part.{opened, deficit};
     ghost use Rattle.chip_actor.specs.Rules.{unmet};
-    ghost use Rattle.chip_actor.specs.Root.{RootStandsFor, WhateverRoot, SomeRoot, is_of_root, RootCanDo, RootMakes, with_chips};
+    ghost use Rattle.chip_actor.specs.Root.{RootStandsFor, WhateverRoot, SomeRoot, is_of_root, RootCanDo, RootMakes};
+    ghost use Rattle.chip_actor.specs.Root.{with_chips};
     ghost use Rattle.chip_link.specs.declared.event.Event.TheVariants.{Settle, Read};
 
-    /// The root at the opening, with one message outstanding for each vertex that starts with chips. The size of the rings is no matter.
+    /// The root at the opening, with one message outstanding for each vertex that starts with chips. The size of the
+    /// rings is no matter.
     pub fn new(alloc: Global, game: &Game) -> Result<RootState, AllocError>
-        ensures { IfOk result (λ root. (ring : ℕ) → let g = setting_of game.now ring in RootStandsFor g (opened g) root) }
+        ensures { IfOk result (λ root. (ring : ℕ) → let g = setting_of game.now ring in
+            RootStandsFor g (opened g) root) }
     {
         let root = RootState::unsettled(alloc, game)?;
         Ok(root)
@@ -49,7 +53,8 @@ impl RootState {
         ensures game { IsGame game.now }
         ensures edges { IfOk result (λ root. root.graph_edges ≡ length game.now.graph.edges) }
         ensures settled { IfOk result (λ root. root.settled ≡ replicate game.now.graph.vertices 0) }
-        ensures outstanding { IfOk result (λ root. root.outstanding ≡ with_chips game.now.start game.now.graph.vertices) }
+        ensures outstanding { IfOk result
+            (λ root. root.outstanding ≡ with_chips game.now.start game.now.graph.vertices) }
     {
         let graph_edges = game.graph().edges().len() as u64;
         let start = game.start();
@@ -91,8 +96,8 @@ impl RootState {
         }
     }
 
-    /// The reply to an event that was made, and the state after it. The event is one that `may` has nothing against, and the word that
-    /// it saw fits: see `FitsSeen`.
+    /// The reply to an event that was made, and the state after it. The event is one that `may` has nothing against,
+    /// and the word that it saw fits: see `FitsSeen`.
     pub fn apply(&mut self, event: &Event, seen: u64) -> Reply
         requires { SomeRoot self.old (λ g s. RootCanDo g s event.now seen) }
         ensures { RootMakes self.old self.new event.now seen result }

@@ -1,7 +1,8 @@
 ghost use Rattle.std.specs.Prelude.{◌≡◌};
 ghost use Rattle.chip_actor.specs.Rules.{first_unmet};
 
-/// Why an event may not be made: the rule that isn't met, said by what is so instead. `number` gives the numbers that stand here.
+/// Why an event may not be made: the rule that isn't met, said by what is so instead. `number` gives the numbers that
+/// stand here.
 #[derive(Clone, Copy, Debug, PartialEq, Eq)]
 pub enum Rule {
     /// There is no such vertex or edge.

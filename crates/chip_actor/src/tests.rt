@@ -104,8 +104,8 @@ fn make_turn(rt: &impl Abort, actor: &mut ActorState, turn: &[(Act, u64)]) -> us
     counted
 }
 
-/// Asks for one event after another, each with the word that it sees and the reply that is hoped for, and makes a turn of these operations,
-/// where there are some. The answer is how many of these count.
+/// Asks for one event after another, each with the word that it sees and the reply that is hoped for, and makes a turn
+/// of these operations, where there are some. The answer is how many of these count.
 fn play(
     rt: &impl Abort,
     actor: &mut ActorState,

@@ -1,5 +1,8 @@
--- Where the root is closed nothing changes any more, everything is delivered, and chips and counts are those of every end.
-use Rattle.std.proofs.Common.{◌≡◌, ◌≢◌, ◌⊎◌, ℕ, ◌+◌, ◌-◌, ◌<◌, true, eqb, List, [], ◌∷◌, length, sum, get_or, slice_index, Option, Some, None, refl, sym, ap, ◌∙◌, subst, arith, inl, inr, ⊎_elim, ne_eqb, le-leb, true≢false}
+-- Where the root is closed nothing changes any more, everything is delivered, and chips and counts are those of every
+-- end.
+use Rattle.std.proofs.Common.{◌≡◌, ◌≢◌, ◌⊎◌, ℕ, ◌+◌, ◌-◌, ◌<◌, true, eqb, List, [], ◌∷◌, length, sum, get_or}
+use Rattle.std.proofs.Common.{slice_index, Option, Some, None, refl, sym, ap, ◌∙◌, subst, arith, inl, inr, ⊎_elim}
+use Rattle.std.proofs.Common.{ne_eqb, le-leb, true≢false}
 use Rattle.std.proofs.lemmas.Bool.{and_from, not_from_false}
 use Rattle.std.proofs.lemmas.List.{get_or_past, drop_all}
 use mathlib.Core.Logic.{dite}
@@ -22,8 +25,12 @@ use Rattle.chip_actor.specs.Part.{is_legal}
 use Rattle.chip_actor.specs.Steps.{settled_after}
 use Rattle.chip_actor.specs.Kept.{IsNeutral}
 use Rattle.chip_actor.proofs.RuleLemmas.{rules_met}
-use Rattle.chip_actor.proofs.PartLemmas.{at_edge, idle_take, passive_parts, no_fire, no_pending, no_put, no_halt, out_zero, none_halt}
-use Rattle.chip_core.specs.Core.{Log, Step, Event, Take, Ack, Fire, Clear, Claim, Put, Halt, Settle, Seal, Read, Rule, Part, unmet, part_of, does, part_in, out_in, into_in, sees, is_by_limit, IsLegalLog, answer, step, log_after, IsClosed, outstanding, tail_of, head_of, root, stopper, all_edges, graph_edges}
+use Rattle.chip_actor.proofs.PartLemmas.{at_edge, idle_take, passive_parts, no_fire, no_pending, no_put, no_halt}
+use Rattle.chip_actor.proofs.PartLemmas.{out_zero, none_halt}
+use Rattle.chip_core.specs.Core.{Log, Step, Event, Take, Ack, Fire, Clear, Claim, Put, Halt, Settle, Seal, Read, Rule}
+use Rattle.chip_core.specs.Core.{Part, unmet, part_of, does, part_in, out_in, into_in, sees, is_by_limit, IsLegalLog}
+use Rattle.chip_core.specs.Core.{answer, step, log_after, IsClosed, outstanding, tail_of, head_of, root, stopper}
+use Rattle.chip_core.specs.Core.{all_edges, graph_edges}
 use Rattle.chip_core.specs.Messages.{counts_in_flight, messages_from, in_flight}
 use Rattle.chip_core.specs.Positions.{held, chips_at, firings, AgreesWith}
 use Rattle.chip_core.specs.Headline.{NoneHalted, NoneHaltedBySeal}
@@ -45,13 +52,16 @@ module _ (g : Setting) (game : HasGame g) (some_ring : 0 < g.ring) where
 
     -- ---- no later event changes a part, but the stopper's
 
-    still_step : (ev : Event) (seen : ℕ) → IsLegalLog g (record { event = ev; seen = seen } ∷ log) → part_of g ev ≢ stopper g → does g (record { event = ev; seen = seen }) (part_in g log (part_of g ev)) ≡ part_in g log (part_of g ev)
+    still_step : (ev : Event) (seen : ℕ) → IsLegalLog g (record { event = ev; seen = seen } ∷ log)
+        → part_of g ev ≢ stopper g → does g (record { event = ev; seen = seen }) (part_in g log (part_of g ev))
+        ≡ part_in g log (part_of g ev)
     still_step (Take e) seen next ne =
         let l = rules_met g (Take e) (part_in g log (head_of g e)) next.1.0 in
         let c = all_counts g game some_ring log legal closed e l in
         let is : seen ≡ get_or (out_in g log e).link.put (length (into_in g log e).got) 0 = next.1.1 in
         let c2 = c.2 in
-        idle_take g e seen (part_in g log (head_of g e)) (is ∙ get_or_past (out_in g log e).link.put (length (into_in g log e).got) 0 (omega arith))
+        idle_take g e seen (part_in g log (head_of g e)) (is
+        ∙ get_or_past (out_in g log e).link.put (length (into_in g log e).got) 0 (omega arith))
     still_step (Ack e) seen next ne =
         let may = rules_met g (Ack e) (part_in g log (head_of g e)) next.1.0 in
         let c = all_counts g game some_ring log legal closed e may.0 in
@@ -61,14 +71,18 @@ module _ (g : Setting) (game : HasGame g) (some_ring : 0 < g.ring) where
         absurd (no_fire g v (part_in g log v) (part_kept g game log legal v).outs (resting v may.0) v k refl may)
     still_step (Clear e) seen next ne =
         let may = rules_met g (Clear e) (part_in g log (tail_of g e)) next.1.0 in let l = may.0 in
-        absurd (no_pending g (tail_of g e) (part_in g log (tail_of g e)) (part_kept g game log legal (tail_of g e)).outs (resting (tail_of g e) (tail_inside g game e may.0)) e refl (omega arith) may.1 may.3)
+        absurd (no_pending g (tail_of g e) (part_in g log (tail_of g e)) (part_kept g game log legal (tail_of g e)).outs
+        (resting (tail_of g e) (tail_inside g game e may.0)) e refl (omega arith) may.1 may.3)
     still_step (Claim e) seen next ne =
         let may = rules_met g (Claim e) (part_in g log (tail_of g e)) next.1.0 in let l = may.0 in
         let outs = (part_kept g game log legal (tail_of g e)).outs in
-        absurd (no_pending g (tail_of g e) (part_in g log (tail_of g e)) outs (resting (tail_of g e) (tail_inside g game e may.0)) e refl (omega arith) may.1 ((outs e refl).clear_pends may.0 may.2))
+        absurd (no_pending g (tail_of g e) (part_in g log (tail_of g e)) outs
+        (resting (tail_of g e) (tail_inside g game e may.0)) e refl (omega arith) may.1
+        ((outs e refl).clear_pends may.0 may.2))
     still_step (Put e) seen next ne =
         let may = rules_met g (Put e) (part_in g log (tail_of g e)) next.1.0 in let l = may.0 in
-        absurd (no_put g (tail_of g e) (part_in g log (tail_of g e)) (part_kept g game log legal (tail_of g e)).outs (resting (tail_of g e) (tail_inside g game e may.0)) e refl (omega arith) may.1.0 may.1.1)
+        absurd (no_put g (tail_of g e) (part_in g log (tail_of g e)) (part_kept g game log legal (tail_of g e)).outs
+        (resting (tail_of g e) (tail_inside g game e may.0)) e refl (omega arith) may.1.0 may.1.1)
     still_step (Halt v) seen next ne =
         let may = rules_met g (Halt v) (part_in g log v) next.1.0 in
         absurd (no_halt g v (part_in g log v) (part_kept g game log legal v).outs (resting v may.0) v refl may)
@@ -78,19 +92,32 @@ module _ (g : Setting) (game : HasGame g) (some_ring : 0 < g.ring) where
         let c = all_counts g game some_ring log legal closed e l in
         let c0 = c.0 in
         let is : seen ≡ (into_in g log e).acked = next.1.1 in
-        let same : (i : ℕ) → settled_after (Settle e) seen i (s.out i) ≡ (s.out i).settled = at_edge (λ i (n : ℕ). n ≡ (s.out i).settled) e (λ i. (s.out i).settled + (seen - (s.out i).settled)) (λ i. (s.out i).settled) (omega arith) (λ i. refl) in
-        λ j. record { chips = s.chips; fired = s.fired; halt = s.halt; parent = s.parent; out = λ i. record { link = (s.out i).link; pending = (s.out i).pending; settled = same i j }; into = s.into; stop = s.stop }
+        let same : (i : ℕ) → settled_after (Settle e) seen i (s.out i) ≡ (s.out i).settled =
+        at_edge (λ i (n : ℕ). n ≡ (s.out i).settled) e (λ i. (s.out i).settled + (seen - (s.out i).settled))
+        (λ i. (s.out i).settled) (omega arith) (λ i. refl) in
+        λ j. record {
+          chips = s.chips;
+          fired = s.fired;
+          halt = s.halt;
+          parent = s.parent;
+          out = λ i. record { link = (s.out i).link; pending = (s.out i).pending; settled = same i j };
+          into = s.into;
+          stop = s.stop;
+        }
     still_step (Seal e) seen next ne = absurd (ne refl)
     still_step (Read v) seen next ne = refl
 
     pub still : (x : Step) → IsLegalLog g (x ∷ log) → (p : ℕ) → p ≢ stopper g → part_in g (x ∷ log) p ≡ part_in g log p
     still x next p ne = dite (ℕ_discrete (part_of g x.event) p)
-        (λ same. part_here g x log p same ∙ subst (λ (q : ℕ). does g x (part_in g log q) ≡ part_in g log q) same (still_step x.event x.seen next (λ z. ne (sym same ∙ z))))
+        (λ same. part_here g x log p same
+        ∙ subst (λ (q : ℕ). does g x (part_in g log q) ≡ part_in g log q) same
+        (still_step x.event x.seen next (λ z. ne (sym same ∙ z))))
         (λ other. part_else g x log p other)
 
     pub still_closed : (x : Step) → IsLegalLog g (x ∷ log) → IsClosed g (x ∷ log)
     still_closed x next e l at =
-        let same = still x next (tail_of g e) (λ z. (let a : root g ≡ stopper g = sym at ∙ z in absurd (omega arith))) in
+        let same = still x next (tail_of g e) (λ z. (let a : root g ≡ stopper g = sym at ∙ z in absurd (omega arith)))
+        in
         ap (λ (s : Part). outstanding (s.out e)) same ∙ closed e l at
 
     -- ---- everything is delivered
@@ -112,35 +139,50 @@ module _ (g : Setting) (game : HasGame g) (some_ring : 0 < g.ring) where
       nothing_held e l =
           let ok = part_kept g game log legal (tail_of g e) in
           ⊎_elim
-          (λ at. dite (dec_lt e (graph_edges g)) (λ m. absurd (let a = tail_inside g game e m in omega arith)) (λ n. (ok.outs e refl).root_idle (omega arith)))
+          (λ at. dite (dec_lt e (graph_edges g)) (λ m. absurd (let a = tail_inside g game e m in omega arith))
+          (λ n. (ok.outs e refl).root_idle (omega arith)))
           (λ t. ⊎_elim
-          (λ runs. out_zero g (tail_of g e) (λ i. ((part_in g log (tail_of g e)).out i).pending) (passive_parts g (tail_of g e) (part_in g log (tail_of g e)) (resting (tail_of g e) t).passive runs).1 e l refl)
-          (λ halted. ⊎_elim (λ limit. out_zero g (tail_of g e) (λ i. ((part_in g log (tail_of g e)).out i).pending) (ok.at_limit limit).1 e l refl) (λ seal. absurd (no_seal (tail_of g e) t seal)) halted)
+          (λ runs. out_zero g (tail_of g e) (λ i. ((part_in g log (tail_of g e)).out i).pending)
+          (passive_parts g (tail_of g e) (part_in g log (tail_of g e)) (resting (tail_of g e) t).passive runs).1 e l
+          refl)
+          (λ halted. ⊎_elim (λ limit. out_zero g (tail_of g e) (λ i. ((part_in g log (tail_of g e)).out i).pending)
+          (ok.at_limit limit).1 e l refl) (λ seal. absurd (no_seal (tail_of g e) t seal)) halted)
           (cases_halt (part_in g log (tail_of g e)).halt))
           (tail_cases g game e)
 
-      pub chips_are : (v : ℕ) → v < g.graph.vertices → chips_at g log v ≡ position_after g.graph (slice_index g.start) (firings log) v
+      pub chips_are : (v : ℕ) → v < g.graph.vertices
+          → chips_at g log v ≡ position_after g.graph (slice_index g.start) (firings log) v
       chips_are v l =
           let a = (leads_to g game some_ring log legal).position v l in
-          let b : over_ins g v (λ e. sum (counts_in_flight g log e)) ≡ 0 = tested_none (all_edges g) (λ e. eqb (head_of g e) v) (λ e. sum (counts_in_flight g log e)) (λ e m on. ap sum (none_in_flight e m)) in
-          let c : over_ins g v (held g log) ≡ 0 = tested_none (all_edges g) (λ e. eqb (head_of g e) v) (held g log) (λ e m on. nothing_held e m) in
+          let b : over_ins g v (λ e. sum (counts_in_flight g log e)) ≡ 0 = tested_none (all_edges g)
+          (λ e. eqb (head_of g e) v) (λ e. sum (counts_in_flight g log e)) (λ e m on. ap sum (none_in_flight e m)) in
+          let c : over_ins g v (held g log) ≡ 0 = tested_none (all_edges g) (λ e. eqb (head_of g e) v) (held g log)
+          (λ e m on. nothing_held e m) in
           omega arith
 
       -- a vertex that may still fire was halted by the limit
-      legal_halted : (v : ℕ) → IsLegal g.graph (position_after g.graph (slice_index g.start) (firings log)) v → (part_in g log v).halt ≡ Some FiringLimit
+      legal_halted : (v : ℕ) → IsLegal g.graph (position_after g.graph (slice_index g.start) (firings log)) v
+          → (part_in g log v).halt ≡ Some FiringLimit
       legal_halted v can =
           let same = chips_are v can.is_vertex in
           let chips = can.enough_chips in
           let s = part_in g log v in
-          let may : is_legal g v s ≡ true = and_from _ _ (not_from_false _ (ne_eqb _ _ can.not_sink)) (le-leb (degree g.graph v) s.chips (omega arith)) in
-          ⊎_elim (λ runs. absurd (true≢false (sym may ∙ (passive_parts g v s (resting v can.is_vertex).passive runs).2))) (λ h. ⊎_elim (λ z. z) (λ z. absurd (no_seal v can.is_vertex z)) h) (cases_halt s.halt)
+          let may : is_legal g v s ≡ true = and_from _ _ (not_from_false _ (ne_eqb _ _ can.not_sink))
+          (le-leb (degree g.graph v) s.chips (omega arith)) in
+          ⊎_elim (λ runs. absurd (true≢false (sym may
+          ∙ (passive_parts g v s (resting v can.is_vertex).passive runs).2)))
+          (λ h. ⊎_elim (λ z. z) (λ z. absurd (no_seal v can.is_vertex z)) h) (cases_halt s.halt)
 
       has_ended : HasEndedWithin g.graph (slice_index g.start) g.limit (firings log)
       has_ended v can = counts_are g log v ∙ ((part_kept g game log legal v).at_limit (legal_halted v can)).0
 
       -- the firings that were made are a whole play
       pub played : IsWholePlay g.graph (slice_index g.start) g.limit (firings log)
-      played = record { sequence = is_sequence g game some_ring log legal; within = is_within g game some_ring log legal; ended = has_ended }
+      played = record {
+        sequence = is_sequence g game some_ring log legal;
+        within = is_within g game some_ring log legal;
+        ended = has_ended;
+      }
 
       -- the vertices halted by the limit are exactly those that may still fire
       by_limit_is : (v : ℕ) → v < g.graph.vertices → is_by_limit (part_in g log v).halt ≡ is_legal g v (part_in g log v)
@@ -148,11 +190,14 @@ module _ (g : Setting) (game : HasGame g) (some_ring : 0 < g.ring) where
           let s = part_in g log v in
           ⊎_elim
           (λ runs. ap is_by_limit runs ∙ sym (passive_parts g v s (resting v l).passive runs).2)
-          (λ h. ⊎_elim (λ limit. ap is_by_limit limit ∙ sym ((part_kept g game log legal v).at_limit limit).2) (λ seal. absurd (no_seal v l seal)) h)
+          (λ h. ⊎_elim (λ limit. ap is_by_limit limit ∙ sym ((part_kept g game log legal v).at_limit limit).2)
+          (λ seal. absurd (no_seal v l seal)) h)
           (cases_halt s.halt)
 
-      pub over : picked (λ v. is_by_limit (part_in g log v).halt) g.graph.vertices ≡ legal_vertices g.graph (chips_at g log)
-      over = picked_ext (λ v. is_by_limit (part_in g log v).halt) (λ v. is_legal g v (part_in g log v)) g.graph.vertices by_limit_is
+      pub over : picked (λ v. is_by_limit (part_in g log v).halt) g.graph.vertices
+          ≡ legal_vertices g.graph (chips_at g log)
+      over = picked_ext (λ v. is_by_limit (part_in g log v).halt)
+          (λ v. is_legal g v (part_in g log v)) g.graph.vertices by_limit_is
 
       -- counts and chips are those of every whole play
       pub agrees_within : (vs : List ℕ) → IsWholePlay g.graph (slice_index g.start) g.limit vs → AgreesWith g log vs
@@ -167,22 +212,29 @@ module _ (g : Setting) (game : HasGame g) (some_ring : 0 < g.ring) where
       no_seals v l h = none_halt g (part_in g log v).halt SealedEdge (no_halts v l) h
 
       pub all_ended : HasEnded g.graph (slice_index g.start) (firings log)
-      all_ended v can = none_halt g (part_in g log v).halt FiringLimit (no_halts v can.is_vertex) (legal_halted no_seals v can)
+      all_ended v can = none_halt g (part_in g log v).halt FiringLimit (no_halts v can.is_vertex)
+          (legal_halted no_seals v can)
 
       -- counts and chips are those of every sequence that ends with no vertex legal
-      pub agrees : (vs : List ℕ) → IsFiringSequence g.graph (slice_index g.start) vs → HasEnded g.graph (slice_index g.start) vs → AgreesWith g log vs
+      pub agrees : (vs : List ℕ) → IsFiringSequence g.graph (slice_index g.start) vs
+          → HasEnded g.graph (slice_index g.start) vs → AgreesWith g log vs
       agrees vs ok ended =
-          let one = same_ends g.graph game.graph_fits (slice_index g.start) (firings log) vs (is_sequence g game some_ring log legal) all_ended ok ended in
+          let one = same_ends g.graph game.graph_fits (slice_index g.start) (firings log) vs
+          (is_sequence g game some_ring log legal) all_ended ok ended in
           record { counted = λ v. sym (counts_are g log v) ∙ one.0 v; chips = λ v l. chips_are no_seals v l ∙ one.1 v }
 
   -- ---- afterwards
 
-  still_answer : (log : Log) (x : Event) (o : Option Rule) → unmet g x (part_in g log (part_of g x)) ≡ o → IsLegalLog g log → IsClosed g log → IsClosed g (answer g log x o).0 × ((p : ℕ) → p ≢ stopper g → part_in g (answer g log x o).0 p ≡ part_in g log p)
-  still_answer log x None met legal closed = let next : IsLegalLog g (record { event = x; seen = sees g log x } ∷ log) = (legal, (met, refl)) in (still_closed log legal closed _ next, still log legal closed _ next)
+  still_answer : (log : Log) (x : Event) (o : Option Rule) → unmet g x (part_in g log (part_of g x)) ≡ o
+      → IsLegalLog g log → IsClosed g log → IsClosed g (answer g log x o).0
+      × ((p : ℕ) → p ≢ stopper g → part_in g (answer g log x o).0 p ≡ part_in g log p)
+  still_answer log x None met legal closed = let next : IsLegalLog g (record { event = x; seen = sees g log x } ∷ log) =
+      (legal, (met, refl)) in (still_closed log legal closed _ next, still log legal closed _ next)
   still_answer log x (Some r) met legal closed = (closed, λ p ne. refl)
 
   -- whatever is asked for, the root stays closed and no part changes but the stopper's
-  pub still_run : (log : Log) → IsLegalLog g log → IsClosed g log → (ys : List Event) → IsClosed g (log_after g log ys) × ((p : ℕ) → p ≢ stopper g → part_in g (log_after g log ys) p ≡ part_in g log p)
+  pub still_run : (log : Log) → IsLegalLog g log → IsClosed g log → (ys : List Event) → IsClosed g (log_after g log ys)
+      × ((p : ℕ) → p ≢ stopper g → part_in g (log_after g log ys) p ≡ part_in g log p)
   still_run log legal closed [] = (closed, λ p ne. refl)
   still_run log legal closed (y ∷ ys) =
       let one = still_answer log y (unmet g y (part_in g log (part_of g y))) refl legal closed in

@@ -10,7 +10,8 @@ use Rattle.chip_core.proofs.ReachingLemmas.{run_legal}
 use Rattle.chip_core.proofs.MessageLemmas.{nothing_after_seal, sealed_before, left_is, delivers_prefix, sent_in_order}
 use Rattle.chip_core.proofs.ClosingLemmas.{nothing_in_flight, all_ended, agrees, played, agrees_within, over, still_run}
 
-module _ (g : Setting) (game : HasGame g) (some_ring : 0 < g.ring) (log : Log) (legal : IsLegalLog g log) (xs : List Event) where
+module _ (g : Setting) (game : HasGame g) (some_ring : 0 < g.ring) (log : Log) (legal : IsLegalLog g log)
+    (xs : List Event) where
   abbrev after : Log
   after = log_after g log xs
 
@@ -19,7 +20,10 @@ module _ (g : Setting) (game : HasGame g) (some_ring : 0 < g.ring) (log : Log) (
 
   all_delivered : IsClosed g after → (e : ℕ) → e < all_edges g → delivered_on g log xs e ≡ sent_on g log xs e
   all_delivered closed e l =
-      sym (append-nil (delivered_on g log xs e)) ∙ ap (λ (ms : List Message). delivered_on g log xs e ++ ms) (sym (nothing_in_flight g game some_ring after after_legal closed e l)) ∙ left_is g game some_ring log xs e legal
+      sym (append-nil (delivered_on g log xs e))
+      ∙ ap (λ (ms : List Message). delivered_on g log xs e ++ ms)
+      (sym (nothing_in_flight g game some_ring after after_legal closed e l))
+      ∙ left_is g game some_ring log xs e legal
 
   pub headline : Headline g log xs
   headline = record {

@@ -1,11 +1,14 @@
 -- The parts and the edges in a legal log: what every one of them keeps, whatever was done.
-use Rattle.std.proofs.Common.{◌≡◌, ◌≢◌, ◌⊎◌, ℕ, ◌+◌, ◌-◌, ◌<◌, ◌≤◌, false, cond, eqb, List, [], ◌∷◌, length, Option, Some, None, option_to_list, refl, sym, ap, ◌∙◌, subst, arith, inl, inr, lt-ltb, le-ltb, pos_of_ne-zero}
+use Rattle.std.proofs.Common.{◌≡◌, ◌≢◌, ◌⊎◌, ℕ, ◌+◌, ◌-◌, ◌<◌, ◌≤◌, false, cond, eqb, List, [], ◌∷◌, length, Option}
+use Rattle.std.proofs.Common.{Some, None, option_to_list, refl, sym, ap, ◌∙◌, subst, arith, inl, inr, lt-ltb, le-ltb}
+use Rattle.std.proofs.Common.{pos_of_ne-zero}
 use mathlib.Core.Logic.{dite}
 use native.Mathlib.Decide.{ℕ_discrete, dec_lt}
 use Rattle.chip_actor.specs.Setting.{Setting, HasGame}
 use Rattle.chip_graph.proofs.SumLemmas.{cond_yes, cond_no, cond_true, cond_false}
 use Rattle.chip_link.specs.Link.{Tail, claims_of, after_clear, after_claim, after_put, after_take, after_seal, Sound}
-use Rattle.chip_link.proofs.Sounds.{clear_sound, claim_sound, put_sound, take_sound, seal_sound, fresh_sound, first_sound}
+use Rattle.chip_link.proofs.Sounds.{clear_sound, claim_sound, put_sound, take_sound, seal_sound, fresh_sound}
+use Rattle.chip_link.proofs.Sounds.{first_sound}
 use Rattle.chip_actor.specs.Edges.{start_of}
 use Rattle.chip_actor.specs.Part.{first_put, may_ack}
 use Rattle.chip_actor.specs.Steps.{link_after, settled_after, got_after, acked_after, stop_after}
@@ -15,12 +18,15 @@ use Rattle.chip_actor.proofs.RuleLemmas.{rules_met}
 use Rattle.chip_actor.proofs.PartLemmas.{at_edge, no_held}
 use Rattle.chip_actor.proofs.PartLemmas as part_lemmas
 use Rattle.chip_actor.proofs.Opening.{opening_keeps}
-use Rattle.chip_core.specs.Core.{Log, Step, Event, Take, Ack, Fire, Clear, Claim, Put, Halt, Settle, Seal, Read, Part, Out, Into, part_of, does, part_in, out_in, into_in, stop_in, sees, IsLegalLog, tail_of, head_of, root, stopper, all_edges, graph_edges}
+use Rattle.chip_core.specs.Core.{Log, Step, Event, Take, Ack, Fire, Clear, Claim, Put, Halt, Settle, Seal, Read, Part}
+use Rattle.chip_core.specs.Core.{Out, Into, part_of, does, part_in, out_in, into_in, stop_in, sees, IsLegalLog, tail_of}
+use Rattle.chip_core.specs.Core.{head_of, root, stopper, all_edges, graph_edges}
 
 module _ (g : Setting) where
   -- ---- the part that acts, and the others
 
-  pub part_here : (x : Step) (log : Log) (p : ℕ) → part_of g x.event ≡ p → part_in g (x ∷ log) p ≡ does g x (part_in g log p)
+  pub part_here : (x : Step) (log : Log) (p : ℕ) → part_of g x.event ≡ p
+      → part_in g (x ∷ log) p ≡ does g x (part_in g log p)
   part_here x log p e = cond_yes (part_of g x.event) p (does g x (part_in g log p)) (part_in g log p) e
 
   pub part_else : (x : Step) (log : Log) (p : ℕ) → part_of g x.event ≢ p → part_in g (x ∷ log) p ≡ part_in g log p
@@ -41,7 +47,8 @@ module _ (g : Setting) where
   link_idle (Read v) seen e o ne = refl
 
   settled_idle : (x : Event) (seen e : ℕ) (o : Out) → part_of g x ≢ tail_of g e → settled_after x seen e o ≡ o.settled
-  settled_idle (Settle i) seen e o ne = cond_no i e (o.settled + (seen - o.settled)) o.settled (λ z. ne (ap (tail_of g) z))
+  settled_idle (Settle i) seen e o ne = cond_no i e (o.settled + (seen - o.settled)) o.settled
+      (λ z. ne (ap (tail_of g) z))
   settled_idle (Clear i) seen e o ne = refl
   settled_idle (Claim i) seen e o ne = refl
   settled_idle (Put i) seen e o ne = refl
@@ -89,39 +96,58 @@ module _ (g : Setting) where
   stop_idle (Read v) seen e stop ne = refl
 
   -- whichever part made it: a field of the part p is what the event makes of it
-  field_step : {A : Type 0} (field : Part → A) (after : Part → A) (x : Step) (log : Log) (p : ℕ) → ((s : Part) → field (does g x s) ≡ after s) → (part_of g x.event ≢ p → after (part_in g log p) ≡ field (part_in g log p)) → field (part_in g (x ∷ log) p) ≡ after (part_in g log p)
+  field_step : {A : Type 0} (field : Part → A) (after : Part → A) (x : Step) (log : Log) (p : ℕ)
+      → ((s : Part) → field (does g x s) ≡ after s)
+      → (part_of g x.event ≢ p → after (part_in g log p) ≡ field (part_in g log p))
+      → field (part_in g (x ∷ log) p) ≡ after (part_in g log p)
   field_step field after x log p made idle = dite (ℕ_discrete (part_of g x.event) p)
       (λ same. ap field (part_here x log p same) ∙ made (part_in g log p))
       (λ other. ap field (part_else x log p other) ∙ sym (idle other))
 
-  pub link_step : (x : Step) (log : Log) (e : ℕ) → (out_in g (x ∷ log) e).link ≡ link_after x.event x.seen e (out_in g log e)
-  link_step x log e = field_step (λ (s : Part). (s.out e).link) (λ (s : Part). link_after x.event x.seen e (s.out e)) x log (tail_of g e) (λ s. refl) (link_idle x.event x.seen e (out_in g log e))
+  pub link_step : (x : Step) (log : Log) (e : ℕ)
+      → (out_in g (x ∷ log) e).link ≡ link_after x.event x.seen e (out_in g log e)
+  link_step x log e = field_step (λ (s : Part). (s.out e).link)
+      (λ (s : Part). link_after x.event x.seen e (s.out e)) x log (tail_of g e)
+      (λ s. refl) (link_idle x.event x.seen e (out_in g log e))
 
-  pub settled_step : (x : Step) (log : Log) (e : ℕ) → (out_in g (x ∷ log) e).settled ≡ settled_after x.event x.seen e (out_in g log e)
-  settled_step x log e = field_step (λ (s : Part). (s.out e).settled) (λ (s : Part). settled_after x.event x.seen e (s.out e)) x log (tail_of g e) (λ s. refl) (settled_idle x.event x.seen e (out_in g log e))
+  pub settled_step : (x : Step) (log : Log) (e : ℕ)
+      → (out_in g (x ∷ log) e).settled ≡ settled_after x.event x.seen e (out_in g log e)
+  settled_step x log e = field_step (λ (s : Part). (s.out e).settled)
+      (λ (s : Part). settled_after x.event x.seen e (s.out e)) x log (tail_of g e)
+      (λ s. refl) (settled_idle x.event x.seen e (out_in g log e))
 
-  pub got_step : (x : Step) (log : Log) (e : ℕ) → (into_in g (x ∷ log) e).got ≡ got_after x.event x.seen e (into_in g log e)
-  got_step x log e = field_step (λ (s : Part). (s.into e).got) (λ (s : Part). got_after x.event x.seen e (s.into e)) x log (head_of g e) (λ s. refl) (got_idle x.event x.seen e (into_in g log e))
+  pub got_step : (x : Step) (log : Log) (e : ℕ)
+      → (into_in g (x ∷ log) e).got ≡ got_after x.event x.seen e (into_in g log e)
+  got_step x log e = field_step (λ (s : Part). (s.into e).got)
+      (λ (s : Part). got_after x.event x.seen e (s.into e)) x log (head_of g e)
+      (λ s. refl) (got_idle x.event x.seen e (into_in g log e))
 
-  pub acked_step : (x : Step) (log : Log) (e : ℕ) → (into_in g (x ∷ log) e).acked ≡ acked_after g x.event (part_in g log (head_of g e)) e (into_in g log e)
-  acked_step x log e = field_step (λ (s : Part). (s.into e).acked) (λ (s : Part). acked_after g x.event s e (s.into e)) x log (head_of g e) (λ s. refl) (acked_idle x.event (part_in g log (head_of g e)) e (into_in g log e))
+  pub acked_step : (x : Step) (log : Log) (e : ℕ)
+      → (into_in g (x ∷ log) e).acked ≡ acked_after g x.event (part_in g log (head_of g e)) e (into_in g log e)
+  acked_step x log e = field_step (λ (s : Part). (s.into e).acked)
+      (λ (s : Part). acked_after g x.event s e (s.into e)) x log (head_of g e)
+      (λ s. refl) (acked_idle x.event (part_in g log (head_of g e)) e (into_in g log e))
 
   pub stop_step : (x : Step) (log : Log) (e : ℕ) → stop_in g (x ∷ log) e ≡ stop_after x.event x.seen e (stop_in g log e)
-  stop_step x log e = field_step (λ (s : Part). s.stop e) (λ (s : Part). stop_after x.event x.seen e (s.stop e)) x log (stopper g) (λ s. refl) (stop_idle x.event x.seen e (stop_in g log e))
+  stop_step x log e = field_step (λ (s : Part). s.stop e) (λ (s : Part). stop_after x.event x.seen e (s.stop e)) x log
+      (stopper g) (λ s. refl) (stop_idle x.event x.seen e (stop_in g log e))
 
   -- ---- whose an edge is
 
   module _ (game : HasGame g) where
     pub head_inside : (e : ℕ) → e < all_edges g → head_of g e < g.graph.vertices
     head_inside e l = dite (dec_lt e (length g.graph.edges))
-        (λ m. subst (λ (n : ℕ). n < g.graph.vertices) (sym (head_graph g e m)) (game.graph_fits.edges_fit e m).head_is_vertex)
+        (λ m. subst (λ (n : ℕ). n < g.graph.vertices) (sym (head_graph g e m))
+        (game.graph_fits.edges_fit e m).head_is_vertex)
         (λ n. let at = head_root g e (omega arith) in omega arith)
 
     pub tail_inside : (e : ℕ) → e < graph_edges g → tail_of g e < g.graph.vertices
-    tail_inside e l = subst (λ (n : ℕ). n < g.graph.vertices) (sym (tail_graph g e l)) (game.graph_fits.edges_fit e l).tail_is_vertex
+    tail_inside e l = subst (λ (n : ℕ). n < g.graph.vertices) (sym (tail_graph g e l))
+        (game.graph_fits.edges_fit e l).tail_is_vertex
 
     pub tail_cases : (e : ℕ) → (tail_of g e ≡ root g) ⊎ (tail_of g e < g.graph.vertices)
-    tail_cases e = dite (dec_lt e (length g.graph.edges)) (λ m. inr (tail_inside e m)) (λ n. inl (tail_root g e (omega arith)))
+    tail_cases e = dite (dec_lt e (length g.graph.edges)) (λ m. inr (tail_inside e m))
+        (λ n. inl (tail_root g e (omega arith)))
 
   module _ (game : HasGame g) where
     -- ---- every part
@@ -131,11 +157,14 @@ module _ (g : Setting) where
     part_kept [] legal p = opening_keeps g game p
     part_kept (x ∷ log) legal p = dite (ℕ_discrete (part_of g x.event) p)
         (λ same. subst (KeepsPart g p) (sym (part_here x log p same))
-        (part_lemmas.part_kept g x.event x.seen p (part_in g log p) (sym same) (subst (λ (q : ℕ). Met g x.event (part_in g log q)) same (rules_met g x.event (part_in g log (part_of g x.event)) legal.1.0)) (part_kept log legal.0 p)))
+        (part_lemmas.part_kept g x.event x.seen p (part_in g log p) (sym same)
+        (subst (λ (q : ℕ). Met g x.event (part_in g log q)) same
+        (rules_met g x.event (part_in g log (part_of g x.event)) legal.1.0)) (part_kept log legal.0 p)))
         (λ other. subst (KeepsPart g p) (sym (part_else x log p other)) (part_kept log legal.0 p))
 
     -- an edge out of its tail
-    pub out_kept : (log : Log) → IsLegalLog g log → (e : ℕ) → KeepsOut g e (out_in g log e).link (out_in g log e).pending (part_in g log (tail_of g e)).fired
+    pub out_kept : (log : Log) → IsLegalLog g log → (e : ℕ)
+        → KeepsOut g e (out_in g log e).link (out_in g log e).pending (part_in g log (tail_of g e)).fired
     out_kept log legal e = (part_kept log legal (tail_of g e)).outs e refl
 
     -- ---- every edge
@@ -144,18 +173,31 @@ module _ (g : Setting) where
       SoundAt : Log → ℕ → Type 0
       SoundAt log e = Sound g.ring (out_in g log e).link (into_in g log e).got (stop_in g log e)
 
-      edge_step : (log : Log) (x : Event) (seen : ℕ) → IsLegalLog g log → Met g x (part_in g log (part_of g x)) → seen ≡ sees g log x → ((e : ℕ) → SoundAt log e)
-          → (e : ℕ) → Sound g.ring (link_after x seen e (out_in g log e)) (got_after x seen e (into_in g log e)) (stop_after x seen e (stop_in g log e))
+      edge_step : (log : Log) (x : Event) (seen : ℕ) → IsLegalLog g log → Met g x (part_in g log (part_of g x))
+          → seen ≡ sees g log x → ((e : ℕ) → SoundAt log e)
+          → (e : ℕ) → Sound g.ring (link_after x seen e (out_in g log e)) (got_after x seen e (into_in g log e))
+          (stop_after x seen e (stop_in g log e))
       unfolding SoundAt
-      edge_step log (Clear e) seen legal may is ok = at_edge (λ i (t : Tail). Sound g.ring t (into_in g log i).got (stop_in g log i)) e (λ i. after_clear seen (out_in g log i).link) (λ i. (out_in g log i).link)
+      edge_step log (Clear e) seen legal may is ok = at_edge
+          (λ i (t : Tail). Sound g.ring t (into_in g log i).got (stop_in g log i)) e
+          (λ i. after_clear seen (out_in g log i).link) (λ i. (out_in g log i).link)
           (clear_sound g.ring some_ring _ _ _ (ok e) seen ((out_kept log legal e).free_hand may.0 may.3) is) ok
-      edge_step log (Claim e) seen legal may is ok = at_edge (λ i (t : Tail). Sound g.ring t (into_in g log i).got (stop_in g log i)) e (λ i. after_claim (out_in g log i).pending seen (out_in g log i).link) (λ i. (out_in g log i).link)
-          (claim_sound g.ring some_ring _ _ _ (ok e) (out_in g log e).pending seen ((out_kept log legal e).clear_pends may.0 may.2) may.2 is) ok
-      edge_step log (Put e) seen legal may is ok = at_edge (λ i (t : Tail). Sound g.ring t (into_in g log i).got (stop_in g log i)) e (λ i. after_put (out_in g log i).link) (λ i. (out_in g log i).link)
+      edge_step log (Claim e) seen legal may is ok = at_edge
+          (λ i (t : Tail). Sound g.ring t (into_in g log i).got (stop_in g log i)) e
+          (λ i. after_claim (out_in g log i).pending seen (out_in g log i).link) (λ i. (out_in g log i).link)
+          (claim_sound g.ring some_ring _ _ _ (ok e) (out_in g log e).pending seen
+          ((out_kept log legal e).clear_pends may.0 may.2) may.2 is) ok
+      edge_step log (Put e) seen legal may is ok = at_edge
+          (λ i (t : Tail). Sound g.ring t (into_in g log i).got (stop_in g log i)) e
+          (λ i. after_put (out_in g log i).link) (λ i. (out_in g log i).link)
           (put_sound g.ring some_ring _ _ _ (ok e) may.1.0 may.1.1) ok
-      edge_step log (Take e) seen legal may is ok = at_edge (λ i (l : List ℕ). Sound g.ring (out_in g log i).link l (stop_in g log i)) e (λ i. after_take seen (into_in g log i).got) (λ i. (into_in g log i).got)
+      edge_step log (Take e) seen legal may is ok = at_edge
+          (λ i (l : List ℕ). Sound g.ring (out_in g log i).link l (stop_in g log i)) e
+          (λ i. after_take seen (into_in g log i).got) (λ i. (into_in g log i).got)
           (take_sound g.ring some_ring _ _ _ (ok e) seen is) ok
-      edge_step log (Seal e) seen legal may is ok = at_edge (λ i (stop : Option ℕ). Sound g.ring (out_in g log i).link (into_in g log i).got stop) e (λ i. after_seal seen (stop_in g log i)) (λ i. stop_in g log i)
+      edge_step log (Seal e) seen legal may is ok = at_edge
+          (λ i (stop : Option ℕ). Sound g.ring (out_in g log i).link (into_in g log i).got stop) e
+          (λ i. after_seal seen (stop_in g log i)) (λ i. stop_in g log i)
           (seal_sound g.ring _ _ _ seen is (ok e)) ok
       edge_step log (Ack e) seen legal may is ok = ok
       edge_step log (Fire v k) seen legal may is ok = ok
@@ -164,10 +206,13 @@ module _ (g : Setting) where
       edge_step log (Read v) seen legal may is ok = ok
 
       -- an edge with nothing on it, and a root edge with one message
-      first_sound_at : (e : ℕ) → Sound g.ring (record { put = first_put g e; held = None; clear = false; refused = false }) [] None
+      first_sound_at : (e : ℕ) → Sound g.ring
+          (record { put = first_put g e; held = None; clear = false; refused = false }) [] None
       first_sound_at e = dite (dec_lt e (length g.graph.edges))
-          (λ l. subst Opens (sym (cond_true _ [] (cond (eqb s 0) [] (s ∷ [])) (lt-ltb e (length g.graph.edges) l))) (fresh_sound g.ring some_ring))
-          (λ n. subst Opens (sym (cond_false _ [] (cond (eqb s 0) [] (s ∷ [])) (le-ltb e (length g.graph.edges) (omega arith)))) (dite (ℕ_discrete s 0)
+          (λ l. subst Opens (sym (cond_true _ [] (cond (eqb s 0) [] (s ∷ [])) (lt-ltb e (length g.graph.edges) l)))
+          (fresh_sound g.ring some_ring))
+          (λ n. subst Opens (sym (cond_false _ [] (cond (eqb s 0) [] (s ∷ []))
+          (le-ltb e (length g.graph.edges) (omega arith)))) (dite (ℕ_discrete s 0)
           (λ z. subst Opens (sym (cond_yes s 0 [] (s ∷ []) z)) (fresh_sound g.ring some_ring))
           (λ z. subst Opens (sym (cond_no s 0 [] (s ∷ []) z)) (first_sound g.ring s some_ring (pos_of_ne-zero z)))))
         where
@@ -177,18 +222,27 @@ module _ (g : Setting) where
           Opens : List ℕ → Type 0
           Opens put = Sound g.ring (record { put = put; held = None; clear = false; refused = false }) [] None
 
-      pub edge_sound : (log : Log) → IsLegalLog g log → (e : ℕ) → Sound g.ring (out_in g log e).link (into_in g log e).got (stop_in g log e)
+      pub edge_sound : (log : Log) → IsLegalLog g log → (e : ℕ)
+          → Sound g.ring (out_in g log e).link (into_in g log e).got (stop_in g log e)
       unfolding SoundAt
       edge_sound [] legal e = first_sound_at e
-      edge_sound (x ∷ log) legal e = subst (λ (z : Tail × List ℕ × Option ℕ). Sound g.ring z.0 z.1 z.2) (λ j. (sym (link_step x log e) j, sym (got_step x log e) j, sym (stop_step x log e) j))
-          (edge_step log x.event x.seen legal.0 (rules_met g x.event (part_in g log (part_of g x.event)) legal.1.0) legal.1.1 (edge_sound log legal.0) e)
+      edge_sound (x ∷ log) legal e = subst (λ (z : Tail × List ℕ × Option ℕ). Sound g.ring z.0 z.1 z.2)
+          (λ j. (sym (link_step x log e) j, sym (got_step x log e) j, sym (stop_step x log e) j))
+          (edge_step log x.event x.seen legal.0 (rules_met g x.event (part_in g log (part_of g x.event)) legal.1.0)
+          legal.1.1 (edge_sound log legal.0) e)
 
     -- ---- the counts of an edge
 
-    settle_step : (log : Log) (x : Event) (seen : ℕ) → seen ≡ sees g log x → ((e : ℕ) → (out_in g log e).settled ≤ (into_in g log e).acked)
-        → (e : ℕ) → settled_after x seen e (out_in g log e) ≤ acked_after g x (part_in g log (head_of g e)) e (into_in g log e)
-    settle_step log (Settle e) seen is ok = at_edge (λ i (n : ℕ). n ≤ (into_in g log i).acked) e (λ i. (out_in g log i).settled + (seen - (out_in g log i).settled)) (λ i. (out_in g log i).settled) (let a = ok e in omega arith) ok
-    settle_step log (Ack e) seen is ok = at_edge (λ i (n : ℕ). (out_in g log i).settled ≤ n) e (λ i. (into_in g log i).acked + may_ack g (head_of g e) (part_in g log (head_of g i)) e) (λ i. (into_in g log i).acked) (let a = ok e in omega arith) ok
+    settle_step : (log : Log) (x : Event) (seen : ℕ) → seen ≡ sees g log x
+        → ((e : ℕ) → (out_in g log e).settled ≤ (into_in g log e).acked)
+        → (e : ℕ) → settled_after x seen e (out_in g log e)
+        ≤ acked_after g x (part_in g log (head_of g e)) e (into_in g log e)
+    settle_step log (Settle e) seen is ok = at_edge (λ i (n : ℕ). n ≤ (into_in g log i).acked) e
+        (λ i. (out_in g log i).settled + (seen - (out_in g log i).settled)) (λ i. (out_in g log i).settled) (let a = ok e
+        in omega arith) ok
+    settle_step log (Ack e) seen is ok = at_edge (λ i (n : ℕ). (out_in g log i).settled ≤ n) e
+        (λ i. (into_in g log i).acked + may_ack g (head_of g e) (part_in g log (head_of g i)) e)
+        (λ i. (into_in g log i).acked) (let a = ok e in omega arith) ok
     settle_step log (Take e) seen is ok = ok
     settle_step log (Fire v k) seen is ok = ok
     settle_step log (Clear e) seen is ok = ok
@@ -211,8 +265,11 @@ module _ (g : Setting) where
 
     -- settled, acknowledged, delivered, put and claimed, each at most the next
     pub edge_counts : 0 < g.ring → (log : Log) → IsLegalLog g log → (e : ℕ)
-        → ((out_in g log e).settled ≤ (into_in g log e).acked) × ((into_in g log e).acked ≤ length (into_in g log e).got) × (length (into_in g log e).got ≤ length (out_in g log e).link.put)
-        × (length (out_in g log e).link.put ≤ claims_of (out_in g log e).link) × (claims_of (out_in g log e).link ≤ length (out_in g log e).link.put + 1)
+        → ((out_in g log e).settled ≤ (into_in g log e).acked)
+        × ((into_in g log e).acked ≤ length (into_in g log e).got)
+        × (length (into_in g log e).got ≤ length (out_in g log e).link.put)
+        × (length (out_in g log e).link.put ≤ claims_of (out_in g log e).link)
+        × (claims_of (out_in g log e).link ≤ length (out_in g log e).link.put + 1)
     edge_counts some_ring log legal e =
         let s = edge_sound some_ring log legal e in
         let one = held_one (out_in g log e).link.held in

@@ -1,5 +1,7 @@
 -- The messages that are read off the replies are those of the parts; nothing is sent on a sealed edge.
-use Rattle.std.proofs.Common.{◌≡◌, ◌≢◌, ℕ, ◌+◌, ◌*◌, ◌<◌, ◌≤◌, ◌||◌, Bool, true, false, cond, eqb, List, [], ◌∷◌, ◌++◌, length, sum, take, drop, option_to_list, Option, Some, None, is_some, refl, sym, ap, ◌∙◌, subst, arith, true≢false, append_assoc, append-nil, length-append}
+use Rattle.std.proofs.Common.{◌≡◌, ◌≢◌, ℕ, ◌+◌, ◌*◌, ◌<◌, ◌≤◌, ◌||◌, Bool, true, false, cond, eqb, List, [], ◌∷◌, ◌++◌}
+use Rattle.std.proofs.Common.{length, sum, take, drop, option_to_list, Option, Some, None, is_some, refl, sym, ap, ◌∙◌}
+use Rattle.std.proofs.Common.{subst, arith, true≢false, append_assoc, append-nil, length-append}
 use Rattle.std.proofs.lemmas.Bool.{or_right}
 use Rattle.std.proofs.lemmas.List.{take-append-le, take-append-drop, drop_at, append_cancel_left}
 use Rattle.std.proofs.lemmas.List.Sums.{sum_by-cons}
@@ -20,8 +22,12 @@ use Rattle.chip_actor.specs.Steps.{message_of, link_after, got_after}
 use Rattle.chip_actor.proofs.RuleLemmas.{rules_met}
 use Rattle.chip_actor.proofs.PartLemmas.{at_edge, took_none}
 use Rattle.chip_actor.proofs.Opening.{first_few}
-use Rattle.chip_core.specs.Core.{Log, Event, Take, Ack, Fire, Clear, Claim, Put, Halt, Settle, Seal, Read, Rule, Out, unmet, part_of, reply_of, part_in, out_in, into_in, stop_in, fired_by, sees, IsLegalLog, answer, step, log_after, replies_to, tail_of, head_of, graph_edges}
-use Rattle.chip_core.specs.Messages.{Message, sent_by, delivered_by, is_seal_of, sent_in, sent_after_seal, is_seal, was_sealed, messages_from, counts_in_flight, in_flight, sent_on, delivered_on, AreInOrderFrom, chips_in}
+use Rattle.chip_core.specs.Core.{Log, Event, Take, Ack, Fire, Clear, Claim, Put, Halt, Settle, Seal, Read, Rule, Out}
+use Rattle.chip_core.specs.Core.{unmet, part_of, reply_of, part_in, out_in, into_in, stop_in, fired_by, sees}
+use Rattle.chip_core.specs.Core.{IsLegalLog, answer, step, log_after, replies_to, tail_of, head_of, graph_edges}
+use Rattle.chip_core.specs.Messages.{Message, sent_by, delivered_by, is_seal_of, sent_in, sent_after_seal, is_seal}
+use Rattle.chip_core.specs.Messages.{was_sealed, messages_from, counts_in_flight, in_flight, sent_on, delivered_on}
+use Rattle.chip_core.specs.Messages.{AreInOrderFrom, chips_in}
 use Rattle.chip_core.specs.Positions.{held}
 use Rattle.chip_core.specs.Laws.{SentStands, OpeningMessages, InOrderFromTheOpening, HeldFromTheOpening}
 use Rattle.chip_core.proofs.LogLemmas.{edge_sound, link_step, got_step}
@@ -35,15 +41,18 @@ is_numbered : (e n : ℕ) (xs : List ℕ) → messages_from e n xs ≡ numbered 
 is_numbered e n [] = refl
 is_numbered e n (x ∷ xs) = ap (λ (ms : List Message). message_of e n x ∷ ms) (is_numbered e (n + 1) xs)
 
-pub messages-append : (e n : ℕ) (xs ys : List ℕ) → messages_from e n (xs ++ ys) ≡ messages_from e n xs ++ messages_from e (n + length xs) ys
+pub messages-append : (e n : ℕ) (xs ys : List ℕ)
+    → messages_from e n (xs ++ ys) ≡ messages_from e n xs ++ messages_from e (n + length xs) ys
 messages-append e n xs ys = is_numbered e n (xs ++ ys) ∙ numbered-append e n xs ys
-    ∙ ap (λ (ms : List Message). ms ++ numbered e (n + length xs) ys) (sym (is_numbered e n xs)) ∙ ap (λ (ms : List Message). messages_from e n xs ++ ms) (sym (is_numbered e (n + length xs) ys))
+    ∙ ap (λ (ms : List Message). ms ++ numbered e (n + length xs) ys) (sym (is_numbered e n xs))
+    ∙ ap (λ (ms : List Message). messages_from e n xs ++ ms) (sym (is_numbered e (n + length xs) ys))
 
 pub length-messages : (e n : ℕ) (xs : List ℕ) → length (messages_from e n xs) ≡ length xs
 length-messages e n xs = ap length (is_numbered e n xs) ∙ length-numbered e n xs
 
 pub messages_in_order : (e n : ℕ) (xs : List ℕ) → AreInOrderFrom e n (messages_from e n xs)
-messages_in_order e n xs p m is = numbered_at e n xs p m (ap (λ (ms : List Message). slice_get ms p) (sym (is_numbered e n xs)) ∙ is)
+messages_in_order e n xs p m is = numbered_at e n xs p m
+    (ap (λ (ms : List Message). slice_get ms p) (sym (is_numbered e n xs)) ∙ is)
 
 chips_messages : (e n : ℕ) (xs : List ℕ) → chips_in (messages_from e n xs) ≡ sum xs
 chips_messages e n [] = refl
@@ -54,8 +63,10 @@ chips_messages e n (x ∷ xs) =
     omega arith
 
 -- one more count, in the list as it is to stand
-push : (e : ℕ) (xs : List ℕ) (n c : ℕ) → n ≡ length xs → messages_from e 0 (xs ++ c ∷ []) ≡ messages_from e 0 xs ++ message_of e n c ∷ []
-push e xs n c is = messages-append e 0 xs (c ∷ []) ∙ ap (λ (k : ℕ). messages_from e 0 xs ++ message_of e k c ∷ []) (let z : 0 + length xs ≡ n = omega arith in z)
+push : (e : ℕ) (xs : List ℕ) (n c : ℕ) → n ≡ length xs
+    → messages_from e 0 (xs ++ c ∷ []) ≡ messages_from e 0 xs ++ message_of e n c ∷ []
+push e xs n c is = messages-append e 0 xs (c ∷ [])
+    ∙ ap (λ (k : ℕ). messages_from e 0 xs ++ message_of e k c ∷ []) (let z : 0 + length xs ≡ n = omega arith in z)
 
 -- ---- replies that tell of no message
 
@@ -96,16 +107,19 @@ not_seal e (Settle i) r = refl
 not_seal e (Read v) r = refl
 
 -- as at_edge, where the claim on the others needs that they are others
-at_other : {A : Type 0} (P : ℕ → A → Type 0) (e : ℕ) (new old : ℕ → A) → P e (new e) → ((i : ℕ) → e ≢ i → P i (old i)) → (i : ℕ) → P i (cond (eqb e i) (new i) (old i))
+at_other : {A : Type 0} (P : ℕ → A → Type 0) (e : ℕ) (new old : ℕ → A) → P e (new e) → ((i : ℕ) → e ≢ i → P i (old i))
+    → (i : ℕ) → P i (cond (eqb e i) (new i) (old i))
 at_other P e new old here rest i = dite (ℕ_discrete e i)
-    (λ same. subst (λ (k : ℕ). P k (cond (eqb e k) (new k) (old k))) same (subst (P e) (sym (cond_yes e e (new e) (old e) refl)) here))
+    (λ same. subst (λ (k : ℕ). P k (cond (eqb e k) (new k) (old k))) same
+    (subst (P e) (sym (cond_yes e e (new e) (old e) refl)) here))
     (λ other. subst (P i) (sym (cond_no e i (new i) (old i) other)) (rest i other))
 
 module _ (g : Setting) where
   -- ---- seals
 
   -- a claim of a sealed edge isn't answered by a message
-  refused_claim : (log : Log) (e : ℕ) → was_sealed log e ≡ true → (i : ℕ) → sent_by e (Claim i) (reply_of g (Claim i) (sees g log (Claim i)) (part_in g log (tail_of g i))) ≡ []
+  refused_claim : (log : Log) (e : ℕ) → was_sealed log e ≡ true → (i : ℕ)
+      → sent_by e (Claim i) (reply_of g (Claim i) (sees g log (Claim i)) (part_in g log (tail_of g i))) ≡ []
   refused_claim log e was i =
       let seen : ℕ = sees g log (Claim i) in
       let t : Tail = (out_in g log i).link in
@@ -119,7 +133,8 @@ module _ (g : Setting) where
       (λ hit. ap (sent_by e (Claim i)) (cond_true _ (Sent m) Sealed hit) ∙ cond_no i e (m ∷ []) [] other)
       (λ miss. ap (sent_by e (Claim i)) (cond_false _ (Sent m) Sealed miss)))
 
-  no_send : (log : Log) (e : ℕ) → was_sealed log e ≡ true → (x : Event) (o : Option Rule) → sent_by e x (answer g log x o).1 ≡ []
+  no_send : (log : Log) (e : ℕ) → was_sealed log e ≡ true → (x : Event) (o : Option Rule)
+      → sent_by e x (answer g log x o).1 ≡ []
   no_send log e was x (Some r) = not_sent e x r
   no_send log e was (Claim i) None = refused_claim log e was i
   no_send log e was (Take i) None = refl
@@ -132,18 +147,22 @@ module _ (g : Setting) where
   no_send log e was (Seal i) None = refl
   no_send log e was (Read v) None = refl
 
-  stays_sealed : (log : Log) (e : ℕ) → was_sealed log e ≡ true → (x : Event) (o : Option Rule) → was_sealed (answer g log x o).0 e ≡ true
+  stays_sealed : (log : Log) (e : ℕ) → was_sealed log e ≡ true → (x : Event) (o : Option Rule)
+      → was_sealed (answer g log x o).0 e ≡ true
   stays_sealed log e was x (Some r) = was
   stays_sealed log e was x None = or_right (is_seal e x) (was_sealed log e) was
 
   -- on an edge that is sealed nothing is sent any more
-  pub sealed_before : (log : Log) (xs : List Event) (e : ℕ) → was_sealed log e ≡ true → sent_in e xs (replies_to g log xs) ≡ []
+  pub sealed_before : (log : Log) (xs : List Event) (e : ℕ) → was_sealed log e ≡ true
+      → sent_in e xs (replies_to g log xs) ≡ []
   sealed_before log [] e was = refl
   sealed_before log (x ∷ xs) e was =
       let o : Option Rule = unmet g x (part_in g log (part_of g x)) in
-      ap (λ (ms : List Message). ms ++ sent_in e xs (replies_to g (step g log x).0 xs)) (no_send log e was x o) ∙ sealed_before (step g log x).0 xs e (stays_sealed log e was x o)
+      ap (λ (ms : List Message). ms ++ sent_in e xs (replies_to g (step g log x).0 xs)) (no_send log e was x o)
+      ∙ sealed_before (step g log x).0 xs e (stays_sealed log e was x o)
 
-  now_sealed : (log : Log) (e : ℕ) (x : Event) (o : Option Rule) → is_seal_of e x (answer g log x o).1 ≡ true → was_sealed (answer g log x o).0 e ≡ true
+  now_sealed : (log : Log) (e : ℕ) (x : Event) (o : Option Rule) → is_seal_of e x (answer g log x o).1 ≡ true
+      → was_sealed (answer g log x o).0 e ≡ true
   now_sealed log e x (Some r) is = absurd (true≢false (sym is ∙ not_seal e x r))
   now_sealed log e (Seal i) None is = ap (λ (b : Bool). b || was_sealed log e) is
   now_sealed log e (Take i) None is = absurd (true≢false (sym is))
@@ -163,8 +182,10 @@ module _ (g : Setting) where
       let next : Log = (step g log x).0 in
       let here : Bool = is_seal_of e x (step g log x).1 in
       by_test here
-      (λ on. cond_true here (sent_in e xs (replies_to g next xs)) (sent_after_seal e xs (replies_to g next xs)) on ∙ sealed_before next xs e (now_sealed log e x (unmet g x (part_in g log (part_of g x))) on))
-      (λ off. cond_false here (sent_in e xs (replies_to g next xs)) (sent_after_seal e xs (replies_to g next xs)) off ∙ nothing_after_seal next xs e)
+      (λ on. cond_true here (sent_in e xs (replies_to g next xs)) (sent_after_seal e xs (replies_to g next xs)) on
+      ∙ sealed_before next xs e (now_sealed log e x (unmet g x (part_in g log (part_of g x))) on))
+      (λ off. cond_false here (sent_in e xs (replies_to g next xs)) (sent_after_seal e xs (replies_to g next xs)) off
+      ∙ nothing_after_seal next xs e)
 
   -- ---- what was delivered
 
@@ -172,22 +193,30 @@ module _ (g : Setting) where
   abbrev got_at : Log → ℕ → List Message
   got_at log e = messages_from e 0 (into_in g log e).got
 
-  got_event : (x : Event) (log : Log) (e : ℕ) → messages_from e 0 (got_after x (sees g log x) e (into_in g log e)) ≡ got_at log e ++ delivered_by e x (reply_of g x (sees g log x) (part_in g log (part_of g x)))
+  got_event : (x : Event) (log : Log) (e : ℕ) → messages_from e 0 (got_after x (sees g log x) e (into_in g log e))
+      ≡ got_at log e ++ delivered_by e x (reply_of g x (sees g log x) (part_in g log (part_of g x)))
   got_event (Take i) log e =
       let seen : ℕ = sees g log (Take i) in
       let got : List ℕ = (into_in g log i).got in
       let m : Message = message_of i (length got) seen in
       dite (ℕ_discrete seen 0)
       (λ none.
-      let reply : delivered_by e (Take i) (reply_of g (Take i) seen (part_in g log (head_of g i))) ≡ [] = ap (delivered_by e (Take i)) (cond_yes seen 0 Empty (Got m) none) in
-      ap (messages_from e 0) (at_edge (λ j (l : List ℕ). l ≡ (into_in g log j).got) i (λ j. after_take seen (into_in g log j).got) (λ j. (into_in g log j).got) (took_none g seen got none) (λ j. refl) e)
+      let reply : delivered_by e (Take i) (reply_of g (Take i) seen (part_in g log (head_of g i)))
+      ≡ [] = ap (delivered_by e (Take i)) (cond_yes seen 0 Empty (Got m) none) in
+      ap (messages_from e 0) (at_edge (λ j (l : List ℕ). l ≡ (into_in g log j).got) i
+      (λ j. after_take seen (into_in g log j).got) (λ j. (into_in g log j).got) (took_none g seen got none)
+      (λ j. refl) e)
       ∙ sym (append-nil (got_at log e)) ∙ sym (ap (λ (l : List Message). got_at log e ++ l) reply))
       (λ some.
-      let reply : delivered_by e (Take i) (reply_of g (Take i) seen (part_in g log (head_of g i))) ≡ cond (eqb i e) (m ∷ []) [] = ap (delivered_by e (Take i)) (cond_no seen 0 Empty (Got m) some) in
+      let reply : delivered_by e (Take i) (reply_of g (Take i) seen (part_in g log (head_of g i)))
+      ≡ cond (eqb i e) (m ∷ []) [] = ap (delivered_by e (Take i)) (cond_no seen 0 Empty (Got m) some) in
       let is : after_take seen got ≡ got ++ seen ∷ [] = cond_no seen 0 got (got ++ seen ∷ []) some in
-      at_other (λ j (l : List ℕ). messages_from j 0 l ≡ got_at log j ++ cond (eqb i j) (m ∷ []) []) i (λ j. after_take seen (into_in g log j).got) (λ j. (into_in g log j).got)
-      (ap (messages_from i 0) is ∙ push i got (length got) seen refl ∙ sym (ap (λ (l : List Message). got_at log i ++ l) (cond_yes i i (m ∷ []) [] refl)))
-      (λ j n. sym (ap (λ (l : List Message). got_at log j ++ l) (cond_no i j (m ∷ []) [] n) ∙ append-nil (got_at log j))) e
+      at_other (λ j (l : List ℕ). messages_from j 0 l ≡ got_at log j ++ cond (eqb i j) (m ∷ []) []) i
+      (λ j. after_take seen (into_in g log j).got) (λ j. (into_in g log j).got)
+      (ap (messages_from i 0) is ∙ push i got (length got) seen refl
+      ∙ sym (ap (λ (l : List Message). got_at log i ++ l) (cond_yes i i (m ∷ []) [] refl)))
+      (λ j n. sym (ap (λ (l : List Message). got_at log j ++ l) (cond_no i j (m ∷ []) [] n)
+      ∙ append-nil (got_at log j))) e
       ∙ sym (ap (λ (l : List Message). got_at log e ++ l) reply))
   got_event (Claim i) log e = sym (append-nil (got_at log e))
   got_event (Clear i) log e = sym (append-nil (got_at log e))
@@ -199,16 +228,21 @@ module _ (g : Setting) where
   got_event (Seal i) log e = sym (append-nil (got_at log e))
   got_event (Read v) log e = sym (append-nil (got_at log e))
 
-  got_answer : (log : Log) (x : Event) (o : Option Rule) (e : ℕ) → got_at (answer g log x o).0 e ≡ got_at log e ++ delivered_by e x (answer g log x o).1
-  got_answer log x None e = ap (messages_from e 0) (got_step g (record { event = x; seen = sees g log x }) log e) ∙ got_event x log e
-  got_answer log x (Some r) e = sym (ap (λ (l : List Message). got_at log e ++ l) (not_delivered e x r) ∙ append-nil (got_at log e))
+  got_answer : (log : Log) (x : Event) (o : Option Rule) (e : ℕ)
+      → got_at (answer g log x o).0 e ≡ got_at log e ++ delivered_by e x (answer g log x o).1
+  got_answer log x None e = ap (messages_from e 0) (got_step g (record { event = x; seen = sees g log x }) log e)
+      ∙ got_event x log e
+  got_answer log x (Some r) e = sym (ap (λ (l : List Message). got_at log e ++ l) (not_delivered e x r)
+      ∙ append-nil (got_at log e))
 
   -- after a run: what was delivered before it, and what its replies say
-  delivered_is : (log : Log) (xs : List Event) (e : ℕ) → got_at (log_after g log xs) e ≡ got_at log e ++ delivered_on g log xs e
+  delivered_is : (log : Log) (xs : List Event) (e : ℕ)
+      → got_at (log_after g log xs) e ≡ got_at log e ++ delivered_on g log xs e
   delivered_is log [] e = sym (append-nil (got_at log e))
   delivered_is log (x ∷ xs) e =
       delivered_is (step g log x).0 xs e
-      ∙ ap (λ (l : List Message). l ++ delivered_on g (step g log x).0 xs e) (got_answer log x (unmet g x (part_in g log (part_of g x))) e)
+      ∙ ap (λ (l : List Message). l ++ delivered_on g (step g log x).0 xs e)
+      (got_answer log x (unmet g x (part_in g log (part_of g x))) e)
       ∙ append_assoc (got_at log e) (delivered_by e x (step g log x).1) (delivered_on g (step g log x).0 xs e)
 
   module _ (game : HasGame g) (some_ring : 0 < g.ring) where
@@ -219,9 +253,17 @@ module _ (g : Setting) where
     sent_at log e = messages_from e 0 (sent_counts (out_in g log e).link)
 
     sent_event : (x : Event) (log : Log) (e : ℕ) → IsLegalLog g log → unmet g x (part_in g log (part_of g x)) ≡ None
-        → messages_from e 0 (sent_counts (link_after x (sees g log x) e (out_in g log e))) ≡ sent_at log e ++ sent_by e x (reply_of g x (sees g log x) (part_in g log (part_of g x)))
-    sent_event (Clear i) log e legal met = ap (messages_from e 0) (at_edge (λ j (t : Tail). sent_counts t ≡ sent_counts (out_in g log j).link) i (λ j. after_clear (sees g log (Clear i)) (out_in g log j).link) (λ j. (out_in g log j).link) refl (λ j. refl) e) ∙ sym (append-nil (sent_at log e))
-    sent_event (Put i) log e legal met = ap (messages_from e 0) (at_edge (λ j (t : Tail). sent_counts t ≡ sent_counts (out_in g log j).link) i (λ j. after_put (out_in g log j).link) (λ j. (out_in g log j).link) (append-nil (sent_counts (out_in g log i).link)) (λ j. refl) e) ∙ sym (append-nil (sent_at log e))
+        → messages_from e 0 (sent_counts (link_after x (sees g log x) e (out_in g log e))) ≡ sent_at log e
+        ++ sent_by e x (reply_of g x (sees g log x) (part_in g log (part_of g x)))
+    sent_event (Clear i) log e legal met = ap (messages_from e 0)
+        (at_edge (λ j (t : Tail). sent_counts t ≡ sent_counts (out_in g log j).link) i
+        (λ j. after_clear (sees g log (Clear i)) (out_in g log j).link) (λ j. (out_in g log j).link) refl (λ j. refl) e)
+        ∙ sym (append-nil (sent_at log e))
+    sent_event (Put i) log e legal met = ap (messages_from e 0)
+        (at_edge (λ j (t : Tail). sent_counts t ≡ sent_counts (out_in g log j).link) i
+        (λ j. after_put (out_in g log j).link)
+        (λ j. (out_in g log j).link) (append-nil (sent_counts (out_in g log i).link)) (λ j. refl) e)
+        ∙ sym (append-nil (sent_at log e))
     sent_event (Claim i) log e legal met =
         let seen : ℕ = sees g log (Claim i) in
         let o : Out = out_in g log i in
@@ -232,16 +274,28 @@ module _ (g : Setting) where
         let may = rules_met g (Claim i) (part_in g log (tail_of g i)) met in
         let empty : t.held ≡ None = (edge_sound g game some_ring log legal i).quiet may.2 in
         let all : sent_counts t ≡ t.put = ap (λ (h : Option ℕ). t.put ++ option_to_list h) empty ∙ append-nil t.put in
-        let is : sent_counts (after_claim o.pending seen t) ≡ sent_counts t ++ o.pending ∷ [] = ap sent_counts (cond_yes seen (claims_of t) (record t { held = Some o.pending; clear = false }) (record t { clear = false; refused = true }) hit) ∙ ap (λ (l : List ℕ). l ++ o.pending ∷ []) (sym all) in
-        let reply : sent_by e (Claim i) (reply_of g (Claim i) seen (part_in g log (tail_of g i))) ≡ cond (eqb i e) (m ∷ []) [] = ap (sent_by e (Claim i)) (cond_yes seen (claims_of t) (Sent m) Sealed hit) in
-        at_other (λ j (u : Tail). messages_from j 0 (sent_counts u) ≡ sent_at log j ++ cond (eqb i j) (m ∷ []) []) i (λ j. after_claim (out_in g log j).pending seen (out_in g log j).link) (λ j. (out_in g log j).link)
-        (ap (messages_from i 0) is ∙ push i (sent_counts t) (claims_of t) o.pending (sym (length-sent_counts t)) ∙ sym (ap (λ (l : List Message). sent_at log i ++ l) (cond_yes i i (m ∷ []) [] refl)))
-        (λ j n. sym (ap (λ (l : List Message). sent_at log j ++ l) (cond_no i j (m ∷ []) [] n) ∙ append-nil (sent_at log j))) e
+        let is : sent_counts (after_claim o.pending seen t) ≡ sent_counts t ++ o.pending ∷ [] =
+        ap sent_counts (cond_yes seen (claims_of t) (record t { held = Some o.pending; clear = false })
+        (record t { clear = false; refused = true }) hit) ∙ ap (λ (l : List ℕ). l ++ o.pending ∷ []) (sym all) in
+        let reply : sent_by e (Claim i) (reply_of g (Claim i) seen (part_in g log (tail_of g i)))
+        ≡ cond (eqb i e) (m ∷ []) [] = ap (sent_by e (Claim i)) (cond_yes seen (claims_of t) (Sent m) Sealed hit) in
+        at_other (λ j (u : Tail). messages_from j 0 (sent_counts u) ≡ sent_at log j ++ cond (eqb i j) (m ∷ []) []) i
+        (λ j. after_claim (out_in g log j).pending seen (out_in g log j).link) (λ j. (out_in g log j).link)
+        (ap (messages_from i 0) is ∙ push i (sent_counts t) (claims_of t) o.pending (sym (length-sent_counts t))
+        ∙ sym (ap (λ (l : List Message). sent_at log i ++ l) (cond_yes i i (m ∷ []) [] refl)))
+        (λ j n. sym (ap (λ (l : List Message). sent_at log j ++ l) (cond_no i j (m ∷ []) [] n)
+        ∙ append-nil (sent_at log j))) e
         ∙ sym (ap (λ (l : List Message). sent_at log e ++ l) reply))
         (λ miss.
-        let is : sent_counts (after_claim o.pending seen t) ≡ sent_counts t = ap sent_counts (cond_no seen (claims_of t) (record t { held = Some o.pending; clear = false }) (record t { clear = false; refused = true }) miss) in
-        let reply : sent_by e (Claim i) (reply_of g (Claim i) seen (part_in g log (tail_of g i))) ≡ [] = ap (sent_by e (Claim i)) (cond_no seen (claims_of t) (Sent m) Sealed miss) in
-        ap (messages_from e 0) (at_edge (λ j (u : Tail). sent_counts u ≡ sent_counts (out_in g log j).link) i (λ j. after_claim (out_in g log j).pending seen (out_in g log j).link) (λ j. (out_in g log j).link) is (λ j. refl) e)
+        let is : sent_counts (after_claim o.pending seen t)
+        ≡ sent_counts t = ap sent_counts
+        (cond_no seen (claims_of t) (record t { held = Some o.pending; clear = false })
+        (record t { clear = false; refused = true }) miss) in
+        let reply : sent_by e (Claim i) (reply_of g (Claim i) seen (part_in g log (tail_of g i)))
+        ≡ [] = ap (sent_by e (Claim i)) (cond_no seen (claims_of t) (Sent m) Sealed miss) in
+        ap (messages_from e 0) (at_edge (λ j (u : Tail). sent_counts u ≡ sent_counts (out_in g log j).link) i
+        (λ j. after_claim (out_in g log j).pending seen (out_in g log j).link) (λ j. (out_in g log j).link) is
+        (λ j. refl) e)
         ∙ sym (append-nil (sent_at log e)) ∙ sym (ap (λ (l : List Message). sent_at log e ++ l) reply))
     sent_event (Take i) log e legal met = sym (append-nil (sent_at log e))
     sent_event (Ack i) log e legal met = sym (append-nil (sent_at log e))
@@ -251,16 +305,21 @@ module _ (g : Setting) where
     sent_event (Seal i) log e legal met = sym (append-nil (sent_at log e))
     sent_event (Read v) log e legal met = sym (append-nil (sent_at log e))
 
-    sent_answer : (log : Log) (x : Event) (o : Option Rule) (e : ℕ) → unmet g x (part_in g log (part_of g x)) ≡ o → IsLegalLog g log → sent_at (answer g log x o).0 e ≡ sent_at log e ++ sent_by e x (answer g log x o).1
-    sent_answer log x None e met legal = ap (λ (t : Tail). messages_from e 0 (sent_counts t)) (link_step g (record { event = x; seen = sees g log x }) log e) ∙ sent_event x log e legal met
-    sent_answer log x (Some r) e met legal = sym (ap (λ (l : List Message). sent_at log e ++ l) (not_sent e x r) ∙ append-nil (sent_at log e))
+    sent_answer : (log : Log) (x : Event) (o : Option Rule) (e : ℕ) → unmet g x (part_in g log (part_of g x)) ≡ o
+        → IsLegalLog g log → sent_at (answer g log x o).0 e ≡ sent_at log e ++ sent_by e x (answer g log x o).1
+    sent_answer log x None e met legal = ap (λ (t : Tail). messages_from e 0 (sent_counts t))
+        (link_step g (record { event = x; seen = sees g log x }) log e) ∙ sent_event x log e legal met
+    sent_answer log x (Some r) e met legal = sym (ap (λ (l : List Message). sent_at log e ++ l) (not_sent e x r)
+        ∙ append-nil (sent_at log e))
 
     -- after a run: what was sent before it, and what its replies say
-    sent_is : (log : Log) (xs : List Event) (e : ℕ) → IsLegalLog g log → sent_at (log_after g log xs) e ≡ sent_at log e ++ sent_in e xs (replies_to g log xs)
+    sent_is : (log : Log) (xs : List Event) (e : ℕ) → IsLegalLog g log
+        → sent_at (log_after g log xs) e ≡ sent_at log e ++ sent_in e xs (replies_to g log xs)
     sent_is log [] e legal = sym (append-nil (sent_at log e))
     sent_is log (x ∷ xs) e legal =
         sent_is (step g log x).0 xs e (step_legal g log x legal)
-        ∙ ap (λ (l : List Message). l ++ sent_in e xs (replies_to g (step g log x).0 xs)) (sent_answer log x (unmet g x (part_in g log (part_of g x))) e refl legal)
+        ∙ ap (λ (l : List Message). l ++ sent_in e xs (replies_to g (step g log x).0 xs))
+        (sent_answer log x (unmet g x (part_in g log (part_of g x))) e refl legal)
         ∙ append_assoc (sent_at log e) (sent_by e x (step g log x).1) (sent_in e xs (replies_to g (step g log x).0 xs))
 
     -- ---- what is in flight
@@ -271,18 +330,26 @@ module _ (g : Setting) where
         let s = edge_sound g game some_ring log legal e in
         let t = (out_in g log e).link in
         let got = (into_in g log e).got in
-        let front : got ≡ take (length got) (sent_counts t) = s.prefix ∙ sym (take-append-le (length got) t.put (option_to_list t.held) s.behind) in
-        let whole : got ++ counts_in_flight g log e ≡ sent_counts t = ap (λ (l : List ℕ). l ++ counts_in_flight g log e) front ∙ take-append-drop (length got) (sent_counts t) in
-        ap (messages_from e 0) (sym whole) ∙ messages-append e 0 got (counts_in_flight g log e) ∙ ap (λ (n : ℕ). got_at log e ++ messages_from e n (counts_in_flight g log e)) (let z : 0 + length got ≡ length got = omega arith in z)
+        let front : got ≡ take (length got) (sent_counts t) = s.prefix
+        ∙ sym (take-append-le (length got) t.put (option_to_list t.held) s.behind) in
+        let whole : got ++ counts_in_flight g log e
+        ≡ sent_counts t = ap (λ (l : List ℕ). l ++ counts_in_flight g log e) front
+        ∙ take-append-drop (length got) (sent_counts t) in
+        ap (messages_from e 0) (sym whole) ∙ messages-append e 0 got (counts_in_flight g log e)
+        ∙ ap (λ (n : ℕ). got_at log e ++ messages_from e n (counts_in_flight g log e))
+        (let z : 0 + length got ≡ length got = omega arith in z)
 
     -- all that was sent after a run: what was delivered before it, and what it had to deliver
-    all_sent : (log : Log) (xs : List Event) (e : ℕ) → IsLegalLog g log → sent_at (log_after g log xs) e ≡ got_at log e ++ sent_on g log xs e
+    all_sent : (log : Log) (xs : List Event) (e : ℕ) → IsLegalLog g log
+        → sent_at (log_after g log xs) e ≡ got_at log e ++ sent_on g log xs e
     all_sent log xs e legal =
-        sent_is log xs e legal ∙ ap (λ (l : List Message). l ++ sent_in e xs (replies_to g log xs)) (in_flight_is log e legal)
+        sent_is log xs e legal ∙ ap (λ (l : List Message). l ++ sent_in e xs (replies_to g log xs))
+        (in_flight_is log e legal)
         ∙ append_assoc (got_at log e) (in_flight g log e) (sent_in e xs (replies_to g log xs))
 
     -- the prefix law, with what is left
-    pub left_is : (log : Log) (xs : List Event) (e : ℕ) → IsLegalLog g log → delivered_on g log xs e ++ in_flight g (log_after g log xs) e ≡ sent_on g log xs e
+    pub left_is : (log : Log) (xs : List Event) (e : ℕ) → IsLegalLog g log
+        → delivered_on g log xs e ++ in_flight g (log_after g log xs) e ≡ sent_on g log xs e
     left_is log xs e legal =
         let after : Log = log_after g log xs in
         append_cancel_left (got_at log e) (delivered_on g log xs e ++ in_flight g after e) (sent_on g log xs e)
@@ -291,12 +358,14 @@ module _ (g : Setting) where
         ∙ sym (in_flight_is after e (run_legal g log xs legal))
         ∙ all_sent log xs e legal)
 
-    pub delivers_prefix : (log : Log) (xs : List Event) (e : ℕ) → IsLegalLog g log → IsPrefix (delivered_on g log xs e) (sent_on g log xs e)
+    pub delivers_prefix : (log : Log) (xs : List Event) (e : ℕ) → IsLegalLog g log
+        → IsPrefix (delivered_on g log xs e) (sent_on g log xs e)
     delivers_prefix log xs e legal = (in_flight g (log_after g log xs) e, left_is log xs e legal)
 
     -- what a run has to deliver is what the tail's part has after it, but for what was delivered before
     pub sent_stands : (log : Log) (xs : List Event) (e : ℕ) → IsLegalLog g log
-        → sent_on g log xs e ≡ messages_from e (length (into_in g log e).got) (drop (length (into_in g log e).got) (sent_counts (out_in g (log_after g log xs) e).link))
+        → sent_on g log xs e ≡ messages_from e (length (into_in g log e).got)
+        (drop (length (into_in g log e).got) (sent_counts (out_in g (log_after g log xs) e).link))
     sent_stands log xs e legal =
         let n : ℕ = length (into_in g log e).got in
         let all : List ℕ = sent_counts (out_in g (log_after g log xs) e).link in
@@ -306,12 +375,20 @@ module _ (g : Setting) where
         let parts = length-append (got_at log e) (sent_on g log xs e) in
         let enough : n ≤ length all = omega arith in
         let taken : length (take n all) ≡ n = Rattle.std.proofs.lemmas.List.length-take-le n all enough in
-        let cut : messages_from e 0 all ≡ messages_from e 0 (take n all) ++ messages_from e n (drop n all) = ap (messages_from e 0) (sym (take-append-drop n all)) ∙ messages-append e 0 (take n all) (drop n all) ∙ ap (λ (k : ℕ). messages_from e 0 (take n all) ++ messages_from e k (drop n all)) (let z : 0 + length (take n all) ≡ n = omega arith in z) in
+        let cut : messages_from e 0 all ≡ messages_from e 0 (take n all) ++ messages_from e n (drop n all) =
+        ap (messages_from e 0) (sym (take-append-drop n all)) ∙ messages-append e 0 (take n all) (drop n all)
+        ∙ ap (λ (k : ℕ). messages_from e 0 (take n all) ++ messages_from e k (drop n all))
+        (let z : 0 + length (take n all) ≡ n = omega arith in z) in
         sym (drop_at (got_at log e) (sent_on g log xs e) n front) ∙ ap (drop n) (sym (all_sent log xs e legal) ∙ cut)
-        ∙ drop_at (messages_from e 0 (take n all)) (messages_from e n (drop n all)) n (length-messages e 0 (take n all) ∙ taken)
+        ∙ drop_at (messages_from e 0 (take n all)) (messages_from e n (drop n all)) n (length-messages e 0 (take n all)
+        ∙ taken)
 
-    pub sent_in_order : (log : Log) (xs : List Event) (e : ℕ) → IsLegalLog g log → AreInOrderFrom e (length (into_in g log e).got) (sent_on g log xs e)
-    sent_in_order log xs e legal = subst (AreInOrderFrom e (length (into_in g log e).got)) (sym (sent_stands log xs e legal)) (messages_in_order e (length (into_in g log e).got) (drop (length (into_in g log e).got) (sent_counts (out_in g (log_after g log xs) e).link)))
+    pub sent_in_order : (log : Log) (xs : List Event) (e : ℕ) → IsLegalLog g log
+        → AreInOrderFrom e (length (into_in g log e).got) (sent_on g log xs e)
+    sent_in_order log xs e legal = subst (AreInOrderFrom e (length (into_in g log e).got))
+        (sym (sent_stands log xs e legal))
+        (messages_in_order e (length (into_in g log e).got)
+        (drop (length (into_in g log e).got) (sent_counts (out_in g (log_after g log xs) e).link)))
 
     -- ---- from the opening
 
@@ -319,12 +396,18 @@ module _ (g : Setting) where
     empty_list [] z = refl
     empty_list (x ∷ xs) z = absurd (omega arith)
 
-    pub held_from_opening : (xs : List Event) (e : ℕ) → e < graph_edges g → chips_in (sent_in e xs (replies_to g [] xs)) + held g (log_after g [] xs) e ≡ mult_of g e * fired_by g (log_after g [] xs) (tail_of g e)
+    pub held_from_opening : (xs : List Event) (e : ℕ) → e < graph_edges g
+        → chips_in (sent_in e xs (replies_to g [] xs)) + held g (log_after g [] xs) e
+        ≡ mult_of g e * fired_by g (log_after g [] xs) (tail_of g e)
     held_from_opening xs e l =
         let after : Log = log_after g [] xs in
-        let none : sent_at [] e ≡ [] = ap (messages_from e 0) (append-nil (first_put g e) ∙ empty_list (first_put g e) (first_few g e l)) in
-        let sent : sent_in e xs (replies_to g [] xs) ≡ sent_at after e = sym (sent_is [] xs e tt ∙ ap (λ (ms : List Message). ms ++ sent_in e xs (replies_to g [] xs)) none) in
-        let chips : chips_in (sent_in e xs (replies_to g [] xs)) ≡ sum (sent_counts (out_in g after e).link) = ap chips_in sent ∙ chips_messages e 0 (sent_counts (out_in g after e).link) in
+        let none : sent_at [] e ≡ [] = ap (messages_from e 0) (append-nil (first_put g e)
+        ∙ empty_list (first_put g e) (first_few g e l)) in
+        let sent : sent_in e xs (replies_to g [] xs)
+        ≡ sent_at after e = sym (sent_is [] xs e tt
+        ∙ ap (λ (ms : List Message). ms ++ sent_in e xs (replies_to g [] xs)) none) in
+        let chips : chips_in (sent_in e xs (replies_to g [] xs)) ≡ sum (sent_counts (out_in g after e).link) =
+        ap chips_in sent ∙ chips_messages e 0 (sent_counts (out_in g after e).link) in
         let all = held_is g game some_ring after (run_legal g [] xs tt) e l in
         omega arith
 
@@ -337,7 +420,8 @@ pub opening_messages : OpeningMessages
 opening_messages g e = ap (messages_from e 0) (append-nil (first_put g e))
 
 pub in_order_from_the_opening : InOrderFromTheOpening
-in_order_from_the_opening g game some_ring xs e p m is = let at = sent_in_order g game some_ring [] xs e tt p m is in (at.0, at.1 ∙ (let z : 0 + p ≡ p = omega arith in z))
+in_order_from_the_opening g game some_ring xs e p m is = let at = sent_in_order g game some_ring [] xs e tt p m is in
+    (at.0, at.1 ∙ (let z : 0 + p ≡ p = omega arith in z))
 
 pub held_from_the_opening : HeldFromTheOpening
 held_from_the_opening = held_from_opening

@@ -1,5 +1,7 @@
 -- The numbers of a legal log, the cells and words that its events see, and that these keep within the limits.
-use Rattle.std.proofs.Common.{◌≡◌, ◌≢◌, ◌↔◌, ℕ, suc, ◌+◌, ◌-◌, ◌^◌, ◌<◌, ◌≤◌, ◌||◌, Bool, true, false, cond, eqb, List, [], ◌∷◌, length, sum, drop, get_or, slice_index, Option, Some, None, option_to_list, is_some, refl, sym, ap, ◌∙◌, subst, arith, eq-eqb}
+use Rattle.std.proofs.Common.{◌≡◌, ◌≢◌, ◌↔◌, ℕ, suc, ◌+◌, ◌-◌, ◌^◌, ◌<◌, ◌≤◌, ◌||◌, Bool, true, false, cond, eqb, List}
+use Rattle.std.proofs.Common.{[], ◌∷◌, length, sum, drop, get_or, slice_index, Option, Some, None, option_to_list}
+use Rattle.std.proofs.Common.{is_some, refl, sym, ap, ◌∙◌, subst, arith, eq-eqb}
 use Rattle.std.proofs.lemmas.List.{get_or_past, get_or_append_left, get_or-drop, length-drop}
 use Rattle.std.proofs.lemmas.List.Sums.{sum_by-cons, get_or-le-sum_by}
 use mathlib.Core.Logic.{dite}
@@ -19,26 +21,32 @@ use Rattle.chip_actor.specs.Steps.{stop_after}
 use Rattle.chip_actor.specs.Acting.{FitsSeen, CanDo}
 use Rattle.chip_actor.proofs.RuleLemmas.{rules_met}
 use Rattle.chip_actor.proofs.PartLemmas.{made_root}
-use Rattle.chip_core.specs.Core.{Log, Event, Take, Ack, Fire, Clear, Claim, Put, Halt, Settle, Seal, Read, unmet, part_of, part_in, out_in, into_in, stop_in, fired_by, word_of_part, sees, is_by_limit, IsLegalLog, tail_of, head_of, all_edges, graph_edges}
+use Rattle.chip_core.specs.Core.{Log, Event, Take, Ack, Fire, Clear, Claim, Put, Halt, Settle, Seal, Read, unmet}
+use Rattle.chip_core.specs.Core.{part_of, part_in, out_in, into_in, stop_in, fired_by, word_of_part, sees, is_by_limit}
+use Rattle.chip_core.specs.Core.{IsLegalLog, tail_of, head_of, all_edges, graph_edges}
 use Rattle.chip_core.specs.Messages.{counts_in_flight, is_seal, was_sealed}
 use Rattle.chip_core.specs.Positions.{full_position, firings}
-use Rattle.chip_core.specs.Laws.{CountsOf, CountsOfEdges, ChipsOfEdges, NumbersOf, NumbersAreSmall, CellsOf, CellsTell, WordsOf, WordsTell, PartsAreKept, SealsStand, SeenFits}
+use Rattle.chip_core.specs.Laws.{CountsOf, CountsOfEdges, ChipsOfEdges, NumbersOf, NumbersAreSmall, CellsOf, CellsTell}
+use Rattle.chip_core.specs.Laws.{WordsOf, WordsTell, PartsAreKept, SealsStand, SeenFits}
 use Rattle.chip_core.proofs.LogLemmas.{part_kept, out_kept, edge_sound, edge_counts, stop_step, head_inside}
 use Rattle.chip_core.proofs.PositionLemmas.{is_sequence, leads_to, edge_sum}
 
 -- as many as their sum at most, where each is above 0
 length_sum : (xs : List ℕ) → ((p : ℕ) → p < length xs → 0 < get_or xs p 0) → length xs ≤ sum xs
 length_sum [] some = omega arith
-length_sum (x ∷ xs) some = let a = length_sum xs (λ p l. some (suc p) (omega arith)) in let b = some 0 (omega arith) in let c : 0 < x = b in let d = sum_by-cons (λ (y : ℕ). y) x xs in omega arith
+length_sum (x ∷ xs) some = let a = length_sum xs (λ p l. some (suc p) (omega arith)) in let b = some 0 (omega arith) in
+    let c : 0 < x = b in let d = sum_by-cons (λ (y : ℕ). y) x xs in omega arith
 
-held_sum : (held : Option ℕ) → ((count : ℕ) → held ≡ Some count → 0 < count) → length (option_to_list held) ≤ sum (option_to_list held)
+held_sum : (held : Option ℕ) → ((count : ℕ) → held ≡ Some count → 0 < count)
+    → length (option_to_list held) ≤ sum (option_to_list held)
 held_sum None some = omega arith
 held_sum (Some count) some = let a = some count refl in omega arith
 
 module _ (g : Setting) where
   -- ---- seals
 
-  seal_step : (x : Event) (seen e : ℕ) (stop : Option ℕ) → is_some (stop_after x seen e stop) ≡ (is_seal e x || is_some stop)
+  seal_step : (x : Event) (seen e : ℕ) (stop : Option ℕ)
+      → is_some (stop_after x seen e stop) ≡ (is_seal e x || is_some stop)
   seal_step (Seal i) seen e stop = both (eqb i e) stop
     where
       both : (b : Bool) (stop : Option ℕ) → is_some (cond b (after_seal seen stop) stop) ≡ (b || is_some stop)
@@ -58,7 +66,8 @@ module _ (g : Setting) where
   -- the stopper's part has a word exactly where a seal was made
   pub seals_stand : (log : Log) (e : ℕ) → was_sealed log e ≡ is_some (stop_in g log e)
   seals_stand [] e = refl
-  seals_stand (x ∷ log) e = ap (λ (b : Bool). is_seal e x.event || b) (seals_stand log e) ∙ sym (ap is_some (stop_step g x log e) ∙ seal_step x.event x.seen e (stop_in g log e))
+  seals_stand (x ∷ log) e = ap (λ (b : Bool). is_seal e x.event || b) (seals_stand log e)
+      ∙ sym (ap is_some (stop_step g x log e) ∙ seal_step x.event x.seen e (stop_in g log e))
 
   module _ (game : HasGame g) (some_ring : 0 < g.ring) (log : Log) (legal : IsLegalLog g log) where
     -- ---- chips
@@ -70,16 +79,19 @@ module _ (g : Setting) where
     pub full_position_most : (v : ℕ) → v < g.graph.vertices → full_position g log v ≤ sum g.start
     full_position_most v l =
         let a = (leads_to g game some_ring log legal).position v l in
-        let b = chips_are_kept g.graph game.graph_fits (slice_index g.start) (firings log) (is_sequence g game some_ring log legal) in
+        let b = chips_are_kept g.graph game.graph_fits (slice_index g.start) (firings log)
+        (is_sequence g game some_ring log legal) in
         let c = sum_below_term g.graph.vertices (position_after g.graph (slice_index g.start) (firings log)) v l in
         let d = total_is in
         omega arith
 
     -- the chips of a vertex and those on the way to it on one edge
-    pub chips_with_flight : (e : ℕ) → e < all_edges g → (part_in g log (head_of g e)).chips + sum (counts_in_flight g log e) ≤ sum g.start
+    pub chips_with_flight : (e : ℕ) → e < all_edges g
+        → (part_in g log (head_of g e)).chips + sum (counts_in_flight g log e) ≤ sum g.start
     chips_with_flight e l =
         let a = full_position_most (head_of g e) (head_inside g game e l) in
-        let b = tested_term (all_edges g) (λ i. eqb (head_of g i) (head_of g e)) (λ i. sum (counts_in_flight g log i)) e l (eq-eqb (head_of g e) (head_of g e) refl) in
+        let b = tested_term (all_edges g) (λ i. eqb (head_of g i) (head_of g e))
+        (λ i. sum (counts_in_flight g log i)) e l (eq-eqb (head_of g e) (head_of g e) refl) in
         omega arith
 
     pub few_chips : (v : ℕ) → v < g.graph.vertices → (part_in g log v).chips ≤ 2 ^ 40
@@ -92,7 +104,8 @@ module _ (g : Setting) where
 
     -- of a graph edge: one for each firing at most
     pub few_claims : (e : ℕ) → e < graph_edges g → claims_of (out_in g log e).link ≤ g.limit
-    few_claims e l = let a = (out_kept g game log legal e).fewer l in let b = (part_kept g game log legal (tail_of g e)).within in omega arith
+    few_claims e l = let a = (out_kept g game log legal e).fewer l in
+        let b = (part_kept g game log legal (tail_of g e)).within in omega arith
 
     -- of a root edge: one for each chip of the start at most
     pub few_root_claims : (e : ℕ) → graph_edges g ≤ e → claims_of (out_in g log e).link ≤ start_of g (e - graph_edges g)
@@ -113,61 +126,84 @@ module _ (g : Setting) where
     pub claims_most : (e : ℕ) → claims_of (out_in g log e).link ≤ 2 ^ 40
     claims_most e = dite (dec_lt e (graph_edges g))
         (λ l. let a = few_claims e l in let b = game.low_limit in omega arith)
-        (λ n. let a = few_root_claims e (omega arith) in let b = start_most (e - graph_edges g) in let c = game.few_chips in omega arith)
+        (λ n. let a = few_root_claims e (omega arith) in let b = start_most (e - graph_edges g) in
+        let c = game.few_chips in omega arith)
 
     pub fired_most : (v : ℕ) → fired_by g log v ≤ g.limit
     fired_most v = (part_kept g game log legal v).within
 
     pub numbers : NumbersOf g log
-    numbers = record { chips = full_position_most; fired = fired_most; claims = few_claims; root_claims = few_root_claims }
+    numbers = record {
+      chips = full_position_most;
+      fired = fired_most;
+      claims = few_claims;
+      root_claims = few_root_claims;
+    }
 
     -- ---- cells
 
     -- a take sees 0 exactly where all that was put is delivered
-    pub empty_is : (e : ℕ) → (sees g log (Take e) ≡ 0) ↔ (length (into_in g log e).got ≡ length (out_in g log e).link.put)
+    pub empty_is : (e : ℕ) → (sees g log (Take e) ≡ 0)
+        ↔ (length (into_in g log e).got ≡ length (out_in g log e).link.put)
     empty_is e =
         let s = edge_sound g game some_ring log legal e in
         let behind = s.behind in (
-          (λ none. dite (dec_lt (length (into_in g log e).got) (length (out_in g log e).link.put)) (λ l. (let a = s.counted (length (into_in g log e).got) l in absurd (omega arith))) (λ n. omega arith)),
+          (λ none. dite (dec_lt (length (into_in g log e).got) (length (out_in g log e).link.put))
+              (λ l. (let a = s.counted (length (into_in g log e).got) l in absurd (omega arith))) (λ n. omega arith)),
           (λ all. get_or_past (out_in g log e).link.put (length (into_in g log e).got) 0 (omega arith)),
         )
 
     -- a take that finds a message: it is the first in flight
-    pub take_finds : (e : ℕ) → sees g log (Take e) ≢ 0 → (length (into_in g log e).got < length (out_in g log e).link.put) × (sees g log (Take e) ≤ sum (counts_in_flight g log e))
+    pub take_finds : (e : ℕ) → sees g log (Take e) ≢ 0
+        → (length (into_in g log e).got < length (out_in g log e).link.put)
+        × (sees g log (Take e) ≤ sum (counts_in_flight g log e))
     take_finds e some =
         let t = (out_in g log e).link in
         let n : ℕ = length (into_in g log e).got in
         let behind = (edge_sound g game some_ring log legal e).behind in
-        let l : n < length t.put = dite (dec_lt n (length t.put)) (λ h. h) (λ past. absurd (some (get_or_past t.put n 0 (omega arith)))) in
-        let first : get_or (drop n (sent_counts t)) 0 0 ≡ get_or t.put n 0 = get_or-drop n (sent_counts t) 0 0 ∙ ap (λ (p : ℕ). get_or (sent_counts t) p 0) (let z : n + 0 ≡ n = omega arith in z) ∙ get_or_append_left t.put (option_to_list t.held) 0 n l in
+        let l : n < length t.put = dite (dec_lt n (length t.put)) (λ h. h)
+        (λ past. absurd (some (get_or_past t.put n 0 (omega arith)))) in
+        let first : get_or (drop n (sent_counts t)) 0 0 ≡ get_or t.put n 0 = get_or-drop n (sent_counts t) 0 0
+        ∙ ap (λ (p : ℕ). get_or (sent_counts t) p 0) (let z : n + 0 ≡ n = omega arith in z)
+        ∙ get_or_append_left t.put (option_to_list t.held) 0 n l in
         let long = length-drop n (sent_counts t) in
         let all = length-sent_counts t in
         let sum_has = get_or-le-sum_by (λ (x : ℕ). x) (drop n (sent_counts t)) 0 0 (omega arith) in
         (l, omega arith)
 
     -- a clear with nothing claimed sees another number than 0 exactly where the ring is full
-    pub full_is : (e : ℕ) → (out_in g log e).link.held ≡ None → (sees g log (Clear e) ≢ 0) ↔ (claims_of (out_in g log e).link ≡ length (into_in g log e).got + g.ring)
+    pub full_is : (e : ℕ) → (out_in g log e).link.held ≡ None
+        → (sees g log (Clear e) ≢ 0) ↔ (claims_of (out_in g log e).link ≡ length (into_in g log e).got + g.ring)
     full_is e empty =
         let s = edge_sound g game some_ring log legal e in
         let t = (out_in g log e).link in
         let got = (into_in g log e).got in
         let all_put = none_held t empty in (
-          (λ some. dite (ℕ_discrete (claims_of t) (length got + g.ring)) (λ z. z) (λ n. absurd (some (cond_no (claims_of t) (length got + g.ring) (get_or t.put (length got) 0) 0 n)))),
+          (λ some. dite (ℕ_discrete (claims_of t) (length got + g.ring)) (λ z. z)
+              (λ n. absurd (some (cond_no (claims_of t) (length got + g.ring) (get_or t.put (length got) 0) 0 n)))),
           (λ full z.
               let a = s.counted (length got) (omega arith) in
-              let b : get_or t.put (length got) 0 ≡ 0 = sym (cond_yes (claims_of t) (length got + g.ring) (get_or t.put (length got) 0) 0 full) ∙ z in
+              let b : get_or t.put (length got) 0
+              ≡ 0 = sym (cond_yes (claims_of t) (length got + g.ring) (get_or t.put (length got) 0) 0 full) ∙ z in
               absurd (omega arith)),
         )
 
     pub cells : (e : ℕ) → CellsOf g log e
-    cells e = record { empty = empty_is e; full = λ met. full_is e (let may = rules_met g (Clear e) (part_in g log (tail_of g e)) met in (out_kept g game log legal e).free_hand may.0 may.3) }
+    cells e = record {
+      empty = empty_is e;
+      full = λ met. full_is e (let may = rules_met g (Clear e) (part_in g log (tail_of g e)) met in
+          (out_kept g game log legal e).free_hand may.0 may.3);
+    }
 
     -- ---- words
 
-    edge_reads : (e : ℕ) → ReadsAs (edge_word (claims_of (out_in g log e).link) (is_some (stop_in g log e))) (claims_of (out_in g log e).link) (is_some (stop_in g log e))
-    edge_reads e = let a = claims_most e in (edge_word_reads (claims_of (out_in g log e).link) (is_some (stop_in g log e)) (omega arith)).1
+    edge_reads : (e : ℕ) → ReadsAs (edge_word (claims_of (out_in g log e).link) (is_some (stop_in g log e)))
+        (claims_of (out_in g log e).link) (is_some (stop_in g log e))
+    edge_reads e = let a = claims_most e in
+        (edge_word_reads (claims_of (out_in g log e).link) (is_some (stop_in g log e)) (omega arith)).1
 
-    fired_reads : (v : ℕ) → ReadsAsFired (word_of_part (part_in g log v)) (fired_by g log v) (is_some (part_in g log v).halt) (is_by_limit (part_in g log v).halt)
+    fired_reads : (v : ℕ) → ReadsAsFired (word_of_part (part_in g log v)) (fired_by g log v)
+        (is_some (part_in g log v).halt) (is_by_limit (part_in g log v).halt)
     fired_reads v =
         let s = part_in g log v in
         let a = fired_most v in let b = game.low_limit in
@@ -175,7 +211,9 @@ module _ (g : Setting) where
 
     pub words : WordsOf g log
     words = record {
-      unsealed = λ e off. ap (edge_word (claims_of (out_in g log e).link)) (sym (seals_stand log e) ∙ off) ∙ (let z : edge_word (claims_of (out_in g log e).link) false ≡ claims_of (out_in g log e).link = omega arith in z);
+      unsealed = λ e off. ap (edge_word (claims_of (out_in g log e).link)) (sym (seals_stand log e) ∙ off)
+          ∙ (let z : edge_word (claims_of (out_in g log e).link) false ≡ claims_of (out_in g log e).link = omega arith in
+          z);
       sealed = λ e on. ap (edge_word (claims_of (out_in g log e).link)) (sym (seals_stand log e) ∙ on);
       claims = λ e. (edge_reads e).claims_are;
       fired = λ v. (fired_reads v).fired_is;
@@ -200,7 +238,8 @@ module _ (g : Setting) where
         let c0 = c.0 in let c1 = c.1 in let c2 = c.2 in let c3 = c.3 in
         (c0, omega arith)
 
-    pub fits_seen : (x : Event) → part_of g x < g.graph.vertices → unmet g x (part_in g log (part_of g x)) ≡ None → FitsSeen (part_in g log (part_of g x)) x (sees g log x)
+    pub fits_seen : (x : Event) → part_of g x < g.graph.vertices → unmet g x (part_in g log (part_of g x)) ≡ None
+        → FitsSeen (part_in g log (part_of g x)) x (sees g log x)
     fits_seen (Take e) at met = take_fits e (rules_met g (Take e) (part_in g log (head_of g e)) met)
     fits_seen (Claim e) at met = (edge_reads e).claims_are
     fits_seen (Settle e) at met = settle_fits e
@@ -213,11 +252,13 @@ module _ (g : Setting) where
     fits_seen (Read v) at met = tt
 
     -- so an actor may be told of it
-    pub can_do : (x : Event) → part_of g x < g.graph.vertices → unmet g x (part_in g log (part_of g x)) ≡ None → CanDo g (part_in g log (part_of g x)) (part_of g x) x (sees g log x)
+    pub can_do : (x : Event) → part_of g x < g.graph.vertices → unmet g x (part_in g log (part_of g x)) ≡ None
+        → CanDo g (part_in g log (part_of g x)) (part_of g x) x (sees g log x)
     can_do x at met = (refl, met, fits_seen x at met)
 
     pub counts_of : (e : ℕ) → CountsOf g log e
-    counts_of e = let c = edge_counts g game some_ring log legal e in record { settled = c.0; acked = c.1; delivered = c.2; put = c.3; claimed = c.4 }
+    counts_of e = let c = edge_counts g game some_ring log legal e in
+        record { settled = c.0; acked = c.1; delivered = c.2; put = c.3; claimed = c.4 }
 
 -- ---- the laws
 
@@ -243,4 +284,8 @@ pub words_tell : WordsTell
 words_tell g game some_ring log legal = words g game some_ring log legal
 
 pub seals_stand_law : SealsStand
-seals_stand_law g game some_ring log legal e = (seals_stand g log e, λ word is. subst (IsSealedAt (claims_of (out_in g log e).link)) is (edge_sound g game some_ring log legal e).sealed_at)
+seals_stand_law g game some_ring log legal e = (
+  seals_stand g log e,
+  λ word is. subst (IsSealedAt (claims_of (out_in g log e).link)) is
+      (edge_sound g game some_ring log legal e).sealed_at,
+)

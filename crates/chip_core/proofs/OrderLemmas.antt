@@ -1,5 +1,6 @@
 -- A detection order exists in every legal log, and what it says where the root is closed.
-use Rattle.std.proofs.Common.{◌≡◌, ◌≢◌, ◌⊎◌, ℕ, zero, suc, ◌+◌, ◌-◌, ◌<◌, ◌≤◌, ◌&&◌, cond, eqb, List, [], ◌∷◌, length, get_or, Option, Some, None, Contains, refl, sym, ap, ◌∙◌, subst, arith, inl, inr, ⊎_elim}
+use Rattle.std.proofs.Common.{◌≡◌, ◌≢◌, ◌⊎◌, ℕ, zero, suc, ◌+◌, ◌-◌, ◌<◌, ◌≤◌, ◌&&◌, cond, eqb, List, [], ◌∷◌, length}
+use Rattle.std.proofs.Common.{get_or, Option, Some, None, Contains, refl, sym, ap, ◌∙◌, subst, arith, inl, inr, ⊎_elim}
 use Rattle.std.proofs.lemmas.List.{get_or_past}
 use Rattle.std.proofs.lemmas.List.Elements.{Contains-append_right}
 use mathlib.Core.Logic.{dite}
@@ -12,7 +13,9 @@ use Rattle.chip_actor.specs.Steps.{parent_after}
 use Rattle.chip_actor.specs.Kept.{IsNeutral}
 use Rattle.chip_actor.proofs.RuleLemmas.{rules_met}
 use Rattle.chip_actor.proofs.PartLemmas.{out_zero}
-use Rattle.chip_core.specs.Core.{Log, Step, Event, Take, Ack, Fire, Clear, Claim, Put, Halt, Settle, Seal, Read, Part, part_of, does, part_in, out_in, into_in, IsLegalLog, IsClosed, outstanding, all_edges, tail_of, head_of, root}
+use Rattle.chip_core.specs.Core.{Log, Step, Event, Take, Ack, Fire, Clear, Claim, Put, Halt, Settle, Seal, Read, Part}
+use Rattle.chip_core.specs.Core.{part_of, does, part_in, out_in, into_in, IsLegalLog, IsClosed, outstanding, all_edges}
+use Rattle.chip_core.specs.Core.{tail_of, head_of, root}
 use Rattle.chip_core.specs.Detection.{IsTree, IsDetectionOrder}
 use Rattle.chip_core.proofs.LogLemmas.{part_here, part_else, part_kept, edge_counts, head_inside, tail_cases}
 
@@ -38,7 +41,8 @@ contained : (vs : List ℕ) (v : ℕ) → (Contains vs v) ⊎ (Contains vs v →
 contained [] v = inr (contains_nothing v)
 contained (u ∷ us) v = dite (ℕ_discrete v u)
     (λ e. inl (subst (Contains (u ∷ us)) (sym e) (contains_first u us)))
-    (λ ne. ⊎_elim (λ m. inl (contains_later u us v m)) (λ out. inr (λ z. ⊎_elim ne out (contains_cases u us v z))) (contained us v))
+    (λ ne. ⊎_elim (λ m. inl (contains_later u us v m)) (λ out. inr (λ z. ⊎_elim ne out (contains_cases u us v z)))
+    (contained us v))
 
 -- the list without every h
 without : ℕ → List ℕ → List ℕ
@@ -49,16 +53,23 @@ contains_without : (u h : ℕ) (vs : List ℕ) → Contains (without h vs) u →
 unfolding without
 contains_without u h [] m = m
 contains_without u h (v ∷ vs) m = dite (ℕ_discrete v h)
-    (λ e. contains_later v vs u (contains_without u h vs (subst (λ (l : List ℕ). Contains l u) (cond_yes v h (without h vs) (v ∷ without h vs) e) m)))
-    (λ ne. ⊎_elim (λ z. subst (Contains (v ∷ vs)) (sym z) (contains_first v vs)) (λ z. contains_later v vs u (contains_without u h vs z))
-    (contains_cases v (without h vs) u (subst (λ (l : List ℕ). Contains l u) (cond_no v h (without h vs) (v ∷ without h vs) ne) m)))
+    (λ e. contains_later v vs u
+    (contains_without u h vs (subst
+    (λ (l : List ℕ). Contains l u) (cond_yes v h (without h vs) (v ∷ without h vs) e) m)))
+    (λ ne. ⊎_elim (λ z. subst (Contains (v ∷ vs)) (sym z) (contains_first v vs))
+    (λ z. contains_later v vs u (contains_without u h vs z))
+    (contains_cases v (without h vs) u
+    (subst (λ (l : List ℕ). Contains l u) (cond_no v h (without h vs) (v ∷ without h vs) ne) m)))
 
 without_contains : (u h : ℕ) (vs : List ℕ) → u ≢ h → Contains vs u → Contains (without h vs) u
 unfolding without
 without_contains u h [] ne m = m
 without_contains u h (v ∷ vs) ne m = dite (ℕ_discrete v h)
-    (λ e. subst (λ (l : List ℕ). Contains l u) (sym (cond_yes v h (without h vs) (v ∷ without h vs) e)) (⊎_elim (λ z. absurd (ne (z ∙ e))) (λ z. without_contains u h vs ne z) (contains_cases v vs u m)))
-    (λ n. subst (λ (l : List ℕ). Contains l u) (sym (cond_no v h (without h vs) (v ∷ without h vs) n)) (⊎_elim (λ z. subst (Contains (v ∷ without h vs)) (sym z) (contains_first v (without h vs))) (λ z. contains_later v (without h vs) u (without_contains u h vs ne z)) (contains_cases v vs u m)))
+    (λ e. subst (λ (l : List ℕ). Contains l u) (sym (cond_yes v h (without h vs) (v ∷ without h vs) e))
+    (⊎_elim (λ z. absurd (ne (z ∙ e))) (λ z. without_contains u h vs ne z) (contains_cases v vs u m)))
+    (λ n. subst (λ (l : List ℕ). Contains l u) (sym (cond_no v h (without h vs) (v ∷ without h vs) n))
+    (⊎_elim (λ z. subst (Contains (v ∷ without h vs)) (sym z) (contains_first v (without h vs)))
+    (λ z. contains_later v (without h vs) u (without_contains u h vs ne z)) (contains_cases v vs u m)))
 
 -- ---- parents
 
@@ -71,15 +82,19 @@ none_some q o a b = absurd (cc)
 
 module _ (g : Setting) (game : HasGame g) (some_ring : 0 < g.ring) where
   -- the tail of an edge with something outstanding is the root or engaged
-  busy_tail : (log : Log) → IsLegalLog g log → (e h : ℕ) → e < all_edges g → tail_of g e ≡ h → h < g.graph.vertices → (part_in g log h).parent ≡ None → 0 < outstanding (out_in g log e) → ⊥
+  busy_tail : (log : Log) → IsLegalLog g log → (e h : ℕ) → e < all_edges g → tail_of g e ≡ h → h < g.graph.vertices
+      → (part_in g log h).parent ≡ None → 0 < outstanding (out_in g log e) → ⊥
   busy_tail log legal e h l at inside none some =
       let rest = (part_kept g game log legal h).neutral inside none in
-      let zero_out : outstanding ((part_in g log h).out e) ≡ 0 = out_zero g h (λ i. outstanding ((part_in g log h).out i)) rest.no_deficit e l at in
-      let same : outstanding (out_in g log e) ≡ outstanding ((part_in g log h).out e) = ap (λ (p : ℕ). outstanding ((part_in g log p).out e)) at in
+      let zero_out : outstanding ((part_in g log h).out e)
+      ≡ 0 = out_zero g h (λ i. outstanding ((part_in g log h).out i)) rest.no_deficit e l at in
+      let same : outstanding (out_in g log e) ≡ outstanding ((part_in g log h).out e) =
+      ap (λ (p : ℕ). outstanding ((part_in g log p).out e)) at in
       absurd (omega arith)
 
   -- what is known of the parent edge of a vertex
-  pub parent_edge : (log : Log) → IsLegalLog g log → (v e : ℕ) → (part_in g log v).parent ≡ Some e → (e < all_edges g) × (head_of g e ≡ v) × (0 < owed (into_in g log e)) × (0 < outstanding (out_in g log e))
+  pub parent_edge : (log : Log) → IsLegalLog g log → (v e : ℕ) → (part_in g log v).parent ≡ Some e
+      → (e < all_edges g) × (head_of g e ≡ v) × (0 < owed (into_in g log e)) × (0 < outstanding (out_in g log e))
   parent_edge log legal v e h =
       let a = (part_kept g game log legal v).parents e h in
       let c = edge_counts g game some_ring log legal e in
@@ -91,7 +106,8 @@ module _ (g : Setting) (game : HasGame g) (some_ring : 0 < g.ring) where
 
   abbrev Chain : (ℕ → Option ℕ) → List ℕ → Type 0
   Chain par [] = Unit {0}
-  Chain par (v ∷ vs) = Chain par vs × (Contains vs v → ⊥) × ((e : ℕ) × (par v ≡ Some e) × ((tail_of g e ≡ root g) ⊎ Contains vs (tail_of g e)))
+  Chain par (v ∷ vs) = Chain par vs × (Contains vs v → ⊥)
+      × ((e : ℕ) × (par v ≡ Some e) × ((tail_of g e ≡ root g) ⊎ Contains vs (tail_of g e)))
 
   abbrev Covers : (ℕ → Option ℕ) → List ℕ → Type 0
   Covers par vs = (v : ℕ) → v < g.graph.vertices → (Contains vs v → ⊥) → par v ≡ None
@@ -102,27 +118,49 @@ module _ (g : Setting) (game : HasGame g) (some_ring : 0 < g.ring) where
   abbrev Ordered : Log → Type 0
   Ordered log = (vs : List ℕ) × Chain (parents log) vs × Covers (parents log) vs
 
-  chain_ext : (par par' : ℕ → Option ℕ) (vs : List ℕ) → ((v : ℕ) → Contains vs v → par' v ≡ par v) → Chain par vs → Chain par' vs
+  chain_ext : (par par' : ℕ → Option ℕ) (vs : List ℕ) → ((v : ℕ) → Contains vs v → par' v ≡ par v) → Chain par vs
+      → Chain par' vs
   chain_ext par par' [] same c = tt
-  chain_ext par par' (v ∷ vs) same c = (chain_ext par par' vs (λ u m. same u (contains_later v vs u m)) c.0, c.1, (c.2.0, same v (contains_first v vs) ∙ c.2.1, c.2.2))
+  chain_ext par par' (v ∷ vs) same c = (
+    chain_ext par par' vs (λ u m. same u (contains_later v vs u m)) c.0,
+    c.1,
+    (c.2.0, same v (contains_first v vs) ∙ c.2.1, c.2.2),
+  )
 
   chain_some : (par : ℕ → Option ℕ) (vs : List ℕ) → Chain par vs → (v : ℕ) → Contains vs v → par v ≡ None → ⊥
   chain_some par [] c v m none = contains_nothing v m
-  chain_some par (u ∷ us) c v m none = ⊎_elim (λ e. none_some c.2.0 (par u) (ap par (sym e) ∙ none) c.2.1) (λ z. chain_some par us c.0 v z none) (contains_cases u us v m)
+  chain_some par (u ∷ us) c v m none = ⊎_elim (λ e. none_some c.2.0 (par u) (ap par (sym e) ∙ none) c.2.1)
+      (λ z. chain_some par us c.0 v z none) (contains_cases u us v m)
 
-  chain_without : (par par' : ℕ → Option ℕ) (h : ℕ) → ((v : ℕ) → v ≢ h → par' v ≡ par v) → ((v q : ℕ) → v ≢ h → par' v ≡ Some q → tail_of g q ≢ h) → (vs : List ℕ) → Chain par vs → Chain par' (without h vs)
+  chain_without : (par par' : ℕ → Option ℕ) (h : ℕ) → ((v : ℕ) → v ≢ h → par' v ≡ par v)
+      → ((v q : ℕ) → v ≢ h → par' v ≡ Some q → tail_of g q ≢ h) → (vs : List ℕ) → Chain par vs → Chain par' (without h vs)
   unfolding without
   chain_without par par' h same free [] c = tt
   chain_without par par' h same free (v ∷ vs) c = dite (ℕ_discrete v h)
-      (λ e. subst (Chain par') (sym (cond_yes v h (without h vs) (v ∷ without h vs) e)) (chain_without par par' h same free vs c.0))
+      (λ e. subst (Chain par') (sym (cond_yes v h (without h vs) (v ∷ without h vs) e))
+      (chain_without par par' h same free vs c.0))
       (λ ne. subst (Chain par') (sym (cond_no v h (without h vs) (v ∷ without h vs) ne))
-      (let now : par' v ≡ Some c.2.0 = same v ne ∙ c.2.1 in
-      (chain_without par par' h same free vs c.0, (λ m. c.1 (contains_without v h vs m)), (c.2.0, now, ⊎_elim (λ z. inl z) (λ z. inr (without_contains (tail_of g c.2.0) h vs (free v c.2.0 ne now) z)) c.2.2))))
+      (let now : par' v ≡ Some c.2.0 = same v ne ∙ c.2.1 in (
+        chain_without par par' h same free vs c.0,
+        (λ m. c.1 (contains_without v h vs m)),
+        (
+          c.2.0,
+          now,
+          ⊎_elim (λ z. inl z)
+              (λ z. inr (without_contains (tail_of g c.2.0) h vs (free v c.2.0 ne now) z)) c.2.2,
+        ),
+      )))
 
   same_order : (log log' : Log) → ((v : ℕ) → parents log' v ≡ parents log v) → Ordered log → Ordered log'
-  same_order log log' same o = (o.0, chain_ext (parents log) (parents log') o.0 (λ v m. same v) o.1, λ v l m. same v ∙ o.2 v l m)
+  same_order log log' same o = (
+    o.0,
+    chain_ext (parents log) (parents log') o.0 (λ v m. same v) o.1,
+    λ v l m. same v
+        ∙ o.2 v l m,
+  )
 
-  keeps_parent : (x : Step) (log : Log) → ((s : Part) → (does g x s).parent ≡ s.parent) → (v : ℕ) → parents (x ∷ log) v ≡ parents log v
+  keeps_parent : (x : Step) (log : Log) → ((s : Part) → (does g x s).parent ≡ s.parent) → (v : ℕ)
+      → parents (x ∷ log) v ≡ parents log v
   keeps_parent x log made v = dite (ℕ_discrete (part_of g x.event) v)
       (λ e. ap (λ (s : Part). s.parent) (part_here g x log v e) ∙ made (part_in g log v))
       (λ ne. ap (λ (s : Part). s.parent) (part_else g x log v ne))
@@ -131,13 +169,22 @@ module _ (g : Setting) (game : HasGame g) (some_ring : 0 < g.ring) where
   same_next x log made o = same_order log (x ∷ log) (keeps_parent x log made) o
 
   -- only the head's parent may be another
-  one_parent : (x : Step) (log : Log) (h : ℕ) → part_of g x.event ≡ h → (parents (x ∷ log) h ≡ parent_after g x.event x.seen (part_in g log h)) × ((v : ℕ) → v ≢ h → parents (x ∷ log) v ≡ parents log v)
-  one_parent x log h is = (ap (λ (s : Part). s.parent) (part_here g x log h is), λ v ne. ap (λ (s : Part). s.parent) (part_else g x log v (λ z. ne (sym z ∙ is))))
+  one_parent : (x : Step) (log : Log) (h : ℕ) → part_of g x.event ≡ h
+      → (parents (x ∷ log) h ≡ parent_after g x.event x.seen (part_in g log h))
+      × ((v : ℕ) → v ≢ h → parents (x ∷ log) v ≡ parents log v)
+  one_parent x log h is = (
+    ap (λ (s : Part). s.parent) (part_here g x log h is),
+    λ v ne. ap
+        (λ (s : Part). s.parent) (part_else g x log v (λ z. ne (sym z ∙ is))),
+  )
 
-  all_parents : (log log' : Log) (h : ℕ) → parents log' h ≡ parents log h → ((v : ℕ) → v ≢ h → parents log' v ≡ parents log v) → (v : ℕ) → parents log' v ≡ parents log v
-  all_parents log log' h here rest v = dite (ℕ_discrete v h) (λ e. subst (λ (u : ℕ). parents log' u ≡ parents log u) (sym e) here) (λ ne. rest v ne)
+  all_parents : (log log' : Log) (h : ℕ) → parents log' h ≡ parents log h
+      → ((v : ℕ) → v ≢ h → parents log' v ≡ parents log v) → (v : ℕ) → parents log' v ≡ parents log v
+  all_parents log log' h here rest v = dite (ℕ_discrete v h)
+      (λ e. subst (λ (u : ℕ). parents log' u ≡ parents log u) (sym e) here) (λ ne. rest v ne)
 
-  order_step : (log : Log) (ev : Event) (seen : ℕ) → IsLegalLog g (record { event = ev; seen = seen } ∷ log) → Ordered log → Ordered (record { event = ev; seen = seen } ∷ log)
+  order_step : (log : Log) (ev : Event) (seen : ℕ) → IsLegalLog g (record { event = ev; seen = seen } ∷ log)
+      → Ordered log → Ordered (record { event = ev; seen = seen } ∷ log)
   order_step log (Take e) seen legal o =
       let x : Step = record { event = Take e; seen = seen } in
       let h : ℕ = head_of g e in
@@ -147,17 +194,32 @@ module _ (g : Setting) (game : HasGame g) (some_ring : 0 < g.ring) where
       (λ none. same_order log (x ∷ log) (all_parents log (x ∷ log) h (one.0 ∙ cond_yes seen 0 _ _ none) one.1) o)
       (λ some. ⊎_elim
       (λ was.
-      let now : parents (x ∷ log) h ≡ Some e = one.0 ∙ cond_no seen 0 (parents log h) (or_else (parents log h) e) some ∙ ap (λ (p : Option ℕ). or_else p e) was in
+      let now : parents (x ∷ log) h ≡ Some e = one.0 ∙ cond_no seen 0 (parents log h) (or_else (parents log h) e) some
+      ∙ ap (λ (p : Option ℕ). or_else p e) was in
       let fresh : Contains o.0 h → ⊥ = (λ m. chain_some (parents log) o.0 o.1 h m was) in
       let c = edge_counts g game some_ring log legal.0 e in let c0 = c.0 in let c1 = c.1 in let c3 = c.3 in
       let is : seen ≡ get_or (out_in g log e).link.put (length (into_in g log e).got) 0 = legal.1.1 in
-      let flies : length (into_in g log e).got < length (out_in g log e).link.put = dite (dec_lt (length (into_in g log e).got) (length (out_in g log e).link.put)) (λ z. z) (λ past. absurd (some (is ∙ get_or_past (out_in g log e).link.put (length (into_in g log e).got) 0 (omega arith)))) in
-      let below : (tail_of g e ≡ root g) ⊎ Contains o.0 (tail_of g e) = ⊎_elim (λ z. inl z) (λ t. ⊎_elim (λ z. inr z) (λ z. absurd (busy_tail log legal.0 e (tail_of g e) l refl t (o.2 (tail_of g e) t z) (omega arith))) (contained o.0 (tail_of g e))) (tail_cases g game e) in (
+      let flies : length (into_in g log e).got < length (out_in g log e).link.put =
+      dite (dec_lt (length (into_in g log e).got) (length (out_in g log e).link.put)) (λ z. z)
+      (λ past. absurd (some (is
+      ∙ get_or_past (out_in g log e).link.put (length (into_in g log e).got) 0 (omega arith)))) in
+      let below : (tail_of g e ≡ root g)
+      ⊎ Contains o.0 (tail_of g e) = ⊎_elim (λ z. inl z)
+      (λ t. ⊎_elim (λ z. inr z)
+      (λ z. absurd (busy_tail log legal.0 e (tail_of g e) l refl t (o.2 (tail_of g e) t z) (omega arith)))
+      (contained o.0 (tail_of g e))) (tail_cases g game e) in (
         h ∷ o.0,
-        (chain_ext (parents log) (parents (x ∷ log)) o.0 (λ v m. one.1 v (λ z. fresh (subst (Contains o.0) z m))) o.1, fresh, (e, now, below)),
-        λ v inside out. one.1 v (λ z. out (subst (Contains (h ∷ o.0)) (sym z) (contains_first h o.0))) ∙ o.2 v inside (λ m. out (contains_later h o.0 v m)),
+        (
+          chain_ext (parents log) (parents (x ∷ log)) o.0 (λ v m. one.1 v (λ z. fresh (subst (Contains o.0) z m))) o.1,
+          fresh,
+          (e, now, below),
+        ),
+        λ v inside out. one.1 v (λ z. out (subst (Contains (h ∷ o.0)) (sym z) (contains_first h o.0)))
+            ∙ o.2 v inside (λ m. out (contains_later h o.0 v m)),
       ))
-      (λ q. same_order log (x ∷ log) (all_parents log (x ∷ log) h (one.0 ∙ cond_no seen 0 (parents log h) (or_else (parents log h) e) some ∙ ap (λ (p : Option ℕ). or_else p e) q.1 ∙ sym q.1) one.1) o)
+      (λ q. same_order log (x ∷ log)
+      (all_parents log (x ∷ log) h (one.0 ∙ cond_no seen 0 (parents log h) (or_else (parents log h) e) some
+      ∙ ap (λ (p : Option ℕ). or_else p e) q.1 ∙ sym q.1) one.1) o)
       (cases_parent (parents log h)))
   order_step log (Ack e) seen legal o =
       let x : Step = record { event = Ack e; seen = seen } in
@@ -168,7 +230,9 @@ module _ (g : Setting) (game : HasGame g) (some_ring : 0 < g.ring) where
       by_test (is_parent e s.parent && eqb (may_ack g h s e) (owed (s.into e)))
       (λ y.
       let now : parents (x ∷ log) h ≡ None = one.0 ∙ cond_true _ None s.parent y in
-      let free : (v q : ℕ) → v ≢ h → parents (x ∷ log) v ≡ Some q → tail_of g q ≢ h = (λ v q ne is at. (let p = parent_edge (x ∷ log) legal v q is in busy_tail (x ∷ log) legal q h p.0 at (head_inside g game e l) now p.3)) in (
+      let free : (v q : ℕ) → v ≢ h → parents (x ∷ log) v ≡ Some q
+      → tail_of g q ≢ h = (λ v q ne is at. (let p = parent_edge (x ∷ log) legal v q is in
+      busy_tail (x ∷ log) legal q h p.0 at (head_inside g game e l) now p.3)) in (
         without h o.0,
         chain_without (parents log) (parents (x ∷ log)) h one.1 free o.0 o.1,
         λ v inside out. dite (ℕ_discrete v h)
@@ -192,12 +256,22 @@ module _ (g : Setting) (game : HasGame g) (some_ring : 0 < g.ring) where
   tree_from : (log : Log) → IsLegalLog g log → (vs : List ℕ) → Chain (parents log) vs → IsTree g log vs
   tree_from log legal [] c = tt
   tree_from log legal (v ∷ vs) c =
-      let p = parent_edge log legal v c.2.0 c.2.1 in
-      (tree_from log legal vs c.0, c.1, (c.2.0, record { parent = c.2.1; is_edge = p.0; head = p.1; from_earlier = c.2.2; owes = p.2 }))
+      let p = parent_edge log legal v c.2.0 c.2.1 in (
+        tree_from log legal vs c.0,
+        c.1,
+        (c.2.0, record { parent = c.2.1; is_edge = p.0; head = p.1; from_earlier = c.2.2; owes = p.2 }),
+      )
 
   -- in every legal log
   pub detection_order : (log : Log) → IsLegalLog g log → (vs : List ℕ) × IsDetectionOrder g log vs
-  detection_order log legal = let o = ordered log legal in (o.0, record { tree = tree_from log legal o.0 o.1; others = λ v l m. (part_kept g game log legal v).neutral l (o.2 v l m) })
+  detection_order log legal = let o = ordered log legal in (
+    o.0,
+    record {
+      tree = tree_from log legal o.0 o.1;
+      others = λ v l m. (part_kept g game log legal v).neutral l
+          (o.2 v l m);
+    },
+  )
 
   -- ---- where the root is closed
 
@@ -208,16 +282,26 @@ module _ (g : Setting) (game : HasGame g) (some_ring : 0 < g.ring) where
         let none = no_engaged vs c.0 in
         let p = parent_edge log legal v c.2.0 c.2.1 in
         let some = p.3 in
-        ⊎_elim (λ z. let a = closed c.2.0 p.0 z in absurd (omega arith)) (λ z. absurd (contains_nothing (tail_of g c.2.0) (subst (λ (l : List ℕ). Contains l (tail_of g c.2.0)) none z))) c.2.2
+        ⊎_elim (λ z. let a = closed c.2.0 p.0 z in absurd (omega arith))
+        (λ z. absurd (contains_nothing (tail_of g c.2.0)
+        (subst (λ (l : List ℕ). Contains l (tail_of g c.2.0)) none z))) c.2.2
 
     pub all_neutral : (v : ℕ) → v < g.graph.vertices → IsNeutral g v (part_in g log v)
-    all_neutral v l = let o = ordered log legal in (part_kept g game log legal v).neutral l (o.2 v l (λ m. contains_nothing v (subst (λ (us : List ℕ). Contains us v) (no_engaged o.0 o.1) m)))
+    all_neutral v l = let o = ordered log legal in
+        (part_kept g game log legal v).neutral l
+        (o.2 v l (λ m. contains_nothing v (subst (λ (us : List ℕ). Contains us v) (no_engaged o.0 o.1) m)))
 
     pub none_outstanding : (e : ℕ) → e < all_edges g → outstanding (out_in g log e) ≡ 0
-    none_outstanding e l = ⊎_elim (λ z. closed e l z) (λ t. out_zero g (tail_of g e) (λ i. outstanding ((part_in g log (tail_of g e)).out i)) (all_neutral (tail_of g e) t).no_deficit e l refl) (tail_cases g game e)
+    none_outstanding e l = ⊎_elim (λ z. closed e l z)
+        (λ t. out_zero g (tail_of g e) (λ i. outstanding ((part_in g log (tail_of g e)).out i))
+        (all_neutral (tail_of g e) t).no_deficit e l refl) (tail_cases g game e)
 
     -- settled, acknowledged, delivered, put and sent are one number
-    pub all_counts : (e : ℕ) → e < all_edges g → ((out_in g log e).settled ≡ (into_in g log e).acked) × ((into_in g log e).acked ≡ length (into_in g log e).got) × (length (into_in g log e).got ≡ length (out_in g log e).link.put) × (length (Rattle.std.proofs.Common.option_to_list (out_in g log e).link.held) ≡ 0)
+    pub all_counts : (e : ℕ) → e < all_edges g → ((out_in g log e).settled ≡ (into_in g log e).acked)
+        × ((into_in g log e).acked ≡ length (into_in g log e).got)
+        × (length (into_in g log e).got ≡ length (out_in g log e).link.put)
+        × (length (Rattle.std.proofs.Common.option_to_list (out_in g log e).link.held) ≡ 0)
     all_counts e l =
-        let a = none_outstanding e l in let c = edge_counts g game some_ring log legal e in let c0 = c.0 in let c1 = c.1 in let c2 = c.2 in
+        let a = none_outstanding e l in let c = edge_counts g game some_ring log legal e in let c0 = c.0 in let c1 = c.1
+        in let c2 = c.2 in
         (omega arith, omega arith, omega arith, omega arith)

@@ -1,5 +1,8 @@
--- What the outcome of a closed log tells: a report takes it, a firing sequence leads to it, and where no seal halted a vertex every player comes to it.
-use Rattle.std.proofs.Common.{◌≡◌, ℕ, zero, suc, ◌*◌, ◌^◌, ◌<◌, ◌≤◌, Bool, true, false, not, ◌&&◌, eqb, leb, List, [], All, Contains, length, slice_index, Option, Some, None, refl, sym, ap, ◌∙◌, subst, arith, eqb-true, true≢false}
+-- What the outcome of a closed log tells: a report takes it, a firing sequence leads to it, and where no seal halted a
+-- vertex every player comes to it.
+use Rattle.std.proofs.Common.{◌≡◌, ℕ, zero, suc, ◌*◌, ◌^◌, ◌<◌, ◌≤◌, Bool, true, false, not, ◌&&◌, eqb, leb, List, []}
+use Rattle.std.proofs.Common.{All, Contains, length, slice_index, Option, Some, None, refl, sym, ap, ◌∙◌, subst, arith}
+use Rattle.std.proofs.Common.{eqb-true, true≢false}
 use Rattle.std.specs.List.Sorted.{IsStrictlyIncreasing}
 use Rattle.std.proofs.lemmas.List.{get_or_past}
 use Rattle.std.proofs.lemmas.List.Elements.{All-from_get_or}
@@ -49,16 +52,19 @@ no_seal_halts (Some FiringLimit) no' = refl
 inflow_outside : (G : Multigraph) → IsGraph G → (f : ℕ → ℕ) (v : ℕ) → G.vertices ≤ v → inflow G f v ≡ 0
 inflow_outside G good f v past =
     tested_none (length G.edges) (λ e. eqb (edge_at G e).head v) (λ e. (edge_at G e).mult * f (edge_at G e).tail)
-    (λ e l on. (let a = (good.edges_fit e l).head_is_vertex in let b = eqb-true (edge_at G e).head v on in absurd (omega arith)))
+    (λ e l on. (let a = (good.edges_fit e l).head_is_vertex in let b = eqb-true (edge_at G e).head v on in
+    absurd (omega arith)))
 
 module _ (g : Setting) (game : HasGame g) (some_ring : 0 < g.ring) (log : Log) (legal : IsLegalLog g log) where
   -- ---- counts and chips
 
   -- what isn't a vertex never fires
   fired_outside : (v : ℕ) → g.graph.vertices ≤ v → fired_by g log v ≡ 0
-  fired_outside v past = sym (counts_are g log v) ∙ counts_outside g.graph (firings log) (slice_index g.start) v (is_sequence g game some_ring log legal) past
+  fired_outside v past = sym (counts_are g log v)
+      ∙ counts_outside g.graph (firings log) (slice_index g.start) v (is_sequence g game some_ring log legal) past
 
-  all_fired : (fired : List ℕ) → AreFired g log g.graph.vertices fired → (v : ℕ) → slice_index fired v ≡ fired_by g log v
+  all_fired : (fired : List ℕ) → AreFired g log g.graph.vertices fired → (v : ℕ)
+      → slice_index fired v ≡ fired_by g log v
   all_fired fired are v = dite (dec_lt v g.graph.vertices)
       (are.each v)
       (λ nl. let n = are.count_is in get_or_past fired v 0 (omega arith) ∙ sym (fired_outside v (omega arith)))
@@ -67,11 +73,14 @@ module _ (g : Setting) (game : HasGame g) (some_ring : 0 < g.ring) (log : Log) (
   same_fired fired are j v = all_fired fired are v j
 
   -- no vertex has fired more chips than it had
-  pub never_negative : (fired : List ℕ) → AreFired g log g.graph.vertices fired → (v : ℕ) → IsBelowZero g.graph (slice_index g.start) (slice_index fired) v → ⊥
-  never_negative fired are v low = none_below g game some_ring log legal v (subst (λ (f : ℕ → ℕ). IsBelowZero g.graph (slice_index g.start) f v) (same_fired fired are) low)
+  pub never_negative : (fired : List ℕ) → AreFired g log g.graph.vertices fired → (v : ℕ)
+      → IsBelowZero g.graph (slice_index g.start) (slice_index fired) v → ⊥
+  never_negative fired are v low = none_below g game some_ring log legal v
+      (subst (λ (f : ℕ → ℕ). IsBelowZero g.graph (slice_index g.start) f v) (same_fired fired are) low)
 
   -- nothing lies where no vertex is
-  chips_outside : (v : ℕ) → g.graph.vertices ≤ v → position_by_counts g.graph (slice_index g.start) (fired_by g log) v ≡ 0
+  chips_outside : (v : ℕ) → g.graph.vertices ≤ v → position_by_counts g.graph (slice_index g.start) (fired_by g log) v
+      ≡ 0
   chips_outside v past =
       let each = game.start_fits in
       let a = get_or_past g.start v 0 (omega arith) in
@@ -82,8 +91,11 @@ module _ (g : Setting) (game : HasGame g) (some_ring : 0 < g.ring) (log : Log) (
     chips_are : (v : ℕ) → slice_index o.chips.items v ≡ position_after g.graph (slice_index g.start) (firings log) v
     chips_are v =
         dite (dec_lt v g.graph.vertices)
-        (λ l. is.chips.by_counts v l ∙ ap (λ (f : ℕ → ℕ). position_by_counts g.graph (slice_index g.start) f v) (same_fired o.fired.items is.fired))
-        (λ nl. let n = is.chips.chips_each in get_or_past o.chips.items v 0 (omega arith) ∙ sym (chips_outside v (omega arith)))
+        (λ l. is.chips.by_counts v l
+        ∙ ap (λ (f : ℕ → ℕ). position_by_counts g.graph (slice_index g.start) f v)
+        (same_fired o.fired.items is.fired))
+        (λ nl. let n = is.chips.chips_each in get_or_past o.chips.items v 0 (omega arith)
+        ∙ sym (chips_outside v (omega arith)))
         ∙ sym (by_counts g game some_ring log legal v)
 
     -- the firings that were made come to it
@@ -102,8 +114,10 @@ module _ (g : Setting) (game : HasGame g) (some_ring : 0 < g.ring) (log : Log) (
 
     apart : (v : ℕ) → Contains o.over.items v → Contains o.sealed.items v → ⊥
     apart v limit seal = one_cause (part_in g log v).halt
-        (Contains-picked (λ u. is_by_limit (part_in g log u).halt) g.graph.vertices v (subst (λ (l : List ℕ). Contains l v) is.over limit)).1
-        (Contains-picked (λ u. is_by_seal (part_in g log u).halt) g.graph.vertices v (subst (λ (l : List ℕ). Contains l v) is.sealed seal)).1
+        (Contains-picked (λ u. is_by_limit (part_in g log u).halt) g.graph.vertices v
+        (subst (λ (l : List ℕ). Contains l v) is.over limit)).1
+        (Contains-picked (λ u. is_by_seal (part_in g log u).halt) g.graph.vertices v
+        (subst (λ (l : List ℕ). Contains l v) is.sealed seal)).1
 
     pub in_range : IsOutcome o
     in_range =
@@ -112,12 +126,20 @@ module _ (g : Setting) (game : HasGame g) (some_ring : 0 < g.ring) (log : Log) (
           same_length = is.chips.chips_each ∙ sym vertices;
           some_vertex = (let a = game.graph_fits.some_vertex in omega arith);
           few_vertices = (let a = game.graph_fits.few_vertices in omega arith);
-          few_firings = All-from_get_or (λ n. n ≤ 2 ^ 40) o.fired.items 0 (λ i l. (let a = low_counts i in let b = game.low_limit in omega arith));
-          few_chips = All-from_get_or (λ n. n ≤ 2 ^ 40) o.chips.items 0 (λ i l. (let a = get_or-le-sum_by (λ (n : ℕ). n) o.chips.items i 0 l in let b = is.chips.kept in let c = game.few_chips in omega arith));
-          over_ascends = subst IsStrictlyIncreasing (sym is.over) (picked_ascends (λ u. is_by_limit (part_in g log u).halt) g.graph.vertices);
-          over_vertices = subst (All (λ v. v < length o.fired.items)) (sym is.over) (All-picked (λ u. is_by_limit (part_in g log u).halt) g.graph.vertices (length o.fired.items) (omega arith));
-          sealed_ascends = subst IsStrictlyIncreasing (sym is.sealed) (picked_ascends (λ u. is_by_seal (part_in g log u).halt) g.graph.vertices);
-          sealed_vertices = subst (All (λ v. v < length o.fired.items)) (sym is.sealed) (All-picked (λ u. is_by_seal (part_in g log u).halt) g.graph.vertices (length o.fired.items) (omega arith));
+          few_firings = All-from_get_or (λ n. n ≤ 2 ^ 40) o.fired.items 0
+              (λ i l. (let a = low_counts i in let b = game.low_limit in omega arith));
+          few_chips = All-from_get_or (λ n. n ≤ 2 ^ 40) o.chips.items 0
+              (λ i l. (let a = get_or-le-sum_by (λ (n : ℕ). n) o.chips.items i 0 l in let b = is.chips.kept in
+              let c = game.few_chips in omega arith));
+          over_ascends = subst IsStrictlyIncreasing (sym is.over)
+              (picked_ascends (λ u. is_by_limit (part_in g log u).halt) g.graph.vertices);
+          over_vertices = subst (All (λ v. v < length o.fired.items)) (sym is.over)
+              (All-picked (λ u. is_by_limit (part_in g log u).halt) g.graph.vertices (length o.fired.items)
+              (omega arith));
+          sealed_ascends = subst IsStrictlyIncreasing (sym is.sealed)
+              (picked_ascends (λ u. is_by_seal (part_in g log u).halt) g.graph.vertices);
+          sealed_vertices = subst (All (λ v. v < length o.fired.items)) (sym is.sealed)
+              (All-picked (λ u. is_by_seal (part_in g log u).halt) g.graph.vertices (length o.fired.items) (omega arith));
           apart = apart;
         }
 
@@ -129,10 +151,12 @@ module _ (g : Setting) (game : HasGame g) (some_ring : 0 < g.ring) (log : Log) (
 
       -- the chips that lie there are those of the outcome
       chips_lie : (v : ℕ) → v < g.graph.vertices → chips_at g log v ≡ slice_index o.chips.items v
-      chips_lie v l = (agrees_within g game some_ring log legal closed no_seal (firings log) whole).chips v l ∙ sym (chips_are v)
+      chips_lie v l = (agrees_within g game some_ring log legal closed no_seal (firings log) whole).chips v l
+          ∙ sym (chips_are v)
 
       same_legal : legal_vertices g.graph (chips_at g log) ≡ legal_vertices g.graph (slice_index o.chips.items)
-      same_legal = picked_ext (λ v. not (eqb v g.graph.sink) && leb (degree g.graph v) (chips_at g log v)) (λ v. not (eqb v g.graph.sink) && leb (degree g.graph v) (slice_index o.chips.items v)) g.graph.vertices
+      same_legal = picked_ext (λ v. not (eqb v g.graph.sink) && leb (degree g.graph v) (chips_at g log v))
+          (λ v. not (eqb v g.graph.sink) && leb (degree g.graph v) (slice_index o.chips.items v)) g.graph.vertices
           (λ v l. ap (λ (x : ℕ). not (eqb v g.graph.sink) && leb (degree g.graph v) x) (chips_lie v l))
 
       -- it is every player's
@@ -141,10 +165,13 @@ module _ (g : Setting) (game : HasGame g) (some_ring : 0 < g.ring) (log : Log) (
         ends = (firings log, whole);
         fired_each = is.fired.count_is;
         chips_each = is.chips.chips_each;
-        counted = λ vs play v. comes.counted v ∙ (one_end g.graph (slice_index g.start) g.limit (firings log) vs whole play).0 v;
-        position = λ vs play v. comes.position v ∙ (one_end g.graph (slice_index g.start) g.limit (firings log) vs whole play).1 v;
+        counted = λ vs play v. comes.counted v
+            ∙ (one_end g.graph (slice_index g.start) g.limit (firings log) vs whole play).0 v;
+        position = λ vs play v. comes.position v
+            ∙ (one_end g.graph (slice_index g.start) g.limit (firings log) vs whole play).1 v;
         low_counts = low_counts;
         kept = is.chips.kept;
         over = is.over ∙ over g game some_ring log legal closed no_seal ∙ same_legal;
-        sealed = is.sealed ∙ picked_none (λ u. is_by_seal (part_in g log u).halt) g.graph.vertices (λ u l. no_seal_halts (part_in g log u).halt (no_seal u l));
+        sealed = is.sealed ∙ picked_none (λ u. is_by_seal (part_in g log u).halt) g.graph.vertices
+            (λ u l. no_seal_halts (part_in g log u).halt (no_seal u l));
       }

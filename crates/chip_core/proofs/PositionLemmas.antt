@@ -1,5 +1,7 @@
 -- The full position is the position after the firings that were made.
-use Rattle.std.proofs.Common.{◌≡◌, ℕ, ◌+◌, ◌-◌, ◌*◌, ◌<◌, Bool, eqb, List, [], ◌∷◌, ◌++◌, length, sum, take, slice_index, replicate, option_to_list, refl, sym, ap, ◌∙◌, subst, arith, eqb-true, append-nil}
+use Rattle.std.proofs.Common.{◌≡◌, ℕ, ◌+◌, ◌-◌, ◌*◌, ◌<◌, Bool, eqb, List, [], ◌∷◌, ◌++◌, length, sum, take}
+use Rattle.std.proofs.Common.{slice_index, replicate, option_to_list, refl, sym, ap, ◌∙◌, subst, arith, eqb-true}
+use Rattle.std.proofs.Common.{append-nil}
 use Rattle.std.proofs.lemmas.List.{take-append-le}
 use Rattle.std.proofs.lemmas.List.Sums.{sum_by-append, sum_by-take-drop}
 use mathlib.Core.Logic.{dite}
@@ -10,12 +12,15 @@ use Rattle.chip_graph.proofs.SumLemmas.{cond_yes, cond_no, tested_ext, tested_ad
 use Rattle.chip_link.specs.Link.{sent_counts}
 use Rattle.chip_fire.specs.Sequence.{position_after, IsFiringSequence, counts, IsWithin}
 use Rattle.chip_fire.specs.Counted.{inflow, position_by_counts, IsBelowZero}
-use Rattle.chip_fire.proofs.FiringLemmas.{counts-append, counts-replicate, inflow_ext, position_is, sequence-append, batch, position_by_counts_law}
+use Rattle.chip_fire.proofs.FiringLemmas.{counts-append, counts-replicate, inflow_ext, position_is, sequence-append}
+use Rattle.chip_fire.proofs.FiringLemmas.{batch, position_by_counts_law}
 use Rattle.chip_actor.specs.Edges.{root_edge, mult_of, start_of, over_ins, made}
 use Rattle.chip_actor.proofs.EdgeLemmas.{over_ins_graph, tail_graph}
 use Rattle.chip_actor.proofs.RuleLemmas.{rules_met}
 use Rattle.chip_actor.proofs.PartLemmas.{made_graph, made_root}
-use Rattle.chip_core.specs.Core.{Log, Step, Event, Take, Ack, Fire, Clear, Claim, Put, Halt, Settle, Seal, Read, Part, part_of, does, part_in, out_in, into_in, fired_by, IsLegalLog, tail_of, head_of, all_edges, graph_edges}
+use Rattle.chip_core.specs.Core.{Log, Step, Event, Take, Ack, Fire, Clear, Claim, Put, Halt, Settle, Seal, Read, Part}
+use Rattle.chip_core.specs.Core.{part_of, does, part_in, out_in, into_in, fired_by, IsLegalLog, tail_of, head_of}
+use Rattle.chip_core.specs.Core.{all_edges, graph_edges}
 use Rattle.chip_core.specs.Messages.{counts_in_flight}
 use Rattle.chip_core.specs.Positions.{held, full_position, firings, firings_of, LeadsTo}
 use Rattle.chip_core.proofs.LogLemmas.{part_here, part_else, part_kept, out_kept, edge_sound}
@@ -23,28 +28,37 @@ use Rattle.chip_core.proofs.LogLemmas.{part_here, part_else, part_kept, out_kept
 module _ (g : Setting) where
   -- ---- how often each vertex fired
 
-  keeps_fired : (x : Step) (log : Log) → ((s : Part) → (does g x s).fired ≡ s.fired) → firings_of x.event ≡ [] → (u : ℕ) → counts (firings log) u ≡ fired_by g log u → counts (firings (x ∷ log)) u ≡ fired_by g (x ∷ log) u
+  keeps_fired : (x : Step) (log : Log) → ((s : Part) → (does g x s).fired ≡ s.fired) → firings_of x.event ≡ [] → (u : ℕ)
+      → counts (firings log) u ≡ fired_by g log u → counts (firings (x ∷ log)) u ≡ fired_by g (x ∷ log) u
   keeps_fired x log made none u ih =
-      ap (λ (l : List ℕ). counts (firings log ++ l) u) none ∙ ap (λ (l : List ℕ). counts l u) (append-nil (firings log)) ∙ ih
+      ap (λ (l : List ℕ). counts (firings log ++ l) u) none ∙ ap (λ (l : List ℕ). counts l u) (append-nil (firings log))
+      ∙ ih
       ∙ sym (dite (ℕ_discrete (part_of g x.event) u)
       (λ e. ap (λ (s : Part). s.fired) (part_here g x log u e) ∙ made (part_in g log u))
       (λ ne. ap (λ (s : Part). s.fired) (part_else g x log u ne)))
 
-  counts_step : (ev : Event) (seen : ℕ) (log : Log) (u : ℕ) → counts (firings log) u ≡ fired_by g log u → counts (firings (record { event = ev; seen = seen } ∷ log)) u ≡ fired_by g (record { event = ev; seen = seen } ∷ log) u
+  counts_step : (ev : Event) (seen : ℕ) (log : Log) (u : ℕ) → counts (firings log) u ≡ fired_by g log u
+      → counts (firings (record { event = ev; seen = seen } ∷ log)) u
+      ≡ fired_by g (record { event = ev; seen = seen } ∷ log) u
   counts_step (Fire v k) seen log u ih =
       let x : Step = record { event = Fire v k; seen = seen } in
       let both = counts-append (firings log) (replicate k v) u in
       let more = counts-replicate k v u in
       dite (ℕ_discrete v u)
-      (λ e. let a = cond_yes v u k 0 e in let b : fired_by g (x ∷ log) u ≡ fired_by g log u + k = ap (λ (s : Part). s.fired) (part_here g x log u e) in omega arith)
-      (λ ne. let a = cond_no v u k 0 ne in let b : fired_by g (x ∷ log) u ≡ fired_by g log u = ap (λ (s : Part). s.fired) (part_else g x log u ne) in omega arith)
+      (λ e. let a = cond_yes v u k 0 e in
+      let b : fired_by g (x ∷ log) u ≡ fired_by g log u + k = ap (λ (s : Part). s.fired) (part_here g x log u e) in
+      omega arith)
+      (λ ne. let a = cond_no v u k 0 ne in
+      let b : fired_by g (x ∷ log) u ≡ fired_by g log u = ap (λ (s : Part). s.fired) (part_else g x log u ne) in
+      omega arith)
   counts_step (Take e) seen log u ih = keeps_fired (record { event = Take e; seen = seen }) log (λ s. refl) refl u ih
   counts_step (Ack e) seen log u ih = keeps_fired (record { event = Ack e; seen = seen }) log (λ s. refl) refl u ih
   counts_step (Clear e) seen log u ih = keeps_fired (record { event = Clear e; seen = seen }) log (λ s. refl) refl u ih
   counts_step (Claim e) seen log u ih = keeps_fired (record { event = Claim e; seen = seen }) log (λ s. refl) refl u ih
   counts_step (Put e) seen log u ih = keeps_fired (record { event = Put e; seen = seen }) log (λ s. refl) refl u ih
   counts_step (Halt v) seen log u ih = keeps_fired (record { event = Halt v; seen = seen }) log (λ s. refl) refl u ih
-  counts_step (Settle e) seen log u ih = keeps_fired (record { event = Settle e; seen = seen }) log (λ s. refl) refl u ih
+  counts_step (Settle e) seen log u ih = keeps_fired (record { event = Settle e; seen = seen }) log
+      (λ s. refl) refl u ih
   counts_step (Seal e) seen log u ih = keeps_fired (record { event = Seal e; seen = seen }) log (λ s. refl) refl u ih
   counts_step (Read v) seen log u ih = keeps_fired (record { event = Read v; seen = seen }) log (λ s. refl) refl u ih
 
@@ -54,28 +68,35 @@ module _ (g : Setting) where
   counts_are (x ∷ log) u = counts_step x.event x.seen log u (counts_are log u)
 
   -- what ever went into the edges into v: its start, and what its neighbours' firings brought
-  pub made_inflow : (f : ℕ → ℕ) (v : ℕ) → v < g.graph.vertices → over_ins g v (λ e. made g e (f (tail_of g e))) ≡ start_of g v + inflow g.graph f v
+  pub made_inflow : (f : ℕ → ℕ) (v : ℕ) → v < g.graph.vertices
+      → over_ins g v (λ e. made g e (f (tail_of g e))) ≡ start_of g v + inflow g.graph f v
   made_inflow f v inside =
       let all = over_ins_graph g v inside (λ e. made g e (f (tail_of g e))) in
-      let own = tested_ext (length g.graph.edges) (λ e. eqb (edge_at g.graph e).head v) (λ e. made g e (f (tail_of g e))) (λ e. (edge_at g.graph e).mult * f (edge_at g.graph e).tail)
+      let own = tested_ext (length g.graph.edges) (λ e. eqb (edge_at g.graph e).head v)
+      (λ e. made g e (f (tail_of g e))) (λ e. (edge_at g.graph e).mult * f (edge_at g.graph e).tail)
       (λ e l on. made_graph g e (f (tail_of g e)) l ∙ ap (λ (t : ℕ). mult_of g e * f t) (tail_graph g e l)) in
       let at : root_edge g v - graph_edges g ≡ v = omega arith in
-      let one : made g (root_edge g v) (f (tail_of g (root_edge g v))) ≡ start_of g v = made_root g (root_edge g v) (f (tail_of g (root_edge g v))) (omega arith) ∙ ap (start_of g) at in
+      let one : made g (root_edge g v) (f (tail_of g (root_edge g v)))
+      ≡ start_of g v = made_root g (root_edge g v) (f (tail_of g (root_edge g v))) (omega arith) ∙ ap (start_of g) at
+      in
       omega arith
 
   module _ (game : HasGame g) (some_ring : 0 < g.ring) where
     -- what is delivered and what is in flight is what was sent
-    pub sent_sum : (log : Log) → IsLegalLog g log → (e : ℕ) → sum (into_in g log e).got + sum (counts_in_flight g log e) ≡ sum (sent_counts (out_in g log e).link)
+    pub sent_sum : (log : Log) → IsLegalLog g log → (e : ℕ) → sum (into_in g log e).got + sum (counts_in_flight g log e)
+        ≡ sum (sent_counts (out_in g log e).link)
     sent_sum log legal e =
         let s = edge_sound g game some_ring log legal e in
         let t = (out_in g log e).link in
         let got = (into_in g log e).got in
         let a = sum_by-take-drop (λ (x : ℕ). x) (sent_counts t) (length got) in
-        let b : sum got ≡ sum (take (length got) (sent_counts t)) = ap sum (s.prefix ∙ sym (take-append-le (length got) t.put (option_to_list t.held) s.behind)) in
+        let b : sum got ≡ sum (take (length got) (sent_counts t)) =
+        ap sum (s.prefix ∙ sym (take-append-le (length got) t.put (option_to_list t.held) s.behind)) in
         omega arith
 
     -- what was sent and what is held is what ever went into an edge
-    pub made_sum : (log : Log) → IsLegalLog g log → (e : ℕ) → sum (sent_counts (out_in g log e).link) + held g log e ≡ made g e (fired_by g log (tail_of g e))
+    pub made_sum : (log : Log) → IsLegalLog g log → (e : ℕ)
+        → sum (sent_counts (out_in g log e).link) + held g log e ≡ made g e (fired_by g log (tail_of g e))
     made_sum log legal e =
         let t = (out_in g log e).link in
         let a = sum_by-append (λ (x : ℕ). x) t.put (option_to_list t.held) in
@@ -83,14 +104,18 @@ module _ (g : Setting) where
         omega arith
 
     -- on each edge: delivered, in flight and held make what ever went into it
-    pub edge_sum : (log : Log) → IsLegalLog g log → (e : ℕ) → sum (into_in g log e).got + (sum (counts_in_flight g log e) + held g log e) ≡ made g e (fired_by g log (tail_of g e))
+    pub edge_sum : (log : Log) → IsLegalLog g log → (e : ℕ)
+        → sum (into_in g log e).got + (sum (counts_in_flight g log e) + held g log e)
+        ≡ made g e (fired_by g log (tail_of g e))
     edge_sum log legal e = let a = sent_sum log legal e in let b = made_sum log legal e in omega arith
 
     -- what is held on an edge of the graph
-    pub held_is : (log : Log) → IsLegalLog g log → (e : ℕ) → e < graph_edges g → sum (sent_counts (out_in g log e).link) + held g log e ≡ mult_of g e * fired_by g log (tail_of g e)
+    pub held_is : (log : Log) → IsLegalLog g log → (e : ℕ) → e < graph_edges g
+        → sum (sent_counts (out_in g log e).link) + held g log e ≡ mult_of g e * fired_by g log (tail_of g e)
     held_is log legal e l = made_sum log legal e ∙ made_graph g e (fired_by g log (tail_of g e)) l
 
-    full_sum : (log : Log) → IsLegalLog g log → (v : ℕ) → v < g.graph.vertices → full_position g log v + degree g.graph v * fired_by g log v ≡ start_of g v + inflow g.graph (fired_by g log) v
+    full_sum : (log : Log) → IsLegalLog g log → (v : ℕ) → v < g.graph.vertices
+        → full_position g log v + degree g.graph v * fired_by g log v ≡ start_of g v + inflow g.graph (fired_by g log) v
     full_sum log legal v inside =
         let n : ℕ = all_edges g in
         let t : ℕ → Bool = (λ e. eqb (head_of g e) v) in
@@ -98,14 +123,23 @@ module _ (g : Setting) where
         let flies : ℕ → ℕ = (λ e. sum (counts_in_flight g log e)) in
         let holds : ℕ → ℕ = held g log in
         let chips = (part_kept g game log legal v).chips_are in
-        let a : over_ins g v (λ e. sum ((part_in g log v).into e).got) ≡ over_ins g v gots = tested_ext n t (λ e. sum ((part_in g log v).into e).got) gots (λ e l on. ap (λ (p : ℕ). sum ((part_in g log p).into e).got) (sym (eqb-true (head_of g e) v on))) in
-        let b : over_ins g v (λ e. flies e + holds e) ≡ over_ins g v flies + over_ins g v holds = tested_add n t flies holds in
-        let c : over_ins g v (λ e. gots e + (flies e + holds e)) ≡ over_ins g v gots + over_ins g v (λ e. flies e + holds e) = tested_add n t gots (λ e. flies e + holds e) in
-        let d : over_ins g v (λ e. gots e + (flies e + holds e)) ≡ over_ins g v (λ e. made g e (fired_by g log (tail_of g e))) = tested_ext n t (λ e. gots e + (flies e + holds e)) (λ e. made g e (fired_by g log (tail_of g e))) (λ e l on. edge_sum log legal e) in
+        let a : over_ins g v (λ e. sum ((part_in g log v).into e).got) ≡ over_ins g v gots = tested_ext n t
+        (λ e. sum ((part_in g log v).into e).got) gots
+        (λ e l on. ap (λ (p : ℕ). sum ((part_in g log p).into e).got) (sym (eqb-true (head_of g e) v on))) in
+        let b : over_ins g v (λ e. flies e + holds e) ≡ over_ins g v flies + over_ins g v holds =
+        tested_add n t flies holds in
+        let c : over_ins g v (λ e. gots e + (flies e + holds e)) ≡ over_ins g v gots + over_ins g v
+        (λ e. flies e + holds e) = tested_add n t gots (λ e. flies e + holds e) in
+        let d : over_ins g v (λ e. gots e + (flies e + holds e))
+        ≡ over_ins g v (λ e. made g e (fired_by g log (tail_of g e))) = tested_ext n t
+        (λ e. gots e + (flies e + holds e)) (λ e. made g e (fired_by g log (tail_of g e)))
+        (λ e l on. edge_sum log legal e) in
         let f = made_inflow (fired_by g log) v inside in
         omega arith
 
-    position_from : (log : Log) → IsLegalLog g log → IsFiringSequence g.graph (slice_index g.start) (firings log) → (v : ℕ) → v < g.graph.vertices → position_after g.graph (slice_index g.start) (firings log) v ≡ full_position g log v
+    position_from : (log : Log) → IsLegalLog g log → IsFiringSequence g.graph (slice_index g.start) (firings log)
+        → (v : ℕ) → v < g.graph.vertices → position_after g.graph (slice_index g.start) (firings log) v
+        ≡ full_position g log v
     position_from log legal ok v inside =
         let a = full_sum log legal v inside in
         let b = position_is g.graph (firings log) (slice_index g.start) ok v in
@@ -113,10 +147,14 @@ module _ (g : Setting) where
         let d = inflow_ext g.graph (counts (firings log)) (fired_by g log) (counts_are log) v in
         omega arith
 
-    same_sequence : (log : Log) (vs : List ℕ) → vs ≡ [] → IsFiringSequence g.graph (slice_index g.start) (firings log) → IsFiringSequence g.graph (slice_index g.start) (firings log ++ vs)
-    same_sequence log vs none ok = subst (IsFiringSequence g.graph (slice_index g.start)) (sym (ap (λ (l : List ℕ). firings log ++ l) none ∙ append-nil (firings log))) ok
+    same_sequence : (log : Log) (vs : List ℕ) → vs ≡ [] → IsFiringSequence g.graph (slice_index g.start) (firings log)
+        → IsFiringSequence g.graph (slice_index g.start) (firings log ++ vs)
+    same_sequence log vs none ok = subst (IsFiringSequence g.graph (slice_index g.start))
+        (sym (ap (λ (l : List ℕ). firings log ++ l) none ∙ append-nil (firings log))) ok
 
-    sequence_step : (ev : Event) (seen : ℕ) (log : Log) → IsLegalLog g (record { event = ev; seen = seen } ∷ log) → IsFiringSequence g.graph (slice_index g.start) (firings log) → IsFiringSequence g.graph (slice_index g.start) (firings log ++ firings_of ev)
+    sequence_step : (ev : Event) (seen : ℕ) (log : Log) → IsLegalLog g (record { event = ev; seen = seen } ∷ log)
+        → IsFiringSequence g.graph (slice_index g.start) (firings log)
+        → IsFiringSequence g.graph (slice_index g.start) (firings log ++ firings_of ev)
     sequence_step (Fire v k) seen log legal ok =
         let may = rules_met g (Fire v k) (part_in g log v) legal.1.0 in
         let same = position_from log legal.0 ok v may.0 in
@@ -152,8 +190,15 @@ module _ (g : Setting) where
     same_counts : (log : Log) → counts (firings log) ≡ fired_by g log
     same_counts log j u = counts_are log u j
 
-    pub none_below : (log : Log) → IsLegalLog g log → (v : ℕ) → IsBelowZero g.graph (slice_index g.start) (fired_by g log) v → ⊥
-    none_below log legal v low = (position_by_counts_law g.graph (slice_index g.start) (firings log) (is_sequence log legal) v).0 (subst (λ (f : ℕ → ℕ). IsBelowZero g.graph (slice_index g.start) f v) (sym (same_counts log)) low)
+    pub none_below : (log : Log) → IsLegalLog g log → (v : ℕ)
+        → IsBelowZero g.graph (slice_index g.start) (fired_by g log) v → ⊥
+    none_below log legal v low =
+        (position_by_counts_law g.graph (slice_index g.start) (firings log) (is_sequence log legal) v).0
+        (subst (λ (f : ℕ → ℕ). IsBelowZero g.graph (slice_index g.start) f v) (sym (same_counts log)) low)
 
-    pub by_counts : (log : Log) → IsLegalLog g log → (v : ℕ) → position_after g.graph (slice_index g.start) (firings log) v ≡ position_by_counts g.graph (slice_index g.start) (fired_by g log) v
-    by_counts log legal v = (position_by_counts_law g.graph (slice_index g.start) (firings log) (is_sequence log legal) v).1 ∙ ap (λ (f : ℕ → ℕ). position_by_counts g.graph (slice_index g.start) f v) (same_counts log)
+    pub by_counts : (log : Log) → IsLegalLog g log → (v : ℕ)
+        → position_after g.graph (slice_index g.start) (firings log) v
+        ≡ position_by_counts g.graph (slice_index g.start) (fired_by g log) v
+    by_counts log legal v = (position_by_counts_law g.graph (slice_index g.start) (firings log)
+        (is_sequence log legal) v).1
+        ∙ ap (λ (f : ℕ → ℕ). position_by_counts g.graph (slice_index g.start) f v) (same_counts log)

@@ -11,7 +11,8 @@ use Rattle.chip_core.proofs.ReachingLemmas.{by_history}
 
 module _ (g : Setting) where
   -- by these records the parts are those of the log
-  same_parts : (records : ℕ → List Step) (log : Log) → ((p : ℕ) → records p ≡ done_by g p log) → parts_by g records ≡ part_in g log
+  same_parts : (records : ℕ → List Step) (log : Log) → ((p : ℕ) → records p ≡ done_by g p log)
+      → parts_by g records ≡ part_in g log
   same_parts records log same = λ j p. (ap (part_by g (opened g)) (same p) ∙ sym (by_history g log p)) j
 
   to_reached : (log : Log) → IsLegalLog g log → IsReached g (λ p. done_by g p log)
@@ -21,8 +22,10 @@ module _ (g : Setting) where
       one_more (λ p. done_by g p log) (λ p. done_by g p (x ∷ log)) x (to_reached log legal.0) record {
         may = subst (λ (parts : ℕ → Part). unmet g x.event (parts (part_of g x.event)) ≡ None) (sym same) legal.1.0;
         saw = subst (λ (parts : ℕ → Part). x.seen ≡ seen_of g parts x.event) (sym same) legal.1.1;
-        mine = cond_yes (part_of g x.event) (part_of g x.event) (done_by g (part_of g x.event) log ++ x ∷ []) (done_by g (part_of g x.event) log) refl;
-        others = λ p other. cond_no (part_of g x.event) p (done_by g p log ++ x ∷ []) (done_by g p log) (λ z. other (sym z));
+        mine = cond_yes (part_of g x.event) (part_of g x.event) (done_by g (part_of g x.event) log ++ x ∷ [])
+            (done_by g (part_of g x.event) log) refl;
+        others = λ p other. cond_no (part_of g x.event) p (done_by g p log ++ x ∷ []) (done_by g p log)
+            (λ z. other (sym z));
       }
 
   -- some legal log leaves these records
@@ -34,10 +37,20 @@ module _ (g : Setting) where
   goes_on old new x more (log, legal, same) =
       let parts = same_parts old log same in (
         x ∷ log,
-        (legal, (subst (λ (parts : ℕ → Part). unmet g x.event (parts (part_of g x.event)) ≡ None) parts more.may, subst (λ (parts : ℕ → Part). x.seen ≡ seen_of g parts x.event) parts more.saw)),
+        (
+          legal,
+          (
+            subst (λ (parts : ℕ → Part). unmet g x.event (parts (part_of g x.event)) ≡ None) parts more.may,
+            subst
+                (λ (parts : ℕ → Part). x.seen ≡ seen_of g parts x.event) parts more.saw,
+          ),
+        ),
         λ p. dite (ℕ_discrete p (part_of g x.event))
-            (λ mine. ap new mine ∙ more.mine ∙ ap (λ (did : List Step). did ++ x ∷ []) (same (part_of g x.event)) ∙ ap (λ (q : ℕ). done_by g q log ++ x ∷ []) (sym mine) ∙ sym (cond_yes (part_of g x.event) p (done_by g p log ++ x ∷ []) (done_by g p log) (sym mine)))
-            (λ other. more.others p other ∙ same p ∙ sym (cond_no (part_of g x.event) p (done_by g p log ++ x ∷ []) (done_by g p log) (λ z. other (sym z)))),
+            (λ mine. ap new mine ∙ more.mine ∙ ap (λ (did : List Step). did ++ x ∷ []) (same (part_of g x.event))
+            ∙ ap (λ (q : ℕ). done_by g q log ++ x ∷ []) (sym mine)
+            ∙ sym (cond_yes (part_of g x.event) p (done_by g p log ++ x ∷ []) (done_by g p log) (sym mine)))
+            (λ other. more.others p other ∙ same p
+            ∙ sym (cond_no (part_of g x.event) p (done_by g p log ++ x ∷ []) (done_by g p log) (λ z. other (sym z)))),
       )
 
   from_reached : (records : ℕ → List Step) → IsReached g records → IsLeft records

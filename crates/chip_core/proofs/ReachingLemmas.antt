@@ -4,7 +4,8 @@ use mathlib.Core.Logic.{dite}
 use native.Mathlib.Decide.{ℕ_discrete}
 use Rattle.chip_actor.specs.Setting.{Setting}
 use Rattle.chip_graph.proofs.SumLemmas.{cond_yes, cond_no}
-use Rattle.chip_core.specs.Core.{Log, Step, Event, Rule, Part, opened, unmet, part_of, does, part_in, IsLegalLog, answer, step, log_after}
+use Rattle.chip_core.specs.Core.{Log, Step, Event, Rule, Part, opened, unmet, part_of, does, part_in, IsLegalLog}
+use Rattle.chip_core.specs.Core.{answer, step, log_after}
 use Rattle.chip_core.specs.Positions.{asked_in}
 use Rattle.chip_core.specs.Histories.{done_by, part_by}
 use Rattle.chip_core.specs.Laws.{PartsByTheirOwnEvents, LegalLogsAreRuns}
@@ -18,10 +19,16 @@ module _ (g : Setting) where
   pub by_history : (log : Log) (p : ℕ) → part_in g log p ≡ part_by g (opened g) (done_by g p log)
   by_history [] p = refl
   by_history (x ∷ log) p = dite (ℕ_discrete (part_of g x.event) p)
-      (λ same. part_here g x log p same ∙ ap (does g x) (by_history log p) ∙ sym (ap (part_by g (opened g)) (cond_yes (part_of g x.event) p (done_by g p log ++ x ∷ []) (done_by g p log) same) ∙ part_push (opened g) (done_by g p log) x))
-      (λ other. part_else g x log p other ∙ by_history log p ∙ sym (ap (part_by g (opened g)) (cond_no (part_of g x.event) p (done_by g p log ++ x ∷ []) (done_by g p log) other)))
+      (λ same. part_here g x log p same ∙ ap (does g x) (by_history log p)
+      ∙ sym (ap (part_by g (opened g))
+      (cond_yes (part_of g x.event) p (done_by g p log ++ x ∷ []) (done_by g p log) same)
+      ∙ part_push (opened g) (done_by g p log) x))
+      (λ other. part_else g x log p other ∙ by_history log p
+      ∙ sym (ap (part_by g (opened g))
+      (cond_no (part_of g x.event) p (done_by g p log ++ x ∷ []) (done_by g p log) other)))
 
-  pub answer_legal : (log : Log) (x : Event) (o : Option Rule) → unmet g x (part_in g log (part_of g x)) ≡ o → IsLegalLog g log → IsLegalLog g (answer g log x o).0
+  pub answer_legal : (log : Log) (x : Event) (o : Option Rule) → unmet g x (part_in g log (part_of g x)) ≡ o
+      → IsLegalLog g log → IsLegalLog g (answer g log x o).0
   answer_legal log x None is legal = (legal, (is, refl))
   answer_legal log x (Some r) is legal = legal
 
@@ -34,15 +41,18 @@ module _ (g : Setting) where
   run_legal log [] legal = legal
   run_legal log (x ∷ xs) legal = run_legal (step g log x).0 xs (step_legal log x legal)
 
-  run_push : (log : Log) (xs : List Event) (x : Event) → log_after g log (xs ++ x ∷ []) ≡ (step g (log_after g log xs) x).0
+  run_push : (log : Log) (xs : List Event) (x : Event)
+      → log_after g log (xs ++ x ∷ []) ≡ (step g (log_after g log xs) x).0
   run_push log [] x = refl
   run_push log (y ∷ ys) x = run_push (step g log y).0 ys x
 
   -- a legal log is what the run of its events leaves
   pub run_of : (log : Log) → IsLegalLog g log → log_after g [] (asked_in log) ≡ log
   run_of [] legal = refl
-  run_of (x ∷ log) legal = run_push [] (asked_in log) x.event ∙ ap (λ (l : Log). (step g l x.event).0) (run_of log legal.0)
-      ∙ ap (λ (o : Option Rule). (answer g log x.event o).0) legal.1.0 ∙ (λ j. record { event = x.event; seen = sym legal.1.1 j } ∷ log)
+  run_of (x ∷ log) legal = run_push [] (asked_in log) x.event
+      ∙ ap (λ (l : Log). (step g l x.event).0) (run_of log legal.0)
+      ∙ ap (λ (o : Option Rule). (answer g log x.event o).0) legal.1.0
+      ∙ (λ j. record { event = x.event; seen = sym legal.1.1 j } ∷ log)
 
 pub parts_by_their_own_events : PartsByTheirOwnEvents
 parts_by_their_own_events = by_history

@@ -1,10 +1,14 @@
--- What the operation of an event finds in its word is what the core says, and the words that it leaves show the log with that event.
-use Rattle.std.proofs.Common.{◌≡◌, ◌≢◌, ℕ, ◌+◌, ◌-◌, ◌%◌, ◌^◌, ◌<◌, Bool, true, false, cond, eqb, List, ◌∷◌, length, sum, Option, Some, None, option_to_list, is_some, refl, sym, ap, ◌∙◌, subst, arith, zero-add, bit_or}
+-- What the operation of an event finds in its word is what the core says, and the words that it leaves show the log
+-- with that event.
+use Rattle.std.proofs.Common.{◌≡◌, ◌≢◌, ℕ, ◌+◌, ◌-◌, ◌%◌, ◌^◌, ◌<◌, Bool, true, false, cond, eqb, List, ◌∷◌, length}
+use Rattle.std.proofs.Common.{sum, Option, Some, None, option_to_list, is_some, refl, sym, ap, ◌∙◌, subst, arith}
+use Rattle.std.proofs.Common.{zero-add, bit_or}
 use Rattle.std.proofs.lemmas.Nat.{mod_below}
 use mathlib.Core.Logic.{dite}
 use native.Mathlib.Decide.{ℕ_discrete}
 use Rattle.chip_graph.proofs.SumLemmas.{cond_yes, cond_no}
-use Rattle.chip_link.specs.Link.{Tail, claims_of, after_clear, after_claim, after_put, after_take, after_seal, Sound, Shows}
+use Rattle.chip_link.specs.Link.{Tail, claims_of, after_clear, after_claim, after_put, after_take, after_seal, Sound}
+use Rattle.chip_link.specs.Link.{Shows}
 use Rattle.chip_link.specs.Words.{fired_word}
 use Rattle.chip_link.proofs.Shown.{clear_sees, claim_shows, put_shows, take_sees, take_shows, seal_shows}
 use Rattle.chip_link.proofs.Sounds.{one_held}
@@ -17,9 +21,13 @@ use Rattle.chip_actor.specs.Kept.{Met}
 use Rattle.chip_actor.specs.Steps.{link_after, got_after, acked_after, stop_after}
 use Rattle.chip_actor.proofs.PartLemmas.{may_le}
 use Rattle.chip_actor.proofs.RuleLemmas.{rules_met}
-use Rattle.chip_core.specs.Core.{Log, Step, Event, Take, Ack, Fire, Clear, Claim, Put, Halt, Settle, Seal, Read, Part, Out, unmet, part_of, does, part_in, out_in, into_in, stop_in, word_of_part, sees, IsLegalLog, tail_of, head_of, all_edges}
-use Rattle.chip_core.specs.Words.{Word, of_edge, of_acks, of_cell, of_vertex, IsWord, halt_bits, touched, left_by, noted, IsShown, acting, OperationsFind, IsLeft, WordsGoOn}
-use Rattle.chip_core.proofs.LogLemmas.{part_here, part_else, link_step, got_step, acked_step, stop_step, out_kept, part_kept, edge_sound}
+use Rattle.chip_core.specs.Core.{Log, Step, Event, Take, Ack, Fire, Clear, Claim, Put, Halt, Settle, Seal, Read, Part}
+use Rattle.chip_core.specs.Core.{Out, unmet, part_of, does, part_in, out_in, into_in, stop_in, word_of_part, sees}
+use Rattle.chip_core.specs.Core.{IsLegalLog, tail_of, head_of, all_edges}
+use Rattle.chip_core.specs.Words.{Word, of_edge, of_acks, of_cell, of_vertex, IsWord, halt_bits, touched, left_by}
+use Rattle.chip_core.specs.Words.{noted, IsShown, acting, OperationsFind, IsLeft, WordsGoOn}
+use Rattle.chip_core.proofs.LogLemmas.{part_here, part_else, link_step, got_step, acked_step, stop_step, out_kept}
+use Rattle.chip_core.proofs.LogLemmas.{part_kept, edge_sound}
 use Rattle.chip_core.proofs.NumberLemmas.{claims_most}
 
 -- what a word is for, its edge or vertex, and its cell
@@ -52,13 +60,15 @@ pub other_cell : (p q : Word) → cell p ≢ cell q → p ≢ q
 other_cell p q ne same = ne (ap cell same)
 
 -- one edge is changed, and every other is as it was
-one_edge : {A : Type 0} (P : ℕ → A → Type 0) (e : ℕ) (new old : ℕ → A) → P e (new e) → ((i : ℕ) → i ≢ e → P i (old i)) → (i : ℕ) → P i (cond (eqb e i) (new i) (old i))
+one_edge : {A : Type 0} (P : ℕ → A → Type 0) (e : ℕ) (new old : ℕ → A) → P e (new e) → ((i : ℕ) → i ≢ e → P i (old i))
+    → (i : ℕ) → P i (cond (eqb e i) (new i) (old i))
 one_edge P e new old here others i = dite (ℕ_discrete e i)
     (λ same. subst (P i) (sym (cond_yes e i (new i) (old i) same)) (subst (λ j. P j (new j)) same here))
     (λ other. subst (P i) (sym (cond_no e i (new i) (old i) other)) (others i (λ z. other (sym z))))
 
 -- the same edge, read off other words
-reread : (ring word word' : ℕ) (cell cell' : ℕ → ℕ) (t : Tail) (got : List ℕ) (stop : Option ℕ) → 0 < ring → word' ≡ word → ((i : ℕ) → i < ring → cell' i ≡ cell i)
+reread : (ring word word' : ℕ) (cell cell' : ℕ → ℕ) (t : Tail) (got : List ℕ) (stop : Option ℕ) → 0 < ring
+    → word' ≡ word → ((i : ℕ) → i < ring → cell' i ≡ cell i)
     → Shows ring word cell t got stop → Shows ring word' cell' t got stop
 reread ring word word' cell cell' t got stop some_ring e es ok = record {
   word_is = e ∙ ok.word_is;
@@ -66,16 +76,19 @@ reread ring word word' cell cell' t got stop some_ring e es ok = record {
 }
 
 -- the word of a halted vertex
-word_halts : (c : Cause) (n fired : ℕ) → fired < 2 ^ 62 → n ≡ fired_word fired false false → bit_or n (halt_bits (is_by_limit (Some c))) ≡ fired_word fired true (is_by_limit (Some c))
+word_halts : (c : Cause) (n fired : ℕ) → fired < 2 ^ 62 → n ≡ fired_word fired false false
+    → bit_or n (halt_bits (is_by_limit (Some c))) ≡ fired_word fired true (is_by_limit (Some c))
 word_halts SealedEdge n fired few is = ap (λ (k : ℕ). bit_or k (2 ^ 63)) is ∙ halts_word fired false false few
-word_halts FiringLimit n fired few is = ap (λ (k : ℕ). bit_or k (2 ^ 63 + 2 ^ 62)) is ∙ halts_by_limit fired false false few
+word_halts FiringLimit n fired few is = ap (λ (k : ℕ). bit_or k (2 ^ 63 + 2 ^ 62)) is
+    ∙ halts_by_limit fired false false few
 
 -- the word of an event whose rules are met is there
 pub word_for : (g : Setting) → 0 < g.ring → (x : Event) (s : Part) → unmet g x s ≡ None → IsWord g (touched g x s)
 word_for g some_ring (Take e) s none = (rules_met g (Take e) s none, mod_below _ g.ring some_ring)
 word_for g some_ring (Ack e) s none = (rules_met g (Ack e) s none).0
 word_for g some_ring (Fire v k) s none = (rules_met g (Fire v k) s none).0
-word_for g some_ring (Clear e) s none = let m = rules_met g (Clear e) s none in (omega arith, mod_below _ g.ring some_ring)
+word_for g some_ring (Clear e) s none = let m = rules_met g (Clear e) s none in
+    (omega arith, mod_below _ g.ring some_ring)
 word_for g some_ring (Claim e) s none = let m = rules_met g (Claim e) s none in omega arith
 word_for g some_ring (Put e) s none = let m = rules_met g (Put e) s none in (omega arith, mod_below _ g.ring some_ring)
 word_for g some_ring (Halt v) s none = (rules_met g (Halt v) s none).0
@@ -83,7 +96,8 @@ word_for g some_ring (Settle e) s none = rules_met g (Settle e) s none
 word_for g some_ring (Seal e) s none = let m = rules_met g (Seal e) s none in omega arith
 word_for g some_ring (Read v) s none = (rules_met g (Read v) s none).0
 
-module _ (g : Setting) (game : HasGame g) (some_ring : 0 < g.ring) (log : Log) (legal : IsLegalLog g log) (value : Word → ℕ) (shown : IsShown g log value) where
+module _ (g : Setting) (game : HasGame g) (some_ring : 0 < g.ring) (log : Log) (legal : IsLegalLog g log) (value : Word
+    → ℕ) (shown : IsShown g log value) where
   sound : (e : ℕ) → Sound g.ring (out_in g log e).link (into_in g log e).got (stop_in g log e)
   sound e = edge_sound g game some_ring log legal e
 
@@ -99,11 +113,13 @@ module _ (g : Setting) (game : HasGame g) (some_ring : 0 < g.ring) (log : Log) (
   word_there x none = word_for g some_ring x (acting g log x) none
 
   -- what is found there
-  pub finds : (x : Event) → unmet g x (acting g log x) ≡ None → noted x (value (touched g x (acting g log x))) ≡ sees g log x
+  pub finds : (x : Event) → unmet g x (acting g log x) ≡ None
+      → noted x (value (touched g x (acting g log x))) ≡ sees g log x
   finds (Take e) none = take_sees g.ring some_ring _ _ _ _ _ (sound e) (shown.edges e (word_there (Take e) none).0)
   finds (Ack e) none = shown.acks e (word_there (Ack e) none)
   finds (Fire v k) none = shown.fired v (word_there (Fire v k) none)
-  finds (Clear e) none = clear_sees g.ring some_ring _ _ _ _ _ (sound e) (shown.edges e (word_there (Clear e) none).0) (idle e none)
+  finds (Clear e) none = clear_sees g.ring some_ring _ _ _ _ _ (sound e) (shown.edges e (word_there (Clear e) none).0)
+      (idle e none)
   finds (Claim e) none = (shown.edges e (word_there (Claim e) none)).word_is
   finds (Put e) none = refl
   finds (Halt v) none = shown.fired v (word_there (Halt v) none)
@@ -117,86 +133,127 @@ module _ (g : Setting) (game : HasGame g) (some_ring : 0 < g.ring) (log : Log) (
     seen_by x = sees g log x
 
     -- an edge whose words are the same
-    same_edge : (e : ℕ) → e < all_edges g → value' (of_edge e) ≡ value (of_edge e) → ((i : ℕ) → i < g.ring → value' (of_cell e i) ≡ value (of_cell e i))
-        → Shows g.ring (value' (of_edge e)) (λ i. value' (of_cell e i)) (out_in g log e).link (into_in g log e).got (stop_in g log e)
+    same_edge : (e : ℕ) → e < all_edges g → value' (of_edge e) ≡ value (of_edge e)
+        → ((i : ℕ) → i < g.ring → value' (of_cell e i) ≡ value (of_cell e i))
+        → Shows g.ring (value' (of_edge e)) (λ i. value' (of_cell e i)) (out_in g log e).link (into_in g log e).got
+        (stop_in g log e)
     same_edge e l word cells = reread g.ring _ _ _ _ _ _ _ some_ring word cells (shown.edges e l)
 
     ShowsAfter : Event → ℕ → Type 0
-    ShowsAfter x e = Shows g.ring (value' (of_edge e)) (λ i. value' (of_cell e i)) (link_after x (seen_by x) e (out_in g log e)) (got_after x (seen_by x) e (into_in g log e)) (stop_after x (seen_by x) e (stop_in g log e))
+    ShowsAfter x e = Shows g.ring (value' (of_edge e))
+        (λ i. value' (of_cell e i)) (link_after x (seen_by x) e (out_in g log e))
+        (got_after x (seen_by x) e (into_in g log e)) (stop_after x (seen_by x) e (stop_in g log e))
 
     -- an event on a word of another kind
-    other_words : (x : Event) → IsLeft g log x value value' → (e : ℕ) → e < all_edges g → (of_edge e ≢ touched g x (acting g log x)) → ((i : ℕ) → of_cell e i ≢ touched g x (acting g log x))
-        → Shows g.ring (value' (of_edge e)) (λ i. value' (of_cell e i)) (out_in g log e).link (into_in g log e).got (stop_in g log e)
-    other_words x w e l ne nes = same_edge e l (w.others (of_edge e) l ne) (λ i h. w.others (of_cell e i) (l, h) (nes i))
+    other_words : (x : Event) → IsLeft g log x value value' → (e : ℕ) → e < all_edges g
+        → (of_edge e ≢ touched g x (acting g log x)) → ((i : ℕ) → of_cell e i ≢ touched g x (acting g log x))
+        → Shows g.ring (value' (of_edge e)) (λ i. value' (of_cell e i)) (out_in g log e).link (into_in g log e).got
+        (stop_in g log e)
+    other_words x w e l ne nes = same_edge e l (w.others (of_edge e) l ne)
+        (λ i h. w.others (of_cell e i) (l, h) (nes i))
 
-    edges_after : (x : Event) → unmet g x (acting g log x) ≡ None → IsLeft g log x value value' → (e : ℕ) → e < all_edges g → ShowsAfter x e
+    edges_after : (x : Event) → unmet g x (acting g log x) ≡ None → IsLeft g log x value value' → (e : ℕ)
+        → e < all_edges g → ShowsAfter x e
     unfolding ShowsAfter
-    edges_after (Take a) none w e l = one_edge (λ i (got : List ℕ). i < all_edges g → Shows g.ring (value' (of_edge i)) (λ j. value' (of_cell i j)) (out_in g log i).link got (stop_in g log i)) a
+    edges_after (Take a) none w e l = one_edge (λ i (got : List ℕ). i < all_edges g
+        → Shows g.ring (value' (of_edge i)) (λ j. value' (of_cell i j)) (out_in g log i).link got (stop_in g log i)) a
         (λ i. after_take (seen_by (Take a)) (into_in g log i).got) (λ i. (into_in g log i).got)
-        (λ l. reread g.ring _ _ _ _ _ _ _ some_ring (w.others (of_edge a) l (other_kind _ _ (λ z. omega arith))) (λ j h. refl)
-        (subst (λ (n : ℕ). Shows g.ring (value (of_edge a)) (λ j. value' (of_cell a j)) (out_in g log a).link (after_take n (into_in g log a).got) (stop_in g log a)) (finds (Take a) none)
-        (take_shows g.ring some_ring (value (of_edge a)) (λ j. value (of_cell a j)) _ _ _ (sound a) (shown.edges a l) (λ j. value' (of_cell a j)) w.here (λ j h other. w.others (of_cell a j) (l, h) (other_cell _ _ other)))))
+        (λ l. reread g.ring _ _ _ _ _ _ _ some_ring (w.others (of_edge a) l (other_kind _ _ (λ z. omega arith)))
+        (λ j h. refl)
+        (subst (λ (n : ℕ). Shows g.ring (value (of_edge a)) (λ j. value' (of_cell a j)) (out_in g log a).link
+        (after_take n (into_in g log a).got) (stop_in g log a)) (finds (Take a) none)
+        (take_shows g.ring some_ring (value (of_edge a)) (λ j. value (of_cell a j)) _ _ _ (sound a) (shown.edges a l)
+        (λ j. value' (of_cell a j)) w.here (λ j h other. w.others (of_cell a j) (l, h) (other_cell _ _ other)))))
         (λ i other l. other_words (Take a) w i l (other_kind _ _ (λ z. omega arith)) (λ j. other_owner _ _ other))
         e l
-    edges_after (Ack a) none w e l = other_words (Ack a) w e l (other_kind _ _ (λ z. omega arith)) (λ i. other_kind _ _ (λ z. omega arith))
-    edges_after (Fire v k) none w e l = other_words (Fire v k) w e l (other_kind _ _ (λ z. omega arith)) (λ i. other_kind _ _ (λ z. omega arith))
+    edges_after (Ack a) none w e l = other_words (Ack a) w e l (other_kind _ _ (λ z. omega arith))
+        (λ i. other_kind _ _ (λ z. omega arith))
+    edges_after (Fire v k) none w e l = other_words (Fire v k) w e l (other_kind _ _ (λ z. omega arith))
+        (λ i. other_kind _ _ (λ z. omega arith))
     edges_after (Clear a) none w e l =
         let c : ℕ = claims_of (out_in g log a).link % g.ring in
         let cells : (i : ℕ) → i < g.ring → value' (of_cell e i) ≡ value (of_cell e i) = (λ i h. dite (ℕ_discrete e a)
         (λ same. dite (ℕ_discrete i c)
-        (λ it. (let at : of_cell e i ≡ of_cell a c = (λ k. of_cell (same k) (it k)) in ap value' at ∙ w.here ∙ sym (ap value at)))
+        (λ it. (let at : of_cell e i ≡ of_cell a c = (λ k. of_cell (same k) (it k)) in ap value' at ∙ w.here
+        ∙ sym (ap value at)))
         (λ ne. w.others (of_cell e i) (l, h) (other_cell _ _ ne)))
         (λ ne. w.others (of_cell e i) (l, h) (other_owner _ _ ne))) in
         let kept = same_edge e l (w.others (of_edge e) l (other_kind _ _ (λ z. omega arith))) cells in
         dite (ℕ_discrete a e)
-        (λ same. subst (λ (u : Tail). Shows g.ring (value' (of_edge e)) (λ i. value' (of_cell e i)) u (into_in g log e).got (stop_in g log e)) (sym (cond_yes a e (after_clear (seen_by (Clear a)) (out_in g log e).link) (out_in g log e).link same)) (record { word_is = kept.word_is; ring_is = kept.ring_is }))
-        (λ other. subst (λ (u : Tail). Shows g.ring (value' (of_edge e)) (λ i. value' (of_cell e i)) u (into_in g log e).got (stop_in g log e)) (sym (cond_no a e (after_clear (seen_by (Clear a)) (out_in g log e).link) (out_in g log e).link other)) kept)
-    edges_after (Claim a) none w e l = one_edge (λ i (u : Tail). i < all_edges g → Shows g.ring (value' (of_edge i)) (λ j. value' (of_cell i j)) u (into_in g log i).got (stop_in g log i)) a
-        (λ i. after_claim (out_in g log i).pending (seen_by (Claim a)) (out_in g log i).link) (λ i. (out_in g log i).link)
+        (λ same. subst (λ (u : Tail). Shows g.ring (value' (of_edge e))
+        (λ i. value' (of_cell e i)) u (into_in g log e).got (stop_in g log e))
+        (sym (cond_yes a e (after_clear (seen_by (Clear a)) (out_in g log e).link) (out_in g log e).link same))
+        (record { word_is = kept.word_is; ring_is = kept.ring_is }))
+        (λ other. subst (λ (u : Tail). Shows g.ring (value' (of_edge e))
+        (λ i. value' (of_cell e i)) u (into_in g log e).got (stop_in g log e))
+        (sym (cond_no a e (after_clear (seen_by (Clear a)) (out_in g log e).link) (out_in g log e).link other)) kept)
+    edges_after (Claim a) none w e l = one_edge (λ i (u : Tail). i < all_edges g
+        → Shows g.ring (value' (of_edge i)) (λ j. value' (of_cell i j)) u (into_in g log i).got (stop_in g log i)) a
+        (λ i. after_claim (out_in g log i).pending (seen_by (Claim a)) (out_in g log i).link)
+        (λ i. (out_in g log i).link)
         (λ l.
         let met = met_for (Claim a) none in
         let o : Out = out_in g log a in
         let open_edge = out_kept g game log legal a in
         let held = open_edge.free_hand met.0 (open_edge.clear_pends met.0 met.2) in
-        reread g.ring _ _ _ _ _ _ _ some_ring refl (λ j h. w.others (of_cell a j) (l, h) (other_kind _ _ (λ z. omega arith)))
-        (subst (λ (n : ℕ). Shows g.ring (value' (of_edge a)) (λ j. value (of_cell a j)) (after_claim o.pending n o.link) (into_in g log a).got (stop_in g log a)) (finds (Claim a) none)
-        (claim_shows g.ring some_ring (value (of_edge a)) (λ j. value (of_cell a j)) _ _ _ (sound a) (shown.edges a l) o.pending (value' (of_edge a)) held
+        reread g.ring _ _ _ _ _ _ _ some_ring refl
+        (λ j h. w.others (of_cell a j) (l, h) (other_kind _ _ (λ z. omega arith)))
+        (subst (λ (n : ℕ). Shows g.ring (value' (of_edge a)) (λ j. value (of_cell a j)) (after_claim o.pending n o.link)
+        (into_in g log a).got (stop_in g log a)) (finds (Claim a) none)
+        (claim_shows g.ring some_ring (value (of_edge a)) (λ j. value (of_cell a j)) _ _ _ (sound a)
+        (shown.edges a l) o.pending (value' (of_edge a)) held
         (λ hit. w.here ∙ cond_yes (value (of_edge a)) (claims_of o.link) (claims_of o.link + 1) (value (of_edge a)) hit)
-        (λ miss. w.here ∙ cond_no (value (of_edge a)) (claims_of o.link) (claims_of o.link + 1) (value (of_edge a)) miss))))
+        (λ miss. w.here ∙ cond_no (value (of_edge a)) (claims_of o.link) (claims_of o.link + 1)
+        (value (of_edge a)) miss))))
         (λ i other l. other_words (Claim a) w i l (other_owner _ _ other) (λ j. other_kind _ _ (λ z. omega arith)))
         e l
-    edges_after (Put a) none w e l = one_edge (λ i (u : Tail). i < all_edges g → Shows g.ring (value' (of_edge i)) (λ j. value' (of_cell i j)) u (into_in g log i).got (stop_in g log i)) a
+    edges_after (Put a) none w e l = one_edge (λ i (u : Tail). i < all_edges g
+        → Shows g.ring (value' (of_edge i)) (λ j. value' (of_cell i j)) u (into_in g log i).got (stop_in g log i)) a
         (λ i. after_put (out_in g log i).link) (λ i. (out_in g log i).link)
         (λ l.
         let met = met_for (Put a) none in
         let o : Out = out_in g log a in
         let count : ℕ = met.1.0 in
         let one : o.link.held ≡ Some count = met.1.1 in
-        let value_is : sum (option_to_list o.link.held) ≡ count = ap (λ (h : Option ℕ). sum (option_to_list h)) one ∙ zero-add count in
+        let value_is : sum (option_to_list o.link.held) ≡ count = ap (λ (h : Option ℕ). sum (option_to_list h)) one
+        ∙ zero-add count in
         let place : claims_of o.link - 1 ≡ length o.link.put = (let z = one_held o.link count one in omega arith) in
-        let cell_is : length o.link.put % g.ring ≡ (claims_of o.link - 1) % g.ring = ap (λ (n : ℕ). n % g.ring) (sym place) in
+        let cell_is : length o.link.put % g.ring ≡ (claims_of o.link - 1) % g.ring =
+        ap (λ (n : ℕ). n % g.ring) (sym place) in
         reread g.ring _ _ _ _ _ _ _ some_ring (w.others (of_edge a) l (other_kind _ _ (λ z. omega arith))) (λ j h. refl)
-        (put_shows g.ring some_ring (value (of_edge a)) (λ j. value (of_cell a j)) _ _ _ (sound a) (shown.edges a l) count (λ j. value' (of_cell a j)) one
+        (put_shows g.ring some_ring (value (of_edge a)) (λ j. value (of_cell a j)) _ _ _ (sound a)
+        (shown.edges a l) count (λ j. value' (of_cell a j)) one
         (ap (λ (n : ℕ). value' (of_cell a n)) cell_is ∙ w.here ∙ value_is)
         (λ j h other. w.others (of_cell a j) (l, h) (other_cell _ _ (λ z. other (z ∙ sym cell_is))))))
         (λ i other l. other_words (Put a) w i l (other_kind _ _ (λ z. omega arith)) (λ j. other_owner _ _ other))
         e l
-    edges_after (Halt v) none w e l = other_words (Halt v) w e l (other_kind _ _ (λ z. omega arith)) (λ i. other_kind _ _ (λ z. omega arith))
-    edges_after (Settle a) none w e l = other_words (Settle a) w e l (other_kind _ _ (λ z. omega arith)) (λ i. other_kind _ _ (λ z. omega arith))
-    edges_after (Seal a) none w e l = one_edge (λ i (stop : Option ℕ). i < all_edges g → Shows g.ring (value' (of_edge i)) (λ j. value' (of_cell i j)) (out_in g log i).link (into_in g log i).got stop) a
+    edges_after (Halt v) none w e l = other_words (Halt v) w e l (other_kind _ _ (λ z. omega arith))
+        (λ i. other_kind _ _ (λ z. omega arith))
+    edges_after (Settle a) none w e l = other_words (Settle a) w e l (other_kind _ _ (λ z. omega arith))
+        (λ i. other_kind _ _ (λ z. omega arith))
+    edges_after (Seal a) none w e l = one_edge (λ i (stop : Option ℕ). i < all_edges g
+        → Shows g.ring (value' (of_edge i)) (λ j. value' (of_cell i j)) (out_in g log i).link (into_in g log i).got stop)
+        a
         (λ i. after_seal (seen_by (Seal a)) (stop_in g log i)) (λ i. stop_in g log i)
         (λ l.
         let few = claims_most g game some_ring log legal a in
-        reread g.ring _ _ _ _ _ _ _ some_ring w.here (λ j h. w.others (of_cell a j) (l, h) (other_kind _ _ (λ z. omega arith)))
-        (subst (λ (n : ℕ). Shows g.ring (bit_or (value (of_edge a)) (2 ^ 63)) (λ j. value (of_cell a j)) (out_in g log a).link (into_in g log a).got (after_seal n (stop_in g log a))) (finds (Seal a) none)
-        (seal_shows g.ring some_ring (value (of_edge a)) (λ j. value (of_cell a j)) _ _ _ (sound a) (shown.edges a l) (omega arith))))
+        reread g.ring _ _ _ _ _ _ _ some_ring w.here
+        (λ j h. w.others (of_cell a j) (l, h) (other_kind _ _ (λ z. omega arith)))
+        (subst (λ (n : ℕ). Shows g.ring (bit_or (value (of_edge a)) (2 ^ 63))
+        (λ j. value (of_cell a j)) (out_in g log a).link (into_in g log a).got (after_seal n (stop_in g log a)))
+        (finds (Seal a) none)
+        (seal_shows g.ring some_ring (value (of_edge a)) (λ j. value (of_cell a j)) _ _ _ (sound a) (shown.edges a l)
+        (omega arith))))
         (λ i other l. other_words (Seal a) w i l (other_owner _ _ other) (λ j. other_kind _ _ (λ z. omega arith)))
         e l
-    edges_after (Read v) none w e l = other_words (Read v) w e l (other_kind _ _ (λ z. omega arith)) (λ i. other_kind _ _ (λ z. omega arith))
+    edges_after (Read v) none w e l = other_words (Read v) w e l (other_kind _ _ (λ z. omega arith))
+        (λ i. other_kind _ _ (λ z. omega arith))
 
-    acks_after : (x : Event) → unmet g x (acting g log x) ≡ None → IsLeft g log x value value' → (e : ℕ) → e < all_edges g → value' (of_acks e) ≡ acked_after g x (part_in g log (head_of g e)) e (into_in g log e)
+    acks_after : (x : Event) → unmet g x (acting g log x) ≡ None → IsLeft g log x value value' → (e : ℕ)
+        → e < all_edges g → value' (of_acks e) ≡ acked_after g x (part_in g log (head_of g e)) e (into_in g log e)
     acks_after (Ack a) none w e l = one_edge (λ i (n : ℕ). i < all_edges g → value' (of_acks i) ≡ n) a
-        (λ i. (into_in g log i).acked + may_ack g (head_of g a) (part_in g log (head_of g i)) a) (λ i. (into_in g log i).acked)
+        (λ i. (into_in g log i).acked + may_ack g (head_of g a) (part_in g log (head_of g i)) a)
+        (λ i. (into_in g log i).acked)
         (λ l.
         let is = shown.acks a l in
         let may = may_le g (head_of g a) a (part_in g log (head_of g a)) in
@@ -219,7 +276,8 @@ module _ (g : Setting) (game : HasGame g) (some_ring : 0 < g.ring) (log : Log) (
     acks_after (Read v) none w e l = w.others (of_acks e) l (other_kind _ _ (λ z. omega arith)) ∙ shown.acks e l
 
     -- an event that leaves firings and halts
-    word_stays : (x : Step) (v : ℕ) → ((s : Part) → word_of_part (does g x s) ≡ word_of_part s) → word_of_part (part_in g (x ∷ log) v) ≡ word_of_part (part_in g log v)
+    word_stays : (x : Step) (v : ℕ) → ((s : Part) → word_of_part (does g x s) ≡ word_of_part s)
+        → word_of_part (part_in g (x ∷ log) v) ≡ word_of_part (part_in g log v)
     word_stays x v still = dite (ℕ_discrete (part_of g x.event) v)
         (λ same. ap word_of_part (part_here g x log v same) ∙ still (part_in g log v))
         (λ other. ap word_of_part (part_else g x log v other))
@@ -228,21 +286,28 @@ module _ (g : Setting) (game : HasGame g) (some_ring : 0 < g.ring) (log : Log) (
     made_by x = record { event = x; seen = seen_by x }
 
     -- the word of the vertex that acts, and of the others
-    word_of_one : (x : Event) (a : ℕ) → part_of g x ≡ a → touched g x (acting g log x) ≡ of_vertex a → IsLeft g log x value value'
+    word_of_one : (x : Event) (a : ℕ) → part_of g x ≡ a → touched g x (acting g log x) ≡ of_vertex a
+        → IsLeft g log x value value'
         → value' (of_vertex a) ≡ word_of_part (does g (made_by x) (part_in g log a))
         → (v : ℕ) → v < g.graph.vertices → value' (of_vertex v) ≡ word_of_part (part_in g (made_by x ∷ log) v)
     word_of_one x a by at w is v l = dite (ℕ_discrete v a)
-        (λ same. ap (λ (i : ℕ). value' (of_vertex i)) same ∙ is ∙ ap (λ (i : ℕ). word_of_part (does g (made_by x) (part_in g log i))) (sym same) ∙ sym (ap word_of_part (part_here g (made_by x) log v (by ∙ sym same))))
-        (λ other. w.others (of_vertex v) l (λ z. other_owner (of_vertex v) (of_vertex a) other (z ∙ at)) ∙ shown.fired v l ∙ sym (ap word_of_part (part_else g (made_by x) log v (λ z. other (sym z ∙ by)))))
+        (λ same. ap (λ (i : ℕ). value' (of_vertex i)) same ∙ is
+        ∙ ap (λ (i : ℕ). word_of_part (does g (made_by x) (part_in g log i))) (sym same)
+        ∙ sym (ap word_of_part (part_here g (made_by x) log v (by ∙ sym same))))
+        (λ other. w.others (of_vertex v) l (λ z. other_owner (of_vertex v) (of_vertex a) other (z ∙ at))
+        ∙ shown.fired v l ∙ sym (ap word_of_part (part_else g (made_by x) log v (λ z. other (sym z ∙ by)))))
 
-    fired_after : (x : Event) → unmet g x (acting g log x) ≡ None → IsLeft g log x value value' → (v : ℕ) → v < g.graph.vertices → value' (of_vertex v) ≡ word_of_part (part_in g (made_by x ∷ log) v)
+    fired_after : (x : Event) → unmet g x (acting g log x) ≡ None → IsLeft g log x value value' → (v : ℕ)
+        → v < g.graph.vertices → value' (of_vertex v) ≡ word_of_part (part_in g (made_by x ∷ log) v)
     fired_after (Fire a k) none w v l =
         let met = met_for (Fire a k) none in
         let s : Part = part_in g log a in
         let low = game.low_limit in
         let few = met.6 in
-        let running : word_of_part s ≡ (s.fired + 0) + 0 = ap (λ (h : Option Cause). fired_word s.fired (is_some h) (is_by_limit h)) met.2 in
-        let after : word_of_part (does g (made_by (Fire a k)) s) ≡ ((s.fired + k) + 0) + 0 = ap (λ (h : Option Cause). fired_word (s.fired + k) (is_some h) (is_by_limit h)) met.2 in
+        let running : word_of_part s
+        ≡ (s.fired + 0) + 0 = ap (λ (h : Option Cause). fired_word s.fired (is_some h) (is_by_limit h)) met.2 in
+        let after : word_of_part (does g (made_by (Fire a k)) s) ≡ ((s.fired + k) + 0) + 0 =
+        ap (λ (h : Option Cause). fired_word (s.fired + k) (is_some h) (is_by_limit h)) met.2 in
         let is = shown.fired a met.0 in
         word_of_one (Fire a k) a refl refl w (w.here ∙ omega arith) v l
     fired_after (Halt a) none w v l =
@@ -250,37 +315,53 @@ module _ (g : Setting) (game : HasGame g) (some_ring : 0 < g.ring) (log : Log) (
         let s : Part = part_in g log a in
         let low = game.low_limit in
         let within = (part_kept g game log legal a).within in
-        let found : value (of_vertex a) ≡ fired_word s.fired false false = shown.fired a met.0 ∙ ap (λ (h : Option Cause). fired_word s.fired (is_some h) (is_by_limit h)) met.2 in
+        let found : value (of_vertex a) ≡ fired_word s.fired false false = shown.fired a met.0
+        ∙ ap (λ (h : Option Cause). fired_word s.fired (is_some h) (is_by_limit h)) met.2 in
         let why : cause g a s ≡ Some met.4.0 = met.4.1 in
         word_of_one (Halt a) a refl refl w
-        (w.here ∙ ap (λ (h : Option Cause). bit_or (value (of_vertex a)) (halt_bits (is_by_limit h))) why ∙ word_halts met.4.0 (value (of_vertex a)) s.fired (omega arith) found ∙ sym (ap (λ (h : Option Cause). fired_word s.fired (is_some h) (is_by_limit h)) why))
+        (w.here ∙ ap (λ (h : Option Cause). bit_or (value (of_vertex a)) (halt_bits (is_by_limit h))) why
+        ∙ word_halts met.4.0 (value (of_vertex a)) s.fired (omega arith) found
+        ∙ sym (ap (λ (h : Option Cause). fired_word s.fired (is_some h) (is_by_limit h)) why))
         v l
     fired_after (Read a) none w v l = dite (ℕ_discrete v a)
         (λ same. ap (λ (i : ℕ). value' (of_vertex i)) same ∙ w.here ∙ ap (λ (i : ℕ). value (of_vertex i)) (sym same))
-        (λ other. w.others (of_vertex v) l (other_owner _ _ other)) ∙ shown.fired v l ∙ sym (word_stays (made_by (Read a)) v (λ s. refl))
-    fired_after (Take a) none w v l = w.others (of_vertex v) l (other_kind _ _ (λ z. omega arith)) ∙ shown.fired v l ∙ sym (word_stays (made_by (Take a)) v (λ s. refl))
-    fired_after (Ack a) none w v l = w.others (of_vertex v) l (other_kind _ _ (λ z. omega arith)) ∙ shown.fired v l ∙ sym (word_stays (made_by (Ack a)) v (λ s. refl))
-    fired_after (Clear a) none w v l = w.others (of_vertex v) l (other_kind _ _ (λ z. omega arith)) ∙ shown.fired v l ∙ sym (word_stays (made_by (Clear a)) v (λ s. refl))
-    fired_after (Claim a) none w v l = w.others (of_vertex v) l (other_kind _ _ (λ z. omega arith)) ∙ shown.fired v l ∙ sym (word_stays (made_by (Claim a)) v (λ s. refl))
-    fired_after (Put a) none w v l = w.others (of_vertex v) l (other_kind _ _ (λ z. omega arith)) ∙ shown.fired v l ∙ sym (word_stays (made_by (Put a)) v (λ s. refl))
-    fired_after (Settle a) none w v l = w.others (of_vertex v) l (other_kind _ _ (λ z. omega arith)) ∙ shown.fired v l ∙ sym (word_stays (made_by (Settle a)) v (λ s. refl))
-    fired_after (Seal a) none w v l = w.others (of_vertex v) l (other_kind _ _ (λ z. omega arith)) ∙ shown.fired v l ∙ sym (word_stays (made_by (Seal a)) v (λ s. refl))
+        (λ other. w.others (of_vertex v) l (other_owner _ _ other)) ∙ shown.fired v l
+        ∙ sym (word_stays (made_by (Read a)) v (λ s. refl))
+    fired_after (Take a) none w v l = w.others (of_vertex v) l (other_kind _ _ (λ z. omega arith)) ∙ shown.fired v l
+        ∙ sym (word_stays (made_by (Take a)) v (λ s. refl))
+    fired_after (Ack a) none w v l = w.others (of_vertex v) l (other_kind _ _ (λ z. omega arith)) ∙ shown.fired v l
+        ∙ sym (word_stays (made_by (Ack a)) v (λ s. refl))
+    fired_after (Clear a) none w v l = w.others (of_vertex v) l (other_kind _ _ (λ z. omega arith)) ∙ shown.fired v l
+        ∙ sym (word_stays (made_by (Clear a)) v (λ s. refl))
+    fired_after (Claim a) none w v l = w.others (of_vertex v) l (other_kind _ _ (λ z. omega arith)) ∙ shown.fired v l
+        ∙ sym (word_stays (made_by (Claim a)) v (λ s. refl))
+    fired_after (Put a) none w v l = w.others (of_vertex v) l (other_kind _ _ (λ z. omega arith)) ∙ shown.fired v l
+        ∙ sym (word_stays (made_by (Put a)) v (λ s. refl))
+    fired_after (Settle a) none w v l = w.others (of_vertex v) l (other_kind _ _ (λ z. omega arith)) ∙ shown.fired v l
+        ∙ sym (word_stays (made_by (Settle a)) v (λ s. refl))
+    fired_after (Seal a) none w v l = w.others (of_vertex v) l (other_kind _ _ (λ z. omega arith)) ∙ shown.fired v l
+        ∙ sym (word_stays (made_by (Seal a)) v (λ s. refl))
 
     -- the words show the longer log
-    pub shows_more : (x : Event) → unmet g x (acting g log x) ≡ None → IsLeft g log x value value' → IsShown g (made_by x ∷ log) value'
+    pub shows_more : (x : Event) → unmet g x (acting g log x) ≡ None → IsLeft g log x value value'
+        → IsShown g (made_by x ∷ log) value'
     unfolding ShowsAfter
     shows_more x none w =
         let y : Step = made_by x in
         record {
           edges = λ e l.
-              subst (λ (z : Tail × List ℕ × Option ℕ). Shows g.ring (value' (of_edge e)) (λ i. value' (of_cell e i)) z.0 z.1 z.2)
-              (λ j. (sym (link_step g y log e) j, sym (got_step g y log e) j, sym (stop_step g y log e) j)) (edges_after x none w e l);
+              subst (λ (z : Tail × List ℕ × Option ℕ). Shows g.ring (value' (of_edge e))
+              (λ i. value' (of_cell e i)) z.0 z.1 z.2)
+              (λ j. (sym (link_step g y log e) j, sym (got_step g y log e) j, sym (stop_step g y log e) j))
+              (edges_after x none w e l);
           acks = λ e l. acks_after x none w e l ∙ sym (acked_step g y log e);
           fired = λ v l. fired_after x none w v l;
         }
 
 pub operations_find : OperationsFind
-operations_find g game some_ring log legal value shown x none = (word_there g game some_ring log legal value shown x none, finds g game some_ring log legal value shown x none)
+operations_find g game some_ring log legal value shown x none =
+    (word_there g game some_ring log legal value shown x none, finds g game some_ring log legal value shown x none)
 
 pub words_go_on : WordsGoOn
-words_go_on g game some_ring log legal old new shown x none left = shows_more g game some_ring log legal old shown new x none left
+words_go_on g game some_ring log legal old new shown x none left =
+    shows_more g game some_ring log legal old shown new x none left

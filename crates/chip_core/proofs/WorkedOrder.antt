@@ -17,9 +17,31 @@ pub two_engaged : TwoEngaged
 two_engaged = (
   record {
     tree = (
-      (tt, none 0, (4, record { parent = refl; is_edge = omega arith; head = refl; from_earlier = inl refl; owes = omega arith })),
+      (
+        tt,
+        none 0,
+        (
+          4,
+          record {
+            parent = refl;
+            is_edge = omega arith;
+            head = refl;
+            from_earlier = inl refl;
+            owes = omega arith;
+          },
+        ),
+      ),
       only_one 0 1 (omega arith),
-      (0, record { parent = refl; is_edge = omega arith; head = refl; from_earlier = inr (0, omega arith, refl); owes = omega arith }),
+      (
+        0,
+        record {
+          parent = refl;
+          is_edge = omega arith;
+          head = refl;
+          from_earlier = inr (0, omega arith, refl);
+          owes = omega arith;
+        },
+      ),
     );
     others = elim [
       | zero ↦ (λ l out. absurd (out (1, omega arith, refl)))

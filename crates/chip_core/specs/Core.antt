@@ -1,5 +1,5 @@
--- The whole core of a running game: the part of each vertex, of the root and of the stopper. All of them follow from one list, that of
--- the events that were made.
+-- The whole core of a running game: the part of each vertex, of the root and of the stopper. All of them follow from
+-- one list, that of the events that were made.
 use Rattle.std.specs.Prelude.{◌≡◌, ℕ, ◌<◌, ◌==◌, if◌then◌else◌, List, [], ◌∷◌, Option, Some, None, is_some}
 use Rattle.chip_actor.specs.Setting.{Setting}
 use Rattle.chip_link.specs.Words.{fired_word}
@@ -13,8 +13,8 @@ pub use Rattle.chip_actor.specs.declared.reply.Reply.{Reply}
 pub use Rattle.chip_actor.specs.Steps.{part_of, does, reply_of}
 use Rattle.chip_actor.specs.declared.reply.Reply.TheVariants.{NotNow}
 
--- the events that were made since the opening, each with the word that it saw. The latest stands first, since all proofs go back from
--- the last event; `asked_in` has them in the order in which they were made
+-- the events that were made since the opening, each with the word that it saw. The latest stands first, since all
+-- proofs go back from the last event; `asked_in` has them in the order in which they were made
 abbrev pub Log : Type 0
 Log = List Step
 
@@ -70,7 +70,8 @@ seen_of g parts (Put e) = 0
 abbrev pub sees : Setting → Log → Event → ℕ
 sees g log x = seen_of g (part_in g log) x
 
--- the core makes this event after these, and it sees this: each of its rules is met, and the word is what the others have made of it
+-- the core makes this event after these, and it sees this: each of its rules is met, and the word is what the others
+-- have made of it
 abbrev pub Fits : Setting → Log → Step → Type 0
 Fits g log x = (unmet g x.event (part_in g log (part_of g x.event)) ≡ None) × (x.seen ≡ sees g log x.event)
 
@@ -82,7 +83,11 @@ IsLegalLog g (x ∷ log) = IsLegalLog g log × Fits g log x
 -- the log and the reply after an event was asked for: where a rule isn't met nothing is done
 abbrev pub answer : Setting → Log → Event → Option Rule → Log × Reply
 answer g log x (Some rule) = (log, NotNow rule)
-answer g log x None = (record { event = x; seen = sees g log x } ∷ log, reply_of g x (sees g log x) (part_in g log (part_of g x)))
+answer g log x None = (
+  record { event = x; seen = sees g log x }
+      ∷ log,
+  reply_of g x (sees g log x) (part_in g log (part_of g x)),
+)
 
 -- one step of the core
 abbrev pub step : Setting → Log → Event → Log × Reply

@@ -5,7 +5,8 @@ use Rattle.chip_actor.specs.Part.{owed}
 use Rattle.chip_actor.specs.Kept.{IsNeutral}
 use Rattle.chip_core.specs.Core.{Log, part_in, into_in, tail_of, head_of, all_edges, root}
 
--- the edge e engaged v: it is the parent edge of v, it comes from the root or from one of these vertices, and v owes something on it
+-- the edge e engaged v: it is the parent edge of v, it comes from the root or from one of these vertices, and v owes
+-- something on it
 pub record IsParentFrom (g : Setting) (log : Log) (us : List ℕ) (v e : ℕ) : Type 0 where
   pub parent : (part_in g log v).parent ≡ Some e
   pub is_edge : e < all_edges g
@@ -18,7 +19,8 @@ abbrev pub IsTree : Setting → Log → List ℕ → Type 0
 IsTree g log [] = Unit {0}
 IsTree g log (v ∷ vs) = IsTree g log vs × (Contains vs v → ⊥) × ((e : ℕ) × IsParentFrom g log vs v e)
 
--- a detection order: a tree of engaged vertices, and every vertex outside it is passive, owes nothing and waits for nothing
+-- a detection order: a tree of engaged vertices, and every vertex outside it is passive, owes nothing and waits for
+-- nothing
 pub record IsDetectionOrder (g : Setting) (log : Log) (vs : List ℕ) : Type 0 where
   pub tree : IsTree g log vs
   pub others : (v : ℕ) → v < g.graph.vertices → (Contains vs v → ⊥) → IsNeutral g v (part_in g log v)

@@ -9,7 +9,8 @@ use Rattle.chip_fire.specs.Sequence.{position_after, IsFiringSequence, HasEnded,
 use Rattle.chip_fire.specs.Counted.{position_by_counts, IsBelowZero}
 use Rattle.chip_actor.specs.declared.cause.Cause.TheVariants.{SealedEdge}
 use Rattle.chip_actor.specs.Edges.{mult_of}
-use Rattle.chip_core.specs.Core.{Log, Event, Reply, part_in, out_in, into_in, fired_by, is_by_limit, replies_to, log_after, IsLegalLog, IsClosed, tail_of, all_edges, graph_edges, stopper}
+use Rattle.chip_core.specs.Core.{Log, Event, Reply, part_in, out_in, into_in, fired_by, is_by_limit, replies_to}
+use Rattle.chip_core.specs.Core.{log_after, IsLegalLog, IsClosed, tail_of, all_edges, graph_edges, stopper}
 use Rattle.chip_core.specs.Messages.{sent_in, delivered_in, sent_after_seal, was_sealed, in_flight, AreInOrderFrom}
 use Rattle.chip_core.specs.Positions.{held, chips_at, firings, LeadsTo, AgreesWith}
 use Rattle.chip_core.specs.Detection.{IsDetectionOrder}
@@ -22,18 +23,19 @@ NoneHalted g log = (v : ℕ) → v < g.graph.vertices → (part_in g log v).halt
 abbrev pub NoneHaltedBySeal : Setting → Log → Type 0
 NoneHaltedBySeal g log = (v : ℕ) → v < g.graph.vertices → (part_in g log v).halt ≢ Some SealedEdge
 
--- For every list of actor steps, each edge has delivered a prefix of what was sent on it, each message once and in order, and nothing is
--- sent after its seal; where the root closes, every edge has delivered everything and, unless a vertex halted, chips and firing counts
--- are those of every one-thread legal firing that ends with no vertex legal.
+-- For every list of actor steps, each edge has delivered a prefix of what was sent on it, each message once and in
+-- order, and nothing is sent after its seal; where the root closes, every edge has delivered everything and, unless a
+-- vertex halted, chips and firing counts are those of every one-thread legal firing that ends with no vertex legal.
 --
--- The steps `xs` are asked for after the log `before`, answered by `replies`, and leave the log `after`. A run has to deliver on an edge
--- what was in flight before it, and then what it sent
+-- The steps `xs` are asked for after the log `before`, answered by `replies`, and leave the log `after`. A run has to
+-- deliver on an edge what was in flight before it, and then what it sent
 pub record HeadlineOf (g : Setting) (before : Log) (xs : List Event) (replies : List Reply) (after : Log) : Type 0 where
   -- each edge has delivered a prefix of what was sent on it, and what is left of that is in flight
   pub prefix : (e : ℕ) → IsPrefix (delivered_in e xs replies) (in_flight g before e ++ sent_in e xs replies)
   pub left : (e : ℕ) → delivered_in e xs replies ++ in_flight g after e ≡ in_flight g before e ++ sent_in e xs replies
   -- each message once and in order: the places go on one by one from the number of messages that were delivered before
-  pub in_order : (e : ℕ) → AreInOrderFrom e (length (into_in g before e).got) (in_flight g before e ++ sent_in e xs replies)
+  pub in_order : (e : ℕ) → AreInOrderFrom e (length (into_in g before e).got)
+      (in_flight g before e ++ sent_in e xs replies)
   -- nothing is sent after its seal, and nothing at all on an edge that was sealed before
   pub sealed : (e : ℕ) → sent_after_seal e xs replies ≡ []
   pub sealed_before : (e : ℕ) → was_sealed before e ≡ true → sent_in e xs replies ≡ []
@@ -41,29 +43,41 @@ pub record HeadlineOf (g : Setting) (before : Log) (xs : List Event) (replies : 
   pub position : LeadsTo g after (firings after)
   -- by the counts alone no vertex is below 0, and it is the position by the counts
   pub none_below : (v : ℕ) → IsBelowZero g.graph (slice_index g.start) (fired_by g after) v → ⊥
-  pub by_counts : (v : ℕ) → position_after g.graph (slice_index g.start) (firings after) v ≡ position_by_counts g.graph (slice_index g.start) (fired_by g after) v
+  pub by_counts : (v : ℕ) → position_after g.graph (slice_index g.start) (firings after) v
+      ≡ position_by_counts g.graph (slice_index g.start) (fired_by g after) v
   -- what was sent on an edge of the graph and what is held on it are what the firings of its tail made
-  pub made : (e : ℕ) → e < graph_edges g → sum (sent_counts (out_in g after e).link) + held g after e ≡ mult_of g e * fired_by g after (tail_of g e)
+  pub made : (e : ℕ) → e < graph_edges g → sum (sent_counts (out_in g after e).link) + held g after e
+      ≡ mult_of g e * fired_by g after (tail_of g e)
   -- there is a detection order
   pub order : (vs : List ℕ) × IsDetectionOrder g after vs
   -- where the root closes, every edge has delivered everything
-  pub everything_delivered : IsClosed g after → (e : ℕ) → e < all_edges g → delivered_in e xs replies ≡ in_flight g before e ++ sent_in e xs replies
-  -- and, unless a vertex halted, chips and firing counts are those of every firing sequence that ends with no vertex legal; the firings
-  -- that were made are one
-  pub one_end : IsClosed g after → NoneHalted g after → (vs : List ℕ) → IsFiringSequence g.graph (slice_index g.start) vs → HasEnded g.graph (slice_index g.start) vs → AgreesWith g after vs
+  pub everything_delivered : IsClosed g after → (e : ℕ) → e < all_edges g
+      → delivered_in e xs replies ≡ in_flight g before e ++ sent_in e xs replies
+  -- and, unless a vertex halted, chips and firing counts are those of every firing sequence that ends with no vertex
+  -- legal; the firings that were made are one
+  pub one_end : IsClosed g after → NoneHalted g after → (vs : List ℕ)
+      → IsFiringSequence g.graph (slice_index g.start) vs → HasEnded g.graph (slice_index g.start) vs
+      → AgreesWith g after vs
   pub ended : IsClosed g after → NoneHalted g after → HasEnded g.graph (slice_index g.start) (firings after)
-  -- where the limit alone halted vertices, the same of all that end within the limit, and the vertices that it halted are the legal ones
-  pub one_end_within : IsClosed g after → NoneHaltedBySeal g after → (vs : List ℕ) → IsWholePlay g.graph (slice_index g.start) g.limit vs → AgreesWith g after vs
-  pub ended_within : IsClosed g after → NoneHaltedBySeal g after → IsWholePlay g.graph (slice_index g.start) g.limit (firings after)
-  pub over : IsClosed g after → NoneHaltedBySeal g after → picked (λ v. is_by_limit (part_in g after v).halt) g.graph.vertices ≡ legal_vertices g.graph (chips_at g after)
-  -- and whatever is asked for afterwards, the root stays closed and no part changes but the stopper's: no list, no chip, no count, no halt
-  pub still : IsClosed g after → (ys : List Event) → IsClosed g (log_after g after ys) × ((p : ℕ) → p ≢ stopper g → part_in g (log_after g after ys) p ≡ part_in g after p)
+  -- where the limit alone halted vertices, the same of all that end within the limit, and the vertices that it halted
+  -- are the legal ones
+  pub one_end_within : IsClosed g after → NoneHaltedBySeal g after → (vs : List ℕ)
+      → IsWholePlay g.graph (slice_index g.start) g.limit vs → AgreesWith g after vs
+  pub ended_within : IsClosed g after → NoneHaltedBySeal g after
+      → IsWholePlay g.graph (slice_index g.start) g.limit (firings after)
+  pub over : IsClosed g after → NoneHaltedBySeal g after
+      → picked (λ v. is_by_limit (part_in g after v).halt) g.graph.vertices ≡ legal_vertices g.graph (chips_at g after)
+  -- and whatever is asked for afterwards, the root stays closed and no part changes but the stopper's: no list, no
+  -- chip, no count, no halt
+  pub still : IsClosed g after → (ys : List Event) → IsClosed g (log_after g after ys)
+      × ((p : ℕ) → p ≢ stopper g → part_in g (log_after g after ys) p ≡ part_in g after p)
 
 -- the same of the steps `xs` after a log, by the replies that they get and the log that they leave
 abbrev pub Headline : Setting → Log → List Event → Type 0
 Headline g log xs = HeadlineOf g log xs (replies_to g log xs) (log_after g log xs)
 
--- it holds of every game within the limits, every ring with a cell, every legal log before, be it empty or not, and every list of steps,
--- be they refused or not
+-- it holds of every game within the limits, every ring with a cell, every legal log before, be it empty or not, and
+-- every list of steps, be they refused or not
 abbrev pub CoreTheorem : Type 0
-CoreTheorem = (g : Setting) → HasGame g → 0 < g.ring → (log : Log) → IsLegalLog g log → (xs : List Event) → Headline g log xs
+CoreTheorem = (g : Setting) → HasGame g → 0 < g.ring → (log : Log) → IsLegalLog g log → (xs : List Event)
+    → Headline g log xs

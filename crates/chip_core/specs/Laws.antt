@@ -1,5 +1,6 @@
 -- What else holds of legal logs, of runs and of edges, as the contracts of `laws` cite it.
-use Rattle.std.specs.Prelude.{◌≡◌, ◌≢◌, ◌↔◌, ℕ, ◌+◌, ◌-◌, ◌*◌, ◌^◌, ◌<◌, ◌≤◌, true, false, Contains, List, [], length, sum, drop, is_some, Some, None}
+use Rattle.std.specs.Prelude.{◌≡◌, ◌≢◌, ◌↔◌, ℕ, ◌+◌, ◌-◌, ◌*◌, ◌^◌, ◌<◌, ◌≤◌, true, false, Contains, List, [], length}
+use Rattle.std.specs.Prelude.{sum, drop, is_some, Some, None}
 use Rattle.chip_actor.specs.Setting.{Setting, HasGame}
 use Rattle.chip_link.specs.Link.{sent_counts, claims_of}
 use Rattle.chip_link.specs.Laws.{AreInOrder}
@@ -8,7 +9,9 @@ use Rattle.chip_actor.specs.Edges.{made, mult_of, start_of}
 use Rattle.chip_actor.specs.Part.{first_put}
 use Rattle.chip_actor.specs.Kept.{KeepsPart}
 use Rattle.chip_actor.specs.Acting.{FitsSeen}
-use Rattle.chip_core.specs.Core.{Log, Step, Event, Take, Clear, Claim, Seal, Read, opened, unmet, part_of, part_in, out_in, into_in, stop_in, fired_by, word_of_part, sees, IsLegalLog, replies_to, log_after, IsClosed, is_by_limit, tail_of, graph_edges, all_edges}
+use Rattle.chip_core.specs.Core.{Log, Step, Event, Take, Clear, Claim, Seal, Read, opened, unmet, part_of, part_in}
+use Rattle.chip_core.specs.Core.{out_in, into_in, stop_in, fired_by, word_of_part, sees, IsLegalLog, replies_to}
+use Rattle.chip_core.specs.Core.{log_after, IsClosed, is_by_limit, tail_of, graph_edges, all_edges}
 use Rattle.chip_core.specs.Messages.{sent_in, was_sealed, messages_from, counts_in_flight, in_flight, sent_on, chips_in}
 use Rattle.chip_core.specs.Positions.{held, full_position, asked_in}
 use Rattle.chip_core.specs.Histories.{done_by, part_by}
@@ -19,7 +22,9 @@ ForEveryLog P = (g : Setting) → HasGame g → 0 < g.ring → (log : Log) → I
 
 -- the legal logs are those that a run from the opening leaves
 abbrev pub LegalLogsAreRuns : Type 0
-LegalLogsAreRuns = (g : Setting) → ((log : Log) → IsLegalLog g log → (xs : List Event) → IsLegalLog g (log_after g log xs)) × ((log : Log) → IsLegalLog g log → log_after g [] (asked_in log) ≡ log)
+LegalLogsAreRuns = (g : Setting)
+    → ((log : Log) → IsLegalLog g log → (xs : List Event) → IsLegalLog g (log_after g log xs))
+    × ((log : Log) → IsLegalLog g log → log_after g [] (asked_in log) ≡ log)
 
 -- each part is what its own events make of the opening
 abbrev pub PartsByTheirOwnEvents : Type 0
@@ -31,9 +36,11 @@ PartsAreKept = ForEveryLog (λ g log. (p : ℕ) → KeepsPart g p (part_in g log
 
 -- what an event of a vertex sees keeps within the limits
 abbrev pub SeenFits : Type 0
-SeenFits = ForEveryLog (λ g log. (x : Event) → part_of g x < g.graph.vertices → unmet g x (part_in g log (part_of g x)) ≡ None → FitsSeen (part_in g log (part_of g x)) x (sees g log x))
+SeenFits = ForEveryLog (λ g log. (x : Event) → part_of g x < g.graph.vertices
+    → unmet g x (part_in g log (part_of g x)) ≡ None → FitsSeen (part_in g log (part_of g x)) x (sees g log x))
 
--- settled, acknowledged, delivered, put and claimed on an edge: each at most the next, and at most one is claimed and not put
+-- settled, acknowledged, delivered, put and claimed on an edge: each at most the next, and at most one is claimed and
+-- not put
 pub record CountsOf (g : Setting) (log : Log) (e : ℕ) : Type 0 where
   pub settled : (out_in g log e).settled ≤ (into_in g log e).acked
   pub acked : (into_in g log e).acked ≤ length (into_in g log e).got
@@ -46,9 +53,12 @@ CountsOfEdges = ForEveryLog (λ g log. (e : ℕ) → CountsOf g log e)
 
 -- no chip is lost on an edge: what was delivered, what is in flight and what is held make up what ever went into it
 abbrev pub ChipsOfEdges : Type 0
-ChipsOfEdges = ForEveryLog (λ g log. (e : ℕ) → sum (into_in g log e).got + (sum (counts_in_flight g log e) + held g log e) ≡ made g e (fired_by g log (tail_of g e)))
+ChipsOfEdges = ForEveryLog (λ g log. (e : ℕ)
+    → sum (into_in g log e).got + (sum (counts_in_flight g log e) + held g log e)
+    ≡ made g e (fired_by g log (tail_of g e)))
 
--- no vertex has more chips than the game, and no edge has more messages than its tail may fire or, on a root edge, than there are chips
+-- no vertex has more chips than the game, and no edge has more messages than its tail may fire or, on a root edge, than
+-- there are chips
 pub record NumbersOf (g : Setting) (log : Log) : Type 0 where
   pub chips : (v : ℕ) → v < g.graph.vertices → full_position g log v ≤ sum g.start
   pub fired : (v : ℕ) → fired_by g log v ≤ g.limit
@@ -62,8 +72,10 @@ NumbersAreSmall = ForEveryLog (λ g log. NumbersOf g log)
 pub record CellsOf (g : Setting) (log : Log) (e : ℕ) : Type 0 where
   -- a take sees 0 exactly where every message that was put is delivered
   pub empty : (sees g log (Take e) ≡ 0) ↔ (length (into_in g log e).got ≡ length (out_in g log e).link.put)
-  -- a clear, its rules met, sees another number than 0 exactly where as many messages as the ring has cells are sent and not delivered
-  pub full : unmet g (Clear e) (part_in g log (tail_of g e)) ≡ None → (sees g log (Clear e) ≢ 0) ↔ (claims_of (out_in g log e).link ≡ length (into_in g log e).got + g.ring)
+  -- a clear, its rules met, sees another number than 0 exactly where as many messages as the ring has cells are sent
+  -- and not delivered
+  pub full : unmet g (Clear e) (part_in g log (tail_of g e)) ≡ None
+      → (sees g log (Clear e) ≢ 0) ↔ (claims_of (out_in g log e).link ≡ length (into_in g log e).got + g.ring)
 
 abbrev pub CellsTell : Type 0
 CellsTell = ForEveryLog (λ g log. (e : ℕ) → CellsOf g log e)
@@ -81,13 +93,17 @@ pub record WordsOf (g : Setting) (log : Log) : Type 0 where
 abbrev pub WordsTell : Type 0
 WordsTell = ForEveryLog (λ g log. WordsOf g log)
 
--- the stopper's part has a word exactly where a seal was made, and this is the number of all messages that were ever claimed
+-- the stopper's part has a word exactly where a seal was made, and this is the number of all messages that were ever
+-- claimed
 abbrev pub SealsStand : Type 0
-SealsStand = ForEveryLog (λ g log. (e : ℕ) → (was_sealed log e ≡ is_some (stop_in g log e)) × ((word : ℕ) → stop_in g log e ≡ Some word → word ≡ claims_of (out_in g log e).link))
+SealsStand = ForEveryLog (λ g log. (e : ℕ) → (was_sealed log e ≡ is_some (stop_in g log e))
+    × ((word : ℕ) → stop_in g log e ≡ Some word → word ≡ claims_of (out_in g log e).link))
 
 -- what a run has to deliver on an edge is what the tail's part has sent and the head's part had not taken before
 abbrev pub SentStands : Type 0
-SentStands = ForEveryLog (λ g log. (xs : List Event) (e : ℕ) → sent_on g log xs e ≡ messages_from e (length (into_in g log e).got) (drop (length (into_in g log e).got) (sent_counts (out_in g (log_after g log xs) e).link)))
+SentStands = ForEveryLog (λ g log. (xs : List Event) (e : ℕ)
+    → sent_on g log xs e ≡ messages_from e (length (into_in g log e).got)
+    (drop (length (into_in g log e).got) (sent_counts (out_in g (log_after g log xs) e).link)))
 
 -- at the opening a root edge has one message, with the chips of its vertex, and nothing else is in flight
 abbrev pub OpeningMessages : Type 0
@@ -95,12 +111,15 @@ OpeningMessages = (g : Setting) (e : ℕ) → in_flight g [] e ≡ messages_from
 
 -- from the opening the places are 0, 1, 2 and so on
 abbrev pub InOrderFromTheOpening : Type 0
-InOrderFromTheOpening = (g : Setting) → HasGame g → 0 < g.ring → (xs : List Event) (e : ℕ) → AreInOrder e (sent_on g [] xs e)
+InOrderFromTheOpening = (g : Setting) → HasGame g → 0 < g.ring → (xs : List Event) (e : ℕ)
+    → AreInOrder e (sent_on g [] xs e)
 
--- from the opening, what is held on an edge of the graph is what the firings of its tail made, less the chips in the messages that were sent
+-- from the opening, what is held on an edge of the graph is what the firings of its tail made, less the chips in the
+-- messages that were sent
 abbrev pub HeldFromTheOpening : Type 0
 HeldFromTheOpening = (g : Setting) → HasGame g → 0 < g.ring → (xs : List Event) (e : ℕ) → e < graph_edges g
-    → chips_in (sent_in e xs (replies_to g [] xs)) + held g (log_after g [] xs) e ≡ mult_of g e * fired_by g (log_after g [] xs) (tail_of g e)
+    → chips_in (sent_in e xs (replies_to g [] xs)) + held g (log_after g [] xs) e
+    ≡ mult_of g e * fired_by g (log_after g [] xs) (tail_of g e)
 
 -- where the root is closed nothing is on the way
 abbrev pub NothingInFlight : Type 0
@@ -108,4 +127,5 @@ NothingInFlight = ForEveryLog (λ g log. IsClosed g log → (e : ℕ) → e < al
 
 -- a read that was made saw the fired word that stands at the end, and the root is closed
 abbrev pub ReadsTell : Type 0
-ReadsTell = ForEveryLog (λ g log. (x : Step) (v : ℕ) → Contains log x → x.event ≡ Read v → (v < g.graph.vertices) × IsClosed g log × (x.seen ≡ word_of_part (part_in g log v)))
+ReadsTell = ForEveryLog (λ g log. (x : Step) (v : ℕ) → Contains log x → x.event ≡ Read v
+    → (v < g.graph.vertices) × IsClosed g log × (x.seen ≡ word_of_part (part_in g log v)))

@@ -1,5 +1,6 @@
 -- The messages of an edge, read off events and replies.
-use Rattle.std.specs.Prelude.{◌≡◌, ℕ, ◌+◌, ◌==◌, ◌||◌, Bool, false, if◌then◌else◌, List, [], ◌∷◌, ◌++◌, length, drop, sum_by, slice_get, Some}
+use Rattle.std.specs.Prelude.{◌≡◌, ℕ, ◌+◌, ◌==◌, ◌||◌, Bool, false, if◌then◌else◌, List, [], ◌∷◌, ◌++◌, length, drop}
+use Rattle.std.specs.Prelude.{sum_by, slice_get, Some}
 use Rattle.chip_actor.specs.Setting.{Setting}
 pub use Rattle.chip_link.specs.declared.message.Message.{Message}
 use Rattle.chip_link.specs.Link.{sent_counts}
@@ -56,7 +57,8 @@ messages_from e place (count ∷ counts) = message_of e place count ∷ messages
 abbrev pub counts_in_flight : Setting → Log → ℕ → List ℕ
 counts_in_flight g log e = drop (length (into_in g log e).got) (sent_counts (out_in g log e).link)
 
--- the messages that were sent on e and not delivered; at the opening a root edge has one where its vertex starts with chips
+-- the messages that were sent on e and not delivered; at the opening a root edge has one where its vertex starts with
+-- chips
 abbrev pub in_flight : Setting → Log → ℕ → List Message
 in_flight g log e = messages_from e (length (into_in g log e).got) (counts_in_flight g log e)
 

@@ -29,14 +29,16 @@ pub record AreFired (g : Setting) (log : Log) (count : ℕ) (fired : List ℕ) :
   pub count_is : length fired ≡ count
   pub each : (v : ℕ) → v < count → slice_index fired v ≡ fired_by g log v
 
--- the outcome of a log: how often each vertex fired, the chips by these counts, and the vertices that halted, each by its cause
+-- the outcome of a log: how often each vertex fired, the chips by these counts, and the vertices that halted, each by
+-- its cause
 pub record IsOutcomeOf (g : Setting) (log : Log) (o : Outcome) : Type 0 where
   pub fired : AreFired g log g.graph.vertices o.fired.items
   pub chips : IsAfter (game_of_setting g) o.fired.items o.chips.items
   pub over : o.over.items ≡ picked (λ v. is_by_limit (part_in g log v).halt) g.graph.vertices
   pub sealed : o.sealed.items ≡ picked (λ v. is_by_seal (part_in g log v).halt) g.graph.vertices
 
--- one thread that fires these vertices in turn from the start, within the limit, comes to the counts and the chips of an outcome
+-- one thread that fires these vertices in turn from the start, within the limit, comes to the counts and the chips of
+-- an outcome
 pub record ComesTo (g : Setting) (vs : List ℕ) (o : Outcome) : Type 0 where
   pub sequence : IsFiringSequence g.graph (slice_index g.start) vs
   pub within : IsWithin g.limit vs

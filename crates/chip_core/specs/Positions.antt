@@ -16,7 +16,8 @@ chips_at g log v = (part_in g log v).chips
 
 -- the full position of v: its chips, those on the way to it, and those that are held for it
 abbrev pub full_position : Setting → Log → ℕ → ℕ
-full_position g log v = (part_in g log v).chips + (over_ins g v (λ e. sum (counts_in_flight g log e)) + over_ins g v (held g log))
+full_position g log v = (part_in g log v).chips
+    + (over_ins g v (λ e. sum (counts_in_flight g log e)) + over_ins g v (held g log))
 
 -- a batch of k is k firings of one vertex in a row
 abbrev pub firings_of : Event → List ℕ
@@ -33,12 +34,14 @@ abbrev pub asked_in : Log → List Event
 asked_in [] = []
 asked_in (x ∷ log) = asked_in log ++ x.event ∷ []
 
--- one thread that fires these vertices in turn from the start comes to the full position, within the limit and with the counts of the log
+-- one thread that fires these vertices in turn from the start comes to the full position, within the limit and with the
+-- counts of the log
 pub record LeadsTo (g : Setting) (log : Log) (vs : List ℕ) : Type 0 where
   pub sequence : IsFiringSequence g.graph (slice_index g.start) vs
   pub within : IsWithin g.limit vs
   pub counted : (v : ℕ) → counts vs v ≡ fired_by g log v
-  pub position : (v : ℕ) → v < g.graph.vertices → position_after g.graph (slice_index g.start) vs v ≡ full_position g log v
+  pub position : (v : ℕ) → v < g.graph.vertices
+      → position_after g.graph (slice_index g.start) vs v ≡ full_position g log v
 
 -- chips and firing counts of the log are those of one thread that fires these vertices in turn from the start
 pub record AgreesWith (g : Setting) (log : Log) (vs : List ℕ) : Type 0 where

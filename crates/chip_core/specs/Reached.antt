@@ -8,7 +8,8 @@ use Rattle.chip_core.specs.Histories.{done_by, part_by}
 abbrev pub parts_by : Setting → (ℕ → List Step) → ℕ → Part
 parts_by g records p = part_by g (opened g) (records p)
 
--- one part did one step more, whose rules are met and which saw what the parts had made of its word, and every other did what it had done
+-- one part did one step more, whose rules are met and which saw what the parts had made of its word, and every other
+-- did what it had done
 pub record IsOneMore (g : Setting) (old : ℕ → List Step) (x : Step) (new : ℕ → List Step) : Type 0 where
   pub may : unmet g x.event (parts_by g old (part_of g x.event)) ≡ None
   pub saw : x.seen ≡ seen_of g (parts_by g old) x.event
@@ -24,4 +25,5 @@ pub data IsReached (g : Setting) : (ℕ → List Step) → Type 0 where
 abbrev pub ReachedByLegalLogs : Type 0
 ReachedByLegalLogs = (g : Setting)
     → ((log : Log) → IsLegalLog g log → IsReached g (λ p. done_by g p log))
-    × ((records : ℕ → List Step) → IsReached g records → (log : Log) × IsLegalLog g log × ((p : ℕ) → records p ≡ done_by g p log))
+    × ((records : ℕ → List Step) → IsReached g records → (log : Log) × IsLegalLog g log
+    × ((p : ℕ) → records p ≡ done_by g p log))

@@ -28,7 +28,8 @@ pub record DifferInNotes (s t : Part) : Type 0 where
 
 -- such a reply leaves all parts but for their notes, whatever was done before
 abbrev pub IdleStepsLeave : Type 0
-IdleStepsLeave = (g : Setting) (log : Log) (x : Event) → is_idle (step g log x).1 ≡ true → (p : ℕ) → DifferInNotes (part_in g (step g log x).0 p) (part_in g log p)
+IdleStepsLeave = (g : Setting) (log : Log) (x : Event) → is_idle (step g log x).1 ≡ true → (p : ℕ)
+    → DifferInNotes (part_in g (step g log x).0 p) (part_in g log p)
 
 -- there is a reply to each event, and events that follow others are answered as a run after that of the others
 abbrev pub RunsGoOn : Type 0

@@ -1,13 +1,17 @@
--- The words that a running game shares: which word the operation of an event is on, what it leaves there, and what all words show of a log.
-use Rattle.std.specs.Prelude.{◌≡◌, ◌≢◌, ℕ, ◌+◌, ◌-◌, ◌%◌, ◌^◌, ◌<◌, Bool, true, false, ◌∷◌, length, sum, option_to_list, bit_or, None}
+-- The words that a running game shares: which word the operation of an event is on, what it leaves there, and what all
+-- words show of a log.
+use Rattle.std.specs.Prelude.{◌≡◌, ◌≢◌, ℕ, ◌+◌, ◌-◌, ◌%◌, ◌^◌, ◌<◌, Bool, true, false, ◌∷◌, length, sum, option_to_list}
+use Rattle.std.specs.Prelude.{bit_or, None}
 use Rattle.chip_link.specs.Link.{Shows, claims_of}
 use Rattle.chip_link.specs.Words.{exchanged}
 use Rattle.chip_actor.specs.Setting.{Setting}
 use Rattle.chip_actor.specs.Part.{may_ack, cause, is_by_limit}
-use Rattle.chip_core.specs.Core.{Log, Event, Take, Ack, Fire, Clear, Claim, Put, Halt, Settle, Seal, Read, Part, unmet, part_of, part_in, out_in, into_in, stop_in, word_of_part, sees, all_edges, head_of}
+use Rattle.chip_core.specs.Core.{Log, Event, Take, Ack, Fire, Clear, Claim, Put, Halt, Settle, Seal, Read, Part, unmet}
+use Rattle.chip_core.specs.Core.{part_of, part_in, out_in, into_in, stop_in, word_of_part, sees, all_edges, head_of}
 use Rattle.chip_core.specs.Laws.{ForEveryLog}
 
--- a word, by what it is for: the edge word and the acknowledgements of an edge, a cell of its ring, and the fired word of a vertex
+-- a word, by what it is for: the edge word and the acknowledgements of an edge, a cell of its ring, and the fired word
+-- of a vertex
 pub data Word : Type 0 where
   of_edge : ℕ → Word
   of_acks : ℕ → Word
@@ -61,7 +65,8 @@ noted _ n = n
 pub record IsShown (g : Setting) (log : Log) (value : Word → ℕ) : Type 0 where
   -- the edge word is the claims and the seal; a cell holds a count exactly where its message is put and not taken
   pub edges : (e : ℕ) → e < all_edges g
-      → Shows g.ring (value (of_edge e)) (λ i. value (of_cell e i)) (out_in g log e).link (into_in g log e).got (stop_in g log e)
+      → Shows g.ring (value (of_edge e)) (λ i. value (of_cell e i)) (out_in g log e).link (into_in g log e).got
+      (stop_in g log e)
   -- the word of acknowledgements is what the head acknowledged
   pub acks : (e : ℕ) → e < all_edges g → value (of_acks e) ≡ (into_in g log e).acked
   -- the fired word is the firing count, the halt and its cause
@@ -73,7 +78,8 @@ acting g log x = part_in g log (part_of g x)
 
 -- an operation finds in its word, which is there, what its event sees
 abbrev pub OperationsFind : Type 0
-OperationsFind = ForEveryLog (λ g log. (value : Word → ℕ) → IsShown g log value → (x : Event) → unmet g x (acting g log x) ≡ None
+OperationsFind = ForEveryLog (λ g log. (value : Word → ℕ) → IsShown g log value → (x : Event)
+    → unmet g x (acting g log x) ≡ None
     → IsWord g (touched g x (acting g log x)) × (noted x (value (touched g x (acting g log x))) ≡ sees g log x))
 
 -- one word is changed as the operation of an event leaves it, and every other is as it was
@@ -83,5 +89,6 @@ pub record IsLeft (g : Setting) (log : Log) (x : Event) (old new : Word → ℕ)
 
 -- the words that it leaves show the log that is longer by the event
 abbrev pub WordsGoOn : Type 0
-WordsGoOn = ForEveryLog (λ g log. (old new : Word → ℕ) → IsShown g log old → (x : Event) → unmet g x (acting g log x) ≡ None → IsLeft g log x old new
+WordsGoOn = ForEveryLog (λ g log. (old new : Word → ℕ) → IsShown g log old → (x : Event)
+    → unmet g x (acting g log x) ≡ None → IsLeft g log x old new
     → IsShown g (record { event = x; seen = sees g log x } ∷ log) new)

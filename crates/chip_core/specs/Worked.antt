@@ -1,4 +1,5 @@
--- Worked runs of the whole core, as the definitions compute them. The limit is 2 ^ 40 and the ring has one cell where nothing else is said.
+-- Worked runs of the whole core, as the definitions compute them. The limit is 2 ^ 40 and the ring has one cell where
+-- nothing else is said.
 use Rattle.std.specs.Prelude.{◌≡◌, ℕ, List, [], ◌∷◌, ◌++◌, slice_index, Some}
 use Rattle.chip_actor.specs.Setting.{Setting, HasGame}
 use Rattle.chip_fire.specs.Firing.{legal_vertices}
@@ -8,7 +9,8 @@ use Rattle.chip_actor.specs.Worked.{small_triangle, chain, two_edges, saw}
 use Rattle.chip_actor.specs.Steps.{message_of}
 use Rattle.chip_actor.specs.declared.rule.Rule.TheVariants.{Engaged}
 use Rattle.chip_actor.specs.declared.reply.Reply.TheVariants.{Done, Got, Sent, Empty, Full, Sealed, NotNow}
-use Rattle.chip_core.specs.Core.{Log, Event, Take, Ack, Fire, Clear, Claim, Put, Halt, Settle, Seal, Read, part_in, fired_by, replies_to, log_after, IsClosed}
+use Rattle.chip_core.specs.Core.{Log, Event, Take, Ack, Fire, Clear, Claim, Put, Halt, Settle, Seal, Read, part_in}
+use Rattle.chip_core.specs.Core.{fired_by, replies_to, log_after, IsClosed}
 use Rattle.chip_core.specs.Messages.{sent_in, delivered_in, sent_after_seal, in_flight}
 use Rattle.chip_core.specs.Positions.{held, chips_at, full_position, firings}
 use Rattle.chip_core.specs.Detection.{IsDetectionOrder}
@@ -33,7 +35,8 @@ full_ring = Take 2 ∷ Fire 0 1 ∷ Clear 0 ∷ Claim 0 ∷ Put 0 ∷ Fire 0 1 �
 
 abbrev pub FullRing : Type 0
 FullRing =
-    (replies_to chain [] full_ring ≡ Got (message_of 2 0 3) ∷ Done 1 ∷ Done 0 ∷ Sent (message_of 0 0 1) ∷ Done 1 ∷ Done 2 ∷ Full ∷ [])
+    (replies_to chain [] full_ring ≡ Got (message_of 2 0 3) ∷ Done 1 ∷ Done 0 ∷ Sent (message_of 0 0 1) ∷ Done 1
+    ∷ Done 2 ∷ Full ∷ [])
     × (in_flight chain (log_after chain [] full_ring) 0 ≡ message_of 0 0 1 ∷ [])
     × (on_each (full_position chain (log_after chain [] full_ring)) ≡ 1 ∷ 2 ∷ 0 ∷ [])
 
@@ -44,19 +47,22 @@ sealed_half_way = Seal 1 ∷ Take 4 ∷ Fire 0 2 ∷ Clear 0 ∷ Claim 0 ∷ Put
 abbrev pub SealedHalfWay : Type 0
 SealedHalfWay =
     let g : Setting = small_triangle (4 ∷ 0 ∷ 0 ∷ []) in
-    (replies_to g [] sealed_half_way ≡ Done 0 ∷ Got (message_of 4 0 4) ∷ Done 2 ∷ Done 0 ∷ Sent (message_of 0 0 2) ∷ Done 2 ∷ Done 0 ∷ Sealed ∷ Done 0 ∷ [])
+    (replies_to g [] sealed_half_way ≡ Done 0 ∷ Got (message_of 4 0 4) ∷ Done 2 ∷ Done 0 ∷ Sent (message_of 0 0 2)
+    ∷ Done 2 ∷ Done 0 ∷ Sealed ∷ Done 0 ∷ [])
     × (sent_in 0 sealed_half_way (replies_to g [] sealed_half_way) ≡ message_of 0 0 2 ∷ [])
     × (sent_after_seal 1 sealed_half_way (replies_to g [] sealed_half_way) ≡ [])
     × (on_each (full_position g (log_after g [] sealed_half_way)) ≡ 0 ∷ 2 ∷ 2 ∷ [])
 
 -- the sink is engaged by the first of two messages, and acknowledges it last
 abbrev pub engaging_message_last : List Event
-engaging_message_last = Take 2 ∷ Fire 0 1 ∷ Clear 0 ∷ Claim 0 ∷ Put 0 ∷ Clear 1 ∷ Claim 1 ∷ Put 1 ∷ Take 0 ∷ Take 1 ∷ Ack 0 ∷ Ack 1 ∷ Ack 0 ∷ []
+engaging_message_last = Take 2 ∷ Fire 0 1 ∷ Clear 0 ∷ Claim 0 ∷ Put 0 ∷ Clear 1 ∷ Claim 1 ∷ Put 1 ∷ Take 0 ∷ Take 1
+    ∷ Ack 0 ∷ Ack 1 ∷ Ack 0 ∷ []
 
 abbrev pub EngagingMessageLast : Type 0
 EngagingMessageLast =
     replies_to two_edges [] engaging_message_last
-    ≡ Got (message_of 2 0 2) ∷ Done 1 ∷ Done 0 ∷ Sent (message_of 0 0 1) ∷ Done 1 ∷ Done 0 ∷ Sent (message_of 1 0 1) ∷ Done 1 ∷ Got (message_of 0 0 1) ∷ Got (message_of 1 0 1) ∷ NotNow Engaged ∷ Done 1 ∷ Done 1 ∷ []
+    ≡ Got (message_of 2 0 2) ∷ Done 1 ∷ Done 0 ∷ Sent (message_of 0 0 1) ∷ Done 1 ∷ Done 0 ∷ Sent (message_of 1 0 1)
+    ∷ Done 1 ∷ Got (message_of 0 0 1) ∷ Got (message_of 1 0 1) ∷ NotNow Engaged ∷ Done 1 ∷ Done 1 ∷ []
 
 -- three messages over a ring of two cells
 abbrev pub wide_chain : Setting
@@ -64,57 +70,73 @@ wide_chain = record chain { ring = 2 }
 
 abbrev pub ring_of_two : List Event
 ring_of_two =
-    Take 2 ∷ Fire 0 1 ∷ Clear 0 ∷ Claim 0 ∷ Put 0 ∷ Fire 0 1 ∷ Clear 0 ∷ Claim 0 ∷ Put 0 ∷ Fire 0 1 ∷ Clear 0 ∷ Take 0 ∷ Clear 0 ∷ Claim 0 ∷ Put 0 ∷ Take 0 ∷ Take 0 ∷ Take 0 ∷ []
+    Take 2 ∷ Fire 0 1 ∷ Clear 0 ∷ Claim 0 ∷ Put 0 ∷ Fire 0 1 ∷ Clear 0 ∷ Claim 0 ∷ Put 0 ∷ Fire 0 1 ∷ Clear 0 ∷ Take 0
+    ∷ Clear 0 ∷ Claim 0 ∷ Put 0 ∷ Take 0 ∷ Take 0 ∷ Take 0 ∷ []
 
 abbrev pub RingOfTwo : Type 0
 RingOfTwo =
     (replies_to wide_chain [] ring_of_two
-    ≡ Got (message_of 2 0 3) ∷ Done 1 ∷ Done 0 ∷ Sent (message_of 0 0 1) ∷ Done 1 ∷ Done 2 ∷ Done 1 ∷ Sent (message_of 0 1 1) ∷ Done 1 ∷ Done 3 ∷ Full
-    ∷ Got (message_of 0 0 1) ∷ Done 2 ∷ Sent (message_of 0 2 1) ∷ Done 1 ∷ Got (message_of 0 1 1) ∷ Got (message_of 0 2 1) ∷ Empty ∷ [])
-    × (delivered_in 0 ring_of_two (replies_to wide_chain [] ring_of_two) ≡ message_of 0 0 1 ∷ message_of 0 1 1 ∷ message_of 0 2 1 ∷ [])
+    ≡ Got (message_of 2 0 3) ∷ Done 1 ∷ Done 0 ∷ Sent (message_of 0 0 1) ∷ Done 1 ∷ Done 2 ∷ Done 1
+    ∷ Sent (message_of 0 1 1) ∷ Done 1 ∷ Done 3 ∷ Full
+    ∷ Got (message_of 0 0 1) ∷ Done 2 ∷ Sent (message_of 0 2 1) ∷ Done 1 ∷ Got (message_of 0 1 1)
+    ∷ Got (message_of 0 2 1) ∷ Empty ∷ [])
+    × (delivered_in 0 ring_of_two (replies_to wide_chain [] ring_of_two) ≡ message_of 0 0 1 ∷ message_of 0 1 1
+    ∷ message_of 0 2 1 ∷ [])
 
--- a whole schedule of the small triangle with four chips: it closes the root of a game within the limits, with the firings 0, 0, 1
+-- a whole schedule of the small triangle with four chips: it closes the root of a game within the limits, with the
+-- firings 0, 0, 1
 abbrev pub whole_schedule : List Event
 whole_schedule =
-    Take 4 ∷ Fire 0 2 ∷ Clear 0 ∷ Claim 0 ∷ Put 0 ∷ Clear 1 ∷ Claim 1 ∷ Put 1 ∷ Take 0 ∷ Fire 1 1 ∷ Clear 2 ∷ Claim 2 ∷ Put 2 ∷ Clear 3 ∷ Claim 3 ∷ Put 3 ∷ Take 1 ∷ Take 3
+    Take 4 ∷ Fire 0 2 ∷ Clear 0 ∷ Claim 0 ∷ Put 0 ∷ Clear 1 ∷ Claim 1 ∷ Put 1 ∷ Take 0 ∷ Fire 1 1 ∷ Clear 2 ∷ Claim 2
+    ∷ Put 2 ∷ Clear 3 ∷ Claim 3 ∷ Put 3 ∷ Take 1 ∷ Take 3
     ∷ Ack 3 ∷ Ack 1 ∷ Take 2 ∷ Settle 1 ∷ Ack 2 ∷ Settle 2 ∷ Settle 3 ∷ Ack 0 ∷ Settle 0 ∷ Ack 4 ∷ Settle 4 ∷ []
 
 abbrev pub WholeSchedule : Type 0
 WholeSchedule =
     let g : Setting = small_triangle (4 ∷ 0 ∷ 0 ∷ []) in
     let after : Log = log_after g [] whole_schedule in
-    HasGame g × IsClosed g after × (firings after ≡ 0 ∷ 0 ∷ 1 ∷ []) × (on_each (fired_by g after) ≡ 2 ∷ 1 ∷ 0 ∷ []) × (on_each (chips_at g after) ≡ 1 ∷ 0 ∷ 3 ∷ [])
+    HasGame g × IsClosed g after × (firings after ≡ 0 ∷ 0 ∷ 1 ∷ []) × (on_each (fired_by g after) ≡ 2 ∷ 1 ∷ 0 ∷ [])
+    × (on_each (chips_at g after) ≡ 1 ∷ 0 ∷ 3 ∷ [])
 
--- the same triangle with five chips and a limit of two firings: vertex 0 gets its third pair of chips and halts, and the root closes
+-- the same triangle with five chips and a limit of two firings: vertex 0 gets its third pair of chips and halts, and
+-- the root closes
 abbrev pub limit_of_two : Setting
 limit_of_two = record { graph = (small_triangle []).graph; start = 5 ∷ 0 ∷ 0 ∷ []; limit = 2; ring = 1 }
 
 abbrev pub stopped_by_limit : List Event
 stopped_by_limit =
-    Take 4 ∷ Fire 0 2 ∷ Clear 0 ∷ Claim 0 ∷ Put 0 ∷ Clear 1 ∷ Claim 1 ∷ Put 1 ∷ Take 0 ∷ Fire 1 1 ∷ Clear 2 ∷ Claim 2 ∷ Put 2 ∷ Clear 3 ∷ Claim 3 ∷ Put 3 ∷ Take 1 ∷ Take 3
-    ∷ Ack 3 ∷ Ack 1 ∷ Take 2 ∷ Fire 0 1 ∷ Halt 0 ∷ Settle 1 ∷ Ack 2 ∷ Settle 2 ∷ Settle 3 ∷ Ack 0 ∷ Settle 0 ∷ Ack 4 ∷ Settle 4 ∷ []
+    Take 4 ∷ Fire 0 2 ∷ Clear 0 ∷ Claim 0 ∷ Put 0 ∷ Clear 1 ∷ Claim 1 ∷ Put 1 ∷ Take 0 ∷ Fire 1 1 ∷ Clear 2 ∷ Claim 2
+    ∷ Put 2 ∷ Clear 3 ∷ Claim 3 ∷ Put 3 ∷ Take 1 ∷ Take 3
+    ∷ Ack 3 ∷ Ack 1 ∷ Take 2 ∷ Fire 0 1 ∷ Halt 0 ∷ Settle 1 ∷ Ack 2 ∷ Settle 2 ∷ Settle 3 ∷ Ack 0 ∷ Settle 0 ∷ Ack 4
+    ∷ Settle 4 ∷ []
 
 abbrev pub StoppedByLimit : Type 0
 StoppedByLimit =
     let g : Setting = limit_of_two in
     let after : Log = log_after g [] stopped_by_limit in
-    HasGame g × IsClosed g after × ((part_in g after 0).halt ≡ Some FiringLimit) × (on_each (fired_by g after) ≡ 2 ∷ 1 ∷ 0 ∷ []) × (on_each (chips_at g after) ≡ 2 ∷ 0 ∷ 3 ∷ [])
+    HasGame g × IsClosed g after × ((part_in g after 0).halt ≡ Some FiringLimit)
+    × (on_each (fired_by g after) ≡ 2 ∷ 1 ∷ 0 ∷ []) × (on_each (chips_at g after) ≡ 2 ∷ 0 ∷ 3 ∷ [])
     × (legal_vertices g.graph (chips_at g after) ≡ 0 ∷ [])
 
--- the run that was sealed half way, played on until the root closes: two chips are held for ever, and the counts lead to other chips
+-- the run that was sealed half way, played on until the root closes: two chips are held for ever, and the counts lead
+-- to other chips
 abbrev pub played_on : List Event
 played_on =
     sealed_half_way
-    ++ Take 0 ∷ Fire 1 1 ∷ Clear 2 ∷ Claim 2 ∷ Put 2 ∷ Clear 3 ∷ Claim 3 ∷ Put 3 ∷ Take 3 ∷ Ack 3 ∷ Take 2 ∷ Settle 3 ∷ Ack 2 ∷ Settle 2 ∷ Ack 0 ∷ Settle 0 ∷ Ack 4 ∷ Settle 4 ∷ []
+    ++ Take 0 ∷ Fire 1 1 ∷ Clear 2 ∷ Claim 2 ∷ Put 2 ∷ Clear 3 ∷ Claim 3 ∷ Put 3 ∷ Take 3 ∷ Ack 3 ∷ Take 2 ∷ Settle 3
+    ∷ Ack 2 ∷ Settle 2 ∷ Ack 0 ∷ Settle 0 ∷ Ack 4 ∷ Settle 4 ∷ []
 
 abbrev pub StoppedBySeal : Type 0
 StoppedBySeal =
     let g : Setting = small_triangle (4 ∷ 0 ∷ 0 ∷ []) in
     let after : Log = log_after g [] played_on in
-    IsClosed g after × ((part_in g after 0).halt ≡ Some SealedEdge) × (on_each (fired_by g after) ≡ 2 ∷ 1 ∷ 0 ∷ []) × (on_each (chips_at g after) ≡ 1 ∷ 0 ∷ 1 ∷ [])
-    × (held g after 1 ≡ 2) × (on_each (position_by_counts g.graph (slice_index g.start) (fired_by g after)) ≡ 1 ∷ 0 ∷ 3 ∷ [])
+    IsClosed g after × ((part_in g after 0).halt ≡ Some SealedEdge) × (on_each (fired_by g after) ≡ 2 ∷ 1 ∷ 0 ∷ [])
+    × (on_each (chips_at g after) ≡ 1 ∷ 0 ∷ 1 ∷ [])
+    × (held g after 1 ≡ 2) × (on_each (position_by_counts g.graph (slice_index g.start) (fired_by g after))
+    ≡ 1 ∷ 0 ∷ 3 ∷ [])
 
--- vertex 1 was engaged by vertex 0, and this by the root: so they stand in the detection order, the latest first, and the sink doesn't
+-- vertex 1 was engaged by vertex 0, and this by the root: so they stand in the detection order, the latest first, and
+-- the sink doesn't
 abbrev pub two_engaged : List Event
 two_engaged = Take 4 ∷ Fire 0 2 ∷ Clear 0 ∷ Claim 0 ∷ Put 0 ∷ Take 0 ∷ []
 
@@ -122,4 +144,5 @@ abbrev pub TwoEngaged : Type 0
 TwoEngaged =
     let g : Setting = small_triangle (4 ∷ 0 ∷ 0 ∷ []) in
     let after : Log = log_after g [] two_engaged in
-    IsDetectionOrder g after (1 ∷ 0 ∷ []) × (done_by g 1 after ≡ saw (Take 0) 2 ∷ []) × (done_by g 0 after ≡ saw (Take 4) 4 ∷ saw (Fire 0 2) 0 ∷ saw (Clear 0) 0 ∷ saw (Claim 0) 0 ∷ saw (Put 0) 0 ∷ [])
+    IsDetectionOrder g after (1 ∷ 0 ∷ []) × (done_by g 1 after ≡ saw (Take 0) 2 ∷ [])
+    × (done_by g 0 after ≡ saw (Take 4) 4 ∷ saw (Fire 0 2) 0 ∷ saw (Clear 0) 0 ∷ saw (Claim 0) 0 ∷ saw (Put 0) 0 ∷ [])

@@ -1,9 +1,14 @@
 //! What holds of every game, every ring and every list of events, as the contracts of functions that do nothing.
 //!
-//! The core theorem stands last. What is before it speaks of the legal logs, which are those of the runs from the opening.
+//! The core theorem stands last. What is before it speaks of the legal logs, which are those of the runs from the
+//! opening.
 
-ghost use Rattle.chip_core.specs.Worked.{ChipsOnTheSink, FullRing, SealedHalfWay, EngagingMessageLast, RingOfTwo, TwoEngaged, WholeSchedule, StoppedByLimit, StoppedBySeal};
-ghost use Rattle.chip_core.specs.Laws.{LegalLogsAreRuns, PartsByTheirOwnEvents, PartsAreKept, SeenFits, CountsOfEdges, ChipsOfEdges, NumbersAreSmall, CellsTell, WordsTell, SealsStand, SentStands, OpeningMessages, InOrderFromTheOpening, HeldFromTheOpening, NothingInFlight, ReadsTell};
+ghost use Rattle.chip_core.specs.Worked.{ChipsOnTheSink, FullRing, SealedHalfWay, EngagingMessageLast, RingOfTwo};
+ghost use Rattle.chip_core.specs.Worked.{TwoEngaged, WholeSchedule, StoppedByLimit, StoppedBySeal};
+ghost use Rattle.chip_core.specs.Laws.{LegalLogsAreRuns, PartsByTheirOwnEvents, PartsAreKept, SeenFits, CountsOfEdges};
+ghost use Rattle.chip_core.specs.Laws.{ChipsOfEdges, NumbersAreSmall, CellsTell, WordsTell, SealsStand, SentStands};
+ghost use Rattle.chip_core.specs.Laws.{OpeningMessages, InOrderFromTheOpening, HeldFromTheOpening, NothingInFlight};
+ghost use Rattle.chip_core.specs.Laws.{ReadsTell};
 ghost use Rattle.chip_core.specs.Replies.{IdleStepsLeave, RunsGoOn};
 ghost use Rattle.chip_core.specs.Words.{OperationsFind, WordsGoOn};
 ghost use Rattle.chip_core.specs.Reached.{ReachedByLegalLogs};
@@ -19,7 +24,8 @@ pub fn worked_runs()
     ensures two_engaged { TwoEngaged }
 {}
 
-/// Whole runs of a small game until the root closes, with no vertex halted, one halted by its limit, and one halted by a seal.
+/// Whole runs of a small game until the root closes, with no vertex halted, one halted by its limit, and one halted by
+/// a seal.
 pub fn worked_closes()
     ensures none_halted { WholeSchedule }
     ensures stopped_by_limit { StoppedByLimit }
@@ -58,7 +64,8 @@ pub fn words()
     ensures seals { SealsStand }
 {}
 
-/// Words that show a log: what an operation finds in its word is what its event sees, and what it leaves shows the longer log.
+/// Words that show a log: what an operation finds in its word is what its event sees, and what it leaves shows the
+/// longer log.
 pub fn shown_words()
     ensures find { OperationsFind }
     ensures go_on { WordsGoOn }
@@ -83,9 +90,9 @@ pub fn closed_roots()
     ensures reads { ReadsTell }
 {}
 
-/// For every list of actor steps, each edge has delivered a prefix of what was sent on it, each message once and in order, and nothing
-/// is sent after its seal; where the root closes, every edge has delivered everything and, unless a vertex halted, chips and firing
-/// counts are those of every one-thread legal firing that ends with no vertex legal.
+/// For every list of actor steps, each edge has delivered a prefix of what was sent on it, each message once and in
+/// order, and nothing is sent after its seal; where the root closes, every edge has delivered everything and, unless a
+/// vertex halted, chips and firing counts are those of every one-thread legal firing that ends with no vertex legal.
 pub fn core_theorem()
     ensures { CoreTheorem }
 {}

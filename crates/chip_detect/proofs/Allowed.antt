@@ -4,13 +4,15 @@ use Rattle.std.proofs.lemmas.Bool.Decides.{nat_tests, eqb_tells}
 use Rattle.chip_detect.specs.Acknowledging.{acknowledgeable, parent_while_owed}
 
 -- never more than is owed
-pub within_owed : (e : ℕ) (parent : Option ℕ) (here all waiting : ℕ) (passive : Bool) → acknowledgeable e parent here all waiting passive ≤ here
+pub within_owed : (e : ℕ) (parent : Option ℕ) (here all waiting : ℕ) (passive : Bool)
+    → acknowledgeable e parent here all waiting passive ≤ here
 within_owed e None here all waiting passive = omega arith
 within_owed e (Some p) here all waiting true = grind (arith, nat_tests)
 within_owed e (Some p) here all waiting false = grind (arith, nat_tests)
 
 -- all that is owed on the parent edge, only where the vertex is done
-pub all_when_done : (e here all waiting : ℕ) (passive : Bool) → 0 < here → here ≤ acknowledgeable e (Some e) here all waiting passive → (all ≡ here) × (passive ≡ true) × (waiting ≡ 0)
+pub all_when_done : (e here all waiting : ℕ) (passive : Bool) → 0 < here
+    → here ≤ acknowledgeable e (Some e) here all waiting passive → (all ≡ here) × (passive ≡ true) × (waiting ≡ 0)
 all_when_done e here all waiting true owing allowed = grind (arith, nat_tests)
 all_when_done e here all waiting false owing allowed = absurd (grind (arith, nat_tests))
 
@@ -19,11 +21,13 @@ pub active_keeps_one : (e here all waiting : ℕ) → acknowledgeable e (Some e)
 active_keeps_one e here all waiting = grind (arith, nat_tests)
 
 -- a parent that stays is owed something, and is the one that was there
-pub stays_owed : (parent : Option ℕ) (owes : ℕ → ℕ) (p : ℕ) → parent_while_owed parent owes ≡ Some p → (parent ≡ Some p) × (0 < owes p)
+pub stays_owed : (parent : Option ℕ) (owes : ℕ → ℕ) (p : ℕ) → parent_while_owed parent owes ≡ Some p
+    → (parent ≡ Some p) × (0 < owes p)
 stays_owed None owes p same = cc
 stays_owed (Some q) owes p same = elim (eqb_tells (owes q) 0) [
   | inl (unowed, zero) ↦ absurd (none_is_some p (rw unowed at same))
-  | inr (owing, above) ↦ let is : Some q ≡ Some p = rw owing at same in (is, (let one : q ≡ p = cc in let there : 0 < owes q = omega arith in subst (λ (r : ℕ). 0 < owes r) one there))
+  | inr (owing, above) ↦ let is : Some q ≡ Some p = rw owing at same in
+      (is, (let one : q ≡ p = cc in let there : 0 < owes q = omega arith in subst (λ (r : ℕ). 0 < owes r) one there))
 ]
   where
     none_is_some : (p : ℕ) → None ≡ Some p → ⊥

@@ -1,5 +1,6 @@
 -- Tallies by index, looked up by the number of an edge.
-use Rattle.std.proofs.Common.{◌≡◌, ℕ, zero, suc, ◌<◌, ◌≢◌, eqb, if◌then◌else◌, List, [], ◌∷◌, length, get_or, set, ◌⊎◌, refl, sym, ◌∙◌, inl, inr, arith}
+use Rattle.std.proofs.Common.{◌≡◌, ℕ, zero, suc, ◌<◌, ◌≢◌, eqb, if◌then◌else◌, List, [], ◌∷◌, length, get_or, set, ◌⊎◌}
+use Rattle.std.proofs.Common.{refl, sym, ◌∙◌, inl, inr, arith}
 use Rattle.std.specs.List.{Contains}
 use Rattle.std.specs.List.Sorted.{IsStrictlyIncreasing}
 use Rattle.std.proofs.lemmas.List.{length-map, get_or_default}
@@ -26,7 +27,8 @@ pub stands_among : (xs : List ℕ) (i e : ℕ) → i < length xs → get_or xs i
 stands_among xs i e in_range at = (i, in_range, sym (get_or_default xs i 0 e in_range) ∙ at)
 
 -- where an edge stands, its look-up reads the tally there
-pub look_at : (f : Tally → ℕ) (ts : List Tally) (i : ℕ) (d : Tally) → Ascends (edges_of ts) → i < length ts → look f ts (get_or (edges_of ts) i 0) ≡ f (get_or ts i d)
+pub look_at : (f : Tally → ℕ) (ts : List Tally) (i : ℕ) (d : Tally) → Ascends (edges_of ts) → i < length ts
+    → look f ts (get_or (edges_of ts) i 0) ≡ f (get_or ts i d)
 look_at f [] i d up in_range = absurd (omega arith)
 look_at f (t ∷ ts) zero d up in_range = grind (arith, nat_tests)
 look_at f (t ∷ ts) (suc i) d up in_range =
@@ -35,7 +37,8 @@ look_at f (t ∷ ts) (suc i) d up in_range =
     grind (arith, nat_tests)
 
 -- a tally that is written changes the look-up of its edge alone
-pub look_set : (f : Tally → ℕ) (ts : List Tally) (i : ℕ) (u : Tally) (e : ℕ) → Ascends (edges_of ts) → i < length ts → u.edge ≡ get_or (edges_of ts) i 0 → look f (set ts i u) e ≡ (if eqb u.edge e then f u else look f ts e)
+pub look_set : (f : Tally → ℕ) (ts : List Tally) (i : ℕ) (u : Tally) (e : ℕ) → Ascends (edges_of ts) → i < length ts
+    → u.edge ≡ get_or (edges_of ts) i 0 → look f (set ts i u) e ≡ (if eqb u.edge e then f u else look f ts e)
 look_set f [] i u e up in_range same = absurd (omega arith)
 look_set f (t ∷ ts) zero u e up in_range same = grind (arith, nat_tests)
 look_set f (t ∷ ts) (suc i) u e up in_range same =
@@ -44,7 +47,8 @@ look_set f (t ∷ ts) (suc i) u e up in_range same =
     grind (arith, nat_tests)
 
 -- an edge has an index, or its look-up gives 0
-pub absent_or_at : (ts : List Tally) (e : ℕ) → ((f : Tally → ℕ) → look f ts e ≡ 0) ⊎ ((i : ℕ) × (i < length (edges_of ts)) × (get_or (edges_of ts) i 0 ≡ e))
+pub absent_or_at : (ts : List Tally) (e : ℕ) → ((f : Tally → ℕ) → look f ts e ≡ 0)
+    ⊎ ((i : ℕ) × (i < length (edges_of ts)) × (get_or (edges_of ts) i 0 ≡ e))
 absent_or_at [] e = inl (λ f. refl)
 absent_or_at (t ∷ ts) e = elim (eqb_tells t.edge e) [
   | inl (test, same) ↦ inr (0, omega arith, same)

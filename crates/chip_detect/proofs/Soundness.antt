@@ -1,5 +1,6 @@
 -- The steps keep the books sound, and only a last acknowledgement makes an engaged vertex neutral.
-use Rattle.std.proofs.Common.{◌≡◌, ℕ, ◌+◌, ◌<◌, ◌≤◌, ◌≢◌, eqb, if◌then◌else◌, ◌&&◌, true, false, List, nat_eq, Option, Some, None, is_some, refl, sym, ap, ◌∙◌, subst, inl, inr, arith}
+use Rattle.std.proofs.Common.{◌≡◌, ℕ, ◌+◌, ◌<◌, ◌≤◌, ◌≢◌, eqb, if◌then◌else◌, ◌&&◌, true, false, List, nat_eq, Option}
+use Rattle.std.proofs.Common.{Some, None, is_some, refl, sym, ap, ◌∙◌, subst, inl, inr, arith}
 use Rattle.std.specs.List.{Contains}
 use Rattle.std.proofs.lemmas.Bool.Decides.{nat_tests, eqb_tells}
 use Rattle.chip_detect.specs.Tally.{Tally, AreTallies, open_on, all_open, message_limit}
@@ -9,10 +10,12 @@ use Rattle.chip_detect.specs.Steps.{Got, Acked, Sent, Settled, Gets, Acknowledge
 use Rattle.chip_detect.specs.Change.{AddsAnswers}
 use Rattle.std.specs.Option.{option_eq}
 use Rattle.chip_detect.specs.Laws.{StepsKeepSoundness, NeutralOnlyWhenDone, ParentGoesWithAll, IsLastAcknowledgement}
-use Rattle.chip_detect.proofs.Changes.{open_within_total, message_opens, message_tallies, answers_close, answers_tallies, answers_total}
+use Rattle.chip_detect.proofs.Changes.{open_within_total, message_opens, message_tallies, answers_close}
+use Rattle.chip_detect.proofs.Changes.{answers_tallies, answers_total}
 use Rattle.chip_detect.proofs.Allowed.{within_owed, all_when_done, active_keeps_one, stays_owed, goes_unowed}
 
-module _ (old new : Books) (e count : ℕ) (sound : IsSound old) (on : Contains (in_edges old) e) (allowed : count ≤ may_ack old e true) (change : Acknowledges old new e count) where
+module _ (old new : Books) (e count : ℕ) (sound : IsSound old) (on : Contains (in_edges old) e)
+    (allowed : count ≤ may_ack old e true) (change : Acknowledges old new e count) where
   were_owed : count ≤ owed old e
   were_owed = omega (arith, allowed, within_owed e old.parent (owed old e) (all_owed old) (deficit old) true)
 
@@ -23,15 +26,20 @@ module _ (old new : Books) (e count : ℕ) (sound : IsSound old) (on : Contains 
   total = answers_total old.ins new.ins e count sound.ins change.ins were_owed on
 
   -- where the parent goes, it is the edge of the step, all that was owed was owed on it, and the deficit is 0
-  parent_goes : (p : ℕ) → old.parent ≡ Some p → new.parent ≡ None → record { here : p ≡ e; whole : count ≡ owed old e; alone : all_owed old ≡ count; waiting : deficit old ≡ 0 }
+  parent_goes : (p : ℕ) → old.parent ≡ Some p → new.parent ≡ None
+      → record { here : p ≡ e; whole : count ≡ owed old e; alone : all_owed old ≡ count; waiting : deficit old ≡ 0 }
   parent_goes p was gone =
-      let unowed = goes_unowed p (owed new) (subst (λ (q : Option ℕ). parent_while_owed q (owed new) ≡ None) was (sym change.parent ∙ gone)) in
+      let unowed = goes_unowed p (owed new)
+      (subst (λ (q : Option ℕ). parent_while_owed q (owed new) ≡ None) was (sym change.parent ∙ gone)) in
       let owing = sound.engaged p was in
       let here : p ≡ e = grind (arith, nat_tests, less_owed p) in
       let whole : count ≡ owed old e = grind (arith, nat_tests, less_owed e, ap (owed new) here, were_owed) in
       let parent_is : old.parent ≡ Some e = was ∙ ap Some here in
-      let enough : owed old e ≤ acknowledgeable e (Some e) (owed old e) (all_owed old) (deficit old) true = subst (λ (q : Option ℕ). owed old e ≤ acknowledgeable e q (owed old e) (all_owed old) (deficit old) true) parent_is (omega (arith, whole, allowed)) in
-      let done = all_when_done e (owed old e) (all_owed old) (deficit old) true (omega (arith, owing, ap (owed old) here)) enough in
+      let enough : owed old e ≤ acknowledgeable e (Some e) (owed old e) (all_owed old) (deficit old) true =
+      subst (λ (q : Option ℕ). owed old e ≤ acknowledgeable e q (owed old e) (all_owed old) (deficit old) true)
+      parent_is (omega (arith, whole, allowed)) in
+      let done = all_when_done e (owed old e) (all_owed old) (deficit old) true
+      (omega (arith, owing, ap (owed old) here)) enough in
       record { here = here; whole = whole; alone = omega (arith, done.0, whole); waiting = done.2 }
 
   nothing_left : (parent : Option ℕ) → old.parent ≡ parent → new.parent ≡ None → all_owed new ≡ 0
@@ -46,7 +54,8 @@ module _ (old new : Books) (e count : ℕ) (sound : IsSound old) (on : Contains 
     neutral = nothing_left old.parent refl;
   }
 
-  pub last_acknowledgement : (parent : Option ℕ) → old.parent ≡ parent → is_some parent ≡ true → new.parent ≡ None → IsLastAcknowledgement old new (Acked e count)
+  pub last_acknowledgement : (parent : Option ℕ) → old.parent ≡ parent → is_some parent ≡ true → new.parent ≡ None
+      → IsLastAcknowledgement old new (Acked e count)
   last_acknowledgement None was engaged gone = cc
   last_acknowledgement (Some p) was engaged gone =
       let last = parent_goes p was gone in
@@ -59,7 +68,8 @@ module _ (old new : Books) (e count : ℕ) (sound : IsSound old) (on : Contains 
         step = refl;
         on_parent = parent_is;
         allowed_passive = allowed;
-        refused_active = rw parent_is (omega (arith, active_keeps_one e (owed old e) (all_owed old) (deficit old), last.whole, owing));
+        refused_active = rw parent_is
+            (omega (arith, active_keeps_one e (owed old e) (all_owed old) (deficit old), last.whole, owing));
         owes_nothing = λ i. omega (arith, none, open_within_total new.ins i);
         nothing_owed = none;
         no_deficit = ap deficit_of change.outs ∙ last.waiting;
@@ -68,7 +78,8 @@ module _ (old new : Books) (e count : ℕ) (sound : IsSound old) (on : Contains 
       deficit_of : List Tally → ℕ
       deficit_of ts = all_open ts
 
-module _ (old new : Books) (e : ℕ) (sound : IsSound old) (on : Contains (in_edges old) e) (room : got_of old e < message_limit) (change : Gets old new e) where
+module _ (old new : Books) (e : ℕ) (sound : IsSound old) (on : Contains (in_edges old) e)
+    (room : got_of old e < message_limit) (change : Gets old new e) where
   more_owed : (i : ℕ) → owed new i ≡ (if eqb e i then owed old i + 1 else owed old i)
   more_owed = message_opens old.ins new.ins e sound.ins change.ins
 
@@ -90,7 +101,8 @@ module _ (old new : Books) (e : ℕ) (sound : IsSound old) (on : Contains (in_ed
   }
 
 -- a step that leaves the edges into the vertex and its parent alone
-out_step_keeps : (old new : Books) → IsSound old → AreTallies new.outs → new.ins ≡ old.ins → new.parent ≡ old.parent → IsSound new
+out_step_keeps : (old new : Books) → IsSound old → AreTallies new.outs → new.ins ≡ old.ins → new.parent ≡ old.parent
+    → IsSound new
 out_step_keeps old new sound outs ins parent = record {
   ins = rw ins sound.ins;
   outs = outs;
@@ -98,17 +110,22 @@ out_step_keeps old new sound outs ins parent = record {
   neutral = λ is. subst (λ (ts : List Tally). all_open ts ≡ 0) (sym ins) (sound.neutral (sym parent ∙ is));
 }
 
-pub sending_keeps : (old new : Books) (e : ℕ) → IsSound old → sent_of old e < message_limit → Sends old new e → IsSound new
-sending_keeps old new e sound room change = out_step_keeps old new sound (message_tallies old.outs new.outs e sound.outs change.outs room) change.ins change.parent
+pub sending_keeps : (old new : Books) (e : ℕ) → IsSound old → sent_of old e < message_limit → Sends old new e
+    → IsSound new
+sending_keeps old new e sound room change = out_step_keeps old new sound
+    (message_tallies old.outs new.outs e sound.outs change.outs room) change.ins change.parent
 
-pub settling_keeps : (old new : Books) (e count : ℕ) → IsSound old → count ≤ outstanding old e → Settles old new e count → IsSound new
-settling_keeps old new e count sound waited change = out_step_keeps old new sound (answers_tallies old.outs new.outs e count sound.outs change.outs waited) change.ins change.parent
+pub settling_keeps : (old new : Books) (e count : ℕ) → IsSound old → count ≤ outstanding old e → Settles old new e count
+    → IsSound new
+settling_keeps old new e count sound waited change = out_step_keeps old new sound
+    (answers_tallies old.outs new.outs e count sound.outs change.outs waited) change.ins change.parent
 
 pub steps_keep_soundness : StepsKeepSoundness
 steps_keep_soundness old new (Got e) sound may made = getting_keeps old new e sound may.0 may.1 made
 steps_keep_soundness old new (Acked e n) sound may made = acknowledging_keeps old new e n sound may.0 may.1 made
 steps_keep_soundness old new (Sent e) sound may made = sending_keeps old new e sound may.1 made
-steps_keep_soundness old new (Settled e word) sound may made = settling_keeps old new e _ sound (omega (arith, may.1, may.2)) made
+steps_keep_soundness old new (Settled e word) sound may made =
+    settling_keeps old new e _ sound (omega (arith, may.1, may.2)) made
 
 disengaged : (parent : Option ℕ) → is_some parent ≡ false → parent ≡ None
 disengaged None neutral = refl
@@ -122,45 +139,72 @@ got_engaged e None new same is = cc
 got_engaged e (Some p) new same is = cc
 
 pub neutral_only_when_done : NeutralOnlyWhenDone
-neutral_only_when_done old new (Got e) sound may made was is = absurd (got_engaged e old.parent new.parent made.parent is)
-neutral_only_when_done old new (Acked e n) sound may made was is = last_acknowledgement old new e n sound may.0 may.1 made old.parent refl was (disengaged new.parent is)
-neutral_only_when_done old new (Sent e) sound may made was is = absurd (still_engaged old.parent new.parent made.parent was is)
-neutral_only_when_done old new (Settled e word) sound may made was is = absurd (still_engaged old.parent new.parent made.parent was is)
+neutral_only_when_done old new (Got e) sound may made was is =
+    absurd (got_engaged e old.parent new.parent made.parent is)
+neutral_only_when_done old new (Acked e n) sound may made was is =
+    last_acknowledgement old new e n sound may.0 may.1 made old.parent refl was (disengaged new.parent is)
+neutral_only_when_done old new (Sent e) sound may made was is =
+    absurd (still_engaged old.parent new.parent made.parent was is)
+neutral_only_when_done old new (Settled e word) sound may made was is =
+    absurd (still_engaged old.parent new.parent made.parent was is)
 
 pub fresh_is_sound : (b : Books) → AreTallies b.ins → AreTallies b.outs → all_owed b ≡ 0 → b.parent ≡ None → IsSound b
-fresh_is_sound b ins outs nothing parent = record { ins = ins; outs = outs; engaged = λ p is. absurd (none_is_some p (sym parent ∙ is)); neutral = λ is. nothing }
+fresh_is_sound b ins outs nothing parent =
+    record {
+      ins = ins;
+      outs = outs;
+      engaged = λ p is. absurd (none_is_some p (sym parent ∙ is));
+      neutral = λ is. nothing;
+    }
   where
     none_is_some : (p : ℕ) → None ≡ Some p → ⊥
     none_is_some p same = cc
 
 -- the same, as the two branches of the code have it
-module _ (old : Books) (ins : List Tally) (e count : ℕ) (sound : IsSound old) (on : Contains (in_edges old) e) (allowed : count ≤ may_ack old e true) (adds : AddsAnswers old.ins ins e count) where
-  pub freed : option_eq nat_eq old.parent (Some e) ≡ true → open_on ins e ≡ 0 → IsSound (record { ins = ins; outs = old.outs; parent = None })
+module _ (old : Books) (ins : List Tally) (e count : ℕ) (sound : IsSound old) (on : Contains (in_edges old) e)
+    (allowed : count ≤ may_ack old e true) (adds : AddsAnswers old.ins ins e count) where
+  pub freed : option_eq nat_eq old.parent (Some e) ≡ true → open_on ins e ≡ 0
+      → IsSound (record { ins = ins; outs = old.outs; parent = None })
   freed on_parent unowed =
-      acknowledging_keeps old (record { ins = ins; outs = old.outs; parent = None }) e count sound on allowed (record { ins = adds; outs = refl; parent = gone old.parent on_parent })
+      acknowledging_keeps old (record { ins = ins; outs = old.outs; parent = None }) e count sound on allowed
+      (record { ins = adds; outs = refl; parent = gone old.parent on_parent })
     where
-      gone : (parent : Option ℕ) → option_eq nat_eq parent (Some e) ≡ true → None ≡ parent_while_owed parent (open_on ins)
+      gone : (parent : Option ℕ) → option_eq nat_eq parent (Some e) ≡ true
+          → None ≡ parent_while_owed parent (open_on ins)
       gone None same = cc
-      gone (Some p) same = let here : p ≡ e = grind (arith, nat_tests) in grind (arith, nat_tests, ap (open_on ins) here)
+      gone (Some p) same = let here : p ≡ e = grind (arith, nat_tests) in
+          grind (arith, nat_tests, ap (open_on ins) here)
 
-  pub kept : (option_eq nat_eq old.parent (Some e) ≡ true → open_on ins e ≢ 0) → IsSound (record { ins = ins; outs = old.outs; parent = old.parent })
+  pub kept : (option_eq nat_eq old.parent (Some e) ≡ true → open_on ins e ≢ 0)
+      → IsSound (record { ins = ins; outs = old.outs; parent = old.parent })
   kept owing =
-      acknowledging_keeps old (record { ins = ins; outs = old.outs; parent = old.parent }) e count sound on allowed (record { ins = adds; outs = refl; parent = stays old.parent refl owing })
+      acknowledging_keeps old (record { ins = ins; outs = old.outs; parent = old.parent }) e count sound on allowed
+      (record { ins = adds; outs = refl; parent = stays old.parent refl owing })
     where
-      stays : (parent : Option ℕ) → old.parent ≡ parent → (option_eq nat_eq parent (Some e) ≡ true → open_on ins e ≢ 0) → parent ≡ parent_while_owed parent (open_on ins)
+      stays : (parent : Option ℕ) → old.parent ≡ parent → (option_eq nat_eq parent (Some e) ≡ true → open_on ins e ≢ 0)
+          → parent ≡ parent_while_owed parent (open_on ins)
       stays None was owing = refl
       stays (Some p) was owing =
-          let were_owed : count ≤ owed old e = omega (arith, allowed, within_owed e old.parent (owed old e) (all_owed old) (deficit old) true) in
+          let were_owed : count ≤ owed old e = omega
+          (arith, allowed, within_owed e old.parent (owed old e) (all_owed old) (deficit old) true) in
           let still : open_on ins p ≢ 0 = elim (eqb_tells p e) [
             | inl (test, here) ↦ λ unowed. owing test (sym (ap (open_on ins) here) ∙ unowed)
-            | inr (test, other) ↦ λ unowed. grind (arith, nat_tests, answers_close old.ins ins e count sound.ins adds were_owed p, sound.engaged p was)
+            | inr (test, other) ↦ λ unowed. grind
+                (arith, nat_tests, answers_close old.ins ins e count sound.ins adds were_owed p, sound.engaged p was)
           ] in
           grind (arith, nat_tests)
 
 pub parent_goes_with_all : ParentGoesWithAll
 parent_goes_with_all old new e count sound were_owed change = change.parent ∙ by_parent old.parent refl
   where
-    by_parent : (parent : Option ℕ) → old.parent ≡ parent → parent_while_owed parent (owed new) ≡ (if is_parent e parent && eqb count (owed old e) then None else parent)
+    by_parent : (parent : Option ℕ) → old.parent ≡ parent
+        → parent_while_owed parent (owed new) ≡ (if is_parent e parent && eqb count (owed old e) then None else parent)
     by_parent None was = refl
     by_parent (Some p) was =
-        grind (arith, nat_tests, answers_close old.ins new.ins e count sound.ins change.ins were_owed p, sound.engaged p was, λ (same : p ≡ e). ap (owed old) same)
+        grind (
+          arith,
+          nat_tests,
+          answers_close old.ins new.ins e count sound.ins change.ins were_owed p,
+          sound.engaged p was,
+          λ (same : p ≡ e). ap (owed old) same,
+        )

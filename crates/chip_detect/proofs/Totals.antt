@@ -11,7 +11,8 @@ sum_same f g [] same = refl
 sum_same f g (x ∷ xs) same = omega (arith, sum_by-cons f x xs, sum_by-cons g x xs, same x, sum_same f g xs same)
 
 -- an edge that isn't among them changes nothing
-sum_elsewhere : (f g : ℕ → ℕ) (xs : List ℕ) (e more : ℕ) → Adds f g e more → ((i : ℕ) → i < length xs → get_or xs i 0 ≢ e) → sum_by g xs ≡ sum_by f xs
+sum_elsewhere : (f g : ℕ → ℕ) (xs : List ℕ) (e more : ℕ) → Adds f g e more
+    → ((i : ℕ) → i < length xs → get_or xs i 0 ≢ e) → sum_by g xs ≡ sum_by f xs
 sum_elsewhere f g [] e more adds other = refl
 sum_elsewhere f g (x ∷ xs) e more adds other =
     let rest = sum_elsewhere f g xs e more adds (λ i in_range. other (suc i) (omega arith)) in
@@ -19,7 +20,8 @@ sum_elsewhere f g (x ∷ xs) e more adds other =
     omega (arith, sum_by-cons f x xs, sum_by-cons g x xs)
 
 -- one that is among them changes the sum by as much
-pub sum_adds : (f g : ℕ → ℕ) (xs : List ℕ) (i e more : ℕ) → Ascends xs → i < length xs → get_or xs i 0 ≡ e → Adds f g e more → sum_by g xs ≡ sum_by f xs + more
+pub sum_adds : (f g : ℕ → ℕ) (xs : List ℕ) (i e more : ℕ) → Ascends xs → i < length xs → get_or xs i 0 ≡ e
+    → Adds f g e more → sum_by g xs ≡ sum_by f xs + more
 sum_adds f g [] i e more up in_range at adds = absurd (omega arith)
 sum_adds f g (x ∷ xs) zero e more up in_range at adds =
     let here : g x ≡ f x + more = grind (arith, nat_tests, adds x) in

@@ -1,7 +1,8 @@
 -- Tallies of edges: how many messages there were on each edge, and how many of them are answered.
 -- On an edge into a vertex a message is answered by the vertex's own acknowledgement, on an edge
 -- out of it by one that the vertex has settled. What isn't answered is open.
-use Rattle.std.specs.Prelude.{◌≡◌, ℕ, ◌+◌, ◌-◌, ◌^◌, ◌≤◌, ◌==◌, if◌then◌else◌, List, [], ◌∷◌, length, map, sum_by, Contains}
+use Rattle.std.specs.Prelude.{◌≡◌, ℕ, ◌+◌, ◌-◌, ◌^◌, ◌≤◌, ◌==◌, if◌then◌else◌, List, [], ◌∷◌, length, map, sum_by}
+use Rattle.std.specs.Prelude.{Contains}
 use Rattle.std.specs.List.Sorted.{IsStrictlyIncreasing}
 pub use Rattle.chip_detect.specs.declared.tallies.Tally.{Tally}
 

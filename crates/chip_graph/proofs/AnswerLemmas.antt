@@ -1,5 +1,7 @@
 -- A graph has no fault, and nothing has two first faults.
-use Rattle.std.proofs.Common.{◌≡◌, ◌≢◌, ℕ, zero, suc, ◌+◌, ◌^◌, ◌<◌, ◌≤◌, ◌⊎◌, Bool, true, false, eqb, ltb, leb, not, ◌&&◌, List, [], ◌∷◌, length, Option, Some, None, refl, sym, ap, ◌∙◌, subst, arith, ne_eqb, lt-ltb, le-leb, ⊎_elim}
+use Rattle.std.proofs.Common.{◌≡◌, ◌≢◌, ℕ, zero, suc, ◌+◌, ◌^◌, ◌<◌, ◌≤◌, ◌⊎◌, Bool, true, false, eqb, ltb, leb, not}
+use Rattle.std.proofs.Common.{◌&&◌, List, [], ◌∷◌, length, Option, Some, None, refl, sym, ap, ◌∙◌, subst, arith, ne_eqb}
+use Rattle.std.proofs.Common.{lt-ltb, le-leb, ⊎_elim}
 use Rattle.std.proofs.lemmas.Bool.{and_from}
 use mathlib.Core.Logic.{dite}
 use native.Mathlib.Decide.{dec_lt}
@@ -8,7 +10,8 @@ use Rattle.chip_graph.specs.declared.fault.GraphFault.{GraphFault}
 use Rattle.chip_graph.specs.declared.fault.GraphFault.TheVariants as graph_fault
 use Rattle.chip_graph.specs.Ends.{edge_of}
 use Rattle.chip_graph.specs.Multigraph.{Multigraph, IsEdge, IsGraph}
-use Rattle.chip_graph.specs.Faults.{first_of_faults, unless, fault_of_edge, fault_of_edges, fault_of_rows, IsUnreached, IsGraphFault}
+use Rattle.chip_graph.specs.Faults.{first_of_faults, unless, fault_of_edge, fault_of_edges, fault_of_rows, IsUnreached}
+use Rattle.chip_graph.specs.Faults.{IsGraphFault}
 
 module _ {F : Type 0} where
   -- a test that is passed leaves the later faults
@@ -22,20 +25,26 @@ module _ {F : Type 0} where
 
 edge_none : (vertices sink i : ℕ) (edge : Edge) → IsEdge vertices sink edge → fault_of_edge vertices sink i edge ≡ None
 edge_none vertices sink i edge ok =
-    after (ltb edge.tail vertices && ltb edge.head vertices) (graph_fault.Endpoint i) _ (and_from _ _ (lt-ltb _ _ ok.tail_is_vertex) (lt-ltb _ _ ok.head_is_vertex))
-    ∙ after (ltb 0 edge.mult && leb edge.mult (2 ^ 20)) (graph_fault.Mult i) _ (and_from _ _ (lt-ltb 0 _ ok.some_chips) (le-leb _ (2 ^ 20) ok.few_chips))
+    after (ltb edge.tail vertices && ltb edge.head vertices) (graph_fault.Endpoint i) _
+    (and_from _ _ (lt-ltb _ _ ok.tail_is_vertex) (lt-ltb _ _ ok.head_is_vertex))
+    ∙ after (ltb 0 edge.mult && leb edge.mult (2 ^ 20)) (graph_fault.Mult i) _
+    (and_from _ _ (lt-ltb 0 _ ok.some_chips) (le-leb _ (2 ^ 20) ok.few_chips))
     ∙ after (not (eqb edge.tail edge.head)) (graph_fault.Loop i) _ (ap not (ne_eqb _ _ ok.no_loop))
     ∙ alone (not (eqb edge.tail sink)) (graph_fault.FromSink i) (ap not (ne_eqb _ _ ok.not_from_sink))
 
-edges_none : (vertices sink i : ℕ) (edges : List Edge) → ((e : ℕ) → e < length edges → IsEdge vertices sink (edge_of edges e)) → fault_of_edges vertices sink i edges ≡ None
+edges_none : (vertices sink i : ℕ) (edges : List Edge)
+    → ((e : ℕ) → e < length edges → IsEdge vertices sink (edge_of edges e))
+    → fault_of_edges vertices sink i edges ≡ None
 edges_none vertices sink i [] ok = refl
 edges_none vertices sink i (edge ∷ edges) ok =
-    ap (λ (f : Option GraphFault). first_of_faults f (fault_of_edges vertices sink (suc i) edges)) (edge_none vertices sink i edge (ok 0 (omega arith)))
+    ap (λ (f : Option GraphFault). first_of_faults f (fault_of_edges vertices sink (suc i) edges))
+    (edge_none vertices sink i edge (ok 0 (omega arith)))
     ∙ edges_none vertices sink (suc i) edges (λ e l. ok (suc e) (omega arith))
 
 rows_none : (G : Multigraph) → IsGraph G → fault_of_rows G ≡ None
 rows_none G ok =
-    after (ltb 0 G.vertices && leb G.vertices 4096) graph_fault.Vertices _ (and_from _ _ (lt-ltb 0 _ ok.some_vertex) (le-leb _ 4096 ok.few_vertices))
+    after (ltb 0 G.vertices && leb G.vertices 4096) graph_fault.Vertices _
+    (and_from _ _ (lt-ltb 0 _ ok.some_vertex) (le-leb _ 4096 ok.few_vertices))
     ∙ after (ltb G.sink G.vertices) graph_fault.Sink _ (lt-ltb _ _ ok.sink_is_vertex)
     ∙ after (leb (length G.edges) 65536) graph_fault.EdgeCount _ (le-leb _ 65536 ok.few_edges)
     ∙ edges_none G.vertices G.sink 0 G.edges ok.edges_fit
@@ -49,14 +58,17 @@ same_unreached G v w at_v at_w = dite (dec_lt v w)
 some_none : (o : Option GraphFault) (fault : GraphFault) → o ≡ Some fault → o ≡ None → ⊥
 some_none o fault is none = cc
 
-pub one_answer_lem : (G : Multigraph) (fault : GraphFault) → IsGraphFault G fault → (IsGraph G → ⊥) × ((other : GraphFault) → IsGraphFault G other → other ≡ fault)
+pub one_answer_lem : (G : Multigraph) (fault : GraphFault) → IsGraphFault G fault
+    → (IsGraph G → ⊥) × ((other : GraphFault) → IsGraphFault G other → other ≡ fault)
 one_answer_lem G fault of = (
-  λ ok. ⊎_elim (λ is. some_none (fault_of_rows G) fault is (rows_none G ok)) (λ missing. missing.3.unreached (ok.all_reach missing.1 missing.3.is_vertex)) of,
+  λ ok. ⊎_elim (λ is. some_none (fault_of_rows G) fault is (rows_none G ok))
+      (λ missing. missing.3.unreached (ok.all_reach missing.1 missing.3.is_vertex)) of,
   λ other also. ⊎_elim
       (λ is. ⊎_elim (λ is'. cc) (λ missing. absurd (some_none (fault_of_rows G) fault is missing.0)) also)
       (λ missing. ⊎_elim
       (λ is'. absurd (some_none (fault_of_rows G) other is' missing.0))
-      (λ missing'. missing'.2 ∙ ap graph_fault.Unreached (same_unreached G missing'.1 missing.1 missing'.3 missing.3) ∙ sym missing.2)
+      (λ missing'. missing'.2 ∙ ap graph_fault.Unreached (same_unreached G missing'.1 missing.1 missing'.3 missing.3)
+      ∙ sym missing.2)
       also)
       of,
 )

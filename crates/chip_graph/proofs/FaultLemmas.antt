@@ -1,5 +1,7 @@
 -- What follows where no fault was found in the rows of a graph.
-use Rattle.std.proofs.Common.{◌≡◌, ℕ, zero, suc, ◌^◌, ◌<◌, ◌≤◌, Bool, true, false, ltb, leb, ◌&&◌, List, [], ◌∷◌, length, get_or, Option, Some, None, Ok, refl, sym, ap, ◌∙◌, subst, arith, leb-true, map, take}
+use Rattle.std.proofs.Common.{◌≡◌, ℕ, zero, suc, ◌^◌, ◌<◌, ◌≤◌, Bool, true, false, ltb, leb, ◌&&◌, List, [], ◌∷◌}
+use Rattle.std.proofs.Common.{length, get_or, Option, Some, None, Ok, refl, sym, ap, ◌∙◌, subst, arith, leb-true, map}
+use Rattle.std.proofs.Common.{take}
 use Rattle.std.proofs.lemmas.List.{length-map, length-take-le, get_or-map, get_or-take, get_or_default}
 use Rattle.std.proofs.lemmas.Bool.{and_parts, not-true, eqb-false}
 use borrow.Author.Tests.{ltb-true}
@@ -44,10 +46,12 @@ edge_ok vertices sink i edge is =
       not_from_sink = eqb-false _ _ (not-true _ (passed _ _ loops.1));
     }
 
-edges_ok : (vertices sink i : ℕ) (edges : List Edge) → fault_of_edges vertices sink i edges ≡ None → (e : ℕ) → e < length edges → IsEdge vertices sink (edge_of edges e)
+edges_ok : (vertices sink i : ℕ) (edges : List Edge) → fault_of_edges vertices sink i edges ≡ None → (e : ℕ)
+    → e < length edges → IsEdge vertices sink (edge_of edges e)
 edges_ok vertices sink i [] is e l = absurd (omega arith)
 edges_ok vertices sink i (edge ∷ edges) is zero l = edge_ok vertices sink i edge (none_of _ _ is).0
-edges_ok vertices sink i (edge ∷ edges) is (suc e) l = edges_ok vertices sink (suc i) edges (none_of _ _ is).1 e (omega arith)
+edges_ok vertices sink i (edge ∷ edges) is (suc e) l = edges_ok vertices sink (suc i) edges (none_of _ _ is).1 e
+    (omega arith)
 
 module _ (G : Multigraph) (is : fault_of_rows G ≡ None) where
   pub rows_vertices : (0 < G.vertices) × (G.vertices ≤ 4096)
@@ -83,14 +87,19 @@ module _ (G : Multigraph) (is : fault_of_rows G ≡ None) where
   }
 
 -- what stands before a place that all distances fill
-pub some_before : (distances : List ℕ) (found : List (Option ℕ)) (v u : ℕ) → v ≤ length found → map Some distances ≡ take v found → u < v → (d : ℕ) × (get_or found u None ≡ Some d)
+pub some_before : (distances : List ℕ) (found : List (Option ℕ)) (v u : ℕ) → v ≤ length found
+    → map Some distances ≡ take v found → u < v → (d : ℕ) × (get_or found u None ≡ Some d)
 some_before distances found v u le same l =
-    let many : length distances ≡ v = sym (length-map distances Some) ∙ ap length same ∙ length-take-le v found le in
-    (get_or distances u 0, sym (get_or-take v found u None l) ∙ ap (λ (ds : List (Option ℕ)). get_or ds u None) (sym same) ∙ get_or-map Some distances u 0 None (omega arith))
+    let many : length distances ≡ v = sym (length-map distances Some) ∙ ap length same ∙ length-take-le v found le in (
+      get_or distances u 0,
+      sym (get_or-take v found u None l)
+          ∙ ap (λ (ds : List (Option ℕ)). get_or ds u None) (sym same) ∙ get_or-map Some distances u 0 None (omega arith),
+    )
 
 -- the tails as a fact on each edge
 pub rows_tails : (G : Multigraph) → fault_of_rows G ≡ None → All (λ (edge : Edge). edge.tail < G.vertices) G.edges
-rows_tails G is e d l = subst (λ (edge : Edge). edge.tail < G.vertices) (get_or_default G.edges e (record { tail = 0; head = 0; mult = 0 }) d l) (rows_end G is Tail e l)
+rows_tails G is e d l = subst (λ (edge : Edge). edge.tail < G.vertices)
+    (get_or_default G.edges e (record { tail = 0; head = 0; mult = 0 }) d l) (rows_end G is Tail e l)
 
 -- no multiplicity is large
 pub rows_mults : (G : Multigraph) → fault_of_rows G ≡ None → (e : ℕ) → e < length G.edges → (edge_at G e).mult ≤ 2 ^ 20

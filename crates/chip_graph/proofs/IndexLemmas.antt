@@ -1,5 +1,6 @@
 -- What a graph keeps beside its edges is what follows from them.
-use Rattle.std.proofs.Common.{◌≡◌, ℕ, zero, suc, ◌<◌, ◌⊎◌, List, [], ◌∷◌, length, map, get_or, Option, Some, None, Result, Ok, Err, slice_get, refl, sym, ap, ◌∙◌, subst, arith, inr}
+use Rattle.std.proofs.Common.{◌≡◌, ℕ, zero, suc, ◌<◌, ◌⊎◌, List, [], ◌∷◌, length, map, get_or, Option, Some, None}
+use Rattle.std.proofs.Common.{Result, Ok, Err, slice_get, refl, sym, ap, ◌∙◌, subst, arith, inr}
 use Rattle.std.specs.List.{All}
 use Rattle.std.specs.Result.{IsErrAnd}
 use Rattle.std.proofs.lemmas.List.{length-map, get_or-map}
@@ -15,32 +16,38 @@ use Rattle.chip_graph.specs.Distances.{IsDistanceOf, AreDistances}
 -- W is the type of the lists in the code, of which `items` gives the members
 module _ {W : Type 0} (items : W → List ℕ) where
   -- a list that is there, by its place
-  pub listed : (lists : List W) (v : ℕ) (list : W) → slice_get lists v ≡ Some list → (v < length lists) × (get_or (map items lists) v [] ≡ items list)
+  pub listed : (lists : List W) (v : ℕ) (list : W) → slice_get lists v ≡ Some list
+      → (v < length lists) × (get_or (map items lists) v [] ≡ items list)
   listed lists v list is =
       let inside = slice_get_within lists v list is in
       (inside, get_or-map items lists v list [] inside ∙ ap items (get_or_from_slice_get lists v list list is))
 
   -- what is true of each list, by its members
-  pub all_listed : (P : List ℕ → Type 0) (lists : List W) → ((v : ℕ) → v < length lists → P (get_or (map items lists) v [])) → All (λ list. P (items list)) lists
+  pub all_listed : (P : List ℕ → Type 0) (lists : List W)
+      → ((v : ℕ) → v < length lists → P (get_or (map items lists) v [])) → All (λ list. P (items list)) lists
   all_listed P lists each v list l = subst P (get_or-map items lists v list [] l) (each v l)
 
   -- what is made of each list stands where the list stood
-  pub made_listed : {T : Type 0} (make : List ℕ → List T) (lists : List W) (v : ℕ) → v < length lists → get_or (map (λ list. make (items list)) lists) v [] ≡ make (get_or (map items lists) v [])
+  pub made_listed : {T : Type 0} (make : List ℕ → List T) (lists : List W) (v : ℕ) → v < length lists
+      → get_or (map (λ list. make (items list)) lists) v [] ≡ make (get_or (map items lists) v [])
   made_listed make [] v l = absurd (omega arith)
   made_listed make (list ∷ lists) zero l = refl
   made_listed make (list ∷ lists) (suc v) l = made_listed make lists v (omega arith)
 
 -- a vertex that has a distance reaches the sink
-reaches : (G : Multigraph) (v : ℕ) (found : Option ℕ) (d : ℕ) → found ≡ Some d → IsDistanceOf G v found → ReachesSink G v
+reaches : (G : Multigraph) (v : ℕ) (found : Option ℕ) (d : ℕ) → found ≡ Some d → IsDistanceOf G v found
+    → ReachesSink G v
 reaches G v found d is of = let at : IsDistance G v d = subst (IsDistanceOf G v) is of in (at.reached.0, at.reached.1)
 
 -- all distances are there
-module _ (G : Multigraph) (found : List (Option ℕ)) (are : AreDistances G found) (distances : List ℕ) (all : map Some distances ≡ found) where
+module _ (G : Multigraph) (found : List (Option ℕ)) (are : AreDistances G found) (distances : List ℕ)
+    (all : map Some distances ≡ found) where
   pub distances_each : length distances ≡ G.vertices
   distances_each = sym (length-map distances Some) ∙ ap length all ∙ are.one_each
 
   found_at : (v : ℕ) → v < G.vertices → get_or found v None ≡ Some (get_or distances v 0)
-  found_at v l = ap (λ (ds : List (Option ℕ)). get_or ds v None) (sym all) ∙ get_or-map Some distances v 0 None (let each = distances_each in omega arith)
+  found_at v l = ap (λ (ds : List (Option ℕ)). get_or ds v None) (sym all)
+      ∙ get_or-map Some distances v 0 None (let each = distances_each in omega arith)
 
   pub distances_are : (v : ℕ) → v < G.vertices → IsDistance G v (get_or distances v 0)
   distances_are v l = subst (IsDistanceOf G v) (found_at v l) (are.each v l)
@@ -49,7 +56,9 @@ module _ (G : Multigraph) (found : List (Option ℕ)) (are : AreDistances G foun
   all_reach v l = reaches G v (get_or found v None) (get_or distances v 0) (found_at v l) (are.each v l)
 
 -- the first distance that is missing names the fault
-pub unreached_fault : (G : Multigraph) (found : List (Option ℕ)) → AreDistances G found → fault_of_rows G ≡ None → (v : ℕ) (fault : GraphFault) → fault ≡ graph_fault.Unreached v → v < length found → get_or found v None ≡ None → ((u : ℕ) → u < v → (d : ℕ) × (get_or found u None ≡ Some d)) → IsGraphFault G fault
+pub unreached_fault : (G : Multigraph) (found : List (Option ℕ)) → AreDistances G found → fault_of_rows G ≡ None
+    → (v : ℕ) (fault : GraphFault) → fault ≡ graph_fault.Unreached v → v < length found → get_or found v None ≡ None
+    → ((u : ℕ) → u < v → (d : ℕ) × (get_or found u None ≡ Some d)) → IsGraphFault G fault
 unreached_fault G found are none v fault is l missing before =
     inr (
       none,
@@ -58,17 +67,23 @@ unreached_fault G found are none v fault is l missing before =
       record {
         is_vertex = (let each = are.one_each in omega arith);
         unreached = subst (IsDistanceOf G v) missing (are.each v (let each = are.one_each in omega arith));
-        least = λ u m. reaches G u (get_or found u None) (before u m).0 (before u m).1 (are.each u (let each = are.one_each in omega arith));
+        least = λ u m. reaches G u (get_or found u None) (before u m).0 (before u m).1
+            (are.each u (let each = are.one_each in omega arith));
       },
     )
 
 -- a refusal for a reason that holds is an answer
-pub refused : (G : Multigraph) (result : Result Multigraph GraphFault) (fault : GraphFault) → IsErrAnd result (λ e. e ≡ fault) → ((fault ≡ graph_fault.NoMemory) × (fault_of_rows G ≡ None)) ⊎ IsGraphFault G fault → MakesGraph G result
+pub refused : (G : Multigraph) (result : Result Multigraph GraphFault) (fault : GraphFault)
+    → IsErrAnd result (λ e. e ≡ fault) → ((fault ≡ graph_fault.NoMemory) × (fault_of_rows G ≡ None))
+    ⊎ IsGraphFault G fault → MakesGraph G result
 refused G (Ok graph) fault is why = absurd is
-refused G (Err e) fault is why = let P : GraphFault → Type 0 = (λ f. ((f ≡ graph_fault.NoMemory) × (fault_of_rows G ≡ None)) ⊎ IsGraphFault G f) in subst P (sym is) why
+refused G (Err e) fault is why = let P : GraphFault
+    → Type 0 = (λ f. ((f ≡ graph_fault.NoMemory) × (fault_of_rows G ≡ None)) ⊎ IsGraphFault G f) in subst P (sym is) why
 
 -- what stands beside the edges of a graph stands beside the same edges elsewhere
-pub copied : (n s : ℕ) {es es' : List Edge} {ds ds' ts ts' : List ℕ} {os os' is is' : List (List ℕ)} {ls ls' : List (List Edge)}
+pub copied : (n s : ℕ) {es es' : List Edge} {ds ds' ts ts' : List ℕ} {os os' is is' : List (List ℕ)}
+    {ls ls' : List (List Edge)}
     → es' ≡ es → ds' ≡ ds → ts' ≡ ts → os' ≡ os → is' ≡ is → ls' ≡ ls
-    → IsIndex (record { vertices = n; sink = s; edges = es }) ds ts os is ls → IsIndex (record { vertices = n; sink = s; edges = es' }) ds' ts' os' is' ls'
+    → IsIndex (record { vertices = n; sink = s; edges = es }) ds ts os is ls
+    → IsIndex (record { vertices = n; sink = s; edges = es' }) ds' ts' os' is' ls'
 copied n s e d t o i l h = rw e (rw d (rw t (rw o (rw i (rw l h)))))

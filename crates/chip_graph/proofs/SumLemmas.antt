@@ -1,5 +1,7 @@
 -- Sums over the numbers below n, the same sums with a test, and sums over lists of the numbers that pass it.
-use Rattle.std.proofs.Common.{◌≡◌, ◌≢◌, ℕ, zero, suc, ◌+◌, ◌-◌, ◌*◌, ◌<◌, ◌≤◌, Bool, true, false, cond, eqb, List, [], ◌∷◌, ◌++◌, length, sum, get_or, refl, sym, ap, ◌∙◌, subst, arith, append-nil, eq-eqb, ne_eqb}
+use Rattle.std.proofs.Common.{◌≡◌, ◌≢◌, ℕ, zero, suc, ◌+◌, ◌-◌, ◌*◌, ◌<◌, ◌≤◌, Bool, true, false, cond, eqb, List, []}
+use Rattle.std.proofs.Common.{◌∷◌, ◌++◌, length, sum, get_or, refl, sym, ap, ◌∙◌, subst, arith, append-nil, eq-eqb}
+use Rattle.std.proofs.Common.{ne_eqb}
 use mathlib.Core.Logic.{dite}
 use native.Mathlib.Decide.{ℕ_discrete}
 use Rattle.std.specs.List.{sum_by}
@@ -39,7 +41,8 @@ by_test false yes' no' = no' refl
 -- equal terms make equal sums
 pub sum_below_ext : (n : ℕ) (f h : ℕ → ℕ) → ((e : ℕ) → e < n → f e ≡ h e) → sum_below n f ≡ sum_below n h
 sum_below_ext zero f h p = refl
-sum_below_ext (suc n) f h p = let a = sum_below_ext n f h (λ e l. p e (omega arith)) in let b = p n (omega arith) in omega arith
+sum_below_ext (suc n) f h p = let a = sum_below_ext n f h (λ e l. p e (omega arith)) in let b = p n (omega arith) in
+    omega arith
 
 -- a sum of sums
 pub sum_below_add : (n : ℕ) (f h : ℕ → ℕ) → sum_below n (λ e. f e + h e) ≡ sum_below n f + sum_below n h
@@ -54,22 +57,26 @@ sum_below_scale (suc n) k f = let a = sum_below_scale n k f in omega (arith, Rat
 -- smaller terms make a smaller sum
 pub sum_below_le : (n : ℕ) (f h : ℕ → ℕ) → ((e : ℕ) → e < n → f e ≤ h e) → sum_below n f ≤ sum_below n h
 sum_below_le zero f h p = omega arith
-sum_below_le (suc n) f h p = let a = sum_below_le n f h (λ e l. p e (omega arith)) in let b = p n (omega arith) in omega arith
+sum_below_le (suc n) f h p = let a = sum_below_le n f h (λ e l. p e (omega arith)) in let b = p n (omega arith) in
+    omega arith
 
 -- a sum of zeros
 pub sum_below_none : (n : ℕ) (f : ℕ → ℕ) → ((e : ℕ) → e < n → f e ≡ 0) → sum_below n f ≡ 0
 sum_below_none zero f p = refl
-sum_below_none (suc n) f p = let a = sum_below_none n f (λ e l. p e (omega arith)) in let b = p n (omega arith) in omega arith
+sum_below_none (suc n) f p = let a = sum_below_none n f (λ e l. p e (omega arith)) in let b = p n (omega arith) in
+    omega arith
 
 -- where the sum is 0, each term is
 pub sum_below_zero : (n : ℕ) (f : ℕ → ℕ) → sum_below n f ≡ 0 → (e : ℕ) → e < n → f e ≡ 0
 sum_below_zero zero f z e l = absurd (omega arith)
-sum_below_zero (suc n) f z e l = dite (ℕ_discrete e n) (λ same. ap f same ∙ (let b : f n ≡ 0 = omega arith in b)) (λ other. sum_below_zero n f (omega arith) e (omega arith))
+sum_below_zero (suc n) f z e l = dite (ℕ_discrete e n) (λ same. ap f same ∙ (let b : f n ≡ 0 = omega arith in b))
+    (λ other. sum_below_zero n f (omega arith) e (omega arith))
 
 -- a term is at most the sum
 pub sum_below_term : (n : ℕ) (f : ℕ → ℕ) (e : ℕ) → e < n → f e ≤ sum_below n f
 sum_below_term zero f e l = absurd (omega arith)
-sum_below_term (suc n) f e l = dite (ℕ_discrete e n) (λ same. let b : f e ≡ f n = ap f same in omega arith) (λ other. let b = sum_below_term n f e (omega arith) in omega arith)
+sum_below_term (suc n) f e l = dite (ℕ_discrete e n) (λ same. let b : f e ≡ f n = ap f same in omega arith)
+    (λ other. let b = sum_below_term n f e (omega arith) in omega arith)
 
 -- two terms are at most the sum
 pub sum_below_terms : (n : ℕ) (f : ℕ → ℕ) (i j : ℕ) → i < n → j < n → i ≢ j → f i + f j ≤ sum_below n f
@@ -81,20 +88,28 @@ sum_below_terms (suc n) f i j l m ne = dite (ℕ_discrete i n)
     (λ neither. let b = sum_below_terms n f i j (omega arith) (omega arith) ne in omega arith))
 
 -- sums that differ at one place
-pub sum_below_move : (n : ℕ) (f h : ℕ → ℕ) (j : ℕ) → j < n → ((e : ℕ) → e < n → e ≢ j → f e ≡ h e) → sum_below n f + h j ≡ sum_below n h + f j
+pub sum_below_move : (n : ℕ) (f h : ℕ → ℕ) (j : ℕ) → j < n → ((e : ℕ) → e < n → e ≢ j → f e ≡ h e)
+    → sum_below n f + h j ≡ sum_below n h + f j
 sum_below_move zero f h j l p = absurd (omega arith)
 sum_below_move (suc n) f h j l p = dite (ℕ_discrete j n)
-    (λ same. let a = sum_below_ext n f h (λ e m. p e (omega arith) (omega arith)) in let b : f j ≡ f n = ap f same in let c : h j ≡ h n = ap h same in omega arith)
-    (λ other. let a = sum_below_move n f h j (omega arith) (λ e m. p e (omega arith)) in let b = p n (omega arith) (λ z. other (sym z)) in omega arith)
+    (λ same. let a = sum_below_ext n f h (λ e m. p e (omega arith) (omega arith)) in let b : f j ≡ f n = ap f same in
+    let c : h j ≡ h n = ap h same in omega arith)
+    (λ other. let a = sum_below_move n f h j (omega arith) (λ e m. p e (omega arith)) in
+    let b = p n (omega arith) (λ z. other (sym z)) in omega arith)
 
 -- a sum is that of its front and its rest
 pub sum_below_split : (m n : ℕ) (f : ℕ → ℕ) → sum_below (m + n) f ≡ sum_below m f + sum_below n (λ i. f (m + i))
-sum_below_split m zero f = ap (λ (k : ℕ). sum_below k f) (let z : m + zero ≡ m = omega arith in z) ∙ (let z : sum_below m f ≡ sum_below m f + 0 = omega arith in z)
-sum_below_split m (suc n) f = ap (λ (k : ℕ). sum_below k f) (let z : m + suc n ≡ suc (m + n) = omega arith in z) ∙ (let a = sum_below_split m n f in let z : sum_below (m + n) f + f (m + n) ≡ sum_below m f + (sum_below n (λ i. f (m + i)) + f (m + n)) = omega arith in z)
+sum_below_split m zero f = ap (λ (k : ℕ). sum_below k f) (let z : m + zero ≡ m = omega arith in z)
+    ∙ (let z : sum_below m f ≡ sum_below m f + 0 = omega arith in z)
+sum_below_split m (suc n) f = ap (λ (k : ℕ). sum_below k f) (let z : m + suc n ≡ suc (m + n) = omega arith in z)
+    ∙ (let a = sum_below_split m n f in
+    let z : sum_below (m + n) f + f (m + n) ≡ sum_below m f + (sum_below n (λ i. f (m + i)) + f (m + n)) = omega arith
+    in z)
 
 -- a sum with one term
 pub sum_below_one : (n : ℕ) (f : ℕ → ℕ) (j : ℕ) → j < n → ((e : ℕ) → e < n → e ≢ j → f e ≡ 0) → sum_below n f ≡ f j
-sum_below_one n f j l p = let a = sum_below_move n f (λ e. 0) j l p in let b = sum_below_none n (λ e. 0) (λ e m. refl) in omega arith
+sum_below_one n f j l p = let a = sum_below_move n f (λ e. 0) j l p in let b = sum_below_none n (λ e. 0) (λ e m. refl)
+    in omega arith
 
 -- what a sum has come to before a term, and this term, are at most the whole
 pub sum_below_front : (n : ℕ) (f : ℕ → ℕ) (i : ℕ) → i < n → sum_below i f + f i ≤ sum_below n f
@@ -104,12 +119,15 @@ sum_below_front (suc n) f i l = dite (ℕ_discrete i n)
     (λ other. let a = sum_below_front n f i (omega arith) in omega arith)
 
 -- each of m things goes to one place below n, so the sums by place add up to the sum over all
-pub sum_below_by_place : (n m : ℕ) (h : ℕ → ℕ) (place : ℕ → ℕ) → ((e : ℕ) → e < m → place e < n) → sum_below n (λ u. sum_below m (λ e. cond (eqb (place e) u) (h e) 0)) ≡ sum_below m h
+pub sum_below_by_place : (n m : ℕ) (h : ℕ → ℕ) (place : ℕ → ℕ) → ((e : ℕ) → e < m → place e < n)
+    → sum_below n (λ u. sum_below m (λ e. cond (eqb (place e) u) (h e) 0)) ≡ sum_below m h
 sum_below_by_place n zero h place inside = sum_below_none n (λ u. 0) (λ u l. refl)
 sum_below_by_place n (suc m) h place inside =
-    let a = sum_below_add n (λ u. sum_below m (λ e. cond (eqb (place e) u) (h e) 0)) (λ u. cond (eqb (place m) u) (h m) 0) in
+    let a = sum_below_add n (λ u. sum_below m (λ e. cond (eqb (place e) u) (h e) 0))
+    (λ u. cond (eqb (place m) u) (h m) 0) in
     let b = sum_below_by_place n m h place (λ e l. inside e (omega arith)) in
-    let c = sum_below_one n (λ u. cond (eqb (place m) u) (h m) 0) (place m) (inside m (omega arith)) (λ u l ne. cond_no (place m) u (h m) 0 (λ z. ne (sym z))) in
+    let c = sum_below_one n (λ u. cond (eqb (place m) u) (h m) 0) (place m) (inside m (omega arith))
+    (λ u l ne. cond_no (place m) u (h m) 0 (λ z. ne (sym z))) in
     let d = cond_yes (place m) (place m) (h m) 0 refl in
     omega arith
 
@@ -131,27 +149,34 @@ sum_by_place (x ∷ xs) =
 
 module _ (n : ℕ) (t : ℕ → Bool) where
   -- equal terms where the test passes
-  pub tested_ext : (f h : ℕ → ℕ) → ((e : ℕ) → e < n → t e ≡ true → f e ≡ h e) → sum_below n (λ e. cond (t e) (f e) 0) ≡ sum_below n (λ e. cond (t e) (h e) 0)
+  pub tested_ext : (f h : ℕ → ℕ) → ((e : ℕ) → e < n → t e ≡ true → f e ≡ h e)
+      → sum_below n (λ e. cond (t e) (f e) 0) ≡ sum_below n (λ e. cond (t e) (h e) 0)
   tested_ext f h p = sum_below_ext n _ _ (λ e l. cond_same (t e) (f e) (h e) 0 (p e l))
 
   -- a sum of sums
-  pub tested_add : (f h : ℕ → ℕ) → sum_below n (λ e. cond (t e) (f e + h e) 0) ≡ sum_below n (λ e. cond (t e) (f e) 0) + sum_below n (λ e. cond (t e) (h e) 0)
-  tested_add f h = sum_below_ext n (λ e. cond (t e) (f e + h e) 0) (λ e. cond (t e) (f e) 0 + cond (t e) (h e) 0) (λ e l. one (t e) (f e) (h e)) ∙ sum_below_add n (λ e. cond (t e) (f e) 0) (λ e. cond (t e) (h e) 0)
+  pub tested_add : (f h : ℕ → ℕ)
+      → sum_below n (λ e. cond (t e) (f e + h e) 0) ≡ sum_below n (λ e. cond (t e) (f e) 0) + sum_below n
+      (λ e. cond (t e) (h e) 0)
+  tested_add f h = sum_below_ext n (λ e. cond (t e) (f e + h e) 0) (λ e. cond (t e) (f e) 0 + cond (t e) (h e) 0)
+      (λ e l. one (t e) (f e) (h e)) ∙ sum_below_add n (λ e. cond (t e) (f e) 0) (λ e. cond (t e) (h e) 0)
     where
       one : (b : Bool) (x y : ℕ) → cond b (x + y) 0 ≡ cond b x 0 + cond b y 0
       one true x y = refl
       one false x y = refl
 
   -- a common factor
-  pub tested_scale : (k : ℕ) (f : ℕ → ℕ) → sum_below n (λ e. cond (t e) (f e * k) 0) ≡ sum_below n (λ e. cond (t e) (f e) 0) * k
-  tested_scale k f = sum_below_ext n (λ e. cond (t e) (f e * k) 0) (λ e. cond (t e) (f e) 0 * k) (λ e l. one (t e) (f e)) ∙ sum_below_scale n k (λ e. cond (t e) (f e) 0)
+  pub tested_scale : (k : ℕ) (f : ℕ → ℕ)
+      → sum_below n (λ e. cond (t e) (f e * k) 0) ≡ sum_below n (λ e. cond (t e) (f e) 0) * k
+  tested_scale k f = sum_below_ext n (λ e. cond (t e) (f e * k) 0) (λ e. cond (t e) (f e) 0 * k)
+      (λ e l. one (t e) (f e)) ∙ sum_below_scale n k (λ e. cond (t e) (f e) 0)
     where
       one : (b : Bool) (x : ℕ) → cond b (x * k) 0 ≡ cond b x 0 * k
       one true x = refl
       one false x = omega arith
 
   -- smaller terms where the test passes
-  pub tested_le : (f h : ℕ → ℕ) → ((e : ℕ) → e < n → t e ≡ true → f e ≤ h e) → sum_below n (λ e. cond (t e) (f e) 0) ≤ sum_below n (λ e. cond (t e) (h e) 0)
+  pub tested_le : (f h : ℕ → ℕ) → ((e : ℕ) → e < n → t e ≡ true → f e ≤ h e)
+      → sum_below n (λ e. cond (t e) (f e) 0) ≤ sum_below n (λ e. cond (t e) (h e) 0)
   tested_le f h p = sum_below_le n _ _ (λ e l. one (t e) (f e) (h e) (p e l))
     where
       one : (b : Bool) (x y : ℕ) → (b ≡ true → x ≤ y) → cond b x 0 ≤ cond b y 0
@@ -172,24 +197,29 @@ module _ (n : ℕ) (t : ℕ → Bool) where
 
   -- a term that passes is at most the sum
   pub tested_term : (f : ℕ → ℕ) (e : ℕ) → e < n → t e ≡ true → f e ≤ sum_below n (λ e. cond (t e) (f e) 0)
-  tested_term f e l on = subst (λ (x : ℕ). x ≤ sum_below n (λ e. cond (t e) (f e) 0)) (cond_true (t e) (f e) 0 on) (sum_below_term n (λ e. cond (t e) (f e) 0) e l)
+  tested_term f e l on = subst (λ (x : ℕ). x ≤ sum_below n (λ e. cond (t e) (f e) 0)) (cond_true (t e) (f e) 0 on)
+      (sum_below_term n (λ e. cond (t e) (f e) 0) e l)
 
   -- two terms that pass are at most the sum
-  pub tested_terms : (f : ℕ → ℕ) (i j : ℕ) → i < n → j < n → i ≢ j → t i ≡ true → t j ≡ true → f i + f j ≤ sum_below n (λ e. cond (t e) (f e) 0)
+  pub tested_terms : (f : ℕ → ℕ) (i j : ℕ) → i < n → j < n → i ≢ j → t i ≡ true → t j ≡ true
+      → f i + f j ≤ sum_below n (λ e. cond (t e) (f e) 0)
   tested_terms f i j l m ne on too =
       let a = sum_below_terms n (λ e. cond (t e) (f e) 0) i j l m ne in
       let b = cond_true (t i) (f i) 0 on in let c = cond_true (t j) (f j) 0 too in omega arith
 
   -- sums that differ at one place that passes
-  pub tested_move : (f h : ℕ → ℕ) (j : ℕ) → j < n → t j ≡ true → ((e : ℕ) → e < n → e ≢ j → t e ≡ true → f e ≡ h e) → sum_below n (λ e. cond (t e) (f e) 0) + h j ≡ sum_below n (λ e. cond (t e) (h e) 0) + f j
+  pub tested_move : (f h : ℕ → ℕ) (j : ℕ) → j < n → t j ≡ true → ((e : ℕ) → e < n → e ≢ j → t e ≡ true → f e ≡ h e)
+      → sum_below n (λ e. cond (t e) (f e) 0) + h j ≡ sum_below n (λ e. cond (t e) (h e) 0) + f j
   tested_move f h j l on p =
-      let a = sum_below_move n (λ e. cond (t e) (f e) 0) (λ e. cond (t e) (h e) 0) j l (λ e m ne. cond_same (t e) (f e) (h e) 0 (p e m ne)) in
+      let a = sum_below_move n (λ e. cond (t e) (f e) 0) (λ e. cond (t e) (h e) 0) j l
+      (λ e m ne. cond_same (t e) (f e) (h e) 0 (p e m ne)) in
       let b = cond_true (t j) (f j) 0 on in let c = cond_true (t j) (h j) 0 on in omega arith
 
 -- ---- the numbers that pass a test, as a list
 
 -- a sum over the list of those that pass is the sum with the test
-pub picked_sum : (f : ℕ → ℕ) (test : ℕ → Bool) (n : ℕ) → sum_by f (picked test n) ≡ sum_below n (λ e. cond (test e) (f e) 0)
+pub picked_sum : (f : ℕ → ℕ) (test : ℕ → Bool) (n : ℕ)
+    → sum_by f (picked test n) ≡ sum_below n (λ e. cond (test e) (f e) 0)
 picked_sum f test zero = refl
 picked_sum f test (suc n) = by_test (test n)
     (λ on.
@@ -199,7 +229,8 @@ picked_sum f test (suc n) = by_test (test n)
     let d = picked_sum f test n in
     omega arith)
     (λ off.
-    let a = ap (sum_by f) (ap (λ (l : List ℕ). picked test n ++ l) (cond_false (test n) (n ∷ []) [] off) ∙ append-nil (picked test n)) in
+    let a = ap (sum_by f) (ap (λ (l : List ℕ). picked test n ++ l) (cond_false (test n) (n ∷ []) [] off)
+    ∙ append-nil (picked test n)) in
     let c = cond_false (test n) (f n) 0 off in
     let d = picked_sum f test n in
     omega arith)

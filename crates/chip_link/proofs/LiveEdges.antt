@@ -1,18 +1,29 @@
--- One edge end to end: behind every list of steps there are the lists of counts that `Link` speaks of, and so its laws hold.
-use Rattle.std.proofs.Common.{◌≡◌, ◌≢◌, ◌⊎◌, inl, inr, ⊎_elim, option_map, ℕ, ◌+◌, ◌-◌, ◌%◌, ◌^◌, ◌<◌, ◌≤◌, Bool, true, false, ◌&&◌, cond, ltb, List, [], ◌∷◌, ◌++◌, length, take, drop, get_or, set, replicate, Option, Some, None, option_to_list, is_none, is_some, refl, sym, ap, ◌∙◌, subst, arith, append_assoc, append-nil, true≢false, ltb-true}
+-- One edge end to end: behind every list of steps there are the lists of counts that `Link` speaks of, and so its laws
+-- hold.
+use Rattle.std.proofs.Common.{◌≡◌, ◌≢◌, ◌⊎◌, inl, inr, ⊎_elim, option_map, ℕ, ◌+◌, ◌-◌, ◌%◌, ◌^◌, ◌<◌, ◌≤◌, Bool, true}
+use Rattle.std.proofs.Common.{false, ◌&&◌, cond, ltb, List, [], ◌∷◌, ◌++◌, length, take, drop, get_or, set, replicate}
+use Rattle.std.proofs.Common.{Option, Some, None, option_to_list, is_none, is_some, refl, sym, ap, ◌∙◌, subst, arith}
+use Rattle.std.proofs.Common.{append_assoc, append-nil, true≢false, ltb-true}
 use Rattle.std.proofs.lemmas.Bool.{and_parts}
-use Rattle.std.proofs.lemmas.List.{get_or-set_same, get_or-set_other, length-set, length-replicate, get_or-replicate, get_or_past, take-append-drop}
+use Rattle.std.proofs.lemmas.List.{get_or-set_same, get_or-set_other, length-set, length-replicate, get_or-replicate}
+use Rattle.std.proofs.lemmas.List.{get_or_past, take-append-drop}
 use Rattle.std.proofs.lemmas.Nat.{mod_below}
 use mathlib.Core.Logic.{dite}
 use native.Mathlib.Decide.{ℕ_discrete, dec_lt}
 use Rattle.chip_link.specs.declared.message.Message.{Message}
 use Rattle.chip_link.specs.Words.{exchanged, edge_word}
-use Rattle.chip_link.specs.Ends.{TailState, HeadState, may_clear, tail_cell, head_cell, tail_after_clear, tail_after_claim, tail_after_put, message_claimed, put_of, is_count, head_after_take, message_taken}
-use Rattle.chip_link.specs.Link.{Tail, fresh_tail, sent_counts, claims_of, after_clear, after_claim, after_put, after_take, after_seal, word_of, tail_state, head_state, IsSealedAt, Sound, Shows}
-use Rattle.chip_link.specs.Edge.{LiveEdge, EdgeStep, Clear, Claim, Put, Take, Seal, opened, step, steps, stored, claim_on, take_on}
+use Rattle.chip_link.specs.Ends.{TailState, HeadState, may_clear, tail_cell, head_cell, tail_after_clear}
+use Rattle.chip_link.specs.Ends.{tail_after_claim, tail_after_put, message_claimed, put_of, is_count, head_after_take}
+use Rattle.chip_link.specs.Ends.{message_taken}
+use Rattle.chip_link.specs.Link.{Tail, fresh_tail, sent_counts, claims_of, after_clear, after_claim, after_put}
+use Rattle.chip_link.specs.Link.{after_take, after_seal, word_of, tail_state, head_state, IsSealedAt, Sound, Shows}
+use Rattle.chip_link.specs.Edge.{LiveEdge, EdgeStep, Clear, Claim, Put, Take, Seal, opened, step, steps, stored}
+use Rattle.chip_link.specs.Edge.{claim_on, take_on}
 use Rattle.chip_link.specs.Laws.{AreInOrder, TakesPrefix, ClaimsInOrder, NothingAfterSeal, WordTells, SealsAllClaims}
-use Rattle.chip_link.proofs.Sounds.{cond_yes, cond_no, none_held, length-sent_counts, none-some, clear_sound, claim_sound, put_sound, take_sound, seal_sound, fresh_sound}
-use Rattle.chip_link.proofs.Shown.{clear_sees, clear_shows, claim_shows, put_shows, take_sees, take_shows, seal_shows, fresh_shows}
+use Rattle.chip_link.proofs.Sounds.{cond_yes, cond_no, none_held, length-sent_counts, none-some, clear_sound}
+use Rattle.chip_link.proofs.Sounds.{claim_sound, put_sound, take_sound, seal_sound, fresh_sound}
+use Rattle.chip_link.proofs.Shown.{clear_sees, clear_shows, claim_shows, put_shows, take_sees, take_shows, seal_shows}
+use Rattle.chip_link.proofs.Shown.{fresh_shows}
 use Rattle.chip_link.proofs.States.{tail_clears, tail_claims, tail_puts, puts_at, head_takes}
 use Rattle.chip_link.proofs.Numbering.{numbered, numbered-append, length-numbered, numbered_in_order, numbered_prefix}
 
@@ -48,12 +59,14 @@ held_cases : (h : Option ℕ) → (h ≡ None) ⊎ ((c : ℕ) × (h ≡ Some c))
 held_cases None = inl refl
 held_cases (Some c) = inr (c, refl)
 
-module _ (edge ring : ℕ) (some_ring : 0 < ring) (s : LiveEdge) (t : Tail) (got : List ℕ) (f : Follows edge ring s t got) where
+module _ (edge ring : ℕ) (some_ring : 0 < ring) (s : LiveEdge) (t : Tail) (got : List ℕ)
+    (f : Follows edge ring s t got) where
   -- a look, whether it counts or not
   after_look : HasLists edge ring (step Clear s)
   after_look =
       let seen : ℕ = get_or s.cells (tail_cell s.tail) 0 in
-      let cell_is : seen ≡ get_or s.cells (claims_of t % ring) 0 = ap (λ (u : TailState). get_or s.cells (tail_cell u) 0) f.tail_is in
+      let cell_is : seen ≡ get_or s.cells (claims_of t % ring) 0 =
+      ap (λ (u : TailState). get_or s.cells (tail_cell u) 0) f.tail_is in
       by_test (may_clear (tail_state edge ring t))
       (λ may.
       let parts = and_parts _ _ may in
@@ -68,7 +81,8 @@ module _ (edge ring : ℕ) (some_ring : 0 < ring) (s : LiveEdge) (t : Tail) (got
           taken_is = f.taken_is;
           cells_are = f.cells_are;
           shows = clear_shows ring some_ring s.word _ t got s.stop f.sound f.shows seen;
-          sound = clear_sound ring some_ring t got s.stop f.sound seen none (cell_is ∙ clear_sees ring some_ring s.word _ t got s.stop f.sound f.shows none);
+          sound = clear_sound ring some_ring t got s.stop f.sound seen none (cell_is
+              ∙ clear_sees ring some_ring s.word _ t got s.stop f.sound f.shows none);
           few = f.few;
           fewer = λ _. below;
         },
@@ -96,14 +110,19 @@ module _ (edge ring : ℕ) (some_ring : 0 < ring) (s : LiveEdge) (t : Tail) (got
       let below = f.fewer is_clear in
       let all_put = none_held t none in
       let word' : ℕ = exchanged s.tail.claims (s.tail.claims + 1) s.word in
-      let word_is : word' ≡ exchanged (claims_of t) (claims_of t + 1) s.word = ap (λ (u : TailState). exchanged u.claims (u.claims + 1) s.word) f.tail_is in
+      let word_is : word' ≡ exchanged (claims_of t) (claims_of t + 1) s.word =
+      ap (λ (u : TailState). exchanged u.claims (u.claims + 1) s.word) f.tail_is in
       let tail_is = ap (tail_after_claim s.word count) f.tail_is ∙ tail_claims edge ring t count s.word none in
       let sound = claim_sound ring some_ring t got s.stop f.sound count s.word some_count is_clear f.shows.word_is in
       let shows = claim_shows ring some_ring s.word _ t got s.stop f.sound f.shows count word' none
-      (λ hit. word_is ∙ cond_yes s.word (claims_of t) _ _ hit) (λ miss. word_is ∙ cond_no s.word (claims_of t) _ _ miss) in
-      let message_is : option_to_list (message_claimed s.word count s.tail) ≡ option_to_list (message_claimed s.word count (tail_state edge ring t))
+      (λ hit. word_is ∙ cond_yes s.word (claims_of t) _ _ hit) (λ miss. word_is ∙ cond_no s.word (claims_of t) _ _ miss)
+      in
+      let message_is : option_to_list (message_claimed s.word count s.tail)
+      ≡ option_to_list (message_claimed s.word count (tail_state edge ring t))
       = ap (λ (u : TailState). option_to_list (message_claimed s.word count u)) f.tail_is in
-      let claimed_as : (u : Tail) → after_claim count s.word t ≡ u → s.claimed ++ option_to_list (message_claimed s.word count s.tail) ≡ numbered edge 0 (sent_counts u) → claims_of u ≤ 2 ^ 62 → u.clear ≡ false → HasLists edge ring (claim_on count s)
+      let claimed_as : (u : Tail) → after_claim count s.word t ≡ u
+      → s.claimed ++ option_to_list (message_claimed s.word count s.tail) ≡ numbered edge 0 (sent_counts u)
+      → claims_of u ≤ 2 ^ 62 → u.clear ≡ false → HasLists edge ring (claim_on count s)
       = λ u e claimed few not_clear. (
         u,
         got,
@@ -122,15 +141,20 @@ module _ (edge ring : ℕ) (some_ring : 0 < ring) (s : LiveEdge) (t : Tail) (got
       dite (ℕ_discrete s.word (claims_of t))
       (λ hit.
       let m : Message = record { edge = edge; place = claims_of t; count = count } in
-      let one : option_to_list (message_claimed s.word count s.tail) ≡ m ∷ [] = message_is ∙ ap option_to_list (cond_yes s.word (claims_of t) _ _ hit) in
-      let old : s.claimed ≡ numbered edge 0 t.put = f.claimed_is ∙ ap (λ (h : Option ℕ). numbered edge 0 (t.put ++ option_to_list h)) none ∙ ap (numbered edge 0) (append-nil t.put) in
+      let one : option_to_list (message_claimed s.word count s.tail) ≡ m ∷ [] = message_is
+      ∙ ap option_to_list (cond_yes s.word (claims_of t) _ _ hit) in
+      let old : s.claimed ≡ numbered edge 0 t.put = f.claimed_is
+      ∙ ap (λ (h : Option ℕ). numbered edge 0 (t.put ++ option_to_list h)) none
+      ∙ ap (numbered edge 0) (append-nil t.put) in
       claimed_as (record t { held = Some count; clear = false }) (cond_yes s.word (claims_of t) _ _ hit)
       (ap (λ (ms : List Message). s.claimed ++ ms) one ∙ ap (λ (ms : List Message). ms ++ m ∷ []) old
-      ∙ ap (λ (n : ℕ). numbered edge 0 t.put ++ numbered edge n (count ∷ [])) (let place : claims_of t ≡ 0 + length t.put = omega arith in place)
+      ∙ ap (λ (n : ℕ). numbered edge 0 t.put ++ numbered edge n (count ∷ []))
+      (let place : claims_of t ≡ 0 + length t.put = omega arith in place)
       ∙ sym (numbered-append edge 0 t.put (count ∷ [])))
       (omega arith) refl)
       (λ miss.
-      let nothing : option_to_list (message_claimed s.word count s.tail) ≡ [] = message_is ∙ ap option_to_list (cond_no s.word (claims_of t) _ _ miss) in
+      let nothing : option_to_list (message_claimed s.word count s.tail) ≡ [] = message_is
+      ∙ ap option_to_list (cond_no s.word (claims_of t) _ _ miss) in
       claimed_as (record t { clear = false; refused = true }) (cond_no s.word (claims_of t) _ _ miss)
       (ap (λ (ms : List Message). s.claimed ++ ms) nothing ∙ append-nil s.claimed ∙ f.claimed_is) f.few refl)
 
@@ -148,12 +172,14 @@ module _ (edge ring : ℕ) (some_ring : 0 < ring) (s : LiveEdge) (t : Tail) (got
   after_putting : HasLists edge ring (step Put s)
   after_putting = ⊎_elim
       (λ none.
-      let nothing : put_of s.tail ≡ None = ap put_of f.tail_is ∙ ap (λ (h : Option ℕ). option_map (λ (c : ℕ). ((claims_of t - 1) % ring, c)) h) none in
+      let nothing : put_of s.tail ≡ None = ap put_of f.tail_is
+      ∙ ap (λ (h : Option ℕ). option_map (λ (c : ℕ). ((claims_of t - 1) % ring, c)) h) none in
       let kept : stored (put_of s.tail) s.cells ≡ s.cells = ap (λ (p : Option (ℕ × ℕ)). stored p s.cells) nothing in (
         t,
         got,
         record {
-          tail_is = ap tail_after_put f.tail_is ∙ ap (λ (h : Option ℕ). let u : TailState = record (tail_state edge ring t) { held = h } in u) (sym none);
+          tail_is = ap tail_after_put f.tail_is
+              ∙ ap (λ (h : Option ℕ). let u : TailState = record (tail_state edge ring t) { held = h } in u) (sym none);
           head_is = f.head_is;
           claimed_is = f.claimed_is;
           taken_is = f.taken_is;
@@ -167,9 +193,11 @@ module _ (edge ring : ℕ) (some_ring : 0 < ring) (s : LiveEdge) (t : Tail) (got
       (λ held.
       let count : ℕ = held.0 in let one : t.held ≡ Some count = held.1 in
       let at : ℕ = length t.put % ring in
-      let inside : at < length s.cells = (let m = mod_below (length t.put) ring some_ring in let l = f.cells_are in omega arith) in
+      let inside : at < length s.cells = (let m = mod_below (length t.put) ring some_ring in let l = f.cells_are in
+      omega arith) in
       let put : put_of s.tail ≡ Some (at, count) = ap put_of f.tail_is ∙ puts_at edge ring t count one in
-      let cells_are : stored (put_of s.tail) s.cells ≡ set s.cells at count = ap (λ (p : Option (ℕ × ℕ)). stored p s.cells) put in (
+      let cells_are : stored (put_of s.tail) s.cells ≡ set s.cells at count =
+      ap (λ (p : Option (ℕ × ℕ)). stored p s.cells) put in (
         after_put t,
         got,
         record {
@@ -179,7 +207,8 @@ module _ (edge ring : ℕ) (some_ring : 0 < ring) (s : LiveEdge) (t : Tail) (got
           taken_is = f.taken_is;
           cells_are = ap length cells_are ∙ length-set s.cells at count ∙ f.cells_are;
           shows = subst (λ (l : List ℕ). Shows ring s.word (λ i. get_or l i 0) (after_put t) got s.stop) (sym cells_are)
-              (put_shows ring some_ring s.word _ t got s.stop f.sound f.shows count (λ i. get_or (set s.cells at count) i 0) one
+              (put_shows ring some_ring s.word _ t got s.stop f.sound f.shows count
+              (λ i. get_or (set s.cells at count) i 0) one
               (get_or-set_same s.cells at count 0 inside) (λ i l ne. get_or-set_other s.cells at i count 0 ne));
           sound = put_sound ring some_ring t got s.stop f.sound count one;
           few = (let all = length-sent_counts t in let few = f.few in omega arith);
@@ -194,11 +223,14 @@ module _ (edge ring : ℕ) (some_ring : 0 < ring) (s : LiveEdge) (t : Tail) (got
       let seen : ℕ = get_or s.cells (head_cell s.head) 0 in
       let at : ℕ = length got % ring in
       let cell_is : seen ≡ get_or s.cells at 0 = ap (λ (h : HeadState). get_or s.cells (head_cell h) 0) f.head_is in
-      let inside : at < length s.cells = (let m = mod_below (length got) ring some_ring in let l = f.cells_are in omega arith) in
-      let cells_are : set s.cells (head_cell s.head) 0 ≡ set s.cells at 0 = ap (λ (h : HeadState). set s.cells (head_cell h) 0) f.head_is in
+      let inside : at < length s.cells = (let m = mod_below (length got) ring some_ring in let l = f.cells_are in
+      omega arith) in
+      let cells_are : set s.cells (head_cell s.head) 0 ≡ set s.cells at 0 =
+      ap (λ (h : HeadState). set s.cells (head_cell h) 0) f.head_is in
       let shows = take_shows ring some_ring s.word _ t got s.stop f.sound f.shows (λ i. get_or (set s.cells at 0) i 0)
       (get_or-set_same s.cells at 0 0 inside) (λ i l ne. get_or-set_other s.cells at i 0 0 ne) in
-      let message_is : option_to_list (message_taken seen s.head) ≡ option_to_list (message_taken seen (head_state edge ring got))
+      let message_is : option_to_list (message_taken seen s.head)
+      ≡ option_to_list (message_taken seen (head_state edge ring got))
       = ap (λ (h : HeadState). option_to_list (message_taken seen h)) f.head_is in (
         t,
         after_take seen got,
@@ -207,16 +239,23 @@ module _ (edge ring : ℕ) (some_ring : 0 < ring) (s : LiveEdge) (t : Tail) (got
           head_is = ap (head_after_take seen) f.head_is ∙ head_takes edge ring got seen;
           claimed_is = f.claimed_is;
           taken_is = dite (ℕ_discrete seen 0)
-              (λ none. ap (λ (ms : List Message). s.taken ++ ms) (message_is ∙ ap option_to_list (cond_yes seen 0 _ _ none)) ∙ append-nil s.taken ∙ f.taken_is ∙ ap (numbered edge 0) (sym (cond_yes seen 0 _ _ none)))
+              (λ none. ap (λ (ms : List Message). s.taken ++ ms) (message_is
+              ∙ ap option_to_list (cond_yes seen 0 _ _ none)) ∙ append-nil s.taken ∙ f.taken_is
+              ∙ ap (numbered edge 0) (sym (cond_yes seen 0 _ _ none)))
               (λ found.
               let m : Message = record { edge = edge; place = length got; count = seen } in
-              ap (λ (ms : List Message). s.taken ++ ms) (message_is ∙ ap option_to_list (cond_no seen 0 _ _ found)) ∙ ap (λ (ms : List Message). ms ++ m ∷ []) f.taken_is
-              ∙ ap (λ (n : ℕ). numbered edge 0 got ++ numbered edge n (seen ∷ [])) (let place : length got ≡ 0 + length got = omega arith in place)
+              ap (λ (ms : List Message). s.taken ++ ms) (message_is ∙ ap option_to_list (cond_no seen 0 _ _ found))
+              ∙ ap (λ (ms : List Message). ms ++ m ∷ []) f.taken_is
+              ∙ ap (λ (n : ℕ). numbered edge 0 got ++ numbered edge n (seen ∷ []))
+              (let place : length got ≡ 0 + length got = omega arith in place)
               ∙ sym (numbered-append edge 0 got (seen ∷ [])) ∙ ap (numbered edge 0) (sym (cond_no seen 0 _ _ found)));
           cells_are = ap length cells_are ∙ length-set s.cells at 0 ∙ f.cells_are;
-          shows = subst (λ (l : List ℕ). Shows ring s.word (λ i. get_or l i 0) t (after_take seen got) s.stop) (sym cells_are)
-              (subst (λ (n : ℕ). Shows ring s.word (λ i. get_or (set s.cells at 0) i 0) t (after_take n got) s.stop) (sym cell_is) shows);
-          sound = take_sound ring some_ring t got s.stop f.sound seen (cell_is ∙ take_sees ring some_ring s.word _ t got s.stop f.sound f.shows);
+          shows = subst (λ (l : List ℕ). Shows ring s.word (λ i. get_or l i 0) t (after_take seen got) s.stop)
+              (sym cells_are)
+              (subst (λ (n : ℕ). Shows ring s.word (λ i. get_or (set s.cells at 0) i 0) t (after_take n got) s.stop)
+              (sym cell_is) shows);
+          sound = take_sound ring some_ring t got s.stop f.sound seen (cell_is
+              ∙ take_sees ring some_ring s.word _ t got s.stop f.sound f.shows);
           few = f.few;
           fewer = f.fewer;
         },
@@ -225,8 +264,10 @@ module _ (edge ring : ℕ) (some_ring : 0 < ring) (s : LiveEdge) (t : Tail) (got
   -- a take, whether it is allowed or not
   after_taking : HasLists edge ring (step Take s)
   after_taking = by_test (ltb s.head.taken (2 ^ 62))
-      (λ may. subst (HasLists edge ring) (sym (cond_is _ true (take_on (get_or s.cells (head_cell s.head) 0) s) s may)) taken_on)
-      (λ no. subst (HasLists edge ring) (sym (cond_is _ false (take_on (get_or s.cells (head_cell s.head) 0) s) s no)) (t, got, f))
+      (λ may. subst (HasLists edge ring) (sym (cond_is _ true (take_on (get_or s.cells (head_cell s.head) 0) s) s may))
+      taken_on)
+      (λ no. subst (HasLists edge ring) (sym (cond_is _ false (take_on (get_or s.cells (head_cell s.head) 0) s) s no))
+      (t, got, f))
 
   -- a seal, the first or another
   after_sealing : HasLists edge ring (step Seal s)
@@ -247,23 +288,34 @@ module _ (edge ring : ℕ) (some_ring : 0 < ring) (s : LiveEdge) (t : Tail) (got
   )
 
   -- a sealed edge takes no claim, and stays sealed
-  unclaimed : (first : ℕ) → s.stop ≡ Some first → (x : EdgeStep) → ((step x s).claimed ≡ s.claimed) × ((step x s).stop ≡ Some first)
+  unclaimed : (first : ℕ) → s.stop ≡ Some first → (x : EdgeStep) → ((step x s).claimed ≡ s.claimed)
+      × ((step x s).stop ≡ Some first)
   unclaimed first stop Clear = (refl, stop)
   unclaimed first stop Put = (refl, stop)
   unclaimed first stop Seal = (refl, ap (after_seal s.word) stop)
   unclaimed first stop Take = by_test (ltb s.head.taken (2 ^ 62))
-      (λ may. let e = cond_is _ true (take_on (get_or s.cells (head_cell s.head) 0) s) s may in (ap (λ (u : LiveEdge). u.claimed) e, ap (λ (u : LiveEdge). u.stop) e ∙ stop))
-      (λ no. let e = cond_is _ false (take_on (get_or s.cells (head_cell s.head) 0) s) s no in (ap (λ (u : LiveEdge). u.claimed) e, ap (λ (u : LiveEdge). u.stop) e ∙ stop))
+      (λ may. let e = cond_is _ true (take_on (get_or s.cells (head_cell s.head) 0) s) s may in
+      (ap (λ (u : LiveEdge). u.claimed) e, ap (λ (u : LiveEdge). u.stop) e ∙ stop))
+      (λ no. let e = cond_is _ false (take_on (get_or s.cells (head_cell s.head) 0) s) s no in
+      (ap (λ (u : LiveEdge). u.claimed) e, ap (λ (u : LiveEdge). u.stop) e ∙ stop))
   unclaimed first stop (Claim count) =
       let bit : word_of t s.stop ≡ claims_of t + 2 ^ 63 = ap (λ (o : Option ℕ). word_of t o) stop in
-      let other : s.word ≢ s.tail.claims = λ same. (let w = f.shows.word_is in let n : s.tail.claims ≡ claims_of t = ap (λ (u : TailState). u.claims) f.tail_is in absurd (omega arith)) in
+      let other : s.word ≢ s.tail.claims = λ same. (let w = f.shows.word_is in
+      let n : s.tail.claims ≡ claims_of t = ap (λ (u : TailState). u.claims) f.tail_is in absurd (omega arith)) in
       let nothing : message_claimed s.word count s.tail ≡ None = cond_no s.word s.tail.claims _ _ other in
       by_test (s.tail.clear && is_count count)
-      (λ may. let e = cond_is _ true (claim_on count s) s may in (ap (λ (u : LiveEdge). u.claimed) e ∙ ap (λ (o : Option Message). s.claimed ++ option_to_list o) nothing ∙ append-nil s.claimed, ap (λ (u : LiveEdge). u.stop) e ∙ stop))
-      (λ no. let e = cond_is _ false (claim_on count s) s no in (ap (λ (u : LiveEdge). u.claimed) e, ap (λ (u : LiveEdge). u.stop) e ∙ stop))
+      (λ may. let e = cond_is _ true (claim_on count s) s may in (
+        ap (λ (u : LiveEdge). u.claimed) e ∙ ap (λ (o : Option Message). s.claimed ++ option_to_list o) nothing
+            ∙ append-nil s.claimed,
+        ap (λ (u : LiveEdge). u.stop) e ∙ stop,
+      ))
+      (λ no. let e = cond_is _ false (claim_on count s) s no in
+      (ap (λ (u : LiveEdge). u.claimed) e, ap (λ (u : LiveEdge). u.stop) e ∙ stop))
 
 get_or-zeros : (zeros : List ℕ) (n i : ℕ) → zeros ≡ replicate n 0 → get_or zeros i 0 ≡ 0
-get_or-zeros zeros n i is = dite (dec_lt i n) (λ l. ap (λ (zs : List ℕ). get_or zs i 0) is ∙ get_or-replicate n i 0 0 l) (λ past. get_or_past zeros i 0 (let l : length zeros ≡ n = ap (λ (zs : List ℕ). length zs) is ∙ length-replicate n 0 in omega arith))
+get_or-zeros zeros n i is = dite (dec_lt i n) (λ l. ap (λ (zs : List ℕ). get_or zs i 0) is ∙ get_or-replicate n i 0 0 l)
+    (λ past. get_or_past zeros i 0 (let l : length zeros ≡ n = ap (λ (zs : List ℕ). length zs) is ∙ length-replicate n 0
+    in omega arith))
 
 -- a new edge has empty lists behind it
 opened_follows : (edge ring : ℕ) → 0 < ring → Follows edge ring (opened edge ring) fresh_tail []
@@ -279,20 +331,24 @@ opened_follows edge ring some_ring = record {
   fewer = λ e. absurd (true≢false (sym e));
 }
 
-after_step : (edge ring : ℕ) → 0 < ring → (s : LiveEdge) → HasLists edge ring s → (x : EdgeStep) → HasLists edge ring (step x s)
+after_step : (edge ring : ℕ) → 0 < ring → (s : LiveEdge) → HasLists edge ring s → (x : EdgeStep)
+    → HasLists edge ring (step x s)
 after_step edge ring some_ring s h Clear = after_look edge ring some_ring s h.0 h.1 h.2
 after_step edge ring some_ring s h (Claim count) = after_claiming edge ring some_ring s h.0 h.1 h.2 count
 after_step edge ring some_ring s h Put = after_putting edge ring some_ring s h.0 h.1 h.2
 after_step edge ring some_ring s h Take = after_taking edge ring some_ring s h.0 h.1 h.2
 after_step edge ring some_ring s h Seal = after_sealing edge ring some_ring s h.0 h.1 h.2
 
-after_steps : (edge ring : ℕ) → 0 < ring → (xs : List EdgeStep) (s : LiveEdge) → HasLists edge ring s → HasLists edge ring (steps xs s)
+after_steps : (edge ring : ℕ) → 0 < ring → (xs : List EdgeStep) (s : LiveEdge) → HasLists edge ring s
+    → HasLists edge ring (steps xs s)
 after_steps edge ring some_ring [] s h = h
-after_steps edge ring some_ring (x ∷ xs) s h = after_steps edge ring some_ring xs (step x s) (after_step edge ring some_ring s h x)
+after_steps edge ring some_ring (x ∷ xs) s h = after_steps edge ring some_ring xs (step x s)
+    (after_step edge ring some_ring s h x)
 
 -- every edge that runs has its lists
 pub has_lists : (edge ring : ℕ) → 0 < ring → (xs : List EdgeStep) → HasLists edge ring (steps xs (opened edge ring))
-has_lists edge ring some_ring xs = after_steps edge ring some_ring xs (opened edge ring) (fresh_tail, [], opened_follows edge ring some_ring)
+has_lists edge ring some_ring xs = after_steps edge ring some_ring xs (opened edge ring)
+    (fresh_tail, [], opened_follows edge ring some_ring)
 
 steps-append : (xs ys : List EdgeStep) (s : LiveEdge) → steps (xs ++ ys) s ≡ steps ys (steps xs s)
 steps-append [] ys s = refl
@@ -308,7 +364,9 @@ takes_prefix edge ring some_ring xs =
     let put : List ℕ = h.0.put in let held : List ℕ = option_to_list h.0.held in let got : List ℕ = h.1 in
     let rest : List ℕ = drop (length got) put ++ held in
     let whole : got ++ rest ≡ put ++ held
-    = ap (λ (g : List ℕ). g ++ rest) f.sound.prefix ∙ sym (append_assoc (take (length got) put) (drop (length got) put) held) ∙ ap (λ (l : List ℕ). l ++ held) (take-append-drop (length got) put) in
+    = ap (λ (g : List ℕ). g ++ rest) f.sound.prefix
+    ∙ sym (append_assoc (take (length got) put) (drop (length got) put) held)
+    ∙ ap (λ (l : List ℕ). l ++ held) (take-append-drop (length got) put) in
     let p = numbered_prefix edge got (put ++ held) rest whole in
     (p.0, ap (λ (ms : List Message). ms ++ p.0) f.taken_is ∙ p.1 ∙ sym f.claimed_is)
 
@@ -318,16 +376,21 @@ claims_in_order edge ring some_ring xs =
     subst (AreInOrder edge) (sym h.2.claimed_is) (numbered_in_order edge (sent_counts h.0))
 
 -- the lists have as many claims as there are messages
-claims-claimed : (edge ring : ℕ) (s : LiveEdge) (t : Tail) (got : List ℕ) → Follows edge ring s t got → claims_of t ≡ length s.claimed
-claims-claimed edge ring s t got f = sym (length-sent_counts t) ∙ sym (length-numbered edge 0 (sent_counts t)) ∙ ap (λ (ms : List Message). length ms) (sym f.claimed_is)
+claims-claimed : (edge ring : ℕ) (s : LiveEdge) (t : Tail) (got : List ℕ) → Follows edge ring s t got
+    → claims_of t ≡ length s.claimed
+claims-claimed edge ring s t got f = sym (length-sent_counts t) ∙ sym (length-numbered edge 0 (sent_counts t))
+    ∙ ap (λ (ms : List Message). length ms) (sym f.claimed_is)
 
 pub word_tells : WordTells
 word_tells edge ring some_ring xs =
     let h = has_lists edge ring some_ring xs in
     let f = h.2 in
     let s : LiveEdge = steps xs (opened edge ring) in
-    let all = claims-claimed edge ring s h.0 h.1 f in
-    (f.shows.word_is ∙ ap (λ (n : ℕ). edge_word n (is_some s.stop)) all, ap (λ (u : TailState). u.claims) f.tail_is ∙ all)
+    let all = claims-claimed edge ring s h.0 h.1 f in (
+      f.shows.word_is ∙ ap (λ (n : ℕ). edge_word n (is_some s.stop)) all,
+      ap (λ (u : TailState). u.claims) f.tail_is
+          ∙ all,
+    )
 
 pub seals_all_claims : SealsAllClaims
 seals_all_claims edge ring some_ring xs first stop =
@@ -337,7 +400,8 @@ seals_all_claims edge ring some_ring xs first stop =
     at ∙ claims-claimed edge ring (steps xs (opened edge ring)) h.0 h.1 f
 
 -- from a sealed edge on
-still_unclaimed : (edge ring : ℕ) → 0 < ring → (first : ℕ) (ys : List EdgeStep) (s : LiveEdge) → HasLists edge ring s → s.stop ≡ Some first → (steps ys s).claimed ≡ s.claimed
+still_unclaimed : (edge ring : ℕ) → 0 < ring → (first : ℕ) (ys : List EdgeStep) (s : LiveEdge) → HasLists edge ring s
+    → s.stop ≡ Some first → (steps ys s).claimed ≡ s.claimed
 still_unclaimed edge ring some_ring first [] s h stop = refl
 still_unclaimed edge ring some_ring first (y ∷ ys) s h stop =
     let one = unclaimed edge ring some_ring s h.0 h.1 h.2 first stop y in
@@ -353,4 +417,5 @@ nothing_after_seal edge ring some_ring xs ys =
     let s : LiveEdge = steps xs (opened edge ring) in
     let h = after_step edge ring some_ring s (has_lists edge ring some_ring xs) Seal in
     let at = sealed_first s.word s.stop in
-    ap (λ (u : LiveEdge). u.claimed) (steps-append xs (Seal ∷ ys) (opened edge ring)) ∙ still_unclaimed edge ring some_ring at.0 ys (step Seal s) h at.1
+    ap (λ (u : LiveEdge). u.claimed) (steps-append xs (Seal ∷ ys) (opened edge ring))
+    ∙ still_unclaimed edge ring some_ring at.0 ys (step Seal s) h at.1

@@ -1,5 +1,6 @@
 -- Places of one ring: less than a turn apart, two places have two cells.
-use Rattle.std.proofs.Common.{◌≡◌, ℕ, suc, ◌+◌, ◌*◌, ◌/◌, ◌%◌, ◌<◌, ◌≤◌, sym, ap, ◌∙◌, arith, mul-le-mul_right, suc-mul, lt_of_not-le, div-add-mod'}
+use Rattle.std.proofs.Common.{◌≡◌, ℕ, suc, ◌+◌, ◌*◌, ◌/◌, ◌%◌, ◌<◌, ◌≤◌, sym, ap, ◌∙◌, arith, mul-le-mul_right, suc-mul}
+use Rattle.std.proofs.Common.{lt_of_not-le, div-add-mod'}
 use Rattle.std.proofs.Math.Nat.{add-mul-mod_self_right}
 use mathlib.Core.Logic.{dite}
 use native.Mathlib.Decide.{dec_le}
@@ -20,7 +21,8 @@ one_turn a b n le lt e =
 
 -- within the places of a ring from d on, one cell is one place
 pub same_place : (d ring p q : ℕ) → d ≤ p → p < d + ring → d ≤ q → q < d + ring → p % ring ≡ q % ring → p ≡ q
-same_place d ring p q lp hp lq hq e = dite (dec_le p q) (λ le. one_turn p q ring le (omega arith) e) (λ gt. let le : q ≤ p = omega arith in sym (one_turn q p ring le (omega arith) (sym e)))
+same_place d ring p q lp hp lq hq e = dite (dec_le p q) (λ le. one_turn p q ring le (omega arith) e)
+    (λ gt. let le : q ≤ p = omega arith in sym (one_turn q p ring le (omega arith) (sym e)))
 
 -- one turn of the ring later it is the same cell
 pub next_turn : (d ring : ℕ) → (d + ring) % ring ≡ d % ring

@@ -1,9 +1,12 @@
 -- One edge as it runs: its shared words, its two ends, and the messages that went in and came out.
 -- What an end makes of a step is what `Ends` says of the call that `TailLink` or `HeadLink` has for it.
-use Rattle.std.specs.Prelude.{ℕ, ◌+◌, ◌^◌, ◌&&◌, List, [], ◌∷◌, ◌++◌, replicate, slice_index, slice_set, if◌then◌else◌, nat_lt, Option, Some, None, option_to_list, bit_or}
+use Rattle.std.specs.Prelude.{ℕ, ◌+◌, ◌^◌, ◌&&◌, List, [], ◌∷◌, ◌++◌, replicate, slice_index, slice_set, if◌then◌else◌}
+use Rattle.std.specs.Prelude.{nat_lt, Option, Some, None, option_to_list, bit_or}
 use Rattle.chip_link.specs.declared.message.Message.{Message}
 use Rattle.chip_link.specs.Words.{exchanged}
-use Rattle.chip_link.specs.Ends.{TailState, HeadState, new_tail, new_head, tail_cell, head_cell, tail_after_clear, tail_after_claim, tail_after_put, message_claimed, put_of, is_count, head_after_take, message_taken}
+use Rattle.chip_link.specs.Ends.{TailState, HeadState, new_tail, new_head, tail_cell, head_cell, tail_after_clear}
+use Rattle.chip_link.specs.Ends.{tail_after_claim, tail_after_put, message_claimed, put_of, is_count, head_after_take}
+use Rattle.chip_link.specs.Ends.{message_taken}
 use Rattle.chip_link.specs.Link.{after_seal}
 
 -- the shared words (the edge word and the ring of cells), the two ends, the word that the first seal saw,
@@ -19,10 +22,18 @@ pub record LiveEdge : Type 0 where
 
 -- an edge on which nothing happened
 abbrev pub opened : ℕ → ℕ → LiveEdge
-opened edge ring = record { word = 0; cells = replicate ring 0; tail = new_tail edge ring; head = new_head edge ring; stop = None; claimed = []; taken = [] }
+opened edge ring = record {
+  word = 0;
+  cells = replicate ring 0;
+  tail = new_tail edge ring;
+  head = new_head edge ring;
+  stop = None;
+  claimed = [];
+  taken = [];
+}
 
--- the steps: the tail looks at its cell (`cleared`), claims for a count (`claim_next`, `claimed`) and puts what it claimed (`put_value`),
--- the head takes (`taken`), and a stopper seals
+-- the steps: the tail looks at its cell (`cleared`), claims for a count (`claim_next`, `claimed`) and puts what it
+-- claimed (`put_value`), the head takes (`taken`), and a stopper seals
 pub data EdgeStep : Type 0 where
   Clear : EdgeStep
   Claim : (count : ℕ) → EdgeStep
@@ -51,8 +62,8 @@ take_on cell s = record s {
   taken = s.taken ++ option_to_list (message_taken cell s.head);
 }
 
--- one step. What its call does not allow changes nothing: a claim before the cell was seen empty or for a count out of range,
--- and a take after 2 ^ 62 of them. Of a look and a put the tail itself says so (`may_clear`, `put_of`)
+-- one step. What its call does not allow changes nothing: a claim before the cell was seen empty or for a count out of
+-- range, and a take after 2 ^ 62 of them. Of a look and a put the tail itself says so (`may_clear`, `put_of`)
 abbrev pub step : EdgeStep → LiveEdge → LiveEdge
 step Clear s = record s { tail = tail_after_clear (slice_index s.cells (tail_cell s.tail)) s.tail }
 step (Claim count) s = if s.tail.clear && is_count count then claim_on count s else s

@@ -1,10 +1,12 @@
 -- What the two ends of one edge know, as plain data, and what each call makes of it.
--- `TailLink` and `HeadLink` are seen as these records, and the model of one edge in `Edge` takes its steps by the same definitions.
-use Rattle.std.specs.Prelude.{ℕ, ◌+◌, ◌-◌, ◌%◌, ◌^◌, Bool, true, false, not, ◌&&◌, ◌==◌, nat_lt, nat_le, if◌then◌else◌, Option, Some, None, option_map, is_none}
+-- `TailLink` and `HeadLink` are seen as these records, and the model of one edge in `Edge` takes its steps by the same
+-- definitions.
+use Rattle.std.specs.Prelude.{ℕ, ◌+◌, ◌-◌, ◌%◌, ◌^◌, Bool, true, false, not, ◌&&◌, ◌==◌, nat_lt, nat_le, if◌then◌else◌}
+use Rattle.std.specs.Prelude.{Option, Some, None, option_map, is_none}
 use Rattle.chip_link.specs.declared.message.Message.{Message}
 
--- the tail of an edge with a ring of so many cells: how many messages it claimed, the count of the one that is claimed and not put,
--- whether it saw the cell of the next place empty, and whether a claim was refused by a seal
+-- the tail of an edge with a ring of so many cells: how many messages it claimed, the count of the one that is claimed
+-- and not put, whether it saw the cell of the next place empty, and whether a claim was refused by a seal
 pub record TailState : Type 0 where
   pub edge : ℕ
   pub ring : ℕ
@@ -33,13 +35,17 @@ tail_after_clear cell t = if may_clear t then record t { clear = cell == 0 } els
 abbrev pub claim_words : TailState → Option (ℕ × ℕ)
 claim_words t = if t.clear then Some (t.claims, t.claims + 1) else None
 
--- after a claim for this count that saw this word: it is taken where the word was the expected one, else the edge is sealed
+-- after a claim for this count that saw this word: it is taken where the word was the expected one, else the edge is
+-- sealed
 abbrev pub tail_after_claim : ℕ → ℕ → TailState → TailState
-tail_after_claim word count t = if word == t.claims then record t { claims = t.claims + 1; held = Some count; clear = false } else record t { clear = false; refused = true }
+tail_after_claim word count t = if word == t.claims
+    then record t { claims = t.claims + 1; held = Some count; clear = false }
+    else record t { clear = false; refused = true }
 
 -- the message that such a claim sends
 abbrev pub message_claimed : ℕ → ℕ → TailState → Option Message
-message_claimed word count t = if word == t.claims then Some (record { edge = t.edge; place = t.claims; count = count }) else None
+message_claimed word count t = if word == t.claims then Some (record { edge = t.edge; place = t.claims; count = count })
+    else None
 
 -- the cell and the value to store: the message that is claimed and not put has the last place
 abbrev pub put_of : TailState → Option (ℕ × ℕ)

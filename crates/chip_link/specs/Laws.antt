@@ -26,11 +26,13 @@ ClaimsInOrder = AfterAllSteps (λ edge s. AreInOrder edge s.claimed)
 
 -- after a seal nothing is claimed any more
 abbrev pub NothingAfterSeal : Type 0
-NothingAfterSeal = (edge ring : ℕ) → 0 < ring → (xs ys : List EdgeStep) → (steps (xs ++ Seal ∷ ys) (opened edge ring)).claimed ≡ (steps xs (opened edge ring)).claimed
+NothingAfterSeal = (edge ring : ℕ) → 0 < ring → (xs ys : List EdgeStep)
+    → (steps (xs ++ Seal ∷ ys) (opened edge ring)).claimed ≡ (steps xs (opened edge ring)).claimed
 
 -- the edge word tells how many messages were claimed, as the tail counts them, and whether there was a seal
 abbrev pub WordTells : Type 0
-WordTells = AfterAllSteps (λ edge s. (s.word ≡ edge_word (length s.claimed) (is_some s.stop)) × (s.tail.claims ≡ length s.claimed))
+WordTells = AfterAllSteps (λ edge s. (s.word ≡ edge_word (length s.claimed) (is_some s.stop))
+    × (s.tail.claims ≡ length s.claimed))
 
 -- the number that the first seal saw is how many messages were ever claimed
 abbrev pub SealsAllClaims : Type 0

@@ -1,12 +1,14 @@
--- One edge by the lists of counts that went over it: what its tail claimed and put, what its head took, how it was sealed.
--- Whoever knows all events of an edge speaks of these lists; a running tail or head keeps only numbers (`Ends`). `tail_state` and
--- `head_state` say which numbers go with which lists, and each step here is the step of that name there.
-use Rattle.std.specs.Prelude.{◌≡◌, ℕ, ◌+◌, ◌%◌, ◌<◌, ◌≤◌, Bool, true, false, ◌==◌, if◌then◌else◌, List, [], ◌∷◌, ◌++◌, length, take, slice_index, Option, Some, None, is_some, option_to_list}
+-- One edge by the lists of counts that went over it: what its tail claimed and put, what its head took, how it was
+-- sealed. Whoever knows all events of an edge speaks of these lists; a running tail or head keeps only numbers
+-- (`Ends`). `tail_state` and `head_state` say which numbers go with which lists, and each step here is the step of that
+-- name there.
+use Rattle.std.specs.Prelude.{◌≡◌, ℕ, ◌+◌, ◌%◌, ◌<◌, ◌≤◌, Bool, true, false, ◌==◌, if◌then◌else◌, List, [], ◌∷◌, ◌++◌}
+use Rattle.std.specs.Prelude.{length, take, slice_index, Option, Some, None, is_some, option_to_list}
 use Rattle.chip_link.specs.Words.{edge_word}
 use Rattle.chip_link.specs.Ends.{TailState, HeadState}
 
--- what the tail did on an edge: the counts of the messages that were put, in order; the count of the one that is claimed and not put;
--- the notes that the next cell was seen empty and that a claim was refused
+-- what the tail did on an edge: the counts of the messages that were put, in order; the count of the one that is
+-- claimed and not put; the notes that the next cell was seen empty and that a claim was refused
 pub record Tail : Type 0 where
   pub put : List ℕ
   pub held : Option ℕ
@@ -35,7 +37,8 @@ after_clear cell t = record t { clear = cell == 0 }
 
 -- after a claim for this count that saw this edge word. The test is the one of the exchange
 abbrev pub after_claim : ℕ → ℕ → Tail → Tail
-after_claim count word t = if word == claims_of t then record t { held = Some count; clear = false } else record t { clear = false; refused = true }
+after_claim count word t = if word == claims_of t then record t { held = Some count; clear = false }
+    else record t { clear = false; refused = true }
 
 -- after the store of what is claimed and not put
 abbrev pub after_put : Tail → Tail
@@ -54,7 +57,8 @@ after_seal word (Some first) = Some first
 abbrev pub word_of : Tail → Option ℕ → ℕ
 word_of t stop = edge_word (claims_of t) (is_some stop)
 
--- what the tail sees in the cell of the next place to claim: with a full ring the oldest message that was not taken, else 0
+-- what the tail sees in the cell of the next place to claim: with a full ring the oldest message that was not taken,
+-- else 0
 abbrev pub cell_at_tail : ℕ → Tail → List ℕ → ℕ
 cell_at_tail ring t got = if claims_of t == length got + ring then slice_index t.put (length got) else 0
 
@@ -85,15 +89,22 @@ pub record Sound (ring : ℕ) (t : Tail) (got : List ℕ) (stop : Option ℕ) : 
   -- the tail looks only with empty hands
   pub quiet : t.clear ≡ true → t.held ≡ None
 
--- what the shared words show of it. The cells are told by places, from the next one to take on, as many as the ring has cells:
--- each cell stands for one place, and holds its count where that message was put, else 0
+-- what the shared words show of it. The cells are told by places, from the next one to take on, as many as the ring has
+-- cells: each cell stands for one place, and holds its count where that message was put, else 0
 pub record Shows (ring word : ℕ) (cell : ℕ → ℕ) (t : Tail) (got : List ℕ) (stop : Option ℕ) : Type 0 where
   pub word_is : word ≡ word_of t stop
   pub ring_is : (p : ℕ) → length got ≤ p → p < length got + ring → cell (p % ring) ≡ slice_index t.put p
 
 -- what a running tail knows of these lists
 abbrev pub tail_state : ℕ → ℕ → Tail → TailState
-tail_state edge ring t = record { edge = edge; ring = ring; claims = claims_of t; held = t.held; clear = t.clear; refused = t.refused }
+tail_state edge ring t = record {
+  edge = edge;
+  ring = ring;
+  claims = claims_of t;
+  held = t.held;
+  clear = t.clear;
+  refused = t.refused;
+}
 
 -- what a running head knows of them
 abbrev pub head_state : ℕ → ℕ → List ℕ → HeadState

@@ -1,7 +1,8 @@
 -- What atomic operations make of the words of an edge and of a vertex, told by the values that the words stand for.
 -- What is added and what sets bits is said twice: of the word that is made of a value, and of any word that is read.
 use Rattle.std.specs.Prelude.{◌≡◌, ℕ, ◌+◌, ◌^◌, ◌<◌, Bool, true, false, if◌then◌else◌, bit_or, ◌↔◌}
-use Rattle.chip_link.specs.Words.{edge_word, claims_in, sealed_in, fired_word, fired_in, halted_in, by_limit_in, exchanged}
+use Rattle.chip_link.specs.Words.{edge_word, claims_in, sealed_in, fired_word, fired_in, halted_in, by_limit_in}
+use Rattle.chip_link.specs.Words.{exchanged}
 
 -- the word of an edge is read as these claims and this seal
 pub record ReadsAs (word claims : ℕ) (sealed : Bool) : Type 0 where
@@ -10,11 +11,13 @@ pub record ReadsAs (word claims : ℕ) (sealed : Bool) : Type 0 where
 
 -- a word is read as what it was made of
 abbrev pub EdgeWordReads : Type 0
-EdgeWordReads = (claims : ℕ) (sealed : Bool) → claims < 2 ^ 63 → (edge_word claims sealed < 2 ^ 64) × ReadsAs (edge_word claims sealed) claims sealed
+EdgeWordReads = (claims : ℕ) (sealed : Bool) → claims < 2 ^ 63 → (edge_word claims sealed < 2 ^ 64)
+    × ReadsAs (edge_word claims sealed) claims sealed
 
 -- and every word is made of what it is read as
 abbrev pub EdgeWordStands : Type 0
-EdgeWordStands = (word : ℕ) → word < 2 ^ 64 → (claims_in word < 2 ^ 63) × (edge_word (claims_in word) (sealed_in word) ≡ word)
+EdgeWordStands = (word : ℕ) → word < 2 ^ 64
+    → (claims_in word < 2 ^ 63) × (edge_word (claims_in word) (sealed_in word) ≡ word)
 
 -- a number that is added is added to the claims
 abbrev pub AddsClaims : Type 0
@@ -22,11 +25,13 @@ AddsClaims = (claims more : ℕ) (sealed : Bool) → edge_word claims sealed + m
 
 -- the same of a word that is read, where no claim is lost into the seal's bit
 abbrev pub AddedReads : Type 0
-AddedReads = (word more : ℕ) → word < 2 ^ 64 → claims_in word + more < 2 ^ 63 → ReadsAs (word + more) (claims_in word + more) (sealed_in word)
+AddedReads = (word more : ℕ) → word < 2 ^ 64 → claims_in word + more < 2 ^ 63
+    → ReadsAs (word + more) (claims_in word + more) (sealed_in word)
 
 -- the bit of the seal, set, seals and leaves the claims
 abbrev pub SealsWord : Type 0
-SealsWord = (claims : ℕ) (sealed : Bool) → claims < 2 ^ 63 → bit_or (edge_word claims sealed) (2 ^ 63) ≡ edge_word claims true
+SealsWord = (claims : ℕ) (sealed : Bool) → claims < 2 ^ 63
+    → bit_or (edge_word claims sealed) (2 ^ 63) ≡ edge_word claims true
 
 -- the same of a word that is read
 abbrev pub SealedReads : Type 0
@@ -34,7 +39,8 @@ SealedReads = (word : ℕ) → word < 2 ^ 64 → ReadsAs (bit_or word (2 ^ 63)) 
 
 -- the exchange of so many claims for one more goes through where the edge isn't sealed, and else leaves the word
 abbrev pub ExchangesWord : Type 0
-ExchangesWord = (claims : ℕ) (sealed : Bool) → exchanged claims (claims + 1) (edge_word claims sealed) ≡ edge_word (if sealed then claims else claims + 1) sealed
+ExchangesWord = (claims : ℕ) (sealed : Bool)
+    → exchanged claims (claims + 1) (edge_word claims sealed) ≡ edge_word (if sealed then claims else claims + 1) sealed
 
 -- the word is the expected one exactly where the edge isn't sealed
 abbrev pub ExpectsUnsealed : Type 0
@@ -48,23 +54,28 @@ pub record ReadsAsFired (word fired : ℕ) (halted by_limit : Bool) : Type 0 whe
 
 -- a word is read as what it was made of
 abbrev pub FiredWordReads : Type 0
-FiredWordReads = (fired : ℕ) (halted by_limit : Bool) → fired < 2 ^ 62 → (fired_word fired halted by_limit < 2 ^ 64) × ReadsAsFired (fired_word fired halted by_limit) fired halted by_limit
+FiredWordReads = (fired : ℕ) (halted by_limit : Bool) → fired < 2 ^ 62 → (fired_word fired halted by_limit < 2 ^ 64)
+    × ReadsAsFired (fired_word fired halted by_limit) fired halted by_limit
 
 -- and every word is made of what it is read as
 abbrev pub FiredWordStands : Type 0
-FiredWordStands = (word : ℕ) → word < 2 ^ 64 → (fired_in word < 2 ^ 62) × (fired_word (fired_in word) (halted_in word) (by_limit_in word) ≡ word)
+FiredWordStands = (word : ℕ) → word < 2 ^ 64
+    → (fired_in word < 2 ^ 62) × (fired_word (fired_in word) (halted_in word) (by_limit_in word) ≡ word)
 
 -- a number that is added is added to the firings
 abbrev pub AddsFirings : Type 0
-AddsFirings = (fired more : ℕ) (halted by_limit : Bool) → fired_word fired halted by_limit + more ≡ fired_word (fired + more) halted by_limit
+AddsFirings = (fired more : ℕ) (halted by_limit : Bool)
+    → fired_word fired halted by_limit + more ≡ fired_word (fired + more) halted by_limit
 
 -- the same of a word that is read, where no firing is lost into the bits above
 abbrev pub AddedFiringsRead : Type 0
-AddedFiringsRead = (word more : ℕ) → word < 2 ^ 64 → fired_in word + more < 2 ^ 62 → ReadsAsFired (word + more) (fired_in word + more) (halted_in word) (by_limit_in word)
+AddedFiringsRead = (word more : ℕ) → word < 2 ^ 64 → fired_in word + more < 2 ^ 62
+    → ReadsAsFired (word + more) (fired_in word + more) (halted_in word) (by_limit_in word)
 
 -- the bit of the halt, set, halts and leaves the rest
 abbrev pub HaltsWord : Type 0
-HaltsWord = (fired : ℕ) (halted by_limit : Bool) → fired < 2 ^ 62 → bit_or (fired_word fired halted by_limit) (2 ^ 63) ≡ fired_word fired true by_limit
+HaltsWord = (fired : ℕ) (halted by_limit : Bool) → fired < 2 ^ 62
+    → bit_or (fired_word fired halted by_limit) (2 ^ 63) ≡ fired_word fired true by_limit
 
 -- the same of a word that is read
 abbrev pub HaltReads : Type 0
@@ -72,7 +83,8 @@ HaltReads = (word : ℕ) → word < 2 ^ 64 → ReadsAsFired (bit_or word (2 ^ 63
 
 -- both bits, set, halt by the limit and leave the firings
 abbrev pub HaltsByLimit : Type 0
-HaltsByLimit = (fired : ℕ) (halted by_limit : Bool) → fired < 2 ^ 62 → bit_or (fired_word fired halted by_limit) (2 ^ 63 + 2 ^ 62) ≡ fired_word fired true true
+HaltsByLimit = (fired : ℕ) (halted by_limit : Bool) → fired < 2 ^ 62
+    → bit_or (fired_word fired halted by_limit) (2 ^ 63 + 2 ^ 62) ≡ fired_word fired true true
 
 -- the same of a word that is read
 abbrev pub HaltByLimitReads : Type 0

@@ -1,7 +1,9 @@
 -- Worked runs of one edge, as the definitions compute them.
 use Rattle.std.specs.Prelude.{◌≡◌, ℕ, ◌+◌, ◌^◌, true, false, List, [], ◌∷◌, Some, None}
 use Rattle.chip_link.specs.declared.message.Message.{Message}
-use Rattle.chip_link.specs.Ends.{TailState, new_tail, tail_cell, may_clear, tail_after_clear, claim_words, tail_after_claim, message_claimed, put_of, tail_after_put, HeadState, new_head, head_after_take, message_taken}
+use Rattle.chip_link.specs.Ends.{TailState, new_tail, tail_cell, may_clear, tail_after_clear, claim_words}
+use Rattle.chip_link.specs.Ends.{tail_after_claim, message_claimed, put_of, tail_after_put, HeadState, new_head}
+use Rattle.chip_link.specs.Ends.{head_after_take, message_taken}
 use Rattle.chip_link.specs.Edge.{LiveEdge, EdgeStep, Clear, Claim, Put, Take, Seal, opened, steps}
 
 -- by edge, place and count
@@ -18,22 +20,27 @@ OneCellTail =
     let full : TailState = tail_after_clear 2 put in
     let free : TailState = tail_after_clear 0 full in
     let refused : TailState = tail_after_claim (2 ^ 63 + 1) 5 free in
-    (claim_words fresh ≡ None) × (may_clear fresh ≡ true) × (claim_words looked ≡ Some (0, 1)) × (message_claimed 0 2 looked ≡ Some (message_of 0 0 2))
-    × (may_clear sent ≡ false) × (tail_after_clear 0 sent ≡ sent) × (put_of sent ≡ Some (0, 2)) × (put_of put ≡ None) × (claim_words full ≡ None)
-    × (claim_words free ≡ Some (1, 2)) × (message_claimed (2 ^ 63 + 1) 5 free ≡ None) × (claim_words refused ≡ None) × (may_clear refused ≡ false)
+    (claim_words fresh ≡ None) × (may_clear fresh ≡ true) × (claim_words looked ≡ Some (0, 1))
+    × (message_claimed 0 2 looked ≡ Some (message_of 0 0 2))
+    × (may_clear sent ≡ false) × (tail_after_clear 0 sent ≡ sent) × (put_of sent ≡ Some (0, 2)) × (put_of put ≡ None)
+    × (claim_words full ≡ None)
+    × (claim_words free ≡ Some (1, 2)) × (message_claimed (2 ^ 63 + 1) 5 free ≡ None) × (claim_words refused ≡ None)
+    × (may_clear refused ≡ false)
 
 -- what the head answers: an empty cell, then two messages
 abbrev pub OneCellHead : Type 0
 OneCellHead =
     let fresh : HeadState = new_head 0 1 in
     let one : HeadState = head_after_take 2 fresh in
-    (message_taken 0 fresh ≡ None) × (head_after_take 0 fresh ≡ fresh) × (message_taken 2 fresh ≡ Some (message_of 0 0 2)) × (message_taken 5 one ≡ Some (message_of 0 1 5))
+    (message_taken 0 fresh ≡ None) × (head_after_take 0 fresh ≡ fresh)
+    × (message_taken 2 fresh ≡ Some (message_of 0 0 2)) × (message_taken 5 one ≡ Some (message_of 0 1 5))
 
 -- a tail that looks, claims one chip and puts it
 abbrev pub send_one : List EdgeStep → List EdgeStep
 send_one rest = Clear ∷ Claim 1 ∷ Put ∷ rest
 
--- three messages over a ring of two cells: the third look finds it full, and after a take it is clear again; the fourth take finds nothing
+-- three messages over a ring of two cells: the third look finds it full, and after a take it is clear again; the fourth
+-- take finds nothing
 abbrev pub RingOfTwo : Type 0
 RingOfTwo =
     let two : LiveEdge = steps (send_one (send_one [])) (opened 0 2) in
@@ -41,11 +48,15 @@ RingOfTwo =
     let three : LiveEdge = steps (Take ∷ send_one []) full in
     let drained : LiveEdge = steps (Take ∷ Take ∷ Take ∷ []) three in
     let all : List Message = message_of 0 0 1 ∷ message_of 0 1 1 ∷ message_of 0 2 1 ∷ [] in
-    (two.cells ≡ 1 ∷ 1 ∷ []) × (two.word ≡ 2) × (full.tail.clear ≡ false) × (full.claimed ≡ two.claimed) × (tail_cell full.tail ≡ 0)
-    × (three.word ≡ 3) × (three.cells ≡ 1 ∷ 1 ∷ []) × (three.taken ≡ message_of 0 0 1 ∷ []) × (drained.cells ≡ 0 ∷ 0 ∷ []) × (drained.claimed ≡ all) × (drained.taken ≡ all)
+    (two.cells ≡ 1 ∷ 1 ∷ []) × (two.word ≡ 2) × (full.tail.clear ≡ false) × (full.claimed ≡ two.claimed)
+    × (tail_cell full.tail ≡ 0)
+    × (three.word ≡ 3) × (three.cells ≡ 1 ∷ 1 ∷ []) × (three.taken ≡ message_of 0 0 1 ∷ [])
+    × (drained.cells ≡ 0 ∷ 0 ∷ []) × (drained.claimed ≡ all) × (drained.taken ≡ all)
 
 -- a seal between a look and a claim: the claim is refused, and what was put before is still taken
 abbrev pub SealedBetween : Type 0
 SealedBetween =
-    let end : LiveEdge = steps (send_one (Clear ∷ Seal ∷ Claim 3 ∷ Put ∷ Clear ∷ Claim 3 ∷ Take ∷ Take ∷ Seal ∷ [])) (opened 7 2) in
-    (end.word ≡ 2 ^ 63 + 1) × (end.stop ≡ Some 1) × (end.tail.refused ≡ true) × (end.claimed ≡ message_of 7 0 1 ∷ []) × (end.taken ≡ message_of 7 0 1 ∷ [])
+    let end : LiveEdge = steps (send_one (Clear ∷ Seal ∷ Claim 3 ∷ Put ∷ Clear ∷ Claim 3 ∷ Take ∷ Take ∷ Seal ∷ []))
+    (opened 7 2) in
+    (end.word ≡ 2 ^ 63 + 1) × (end.stop ≡ Some 1) × (end.tail.refused ≡ true) × (end.claimed ≡ message_of 7 0 1 ∷ [])
+    × (end.taken ≡ message_of 7 0 1 ∷ [])

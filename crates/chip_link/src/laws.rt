@@ -1,8 +1,10 @@
 //! What holds of every edge and every word, as the contracts of functions that do nothing.
 
 ghost use Rattle.chip_link.specs.Laws.{TakesPrefix, ClaimsInOrder, NothingAfterSeal, WordTells, SealsAllClaims};
-ghost use Rattle.chip_link.specs.WordLaws.{EdgeWordReads, EdgeWordStands, AddsClaims, AddedReads, SealsWord, SealedReads, ExchangesWord, ExpectsUnsealed};
-ghost use Rattle.chip_link.specs.WordLaws.{FiredWordReads, FiredWordStands, AddsFirings, AddedFiringsRead, HaltsWord, HaltReads, HaltsByLimit, HaltByLimitReads};
+ghost use Rattle.chip_link.specs.WordLaws.{EdgeWordReads, EdgeWordStands, AddsClaims, AddedReads, SealsWord};
+ghost use Rattle.chip_link.specs.WordLaws.{SealedReads, ExchangesWord, ExpectsUnsealed};
+ghost use Rattle.chip_link.specs.WordLaws.{FiredWordReads, FiredWordStands, AddsFirings, AddedFiringsRead, HaltsWord};
+ghost use Rattle.chip_link.specs.WordLaws.{HaltReads, HaltsByLimit, HaltByLimitReads};
 ghost use Rattle.chip_link.specs.Worked.{OneCellTail, OneCellHead, RingOfTwo, SealedBetween};
 
 /// One edge, end to end, for every ring and every list of steps: looks, claims, puts, takes and seals in any order.

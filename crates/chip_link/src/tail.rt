@@ -1,6 +1,7 @@
 ghost use Rattle.std.specs.Prelude.{◌≡◌, ℕ, ◌^◌, ◌<◌, ◌≤◌, ◌&&◌, ◌==◌, ◌↔◌, IsTrue, IsNone, IfSome};
 ghost use Rattle.chip_link.specs.Words.{claims_in, sealed_in};
-ghost use Rattle.chip_link.specs.Ends.{TailState, new_tail, tail_cell, may_clear, tail_after_clear, claim_words, tail_after_claim, message_claimed, put_of, tail_after_put};
+ghost use Rattle.chip_link.specs.Ends.{TailState, new_tail, tail_cell, may_clear, tail_after_clear, claim_words};
+ghost use Rattle.chip_link.specs.Ends.{tail_after_claim, message_claimed, put_of, tail_after_put};
 
 use crate::message::Message;
 use crate::ring::Ring;
@@ -40,7 +41,14 @@ impl Model for TailLink {
 
     ghost use Rattle.chip_link.specs.Stage.{held_count, is_clear, is_refused, HasClaims};
 
-    ghost view = { λ a. record { edge = a.edge; ring = a.ring; claims = a.claims; held = held_count a.stage; clear = is_clear a.stage; refused = is_refused a.stage } };
+    ghost view = { λ a. record {
+      edge = a.edge;
+      ring = a.ring;
+      claims = a.claims;
+      held = held_count a.stage;
+      clear = is_clear a.stage;
+      refused = is_refused a.stage;
+    } };
 
     ghost invariant = { λ a. HasClaims a.stage a.claims };
 }

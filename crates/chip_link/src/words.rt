@@ -1,5 +1,6 @@
 ghost use Rattle.std.specs.Prelude.{◌≡◌, ◌^◌, ◌<◌, IsTrue, IfSome, is_some};
-ghost use Rattle.chip_link.specs.Words.{edge_word, claims_in, sealed_in, fired_word, fired_in, halted_in, by_limit_in, is_fired_word};
+ghost use Rattle.chip_link.specs.Words.{edge_word, claims_in, sealed_in, fired_word, fired_in, halted_in, by_limit_in};
+ghost use Rattle.chip_link.specs.Words.{is_fired_word};
 
 /// What the word of an edge stands for.
 #[derive(Clone, Copy, Debug, PartialEq, Eq)]

@@ -15,7 +15,8 @@ use Rattle.chip_world.specs.SharedWords.{words_of, no_words}
 use Rattle.chip_world.specs.World.{WorldState, IsActor, StandsForLog}
 use Rattle.chip_world.proofs.VertexLemmas.{found}
 
-module _ (g : Setting) (log : Log) (w : WorldState) (stands : StandsForLog g log w) (e v : ℕ) (a : Actor) (found_at : head_if w.setting e ≡ Some v) (actor_is : a ≡ get_or w.actors v a) where
+module _ (g : Setting) (log : Log) (w : WorldState) (stands : StandsForLog g log w) (e v : ℕ) (a : Actor)
+    (found_at : head_if w.setting e ≡ Some v) (actor_is : a ≡ get_or w.actors v a) where
   at : (head_of g e ≡ v) × (v < g.graph.vertices)
   at = found g stands.is_setting.game (Take e) v (sym (ap (λ (h : Setting). head_if h e) stands.setting) ∙ found_at)
 
@@ -33,9 +34,11 @@ module _ (g : Setting) (log : Log) (w : WorldState) (stands : StandsForLog g log
   has_books = books_in g (part_in g log (head_of g e)) a stands_part e head_is
 
   -- what is acknowledged and what is owed make up what was delivered
-  pub all_delivered : e < all_edges g → (acknowledged owes : ℕ) → acknowledged ≡ (words_of w.words e).acknowledged → owes ≡ books.owed a.detect e → acknowledged + owes ≡ length (into_in g log e).got
+  pub all_delivered : e < all_edges g → (acknowledged owes : ℕ) → acknowledged ≡ (words_of w.words e).acknowledged
+      → owes ≡ books.owed a.detect e → acknowledged + owes ≡ length (into_in g log e).got
   all_delivered l acknowledged owes acknowledged_is owes_is =
       let word = acknowledged_is ∙ (stands.words e l no_words).acknowledged in
-      let own : owes ≡ owed (into_in g log e) = owes_is ∙ owed_is g (part_in g log (head_of g e)) a stands_part e head_is in
+      let own : owes ≡ owed (into_in g log e) = owes_is
+      ∙ owed_is g (part_in g log (head_of g e)) a stands_part e head_is in
       let acks = (part_kept g stands.is_setting.game log stands.legal (head_of g e)).acks e in
       omega arith

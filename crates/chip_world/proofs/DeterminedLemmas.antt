@@ -1,17 +1,22 @@
 -- A turn, a round and a drive follow from the log before them.
-use Rattle.std.proofs.Common.{◌≡◌, ℕ, zero, suc, ◌<◌, ◌≤◌, Bool, true, false, List, [], ◌∷◌, ◌++◌, reverse, Option, Some, None, refl, sym, ap, ◌∙◌, subst, arith, append_assoc}
+use Rattle.std.proofs.Common.{◌≡◌, ℕ, zero, suc, ◌<◌, ◌≤◌, Bool, true, false, List, [], ◌∷◌, ◌++◌, reverse, Option}
+use Rattle.std.proofs.Common.{Some, None, refl, sym, ap, ◌∙◌, subst, arith, append_assoc}
 use Rattle.std.proofs.lemmas.Grind.{reverse_onto}
 use mathlib.Core.Logic.{dite}
 use native.Mathlib.Decide.{ℕ_discrete, dec_lt}
 use Rattle.chip_actor.specs.Setting.{Setting}
 use Rattle.chip_actor.specs.Part.{Part, is_running}
 use Rattle.chip_actor.specs.Rules.{Event, Take, Ack, Fire, Clear, Claim, Put, Halt, Settle}
-use Rattle.chip_actor.specs.Turn.{Phase, nothing, either_phase, where_phase, and_then, each_phase, ins_of, outs_of, seeing, one_step, may_fire, batch_of, firing, after_claim_phase, after_clear_phase, sending, putting, sending_all, is_at_limit, acknowledging, acknowledging_parent, last_acknowledgement, turn}
+use Rattle.chip_actor.specs.Turn.{Phase, nothing, either_phase, where_phase, and_then, each_phase, ins_of, outs_of}
+use Rattle.chip_actor.specs.Turn.{seeing, one_step, may_fire, batch_of, firing, after_claim_phase, after_clear_phase}
+use Rattle.chip_actor.specs.Turn.{sending, putting, sending_all, is_at_limit, acknowledging, acknowledging_parent}
+use Rattle.chip_actor.specs.Turn.{last_acknowledgement, turn}
 use Rattle.chip_core.specs.Core.{Log, Step, does, part_in, Fits, IsLegalLog, log_after}
 use Rattle.chip_world.specs.declared.world.driving.Drive.{Drive}
 use Rattle.chip_world.specs.declared.world.driving.Drive.TheVariants.{Closed, Unfinished}
 use Rattle.chip_world.specs.World.{WorldState, StandsForLog}
-use Rattle.chip_world.specs.Rounds.{Leads, NoOtherDrive, IsTurnAfter, AreTurns, IsRound, AreRounds, AnswersDrive, IsDrive, IsOpen, root_settles}
+use Rattle.chip_world.specs.Rounds.{Leads, NoOtherDrive, IsTurnAfter, AreTurns, IsRound, AreRounds, AnswersDrive}
+use Rattle.chip_world.specs.Rounds.{IsDrive, IsOpen, root_settles}
 
 module _ (g : Setting) where
   -- each event fits after the log and those in front of it
@@ -40,13 +45,15 @@ module _ (g : Setting) where
   follows : (log : Log) (xs : List Step) → IsLegalLog g (reverse xs ++ log) → Follow log xs
   follows log [] legal = tt
   follows log (x ∷ xs) legal =
-      let moved : reverse (x ∷ xs) ++ log ≡ reverse xs ++ (x ∷ log) = ap (λ (l : Log). l ++ log) (reverse_onto xs x []) ∙ append_assoc (reverse xs) (x ∷ []) log in
+      let moved : reverse (x ∷ xs) ++ log ≡ reverse xs ++ (x ∷ log) = ap (λ (l : Log). l ++ log) (reverse_onto xs x [])
+      ∙ append_assoc (reverse xs) (x ∷ []) log in
       let all : IsLegalLog g (reverse xs ++ (x ∷ log)) = subst (IsLegalLog g) moved legal in
       ((before_legal (reverse xs) (x ∷ log) all).1, follows (x ∷ log) xs all)
 
   -- from one part, after one log, such a phase goes in one way alone
   abbrev Determined : Phase → Type 0
-  Determined p = (log : Log) (s : Part) (ds ds' : List Step) (t t' : Part) → Follow log ds → Follow log ds' → p s ds t → p s ds' t' → (ds ≡ ds') × (t ≡ t')
+  Determined p = (log : Log) (s : Part) (ds ds' : List Step) (t t' : Part) → Follow log ds → Follow log ds' → p s ds t
+      → p s ds' t' → (ds ≡ ds') × (t ≡ t')
 
   by_nothing : Determined nothing
   by_nothing log s ds ds' t t' f f' (none, same) (none', same') = (none ∙ sym none', same ∙ sym same')
@@ -62,8 +69,11 @@ module _ (g : Setting) where
   by_then p q one other log s ds ds' t t' f f' (front, m, back, is, here, rest) (front', m', back', is', here', rest') =
       let all = subst (Follow log) is f in
       let all' = subst (Follow log) is' f' in
-      let a = one log s front front' m m' (front_follows log front back all) (front_follows log front' back' all') here here' in
-      let b = other (made log front) m back back' t t' (back_follows log front back all) (subst (λ (xs : List Step). Follow (made log xs) back') (sym a.0) (back_follows log front' back' all')) rest (subst (λ (n : Part). q n back' t') (sym a.1) rest') in
+      let a = one log s front front' m m' (front_follows log front back all)
+      (front_follows log front' back' all') here here' in
+      let b = other (made log front) m back back' t t' (back_follows log front back all)
+      (subst (λ (xs : List Step). Follow (made log xs) back') (sym a.0) (back_follows log front' back' all')) rest
+      (subst (λ (n : Part). q n back' t') (sym a.1) rest') in
       (is ∙ ap (λ (xs : List Step). xs ++ back) a.0 ∙ ap (λ (ys : List Step). front' ++ ys) b.0 ∙ sym is', b.1)
 
   by_each : (p : ℕ → Phase) → ((e : ℕ) → Determined (p e)) → (es : List ℕ) → Determined (each_phase p es)
@@ -71,38 +81,49 @@ module _ (g : Setting) where
   by_each p one (e ∷ es) = by_then (p e) (each_phase p es) (one e) (by_each p one es)
 
   module _ (v : ℕ) where
-    by_seeing : (x : Event) (next : ℕ → Part → Phase) → ((seen : ℕ) (s : Part) → Determined (next seen s)) → Determined (seeing g v x next)
+    by_seeing : (x : Event) (next : ℕ → Part → Phase) → ((seen : ℕ) (s : Part) → Determined (next seen s))
+        → Determined (seeing g v x next)
     by_seeing x next more log s ds ds' t t' f f' (seen, rest, is, after) (seen', rest', is', after') =
         let all = subst (Follow log) is f in
         let all' = subst (Follow log) is' f' in
         let same : seen ≡ seen' = all.0.1 ∙ sym all'.0.1 in
-        let b = more seen s (record { event = x; seen = seen } ∷ log) (does g (record { event = x; seen = seen }) s) rest rest' t t' all.1
+        let b = more seen s (record { event = x; seen = seen } ∷ log)
+        (does g (record { event = x; seen = seen }) s) rest rest' t t' all.1
         (subst (λ (n : ℕ). Follow (record { event = x; seen = n } ∷ log) rest') (sym same) all'.1) after
-        (subst (λ (n : ℕ). next n s (does g (record { event = x; seen = n }) s) rest' t') (sym same) after') in
-        (is ∙ ap (λ (n : ℕ). (let d : Step = record { event = x; seen = n } in d ∷ rest)) same ∙ ap (λ (r : List Step). (let d : Step = record { event = x; seen = seen' } in d ∷ r)) b.0 ∙ sym is', b.1)
+        (subst (λ (n : ℕ). next n s (does g (record { event = x; seen = n }) s) rest' t') (sym same) after') in (
+          is ∙ ap (λ (n : ℕ). (let d : Step = record { event = x; seen = n } in d ∷ rest)) same
+              ∙ ap (λ (r : List Step). (let d : Step = record { event = x; seen = seen' } in d ∷ r)) b.0 ∙ sym is',
+          b.1,
+        )
 
     by_step : (x : Event) → Determined (one_step g v x)
     by_step x = by_seeing x (λ seen before. nothing) (λ seen before. by_nothing)
 
     by_claim : (e seen : ℕ) (before : Part) → Determined (after_claim_phase g v e seen before)
-    by_claim e seen before = by_either _ (one_step g v (Put e)) (one_step g v (Halt v)) (by_step (Put e)) (by_step (Halt v))
+    by_claim e seen before = by_either _ (one_step g v (Put e)) (one_step g v (Halt v)) (by_step (Put e))
+        (by_step (Halt v))
 
     by_clear : (e seen : ℕ) (before : Part) → Determined (after_clear_phase g v e seen before)
-    by_clear e seen before = by_either _ (seeing g v (Claim e) (after_claim_phase g v e)) nothing (by_seeing (Claim e) (after_claim_phase g v e) (by_claim e)) by_nothing
+    by_clear e seen before = by_either _ (seeing g v (Claim e) (after_claim_phase g v e)) nothing
+        (by_seeing (Claim e) (after_claim_phase g v e) (by_claim e)) by_nothing
 
     by_sending : (e : ℕ) → Determined (sending g v e)
-    by_sending e = by_where _ (seeing g v (Clear e) (after_clear_phase g v e)) (by_seeing (Clear e) (after_clear_phase g v e) (by_clear e))
+    by_sending e = by_where _ (seeing g v (Clear e) (after_clear_phase g v e))
+        (by_seeing (Clear e) (after_clear_phase g v e) (by_clear e))
 
     by_putting : (e : ℕ) → Determined (putting g v e)
     by_putting e = by_where _ (one_step g v (Put e)) (by_step (Put e))
 
     by_firing : Determined (firing g v)
-    by_firing log s = by_where (may_fire g v) (one_step g v (Fire v (batch_of g v s))) (by_step (Fire v (batch_of g v s))) log s
+    by_firing log s = by_where (may_fire g v) (one_step g v (Fire v (batch_of g v s)))
+        (by_step (Fire v (batch_of g v s))) log s
 
     by_sending_all : Determined (sending_all g v)
     by_sending_all log s =
-        by_either (is_running s.halt) (either_phase _ (each_phase (sending g v) (outs_of g v)) (one_step g v (Halt v))) nothing
-        (by_either _ (each_phase (sending g v) (outs_of g v)) (one_step g v (Halt v)) (by_each (sending g v) by_sending (outs_of g v)) (by_step (Halt v))) by_nothing log s
+        by_either (is_running s.halt) (either_phase _ (each_phase (sending g v) (outs_of g v)) (one_step g v (Halt v)))
+        nothing
+        (by_either _ (each_phase (sending g v) (outs_of g v)) (one_step g v (Halt v))
+        (by_each (sending g v) by_sending (outs_of g v)) (by_step (Halt v))) by_nothing log s
 
     by_acknowledging : (e : ℕ) → Determined (acknowledging g v e)
     by_acknowledging e = by_where _ (one_step g v (Ack e)) (by_step (Ack e))
@@ -124,55 +145,79 @@ module _ (g : Setting) where
         (by_then _ _ (by_where (is_at_limit g v) (one_step g v (Halt v)) (by_step (Halt v)))
         (by_then _ _ (by_each (acknowledging g v) by_acknowledging (ins_of g v)) by_last))))))
 
-    turn_determined : (before after after' : Log) → IsTurnAfter g v before after → IsTurnAfter g v before after' → after ≡ after'
+    turn_determined : (before after after' : Log) → IsTurnAfter g v before after → IsTurnAfter g v before after'
+        → after ≡ after'
     turn_determined before after after' one other =
         let same = by_turn before (part_in g before v) one.operations other.operations one.are_turn.0 other.are_turn.0
-        (follows before one.operations (subst (IsLegalLog g) one.all_made one.all_fit)) (follows before other.operations (subst (IsLegalLog g) other.all_made other.all_fit)) one.are_turn.1 other.are_turn.1 in
+        (follows before one.operations (subst (IsLegalLog g) one.all_made one.all_fit))
+        (follows before other.operations (subst (IsLegalLog g) other.all_made other.all_fit)) one.are_turn.1
+        other.are_turn.1 in
         one.all_made ∙ ap (λ (ds : List Step). reverse ds ++ before) same.0 ∙ sym other.all_made
 
-  turns_determined : (n : ℕ) (before after after' : Log) → AreTurns g n before after → AreTurns g n before after' → after ≡ after'
+  turns_determined : (n : ℕ) (before after after' : Log) → AreTurns g n before after → AreTurns g n before after'
+      → after ≡ after'
   turns_determined zero before after after' one other = one ∙ sym other
   turns_determined (suc v) before after after' (m, firsts, last) (m', firsts', last') =
-      turn_determined v m' after after' (subst (λ (l : Log). IsTurnAfter g v l after) (turns_determined v before m m' firsts firsts') last) last'
+      turn_determined v m' after after'
+      (subst (λ (l : Log). IsTurnAfter g v l after) (turns_determined v before m m' firsts firsts') last) last'
 
   round_determined : (before after after' : Log) → IsRound g before after → IsRound g before after' → after ≡ after'
   round_determined before after after' (m, turns, settled) (m', turns', settled') =
-      settled ∙ ap (λ (l : Log). log_after g l (root_settles g g.graph.vertices)) (turns_determined g.graph.vertices before m m' turns turns') ∙ sym settled'
+      settled ∙ ap (λ (l : Log). log_after g l (root_settles g g.graph.vertices))
+      (turns_determined g.graph.vertices before m m' turns turns') ∙ sym settled'
 
-  rounds_determined : (n : ℕ) (before after after' : Log) → AreRounds g n before after → AreRounds g n before after' → after ≡ after'
+  rounds_determined : (n : ℕ) (before after after' : Log) → AreRounds g n before after → AreRounds g n before after'
+      → after ≡ after'
   rounds_determined zero before after after' one other = one ∙ sym other
   rounds_determined (suc n) before after after' (m, firsts, is_open, last) (m', firsts', is_open', last') =
-      round_determined m' after after' (subst (λ (l : Log). IsRound g l after) (rounds_determined n before m m' firsts firsts') last) last'
+      round_determined m' after after'
+      (subst (λ (l : Log). IsRound g l after) (rounds_determined n before m m' firsts firsts') last) last'
 
   -- the root is open after fewer rounds
-  open_earlier : (n k : ℕ) → n < k → (before after after' : Log) → AreRounds g n before after → AreRounds g k before after' → IsOpen g after
+  open_earlier : (n k : ℕ) → n < k → (before after after' : Log) → AreRounds g n before after
+      → AreRounds g k before after' → IsOpen g after
   open_earlier n zero l before after after' one other = absurd (omega arith)
   open_earlier n (suc k) l before after after' one (m, firsts, is_open, last) = dite (ℕ_discrete n k)
-      (λ same. subst (IsOpen g) (sym (rounds_determined k before after m (subst (λ (i : ℕ). AreRounds g i before after) same one) firsts)) is_open)
+      (λ same. subst (IsOpen g)
+      (sym (rounds_determined k before after m (subst (λ (i : ℕ). AreRounds g i before after) same one) firsts))
+      is_open)
       (λ other. open_earlier n k (omega arith) before after m one firsts)
 
   -- no drive ends where another goes on
-  ends_last : (rounds n k : ℕ) (after : Log) (result : Drive) → n < k → k ≤ rounds → IsOpen g after → AnswersDrive g rounds n after result → ⊥
+  ends_last : (rounds n k : ℕ) (after : Log) (result : Drive) → n < k → k ≤ rounds → IsOpen g after
+      → AnswersDrive g rounds n after result → ⊥
   ends_last rounds n k after Closed l within is_open answers = is_open answers
   ends_last rounds n k after (Unfinished told) l within is_open (told_is, all, still) = absurd (omega arith)
 
-  same_answer : (rounds n k : ℕ) (after : Log) (result result' : Drive) → AnswersDrive g rounds n after result → AnswersDrive g rounds k after result' → result ≡ result'
+  same_answer : (rounds n k : ℕ) (after : Log) (result result' : Drive) → AnswersDrive g rounds n after result
+      → AnswersDrive g rounds k after result' → result ≡ result'
   same_answer rounds n k after Closed Closed one other = refl
   same_answer rounds n k after Closed (Unfinished told) one (told_is, all, still) = absurd (still one)
   same_answer rounds n k after (Unfinished told) Closed (told_is, all, still) other = absurd (still other)
-  same_answer rounds n k after (Unfinished told) (Unfinished told') (told_is, all, still) (told_is', all', still') = ap Unfinished (told_is ∙ sym told_is')
+  same_answer rounds n k after (Unfinished told) (Unfinished told') (told_is, all, still) (told_is', all', still') =
+      ap Unfinished (told_is ∙ sym told_is')
 
-  pub drive_determined : (rounds : ℕ) (before after after' : Log) (result result' : Drive) → IsDrive g rounds before after result → IsDrive g rounds before after' result' → (after ≡ after') × (result ≡ result')
+  pub drive_determined : (rounds : ℕ) (before after after' : Log) (result result' : Drive)
+      → IsDrive g rounds before after result → IsDrive g rounds before after' result'
+      → (after ≡ after') × (result ≡ result')
   drive_determined rounds before after after' result result' one other = dite (ℕ_discrete one.count other.count)
       (λ same.
-      let ends = rounds_determined other.count before after after' (subst (λ (n : ℕ). AreRounds g n before after) same one.are_rounds) other.are_rounds in
-      (ends, same_answer rounds one.count other.count after' result result' (subst (λ (l : Log). AnswersDrive g rounds one.count l result) ends one.answers) other.answers))
+      let ends = rounds_determined other.count before after after'
+      (subst (λ (n : ℕ). AreRounds g n before after) same one.are_rounds) other.are_rounds in (
+        ends,
+        same_answer rounds one.count other.count after' result result'
+            (subst (λ (l : Log). AnswersDrive g rounds one.count l result) ends one.answers) other.answers,
+      ))
       (λ differ. dite (dec_lt one.count other.count)
-      (λ l. absurd (ends_last rounds one.count other.count after result l other.within (open_earlier one.count other.count l before after after' one.are_rounds other.are_rounds) one.answers))
-      (λ n. (let l : other.count < one.count = omega arith in absurd (ends_last rounds other.count one.count after' result' l one.within (open_earlier other.count one.count l before after' after other.are_rounds one.are_rounds) other.answers))))
+      (λ l. absurd (ends_last rounds one.count other.count after result l other.within
+      (open_earlier one.count other.count l before after after' one.are_rounds other.are_rounds) one.answers))
+      (λ n. (let l : other.count < one.count = omega arith in
+      absurd (ends_last rounds other.count one.count after' result' l one.within
+      (open_earlier other.count one.count l before after' after other.are_rounds one.are_rounds) other.answers))))
 
 -- a world that a drive leads to is the one that every drive leads to
-pub no_other : (old new : WorldState) (rounds : ℕ) (result : Drive) → Leads old new (λ g before after. IsDrive g rounds before after result) → NoOtherDrive old new rounds result
+pub no_other : (old new : WorldState) (rounds : ℕ) (result : Drive)
+    → Leads old new (λ g before after. IsDrive g rounds before after result) → NoOtherDrive old new rounds result
 no_other old new rounds result leads = λ g before stands after answer drive.
     let own = leads g before stands in
     let same = drive_determined g rounds before own.0 after result answer own.2 drive in

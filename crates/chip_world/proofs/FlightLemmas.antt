@@ -1,5 +1,7 @@
 -- The messages that were sent on an edge and not delivered, by the cells of its ring and the hand of its tail.
-use Rattle.std.proofs.Common.{◌≡◌, ◌≢◌, ℕ, ◌+◌, ◌-◌, ◌%◌, ◌<◌, ◌≤◌, List, [], ◌∷◌, ◌++◌, length, sum, get_or, take, drop, ltb, lt-ltb, Result, Ok, Err, length-drop, length-take-le, Option, Some, None, option_to_list, refl, sym, ap, ◌∙◌, subst, arith, ⊎_elim, inl, inr}
+use Rattle.std.proofs.Common.{◌≡◌, ◌≢◌, ℕ, ◌+◌, ◌-◌, ◌%◌, ◌<◌, ◌≤◌, List, [], ◌∷◌, ◌++◌, length, sum, get_or, take}
+use Rattle.std.proofs.Common.{drop, ltb, lt-ltb, Result, Ok, Err, length-drop, length-take-le, Option, Some, None}
+use Rattle.std.proofs.Common.{option_to_list, refl, sym, ap, ◌∙◌, subst, arith, ⊎_elim, inl, inr}
 use Rattle.std.proofs.lemmas.List.{get_or_past, get_or_append_left, get_or_push, get_or-drop, take_more}
 use Rattle.std.proofs.Math.Seq.{take-length}
 use mathlib.Core.Logic.{dite}
@@ -21,14 +23,18 @@ use Rattle.chip_core.specs.Messages.{Message, messages_from, counts_in_flight, i
 use Rattle.chip_core.proofs.MessageLemmas.{messages-append}
 use Rattle.chip_world.specs.SharedWords.{stored_by}
 use Rattle.chip_world.proofs.VertexLemmas.{passes}
-use Rattle.chip_core.specs.Core.{Rule, unmet, into_in, Log, Event, Take, Ack, Fire, Clear, Claim, Put, Halt, Settle, Seal, Read, Part, Out, part_of, part_in, out_in, IsLegalLog, graph_edges}
+use Rattle.chip_core.specs.Core.{Rule, unmet, into_in, Log, Event, Take, Ack, Fire, Clear, Claim, Put, Halt, Settle}
+use Rattle.chip_core.specs.Core.{Seal, Read, Part, Out, part_of, part_in, out_in, IsLegalLog, graph_edges}
 use Rattle.chip_core.proofs.LogLemmas.{link_step}
 
 module _ (g : Setting) where
   -- nobody sends on a root edge
-  root_unsent : (e : ℕ) → graph_edges g ≤ e → (x : Event) (seen : ℕ) (s : Part) (o : Out) → Met g x s → link_after x seen e o ≡ o.link
-  root_unsent e past (Clear i) seen s o met = cond_no i e (after_clear seen o.link) o.link (λ z. absurd (omega (arith, met.0)))
-  root_unsent e past (Claim i) seen s o met = cond_no i e (after_claim o.pending seen o.link) o.link (λ z. absurd (omega (arith, met.0)))
+  root_unsent : (e : ℕ) → graph_edges g ≤ e → (x : Event) (seen : ℕ) (s : Part) (o : Out) → Met g x s
+      → link_after x seen e o ≡ o.link
+  root_unsent e past (Clear i) seen s o met = cond_no i e (after_clear seen o.link) o.link
+      (λ z. absurd (omega (arith, met.0)))
+  root_unsent e past (Claim i) seen s o met = cond_no i e (after_claim o.pending seen o.link) o.link
+      (λ z. absurd (omega (arith, met.0)))
   root_unsent e past (Put i) seen s o met = cond_no i e (after_put o.link) o.link (λ z. absurd (omega (arith, met.0)))
   root_unsent e past (Take i) seen s o met = refl
   root_unsent e past (Ack i) seen s o met = refl
@@ -41,7 +47,9 @@ module _ (g : Setting) where
   pub root_holds_none : (e : ℕ) → graph_edges g ≤ e → (log : Log) → IsLegalLog g log → (out_in g log e).link.held ≡ None
   root_holds_none e past [] legal = refl
   root_holds_none e past (x ∷ log) legal =
-      ap (λ (t : Tail). t.held) (link_step g x log e ∙ root_unsent e past x.event x.seen (part_in g log (part_of g x.event)) (out_in g log e) (rules_met g x.event (part_in g log (part_of g x.event)) legal.1.0))
+      ap (λ (t : Tail). t.held) (link_step g x log e
+      ∙ root_unsent e past x.event x.seen (part_in g log (part_of g x.event)) (out_in g log e)
+      (rules_met g x.event (part_in g log (part_of g x.event)) legal.1.0))
       ∙ root_holds_none e past log legal.0
 
 -- a hand is empty or holds one
@@ -49,7 +57,8 @@ hand : (held : Option ℕ) → Rattle.std.proofs.Common.◌⊎◌ (held ≡ None
 hand None = inl refl
 hand (Some count) = inr (count, refl)
 
-module _ (ring word : ℕ) (cell : ℕ → ℕ) (t : Tail) (got : List ℕ) (stop : Option ℕ) (ok : Sound ring t got stop) (is : Shows ring word cell t got stop) (place : ℕ) (later : length got ≤ place) (before : place < claims_of t) where
+module _ (ring word : ℕ) (cell : ℕ → ℕ) (t : Tail) (got : List ℕ) (stop : Option ℕ) (ok : Sound ring t got stop)
+    (is : Shows ring word cell t got stop) (place : ℕ) (later : length got ≤ place) (before : place < claims_of t) where
   -- what is in flight fits into the ring
   within : place < length got + ring
   within = ⊎_elim
@@ -72,21 +81,31 @@ module _ (ring word : ℕ) (cell : ℕ → ℕ) (t : Tail) (got : List ℕ) (sto
       (λ none. let n = none_held t none in absurd (omega arith))
       (λ some.
       let n = one_held t some.0 some.1 in
-      let one : sum (option_to_list t.held) ≡ some.0 = ap (λ (h : Option ℕ). sum (option_to_list h)) some.1 ∙ Rattle.std.proofs.Common.zero-add some.0 in
-      one ∙ sym (ap (λ (h : Option ℕ). get_or (t.put ++ option_to_list h) place 0) some.1 ∙ get_or_push t.put some.0 0 place (omega arith)))
+      let one : sum (option_to_list t.held) ≡ some.0 = ap (λ (h : Option ℕ). sum (option_to_list h)) some.1
+      ∙ Rattle.std.proofs.Common.zero-add some.0 in
+      one ∙ sym (ap (λ (h : Option ℕ). get_or (t.put ++ option_to_list h) place 0) some.1
+      ∙ get_or_push t.put some.0 0 place (omega arith)))
       (hand t.held))
 
 -- the count that a put would store is the one in the hand
-pub put_stores : (g : Setting) (e : ℕ) (s : Part) (act : Act) → ◌≡◌ {A = Result Act Rule} (Ok act) (verdict (unmet g (Put e) s) (act_of g (Put e) s)) → stored_by act ≡ sum (option_to_list (s.out e).link.held)
+pub put_stores : (g : Setting) (e : ℕ) (s : Part) (act : Act)
+    → ◌≡◌ {A = Result Act Rule} (Ok act) (verdict (unmet g (Put e) s) (act_of g (Put e) s))
+    → stored_by act ≡ sum (option_to_list (s.out e).link.held)
 put_stores g e s act is = by_rule (unmet g (Put e) s) is
   where
-    by_rule : (o : Option Rule) → ◌≡◌ {A = Result Act Rule} (Ok act) (verdict o (act_of g (Put e) s)) → stored_by act ≡ sum (option_to_list (s.out e).link.held)
+    by_rule : (o : Option Rule) → ◌≡◌ {A = Result Act Rule} (Ok act) (verdict o (act_of g (Put e) s))
+        → stored_by act ≡ sum (option_to_list (s.out e).link.held)
     by_rule None is = let same : act ≡ act_of g (Put e) s = cc in ap stored_by same
     by_rule (Some rule) is = absurd (cc)
 
 -- where no put is due the hand is empty
-pub put_refused : (g : Setting) (e : ℕ) (s : Part) (rule : Rule) → e < graph_edges g → ◌≡◌ {A = Result Act Rule} (Err rule) (verdict (unmet g (Put e) s) (act_of g (Put e) s)) → (s.out e).link.held ≡ None
-put_refused g e s rule l is = ⊎_elim (λ none. none) (λ some. absurd (by_rule (unmet g (Put e) s) (passes (ltb e (graph_edges g)) _ _ (lt-ltb e (graph_edges g) l) ∙ ap (λ (h : Option ℕ). need (Rattle.std.proofs.Common.is_some h) NotClaimed None) some.1) is)) (hand (s.out e).link.held)
+pub put_refused : (g : Setting) (e : ℕ) (s : Part) (rule : Rule) → e < graph_edges g
+    → ◌≡◌ {A = Result Act Rule} (Err rule) (verdict (unmet g (Put e) s) (act_of g (Put e) s))
+    → (s.out e).link.held ≡ None
+put_refused g e s rule l is = ⊎_elim (λ none. none)
+    (λ some. absurd (by_rule (unmet g (Put e) s) (passes (ltb e (graph_edges g)) _ _ (lt-ltb e (graph_edges g) l)
+    ∙ ap (λ (h : Option ℕ). need (Rattle.std.proofs.Common.is_some h) NotClaimed None) some.1) is))
+    (hand (s.out e).link.held)
   where
     by_rule : (o : Option Rule) → o ≡ None → ◌≡◌ {A = Result Act Rule} (Err rule) (verdict o (act_of g (Put e) s)) → ⊥
     by_rule None none is = absurd (cc)
@@ -95,26 +114,40 @@ put_refused g e s rule l is = ⊎_elim (λ none. none) (λ some. absurd (by_rule
 -- ---- the messages in flight, one after another
 
 module _ (g : Setting) (log : Log) (e : ℕ) where
-  flight_long : (first : ℕ) → first ≡ length (into_in g log e).got → length (counts_in_flight g log e) ≡ claims_of (out_in g log e).link - first
-  flight_long first is = length-drop (length (into_in g log e).got) (sent_counts (out_in g log e).link) ∙ (let n = length-sent_counts (out_in g log e).link in omega arith)
+  flight_long : (first : ℕ) → first ≡ length (into_in g log e).got
+      → length (counts_in_flight g log e) ≡ claims_of (out_in g log e).link - first
+  flight_long first is = length-drop (length (into_in g log e).got) (sent_counts (out_in g log e).link)
+      ∙ (let n = length-sent_counts (out_in g log e).link in omega arith)
 
-  pub flight_more : (first place count : ℕ) (ms : List Message) → first ≡ length (into_in g log e).got → first ≤ place → place < claims_of (out_in g log e).link → count ≡ get_or (sent_counts (out_in g log e).link) place 0
-      → ms ≡ messages_from e first (take (place - first) (counts_in_flight g log e)) → ms ++ message_of e place count ∷ [] ≡ messages_from e first (take ((place + 1) - first) (counts_in_flight g log e))
+  pub flight_more : (first place count : ℕ) (ms : List Message) → first ≡ length (into_in g log e).got → first ≤ place
+      → place < claims_of (out_in g log e).link → count ≡ get_or (sent_counts (out_in g log e).link) place 0
+      → ms ≡ messages_from e first (take (place - first) (counts_in_flight g log e))
+      → ms ++ message_of e place count ∷ []
+      ≡ messages_from e first (take ((place + 1) - first) (counts_in_flight g log e))
   flight_more first place count ms is later before count_is so_far =
       let cs : List ℕ = counts_in_flight g log e in
       let k : ℕ = place - first in
       let long = flight_long first is in
       let inside : k < length cs = omega arith in
-      let here : get_or cs k 0 ≡ count = get_or-drop (length (into_in g log e).got) (sent_counts (out_in g log e).link) k 0 ∙ ap (λ (n : ℕ). get_or (sent_counts (out_in g log e).link) n 0) (let z : length (into_in g log e).got + k ≡ place = omega arith in z) ∙ sym count_is in
+      let here : get_or cs k 0 ≡ count = get_or-drop (length (into_in g log e).got)
+      (sent_counts (out_in g log e).link) k 0
+      ∙ ap (λ (n : ℕ). get_or (sent_counts (out_in g log e).link) n 0) (let z : length (into_in g log e).got + k
+      ≡ place = omega arith in z) ∙ sym count_is in
       let short : length (take k cs) ≡ k = length-take-le k cs (omega arith) in
       ap (λ (l : List Message). l ++ message_of e place count ∷ []) so_far
-      ∙ ap (λ (n : ℕ). messages_from e first (take k cs) ++ message_of e n count ∷ []) (let z : place ≡ first + length (take k cs) = omega arith in z)
+      ∙ ap (λ (n : ℕ). messages_from e first (take k cs) ++ message_of e n count ∷ [])
+      (let z : place ≡ first + length (take k cs) = omega arith in z)
       ∙ sym (messages-append e first (take k cs) (count ∷ []))
       ∙ ap (λ (n : ℕ). messages_from e first (take k cs ++ n ∷ [])) (sym here)
       ∙ ap (messages_from e first) (sym (take_more cs k 0 inside))
       ∙ ap (λ (n : ℕ). messages_from e first (take n cs)) (let z : k + 1 ≡ (place + 1) - first = omega arith in z)
 
-  pub flight_all : (first claims : ℕ) (ms : List Message) → first ≡ length (into_in g log e).got → claims ≡ claims_of (out_in g log e).link → ms ≡ messages_from e first (take (claims - first) (counts_in_flight g log e)) → ms ≡ in_flight g log e
+  pub flight_all : (first claims : ℕ) (ms : List Message) → first ≡ length (into_in g log e).got
+      → claims ≡ claims_of (out_in g log e).link
+      → ms ≡ messages_from e first (take (claims - first) (counts_in_flight g log e)) → ms ≡ in_flight g log e
   flight_all first claims ms is all so_far =
       let long = flight_long first is in
-      so_far ∙ ap (λ (n : ℕ). messages_from e first (take n (counts_in_flight g log e))) (let z : claims - first ≡ length (counts_in_flight g log e) = omega arith in z) ∙ ap (messages_from e first) (take-length (counts_in_flight g log e)) ∙ ap (λ (n : ℕ). messages_from e n (counts_in_flight g log e)) is
+      so_far ∙ ap (λ (n : ℕ). messages_from e first (take n (counts_in_flight g log e)))
+      (let z : claims - first ≡ length (counts_in_flight g log e) = omega arith in z)
+      ∙ ap (messages_from e first) (take-length (counts_in_flight g log e))
+      ∙ ap (λ (n : ℕ). messages_from e n (counts_in_flight g log e)) is

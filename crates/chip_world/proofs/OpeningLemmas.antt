@@ -1,10 +1,13 @@
 -- A world that opens.
-use Rattle.std.proofs.Common.{◌≡◌, ◌≢◌, ℕ, ◌+◌, ◌-◌, ◌<◌, ◌≤◌, cond, eqb, ltb, List, [], ◌∷◌, ◌++◌, length, get_or, set, replicate, None, slice_index, refl, sym, ap, ◌∙◌, subst, arith, lt-ltb, le-ltb, length-set, false, get_or-set_same, get_or-set_other}
+use Rattle.std.proofs.Common.{◌≡◌, ◌≢◌, ℕ, ◌+◌, ◌-◌, ◌<◌, ◌≤◌, cond, eqb, ltb, List, [], ◌∷◌, ◌++◌, length, get_or, set}
+use Rattle.std.proofs.Common.{replicate, None, slice_index, refl, sym, ap, ◌∙◌, subst, arith, lt-ltb, le-ltb}
+use Rattle.std.proofs.Common.{length-set, false, get_or-set_same, get_or-set_other}
 use Rattle.std.proofs.lemmas.List.{get_or-replicate, get_or_past, get_or_push, get_or_append_left, length-replicate}
 use mathlib.Core.Logic.{dite}
 use native.Mathlib.Decide.{ℕ_discrete, dec_lt}
 use Rattle.chip_actor.specs.Setting.{Setting, game_of_setting, IsSetting}
-use Rattle.chip_graph.proofs.SumLemmas.{cond_yes, cond_no, cond_true, cond_false, sum_below_split, sum_below_none, sum_below_ext}
+use Rattle.chip_graph.proofs.SumLemmas.{cond_yes, cond_no, cond_true, cond_false, sum_below_split, sum_below_none}
+use Rattle.chip_graph.proofs.SumLemmas.{sum_below_ext}
 use Rattle.chip_link.specs.Link.{Shows}
 use Rattle.chip_link.proofs.Shown.{fresh_shows, first_shows}
 use Rattle.chip_actor.specs.Edges.{root_edge, start_of}
@@ -13,12 +16,16 @@ use Rattle.chip_actor.proofs.EdgeLemmas.{tail_root}
 use Rattle.chip_core.specs.Core.{tail_of, graph_edges, all_edges, root}
 use Rattle.chip_core.proofs.LogLemmas.{tail_inside}
 use Rattle.chip_world.specs.SharedWords.{opening_words}
-use Rattle.chip_world.specs.World.{WorldState, ShowsEdge, StandsForLog, first_chips, with_chips, AreOpeningWords, AreOpeningActors}
+use Rattle.chip_world.specs.World.{WorldState, ShowsEdge, StandsForLog, first_chips, with_chips, AreOpeningWords}
+use Rattle.chip_world.specs.World.{AreOpeningActors}
 
 -- one more element, and what holds of each
-pub pushed : {X : Type 0} (P : ℕ → X → Type 0) (xs : List X) (y : X) (n : ℕ) → length xs ≡ n → ((i : ℕ) → i < n → (d : X) → P i (get_or xs i d)) → P n y → (i : ℕ) → i < n + 1 → (d : X) → P i (get_or (xs ++ y ∷ []) i d)
+pub pushed : {X : Type 0} (P : ℕ → X → Type 0) (xs : List X) (y : X) (n : ℕ) → length xs ≡ n
+    → ((i : ℕ) → i < n → (d : X) → P i (get_or xs i d)) → P n y → (i : ℕ) → i < n + 1 → (d : X)
+    → P i (get_or (xs ++ y ∷ []) i d)
 pushed P xs y n count each here i l d = dite (ℕ_discrete i n)
-    (λ same. subst (λ (j : ℕ). P j (get_or (xs ++ y ∷ []) j d)) (sym same) (subst (P n) (sym (get_or_push xs y d n count)) here))
+    (λ same. subst (λ (j : ℕ). P j (get_or (xs ++ y ∷ []) j d)) (sym same)
+    (subst (P n) (sym (get_or_push xs y d n count)) here))
     (λ other. subst (P i) (sym (get_or_append_left xs (y ∷ []) d i (omega arith))) (each i (omega arith) d))
 
 -- a cell of a ring that opens
@@ -26,34 +33,50 @@ other_cells : (ring chips i : ℕ) → i ≢ 0 → i < ring → get_or (set (rep
 other_cells ring chips i other l = get_or-set_other (replicate ring 0) 0 i chips 0 other ∙ get_or-replicate ring i 0 0 l
 
 first_cell : (ring chips : ℕ) → 0 < ring → get_or (set (replicate ring 0) 0 chips) 0 0 ≡ chips
-first_cell ring chips some_ring = get_or-set_same (replicate ring 0) 0 chips 0 (subst (λ (n : ℕ). 0 < n) (sym (length-replicate ring 0)) some_ring)
+first_cell ring chips some_ring = get_or-set_same (replicate ring 0) 0 chips 0
+    (subst (λ (n : ℕ). 0 < n) (sym (length-replicate ring 0)) some_ring)
 
 -- the words of an edge show the message with which it opens, or none
-ring_shows : (ring chips : ℕ) → 0 < ring → (put : List ℕ) → put ≡ cond (eqb chips 0) [] (chips ∷ []) → Shows ring (cond (eqb chips 0) 0 1) (λ i. get_or (set (replicate ring 0) 0 chips) i 0) (record { put = put; held = None; clear = false; refused = false }) [] None
+ring_shows : (ring chips : ℕ) → 0 < ring → (put : List ℕ) → put ≡ cond (eqb chips 0) [] (chips ∷ [])
+    → Shows ring (cond (eqb chips 0) 0 1) (λ i. get_or (set (replicate ring 0) 0 chips) i 0)
+    (record { put = put; held = None; clear = false; refused = false }) [] None
 ring_shows ring chips some_ring put put_is = dite (ℕ_discrete chips 0)
-    (λ none. both (cond_yes chips 0 0 1 none) (put_is ∙ cond_yes chips 0 [] (chips ∷ []) none) (fresh_shows ring cells (λ i. zeros none i)))
-    (λ some. both (cond_no chips 0 0 1 some) (put_is ∙ cond_no chips 0 [] (chips ∷ []) some) (first_shows ring chips cells some_ring (first_cell ring chips some_ring) (λ i l other. other_cells ring chips i other l)))
+    (λ none. both (cond_yes chips 0 0 1 none) (put_is ∙ cond_yes chips 0 [] (chips ∷ []) none)
+    (fresh_shows ring cells (λ i. zeros none i)))
+    (λ some. both (cond_no chips 0 0 1 some) (put_is ∙ cond_no chips 0 [] (chips ∷ []) some)
+    (first_shows ring chips cells some_ring (first_cell ring chips some_ring)
+    (λ i l other. other_cells ring chips i other l)))
   where
     cells : ℕ → ℕ
     cells i = get_or (set (replicate ring 0) 0 chips) i 0
 
     Shown : ℕ → List ℕ → Type 0
-    Shown word front = Shows ring word cells (record { put = front; held = None; clear = false; refused = false }) [] None
+    Shown word front = Shows ring word cells (record { put = front; held = None; clear = false; refused = false }) []
+        None
 
-    both : {word word' : ℕ} {front front' : List ℕ} → word ≡ word' → front ≡ front' → Shown word' front' → Shown word front
+    both : {word word' : ℕ} {front front' : List ℕ} → word ≡ word' → front ≡ front' → Shown word' front'
+        → Shown word front
     both w f s = subst (λ (z : ℕ × List ℕ). Shown z.0 z.1) (λ j. (sym w j, sym f j)) s
 
     zeros : chips ≡ 0 → (i : ℕ) → cells i ≡ 0
     zeros none i = dite (ℕ_discrete i 0)
         (λ same. ap cells same ∙ first_cell ring chips some_ring ∙ none)
-        (λ other. get_or-set_other (replicate ring 0) 0 i chips 0 other ∙ dite (dec_lt i ring) (λ l. get_or-replicate ring i 0 0 l) (λ past. get_or_past (replicate ring 0) i 0 (subst (λ (n : ℕ). n ≤ i) (sym (length-replicate ring 0)) (omega arith))))
+        (λ other. get_or-set_other (replicate ring 0) 0 i chips 0 other
+        ∙ dite (dec_lt i ring) (λ l. get_or-replicate ring i 0 0 l)
+        (λ past. get_or_past (replicate ring 0) i 0
+        (subst (λ (n : ℕ). n ≤ i) (sym (length-replicate ring 0)) (omega arith))))
 
 module _ (g : Setting) (is_setting : IsSetting g) where
-  first_put_is : (e : ℕ) → first_put g e ≡ cond (eqb (first_chips (game_of_setting g) e) 0) [] (first_chips (game_of_setting g) e ∷ [])
+  first_put_is : (e : ℕ) → first_put g e
+      ≡ cond (eqb (first_chips (game_of_setting g) e) 0) [] (first_chips (game_of_setting g) e ∷ [])
   first_put_is e = dite (dec_lt e (graph_edges g))
-      (λ l. cond_true (ltb e (graph_edges g)) [] _ (lt-ltb e (graph_edges g) l) ∙ sym (cond_yes (first_chips (game_of_setting g) e) 0 [] (first_chips (game_of_setting g) e ∷ []) (cond_true (ltb e (graph_edges g)) 0 (start_of g (e - graph_edges g)) (lt-ltb e (graph_edges g) l))))
+      (λ l. cond_true (ltb e (graph_edges g)) [] _ (lt-ltb e (graph_edges g) l)
+      ∙ sym (cond_yes (first_chips (game_of_setting g) e) 0 [] (first_chips (game_of_setting g) e ∷ [])
+      (cond_true (ltb e (graph_edges g)) 0 (start_of g (e - graph_edges g)) (lt-ltb e (graph_edges g) l))))
       (λ n. let past = le-ltb e (graph_edges g) (omega arith) in
-      cond_false (ltb e (graph_edges g)) [] _ past ∙ ap (λ (c : ℕ). cond (eqb c 0) [] (c ∷ [])) (sym (cond_false (ltb e (graph_edges g)) 0 (start_of g (e - graph_edges g)) past)))
+      cond_false (ltb e (graph_edges g)) [] _ past
+      ∙ ap (λ (c : ℕ). cond (eqb c 0) [] (c ∷ []))
+      (sym (cond_false (ltb e (graph_edges g)) 0 (start_of g (e - graph_edges g)) past)))
 
   edge_shown : (e : ℕ) → ShowsEdge g [] e (opening_words g.ring (first_chips (game_of_setting g) e))
   edge_shown e = record {
@@ -64,22 +87,34 @@ module _ (g : Setting) (is_setting : IsSetting g) where
 
   one_each : (v : ℕ) → outstanding ((opened g).out (root_edge g v)) ≡ cond (eqb (start_of g v) 0) 0 1
   one_each v =
-      let chips : first_chips (game_of_setting g) (root_edge g v) ≡ start_of g v = cond_false (ltb (root_edge g v) (graph_edges g)) 0 _ (le-ltb (root_edge g v) (graph_edges g) (omega arith)) ∙ ap (start_of g) (let z : root_edge g v - graph_edges g ≡ v = omega arith in z) in
-      let put : first_put g (root_edge g v) ≡ cond (eqb (start_of g v) 0) [] (start_of g v ∷ []) = first_put_is (root_edge g v) ∙ ap (λ (c : ℕ). cond (eqb c 0) [] (c ∷ [])) chips in
+      let chips : first_chips (game_of_setting g) (root_edge g v)
+      ≡ start_of g v = cond_false (ltb (root_edge g v) (graph_edges g)) 0 _
+      (le-ltb (root_edge g v) (graph_edges g) (omega arith))
+      ∙ ap (start_of g) (let z : root_edge g v - graph_edges g ≡ v = omega arith in z) in
+      let put : first_put g (root_edge g v) ≡ cond (eqb (start_of g v) 0) [] (start_of g v ∷ []) =
+      first_put_is (root_edge g v) ∙ ap (λ (c : ℕ). cond (eqb c 0) [] (c ∷ [])) chips in
       ap (λ (l : List ℕ). (length l + 0) - 0) put ∙ dite (ℕ_discrete (start_of g v) 0)
-      (λ z. ap (λ (l : List ℕ). (length l + 0) - 0) (cond_yes (start_of g v) 0 [] (start_of g v ∷ []) z) ∙ sym (cond_yes (start_of g v) 0 0 1 z))
-      (λ z. ap (λ (l : List ℕ). (length l + 0) - 0) (cond_no (start_of g v) 0 [] (start_of g v ∷ []) z) ∙ sym (cond_no (start_of g v) 0 0 1 z))
+      (λ z. ap (λ (l : List ℕ). (length l + 0) - 0) (cond_yes (start_of g v) 0 [] (start_of g v ∷ []) z)
+      ∙ sym (cond_yes (start_of g v) 0 0 1 z))
+      (λ z. ap (λ (l : List ℕ). (length l + 0) - 0) (cond_no (start_of g v) 0 [] (start_of g v ∷ []) z)
+      ∙ sym (cond_no (start_of g v) 0 0 1 z))
 
   -- one message is outstanding on the root edge of each vertex that starts with chips
   all_outstanding : with_chips (game_of_setting g) g.graph.vertices ≡ deficit g (root g) (opened g)
   all_outstanding =
       let f : ℕ → ℕ = λ e. cond (eqb (tail_of g e) (root g)) (outstanding ((opened g).out e)) 0 in
       let parted = sum_below_split (graph_edges g) g.graph.vertices f in
-      let none = sum_below_none (graph_edges g) f (λ e l. cond_no (tail_of g e) (root g) _ 0 (λ z. (let inside = tail_inside g is_setting.game e l in absurd (omega arith)))) in
-      let each = sum_below_ext g.graph.vertices (λ v. f (graph_edges g + v)) (λ v. cond (eqb (start_of g v) 0) 0 1) (λ v l. cond_yes (tail_of g (root_edge g v)) (root g) _ 0 (tail_root g (root_edge g v) (omega arith)) ∙ one_each v) in
+      let none = sum_below_none (graph_edges g) f
+      (λ e l. cond_no (tail_of g e) (root g) _ 0
+      (λ z. (let inside = tail_inside g is_setting.game e l in absurd (omega arith)))) in
+      let each = sum_below_ext g.graph.vertices (λ v. f (graph_edges g + v)) (λ v. cond (eqb (start_of g v) 0) 0 1)
+      (λ v l. cond_yes (tail_of g (root_edge g v)) (root g) _ 0 (tail_root g (root_edge g v) (omega arith))
+      ∙ one_each v) in
       omega arith
 
-  pub opens : (w : WorldState) → w.setting ≡ g → AreOpeningActors g g.graph.vertices w.actors → AreOpeningWords g (all_edges g) w.words → w.root.settled ≡ replicate g.graph.vertices 0 → w.root.outstanding ≡ with_chips (game_of_setting g) g.graph.vertices
+  pub opens : (w : WorldState) → w.setting ≡ g → AreOpeningActors g g.graph.vertices w.actors
+      → AreOpeningWords g (all_edges g) w.words → w.root.settled ≡ replicate g.graph.vertices 0
+      → w.root.outstanding ≡ with_chips (game_of_setting g) g.graph.vertices
       → StandsForLog g [] w
   opens w setting actors words settled outstanding_is = record {
     setting = setting;

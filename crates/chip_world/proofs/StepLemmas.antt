@@ -1,5 +1,7 @@
 -- One step of a world.
-use Rattle.std.proofs.Common.{◌≡◌, ℕ, ◌+◌, ◌-◌, ◌<◌, ◌≤◌, true, false, cond, eqb, ltb, slice_index, lt-ltb, le-ltb, eq-eqb, List, ◌∷◌, length, get_or, set, Option, Some, None, Result, Ok, Err, refl, sym, ap, ◌∙◌, subst, arith, length-set, get_or-set_same, get_or-set_other, true≢false}
+use Rattle.std.proofs.Common.{◌≡◌, ℕ, ◌+◌, ◌-◌, ◌<◌, ◌≤◌, true, false, cond, eqb, ltb, slice_index, lt-ltb, le-ltb}
+use Rattle.std.proofs.Common.{eq-eqb, List, ◌∷◌, length, get_or, set, Option, Some, None, Result, Ok, Err, refl, sym}
+use Rattle.std.proofs.Common.{ap, ◌∙◌, subst, arith, length-set, get_or-set_same, get_or-set_other, true≢false}
 use Rattle.std.specs.Bool.{⊤}
 use mathlib.Core.Logic.{dite}
 use native.Mathlib.Decide.{ℕ_discrete, dec_lt}
@@ -16,13 +18,16 @@ use Rattle.chip_actor.specs.declared.reply.Reply.TheVariants.{Done, NotNow}
 use Rattle.chip_actor.specs.Actor.{Actor, StandsFor, WhateverPart, SomePart}
 use Rattle.chip_actor.specs.Acting.{act_of, event_of, verdict, CanDo, IsDue, Makes}
 use Rattle.chip_actor.proofs.EdgeLemmas.{tail_root}
-use Rattle.chip_core.specs.Core.{Log, Step, Event, Take, Ack, Fire, Clear, Claim, Put, Halt, Settle, Seal, Read, Part, Rule, Reply, unmet, part_of, does, reply_of, part_in, out_in, word_of_part, sees, answer, step, Fits, tail_of, graph_edges, all_edges, root, stopper}
+use Rattle.chip_core.specs.Core.{Log, Step, Event, Take, Ack, Fire, Clear, Claim, Put, Halt, Settle, Seal, Read, Part}
+use Rattle.chip_core.specs.Core.{Rule, Reply, unmet, part_of, does, reply_of, part_in, out_in, word_of_part, sees}
+use Rattle.chip_core.specs.Core.{answer, step, Fits, tail_of, graph_edges, all_edges, root, stopper}
 use Rattle.chip_core.proofs.LogLemmas.{part_here, part_else, settled_step, edge_counts}
 use Rattle.chip_world.specs.SharedWords.{EdgeState, words_of, changed, with_seal, seen_in, words_after, CanPerform}
 use Rattle.chip_world.specs.Makers.{vertex_of, is_of_others}
 use Rattle.chip_world.specs.World.{WorldState, RootState, ShowsEdge, IsActor, IsRoot, StandsForLog, IsDueFor}
 use Rattle.chip_core.proofs.NumberLemmas.{fits_seen}
-use Rattle.chip_world.proofs.WordLemmas.{seal_shown, sees_seal, settle_shown, sees_settle, length-words_after, can_perform, sees_words, words_shown}
+use Rattle.chip_world.proofs.WordLemmas.{seal_shown, sees_seal, settle_shown, sees_settle, length-words_after}
+use Rattle.chip_world.proofs.WordLemmas.{can_perform, sees_words, words_shown}
 use Rattle.chip_world.proofs.VertexLemmas.{refused, passes, found}
 
 -- an operation that was given is needed, and every rule is met
@@ -31,12 +36,14 @@ given None needed act is = (refl, cc)
 given (Some rule) needed act is = absurd (cc)
 
 -- a rule that was given is the first that isn't met
-withheld : (o : Option Rule) (needed : Act) (rule : Rule) → ◌≡◌ {A = Result Act Rule} (Err rule) (verdict o needed) → o ≡ Some rule
+withheld : (o : Option Rule) (needed : Act) (rule : Rule) → ◌≡◌ {A = Result Act Rule} (Err rule) (verdict o needed)
+    → o ≡ Some rule
 withheld None needed rule is = absurd (cc)
 withheld (Some first) needed rule is = cc
 
 -- an operation is of the event that needs it
-event_is : (g : Setting) (x : Event) (s : Part) (v : ℕ) → is_of_others g x ≡ false → part_of g x ≡ v → event_of v (act_of g x s) ≡ x
+event_is : (g : Setting) (x : Event) (s : Part) (v : ℕ) → is_of_others g x ≡ false → part_of g x ≡ v
+    → event_of v (act_of g x s) ≡ x
 event_is g (Take e) s v mine at = refl
 event_is g (Ack e) s v mine at = refl
 event_is g (Fire u k) s v mine at = ap (λ (n : ℕ). Fire n k) (sym at)
@@ -49,7 +56,8 @@ event_is g (Seal e) s v mine at = absurd (true≢false mine)
 event_is g (Read u) s v mine at = absurd (true≢false mine)
 
 -- an event that a vertex makes is of no other
-pub not_of_others : (g : Setting) (v : ℕ) (act : Act) → v < g.graph.vertices → part_of g (event_of v act) ≡ v → is_of_others g (event_of v act) ≡ false
+pub not_of_others : (g : Setting) (v : ℕ) (act : Act) → v < g.graph.vertices → part_of g (event_of v act) ≡ v
+    → is_of_others g (event_of v act) ≡ false
 not_of_others g v (Do.Take e cell) l at = refl
 not_of_others g v (Do.Settle e) l at = dite (dec_lt e (graph_edges g))
     (λ inside. cond_true (ltb e (graph_edges g)) false true (lt-ltb e (graph_edges g) inside))
@@ -64,20 +72,35 @@ not_of_others g v Do.End l at = absurd (omega arith)
 
 module _ (g : Setting) (log : Log) (w : WorldState) (stands : StandsForLog g log w) where
   -- a rule isn't met, and nothing changes
-  pub refuses : (x : Event) (rule : Rule) → unmet g x (part_in g log (part_of g x)) ≡ Some rule → StandsForLog g (step g log x).0 w × (NotNow rule ≡ (step g log x).1)
-  refuses x rule is = (subst (λ (o : Option Rule). StandsForLog g (answer g log x o).0 w) (sym is) stands, ap (λ (o : Option Rule). (answer g log x o).1) (sym is))
+  pub refuses : (x : Event) (rule : Rule) → unmet g x (part_in g log (part_of g x)) ≡ Some rule
+      → StandsForLog g (step g log x).0 w × (NotNow rule ≡ (step g log x).1)
+  refuses x rule is = (
+    subst (λ (o : Option Rule). StandsForLog g (answer g log x o).0 w) (sym is) stands,
+    ap
+        (λ (o : Option Rule). (answer g log x o).1) (sym is),
+  )
 
   -- the rules are met, and the world is that of the longer log
-  pub accepts : (x : Event) (new : WorldState) (reply : Reply) → unmet g x (part_in g log (part_of g x)) ≡ None → StandsForLog g (record { event = x; seen = sees g log x } ∷ log) new → reply ≡ reply_of g x (sees g log x) (part_in g log (part_of g x))
+  pub accepts : (x : Event) (new : WorldState) (reply : Reply) → unmet g x (part_in g log (part_of g x)) ≡ None
+      → StandsForLog g (record { event = x; seen = sees g log x } ∷ log) new
+      → reply ≡ reply_of g x (sees g log x) (part_in g log (part_of g x))
       → StandsForLog g (step g log x).0 new × (reply ≡ (step g log x).1)
-  accepts x new reply is after says = (subst (λ (o : Option Rule). StandsForLog g (answer g log x o).0 new) (sym is) after, says ∙ ap (λ (o : Option Rule). (answer g log x o).1) (sym is))
+  accepts x new reply is after says = (
+    subst (λ (o : Option Rule). StandsForLog g (answer g log x o).0 new) (sym is) after,
+    says
+        ∙ ap (λ (o : Option Rule). (answer g log x o).1) (sym is),
+  )
 
   -- the root's part is as it was after an event of a vertex
   root_stays : (x : Step) → part_of g x.event < g.graph.vertices → IsRoot g (x ∷ log) w.root
   root_stays x vertex = record {
     settled_each = stands.root_keeps.settled_each;
-    settled = λ v l. stands.root_keeps.settled v l ∙ sym (ap (λ (s : Part). (s.out (root_edge g v)).settled) (part_else g x log (tail_of g (root_edge g v)) (λ z. (let at = tail_root g (root_edge g v) (omega arith) in absurd (omega arith)))));
-    outstanding = stands.root_keeps.outstanding ∙ sym (ap (λ (s : Part). deficit g (root g) s) (part_else g x log (root g) (λ z. absurd (omega arith))));
+    settled = λ v l. stands.root_keeps.settled v l
+        ∙ sym (ap (λ (s : Part). (s.out (root_edge g v)).settled)
+        (part_else g x log (tail_of g (root_edge g v))
+        (λ z. (let at = tail_root g (root_edge g v) (omega arith) in absurd (omega arith)))));
+    outstanding = stands.root_keeps.outstanding
+        ∙ sym (ap (λ (s : Part). deficit g (root g) s) (part_else g x log (root g) (λ z. absurd (omega arith))));
   }
 
   -- ---- an event of a vertex
@@ -94,11 +117,17 @@ module _ (g : Setting) (log : Log) (w : WorldState) (stands : StandsForLog g log
 
     due : (unmet g x s ≡ None) × (act_of g x s ≡ act)
     unfolding s
-    due = (subst (λ (u : ℕ). unmet g x (part_in g log u) ≡ None) (sym is_due.mine) is_due.met, ap (λ (u : ℕ). act_of g x (part_in g log u)) is_due.mine ∙ sym is_due.needed)
+    due = (
+      subst (λ (u : ℕ). unmet g x (part_in g log u) ≡ None) (sym is_due.mine) is_due.met,
+      ap
+          (λ (u : ℕ). act_of g x (part_in g log u)) is_due.mine ∙ sym is_due.needed,
+    )
 
     pub vertex_can_perform : CanPerform act w.words
     unfolding s
-    vertex_can_perform = subst (λ (b : Act). CanPerform b w.words) due.1 (can_perform g stands.is_setting.game stands.is_setting.some_ring log stands.legal w.words stands.words_each stands.words x mine_here due.0)
+    vertex_can_perform = subst (λ (b : Act). CanPerform b w.words) due.1
+        (can_perform g stands.is_setting.game stands.is_setting.some_ring log stands.legal w.words stands.words_each
+        stands.words x mine_here due.0)
 
     module _ (a : Actor) (actor_is : a ≡ get_or w.actors v a) where
       actor : IsActor g log v a
@@ -116,21 +145,38 @@ module _ (g : Setting) (log : Log) (w : WorldState) (stands : StandsForLog g log
       unfolding s
       vertex_shows_word = (g, s, stands_part, tt)
 
-      module _ (fired : ℕ) (fired_is : WhateverPart a (λ g s. fired ≡ word_of_part s)) (seen : ℕ) (seen_is : seen ≡ seen_in act fired w.words) where
+      module _ (fired : ℕ) (fired_is : WhateverPart a (λ g s. fired ≡ word_of_part s)) (seen : ℕ)
+          (seen_is : seen ≡ seen_in act fired w.words) where
         sees_it : seen ≡ sees g log x
         unfolding s
-        sees_it = seen_is ∙ ap (λ (b : Act). seen_in b fired w.words) (sym due.1) ∙ sees_words g stands.is_setting.game stands.is_setting.some_ring log stands.legal w.words stands.words_each stands.words fired x (fired_is g s stands_part) mine_here due.0
+        sees_it = seen_is ∙ ap (λ (b : Act). seen_in b fired w.words) (sym due.1)
+            ∙ sees_words g stands.is_setting.game stands.is_setting.some_ring log stands.legal w.words stands.words_each
+            stands.words fired x (fired_is g s stands_part) mine_here due.0
 
         event_here : event_of a.vertex act ≡ x
         event_here = ap (λ (u : ℕ). event_of u act) actor.vertex_is
 
         can_do : CanDo g s a.vertex x seen
         unfolding s
-        can_do = (own, due.0, subst (Rattle.chip_actor.specs.Acting.FitsSeen s x) (sym sees_it) (fits_seen g stands.is_setting.game stands.is_setting.some_ring log stands.legal x (subst (λ (n : ℕ). n < g.graph.vertices) (sym is_due.mine) is_due.inside) due.0))
+        can_do = (
+          own,
+          due.0,
+          subst (Rattle.chip_actor.specs.Acting.FitsSeen s x) (sym sees_it)
+              (fits_seen g stands.is_setting.game stands.is_setting.some_ring log stands.legal x
+              (subst (λ (n : ℕ). n < g.graph.vertices) (sym is_due.mine) is_due.inside) due.0),
+        )
 
         pub vertex_is_due : SomePart a (λ g s. IsDue g s a.vertex (record { act = act; seen = seen }))
         unfolding s
-        vertex_is_due = (g, s, stands_part, (subst (λ (y : Event). CanDo g s a.vertex y seen) (sym event_here) can_do, sym due.1 ∙ ap (λ (y : Event). act_of g y s) (sym event_here)))
+        vertex_is_due = (
+          g,
+          s,
+          stands_part,
+          (
+            subst (λ (y : Event). CanDo g s a.vertex y seen) (sym event_here) can_do,
+            sym due.1 ∙ ap (λ (y : Event). act_of g y s) (sym event_here),
+          ),
+        )
 
         module _ (new : Actor) (reply : Reply) (made : Makes a new (event_of a.vertex act) seen reply) where
           makes : Makes a new x seen reply
@@ -147,7 +193,9 @@ module _ (g : Setting) (log : Log) (w : WorldState) (stands : StandsForLog g log
           new_actor = record {
             vertex_is = (makes g s stands_part can_do).2 ∙ actor.vertex_is;
             stands = subst (λ (p : Part). StandsFor g p new) (sym (part_here g did log v is_due.mine))
-                (subst (λ (u : ℕ). StandsFor g (does g did (part_in g log u)) new) is_due.mine (subst (λ (n : ℕ). StandsFor g (does g (record { event = x; seen = n }) s) new) sees_it (makes g s stands_part can_do).0));
+                (subst (λ (u : ℕ). StandsFor g (does g did (part_in g log u)) new) is_due.mine
+                (subst (λ (n : ℕ). StandsFor g (does g (record { event = x; seen = n }) s) new) sees_it
+                (makes g s stands_part can_do).0));
           }
 
           pub vertex_makes : StandsForLog g (step g log x).0 after × (reply ≡ (step g log x).1)
@@ -158,25 +206,35 @@ module _ (g : Setting) (log : Log) (w : WorldState) (stands : StandsForLog g log
             legal = (stands.legal, (due.0, refl));
             actors_each = length-set w.actors v new ∙ stands.actors_each;
             actors = λ u l d. dite (ℕ_discrete u v)
-                (λ same. subst (λ (n : ℕ). IsActor g (did ∷ log) n (get_or (set w.actors v new) n d)) (sym same) (subst (IsActor g (did ∷ log) v) (sym (get_or-set_same w.actors v new d (let each = stands.actors_each in let m = is_due.inside in omega arith))) new_actor))
+                (λ same. subst (λ (n : ℕ). IsActor g (did ∷ log) n (get_or (set w.actors v new) n d)) (sym same)
+                (subst (IsActor g (did ∷ log) v)
+                (sym (get_or-set_same w.actors v new d (let each = stands.actors_each in let m = is_due.inside in
+                omega arith))) new_actor))
                 (λ other. subst (IsActor g (did ∷ log) u) (sym (get_or-set_other w.actors v u new d other)) record {
                   vertex_is = (stands.actors u l d).vertex_is;
-                  stands = subst (λ (p : Part). StandsFor g p (get_or w.actors u d)) (sym (part_else g did log u (λ z. other (sym z ∙ is_due.mine)))) (stands.actors u l d).stands;
+                  stands = subst (λ (p : Part). StandsFor g p (get_or w.actors u d))
+                      (sym (part_else g did log u (λ z. other (sym z ∙ is_due.mine)))) (stands.actors u l d).stands;
                 });
             words_each = length-words_after act w.words ∙ stands.words_each;
-            words = λ e l d. subst (λ (b : Act). ShowsEdge g (did ∷ log) e (get_or (words_after b w.words) e d)) due.1 (words_shown g stands.is_setting.game stands.is_setting.some_ring log stands.legal w.words stands.words_each stands.words x mine_here due.0 e l d);
+            words = λ e l d. subst (λ (b : Act). ShowsEdge g (did ∷ log) e (get_or (words_after b w.words) e d)) due.1
+                (words_shown g stands.is_setting.game stands.is_setting.some_ring log stands.legal w.words
+                stands.words_each stands.words x mine_here due.0 e l d);
             root_keeps = root_stays did (subst (λ (n : ℕ). n < g.graph.vertices) (sym is_due.mine) is_due.inside);
           } ((makes g s stands_part can_do).1 ∙ ap (λ (n : ℕ). reply_of g x n s) sees_it)
 
   -- an operation that `may` gave is due
-  pub given_is_due : (x : Event) (v : ℕ) (a : Actor) (act : Act) → is_of_others w.setting x ≡ false → vertex_of w.setting x ≡ Some v → a ≡ get_or w.actors v a
-      → WhateverPart a (λ g s. part_of g x ≡ a.vertex → Ok act ≡ verdict (unmet g x s) (act_of g x s)) → IsDueFor g log v act × (event_of v act ≡ x)
+  pub given_is_due : (x : Event) (v : ℕ) (a : Actor) (act : Act) → is_of_others w.setting x ≡ false
+      → vertex_of w.setting x ≡ Some v → a ≡ get_or w.actors v a
+      → WhateverPart a (λ g s. part_of g x ≡ a.vertex → Ok act ≡ verdict (unmet g x s) (act_of g x s))
+      → IsDueFor g log v act × (event_of v act ≡ x)
   given_is_due x v a act mine found_at actor_is may =
-      let maker = found g stands.is_setting.game x v (sym (ap (λ (h : Setting). vertex_of h x) stands.setting) ∙ found_at) in
+      let maker = found g stands.is_setting.game x v (sym (ap (λ (h : Setting). vertex_of h x) stands.setting)
+      ∙ found_at) in
       let actor : IsActor g log v a = subst (IsActor g log v) (sym actor_is) (stands.actors v maker.1 a) in
       let s : Part = part_in g log v in
       let due = given (unmet g x s) (act_of g x s) act (may g s actor.stands (maker.0 ∙ sym actor.vertex_is)) in
-      let event : event_of v act ≡ x = ap (event_of v) (sym due.1) ∙ event_is g x s v (sym (ap (λ (h : Setting). is_of_others h x) stands.setting) ∙ mine) maker.0 in (
+      let event : event_of v act ≡ x = ap (event_of v) (sym due.1)
+      ∙ event_is g x s v (sym (ap (λ (h : Setting). is_of_others h x) stands.setting) ∙ mine) maker.0 in (
         record {
           inside = maker.1;
           mine = ap (part_of g) event ∙ maker.0;
@@ -187,27 +245,36 @@ module _ (g : Setting) (log : Log) (w : WorldState) (stands : StandsForLog g log
       )
 
   -- the actor's rule that isn't met is the core's
-  pub vertex_refuses : (x : Event) (v : ℕ) (a : Actor) (rule : Rule) → vertex_of w.setting x ≡ Some v → a ≡ get_or w.actors v a
-      → WhateverPart a (λ g s. part_of g x ≡ a.vertex → ◌≡◌ {A = Result Act Rule} (Err rule) (verdict (unmet g x s) (act_of g x s))) → StandsForLog g (step g log x).0 w × (NotNow rule ≡ (step g log x).1)
+  pub vertex_refuses : (x : Event) (v : ℕ) (a : Actor) (rule : Rule) → vertex_of w.setting x ≡ Some v
+      → a ≡ get_or w.actors v a
+      → WhateverPart a (λ g s. part_of g x ≡ a.vertex
+      → ◌≡◌ {A = Result Act Rule} (Err rule) (verdict (unmet g x s) (act_of g x s))) → StandsForLog g (step g log x).0 w
+      × (NotNow rule ≡ (step g log x).1)
   vertex_refuses x v a rule found_at actor_is may =
-      let maker = found g stands.is_setting.game x v (sym (ap (λ (h : Setting). vertex_of h x) stands.setting) ∙ found_at) in
+      let maker = found g stands.is_setting.game x v (sym (ap (λ (h : Setting). vertex_of h x) stands.setting)
+      ∙ found_at) in
       let actor : IsActor g log v a = subst (IsActor g log v) (sym actor_is) (stands.actors v maker.1 a) in
       let s : Part = part_in g log (part_of g x) in
-      let stands_part : StandsFor g s a = subst (λ (u : ℕ). StandsFor g (part_in g log u) a) (sym maker.0) actor.stands in
+      let stands_part : StandsFor g s a = subst (λ (u : ℕ). StandsFor g (part_in g log u) a) (sym maker.0) actor.stands
+      in
       refuses x rule (withheld (unmet g x s) (act_of g x s) rule (may g s stands_part (maker.0 ∙ sym actor.vertex_is)))
 
   -- ---- the events of the stopper and of the root
 
   -- an event of no vertex leaves the actors
-  actors_stay : (x : Step) → g.graph.vertices ≤ part_of g x.event → (v : ℕ) → v < g.graph.vertices → (d : Actor) → IsActor g (x ∷ log) v (get_or w.actors v d)
+  actors_stay : (x : Step) → g.graph.vertices ≤ part_of g x.event → (v : ℕ) → v < g.graph.vertices → (d : Actor)
+      → IsActor g (x ∷ log) v (get_or w.actors v d)
   actors_stay x past v l d = record {
     vertex_is = (stands.actors v l d).vertex_is;
-    stands = subst (λ (p : Part). StandsFor g p (get_or w.actors v d)) (sym (part_else g x log v (λ z. absurd (omega arith)))) (stands.actors v l d).stands;
+    stands = subst (λ (p : Part). StandsFor g p (get_or w.actors v d))
+        (sym (part_else g x log v (λ z. absurd (omega arith)))) (stands.actors v l d).stands;
   }
 
   -- the same world but for its words and its root
-  others_stay : (x : Step) → g.graph.vertices ≤ part_of g x.event → Fits g log x → (words : List EdgeState) (root : RootState) → length words ≡ all_edges g
-      → ((e : ℕ) → e < all_edges g → (d : EdgeState) → ShowsEdge g (x ∷ log) e (get_or words e d)) → IsRoot g (x ∷ log) root → StandsForLog g (x ∷ log) (record w { words = words; root = root })
+  others_stay : (x : Step) → g.graph.vertices ≤ part_of g x.event → Fits g log x
+      → (words : List EdgeState) (root : RootState) → length words ≡ all_edges g
+      → ((e : ℕ) → e < all_edges g → (d : EdgeState) → ShowsEdge g (x ∷ log) e (get_or words e d))
+      → IsRoot g (x ∷ log) root → StandsForLog g (x ∷ log) (record w { words = words; root = root })
   others_stay x past fits words root each shown keeps = record {
     setting = stands.setting;
     is_setting = stands.is_setting;
@@ -219,22 +286,33 @@ module _ (g : Setting) (log : Log) (w : WorldState) (stands : StandsForLog g log
     root_keeps = keeps;
   }
 
-  pub seal_refuses : (e : ℕ) → graph_edges g ≤ e → StandsForLog g (step g log (Seal e)).0 w × (NotNow NoSuch ≡ (step g log (Seal e)).1)
-  seal_refuses e past = refuses (Seal e) NoSuch (refused (ltb e (graph_edges g)) NoSuch None (le-ltb e (graph_edges g) past))
+  pub seal_refuses : (e : ℕ) → graph_edges g ≤ e → StandsForLog g (step g log (Seal e)).0 w
+      × (NotNow NoSuch ≡ (step g log (Seal e)).1)
+  seal_refuses e past = refuses (Seal e) NoSuch
+      (refused (ltb e (graph_edges g)) NoSuch None (le-ltb e (graph_edges g) past))
 
-  pub seal_makes : (e : ℕ) → e < graph_edges g → (claims : ℕ) → claims ≡ claims_in (words_of w.words e).word → StandsForLog g (step g log (Seal e)).0 (record w { words = changed e with_seal w.words }) × (Done claims ≡ (step g log (Seal e)).1)
+  pub seal_makes : (e : ℕ) → e < graph_edges g → (claims : ℕ) → claims ≡ claims_in (words_of w.words e).word
+      → StandsForLog g (step g log (Seal e)).0 (record w { words = changed e with_seal w.words })
+      × (Done claims ≡ (step g log (Seal e)).1)
   seal_makes e l claims told =
       let x : Step = record { event = Seal e; seen = sees g log (Seal e) } in
-      let none : unmet g (Seal e) (part_in g log (stopper g)) ≡ None = passes (ltb e (graph_edges g)) NoSuch None (lt-ltb e (graph_edges g) l) in
+      let none : unmet g (Seal e) (part_in g log (stopper g))
+      ≡ None = passes (ltb e (graph_edges g)) NoSuch None (lt-ltb e (graph_edges g) l) in
       accepts (Seal e) (record w { words = changed e with_seal w.words }) (Done claims) none
-      (others_stay x (omega arith) (none, refl) (changed e with_seal w.words) w.root (length-set w.words e _ ∙ stands.words_each) (seal_shown g stands.is_setting.game stands.is_setting.some_ring log stands.legal w.words stands.words_each stands.words e l) record {
+      (others_stay x (omega arith) (none, refl) (changed e with_seal w.words) w.root (length-set w.words e _
+      ∙ stands.words_each) (seal_shown g stands.is_setting.game stands.is_setting.some_ring log stands.legal w.words
+      stands.words_each stands.words e l) record {
         settled_each = stands.root_keeps.settled_each;
         settled = λ v m. stands.root_keeps.settled v m ∙ sym (settled_step g x log (root_edge g v));
-        outstanding = stands.root_keeps.outstanding ∙ sym (ap (deficit g (root g)) (part_else g x log (root g) (λ z. absurd (omega arith))));
+        outstanding = stands.root_keeps.outstanding
+            ∙ sym (ap (deficit g (root g)) (part_else g x log (root g) (λ z. absurd (omega arith))));
       })
-      (ap Done (told ∙ ap claims_in (sees_seal g stands.is_setting.game stands.is_setting.some_ring log stands.legal w.words stands.words_each stands.words e l)))
+      (ap Done (told ∙ ap claims_in
+      (sees_seal g stands.is_setting.game stands.is_setting.some_ring log stands.legal w.words stands.words_each
+      stands.words e l)))
 
-  pub read_refuses : (v : ℕ) (rule : Rule) → unmet g (Read v) (part_in g log (root g)) ≡ Some rule → StandsForLog g (step g log (Read v)).0 w × (NotNow rule ≡ (step g log (Read v)).1)
+  pub read_refuses : (v : ℕ) (rule : Rule) → unmet g (Read v) (part_in g log (root g)) ≡ Some rule
+      → StandsForLog g (step g log (Read v)).0 w × (NotNow rule ≡ (step g log (Read v)).1)
   read_refuses v rule is = refuses (Read v) rule is
 
   -- ---- the settle of a root edge
@@ -253,7 +331,8 @@ module _ (g : Setting) (log : Log) (w : WorldState) (stands : StandsForLog g log
     settled = slice_index w.root.settled v
 
     word_is : word ≡ sees g log (Settle edge)
-    word_is = sees_settle g stands.is_setting.game stands.is_setting.some_ring log stands.legal w.words stands.words_each stands.words edge (omega arith)
+    word_is = sees_settle g stands.is_setting.game stands.is_setting.some_ring log stands.legal w.words
+        stands.words_each stands.words edge (omega arith)
 
     -- settled, acknowledged, sent
     between : (settled ≤ word) × (word ≤ claims_of (out_in g log edge).link)
@@ -268,9 +347,12 @@ module _ (g : Setting) (log : Log) (w : WorldState) (stands : StandsForLog g log
 
     pub settle_few : word - settled ≤ w.root.outstanding
     settle_few =
-        let term = tested_term (all_edges g) (λ e. eqb (tail_of g e) (root g)) (λ e. outstanding ((part_in g log (root g)).out e)) edge (omega arith) (eq-eqb _ _ own_edge) in
-        let here : outstanding ((part_in g log (root g)).out edge) ≡ outstanding (out_in g log edge) = ap (λ (p : ℕ). outstanding ((part_in g log p).out edge)) (sym own_edge) in
-        let all = stands.root_keeps.outstanding in let own = stands.root_keeps.settled v l in let b0 = between.0 in let b1 = between.1 in
+        let term = tested_term (all_edges g) (λ e. eqb (tail_of g e) (root g))
+        (λ e. outstanding ((part_in g log (root g)).out e)) edge (omega arith) (eq-eqb _ _ own_edge) in
+        let here : outstanding ((part_in g log (root g)).out edge) ≡ outstanding (out_in g log edge) =
+        ap (λ (p : ℕ). outstanding ((part_in g log p).out edge)) (sym own_edge) in
+        let all = stands.root_keeps.outstanding in let own = stands.root_keeps.settled v l in let b0 = between.0 in
+        let b1 = between.1 in
         omega arith
 
     abbrev seen : ℕ
@@ -286,49 +368,70 @@ module _ (g : Setting) (log : Log) (w : WorldState) (stands : StandsForLog g log
     settled_then : (e : ℕ) → ℕ → ℕ
     settled_then e n = cond (eqb edge e) (n + (seen - n)) n
 
-    settled_now : (u : ℕ) → u < g.graph.vertices → (settled' : List ℕ) → settled' ≡ set w.root.settled v word → slice_index settled' u ≡ (out_in g (settling ∷ log) (root_edge g u)).settled
+    settled_now : (u : ℕ) → u < g.graph.vertices → (settled' : List ℕ) → settled' ≡ set w.root.settled v word
+        → slice_index settled' u ≡ (out_in g (settling ∷ log) (root_edge g u)).settled
     settled_now u m settled' is =
         ap (λ (l : List ℕ). slice_index l u) is ∙ dite (ℕ_discrete u v)
         (λ same.
-        let each = stands.root_keeps.settled_each in let own = stands.root_keeps.settled v l in let b0 = between.0 in let told = word_is in
+        let each = stands.root_keeps.settled_each in let own = stands.root_keeps.settled v l in let b0 = between.0 in
+        let told = word_is in
         let at : edge ≡ root_edge g u = ap (root_edge g) (sym same) in
         let was : ℕ = (out_in g log (root_edge g u)).settled in
         let was_is : was ≡ (out_in g log edge).settled = ap (λ (e : ℕ). (out_in g log e).settled) (sym at) in
         let all : was + (seen - was) ≡ word = omega arith in
-        ap (λ (n : ℕ). get_or (set w.root.settled v word) n 0) same ∙ get_or-set_same w.root.settled v word 0 (omega arith) ∙ sym all ∙ sym (cond_yes edge (root_edge g u) (was + (seen - was)) was at))
-        (λ other. get_or-set_other w.root.settled v u word 0 other ∙ stands.root_keeps.settled u m ∙ sym (cond_no edge (root_edge g u) _ (out_in g log (root_edge g u)).settled (λ z. other (let a : u ≡ v = omega arith in a))))
+        ap (λ (n : ℕ). get_or (set w.root.settled v word) n 0) same
+        ∙ get_or-set_same w.root.settled v word 0 (omega arith) ∙ sym all
+        ∙ sym (cond_yes edge (root_edge g u) (was + (seen - was)) was at))
+        (λ other. get_or-set_other w.root.settled v u word 0 other ∙ stands.root_keeps.settled u m
+        ∙ sym (cond_no edge (root_edge g u) _ (out_in g log (root_edge g u)).settled
+        (λ z. other (let a : u ≡ v = omega arith in a))))
         ∙ sym (settled_step g settling log (root_edge g u))
 
     outstanding_now : (w.root.outstanding - (word - settled)) ≡ deficit g (root g) (part_in g (settling ∷ log) (root g))
     outstanding_now =
         let s : Part = part_in g log (root g) in
         let new : Part = does g settling s in
-        let moved = tested_move (all_edges g) (λ e. eqb (tail_of g e) (root g)) (λ e. outstanding (new.out e)) (λ e. outstanding (s.out e)) edge (omega arith) (eq-eqb _ _ own_edge)
-        (λ e m other on. ap (λ (n : ℕ). claims_of (s.out e).link - n) (cond_no edge e _ (s.out e).settled (λ z. other (sym z)))) in
-        let here : outstanding (new.out edge) ≡ claims_of (s.out edge).link - ((s.out edge).settled + (seen - (s.out edge).settled)) = ap (λ (n : ℕ). claims_of (s.out edge).link - n) (cond_yes edge edge _ (s.out edge).settled refl) in
-        let claims : claims_of (s.out edge).link ≡ claims_of (out_in g log edge).link = ap (λ (p : ℕ). claims_of ((part_in g log p).out edge).link) (sym own_edge) in
-        let was : (s.out edge).settled ≡ (out_in g log edge).settled = ap (λ (p : ℕ). ((part_in g log p).out edge).settled) (sym own_edge) in
+        let moved = tested_move (all_edges g) (λ e. eqb (tail_of g e) (root g)) (λ e. outstanding (new.out e))
+        (λ e. outstanding (s.out e)) edge (omega arith) (eq-eqb _ _ own_edge)
+        (λ e m other on. ap (λ (n : ℕ). claims_of (s.out e).link - n)
+        (cond_no edge e _ (s.out e).settled (λ z. other (sym z)))) in
+        let here : outstanding (new.out edge)
+        ≡ claims_of (s.out edge).link - ((s.out edge).settled + (seen - (s.out edge).settled)) =
+        ap (λ (n : ℕ). claims_of (s.out edge).link - n) (cond_yes edge edge _ (s.out edge).settled refl) in
+        let claims : claims_of (s.out edge).link ≡ claims_of (out_in g log edge).link =
+        ap (λ (p : ℕ). claims_of ((part_in g log p).out edge).link) (sym own_edge) in
+        let was : (s.out edge).settled ≡ (out_in g log edge).settled =
+        ap (λ (p : ℕ). ((part_in g log p).out edge).settled) (sym own_edge) in
         let own = stands.root_keeps.settled v l in let all = stands.root_keeps.outstanding in let told = word_is in
         let b0 = between.0 in let b1 = between.1 in let few = settle_few in
         let after : w.root.outstanding - (word - settled) ≡ deficit g (root g) new = omega arith in
         after ∙ sym (ap (deficit g (root g)) (part_here g settling log (root g) own_edge))
 
-    pub settle_makes : (more : ℕ) (r : RootState) → more ≡ word - settled → r.settled ≡ set w.root.settled v word → r.outstanding ≡ w.root.outstanding - more
-        → StandsForLog g (step g log (Settle edge)).0 (record w { root = r }) × (Done more ≡ (step g log (Settle edge)).1)
+    pub settle_makes : (more : ℕ) (r : RootState) → more ≡ word - settled → r.settled ≡ set w.root.settled v word
+        → r.outstanding ≡ w.root.outstanding - more
+        → StandsForLog g (step g log (Settle edge)).0 (record w { root = r })
+        × (Done more ≡ (step g log (Settle edge)).1)
     settle_makes more r more_is settled_is outstanding_is =
         accepts (Settle edge) (record w { root = r }) (Done more) met
-        (others_stay settling (let at = own_edge in omega arith) (met, refl) w.words r stands.words_each (settle_shown g stands.is_setting.game stands.is_setting.some_ring log stands.legal w.words stands.words_each stands.words edge) record {
-          settled_each = ap (λ (l : List ℕ). length l) settled_is ∙ length-set w.root.settled v word ∙ stands.root_keeps.settled_each;
+        (others_stay settling (let at = own_edge in omega arith) (met, refl) w.words r stands.words_each
+        (settle_shown g stands.is_setting.game stands.is_setting.some_ring log stands.legal w.words stands.words_each
+        stands.words edge) record {
+          settled_each = ap (λ (l : List ℕ). length l) settled_is ∙ length-set w.root.settled v word
+              ∙ stands.root_keeps.settled_each;
           settled = λ u m. settled_now u m r.settled settled_is;
           outstanding = outstanding_is ∙ ap (λ (n : ℕ). w.root.outstanding - n) more_is ∙ outstanding_now;
         })
-        (ap Done (more_is ∙ (let own = stands.root_keeps.settled v l in let told = word_is in let same : word - settled ≡ seen - (out_in g log edge).settled = omega arith in same)))
+        (ap Done (more_is ∙ (let own = stands.root_keeps.settled v l in let told = word_is in
+        let same : word - settled ≡ seen - (out_in g log edge).settled = omega arith in same)))
 
-  pub settle_refuses : (v : ℕ) → g.graph.vertices ≤ v → StandsForLog g (step g log (Settle (root_edge g v))).0 w × (NotNow NoSuch ≡ (step g log (Settle (root_edge g v))).1)
-  settle_refuses v past = refuses (Settle (root_edge g v)) NoSuch (refused (ltb (root_edge g v) (all_edges g)) NoSuch None (le-ltb (root_edge g v) (all_edges g) (omega arith)))
+  pub settle_refuses : (v : ℕ) → g.graph.vertices ≤ v → StandsForLog g (step g log (Settle (root_edge g v))).0 w
+      × (NotNow NoSuch ≡ (step g log (Settle (root_edge g v))).1)
+  settle_refuses v past = refuses (Settle (root_edge g v)) NoSuch
+      (refused (ltb (root_edge g v) (all_edges g)) NoSuch None (le-ltb (root_edge g v) (all_edges g) (omega arith)))
 
   -- the same by the number of the edge
-  module _ (e v : ℕ) (at : e ≡ root_edge g v) (l : v < g.graph.vertices) (seen : ℕ) (seen_is : seen ≡ (words_of w.words e).acknowledged) where
+  module _ (e v : ℕ) (at : e ≡ root_edge g v) (l : v < g.graph.vertices) (seen : ℕ)
+      (seen_is : seen ≡ (words_of w.words e).acknowledged) where
     word_at : seen ≡ (words_of w.words (root_edge g v)).acknowledged
     word_at = seen_is ∙ ap (λ (i : ℕ). (words_of w.words i).acknowledged) at
 
@@ -338,8 +441,11 @@ module _ (g : Setting) (log : Log) (w : WorldState) (stands : StandsForLog g log
     pub settle_few_at : seen - slice_index w.root.settled v ≤ w.root.outstanding
     settle_few_at = let is = word_at in let le = settle_few v l in omega arith
 
-    pub settle_makes_at : (more : ℕ) (r : RootState) → more ≡ seen - slice_index w.root.settled v → r.settled ≡ set w.root.settled v seen → r.outstanding ≡ w.root.outstanding - more
+    pub settle_makes_at : (more : ℕ) (r : RootState) → more ≡ seen - slice_index w.root.settled v
+        → r.settled ≡ set w.root.settled v seen → r.outstanding ≡ w.root.outstanding - more
         → StandsForLog g (step g log (Settle e)).0 (record w { root = r }) × (Done more ≡ (step g log (Settle e)).1)
     settle_makes_at more r more_is settled_is outstanding_is =
-        subst (λ (i : ℕ). StandsForLog g (step g log (Settle i)).0 (record w { root = r }) × (Done more ≡ (step g log (Settle i)).1)) (sym at)
-        (settle_makes v l more r (more_is ∙ ap (λ (n : ℕ). n - slice_index w.root.settled v) word_at) (settled_is ∙ ap (set w.root.settled v) word_at) outstanding_is)
+        subst (λ (i : ℕ). StandsForLog g (step g log (Settle i)).0 (record w { root = r })
+        × (Done more ≡ (step g log (Settle i)).1)) (sym at)
+        (settle_makes v l more r (more_is ∙ ap (λ (n : ℕ). n - slice_index w.root.settled v) word_at) (settled_is
+        ∙ ap (set w.root.settled v) word_at) outstanding_is)

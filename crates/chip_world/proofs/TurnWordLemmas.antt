@@ -1,5 +1,7 @@
--- The words of a turn as a medium: each operation finds its word, sees what the core says, and leaves the words of the longer log.
-use Rattle.std.proofs.Common.{◌≡◌, ℕ, ◌+◌, ◌^◌, ◌<◌, ◌≤◌, Bool, false, List, ◌∷◌, length, get_or, Option, Some, None, is_some, sym, ap, ◌∙◌, subst, arith, bit_or}
+-- The words of a turn as a medium: each operation finds its word, sees what the core says, and leaves the words of the
+-- longer log.
+use Rattle.std.proofs.Common.{◌≡◌, ℕ, ◌+◌, ◌^◌, ◌<◌, ◌≤◌, Bool, false, List, ◌∷◌, length, get_or, Option, Some, None}
+use Rattle.std.proofs.Common.{is_some, sym, ap, ◌∙◌, subst, arith, bit_or}
 use Rattle.chip_link.specs.Words.{fired_word}
 use Rattle.chip_link.proofs.WordLaws.{adds_firings, halts_word, halts_by_limit}
 use Rattle.chip_actor.specs.Setting.{Setting}
@@ -23,12 +25,14 @@ use Rattle.chip_world.proofs.WordLemmas.{length-words_after, can_perform, sees_w
 use Rattle.chip_world.proofs.StepLemmas.{not_of_others}
 
 -- the word of a vertex that halts
-word_halts : (c : Option Cause) (why : Cause) (fired : ℕ) → fired < 2 ^ 62 → c ≡ Some why → bit_or (fired_word fired false false) (halt_bits (is_by_limit c)) ≡ fired_word fired (is_some c) (is_by_limit c)
+word_halts : (c : Option Cause) (why : Cause) (fired : ℕ) → fired < 2 ^ 62 → c ≡ Some why
+    → bit_or (fired_word fired false false) (halt_bits (is_by_limit c)) ≡ fired_word fired (is_some c) (is_by_limit c)
 word_halts None why fired few is = absurd (cc)
 word_halts (Some SealedEdge) why fired few is = halts_word fired false false few
 word_halts (Some FiringLimit) why fired few is = halts_by_limit fired false false few
 
-module _ (w : TurnWords) (g : Setting) (v : ℕ) (log : Log) (s : Part) (held : Holds w g v log s) (act : Act) (due : IsDueBy g v s act) where
+module _ (w : TurnWords) (g : Setting) (v : ℕ) (log : Log) (s : Part) (held : Holds w g v log s) (act : Act)
+    (due : IsDueBy g v s act) where
   abbrev x : Event
   x = event_of v act
 
@@ -36,31 +40,39 @@ module _ (w : TurnWords) (g : Setting) (v : ℕ) (log : Log) (s : Part) (held : 
   own = not_of_others g v act held.inside due.mine
 
   met : unmet g x (part_in g log (part_of g x)) ≡ None
-  met = subst (λ (u : ℕ). unmet g x (part_in g log u) ≡ None) (sym due.mine) (subst (λ (p : Part). unmet g x p ≡ None) held.part_is due.met)
+  met = subst (λ (u : ℕ). unmet g x (part_in g log u) ≡ None) (sym due.mine)
+      (subst (λ (p : Part). unmet g x p ≡ None) held.part_is due.met)
 
   needed : act_of g x (part_in g log (part_of g x)) ≡ act
   needed = ap (λ (u : ℕ). act_of g x (part_in g log u)) due.mine ∙ ap (act_of g x) (sym held.part_is) ∙ sym due.needed
 
   pub finds : CanPerform act w.words
-  finds = subst (λ (b : Act). CanPerform b w.words) needed (can_perform g held.is_setting.game held.is_setting.some_ring log held.legal w.words held.words_each held.words x own met)
+  finds = subst (λ (b : Act). CanPerform b w.words) needed
+      (can_perform g held.is_setting.game held.is_setting.some_ring log held.legal w.words held.words_each held.words x
+      own met)
 
   sees_it : seen_in act w.fired w.words ≡ sees g log x
   sees_it =
       ap (λ (b : Act). seen_in b w.fired w.words) (sym needed)
-      ∙ sees_words g held.is_setting.game held.is_setting.some_ring log held.legal w.words held.words_each held.words w.fired x
+      ∙ sees_words g held.is_setting.game held.is_setting.some_ring log held.legal w.words held.words_each held.words
+      w.fired x
       (held.fired_is ∙ ap word_of_part (held.part_is ∙ ap (part_in g log) (sym due.mine))) own met
 
   -- what is seen fits
   fits : (seen : ℕ) → seen ≡ sees g log x → FitsSeen s x seen
   fits seen is =
-      subst (FitsSeen s x) (sym is) (subst (λ (p : Part). FitsSeen p x (sees g log x)) (ap (part_in g log) due.mine ∙ sym held.part_is)
-      (fits_seen g held.is_setting.game held.is_setting.some_ring log held.legal x (subst (λ (n : ℕ). n < g.graph.vertices) (sym due.mine) held.inside) met))
+      subst (FitsSeen s x) (sym is)
+      (subst (λ (p : Part). FitsSeen p x (sees g log x)) (ap (part_in g log) due.mine ∙ sym held.part_is)
+      (fits_seen g held.is_setting.game held.is_setting.some_ring log held.legal x
+      (subst (λ (n : ℕ). n < g.graph.vertices) (sym due.mine) held.inside) met))
 
   few_fired : s.fired ≤ g.limit
-  few_fired = subst (λ (p : Part). p.fired ≤ g.limit) (sym held.part_is) (part_kept g held.is_setting.game log held.legal v).within
+  few_fired = subst (λ (p : Part). p.fired ≤ g.limit) (sym held.part_is)
+      (part_kept g held.is_setting.game log held.legal v).within
 
   pub longer : (new : TurnWords) (seen : ℕ) → seen ≡ seen_in act w.fired w.words → new.words ≡ words_after act w.words
-      → new.fired ≡ word_of_part (does g (record { event = x; seen = seen }) s) → IsLonger (Holds new) g v log s act seen
+      → new.fired ≡ word_of_part (does g (record { event = x; seen = seen }) s)
+      → IsLonger (Holds new) g v log s act seen
   longer new seen seen-is words-are fired-is =
       let is : seen ≡ sees g log x = seen-is ∙ sees_it in
       let step : Step = record { event = x; seen = seen } in
@@ -72,10 +84,14 @@ module _ (w : TurnWords) (g : Setting) (v : ℕ) (log : Log) (s : Part) (held : 
           legal = (held.legal, (met, is));
           part_is = ap (does g step) held.part_is ∙ sym (part_here g step log v due.mine);
           words_each = ap length words-are ∙ length-words_after act w.words ∙ held.words_each;
-          words = λ e l d. subst (λ (n : ℕ). ShowsEdge g (record { event = x; seen = n } ∷ log) e (get_or new.words e d)) (sym is)
-              (subst (λ (ws : List EdgeState). ShowsEdge g (record { event = x; seen = sees g log x } ∷ log) e (get_or ws e d)) (sym words-are)
-              (subst (λ (b : Act). ShowsEdge g (record { event = x; seen = sees g log x } ∷ log) e (get_or (words_after b w.words) e d)) needed
-              (words_shown g held.is_setting.game held.is_setting.some_ring log held.legal w.words held.words_each held.words x own met e l d)));
+          words = λ e l d. subst (λ (n : ℕ). ShowsEdge g (record { event = x; seen = n } ∷ log) e
+              (get_or new.words e d)) (sym is)
+              (subst (λ (ws : List EdgeState). ShowsEdge g (record { event = x; seen = sees g log x } ∷ log) e
+              (get_or ws e d)) (sym words-are)
+              (subst (λ (b : Act). ShowsEdge g (record { event = x; seen = sees g log x } ∷ log) e
+              (get_or (words_after b w.words) e d)) needed
+              (words_shown g held.is_setting.game held.is_setting.some_ring log held.legal w.words held.words_each
+              held.words x own met e l d)));
           fired_is = fired-is;
         };
       }
@@ -85,35 +101,45 @@ pub finds_some : (w : TurnWords) (act : Act) → MayServe (Holds w) act → CanP
 finds_some w act (g, v, log, s, held, due) = finds w g v log s held act due
 
 -- an operation that neither fires nor halts
-pub serves : (w new : TurnWords) (act : Act) (seen : ℕ) → seen ≡ seen_in act w.fired w.words → new.words ≡ words_after act w.words → new.fired ≡ w.fired
-    → ((g : Setting) (v seen : ℕ) (s : Part) → word_of_part s ≡ word_of_part (does g (record { event = event_of v act; seen = seen }) s)) → Serves (Holds w) (Holds new) act seen
-serves w new act seen seen-is words-are fired-is keeps = λ g v log s held due. longer w g v log s held act due new seen seen-is words-are (fired-is ∙ held.fired_is ∙ keeps g v seen s)
+pub serves : (w new : TurnWords) (act : Act) (seen : ℕ) → seen ≡ seen_in act w.fired w.words
+    → new.words ≡ words_after act w.words → new.fired ≡ w.fired
+    → ((g : Setting) (v seen : ℕ) (s : Part)
+    → word_of_part s ≡ word_of_part (does g (record { event = event_of v act; seen = seen }) s))
+    → Serves (Holds w) (Holds new) act seen
+serves w new act seen seen-is words-are fired-is keeps = λ g v log s held due. longer w g v log s held act due new seen
+    seen-is words-are (fired-is ∙ held.fired_is ∙ keeps g v seen s)
 
 -- a firing
 pub room_to_fire : (w : TurnWords) (k : ℕ) → MayServe (Holds w) (Do.Fire k) → w.fired + k < 2 ^ 64
 room_to_fire w k (g, v, log, s, held, due) =
     let rules = rules_met g (Fire v k) s due.met in
-    let word : word_of_part s ≡ (s.fired + 0) + 0 = ap (λ (h : Option Cause). fired_word s.fired (is_some h) (is_by_limit h)) rules.2 in
+    let word : word_of_part s
+    ≡ (s.fired + 0) + 0 = ap (λ (h : Option Cause). fired_word s.fired (is_some h) (is_by_limit h)) rules.2 in
     let is = held.fired_is in
     let within = rules.6 in
     let low = held.is_setting.game.low_limit in
     omega arith
 
-pub fires : (w new : TurnWords) (k seen : ℕ) → seen ≡ w.fired → new.words ≡ w.words → new.fired ≡ w.fired + k → Serves (Holds w) (Holds new) (Do.Fire k) seen
+pub fires : (w new : TurnWords) (k seen : ℕ) → seen ≡ w.fired → new.words ≡ w.words → new.fired ≡ w.fired + k
+    → Serves (Holds w) (Holds new) (Do.Fire k) seen
 fires w new k seen seen-is words-are fired-is = λ g v log s held due.
-    longer w g v log s held (Do.Fire k) due new seen seen-is words-are (fired-is ∙ ap (λ (n : ℕ). n + k) held.fired_is ∙ adds_firings s.fired k (is_some s.halt) (is_by_limit s.halt))
+    longer w g v log s held (Do.Fire k) due new seen seen-is words-are (fired-is ∙ ap (λ (n : ℕ). n + k) held.fired_is
+    ∙ adds_firings s.fired k (is_some s.halt) (is_by_limit s.halt))
 
 -- a halt
-pub halts : (w new : TurnWords) (by_limit : Bool) (seen : ℕ) → seen ≡ w.fired → new.words ≡ w.words → new.fired ≡ bit_or w.fired (halt_bits by_limit) → Serves (Holds w) (Holds new) (Do.Halt by_limit) seen
+pub halts : (w new : TurnWords) (by_limit : Bool) (seen : ℕ) → seen ≡ w.fired → new.words ≡ w.words
+    → new.fired ≡ bit_or w.fired (halt_bits by_limit) → Serves (Holds w) (Holds new) (Do.Halt by_limit) seen
 halts w new by_limit seen seen-is words-are fired-is = λ g v log s held due.
     let rules = rules_met g (Halt v) s due.met in
-    let word : word_of_part s ≡ fired_word s.fired false false = ap (λ (h : Option Cause). fired_word s.fired (is_some h) (is_by_limit h)) rules.2 in
+    let word : word_of_part s ≡ fired_word s.fired false false =
+    ap (λ (h : Option Cause). fired_word s.fired (is_some h) (is_by_limit h)) rules.2 in
     let within = few_fired w g v log s held (Do.Halt by_limit) due in
     let low = held.is_setting.game.low_limit in
     let few : s.fired < 2 ^ 62 = omega arith in
     let same : by_limit ≡ is_by_limit (cause g v s) = bits due.needed in
     longer w g v log s held (Do.Halt by_limit) due new seen seen-is words-are
-    (fired-is ∙ (λ j. bit_or ((held.fired_is ∙ word) j) (halt_bits (same j))) ∙ word_halts (cause g v s) rules.4.0 s.fired few rules.4.1)
+    (fired-is ∙ (λ j. bit_or ((held.fired_is ∙ word) j) (halt_bits (same j)))
+    ∙ word_halts (cause g v s) rules.4.0 s.fired few rules.4.1)
   where
     bits : {b c : Bool} → Do.Halt b ≡ Do.Halt c → b ≡ c
     bits same = cc

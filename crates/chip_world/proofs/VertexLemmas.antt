@@ -1,12 +1,14 @@
 -- The vertex that makes an event.
-use Rattle.std.proofs.Common.{◌≡◌, ℕ, ◌<◌, Bool, true, false, cond, ltb, Option, Some, None, refl, sym, ◌∙◌, subst, true≢false}
+use Rattle.std.proofs.Common.{◌≡◌, ℕ, ◌<◌, Bool, true, false, cond, ltb, Option, Some, None, refl, sym, ◌∙◌, subst}
+use Rattle.std.proofs.Common.{true≢false}
 use Rattle.std.proofs.lemmas.Bool.{ltb-true}
 use Rattle.chip_actor.specs.Setting.{Setting, HasGame}
 use Rattle.chip_graph.proofs.SumLemmas.{by_test, cond_false}
 use Rattle.chip_actor.specs.Rules.{need}
 use Rattle.chip_actor.specs.declared.rule.Rule.{Rule}
 use Rattle.chip_actor.specs.declared.rule.Rule.TheVariants.{NoSuch}
-use Rattle.chip_core.specs.Core.{Event, Take, Ack, Fire, Clear, Claim, Put, Halt, Settle, Seal, Read, Part, unmet, part_of, tail_of, head_of, all_edges, graph_edges}
+use Rattle.chip_core.specs.Core.{Event, Take, Ack, Fire, Clear, Claim, Put, Halt, Settle, Seal, Read, Part, unmet}
+use Rattle.chip_core.specs.Core.{part_of, tail_of, head_of, all_edges, graph_edges}
 use Rattle.chip_core.proofs.LogLemmas.{head_inside, tail_inside}
 use Rattle.chip_world.specs.Makers.{head_if, tail_if, vertex_if, vertex_of, is_of_others}
 
@@ -33,13 +35,16 @@ module _ (g : Setting) where
 
   module _ (game : HasGame g) where
     by_head : (e v : ℕ) → head_if g e ≡ Some v → (head_of g e ≡ v) × (v < g.graph.vertices)
-    by_head e v is = let at = given (ltb e (all_edges g)) (head_of g e) v is in (at.1, subst (λ (n : ℕ). n < g.graph.vertices) at.1 (head_inside g game e (ltb-true e (all_edges g) at.0)))
+    by_head e v is = let at = given (ltb e (all_edges g)) (head_of g e) v is in
+        (at.1, subst (λ (n : ℕ). n < g.graph.vertices) at.1 (head_inside g game e (ltb-true e (all_edges g) at.0)))
 
     by_tail : (e v : ℕ) → tail_if g e ≡ Some v → (tail_of g e ≡ v) × (v < g.graph.vertices)
-    by_tail e v is = let at = given (ltb e (graph_edges g)) (tail_of g e) v is in (at.1, subst (λ (n : ℕ). n < g.graph.vertices) at.1 (tail_inside g game e (ltb-true e (graph_edges g) at.0)))
+    by_tail e v is = let at = given (ltb e (graph_edges g)) (tail_of g e) v is in
+        (at.1, subst (λ (n : ℕ). n < g.graph.vertices) at.1 (tail_inside g game e (ltb-true e (graph_edges g) at.0)))
 
     by_vertex : (u v : ℕ) → vertex_if g u ≡ Some v → (u ≡ v) × (v < g.graph.vertices)
-    by_vertex u v is = let at = given (ltb u g.graph.vertices) u v is in (at.1, subst (λ (n : ℕ). n < g.graph.vertices) at.1 (ltb-true u g.graph.vertices at.0))
+    by_vertex u v is = let at = given (ltb u g.graph.vertices) u v is in
+        (at.1, subst (λ (n : ℕ). n < g.graph.vertices) at.1 (ltb-true u g.graph.vertices at.0))
 
     -- the vertex that was found makes the event
     pub found : (x : Event) (v : ℕ) → vertex_of g x ≡ Some v → (part_of g x ≡ v) × (v < g.graph.vertices)
@@ -56,7 +61,8 @@ module _ (g : Setting) where
 
   -- the settle of an edge of the graph is its tail's
   pub settles_graph_edge : (e : ℕ) → is_of_others g (Settle e) ≡ false → ltb e (graph_edges g) ≡ true
-  settles_graph_edge e is = by_test (ltb e (graph_edges g)) (λ yes. yes) (λ no. absurd (true≢false (sym (cond_false (ltb e (graph_edges g)) false true no) ∙ is)))
+  settles_graph_edge e is = by_test (ltb e (graph_edges g)) (λ yes. yes)
+      (λ no. absurd (true≢false (sym (cond_false (ltb e (graph_edges g)) false true no) ∙ is)))
 
   -- where none was found the event names no edge and no vertex
   pub missing : (x : Event) (s : Part) → is_of_others g x ≡ false → vertex_of g x ≡ None → unmet g x s ≡ Some NoSuch
@@ -67,6 +73,7 @@ module _ (g : Setting) where
   missing (Claim e) s mine is = refused _ NoSuch _ (withheld (ltb e (graph_edges g)) (tail_of g e) is)
   missing (Put e) s mine is = refused _ NoSuch _ (withheld (ltb e (graph_edges g)) (tail_of g e) is)
   missing (Halt u) s mine is = refused _ NoSuch _ (withheld (ltb u g.graph.vertices) u is)
-  missing (Settle e) s mine is = absurd (true≢false (sym (settles_graph_edge e mine) ∙ withheld (ltb e (graph_edges g)) (tail_of g e) is))
+  missing (Settle e) s mine is = absurd
+      (true≢false (sym (settles_graph_edge e mine) ∙ withheld (ltb e (graph_edges g)) (tail_of g e) is))
   missing (Seal e) s mine is = absurd (true≢false mine)
   missing (Read u) s mine is = absurd (true≢false mine)

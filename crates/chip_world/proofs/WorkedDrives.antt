@@ -49,7 +49,22 @@ turn_of_sink =
                   saw (Ack 0) 0 ∷ [],
                   refl,
                   (refl, refl),
-                  ([], s1, saw (Ack 0) 0 ∷ [], refl, (refl, refl), (saw (Ack 0) 0 ∷ [], s2, [], refl, (saw (Ack 0) 0 ∷ [], s2, [], refl, (0, [], refl, (refl, refl)), (refl, refl)), (refl, refl))),
+                  (
+                    [],
+                    s1,
+                    saw (Ack 0) 0 ∷ [],
+                    refl,
+                    (refl, refl),
+                    (
+                      saw (Ack 0) 0
+                          ∷ [],
+                      s2,
+                      [],
+                      refl,
+                      (saw (Ack 0) 0 ∷ [], s2, [], refl, (0, [], refl, (refl, refl)), (refl, refl)),
+                      (refl, refl),
+                    ),
+                  ),
                 ),
               ),
             ),

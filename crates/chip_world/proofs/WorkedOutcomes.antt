@@ -1,5 +1,5 @@
--- The lists of an outcome after runs that were played by hand, as the definitions compute them: one with a vertex that the limit halted, one with a
--- vertex that a seal halted.
+-- The lists of an outcome after runs that were played by hand, as the definitions compute them: one with a vertex that
+-- the limit halted, one with a vertex that a seal halted.
 use Rattle.std.proofs.Common.{◌≡◌, ℕ, zero, suc, ◌<◌, [], ◌∷◌, slice_index, refl, arith}
 use Rattle.chip_actor.specs.Setting.{Setting}
 use Rattle.chip_actor.specs.declared.cause.Cause.TheVariants.{SealedEdge, FiringLimit}

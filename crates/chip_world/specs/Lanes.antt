@@ -16,4 +16,5 @@ lane_at lanes e = slice_index_or lanes e no_lane
 
 -- one more message of an edge
 abbrev pub with_message : ℕ → Message → List Lane → List Lane
-with_message e message lanes = slice_set lanes e (record (lane_at lanes e) { messages = (lane_at lanes e).messages ++ message ∷ [] })
+with_message e message lanes = slice_set lanes e
+    (record (lane_at lanes e) { messages = (lane_at lanes e).messages ++ message ∷ [] })

@@ -40,7 +40,8 @@ IsOpen g log = IsClosed g log → ⊥
 -- so many rounds one after another, the root open before each of them
 abbrev pub AreRounds : Setting → ℕ → Log → Log → Type 0
 AreRounds g zero before after = after ≡ before
-AreRounds g (suc n) before after = (between : Log) × AreRounds g n before between × IsOpen g between × IsRound g between after
+AreRounds g (suc n) before after = (between : Log) × AreRounds g n before between × IsOpen g between
+    × IsRound g between after
 
 -- what a drive answers after so many of its rounds: the root is closed; or all of them are made and it is open still
 abbrev pub AnswersDrive : Setting → ℕ → ℕ → Log → Drive → Type 0
@@ -60,4 +61,5 @@ Leads old new Follows = WhateverLog old (λ g before. (after : Log) × StandsFor
 
 -- no drive from there ends otherwise: the new world stands for the log after it, and this is its answer
 abbrev pub NoOtherDrive : WorldState → WorldState → ℕ → Drive → Type 0
-NoOtherDrive old new rounds result = WhateverLog old (λ g before. (after : Log) (answer : Drive) → IsDrive g rounds before after answer → StandsForLog g after new × (answer ≡ result))
+NoOtherDrive old new rounds result = WhateverLog old (λ g before. (after : Log) (answer : Drive)
+    → IsDrive g rounds before after answer → StandsForLog g after new × (answer ≡ result))

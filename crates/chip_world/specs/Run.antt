@@ -1,5 +1,6 @@
 -- A run of a list of events, on its way.
-use Rattle.std.specs.Prelude.{◌≡◌, ℕ, ◌+◌, ◌*◌, ◌<◌, ◌≤◌, ◌==◌, if◌then◌else◌, Bool, false, List, [], ◌∷◌, ◌++◌, length, map, slice_index, slice_index_or}
+use Rattle.std.specs.Prelude.{◌≡◌, ℕ, ◌+◌, ◌*◌, ◌<◌, ◌≤◌, ◌==◌, if◌then◌else◌, Bool, false, List, [], ◌∷◌, ◌++◌, length}
+use Rattle.std.specs.Prelude.{map, slice_index, slice_index_or}
 use Rattle.std.specs.Vec.{vec_len, vec_capacity}
 use Rattle.chip_actor.specs.Setting.{Setting}
 use Rattle.chip_actor.specs.Rules.{Take, Claim}
@@ -36,7 +37,8 @@ pub record Counts (test : ℕ → Event → Bool) (edges : ℕ) (xs : List Event
 
 -- one more is counted for this edge, where it is there
 abbrev pub CountsMore : ℕ → List ℕ → List ℕ → Type 0
-CountsMore edge old new = (length new ≡ length old) × ((e : ℕ) → e < length old → slice_index new e ≡ slice_index old e + (if edge == e then 1 else 0))
+CountsMore edge old new = (length new ≡ length old)
+    × ((e : ℕ) → e < length old → slice_index new e ≡ slice_index old e + (if edge == e then 1 else 0))
 
 -- the lists after an event with this reply
 abbrev pub sent_after : Event → Reply → List Lane → List Lane
@@ -58,7 +60,8 @@ GotOnEdge _ _ edges = Unit {0}
 
 -- room for each message of these events that may come
 abbrev pub HasRoom : (ℕ → Event → Bool) → List Event → List Lane → Type 0
-HasRoom test xs lanes = (e : ℕ) → e < length lanes → length (lane_at lanes e).messages + count_among (test e) xs ≤ (lane_at lanes e).capacity
+HasRoom test xs lanes = (e : ℕ) → e < length lanes
+    → length (lane_at lanes e).messages + count_among (test e) xs ≤ (lane_at lanes e).capacity
 
 -- room for all that these events bring
 pub record HasRooms (xs : List Event) (n : Notes) : Type 0 where
@@ -67,30 +70,37 @@ pub record HasRooms (xs : List Event) (n : Notes) : Type 0 where
   pub delivered : HasRoom is_take_of xs n.delivered
 
 -- of the events xs, asked for after the log, these are left, asked for after the log `now`, and the rest is noted
-pub record IsNotedUpTo (g : Setting) (log : Log) (xs : List Event) (now : Log) (left : List Event) (n : Notes) : Type 0 where
+pub record IsNotedUpTo (g : Setting) (log : Log) (xs : List Event) (now : Log) (left : List Event)
+    (n : Notes) : Type 0 where
   pub after : log_after g log xs ≡ log_after g now left
   pub replies : replies_to g log xs ≡ n.replies.items ++ replies_to g now left
   pub sent_each : length n.sent ≡ all_edges g
-  pub sent : (e : ℕ) → e < all_edges g → sent_on g log xs e ≡ (lane_at n.sent e).messages ++ sent_in e left (replies_to g now left)
+  pub sent : (e : ℕ) → e < all_edges g
+      → sent_on g log xs e ≡ (lane_at n.sent e).messages ++ sent_in e left (replies_to g now left)
   pub delivered_each : length n.delivered ≡ all_edges g
-  pub delivered : (e : ℕ) → e < all_edges g → delivered_on g log xs e ≡ (lane_at n.delivered e).messages ++ delivered_in e left (replies_to g now left)
+  pub delivered : (e : ℕ) → e < all_edges g
+      → delivered_on g log xs e ≡ (lane_at n.delivered e).messages ++ delivered_in e left (replies_to g now left)
 
--- the record of the run of xs after this log: the replies; and of each edge, what was in flight before it and what it sent, and what it
--- delivered
-pub record IsRecordOf (g : Setting) (log : Log) (xs : List Event) (replies : List Reply) (sent delivered : List (List Message)) : Type 0 where
+-- the record of the run of xs after this log: the replies; and of each edge, what was in flight before it and what it
+-- sent, and what it delivered
+pub record IsRecordOf (g : Setting) (log : Log) (xs : List Event) (replies : List Reply)
+    (sent delivered : List (List Message)) : Type 0 where
   pub replies_are : replies ≡ replies_to g log xs
   pub sent_each : length sent ≡ all_edges g
   pub sent_on_edge : (e : ℕ) → e < all_edges g → slice_index_or sent e [] ≡ sent_on g log xs e
   pub delivered_each : length delivered ≡ all_edges g
   pub delivered_on_edge : (e : ℕ) → e < all_edges g → slice_index_or delivered e [] ≡ delivered_on g log xs e
 
--- in a run from the opening, what is held on an edge of the graph and the chips in what was sent are what the firings of its tail made
+-- in a run from the opening, what is held on an edge of the graph and the chips in what was sent are what the firings
+-- of its tail made
 abbrev pub IsHeldByReplies : Setting → Log → List Event → List Reply → Type 0
 IsHeldByReplies g after xs replies =
-    (e : ℕ) → e < graph_edges g → chips_in (sent_in e xs replies) + held g after e ≡ mult_of g e * fired_by g after (tail_of g e)
+    (e : ℕ) → e < graph_edges g
+    → chips_in (sent_in e xs replies) + held g after e ≡ mult_of g e * fired_by g after (tail_of g e)
 
 -- the world answered xs: it stands for the log after them, these are the replies, and the core theorem holds of the run
-pub record AnswersAll (g : Setting) (log : Log) (xs : List Event) (new : WorldState) (replies : List Reply) : Type 0 where
+pub record AnswersAll (g : Setting) (log : Log) (xs : List Event) (new : WorldState)
+    (replies : List Reply) : Type 0 where
   pub world : StandsForLog g (log_after g log xs) new
   pub replies_are : replies ≡ replies_to g log xs
   pub headline : Headline g log xs
@@ -99,6 +109,7 @@ pub record AnswersAll (g : Setting) (log : Log) (xs : List Event) (new : WorldSt
 -- the world ran xs: it stands for the log after them, this is the record, and the core theorem holds of the run
 pub record Runs (g : Setting) (log : Log) (xs : List Event) (new : WorldState) (r : Record) : Type 0 where
   pub world : StandsForLog g (log_after g log xs) new
-  pub recorded : IsRecordOf g log xs r.replies.items (map (λ t. t.items) r.sent.items) (map (λ t. t.items) r.delivered.items)
+  pub recorded : IsRecordOf g log xs r.replies.items (map (λ t. t.items) r.sent.items)
+      (map (λ t. t.items) r.delivered.items)
   pub headline : Headline g log xs
   pub held : log ≡ [] → IsHeldByReplies g (log_after g log xs) xs r.replies.items

@@ -1,5 +1,6 @@
 -- The words that the ends of an edge share, and what an operation on them sees and leaves.
-use Rattle.std.specs.Prelude.{ℕ, ◌+◌, ◌^◌, ◌<◌, ◌==◌, if◌then◌else◌, List, [], length, replicate, slice_index, slice_index_or, slice_set, bit_or}
+use Rattle.std.specs.Prelude.{ℕ, ◌+◌, ◌^◌, ◌<◌, ◌==◌, if◌then◌else◌, List, [], length, replicate, slice_index}
+use Rattle.std.specs.Prelude.{slice_index_or, slice_set, bit_or}
 use Rattle.chip_link.specs.Words.{exchanged}
 use Rattle.chip_actor.specs.declared.act.Act.{Act}
 use Rattle.chip_actor.specs.declared.act.Act.TheVariants as Do
@@ -44,7 +45,11 @@ changed e f words = slice_set words e (f (words_of words e))
 
 -- the words of an edge that opens with a message of so many chips, or with none where these are 0
 abbrev pub opening_words : ℕ → ℕ → EdgeState
-opening_words ring chips = record { word = if chips == 0 then 0 else 1; acknowledged = 0; cells = slice_set (replicate ring 0) 0 chips }
+opening_words ring chips = record {
+  word = if chips == 0 then 0 else 1;
+  acknowledged = 0;
+  cells = slice_set (replicate ring 0) 0 chips;
+}
 
 -- what an operation finds. A fired word is kept by its vertex alone, and given here; a store finds nothing
 abbrev pub seen_in : Act → ℕ → List EdgeState → ℕ

@@ -1,5 +1,6 @@
 -- A running world, and when it stands for a log of the core.
-use Rattle.std.specs.Prelude.{◌≡◌, ℕ, ◌-◌, ◌<◌, ◌==◌, nat_lt, if◌then◌else◌, List, [], length, slice_index, slice_index_or, None}
+use Rattle.std.specs.Prelude.{◌≡◌, ℕ, ◌-◌, ◌<◌, ◌==◌, nat_lt, if◌then◌else◌, List, [], length, slice_index}
+use Rattle.std.specs.Prelude.{slice_index_or, None}
 use Rattle.chip_graph.specs.ChipGame.{ChipGame}
 use Rattle.chip_actor.specs.Setting.{Setting, game_of_setting, IsSetting}
 use Rattle.chip_graph.specs.Sums.{sum_below}
@@ -9,10 +10,12 @@ use Rattle.chip_actor.specs.Part.{deficit}
 use Rattle.chip_actor.specs.Actor as vertex
 use Rattle.chip_actor.specs.declared.act.Act.{Act}
 use Rattle.chip_actor.specs.Acting.{act_of, event_of}
-use Rattle.chip_core.specs.Core.{Log, Event, Reply, unmet, part_of, part_in, out_in, into_in, stop_in, all_edges, root, IsLegalLog, step}
+use Rattle.chip_core.specs.Core.{Log, Event, Reply, unmet, part_of, part_in, out_in, into_in, stop_in, all_edges, root}
+use Rattle.chip_core.specs.Core.{IsLegalLog, step}
 use Rattle.chip_world.specs.SharedWords.{EdgeState, opening_words}
 
--- what the root keeps: by vertices, how many messages of the root edge are settled; and how many are outstanding on all of them together
+-- what the root keeps: by vertices, how many messages of the root edge are settled; and how many are outstanding on all
+-- of them together
 pub record RootState : Type 0 where
   pub settled : List ℕ
   pub outstanding : ℕ
@@ -81,12 +84,14 @@ pub record IsDueFor (g : Setting) (log : Log) (v : ℕ) (act : Act) : Type 0 whe
 
 -- the chips with which an edge opens: on a root edge those that its vertex starts with
 abbrev pub first_chips : ChipGame → ℕ → ℕ
-first_chips game e = if nat_lt e (length game.graph.edges) then 0 else slice_index game.start (e - length game.graph.edges)
+first_chips game e = if nat_lt e (length game.graph.edges) then 0
+    else slice_index game.start (e - length game.graph.edges)
 
 -- the words of the first edges as the game opens
 pub record AreOpeningWords (g : Setting) (count : ℕ) (words : List EdgeState) : Type 0 where
   pub count_is : length words ≡ count
-  pub each : (e : ℕ) → e < count → (d : EdgeState) → slice_index_or words e d ≡ opening_words g.ring (first_chips (game_of_setting g) e)
+  pub each : (e : ℕ) → e < count → (d : EdgeState)
+      → slice_index_or words e d ≡ opening_words g.ring (first_chips (game_of_setting g) e)
 
 -- an actor for each of the first vertices as the game opens
 pub record AreOpeningActors (g : Setting) (count : ℕ) (actors : List vertex.Actor) : Type 0 where

@@ -35,7 +35,8 @@ impl Lanes {
 
     /// One more edge, with these messages.
     pub(crate) fn add(&mut self, messages: Vec<Message>) -> Result<(), AllocError>
-        ensures { IfOk result (λ _. self.new ≡ self.old ++ record { messages = messages.items; capacity = vec_capacity messages } ∷ []) }
+        ensures { IfOk result (λ _. self.new ≡ self.old
+            ++ record { messages = messages.items; capacity = vec_capacity messages } ∷ []) }
     {
         self.lists.push(messages)?;
         Ok(())

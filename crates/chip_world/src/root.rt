@@ -4,7 +4,8 @@ use chip_graph::Game;
 use std::alloc::{AllocError, Global};
 use std::marker::Model;
 
-/// The root's own part: of each root edge, by vertices, how many messages are settled, and how many are outstanding in all.
+/// The root's own part: of each root edge, by vertices, how many messages are settled, and how many are outstanding in
+/// all.
 #[derive(Debug, Drop)]
 pub(crate) struct Root {
     settled: Vec<u64>,

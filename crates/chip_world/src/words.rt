@@ -1,4 +1,5 @@
-ghost use Rattle.std.specs.Prelude.{◌≡◌, ◌+◌, ◌^◌, ◌<◌, ◌==◌, if◌then◌else◌, length, slice_index, slice_set, replicate, IfOk};
+ghost use Rattle.std.specs.Prelude.{◌≡◌, ◌+◌, ◌^◌, ◌<◌, ◌==◌, if◌then◌else◌, length, slice_index, slice_set, replicate};
+ghost use Rattle.std.specs.Prelude.{IfOk};
 ghost use Rattle.chip_link.specs.Words.{exchanged};
 
 use chip_actor::Act;
@@ -101,7 +102,9 @@ impl Model for Words {
 }
 
 impl Words {
-    ghost use Rattle.chip_world.specs.SharedWords.{HasCell, cell_of, words_of, changed, with_cell, with_claim, with_acks, with_seal, opening_words, seen_in, words_after, CanPerform};
+    ghost use Rattle.chip_world.specs.SharedWords.{HasCell, cell_of, words_of, changed, with_cell, with_claim};
+    ghost use Rattle.chip_world.specs.SharedWords.{with_acks, with_seal, opening_words, seen_in, words_after};
+    ghost use Rattle.chip_world.specs.SharedWords.{CanPerform};
     ghost use Rattle.chip_actor.specs.Setting.{setting_of};
     ghost use Rattle.chip_actor.specs.Edges.{all_edges};
     ghost use Rattle.chip_world.specs.World.{AreOpeningWords};

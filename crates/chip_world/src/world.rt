@@ -1,4 +1,5 @@
-ghost use Rattle.std.specs.Prelude.{◌≡◌, ◌+◌, ◌^◌, ◌<◌, ◌≤◌, ◌↔◌, [], length, sum, slice_index, option_to_list, IsTrue, IfOk, false};
+ghost use Rattle.std.specs.Prelude.{◌≡◌, ◌+◌, ◌^◌, ◌<◌, ◌≤◌, ◌↔◌, [], length, sum, slice_index, option_to_list, IsTrue};
+ghost use Rattle.std.specs.Prelude.{IfOk, false};
 
 mod driving;
 mod outcome;
@@ -57,7 +58,8 @@ impl World {
     ghost use Rattle.chip_actor.specs.Edges.{graph_edges, all_edges};
     ghost use Rattle.chip_world.specs.Makers.{head_if, tail_if, vertex_if, vertex_of, is_of_others};
     ghost use Rattle.chip_actor.specs.Acting.{event_of};
-    ghost use Rattle.chip_world.specs.World.{StandsForLog, SomeLog, WhateverLog, SomeLogWhere, IsDueFor, MakesStep, Steps};
+    ghost use Rattle.chip_world.specs.World.{StandsForLog, SomeLog, WhateverLog, SomeLogWhere, IsDueFor, MakesStep};
+    ghost use Rattle.chip_world.specs.World.{Steps};
     ghost use Rattle.chip_link.specs.declared.event.Event.TheVariants.{Seal, Settle, Read};
 
     /// A game that opens: no vertex has chips yet, and those that it starts with are on its root edge.
@@ -163,7 +165,9 @@ impl World {
     // The chips of a message that was sent and not delivered.
     fn count_at(&self, edge: u64, place: u64) -> u64
         requires { edge < all_edges self.now.setting }
-        ensures { WhateverLog self.now (λ g log. length (into_in g log edge).got ≤ place → place < claims_of (out_in g log edge).link → result ≡ slice_index (sent_counts (out_in g log edge).link) place) }
+        ensures { WhateverLog self.now (λ g log. length (into_in g log edge).got ≤ place
+            → place < claims_of (out_in g log edge).link
+            → result ≡ slice_index (sent_counts (out_in g log edge).link) place) }
     {
         let count = self.shared.words.load(edge, place % self.ring.cells());
         if count == 0 { self.held(edge) } else { count }
@@ -211,7 +215,8 @@ impl World {
     // A vertex makes an operation that is due for it.
     fn make(&mut self, vertex: u64, act: Act) -> Reply
         requires { SomeLogWhere self.old (λ g log. IsDueFor g log vertex act) }
-        ensures { WhateverLog self.old (λ g log. IsDueFor g log vertex act → MakesStep g log (event_of vertex act) self.new result) }
+        ensures { WhateverLog self.old (λ g log. IsDueFor g log vertex act
+            → MakesStep g log (event_of vertex act) self.new result) }
     {
         let actor = &mut self.actors[vertex as usize];
         let fired = fired_word(actor);
@@ -256,7 +261,8 @@ impl World {
         Reply::Done(self.actors[vertex as usize].fired())
     }
 
-    /// Makes one event, or answers the first of its rules that isn't met; in time linear in the edges of its vertex at most.
+    /// Makes one event, or answers the first of its rules that isn't met; in time linear in the edges of its vertex at
+    /// most.
     pub fn step(&mut self, event: Event) -> Reply
         ensures { Steps self.old self.new event result }
     {
@@ -342,7 +348,8 @@ fn fired_word(actor: &ActorState) -> u64
 /// An actor for each vertex.
 fn opening_actors(alloc: Global, game: &Game, ring: Ring) -> Result<Vec<ActorState>, AllocError>
     ensures setting { IsSetting (setting_of game.now ring) }
-    ensures actors { let g = setting_of game.now ring in IfOk result (λ actors. AreOpeningActors g g.graph.vertices actors.items) }
+    ensures actors { let g = setting_of game.now ring in
+        IfOk result (λ actors. AreOpeningActors g g.graph.vertices actors.items) }
 {
     // With the cells read, the proof knows that the ring is in range.
     let _cells = ring.cells();

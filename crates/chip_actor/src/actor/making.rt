@@ -1,6 +1,7 @@
 //! A whole turn over a medium: loops over the edges in the order of the turn, and what is rare operation by operation.
 
-ghost use Rattle.std.specs.Prelude.{◌≡◌, ◌≢◌, ◌+◌, ◌*◌, ◌^◌, ◌<◌, ◌≤◌, length, slice_index, ◌==◌, ◌&&◌, is_none, if◌then◌else◌, MatchOption, IfSome};
+ghost use Rattle.std.specs.Prelude.{◌≡◌, ◌≢◌, ◌+◌, ◌*◌, ◌^◌, ◌<◌, ◌≤◌, length, slice_index, ◌==◌, ◌&&◌, is_none};
+ghost use Rattle.std.specs.Prelude.{if◌then◌else◌, MatchOption, IfSome};
 
 use crate::act::{Act, Observed};
 use crate::actor::ActorState;
@@ -17,7 +18,8 @@ impl ActorState {
     fn take_here<M: Medium>(&mut self, medium: &mut M, index: usize) -> usize
         requires within { index < length self.old.ins.edges }
         requires meets { Meets (M.holds medium.old) self.old (Cursor.Take index) }
-        ensures moves { Moves (M.holds medium.old) self.old (Cursor.Take index) (M.holds medium.new) self.new (Cursor.Take (index + 1)) result }
+        ensures moves { Moves (M.holds medium.old) self.old (Cursor.Take index) (M.holds medium.new) self.new
+            (Cursor.Take (index + 1)) result }
         ensures few { result ≤ 1 }
     {
         let edge = self.ins.edges()[index];
@@ -30,7 +32,8 @@ impl ActorState {
     /// Takes once from each edge into the vertex.
     fn take_all<M: Medium>(&mut self, medium: &mut M) -> usize
         requires { Meets (M.holds medium.old) self.old (Cursor.Take 0) }
-        ensures moves { Moves (M.holds medium.old) self.old (Cursor.Take 0) (M.holds medium.new) self.new (Cursor.Settle 0) result }
+        ensures moves { Moves (M.holds medium.old) self.old (Cursor.Take 0) (M.holds medium.new) self.new
+            (Cursor.Settle 0) result }
         ensures few { result < 2 ^ 60 }
     {
         let mut work = 0;
@@ -44,7 +47,8 @@ impl ActorState {
     fn settle_here<M: Medium>(&mut self, medium: &mut M, index: usize) -> usize
         requires within { index < length self.old.outs.edges }
         requires meets { Meets (M.holds medium.old) self.old (Cursor.Settle index) }
-        ensures moves { Moves (M.holds medium.old) self.old (Cursor.Settle index) (M.holds medium.new) self.new (Cursor.Settle (index + 1)) result }
+        ensures moves { Moves (M.holds medium.old) self.old (Cursor.Settle index) (M.holds medium.new) self.new
+            (Cursor.Settle (index + 1)) result }
         ensures few { result ≤ 1 }
     {
         let edge = self.outs.edges()[index];
@@ -56,7 +60,8 @@ impl ActorState {
     /// Settles each edge out of the vertex.
     fn settle_all<M: Medium>(&mut self, medium: &mut M) -> usize
         requires { Meets (M.holds medium.old) self.old (Cursor.Settle 0) }
-        ensures moves { Moves (M.holds medium.old) self.old (Cursor.Settle 0) (M.holds medium.new) self.new Cursor.Fire result }
+        ensures moves { Moves (M.holds medium.old) self.old (Cursor.Settle 0)
+            (M.holds medium.new) self.new Cursor.Fire result }
         ensures few { result < 2 ^ 60 }
     {
         let mut work = 0;
@@ -69,7 +74,8 @@ impl ActorState {
     /// Fires, where the vertex may: as often as its chips and its limit allow.
     fn fire_here<M: Medium>(&mut self, medium: &mut M) -> usize
         requires { Meets (M.holds medium.old) self.old Cursor.Fire }
-        ensures moves { Moves (M.holds medium.old) self.old Cursor.Fire (M.holds medium.new) self.new (Cursor.Put 0) result }
+        ensures moves { Moves (M.holds medium.old) self.old Cursor.Fire (M.holds medium.new) self.new
+            (Cursor.Put 0) result }
         ensures few { result ≤ 1 }
     {
         if self.may_fire() {
@@ -86,7 +92,8 @@ impl ActorState {
         requires within { index < length self.old.outs.edges }
         requires pends { (out_on self.old.outs (slice_index self.old.outs.edges index)).pending ≢ 0 }
         requires meets { Meets (M.holds medium.old) self.old (Cursor.Send index) }
-        ensures { Moves (M.holds medium.old) self.old (Cursor.Send index) (M.holds medium.new) self.new (Cursor.Claim index) 0 }
+        ensures { Moves (M.holds medium.old) self.old (Cursor.Send index) (M.holds medium.new) self.new
+            (Cursor.Claim index) 0 }
     {
         let edge = self.outs.edges()[index];
         let cell = self.outs.at(index).link.cell();
@@ -100,7 +107,8 @@ impl ActorState {
         requires meets { Meets (M.holds medium.old) self.old (Cursor.Claim index) }
         ensures moves { MatchOption result
             (Moves (M.holds medium.old) self.old (Cursor.Claim index) (M.holds medium.new) self.new (Cursor.Send (index + 1)) 0)
-            (λ work. Moves (M.holds medium.old) self.old (Cursor.Claim index) (M.holds medium.new) self.new (Cursor.Store index) work) }
+            (λ work. Moves (M.holds medium.old) self.old (Cursor.Claim index) (M.holds medium.new) self.new
+            (Cursor.Store index) work) }
         ensures few { IfSome result (λ work. work ≤ 1) }
     {
         let edge = self.outs.edges()[index];
@@ -117,8 +125,8 @@ impl ActorState {
         Some(work_of(act, seen, &reply))
     }
 
-    /// Puts what was claimed on the edge at this index of those out of the vertex; where the claim was refused, halts. Whether
-    /// the turn goes on with the next edge.
+    /// Puts what was claimed on the edge at this index of those out of the vertex; where the claim was refused, halts.
+    /// Whether the turn goes on with the next edge.
     fn store_here<M: Medium>(&mut self, medium: &mut M, index: usize) -> bool
         requires within { index < length self.old.outs.edges }
         requires meets { Meets (M.holds medium.old) self.old (Cursor.Store index) }
@@ -136,8 +144,8 @@ impl ActorState {
         true
     }
 
-    /// Sends on the edge at this index of those out of the vertex, where something is pending on it: how many steps count, and
-    /// whether the turn goes on with the next edge.
+    /// Sends on the edge at this index of those out of the vertex, where something is pending on it: how many steps
+    /// count, and whether the turn goes on with the next edge.
     fn send_here<M: Medium>(&mut self, medium: &mut M, index: usize) -> (usize, bool)
         requires within { index < length self.old.outs.edges }
         requires meets { Meets (M.holds medium.old) self.old (Cursor.Send index) }
@@ -159,7 +167,8 @@ impl ActorState {
     /// Sends on each edge out of the vertex on which something is pending, until a claim is refused.
     fn send_all<M: Medium>(&mut self, medium: &mut M) -> usize
         requires { Meets (M.holds medium.old) self.old (Cursor.Send 0) }
-        ensures moves { Moves (M.holds medium.old) self.old (Cursor.Send 0) (M.holds medium.new) self.new Cursor.Limit result }
+        ensures moves { Moves (M.holds medium.old) self.old (Cursor.Send 0)
+            (M.holds medium.new) self.new Cursor.Limit result }
         ensures few { result < 2 ^ 61 }
     {
         let mut work = 0;
@@ -177,7 +186,8 @@ impl ActorState {
     fn ack_here<M: Medium>(&mut self, medium: &mut M, index: usize) -> usize
         requires within { index < length self.old.ins.edges }
         requires meets { Meets (M.holds medium.old) self.old (Cursor.Ack index) }
-        ensures moves { Moves (M.holds medium.old) self.old (Cursor.Ack index) (M.holds medium.new) self.new (Cursor.Ack (index + 1)) result }
+        ensures moves { Moves (M.holds medium.old) self.old (Cursor.Ack index) (M.holds medium.new) self.new
+            (Cursor.Ack (index + 1)) result }
         ensures few { result ≤ 1 }
     {
         let edge = self.ins.edges()[index];
@@ -193,7 +203,8 @@ impl ActorState {
     /// Acknowledges on each edge into the vertex.
     fn ack_all<M: Medium>(&mut self, medium: &mut M) -> usize
         requires { Meets (M.holds medium.old) self.old (Cursor.Ack 0) }
-        ensures moves { Moves (M.holds medium.old) self.old (Cursor.Ack 0) (M.holds medium.new) self.new Cursor.Parent result }
+        ensures moves { Moves (M.holds medium.old) self.old (Cursor.Ack 0)
+            (M.holds medium.new) self.new Cursor.Parent result }
         ensures few { result < 2 ^ 60 }
     {
         let mut work = 0;
@@ -238,7 +249,8 @@ impl ActorState {
     /// The last acknowledgements of a turn, where the vertex is engaged: one that isn't owes none.
     fn acknowledge_all<M: Medium>(&mut self, medium: &mut M) -> usize
         requires { Meets (M.holds medium.old) self.old (Cursor.Ack 0) }
-        ensures moves { Moves (M.holds medium.old) self.old (Cursor.Ack 0) (M.holds medium.new) self.new Cursor.Over result }
+        ensures moves { Moves (M.holds medium.old) self.old (Cursor.Ack 0)
+            (M.holds medium.new) self.new Cursor.Over result }
         ensures few { result < 2 ^ 61 }
     {
         if self.detect.engaged() {
@@ -251,7 +263,8 @@ impl ActorState {
     /// What is left of a turn behind the sends. A halt by the limit comes once, so that it goes operation by operation.
     fn halt_and_acknowledge<M: Medium>(&mut self, medium: &mut M) -> usize
         requires { Meets (M.holds medium.old) self.old Cursor.Limit }
-        ensures moves { Moves (M.holds medium.old) self.old Cursor.Limit (M.holds medium.new) self.new Cursor.Over result }
+        ensures moves { Moves (M.holds medium.old) self.old Cursor.Limit
+            (M.holds medium.new) self.new Cursor.Over result }
         ensures few { result < 2 ^ 61 }
     {
         if self.is_at_limit() {
@@ -267,11 +280,12 @@ impl ActorState {
         self.halt.is_none() && self.unput == 0 && self.refused == 0
     }
 
-    /// What is left of a turn behind the firing. A vertex that is halted, or that a schedule left in the middle of a turn, goes
-    /// operation by operation.
+    /// What is left of a turn behind the firing. A vertex that is halted, or that a schedule left in the middle of a
+    /// turn, goes operation by operation.
     fn send_and_acknowledge<M: Medium>(&mut self, medium: &mut M) -> usize
         requires { Meets (M.holds medium.old) self.old (Cursor.Put 0) }
-        ensures moves { Moves (M.holds medium.old) self.old (Cursor.Put 0) (M.holds medium.new) self.new Cursor.Over result }
+        ensures moves { Moves (M.holds medium.old) self.old (Cursor.Put 0)
+            (M.holds medium.new) self.new Cursor.Over result }
         ensures few { result < 2 ^ 62 }
     {
         if self.may_send() {

@@ -1,4 +1,5 @@
-//! The order of a turn. Each function tells what is due in a phase of it, and goes on to the next phase where nothing is.
+//! The order of a turn. Each function tells what is due in a phase of it, and goes on to the next phase where nothing
+//! is.
 
 ghost use Rattle.std.specs.Prelude.{◌≡◌, ◌==◌, not, true, ⊤};
 
@@ -13,8 +14,8 @@ impl ActorState {
     ghost use Rattle.chip_actor.specs.Actor.{WhateverPart, SomePart, is_passive_now};
     ghost use Rattle.chip_detect.specs.Acknowledging.{may_ack};
 
-    /// The next operation of a turn, and the cursor after it; `Act::End` at the end. The cursor is `Cursor::start()`, or the last one
-    /// that was given, with its operation applied: see `IsUnderWay`.
+    /// The next operation of a turn, and the cursor after it; `Act::End` at the end. The cursor is `Cursor::start()`,
+    /// or the last one that was given, with its operation applied: see `IsUnderWay`.
     pub fn next(&self, cursor: Cursor) -> (Act, Cursor)
         requires { StandsAt self.now cursor }
         ensures { TurnContinues self.now cursor result.0 result.1 }
@@ -195,7 +196,8 @@ impl ActorState {
     // The first place from this one on with an edge on which something may be acknowledged.
     fn next_owed(&self, place: usize) -> Option<usize>
         requires { SomePart self.now (λ g s. ⊤) }
-        ensures { IsFirstFrom (λ e. not (may_ack self.now.detect e (is_passive_now self.now) == 0)) self.now.ins.edges place result }
+        ensures { IsFirstFrom (λ e. not (may_ack self.now.detect e (is_passive_now self.now) == 0)) self.now.ins.edges
+            place result }
     {
         let edges = self.ins.edges();
         let passive = self.passive();

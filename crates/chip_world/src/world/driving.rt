@@ -13,7 +13,8 @@ pub enum Drive {
 
 impl World {
     ghost use Rattle.chip_world.specs.World.{SomeLogWhere};
-    ghost use Rattle.chip_world.specs.Rounds.{Leads, IsTurnAfter, AreTurns, AreRootsSettled, IsRound, IsDrive, NoOtherDrive};
+    ghost use Rattle.chip_world.specs.Rounds.{Leads, IsTurnAfter, AreTurns, AreRootsSettled, IsRound, IsDrive};
+    ghost use Rattle.chip_world.specs.Rounds.{NoOtherDrive};
 
     /// One whole turn of a vertex, over the shared words.
     fn turn(&mut self, vertex: u64)
@@ -54,8 +55,8 @@ impl World {
         self.settle_roots();
     }
 
-    /// Makes rounds until the root is closed, but no more than `rounds`; in each round every vertex makes one whole turn, and
-    /// then the root settles each of its edges.
+    /// Makes rounds until the root is closed, but no more than `rounds`; in each round every vertex makes one whole
+    /// turn, and then the root settles each of its edges.
     pub fn drive(&mut self, rounds: u64) -> Drive
         ensures drives { Leads self.old self.new (λ g before after. IsDrive g rounds before after result) }
         ensures no_other { NoOtherDrive self.old self.new rounds result }

@@ -18,16 +18,19 @@ impl World {
     ghost use Rattle.chip_core.specs.Outcomes.{halted_by, AreFired, IsOutcomeOf, ComesTo};
     ghost use Rattle.chip_world.specs.declared.fault.WorldFault.TheVariants.{NotClosed};
 
-    /// How the game ended, once the root is closed: the counts of the vertices, the chips by these counts, and who halted.
+    /// How the game ended, once the root is closed: the counts of the vertices, the chips by these counts, and who
+    /// halted.
     ///
-    /// The chips are those that the firings made: what a sealed edge holds back counts as sent. It takes time linear in vertices and edges.
+    /// The chips are those that the firings made: what a sealed edge holds back counts as sent. It takes time linear in
+    /// vertices and edges.
     pub fn outcome(&self, alloc: Global) -> Result<Outcome, WorldFault>
         ensures not_closed { WhateverLog self.now (λ g log. IsErrOf result NotClosed ↔ (IsClosed g log → ⊥)) }
         ensures closed { IfOk result (λ o. WhateverLog self.now (λ g log. IsClosed g log)) }
         ensures outcome { IfOk result (λ o. WhateverLog self.now (λ g log. IsOutcomeOf g log o)) }
         ensures in_range { IfOk result IsOutcome }
         ensures comes { IfOk result (λ o. WhateverLog self.now (λ g log. ComesTo g (firings log) o)) }
-        ensures played { IfOk result (λ o. WhateverLog self.now (λ g log. NoneHaltedBySeal g log → IsPlayed (game_of_setting g) o)) }
+        ensures played { IfOk result
+            (λ o. WhateverLog self.now (λ g log. NoneHaltedBySeal g log → IsPlayed (game_of_setting g) o)) }
     {
         if !self.closed() {
             return Err(WorldFault::NotClosed);
@@ -56,7 +59,8 @@ impl World {
 
     // The vertices that halted for this cause, ascending.
     fn halted_by(&self, alloc: Global, cause: Cause) -> Result<Vec<u64>, AllocError>
-        ensures { IfOk result (λ halted. WhateverLog self.now (λ g log. halted.items ≡ halted_by g log cause g.graph.vertices)) }
+        ensures { IfOk result (λ halted. WhateverLog self.now
+            (λ g log. halted.items ≡ halted_by g log cause g.graph.vertices)) }
     {
         let mut halted = Vec::new(alloc);
         for vertex in 0..self.game().graph().vertices() {
@@ -73,7 +77,8 @@ ghost use Rattle.chip_fire.specs.Counted.{IsBelowZero, IsAfter};
 /// The chips of each vertex after firings that were made, so that none is below 0.
 fn chips_after(alloc: Global, game: &Game, fired: &[u64]) -> Result<Vec<u64>, AllocError>
     requires counts_each { length fired.now ≡ game.now.graph.vertices }
-    requires none_below { (v : ℕ) → IsBelowZero game.now.graph (slice_index game.now.start) (slice_index fired.now) v → ⊥ }
+    requires none_below { (v : ℕ) → IsBelowZero game.now.graph (slice_index game.now.start) (slice_index fired.now) v
+        → ⊥ }
     ensures { IfOk result (λ chips. IsAfter game.now fired.now chips.items) }
 {
     match after(alloc, game, fired) {

@@ -113,7 +113,8 @@ impl World {
     fn blank_notes(&self, alloc: Global, events: &[Event]) -> Result<Notes, AllocError>
         ensures some { SomeLog self.now }
         ensures rooms { IfOk result (HasRooms events.now) }
-        ensures begins { IfOk result (λ notes. WhateverLog self.now (λ g log. IsNotedUpTo g log events.now log events.now notes)) }
+        ensures begins { IfOk result
+            (λ notes. WhateverLog self.now (λ g log. IsNotedUpTo g log events.now log events.now notes)) }
     {
         let all_edges = self.all_edges();
         let tally = Tally::new(alloc, all_edges, events)?;
@@ -130,7 +131,8 @@ impl World {
         })
     }
 
-    /// Makes these events, one after another. All memory is taken before the first one: where it runs out, the world is as it was.
+    /// Makes these events, one after another. All memory is taken before the first one: where it runs out, the world is
+    /// as it was.
     pub fn run(&mut self, alloc: Global, events: &[Event]) -> Result<Record, AllocError>
         ensures { MatchResult result
             (λ r. WhateverLog self.old (λ g log. Runs g log events.now self.new r))

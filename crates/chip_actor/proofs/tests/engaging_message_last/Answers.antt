@@ -15,7 +15,8 @@ questions = (Take 0, 1, Empty) ∷ (Take 1, 1, Empty) ∷ (Ack 0, 0, Empty) ∷ 
 abbrev turn : List (Act × ℕ)
 turn = []
 
-plays : may_play (setting_of (game_on 2 ((0, 1) ∷ (0, 1) ∷ []) (2 ∷ 0 ∷ [])) 1) 1 (opened (setting_of (game_on 2 ((0, 1) ∷ (0, 1) ∷ []) (2 ∷ 0 ∷ [])) 1)) questions turn ≡ true
+plays : may_play (setting_of (game_on 2 ((0, 1) ∷ (0, 1) ∷ []) (2 ∷ 0 ∷ [])) 1) 1
+    (opened (setting_of (game_on 2 ((0, 1) ∷ (0, 1) ∷ []) (2 ∷ 0 ∷ [])) 1)) questions turn ≡ true
 plays = refl
 
 pub play-requires : goal.play-requires
@@ -23,5 +24,6 @@ play-requires g c = (
   setting_of c.in_ok-game.game c.one.result,
   opened (setting_of c.in_ok-game.game c.one.result),
   c.in_ok-actor.ensures.opened,
-  (λ j. let g : Setting = setting_of (c.in_ok-game.ensures j) (c.one.ensures j) in may_play g (c.in_ok-actor.ensures.vertex j) (opened g) questions turn) ∙ plays,
+  (λ j. let g : Setting = setting_of (c.in_ok-game.ensures j) (c.one.ensures j) in
+      may_play g (c.in_ok-actor.ensures.vertex j) (opened g) questions turn) ∙ plays,
 )

@@ -13,9 +13,11 @@ abbrev questions : List (Event × ℕ × Reply)
 questions = []
 
 abbrev turn : List (Act × ℕ)
-turn = (Do.Take 2 0, 0) ∷ (Do.Take 4 0, 4) ∷ (Do.Settle 0, 0) ∷ (Do.Settle 1, 0) ∷ (Do.Fire 2, 0) ∷ (Do.Clear 0 0, 0) ∷ (Do.Claim 0 0 1, 0) ∷ (Do.Put 0 0 2, 0) ∷ (Do.Clear 1 0, 0) ∷ (Do.Claim 1 0 1, 0) ∷ (Do.Put 1 0 2, 0) ∷ []
+turn = (Do.Take 2 0, 0) ∷ (Do.Take 4 0, 4) ∷ (Do.Settle 0, 0) ∷ (Do.Settle 1, 0) ∷ (Do.Fire 2, 0) ∷ (Do.Clear 0 0, 0)
+    ∷ (Do.Claim 0 0 1, 0) ∷ (Do.Put 0 0 2, 0) ∷ (Do.Clear 1 0, 0) ∷ (Do.Claim 1 0 1, 0) ∷ (Do.Put 1 0 2, 0) ∷ []
 
-plays : may_play (setting_of (game_on 3 ((0, 1) ∷ (0, 2) ∷ (1, 0) ∷ (1, 2) ∷ []) (4 ∷ 0 ∷ 0 ∷ [])) 1) 0 (opened (setting_of (game_on 3 ((0, 1) ∷ (0, 2) ∷ (1, 0) ∷ (1, 2) ∷ []) (4 ∷ 0 ∷ 0 ∷ [])) 1)) questions turn ≡ true
+plays : may_play (setting_of (game_on 3 ((0, 1) ∷ (0, 2) ∷ (1, 0) ∷ (1, 2) ∷ []) (4 ∷ 0 ∷ 0 ∷ [])) 1) 0
+    (opened (setting_of (game_on 3 ((0, 1) ∷ (0, 2) ∷ (1, 0) ∷ (1, 2) ∷ []) (4 ∷ 0 ∷ 0 ∷ [])) 1)) questions turn ≡ true
 plays = refl
 
 pub play-requires : goal.play-requires
@@ -23,5 +25,6 @@ play-requires g c = (
   setting_of c.in_ok-game.game c.one.result,
   opened (setting_of c.in_ok-game.game c.one.result),
   c.in_ok-actor.ensures.opened,
-  (λ j. let g : Setting = setting_of (c.in_ok-game.ensures j) (c.one.ensures j) in may_play g (c.in_ok-actor.ensures.vertex j) (opened g) questions turn) ∙ plays,
+  (λ j. let g : Setting = setting_of (c.in_ok-game.ensures j) (c.one.ensures j) in
+      may_play g (c.in_ok-actor.ensures.vertex j) (opened g) questions turn) ∙ plays,
 )

@@ -10,12 +10,14 @@ use Rattle.chip_actor.proofs.tests.sealed_half_way.Goals as goal
 
 -- the script, whose replies don't matter here
 abbrev questions : List (Event × ℕ × Reply)
-questions = (Take 4, 4, Empty) ∷ (Fire 0 2, 0, Empty) ∷ (Clear 0, 0, Empty) ∷ (Claim 0, 0, Empty) ∷ (Put 0, 0, Empty) ∷ (Clear 1, 0, Empty) ∷ (Claim 1, 2 ^ 63, Empty) ∷ (Halt 0, 2, Empty) ∷ []
+questions = (Take 4, 4, Empty) ∷ (Fire 0 2, 0, Empty) ∷ (Clear 0, 0, Empty) ∷ (Claim 0, 0, Empty) ∷ (Put 0, 0, Empty)
+    ∷ (Clear 1, 0, Empty) ∷ (Claim 1, 2 ^ 63, Empty) ∷ (Halt 0, 2, Empty) ∷ []
 
 abbrev turn : List (Act × ℕ)
 turn = []
 
-plays : may_play (setting_of (game_on 3 ((0, 1) ∷ (0, 2) ∷ (1, 0) ∷ (1, 2) ∷ []) (4 ∷ 0 ∷ 0 ∷ [])) 1) 0 (opened (setting_of (game_on 3 ((0, 1) ∷ (0, 2) ∷ (1, 0) ∷ (1, 2) ∷ []) (4 ∷ 0 ∷ 0 ∷ [])) 1)) questions turn ≡ true
+plays : may_play (setting_of (game_on 3 ((0, 1) ∷ (0, 2) ∷ (1, 0) ∷ (1, 2) ∷ []) (4 ∷ 0 ∷ 0 ∷ [])) 1) 0
+    (opened (setting_of (game_on 3 ((0, 1) ∷ (0, 2) ∷ (1, 0) ∷ (1, 2) ∷ []) (4 ∷ 0 ∷ 0 ∷ [])) 1)) questions turn ≡ true
 plays = refl
 
 pub play-requires : goal.play-requires
@@ -23,5 +25,6 @@ play-requires g c = (
   setting_of c.in_ok-game.game c.one.result,
   opened (setting_of c.in_ok-game.game c.one.result),
   c.in_ok-actor.ensures.opened,
-  (λ j. let g : Setting = setting_of (c.in_ok-game.ensures j) (c.one.ensures j) in may_play g (c.in_ok-actor.ensures.vertex j) (opened g) questions turn) ∙ plays,
+  (λ j. let g : Setting = setting_of (c.in_ok-game.ensures j) (c.one.ensures j) in
+      may_play g (c.in_ok-actor.ensures.vertex j) (opened g) questions turn) ∙ plays,
 )

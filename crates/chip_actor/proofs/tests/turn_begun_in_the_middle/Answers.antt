@@ -11,12 +11,14 @@ use Rattle.chip_actor.proofs.tests.turn_begun_in_the_middle.Goals as goal
 
 -- the script, whose replies don't matter here
 abbrev questions : List (Event × ℕ × Reply)
-questions = (Take 4, 6, Empty) ∷ (Fire 0 2, 0, Empty) ∷ (Clear 0, 0, Empty) ∷ (Claim 0, 0, Empty) ∷ (Put 0, 0, Empty) ∷ (Clear 1, 0, Empty) ∷ (Claim 1, 0, Empty) ∷ []
+questions = (Take 4, 6, Empty) ∷ (Fire 0 2, 0, Empty) ∷ (Clear 0, 0, Empty) ∷ (Claim 0, 0, Empty) ∷ (Put 0, 0, Empty)
+    ∷ (Clear 1, 0, Empty) ∷ (Claim 1, 0, Empty) ∷ []
 
 abbrev turn : List (Act × ℕ)
 turn = (Do.Take 2 0, 0) ∷ (Do.Take 4 0, 0) ∷ (Do.Settle 0, 0) ∷ (Do.Settle 1, 0) ∷ (Do.Put 1 0 2, 0) ∷ []
 
-plays : may_play (setting_of (game_on 3 ((0, 1) ∷ (0, 2) ∷ (1, 0) ∷ (1, 2) ∷ []) (6 ∷ 0 ∷ 0 ∷ [])) 1) 0 (opened (setting_of (game_on 3 ((0, 1) ∷ (0, 2) ∷ (1, 0) ∷ (1, 2) ∷ []) (6 ∷ 0 ∷ 0 ∷ [])) 1)) questions turn ≡ true
+plays : may_play (setting_of (game_on 3 ((0, 1) ∷ (0, 2) ∷ (1, 0) ∷ (1, 2) ∷ []) (6 ∷ 0 ∷ 0 ∷ [])) 1) 0
+    (opened (setting_of (game_on 3 ((0, 1) ∷ (0, 2) ∷ (1, 0) ∷ (1, 2) ∷ []) (6 ∷ 0 ∷ 0 ∷ [])) 1)) questions turn ≡ true
 plays = refl
 
 pub play-requires : goal.play-requires
@@ -24,5 +26,6 @@ play-requires g c = (
   setting_of c.in_ok-game.game c.one.result,
   opened (setting_of c.in_ok-game.game c.one.result),
   c.in_ok-actor.ensures.opened,
-  (λ j. let g : Setting = setting_of (c.in_ok-game.ensures j) (c.one.ensures j) in may_play g (c.in_ok-actor.ensures.vertex j) (opened g) questions turn) ∙ plays,
+  (λ j. let g : Setting = setting_of (c.in_ok-game.ensures j) (c.one.ensures j) in
+      may_play g (c.in_ok-actor.ensures.vertex j) (opened g) questions turn) ∙ plays,
 )

@@ -4,7 +4,8 @@ use Rattle.chip_graph.proofs.Spreading.{IsSpread}
 use Rattle.chip_graph.proofs.distance.distances.Given as goal
 
 abbrev pub invariant-loop-next : goal.invariant-loop-next
-invariant-loop-next l = IsSpread (record { vertices = length l.ins; sink = l.sink; edges = l.edges }) (found l.search) l.next
+invariant-loop-next l = IsSpread (record { vertices = length l.ins; sink = l.sink; edges = l.edges })
+    (found l.search) l.next
 
 abbrev pub decreases-loop-next : goal.decreases-loop-next
 decreases-loop-next l = length l.ins - l.next

@@ -9,9 +9,14 @@ loop-vertex-preserved c =
     let so_far = c.loop-vertex.invariant.0 in
     let long = length-append c.loop-vertex.actors.items (c.in_ok-new.field-0 ∷ []) in
     let count = so_far.count_is in (
-      subst (AreOpeningActors (setting_of c.args.game.now c.args.ring) (c.loop-vertex.vertex + 1)) (sym c.push_reserved.ensures.items) record {
-        count_is = omega arith;
-        each = pushed (IsActor (setting_of c.args.game.now c.args.ring) []) c.loop-vertex.actors.items c.in_ok-new.field-0 c.loop-vertex.vertex count so_far.each record { vertex_is = c.in_ok-new.ensures.vertex; stands = c.in_ok-new.ensures.opened };
-      },
+      subst (AreOpeningActors (setting_of c.args.game.now c.args.ring) (c.loop-vertex.vertex + 1))
+          (sym c.push_reserved.ensures.items) record {
+            count_is = omega arith;
+            each = pushed (IsActor (setting_of c.args.game.now c.args.ring) []) c.loop-vertex.actors.items
+                c.in_ok-new.field-0 c.loop-vertex.vertex count so_far.each record {
+                  vertex_is = c.in_ok-new.ensures.vertex;
+                  stands = c.in_ok-new.ensures.opened;
+                };
+          },
       (let room = c.loop-vertex.invariant.1 in let same = c.push_reserved.ensures.capacity in omega arith),
     )

@@ -4,4 +4,5 @@ use Rattle.chip_world.specs.World.{AreOpeningActors}
 use Rattle.chip_world.proofs.world.opening_actors.Given as goal
 
 abbrev pub invariant-loop-vertex : goal.invariant-loop-vertex
-invariant-loop-vertex l = AreOpeningActors (setting_of l.game l.ring) l.vertex l.actors.items × (l.vertices ≤ vec_capacity l.actors)
+invariant-loop-vertex l = AreOpeningActors (setting_of l.game l.ring) l.vertex l.actors.items
+    × (l.vertices ≤ vec_capacity l.actors)

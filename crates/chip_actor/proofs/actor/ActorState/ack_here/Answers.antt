@@ -11,32 +11,52 @@ use Rattle.chip_actor.proofs.actor.ActorState.ack_here.Goals.{After-may_ack_at-c
 use Rattle.chip_actor.proofs.actor.ActorState.ack_here.Given.{Over}
 
 -- the edge of the loop stands at its index
-is : (g : Over) (c : After-may_ack_at-count g) → slice_index c.args.self.now.ins.edges c.args.index ≡ slice_index c.edges.result.now c.args.index
-is g c = sym (ap (λ (xs : List ℕ). slice_index xs c.args.index) (c.edges.ensures.edges ∙ ap (λ (a : Actor). a.ins.edges) c.self.view_is))
+is : (g : Over) (c : After-may_ack_at-count g)
+    → slice_index c.args.self.now.ins.edges c.args.index ≡ slice_index c.edges.result.now c.args.index
+is g c = sym (ap (λ (xs : List ℕ). slice_index xs c.args.index) (c.edges.ensures.edges
+    ∙ ap (λ (a : Actor). a.ins.edges) c.self.view_is))
 
 -- and the count is what the books allow there
-allowed : (g : Over) (c : After-may_ack_at-count g) → c.may_ack_at-count.result ≡ detector.may_ack c.args.self.now.detect (slice_index c.edges.result.now c.args.index) (is_passive_now c.args.self.now)
-allowed g c = c.may_ack_at-count.ensures ∙ (λ j. detector.may_ack (c.self.view_is j).detect (slice_index c.edges.result.now c.args.index) (c.passive.ensures.value j))
+allowed : (g : Over) (c : After-may_ack_at-count g)
+    → c.may_ack_at-count.result ≡ detector.may_ack c.args.self.now.detect (slice_index c.edges.result.now c.args.index)
+    (is_passive_now c.args.self.now)
+allowed g c = c.may_ack_at-count.ensures
+    ∙ (λ j. detector.may_ack (c.self.view_is j).detect (slice_index c.edges.result.now c.args.index)
+    (c.passive.ensures.value j))
 
-due : (g : Over) (c : After-may_ack_at-count g) → c.may_ack_at-count.result ≢ 0 → DueBy c.args.self.now (At.Ack c.args.index) (Do.Ack (slice_index c.edges.result.now c.args.index) c.may_ack_at-count.result) (Ack (slice_index c.edges.result.now c.args.index)) (At.Ack (c.args.index + 1))
-due g c some = ack_by c.args.self.now c.args.index (slice_index c.edges.result.now c.args.index) c.may_ack_at-count.result c.requires.within (is g c) (allowed g c) some
+due : (g : Over) (c : After-may_ack_at-count g) → c.may_ack_at-count.result ≢ 0
+    → DueBy c.args.self.now (At.Ack c.args.index)
+    (Do.Ack (slice_index c.edges.result.now c.args.index) c.may_ack_at-count.result)
+    (Ack (slice_index c.edges.result.now c.args.index)) (At.Ack (c.args.index + 1))
+due g c some = ack_by c.args.self.now c.args.index
+    (slice_index c.edges.result.now c.args.index) c.may_ack_at-count.result c.requires.within (is g c)
+    (allowed g c) some
 
 pub returns-then-count-eq0-clause-moves : goal.returns-then-count-eq0-clause-moves
 returns-then-count-eq0-clause-moves g c =
     let d = (goal.at.returns-then-count-eq0-clause-moves g c).After-may_ack_at-count in
-    ack_none c.args.self.now c.args.index (slice_index c.edges.result.now c.args.index) c.may_ack_at-count.result c.requires.within (is g d) (allowed g d) (g.M.Medium.holds c.args.medium.now) c.if-count-eq0.true
+    ack_none c.args.self.now c.args.index (slice_index c.edges.result.now c.args.index) c.may_ack_at-count.result
+    c.requires.within (is g d) (allowed g d) (g.M.Medium.holds c.args.medium.now) c.if-count-eq0.true
 
 pub ack-seen-requires : goal.ack-seen-requires
-ack-seen-requires g c = may_serve (g.M.Medium.holds c.args.medium.now) c.args.self.now (At.Ack c.args.index) (At.Ack (c.args.index + 1)) _ _ c.requires.meets (due g (goal.at.ack-seen-requires g c).After-may_ack_at-count c.if-count-eq0.false)
+ack-seen-requires g c = may_serve (g.M.Medium.holds c.args.medium.now) c.args.self.now (At.Ack c.args.index)
+    (At.Ack (c.args.index + 1)) _ _ c.requires.meets
+    (due g (goal.at.ack-seen-requires g c).After-may_ack_at-count c.if-count-eq0.false)
 
 pub acknowledge_at-reply-requires-clause-can : goal.acknowledge_at-reply-requires-clause-can
 acknowledge_at-reply-requires-clause-can g c =
-    can_do (g.M.Medium.holds c.args.medium.now) (g.M.Medium.holds c.ack-seen.new.self) c.args.self.now (At.Ack c.args.index) (At.Ack (c.args.index + 1)) _ _ c.ack-seen.result c.requires.meets (due g (goal.at.acknowledge_at-reply-requires-clause-can g c).After-may_ack_at-count c.if-count-eq0.false) c.ack-seen.ensures
+    can_do (g.M.Medium.holds c.args.medium.now) (g.M.Medium.holds c.ack-seen.new.self) c.args.self.now
+    (At.Ack c.args.index) (At.Ack (c.args.index + 1)) _ _ c.ack-seen.result c.requires.meets
+    (due g (goal.at.acknowledge_at-reply-requires-clause-can g c).After-may_ack_at-count c.if-count-eq0.false)
+    c.ack-seen.ensures
 
 pub returns-clause-moves : goal.returns-clause-moves
 returns-clause-moves g c =
-    moves_one (g.M.Medium.holds c.args.medium.now) (g.M.Medium.holds c.ack-seen.new.self) c.args.self.now c.acknowledge_at-reply.new.self (At.Ack c.args.index) (At.Ack (c.args.index + 1)) _ _ c.ack-seen.result c.acknowledge_at-reply.result c.work_of.result
-    (due g (goal.at.returns-clause-moves g c).After-may_ack_at-count c.if-count-eq0.false) c.ack-seen.ensures c.acknowledge_at-reply.ensures c.work_of.ensures
+    moves_one (g.M.Medium.holds c.args.medium.now) (g.M.Medium.holds c.ack-seen.new.self) c.args.self.now
+    c.acknowledge_at-reply.new.self (At.Ack c.args.index) (At.Ack (c.args.index + 1)) _ _ c.ack-seen.result
+    c.acknowledge_at-reply.result c.work_of.result
+    (due g (goal.at.returns-clause-moves g c).After-may_ack_at-count c.if-count-eq0.false) c.ack-seen.ensures
+    c.acknowledge_at-reply.ensures c.work_of.ensures
 
 pub returns-clause-few : goal.returns-clause-few
 returns-clause-few g c = one_few _ true c.work_of.ensures

@@ -13,4 +13,5 @@ nonzero_div-self-inside c =
 
 pub returns : goal.returns
 returns c = λ g s stands.
-    c.min.ensures ∙ ap (λ (a : Actor). min (a.chips / a.degree) (a.limit - a.fired)) c.self.view_is ∙ (λ j. min (stands.chips j / stands.knows.degree j) (stands.knows.limit j - stands.fired j))
+    c.min.ensures ∙ ap (λ (a : Actor). min (a.chips / a.degree) (a.limit - a.fired)) c.self.view_is
+    ∙ (λ j. min (stands.chips j / stands.knows.degree j) (stands.knows.limit j - stands.fired j))

@@ -8,4 +8,7 @@ use Rattle.chip_actor.proofs.actor.ActorState.claim.Goals as goal
 
 -- the edge is one of the vertex's
 pub index_of-index-requires : goal.index_of-index-requires
-index_of-index-requires c = (may_claim (the_view c.self.inside) c.args.edge c.args.seen (subst (λ (a : Actor). SomePart a (λ g s. CanDo g s a.vertex (Claim c.args.edge) c.args.seen)) (sym c.self.view_is) c.requires)).among
+index_of-index-requires c =
+    (may_claim (the_view c.self.inside) c.args.edge c.args.seen
+    (subst (λ (a : Actor). SomePart a (λ g s. CanDo g s a.vertex (Claim c.args.edge) c.args.seen))
+    (sym c.self.view_is) c.requires)).among

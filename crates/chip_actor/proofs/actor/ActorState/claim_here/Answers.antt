@@ -12,35 +12,52 @@ use Rattle.chip_actor.proofs.actor.ActorState.claim_here.Goals.{After-claim_next
 use Rattle.chip_actor.proofs.actor.ActorState.claim_here.Given.{Over}
 
 -- the edge stands at its index
-is : (g : Over) (c : After-claim_next g) → slice_index c.args.self.now.outs.edges c.args.index ≡ slice_index c.edges.result.now c.args.index
-is g c = sym (ap (λ (xs : List ℕ). slice_index xs c.args.index) (c.edges.ensures ∙ ap (λ (a : Actor). a.outs.edges) c.self.view_is))
+is : (g : Over) (c : After-claim_next g)
+    → slice_index c.args.self.now.outs.edges c.args.index ≡ slice_index c.edges.result.now c.args.index
+is g c = sym (ap (λ (xs : List ℕ). slice_index xs c.args.index) (c.edges.ensures
+    ∙ ap (λ (a : Actor). a.outs.edges) c.self.view_is))
 
 -- and what is known of it stands there
-there : (g : Over) (c : After-claim_next g) → c.at.result.now ≡ out_on c.args.self.now.outs (slice_index c.edges.result.now c.args.index)
-there g c = c.at.ensures ∙ ap (λ (a : Actor). out_on a.outs (slice_index a.outs.edges c.args.index)) c.self.view_is ∙ ap (out_on c.args.self.now.outs) (is g c)
+there : (g : Over) (c : After-claim_next g)
+    → c.at.result.now ≡ out_on c.args.self.now.outs (slice_index c.edges.result.now c.args.index)
+there g c = c.at.ensures ∙ ap (λ (a : Actor). out_on a.outs (slice_index a.outs.edges c.args.index)) c.self.view_is
+    ∙ ap (out_on c.args.self.now.outs) (is g c)
 
-words : (g : Over) (c : After-claim_next g) → c.claim_next.result ≡ claim_words (out_on c.args.self.now.outs (slice_index c.edges.result.now c.args.index)).link
+words : (g : Over) (c : After-claim_next g)
+    → c.claim_next.result ≡ claim_words (out_on c.args.self.now.outs (slice_index c.edges.result.now c.args.index)).link
 words g c = c.claim_next.ensures.words ∙ ap (λ (o : OutEnd). claim_words o.link) (there g c)
 
-due : (g : Over) (c : After-claim_next g) (w : ℕ × ℕ) → c.claim_next.result ≡ Some w → DueBy c.args.self.now (At.Claim c.args.index) (Do.Claim (slice_index c.edges.result.now c.args.index) w.0 w.1) (Claim (slice_index c.edges.result.now c.args.index)) (At.Store c.args.index)
-due g c w some = claim_by c.args.self.now c.args.index (slice_index c.edges.result.now c.args.index) c.requires.within (is g c) w (sym some ∙ words g c)
+due : (g : Over) (c : After-claim_next g) (w : ℕ × ℕ) → c.claim_next.result ≡ Some w
+    → DueBy c.args.self.now (At.Claim c.args.index) (Do.Claim (slice_index c.edges.result.now c.args.index) w.0 w.1)
+    (Claim (slice_index c.edges.result.now c.args.index)) (At.Store c.args.index)
+due g c w some = claim_by c.args.self.now c.args.index (slice_index c.edges.result.now c.args.index) c.requires.within
+    (is g c) w (sym some ∙ words g c)
 
 pub returns-in_default-clause-moves : goal.returns-in_default-clause-moves
 returns-in_default-clause-moves g c =
     let d = (goal.at.returns-in_default-clause-moves g c).After-claim_next in
-    claim_none c.args.self.now c.args.index (slice_index c.edges.result.now c.args.index) c.requires.within (is g d) (g.M.Medium.holds c.args.medium.now) (sym c.in_default.is ∙ words g d)
+    claim_none c.args.self.now c.args.index (slice_index c.edges.result.now c.args.index) c.requires.within (is g d)
+    (g.M.Medium.holds c.args.medium.now) (sym c.in_default.is ∙ words g d)
 
 pub claim-seen-requires : goal.claim-seen-requires
-claim-seen-requires g c = may_serve (g.M.Medium.holds c.args.medium.now) c.args.self.now (At.Claim c.args.index) (At.Store c.args.index) _ _ c.requires.meets (due g (goal.at.claim-seen-requires g c).After-claim_next c.in-Some.words c.in-Some.is)
+claim-seen-requires g c = may_serve (g.M.Medium.holds c.args.medium.now) c.args.self.now (At.Claim c.args.index)
+    (At.Store c.args.index) _ _ c.requires.meets
+    (due g (goal.at.claim-seen-requires g c).After-claim_next c.in-Some.words c.in-Some.is)
 
 pub claim_at-reply-requires-clause-can : goal.claim_at-reply-requires-clause-can
 claim_at-reply-requires-clause-can g c =
-    can_do (g.M.Medium.holds c.args.medium.now) (g.M.Medium.holds c.claim-seen.new.self) c.args.self.now (At.Claim c.args.index) (At.Store c.args.index) _ _ c.claim-seen.result c.requires.meets (due g (goal.at.claim_at-reply-requires-clause-can g c).After-claim_next c.in-Some.words c.in-Some.is) c.claim-seen.ensures
+    can_do (g.M.Medium.holds c.args.medium.now) (g.M.Medium.holds c.claim-seen.new.self) c.args.self.now
+    (At.Claim c.args.index) (At.Store c.args.index) _ _ c.claim-seen.result c.requires.meets
+    (due g (goal.at.claim_at-reply-requires-clause-can g c).After-claim_next c.in-Some.words c.in-Some.is)
+    c.claim-seen.ensures
 
 pub returns-clause-moves : goal.returns-clause-moves
 returns-clause-moves g c =
-    moves_one (g.M.Medium.holds c.args.medium.now) (g.M.Medium.holds c.claim-seen.new.self) c.args.self.now c.claim_at-reply.new.self (At.Claim c.args.index) (At.Store c.args.index) _ _ c.claim-seen.result c.claim_at-reply.result c.work_of.result
-    (due g (goal.at.returns-clause-moves g c).After-claim_next c.in-Some.words c.in-Some.is) c.claim-seen.ensures c.claim_at-reply.ensures c.work_of.ensures
+    moves_one (g.M.Medium.holds c.args.medium.now) (g.M.Medium.holds c.claim-seen.new.self) c.args.self.now
+    c.claim_at-reply.new.self (At.Claim c.args.index)
+    (At.Store c.args.index) _ _ c.claim-seen.result c.claim_at-reply.result c.work_of.result
+    (due g (goal.at.returns-clause-moves g c).After-claim_next c.in-Some.words c.in-Some.is) c.claim-seen.ensures
+    c.claim_at-reply.ensures c.work_of.ensures
 
 pub returns-clause-few : goal.returns-clause-few
 returns-clause-few g c = one_few _ _ c.work_of.ensures

@@ -8,4 +8,6 @@ use Rattle.chip_actor.proofs.actor.ActorState.clear.Goals as goal
 
 -- the edge is one of the vertex's
 pub index_of-index-requires : goal.index_of-index-requires
-index_of-index-requires c = clear_among (the_view c.self.inside) c.args.edge c.args.seen (subst (λ (a : Actor). SomePart a (λ g s. CanDo g s a.vertex (Clear c.args.edge) c.args.seen)) (sym c.self.view_is) c.requires)
+index_of-index-requires c = clear_among (the_view c.self.inside) c.args.edge c.args.seen
+    (subst (λ (a : Actor). SomePart a (λ g s. CanDo g s a.vertex (Clear c.args.edge) c.args.seen))
+    (sym c.self.view_is) c.requires)

@@ -8,8 +8,14 @@ use Rattle.chip_actor.proofs.actor.ActorState.clear_at.Goals as goal
 
 pub returns-in_default : goal.returns-in_default
 returns-in_default c = rw (← c.self.view_is)
-    (subst (λ (w : Option (ℕ × ℕ)). Makes (the_view c.self.inside) (record (the_view c.self.inside) { outs = c.clear_at.new.self }) (Clear c.args.edge) c.args.seen (clear_reply w)) c.in_default.is (clear_made (the_view c.self.inside) c.args.edge c.args.seen c.clear_at.new.self c.clear_at.result c.clear_at.ensures.words c.clear_at.ensures.after))
+    (subst (λ (w : Option (ℕ × ℕ)). Makes (the_view c.self.inside)
+    (record (the_view c.self.inside) { outs = c.clear_at.new.self }) (Clear c.args.edge) c.args.seen (clear_reply w))
+    c.in_default.is (clear_made (the_view c.self.inside) c.args.edge c.args.seen c.clear_at.new.self c.clear_at.result
+    c.clear_at.ensures.words c.clear_at.ensures.after))
 
 pub returns : goal.returns
 returns c = rw (← c.self.view_is)
-    (subst (λ (w : Option (ℕ × ℕ)). Makes (the_view c.self.inside) (record (the_view c.self.inside) { outs = c.clear_at.new.self }) (Clear c.args.edge) c.args.seen (clear_reply w)) c.in-Some.is (clear_made (the_view c.self.inside) c.args.edge c.args.seen c.clear_at.new.self c.clear_at.result c.clear_at.ensures.words c.clear_at.ensures.after))
+    (subst (λ (w : Option (ℕ × ℕ)). Makes (the_view c.self.inside)
+    (record (the_view c.self.inside) { outs = c.clear_at.new.self }) (Clear c.args.edge) c.args.seen (clear_reply w))
+    c.in-Some.is (clear_made (the_view c.self.inside) c.args.edge c.args.seen c.clear_at.new.self c.clear_at.result
+    c.clear_at.ensures.words c.clear_at.ensures.after))

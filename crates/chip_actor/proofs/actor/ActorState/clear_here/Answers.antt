@@ -12,27 +12,39 @@ use Rattle.chip_actor.proofs.actor.ActorState.clear_here.Goals.{After-cell-cell}
 use Rattle.chip_actor.proofs.actor.ActorState.clear_here.Given.{Over}
 
 -- the edge stands at its index
-is : (g : Over) (c : After-cell-cell g) → slice_index c.args.self.now.outs.edges c.args.index ≡ slice_index c.edges.result.now c.args.index
-is g c = sym (ap (λ (xs : List ℕ). slice_index xs c.args.index) (c.edges.ensures ∙ ap (λ (a : Actor). a.outs.edges) c.self.view_is))
+is : (g : Over) (c : After-cell-cell g)
+    → slice_index c.args.self.now.outs.edges c.args.index ≡ slice_index c.edges.result.now c.args.index
+is g c = sym (ap (λ (xs : List ℕ). slice_index xs c.args.index) (c.edges.ensures
+    ∙ ap (λ (a : Actor). a.outs.edges) c.self.view_is))
 
 -- and what is known of it stands there
-there : (g : Over) (c : After-cell-cell g) → c.at.result.now ≡ out_on c.args.self.now.outs (slice_index c.edges.result.now c.args.index)
-there g c = c.at.ensures ∙ ap (λ (a : Actor). out_on a.outs (slice_index a.outs.edges c.args.index)) c.self.view_is ∙ ap (out_on c.args.self.now.outs) (is g c)
+there : (g : Over) (c : After-cell-cell g)
+    → c.at.result.now ≡ out_on c.args.self.now.outs (slice_index c.edges.result.now c.args.index)
+there g c = c.at.ensures ∙ ap (λ (a : Actor). out_on a.outs (slice_index a.outs.edges c.args.index)) c.self.view_is
+    ∙ ap (out_on c.args.self.now.outs) (is g c)
 
-due : (g : Over) (c : After-cell-cell g) → DueBy c.args.self.now (At.Send c.args.index) (Do.Clear (slice_index c.edges.result.now c.args.index) c.cell-cell.result) (Clear (slice_index c.edges.result.now c.args.index)) (At.Claim c.args.index)
+due : (g : Over) (c : After-cell-cell g)
+    → DueBy c.args.self.now (At.Send c.args.index)
+    (Do.Clear (slice_index c.edges.result.now c.args.index) c.cell-cell.result)
+    (Clear (slice_index c.edges.result.now c.args.index)) (At.Claim c.args.index)
 due g c =
     let edge : ℕ = slice_index c.edges.result.now c.args.index in
-    clear_by c.args.self.now c.args.index edge c.requires.within (is g c) c.cell-cell.result (subst (λ (e : ℕ). (out_on c.args.self.now.outs e).pending ≢ 0) (is g c) c.requires.pends)
+    clear_by c.args.self.now c.args.index edge c.requires.within (is g c) c.cell-cell.result
+    (subst (λ (e : ℕ). (out_on c.args.self.now.outs e).pending ≢ 0) (is g c) c.requires.pends)
     (c.cell-cell.ensures.cell ∙ ap (λ (o : OutEnd). tail_cell o.link) (there g c))
 
 pub clear-seen-requires : goal.clear-seen-requires
-clear-seen-requires g c = may_serve (g.M.Medium.holds c.args.medium.now) c.args.self.now (At.Send c.args.index) (At.Claim c.args.index) _ _ c.requires.meets (due g (goal.at.clear-seen-requires g c).After-cell-cell)
+clear-seen-requires g c = may_serve (g.M.Medium.holds c.args.medium.now) c.args.self.now (At.Send c.args.index)
+    (At.Claim c.args.index) _ _ c.requires.meets (due g (goal.at.clear-seen-requires g c).After-cell-cell)
 
 pub clear_at-requires-clause-can : goal.clear_at-requires-clause-can
 clear_at-requires-clause-can g c =
-    can_do (g.M.Medium.holds c.args.medium.now) (g.M.Medium.holds c.clear-seen.new.self) c.args.self.now (At.Send c.args.index) (At.Claim c.args.index) _ _ c.clear-seen.result c.requires.meets (due g (goal.at.clear_at-requires-clause-can g c).After-cell-cell) c.clear-seen.ensures
+    can_do (g.M.Medium.holds c.args.medium.now) (g.M.Medium.holds c.clear-seen.new.self) c.args.self.now
+    (At.Send c.args.index) (At.Claim c.args.index) _ _ c.clear-seen.result c.requires.meets
+    (due g (goal.at.clear_at-requires-clause-can g c).After-cell-cell) c.clear-seen.ensures
 
 pub returns : goal.returns
 returns g c =
-    moves_one (g.M.Medium.holds c.args.medium.now) (g.M.Medium.holds c.clear-seen.new.self) c.args.self.now c.clear_at.new.self (At.Send c.args.index) (At.Claim c.args.index) _ _ c.clear-seen.result c.clear_at.result 0
+    moves_one (g.M.Medium.holds c.args.medium.now) (g.M.Medium.holds c.clear-seen.new.self) c.args.self.now
+    c.clear_at.new.self (At.Send c.args.index) (At.Claim c.args.index) _ _ c.clear-seen.result c.clear_at.result 0
     (due g (goal.at.returns g c).After-cell-cell) c.clear-seen.ensures c.clear_at.ensures refl

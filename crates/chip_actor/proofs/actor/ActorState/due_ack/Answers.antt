@@ -14,9 +14,13 @@ returns-in-Some c = λ g s stands at.
     let n : ℕ = c.in-Some.place in
     let first = first_owed g s c.args.self.now stands c.args.place (Some n) c.in-Some.ensures in
     let edges = c.edges.ensures.edges ∙ ap (λ (a : Actor). a.ins.edges) c.self.view_is ∙ stands.knows.ins in
-    subst (λ (xs : List ℕ). GoesBy g v s (At.Ack c.args.place) (Ack (get_or xs n 0)) (At.Ack (n + 1))) (sym edges) (ack_due g v stands.knows.vertex s c.args.place n first.0 first.1 first.2 first.3)
+    subst (λ (xs : List ℕ). GoesBy g v s (At.Ack c.args.place) (Ack (get_or xs n 0)) (At.Ack (n + 1))) (sym edges)
+    (ack_due g v stands.knows.vertex s c.args.place n first.0 first.1 first.2 first.3)
 
 pub returns-in-None : goal.returns-in-None
 returns-in-None c = λ g s stands at.
     let v : ℕ = c.args.self.now.vertex in
-    passes_due g v s (At.Ack c.args.place) At.Parent (acks_over g v stands.knows.vertex s c.args.place (first_owed g s c.args.self.now stands c.args.place None c.in-None.ensures)) c.due_parent.result (c.due_parent.ensures g s stands tt)
+    passes_due g v s (At.Ack c.args.place) At.Parent
+    (acks_over g v stands.knows.vertex s c.args.place
+    (first_owed g s c.args.self.now stands c.args.place None c.in-None.ensures)) c.due_parent.result
+    (c.due_parent.ensures g s stands tt)

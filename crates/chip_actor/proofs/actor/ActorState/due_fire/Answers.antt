@@ -14,9 +14,13 @@ pub returns-then-may_fire : goal.returns-then-may_fire
 returns-then-may_fire c = λ g s stands at.
     let v : ℕ = c.args.self.now.vertex in
     subst (λ (a : Actor). GoesBy g v s At.Fire (Fire a.vertex c.batch-k.result) (At.Put 0)) (sym c.self.view_is)
-    (subst (λ (k : ℕ). GoesBy g v s At.Fire (Fire v k) (At.Put 0)) (sym (c.batch-k.ensures g s stands)) (fire_due g v stands.knows.vertex s stands.knows.setting.game (sym (c.may_fire.ensures g s stands) ∙ c.if-may_fire.true)))
+    (subst (λ (k : ℕ). GoesBy g v s At.Fire (Fire v k) (At.Put 0)) (sym (c.batch-k.ensures g s stands))
+    (fire_due g v stands.knows.vertex s stands.knows.setting.game (sym (c.may_fire.ensures g s stands)
+    ∙ c.if-may_fire.true)))
 
 pub returns : goal.returns
 returns c = λ g s stands at.
     let v : ℕ = c.args.self.now.vertex in
-    passes_due g v s At.Fire (At.Put 0) (no_fire_due g v stands.knows.vertex s (sym (c.may_fire.ensures g s stands) ∙ c.if-may_fire.false)) c.due_put.result (c.due_put.ensures g s stands (λ k l. absurd (omega arith)))
+    passes_due g v s At.Fire (At.Put 0)
+    (no_fire_due g v stands.knows.vertex s (sym (c.may_fire.ensures g s stands) ∙ c.if-may_fire.false))
+    c.due_put.result (c.due_put.ensures g s stands (λ k l. absurd (omega arith)))

@@ -10,8 +10,13 @@ use Rattle.chip_actor.proofs.actor.ActorState.due_put.Goals as goal
 
 pub due_refusal-requires-in-None : goal.due_refusal-requires-in-None
 due_refusal-requires-in-None c =
-    let r = c.requires in
-    (r.0, r.1, r.2, puts_fit r.0 c.args.self.now.vertex r.2.knows.vertex r.1 c.args.place r.3 (first_held r.0 r.1 c.args.self.now r.2 _ c.self.view_is c.args.place None c.in-None.ensures))
+    let r = c.requires in (
+      r.0,
+      r.1,
+      r.2,
+      puts_fit r.0 c.args.self.now.vertex r.2.knows.vertex r.1 c.args.place r.3
+          (first_held r.0 r.1 c.args.self.now r.2 _ c.self.view_is c.args.place None c.in-None.ensures),
+    )
 
 pub returns-in-Some : goal.returns-in-Some
 returns-in-Some c = λ g s stands at.
@@ -19,23 +24,35 @@ returns-in-Some c = λ g s stands at.
     let n : ℕ = c.in-Some.place in
     let first = first_held g s c.args.self.now stands _ c.self.view_is c.args.place (Some n) c.in-Some.ensures in
     let edges = c.edges.ensures ∙ ap (λ (a : Actor). a.outs.edges) c.self.view_is ∙ stands.knows.outs in
-    subst (λ (xs : List ℕ). GoesBy g v s (At.Put c.args.place) (Put (get_or xs n 0)) (At.Put (n + 1))) (sym edges) (put_due g v stands.knows.vertex s c.args.place n at first.0 first.1 first.2 first.3)
+    subst (λ (xs : List ℕ). GoesBy g v s (At.Put c.args.place) (Put (get_or xs n 0)) (At.Put (n + 1))) (sym edges)
+    (put_due g v stands.knows.vertex s c.args.place n at first.0 first.1 first.2 first.3)
 
 pub returns-in-None : goal.returns-in-None
 returns-in-None c = λ g s stands at.
     let v : ℕ = c.args.self.now.vertex in
     let none = first_held g s c.args.self.now stands _ c.self.view_is c.args.place None c.in-None.ensures in
-    passes_due g v s (At.Put c.args.place) At.Refusal (puts_over g v stands.knows.vertex s c.args.place none) c.due_refusal-in-None.result (c.due_refusal-in-None.ensures g s stands (puts_fit g v stands.knows.vertex s c.args.place at none))
+    passes_due g v s (At.Put c.args.place) At.Refusal (puts_over g v stands.knows.vertex s c.args.place none)
+    c.due_refusal-in-None.result
+    (c.due_refusal-in-None.ensures g s stands (puts_fit g v stands.knows.vertex s c.args.place at none))
 
 pub due_refusal-requires : goal.due_refusal-requires
 due_refusal-requires c =
     let r = c.requires in
-    let none = none_held r.0 r.1 c.args.self.now r.2 (sym (ap (λ (a : Actor). a.unput) c.self.view_is) ∙ c.if-self-eq0.true) in
-    (r.0, r.1, r.2, puts_fit r.0 c.args.self.now.vertex r.2.knows.vertex r.1 c.args.place r.3 (λ k le within. none k within))
+    let none = none_held r.0 r.1 c.args.self.now r.2 (sym (ap (λ (a : Actor). a.unput) c.self.view_is)
+    ∙ c.if-self-eq0.true) in (
+      r.0,
+      r.1,
+      r.2,
+      puts_fit r.0 c.args.self.now.vertex r.2.knows.vertex r.1 c.args.place r.3
+          (λ k le within. none k within),
+    )
 
 pub returns-then-self-eq0 : goal.returns-then-self-eq0
 returns-then-self-eq0 c = λ g s stands at.
     let v : ℕ = c.args.self.now.vertex in
-    let none = none_held g s c.args.self.now stands (sym (ap (λ (a : Actor). a.unput) c.self.view_is) ∙ c.if-self-eq0.true) in
-    passes_due g v s (At.Put c.args.place) At.Refusal (puts_over g v stands.knows.vertex s c.args.place (λ k le within. none k within)) c.due_refusal.result
-    (c.due_refusal.ensures g s stands (puts_fit g v stands.knows.vertex s c.args.place at (λ k le within. none k within)))
+    let none = none_held g s c.args.self.now stands (sym (ap (λ (a : Actor). a.unput) c.self.view_is)
+    ∙ c.if-self-eq0.true) in
+    passes_due g v s (At.Put c.args.place) At.Refusal
+    (puts_over g v stands.knows.vertex s c.args.place (λ k le within. none k within)) c.due_refusal.result
+    (c.due_refusal.ensures g s stands
+    (puts_fit g v stands.knows.vertex s c.args.place at (λ k le within. none k within)))

@@ -14,15 +14,22 @@ returns-in-Some c = λ g s stands at.
     let n : ℕ = c.in-Some.place in
     let first = first_pending g s c.args.self.now stands _ c.self.view_is c.args.place (Some n) c.in-Some.ensures in
     let edges = c.edges.ensures ∙ ap (λ (a : Actor). a.outs.edges) c.self.view_is ∙ stands.knows.outs in
-    subst (λ (xs : List ℕ). GoesBy g v s (At.Send c.args.place) (Clear (get_or xs n 0)) (At.Claim n)) (sym edges) (send_due g v stands.knows.vertex s c.args.place n at first.0 first.1 first.2 first.3)
+    subst (λ (xs : List ℕ). GoesBy g v s (At.Send c.args.place) (Clear (get_or xs n 0)) (At.Claim n)) (sym edges)
+    (send_due g v stands.knows.vertex s c.args.place n at first.0 first.1 first.2 first.3)
 
 pub returns-in-None : goal.returns-in-None
 returns-in-None c = λ g s stands at.
     let v : ℕ = c.args.self.now.vertex in
-    passes_due g v s (At.Send c.args.place) At.Limit (sends_over g v stands.knows.vertex s c.args.place (first_pending g s c.args.self.now stands _ c.self.view_is c.args.place None c.in-None.ensures)) c.due_limit-in-None.result (c.due_limit-in-None.ensures g s stands at.held)
+    passes_due g v s (At.Send c.args.place) At.Limit
+    (sends_over g v stands.knows.vertex s c.args.place
+    (first_pending g s c.args.self.now stands _ c.self.view_is c.args.place None c.in-None.ensures))
+    c.due_limit-in-None.result (c.due_limit-in-None.ensures g s stands at.held)
 
 pub returns-then-self-eq0 : goal.returns-then-self-eq0
 returns-then-self-eq0 c = λ g s stands at.
     let v : ℕ = c.args.self.now.vertex in
-    let none = none_pending g s c.args.self.now stands (sym (ap (λ (a : Actor). a.pending) c.self.view_is) ∙ c.if-self-eq0.true) in
-    passes_due g v s (At.Send c.args.place) At.Limit (sends_over g v stands.knows.vertex s c.args.place (λ k le within. none k within)) c.due_limit.result (c.due_limit.ensures g s stands at.held)
+    let none = none_pending g s c.args.self.now stands (sym (ap (λ (a : Actor). a.pending) c.self.view_is)
+    ∙ c.if-self-eq0.true) in
+    passes_due g v s (At.Send c.args.place) At.Limit
+    (sends_over g v stands.knows.vertex s c.args.place (λ k le within. none k within)) c.due_limit.result
+    (c.due_limit.ensures g s stands at.held)

@@ -15,7 +15,8 @@ returns-in-Some c = λ g s stands at.
     let edges = c.edges.ensures ∙ ap (λ (a : Actor). a.outs.edges) c.self.view_is ∙ stands.knows.outs in
     let within = subst (λ (xs : List ℕ). n < length xs) edges found.0 in
     let edge = found.1 0 ∙ ap (λ (xs : List ℕ). get_or xs n 0) edges in
-    subst (λ (e : ℕ). GoesBy g v s (At.Settle n) (Settle e) (At.Settle (n + 1))) (sym edge) (settle_due g v stands.knows.vertex s n within)
+    subst (λ (e : ℕ). GoesBy g v s (At.Settle n) (Settle e) (At.Settle (n + 1))) (sym edge)
+    (settle_due g v stands.knows.vertex s n within)
 
 pub returns-in-None : goal.returns-in-None
 returns-in-None c = λ g s stands at.
@@ -23,4 +24,5 @@ returns-in-None c = λ g s stands at.
     let n : ℕ = c.args.place in
     let edges = c.edges.ensures ∙ ap (λ (a : Actor). a.outs.edges) c.self.view_is ∙ stands.knows.outs in
     let over = subst (λ (xs : List ℕ). length xs ≤ n) edges c.in-None.ensures.lookup.3 in
-    passes_due g v s (At.Settle n) At.Fire (settles_over g v stands.knows.vertex s n over) c.due_fire.result (c.due_fire.ensures g s stands tt)
+    passes_due g v s (At.Settle n) At.Fire (settles_over g v stands.knows.vertex s n over) c.due_fire.result
+    (c.due_fire.ensures g s stands tt)

@@ -7,7 +7,10 @@ use Rattle.chip_actor.proofs.Making.{fire_fits, fire_made}
 use Rattle.chip_actor.proofs.actor.ActorState.fire.Goals as goal
 
 pub fire-requires : goal.fire-requires
-fire-requires c = fire_fits (the_view c.self.inside) c.args.k c.args.seen (subst (λ (a : Actor). SomePart a (λ g s. CanDo g s a.vertex (Fire a.vertex c.args.k) c.args.seen)) (sym c.self.view_is) c.requires)
+fire-requires c = fire_fits (the_view c.self.inside) c.args.k c.args.seen
+    (subst (λ (a : Actor). SomePart a (λ g s. CanDo g s a.vertex (Fire a.vertex c.args.k) c.args.seen))
+    (sym c.self.view_is) c.requires)
 
 pub returns : goal.returns
-returns c = rw (← c.self.view_is) (fire_made (the_view c.self.inside) c.args.k c.args.seen c.fire.new.self c.fire.ensures)
+returns c = rw (← c.self.view_is)
+    (fire_made (the_view c.self.inside) c.args.k c.args.seen c.fire.new.self c.fire.ensures)

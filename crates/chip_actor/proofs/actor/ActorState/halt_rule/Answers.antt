@@ -1,4 +1,5 @@
-use Rattle.std.proofs.Common.{◌≡◌, ◌∙◌, Bool, true, false, sym, ap, not, eqb, lt-ltb, Option, Some, None, is_some, is_none, refl}
+use Rattle.std.proofs.Common.{◌≡◌, ◌∙◌, Bool, true, false, sym, ap, not, eqb, lt-ltb, Option, Some, None, is_some}
+use Rattle.std.proofs.Common.{is_none, refl}
 use Rattle.chip_actor.specs.declared.rule.Rule.TheVariants.{NoSuch, Sink, Halted, Unput, NoCause}
 use Rattle.chip_actor.specs.Part.{Cause}
 use Rattle.chip_actor.specs.Rules.{need}
@@ -15,7 +16,9 @@ pub returns : goal.returns
 returns c = λ g s stands.
     let inside = sym (lt-ltb _ _ stands.knows.vertex) in
     let sink = ap (λ (a : Actor). a.is_sink) c.self.view_is ∙ stands.knows.is_sink in
-    let halt = none_of _ _ c.is_none.ensures ∙ ap (λ (a : Actor). is_none a.halt) c.self.view_is ∙ ap is_none stands.halt in
+    let halt = none_of _ _ c.is_none.ensures ∙ ap (λ (a : Actor). is_none a.halt) c.self.view_is
+    ∙ ap is_none stands.halt in
     let unput = ap (λ (a : Actor). a.unput) c.self.view_is ∙ stands.unput in
     let cause = c.is_some.ensures ∙ ap is_some (c.cause.ensures g s stands) in
-    c.first_unmet.ensures ∙ (λ j. need (inside j) NoSuch (need (not (sink j)) Sink (need (halt j) Halted (need (eqb (unput j) 0) Unput (need (cause j) NoCause None)))))
+    c.first_unmet.ensures ∙ (λ j. need (inside j) NoSuch
+    (need (not (sink j)) Sink (need (halt j) Halted (need (eqb (unput j) 0) Unput (need (cause j) NoCause None)))))

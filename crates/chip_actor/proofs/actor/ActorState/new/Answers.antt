@@ -34,10 +34,18 @@ returns-clause-opened c =
     let sink = c.sink.ensures.value ∙ ap (λ (G : Multigraph). G.sink) same in
     let degrees = c.out_degree.ensures ∙ ap (λ (G : Multigraph). degree G c.args.vertex) same in
     let outs = c.outs-2.ensures ∙ ap (λ (G : Multigraph). edges_out G c.args.vertex) same in
-    opens (setting_of c.args.game.now c.args.ring) c.args.vertex record { game = c.graph-graph.ensures.game; some_ring = subst (λ (n : ℕ). 0 < n) c.cells-cells.ensures.number c.cells-cells.ensures.range.0; small_ring = subst (λ (n : ℕ). n ≤ max_ring) c.cells-cells.ensures.number c.cells-cells.ensures.range.1 } c.requires c.in_ok-outs.outs c.in_ok-ins.ins c.in_ok-detect.detect
+    opens (setting_of c.args.game.now c.args.ring) c.args.vertex record {
+      game = c.graph-graph.ensures.game;
+      some_ring = subst (λ (n : ℕ). 0 < n) c.cells-cells.ensures.number c.cells-cells.ensures.range.0;
+      small_ring =
+          subst (λ (n : ℕ). n ≤ max_ring) c.cells-cells.ensures.number c.cells-cells.ensures.range.1;
+    } c.requires
+    c.in_ok-outs.outs c.in_ok-ins.ins c.in_ok-detect.detect
     (subst (λ (G : Multigraph). IsFreshOuts G c.args.ring c.args.vertex c.in_ok-outs.outs) same c.in_ok-outs.ensures)
     (subst (λ (G : Multigraph). IsFreshIns G c.args.ring c.args.vertex c.in_ok-ins.ins) same c.in_ok-ins.ensures)
-    (subst (λ (xs : List ℕ). IsFresh c.in_ok-detect.detect c.in_ok-ins.ins.edges xs) outs (subst (λ (xs : List ℕ). IsFresh c.in_ok-detect.detect xs c.outs-2.result.now) c.edges.ensures.edges c.in_ok-detect.ensures.fresh))
+    (subst (λ (xs : List ℕ). IsFresh c.in_ok-detect.detect c.in_ok-ins.ins.edges xs) outs
+    (subst (λ (xs : List ℕ). IsFresh c.in_ok-detect.detect xs c.outs-2.result.now) c.edges.ensures.edges
+    c.in_ok-detect.ensures.fresh))
     c.in_ok-detect.ensures.sound
     _
     (λ j. let a : Actor = record {

@@ -12,14 +12,17 @@ pub returns-in-Some : goal.returns-in-Some
 returns-in-Some c = λ g s stands. record {
   ends = λ is first done way.
       (let goes = c.in-Some.ensures g s stands way.fits in
-      absurd (act_is_some g c.args.self.now.vertex stands.knows.vertex s c.in-Some.event goes.mine (sym (c.act.ensures g s stands goes.mine goes.met) ∙ is)));
+      absurd (act_is_some g c.args.self.now.vertex stands.knows.vertex s c.in-Some.event goes.mine
+      (sym (c.act.ensures g s stands goes.mine goes.met) ∙ is)));
   steps = λ some first done way.
       (let goes = c.in-Some.ensures g s stands way.fits in
-      is_next g c.args.self.now.vertex stands.knows.vertex s c.args.cursor c.in-Some.next c.in-Some.event goes first done way c.act.result (c.act.ensures g s stands goes.mine goes.met));
+      is_next g c.args.self.now.vertex stands.knows.vertex s c.args.cursor c.in-Some.next c.in-Some.event goes first
+      done way c.act.result (c.act.ensures g s stands goes.mine goes.met));
 }
 
 pub returns-in-None : goal.returns-in-None
 returns-in-None c = λ g s stands. record {
-  ends = λ is first done way. is_over g c.args.self.now.vertex s c.args.cursor (c.in-None.ensures g s stands way.fits) first done way;
+  ends = λ is first done way. is_over g c.args.self.now.vertex s c.args.cursor
+      (c.in-None.ensures g s stands way.fits) first done way;
   steps = λ some. absurd (some refl);
 }

@@ -13,41 +13,66 @@ use Rattle.chip_actor.proofs.actor.ActorState.store_here.Goals.{After-held}
 use Rattle.chip_actor.proofs.actor.ActorState.store_here.Given.{Over}
 
 -- the edge stands at its index
-is : (g : Over) (c : After-held g) → slice_index c.args.self.now.outs.edges c.args.index ≡ slice_index c.edges.result.now c.args.index
-is g c = sym (ap (λ (xs : List ℕ). slice_index xs c.args.index) (c.edges.ensures ∙ ap (λ (a : Actor). a.outs.edges) c.self.view_is))
+is : (g : Over) (c : After-held g)
+    → slice_index c.args.self.now.outs.edges c.args.index ≡ slice_index c.edges.result.now c.args.index
+is g c = sym (ap (λ (xs : List ℕ). slice_index xs c.args.index) (c.edges.ensures
+    ∙ ap (λ (a : Actor). a.outs.edges) c.self.view_is))
 
 -- and what is known of it stands there
-there : (g : Over) (c : After-held g) → c.at.result.now ≡ out_on c.args.self.now.outs (slice_index c.edges.result.now c.args.index)
-there g c = c.at.ensures ∙ ap (λ (a : Actor). out_on a.outs (slice_index a.outs.edges c.args.index)) c.self.view_is ∙ ap (out_on c.args.self.now.outs) (is g c)
+there : (g : Over) (c : After-held g)
+    → c.at.result.now ≡ out_on c.args.self.now.outs (slice_index c.edges.result.now c.args.index)
+there g c = c.at.ensures ∙ ap (λ (a : Actor). out_on a.outs (slice_index a.outs.edges c.args.index)) c.self.view_is
+    ∙ ap (out_on c.args.self.now.outs) (is g c)
 
-stored : (g : Over) (c : After-held g) → c.held.result ≡ put_of (out_on c.args.self.now.outs (slice_index c.edges.result.now c.args.index)).link
+stored : (g : Over) (c : After-held g)
+    → c.held.result ≡ put_of (out_on c.args.self.now.outs (slice_index c.edges.result.now c.args.index)).link
 stored g c = c.held.ensures.value ∙ ap (λ (o : OutEnd). put_of o.link) (there g c)
 
-due : (g : Over) (c : After-held g) (w : ℕ × ℕ) → c.held.result ≡ Some w → DueBy c.args.self.now (At.Store c.args.index) (Do.Put (slice_index c.edges.result.now c.args.index) w.0 w.1) (Put (slice_index c.edges.result.now c.args.index)) (At.Send (c.args.index + 1))
-due g c w some = store_by c.args.self.now c.args.index (slice_index c.edges.result.now c.args.index) c.requires.within (is g c) w (sym some ∙ stored g c)
+due : (g : Over) (c : After-held g) (w : ℕ × ℕ) → c.held.result ≡ Some w
+    → DueBy c.args.self.now (At.Store c.args.index) (Do.Put (slice_index c.edges.result.now c.args.index) w.0 w.1)
+    (Put (slice_index c.edges.result.now c.args.index)) (At.Send (c.args.index + 1))
+due g c w some = store_by c.args.self.now c.args.index (slice_index c.edges.result.now c.args.index) c.requires.within
+    (is g c) w (sym some ∙ stored g c)
 
-stops : (g : Over) (c : After-held g) (by_limit : Bool) → c.held.result ≡ None → WhateverPart c.args.self.now (λ g s. by_limit ≡ is_by_limit (cause g c.args.self.now.vertex s)) → DueBy c.args.self.now (At.Store c.args.index) (Do.Halt by_limit) (Halt c.args.self.now.vertex) At.Limit
-stops g c by_limit none why = stop_by c.args.self.now c.args.index (slice_index c.edges.result.now c.args.index) c.requires.within (is g c) by_limit (sym none ∙ stored g c) why
+stops : (g : Over) (c : After-held g) (by_limit : Bool) → c.held.result ≡ None
+    → WhateverPart c.args.self.now (λ g s. by_limit ≡ is_by_limit (cause g c.args.self.now.vertex s))
+    → DueBy c.args.self.now (At.Store c.args.index) (Do.Halt by_limit) (Halt c.args.self.now.vertex) At.Limit
+stops g c by_limit none why = stop_by c.args.self.now c.args.index
+    (slice_index c.edges.result.now c.args.index) c.requires.within (is g c) by_limit (sym none ∙ stored g c) why
 
 pub halt-seen-requires : goal.halt-seen-requires
-halt-seen-requires g c = may_serve (g.M.Medium.holds c.args.medium.now) c.args.self.now (At.Store c.args.index) At.Limit _ _ c.requires.meets (stops g (goal.at.halt-seen-requires g c).After-held c.is_by_limit.result c.in_default.is (λ g' s stands. c.is_by_limit.ensures ∙ ap is_by_limit (c.cause.ensures g' s stands)))
+halt-seen-requires g c = may_serve (g.M.Medium.holds c.args.medium.now) c.args.self.now
+    (At.Store c.args.index) At.Limit _ _ c.requires.meets
+    (stops g (goal.at.halt-seen-requires g c).After-held c.is_by_limit.result c.in_default.is
+    (λ g' s stands. c.is_by_limit.ensures ∙ ap is_by_limit (c.cause.ensures g' s stands)))
 
 pub stop-requires : goal.stop-requires
-stop-requires g c = can_do (g.M.Medium.holds c.args.medium.now) (g.M.Medium.holds c.halt-seen.new.self) c.args.self.now (At.Store c.args.index) At.Limit _ _ c.halt-seen.result c.requires.meets (stops g (goal.at.stop-requires g c).After-held c.is_by_limit.result c.in_default.is (λ g' s stands. c.is_by_limit.ensures ∙ ap is_by_limit (c.cause.ensures g' s stands))) c.halt-seen.ensures
+stop-requires g c = can_do (g.M.Medium.holds c.args.medium.now) (g.M.Medium.holds c.halt-seen.new.self) c.args.self.now
+    (At.Store c.args.index) At.Limit _ _ c.halt-seen.result c.requires.meets
+    (stops g (goal.at.stop-requires g c).After-held c.is_by_limit.result c.in_default.is
+    (λ g' s stands. c.is_by_limit.ensures ∙ ap is_by_limit (c.cause.ensures g' s stands))) c.halt-seen.ensures
 
 pub returns-in_default : goal.returns-in_default
 returns-in_default g c =
-    moves_one (g.M.Medium.holds c.args.medium.now) (g.M.Medium.holds c.halt-seen.new.self) c.args.self.now c.stop.new.self (At.Store c.args.index) At.Limit _ _ c.halt-seen.result c.stop.result 1
-    (stops g (goal.at.returns-in_default g c).After-held c.is_by_limit.result c.in_default.is (λ g' s stands. c.is_by_limit.ensures ∙ ap is_by_limit (c.cause.ensures g' s stands))) c.halt-seen.ensures c.stop.ensures refl
+    moves_one (g.M.Medium.holds c.args.medium.now) (g.M.Medium.holds c.halt-seen.new.self) c.args.self.now
+    c.stop.new.self (At.Store c.args.index) At.Limit _ _ c.halt-seen.result c.stop.result 1
+    (stops g (goal.at.returns-in_default g c).After-held c.is_by_limit.result c.in_default.is
+    (λ g' s stands. c.is_by_limit.ensures ∙ ap is_by_limit (c.cause.ensures g' s stands))) c.halt-seen.ensures
+    c.stop.ensures refl
 
 pub put-seen-requires : goal.put-seen-requires
-put-seen-requires g c = may_serve (g.M.Medium.holds c.args.medium.now) c.args.self.now (At.Store c.args.index) (At.Send (c.args.index + 1)) _ _ c.requires.meets (due g (goal.at.put-seen-requires g c).After-held c.in-Some.stored c.in-Some.is)
+put-seen-requires g c = may_serve (g.M.Medium.holds c.args.medium.now) c.args.self.now (At.Store c.args.index)
+    (At.Send (c.args.index + 1)) _ _ c.requires.meets
+    (due g (goal.at.put-seen-requires g c).After-held c.in-Some.stored c.in-Some.is)
 
 pub put_at-requires-clause-can : goal.put_at-requires-clause-can
 put_at-requires-clause-can g c =
-    can_do (g.M.Medium.holds c.args.medium.now) (g.M.Medium.holds c.put-seen.new.self) c.args.self.now (At.Store c.args.index) (At.Send (c.args.index + 1)) _ _ c.put-seen.result c.requires.meets (due g (goal.at.put_at-requires-clause-can g c).After-held c.in-Some.stored c.in-Some.is) c.put-seen.ensures
+    can_do (g.M.Medium.holds c.args.medium.now) (g.M.Medium.holds c.put-seen.new.self) c.args.self.now
+    (At.Store c.args.index) (At.Send (c.args.index + 1)) _ _ c.put-seen.result c.requires.meets
+    (due g (goal.at.put_at-requires-clause-can g c).After-held c.in-Some.stored c.in-Some.is) c.put-seen.ensures
 
 pub returns : goal.returns
 returns g c =
-    moves_one (g.M.Medium.holds c.args.medium.now) (g.M.Medium.holds c.put-seen.new.self) c.args.self.now c.put_at.new.self (At.Store c.args.index) (At.Send (c.args.index + 1)) _ _ c.put-seen.result c.put_at.result 1
+    moves_one (g.M.Medium.holds c.args.medium.now) (g.M.Medium.holds c.put-seen.new.self) c.args.self.now
+    c.put_at.new.self (At.Store c.args.index) (At.Send (c.args.index + 1)) _ _ c.put-seen.result c.put_at.result 1
     (due g (goal.at.returns g c).After-held c.in-Some.stored c.in-Some.is) c.put-seen.ensures c.put_at.ensures refl

@@ -6,5 +6,6 @@ use Rattle.chip_actor.proofs.actor.ActorState.take_all.Given as goal
 abbrev pub invariant-loop-index : goal.invariant-loop-index
 invariant-loop-index g l = record {
   few : l.work ≤ l.index;
-  moved : Moves (g.M.Medium.holds l.fn.medium) l.fn.self (At.Take 0) (g.M.Medium.holds l.medium) l.self (At.Take l.index) l.work;
+  moved : Moves (g.M.Medium.holds l.fn.medium) l.fn.self (At.Take 0) (g.M.Medium.holds l.medium) l.self
+      (At.Take l.index) l.work;
 }

@@ -4,7 +4,11 @@ use Rattle.chip_actor.proofs.Making.{take_made, take_empty}
 use Rattle.chip_actor.proofs.actor.ActorState.take_at.Goals as goal
 
 pub returns-in_default : goal.returns-in_default
-returns-in_default c = rw (← c.self.view_is) (take_empty (the_view c.self.inside) c.args.edge c.args.seen c.take_at.new.self c.take_at.ensures.after (sym c.in_default.is ∙ c.take_at.ensures.message))
+returns-in_default c = rw (← c.self.view_is)
+    (take_empty (the_view c.self.inside) c.args.edge c.args.seen c.take_at.new.self c.take_at.ensures.after
+    (sym c.in_default.is ∙ c.take_at.ensures.message))
 
 pub returns : goal.returns
-returns c = rw (← c.self.view_is) (take_made (the_view c.self.inside) c.args.edge c.args.seen c.take_at.new.self c.got_at.new.self c.in-Some.message c.take_at.ensures.after (sym c.in-Some.is ∙ c.take_at.ensures.message) c.got_at.ensures.gets c.got_at.ensures.sound)
+returns c = rw (← c.self.view_is)
+    (take_made (the_view c.self.inside) c.args.edge c.args.seen c.take_at.new.self c.got_at.new.self c.in-Some.message
+    c.take_at.ensures.after (sym c.in-Some.is ∙ c.take_at.ensures.message) c.got_at.ensures.gets c.got_at.ensures.sound)

@@ -8,6 +8,10 @@ use Rattle.chip_actor.proofs.ins.Ins.new.Goals as goal
 
 pub invariant_of-result : goal.invariant_of-result
 invariant_of-result c =
-    let are : c.push.new.self.items ≡ edges_in c.args.graph.now c.args.vertex ++ (length c.args.graph.now.edges + c.args.vertex) ∷ [] = search rules in
+    let are : c.push.new.self.items ≡ edges_in c.args.graph.now c.args.vertex
+    ++ (length c.args.graph.now.edges + c.args.vertex) ∷ [] = search rules in
     subst (λ (xs : List ℕ). AreApart xs c.loop-edge.ends.items) c.deref-edge-items.ensures.value
-    (made_apart c.deref-edge-items.result.now (λ e. new_head e c.args.ring) c.loop-edge.ends.items c.loop-edge.edge-index (subst IsStrictlyIncreasing (sym (c.deref-edge-items.ensures.value ∙ are)) (ins_rise c.args.graph.now c.args.vertex)) c.loop-edge.invariant.0 c.loop-edge-test.false)
+    (made_apart c.deref-edge-items.result.now
+    (λ e. new_head e c.args.ring) c.loop-edge.ends.items c.loop-edge.edge-index
+    (subst IsStrictlyIncreasing (sym (c.deref-edge-items.ensures.value ∙ are))
+    (ins_rise c.args.graph.now c.args.vertex)) c.loop-edge.invariant.0 c.loop-edge-test.false)

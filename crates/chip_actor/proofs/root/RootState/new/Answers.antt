@@ -3,4 +3,5 @@ use Rattle.chip_actor.proofs.RootLemmas.{root_opens}
 use Rattle.chip_actor.proofs.root.RootState.new.Goals as goal
 
 pub returns : goal.returns
-returns c = λ ring. root_opens (setting_of c.args.game.now ring) c.unsettled.ensures.game c.in_ok-root.root c.in_ok-root.ensures.edges c.in_ok-root.ensures.settled c.in_ok-root.ensures.outstanding
+returns c = λ ring. root_opens (setting_of c.args.game.now ring) c.unsettled.ensures.game c.in_ok-root.root
+    c.in_ok-root.ensures.edges c.in_ok-root.ensures.settled c.in_ok-root.ensures.outstanding

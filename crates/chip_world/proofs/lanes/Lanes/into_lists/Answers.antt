@@ -3,7 +3,11 @@ use Rattle.chip_link.specs.declared.message.Message.{Message}
 use Rattle.chip_world.specs.Lanes.{Lane}
 use Rattle.chip_world.proofs.lanes.Lanes.into_lists.Goals as goal
 
-same : (lists : List (Vec Message Global)) → map (λ (t : Vec Message Global). t.items) lists ≡ map (λ (lane : Lane). lane.messages) (map (λ (v : Vec Message Global). let lane : Lane = record { messages = v.items; capacity = vec_capacity v } in lane) lists)
+same : (lists : List (Vec Message Global))
+    → map (λ (t : Vec Message Global). t.items) lists
+    ≡ map (λ (lane : Lane). lane.messages)
+    (map (λ (v : Vec Message Global). let lane : Lane = record { messages = v.items; capacity = vec_capacity v } in
+    lane) lists)
 same [] = refl
 same (t ∷ ts) = ap (λ (rest : List (List Message)). t.items ∷ rest) (same ts)
 

@@ -10,4 +10,5 @@ pub acknowledge-requires-clause-room : goal.acknowledge-requires-clause-room
 acknowledge-requires-clause-room c = (finds_some c.args.self.now (Do.Ack c.args.edge c.args.count) c.requires).1
 
 pub returns : goal.returns
-returns c = serves c.args.self.now _ (Do.Ack c.args.edge c.args.count) _ c.acknowledge.ensures.seen c.acknowledge.ensures.after refl (λ g v seen s. refl)
+returns c = serves c.args.self.now _ (Do.Ack c.args.edge c.args.count) _ c.acknowledge.ensures.seen
+    c.acknowledge.ensures.after refl (λ g v seen s. refl)

@@ -7,4 +7,5 @@ pub exchange-requires : goal.exchange-requires
 exchange-requires c = finds_some c.args.self.now (Do.Claim c.args.edge c.args.expected c.args.new) c.requires
 
 pub returns : goal.returns
-returns c = serves c.args.self.now _ (Do.Claim c.args.edge c.args.expected c.args.new) _ c.exchange.ensures.seen c.exchange.ensures.after refl (λ g v seen s. refl)
+returns c = serves c.args.self.now _ (Do.Claim c.args.edge c.args.expected c.args.new) _ c.exchange.ensures.seen
+    c.exchange.ensures.after refl (λ g v seen s. refl)

@@ -7,4 +7,5 @@ pub store-requires : goal.store-requires
 store-requires c = finds_some c.args.self.now (Do.Put c.args.edge c.args.cell c.args.value) c.requires
 
 pub returns : goal.returns
-returns c = serves c.args.self.now _ (Do.Put c.args.edge c.args.cell c.args.value) _ refl c.store.ensures refl (λ g v seen s. refl)
+returns c = serves c.args.self.now _ (Do.Put c.args.edge c.args.cell c.args.value) _ refl c.store.ensures refl
+    (λ g v seen s. refl)

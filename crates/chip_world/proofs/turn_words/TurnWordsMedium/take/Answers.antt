@@ -7,4 +7,5 @@ pub take-requires : goal.take-requires
 take-requires c = finds_some c.args.self.now (Do.Take c.args.edge c.args.cell) c.requires
 
 pub returns : goal.returns
-returns c = serves c.args.self.now _ (Do.Take c.args.edge c.args.cell) _ c.take.ensures.seen c.take.ensures.after refl (λ g v seen s. refl)
+returns c = serves c.args.self.now _ (Do.Take c.args.edge c.args.cell) _ c.take.ensures.seen c.take.ensures.after refl
+    (λ g v seen s. refl)

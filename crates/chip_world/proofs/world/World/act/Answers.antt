@@ -10,23 +10,33 @@ use Rattle.chip_world.proofs.world.World.act.Goals as goal
 
 pub returns-in_default : goal.returns-in_default
 returns-in_default c = λ g log stands.
-    refuses g log c.args.self.now stands c.args.event NoSuch (missing g c.args.event (part_in g log (part_of g c.args.event)) (sym (ap (λ (h : Setting). is_of_others h c.args.event) stands.setting) ∙ c.requires) (sym (ap (λ (h : Setting). vertex_of h c.args.event) stands.setting) ∙ sym c.vertex_of.ensures ∙ c.in_default.is))
+    refuses g log c.args.self.now stands c.args.event NoSuch
+    (missing g c.args.event (part_in g log (part_of g c.args.event))
+    (sym (ap (λ (h : Setting). is_of_others h c.args.event) stands.setting)
+    ∙ c.requires) (sym (ap (λ (h : Setting). vertex_of h c.args.event) stands.setting) ∙ sym c.vertex_of.ensures
+    ∙ c.in_default.is))
 
 pub make-requires : goal.make-requires
 make-requires c =
     let some = c.self.invariant in
     let stands = subst (StandsForLog some.0 some.1) c.self.view_is some.2 in
-    let due = given_is_due some.0 some.1 c.args.self.now stands c.args.event c.in-Some.vertex c.index-actor.result.now c.in-Ok.act c.requires (sym c.vertex_of.ensures ∙ c.in-Some.is)
-    (c.index-actor.ensures ∙ ap (λ (w : WorldState). get_or w.actors c.in-Some.vertex c.index-actor.result.now) c.self.view_is) c.in-Ok.ensures in
+    let due = given_is_due some.0 some.1 c.args.self.now stands c.args.event c.in-Some.vertex c.index-actor.result.now
+    c.in-Ok.act c.requires (sym c.vertex_of.ensures ∙ c.in-Some.is)
+    (c.index-actor.ensures ∙ ap
+    (λ (w : WorldState). get_or w.actors c.in-Some.vertex c.index-actor.result.now) c.self.view_is) c.in-Ok.ensures in
     (some.0, some.1, stands, due.0)
 
 pub returns-in-Ok : goal.returns-in-Ok
 returns-in-Ok c = λ g log stands.
-    let due = given_is_due g log c.args.self.now stands c.args.event c.in-Some.vertex c.index-actor.result.now c.in-Ok.act c.requires (sym c.vertex_of.ensures ∙ c.in-Some.is)
-    (c.index-actor.ensures ∙ ap (λ (w : WorldState). get_or w.actors c.in-Some.vertex c.index-actor.result.now) c.self.view_is) c.in-Ok.ensures in
+    let due = given_is_due g log c.args.self.now stands c.args.event c.in-Some.vertex c.index-actor.result.now
+    c.in-Ok.act c.requires (sym c.vertex_of.ensures ∙ c.in-Some.is)
+    (c.index-actor.ensures ∙ ap
+    (λ (w : WorldState). get_or w.actors c.in-Some.vertex c.index-actor.result.now) c.self.view_is) c.in-Ok.ensures in
     subst (λ (x : Event). MakesStep g log x c.make.new.self c.make.result) due.1 (c.make.ensures g log stands due.0)
 
 pub returns-in-Err : goal.returns-in-Err
 returns-in-Err c = λ g log stands.
-    vertex_refuses g log c.args.self.now stands c.args.event c.in-Some.vertex c.index-actor.result.now c.in-Err.rule (sym c.vertex_of.ensures ∙ c.in-Some.is)
-    (c.index-actor.ensures ∙ ap (λ (w : WorldState). get_or w.actors c.in-Some.vertex c.index-actor.result.now) c.self.view_is) c.in-Err.ensures
+    vertex_refuses g log c.args.self.now stands c.args.event c.in-Some.vertex c.index-actor.result.now c.in-Err.rule
+    (sym c.vertex_of.ensures ∙ c.in-Some.is)
+    (c.index-actor.ensures ∙ ap
+    (λ (w : WorldState). get_or w.actors c.in-Some.vertex c.index-actor.result.now) c.self.view_is) c.in-Err.ensures

@@ -4,4 +4,5 @@ use Rattle.chip_core.specs.Outcomes.{AreFired}
 use Rattle.chip_world.proofs.world.World.all_fired.Given as goal
 
 abbrev pub invariant-loop-vertex : goal.invariant-loop-vertex
-invariant-loop-vertex l = WhateverLog l.self (λ g log. AreFired g log l.vertex l.fired.items) × (l.vertices ≤ vec_capacity l.fired)
+invariant-loop-vertex l = WhateverLog l.self (λ g log. AreFired g log l.vertex l.fired.items)
+    × (l.vertices ≤ vec_capacity l.fired)

@@ -8,7 +8,8 @@ abbrev pub invariant-loop-edge : goal.invariant-loop-edge
 invariant-loop-edge l = record {
   sent_each : length l.sent ≡ l.edge;
   sent : (e : ℕ) → e < l.edge → WhateverLog l.self (λ g log. (lane_at l.sent e).messages ≡ in_flight g log e);
-  sent_room : (e : ℕ) → e < l.edge → length (lane_at l.sent e).messages + slice_index l.tally.claims.items e ≤ (lane_at l.sent e).capacity;
+  sent_room : (e : ℕ) → e < l.edge → length (lane_at l.sent e).messages + slice_index l.tally.claims.items e
+      ≤ (lane_at l.sent e).capacity;
   delivered_each : length l.delivered ≡ l.edge;
   delivered : (e : ℕ) → e < l.edge → (lane_at l.delivered e).messages ≡ [];
   delivered_room : (e : ℕ) → e < l.edge → slice_index l.tally.takes.items e ≤ (lane_at l.delivered e).capacity;

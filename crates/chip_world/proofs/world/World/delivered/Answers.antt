@@ -10,6 +10,8 @@ use Rattle.chip_world.proofs.world.World.delivered.Goals as goal
 pub owed-owed-requires : goal.owed-owed-requires
 owed-owed-requires c =
     let some = c.self.invariant in
-    let found = ap (λ (w : WorldState). head_if w.setting c.args.edge) c.self.view_is ∙ sym c.head.ensures ∙ c.unwrap-head.ensures in
+    let found = ap (λ (w : WorldState). head_if w.setting c.args.edge) c.self.view_is ∙ sym c.head.ensures
+    ∙ c.unwrap-head.ensures in
     subst (λ (b : Books). Contains (in_edges b) c.args.edge) (sym c.detect.ensures)
-    (has_books some.0 some.1 (the_view c.self.inside) some.2 c.args.edge c.unwrap-head.result c.index.result.now found c.index.ensures)
+    (has_books some.0 some.1 (the_view c.self.inside) some.2 c.args.edge c.unwrap-head.result c.index.result.now found
+    c.index.ensures)

@@ -9,28 +9,51 @@ loop-preserved c = λ g before stands.
     let here = c.loop.invariant g before stands in
     let closes = c.closed.ensures g here.0 here.1 in
     let after = c.round.ensures g here.0 here.1 in
-    let more : suc c.loop.counter ≡ c.loop.counter + 1 = omega arith in
-    (after.0, after.1, subst (λ (n : ℕ). AreRounds g n before after.0) more (here.0, here.2, (λ is_closed. true≢false (sym (closes.1 is_closed) ∙ c.if-closed.false)), after.2))
+    let more : suc c.loop.counter ≡ c.loop.counter + 1 = omega arith in (
+      after.0,
+      after.1,
+      subst (λ (n : ℕ). AreRounds g n before after.0) more
+          (here.0, here.2, (λ is_closed. true≢false (sym (closes.1 is_closed) ∙ c.if-closed.false)), after.2),
+    )
 
 pub returns-then-closed-clause-no_other : goal.returns-then-closed-clause-no_other
 returns-then-closed-clause-no_other c = no_other c.args.self.now c.loop.self c.args.rounds Closed (λ g before stands.
     (let here = c.loop.invariant g before stands in
     let fewer = c.loop-test.true in
-    let drive : IsDrive g c.args.rounds before here.0 Closed = record { count = c.loop.counter; within = omega arith; are_rounds = here.2; answers = (c.closed.ensures g here.0 here.1).0 c.if-closed.true } in
+    let drive : IsDrive g c.args.rounds before here.0 Closed =
+    record {
+      count = c.loop.counter;
+      within = omega arith;
+      are_rounds = here.2;
+      answers = (c.closed.ensures g here.0 here.1).0 c.if-closed.true;
+    } in
     (here.0, here.1, drive)))
 
 pub returns-then-closed-2-clause-no_other : goal.returns-then-closed-2-clause-no_other
 returns-then-closed-2-clause-no_other c = no_other c.args.self.now c.loop.self c.args.rounds Closed (λ g before stands.
     (let here = c.loop.invariant g before stands in
-    let drive : IsDrive g c.args.rounds before here.0 Closed = record { count = c.loop.counter; within = c.loop.auto.counter-end; are_rounds = here.2; answers = (c.closed-2.ensures g here.0 here.1).0 c.if-closed-2.true } in
+    let drive : IsDrive g c.args.rounds before here.0 Closed =
+    record {
+      count = c.loop.counter;
+      within = c.loop.auto.counter-end;
+      are_rounds = here.2;
+      answers = (c.closed-2.ensures g here.0 here.1).0 c.if-closed-2.true;
+    } in
     (here.0, here.1, drive)))
 
 pub returns-else-closed-2-clause-no_other : goal.returns-else-closed-2-clause-no_other
-returns-else-closed-2-clause-no_other c = no_other c.args.self.now c.loop.self c.args.rounds (Unfinished c.args.rounds) (λ g before stands.
+returns-else-closed-2-clause-no_other c = no_other c.args.self.now c.loop.self c.args.rounds (Unfinished c.args.rounds)
+    (λ g before stands.
     (let here = c.loop.invariant g before stands in
     let closes = c.closed-2.ensures g here.0 here.1 in
     let below = c.loop.auto.counter-end in
     let above = c.loop-test.false in
     let all : c.loop.counter ≡ c.args.rounds = omega arith in
-    let drive : IsDrive g c.args.rounds before here.0 (Unfinished c.args.rounds) = record { count = c.loop.counter; within = below; are_rounds = here.2; answers = (refl, all, (λ is_closed. true≢false (sym (closes.1 is_closed) ∙ c.if-closed-2.false))) } in
+    let drive : IsDrive g c.args.rounds before here.0 (Unfinished c.args.rounds) =
+    record {
+      count = c.loop.counter;
+      within = below;
+      are_rounds = here.2;
+      answers = (refl, all, (λ is_closed. true≢false (sym (closes.1 is_closed) ∙ c.if-closed-2.false)));
+    } in
     (here.0, here.1, drive)))

@@ -35,8 +35,10 @@ loop-place-preserved c =
           let first = c.delivered-first.ensures g log stands in
           let claims = c.sent-claims.ensures g log stands in
           c.push_reserved.ensures.items
-          ∙ flight_more g log c.args.edge c.delivered-first.result c.loop-place.place c.count_at-count.result c.loop-place.messages.items first later (subst (λ (n : ℕ). c.loop-place.place < n) claims before)
-          (c.count_at-count.ensures g log stands (subst (λ (n : ℕ). n ≤ c.loop-place.place) first later) (subst (λ (n : ℕ). c.loop-place.place < n) claims before)) (inv.so_far g log stands);
+          ∙ flight_more g log c.args.edge c.delivered-first.result c.loop-place.place c.count_at-count.result
+          c.loop-place.messages.items first later (subst (λ (n : ℕ). c.loop-place.place < n) claims before)
+          (c.count_at-count.ensures g log stands (subst (λ (n : ℕ). n ≤ c.loop-place.place) first later)
+          (subst (λ (n : ℕ). c.loop-place.place < n) claims before)) (inv.so_far g log stands);
       many = (let more = c.push_reserved.ensures.len in let many = inv.many in omega arith);
       room = (let same = c.push_reserved.ensures.capacity in let room = inv.room in omega arith);
     }

@@ -14,15 +14,21 @@ use Rattle.chip_world.proofs.world.World.seal.Goals as goal
 
 -- whatever log the world stood for, it made one step of it
 made : (c : goal.After-from_word) → (g : Setting) (log : Log) → StandsForLog g log (the_view c.self.inside)
-    → StandsForLog g (step g log (Seal c.args.edge)).0 (record (the_view c.self.inside) { words = c.seal.new.self }) × (Done c.from_word.result.claims ≡ (step g log (Seal c.args.edge)).1)
+    → StandsForLog g (step g log (Seal c.args.edge)).0 (record (the_view c.self.inside) { words = c.seal.new.self })
+    × (Done c.from_word.result.claims ≡ (step g log (Seal c.args.edge)).1)
 made c g log stands =
     let w : WorldState = the_view c.self.inside in
-    let edges : length c.edges.result.now ≡ graph_edges g = ap length c.edges.ensures.value ∙ ap (λ (G : Multigraph). length G.edges) (c.graph.ensures.value ∙ ap (λ (h : Setting). h.graph) stands.setting) in
-    subst (λ (words : List EdgeState). StandsForLog g (step g log (Seal c.args.edge)).0 (record w { words = words }) × (Done c.from_word.result.claims ≡ (step g log (Seal c.args.edge)).1)) (sym c.seal.ensures.after)
-    (seal_makes g log w stands c.args.edge (subst (λ (n : ℕ). c.args.edge < n) edges c.if-edge-edges.false) c.from_word.result.claims (c.from_word.ensures.claims ∙ ap claims_in c.seal.ensures.seen))
+    let edges : length c.edges.result.now ≡ graph_edges g = ap length c.edges.ensures.value
+    ∙ ap (λ (G : Multigraph). length G.edges) (c.graph.ensures.value ∙ ap (λ (h : Setting). h.graph) stands.setting)
+    in
+    subst (λ (words : List EdgeState). StandsForLog g (step g log (Seal c.args.edge)).0 (record w { words = words })
+    × (Done c.from_word.result.claims ≡ (step g log (Seal c.args.edge)).1)) (sym c.seal.ensures.after)
+    (seal_makes g log w stands c.args.edge (subst (λ (n : ℕ). c.args.edge < n) edges c.if-edge-edges.false)
+    c.from_word.result.claims (c.from_word.ensures.claims ∙ ap claims_in c.seal.ensures.seen))
 
 pub invariant_of-self : goal.invariant_of-self
-invariant_of-self c = let some = c.self.invariant in (some.0, (step some.0 some.1 (Seal c.args.edge)).0, (made c some.0 some.1 some.2).0)
+invariant_of-self c = let some = c.self.invariant in
+    (some.0, (step some.0 some.1 (Seal c.args.edge)).0, (made c some.0 some.1 some.2).0)
 
 pub returns : goal.returns
 returns c = λ g log stands. made c g log (subst (StandsForLog g log) (sym c.self.view_is) stands)

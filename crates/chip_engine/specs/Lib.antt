@@ -6,3 +6,4 @@ pub mod PlainCommand
 pub mod CheckCommand
 pub mod ReplayCommand
 pub mod SimulateCommand
+pub mod ResumeCommand

@@ -10,6 +10,7 @@ pub use ended::{DONE, Ended, HALTED, OPEN};
 pub use fault::{Fault, FaultLine, Location};
 pub use plain::plain_engine;
 pub use replay::replay_engine;
+pub use resume::resume_engine;
 pub use simulate::simulate_engine;
 
 mod check;
@@ -20,6 +21,7 @@ mod fault_tests;
 mod inputs;
 mod plain;
 mod replay;
+mod resume;
 mod simulate;
 #[cfg(test)]
 mod tests;

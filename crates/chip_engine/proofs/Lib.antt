@@ -1,3 +1,4 @@
+pub mod ChainLemmas
 pub mod CheckLemmas
 pub mod EngineLemmas
 pub mod LineLemmas

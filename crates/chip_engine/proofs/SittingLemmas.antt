@@ -46,9 +46,12 @@ empty_nil : (l : List ℕ) → is_empty l ≡ true → l ≡ []
 empty_nil [] is = refl
 empty_nil (x ∷ xs) is = cc
 
--- where no vertex halted, none is legal
-none_legal : (g : ChipGame) (o : Outcome) → IsPlayed g o → is_closed o ≡ true
-    → (v : ℕ) → IsLegal g.graph (slice_index o.chips.items) v → ⊥
+-- a sitting that closed left no vertex legal
+abbrev pub LeavesNoneLegal : Multigraph → Outcome → Type 0
+LeavesNoneLegal G o = is_closed o ≡ true → (v : ℕ) → IsLegal G (slice_index o.chips.items) v → ⊥
+
+-- where the limit halted no vertex, none is legal
+pub none_legal : (g : ChipGame) (o : Outcome) → IsPlayed g o → LeavesNoneLegal g.graph o
 none_legal g o played closed v can =
     let none : legal_vertices g.graph (slice_index o.chips.items) ≡ [] = sym played.over
     ∙ empty_nil o.over.items (and_parts (is_empty o.over.items) (is_empty o.sealed.items) closed).0 in
@@ -56,19 +59,17 @@ none_legal g o played closed v can =
     ((legal_vertices_law g.graph (slice_index o.chips.items) v).1 can) in
     let past = has.1 in omega arith
 
--- a sitting that goes on leads to the end of the play that was never stopped
-pub leads_to_the_end : (G : Multigraph) → IsGraph G → (earlier r : Resumed) (limit : ℕ) → GoesOn G earlier limit r
-    → ((x : ℕ → ℕ) → IsPlayFrom G x earlier → IsPlayFrom G x r)
-    → (x : ℕ → ℕ) → IsPlayFrom G x earlier → LeadsToTheEnd G x r
-leads_to_the_end G good earlier r limit on further x from =
-    let y : ℕ → ℕ = slice_index r.outcome.chips.items in
-    let alike = resuming.ends_alike G good x (fired_in_all r) y (further x from) in record {
-      leads = further x from;
+-- a play that leads from x to a sitting leads to the end of the play that was never stopped
+pub leads_on : (G : Multigraph) → IsGraph G → (x : ℕ → ℕ) (r : Resumed) → IsPlayFrom G x r
+    → LeavesNoneLegal G r.outcome → LeadsToTheEnd G x r
+leads_on G good x r leads none =
+    let alike = resuming.ends_alike G good x (fired_in_all r) (slice_index r.outcome.chips.items) leads in record {
+      leads = leads;
       ends_alike = alike;
-      closed = λ closed. (let none = none_legal _ r.outcome on.played closed in record {
-        counted = λ vs ok ended v. (let same = (alike [] tt none vs ok ended).0 v in omega arith);
-        position = λ vs ok ended v. (alike [] tt none vs ok ended).1 v;
-      });
+      closed = λ closed. record {
+        counted = λ vs ok ended v. (let same = (alike [] tt (none closed) vs ok ended).0 v in omega arith);
+        position = λ vs ok ended v. (alike [] tt (none closed) vs ok ended).1 v;
+      };
     }
 
 -- a text that is refused tells no sitting

@@ -7,3 +7,4 @@ pub mod CheckCommand
 pub mod ReplayCommand
 pub mod SimulateCommand
 pub mod ResumeCommand
+pub mod Sittings

@@ -19,6 +19,7 @@ mod fault;
 #[cfg(test)]
 mod fault_tests;
 mod inputs;
+pub mod laws;
 mod plain;
 mod replay;
 mod resume;

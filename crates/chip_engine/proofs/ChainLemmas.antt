@@ -69,13 +69,13 @@ same_start graph_text chips_text limit g h one other =
     let a = one.named.start.1 in let b = other.named.start.1 in cc
 
 pub plain_tells_play : PlainTellsPlay
-plain_tells_play graph_text chips_text limit report ended (h, means', text, (o, played, spelled, status), wrote, cut) g means =
+plain_tells_play graph_text chips_text limit report ended (h, means', text, reports, wrote, cut) g means =
     subst (λ (start : List ℕ). TellsPlayFrom g.graph (slice_index start) report)
     (same_start graph_text chips_text limit h g means' means)
     (subst (λ (G : Multigraph). TellsPlayFrom G (slice_index h.start) report)
     (same_graph graph_text h.graph g.graph means'.named.graph.1 means.named.graph.1)
-    (first_tells h.graph (slice_index h.start) o (outcome_is h means'.game o played) (played_is_sitting h o played)
-    report (wrote ∙ spelled)))
+    (first_tells h.graph (slice_index h.start) reports.0 (outcome_is h means'.game reports.0 reports.1)
+    (played_is_sitting h reports.0 reports.1) report (wrote ∙ reports.2)))
 
 pub simulate_tells_play : SimulateTellsPlay
 simulate_tells_play g log end report status ends is =
@@ -105,7 +105,8 @@ read_again report s fits spelled r (inr two) = one_sitting s r fits two.reportab
 
 -- a report that `resume` wrote on one that tells a play tells the play that goes on
 goes_on : (graph_text : List ℕ) (G : Multigraph) → Reads graph_text (MeansGraph graph_text G)
-    → (x : ℕ → ℕ) (before : List ℕ) → TellsPlayFrom G x before → (report : List ℕ) → IsResumedTo graph_text before report
+    → (x : ℕ → ℕ) (before : List ℕ) → TellsPlayFrom G x before
+    → (report : List ℕ) → IsResumedTo graph_text before report
     → (r : Resumed) → IsAnyReportOf report r → LeadsToTheEnd G x r
 goes_on graph_text G reads x before tells report (limit, ended, (H, earlier, means, text, on, wrote, cut)) r is =
     let graphs : H ≡ G = same_graph graph_text H G means.graph.1 reads.1 in

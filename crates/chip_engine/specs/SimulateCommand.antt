@@ -44,9 +44,9 @@ reply_text Full = codes "full\n"
 reply_text Sealed = codes "sealed\n"
 reply_text (NotNow rule) = codes "not-now " ++ decimal (number_of rule) ++ codes "\n"
 
--- the end of a closed run: the report of its outcome and the status that `plain` has for it. The firings of the run lead
--- to this outcome, so that a play can go on from it; and unless a vertex halted by a seal, it is what `plain` writes for
--- the game, and its status
+-- the end of a closed run: the report of its outcome and the status that `plain` has for it. The firings of the run
+-- lead to this outcome, so that a play can go on from it; and unless a vertex halted by a seal, it is what `plain`
+-- writes for the game, and its status
 pub record EndsClosed (g : Setting) (log : Log) (end : List ℕ) (status : ℕ) : Type 0 where
   pub outcome : Outcome
   pub outcome_is : IsOutcomeOf g log outcome

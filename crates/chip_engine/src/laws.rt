@@ -1,6 +1,13 @@
-//! What holds of the texts of several commands together: a function that does nothing, whose contract is the law.
+//! Laws of the commands: functions that do nothing, whose contracts are the laws.
 
+ghost use Rattle.chip_engine.specs.Worked.{TriangleGoesOn, RefusalsAreNumbered};
 ghost use Rattle.chip_engine.specs.Sittings.{PlainTellsPlay, SimulateTellsPlay, ResumedPlaysAddUp};
+
+/// A sitting that went on, and the refusals of going on, as the definitions compute them.
+pub fn worked_sitting()
+    ensures triangle { TriangleGoesOn }
+    ensures refusals { RefusalsAreNumbered }
+{}
 
 /// The reports of a play in several sittings add up, however many there are and whatever stopped each: `plain` or
 /// `simulate` writes the first, and `resume` each other one, given the one before it.

@@ -1,6 +1,6 @@
 -- Plays that go on, from text to text.
-use Rattle.std.proofs.Common.{◌≡◌, ℕ, ◌+◌, ◌<◌, List, [], ◌∷◌, ◌++◌, codes, length, slice_index, true}
-use Rattle.std.proofs.Common.{Some, Ok, refl, sym, ap, ◌∙◌, subst, arith, inl, inr}
+use Rattle.std.proofs.Common.{◌≡◌, ℕ, ◌+◌, List, [], ◌∷◌, codes, length, slice_index, true}
+use Rattle.std.proofs.Common.{sym, ap, ◌∙◌, subst, arith, inl, inr}
 use Rattle.std.specs.Prelude.{◌&&◌, replicate}
 use Rattle.std.proofs.lemmas.List.{append_cancel_left, get_or-replicate, get_or_past, length-replicate}
 use mathlib.Core.Logic.{dite}

@@ -1,7 +1,7 @@
 -- Plays that go on, from the report of one sitting to the report of the next.
-use Rattle.std.proofs.Common.{◌≡◌, ◌⊎◌, ℕ, ◌+◌, ◌≤◌, Bool, true, false, List, [], ◌∷◌, Contains, length, slice_index}
+use Rattle.std.proofs.Common.{◌≡◌, ◌⊎◌, ℕ, ◌≤◌, true, List, [], ◌∷◌, Contains, length, slice_index}
 use Rattle.std.proofs.Common.{Option, Result, Ok, Err, refl, sym, ap, ◌∙◌, subst, arith, inl, inr}
-use Rattle.std.specs.Prelude.{◌&&◌, All, replicate}
+use Rattle.std.specs.Prelude.{All}
 use Rattle.std.specs.Result.{IsErrAnd}
 use Rattle.std.proofs.lemmas.Bool.{and_parts}
 use Rattle.std.proofs.lemmas.List.{length-replicate}
@@ -9,9 +9,8 @@ use Rattle.std.proofs.lemmas.List.Elements.{All-replicate}
 use Rattle.chip_graph.specs.Multigraph.{Multigraph, IsGraph}
 use Rattle.chip_graph.specs.ChipGame.{ChipGame}
 use Rattle.chip_fire.specs.Firing.{IsLegal, legal_vertices}
-use Rattle.chip_fire.specs.Sequence.{position_after, IsFiringSequence, counts, HasEnded}
 use Rattle.chip_fire.specs.Play.{IsPlayed}
-use Rattle.chip_fire.specs.Resume.{IsResumed, GoesOn, IsPlayFrom, fired_in_all, max_prior}
+use Rattle.chip_fire.specs.Resume.{IsResumed, IsPlayFrom, fired_in_all, max_prior}
 use Rattle.chip_fire.specs.declared.outcome.Outcome.{Outcome}
 use Rattle.chip_fire.specs.declared.sitting.Resumed.{Resumed}
 use Rattle.chip_fire.proofs.LegalLemmas.{legal_vertices_law}
@@ -25,7 +24,7 @@ use Rattle.chip_report.specs.declared.write.WriteFault.{WriteFault}
 use Rattle.chip_file.specs.Answer.{max_bytes}
 use Rattle.chip_file.specs.declared.fault.FileFault.TheVariants as file_fault
 use Rattle.chip_engine.specs.Faults.{fault_of_report}
-use Rattle.chip_engine.specs.ResumeCommand.{MeansSitting, EndsThePlay, LeadsToTheEnd, ReportsOn, GivesSitting}
+use Rattle.chip_engine.specs.ResumeCommand.{MeansSitting, LeadsToTheEnd, ReportsOn, GivesSitting}
 use Rattle.chip_engine.specs.ResumeCommand.{RefusesReport, RefusesToGoOn, RefusesSitting, ResumeAnswers}
 use Rattle.chip_engine.specs.declared.ended.Ended.{Ended}
 use Rattle.chip_engine.specs.declared.fault.Fault.{Fault}

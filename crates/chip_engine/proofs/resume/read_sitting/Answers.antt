@@ -1,4 +1,4 @@
-use Rattle.std.proofs.Common.{◌≡◌, ◌⊎◌, ℕ, List, Ok, sym, ◌∙◌, subst}
+use Rattle.std.proofs.Common.{◌≡◌, ◌⊎◌, ℕ, List, Ok, ◌∙◌, subst}
 use Rattle.chip_file.specs.Answer.{Answers}
 use Rattle.chip_report.specs.ReportTwo.{IsNoReportAtAll}
 use Rattle.chip_report.specs.declared.fault.ReportFault.TheVariants as report_fault

@@ -1,8 +1,9 @@
-"""Random plays in several sittings: what `plain` or `simulate` and then `resume` write, and what a play that is never stopped fires.
+"""Random plays in several sittings: what `plain` or `simulate` writes, and then `resume`, and what all of them come to.
 
-The games are small and drawn at random. The first sitting ends by a random limit, or by a random edge that is sealed; each
-further one goes on from the report that the program wrote, with a random limit, and the last one without a limit. What must
-come is known from examples/play.py and examples/simulate.py, which share nothing with the program.
+The games are small and drawn at random. The first sitting ends by a random limit, or by a random edge that is sealed;
+each further one goes on from the report that the program wrote, with a random limit, and the last one without a limit.
+What must come is known from examples/play.py and examples/simulate.py, which share nothing with the program: the report
+of each sitting, and that all sittings together are a play that is never stopped.
 """
 import importlib.util
 import json
@@ -30,6 +31,7 @@ def random_game(draw):
 
 
 def status_of(report):
+    """The exit status that goes with a report."""
     return 0 if json.loads(report)["closed"] else 2
 
 
@@ -50,10 +52,10 @@ class Chain:
     def differences(self, arguments, wanted, status):
         """Runs the program, and returns what it wrote and what of it is not as it must be."""
         how = {"stdin": subprocess.DEVNULL, "stdout": subprocess.PIPE, "stderr": subprocess.PIPE, "timeout": SECONDS}
-        ran = subprocess.run([self.program, *arguments], cwd=self.room, text=True, errors="backslashreplace", **how)
-        got = (ran.stdout, ran.stderr, ran.returncode)
-        faults = [] if got == (wanted, "", status) else [f"{arguments}: expected {(wanted, '', status)}, got {got}"]
-        return ran.stdout, faults
+        ran = subprocess.run([self.program, *arguments], cwd=self.room, **how)
+        written, errors = (text.decode(errors="backslashreplace") for text in (ran.stdout, ran.stderr))
+        expected, got = (wanted, "", status), (written, errors, ran.returncode)
+        return written, [] if got == expected else [f"{arguments}: expected {expected}, got {got}"]
 
     def first(self):
         """The first sitting: the report that was written, and what is wrong with it."""
@@ -98,7 +100,8 @@ class Chain:
         fired = self.play.play(self.graph, chips, NO_LIMIT, self.draw)
         in_all = [a + b for a, b in zip(last["prior"], last["fired"])]
         is_well = (in_all, last["chips"]) == (fired, chips)
-        return [] if is_well else [f"all sittings give {in_all} and {last['chips']}, one play gives {fired} and {chips}"]
+        shown = f"all sittings give {in_all} and {last['chips']}, one play gives {fired} and {chips}"
+        return [] if is_well else [shown]
 
 
 def module_of(path, name):

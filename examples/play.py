@@ -1,8 +1,9 @@
 #!/usr/bin/env python3
 """Plays a chip-firing game the slow and plain way, to say what chipfire must answer.
 
-    examples/play.py GRAPH CHIPS [--limit F] [--seed N]     the report of `chipfire plain`
-    examples/play.py GRAPH                                  the lines of `chipfire check`
+    examples/play.py GRAPH CHIPS [--limit F] [--seed N]             the report of `chipfire plain`
+    examples/play.py GRAPH --resume REPORT [--limit F] [--seed N]   the report of `chipfire resume`
+    examples/play.py GRAPH                                          the lines of `chipfire check`
 
 It shares nothing with chipfire: it fires one vertex at a time, each time one drawn at random from those that may fire,
 until there is none. Whatever the seed, the report is the same. It expects files that are right, and checks nothing.
@@ -78,6 +79,16 @@ def report(graph, chips, fired):
     return json.dumps(said, separators=(",", ":"))
 
 
+def go_on(graph, earlier, limit, draw):
+    """The report of a sitting that begins where an earlier one, told by its report, ended."""
+    before = earlier.get("prior", [0] * len(earlier["fired"]))
+    chips = earlier["chips"]
+    fired = play(graph, chips, limit, draw)
+    prior = [a + b for a, b in zip(before, earlier["fired"])]
+    said = {**json.loads(report(graph, chips, fired)), "prior": prior, "version": 2}
+    return json.dumps(said, separators=(",", ":"), sort_keys=True)
+
+
 def check(graph):
     degree, distance = degrees(graph), distances(graph)
     lines = [f"vertices {graph['vertices']}", f"edges {len(graph['edges'])}", f"sink {graph['sink']}"]
@@ -89,13 +100,17 @@ def main():
     words = argparse.ArgumentParser(description="What chipfire must answer, found by playing one firing at a time.")
     words.add_argument("graph")
     words.add_argument("chips", nargs="?")
+    words.add_argument("--resume", metavar="REPORT", help="go on from where this report says that a play stopped")
     words.add_argument("--limit", type=int, default=2**40, help="how often a vertex may fire")
     words.add_argument("--seed", type=int, default=0, help="picks another random order")
     words = words.parse_args()
     graph, chips = read_game(words.graph, words.chips)
-    if words.chips:
-        fired = play(graph, chips, words.limit, random.Random(words.seed))
-        print(report(graph, chips, fired))
+    draw = random.Random(words.seed)
+    if words.resume:
+        with open(words.resume, encoding="utf-8") as file:
+            print(go_on(graph, json.load(file), words.limit, draw))
+    elif words.chips:
+        print(report(graph, chips, play(graph, chips, words.limit, draw)))
     else:
         print(check(graph))
 

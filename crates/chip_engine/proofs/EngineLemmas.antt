@@ -82,7 +82,7 @@ means_game graph_text chips_text limit g named none = record {
   game = is_game g named.graph.1.valid none;
 }
 
-Keeps-same : (known : Option (List ℕ)) → Keeps known known
+pub Keeps-same : (known : Option (List ℕ)) → Keeps known known
 Keeps-same None = tt
 Keeps-same (Some bytes) = refl
 

@@ -1,3 +1,5 @@
+pub mod ChainLemmas
 pub mod CheckLemmas
 pub mod EngineLemmas
 pub mod LineLemmas
+pub mod SittingLemmas

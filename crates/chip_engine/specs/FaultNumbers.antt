@@ -6,6 +6,8 @@ use Rattle.chip_graph.specs.declared.fault.GameFault.{GameFault}
 use Rattle.chip_graph.specs.declared.fault.GameFault.TheVariants as game
 use Rattle.chip_file.specs.declared.fault.FileFault.{FileFault}
 use Rattle.chip_file.specs.declared.fault.FileFault.TheVariants as file
+use Rattle.chip_fire.specs.declared.sitting.ResumeFault.{ResumeFault}
+use Rattle.chip_fire.specs.declared.sitting.ResumeFault.TheVariants as resume
 use Rattle.chip_engine.specs.declared.fault.Fault.{Fault}
 use Rattle.chip_engine.specs.declared.fault.Fault.TheVariants as fault
 use Rattle.chip_engine.specs.declared.fault.Location.{Location}
@@ -46,11 +48,21 @@ number_of_file_fault file.Read = 29
 number_of_file_fault file.TooLong = 30
 number_of_file_fault file.NoMemory = 90
 
+-- the number of a fault of resuming; a total and a limit that are too large have the numbers that they have in a game
+abbrev pub number_of_resume_fault : ResumeFault → ℕ
+number_of_resume_fault resume.Total = 10
+number_of_resume_fault resume.Limit = 11
+number_of_resume_fault (resume.Prior vertex) = 51
+number_of_resume_fault resume.Mismatch = 52
+number_of_resume_fault resume.NoMemory = 90
+
 -- the number of a fault of a command
 abbrev pub number_of : Fault → ℕ
 number_of (fault.File f) = number_of_file_fault f
 number_of (fault.Game f) = number_of_game_fault f
 number_of fault.NotClosed = 42
+number_of fault.NotReport = 50
+number_of (fault.Resume f) = number_of_resume_fault f
 number_of (fault.Stuck vertex row) = 70
 number_of fault.NoMemory = 90
 number_of fault.Usage = 91
@@ -76,9 +88,15 @@ location_of_file_fault (file.Repeated row) = At row
 location_of_file_fault (file.Kind row) = At row
 location_of_file_fault _ = Nowhere
 
+-- where a fault of resuming is: at a vertex, where one fired too often
+abbrev pub location_of_resume_fault : ResumeFault → Location
+location_of_resume_fault (resume.Prior vertex) = At vertex
+location_of_resume_fault _ = Nowhere
+
 -- where a fault of a command is; an output failed behind so many bytes
 abbrev pub location_of : Fault → Location
 location_of (fault.File f) = location_of_file_fault f
+location_of (fault.Resume f) = location_of_resume_fault f
 location_of (fault.Stuck vertex row) = AtRow vertex row
 location_of (fault.Open argument) = At argument
 location_of (fault.Write f) = At f.written

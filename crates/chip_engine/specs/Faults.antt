@@ -1,12 +1,16 @@
 -- The faults of libraries among those of commands.
 use Rattle.chip_file.specs.declared.fault.FileFault.{FileFault}
 use Rattle.chip_file.specs.declared.fault.FileFault.TheVariants as file
+use Rattle.chip_fire.specs.declared.sitting.ResumeFault.{ResumeFault}
+use Rattle.chip_fire.specs.declared.sitting.ResumeFault.TheVariants as resume
+use Rattle.chip_report.specs.declared.fault.ReportFault.{ReportFault}
+use Rattle.chip_report.specs.declared.fault.ReportFault.TheVariants as report
 use Rattle.chip_trace.specs.declared.fault.ReplayFault.{ReplayFault}
 use Rattle.chip_trace.specs.declared.fault.ReplayFault.TheVariants as replay
 use Rattle.chip_world.specs.declared.fault.WorldFault.{WorldFault}
 use Rattle.chip_world.specs.declared.fault.WorldFault.TheVariants as world
 use Rattle.chip_engine.specs.declared.fault.Fault.{Fault}
-use Rattle.chip_engine.specs.declared.fault.Fault.TheVariants.{File, Stuck, NotClosed, NoMemory}
+use Rattle.chip_engine.specs.declared.fault.Fault.TheVariants.{File, Stuck, NotClosed, NotReport, Resume, NoMemory}
 
 -- want of memory is one fault, whoever met it
 abbrev pub fault_of_file : FileFault → Fault
@@ -22,3 +26,13 @@ fault_of_replay replay.NoMemory = NoMemory
 abbrev pub fault_of_world : WorldFault → Fault
 fault_of_world world.NotClosed = NotClosed
 fault_of_world world.NoMemory = NoMemory
+
+-- the fault of bytes that are no report
+abbrev pub fault_of_report : ReportFault → Fault
+fault_of_report report.NotReport = NotReport
+fault_of_report report.NoMemory = NoMemory
+
+-- why a play does not go on
+abbrev pub fault_of_resume : ResumeFault → Fault
+fault_of_resume resume.NoMemory = NoMemory
+fault_of_resume fault = Resume fault

@@ -6,3 +6,6 @@ pub mod PlainCommand
 pub mod CheckCommand
 pub mod ReplayCommand
 pub mod SimulateCommand
+pub mod ResumeCommand
+pub mod Sittings
+pub mod Worked

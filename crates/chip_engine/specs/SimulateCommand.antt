@@ -15,9 +15,11 @@ use Rattle.chip_core.specs.Headline.{NoneHaltedBySeal}
 use Rattle.chip_world.specs.declared.world.driving.Drive.{Drive}
 use Rattle.chip_world.specs.declared.world.driving.Drive.TheVariants.{Closed, Unfinished}
 use Rattle.chip_world.specs.Rounds.{IsDrive}
-use Rattle.chip_core.specs.Outcomes.{IsOutcomeOf}
+use Rattle.chip_core.specs.Outcomes.{IsOutcomeOf, ComesTo}
+use Rattle.chip_core.specs.Positions.{firings}
 use Rattle.chip_file.specs.ScheduleText.{schedule_of_text, schedule_text_fault}
 use Rattle.chip_fire.specs.declared.outcome.Outcome.{Outcome}
+use Rattle.chip_fire.specs.Outcomes.{IsOutcome}
 use Rattle.chip_report.specs.ReportText.{report_text}
 use Rattle.chip_report.specs.Written.{WritesAll}
 use Rattle.chip_report.specs.declared.write.WriteFault.{WriteFault}
@@ -42,11 +44,14 @@ reply_text Full = codes "full\n"
 reply_text Sealed = codes "sealed\n"
 reply_text (NotNow rule) = codes "not-now " ++ decimal (number_of rule) ++ codes "\n"
 
--- the end of a closed run: the report of its outcome and the status that `plain` has for it; unless a vertex halted by
--- a seal, it is what `plain` writes for the game, and its status
+-- the end of a closed run: the report of its outcome and the status that `plain` has for it. The firings of the run
+-- lead to this outcome, so that a play can go on from it; and unless a vertex halted by a seal, it is what `plain`
+-- writes for the game, and its status
 pub record EndsClosed (g : Setting) (log : Log) (end : List ℕ) (status : ℕ) : Type 0 where
   pub outcome : Outcome
   pub outcome_is : IsOutcomeOf g log outcome
+  pub reportable : IsOutcome outcome
+  pub comes : ComesTo g (firings log) outcome
   pub reported : end ≡ codes "root closed\n" ++ report_text outcome
   pub status_is : status ≡ plain_status outcome
   pub plays : NoneHaltedBySeal g log → Reports (game_of_setting g) (report_text outcome) status

@@ -2,12 +2,14 @@
 
 ghost use Rattle.std.specs.Prelude.{◌≡◌};
 ghost use Rattle.chip_engine.specs.FaultNumbers.{number_of_graph_fault, number_of_game_fault, number_of_file_fault};
+ghost use Rattle.chip_engine.specs.FaultNumbers.{number_of_resume_fault, location_of_resume_fault};
 ghost use Rattle.chip_engine.specs.FaultNumbers.{location_of_graph_fault, location_of_file_fault};
 ghost use Rattle.chip_engine.specs.declared.fault.Location.TheVariants.{Nowhere};
 
 use chip_file::FileFault;
+use chip_fire::ResumeFault;
 use chip_graph::{GameFault, GraphFault};
-use chip_report::WriteFault;
+use chip_report::{ReportFault, WriteFault};
 use chip_trace::ReplayFault;
 use chip_world::WorldFault;
 use std::alloc::{AllocError, AllocFailed};
@@ -24,6 +26,10 @@ pub enum Fault {
     Game(GameFault),
     /// The root of a simulated run is not closed, so there is no outcome.
     NotClosed,
+    /// The bytes of a report are none.
+    NotReport,
+    /// The play that a report tells does not go on.
+    Resume(ResumeFault),
     /// The recorded runs of a trace do not fit together; at greatest progress this row of this vertex is to blame.
     Stuck { vertex: u64, row: u64 },
     /// The output, and how many bytes of it went out.
@@ -58,6 +64,34 @@ impl From<GameFault> for Fault {
 
     fn from(fault: GameFault) -> Fault {
         Fault::Game(fault)
+    }
+}
+
+impl From<ReportFault> for Fault {
+    ghost use Rattle.std.specs.Prelude.{◌≡◌};
+    ghost use Rattle.chip_engine.specs.Faults.{fault_of_report};
+
+    ghost from_gives = { λ report fault. fault ≡ fault_of_report report };
+
+    fn from(fault: ReportFault) -> Fault {
+        match fault {
+            ReportFault::NotReport => Fault::NotReport,
+            ReportFault::NoMemory => Fault::NoMemory,
+        }
+    }
+}
+
+impl From<ResumeFault> for Fault {
+    ghost use Rattle.std.specs.Prelude.{◌≡◌};
+    ghost use Rattle.chip_engine.specs.Faults.{fault_of_resume};
+
+    ghost from_gives = { λ resume fault. fault ≡ fault_of_resume resume };
+
+    fn from(fault: ResumeFault) -> Fault {
+        match fault {
+            ResumeFault::NoMemory => Fault::NoMemory,
+            fault => Fault::Resume(fault),
+        }
     }
 }
 
@@ -214,6 +248,20 @@ fn file_line(fault: &FileFault) -> FaultLine
     }
 }
 
+/// The lines of faults of resuming.
+fn resume_line(fault: &ResumeFault) -> FaultLine
+    ensures number { result.number ≡ number_of_resume_fault fault.now }
+    ensures location { result.location ≡ location_of_resume_fault fault.now }
+{
+    match fault {
+        ResumeFault::Total => line(10, "Total", Location::Nowhere),
+        ResumeFault::Limit => line(11, "Limit", Location::Nowhere),
+        ResumeFault::Prior(vertex) => line(51, "Prior", Location::At(*vertex)),
+        ResumeFault::Mismatch => line(52, "Mismatch", Location::Nowhere),
+        ResumeFault::NoMemory => line(90, "NoMemory", Location::Nowhere),
+    }
+}
+
 impl Fault {
     ghost use Rattle.std.specs.Prelude.{◌≡◌};
     ghost use Rattle.chip_engine.specs.FaultNumbers.{number_of, location_of};
@@ -227,6 +275,8 @@ impl Fault {
             Fault::File(fault) => file_line(fault),
             Fault::Game(fault) => game_line(fault),
             Fault::NotClosed => line(42, "NotClosed", Location::Nowhere),
+            Fault::NotReport => line(50, "NotReport", Location::Nowhere),
+            Fault::Resume(fault) => resume_line(fault),
             Fault::Stuck { vertex, row } => {
                 let (vertex, row) = (*vertex, *row);
                 line(70, "Stuck", Location::AtRow { vertex, row })

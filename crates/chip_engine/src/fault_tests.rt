@@ -2,6 +2,7 @@
 
 use crate::fault::Fault;
 use chip_file::FileFault;
+use chip_fire::ResumeFault;
 use chip_graph::{GameFault, GraphFault};
 use chip_report::{ReportFault, WriteFault};
 use chip_trace::{ReplayFault, TraceFault};
@@ -23,6 +24,11 @@ fn prints_each_line(rt: HostRuntime) -> Result<(), Fail> {
         (Fault::Game(GameFault::Total), "fault 10 Total"),
         (Fault::Game(GameFault::Limit), "fault 11 Limit"),
         (Fault::NotClosed, "fault 42 NotClosed"),
+        (Fault::NotReport, "fault 50 NotReport"),
+        (Fault::Resume(ResumeFault::Prior(3)), "fault 51 Prior 3"),
+        (Fault::Resume(ResumeFault::Mismatch), "fault 52 Mismatch"),
+        (Fault::Resume(ResumeFault::Total), "fault 10 Total"),
+        (Fault::Resume(ResumeFault::Limit), "fault 11 Limit"),
         (Fault::Stuck { vertex: 1, row: 0 }, "fault 70 Stuck 1 0"),
         (Fault::NoMemory, "fault 90 NoMemory"),
         (Fault::Usage, "fault 91 Usage"),
@@ -146,6 +152,27 @@ fn the_other_libraries_say_what_is_wrong(rt: HostRuntime) -> Result<(), Fail> {
     shows(&rt, &ReplayFault::NoMemory, "out of memory")?;
     shows(&rt, &TraceFault::Write, "a write failed")?;
     shows(&rt, &TraceFault::NoMemory, "out of memory")?;
+    for (fault, text) in [
+        (
+            ResumeFault::Mismatch,
+            "the earlier play has another number of vertices",
+        ),
+        (
+            ResumeFault::Total,
+            "there are more than 1099511627776 chips",
+        ),
+        (
+            ResumeFault::Limit,
+            "the firing limit is above 1099511627776",
+        ),
+        (
+            ResumeFault::Prior(3),
+            "vertex 3 fired more than 1152921504606846976 times before",
+        ),
+        (ResumeFault::NoMemory, "out of memory"),
+    ] {
+        shows(&rt, &fault, text)?;
+    }
     shows(&rt, &WorldFault::NotClosed, "the root is not closed")?;
     shows(&rt, &WorldFault::NoMemory, "out of memory")?;
     Ok(())

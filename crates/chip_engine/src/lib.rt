@@ -10,6 +10,7 @@ pub use ended::{DONE, Ended, HALTED, OPEN};
 pub use fault::{Fault, FaultLine, Location};
 pub use plain::plain_engine;
 pub use replay::replay_engine;
+pub use resume::resume_engine;
 pub use simulate::simulate_engine;
 
 mod check;
@@ -18,8 +19,10 @@ mod fault;
 #[cfg(test)]
 mod fault_tests;
 mod inputs;
+pub mod laws;
 mod plain;
 mod replay;
+mod resume;
 mod simulate;
 #[cfg(test)]
 mod tests;

@@ -5,8 +5,10 @@ use crate::ended::Ended;
 use crate::fault::Fault;
 use crate::plain::plain_engine;
 use crate::replay::replay_engine;
+use crate::resume::resume_engine;
 use crate::simulate::simulate_engine;
 use chip_file::{FileFault, read_graph, read_trace};
+use chip_fire::ResumeFault;
 use chip_graph::{GameFault, GraphFault};
 use chip_link::{Ring, TraceRow};
 use chip_report::WriteFault;
@@ -218,6 +220,56 @@ fn simulates_what_is_sealed_half_way(rt: HostRuntime) {
             NO_LIMIT,
             ring,
             rounds,
+            &mut output,
+        );
+        assert_eq!(rt; ended, wanted);
+        assert_eq!(rt; output.as_slice(), text.as_bytes());
+    }
+}
+
+/// The triangle with five chips on vertex 0, after a sitting with limit 2.
+const STOPPED: &str =
+    "{\"chips\":[2,0,3],\"closed\":false,\"fired\":[2,1,0],\"over\":[0],\"sealed\":[],\"version\":1}\n";
+
+/// And after a second one.
+const WENT_ON: &str =
+    "{\"chips\":[0,1,4],\"closed\":true,\"fired\":[1,0,0],\"over\":[],\"prior\":[2,1,0],\"sealed\":[],\"version\":2}\n";
+
+#[test]
+fn goes_on_with_the_triangle(rt: HostRuntime) {
+    let stood_still = "{\"chips\":[2,0,3],\"closed\":false,\"fired\":[0,0,0],\"over\":[0],\
+        \"prior\":[2,1,0],\"sealed\":[],\"version\":2}\n";
+    let sealed =
+        "{\"chips\":[0,2,2],\"closed\":false,\"fired\":[2,0,0],\"over\":[],\"sealed\":[0],\"version\":1}\n";
+    let unsealed = "{\"chips\":[1,0,3],\"closed\":true,\"fired\":[0,1,0],\"over\":[],\
+        \"prior\":[2,0,0],\"sealed\":[],\"version\":2}\n";
+    let of_two =
+        "{\"chips\":[0,0],\"closed\":true,\"fired\":[0,0],\"over\":[],\"sealed\":[],\"version\":1}\n";
+    for (report, limit, wanted, text) in [
+        (STOPPED, NO_LIMIT, closed(0), WENT_ON),
+        (STOPPED, 0, closed(2), stood_still),
+        (stood_still, NO_LIMIT, closed(0), WENT_ON),
+        (sealed, NO_LIMIT, closed(0), unsealed),
+        (
+            of_two,
+            NO_LIMIT,
+            Err(Fault::Resume(ResumeFault::Mismatch)),
+            "",
+        ),
+        (
+            STOPPED,
+            NO_LIMIT + 1,
+            Err(Fault::Resume(ResumeFault::Limit)),
+            "",
+        ),
+        ("", NO_LIMIT, Err(Fault::NotReport), ""),
+    ] {
+        let mut output = Vec::new(rt.alloc());
+        let ended = resume_engine(
+            rt.alloc(),
+            &mut TRIANGLE.as_bytes(),
+            &mut report.as_bytes(),
+            limit,
             &mut output,
         );
         assert_eq!(rt; ended, wanted);

@@ -38,6 +38,15 @@ pub struct SimulationArguments<'a> {
     pub rounds: u64,
 }
 
+/// A play to go on with that the arguments name: its files, and how often each vertex may fire in this sitting.
+#[derive(Clone, Copy)]
+pub struct SittingArguments<'a> {
+    pub graph: FileArgument<'a>,
+    pub report: FileArgument<'a>,
+    /// Up to 2^40.
+    pub limit: u64,
+}
+
 /// What the arguments ask for.
 #[derive(Drop)]
 pub enum Request<'a> {
@@ -48,6 +57,7 @@ pub enum Request<'a> {
     Simulate(SimulationArguments<'a>),
     /// The game, and the file of the traces.
     Replay(GameArguments<'a>, FileArgument<'a>),
+    Resume(SittingArguments<'a>),
 }
 
 const AFTER_HELP: &str = "\
@@ -84,6 +94,11 @@ fn request_of<'a>(matches: &ArgMatches<'a>, arguments: &[String]) -> Result<Requ
             game_of(found, arguments)?,
             file_of(found, "TRACE", arguments, 2)?,
         )),
+        "resume" => Ok(Request::Resume(SittingArguments {
+            graph: file_of(found, "GRAPH", arguments, 0)?,
+            report: file_of(found, "REPORT", arguments, 1)?,
+            limit: limit_of(found),
+        })),
         _ => Err(Fault::Usage),
     }
 }
@@ -93,8 +108,13 @@ fn game_of<'a>(found: &ArgMatches<'a>, arguments: &[String]) -> Result<GameArgum
     Ok(GameArguments {
         graph: file_of(found, "GRAPH", arguments, 0)?,
         chips: file_of(found, "CHIPS", arguments, 1)?,
-        limit: found.get_one::<u64>("limit").unwrap_or(MAX_LIMIT),
+        limit: limit_of(found),
     })
+}
+
+/// The limit that is asked for, or the greatest.
+fn limit_of(found: &ArgMatches<'_>) -> u64 {
+    found.get_one::<u64>("limit").unwrap_or(MAX_LIMIT)
 }
 
 /// The ring that is asked for, or that of one cell.
@@ -153,7 +173,8 @@ fn program<'a>(alloc: Global) -> Result<Command<'a>, AllocError> {
         .subcommand(check(alloc)?)?
         .subcommand(plain(alloc)?)?
         .subcommand(simulate(alloc)?)?
-        .subcommand(replay(alloc)?)
+        .subcommand(replay(alloc)?)?
+        .subcommand(resume(alloc)?)
 }
 
 /// The command that shows a graph.
@@ -199,6 +220,21 @@ fn replay<'a>(alloc: Global) -> Result<Command<'a>, AllocError> {
     )?
     .arg(file(alloc, "TRACE", "What each vertex took and fired, as rows"))?
     .arg(limit(alloc))
+}
+
+/// The command that goes on with a play.
+fn resume<'a>(alloc: Global) -> Result<Command<'a>, AllocError> {
+    Command::new(alloc, "resume")
+        .about(
+            "Goes on from where a report says that a play stopped, and writes the report of this sitting",
+        )
+        .arg(file(alloc, "GRAPH", "The graph, as JSON"))?
+        .arg(file(
+            alloc,
+            "REPORT",
+            "The report of the play so far, of version 1 or 2",
+        ))?
+        .arg(limit(alloc))
 }
 
 /// A command that begins with the files of a game.

@@ -4,9 +4,9 @@
 //! writes. The program reads the arguments, opens the files that they name and calls the engine.
 #![tactic(auto)]
 
-use arguments::{FileArgument, GameArguments, Request, SimulationArguments};
+use arguments::{FileArgument, GameArguments, Request, SimulationArguments, SittingArguments};
 pub use chip_engine::{
-    DONE, Ended, Fault, check_engine, plain_engine, replay_engine, simulate_engine,
+    DONE, Ended, Fault, check_engine, plain_engine, replay_engine, resume_engine, simulate_engine,
 };
 use chip_graph::MAX_LIMIT;
 use chip_report::write_all_of;
@@ -48,6 +48,7 @@ fn run<R: Env + Files + Print + AllocGlobal>(rt: &R) -> Result<Ended, Fault> {
         Request::Plain(game) => play(rt, game, &mut output),
         Request::Simulate(asked) => simulate(rt, asked, &mut output),
         Request::Replay(game, trace) => replay(rt, game, trace, &mut output),
+        Request::Resume(sitting) => resume(rt, sitting, &mut output),
     }
 }
 
@@ -101,6 +102,17 @@ fn replay<R: Files + AllocGlobal, W: io::Write>(
         game.limit,
         output,
     )
+}
+
+/// Goes on with a play.
+fn resume<R: Files + AllocGlobal, W: io::Write>(
+    rt: &R,
+    sitting: SittingArguments<'_>,
+    output: &mut W,
+) -> Result<Ended, Fault> {
+    let mut graph = open(rt, sitting.graph)?;
+    let mut report = open(rt, sitting.report)?;
+    resume_engine(rt.alloc(), &mut graph, &mut report, sitting.limit, output)
 }
 
 /// Opens the file that an argument names. Nothing is allocated for it, so where the system wants memory the file could

@@ -6,6 +6,8 @@ pub returns-clause-ok : goal.returns-clause-ok
 returns-clause-ok c = λ g log stands. record {
   outcome = c.in_ok-outcome.outcome;
   outcome_is = c.in_ok-outcome.ensures.outcome g log stands;
+  reportable = c.in_ok-outcome.ensures.in_range;
+  comes = c.in_ok-outcome.ensures.comes g log stands;
   reported =
       c.in_ok-extend_from_slice.ensures.items
       ∙ ap (λ (t : List ℕ). c.in_ok-end.end.items ++ t) (c.deref.ensures.value ∙ c.in_ok-report.ensures)

@@ -1,0 +1,133 @@
+-- Plays that go on, from text to text.
+use Rattle.std.proofs.Common.{◌≡◌, ℕ, ◌+◌, List, [], ◌∷◌, codes, length, slice_index, true}
+use Rattle.std.proofs.Common.{sym, ap, ◌∙◌, subst, arith, inl, inr}
+use Rattle.std.specs.Prelude.{◌&&◌, replicate}
+use Rattle.std.proofs.lemmas.List.{append_cancel_left, get_or-replicate, get_or_past, length-replicate}
+use mathlib.Core.Logic.{dite}
+use native.Mathlib.Decide.{dec_lt}
+use Rattle.chip_graph.specs.Multigraph.{Multigraph}
+use Rattle.chip_graph.specs.ChipGame.{ChipGame}
+use Rattle.chip_file.specs.GraphText.{MeansGraph}
+use Rattle.chip_fire.specs.Firing.{IsLegal}
+use Rattle.chip_fire.specs.Outcomes.{IsOutcome}
+use Rattle.chip_fire.specs.Resume.{IsResumed, IsPlayFrom, LeadsTo, fired_in_all}
+use Rattle.chip_fire.specs.declared.outcome.Outcome.{Outcome}
+use Rattle.chip_fire.specs.declared.sitting.Resumed.{Resumed}
+use Rattle.chip_fire.proofs.PlayLemmas.{outcome_is}
+use Rattle.chip_fire.proofs.ResumeLemmas.{played_is_sitting}
+use Rattle.chip_report.specs.ReportText.{is_empty, report_text}
+use Rattle.chip_report.specs.Reportable.{Told, told}
+use Rattle.chip_report.specs.ReportTwo.{ToldOfAll, told_of_all, report_two_text, IsAnyReportOf}
+use Rattle.chip_report.proofs.ReportLemmas.{one_outcome}
+use Rattle.chip_report.proofs.ReportTwoLemmas.{one_sitting, not_both}
+use Rattle.chip_engine.specs.Inputs.{Reads, MeansGame}
+use Rattle.chip_engine.specs.ResumeCommand.{LeadsToTheEnd}
+use Rattle.chip_engine.specs.Sittings.{TellsPlayFrom, IsResumedTo, AreResumed}
+use Rattle.chip_engine.specs.Sittings.{PlainTellsPlay, SimulateTellsPlay, ResumedPlaysAddUp}
+use Rattle.chip_engine.proofs.SittingLemmas.{LeavesNoneLegal, none_legal, leads_on}
+
+-- ---- a first sitting
+
+-- no firings before
+none_before : (n v : ℕ) → slice_index (replicate n 0) v ≡ 0
+none_before n v =
+    let none : List ℕ = replicate n 0 in
+    let many : length none ≡ n = length-replicate n 0 in
+    dite (dec_lt v n)
+    (λ l. get_or-replicate n v 0 0 l)
+    (λ nl. get_or_past none v 0 (omega arith))
+
+-- what an outcome tells leads from x to its chips
+abbrev Leads : Multigraph → (ℕ → ℕ) → Told → Type 0
+Leads G x t = LeadsTo G x (slice_index t.fired) (slice_index t.chips)
+
+-- the report of an outcome whose counts lead to its chips tells a play
+pub first_tells : (G : Multigraph) (x : ℕ → ℕ) (o : Outcome) → IsOutcome o
+    → LeadsTo G x (slice_index o.fired.items) (slice_index o.chips.items)
+    → (report : List ℕ) → report ≡ report_text o → TellsPlayFrom G x report
+first_tells G x o fits leads report spelled r (inl first) =
+    let same : told o ≡ told r.outcome =
+    one_outcome o r.outcome fits first.0.reportable (sym spelled ∙ first.0.spelled) in
+    let of_it : LeadsTo G x (slice_index r.outcome.fired.items) (slice_index r.outcome.chips.items) =
+    subst (Leads G x) same leads in
+    let in_all : (v : ℕ) → slice_index r.outcome.fired.items v ≡ fired_in_all r v =
+    (λ v. let none : slice_index r.prior.items v ≡ 0 = ap (λ (l : List ℕ). slice_index l v) first.1
+    ∙ none_before (length r.outcome.fired.items) v in omega arith) in
+    subst (λ (f : ℕ → ℕ). LeadsTo G x f (slice_index r.outcome.chips.items)) (λ i v. in_all v i) of_it
+first_tells G x o fits leads report spelled r (inr two) =
+    absurd (not_both report o r (record { reportable = fits; spelled = spelled }) two)
+
+-- two texts and a limit mean one game
+same_graph : (graph_text : List ℕ) (G H : Multigraph) → MeansGraph graph_text G → MeansGraph graph_text H → G ≡ H
+same_graph graph_text G H one other = let a = one.meaning in let b = other.meaning in cc
+
+same_start : (graph_text chips_text : List ℕ) (limit : ℕ) (g h : ChipGame) → MeansGame graph_text chips_text limit g
+    → MeansGame graph_text chips_text limit h → g.start ≡ h.start
+same_start graph_text chips_text limit g h one other =
+    let graphs = same_graph graph_text g.graph h.graph one.named.graph.1 other.named.graph.1 in
+    let vertices = ap (λ (G : Multigraph). G.vertices) graphs in
+    let a = one.named.start.1 in let b = other.named.start.1 in cc
+
+pub plain_tells_play : PlainTellsPlay
+plain_tells_play graph_text chips_text limit report ended (h, means', text, reports, wrote, cut) g means =
+    subst (λ (start : List ℕ). TellsPlayFrom g.graph (slice_index start) report)
+    (same_start graph_text chips_text limit h g means' means)
+    (subst (λ (G : Multigraph). TellsPlayFrom G (slice_index h.start) report)
+    (same_graph graph_text h.graph g.graph means'.named.graph.1 means.named.graph.1)
+    (first_tells h.graph (slice_index h.start) reports.0 (outcome_is h means'.game reports.0 reports.1)
+    (played_is_sitting h reports.0 reports.1) report (wrote ∙ reports.2)))
+
+pub simulate_tells_play : SimulateTellsPlay
+simulate_tells_play g log end report status ends is =
+    first_tells g.graph (slice_index g.start) ends.outcome ends.reportable (
+      _,
+      record { sequence = ends.comes.sequence; counted = ends.comes.counted; position = ends.comes.position },
+    )
+    report (append_cancel_left (codes "root closed\n") report (report_text ends.outcome) (sym is ∙ ends.reported))
+
+-- ---- sittings that went on
+
+-- what a sitting tells leads from x to its chips
+abbrev LeadsInAll : Multigraph → (ℕ → ℕ) → ToldOfAll → Type 0
+LeadsInAll G x t = LeadsTo G x (λ v. slice_index t.prior v + slice_index t.last.fired v) (slice_index t.last.chips)
+
+-- where it closed, it left no vertex legal
+abbrev LeavesNone : Multigraph → ToldOfAll → Type 0
+LeavesNone G t = (is_empty t.last.over && is_empty t.last.sealed) ≡ true
+    → (v : ℕ) → IsLegal G (slice_index t.last.chips) v → ⊥
+
+-- whichever sitting is read from the report of one tells the same
+read_again : (report : List ℕ) (s : Resumed) → IsResumed s → report ≡ report_two_text s
+    → (r : Resumed) → IsAnyReportOf report r → told_of_all s ≡ told_of_all r
+read_again report s fits spelled r (inl first) =
+    absurd (not_both report r.outcome s first.0 (record { reportable = fits; spelled = spelled }))
+read_again report s fits spelled r (inr two) = one_sitting s r fits two.reportable (sym spelled ∙ two.spelled)
+
+-- a report that `resume` wrote on one that tells a play tells the play that goes on
+goes_on : (graph_text : List ℕ) (G : Multigraph) → Reads graph_text (MeansGraph graph_text G)
+    → (x : ℕ → ℕ) (before : List ℕ) → TellsPlayFrom G x before
+    → (report : List ℕ) → IsResumedTo graph_text before report
+    → (r : Resumed) → IsAnyReportOf report r → LeadsToTheEnd G x r
+goes_on graph_text G reads x before tells report (limit, ended, (H, earlier, means, text, on, wrote, cut)) r is =
+    let graphs : H ≡ G = same_graph graph_text H G means.graph.1 reads.1 in
+    let same = read_again report on.resumed on.goes_on.in_range (wrote ∙ on.reported) r is in
+    let from : IsPlayFrom H x earlier = subst (λ (K : Multigraph). IsPlayFrom K x earlier) (sym graphs)
+    (tells earlier means.report.1) in
+    let leads : IsPlayFrom H x r = subst (LeadsInAll H x) same (on.adds_up x from).leads in
+    let none : LeavesNoneLegal H r.outcome =
+    subst (LeavesNone H) same (none_legal _ on.resumed.outcome on.goes_on.played) in
+    leads_on G reads.1.valid x r (subst (λ (K : Multigraph). IsPlayFrom K x r) graphs leads)
+    (subst (λ (K : Multigraph). LeavesNoneLegal K r.outcome) graphs none)
+
+-- and so do all that follow
+all_tell : (graph_text : List ℕ) (G : Multigraph) → Reads graph_text (MeansGraph graph_text G)
+    → (x : ℕ → ℕ) (first : List ℕ) → TellsPlayFrom G x first
+    → (reports : List (List ℕ)) (last : List ℕ) → AreResumed graph_text first reports last → TellsPlayFrom G x last
+all_tell graph_text G reads x first tells [] last are = subst (TellsPlayFrom G x) are tells
+all_tell graph_text G reads x first tells (report ∷ reports) last are =
+    all_tell graph_text G reads x report
+    (λ r is. (goes_on graph_text G reads x first tells report are.0 r is).leads) reports last are.1
+
+pub resumed_plays_add_up : ResumedPlaysAddUp
+resumed_plays_add_up graph_text G reads x first tells reports before last are on =
+    goes_on graph_text G reads x before (all_tell graph_text G reads x first tells reports before are) last on

@@ -1,0 +1,116 @@
+-- Plays that go on, from the report of one sitting to the report of the next.
+use Rattle.std.proofs.Common.{◌≡◌, ◌⊎◌, ℕ, ◌≤◌, true, List, [], ◌∷◌, Contains, length, slice_index}
+use Rattle.std.proofs.Common.{Option, Result, Ok, Err, refl, sym, ap, ◌∙◌, subst, arith, inl, inr}
+use Rattle.std.specs.Prelude.{All}
+use Rattle.std.specs.Result.{IsErrAnd}
+use Rattle.std.proofs.lemmas.Bool.{and_parts}
+use Rattle.std.proofs.lemmas.List.{length-replicate}
+use Rattle.std.proofs.lemmas.List.Elements.{All-replicate}
+use Rattle.chip_graph.specs.Multigraph.{Multigraph, IsGraph}
+use Rattle.chip_graph.specs.ChipGame.{ChipGame}
+use Rattle.chip_fire.specs.Firing.{IsLegal, legal_vertices}
+use Rattle.chip_fire.specs.Play.{IsPlayed}
+use Rattle.chip_fire.specs.Resume.{IsResumed, IsPlayFrom, fired_in_all, max_prior}
+use Rattle.chip_fire.specs.declared.outcome.Outcome.{Outcome}
+use Rattle.chip_fire.specs.declared.sitting.Resumed.{Resumed}
+use Rattle.chip_fire.proofs.LegalLemmas.{legal_vertices_law}
+use Rattle.chip_fire.proofs.ResumeLemmas as resuming
+use Rattle.chip_report.specs.ReportText.{is_empty, is_closed}
+use Rattle.chip_report.specs.ReportTwo.{IsAnyReportOf, IsNoReportAtAll}
+use Rattle.chip_report.specs.Written.{WritesAll}
+use Rattle.chip_report.specs.declared.fault.ReportFault.{ReportFault}
+use Rattle.chip_report.specs.declared.fault.ReportFault.TheVariants as report_fault
+use Rattle.chip_report.specs.declared.write.WriteFault.{WriteFault}
+use Rattle.chip_file.specs.Answer.{max_bytes}
+use Rattle.chip_file.specs.declared.fault.FileFault.TheVariants as file_fault
+use Rattle.chip_engine.specs.Faults.{fault_of_report}
+use Rattle.chip_engine.specs.ResumeCommand.{MeansSitting, LeadsToTheEnd, ReportsOn, GivesSitting}
+use Rattle.chip_engine.specs.ResumeCommand.{RefusesReport, RefusesToGoOn, RefusesSitting, ResumeAnswers}
+use Rattle.chip_engine.specs.declared.ended.Ended.{Ended}
+use Rattle.chip_engine.specs.declared.fault.Fault.{Fault}
+use Rattle.chip_engine.specs.declared.fault.Fault.TheVariants.{Write, NoMemory}
+use Rattle.chip_engine.proofs.EngineLemmas.{Keeps-same}
+
+-- a sitting that some report tells is in range
+pub resumed_of_report : (bytes : List ℕ) (r : Resumed) → IsAnyReportOf bytes r → IsResumed r
+resumed_of_report bytes r (inl first) = record {
+  outcome_fits = first.0.reportable;
+  prior_each = ap length first.1 ∙ length-replicate (length r.outcome.fired.items) 0;
+  few_before = subst (All (λ n. n ≤ max_prior)) (sym first.1)
+      (All-replicate (λ n. n ≤ max_prior) (length r.outcome.fired.items) 0 (omega arith));
+}
+resumed_of_report bytes r (inr two) = two.reportable
+
+empty_nil : (l : List ℕ) → is_empty l ≡ true → l ≡ []
+empty_nil [] is = refl
+empty_nil (x ∷ xs) is = cc
+
+-- a sitting that closed left no vertex legal
+abbrev pub LeavesNoneLegal : Multigraph → Outcome → Type 0
+LeavesNoneLegal G o = is_closed o ≡ true → (v : ℕ) → IsLegal G (slice_index o.chips.items) v → ⊥
+
+-- where the limit halted no vertex, none is legal
+pub none_legal : (g : ChipGame) (o : Outcome) → IsPlayed g o → LeavesNoneLegal g.graph o
+none_legal g o played closed v can =
+    let none : legal_vertices g.graph (slice_index o.chips.items) ≡ [] = sym played.over
+    ∙ empty_nil o.over.items (and_parts (is_empty o.over.items) (is_empty o.sealed.items) closed).0 in
+    let has : Contains [] v = subst (λ (l : List ℕ). Contains l v) none
+    ((legal_vertices_law g.graph (slice_index o.chips.items) v).1 can) in
+    let past = has.1 in omega arith
+
+-- a play that leads from x to a sitting leads to the end of the play that was never stopped
+pub leads_on : (G : Multigraph) → IsGraph G → (x : ℕ → ℕ) (r : Resumed) → IsPlayFrom G x r
+    → LeavesNoneLegal G r.outcome → LeadsToTheEnd G x r
+leads_on G good x r leads none =
+    let alike = resuming.ends_alike G good x (fired_in_all r) (slice_index r.outcome.chips.items) leads in record {
+      leads = leads;
+      ends_alike = alike;
+      closed = λ closed. record {
+        counted = λ vs ok ended v. (let same = (alike [] tt (none closed) vs ok ended).0 v in omega arith);
+        position = λ vs ok ended v. (alike [] tt (none closed) vs ok ended).1 v;
+      };
+    }
+
+-- a text that is refused tells no sitting
+pub refused_sitting : (text : List ℕ) (result : Result Resumed Fault) (P : Fault → Type 0) → IsErrAnd result P
+    → ((fault : Fault) → P fault → RefusesReport text fault) → GivesSitting text result
+refused_sitting text (Ok r) P is why = absurd is
+refused_sitting text (Err fault) P is why = why fault is
+
+-- bytes that are no report, or want of memory
+pub refused_report : (text : List ℕ) (f : ReportFault) → length text ≤ max_bytes
+    → (f ≡ report_fault.NoMemory) ⊎ ((f ≡ report_fault.NotReport) × IsNoReportAtAll text)
+    → (fault : Fault) → fault ≡ fault_of_report f → RefusesReport text fault
+refused_report text f short (inl none) fault is =
+    inl (file_fault.NoMemory, is ∙ ap fault_of_report none, inl (inr refl))
+refused_report text f short (inr nothing) fault is =
+    inr ((short, nothing.1), is ∙ ap fault_of_report nothing.0)
+
+-- a sitting that does not go on, or want of memory
+pub refused_going : (graph_text report_text : List ℕ) (limit : ℕ) (G : Multigraph) (earlier : Resumed)
+    → MeansSitting graph_text report_text G earlier
+    → (f : Fault) → RefusesToGoOn G earlier limit f ⊎ (f ≡ NoMemory)
+    → (fault : Fault) → fault ≡ f → RefusesSitting graph_text report_text limit fault ⊎ (fault ≡ NoMemory)
+refused_going graph_text report_text limit G earlier means f (inl why) fault is =
+    inl (inr (inr (G, earlier, means, subst (RefusesToGoOn G earlier limit) (sym is) why)))
+refused_going graph_text report_text limit G earlier means f (inr none) fault is = inr (is ∙ none)
+
+-- inputs that are refused, and nothing is written
+pub refused_resume : (graph_text report_text : List ℕ) (limit : ℕ) (known : Option (List ℕ))
+    (result : Result Ended Fault) (P : Fault → Type 0) → IsErrAnd result P
+    → ((fault : Fault) → P fault → RefusesSitting graph_text report_text limit fault ⊎ (fault ≡ NoMemory))
+    → ResumeAnswers graph_text report_text limit known known result
+refused_resume graph_text report_text limit known (Ok ended) P is why = absurd is
+refused_resume graph_text report_text limit known (Err fault) P is why = inl (why fault is, Keeps-same known)
+
+-- an output that failed
+pub failed_resume : (graph_text report_text : List ℕ) (limit : ℕ) (old new : Option (List ℕ))
+    (result : Result Ended Fault) (P : Fault → Type 0) → IsErrAnd result P → (G : Multigraph) (earlier : Resumed)
+    → MeansSitting graph_text report_text G earlier
+    → (text : List ℕ) (status : ℕ) → ReportsOn G earlier limit text status
+    → (w : WriteFault) → ((fault : Fault) → P fault → fault ≡ Write w) → WritesAll old new text (Err w)
+    → ResumeAnswers graph_text report_text limit old new result
+failed_resume graph_text report_text limit old new (Ok ended) P is G earlier means text status reports w why wrote =
+    absurd is
+failed_resume graph_text report_text limit old new (Err fault) P is G earlier means text status reports w why wrote =
+    inr (G, earlier, means, text, status, reports, w, why fault is, wrote)

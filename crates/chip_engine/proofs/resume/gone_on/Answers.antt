@@ -1,0 +1,13 @@
+use Rattle.chip_engine.proofs.SittingLemmas.{leads_on, none_legal}
+use Rattle.chip_engine.proofs.resume.gone_on.Goals as goal
+
+pub returns-clause-ok : goal.returns-clause-ok
+returns-clause-ok c = λ good. record {
+  resumed = c.in_ok-resumed.resumed;
+  goes_on = c.in_ok-resumed.ensures.answer;
+  adds_up = λ x leads.
+      leads_on c.args.graph good x c.in_ok-resumed.resumed (c.in_ok-resumed.ensures.goes_on x leads)
+      (none_legal _ c.in_ok-resumed.resumed.outcome c.in_ok-resumed.ensures.answer.played);
+  reported = c.in_ok-text.ensures;
+  status_is = c.status_of.ensures;
+}

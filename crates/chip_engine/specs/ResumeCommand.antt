@@ -1,0 +1,85 @@
+-- From the bytes of a graph file and a report to those of the report of the sitting that goes on.
+use Rattle.std.specs.Prelude.{◌≡◌, ◌⊎◌, ℕ, ◌+◌, List, true, false, slice_index, Option, Result, Ok, Err}
+use Rattle.std.specs.Io.KnownBytes.{Appends, Keeps}
+use Rattle.chip_graph.specs.Multigraph.{Multigraph}
+use Rattle.chip_file.specs.GraphText.{MeansGraph, IsGraphTextFault}
+use Rattle.chip_fire.specs.Sequence.{position_after, IsFiringSequence, counts, HasEnded}
+use Rattle.chip_fire.specs.Resume.{GoesOn, IsResumeFault, IsPlayFrom, fired_in_all}
+use Rattle.chip_fire.specs.declared.sitting.Resumed.{Resumed}
+use Rattle.chip_fire.specs.declared.sitting.ResumeFault.{ResumeFault}
+use Rattle.chip_report.specs.ReportText.{is_closed}
+use Rattle.chip_report.specs.ReportTwo.{report_two_text, IsAnyReportOf, IsNoReportAtAll}
+use Rattle.chip_report.specs.Written.{WritesAll}
+use Rattle.chip_report.specs.declared.write.WriteFault.{WriteFault}
+use Rattle.chip_engine.specs.Faults.{fault_of_resume}
+use Rattle.chip_engine.specs.Inputs.{Reads, RefusesText}
+use Rattle.chip_engine.specs.PlainCommand.{plain_status}
+use Rattle.chip_engine.specs.declared.ended.Ended.{Ended}
+use Rattle.chip_engine.specs.declared.fault.Fault.{Fault}
+use Rattle.chip_engine.specs.declared.fault.Fault.TheVariants.{NotReport, Write, NoMemory}
+
+-- two texts mean this graph, and this sitting to go on from: the first of a play, or one that went on itself
+pub record MeansSitting (graph_text report_text : List ℕ) (G : Multigraph) (earlier : Resumed) : Type 0 where
+  pub graph : Reads graph_text (MeansGraph graph_text G)
+  pub report : Reads report_text (IsAnyReportOf report_text earlier)
+
+-- what was fired in all, and the chips that lie there, are those of every sequence from the start x that ends
+pub record EndsThePlay (G : Multigraph) (x : ℕ → ℕ) (r : Resumed) : Type 0 where
+  pub counted : (vs : List ℕ) → IsFiringSequence G x vs → HasEnded G x vs → (v : ℕ) → fired_in_all r v ≡ counts vs v
+  pub position : (vs : List ℕ) → IsFiringSequence G x vs → HasEnded G x vs
+      → (v : ℕ) → slice_index r.outcome.chips.items v ≡ position_after G x vs v
+
+-- with the counts of any sequence that ends from the chips that lie there, what was fired in all is what every sequence
+-- from the start x fires that ends, and all end at the same position
+pub record LeadsToTheEnd (G : Multigraph) (x : ℕ → ℕ) (r : Resumed) : Type 0 where
+  pub leads : IsPlayFrom G x r
+  pub ends_alike : let y = slice_index r.outcome.chips.items in
+      (ws : List ℕ) → IsFiringSequence G y ws → HasEnded G y ws
+      → (vs : List ℕ) → IsFiringSequence G x vs → HasEnded G x vs
+      → ((v : ℕ) → fired_in_all r v + counts ws v ≡ counts vs v)
+      × ((v : ℕ) → position_after G y ws v ≡ position_after G x vs v)
+  pub closed : is_closed r.outcome ≡ true → EndsThePlay G x r
+
+-- a text and a status are the report of the sitting that goes on from an earlier one, and its status; from wherever the
+-- earlier sittings led, this one leads on to the end of the play that was never stopped
+pub record ReportsOn (G : Multigraph) (earlier : Resumed) (limit : ℕ) (text : List ℕ) (status : ℕ) : Type 0 where
+  pub resumed : Resumed
+  pub goes_on : GoesOn G earlier limit resumed
+  pub adds_up : (x : ℕ → ℕ) → IsPlayFrom G x earlier → LeadsToTheEnd G x resumed
+  pub reported : text ≡ report_two_text resumed
+  pub status_is : status ≡ plain_status resumed.outcome
+
+-- reading a report failed by this fault: the input could not be taken whole, or it is no report of either version
+abbrev pub RefusesReport : List ℕ → Fault → Type 0
+RefusesReport text fault =
+    RefusesText text (λ f. ⊥) fault ⊎ (Reads text (IsNoReportAtAll text) × (fault ≡ NotReport))
+
+-- what reading a report answers
+abbrev pub GivesSitting : List ℕ → Result Resumed Fault → Type 0
+GivesSitting text (Ok earlier) = Reads text (IsAnyReportOf text earlier)
+GivesSitting text (Err fault) = RefusesReport text fault
+
+-- this is the first reason why a sitting does not go on
+abbrev pub RefusesToGoOn : Multigraph → Resumed → ℕ → Fault → Type 0
+RefusesToGoOn G earlier limit fault =
+    (f : ResumeFault) × (fault ≡ fault_of_resume f) × IsResumeFault G earlier limit f
+
+-- why nothing is resumed: the first fault of the graph, of the report, or of going on
+abbrev pub RefusesSitting : List ℕ → List ℕ → ℕ → Fault → Type 0
+RefusesSitting graph_text report_text limit fault =
+    RefusesText graph_text (IsGraphTextFault graph_text) fault
+    ⊎ ((G : Multigraph) × Reads graph_text (MeansGraph graph_text G) × RefusesReport report_text fault)
+    ⊎ ((G : Multigraph) × (earlier : Resumed) × MeansSitting graph_text report_text G earlier
+    × RefusesToGoOn G earlier limit fault)
+
+-- what `resume` answers: the report of the sitting that goes on from the one that the texts mean; or nothing is written
+-- and the inputs are refused; or the output failed
+abbrev pub ResumeAnswers : List ℕ → List ℕ → ℕ → Option (List ℕ) → Option (List ℕ) → Result Ended Fault → Type 0
+ResumeAnswers graph_text report_text limit old new (Ok ended) =
+    (G : Multigraph) × (earlier : Resumed) × MeansSitting graph_text report_text G earlier
+    × (text : List ℕ) × ReportsOn G earlier limit text ended.status × Appends old new text × (ended.cut ≡ false)
+ResumeAnswers graph_text report_text limit old new (Err fault) =
+    ((RefusesSitting graph_text report_text limit fault ⊎ (fault ≡ NoMemory)) × Keeps old new)
+    ⊎ ((G : Multigraph) × (earlier : Resumed) × MeansSitting graph_text report_text G earlier
+    × (text : List ℕ) × (status : ℕ) × ReportsOn G earlier limit text status
+    × (w : WriteFault) × (fault ≡ Write w) × WritesAll old new text (Err w))

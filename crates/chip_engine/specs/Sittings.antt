@@ -1,0 +1,52 @@
+-- A play in several sittings, told by the reports that the commands write.
+use Rattle.std.specs.Prelude.{◌≡◌, ℕ, List, [], ◌∷◌, ◌++◌, codes, slice_index, Some, Ok}
+use Rattle.chip_graph.specs.Multigraph.{Multigraph}
+use Rattle.chip_graph.specs.ChipGame.{ChipGame}
+use Rattle.chip_file.specs.GraphText.{MeansGraph}
+use Rattle.chip_fire.specs.Resume.{IsPlayFrom}
+use Rattle.chip_fire.specs.declared.sitting.Resumed.{Resumed}
+use Rattle.chip_report.specs.ReportTwo.{IsAnyReportOf}
+use Rattle.chip_actor.specs.Setting.{Setting}
+use Rattle.chip_core.specs.Core.{Log}
+use Rattle.chip_engine.specs.Inputs.{Reads, MeansGame}
+use Rattle.chip_engine.specs.PlainCommand.{PlainAnswers}
+use Rattle.chip_engine.specs.ResumeCommand.{LeadsToTheEnd, ResumeAnswers}
+use Rattle.chip_engine.specs.SimulateCommand.{EndsClosed}
+use Rattle.chip_engine.specs.declared.ended.Ended.{Ended}
+
+-- whichever sitting is read from a report, what was fired in all leads from the start x to the chips that lie there
+abbrev pub TellsPlayFrom : Multigraph → (ℕ → ℕ) → List ℕ → Type 0
+TellsPlayFrom G x report = (r : Resumed) → IsAnyReportOf report r → IsPlayFrom G x r
+
+-- `resume` wrote this report, given the one before it
+abbrev pub IsResumedTo : (graph_text before report : List ℕ) → Type 0
+IsResumedTo graph_text before report =
+    (limit : ℕ) × (ended : Ended) × ResumeAnswers graph_text before limit (Some []) (Some report) (Ok ended)
+
+-- `resume` wrote these reports, given `first` and then each time the one before; the last of all is `last`
+abbrev pub AreResumed : (graph_text first : List ℕ) → List (List ℕ) → (last : List ℕ) → Type 0
+AreResumed graph_text first [] last = first ≡ last
+AreResumed graph_text first (report ∷ reports) last =
+    IsResumedTo graph_text first report × AreResumed graph_text report reports last
+
+-- what `plain` writes tells a play from the start of its game
+abbrev pub PlainTellsPlay : Type 0
+PlainTellsPlay =
+    (graph_text chips_text : List ℕ) (limit : ℕ) (report : List ℕ) (ended : Ended)
+    → PlainAnswers graph_text chips_text limit (Some []) (Some report) (Ok ended)
+    → (g : ChipGame) → MeansGame graph_text chips_text limit g → TellsPlayFrom g.graph (slice_index g.start) report
+
+-- and so does the report of a simulation that closed, whatever halted its vertices
+abbrev pub SimulateTellsPlay : Type 0
+SimulateTellsPlay =
+    (g : Setting) (log : Log) (end report : List ℕ) (status : ℕ) → EndsClosed g log end status
+    → end ≡ codes "root closed\n" ++ report → TellsPlayFrom g.graph (slice_index g.start) report
+
+-- however often a play was resumed since a report that tells it from x, and once more: the last report leads to the end
+-- of the play that was never stopped
+abbrev pub ResumedPlaysAddUp : Type 0
+ResumedPlaysAddUp =
+    (graph_text : List ℕ) (G : Multigraph) → Reads graph_text (MeansGraph graph_text G)
+    → (x : ℕ → ℕ) (first : List ℕ) → TellsPlayFrom G x first
+    → (reports : List (List ℕ)) (before last : List ℕ) → AreResumed graph_text first reports before
+    → IsResumedTo graph_text before last → (r : Resumed) → IsAnyReportOf last r → LeadsToTheEnd G x r

@@ -1,0 +1,49 @@
+-- Worked rows, as the definitions compute them.
+use Rattle.std.specs.Prelude.{◌≡◌, ℕ, List, [], ◌∷◌, ◌++◌, codes, slice_index}
+use Rattle.chip_fire.specs.Firing.{legal_vertices}
+use Rattle.chip_fire.specs.Sequence.{position_after, counts}
+use Rattle.chip_fire.specs.Triangle.{triangle, chips_on, on_each}
+use Rattle.chip_fire.specs.Resume.{fired_in_all}
+use Rattle.chip_fire.specs.declared.sitting.Resumed.{Resumed}
+use Rattle.chip_fire.specs.declared.sitting.ResumeFault.TheVariants.{Mismatch, Total, Limit, Prior}
+use Rattle.chip_report.specs.ReportTwo.{report_two_text}
+use Rattle.chip_engine.specs.Faults.{fault_of_resume}
+use Rattle.chip_engine.specs.FaultNumbers.{number_of, location_of}
+use Rattle.chip_engine.specs.PlainCommand.{plain_status}
+use Rattle.chip_engine.specs.declared.fault.Fault.TheVariants.{NotReport}
+use Rattle.chip_engine.specs.declared.fault.Location.TheVariants.{Nowhere, At}
+
+-- the triangle with five chips on vertex 0, which was stopped behind the counts 2, 1 and 0
+pub record WentOn (r : Resumed) : Type 0 where
+  pub prior : r.prior.items ≡ 2 ∷ 1 ∷ 0 ∷ []
+  pub fired : r.outcome.fired.items ≡ 1 ∷ 0 ∷ 0 ∷ []
+  pub chips : r.outcome.chips.items ≡ 0 ∷ 1 ∷ 4 ∷ []
+  pub over : r.outcome.over.items ≡ []
+  pub sealed : r.outcome.sealed.items ≡ []
+
+-- the vertices that fire in turn where it is never stopped
+abbrev pub never_stopped : List ℕ
+never_stopped = 0 ∷ 0 ∷ 1 ∷ 0 ∷ []
+
+-- its totals are those of the play that is never stopped, and so are its chips; its status, and its report
+pub record IsToldAsWentOn (r : Resumed) : Type 0 where
+  pub counted : on_each (fired_in_all r) ≡ on_each (counts never_stopped)
+  pub position : on_each (slice_index r.outcome.chips.items)
+      ≡ on_each (position_after triangle (chips_on 5 0 0) never_stopped)
+  pub ended : legal_vertices triangle (position_after triangle (chips_on 5 0 0) never_stopped) ≡ []
+  pub status : plain_status r.outcome ≡ 0
+  pub reported : report_two_text r
+      ≡ codes "{\"chips\":[0,1,4],\"closed\":true,\"fired\":[1,0,0],\"over\":[],\"prior\":[2,1,0],\"sealed\":[],"
+      ++ codes "\"version\":2}\n"
+
+-- the triangle, gone on with
+abbrev pub TriangleGoesOn : Type 0
+TriangleGoesOn = (r : Resumed) → WentOn r → IsToldAsWentOn r
+
+-- the refusals of going on, by their numbers and where they are
+abbrev pub RefusalsAreNumbered : Type 0
+RefusalsAreNumbered =
+    (number_of NotReport ≡ 50)
+    × (number_of (fault_of_resume (Prior 3)) ≡ 51) × (location_of (fault_of_resume (Prior 3)) ≡ At 3)
+    × (number_of (fault_of_resume Mismatch) ≡ 52) × (location_of (fault_of_resume Mismatch) ≡ Nowhere)
+    × (number_of (fault_of_resume Total) ≡ 10) × (number_of (fault_of_resume Limit) ≡ 11)

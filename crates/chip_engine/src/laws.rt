@@ -1,0 +1,18 @@
+//! Laws of the commands: functions that do nothing, whose contracts are the laws.
+
+ghost use Rattle.chip_engine.specs.Worked.{TriangleGoesOn, RefusalsAreNumbered};
+ghost use Rattle.chip_engine.specs.Sittings.{PlainTellsPlay, SimulateTellsPlay, ResumedPlaysAddUp};
+
+/// A sitting that went on, and the refusals of going on, as the definitions compute them.
+pub fn worked_sitting()
+    ensures triangle { TriangleGoesOn }
+    ensures refusals { RefusalsAreNumbered }
+{}
+
+/// The reports of a play in several sittings add up, however many there are and whatever stopped each: `plain` or
+/// `simulate` writes the first, and `resume` each other one, given the one before it.
+pub fn sittings()
+    ensures plain { PlainTellsPlay }
+    ensures simulate { SimulateTellsPlay }
+    ensures resume { ResumedPlaysAddUp }
+{}

@@ -1,0 +1,66 @@
+//! `resume`: a play goes on from where its report says that it stopped.
+
+ghost use Rattle.std.specs.Prelude.{◌≡◌, ◌⊎◌, IfOk, IfErr};
+ghost use Rattle.std.specs.Option.{ForSome};
+ghost use Rattle.chip_graph.specs.Multigraph.{IsGraph};
+ghost use Rattle.chip_fire.specs.Resume.{IsResumed};
+ghost use Rattle.chip_engine.specs.ResumeCommand.{GivesSitting, RefusesToGoOn, ReportsOn, ResumeAnswers};
+ghost use Rattle.chip_engine.specs.declared.fault.Fault.TheVariants.{NoMemory};
+
+use crate::ended::Ended;
+use crate::fault::Fault;
+use crate::plain::status_of;
+use chip_file::{read_graph, read_whole};
+use chip_fire::{Resumed, resume};
+use chip_graph::Graph;
+use chip_report::{read_any, report_two, write_all_of};
+use std::alloc::Global;
+use std::io::{Read, Write};
+
+/// Goes on with the play that a report tells, on the graph of a graph file and with a firing limit of this sitting's
+/// own, and writes the report of the sitting with what was fired before it.
+///
+/// The report is made whole before the first byte is written.
+pub fn resume_engine<G: Read, R: Read, W: Write>(
+    alloc: Global,
+    graph: &mut G,
+    report: &mut R,
+    limit: u64,
+    output: &mut W,
+) -> Result<Ended, Fault>
+    ensures { ForSome (G.remaining graph.old)
+        (λ graph_text. ForSome (R.remaining report.old)
+        (λ report_text. ResumeAnswers graph_text report_text limit
+        (W.contents output.old) (W.contents output.new) result)) }
+{
+    let graph = read_graph(alloc, graph)?;
+    let earlier = read_sitting(alloc, report)?;
+    let (text, status) = gone_on(alloc, graph, &earlier, limit)?;
+    write_all_of(output, &text)?;
+    Ok(Ended { status, cut: false })
+}
+
+/// The sitting that a report tells, of either version.
+fn read_sitting<R: Read>(alloc: Global, report: &mut R) -> Result<Resumed, Fault>
+    ensures sitting { ForSome (R.remaining report.old) (λ text. GivesSitting text result) }
+    ensures in_range { IfOk result IsResumed }
+{
+    let text = read_whole(alloc, report)?;
+    Ok(read_any(alloc, &text)?)
+}
+
+/// The report of the sitting that goes on from an earlier one, and the exit status.
+fn gone_on(
+    alloc: Global,
+    graph: Graph,
+    earlier: &Resumed,
+    limit: u64,
+) -> Result<(Vec<u8>, u8), Fault>
+    requires { IsResumed earlier.now }
+    ensures ok { IfOk result (λ made. IsGraph graph → ReportsOn graph earlier.now limit made.0.items made.1) }
+    ensures err { IfErr result (λ fault. RefusesToGoOn graph earlier.now limit fault ⊎ (fault ≡ NoMemory)) }
+{
+    let resumed = resume(alloc, graph, earlier, limit)?;
+    let text = report_two(alloc, &resumed)?;
+    Ok((text, status_of(&resumed.outcome)))
+}

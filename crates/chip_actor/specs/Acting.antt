@@ -1,6 +1,7 @@
 -- The operation that an event needs, the event that an operation makes, and which words an operation may have seen.
-use Rattle.std.specs.Prelude.{◌≡◌, ◌≢◌, ℕ, ◌+◌, ◌-◌, ◌%◌, ◌^◌, ◌<◌, ◌≤◌, length, sum, Option, Some, None, Result, Ok}
+use Rattle.std.specs.Prelude.{◌≡◌, ◌≢◌, ℕ, ◌+◌, ◌-◌, ◌%◌, ◌<◌, ◌≤◌, length, sum, Option, Some, None, Result, Ok}
 use Rattle.std.specs.Prelude.{Err, option_to_list}
+use Rattle.chip_graph.specs.Limits.{max_total}
 use Rattle.chip_actor.specs.declared.act.Act.{Act}
 use Rattle.chip_actor.specs.declared.act.Act.TheVariants as Do
 pub use Rattle.chip_actor.specs.declared.act.Observed.{Observed}
@@ -48,7 +49,7 @@ verdict (Some rule) act = Err rule
 -- what an operation may have seen: a message keeps the chips and the number of messages within the limits, the edge
 -- word is as the tail left it but for a seal, and acknowledgements never outnumber messages
 abbrev pub FitsSeen : Part → Event → ℕ → Type 0
-FitsSeen s (Take e) seen = seen ≢ 0 → (s.chips + seen ≤ 2 ^ 40) × (length (s.into e).got < message_limit)
+FitsSeen s (Take e) seen = seen ≢ 0 → (s.chips + seen ≤ max_total) × (length (s.into e).got < message_limit)
 FitsSeen s (Claim e) seen = claims_in seen ≡ claims_of (s.out e).link
 FitsSeen s (Settle e) seen = ((s.out e).settled ≤ seen) × (seen ≤ claims_of (s.out e).link)
 FitsSeen s _ seen = Unit {0}

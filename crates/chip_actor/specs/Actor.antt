@@ -1,6 +1,7 @@
 -- A running actor, and when it stands for a part of the core.
-use Rattle.std.specs.Prelude.{◌≡◌, ℕ, ◌^◌, ◌<◌, ◌≤◌, Bool, not, ◌&&◌, ◌||◌, nat_le, is_some, ◌==◌, [], ◌∷◌, ◌++◌}
+use Rattle.std.specs.Prelude.{◌≡◌, ℕ, ◌<◌, ◌≤◌, Bool, not, ◌&&◌, ◌||◌, nat_le, is_some, ◌==◌, [], ◌∷◌, ◌++◌}
 use Rattle.std.specs.Prelude.{length, Option}
+use Rattle.chip_graph.specs.Limits.{max_total}
 use Rattle.chip_graph.specs.Multigraph.{edges_out, edges_in, degree}
 use Rattle.chip_actor.specs.Setting.{Setting, IsSetting}
 use Rattle.chip_link.specs.Link.{claims_of, tail_state, head_state}
@@ -56,8 +57,8 @@ pub record KeepsBooks (g : Setting) (s : Part) (v : ℕ) (b : Books) : Type 0 wh
 pub record StandsFor (g : Setting) (s : Part) (a : Actor) : Type 0 where
   pub knows : KnowsGame g a
   pub kept : KeepsPart g a.vertex s
-  pub few_chips : s.chips ≤ 2 ^ 40
-  pub few_pending : a.pending ≤ 2 ^ 40
+  pub few_chips : s.chips ≤ max_total
+  pub few_pending : a.pending ≤ max_total
   pub chips : a.chips ≡ s.chips
   pub fired : a.fired ≡ s.fired
   pub halt : a.halt ≡ s.halt

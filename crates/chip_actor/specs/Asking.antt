@@ -1,7 +1,8 @@
 -- Lists of events and of operations of one vertex, each with a word that it may see: what the tests give to an actor.
 -- The tests of a list compute.
-use Rattle.std.specs.Prelude.{◌≡◌, ℕ, ◌+◌, ◌-◌, ◌^◌, Bool, true, ◌&&◌, ◌||◌, ◌==◌, nat_lt, nat_le, List, [], ◌∷◌}
+use Rattle.std.specs.Prelude.{◌≡◌, ℕ, ◌+◌, ◌-◌, Bool, true, ◌&&◌, ◌||◌, ◌==◌, nat_lt, nat_le, List, [], ◌∷◌}
 use Rattle.std.specs.Prelude.{length, map, is_some}
+use Rattle.chip_graph.specs.Limits.{max_total, max_limit}
 use Rattle.chip_graph.specs.declared.edge.Edge.{Edge}
 use Rattle.chip_graph.specs.ChipGame.{ChipGame}
 use Rattle.chip_actor.specs.Setting.{Setting}
@@ -19,7 +20,7 @@ use Rattle.chip_actor.specs.Actor.{Actor, WhateverPart, StandsFor}
 -- an operation of this event may see this
 abbrev pub fits_seen : Part → Event → ℕ → Bool
 fits_seen s (Take e) seen = seen == 0
-    || (nat_le (s.chips + seen) (2 ^ 40) && nat_lt (length (s.into e).got) message_limit)
+    || (nat_le (s.chips + seen) max_total && nat_lt (length (s.into e).got) message_limit)
 fits_seen s (Claim e) seen = claims_in seen == claims_of (s.out e).link
 fits_seen s (Settle e) seen = nat_le (s.out e).settled seen && nat_le seen (claims_of (s.out e).link)
 fits_seen s _ seen = true
@@ -57,5 +58,5 @@ game_on vertices ends start =
     record {
       graph = record { vertices = vertices; sink = vertices - 1; edges = map edge_of ends };
       start = start;
-      limit = 2 ^ 40;
+      limit = max_limit;
     }

@@ -1,5 +1,6 @@
 -- Worked runs of one part, as the definitions compute them. A ring has one cell.
 use Rattle.std.specs.Prelude.{◌≡◌, ℕ, ◌^◌, true, List, [], ◌∷◌, Some, None}
+use Rattle.chip_graph.specs.Limits.{max_limit}
 use Rattle.chip_graph.specs.declared.edge.Edge.{Edge}
 use Rattle.chip_actor.specs.Setting.{Setting}
 use Rattle.chip_actor.specs.declared.rule.Rule.TheVariants.{Halted, Engaged, NothingPending}
@@ -25,7 +26,7 @@ small_triangle start = record {
         ∷ edge 1 2 ∷ [];
   };
   start = start;
-  limit = 2 ^ 40;
+  limit = max_limit;
   ring = 1;
 }
 
@@ -34,7 +35,7 @@ abbrev pub chain : Setting
 chain = record {
   graph = record { vertices = 3; sink = 2; edges = edge 0 1 ∷ edge 1 2 ∷ [] };
   start = 3 ∷ 0 ∷ 0 ∷ [];
-  limit = 2 ^ 40;
+  limit = max_limit;
   ring = 1;
 }
 
@@ -43,7 +44,7 @@ abbrev pub two_edges : Setting
 two_edges = record {
   graph = record { vertices = 2; sink = 1; edges = edge 0 1 ∷ edge 0 1 ∷ [] };
   start = 2 ∷ 0 ∷ [];
-  limit = 2 ^ 40;
+  limit = max_limit;
   ring = 1;
 }
 

@@ -1,5 +1,6 @@
 ghost use Rattle.std.specs.Prelude.{◌≡◌, ℕ, ◌*◌, ◌^◌, ◌<◌, ◌≤◌, length, map, IfOk, Contains, IsTrue, Option};
 ghost use Rattle.std.specs.Prelude.{slice_index, slice_index_or, not, is_some, ◌==◌};
+ghost use Rattle.chip_graph.specs.Limits.{max_total};
 
 use crate::search::index_of;
 use chip_graph::Graph;
@@ -116,7 +117,7 @@ impl Outs {
         requires edge { slice_index self.old.edges index ≡ edge }
         requires clear { IsTrue (out_on self.old edge).link.clear }
         requires word { claims_in word ≡ (out_on self.old edge).link.claims }
-        requires count { (1 ≤ (out_on self.old edge).pending) × ((out_on self.old edge).pending ≤ 2 ^ 40) }
+        requires count { (1 ≤ (out_on self.old edge).pending) × ((out_on self.old edge).pending ≤ max_total) }
         ensures message { result ≡ message_claimed word (out_on self.old edge).pending (out_on self.old edge).link }
         ensures after { ChangesOut self.old self.new edge (out_after_claim word) }
     {

@@ -19,13 +19,14 @@ pub struct RootState {
 impl Model for RootState {
     ghost use Rattle.std.specs.Prelude.{◌≤◌};
     ghost use Rattle.std.specs.Vec.{vec_len};
+    ghost use Rattle.chip_graph.specs.Limits.{max_edges, max_vertices};
     ghost use Rattle.chip_actor.specs.Root.{Root};
 
     ghost Value = { Root };
 
     ghost view = { λ a. record { graph_edges = a.graph_edges; settled = a.settled.items; outstanding = a.outstanding } };
 
-    ghost invariant = { λ a. (a.graph_edges ≤ 65536) × (vec_len a.settled ≤ 4096) };
+    ghost invariant = { λ a. (a.graph_edges ≤ max_edges) × (vec_len a.settled ≤ max_vertices) };
 }
 
 impl RootState {

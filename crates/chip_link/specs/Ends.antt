@@ -55,9 +55,13 @@ put_of t = option_map (λ count. ((t.claims - 1) % t.ring, count)) t.held
 abbrev pub tail_after_put : TailState → TailState
 tail_after_put t = record t { held = None }
 
+-- the most chips that one message carries
+abbrev pub max_count : ℕ
+max_count = 2 ^ 40
+
 -- a count of chips that one message may carry
 abbrev pub is_count : ℕ → Bool
-is_count count = nat_lt 0 count && nat_le count (2 ^ 40)
+is_count count = nat_lt 0 count && nat_le count max_count
 
 -- the head of an edge with a ring of so many cells, and how many messages it took
 pub record HeadState : Type 0 where

@@ -1,7 +1,7 @@
 ghost use Rattle.std.specs.Prelude.{◌≡◌, ℕ, ◌^◌, ◌<◌, ◌≤◌, ◌&&◌, ◌==◌, ◌↔◌, IsTrue, IsNone, IfSome};
 ghost use Rattle.chip_link.specs.Words.{claims_in, sealed_in};
 ghost use Rattle.chip_link.specs.Ends.{TailState, new_tail, tail_cell, may_clear, tail_after_clear, claim_words};
-ghost use Rattle.chip_link.specs.Ends.{tail_after_claim, message_claimed, put_of, tail_after_put};
+ghost use Rattle.chip_link.specs.Ends.{tail_after_claim, message_claimed, put_of, tail_after_put, max_count};
 
 use crate::message::Message;
 use crate::ring::Ring;
@@ -106,7 +106,7 @@ impl TailLink {
     pub fn claimed(&mut self, old_word: u64, count: u64) -> Option<Message>
         requires clear { IsTrue self.old.clear }
         requires word { claims_in old_word ≡ self.old.claims }
-        requires count { (1 ≤ count) × (count ≤ 2 ^ 40) }
+        requires count { (1 ≤ count) × (count ≤ max_count) }
         ensures message { result ≡ message_claimed old_word count self.old }
         ensures after { self.new ≡ tail_after_claim old_word count self.old }
         ensures refused { IsNone result ↔ IsTrue (sealed_in old_word) }

@@ -1,6 +1,7 @@
 //! What the calls answer, step by step, on small runs and on rings that wrap.
 
 ghost use Rattle.std.specs.Prelude.{◌+◌, ◌^◌, ◌<◌, ◌≤◌};
+ghost use Rattle.chip_link.specs.Ends.{max_count};
 
 use crate::head::HeadLink;
 use crate::message::Message;
@@ -17,7 +18,7 @@ fn send(
     cells: &mut [u64],
     count: u64,
 ) -> Option<(u64, u64)>
-    requires { (1 ≤ count) × (count ≤ 2 ^ 40) }
+    requires { (1 ≤ count) × (count ≤ max_count) }
 {
     let looked = tail.cell() as usize;
     assert!(rt; looked < cells.len());

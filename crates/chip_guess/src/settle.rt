@@ -1,3 +1,4 @@
+use crate::target::Progress;
 use chip_graph::Graph;
 use std::alloc::{AllocError, Global};
 
@@ -25,6 +26,8 @@ pub(crate) struct Settling<'a> {
     pub(crate) held: Vec<Held>,
     /// The vertices that may fire again, the last one next.
     waiting: Vec<u64>,
+    /// How often the counts were lowered.
+    rounds: u64,
 }
 
 impl<'a> Settling<'a> {
@@ -48,6 +51,7 @@ impl<'a> Settling<'a> {
             graph,
             held,
             waiting: Vec::new(alloc),
+            rounds: 0,
         };
         for (vertex, count) in counts.iter().enumerate() {
             settling.fire(vertex as u64, *count);
@@ -73,15 +77,23 @@ impl<'a> Settling<'a> {
         }
     }
 
-    /// Lowers the counts until each vertex that fires gives one firing back and all of them come back,
-    /// one after the other: whether that was reached.
-    pub(crate) fn by_giving_back(&mut self) -> Result<bool, AllocError> {
-        for _ in 0..ROUNDS {
-            if self.give_back()? == 0 {
-                return Ok(true);
-            }
-        }
-        Ok(false)
+    /// Lowers the counts once, where they do not pass the test: on one-way graphs, that each vertex that
+    /// fires lacks one chip at most to fire once more; on others, that all of them give one firing back
+    /// and come back, one after the other.
+    pub(crate) fn lower(&mut self, one_way: bool) -> Result<Progress, AllocError> {
+        let passed = if one_way {
+            !self.earn_all()
+        } else {
+            self.give_back()? == 0
+        };
+        self.rounds = self.rounds.saturating_add(1);
+        Ok(if passed {
+            Progress::Near
+        } else if self.rounds >= ROUNDS {
+            Progress::Far
+        } else {
+            Progress::Going
+        })
     }
 
     /// Takes one firing back from each vertex that fires, and lets those fire again that can, once: how
@@ -153,19 +165,14 @@ impl<'a> Settling<'a> {
         Ok(())
     }
 
-    /// Lowers the counts until each vertex that fires lacks one chip at most to fire once more: whether
-    /// that was reached.
-    pub(crate) fn by_earning(&mut self) -> bool {
-        for _ in 0..ROUNDS {
-            let mut any = false;
-            for vertex in 0..self.graph.vertices() {
-                any |= self.earn(vertex);
-            }
-            if !any {
-                return true;
-            }
+    /// Takes firings back from each vertex that fires and lacks more than a chip to fire once more; whether
+    /// there was any.
+    fn earn_all(&mut self) -> bool {
+        let mut any = false;
+        for vertex in 0..self.graph.vertices() {
+            any |= self.earn(vertex);
         }
-        false
+        any
     }
 
     /// Takes firings back from a vertex that fires and lacks more; whether it did.

@@ -25,8 +25,8 @@ returns-then-ends_soon c =
     (with_items_is c.in_ok-fired.fired c.ends_soon.new.fired (let a = begun.in_range.fired_each in
     let b = in_range.fired_each in omega arith))
 
-pub jump-requires : goal.jump-requires
-jump-requires c =
+pub by_turns-requires : goal.by_turns-requires
+by_turns-requires c =
     let graph = c.graph-graph.ensures.value in
     let limit = c.limit.ensures.value in
     let begun : IsBegun c.args.game.now c.in_ok-chips.chips.items c.in_ok-fired.fired.items =

@@ -9,7 +9,7 @@ loop-vertex-preserved c =
     let least = c.min.ensures in
     let low : c.min.result ≤ slice_index c.args.most.now c.loop-vertex.vertex = omega arith in
     let low' : c.min.result ≤ slice_index c.args.most.now (length c.loop-vertex.counts.items) =
-        subst (λ (n : ℕ). c.min.result ≤ slice_index c.args.most.now n) (sym so_far.counts_each) low in
+    subst (λ (n : ℕ). c.min.result ≤ slice_index c.args.most.now n) (sym so_far.counts_each) low in
     record {
       counts_each = ap length pushed ∙ length_more c.loop-vertex.counts.items c.min.result
           ∙ ap (λ (n : ℕ). n + 1) so_far.counts_each;

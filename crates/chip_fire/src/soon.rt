@@ -11,7 +11,7 @@ const FIRST_LOOKS: u64 = 16;
 const DOUBLINGS: u64 = 40;
 
 /// How many looks at each vertex and each edge out are few: to search counts takes about as many.
-const FEW_LOOKS: u64 = 160;
+const FEW_LOOKS: u64 = 480;
 
 /// Plays for as long as this takes it soon to an end: each time with twice the work, while that halves
 /// the chips that wait to move or the limit leaves little to do. Whether the play has ended.

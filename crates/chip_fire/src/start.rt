@@ -9,7 +9,7 @@ use std::alloc::{AllocError, Global};
 
 /// How far the search of counts may be ahead of the play, in looks at each vertex and each edge out:
 /// about what the reading of the graph took.
-const AHEAD: u64 = 128;
+const AHEAD: u64 = 160;
 
 /// How long the search and the play go on in each of their turns, in such looks.
 const TURN: u64 = 16;

@@ -152,13 +152,13 @@ impl<'a> Search<'a> {
     /// dearer; counts are lowered in two passes.
     fn work_of_step(&self) -> u64 {
         if self.stage == Stage::Lowering {
-            return self.levels.first().map_or(0, Level::size).saturating_mul(3);
+            return self.levels.first().map_or(0, Level::size).saturating_mul(2);
         }
         let mut size = 1u64;
         for level in &self.levels {
             size = size.saturating_add(level.size());
         }
-        size.saturating_mul(8)
+        size.saturating_mul(6)
     }
 
     /// Begins to come near to the density that is tried, or gives up where all were tried.

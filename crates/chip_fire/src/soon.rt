@@ -10,7 +10,8 @@ const FIRST_LOOKS: u64 = 16;
 /// How often the work doubles at most.
 const DOUBLINGS: u64 = 40;
 
-/// How many looks at each vertex and each edge out are few: to search counts takes about as many.
+/// How many looks at each vertex and each edge out are so few that no counts are searched, which takes
+/// about as many.
 const FEW_LOOKS: u64 = 480;
 
 /// Plays for as long as this takes it soon to an end: each time with twice the work, while that halves
@@ -26,7 +27,7 @@ pub(crate) fn ends_soon(graph: &Graph, limit: u64, chips: &mut [u64], fired: &mu
     let mut waited = u64::MAX;
     'doublings: for _ in 0..DOUBLINGS {
         let waits = waiting(graph, limit, chips, fired);
-        if waits > waited / 2 && work_to_limit(limit, fired, done) > few {
+        if waits > waited / 2 && !leaves_little(limit, fired, done, few) {
             return false;
         }
         waited = waits;
@@ -44,15 +45,16 @@ pub(crate) fn looks_at_all(graph: &Graph) -> u64 {
     graph.vertices().saturating_add(graph.edges().len() as u64)
 }
 
-/// How much work a play would be in which each vertex fires as often as the limit allows, up to 2^64 - 1,
-/// where so much of it was `done` for the firings so far.
-fn work_to_limit(limit: u64, fired: &[u64], done: u64) -> u64 {
+/// Whether a play in which each vertex fires as often as the limit allows takes no more work than `few`,
+/// where so much was `done` for the firings so far.
+fn leaves_little(limit: u64, fired: &[u64], done: u64, few: u64) -> bool {
     let mut firings = 0u64;
     for times in fired {
         firings = firings.saturating_add(*times);
     }
     let mean = firings / (fired.len() as u64).max(1);
-    done.saturating_mul(limit) / mean.max(1)
+    let product = |a: u64, b: u64| u128::from(a).wrapping_mul(u128::from(b));
+    product(done, limit) <= product(few, mean)
 }
 
 /// The chips that legal vertices have above what they may keep, up to 2^64 - 1.

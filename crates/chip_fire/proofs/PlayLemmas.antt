@@ -1,5 +1,5 @@
 -- The plain player: turns, rounds, and what they come to.
-use Rattle.std.proofs.Common.{◌≡◌, ◌≢◌, ℕ, zero, suc, ◌+◌, ◌-◌, ◌*◌, ◌/◌, ◌^◌, ◌<◌, ◌≤◌, Bool, true, false, not, ◌&&◌}
+use Rattle.std.proofs.Common.{◌≡◌, ◌≢◌, ℕ, zero, suc, ◌+◌, ◌-◌, ◌*◌, ◌/◌, ◌<◌, ◌≤◌, Bool, true, false, not, ◌&&◌}
 use Rattle.std.proofs.Common.{eqb, leb, All, Contains, List, [], length, sum, get_or, set, slice_index, replicate, ◌⊎◌}
 use Rattle.std.proofs.Common.{inl, inr, ⊎_elim, refl, sym, ap, ◌∙◌, subst, arith, length-set, get_or-set_same}
 use Rattle.std.proofs.Common.{get_or-set_other, mul-add, mul_comm, mul-le-mul_left}
@@ -26,7 +26,7 @@ use Rattle.chip_fire.specs.Play.{IsPlayed}
 use Rattle.chip_fire.specs.Rounds.{IsInRange, IsBegun, StaysOnTheWay, firings_left, IsSwept}
 use Rattle.chip_fire.proofs.FiringLemmas.{counts-replicate, batch}
 use Rattle.chip_fire.proofs.EndLemmas.{continued}
-use Rattle.chip_fire.proofs.CertificateLemmas.{certified_counts, led, on_the_way, none_forced, start_on_the_way}
+use Rattle.chip_fire.proofs.CertificateLemmas.{certified_counts, led, on_the_way, start_on_the_way}
 use Rattle.chip_fire.proofs.CertificateLemmas.{same_way, playing_on, end_of_the_way, led_after}
 use Rattle.chip_fire.proofs.LegalLemmas.{picked_ascends}
 use Rattle.chip_fire.proofs.BurningLemmas.{burnt_counts}

@@ -117,8 +117,8 @@ impl<'a> Search<'a> {
         Ok(search)
     }
 
-    /// Goes on for about as much work as a play has with so many vertices and edges that it looks at;
-    /// whether the search is over.
+    /// Goes on for about as long as a play takes to look at so many vertices and edges; whether the search
+    /// is over.
     pub fn go_on(&mut self, alloc: Global, work: u64) -> Result<bool, AllocError> {
         let mut done = 0u64;
         for _ in 0..MOST_STEPS {

@@ -5,6 +5,9 @@ use std::alloc::{AllocError, Global};
 /// How often counts are lowered at most.
 const ROUNDS: u64 = 400;
 
+/// As how many times it counts where no vertex comes back, which leaves nearly everything as it was.
+const BARREN: u64 = 25;
+
 /// What is known of a vertex while counts are lowered.
 #[derive(Clone, Copy, Debug)]
 pub(crate) struct Held {
@@ -81,12 +84,13 @@ impl<'a> Settling<'a> {
     /// fires lacks one chip at most to fire once more; on others, that all of them give one firing back
     /// and come back, one after the other.
     pub(crate) fn lower(&mut self, one_way: bool) -> Result<Progress, AllocError> {
-        let passed = if one_way {
-            !self.earn_all()
+        let (passed, barren) = if one_way {
+            (!self.earn_all(), false)
         } else {
-            self.give_back()? == 0
+            let (lent, missing) = self.give_back()?;
+            (missing == 0, missing == lent)
         };
-        self.rounds = self.rounds.saturating_add(1);
+        self.rounds = self.rounds.saturating_add(if barren { BARREN } else { 1 });
         Ok(if passed {
             Progress::Near
         } else if self.rounds >= ROUNDS {
@@ -97,15 +101,16 @@ impl<'a> Settling<'a> {
     }
 
     /// Takes one firing back from each vertex that fires, and lets those fire again that can, once: how
-    /// many do not.
-    fn give_back(&mut self) -> Result<u64, AllocError> {
+    /// many gave one back, and how many of them do not fire again.
+    fn give_back(&mut self) -> Result<(u64, u64), AllocError> {
         let vertices = self.graph.vertices();
-        let mut missing = 0u64;
+        let mut lent = 0u64;
         for vertex in 0..vertices {
             if self.lend(vertex) {
-                missing = missing.saturating_add(1);
+                lent = lent.saturating_add(1);
             }
         }
+        let mut missing = lent;
         for vertex in 0..vertices {
             self.look(vertex)?;
         }
@@ -116,7 +121,7 @@ impl<'a> Settling<'a> {
             missing = missing.saturating_sub(1);
             self.come_back(vertex, rank)?;
         }
-        Ok(missing)
+        Ok((lent, missing))
     }
 
     /// Takes a firing back, where the vertex fires; whether it does.

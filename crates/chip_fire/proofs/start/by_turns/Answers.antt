@@ -1,6 +1,6 @@
-use Rattle.std.proofs.Common.{ℕ, arith}
+use Rattle.std.proofs.Common.{arith}
 use Rattle.std.proofs.lemmas.List.{with_items_is}
-use Rattle.chip_fire.specs.Rounds.{IsInRange, StaysOnTheWay}
+use Rattle.chip_fire.specs.Rounds.{StaysOnTheWay}
 use Rattle.chip_fire.proofs.PlayLemmas.{begun_on}
 use Rattle.chip_fire.proofs.start.by_turns.Goals as goal
 

@@ -1,5 +1,4 @@
-use Rattle.std.proofs.Common.{ℕ}
-use Rattle.chip_fire.specs.Rounds.{IsInRange, StaysOnTheWay}
+use Rattle.chip_fire.specs.Rounds.{StaysOnTheWay}
 use Rattle.chip_fire.proofs.start.searched.Goals as goal
 
 pub returns-then-ends_by-clause-stays : goal.returns-then-ends_by-clause-stays

@@ -5,8 +5,8 @@ use std::alloc::{AllocError, Global};
 /// How often counts are lowered at most.
 const ROUNDS: u64 = 400;
 
-/// As how many times it counts where no vertex comes back, which leaves nearly everything as it was.
-const BARREN: u64 = 25;
+/// How often in a row no vertex may come back: that leaves nearly everything as it was.
+const BARREN: u64 = 16;
 
 /// What is known of a vertex while counts are lowered.
 #[derive(Clone, Copy, Debug)]
@@ -31,6 +31,8 @@ pub(crate) struct Settling<'a> {
     waiting: Vec<u64>,
     /// How often the counts were lowered.
     rounds: u64,
+    /// How often in a row no vertex came back.
+    barren: u64,
 }
 
 impl<'a> Settling<'a> {
@@ -55,6 +57,7 @@ impl<'a> Settling<'a> {
             held,
             waiting: Vec::new(alloc),
             rounds: 0,
+            barren: 0,
         };
         for (vertex, count) in counts.iter().enumerate() {
             settling.fire(vertex as u64, *count);
@@ -84,16 +87,21 @@ impl<'a> Settling<'a> {
     /// fires lacks one chip at most to fire once more; on others, that all of them give one firing back
     /// and come back, one after the other.
     pub(crate) fn lower(&mut self, one_way: bool) -> Result<Progress, AllocError> {
-        let (passed, barren) = if one_way {
+        let (passed, is_barren) = if one_way {
             (!self.earn_all(), false)
         } else {
             let (lent, missing) = self.give_back()?;
             (missing == 0, missing == lent)
         };
-        self.rounds = self.rounds.saturating_add(if barren { BARREN } else { 1 });
+        self.rounds = self.rounds.saturating_add(1);
+        self.barren = if is_barren {
+            self.barren.saturating_add(1)
+        } else {
+            0
+        };
         Ok(if passed {
             Progress::Near
-        } else if self.rounds >= ROUNDS {
+        } else if self.rounds >= ROUNDS || self.barren >= BARREN {
             Progress::Far
         } else {
             Progress::Going

@@ -103,7 +103,7 @@ def uphill(_):
 
 
 def random_graph(draw):
-    """12,288 edges, each vertex but the sink the tail of three or four; 64 edges go to the sink, the others anywhere."""
+    """12,288 edges, three or four from each vertex but the sink; 64 of them go to the sink, the others anywhere."""
     sink, count = VERTICES - 1, 12288
     while True:
         tails = [v for v in range(sink) for _ in range(3)]

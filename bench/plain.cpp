@@ -178,7 +178,8 @@ Graph read_graph(const char* path) {
     json.want('}');
     json.skip_space();
     if (!json.is_at_end() || version != 1) stop("the graph is of another kind");
-    if (graph.vertices < 1 || graph.vertices > greatest_vertices || graph.sink >= graph.vertices) stop("no such vertices");
+    if (graph.vertices < 1 || graph.vertices > greatest_vertices) stop("no such vertices");
+    if (graph.sink >= graph.vertices) stop("no such sink");
     if (graph.edges.size() > greatest_edges) stop("too many edges");
     for (const Edge& edge : graph.edges) {
         if (edge.tail >= graph.vertices || edge.head >= graph.vertices || edge.mult < 1 || edge.mult > greatest_mult ||
@@ -244,8 +245,8 @@ struct Game {
 
 void play_by_list(Game& game) {
     const std::size_t vertices = game.vertices();
-    // Each vertex stands in the list at most once, so a ring with a place for each has room. Whether a vertex may fire is
-    // asked where it leaves the list: asked before it is put there too, the grids take a third longer.
+    // Each vertex stands in the list at most once, so a ring with a place for each has room. Whether a vertex may fire
+    // is asked where it leaves the list: asked before it is put there too, the grids take a third longer.
     std::vector<std::uint32_t> list(vertices);
     std::vector<char> is_listed(vertices, 0);
     std::size_t begin = 0, count = 0;

@@ -3,8 +3,9 @@
 
     bench/traces.py FOLDER [SEED]
 
-Each is a true run of so many rows at most: vertices take messages and fire one at a time in an order that comes from the
-seed, and each writes down what it took and fired. The rows of a file stand by ascending vertices, as chipfire writes them.
+Each is a true run of so many rows at most: vertices take messages and fire one at a time in an order that comes from
+the seed, and each writes down what it took and fired. The rows of a file stand by ascending vertices, as chipfire
+writes them.
 """
 import json
 import os

@@ -1,15 +1,19 @@
 -- Chips are kept, and no vertex fires more often than the bound of its distance.
-use Rattle.std.proofs.Common.{◌≡◌, ◌≢◌, ℕ, zero, suc, ◌+◌, ◌-◌, ◌*◌, ◌<◌, ◌≤◌, cond, eqb, List, [], ◌∷◌, ◌++◌, length, max, refl, sym, ap, ◌∙◌, subst, arith, eq-eqb, mul-le-mul, mul-le-mul_left, suc-mul, mul_comm}
+use Rattle.std.proofs.Common.{◌≡◌, ◌≢◌, ℕ, zero, suc, ◌+◌, ◌-◌, ◌*◌, ◌<◌, ◌≤◌, cond, eqb, List, [], ◌∷◌, ◌++◌, length}
+use Rattle.std.proofs.Common.{max, refl, sym, ap, ◌∙◌, subst, arith, eq-eqb, mul-le-mul, mul-le-mul_left, suc-mul}
+use Rattle.std.proofs.Common.{mul_comm}
 use mathlib.Core.Logic.{dite}
 use native.Mathlib.Decide.{ℕ_discrete, dec_lt}
 use Rattle.chip_graph.specs.Sums.{sum_below}
 use Rattle.chip_graph.specs.Multigraph.{Multigraph, edge_at, sum_out, degree, IsWalk, IsDistance, IsGraph}
-use Rattle.chip_graph.proofs.SumLemmas.{sum_below_ext, sum_below_add, sum_below_term, sum_below_by_place, tested_ext, tested_scale, tested_term}
+use Rattle.chip_graph.proofs.SumLemmas.{sum_below_ext, sum_below_add, sum_below_term, sum_below_by_place, tested_ext}
+use Rattle.chip_graph.proofs.SumLemmas.{tested_scale, tested_term}
 use Rattle.chip_fire.specs.Firing.{IsLegal}
 use Rattle.chip_fire.specs.Sequence.{position_after, IsFiringSequence, counts, HasEnded, IsWholePlay}
 use Rattle.chip_fire.specs.Counted.{inflow}
 use Rattle.chip_fire.specs.Bound.{greatest_below, greatest_degree, firing_bound}
-use Rattle.chip_fire.proofs.FiringLemmas.{counts-append, counts_here, counts_outside, sink_never, position_is, sequence-append}
+use Rattle.chip_fire.proofs.FiringLemmas.{counts-append, counts_here, counts_outside, sink_never, position_is}
+use Rattle.chip_fire.proofs.FiringLemmas.{sequence-append}
 use Rattle.chip_fire.proofs.EndLemmas.{continued, one_end}
 
 -- a number of the list is at most the greatest
@@ -23,7 +27,8 @@ greatest_below_is (suc n) f v l = dite (ℕ_discrete v n)
 pub bound_more : (total most i j : ℕ) → i ≤ j → firing_bound total most i ≤ firing_bound total most j
 bound_more total most zero j l = omega arith
 bound_more total most (suc i) zero l = absurd (omega arith)
-bound_more total most (suc i) (suc j) l = let a = mul-le-mul_left most (bound_more total most i j (omega arith)) in omega arith
+bound_more total most (suc i) (suc j) l = let a = mul-le-mul_left most (bound_more total most i j (omega arith)) in
+    omega arith
 
 module _ (G : Multigraph) (good : IsGraph G) where
   -- ---- no chip is lost
@@ -32,21 +37,35 @@ module _ (G : Multigraph) (good : IsGraph G) where
   pub flows_through : (f : ℕ → ℕ) → sum_below G.vertices (inflow G f) ≡ sum_below G.vertices (λ u. degree G u * f u)
   flows_through f =
       let all : ℕ = sum_below (length G.edges) (λ e. (edge_at G e).mult * f (edge_at G e).tail) in
-      let a : sum_below G.vertices (inflow G f) ≡ all = sum_below_by_place G.vertices (length G.edges) (λ e. (edge_at G e).mult * f (edge_at G e).tail) (λ e. (edge_at G e).head) (λ e l. (good.edges_fit e l).head_is_vertex) in
-      let b : sum_below G.vertices (λ u. sum_out G u (λ e. (edge_at G e).mult * f (edge_at G e).tail)) ≡ all = sum_below_by_place G.vertices (length G.edges) (λ e. (edge_at G e).mult * f (edge_at G e).tail) (λ e. (edge_at G e).tail) (λ e l. (good.edges_fit e l).tail_is_vertex) in
-      let c : sum_below G.vertices (λ u. sum_out G u (λ e. (edge_at G e).mult * f (edge_at G e).tail)) ≡ sum_below G.vertices (λ u. degree G u * f u) = sum_below_ext G.vertices _ _ (λ u l. tested_ext (length G.edges) (λ e. eqb (edge_at G e).tail u) (λ e. (edge_at G e).mult * f (edge_at G e).tail) (λ e. (edge_at G e).mult * f u) (λ e m on. ap (λ (w : ℕ). (edge_at G e).mult * f w) (Rattle.std.proofs.Common.eqb-true (edge_at G e).tail u on)) ∙ tested_scale (length G.edges) (λ e. eqb (edge_at G e).tail u) (f u) (λ e. (edge_at G e).mult)) in
+      let a : sum_below G.vertices (inflow G f) ≡ all = sum_below_by_place G.vertices (length G.edges)
+      (λ e. (edge_at G e).mult * f (edge_at G e).tail) (λ e. (edge_at G e).head)
+      (λ e l. (good.edges_fit e l).head_is_vertex) in
+      let b : sum_below G.vertices (λ u. sum_out G u (λ e. (edge_at G e).mult * f (edge_at G e).tail)) ≡ all =
+      sum_below_by_place G.vertices (length G.edges) (λ e. (edge_at G e).mult * f (edge_at G e).tail)
+      (λ e. (edge_at G e).tail) (λ e l. (good.edges_fit e l).tail_is_vertex) in
+      let c : sum_below G.vertices (λ u. sum_out G u (λ e. (edge_at G e).mult * f (edge_at G e).tail))
+      ≡ sum_below G.vertices (λ u. degree G u * f u) =
+      sum_below_ext G.vertices _ _
+      (λ u l. tested_ext (length G.edges) (λ e. eqb (edge_at G e).tail u)
+      (λ e. (edge_at G e).mult * f (edge_at G e).tail) (λ e. (edge_at G e).mult * f u)
+      (λ e m on. ap
+      (λ (w : ℕ). (edge_at G e).mult * f w) (Rattle.std.proofs.Common.eqb-true (edge_at G e).tail u on))
+      ∙ tested_scale (length G.edges) (λ e. eqb (edge_at G e).tail u) (f u) (λ e. (edge_at G e).mult)) in
       a ∙ sym b ∙ c
 
   -- counts lead to a position with as many chips
-  pub led_total : (x f y : ℕ → ℕ) → ((u : ℕ) → u < G.vertices → y u + degree G u * f u ≡ x u + inflow G f u) → sum_below G.vertices y ≡ sum_below G.vertices x
+  pub led_total : (x f y : ℕ → ℕ) → ((u : ℕ) → u < G.vertices → y u + degree G u * f u ≡ x u + inflow G f u)
+      → sum_below G.vertices y ≡ sum_below G.vertices x
   led_total x f y to =
       let a = sum_below_add G.vertices y (λ u. degree G u * f u) in
       let b = sum_below_add G.vertices x (inflow G f) in
-      let c : sum_below G.vertices (λ u. y u + degree G u * f u) ≡ sum_below G.vertices (λ u. x u + inflow G f u) = sum_below_ext G.vertices _ _ to in
+      let c : sum_below G.vertices (λ u. y u + degree G u * f u) ≡ sum_below G.vertices (λ u. x u + inflow G f u) =
+      sum_below_ext G.vertices _ _ to in
       let d = flows_through f in
       omega arith
 
-  pub chips_are_kept : (x : ℕ → ℕ) (vs : List ℕ) → IsFiringSequence G x vs → sum_below G.vertices (position_after G x vs) ≡ sum_below G.vertices x
+  pub chips_are_kept : (x : ℕ → ℕ) (vs : List ℕ) → IsFiringSequence G x vs
+      → sum_below G.vertices (position_after G x vs) ≡ sum_below G.vertices x
   chips_are_kept x vs ok = led_total x (counts vs) (position_after G x vs) (λ u l. position_is G vs x ok u)
 
   -- ---- the bound
@@ -55,14 +74,19 @@ module _ (G : Multigraph) (good : IsGraph G) where
   one_of zero d l = absurd (omega arith)
   one_of (suc k) d l = omega (arith, suc-mul k d)
 
-  -- a vertex with a walk to the sink fires at most as often as the bound of its length says: each of its firings sends a chip to the walk's next vertex, which holds at most all chips and sends on what it gets
-  pub bound_of_walk : (x : ℕ → ℕ) (vs : List ℕ) → IsFiringSequence G x vs → (es : List ℕ) (v : ℕ) → IsWalk G v es G.sink → counts vs v ≤ firing_bound (sum_below G.vertices x) (greatest_degree G) (length es)
-  bound_of_walk x vs ok [] v is = subst (λ (w : ℕ). counts vs w ≤ 0) (sym is) (let a = sink_never G vs x ok in omega arith)
+  -- a vertex with a walk to the sink fires at most as often as the bound of its length says: each of its firings sends
+  -- a chip to the walk's next vertex, which holds at most all chips and sends on what it gets
+  pub bound_of_walk : (x : ℕ → ℕ) (vs : List ℕ) → IsFiringSequence G x vs → (es : List ℕ) (v : ℕ) → IsWalk G v es G.sink
+      → counts vs v ≤ firing_bound (sum_below G.vertices x) (greatest_degree G) (length es)
+  bound_of_walk x vs ok [] v is = subst (λ (w : ℕ). counts vs w ≤ 0) (sym is) (let a = sink_never G vs x ok in
+      omega arith)
   bound_of_walk x vs ok (e ∷ es) v way =
       let u : ℕ = (edge_at G e).head in
       let inside = good.edges_fit e way.0 in
       let ih = bound_of_walk x vs ok es u way.2 in
-      let here : (edge_at G e).mult * counts vs (edge_at G e).tail ≤ inflow G (counts vs) u = tested_term (length G.edges) (λ i. eqb (edge_at G i).head u) (λ i. (edge_at G i).mult * counts vs (edge_at G i).tail) e way.0 (eq-eqb u u refl) in
+      let here : (edge_at G e).mult * counts vs (edge_at G e).tail ≤ inflow G (counts vs) u =
+      tested_term (length G.edges) (λ i. eqb (edge_at G i).head u)
+      (λ i. (edge_at G i).mult * counts vs (edge_at G i).tail) e way.0 (eq-eqb u u refl) in
       let once = one_of (edge_at G e).mult (counts vs (edge_at G e).tail) inside.some_chips in
       let is = position_is G vs x ok u in
       let all = chips_are_kept x vs ok in
@@ -71,14 +95,17 @@ module _ (G : Multigraph) (good : IsGraph G) where
       let same : counts vs (edge_at G e).tail ≡ counts vs v = ap (counts vs) way.1 in
       omega arith
 
-  pub bound_law : (x : ℕ → ℕ) (v distance : ℕ) → IsDistance G v distance → (vs : List ℕ) → IsFiringSequence G x vs → counts vs v ≤ firing_bound (sum_below G.vertices x) (greatest_degree G) distance
+  pub bound_law : (x : ℕ → ℕ) (v distance : ℕ) → IsDistance G v distance → (vs : List ℕ) → IsFiringSequence G x vs
+      → counts vs v ≤ firing_bound (sum_below G.vertices x) (greatest_degree G) distance
   bound_law x v distance is vs ok =
       let way = is.reached in
-      subst (λ (n : ℕ). counts vs v ≤ firing_bound (sum_below G.vertices x) (greatest_degree G) n) way.2 (bound_of_walk x vs ok way.0 v way.1)
+      subst (λ (n : ℕ). counts vs v ≤ firing_bound (sum_below G.vertices x) (greatest_degree G) n) way.2
+      (bound_of_walk x vs ok way.0 v way.1)
 
   -- ---- where the limit is enough
 
-  module _ (x : ℕ → ℕ) (distance : ℕ) (near : (v : ℕ) → v < G.vertices → (es : List ℕ) × IsWalk G v es G.sink × (length es ≤ distance)) where
+  module _ (x : ℕ → ℕ) (distance : ℕ) (near : (v : ℕ) → v < G.vertices → (es : List ℕ) × IsWalk G v es G.sink
+      × (length es ≤ distance)) where
     -- the bound at the greatest distance
     abbrev pub top : ℕ
     top = firing_bound (sum_below G.vertices x) (greatest_degree G) distance
@@ -94,7 +121,8 @@ module _ (G : Multigraph) (good : IsGraph G) where
         (λ nl. let a = counts_outside G vs x v ok (omega arith) in omega arith)
 
     -- who is legal has fired less often
-    pub legal_below_top : (vs : List ℕ) → IsFiringSequence G x vs → (v : ℕ) → IsLegal G (position_after G x vs) v → counts vs v < top
+    pub legal_below_top : (vs : List ℕ) → IsFiringSequence G x vs → (v : ℕ) → IsLegal G (position_after G x vs) v
+        → counts vs v < top
     legal_below_top vs ok v can =
         let a = below_top (vs ++ v ∷ []) (sequence-append G vs (v ∷ []) x ok (can, tt)) v in
         let b = counts-append vs (v ∷ []) v in
@@ -108,7 +136,8 @@ module _ (G : Multigraph) (good : IsGraph G) where
         absurd (omega arith)
 
   -- some number of edges that no vertex is further away than
-  some_distance : (n : ℕ) → n ≤ G.vertices → (distance : ℕ) × ((v : ℕ) → v < n → (es : List ℕ) × IsWalk G v es G.sink × (length es ≤ distance))
+  some_distance : (n : ℕ) → n ≤ G.vertices → (distance : ℕ)
+      × ((v : ℕ) → v < n → (es : List ℕ) × IsWalk G v es G.sink × (length es ≤ distance))
   some_distance zero l = (0, λ v m. absurd (omega arith))
   some_distance (suc n) l =
       let below = some_distance n (omega arith) in
@@ -121,17 +150,23 @@ module _ (G : Multigraph) (good : IsGraph G) where
 
   -- ---- without a limit
 
-  pub ends : (x : ℕ → ℕ) (vs : List ℕ) → IsFiringSequence G x vs → (more : List ℕ) × IsFiringSequence G x (vs ++ more) × HasEnded G x (vs ++ more)
+  pub ends : (x : ℕ → ℕ) (vs : List ℕ) → IsFiringSequence G x vs → (more : List ℕ) × IsFiringSequence G x (vs ++ more)
+      × HasEnded G x (vs ++ more)
   ends x vs ok =
       let far = some_distance G.vertices (omega arith) in
       let rest = continued G x (top x far.0 far.1) vs ok (below_top x far.0 far.1 vs ok) in
       (rest.0, rest.1.sequence, enough_law x far.0 far.1 (top x far.0 far.1) (omega arith) (vs ++ rest.0) rest.1)
 
   -- one that has ended is a whole play within the bound
-  whole : (x : ℕ → ℕ) (vs : List ℕ) → IsFiringSequence G x vs → HasEnded G x vs → (distance : ℕ) (near : (v : ℕ) → v < G.vertices → (es : List ℕ) × IsWalk G v es G.sink × (length es ≤ distance)) → IsWholePlay G x (top x distance near) vs
-  whole x vs ok ended distance near = record { sequence = ok; within = below_top x distance near vs ok; ended = λ v can. absurd (ended v can) }
+  whole : (x : ℕ → ℕ) (vs : List ℕ) → IsFiringSequence G x vs → HasEnded G x vs
+      → (distance : ℕ) (near : (v : ℕ) → v < G.vertices → (es : List ℕ) × IsWalk G v es G.sink × (length es ≤ distance))
+      → IsWholePlay G x (top x distance near) vs
+  whole x vs ok ended distance near =
+      record { sequence = ok; within = below_top x distance near vs ok; ended = λ v can. absurd (ended v can) }
 
-  pub same_ends : (x : ℕ → ℕ) (vs ws : List ℕ) → IsFiringSequence G x vs → HasEnded G x vs → IsFiringSequence G x ws → HasEnded G x ws → ((u : ℕ) → counts vs u ≡ counts ws u) × ((u : ℕ) → position_after G x vs u ≡ position_after G x ws u)
+  pub same_ends : (x : ℕ → ℕ) (vs ws : List ℕ) → IsFiringSequence G x vs → HasEnded G x vs → IsFiringSequence G x ws
+      → HasEnded G x ws → ((u : ℕ) → counts vs u ≡ counts ws u)
+      × ((u : ℕ) → position_after G x vs u ≡ position_after G x ws u)
   same_ends x vs ws ok ended ok' ended' =
       let far = some_distance G.vertices (omega arith) in
       one_end G x (top x far.0 far.1) vs ws (whole x vs ok ended far.0 far.1) (whole x ws ok' ended' far.0 far.1)
@@ -145,6 +180,7 @@ module _ (G : Multigraph) (good : IsGraph G) where
       first_edge : (es : List ℕ) → IsWalk G v es G.sink → 0 < degree G v
       first_edge [] is = absurd (ns is)
       first_edge (e ∷ es) way =
-          let a = tested_term (length G.edges) (λ i. eqb (edge_at G i).tail v) (λ i. (edge_at G i).mult) e way.0 (eq-eqb (edge_at G e).tail v way.1) in
+          let a = tested_term (length G.edges) (λ i. eqb (edge_at G i).tail v)
+          (λ i. (edge_at G i).mult) e way.0 (eq-eqb (edge_at G e).tail v way.1) in
           let b = (good.edges_fit e way.0).some_chips in
           omega arith

@@ -1,5 +1,8 @@
 -- The plain player: turns, rounds, and what they come to.
-use Rattle.std.proofs.Common.{◌≡◌, ◌≢◌, ℕ, zero, suc, ◌+◌, ◌-◌, ◌*◌, ◌/◌, ◌^◌, ◌<◌, ◌≤◌, Bool, true, false, not, ◌&&◌, eqb, leb, All, Contains, List, [], length, sum, get_or, set, slice_index, replicate, ◌⊎◌, inl, inr, ⊎_elim, refl, sym, ap, ◌∙◌, subst, arith, length-set, get_or-set_same, get_or-set_other, mul-add, mul_comm, mul-le-mul_left}
+use Rattle.std.proofs.Common.{◌≡◌, ◌≢◌, ℕ, zero, suc, ◌+◌, ◌-◌, ◌*◌, ◌/◌, ◌<◌, ◌≤◌, Bool, true, false, not, ◌&&◌}
+use Rattle.std.proofs.Common.{eqb, leb, All, Contains, List, [], length, sum, get_or, set, slice_index, replicate, ◌⊎◌}
+use Rattle.std.proofs.Common.{inl, inr, ⊎_elim, refl, sym, ap, ◌∙◌, subst, arith, length-set, get_or-set_same}
+use Rattle.std.proofs.Common.{get_or-set_other, mul-add, mul_comm, mul-le-mul_left}
 use Rattle.std.specs.List.Sorted.{IsStrictlyIncreasing}
 use Rattle.std.proofs.lemmas.List.{length-replicate}
 use Rattle.std.proofs.lemmas.List.Elements.{All-from_get_or}
@@ -7,6 +10,7 @@ use Rattle.std.proofs.lemmas.List.Sums.{get_or-le-sum_by}
 use Rattle.std.specs.Bool.{OnFalse}
 use mathlib.Core.Logic.{dite}
 use native.Mathlib.Decide.{ℕ_discrete, dec_lt}
+use Rattle.chip_graph.specs.Limits.{max_total, max_limit}
 use Rattle.chip_graph.specs.Sums.{sum_below}
 use Rattle.chip_graph.specs.Multigraph.{Multigraph, degree}
 use Rattle.chip_graph.specs.ChipGame.{ChipGame, IsGame}
@@ -22,7 +26,8 @@ use Rattle.chip_fire.specs.Play.{IsPlayed}
 use Rattle.chip_fire.specs.Rounds.{IsInRange, IsBegun, StaysOnTheWay, firings_left, IsSwept}
 use Rattle.chip_fire.proofs.FiringLemmas.{counts-replicate, batch}
 use Rattle.chip_fire.proofs.EndLemmas.{continued}
-use Rattle.chip_fire.proofs.CertificateLemmas.{certified_counts, led, on_the_way, none_forced, start_on_the_way, same_way, playing_on, end_of_the_way, led_after}
+use Rattle.chip_fire.proofs.CertificateLemmas.{certified_counts, led, on_the_way, start_on_the_way}
+use Rattle.chip_fire.proofs.CertificateLemmas.{same_way, playing_on, end_of_the_way, led_after}
 use Rattle.chip_fire.proofs.LegalLemmas.{picked_ascends}
 use Rattle.chip_fire.proofs.BurningLemmas.{burnt_counts}
 use Rattle.chip_fire.proofs.BoundLemmas.{led_total}
@@ -31,7 +36,8 @@ use Rattle.chip_fire.proofs.BoundLemmas.{led_total}
 
 -- a number above the quotient asks for more than there is
 pub above_quotient : (x d k : ℕ) → 0 < d → x / d < k → x < k * d
-above_quotient x d k some above = let a = mul-le-mul_left d (let h : x / d + 1 ≤ k = omega arith in h) in let b = mul-add d (x / d) 1 in let c = mul_comm d k in omega arith
+above_quotient x d k some above = let a = mul-le-mul_left d (let h : x / d + 1 ≤ k = omega arith in h) in let b =
+    mul-add d (x / d) 1 in let c = mul_comm d k in omega arith
 
 -- a number up to the quotient asks for what there is
 pub within_quotient : (x d k : ℕ) → 0 < d → k ≤ x / d → k * d ≤ x
@@ -41,11 +47,13 @@ within_quotient x d k some within = let a = mul-le-mul_left d within in let c = 
 pub quotient_some : (x d : ℕ) → 0 < d → d ≤ x → 0 < x / d
 quotient_some x d some enough = dite (dec_lt 0 (x / d))
     (λ l. l)
-    (λ nl. let none : x / d ≡ 0 = omega arith in let a : d * (x / d) ≡ d * 0 = ap (λ (n : ℕ). d * n) none in absurd (omega arith))
+    (λ nl. let none : x / d ≡ 0 = omega arith in let a : d * (x / d) ≡ d * 0 = ap (λ (n : ℕ). d * n) none in
+    absurd (omega arith))
 
 -- ---- one turn
 
-module _ (G : Multigraph) (limit : ℕ) (chips fired : List ℕ) (ok : IsInRange G limit chips fired) (v k : ℕ) (is_vertex : v < G.vertices) where
+module _ (G : Multigraph) (limit : ℕ) (chips fired : List ℕ) (ok : IsInRange G limit chips fired) (v k : ℕ)
+    (is_vertex : v < G.vertices) where
   -- the counts after k firings of v
   abbrev pub counted : List ℕ
   counted = set fired v (get_or fired v 0 + k)
@@ -56,7 +64,8 @@ module _ (G : Multigraph) (limit : ℕ) (chips fired : List ℕ) (ok : IsInRange
   counted_else : (u : ℕ) → v ≢ u → get_or counted u 0 ≡ get_or fired u 0
   counted_else u ne = get_or-set_other fired v u (get_or fired v 0 + k) 0 (λ z. ne (sym z))
 
-  pub turn_in_range : get_or fired v 0 + k ≤ limit → (now : List ℕ) → length now ≡ length chips → sum now ≡ sum chips → IsInRange G limit now counted
+  pub turn_in_range : get_or fired v 0 + k ≤ limit → (now : List ℕ) → length now ≡ length chips → sum now ≡ sum chips
+      → IsInRange G limit now counted
   turn_in_range room now same kept = record {
     graph_fits = ok.graph_fits;
     chips_each = same ∙ ok.chips_each;
@@ -71,19 +80,27 @@ module _ (G : Multigraph) (limit : ℕ) (chips fired : List ℕ) (ok : IsInRange
   -- the counts are those of k firings more
   counted_more : (u : ℕ) → get_or counted u 0 ≡ get_or fired u 0 + counts (replicate k v) u
   counted_more u = dite (ℕ_discrete v u)
-      (λ e. (let a : get_or counted u 0 ≡ get_or fired u 0 + k = subst (λ (w : ℕ). get_or counted w 0 ≡ get_or fired w 0 + k) e counted_here in let b = counts-replicate k v u in let c = cond_yes v u k 0 e in omega arith))
+      (λ e. (let a : get_or counted u 0 ≡ get_or fired u 0 + k = subst
+      (λ (w : ℕ). get_or counted w 0 ≡ get_or fired w 0 + k) e counted_here in let b = counts-replicate k v u in
+      let c = cond_yes v u k 0 e in omega arith))
       (λ ne. (let a = counted_else u ne in let b = counts-replicate k v u in let c = cond_no v u k 0 ne in omega arith))
 
-  pub turn_stays : get_or fired v 0 + k ≤ limit → v ≢ G.sink → k * degree G v ≤ get_or chips v 0 → (now : List ℕ) → ((u : ℕ) → get_or now u 0 ≡ position_after G (slice_index chips) (replicate k v) u) → StaysOnTheWay G limit chips fired now counted
-  turn_stays room other can now same x is = same_way G x limit (position_after G (slice_index chips) (replicate k v)) (λ u. slice_index fired u + counts (replicate k v) u) (slice_index now) (slice_index counted)
-      (playing_on G x limit (slice_index chips) (slice_index fired) is (replicate k v) (batch G v k (slice_index chips) is_vertex other can) (λ u. dite (ℕ_discrete v u)
-      (λ e. subst (λ (w : ℕ). get_or fired w 0 + counts (replicate k v) w ≤ limit) e (let a = counted_here in let b = counted_more v in omega arith))
+  pub turn_stays : get_or fired v 0 + k ≤ limit → v ≢ G.sink → k * degree G v ≤ get_or chips v 0 → (now : List ℕ)
+      → ((u : ℕ) → get_or now u 0 ≡ position_after G (slice_index chips) (replicate k v) u)
+      → StaysOnTheWay G limit chips fired now counted
+  turn_stays room other can now same x is = same_way G x limit (position_after G (slice_index chips) (replicate k v))
+      (λ u. slice_index fired u + counts (replicate k v) u) (slice_index now) (slice_index counted)
+      (playing_on G x limit (slice_index chips) (slice_index fired) is (replicate k v)
+      (batch G v k (slice_index chips) is_vertex other can) (λ u. dite (ℕ_discrete v u)
+      (λ e. subst (λ (w : ℕ). get_or fired w 0 + counts (replicate k v) w ≤ limit) e
+      (let a = counted_here in let b = counted_more v in omega arith))
       (λ ne. (let a = counted_else u ne in let b = counted_more u in let c = ok.low_counts u in omega arith))))
       same counted_more
 
   pub turn_less : get_or fired v 0 + k ≤ limit → 0 < k → firings_left G limit counted < firings_left G limit fired
   turn_less room some =
-      let a = sum_below_move G.vertices (λ u. limit - get_or counted u 0) (λ u. limit - get_or fired u 0) v is_vertex (λ u l ne. ap (λ (n : ℕ). limit - n) (counted_else u (λ z. ne (sym z)))) in
+      let a = sum_below_move G.vertices (λ u. limit - get_or counted u 0) (λ u. limit - get_or fired u 0) v is_vertex
+      (λ u l ne. ap (λ (n : ℕ). limit - n) (counted_else u (λ z. ne (sym z)))) in
       let b = counted_here in
       omega arith
 
@@ -94,15 +111,26 @@ on_false : (b : Bool) {P Q : Type 0} → (P → Q) → OnFalse b P → OnFalse b
 on_false true f p = p
 on_false false f p = f p
 
-module _ (G : Multigraph) (limit first : ℕ) (chips fired chips' fired' : List ℕ) (any : Bool) (i : ℕ) (so_far : IsSwept G limit first chips fired chips' fired' any (first + 2 * i)) where
+module _ (G : Multigraph) (limit first : ℕ) (chips fired chips' fired' : List ℕ) (any : Bool) (i : ℕ)
+    (so_far : IsSwept G limit first chips fired chips' fired' any (first + 2 * i)) where
   -- a vertex that does not fire
-  pub sweep_rests : (IsLegal G (slice_index chips') (first + 2 * i) → slice_index fired' (first + 2 * i) ≡ limit) → IsSwept G limit first chips fired chips' fired' any (first + 2 * (i + 1))
+  pub sweep_rests : (IsLegal G (slice_index chips') (first + 2 * i) → slice_index fired' (first + 2 * i) ≡ limit)
+      → IsSwept G limit first chips fired chips' fired' any (first + 2 * (i + 1))
   sweep_rests rests = record {
     in_range = so_far.in_range;
     stays = so_far.stays;
     fewer = so_far.fewer;
     some_fired = so_far.some_fired;
-    none_fired = on_false any (λ none. (none.0, none.1, λ j l can. dite (ℕ_discrete j i) (λ e. subst (λ (w : ℕ). slice_index fired' (first + 2 * w) ≡ limit) (sym e) (rests (subst (λ (w : ℕ). IsLegal G (slice_index chips') (first + 2 * w)) e can))) (λ ne. none.2 j (omega arith) can))) so_far.none_fired;
+    none_fired =
+        on_false any
+        (λ none. (
+          none.0,
+          none.1,
+          λ j l can. dite (ℕ_discrete j i)
+              (λ e. subst (λ (w : ℕ). slice_index fired' (first + 2 * w) ≡ limit) (sym e)
+              (rests (subst (λ (w : ℕ). IsLegal G (slice_index chips') (first + 2 * w)) e can)))
+              (λ ne. none.2 j (omega arith) can),
+        )) so_far.none_fired;
   }
 
   -- the sink
@@ -110,12 +138,15 @@ module _ (G : Multigraph) (limit first : ℕ) (chips fired chips' fired' : List 
   sweep_sink is = sweep_rests (λ can. absurd (can.not_sink is))
 
   -- a vertex that fires
-  pub sweep_fires : (chips'' fired'' : List ℕ) → IsInRange G limit chips'' fired'' → StaysOnTheWay G limit chips' fired' chips'' fired'' → firings_left G limit fired'' < firings_left G limit fired' → IsSwept G limit first chips fired chips'' fired'' true (first + 2 * (i + 1))
+  pub sweep_fires : (chips'' fired'' : List ℕ) → IsInRange G limit chips'' fired''
+      → StaysOnTheWay G limit chips' fired' chips'' fired'' → firings_left G limit fired'' < firings_left G limit fired'
+      → IsSwept G limit first chips fired chips'' fired'' true (first + 2 * (i + 1))
   sweep_fires chips'' fired'' in_range stays less = record {
     in_range = in_range;
     stays = λ x is. stays x (so_far.stays x is);
     fewer = (let a = so_far.fewer in omega arith);
-    some_fired = (let a = so_far.fewer in let b : firings_left G limit fired'' < firings_left G limit fired = omega arith in b);
+    some_fired =
+        (let a = so_far.fewer in let b : firings_left G limit fired'' < firings_left G limit fired = omega arith in b);
     none_fired = tt;
   }
 
@@ -124,16 +155,22 @@ module _ (G : Multigraph) (limit first : ℕ) (chips fired chips' fired' : List 
 -- every number is even or odd
 halves : (v : ℕ) → ((i : ℕ) × (v ≡ 0 + 2 * i)) ⊎ ((i : ℕ) × (v ≡ 1 + 2 * i))
 halves zero = inl (0, refl)
-halves (suc v) = ⊎_elim (λ even. inr (even.0, (let a = even.1 in omega arith))) (λ odd. inl (odd.0 + 1, (let a = odd.1 in omega arith))) (halves v)
+halves (suc v) = ⊎_elim (λ even. inr (even.0, (let a = even.1 in omega arith)))
+    (λ odd. inl (odd.0 + 1, (let a = odd.1 in omega arith))) (halves v)
 
 module _ (G : Multigraph) (limit : ℕ) (chips fired chips' fired' chips'' fired'' : List ℕ) where
   -- two sweeps in which nothing fired: nothing may fire
-  pub round_rests : (any : Bool) → IsSwept G limit 0 chips fired chips' fired' false G.vertices → IsSwept G limit 1 chips' fired' chips'' fired'' any G.vertices → OnFalse any ((v : ℕ) → IsLegal G (slice_index chips'') v → slice_index fired'' v ≡ limit)
+  pub round_rests : (any : Bool) → IsSwept G limit 0 chips fired chips' fired' false G.vertices
+      → IsSwept G limit 1 chips' fired' chips'' fired'' any G.vertices
+      → OnFalse any ((v : ℕ) → IsLegal G (slice_index chips'') v → slice_index fired'' v ≡ limit)
   round_rests any even odd = on_false any
       (λ none v can. ⊎_elim
       (λ is.
-      let can' : IsLegal G (slice_index chips') (0 + 2 * is.0) = subst (IsLegal G (slice_index chips')) is.1 (subst (λ (l : List ℕ). IsLegal G (slice_index l) v) none.0 can) in
-      ap (λ (l : List ℕ). slice_index l v) none.1 ∙ ap (slice_index fired') is.1 ∙ even.none_fired.2 is.0 can'.is_vertex can')
+      let can' : IsLegal G (slice_index chips') (0 + 2 * is.0) =
+      subst (IsLegal G (slice_index chips')) is.1
+      (subst (λ (l : List ℕ). IsLegal G (slice_index l) v) none.0 can) in
+      ap (λ (l : List ℕ). slice_index l v) none.1 ∙ ap (slice_index fired') is.1
+      ∙ even.none_fired.2 is.0 can'.is_vertex can')
       (λ is.
       let can' : IsLegal G (slice_index chips'') (1 + 2 * is.0) = subst (IsLegal G (slice_index chips'')) is.1 can in
       ap (slice_index fired'') is.1 ∙ none.2 is.0 can'.is_vertex can')
@@ -162,44 +199,67 @@ module _ (g : ChipGame) (ok : IsGame g) where
       low_counts = λ v. (let a = zeros g.graph.vertices v in omega arith);
       low_limit = ok.low_limit;
     };
-    on_the_way = same_way g.graph (slice_index g.start) g.limit (slice_index g.start) (λ v. 0) (slice_index g.start) (slice_index (replicate g.graph.vertices 0)) (start_on_the_way g.graph (slice_index g.start) g.limit) (λ u. refl) (zeros g.graph.vertices);
+    on_the_way = same_way g.graph (slice_index g.start) g.limit (slice_index g.start)
+        (λ v. 0) (slice_index g.start) (slice_index (replicate g.graph.vertices 0))
+        (start_on_the_way g.graph (slice_index g.start) g.limit) (λ u. refl) (zeros g.graph.vertices);
   }
 
-  pub begun_none : (chips fired : List ℕ) → chips ≡ g.start → fired ≡ replicate g.graph.vertices 0 → IsBegun g chips fired
-  begun_none chips fired is_chips is_fired = subst (λ (l : List ℕ). IsBegun g l fired) (sym is_chips) (subst (IsBegun g g.start) (sym is_fired) begun_at_start)
+  pub begun_none : (chips fired : List ℕ) → chips ≡ g.start → fired ≡ replicate g.graph.vertices 0
+      → IsBegun g chips fired
+  begun_none chips fired is_chips is_fired =
+      subst (λ (l : List ℕ). IsBegun g l fired) (sym is_chips) (subst (IsBegun g g.start) (sym is_fired) begun_at_start)
 
-  module _ (chips fired counts : List ℕ) (each : length counts ≡ g.graph.vertices) (low : (v : ℕ) → slice_index fired v ≤ g.limit) (forced : AreForced g.graph (slice_index g.start) g.limit (slice_index fired)) (after : IsAfter g counts chips) where
+  module _ (chips fired counts : List ℕ) (each : length counts ≡ g.graph.vertices) (low : (v : ℕ)
+      → slice_index fired v ≤ g.limit) (forced : AreForced g.graph (slice_index g.start) g.limit (slice_index fired))
+      (after : IsAfter g counts chips) where
     -- counts that are forced, and within the limit where they are above those that are
-    begun_forced : ((v : ℕ) → slice_index fired v < slice_index counts v → slice_index counts v ≤ g.limit) → AreForced g.graph (slice_index g.start) g.limit (slice_index counts) → IsBegun g chips counts
+    begun_forced : ((v : ℕ) → slice_index fired v < slice_index counts v → slice_index counts v ≤ g.limit)
+        → AreForced g.graph (slice_index g.start) g.limit (slice_index counts) → IsBegun g chips counts
     begun_forced within all = record {
       in_range = record {
         graph_fits = ok.graph_fits;
         chips_each = after.chips_each;
         fired_each = each;
         few_chips = (let a = after.kept in let b = ok.few_chips in omega arith);
-        low_counts = λ v. dite (dec_lt (slice_index fired v) (slice_index counts v)) (within v) (λ none. let a = low v in omega arith);
+        low_counts = λ v. dite (dec_lt (slice_index fired v) (slice_index counts v)) (within v)
+            (λ none. let a = low v in omega arith);
         low_limit = ok.low_limit;
       };
-      on_the_way = on_the_way g.graph (slice_index g.start) g.limit (slice_index chips) (slice_index counts) (led_after g ok counts chips each after) all;
+      on_the_way =
+          on_the_way g.graph (slice_index g.start) g.limit (slice_index chips) (slice_index counts)
+          (led_after g ok counts chips each after) all;
     }
 
-    pub begun_certified : IsCertified g.graph (slice_index g.start) g.limit (slice_index fired) (slice_index counts) → IsBegun g chips counts
+    pub begun_certified : IsCertified g.graph (slice_index g.start) g.limit (slice_index fired) (slice_index counts)
+        → IsBegun g chips counts
     begun_certified certified = begun_forced (λ v some. (certified v some).within)
-        (certified_counts g.graph ok.graph_fits (slice_index g.start) g.limit (slice_index fired) (slice_index counts) forced certified)
+        (certified_counts g.graph ok.graph_fits (slice_index g.start) g.limit (slice_index fired) (slice_index counts)
+        forced certified)
 
-    pub begun_burnt : (order : List ℕ) → AreBurnt g.graph (slice_index g.start) g.limit (slice_index fired) (slice_index counts) (slice_index order) → IsBegun g chips counts
+    pub begun_burnt : (order : List ℕ)
+        → AreBurnt g.graph (slice_index g.start) g.limit (slice_index fired) (slice_index counts) (slice_index order)
+        → IsBegun g chips counts
     begun_burnt order burnt = begun_forced (λ v some. (burnt v some).within)
-        (burnt_counts g.graph ok.graph_fits (slice_index g.start) g.limit (slice_index fired) (slice_index counts) (slice_index order) forced burnt)
+        (burnt_counts g.graph ok.graph_fits (slice_index g.start) g.limit (slice_index fired) (slice_index counts)
+        (slice_index order) forced burnt)
 
 -- a play that has begun, some rounds on
-pub begun_on : (g : ChipGame) (chips fired chips' fired' now now' : List ℕ) → IsBegun g chips fired → IsInRange g.graph g.limit chips' fired' → StaysOnTheWay g.graph g.limit chips fired chips' fired' → now ≡ chips' → now' ≡ fired' → IsBegun g now now'
-begun_on g chips fired chips' fired' now now' begun in_range stays is_chips is_fired = subst (λ (l : List ℕ). IsBegun g l now') (sym is_chips) (subst (IsBegun g chips') (sym is_fired) (record { in_range = in_range; on_the_way = stays (slice_index g.start) begun.on_the_way }))
+pub begun_on : (g : ChipGame) (chips fired chips' fired' now now' : List ℕ) → IsBegun g chips fired
+    → IsInRange g.graph g.limit chips' fired' → StaysOnTheWay g.graph g.limit chips fired chips' fired' → now ≡ chips'
+    → now' ≡ fired' → IsBegun g now now'
+begun_on g chips fired chips' fired' now now' begun in_range stays is_chips is_fired =
+    subst (λ (l : List ℕ). IsBegun g l now') (sym is_chips)
+    (subst (IsBegun g chips') (sym is_fired)
+    (record { in_range = in_range; on_the_way = stays (slice_index g.start) begun.on_the_way }))
 
 -- where a play ends
 
-module _ (G : Multigraph) (limit : ℕ) (start chips fired : List ℕ) (ok : IsInRange G limit chips fired) (is : IsOnTheWay G (slice_index start) limit (slice_index chips) (slice_index fired)) (ended : (v : ℕ) → IsLegal G (slice_index chips) v → slice_index fired v ≡ limit) where
+module _ (G : Multigraph) (limit : ℕ) (start chips fired : List ℕ) (ok : IsInRange G limit chips fired)
+    (is : IsOnTheWay G (slice_index start) limit (slice_index chips) (slice_index fired)) (ended : (v : ℕ)
+    → IsLegal G (slice_index chips) v → slice_index fired v ≡ limit) where
   -- every whole play has these counts and ends with these chips
-  at_end : (vs : List ℕ) → IsWholePlay G (slice_index start) limit vs → ((v : ℕ) → slice_index fired v ≡ counts vs v) × ((v : ℕ) → slice_index chips v ≡ position_after G (slice_index start) vs v)
+  at_end : (vs : List ℕ) → IsWholePlay G (slice_index start) limit vs → ((v : ℕ) → slice_index fired v ≡ counts vs v)
+      × ((v : ℕ) → slice_index chips v ≡ position_after G (slice_index start) vs v)
   at_end = end_of_the_way G (slice_index start) limit (slice_index chips) (slice_index fired) is ended
 
   -- no chip is lost
@@ -207,11 +267,14 @@ module _ (G : Multigraph) (limit : ℕ) (start chips fired : List ℕ) (ok : IsI
   kept each =
       sum_by_place chips
       ∙ ap (λ (n : ℕ). sum_below n (slice_index chips)) ok.chips_each
-      ∙ led_total G ok.graph_fits (slice_index start) (slice_index fired) (slice_index chips) (λ u l. led G (slice_index start) limit (slice_index chips) (slice_index fired) is u)
+      ∙ led_total G ok.graph_fits (slice_index start) (slice_index fired) (slice_index chips)
+      (λ u l. led G (slice_index start) limit (slice_index chips) (slice_index fired) is u)
       ∙ sym (sum_by_place start ∙ ap (λ (n : ℕ). sum_below n (slice_index start)) each)
 
   -- all that a player answers
-  pub game_played : (o : Outcome) → length start ≡ G.vertices → o.fired.items ≡ fired → o.chips.items ≡ chips → o.over.items ≡ legal_vertices G (slice_index chips) → o.sealed.items ≡ [] → IsPlayed (record { graph = G; start = start; limit = limit }) o
+  pub game_played : (o : Outcome) → length start ≡ G.vertices → o.fired.items ≡ fired → o.chips.items ≡ chips
+      → o.over.items ≡ legal_vertices G (slice_index chips) → o.sealed.items ≡ []
+      → IsPlayed (record { graph = G; start = start; limit = limit }) o
   game_played o each is_fired is_chips over sealed = record {
     ends = continued G (slice_index start) limit [] tt (λ v. omega arith);
     fired_each = ap length is_fired ∙ ok.fired_each;
@@ -229,15 +292,21 @@ pub outcome_is : (g : ChipGame) → IsGame g → (o : Outcome) → IsPlayed g o 
 outcome_is g ok o is =
     let vertices : length o.fired.items ≡ g.graph.vertices = is.fired_each in
     let legal : ℕ → Bool = λ v. not (eqb v g.graph.sink) && leb (degree g.graph v) (get_or o.chips.items v 0) in
-    let none : (v : ℕ) → Contains o.sealed.items v → ⊥ = (λ v has. (let a = has.1 in let b = ap length is.sealed in absurd (omega arith))) in
+    let none : (v : ℕ) → Contains o.sealed.items v → ⊥ =
+    (λ v has. (let a = has.1 in let b = ap length is.sealed in absurd (omega arith))) in
     record {
       same_length = is.chips_each ∙ sym vertices;
       some_vertex = (let a = ok.graph_fits.some_vertex in omega arith);
       few_vertices = (let a = ok.graph_fits.few_vertices in omega arith);
-      few_firings = All-from_get_or (λ n. n ≤ 2 ^ 40) o.fired.items 0 (λ i l. (let a = is.low_counts i in let b = ok.low_limit in omega arith));
-      few_chips = All-from_get_or (λ n. n ≤ 2 ^ 40) o.chips.items 0 (λ i l. (let a = get_or-le-sum_by (λ (n : ℕ). n) o.chips.items i 0 l in let b = is.kept in let c = ok.few_chips in omega arith));
+      few_firings = All-from_get_or (λ n. n ≤ max_limit) o.fired.items 0
+          (λ i l. (let a = is.low_counts i in let b = ok.low_limit in omega arith));
+      few_chips = All-from_get_or (λ n. n ≤ max_total) o.chips.items 0
+          (λ i l. (let a = get_or-le-sum_by (λ (n : ℕ). n) o.chips.items i 0 l in let b = is.kept in
+          let c = ok.few_chips in omega arith));
       over_ascends = subst IsStrictlyIncreasing (sym is.over) (picked_ascends legal g.graph.vertices);
-      over_vertices = subst (All (λ v. v < length o.fired.items)) (sym is.over) (All-picked legal g.graph.vertices (length o.fired.items) (omega arith));
+      over_vertices =
+          subst (All (λ v. v < length o.fired.items)) (sym is.over)
+          (All-picked legal g.graph.vertices (length o.fired.items) (omega arith));
       sealed_ascends = λ k l. (let b = ap length is.sealed in absurd (omega arith));
       sealed_vertices = λ k d l. (let b = ap length is.sealed in absurd (omega arith));
       apart = λ v has has'. none v has';

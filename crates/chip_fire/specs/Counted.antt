@@ -25,5 +25,6 @@ pub record IsLeastBelowZero (G : Multigraph) (x f : ℕ → ℕ) (v : ℕ) : Typ
 pub record IsAfter (g : ChipGame) (fired chips : List ℕ) : Type 0 where
   pub none_below : (v : ℕ) → v < g.graph.vertices → IsBelowZero g.graph (slice_index g.start) (slice_index fired) v → ⊥
   pub chips_each : length chips ≡ g.graph.vertices
-  pub by_counts : (v : ℕ) → v < g.graph.vertices → slice_index chips v ≡ position_by_counts g.graph (slice_index g.start) (slice_index fired) v
+  pub by_counts : (v : ℕ) → v < g.graph.vertices
+      → slice_index chips v ≡ position_by_counts g.graph (slice_index g.start) (slice_index fired) v
   pub kept : sum chips ≡ sum g.start

@@ -1,4 +1,5 @@
--- Legal vertices and single firings at a position (Björner, Lovász and Shor, Chip-firing games on graphs, 1991; directed: Björner and Lovász, 1992). A position is a function from vertices to chips.
+-- Legal vertices and single firings at a position (Björner, Lovász and Shor, Chip-firing games on graphs, 1991;
+-- directed: Björner and Lovász, 1992). A position is a function from vertices to chips.
 use Rattle.std.specs.Prelude.{◌≢◌, ℕ, ◌+◌, ◌-◌, ◌<◌, ◌≤◌, ◌==◌, nat_le, ◌&&◌, not, if◌then◌else◌, List}
 use Rattle.chip_graph.specs.Sums.{picked}
 use Rattle.chip_graph.specs.Multigraph.{Multigraph, edge_at, sum_in, degree}
@@ -13,6 +14,9 @@ pub record IsLegal (G : Multigraph) (x : ℕ → ℕ) (v : ℕ) : Type 0 where
 abbrev pub legal_vertices : Multigraph → (ℕ → ℕ) → List ℕ
 legal_vertices G x = picked (λ v. not (v == G.sink) && nat_le (degree G v) (x v)) G.vertices
 
--- the position after one firing of v at x: its degree leaves v, and each edge out of v brings its multiplicity to its head
+-- the position after one firing of v at x: its degree leaves v, and each edge out of v brings its multiplicity to its
+-- head
 abbrev pub fired_once : Multigraph → ℕ → (ℕ → ℕ) → ℕ → ℕ
-fired_once G v x u = (if u == v then x u - degree G v else x u) + sum_in G u (λ e. if (edge_at G e).tail == v then (edge_at G e).mult else 0)
+fired_once G v x u =
+    (if u == v then x u - degree G v else x u)
+    + sum_in G u (λ e. if (edge_at G e).tail == v then (edge_at G e).mult else 0)

@@ -1,3 +1,4 @@
+pub use Rattle.chip_graph.specs.Limits
 pub use Rattle.chip_graph.specs.Sums
 pub use Rattle.chip_graph.specs.Multigraph
 pub use Rattle.chip_graph.specs.ChipGame
@@ -7,7 +8,7 @@ pub mod Counted
 pub mod Certificate
 pub mod Bound
 pub mod Laws
-pub mod Triangle
+pub mod Worked
 pub mod Rounds
 pub mod Play
 pub mod Outcomes

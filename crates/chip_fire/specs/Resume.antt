@@ -1,6 +1,7 @@
 -- A play in several sittings: what a limit or a seal stopped goes on from the chips that lie there.
 use Rattle.std.specs.Prelude.{◌≡◌, ◌≢◌, ◌⊎◌, ℕ, ◌+◌, ◌^◌, ◌<◌, ◌≤◌, All, List, [], ◌∷◌, length, sum, slice_index}
 use Rattle.std.specs.Prelude.{Result, Ok, Err}
+use Rattle.chip_graph.specs.Limits.{max_total, max_limit}
 use Rattle.chip_graph.specs.Multigraph.{Multigraph, IsGraph}
 use Rattle.chip_graph.specs.ChipGame.{ChipGame, IsGame}
 use Rattle.chip_graph.specs.declared.fault.GameFault.{GameFault}
@@ -41,9 +42,10 @@ pub record IsFirstAbove (earlier : Resumed) (v : ℕ) : Type 0 where
 abbrev pub IsResumeFault : Multigraph → Resumed → ℕ → ResumeFault → Type 0
 IsResumeFault G earlier limit Mismatch = length earlier.outcome.chips.items ≢ G.vertices
 IsResumeFault G earlier limit Total =
-    (length earlier.outcome.chips.items ≡ G.vertices) × (2 ^ 40 < sum earlier.outcome.chips.items)
+    (length earlier.outcome.chips.items ≡ G.vertices) × (max_total < sum earlier.outcome.chips.items)
 IsResumeFault G earlier limit Limit =
-    (length earlier.outcome.chips.items ≡ G.vertices) × (sum earlier.outcome.chips.items ≤ 2 ^ 40) × (2 ^ 40 < limit)
+    (length earlier.outcome.chips.items ≡ G.vertices) × (sum earlier.outcome.chips.items ≤ max_total)
+    × (max_limit < limit)
 IsResumeFault G earlier limit (Prior v) = IsGame (game_from G earlier limit) × IsFirstAbove earlier v
 IsResumeFault G earlier limit NoMemory = length earlier.outcome.chips.items ≡ G.vertices
 
@@ -57,8 +59,8 @@ resume_fault game_fault.Limit = Limit
 abbrev pub IsPriorFault : Resumed → ResumeFault → Type 0
 IsPriorFault earlier fault = (fault ≡ NoMemory) ⊎ ((v : ℕ) × (fault ≡ Prior v) × IsFirstAbove earlier v)
 
--- the sitting that goes on from an earlier one: the game from its chips, played to its end, and what was fired before
--- it
+-- the sitting that goes on from an earlier one: the game from its chips, played to its end, and what was fired
+-- before it
 pub record GoesOn (G : Multigraph) (earlier : Resumed) (limit : ℕ) (r : Resumed) : Type 0 where
   pub is_game : IsGame (game_from G earlier limit)
   pub played : IsPlayed (game_from G earlier limit) r.outcome
@@ -84,8 +86,8 @@ LeadsTo G x f y = (vs : List ℕ) × Leads G x f y vs
 abbrev pub IsPlayFrom : Multigraph → (ℕ → ℕ) → Resumed → Type 0
 IsPlayFrom G x r = LeadsTo G x (fired_in_all r) (slice_index r.outcome.chips.items)
 
--- sittings one after another, each by its counts and the position that it left: each begins where the one before it
--- ended
+-- sittings one after another, each by its counts and the position that it left: each begins where the one before
+-- it ended
 abbrev pub AreSittings : Multigraph → (ℕ → ℕ) → List ((ℕ → ℕ) × (ℕ → ℕ)) → Type 0
 AreSittings G x [] = Unit {0}
 AreSittings G x ((f, y) ∷ rest) = LeadsTo G x f y × AreSittings G y rest
@@ -101,8 +103,7 @@ left_by_all x [] = x
 left_by_all x ((f, y) ∷ rest) = left_by_all y rest
 
 -- however many sittings there were: with the counts of a sequence that goes on from there to an end, they are the
--- counts of every
--- sequence from the first start that ends, and all end at the same position
+-- counts of every sequence from the first start that ends, and all end at the same position
 abbrev pub SittingsAddUp : Type 0
 SittingsAddUp =
     (G : Multigraph) → IsGraph G → (x : ℕ → ℕ) (sittings : List ((ℕ → ℕ) × (ℕ → ℕ))) → AreSittings G x sittings

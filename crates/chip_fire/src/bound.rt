@@ -1,4 +1,5 @@
-ghost use Rattle.std.specs.Prelude.{◌≡◌, ℕ, ◌+◌, ◌*◌, ◌^◌, ◌<◌, ◌≤◌, SomeIff};
+ghost use Rattle.std.specs.Prelude.{◌≡◌, ℕ, ◌+◌, ◌*◌, ◌<◌, ◌≤◌, SomeIff};
+ghost use Rattle.chip_graph.specs.Limits.{max_total, max_limit};
 ghost use Rattle.chip_fire.specs.Bound.{greatest_degree, IsGreatestDistance, firing_bound};
 
 use chip_graph::Graph;
@@ -7,8 +8,10 @@ use chip_graph::game::MAX_LIMIT;
 /// A limit that no vertex reaches while it is legal, on this graph and with so many chips: the firing
 /// bound at the greatest distance from the sink. `None` where that is above 2^40, the greatest limit.
 pub fn enough(graph: &Graph, total: u64) -> Option<u64>
-    requires { total ≤ 2 ^ 40 }
-    ensures { (distance : ℕ) × IsGreatestDistance graph.now distance × SomeIff result (firing_bound total (greatest_degree graph.now) distance ≤ 2 ^ 40) (firing_bound total (greatest_degree graph.now) distance) }
+    requires { total ≤ max_total }
+    ensures { (distance : ℕ) × IsGreatestDistance graph.now distance
+        × SomeIff result (firing_bound total (greatest_degree graph.now) distance ≤ max_limit)
+        (firing_bound total (greatest_degree graph.now) distance) }
 {
     let degree = most_sent(graph);
     let mut bound = 0u64;
@@ -20,7 +23,7 @@ pub fn enough(graph: &Graph, total: u64) -> Option<u64>
 
 /// The bound one edge further from the sink, up to the greatest limit.
 fn next_bound(total: u64, degree: u64, bound: u64) -> Option<u64>
-    ensures { SomeIff result (total + degree * bound ≤ 2 ^ 40) (total + degree * bound) }
+    ensures { SomeIff result (total + degree * bound ≤ max_limit) (total + degree * bound) }
 {
     let next = degree.checked_mul(bound)?.checked_add(total)?;
     if next <= MAX_LIMIT { Some(next) } else { None }

@@ -1,4 +1,5 @@
-ghost use Rattle.std.specs.Prelude.{◌≡◌, ◌≢◌, ℕ, ◌+◌, ◌<◌, ◌≤◌, ◌↔◌, nat_le, if◌then◌else◌, List, length, slice_index, IfOk, IsTrue, MatchOption};
+ghost use Rattle.std.specs.Prelude.{◌≡◌, ◌≢◌, ℕ, ◌+◌, ◌<◌, ◌≤◌, ◌↔◌, nat_le, if◌then◌else◌, List, length, slice_index};
+ghost use Rattle.std.specs.Prelude.{IfOk, IsTrue, MatchOption};
 ghost use Rattle.chip_graph.specs.Multigraph.{degree};
 ghost use Rattle.chip_graph.specs.ChipGame.{IsGame};
 ghost use Rattle.chip_fire.specs.Counted.{IsAfter};
@@ -30,7 +31,11 @@ pub(crate) fn certified(
     requires forced { AreForced game.now.graph (slice_index game.now.start) game.now.limit (slice_index fired.now) }
     ensures { IfOk result
         (λ found. MatchOption found
-        ((chips : List ℕ) → IsAfter game.now counts.now chips → (IsCertified game.now.graph (slice_index game.now.start) game.now.limit (slice_index fired.now) (slice_index counts.now) → ⊥) × (AreBurnt game.now.graph (slice_index game.now.start) game.now.limit (slice_index fired.now) (slice_index counts.now) (slice_index order.now) → ⊥))
+        ((chips : List ℕ) → IsAfter game.now counts.now chips
+        → (IsCertified game.now.graph (slice_index game.now.start) game.now.limit
+        (slice_index fired.now) (slice_index counts.now) → ⊥)
+        × (AreBurnt game.now.graph (slice_index game.now.start) game.now.limit
+        (slice_index fired.now) (slice_index counts.now) (slice_index order.now) → ⊥))
         (λ chips. IsBegun game.now chips.items counts.now)) }
 {
     let _game = game.graph();
@@ -54,7 +59,9 @@ fn all_earned(game: &Game, fired: &[u64], counts: &[u64], chips: &[u64]) -> bool
     requires fired_each { length fired.now ≡ game.now.graph.vertices }
     requires counts_each { length counts.now ≡ game.now.graph.vertices }
     requires after { IsAfter game.now counts.now chips.now }
-    ensures { IsTrue result ↔ IsCertified game.now.graph (slice_index game.now.start) game.now.limit (slice_index fired.now) (slice_index counts.now) }
+    ensures { IsTrue result
+        ↔ IsCertified game.now.graph (slice_index game.now.start) game.now.limit (slice_index fired.now)
+        (slice_index counts.now) }
 {
     for vertex in 0..game.graph().vertices() {
         let v = vertex as usize;
@@ -69,7 +76,8 @@ fn all_earned(game: &Game, fired: &[u64], counts: &[u64], chips: &[u64]) -> bool
 fn is_earned(game: &Game, vertex: u64, times: u64, left: u64) -> bool
     requires { vertex < game.now.graph.vertices }
     ensures game { IsGame game.now }
-    ensures earned { IsTrue result ↔ ((vertex ≢ game.now.graph.sink) × (times ≤ game.now.limit) × (degree game.now.graph vertex ≤ left + 1)) }
+    ensures earned { IsTrue result
+        ↔ ((vertex ≢ game.now.graph.sink) × (times ≤ game.now.limit) × (degree game.now.graph vertex ≤ left + 1)) }
 {
     let graph = game.graph();
     let missing = graph.out_degree(vertex).saturating_sub(left);
@@ -83,7 +91,9 @@ fn all_burnt(game: &Game, fired: &[u64], counts: &[u64], order: &[u64], chips: &
     requires counts_each { length counts.now ≡ game.now.graph.vertices }
     requires order_each { length order.now ≡ game.now.graph.vertices }
     requires after { IsAfter game.now counts.now chips.now }
-    ensures { IsTrue result ↔ AreBurnt game.now.graph (slice_index game.now.start) game.now.limit (slice_index fired.now) (slice_index counts.now) (slice_index order.now) }
+    ensures { IsTrue result
+        ↔ AreBurnt game.now.graph (slice_index game.now.start) game.now.limit (slice_index fired.now)
+        (slice_index counts.now) (slice_index order.now) }
 {
     for vertex in 0..game.graph().vertices() {
         let v = vertex as usize;
@@ -99,7 +109,10 @@ fn is_burnt(game: &Game, order: &[u64], vertex: u64, times: u64, left: u64) -> b
     requires is_vertex { vertex < game.now.graph.vertices }
     requires order_each { length order.now ≡ game.now.graph.vertices }
     ensures game { IsGame game.now }
-    ensures burnt { IsTrue result ↔ ((vertex ≢ game.now.graph.sink) × (times ≤ game.now.limit) × (in_degree game.now.graph vertex ≤ degree game.now.graph vertex) × (late_in_degree game.now.graph (slice_index order.now) vertex ≤ left)) }
+    ensures burnt { IsTrue result
+        ↔ ((vertex ≢ game.now.graph.sink) × (times ≤ game.now.limit)
+        × (in_degree game.now.graph vertex ≤ degree game.now.graph vertex)
+        × (late_in_degree game.now.graph (slice_index order.now) vertex ≤ left)) }
 {
     let graph = game.graph();
     let (all, late) = brought(graph, order, vertex);

@@ -35,7 +35,8 @@ impl From<AllocError> for AfterFault {
 /// Any counts may be asked for: nothing says that some firing sequence has them.
 pub fn after(alloc: Global, game: &Game, fired: &[u64]) -> Result<Vec<u64>, AfterFault>
     requires { length fired.now ≡ game.now.graph.vertices }
-    ensures { MatchResult result (λ chips. IsAfter game.now fired.now chips.items) (IsNegativeOrMemory game.now fired.now) }
+    ensures { MatchResult result (λ chips. IsAfter game.now fired.now chips.items)
+        (IsNegativeOrMemory game.now fired.now) }
 {
     let mut chips = vec![in alloc; 0; fired.len()]?;
     after_into(game, fired, &mut chips)?;
@@ -64,7 +65,10 @@ pub fn after_into(game: &Game, fired: &[u64], into: &mut [u64]) -> Result<(), Af
 fn first_negative(game: &Game, fired: &[u64]) -> Option<u64>
     requires { length fired.now ≡ game.now.graph.vertices }
     ensures game { IsGame game.now }
-    ensures least { MatchOption result ((v : ℕ) → v < game.now.graph.vertices → IsBelowZero game.now.graph (slice_index game.now.start) (slice_index fired.now) v → ⊥) (IsLeastBelowZero game.now.graph (slice_index game.now.start) (slice_index fired.now)) }
+    ensures least { MatchOption result
+        ((v : ℕ) → v < game.now.graph.vertices
+        → IsBelowZero game.now.graph (slice_index game.now.start) (slice_index fired.now) v → ⊥)
+        (IsLeastBelowZero game.now.graph (slice_index game.now.start) (slice_index fired.now)) }
 {
     for vertex in 0..game.graph().vertices() {
         let (had, spent) = had_and_spent(game, fired, vertex);

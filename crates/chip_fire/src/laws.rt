@@ -3,8 +3,10 @@
 //! They speak of any directed multigraph and any position, limit and firing sequence on it; where a
 //! law needs the global sink it says so. `docs/GAME.md` goes through them in this order.
 
-ghost use Rattle.chip_fire.specs.Triangle.{SmallTriangle, OneChipShort};
-ghost use Rattle.chip_fire.specs.Laws.{LegalVertices, PositionByCounts, Batch, Diamond, LeastAction, OneEnd, Continuation, ChipsAreKept, FiringBound, Enough, AbelianProperty, MoreChips, CertifiedCounts, BurntCounts, FiredBurn, ScriptCounts, PlayingOn, EndOfTheWay};
+ghost use Rattle.chip_fire.specs.Worked.{SmallTriangle, OneChipShort};
+ghost use Rattle.chip_fire.specs.Laws.{LegalVertices, PositionByCounts, Batch, Diamond, LeastAction, OneEnd};
+ghost use Rattle.chip_fire.specs.Laws.{Continuation, ChipsAreKept, FiringBound, Enough, AbelianProperty, MoreChips};
+ghost use Rattle.chip_fire.specs.Laws.{CertifiedCounts, BurntCounts, FiredBurn, ScriptCounts, PlayingOn, EndOfTheWay};
 ghost use Rattle.chip_fire.specs.Resume.{SittingsAddUp, PlayedIsSitting};
 
 /// The game on the smallest graph on which a vertex sends chips back, played by hand.

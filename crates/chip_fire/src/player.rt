@@ -59,8 +59,10 @@ pub(crate) fn round(
     requires { IsInRange graph.now limit chips.old fired.old }
     ensures in_range { IsInRange graph.now limit chips.new fired.new }
     ensures stays { StaysOnTheWay graph.now limit chips.old fired.old chips.new fired.new }
-    ensures some_fired { OnTrue result (firings_left graph.now limit fired.new < firings_left graph.now limit fired.old) }
-    ensures none_fired { OnFalse result ((v : ℕ) → IsLegal graph.now (slice_index chips.new) v → slice_index fired.new v ≡ limit) }
+    ensures some_fired { OnTrue result
+        (firings_left graph.now limit fired.new < firings_left graph.now limit fired.old) }
+    ensures none_fired { OnFalse result
+        ((v : ℕ) → IsLegal graph.now (slice_index chips.new) v → slice_index fired.new v ≡ limit) }
 {
     let even = sweep(graph, limit, 0, chips, fired, turns);
     let odd = sweep(graph, limit, 1, chips, fired, turns);
@@ -101,7 +103,8 @@ fn turn(graph: &Graph, limit: u64, vertex: u64, chips: &mut [u64], fired: &mut [
     ensures in_range { IsInRange graph.now limit chips.new fired.new }
     ensures stays { StaysOnTheWay graph.now limit chips.old fired.old chips.new fired.new }
     ensures fires { OnTrue result (firings_left graph.now limit fired.new < firings_left graph.now limit fired.old) }
-    ensures rests { OnFalse result ((chips.new ≡ chips.old) × (fired.new ≡ fired.old) × (IsLegal graph.now (slice_index chips.old) vertex → slice_index fired.old vertex ≡ limit)) }
+    ensures rests { OnFalse result ((chips.new ≡ chips.old) × (fired.new ≡ fired.old)
+        × (IsLegal graph.now (slice_index chips.old) vertex → slice_index fired.old vertex ≡ limit)) }
 {
     let v = vertex as usize;
     let degree = graph.out_degree(vertex);

@@ -86,9 +86,9 @@ impl From<GameFault> for ResumeFault {
 
 /// Plays on from where an earlier sitting ended, on the same graph, with a firing limit of this sitting's own.
 ///
-/// The sitting is `plain`'s on the chips that lie there, and what was fired before it is what was fired in all so far. So the
-/// counts of all sittings add up, and where the last one ends with no vertex legal they are those of a play that was never
-/// stopped.
+/// The sitting is `plain`'s on the chips that lie there, and what was fired before it is what was fired
+/// in all so far. So the counts of all sittings add up, and where the last one ends with no vertex legal
+/// they are those of a play that was never stopped.
 pub fn resume(
     alloc: Global,
     graph: Graph,
@@ -97,7 +97,8 @@ pub fn resume(
 ) -> Result<Resumed, ResumeFault>
     requires { IsResumed earlier.now }
     ensures answer { Resumes graph earlier.now limit result }
-    ensures goes_on { IfOk result (λ resumed. (x : ℕ → ℕ) → IsPlayFrom graph x earlier.now → IsPlayFrom graph x resumed) }
+    ensures goes_on { IfOk result
+        (λ resumed. (x : ℕ → ℕ) → IsPlayFrom graph x earlier.now → IsPlayFrom graph x resumed) }
 {
     let chips = &earlier.outcome.chips;
     if chips.len() as u64 != graph.vertices() {
@@ -113,7 +114,9 @@ pub fn resume(
 /// How often each vertex fired in all sittings so far, or the least vertex that did so too often.
 fn fired_so_far(alloc: Global, earlier: &Resumed) -> Result<Vec<u64>, ResumeFault>
     requires { IsResumed earlier.now }
-    ensures ok { IfOk result (λ sums. (length sums.items ≡ length earlier.now.prior.items) × ((v : ℕ) → v < length sums.items → (slice_index sums.items v ≡ fired_in_all earlier.now v) × (fired_in_all earlier.now v ≤ max_prior))) }
+    ensures ok { IfOk result (λ sums. (length sums.items ≡ length earlier.now.prior.items)
+        × ((v : ℕ) → v < length sums.items → (slice_index sums.items v ≡ fired_in_all earlier.now v)
+        × (fired_in_all earlier.now v ≤ max_prior))) }
     ensures err { IfErr result (λ fault. IsPriorFault earlier.now fault) }
 {
     let Resumed { outcome, prior } = earlier;

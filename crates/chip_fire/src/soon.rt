@@ -10,28 +10,51 @@ const FIRST_LOOKS: u64 = 16;
 /// How often the work doubles at most.
 const DOUBLINGS: u64 = 40;
 
+/// How many looks at each vertex and each edge out are so few that no counts are searched, which takes
+/// about as many.
+const FEW_LOOKS: u64 = 480;
+
 /// Plays for as long as this takes it soon to an end: each time with twice the work, while that halves
-/// the chips that wait to move. Whether the play has ended.
+/// the chips that wait to move or the limit leaves little to do. Whether the play has ended.
 pub(crate) fn ends_soon(graph: &Graph, limit: u64, chips: &mut [u64], fired: &mut [u64]) -> bool
     requires { IsInRange graph.now limit chips.old fired.old }
     ensures in_range { IsInRange graph.now limit chips.new fired.new }
     ensures stays { StaysOnTheWay graph.now limit chips.old fired.old chips.new fired.new }
 {
-    let looks = graph.vertices().saturating_add(graph.edges().len() as u64);
-    let mut work = looks.saturating_mul(FIRST_LOOKS);
+    let few = looks_at_all(graph).saturating_mul(FEW_LOOKS);
+    let mut work = looks_at_all(graph).saturating_mul(FIRST_LOOKS);
+    let mut done = 0u64;
     let mut waited = u64::MAX;
     'doublings: for _ in 0..DOUBLINGS {
         let waits = waiting(graph, limit, chips, fired);
-        if waits > waited / 2 {
+        if waits > waited / 2 && !leaves_little(limit, fired, done, few) {
             return false;
         }
         waited = waits;
         if ends_by(graph, limit, work, chips, fired) {
             return true;
         }
+        done = done.saturating_add(work);
         work = work.saturating_mul(2);
     }
     false
+}
+
+/// The work of looking at each vertex and each edge out once.
+pub(crate) fn looks_at_all(graph: &Graph) -> u64 {
+    graph.vertices().saturating_add(graph.edges().len() as u64)
+}
+
+/// Whether a play in which each vertex fires as often as the limit allows takes no more work than `few`,
+/// where so much was `done` for the firings so far.
+fn leaves_little(limit: u64, fired: &[u64], done: u64, few: u64) -> bool {
+    let mut firings = 0u64;
+    for times in fired {
+        firings = firings.saturating_add(*times);
+    }
+    let mean = firings / (fired.len() as u64).max(1);
+    let product = |a: u64, b: u64| u128::from(a).wrapping_mul(u128::from(b));
+    product(done, limit) <= product(few, mean)
 }
 
 /// The chips that legal vertices have above what they may keep, up to 2^64 - 1.
@@ -51,7 +74,13 @@ fn waiting(graph: &Graph, limit: u64, chips: &[u64], fired: &[u64]) -> u64
 
 /// Makes rounds until none fires a vertex or so much work is done, in vertices and edges looked at;
 /// whether none fires one.
-fn ends_by(graph: &Graph, limit: u64, work: u64, chips: &mut [u64], fired: &mut [u64]) -> bool
+pub(crate) fn ends_by(
+    graph: &Graph,
+    limit: u64,
+    work: u64,
+    chips: &mut [u64],
+    fired: &mut [u64],
+) -> bool
     requires { IsInRange graph.now limit chips.old fired.old }
     ensures in_range { IsInRange graph.now limit chips.new fired.new }
     ensures stays { StaysOnTheWay graph.now limit chips.old fired.old chips.new fired.new }

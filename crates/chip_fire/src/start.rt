@@ -1,11 +1,21 @@
-ghost use Rattle.std.specs.Prelude.{◌≡◌, length, IfOk};
-ghost use Rattle.chip_fire.specs.Rounds.{IsBegun};
+ghost use Rattle.std.specs.Prelude.{◌≡◌, length, IfOk, IfSome, OnOk};
+ghost use Rattle.chip_fire.specs.Rounds.{IsBegun, IsInRange, StaysOnTheWay};
 
 use crate::certificate::certified;
-use crate::soon::ends_soon;
+use crate::soon::{ends_by, ends_soon, looks_at_all};
 use chip_graph::Game;
-use chip_guess::guess;
+use chip_guess::{GuessedCounts, Search};
 use std::alloc::{AllocError, Global};
+
+/// How far the search of counts may be ahead of the play, in looks at each vertex and each edge out:
+/// about what the reading of the graph took.
+const AHEAD: u64 = 160;
+
+/// How long the search and the play go on in each of their turns, in such looks.
+const TURN: u64 = 16;
+
+/// How many turns the search is given: more than it ever needs.
+const TURNS: u64 = 1 << 20;
 
 /// The chips of each vertex and how often it has fired, with which a play begins: after some rounds,
 /// and where these have not ended it, at counts that are guessed and certified, if there are some.
@@ -18,22 +28,76 @@ pub(crate) fn start(alloc: Global, game: &Game) -> Result<(Vec<u64>, Vec<u64>), 
     if ends_soon(graph, game.limit(), &mut chips, &mut fired) {
         return Ok((chips, fired));
     }
-    jump(alloc, game, chips, fired)
+    by_turns(alloc, game, chips, fired)
 }
 
-/// Counts near to those of the end, and their position, where they are certified; else those given.
-fn jump(
+/// The chips and counts at which a play goes on once counts were searched: those found, or those to which
+/// the play has come meanwhile.
+fn by_turns(
     alloc: Global,
     game: &Game,
-    chips: Vec<u64>,
-    fired: Vec<u64>,
+    mut chips: Vec<u64>,
+    mut fired: Vec<u64>,
 ) -> Result<(Vec<u64>, Vec<u64>), AllocError>
     requires { IsBegun game.now chips.items fired.items }
     ensures { IfOk result (λ begun. IsBegun game.now begun.0.items begun.1.items) }
 {
-    let most = left(alloc, game.limit(), &fired)?;
-    let more = guess(alloc, game.graph(), &chips, &most)?;
-    let counts = added(alloc, &fired, &more.counts)?;
+    let before = Vec::from_slice(alloc, &fired)?;
+    let Some(more) = searched(alloc, game, &mut chips, &mut fired)? else {
+        return Ok((chips, fired));
+    };
+    jump(alloc, game, &before, &more, chips, fired)
+}
+
+/// Searches counts for the play from here on, while the play goes on: each has its turns, so that a search
+/// that takes long costs little more than the play. `None` where the play has ended first.
+fn searched(
+    alloc: Global,
+    game: &Game,
+    chips: &mut [u64],
+    fired: &mut [u64],
+) -> Result<Option<GuessedCounts>, AllocError>
+    requires { IsInRange game.now.graph game.now.limit chips.old fired.old }
+    ensures in_range { OnOk result (IsInRange game.now.graph game.now.limit chips.new fired.new) }
+    ensures stays { OnOk result
+        (StaysOnTheWay game.now.graph game.now.limit chips.old fired.old chips.new fired.new) }
+    ensures order_each { IfOk result
+        (λ found. IfSome found (λ more. length more.order.items ≡ game.now.graph.vertices)) }
+{
+    let graph = game.graph();
+    let start = Vec::from_slice(alloc, chips)?;
+    let most = left(alloc, game.limit(), fired)?;
+    let mut search = Search::new(alloc, graph, &start, &most)?;
+    let turn = looks_at_all(graph).saturating_mul(TURN);
+    let mut work = looks_at_all(graph).saturating_mul(AHEAD);
+    'turns: for _ in 0..TURNS {
+        if search.go_on(alloc, work)? {
+            break;
+        }
+        if ends_by(graph, game.limit(), turn, chips, fired) {
+            return Ok(None);
+        }
+        work = turn;
+    }
+    Ok(Some(search.found(alloc, &most)?))
+}
+
+/// Counts that come near to those of the end, and their position, where they are certified; else those given.
+///
+/// They are those of `before` and so many `more`, or the given ones where these are greater.
+fn jump(
+    alloc: Global,
+    game: &Game,
+    before: &[u64],
+    more: &GuessedCounts,
+    chips: Vec<u64>,
+    fired: Vec<u64>,
+) -> Result<(Vec<u64>, Vec<u64>), AllocError>
+    requires begun { IsBegun game.now chips.items fired.items }
+    requires order_each { length more.now.order.items ≡ game.now.graph.vertices }
+    ensures { IfOk result (λ begun. IsBegun game.now begun.0.items begun.1.items) }
+{
+    let counts = greater(alloc, &fired, before, &more.counts)?;
     if let Some(position) = certified(alloc, game, &fired, &counts, &more.order)? {
         return Ok((position, counts));
     }
@@ -51,14 +115,21 @@ fn left(alloc: Global, limit: u64, fired: &[u64]) -> Result<Vec<u64>, AllocError
     Ok(most)
 }
 
-/// The sums of two lists, up to 2^64 - 1 each; where the second has no number it counts as 0.
-fn added(alloc: Global, fired: &[u64], more: &[u64]) -> Result<Vec<u64>, AllocError>
+/// The sums of two lists, up to 2^64 - 1 each, or the numbers of the first list where these are greater;
+/// where the others have no number it counts as 0.
+fn greater(
+    alloc: Global,
+    fired: &[u64],
+    before: &[u64],
+    more: &[u64],
+) -> Result<Vec<u64>, AllocError>
     ensures { IfOk result (λ counts. length counts.items ≡ length fired.now) }
 {
     let mut counts = Vec::new(alloc);
     for (vertex, times) in fired.iter().enumerate() {
+        let before = before.get(vertex).copied().unwrap_or(0);
         let more = more.get(vertex).copied().unwrap_or(0);
-        counts.push(times.saturating_add(more))?;
+        counts.push(before.saturating_add(more).max(*times))?;
     }
     Ok(counts)
 }

@@ -193,7 +193,8 @@ fn firings(rt: HostRuntime) -> Result<(), Fail> {
     Ok(())
 }
 
-/// Goes on with a play on the triangle, and compares what the sitting fired, the chips at its end and what was fired before.
+/// Goes on with a play on the triangle, and compares what the sitting fired, the chips at its end and what was fired
+/// before.
 fn go_on(
     rt: &(impl AllocGlobal + Abort),
     earlier: &Resumed,

@@ -191,6 +191,11 @@ impl Level {
         Ok(level)
     }
 
+    /// How many vertices and links there are.
+    pub(crate) fn size(&self) -> u64 {
+        (self.nodes.len() as u64).saturating_add(self.links.len() as u64)
+    }
+
     /// One more vertex, with the links behind those of the last one.
     pub(crate) fn close_node(&mut self, degree: i64) -> Result<(), AllocError> {
         let first = self.nodes.last().map_or(0, |node| node.end);

@@ -5,7 +5,7 @@
 //! bounds where a proof would have to rule out what does not happen.
 #![tactic(auto)]
 
-pub use search::{GuessedCounts, guess};
+pub use search::{GuessedCounts, Search};
 
 mod cycle;
 mod level;

@@ -1,8 +1,12 @@
+use crate::target::Progress;
 use chip_graph::Graph;
 use std::alloc::{AllocError, Global};
 
 /// How often counts are lowered at most.
 const ROUNDS: u64 = 400;
+
+/// How often in a row no vertex may come back: that leaves nearly everything as it was.
+const BARREN: u64 = 16;
 
 /// What is known of a vertex while counts are lowered.
 #[derive(Clone, Copy, Debug)]
@@ -25,6 +29,10 @@ pub(crate) struct Settling<'a> {
     pub(crate) held: Vec<Held>,
     /// The vertices that may fire again, the last one next.
     waiting: Vec<u64>,
+    /// How often the counts were lowered.
+    rounds: u64,
+    /// How often in a row no vertex came back.
+    barren: u64,
 }
 
 impl<'a> Settling<'a> {
@@ -48,6 +56,8 @@ impl<'a> Settling<'a> {
             graph,
             held,
             waiting: Vec::new(alloc),
+            rounds: 0,
+            barren: 0,
         };
         for (vertex, count) in counts.iter().enumerate() {
             settling.fire(vertex as u64, *count);
@@ -73,27 +83,42 @@ impl<'a> Settling<'a> {
         }
     }
 
-    /// Lowers the counts until each vertex that fires gives one firing back and all of them come back,
-    /// one after the other: whether that was reached.
-    pub(crate) fn by_giving_back(&mut self) -> Result<bool, AllocError> {
-        for _ in 0..ROUNDS {
-            if self.give_back()? == 0 {
-                return Ok(true);
-            }
-        }
-        Ok(false)
+    /// Lowers the counts once, where they do not pass the test: on one-way graphs, that each vertex that
+    /// fires lacks one chip at most to fire once more; on others, that all of them give one firing back
+    /// and come back, one after the other.
+    pub(crate) fn lower(&mut self, one_way: bool) -> Result<Progress, AllocError> {
+        let (passed, is_barren) = if one_way {
+            (!self.earn_all(), false)
+        } else {
+            let (lent, missing) = self.give_back()?;
+            (missing == 0, missing == lent)
+        };
+        self.rounds = self.rounds.saturating_add(1);
+        self.barren = if is_barren {
+            self.barren.saturating_add(1)
+        } else {
+            0
+        };
+        Ok(if passed {
+            Progress::Near
+        } else if self.rounds >= ROUNDS || self.barren >= BARREN {
+            Progress::Far
+        } else {
+            Progress::Going
+        })
     }
 
     /// Takes one firing back from each vertex that fires, and lets those fire again that can, once: how
-    /// many do not.
-    fn give_back(&mut self) -> Result<u64, AllocError> {
+    /// many gave one back, and how many of them do not fire again.
+    fn give_back(&mut self) -> Result<(u64, u64), AllocError> {
         let vertices = self.graph.vertices();
-        let mut missing = 0u64;
+        let mut lent = 0u64;
         for vertex in 0..vertices {
             if self.lend(vertex) {
-                missing = missing.saturating_add(1);
+                lent = lent.saturating_add(1);
             }
         }
+        let mut missing = lent;
         for vertex in 0..vertices {
             self.look(vertex)?;
         }
@@ -104,7 +129,7 @@ impl<'a> Settling<'a> {
             missing = missing.saturating_sub(1);
             self.come_back(vertex, rank)?;
         }
-        Ok(missing)
+        Ok((lent, missing))
     }
 
     /// Takes a firing back, where the vertex fires; whether it does.
@@ -153,19 +178,14 @@ impl<'a> Settling<'a> {
         Ok(())
     }
 
-    /// Lowers the counts until each vertex that fires lacks one chip at most to fire once more: whether
-    /// that was reached.
-    pub(crate) fn by_earning(&mut self) -> bool {
-        for _ in 0..ROUNDS {
-            let mut any = false;
-            for vertex in 0..self.graph.vertices() {
-                any |= self.earn(vertex);
-            }
-            if !any {
-                return true;
-            }
+    /// Takes firings back from each vertex that fires and lacks more than a chip to fire once more; whether
+    /// there was any.
+    fn earn_all(&mut self) -> bool {
+        let mut any = false;
+        for vertex in 0..self.graph.vertices() {
+            any |= self.earn(vertex);
         }
-        false
+        any
     }
 
     /// Takes firings back from a vertex that fires and lacks more; whether it did.

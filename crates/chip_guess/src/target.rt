@@ -54,6 +54,11 @@ impl Precision {
         }
     }
 
+    /// Whether the unit is greater than that of the counts.
+    pub(crate) fn is_coarse(self) -> bool {
+        self.shift < 16
+    }
+
     /// How much finer 1/65536 is than the unit: by two to this power.
     fn finer(self) -> u32
         ensures { result ≤ 16 }
@@ -74,27 +79,8 @@ pub(crate) struct Sought<'a> {
 }
 
 impl Sought<'_> {
-    /// Makes cycles until the counts leave about as much as each vertex may keep; whether they came to that.
-    pub(crate) fn improve(
-        &mut self,
-        levels: &mut [Level],
-        density: Density,
-        precision: Precision,
-        stretch: Stretch,
-    ) -> bool {
-        let Some(game) = levels.first_mut() else {
-            return false;
-        };
-        self.begin(game, density, precision);
-        let close = converge(levels, precision, stretch);
-        if let Some(game) = levels.first() {
-            self.take(game, precision);
-        }
-        close
-    }
-
     /// Has the game begin at these counts, in its own unit.
-    fn begin(&self, game: &mut Level, density: Density, precision: Precision) {
+    pub(crate) fn begin(&self, game: &mut Level, density: Density, precision: Precision) {
         let fine = precision.finer();
         let cap = game.cap;
         let rows = self.counts.iter().zip(self.chips.iter().zip(self.most));
@@ -136,7 +122,7 @@ impl Sought<'_> {
     }
 
     /// Adds what the game has found.
-    fn take(&mut self, game: &Level, precision: Precision) {
+    pub(crate) fn take(&mut self, game: &Level, precision: Precision) {
         let scale = i128::from(65_536 / precision.unit.max(1));
         for ((sought, more), most) in self.counts.iter_mut().zip(&game.counts).zip(self.most) {
             let all = i128::from(*sought).wrapping_add(i128::from(*more).wrapping_mul(scale));
@@ -145,31 +131,62 @@ impl Sought<'_> {
     }
 }
 
-/// Makes cycles until little is left; false where 8 of them do not halve what is left, or 60 do not do.
-fn converge(levels: &mut [Level], precision: Precision, stretch: Stretch) -> bool {
-    let mut before = i128::MAX;
-    for tried in 0..60 {
+/// How far something has come that is made step by step.
+#[derive(Clone, Copy, Debug, PartialEq, Eq)]
+pub(crate) enum Progress {
+    /// It goes on.
+    Going,
+    /// It came to its end.
+    Near,
+    /// It will not come to its end soon.
+    Far,
+}
+
+/// Cycles that bring counts nearer to what is sought.
+#[derive(Clone, Copy, Debug)]
+pub(crate) struct Approach {
+    pub(crate) precision: Precision,
+    /// How many cycles were made.
+    cycles: u32,
+    /// What was left when it was last compared.
+    before: i128,
+}
+
+impl Approach {
+    /// Cycles of this precision, none made yet.
+    pub(crate) fn new(precision: Precision) -> Approach {
+        Approach {
+            precision,
+            cycles: 0,
+            before: i128::MAX,
+        }
+    }
+
+    /// Makes a cycle where more than little is left. The counts will not come near where 8 cycles do not
+    /// halve what is left, or 64 do not do.
+    pub(crate) fn advance(&mut self, levels: &mut [Level], stretch: Stretch) -> Progress {
         let Some(game) = levels.first_mut() else {
-            return false;
+            return Progress::Far;
         };
         let left = game.find_rests();
-        if left <= small(game, precision) {
-            return true;
+        if left <= small(game, self.precision) {
+            return Progress::Near;
         }
-        if tried % 8 == 0 {
-            if left > before / 2 {
-                return false;
+        if self.cycles % 8 == 0 {
+            if left > self.before / 2 || self.cycles >= 64 {
+                return Progress::Far;
             }
-            before = left;
+            self.before = left;
         }
+        self.cycles = self.cycles.saturating_add(1);
         cycle(levels, stretch);
         if stretch == Stretch::Balance {
             if let Some(game) = levels.first_mut() {
                 game.rescale();
             }
         }
+        Progress::Going
     }
-    false
 }
 
 /// What may be left of a game.

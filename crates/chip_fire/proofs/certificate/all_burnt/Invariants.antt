@@ -3,4 +3,5 @@ use Rattle.chip_fire.specs.Certificate.{IsBurnt}
 use Rattle.chip_fire.proofs.certificate.all_burnt.Given as goal
 
 abbrev pub invariant-loop-vertex : goal.invariant-loop-vertex
-invariant-loop-vertex l = (v : ℕ) → v < l.vertex → slice_index l.fired v < slice_index l.counts v → IsBurnt l.game.graph (slice_index l.game.start) l.game.limit (slice_index l.counts) (slice_index l.order) v
+invariant-loop-vertex l = (v : ℕ) → v < l.vertex → slice_index l.fired v < slice_index l.counts v
+    → IsBurnt l.game.graph (slice_index l.game.start) l.game.limit (slice_index l.counts) (slice_index l.order) v

@@ -3,4 +3,5 @@ use Rattle.chip_fire.specs.Certificate.{IsEarned}
 use Rattle.chip_fire.proofs.certificate.all_earned.Given as goal
 
 abbrev pub invariant-loop-vertex : goal.invariant-loop-vertex
-invariant-loop-vertex l = (v : ℕ) → v < l.vertex → slice_index l.fired v < slice_index l.counts v → IsEarned l.game.graph (slice_index l.game.start) l.game.limit (slice_index l.counts) v
+invariant-loop-vertex l = (v : ℕ) → v < l.vertex → slice_index l.fired v < slice_index l.counts v
+    → IsEarned l.game.graph (slice_index l.game.start) l.game.limit (slice_index l.counts) v

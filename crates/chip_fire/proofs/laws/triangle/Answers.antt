@@ -3,7 +3,28 @@ use Rattle.chip_fire.proofs.laws.triangle.Goals as goal
 
 pub returns-clause-small_triangle : goal.returns-clause-small_triangle
 returns-clause-small_triangle c = record {
-  sequence = (record { is_vertex = omega arith; not_sink = omega arith; enough_chips = omega arith }, (record { is_vertex = omega arith; not_sink = omega arith; enough_chips = omega arith }, (record { is_vertex = omega arith; not_sink = omega arith; enough_chips = omega arith }, tt)));
+  sequence = (
+    record {
+      is_vertex = omega arith;
+      not_sink = omega arith;
+      enough_chips = omega arith;
+    },
+    (
+      record {
+        is_vertex = omega arith;
+        not_sink = omega arith;
+        enough_chips = omega arith;
+      },
+      (
+        record {
+          is_vertex = omega arith;
+          not_sink = omega arith;
+          enough_chips = omega arith;
+        },
+        tt,
+      ),
+    ),
+  );
   counted = refl;
   position = refl;
   by_counts = refl;

@@ -4,4 +4,5 @@ use Rattle.chip_graph.specs.Multigraph.{degree}
 use Rattle.chip_fire.proofs.player.still_legal.Given as goal
 
 abbrev pub invariant-loop-vertex : goal.invariant-loop-vertex
-invariant-loop-vertex l = l.legal.items ≡ picked (λ v. not (v == l.graph.sink) && nat_le (degree l.graph v) (slice_index l.chips v)) l.vertex
+invariant-loop-vertex l =
+    l.legal.items ≡ picked (λ v. not (v == l.graph.sink) && nat_le (degree l.graph v) (slice_index l.chips v)) l.vertex

@@ -1,18 +1,10 @@
 -- The triangle, played by hand from two starts.
 use Rattle.std.specs.Prelude.{◌≡◌, ℕ, List, [], ◌∷◌, slice_index}
-use Rattle.chip_graph.specs.declared.edge.Edge.{Edge}
-use Rattle.chip_graph.specs.Multigraph.{Multigraph, degree}
+use Rattle.chip_graph.specs.Multigraph.{degree}
+use Rattle.chip_graph.specs.Worked.{triangle}
 use Rattle.chip_fire.specs.Firing.{legal_vertices}
 use Rattle.chip_fire.specs.Sequence.{position_after, IsFiringSequence, counts}
 use Rattle.chip_fire.specs.Counted.{position_by_counts}
-
--- an edge that brings one chip
-abbrev pub single : ℕ → ℕ → Edge
-single tail head = record { tail = tail; head = head; mult = 1 }
-
--- vertices 0 and 1 send a chip to each other and one to the sink, 2
-abbrev pub triangle : Multigraph
-triangle = record { vertices = 3; sink = 2; edges = single 0 1 ∷ single 0 2 ∷ single 1 0 ∷ single 1 2 ∷ [] }
 
 -- chips on the three vertices
 abbrev pub chips_on : ℕ → ℕ → ℕ → ℕ → ℕ

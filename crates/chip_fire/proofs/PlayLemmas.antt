@@ -22,15 +22,16 @@ use Rattle.chip_fire.specs.Firing.{IsLegal, legal_vertices}
 use Rattle.chip_fire.specs.Sequence.{position_after, counts, IsWholePlay}
 use Rattle.chip_fire.specs.Counted.{IsAfter}
 use Rattle.chip_fire.specs.Certificate.{AreForced, IsCertified, AreBurnt, IsOnTheWay}
-use Rattle.chip_fire.specs.Play.{IsPlayed}
+use Rattle.chip_fire.specs.Bound.{firing_bound, greatest_degree}
+use Rattle.chip_fire.specs.Play.{IsPlayed, IsEnough}
 use Rattle.chip_fire.specs.Rounds.{IsInRange, IsBegun, StaysOnTheWay, firings_left, IsSwept}
 use Rattle.chip_fire.proofs.FiringLemmas.{counts-replicate, batch}
 use Rattle.chip_fire.proofs.EndLemmas.{continued}
 use Rattle.chip_fire.proofs.CertificateLemmas.{certified_counts, led, on_the_way, start_on_the_way}
 use Rattle.chip_fire.proofs.CertificateLemmas.{same_way, playing_on, end_of_the_way, led_after}
-use Rattle.chip_fire.proofs.LegalLemmas.{picked_ascends}
+use Rattle.chip_fire.proofs.LegalLemmas.{picked_ascends, picked_none, legal_of_test}
 use Rattle.chip_fire.proofs.BurningLemmas.{burnt_counts}
-use Rattle.chip_fire.proofs.BoundLemmas.{led_total}
+use Rattle.chip_fire.proofs.BoundLemmas.{led_total, enough_law}
 
 -- ---- quotients
 
@@ -286,6 +287,25 @@ module _ (G : Multigraph) (limit : ℕ) (start chips fired : List ℕ) (ok : IsI
     over = over ∙ sym (ap (λ (l : List ℕ). legal_vertices G (slice_index l)) is_chips);
     sealed = sealed;
   }
+
+-- a limit that is enough stops no vertex
+pub not_stopped : (g : ChipGame) → IsGame g → (o : Outcome) → IsPlayed g o → IsEnough g → o.over.items ≡ []
+not_stopped g ok o is far =
+    let vs : List ℕ = is.ends.0 in
+    let whole = is.ends.1 in
+    let total : sum g.start ≡ sum_below g.graph.vertices (slice_index g.start) =
+    sum_by_place g.start ∙ ap (λ (n : ℕ). sum_below n (slice_index g.start)) ok.start_fits in
+    let low = subst (λ (n : ℕ). firing_bound n (greatest_degree g.graph) far.0 ≤ g.limit) total far.2 in
+    let ended = enough_law g.graph ok.graph_fits (slice_index g.start) far.0 far.1.greatest g.limit low vs whole in
+    is.over ∙ picked_none (λ v. not (eqb v g.graph.sink) && leb (degree g.graph v) (slice_index o.chips.items v))
+    g.graph.vertices
+    (λ v l on.
+    let can = legal_of_test g.graph (slice_index o.chips.items) v l on in
+    ended v (record {
+      is_vertex = l;
+      not_sink = can.not_sink;
+      enough_chips = subst (λ (n : ℕ). degree g.graph v ≤ n) (is.position vs whole v) can.enough_chips;
+    }))
 
 -- what was played can be reported
 pub outcome_is : (g : ChipGame) → IsGame g → (o : Outcome) → IsPlayed g o → IsOutcome o

@@ -4,6 +4,7 @@ use Rattle.chip_graph.specs.ChipGame.{ChipGame}
 use Rattle.chip_fire.specs.declared.outcome.Outcome.{Outcome}
 use Rattle.chip_fire.specs.Firing.{legal_vertices}
 use Rattle.chip_fire.specs.Sequence.{position_after, counts, IsWholePlay}
+use Rattle.chip_fire.specs.Bound.{IsGreatestDistance, greatest_degree, firing_bound}
 
 -- the outcome of a game within its limit: some whole play exists, and every one of them has these counts and ends with
 -- these chips
@@ -19,3 +20,8 @@ pub record IsPlayed (g : ChipGame) (o : Outcome) : Type 0 where
   pub kept : sum o.chips.items ≡ sum g.start
   pub over : o.over.items ≡ legal_vertices g.graph (slice_index o.chips.items)
   pub sealed : o.sealed.items ≡ []
+
+-- the limit is at least the firing bound at the greatest distance from the sink
+abbrev pub IsEnough : ChipGame → Type 0
+IsEnough g = (distance : ℕ) × IsGreatestDistance g.graph distance
+    × (firing_bound (sum g.start) (greatest_degree g.graph) distance ≤ g.limit)

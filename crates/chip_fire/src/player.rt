@@ -1,9 +1,9 @@
-ghost use Rattle.std.specs.Prelude.{◌≡◌, ℕ, ◌*◌, ◌<◌, ◌≤◌, ◌/◌, IfOk, length, slice_index};
+ghost use Rattle.std.specs.Prelude.{◌≡◌, ℕ, ◌*◌, ◌<◌, ◌≤◌, ◌/◌, IfOk, [], length, slice_index};
 ghost use Rattle.std.specs.Bool.{OnTrue, OnFalse};
 ghost use Rattle.chip_graph.specs.Multigraph.{degree};
 ghost use Rattle.chip_fire.specs.Firing.{IsLegal, legal_vertices};
 ghost use Rattle.chip_fire.specs.Outcomes.{IsOutcome};
-ghost use Rattle.chip_fire.specs.Play.{IsPlayed};
+ghost use Rattle.chip_fire.specs.Play.{IsPlayed, IsEnough};
 ghost use Rattle.chip_fire.specs.Rounds.{IsInRange, StaysOnTheWay, firings_left, IsSwept};
 
 use crate::firing::fire_batch;
@@ -20,6 +20,7 @@ use std::alloc::{AllocError, Global};
 pub fn plain(alloc: Global, game: &Game) -> Result<Outcome, AllocError>
     ensures played { IfOk result (IsPlayed game.now) }
     ensures in_range { IfOk result IsOutcome }
+    ensures not_stopped { IfOk result (λ outcome. IsEnough game.now → outcome.over.items ≡ []) }
 {
     let graph = game.graph();
     let (mut chips, mut fired) = start(alloc, game)?;

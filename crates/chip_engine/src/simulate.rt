@@ -81,8 +81,8 @@ fn scheduled(
         (λ made. made.1.items ≡ lines_text reply_text (replies_to (setting_of game.now ring) [] events.now)) }
 {
     let mut world = World::open(alloc, game, ring)?;
-    let record = world.run(alloc, events)?;
-    let lines = lines_of(alloc, &record.replies)?;
+    let replies = world.answer(alloc, events)?;
+    let lines = lines_of(alloc, &replies)?;
     Ok((world, lines.into_bytes()))
 }
 

@@ -1,5 +1,5 @@
 -- Turns, rounds and drives of a world.
-use Rattle.std.proofs.Common.{◌≡◌, ◌≢◌, ℕ, suc, ◌+◌, ◌<◌, ◌≤◌, List, [], ◌∷◌, ◌++◌, reverse, length, get_or, set, refl}
+use Rattle.std.proofs.Common.{◌≡◌, ◌≢◌, ℕ, suc, ◌<◌, List, [], ◌∷◌, ◌++◌, reverse, get_or, set, refl}
 use Rattle.std.proofs.Common.{sym, ap, ◌∙◌, subst, arith, length-set, get_or-set_same, get_or-set_other}
 use Rattle.std.specs.Bool.{⊤}
 use Rattle.std.proofs.lemmas.List.{append_assoc, reverse-append}
@@ -8,15 +8,14 @@ use native.Mathlib.Decide.{ℕ_discrete}
 use Rattle.chip_actor.specs.Setting.{Setting}
 use Rattle.chip_actor.specs.declared.cursor.Cursor.TheVariants as At
 use Rattle.chip_actor.specs.Edges.{root_edge}
-use Rattle.chip_actor.specs.Part.{deficit}
+use Rattle.chip_actor.specs.Root.{RootStandsFor}
 use Rattle.chip_actor.specs.Actor.{Actor, StandsFor, SomePart, WhateverPart}
 use Rattle.chip_actor.specs.Medium.{AreOf, Meets, MakesTurn, IsTurnMade}
-use Rattle.chip_actor.proofs.EdgeLemmas.{tail_root}
-use Rattle.chip_core.specs.Core.{Log, Step, Part, Settle, part_of, part_in, word_of_part, tail_of, root, step}
+use Rattle.chip_core.specs.Core.{Log, Step, Part, Settle, part_in, word_of_part, root, step}
 use Rattle.chip_core.specs.Core.{log_after}
 use Rattle.chip_core.proofs.LogLemmas.{part_else}
 use Rattle.chip_core.proofs.ReplyLemmas.{log_after-append}
-use Rattle.chip_world.specs.World.{WorldState, StandsForLog, IsActor, IsRoot}
+use Rattle.chip_world.specs.World.{WorldState, StandsForLog, IsActor}
 use Rattle.chip_world.specs.TurnWords.{TurnWords, Holds}
 use Rattle.chip_world.specs.Rounds.{IsTurnAfter, root_settles}
 
@@ -91,15 +90,7 @@ module _ (g : Setting) (log : Log) (w : WorldState) (stands : StandsForLog g log
                 });
             words_each = is.held.words_each;
             words = is.held.words;
-            root_keeps = record {
-              settled_each = stands.root_keeps.settled_each;
-              settled = λ u l. stands.root_keeps.settled u l
-                  ∙ sym (ap (λ (s : Part). (s.out (root_edge g u)).settled)
-                  (others (tail_of g (root_edge g u))
-                  (λ z. (let at = tail_root g (root_edge g u) (omega arith) in let l = inside in
-                  absurd (omega arith)))));
-              outstanding = stands.root_keeps.outstanding ∙ sym (ap (λ (s : Part). deficit g (root g) s) of_root);
-            };
+            root_stands = subst (λ (s : Part). RootStandsFor g s w.root) (sym of_root) stands.root_stands;
           },
           record { operations = more; are_turn = (made.1, is.is_turn); all_made = refl; all_fit = is.held.legal },
         )

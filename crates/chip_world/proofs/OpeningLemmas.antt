@@ -1,22 +1,20 @@
 -- A world that opens.
 use Rattle.std.proofs.Common.{◌≡◌, ◌≢◌, ℕ, ◌+◌, ◌-◌, ◌<◌, ◌≤◌, cond, eqb, ltb, List, [], ◌∷◌, ◌++◌, length, get_or, set}
-use Rattle.std.proofs.Common.{replicate, None, slice_index, refl, sym, ap, ◌∙◌, subst, arith, lt-ltb, le-ltb}
+use Rattle.std.proofs.Common.{replicate, None, refl, sym, ap, ◌∙◌, subst, arith, lt-ltb, le-ltb}
 use Rattle.std.proofs.Common.{length-set, false, get_or-set_same, get_or-set_other}
 use Rattle.std.proofs.lemmas.List.{get_or-replicate, get_or_past, get_or_push, get_or_append_left, length-replicate}
 use mathlib.Core.Logic.{dite}
 use native.Mathlib.Decide.{ℕ_discrete, dec_lt}
 use Rattle.chip_actor.specs.Setting.{Setting, game_of_setting, IsSetting}
-use Rattle.chip_graph.proofs.SumLemmas.{cond_yes, cond_no, cond_true, cond_false, sum_below_split, sum_below_none}
-use Rattle.chip_graph.proofs.SumLemmas.{sum_below_ext}
+use Rattle.chip_graph.proofs.SumLemmas.{cond_yes, cond_no, cond_true, cond_false}
 use Rattle.chip_link.specs.Link.{Shows}
 use Rattle.chip_link.proofs.Shown.{fresh_shows, first_shows}
-use Rattle.chip_actor.specs.Edges.{root_edge, start_of}
-use Rattle.chip_actor.specs.Part.{deficit, first_put, opened, outstanding}
-use Rattle.chip_actor.proofs.EdgeLemmas.{tail_root}
-use Rattle.chip_core.specs.Core.{tail_of, graph_edges, all_edges, root}
-use Rattle.chip_core.proofs.LogLemmas.{tail_inside}
+use Rattle.chip_actor.specs.Edges.{start_of}
+use Rattle.chip_actor.specs.Root.{RootStandsFor}
+use Rattle.chip_actor.specs.Part.{first_put, opened}
+use Rattle.chip_core.specs.Core.{graph_edges, all_edges}
 use Rattle.chip_world.specs.SharedWords.{opening_words}
-use Rattle.chip_world.specs.World.{WorldState, ShowsEdge, StandsForLog, first_chips, with_chips, AreOpeningWords}
+use Rattle.chip_world.specs.World.{WorldState, ShowsEdge, StandsForLog, first_chips, AreOpeningWords}
 use Rattle.chip_world.specs.World.{AreOpeningActors}
 
 -- one more element, and what holds of each
@@ -85,38 +83,9 @@ module _ (g : Setting) (is_setting : IsSetting g) where
     acknowledged = refl;
   }
 
-  one_each : (v : ℕ) → outstanding ((opened g).out (root_edge g v)) ≡ cond (eqb (start_of g v) 0) 0 1
-  one_each v =
-      let chips : first_chips (game_of_setting g) (root_edge g v)
-      ≡ start_of g v = cond_false (ltb (root_edge g v) (graph_edges g)) 0 _
-      (le-ltb (root_edge g v) (graph_edges g) (omega arith))
-      ∙ ap (start_of g) (let z : root_edge g v - graph_edges g ≡ v = omega arith in z) in
-      let put : first_put g (root_edge g v) ≡ cond (eqb (start_of g v) 0) [] (start_of g v ∷ []) =
-      first_put_is (root_edge g v) ∙ ap (λ (c : ℕ). cond (eqb c 0) [] (c ∷ [])) chips in
-      ap (λ (l : List ℕ). (length l + 0) - 0) put ∙ dite (ℕ_discrete (start_of g v) 0)
-      (λ z. ap (λ (l : List ℕ). (length l + 0) - 0) (cond_yes (start_of g v) 0 [] (start_of g v ∷ []) z)
-      ∙ sym (cond_yes (start_of g v) 0 0 1 z))
-      (λ z. ap (λ (l : List ℕ). (length l + 0) - 0) (cond_no (start_of g v) 0 [] (start_of g v ∷ []) z)
-      ∙ sym (cond_no (start_of g v) 0 0 1 z))
-
-  -- one message is outstanding on the root edge of each vertex that starts with chips
-  all_outstanding : with_chips (game_of_setting g) g.graph.vertices ≡ deficit g (root g) (opened g)
-  all_outstanding =
-      let f : ℕ → ℕ = λ e. cond (eqb (tail_of g e) (root g)) (outstanding ((opened g).out e)) 0 in
-      let parted = sum_below_split (graph_edges g) g.graph.vertices f in
-      let none = sum_below_none (graph_edges g) f
-      (λ e l. cond_no (tail_of g e) (root g) _ 0
-      (λ z. (let inside = tail_inside g is_setting.game e l in absurd (omega arith)))) in
-      let each = sum_below_ext g.graph.vertices (λ v. f (graph_edges g + v)) (λ v. cond (eqb (start_of g v) 0) 0 1)
-      (λ v l. cond_yes (tail_of g (root_edge g v)) (root g) _ 0 (tail_root g (root_edge g v) (omega arith))
-      ∙ one_each v) in
-      omega arith
-
   pub opens : (w : WorldState) → w.setting ≡ g → AreOpeningActors g g.graph.vertices w.actors
-      → AreOpeningWords g (all_edges g) w.words → w.root.settled ≡ replicate g.graph.vertices 0
-      → w.root.outstanding ≡ with_chips (game_of_setting g) g.graph.vertices
-      → StandsForLog g [] w
-  opens w setting actors words settled outstanding_is = record {
+      → AreOpeningWords g (all_edges g) w.words → RootStandsFor g (opened g) w.root → StandsForLog g [] w
+  opens w setting actors words root_stands = record {
     setting = setting;
     is_setting = is_setting;
     legal = tt;
@@ -124,9 +93,5 @@ module _ (g : Setting) (is_setting : IsSetting g) where
     actors = actors.each;
     words_each = words.count_is;
     words = λ e l d. subst (ShowsEdge g [] e) (sym (words.each e l d)) (edge_shown e);
-    root_keeps = record {
-      settled_each = ap (λ (l : List ℕ). length l) settled ∙ length-replicate g.graph.vertices 0;
-      settled = λ v l. ap (λ (s : List ℕ). slice_index s v) settled ∙ get_or-replicate g.graph.vertices v 0 0 l;
-      outstanding = outstanding_is ∙ all_outstanding;
-    };
+    root_stands = root_stands;
   }

@@ -1,32 +1,32 @@
 -- One step of a world.
-use Rattle.std.proofs.Common.{◌≡◌, ℕ, ◌+◌, ◌-◌, ◌<◌, ◌≤◌, true, false, cond, eqb, ltb, slice_index, lt-ltb, le-ltb}
-use Rattle.std.proofs.Common.{eq-eqb, List, ◌∷◌, length, get_or, set, Option, Some, None, Result, Ok, Err, refl, sym}
+use Rattle.std.proofs.Common.{◌≡◌, ◌≢◌, ℕ, ◌<◌, ◌≤◌, true, false, ltb, lt-ltb, le-ltb}
+use Rattle.std.proofs.Common.{List, ◌∷◌, length, get_or, set, Option, Some, None, Result, Ok, Err, refl, sym}
 use Rattle.std.proofs.Common.{ap, ◌∙◌, subst, arith, length-set, get_or-set_same, get_or-set_other, true≢false}
+use Rattle.std.proofs.lemmas.Bool.{leb-true, le-leb}
 use Rattle.std.specs.Bool.{⊤}
 use mathlib.Core.Logic.{dite}
 use native.Mathlib.Decide.{ℕ_discrete, dec_lt}
-use Rattle.chip_actor.specs.Setting.{Setting}
-use Rattle.chip_graph.proofs.SumLemmas.{tested_term, tested_move, cond_yes, cond_no, cond_true}
-use Rattle.chip_link.specs.Link.{claims_of}
+use Rattle.chip_actor.specs.Setting.{Setting, HasGame}
+use Rattle.chip_graph.proofs.SumLemmas.{cond_true}
 use Rattle.chip_link.specs.Words.{claims_in}
-use Rattle.chip_actor.specs.Edges.{root_edge}
-use Rattle.chip_actor.specs.Part.{deficit, outstanding}
 use Rattle.chip_actor.specs.declared.rule.Rule.TheVariants.{NoSuch}
 use Rattle.chip_actor.specs.declared.act.Act.{Act}
 use Rattle.chip_actor.specs.declared.act.Act.TheVariants as Do
 use Rattle.chip_actor.specs.declared.reply.Reply.TheVariants.{Done, NotNow}
 use Rattle.chip_actor.specs.Actor.{Actor, StandsFor, WhateverPart, SomePart}
-use Rattle.chip_actor.specs.Acting.{act_of, event_of, verdict, CanDo, IsDue, Makes}
+use Rattle.chip_actor.specs.Acting.{act_of, event_of, verdict, CanDo, FitsSeen, IsDue, Makes}
+use Rattle.chip_actor.specs.Root.{Root, RootStandsFor, WhateverRoot, SomeRoot, is_of_root, RootCanDo, RootMakes}
 use Rattle.chip_actor.proofs.EdgeLemmas.{tail_root}
+use Rattle.chip_actor.proofs.RuleLemmas.{rules_met}
 use Rattle.chip_core.specs.Core.{Log, Step, Event, Take, Ack, Fire, Clear, Claim, Put, Halt, Settle, Seal, Read, Part}
-use Rattle.chip_core.specs.Core.{Rule, Reply, unmet, part_of, does, reply_of, part_in, out_in, word_of_part, sees}
-use Rattle.chip_core.specs.Core.{answer, step, Fits, tail_of, graph_edges, all_edges, root, stopper}
-use Rattle.chip_core.proofs.LogLemmas.{part_here, part_else, settled_step, edge_counts}
+use Rattle.chip_core.specs.Core.{Rule, Reply, unmet, part_of, does, reply_of, part_in, word_of_part, sees}
+use Rattle.chip_core.specs.Core.{answer, step, Fits, IsLegalLog, tail_of, graph_edges, all_edges, root, stopper}
+use Rattle.chip_core.proofs.LogLemmas.{part_here, part_else, edge_counts}
 use Rattle.chip_world.specs.SharedWords.{EdgeState, words_of, changed, with_seal, seen_in, words_after, CanPerform}
 use Rattle.chip_world.specs.Makers.{vertex_of, is_of_others}
-use Rattle.chip_world.specs.World.{WorldState, RootState, ShowsEdge, IsActor, IsRoot, StandsForLog, IsDueFor}
+use Rattle.chip_world.specs.World.{WorldState, ShowsEdge, IsActor, StandsForLog, IsDueFor}
 use Rattle.chip_core.proofs.NumberLemmas.{fits_seen}
-use Rattle.chip_world.proofs.WordLemmas.{seal_shown, sees_seal, settle_shown, sees_settle, length-words_after}
+use Rattle.chip_world.proofs.WordLemmas.{seal_shown, sees_seal, root_shown, sees_settle, length-words_after}
 use Rattle.chip_world.proofs.WordLemmas.{can_perform, sees_words, words_shown}
 use Rattle.chip_world.proofs.VertexLemmas.{refused, passes, found}
 
@@ -70,6 +70,37 @@ not_of_others g v (Do.Halt by_limit) l at = refl
 not_of_others g v (Do.Ack e count) l at = refl
 not_of_others g v Do.End l at = absurd (omega arith)
 
+-- an event of the root is made by it
+made_by_root : (g : Setting) (x : Event) → is_of_root g x ≡ true → part_of g x ≡ root g
+made_by_root g (Settle e) is = tail_root g e (leb-true (graph_edges g) e is)
+made_by_root g (Read v) is = refl
+made_by_root g (Take e) is = absurd (true≢false (sym is))
+made_by_root g (Ack e) is = absurd (true≢false (sym is))
+made_by_root g (Fire v k) is = absurd (true≢false (sym is))
+made_by_root g (Clear e) is = absurd (true≢false (sym is))
+made_by_root g (Claim e) is = absurd (true≢false (sym is))
+made_by_root g (Put e) is = absurd (true≢false (sym is))
+made_by_root g (Halt v) is = absurd (true≢false (sym is))
+made_by_root g (Seal e) is = absurd (true≢false (sym is))
+
+-- and what it sees fits
+root_fits : (g : Setting) → HasGame g → 0 < g.ring → (log : Log) → IsLegalLog g log → (x : Event)
+    → is_of_root g x ≡ true → FitsSeen (part_in g log (root g)) x (sees g log x)
+root_fits g game some_ring log legal (Settle e) is =
+    let own : tail_of g e ≡ root g = tail_root g e (leb-true (graph_edges g) e is) in
+    let counts = edge_counts g game some_ring log legal e in
+    let c0 = counts.0 in let c1 = counts.1 in let c2 = counts.2 in let c3 = counts.3 in
+    subst (λ (p : ℕ). FitsSeen (part_in g log p) (Settle e) (sees g log (Settle e))) own (c0, omega arith)
+root_fits g game some_ring log legal (Read v) is = tt
+root_fits g game some_ring log legal (Take e) is = absurd (true≢false (sym is))
+root_fits g game some_ring log legal (Ack e) is = tt
+root_fits g game some_ring log legal (Fire v k) is = tt
+root_fits g game some_ring log legal (Clear e) is = tt
+root_fits g game some_ring log legal (Claim e) is = absurd (true≢false (sym is))
+root_fits g game some_ring log legal (Put e) is = tt
+root_fits g game some_ring log legal (Halt v) is = tt
+root_fits g game some_ring log legal (Seal e) is = tt
+
 module _ (g : Setting) (log : Log) (w : WorldState) (stands : StandsForLog g log w) where
   -- a rule isn't met, and nothing changes
   pub refuses : (x : Event) (rule : Rule) → unmet g x (part_in g log (part_of g x)) ≡ Some rule
@@ -91,17 +122,10 @@ module _ (g : Setting) (log : Log) (w : WorldState) (stands : StandsForLog g log
         ∙ ap (λ (o : Option Rule). (answer g log x o).1) (sym is),
   )
 
-  -- the root's part is as it was after an event of a vertex
-  root_stays : (x : Step) → part_of g x.event < g.graph.vertices → IsRoot g (x ∷ log) w.root
-  root_stays x vertex = record {
-    settled_each = stands.root_keeps.settled_each;
-    settled = λ v l. stands.root_keeps.settled v l
-        ∙ sym (ap (λ (s : Part). (s.out (root_edge g v)).settled)
-        (part_else g x log (tail_of g (root_edge g v))
-        (λ z. (let at = tail_root g (root_edge g v) (omega arith) in absurd (omega arith)))));
-    outstanding = stands.root_keeps.outstanding
-        ∙ sym (ap (λ (s : Part). deficit g (root g) s) (part_else g x log (root g) (λ z. absurd (omega arith))));
-  }
+  -- the root's part is as it was after an event of another
+  root_stays : (x : Step) → part_of g x.event ≢ root g → RootStandsFor g (part_in g (x ∷ log) (root g)) w.root
+  root_stays x other = subst (λ (s : Part). RootStandsFor g s w.root) (sym (part_else g x log (root g) other))
+      stands.root_stands
 
   -- ---- an event of a vertex
 
@@ -219,7 +243,8 @@ module _ (g : Setting) (log : Log) (w : WorldState) (stands : StandsForLog g log
             words = λ e l d. subst (λ (b : Act). ShowsEdge g (did ∷ log) e (get_or (words_after b w.words) e d)) due.1
                 (words_shown g stands.is_setting.game stands.is_setting.some_ring log stands.legal w.words
                 stands.words_each stands.words x mine_here due.0 e l d);
-            root_keeps = root_stays did (subst (λ (n : ℕ). n < g.graph.vertices) (sym is_due.mine) is_due.inside);
+            root_stands = root_stays did
+                (λ z. (let at = is_due.mine in let l = is_due.inside in absurd (omega arith)));
           } ((makes g s stands_part can_do).1 ∙ ap (λ (n : ℕ). reply_of g x n s) sees_it)
 
   -- an operation that `may` gave is due
@@ -272,10 +297,11 @@ module _ (g : Setting) (log : Log) (w : WorldState) (stands : StandsForLog g log
 
   -- the same world but for its words and its root
   others_stay : (x : Step) → g.graph.vertices ≤ part_of g x.event → Fits g log x
-      → (words : List EdgeState) (root : RootState) → length words ≡ all_edges g
+      → (words : List EdgeState) (now : Root) → length words ≡ all_edges g
       → ((e : ℕ) → e < all_edges g → (d : EdgeState) → ShowsEdge g (x ∷ log) e (get_or words e d))
-      → IsRoot g (x ∷ log) root → StandsForLog g (x ∷ log) (record w { words = words; root = root })
-  others_stay x past fits words root each shown keeps = record {
+      → RootStandsFor g (part_in g (x ∷ log) (root g)) now
+      → StandsForLog g (x ∷ log) (record w { words = words; root = now })
+  others_stay x past fits words now each shown keeps = record {
     setting = stands.setting;
     is_setting = stands.is_setting;
     legal = (stands.legal, fits);
@@ -283,7 +309,7 @@ module _ (g : Setting) (log : Log) (w : WorldState) (stands : StandsForLog g log
     actors = actors_stay x past;
     words_each = each;
     words = shown;
-    root_keeps = keeps;
+    root_stands = keeps;
   }
 
   pub seal_refuses : (e : ℕ) → graph_edges g ≤ e → StandsForLog g (step g log (Seal e)).0 w
@@ -301,151 +327,58 @@ module _ (g : Setting) (log : Log) (w : WorldState) (stands : StandsForLog g log
       accepts (Seal e) (record w { words = changed e with_seal w.words }) (Done claims) none
       (others_stay x (omega arith) (none, refl) (changed e with_seal w.words) w.root (length-set w.words e _
       ∙ stands.words_each) (seal_shown g stands.is_setting.game stands.is_setting.some_ring log stands.legal w.words
-      stands.words_each stands.words e l) record {
-        settled_each = stands.root_keeps.settled_each;
-        settled = λ v m. stands.root_keeps.settled v m ∙ sym (settled_step g x log (root_edge g v));
-        outstanding = stands.root_keeps.outstanding
-            ∙ sym (ap (deficit g (root g)) (part_else g x log (root g) (λ z. absurd (omega arith))));
-      })
+      stands.words_each stands.words e l) (root_stays x (λ z. absurd (omega arith))))
       (ap Done (told ∙ ap claims_in
       (sees_seal g stands.is_setting.game stands.is_setting.some_ring log stands.legal w.words stands.words_each
       stands.words e l)))
 
-  pub read_refuses : (v : ℕ) (rule : Rule) → unmet g (Read v) (part_in g log (root g)) ≡ Some rule
-      → StandsForLog g (step g log (Read v)).0 w × (NotNow rule ≡ (step g log (Read v)).1)
-  read_refuses v rule is = refuses (Read v) rule is
+  -- ---- the events of the root
 
-  -- ---- the settle of a root edge
+  module _ (x : Event) (of_root : is_of_root g x ≡ true) where
+    at_root : part_of g x ≡ root g
+    at_root = made_by_root g x of_root
 
-  module _ (v : ℕ) (l : v < g.graph.vertices) where
-    abbrev edge : ℕ
-    edge = root_edge g v
+    module _ (may : WhateverRoot w.root (λ g s. is_of_root g x ≡ true → None ≡ unmet g x s)) (seen : ℕ)
+        (sees_it : seen ≡ sees g log x) where
+      met : unmet g x (part_in g log (root g)) ≡ None
+      met = sym (may g _ stands.root_stands of_root)
 
-    own_edge : tail_of g edge ≡ root g
-    own_edge = tail_root g edge (omega arith)
+      can : RootCanDo g (part_in g log (root g)) x seen
+      can = (
+        of_root,
+        met,
+        subst (FitsSeen (part_in g log (root g)) x) (sym sees_it)
+            (root_fits g stands.is_setting.game stands.is_setting.some_ring log stands.legal x of_root),
+      )
 
-    abbrev word : ℕ
-    word = (words_of w.words edge).acknowledged
+      pub root_can : SomeRoot w.root (λ g s. RootCanDo g s x seen)
+      root_can = (g, part_in g log (root g), stands.root_stands, can)
 
-    abbrev settled : ℕ
-    settled = slice_index w.root.settled v
+      -- and so it makes the core's step
+      pub root_makes : (new : Root) (reply : Reply) → RootMakes w.root new x seen reply
+          → StandsForLog g (step g log x).0 (record w { root = new }) × (reply ≡ (step g log x).1)
+      root_makes new reply makes =
+          let did : Step = record { event = x; seen = sees g log x } in
+          let none : unmet g x (part_in g log (part_of g x)) ≡ None =
+          ap (λ (p : ℕ). unmet g x (part_in g log p)) at_root ∙ met in
+          let made = makes g (part_in g log (root g)) stands.root_stands can in
+          accepts x (record w { root = new }) reply none
+          (others_stay did (let at = at_root in omega arith) (none, refl) w.words new stands.words_each
+          (root_shown g stands.is_setting.game stands.is_setting.some_ring log stands.legal w.words stands.words_each
+          stands.words x of_root)
+          (subst (λ (s : Part). RootStandsFor g s new) (sym (part_here g did log (root g) at_root))
+          (subst (λ (n : ℕ). RootStandsFor g (does g (record { event = x; seen = n }) (part_in g log (root g))) new)
+          sees_it made.0)))
+          (made.1 ∙ ap (λ (n : ℕ). reply_of g x n (part_in g log (root g))) sees_it
+          ∙ ap (λ (p : ℕ). reply_of g x (sees g log x) (part_in g log p)) (sym at_root))
 
-    word_is : word ≡ sees g log (Settle edge)
-    word_is = sees_settle g stands.is_setting.game stands.is_setting.some_ring log stands.legal w.words
-        stands.words_each stands.words edge (omega arith)
+  -- what a settle of the root sees
+  module _ (e : ℕ) (past : graph_edges g ≤ e)
+      (may : WhateverRoot w.root (λ g s. is_of_root g (Settle e) ≡ true → None ≡ unmet g (Settle e) s)) where
+    settled_edge : e < all_edges g
+    settled_edge = rules_met g (Settle e) (part_in g log (root g))
+        (sym (may g _ stands.root_stands (le-leb (graph_edges g) e past)))
 
-    -- settled, acknowledged, sent
-    between : (settled ≤ word) × (word ≤ claims_of (out_in g log edge).link)
-    between =
-        let counts = edge_counts g stands.is_setting.game stands.is_setting.some_ring log stands.legal edge in
-        let c0 = counts.0 in let c1 = counts.1 in let c2 = counts.2 in let c3 = counts.3 in
-        let own = stands.root_keeps.settled v l in let is = word_is in
-        (omega arith, omega arith)
-
-    pub settle_word : settled ≤ word
-    settle_word = between.0
-
-    pub settle_few : word - settled ≤ w.root.outstanding
-    settle_few =
-        let term = tested_term (all_edges g) (λ e. eqb (tail_of g e) (root g))
-        (λ e. outstanding ((part_in g log (root g)).out e)) edge (omega arith) (eq-eqb _ _ own_edge) in
-        let here : outstanding ((part_in g log (root g)).out edge) ≡ outstanding (out_in g log edge) =
-        ap (λ (p : ℕ). outstanding ((part_in g log p).out edge)) (sym own_edge) in
-        let all = stands.root_keeps.outstanding in let own = stands.root_keeps.settled v l in let b0 = between.0 in
-        let b1 = between.1 in
-        omega arith
-
-    abbrev seen : ℕ
-    seen = sees g log (Settle edge)
-
-    abbrev settling : Step
-    settling = record { event = Settle edge; seen = seen }
-
-    met : unmet g (Settle edge) (part_in g log (tail_of g edge)) ≡ None
-    met = passes (ltb edge (all_edges g)) NoSuch None (lt-ltb edge (all_edges g) (omega arith))
-
-    -- what is settled on an edge after it
-    settled_then : (e : ℕ) → ℕ → ℕ
-    settled_then e n = cond (eqb edge e) (n + (seen - n)) n
-
-    settled_now : (u : ℕ) → u < g.graph.vertices → (settled' : List ℕ) → settled' ≡ set w.root.settled v word
-        → slice_index settled' u ≡ (out_in g (settling ∷ log) (root_edge g u)).settled
-    settled_now u m settled' is =
-        ap (λ (l : List ℕ). slice_index l u) is ∙ dite (ℕ_discrete u v)
-        (λ same.
-        let each = stands.root_keeps.settled_each in let own = stands.root_keeps.settled v l in let b0 = between.0 in
-        let told = word_is in
-        let at : edge ≡ root_edge g u = ap (root_edge g) (sym same) in
-        let was : ℕ = (out_in g log (root_edge g u)).settled in
-        let was_is : was ≡ (out_in g log edge).settled = ap (λ (e : ℕ). (out_in g log e).settled) (sym at) in
-        let all : was + (seen - was) ≡ word = omega arith in
-        ap (λ (n : ℕ). get_or (set w.root.settled v word) n 0) same
-        ∙ get_or-set_same w.root.settled v word 0 (omega arith) ∙ sym all
-        ∙ sym (cond_yes edge (root_edge g u) (was + (seen - was)) was at))
-        (λ other. get_or-set_other w.root.settled v u word 0 other ∙ stands.root_keeps.settled u m
-        ∙ sym (cond_no edge (root_edge g u) _ (out_in g log (root_edge g u)).settled
-        (λ z. other (let a : u ≡ v = omega arith in a))))
-        ∙ sym (settled_step g settling log (root_edge g u))
-
-    outstanding_now : (w.root.outstanding - (word - settled)) ≡ deficit g (root g) (part_in g (settling ∷ log) (root g))
-    outstanding_now =
-        let s : Part = part_in g log (root g) in
-        let new : Part = does g settling s in
-        let moved = tested_move (all_edges g) (λ e. eqb (tail_of g e) (root g)) (λ e. outstanding (new.out e))
-        (λ e. outstanding (s.out e)) edge (omega arith) (eq-eqb _ _ own_edge)
-        (λ e m other on. ap (λ (n : ℕ). claims_of (s.out e).link - n)
-        (cond_no edge e _ (s.out e).settled (λ z. other (sym z)))) in
-        let here : outstanding (new.out edge)
-        ≡ claims_of (s.out edge).link - ((s.out edge).settled + (seen - (s.out edge).settled)) =
-        ap (λ (n : ℕ). claims_of (s.out edge).link - n) (cond_yes edge edge _ (s.out edge).settled refl) in
-        let claims : claims_of (s.out edge).link ≡ claims_of (out_in g log edge).link =
-        ap (λ (p : ℕ). claims_of ((part_in g log p).out edge).link) (sym own_edge) in
-        let was : (s.out edge).settled ≡ (out_in g log edge).settled =
-        ap (λ (p : ℕ). ((part_in g log p).out edge).settled) (sym own_edge) in
-        let own = stands.root_keeps.settled v l in let all = stands.root_keeps.outstanding in let told = word_is in
-        let b0 = between.0 in let b1 = between.1 in let few = settle_few in
-        let after : w.root.outstanding - (word - settled) ≡ deficit g (root g) new = omega arith in
-        after ∙ sym (ap (deficit g (root g)) (part_here g settling log (root g) own_edge))
-
-    pub settle_makes : (more : ℕ) (r : RootState) → more ≡ word - settled → r.settled ≡ set w.root.settled v word
-        → r.outstanding ≡ w.root.outstanding - more
-        → StandsForLog g (step g log (Settle edge)).0 (record w { root = r })
-        × (Done more ≡ (step g log (Settle edge)).1)
-    settle_makes more r more_is settled_is outstanding_is =
-        accepts (Settle edge) (record w { root = r }) (Done more) met
-        (others_stay settling (let at = own_edge in omega arith) (met, refl) w.words r stands.words_each
-        (settle_shown g stands.is_setting.game stands.is_setting.some_ring log stands.legal w.words stands.words_each
-        stands.words edge) record {
-          settled_each = ap (λ (l : List ℕ). length l) settled_is ∙ length-set w.root.settled v word
-              ∙ stands.root_keeps.settled_each;
-          settled = λ u m. settled_now u m r.settled settled_is;
-          outstanding = outstanding_is ∙ ap (λ (n : ℕ). w.root.outstanding - n) more_is ∙ outstanding_now;
-        })
-        (ap Done (more_is ∙ (let own = stands.root_keeps.settled v l in let told = word_is in
-        let same : word - settled ≡ seen - (out_in g log edge).settled = omega arith in same)))
-
-  pub settle_refuses : (v : ℕ) → g.graph.vertices ≤ v → StandsForLog g (step g log (Settle (root_edge g v))).0 w
-      × (NotNow NoSuch ≡ (step g log (Settle (root_edge g v))).1)
-  settle_refuses v past = refuses (Settle (root_edge g v)) NoSuch
-      (refused (ltb (root_edge g v) (all_edges g)) NoSuch None (le-ltb (root_edge g v) (all_edges g) (omega arith)))
-
-  -- the same by the number of the edge
-  module _ (e v : ℕ) (at : e ≡ root_edge g v) (l : v < g.graph.vertices) (seen : ℕ)
-      (seen_is : seen ≡ (words_of w.words e).acknowledged) where
-    word_at : seen ≡ (words_of w.words (root_edge g v)).acknowledged
-    word_at = seen_is ∙ ap (λ (i : ℕ). (words_of w.words i).acknowledged) at
-
-    pub settle_word_at : slice_index w.root.settled v ≤ seen
-    settle_word_at = let is = word_at in let le = settle_word v l in omega arith
-
-    pub settle_few_at : seen - slice_index w.root.settled v ≤ w.root.outstanding
-    settle_few_at = let is = word_at in let le = settle_few v l in omega arith
-
-    pub settle_makes_at : (more : ℕ) (r : RootState) → more ≡ seen - slice_index w.root.settled v
-        → r.settled ≡ set w.root.settled v seen → r.outstanding ≡ w.root.outstanding - more
-        → StandsForLog g (step g log (Settle e)).0 (record w { root = r }) × (Done more ≡ (step g log (Settle e)).1)
-    settle_makes_at more r more_is settled_is outstanding_is =
-        subst (λ (i : ℕ). StandsForLog g (step g log (Settle i)).0 (record w { root = r })
-        × (Done more ≡ (step g log (Settle i)).1)) (sym at)
-        (settle_makes v l more r (more_is ∙ ap (λ (n : ℕ). n - slice_index w.root.settled v) word_at) (settled_is
-        ∙ ap (set w.root.settled v) word_at) outstanding_is)
+    pub settle_sees : (seen : ℕ) → seen ≡ (words_of w.words e).acknowledged → seen ≡ sees g log (Settle e)
+    settle_sees seen is = is ∙ sees_settle g stands.is_setting.game stands.is_setting.some_ring log stands.legal w.words
+        stands.words_each stands.words e settled_edge

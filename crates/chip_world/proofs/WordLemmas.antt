@@ -1,6 +1,6 @@
 -- The shared words of a world by its log: what an operation sees in them is what the core says, and what it leaves
 -- shows the longer log.
-use Rattle.std.proofs.Common.{◌≡◌, ◌≢◌, ℕ, ◌+◌, ◌-◌, ◌%◌, ◌^◌, ◌<◌, false, List, ◌∷◌, length, sum, get_or, set, Option}
+use Rattle.std.proofs.Common.{◌≡◌, ◌≢◌, ℕ, ◌+◌, ◌-◌, ◌%◌, ◌^◌, ◌<◌, true, false, List, ◌∷◌, length, sum, get_or, set, Option}
 use Rattle.std.proofs.Common.{Some, None, option_to_list, refl, sym, ap, ◌∙◌, subst, arith, length-set, zero-add}
 use Rattle.std.proofs.Common.{true≢false, get_or-set_same, get_or-set_other, bit_or}
 use Rattle.std.proofs.lemmas.Nat.{mod_below}
@@ -20,6 +20,7 @@ use Rattle.chip_actor.specs.Part.{may_ack}
 use Rattle.chip_actor.specs.Kept.{Met}
 use Rattle.chip_actor.specs.Steps.{link_after, got_after, acked_after, stop_after}
 use Rattle.chip_actor.specs.Acting.{act_of}
+use Rattle.chip_actor.specs.Root.{is_of_root}
 use Rattle.chip_actor.proofs.RuleLemmas.{rules_met}
 use Rattle.chip_core.specs.Core.{Log, Step, Event, Take, Ack, Fire, Clear, Claim, Put, Halt, Settle, Seal, Read, Part}
 use Rattle.chip_core.specs.Core.{Out, unmet, part_of, part_in, out_in, into_in, stop_in, word_of_part, sees, IsLegalLog}
@@ -306,19 +307,24 @@ module _ (g : Setting) (game : HasGame g) (some_ring : 0 < g.ring) (log : Log) (
     pub sees_seal : (e : ℕ) → e < graph_edges g → (words_of words e).word ≡ sees g log (Seal e)
     sees_seal e inside = (at e (omega arith)).shows.word_is
 
-    -- a settle and a read leave the words
-    pub settle_shown : (e : ℕ) → (i : ℕ) → i < all_edges g → (d : EdgeState)
-        → ShowsEdge g (record { event = Settle e; seen = sees g log (Settle e) } ∷ log) i (get_or words i d)
-    settle_shown e = same_words (Settle e) (sees g log (Settle e))
-        (λ i l w s. record { cells_each = s.cells_each; shows = s.shows; acknowledged = s.acknowledged })
-
     pub sees_settle : (e : ℕ) → e < all_edges g → (words_of words e).acknowledged ≡ sees g log (Settle e)
     sees_settle e l = (at e l).acknowledged
 
-    pub read_shown : (v : ℕ) → (i : ℕ) → i < all_edges g → (d : EdgeState)
-        → ShowsEdge g (record { event = Read v; seen = sees g log (Read v) } ∷ log) i (get_or words i d)
-    read_shown v = same_words (Read v) (sees g log (Read v))
+    -- an event of the root leaves the words
+    pub root_shown : (x : Event) → is_of_root g x ≡ true → (i : ℕ) → i < all_edges g → (d : EdgeState)
+        → ShowsEdge g (record { event = x; seen = sees g log x } ∷ log) i (get_or words i d)
+    root_shown (Settle e) is = same_words (Settle e) (sees g log (Settle e))
         (λ i l w s. record { cells_each = s.cells_each; shows = s.shows; acknowledged = s.acknowledged })
+    root_shown (Read v) is = same_words (Read v) (sees g log (Read v))
+        (λ i l w s. record { cells_each = s.cells_each; shows = s.shows; acknowledged = s.acknowledged })
+    root_shown (Take e) is = absurd (true≢false (sym is))
+    root_shown (Ack e) is = absurd (true≢false (sym is))
+    root_shown (Fire v k) is = absurd (true≢false (sym is))
+    root_shown (Clear e) is = absurd (true≢false (sym is))
+    root_shown (Claim e) is = absurd (true≢false (sym is))
+    root_shown (Put e) is = absurd (true≢false (sym is))
+    root_shown (Halt v) is = absurd (true≢false (sym is))
+    root_shown (Seal e) is = absurd (true≢false (sym is))
 
     -- the numbers that the words tell
     pub claims_told : (e : ℕ) → e < all_edges g → claims_in (words_of words e).word ≡ claims_of (out_in g log e).link

@@ -1,31 +1,23 @@
 -- A running world, and when it stands for a log of the core.
-use Rattle.std.specs.Prelude.{◌≡◌, ℕ, ◌-◌, ◌<◌, ◌==◌, nat_lt, if◌then◌else◌, List, [], length, slice_index}
+use Rattle.std.specs.Prelude.{◌≡◌, ℕ, ◌-◌, ◌<◌, nat_lt, if◌then◌else◌, List, [], length, slice_index}
 use Rattle.std.specs.Prelude.{slice_index_or, None}
 use Rattle.chip_graph.specs.ChipGame.{ChipGame}
 use Rattle.chip_actor.specs.Setting.{Setting, game_of_setting, IsSetting}
-use Rattle.chip_graph.specs.Sums.{sum_below}
 use Rattle.chip_link.specs.Link.{Shows}
-use Rattle.chip_actor.specs.Edges.{root_edge}
-use Rattle.chip_actor.specs.Part.{deficit}
 use Rattle.chip_actor.specs.Actor as vertex
+use Rattle.chip_actor.specs.Root.{Root, RootStandsFor}
 use Rattle.chip_actor.specs.declared.act.Act.{Act}
 use Rattle.chip_actor.specs.Acting.{act_of, event_of}
 use Rattle.chip_core.specs.Core.{Log, Event, Reply, unmet, part_of, part_in, out_in, into_in, stop_in, all_edges, root}
 use Rattle.chip_core.specs.Core.{IsLegalLog, step}
 use Rattle.chip_world.specs.SharedWords.{EdgeState, opening_words}
 
--- what the root keeps: by vertices, how many messages of the root edge are settled; and how many are outstanding on all
--- of them together
-pub record RootState : Type 0 where
-  pub settled : List ℕ
-  pub outstanding : ℕ
-
--- what a `World` shows: its setting, an actor for each vertex, the shared words of each edge, and what the root keeps
+-- what a `World` shows: its setting, an actor for each vertex, the shared words of each edge, and the root
 pub record WorldState : Type 0 where
   pub setting : Setting
   pub actors : List vertex.Actor
   pub words : List EdgeState
-  pub root : RootState
+  pub root : Root
 
 -- the words of the edge e are what this log makes of them
 pub record ShowsEdge (g : Setting) (log : Log) (e : ℕ) (w : EdgeState) : Type 0 where
@@ -38,12 +30,6 @@ pub record IsActor (g : Setting) (log : Log) (v : ℕ) (a : vertex.Actor) : Type
   pub vertex_is : a.vertex ≡ v
   pub stands : vertex.StandsFor g (part_in g log v) a
 
--- the root keeps what its part says
-pub record IsRoot (g : Setting) (log : Log) (r : RootState) : Type 0 where
-  pub settled_each : length r.settled ≡ g.graph.vertices
-  pub settled : (v : ℕ) → v < g.graph.vertices → slice_index r.settled v ≡ (out_in g log (root_edge g v)).settled
-  pub outstanding : r.outstanding ≡ deficit g (root g) (part_in g log (root g))
-
 -- the world is the one that this log leaves
 pub record StandsForLog (g : Setting) (log : Log) (w : WorldState) : Type 0 where
   pub setting : w.setting ≡ g
@@ -53,7 +39,7 @@ pub record StandsForLog (g : Setting) (log : Log) (w : WorldState) : Type 0 wher
   pub actors : (v : ℕ) → v < g.graph.vertices → (d : vertex.Actor) → IsActor g log v (slice_index_or w.actors v d)
   pub words_each : length w.words ≡ all_edges g
   pub words : (e : ℕ) → e < all_edges g → (d : EdgeState) → ShowsEdge g log e (slice_index_or w.words e d)
-  pub root_keeps : IsRoot g log w.root
+  pub root_stands : RootStandsFor g (part_in g log (root g)) w.root
 
 -- some log leaves it
 abbrev pub SomeLog : WorldState → Type 0
@@ -97,7 +83,3 @@ pub record AreOpeningWords (g : Setting) (count : ℕ) (words : List EdgeState) 
 pub record AreOpeningActors (g : Setting) (count : ℕ) (actors : List vertex.Actor) : Type 0 where
   pub count_is : length actors ≡ count
   pub each : (v : ℕ) → v < count → (d : vertex.Actor) → IsActor g [] v (slice_index_or actors v d)
-
--- how many of the first vertices start with chips
-abbrev pub with_chips : ChipGame → ℕ → ℕ
-with_chips game count = sum_below count (λ v. if slice_index game.start v == 0 then 0 else 1)

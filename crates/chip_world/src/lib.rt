@@ -8,7 +8,6 @@
 mod fault;
 mod lanes;
 pub mod laws;
-mod root;
 #[cfg(test)]
 mod tests;
 mod turn_words;

@@ -5,10 +5,9 @@ mod driving;
 mod outcome;
 mod running;
 
-use crate::root::Root;
 use crate::turn_words::TurnWords;
 use crate::words::{Words, stored_by};
-use chip_actor::{Act, ActorState, Cause, Observed, Reply, Rule};
+use chip_actor::{Act, ActorState, Cause, Observed, Reply, RootState, Rule};
 use chip_graph::Game;
 use chip_link::{EdgeWord, Event, FiredWord, Message, Ring};
 pub use driving::Drive;
@@ -25,7 +24,7 @@ pub struct World {
     ring: Ring,
     actors: Vec<ActorState>,
     shared: TurnWords,
-    root: Root,
+    root: RootState,
 }
 
 impl Model for World {
@@ -68,7 +67,7 @@ impl World {
     {
         let actors = opening_actors(alloc, game, ring)?;
         let words = Words::new(alloc, game, ring)?;
-        let root = Root::new(alloc, game)?;
+        let root = RootState::new(alloc, game)?;
         Ok(World {
             game: game.copy(alloc)?,
             ring,
@@ -239,26 +238,24 @@ impl World {
         requires { graph_edges self.old.setting ≤ edge }
         ensures { Steps self.old self.new (Settle edge) result }
     {
-        let graph = self.game.graph();
-        let vertex = edge - graph.edges().len() as u64;
-        if vertex >= graph.vertices() {
-            return Reply::NotNow(Rule::NoSuch);
+        let event = Event::Settle(edge);
+        if let Some(rule) = self.root.may(&event) {
+            return Reply::NotNow(rule);
         }
         let word = self.shared.words.acknowledged(edge);
-        Reply::Done(self.root.settle(vertex, word))
+        self.root.apply(&event, word)
     }
 
     // The root reads how often this vertex fired.
-    fn read(&self, vertex: u64) -> Reply
-        ensures { Steps self.now self.now (Read vertex) result }
+    fn read(&mut self, vertex: u64) -> Reply
+        ensures { Steps self.old self.new (Read vertex) result }
     {
-        if vertex >= self.game.graph().vertices() {
-            return Reply::NotNow(Rule::NoSuch);
+        let event = Event::Read(vertex);
+        if let Some(rule) = self.root.may(&event) {
+            return Reply::NotNow(rule);
         }
-        if !self.root.closed() {
-            return Reply::NotNow(Rule::NotClosed);
-        }
-        Reply::Done(self.actors[vertex as usize].fired())
+        let fired = fired_word(&self.actors[vertex as usize]);
+        self.root.apply(&event, fired)
     }
 
     /// Makes one event, or answers the first of its rules that isn't met; in time linear in the edges of its vertex at
@@ -279,7 +276,7 @@ impl World {
     pub fn closed(&self) -> bool
         ensures { WhateverLog self.now (λ g log. IsTrue result ↔ IsClosed g log) }
     {
-        self.root.closed()
+        self.root.outstanding() == 0
     }
 
     /// How many messages were sent on this edge; root edges come after the graph's.

@@ -5,10 +5,9 @@ use Rattle.chip_world.proofs.world.World.closed.Goals as goal
 
 pub returns : goal.returns
 returns c = λ g log stands.
-    let keeps = (subst (StandsForLog g log) (sym c.self.view_is) stands).root_keeps in
+    let root = (subst (StandsForLog g log) (sym c.self.view_is) stands).root_stands in
+    let left = c.outstanding.ensures g _ root in
     let by_deficit = closed_is g log in (
-      λ yes. by_deficit.0 (sym keeps.outstanding
-          ∙ eqb-true c.self.inside.root.outstanding 0 (sym c.closed.ensures ∙ yes)),
-      λ all. c.closed.ensures
-          ∙ eq-eqb c.self.inside.root.outstanding 0 (keeps.outstanding ∙ by_deficit.1 all),
+      λ yes. by_deficit.0 (sym left ∙ eqb-true c.outstanding.result 0 yes),
+      λ all. eq-eqb c.outstanding.result 0 (left ∙ by_deficit.1 all),
     )

@@ -21,7 +21,7 @@ opened c =
       root = c.in_ok-root.root;
     } in w)
     (ap (λ (game : ChipGame). setting_of game c.args.ring) c.in_ok-copy.ensures) c.in_ok-actors.ensures.actors
-    c.in_ok-words.ensures c.in_ok-root.ensures.settled c.in_ok-root.ensures.outstanding
+    c.in_ok-words.ensures (c.in_ok-root.ensures c.args.ring)
 
 pub invariant_of-result : goal.invariant_of-result
 invariant_of-result c = (setting_of c.args.game.now c.args.ring, [], opened c)

@@ -24,7 +24,11 @@ impl Model for RootState {
 
     ghost Value = { Root };
 
-    ghost view = { λ a. record { graph_edges = a.graph_edges; settled = a.settled.items; outstanding = a.outstanding } };
+    ghost view = { λ a. record {
+      graph_edges = a.graph_edges;
+      settled = a.settled.items;
+      outstanding = a.outstanding;
+    } };
 
     ghost invariant = { λ a. (a.graph_edges ≤ max_edges) × (vec_len a.settled ≤ max_vertices) };
 }

@@ -1,5 +1,6 @@
 -- From the parts of an engine to its whole.
-use Rattle.std.proofs.Common.{◌≡◌, ◌⊎◌, ℕ, ◌^◌, ◌==◌, nat_le, Bool, true, false, List, length, sum, Option, Some, None, Result, Ok, Err, refl, subst, inl, inr}
+use Rattle.std.proofs.Common.{◌≡◌, ◌⊎◌, ℕ, ◌^◌, ◌==◌, nat_le, Bool, true, false, List, length, sum, Option, Some, None}
+use Rattle.std.proofs.Common.{Result, Ok, Err, refl, subst, inl, inr}
 use Rattle.std.proofs.lemmas.Bool.{eqb-true, leb-true}
 use Rattle.std.specs.Option.{IfSome}
 use Rattle.std.specs.Result.{IsErrAnd}
@@ -36,7 +37,9 @@ at_some P None x is known = cc
 at_some P (Some y) x is known = let same : y ≡ x = cc in subst P same known
 
 -- inputs that are refused make no game
-pub refused_game : (graph_text chips_text : List ℕ) (limit : ℕ) (result : Result ChipGame Fault) (P : Fault → Type 0) → IsErrAnd result P → ((fault : Fault) → P fault → RefusesInputs graph_text chips_text limit fault) → GivesGame graph_text chips_text limit result
+pub refused_game : (graph_text chips_text : List ℕ) (limit : ℕ) (result : Result ChipGame Fault) (P : Fault → Type 0)
+    → IsErrAnd result P → ((fault : Fault) → P fault → RefusesInputs graph_text chips_text limit fault)
+    → GivesGame graph_text chips_text limit result
 refused_game graph_text chips_text limit (Ok g) P is why = absurd is
 refused_game graph_text chips_text limit (Err fault) P is why = why fault is
 
@@ -65,8 +68,10 @@ is_game g graph none =
     }
 
 -- the numbers of a game that a graph, chips and a limit name
-pub named_game : (graph_text chips_text : List ℕ) (limit : ℕ) (g : ChipGame) (vertices : ℕ) → vertices ≡ g.graph.vertices
-    → Reads graph_text (MeansGraph graph_text g.graph) → Reads chips_text (chips_of_text vertices chips_text ≡ Some g.start)
+pub named_game : (graph_text chips_text : List ℕ) (limit : ℕ) (g : ChipGame) (vertices : ℕ)
+    → vertices ≡ g.graph.vertices
+    → Reads graph_text (MeansGraph graph_text g.graph)
+    → Reads chips_text (chips_of_text vertices chips_text ≡ Some g.start)
     → g.limit ≡ limit → NamesGame graph_text chips_text limit g
 named_game graph_text chips_text limit g vertices same graph start limited = record {
   graph = graph;
@@ -87,56 +92,101 @@ Keeps-same None = tt
 Keeps-same (Some bytes) = refl
 
 -- inputs that are refused, and nothing is written
-pub refused_plain : (graph_text chips_text : List ℕ) (limit : ℕ) (known : Option (List ℕ)) (result : Result Ended Fault) (P : Fault → Type 0) → IsErrAnd result P → ((fault : Fault) → P fault → RefusesInputs graph_text chips_text limit fault ⊎ (fault ≡ NoMemory)) → PlainAnswers graph_text chips_text limit known known result
+pub refused_plain : (graph_text chips_text : List ℕ) (limit : ℕ) (known : Option (List ℕ)) (result : Result Ended Fault)
+    (P : Fault → Type 0) → IsErrAnd result P
+    → ((fault : Fault) → P fault → RefusesInputs graph_text chips_text limit fault ⊎ (fault ≡ NoMemory))
+    → PlainAnswers graph_text chips_text limit known known result
 refused_plain graph_text chips_text limit known (Ok ended) P is why = absurd is
 refused_plain graph_text chips_text limit known (Err fault) P is why = inl (why fault is, Keeps-same known)
 
 -- an output that failed
-pub failed_plain : (graph_text chips_text : List ℕ) (limit : ℕ) (old new : Option (List ℕ)) (result : Result Ended Fault) (P : Fault → Type 0) → IsErrAnd result P → (g : ChipGame) → MeansGame graph_text chips_text limit g → (text : List ℕ) (status : ℕ) → Reports g text status → (w : WriteFault) → ((fault : Fault) → P fault → fault ≡ Write w) → WritesAll old new text (Err w) → PlainAnswers graph_text chips_text limit old new result
+pub failed_plain : (graph_text chips_text : List ℕ) (limit : ℕ) (old new : Option (List ℕ))
+    (result : Result Ended Fault) (P : Fault → Type 0) → IsErrAnd result P → (g : ChipGame)
+    → MeansGame graph_text chips_text limit g → (text : List ℕ) (status : ℕ) → Reports g text status → (w : WriteFault)
+    → ((fault : Fault) → P fault → fault ≡ Write w) → WritesAll old new text (Err w)
+    → PlainAnswers graph_text chips_text limit old new result
 failed_plain graph_text chips_text limit old new (Ok ended) P is g means text status reports w why wrote = absurd is
-failed_plain graph_text chips_text limit old new (Err fault) P is g means text status reports w why wrote = inr (g, means, text, status, reports, w, why fault is, wrote)
+failed_plain graph_text chips_text limit old new (Err fault) P is g means text status reports w why wrote =
+    inr (g, means, text, status, reports, w, why fault is, wrote)
 
 -- the same of `check`
-pub refused_check : (text : List ℕ) (known : Option (List ℕ)) (result : Result Ended Fault) (P : Fault → Type 0) → IsErrAnd result P → ((fault : Fault) → P fault → RefusesText text (IsGraphTextFault text) fault ⊎ (fault ≡ NoMemory)) → CheckAnswers text known known result
+pub refused_check : (text : List ℕ) (known : Option (List ℕ)) (result : Result Ended Fault) (P : Fault → Type 0)
+    → IsErrAnd result P → ((fault : Fault) → P fault → RefusesText text (IsGraphTextFault text) fault
+    ⊎ (fault ≡ NoMemory)) → CheckAnswers text known known result
 refused_check text known (Ok ended) P is why = absurd is
 refused_check text known (Err fault) P is why = inl (why fault is, Keeps-same known)
 
-pub failed_check : (text : List ℕ) (old new : Option (List ℕ)) (result : Result Ended Fault) (P : Fault → Type 0) → IsErrAnd result P → (G : Multigraph) → Reads text (MeansGraph text G) → (lines : List ℕ) → IsShown G lines → (w : WriteFault) → ((fault : Fault) → P fault → fault ≡ Write w) → WritesAll old new lines (Err w) → CheckAnswers text old new result
+pub failed_check : (text : List ℕ) (old new : Option (List ℕ)) (result : Result Ended Fault) (P : Fault → Type 0)
+    → IsErrAnd result P → (G : Multigraph) → Reads text (MeansGraph text G) → (lines : List ℕ) → IsShown G lines
+    → (w : WriteFault) → ((fault : Fault) → P fault → fault ≡ Write w) → WritesAll old new lines (Err w)
+    → CheckAnswers text old new result
 failed_check text old new (Ok ended) P is G means lines shown w why wrote = absurd is
-failed_check text old new (Err fault) P is G means lines shown w why wrote = inr (G, lines, means, shown, w, why fault is, wrote)
+failed_check text old new (Err fault) P is G means lines shown w why wrote =
+    inr (G, lines, means, shown, w, why fault is, wrote)
 
 -- the same of `replay`
-pub refused_replay : (graph_text chips_text trace_text : List ℕ) (limit : ℕ) (known : Option (List ℕ)) (result : Result Ended Fault) (P : Fault → Type 0) → IsErrAnd result P → ((fault : Fault) → P fault → RefusesTraces graph_text chips_text trace_text limit fault ⊎ (fault ≡ NoMemory)) → ReplayAnswers graph_text chips_text trace_text limit known known result
+pub refused_replay : (graph_text chips_text trace_text : List ℕ) (limit : ℕ) (known : Option (List ℕ))
+    (result : Result Ended Fault) (P : Fault → Type 0) → IsErrAnd result P
+    → ((fault : Fault) → P fault → RefusesTraces graph_text chips_text trace_text limit fault ⊎ (fault ≡ NoMemory))
+    → ReplayAnswers graph_text chips_text trace_text limit known known result
 refused_replay graph_text chips_text trace_text limit known (Ok ended) P is why = absurd is
 refused_replay graph_text chips_text trace_text limit known (Err fault) P is why = inl (why fault is, Keeps-same known)
 
-pub failed_replay : (graph_text chips_text trace_text : List ℕ) (limit : ℕ) (old new : Option (List ℕ)) (result : Result Ended Fault) (P : Fault → Type 0) → IsErrAnd result P → (g : ChipGame) (traces : List (List TraceRow)) → MeansTraces graph_text chips_text trace_text limit g traces → (lines : List ℕ) → AreReplayed g traces lines → (w : WriteFault) → ((fault : Fault) → P fault → fault ≡ Write w) → WritesAll old new lines (Err w) → ReplayAnswers graph_text chips_text trace_text limit old new result
-failed_replay graph_text chips_text trace_text limit old new (Ok ended) P is g traces means lines replayed w why wrote = absurd is
-failed_replay graph_text chips_text trace_text limit old new (Err fault) P is g traces means lines replayed w why wrote = inr (g, traces, means, lines, replayed, w, why fault is, wrote)
+pub failed_replay : (graph_text chips_text trace_text : List ℕ) (limit : ℕ) (old new : Option (List ℕ))
+    (result : Result Ended Fault) (P : Fault → Type 0) → IsErrAnd result P
+    → (g : ChipGame) (traces : List (List TraceRow)) → MeansTraces graph_text chips_text trace_text limit g traces
+    → (lines : List ℕ) → AreReplayed g traces lines → (w : WriteFault) → ((fault : Fault) → P fault → fault ≡ Write w)
+    → WritesAll old new lines (Err w) → ReplayAnswers graph_text chips_text trace_text limit old new result
+failed_replay graph_text chips_text trace_text limit old new (Ok ended) P is g traces means lines replayed w why wrote =
+    absurd is
+failed_replay graph_text chips_text trace_text limit old new (Err fault) P is g traces means lines replayed w why wrote
+    = inr (g, traces, means, lines, replayed, w, why fault is, wrote)
 
 -- what a replay refuses is why nothing is replayed
-pub refused_stuck : (graph_text chips_text trace_text : List ℕ) (limit : ℕ) (g : ChipGame) (traces : List (List TraceRow)) → MeansTraces graph_text chips_text trace_text limit g traces → (f : ReplayFault) → IsReplayFault g traces f → (fault : Fault) → fault ≡ fault_of_replay f → RefusesTraces graph_text chips_text trace_text limit fault ⊎ (fault ≡ NoMemory)
-refused_stuck graph_text chips_text trace_text limit g traces means (replay_fault.Stuck vertex row) stuck fault is = inl (inr (inr (g, traces, means, vertex, row, is, stuck)))
+pub refused_stuck : (graph_text chips_text trace_text : List ℕ) (limit : ℕ) (g : ChipGame)
+    (traces : List (List TraceRow)) → MeansTraces graph_text chips_text trace_text limit g traces → (f : ReplayFault)
+    → IsReplayFault g traces f → (fault : Fault) → fault ≡ fault_of_replay f
+    → RefusesTraces graph_text chips_text trace_text limit fault ⊎ (fault ≡ NoMemory)
+refused_stuck graph_text chips_text trace_text limit g traces means (replay_fault.Stuck vertex row) stuck fault is =
+    inl (inr (inr (g, traces, means, vertex, row, is, stuck)))
 refused_stuck graph_text chips_text trace_text limit g traces means replay_fault.NoMemory stuck fault is = inr is
 
 -- the traces of a game that the texts mean
-pub means_traces : (graph_text chips_text trace_text : List ℕ) (limit : ℕ) (g : ChipGame) (traces : List (List TraceRow)) (G : Multigraph) → G ≡ g.graph → MeansGame graph_text chips_text limit g → Reads trace_text (traces_of_text G trace_text ≡ Some traces) → MeansTraces graph_text chips_text trace_text limit g traces
+pub means_traces : (graph_text chips_text trace_text : List ℕ) (limit : ℕ) (g : ChipGame)
+    (traces : List (List TraceRow)) (G : Multigraph) → G ≡ g.graph → MeansGame graph_text chips_text limit g
+    → Reads trace_text (traces_of_text G trace_text ≡ Some traces)
+    → MeansTraces graph_text chips_text trace_text limit g traces
 means_traces graph_text chips_text trace_text limit g traces G same game each = record {
   game = game;
   each = subst (λ (G : Multigraph). Reads trace_text (traces_of_text G trace_text ≡ Some traces)) same each;
 }
 
 -- the same of `simulate`
-pub refused_simulate : (graph_text chips_text schedule_text : List ℕ) (limit ring rounds : ℕ) (known : Option (List ℕ)) (result : Result Ended Fault) (P : Fault → Type 0) → IsErrAnd result P → ((fault : Fault) → P fault → RefusesEvents graph_text chips_text schedule_text limit fault ⊎ (fault ≡ NoMemory)) → SimulateAnswers graph_text chips_text schedule_text limit ring rounds known known result
+pub refused_simulate : (graph_text chips_text schedule_text : List ℕ) (limit ring rounds : ℕ) (known : Option (List ℕ))
+    (result : Result Ended Fault) (P : Fault → Type 0) → IsErrAnd result P
+    → ((fault : Fault) → P fault → RefusesEvents graph_text chips_text schedule_text limit fault ⊎ (fault ≡ NoMemory))
+    → SimulateAnswers graph_text chips_text schedule_text limit ring rounds known known result
 refused_simulate graph_text chips_text schedule_text limit ring rounds known (Ok ended) P is why = absurd is
-refused_simulate graph_text chips_text schedule_text limit ring rounds known (Err fault) P is why = inl (why fault is, Keeps-same known)
+refused_simulate graph_text chips_text schedule_text limit ring rounds known (Err fault) P is why =
+    inl (why fault is, Keeps-same known)
 
-pub failed_simulate : (graph_text chips_text schedule_text : List ℕ) (limit ring rounds : ℕ) (old new : Option (List ℕ)) (result : Result Ended Fault) (P : Fault → Type 0) → IsErrAnd result P → (g : ChipGame) (events : List Event) → MeansEvents graph_text chips_text schedule_text limit g events → (text : List ℕ) (status : ℕ) → Simulates (setting_of g ring) rounds events text status → (w : WriteFault) → ((fault : Fault) → P fault → fault ≡ Write w) → WritesAll old new text (Err w) → SimulateAnswers graph_text chips_text schedule_text limit ring rounds old new result
-failed_simulate graph_text chips_text schedule_text limit ring rounds old new (Ok ended) P is g events means text status simulates w why wrote = absurd is
-failed_simulate graph_text chips_text schedule_text limit ring rounds old new (Err fault) P is g events means text status simulates w why wrote = inr (g, events, means, text, status, simulates, w, why fault is, wrote)
+pub failed_simulate : (graph_text chips_text schedule_text : List ℕ) (limit ring rounds : ℕ) (old new : Option (List ℕ))
+    (result : Result Ended Fault) (P : Fault → Type 0) → IsErrAnd result P → (g : ChipGame) (events : List Event)
+    → MeansEvents graph_text chips_text schedule_text limit g events → (text : List ℕ) (status : ℕ)
+    → Simulates (setting_of g ring) rounds events text status → (w : WriteFault)
+    → ((fault : Fault) → P fault → fault ≡ Write w) → WritesAll old new text (Err w)
+    → SimulateAnswers graph_text chips_text schedule_text limit ring rounds old new result
+failed_simulate graph_text chips_text schedule_text limit ring rounds old new
+    (Ok ended) P is g events means text status simulates w why wrote = absurd is
+failed_simulate graph_text chips_text schedule_text limit ring rounds old new
+    (Err fault) P is g events means text status simulates w why wrote =
+    inr (g, events, means, text, status, simulates, w, why fault is, wrote)
 
 -- the events for a game that the texts mean
-pub means_events : (graph_text chips_text schedule_text : List ℕ) (limit : ℕ) (g : ChipGame) (events : List Event) (G : Multigraph) → G ≡ g.graph → MeansGame graph_text chips_text limit g → Reads schedule_text (schedule_of_text G schedule_text ≡ Some events) → MeansEvents graph_text chips_text schedule_text limit g events
+pub means_events : (graph_text chips_text schedule_text : List ℕ) (limit : ℕ) (g : ChipGame) (events : List Event)
+    (G : Multigraph) → G ≡ g.graph → MeansGame graph_text chips_text limit g
+    → Reads schedule_text (schedule_of_text G schedule_text ≡ Some events)
+    → MeansEvents graph_text chips_text schedule_text limit g events
 means_events graph_text chips_text schedule_text limit g events G same game each = record {
   game = game;
   each = subst (λ (G : Multigraph). Reads schedule_text (schedule_of_text G schedule_text ≡ Some events)) same each;

@@ -2,7 +2,8 @@
 use Rattle.std.specs.Prelude.{◌≡◌, ℕ, List, [], ◌∷◌, ◌++◌, codes, slice_index}
 use Rattle.chip_fire.specs.Firing.{legal_vertices}
 use Rattle.chip_fire.specs.Sequence.{position_after, counts}
-use Rattle.chip_fire.specs.Triangle.{triangle, chips_on, on_each}
+use Rattle.chip_graph.specs.Worked.{triangle}
+use Rattle.chip_fire.specs.Worked.{chips_on, on_each}
 use Rattle.chip_fire.specs.Resume.{fired_in_all}
 use Rattle.chip_fire.specs.declared.sitting.Resumed.{Resumed}
 use Rattle.chip_fire.specs.declared.sitting.ResumeFault.TheVariants.{Mismatch, Total, Limit, Prior}

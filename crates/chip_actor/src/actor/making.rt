@@ -106,7 +106,8 @@ impl ActorState {
         requires within { index < length self.old.outs.edges }
         requires meets { Meets (M.holds medium.old) self.old (Cursor.Claim index) }
         ensures moves { MatchOption result
-            (Moves (M.holds medium.old) self.old (Cursor.Claim index) (M.holds medium.new) self.new (Cursor.Send (index + 1)) 0)
+            (Moves (M.holds medium.old) self.old (Cursor.Claim index) (M.holds medium.new) self.new
+            (Cursor.Send (index + 1)) 0)
             (λ work. Moves (M.holds medium.old) self.old (Cursor.Claim index) (M.holds medium.new) self.new
             (Cursor.Store index) work) }
         ensures few { IfSome result (λ work. work ≤ 1) }

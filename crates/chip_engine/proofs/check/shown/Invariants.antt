@@ -4,4 +4,6 @@ use Rattle.chip_engine.specs.CheckCommand.{head_text, vertices_text}
 use Rattle.chip_engine.proofs.check.shown.Given as goal
 
 abbrev pub invariant-loop-vertex : goal.invariant-loop-vertex
-invariant-loop-vertex l = (distances : List ℕ) × ((v : ℕ) → v < l.vertex → IsDistance l.graph v (slice_index distances v)) × (length distances ≡ l.vertex) × (string_bytes l.text ≡ head_text l.graph ++ vertices_text l.graph distances l.vertex)
+invariant-loop-vertex l = (distances : List ℕ)
+    × ((v : ℕ) → v < l.vertex → IsDistance l.graph v (slice_index distances v)) × (length distances ≡ l.vertex)
+    × (string_bytes l.text ≡ head_text l.graph ++ vertices_text l.graph distances l.vertex)

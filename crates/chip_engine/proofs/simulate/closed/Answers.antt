@@ -13,5 +13,10 @@ returns-clause-ok c = λ g log stands. record {
       ∙ ap (λ (t : List ℕ). c.in_ok-end.end.items ++ t) (c.deref.ensures.value ∙ c.in_ok-report.ensures)
       ∙ ap (λ (t : List ℕ). t ++ report_text c.in_ok-outcome.outcome) c.in_ok-end.ensures.items;
   status_is = c.status_of.ensures;
-  plays = λ none. (c.in_ok-outcome.outcome, c.in_ok-outcome.ensures.played g log stands none, refl, c.status_of.ensures);
+  plays = λ none. (
+    c.in_ok-outcome.outcome,
+    c.in_ok-outcome.ensures.played g log stands none,
+    refl,
+    c.status_of.ensures,
+  );
 }

@@ -5,7 +5,8 @@ use Rattle.chip_engine.specs.SimulateCommand.{reply_text}
 use Rattle.chip_engine.proofs.simulate.scheduled.Goals as goal
 
 pub returns-clause-world : goal.returns-clause-world
-returns-clause-world c = (c.in_ok-replies.ensures (setting_of c.args.game.now c.args.ring) _ c.in_ok-world.ensures).world
+returns-clause-world c = (c.in_ok-replies.ensures
+    (setting_of c.args.game.now c.args.ring) _ c.in_ok-world.ensures).world
 
 pub returns-clause-lines : goal.returns-clause-lines
 returns-clause-lines c =

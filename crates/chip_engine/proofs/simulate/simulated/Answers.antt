@@ -10,7 +10,8 @@ end_of-requires c =
       setting_of c.args.game.now c.args.ring,
       driven.0,
       driven.1,
-      (λ is. subst (λ (d : Drive). AnswersDrive (setting_of c.args.game.now c.args.ring) c.args.rounds driven.2.count driven.0 d) is driven.2.answers),
+      (λ is. subst (λ (d : Drive). AnswersDrive (setting_of c.args.game.now c.args.ring) c.args.rounds driven.2.count
+          driven.0 d) is driven.2.answers),
     )
 
 pub returns-clause-ok : goal.returns-clause-ok

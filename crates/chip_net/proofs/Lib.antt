@@ -1,0 +1,10 @@
+pub mod Laying
+pub mod Viewing
+pub mod Splitting
+pub mod Opening
+pub mod Ruling
+pub mod Acting
+pub mod Turning
+pub mod Answering
+pub mod Rooting
+pub mod Stopping

@@ -8,3 +8,7 @@ pub mod Turning
 pub mod Answering
 pub mod Rooting
 pub mod Stopping
+pub mod Reading
+pub mod Unsealed
+pub mod Finishing
+pub mod Receiving

@@ -5,3 +5,4 @@ pub mod Opening
 pub mod Traces
 pub mod Tokens
 pub mod Roots
+pub mod Finish

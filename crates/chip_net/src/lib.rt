@@ -13,14 +13,17 @@ mod hand;
 mod net;
 mod net_words;
 mod open;
+mod receipt;
 mod root;
 mod rule;
 mod setup;
 mod stopper;
+mod tally;
 mod trace;
 mod views;
 
 pub use actor::{Actor, Turn};
 pub use net::Net;
+pub use receipt::Receipt;
 pub use root::{Root, RootState};
 pub use stopper::{NoEdge, SealedAt, Stopper};

@@ -1,13 +1,16 @@
-ghost use Rattle.std.specs.Prelude.{◌≡◌, ℕ, ◌<◌, [], ◌∷◌, Some, IfOk};
-ghost use Rattle.chip_actor.specs.Edges.{root, stopper, root_edge};
-ghost use Rattle.chip_core.specs.Core.{Settle};
+ghost use Rattle.std.specs.Prelude.{◌≡◌, ◌≢◌, ℕ, ◌<◌, [], Some, IfOk, MatchResult};
+ghost use Rattle.chip_actor.specs.Edges.{root, stopper};
 ghost use Rattle.chip_net.specs.Views.{find};
 ghost use Rattle.chip_net.specs.Roots.{new_root, root_deficit, Settles, Polls};
+ghost use Rattle.chip_net.specs.Finish.{Finishes};
 
 use crate::calls;
 use crate::net::Net;
+use crate::receipt::Receipt;
 use crate::rule::PartSeat;
 use crate::setup::Setup;
+use crate::tally::Tally;
+use chip_fire::{Outcome, after_into};
 use chip_link::Event;
 use std::alloc::{AllocError, Global};
 use std::marker::{Brand, Model};
@@ -27,11 +30,16 @@ pub struct Root {
     seat: PartSeat,
     setup: Setup,
     state: chip_actor::RootState,
+    // What `finish` fills.
+    tally: Tally,
+    chips: Vec<u64>,
 }
 
 impl Model for Root {
+    ghost use Rattle.std.specs.Prelude.{◌≡◌, length};
     ghost use Rattle.chip_actor.specs.Edges.{root, stopper};
     ghost use Rattle.chip_net.specs.Views.{find, did_in};
+    ghost use Rattle.chip_net.specs.Finish.{blank_tally};
     ghost use Rattle.chip_net.specs.Roots.{RootKnown, IsRoot};
 
     ghost Value = { RootKnown };
@@ -42,7 +50,8 @@ impl Model for Root {
       stopper_did = find (stopper a.setup) a.seat.me.0.parts;
     } };
 
-    ghost invariant = { λ a. IsRoot a.setup a.seat.me.0 a.state };
+    ghost invariant = { λ a. IsRoot a.setup a.seat.me.0 a.state × (a.tally ≡ blank_tally a.setup.graph.vertices)
+        × (length a.chips.items ≡ a.setup.graph.vertices) };
 }
 
 impl Root {
@@ -51,8 +60,17 @@ impl Root {
         ensures { IfOk result (λ r. r ≡ new_root (record { table = seat.table_id; setting = setup })
             (find (stopper setup) seat.me.0.parts)) }
     {
+        let vertices = setup.vertices() as usize;
         let state = chip_actor::RootState::new(alloc, setup.game())?;
-        Ok(Root { seat, setup, state })
+        let tally = Tally::new(alloc, vertices)?;
+        let chips = vec![in alloc; 0; vertices]?;
+        Ok(Root {
+            seat,
+            setup,
+            state,
+            tally,
+            chips,
+        })
     }
 
     /// Settles the root edge of a vertex.
@@ -83,6 +101,44 @@ impl Root {
         } else {
             RootState::Running(deficit)
         }
+    }
+
+    /// Once every message of the root is acknowledged, reads how often each vertex fired and whether it halted, and tells how
+    /// the game ended: the chips are those by the counts, so that what a sealed edge holds back counts as sent. Before, it
+    /// hands the root back.
+    pub fn finish(self, net: &Net) -> Result<(Outcome, Receipt), Root>
+        requires net { self.net ≡ net.now }
+        ensures { MatchResult result (λ r. (root_deficit self ≡ 0) × Finishes self r.1 r.0)
+            (λ r. (r ≡ self) × (root_deficit self ≢ 0)) }
+    {
+        if self.deficit() > 0 {
+            return Err(self);
+        }
+        let Root {
+            seat,
+            setup,
+            state: _,
+            tally,
+            mut chips,
+        } = self;
+        let mut receipt = Receipt::new(seat, setup);
+        let Tally {
+            fired,
+            over,
+            sealed,
+            ..
+        } = receipt.read_all(net, tally);
+        match after_into(receipt.game(), &fired, &mut chips) {
+            Ok(()) => {}
+            Err(_) => unreachable!(),
+        }
+        let outcome = Outcome {
+            fired,
+            chips,
+            over,
+            sealed,
+        };
+        Ok((outcome, receipt))
     }
 
     fn vertices(&self) -> u64

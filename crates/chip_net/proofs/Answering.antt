@@ -15,7 +15,7 @@ module _ (own hand after : ActorKnown) (own_is : hand ≡ own) (a : Actor) (work
   all_work = work_of hand.net.setting (part_known hand) made.steps
 
   makes : (answer : Turn) → AnswersTurn hand.net.setting hand.vertex all_work (part_known after) answer → MakesTurn own after answer
-  makes answer answers = subst (λ (k : ActorKnown). MakesTurn k after answer) own_is record { steps = made.steps; record_is = made.record_is; is_turn = made.is_turn; answers = answers }
+  makes answer answers = subst (λ (k : ActorKnown). MakesTurn k after answer) own_is record { steps = made.steps; record_is = made.record_is; is_turn = made.is_turn; bounded = made.bounded; answers = answers }
 
   pub worked : 0 < work → MakesTurn own after (Worked work)
   worked some = makes (Worked work) (sym made.work_is, some)

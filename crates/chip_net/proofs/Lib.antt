@@ -12,3 +12,4 @@ pub mod Reading
 pub mod Unsealed
 pub mod Finishing
 pub mod Receiving
+pub mod Reaching

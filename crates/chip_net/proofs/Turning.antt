@@ -7,6 +7,8 @@ use Rattle.chip_actor.specs.Acting.{event_of, FitsSeen}
 use Rattle.chip_actor.specs.Actor.{Actor, StandsFor}
 use Rattle.chip_actor.specs.Medium.{Serves, Meets, MakesTurn}
 use Rattle.chip_actor.specs.Turn.{turn}
+use Rattle.chip_actor.specs.Kept.{KeepsPart}
+use Rattle.chip_actor.proofs.TurnLemmas.{turns_bounded}
 use Rattle.chip_actor.specs.declared.cursor.Cursor.TheVariants as At
 use Rattle.chip_core.specs.Core.{Step, Part, opened, does}
 use Rattle.chip_core.specs.Histories.{part_by}
@@ -61,10 +63,14 @@ module _ (first hand : ActorKnown) (first_is : first ≡ hand) (here : NetId) (n
       let all : reverse (reverse more ++ reverse hand.did) ≡ hand.did ++ more = reverse-append (reverse more) (reverse hand.did) ∙ (λ i. reverse-reverse hand.did i ++ reverse-reverse more i) in
       let is : after ≡ after_these hand more = over.held.now_is ∙ (λ i. record { net = (first_is i).net; vertex = (first_is i).vertex; room = (first_is i).room; did = all i }) in
       let part_is : made.1 ≡ part_known after = over.held.part_is ∙ ap (part_by hand.net.setting (opened hand.net.setting)) all ∙ ap part_known (sym is) in
+      let is_turn : turn hand.net.setting hand.vertex (part_known hand) more (part_known after) = subst (λ (z : ℕ × Part). turn hand.net.setting z.0 (part_known hand) more z.1) (λ i. (vertex i, part_is i)) over.is_turn in
+      let inside : hand.vertex < hand.net.setting.graph.vertices = subst (λ (v : ℕ). v < hand.net.setting.graph.vertices) vertex stands.knows.vertex in
+      let kept : KeepsPart hand.net.setting hand.vertex (part_known hand) = subst (λ (v : ℕ). KeepsPart hand.net.setting v (part_known hand)) vertex stands.kept in
       record {
         steps = more;
         record_is = is;
-        is_turn = subst (λ (z : ℕ × Part). turn hand.net.setting z.0 (part_known hand) more z.1) (λ i. (vertex i, part_is i)) over.is_turn;
+        is_turn = is_turn;
+        bounded = turns_bounded hand.net.setting hand.vertex inside (part_known hand) kept more (part_known after, is_turn);
         work_is = over.counted;
         vertex = over.vertex ∙ vertex;
         stands = subst (λ (s : Part). StandsFor hand.net.setting s b) part_is over.stands;

@@ -6,3 +6,4 @@ pub mod Traces
 pub mod Tokens
 pub mod Roots
 pub mod Finish
+pub mod Laws

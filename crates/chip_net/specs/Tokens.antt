@@ -1,12 +1,12 @@
 -- What the clauses of a net's calls know of its actors.
-use Rattle.std.specs.Prelude.{◌≡◌, ◌⊎◌, ℕ, ◌<◌, true, false, List, [], ◌∷◌, ◌++◌, reverse, Option, Some, None}
+use Rattle.std.specs.Prelude.{◌≡◌, ◌⊎◌, ℕ, ◌+◌, ◌*◌, ◌<◌, ◌≤◌, true, false, List, [], ◌∷◌, ◌++◌, length, reverse, Option, Some, None}
 use Rattle.atomic_table.specs.Seated.{TableId}
 use Rattle.chip_actor.specs.Setting.{Setting, IsSetting}
 use Rattle.chip_actor.specs.declared.act.Act.{Act}
 use Rattle.chip_actor.specs.Actor.{Actor, StandsFor}
 use Rattle.chip_actor.specs.Acting.{event_of, FitsSeen}
 use Rattle.chip_actor.specs.Part.{is_passive, deficit}
-use Rattle.chip_actor.specs.Turn.{turn}
+use Rattle.chip_actor.specs.Turn.{turn, ins_of, outs_of}
 use Rattle.chip_actor.specs.Counting.{work_of}
 use Rattle.chip_actor.specs.Medium.{IsDueBy}
 use Rattle.chip_core.specs.Core.{Step, Part, opened}
@@ -90,11 +90,16 @@ AnswersTurn g v work after (Worked n) = (n ≡ work) × (0 < n)
 AnswersTurn g v work after Waiting = (work ≡ 0) × (is_passive g v after ≡ false)
 AnswersTurn g v work after Idle = (work ≡ 0) × (is_passive g v after ≡ true) × ((after.parent ≡ None) ⊎ (0 < deficit g v after))
 
+-- no turn of the vertex v has more steps: two for each edge into it, four for each edge out of it, and three more
+abbrev pub most_steps : Setting → ℕ → ℕ
+most_steps g v = (2 * length (ins_of g v) + 4 * length (outs_of g v)) + 3
+
 -- the actor did exactly one turn more, and this is its answer
 pub record MakesTurn (old new : ActorKnown) (answer : Turn) : Type 0 where
   pub steps : List Step
   pub record_is : new ≡ after_these old steps
   pub is_turn : turn old.net.setting old.vertex (part_known old) steps (part_known new)
+  pub bounded : length steps ≤ most_steps old.net.setting old.vertex
   pub answers : AnswersTurn old.net.setting old.vertex (work_of old.net.setting (part_known old) steps) (part_known new) answer
 
 -- the same of an actor's hand, with how many steps count and the actor's state
@@ -102,6 +107,7 @@ pub record MakesTurnBy (old new : ActorKnown) (a : Actor) (work : ℕ) : Type 0 
   pub steps : List Step
   pub record_is : new ≡ after_these old steps
   pub is_turn : turn old.net.setting old.vertex (part_known old) steps (part_known new)
+  pub bounded : length steps ≤ most_steps old.net.setting old.vertex
   pub work_is : work_of old.net.setting (part_known old) steps ≡ work
   pub vertex : a.vertex ≡ old.vertex
   pub stands : StandsFor old.net.setting (part_known new) a

@@ -10,6 +10,7 @@
 mod actor;
 mod calls;
 mod hand;
+pub mod laws;
 mod net;
 mod net_words;
 mod open;

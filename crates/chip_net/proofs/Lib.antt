@@ -13,3 +13,4 @@ pub mod Unsealed
 pub mod Finishing
 pub mod Receiving
 pub mod Reaching
+pub mod Crossing

@@ -20,6 +20,8 @@ mod rule;
 mod setup;
 mod stopper;
 mod tally;
+#[cfg(test)]
+mod tests;
 mod trace;
 mod views;
 

@@ -7,3 +7,4 @@ pub mod Tokens
 pub mod Roots
 pub mod Finish
 pub mod Laws
+pub mod Worked

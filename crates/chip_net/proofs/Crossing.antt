@@ -1,0 +1,37 @@
+-- The tokens of a net may go to other threads, and threads may share the net. Of a struct each of whose fields has it so this is found
+-- by itself; a `Snapshot` has it by a lemma of std's alone, so of what holds one it is said here.
+use mir.Syntax.{Lifetime}
+use base.Fml.{Lft}
+use denote.Ref.{ShrRef}
+use denote.Param.Send.{IsSend, sendable, shr_send}
+use Rattle.std.proofs.Crossing.{crosses}
+use Rattle.std.proofs.sync.atomic.AtomicBool.TheSendSync as flag
+use Rattle.std.specs.contracts.sync.atomic.AtomicBool as flag_at
+use Rattle.atomic_table.proofs.shared.Seat.TheSendSync as seat
+use Rattle.chip_actor.proofs.actor.ActorState.TheSendSync as state
+use Rattle.chip_net.proofs.trace.Trace.TheSendSync as trace
+use Rattle.chip_net.proofs.net.Net.TheSendSync as shared
+use Rattle.chip_net.proofs.root.Root.TheSendSync as root
+use Rattle.chip_net.specs.contracts.hand.Hand as hand
+use Rattle.chip_net.specs.contracts.actor.Actor as actor
+use Rattle.chip_net.specs.contracts.stopper.Stopper as stopper
+use Rattle.chip_net.specs.contracts.net.Net as net
+
+pub hand_send : IsSend hand.the_row
+hand_send = search (crosses, sendable, seat.the_send, trace.the_send) depth 60
+
+pub actor_send : IsSend actor.the_row
+actor_send = search (crosses, sendable, hand_send, state.the_send) depth 60
+
+pub stopper_send : IsSend stopper.the_row
+stopper_send = search (crosses, sendable, seat.the_send) depth 60
+
+-- a `&` to the net, and one to a flag
+pub net_ref_send : (ℓ : Lifetime) (κ : Lft) → IsSend (ShrRef ℓ κ net.the_row)
+net_ref_send ℓ κ = shr_send ℓ κ net.the_row shared.the_sync
+
+pub flag_ref_send : (ℓ : Lifetime) (κ : Lft) → IsSend (ShrRef ℓ κ flag_at.the_row)
+flag_ref_send ℓ κ = shr_send ℓ κ flag_at.the_row flag.the_sync
+
+-- for `search`, where what is sent holds tokens
+pub ruleset net_crosses = (actor_send, stopper_send, root.the_send, net_ref_send, flag_ref_send)

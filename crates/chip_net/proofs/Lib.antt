@@ -1,0 +1,16 @@
+pub mod Laying
+pub mod Viewing
+pub mod Splitting
+pub mod Opening
+pub mod Ruling
+pub mod Acting
+pub mod Turning
+pub mod Answering
+pub mod Rooting
+pub mod Stopping
+pub mod Reading
+pub mod Unsealed
+pub mod Finishing
+pub mod Receiving
+pub mod Reaching
+pub mod Crossing

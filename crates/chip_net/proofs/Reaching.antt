@@ -1,0 +1,26 @@
+-- The rule of the table says that the world is reached.
+use Rattle.std.proofs.Common.{◌≡◌, ℕ, ◌<◌, List, sym, subst}
+use Rattle.chip_actor.specs.Setting.{Setting}
+use Rattle.chip_core.specs.Core.{Step, Part, all_edges, part_in, word_of_part}
+use Rattle.chip_core.specs.Histories.{done_by}
+use Rattle.chip_core.specs.Words.{of_vertex}
+use Rattle.chip_core.specs.Reached.{parts_by}
+use Rattle.chip_core.proofs.ReachingLemmas.{by_history}
+use Rattle.chip_core.proofs.ReachedLemmas.{reached_by_legal_logs}
+use Rattle.chip_net.specs.Layout.{value_in}
+use Rattle.chip_net.specs.Laws.{EdgeShows, EveryMomentIsReached}
+
+pub every_moment : EveryMomentIsReached
+every_moment g s kept =
+    let did : ℕ → List Step = λ p. done_by g p kept.log in
+    let parts : part_in g kept.log ≡ parts_by g did = (λ i p. by_history g kept.log p i) in
+    record {
+      did = did;
+      reached = (reached_by_legal_logs g).0 kept.log kept.legal;
+      owner = kept.owner;
+      only_there = kept.each_part;
+      there = kept.there;
+      edges = λ e l. subst (λ (ps : ℕ → Part). EdgeShows g s.words ps e) parts
+          record { word = (kept.shown.edges e l).word_is; cells = (kept.shown.edges e l).ring_is; acks = kept.shown.acks e l };
+      fired = λ v l. subst (λ (ps : ℕ → Part). value_in g s.words (of_vertex v) ≡ word_of_part (ps v)) parts (kept.shown.fired v l);
+    }

@@ -1,0 +1,59 @@
+-- One read of the root over the net.
+use Rattle.std.proofs.Common.{◌≡◌, ℕ, ◌<◌, true, ◌∷◌, [], None, refl, sym, ap, ◌∙◌, subst}
+use Rattle.atomic_table.specs.Seated.{TableId}
+use Rattle.atomic_table.specs.Table.{Allows}
+use Rattle.chip_link.specs.Words.{is_fired_word}
+use Rattle.chip_actor.specs.Setting.{Setting, IsSetting}
+use Rattle.chip_actor.specs.Edges.{root, stopper}
+use Rattle.chip_actor.specs.Part.{deficit}
+use Rattle.chip_actor.proofs.RuleLemmas.{met_rules}
+use Rattle.chip_core.specs.Core.{Step, Read, Part, unmet}
+use Rattle.chip_core.specs.Words.{of_vertex}
+use Rattle.chip_net.specs.declared.receipt.Receipt.TheInside.{Inside}
+use Rattle.chip_net.specs.contracts.receipt.Receipt.{the_view}
+use Rattle.chip_net.specs.Layout.{index_of}
+use Rattle.chip_net.specs.Views.{find, grown, did_in, Has, part_of_view}
+use Rattle.chip_net.specs.Rule.{Kept, Stepped, Grows}
+use Rattle.chip_net.specs.Roots.{RootKnown}
+use Rattle.chip_net.specs.Finish.{ReadsAt}
+use Rattle.chip_net.proofs.Viewing.{grown_has}
+use Rattle.chip_net.proofs.Ruling.{Mine}
+use Rattle.chip_net.proofs.Rooting.{root_rule, root_grown, root_stepped, root_record}
+use Rattle.chip_net.proofs.Finishing.{fired_word_is}
+
+module _ (i : Inside) (keeps : Has (root i.setup) i.seat.me.0 × IsSetting i.setup) (v : ℕ) (inside : v < i.setup.graph.vertices) (closed : deficit i.setup (root i.setup) (part_of_view i.setup (root i.setup) i.seat.me.0) ≡ 0) where
+  abbrev g : Setting
+  g = i.setup
+
+  none : unmet g (Read v) (part_of_view g (root g) i.seat.me.0) ≡ None
+  none = met_rules g (Read v) (part_of_view g (root g) i.seat.me.0) (inside, closed)
+
+  pub read_rule : (key : Setting) → key ≡ g → (slots word : ℕ) → word ≡ index_of g (of_vertex v) → Allows (Kept key) slots i.seat.id i.seat.me word (λ n. n) (Grows key (Read v) i.seat.me)
+  read_rule key same slots word at = root_rule g keeps.1 i.seat.me keeps.0 (Read v) refl none key same slots i.seat.id word at
+
+  module _ (key : Setting) (same : key ≡ g) (seen : ℕ) (after : Mine) (told : Grows key (Read v) i.seat.me seen after) where
+    abbrev x : Step
+    x = record { event = Read v; seen = seen }
+
+    abbrev stepped : Stepped g x i.seat.me.0
+    stepped = root_stepped g keeps.1 i.seat.me keeps.0 (Read v) refl none key same seen after told
+
+    grew : after.0 ≡ grown (root g) x i.seat.me.0
+    grew = root_grown g keeps.1 i.seat.me keeps.0 (Read v) refl none key same seen after told
+
+    pub still_receipt : Has (root g) after.0 × IsSetting g
+    still_receipt = ((grown_has (root g) x i.seat.me.0 after.0 keeps.0 grew).1, keeps.1)
+
+    pub reads : (own : RootKnown) → the_view i ≡ own → (table : TableId) → table ≡ i.seat.table_id
+        → ReadsAt own (record { net = record { table = table; setting = g }; did = did_in (root g) after.0; stopper_did = find (stopper g) after.0.parts }) v seen
+    reads own view_is table table_is =
+        let longer = root_record g x i.seat.me.0 after.0 keeps.0 grew in
+        subst (λ (k : RootKnown). ReadsAt k (record { net = record { table = table; setting = g }; did = did_in (root g) after.0; stopper_did = find (stopper g) after.0.parts }) v seen) view_is record {
+          record_is = λ j. record { net = record { table = table_is j; setting = g }; did = longer.0 j; stopper_did = longer.1 j };
+          log = stepped.log;
+          legal = stepped.legal;
+          agrees = record { root_did = stepped.agrees (root g) (did_in (root g) i.seat.me.0) keeps.0; stopper_did = λ did e. stepped.agrees (stopper g) did e };
+        }
+
+    pub word_is : is_fired_word seen ≡ true
+    word_is = fired_word_is g keeps.1 stepped.log stepped.legal.0 v seen stepped.legal.1.1

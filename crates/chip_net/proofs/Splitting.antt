@@ -1,0 +1,68 @@
+-- A part that is handed on stands in the new view alone.
+use Rattle.std.proofs.Common.{◌≡◌, ◌≢◌, ◌⊎◌, ℕ, zero, suc, eqb, List, [], ◌∷◌, ◌++◌, length, set, Option, Some, refl, sym, ap, ◌∙◌, subst, ⊎_elim, inl, inr}
+use mathlib.Core.Logic.{dite}
+use mathlib.Core.Bool.{cond}
+use mathlib.Core.Option.{some, some-injective, some-ne-none}
+use native.Mathlib.Decide.{ℕ_discrete}
+use lib.ListN.{get_elem?}
+use Rattle.atomic_table.specs.Table.{Splits}
+use Rattle.atomic_table.proofs.Lists.{at_set, at_longer, at_last, set_else}
+use Rattle.chip_graph.proofs.SumLemmas.{cond_yes, cond_no}
+use Rattle.chip_core.specs.Core.{Step}
+use Rattle.chip_core.specs.Histories.{done_by}
+use Rattle.chip_actor.specs.Setting.{Setting}
+use Rattle.chip_net.specs.Views.{View, find, drop_part, only, without, alone}
+use Rattle.chip_net.specs.Rule.{Kept}
+use Rattle.chip_net.proofs.Viewing.{none_some, set_there, dropped_here, dropped_else, only_finds}
+
+at_end : {A : Type 0} (l : List A) (a b : A) (j : ℕ) → get_elem? (l ++ a ∷ []) j ≡ some b → (get_elem? l j ≡ some b) ⊎ ((j ≡ length l) × (a ≡ b))
+at_end [] a b zero e = inr (refl, some-injective a b e)
+at_end [] a b (suc j) e = absurd (some-ne-none b (sym e))
+at_end (x ∷ xs) a b zero e = inl e
+at_end (x ∷ xs) a b (suc j) e = ⊎_elim inl (λ (w : (j ≡ length xs) × (a ≡ b)). inr (ap suc w.0, w.1)) (at_end xs a b j e)
+
+pub hands_on : (g : Setting) (id p : ℕ) (v : View) (did : List Step) → find p v.parts ≡ Some did → Splits (Kept g) id v (without p v) (alone p v)
+hands_on g id p v did has s kept at = record {
+  log = kept.log;
+  owner = λ q. cond (eqb q p) (length (set s.views id (without p v))) (kept.owner q);
+  setting = kept.setting;
+  wide = kept.wide;
+  each_part = λ j u there q d found. ⊎_elim
+      (λ (old : get_elem? (set s.views id (without p v)) j ≡ some u). ⊎_elim
+      (λ (z : (j ≡ id) × (without p v ≡ u)).
+      let mine : find q (drop_part p v.parts) ≡ Some d = subst (λ (w : View). find q w.parts ≡ Some d) (sym z.1) found in
+      let other : q ≢ p = λ e. none_some d (sym (dropped_here p v.parts) ∙ subst (λ (n : ℕ). find n (drop_part p v.parts) ≡ Some d) e mine) in
+      let was = kept.each_part id v at q d (sym (dropped_else p q v.parts (λ e. other (sym e))) ∙ mine) in
+      (cond_no q p _ _ other ∙ was.0 ∙ sym z.0, was.1))
+      (λ (z : (j ≢ id) × (get_elem? s.views j ≡ some u)).
+      let was = kept.each_part j u z.1 q d found in
+      let mine = kept.each_part id v at p did has in
+      let other : q ≢ p = λ e. z.0 (sym was.0 ∙ ap kept.owner e ∙ mine.0) in
+      (cond_no q p _ _ other ∙ was.0, was.1))
+      (at_set s.views id j (without p v) u old))
+      (λ (new : (j ≡ length (set s.views id (without p v))) × (alone p v ≡ u)).
+      let is = only_finds p q (find p v.parts) d (subst (λ (w : View). find q w.parts ≡ Some d) (sym new.1) found) in
+      let mine = kept.each_part id v at p d is.1 in
+      (cond_yes q p _ _ (sym is.0) ∙ sym new.0, mine.1 ∙ ap (λ (n : ℕ). done_by g n kept.log) is.0))
+      (at_end (set s.views id (without p v)) (alone p v) u j there);
+  there = λ q l.
+      let old = kept.there q l in
+      let now : List View = set s.views id (without p v) in
+      dite (ℕ_discrete q p)
+      (λ e.
+      let mine : find p v.parts ≡ Some (done_by g p kept.log) = has ∙ ap Some (kept.each_part id v at p did has).1 in (
+        alone p v,
+        ap (get_elem? (now ++ alone p v ∷ [])) (cond_yes q p _ _ e) ∙ at_last now (alone p v) (length now) refl,
+        ap (λ (n : ℕ). find n (only p (find p v.parts))) e ∙ ap (λ (o : Option (List Step)). find p (only p o)) mine ∙ cond_yes p p _ _ refl ∙ ap (λ (n : ℕ). Some (done_by g n kept.log)) (sym e),
+      ))
+      (λ ne. dite (ℕ_discrete (kept.owner q) id)
+      (λ mine.
+      let same : v ≡ old.0 = some-injective _ _ (sym at ∙ ap (get_elem? s.views) (sym mine) ∙ old.1) in (
+        without p v,
+        ap (get_elem? (now ++ alone p v ∷ [])) (cond_no q p _ _ ne ∙ mine) ∙ at_longer now (alone p v ∷ []) id (without p v) (set_there s.views id v (without p v) at),
+        dropped_else p q v.parts (λ e. ne (sym e)) ∙ ap (λ (u : View). find q u.parts) same ∙ old.2,
+      ))
+      (λ other. (old.0, ap (get_elem? (now ++ alone p v ∷ [])) (cond_no q p _ _ ne) ∙ at_longer now (alone p v ∷ []) (kept.owner q) old.0 (set_else s.views id (kept.owner q) (without p v) other ∙ old.1), old.2)));
+  shown = kept.shown;
+  legal = kept.legal;
+}

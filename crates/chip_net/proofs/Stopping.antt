@@ -1,0 +1,95 @@
+-- The stopper: a seal of an edge.
+use Rattle.std.proofs.Common.{◌≡◌, ℕ, ◌<◌, not, List, [], ◌∷◌, ◌++◌, Option, Some, None, is_some, refl, sym, ap, ◌∙◌, subst, arith, bit_or, ◌^◌}
+use Rattle.std.specs.Prelude.{is_none}
+use Rattle.atomic_table.specs.Seated.{TableId}
+use Rattle.atomic_table.specs.Table.{Allows}
+use Rattle.chip_graph.proofs.SumLemmas.{cond_yes}
+use Rattle.chip_link.specs.Words.{edge_word, claims_in, sealed_in}
+use Rattle.chip_link.specs.WordLaws.{ReadsAs}
+use Rattle.chip_link.specs.Link.{claims_of, after_seal, IsSealedAt}
+use Rattle.chip_link.proofs.WordLaws.{read_edge}
+use Rattle.chip_actor.specs.Setting.{Setting, IsSetting}
+use Rattle.chip_actor.specs.Edges.{stopper, graph_edges}
+use Rattle.chip_actor.proofs.RuleLemmas.{met_rules}
+use Rattle.chip_core.specs.Core.{Step, Seal, Part, opened, unmet, part_in, out_in, stop_in, does}
+use Rattle.chip_core.specs.Histories.{part_by}
+use Rattle.chip_core.proofs.ReachingLemmas.{by_history}
+use Rattle.chip_core.proofs.LogLemmas.{edge_sound}
+use Rattle.chip_core.proofs.NumberLemmas.{claims_most}
+use Rattle.chip_net.specs.declared.stopper.Stopper.TheInside.{Inside}
+use Rattle.chip_net.specs.declared.stopper.SealedAt.{SealedAt}
+use Rattle.chip_net.specs.contracts.stopper.Stopper.{the_view}
+use Rattle.chip_net.specs.Views.{View, grown, did_in, Has, part_of_view}
+use Rattle.chip_net.specs.Rule.{Kept, Stepped, Grows}
+use Rattle.chip_net.specs.Roots.{StopperKnown, stopper_part, Seals}
+use Rattle.chip_net.proofs.Viewing.{grown_has, grown_part}
+use Rattle.chip_net.proofs.Ruling.{Mine, event_allowed}
+
+not_some : (o : Option ℕ) → not (is_some o) ≡ is_none o
+not_some None = refl
+not_some (Some n) = refl
+
+-- the number of claims stands, whether this seal was the first or not
+first_word : (n word : ℕ) (stop : Option ℕ) → IsSealedAt n stop → word ≡ edge_word n (is_some stop) → claims_in word ≡ n → after_seal word stop ≡ Some (claims_in word)
+first_word n word None at is claims = ap Some (let z : word ≡ claims_in word = omega arith in z)
+first_word n word (Some first) at is claims = ap Some (at ∙ sym claims)
+
+module _ (i : Inside) (has : Has (stopper i.setup.value) i.seat.me.0) (setting : IsSetting i.setup.value) (edge : ℕ) (inside : edge < graph_edges i.setup.value) where
+  abbrev g : Setting
+  g = i.setup.value
+
+  abbrev s : Part
+  s = part_of_view g (stopper g) i.seat.me.0
+
+  pub seal_rule : (key : Setting) → key ≡ g → (slots word : ℕ) → word ≡ edge → Allows (Kept key) slots i.seat.id i.seat.me word (λ n. bit_or n (2 ^ 63)) (Grows key (Seal edge) i.seat.me)
+  seal_rule key same slots word at = event_allowed g setting i.seat.me (Seal edge) has (met_rules g (Seal edge) s inside) key same slots i.seat.id word at
+
+  module _ (key : Setting) (same : key ≡ g) (seen : ℕ) (after : Mine) (told : Grows key (Seal edge) i.seat.me seen after) where
+    abbrev x : Step
+    x = record { event = Seal edge; seen = seen }
+
+    abbrev stepped : Stepped g x i.seat.me.0
+    stepped = subst (λ (h : Setting). Stepped h x i.seat.me.0) same told.1
+
+    grew : after.0 ≡ grown (stopper g) x i.seat.me.0
+    grew = told.0 ∙ ap (λ (h : Setting). grown (stopper h) x i.seat.me.0) same
+
+    longer : (did_in (stopper g) after.0 ≡ did_in (stopper g) i.seat.me.0 ++ x ∷ []) × Has (stopper g) after.0
+    longer = grown_has (stopper g) x i.seat.me.0 after.0 has grew
+
+    pub still_stopper : Has (stopper g) after.0
+    still_stopper = longer.1
+
+    -- it is the part in that log
+    in_log : s ≡ part_in g stepped.log (stopper g)
+    in_log = ap (part_by g (opened g)) (stepped.agrees (stopper g) (did_in (stopper g) i.seat.me.0) has) ∙ sym (by_history g stepped.log (stopper g))
+
+    stop_is : stop_in g stepped.log edge ≡ s.stop edge
+    stop_is = ap (λ (p : Part). p.stop edge) (sym in_log)
+
+    abbrev claims : ℕ
+    claims = claims_of (out_in g stepped.log edge).link
+
+    word_is : seen ≡ edge_word claims (is_some (s.stop edge))
+    word_is = stepped.legal.1.1 ∙ ap (λ (o : Option ℕ). edge_word claims (is_some o)) stop_is
+
+    reads : ReadsAs seen claims (is_some (s.stop edge))
+    reads = let few = claims_most g setting.game setting.some_ring stepped.log stepped.legal.0 edge in read_edge seen claims (is_some (s.stop edge)) (omega arith) word_is
+
+    first_seal : not (sealed_in seen) ≡ is_none (s.stop edge)
+    first_seal = ap not reads.seal_is ∙ not_some (s.stop edge)
+
+    count_seen : (does g x s).stop edge ≡ Some (claims_in seen)
+    count_seen = cond_yes edge edge (after_seal seen (s.stop edge)) (s.stop edge) refl
+        ∙ first_word claims seen (s.stop edge) (subst (IsSealedAt claims) stop_is (edge_sound g setting.game setting.some_ring stepped.log stepped.legal.0 edge).sealed_at) word_is reads.claims_are
+
+    pub seals : (own : StopperKnown) → the_view i ≡ own → (table : TableId) → table ≡ i.seat.table_id → (answer : SealedAt) → answer.count ≡ claims_in seen → answer.first ≡ not (sealed_in seen)
+        → Seals own (record { net = record { table = table; setting = g }; did = did_in (stopper g) after.0 }) edge answer
+    seals own view_is table table_is answer count first =
+        subst (λ (k : StopperKnown). Seals k (record { net = record { table = table; setting = g }; did = did_in (stopper g) after.0 }) edge answer) view_is record {
+          inside = inside;
+          seen = seen;
+          record_is = λ j. record { net = record { table = table_is j; setting = g }; did = longer.0 j };
+          first_is = first ∙ first_seal;
+          count_is = ap (λ (p : Part). p.stop edge) (grown_part g (stopper g) x i.seat.me.0 after.0 has grew) ∙ count_seen ∙ ap Some (sym count);
+        }

@@ -1,0 +1,5 @@
+use Rattle.chip_net.proofs.Reaching.{every_moment}
+use Rattle.chip_net.proofs.laws.every_moment.Goals as goal
+
+pub returns : goal.returns
+returns c = every_moment

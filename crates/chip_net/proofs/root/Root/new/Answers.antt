@@ -1,0 +1,24 @@
+use Rattle.std.proofs.Common.{ℕ, Some, List, length, sym, ap, ◌∙◌, subst}
+use Rattle.std.proofs.lemmas.List.{length-replicate}
+use Rattle.chip_graph.specs.ChipGame.{ChipGame}
+use Rattle.chip_actor.specs.Setting.{Setting, setting_of}
+use Rattle.chip_actor.specs.Root.{RootStandsFor}
+use Rattle.chip_core.specs.Core.{Step, Part, opened}
+use Rattle.chip_core.specs.Histories.{part_by}
+use Rattle.chip_net.specs.Views.{steps_or_none}
+use Rattle.chip_net.specs.Finish.{blank_tally}
+use Rattle.chip_net.proofs.root.Root.new.Goals as goal
+
+pub invariant_of-result : goal.invariant_of-result
+invariant_of-result c =
+    let none = ap steps_or_none c.requires in
+    let g : Setting = c.args.setup in
+    let stands : RootStandsFor g (opened g) c.in_ok-state.state = subst (λ (game : ChipGame). RootStandsFor (setting_of game g.ring) (opened (setting_of game g.ring)) c.in_ok-state.state) c.game.ensures.value (c.in_ok-state.ensures g.ring) in (
+      record {
+        setting = c.game.ensures.setting;
+        has = c.requires ∙ ap Some (sym none);
+        stands = subst (λ (did : List Step). RootStandsFor g (part_by g (opened g) did) c.in_ok-state.state) (sym none) stands;
+      },
+      c.in_ok-tally.ensures ∙ ap blank_tally c.vertices-vertices.ensures.value,
+      ap length (c.in_ok-chips.ensures.items_if_clones_equal (λ y h. h)) ∙ (let z : ℕ = 0 in length-replicate _ z) ∙ c.vertices-vertices.ensures.value,
+    )

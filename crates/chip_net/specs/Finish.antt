@@ -1,0 +1,112 @@
+-- What the root reads once it is closed, and what it makes of it.
+use Rattle.std.specs.Prelude.{◌≡◌, ℕ, suc, ◌<◌, ◌-◌, Bool, not, ◌&&◌, if◌then◌else◌, List, [], ◌∷◌, ◌++◌, length, map, slice_index, Some}
+use Rattle.chip_graph.specs.Sums.{picked}
+use Rattle.chip_fire.specs.declared.outcome.Outcome.{Outcome}
+use Rattle.chip_fire.specs.Outcomes.{IsOutcome}
+use Rattle.chip_fire.specs.Counted.{IsAfter}
+use Rattle.chip_fire.specs.Sequence.{position_after, counts, IsFiringSequence, HasEnded}
+use Rattle.chip_fire.specs.Play.{IsPlayed}
+use Rattle.chip_link.specs.Words.{fired_in, halted_in, by_limit_in}
+use Rattle.chip_actor.specs.Setting.{Setting, game_of_setting}
+use Rattle.chip_actor.specs.Edges.{root, stopper}
+use Rattle.chip_core.specs.Core.{Log, Step, Read, part_in, word_of_part, IsLegalLog, IsClosed}
+use Rattle.chip_core.specs.Histories.{done_by}
+use Rattle.chip_core.specs.Positions.{firings}
+use Rattle.chip_core.specs.Outcomes.{IsOutcomeOf, ComesTo}
+use Rattle.chip_net.specs.Roots.{RootKnown, root_after}
+
+-- the root, and the stopper where the root holds that part, did these steps in this log
+pub record AgreesWith (r : RootKnown) (log : Log) : Type 0 where
+  pub root_did : r.did ≡ done_by r.net.setting (root r.net.setting) log
+  pub stopper_did : (did : List Step) → r.stopper_did ≡ Some did → did ≡ done_by r.net.setting (stopper r.net.setting) log
+
+-- one read was made, after some legal log with what the root did
+pub record ReadsAt (old new : RootKnown) (v seen : ℕ) : Type 0 where
+  pub record_is : new ≡ root_after old (record { event = Read v; seen = seen } ∷ [])
+  pub log : Log
+  pub legal : IsLegalLog old.net.setting (record { event = Read v; seen = seen } ∷ log)
+  pub agrees : AgreesWith old log
+
+-- reads of the vertices from v on, each with the word that it saw
+abbrev pub reads_from : ℕ → List ℕ → List Step
+reads_from v [] = []
+reads_from v (w ∷ ws) = record { event = Read v; seen = w } ∷ reads_from (suc v) ws
+
+-- some legal log has what the root did, is closed, and has these fired words
+pub record IsReadOut (r : RootKnown) (words : List ℕ) : Type 0 where
+  pub log : Log
+  pub legal : IsLegalLog r.net.setting log
+  pub agrees : AgreesWith r log
+  pub closed : IsClosed r.net.setting log
+  pub words_are : (v : ℕ) → v < length words → slice_index words v ≡ word_of_part (part_in r.net.setting log v)
+
+-- ---- the tally of the words
+
+-- the counts, the vertices that halted by the limit and by a seal, and for how many more vertices there is room
+pub record TallyState : Type 0 where
+  pub fired : List ℕ
+  pub over : List ℕ
+  pub sealed : List ℕ
+  pub room : ℕ
+
+-- a tally of no vertex
+abbrev pub blank_tally : ℕ → TallyState
+blank_tally room = record { fired = []; over = []; sealed = []; room = room }
+
+-- after one vertex more
+abbrev pub tally_after : ℕ → Bool → Bool → TallyState → TallyState
+tally_after fired halted by_limit t = record {
+  fired = t.fired ++ fired ∷ [];
+  over = t.over ++ (if by_limit then length t.fired ∷ [] else []);
+  sealed = t.sealed ++ (if halted && not by_limit then length t.fired ∷ [] else []);
+  room = t.room - 1;
+}
+
+-- the limit halted the vertex, by its word
+abbrev pub limit_at : List ℕ → ℕ → Bool
+limit_at words v = by_limit_in (slice_index words v)
+
+-- a seal did
+abbrev pub seal_at : List ℕ → ℕ → Bool
+seal_at words v = halted_in (slice_index words v) && not (by_limit_in (slice_index words v))
+
+-- what these words say, one for each vertex: the counts, and who halted, each by its cause
+pub record AreRead (words counted limited stopped : List ℕ) : Type 0 where
+  pub fired : counted ≡ map fired_in words
+  pub over : limited ≡ picked (limit_at words) (length words)
+  pub sealed : stopped ≡ picked (seal_at words) (length words)
+
+-- so many reads were made, and this is their tally
+pub record IsReading (old now : RootKnown) (tally : TallyState) (count : ℕ) : Type 0 where
+  pub words : List ℕ
+  pub count_is : length words ≡ count
+  pub record_is : now ≡ root_after old (reads_from 0 words)
+  pub told : 0 < length words → IsReadOut now words
+  pub tallied : AreRead words tally.fired tally.over tally.sealed
+  pub room_is : tally.room ≡ old.net.setting.graph.vertices - count
+
+-- ---- the end
+
+-- the counts and the chips are those of every firing sequence that ends with no vertex legal
+abbrev pub IsOneEnd : Setting → Outcome → Type 0
+IsOneEnd g o = (vs : List ℕ) → IsFiringSequence g.graph (slice_index g.start) vs → HasEnded g.graph (slice_index g.start) vs
+    → ((v : ℕ) → slice_index o.fired.items v ≡ counts vs v) × ((v : ℕ) → slice_index o.chips.items v ≡ position_after g.graph (slice_index g.start) vs v)
+
+-- every fired word was read once, ascending, and these readings make the outcome
+pub record Finishes (old receipt : RootKnown) (o : Outcome) : Type 0 where
+  pub words : List ℕ
+  pub one_each : length words ≡ old.net.setting.graph.vertices
+  pub record_is : receipt ≡ root_after old (reads_from 0 words)
+  -- the counts and the halts are those that were read, and the chips are the position by the counts
+  pub read : AreRead words o.fired.items o.over.items o.sealed.items
+  pub chips : IsAfter (game_of_setting old.net.setting) o.fired.items o.chips.items
+  -- it is the outcome of some legal closed log in which the root did this, and one thread comes to it
+  pub read_out : IsReadOut receipt words
+  pub of_log : IsOutcomeOf old.net.setting read_out.log o
+  pub comes : ComesTo old.net.setting (firings read_out.log) o
+  pub in_range : IsOutcome o
+  -- where no seal halted a vertex it is every player's, and where none halted at all it is every end's
+  pub played : o.sealed.items ≡ [] → IsPlayed (game_of_setting old.net.setting) o
+  pub one_end : o.over.items ≡ [] → o.sealed.items ≡ [] → IsOneEnd old.net.setting o
+  -- where the root holds the stopper's part, which did nothing, no seal halted a vertex
+  pub unsealed : old.stopper_did ≡ Some [] → o.sealed.items ≡ []

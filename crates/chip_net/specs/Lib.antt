@@ -1,0 +1,10 @@
+pub mod Layout
+pub mod Views
+pub mod Rule
+pub mod Opening
+pub mod Traces
+pub mod Tokens
+pub mod Roots
+pub mod Finish
+pub mod Laws
+pub mod Worked

@@ -1,0 +1,50 @@
+-- The rule of a net: between any two steps of whatever threads, words and views are what some legal log of the core leaves.
+use Rattle.std.specs.Prelude.{◌≡◌, ℕ, ◌+◌, ◌<◌, List, [], ◌∷◌, length, Some}
+use mathlib.Core.Option.{some}
+use lib.ListN.{get_elem?}
+use Rattle.atomic_table.specs.Table.{State, Me}
+use Rattle.chip_graph.specs.Multigraph.{Multigraph}
+use Rattle.chip_actor.specs.Setting.{Setting, IsSetting}
+use Rattle.chip_core.specs.Core.{Log, Step, Event, part_of, IsLegalLog}
+use Rattle.chip_core.specs.Histories.{done_by}
+use Rattle.chip_core.specs.Words.{noted, IsShown}
+use Rattle.chip_net.specs.Layout.{word_count, value_in}
+use Rattle.chip_net.specs.Views.{View, find, grown}
+
+-- the rule
+pub record Kept (g : Setting) (s : State (Unit {0}) View) : Type 0 where
+  pub log : Log
+  -- in which view each part stands
+  pub owner : ℕ → ℕ
+  pub setting : IsSetting g
+  pub wide : length s.words ≡ word_count g
+  -- a part stands in no view but its owner's, with what it did in the log
+  pub each_part : (j : ℕ) (v : View) → get_elem? s.views j ≡ some v → (p : ℕ) (did : List Step) → find p v.parts ≡ Some did → (owner p ≡ j) × (did ≡ done_by g p log)
+  -- and it stands there
+  pub there : (p : ℕ) → p < g.graph.vertices + 2 → (v : View) × (get_elem? s.views (owner p) ≡ some v) × (find p v.parts ≡ Some (done_by g p log))
+  -- the words show the log
+  pub shown : IsShown g log (value_in g s.words)
+  -- the core can have come here
+  pub legal : IsLegalLog g log
+
+-- an event, with what is noted as seen where its operation found n
+abbrev pub step_of : Event → ℕ → Step
+step_of x n = record { event = x; seen = noted x n }
+
+-- each part of the view did what it did in this log
+abbrev pub AgreesWithLog : Setting → Log → View → Type 0
+AgreesWithLog g log v = (p : ℕ) (did : List Step) → find p v.parts ≡ Some did → did ≡ done_by g p log
+
+-- some legal log in which the parts of the view did what they did goes on with this step
+pub record Stepped (g : Setting) (x : Step) (v : View) : Type 0 where
+  pub log : Log
+  pub legal : IsLegalLog g (x ∷ log)
+  pub agrees : AgreesWithLog g log v
+
+-- what a step tells: the part that acts did this more, and the core makes the event there
+abbrev pub Grows : Setting → Event → Me (Unit {0}) View → ℕ → Me (Unit {0}) View → Type 0
+Grows g x before seen after = (after.0 ≡ grown (part_of g x) (step_of x seen) before.0) × Stepped g (step_of x seen) before.0
+
+-- what no net is opened for
+abbrev pub no_setting : Setting
+no_setting = record { graph = record { vertices = 0; sink = 0; edges = [] }; start = []; limit = 0; ring = 0 }

@@ -1,0 +1,31 @@
+-- What an actor writes down of its own run.
+use Rattle.std.specs.Prelude.{◌≡◌, ℕ, ◌==◌, nat_lt, Bool, if◌then◌else◌, List, [], ◌∷◌, ◌++◌, length, take}
+use Rattle.chip_link.specs.declared.trace.TraceRow.{TraceRow}
+use Rattle.chip_link.specs.declared.trace.TraceRow.TheVariants as Row
+use Rattle.chip_core.specs.Core.{Step, Event, Take, Fire}
+
+-- the row of an event that saw this, if it has one: a take of a message and a firing have
+abbrev pub row_of : Event → ℕ → List TraceRow
+row_of (Take e) seen = if seen == 0 then [] else Row.Take e seen ∷ []
+row_of (Fire v k) seen = Row.Fire k ∷ []
+row_of _ seen = []
+
+-- the rows of some steps
+abbrev pub rows_of : List Step → List TraceRow
+rows_of [] = []
+rows_of (x ∷ xs) = row_of x.event x.seen ++ rows_of xs
+
+-- a trace: its rows, how many it has room for, and whether one was lost
+pub record TraceState : Type 0 where
+  pub rows : List TraceRow
+  pub room : ℕ
+  pub cut : Bool
+
+-- a trace with nothing in it
+abbrev pub blank_trace : ℕ → TraceState
+blank_trace room = record { rows = []; room = room; cut = nat_lt room 0 }
+
+-- of all these rows the trace has those for which it has room, and it is cut where a row was lost
+pub record Keeps (all : List TraceRow) (t : TraceState) : Type 0 where
+  pub rows : t.rows ≡ take t.room all
+  pub cut : t.cut ≡ nat_lt t.room (length all)

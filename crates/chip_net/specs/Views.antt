@@ -1,0 +1,61 @@
+-- What the seats of a net know: a finite map from parts to what each of them did.
+use Rattle.std.specs.Prelude.{◌≡◌, ℕ, zero, suc, ◌+◌, ◌==◌, if◌then◌else◌, List, [], ◌∷◌, ◌++◌, Option, Some, None}
+use Rattle.chip_actor.specs.Setting.{Setting}
+use Rattle.chip_core.specs.Core.{Step, Part, opened}
+use Rattle.chip_core.specs.Histories.{part_by}
+pub use Rattle.chip_net.specs.declared.views.History.{History}
+pub use Rattle.chip_net.specs.declared.views.View.{View}
+
+-- what the part p did, if it stands here
+abbrev pub find : ℕ → List History → Option (List Step)
+find p [] = None
+find p (x ∷ xs) = if x.part == p then Some x.did else find p xs
+
+-- the part p did one step more
+abbrev pub grow : ℕ → Step → List History → List History
+grow p x [] = []
+grow p x (y ∷ ys) = record { part = y.part; did = if y.part == p then y.did ++ x ∷ [] else y.did } ∷ grow p x ys
+
+abbrev pub grown : ℕ → Step → View → View
+grown p x v = record { parts = grow p x v.parts }
+
+abbrev pub steps_or_none : Option (List Step) → List Step
+steps_or_none None = []
+steps_or_none (Some did) = did
+
+-- what a part did that stands in a view
+abbrev pub did_in : ℕ → View → List Step
+did_in p v = steps_or_none (find p v.parts)
+
+-- the part stands in the view
+abbrev pub Has : ℕ → View → Type 0
+Has p v = find p v.parts ≡ Some (did_in p v)
+
+-- the part p of the core, as what it did leaves it
+abbrev pub part_of_view : Setting → ℕ → View → Part
+part_of_view g p v = part_by g (opened g) (did_in p v)
+
+-- what is left where the part p is handed on
+abbrev pub drop_part : ℕ → List History → List History
+drop_part p [] = []
+drop_part p (y ∷ ys) = if y.part == p then drop_part p ys else y ∷ drop_part p ys
+
+abbrev pub without : ℕ → View → View
+without p v = record { parts = drop_part p v.parts }
+
+-- what is handed on
+abbrev pub only : ℕ → Option (List Step) → List History
+only p None = []
+only p (Some did) = record { part = p; did = did } ∷ []
+
+abbrev pub alone : ℕ → View → View
+alone p v = record { parts = only p (find p v.parts) }
+
+-- the parts below n, none of which did anything yet
+abbrev pub parts_below : ℕ → List History
+parts_below zero = []
+parts_below (suc n) = record { part = n; did = [] } ∷ parts_below n
+
+-- all parts as the game opens: the vertices, the root and the stopper
+abbrev pub opening_view : Setting → View
+opening_view g = record { parts = parts_below (g.graph.vertices + 2) }

@@ -1,0 +1,112 @@
+ghost use Rattle.std.specs.Prelude.{◌≡◌, ◌<◌, nat_lt, length, take};
+ghost use Rattle.chip_actor.specs.Actor.{StandsFor};
+ghost use Rattle.chip_actor.specs.Part.{opened};
+ghost use Rattle.chip_net.specs.Traces.{rows_of};
+ghost use Rattle.chip_net.specs.Tokens.{ActorKnown, part_known, MakesTurn, MakesTurnBy};
+
+use crate::hand::Hand;
+use crate::net::Net;
+use crate::net_words::{NetWords, Turning};
+use chip_actor::ActorState;
+use chip_link::TraceRow;
+use std::marker::{Brand, Model, PhantomData};
+
+/// What a turn came to.
+#[derive(Clone, Copy, Debug, PartialEq, Eq)]
+pub enum Turn {
+    /// So many of its steps, 1 or more, took, fired, sent, put, halted, acknowledged, or settled something new.
+    Worked(u64),
+    /// None did, and the vertex has still something to do.
+    Waiting,
+    /// None did, and the vertex has nothing to do unless a message comes: the detector leaves it out, or it waits for
+    /// acknowledgements.
+    Idle,
+}
+
+/// The owner of one vertex of a net. Contracts see what it has done.
+#[derive(Drop)]
+pub struct Actor {
+    state: ActorState,
+    // `None` only during a turn, which takes it by value.
+    hand: Option<Hand>,
+}
+
+impl Model for Actor {
+    ghost use Rattle.chip_net.specs.Tokens.{ActorKnown, known_of, IsActor};
+
+    ghost Value = { ActorKnown };
+
+    ghost view = { λ a. known_of a.hand };
+
+    ghost invariant = { λ a. IsActor a.state a.hand };
+}
+
+impl Actor {
+    pub(crate) fn new(state: ActorState, hand: Hand) -> Actor
+        requires vertex { state.vertex ≡ hand.vertex }
+        requires state { StandsFor hand.net.setting (part_known hand) state }
+        ensures { result ≡ hand }
+    {
+        Actor {
+            state,
+            hand: Some(hand),
+        }
+    }
+
+    /// The number of its vertex.
+    pub fn vertex(&self) -> u64
+        ensures { result ≡ self.now.vertex }
+    {
+        self.state.vertex()
+    }
+
+    /// One turn: a look at each edge into the vertex, and then all that the vertex may do. Nothing waits, and nothing is
+    /// locked.
+    pub fn turn(&mut self, net: &Net) -> Turn
+        requires net { self.old.net ≡ net.now }
+        ensures turn { MakesTurn self.old self.new result }
+        ensures same { (self.new.net ≡ self.old.net) × (self.new.vertex ≡ self.old.vertex) × (self.new.room ≡ self.old.room) }
+    {
+        let Some(hand) = self.hand.take() else {
+            unreachable!()
+        };
+        let (work, hand) = turn_over::<Brand>(net, &mut self.state, hand);
+        self.hand = Some(hand);
+        if work > 0 {
+            Turn::Worked(work as u64)
+        } else if self.state.passive() {
+            Turn::Idle
+        } else {
+            Turn::Waiting
+        }
+    }
+
+    /// The takes of messages and the firings of the vertex, in order, as far as there was room for them; and whether the
+    /// trace is cut, since there was no room for one.
+    pub fn trace(&self) -> (&[TraceRow], bool)
+        ensures rows { result.0.now ≡ take self.now.room (rows_of self.now.did) }
+        ensures cut { result.1 ≡ nat_lt self.now.room (length (rows_of self.now.did)) }
+    {
+        let Some(hand) = &self.hand else {
+            unreachable!()
+        };
+        (hand.rows(), hand.is_cut())
+    }
+}
+
+/// A whole turn over the words of the net; how many of its steps count.
+fn turn_over<J: Turning>(net: &Net, state: &mut ActorState, hand: Hand) -> (usize, Hand)
+    requires first { J.first ≡ hand }
+    requires net { hand.net ≡ net.now }
+    requires vertex { state.old.vertex ≡ hand.vertex }
+    requires state { StandsFor hand.net.setting (part_known hand) state.old }
+    ensures { MakesTurnBy hand result.1 state.new result.0 }
+{
+    let mut words = NetWords::<J> {
+        net,
+        hand,
+        of: PhantomData,
+    };
+    let work = state.turn(&mut words);
+    (work, words.hand)
+}

@@ -1,0 +1,192 @@
+//! What an actor acts with: its seat at the shared words. Each operation is one atomic step.
+
+ghost use Rattle.std.specs.Prelude.{◌≡◌, ◌<◌, [], Some};
+ghost use Rattle.chip_net.specs.Tokens.{IsDueFor, MakesStep, newcomer};
+
+use crate::calls;
+use crate::net::Net;
+use crate::rule::PartSeat;
+use crate::setup::Setup;
+use crate::trace::Trace;
+use chip_actor::Act;
+use chip_link::{Event, FiredWord, TraceRow};
+use std::marker::{Brand, Model};
+use std::snapshot::Snapshot;
+
+/// The seat of a vertex, and the trace of what it did there.
+#[derive(Drop)]
+pub(crate) struct Hand {
+    vertex: u64,
+    seat: PartSeat,
+    setup: Snapshot<Setup>,
+    trace: Trace,
+}
+
+impl Model for Hand {
+    ghost use Rattle.chip_net.specs.Tokens.{ActorKnown, IsHand};
+    ghost use Rattle.chip_net.specs.Views.{did_in};
+
+    ghost Value = { ActorKnown };
+
+    ghost view = { λ a. record {
+      net = record { table = a.seat.table_id; setting = a.setup.value };
+      vertex = a.vertex;
+      room = a.trace.room;
+      did = did_in a.vertex a.seat.me.0;
+    } };
+
+    ghost invariant = { λ a. IsHand a.setup.value a.vertex a.seat.me.0 a.trace };
+}
+
+impl Hand {
+    ghost use Rattle.std.specs.Prelude.{◌≡◌, ◌<◌, [], Some, take, nat_lt, length};
+    ghost use Rattle.chip_actor.specs.Setting.{IsSetting};
+    ghost use Rattle.chip_net.specs.Views.{find};
+    ghost use Rattle.chip_net.specs.Traces.{Keeps, rows_of};
+
+    /// For a vertex that has done nothing.
+    pub(crate) fn new(setup: Snapshot<Setup>, seat: PartSeat, vertex: u64, trace: Trace) -> Hand
+        requires setting { IsSetting setup.value }
+        requires vertex { vertex < setup.value.graph.vertices }
+        requires part { find vertex seat.me.0.parts ≡ Some [] }
+        requires trace { Keeps [] trace }
+        ensures { result ≡ newcomer (record { table = seat.table_id; setting = setup.value }) trace.room vertex }
+    {
+        Hand {
+            vertex,
+            seat,
+            setup,
+            trace,
+        }
+    }
+
+    /// The rows of what the vertex did, as far as there was room for them.
+    pub(crate) fn rows(&self) -> &[TraceRow]
+        ensures { result.now ≡ take self.now.room (rows_of self.now.did) }
+    {
+        self.trace.rows()
+    }
+
+    /// Whether a row was lost.
+    pub(crate) fn is_cut(&self) -> bool
+        ensures { result ≡ nat_lt self.now.room (length (rows_of self.now.did)) }
+    {
+        self.trace.is_cut()
+    }
+
+    /// Swaps a cell of an edge with 0, and gives what was there.
+    pub(crate) fn take(&mut self, net: &Net, edge: u64, cell: u64) -> u64
+        requires net { self.old.net ≡ net.now }
+        requires due { IsDueFor self.old (Act.Take edge cell) }
+        ensures { MakesStep self.old self.new (Act.Take edge cell) result }
+    {
+        let seat = &mut self.seat;
+        let word = net.setup().cell_word(edge, cell);
+        let event = Event::Take(edge);
+        let count = calls::swap::<Brand>(net.words(), seat, word, 0, event);
+        self.trace.note_take(edge, count);
+        count
+    }
+
+    /// Loads the word of acknowledgements of an edge.
+    pub(crate) fn settle(&mut self, net: &Net, edge: u64) -> u64
+        requires net { self.old.net ≡ net.now }
+        requires due { IsDueFor self.old (Act.Settle edge) }
+        ensures { MakesStep self.old self.new (Act.Settle edge) result }
+    {
+        let seat = &mut self.seat;
+        let word = net.setup().acks_word(edge);
+        let event = Event::Settle(edge);
+        calls::load::<Brand>(net.words(), seat, word, event)
+    }
+
+    /// Adds to the fired word of the vertex, and gives it as it was.
+    pub(crate) fn fire(&mut self, net: &Net, k: u64) -> u64
+        requires net { self.old.net ≡ net.now }
+        requires due { IsDueFor self.old (Act.Fire k) }
+        ensures { MakesStep self.old self.new (Act.Fire k) result }
+    {
+        let vertex = self.vertex;
+        let seat = &mut self.seat;
+        let word = net.setup().fired_word(vertex);
+        let event = Event::Fire { vertex, k };
+        let before = calls::fetch_add::<Brand>(net.words(), seat, word, k, event);
+        self.trace.note(TraceRow::Fire { k });
+        before
+    }
+
+    /// Loads a cell of an edge.
+    pub(crate) fn clear(&mut self, net: &Net, edge: u64, cell: u64) -> u64
+        requires net { self.old.net ≡ net.now }
+        requires due { IsDueFor self.old (Act.Clear edge cell) }
+        ensures { MakesStep self.old self.new (Act.Clear edge cell) result }
+    {
+        let seat = &mut self.seat;
+        let word = net.setup().cell_word(edge, cell);
+        let event = Event::Clear(edge);
+        calls::load::<Brand>(net.words(), seat, word, event)
+    }
+
+    /// One try to put `new` in the place of `expected` in the edge word, which it gives as it was.
+    pub(crate) fn claim(&mut self, net: &Net, edge: u64, expected: u64, new: u64) -> u64
+        requires net { self.old.net ≡ net.now }
+        requires due { IsDueFor self.old (Act.Claim edge expected new) }
+        ensures { MakesStep self.old self.new (Act.Claim edge expected new) result }
+    {
+        let seat = &mut self.seat;
+        let word = net.setup().edge_word(edge);
+        let event = Event::Claim(edge);
+        calls::exchange::<Brand>(net.words(), seat, word, expected, new, event)
+    }
+
+    /// Stores a value into a cell of an edge.
+    pub(crate) fn put(&mut self, net: &Net, edge: u64, cell: u64, value: u64)
+        requires net { self.old.net ≡ net.now }
+        requires due { IsDueFor self.old (Act.Put edge cell value) }
+        ensures { MakesStep self.old self.new (Act.Put edge cell value) 0 }
+    {
+        let seat = &mut self.seat;
+        let word = net.setup().cell_word(edge, cell);
+        let event = Event::Put(edge);
+        calls::store::<Brand>(net.words(), seat, word, value, event);
+    }
+
+    /// Sets the bits of a halt in the fired word of the vertex, and gives it as it was.
+    pub(crate) fn halt(&mut self, net: &Net, by_limit: bool) -> u64
+        requires net { self.old.net ≡ net.now }
+        requires due { IsDueFor self.old (Act.Halt by_limit) }
+        ensures { MakesStep self.old self.new (Act.Halt by_limit) result }
+    {
+        let vertex = self.vertex;
+        let seat = &mut self.seat;
+        let word = net.setup().fired_word(vertex);
+        let bits = halt_bits(by_limit);
+        let event = Event::Halt(vertex);
+        calls::fetch_or::<Brand>(net.words(), seat, word, bits, event)
+    }
+
+    /// Adds to the word of acknowledgements of an edge, and gives it as it was.
+    pub(crate) fn ack(&mut self, net: &Net, edge: u64, count: u64) -> u64
+        requires net { self.old.net ≡ net.now }
+        requires due { IsDueFor self.old (Act.Ack edge count) }
+        ensures { MakesStep self.old self.new (Act.Ack edge count) result }
+    {
+        let seat = &mut self.seat;
+        let word = net.setup().acks_word(edge);
+        let event = Event::Ack(edge);
+        calls::fetch_add::<Brand>(net.words(), seat, word, count, event)
+    }
+}
+
+ghost use Rattle.chip_core.specs.Words.{halt_bits};
+
+/// What a halt sets in the fired word, by its cause.
+fn halt_bits(by_limit: bool) -> u64
+    ensures { result ≡ halt_bits by_limit }
+{
+    if by_limit {
+        FiredWord::HALT_BY_LIMIT
+    } else {
+        FiredWord::HALT
+    }
+}

@@ -1,0 +1,19 @@
+//! What holds of a net at every moment, and worked words and records, as the contracts of functions that do nothing.
+
+ghost use Rattle.chip_net.specs.Worked.{TriangleWords, TriangleOpens, PartHandedOn, RowsOfATurn, RootOfTheTriangle};
+ghost use Rattle.chip_net.specs.Laws.{EveryMomentIsReached};
+
+/// The small triangle as a net, as the definitions compute it.
+pub fn worked_nets()
+    ensures words { TriangleWords }
+    ensures opening { TriangleOpens }
+    ensures handed_on { PartHandedOn }
+    ensures rows { RowsOfATurn }
+    ensures root { RootOfTheTriangle }
+{}
+
+/// Whatever threads do, words and views are a world that grows by one event at a time from the opening's. What each part did
+/// stands in exactly one view. So what the core proves of every log holds of a running net between any two steps.
+pub fn every_moment()
+    ensures { EveryMomentIsReached }
+{}

@@ -1,0 +1,81 @@
+ghost use Rattle.std.specs.Prelude.{◌≡◌, [], Some, IfOk};
+
+use crate::calls;
+use crate::rule::{PartSeat, Words};
+use crate::setup::Setup;
+use std::alloc::{AllocError, Global};
+use std::marker::{Brand, Model};
+use std::snapshot::Snapshot;
+
+/// The words that the threads of a net share. A token is used with the net that opened it.
+#[derive(Drop)]
+pub struct Net {
+    setup: Setup,
+    words: Words,
+}
+
+impl Model for Net {
+    ghost use Rattle.chip_net.specs.Tokens.{NetId};
+    ghost use Rattle.chip_net.specs.Layout.{word_count};
+    ghost use Rattle.chip_actor.specs.Setting.{IsSetting};
+    ghost use Rattle.std.specs.Prelude.{◌≡◌};
+
+    ghost Value = { NetId };
+
+    ghost view = { λ a. record { table = a.words.shared.table_id; setting = a.setup } };
+
+    ghost invariant = { λ a. (a.words.shared.key.value ≡ a.setup)
+        × (a.words.shared.table_id.words ≡ word_count a.setup) × IsSetting a.setup };
+}
+
+impl Net {
+    ghost use Rattle.chip_actor.specs.Setting.{IsSetting};
+    ghost use Rattle.chip_actor.specs.Edges.{all_edges};
+    ghost use Rattle.chip_net.specs.Layout.{word_count};
+    ghost use Rattle.chip_net.specs.Opening.{AreOpening};
+    ghost use Rattle.chip_net.specs.Views.{find, opening_view, without};
+
+    /// A net with these words, and the seat that has every part.
+    pub(crate) fn of_words(
+        alloc: Global,
+        setup: Setup,
+        words: &[u64],
+    ) -> Result<(Net, PartSeat), AllocError>
+        requires { AreOpening setup (all_edges setup) words.now }
+        ensures net { IfOk result (λ r. r.0.setting ≡ setup) }
+        ensures seat { IfOk result (λ r. (r.1.table_id ≡ r.0.table) × (r.1.me.0 ≡ opening_view setup)) }
+    {
+        let _ring = setup.ring();
+        let key = Snapshot::of(&setup);
+        let (words, seat) = Words::of_words(alloc, words, &key)?;
+        Ok((Net { setup, words }, seat))
+    }
+
+    /// What the net was opened for.
+    pub(crate) fn setup(&self) -> &Setup
+        ensures value { result.now ≡ self.now.setting }
+        ensures setting { IsSetting self.now.setting }
+    {
+        &self.setup
+    }
+
+    /// The shared words.
+    pub(crate) fn words(&self) -> &Words
+        ensures table { result.now.shared.table_id ≡ self.now.table }
+        ensures key { result.now.shared.key.value ≡ self.now.setting }
+        ensures count { self.now.table.words ≡ word_count self.now.setting }
+        ensures setting { IsSetting self.now.setting }
+    {
+        &self.words
+    }
+
+    /// A seat of its own for a part that has done nothing.
+    pub(crate) fn hand_on(&self, seat: &mut PartSeat, part: u64) -> PartSeat
+        requires seat { seat.old.table_id ≡ self.now.table }
+        requires part { find part seat.old.me.0.parts ≡ Some [] }
+        ensures kept { (seat.new.table_id ≡ seat.old.table_id) × (seat.new.me.0 ≡ without part seat.old.me.0) }
+        ensures given { (result.table_id ≡ seat.old.table_id) × (find part result.me.0.parts ≡ Some []) }
+    {
+        calls::hand_on::<Brand>(&self.words, seat, part)
+    }
+}

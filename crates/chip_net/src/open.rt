@@ -1,0 +1,146 @@
+//! How a net is opened.
+
+ghost use Rattle.std.specs.Prelude.{◌≡◌, ℕ, ◌<◌, ◌≤◌, ◌+◌, [], length, IfOk, Some, None, All, slice_get, if◌then◌else◌};
+ghost use Rattle.chip_actor.specs.Setting.{setting_of};
+ghost use Rattle.chip_actor.specs.Edges.{graph_edges, all_edges, root, stopper};
+ghost use Rattle.chip_net.specs.Opening.{AreOpening};
+ghost use Rattle.chip_net.specs.Views.{find};
+ghost use Rattle.chip_net.specs.Tokens.{newcomer};
+ghost use Rattle.chip_net.specs.Roots.{new_root, new_stopper};
+
+use crate::actor::Actor;
+use crate::hand::Hand;
+use crate::net::Net;
+use crate::root::Root;
+use crate::rule::PartSeat;
+use crate::setup::Setup;
+use crate::stopper::Stopper;
+use crate::trace::Trace;
+use chip_actor::ActorState;
+use chip_graph::Game;
+use chip_link::Ring;
+use std::alloc::{AllocError, Global};
+use std::snapshot::Snapshot;
+
+/// Lays out the message of one root edge, where its vertex starts with chips.
+fn open_edge(setup: &Setup, words: &mut Vec<u64>, vertex: u64)
+    requires vertex { vertex < setup.now.graph.vertices }
+    requires words { AreOpening setup.now (graph_edges setup.now + vertex) words.old.items }
+    ensures { AreOpening setup.now (graph_edges setup.now + vertex + 1) words.new.items }
+{
+    let chips = setup.game().start()[vertex as usize];
+    if chips > 0 {
+        let edge = setup.root_edge(vertex);
+        let _cells = setup.ring().cells();
+        let word = setup.edge_word(edge);
+        let cell = setup.cell_word(edge, 0);
+        words[word] = 1;
+        words[cell] = chips;
+    }
+}
+
+/// The words of a net that opens: the messages of the start lie on the root edges.
+fn opening_words(alloc: Global, setup: &Setup) -> Result<Vec<u64>, AllocError>
+    ensures { IfOk result (λ words. AreOpening setup.now (all_edges setup.now) words.items) }
+{
+    let mut words = vec![in alloc; 0; setup.word_count()]?;
+    for vertex in 0..setup.vertices() {
+        open_edge(setup, &mut words, vertex);
+    }
+    Ok(words)
+}
+
+/// The actor of one vertex, whose part the seat hands on.
+fn one_actor(
+    alloc: Global,
+    net: &Net,
+    seat: &mut PartSeat,
+    trace_rows: u64,
+    vertex: u64,
+) -> Result<Actor, AllocError>
+    requires table { seat.old.table_id ≡ net.now.table }
+    requires vertex { vertex < net.now.setting.graph.vertices }
+    requires part { find vertex seat.old.me.0.parts ≡ Some [] }
+    ensures table { seat.new.table_id ≡ seat.old.table_id }
+    ensures others { (p : ℕ) → vertex < p → find p seat.new.me.0.parts ≡ find p seat.old.me.0.parts }
+    ensures actor { IfOk result (λ a. a ≡ newcomer net.now trace_rows vertex) }
+{
+    let own = net.hand_on(seat, vertex);
+    let setup = net.setup();
+    let state = ActorState::new(alloc, setup.game(), vertex, setup.ring())?;
+    let trace = Trace::new(alloc, trace_rows as usize)?;
+    Ok(Actor::new(state, Hand::new(Snapshot::of(setup), own, vertex, trace)))
+}
+
+/// The actors of all vertices, ascending.
+fn all_actors(
+    alloc: Global,
+    net: &Net,
+    seat: &mut PartSeat,
+    trace_rows: u64,
+) -> Result<Vec<Actor>, AllocError>
+    requires table { seat.old.table_id ≡ net.now.table }
+    requires parts { (p : ℕ) → p < net.now.setting.graph.vertices + 2 → find p seat.old.me.0.parts ≡ Some [] }
+    ensures table { seat.new.table_id ≡ seat.old.table_id }
+    ensures rest { (p : ℕ) → net.now.setting.graph.vertices ≤ p → p < net.now.setting.graph.vertices + 2
+        → find p seat.new.me.0.parts ≡ Some [] }
+    ensures count { IfOk result (λ v. length v.items ≡ net.now.setting.graph.vertices) }
+    ensures actors { IfOk result (λ v. (p : ℕ) → p < net.now.setting.graph.vertices
+        → slice_get v.items p ≡ Some (newcomer net.now trace_rows p)) }
+    ensures ours { IfOk result (λ v. All (λ a. a.net ≡ net.now) v.items) }
+{
+    let vertices = net.setup().vertices();
+    let mut actors = Vec::with_capacity(alloc, vertices as usize)?;
+    for vertex in 0..vertices {
+        actors.push_reserved(one_actor(alloc, net, seat, trace_rows, vertex)?);
+    }
+    Ok(actors)
+}
+
+/// The stopper, where there is to be one: its part then leaves the seat.
+fn stopper_of(net: &Net, seat: &mut PartSeat, stoppable: bool) -> Option<Stopper>
+    requires table { seat.old.table_id ≡ net.now.table }
+    requires root { find (root net.now.setting) seat.old.me.0.parts ≡ Some [] }
+    requires stopper { find (stopper net.now.setting) seat.old.me.0.parts ≡ Some [] }
+    ensures table { seat.new.table_id ≡ seat.old.table_id }
+    ensures root { find (root net.now.setting) seat.new.me.0.parts ≡ Some [] }
+    ensures left { find (stopper net.now.setting) seat.new.me.0.parts ≡ (if stoppable then None else Some []) }
+    ensures stopper { result ≡ (if stoppable then Some (new_stopper net.now) else None) }
+{
+    if !stoppable {
+        return None;
+    }
+    let part = net.setup().vertices() + 1;
+    let own = net.hand_on(seat, part);
+    Some(Stopper::new(Snapshot::of(net.setup()), own))
+}
+
+impl Net {
+    /// A net for this game, whose edges have such rings, with its tokens: the root, the actors of the vertices in ascending order,
+    /// each with room for so many trace rows, and a stopper where the net is to be stoppable. All memory of the net's life is
+    /// taken here, and for want of it alone it is refused.
+    pub fn open(
+        alloc: Global,
+        game: &Game,
+        ring: Ring,
+        trace_rows: u64,
+        stoppable: bool,
+    ) -> Result<(Net, Root, Vec<Actor>, Option<Stopper>), AllocError>
+        ensures setting { IfOk result (λ r. r.0.setting ≡ setting_of game.now ring) }
+        ensures root { IfOk result (λ r. r.1 ≡ new_root r.0 (if stoppable then None else Some [])) }
+        ensures count { IfOk result (λ r. length r.2.items ≡ game.now.graph.vertices) }
+        ensures actors { IfOk result (λ r. (v : ℕ) → v < game.now.graph.vertices
+            → slice_get r.2.items v ≡ Some (newcomer r.0 trace_rows v)) }
+        ensures ours { IfOk result (λ r. All (λ a. a.net ≡ r.0) r.2.items) }
+        ensures stopper { IfOk result (λ r. r.3 ≡ (if stoppable then Some (new_stopper r.0) else None)) }
+    {
+        let setup = Setup::new(alloc, game, ring)?;
+        let own = setup.copy(alloc)?;
+        let words = opening_words(alloc, &setup)?;
+        let (net, mut seat) = Net::of_words(alloc, setup, &words)?;
+        let actors = all_actors(alloc, &net, &mut seat, trace_rows)?;
+        let stopper = stopper_of(&net, &mut seat, stoppable);
+        let root = Root::new(alloc, own, seat)?;
+        Ok((net, root, actors, stopper))
+    }
+}

@@ -1,0 +1,80 @@
+//! The rule of the table, and what a step of it tells.
+
+use crate::setup::Setup;
+use crate::views::View;
+use atomic_table::{Play, Seat, Split, Table, TableRule};
+use std::alloc::Global;
+use std::marker::{Brand, PhantomData};
+use std::snapshot::Snapshot;
+
+/// Words and views are what some legal log of the core leaves.
+pub struct Rule;
+
+impl TableRule<(), View, Snapshot<Setup>> for Rule {
+    ghost use Rattle.chip_net.specs.Rule.{Kept};
+    ghost use Rattle.chip_net.specs.Views.{opening_view};
+
+    ghost holds = { λ key s. Kept key.value s };
+
+    ghost first = { λ key. opening_view key.value };
+}
+
+/// The shared words, under the rule.
+pub(crate) type Words = Table<(), View, Snapshot<Setup>, Rule, Global>;
+
+/// A seat at them, whose view has the parts that its owner may act for.
+pub(crate) type PartSeat = Seat<(), View>;
+
+/// An event, and the net in which it is made.
+pub(crate) trait Making {
+    ghost use Rattle.chip_actor.specs.Setting.{Setting};
+    ghost use Rattle.chip_core.specs.Core.{Event};
+
+    ghost setting: { Setting };
+
+    ghost event: { Event };
+}
+
+impl Making for Brand {
+    ghost use Rattle.chip_core.specs.Core.{Put};
+    ghost use Rattle.chip_net.specs.Rule.{no_setting};
+
+    ghost setting = { no_setting };
+
+    ghost event = { Put 0 };
+}
+
+/// The part that acts did the event more.
+pub(crate) struct Grow<J> {
+    of: PhantomData<J>,
+}
+
+impl<J: Making> Play<(), View> for Grow<J> {
+    ghost use Rattle.chip_net.specs.Rule.{Grows};
+
+    ghost then = { λ _. Grows J.setting J.event };
+}
+
+/// A part that is handed on.
+pub(crate) trait Handing {
+    ghost use Rattle.std.specs.Prelude.{ℕ};
+
+    ghost part: { ℕ };
+}
+
+impl Handing for Brand {
+    ghost part = { 0 };
+}
+
+/// The part goes to a seat of its own.
+pub(crate) struct HandOn<J> {
+    of: PhantomData<J>,
+}
+
+impl<J: Handing> Split<View> for HandOn<J> {
+    ghost use Rattle.chip_net.specs.Views.{without, alone};
+
+    ghost left = { without J.part };
+
+    ghost right = { alone J.part };
+}

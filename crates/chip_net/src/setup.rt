@@ -1,0 +1,146 @@
+ghost use Rattle.std.specs.Prelude.{◌≡◌, ◌+◌, ◌^◌, ◌<◌, ◌≤◌, IfOk};
+
+use chip_graph::Game;
+use chip_link::Ring;
+use std::alloc::{AllocError, Global};
+use std::marker::Model;
+
+/// What a net is opened for, a game and the rings of its edges, and where each word lies. Contracts see it as a setting.
+#[derive(Debug, Drop)]
+pub struct Setup {
+    game: Game,
+    ring: Ring,
+}
+
+impl Model for Setup {
+    ghost use Rattle.chip_actor.specs.Setting.{Setting, setting_of, IsSetting};
+
+    ghost Value = { Setting };
+
+    ghost view = { λ a. setting_of a.game a.ring };
+
+    ghost invariant = { λ a. IsSetting (setting_of a.game a.ring) };
+}
+
+impl Setup {
+    ghost use Rattle.chip_actor.specs.Setting.{setting_of, game_of_setting, IsSetting};
+    ghost use Rattle.chip_actor.specs.Edges.{all_edges, graph_edges, root_edge};
+    ghost use Rattle.chip_core.specs.Words.{of_edge, of_acks, of_cell, of_vertex, IsWord};
+    ghost use Rattle.chip_net.specs.Layout.{index_of, word_count};
+
+    /// For a copy of the game, with these rings.
+    pub(crate) fn new(alloc: Global, game: &Game, ring: Ring) -> Result<Setup, AllocError>
+        ensures { IfOk result (λ setup. setup ≡ setting_of game.now ring) }
+    {
+        let _graph = game.graph();
+        let _cells = ring.cells();
+        Ok(Setup {
+            game: game.copy(alloc)?,
+            ring,
+        })
+    }
+
+    pub(crate) fn copy(&self, alloc: Global) -> Result<Setup, AllocError>
+        ensures { IfOk result (λ setup. setup ≡ self.now) }
+    {
+        Ok(Setup {
+            game: self.game.copy(alloc)?,
+            ring: self.ring,
+        })
+    }
+
+    pub(crate) fn game(&self) -> &Game
+        ensures value { result.now ≡ game_of_setting self.now }
+        ensures setting { IsSetting self.now }
+    {
+        &self.game
+    }
+
+    pub(crate) fn ring(&self) -> Ring
+        ensures value { result ≡ self.now.ring }
+        ensures setting { IsSetting self.now }
+    {
+        self.ring
+    }
+
+    pub(crate) fn vertices(&self) -> u64
+        ensures value { result ≡ self.now.graph.vertices }
+        ensures few { result ≤ 4096 }
+    {
+        self.game.graph().vertices()
+    }
+
+    /// How many edges the graph has.
+    pub(crate) fn graph_edges(&self) -> u64
+        ensures value { result ≡ graph_edges self.now }
+        ensures few { result ≤ 65536 }
+    {
+        self.game.graph().edges().len() as u64
+    }
+
+    /// How many edges there are, the root's among them.
+    fn all_edges(&self) -> u64
+        ensures value { result ≡ all_edges self.now }
+        ensures few { result ≤ 69632 }
+    {
+        self.graph_edges() + self.vertices()
+    }
+
+    /// The edge from the root to a vertex.
+    pub(crate) fn root_edge(&self, vertex: u64) -> u64
+        requires { vertex < self.now.graph.vertices }
+        ensures value { result ≡ root_edge self.now vertex }
+        ensures inside { result < all_edges self.now }
+    {
+        let _vertices = self.vertices();
+        self.graph_edges() + vertex
+    }
+
+    /// The number of the edge word of an edge.
+    pub(crate) fn edge_word(&self, edge: u64) -> usize
+        requires { IsWord self.now (of_edge edge) }
+        ensures { result ≡ index_of self.now (of_edge edge) }
+    {
+        let _edges = self.all_edges();
+        edge as usize
+    }
+
+    /// The number of the word of acknowledgements of an edge.
+    pub(crate) fn acks_word(&self, edge: u64) -> usize
+        requires { IsWord self.now (of_acks edge) }
+        ensures { result ≡ index_of self.now (of_acks edge) }
+    {
+        (self.all_edges() + edge) as usize
+    }
+
+    /// The number of a cell of an edge.
+    pub(crate) fn cell_word(&self, edge: u64, cell: u64) -> usize
+        requires { IsWord self.now (of_cell edge cell) }
+        ensures { result ≡ index_of self.now (of_cell edge cell) }
+    {
+        let edges = self.all_edges();
+        let ring = self.ring.cells();
+        (edges + edges + (edge * ring + cell)) as usize
+    }
+
+    /// The number of the fired word of a vertex.
+    pub(crate) fn fired_word(&self, vertex: u64) -> usize
+        requires { IsWord self.now (of_vertex vertex) }
+        ensures { result ≡ index_of self.now (of_vertex vertex) }
+    {
+        let edges = self.all_edges();
+        let ring = self.ring.cells();
+        let _vertices = self.vertices();
+        (edges + edges + edges * ring + vertex) as usize
+    }
+
+    /// How many words the net has.
+    pub(crate) fn word_count(&self) -> usize
+        ensures value { result ≡ word_count self.now }
+        ensures few { result < 2 ^ 24 }
+    {
+        let edges = self.all_edges();
+        let ring = self.ring.cells();
+        (edges + edges + edges * ring + self.vertices()) as usize
+    }
+}

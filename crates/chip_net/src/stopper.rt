@@ -1,0 +1,84 @@
+ghost use Rattle.std.specs.Prelude.{◌≡◌, ◌≤◌, [], Some, MatchResult};
+ghost use Rattle.chip_actor.specs.Setting.{IsSetting};
+ghost use Rattle.chip_actor.specs.Edges.{graph_edges, stopper};
+ghost use Rattle.chip_net.specs.Views.{find};
+ghost use Rattle.chip_net.specs.Roots.{StopperKnown, new_stopper, Seals};
+
+use crate::calls;
+use crate::net::Net;
+use crate::rule::PartSeat;
+use crate::setup::Setup;
+use chip_link::{EdgeWord, Event};
+use std::marker::{Brand, Model};
+use std::snapshot::Snapshot;
+
+/// What a seal found.
+#[derive(Clone, Copy, Debug, PartialEq, Eq)]
+pub struct SealedAt {
+    /// How many messages were ever sent on the edge, up to 2^40: no more will be.
+    pub count: u64,
+    /// Whether this was the first seal of it.
+    pub first: bool,
+}
+
+/// No edge of the graph has this number.
+#[derive(Clone, Copy, Debug, PartialEq, Eq)]
+pub struct NoEdge;
+
+/// The stopper of a net, who seals edges. Contracts see what it has done.
+#[derive(Drop)]
+pub struct Stopper {
+    seat: PartSeat,
+    setup: Snapshot<Setup>,
+}
+
+impl Model for Stopper {
+    ghost use Rattle.chip_actor.specs.Edges.{stopper};
+    ghost use Rattle.chip_net.specs.Views.{Has, did_in};
+    ghost use Rattle.chip_net.specs.Roots.{StopperKnown};
+
+    ghost Value = { StopperKnown };
+
+    ghost view = { λ a. record {
+      net = record { table = a.seat.table_id; setting = a.setup.value };
+      did = did_in (stopper a.setup.value) a.seat.me.0;
+    } };
+
+    ghost invariant = { λ a. Has (stopper a.setup.value) a.seat.me.0 };
+}
+
+impl Stopper {
+    pub(crate) fn new(setup: Snapshot<Setup>, seat: PartSeat) -> Stopper
+        requires { find (stopper setup.value) seat.me.0.parts ≡ Some [] }
+        ensures { result ≡ new_stopper (record { table = seat.table_id; setting = setup.value }) }
+    {
+        Stopper { seat, setup }
+    }
+
+    /// Seals an edge of the graph: every further claim of it is refused.
+    pub fn seal(&mut self, net: &Net, edge: u64) -> Result<SealedAt, NoEdge>
+        requires net { self.old.net ≡ net.now }
+        ensures same { self.new.net ≡ self.old.net }
+        ensures cases { MatchResult result (Seals self.old self.new edge)
+            (λ _. (graph_edges self.old.net.setting ≤ edge) × (self.new ≡ self.old)) }
+    {
+        let setup = net.setup();
+        if edge >= setup.graph_edges() {
+            return Err(NoEdge);
+        }
+        let word = setup.edge_word(edge);
+        let event = Event::Seal(edge);
+        let before = calls::fetch_or::<Brand>(
+            net.words(),
+            &mut self.seat,
+            word,
+            EdgeWord::SEAL,
+            event,
+        );
+        let before = EdgeWord::from_word(before);
+        Ok(SealedAt {
+            count: before.claims,
+            first: !before.sealed,
+        })
+    }
+}

@@ -1,0 +1,58 @@
+ghost use Rattle.std.specs.Prelude.{◌≡◌, ◌<◌, IfOk};
+ghost use Rattle.chip_net.specs.Finish.{blank_tally, tally_after};
+
+use chip_link::FiredWord;
+use std::alloc::{AllocError, Global};
+use std::marker::Model;
+
+/// What the fired words tell, of one vertex after another. All memory is taken at the beginning.
+#[derive(Debug, Drop)]
+pub(crate) struct Tally {
+    pub(crate) fired: Vec<u64>,
+    pub(crate) over: Vec<u64>,
+    pub(crate) sealed: Vec<u64>,
+    room: usize,
+}
+
+impl Model for Tally {
+    ghost use Rattle.std.specs.Prelude.{◌+◌, ◌≤◌, length};
+    ghost use Rattle.std.specs.Vec.{vec_capacity};
+    ghost use Rattle.chip_net.specs.Finish.{TallyState};
+
+    ghost Value = { TallyState };
+
+    ghost view = { λ a. record { fired = a.fired.items; over = a.over.items; sealed = a.sealed.items; room = a.room } };
+
+    ghost invariant = { λ a. (length a.fired.items + a.room ≤ vec_capacity a.fired)
+        × (length a.over.items + a.room ≤ vec_capacity a.over) × (length a.sealed.items + a.room ≤ vec_capacity a.sealed) };
+}
+
+impl Tally {
+    /// A tally of no vertex, with room for so many.
+    pub(crate) fn new(alloc: Global, room: usize) -> Result<Tally, AllocError>
+        ensures { IfOk result (λ tally. tally ≡ blank_tally room) }
+    {
+        Ok(Tally {
+            fired: Vec::with_capacity(alloc, room)?,
+            over: Vec::with_capacity(alloc, room)?,
+            sealed: Vec::with_capacity(alloc, room)?,
+            room,
+        })
+    }
+
+    /// One vertex more.
+    pub(crate) fn note(&mut self, word: FiredWord)
+        requires { 0 < self.old.room }
+        ensures { self.new ≡ tally_after word.fired word.halted word.by_limit self.old }
+    {
+        let vertex = self.fired.len() as u64;
+        self.fired.push_reserved(word.fired);
+        if word.by_limit {
+            self.over.push_reserved(vertex);
+        }
+        if word.halted && !word.by_limit {
+            self.sealed.push_reserved(vertex);
+        }
+        self.room -= 1;
+    }
+}

@@ -1,0 +1,278 @@
+//! Tokens on threads of their own.
+
+ghost use Rattle.std.specs.Prelude.{◌≡◌, All, IfOk, IfSome};
+
+use super::{LIMIT, TRIANGLE, all_turn, expect_outcome, finished, game, next_actor};
+use crate::{Actor, Net, Root, RootState, Stopper};
+use chip_fire::{Outcome, plain};
+use chip_graph::{Edge, Game, Graph};
+use chip_link::Ring;
+use std::alloc::Global;
+use std::process::Abort;
+use std::sync::atomic::AtomicBool;
+use std::sync::atomic::Ordering::SeqCst;
+use std::test::Fail;
+use std::thread::{self, Threads};
+
+/// How many calls a thread makes at most.
+const MOST: u64 = 10_000_000;
+
+/// Turns of these actors, one after another, until the root is closed.
+fn turn_until(net: &Net, closed: &AtomicBool, mut actors: Vec<Actor>)
+    requires { All (λ a. a.net ≡ net.now) actors.items }
+{
+    for _ in 0..MOST {
+        if closed.load(SeqCst) {
+            break;
+        }
+        all_turn(net, &mut actors);
+        thread::yield_now();
+    }
+}
+
+/// Polls until the root is closed.
+fn poll_until(net: &Net, closed: &AtomicBool, mut root: Root) -> Root
+    requires { root.net ≡ net.now }
+    ensures { result.net ≡ net.now }
+{
+    for _ in 0..MOST {
+        if root.poll(net) == RootState::Closed {
+            break;
+        }
+        thread::yield_now();
+    }
+    closed.store(true, SeqCst);
+    root
+}
+
+/// Seals an edge, where there is a stopper.
+fn seal_once(net: &Net, stopper: Option<Stopper>, edge: u64) -> bool
+    requires { IfSome stopper (λ s. s.net ≡ net.now) }
+{
+    match stopper {
+        Some(mut stopper) => stopper.seal(net, edge).is_ok(),
+        None => false,
+    }
+}
+
+/// Two shares of the actors, each in a thread of its own.
+fn two_turn<R: Threads>(
+    rt: &R,
+    net: &Net,
+    closed: &AtomicBool,
+    first: Vec<Actor>,
+    second: Vec<Actor>,
+)
+    requires first { All (λ a. a.net ≡ net.now) first.items }
+    requires second { All (λ a. a.net ≡ net.now) second.items }
+{
+    thread::join(
+        rt,
+        move ||
+            requires { All (λ a. a.net ≡ net.now) first.items }
+        { turn_until(net, closed, first) },
+        move ||
+            requires { All (λ a. a.net ≡ net.now) second.items }
+        { turn_until(net, closed, second) },
+    );
+}
+
+/// The stopper seals while the root polls.
+fn seal_and_poll<R: Threads>(
+    rt: &R,
+    net: &Net,
+    closed: &AtomicBool,
+    stopper: Option<Stopper>,
+    edge: u64,
+    root: Root,
+) -> Root
+    requires stopper { IfSome stopper (λ s. s.net ≡ net.now) }
+    requires root { root.net ≡ net.now }
+    ensures { result.net ≡ net.now }
+{
+    let (_, root) = thread::join(
+        rt,
+        move || -> bool
+            requires { IfSome stopper (λ s. s.net ≡ net.now) }
+        { seal_once(net, stopper, edge) },
+        move || -> Root
+            requires { root.net ≡ net.now }
+            ensures { result.net ≡ net.entry.now }
+        { poll_until(net, closed, root) },
+    );
+    root
+}
+
+/// A share of the actors turns beside.
+fn turn_and_poll<R: Threads + Sync>(
+    rt: &R,
+    net: &Net,
+    closed: &AtomicBool,
+    third: Vec<Actor>,
+    stopper: Option<Stopper>,
+    edge: u64,
+    root: Root,
+) -> Root
+    requires third { All (λ a. a.net ≡ net.now) third.items }
+    requires stopper { IfSome stopper (λ s. s.net ≡ net.now) }
+    requires root { root.net ≡ net.now }
+    ensures { result.net ≡ net.now }
+{
+    let (root, _) = thread::join(
+        rt,
+        move || -> Root
+            requires { IfSome stopper (λ s. s.net ≡ net.now) × (root.net ≡ net.now) }
+            ensures { result.net ≡ net.entry.now }
+        { seal_and_poll(rt, net, closed, stopper, edge, root) },
+        move ||
+            requires { All (λ a. a.net ≡ net.now) third.items }
+        { turn_until(net, closed, third) },
+    );
+    root
+}
+
+/// Three shares of the actors, the stopper and the root, each in a thread of its own, until the root is closed.
+fn all_play<R: Threads + Sync>(
+    rt: &R,
+    net: &Net,
+    shares: (Vec<Actor>, Vec<Actor>, Vec<Actor>),
+    stopper: Option<Stopper>,
+    edge: u64,
+    root: Root,
+) -> Root
+    requires first { All (λ a. a.net ≡ net.now) shares.0.items }
+    requires second { All (λ a. a.net ≡ net.now) shares.1.items }
+    requires third { All (λ a. a.net ≡ net.now) shares.2.items }
+    requires stopper { IfSome stopper (λ s. s.net ≡ net.now) }
+    requires root { root.net ≡ net.now }
+    ensures { result.net ≡ net.now }
+{
+    let closed = AtomicBool::new(false);
+    let closed = &closed;
+    let (first, second, third) = shares;
+    let (_, root) = thread::join(
+        rt,
+        move ||
+            requires { All (λ a. a.net ≡ net.now) first.items × All (λ a. a.net ≡ net.now) second.items }
+        { two_turn(rt, net, closed, first, second) },
+        move || -> Root
+            requires { All (λ a. a.net ≡ net.now) third.items × IfSome stopper (λ s. s.net ≡ net.now) × (root.net ≡ net.now) }
+            ensures { result.net ≡ net.entry.now }
+        { turn_and_poll(rt, net, closed, third, stopper, edge, root) },
+    );
+    root
+}
+
+/// The actors behind the first `count`, which go to a list of their own.
+fn rest_of(
+    rt: &impl Abort,
+    alloc: Global,
+    net: &Net,
+    actors: &mut Vec<Actor>,
+    count: usize,
+) -> Result<Vec<Actor>, Fail>
+    requires { All (λ a. a.net ≡ net.now) actors.old.items }
+    ensures first { All (λ a. a.net ≡ net.now) actors.new.items }
+    ensures rest { IfOk result (λ rest. All (λ a. a.net ≡ net.now) rest.items) }
+{
+    let mut rest = Vec::new(alloc);
+    for _ in count..actors.len() {
+        let actor = next_actor(rt, net, actors);
+        rest.push(actor)?;
+    }
+    Ok(rest)
+}
+
+/// Plays a game on threads, which share the actors by thirds, and seals an edge of it where it is stoppable.
+fn played_on_threads<R: Threads + Sync + Abort>(
+    rt: &R,
+    alloc: Global,
+    game: &Game,
+    stoppable: bool,
+    edge: u64,
+) -> Result<Outcome, Fail> {
+    let (net, root, mut actors, stopper) = Net::open(alloc, game, Ring::one(), 0, stoppable)?;
+    let third = actors.len() / 3;
+    let last = rest_of(rt, alloc, &net, &mut actors, 2 * third)?;
+    let middle = rest_of(rt, alloc, &net, &mut actors, third)?;
+    let shares = (actors, middle, last);
+    let root = all_play(rt, &net, shares, stopper, edge, root);
+    Ok(finished(rt, &net, root))
+}
+
+/// A vertex fires again, with a thread for each actor and one that polls.
+#[test]
+fn fires_again(rt: HostRuntime) -> Result<(), Fail> {
+    let alloc = rt.alloc();
+    let game = game(alloc, &TRIANGLE, &[5, 0, 0], LIMIT)?;
+    let outcome = played_on_threads(&rt, alloc, &game, false, 0)?;
+    expect_outcome(&rt, &outcome, &[3, 1, 0], &[0, 1, 4], &[]);
+    Ok(())
+}
+
+/// How wide the grid is.
+const SIDE: u64 = 8;
+
+/// The edges of the grid: each cell has one to each of its neighbours, and to the sink those that have no neighbour.
+fn grid(alloc: Global) -> Result<Vec<Edge>, Fail> {
+    let sink = SIDE * SIDE;
+    let mut edges = Vec::new(alloc);
+    for row in 0..SIDE {
+        for column in 0..SIDE {
+            let tail = row * SIDE + column;
+            let heads = [
+                if row > 0 { tail - SIDE } else { sink },
+                if row + 1 < SIDE { tail + SIDE } else { sink },
+                if column > 0 { tail - 1 } else { sink },
+                if column + 1 < SIDE { tail + 1 } else { sink },
+            ];
+            for head in heads {
+                edges.push(Edge {
+                    tail,
+                    head,
+                    mult: 1,
+                })?;
+            }
+        }
+    }
+    Ok(edges)
+}
+
+/// The grid with these chips.
+fn grid_game(alloc: Global, chips: &[u64]) -> Result<Game, Fail> {
+    let graph = Graph::new(alloc, SIDE * SIDE + 1, SIDE * SIDE, grid(alloc)?)?;
+    Ok(Game::new(graph, Vec::from_slice(alloc, chips)?, LIMIT)?)
+}
+
+/// Played on from where it ended, a game comes to the end of the plain player.
+fn expect_plays_on(
+    rt: &impl Abort,
+    alloc: Global,
+    outcome: &Outcome,
+    end: &Outcome,
+) -> Result<(), Fail> {
+    let more = plain(alloc, &grid_game(alloc, &outcome.chips)?)?;
+    for ((fired, more), all) in outcome.fired.iter().zip(&more.fired).zip(&end.fired) {
+        assert_eq!(rt; fired.checked_add(*more), Some(*all));
+    }
+    assert_eq!(rt; more.chips.as_slice(), end.chips.as_slice());
+    Ok(())
+}
+
+/// Threads that turn, poll and seal at once, a hundred times on the grid, each time with another edge to seal.
+#[test]
+fn grids(rt: HostRuntime) -> Result<(), Fail> {
+    let alloc = rt.alloc();
+    let mut chips = vec![in alloc; 4; (SIDE * SIDE) as usize]?;
+    chips.push(0)?;
+    let game = grid_game(alloc, &chips)?;
+    let end = plain(alloc, &game)?;
+    for round in 0..100 {
+        let outcome = played_on_threads(&rt, alloc, &game, round % 4 != 0, round * 2)?;
+        if outcome.sealed.is_empty() {
+            assert_eq!(rt; outcome, end);
+        }
+        expect_plays_on(&rt, alloc, &outcome, &end)?;
+    }
+    Ok(())
+}

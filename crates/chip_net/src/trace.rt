@@ -1,0 +1,80 @@
+ghost use Rattle.std.specs.Prelude.{◌≡◌, List, [], ◌∷◌, ◌++◌, IfOk};
+ghost use Rattle.chip_net.specs.Traces.{Keeps};
+
+use chip_link::TraceRow;
+use std::alloc::{AllocError, Global};
+use std::marker::Model;
+
+/// What an actor wrote down of its run, as far as there was room. All memory is taken at the beginning.
+#[derive(Debug, Drop)]
+pub(crate) struct Trace {
+    rows: Vec<TraceRow>,
+    room: usize,
+    cut: bool,
+}
+
+impl Model for Trace {
+    ghost use Rattle.std.specs.Prelude.{◌≤◌, length};
+    ghost use Rattle.std.specs.Vec.{vec_capacity};
+    ghost use Rattle.chip_net.specs.Traces.{TraceState};
+
+    ghost Value = { TraceState };
+
+    ghost view = { λ a. record { rows = a.rows.items; room = a.room; cut = a.cut } };
+
+    ghost invariant = { λ a. (length a.rows.items ≤ a.room) × (a.room ≤ vec_capacity a.rows) };
+}
+
+impl Trace {
+    ghost use Rattle.chip_link.specs.declared.trace.TraceRow.{TraceRow};
+    ghost use Rattle.chip_link.specs.declared.event.Event.TheVariants.{Take};
+    ghost use Rattle.chip_net.specs.Traces.{row_of};
+
+    /// A trace with nothing in it, and room for so many rows.
+    pub(crate) fn new(alloc: Global, room: usize) -> Result<Trace, AllocError>
+        ensures room { IfOk result (λ trace. trace.room ≡ room) }
+        ensures empty { IfOk result (Keeps []) }
+    {
+        Ok(Trace {
+            rows: Vec::with_capacity(alloc, room)?,
+            room,
+            cut: false,
+        })
+    }
+
+    /// One row more. Where there is no room for it, the trace is cut from then on.
+    pub(crate) fn note(&mut self, row: TraceRow)
+        ensures room { self.new.room ≡ self.old.room }
+        ensures keeps { (all : List TraceRow) → Keeps all self.old → Keeps (all ++ row ∷ []) self.new }
+    {
+        if self.rows.len() < self.room {
+            self.rows.push_reserved(row);
+        } else {
+            self.cut = true;
+        }
+    }
+
+    /// What a take found on an edge: a row, where it was a message.
+    pub(crate) fn note_take(&mut self, edge: u64, count: u64)
+        ensures room { self.new.room ≡ self.old.room }
+        ensures keeps { (all : List TraceRow) → Keeps all self.old → Keeps (all ++ row_of (Take edge) count) self.new }
+    {
+        if count > 0 {
+            self.note(TraceRow::Take { edge, count });
+        }
+    }
+
+    /// The rows.
+    pub(crate) fn rows(&self) -> &[TraceRow]
+        ensures { result.now ≡ self.now.rows }
+    {
+        &self.rows
+    }
+
+    /// Whether a row was lost.
+    pub(crate) fn is_cut(&self) -> bool
+        ensures { result ≡ self.now.cut }
+    {
+        self.cut
+    }
+}

@@ -1,5 +1,5 @@
 -- How noting one row after another gives the chips of a text.
-use Rattle.std.proofs.Common.{◌≡◌, ◌≢◌, ℕ, ◌<◌, Bool, true, false, List, [], ◌∷◌, ◌++◌, length, map, get_or, set, Option, None, Some, refl, ap, sym, ◌∙◌, inl, inr, ◌⊎◌, get_or-set_same, get_or-set_other, replicate, take, drop, sum, ◌^◌}
+use Rattle.std.proofs.Common.{◌≡◌, ◌≢◌, ℕ, ◌<◌, Bool, true, false, List, [], ◌∷◌, ◌++◌, length, map, get_or, set, Option, None, Some, refl, ap, sym, ◌∙◌, inl, inr, ◌⊎◌, get_or-set_same, get_or-set_other, replicate, take, drop, sum}
 use Rattle.std.proofs.Math.Seq.{take-append_seam}
 use Rattle.chip_graph.specs.Limits.{max_total}
 use Rattle.std.specs.Prelude.{is_some, unwrap_or, not, ◌&&◌, ◌==◌, nat_lt, nat_le, if◌then◌else◌}

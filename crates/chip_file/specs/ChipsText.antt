@@ -1,5 +1,5 @@
 -- The chips that a text of rows means, and what is wrong with a text that means none.
-use Rattle.std.specs.Prelude.{◌≡◌, ℕ, Bool, ◌^◌, ◌<◌, ◌==◌, nat_lt, nat_le, ◌&&◌, not, if◌then◌else◌, List, [], ◌∷◌, codes, length, map, slice_index_or, sum, Option, None, Some, is_some, is_none, unwrap_or}
+use Rattle.std.specs.Prelude.{◌≡◌, ℕ, Bool, ◌<◌, ◌==◌, nat_lt, nat_le, ◌&&◌, not, if◌then◌else◌, List, [], ◌∷◌, codes, length, map, slice_index_or, sum, Option, None, Some, is_some, is_none, unwrap_or}
 use Rattle.std.specs.List.{range_with_len}
 use Rattle.chip_graph.specs.Limits.{max_total}
 use Rattle.chip_graph.specs.Faults.{first_of_faults, unless}

@@ -18,7 +18,7 @@ returns-in_err-game g c = λ graph_text graph_is chips_text chips_is schedule_te
 
 pub returns-in_err-events : goal.returns-in_err-events
 returns-in_err-events g c = λ graph_text graph_is chips_text chips_is schedule_text schedule_is.
-    let why = at_some (λ text. IsRefused text (λ f. schedule_text_fault c.graph.result.now text ≡ Some f) c.in_err-events.field-0.0) _ schedule_text schedule_is c.in_err-events.ensures in
+    let why = at_some (λ text. IsRefused text (λ f. schedule_text_fault c.graph.result.now text ≡ Some f) c.in_err-events.field-0.0) _ schedule_text schedule_is c.in_err-events.ensures.means in
     refused_simulate graph_text chips_text schedule_text c.args.limit c.args.ring c.args.rounds _ c.from_residual-in_err-events.result _ c.from_residual-in_err-events.ensures.1
     (λ fault is. inl (inr (
       c.in_ok-game.game,
@@ -33,7 +33,7 @@ returns-in_err-text g c = λ graph_text graph_is chips_text chips_is schedule_te
 
 pub returns-in_err-write_all_of : goal.returns-in_err-write_all_of
 returns-in_err-write_all_of g c = λ graph_text graph_is chips_text chips_is schedule_text schedule_is.
-    let read = at_some (λ text. Answers text (λ events. schedule_of_text c.graph.result.now text ≡ Some events.items) (λ f. schedule_text_fault c.graph.result.now text ≡ Some f) (Ok c.in_ok-events.events)) _ schedule_text schedule_is c.in_ok-events.ensures in
+    let read = at_some (λ text. Answers text (λ events. schedule_of_text c.graph.result.now text ≡ Some events.items) (λ f. schedule_text_fault c.graph.result.now text ≡ Some f) (Ok c.in_ok-events.events)) _ schedule_text schedule_is c.in_ok-events.ensures.means in
     let means : MeansEvents graph_text chips_text schedule_text c.args.limit c.in_ok-game.game c.in_ok-events.events.items =
     means_events graph_text chips_text schedule_text c.args.limit c.in_ok-game.game c.in_ok-events.events.items c.graph.result.now c.graph.ensures.value (c.in_ok-game.ensures graph_text graph_is chips_text chips_is) read in
     let simulates = subst (λ (xs : List Event). Simulates (setting_of c.in_ok-game.game c.args.ring) c.args.rounds xs c.in_ok-text.text.items c.in_ok-text.status) c.deref.ensures.value c.in_ok-text.ensures.ok in
@@ -45,7 +45,7 @@ returns-in_err-write_all_of g c = λ graph_text graph_is chips_text chips_is sch
 
 pub returns : goal.returns
 returns g c = λ graph_text graph_is chips_text chips_is schedule_text schedule_is.
-    let read = at_some (λ text. Answers text (λ events. schedule_of_text c.graph.result.now text ≡ Some events.items) (λ f. schedule_text_fault c.graph.result.now text ≡ Some f) (Ok c.in_ok-events.events)) _ schedule_text schedule_is c.in_ok-events.ensures in
+    let read = at_some (λ text. Answers text (λ events. schedule_of_text c.graph.result.now text ≡ Some events.items) (λ f. schedule_text_fault c.graph.result.now text ≡ Some f) (Ok c.in_ok-events.events)) _ schedule_text schedule_is c.in_ok-events.ensures.means in
     let means : MeansEvents graph_text chips_text schedule_text c.args.limit c.in_ok-game.game c.in_ok-events.events.items =
     means_events graph_text chips_text schedule_text c.args.limit c.in_ok-game.game c.in_ok-events.events.items c.graph.result.now c.graph.ensures.value (c.in_ok-game.ensures graph_text graph_is chips_text chips_is) read in
     let simulates = subst (λ (xs : List Event). Simulates (setting_of c.in_ok-game.game c.args.ring) c.args.rounds xs c.in_ok-text.text.items c.in_ok-text.status) c.deref.ensures.value c.in_ok-text.ensures.ok in

@@ -18,6 +18,7 @@ use Rattle.serde_json.specs.Written.{outline, compact_text}
 use Rattle.serde_json.proofs.Numbers.{number_of-decimal}
 use Rattle.chip_fire.specs.declared.outcome.Outcome.{Outcome}
 use Rattle.chip_fire.specs.Outcomes.{IsOutcome}
+use Rattle.chip_graph.specs.Limits.{max_limit, max_total}
 use Rattle.chip_report.specs.OutcomeParts.{AreCounts, AreHalted}
 use Rattle.chip_report.specs.ReportText.{comma, array_text, bool_text, is_empty, is_closed, report_text}
 use Rattle.chip_report.specs.Reportable.{Told, told, IsReportOf, IsNoReport, GrowsForALine, Gives}
@@ -144,7 +145,9 @@ told-report o json h e =
 
 -- the numbers are those of an outcome that a game can have
 abbrev pub AreOfOutcome : Told → Type 0
-AreOfOutcome t = AreCounts t.fired (length t.fired) × AreCounts t.chips (length t.fired) × AreHalted t.over t.sealed (length t.fired)
+AreOfOutcome t =
+    AreCounts t.fired (length t.fired) max_limit × AreCounts t.chips (length t.fired) max_total
+    × AreHalted t.over t.sealed (length t.fired)
 
 pub outcome_then : (o : Outcome) → IsOutcome o → AreOfOutcome (told o)
 outcome_then o h = (
@@ -167,9 +170,14 @@ outcome_if o h = record {
   apart = h.2.2;
 }
 
-pub outcome_by_counts : (o : Outcome) (vertices : ℕ) → AreCounts o.fired.items vertices → AreCounts o.chips.items vertices → AreHalted o.over.items o.sealed.items vertices → IsOutcome o
+pub outcome_by_counts : (o : Outcome) (vertices : ℕ) → AreCounts o.fired.items vertices max_limit
+    → AreCounts o.chips.items vertices max_total → AreHalted o.over.items o.sealed.items vertices → IsOutcome o
 outcome_by_counts o vertices fired chips halted =
-    outcome_if o (subst (λ (n : ℕ). AreCounts o.fired.items n × AreCounts o.chips.items n × AreHalted o.over.items o.sealed.items n) (sym fired.0) (fired, chips, halted))
+    outcome_if o
+    (subst
+    (λ (n : ℕ). AreCounts o.fired.items n max_limit × AreCounts o.chips.items n max_total
+    × AreHalted o.over.items o.sealed.items n)
+    (sym fired.0) (fired, chips, halted))
 
 pub halted_of_outcome : (o : Outcome) (vertices : ℕ) → length o.fired.items ≡ vertices → IsOutcome o → AreHalted o.over.items o.sealed.items vertices
 halted_of_outcome o vertices e h = subst (AreHalted o.over.items o.sealed.items) e (outcome_then o h).2

@@ -1,4 +1,5 @@
-ghost use Rattle.std.specs.Prelude.{◌≡◌, ◌^◌, ◌≤◌, nat_le, Some, None, is_some, unwrap_or, IfSome, IfOk, OnOk, IfErr, length, map, sum, replicate, slice_index_or, slice_set};
+ghost use Rattle.std.specs.Prelude.{◌≡◌, ◌^◌, ◌≤◌, nat_le, Some, None, is_some, unwrap_or, IfSome, IfOk, OnOk, IfErr};
+ghost use Rattle.std.specs.Prelude.{length, map, sum, replicate, slice_index_or, slice_set};
 ghost use Rattle.csv.specs.Records.{fields_of};
 ghost use Rattle.chip_graph.specs.Limits.{max_total};
 ghost use Rattle.chip_file.specs.Answer.{Answers, FailsInTime, Gives, max_bytes};
@@ -80,7 +81,8 @@ fn note_row(named: &mut [Option<u64>], row: &ByteRecord, index: u64) -> Result<(
         (row_fault (length named.old) (λ v. is_some (slice_index_or named.old v None)) index (fields_of row.now) ≡ None)
         × (named.new ≡ slice_set named.old (vertex_in (fields_of row.now)) (Some (chips_in (fields_of row.now))))) }
     ensures err { IfErr result (λ f.
-        row_fault (length named.old) (λ v. is_some (slice_index_or named.old v None)) index (fields_of row.now) ≡ Some f) }
+        row_fault (length named.old) (λ v. is_some (slice_index_or named.old v None)) index (fields_of row.now)
+        ≡ Some f) }
 {
     if row.len() != HEADER.len() {
         return Err(FileFault::Row(index));

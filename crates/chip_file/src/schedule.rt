@@ -4,7 +4,8 @@ ghost use Rattle.std.specs.Prelude.{◌≡◌, ◌≤◌, length, map, Some, Non
 ghost use Rattle.csv.specs.Records.{fields_of};
 ghost use Rattle.chip_file.specs.Answer.{Answers, FailsInTime, Gives, max_bytes};
 ghost use Rattle.chip_file.specs.Kinds.{kind_named, kind_at};
-ghost use Rattle.chip_file.specs.ScheduleText.{event_kinds, is_at_vertex, sites_for, event_of_kind, event_in, event_fault, schedule_text_fault, schedule_of_text};
+ghost use Rattle.chip_file.specs.ScheduleText.{event_kinds, is_at_vertex, sites_for, event_of_kind, event_in};
+ghost use Rattle.chip_file.specs.ScheduleText.{event_fault, schedule_text_fault, schedule_of_text};
 
 use crate::fault::FileFault;
 use crate::number::number_at;

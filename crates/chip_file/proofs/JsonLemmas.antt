@@ -1,5 +1,6 @@
 -- The value of a text, and the rows of numbers in it.
-use Rattle.std.proofs.Common.{◌≡◌, ◌≢◌, ℕ, suc, ◌<◌, ◌+◌, Bool, true, false, List, [], ◌∷◌, ◌++◌, length, drop, get_or, Option, None, Some, refl, ap, sym, ◌∙◌, add-one, drop-cons, append_assoc}
+use Rattle.std.proofs.Common.{◌≡◌, ◌≢◌, ℕ, suc, ◌<◌, ◌+◌, Bool, true, false, List, [], ◌∷◌, ◌++◌, length, drop, get_or}
+use Rattle.std.proofs.Common.{Option, None, Some, refl, ap, sym, ◌∙◌, add-one, drop-cons, append_assoc}
 use Rattle.std.specs.Prelude.{option_map, option_and_then, IsUtf8, String}
 use Rattle.std.specs.declared.alloc.Global.{Global}
 use Rattle.std.specs.Str.{is_utf8}
@@ -10,7 +11,8 @@ use Rattle.serde_json.specs.Find.{as_array, as_object}
 use Rattle.serde_json.specs.View.{view, items_view, members_view}
 use Rattle.serde_json.specs.declared.value.Value.{Value}
 use Rattle.chip_graph.specs.declared.edge.Edge.{Edge}
-use Rattle.chip_file.specs.GraphText.{json_of, number_of_value, numbers_of, members_count, member_count, edge_of_numbers, edge_of_row, edges_of_rows}
+use Rattle.chip_file.specs.GraphText.{json_of, number_of_value, numbers_of, members_count, member_count}
+use Rattle.chip_file.specs.GraphText.{edge_of_numbers, edge_of_row, edges_of_rows}
 
 -- ---- the value of a text
 
@@ -31,7 +33,8 @@ abbrev items_count : Items → ℕ
 items_count no_items = 0
 items_count (item d ds) = suc (items_count ds)
 
-one_more_number : (o : Option ℕ) (rest : Option (List ℕ)) (k : ℕ) (ns : List ℕ) → ((ms : List ℕ) → rest ≡ Some ms → length ms ≡ k)
+one_more_number : (o : Option ℕ) (rest : Option (List ℕ)) (k : ℕ) (ns : List ℕ)
+    → ((ms : List ℕ) → rest ≡ Some ms → length ms ≡ k)
     → option_and_then (λ n. option_map (λ ms. n ∷ ms) rest) o ≡ Some ns → length ns ≡ suc k
 one_more_number None rest k ns h e = cc e
 one_more_number (Some n) None k ns h e = cc e
@@ -39,7 +42,8 @@ one_more_number (Some n) (Some ms) k ns h e = let same : n ∷ ms ≡ ns = cc e 
 
 length-numbers_of : (items : Items) (ns : List ℕ) → numbers_of items ≡ Some ns → length ns ≡ items_count items
 length-numbers_of no_items ns e = let same : [] ≡ ns = cc e in sym (ap length same)
-length-numbers_of (item d ds) ns e = one_more_number (number_of_value d) (numbers_of ds) (items_count ds) ns (length-numbers_of ds) e
+length-numbers_of (item d ds) ns e = one_more_number (number_of_value d) (numbers_of ds) (items_count ds) ns
+    (length-numbers_of ds) e
 
 edge_of_numbers-other : (ns : List ℕ) → length ns ≢ 3 → edge_of_numbers ns ≡ None
 edge_of_numbers-other [] h = refl
@@ -48,7 +52,8 @@ edge_of_numbers-other (a ∷ b ∷ []) h = refl
 edge_of_numbers-other (a ∷ b ∷ c ∷ []) h = absurd (h refl)
 edge_of_numbers-other (a ∷ b ∷ c ∷ d ∷ ns) h = refl
 
-edge_of_read : (o : Option (List ℕ)) (k : ℕ) → ((ns : List ℕ) → o ≡ Some ns → length ns ≡ k) → k ≢ 3 → option_and_then edge_of_numbers o ≡ None
+edge_of_read : (o : Option (List ℕ)) (k : ℕ) → ((ns : List ℕ) → o ≡ Some ns → length ns ≡ k) → k ≢ 3
+    → option_and_then edge_of_numbers o ≡ None
 edge_of_read None k h ne = refl
 edge_of_read (Some ns) k h ne = edge_of_numbers-other ns (λ e. ne (sym (h ns refl) ∙ e))
 
@@ -56,9 +61,11 @@ items_count-view : (vs : List Value) → items_count (items_view vs) ≡ length 
 items_count-view [] = refl
 items_count-view (v ∷ vs) = ap suc (items_count-view vs)
 
-pub edge_of_row-other : (row : Data) (vs : List Value) → Some (items_view vs) ≡ as_array row → length vs ≢ 3 → edge_of_row row ≡ None
+pub edge_of_row-other : (row : Data) (vs : List Value) → Some (items_view vs) ≡ as_array row → length vs ≢ 3
+    → edge_of_row row ≡ None
 edge_of_row-other row vs e ne =
-    rw (← e) (edge_of_read (numbers_of (items_view vs)) (length vs) (λ ns found. length-numbers_of (items_view vs) ns found ∙ items_count-view vs) ne)
+    rw (← e) (edge_of_read (numbers_of (items_view vs)) (length vs)
+    (λ ns found. length-numbers_of (items_view vs) ns found ∙ items_count-view vs) ne)
 
 -- ---- the edges of rows, one after another
 
@@ -67,7 +74,8 @@ abbrev pub EdgesGoOn : Items → List Edge → Items → Type 0
 EdgesGoOn all before rest = edges_of_rows all ≡ option_map (λ more. before ++ more) (edges_of_rows rest)
 
 append_next : (before : List Edge) (edge : Edge) (o : Option (List Edge))
-    → option_map (λ more. before ++ more) (option_map (λ edges. edge ∷ edges) o) ≡ option_map (λ more. (before ++ edge ∷ []) ++ more) o
+    → option_map (λ more. before ++ more) (option_map (λ edges. edge ∷ edges) o)
+    ≡ option_map (λ more. (before ++ edge ∷ []) ++ more) o
 append_next before edge None = refl
 append_next before edge (Some more) = ap Some (sym (append_assoc before (edge ∷ []) more))
 
@@ -79,14 +87,18 @@ rest_of : (rows : List Value) (i : ℕ) (row : Value) → i < length rows → ro
     → items_view (drop i rows) ≡ item (view row) (items_view (drop (i + 1) rows))
 rest_of rows i row lt e = rw (drop-cons rows i row, add-one, ← e) refl
 
-pub EdgesGoOn-more : (rows : List Value) (before : List Edge) (i : ℕ) (row : Value) (edge : Edge) → i < length rows → row ≡ get_or rows i row
+pub EdgesGoOn-more : (rows : List Value) (before : List Edge) (i : ℕ) (row : Value) (edge : Edge) → i < length rows
+    → row ≡ get_or rows i row
     → edge_of_row (view row) ≡ Some edge → EdgesGoOn (items_view rows) before (items_view (drop i rows))
     → EdgesGoOn (items_view rows) (before ++ edge ∷ []) (items_view (drop (i + 1) rows))
 EdgesGoOn-more rows before i row edge lt at_i e h =
-    edges-next (items_view rows) before (view row) edge (items_view (drop (i + 1) rows)) e (rw (rest_of rows i row lt at_i) at h)
+    edges-next (items_view rows) before (view row) edge (items_view (drop (i + 1) rows)) e
+    (rw (rest_of rows i row lt at_i) at h)
 
-pub EdgesGoOn-fails : (rows : List Value) (before : List Edge) (i : ℕ) (row : Value) → i < length rows → row ≡ get_or rows i row
-    → edge_of_row (view row) ≡ None → EdgesGoOn (items_view rows) before (items_view (drop i rows)) → edges_of_rows (items_view rows) ≡ None
+pub EdgesGoOn-fails : (rows : List Value) (before : List Edge) (i : ℕ) (row : Value) → i < length rows
+    → row ≡ get_or rows i row
+    → edge_of_row (view row) ≡ None → EdgesGoOn (items_view rows) before (items_view (drop i rows))
+    → edges_of_rows (items_view rows) ≡ None
 EdgesGoOn-fails rows before i row lt at_i e h = rw (rest_of rows i row lt at_i, e) at h
 
 -- ---- the members of an object
@@ -95,5 +107,6 @@ members_count-view : (ms : List (String Global × Value)) → members_count (mem
 members_count-view [] = refl
 members_count-view (m ∷ ms) = ap suc (members_count-view ms)
 
-pub member_count-object : (d : Data) (ms : List (String Global × Value)) → Some (members_view ms) ≡ as_object d → length ms ≡ member_count d
+pub member_count-object : (d : Data) (ms : List (String Global × Value)) → Some (members_view ms) ≡ as_object d
+    → length ms ≡ member_count d
 member_count-object d ms e = rw (← e) (sym (members_count-view ms))

@@ -1,5 +1,6 @@
 -- The names of kinds are text, so a field that is no text is no kind.
-use Rattle.std.proofs.Common.{◌≡◌, ℕ, Bool, true, false, List, [], ◌∷◌, Option, None, Some, Result, Ok, Err, refl, sym, Bor}
+use Rattle.std.proofs.Common.{◌≡◌, ℕ, Bool, true, false, List, [], ◌∷◌, Option, None, Some, Result, Ok, Err, refl, sym}
+use Rattle.std.proofs.Common.{Bor}
 use Rattle.std.specs.Prelude.{bytes_eq, option_map, option_and_then, if◌then◌else◌}
 use Rattle.std.specs.Result.{result_ok, MatchResult}
 use Rattle.std.specs.Str.{is_utf8, chars, IsUtf8}
@@ -32,11 +33,13 @@ abbrev pub AreText : {K : Type 0} → List (List ℕ × K) → Type 0
 AreText [] = Unit {0}
 AreText (kind ∷ kinds) = (is_utf8 kind.0 ≡ true) × AreText kinds
 
-other_name : {K : Type 0} (b : Bool) (k : K) (more : Option K) → (b ≡ true → ⊥) → more ≡ None → (if b then Some k else more) ≡ None
+other_name : {K : Type 0} (b : Bool) (k : K) (more : Option K) → (b ≡ true → ⊥) → more ≡ None
+    → (if b then Some k else more) ≡ None
 other_name true k more no_match none = absurd (no_match refl)
 other_name false k more no_match none = none
 
-no_kind : {K : Type 0} (kinds : List (List ℕ × K)) (name : List ℕ) → AreText kinds → is_utf8 name ≡ false → kind_named kinds name ≡ None
+no_kind : {K : Type 0} (kinds : List (List ℕ × K)) (name : List ℕ) → AreText kinds → is_utf8 name ≡ false
+    → kind_named kinds name ≡ None
 no_kind [] name text other = refl
 no_kind (kind ∷ kinds) name text other =
     other_name (bytes_eq name kind.0) kind.1 (kind_named kinds name)
@@ -49,7 +52,8 @@ named_by kinds name true text e = rw e refl
 named_by kinds name false text e = rw e (sym (no_kind kinds name text e))
 
 named_in : {K : Type 0} (kinds : List (List ℕ × K)) (o : Option (List ℕ)) → AreText kinds
-    → option_and_then (kind_named kinds) (option_and_then (λ field. if is_utf8 field then Some field else None) o) ≡ option_and_then (kind_named kinds) o
+    → option_and_then (kind_named kinds) (option_and_then (λ field. if is_utf8 field then Some field else None) o)
+    ≡ option_and_then (kind_named kinds) o
 named_in kinds None text = refl
 named_in kinds (Some name) text = named_by kinds name (is_utf8 name) text refl
 

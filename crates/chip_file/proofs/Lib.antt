@@ -3,6 +3,7 @@ mod JsonLemmas
 mod ChipsLemmas
 mod RowLemmas
 mod RecordLemmas
+mod ReadLemmas
 mod KindLemmas
 mod TraceLemmas
 mod FieldLemmas

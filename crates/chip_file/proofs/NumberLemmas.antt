@@ -1,5 +1,6 @@
 -- A field as a number.
-use Rattle.std.proofs.Common.{◌≡◌, ℕ, ◌<◌, ◌≤◌, ◌^◌, true, false, List, [], ◌∷◌, length, None, Some, Result, Ok, Err, refl, ap, arith, Bor}
+use Rattle.std.proofs.Common.{◌≡◌, ℕ, ◌<◌, ◌≤◌, ◌^◌, true, false, List, [], ◌∷◌, length, None, Some, Result, Ok, Err}
+use Rattle.std.proofs.Common.{refl, ap, arith, Bor}
 use Rattle.std.specs.Prelude.{◌&&◌}
 use Rattle.std.specs.Char.{is_ascii_digit}
 use Rattle.std.specs.List.{list_all}
@@ -32,15 +33,19 @@ number_of-long field h = grind (arith, nat_tests)
 pub number_of-other : (field : List ℕ) → all_ascii_digits field ≡ false → number_of field ≡ None
 number_of-other field h = grind (arith, nat_tests)
 
-number_of-from_cases : {E : Type 0} (field : List ℕ) (r : Result ℕ E) → length field ≤ 20 → all_ascii_digits field ≡ true
-    → OkIff r ((0 < length field) × (digits_value 10 field < 2 ^ 64)) (digits_value 10 field) → result_ok r ≡ number_of field
+number_of-from_cases : {E : Type 0} (field : List ℕ) (r : Result ℕ E) → length field ≤ 20
+    → all_ascii_digits field ≡ true
+    → OkIff r ((0 < length field) × (digits_value 10 field < 2 ^ 64)) (digits_value 10 field)
+    → result_ok r ≡ number_of field
 number_of-from_cases field (Ok n) few digits h = grind (arith, nat_tests)
 number_of-from_cases field (Err e) few digits h = grind (arith, nat_tests)
 
 -- what `parse` gives of a few digits
-pub number_of-parsed : {E : Type 0} (field : List ℕ) (r : Result ℕ E) → length field ≤ 20 → all_ascii_digits field ≡ true
+pub number_of-parsed : {E : Type 0} (field : List ℕ) (r : Result ℕ E) → length field ≤ 20
+    → all_ascii_digits field ≡ true
     → ParsesUnsigned 64 10 field r → result_ok r ≡ number_of field
-number_of-parsed field r few digits h = number_of-from_cases field r few digits (parse_digits decimal_numeral 64 field r h digits)
+number_of-parsed field r few digits h = number_of-from_cases field r few digits
+    (parse_digits decimal_numeral 64 field r h digits)
 
 -- what `from_utf8` told of bytes that it refused, and of text
 pub refused_utf8 : {T E : Type 0} (r : Result T E) (P : T → Type 0) (Q : E → Type 0) (bytes : List ℕ) → false ≡ is_ok r
@@ -48,7 +53,8 @@ pub refused_utf8 : {T E : Type 0} (r : Result T E) (P : T → Type 0) (Q : E →
 refused_utf8 (Ok s) P Q bytes e h = cc e
 refused_utf8 (Err x) P Q bytes e h = h.0
 
-pub same_utf8 : {E : Type 0} (Y : Type 0) (r : Result (Bor (List ℕ)) E) (Q : E → Type 0) (bytes : List ℕ) (s : Bor (List ℕ)) → Some s ≡ result_ok r
+pub same_utf8 : {E : Type 0} (Y : Type 0) (r : Result (Bor (List ℕ)) E) (Q : E
+    → Type 0) (bytes : List ℕ) (s : Bor (List ℕ)) → Some s ≡ result_ok r
     → MatchResult r (λ t. (t.now ≡ bytes) × Y) Q → s.now ≡ bytes
 same_utf8 Y (Ok t) Q bytes s e h = let same : s ≡ t = cc e in rw same h.0
 same_utf8 Y (Err x) Q bytes s e h = cc e

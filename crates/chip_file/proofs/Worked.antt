@@ -43,7 +43,8 @@ unfolding serde_json_on_literals is_utf8 chars
 short_row = refl
 
 -- the last of two members of one name counts
-last_counts : graph_of_text (codes " {\"sink\":7,\"version\":1, \"vertices\":1,\"edges\":[],\"sink\":0}\n") ≡ Some (record { vertices = 1; sink = 0; edges = [] })
+last_counts : graph_of_text (codes " {\"sink\":7,\"version\":1, \"vertices\":1,\"edges\":[],\"sink\":0}\n")
+    ≡ Some (record { vertices = 1; sink = 0; edges = [] })
 unfolding serde_json_on_literals is_utf8 chars
 last_counts = refl
 
@@ -82,13 +83,16 @@ unfolding csv_on_literals field_at
 one_chip_too_many = refl
 
 -- the schedule of sealed half way, on the triangle
-sealed_half_way : schedule_of_text triangle_graph (codes "event,at,count\nseal,1,0\ntake,4,0\nfire,0,2\nclear,0,0\nclaim,0,0\nput,0,0\nclear,1,0\nclaim,1,0\nhalt,0,0\n")
-    ≡ Some (event.Seal 1 ∷ event.Take 4 ∷ event.Fire 0 2 ∷ event.Clear 0 ∷ event.Claim 0 ∷ event.Put 0 ∷ event.Clear 1 ∷ event.Claim 1 ∷ event.Halt 0 ∷ [])
+sealed_half_way : schedule_of_text triangle_graph
+    (codes "event,at,count\nseal,1,0\ntake,4,0\nfire,0,2\nclear,0,0\nclaim,0,0\nput,0,0\nclear,1,0\nclaim,1,0\nhalt,0,0\n")
+    ≡ Some (event.Seal 1 ∷ event.Take 4 ∷ event.Fire 0 2 ∷ event.Clear 0 ∷ event.Claim 0 ∷ event.Put 0 ∷ event.Clear 1
+    ∷ event.Claim 1 ∷ event.Halt 0 ∷ [])
 unfolding csv_on_literals field_at
 sealed_half_way = refl
 
 -- the other kinds, at the last root edge and the last vertex
-last_sites : schedule_of_text triangle_graph (codes "event,at,count\nack,6,0\nsettle,6,0\nread,2,7") ≡ Some (event.Ack 6 ∷ event.Settle 6 ∷ event.Read 2 ∷ [])
+last_sites : schedule_of_text triangle_graph (codes "event,at,count\nack,6,0\nsettle,6,0\nread,2,7")
+    ≡ Some (event.Ack 6 ∷ event.Settle 6 ∷ event.Read 2 ∷ [])
 unfolding csv_on_literals field_at
 last_sites = refl
 
@@ -113,13 +117,16 @@ no_such_edge : schedule_text_fault triangle_graph (codes "event,at,count\ntake,7
 unfolding csv_on_literals field_at
 no_such_edge = refl
 
-no_such_vertex : schedule_text_fault triangle_graph (codes "event,at,count\ntake,3,0\nhalt,3,0\n") ≡ Some (fault.Vertex 1)
+no_such_vertex : schedule_text_fault triangle_graph (codes "event,at,count\ntake,3,0\nhalt,3,0\n")
+    ≡ Some (fault.Vertex 1)
 unfolding csv_on_literals field_at
 no_such_vertex = refl
 
 -- the recorded runs of the small triangle, the rows of vertex 1 first and those of the others mixed
-mixed_rows : traces_of_text triangle_graph (codes "vertex,kind,edge,count\n1,take,0,2\n1,fire,0,1\n0,take,4,4\n2,take,1,2\n0,fire,9,2\n2,take,3,1\n0,take,2,1\n")
-    ≡ Some ((row.Take 4 4 ∷ row.Fire 2 ∷ row.Take 2 1 ∷ []) ∷ (row.Take 0 2 ∷ row.Fire 1 ∷ []) ∷ (row.Take 1 2 ∷ row.Take 3 1 ∷ []) ∷ [])
+mixed_rows : traces_of_text triangle_graph
+    (codes "vertex,kind,edge,count\n1,take,0,2\n1,fire,0,1\n0,take,4,4\n2,take,1,2\n0,fire,9,2\n2,take,3,1\n0,take,2,1\n")
+    ≡ Some ((row.Take 4 4 ∷ row.Fire 2 ∷ row.Take 2 1 ∷ []) ∷ (row.Take 0 2 ∷ row.Fire 1 ∷ [])
+    ∷ (row.Take 1 2 ∷ row.Take 3 1 ∷ []) ∷ [])
 unfolding csv_on_literals field_at
 mixed_rows = refl
 
@@ -133,14 +140,17 @@ no_kind : trace_text_fault triangle_graph (codes "vertex,kind,edge,count\nx,put,
 unfolding csv_on_literals field_at
 no_kind = refl
 
-edge_is_no_number : trace_text_fault triangle_graph (codes "vertex,kind,edge,count\n3,fire,,1\n") ≡ Some (fault.Number 0)
+edge_is_no_number : trace_text_fault triangle_graph (codes "vertex,kind,edge,count\n3,fire,,1\n")
+    ≡ Some (fault.Number 0)
 unfolding csv_on_literals field_at
 edge_is_no_number = refl
 
-edge_out_of_range : trace_text_fault triangle_graph (codes "vertex,kind,edge,count\n0,take,6,1\n0,take,7,1\n") ≡ Some (fault.Vertex 1)
+edge_out_of_range : trace_text_fault triangle_graph (codes "vertex,kind,edge,count\n0,take,6,1\n0,take,7,1\n")
+    ≡ Some (fault.Vertex 1)
 unfolding csv_on_literals field_at
 edge_out_of_range = refl
 
-vertex_out_of_range : trace_text_fault triangle_graph (codes "vertex,kind,edge,count\n3,fire,0,1\n") ≡ Some (fault.Vertex 0)
+vertex_out_of_range : trace_text_fault triangle_graph (codes "vertex,kind,edge,count\n3,fire,0,1\n")
+    ≡ Some (fault.Vertex 0)
 unfolding csv_on_literals field_at
 vertex_out_of_range = refl

@@ -1,5 +1,6 @@
 -- The chips that a text of rows means, and what is wrong with a text that means none.
-use Rattle.std.specs.Prelude.{◌≡◌, ℕ, Bool, ◌^◌, ◌<◌, ◌==◌, nat_lt, nat_le, ◌&&◌, not, if◌then◌else◌, List, [], ◌∷◌, codes, length, map, slice_index_or, sum, Option, None, Some, is_some, is_none, unwrap_or}
+use Rattle.std.specs.Prelude.{◌≡◌, ℕ, Bool, ◌<◌, ◌==◌, nat_lt, nat_le, ◌&&◌, not, if◌then◌else◌, List, [], ◌∷◌, codes}
+use Rattle.std.specs.Prelude.{length, map, slice_index_or, sum, Option, None, Some, is_some, is_none, unwrap_or}
 use Rattle.std.specs.List.{range_with_len}
 use Rattle.chip_graph.specs.Limits.{max_total}
 use Rattle.chip_graph.specs.Faults.{first_of_faults, unless}
@@ -54,7 +55,8 @@ chips_text_fault vertices text = chips_fault vertices (records_of text)
 -- the chips that a text means: none where something is wrong with it
 abbrev pub chips_of_text : ℕ → List ℕ → Option (List ℕ)
 chips_of_text vertices text =
-    if is_none (chips_text_fault vertices text) then Some (chips_of_rows vertices (rows_under_header (records_of text))) else None
+    if is_none (chips_text_fault vertices text) then Some (chips_of_rows vertices (rows_under_header (records_of text)))
+    else None
 
 -- nothing is wrong with the header and the rows, and these are the chips of each vertex that a row names
 pub record AreNamed (vertices : ℕ) (records : List Row) (named : List (Option ℕ)) : Type 0 where

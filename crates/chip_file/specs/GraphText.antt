@@ -1,5 +1,6 @@
 -- The graph that a text of JSON means, and what is wrong with a text that means none.
-use Rattle.std.specs.Prelude.{◌≡◌, ◌≢◌, ℕ, suc, ◌==◌, if◌then◌else◌, List, [], ◌∷◌, codes, Option, None, Some, option_map, option_and_then}
+use Rattle.std.specs.Prelude.{◌≡◌, ◌≢◌, ℕ, suc, ◌==◌, if◌then◌else◌, List, [], ◌∷◌, codes, Option, None, Some}
+use Rattle.std.specs.Prelude.{option_map, option_and_then}
 use Rattle.std.specs.Option.{option_map_or}
 use Rattle.std.specs.Str.{is_utf8}
 use Rattle.serde_json.specs.Data.{Data, Items, no_items, item, Members, no_members, member}
@@ -36,7 +37,8 @@ edge_of_row row = option_and_then edge_of_numbers (option_and_then numbers_of (a
 -- the edges that rows mean, in order
 abbrev pub edges_of_rows : Items → Option (List Edge)
 edges_of_rows no_items = Some []
-edges_of_rows (item row rows) = option_and_then (λ edge. option_map (λ edges. edge ∷ edges) (edges_of_rows rows)) (edge_of_row row)
+edges_of_rows (item row rows) = option_and_then (λ edge. option_map (λ edges. edge ∷ edges) (edges_of_rows rows))
+    (edge_of_row row)
 
 -- how many members there are
 abbrev pub members_count : Members → ℕ
@@ -70,7 +72,8 @@ file_of_parts _ _ _ _ = None
 abbrev pub file_of_value : Data → Option GraphFile
 file_of_value d =
     if member_count d == 4
-    then file_of_parts (number_under (codes "version") d) (number_under (codes "vertices") d) (number_under (codes "sink") d) (edges_under (codes "edges") d)
+    then file_of_parts (number_under (codes "version") d) (number_under (codes "vertices") d)
+    (number_under (codes "sink") d) (edges_under (codes "edges") d)
     else None
 
 -- the graph file that a text is

@@ -1,5 +1,6 @@
 -- Numbers in the rows of a file.
-use Rattle.std.specs.Prelude.{ℕ, ◌^◌, nat_lt, nat_le, ◌&&◌, if◌then◌else◌, List, length, Option, None, Some, option_and_then, unwrap_or}
+use Rattle.std.specs.Prelude.{ℕ, ◌^◌, nat_lt, nat_le, ◌&&◌, if◌then◌else◌, List, length, Option, None, Some}
+use Rattle.std.specs.Prelude.{option_and_then, unwrap_or}
 use Rattle.std.specs.Str.{all_ascii_digits}
 use Rattle.std.specs.Str.Parse.{digits_value}
 use Rattle.csv.specs.Records.{field_at}
@@ -7,7 +8,8 @@ use Rattle.csv.specs.Records.{field_at}
 -- the number that a field is: 1 to 20 ASCII digits of a value below 2 ^ 64, with or without leading zeros
 abbrev pub number_of : List ℕ → Option ℕ
 number_of field =
-    if nat_lt 0 (length field) && nat_le (length field) 20 && all_ascii_digits field && nat_lt (digits_value 10 field) (2 ^ 64)
+    if nat_lt 0 (length field) && nat_le (length field) 20 && all_ascii_digits field
+    && nat_lt (digits_value 10 field) (2 ^ 64)
     then Some (digits_value 10 field)
     else None
 

@@ -1,5 +1,6 @@
 -- Files of rows: a header, and the rows under it.
-use Rattle.std.specs.Prelude.{ℕ, Bool, false, if◌then◌else◌, List, [], ◌∷◌, ◌++◌, length, Option, None, Some, option_and_then, bytes_eq}
+use Rattle.std.specs.Prelude.{ℕ, Bool, false, if◌then◌else◌, List, [], ◌∷◌, ◌++◌, length, Option, None, Some}
+use Rattle.std.specs.Prelude.{option_and_then, bytes_eq}
 use Rattle.std.specs.Cmp.Lexicographic.{pointwise}
 use Rattle.std.specs.Str.{is_utf8}
 use Rattle.csv.specs.Records.{field_at}
@@ -47,4 +48,5 @@ by_index row_fault before row = row_fault (length before) row
 -- the first thing wrong with records that have this header: the header itself, or a row under it
 abbrev pub records_fault : Row → (List Row → Row → Option FileFault) → List Row → Option FileFault
 records_fault header row_fault records =
-    first_of_faults (unless (has_header header records) fault.Header) (first_row_fault row_fault [] (rows_under_header records))
+    first_of_faults (unless (has_header header records) fault.Header)
+    (first_row_fault row_fault [] (rows_under_header records))

@@ -1,5 +1,6 @@
 -- The schedule that a text of rows means, and what is wrong with a text that means none.
-use Rattle.std.specs.Prelude.{ℕ, ◌+◌, Bool, true, false, ◌==◌, nat_lt, ◌&&◌, if◌then◌else◌, List, [], ◌∷◌, codes, length, map, Option, None, Some, is_some, is_none, unwrap_or}
+use Rattle.std.specs.Prelude.{ℕ, Bool, true, false, ◌==◌, nat_lt, ◌&&◌, if◌then◌else◌, List, [], ◌∷◌, codes, length}
+use Rattle.std.specs.Prelude.{map, Option, None, Some, is_some, is_none, unwrap_or}
 use Rattle.chip_graph.specs.Multigraph.{Multigraph}
 use Rattle.chip_graph.specs.Edges.{all_edges}
 use Rattle.chip_graph.specs.Faults.{first_of_faults, unless}
@@ -20,8 +21,10 @@ schedule_header = codes "event" ∷ codes "at" ∷ codes "count" ∷ []
 -- the kinds of events, by their names
 abbrev pub event_kinds : List (List ℕ × EventKind)
 event_kinds =
-    (codes "take", kind.Take) ∷ (codes "ack", kind.Ack) ∷ (codes "fire", kind.Fire) ∷ (codes "clear", kind.Clear) ∷ (codes "claim", kind.Claim)
-    ∷ (codes "put", kind.Put) ∷ (codes "halt", kind.Halt) ∷ (codes "settle", kind.Settle) ∷ (codes "seal", kind.Seal) ∷ (codes "read", kind.Read) ∷ []
+    (codes "take", kind.Take) ∷ (codes "ack", kind.Ack) ∷ (codes "fire", kind.Fire) ∷ (codes "clear", kind.Clear)
+    ∷ (codes "claim", kind.Claim)
+    ∷ (codes "put", kind.Put) ∷ (codes "halt", kind.Halt) ∷ (codes "settle", kind.Settle) ∷ (codes "seal", kind.Seal)
+    ∷ (codes "read", kind.Read) ∷ []
 
 -- the kind of a row's event
 abbrev pub kind_in : Row → EventKind

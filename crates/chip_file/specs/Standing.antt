@@ -1,7 +1,8 @@
 -- Where a reader of rows stands in a text.
 use Rattle.std.specs.Prelude.{◌≡◌, ℕ, ◌+◌, Bool, true, false, List, [], ◌∷◌, length, Option, Some, IsSome, unwrap_or}
 use Rattle.std.specs.Borrow.{Bor}
-use Rattle.csv.specs.Reading.{Ready, default_config, reader_config, reader_state, reader_trim, is_flexible, source_of, records_from}
+use Rattle.csv.specs.Reading.{Ready, default_config, reader_config, reader_state, reader_trim, is_flexible, source_of}
+use Rattle.csv.specs.Reading.{records_from}
 use Rattle.csv.specs.declared.reader.Reader.{Reader}
 use Rattle.csv.specs.declared.reader.Trim.TheVariants as trim
 use Rattle.chip_file.specs.Rows.{Row}
@@ -12,7 +13,8 @@ source reader = source_of (λ s. Some s.now) reader
 
 -- the records that it has left
 abbrev pub rows_left : Reader (Bor (List ℕ)) → List Row
-rows_left reader = records_from default_config (length (unwrap_or (source reader) []) + 1) (reader_state reader) (unwrap_or (source reader) [])
+rows_left reader = records_from default_config (length (unwrap_or (source reader) []) + 1) (reader_state reader)
+    (unwrap_or (source reader) [])
 
 -- it reads as the files of rows are read, and hasn't failed
 pub record IsOpen (reader : Reader (Bor (List ℕ))) : Type 0 where

@@ -1,5 +1,6 @@
 -- The recorded runs that a text of rows means, and what is wrong with a text that means none.
-use Rattle.std.specs.Prelude.{ℕ, ◌+◌, Bool, true, ◌==◌, nat_lt, ◌&&◌, if◌then◌else◌, List, [], ◌∷◌, codes, length, map, Option, None, Some, is_some, is_none, unwrap_or}
+use Rattle.std.specs.Prelude.{ℕ, Bool, true, ◌==◌, nat_lt, ◌&&◌, if◌then◌else◌, List, [], ◌∷◌, codes, length, map}
+use Rattle.std.specs.Prelude.{Option, None, Some, is_some, is_none, unwrap_or}
 use Rattle.std.specs.List.{filter, range_with_len}
 use Rattle.chip_graph.specs.Multigraph.{Multigraph}
 use Rattle.chip_graph.specs.Edges.{all_edges}
@@ -45,7 +46,8 @@ abbrev pub trace_row_fault : Multigraph → ℕ → Row → Option FileFault
 trace_row_fault G index row =
     first_of_faults (unless (length row == 4) (fault.Row index))
     (first_of_faults (unless (is_some (kind_at trace_kinds 1 row)) (fault.Kind index))
-    (first_of_faults (unless (is_some (number_at 0 row) && is_some (number_at 2 row) && is_some (number_at 3 row)) (fault.Number index))
+    (first_of_faults (unless (is_some (number_at 0 row) && is_some (number_at 2 row) && is_some (number_at 3 row))
+    (fault.Number index))
     (unless (nat_lt (number_in 0 row) G.vertices && names_edge G (trace_row_in row)) (fault.Vertex index))))
 
 -- what the rows of v say, in the order of the file

@@ -1,7 +1,8 @@
-ghost use Rattle.std.specs.Prelude.{◌≡◌, ◌^◌, ◌≤◌, nat_le, Some, None, is_some, unwrap_or, IfSome, IfOk, OnOk, IfErr, length, map, sum, replicate, slice_index_or, slice_set};
+ghost use Rattle.std.specs.Prelude.{◌≡◌, ◌^◌, ◌≤◌, nat_le, Some, None, is_some, unwrap_or, IfSome, IfOk, OnOk, IfErr};
+ghost use Rattle.std.specs.Prelude.{length, map, sum, replicate, slice_index_or, slice_set};
 ghost use Rattle.csv.specs.Records.{fields_of};
 ghost use Rattle.chip_graph.specs.Limits.{max_total};
-ghost use Rattle.chip_file.specs.Answer.{Answers, Gives, max_bytes};
+ghost use Rattle.chip_file.specs.Answer.{Answers, FailsInTime, Gives, max_bytes};
 ghost use Rattle.chip_file.specs.ChipsText.{chips_of_text, chips_text_fault, AreNamed, row_fault, vertex_in, chips_in};
 ghost use Rattle.chip_file.specs.Rows.{records_of};
 
@@ -25,9 +26,10 @@ pub fn read_chips<R: Read>(
     reader: &mut R,
     vertices: u64,
 ) -> Result<Vec<u64>, FileFault>
-    ensures { IfSome (R.remaining reader.old) (λ text. Answers text
+    ensures means { IfSome (R.remaining reader.old) (λ text. Answers text
         (λ chips. chips_of_text vertices text ≡ Some chips.items)
         (λ f. chips_text_fault vertices text ≡ Some f) result) }
+    ensures read { FailsInTime (R.remaining reader.old) (R.remaining reader.new) result }
 {
     let text = read_whole(alloc, reader)?;
     chips_of_text(alloc, &text, vertices)
@@ -79,7 +81,8 @@ fn note_row(named: &mut [Option<u64>], row: &ByteRecord, index: u64) -> Result<(
         (row_fault (length named.old) (λ v. is_some (slice_index_or named.old v None)) index (fields_of row.now) ≡ None)
         × (named.new ≡ slice_set named.old (vertex_in (fields_of row.now)) (Some (chips_in (fields_of row.now))))) }
     ensures err { IfErr result (λ f.
-        row_fault (length named.old) (λ v. is_some (slice_index_or named.old v None)) index (fields_of row.now) ≡ Some f) }
+        row_fault (length named.old) (λ v. is_some (slice_index_or named.old v None)) index (fields_of row.now)
+        ≡ Some f) }
 {
     if row.len() != HEADER.len() {
         return Err(FileFault::Row(index));

@@ -3,7 +3,8 @@
 ghost use Rattle.std.specs.Prelude.{◌≡◌, Some, None};
 ghost use Rattle.serde_json.specs.View.{view, items_view};
 ghost use Rattle.chip_file.specs.Answer.{Gives};
-ghost use Rattle.chip_file.specs.GraphText.{json_of, edge_of_row, edges_of_rows, member_count, number_under, edges_under};
+ghost use Rattle.chip_file.specs.GraphText.{json_of, edge_of_row, edges_of_rows, member_count, number_under};
+ghost use Rattle.chip_file.specs.GraphText.{edges_under};
 ghost use Rattle.chip_file.specs.declared.fault.FileFault.TheVariants as fault;
 
 use crate::fault::FileFault;

@@ -3,6 +3,7 @@
 use crate::tests::{Slow, TRIANGLE};
 use crate::{FileFault, MAX_BYTES, read_graph, read_schedule, read_trace};
 use chip_link::{Event, TraceRow};
+use std::alloc::{AllocError, Global};
 use std::test::Fail;
 
 /// A stop of edge 1 while vertex 0 sends.
@@ -75,40 +76,40 @@ fn reads_every_kind_of_event(rt: HostRuntime) -> Result<(), Fail> {
     Ok(())
 }
 
+/// Schedules of the triangle that mean none, each with the first thing wrong with it.
+const WRONG_SCHEDULES: [(&str, FileFault); 21] = [
+    ("", FileFault::Header),
+    ("take,0,0\n", FileFault::Header),
+    ("event,at\n", FileFault::Header),
+    ("Event,at,count\n", FileFault::Header),
+    ("vertex,kind,edge,count\n", FileFault::Header),
+    ("event,at,count\nput,0\n", FileFault::Row(0)),
+    ("event,at,count\nput,0,0\nspin,x,9,9\n", FileFault::Row(1)),
+    ("event,at,count\nspin,x,9\n", FileFault::Kind(0)),
+    ("event,at,count\nTake,0,0\n", FileFault::Kind(0)),
+    ("event,at,count\ntake ,0,0\n", FileFault::Kind(0)),
+    ("event,at,count\ntak,0,0\n", FileFault::Kind(0)),
+    ("event,at,count\n,0,0\n", FileFault::Kind(0)),
+    ("event,at,count\nevent,at,count\n", FileFault::Kind(0)),
+    ("event,at,count\nput,9,-1\n", FileFault::Number(0)),
+    ("event,at,count\nput,,0\n", FileFault::Number(0)),
+    (
+        "event,at,count\nput,0,18446744073709551616\n",
+        FileFault::Number(0),
+    ),
+    ("event,at,count\nput,0,0\nput,7,0\n", FileFault::Vertex(1)),
+    ("event,at,count\nfire,3,1\n", FileFault::Vertex(0)),
+    ("event,at,count\nhalt,3,0\n", FileFault::Vertex(0)),
+    ("event,at,count\nread,3,0\n", FileFault::Vertex(0)),
+    ("event,at,count\nput,7,0\nspin,0,0\n", FileFault::Vertex(0)),
+];
+
 #[test]
 fn names_the_first_fault_of_a_schedule(rt: HostRuntime) -> Result<(), Fail> {
     let graph = read_graph(rt.alloc(), &mut TRIANGLE.as_bytes())?;
-    for (text, fault) in [
-        ("", FileFault::Header),
-        ("take,0,0\n", FileFault::Header),
-        ("event,at\n", FileFault::Header),
-        ("Event,at,count\n", FileFault::Header),
-        ("vertex,kind,edge,count\n", FileFault::Header),
-        ("event,at,count\nput,0\n", FileFault::Row(0)),
-        ("event,at,count\nput,0,0\nspin,x,9,9\n", FileFault::Row(1)),
-        ("event,at,count\nspin,x,9\n", FileFault::Kind(0)),
-        ("event,at,count\nTake,0,0\n", FileFault::Kind(0)),
-        ("event,at,count\ntake ,0,0\n", FileFault::Kind(0)),
-        ("event,at,count\ntak,0,0\n", FileFault::Kind(0)),
-        ("event,at,count\n,0,0\n", FileFault::Kind(0)),
-        ("event,at,count\nevent,at,count\n", FileFault::Kind(0)),
-        ("event,at,count\nput,9,-1\n", FileFault::Number(0)),
-        ("event,at,count\nput,,0\n", FileFault::Number(0)),
-        (
-            "event,at,count\nput,0,18446744073709551616\n",
-            FileFault::Number(0),
-        ),
-        ("event,at,count\nput,0,0\nput,7,0\n", FileFault::Vertex(1)),
-        ("event,at,count\nfire,3,1\n", FileFault::Vertex(0)),
-        ("event,at,count\nhalt,3,0\n", FileFault::Vertex(0)),
-        ("event,at,count\nread,3,0\n", FileFault::Vertex(0)),
-        ("event,at,count\nput,7,0\nspin,0,0\n", FileFault::Vertex(0)),
-    ] {
-        assert_eq!(rt;
-            read_schedule(rt.alloc(), &mut text.as_bytes(), &graph).err(),
-            Some(fault),
-            "{text}"
-        );
+    for (text, fault) in WRONG_SCHEDULES {
+        let found = read_schedule(rt.alloc(), &mut text.as_bytes(), &graph).err();
+        assert_eq!(rt; found, Some(fault), "{text}");
     }
     let no_text = b"event,at,count\n\xff,0,0\n";
     assert_eq!(rt;
@@ -142,43 +143,43 @@ fn reads_recorded_runs(rt: HostRuntime) -> Result<(), Fail> {
     Ok(())
 }
 
+/// Recorded runs of the triangle that mean none, each with the first thing wrong with them.
+const WRONG_RUNS: [(&str, FileFault); 15] = [
+    ("", FileFault::Header),
+    ("0,take,4,4\n", FileFault::Header),
+    ("event,at,count\n", FileFault::Header),
+    ("vertex,kind,edge,count,\n", FileFault::Header),
+    ("vertex,kind,edge,count\n0,fire,2\n", FileFault::Row(0)),
+    (
+        "vertex,kind,edge,count\n0,fire,0,2\nx,spin,0,0,0\n",
+        FileFault::Row(1),
+    ),
+    ("vertex,kind,edge,count\nx,put,0,0\n", FileFault::Kind(0)),
+    ("vertex,kind,edge,count\n0,Fire,0,1\n", FileFault::Kind(0)),
+    ("vertex,kind,edge,count\nx,fire,0,1\n", FileFault::Number(0)),
+    ("vertex,kind,edge,count\n3,fire,,1\n", FileFault::Number(0)),
+    (
+        "vertex,kind,edge,count\n3,take,7,+1\n",
+        FileFault::Number(0),
+    ),
+    ("vertex,kind,edge,count\n3,fire,0,1\n", FileFault::Vertex(0)),
+    ("vertex,kind,edge,count\n3,take,0,1\n", FileFault::Vertex(0)),
+    (
+        "vertex,kind,edge,count\n0,take,6,1\n0,take,7,1\n",
+        FileFault::Vertex(1),
+    ),
+    (
+        "vertex,kind,edge,count\n0,take,7,1\n0,put,0,0\n",
+        FileFault::Vertex(0),
+    ),
+];
+
 #[test]
 fn names_the_first_fault_of_recorded_runs(rt: HostRuntime) -> Result<(), Fail> {
     let graph = read_graph(rt.alloc(), &mut TRIANGLE.as_bytes())?;
-    for (text, fault) in [
-        ("", FileFault::Header),
-        ("0,take,4,4\n", FileFault::Header),
-        ("event,at,count\n", FileFault::Header),
-        ("vertex,kind,edge,count,\n", FileFault::Header),
-        ("vertex,kind,edge,count\n0,fire,2\n", FileFault::Row(0)),
-        (
-            "vertex,kind,edge,count\n0,fire,0,2\nx,spin,0,0,0\n",
-            FileFault::Row(1),
-        ),
-        ("vertex,kind,edge,count\nx,put,0,0\n", FileFault::Kind(0)),
-        ("vertex,kind,edge,count\n0,Fire,0,1\n", FileFault::Kind(0)),
-        ("vertex,kind,edge,count\nx,fire,0,1\n", FileFault::Number(0)),
-        ("vertex,kind,edge,count\n3,fire,,1\n", FileFault::Number(0)),
-        (
-            "vertex,kind,edge,count\n3,take,7,+1\n",
-            FileFault::Number(0),
-        ),
-        ("vertex,kind,edge,count\n3,fire,0,1\n", FileFault::Vertex(0)),
-        ("vertex,kind,edge,count\n3,take,0,1\n", FileFault::Vertex(0)),
-        (
-            "vertex,kind,edge,count\n0,take,6,1\n0,take,7,1\n",
-            FileFault::Vertex(1),
-        ),
-        (
-            "vertex,kind,edge,count\n0,take,7,1\n0,put,0,0\n",
-            FileFault::Vertex(0),
-        ),
-    ] {
-        assert_eq!(rt;
-            read_trace(rt.alloc(), &mut text.as_bytes(), &graph).err(),
-            Some(fault),
-            "{text}"
-        );
+    for (text, fault) in WRONG_RUNS {
+        let found = read_trace(rt.alloc(), &mut text.as_bytes(), &graph).err();
+        assert_eq!(rt; found, Some(fault), "{text}");
     }
     Ok(())
 }
@@ -216,18 +217,31 @@ fn a_failing_read_of_runs_is_told(rt: HostRuntime) -> Result<(), Fail> {
     Ok(())
 }
 
+/// A header, and 100,000 times the same row.
+fn many_rows(alloc: Global, header: &str, row: &str) -> Result<String, AllocError> {
+    let mut text = String::new(alloc);
+    text.push_str(header)?;
+    for _ in 0..100_000 {
+        text.push_str(row)?;
+    }
+    Ok(text)
+}
+
 #[test]
 fn many_rows_of_one_vertex(rt: HostRuntime) -> Result<(), Fail> {
-    let alloc = rt.alloc();
-    let graph = read_graph(alloc, &mut TRIANGLE.as_bytes())?;
-    let mut text = Vec::new(alloc);
-    text.extend_from_slice(b"vertex,kind,edge,count\n")?;
-    for _ in 0..100_000 {
-        text.extend_from_slice(b"1,take,0,1\n")?;
-    }
-    let traces = read_trace(alloc, &mut text.as_slice(), &graph)?;
-    assert_eq!(rt; traces.len(), 3);
-    assert_eq!(rt; traces[1].len(), 100_000);
+    let graph = read_graph(rt.alloc(), &mut TRIANGLE.as_bytes())?;
+    let text = many_rows(rt.alloc(), "vertex,kind,edge,count\n", "1,take,0,1\n")?;
+    let traces = read_trace(rt.alloc(), &mut text.as_bytes(), &graph)?;
+    assert!(rt; traces.len() == 3 && traces[1].len() == 100_000);
+    Ok(())
+}
+
+#[test]
+fn many_events(rt: HostRuntime) -> Result<(), Fail> {
+    let graph = read_graph(rt.alloc(), &mut TRIANGLE.as_bytes())?;
+    let text = many_rows(rt.alloc(), "event,at,count\n", "settle,6,0\n")?;
+    let events = read_schedule(rt.alloc(), &mut text.as_bytes(), &graph)?;
+    assert_eq!(rt; events.len(), 100_000);
     Ok(())
 }
 

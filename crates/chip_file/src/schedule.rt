@@ -2,9 +2,10 @@
 
 ghost use Rattle.std.specs.Prelude.{◌≡◌, ◌≤◌, length, map, Some, None, IfOk, IfErr, IfSome};
 ghost use Rattle.csv.specs.Records.{fields_of};
-ghost use Rattle.chip_file.specs.Answer.{Answers, Gives, max_bytes};
+ghost use Rattle.chip_file.specs.Answer.{Answers, FailsInTime, Gives, max_bytes};
 ghost use Rattle.chip_file.specs.Kinds.{kind_named, kind_at};
-ghost use Rattle.chip_file.specs.ScheduleText.{event_kinds, is_at_vertex, sites_for, event_of_kind, event_in, event_fault, schedule_text_fault, schedule_of_text};
+ghost use Rattle.chip_file.specs.ScheduleText.{event_kinds, is_at_vertex, sites_for, event_of_kind, event_in};
+ghost use Rattle.chip_file.specs.ScheduleText.{event_fault, schedule_text_fault, schedule_of_text};
 
 use crate::fault::FileFault;
 use crate::number::number_at;
@@ -107,9 +108,10 @@ pub fn read_schedule<R: Read>(
     reader: &mut R,
     graph: &Graph,
 ) -> Result<Vec<Event>, FileFault>
-    ensures { IfSome (R.remaining reader.old) (λ text. Answers text
+    ensures means { IfSome (R.remaining reader.old) (λ text. Answers text
         (λ events. schedule_of_text graph.now text ≡ Some events.items)
         (λ f. schedule_text_fault graph.now text ≡ Some f) result) }
+    ensures read { FailsInTime (R.remaining reader.old) (R.remaining reader.new) result }
 {
     let text = read_whole(alloc, reader)?;
     events_of_text(alloc, &text, graph)

@@ -2,6 +2,7 @@
 
 use crate::{FileFault, MAX_BYTES, read_chips, read_graph, read_whole};
 use chip_graph::{Edge, GraphFault};
+use std::alloc::{AllocError, Global};
 use std::io;
 use std::io::{ErrorKind, Read};
 use std::test::Fail;
@@ -297,5 +298,50 @@ fn the_longest_input(rt: HostRuntime) -> Result<(), Fail> {
         Some(FileFault::TooLong)
     );
     assert_eq!(rt; endless.0, 16_777_217, "one read more than bytes");
+    Ok(())
+}
+
+/// A file of the largest graph: 4,096 vertices in a row, 16 edges from each to the one before it, and 32 from the last.
+fn largest_graph(alloc: Global) -> Result<String, AllocError> {
+    let mut text = String::new(alloc);
+    text.push_str("{\"version\":1,\"vertices\":4096,\"sink\":0,\"edges\":[[1,0,1]")?;
+    for i in 1..65_536u64 {
+        let head = (i / 16).min(4_094);
+        let tail = head + 1;
+        write!(text, ",[{tail},{head},1]")?;
+    }
+    text.push_str("]}\n")?;
+    Ok(text)
+}
+
+#[test]
+fn reads_the_largest_graph(rt: HostRuntime) -> Result<(), Fail> {
+    let text = largest_graph(rt.alloc())?;
+    let graph = read_graph(rt.alloc(), &mut text.as_bytes())?;
+    assert_eq!(rt; (graph.vertices(), graph.edges().len()), (4_096, 65_536));
+    let last = Edge {
+        tail: 4_095,
+        head: 4_094,
+        mult: 1,
+    };
+    assert_eq!(rt; graph.edges().last().copied(), Some(last));
+    Ok(())
+}
+
+/// Chips for each of 4,096 vertices, a total of 2^40.
+fn largest_chips(alloc: Global) -> Result<String, AllocError> {
+    let mut text = String::new(alloc);
+    text.push_str("vertex,chips\n")?;
+    for vertex in 0..4_096u64 {
+        write!(text, "{vertex},268435456\n")?;
+    }
+    Ok(text)
+}
+
+#[test]
+fn reads_chips_of_every_vertex(rt: HostRuntime) -> Result<(), Fail> {
+    let text = largest_chips(rt.alloc())?;
+    let chips = read_chips(rt.alloc(), &mut text.as_bytes(), 4_096)?;
+    assert!(rt; chips.len() == 4_096 && chips.iter().all(|count| *count == 1 << 28));
     Ok(())
 }

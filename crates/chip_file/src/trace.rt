@@ -2,10 +2,11 @@
 
 ghost use Rattle.std.specs.Prelude.{◌≡◌, ◌≤◌, [], length, map, replicate, Some, None, IfOk, IfErr, IfSome};
 ghost use Rattle.csv.specs.Records.{fields_of};
-ghost use Rattle.chip_file.specs.Answer.{Answers, Gives, max_bytes};
+ghost use Rattle.chip_file.specs.Answer.{Answers, FailsInTime, Gives, max_bytes};
 ghost use Rattle.chip_file.specs.Kinds.{kind_named, kind_at};
 ghost use Rattle.chip_file.specs.Numbers.{number_in};
-ghost use Rattle.chip_file.specs.TraceText.{trace_kinds, row_of_kind, names_edge, trace_row_in, trace_row_fault, trace_text_fault, traces_of_text};
+ghost use Rattle.chip_file.specs.TraceText.{trace_kinds, row_of_kind, names_edge, trace_row_in, trace_row_fault};
+ghost use Rattle.chip_file.specs.TraceText.{trace_text_fault, traces_of_text};
 
 use crate::fault::FileFault;
 use crate::number::number_at;
@@ -71,6 +72,7 @@ pub fn read_trace<R: Read>(
 
     // At any reader.
     ensures each { IfOk result (λ traces. length traces.items ≡ graph.now.vertices) }
+    ensures read { FailsInTime (R.remaining reader.old) (R.remaining reader.new) result }
 {
     let text = read_whole(alloc, reader)?;
     traces_of_text(alloc, &text, graph)

@@ -164,3 +164,50 @@ fn copies_a_game(rt: HostRuntime) -> Result<(), Fail> {
     assert_eq!(rt; (copy.graph().vertices(), copy.graph().sink()), (3, 2));
     Ok(())
 }
+
+/// So many edges of a long row of vertices: 16 from each to the one before it, and the rest from the last one.
+fn long_row(alloc: Global, count: u64) -> Result<Vec<Edge>, Fail> {
+    let mut edges = Vec::new(alloc);
+    for i in 0..count {
+        let head = (i / 16).min(4_094);
+        edges.push(Edge {
+            tail: head + 1,
+            head,
+            mult: 1,
+        })?;
+    }
+    Ok(edges)
+}
+
+#[test]
+fn takes_the_largest_graph(rt: HostRuntime) -> Result<(), Fail> {
+    let graph = Graph::new(rt.alloc(), 4_096, 0, long_row(rt.alloc(), 65_536)?)?;
+    assert_eq!(rt; (graph.edges().len(), graph.all_edges()), (65_536, 69_632));
+    for (vertex, degree) in [(0, 0), (1, 16), (4_094, 16), (4_095, 32)] {
+        assert!(rt; vertex < graph.vertices());
+        assert_eq!(rt; graph.out_degree(vertex), degree, "degree of {vertex}");
+        assert_eq!(rt; graph.distance(vertex), vertex, "distance of {vertex}");
+    }
+    Ok(())
+}
+
+#[test]
+fn refuses_one_edge_more(rt: HostRuntime) -> Result<(), Fail> {
+    let edges = long_row(rt.alloc(), 65_537)?;
+    assert_eq!(rt;
+        Graph::new(rt.alloc(), 4_096, 0, edges).err(),
+        Some(GraphFault::EdgeCount)
+    );
+    Ok(())
+}
+
+#[test]
+fn copies_the_largest_game(rt: HostRuntime) -> Result<(), Fail> {
+    let graph = Graph::new(rt.alloc(), 4_096, 0, long_row(rt.alloc(), 65_536)?)?;
+    let start = vec![in rt.alloc(); 1 << 28; 4_096]?;
+    let copy = Game::new(graph, start, 1 << 40)?.copy(rt.alloc())?;
+    assert_eq!(rt; (copy.limit(), copy.total()), (1 << 40, 1 << 40));
+    assert_eq!(rt; copy.start().last().copied(), Some(1 << 28));
+    assert_eq!(rt; copy.graph().edges().len(), 65_536);
+    Ok(())
+}

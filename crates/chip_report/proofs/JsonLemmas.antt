@@ -1,5 +1,6 @@
 -- The JSON value of a report, and that `serde_json` reads it from the report's text.
-use Rattle.std.proofs.Common.{◌≡◌, ℕ, ◌^◌, ◌<◌, ◌≤◌, true, false, List, [], ◌∷◌, ◌++◌, map, Some, refl, sym, ap, ◌∙◌, append_assoc, append-nil}
+use Rattle.std.proofs.Common.{◌≡◌, ℕ, ◌^◌, ◌<◌, ◌≤◌, true, false, List, [], ◌∷◌, ◌++◌, map, Some, refl, sym, ap, ◌∙◌}
+use Rattle.std.proofs.Common.{append_assoc, append-nil}
 use Rattle.std.specs.Prelude.{option_and_then, decimal}
 use Rattle.std.specs.List.{join_with_byte, AllByRecursion}
 use Rattle.json.specs.Lex.{tokens}
@@ -18,12 +19,16 @@ use Rattle.chip_report.specs.ReportJson.{numbers_of}
 
 -- ---- any value that reads back from its parts
 
-pub read-compact_text : (d : Data) → tree.HasNumbers (outline d) → tree.depth (outline d) ≤ max_depth → of_json (outline d) ≡ Some d → read (compact_text d) ≡ Some d
+pub read-compact_text : (d : Data) → tree.HasNumbers (outline d) → tree.depth (outline d) ≤ max_depth
+    → of_json (outline d) ≡ Some d → read (compact_text d) ≡ Some d
 read-compact_text d numbers shallow back =
     let spelled : tokens (compact_text d) ≡ tree.json_tokens (outline d) ++ [] =
-    ap tokens (sym (print-outline d)) ∙ tokens-print (tree.json_tokens (outline d)) (ArePrintable-json_tokens (outline d) numbers) ∙ sym (append-nil (tree.json_tokens (outline d))) in
+    ap tokens (sym (print-outline d))
+    ∙ tokens-print (tree.json_tokens (outline d)) (ArePrintable-json_tokens (outline d) numbers)
+    ∙ sym (append-nil (tree.json_tokens (outline d))) in
     ap (λ ts. option_and_then of_json (option_and_then (λ p. json.if_last p.0 p.1) (json.value max_depth ts))) spelled
-    ∙ ap (λ o. option_and_then of_json (option_and_then (λ p. json.if_last p.0 p.1) o)) (value-json_tokens (outline d) max_depth [] shallow)
+    ∙ ap (λ o. option_and_then of_json (option_and_then (λ p. json.if_last p.0 p.1) o))
+    (value-json_tokens (outline d) max_depth [] shallow)
     ∙ back
 
 -- ---- an array of numbers
@@ -35,9 +40,11 @@ items_of (n ∷ ns) = item (number (unsigned n)) (items_of ns)
 abbrev pub AreShort : List ℕ → Type 0
 AreShort = AllByRecursion (λ n. n < 2 ^ 64)
 
-joined : (n : ℕ) (ns : List ℕ) → decimal n ++ items_text true (items_of ns) ≡ join_with_byte comma (map decimal (n ∷ ns)) ++ 93 ∷ []
+joined : (n : ℕ) (ns : List ℕ)
+    → decimal n ++ items_text true (items_of ns) ≡ join_with_byte comma (map decimal (n ∷ ns)) ++ 93 ∷ []
 joined n [] = refl
-joined n (m ∷ ms) = ap (λ (s : List ℕ). decimal n ++ (44 ∷ s)) (joined m ms) ∙ sym (append_assoc (decimal n) (44 ∷ join_with_byte comma (map decimal (m ∷ ms))) (93 ∷ []))
+joined n (m ∷ ms) = ap (λ (s : List ℕ). decimal n ++ (44 ∷ s)) (joined m ms)
+    ∙ sym (append_assoc (decimal n) (44 ∷ join_with_byte comma (map decimal (m ∷ ms))) (93 ∷ []))
 
 pub text-array : (ns : List ℕ) → items_text false (items_of ns) ≡ join_with_byte comma (map decimal ns) ++ 93 ∷ []
 text-array [] = refl

@@ -1,5 +1,6 @@
 -- Ascending lists of numbers: how a program tests them and searches in them.
-use Rattle.std.proofs.Common.{◌≡◌, ℕ, ◌+◌, ◌<◌, ◌≤◌, Bool, true, false, nat_lt, List, length, get_or, Result, Ok, Err, inl, inr, refl, sym, ◌∙◌, subst, arith, lt-ltb, ltb-true}
+use Rattle.std.proofs.Common.{◌≡◌, ℕ, ◌+◌, ◌<◌, ◌≤◌, Bool, true, false, nat_lt, List, length, get_or, Result, Ok, Err}
+use Rattle.std.proofs.Common.{inl, inr, refl, sym, ◌∙◌, subst, arith, lt-ltb, ltb-true}
 use Rattle.std.specs.Prelude.{Contains, slice_index}
 use Rattle.std.specs.List.{IsAllAdjacentAnswer}
 use Rattle.std.specs.List.Sorted.{IsStrictlyIncreasing, IsNonDecreasing, IsBinarySearchResult}
@@ -13,11 +14,13 @@ use Rattle.std.proofs.lemmas.List.Elements.{Contains-get_or}
 use Rattle.std.proofs.lemmas.List.Sorted.{searched, IsNonDecreasingBy-from_all_adjacent}
 
 -- what `is_sorted_by` answers by `<`
-pub ascends_if : (xs : List ℕ) (r : Bool) → IsAllAdjacentAnswer (λ x y b. b ≡ nat_lt x y) xs r → r ≡ true → IsStrictlyIncreasing xs
+pub ascends_if : (xs : List ℕ) (r : Bool) → IsAllAdjacentAnswer (λ x y b. b ≡ nat_lt x y) xs r → r ≡ true
+    → IsStrictlyIncreasing xs
 ascends_if xs true h is = λ k l. ltb-true _ _ (sym (h k 0 l))
 ascends_if xs false h is = absurd (false≢true is)
 
-pub ascends_then : (xs : List ℕ) (r : Bool) → IsAllAdjacentAnswer (λ x y b. b ≡ nat_lt x y) xs r → IsStrictlyIncreasing xs → r ≡ true
+pub ascends_then : (xs : List ℕ) (r : Bool) → IsAllAdjacentAnswer (λ x y b. b ≡ nat_lt x y) xs r
+    → IsStrictlyIncreasing xs → r ≡ true
 ascends_then xs true h up = refl
 ascends_then xs false h up = h.2 0 ∙ lt-ltb _ _ (up h.0 h.1)
 
@@ -29,13 +32,15 @@ does_not_fall xs up = IsNonDecreasingBy-from_all_adjacent (λ x. x) xs (λ k d l
     omega arith)
 
 -- what `binary_search` finds in an ascending list
-pub found_if : (xs : List ℕ) (x : ℕ) (r : Result ℕ ℕ) → IsBinarySearchResult (λ y. nat_cmp y x) xs r → IsStrictlyIncreasing xs → is_ok r ≡ true → Contains xs x
+pub found_if : (xs : List ℕ) (x : ℕ) (r : Result ℕ ℕ) → IsBinarySearchResult (λ y. nat_cmp y x) xs r
+    → IsStrictlyIncreasing xs → is_ok r ≡ true → Contains xs x
 found_if xs x (Ok i) h up is =
     let at = searched xs x (Ok i) h (λ i j le l. does_not_fall xs up i j 0 le l) in
     (i, at.0, get_or_default_zero xs i x at.0 ∙ at.1)
 found_if xs x (Err i) h up is = absurd (false≢true is)
 
-pub found_then : (xs : List ℕ) (x : ℕ) (r : Result ℕ ℕ) → IsBinarySearchResult (λ y. nat_cmp y x) xs r → IsStrictlyIncreasing xs → Contains xs x → is_ok r ≡ true
+pub found_then : (xs : List ℕ) (x : ℕ) (r : Result ℕ ℕ) → IsBinarySearchResult (λ y. nat_cmp y x) xs r
+    → IsStrictlyIncreasing xs → Contains xs x → is_ok r ≡ true
 found_then xs x (Ok i) h up c = refl
 found_then xs x (Err i) h up c =
     let at = searched xs x (Err i) h (λ i j le l. does_not_fall xs up i j 0 le l) in
@@ -50,14 +55,17 @@ found_then xs x (Err i) h up c =
 abbrev pub ApartBelow : List ℕ → List ℕ → ℕ → Type 0
 ApartBelow over sealed i = (k : ℕ) → k < i → Contains sealed (slice_index over k) → ⊥
 
-pub ApartBelow-more : (over sealed : List ℕ) (i : ℕ) → ApartBelow over sealed i → (Contains sealed (slice_index over i) → ⊥) → ApartBelow over sealed (i + 1)
+pub ApartBelow-more : (over sealed : List ℕ) (i : ℕ) → ApartBelow over sealed i
+    → (Contains sealed (slice_index over i) → ⊥) → ApartBelow over sealed (i + 1)
 ApartBelow-more over sealed i below here = below_more (λ k. Contains sealed (slice_index over k) → ⊥) i below here
 
-pub AreApart-from_below : (over sealed : List ℕ) (i : ℕ) → length over ≤ i → ApartBelow over sealed i → AreApart over sealed
+pub AreApart-from_below : (over sealed : List ℕ) (i : ℕ) → length over ≤ i → ApartBelow over sealed i
+    → AreApart over sealed
 AreApart-from_below over sealed i all below v in_over in_sealed =
     let is : v ≡ slice_index over in_over.0 = sym in_over.2 ∙ get_or_default_zero over in_over.0 v in_over.1 in
     let stands : Contains sealed (slice_index over in_over.0) = subst (Contains sealed) is in_sealed in
     below in_over.0 (omega (arith, in_over.1)) stands
 
-pub not_AreApart : (over sealed : List ℕ) (i : ℕ) → i < length over → Contains sealed (slice_index over i) → AreApart over sealed → ⊥
+pub not_AreApart : (over sealed : List ℕ) (i : ℕ) → i < length over → Contains sealed (slice_index over i)
+    → AreApart over sealed → ⊥
 not_AreApart over sealed i l stands apart = apart (slice_index over i) (Contains-get_or over i 0 l) stands

@@ -1,5 +1,7 @@
 -- What a report tells, and which bytes are none.
-use Rattle.std.proofs.Common.{◌≡◌, ◌≢◌, ℕ, ◌^◌, ◌<◌, ◌≤◌, Bool, true, false, List, [], ◌∷◌, ◌++◌, length, map, codes, None, Some, Result, Ok, Err, inl, inr, refl, sym, ap, ◌∙◌, subst, arith, append_assoc, lit<, lit≤}
+use Rattle.std.proofs.Common.{◌≡◌, ◌≢◌, ℕ, ◌^◌, ◌<◌, ◌≤◌, Bool, true, false, List, [], ◌∷◌, ◌++◌, length, map, codes}
+use Rattle.std.proofs.Common.{None, Some, Result, Ok, Err, inl, inr, refl, sym, ap, ◌∙◌, subst, arith, append_assoc}
+use Rattle.std.proofs.Common.{lit<, lit≤}
 use Rattle.std.specs.Prelude.{◌⊎◌, ◌&&◌, option_and_then, decimal, IsUtf8}
 use Rattle.std.specs.Fmt.{digits}
 use Rattle.std.specs.Result.{IsErrAnd}
@@ -18,13 +20,15 @@ use Rattle.serde_json.specs.Written.{outline, compact_text}
 use Rattle.serde_json.proofs.Numbers.{number_of-decimal}
 use Rattle.chip_fire.specs.declared.outcome.Outcome.{Outcome}
 use Rattle.chip_fire.specs.Outcomes.{IsOutcome}
+use Rattle.chip_graph.specs.Limits.{max_limit, max_total}
 use Rattle.chip_report.specs.OutcomeParts.{AreCounts, AreHalted}
 use Rattle.chip_report.specs.ReportText.{comma, array_text, bool_text, is_empty, is_closed, report_text}
 use Rattle.chip_report.specs.Reportable.{Told, told, IsReportOf, IsNoReport, GrowsForALine, Gives}
 use Rattle.chip_report.specs.declared.fault.ReportFault.{ReportFault}
 use Rattle.chip_report.specs.declared.fault.ReportFault.TheVariants as fault
 use Rattle.chip_report.specs.ReportJson.{told_by_value, told_by_json}
-use Rattle.chip_report.proofs.JsonLemmas.{read-compact_text, items_of, AreShort, text-array, numbers-array, depth-array, back-array, numbers_of-items_of}
+use Rattle.chip_report.proofs.JsonLemmas.{read-compact_text, items_of, AreShort, text-array, numbers-array, depth-array}
+use Rattle.chip_report.proofs.JsonLemmas.{back-array, numbers_of-items_of}
 use Rattle.chip_report.proofs.ValueLemmas.{value_of-some}
 
 -- ---- the value of a report
@@ -57,7 +61,8 @@ text-value true t = rw (text-array t.chips, text-array t.fired, text-array t.ove
 text-value false t = rw (text-array t.chips, text-array t.fired, text-array t.over, text-array t.sealed) refl
 
 newline_last : (a b c d e f g h i j k : List ℕ)
-    → (a ++ (b ++ (c ++ (d ++ (e ++ (f ++ (g ++ (h ++ (i ++ (j ++ k)))))))))) ++ 10 ∷ [] ≡ a ++ b ++ c ++ d ++ e ++ f ++ g ++ h ++ i ++ j ++ (k ++ 10 ∷ [])
+    → (a ++ (b ++ (c ++ (d ++ (e ++ (f ++ (g ++ (h ++ (i ++ (j ++ k)))))))))) ++ 10 ∷ [] ≡ a ++ b ++ c ++ d ++ e ++ f
+    ++ g ++ h ++ i ++ j ++ (k ++ 10 ∷ [])
 newline_last a b c d e f g h i j k = simp append_assoc
 
 -- whether no vertex halted
@@ -66,8 +71,10 @@ closed_of t = is_empty t.over && is_empty t.sealed
 
 pub with_newline : (o : Outcome) → json_text (closed_of (told o)) (told o) ++ 10 ∷ [] ≡ report_text o
 with_newline o =
-    newline_last (codes "{\"chips\":") (array_text o.chips.items) (codes ",\"closed\":") (bool_text (is_closed o)) (codes ",\"fired\":") (array_text o.fired.items)
-    (codes ",\"over\":") (array_text o.over.items) (codes ",\"sealed\":") (array_text o.sealed.items) (codes ",\"version\":1}")
+    newline_last (codes "{\"chips\":") (array_text o.chips.items) (codes ",\"closed\":") (bool_text (is_closed o))
+    (codes ",\"fired\":") (array_text o.fired.items)
+    (codes ",\"over\":") (array_text o.over.items) (codes ",\"sealed\":") (array_text o.sealed.items)
+    (codes ",\"version\":1}")
 
 -- numbers that fit
 pub record AreShortLists (t : Told) : Type 0 where
@@ -77,28 +84,52 @@ pub record AreShortLists (t : Told) : Type 0 where
   pub sealed : AreShort t.sealed
 
 numbers-value : (closed : Bool) (t : Told) → AreShortLists t → tree.HasNumbers (outline (report_value closed t))
-numbers-value closed t h =
-    (numbers-array t.chips h.chips, (tt, (numbers-array t.fired h.fired, (numbers-array t.over h.over, (numbers-array t.sealed h.sealed, (IsNumber-decimal 1 (lit< tt), tt))))))
+numbers-value closed t h = (
+  numbers-array t.chips h.chips,
+  (
+    tt,
+    (
+      numbers-array t.fired h.fired,
+      (numbers-array t.over h.over, (numbers-array t.sealed h.sealed, (IsNumber-decimal 1 (lit< tt), tt))),
+    ),
+  ),
+)
 
 depth-value : (closed : Bool) (t : Told) → tree.depth (outline (report_value closed t)) ≤ max_depth
 depth-value closed t = rw (depth-array t.chips, depth-array t.fired, depth-array t.over, depth-array t.sealed) (lit≤ tt)
 
-back-value : (closed : Bool) (t : Told) → AreShortLists t → of_json (outline (report_value closed t)) ≡ Some (report_value closed t)
-back-value closed t h = rw (back-array t.chips h.chips, back-array t.fired h.fired, back-array t.over h.over, back-array t.sealed h.sealed, number_of-decimal 1 (lit< tt)) refl
+back-value : (closed : Bool) (t : Told) → AreShortLists t
+    → of_json (outline (report_value closed t)) ≡ Some (report_value closed t)
+back-value closed t h = rw (
+  back-array t.chips h.chips,
+  back-array t.fired h.fired,
+  back-array t.over h.over,
+  back-array t.sealed h.sealed,
+  number_of-decimal 1 (lit< tt),
+) refl
 
 pub read-value : (closed : Bool) (t : Told) → AreShortLists t → read (json_text closed t) ≡ Some (report_value closed t)
-read-value closed t h = ap read (sym (text-value closed t)) ∙ read-compact_text (report_value closed t) (numbers-value closed t h) (depth-value closed t) (back-value closed t h)
+read-value closed t h = ap read (sym (text-value closed t))
+    ∙ read-compact_text (report_value closed t) (numbers-value closed t h) (depth-value closed t)
+    (back-value closed t h)
 
 pub told-value : (closed : Bool) (t : Told) → told_by_value (report_value closed t) ≡ Some t
-told-value closed t = rw (numbers_of-items_of t.fired, numbers_of-items_of t.chips, numbers_of-items_of t.over, numbers_of-items_of t.sealed) refl
+told-value closed t = rw (
+  numbers_of-items_of t.fired,
+  numbers_of-items_of t.chips,
+  numbers_of-items_of t.over,
+  numbers_of-items_of t.sealed,
+) refl
 
 -- ---- a report is UTF-8
 
 utf8-joined : (n : ℕ) (ns : List ℕ) → AreShort (n ∷ ns) → IsUtf8 (join_with_byte comma (map decimal (n ∷ ns)))
 utf8-joined n [] h = IsUtf8-from_ascii (decimal n) (IsAscii-decimal n h.0)
 utf8-joined n (m ∷ ms) h =
-    IsUtf8-append (decimal n) (comma ∷ join_with_byte comma (map decimal (m ∷ ms))) (IsUtf8-from_ascii (decimal n) (IsAscii-decimal n h.0))
-    (IsUtf8-append (comma ∷ []) (join_with_byte comma (map decimal (m ∷ ms))) (IsUtf8-are_ascii (comma ∷ []) refl) (utf8-joined m ms h.1))
+    IsUtf8-append (decimal n) (comma ∷ join_with_byte comma (map decimal (m ∷ ms)))
+    (IsUtf8-from_ascii (decimal n) (IsAscii-decimal n h.0))
+    (IsUtf8-append (comma ∷ []) (join_with_byte comma (map decimal (m ∷ ms))) (IsUtf8-are_ascii (comma ∷ []) refl)
+    (utf8-joined m ms h.1))
 
 utf8-members : (ns : List ℕ) → AreShort ns → IsUtf8 (join_with_byte comma (map decimal ns))
 utf8-members [] h = IsUtf8-nil
@@ -106,7 +137,9 @@ utf8-members (n ∷ ns) h = utf8-joined n ns h
 
 pub utf8-array : (ns : List ℕ) → AreShort ns → IsUtf8 (array_text ns)
 utf8-array ns h =
-    IsUtf8-append (codes "[") _ (IsUtf8-are_ascii (codes "[") refl) (IsUtf8-append (join_with_byte comma (map decimal ns)) (codes "]") (utf8-members ns h) (IsUtf8-are_ascii (codes "]") refl))
+    IsUtf8-append (codes "[") _ (IsUtf8-are_ascii (codes "[") refl)
+    (IsUtf8-append (join_with_byte comma (map decimal ns)) (codes "]") (utf8-members ns h)
+    (IsUtf8-are_ascii (codes "]") refl))
 
 pub utf8-boolean : (b : Bool) → IsUtf8 (bool_text b)
 utf8-boolean true = IsUtf8-are_ascii (codes "true") refl
@@ -114,11 +147,17 @@ utf8-boolean false = IsUtf8-are_ascii (codes "false") refl
 
 pub utf8-text : (closed : Bool) (t : Told) → AreShortLists t → IsUtf8 (json_text closed t)
 utf8-text closed t h =
-    IsUtf8-append (codes "{\"chips\":") _ (IsUtf8-are_ascii _ refl) (IsUtf8-append (array_text t.chips) _ (utf8-array t.chips h.chips)
-    (IsUtf8-append (codes ",\"closed\":") _ (IsUtf8-are_ascii _ refl) (IsUtf8-append (bool_text closed) _ (utf8-boolean closed)
-    (IsUtf8-append (codes ",\"fired\":") _ (IsUtf8-are_ascii _ refl) (IsUtf8-append (array_text t.fired) _ (utf8-array t.fired h.fired)
-    (IsUtf8-append (codes ",\"over\":") _ (IsUtf8-are_ascii _ refl) (IsUtf8-append (array_text t.over) _ (utf8-array t.over h.over)
-    (IsUtf8-append (codes ",\"sealed\":") _ (IsUtf8-are_ascii _ refl) (IsUtf8-append (array_text t.sealed) (codes ",\"version\":1}") (utf8-array t.sealed h.sealed) (IsUtf8-are_ascii (codes ",\"version\":1}") refl))))))))))
+    IsUtf8-append (codes "{\"chips\":") _ (IsUtf8-are_ascii _ refl)
+    (IsUtf8-append (array_text t.chips) _ (utf8-array t.chips h.chips)
+    (IsUtf8-append (codes ",\"closed\":") _ (IsUtf8-are_ascii _ refl)
+    (IsUtf8-append (bool_text closed) _ (utf8-boolean closed)
+    (IsUtf8-append (codes ",\"fired\":") _ (IsUtf8-are_ascii _ refl)
+    (IsUtf8-append (array_text t.fired) _ (utf8-array t.fired h.fired)
+    (IsUtf8-append (codes ",\"over\":") _ (IsUtf8-are_ascii _ refl)
+    (IsUtf8-append (array_text t.over) _ (utf8-array t.over h.over)
+    (IsUtf8-append (codes ",\"sealed\":") _ (IsUtf8-are_ascii _ refl)
+    (IsUtf8-append (array_text t.sealed) (codes ",\"version\":1}") (utf8-array t.sealed h.sealed)
+    (IsUtf8-are_ascii (codes ",\"version\":1}") refl))))))))))
 
 -- ---- what a report tells
 
@@ -126,25 +165,34 @@ pub short_lists : (o : Outcome) → IsOutcome o → AreShortLists (told o)
 short_lists o h =
     let few = h.few_vertices in
     record {
-      fired = recursion_from_All (λ n. n < 2 ^ 64) o.fired.items (λ k d l. let low = h.few_firings k d l in omega arith);
+      fired = recursion_from_All (λ n. n < 2 ^ 64) o.fired.items (λ k d l. let low = h.few_firings k d l in
+          omega arith);
       chips = recursion_from_All (λ n. n < 2 ^ 64) o.chips.items (λ k d l. let low = h.few_chips k d l in omega arith);
-      over = recursion_from_All (λ n. n < 2 ^ 64) o.over.items (λ k d l. let low = h.over_vertices k d l in omega arith);
-      sealed = recursion_from_All (λ n. n < 2 ^ 64) o.sealed.items (λ k d l. let low = h.sealed_vertices k d l in omega arith);
+      over = recursion_from_All (λ n. n < 2 ^ 64) o.over.items (λ k d l. let low = h.over_vertices k d l in
+          omega arith);
+      sealed = recursion_from_All (λ n. n < 2 ^ 64) o.sealed.items (λ k d l. let low = h.sealed_vertices k d l in
+          omega arith);
     }
 
-told-report : (o : Outcome) (json : List ℕ) → IsOutcome o → report_text o ≡ json ++ 10 ∷ [] → told_by_json json ≡ Some (told o)
+told-report : (o : Outcome) (json : List ℕ) → IsOutcome o → report_text o ≡ json ++ 10 ∷ []
+    → told_by_json json ≡ Some (told o)
 told-report o json h e =
     let short = short_lists o h in
-    let same : json_text (closed_of (told o)) (told o) ≡ json = append_cancel_right _ json (10 ∷ []) (with_newline o ∙ e) in
+    let same : json_text (closed_of (told o)) (told o) ≡ json = append_cancel_right _ json (10 ∷ []) (with_newline o
+    ∙ e) in
     ap told_by_json (sym same)
-    ∙ ap (option_and_then told_by_value) (value_of-some (json_text (closed_of (told o)) (told o)) _ (utf8-text (closed_of (told o)) (told o) short) (read-value (closed_of (told o)) (told o) short))
+    ∙ ap (option_and_then told_by_value)
+    (value_of-some (json_text (closed_of (told o)) (told o)) _ (utf8-text (closed_of (told o)) (told o) short)
+    (read-value (closed_of (told o)) (told o) short))
     ∙ told-value (closed_of (told o)) (told o)
 
 -- ---- an outcome's numbers are all that its report depends on
 
 -- the numbers are those of an outcome that a game can have
 abbrev pub AreOfOutcome : Told → Type 0
-AreOfOutcome t = AreCounts t.fired (length t.fired) × AreCounts t.chips (length t.fired) × AreHalted t.over t.sealed (length t.fired)
+AreOfOutcome t =
+    AreCounts t.fired (length t.fired) max_limit × AreCounts t.chips (length t.fired) max_total
+    × AreHalted t.over t.sealed (length t.fired)
 
 pub outcome_then : (o : Outcome) → IsOutcome o → AreOfOutcome (told o)
 outcome_then o h = (
@@ -167,17 +215,24 @@ outcome_if o h = record {
   apart = h.2.2;
 }
 
-pub outcome_by_counts : (o : Outcome) (vertices : ℕ) → AreCounts o.fired.items vertices → AreCounts o.chips.items vertices → AreHalted o.over.items o.sealed.items vertices → IsOutcome o
+pub outcome_by_counts : (o : Outcome) (vertices : ℕ) → AreCounts o.fired.items vertices max_limit
+    → AreCounts o.chips.items vertices max_total → AreHalted o.over.items o.sealed.items vertices → IsOutcome o
 outcome_by_counts o vertices fired chips halted =
-    outcome_if o (subst (λ (n : ℕ). AreCounts o.fired.items n × AreCounts o.chips.items n × AreHalted o.over.items o.sealed.items n) (sym fired.0) (fired, chips, halted))
+    outcome_if o
+    (subst
+    (λ (n : ℕ). AreCounts o.fired.items n max_limit × AreCounts o.chips.items n max_total
+    × AreHalted o.over.items o.sealed.items n)
+    (sym fired.0) (fired, chips, halted))
 
-pub halted_of_outcome : (o : Outcome) (vertices : ℕ) → length o.fired.items ≡ vertices → IsOutcome o → AreHalted o.over.items o.sealed.items vertices
+pub halted_of_outcome : (o : Outcome) (vertices : ℕ) → length o.fired.items ≡ vertices → IsOutcome o
+    → AreHalted o.over.items o.sealed.items vertices
 halted_of_outcome o vertices e h = subst (AreHalted o.over.items o.sealed.items) e (outcome_then o h).2
 
 IsReportOf-told : (bytes : List ℕ) (o p : Outcome) → told o ≡ told p → IsReportOf bytes o → IsReportOf bytes p
 IsReportOf-told bytes o p e r = record {
   reportable = outcome_if p (subst AreOfOutcome e (outcome_then o r.reportable));
-  spelled = r.spelled ∙ sym (with_newline o) ∙ ap (λ (t : Told). json_text (closed_of t) t ++ 10 ∷ []) e ∙ with_newline p;
+  spelled = r.spelled ∙ sym (with_newline o) ∙ ap (λ (t : Told). json_text (closed_of t) t ++ 10 ∷ []) e
+      ∙ with_newline p;
 }
 
 -- ---- bytes that are no report
@@ -191,18 +246,22 @@ none_told bytes json e none o r =
     let both : None ≡ Some (told o) = sym none ∙ some in
     cc
 
-pub refused : (bytes json : List ℕ) → bytes ≡ json ++ 10 ∷ [] → (result : Result Outcome ReportFault) (f : ReportFault) → IsErrAnd result (λ e. e ≡ f)
-    → (f ≡ fault.NoMemory) ⊎ ((f ≡ fault.NotReport) × (told_by_json json ≡ None)) → Gives (IsReportOf bytes) (IsNoReport bytes) result
+pub refused : (bytes json : List ℕ) → bytes ≡ json ++ 10 ∷ [] → (result : Result Outcome ReportFault) (f : ReportFault)
+    → IsErrAnd result (λ e. e ≡ f)
+    → (f ≡ fault.NoMemory) ⊎ ((f ≡ fault.NotReport) × (told_by_json json ≡ None))
+    → Gives (IsReportOf bytes) (IsNoReport bytes) result
 refused bytes json e (Ok o) f is why = absurd is
 refused bytes json e (Err g) f is (inl memory) = inl (is ∙ memory)
 refused bytes json e (Err g) f is (inr none) = inr (is ∙ none.0, none_told bytes json e none.1)
 
 -- bytes that end in a newline
-pub of_a_line : (bytes json : List ℕ) → bytes ≡ json ++ 10 ∷ [] → (result : Result Outcome ReportFault) → GrowsForALine bytes result
+pub of_a_line : (bytes json : List ℕ) → bytes ≡ json ++ 10 ∷ [] → (result : Result Outcome ReportFault)
+    → GrowsForALine bytes result
 of_a_line bytes json e (Ok o) = tt
 of_a_line bytes json e (Err f) = λ memory. (json, e)
 
-pub not_the_one_told : (bytes json : List ℕ) (found : Outcome) → bytes ≡ json ++ 10 ∷ [] → told_by_json json ≡ Some (told found) → (IsReportOf bytes found → ⊥) → IsNoReport bytes
+pub not_the_one_told : (bytes json : List ℕ) (found : Outcome) → bytes ≡ json ++ 10 ∷ []
+    → told_by_json json ≡ Some (told found) → (IsReportOf bytes found → ⊥) → IsNoReport bytes
 not_the_one_told bytes json found e one none o r =
     let some : told_by_json json ≡ Some (told o) = told-report o json r.reportable (sym r.spelled ∙ e) in
     let both : Some (told o) ≡ Some (told found) = sym some ∙ one in
@@ -219,7 +278,8 @@ one_outcome o p h k e =
     let both : Some (told o) ≡ Some (told p) = sym one ∙ other in
     cc
 
-pub round_trip : (o : Outcome) → IsOutcome o → (answer : Result Outcome ReportFault) → Gives (IsReportOf (report_text o)) (IsNoReport (report_text o)) answer
+pub round_trip : (o : Outcome) → IsOutcome o → (answer : Result Outcome ReportFault)
+    → Gives (IsReportOf (report_text o)) (IsNoReport (report_text o)) answer
     → ((read : Outcome) × (answer ≡ Ok read) × (told read ≡ told o)) ⊎ (answer ≡ Err fault.NoMemory)
 round_trip o h (Ok read) gives = inl (read, refl, sym (one_outcome o read h gives.reportable gives.spelled))
 round_trip o h (Err f) gives = elim gives [

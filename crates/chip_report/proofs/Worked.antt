@@ -5,13 +5,15 @@ use Rattle.serde_json.proofs.OnLiterals.{serde_json_on_literals}
 use Rattle.chip_report.specs.ReportJson.{told_by_json}
 
 -- the small triangle, played to its end
-triangle : told_by_json (codes "{\"chips\":[1,0,3],\"closed\":true,\"fired\":[2,1,0],\"over\":[],\"sealed\":[],\"version\":1}")
+triangle : told_by_json (codes
+    "{\"chips\":[1,0,3],\"closed\":true,\"fired\":[2,1,0],\"over\":[],\"sealed\":[],\"version\":1}")
     ≡ Some (record { fired = 2 ∷ 1 ∷ 0 ∷ []; chips = 1 ∷ 0 ∷ 3 ∷ []; over = []; sealed = [] })
 unfolding serde_json_on_literals is_utf8 chars
 triangle = refl
 
 -- it is no matter how the JSON is spelled, nor what else it has
-other_spelling : told_by_json (codes " {\"sealed\":[0],\"over\":[], \"fired\":[2],\"chips\":[5]}\n") ≡ Some (record { fired = 2 ∷ []; chips = 5 ∷ []; over = []; sealed = 0 ∷ [] })
+other_spelling : told_by_json (codes " {\"sealed\":[0],\"over\":[], \"fired\":[2],\"chips\":[5]}\n")
+    ≡ Some (record { fired = 2 ∷ []; chips = 5 ∷ []; over = []; sealed = 0 ∷ [] })
 unfolding serde_json_on_literals is_utf8 chars
 other_spelling = refl
 

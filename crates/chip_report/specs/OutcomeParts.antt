@@ -1,10 +1,12 @@
 -- The parts of what a game's outcome is (`IsOutcome`), list by list.
-use Rattle.std.specs.Prelude.{◌≡◌, ℕ, ◌^◌, ◌<◌, ◌≤◌, List, length, All, Contains}
+use Rattle.std.specs.Prelude.{◌≡◌, ℕ, ◌<◌, ◌≤◌, List, length, All, Contains}
 use Rattle.std.specs.List.Sorted.{IsStrictlyIncreasing}
+use Rattle.chip_graph.specs.Limits.{max_vertices}
 
--- one number in range for each of 1 to 4,096 vertices
-abbrev pub AreCounts : List ℕ → ℕ → Type 0
-AreCounts numbers vertices = (length numbers ≡ vertices) × (0 < vertices) × (vertices ≤ 4096) × All (λ n. n ≤ 2 ^ 40) numbers
+-- one number for each of some vertices, no more than a graph may have, and none above `most`
+abbrev pub AreCounts : List ℕ → ℕ → ℕ → Type 0
+AreCounts numbers vertices most =
+    (length numbers ≡ vertices) × (0 < vertices) × (vertices ≤ max_vertices) × All (λ n. n ≤ most) numbers
 
 -- an ascending list of vertices
 abbrev pub AscendBelow : List ℕ → ℕ → Type 0

@@ -13,7 +13,8 @@ value_of json = if is_utf8 json then read json else None
 -- the numbers that the values of an array are
 abbrev pub numbers_of : Items → Option (List ℕ)
 numbers_of no_items = Some []
-numbers_of (item value values) = option_and_then (λ n. option_map (λ ns. n ∷ ns) (numbers_of values)) (option_and_then as_u64 (as_number value))
+numbers_of (item value values) = option_and_then (λ n. option_map (λ ns. n ∷ ns) (numbers_of values))
+    (option_and_then as_u64 (as_number value))
 
 -- the numbers in the array under a name
 abbrev pub numbers_under : List ℕ → Data → Option (List ℕ)
@@ -21,13 +22,15 @@ numbers_under name value = option_and_then numbers_of (option_and_then as_array 
 
 -- the lists, where each is there
 abbrev pub told_by_lists : Option (List ℕ) → Option (List ℕ) → Option (List ℕ) → Option (List ℕ) → Option Told
-told_by_lists (Some fired) (Some chips) (Some over) (Some sealed) = Some (record { fired = fired; chips = chips; over = over; sealed = sealed })
+told_by_lists (Some fired) (Some chips) (Some over) (Some sealed) =
+    Some (record { fired = fired; chips = chips; over = over; sealed = sealed })
 told_by_lists _ _ _ _ = None
 
 -- what an object tells
 abbrev pub told_by_value : Data → Option Told
 told_by_value value =
-    told_by_lists (numbers_under (codes "fired") value) (numbers_under (codes "chips") value) (numbers_under (codes "over") value) (numbers_under (codes "sealed") value)
+    told_by_lists (numbers_under (codes "fired") value) (numbers_under (codes "chips") value)
+    (numbers_under (codes "over") value) (numbers_under (codes "sealed") value)
 
 -- what a text of JSON tells
 abbrev pub told_by_json : List ℕ → Option Told

@@ -15,7 +15,12 @@ pub record Told : Type 0 where
 
 -- what an outcome tells
 abbrev pub told : Outcome → Told
-told outcome = record { fired = outcome.fired.items; chips = outcome.chips.items; over = outcome.over.items; sealed = outcome.sealed.items }
+told outcome = record {
+  fired = outcome.fired.items;
+  chips = outcome.chips.items;
+  over = outcome.over.items;
+  sealed = outcome.sealed.items;
+}
 
 -- a report takes the outcome, and the bytes are its report
 pub record IsReportOf (bytes : List ℕ) (outcome : Outcome) : Type 0 where

@@ -6,30 +6,26 @@ ghost use Rattle.chip_fire.specs.Outcomes.{IsOutcome};
 ghost use Rattle.chip_report.specs.OutcomeParts.{AreCounts, AscendBelow, AreApart, AreHalted};
 
 use chip_fire::Outcome;
-
-/// The most vertices of a graph.
-const MAX_VERTICES: usize = 4_096;
-/// The most chips of a game, and the most firings of a vertex.
-const MAX_NUMBER: u64 = 1 << 40;
+use chip_graph::{MAX_LIMIT, MAX_TOTAL, MAX_VERTICES};
 
 /// Whether the numbers are in range, and the halted vertices two ascending lists with none in both.
 pub(crate) fn is_outcome(outcome: &Outcome) -> bool
     ensures { (result ≡ true) ↔ IsOutcome outcome.now }
 {
     let vertices = outcome.fired.len();
-    are_counts(&outcome.fired, vertices)
-        && are_counts(&outcome.chips, vertices)
+    are_counts(&outcome.fired, vertices, MAX_LIMIT)
+        && are_counts(&outcome.chips, vertices, MAX_TOTAL)
         && are_halted(&outcome.over, &outcome.sealed, vertices as u64)
 }
 
-/// Whether the numbers are one for each vertex, in range.
-fn are_counts(numbers: &[u64], vertices: usize) -> bool
-    ensures { (result ≡ true) ↔ AreCounts numbers.now vertices }
+/// Whether the numbers are one for each vertex, none above `most`.
+fn are_counts(numbers: &[u64], vertices: usize, most: u64) -> bool
+    ensures { (result ≡ true) ↔ AreCounts numbers.now vertices most }
 {
     numbers.len() == vertices
         && 0 < vertices
-        && vertices <= MAX_VERTICES
-        && numbers.iter().all(|number| *number <= MAX_NUMBER)
+        && vertices as u64 <= MAX_VERTICES
+        && numbers.iter().all(|number| *number <= most)
 }
 
 /// Whether the lists of halted vertices ascend, with none in both.

@@ -1,5 +1,6 @@
 -- Where no next row is met, each vertex has used as many rows as any partial interleaving lets it use.
-use Rattle.std.proofs.Common.{◌≡◌, ℕ, ◌+◌, ◌<◌, ◌≤◌, true, false, List, [], ◌∷◌, ◌++◌, length, refl, sym, ap, ◌∙◌, subst, arith, append_assoc, append-nil, length-append}
+use Rattle.std.proofs.Common.{◌≡◌, ℕ, ◌+◌, ◌<◌, ◌≤◌, true, false, List, [], ◌∷◌, ◌++◌, length, refl, sym, ap, ◌∙◌}
+use Rattle.std.proofs.Common.{subst, arith, append_assoc, append-nil, length-append}
 use Rattle.std.specs.Prelude.{slice_get, Some}
 use mathlib.Core.Logic.{dite}
 use native.Mathlib.Decide.{ℕ_discrete}
@@ -13,23 +14,29 @@ use Rattle.chip_trace.proofs.RowLemmas.{rows_of-append, rows_of-push, rows_of-pu
 module _ (g : ChipGame) (traces : List (List TraceRow)) (xs : List Placed) (partial : IsPartial g traces xs)
     (settled : (v : ℕ) (row : TraceRow) → next_row traces xs v ≡ Some row → is_met g (rows_of xs) v row ≡ false) where
   -- behind a beginning that goes no further anywhere, the next row goes no further either
-  one_more : (ys before rest : List Placed) (v : ℕ) (row : TraceRow) → before ++ record { vertex = v; row = row } ∷ rest ≡ ys →
+  one_more : (ys before rest : List Placed) (v : ℕ) (row : TraceRow)
+      → before ++ record { vertex = v; row = row } ∷ rest ≡ ys →
       ((u : ℕ) → (left : List TraceRow) × (rows_of ys u ++ left ≡ trace_of traces u)) →
       ((u : ℕ) → length (rows_of before u) ≤ length (rows_of xs u)) →
       is_met g (rows_of before) v row ≡ true → length (rows_of before v) < length (rows_of xs v)
-  one_more ys before rest v row is in_order within met = dite (ℕ_discrete (length (rows_of before v)) (length (rows_of xs v))) (λ same. absurd (impossible same)) (λ other. let l = within v in omega arith)
+  one_more ys before rest v row is in_order within met = dite
+      (ℕ_discrete (length (rows_of before v)) (length (rows_of xs v))) (λ same. absurd (impossible same))
+      (λ other. let l = within v in omega arith)
     where
       -- what the other list has left behind this beginning
       left : (u : ℕ) → (left : List TraceRow) × (rows_of before u ++ left ≡ trace_of traces u)
       left u = (
         rows_of (record { vertex = v; row = row } ∷ rest) u ++ (in_order u).0,
         sym (append_assoc (rows_of before u) (rows_of (record { vertex = v; row = row } ∷ rest) u) (in_order u).0)
-            ∙ ap (λ (rows : List TraceRow). rows ++ (in_order u).0) (sym (rows_of-append before (record { vertex = v; row = row } ∷ rest) u) ∙ ap (λ (zs : List Placed). rows_of zs u) is)
+            ∙ ap (λ (rows : List TraceRow). rows ++ (in_order u).0)
+            (sym (rows_of-append before (record { vertex = v; row = row } ∷ rest) u)
+            ∙ ap (λ (zs : List Placed). rows_of zs u) is)
             ∙ (in_order u).1,
       )
 
       goes : (u : ℕ) → (more : List TraceRow) × (rows_of before u ++ more ≡ rows_of xs u)
-      goes u = longer_beginning (rows_of before u) (left u).0 (rows_of xs u) (partial.in_order u).0 (trace_of traces u) (left u).1 (partial.in_order u).1 (within u)
+      goes u = longer_beginning (rows_of before u) (left u).0 (rows_of xs u) (partial.in_order u).0 (trace_of traces u)
+          (left u).1 (partial.in_order u).1 (within u)
 
       through : List Placed
       through = before ++ record { vertex = v; row = row } ∷ []
@@ -39,17 +46,23 @@ module _ (g : ChipGame) (traces : List (List TraceRow)) (xs : List Placed) (part
       next = (
         rows_of rest v ++ (in_order v).0,
         sym (append_assoc (rows_of before v) (row ∷ []) (rows_of rest v ++ (in_order v).0))
-            ∙ ap (λ (rows : List TraceRow). rows ++ (rows_of rest v ++ (in_order v).0)) (sym (rows_of-push before v row))
+            ∙ ap (λ (rows : List TraceRow). rows ++ (rows_of rest v ++ (in_order v).0))
+            (sym (rows_of-push before v row))
             ∙ sym (append_assoc (rows_of through v) (rows_of rest v) (in_order v).0)
-            ∙ ap (λ (rows : List TraceRow). rows ++ (in_order v).0) (sym (rows_of-append through rest v) ∙ ap (λ (zs : List Placed). rows_of zs v) (append_assoc before (record { vertex = v; row = row } ∷ []) rest ∙ is))
+            ∙ ap (λ (rows : List TraceRow). rows ++ (in_order v).0) (sym (rows_of-append through rest v)
+            ∙ ap (λ (zs : List Placed). rows_of zs v) (append_assoc before (record { vertex = v; row = row } ∷ []) rest
+            ∙ is))
             ∙ (in_order v).1,
       )
 
       impossible : length (rows_of before v) ≡ length (rows_of xs v) → ⊥
       impossible e =
-          let same = same_beginning (rows_of before v) (left v).0 (rows_of xs v) (partial.in_order v).0 (trace_of traces v) (left v).1 (partial.in_order v).1 e in
+          let same = same_beginning (rows_of before v) (left v).0 (rows_of xs v) (partial.in_order v).0
+          (trace_of traces v) (left v).1 (partial.in_order v).1 e in
           let here : next_row traces xs v ≡ Some row =
-          ap (slice_get (trace_of traces v)) (sym e) ∙ ap (λ (all : List TraceRow). slice_get all (length (rows_of before v))) (sym next.1) ∙ slice_get_seam (rows_of before v) row next.0 in
+          ap (slice_get (trace_of traces v)) (sym e)
+          ∙ ap (λ (all : List TraceRow). slice_get all (length (rows_of before v))) (sym next.1)
+          ∙ slice_get_seam (rows_of before v) row next.0 in
           let yes' = met_stays g (rows_of before) (rows_of xs) v row same goes met in
           let no' = settled v row here in
           cc
@@ -58,27 +71,39 @@ module _ (g : ChipGame) (traces : List (List TraceRow)) (xs : List Placed) (part
   no_further : (ys before rest : List Placed) → before ++ rest ≡ ys →
       ((u : ℕ) → (left : List TraceRow) × (rows_of ys u ++ left ≡ trace_of traces u)) →
       AreMet g before rest →
-      ((u : ℕ) → length (rows_of before u) ≤ length (rows_of xs u)) → (u : ℕ) → length (rows_of ys u) ≤ length (rows_of xs u)
-  no_further ys before [] is in_order met within u = subst (λ (zs : List Placed). length (rows_of zs u) ≤ length (rows_of xs u)) (sym (append-nil before) ∙ is) (within u)
+      ((u : ℕ) → length (rows_of before u) ≤ length (rows_of xs u)) → (u : ℕ)
+      → length (rows_of ys u) ≤ length (rows_of xs u)
+  no_further ys before [] is in_order met within u = subst
+      (λ (zs : List Placed). length (rows_of zs u) ≤ length (rows_of xs u)) (sym (append-nil before) ∙ is) (within u)
   no_further ys before (y ∷ rest) is in_order met within u =
       no_further ys (before ++ y ∷ []) rest (append_assoc before (y ∷ []) rest ∙ is) in_order met.1
       (λ w. dite (ℕ_discrete y.vertex w)
       (λ same.
-      let here : length (rows_of before y.vertex) < length (rows_of xs y.vertex) = one_more ys before rest y.vertex y.row is in_order within met.0 in
-      let grown : length (rows_of (before ++ y ∷ []) y.vertex) ≡ length (rows_of before y.vertex) + 1 = ap length (rows_of-push before y.vertex y.row) ∙ length-append (rows_of before y.vertex) (y.row ∷ []) in
+      let here : length (rows_of before y.vertex) < length (rows_of xs y.vertex) =
+      one_more ys before rest y.vertex y.row is in_order within met.0 in
+      let grown : length (rows_of (before ++ y ∷ []) y.vertex) ≡ length (rows_of before y.vertex) + 1 =
+      ap length (rows_of-push before y.vertex y.row) ∙ length-append (rows_of before y.vertex) (y.row ∷ []) in
       subst (λ (z : ℕ). length (rows_of (before ++ y ∷ []) z) ≤ length (rows_of xs z)) same (omega arith))
-      (λ other. subst (λ (rows : List TraceRow). length rows ≤ length (rows_of xs w)) (sym (rows_of-push_other before y.vertex w y.row other)) (within w)))
+      (λ other. subst (λ (rows : List TraceRow). length rows ≤ length (rows_of xs w))
+      (sym (rows_of-push_other before y.vertex w y.row other)) (within w)))
       u
 
   -- so this is greatest progress
   pub settled_is_greatest : IsGreatestProgress g traces xs
-  settled_is_greatest = record { partial = partial; greatest = λ ys other. no_further ys [] ys refl other.in_order other.met (λ u. omega arith) }
+  settled_is_greatest = record {
+    partial = partial;
+    greatest = λ ys other. no_further ys [] ys refl other.in_order other.met (λ u. omega arith);
+  }
 
 -- where some vertex has a row left at greatest progress, there is no interleaving
-pub none_whole : (g : ChipGame) (traces : List (List TraceRow)) (xs : List Placed) → IsGreatestProgress g traces xs → (v : ℕ) → length (rows_of xs v) < length (trace_of traces v) →
+pub none_whole : (g : ChipGame) (traces : List (List TraceRow)) (xs : List Placed) → IsGreatestProgress g traces xs
+    → (v : ℕ) → length (rows_of xs v) < length (trace_of traces v) →
     (ys : List Placed) → IsInterleaving g traces ys → ⊥
 none_whole g traces xs all v left ys whole =
-    let partial : IsPartial g traces ys = record { in_order = λ u. ([], append-nil (rows_of ys u) ∙ whole.whole u); met = whole.met } in
+    let partial : IsPartial g traces ys = record {
+      in_order = λ u. ([], append-nil (rows_of ys u) ∙ whole.whole u);
+      met = whole.met;
+    } in
     let l = all.greatest ys partial v in
     let e = ap length (whole.whole v) in
     omega arith

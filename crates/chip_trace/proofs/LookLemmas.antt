@@ -1,22 +1,26 @@
 -- What a look at a row that is met tells.
-use Rattle.std.proofs.Common.{◌≡◌, ℕ, ◌+◌, ◌-◌, ◌*◌, ◌^◌, ◌<◌, ◌≤◌, Bool, true, false, cond, eqb, List, [], ◌∷◌, length, get_or, map, sum, refl, sym, ap, ◌∙◌, arith, eq-eqb}
+use Rattle.std.proofs.Common.{◌≡◌, ℕ, ◌+◌, ◌-◌, ◌*◌, ◌^◌, ◌<◌, ◌≤◌, Bool, true, false, cond, eqb, List, [], ◌∷◌, length}
+use Rattle.std.proofs.Common.{get_or, map, sum, refl, sym, ap, ◌∙◌, arith, eq-eqb}
 use Rattle.std.specs.Prelude.{slice_get, slice_index, Option, Some, nat_lt, nat_le, not, ◌&&◌, ◌==◌}
 use Rattle.std.proofs.lemmas.Bool.{eqb-true, ltb-true, leb-true}
 use Rattle.chip_link.specs.declared.trace.TraceRow.{TraceRow}
 use Rattle.chip_link.specs.declared.trace.TraceRow.TheVariants.{Take, Fire}
 use Rattle.chip_graph.specs.Multigraph.{Multigraph, edge_at}
 use Rattle.chip_graph.specs.ChipGame.{ChipGame, IsGame}
-use Rattle.chip_trace.specs.Interleaving.{fires, takes_of, opening, messages, goes_into, next_message, has_count, may_fire}
+use Rattle.chip_trace.specs.Interleaving.{fires, takes_of, opening, messages, goes_into, next_message, has_count}
+use Rattle.chip_trace.specs.Interleaving.{may_fire}
 use Rattle.chip_trace.specs.Runner.{RunnerState}
 use Rattle.chip_trace.specs.declared.progress.Progress.{Progress}
 use Rattle.chip_trace.specs.Kept.{runner_at, rows_used, row_after, IsKept, MayUse}
 use Rattle.chip_trace.proofs.RowLemmas.{and_first, and_second, and_both}
 
 -- an edge into a vertex is an edge
-pub into_is_edge : (G : Multigraph) (v e : ℕ) → v < G.vertices → goes_into G v e ≡ true → e < length G.edges + G.vertices
+pub into_is_edge : (G : Multigraph) (v e : ℕ) → v < G.vertices → goes_into G v e ≡ true
+    → e < length G.edges + G.vertices
 into_is_edge G v e is_vertex = by_side (nat_lt e (length G.edges)) refl
   where
-    by_side : (b : Bool) → nat_lt e (length G.edges) ≡ b → cond b (eqb (edge_at G e).head v) (eqb e (length G.edges + v)) ≡ true → e < length G.edges + G.vertices
+    by_side : (b : Bool) → nat_lt e (length G.edges) ≡ b
+        → cond b (eqb (edge_at G e).head v) (eqb e (length G.edges + v)) ≡ true → e < length G.edges + G.vertices
     by_side true is into = let l = ltb-true e (length G.edges) is in omega arith
     by_side false is into = let s = eqb-true e (length G.edges + v) into in omega arith
 
@@ -32,19 +36,25 @@ takes_of-le e (Fire k ∷ rows) = let a = takes_of-le e rows in omega arith
 
 module _ (g : ChipGame) (traces : List (List TraceRow)) (p : Progress) (v : ℕ) (kept : IsKept g traces p) where
   -- the messages by what is kept of the tails
-  pub kept_messages : (e : ℕ) → messages g (λ u. (runner_at p u).fires) e ≡ messages g (λ u. fires (rows_used traces p u)) e
+  pub kept_messages : (e : ℕ)
+      → messages g (λ u. (runner_at p u).fires) e ≡ messages g (λ u. fires (rows_used traces p u)) e
   kept_messages e =
-      ap (λ (ks : List ℕ). cond (nat_lt e (length g.graph.edges)) (map (λ k. k * (edge_at g.graph e).mult) ks) (opening (slice_index g.start (e - length g.graph.edges))))
+      ap (λ (ks : List ℕ). cond (nat_lt e (length g.graph.edges)) (map (λ k. k * (edge_at g.graph e).mult) ks)
+      (opening (slice_index g.start (e - length g.graph.edges))))
       (ap (λ (r : RunnerState). r.fires) (kept.runners (edge_at g.graph e).tail))
 
   -- a take whose message is there
-  pub may_take : (edge count message : ℕ) → v < g.graph.vertices → row_after traces p v ≡ Some (Take edge count) → (runner_at p v).used + 1 < 2 ^ 64 → count < 2 ^ 64 →
-      goes_into g.graph v edge ≡ true → slice_get (messages g (λ u. (runner_at p u).fires) edge) (slice_index p.taken.items edge) ≡ Some message → message ≡ count →
+  pub may_take : (edge count message : ℕ) → v < g.graph.vertices → row_after traces p v ≡ Some (Take edge count)
+      → (runner_at p v).used + 1 < 2 ^ 64 → count < 2 ^ 64 →
+      goes_into g.graph v edge ≡ true
+      → slice_get (messages g (λ u. (runner_at p u).fires) edge) (slice_index p.taken.items edge) ≡ Some message
+      → message ≡ count →
       MayUse g traces p v (Take edge count)
   may_take edge count message is_vertex next room fits into found same =
       record {
         next = next;
-        met = and_both (goes_into g.graph v edge) (has_count (next_message g (rows_used traces p) v edge) count) into (ap (λ (o : Option ℕ). has_count o count) is_next ∙ eq-eqb message count same);
+        met = and_both (goes_into g.graph v edge) (has_count (next_message g (rows_used traces p) v edge) count) into
+            (ap (λ (o : Option ℕ). has_count o count) is_next ∙ eq-eqb message count same);
         room = room;
         fits = (is_edge, few, chips, fits);
       }
@@ -76,7 +86,9 @@ module _ (g : ChipGame) (traces : List (List TraceRow)) (p : Progress) (v : ℕ)
         met = ap (λ (r : RunnerState). may_fire g v (sum r.fires) r.chips k) (sym (kept.runners v)) ∙ may;
         room = room;
         fits =
-            let a = leb-true (sum (runner_at p v).fires + k) g.limit (and_first (nat_le (sum (runner_at p v).fires + k) g.limit) _ (and_second (not (v == g.graph.sink) && nat_lt 0 k) _ may)) in
+            let a = leb-true (sum (runner_at p v).fires + k) g.limit
+            (and_first (nat_le (sum (runner_at p v).fires + k) g.limit) _
+            (and_second (not (v == g.graph.sink) && nat_lt 0 k) _ may)) in
             let b = game.low_limit in
             omega arith;
       }

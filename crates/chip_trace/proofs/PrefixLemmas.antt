@@ -1,5 +1,6 @@
 -- Lists and how they begin.
-use Rattle.std.proofs.Common.{◌≡◌, ℕ, zero, suc, ◌≤◌, List, [], ◌∷◌, ◌++◌, length, take, drop, refl, sym, ap, ◌∙◌, arith}
+use Rattle.std.proofs.Common.{◌≡◌, ℕ, zero, suc, ◌≤◌, List, [], ◌∷◌, ◌++◌, length, take, drop, refl, sym, ap, ◌∙◌}
+use Rattle.std.proofs.Common.{arith}
 use Rattle.std.specs.Prelude.{slice_get, Option, Some, None}
 use Rattle.std.proofs.Math.Seq.{take-append_seam}
 use Rattle.std.proofs.lemmas.List.{take-append-le, take-append-drop}
@@ -11,13 +12,16 @@ module _ {A : Type 0} where
 
   -- two beginnings of one length are one
   pub same_beginning : (xs r ys s all : List A) → xs ++ r ≡ all → ys ++ s ≡ all → length xs ≡ length ys → xs ≡ ys
-  same_beginning xs r ys s all p q e = beginning_is xs r all p ∙ ap (λ (n : ℕ). take n all) e ∙ sym (beginning_is ys s all q)
+  same_beginning xs r ys s all p q e = beginning_is xs r all p ∙ ap (λ (n : ℕ). take n all) e
+      ∙ sym (beginning_is ys s all q)
 
   -- of two beginnings the longer one goes on from the shorter one
-  pub longer_beginning : (xs r ys s all : List A) → xs ++ r ≡ all → ys ++ s ≡ all → length xs ≤ length ys → (more : List A) × (xs ++ more ≡ ys)
+  pub longer_beginning : (xs r ys s all : List A) → xs ++ r ≡ all → ys ++ s ≡ all → length xs ≤ length ys
+      → (more : List A) × (xs ++ more ≡ ys)
   longer_beginning xs r ys s all p q l = (
     drop (length xs) ys,
-    ap (λ (zs : List A). zs ++ drop (length xs) ys) (beginning_is xs r all p ∙ ap (take (length xs)) (sym q) ∙ take-append-le (length xs) ys s l)
+    ap (λ (zs : List A). zs ++ drop (length xs) ys) (beginning_is xs r all p ∙ ap (take (length xs)) (sym q)
+        ∙ take-append-le (length xs) ys s l)
         ∙ take-append-drop (length xs) ys,
   )
 

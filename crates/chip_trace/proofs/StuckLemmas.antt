@@ -8,14 +8,17 @@ use Rattle.std.proofs.lemmas.Option.{slice_get_within}
 use Rattle.chip_link.specs.declared.trace.TraceRow.{TraceRow}
 use Rattle.chip_graph.specs.ChipGame.{ChipGame}
 use Rattle.chip_trace.specs.Interleaving.{is_met, Placed, rows_of, trace_of, IsPartial}
-use Rattle.chip_trace.specs.Progress.{is_wrong, next_row, HasWrongRow, HasUnusedRow, IsLeast, IsBlamed, IsGreatestProgress, IsStuck}
+use Rattle.chip_trace.specs.Progress.{is_wrong, next_row, HasWrongRow, HasUnusedRow, IsLeast, IsBlamed}
+use Rattle.chip_trace.specs.Progress.{IsGreatestProgress, IsStuck}
 use Rattle.chip_trace.specs.Runner.{RunnerState}
 use Rattle.chip_trace.specs.declared.progress.Progress.{Progress}
 use Rattle.chip_trace.specs.Replay.{AreFirings}
-use Rattle.chip_trace.specs.Kept.{runner_at, rows_used, row_after, IsReached, IsKept, IsSettled, IsWrongAt, IsUnusedAt, NoneBelow, IsToBlame}
+use Rattle.chip_trace.specs.Kept.{runner_at, rows_used, row_after, IsReached, IsKept, IsSettled, IsWrongAt, IsUnusedAt}
+use Rattle.chip_trace.specs.Kept.{NoneBelow, IsToBlame}
 use Rattle.chip_trace.proofs.GreatestLemmas.{settled_is_greatest, none_whole}
 
-module _ (g : ChipGame) (traces : List (List TraceRow)) (p : Progress) (kept : IsKept g traces p) (each : length traces ≡ g.graph.vertices) where
+module _ (g : ChipGame) (traces : List (List TraceRow)) (p : Progress) (kept : IsKept g traces p)
+    (each : length traces ≡ g.graph.vertices) where
   abbrev xs : List Placed
   xs = kept.reached.0
 
@@ -33,7 +36,12 @@ module _ (g : ChipGame) (traces : List (List TraceRow)) (p : Progress) (kept : I
 
   partial : IsPartial g traces xs
   partial = record {
-    in_order = λ v. (drop (runner_at p v).used (trace_of traces v), ap (λ (rows : List TraceRow). rows ++ drop (runner_at p v).used (trace_of traces v)) (was.rows v) ∙ take-append-drop (runner_at p v).used (trace_of traces v));
+    in_order = λ v. (
+      drop (runner_at p v).used (trace_of traces v),
+      ap
+          (λ (rows : List TraceRow). rows ++ drop (runner_at p v).used (trace_of traces v)) (was.rows v)
+          ∙ take-append-drop (runner_at p v).used (trace_of traces v),
+    );
     met = was.met;
   }
 
@@ -42,16 +50,27 @@ module _ (g : ChipGame) (traces : List (List TraceRow)) (p : Progress) (kept : I
   no_trace v l = get_or_past traces v [] (omega arith)
 
   unused_is_vertex : (v : ℕ) → IsUnusedAt traces p v → v < g.graph.vertices
-  unused_is_vertex v some = dite (dec_lt v g.graph.vertices) (λ l. l) (λ beyond. let e = ap length (no_trace v (omega arith)) in absurd (omega arith))
+  unused_is_vertex v some = dite (dec_lt v g.graph.vertices) (λ l. l)
+      (λ beyond. let e = ap length (no_trace v (omega arith)) in absurd (omega arith))
 
   next_is_unused : (v : ℕ) (row : TraceRow) → row_after traces p v ≡ Some row → IsUnusedAt traces p v
   next_is_unused v row next = slice_get_within (trace_of traces v) (runner_at p v).used row next
 
   wrong_here : (v : ℕ) → IsWrongAt g traces p v → HasWrongRow g traces xs v
-  wrong_here v wrong = (wrong.0, same_next v ∙ wrong.1, ap (λ (used : ℕ → List TraceRow). is_wrong g used v wrong.0) same_rows ∙ wrong.2)
+  wrong_here v wrong = (
+    wrong.0,
+    same_next v
+        ∙ wrong.1,
+    ap (λ (used : ℕ → List TraceRow). is_wrong g used v wrong.0) same_rows ∙ wrong.2,
+  )
 
   wrong_there : (v : ℕ) → HasWrongRow g traces xs v → IsWrongAt g traces p v
-  wrong_there v wrong = (wrong.0, sym (same_next v) ∙ wrong.1, ap (λ (used : ℕ → List TraceRow). is_wrong g used v wrong.0) (sym same_rows) ∙ wrong.2)
+  wrong_there v wrong = (
+    wrong.0,
+    sym (same_next v)
+        ∙ wrong.1,
+    ap (λ (used : ℕ → List TraceRow). is_wrong g used v wrong.0) (sym same_rows) ∙ wrong.2,
+  )
 
   unused_here : (v : ℕ) → IsUnusedAt traces p v → HasUnusedRow traces xs v
   unused_here v some = let e = same_length v in omega arith
@@ -64,7 +83,9 @@ module _ (g : ChipGame) (traces : List (List TraceRow)) (p : Progress) (kept : I
   whole none = (
     xs,
     record {
-      whole = λ v. was.rows v ∙ take_all (runner_at p v).used (trace_of traces v) (dite (dec_lt (runner_at p v).used (length (trace_of traces v))) (λ some. absurd (none v (unused_is_vertex v some) some)) (λ all. omega arith));
+      whole = λ v. was.rows v ∙ take_all (runner_at p v).used (trace_of traces v)
+          (dite (dec_lt (runner_at p v).used (length (trace_of traces v)))
+          (λ some. absurd (none v (unused_is_vertex v some) some)) (λ all. omega arith));
       met = was.met;
     },
     was.fired,
@@ -76,20 +97,34 @@ module _ (g : ChipGame) (traces : List (List TraceRow)) (p : Progress) (kept : I
         settled_is_greatest g traces xs partial
         (λ v row next.
         let here : row_after traces p v ≡ Some row = sym (same_next v) ∙ next in
-        ap (λ (used : ℕ → List TraceRow). is_met g used v row) same_rows ∙ settled v (unused_is_vertex v (next_is_unused v row here)) row here)
+        ap (λ (used : ℕ → List TraceRow). is_met g used v row) same_rows
+        ∙ settled v (unused_is_vertex v (next_is_unused v row here)) row here)
 
     -- no row but the used ones can be used, and this vertex is to blame
     pub stuck : (v : ℕ) → IsToBlame g traces p (Some v) → IsStuck g traces v (runner_at p v).used
     stuck v blame = by_blame blame.1
       where
         at : HasUnusedRow traces xs v → IsBlamed g traces xs v → IsStuck g traces v (runner_at p v).used
-        at some blamed = record { none = none_whole g traces xs greatest v some; blamed = (xs, greatest, same_length v, blamed) }
+        at some blamed = record {
+          none = none_whole g traces xs greatest v some;
+          blamed = (xs, greatest, same_length v, blamed);
+        }
 
-        by_blame : (IsLeast (IsWrongAt g traces p) v ⊎ (NoneBelow g.graph.vertices (IsWrongAt g traces p) × IsLeast (IsUnusedAt traces p) v)) → IsStuck g traces v (runner_at p v).used
-        by_blame (inl wrong) = at (unused_here v (next_is_unused v wrong.here.0 wrong.here.1)) (inl (record { here = wrong_here v wrong.here; least = λ u l other. wrong.least u l (wrong_there u other) }))
+        by_blame : (IsLeast (IsWrongAt g traces p) v
+            ⊎ (NoneBelow g.graph.vertices (IsWrongAt g traces p) × IsLeast (IsUnusedAt traces p) v))
+            → IsStuck g traces v (runner_at p v).used
+        by_blame (inl wrong) = at (unused_here v (next_is_unused v wrong.here.0 wrong.here.1))
+            (inl (record {
+              here = wrong_here v wrong.here;
+              least = λ u l other. wrong.least u l (wrong_there u other);
+            }))
         by_blame (inr waits) =
             at (unused_here v waits.1.here)
             (inr (
-              (λ u other. let there = wrong_there u other in waits.0 u (unused_is_vertex u (next_is_unused u there.0 there.1)) there),
-              record { here = unused_here v waits.1.here; least = λ u l other. waits.1.least u l (unused_there u other) },
+              (λ u other. let there = wrong_there u other in
+                  waits.0 u (unused_is_vertex u (next_is_unused u there.0 there.1)) there),
+              record {
+                here = unused_here v waits.1.here;
+                least = λ u l other. waits.1.least u l (unused_there u other);
+              },
             ))

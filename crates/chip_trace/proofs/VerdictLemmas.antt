@@ -13,9 +13,11 @@ use Rattle.chip_trace.specs.Kept.{rows_used, Finds, IsWrongAt}
 use Rattle.chip_trace.proofs.RowLemmas.{and_first, and_second}
 
 -- a row that is met is not wrong
-pub met_not_wrong : (g : ChipGame) (used : ℕ → List TraceRow) (v : ℕ) (row : TraceRow) → is_met g used v row ≡ true → is_wrong g used v row ≡ false
+pub met_not_wrong : (g : ChipGame) (used : ℕ → List TraceRow) (v : ℕ) (row : TraceRow) → is_met g used v row ≡ true
+    → is_wrong g used v row ≡ false
 met_not_wrong g used v (Fire k) met = ap not met
-met_not_wrong g used v (Take edge count) met = tests (goes_into g.graph v edge) (next_message g used v edge) (and_first (goes_into g.graph v edge) _ met) (and_second (goes_into g.graph v edge) _ met)
+met_not_wrong g used v (Take edge count) met = tests (goes_into g.graph v edge) (next_message g used v edge)
+    (and_first (goes_into g.graph v edge) _ met) (and_second (goes_into g.graph v edge) _ met)
   where
     tests : (b : Bool) (o : Option ℕ) → b ≡ true → has_count o count ≡ true → (not b || has_other_count o count) ≡ false
     tests true None p q = absurd (cc q)
@@ -23,16 +25,19 @@ met_not_wrong g used v (Take edge count) met = tests (goes_into g.graph v edge) 
     tests false o p q = absurd (cc p)
 
 -- where a look does not find the next row wrong, it is not
-pub not_found_wrong : (g : ChipGame) (traces : List (List TraceRow)) (p : Progress) (v : ℕ) (found : Look) → Finds g traces p v found → (found ≡ look.Wrong → ⊥) → IsWrongAt g traces p v → ⊥
+pub not_found_wrong : (g : ChipGame) (traces : List (List TraceRow)) (p : Progress) (v : ℕ) (found : Look)
+    → Finds g traces p v found → (found ≡ look.Wrong → ⊥) → IsWrongAt g traces p v → ⊥
 not_found_wrong g traces p v look.Done is other wrong = let a = wrong.1 in let b = is in cc
 not_found_wrong g traces p v (look.Met row) is other wrong =
     let a : wrong.0 ≡ row = (let x = wrong.1 in let y = is.next in cc) in
     let b = met_not_wrong g (rows_used traces p) v row is.met in
-    let c : is_wrong g (rows_used traces p) v row ≡ true = subst (λ (r : TraceRow). is_wrong g (rows_used traces p) v r ≡ true) a wrong.2 in
+    let c : is_wrong g (rows_used traces p) v row
+    ≡ true = subst (λ (r : TraceRow). is_wrong g (rows_used traces p) v r ≡ true) a wrong.2 in
     cc
 not_found_wrong g traces p v look.Wrong is other wrong = other refl
 not_found_wrong g traces p v (look.Waits edge) is other wrong =
     let a : wrong.0 ≡ is.0 = (let x = wrong.1 in let y = is.1 in cc) in
-    let c : is_wrong g (rows_used traces p) v is.0 ≡ true = subst (λ (r : TraceRow). is_wrong g (rows_used traces p) v r ≡ true) a wrong.2 in
+    let c : is_wrong g (rows_used traces p) v is.0
+    ≡ true = subst (λ (r : TraceRow). is_wrong g (rows_used traces p) v r ≡ true) a wrong.2 in
     let d = is.3 in
     cc

@@ -1,5 +1,7 @@
 -- Interleavings of recorded runs: all rows of all vertices in one list, each met where it stands.
-use Rattle.std.specs.Prelude.{◌≡◌, ℕ, zero, suc, ◌+◌, ◌-◌, ◌*◌, ◌==◌, nat_lt, nat_le, Bool, true, false, ◌&&◌, not, if◌then◌else◌, List, [], ◌∷◌, ◌++◌, length, map, sum, slice_get, slice_index, slice_index_or, Option, Some, None}
+use Rattle.std.specs.Prelude.{◌≡◌, ℕ, zero, suc, ◌+◌, ◌-◌, ◌*◌, ◌==◌, nat_lt, nat_le, Bool, true, false, ◌&&◌, not}
+use Rattle.std.specs.Prelude.{if◌then◌else◌, List, [], ◌∷◌, ◌++◌, length, map, sum, slice_get, slice_index}
+use Rattle.std.specs.Prelude.{slice_index_or, Option, Some, None}
 use Rattle.chip_link.specs.declared.trace.TraceRow.{TraceRow}
 use Rattle.chip_link.specs.declared.trace.TraceRow.TheVariants.{Take, Fire}
 use Rattle.chip_graph.specs.Multigraph.{Multigraph, edge_at, degree}
@@ -53,9 +55,11 @@ abbrev pub has_count : Option ℕ → ℕ → Bool
 has_count None count = false
 has_count (Some message) count = message == count
 
--- whether v may fire k times: it is not the sink, all its firings stay within the limit, and the chips that it took pay for them
+-- whether v may fire k times: it is not the sink, all its firings stay within the limit, and the chips that it took pay
+-- for them
 abbrev pub may_fire : ChipGame → ℕ → ℕ → ℕ → ℕ → Bool
-may_fire g v fired chips k = not (v == g.graph.sink) && nat_lt 0 k && (nat_le (fired + k) g.limit && nat_le ((fired + k) * degree g.graph v) chips)
+may_fire g v fired chips k = not (v == g.graph.sink) && nat_lt 0 k
+    && (nat_le (fired + k) g.limit && nat_le ((fired + k) * degree g.graph v) chips)
 
 -- whether a row of v is met, where each vertex has used these rows
 abbrev pub is_met : ChipGame → (ℕ → List TraceRow) → ℕ → TraceRow → Bool

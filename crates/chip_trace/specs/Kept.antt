@@ -1,5 +1,6 @@
 -- What a replay keeps on its way.
-use Rattle.std.specs.Prelude.{◌≡◌, ℕ, ◌+◌, ◌-◌, ◌*◌, ◌^◌, ◌<◌, ◌≤◌, true, false, List, [], ◌∷◌, ◌++◌, length, sum, take, slice_get, slice_set, slice_index, slice_index_or, Option, Some, None, ◌⊎◌}
+use Rattle.std.specs.Prelude.{◌≡◌, ℕ, ◌+◌, ◌-◌, ◌*◌, ◌^◌, ◌<◌, ◌≤◌, true, false, List, [], ◌∷◌, ◌++◌, length, sum, take}
+use Rattle.std.specs.Prelude.{slice_get, slice_set, slice_index, slice_index_or, Option, Some, None, ◌⊎◌}
 use Rattle.chip_link.specs.declared.trace.TraceRow.{TraceRow}
 use Rattle.chip_link.specs.declared.trace.TraceRow.TheVariants.{Take, Fire}
 use Rattle.chip_graph.specs.Sums.{sum_below}
@@ -42,17 +43,29 @@ pub record IsKept (g : ChipGame) (traces : List (List TraceRow)) (p : Progress) 
 -- v uses a row: what it took or fired is noted
 abbrev pub UsesRow : ℕ → TraceRow → Progress → Progress → Type 0
 UsesRow v (Take edge count) p q =
-    (q.runners.items ≡ slice_set p.runners.items v (record { used = (runner_at p v).used + 1; fires = (runner_at p v).fires; chips = (runner_at p v).chips + count }))
+    (q.runners.items ≡ slice_set p.runners.items v
+    (record {
+      used = (runner_at p v).used + 1;
+      fires = (runner_at p v).fires;
+      chips = (runner_at p v).chips
+          + count;
+    }))
     × (q.taken.items ≡ slice_set p.taken.items edge (slice_index p.taken.items edge + 1))
     × (q.firings.items ≡ p.firings.items)
 UsesRow v (Fire k) p q =
-    (q.runners.items ≡ slice_set p.runners.items v (record { used = (runner_at p v).used + 1; fires = (runner_at p v).fires ++ k ∷ []; chips = (runner_at p v).chips }))
+    (q.runners.items ≡ slice_set p.runners.items v
+    (record {
+      used = (runner_at p v).used + 1;
+      fires = (runner_at p v).fires ++ k ∷ [];
+      chips = (runner_at p v).chips;
+    }))
     × (q.taken.items ≡ p.taken.items)
     × (q.firings.items ≡ p.firings.items ++ (v, k) ∷ [])
 
 -- the numbers that note a row fit their types
 abbrev pub FitsRow : ℕ → TraceRow → Progress → Type 0
-FitsRow v (Take edge count) p = (edge < length p.taken.items) × (slice_index p.taken.items edge + 1 < 2 ^ 64) × ((runner_at p v).chips + count < 2 ^ 128) × (count < 2 ^ 64)
+FitsRow v (Take edge count) p = (edge < length p.taken.items) × (slice_index p.taken.items edge + 1 < 2 ^ 64)
+    × ((runner_at p v).chips + count < 2 ^ 128) × (count < 2 ^ 64)
 FitsRow v (Fire k) p = sum (runner_at p v).fires + k < 2 ^ 64
 
 -- how many rows are unused
@@ -68,11 +81,13 @@ pub record MayUse (g : ChipGame) (traces : List (List TraceRow)) (p : Progress) 
 
 -- no next row is met
 abbrev pub IsSettled : ChipGame → List (List TraceRow) → Progress → Type 0
-IsSettled g traces p = (v : ℕ) → v < g.graph.vertices → (row : TraceRow) → row_after traces p v ≡ Some row → is_met g (rows_used traces p) v row ≡ false
+IsSettled g traces p = (v : ℕ) → v < g.graph.vertices → (row : TraceRow) → row_after traces p v ≡ Some row
+    → is_met g (rows_used traces p) v row ≡ false
 
 -- v has a next row, and it is wrong
 abbrev pub IsWrongAt : ChipGame → List (List TraceRow) → Progress → ℕ → Type 0
-IsWrongAt g traces p v = (row : TraceRow) × (row_after traces p v ≡ Some row) × (is_wrong g (rows_used traces p) v row ≡ true)
+IsWrongAt g traces p v = (row : TraceRow) × (row_after traces p v ≡ Some row)
+    × (is_wrong g (rows_used traces p) v row ≡ true)
 
 -- v has a next row
 abbrev pub IsUnusedAt : List (List TraceRow) → Progress → ℕ → Type 0
@@ -90,21 +105,26 @@ IsFirst n P (Some v) = (v < n) × IsLeast P v
 -- the vertex to blame, if rows are left: the least one whose next row is wrong, else the least one with a next row
 abbrev pub IsToBlame : ChipGame → List (List TraceRow) → Progress → Option ℕ → Type 0
 IsToBlame g traces p None = NoneBelow g.graph.vertices (IsUnusedAt traces p)
-IsToBlame g traces p (Some v) = (v < g.graph.vertices) × (IsLeast (IsWrongAt g traces p) v ⊎ (NoneBelow g.graph.vertices (IsWrongAt g traces p) × IsLeast (IsUnusedAt traces p) v))
+IsToBlame g traces p (Some v) = (v < g.graph.vertices)
+    × (IsLeast (IsWrongAt g traces p) v
+    ⊎ (NoneBelow g.graph.vertices (IsWrongAt g traces p) × IsLeast (IsUnusedAt traces p) v))
 
 -- what a look at the next row of v finds
 abbrev pub Finds : ChipGame → List (List TraceRow) → Progress → ℕ → Look → Type 0
 Finds g traces p v look.Done = row_after traces p v ≡ None
 Finds g traces p v (look.Met row) = MayUse g traces p v row
-Finds g traces p v look.Wrong = (row : TraceRow) × (row_after traces p v ≡ Some row) × (is_met g (rows_used traces p) v row ≡ false) × (is_wrong g (rows_used traces p) v row ≡ true)
-Finds g traces p v (look.Waits edge) = (row : TraceRow) × (row_after traces p v ≡ Some row) × (is_met g (rows_used traces p) v row ≡ false) × (is_wrong g (rows_used traces p) v row ≡ false)
+Finds g traces p v look.Wrong = (row : TraceRow) × (row_after traces p v ≡ Some row)
+    × (is_met g (rows_used traces p) v row ≡ false) × (is_wrong g (rows_used traces p) v row ≡ true)
+Finds g traces p v (look.Waits edge) = (row : TraceRow) × (row_after traces p v ≡ Some row)
+    × (is_met g (rows_used traces p) v row ≡ false) × (is_wrong g (rows_used traces p) v row ≡ false)
 
 -- how much is left to do: rows to use, and behind them vertices to look at
 abbrev pub work_left : List (List TraceRow) → Progress → AgendaState → ℕ
 work_left traces p a = rows_left traces p * 2 ^ 64 + a.due
 
 -- a replay goes on from p and a to q and b: it keeps what it keeps, and has no more left to do
-pub record GoesOn (g : ChipGame) (traces : List (List TraceRow)) (p : Progress) (a : AgendaState) (q : Progress) (b : AgendaState) : Type 0 where
+pub record GoesOn (g : ChipGame) (traces : List (List TraceRow)) (p : Progress) (a : AgendaState) (q : Progress)
+    (b : AgendaState) : Type 0 where
   pub kept : IsKept g traces q
   pub same : b.vertices ≡ a.vertices
   pub work : work_left traces q b ≤ work_left traces p a

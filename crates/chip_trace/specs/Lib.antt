@@ -1,6 +1,6 @@
 pub mod Interleaving
 pub mod Progress
-pub mod Examples
+pub mod Worked
 pub mod Runner
 pub mod Agenda
 pub mod Kept

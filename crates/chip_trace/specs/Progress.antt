@@ -1,9 +1,11 @@
 -- How far recorded runs fit together, and where they are stuck.
-use Rattle.std.specs.Prelude.{◌≡◌, ℕ, ◌<◌, ◌≤◌, Bool, true, false, ◌==◌, ◌||◌, not, List, length, slice_get, Option, Some, None, ◌⊎◌}
+use Rattle.std.specs.Prelude.{◌≡◌, ℕ, ◌<◌, ◌≤◌, Bool, true, false, ◌==◌, ◌||◌, not, List, length, slice_get, Option}
+use Rattle.std.specs.Prelude.{Some, None, ◌⊎◌}
 use Rattle.chip_link.specs.declared.trace.TraceRow.{TraceRow}
 use Rattle.chip_link.specs.declared.trace.TraceRow.TheVariants.{Take, Fire}
 use Rattle.chip_graph.specs.ChipGame.{ChipGame}
-use Rattle.chip_trace.specs.Interleaving.{goes_into, next_message, is_met, Placed, rows_of, trace_of, IsPartial, IsInterleaving}
+use Rattle.chip_trace.specs.Interleaving.{goes_into, next_message, is_met, Placed, rows_of, trace_of, IsPartial}
+use Rattle.chip_trace.specs.Interleaving.{IsInterleaving}
 
 -- a partial interleaving in which each vertex has used as many rows as in any other
 pub record IsGreatestProgress (g : ChipGame) (traces : List (List TraceRow)) (xs : List Placed) : Type 0 where
@@ -19,14 +21,17 @@ abbrev pub has_other_count : Option ℕ → ℕ → Bool
 has_other_count None count = false
 has_other_count (Some message) count = not (message == count)
 
--- whether the next row of v is wrong: a firing that is not met, a take of an edge that does not go into v, or one whose message has another count
+-- whether the next row of v is wrong: a firing that is not met, a take of an edge that does not go into v, or one whose
+-- message has another count
 abbrev pub is_wrong : ChipGame → (ℕ → List TraceRow) → ℕ → TraceRow → Bool
-is_wrong g used v (Take edge count) = not (goes_into g.graph v edge) || has_other_count (next_message g used v edge) count
+is_wrong g used v (Take edge count) = not (goes_into g.graph v edge)
+    || has_other_count (next_message g used v edge) count
 is_wrong g used v (Fire k) = not (is_met g used v (Fire k))
 
 -- v has a next row, and it is wrong
 abbrev pub HasWrongRow : ChipGame → List (List TraceRow) → List Placed → ℕ → Type 0
-HasWrongRow g traces xs v = (row : TraceRow) × (next_row traces xs v ≡ Some row) × (is_wrong g (rows_of xs) v row ≡ true)
+HasWrongRow g traces xs v = (row : TraceRow) × (next_row traces xs v ≡ Some row)
+    × (is_wrong g (rows_of xs) v row ≡ true)
 
 -- v has a next row
 abbrev pub HasUnusedRow : List (List TraceRow) → List Placed → ℕ → Type 0
@@ -39,9 +44,12 @@ pub record IsLeast (P : ℕ → Type 0) (v : ℕ) : Type 0 where
 
 -- v is the least vertex whose next row is wrong; where there is none, the least one with an unused row
 abbrev pub IsBlamed : ChipGame → List (List TraceRow) → List Placed → ℕ → Type 0
-IsBlamed g traces xs v = IsLeast (HasWrongRow g traces xs) v ⊎ (((u : ℕ) → HasWrongRow g traces xs u → ⊥) × IsLeast (HasUnusedRow traces xs) v)
+IsBlamed g traces xs v = IsLeast (HasWrongRow g traces xs) v
+    ⊎ (((u : ℕ) → HasWrongRow g traces xs u → ⊥) × IsLeast (HasUnusedRow traces xs) v)
 
--- the traces have no interleaving, and this vertex is the one to blame at greatest progress, where `row` is the place of its next row
+-- the traces have no interleaving, and this vertex is the one to blame at greatest progress, where `row` is the place
+-- of its next row
 pub record IsStuck (g : ChipGame) (traces : List (List TraceRow)) (vertex row : ℕ) : Type 0 where
   pub none : (xs : List Placed) → IsInterleaving g traces xs → ⊥
-  pub blamed : (xs : List Placed) × IsGreatestProgress g traces xs × (length (rows_of xs vertex) ≡ row) × IsBlamed g traces xs vertex
+  pub blamed : (xs : List Placed) × IsGreatestProgress g traces xs × (length (rows_of xs vertex) ≡ row)
+      × IsBlamed g traces xs vertex

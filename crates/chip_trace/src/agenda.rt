@@ -40,7 +40,8 @@ impl Agenda {
     /// A vertex to look at, which is off the agenda with that.
     pub(crate) fn next(&mut self) -> Option<u64>
         ensures same { self.new.vertices ≡ self.old.vertices }
-        ensures cases { MatchOption result (self.new.due ≡ self.old.due) (λ vertex. (vertex < self.old.vertices) × (self.new.due + 1 ≡ self.old.due)) }
+        ensures cases { MatchOption result (self.new.due ≡ self.old.due)
+            (λ vertex. (vertex < self.old.vertices) × (self.new.due + 1 ≡ self.old.due)) }
     {
         self.due.pop()
     }

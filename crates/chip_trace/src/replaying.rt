@@ -47,7 +47,8 @@ fn advance(
     requires trace_each { length traces.now ≡ game.now.graph.vertices }
     requires agenda_each { agenda.old.vertices ≡ game.now.graph.vertices }
     requires kept { IsKept game.now (map (λ t. t.items) traces.now) progress.old }
-    ensures { IfOk result (λ _. GoesOn game.now (map (λ t. t.items) traces.now) progress.old agenda.old progress.new agenda.new) }
+    ensures { IfOk result (λ _. GoesOn game.now (map (λ t. t.items) traces.now) progress.old agenda.old progress.new
+        agenda.new) }
 {
     loop {
         match look_at(game, traces, progress, vertex) {
@@ -73,7 +74,8 @@ fn run_agenda(
     requires trace_each { length traces.now ≡ game.now.graph.vertices }
     requires agenda_each { agenda.old.vertices ≡ game.now.graph.vertices }
     requires kept { IsKept game.now (map (λ t. t.items) traces.now) progress.old }
-    ensures { IfOk result (λ _. GoesOn game.now (map (λ t. t.items) traces.now) progress.old agenda.old progress.new agenda.new) }
+    ensures { IfOk result (λ _. GoesOn game.now (map (λ t. t.items) traces.now) progress.old agenda.old progress.new
+        agenda.new) }
 {
     while let Some(vertex) = agenda.next() {
         advance(game, traces, progress, agenda, vertex)?;
@@ -87,7 +89,8 @@ fn first_met(game: &Game, traces: &[Vec<TraceRow>], progress: &Progress) -> Opti
     requires kept { IsKept game.now (map (λ t. t.items) traces.now) progress.now }
     ensures { MatchOption result
         (IsSettled game.now (map (λ t. t.items) traces.now) progress.now)
-        (λ found. (found.0 < game.now.graph.vertices) × MayUse game.now (map (λ t. t.items) traces.now) progress.now found.0 found.1) }
+        (λ found. (found.0 < game.now.graph.vertices)
+        × MayUse game.now (map (λ t. t.items) traces.now) progress.now found.0 found.1) }
 {
     for vertex in 0..game.graph().vertices() {
         if let Look::Met(row) = look_at(game, traces, progress, vertex) {
@@ -121,7 +124,8 @@ fn settle(
     }
 }
 
-/// The firings of one interleaving of recorded runs, each with its vertex, in its order; in time linear in rows and edges.
+/// The firings of one interleaving of recorded runs, each with its vertex, in its order; in time linear in rows and
+/// edges.
 ///
 /// `traces` has the rows of each vertex.
 pub fn replay(
@@ -130,7 +134,8 @@ pub fn replay(
     traces: &[Vec<TraceRow>],
 ) -> Result<Vec<(u64, u64)>, ReplayFault>
     requires { length traces.now ≡ game.now.graph.vertices }
-    ensures { MatchResult result (λ fired. AreFirings game.now (map (λ t. t.items) traces.now) fired.items) (IsReplayFault game.now (map (λ t. t.items) traces.now)) }
+    ensures { MatchResult result (λ fired. AreFirings game.now (map (λ t. t.items) traces.now) fired.items)
+        (IsReplayFault game.now (map (λ t. t.items) traces.now)) }
 {
     let mut progress = Progress::new(alloc, game)?;
     let mut agenda = Agenda::of_all(alloc, game.graph().vertices())?;

@@ -23,7 +23,8 @@ impl Model for Runner {
 }
 
 impl Runner {
-    ghost use Rattle.std.specs.Prelude.{◌≡◌, ◌+◌, ◌*◌, ◌^◌, ◌<◌, ◌≤◌, ◌++◌, ◌∷◌, [], ◌&&◌, nat_lt, nat_le, sum, slice_get, IfOk, true};
+    ghost use Rattle.std.specs.Prelude.{◌≡◌, ◌+◌, ◌*◌, ◌^◌, ◌<◌, ◌≤◌, ◌++◌, ◌∷◌, [], ◌&&◌, nat_lt, nat_le, sum};
+    ghost use Rattle.std.specs.Prelude.{slice_get, IfOk, true};
     ghost use Rattle.chip_trace.specs.Runner.{at_start};
 
     /// A vertex that has used no row.
@@ -54,7 +55,8 @@ impl Runner {
 
     /// Whether with `k` more its firings stay within the limit, and it took the chips for them, so many each.
     pub(crate) fn can_pay(&self, k: u64, degree: u64, limit: u64) -> bool
-        ensures { result ≡ (nat_le (sum self.now.fires + k) limit && nat_le ((sum self.now.fires + k) * degree) self.now.chips) }
+        ensures { result ≡ (nat_le (sum self.now.fires + k) limit
+            && nat_le ((sum self.now.fires + k) * degree) self.now.chips) }
     {
         let firings = u128::from(self.fired) + u128::from(k);
         firings <= u128::from(limit) && firings * u128::from(degree) <= self.chips
@@ -74,7 +76,8 @@ impl Runner {
     pub(crate) fn fire(&mut self, k: u64) -> Result<(), AllocError>
         requires room { self.old.used + 1 < 2 ^ 64 }
         requires fits { sum self.old.fires + k < 2 ^ 64 }
-        ensures { IfOk result (λ _. self.new ≡ record self.old { used = self.old.used + 1; fires = self.old.fires ++ k ∷ [] }) }
+        ensures { IfOk result (λ _. self.new
+            ≡ record self.old { used = self.old.used + 1; fires = self.old.fires ++ k ∷ [] }) }
     {
         self.fires.push(k)?;
         self.fired += k;

@@ -16,7 +16,8 @@ pub fn write_trace<W: Write>(
     traces: &[&[TraceRow]],
     writer: &mut W,
 ) -> Result<(), TraceFault>
-    ensures { WritesText (W.contents writer.old) (W.contents writer.new) (trace_text (map (λ t. t.now) traces.now)) result }
+    ensures { WritesText (W.contents writer.old) (W.contents writer.new)
+        (trace_text (map (λ t. t.now) traces.now)) result }
 {
     let text = text_of(alloc, traces)?;
     match writer.write_all(text.as_bytes()) {

@@ -13,7 +13,7 @@ returns-in_err-graph g c = λ text is_text.
       c.in_err-graph.field-0.0,
       is,
       at_some
-          (λ t. IsRefused t (IsGraphTextFault t) c.in_err-graph.field-0.0) _ text is_text c.in_err-graph.ensures,
+          (λ t. IsRefused t (IsGraphTextFault t) c.in_err-graph.field-0.0) _ text is_text c.in_err-graph.ensures.means,
     ))
 
 pub returns-in_err-text : goal.returns-in_err-text
@@ -23,7 +23,7 @@ returns-in_err-text g c = λ text is_text.
 pub returns-in_err-write_all_of : goal.returns-in_err-write_all_of
 returns-in_err-write_all_of g c = λ text is_text.
     let graph = at_some (λ t. Answers t (MeansGraph t) (IsGraphTextFault t) (Ok c.in_ok-graph.graph)) _ text is_text
-    c.in_ok-graph.ensures in
+    c.in_ok-graph.ensures.means in
     failed_check text _ _ c.from_residual-in_err-write_all_of.result _ c.from_residual-in_err-write_all_of.ensures.1
     c.in_ok-graph.graph graph c.as_bytes.result.now
     (subst (IsShown c.in_ok-graph.graph) (sym c.as_bytes.ensures.value) c.in_ok-text.ensures)
@@ -32,7 +32,7 @@ returns-in_err-write_all_of g c = λ text is_text.
 pub returns : goal.returns
 returns g c = λ text is_text.
     let graph = at_some (λ t. Answers t (MeansGraph t) (IsGraphTextFault t) (Ok c.in_ok-graph.graph)) _ text is_text
-    c.in_ok-graph.ensures in (
+    c.in_ok-graph.ensures.means in (
       c.in_ok-graph.graph,
       c.as_bytes.result.now,
       graph,

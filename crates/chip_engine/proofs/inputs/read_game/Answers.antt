@@ -10,17 +10,17 @@ use Rattle.chip_engine.proofs.inputs.read_game.Goals as goal
 pub returns-in_err-graph : goal.returns-in_err-graph
 returns-in_err-graph g c = λ graph_text graph_is chips_text chips_is.
     let why = at_some (λ text. Answers text (MeansGraph text) (IsGraphTextFault text) (Err c.in_err-graph.field-0.0)) _
-    graph_text graph_is c.in_err-graph.ensures in
+    graph_text graph_is c.in_err-graph.ensures.means in
     refused_game graph_text chips_text c.args.limit _ _ c.from_residual.ensures.1
     (λ fault is. inl (c.in_err-graph.field-0.0, is, why))
 
 pub returns-in_err-start : goal.returns-in_err-start
 returns-in_err-start g c = λ graph_text graph_is chips_text chips_is.
     let graph = at_some (λ text. Answers text (MeansGraph text) (IsGraphTextFault text) (Ok c.in_ok-graph.graph)) _
-    graph_text graph_is c.in_ok-graph.ensures in
+    graph_text graph_is c.in_ok-graph.ensures.means in
     let why = at_some (λ text. IsRefused text
     (λ f. chips_text_fault c.vertices.result text ≡ Some f) c.in_err-start.field-0.0) _ chips_text chips_is
-    c.in_err-start.ensures in
+    c.in_err-start.ensures.means in
     refused_game graph_text chips_text c.args.limit _ _ c.from_residual-in_err-start.ensures.1
     (λ fault is. inr (inl (
       c.in_ok-graph.graph,
@@ -37,10 +37,10 @@ returns-in_err-start g c = λ graph_text graph_is chips_text chips_is.
 pub returns-in_err-new : goal.returns-in_err-new
 returns-in_err-new g c = λ graph_text graph_is chips_text chips_is.
     let graph = at_some (λ text. Answers text (MeansGraph text) (IsGraphTextFault text) (Ok c.in_ok-graph.graph)) _
-    graph_text graph_is c.in_ok-graph.ensures in
+    graph_text graph_is c.in_ok-graph.ensures.means in
     let start = at_some (λ text. Answers text (λ chips. chips_of_text c.vertices.result text ≡ Some chips.items)
     (λ f. chips_text_fault c.vertices.result text ≡ Some f) (Ok c.in_ok-start.start)) _ chips_text chips_is
-    c.in_ok-start.ensures in
+    c.in_ok-start.ensures.means in
     let game : ChipGame = record {
       graph = c.in_ok-graph.graph;
       start = c.in_ok-start.start.items;
@@ -58,10 +58,10 @@ returns-in_err-new g c = λ graph_text graph_is chips_text chips_is.
 pub returns : goal.returns
 returns g c = λ graph_text graph_is chips_text chips_is.
     let graph = at_some (λ text. Answers text (MeansGraph text) (IsGraphTextFault text) (Ok c.in_ok-graph.graph)) _
-    graph_text graph_is c.in_ok-graph.ensures in
+    graph_text graph_is c.in_ok-graph.ensures.means in
     let start = at_some (λ text. Answers text (λ chips. chips_of_text c.vertices.result text ≡ Some chips.items)
     (λ f. chips_text_fault c.vertices.result text ≡ Some f) (Ok c.in_ok-start.start)) _ chips_text chips_is
-    c.in_ok-start.ensures in
+    c.in_ok-start.ensures.means in
     let game : ChipGame = record {
       graph = c.in_ok-graph.graph;
       start = c.in_ok-start.start.items;

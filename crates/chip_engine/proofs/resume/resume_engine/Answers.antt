@@ -9,14 +9,14 @@ use Rattle.chip_engine.proofs.resume.resume_engine.Goals as goal
 pub returns-in_err-graph : goal.returns-in_err-graph
 returns-in_err-graph g c = λ graph_text graph_is report_text report_is.
     let why = at_some (λ text. Answers text (MeansGraph text) (IsGraphTextFault text) (Err c.in_err-graph.field-0.0)) _
-    graph_text graph_is c.in_err-graph.ensures in
+    graph_text graph_is c.in_err-graph.ensures.means in
     refused_resume graph_text report_text c.args.limit _ c.from_residual.result _ c.from_residual.ensures.1
     (λ fault is. inl (inl (c.in_err-graph.field-0.0, is, why)))
 
 pub returns-in_err-earlier : goal.returns-in_err-earlier
 returns-in_err-earlier g c = λ graph_text graph_is report_text report_is.
     let graph = at_some (λ text. Answers text (MeansGraph text) (IsGraphTextFault text) (Ok c.in_ok-graph.graph)) _
-    graph_text graph_is c.in_ok-graph.ensures in
+    graph_text graph_is c.in_ok-graph.ensures.means in
     let why = c.in_err-earlier.ensures.sitting report_text report_is in
     refused_resume graph_text report_text c.args.limit _ c.from_residual-in_err-earlier.result _
     c.from_residual-in_err-earlier.ensures.1
@@ -25,7 +25,7 @@ returns-in_err-earlier g c = λ graph_text graph_is report_text report_is.
 pub returns-in_err-text : goal.returns-in_err-text
 returns-in_err-text g c = λ graph_text graph_is report_text report_is.
     let graph = at_some (λ text. Answers text (MeansGraph text) (IsGraphTextFault text) (Ok c.in_ok-graph.graph)) _
-    graph_text graph_is c.in_ok-graph.ensures in
+    graph_text graph_is c.in_ok-graph.ensures.means in
     let means : MeansSitting graph_text report_text c.in_ok-graph.graph c.in_ok-earlier.earlier =
     record { graph = graph; report = c.in_ok-earlier.ensures.sitting report_text report_is } in
     refused_resume graph_text report_text c.args.limit _ c.from_residual-in_err-text.result _
@@ -36,7 +36,7 @@ returns-in_err-text g c = λ graph_text graph_is report_text report_is.
 pub returns-in_err-write_all_of : goal.returns-in_err-write_all_of
 returns-in_err-write_all_of g c = λ graph_text graph_is report_text report_is.
     let graph = at_some (λ text. Answers text (MeansGraph text) (IsGraphTextFault text) (Ok c.in_ok-graph.graph)) _
-    graph_text graph_is c.in_ok-graph.ensures in
+    graph_text graph_is c.in_ok-graph.ensures.means in
     let means : MeansSitting graph_text report_text c.in_ok-graph.graph c.in_ok-earlier.earlier =
     record { graph = graph; report = c.in_ok-earlier.ensures.sitting report_text report_is } in
     failed_resume graph_text report_text c.args.limit _ _ c.from_residual-in_err-write_all_of.result _
@@ -49,7 +49,7 @@ returns-in_err-write_all_of g c = λ graph_text graph_is report_text report_is.
 pub returns : goal.returns
 returns g c = λ graph_text graph_is report_text report_is.
     let graph = at_some (λ text. Answers text (MeansGraph text) (IsGraphTextFault text) (Ok c.in_ok-graph.graph)) _
-    graph_text graph_is c.in_ok-graph.ensures in (
+    graph_text graph_is c.in_ok-graph.ensures.means in (
       c.in_ok-graph.graph,
       c.in_ok-earlier.earlier,
       record { graph = graph; report = c.in_ok-earlier.ensures.sitting report_text report_is },

@@ -22,7 +22,7 @@ pub returns-in_err-events : goal.returns-in_err-events
 returns-in_err-events g c = λ graph_text graph_is chips_text chips_is schedule_text schedule_is.
     let why = at_some (λ text. IsRefused text
     (λ f. schedule_text_fault c.graph.result.now text ≡ Some f) c.in_err-events.field-0.0) _ schedule_text schedule_is
-    c.in_err-events.ensures in
+    c.in_err-events.ensures.means in
     refused_simulate graph_text chips_text schedule_text c.args.limit c.args.ring c.args.rounds _
     c.from_residual-in_err-events.result _ c.from_residual-in_err-events.ensures.1
     (λ fault is. inl (inr (
@@ -47,7 +47,7 @@ pub returns-in_err-write_all_of : goal.returns-in_err-write_all_of
 returns-in_err-write_all_of g c = λ graph_text graph_is chips_text chips_is schedule_text schedule_is.
     let read = at_some (λ text. Answers text (λ events. schedule_of_text c.graph.result.now text ≡ Some events.items)
     (λ f. schedule_text_fault c.graph.result.now text ≡ Some f) (Ok c.in_ok-events.events)) _ schedule_text
-    schedule_is c.in_ok-events.ensures in
+    schedule_is c.in_ok-events.ensures.means in
     let means : MeansEvents graph_text chips_text schedule_text c.args.limit c.in_ok-game.game
     c.in_ok-events.events.items =
     means_events graph_text chips_text schedule_text c.args.limit c.in_ok-game.game c.in_ok-events.events.items
@@ -67,7 +67,7 @@ pub returns : goal.returns
 returns g c = λ graph_text graph_is chips_text chips_is schedule_text schedule_is.
     let read = at_some (λ text. Answers text (λ events. schedule_of_text c.graph.result.now text ≡ Some events.items)
     (λ f. schedule_text_fault c.graph.result.now text ≡ Some f) (Ok c.in_ok-events.events)) _ schedule_text
-    schedule_is c.in_ok-events.ensures in
+    schedule_is c.in_ok-events.ensures.means in
     let means : MeansEvents graph_text chips_text schedule_text c.args.limit c.in_ok-game.game
     c.in_ok-events.events.items =
     means_events graph_text chips_text schedule_text c.args.limit c.in_ok-game.game c.in_ok-events.events.items

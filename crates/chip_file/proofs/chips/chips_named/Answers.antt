@@ -4,15 +4,18 @@ use Rattle.std.proofs.lemmas.List.{length-set}
 use Rattle.std.proofs.lemmas.Result.{err_from_is_err_and}
 use Rattle.chip_file.specs.ChipsText.{chips_header, chips_row_fault}
 use Rattle.chip_file.specs.Rows.{records_of}
-use Rattle.chip_file.proofs.RecordLemmas.{HasRead-none, HasRead-more, HasRead-fails, HasRead-all, header_fails, index_fits}
-use Rattle.chip_file.proofs.ChipsLemmas.{HaveNoted-none, HaveNoted-more, HaveNoted-all, table_fault, records_fail, header_fails_chips, written_back}
+use Rattle.chip_file.proofs.RecordLemmas.{HasRead-none, HasRead-more, HasRead-fails, HasRead-all, header_fails}
+use Rattle.chip_file.proofs.RecordLemmas.{index_fits}
+use Rattle.chip_file.proofs.ChipsLemmas.{HaveNoted-none, HaveNoted-more, HaveNoted-all, table_fault, records_fail}
+use Rattle.chip_file.proofs.ChipsLemmas.{header_fails_chips, written_back}
 use Rattle.chip_file.proofs.chips.chips_named.Goals as goal
 
 pub returns-in_err-read_header : goal.returns-in_err-read_header
 returns-in_err-read_header c =
     let p = err_from_is_err_and c.from_residual.result c.from_residual.ensures.1 in
     rw (p.1, p.2) (header_fails_chips c.args.vertices (records_of c.args.text.now) _
-    (header_fails chips_header (chips_row_fault c.args.vertices) (records_of c.args.text.now) _ _ c.records-reader.ensures.rows c.in_err-read_header.ensures.err))
+    (header_fails chips_header (chips_row_fault c.args.vertices)
+    (records_of c.args.text.now) _ _ c.records-reader.ensures.rows c.in_err-read_header.ensures.err))
 
 pub loop-named-init : goal.loop-named-init
 loop-named-init c =
@@ -20,7 +23,11 @@ loop-named-init c =
     record {
       reads = ok.0;
       headed = rw (← c.records-reader.ensures.rows) ok.1;
-      read = ([], HasRead-none _ _ _ (rw (← c.records-reader.ensures.rows) ok.2), HaveNoted-none c.args.vertices _ c.in_ok-named.ensures);
+      read = (
+        [],
+        HasRead-none _ _ _ (rw (← c.records-reader.ensures.rows) ok.2),
+        HaveNoted-none c.args.vertices _ c.in_ok-named.ensures,
+      );
     }
 
 pub returns-in_err-note_row : goal.returns-in_err-note_row
@@ -29,7 +36,8 @@ returns-in_err-note_row c =
     let inv = c.loop-named.invariant in
     let takes = rw c.if-branch.true at c.in_ok-read_row.ensures.1 in
     let bad = rw c.deref_mut.ensures.value at c.in_err-note_row.ensures.err in
-    let same = table_fault c.args.vertices inv.read.0 _ _ (fields_of c.read_row.new.row) inv.read.2 inv.read.1.counted in
+    let same = table_fault c.args.vertices inv.read.0 _ _ (fields_of c.read_row.new.row) inv.read.2 inv.read.1.counted
+    in
     rw (p.1, p.2) (inr (records_fail c.args.vertices (records_of c.args.text.now) _
     (HasRead-fails chips_header _ _ _ _ _ _ _ _ inv.read.1 takes inv.headed (sym same ∙ bad))))
 
@@ -47,16 +55,22 @@ loop-named-preserved c =
     let takes = rw c.if-branch.true at c.in_ok-read_row.ensures.1 in
     let ok = rw c.deref_mut.ensures.value at c.in_ok-note_row.ensures.ok in
     let fine = sym (table_fault c.args.vertices inv.read.0 _ _ row inv.read.2 inv.read.1.counted) ∙ ok.0 in
-    let same : length c.note_row.new.named ≡ c.loop-named.named.len = ap length ok.1 ∙ length-set _ _ _ ∙ sym c.loop-named.named.ok.0 in
+    let same : length c.note_row.new.named ≡ c.loop-named.named.len = ap length ok.1 ∙ length-set _ _ _
+    ∙ sym c.loop-named.named.ok.0 in
     let left = written_back c.loop-named.named.items c.note_row.new.named c.loop-named.named.len same ∙ ok.1 in
     record {
       reads = c.in_ok-read_row.ensures.0;
       headed = inv.headed;
-      read = (inv.read.0 ++ row ∷ [], HasRead-more _ _ _ _ _ _ _ inv.read.1 takes fine, rw left (HaveNoted-more c.args.vertices inv.read.0 _ row inv.read.2 fine));
+      read = (
+        inv.read.0 ++ row ∷ [],
+        HasRead-more _ _ _ _ _ _ _ inv.read.1 takes fine,
+        rw left (HaveNoted-more c.args.vertices inv.read.0 _ row inv.read.2 fine),
+      );
     }
 
 pub returns : goal.returns
 returns c =
     let inv = c.loop-named.invariant in
     let takes = rw c.if-branch.false at c.in_ok-read_row.ensures.1 in
-    HaveNoted-all c.args.vertices (records_of c.args.text.now) inv.read.0 _ inv.read.2 (HasRead-all chips_header _ _ _ _ _ inv.read.1 takes inv.headed)
+    HaveNoted-all c.args.vertices (records_of c.args.text.now) inv.read.0 _ inv.read.2
+    (HasRead-all chips_header _ _ _ _ _ inv.read.1 takes inv.headed)

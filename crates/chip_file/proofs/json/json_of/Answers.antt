@@ -7,4 +7,7 @@ pub returns-in-Ok : goal.returns-in-Ok
 returns-in-Ok c = json_of-some _ _ c.in-Ok.ensures.ok.0 c.in-Ok.ensures.ok.1
 
 pub returns-in-Err-2 : goal.returns-in-Err-2
-returns-in-Err-2 c = inr (refl, json_of-none c.args.text.now (c.in-Err.ensures.err (λ m. false≢true (c.if-is_memory.ensures.1 m))))
+returns-in-Err-2 c = inr (
+  refl,
+  json_of-none c.args.text.now (c.in-Err.ensures.err (λ m. false≢true (c.if-is_memory.ensures.1 m))),
+)

@@ -7,5 +7,6 @@ use Rattle.chip_file.proofs.number.is_digits.Goals as goal
 
 pub returns : goal.returns
 returns c =
-    all_from_yields_List is_ascii_digit _ _ _ c.all.ensures.ran (YieldsList-from_slice c.args.field.now cc) (λ x b q k. search (rules, tests))
+    all_from_yields_List is_ascii_digit _ _ _ c.all.ensures.ran (YieldsList-from_slice c.args.field.now cc)
+    (λ x b q k. search (rules, tests))
     ∙ list_all-digits c.args.field.now

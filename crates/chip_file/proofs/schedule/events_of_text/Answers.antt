@@ -11,7 +11,8 @@ use Rattle.chip_file.proofs.schedule.events_of_text.Goals as goal
 pub returns-in_err-read_header : goal.returns-in_err-read_header
 returns-in_err-read_header c =
     let p = err_from_is_err_and c.from_residual.result c.from_residual.ensures.1 in
-    rw (p.1, p.2) (header_fails schedule_header (by_index (event_fault c.args.graph.now)) (records_of c.args.text.now) _ _ c.records-reader.ensures.rows c.in_err-read_header.ensures.err)
+    rw (p.1, p.2) (header_fails schedule_header (by_index (event_fault c.args.graph.now))
+    (records_of c.args.text.now) _ _ c.records-reader.ensures.rows c.in_err-read_header.ensures.err)
 
 pub loop-events-init : goal.loop-events-init
 loop-events-init c =

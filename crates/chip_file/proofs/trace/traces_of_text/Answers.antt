@@ -11,7 +11,8 @@ use Rattle.chip_file.proofs.trace.traces_of_text.Goals as goal
 pub returns-in_err-read_header-clause-means : goal.returns-in_err-read_header-clause-means
 returns-in_err-read_header-clause-means c =
     let p = err_from_is_err_and c.from_residual.result c.from_residual.ensures.1 in
-    rw (p.1, p.2) (header_fails trace_header (by_index (trace_row_fault c.args.graph.now)) (records_of c.args.text.now) _ _ c.records-reader.ensures.rows c.in_err-read_header.ensures.err)
+    rw (p.1, p.2) (header_fails trace_header (by_index (trace_row_fault c.args.graph.now))
+    (records_of c.args.text.now) _ _ c.records-reader.ensures.rows c.in_err-read_header.ensures.err)
 
 pub loop-traces-init : goal.loop-traces-init
 loop-traces-init c =
@@ -19,7 +20,11 @@ loop-traces-init c =
     record {
       reads = ok.0;
       headed = rw (← c.records-reader.ensures.rows) ok.1;
-      read = ([], HasRead-none _ _ _ (rw (← c.records-reader.ensures.rows) ok.2), HaveRecorded-none _ _ (rw (← c.vertices.ensures.value) c.in_ok-traces.ensures));
+      read = (
+        [],
+        HasRead-none _ _ _ (rw (← c.records-reader.ensures.rows) ok.2),
+        HaveRecorded-none _ _ (rw (← c.vertices.ensures.value) c.in_ok-traces.ensures),
+      );
     }
 
 pub index_mut-trace-requires : goal.index_mut-trace-requires
@@ -46,15 +51,18 @@ loop-traces-preserved c =
     let vertex = names_vertex c.args.graph.now c.loop-traces.index row found.0 in
     let traces = c.loop-traces.traces.items in
     let many = length-map traces (λ trace. trace.items) in
-    let inside : c.in_ok-vertex.vertex < length traces = (let named = found.1 in let each = inv.read.2.each in omega arith) in
-    let was = ap (λ trace. trace.items) c.index_mut-trace.ensures.value ∙ sym (get_or-map (λ trace. trace.items) traces c.in_ok-vertex.vertex c.index_mut-trace.result.now [] inside) in
+    let inside : c.in_ok-vertex.vertex < length traces = (let named = found.1 in let each = inv.read.2.each in
+    omega arith) in
+    let was = ap (λ trace. trace.items) c.index_mut-trace.ensures.value
+    ∙ sym (get_or-map (λ trace. trace.items) traces c.in_ok-vertex.vertex c.index_mut-trace.result.now [] inside) in
     record {
       reads = c.in_ok-read_row.ensures.0;
       headed = inv.headed;
       read = (
         inv.read.0 ++ row ∷ [],
         HasRead-more _ _ _ _ _ _ _ inv.read.1 takes (rw inv.read.1.counted found.0),
-        rw (map-set, c.in_ok-push.ensures.items, was, found.1, found.2) (HaveRecorded-more c.args.graph.now inv.read.0 _ row inv.read.2 vertex),
+        rw (map-set, c.in_ok-push.ensures.items, was, found.1, found.2)
+            (HaveRecorded-more c.args.graph.now inv.read.0 _ row inv.read.2 vertex),
       );
     }
 

@@ -4,32 +4,46 @@ use Rattle.std.proofs.lemmas.Bool.Decides.{Decides-eqb}
 use Rattle.std.proofs.lemmas.Slice.Eq.{strip_suffix_is, bytes_eq-Decides}
 use Rattle.chip_report.proofs.ReportLemmas.{none_without_newline, refused, of_a_line, not_the_one_told}
 use Rattle.chip_report.proofs.read.read_report.Goals as goal
-use Rattle.chip_report.proofs.read.read_report.Goals.{else-is_outcome-via-then-is_outcome+in_ok-report+else-eq, else-is_outcome-via-else-is_outcome}
+use Rattle.chip_report.proofs.read.read_report.Goals.{else-is_outcome-via-then-is_outcome+in_ok-report+else-eq}
+use Rattle.chip_report.proofs.read.read_report.Goals.{else-is_outcome-via-else-is_outcome}
 
 pub returns-in_default-clause-outcome : goal.returns-in_default-clause-outcome
-returns-in_default-clause-outcome c = inr (refl, none_without_newline c.args.bytes.now (strip_suffix_is Decides-eqb c.args.bytes.now (10 ∷ []) None c.in_default.ensures.cases))
+returns-in_default-clause-outcome c = inr (
+  refl,
+  none_without_newline c.args.bytes.now
+      (strip_suffix_is Decides-eqb c.args.bytes.now (10 ∷ []) None c.in_default.ensures.cases),
+)
 
 pub returns-in_err-outcome-clause-outcome : goal.returns-in_err-outcome-clause-outcome
 returns-in_err-outcome-clause-outcome c =
     let split = strip_suffix_is Decides-eqb c.args.bytes.now (10 ∷ []) (Some c.in-Some.json) c.in-Some.ensures.cases in
-    refused c.args.bytes.now c.in-Some.json.now split c.from_residual.result c.in_err-outcome.field-0.0 c.from_residual.ensures.1 c.in_err-outcome.ensures
+    refused c.args.bytes.now c.in-Some.json.now split c.from_residual.result c.in_err-outcome.field-0.0
+    c.from_residual.ensures.1 c.in_err-outcome.ensures
 
 pub returns-else-is_outcome-clause-outcome : goal.returns-else-is_outcome-clause-outcome
 returns-else-is_outcome-clause-outcome c =
     let split = strip_suffix_is Decides-eqb c.args.bytes.now (10 ∷ []) (Some c.in-Some.json) c.in-Some.ensures.cases in
     inr (
       refl,
-      not_the_one_told c.args.bytes.now c.in-Some.json.now c.in_ok-outcome.outcome split c.in_ok-outcome.ensures (elim c.else-is_outcome.branch [
-        | else-is_outcome-via-then-is_outcome+in_ok-report+else-eq w ↦
-            λ r. false≢true (sym w.if-eq.false ∙ (w.eq.ensures ∙ (bytes_eq-Decides _ _).1 (w.as_slice.ensures.value ∙ (w.in_ok-report.ensures ∙ sym r.spelled))))
-        | else-is_outcome-via-else-is_outcome w ↦ λ r. false≢true (sym w.if-is_outcome.false ∙ c.is_outcome.ensures.1 r.reportable)
-      ]),
+      not_the_one_told c.args.bytes.now c.in-Some.json.now c.in_ok-outcome.outcome split c.in_ok-outcome.ensures
+          (elim c.else-is_outcome.branch [
+            | else-is_outcome-via-then-is_outcome+in_ok-report+else-eq w ↦
+                λ r. false≢true (sym w.if-eq.false
+                ∙ (w.eq.ensures ∙ (bytes_eq-Decides _ _).1 (w.as_slice.ensures.value
+                ∙ (w.in_ok-report.ensures ∙ sym r.spelled))))
+            | else-is_outcome-via-else-is_outcome w ↦ λ r. false≢true (sym w.if-is_outcome.false
+                ∙ c.is_outcome.ensures.1 r.reportable)
+          ]),
     )
 
 pub returns-in_err-outcome-clause-memory : goal.returns-in_err-outcome-clause-memory
 returns-in_err-outcome-clause-memory c =
-    of_a_line c.args.bytes.now c.in-Some.json.now (strip_suffix_is Decides-eqb c.args.bytes.now (10 ∷ []) (Some c.in-Some.json) c.in-Some.ensures.cases) c.from_residual.result
+    of_a_line c.args.bytes.now c.in-Some.json.now
+    (strip_suffix_is Decides-eqb c.args.bytes.now (10 ∷ []) (Some c.in-Some.json) c.in-Some.ensures.cases)
+    c.from_residual.result
 
 pub returns-in_err-report-clause-memory : goal.returns-in_err-report-clause-memory
 returns-in_err-report-clause-memory c =
-    of_a_line c.args.bytes.now c.in-Some.json.now (strip_suffix_is Decides-eqb c.args.bytes.now (10 ∷ []) (Some c.in-Some.json) c.in-Some.ensures.cases) c.from_residual-in_err-report.result
+    of_a_line c.args.bytes.now c.in-Some.json.now
+    (strip_suffix_is Decides-eqb c.args.bytes.now (10 ∷ []) (Some c.in-Some.json) c.in-Some.ensures.cases)
+    c.from_residual-in_err-report.result

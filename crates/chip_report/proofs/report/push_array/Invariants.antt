@@ -5,4 +5,5 @@ use Rattle.chip_report.specs.ReportText.{comma}
 use Rattle.chip_report.proofs.report.push_array.Given as goal
 
 abbrev pub invariant-loop-i : goal.invariant-loop-i
-invariant-loop-i l = string_bytes l.text ≡ string_bytes l.initial.text ++ join_with_byte comma (map decimal (take l.i l.numbers))
+invariant-loop-i l = string_bytes l.text ≡ string_bytes l.initial.text
+    ++ join_with_byte comma (map decimal (take l.i l.numbers))

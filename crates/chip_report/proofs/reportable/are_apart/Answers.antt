@@ -6,12 +6,18 @@ use Rattle.chip_report.proofs.reportable.are_apart.Goals as goal
 pub returns-then-stands_in : goal.returns-then-stands_in
 returns-then-stands_in c = (
   λ e. absurd (false≢true e),
-  λ apart. absurd (not_AreApart c.args.over.now c.args.sealed.now c.loop-vertex.vertex-index c.loop-vertex-test.true (c.stands_in.ensures.0 c.if-stands_in.true) apart),
+  λ apart. absurd (not_AreApart c.args.over.now c.args.sealed.now c.loop-vertex.vertex-index c.loop-vertex-test.true
+      (c.stands_in.ensures.0 c.if-stands_in.true) apart),
 )
 
 pub loop-vertex-preserved : goal.loop-vertex-preserved
 loop-vertex-preserved c =
-    ApartBelow-more c.args.over.now c.args.sealed.now c.loop-vertex.vertex-index c.loop-vertex.invariant (λ stands. false≢true (sym c.if-stands_in.false ∙ c.stands_in.ensures.1 stands))
+    ApartBelow-more c.args.over.now c.args.sealed.now c.loop-vertex.vertex-index c.loop-vertex.invariant
+    (λ stands. false≢true (sym c.if-stands_in.false ∙ c.stands_in.ensures.1 stands))
 
 pub returns : goal.returns
-returns c = (λ e. AreApart-from_below c.args.over.now c.args.sealed.now c.loop-vertex.vertex-index c.loop-vertex-test.false c.loop-vertex.invariant, λ apart. refl)
+returns c = (
+  λ e. AreApart-from_below c.args.over.now c.args.sealed.now c.loop-vertex.vertex-index
+      c.loop-vertex-test.false c.loop-vertex.invariant,
+  λ apart. refl,
+)

@@ -13,4 +13,5 @@ loop-row-preserved c =
     c.in_ok-push_row.ensures
     ∙ ap (λ (t : List ℕ). t ++ next) c.loop-row.invariant
     ∙ append_assoc (string_bytes c.args.text.now) (rows_text c.args.vertex (take i rows)) next
-    ∙ ap (λ (t : List ℕ). string_bytes c.args.text.now ++ t) (sym (rows_text-more c.args.vertex rows i (Take 0 0) c.loop-row-test.true))
+    ∙ ap (λ (t : List ℕ). string_bytes c.args.text.now ++ t)
+    (sym (rows_text-more c.args.vertex rows i (Take 0 0) c.loop-row-test.true))

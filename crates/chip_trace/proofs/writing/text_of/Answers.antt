@@ -1,4 +1,5 @@
-use Rattle.std.proofs.Common.{◌++◌, ◌<◌, List, [], ℕ, length, map, take, get_or, sym, ap, ◌∙◌, append_assoc, string_bytes, arith}
+use Rattle.std.proofs.Common.{◌++◌, ◌<◌, List, [], ℕ, length, map, take, get_or, sym, ap, ◌∙◌, append_assoc}
+use Rattle.std.proofs.Common.{string_bytes, arith}
 use Rattle.std.proofs.lemmas.List.{get_or-map, length-map}
 use Rattle.chip_link.specs.declared.trace.TraceRow.{TraceRow}
 use Rattle.chip_trace.specs.TraceText.{header, rows_text, lines_from}
@@ -9,10 +10,12 @@ pub loop-vertex-preserved : goal.loop-vertex-preserved
 loop-vertex-preserved c =
     let traces : List (List TraceRow) = map (λ t. t.now) c.args.traces.now in
     let i : ℕ = c.loop-vertex.vertex in
-    let within : i < length traces = (let e = length-map c.args.traces.now (λ t. t.now) in let l = c.loop-vertex-test.true in omega arith) in
+    let within : i < length traces = (let e = length-map c.args.traces.now (λ t. t.now) in
+    let l = c.loop-vertex-test.true in omega arith) in
     let next : List ℕ = rows_text i (get_or traces i []) in
     c.in_ok-push_rows.ensures
-    ∙ ap (λ (rows : List TraceRow). string_bytes c.loop-vertex.text ++ rows_text i rows) (sym (get_or-map (λ t. t.now) c.args.traces.now i _ [] c.loop-vertex-test.true))
+    ∙ ap (λ (rows : List TraceRow). string_bytes c.loop-vertex.text ++ rows_text i rows)
+    (sym (get_or-map (λ t. t.now) c.args.traces.now i _ [] c.loop-vertex-test.true))
     ∙ ap (λ (t : List ℕ). t ++ next) c.loop-vertex.invariant
     ∙ append_assoc header (lines_from 0 (take i traces)) next
     ∙ ap (λ (t : List ℕ). header ++ t) (sym (lines_from-more traces i [] within))

@@ -25,37 +25,75 @@ fn graph(
     Graph::new(alloc, vertices, sink, edges(alloc, rows)?)
 }
 
-const TRIANGLE: [(u64, u64, u64); 4] = [(0, 1, 1), (0, 2, 1), (1, 0, 1), (1, 2, 1)];
+/// Edges by tail, head and multiplicity.
+type Rows = &'static [(u64, u64, u64)];
+
+const TRIANGLE: Rows = &[(0, 1, 1), (0, 2, 1), (1, 0, 1), (1, 2, 1)];
+
+/// A vertex of the triangle: its number, its degree, its distance, and the edges out of it and into it.
+struct Shown {
+    vertex: u64,
+    degree: u64,
+    distance: u64,
+    outs: &'static [u64],
+    ins: &'static [u64],
+}
+
+const SHOWN: [Shown; 3] = [
+    Shown {
+        vertex: 0,
+        degree: 2,
+        distance: 1,
+        outs: &[0, 1],
+        ins: &[2],
+    },
+    Shown {
+        vertex: 1,
+        degree: 2,
+        distance: 1,
+        outs: &[2, 3],
+        ins: &[0],
+    },
+    Shown {
+        vertex: 2,
+        degree: 0,
+        distance: 0,
+        outs: &[],
+        ins: &[1, 3],
+    },
+];
 
 #[test]
 fn shows_the_triangle(rt: HostRuntime) -> Result<(), Fail> {
-    let triangle = graph(rt.alloc(), 3, 2, &TRIANGLE)?;
+    let triangle = graph(rt.alloc(), 3, 2, TRIANGLE)?;
     assert_eq!(rt; triangle.vertices(), 3);
     assert_eq!(rt; triangle.sink(), 2);
     assert_eq!(rt; triangle.edges().len(), 4);
     assert_eq!(rt; triangle.vertices(), 3);
-    for (vertex, degree, distance, outs, ins) in [
-        (0, 2, 1, [0, 1].as_slice(), [2].as_slice()),
-        (1, 2, 1, [2, 3].as_slice(), [0].as_slice()),
-        (2, 0, 0, [].as_slice(), [1, 3].as_slice()),
-    ] {
+    for shown in &SHOWN {
+        let vertex = shown.vertex;
         assert!(rt; vertex < triangle.vertices());
-        assert_eq!(rt; triangle.out_degree(vertex), degree, "degree of {vertex}");
-        assert_eq!(rt; triangle.distance(vertex), distance, "distance of {vertex}");
-        assert_eq!(rt; triangle.outs(vertex), outs, "edges out of {vertex}");
-        assert_eq!(rt; triangle.ins(vertex), ins, "edges into {vertex}");
         assert_eq!(rt;
-            triangle.links(vertex).len(),
-            outs.len(),
-            "links of {vertex}"
+            triangle.out_degree(vertex),
+            shown.degree,
+            "degree of {vertex}"
         );
+        assert_eq!(rt;
+            triangle.distance(vertex),
+            shown.distance,
+            "distance of {vertex}"
+        );
+        assert_eq!(rt; triangle.outs(vertex), shown.outs, "edges out of {vertex}");
+        assert_eq!(rt; triangle.ins(vertex), shown.ins, "edges into {vertex}");
+        let links = triangle.links(vertex).len();
+        assert_eq!(rt; links, shown.outs.len(), "links of {vertex}");
     }
     Ok(())
 }
 
 #[test]
 fn numbers_the_edges(rt: HostRuntime) -> Result<(), Fail> {
-    let triangle = graph(rt.alloc(), 3, 2, &TRIANGLE)?;
+    let triangle = graph(rt.alloc(), 3, 2, TRIANGLE)?;
     assert_eq!(rt; triangle.all_edges(), 7);
     let back = Edge {
         tail: 1,
@@ -77,78 +115,66 @@ fn numbers_the_edges(rt: HostRuntime) -> Result<(), Fail> {
     Ok(())
 }
 
+/// Vertices, the sink, rows, and the first fault of them.
+const FAULTS: [(u64, u64, Rows, Option<GraphFault>); 12] = [
+    (0, 0, &[], Some(GraphFault::Vertices)),
+    (4097, 4097, &[], Some(GraphFault::Vertices)),
+    (3, 3, &[], Some(GraphFault::Sink)),
+    (3, 2, &[(0, 3, 0)], Some(GraphFault::Endpoint(0))),
+    (3, 2, &[(0, 0, 0)], Some(GraphFault::Mult(0))),
+    (3, 2, &[(0, 1, 1_048_577)], Some(GraphFault::Mult(0))),
+    (3, 2, &[(1, 1, 1)], Some(GraphFault::Loop(0))),
+    (3, 2, &[(2, 2, 1)], Some(GraphFault::Loop(0))),
+    (3, 2, &[(0, 2, 1), (2, 0, 1)], Some(GraphFault::FromSink(1))),
+    (
+        4,
+        3,
+        &[(0, 1, 1), (1, 0, 1), (2, 3, 1)],
+        Some(GraphFault::Unreached(0)),
+    ),
+    (
+        4,
+        3,
+        &[(0, 3, 1), (2, 1, 1), (1, 2, 1)],
+        Some(GraphFault::Unreached(1)),
+    ),
+    (1, 0, &[], None),
+];
+
 #[test]
 fn names_the_first_fault(rt: HostRuntime) {
-    let alloc = rt.alloc();
-    for (vertices, sink, rows, fault) in [
-        (0, 0, [].as_slice(), Some(GraphFault::Vertices)),
-        (4097, 4097, [].as_slice(), Some(GraphFault::Vertices)),
-        (3, 3, [].as_slice(), Some(GraphFault::Sink)),
-        (3, 2, [(0, 3, 0)].as_slice(), Some(GraphFault::Endpoint(0))),
-        (3, 2, [(0, 0, 0)].as_slice(), Some(GraphFault::Mult(0))),
-        (
-            3,
-            2,
-            [(0, 1, 1_048_577)].as_slice(),
-            Some(GraphFault::Mult(0)),
-        ),
-        (3, 2, [(1, 1, 1)].as_slice(), Some(GraphFault::Loop(0))),
-        (3, 2, [(2, 2, 1)].as_slice(), Some(GraphFault::Loop(0))),
-        (
-            3,
-            2,
-            [(0, 2, 1), (2, 0, 1)].as_slice(),
-            Some(GraphFault::FromSink(1)),
-        ),
-        (
-            4,
-            3,
-            [(0, 1, 1), (1, 0, 1), (2, 3, 1)].as_slice(),
-            Some(GraphFault::Unreached(0)),
-        ),
-        (
-            4,
-            3,
-            [(0, 3, 1), (2, 1, 1), (1, 2, 1)].as_slice(),
-            Some(GraphFault::Unreached(1)),
-        ),
-        (1, 0, [].as_slice(), None),
-    ] {
-        assert_eq!(rt;
-            graph(alloc, vertices, sink, rows).err(),
-            fault,
-            "{vertices} {sink} {rows:?}"
-        );
+    for (vertices, sink, rows, fault) in &FAULTS {
+        let found = graph(rt.alloc(), *vertices, *sink, rows).err();
+        assert_eq!(rt; found, *fault, "{vertices} {sink} {rows:?}");
     }
 }
+
+/// The chips of the triangle, a limit, and the first fault of them.
+const GAME_FAULTS: [(&[u64], u64, GameFault); 4] = [
+    (&[1, 2], 1, GameFault::StartLength),
+    (&[1 << 40, 1, 0], 1 << 41, GameFault::Total),
+    (&[u64::MAX, u64::MAX, 2], 0, GameFault::Total),
+    (&[0, 0, 0], (1 << 40) + 1, GameFault::Limit),
+];
 
 #[test]
 fn refuses_games(rt: HostRuntime) -> Result<(), Fail> {
     let alloc = rt.alloc();
-    for (start, limit, fault) in [
-        ([1, 2].as_slice(), 1, Some(GameFault::StartLength)),
-        ([1 << 40, 1, 0].as_slice(), 1 << 41, Some(GameFault::Total)),
-        (
-            [u64::MAX, u64::MAX, 2].as_slice(),
-            0,
-            Some(GameFault::Total),
-        ),
-        ([0, 0, 0].as_slice(), (1 << 40) + 1, Some(GameFault::Limit)),
-        ([1 << 40, 0, 0].as_slice(), 1 << 40, None),
-    ] {
-        let game = Game::new(graph(alloc, 3, 2, &TRIANGLE)?, start.to_vec(alloc)?, limit);
-        match game {
-            Ok(game) => {
-                assert_eq!(rt; game.start(), start);
-                assert_eq!(rt;
-                    (game.limit(), game.total(), game.graph().vertices()),
-                    (limit, 1 << 40, 3)
-                );
-                assert_eq!(rt; fault, None);
-            }
-            Err(found) => assert_eq!(rt; Some(found), fault),
-        }
+    for (start, limit, fault) in &GAME_FAULTS {
+        let game = Game::new(graph(alloc, 3, 2, TRIANGLE)?, start.to_vec(alloc)?, *limit);
+        assert_eq!(rt; game.err(), Some(*fault), "{start:?}");
     }
+    Ok(())
+}
+
+#[test]
+fn takes_the_largest_total(rt: HostRuntime) -> Result<(), Fail> {
+    let alloc = rt.alloc();
+    let start = [1 << 40, 0, 0].as_slice();
+    let game = Game::new(graph(alloc, 3, 2, TRIANGLE)?, start.to_vec(alloc)?, 1 << 40)?;
+    assert_eq!(rt; game.start(), start);
+    assert_eq!(rt; (game.limit(), game.total()), (1 << 40, 1 << 40));
+    assert_eq!(rt; game.graph().vertices(), 3);
     Ok(())
 }
 
@@ -156,7 +182,7 @@ fn refuses_games(rt: HostRuntime) -> Result<(), Fail> {
 fn copies_a_game(rt: HostRuntime) -> Result<(), Fail> {
     let alloc = rt.alloc();
     let start = [4, 0, 0].as_slice();
-    let game = Game::new(graph(alloc, 3, 2, &TRIANGLE)?, start.to_vec(alloc)?, 7)?;
+    let game = Game::new(graph(alloc, 3, 2, TRIANGLE)?, start.to_vec(alloc)?, 7)?;
     let copy = game.copy(alloc)?;
     assert_eq!(rt; copy.start(), start);
     assert_eq!(rt; (copy.limit(), copy.total()), (7, 4));

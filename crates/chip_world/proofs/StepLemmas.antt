@@ -349,6 +349,7 @@ module _ (g : Setting) (log : Log) (w : WorldState) (stands : StandsForLog g log
           (settle_shown g stands.is_setting.game stands.is_setting.some_ring log stands.legal w.words stands.words_each
           stands.words e none)
           (subst (λ (p : Part). RootStandsFor g p new) (sym (part_here g did log (root g) at_root))
-          (subst (λ (n : ℕ). RootStandsFor g (does g (record { event = Settle e; seen = n }) rooted) new) is_seen made.0)))
+          (subst (λ (n : ℕ). RootStandsFor g (does g (record { event = Settle e; seen = n }) rooted) new) is_seen
+          made.0)))
           (made.1 ∙ ap (λ (n : ℕ). reply_of g (Settle e) n rooted) is_seen
           ∙ ap (λ (p : ℕ). reply_of g (Settle e) (sees g log (Settle e)) (part_in g log p)) (sym at_root))

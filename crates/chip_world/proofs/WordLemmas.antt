@@ -22,7 +22,8 @@ use Rattle.chip_core.specs.Core.{Log, Event, Take, Ack, Fire, Clear, Claim, Put,
 use Rattle.chip_core.specs.Core.{unmet, part_of, part_in, out_in, into_in, stop_in, word_of_part, sees, IsLegalLog}
 use Rattle.chip_core.specs.Core.{tail_of, head_of, all_edges, graph_edges}
 use Rattle.chip_core.specs.Core.{stopper}
-use Rattle.chip_core.specs.Words.{Word, of_edge, of_acks, of_cell, of_vertex, halt_bits, touched, noted, IsShown, acting}
+use Rattle.chip_core.specs.Words.{Word, of_edge, of_acks, of_cell, of_vertex, halt_bits, touched, noted, IsShown}
+use Rattle.chip_core.specs.Words.{acting}
 use Rattle.chip_core.specs.Words.{IsLeft}
 use Rattle.chip_core.proofs.Showing.{operations_find, words_go_on}
 use Rattle.chip_core.proofs.LogLemmas.{part_kept, edge_sound}
@@ -253,7 +254,8 @@ module _ (g : Setting) (game : HasGame g) (some_ring : 0 < g.ring) (log : Log) (
         let inside = can_perform (Claim e) mine none in
         one_edge (Claim e) e (with_claim claims (claims + 1)) (omega arith) refl record {
           here = ap (λ (s : EdgeState). s.word) (here_changed words e (with_claim claims (claims + 1)) inside);
-          others = λ w is ne. edge_else words fired e (exchanged claims (claims + 1) (words_of words e).word) inside w ne;
+          others = λ w is ne. edge_else words fired e (exchanged claims (claims + 1) (words_of words e).word) inside w
+              ne;
         }
     leaves (Put e) mine none =
         let met = met_for (Put e) none in

@@ -2,11 +2,11 @@
 use Rattle.std.proofs.Common.{◌≡◌, ◌≢◌, ℕ, ◌<◌, ◌≤◌, true, false, ltb, lt-ltb, le-ltb}
 use Rattle.std.proofs.Common.{List, ◌∷◌, length, get_or, set, Option, Some, None, Result, Ok, Err, refl, sym}
 use Rattle.std.proofs.Common.{ap, ◌∙◌, subst, arith, length-set, get_or-set_same, get_or-set_other, true≢false}
-use Rattle.std.proofs.lemmas.Bool.{leb-true, le-leb}
+use Rattle.std.proofs.lemmas.Bool.{le-leb}
 use Rattle.std.specs.Bool.{⊤}
 use mathlib.Core.Logic.{dite}
 use native.Mathlib.Decide.{ℕ_discrete, dec_lt}
-use Rattle.chip_actor.specs.Setting.{Setting, HasGame}
+use Rattle.chip_actor.specs.Setting.{Setting}
 use Rattle.chip_graph.proofs.SumLemmas.{cond_true}
 use Rattle.chip_link.specs.Words.{claims_in}
 use Rattle.chip_actor.specs.declared.rule.Rule.TheVariants.{NoSuch}
@@ -20,13 +20,13 @@ use Rattle.chip_actor.proofs.EdgeLemmas.{tail_root}
 use Rattle.chip_actor.proofs.RuleLemmas.{rules_met}
 use Rattle.chip_core.specs.Core.{Log, Step, Event, Take, Ack, Fire, Clear, Claim, Put, Halt, Settle, Seal, Read, Part}
 use Rattle.chip_core.specs.Core.{Rule, Reply, unmet, part_of, does, reply_of, part_in, word_of_part, sees}
-use Rattle.chip_core.specs.Core.{answer, step, Fits, IsLegalLog, tail_of, graph_edges, all_edges, root, stopper}
+use Rattle.chip_core.specs.Core.{answer, step, Fits, tail_of, graph_edges, all_edges, root, stopper}
 use Rattle.chip_core.proofs.LogLemmas.{part_here, part_else, edge_counts}
 use Rattle.chip_world.specs.SharedWords.{EdgeState, words_of, changed, with_seal, seen_in, words_after, CanPerform}
 use Rattle.chip_world.specs.Makers.{vertex_of, is_of_others}
 use Rattle.chip_world.specs.World.{WorldState, ShowsEdge, IsActor, StandsForLog, IsDueFor}
 use Rattle.chip_core.proofs.NumberLemmas.{fits_seen}
-use Rattle.chip_world.proofs.WordLemmas.{seal_shown, sees_seal, root_shown, sees_settle, length-words_after}
+use Rattle.chip_world.proofs.WordLemmas.{seal_shown, sees_seal, settle_shown, sees_settle, length-words_after}
 use Rattle.chip_world.proofs.WordLemmas.{can_perform, sees_words, words_shown}
 use Rattle.chip_world.proofs.VertexLemmas.{refused, passes, found}
 
@@ -69,37 +69,6 @@ not_of_others g v (Do.Put e cell value) l at = refl
 not_of_others g v (Do.Halt by_limit) l at = refl
 not_of_others g v (Do.Ack e count) l at = refl
 not_of_others g v Do.End l at = absurd (omega arith)
-
--- an event of the root is made by it
-made_by_root : (g : Setting) (x : Event) → is_of_root g x ≡ true → part_of g x ≡ root g
-made_by_root g (Settle e) is = tail_root g e (leb-true (graph_edges g) e is)
-made_by_root g (Read v) is = refl
-made_by_root g (Take e) is = absurd (true≢false (sym is))
-made_by_root g (Ack e) is = absurd (true≢false (sym is))
-made_by_root g (Fire v k) is = absurd (true≢false (sym is))
-made_by_root g (Clear e) is = absurd (true≢false (sym is))
-made_by_root g (Claim e) is = absurd (true≢false (sym is))
-made_by_root g (Put e) is = absurd (true≢false (sym is))
-made_by_root g (Halt v) is = absurd (true≢false (sym is))
-made_by_root g (Seal e) is = absurd (true≢false (sym is))
-
--- and what it sees fits
-root_fits : (g : Setting) → HasGame g → 0 < g.ring → (log : Log) → IsLegalLog g log → (x : Event)
-    → is_of_root g x ≡ true → FitsSeen (part_in g log (root g)) x (sees g log x)
-root_fits g game some_ring log legal (Settle e) is =
-    let own : tail_of g e ≡ root g = tail_root g e (leb-true (graph_edges g) e is) in
-    let counts = edge_counts g game some_ring log legal e in
-    let c0 = counts.0 in let c1 = counts.1 in let c2 = counts.2 in let c3 = counts.3 in
-    subst (λ (p : ℕ). FitsSeen (part_in g log p) (Settle e) (sees g log (Settle e))) own (c0, omega arith)
-root_fits g game some_ring log legal (Read v) is = tt
-root_fits g game some_ring log legal (Take e) is = absurd (true≢false (sym is))
-root_fits g game some_ring log legal (Ack e) is = tt
-root_fits g game some_ring log legal (Fire v k) is = tt
-root_fits g game some_ring log legal (Clear e) is = tt
-root_fits g game some_ring log legal (Claim e) is = absurd (true≢false (sym is))
-root_fits g game some_ring log legal (Put e) is = tt
-root_fits g game some_ring log legal (Halt v) is = tt
-root_fits g game some_ring log legal (Seal e) is = tt
 
 module _ (g : Setting) (log : Log) (w : WorldState) (stands : StandsForLog g log w) where
   -- a rule isn't met, and nothing changes
@@ -327,58 +296,60 @@ module _ (g : Setting) (log : Log) (w : WorldState) (stands : StandsForLog g log
       accepts (Seal e) (record w { words = changed e with_seal w.words }) (Done claims) none
       (others_stay x (omega arith) (none, refl) (changed e with_seal w.words) w.root (length-set w.words e _
       ∙ stands.words_each) (seal_shown g stands.is_setting.game stands.is_setting.some_ring log stands.legal w.words
-      stands.words_each stands.words e l) (root_stays x (λ z. absurd (omega arith))))
+      stands.words_each stands.words e none) (root_stays x (λ z. absurd (omega arith))))
       (ap Done (told ∙ ap claims_in
       (sees_seal g stands.is_setting.game stands.is_setting.some_ring log stands.legal w.words stands.words_each
       stands.words e l)))
 
-  -- ---- the events of the root
+  -- ---- the settle of a root edge
 
-  module _ (x : Event) (of_root : is_of_root g x ≡ true) where
-    at_root : part_of g x ≡ root g
-    at_root = made_by_root g x of_root
-
-    module _ (may : WhateverRoot w.root (λ g s. is_of_root g x ≡ true → None ≡ unmet g x s)) (seen : ℕ)
-        (sees_it : seen ≡ sees g log x) where
-      met : unmet g x (part_in g log (root g)) ≡ None
-      met = sym (may g _ stands.root_stands of_root)
-
-      can : RootCanDo g (part_in g log (root g)) x seen
-      can = (
-        of_root,
-        met,
-        subst (FitsSeen (part_in g log (root g)) x) (sym sees_it)
-            (root_fits g stands.is_setting.game stands.is_setting.some_ring log stands.legal x of_root),
-      )
-
-      pub root_can : SomeRoot w.root (λ g s. RootCanDo g s x seen)
-      root_can = (g, part_in g log (root g), stands.root_stands, can)
-
-      -- and so it makes the core's step
-      pub root_makes : (new : Root) (reply : Reply) → RootMakes w.root new x seen reply
-          → StandsForLog g (step g log x).0 (record w { root = new }) × (reply ≡ (step g log x).1)
-      root_makes new reply makes =
-          let did : Step = record { event = x; seen = sees g log x } in
-          let none : unmet g x (part_in g log (part_of g x)) ≡ None =
-          ap (λ (p : ℕ). unmet g x (part_in g log p)) at_root ∙ met in
-          let made = makes g (part_in g log (root g)) stands.root_stands can in
-          accepts x (record w { root = new }) reply none
-          (others_stay did (let at = at_root in omega arith) (none, refl) w.words new stands.words_each
-          (root_shown g stands.is_setting.game stands.is_setting.some_ring log stands.legal w.words stands.words_each
-          stands.words x of_root)
-          (subst (λ (s : Part). RootStandsFor g s new) (sym (part_here g did log (root g) at_root))
-          (subst (λ (n : ℕ). RootStandsFor g (does g (record { event = x; seen = n }) (part_in g log (root g))) new)
-          sees_it made.0)))
-          (made.1 ∙ ap (λ (n : ℕ). reply_of g x n (part_in g log (root g))) sees_it
-          ∙ ap (λ (p : ℕ). reply_of g x (sees g log x) (part_in g log p)) (sym at_root))
-
-  -- what a settle of the root sees
   module _ (e : ℕ) (past : graph_edges g ≤ e)
       (may : WhateverRoot w.root (λ g s. is_of_root g (Settle e) ≡ true → None ≡ unmet g (Settle e) s)) where
-    settled_edge : e < all_edges g
-    settled_edge = rules_met g (Settle e) (part_in g log (root g))
-        (sym (may g _ stands.root_stands (le-leb (graph_edges g) e past)))
+    abbrev rooted : Part
+    rooted = part_in g log (root g)
 
-    pub settle_sees : (seen : ℕ) → seen ≡ (words_of w.words e).acknowledged → seen ≡ sees g log (Settle e)
-    settle_sees seen is = is ∙ sees_settle g stands.is_setting.game stands.is_setting.some_ring log stands.legal w.words
-        stands.words_each stands.words e settled_edge
+    at_root : tail_of g e ≡ root g
+    at_root = tail_root g e past
+
+    of_root : is_of_root g (Settle e) ≡ true
+    of_root = le-leb (graph_edges g) e past
+
+    met : unmet g (Settle e) rooted ≡ None
+    met = sym (may g rooted stands.root_stands of_root)
+
+    fits : FitsSeen rooted (Settle e) (sees g log (Settle e))
+    fits =
+        let counts = edge_counts g stands.is_setting.game stands.is_setting.some_ring log stands.legal e in
+        let c0 = counts.0 in let c1 = counts.1 in let c2 = counts.2 in let c3 = counts.3 in
+        subst (λ (p : ℕ). FitsSeen (part_in g log p) (Settle e) (sees g log (Settle e))) at_root (c0, omega arith)
+
+    module _ (seen : ℕ) (seen_is : seen ≡ (words_of w.words e).acknowledged) where
+      is_seen : seen ≡ sees g log (Settle e)
+      is_seen = seen_is
+          ∙ sees_settle g stands.is_setting.game stands.is_setting.some_ring log stands.legal w.words stands.words_each
+          stands.words e (rules_met g (Settle e) rooted met)
+
+      can : RootCanDo g rooted (Settle e) seen
+      can = (of_root, met, subst (FitsSeen rooted (Settle e)) (sym is_seen) fits)
+
+      pub root_can_settle : SomeRoot w.root (λ g s. RootCanDo g s (Settle e) seen)
+      root_can_settle = (g, rooted, stands.root_stands, can)
+
+      -- and so it makes the core's step
+      pub root_settles : (new : Root) (reply : Reply) → RootMakes w.root new (Settle e) seen reply
+          → StandsForLog g (step g log (Settle e)).0 (record w { root = new })
+          × (reply ≡ (step g log (Settle e)).1)
+      root_settles new reply makes =
+          let did : Step = record { event = Settle e; seen = sees g log (Settle e) } in
+          let none : unmet g (Settle e) (part_in g log (tail_of g e)) ≡ None =
+          ap (λ (p : ℕ). unmet g (Settle e) (part_in g log p)) at_root ∙ met in
+          let made = makes g rooted stands.root_stands can in
+          accepts (Settle e) (record w { root = new }) reply none
+          (others_stay did (let at = at_root in omega arith) (none, refl) w.words new stands.words_each
+          (settle_shown g stands.is_setting.game stands.is_setting.some_ring log stands.legal w.words stands.words_each
+          stands.words e none)
+          (subst (λ (p : Part). RootStandsFor g p new) (sym (part_here g did log (root g) at_root))
+          (subst (λ (n : ℕ). RootStandsFor g (does g (record { event = Settle e; seen = n }) rooted) new) is_seen
+          made.0)))
+          (made.1 ∙ ap (λ (n : ℕ). reply_of g (Settle e) n rooted) is_seen
+          ∙ ap (λ (p : ℕ). reply_of g (Settle e) (sees g log (Settle e)) (part_in g log p)) (sym at_root))

@@ -1,4 +1,4 @@
-use Rattle.std.proofs.Common.{◌≡◌, ◌∙◌, ◌≤◌, ℕ, true, Option, None, sym, subst, le-leb}
+use Rattle.std.proofs.Common.{◌≡◌, ◌∙◌, ◌≤◌, ℕ, true, Option, None, sym, subst}
 use Rattle.chip_actor.specs.Setting.{Setting}
 use Rattle.chip_actor.specs.Edges.{graph_edges}
 use Rattle.chip_actor.specs.Rules.{Settle, unmet}
@@ -6,7 +6,7 @@ use Rattle.chip_actor.specs.Root.{Root, WhateverRoot, is_of_root}
 use Rattle.chip_core.specs.Core.{Log, Rule, step}
 use Rattle.chip_world.specs.World.{WorldState, StandsForLog}
 use Rattle.chip_world.specs.contracts.world.World.{the_view}
-use Rattle.chip_world.proofs.StepLemmas.{root_can, root_makes, settle_sees}
+use Rattle.chip_world.proofs.StepLemmas.{root_can_settle, root_settles}
 use Rattle.chip_world.proofs.world.World.settle.Goals as goal
 
 -- the edge is the root's
@@ -27,10 +27,8 @@ apply-requires c =
     let own = past c.args.edge some.0 c.args.self.now (the_view c.self.inside) c.self.view_is some.2.setting c.requires
     in
     let may = met c.args.edge c.self.inside.root c.may.result c.in_default.is c.may.ensures in
-    root_can some.0 some.1 (the_view c.self.inside) some.2 (Settle c.args.edge) (le-leb _ _ own) may
-    c.acknowledged-word.result
-    (settle_sees some.0 some.1 (the_view c.self.inside) some.2 c.args.edge own may c.acknowledged-word.result
-    c.acknowledged-word.ensures)
+    root_can_settle some.0 some.1 (the_view c.self.inside) some.2 c.args.edge own may c.acknowledged-word.result
+    c.acknowledged-word.ensures
 
 -- whatever log the world stood for, it made one step of it
 made : (c : goal.After-apply) → (g : Setting) (log : Log) → StandsForLog g log (the_view c.self.inside)
@@ -39,10 +37,8 @@ made : (c : goal.After-apply) → (g : Setting) (log : Log) → StandsForLog g l
 made c g log stands =
     let own = past c.args.edge g c.args.self.now (the_view c.self.inside) c.self.view_is stands.setting c.requires in
     let may = met c.args.edge c.self.inside.root c.may.result c.in_default.is c.may.ensures in
-    root_makes g log (the_view c.self.inside) stands (Settle c.args.edge) (le-leb _ _ own) may
-    c.acknowledged-word.result
-    (settle_sees g log (the_view c.self.inside) stands c.args.edge own may c.acknowledged-word.result
-    c.acknowledged-word.ensures) c.apply.new.self c.apply.result c.apply.ensures
+    root_settles g log (the_view c.self.inside) stands c.args.edge own may c.acknowledged-word.result
+    c.acknowledged-word.ensures c.apply.new.self c.apply.result c.apply.ensures
 
 pub invariant_of-self : goal.invariant_of-self
 invariant_of-self c = let some = c.self.invariant in

@@ -1,6 +1,8 @@
 //! Reports of plays in several sittings, worked out by hand.
 
 use super::*;
+use crate::tests::wide;
+use chip_fire::Resumed;
 use std::process::Abort;
 use std::test::Fail;
 
@@ -28,6 +30,19 @@ fn first_sitting(rt: HostRuntime) -> Result<(), Fail> {
     assert_eq!(&rt; resumed.outcome.fired.as_slice(), [2, 1, 0].as_slice());
     assert_eq!(&rt; resumed.outcome.over.as_slice(), [0].as_slice());
     assert_eq!(&rt; resumed.prior.as_slice(), [0, 0, 0].as_slice());
+    Ok(())
+}
+
+#[test]
+fn the_widest_sitting(rt: HostRuntime) -> Result<(), Fail> {
+    let last = wide(rt.alloc(), 4_096, "1099511627776")?;
+    let outcome = read_report(rt.alloc(), last.as_bytes())?;
+    let prior = vec![in rt.alloc(); 1 << 60; 4_096]?;
+    let resumed = Resumed { outcome, prior };
+    let text = report_two(rt.alloc(), &resumed)?;
+    // `,"prior":[]`, 19 digits for each vertex and a comma between two of them
+    assert_eq!(&rt; text.len().checked_sub(last.len()), Some(81_930));
+    assert!(&rt; read_any(rt.alloc(), &text)? == resumed);
     Ok(())
 }
 

@@ -143,19 +143,33 @@ fn each_cut_of_a_report_is_none(rt: HostRuntime) {
     }
 }
 
-/// A report of so many vertices with these chips and firings each, of which all but the last are over.
-fn wide(alloc: Global, vertices: u64, number: &str) -> Result<String, Fail> {
+/// How many vertices of a wide report are over.
+const HALF: u64 = 2_048;
+
+/// A report of so many vertices with these chips and firings each. The first half is over, and of the others all but
+/// the last one were sealed.
+pub(crate) fn wide(alloc: Global, vertices: u64, number: &str) -> Result<String, Fail> {
     let mut text = String::new(alloc);
     text.push_str("{\"chips\":[")?;
     push_same(&mut text, vertices, number)?;
     text.push_str("],\"closed\":false,\"fired\":[")?;
     push_same(&mut text, vertices, number)?;
-    text.push_str("],\"over\":[0")?;
-    for vertex in 1..vertices.saturating_sub(1) {
-        write!(text, ",{vertex}")?;
-    }
-    text.push_str("],\"sealed\":[],\"version\":1}\n")?;
+    text.push_str("],\"over\":[")?;
+    push_vertices(&mut text, 0, HALF)?;
+    text.push_str("],\"sealed\":[")?;
+    push_vertices(&mut text, HALF, vertices.saturating_sub(1))?;
+    text.push_str("],\"version\":1}\n")?;
     Ok(text)
+}
+
+fn push_vertices(text: &mut String, from: u64, end: u64) -> Result<(), Fail> {
+    for vertex in from..end {
+        if vertex > from {
+            text.push_str(",")?;
+        }
+        write!(text, "{vertex}")?;
+    }
+    Ok(())
 }
 
 fn push_same(text: &mut String, times: u64, number: &str) -> Result<(), Fail> {
@@ -173,12 +187,21 @@ fn the_widest_report(rt: HostRuntime) -> Result<(), Fail> {
     let text = wide(rt.alloc(), 4_096, "1099511627776")?;
     let read = read_report(rt.alloc(), text.as_bytes())?;
     assert_eq!(rt;
-        (read.fired.len(), read.chips.len(), read.over.len()),
-        (4_096, 4_096, 4_095)
+        (
+            read.fired.len(),
+            read.chips.len(),
+            read.over.len(),
+            read.sealed.len()
+        ),
+        (4_096, 4_096, 2_048, 2_047)
     );
     assert_eq!(rt;
-        (read.chips.last().copied(), read.over.last().copied()),
-        (Some(1 << 40), Some(4_094))
+        (
+            read.chips.last().copied(),
+            read.over.last().copied(),
+            read.sealed.last().copied()
+        ),
+        (Some(1 << 40), Some(2_047), Some(4_094))
     );
     let wider = wide(rt.alloc(), 4_097, "0")?;
     assert_eq!(rt;

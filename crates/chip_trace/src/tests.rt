@@ -99,6 +99,52 @@ fn writes_the_triangle(rt: HostRuntime) -> Result<(), Fail> {
     Ok(())
 }
 
+/// A vertex with one edge to the sink, and 50,000 chips on it; its root edge is 1.
+fn single(alloc: Global) -> Result<Game, Fail> {
+    let mut edges = Vec::new(alloc);
+    edges.push(Edge {
+        tail: 0,
+        head: 1,
+        mult: 1,
+    })?;
+    let graph = Graph::new(alloc, 2, 1, edges)?;
+    Ok(Game::new(graph, [50_000, 0].to_vec(alloc)?, 1 << 40)?)
+}
+
+/// A run of it: 50,000 firings of one, each message taken by itself.
+fn long_run(alloc: Global) -> Result<Vec<Vec<TraceRow>>, Fail> {
+    let mut sender = vec![in alloc; fire(1); 50_000]?;
+    sender.insert(0, take(1, 50_000))?;
+    let mut traces = Vec::new(alloc);
+    traces.push(sender)?;
+    traces.push(vec![in alloc; take(0, 1); 50_000]?)?;
+    Ok(traces)
+}
+
+#[test]
+fn replays_a_long_run(rt: HostRuntime) -> Result<(), Fail> {
+    let game = single(rt.alloc())?;
+    let traces = long_run(rt.alloc())?;
+    assert!(rt; traces.len() as u64 == game.graph().vertices());
+    let fired = replay(rt.alloc(), &game, &traces)?;
+    assert_eq!(rt;
+        (fired.len(), fired.last().copied()),
+        (50_000, Some((0, 1)))
+    );
+    Ok(())
+}
+
+#[test]
+fn writes_a_long_run(rt: HostRuntime) -> Result<(), Fail> {
+    let traces = long_run(rt.alloc())?;
+    assert!(rt; traces.len() == 2);
+    let mut written = Vec::new(rt.alloc());
+    write_trace(rt.alloc(), &[&traces[0], &traces[1]], &mut written)?;
+    assert_eq!(rt; written.len(), 1_100_038, "more than a mebibyte");
+    assert!(rt; written.ends_with(b"1,take,0,1\n1,take,0,1\n"));
+    Ok(())
+}
+
 /// A writer that takes nothing.
 #[derive(Drop)]
 struct Full;

@@ -1,9 +1,9 @@
 -- One operation of an actor over the net: it may be made, and the actor's hand has it then.
-use Rattle.std.proofs.Common.{◌≡◌, ℕ, ◌<◌, List, [], ◌∷◌, ◌++◌, append_assoc, append-nil, refl, sym, ap, ◌∙◌, subst, arith}
+use Rattle.std.proofs.Common.{◌≡◌, ℕ, ◌<◌, List, [], ◌∷◌, ◌++◌, append_assoc, append-nil, sym, ap, ◌∙◌, subst, arith}
 use Rattle.atomic_table.specs.Seated.{TableId}
 use Rattle.atomic_table.specs.Table.{Allows}
 use Rattle.chip_link.specs.declared.trace.TraceRow.{TraceRow}
-use Rattle.chip_actor.specs.Setting.{Setting, IsSetting}
+use Rattle.chip_actor.specs.Setting.{Setting}
 use Rattle.chip_actor.specs.declared.act.Act.{Act}
 use Rattle.chip_actor.specs.Acting.{event_of, FitsSeen}
 use Rattle.chip_actor.specs.Medium.{IsDueBy}
@@ -18,7 +18,7 @@ use Rattle.chip_net.specs.Layout.{index_of, word_count}
 use Rattle.chip_net.specs.Views.{View, grown, did_in, Has, part_of_view}
 use Rattle.chip_net.specs.Rule.{Kept, step_of, Stepped, Grows}
 use Rattle.chip_net.specs.Traces.{TraceState, Keeps, row_of, rows_of}
-use Rattle.chip_net.specs.Tokens.{NetId, ActorKnown, part_known, after_these, IsHand, IsDueFor, MakesStep}
+use Rattle.chip_net.specs.Tokens.{NetId, ActorKnown, IsHand, IsDueFor, MakesStep}
 use Rattle.chip_net.proofs.Laying.{inside}
 use Rattle.chip_net.proofs.Viewing.{grown_has}
 use Rattle.chip_net.proofs.Ruling.{Mine, word_of, left_over, act_word, act_allowed}

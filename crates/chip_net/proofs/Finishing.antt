@@ -24,7 +24,7 @@ use Rattle.chip_core.proofs.NumberLemmas.{words_tell}
 use Rattle.chip_core.proofs.ClosingLemmas.{all_ended}
 use Rattle.chip_core.proofs.OutcomeLemmas.{never_negative, comes, in_range, is_played}
 use Rattle.chip_net.specs.Roots.{RootKnown, root_after}
-use Rattle.chip_net.specs.Finish.{reads_from, IsReadOut, TallyState, limit_at, seal_at, AreRead, IsReading, IsOneEnd, Finishes}
+use Rattle.chip_net.specs.Finish.{reads_from, IsReadOut, TallyState, limit_at, seal_at, IsReading, IsOneEnd, Finishes}
 use Rattle.chip_net.proofs.Unsealed.{never_sealed}
 
 none_listed : (v : ℕ) → Contains [] v → ⊥

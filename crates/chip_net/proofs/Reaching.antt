@@ -1,7 +1,6 @@
 -- The rule of the table says that the world is reached.
-use Rattle.std.proofs.Common.{◌≡◌, ℕ, ◌<◌, List, sym, subst}
-use Rattle.chip_actor.specs.Setting.{Setting}
-use Rattle.chip_core.specs.Core.{Step, Part, all_edges, part_in, word_of_part}
+use Rattle.std.proofs.Common.{◌≡◌, ℕ, List, subst}
+use Rattle.chip_core.specs.Core.{Step, Part, part_in, word_of_part}
 use Rattle.chip_core.specs.Histories.{done_by}
 use Rattle.chip_core.specs.Words.{of_vertex}
 use Rattle.chip_core.specs.Reached.{parts_by}

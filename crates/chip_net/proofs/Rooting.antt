@@ -1,5 +1,5 @@
 -- The root: an event of its own over the net, and a poll of settles.
-use Rattle.std.proofs.Common.{◌≡◌, ℕ, ◌+◌, ◌<◌, ◌≤◌, true, leb, List, [], ◌∷◌, ◌++◌, None, refl, sym, ap, ◌∙◌, subst, arith, add-one, append_assoc}
+use Rattle.std.proofs.Common.{◌≡◌, ℕ, ◌+◌, ◌<◌, true, List, [], ◌∷◌, ◌++◌, None, sym, ap, ◌∙◌, subst, arith, add-one, append_assoc}
 use Rattle.std.proofs.lemmas.List.{map-append}
 use Rattle.std.proofs.lemmas.Bool.{le-leb}
 use Rattle.atomic_table.specs.Seated.{TableId}
@@ -11,7 +11,7 @@ use Rattle.chip_actor.specs.Acting.{FitsSeen}
 use Rattle.chip_actor.specs.Root.{Root, RootStandsFor, SomeRoot, is_of_root, RootCanDo, RootMakes}
 use Rattle.chip_actor.proofs.EdgeLemmas.{tail_root}
 use Rattle.chip_actor.proofs.RuleLemmas.{met_rules}
-use Rattle.chip_core.specs.Core.{Step, Event, Settle, Part, Reply, opened, unmet, part_of, part_in, out_in, into_in, does, tail_of}
+use Rattle.chip_core.specs.Core.{Step, Event, Settle, Part, Reply, opened, unmet, part_of, part_in, out_in, into_in, tail_of}
 use Rattle.chip_core.specs.Histories.{part_by}
 use Rattle.chip_core.specs.Words.{touched, left_by}
 use Rattle.chip_core.proofs.ReachingLemmas.{by_history}
@@ -21,7 +21,6 @@ use Rattle.chip_net.specs.contracts.root.Root.{the_view}
 use Rattle.chip_net.specs.Layout.{index_of, word_count}
 use Rattle.chip_net.specs.Views.{View, find, grown, did_in, Has, part_of_view}
 use Rattle.chip_net.specs.Rule.{Kept, step_of, Stepped, Grows}
-use Rattle.chip_net.specs.Tokens.{NetId}
 use Rattle.chip_net.specs.Roots.{RootKnown, root_after, IsRoot, Settles, root_settles, IsPolling}
 use Rattle.chip_net.proofs.Viewing.{grown_has, grown_part, find_else}
 use Rattle.chip_net.proofs.Ruling.{Mine, event_room, event_allowed}

@@ -14,14 +14,14 @@ use Rattle.chip_actor.specs.declared.act.Act as operation
 use Rattle.chip_actor.specs.declared.act.Act.TheVariants as Do
 use Rattle.chip_actor.specs.Acting.{act_of, event_of}
 use Rattle.chip_actor.specs.Medium.{IsDueBy}
-use Rattle.chip_core.specs.Core.{Log, Step, Event, Take, Ack, Fire, Clear, Claim, Put, Halt, Settle, Seal, Read, Part, opened, unmet, part_of, part_in, sees, Fits}
+use Rattle.chip_core.specs.Core.{Log, Step, Event, Take, Ack, Fire, Clear, Claim, Put, Halt, Settle, Seal, Read, Part, opened, unmet, part_of, sees, Fits}
 use Rattle.chip_core.specs.Histories.{done_by, part_by}
 use Rattle.chip_core.specs.Words.{Word, of_edge, of_acks, of_cell, of_vertex, IsWord, halt_bits, touched, left_by, noted, IsShown, IsLeft, acting}
 use Rattle.chip_core.proofs.ReachingLemmas.{by_history}
 use Rattle.chip_core.proofs.Showing.{word_for, word_there, finds, words_go_on}
 use Rattle.chip_net.specs.Layout.{index_of, word_count, value_in}
 use Rattle.chip_net.specs.Views.{View, find, grow, grown, did_in, Has, part_of_view}
-use Rattle.chip_net.specs.Rule.{Kept, step_of, Stepped, Grows}
+use Rattle.chip_net.specs.Rule.{Kept, step_of, Grows}
 use Rattle.chip_net.proofs.Laying.{inside, written_here, written_else}
 use Rattle.chip_net.proofs.Viewing.{some_is, set_there, find_here, find_else}
 

@@ -1,5 +1,5 @@
 -- The stopper: a seal of an edge.
-use Rattle.std.proofs.Common.{◌≡◌, ℕ, ◌<◌, not, List, [], ◌∷◌, ◌++◌, Option, Some, None, is_some, refl, sym, ap, ◌∙◌, subst, arith, bit_or, ◌^◌}
+use Rattle.std.proofs.Common.{◌≡◌, ℕ, ◌<◌, not, [], ◌∷◌, ◌++◌, Option, Some, None, is_some, refl, sym, ap, ◌∙◌, subst, arith, bit_or, ◌^◌}
 use Rattle.std.specs.Prelude.{is_none}
 use Rattle.atomic_table.specs.Seated.{TableId}
 use Rattle.atomic_table.specs.Table.{Allows}
@@ -11,7 +11,7 @@ use Rattle.chip_link.proofs.WordLaws.{read_edge}
 use Rattle.chip_actor.specs.Setting.{Setting, IsSetting}
 use Rattle.chip_actor.specs.Edges.{stopper, graph_edges}
 use Rattle.chip_actor.proofs.RuleLemmas.{met_rules}
-use Rattle.chip_core.specs.Core.{Step, Seal, Part, opened, unmet, part_in, out_in, stop_in, does}
+use Rattle.chip_core.specs.Core.{Step, Seal, Part, opened, part_in, out_in, stop_in, does}
 use Rattle.chip_core.specs.Histories.{part_by}
 use Rattle.chip_core.proofs.ReachingLemmas.{by_history}
 use Rattle.chip_core.proofs.LogLemmas.{edge_sound}
@@ -19,9 +19,9 @@ use Rattle.chip_core.proofs.NumberLemmas.{claims_most}
 use Rattle.chip_net.specs.declared.stopper.Stopper.TheInside.{Inside}
 use Rattle.chip_net.specs.declared.stopper.SealedAt.{SealedAt}
 use Rattle.chip_net.specs.contracts.stopper.Stopper.{the_view}
-use Rattle.chip_net.specs.Views.{View, grown, did_in, Has, part_of_view}
+use Rattle.chip_net.specs.Views.{grown, did_in, Has, part_of_view}
 use Rattle.chip_net.specs.Rule.{Kept, Stepped, Grows}
-use Rattle.chip_net.specs.Roots.{StopperKnown, stopper_part, Seals}
+use Rattle.chip_net.specs.Roots.{StopperKnown, Seals}
 use Rattle.chip_net.proofs.Viewing.{grown_has, grown_part}
 use Rattle.chip_net.proofs.Ruling.{Mine, event_allowed}
 

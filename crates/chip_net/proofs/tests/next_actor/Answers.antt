@@ -1,4 +1,4 @@
-use Rattle.std.proofs.Common.{◌≡◌, ◌++◌, ◌<◌, ◌+◌, List, length, length-append, get_or, option_to_list, sym, ap, ◌∙◌, arith}
+use Rattle.std.proofs.Common.{List, length, length-append, get_or, option_to_list, sym, ap, ◌∙◌, arith}
 use Rattle.std.proofs.lemmas.List.{get_or_append_left}
 use Rattle.chip_net.specs.Tokens.{ActorKnown}
 use Rattle.chip_net.proofs.tests.next_actor.Goals as goal

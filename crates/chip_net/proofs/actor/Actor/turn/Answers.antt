@@ -1,6 +1,6 @@
-use Rattle.std.proofs.Common.{◌≡◌, ◌∙◌, Some, sym, ap, subst, arith, ℕ}
+use Rattle.std.proofs.Common.{◌≡◌, ◌∙◌, sym, ap, subst, arith}
 use Rattle.chip_net.specs.declared.actor.Turn.{Turn}
-use Rattle.chip_net.specs.Tokens.{ActorKnown, MakesTurn, known_of, part_known}
+use Rattle.chip_net.specs.Tokens.{MakesTurn, known_of, part_known}
 use Rattle.chip_net.proofs.Answering.{worked, waiting, idle}
 use Rattle.chip_net.proofs.actor.Actor.turn.Goals as goal
 use Rattle.chip_net.proofs.actor.Actor.turn.Goals.{then-work-gt0, else-work-gt0+then-passive, else-work-gt0+else-passive}

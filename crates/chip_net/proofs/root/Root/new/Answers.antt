@@ -3,7 +3,7 @@ use Rattle.std.proofs.lemmas.List.{length-replicate}
 use Rattle.chip_graph.specs.ChipGame.{ChipGame}
 use Rattle.chip_actor.specs.Setting.{Setting, setting_of}
 use Rattle.chip_actor.specs.Root.{RootStandsFor}
-use Rattle.chip_core.specs.Core.{Step, Part, opened}
+use Rattle.chip_core.specs.Core.{Step, opened}
 use Rattle.chip_core.specs.Histories.{part_by}
 use Rattle.chip_net.specs.Views.{steps_or_none}
 use Rattle.chip_net.specs.Finish.{blank_tally}

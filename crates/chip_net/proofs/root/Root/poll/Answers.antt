@@ -1,4 +1,4 @@
-use Rattle.std.proofs.Common.{◌≡◌, ◌<◌, ap, ◌∙◌, arith, sym}
+use Rattle.std.proofs.Common.{ap, ◌∙◌, arith}
 use Rattle.chip_net.specs.Tokens.{NetId}
 use Rattle.chip_net.proofs.Rooting.{polls_more, polling_net}
 use Rattle.chip_net.proofs.root.Root.poll.Goals as goal

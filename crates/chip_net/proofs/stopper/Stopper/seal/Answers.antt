@@ -1,5 +1,5 @@
 use Rattle.std.proofs.Common.{◌≡◌, ◌<◌, not, sym, ap, ◌∙◌, subst, arith}
-use Rattle.chip_actor.specs.Setting.{Setting, IsSetting}
+use Rattle.chip_actor.specs.Setting.{IsSetting}
 use Rattle.chip_actor.specs.Edges.{graph_edges}
 use Rattle.chip_net.specs.Tokens.{NetId}
 use Rattle.chip_net.specs.Roots.{StopperKnown}

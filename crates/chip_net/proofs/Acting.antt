@@ -26,9 +26,11 @@ use Rattle.chip_net.proofs.Ruling.{Mine, word_of, left_over, act_word, act_allow
 -- the rows of one step more
 pub rows_push : (xs : List Step) (x : Step) → rows_of (xs ++ x ∷ []) ≡ rows_of xs ++ row_of x.event x.seen
 rows_push [] x = append-nil (row_of x.event x.seen)
-rows_push (y ∷ ys) x = ap (λ (rows : List TraceRow). row_of y.event y.seen ++ rows) (rows_push ys x) ∙ sym (append_assoc (row_of y.event y.seen) (rows_of ys) (row_of x.event x.seen))
+rows_push (y ∷ ys) x = ap (λ (rows : List TraceRow). row_of y.event y.seen ++ rows) (rows_push ys x)
+    ∙ sym (append_assoc (row_of y.event y.seen) (rows_of ys) (row_of x.event x.seen))
 
-module _ (i : Inside) (hand : IsHand i.setup.value i.vertex i.seat.me.0 i.trace) (own : ActorKnown) (view_is : the_view i ≡ own) (here : NetId) (net_is : own.net ≡ here) (act : Act) (due : IsDueFor own act) where
+module _ (i : Inside) (hand : IsHand i.setup.value i.vertex i.seat.me.0 i.trace) (own : ActorKnown)
+    (view_is : the_view i ≡ own) (here : NetId) (net_is : own.net ≡ here) (act : Act) (due : IsDueFor own act) where
   abbrev g : Setting
   g = i.setup.value
 
@@ -52,27 +54,37 @@ module _ (i : Inside) (hand : IsHand i.setup.value i.vertex i.seat.me.0 i.trace)
 
   -- its word is there
   pub word_there : (s : Setting) → s ≡ here.setting → IsWord s (word_of v act)
-  word_there s same = subst (λ (h : Setting). IsWord h (word_of v act)) (setting_is s same) (act_word g 0 0 i.seat.me v (did_in v view) hand.has hand.setting hand.inside act due')
+  word_there s same = subst (λ (h : Setting). IsWord h (word_of v act)) (setting_is s same)
+      (act_word g 0 0 i.seat.me v (did_in v view) hand.has hand.setting hand.inside act due')
 
   pub same_table : (z : TableId) → z ≡ here.table → i.seat.table_id ≡ z
   same_table z same = ap (λ (n : NetId). n.table) here_is ∙ sym same
 
-  pub word_room : (s : Setting) → s ≡ here.setting → (z : TableId) → z ≡ here.table → here.table.words ≡ word_count here.setting → (word : ℕ) → word ≡ index_of s (word_of v act) → word < z.words
+  pub word_room : (s : Setting) → s ≡ here.setting → (z : TableId) → z ≡ here.table
+      → here.table.words ≡ word_count here.setting → (word : ℕ) → word ≡ index_of s (word_of v act) → word < z.words
   word_room s same z table count word at =
       let l = inside s (word_of v act) (word_there s same) in
       let words : z.words ≡ word_count s = ap (λ (t : TableId). t.words) table ∙ count ∙ ap word_count (sym same) in
       omega arith
 
   -- and the rule allows the operation
-  pub act_rule : (key : Setting) → key ≡ here.setting → (s : Setting) → s ≡ here.setting → (slots word : ℕ) → word ≡ index_of s (word_of v act) → Allows (Kept key) slots i.seat.id i.seat.me word (left_over act) (Grows key x i.seat.me)
+  pub act_rule : (key : Setting) → key ≡ here.setting → (s : Setting) → s ≡ here.setting → (slots word : ℕ)
+      → word ≡ index_of s (word_of v act)
+      → Allows (Kept key) slots i.seat.id i.seat.me word (left_over act) (Grows key x i.seat.me)
   act_rule key key_is s same slots word at =
-      subst (λ (z : Setting × ℕ). Allows (Kept z.0) slots i.seat.id i.seat.me z.1 (left_over act) (Grows z.0 x i.seat.me))
-      (λ j. (setting_is key key_is j, (ap (λ (h : Setting). index_of h (word_of v act)) (setting_is s same) ∙ sym at) j))
+      subst (λ (z : Setting × ℕ). Allows (Kept z.0) slots i.seat.id i.seat.me z.1 (left_over act)
+      (Grows z.0 x i.seat.me))
+      (λ j. (
+        setting_is key key_is j,
+        (ap (λ (h : Setting). index_of h (word_of v act)) (setting_is s same)
+            ∙ sym at) j,
+      ))
       (act_allowed g slots i.seat.id i.seat.me v (did_in v view) hand.has hand.inside act due')
 
   -- ---- what it told
 
-  module _ (key : Setting) (key_is : key ≡ here.setting) (seen : ℕ) (me : Mine) (told : Grows key x i.seat.me seen me) where
+  module _ (key : Setting) (key_is : key ≡ here.setting) (seen : ℕ) (me : Mine)
+      (told : Grows key x i.seat.me seen me) where
     abbrev made : Step
     made = step_of x seen
 
@@ -80,7 +92,8 @@ module _ (i : Inside) (hand : IsHand i.setup.value i.vertex i.seat.me.0 i.trace)
     stepped = subst (λ (h : Setting). Stepped h made view) (sym (setting_is key key_is)) told.1
 
     after : me.0 ≡ grown v made view
-    after = told.0 ∙ ap (λ (p : ℕ). grown p made view) (ap (λ (h : Setting). part_of h x) (sym (setting_is key key_is)) ∙ due'.mine)
+    after = told.0 ∙ ap (λ (p : ℕ). grown p made view) (ap (λ (h : Setting). part_of h x) (sym (setting_is key key_is))
+        ∙ due'.mine)
 
     longer : (did_in v me.0 ≡ did_in v view ++ made ∷ []) × Has v me.0
     longer = grown_has v made view me.0 hand.has after
@@ -92,23 +105,40 @@ module _ (i : Inside) (hand : IsHand i.setup.value i.vertex i.seat.me.0 i.trace)
     fits : FitsSeen (part_of_view g v view) x (noted x seen)
     fits =
         let log = stepped.log in
-        let told' : FitsSeen (part_in g log (part_of g x)) x (sees g log x) = fits_seen g hand.setting.game hand.setting.some_ring log stepped.legal.0 x (subst (λ (n : ℕ). n < g.graph.vertices) (sym due'.mine) hand.inside) stepped.legal.1.0 in
-        subst (λ (z : Part × ℕ). FitsSeen z.0 x z.1) (λ j. ((ap (part_in g log) due'.mine ∙ sym in_log) j, sym stepped.legal.1.1 j)) told'
+        let told' : FitsSeen (part_in g log (part_of g x)) x (sees g log x) =
+        fits_seen g hand.setting.game hand.setting.some_ring log stepped.legal.0 x
+        (subst (λ (n : ℕ). n < g.graph.vertices) (sym due'.mine) hand.inside) stepped.legal.1.0 in
+        subst (λ (z : Part × ℕ). FitsSeen z.0 x z.1)
+        (λ j. ((ap (part_in g log) due'.mine ∙ sym in_log) j, sym stepped.legal.1.1 j)) told'
 
-    module _ (trace : TraceState) (keeps : (all : List TraceRow) → Keeps all i.trace → Keeps (all ++ row_of x (noted x seen)) trace) where
+    module _ (trace : TraceState) (keeps : (all : List TraceRow) → Keeps all i.trace
+        → Keeps (all ++ row_of x (noted x seen)) trace) where
       pub still_hand : IsHand g v me.0 trace
       still_hand = record {
         setting = hand.setting;
         inside = hand.inside;
         has = longer.1;
-        traced = subst (λ (rows : List TraceRow). Keeps rows trace) (sym (ap rows_of longer.0 ∙ rows_push (did_in v view) made)) (keeps (rows_of (did_in v view)) hand.traced);
+        traced = subst (λ (rows : List TraceRow). Keeps rows trace)
+            (sym (ap rows_of longer.0 ∙ rows_push (did_in v view) made)) (keeps (rows_of (did_in v view)) hand.traced);
       }
 
     pub makes : (table : TableId) → table ≡ i.seat.table_id → (room : ℕ) → room ≡ i.trace.room
-        → MakesStep own (record { net = record { table = table; setting = g }; vertex = v; room = room; did = did_in v me.0 }) act (noted x seen)
+        → MakesStep own (record {
+          net = record { table = table; setting = g };
+          vertex = v;
+          room = room;
+          did = did_in v me.0;
+        }) act (noted x seen)
     makes table table_is room room_is =
-        subst (λ (k : ActorKnown). MakesStep k (record { net = record { table = table; setting = g }; vertex = v; room = room; did = did_in v me.0 }) act (noted x seen)) view_is record {
-          record_is = λ j. record { net = record { table = table_is j; setting = g }; vertex = v; room = room_is j; did = longer.0 j };
+        subst (λ (k : ActorKnown). MakesStep k
+        (record { net = record { table = table; setting = g }; vertex = v; room = room; did = did_in v me.0 }) act
+        (noted x seen)) view_is record {
+          record_is = λ j. record {
+            net = record { table = table_is j; setting = g };
+            vertex = v;
+            room = room_is j;
+            did = longer.0 j;
+          };
           fits = fits;
         }
 

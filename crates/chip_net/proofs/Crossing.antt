@@ -1,5 +1,5 @@
--- The tokens of a net may go to other threads, and threads may share the net. Of a struct each of whose fields has it so this is found
--- by itself; a `Snapshot` has it by a lemma of std's alone, so of what holds one it is said here.
+-- The tokens of a net may go to other threads, and threads may share the net. Of a struct each of whose fields has it
+-- so this is found by itself; a `Snapshot` has it by a lemma of std's alone, so of what holds one it is said here.
 use mir.Syntax.{Lifetime}
 use base.Fml.{Lft}
 use denote.Ref.{ShrRef}

@@ -1,5 +1,7 @@
 -- What the root makes of its reads.
-use Rattle.std.proofs.Common.{◌≡◌, ℕ, zero, suc, ◌<◌, ◌||◌, ◌&&◌, Bool, not, true, false, List, [], ◌∷◌, length, map, get_or, slice_index, Option, Some, None, is_some, Contains, refl, sym, ap, ◌∙◌, subst, arith}
+use Rattle.std.proofs.Common.{◌≡◌, ℕ, zero, suc, ◌<◌, ◌||◌, ◌&&◌, Bool, not, true, false, List, [], ◌∷◌, length, map}
+use Rattle.std.proofs.Common.{get_or, slice_index, Option, Some, None, is_some, Contains, refl, sym, ap, ◌∙◌, subst}
+use Rattle.std.proofs.Common.{arith}
 use Rattle.std.proofs.lemmas.List.{get_or_past, length-map}
 use Rattle.chip_graph.specs.ChipGame.{ChipGame}
 use Rattle.chip_graph.specs.Sums.{picked}
@@ -38,7 +40,8 @@ picked_none test (suc n) off = picked_no test n (off n (omega arith)) ∙ picked
 -- ---- at the end
 
 -- a word of a vertex is one
-pub fired_word_is : (g : Setting) → IsSetting g → (log : Log) → IsLegalLog g log → (v word : ℕ) → word ≡ word_of_part (part_in g log v) → is_fired_word word ≡ true
+pub fired_word_is : (g : Setting) → IsSetting g → (log : Log) → IsLegalLog g log → (v word : ℕ)
+    → word ≡ word_of_part (part_in g log v) → is_fired_word word ≡ true
 fired_word_is g setting log legal v word is =
     let told = words_tell g setting.game setting.some_ring log legal in
     ap is_fired_word is ∙ (λ i. told.halted v i || not (told.by_limit v i)) ∙ by_cause (part_in g log v).halt
@@ -58,7 +61,8 @@ mapped f zero_is [] k = get_or_past [] k 0 (omega arith) ∙ sym (ap f (get_or_p
 mapped f zero_is (x ∷ xs) zero = refl
 mapped f zero_is (x ∷ xs) (suc k) = mapped f zero_is xs k
 
-module _ (old now : RootKnown) (setting : IsSetting old.net.setting) (tally : TallyState) (reading : IsReading old now tally old.net.setting.graph.vertices) where
+module _ (old now : RootKnown) (setting : IsSetting old.net.setting) (tally : TallyState)
+    (reading : IsReading old now tally old.net.setting.graph.vertices) where
   abbrev h : Setting
   h = old.net.setting
 
@@ -78,27 +82,33 @@ module _ (old now : RootKnown) (setting : IsSetting old.net.setting) (tally : Ta
     are_fired : AreFired h out'.log h.graph.vertices fired
     are_fired = record {
       count_is = ap length (fired_is ∙ reading.tallied.fired) ∙ length-map reading.words fired_in ∙ reading.count_is;
-      each = λ v l. ap (λ (xs : List ℕ). get_or xs v 0) (fired_is ∙ reading.tallied.fired) ∙ mapped fired_in refl reading.words v ∙ ap fired_in (word_at v l) ∙ told.fired v;
+      each = λ v l. ap (λ (xs : List ℕ). get_or xs v 0) (fired_is ∙ reading.tallied.fired)
+          ∙ mapped fired_in refl reading.words v ∙ ap fired_in (word_at v l) ∙ told.fired v;
     }
 
     pub none_negative : (v : ℕ) → IsBelowZero h.graph (λ u. get_or h.start u 0) (λ u. get_or fired u 0) v → ⊥
     none_negative = never_negative h setting.game setting.some_ring out'.log out'.legal fired are_fired
 
-  module _ (o : Outcome) (fired_is : o.fired.items ≡ tally.fired) (over_is : o.over.items ≡ tally.over) (sealed_is : o.sealed.items ≡ tally.sealed) (chips : IsAfter (game_of_setting h) o.fired.items o.chips.items) where
+  module _ (o : Outcome) (fired_is : o.fired.items ≡ tally.fired) (over_is : o.over.items ≡ tally.over)
+      (sealed_is : o.sealed.items ≡ tally.sealed) (chips : IsAfter (game_of_setting h) o.fired.items o.chips.items) where
     outcome_is : IsOutcomeOf h out'.log o
     outcome_is = record {
       fired = are_fired o.fired.items fired_is;
       chips = chips;
       over = over_is ∙ reading.tallied.over ∙ ap (picked (limit_at reading.words)) reading.count_is
-          ∙ picked_ext (limit_at reading.words) (λ v. is_by_limit (part_in h out'.log v).halt) h.graph.vertices (λ v l. ap by_limit_in (word_at v l) ∙ told.by_limit v);
+          ∙ picked_ext (limit_at reading.words) (λ v. is_by_limit (part_in h out'.log v).halt) h.graph.vertices
+          (λ v l. ap by_limit_in (word_at v l) ∙ told.by_limit v);
       sealed = sealed_is ∙ reading.tallied.sealed ∙ ap (picked (seal_at reading.words)) reading.count_is
           ∙ picked_ext (seal_at reading.words) (λ v. is_by_seal (part_in h out'.log v).halt) h.graph.vertices
-          (λ v l. ap (λ (w : ℕ). halted_in w && not (by_limit_in w)) (word_at v l) ∙ (λ i. told.halted v i && not (told.by_limit v i)) ∙ seal_is (part_in h out'.log v).halt);
+          (λ v l. ap (λ (w : ℕ). halted_in w && not (by_limit_in w)) (word_at v l)
+          ∙ (λ i. told.halted v i && not (told.by_limit v i)) ∙ seal_is (part_in h out'.log v).halt);
     }
 
     -- where no seal is listed, none halted a vertex
     no_seals : o.sealed.items ≡ [] → NoneHaltedBySeal h out'.log
-    no_seals empty v l seal = none_listed v (subst (λ (xs : List ℕ). Contains xs v) (sym outcome_is.sealed ∙ empty) (picked_has (λ u. is_by_seal (part_in h out'.log u).halt) h.graph.vertices v l (ap is_by_seal seal)))
+    no_seals empty v l seal = none_listed v
+        (subst (λ (xs : List ℕ). Contains xs v) (sym outcome_is.sealed
+        ∙ empty) (picked_has (λ u. is_by_seal (part_in h out'.log u).halt) h.graph.vertices v l (ap is_by_seal seal)))
 
     -- and where the limit's list is empty too, none halted at all
     no_halts : o.over.items ≡ [] → o.sealed.items ≡ [] → NoneHalted h out'.log
@@ -107,14 +117,19 @@ module _ (old now : RootKnown) (setting : IsSetting old.net.setting) (tally : Ta
         by_cause : (c : Option Cause) → (part_in h out'.log v).halt ≡ c → (part_in h out'.log v).halt ≡ None
         by_cause None is = is
         by_cause (Some SealedEdge) is = absurd (no_seals sealed v l is)
-        by_cause (Some FiringLimit) is = absurd (none_listed v (subst (λ (xs : List ℕ). Contains xs v) (sym outcome_is.over ∙ over) (picked_has (λ u. is_by_limit (part_in h out'.log u).halt) h.graph.vertices v l (ap is_by_limit is))))
+        by_cause (Some FiringLimit) is = absurd
+            (none_listed v (subst (λ (xs : List ℕ). Contains xs v) (sym outcome_is.over
+            ∙ over) (picked_has (λ u. is_by_limit (part_in h out'.log u).halt) h.graph.vertices v l (ap is_by_limit is))))
 
     all_come : ComesTo h (firings out'.log) o
     all_come = comes h setting.game setting.some_ring out'.log out'.legal o outcome_is
 
     one_end : o.over.items ≡ [] → o.sealed.items ≡ [] → IsOneEnd h o
     one_end over sealed vs ok ended =
-        let same = same_ends h.graph setting.game.graph_fits (slice_index h.start) (firings out'.log) vs all_come.sequence (all_ended h setting.game setting.some_ring out'.log out'.legal out'.closed (no_halts over sealed)) ok ended in
+        let same = same_ends h.graph setting.game.graph_fits (slice_index h.start)
+        (firings out'.log) vs all_come.sequence
+        (all_ended h setting.game setting.some_ring out'.log out'.legal out'.closed (no_halts over sealed)) ok ended
+        in
         ((λ v. all_come.counted v ∙ same.0 v), (λ v. all_come.position v ∙ same.1 v))
 
     -- the stopper's part stands in the root's view, and did nothing
@@ -127,18 +142,25 @@ module _ (old now : RootKnown) (setting : IsSetting old.net.setting) (tally : Ta
       words = reading.words;
       one_each = reading.count_is;
       record_is = refl;
-      read = record { fired = fired_is ∙ reading.tallied.fired; over = over_is ∙ reading.tallied.over; sealed = sealed_is ∙ reading.tallied.sealed };
+      read = record {
+        fired = fired_is ∙ reading.tallied.fired;
+        over = over_is
+            ∙ reading.tallied.over;
+        sealed = sealed_is ∙ reading.tallied.sealed;
+      };
       chips = chips;
       read_out = out';
       of_log = outcome_is;
       comes = all_come;
       in_range = in_range h setting.game setting.some_ring out'.log out'.legal o outcome_is;
-      played = λ empty. is_played h setting.game setting.some_ring out'.log out'.legal o outcome_is out'.closed (no_seals empty);
+      played = λ empty. is_played h setting.game setting.some_ring out'.log out'.legal o outcome_is out'.closed
+          (no_seals empty);
       one_end = one_end;
       unsealed = unsealed;
     }
 
 -- no vertex is below 0, so no fault names one
-pub no_fault : (g : ChipGame) (fired : List ℕ) (fault : AfterFault) → IsNegative g fired fault → ((v : ℕ) → IsBelowZero g.graph (λ u. get_or g.start u 0) (λ u. get_or fired u 0) v → ⊥) → ⊥
+pub no_fault : (g : ChipGame) (fired : List ℕ) (fault : AfterFault) → IsNegative g fired fault
+    → ((v : ℕ) → IsBelowZero g.graph (λ u. get_or g.start u 0) (λ u. get_or fired u 0) v → ⊥) → ⊥
 no_fault g fired (Negative v) is none = none v is.below
 no_fault g fired NoMemory is none = is

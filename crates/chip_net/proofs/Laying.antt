@@ -1,5 +1,6 @@
 -- Each word has a number of its own: two words with one number are one word.
-use Rattle.std.proofs.Common.{◌≡◌, ◌≢◌, ℕ, ◌+◌, ◌*◌, ◌<◌, List, length, set, ap, arith, get_or-set_same, get_or-set_other}
+use Rattle.std.proofs.Common.{◌≡◌, ◌≢◌, ℕ, ◌+◌, ◌*◌, ◌<◌, List, length, set, ap, arith, get_or-set_same}
+use Rattle.std.proofs.Common.{get_or-set_other}
 use Rattle.std.proofs.lemmas.Nat.{same_from_place, mul-add-lt}
 use Rattle.chip_actor.specs.Setting.{Setting}
 use Rattle.chip_actor.specs.Edges.{all_edges}
@@ -21,7 +22,8 @@ module _ (g : Setting) where
   one_word (of_acks e) (of_vertex v) l m is = absurd (omega arith)
   one_word (of_cell e i) (of_edge f) l m is = absurd (omega arith)
   one_word (of_cell e i) (of_acks f) l m is = absurd (omega arith)
-  one_word (of_cell e i) (of_cell f j) l m is = let same : e * g.ring + i ≡ f * g.ring + j = omega arith in let both = same_from_place e i f j g.ring l.1 m.1 same in λ k. of_cell (both.0 k) (both.1 k)
+  one_word (of_cell e i) (of_cell f j) l m is = let same : e * g.ring + i ≡ f * g.ring + j = omega arith in
+      let both = same_from_place e i f j g.ring l.1 m.1 same in λ k. of_cell (both.0 k) (both.1 k)
   one_word (of_cell e i) (of_vertex v) l m is = let b = below e i l.0 l.1 in absurd (omega arith)
   one_word (of_vertex v) (of_edge f) l m is = absurd (omega arith)
   one_word (of_vertex v) (of_acks f) l m is = absurd (omega arith)
@@ -39,5 +41,7 @@ module _ (g : Setting) where
     pub written_here : value_in g (set words (index_of g p) new) p ≡ new
     written_here = let l = inside p valid in get_or-set_same words (index_of g p) new 0 (omega arith)
 
-    pub written_else : (q : Word) → IsWord g q → q ≢ p → value_in g (set words (index_of g p) new) q ≡ value_in g words q
-    written_else q ok other = get_or-set_other words (index_of g p) (index_of g q) new 0 (λ z. other (one_word q p ok valid z))
+    pub written_else : (q : Word) → IsWord g q → q ≢ p
+        → value_in g (set words (index_of g p) new) q ≡ value_in g words q
+    written_else q ok other = get_or-set_other words (index_of g p) (index_of g q) new 0
+        (λ z. other (one_word q p ok valid z))

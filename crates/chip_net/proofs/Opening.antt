@@ -1,5 +1,6 @@
 -- The table at the opening meets the rule.
-use Rattle.std.proofs.Common.{◌≡◌, ◌≢◌, ℕ, zero, suc, ◌+◌, ◌-◌, ◌<◌, cond, eqb, ltb, List, [], ◌∷◌, length, get_or, set, length-set, replicate, Some, refl, sym, ap, ◌∙◌, subst, arith, lt-ltb, le-ltb}
+use Rattle.std.proofs.Common.{◌≡◌, ◌≢◌, ℕ, zero, suc, ◌+◌, ◌-◌, ◌<◌, cond, eqb, ltb, List, [], ◌∷◌, length, get_or, set}
+use Rattle.std.proofs.Common.{length-set, replicate, Some, refl, sym, ap, ◌∙◌, subst, arith, lt-ltb, le-ltb}
 use Rattle.std.proofs.lemmas.List.{length-replicate, get_or-replicate, get_or_past}
 use Rattle.std.proofs.Math.Nat.{mod-eq_of_lt}
 use mathlib.Core.Logic.{dite}
@@ -22,14 +23,20 @@ use Rattle.chip_net.proofs.Laying.{written_here, written_else}
 use Rattle.chip_net.proofs.Viewing.{part_there, part_empty}
 
 zeros : (n i : ℕ) → get_or {A = ℕ} (replicate n 0) i 0 ≡ 0
-zeros n i = dite (dec_lt i n) (λ l. get_or-replicate n i 0 0 l) (λ past. get_or_past (replicate n 0) i 0 (let z : ℕ = 0 in let e : length (replicate n z) ≡ n = length-replicate n z in omega arith))
+zeros n i = dite (dec_lt i n) (λ l. get_or-replicate n i 0 0 l)
+    (λ past. get_or_past (replicate n 0) i 0 (let z : ℕ = 0 in let e : length (replicate n z) ≡ n = length-replicate n z
+    in omega arith))
 
 -- on the graph's edges there is nothing
 first_none : (g : Setting) (e : ℕ) → e < graph_edges g → first_put g e ≡ []
 first_none g e l = cond_true (ltb e (graph_edges g)) _ _ (lt-ltb e (graph_edges g) l)
 
-first_root : (g : Setting) (v : ℕ) → first_put g (graph_edges g + v) ≡ cond (eqb (start_of g v) 0) [] (start_of g v ∷ [])
-first_root g v = cond_false (ltb (graph_edges g + v) (graph_edges g)) _ _ (le-ltb (graph_edges g + v) (graph_edges g) (omega arith)) ∙ ap (λ (n : ℕ). cond (eqb (start_of g n) 0) [] (start_of g n ∷ [])) (let is : (graph_edges g + v) - graph_edges g ≡ v = omega arith in is)
+first_root : (g : Setting) (v : ℕ)
+    → first_put g (graph_edges g + v) ≡ cond (eqb (start_of g v) 0) [] (start_of g v ∷ [])
+first_root g v = cond_false (ltb (graph_edges g + v) (graph_edges g)) _ _
+    (le-ltb (graph_edges g + v) (graph_edges g) (omega arith))
+    ∙ ap (λ (n : ℕ). cond (eqb (start_of g n) 0) [] (start_of g n ∷ [])) (let is : (graph_edges g + v) - graph_edges g
+    ≡ v = omega arith in is)
 
 -- of a count of edges, one more only matters at that edge
 counted : (e n : ℕ) (x : ℕ) → (e ≡ n → x ≡ 0) → cond (ltb e n) x 0 ≡ cond (ltb e (n + 1)) x 0
@@ -50,7 +57,8 @@ module _ (g : Setting) where
 
   none_laid : (e i : ℕ) → cond (ltb e (graph_edges g)) (get_or (first_put g e) i 0) 0 ≡ 0
   none_laid e i = dite (dec_lt e (graph_edges g))
-      (λ l. cond_true (ltb e (graph_edges g)) _ 0 (lt-ltb e (graph_edges g) l) ∙ ap (λ (xs : List ℕ). get_or xs i 0) (first_none g e l) ∙ get_or_past [] i 0 (omega arith))
+      (λ l. cond_true (ltb e (graph_edges g)) _ 0 (lt-ltb e (graph_edges g) l)
+      ∙ ap (λ (xs : List ℕ). get_or xs i 0) (first_none g e l) ∙ get_or_past [] i 0 (omega arith))
       (λ past. cond_false (ltb e (graph_edges g)) _ 0 (le-ltb e (graph_edges g) (omega arith)))
 
   -- before the root edges
@@ -63,63 +71,91 @@ module _ (g : Setting) where
       each (of_cell e i) l = zeros (word_count g) _ ∙ sym (none_laid e i)
       each (of_vertex v) l = zeros (word_count g) _
 
-  module _ (v : ℕ) (inside : v < g.graph.vertices) (words : List ℕ) (opening : AreOpening g (graph_edges g + v) words) where
-    abbrev edge : ℕ
-    edge = graph_edges g + v
+  module _ (v : ℕ) (inside : v < g.graph.vertices) (words : List ℕ) (opening : AreOpening g (graph_edges g + v) words)
+    where
+      abbrev edge : ℕ
+      edge = graph_edges g + v
 
-    abbrev words' : List ℕ
-    words' = set words (index_of g (of_edge edge)) 1
+      abbrev words' : List ℕ
+      words' = set words (index_of g (of_edge edge)) 1
 
-    -- a vertex without chips
-    pub opens_nothing : start_of g v ≡ 0 → AreOpening g ((graph_edges g + v) + 1) words
-    opens_nothing none = record { wide = opening.wide; each = each }
-      where
-        nothing : (e : ℕ) → e ≡ edge → first_put g e ≡ []
-        nothing e same = ap (first_put g) same ∙ first_root g v ∙ cond_yes (start_of g v) 0 _ _ none
+      -- a vertex without chips
+      pub opens_nothing : start_of g v ≡ 0 → AreOpening g ((graph_edges g + v) + 1) words
+      opens_nothing none = record { wide = opening.wide; each = each }
+        where
+          nothing : (e : ℕ) → e ≡ edge → first_put g e ≡ []
+          nothing e same = ap (first_put g) same ∙ first_root g v ∙ cond_yes (start_of g v) 0 _ _ none
 
-        each : (q : Word) → IsWord g q → value_in g words q ≡ first_value g ((graph_edges g + v) + 1) q
-        each (of_edge e) l = opening.each (of_edge e) l ∙ counted e edge _ (λ same. ap length (nothing e same))
-        each (of_acks e) l = opening.each (of_acks e) l
-        each (of_cell e i) l = opening.each (of_cell e i) l ∙ counted e edge _ (λ same. ap (λ (xs : List ℕ). get_or xs i 0) (nothing e same) ∙ get_or_past [] i 0 (omega arith))
-        each (of_vertex u) l = opening.each (of_vertex u) l
+          each : (q : Word) → IsWord g q → value_in g words q ≡ first_value g ((graph_edges g + v) + 1) q
+          each (of_edge e) l = opening.each (of_edge e) l ∙ counted e edge _ (λ same. ap length (nothing e same))
+          each (of_acks e) l = opening.each (of_acks e) l
+          each (of_cell e i) l = opening.each (of_cell e i) l
+              ∙ counted e edge _ (λ same. ap (λ (xs : List ℕ). get_or xs i 0) (nothing e same)
+              ∙ get_or_past [] i 0 (omega arith))
+          each (of_vertex u) l = opening.each (of_vertex u) l
 
-    -- a vertex with chips has a message
-    pub opens_message : 0 < g.ring → start_of g v ≢ 0 → AreOpening g ((graph_edges g + v) + 1) (set (set words (index_of g (of_edge edge)) 1) (index_of g (of_cell edge 0)) (start_of g v))
-    opens_message some_ring some_chips = record { wide = length-set _ (index_of g (of_cell edge 0)) (start_of g v) ∙ wide'; each = each }
-      where
-        wide' : length words' ≡ word_count g
-        wide' = length-set words (index_of g (of_edge edge)) 1 ∙ opening.wide
+      -- a vertex with chips has a message
+      pub opens_message : 0 < g.ring → start_of g v ≢ 0
+          → AreOpening g ((graph_edges g + v) + 1)
+          (set (set words (index_of g (of_edge edge)) 1) (index_of g (of_cell edge 0)) (start_of g v))
+      opens_message some_ring some_chips = record {
+        wide = length-set _ (index_of g (of_cell edge 0)) (start_of g v)
+            ∙ wide';
+        each = each;
+      }
+        where
+          wide' : length words' ≡ word_count g
+          wide' = length-set words (index_of g (of_edge edge)) 1 ∙ opening.wide
 
-        there : IsWord g (of_edge edge)
-        there = omega arith
+          there : IsWord g (of_edge edge)
+          there = omega arith
 
-        cell_there : IsWord g (of_cell edge 0)
-        cell_there = (omega arith, some_ring)
+          cell_there : IsWord g (of_cell edge 0)
+          cell_there = (omega arith, some_ring)
 
-        put : first_put g edge ≡ start_of g v ∷ []
-        put = first_root g v ∙ cond_no (start_of g v) 0 _ _ some_chips
+          put : first_put g edge ≡ start_of g v ∷ []
+          put = first_root g v ∙ cond_no (start_of g v) 0 _ _ some_chips
 
-        each : (q : Word) → IsWord g q → value_in g (set words' (index_of g (of_cell edge 0)) (start_of g v)) q ≡ first_value g ((graph_edges g + v) + 1) q
-        each (of_edge e) l = written_else g words' wide' (of_cell edge 0) cell_there (start_of g v) (of_edge e) l (other_kind _ _ (λ z. omega arith)) ∙ dite (ℕ_discrete e edge)
-            (λ same. ap (λ (n : ℕ). value_in g words' (of_edge n)) same ∙ written_here g words opening.wide (of_edge edge) there 1 ∙ sym (now_counted e edge _ same ∙ ap (λ (n : ℕ). length (first_put g n)) same ∙ ap length put))
-            (λ other. written_else g words opening.wide (of_edge edge) there 1 (of_edge e) l (other_owner _ _ other) ∙ opening.each (of_edge e) l ∙ counted e edge _ (λ same. absurd (other same)))
-        each (of_acks e) l = written_else g words' wide' (of_cell edge 0) cell_there (start_of g v) (of_acks e) l (other_kind _ _ (λ z. omega arith)) ∙ written_else g words opening.wide (of_edge edge) there 1 (of_acks e) l (other_kind _ _ (λ z. omega arith)) ∙ opening.each (of_acks e) l
-        each (of_vertex u) l = written_else g words' wide' (of_cell edge 0) cell_there (start_of g v) (of_vertex u) l (other_kind _ _ (λ z. omega arith)) ∙ written_else g words opening.wide (of_edge edge) there 1 (of_vertex u) l (other_kind _ _ (λ z. omega arith)) ∙ opening.each (of_vertex u) l
-        each (of_cell e i) l =
-            let old : value_in g words' (of_cell e i) ≡ first_value g edge (of_cell e i) = written_else g words opening.wide (of_edge edge) there 1 (of_cell e i) l (other_kind _ _ (λ z. omega arith)) ∙ opening.each (of_cell e i) l in
-            dite (ℕ_discrete e edge)
-            (λ same. dite (ℕ_discrete i 0)
-            (λ first.
-            (let at : of_cell e i ≡ of_cell edge 0 = (λ k. of_cell (same k) (first k)) in
-            ap (value_in g (set words' (index_of g (of_cell edge 0)) (start_of g v))) at ∙ written_here g words' wide' (of_cell edge 0) cell_there (start_of g v)
-            ∙ sym (now_counted e edge _ same ∙ (λ k. get_or (first_put g (same k)) (first k) 0) ∙ ap (λ (xs : List ℕ). get_or xs 0 0) put)))
-            (λ later. written_else g words' wide' (of_cell edge 0) cell_there (start_of g v) (of_cell e i) l (other_cell _ _ later) ∙ old
-            ∙ cond_false (ltb e edge) _ 0 (le-ltb e edge (omega arith))
-            ∙ sym (now_counted e edge _ same ∙ ap (λ (n : ℕ). get_or (first_put g n) i 0) same ∙ ap (λ (xs : List ℕ). get_or xs i 0) put ∙ get_or_past (start_of g v ∷ []) i 0 (omega arith))))
-            (λ other. written_else g words' wide' (of_cell edge 0) cell_there (start_of g v) (of_cell e i) l (other_owner _ _ other) ∙ old ∙ counted e edge _ (λ same. absurd (other same)))
+          each : (q : Word) → IsWord g q → value_in g (set words' (index_of g (of_cell edge 0)) (start_of g v)) q
+              ≡ first_value g ((graph_edges g + v) + 1) q
+          each (of_edge e) l = written_else g words' wide' (of_cell edge 0) cell_there (start_of g v) (of_edge e) l
+              (other_kind _ _ (λ z. omega arith)) ∙ dite (ℕ_discrete e edge)
+              (λ same. ap (λ (n : ℕ). value_in g words' (of_edge n)) same
+              ∙ written_here g words opening.wide (of_edge edge) there 1
+              ∙ sym (now_counted e edge _ same ∙ ap (λ (n : ℕ). length (first_put g n)) same ∙ ap length put))
+              (λ other. written_else g words opening.wide (of_edge edge) there 1 (of_edge e) l (other_owner _ _ other)
+              ∙ opening.each (of_edge e) l ∙ counted e edge _ (λ same. absurd (other same)))
+          each (of_acks e) l = written_else g words' wide' (of_cell edge 0) cell_there (start_of g v) (of_acks e) l
+              (other_kind _ _ (λ z. omega arith))
+              ∙ written_else g words opening.wide (of_edge edge) there 1 (of_acks e) l (other_kind _ _ (λ z. omega arith))
+              ∙ opening.each (of_acks e) l
+          each (of_vertex u) l = written_else g words' wide' (of_cell edge 0) cell_there (start_of g v) (of_vertex u) l
+              (other_kind _ _ (λ z. omega arith))
+              ∙ written_else g words opening.wide (of_edge edge) there 1 (of_vertex u) l (other_kind _ _ (λ z. omega arith))
+              ∙ opening.each (of_vertex u) l
+          each (of_cell e i) l =
+              let old : value_in g words' (of_cell e i) ≡ first_value g edge (of_cell e i) =
+              written_else g words opening.wide (of_edge edge) there 1 (of_cell e i) l
+              (other_kind _ _ (λ z. omega arith)) ∙ opening.each (of_cell e i) l in
+              dite (ℕ_discrete e edge)
+              (λ same. dite (ℕ_discrete i 0)
+              (λ first.
+              (let at : of_cell e i ≡ of_cell edge 0 = (λ k. of_cell (same k) (first k)) in
+              ap (value_in g (set words' (index_of g (of_cell edge 0)) (start_of g v))) at
+              ∙ written_here g words' wide' (of_cell edge 0) cell_there (start_of g v)
+              ∙ sym (now_counted e edge _ same ∙ (λ k. get_or (first_put g (same k)) (first k) 0)
+              ∙ ap (λ (xs : List ℕ). get_or xs 0 0) put)))
+              (λ later. written_else g words' wide' (of_cell edge 0) cell_there (start_of g v) (of_cell e i) l
+              (other_cell _ _ later) ∙ old
+              ∙ cond_false (ltb e edge) _ 0 (le-ltb e edge (omega arith))
+              ∙ sym (now_counted e edge _ same ∙ ap (λ (n : ℕ). get_or (first_put g n) i 0) same
+              ∙ ap (λ (xs : List ℕ). get_or xs i 0) put ∙ get_or_past (start_of g v ∷ []) i 0 (omega arith))))
+              (λ other. written_else g words' wide' (of_cell edge 0) cell_there (start_of g v) (of_cell e i) l
+              (other_owner _ _ other) ∙ old ∙ counted e edge _ (λ same. absurd (other same)))
 
   -- all words laid out
-  pub opens : IsSetting g → (words : List ℕ) → AreOpening g (all_edges g) words → Kept g (opening words [] (opening_view g))
+  pub opens : IsSetting g → (words : List ℕ) → AreOpening g (all_edges g) words
+      → Kept g (opening words [] (opening_view g))
   opens setting words opening = record {
     log = [];
     owner = λ _. 0;
@@ -129,10 +165,12 @@ module _ (g : Setting) where
     there = λ p l. (opening_view g, refl, part_there (g.graph.vertices + 2) p l);
     shown = record {
       edges = λ e l. record {
-        word_is = opening.each (of_edge e) l ∙ cond_true (ltb e (all_edges g)) _ 0 (lt-ltb e (all_edges g) l) ∙ omega arith;
+        word_is = opening.each (of_edge e) l ∙ cond_true (ltb e (all_edges g)) _ 0 (lt-ltb e (all_edges g) l)
+            ∙ omega arith;
         ring_is = λ p lo hi.
             let m : p < g.ring = omega arith in
-            ap (λ (i : ℕ). value_in g words (of_cell e i)) (mod-eq_of_lt m) ∙ opening.each (of_cell e p) (l, m) ∙ cond_true (ltb e (all_edges g)) _ 0 (lt-ltb e (all_edges g) l);
+            ap (λ (i : ℕ). value_in g words (of_cell e i)) (mod-eq_of_lt m) ∙ opening.each (of_cell e p) (l, m)
+            ∙ cond_true (ltb e (all_edges g)) _ 0 (lt-ltb e (all_edges g) l);
       };
       acks = λ e l. opening.each (of_acks e) l;
       fired = λ v l. opening.each (of_vertex v) l;
@@ -140,6 +178,11 @@ module _ (g : Setting) where
     legal = tt;
   }
     where
-      first : (j : ℕ) (v : View) → get_elem? (opening_view g ∷ []) j ≡ some v → (p : ℕ) (did : List Step) → find p v.parts ≡ Some did → (0 ≡ j) × (did ≡ [])
-      first zero v e p did found = (refl, part_empty (g.graph.vertices + 2) p did (subst (λ (w : View). find p w.parts ≡ Some did) (sym (some-injective _ _ e)) found))
+      first : (j : ℕ) (v : View) → get_elem? (opening_view g ∷ []) j ≡ some v → (p : ℕ) (did : List Step)
+          → find p v.parts ≡ Some did → (0 ≡ j) × (did ≡ [])
+      first zero v e p did found = (
+        refl,
+        part_empty (g.graph.vertices + 2) p did
+            (subst (λ (w : View). find p w.parts ≡ Some did) (sym (some-injective _ _ e)) found),
+      )
       first (suc j) v e p did found = absurd (some-ne-none v (sym e))

@@ -20,6 +20,11 @@ every_moment g s kept =
       only_there = kept.each_part;
       there = kept.there;
       edges = λ e l. subst (λ (ps : ℕ → Part). EdgeShows g s.words ps e) parts
-          record { word = (kept.shown.edges e l).word_is; cells = (kept.shown.edges e l).ring_is; acks = kept.shown.acks e l };
-      fired = λ v l. subst (λ (ps : ℕ → Part). value_in g s.words (of_vertex v) ≡ word_of_part (ps v)) parts (kept.shown.fired v l);
+          record {
+            word = (kept.shown.edges e l).word_is;
+            cells = (kept.shown.edges e l).ring_is;
+            acks = kept.shown.acks e l;
+          };
+      fired = λ v l. subst (λ (ps : ℕ → Part). value_in g s.words (of_vertex v) ≡ word_of_part (ps v)) parts
+          (kept.shown.fired v l);
     }

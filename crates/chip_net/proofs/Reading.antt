@@ -1,5 +1,6 @@
 -- The reads of a closed root: each is in the log, and what they tell.
-use Rattle.std.proofs.Common.{◌≡◌, ℕ, zero, suc, ◌+◌, ◌<◌, ◌&&◌, Bool, not, cond, List, [], ◌∷◌, ◌++◌, length, get_or, Contains, refl, sym, ap, ◌∙◌, subst, arith, ⊎_elim, length-append, append_assoc}
+use Rattle.std.proofs.Common.{◌≡◌, ℕ, zero, suc, ◌+◌, ◌<◌, ◌&&◌, Bool, not, cond, List, [], ◌∷◌, ◌++◌, length, get_or}
+use Rattle.std.proofs.Common.{Contains, refl, sym, ap, ◌∙◌, subst, arith, ⊎_elim, length-append, append_assoc}
 use Rattle.std.proofs.lemmas.List.{get_or_push, get_or_append_left, map-append, length-map}
 use Rattle.std.proofs.lemmas.List.Elements.{Contains-append_cases, Contains-append_right}
 use mathlib.Core.Logic.{dite}
@@ -16,7 +17,8 @@ use Rattle.chip_core.specs.Histories.{done_by, part_by}
 use Rattle.chip_core.proofs.ReadLemmas.{reads_tell}
 use Rattle.chip_net.specs.Tokens.{NetId}
 use Rattle.chip_net.specs.Roots.{RootKnown, root_part, root_deficit, root_after}
-use Rattle.chip_net.specs.Finish.{ReadsAt, reads_from, IsReadOut, TallyState, tally_after, limit_at, seal_at, AreRead, IsReading}
+use Rattle.chip_net.specs.Finish.{ReadsAt, reads_from, IsReadOut, TallyState, tally_after, limit_at, seal_at, AreRead}
+use Rattle.chip_net.specs.Finish.{IsReading}
 
 -- a read that saw this
 abbrev read : ℕ → ℕ → Step
@@ -34,22 +36,32 @@ pub done_in_log : (g : Setting) (p : ℕ) (log : Log) (x : Step) → Contains (d
 done_in_log g p [] x at = at
 done_in_log g p (y ∷ log) x at = dite (ℕ_discrete (part_of g y.event) p)
     (λ same. ⊎_elim (λ m. later y x log (done_in_log g p log x m))
-    (λ (one : Contains (y ∷ []) x). (let k = one.1 in let z : one.0 ≡ 0 = omega arith in here y x log (ap (λ (n : ℕ). get_or (y ∷ []) n x) (sym z) ∙ one.2)))
-    (Contains-append_cases (done_by g p log) (y ∷ []) x (subst (λ (l : List Step). Contains l x) (cond_yes (part_of g y.event) p (done_by g p log ++ y ∷ []) (done_by g p log) same) at)))
-    (λ other. later y x log (done_in_log g p log x (subst (λ (l : List Step). Contains l x) (cond_no (part_of g y.event) p (done_by g p log ++ y ∷ []) (done_by g p log) other) at)))
+    (λ (one : Contains (y ∷ []) x). (let k = one.1 in let z : one.0 ≡ 0 = omega arith in
+    here y x log (ap (λ (n : ℕ). get_or (y ∷ []) n x) (sym z) ∙ one.2)))
+    (Contains-append_cases (done_by g p log) (y ∷ []) x
+    (subst (λ (l : List Step). Contains l x)
+    (cond_yes (part_of g y.event) p (done_by g p log ++ y ∷ []) (done_by g p log) same) at)))
+    (λ other. later y x log (done_in_log g p log x
+    (subst (λ (l : List Step). Contains l x)
+    (cond_no (part_of g y.event) p (done_by g p log ++ y ∷ []) (done_by g p log) other) at)))
 
-reads_at : (v : ℕ) (ws : List ℕ) (k : ℕ) → k < length ws → (u : ℕ) → u ≡ v + k → Contains (reads_from v ws) (read u (get_or ws k 0))
+reads_at : (v : ℕ) (ws : List ℕ) (k : ℕ) → k < length ws → (u : ℕ) → u ≡ v + k
+    → Contains (reads_from v ws) (read u (get_or ws k 0))
 reads_at v [] k l u is = absurd (omega arith)
-reads_at v (w ∷ ws) zero l u is = here (read v w) (read u w) (reads_from (suc v) ws) (ap (λ (n : ℕ). (read n w)) (omega arith))
-reads_at v (w ∷ ws) (suc k) l u is = later (read v w) (read u (get_or ws k 0)) (reads_from (suc v) ws) (reads_at (suc v) ws k (omega arith) u (omega arith))
+reads_at v (w ∷ ws) zero l u is = here (read v w) (read u w) (reads_from (suc v) ws)
+    (ap (λ (n : ℕ). (read n w)) (omega arith))
+reads_at v (w ∷ ws) (suc k) l u is = later (read v w) (read u (get_or ws k 0)) (reads_from (suc v) ws)
+    (reads_at (suc v) ws k (omega arith) u (omega arith))
 
-reads_push : (v : ℕ) (ws : List ℕ) (w u : ℕ) → u ≡ v + length ws → reads_from v (ws ++ w ∷ []) ≡ reads_from v ws ++ (read u w) ∷ []
+reads_push : (v : ℕ) (ws : List ℕ) (w u : ℕ) → u ≡ v + length ws
+    → reads_from v (ws ++ w ∷ []) ≡ reads_from v ws ++ (read u w) ∷ []
 reads_push v [] w u is = ap (λ (n : ℕ). (read n w) ∷ []) (omega arith)
 reads_push v (x ∷ xs) w u is = ap (λ (l : List Step). (read v x) ∷ l) (reads_push (suc v) xs w u (omega arith))
 
 -- ---- reads leave the deficit
 
-reads_leave : (g : Setting) (s : Part) (v : ℕ) (ws : List ℕ) → deficit g (root g) (part_by g s (reads_from v ws)) ≡ deficit g (root g) s
+reads_leave : (g : Setting) (s : Part) (v : ℕ) (ws : List ℕ)
+    → deficit g (root g) (part_by g s (reads_from v ws)) ≡ deficit g (root g) s
 reads_leave g s v [] = refl
 reads_leave g s v (w ∷ ws) = reads_leave g (does g (read v w) s) (suc v) ws
 
@@ -57,9 +69,11 @@ part_append : (g : Setting) (s : Part) (xs ys : List Step) → part_by g s (xs +
 part_append g s [] ys = refl
 part_append g s (x ∷ xs) ys = part_append g (does g x s) xs ys
 
-pub still_settled : (old now : RootKnown) (tally : TallyState) (v : ℕ) → IsReading old now tally v → root_deficit old ≡ 0 → root_deficit now ≡ 0
+pub still_settled : (old now : RootKnown) (tally : TallyState) (v : ℕ) → IsReading old now tally v
+    → root_deficit old ≡ 0 → root_deficit now ≡ 0
 still_settled old now tally v reading none = ap root_deficit reading.record_is
-    ∙ ap (deficit old.net.setting (root old.net.setting)) (part_append old.net.setting (opened old.net.setting) old.did (reads_from 0 reading.words))
+    ∙ ap (deficit old.net.setting (root old.net.setting))
+    (part_append old.net.setting (opened old.net.setting) old.did (reads_from 0 reading.words))
     ∙ reads_leave old.net.setting (root_part old) 0 reading.words ∙ none
 
 pub reading_net : (old now : RootKnown) (tally : TallyState) (v : ℕ) → IsReading old now tally v → now.net ≡ old.net
@@ -68,27 +82,38 @@ reading_net old now tally v reading = ap (λ (r : RootKnown). r.net) reading.rec
 -- ---- one word more in the tally
 
 module _ (words : List ℕ) (t : TallyState) (is : AreRead words t.fired t.over t.sealed) (w : ℕ) where
-  pick_more : (test : List ℕ → ℕ → Bool) → ((ws us : List ℕ) (v : ℕ) → get_or ws v 0 ≡ get_or us v 0 → test ws v ≡ test us v) → (b : Bool) → test (w ∷ []) 0 ≡ b → (before : List ℕ) → before ≡ picked (test words) (length words)
+  pick_more : (test : List ℕ → ℕ → Bool)
+      → ((ws us : List ℕ) (v : ℕ) → get_or ws v 0 ≡ get_or us v 0 → test ws v ≡ test us v) → (b : Bool)
+      → test (w ∷ []) 0 ≡ b → (before : List ℕ) → before ≡ picked (test words) (length words)
       → ((ws : List ℕ) (v : ℕ) → get_or ws v 0 ≡ w → test ws v ≡ b)
       → before ++ cond b (length t.fired ∷ []) [] ≡ picked (test (words ++ w ∷ [])) (length (words ++ w ∷ []))
   pick_more test same b one before before_is at =
       let test' : ℕ → Bool = test (words ++ w ∷ []) in
-      let count : length (words ++ w ∷ []) ≡ suc (length words) = (let a = length-append words (w ∷ []) in omega arith) in
-      let front : picked (test words) (length words) ≡ picked test' (length words) = picked_ext (test words) test' (length words) (λ v l. same words (words ++ w ∷ []) v (sym (get_or_append_left words (w ∷ []) 0 v l))) in
-      let here : test' (length words) ≡ b = at (words ++ w ∷ []) (length words) (get_or_push words w 0 (length words) refl) in
+      let count : length (words ++ w ∷ []) ≡ suc (length words) = (let a = length-append words (w ∷ []) in omega arith)
+      in
+      let front : picked (test words) (length words) ≡ picked test' (length words) =
+      picked_ext (test words) test' (length words)
+      (λ v l. same words (words ++ w ∷ []) v (sym (get_or_append_left words (w ∷ []) 0 v l))) in
+      let here : test' (length words)
+      ≡ b = at (words ++ w ∷ []) (length words) (get_or_push words w 0 (length words) refl) in
       let vertex : length t.fired ≡ length words = ap length is.fired ∙ length-map words fired_in in
       (λ i. (before_is ∙ front) i ++ cond (sym here i) (vertex i ∷ []) []) ∙ sym (ap (picked test') count)
 
-  pub tally_more : AreRead (words ++ w ∷ []) (tally_after (fired_in w) (halted_in w) (by_limit_in w) t).fired (tally_after (fired_in w) (halted_in w) (by_limit_in w) t).over (tally_after (fired_in w) (halted_in w) (by_limit_in w) t).sealed
+  pub tally_more : AreRead (words ++ w ∷ []) (tally_after (fired_in w) (halted_in w) (by_limit_in w) t).fired
+      (tally_after (fired_in w) (halted_in w) (by_limit_in w) t).over
+      (tally_after (fired_in w) (halted_in w) (by_limit_in w) t).sealed
   tally_more = record {
     fired = ap (λ (l : List ℕ). l ++ fired_in w ∷ []) is.fired ∙ sym (map-append fired_in words (w ∷ []));
-    over = pick_more limit_at (λ ws us v e. ap by_limit_in e) (by_limit_in w) refl t.over is.over (λ ws v e. ap by_limit_in e);
-    sealed = pick_more seal_at (λ ws us v e. ap (λ (x : ℕ). halted_in x && not (by_limit_in x)) e) (halted_in w && not (by_limit_in w)) refl t.sealed is.sealed (λ ws v e. ap (λ (x : ℕ). halted_in x && not (by_limit_in x)) e);
+    over = pick_more limit_at (λ ws us v e. ap by_limit_in e) (by_limit_in w) refl t.over is.over
+        (λ ws v e. ap by_limit_in e);
+    sealed = pick_more seal_at (λ ws us v e. ap (λ (x : ℕ). halted_in x && not (by_limit_in x)) e) (halted_in w
+        && not (by_limit_in w)) refl t.sealed is.sealed (λ ws v e. ap (λ (x : ℕ). halted_in x && not (by_limit_in x)) e);
   }
 
 -- ---- one read more
 
-module _ (old now then : RootKnown) (tally : TallyState) (v seen : ℕ) (setting : IsSetting old.net.setting) (reading : IsReading old now tally v) (reads : ReadsAt now then v seen) where
+module _ (old now then : RootKnown) (tally : TallyState) (v seen : ℕ) (setting : IsSetting old.net.setting)
+    (reading : IsReading old now tally v) (reads : ReadsAt now then v seen) where
   abbrev g : Setting
   g = now.net.setting
 
@@ -101,31 +126,39 @@ module _ (old now then : RootKnown) (tally : TallyState) (v seen : ℕ) (setting
   setting' : IsSetting now.net.setting
   setting' = subst (λ (n : NetId). IsSetting n.setting) (sym (reading_net old now tally v reading)) setting
 
-  tells : (y : Step) (u : ℕ) → Contains (x ∷ reads.log) y → y.event ≡ Read u → (u < g.graph.vertices) × IsClosed g (x ∷ reads.log) × (y.seen ≡ word_of_part (part_in g (x ∷ reads.log) u))
+  tells : (y : Step) (u : ℕ) → Contains (x ∷ reads.log) y → y.event ≡ Read u
+      → (u < g.graph.vertices) × IsClosed g (x ∷ reads.log) × (y.seen ≡ word_of_part (part_in g (x ∷ reads.log) u))
   tells y u at is = reads_tell g setting'.game setting'.some_ring (x ∷ reads.log) reads.legal y u at is
 
   -- an earlier read is in the log
   earlier : (k : ℕ) → k < length words → Contains (x ∷ reads.log) (read k (get_or words k 0))
   earlier k l = later x (read k (get_or words k 0)) reads.log
       (done_in_log g (root g) reads.log (read k (get_or words k 0))
-      (subst (λ (d : List Step). Contains d (read k (get_or words k 0))) (sym (ap (λ (r : RootKnown). r.did) reading.record_is) ∙ reads.agrees.root_did)
-      (Contains-append_right old.did (reads_from 0 words) (read k (get_or words k 0)) (reads_at 0 words k l k (omega arith)))))
+      (subst (λ (d : List Step). Contains d (read k (get_or words k 0)))
+      (sym (ap (λ (r : RootKnown). r.did) reading.record_is) ∙ reads.agrees.root_did)
+      (Contains-append_right old.did (reads_from 0 words) (read k (get_or words k 0))
+      (reads_at 0 words k l k (omega arith)))))
 
-  words_then : (k : ℕ) → k < length (words ++ seen ∷ []) → get_or (words ++ seen ∷ []) k 0 ≡ word_of_part (part_in g (x ∷ reads.log) k)
+  words_then : (k : ℕ) → k < length (words ++ seen ∷ [])
+      → get_or (words ++ seen ∷ []) k 0 ≡ word_of_part (part_in g (x ∷ reads.log) k)
   words_then k l = dite (dec_lt k (length words))
       (λ m. get_or_append_left words (seen ∷ []) 0 k m ∙ (tells (read k (get_or words k 0)) k (earlier k m) refl).2)
       (λ past.
       let a = length-append words (seen ∷ []) in let c = reading.count_is in
       let last : k ≡ length words = omega arith in let at : k ≡ v = omega arith in
-      get_or_push words seen 0 k (sym last) ∙ (tells x v (here x x reads.log refl) refl).2 ∙ ap (λ (u : ℕ). word_of_part (part_in g (x ∷ reads.log) u)) (sym at))
+      get_or_push words seen 0 k (sym last) ∙ (tells x v (here x x reads.log refl) refl).2
+      ∙ ap (λ (u : ℕ). word_of_part (part_in g (x ∷ reads.log) u)) (sym at))
 
   read_out : IsReadOut then (words ++ seen ∷ [])
   read_out = subst (λ (r : RootKnown). IsReadOut r (words ++ seen ∷ [])) (sym reads.record_is) record {
     log = x ∷ reads.log;
     legal = reads.legal;
     agrees = record {
-      root_did = ap (λ (d : List Step). d ++ x ∷ []) reads.agrees.root_did ∙ sym (cond_yes (root g) (root g) (done_by g (root g) reads.log ++ x ∷ []) (done_by g (root g) reads.log) refl);
-      stopper_did = λ did e. reads.agrees.stopper_did did e ∙ sym (cond_no (root g) (stopper g) (done_by g (stopper g) reads.log ++ x ∷ []) (done_by g (stopper g) reads.log) (λ z. omega arith));
+      root_did = ap (λ (d : List Step). d ++ x ∷ []) reads.agrees.root_did
+          ∙ sym (cond_yes (root g) (root g) (done_by g (root g) reads.log ++ x ∷ []) (done_by g (root g) reads.log) refl);
+      stopper_did = λ did e. reads.agrees.stopper_did did e
+          ∙ sym (cond_no (root g) (stopper g) (done_by g (stopper g) reads.log ++ x ∷ [])
+          (done_by g (stopper g) reads.log) (λ z. omega arith));
     };
     closed = (tells x v (here x x reads.log refl) refl).1;
     words_are = words_then;
@@ -136,7 +169,10 @@ module _ (old now then : RootKnown) (tally : TallyState) (v seen : ℕ) (setting
     words = words ++ seen ∷ [];
     count_is = (let a = length-append words (seen ∷ []) in let c = reading.count_is in omega arith);
     record_is = reads.record_is ∙ ap (λ (r : RootKnown). root_after r (x ∷ [])) reading.record_is
-        ∙ ap (λ (d : List Step). record { net = old.net; did = d; stopper_did = old.stopper_did }) (append_assoc old.did (reads_from 0 words) (x ∷ []) ∙ ap (λ (l : List Step). old.did ++ l) (sym (reads_push 0 words seen v (let c = reading.count_is in omega arith))));
+        ∙ ap (λ (d : List Step). record { net = old.net; did = d; stopper_did = old.stopper_did })
+        (append_assoc old.did (reads_from 0 words) (x ∷ [])
+        ∙ ap (λ (l : List Step). old.did ++ l)
+        (sym (reads_push 0 words seen v (let c = reading.count_is in omega arith))));
     told = λ some. read_out;
     tallied = tally_more words tally reading.tallied seen;
     room_is = (let r = reading.room_is in omega arith);

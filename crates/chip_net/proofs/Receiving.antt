@@ -21,17 +21,22 @@ use Rattle.chip_net.proofs.Ruling.{Mine}
 use Rattle.chip_net.proofs.Rooting.{root_rule, root_grown, root_stepped, root_record}
 use Rattle.chip_net.proofs.Finishing.{fired_word_is}
 
-module _ (i : Inside) (keeps : Has (root i.setup) i.seat.me.0 × IsSetting i.setup) (v : ℕ) (inside : v < i.setup.graph.vertices) (closed : deficit i.setup (root i.setup) (part_of_view i.setup (root i.setup) i.seat.me.0) ≡ 0) where
+module _ (i : Inside) (keeps : Has (root i.setup) i.seat.me.0 × IsSetting i.setup) (v : ℕ)
+    (inside : v < i.setup.graph.vertices)
+    (closed : deficit i.setup (root i.setup) (part_of_view i.setup (root i.setup) i.seat.me.0) ≡ 0) where
   abbrev g : Setting
   g = i.setup
 
   none : unmet g (Read v) (part_of_view g (root g) i.seat.me.0) ≡ None
   none = met_rules g (Read v) (part_of_view g (root g) i.seat.me.0) (inside, closed)
 
-  pub read_rule : (key : Setting) → key ≡ g → (slots word : ℕ) → word ≡ index_of g (of_vertex v) → Allows (Kept key) slots i.seat.id i.seat.me word (λ n. n) (Grows key (Read v) i.seat.me)
-  read_rule key same slots word at = root_rule g keeps.1 i.seat.me keeps.0 (Read v) refl none key same slots i.seat.id word at
+  pub read_rule : (key : Setting) → key ≡ g → (slots word : ℕ) → word ≡ index_of g (of_vertex v)
+      → Allows (Kept key) slots i.seat.id i.seat.me word (λ n. n) (Grows key (Read v) i.seat.me)
+  read_rule key same slots word at = root_rule g keeps.1 i.seat.me keeps.0
+      (Read v) refl none key same slots i.seat.id word at
 
-  module _ (key : Setting) (same : key ≡ g) (seen : ℕ) (after : Mine) (told : Grows key (Read v) i.seat.me seen after) where
+  module _ (key : Setting) (same : key ≡ g) (seen : ℕ) (after : Mine)
+      (told : Grows key (Read v) i.seat.me seen after) where
     abbrev x : Step
     x = record { event = Read v; seen = seen }
 
@@ -45,14 +50,30 @@ module _ (i : Inside) (keeps : Has (root i.setup) i.seat.me.0 × IsSetting i.set
     still_receipt = ((grown_has (root g) x i.seat.me.0 after.0 keeps.0 grew).1, keeps.1)
 
     pub reads : (own : RootKnown) → the_view i ≡ own → (table : TableId) → table ≡ i.seat.table_id
-        → ReadsAt own (record { net = record { table = table; setting = g }; did = did_in (root g) after.0; stopper_did = find (stopper g) after.0.parts }) v seen
+        → ReadsAt own (record {
+          net = record { table = table; setting = g };
+          did = did_in (root g) after.0;
+          stopper_did = find (stopper g) after.0.parts;
+        }) v seen
     reads own view_is table table_is =
         let longer = root_record g x i.seat.me.0 after.0 keeps.0 grew in
-        subst (λ (k : RootKnown). ReadsAt k (record { net = record { table = table; setting = g }; did = did_in (root g) after.0; stopper_did = find (stopper g) after.0.parts }) v seen) view_is record {
-          record_is = λ j. record { net = record { table = table_is j; setting = g }; did = longer.0 j; stopper_did = longer.1 j };
+        subst (λ (k : RootKnown). ReadsAt k
+        (record {
+          net = record { table = table; setting = g };
+          did = did_in (root g) after.0;
+          stopper_did = find (stopper g) after.0.parts;
+        }) v seen) view_is record {
+          record_is = λ j. record {
+            net = record { table = table_is j; setting = g };
+            did = longer.0 j;
+            stopper_did = longer.1 j;
+          };
           log = stepped.log;
           legal = stepped.legal;
-          agrees = record { root_did = stepped.agrees (root g) (did_in (root g) i.seat.me.0) keeps.0; stopper_did = λ did e. stepped.agrees (stopper g) did e };
+          agrees = record {
+            root_did = stepped.agrees (root g) (did_in (root g) i.seat.me.0) keeps.0;
+            stopper_did = λ did e. stepped.agrees (stopper g) did e;
+          };
         }
 
     pub word_is : is_fired_word seen ≡ true

@@ -1,5 +1,7 @@
 -- Each event keeps the rule of the table, and tells that its part did it.
-use Rattle.std.proofs.Common.{◌≡◌, ◌≢◌, ℕ, ◌+◌, ◌%◌, ◌^◌, ◌<◌, ◌==◌, List, [], ◌∷◌, ◌++◌, length, get_or, set, length-set, Bool, true, false, cond, Some, None, refl, sym, ap, ◌∙◌, subst, ⊎_elim, arith, bit_or}
+use Rattle.std.proofs.Common.{◌≡◌, ◌≢◌, ℕ, ◌+◌, ◌%◌, ◌^◌, ◌<◌, ◌==◌, List, [], ◌∷◌, ◌++◌, length, get_or, set}
+use Rattle.std.proofs.Common.{length-set, Bool, true, false, cond, Some, None, refl, sym, ap, ◌∙◌, subst, ⊎_elim, arith}
+use Rattle.std.proofs.Common.{bit_or}
 use mathlib.Core.Logic.{dite}
 use mathlib.Core.Option.{some, some-injective}
 use native.Mathlib.Decide.{ℕ_discrete}
@@ -14,9 +16,11 @@ use Rattle.chip_actor.specs.declared.act.Act as operation
 use Rattle.chip_actor.specs.declared.act.Act.TheVariants as Do
 use Rattle.chip_actor.specs.Acting.{act_of, event_of}
 use Rattle.chip_actor.specs.Medium.{IsDueBy}
-use Rattle.chip_core.specs.Core.{Log, Step, Event, Take, Ack, Fire, Clear, Claim, Put, Halt, Settle, Seal, Read, Part, opened, unmet, part_of, sees, Fits}
+use Rattle.chip_core.specs.Core.{Log, Step, Event, Take, Ack, Fire, Clear, Claim, Put, Halt, Settle, Seal, Read, Part}
+use Rattle.chip_core.specs.Core.{opened, unmet, part_of, sees, Fits}
 use Rattle.chip_core.specs.Histories.{done_by, part_by}
-use Rattle.chip_core.specs.Words.{Word, of_edge, of_acks, of_cell, of_vertex, IsWord, halt_bits, touched, left_by, noted, IsShown, IsLeft, acting}
+use Rattle.chip_core.specs.Words.{Word, of_edge, of_acks, of_cell, of_vertex, IsWord, halt_bits, touched, left_by}
+use Rattle.chip_core.specs.Words.{noted, IsShown, IsLeft, acting}
 use Rattle.chip_core.proofs.ReachingLemmas.{by_history}
 use Rattle.chip_core.proofs.Showing.{word_for, word_there, finds, words_go_on}
 use Rattle.chip_net.specs.Layout.{index_of, word_count, value_in}
@@ -30,16 +34,20 @@ abbrev pub Mine : Type 0
 Mine = Me (Unit {0}) View
 
 -- one event of the part p, made through the seat id
-module _ (g : Setting) (s : State (Unit {0}) View) (kept : Kept g s) (id p : ℕ) (v : View) (did : List Step) (x : Step) (words : List ℕ) (at : get_elem? s.views id ≡ some v) (has : find p v.parts ≡ Some did) (mine : part_of g x.event ≡ p)
+module _ (g : Setting) (s : State (Unit {0}) View) (kept : Kept g s) (id p : ℕ) (v : View) (did : List Step) (x : Step)
+    (words : List ℕ) (at : get_elem? s.views id ≡ some v) (has : find p v.parts ≡ Some did)
+    (mine : part_of g x.event ≡ p)
   where
     -- the record of the part q in the longer log
     longer : (q : ℕ) → p ≡ q → done_by g q (x ∷ kept.log) ≡ done_by g q kept.log ++ x ∷ []
     longer q same = cond_yes (part_of g x.event) q (done_by g q kept.log ++ x ∷ []) (done_by g q kept.log) (mine ∙ same)
 
     same_still : (q : ℕ) → p ≢ q → done_by g q (x ∷ kept.log) ≡ done_by g q kept.log
-    same_still q other = cond_no (part_of g x.event) q (done_by g q kept.log ++ x ∷ []) (done_by g q kept.log) (λ z. other (sym mine ∙ z))
+    same_still q other = cond_no (part_of g x.event) q (done_by g q kept.log ++ x ∷ []) (done_by g q kept.log)
+        (λ z. other (sym mine ∙ z))
 
-    pub stepped_keeps : length words ≡ length s.words → IsShown g (x ∷ kept.log) (value_in g words) → Fits g kept.log x → Kept g record { words = words; homes = s.homes; views = set s.views id (grown p x v) }
+    pub stepped_keeps : length words ≡ length s.words → IsShown g (x ∷ kept.log) (value_in g words) → Fits g kept.log x
+        → Kept g record { words = words; homes = s.homes; views = set s.views id (grown p x v) }
     stepped_keeps same_length shown fits = record {
       log = x ∷ kept.log;
       owner = kept.owner;
@@ -47,12 +55,18 @@ module _ (g : Setting) (s : State (Unit {0}) View) (kept : Kept g s) (id p : ℕ
       wide = same_length ∙ kept.wide;
       each_part = λ j u there q d found. ⊎_elim
           (λ (z : (j ≡ id) × (grown p x v ≡ u)).
-          let now : find q (grow p x v.parts) ≡ Some d = subst (λ (w : View). find q w.parts ≡ Some d) (sym z.1) found in
+          let now : find q (grow p x v.parts) ≡ Some d = subst (λ (w : View). find q w.parts ≡ Some d) (sym z.1) found
+          in
           dite (ℕ_discrete p q)
           (λ same.
           let old = kept.each_part id v at p did has in
-          let whole : did ++ x ∷ [] ≡ d = some_is _ _ (sym (find_here p x v.parts did has) ∙ subst (λ (n : ℕ). find n (grow p x v.parts) ≡ Some d) (sym same) now) in
-          (ap kept.owner (sym same) ∙ old.0 ∙ sym z.0, sym whole ∙ ap (λ (l : List Step). l ++ x ∷ []) (old.1 ∙ ap (λ (n : ℕ). done_by g n kept.log) same) ∙ sym (longer q same)))
+          let whole : did ++ x ∷ [] ≡ d = some_is _ _ (sym (find_here p x v.parts did has)
+          ∙ subst (λ (n : ℕ). find n (grow p x v.parts) ≡ Some d) (sym same) now) in (
+            ap kept.owner (sym same) ∙ old.0 ∙ sym z.0,
+            sym whole
+                ∙ ap (λ (l : List Step). l ++ x ∷ []) (old.1 ∙ ap (λ (n : ℕ). done_by g n kept.log) same)
+                ∙ sym (longer q same),
+          ))
           (λ other.
           let old = kept.each_part id v at q d (sym (find_else p q x v.parts other) ∙ now) in
           (old.0 ∙ sym z.0, old.1 ∙ sym (same_still q other))))
@@ -67,22 +81,32 @@ module _ (g : Setting) (s : State (Unit {0}) View) (kept : Kept g s) (id p : ℕ
           dite (ℕ_discrete (kept.owner q) id)
           (λ own.
           let same : v ≡ here_of.0 = some-injective _ _ (sym at ∙ ap (get_elem? s.views) (sym own) ∙ here_of.1) in
-          let here : get_elem? (set s.views id (grown p x v)) (kept.owner q) ≡ some (grown p x v) = ap (get_elem? (set s.views id (grown p x v))) own ∙ set_there s.views id v (grown p x v) at in
+          let here : get_elem? (set s.views id (grown p x v)) (kept.owner q) ≡ some (grown p x v) =
+          ap (get_elem? (set s.views id (grown p x v))) own ∙ set_there s.views id v (grown p x v) at in
           let was : find q v.parts ≡ Some (done_by g q kept.log) = ap (λ (u : View). find q u.parts) same ∙ here_of.2 in (
             grown p x v,
             here,
             dite (ℕ_discrete p q)
                 (λ e. subst (λ (n : ℕ). find n (grow p x v.parts) ≡ Some (done_by g n (x ∷ kept.log))) e
-                (find_here p x v.parts (done_by g p kept.log) (subst (λ (n : ℕ). find n v.parts ≡ Some (done_by g n kept.log)) (sym e) was) ∙ sym (ap Some (longer p refl))))
+                (find_here p x v.parts (done_by g p kept.log)
+                (subst (λ (n : ℕ). find n v.parts ≡ Some (done_by g n kept.log)) (sym e) was)
+                ∙ sym (ap Some (longer p refl))))
                 (λ ne. find_else p q x v.parts ne ∙ was ∙ sym (ap Some (same_still q ne))),
           ))
-          (λ other. (here_of.0, set_else s.views id (kept.owner q) (grown p x v) other ∙ here_of.1, here_of.2 ∙ sym (ap Some (same_still q (λ e. other (ap kept.owner (sym e) ∙ (kept.each_part id v at p did has).0))))));
+          (λ other. (
+            here_of.0,
+            set_else s.views id (kept.owner q) (grown p x v) other ∙ here_of.1,
+            here_of.2
+                ∙ sym (ap Some (same_still q
+                (λ e. other (ap kept.owner (sym e) ∙ (kept.each_part id v at p did has).0)))),
+          ));
       shown = shown;
       legal = (kept.legal, fits);
     }
 
 -- whatever the event, whose rules are met: the rule of the table is kept, and the part did it
-module _ (g : Setting) (slots id : ℕ) (me : Mine) (x : Event) (did : List Step) (has : find (part_of g x) me.0.parts ≡ Some did) (none : unmet g x (part_by g (opened g) did) ≡ None) where
+module _ (g : Setting) (slots id : ℕ) (me : Mine) (x : Event) (did : List Step) (has : find (part_of g x) me.0.parts
+    ≡ Some did) (none : unmet g x (part_by g (opened g) did) ≡ None) where
   abbrev s : Part
   s = part_by g (opened g) did
 
@@ -102,16 +126,31 @@ module _ (g : Setting) (slots id : ℕ) (me : Mine) (x : Event) (did : List Step
       let n : ℕ = get_or table.words (index_of g q) 0 in
       let new : List ℕ = set table.words (index_of g q) (left_by g x a n) in
       let saw : noted x n ≡ sees g log x = finds g game ring log kept.legal value kept.shown x may in
-      let left : IsLeft g log x value (value_in g new) = record { here = written_here g table.words kept.wide q valid (left_by g x a n); others = written_else g table.words kept.wide q valid (left_by g x a n) } in
-      let shown : IsShown g (step_of x n ∷ log) (value_in g new) = subst (λ (k : ℕ). IsShown g (record { event = x; seen = k } ∷ log) (value_in g new)) (sym saw)
+      let left : IsLeft g log x value (value_in g new) =
+      record {
+        here = written_here g table.words kept.wide q valid (left_by g x a n);
+        others = written_else g table.words kept.wide q valid (left_by g x a n);
+      } in
+      let shown : IsShown g (step_of x n ∷ log) (value_in g new) =
+      subst (λ (k : ℕ). IsShown g (record { event = x; seen = k } ∷ log) (value_in g new)) (sym saw)
       (words_go_on g game ring log kept.legal value (value_in g new) kept.shown x may left) in
-      subst (λ (b : Part). let i : ℕ = index_of g (touched g x b) in (w : View) × (c : Act (Unit {0})) × Valid table.homes me.1 c × Kept g (stepped table i (left_by g x b (get_or table.words i 0)) id me.1 w c) × Grows g x me (get_or table.words i 0) (w, carried_after me.1 c))
+      subst (λ (b : Part). let i : ℕ = index_of g (touched g x b) in (w : View) × (c : Act (Unit {0}))
+      × Valid table.homes me.1 c × Kept g (stepped table i (left_by g x b (get_or table.words i 0)) id me.1 w c)
+      × Grows g x me (get_or table.words i 0) (w, carried_after me.1 c))
       (sym part_is) (
         grown p (step_of x n) me.0,
         keeps,
         tt,
-        stepped_keeps g table kept id p me.0 did (step_of x n) new at has refl (length-set table.words (index_of g q) (left_by g x a n)) shown (may, saw),
-        (refl, record { log = log; legal = (kept.legal, (may, saw)); agrees = λ r d found. (kept.each_part id me.0 at r d found).1 }),
+        stepped_keeps g table kept id p me.0 did (step_of x n) new at has refl
+            (length-set table.words (index_of g q) (left_by g x a n)) shown (may, saw),
+        (
+          refl,
+          record {
+            log = log;
+            legal = (kept.legal, (may, saw));
+            agrees = λ r d found. (kept.each_part id me.0 at r d found).1;
+          },
+        ),
       )
 
 -- ---- the same by the operation of a vertex
@@ -154,25 +193,34 @@ module _ (g : Setting) (slots id : ℕ) (me : Mine) (v : ℕ) (did : List Step) 
   AllowsAct : Event → operation.Act → Type 0
   AllowsAct x act = Allows (Kept g) slots id me (index_of g (word_of v act)) (left_over act) (Grows g x me)
 
-  allowed_for : (x : Event) → part_of g x ≡ v → unmet g x part ≡ None → Allows (Kept g) slots id me (index_of g (touched g x part)) (left_by g x part) (Grows g x me)
-  allowed_for x mine none = allowed g slots id me x did (subst (λ (p : ℕ). find p me.0.parts ≡ Some did) (sym mine) has) none
+  allowed_for : (x : Event) → part_of g x ≡ v → unmet g x part ≡ None
+      → Allows (Kept g) slots id me (index_of g (touched g x part)) (left_by g x part) (Grows g x me)
+  allowed_for x mine none = allowed g slots id me x did (subst (λ (p : ℕ). find p me.0.parts ≡ Some did) (sym mine) has)
+      none
 
-  by_event : (x : Event) → v < g.graph.vertices → part_of g x ≡ v → unmet g x part ≡ None → AllowsAct x (act_of g x part)
+  by_event : (x : Event) → v < g.graph.vertices → part_of g x ≡ v → unmet g x part ≡ None
+      → AllowsAct x (act_of g x part)
   unfolding AllowsAct
   by_event (Take e) l mine none = allowed_for (Take e) mine none
   by_event (Ack e) l mine none = allowed_for (Ack e) mine none
-  by_event (Fire u k) l mine none = subst (λ (w : ℕ). Allows (Kept g) slots id me (index_of g (of_vertex w)) (left_over (Do.Fire k)) (Grows g (Fire u k) me)) mine (allowed_for (Fire u k) mine none)
+  by_event (Fire u k) l mine none = subst
+      (λ (w : ℕ). Allows (Kept g) slots id me (index_of g (of_vertex w)) (left_over (Do.Fire k)) (Grows g (Fire u k) me))
+      mine (allowed_for (Fire u k) mine none)
   by_event (Clear e) l mine none = allowed_for (Clear e) mine none
   by_event (Claim e) l mine none =
       let was : ℕ = Rattle.chip_link.specs.Link.claims_of (part.out e).link in
-      subst (λ (f : ℕ → ℕ). Allows (Kept g) slots id me (index_of g (of_edge e)) f (Grows g (Claim e) me)) (λ i n. one_exchange was (was + 1) n i) (allowed_for (Claim e) mine none)
+      subst (λ (f : ℕ → ℕ). Allows (Kept g) slots id me (index_of g (of_edge e)) f (Grows g (Claim e) me))
+      (λ i n. one_exchange was (was + 1) n i) (allowed_for (Claim e) mine none)
   by_event (Put e) l mine none = allowed_for (Put e) mine none
-  by_event (Halt u) l mine none = subst (λ (w : ℕ). Allows (Kept g) slots id me (index_of g (of_vertex w)) (left_over (act_of g (Halt u) part)) (Grows g (Halt u) me)) mine (allowed_for (Halt u) mine none)
+  by_event (Halt u) l mine none = subst
+      (λ (w : ℕ). Allows (Kept g) slots id me (index_of g (of_vertex w)) (left_over (act_of g (Halt u) part))
+      (Grows g (Halt u) me)) mine (allowed_for (Halt u) mine none)
   by_event (Settle e) l mine none = allowed_for (Settle e) mine none
   by_event (Seal e) l mine none = absurd (omega arith)
   by_event (Read u) l mine none = absurd (omega arith)
 
-  word_by_event : IsSetting g → (x : Event) → v < g.graph.vertices → part_of g x ≡ v → unmet g x part ≡ None → IsWord g (word_of v (act_of g x part))
+  word_by_event : IsSetting g → (x : Event) → v < g.graph.vertices → part_of g x ≡ v → unmet g x part ≡ None
+      → IsWord g (word_of v (act_of g x part))
   word_by_event setting (Take e) l mine none = word_for g setting.some_ring (Take e) part none
   word_by_event setting (Ack e) l mine none = word_for g setting.some_ring (Ack e) part none
   word_by_event setting (Fire u k) l mine none = l
@@ -184,21 +232,30 @@ module _ (g : Setting) (slots id : ℕ) (me : Mine) (v : ℕ) (did : List Step) 
   word_by_event setting (Seal e) l mine none = absurd (omega arith)
   word_by_event setting (Read u) l mine none = absurd (omega arith)
 
-  pub act_word : IsSetting g → v < g.graph.vertices → (act : operation.Act) → IsDueBy g v part act → IsWord g (word_of v act)
-  act_word setting l act due = subst (λ (b : operation.Act). IsWord g (word_of v b)) (sym due.needed) (word_by_event setting (event_of v act) l due.mine due.met)
+  pub act_word : IsSetting g → v < g.graph.vertices → (act : operation.Act) → IsDueBy g v part act
+      → IsWord g (word_of v act)
+  act_word setting l act due = subst (λ (b : operation.Act). IsWord g (word_of v b)) (sym due.needed)
+      (word_by_event setting (event_of v act) l due.mine due.met)
 
-  pub act_allowed : v < g.graph.vertices → (act : operation.Act) → IsDueBy g v part act → Allows (Kept g) slots id me (index_of g (word_of v act)) (left_over act) (Grows g (event_of v act) me)
+  pub act_allowed : v < g.graph.vertices → (act : operation.Act) → IsDueBy g v part act
+      → Allows (Kept g) slots id me (index_of g (word_of v act)) (left_over act) (Grows g (event_of v act) me)
   unfolding AllowsAct
-  act_allowed l act due = subst (AllowsAct (event_of v act)) (sym due.needed) (by_event (event_of v act) l due.mine due.met)
+  act_allowed l act due = subst (AllowsAct (event_of v act)) (sym due.needed)
+      (by_event (event_of v act) l due.mine due.met)
 
 -- ---- an event of the root or the stopper, as a call of the table makes it
 
-module _ (g : Setting) (setting : IsSetting g) (me : Mine) (x : Event) (has : Has (part_of g x) me.0) (none : unmet g x (part_of_view g (part_of g x) me.0) ≡ None) where
-  pub event_room : (word words : ℕ) → word ≡ index_of g (touched g x (part_of_view g (part_of g x) me.0)) → words ≡ word_count g → word < words
-  event_room word words at all = let l = inside g _ (word_for g setting.some_ring x (part_of_view g (part_of g x) me.0) none) in omega arith
+module _ (g : Setting) (setting : IsSetting g) (me : Mine) (x : Event) (has : Has (part_of g x) me.0)
+    (none : unmet g x (part_of_view g (part_of g x) me.0) ≡ None) where
+  pub event_room : (word words : ℕ) → word ≡ index_of g (touched g x (part_of_view g (part_of g x) me.0))
+      → words ≡ word_count g → word < words
+  event_room word words at all = let l = inside g _
+      (word_for g setting.some_ring x (part_of_view g (part_of g x) me.0) none) in omega arith
 
-  pub event_allowed : (key : Setting) → key ≡ g → (slots id word : ℕ) → word ≡ index_of g (touched g x (part_of_view g (part_of g x) me.0))
+  pub event_allowed : (key : Setting) → key ≡ g → (slots id word : ℕ)
+      → word ≡ index_of g (touched g x (part_of_view g (part_of g x) me.0))
       → Allows (Kept key) slots id me word (left_by g x (part_of_view g (part_of g x) me.0)) (Grows key x me)
   event_allowed key same slots id word at =
-      subst (λ (z : Setting × ℕ). Allows (Kept z.0) slots id me z.1 (left_by g x (part_of_view g (part_of g x) me.0)) (Grows z.0 x me)) (λ i. (sym same i, sym at i))
+      subst (λ (z : Setting × ℕ). Allows (Kept z.0) slots id me z.1 (left_by g x (part_of_view g (part_of g x) me.0))
+      (Grows z.0 x me)) (λ i. (sym same i, sym at i))
       (allowed g slots id me x (did_in (part_of g x) me.0) has none)

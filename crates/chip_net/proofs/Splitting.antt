@@ -1,5 +1,6 @@
 -- A part that is handed on stands in the new view alone.
-use Rattle.std.proofs.Common.{◌≡◌, ◌≢◌, ◌⊎◌, ℕ, zero, suc, eqb, List, [], ◌∷◌, ◌++◌, length, set, Option, Some, refl, sym, ap, ◌∙◌, subst, ⊎_elim, inl, inr}
+use Rattle.std.proofs.Common.{◌≡◌, ◌≢◌, ◌⊎◌, ℕ, zero, suc, eqb, List, [], ◌∷◌, ◌++◌, length, set, Option, Some, refl}
+use Rattle.std.proofs.Common.{sym, ap, ◌∙◌, subst, ⊎_elim, inl, inr}
 use mathlib.Core.Logic.{dite}
 use mathlib.Core.Bool.{cond}
 use mathlib.Core.Option.{some, some-injective, some-ne-none}
@@ -15,13 +16,16 @@ use Rattle.chip_net.specs.Views.{View, find, drop_part, only, without, alone}
 use Rattle.chip_net.specs.Rule.{Kept}
 use Rattle.chip_net.proofs.Viewing.{none_some, set_there, dropped_here, dropped_else, only_finds}
 
-at_end : {A : Type 0} (l : List A) (a b : A) (j : ℕ) → get_elem? (l ++ a ∷ []) j ≡ some b → (get_elem? l j ≡ some b) ⊎ ((j ≡ length l) × (a ≡ b))
+at_end : {A : Type 0} (l : List A) (a b : A) (j : ℕ) → get_elem? (l ++ a ∷ []) j ≡ some b
+    → (get_elem? l j ≡ some b) ⊎ ((j ≡ length l) × (a ≡ b))
 at_end [] a b zero e = inr (refl, some-injective a b e)
 at_end [] a b (suc j) e = absurd (some-ne-none b (sym e))
 at_end (x ∷ xs) a b zero e = inl e
-at_end (x ∷ xs) a b (suc j) e = ⊎_elim inl (λ (w : (j ≡ length xs) × (a ≡ b)). inr (ap suc w.0, w.1)) (at_end xs a b j e)
+at_end (x ∷ xs) a b (suc j) e = ⊎_elim inl (λ (w : (j ≡ length xs) × (a ≡ b)). inr (ap suc w.0, w.1))
+    (at_end xs a b j e)
 
-pub hands_on : (g : Setting) (id p : ℕ) (v : View) (did : List Step) → find p v.parts ≡ Some did → Splits (Kept g) id v (without p v) (alone p v)
+pub hands_on : (g : Setting) (id p : ℕ) (v : View) (did : List Step) → find p v.parts ≡ Some did
+    → Splits (Kept g) id v (without p v) (alone p v)
 hands_on g id p v did has s kept at = record {
   log = kept.log;
   owner = λ q. cond (eqb q p) (length (set s.views id (without p v))) (kept.owner q);
@@ -30,8 +34,10 @@ hands_on g id p v did has s kept at = record {
   each_part = λ j u there q d found. ⊎_elim
       (λ (old : get_elem? (set s.views id (without p v)) j ≡ some u). ⊎_elim
       (λ (z : (j ≡ id) × (without p v ≡ u)).
-      let mine : find q (drop_part p v.parts) ≡ Some d = subst (λ (w : View). find q w.parts ≡ Some d) (sym z.1) found in
-      let other : q ≢ p = λ e. none_some d (sym (dropped_here p v.parts) ∙ subst (λ (n : ℕ). find n (drop_part p v.parts) ≡ Some d) e mine) in
+      let mine : find q (drop_part p v.parts) ≡ Some d = subst (λ (w : View). find q w.parts ≡ Some d) (sym z.1) found
+      in
+      let other : q ≢ p = λ e. none_some d (sym (dropped_here p v.parts)
+      ∙ subst (λ (n : ℕ). find n (drop_part p v.parts) ≡ Some d) e mine) in
       let was = kept.each_part id v at q d (sym (dropped_else p q v.parts (λ e. other (sym e))) ∙ mine) in
       (cond_no q p _ _ other ∙ was.0 ∙ sym z.0, was.1))
       (λ (z : (j ≢ id) × (get_elem? s.views j ≡ some u)).
@@ -53,16 +59,24 @@ hands_on g id p v did has s kept at = record {
       let mine : find p v.parts ≡ Some (done_by g p kept.log) = has ∙ ap Some (kept.each_part id v at p did has).1 in (
         alone p v,
         ap (get_elem? (now ++ alone p v ∷ [])) (cond_yes q p _ _ e) ∙ at_last now (alone p v) (length now) refl,
-        ap (λ (n : ℕ). find n (only p (find p v.parts))) e ∙ ap (λ (o : Option (List Step)). find p (only p o)) mine ∙ cond_yes p p _ _ refl ∙ ap (λ (n : ℕ). Some (done_by g n kept.log)) (sym e),
+        ap (λ (n : ℕ). find n (only p (find p v.parts))) e ∙ ap (λ (o : Option (List Step)). find p (only p o)) mine
+            ∙ cond_yes p p _ _ refl ∙ ap (λ (n : ℕ). Some (done_by g n kept.log)) (sym e),
       ))
       (λ ne. dite (ℕ_discrete (kept.owner q) id)
       (λ mine.
       let same : v ≡ old.0 = some-injective _ _ (sym at ∙ ap (get_elem? s.views) (sym mine) ∙ old.1) in (
         without p v,
-        ap (get_elem? (now ++ alone p v ∷ [])) (cond_no q p _ _ ne ∙ mine) ∙ at_longer now (alone p v ∷ []) id (without p v) (set_there s.views id v (without p v) at),
+        ap (get_elem? (now ++ alone p v ∷ [])) (cond_no q p _ _ ne ∙ mine)
+            ∙ at_longer now (alone p v ∷ []) id (without p v) (set_there s.views id v (without p v) at),
         dropped_else p q v.parts (λ e. ne (sym e)) ∙ ap (λ (u : View). find q u.parts) same ∙ old.2,
       ))
-      (λ other. (old.0, ap (get_elem? (now ++ alone p v ∷ [])) (cond_no q p _ _ ne) ∙ at_longer now (alone p v ∷ []) (kept.owner q) old.0 (set_else s.views id (kept.owner q) (without p v) other ∙ old.1), old.2)));
+      (λ other. (
+        old.0,
+        ap (get_elem? (now ++ alone p v ∷ [])) (cond_no q p _ _ ne)
+            ∙ at_longer now (alone p v ∷ []) (kept.owner q) old.0 (set_else s.views id (kept.owner q) (without p v) other
+            ∙ old.1),
+        old.2,
+      )));
   shown = kept.shown;
   legal = kept.legal;
 }

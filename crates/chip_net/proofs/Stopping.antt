@@ -1,5 +1,6 @@
 -- The stopper: a seal of an edge.
-use Rattle.std.proofs.Common.{◌≡◌, ℕ, ◌<◌, not, [], ◌∷◌, ◌++◌, Option, Some, None, is_some, refl, sym, ap, ◌∙◌, subst, arith, bit_or, ◌^◌}
+use Rattle.std.proofs.Common.{◌≡◌, ℕ, ◌<◌, not, [], ◌∷◌, ◌++◌, Option, Some, None, is_some, refl, sym, ap, ◌∙◌, subst}
+use Rattle.std.proofs.Common.{arith, bit_or, ◌^◌}
 use Rattle.std.specs.Prelude.{is_none}
 use Rattle.atomic_table.specs.Seated.{TableId}
 use Rattle.atomic_table.specs.Table.{Allows}
@@ -30,21 +31,26 @@ not_some None = refl
 not_some (Some n) = refl
 
 -- the number of claims stands, whether this seal was the first or not
-first_word : (n word : ℕ) (stop : Option ℕ) → IsSealedAt n stop → word ≡ edge_word n (is_some stop) → claims_in word ≡ n → after_seal word stop ≡ Some (claims_in word)
+first_word : (n word : ℕ) (stop : Option ℕ) → IsSealedAt n stop → word ≡ edge_word n (is_some stop) → claims_in word ≡ n
+    → after_seal word stop ≡ Some (claims_in word)
 first_word n word None at is claims = ap Some (let z : word ≡ claims_in word = omega arith in z)
 first_word n word (Some first) at is claims = ap Some (at ∙ sym claims)
 
-module _ (i : Inside) (has : Has (stopper i.setup.value) i.seat.me.0) (setting : IsSetting i.setup.value) (edge : ℕ) (inside : edge < graph_edges i.setup.value) where
+module _ (i : Inside) (has : Has (stopper i.setup.value) i.seat.me.0) (setting : IsSetting i.setup.value) (edge : ℕ)
+    (inside : edge < graph_edges i.setup.value) where
   abbrev g : Setting
   g = i.setup.value
 
   abbrev s : Part
   s = part_of_view g (stopper g) i.seat.me.0
 
-  pub seal_rule : (key : Setting) → key ≡ g → (slots word : ℕ) → word ≡ edge → Allows (Kept key) slots i.seat.id i.seat.me word (λ n. bit_or n (2 ^ 63)) (Grows key (Seal edge) i.seat.me)
-  seal_rule key same slots word at = event_allowed g setting i.seat.me (Seal edge) has (met_rules g (Seal edge) s inside) key same slots i.seat.id word at
+  pub seal_rule : (key : Setting) → key ≡ g → (slots word : ℕ) → word ≡ edge
+      → Allows (Kept key) slots i.seat.id i.seat.me word (λ n. bit_or n (2 ^ 63)) (Grows key (Seal edge) i.seat.me)
+  seal_rule key same slots word at = event_allowed g setting i.seat.me (Seal edge) has
+      (met_rules g (Seal edge) s inside) key same slots i.seat.id word at
 
-  module _ (key : Setting) (same : key ≡ g) (seen : ℕ) (after : Mine) (told : Grows key (Seal edge) i.seat.me seen after) where
+  module _ (key : Setting) (same : key ≡ g) (seen : ℕ) (after : Mine)
+      (told : Grows key (Seal edge) i.seat.me seen after) where
     abbrev x : Step
     x = record { event = Seal edge; seen = seen }
 
@@ -62,7 +68,8 @@ module _ (i : Inside) (has : Has (stopper i.setup.value) i.seat.me.0) (setting :
 
     -- it is the part in that log
     in_log : s ≡ part_in g stepped.log (stopper g)
-    in_log = ap (part_by g (opened g)) (stepped.agrees (stopper g) (did_in (stopper g) i.seat.me.0) has) ∙ sym (by_history g stepped.log (stopper g))
+    in_log = ap (part_by g (opened g)) (stepped.agrees (stopper g) (did_in (stopper g) i.seat.me.0) has)
+        ∙ sym (by_history g stepped.log (stopper g))
 
     stop_is : stop_in g stepped.log edge ≡ s.stop edge
     stop_is = ap (λ (p : Part). p.stop edge) (sym in_log)
@@ -74,22 +81,31 @@ module _ (i : Inside) (has : Has (stopper i.setup.value) i.seat.me.0) (setting :
     word_is = stepped.legal.1.1 ∙ ap (λ (o : Option ℕ). edge_word claims (is_some o)) stop_is
 
     reads : ReadsAs seen claims (is_some (s.stop edge))
-    reads = let few = claims_most g setting.game setting.some_ring stepped.log stepped.legal.0 edge in read_edge seen claims (is_some (s.stop edge)) (omega arith) word_is
+    reads = let few = claims_most g setting.game setting.some_ring stepped.log stepped.legal.0 edge in
+        read_edge seen claims (is_some (s.stop edge)) (omega arith) word_is
 
     first_seal : not (sealed_in seen) ≡ is_none (s.stop edge)
     first_seal = ap not reads.seal_is ∙ not_some (s.stop edge)
 
     count_seen : (does g x s).stop edge ≡ Some (claims_in seen)
     count_seen = cond_yes edge edge (after_seal seen (s.stop edge)) (s.stop edge) refl
-        ∙ first_word claims seen (s.stop edge) (subst (IsSealedAt claims) stop_is (edge_sound g setting.game setting.some_ring stepped.log stepped.legal.0 edge).sealed_at) word_is reads.claims_are
+        ∙ first_word claims seen (s.stop edge)
+        (subst (IsSealedAt claims) stop_is
+        (edge_sound g setting.game setting.some_ring stepped.log stepped.legal.0 edge).sealed_at) word_is
+        reads.claims_are
 
-    pub seals : (own : StopperKnown) → the_view i ≡ own → (table : TableId) → table ≡ i.seat.table_id → (answer : SealedAt) → answer.count ≡ claims_in seen → answer.first ≡ not (sealed_in seen)
-        → Seals own (record { net = record { table = table; setting = g }; did = did_in (stopper g) after.0 }) edge answer
+    pub seals : (own : StopperKnown) → the_view i ≡ own → (table : TableId) → table ≡ i.seat.table_id
+        → (answer : SealedAt) → answer.count ≡ claims_in seen → answer.first ≡ not (sealed_in seen)
+        → Seals own (record { net = record { table = table; setting = g }; did = did_in (stopper g) after.0 }) edge
+        answer
     seals own view_is table table_is answer count first =
-        subst (λ (k : StopperKnown). Seals k (record { net = record { table = table; setting = g }; did = did_in (stopper g) after.0 }) edge answer) view_is record {
+        subst (λ (k : StopperKnown). Seals k
+        (record { net = record { table = table; setting = g }; did = did_in (stopper g) after.0 }) edge answer)
+        view_is record {
           inside = inside;
           seen = seen;
           record_is = λ j. record { net = record { table = table_is j; setting = g }; did = longer.0 j };
           first_is = first ∙ first_seal;
-          count_is = ap (λ (p : Part). p.stop edge) (grown_part g (stopper g) x i.seat.me.0 after.0 has grew) ∙ count_seen ∙ ap Some (sym count);
+          count_is = ap (λ (p : Part). p.stop edge) (grown_part g (stopper g) x i.seat.me.0 after.0 has grew)
+              ∙ count_seen ∙ ap Some (sym count);
         }

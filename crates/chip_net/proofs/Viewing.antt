@@ -1,5 +1,6 @@
 -- Views as finite maps: what a step and a split change.
-use Rattle.std.proofs.Common.{◌≡◌, ◌≢◌, ℕ, zero, suc, ◌+◌, ◌<◌, eqb, cond, List, [], ◌∷◌, ◌++◌, length, length-append, set, Option, Some, None, refl, sym, ap, ◌∙◌, arith}
+use Rattle.std.proofs.Common.{◌≡◌, ◌≢◌, ℕ, zero, suc, ◌+◌, ◌<◌, eqb, cond, List, [], ◌∷◌, ◌++◌, length, length-append}
+use Rattle.std.proofs.Common.{set, Option, Some, None, refl, sym, ap, ◌∙◌, arith}
 use Rattle.std.specs.Prelude.{slice_get}
 use Rattle.std.proofs.lemmas.Option.{slice_get_read, get_or_from_slice_get}
 use Rattle.std.proofs.lemmas.List.{get_or_push, get_or_append_left}
@@ -11,7 +12,8 @@ use Rattle.chip_graph.proofs.SumLemmas.{cond_yes, cond_no}
 use Rattle.chip_actor.specs.Setting.{Setting}
 use Rattle.chip_core.specs.Core.{Step, Part, opened, does}
 use Rattle.chip_core.specs.Histories.{part_by}
-use Rattle.chip_net.specs.Views.{History, View, find, grow, grown, steps_or_none, did_in, Has, part_of_view, drop_part, only, alone, parts_below}
+use Rattle.chip_net.specs.Views.{History, View, find, grow, grown, steps_or_none, did_in, Has, part_of_view, drop_part}
+use Rattle.chip_net.specs.Views.{only, alone, parts_below}
 
 pub some_is : (a b : List Step) → Some a ≡ Some b → a ≡ b
 some_is a b e = cc
@@ -25,33 +27,45 @@ set_there (x ∷ xs) zero a b e = refl
 set_there (x ∷ xs) (suc i) a b e = set_there xs i a b e
 
 -- the part itself is longer by the event
-pub find_here : (p : ℕ) (x : Step) (ys : List History) (did : List Step) → find p ys ≡ Some did → find p (grow p x ys) ≡ Some (did ++ x ∷ [])
+pub find_here : (p : ℕ) (x : Step) (ys : List History) (did : List Step) → find p ys ≡ Some did
+    → find p (grow p x ys) ≡ Some (did ++ x ∷ [])
 find_here p x [] did e = absurd (cc)
 find_here p x (y ∷ ys) did e = dite (ℕ_discrete y.part p)
-    (λ same. cond_yes y.part p _ _ same ∙ ap Some (cond_yes y.part p (y.did ++ x ∷ []) y.did same ∙ ap (λ (d : List Step). d ++ x ∷ []) (some_is y.did did (sym (cond_yes y.part p (Some y.did) (find p ys) same) ∙ e))))
-    (λ other. cond_no y.part p _ _ other ∙ find_here p x ys did (sym (cond_no y.part p (Some y.did) (find p ys) other) ∙ e))
+    (λ same. cond_yes y.part p _ _ same
+    ∙ ap Some (cond_yes y.part p (y.did ++ x ∷ []) y.did same
+    ∙ ap (λ (d : List Step). d ++ x ∷ [])
+    (some_is y.did did (sym (cond_yes y.part p (Some y.did) (find p ys) same) ∙ e))))
+    (λ other. cond_no y.part p _ _ other
+    ∙ find_here p x ys did (sym (cond_no y.part p (Some y.did) (find p ys) other) ∙ e))
 
 -- and another part is what it was
 pub find_else : (p q : ℕ) (x : Step) (ys : List History) → p ≢ q → find q (grow p x ys) ≡ find q ys
 find_else p q x [] ne = refl
 find_else p q x (y ∷ ys) ne = dite (ℕ_discrete y.part q)
-    (λ same. cond_yes y.part q _ _ same ∙ ap Some (cond_no y.part p (y.did ++ x ∷ []) y.did (λ e. ne (sym e ∙ same))) ∙ sym (cond_yes y.part q (Some y.did) (find q ys) same))
-    (λ other. cond_no y.part q _ _ other ∙ find_else p q x ys ne ∙ sym (cond_no y.part q (Some y.did) (find q ys) other))
+    (λ same. cond_yes y.part q _ _ same ∙ ap Some (cond_no y.part p (y.did ++ x ∷ []) y.did (λ e. ne (sym e ∙ same)))
+    ∙ sym (cond_yes y.part q (Some y.did) (find q ys) same))
+    (λ other. cond_no y.part q _ _ other ∙ find_else p q x ys ne
+    ∙ sym (cond_no y.part q (Some y.did) (find q ys) other))
 
 -- what a view has of the part that stepped
-pub grown_has : (p : ℕ) (x : Step) (v w : View) → Has p v → w ≡ grown p x v → (did_in p w ≡ did_in p v ++ x ∷ []) × Has p w
+pub grown_has : (p : ℕ) (x : Step) (v w : View) → Has p v → w ≡ grown p x v → (did_in p w ≡ did_in p v ++ x ∷ [])
+    × Has p w
 grown_has p x v w has is =
-    let found : find p w.parts ≡ Some (did_in p v ++ x ∷ []) = ap (λ (u : View). find p u.parts) is ∙ find_here p x v.parts (did_in p v) has in
+    let found : find p w.parts ≡ Some (did_in p v ++ x ∷ []) = ap (λ (u : View). find p u.parts) is
+    ∙ find_here p x v.parts (did_in p v) has in
     let same : did_in p w ≡ did_in p v ++ x ∷ [] = ap steps_or_none found in
     (same, found ∙ ap Some (sym same))
 
-pub part_push : (g : Setting) (s : Part) (xs : List Step) (x : Step) → part_by g s (xs ++ x ∷ []) ≡ does g x (part_by g s xs)
+pub part_push : (g : Setting) (s : Part) (xs : List Step) (x : Step)
+    → part_by g s (xs ++ x ∷ []) ≡ does g x (part_by g s xs)
 part_push g s [] x = refl
 part_push g s (y ∷ ys) x = part_push g (does g y s) ys x
 
 -- and the state that its record leaves
-pub grown_part : (g : Setting) (p : ℕ) (x : Step) (v w : View) → Has p v → w ≡ grown p x v → part_of_view g p w ≡ does g x (part_of_view g p v)
-grown_part g p x v w has is = ap (part_by g (opened g)) (grown_has p x v w has is).0 ∙ part_push g (opened g) (did_in p v) x
+pub grown_part : (g : Setting) (p : ℕ) (x : Step) (v w : View) → Has p v → w ≡ grown p x v
+    → part_of_view g p w ≡ does g x (part_of_view g p v)
+grown_part g p x v w has is = ap (part_by g (opened g)) (grown_has p x v w has is).0
+    ∙ part_push g (opened g) (did_in p v) x
 
 -- ---- handing on
 
@@ -59,18 +73,23 @@ pub dropped_here : (p : ℕ) (ys : List History) → find p (drop_part p ys) ≡
 dropped_here p [] = refl
 dropped_here p (y ∷ ys) = dite (ℕ_discrete y.part p)
     (λ same. ap (find p) (cond_yes y.part p (drop_part p ys) (y ∷ drop_part p ys) same) ∙ dropped_here p ys)
-    (λ other. ap (find p) (cond_no y.part p (drop_part p ys) (y ∷ drop_part p ys) other) ∙ cond_no y.part p (Some y.did) (find p (drop_part p ys)) other ∙ dropped_here p ys)
+    (λ other. ap (find p) (cond_no y.part p (drop_part p ys) (y ∷ drop_part p ys) other)
+    ∙ cond_no y.part p (Some y.did) (find p (drop_part p ys)) other ∙ dropped_here p ys)
 
 pub dropped_else : (p q : ℕ) (ys : List History) → p ≢ q → find q (drop_part p ys) ≡ find q ys
 dropped_else p q [] ne = refl
 dropped_else p q (y ∷ ys) ne = dite (ℕ_discrete y.part p)
-    (λ same. ap (find q) (cond_yes y.part p (drop_part p ys) (y ∷ drop_part p ys) same) ∙ dropped_else p q ys ne ∙ sym (cond_no y.part q (Some y.did) (find q ys) (λ e. ne (sym same ∙ e))))
-    (λ other. ap (find q) (cond_no y.part p (drop_part p ys) (y ∷ drop_part p ys) other) ∙ ap (cond (eqb y.part q) (Some y.did)) (dropped_else p q ys ne))
+    (λ same. ap (find q) (cond_yes y.part p (drop_part p ys) (y ∷ drop_part p ys) same) ∙ dropped_else p q ys ne
+    ∙ sym (cond_no y.part q (Some y.did) (find q ys) (λ e. ne (sym same ∙ e))))
+    (λ other. ap (find q) (cond_no y.part p (drop_part p ys) (y ∷ drop_part p ys) other)
+    ∙ ap (cond (eqb y.part q) (Some y.did)) (dropped_else p q ys ne))
 
 -- what the new view finds is the part that was handed on
-pub only_finds : (p q : ℕ) (found : Option (List Step)) (d : List Step) → find q (only p found) ≡ Some d → (p ≡ q) × (found ≡ Some d)
+pub only_finds : (p q : ℕ) (found : Option (List Step)) (d : List Step) → find q (only p found) ≡ Some d
+    → (p ≡ q) × (found ≡ Some d)
 only_finds p q None d e = absurd (none_some d e)
-only_finds p q (Some did) d e = dite (ℕ_discrete p q) (λ same. (same, sym (cond_yes p q (Some did) None same) ∙ e)) (λ other. absurd (none_some d (sym (cond_no p q (Some did) None other) ∙ e)))
+only_finds p q (Some did) d e = dite (ℕ_discrete p q) (λ same. (same, sym (cond_yes p q (Some did) None same) ∙ e))
+    (λ other. absurd (none_some d (sym (cond_no p q (Some did) None other) ∙ e)))
 
 pub alone_has : (p : ℕ) (v : View) (did : List Step) → find p v.parts ≡ Some did → find p (alone p v).parts ≡ Some did
 alone_has p v did has = ap (λ (o : Option (List Step)). find p (only p o)) has ∙ cond_yes p p (Some did) None refl
@@ -79,7 +98,8 @@ alone_has p v did has = ap (λ (o : Option (List Step)). find p (only p o)) has 
 
 pub part_there : (n p : ℕ) → p < n → find p (parts_below n) ≡ Some []
 part_there zero p l = absurd (omega arith)
-part_there (suc n) p l = dite (ℕ_discrete n p) (λ same. cond_yes n p (Some []) (find p (parts_below n)) same) (λ other. cond_no n p (Some []) (find p (parts_below n)) other ∙ part_there n p (omega arith))
+part_there (suc n) p l = dite (ℕ_discrete n p) (λ same. cond_yes n p (Some []) (find p (parts_below n)) same)
+    (λ other. cond_no n p (Some []) (find p (parts_below n)) other ∙ part_there n p (omega arith))
 
 pub part_empty : (n p : ℕ) (did : List Step) → find p (parts_below n) ≡ Some did → did ≡ []
 part_empty zero p did e = absurd (none_some did e)
@@ -88,7 +108,11 @@ part_empty (suc n) p did e = dite (ℕ_discrete n p)
     (λ other. part_empty n p did (sym (cond_no n p (Some []) (find p (parts_below n)) other) ∙ e))
 
 -- one more element of a list of which each is told
-pub pushed_each : {X : Type 0} (at : ℕ → X) (xs : List X) (y : X) (n : ℕ) → length xs ≡ n → ((p : ℕ) → p < n → slice_get xs p ≡ Some (at p)) → y ≡ at n → (p : ℕ) → p < n + 1 → slice_get (xs ++ y ∷ []) p ≡ Some (at p)
-pushed_each at xs y n count each here p l = slice_get_read (xs ++ y ∷ []) (n + 1) p (at p) (let a = length-append xs (y ∷ []) in omega arith) l (sym (dite (ℕ_discrete p n)
+pub pushed_each : {X : Type 0} (at : ℕ → X) (xs : List X) (y : X) (n : ℕ) → length xs ≡ n
+    → ((p : ℕ) → p < n → slice_get xs p ≡ Some (at p)) → y ≡ at n → (p : ℕ) → p < n + 1
+    → slice_get (xs ++ y ∷ []) p ≡ Some (at p)
+pushed_each at xs y n count each here p l = slice_get_read (xs ++ y ∷ []) (n + 1) p (at p)
+    (let a = length-append xs (y ∷ []) in omega arith) l (sym (dite (ℕ_discrete p n)
     (λ same. get_or_push xs y (at p) p (count ∙ sym same) ∙ here ∙ ap at (sym same))
-    (λ other. get_or_append_left xs (y ∷ []) (at p) p (omega arith) ∙ get_or_from_slice_get xs p (at p) (at p) (each p (omega arith)))))
+    (λ other. get_or_append_left xs (y ∷ []) (at p) p (omega arith)
+    ∙ get_or_from_slice_get xs p (at p) (at p) (each p (omega arith)))))

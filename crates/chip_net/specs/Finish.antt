@@ -1,5 +1,6 @@
 -- What the root reads once it is closed, and what it makes of it.
-use Rattle.std.specs.Prelude.{◌≡◌, ℕ, suc, ◌<◌, ◌-◌, Bool, not, ◌&&◌, if◌then◌else◌, List, [], ◌∷◌, ◌++◌, length, map, slice_index, Some}
+use Rattle.std.specs.Prelude.{◌≡◌, ℕ, suc, ◌<◌, ◌-◌, Bool, not, ◌&&◌, if◌then◌else◌, List, [], ◌∷◌, ◌++◌, length, map}
+use Rattle.std.specs.Prelude.{slice_index, Some}
 use Rattle.chip_graph.specs.Sums.{picked}
 use Rattle.chip_fire.specs.declared.outcome.Outcome.{Outcome}
 use Rattle.chip_fire.specs.Outcomes.{IsOutcome}
@@ -18,7 +19,8 @@ use Rattle.chip_net.specs.Roots.{RootKnown, root_after}
 -- the root, and the stopper where the root holds that part, did these steps in this log
 pub record AgreesWith (r : RootKnown) (log : Log) : Type 0 where
   pub root_did : r.did ≡ done_by r.net.setting (root r.net.setting) log
-  pub stopper_did : (did : List Step) → r.stopper_did ≡ Some did → did ≡ done_by r.net.setting (stopper r.net.setting) log
+  pub stopper_did : (did : List Step) → r.stopper_did ≡ Some did
+      → did ≡ done_by r.net.setting (stopper r.net.setting) log
 
 -- one read was made, after some legal log with what the root did
 pub record ReadsAt (old new : RootKnown) (v seen : ℕ) : Type 0 where
@@ -89,8 +91,10 @@ pub record IsReading (old now : RootKnown) (tally : TallyState) (count : ℕ) : 
 
 -- the counts and the chips are those of every firing sequence that ends with no vertex legal
 abbrev pub IsOneEnd : Setting → Outcome → Type 0
-IsOneEnd g o = (vs : List ℕ) → IsFiringSequence g.graph (slice_index g.start) vs → HasEnded g.graph (slice_index g.start) vs
-    → ((v : ℕ) → slice_index o.fired.items v ≡ counts vs v) × ((v : ℕ) → slice_index o.chips.items v ≡ position_after g.graph (slice_index g.start) vs v)
+IsOneEnd g o = (vs : List ℕ) → IsFiringSequence g.graph (slice_index g.start) vs
+    → HasEnded g.graph (slice_index g.start) vs
+    → ((v : ℕ) → slice_index o.fired.items v ≡ counts vs v)
+    × ((v : ℕ) → slice_index o.chips.items v ≡ position_after g.graph (slice_index g.start) vs v)
 
 -- every fired word was read once, ascending, and these readings make the outcome
 pub record Finishes (old receipt : RootKnown) (o : Outcome) : Type 0 where

@@ -16,18 +16,23 @@ use Rattle.chip_net.specs.Rule.{Kept}
 pub record EdgeShows (g : Setting) (words : List ℕ) (parts : ℕ → Part) (e : ℕ) : Type 0 where
   -- the edge word has the number of claims of its tail, and the seal
   pub word : value_in g words (of_edge e) ≡ word_of (out_by g parts e).link (stop_by g parts e)
-  -- from the next place to take on, as many places as the ring has cells: a cell holds the count of the message that was put, else 0
-  pub cells : (p : ℕ) → length (into_by g parts e).got ≤ p → p < length (into_by g parts e).got + g.ring → value_in g words (of_cell e (p % g.ring)) ≡ slice_index (out_by g parts e).link.put p
+  -- from the next place to take on, as many places as the ring has cells: a cell holds the count of the message that
+  -- was put, else 0
+  pub cells : (p : ℕ) → length (into_by g parts e).got ≤ p → p < length (into_by g parts e).got + g.ring
+      → value_in g words (of_cell e (p % g.ring)) ≡ slice_index (out_by g parts e).link.put p
   -- the word of acknowledgements is what its head acknowledged
   pub acks : value_in g words (of_acks e) ≡ (into_by g parts e).acked
 
--- words and views are a reached world: what each part did, which stands in exactly one view, and the words that the parts have made
+-- words and views are a reached world: what each part did, which stands in exactly one view, and the words that the
+-- parts have made
 pub record IsReachedTable (g : Setting) (s : State (Unit {0}) View) : Type 0 where
   pub did : ℕ → List Step
   pub reached : IsReached g did
   pub owner : ℕ → ℕ
-  pub only_there : (j : ℕ) (v : View) → get_elem? s.views j ≡ some v → (p : ℕ) (steps : List Step) → find p v.parts ≡ Some steps → (owner p ≡ j) × (steps ≡ did p)
-  pub there : (p : ℕ) → p < g.graph.vertices + 2 → (v : View) × (get_elem? s.views (owner p) ≡ some v) × (find p v.parts ≡ Some (did p))
+  pub only_there : (j : ℕ) (v : View) → get_elem? s.views j ≡ some v → (p : ℕ) (steps : List Step)
+      → find p v.parts ≡ Some steps → (owner p ≡ j) × (steps ≡ did p)
+  pub there : (p : ℕ) → p < g.graph.vertices + 2 → (v : View) × (get_elem? s.views (owner p) ≡ some v)
+      × (find p v.parts ≡ Some (did p))
   pub edges : (e : ℕ) → e < all_edges g → EdgeShows g s.words (parts_by g did) e
   -- the fired word of a vertex has its firings, its halt and the cause
   pub fired : (v : ℕ) → v < g.graph.vertices → value_in g s.words (of_vertex v) ≡ word_of_part (parts_by g did v)

@@ -1,5 +1,5 @@
--- Where the words of a net lie, one after another: the edge words of all edges, their words of acknowledgements, their rings of cells, and
--- the fired words of the vertices.
+-- Where the words of a net lie, one after another: the edge words of all edges, their words of acknowledgements, their
+-- rings of cells, and the fired words of the vertices.
 use Rattle.std.specs.Prelude.{ℕ, ◌+◌, ◌*◌, List, slice_index}
 use Rattle.chip_actor.specs.Setting.{Setting}
 use Rattle.chip_actor.specs.Edges.{all_edges}

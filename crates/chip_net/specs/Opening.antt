@@ -5,7 +5,8 @@ use Rattle.chip_actor.specs.Part.{first_put}
 use Rattle.chip_core.specs.Words.{Word, of_edge, of_acks, of_cell, of_vertex, IsWord}
 use Rattle.chip_net.specs.Layout.{word_count, value_in}
 
--- a word, where the messages of the first edges are laid out: a root edge whose vertex has chips has one message, in its first cell
+-- a word, where the messages of the first edges are laid out: a root edge whose vertex has chips has one message, in
+-- its first cell
 abbrev pub first_value : Setting → ℕ → Word → ℕ
 first_value g count (of_edge e) = if nat_lt e count then length (first_put g e) else 0
 first_value g count (of_acks e) = 0

@@ -80,7 +80,8 @@ new_stopper net = record { net = net; did = [] }
 abbrev pub stopper_part : StopperKnown → Part
 stopper_part s = part_by s.net.setting (opened s.net.setting) s.did
 
--- the stopper sealed the edge once more: the count is what the first seal of it saw, and this was the first where there was none
+-- the stopper sealed the edge once more: the count is what the first seal of it saw, and this was the first where there
+-- was none
 pub record Seals (old new : StopperKnown) (edge : ℕ) (answer : SealedAt) : Type 0 where
   pub inside : edge < graph_edges old.net.setting
   pub seen : ℕ

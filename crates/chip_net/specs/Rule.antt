@@ -1,4 +1,5 @@
--- The rule of a net: between any two steps of whatever threads, words and views are what some legal log of the core leaves.
+-- The rule of a net: between any two steps of whatever threads, words and views are what some legal log of the core
+-- leaves.
 use Rattle.std.specs.Prelude.{◌≡◌, ℕ, ◌+◌, ◌<◌, List, [], ◌∷◌, length, Some}
 use mathlib.Core.Option.{some}
 use lib.ListN.{get_elem?}
@@ -18,9 +19,11 @@ pub record Kept (g : Setting) (s : State (Unit {0}) View) : Type 0 where
   pub setting : IsSetting g
   pub wide : length s.words ≡ word_count g
   -- a part stands in no view but its owner's, with what it did in the log
-  pub each_part : (j : ℕ) (v : View) → get_elem? s.views j ≡ some v → (p : ℕ) (did : List Step) → find p v.parts ≡ Some did → (owner p ≡ j) × (did ≡ done_by g p log)
+  pub each_part : (j : ℕ) (v : View) → get_elem? s.views j ≡ some v → (p : ℕ) (did : List Step)
+      → find p v.parts ≡ Some did → (owner p ≡ j) × (did ≡ done_by g p log)
   -- and it stands there
-  pub there : (p : ℕ) → p < g.graph.vertices + 2 → (v : View) × (get_elem? s.views (owner p) ≡ some v) × (find p v.parts ≡ Some (done_by g p log))
+  pub there : (p : ℕ) → p < g.graph.vertices + 2 → (v : View) × (get_elem? s.views (owner p) ≡ some v)
+      × (find p v.parts ≡ Some (done_by g p log))
   -- the words show the log
   pub shown : IsShown g log (value_in g s.words)
   -- the core can have come here
@@ -42,7 +45,8 @@ pub record Stepped (g : Setting) (x : Step) (v : View) : Type 0 where
 
 -- what a step tells: the part that acts did this more, and the core makes the event there
 abbrev pub Grows : Setting → Event → Me (Unit {0}) View → ℕ → Me (Unit {0}) View → Type 0
-Grows g x before seen after = (after.0 ≡ grown (part_of g x) (step_of x seen) before.0) × Stepped g (step_of x seen) before.0
+Grows g x before seen after = (after.0 ≡ grown (part_of g x) (step_of x seen) before.0)
+    × Stepped g (step_of x seen) before.0
 
 -- what no net is opened for
 abbrev pub no_setting : Setting

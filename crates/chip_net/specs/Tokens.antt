@@ -1,5 +1,6 @@
 -- What the clauses of a net's calls know of its actors.
-use Rattle.std.specs.Prelude.{◌≡◌, ◌⊎◌, ℕ, ◌+◌, ◌*◌, ◌<◌, ◌≤◌, true, false, List, [], ◌∷◌, ◌++◌, length, reverse, Option, Some, None}
+use Rattle.std.specs.Prelude.{◌≡◌, ◌⊎◌, ℕ, ◌+◌, ◌*◌, ◌<◌, ◌≤◌, true, false, List, [], ◌∷◌, ◌++◌, length, reverse}
+use Rattle.std.specs.Prelude.{Option, Some, None}
 use Rattle.atomic_table.specs.Seated.{TableId}
 use Rattle.chip_actor.specs.Setting.{Setting, IsSetting}
 use Rattle.chip_actor.specs.declared.act.Act.{Act}
@@ -43,7 +44,18 @@ after_these a steps = record { net = a.net; vertex = a.vertex; room = a.room; di
 
 -- an actor of no net
 abbrev pub no_actor : ActorKnown
-no_actor = newcomer (record { table = record { words = 0; slots = 0; views_name = 0; atom = 0; block = 0; offset = 0; slot_names = [] }; setting = no_setting }) 0 0
+no_actor = newcomer (record {
+  table = record {
+    words = 0;
+    slots = 0;
+    views_name = 0;
+    atom = 0;
+    block = 0;
+    offset = 0;
+    slot_names = [];
+  };
+  setting = no_setting;
+}) 0 0
 
 -- what an actor knows that has this hand
 abbrev pub known_of : Option ActorKnown → ActorKnown
@@ -73,9 +85,10 @@ IsDueFor a act = IsDueBy a.net.setting a.vertex (part_known a) act
 
 -- ---- the net's words as a medium
 
--- the actor that began its turn as `first` has done these steps, the latest first, and this is its part. `here` is the net over which it
--- makes them, `now` what it knows
-pub record Holds (first : ActorKnown) (here : NetId) (now : ActorKnown) (g : Setting) (v : ℕ) (ds : List Step) (s : Part) : Type 0 where
+-- the actor that began its turn as `first` has done these steps, the latest first, and this is its part. `here` is the
+-- net over which it makes them, `now` what it knows
+pub record Holds (first : ActorKnown) (here : NetId) (now : ActorKnown) (g : Setting) (v : ℕ) (ds : List Step)
+    (s : Part) : Type 0 where
   pub here_is : here ≡ first.net
   pub setting_is : g ≡ first.net.setting
   pub vertex_is : v ≡ first.vertex
@@ -88,7 +101,8 @@ pub record Holds (first : ActorKnown) (here : NetId) (now : ActorKnown) (g : Set
 abbrev pub AnswersTurn : Setting → ℕ → ℕ → Part → Turn → Type 0
 AnswersTurn g v work after (Worked n) = (n ≡ work) × (0 < n)
 AnswersTurn g v work after Waiting = (work ≡ 0) × (is_passive g v after ≡ false)
-AnswersTurn g v work after Idle = (work ≡ 0) × (is_passive g v after ≡ true) × ((after.parent ≡ None) ⊎ (0 < deficit g v after))
+AnswersTurn g v work after Idle = (work ≡ 0) × (is_passive g v after ≡ true)
+    × ((after.parent ≡ None) ⊎ (0 < deficit g v after))
 
 -- no turn of the vertex v has more steps: two for each edge into it, four for each edge out of it, and three more
 abbrev pub most_steps : Setting → ℕ → ℕ
@@ -100,7 +114,8 @@ pub record MakesTurn (old new : ActorKnown) (answer : Turn) : Type 0 where
   pub record_is : new ≡ after_these old steps
   pub is_turn : turn old.net.setting old.vertex (part_known old) steps (part_known new)
   pub bounded : length steps ≤ most_steps old.net.setting old.vertex
-  pub answers : AnswersTurn old.net.setting old.vertex (work_of old.net.setting (part_known old) steps) (part_known new) answer
+  pub answers : AnswersTurn old.net.setting old.vertex (work_of old.net.setting (part_known old) steps)
+      (part_known new) answer
 
 -- the same of an actor's hand, with how many steps count and the actor's state
 pub record MakesTurnBy (old new : ActorKnown) (a : Actor) (work : ℕ) : Type 0 where

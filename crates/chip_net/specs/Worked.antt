@@ -19,13 +19,15 @@ two_cells = record (small_triangle (4 ∷ 0 ∷ 0 ∷ [])) { ring = 2 }
 -- seven edge words, seven words of acknowledgements, fourteen cells and three fired words
 abbrev pub TriangleWords : Type 0
 TriangleWords =
-    (index_of two_cells (of_edge 4) ≡ 4) × (index_of two_cells (of_acks 4) ≡ 11) × (index_of two_cells (of_cell 4 1) ≡ 23)
+    (index_of two_cells (of_edge 4) ≡ 4) × (index_of two_cells (of_acks 4) ≡ 11)
+    × (index_of two_cells (of_cell 4 1) ≡ 23)
     × (index_of two_cells (of_vertex 2) ≡ 30) × (word_count two_cells ≡ 31)
 
 -- the chips of vertex 0 lie in the first cell of its root edge
 abbrev pub TriangleOpens : Type 0
 TriangleOpens =
-    (first_value two_cells 7 (of_edge 4) ≡ 1) × (first_value two_cells 7 (of_cell 4 0) ≡ 4) × (first_value two_cells 7 (of_cell 4 1) ≡ 0)
+    (first_value two_cells 7 (of_edge 4) ≡ 1) × (first_value two_cells 7 (of_cell 4 0) ≡ 4)
+    × (first_value two_cells 7 (of_cell 4 1) ≡ 0)
     × (first_value two_cells 7 (of_edge 5) ≡ 0) × (first_value two_cells 7 (of_vertex 0) ≡ 0)
 
 -- a view of two parts: one of them acts, and is handed on
@@ -42,12 +44,15 @@ PartHandedOn =
 -- an empty cell and an acknowledgement make no row
 abbrev pub RowsOfATurn : Type 0
 RowsOfATurn =
-    (rows_of (saw (Take 2) 0 ∷ saw (Take 4) 4 ∷ saw (Settle 0) 0 ∷ saw (Fire 0 2) 0 ∷ saw (Ack 4) 0 ∷ []) ≡ Row.Take 4 4 ∷ Row.Fire 2 ∷ [])
+    (rows_of (saw (Take 2) 0 ∷ saw (Take 4) 4 ∷ saw (Settle 0) 0 ∷ saw (Fire 0 2) 0 ∷ saw (Ack 4) 0 ∷ [])
+    ≡ Row.Take 4 4 ∷ Row.Fire 2 ∷ [])
     × (take 1 (rows_of (saw (Take 4) 4 ∷ saw (Fire 0 2) 0 ∷ [])) ≡ Row.Take 4 4 ∷ [])
 
--- a poll, and the reads of the root: vertex 0 fired twice, vertex 1 once and was halted by its limit, and a seal halted vertex 2
+-- a poll, and the reads of the root: vertex 0 fired twice, vertex 1 once and was halted by its limit, and a seal halted
+-- vertex 2
 abbrev pub RootOfTheTriangle : Type 0
 RootOfTheTriangle =
     (root_settles two_cells 3 ≡ Settle 4 ∷ Settle 5 ∷ Settle 6 ∷ [])
     × (reads_from 0 (2 ∷ 1 ∷ []) ≡ saw (Read 0) 2 ∷ saw (Read 1) 1 ∷ [])
-    × (tally_after 0 true false (tally_after 1 true true (tally_after 2 false false (blank_tally 3))) ≡ record { fired = 2 ∷ 1 ∷ 0 ∷ []; over = 1 ∷ []; sealed = 2 ∷ []; room = 0 })
+    × (tally_after 0 true false (tally_after 1 true true (tally_after 2 false false (blank_tally 3)))
+    ≡ record { fired = 2 ∷ 1 ∷ 0 ∷ []; over = 1 ∷ []; sealed = 2 ∷ []; room = 0 })

@@ -60,12 +60,13 @@ impl Actor {
         self.state.vertex()
     }
 
-    /// One turn: a look at each edge into the vertex, and then all that the vertex may do. Nothing waits, and nothing is
-    /// locked.
+    /// One turn: a look at each edge into the vertex, and then all that the vertex may do. Nothing waits, and nothing
+    /// is locked.
     pub fn turn(&mut self, net: &Net) -> Turn
         requires net { self.old.net ≡ net.now }
         ensures turn { MakesTurn self.old self.new result }
-        ensures same { (self.new.net ≡ self.old.net) × (self.new.vertex ≡ self.old.vertex) × (self.new.room ≡ self.old.room) }
+        ensures same { (self.new.net ≡ self.old.net) × (self.new.vertex ≡ self.old.vertex)
+            × (self.new.room ≡ self.old.room) }
     {
         let Some(hand) = self.hand.take() else {
             unreachable!()
@@ -81,8 +82,8 @@ impl Actor {
         }
     }
 
-    /// The takes of messages and the firings of the vertex, in order, as far as there was room for them; and whether the
-    /// trace is cut, since there was no room for one.
+    /// The takes of messages and the firings of the vertex, in order, as far as there was room for them; and whether
+    /// the trace is cut, since there was no room for one.
     pub fn trace(&self) -> (&[TraceRow], bool)
         ensures rows { result.0.now ≡ take self.now.room (rows_of self.now.did) }
         ensures cut { result.1 ≡ nat_lt self.now.room (length (rows_of self.now.did)) }

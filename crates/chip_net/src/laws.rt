@@ -12,8 +12,9 @@ pub fn worked_nets()
     ensures root { RootOfTheTriangle }
 {}
 
-/// Whatever threads do, words and views are a world that grows by one event at a time from the opening's. What each part did
-/// stands in exactly one view. So what the core proves of every log holds of a running net between any two steps.
+/// Whatever threads do, words and views are a world that grows by one event at a time from the opening's. What each
+/// part did stands in exactly one view. So what the core proves of every log holds of a running net between any two
+/// steps.
 pub fn every_moment()
     ensures { EveryMomentIsReached }
 {}

@@ -116,9 +116,9 @@ fn stopper_of(net: &Net, seat: &mut PartSeat, stoppable: bool) -> Option<Stopper
 }
 
 impl Net {
-    /// A net for this game, whose edges have such rings, with its tokens: the root, the actors of the vertices in ascending order,
-    /// each with room for so many trace rows, and a stopper where the net is to be stoppable. All memory of the net's life is
-    /// taken here, and for want of it alone it is refused.
+    /// A net for this game, whose edges have such rings, with its tokens: the root, the actors of the vertices in
+    /// ascending order, each with room for so many trace rows, and a stopper where the net is to be stoppable. All
+    /// memory of the net's life is taken here, and for want of it alone it is refused.
     pub fn open(
         alloc: Global,
         game: &Game,

@@ -103,9 +103,9 @@ impl Root {
         }
     }
 
-    /// Once every message of the root is acknowledged, reads how often each vertex fired and whether it halted, and tells how
-    /// the game ended: the chips are those by the counts, so that what a sealed edge holds back counts as sent. Before, it
-    /// hands the root back.
+    /// Once every message of the root is acknowledged, reads how often each vertex fired and whether it halted, and
+    /// tells how the game ended: the chips are those by the counts, so that what a sealed edge holds back counts as
+    /// sent. Before, it hands the root back.
     pub fn finish(self, net: &Net) -> Result<(Outcome, Receipt), Root>
         requires net { self.net ≡ net.now }
         ensures { MatchResult result (λ r. (root_deficit self ≡ 0) × Finishes self r.1 r.0)

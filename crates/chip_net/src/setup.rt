@@ -5,7 +5,8 @@ use chip_link::Ring;
 use std::alloc::{AllocError, Global};
 use std::marker::Model;
 
-/// What a net is opened for, a game and the rings of its edges, and where each word lies. Contracts see it as a setting.
+/// What a net is opened for, a game and the rings of its edges, and where each word lies. Contracts see it as a
+/// setting.
 #[derive(Debug, Drop)]
 pub struct Setup {
     game: Game,

@@ -24,7 +24,8 @@ impl Model for Tally {
     ghost view = { λ a. record { fired = a.fired.items; over = a.over.items; sealed = a.sealed.items; room = a.room } };
 
     ghost invariant = { λ a. (length a.fired.items + a.room ≤ vec_capacity a.fired)
-        × (length a.over.items + a.room ≤ vec_capacity a.over) × (length a.sealed.items + a.room ≤ vec_capacity a.sealed) };
+        × (length a.over.items + a.room ≤ vec_capacity a.over)
+        × (length a.sealed.items + a.room ≤ vec_capacity a.sealed) };
 }
 
 impl Tally {

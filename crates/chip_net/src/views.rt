@@ -3,7 +3,8 @@
 use chip_link::Step;
 use std::collections::LinkedList;
 
-/// A part and what it did, the first step in front. A vertex goes by its number; after the vertices come the root and the stopper.
+/// A part and what it did, the first step in front. A vertex goes by its number; after the vertices come the root and
+/// the stopper.
 pub struct History {
     pub part: u64,
     pub did: LinkedList<Step>,

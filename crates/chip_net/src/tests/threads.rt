@@ -156,7 +156,8 @@ fn all_play<R: Threads + Sync>(
             requires { All (λ a. a.net ≡ net.now) first.items × All (λ a. a.net ≡ net.now) second.items }
         { two_turn(rt, net, closed, first, second) },
         move || -> Root
-            requires { All (λ a. a.net ≡ net.now) third.items × IfSome stopper (λ s. s.net ≡ net.now) × (root.net ≡ net.now) }
+            requires { All (λ a. a.net ≡ net.now) third.items × IfSome stopper (λ s. s.net ≡ net.now)
+                × (root.net ≡ net.now) }
             ensures { result.net ≡ net.entry.now }
         { turn_and_poll(rt, net, closed, third, stopper, edge, root) },
     );

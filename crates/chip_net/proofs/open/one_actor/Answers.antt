@@ -9,8 +9,10 @@ use Rattle.chip_net.proofs.Viewing.{dropped_else}
 use Rattle.chip_net.proofs.open.one_actor.Goals as goal
 use Rattle.chip_net.proofs.open.one_actor.Goals.{After-hand_on-own}
 
-others : (c : After-hand_on-own) (p : ℕ) → c.args.vertex < p → find p c.hand_on-own.new.seat.me.0.parts ≡ find p c.args.seat.now.me.0.parts
-others c p l = ap (λ (v : View). find p v.parts) c.hand_on-own.ensures.kept.1 ∙ dropped_else c.args.vertex p c.args.seat.now.me.0.parts (λ e. omega arith)
+others : (c : After-hand_on-own) (p : ℕ) → c.args.vertex < p
+    → find p c.hand_on-own.new.seat.me.0.parts ≡ find p c.args.seat.now.me.0.parts
+others c p l = ap (λ (v : View). find p v.parts) c.hand_on-own.ensures.kept.1
+    ∙ dropped_else c.args.vertex p c.args.seat.now.me.0.parts (λ e. omega arith)
 
 pub returns-in_err-state-clause-others : goal.returns-in_err-state-clause-others
 returns-in_err-state-clause-others c = others (goal.at.returns-in_err-state-clause-others c).After-hand_on-own
@@ -24,6 +26,8 @@ returns-clause-others c = others (goal.at.returns-clause-others c).After-hand_on
 pub new-requires-4-clause-state : goal.new-requires-4-clause-state
 new-requires-4-clause-state c =
     let a : Actor = c.in_ok-state.state in
-    let opens : StandsFor c.setup-setup.result.now (opened c.setup-setup.result.now) a = subst (λ (z : ChipGame × ℕ). StandsFor (setting_of z.0 z.1) (opened (setting_of z.0 z.1)) a)
+    let opens : StandsFor c.setup-setup.result.now (opened c.setup-setup.result.now) a =
+    subst (λ (z : ChipGame × ℕ). StandsFor (setting_of z.0 z.1) (opened (setting_of z.0 z.1)) a)
     (λ i. (c.game.ensures.value i, c.ring.ensures.value i)) c.in_ok-state.ensures.opened in
-    subst (λ (k : ActorKnown). StandsFor k.net.setting (part_known k) a) (sym c.new-3.ensures) (subst (λ (g : Setting). StandsFor g (opened g) a) (sym c.of.ensures) opens)
+    subst (λ (k : ActorKnown). StandsFor k.net.setting (part_known k) a) (sym c.new-3.ensures)
+    (subst (λ (g : Setting). StandsFor g (opened g) a) (sym c.of.ensures) opens)

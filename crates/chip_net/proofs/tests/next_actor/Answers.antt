@@ -8,4 +8,6 @@ returns-clause-others g c = λ k d l.
     let items = c.pop.ensures.items in
     let whole = ap length items in
     let parts = length-append c.pop.new.self.items (option_to_list c.pop.result) in
-    ap (λ (a : ActorKnown). a.net) (sym (ap (λ (xs : List ActorKnown). get_or xs k d) items ∙ get_or_append_left c.pop.new.self.items (option_to_list c.pop.result) d k l)) ∙ c.requires k d (omega arith)
+    ap (λ (a : ActorKnown). a.net)
+    (sym (ap (λ (xs : List ActorKnown). get_or xs k d) items
+    ∙ get_or_append_left c.pop.new.self.items (option_to_list c.pop.result) d k l)) ∙ c.requires k d (omega arith)

@@ -3,7 +3,8 @@ use Rattle.chip_net.specs.declared.actor.Turn.{Turn}
 use Rattle.chip_net.specs.Tokens.{MakesTurn, known_of, part_known}
 use Rattle.chip_net.proofs.Answering.{worked, waiting, idle}
 use Rattle.chip_net.proofs.actor.Actor.turn.Goals as goal
-use Rattle.chip_net.proofs.actor.Actor.turn.Goals.{then-work-gt0, else-work-gt0+then-passive, else-work-gt0+else-passive}
+use Rattle.chip_net.proofs.actor.Actor.turn.Goals.{then-work-gt0, else-work-gt0+then-passive}
+use Rattle.chip_net.proofs.actor.Actor.turn.Goals.{else-work-gt0+else-passive}
 
 pub returns-clause-turn : goal.returns-clause-turn
 returns-clause-turn c =
@@ -12,11 +13,14 @@ returns-clause-turn c =
     let a = c.turn_over-work.new.state in
     let after = c.turn_over-work.result.1 in
     elim c.if-work-gt0.branch [
-      | then-work-gt0 w ↦ subst (λ (t : Turn). MakesTurn c.args.self.now after t) (sym w.result-is) (worked c.args.self.now c.in-Some.hand after own a c.turn_over-work.result.0 over w.if-work-gt0.true)
+      | then-work-gt0 w ↦ subst (λ (t : Turn). MakesTurn c.args.self.now after t) (sym w.result-is)
+          (worked c.args.self.now c.in-Some.hand after own a c.turn_over-work.result.0 over w.if-work-gt0.true)
       | else-work-gt0+then-passive w ↦ subst (λ (t : Turn). MakesTurn c.args.self.now after t) (sym w.result-is)
-          (idle c.args.self.now c.in-Some.hand after own a c.turn_over-work.result.0 over (let l = w.if-work-gt0.false in omega arith)
+          (idle c.args.self.now c.in-Some.hand after own a c.turn_over-work.result.0 over (let l = w.if-work-gt0.false
+          in omega arith)
           (sym w.if-passive.true ∙ w.passive.ensures.part c.in-Some.hand.net.setting (part_known after) over.stands))
       | else-work-gt0+else-passive w ↦ subst (λ (t : Turn). MakesTurn c.args.self.now after t) (sym w.result-is)
-          (waiting c.args.self.now c.in-Some.hand after own a c.turn_over-work.result.0 over (let l = w.if-work-gt0.false in omega arith)
+          (waiting c.args.self.now c.in-Some.hand after own a c.turn_over-work.result.0 over
+          (let l = w.if-work-gt0.false in omega arith)
           (sym w.if-passive.false ∙ w.passive.ensures.part c.in-Some.hand.net.setting (part_known after) over.stands))
     ]

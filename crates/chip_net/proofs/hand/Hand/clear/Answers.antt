@@ -4,22 +4,33 @@ use Rattle.chip_net.proofs.Acting.{same_table, word_room, word_there, act_rule, 
 use Rattle.chip_net.proofs.hand.Hand.clear.Goals as goal
 
 pub cell_word-word-requires : goal.cell_word-word-requires
-cell_word-word-requires c = word_there c.self.inside c.self.invariant c.args.self.now c.self.view_is c.args.net.now c.requires.net (Do.Clear c.args.edge c.args.cell) c.requires.due c.setup.result.now c.setup.ensures.value
+cell_word-word-requires c = word_there c.self.inside c.self.invariant c.args.self.now c.self.view_is c.args.net.now
+    c.requires.net (Do.Clear c.args.edge c.args.cell) c.requires.due c.setup.result.now c.setup.ensures.value
 
 pub load-requires-clause-place : goal.load-requires-clause-place
 load-requires-clause-place c = (
-  same_table c.self.inside c.self.invariant c.args.self.now c.self.view_is c.args.net.now c.requires.net (Do.Clear c.args.edge c.args.cell) c.requires.due c.words.result.now.shared.table_id c.words.ensures.table,
-  word_room c.self.inside c.self.invariant c.args.self.now c.self.view_is c.args.net.now c.requires.net (Do.Clear c.args.edge c.args.cell) c.requires.due c.setup.result.now c.setup.ensures.value c.words.result.now.shared.table_id c.words.ensures.table c.words.ensures.count c.cell_word-word.result c.cell_word-word.ensures,
+  same_table c.self.inside c.self.invariant c.args.self.now c.self.view_is c.args.net.now c.requires.net
+      (Do.Clear c.args.edge c.args.cell) c.requires.due c.words.result.now.shared.table_id c.words.ensures.table,
+  word_room c.self.inside c.self.invariant c.args.self.now c.self.view_is c.args.net.now c.requires.net
+      (Do.Clear c.args.edge c.args.cell) c.requires.due c.setup.result.now c.setup.ensures.value
+      c.words.result.now.shared.table_id c.words.ensures.table c.words.ensures.count c.cell_word-word.result
+      c.cell_word-word.ensures,
 )
 
 pub load-requires-clause-rule : goal.load-requires-clause-rule
-load-requires-clause-rule c = act_rule c.self.inside c.self.invariant c.args.self.now c.self.view_is c.args.net.now c.requires.net (Do.Clear c.args.edge c.args.cell) c.requires.due
-    c.words.result.now.shared.key.value c.words.ensures.key c.setup.result.now c.setup.ensures.value c.words.result.now.shared.table_id.slots c.cell_word-word.result c.cell_word-word.ensures
+load-requires-clause-rule c = act_rule c.self.inside c.self.invariant c.args.self.now c.self.view_is c.args.net.now
+    c.requires.net (Do.Clear c.args.edge c.args.cell) c.requires.due
+    c.words.result.now.shared.key.value c.words.ensures.key c.setup.result.now c.setup.ensures.value
+    c.words.result.now.shared.table_id.slots c.cell_word-word.result c.cell_word-word.ensures
 
 pub invariant_of-self : goal.invariant_of-self
-invariant_of-self c = still_hand c.self.inside c.self.invariant c.args.self.now c.self.view_is c.args.net.now c.requires.net (Do.Clear c.args.edge c.args.cell) c.requires.due
-    c.words.result.now.shared.key.value c.words.ensures.key c.load.result c.load.new.seat.me c.load.ensures.told c.self.inside.trace (keeps_none c.self.inside.trace)
+invariant_of-self c = still_hand c.self.inside c.self.invariant c.args.self.now c.self.view_is c.args.net.now
+    c.requires.net (Do.Clear c.args.edge c.args.cell) c.requires.due
+    c.words.result.now.shared.key.value c.words.ensures.key c.load.result c.load.new.seat.me c.load.ensures.told
+    c.self.inside.trace (keeps_none c.self.inside.trace)
 
 pub returns : goal.returns
-returns c = makes c.self.inside c.self.invariant c.args.self.now c.self.view_is c.args.net.now c.requires.net (Do.Clear c.args.edge c.args.cell) c.requires.due
-    c.words.result.now.shared.key.value c.words.ensures.key c.load.result c.load.new.seat.me c.load.ensures.told c.load.new.seat.table_id c.load.ensures.same c.self.inside.trace.room refl
+returns c = makes c.self.inside c.self.invariant c.args.self.now c.self.view_is c.args.net.now c.requires.net
+    (Do.Clear c.args.edge c.args.cell) c.requires.due
+    c.words.result.now.shared.key.value c.words.ensures.key c.load.result c.load.new.seat.me c.load.ensures.told
+    c.load.new.seat.table_id c.load.ensures.same c.self.inside.trace.room refl

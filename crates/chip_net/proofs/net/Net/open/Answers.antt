@@ -11,7 +11,8 @@ vertices c = ap (λ (g : Setting). g.graph.vertices) (c.in_ok-net.ensures.net �
 pub all_actors-requires-clause-parts : goal.all_actors-requires-clause-parts
 all_actors-requires-clause-parts c = λ p l.
     let same = c.in_ok-net.ensures.net in
-    ap (λ (v : View). find p v.parts) c.in_ok-net.ensures.seat.1 ∙ part_there (c.in_ok-setup.setup.graph.vertices + 2) p (subst (λ (g : Setting). p < g.graph.vertices + 2) same l)
+    ap (λ (v : View). find p v.parts) c.in_ok-net.ensures.seat.1
+    ∙ part_there (c.in_ok-setup.setup.graph.vertices + 2) p (subst (λ (g : Setting). p < g.graph.vertices + 2) same l)
 
 pub returns-clause-actors : goal.returns-clause-actors
 returns-clause-actors c = λ v l.

@@ -3,4 +3,5 @@ use Rattle.chip_net.proofs.Turning.{serves}
 use Rattle.chip_net.proofs.net_words.NetWordsMedium.clear.Goals as goal
 
 pub returns : goal.returns
-returns g c = serves g.J.Turning.first c.args.self.now.net.now c.args.self.now.hand c.clear.new.self (Do.Clear c.args.edge c.args.cell) c.clear.result c.clear.ensures
+returns g c = serves g.J.Turning.first c.args.self.now.net.now c.args.self.now.hand c.clear.new.self
+    (Do.Clear c.args.edge c.args.cell) c.clear.result c.clear.ensures

@@ -3,4 +3,5 @@ use Rattle.chip_net.proofs.Turning.{serves}
 use Rattle.chip_net.proofs.net_words.NetWordsMedium.fire.Goals as goal
 
 pub returns : goal.returns
-returns g c = serves g.J.Turning.first c.args.self.now.net.now c.args.self.now.hand c.fire.new.self (Do.Fire c.args.k) c.fire.result c.fire.ensures
+returns g c = serves g.J.Turning.first c.args.self.now.net.now c.args.self.now.hand c.fire.new.self
+    (Do.Fire c.args.k) c.fire.result c.fire.ensures

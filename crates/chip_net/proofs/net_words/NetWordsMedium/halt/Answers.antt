@@ -3,4 +3,5 @@ use Rattle.chip_net.proofs.Turning.{serves}
 use Rattle.chip_net.proofs.net_words.NetWordsMedium.halt.Goals as goal
 
 pub returns : goal.returns
-returns g c = serves g.J.Turning.first c.args.self.now.net.now c.args.self.now.hand c.halt.new.self (Do.Halt c.args.by_limit) c.halt.result c.halt.ensures
+returns g c = serves g.J.Turning.first c.args.self.now.net.now c.args.self.now.hand c.halt.new.self
+    (Do.Halt c.args.by_limit) c.halt.result c.halt.ensures

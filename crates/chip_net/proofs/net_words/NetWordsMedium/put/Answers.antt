@@ -3,4 +3,5 @@ use Rattle.chip_net.proofs.Turning.{serves}
 use Rattle.chip_net.proofs.net_words.NetWordsMedium.put.Goals as goal
 
 pub returns : goal.returns
-returns g c = serves g.J.Turning.first c.args.self.now.net.now c.args.self.now.hand c.put.new.self (Do.Put c.args.edge c.args.cell c.args.value) 0 c.put.ensures
+returns g c = serves g.J.Turning.first c.args.self.now.net.now c.args.self.now.hand c.put.new.self
+    (Do.Put c.args.edge c.args.cell c.args.value) 0 c.put.ensures

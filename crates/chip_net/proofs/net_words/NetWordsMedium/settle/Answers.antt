@@ -3,4 +3,5 @@ use Rattle.chip_net.proofs.Turning.{serves}
 use Rattle.chip_net.proofs.net_words.NetWordsMedium.settle.Goals as goal
 
 pub returns : goal.returns
-returns g c = serves g.J.Turning.first c.args.self.now.net.now c.args.self.now.hand c.settle.new.self (Do.Settle c.args.edge) c.settle.result c.settle.ensures
+returns g c = serves g.J.Turning.first c.args.self.now.net.now c.args.self.now.hand c.settle.new.self
+    (Do.Settle c.args.edge) c.settle.result c.settle.ensures

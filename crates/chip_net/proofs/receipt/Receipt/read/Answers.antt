@@ -12,28 +12,35 @@ there : (c : After-words) → c.args.vertex < c.self.inside.setup.graph.vertices
 there c = subst (λ (r : RootKnown). c.args.vertex < r.net.setting.graph.vertices) (sym c.self.view_is) c.requires.vertex
 
 same : (c : After-words) → c.words.result.now.shared.key.value ≡ c.self.inside.setup
-same c = c.words.ensures.key ∙ sym (ap (λ (n : NetId). n.setting) (ap (λ (r : RootKnown). r.net) c.self.view_is ∙ c.requires.net))
+same c = c.words.ensures.key
+    ∙ sym (ap (λ (n : NetId). n.setting) (ap (λ (r : RootKnown). r.net) c.self.view_is ∙ c.requires.net))
 
-closed : (c : After-words) → deficit c.self.inside.setup (root c.self.inside.setup) (part_of_view c.self.inside.setup (root c.self.inside.setup) c.self.inside.seat.me.0) ≡ 0
+closed : (c : After-words)
+    → deficit c.self.inside.setup (root c.self.inside.setup)
+    (part_of_view c.self.inside.setup (root c.self.inside.setup) c.self.inside.seat.me.0) ≡ 0
 closed c = ap root_deficit c.self.view_is ∙ c.requires.closed
 
 pub load-requires-clause-rule : goal.load-requires-clause-rule
 load-requires-clause-rule c =
     let d = (goal.at.load-requires-clause-rule c).After-words in
-    read_rule c.self.inside c.self.invariant c.args.vertex (there d) (closed d) c.words.result.now.shared.key.value (same d) c.words.result.now.shared.table_id.slots c.fired_word-word.result c.fired_word-word.ensures
+    read_rule c.self.inside c.self.invariant c.args.vertex (there d) (closed d) c.words.result.now.shared.key.value
+    (same d) c.words.result.now.shared.table_id.slots c.fired_word-word.result c.fired_word-word.ensures
 
 pub invariant_of-self : goal.invariant_of-self
 invariant_of-self c =
     let d = (goal.at.invariant_of-self c).After-words in
-    still_receipt c.self.inside c.self.invariant c.args.vertex (there d) (closed d) c.words.result.now.shared.key.value (same d) c.load.result c.load.new.seat.me c.load.ensures.told
+    still_receipt c.self.inside c.self.invariant c.args.vertex (there d) (closed d) c.words.result.now.shared.key.value
+    (same d) c.load.result c.load.new.seat.me c.load.ensures.told
 
 pub returns-clause-reads : goal.returns-clause-reads
 returns-clause-reads c =
     let d = (goal.at.returns-clause-reads c).After-words in
-    reads c.self.inside c.self.invariant c.args.vertex (there d) (closed d) c.words.result.now.shared.key.value (same d) c.load.result c.load.new.seat.me c.load.ensures.told
+    reads c.self.inside c.self.invariant c.args.vertex (there d) (closed d) c.words.result.now.shared.key.value
+    (same d) c.load.result c.load.new.seat.me c.load.ensures.told
     c.args.self.now c.self.view_is c.load.new.seat.table_id c.load.ensures.same
 
 pub returns-clause-word : goal.returns-clause-word
 returns-clause-word c =
     let d = (goal.at.returns-clause-word c).After-words in
-    word_is c.self.inside c.self.invariant c.args.vertex (there d) (closed d) c.words.result.now.shared.key.value (same d) c.load.result c.load.new.seat.me c.load.ensures.told
+    word_is c.self.inside c.self.invariant c.args.vertex (there d) (closed d) c.words.result.now.shared.key.value
+    (same d) c.load.result c.load.new.seat.me c.load.ensures.told

@@ -7,14 +7,23 @@ use Rattle.chip_net.proofs.Reading.{still_settled, reads_more}
 use Rattle.chip_net.proofs.receipt.Receipt.read_all.Goals as goal
 
 pub read-requires-clause-closed : goal.read-requires-clause-closed
-read-requires-clause-closed c = still_settled c.args.self.now c.loop-vertex.self c.loop-vertex.tally c.loop-vertex.vertex c.loop-vertex.invariant c.requires.closed
+read-requires-clause-closed c = still_settled c.args.self.now c.loop-vertex.self c.loop-vertex.tally
+    c.loop-vertex.vertex c.loop-vertex.invariant c.requires.closed
 
 pub loop-vertex-preserved : goal.loop-vertex-preserved
 loop-vertex-preserved c =
     let some = c.unwrap.ensures in
-    let fired : c.unwrap.result.fired ≡ fired_in c.read.result = subst (λ (o : Option FiredWord). IfSome o (λ w. w.fired ≡ fired_in c.read.result)) some c.from_word-word.ensures.fired in
-    let halted : c.unwrap.result.halted ≡ halted_in c.read.result = subst (λ (o : Option FiredWord). IfSome o (λ w. w.halted ≡ halted_in c.read.result)) some c.from_word-word.ensures.halted in
-    let by_limit : c.unwrap.result.by_limit ≡ by_limit_in c.read.result = subst (λ (o : Option FiredWord). IfSome o (λ w. w.by_limit ≡ by_limit_in c.read.result)) some c.from_word-word.ensures.by_limit in
+    let fired : c.unwrap.result.fired ≡ fired_in c.read.result =
+    subst (λ (o : Option FiredWord). IfSome o (λ w. w.fired ≡ fired_in c.read.result)) some
+    c.from_word-word.ensures.fired in
+    let halted : c.unwrap.result.halted ≡ halted_in c.read.result =
+    subst (λ (o : Option FiredWord). IfSome o (λ w. w.halted ≡ halted_in c.read.result)) some
+    c.from_word-word.ensures.halted in
+    let by_limit : c.unwrap.result.by_limit ≡ by_limit_in c.read.result =
+    subst (λ (o : Option FiredWord). IfSome o (λ w. w.by_limit ≡ by_limit_in c.read.result)) some
+    c.from_word-word.ensures.by_limit in
     let t : TallyState = c.loop-vertex.tally in
-    subst (λ (u : TallyState). IsReading c.args.self.now c.read.new.self u (c.loop-vertex.vertex + 1)) (sym (c.note.ensures ∙ (λ i. tally_after (fired i) (halted i) (by_limit i) t)))
-    (reads_more c.args.self.now c.loop-vertex.self c.read.new.self t c.loop-vertex.vertex c.read.result c.game.ensures.setting c.loop-vertex.invariant c.read.ensures.reads)
+    subst (λ (u : TallyState). IsReading c.args.self.now c.read.new.self u (c.loop-vertex.vertex + 1))
+    (sym (c.note.ensures ∙ (λ i. tally_after (fired i) (halted i) (by_limit i) t)))
+    (reads_more c.args.self.now c.loop-vertex.self c.read.new.self t c.loop-vertex.vertex c.read.result
+    c.game.ensures.setting c.loop-vertex.invariant c.read.ensures.reads)

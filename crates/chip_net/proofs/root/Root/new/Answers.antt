@@ -13,12 +13,16 @@ pub invariant_of-result : goal.invariant_of-result
 invariant_of-result c =
     let none = ap steps_or_none c.requires in
     let g : Setting = c.args.setup in
-    let stands : RootStandsFor g (opened g) c.in_ok-state.state = subst (λ (game : ChipGame). RootStandsFor (setting_of game g.ring) (opened (setting_of game g.ring)) c.in_ok-state.state) c.game.ensures.value (c.in_ok-state.ensures g.ring) in (
+    let stands : RootStandsFor g (opened g) c.in_ok-state.state =
+    subst (λ (game : ChipGame). RootStandsFor (setting_of game g.ring)
+    (opened (setting_of game g.ring)) c.in_ok-state.state) c.game.ensures.value (c.in_ok-state.ensures g.ring) in (
       record {
         setting = c.game.ensures.setting;
         has = c.requires ∙ ap Some (sym none);
-        stands = subst (λ (did : List Step). RootStandsFor g (part_by g (opened g) did) c.in_ok-state.state) (sym none) stands;
+        stands = subst (λ (did : List Step). RootStandsFor g (part_by g (opened g) did) c.in_ok-state.state)
+            (sym none) stands;
       },
       c.in_ok-tally.ensures ∙ ap blank_tally c.vertices-vertices.ensures.value,
-      ap length (c.in_ok-chips.ensures.items_if_clones_equal (λ y h. h)) ∙ (let z : ℕ = 0 in length-replicate _ z) ∙ c.vertices-vertices.ensures.value,
+      ap length (c.in_ok-chips.ensures.items_if_clones_equal (λ y h. h)) ∙ (let z : ℕ = 0 in length-replicate _ z)
+          ∙ c.vertices-vertices.ensures.value,
     )

@@ -11,16 +11,20 @@ use std::marker::Model;
 pub struct Setup {
     game: Game,
     ring: Ring,
+    // How many edges there are, the root's among them: each operation needs it.
+    edges: u64,
 }
 
 impl Model for Setup {
+    ghost use Rattle.std.specs.Prelude.{◌≡◌};
     ghost use Rattle.chip_actor.specs.Setting.{Setting, setting_of, IsSetting};
+    ghost use Rattle.chip_actor.specs.Edges.{all_edges};
 
     ghost Value = { Setting };
 
     ghost view = { λ a. setting_of a.game a.ring };
 
-    ghost invariant = { λ a. IsSetting (setting_of a.game a.ring) };
+    ghost invariant = { λ a. IsSetting (setting_of a.game a.ring) × (a.edges ≡ all_edges (setting_of a.game a.ring)) };
 }
 
 impl Setup {
@@ -33,11 +37,13 @@ impl Setup {
     pub(crate) fn new(alloc: Global, game: &Game, ring: Ring) -> Result<Setup, AllocError>
         ensures { IfOk result (λ setup. setup ≡ setting_of game.now ring) }
     {
-        let _graph = game.graph();
+        let graph = game.graph();
         let _cells = ring.cells();
+        let edges = graph.edges().len() as u64 + graph.vertices();
         Ok(Setup {
             game: game.copy(alloc)?,
             ring,
+            edges,
         })
     }
 
@@ -47,6 +53,7 @@ impl Setup {
         Ok(Setup {
             game: self.game.copy(alloc)?,
             ring: self.ring,
+            edges: self.edges,
         })
     }
 
@@ -84,7 +91,9 @@ impl Setup {
         ensures value { result ≡ all_edges self.now }
         ensures few { result ≤ 69632 }
     {
-        self.graph_edges() + self.vertices()
+        let _edges = self.graph_edges();
+        let _vertices = self.vertices();
+        self.edges
     }
 
     /// The edge from the root to a vertex.

@@ -19,7 +19,8 @@ IsOurs crew a = (a.net ≡ crew.net) × (a.vertex < crew.net.setting.graph.verti
 -- the root was polled so many times more
 abbrev pub Polled : ℕ → RootKnown → RootKnown → Type 0
 Polled zero old now = now ≡ old
-Polled (suc k) old now = (before : RootKnown) × Polled k old before × IsPolling before now before.net.setting.graph.vertices
+Polled (suc k) old now =
+    (before : RootKnown) × Polled k old before × IsPolling before now before.net.setting.graph.vertices
 
 -- the place of each vertex has its actor, or none yet
 pub record AreSeats (crew : CrewId) (seats : List (Option ActorKnown)) : Type 0 where

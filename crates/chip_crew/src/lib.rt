@@ -1,8 +1,8 @@
-//! Workers for a running net: threads that share its actors by one bounded queue.
+//! What each worker of a running net does. Workers share the net's actors by one bounded queue.
 //!
 //! The rule of the queue (`queue.rt`) is that every actor in it was opened by this net. A worker takes an actor,
-//! gives it a turn and puts it back; worker 0 has also the root, which it polls, and the stopper. When all have
-//! ended the actors are gathered (`roll.rt`).
+//! gives it a turn and puts it back (`worker.rt`); worker 0 has also the root, which it polls, and the stopper
+//! (`lead.rt`). Once all have ended there is a last poll (`ending.rt`), and the actors are gathered (`roll.rt`).
 #![tactic(auto)]
 
 mod ending;

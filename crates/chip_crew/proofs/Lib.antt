@@ -1,0 +1,4 @@
+pub mod Queueing
+pub mod Owning
+pub mod Polling
+pub mod Gathering

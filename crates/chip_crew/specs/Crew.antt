@@ -1,0 +1,37 @@
+-- What a crew keeps of its net.
+use Rattle.std.specs.Prelude.{◌≡◌, ℕ, zero, suc, ◌<◌, List, length, slice_get, Option, Some}
+use Rattle.chip_net.specs.Tokens.{NetId, ActorKnown, no_actor}
+use Rattle.chip_net.specs.Roots.{RootKnown, IsPolling}
+
+-- whose actors these are: the net, and how many trace rows each actor has room for
+pub record CrewId : Type 0 where
+  pub net : NetId
+  pub room : ℕ
+
+-- the crew of no net
+abbrev pub no_crew : CrewId
+no_crew = record { net = no_actor.net; room = 0 }
+
+-- the net opened this actor
+abbrev pub IsOurs : CrewId → ActorKnown → Type 0
+IsOurs crew a = (a.net ≡ crew.net) × (a.vertex < crew.net.setting.graph.vertices) × (a.room ≡ crew.room)
+
+-- the root was polled so many times more
+abbrev pub Polled : ℕ → RootKnown → RootKnown → Type 0
+Polled zero old now = now ≡ old
+Polled (suc k) old now =
+    (before : RootKnown) × Polled k old before × IsPolling before now before.net.setting.graph.vertices
+
+-- the place of each vertex has its actor, or none yet
+pub record AreSeats (crew : CrewId) (seats : List (Option ActorKnown)) : Type 0 where
+  pub count : length seats ≡ crew.net.setting.graph.vertices
+  pub each : (v : ℕ) (a : ActorKnown) → slice_get seats v ≡ Some (Some a) → IsOurs crew a × (a.vertex ≡ v)
+
+-- actors of the first vertices, each once, ascending
+abbrev pub AreInOrder : CrewId → List ActorKnown → Type 0
+AreInOrder crew actors = (v : ℕ) (a : ActorKnown) → slice_get actors v ≡ Some a → IsOurs crew a × (a.vertex ≡ v)
+
+-- the actors of all vertices, each once, ascending
+pub record AreActors (crew : CrewId) (actors : List ActorKnown) : Type 0 where
+  pub count : length actors ≡ crew.net.setting.graph.vertices
+  pub order : AreInOrder crew actors

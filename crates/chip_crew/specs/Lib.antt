@@ -1,0 +1,4 @@
+pub mod Plans
+pub mod Crew
+pub mod Ending
+pub mod Gathering

@@ -1,0 +1,29 @@
+-- Which plans there are for a crew.
+use Rattle.std.specs.Prelude.{ℕ, ◌^◌, Bool, true, ◌&&◌, nat_lt, nat_le, length, Option, Some, None}
+use Rattle.chip_graph.specs.ChipGame.{ChipGame}
+use Rattle.chip_link.specs.Rings.{max_ring}
+use Rattle.chip_crew.specs.declared.plan.Plan.{Plan}
+use Rattle.chip_crew.specs.declared.plan.SealAt.{SealAt}
+
+abbrev pub max_workers : ℕ
+max_workers = 64
+
+abbrev pub max_turns : ℕ
+max_turns = 2 ^ 40
+
+abbrev pub max_trace_rows : ℕ
+max_trace_rows = 2 ^ 20
+
+-- from one to so many
+abbrev pub is_count : ℕ → ℕ → Bool
+is_count most n = nat_lt 0 n && nat_le n most
+
+-- what is to be sealed is an edge of the graph
+abbrev pub names_edge : ChipGame → Option SealAt → Bool
+names_edge game None = true
+names_edge game (Some at) = nat_lt at.edge (length game.graph.edges)
+
+-- the numbers are in their ranges
+abbrev pub is_plan : ChipGame → Plan → Bool
+is_plan game plan = is_count max_workers plan.workers && is_count max_ring plan.ring && is_count max_turns plan.turns
+    && nat_le plan.trace_rows max_trace_rows && names_edge game plan.seal

@@ -1,0 +1,17 @@
+//! What each worker of a running net does. Workers share the net's actors by one bounded queue.
+//!
+//! The rule of the queue (`queue.rt`) is that every actor in it was opened by this net. A worker takes an actor,
+//! gives it a turn and puts it back (`worker.rt`); worker 0 has also the root, which it polls, and the stopper
+//! (`lead.rt`). Once all have ended there is a last poll (`ending.rt`), and the actors are gathered (`roll.rt`).
+#![tactic(auto)]
+
+mod ending;
+mod fault;
+mod lead;
+mod plan;
+mod queue;
+mod roll;
+mod worker;
+
+pub use fault::CrewFault;
+pub use plan::{Gate, MAX_TRACE_ROWS, MAX_TURNS, MAX_WORKERS, Plan, SealAt};

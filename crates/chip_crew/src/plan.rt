@@ -1,0 +1,68 @@
+ghost use Rattle.std.specs.Prelude.{◌≡◌};
+ghost use Rattle.chip_crew.specs.Plans.{is_plan};
+
+use chip_graph::Game;
+use chip_link::MAX_RING;
+
+/// The most workers of a crew.
+pub const MAX_WORKERS: u64 = 64;
+
+/// The most turns of each worker.
+pub const MAX_TURNS: u64 = 1 << 40;
+
+/// The most trace rows of each actor.
+pub const MAX_TRACE_ROWS: u64 = 1 << 20;
+
+/// Asked before each turn of each worker, by the worker's own thread. It returns.
+pub trait Gate {
+    /// Whether the worker may begin its turn of this number. Workers and turns are numbered from 0, and each worker
+    /// counts its own turns. Where it may not, the whole crew ends.
+    fn pass(&self, worker: u64, turn: u64) -> bool;
+}
+
+/// When worker 0 seals an edge.
+#[derive(Clone, Copy, Debug, PartialEq, Eq)]
+pub struct SealAt {
+    /// Before the turn of worker 0 that has this number, counted from 0. A turn that is never made seals nothing.
+    pub turn: u64,
+    /// The edge of the graph.
+    pub edge: u64,
+}
+
+/// How a crew is to work.
+#[derive(Clone, Copy, Debug, PartialEq, Eq)]
+pub struct Plan {
+    /// How many threads share the actors, 1 to `MAX_WORKERS`.
+    pub workers: u64,
+    /// How many cells the ring of each edge has, 1 to `MAX_RING`.
+    pub ring: u64,
+    /// How many turns each worker makes at most, 1 to `MAX_TURNS`.
+    pub turns: u64,
+    /// How many rows of its trace each actor has room for, up to `MAX_TRACE_ROWS`.
+    pub trace_rows: u64,
+    /// The edge that is sealed, if any.
+    pub seal: Option<SealAt>,
+}
+
+impl Plan {
+    /// Whether the numbers are in their ranges for this game.
+    pub(crate) fn is_within(&self, game: &Game) -> bool
+        ensures { result ≡ is_plan game.now self.now }
+    {
+        let names_edge = match self.seal {
+            Some(at) => at.edge < game.graph().edges().len() as u64,
+            None => true,
+        };
+        is_count(MAX_WORKERS, self.workers)
+            && is_count(MAX_RING, self.ring)
+            && is_count(MAX_TURNS, self.turns)
+            && self.trace_rows <= MAX_TRACE_ROWS
+            && names_edge
+    }
+}
+
+fn is_count(most: u64, count: u64) -> bool
+    ensures { result ≡ Rattle.chip_crew.specs.Plans.is_count most count }
+{
+    0 < count && count <= most
+}

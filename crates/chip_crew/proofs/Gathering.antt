@@ -1,5 +1,6 @@
 -- The places of the actors, one by one.
-use Rattle.std.proofs.Common.{◌≡◌, ℕ, zero, suc, ◌<◌, ◌⊎◌, inl, inr, ⊎_elim, List, [], ◌∷◌, ◌++◌, length, Option, Some, None, refl, sym, ap, ◌∙◌, subst, set, get_or, IfSome, arith}
+use Rattle.std.proofs.Common.{◌≡◌, ℕ, zero, suc, ◌<◌, ◌⊎◌, inl, inr, ⊎_elim, List, [], ◌∷◌, ◌++◌, length, Option, Some}
+use Rattle.std.proofs.Common.{None, refl, sym, ap, ◌∙◌, subst, set, get_or, IfSome, arith}
 use Rattle.std.specs.Prelude.{slice_get}
 use Rattle.std.proofs.lemmas.List.{length-set}
 use Rattle.std.proofs.lemmas.Option.{slice_get_read}
@@ -19,29 +20,41 @@ module _ {X : Type 0} where
   none_some x e = absurd (cc)
 
   -- what stands at j after a write at i
-  at_set : (xs : List X) (i j : ℕ) (a b : X) → slice_get (set xs i a) j ≡ Some b → ((j ≡ i) × (a ≡ b)) ⊎ (slice_get xs j ≡ Some b)
+  at_set : (xs : List X) (i j : ℕ) (a b : X) → slice_get (set xs i a) j ≡ Some b
+      → ((j ≡ i) × (a ≡ b)) ⊎ (slice_get xs j ≡ Some b)
   at_set [] i j a b e = inr e
   at_set (x ∷ xs) zero zero a b e = inl (refl, same_some a b e)
   at_set (x ∷ xs) zero (suc j) a b e = inr e
   at_set (x ∷ xs) (suc i) zero a b e = inr e
-  at_set (x ∷ xs) (suc i) (suc j) a b e = ⊎_elim (λ (h : (j ≡ i) × (a ≡ b)). inl (ap suc h.0, h.1)) (λ (h : slice_get xs j ≡ Some b). inr h) (at_set xs i j a b e)
+  at_set (x ∷ xs) (suc i) (suc j) a b e = ⊎_elim (λ (h : (j ≡ i) × (a ≡ b)). inl (ap suc h.0, h.1))
+      (λ (h : slice_get xs j ≡ Some b). inr h) (at_set xs i j a b e)
 
   -- what stands at j after a push
-  at_push : (xs : List X) (y b : X) (j : ℕ) → slice_get (xs ++ y ∷ []) j ≡ Some b → ((j ≡ length xs) × (y ≡ b)) ⊎ (slice_get xs j ≡ Some b)
+  at_push : (xs : List X) (y b : X) (j : ℕ) → slice_get (xs ++ y ∷ []) j ≡ Some b
+      → ((j ≡ length xs) × (y ≡ b)) ⊎ (slice_get xs j ≡ Some b)
   at_push [] y b zero e = inl (refl, same_some y b e)
   at_push [] y b (suc j) e = absurd (none_some b e)
   at_push (x ∷ xs) y b zero e = inr e
-  at_push (x ∷ xs) y b (suc j) e = ⊎_elim (λ (h : (j ≡ length xs) × (y ≡ b)). inl (ap suc h.0, h.1)) (λ (h : slice_get xs j ≡ Some b). inr h) (at_push xs y b j e)
+  at_push (x ∷ xs) y b (suc j) e = ⊎_elim (λ (h : (j ≡ length xs) × (y ≡ b)). inl (ap suc h.0, h.1))
+      (λ (h : slice_get xs j ≡ Some b). inr h) (at_push xs y b j e)
 
-pub seats_set : (crew : CrewId) (seats : List (Option ActorKnown)) (i : ℕ) (x : Option ActorKnown) → ((a : ActorKnown) → x ≡ Some a → IsOurs crew a × (a.vertex ≡ i)) → AreSeats crew seats → AreSeats crew (set seats i x)
+pub seats_set : (crew : CrewId) (seats : List (Option ActorKnown)) (i : ℕ) (x : Option ActorKnown)
+    → ((a : ActorKnown) → x ≡ Some a → IsOurs crew a × (a.vertex ≡ i)) → AreSeats crew seats
+    → AreSeats crew (set seats i x)
 seats_set crew seats i x here old = record {
   count = length-set seats i x ∙ old.count;
-  each = λ v a e. ⊎_elim (λ (h : (v ≡ i) × (x ≡ Some a)). ((here a h.1).0, (here a h.1).1 ∙ sym h.0)) (λ (h : slice_get seats v ≡ Some (Some a)). old.each v a h) (at_set seats i v x (Some a) e);
+  each = λ v a e. ⊎_elim (λ (h : (v ≡ i) × (x ≡ Some a)). ((here a h.1).0, (here a h.1).1 ∙ sym h.0))
+      (λ (h : slice_get seats v ≡ Some (Some a)). old.each v a h) (at_set seats i v x (Some a) e);
 }
 
-pub order_push : (crew : CrewId) (actors : List ActorKnown) (y : ActorKnown) → IsOurs crew y → y.vertex ≡ length actors → AreInOrder crew actors → AreInOrder crew (actors ++ y ∷ [])
+pub order_push : (crew : CrewId) (actors : List ActorKnown) (y : ActorKnown) → IsOurs crew y → y.vertex ≡ length actors
+    → AreInOrder crew actors → AreInOrder crew (actors ++ y ∷ [])
 order_push crew actors y ours here old v a e = ⊎_elim
-    (λ (h : (v ≡ length actors) × (y ≡ a)). (subst (IsOurs crew) h.1 ours, ap (λ (z : ActorKnown). z.vertex) (sym h.1) ∙ here ∙ sym h.0))
+    (λ (h : (v ≡ length actors) × (y ≡ a)). (
+      subst (IsOurs crew) h.1 ours,
+      ap (λ (z : ActorKnown). z.vertex) (sym h.1)
+          ∙ here ∙ sym h.0,
+    ))
     (λ (h : slice_get actors v ≡ Some a). old v a h)
     (at_push actors y a v e)
 
@@ -50,15 +63,19 @@ abbrev pub AreFree : List (Option ActorKnown) → Type 0
 AreFree seats = (v : ℕ) (a : ActorKnown) → slice_get seats v ≡ Some (Some a) → ⊥
 
 pub free_push : (seats : List (Option ActorKnown)) → AreFree seats → AreFree (seats ++ None ∷ [])
-free_push seats old v a e = ⊎_elim (λ (h : (v ≡ length seats) × (None ≡ Some a)). none_some a h.1) (λ (h : slice_get seats v ≡ Some (Some a)). old v a h) (at_push seats None (Some a) v e)
+free_push seats old v a e = ⊎_elim (λ (h : (v ≡ length seats) × (None ≡ Some a)). none_some a h.1)
+    (λ (h : slice_get seats v ≡ Some (Some a)). old v a h) (at_push seats None (Some a) v e)
 
 -- an actor takes its place
-pub seats_put : (crew : CrewId) (seats : List (Option ActorKnown)) (i : ℕ) (y : ActorKnown) → IsOurs crew y → y.vertex ≡ i → AreSeats crew seats → AreSeats crew (set seats i (Some y))
+pub seats_put : (crew : CrewId) (seats : List (Option ActorKnown)) (i : ℕ) (y : ActorKnown) → IsOurs crew y
+    → y.vertex ≡ i → AreSeats crew seats → AreSeats crew (set seats i (Some y))
 seats_put crew seats i y ours here old = seats_set crew seats i (Some y)
-    (λ a e. let is : y ≡ a = same_some y a e in (subst (IsOurs crew) is ours, ap (λ (z : ActorKnown). z.vertex) (sym is) ∙ here)) old
+    (λ a e. let is : y ≡ a = same_some y a e in
+    (subst (IsOurs crew) is ours, ap (λ (z : ActorKnown). z.vertex) (sym is) ∙ here)) old
 
 -- a place is left
-pub seats_left : (crew : CrewId) (seats : List (Option ActorKnown)) (i : ℕ) (x : Option ActorKnown) → x ≡ None → AreSeats crew seats → AreSeats crew (set seats i x)
+pub seats_left : (crew : CrewId) (seats : List (Option ActorKnown)) (i : ℕ) (x : Option ActorKnown) → x ≡ None
+    → AreSeats crew seats → AreSeats crew (set seats i x)
 seats_left crew seats i x none old = seats_set crew seats i x (λ a e. absurd (none_some a (sym none ∙ e))) old
 
 pub least_below : (before : Option ℕ) (v n : ℕ) → IfSome before (λ w. w < n) → v < n → least before v < n
@@ -66,5 +83,6 @@ least_below None v n below here = here
 least_below (Some w) v n below here = search (arith)
 
 -- what was read at i stands there
-pub at_place : {X : Type 0} (xs : List (Option X)) (i : ℕ) (x : Option X) (y : X) → i < length xs → x ≡ get_or xs i x → x ≡ Some y → slice_get xs i ≡ Some (Some y)
+pub at_place : {X : Type 0} (xs : List (Option X)) (i : ℕ) (x : Option X) (y : X) → i < length xs → x ≡ get_or xs i x
+    → x ≡ Some y → slice_get xs i ≡ Some (Some y)
 at_place xs i x y inside read is = slice_get_read xs (length xs) i x refl inside read ∙ ap Some is

@@ -13,15 +13,20 @@ polled_same k j old now here count is polled =
     subst (λ (n : ℕ). Polled n old now) (sym count) (subst (λ (r : RootKnown). Polled j old r) (sym is) polled)
 
 -- one poll more
-pub polled_more : (k : ℕ) (old before now : RootKnown) → Polled k old before → IsPolling before now before.net.setting.graph.vertices → Polled (k + 1) old now
+pub polled_more : (k : ℕ) (old before now : RootKnown) → Polled k old before
+    → IsPolling before now before.net.setting.graph.vertices → Polled (k + 1) old now
 polled_more k old before now first poll = subst (λ (n : ℕ). Polled n old now) (sym (add-one k)) (before, first, poll)
 
 -- what the last of some polls answers
-pub until_answer : (more : ℕ) (old now : RootKnown) (state : RootState) → Polled (more + 1) old now → AnswersPoll (root_deficit now) state → IsPolledUntil more old now state
+pub until_answer : (more : ℕ) (old now : RootKnown) (state : RootState) → Polled (more + 1) old now
+    → AnswersPoll (root_deficit now) state → IsPolledUntil more old now state
 until_answer more old now Closed polled answer = (more + 1, polled, answer)
 until_answer more old now (Running n) polled answer = (polled, answer.0, answer.1)
 
 -- after polls that closed the root it finishes
-pub ends_well : (more : ℕ) (old now receipt : RootKnown) (o : Outcome) (state : RootState) → IsPolledUntil more old now state → root_deficit now ≡ 0 → Finishes now receipt o → EndsWell old receipt o
-ends_well more old now receipt o Closed until closed finishes = record { polls = until.0; root = now; polled = until.1; closed = closed; finishes = finishes }
-ends_well more old now receipt o (Running n) until closed finishes = record { polls = more + 1; root = now; polled = until.0; closed = closed; finishes = finishes }
+pub ends_well : (more : ℕ) (old now receipt : RootKnown) (o : Outcome) (state : RootState)
+    → IsPolledUntil more old now state → root_deficit now ≡ 0 → Finishes now receipt o → EndsWell old receipt o
+ends_well more old now receipt o Closed until closed finishes =
+    record { polls = until.0; root = now; polled = until.1; closed = closed; finishes = finishes }
+ends_well more old now receipt o (Running n) until closed finishes =
+    record { polls = more + 1; root = now; polled = until.0; closed = closed; finishes = finishes }

@@ -4,7 +4,8 @@ use Rattle.std.specs.Vec.{vec_capacity}
 use Rattle.chip_crew.specs.Crew.{CrewId, AreSeats}
 use Rattle.chip_crew.specs.declared.roll.Roll.{Roll}
 use Rattle.chip_crew.specs.declared.fault.CrewFault.{CrewFault}
-use Rattle.chip_crew.specs.declared.fault.CrewFault.TheVariants.{Plan, NoMemory, Spawn, GateShut, Doubled, Lost, Unfinished}
+use Rattle.chip_crew.specs.declared.fault.CrewFault.TheVariants.{Plan, NoMemory, Spawn, GateShut, Doubled, Lost}
+use Rattle.chip_crew.specs.declared.fault.CrewFault.TheVariants.{Unfinished}
 
 -- the lesser of two vertices, where there are two
 abbrev pub least : Option ℕ → ℕ → ℕ

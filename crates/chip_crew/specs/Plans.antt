@@ -5,12 +5,15 @@ use Rattle.chip_link.specs.Rings.{max_ring}
 use Rattle.chip_crew.specs.declared.plan.Plan.{Plan}
 use Rattle.chip_crew.specs.declared.plan.SealAt.{SealAt}
 
+-- the most workers of a crew
 abbrev pub max_workers : ℕ
 max_workers = 64
 
+-- the most turns of each worker
 abbrev pub max_turns : ℕ
 max_turns = 2 ^ 40
 
+-- the most trace rows of each actor
 abbrev pub max_trace_rows : ℕ
 max_trace_rows = 2 ^ 20
 

@@ -15,6 +15,7 @@ use chip_net::Net;
 use play::{Crew, firings, play};
 use std::alloc::Global;
 use std::io::{self, Read};
+use std::rt::Files;
 use std::thread::Threads;
 use std::time::{Clock, Instant};
 use std::{env, fs};
@@ -28,24 +29,75 @@ const TRIANGLE: &str =
 const FIVE_CHIPS: &str = "vertex,chips\n0,5\n";
 
 fn main(rt: HostRuntime) -> Result<()> {
-    let alloc = rt.alloc();
-    let arguments: Vec<String> = env::args(&rt)?.collect(alloc)?;
-    let [_, graph, chips, ring, rounds, threads] = arguments.as_slice() else {
-        let game = read_game(alloc, &mut TRIANGLE.as_bytes(), &mut FIVE_CHIPS.as_bytes())?;
-        let (played, _) = timed(&rt, alloc, &game, Ring::one(), 100, Crew::One)?;
-        tell(&rt, played)?;
-        println!(&rt; "")?;
-        return Ok(());
-    };
-    let mut graph = fs::open(&rt, graph.as_str())?;
-    let mut chips = fs::open(&rt, chips.as_str())?;
-    let game = read_game(alloc, &mut graph, &mut chips)?;
-    let ring = Ring::new(ring.parse()?).context("a ring has 1 to 64 cells")?;
-    let crew = Crew::of(threads.parse()?).context("1, 2 or 4 threads play")?;
-    let (played, microseconds) = timed(&rt, alloc, &game, ring, rounds.parse()?, crew)?;
-    tell(&rt, played)?;
-    println!(&rt; ", {microseconds} microseconds")?;
-    Ok(())
+    let arguments: Vec<String> = env::args(&rt)?.collect(rt.alloc())?;
+    match arguments.as_slice() {
+        [_, graph, chips, ring, rounds, threads] => {
+            let rules = Rules::parse(ring, rounds, threads)?;
+            play_files(&rt, graph, chips, rules)
+        }
+        _ => play_triangle(&rt),
+    }
+}
+
+/// How a game is played.
+#[derive(Clone, Copy, Debug)]
+struct Rules {
+    ring: Ring,
+    /// How many rounds there are at most.
+    rounds: u64,
+    crew: Crew,
+}
+
+impl Rules {
+    /// Those that the arguments ask for.
+    fn parse(ring: &str, rounds: &str, threads: &str) -> Result<Rules> {
+        let ring = Ring::new(ring.parse()?).context("a ring has 1 to 64 cells")?;
+        let crew = Crew::of(threads.parse()?).context("1, 2 or 4 threads play")?;
+        Ok(Rules {
+            ring,
+            rounds: rounds.parse()?,
+            crew,
+        })
+    }
+}
+
+/// Plays the game that is built in.
+fn play_triangle<R: Threads + Sync + Clock + Print + AllocGlobal>(rt: &R) -> Result<()> {
+    let game = read_game(
+        rt.alloc(),
+        &mut TRIANGLE.as_bytes(),
+        &mut FIVE_CHIPS.as_bytes(),
+    )?;
+    let (played, _) = timed(rt, rt.alloc(), &game, Ring::one(), 100, Crew::One)?;
+    tell(rt, played)?;
+    Ok(println!(rt; "")?)
+}
+
+/// Plays the game of two files, and tells the time too.
+fn play_files<R: Threads + Sync + Clock + Files + Print + AllocGlobal>(
+    rt: &R,
+    graph: &str,
+    chips: &str,
+    rules: Rules,
+) -> Result<()> {
+    let game = open_game(rt, graph, chips)?;
+    let (played, microseconds) = timed(
+        rt,
+        rt.alloc(),
+        &game,
+        rules.ring,
+        rules.rounds,
+        rules.crew,
+    )?;
+    tell(rt, played)?;
+    Ok(println!(rt; ", {microseconds} microseconds")?)
+}
+
+/// The game of the files with these paths.
+fn open_game<R: Files + AllocGlobal>(rt: &R, graph: &str, chips: &str) -> Result<Game> {
+    let mut graph = fs::open(rt, graph)?;
+    let mut chips = fs::open(rt, chips)?;
+    read_game(rt.alloc(), &mut graph, &mut chips)
 }
 
 /// The game of a graph's text and its chips'.

@@ -2,9 +2,9 @@
 //!
 //!     net_bench GRAPH CHIPS RING ROUNDS THREADS
 //!
-//! The edges have rings of RING cells. The vertices are dealt out in runs to 1, 2 or 4 threads, each of which gives its own
-//! ones a turn each, round by round, ROUNDS times at most; the first thread also polls after each of its rounds. All
-//! stop when the root is closed. Without arguments a game that is built in is played, and no time is told.
+//! The edges have rings of RING cells. The vertices are dealt out in runs to 1, 2 or 4 threads, each of which gives its
+//! own ones a turn each, round by round, ROUNDS times at most; the first thread also polls after each of its rounds.
+//! All stop when the root is closed. Without arguments a game that is built in is played, and no time is told.
 #![tactic(auto)]
 
 use anyhow::{Context, Result};

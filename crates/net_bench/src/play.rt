@@ -28,8 +28,8 @@ impl Crew {
     }
 }
 
-/// Makes so many rounds at most, and fewer where the root closes; the root after it, and how many turns that took. The actors are
-/// dealt out to the threads of the crew in runs of ascending vertices.
+/// Makes so many rounds at most, and fewer where the root closes; the root after it, and how many turns that took.
+/// The actors are dealt out to the threads of the crew in runs of ascending vertices.
 pub fn play<R: Threads + Sync>(
     rt: &R,
     alloc: Global,

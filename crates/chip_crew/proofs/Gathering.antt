@@ -13,10 +13,10 @@ module _ {X : Type 0} where
   value_or d None = d
   value_or d (Some x) = x
 
-  same_some : (x y : X) → Some x ≡ Some y → x ≡ y
+  pub same_some : (x y : X) → Some x ≡ Some y → x ≡ y
   same_some x y e = ap (value_or x) e
 
-  none_some : (x : X) → ◌≡◌ {A = Option X} None (Some x) → ⊥
+  pub none_some : (x : X) → ◌≡◌ {A = Option X} None (Some x) → ⊥
   none_some x e = absurd (cc)
 
   -- what stands at j after a write at i

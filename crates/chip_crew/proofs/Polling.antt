@@ -1,10 +1,10 @@
 -- Polls, one after another.
-use Rattle.std.proofs.Common.{◌≡◌, ℕ, ◌+◌, sym, subst, add-one}
+use Rattle.std.proofs.Common.{◌≡◌, ℕ, zero, suc, ◌+◌, ◌-◌, ◌≤◌, refl, sym, ◌∙◌, ap, subst, add-one, arith}
 use Rattle.chip_net.specs.Roots.{RootKnown, IsPolling, AnswersPoll, root_deficit}
 use Rattle.chip_net.specs.declared.root.RootState.{RootState}
 use Rattle.chip_net.specs.declared.root.RootState.TheVariants.{Closed, Running}
 use Rattle.chip_crew.specs.Crew.{Polled}
-use Rattle.chip_crew.specs.Ending.{IsPolledUntil, EndsWell}
+use Rattle.chip_crew.specs.Ending.{IsPolledUntil, EndsWell, EndsOpen}
 use Rattle.chip_fire.specs.declared.outcome.Outcome.{Outcome}
 use Rattle.chip_net.specs.Finish.{Finishes}
 
@@ -30,3 +30,39 @@ ends_well more old now receipt o Closed until closed finishes =
     record { polls = until.0; root = now; polled = until.1; closed = closed; finishes = finishes }
 ends_well more old now receipt o (Running n) until closed finishes =
     record { polls = more + 1; root = now; polled = until.0; closed = closed; finishes = finishes }
+
+-- polls after polls
+pub polled_on : (k j : ℕ) (old middle now : RootKnown) → Polled k old middle → Polled j middle now → Polled (j + k) old now
+polled_on k zero old middle now first last = polled_same (0 + k) k old now middle (omega arith) last first
+polled_on k (suc j) old middle now first last = subst (λ (n : ℕ). Polled n old now) (omega arith)
+    (polled_more (j + k) old last.0 now (polled_on k j old middle last.0 first last.1) last.2)
+
+-- what is known of the root before the polls of worker 0 is known of it before the last ones
+pub finished_after : (polls : ℕ) (old middle receipt : RootKnown) (o : Outcome) → Polled polls old middle
+    → EndsWell middle receipt o → EndsWell old receipt o
+finished_after polls old middle receipt o first ends = record {
+  polls = ends.polls + polls;
+  root = ends.root;
+  polled = polled_on polls ends.polls old middle ends.root first ends.polled;
+  closed = ends.closed;
+  finishes = ends.finishes;
+}
+
+pub stopped_after : (polls turns left : ℕ) (old middle now : RootKnown) → Polled polls old middle → polls ≤ turns
+    → EndsOpen (turns - polls) middle now left → EndsOpen turns old now left
+stopped_after polls turns left old middle now first below ends = record {
+  polled = polled_same (turns + 1) ((turns - polls + 1) + polls) old now now (omega arith) refl
+      (polled_on polls (turns - polls + 1) old middle now first ends.polled);
+  deficit = ends.deficit;
+  some = ends.some;
+}
+
+-- polls leave the net and the stopper's part as they are
+pub polled_net : (k : ℕ) (old now : RootKnown) → Polled k old now → now.net ≡ old.net
+polled_net zero old now is = ap (λ (r : RootKnown). r.net) is
+polled_net (suc k) old now more = ap (λ (r : RootKnown). r.net) more.2.record_is ∙ polled_net k old more.0 more.1
+
+pub polled_stopper : (k : ℕ) (old now : RootKnown) → Polled k old now → now.stopper_did ≡ old.stopper_did
+polled_stopper zero old now is = ap (λ (r : RootKnown). r.stopper_did) is
+polled_stopper (suc k) old now more =
+    ap (λ (r : RootKnown). r.stopper_did) more.2.record_is ∙ polled_stopper k old more.0 more.1

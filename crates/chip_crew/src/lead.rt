@@ -1,14 +1,12 @@
 //! What worker 0 does beside: it seals, and it polls the root.
 
-ghost use Rattle.std.specs.Prelude.{◌≡◌, ◌≤◌, IfSome};
-ghost use Rattle.crossbeam_queue.specs.Passes.{IsPassOf};
-ghost use Rattle.chip_crew.specs.Crew.{IsOurs, Polled};
+ghost use Rattle.std.specs.Prelude.{◌≡◌, IfSome};
 
 use crate::plan::{Gate, SealAt};
-use crate::queue::{Line, LinePass, Room};
-use crate::worker::{Shift, one_turn};
+use crate::queue::Room;
+use crate::worker::{Floor, Shift};
 use chip_net::{Net, Root, RootState, Stopper};
-use std::sync::atomic::AtomicBool;
+use std::marker::{Model, PhantomData};
 use std::sync::atomic::Ordering::SeqCst;
 
 /// What worker 0 has beside its actors.
@@ -20,15 +18,27 @@ pub(crate) struct Helm {
     pub seal: Option<(Stopper, SealAt)>,
 }
 
-/// What worker 0 hands back.
+/// What worker 0 hands back, of which it is known that it polled the root so often.
 #[derive(Drop)]
-pub(crate) struct Led {
+pub(crate) struct Led<B: Room> {
     /// As of every worker.
     pub shift: Shift,
     /// The root.
     pub root: Root,
     /// How often it was polled, up to the number of turns.
     pub polls: u64,
+    pub of: PhantomData<B>,
+}
+
+impl<B: Room> Model for Led<B> {
+    ghost use Rattle.chip_net.specs.Roots.{RootKnown};
+    ghost use Rattle.chip_crew.specs.Staff.{HasLed};
+
+    ghost Value = { RootKnown };
+
+    ghost view = { λ a. a.root };
+
+    ghost invariant = { λ a. HasLed B.crew B.root B.turns a.shift a.root a.polls };
 }
 
 /// Seals, where this is the turn for it.
@@ -44,49 +54,40 @@ fn seal_before(net: &Net, seal: &mut Option<(Stopper, SealAt)>, turn: u64)
     }
 }
 
-/// The turns of worker 0, with a poll after each, until the root is closed or it is told to stop. Then it tells the
-/// others to stop.
-pub(crate) fn lead<B: Room, G: Gate>(
-    net: &Net,
-    line: &Line<B>,
-    stop: &AtomicBool,
-    gate: &G,
-    turns: u64,
-    mut pass: LinePass,
-    helm: Helm,
-) -> Led
-    requires net { net.now ≡ B.crew.net }
-    requires pass { IsPassOf line.now pass }
-    requires root { helm.root.net ≡ net.now }
-    requires seal { IfSome helm.seal (λ s. s.0.net ≡ net.now) }
-    ensures kept { IfSome result.shift.kept (IsOurs B.crew) }
-    ensures root { Polled result.polls helm.root result.root }
-    ensures net { result.root.net ≡ net.now }
-    ensures polls { result.polls ≤ turns }
-{
-    let Helm { mut root, mut seal } = helm;
-    let mut kept = None;
-    let mut polls = 0;
-    let mut passed = true;
-    for turn in 0..turns {
-        // Only a worker whose gate answered false has told it.
-        if stop.load(SeqCst) || !gate.pass(0, turn) {
-            passed = false;
-            break;
+impl<'a, B: Room, G: Gate> Floor<'a, B, G> {
+    /// The turns of worker 0, with a poll after each, until the root is closed or it is told to stop, where it tells
+    /// the others.
+    pub fn lead(&self, helm: Helm) -> Led<B>
+        requires net { self.now.net.now ≡ B.crew.net }
+        requires turns { self.now.turns ≡ B.turns }
+        requires root { (helm.root ≡ B.root) × (helm.root.net ≡ B.crew.net) }
+        requires seal { IfSome helm.seal (λ s. s.0.net ≡ B.crew.net) }
+    {
+        let Helm { mut root, mut seal } = helm;
+        let mut pass = self.line.pass();
+        let mut kept = None;
+        let mut polls = 0;
+        let mut passed = true;
+        for turn in 0..self.turns {
+            // Only a worker whose gate answered false has told it.
+            if self.stop.load(SeqCst) || !self.gate.pass(0, turn) {
+                passed = false;
+                self.stop.store(true, SeqCst);
+                break;
+            }
+            seal_before(self.net, &mut seal, turn);
+            kept = self.one_turn(&mut pass, kept);
+            polls = turn + 1;
+            if root.poll(self.net) == RootState::Closed {
+                self.stop.store(true, SeqCst);
+                break;
+            }
         }
-        seal_before(net, &mut seal, turn);
-        kept = one_turn(net, line, &mut pass, kept);
-        polls = turn + 1;
-        if root.poll(net) == RootState::Closed {
-            break;
+        Led {
+            shift: Shift { kept, passed },
+            root,
+            polls,
+            of: PhantomData,
         }
-    }
-    if polls < turns {
-        stop.store(true, SeqCst);
-    }
-    Led {
-        shift: Shift { kept, passed },
-        root,
-        polls,
     }
 }

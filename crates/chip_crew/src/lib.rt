@@ -9,9 +9,14 @@ mod ending;
 mod fault;
 mod lead;
 mod plan;
+mod play;
 mod queue;
 mod roll;
+mod staff;
+#[cfg(test)]
+mod tests;
 mod worker;
 
 pub use fault::CrewFault;
 pub use plan::{Gate, MAX_TRACE_ROWS, MAX_TURNS, MAX_WORKERS, Plan, SealAt};
+pub use play::{Finished, run};

@@ -1,8 +1,8 @@
-ghost use Rattle.std.specs.Prelude.{◌≡◌};
+ghost use Rattle.std.specs.Prelude.{◌≡◌, if◌then◌else◌, Some, None};
 ghost use Rattle.chip_crew.specs.Plans.{is_plan};
 
 use chip_graph::Game;
-use chip_link::MAX_RING;
+use chip_link::{MAX_RING, Ring};
 
 /// The most workers of a crew.
 pub const MAX_WORKERS: u64 = 64;
@@ -45,8 +45,19 @@ pub struct Plan {
 }
 
 impl Plan {
+    /// The rings of this plan's net, where its numbers are in their ranges for this game.
+    pub(crate) fn ring_for(&self, game: &Game) -> Option<Ring>
+        ensures { result ≡ (if is_plan game.now self.now then Some self.now.ring else None) }
+    {
+        if self.is_within(game) {
+            Ring::new(self.ring)
+        } else {
+            None
+        }
+    }
+
     /// Whether the numbers are in their ranges for this game.
-    pub(crate) fn is_within(&self, game: &Game) -> bool
+    fn is_within(&self, game: &Game) -> bool
         ensures { result ≡ is_plan game.now self.now }
     {
         let names_edge = match self.seal {

@@ -5,17 +5,30 @@ use crossbeam_queue::protocol::{Lesson, Outcome, Protocol};
 use crossbeam_queue::{Pass, RuledArrayQueue};
 use std::marker::{Brand, PhantomData};
 
-/// Which net's actors a crew shares. Proofs alone know it.
+/// Which net's actors a crew shares, the root with which it begins, and how many turns each worker makes at most.
+/// Proofs alone know it.
 pub(crate) trait Room {
+    ghost use Rattle.std.specs.Prelude.{ℕ};
     ghost use Rattle.chip_crew.specs.Crew.{CrewId};
+    ghost use Rattle.chip_net.specs.Roots.{RootKnown};
 
     ghost crew: { CrewId };
+
+    ghost root: { RootKnown };
+
+    ghost turns: { ℕ };
 }
 
 impl Room for Brand {
+    ghost use Rattle.std.specs.Prelude.{None};
     ghost use Rattle.chip_crew.specs.Crew.{no_crew};
+    ghost use Rattle.chip_net.specs.Roots.{new_root};
 
     ghost crew = { no_crew };
+
+    ghost root = { new_root no_crew.net None };
+
+    ghost turns = { 0 };
 }
 
 /// The rule: every actor in the queue was opened by this net.

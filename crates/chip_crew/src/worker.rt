@@ -11,6 +11,21 @@ use std::sync::atomic::AtomicBool;
 use std::sync::atomic::Ordering::SeqCst;
 use std::thread;
 
+/// What all workers share.
+#[derive(Drop)]
+pub(crate) struct Floor<'a, B: Room, G: Gate> {
+    /// The net.
+    pub net: &'a Net,
+    /// The queue of its actors.
+    pub line: &'a Line<B>,
+    /// Whether the workers are told to stop.
+    pub stop: &'a AtomicBool,
+    /// The gate.
+    pub gate: &'a G,
+    /// How many turns each worker makes at most.
+    pub turns: u64,
+}
+
 /// What a worker hands back.
 #[derive(Drop)]
 pub(crate) struct Shift {
@@ -20,72 +35,61 @@ pub(crate) struct Shift {
     pub passed: bool,
 }
 
-/// The actor that was kept, else one from the queue.
-fn next_actor<B: Room>(line: &Line<B>, pass: &mut LinePass, kept: Option<Actor>) -> Option<Actor>
-    requires pass { IsPassOf line.now pass.old }
-    requires kept { IfSome kept (IsOurs B.crew) }
-    ensures pass { IsPassOf line.now pass.new }
-    ensures actor { IfSome result (IsOurs B.crew) }
-{
-    match kept {
-        Some(actor) => Some(actor),
-        None => line.try_pop_as::<Moves<B>>(pass),
-    }
-}
-
-/// Takes an actor, gives it a turn and puts it back. An actor that was kept has its turn in place of one from the
-/// queue, and one that can't be put back is kept.
-pub(crate) fn one_turn<B: Room>(
-    net: &Net,
-    line: &Line<B>,
-    pass: &mut LinePass,
-    kept: Option<Actor>,
-) -> Option<Actor>
-    requires net { net.now ≡ B.crew.net }
-    requires pass { IsPassOf line.now pass.old }
-    requires kept { IfSome kept (IsOurs B.crew) }
-    ensures pass { IsPassOf line.now pass.new }
-    ensures kept { IfSome result (IsOurs B.crew) }
-{
-    let Some(mut actor) = next_actor(line, pass, kept) else {
-        thread::yield_now();
-        return None;
-    };
-    let turn = actor.turn(net);
-    let back = line.try_push_as::<Moves<B>>(pass, actor);
-    if matches!(turn, Turn::Waiting | Turn::Idle) {
-        thread::yield_now();
-    }
-    back.err()
-}
-
-/// The turns of a worker other than worker 0, until it is told to stop.
-pub(crate) fn work<B: Room, G: Gate>(
-    worker: u64,
-    net: &Net,
-    line: &Line<B>,
-    stop: &AtomicBool,
-    gate: &G,
-    turns: u64,
-    mut pass: LinePass,
-) -> Shift
-    requires net { net.now ≡ B.crew.net }
-    requires pass { IsPassOf line.now pass }
-    ensures kept { IfSome result.kept (IsOurs B.crew) }
-{
-    let mut kept = None;
-    for turn in 0..turns {
-        if stop.load(SeqCst) {
-            break;
+impl<'a, B: Room, G: Gate> Floor<'a, B, G> {
+    /// The actor that was kept, else one from the queue.
+    fn next_actor(&self, pass: &mut LinePass, kept: Option<Actor>) -> Option<Actor>
+        requires pass { IsPassOf self.now.line.now pass.old }
+        requires kept { IfSome kept (IsOurs B.crew) }
+        ensures pass { IsPassOf self.now.line.now pass.new }
+        ensures actor { IfSome result (IsOurs B.crew) }
+    {
+        match kept {
+            Some(actor) => Some(actor),
+            None => self.line.try_pop_as::<Moves<B>>(pass),
         }
-        if !gate.pass(worker, turn) {
-            stop.store(true, SeqCst);
-            return Shift {
-                kept,
-                passed: false,
-            };
-        }
-        kept = one_turn(net, line, &mut pass, kept);
     }
-    Shift { kept, passed: true }
+
+    /// Takes an actor, gives it a turn and puts it back. An actor that was kept has its turn in place of one from the
+    /// queue, and one that can't be put back is kept.
+    pub fn one_turn(&self, pass: &mut LinePass, kept: Option<Actor>) -> Option<Actor>
+        requires net { self.now.net.now ≡ B.crew.net }
+        requires pass { IsPassOf self.now.line.now pass.old }
+        requires kept { IfSome kept (IsOurs B.crew) }
+        ensures pass { IsPassOf self.now.line.now pass.new }
+        ensures kept { IfSome result (IsOurs B.crew) }
+    {
+        let Some(mut actor) = self.next_actor(pass, kept) else {
+            thread::yield_now();
+            return None;
+        };
+        let turn = actor.turn(self.net);
+        let back = self.line.try_push_as::<Moves<B>>(pass, actor);
+        if matches!(turn, Turn::Waiting | Turn::Idle) {
+            thread::yield_now();
+        }
+        back.err()
+    }
+
+    /// The turns of a worker other than worker 0, until it is told to stop.
+    pub fn work(&self, worker: u64) -> Shift
+        requires { self.now.net.now ≡ B.crew.net }
+        ensures kept { IfSome result.kept (IsOurs B.crew) }
+    {
+        let mut pass = self.line.pass();
+        let mut kept = None;
+        for turn in 0..self.turns {
+            if self.stop.load(SeqCst) {
+                break;
+            }
+            if !self.gate.pass(worker, turn) {
+                self.stop.store(true, SeqCst);
+                return Shift {
+                    kept,
+                    passed: false,
+                };
+            }
+            kept = self.one_turn(&mut pass, kept);
+        }
+        Shift { kept, passed: true }
+    }
 }

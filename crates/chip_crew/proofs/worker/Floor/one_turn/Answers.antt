@@ -3,7 +3,7 @@ use Rattle.chip_net.specs.Tokens.{ActorKnown}
 use Rattle.chip_crew.specs.Crew.{IsOurs}
 use Rattle.chip_crew.proofs.Queueing.{pushes}
 use Rattle.chip_crew.proofs.Owning.{still_ours}
-use Rattle.chip_crew.proofs.worker.one_turn.Goals as goal
+use Rattle.chip_crew.proofs.worker.Floor.one_turn.Goals as goal
 
 pub try_push_as-back-requires-clause-rule : goal.try_push_as-back-requires-clause-rule
 try_push_as-back-requires-clause-rule g c =

@@ -1,0 +1,15 @@
+use Rattle.std.proofs.Common.{rules, ℕ, ◌-◌, subst}
+use Rattle.chip_crew.specs.Ending.{EndsOpen}
+use Rattle.chip_crew.proofs.Polling.{finished_after, stopped_after}
+use Rattle.chip_crew.proofs.play.closing.Goals as goal
+
+pub returns-in-Ok-clause-finished : goal.returns-in-Ok-clause-finished
+returns-in-Ok-clause-finished g c = record {
+  ends = finished_after _ _ _ _ _ c.requires.root.polled c.in-Ok.ensures;
+  actors = search rules;
+}
+
+pub returns-in-Err-clause-stopped : goal.returns-in-Err-clause-stopped
+returns-in-Err-clause-stopped g c = stopped_after _ _ _ _ _ _ c.requires.root.polled c.requires.root.at_most
+    (subst (λ (n : ℕ). EndsOpen (n - c.args.joined.polls) c.args.joined.root c.in-Err.root c.in-Err.deficit)
+    c.requires.turns c.in-Err.ensures)

@@ -1,0 +1,9 @@
+use Rattle.chip_crew.proofs.play.run.Given as goal
+
+-- the crew of this net
+abbrev pub ghosts-played_on : goal.ghosts-played_on
+ghosts-played_on g a = record {
+  crew = record { net = a.net.now; room = a.plan.now.trace_rows };
+  root = a.helm.root;
+  turns = a.plan.now.turns;
+}

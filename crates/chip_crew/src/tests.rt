@@ -1,0 +1,302 @@
+//! Crews on small games: how many workers share them, gates that hold them, seals and traces.
+
+use super::*;
+use chip_fire::{Outcome, plain};
+use chip_graph::{Edge, Game, Graph};
+use chip_link::TraceRow;
+use std::alloc::Global;
+use std::process::Abort;
+use std::sync::Wait;
+use std::sync::atomic::AtomicU64;
+use std::sync::atomic::Ordering::SeqCst;
+use std::test::Fail;
+use std::thread::{self, Threads};
+
+const TRIANGLE: [(u64, u64, u64); 4] = [(0, 1, 1), (0, 2, 1), (1, 0, 1), (1, 2, 1)];
+
+const LIMIT: u64 = 1 << 40;
+
+/// Two workers, one cell for each edge, no trace and no seal, with turns enough.
+const PAIR: Plan = Plan {
+    workers: 2,
+    ring: 1,
+    turns: 1 << 30,
+    trace_rows: 0,
+    seal: None,
+};
+
+/// Lets every worker pass.
+struct Always;
+
+impl Gate for Always {
+    fn pass(&self, _worker: u64, _turn: u64) -> bool {
+        true
+    }
+}
+
+/// Lets no worker pass.
+struct Never;
+
+impl Gate for Never {
+    fn pass(&self, _worker: u64, _turn: u64) -> bool {
+        false
+    }
+}
+
+/// Whether the number comes to so much while it is looked at a million times.
+fn comes_to(number: &AtomicU64, much: u64) -> bool {
+    for _ in 0..1_000_000 {
+        if number.load(SeqCst) >= much {
+            return true;
+        }
+        thread::yield_now();
+    }
+    false
+}
+
+/// Holds each worker at its first turn until so many workers were asked.
+#[derive(Drop)]
+struct Together {
+    asked: AtomicU64,
+    all: u64,
+}
+
+impl Gate for Together {
+    fn pass(&self, _worker: u64, turn: u64) -> bool {
+        if turn > 0 {
+            return true;
+        }
+        self.asked.fetch_add(1, SeqCst);
+        comes_to(&self.asked, self.all)
+    }
+}
+
+/// Holds worker 0 at its first turn until worker 1 was asked for this turn.
+#[derive(Drop)]
+struct Behind {
+    turn: u64,
+    asked: AtomicU64,
+}
+
+impl Gate for Behind {
+    fn pass(&self, worker: u64, turn: u64) -> bool {
+        if worker == 1 && turn == self.turn {
+            self.asked.store(1, SeqCst);
+        }
+        worker != 0 || turn > 0 || comes_to(&self.asked, 1)
+    }
+}
+
+/// The triangle with these chips.
+fn triangle(alloc: Global, chips: &[u64]) -> Result<Game, Fail> {
+    let mut edges = Vec::new(alloc);
+    for &(tail, head, mult) in &TRIANGLE {
+        edges.push(Edge { tail, head, mult })?;
+    }
+    let graph = Graph::new(alloc, 3, 2, edges)?;
+    Ok(Game::new(graph, Vec::from_slice(alloc, chips)?, LIMIT)?)
+}
+
+/// What a crew comes to, which finishes.
+fn finished<R: Threads + Wait + Sync + Abort, G: Gate + Sync>(
+    rt: &R,
+    alloc: Global,
+    game: &Game,
+    plan: Plan,
+    gate: &G,
+) -> Finished {
+    match run(rt, alloc, game, plan, gate) {
+        Ok(finished) => finished,
+        Err(_) => panic!(rt; "the crew did not finish"),
+    }
+}
+
+fn expect_outcome(
+    rt: &impl Abort,
+    outcome: &Outcome,
+    fired: &[u64],
+    chips: &[u64],
+    sealed: &[u64],
+) {
+    assert_eq!(rt; outcome.fired.as_slice(), fired);
+    assert_eq!(rt; outcome.chips.as_slice(), chips);
+    assert!(rt; outcome.over.is_empty());
+    assert_eq!(rt; outcome.sealed.as_slice(), sealed);
+}
+
+/// A crew plays four chips on the triangle.
+fn expect_four<R: Threads + Wait + Sync + Abort, G: Gate + Sync>(
+    rt: &R,
+    alloc: Global,
+    plan: Plan,
+    gate: &G,
+) -> Result<(), Fail> {
+    let game = triangle(alloc, &[4, 0, 0])?;
+    let ended = finished(rt, alloc, &game, plan, gate);
+    expect_outcome(rt, &ended.outcome, &[2, 1, 0], &[1, 0, 3], &[]);
+    assert_eq!(rt; ended.actors.len(), 3);
+    Ok(())
+}
+
+#[test]
+fn of_every_size(rt: HostRuntime) -> Result<(), Fail> {
+    for (workers, ring) in [(1, 1), (1, 64), (2, 1), (2, 2), (3, 1), (64, 1), (64, 64)] {
+        let plan = Plan {
+            workers,
+            ring,
+            ..PAIR
+        };
+        expect_four(&rt, rt.alloc(), plan, &Always)?;
+    }
+    Ok(())
+}
+
+/// All three workers are asked before one of them goes on: they are threads of their own.
+#[test]
+fn side_by_side(rt: HostRuntime) -> Result<(), Fail> {
+    let gate = Together {
+        asked: AtomicU64::new(0),
+        all: 3,
+    };
+    let plan = Plan { workers: 3, ..PAIR };
+    expect_four(&rt, rt.alloc(), plan, &gate)
+}
+
+/// Worker 1 makes all its turns before worker 0 makes one, so it has to have every actor in turn.
+#[test]
+fn shared_by_one_queue(rt: HostRuntime) -> Result<(), Fail> {
+    let gate = Behind {
+        turn: 7,
+        asked: AtomicU64::new(0),
+    };
+    let plan = Plan { turns: 8, ..PAIR };
+    expect_four(&rt, rt.alloc(), plan, &gate)
+}
+
+#[test]
+fn shut(rt: HostRuntime) -> Result<(), Fail> {
+    let alloc = rt.alloc();
+    let game = triangle(alloc, &[4, 0, 0])?;
+    let answer = run(&rt, alloc, &game, PAIR, &Never);
+    assert!(&rt; matches!(answer, Err(CrewFault::GateShut)));
+    Ok(())
+}
+
+/// One turn of each of two workers is not enough.
+#[test]
+fn out_of_turns(rt: HostRuntime) -> Result<(), Fail> {
+    let alloc = rt.alloc();
+    let game = triangle(alloc, &[4, 0, 0])?;
+    let plan = Plan { turns: 1, ..PAIR };
+    let answer = run(&rt, alloc, &game, plan, &Always);
+    assert!(&rt; matches!(answer, Err(CrewFault::Unfinished { deficit: 1, .. })));
+    Ok(())
+}
+
+/// Nothing is played by this plan.
+fn expect_refused<R: Threads + Wait + Sync + Abort>(
+    rt: &R,
+    alloc: Global,
+    plan: Plan,
+) -> Result<(), Fail> {
+    let game = triangle(alloc, &[4, 0, 0])?;
+    let answer = run(rt, alloc, &game, plan, &Always);
+    assert!(rt; matches!(answer, Err(CrewFault::Plan)));
+    Ok(())
+}
+
+#[test]
+fn plans(rt: HostRuntime) -> Result<(), Fail> {
+    let past = Some(SealAt { turn: 0, edge: 4 });
+    for plan in [
+        Plan { workers: 0, ..PAIR },
+        Plan {
+            workers: 65,
+            ..PAIR
+        },
+        Plan { ring: 0, ..PAIR },
+        Plan { ring: 65, ..PAIR },
+        Plan { turns: 0, ..PAIR },
+        Plan {
+            turns: (1 << 40) + 1,
+            ..PAIR
+        },
+        Plan {
+            trace_rows: (1 << 20) + 1,
+            ..PAIR
+        },
+        Plan { seal: past, ..PAIR },
+    ] {
+        expect_refused(&rt, rt.alloc(), plan)?;
+    }
+    Ok(())
+}
+
+/// Played on from where it ended, the game comes to its end.
+fn expect_plays_on(rt: &impl Abort, alloc: Global, outcome: &Outcome) -> Result<(), Fail> {
+    let more = plain(alloc, &triangle(alloc, &outcome.chips)?)?;
+    for ((fired, more), all) in outcome.fired.iter().zip(&more.fired).zip(&[2, 1, 0]) {
+        assert_eq!(rt; fired.checked_add(*more), Some(*all));
+    }
+    assert_eq!(rt; more.chips.as_slice(), [1, 0, 3].as_slice());
+    Ok(())
+}
+
+/// Each edge of the triangle is sealed before one of the first turns of worker 0.
+#[test]
+fn seals(rt: HostRuntime) -> Result<(), Fail> {
+    let alloc = rt.alloc();
+    let game = triangle(alloc, &[4, 0, 0])?;
+    for edge in 0..4 {
+        for turn in 0..10 {
+            let seal = Some(SealAt { turn, edge });
+            let ended = finished(&rt, alloc, &game, Plan { seal, ..PAIR }, &Always);
+            expect_plays_on(&rt, alloc, &ended.outcome)?;
+        }
+    }
+    Ok(())
+}
+
+/// The first edge is sealed before anything was sent on it.
+#[test]
+fn sealed_at_once(rt: HostRuntime) -> Result<(), Fail> {
+    let alloc = rt.alloc();
+    let game = triangle(alloc, &[4, 0, 0])?;
+    let seal = Some(SealAt { turn: 0, edge: 0 });
+    let plan = Plan {
+        workers: 1,
+        seal,
+        ..PAIR
+    };
+    let ended = finished(&rt, alloc, &game, plan, &Always);
+    expect_outcome(&rt, &ended.outcome, &[2, 0, 0], &[0, 2, 2], &[0]);
+    Ok(())
+}
+
+fn expect_trace(rt: &impl Abort, ended: &Finished, vertex: usize, rows: &[TraceRow], cut: bool) {
+    let (written, was_cut) = match ended.actors.get(vertex) {
+        Some(actor) => actor.trace(),
+        None => panic!(rt; "an actor is not there"),
+    };
+    assert_eq!(rt; written, rows);
+    assert_eq!(rt; was_cut, cut);
+}
+
+/// What one worker's actors wrote down, with room for two rows each.
+#[test]
+fn traces(rt: HostRuntime) -> Result<(), Fail> {
+    let alloc = rt.alloc();
+    let game = triangle(alloc, &[4, 0, 0])?;
+    let plan = Plan {
+        workers: 1,
+        trace_rows: 2,
+        ..PAIR
+    };
+    let ended = finished(&rt, alloc, &game, plan, &Always);
+    let take = |edge, count| TraceRow::Take { edge, count };
+    let fire = |k| TraceRow::Fire { k };
+    expect_trace(&rt, &ended, 0, &[take(4, 4), fire(2)], true);
+    expect_trace(&rt, &ended, 1, &[take(0, 2), fire(1)], false);
+    expect_trace(&rt, &ended, 2, &[take(1, 2), take(3, 1)], false);
+    Ok(())
+}

@@ -63,11 +63,18 @@ number_of (fault.Game f) = number_of_game_fault f
 number_of fault.NotClosed = 42
 number_of fault.NotReport = 50
 number_of (fault.Resume f) = number_of_resume_fault f
+number_of fault.Plan = 60
+number_of (fault.Unfinished deficit) = 61
+number_of fault.GateShut = 62
+number_of (fault.Lost vertex) = 63
+number_of (fault.Doubled vertex) = 64
+number_of fault.Spawn = 65
 number_of (fault.Stuck vertex row) = 70
 number_of fault.NoMemory = 90
 number_of fault.Usage = 91
 number_of (fault.Open argument) = 92
 number_of (fault.Write f) = 93
+number_of fault.WriteTrace = 93
 
 -- where a fault of a graph is: at an edge or at a vertex
 abbrev pub location_of_graph_fault : GraphFault → Location
@@ -97,7 +104,15 @@ location_of_resume_fault _ = Nowhere
 abbrev pub location_of : Fault → Location
 location_of (fault.File f) = location_of_file_fault f
 location_of (fault.Resume f) = location_of_resume_fault f
+location_of (fault.Unfinished deficit) = At deficit
+location_of (fault.Lost vertex) = At vertex
+location_of (fault.Doubled vertex) = At vertex
 location_of (fault.Stuck vertex row) = AtRow vertex row
 location_of (fault.Open argument) = At argument
 location_of (fault.Write f) = At f.written
 location_of _ = Nowhere
+
+-- the exit status of a command that failed: 3 where a crew has no turns left
+abbrev pub status_of_fault : Fault → ℕ
+status_of_fault (fault.Unfinished deficit) = 3
+status_of_fault _ = 1

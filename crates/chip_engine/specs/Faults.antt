@@ -7,10 +7,12 @@ use Rattle.chip_report.specs.declared.fault.ReportFault.{ReportFault}
 use Rattle.chip_report.specs.declared.fault.ReportFault.TheVariants as report
 use Rattle.chip_trace.specs.declared.fault.ReplayFault.{ReplayFault}
 use Rattle.chip_trace.specs.declared.fault.ReplayFault.TheVariants as replay
+use Rattle.chip_trace.specs.declared.fault.TraceFault.{TraceFault}
+use Rattle.chip_trace.specs.declared.fault.TraceFault.TheVariants as trace
 use Rattle.chip_world.specs.declared.fault.WorldFault.{WorldFault}
 use Rattle.chip_world.specs.declared.fault.WorldFault.TheVariants as world
 use Rattle.chip_engine.specs.declared.fault.Fault.{Fault}
-use Rattle.chip_engine.specs.declared.fault.Fault.TheVariants.{File, Stuck, NotClosed, NotReport, Resume, NoMemory}
+use Rattle.chip_engine.specs.declared.fault.Fault.TheVariants.{File, Stuck, WriteTrace, NotClosed, NotReport, Resume, NoMemory}
 
 -- want of memory is one fault, whoever met it
 abbrev pub fault_of_file : FileFault → Fault
@@ -21,6 +23,11 @@ fault_of_file fault = File fault
 abbrev pub fault_of_replay : ReplayFault → Fault
 fault_of_replay (replay.Stuck vertex row) = Stuck vertex row
 fault_of_replay replay.NoMemory = NoMemory
+
+-- the fault of recorded runs that were not written
+abbrev pub fault_of_trace : TraceFault → Fault
+fault_of_trace trace.Write = WriteTrace
+fault_of_trace trace.NoMemory = NoMemory
 
 -- the fault of a world that gives no outcome
 abbrev pub fault_of_world : WorldFault → Fault

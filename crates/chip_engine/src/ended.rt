@@ -1,8 +1,10 @@
 /// The exit status of a command that did all it was to do; of a game, that it closed and no vertex halted.
 pub const DONE: u8 = 0;
+/// The exit status of a command that failed.
+pub const FAILED: u8 = 1;
 /// The exit status where some vertex halted.
 pub const HALTED: u8 = 2;
-/// The exit status where the root of a simulation is still open.
+/// The exit status where the root of a simulation, or of a crew that has no turns left, is still open.
 pub const OPEN: u8 = 3;
 
 /// How a command ended that wrote its output.

@@ -6,11 +6,12 @@ ghost use Rattle.chip_engine.specs.FaultNumbers.{number_of_resume_fault, locatio
 ghost use Rattle.chip_engine.specs.FaultNumbers.{location_of_graph_fault, location_of_file_fault};
 ghost use Rattle.chip_engine.specs.declared.fault.Location.TheVariants.{Nowhere};
 
+use crate::ended::{FAILED, OPEN};
 use chip_file::FileFault;
 use chip_fire::ResumeFault;
 use chip_graph::{GameFault, GraphFault};
 use chip_report::{ReportFault, WriteFault};
-use chip_trace::ReplayFault;
+use chip_trace::{ReplayFault, TraceFault};
 use chip_world::WorldFault;
 use std::alloc::{AllocError, AllocFailed};
 use std::fmt;
@@ -30,8 +31,22 @@ pub enum Fault {
     NotReport,
     /// The play that a report tells does not go on.
     Resume(ResumeFault),
+    /// A number of the plan for a crew is out of its range.
+    Plan,
+    /// All turns of a crew were made, and so many of the root's messages are not acknowledged.
+    Unfinished(u64),
+    /// A gate let no worker pass.
+    GateShut,
+    /// The actor of this vertex was lost among the threads.
+    Lost(u64),
+    /// There were two actors of this vertex.
+    Doubled(u64),
+    /// A thread could not be started.
+    Spawn,
     /// The recorded runs of a trace do not fit together; at greatest progress this row of this vertex is to blame.
     Stuck { vertex: u64, row: u64 },
+    /// The file of a recorded run, of which some bytes may have gone out.
+    WriteTrace,
     /// The output, and how many bytes of it went out.
     Write(WriteFault),
     /// The arguments are no command.
@@ -109,6 +124,20 @@ impl From<ReplayFault> for Fault {
     }
 }
 
+impl From<TraceFault> for Fault {
+    ghost use Rattle.std.specs.Prelude.{◌≡◌};
+    ghost use Rattle.chip_engine.specs.Faults.{fault_of_trace};
+
+    ghost from_gives = { λ trace fault. fault ≡ fault_of_trace trace };
+
+    fn from(fault: TraceFault) -> Fault {
+        match fault {
+            TraceFault::Write => Fault::WriteTrace,
+            TraceFault::NoMemory => Fault::NoMemory,
+        }
+    }
+}
+
 impl From<WorldFault> for Fault {
     ghost use Rattle.std.specs.Prelude.{◌≡◌};
     ghost use Rattle.chip_engine.specs.Faults.{fault_of_world};
@@ -160,7 +189,7 @@ impl<T: Drop> From<AllocFailed<T>> for Fault {
 #[derive(Clone, Copy, Debug, PartialEq, Eq)]
 pub enum Location {
     Nowhere,
-    /// An edge, a vertex, a row, an argument or a number of bytes.
+    /// An edge, a vertex, a row, an argument or a number of bytes or of messages.
     At(u64),
     AtRow { vertex: u64, row: u64 },
 }
@@ -264,7 +293,17 @@ fn resume_line(fault: &ResumeFault) -> FaultLine
 
 impl Fault {
     ghost use Rattle.std.specs.Prelude.{◌≡◌};
-    ghost use Rattle.chip_engine.specs.FaultNumbers.{number_of, location_of};
+    ghost use Rattle.chip_engine.specs.FaultNumbers.{number_of, location_of, status_of_fault};
+
+    /// The exit status of a command that failed so: a crew that ran out of turns is no failure of its inputs.
+    pub fn status(&self) -> u8
+        ensures { result ≡ status_of_fault self.now }
+    {
+        match self {
+            Fault::Unfinished(_) => OPEN,
+            _ => FAILED,
+        }
+    }
 
     /// The number, the name and the location of this fault.
     pub fn line(&self) -> FaultLine
@@ -277,6 +316,12 @@ impl Fault {
             Fault::NotClosed => line(42, "NotClosed", Location::Nowhere),
             Fault::NotReport => line(50, "NotReport", Location::Nowhere),
             Fault::Resume(fault) => resume_line(fault),
+            Fault::Plan => line(60, "Plan", Location::Nowhere),
+            Fault::Unfinished(deficit) => line(61, "Unfinished", Location::At(*deficit)),
+            Fault::GateShut => line(62, "GateShut", Location::Nowhere),
+            Fault::Lost(vertex) => line(63, "Lost", Location::At(*vertex)),
+            Fault::Doubled(vertex) => line(64, "Doubled", Location::At(*vertex)),
+            Fault::Spawn => line(65, "Spawn", Location::Nowhere),
             Fault::Stuck { vertex, row } => {
                 let (vertex, row) = (*vertex, *row);
                 line(70, "Stuck", Location::AtRow { vertex, row })
@@ -285,6 +330,7 @@ impl Fault {
             Fault::Usage => line(91, "Usage", Location::Nowhere),
             Fault::Open(argument) => line(92, "Open", Location::At(*argument)),
             Fault::Write(fault) => line(93, "Write", Location::At(fault.written)),
+            Fault::WriteTrace => line(93, "Write", Location::Nowhere),
         }
     }
 }

@@ -29,11 +29,18 @@ fn prints_each_line(rt: HostRuntime) -> Result<(), Fail> {
         (Fault::Resume(ResumeFault::Mismatch), "fault 52 Mismatch"),
         (Fault::Resume(ResumeFault::Total), "fault 10 Total"),
         (Fault::Resume(ResumeFault::Limit), "fault 11 Limit"),
+        (Fault::Plan, "fault 60 Plan"),
+        (Fault::Unfinished(1), "fault 61 Unfinished 1"),
+        (Fault::GateShut, "fault 62 GateShut"),
+        (Fault::Lost(5), "fault 63 Lost 5"),
+        (Fault::Doubled(0), "fault 64 Doubled 0"),
+        (Fault::Spawn, "fault 65 Spawn"),
         (Fault::Stuck { vertex: 1, row: 0 }, "fault 70 Stuck 1 0"),
         (Fault::NoMemory, "fault 90 NoMemory"),
         (Fault::Usage, "fault 91 Usage"),
         (Fault::Open(2), "fault 92 Open 2"),
         (Fault::Write(WriteFault { written: 7 }), "fault 93 Write 7"),
+        (Fault::WriteTrace, "fault 93 Write"),
     ] {
         shows(&rt, &fault, text)?;
     }

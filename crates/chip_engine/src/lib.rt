@@ -6,7 +6,7 @@
 #![tactic(auto)]
 
 pub use check::check_engine;
-pub use ended::{DONE, Ended, HALTED, OPEN};
+pub use ended::{DONE, Ended, FAILED, HALTED, OPEN};
 pub use fault::{Fault, FaultLine, Location};
 pub use plain::plain_engine;
 pub use replay::replay_engine;

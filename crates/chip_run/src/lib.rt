@@ -1,0 +1,10 @@
+//! `run`: the report of a game that threads play.
+//!
+//! It is an engine as those of `chip_engine`, with their faults, in a crate of its own, so that a change of one of
+//! those need not read the running net.
+#![tactic(auto)]
+
+pub use running::run_engine;
+
+mod recording;
+mod running;

@@ -1,0 +1,130 @@
+//! The engine.
+
+ghost use Rattle.std.specs.Prelude.{◌≡◌, false, is_some, IfOk, IfErr};
+ghost use Rattle.std.specs.Option.{ForSome};
+ghost use Rattle.chip_report.specs.ReportText.{report_text};
+ghost use Rattle.chip_engine.specs.PlainCommand.{Reports, plain_status};
+ghost use Rattle.chip_run.specs.RunCommand.{RunAnswers, IsNotReported, plan_of};
+
+use crate::recording::recorded;
+use chip_crew::{CrewFault, Finished, Gate, Plan, run};
+use chip_engine::{Ended, Fault, read_game, status_of};
+use chip_graph::Game;
+use chip_net::Actor;
+use chip_report::report::report;
+use chip_report::write_all_of;
+use std::alloc::{AllocError, Global};
+use std::io::{Read, Write};
+use std::sync::Wait;
+use std::thread::Threads;
+
+/// Lets every worker pass.
+struct Always;
+
+impl Gate for Always {
+    fn pass(&self, _worker: u64, _turn: u64) -> bool {
+        true
+    }
+}
+
+/// Plays the game of a graph file, a chips file and a firing limit on so many threads, with such rings, each thread for
+/// so many turns at most. Where a trace is asked for it is written first, with room for so many rows of each vertex,
+/// and then the report.
+///
+/// Its bytes and its status are those of `plain_engine`, however the threads were scheduled. The report is made whole
+/// before the first byte of either is written, and where the trace cannot be written nothing of the report is.
+pub fn run_engine<R: Threads + Wait + Sync, G: Read, C: Read, T: Write, W: Write>(
+    rt: &R,
+    alloc: Global,
+    graph: &mut G,
+    chips: &mut C,
+    limit: u64,
+    ring: u64,
+    workers: u64,
+    turns: u64,
+    trace_rows: u64,
+    trace: Option<&mut T>,
+    output: &mut W,
+) -> Result<Ended, Fault>
+    ensures { ForSome (G.remaining graph.old)
+        (λ graph_text. ForSome (C.remaining chips.old)
+        (λ chips_text. RunAnswers graph_text chips_text limit (plan_of ring workers turns trace_rows) (is_some trace)
+        (W.contents output.old) (W.contents output.new) result)) }
+{
+    let game = read_game(alloc, graph, chips, limit)?;
+    let plan = Plan {
+        workers,
+        ring,
+        turns,
+        trace_rows,
+        seal: None,
+    };
+    let Played {
+        text,
+        status,
+        actors,
+    } = played(rt, alloc, &game, plan)?;
+    let cut = recorded(alloc, &actors, trace)?;
+    write_all_of(output, &text)?;
+    Ok(Ended { status, cut })
+}
+
+/// A game that was played.
+#[derive(Drop)]
+struct Played {
+    /// Its report.
+    text: Vec<u8>,
+    /// The exit status.
+    status: u8,
+    /// Who played it.
+    actors: Vec<Actor>,
+}
+
+/// Plays a game.
+fn played<R: Threads + Wait + Sync>(
+    rt: &R,
+    alloc: Global,
+    game: &Game,
+    plan: Plan,
+) -> Result<Played, Fault>
+    ensures played { IfOk result (λ p. Reports game.now p.text.items p.status) }
+    ensures fault { IfErr result (IsNotReported game.now plan false) }
+{
+    match run(rt, alloc, game, plan, &Always) {
+        Ok(finished) => Ok(reported(alloc, finished)?),
+        Err(fault) => Err(fault_of_crew(fault)),
+    }
+}
+
+/// The report of a game that a crew finished.
+fn reported(alloc: Global, finished: Finished) -> Result<Played, AllocError>
+    ensures { IfOk result (λ p. (p.text.items ≡ report_text finished.outcome)
+        × (p.status ≡ plain_status finished.outcome)) }
+{
+    let Finished {
+        outcome,
+        receipt: _,
+        actors,
+    } = finished;
+    let text = report(alloc, &outcome)?;
+    Ok(Played {
+        text,
+        status: status_of(&outcome),
+        actors,
+    })
+}
+
+/// A crew's fault, without the root.
+fn fault_of_crew(fault: CrewFault) -> Fault
+    ensures { result ≡ Rattle.chip_run.specs.RunCommand.fault_of_crew fault }
+{
+    match fault {
+        CrewFault::Plan => Fault::Plan,
+        CrewFault::NoMemory => Fault::NoMemory,
+        CrewFault::Spawn => Fault::Spawn,
+        CrewFault::GateShut => Fault::GateShut,
+        CrewFault::Doubled(vertex) => Fault::Doubled(vertex),
+        CrewFault::Lost(vertex) => Fault::Lost(vertex),
+        CrewFault::Unfinished { deficit, root: _ } => Fault::Unfinished(deficit),
+    }
+}

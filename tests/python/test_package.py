@@ -216,6 +216,12 @@ class Refusals(WithFolder):
         fault = self.refused(chipfire.replay, TRIANGLE, {0: 4}, trace)
         self.assertEqual((fault.number, fault.name, fault.place), (70, "Stuck", (1, 0)))
 
+    def test_a_fault_tells_what_the_program_explains(self):
+        fault = self.refused(chipfire.plain, TRIANGLE, self.file("chips.csv", "vertex,chips\n0,4\n0,-1\n"))
+        self.assertEqual((fault.number, fault.place), (25, (1,)))
+        self.assertEqual(fault.explanation, chipfire.explain(25).strip())
+        self.assertTrue(str(fault).startswith("fault 25 Number 1\n"))
+
     def test_files_are_counted_from_the_command(self):
         for files, place in [(("missing", CHIPS_FILE), 1), ((TRIANGLE_FILE, "missing"), 2)]:
             fault = self.refused(chipfire.plain, *files, limit=3)
@@ -241,6 +247,10 @@ class Checks(unittest.TestCase):
 
 
 class Finding(WithFolder):
+    def test_package_and_program_have_one_version(self):
+        ran = subprocess.run([os.environ["CHIPFIRE"], "--version"], capture_output=True, encoding="utf-8")
+        self.assertEqual(ran.stdout.split()[-1], chipfire.__version__)
+
     def test_a_program_that_is_not_there(self):
         with self.assertRaises(chipfire.ProgramNotFound):
             chipfire.check(TRIANGLE, program=self.file("nothing"))

@@ -7,6 +7,8 @@
 
 pub use check::check_engine;
 pub use ended::{DONE, Ended, HALTED, OPEN};
+pub use explain::explain_engine;
+pub use explanations::{EXPLANATIONS, Explanation, Place};
 pub use fault::{Fault, FaultLine, Location};
 pub use plain::plain_engine;
 pub use replay::replay_engine;
@@ -15,6 +17,8 @@ pub use simulate::simulate_engine;
 
 mod check;
 mod ended;
+mod explain;
+mod explanations;
 mod fault;
 #[cfg(test)]
 mod fault_tests;

@@ -1,5 +1,6 @@
 //! The arguments of the program, and what they ask for.
 
+use crate::help_texts as texts;
 use chip_engine::Fault;
 use chip_graph::MAX_LIMIT;
 use chip_link::Ring;
@@ -50,7 +51,7 @@ pub struct SittingArguments<'a> {
 /// What the arguments ask for.
 #[derive(Drop)]
 pub enum Request<'a> {
-    /// The help, to be printed.
+    /// The help or the version, to be printed.
     Help(String),
     Check(FileArgument<'a>),
     Plain(GameArguments<'a>),
@@ -58,20 +59,18 @@ pub enum Request<'a> {
     /// The game, and the file of the traces.
     Replay(GameArguments<'a>, FileArgument<'a>),
     Resume(SittingArguments<'a>),
+    /// The number of a fault, if one is named.
+    Explain(Option<u64>),
 }
-
-const AFTER_HELP: &str = "\
-Exit status: 0 done, or closed with no vertex halted; 1 a fault, which is one line on
-standard error; 2 closed with some vertex halted; 3 the root is open.
-
-Without arguments the report of a small game that is built in is written.";
 
 /// Reads the arguments, the program's own name first.
 pub fn parse<'a>(alloc: Global, arguments: &'a [String]) -> Result<Request<'a>, Fault> {
     match program(alloc)?.try_get_matches_from(arguments) {
         Ok(matches) => request_of(&matches, arguments),
         Err(error) => match error.kind() {
-            ErrorKind::DisplayHelp => Ok(Request::Help(error.to_string(alloc)?)),
+            ErrorKind::DisplayHelp | ErrorKind::DisplayVersion => {
+                Ok(Request::Help(error.to_string(alloc)?))
+            }
             ErrorKind::OutOfMemory => Err(Fault::NoMemory),
             _ => Err(Fault::Usage),
         },
@@ -99,6 +98,7 @@ fn request_of<'a>(matches: &ArgMatches<'a>, arguments: &[String]) -> Result<Requ
             report: file_of(found, "REPORT", arguments, 1)?,
             limit: limit_of(found),
         })),
+        "explain" => Ok(Request::Explain(found.get_one::<u64>("NUMBER"))),
         _ => Err(Fault::Usage),
     }
 }
@@ -167,20 +167,23 @@ fn number_of(arguments: &[String], files_before: u64) -> Option<u64> {
 fn program<'a>(alloc: Global) -> Result<Command<'a>, AllocError> {
     Command::new(alloc, "chipfire")
         .about("A chip-firing machine that is proved right")
-        .after_help(AFTER_HELP)
+        .version(texts::VERSION)
+        .after_help(texts::PROGRAM)
         .disable_help_subcommand(true)
         .subcommand_required(true)
         .subcommand(check(alloc)?)?
         .subcommand(plain(alloc)?)?
         .subcommand(simulate(alloc)?)?
         .subcommand(replay(alloc)?)?
-        .subcommand(resume(alloc)?)
+        .subcommand(resume(alloc)?)?
+        .subcommand(explain(alloc)?)
 }
 
 /// The command that shows a graph.
 fn check<'a>(alloc: Global) -> Result<Command<'a>, AllocError> {
     Command::new(alloc, "check")
         .about("Shows a graph: each vertex with its out-degree and its distance to the sink")
+        .after_help(texts::CHECK)
         .arg(file(alloc, "GRAPH", "The graph, as JSON"))
 }
 
@@ -190,6 +193,7 @@ fn plain<'a>(alloc: Global) -> Result<Command<'a>, AllocError> {
         alloc,
         "plain",
         "Plays a game on one thread and writes its report",
+        texts::PLAIN,
     )?
     .arg(limit(alloc))
 }
@@ -200,6 +204,7 @@ fn simulate<'a>(alloc: Global) -> Result<Command<'a>, AllocError> {
         alloc,
         "simulate",
         "Runs a schedule on the detector, and writes each reply and the report where the root closes",
+        texts::SIMULATE,
     )?
     .arg(file(
         alloc,
@@ -217,6 +222,7 @@ fn replay<'a>(alloc: Global) -> Result<Command<'a>, AllocError> {
         alloc,
         "replay",
         "Replays a recorded run and writes its firings, in an order in which they fit together",
+        texts::REPLAY,
     )?
     .arg(file(alloc, "TRACE", "What each vertex took and fired, as rows"))?
     .arg(limit(alloc))
@@ -228,6 +234,7 @@ fn resume<'a>(alloc: Global) -> Result<Command<'a>, AllocError> {
         .about(
             "Goes on from where a report says that a play stopped, and writes the report of this sitting",
         )
+        .after_help(texts::RESUME)
         .arg(file(alloc, "GRAPH", "The graph, as JSON"))?
         .arg(file(
             alloc,
@@ -237,10 +244,28 @@ fn resume<'a>(alloc: Global) -> Result<Command<'a>, AllocError> {
         .arg(limit(alloc))
 }
 
+/// The command that explains faults.
+fn explain<'a>(alloc: Global) -> Result<Command<'a>, AllocError> {
+    Command::new(alloc, "explain")
+        .about("Explains the fault with a number, or lists all faults")
+        .after_help(texts::EXPLAIN)
+        .arg(
+            Arg::new(alloc, "NUMBER")
+                .help("The number of a fault, as in `fault 21 Shape`")
+                .value_parser(value_parser!(u64)),
+        )
+}
+
 /// A command that begins with the files of a game.
-fn game<'a>(alloc: Global, name: &'a str, about: &'a str) -> Result<Command<'a>, AllocError> {
+fn game<'a>(
+    alloc: Global,
+    name: &'a str,
+    about: &'a str,
+    after_help: &'a str,
+) -> Result<Command<'a>, AllocError> {
     Command::new(alloc, name)
         .about(about)
+        .after_help(after_help)
         .arg(file(alloc, "GRAPH", "The graph, as JSON"))?
         .arg(file(alloc, "CHIPS", "The chips at the start, as rows"))
 }

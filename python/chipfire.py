@@ -43,10 +43,10 @@ from dataclasses import dataclass, field
 from typing import Any, NamedTuple, Union
 
 __all__ = [
-    "Check", "Event", "Fault", "Firing", "Graph", "Program", "ProgramNotFound", "Reply", "Report", "Schedule",
-    "Simulation", "TraceCut", "TraceRow", "check", "complete", "cycle", "explain", "from_networkx", "from_sage", "grid",
-    "identity", "path", "plain", "read_chips", "read_schedule", "read_trace", "replay", "resume", "run", "simulate",
-    "torus", "write_chips", "write_schedule", "write_trace",
+    "Board", "Books", "Check", "Event", "Fault", "Firing", "Graph", "Program", "ProgramNotFound", "Reply", "Report",
+    "Schedule", "Simulation", "TraceCut", "TraceRow", "check", "complete", "cycle", "explain", "from_networkx",
+    "from_sage", "grid", "identity", "path", "plain", "read_chips", "read_schedule", "read_trace", "replay", "resume",
+    "run", "simulate", "torus", "write_chips", "write_schedule", "write_trace",
 ]
 
 __version__ = "0.1.0"
@@ -578,14 +578,60 @@ class Reply:
 
 
 @dataclass(frozen=True)
+class Books:
+    """What an engaged vertex has in its books: its parent edge, how many acknowledgements it waits for, and of each
+    edge on which it owes some, how many."""
+
+    parent: int
+    deficit: int
+    owed: dict[int, int]
+
+
+@dataclass(frozen=True)
+class Board:
+    """What stands in all books after an event: the root's deficit, and the books of each engaged vertex."""
+
+    root_deficit: int
+    engaged: dict[int, Books]
+
+    @classmethod
+    def parse(cls, lines: Sequence[str]) -> Board:
+        """The board of its lines: that of the root, and one for each engaged vertex."""
+        engaged = {}
+        for words in map(str.split, lines[1:]):
+            owed = dict(tuple(map(int, word.split(":"))) for word in words[7:])
+            engaged[int(words[1])] = Books(int(words[3]), int(words[5]), owed)
+        return cls(int(lines[0].split()[2]), engaged)
+
+
+@dataclass(frozen=True)
 class Simulation:
-    """What a schedule came to: a reply for each event, and the report where the root closed.
+    """What a schedule came to: a reply for each event, the report where the root closed, and a board for each reply
+    where the books were asked for.
 
     That the root is closed says that all is over. `report.closed` says besides that no limit and no seal stopped a
     vertex."""
 
     replies: tuple[Reply, ...]
     report: Report | None
+    boards: tuple[Board, ...] = ()
+
+    @classmethod
+    def parse(cls, text: str, graph: Graph | None = None) -> Simulation:
+        """The simulation of a text as the program writes it."""
+        lines = text.splitlines()
+        is_closed = "root closed" in lines[-2:]
+        report = Report.parse(lines[-1], graph) if is_closed else None
+        replies: list[Reply] = []
+        boards: list[list[str]] = []
+        for line in lines[: -2 if is_closed else -1]:
+            if line.startswith(" "):
+                boards[-1].append(line)
+            else:
+                kind, *numbers = line.split()
+                replies.append(Reply(kind, tuple(map(int, numbers))))
+                boards.append([])
+        return cls(tuple(replies), report, tuple(Board.parse(board) for board in boards if board))
 
     @property
     def root_closed(self) -> bool:
@@ -648,17 +694,14 @@ class Program:
         limit: int | None = None,
         ring: int | None = None,
         rounds: int | None = None,
+        books: bool = False,
     ) -> Simulation:
         """Runs a schedule on the detector: a reply for each event, and the report where the root is closed then, or
-        after so many rounds of turns."""
+        after so many rounds of turns. With `books` there is also what stands in the books after each event."""
         with _Room() as room:
             files = [*room.game(graph, chips), room.rows("schedule.csv", schedule, _schedule_text)]
-            text = self._ask("simulate", *files, limit=limit, ring=ring, rounds=rounds)
-            lines = text.splitlines()
-            is_closed = "root closed" in lines[-2:]
-            words = [line.split() for line in lines[: -2 if is_closed else -1]]
-            replies = tuple(Reply(kind, tuple(map(int, numbers))) for kind, *numbers in words)
-            return Simulation(replies, room.report(lines[-1]) if is_closed else None)
+            text = self._ask("simulate", *files, limit=limit, ring=ring, rounds=rounds, books=books)
+            return Simulation.parse(text, room.graph_known())
 
     def replay(
         self,
@@ -693,9 +736,10 @@ class Program:
         rest = self.plain(graph, twice).configuration
         return self.plain(graph, {name: count - rest[name] for name, count in twice.items()}).configuration
 
-    def _ask(self, command: str, *files: str, **options: int | str | None) -> str:
-        """Runs a command, and returns what it writes; a fault is raised."""
-        words = [f"--{name}={value}" for name, value in options.items() if value is not None]
+    def _ask(self, command: str, *files: str, **options: int | str | bool | None) -> str:
+        """Runs a command, and returns what it writes; a fault is raised. An option that is True has no value."""
+        given = {name: value for name, value in options.items() if value is not None and value is not False}
+        words = [f"--{name}" if value is True else f"--{name}={value}" for name, value in given.items()]
         ran = self._start(command, *map(_file_word, files), *words)
         errors = ran.stderr.splitlines()
         if ran.returncode in (1, 3) and errors:
@@ -762,10 +806,13 @@ class _Room(contextlib.ExitStack):
     def earlier(self, report: Report | FileName) -> str:
         return self._file("report.json", report.text()) if isinstance(report, Report) else os.fspath(report)
 
+    def graph_known(self) -> Graph | None:
+        """The graph that the call is about, read from its file if need be."""
+        return self.known or (Graph.read(self.graph_file) if self.graph_file is not None else None)
+
     def report(self, text: str) -> Report:
         """The report that was written, with its graph."""
-        known = self.known or (Graph.read(self.graph_file) if self.graph_file is not None else None)
-        return Report.parse(text, known)
+        return Report.parse(text, self.graph_known())
 
 
 def find_program() -> str:

@@ -179,6 +179,17 @@ class Detector(WithFolder):
         self.assertEqual((str(early), early.is_done), ("not-now 15", False))
         self.assertEqual(early.rule, "something may be acknowledged on it now")
 
+    def test_the_books_of_the_small_run(self):
+        game = [f"{EXAMPLES}/detector/{name}" for name in ("small-run.json", "two-chips.csv", "small-run.csv")]
+        simulation = chipfire.simulate(*game, books=True)
+        self.assertEqual((len(simulation.replies), len(simulation.boards)), (23, 23))
+        # after A got b: docs/DETECTOR.md, step 7
+        engaged = {0: chipfire.Books(3, 1, {1: 1, 3: 1}), 1: chipfire.Books(0, 2, {0: 1})}
+        self.assertEqual(simulation.boards[13], chipfire.Board(1, engaged))
+        self.assertEqual(simulation.boards[-1], chipfire.Board(0, {}))
+        self.assertEqual(chipfire.simulate(*game).replies, simulation.replies)
+        self.assertEqual(chipfire.simulate(*game).boards, ())
+
     def test_an_empty_schedule_of_an_empty_game_closes(self):
         self.assertTrue(chipfire.simulate(TRIANGLE, {}, []).root_closed)
 

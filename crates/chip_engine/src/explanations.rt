@@ -5,11 +5,17 @@
 pub enum Place {
     /// There is none.
     Nowhere,
+    /// The number of an edge of the graph.
     Edge,
+    /// The number of a vertex.
     Vertex,
+    /// A row of a file of rows, from 0 below the header.
     Row,
+    /// A vertex, and a row among its own in a trace, from 0.
     TraceRow,
+    /// An argument behind the command, from 1.
     Argument,
+    /// How many bytes went out.
     Bytes,
 }
 
@@ -72,6 +78,7 @@ n is how many bytes went out before.
 pub struct Explanation {
     pub number: u64,
     pub name: &'static str,
+    /// What the numbers behind the name are.
     pub place: Place,
     /// What is wrong, on one line.
     pub meaning: &'static str,
@@ -79,7 +86,7 @@ pub struct Explanation {
     pub advice: &'static str,
 }
 
-pub const VERTICES: Explanation = Explanation {
+pub(crate) const VERTICES: Explanation = Explanation {
     number: 1,
     name: "Vertices",
     place: Place::Nowhere,
@@ -90,7 +97,7 @@ from 0 on.
 ",
 };
 
-pub const SINK: Explanation = Explanation {
+pub(crate) const SINK: Explanation = Explanation {
     number: 2,
     name: "Sink",
     place: Place::Nowhere,
@@ -101,7 +108,7 @@ than \"vertices\".
 ",
 };
 
-pub const EDGE_COUNT: Explanation = Explanation {
+pub(crate) const EDGE_COUNT: Explanation = Explanation {
     number: 3,
     name: "EdgeCount",
     place: Place::Nowhere,
@@ -112,7 +119,7 @@ theirs: the same game is played on it.
 ",
 };
 
-pub const ENDPOINT: Explanation = Explanation {
+pub(crate) const ENDPOINT: Explanation = Explanation {
     number: 4,
     name: "Endpoint",
     place: Place::Edge,
@@ -123,7 +130,7 @@ A row is [tail, head, mult]; tail and head are numbers from 0 to one less than
 ",
 };
 
-pub const MULT: Explanation = Explanation {
+pub(crate) const MULT: Explanation = Explanation {
     number: 5,
     name: "Mult",
     place: Place::Edge,
@@ -134,7 +141,7 @@ head, 1 to 1048576. Leave out an edge that sends none.
 ",
 };
 
-pub const LOOP: Explanation = Explanation {
+pub(crate) const LOOP: Explanation = Explanation {
     number: 6,
     name: "Loop",
     place: Place::Edge,
@@ -145,7 +152,7 @@ played here.
 ",
 };
 
-pub const FROM_SINK: Explanation = Explanation {
+pub(crate) const FROM_SINK: Explanation = Explanation {
     number: 7,
     name: "FromSink",
     place: Place::Edge,
@@ -156,7 +163,7 @@ directions has an edge each way between two vertices, but none out of its sink.
 ",
 };
 
-pub const UNREACHED: Explanation = Explanation {
+pub(crate) const UNREACHED: Explanation = Explanation {
     number: 8,
     name: "Unreached",
     place: Place::Vertex,
@@ -168,7 +175,7 @@ sink: add an edge, or leave the vertex out.
 ",
 };
 
-pub const START_LENGTH: Explanation = Explanation {
+pub(crate) const START_LENGTH: Explanation = Explanation {
     number: 9,
     name: "StartLength",
     place: Place::Nowhere,
@@ -179,7 +186,7 @@ that name their vertices.
 ",
 };
 
-pub const TOTAL: Explanation = Explanation {
+pub(crate) const TOTAL: Explanation = Explanation {
     number: 10,
     name: "Total",
     place: Place::Nowhere,
@@ -189,7 +196,7 @@ That is 2^40. The chips of all vertices together count, those on the sink among 
 ",
 };
 
-pub const LIMIT: Explanation = Explanation {
+pub(crate) const LIMIT: Explanation = Explanation {
     number: 11,
     name: "Limit",
     place: Place::Nowhere,
@@ -200,7 +207,7 @@ is fault 91.
 ",
 };
 
-pub const NOT_JSON: Explanation = Explanation {
+pub(crate) const NOT_JSON: Explanation = Explanation {
     number: 20,
     name: "NotJson",
     place: Place::Nowhere,
@@ -213,7 +220,7 @@ graph is refused so too: the graph comes first.
 ",
 };
 
-pub const SHAPE: Explanation = Explanation {
+pub(crate) const SHAPE: Explanation = Explanation {
     number: 21,
     name: "Shape",
     place: Place::Nowhere,
@@ -227,7 +234,7 @@ writes one, but has a sign, a point, an exponent or quotes (-1, 1.0, 1e3, \"2\")
 ",
 };
 
-pub const VERSION: Explanation = Explanation {
+pub(crate) const VERSION: Explanation = Explanation {
     number: 22,
     name: "Version",
     place: Place::Nowhere,
@@ -237,7 +244,7 @@ pub const VERSION: Explanation = Explanation {
 ",
 };
 
-pub const HEADER: Explanation = Explanation {
+pub(crate) const HEADER: Explanation = Explanation {
     number: 23,
     name: "Header",
     place: Place::Nowhere,
@@ -252,7 +259,7 @@ command tells the order.
 ",
 };
 
-pub const ROW: Explanation = Explanation {
+pub(crate) const ROW: Explanation = Explanation {
     number: 24,
     name: "Row",
     place: Place::Row,
@@ -263,7 +270,7 @@ commas between them and none at the end.
 ",
 };
 
-pub const NUMBER: Explanation = Explanation {
+pub(crate) const NUMBER: Explanation = Explanation {
     number: 25,
     name: "Number",
     place: Place::Row,
@@ -275,7 +282,7 @@ looks at has to be one, as the count of a take.
 ",
 };
 
-pub const VERTEX: Explanation = Explanation {
+pub(crate) const VERTEX: Explanation = Explanation {
     number: 26,
     name: "Vertex",
     place: Place::Row,
@@ -287,7 +294,7 @@ for each vertex: with m edges, m + v brings vertex v its first chips.
 ",
 };
 
-pub const REPEATED: Explanation = Explanation {
+pub(crate) const REPEATED: Explanation = Explanation {
     number: 27,
     name: "Repeated",
     place: Place::Row,
@@ -298,7 +305,7 @@ names has none.
 ",
 };
 
-pub const KIND: Explanation = Explanation {
+pub(crate) const KIND: Explanation = Explanation {
     number: 28,
     name: "Kind",
     place: Place::Row,
@@ -309,7 +316,7 @@ read; in a trace the second is take or fire. Small letters, and no spaces.
 ",
 };
 
-pub const READ: Explanation = Explanation {
+pub(crate) const READ: Explanation = Explanation {
     number: 29,
     name: "Read",
     place: Place::Nowhere,
@@ -319,7 +326,7 @@ That is so of a folder. Else the system refused a read: try again, or copy the f
 ",
 };
 
-pub const TOO_LONG: Explanation = Explanation {
+pub(crate) const TOO_LONG: Explanation = Explanation {
     number: 30,
     name: "TooLong",
     place: Place::Nowhere,
@@ -330,7 +337,7 @@ written without spaces.
 ",
 };
 
-pub const NOT_CLOSED: Explanation = Explanation {
+pub(crate) const NOT_CLOSED: Explanation = Explanation {
     number: 42,
     name: "NotClosed",
     place: Place::Nowhere,
@@ -340,7 +347,7 @@ Only callers of the library chip_world meet this. `simulate` says `root open` in
 ",
 };
 
-pub const NOT_REPORT: Explanation = Explanation {
+pub(crate) const NOT_REPORT: Explanation = Explanation {
     number: 50,
     name: "NotReport",
     place: Place::Nowhere,
@@ -353,7 +360,7 @@ alone is the report.
 ",
 };
 
-pub const PRIOR: Explanation = Explanation {
+pub(crate) const PRIOR: Explanation = Explanation {
     number: 51,
     name: "Prior",
     place: Place::Vertex,
@@ -364,7 +371,7 @@ chips is the same position.
 ",
 };
 
-pub const MISMATCH: Explanation = Explanation {
+pub(crate) const MISMATCH: Explanation = Explanation {
     number: 52,
     name: "Mismatch",
     place: Place::Nowhere,
@@ -375,7 +382,7 @@ so name the graph file that the earlier command had.
 ",
 };
 
-pub const STUCK: Explanation = Explanation {
+pub(crate) const STUCK: Explanation = Explanation {
     number: 70,
     name: "Stuck",
     place: Place::TraceRow,
@@ -388,7 +395,7 @@ trace of other chips, of another graph or limit, or one that was cut is refused 
 ",
 };
 
-pub const NO_MEMORY: Explanation = Explanation {
+pub(crate) const NO_MEMORY: Explanation = Explanation {
     number: 90,
     name: "NoMemory",
     place: Place::Nowhere,
@@ -398,7 +405,7 @@ Nothing was written. Let the process have more memory, or give it smaller files.
 ",
 };
 
-pub const USAGE: Explanation = Explanation {
+pub(crate) const USAGE: Explanation = Explanation {
     number: 91,
     name: "Usage",
     place: Place::Nowhere,
@@ -410,7 +417,7 @@ has not, an option given twice, a number out of its range, a name that is no UTF
 ",
 };
 
-pub const OPEN: Explanation = Explanation {
+pub(crate) const OPEN: Explanation = Explanation {
     number: 92,
     name: "Open",
     place: Place::Argument,
@@ -421,7 +428,7 @@ program was started.
 ",
 };
 
-pub const WRITE: Explanation = Explanation {
+pub(crate) const WRITE: Explanation = Explanation {
     number: 93,
     name: "Write",
     place: Place::Bytes,

@@ -15,6 +15,7 @@ pub use replay::replay_engine;
 pub use resume::resume_engine;
 pub use simulate::simulate_engine;
 
+mod board;
 mod check;
 mod ended;
 mod explain;

@@ -5,7 +5,7 @@ use chip_engine::Fault;
 use chip_graph::MAX_LIMIT;
 use chip_link::Ring;
 use clap::error::ErrorKind;
-use clap::{Arg, ArgMatches, Command, value_parser};
+use clap::{Arg, ArgAction, ArgMatches, Command, value_parser};
 use std::alloc::{AllocError, Global};
 
 /// The most rounds that follow a schedule.
@@ -37,6 +37,8 @@ pub struct SimulationArguments<'a> {
     pub ring: Ring,
     /// Up to 2^40.
     pub rounds: u64,
+    /// Whether the books of the detector follow each reply.
+    pub books: bool,
 }
 
 /// A play to go on with that the arguments name: its files, and how often each vertex may fire in this sitting.
@@ -88,6 +90,7 @@ fn request_of<'a>(matches: &ArgMatches<'a>, arguments: &[String]) -> Result<Requ
             schedule: file_of(found, "SCHEDULE", arguments, 2)?,
             ring: ring_of(found)?,
             rounds: found.get_one::<u64>("rounds").unwrap_or(0),
+            books: found.get_flag("books"),
         })),
         "replay" => Ok(Request::Replay(
             game_of(found, arguments)?,
@@ -141,6 +144,7 @@ fn file_of<'a>(
 /// The number of the argument that names a file and has so many files before it, to be told where it cannot be opened.
 ///
 /// An option is no file, nor is the argument behind it, where its value stands; behind `--` each argument is a file.
+/// `--books` has no value.
 fn number_of(arguments: &[String], files_before: u64) -> Option<u64> {
     let mut files_left = files_before;
     let mut is_value = false;
@@ -157,7 +161,7 @@ fn number_of(arguments: &[String], files_before: u64) -> Option<u64> {
         } else if argument == "--" {
             only_files = true;
         } else {
-            is_value = !argument.contains('=');
+            is_value = argument != "--books" && !argument.contains('=');
         }
     }
     None
@@ -213,7 +217,8 @@ fn simulate<'a>(alloc: Global) -> Result<Command<'a>, AllocError> {
     ))?
     .arg(limit(alloc))?
     .arg(ring(alloc))?
-    .arg(rounds(alloc))
+    .arg(rounds(alloc))?
+    .arg(books(alloc))
 }
 
 /// The command that replays a recorded run.
@@ -300,4 +305,12 @@ fn rounds<'a>(alloc: Global) -> Arg<'a> {
         .value_name("N")
         .help("How many rounds of turns follow, until the root closes, 0 to 2^40 [default: 0]")
         .value_parser(value_parser!(u64).range(0..=MAX_ROUNDS as i64))
+}
+
+/// Whether the books of the detector follow each reply.
+fn books<'a>(alloc: Global) -> Arg<'a> {
+    Arg::new(alloc, "books")
+        .long("books")
+        .action(ArgAction::SetTrue)
+        .help("Writes the books of the detector behind each reply: deficits, parents, what is owed")
 }

@@ -83,6 +83,7 @@ fn simulate<R: Files + AllocGlobal, W: io::Write>(
         asked.game.limit,
         asked.ring,
         asked.rounds,
+        asked.books,
         output,
     )
 }

@@ -1,7 +1,7 @@
 #!/usr/bin/env python3
 """Runs a schedule on the detector the plain way, to say what `chipfire simulate` must answer.
 
-    examples/simulate.py GRAPH CHIPS SCHEDULE [--limit F] [--ring R] [--rounds N]
+    examples/simulate.py GRAPH CHIPS SCHEDULE [--limit F] [--ring R] [--rounds N] [--books]
 
 It shares nothing with chipfire: every message stands in a list of its edge for good, and what was put, delivered,
 acknowledged and settled are numbers beside it. It expects files that are right, and checks nothing.
@@ -257,6 +257,20 @@ class Core:
             for e in range(self.graph_edges, len(self.edges)):
                 self.settle(e)
 
+    def deficit(self, edges):
+        return sum(len(e.sent) - e.settled for e in edges)
+
+    def board(self):
+        """The books: the root's deficit, and of each engaged vertex its parent, its deficit and what it owes."""
+        lines = [f"  root deficit {self.deficit(self.edges[self.graph_edges :])}"]
+        for v, vertex in enumerate(self.vertices):
+            if vertex.parent is not None:
+                owed = [(self.edges.index(e), e.delivered - e.acked) for e in self.ins(v)]
+                owes = "".join(f" {edge}:{count}" for edge, count in owed if count)
+                parent, deficit = self.edges.index(vertex.parent), self.deficit(self.outs(v))
+                lines.append(f"  vertex {v} parent {parent} deficit {deficit} owes{owes}")
+        return "\n".join(lines)
+
     def report(self):
         fired = [v.fired for v in self.vertices]
         start = [sum(e.sent) for e in self.edges[self.graph_edges :]]
@@ -281,6 +295,7 @@ def main():
     words.add_argument("--limit", type=int, default=2**40)
     words.add_argument("--ring", type=int, default=1)
     words.add_argument("--rounds", type=int, default=0)
+    words.add_argument("--books", action="store_true", help="what stands in the books behind each reply")
     words = words.parse_args()
     with open(words.graph, encoding="utf-8") as file:
         graph = json.load(file)
@@ -290,6 +305,8 @@ def main():
     core = Core(graph, chips, words.limit, words.ring)
     for row in rows(words.schedule):
         print(core.step(row["event"], int(row["at"]), int(row["count"])))
+        if words.books:
+            print(core.board())
     core.drive(words.rounds)
     print(f"root closed\n{core.report()}" if core.is_closed() else "root open")
 

@@ -162,23 +162,24 @@ means_traces graph_text chips_text trace_text limit g traces G same game each = 
 }
 
 -- the same of `simulate`
-pub refused_simulate : (graph_text chips_text schedule_text : List ℕ) (limit ring rounds : ℕ) (known : Option (List ℕ))
-    (result : Result Ended Fault) (P : Fault → Type 0) → IsErrAnd result P
+pub refused_simulate : (graph_text chips_text schedule_text : List ℕ) (limit ring rounds : ℕ) (books : Bool)
+    (known : Option (List ℕ)) (result : Result Ended Fault) (P : Fault → Type 0) → IsErrAnd result P
     → ((fault : Fault) → P fault → RefusesEvents graph_text chips_text schedule_text limit fault ⊎ (fault ≡ NoMemory))
-    → SimulateAnswers graph_text chips_text schedule_text limit ring rounds known known result
-refused_simulate graph_text chips_text schedule_text limit ring rounds known (Ok ended) P is why = absurd is
-refused_simulate graph_text chips_text schedule_text limit ring rounds known (Err fault) P is why =
+    → SimulateAnswers graph_text chips_text schedule_text limit ring rounds books known known result
+refused_simulate graph_text chips_text schedule_text limit ring rounds books known (Ok ended) P is why = absurd is
+refused_simulate graph_text chips_text schedule_text limit ring rounds books known (Err fault) P is why =
     inl (why fault is, Keeps-same known)
 
-pub failed_simulate : (graph_text chips_text schedule_text : List ℕ) (limit ring rounds : ℕ) (old new : Option (List ℕ))
-    (result : Result Ended Fault) (P : Fault → Type 0) → IsErrAnd result P → (g : ChipGame) (events : List Event)
+pub failed_simulate : (graph_text chips_text schedule_text : List ℕ) (limit ring rounds : ℕ) (books : Bool)
+    (old new : Option (List ℕ)) (result : Result Ended Fault) (P : Fault → Type 0) → IsErrAnd result P → (g : ChipGame)
+    (events : List Event)
     → MeansEvents graph_text chips_text schedule_text limit g events → (text : List ℕ) (status : ℕ)
-    → Simulates (setting_of g ring) rounds events text status → (w : WriteFault)
+    → Simulates (setting_of g ring) rounds books events text status → (w : WriteFault)
     → ((fault : Fault) → P fault → fault ≡ Write w) → WritesAll old new text (Err w)
-    → SimulateAnswers graph_text chips_text schedule_text limit ring rounds old new result
-failed_simulate graph_text chips_text schedule_text limit ring rounds old new
+    → SimulateAnswers graph_text chips_text schedule_text limit ring rounds books old new result
+failed_simulate graph_text chips_text schedule_text limit ring rounds books old new
     (Ok ended) P is g events means text status simulates w why wrote = absurd is
-failed_simulate graph_text chips_text schedule_text limit ring rounds old new
+failed_simulate graph_text chips_text schedule_text limit ring rounds books old new
     (Err fault) P is g events means text status simulates w why wrote =
     inr (g, events, means, text, status, simulates, w, why fault is, wrote)
 

@@ -3,3 +3,5 @@ pub mod CheckLemmas
 pub mod EngineLemmas
 pub mod LineLemmas
 pub mod SittingLemmas
+pub mod BoardLemmas
+pub mod AnswerLemmas

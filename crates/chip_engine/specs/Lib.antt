@@ -3,6 +3,7 @@ pub mod FaultNumbers
 pub mod Inputs
 pub mod Lines
 pub mod PlainCommand
+pub mod Board
 pub mod CheckCommand
 pub mod ReplayCommand
 pub mod SimulateCommand

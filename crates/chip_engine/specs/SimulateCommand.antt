@@ -1,6 +1,7 @@
 -- From the bytes of a graph file, a chips file and a schedule to the replies of the core, and to the report where the
 -- root closes.
-use Rattle.std.specs.Prelude.{◌≡◌, ◌⊎◌, ℕ, List, [], ◌++◌, codes, false, Option, Some, Result, Ok, Err}
+use Rattle.std.specs.Prelude.{◌≡◌, ◌⊎◌, ℕ, List, [], ◌∷◌, ◌++◌, codes, Bool, false, if◌then◌else◌, Option, Some}
+use Rattle.std.specs.Prelude.{Result, Ok, Err}
 use Rattle.std.specs.Fmt.{decimal}
 use Rattle.std.specs.Io.KnownBytes.{Appends, Keeps}
 use Rattle.chip_graph.specs.ChipGame.{ChipGame}
@@ -10,7 +11,7 @@ use Rattle.chip_actor.specs.declared.reply.Reply.{Reply}
 use Rattle.chip_actor.specs.declared.reply.Reply.TheVariants.{Done, Got, Sent, Empty, Full, Sealed, NotNow}
 use Rattle.chip_actor.specs.Setting.{Setting, setting_of, game_of_setting}
 use Rattle.chip_actor.specs.Numbers.{number_of}
-use Rattle.chip_core.specs.Core.{Log, replies_to, log_after}
+use Rattle.chip_core.specs.Core.{Log, step, log_after}
 use Rattle.chip_core.specs.Headline.{NoneHaltedBySeal}
 use Rattle.chip_world.specs.declared.world.driving.Drive.{Drive}
 use Rattle.chip_world.specs.declared.world.driving.Drive.TheVariants.{Closed, Unfinished}
@@ -24,7 +25,7 @@ use Rattle.chip_report.specs.ReportText.{report_text}
 use Rattle.chip_report.specs.Written.{WritesAll}
 use Rattle.chip_report.specs.declared.write.WriteFault.{WriteFault}
 use Rattle.chip_engine.specs.Inputs.{Reads, MeansGame, RefusesInputs, RefusesText}
-use Rattle.chip_engine.specs.Lines.{lines_text}
+use Rattle.chip_engine.specs.Board.{board_text}
 use Rattle.chip_engine.specs.PlainCommand.{plain_status, Reports}
 use Rattle.chip_engine.specs.declared.ended.Ended.{Ended}
 use Rattle.chip_engine.specs.declared.fault.Fault.{Fault}
@@ -44,6 +45,16 @@ reply_text Full = codes "full\n"
 reply_text Sealed = codes "sealed\n"
 reply_text (NotNow rule) = codes "not-now " ++ decimal (number_of rule) ++ codes "\n"
 
+-- the reply after which a log stands, and behind it the board where it is asked for
+abbrev pub answer_text : Bool → Setting → Log → Reply → List ℕ
+answer_text books g log reply = reply_text reply ++ (if books then board_text g log else [])
+
+-- the replies to these events, each with the board after it where it is asked for
+abbrev pub answers_text : Bool → Setting → Log → List Event → List ℕ
+answers_text books g log [] = []
+answers_text books g log (x ∷ xs) =
+    answer_text books g (step g log x).0 (step g log x).1 ++ answers_text books g (step g log x).0 xs
+
 -- the end of a closed run: the report of its outcome and the status that `plain` has for it. The firings of the run
 -- lead to this outcome, so that a play can go on from it; and unless a vertex halted by a seal, it is what `plain`
 -- writes for the game, and its status
@@ -61,14 +72,14 @@ abbrev pub EndsBy : Setting → Log → Drive → List ℕ → ℕ → Type 0
 EndsBy g log Closed end status = EndsClosed g log end status
 EndsBy g log (Unfinished rounds) end status = (end ≡ codes "root open\n") × (status ≡ 3)
 
--- the text and the status of a simulation: the replies to the events from the opening on, at most so many rounds, and
--- the end
-pub record Simulates (g : Setting) (rounds : ℕ) (events : List Event) (text : List ℕ) (status : ℕ) : Type 0 where
+-- the text and the status of a simulation: the replies to the events from the opening on, with the books or without, at
+-- most so many rounds, and the end
+pub record Simulates (g : Setting) (rounds : ℕ) (books : Bool) (events : List Event) (text : List ℕ) (status : ℕ) : Type 0 where
   pub after : Log
   pub drive : Drive
   pub driven : IsDrive g rounds (log_after g [] events) after drive
   pub end : List ℕ
-  pub lines : text ≡ lines_text reply_text (replies_to g [] events) ++ end
+  pub lines : text ≡ answers_text books g [] events ++ end
   pub ends : EndsBy g after drive end status
 
 -- three texts and a limit mean this game and these events for it
@@ -86,14 +97,14 @@ RefusesEvents graph_text chips_text schedule_text limit fault =
 
 -- what `simulate` answers: the text of the simulation; or nothing is written and the inputs are refused; or the output
 -- failed
-abbrev pub SimulateAnswers : List ℕ → List ℕ → List ℕ → ℕ → ℕ → ℕ
+abbrev pub SimulateAnswers : List ℕ → List ℕ → List ℕ → ℕ → ℕ → ℕ → Bool
     → Option (List ℕ) → Option (List ℕ) → Result Ended Fault → Type 0
-SimulateAnswers graph_text chips_text schedule_text limit ring rounds old new (Ok ended) =
+SimulateAnswers graph_text chips_text schedule_text limit ring rounds books old new (Ok ended) =
     (g : ChipGame) × (events : List Event) × MeansEvents graph_text chips_text schedule_text limit g events
-    × (text : List ℕ) × Simulates (setting_of g ring) rounds events text ended.status
+    × (text : List ℕ) × Simulates (setting_of g ring) rounds books events text ended.status
     × Appends old new text × (ended.cut ≡ false)
-SimulateAnswers graph_text chips_text schedule_text limit ring rounds old new (Err fault) =
+SimulateAnswers graph_text chips_text schedule_text limit ring rounds books old new (Err fault) =
     ((RefusesEvents graph_text chips_text schedule_text limit fault ⊎ (fault ≡ NoMemory)) × Keeps old new)
     ⊎ ((g : ChipGame) × (events : List Event) × MeansEvents graph_text chips_text schedule_text limit g events
-    × (text : List ℕ) × (status : ℕ) × Simulates (setting_of g ring) rounds events text status
+    × (text : List ℕ) × (status : ℕ) × Simulates (setting_of g ring) rounds books events text status
     × (w : WriteFault) × (fault ≡ Write w) × WritesAll old new text (Err w))

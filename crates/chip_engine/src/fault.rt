@@ -1,4 +1,4 @@
-//! What can go wrong with a command, and the one table of numbers and names.
+//! What can go wrong with a command, and the line under which it is printed.
 
 ghost use Rattle.std.specs.Prelude.{◌≡◌};
 ghost use Rattle.chip_engine.specs.FaultNumbers.{number_of_graph_fault, number_of_game_fault, number_of_file_fault};
@@ -7,6 +7,8 @@ ghost use Rattle.chip_engine.specs.FaultNumbers.{location_of_graph_fault, locati
 ghost use Rattle.chip_engine.specs.declared.fault.Location.TheVariants.{Nowhere};
 
 use crate::ended::{FAILED, OPEN};
+use crate::explanations as table;
+use crate::explanations::Explanation;
 use chip_file::FileFault;
 use chip_fire::ResumeFault;
 use chip_graph::{GameFault, GraphFault};
@@ -213,13 +215,13 @@ pub struct FaultLine {
     pub location: Location,
 }
 
-/// A line of the table.
-fn line(number: u64, name: &'static str, location: Location) -> FaultLine
-    ensures { (result.number ≡ number) × (result.location ≡ location) }
+/// The line of a fault that is there, with the number and the name of its row of the table.
+fn line(row: Explanation, location: Location) -> FaultLine
+    ensures { (result.number ≡ row.number) × (result.location ≡ location) }
 {
     FaultLine {
-        number,
-        name,
+        number: row.number,
+        name: row.name,
         location,
     }
 }
@@ -230,15 +232,15 @@ fn graph_line(fault: &GraphFault) -> FaultLine
     ensures location { result.location ≡ location_of_graph_fault fault.now }
 {
     match fault {
-        GraphFault::Vertices => line(1, "Vertices", Location::Nowhere),
-        GraphFault::Sink => line(2, "Sink", Location::Nowhere),
-        GraphFault::EdgeCount => line(3, "EdgeCount", Location::Nowhere),
-        GraphFault::Endpoint(edge) => line(4, "Endpoint", Location::At(*edge)),
-        GraphFault::Mult(edge) => line(5, "Mult", Location::At(*edge)),
-        GraphFault::Loop(edge) => line(6, "Loop", Location::At(*edge)),
-        GraphFault::FromSink(edge) => line(7, "FromSink", Location::At(*edge)),
-        GraphFault::Unreached(vertex) => line(8, "Unreached", Location::At(*vertex)),
-        GraphFault::NoMemory => line(90, "NoMemory", Location::Nowhere),
+        GraphFault::Vertices => line(table::VERTICES, Location::Nowhere),
+        GraphFault::Sink => line(table::SINK, Location::Nowhere),
+        GraphFault::EdgeCount => line(table::EDGE_COUNT, Location::Nowhere),
+        GraphFault::Endpoint(edge) => line(table::ENDPOINT, Location::At(*edge)),
+        GraphFault::Mult(edge) => line(table::MULT, Location::At(*edge)),
+        GraphFault::Loop(edge) => line(table::LOOP, Location::At(*edge)),
+        GraphFault::FromSink(edge) => line(table::FROM_SINK, Location::At(*edge)),
+        GraphFault::Unreached(vertex) => line(table::UNREACHED, Location::At(*vertex)),
+        GraphFault::NoMemory => line(table::NO_MEMORY, Location::Nowhere),
     }
 }
 
@@ -248,9 +250,9 @@ fn game_line(fault: &GameFault) -> FaultLine
     ensures location { result.location ≡ Nowhere }
 {
     match fault {
-        GameFault::StartLength => line(9, "StartLength", Location::Nowhere),
-        GameFault::Total => line(10, "Total", Location::Nowhere),
-        GameFault::Limit => line(11, "Limit", Location::Nowhere),
+        GameFault::StartLength => line(table::START_LENGTH, Location::Nowhere),
+        GameFault::Total => line(table::TOTAL, Location::Nowhere),
+        GameFault::Limit => line(table::LIMIT, Location::Nowhere),
     }
 }
 
@@ -261,19 +263,19 @@ fn file_line(fault: &FileFault) -> FaultLine
 {
     match fault {
         FileFault::Graph(fault) => graph_line(fault),
-        FileFault::Total => line(10, "Total", Location::Nowhere),
-        FileFault::NotJson => line(20, "NotJson", Location::Nowhere),
-        FileFault::Shape => line(21, "Shape", Location::Nowhere),
-        FileFault::Version => line(22, "Version", Location::Nowhere),
-        FileFault::Header => line(23, "Header", Location::Nowhere),
-        FileFault::Row(row) => line(24, "Row", Location::At(*row)),
-        FileFault::Number(row) => line(25, "Number", Location::At(*row)),
-        FileFault::Vertex(row) => line(26, "Vertex", Location::At(*row)),
-        FileFault::Repeated(row) => line(27, "Repeated", Location::At(*row)),
-        FileFault::Kind(row) => line(28, "Kind", Location::At(*row)),
-        FileFault::Read => line(29, "Read", Location::Nowhere),
-        FileFault::TooLong => line(30, "TooLong", Location::Nowhere),
-        FileFault::NoMemory => line(90, "NoMemory", Location::Nowhere),
+        FileFault::Total => line(table::TOTAL, Location::Nowhere),
+        FileFault::NotJson => line(table::NOT_JSON, Location::Nowhere),
+        FileFault::Shape => line(table::SHAPE, Location::Nowhere),
+        FileFault::Version => line(table::VERSION, Location::Nowhere),
+        FileFault::Header => line(table::HEADER, Location::Nowhere),
+        FileFault::Row(row) => line(table::ROW, Location::At(*row)),
+        FileFault::Number(row) => line(table::NUMBER, Location::At(*row)),
+        FileFault::Vertex(row) => line(table::VERTEX, Location::At(*row)),
+        FileFault::Repeated(row) => line(table::REPEATED, Location::At(*row)),
+        FileFault::Kind(row) => line(table::KIND, Location::At(*row)),
+        FileFault::Read => line(table::READ, Location::Nowhere),
+        FileFault::TooLong => line(table::TOO_LONG, Location::Nowhere),
+        FileFault::NoMemory => line(table::NO_MEMORY, Location::Nowhere),
     }
 }
 
@@ -283,11 +285,11 @@ fn resume_line(fault: &ResumeFault) -> FaultLine
     ensures location { result.location ≡ location_of_resume_fault fault.now }
 {
     match fault {
-        ResumeFault::Total => line(10, "Total", Location::Nowhere),
-        ResumeFault::Limit => line(11, "Limit", Location::Nowhere),
-        ResumeFault::Prior(vertex) => line(51, "Prior", Location::At(*vertex)),
-        ResumeFault::Mismatch => line(52, "Mismatch", Location::Nowhere),
-        ResumeFault::NoMemory => line(90, "NoMemory", Location::Nowhere),
+        ResumeFault::Total => line(table::TOTAL, Location::Nowhere),
+        ResumeFault::Limit => line(table::LIMIT, Location::Nowhere),
+        ResumeFault::Prior(vertex) => line(table::PRIOR, Location::At(*vertex)),
+        ResumeFault::Mismatch => line(table::MISMATCH, Location::Nowhere),
+        ResumeFault::NoMemory => line(table::NO_MEMORY, Location::Nowhere),
     }
 }
 
@@ -313,24 +315,24 @@ impl Fault {
         match self {
             Fault::File(fault) => file_line(fault),
             Fault::Game(fault) => game_line(fault),
-            Fault::NotClosed => line(42, "NotClosed", Location::Nowhere),
-            Fault::NotReport => line(50, "NotReport", Location::Nowhere),
+            Fault::NotClosed => line(table::NOT_CLOSED, Location::Nowhere),
+            Fault::NotReport => line(table::NOT_REPORT, Location::Nowhere),
             Fault::Resume(fault) => resume_line(fault),
-            Fault::Plan => line(60, "Plan", Location::Nowhere),
-            Fault::Unfinished(deficit) => line(61, "Unfinished", Location::At(*deficit)),
-            Fault::GateShut => line(62, "GateShut", Location::Nowhere),
-            Fault::Lost(vertex) => line(63, "Lost", Location::At(*vertex)),
-            Fault::Doubled(vertex) => line(64, "Doubled", Location::At(*vertex)),
-            Fault::Spawn => line(65, "Spawn", Location::Nowhere),
+            Fault::Plan => line(table::PLAN, Location::Nowhere),
+            Fault::Unfinished(deficit) => line(table::UNFINISHED, Location::At(*deficit)),
+            Fault::GateShut => line(table::GATE_SHUT, Location::Nowhere),
+            Fault::Lost(vertex) => line(table::LOST, Location::At(*vertex)),
+            Fault::Doubled(vertex) => line(table::DOUBLED, Location::At(*vertex)),
+            Fault::Spawn => line(table::SPAWN, Location::Nowhere),
             Fault::Stuck { vertex, row } => {
                 let (vertex, row) = (*vertex, *row);
-                line(70, "Stuck", Location::AtRow { vertex, row })
+                line(table::STUCK, Location::AtRow { vertex, row })
             }
-            Fault::NoMemory => line(90, "NoMemory", Location::Nowhere),
-            Fault::Usage => line(91, "Usage", Location::Nowhere),
-            Fault::Open(argument) => line(92, "Open", Location::At(*argument)),
-            Fault::Write(fault) => line(93, "Write", Location::At(fault.written)),
-            Fault::WriteTrace => line(93, "Write", Location::Nowhere),
+            Fault::NoMemory => line(table::NO_MEMORY, Location::Nowhere),
+            Fault::Usage => line(table::USAGE, Location::Nowhere),
+            Fault::Open(argument) => line(table::OPEN, Location::At(*argument)),
+            Fault::Write(fault) => line(table::WRITE, Location::At(fault.written)),
+            Fault::WriteTrace => line(table::WRITE, Location::Nowhere),
         }
     }
 }

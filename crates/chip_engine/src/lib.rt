@@ -7,14 +7,19 @@
 
 pub use check::check_engine;
 pub use ended::{DONE, Ended, FAILED, HALTED, OPEN};
+pub use explain::explain_engine;
+pub use explanations::{EXPLANATIONS, Explanation, Place};
 pub use fault::{Fault, FaultLine, Location};
 pub use plain::plain_engine;
 pub use replay::replay_engine;
 pub use resume::resume_engine;
 pub use simulate::simulate_engine;
 
+mod board;
 mod check;
 mod ended;
+mod explain;
+mod explanations;
 mod fault;
 #[cfg(test)]
 mod fault_tests;

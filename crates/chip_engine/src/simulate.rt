@@ -3,21 +3,21 @@
 ghost use Rattle.std.specs.Prelude.{◌≡◌, ◌++◌, [], IfOk, IfErr, codes, string_bytes};
 ghost use Rattle.std.specs.Option.{ForSome};
 ghost use Rattle.chip_actor.specs.Setting.{Setting, setting_of};
-ghost use Rattle.chip_engine.specs.Lines.{lines_text};
-ghost use Rattle.chip_core.specs.Core.{Log, IsClosed, log_after, replies_to};
+ghost use Rattle.chip_core.specs.Core.{Log, IsClosed, log_after};
 ghost use Rattle.chip_world.specs.World.{StandsForLog, WhateverLog};
 ghost use Rattle.chip_world.specs.declared.world.driving.Drive.TheVariants.{Closed};
 ghost use Rattle.chip_engine.specs.declared.fault.Fault.TheVariants.{NoMemory};
 ghost use Rattle.chip_engine.specs.SimulateCommand.{SimulateAnswers, Simulates, EndsClosed, EndsBy};
-ghost use Rattle.chip_engine.specs.SimulateCommand.{message_text, reply_text};
+ghost use Rattle.chip_engine.specs.SimulateCommand.{message_text, reply_text, answer_text, answers_text};
 
+use crate::board::push_board;
 use crate::ended::{Ended, OPEN};
 use crate::fault::Fault;
 use crate::inputs::read_game;
 use crate::plain::status_of;
 use chip_actor::Reply;
 use chip_file::read_schedule;
-use chip_graph::Game;
+use chip_graph::{Game, Graph};
 use chip_link::{Event, Message, Ring};
 use chip_report::report::report;
 use chip_report::write_all_of;
@@ -26,7 +26,8 @@ use std::alloc::{AllocError, Global};
 use std::io::{Read, Write};
 
 /// Runs a schedule on the game of a graph file, a chips file and a firing limit, with rings of so many cells, and then
-/// so many rounds of turns at most; writes a line for each reply of the schedule, and the report where the root closes.
+/// so many rounds of turns at most; writes a line for each reply of the schedule, with the books of the detector behind
+/// it where they are asked for, and the report where the root closes.
 pub fn simulate_engine<G: Read, C: Read, S: Read, W: Write>(
     alloc: Global,
     graph: &mut G,
@@ -35,17 +36,18 @@ pub fn simulate_engine<G: Read, C: Read, S: Read, W: Write>(
     limit: u64,
     ring: Ring,
     rounds: u64,
+    books: bool,
     output: &mut W,
 ) -> Result<Ended, Fault>
     ensures { ForSome (G.remaining graph.old)
         (λ graph_text. ForSome (C.remaining chips.old)
         (λ chips_text. ForSome (S.remaining schedule.old)
-        (λ schedule_text. SimulateAnswers graph_text chips_text schedule_text limit ring rounds
+        (λ schedule_text. SimulateAnswers graph_text chips_text schedule_text limit ring rounds books
         (W.contents output.old) (W.contents output.new) result))) }
 {
     let game = read_game(alloc, graph, chips, limit)?;
     let events = read_schedule(alloc, schedule, game.graph())?;
-    let (text, status) = simulated(alloc, &game, &events, ring, rounds)?;
+    let (text, status) = simulated(alloc, &game, &events, ring, rounds, books)?;
     write_all_of(output, &text)?;
     Ok(Ended { status, cut: false })
 }
@@ -57,32 +59,37 @@ fn simulated(
     events: &[Event],
     ring: Ring,
     rounds: u64,
+    books: bool,
 ) -> Result<(Vec<u8>, u8), Fault>
-    ensures ok { IfOk result (λ made. Simulates (setting_of game.now ring) rounds events.now made.0.items made.1) }
+    ensures ok { IfOk result (λ made. Simulates (setting_of game.now ring) rounds books events.now made.0.items made.1) }
     ensures err { IfErr result (λ fault. fault ≡ NoMemory) }
 {
-    let (mut world, mut text) = scheduled(alloc, game, events, ring)?;
+    let (mut world, mut text) = scheduled(alloc, game, events, ring, books)?;
     let drive = world.drive(rounds);
     let (end, status) = end_of(alloc, &world, drive)?;
     text.extend_from_slice(&end)?;
     Ok((text, status))
 }
 
-/// The world after a schedule from the opening, and the lines of its replies.
+/// The world after a schedule from the opening, and the lines of its replies, with or without the books.
 fn scheduled(
     alloc: Global,
     game: &Game,
     events: &[Event],
     ring: Ring,
+    books: bool,
 ) -> Result<(World, Vec<u8>), AllocError>
     ensures world { IfOk result
         (λ made. let g = setting_of game.now ring in StandsForLog g (log_after g [] events.now) made.0) }
     ensures lines { IfOk result
-        (λ made. made.1.items ≡ lines_text reply_text (replies_to (setting_of game.now ring) [] events.now)) }
+        (λ made. made.1.items ≡ answers_text books (setting_of game.now ring) [] events.now) }
 {
     let mut world = World::open(alloc, game, ring)?;
-    let replies = world.answer(alloc, events)?;
-    let lines = lines_of(alloc, &replies)?;
+    let mut lines = String::new(alloc);
+    for event in events {
+        let reply = world.step(*event);
+        push_answer(&mut lines, reply, &world, game.graph(), books)?;
+    }
     Ok((world, lines.into_bytes()))
 }
 
@@ -111,15 +118,23 @@ fn closed(alloc: Global, world: &World) -> Result<(Vec<u8>, u8), Fault>
     Ok((end, status_of(&outcome)))
 }
 
-/// The lines of replies.
-fn lines_of(alloc: Global, replies: &[Reply]) -> Result<String, AllocError>
-    ensures { IfOk result (λ lines. string_bytes lines ≡ lines_text reply_text replies.now) }
+/// Appends the line of a reply, and the books after it where they are asked for.
+fn push_answer(
+    lines: &mut String,
+    reply: Reply,
+    world: &World,
+    graph: &Graph,
+    books: bool,
+) -> Result<(), AllocError>
+    requires { world.now.setting.graph ≡ graph.now }
+    ensures { IfOk result (λ _. WhateverLog world.now (λ g log.
+        string_bytes lines.new ≡ string_bytes lines.old ++ answer_text books g log reply)) }
 {
-    let mut lines = String::new(alloc);
-    for reply in replies {
-        push_reply(&mut lines, *reply)?;
+    push_reply(lines, reply)?;
+    if books {
+        push_board(lines, world, graph)?;
     }
-    Ok(lines)
+    Ok(())
 }
 
 /// Appends the line of a reply.

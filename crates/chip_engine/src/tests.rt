@@ -220,6 +220,7 @@ fn simulates_what_is_sealed_half_way(rt: HostRuntime) {
             NO_LIMIT,
             ring,
             rounds,
+            false,
             &mut output,
         );
         assert_eq!(rt; ended, wanted);

@@ -1,6 +1,7 @@
 ghost use Rattle.std.specs.Prelude.{◌≡◌, ◌+◌, ◌^◌, ◌<◌, ◌≤◌, ◌↔◌, [], length, sum, slice_index, option_to_list, IsTrue};
 ghost use Rattle.std.specs.Prelude.{IfOk, false};
 
+mod books;
 mod driving;
 mod outcome;
 mod running;

@@ -1,10 +1,11 @@
 //! The arguments of the program, and what they ask for.
 
+use crate::help_texts as texts;
 use chip_engine::Fault;
 use chip_graph::MAX_LIMIT;
 use chip_link::Ring;
 use clap::error::ErrorKind;
-use clap::{Arg, ArgMatches, Command, value_parser};
+use clap::{Arg, ArgAction, ArgMatches, Command, value_parser};
 use std::alloc::{AllocError, Global};
 
 /// The most rounds that follow a schedule.
@@ -36,6 +37,8 @@ pub struct SimulationArguments<'a> {
     pub ring: Ring,
     /// Up to 2^40.
     pub rounds: u64,
+    /// Whether the books of the detector follow each reply.
+    pub books: bool,
 }
 
 /// A play to go on with that the arguments name: its files, and how often each vertex may fire in this sitting.
@@ -50,7 +53,7 @@ pub struct SittingArguments<'a> {
 /// What the arguments ask for.
 #[derive(Drop)]
 pub enum Request<'a> {
-    /// The help, to be printed.
+    /// The help or the version, to be printed.
     Help(String),
     Check(FileArgument<'a>),
     Plain(GameArguments<'a>),
@@ -58,20 +61,18 @@ pub enum Request<'a> {
     /// The game, and the file of the traces.
     Replay(GameArguments<'a>, FileArgument<'a>),
     Resume(SittingArguments<'a>),
+    /// The number of a fault, if one is named.
+    Explain(Option<u64>),
 }
-
-const AFTER_HELP: &str = "\
-Exit status: 0 done, or closed with no vertex halted; 1 a fault, which is one line on
-standard error; 2 closed with some vertex halted; 3 the root is open.
-
-Without arguments the report of a small game that is built in is written.";
 
 /// Reads the arguments, the program's own name first.
 pub fn parse<'a>(alloc: Global, arguments: &'a [String]) -> Result<Request<'a>, Fault> {
     match program(alloc)?.try_get_matches_from(arguments) {
         Ok(matches) => request_of(&matches, arguments),
         Err(error) => match error.kind() {
-            ErrorKind::DisplayHelp => Ok(Request::Help(error.to_string(alloc)?)),
+            ErrorKind::DisplayHelp | ErrorKind::DisplayVersion => {
+                Ok(Request::Help(error.to_string(alloc)?))
+            }
             ErrorKind::OutOfMemory => Err(Fault::NoMemory),
             _ => Err(Fault::Usage),
         },
@@ -89,6 +90,7 @@ fn request_of<'a>(matches: &ArgMatches<'a>, arguments: &[String]) -> Result<Requ
             schedule: file_of(found, "SCHEDULE", arguments, 2)?,
             ring: ring_of(found)?,
             rounds: found.get_one::<u64>("rounds").unwrap_or(0),
+            books: found.get_flag("books"),
         })),
         "replay" => Ok(Request::Replay(
             game_of(found, arguments)?,
@@ -99,6 +101,7 @@ fn request_of<'a>(matches: &ArgMatches<'a>, arguments: &[String]) -> Result<Requ
             report: file_of(found, "REPORT", arguments, 1)?,
             limit: limit_of(found),
         })),
+        "explain" => Ok(Request::Explain(found.get_one::<u64>("NUMBER"))),
         _ => Err(Fault::Usage),
     }
 }
@@ -141,6 +144,7 @@ fn file_of<'a>(
 /// The number of the argument that names a file and has so many files before it, to be told where it cannot be opened.
 ///
 /// An option is no file, nor is the argument behind it, where its value stands; behind `--` each argument is a file.
+/// `--books` has no value.
 fn number_of(arguments: &[String], files_before: u64) -> Option<u64> {
     let mut files_left = files_before;
     let mut is_value = false;
@@ -157,7 +161,7 @@ fn number_of(arguments: &[String], files_before: u64) -> Option<u64> {
         } else if argument == "--" {
             only_files = true;
         } else {
-            is_value = !argument.contains('=');
+            is_value = argument != "--books" && !argument.contains('=');
         }
     }
     None
@@ -167,20 +171,23 @@ fn number_of(arguments: &[String], files_before: u64) -> Option<u64> {
 fn program<'a>(alloc: Global) -> Result<Command<'a>, AllocError> {
     Command::new(alloc, "chipfire")
         .about("A chip-firing machine that is proved right")
-        .after_help(AFTER_HELP)
+        .version(texts::VERSION)
+        .after_help(texts::PROGRAM)
         .disable_help_subcommand(true)
         .subcommand_required(true)
         .subcommand(check(alloc)?)?
         .subcommand(plain(alloc)?)?
         .subcommand(simulate(alloc)?)?
         .subcommand(replay(alloc)?)?
-        .subcommand(resume(alloc)?)
+        .subcommand(resume(alloc)?)?
+        .subcommand(explain(alloc)?)
 }
 
 /// The command that shows a graph.
 fn check<'a>(alloc: Global) -> Result<Command<'a>, AllocError> {
     Command::new(alloc, "check")
         .about("Shows a graph: each vertex with its out-degree and its distance to the sink")
+        .after_help(texts::CHECK)
         .arg(file(alloc, "GRAPH", "The graph, as JSON"))
 }
 
@@ -190,6 +197,7 @@ fn plain<'a>(alloc: Global) -> Result<Command<'a>, AllocError> {
         alloc,
         "plain",
         "Plays a game on one thread and writes its report",
+        texts::PLAIN,
     )?
     .arg(limit(alloc))
 }
@@ -200,6 +208,7 @@ fn simulate<'a>(alloc: Global) -> Result<Command<'a>, AllocError> {
         alloc,
         "simulate",
         "Runs a schedule on the detector, and writes each reply and the report where the root closes",
+        texts::SIMULATE,
     )?
     .arg(file(
         alloc,
@@ -208,7 +217,8 @@ fn simulate<'a>(alloc: Global) -> Result<Command<'a>, AllocError> {
     ))?
     .arg(limit(alloc))?
     .arg(ring(alloc))?
-    .arg(rounds(alloc))
+    .arg(rounds(alloc))?
+    .arg(books(alloc))
 }
 
 /// The command that replays a recorded run.
@@ -217,6 +227,7 @@ fn replay<'a>(alloc: Global) -> Result<Command<'a>, AllocError> {
         alloc,
         "replay",
         "Replays a recorded run and writes its firings, in an order in which they fit together",
+        texts::REPLAY,
     )?
     .arg(file(alloc, "TRACE", "What each vertex took and fired, as rows"))?
     .arg(limit(alloc))
@@ -228,6 +239,7 @@ fn resume<'a>(alloc: Global) -> Result<Command<'a>, AllocError> {
         .about(
             "Goes on from where a report says that a play stopped, and writes the report of this sitting",
         )
+        .after_help(texts::RESUME)
         .arg(file(alloc, "GRAPH", "The graph, as JSON"))?
         .arg(file(
             alloc,
@@ -237,10 +249,28 @@ fn resume<'a>(alloc: Global) -> Result<Command<'a>, AllocError> {
         .arg(limit(alloc))
 }
 
+/// The command that explains faults.
+fn explain<'a>(alloc: Global) -> Result<Command<'a>, AllocError> {
+    Command::new(alloc, "explain")
+        .about("Explains the fault with a number, or lists all faults")
+        .after_help(texts::EXPLAIN)
+        .arg(
+            Arg::new(alloc, "NUMBER")
+                .help("The number of a fault, as in `fault 21 Shape`")
+                .value_parser(value_parser!(u64)),
+        )
+}
+
 /// A command that begins with the files of a game.
-fn game<'a>(alloc: Global, name: &'a str, about: &'a str) -> Result<Command<'a>, AllocError> {
+fn game<'a>(
+    alloc: Global,
+    name: &'a str,
+    about: &'a str,
+    after_help: &'a str,
+) -> Result<Command<'a>, AllocError> {
     Command::new(alloc, name)
         .about(about)
+        .after_help(after_help)
         .arg(file(alloc, "GRAPH", "The graph, as JSON"))?
         .arg(file(alloc, "CHIPS", "The chips at the start, as rows"))
 }
@@ -275,4 +305,12 @@ fn rounds<'a>(alloc: Global) -> Arg<'a> {
         .value_name("N")
         .help("How many rounds of turns follow, until the root closes, 0 to 2^40 [default: 0]")
         .value_parser(value_parser!(u64).range(0..=MAX_ROUNDS as i64))
+}
+
+/// Whether the books of the detector follow each reply.
+fn books<'a>(alloc: Global) -> Arg<'a> {
+    Arg::new(alloc, "books")
+        .long("books")
+        .action(ArgAction::SetTrue)
+        .help("Writes the books of the detector behind each reply: deficits, parents, what is owed")
 }

@@ -6,7 +6,8 @@
 
 use arguments::{FileArgument, GameArguments, Request, SimulationArguments, SittingArguments};
 pub use chip_engine::{
-    DONE, Ended, Fault, check_engine, plain_engine, replay_engine, resume_engine, simulate_engine,
+    DONE, Ended, Fault, check_engine, explain_engine, plain_engine, replay_engine, resume_engine,
+    simulate_engine,
 };
 use chip_graph::MAX_LIMIT;
 use chip_report::write_all_of;
@@ -15,6 +16,7 @@ use std::rt::{Env, Files};
 use std::{env, fs, io};
 
 mod arguments;
+mod help_texts;
 
 /// The graph of the game that is played without arguments.
 const TRIANGLE: &str =
@@ -49,6 +51,7 @@ fn run<R: Env + Files + Print + AllocGlobal>(rt: &R) -> Result<Ended, Fault> {
         Request::Simulate(asked) => simulate(rt, asked, &mut output),
         Request::Replay(game, trace) => replay(rt, game, trace, &mut output),
         Request::Resume(sitting) => resume(rt, sitting, &mut output),
+        Request::Explain(number) => explain_engine(alloc, number, &mut output),
     }
 }
 
@@ -80,6 +83,7 @@ fn simulate<R: Files + AllocGlobal, W: io::Write>(
         asked.game.limit,
         asked.ring,
         asked.rounds,
+        asked.books,
         output,
     )
 }
@@ -129,7 +133,7 @@ fn fault_of_arguments(error: io::Error) -> Fault {
     }
 }
 
-/// Prints the help.
+/// Prints the help or the version.
 fn help<W: io::Write>(text: &str, output: &mut W) -> Result<Ended, Fault> {
     write_all_of(output, text.as_bytes())?;
     Ok(Ended {

@@ -1,15 +1,11 @@
-use Rattle.std.proofs.Common.{ℕ, Vec, Global, ap, ◌∙◌}
+use Rattle.std.proofs.Common.{string_bytes}
 use Rattle.chip_actor.specs.Setting.{setting_of}
-use Rattle.chip_engine.specs.Lines.{lines_text}
-use Rattle.chip_engine.specs.SimulateCommand.{reply_text}
+use Rattle.chip_link.specs.declared.event.Event.TheVariants.{Take}
+use Rattle.chip_engine.proofs.AnswerLemmas.{one_answer_more}
 use Rattle.chip_engine.proofs.simulate.scheduled.Goals as goal
 
-pub returns-clause-world : goal.returns-clause-world
-returns-clause-world c = (c.in_ok-replies.ensures
-    (setting_of c.args.game.now c.args.ring) _ c.in_ok-world.ensures).world
-
-pub returns-clause-lines : goal.returns-clause-lines
-returns-clause-lines c =
-    let ran = c.in_ok-replies.ensures (setting_of c.args.game.now c.args.ring) _ c.in_ok-world.ensures in
-    ap (λ (v : Vec ℕ Global). v.items) c.into_bytes.ensures.value ∙ c.in_ok-lines.ensures
-    ∙ ap (lines_text reply_text) (c.deref.ensures.value ∙ ran.replies_are)
+pub loop-event-preserved : goal.loop-event-preserved
+loop-event-preserved c = one_answer_more c.args.books (setting_of c.args.game.now c.args.ring) c.args.events.now
+    c.loop-event.event-index (Take 0) c.loop-event.world c.step-reply.new.self c.step-reply.result
+    (string_bytes c.loop-event.lines) (string_bytes c.push_answer.new.lines) c.loop-event-test.true
+    c.loop-event.invariant.0 c.loop-event.invariant.1 c.step-reply.ensures c.in_ok-push_answer.ensures

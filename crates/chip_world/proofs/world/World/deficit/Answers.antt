@@ -1,0 +1,18 @@
+use Rattle.std.proofs.Common.{◌∙◌, ◌<◌, ℕ, ap, sym, subst}
+use Rattle.chip_actor.specs.Setting.{Setting}
+use Rattle.chip_actor.specs.Part.{deficit}
+use Rattle.chip_actor.proofs.Standing.{deficit_is}
+use Rattle.chip_core.specs.Core.{part_in}
+use Rattle.chip_detect.specs.Books as books
+use Rattle.chip_world.specs.World.{IsActor, StandsForLog}
+use Rattle.chip_world.proofs.world.World.deficit.Goals as goal
+
+pub returns : goal.returns
+returns c = λ g log at.
+    let v = c.args.vertex in
+    let stands = subst (StandsForLog g log) (sym c.self.view_is) at in
+    let inside = subst (λ (h : Setting). v < h.graph.vertices) at.setting c.requires in
+    let actor = subst (IsActor g log v) (sym c.index.ensures) (stands.actors v inside c.index.result.now) in
+    c.deficit.ensures ∙ ap books.deficit c.detect.ensures
+    ∙ deficit_is g (part_in g log v) c.index.result.now actor.stands
+    ∙ ap (λ (u : ℕ). deficit g u (part_in g log v)) actor.vertex_is

@@ -1,0 +1,48 @@
+//! What stands below the lists of the help: exit statuses, an example for each command, and where to read on.
+
+/// The version that `--version` prints; `python/chipfire.py` has the same.
+pub const VERSION: &str = "0.1.0";
+
+pub const PROGRAM: &str = "\
+Exit status: 0 done, or closed with no vertex halted; 1 a fault, which is one line on
+standard error; 2 closed with some vertex halted; 3 the root is open.
+
+`chipfire explain N` says what fault N means and what to do; `chipfire COMMAND --help`
+has the options, the statuses and an example of a command.
+
+Without arguments the report of a small game that is built in is written.";
+
+pub const CHECK: &str = "\
+Exit status: 0 the graph is one; 1 a fault, which `chipfire explain N` explains.
+
+Example: chipfire check graph.json";
+
+pub const PLAIN: &str = "\
+Exit status: 0 no vertex can fire any more; 2 the limit stopped some vertex, which the
+report names under \"over\"; 1 a fault, which `chipfire explain N` explains.
+
+Example: chipfire plain graph.json chips.csv --limit 1000 >report.json";
+
+pub const SIMULATE: &str = "\
+Exit status: 0 the root closed and no vertex halted; 2 the root closed and some vertex
+halted, which the report names; 3 the root is open; 1 a fault, which `chipfire explain N`
+explains.
+
+Example: chipfire simulate graph.json chips.csv schedule.csv --rounds 10";
+
+pub const REPLAY: &str = "\
+Exit status: 0 the rows fit together; 1 a fault, which `chipfire explain N` explains: 70
+where they do not.
+
+Example: chipfire replay graph.json chips.csv trace.csv";
+
+pub const RESUME: &str = "\
+Exit status: 0 no vertex can fire any more; 2 the limit stopped some vertex, which the
+report names under \"over\"; 1 a fault, which `chipfire explain N` explains.
+
+Example: chipfire resume graph.json report.json --limit 1000 >next.json";
+
+pub const EXPLAIN: &str = "\
+Exit status: 0 done; 1 a fault: 91 where no fault has this number.
+
+Example: chipfire explain 21";

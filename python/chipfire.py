@@ -1,0 +1,891 @@
+"""chipfire for Python: graphs, chips, schedules and reports as objects, and the program's commands as functions.
+
+    import chipfire
+
+    grid = chipfire.grid(20, 20)
+    report = chipfire.plain(grid, {190: 1000})
+    print(report.chips, report.fired)
+
+This file stands on the standard library alone. `pip install ./python` installs it, and a copy of it works too. The
+answers are the program's, whose contracts are proved; nothing of this file is. The program is found in this order: the
+`program` that a call or a `Program` names, the environment variable CHIPFIRE, `target/chipfire` of the repository that
+this file lies in, and `chipfire` on the PATH.
+
+Who comes from sandpiles finds the usual words under these names:
+
+    sandpile graph             Graph; its sink is the global sink, edges have a multiplicity
+    configuration              the chips of all vertices but the sink: Report.configuration, a dict by vertex
+    stable                     no vertex is legal
+    topple                     fire
+    stabilization              what `plain` finds: Report.chips, Report.configuration
+    odometer, firing vector    Report.fired, and without the sink Report.odometer
+    maximal stable             Graph.max_stable()
+    recurrent identity         identity(graph)
+
+A vertex has a number from 0 on, and where a graph comes from elsewhere also a name. Tuples go by numbers, dicts by
+names. Numbers of chips and firings go up to 2^40; a graph has up to 4,096 vertices and 65,536 edges.
+"""
+
+from __future__ import annotations
+
+import contextlib
+import csv
+import functools
+import json
+import operator
+import os
+import shutil
+import subprocess
+import tempfile
+import warnings
+from collections.abc import Hashable, Iterable, Iterator, Mapping, Sequence
+from dataclasses import dataclass, field
+from typing import Any, NamedTuple, Union
+
+__all__ = [
+    "Board", "Books", "Check", "Event", "Fault", "Firing", "Graph", "Program", "ProgramNotFound", "Reply", "Report",
+    "Schedule", "Simulation", "TraceCut", "TraceRow", "check", "complete", "cycle", "explain", "from_networkx",
+    "from_sage", "grid", "identity", "path", "plain", "read_chips", "read_schedule", "read_trace", "replay", "resume",
+    "run", "simulate", "torus", "write_chips", "write_schedule", "write_trace",
+]
+
+__version__ = "0.1.0"
+
+MAX_VERTICES = 4096
+MAX_EDGES = 65_536
+MAX_MULT = 2**20
+#: The most chips of a game, the most firings of a vertex, and the greatest limit.
+MAX_CHIPS = MAX_LIMIT = 2**40
+
+FileName = Union[str, "os.PathLike[str]"]
+#: One number for each vertex, or the numbers of some vertices by their names; a vertex that is not named has 0.
+Chips = Union[Sequence[int], Mapping[Hashable, int]]
+
+#: What each rule says that the reply `not-now N` names; docs/CORE.md has the table.
+RULES = {
+    1: "the vertex or edge is there",
+    2: "the vertex is not the sink",
+    3: "the vertex, or the tail of the edge, is not halted",
+    4: "nothing is pending, nor claimed and not put",
+    5: "it fires at least once",
+    6: "its firings stay within the limit",
+    7: "the chips are there",
+    8: "something is pending on the edge",
+    9: "no claim of the edge was refused",
+    10: "nothing is claimed and not put",
+    11: "the next cell of the edge was seen empty",
+    12: "a message is claimed and not put",
+    13: "there is a cause to halt",
+    14: "something is owed on the edge",
+    15: "something may be acknowledged on it now",
+    16: "the root is closed",
+}
+
+
+class ProgramNotFound(FileNotFoundError):
+    """There is no program chipfire where it was looked for, or it cannot be started."""
+
+
+class TraceCut(UserWarning):
+    """Some vertex took and fired more often than its trace has rows; such a trace may fail to replay."""
+
+
+class Fault(Exception):
+    """The program refused: what it was given, or what it was to do with it.
+
+    number       the number of the fault, as in `fault 24 Row 3`: 24
+    name         its name: "Row"
+    place        the numbers behind the name: (3,)
+    explanation  what `chipfire explain` says of the number; empty where the program does not say
+    status       the exit status: 1, or 3 where a run was not finished
+    """
+
+    def __init__(self, number: int, name: str, place: tuple[int, ...], explanation: str, status: int) -> None:
+        super().__init__(number, name, place, explanation, status)
+        self.number, self.name, self.place = number, name, place
+        self.explanation, self.status = explanation, status
+
+    def __str__(self) -> str:
+        line = " ".join(["fault", str(self.number), self.name, *map(str, self.place)])
+        return f"{line}\n{self.explanation}" if self.explanation else line
+
+
+def _whole(value: Any, what: str) -> int:
+    """A whole number from 0 on: an int, or what stands for one, as the numbers of NumPy and Sage do."""
+    try:
+        number = operator.index(value)
+    except TypeError:
+        raise TypeError(f"{what} is no whole number: {value!r}") from None
+    if number < 0:
+        raise ValueError(f"{what} is below 0: {number}")
+    return number
+
+
+@dataclass(frozen=True)
+class Graph:
+    """A directed multigraph with a sink: the sandpile graph.
+
+    vertices  how many there are; they have the numbers from 0 on
+    sink      the number of the vertex that never fires
+    edges     rows (tail, head) or (tail, head, mult); a firing of the tail sends `mult` chips, or one, to the head
+    names     what the vertices are called in dicts, by number; their numbers, if it is not said
+
+    Whether it is a graph that chipfire takes, the program says: `check(graph)`.
+    """
+
+    vertices: int
+    sink: int
+    edges: tuple[tuple[int, int, int], ...]
+    names: Sequence[Hashable] = ()
+
+    def __post_init__(self) -> None:
+        rows = tuple(self._row(index, row) for index, row in enumerate(self.edges))
+        object.__setattr__(self, "vertices", _whole(self.vertices, "the number of vertices"))
+        object.__setattr__(self, "sink", _whole(self.sink, "the sink"))
+        object.__setattr__(self, "edges", rows)
+        names = tuple(self.names)
+        if names and (len(names) != self.vertices or len(set(names)) != self.vertices):
+            raise ValueError("each vertex has one name, and no two the same")
+        object.__setattr__(self, "names", names or range(self.vertices))
+
+    @staticmethod
+    def _row(index: int, row: Sequence[int]) -> tuple[int, int, int]:
+        if len(row) not in (2, 3):
+            raise ValueError(f"edge {index} is neither (tail, head) nor (tail, head, mult): {row!r}")
+        tail, head, mult = (*row, 1)[:3]
+        return _whole(tail, "a tail"), _whole(head, "a head"), _whole(mult, "a multiplicity")
+
+    @classmethod
+    def read(cls, file: FileName) -> Graph:
+        """The graph of a graph file. What exactly is wrong with a file that is none, `check(file)` tells."""
+        with open(file, encoding="utf-8") as text:
+            value = json.load(text)
+        if not isinstance(value, dict) or sorted(value) != ["edges", "sink", "version", "vertices"]:
+            raise ValueError(f"{os.fspath(file)} is no graph file")
+        if value["version"] != 1:
+            raise ValueError(f"{os.fspath(file)} has version {value['version']!r}, and 1 is known")
+        return cls(value["vertices"], value["sink"], tuple(value["edges"]))
+
+    def text(self) -> str:
+        """The text of the graph file. Names do not stand in it."""
+        value = {"edges": self.edges, "sink": self.sink, "version": 1, "vertices": self.vertices}
+        return json.dumps(value, separators=(",", ":")) + "\n"
+
+    def write(self, file: FileName) -> None:
+        """Writes the graph file."""
+        _write(file, self.text())
+
+    def number(self, name: Hashable) -> int:
+        """The number of the vertex with this name."""
+        try:
+            return self._numbers[name]
+        except KeyError:
+            raise KeyError(f"the graph has no vertex {name!r}") from None
+
+    @functools.cached_property
+    def _numbers(self) -> dict[Hashable, int]:
+        return {name: vertex for vertex, name in enumerate(self.names)}
+
+    def degrees(self) -> tuple[int, ...]:
+        """How many chips each vertex sends away when it fires, by numbers; 0 for the sink."""
+        found = [0] * self.vertices
+        for tail, _, mult in self.edges:
+            found[tail] += mult
+        return tuple(found)
+
+    def outs(self, vertex: int) -> list[int]:
+        """The numbers of the edges out of a vertex, ascending."""
+        return [edge for edge, row in enumerate(self.edges) if row[0] == vertex]
+
+    def ins(self, vertex: int) -> list[int]:
+        """The numbers of the edges into a vertex, ascending; its root edge is not among them."""
+        return [edge for edge, row in enumerate(self.edges) if row[1] == vertex]
+
+    def root_edge(self, vertex: int) -> int:
+        """The number of the edge over which a vertex gets the chips that it starts with, in schedules and traces."""
+        return len(self.edges) + vertex
+
+    def max_stable(self) -> dict[Hashable, int]:
+        """The maximal stable configuration: each vertex but the sink has one chip less than it needs to fire."""
+        return self.without_sink([degree - 1 for degree in self.degrees()])
+
+    def without_sink(self, values: Sequence[int]) -> dict[Hashable, int]:
+        """Numbers of all vertices as a dict by name, without that of the sink: a configuration."""
+        return {name: values[vertex] for vertex, name in enumerate(self.names) if vertex != self.sink}
+
+    def chips(self, chips: Chips) -> tuple[int, ...]:
+        """Chips as one number for each vertex, from a sequence with one for each or a dict by names."""
+        if isinstance(chips, Mapping):
+            found = [0] * self.vertices
+            for name, count in chips.items():
+                found[self.number(name)] = _whole(count, f"the chips of vertex {name!r}")
+            return tuple(found)
+        if len(chips) != self.vertices:
+            raise ValueError(f"there are chips for {len(chips)} vertices, and the graph has {self.vertices}")
+        return tuple(_whole(count, f"the chips of vertex {vertex}") for vertex, count in enumerate(chips))
+
+
+def _both_ways(vertices: int, sink: int, pairs: Iterable[tuple[int, int]]) -> Graph:
+    """The graph with an edge each way for each pair, but none out of the sink."""
+    rows = sorted((tail, head, 1) for u, v in pairs for tail, head in ((u, v), (v, u)) if tail != sink)
+    return Graph(vertices, sink, tuple(rows))
+
+
+def grid(width: int, height: int) -> Graph:
+    """The grid: vertex `width * row + column`, and the sink behind them all.
+
+    A vertex on the border loses a chip to the sink on each side where it has no neighbour, so each has degree 4.
+    Sage: `sandpiles.Grid(height, width)`.
+    """
+    sink = width * height
+    edges = []
+    for row in range(height):
+        for column in range(width):
+            beside = [(row - 1, column), (row, column - 1), (row, column + 1), (row + 1, column)]
+            inside = [width * a + b for a, b in beside if 0 <= a < height and 0 <= b < width]
+            edges += [(width * row + column, head, 1) for head in inside]
+            if len(inside) < 4:
+                edges.append((width * row + column, sink, 4 - len(inside)))
+    return Graph(sink + 1, sink, tuple(edges))
+
+
+def path(length: int) -> Graph:
+    """A path of so many vertices whose two ends lose a chip to the sink, which is the last vertex."""
+    edges = [(v, u, 1) for v in range(length) for u in (v - 1, v + 1) if 0 <= u < length]
+    return Graph(length + 1, length, (*edges, (0, length, 1), (length - 1, length, 1)))
+
+
+def cycle(length: int) -> Graph:
+    """A cycle of so many vertices, 3 at least, with edges both ways; vertex 0 is the sink.
+
+    Sage: `sandpiles.Cycle(length)`.
+    """
+    if length < 3:
+        raise ValueError("a cycle has 3 vertices at least")
+    return _both_ways(length, 0, ((v, (v + 1) % length) for v in range(length)))
+
+
+def torus(width: int, height: int) -> Graph:
+    """A grid whose borders are joined, 3 by 3 at least: vertex `width * row + column`; vertex 0 is the sink."""
+    if width < 3 or height < 3:
+        raise ValueError("a torus is 3 by 3 at least")
+    cells = [(row, column) for row in range(height) for column in range(width)]
+    right = ((width * row + column, width * row + (column + 1) % width) for row, column in cells)
+    below = ((width * row + column, width * ((row + 1) % height) + column) for row, column in cells)
+    return _both_ways(width * height, 0, (*right, *below))
+
+
+def complete(vertices: int) -> Graph:
+    """The complete graph: an edge each way between any two vertices; vertex 0 is the sink.
+
+    Sage: `sandpiles.Complete(vertices)`.
+    """
+    return _both_ways(vertices, 0, ((u, v) for u in range(vertices) for v in range(u)))
+
+
+def _named(names: Iterable[Hashable], sink: Hashable, edges: Iterable[tuple[Hashable, Hashable, Any]]) -> Graph:
+    """A graph of named vertices. Edges out of the sink are left out, since it never fires."""
+    names = tuple(names)
+    numbers = {name: vertex for vertex, name in enumerate(names)}
+    if sink not in numbers:
+        raise KeyError(f"the graph has no vertex {sink!r}")
+    rows = [(numbers[tail], numbers[head], mult) for tail, head, mult in edges if tail != sink]
+    return Graph(len(names), numbers[sink], tuple(rows), names)
+
+
+def from_networkx(graph: Any, sink: Hashable, mult: str = "mult") -> Graph:
+    """A graph of NetworkX, of any of its four kinds, with one of its vertices as the sink.
+
+    An edge sends as many chips as its attribute `mult` says, or one. An undirected edge is one edge each way. Edges
+    out of the sink are left out. The vertices keep their names.
+    """
+    edges = [(tail, head, data.get(mult, 1)) for tail, head, data in graph.edges(data=True)]
+    if not graph.is_directed():
+        edges += [(head, tail, count) for tail, head, count in edges]
+    return _named(graph.nodes(), sink, edges)
+
+
+def from_sage(graph: Any, sink: Hashable = None) -> Graph:
+    """A graph of SageMath: a `Sandpile` with the sink that it has, or a `DiGraph` or `Graph` and its sink.
+
+    An edge sends as many chips as its label says, or one where it has none. An undirected edge is one edge each way.
+    Edges out of the sink are left out, and those of label 0, which Sage adds in some graphs. The vertices keep their
+    names.
+    """
+    if sink is None:
+        if not hasattr(graph, "sink") or not hasattr(graph, "nonsink_vertices"):
+            raise ValueError("which vertex is the sink?")
+        sink = graph.sink()
+    labelled = ((tail, head, 1 if label is None else label) for tail, head, label in graph.edge_iterator(labels=True))
+    edges = [edge for edge in labelled if edge[2] != 0]
+    if not graph.is_directed():
+        edges += [(head, tail, count) for tail, head, count in edges]
+    return _named(graph.vertex_iterator(), sink, edges)
+
+
+class Event(NamedTuple):
+    """A row of a schedule; docs/CORE.md says what each event does."""
+
+    kind: str
+    at: int
+    count: int = 0
+
+
+class Schedule(list):
+    """A list of events, with a method for each kind of event that puts one more behind it."""
+
+    def _add(self, kind: str, at: int, count: int = 0) -> Schedule:
+        self.append(Event(kind, at, count))
+        return self
+
+    def take(self, edge: int) -> Schedule:
+        """The head of an edge takes the next message, where there is one."""
+        return self._add("take", edge)
+
+    def ack(self, edge: int) -> Schedule:
+        """The head of an edge acknowledges what it may acknowledge there now."""
+        return self._add("ack", edge)
+
+    def fire(self, vertex: int, count: int = 1) -> Schedule:
+        """A vertex fires so many times in a row."""
+        return self._add("fire", vertex, count)
+
+    def clear(self, edge: int) -> Schedule:
+        """The tail of an edge looks whether the next cell is empty."""
+        return self._add("clear", edge)
+
+    def claim(self, edge: int) -> Schedule:
+        """The tail of an edge claims the next place for all that is pending."""
+        return self._add("claim", edge)
+
+    def put(self, edge: int) -> Schedule:
+        """The tail of an edge puts the message that it claimed into its cell."""
+        return self._add("put", edge)
+
+    def send(self, edge: int) -> Schedule:
+        """What a tail does to send: clear, claim and put."""
+        return self.clear(edge).claim(edge).put(edge)
+
+    def halt(self, vertex: int) -> Schedule:
+        """A vertex halts, where it has a cause."""
+        return self._add("halt", vertex)
+
+    def settle(self, edge: int) -> Schedule:
+        """The tail of an edge, or the root, looks how many of its messages are acknowledged."""
+        return self._add("settle", edge)
+
+    def seal(self, edge: int) -> Schedule:
+        """Nothing is sent on this edge from now on."""
+        return self._add("seal", edge)
+
+    def read(self, vertex: int) -> Schedule:
+        """The root reads how often a vertex fired, once it is closed."""
+        return self._add("read", vertex)
+
+
+class TraceRow(NamedTuple):
+    """A row of a trace file: what one vertex took ("take") or fired ("fire"); docs/TRACES.md."""
+
+    vertex: int
+    kind: str
+    edge: int
+    count: int
+
+
+class Firing(NamedTuple):
+    """So many firings of a vertex in a row."""
+
+    vertex: int
+    count: int
+
+
+def _write(file: FileName, text: str) -> None:
+    with open(file, "w", encoding="utf-8", newline="") as out:
+        out.write(text)
+
+
+def _rows_text(header: Sequence[str], rows: Iterable[Sequence[Any]]) -> str:
+    return "".join(",".join(map(str, row)) + "\n" for row in (header, *rows))
+
+
+def _read_rows(file: FileName, header: Sequence[str]) -> Iterator[list[str]]:
+    """The rows of a file of rows. What exactly is wrong with a file, the program tells that reads it."""
+    with open(file, encoding="utf-8-sig", newline="") as text:
+        rows = [row for row in csv.reader(text) if row]
+    if not rows or rows[0] != list(header):
+        raise ValueError(f"{os.fspath(file)} does not begin with {','.join(header)}")
+    for index, row in enumerate(rows[1:]):
+        if len(row) != len(header):
+            raise ValueError(f"{os.fspath(file)}: row {index} has not {len(header)} fields")
+        yield row
+
+
+CHIPS_HEADER = ("vertex", "chips")
+SCHEDULE_HEADER = ("event", "at", "count")
+TRACE_HEADER = ("vertex", "kind", "edge", "count")
+
+
+def _chips_text(chips: Iterable[int]) -> str:
+    return _rows_text(CHIPS_HEADER, ((vertex, count) for vertex, count in enumerate(chips) if count))
+
+
+def _schedule_text(schedule: Iterable[Sequence[Any]]) -> str:
+    return _rows_text(SCHEDULE_HEADER, (Event(*event) for event in schedule))
+
+
+def _trace_text(trace: Iterable[Sequence[Any]]) -> str:
+    return _rows_text(TRACE_HEADER, (TraceRow(*row) for row in trace))
+
+
+def write_chips(file: FileName, graph: Graph, chips: Chips) -> None:
+    """Writes a chips file: a row for each vertex that has a chip."""
+    _write(file, _chips_text(graph.chips(chips)))
+
+
+def read_chips(file: FileName, graph: Graph) -> tuple[int, ...]:
+    """The chips of a chips file, one number for each vertex of the graph."""
+    found = [0] * graph.vertices
+    for vertex, count in _read_rows(file, CHIPS_HEADER):
+        found[int(vertex)] = int(count)
+    return tuple(found)
+
+
+def write_schedule(file: FileName, schedule: Iterable[Sequence[Any]]) -> None:
+    """Writes a schedule: a row for each event, which is a tuple of a kind, an edge or a vertex, and perhaps a count."""
+    _write(file, _schedule_text(schedule))
+
+
+def read_schedule(file: FileName) -> Schedule:
+    """The events of a schedule."""
+    return Schedule(Event(kind, int(at), int(count)) for kind, at, count in _read_rows(file, SCHEDULE_HEADER))
+
+
+def write_trace(file: FileName, trace: Iterable[Sequence[Any]]) -> None:
+    """Writes a trace file: a row for each take and each fire."""
+    _write(file, _trace_text(trace))
+
+
+def read_trace(file: FileName) -> list[TraceRow]:
+    """The rows of a trace file."""
+    rows = _read_rows(file, TRACE_HEADER)
+    return [TraceRow(int(vertex), kind, int(edge), int(count)) for vertex, kind, edge, count in rows]
+
+
+@dataclass(frozen=True)
+class Report:
+    """How a play stands at its end, as `plain`, `run` and `resume` write it, and a simulation whose root closed.
+
+    chips   the chips of each vertex, by numbers, the sink's among them
+    fired   how often each vertex fired, in this sitting: the firing vector
+    over    the vertices that could fire once more and had fired as often as the limit allows
+    sealed  the vertices that stopped because an edge was sealed
+    prior   how often each vertex fired in the sittings before; None in a report of the first one
+    graph   the graph that was played on, where it is known; it is not part of the report's text
+    """
+
+    chips: tuple[int, ...]
+    fired: tuple[int, ...]
+    over: tuple[int, ...] = ()
+    sealed: tuple[int, ...] = ()
+    prior: tuple[int, ...] | None = None
+    graph: Graph | None = field(default=None, compare=False, repr=False)
+
+    @property
+    def closed(self) -> bool:
+        """Whether the play came to its end: no vertex was stopped by a limit or a seal."""
+        return not self.over and not self.sealed
+
+    @property
+    def total(self) -> tuple[int, ...]:
+        """How often each vertex fired in this sitting and those before it."""
+        return tuple(map(operator.add, self.prior, self.fired)) if self.prior else self.fired
+
+    @property
+    def configuration(self) -> dict[Hashable, int]:
+        """The chips of all vertices but the sink, by names: where `closed` holds, the stabilization."""
+        return self._known_graph().without_sink(self.chips)
+
+    @property
+    def odometer(self) -> dict[Hashable, int]:
+        """How often each vertex but the sink fired, by names, in this sitting and those before it."""
+        return self._known_graph().without_sink(self.total)
+
+    def _known_graph(self) -> Graph:
+        if self.graph is None:
+            raise ValueError("this report does not know its graph: read it by Report.read(file, graph)")
+        return self.graph
+
+    @classmethod
+    def parse(cls, text: str, graph: Graph | None = None) -> Report:
+        """The report of a text as the program writes it."""
+        value = json.loads(text)
+        if not isinstance(value, dict) or value.get("version") not in (1, 2):
+            raise ValueError("the text is no report")
+        lists = [tuple(value[key]) for key in ("chips", "fired", "over", "sealed")]
+        return cls(*lists, prior=tuple(value["prior"]) if "prior" in value else None, graph=graph)
+
+    @classmethod
+    def read(cls, file: FileName, graph: Graph | None = None) -> Report:
+        """The report of a file. Whether it is one to the byte, `resume` tells."""
+        with open(file, encoding="utf-8", newline="") as text:
+            return cls.parse(text.read(), graph)
+
+    def text(self) -> str:
+        """The text of the report, to the byte that of the program."""
+        value: dict[str, Any] = {"chips": self.chips, "closed": self.closed, "fired": self.fired, "over": self.over}
+        if self.prior is not None:
+            value["prior"] = self.prior
+        value |= {"sealed": self.sealed, "version": 1 if self.prior is None else 2}
+        return json.dumps(value, separators=(",", ":")) + "\n"
+
+    def write(self, file: FileName) -> None:
+        """Writes the report, for `resume` to go on from."""
+        _write(file, self.text())
+
+
+@dataclass(frozen=True)
+class Check:
+    """What `check` tells of a graph: how many vertices and edges it has, and its sink; and by the numbers of vertices
+    how many chips each sends when it fires, and the least number of edges from it to the sink."""
+
+    vertices: int
+    edges: int
+    sink: int
+    degrees: tuple[int, ...]
+    distances: tuple[int, ...]
+
+
+@dataclass(frozen=True)
+class Reply:
+    """The reply to one event of a schedule: `kind` is its first word ("done", "got", "sent", "empty", "full", "sealed"
+    or "not-now"), `numbers` are those behind it."""
+
+    kind: str
+    numbers: tuple[int, ...] = ()
+
+    @property
+    def is_done(self) -> bool:
+        """Whether the event happened: each rule of it was met."""
+        return self.kind != "not-now"
+
+    @property
+    def rule(self) -> str | None:
+        """The first rule that was not met, in words."""
+        return None if self.is_done else RULES[self.numbers[0]]
+
+    def __str__(self) -> str:
+        return " ".join([self.kind, *map(str, self.numbers)])
+
+
+@dataclass(frozen=True)
+class Books:
+    """What an engaged vertex has in its books: its parent edge, how many acknowledgements it waits for, and of each
+    edge on which it owes some, how many."""
+
+    parent: int
+    deficit: int
+    owed: dict[int, int]
+
+
+@dataclass(frozen=True)
+class Board:
+    """What stands in all books after an event: the root's deficit, and the books of each engaged vertex."""
+
+    root_deficit: int
+    engaged: dict[int, Books]
+
+    @classmethod
+    def parse(cls, lines: Sequence[str]) -> Board:
+        """The board of its lines: that of the root, and one for each engaged vertex."""
+        engaged = {}
+        for words in map(str.split, lines[1:]):
+            owed = dict(tuple(map(int, word.split(":"))) for word in words[7:])
+            engaged[int(words[1])] = Books(int(words[3]), int(words[5]), owed)
+        return cls(int(lines[0].split()[2]), engaged)
+
+
+@dataclass(frozen=True)
+class Simulation:
+    """What a schedule came to: a reply for each event, the report where the root closed, and a board for each reply
+    where the books were asked for.
+
+    That the root is closed says that all is over. `report.closed` says besides that no limit and no seal stopped a
+    vertex."""
+
+    replies: tuple[Reply, ...]
+    report: Report | None
+    boards: tuple[Board, ...] = ()
+
+    @classmethod
+    def parse(cls, text: str, graph: Graph | None = None) -> Simulation:
+        """The simulation of a text as the program writes it."""
+        lines = text.splitlines()
+        is_closed = "root closed" in lines[-2:]
+        report = Report.parse(lines[-1], graph) if is_closed else None
+        replies: list[Reply] = []
+        boards: list[list[str]] = []
+        for line in lines[: -2 if is_closed else -1]:
+            if line.startswith(" "):
+                boards[-1].append(line)
+            else:
+                kind, *numbers = line.split()
+                replies.append(Reply(kind, tuple(map(int, numbers))))
+                boards.append([])
+        return cls(tuple(replies), report, tuple(Board.parse(board) for board in boards if board))
+
+    @property
+    def root_closed(self) -> bool:
+        return self.report is not None
+
+
+class Program:
+    """The program chipfire, and its commands as methods.
+
+    Wherever a graph, chips, a schedule, a trace or a report is wanted, the name of a file does too. What the program
+    refuses is raised as a `Fault`. An option that is None is left out, so the program's own value stands.
+    """
+
+    def __init__(self, program: FileName | None = None) -> None:
+        """The program of this name, or the one that is found; see the head of this module."""
+        self.path = find_program() if program is None else os.fspath(program)
+
+    def check(self, graph: Graph | FileName) -> Check:
+        """Looks whether a graph is one: each vertex with its degree and its distance to the sink."""
+        with _Room() as room:
+            text = self._ask("check", room.graph(graph))
+        lines = [line.split() for line in text.splitlines()]
+        vertices, edges, sink = (int(words[1]) for words in lines[:3])
+        degrees, distances = (tuple(int(words[place]) for words in lines[3:]) for place in (3, 5))
+        return Check(vertices, edges, sink, degrees, distances)
+
+    def plain(self, graph: Graph | FileName, chips: Chips | FileName, *, limit: int | None = None) -> Report:
+        """Stabilizes: plays on one thread until no vertex is legal, or all that are have fired `limit` times."""
+        with _Room() as room:
+            return room.report(self._ask("plain", *room.game(graph, chips), limit=limit))
+
+    def run(
+        self,
+        graph: Graph | FileName,
+        chips: Chips | FileName,
+        *,
+        limit: int | None = None,
+        ring: int | None = None,
+        workers: int | None = None,
+        turns: int | None = None,
+        trace: FileName | None = None,
+        trace_rows: int | None = None,
+    ) -> Report:
+        """Plays as `plain` does, with an actor for each vertex, on so many threads, by a program that has this command.
+
+        `trace` names a file that is written: what each vertex took and fired, up to `trace_rows` rows each. Where
+        that was not enough for a vertex, the warning `TraceCut` says so.
+        """
+        options = {"limit": limit, "ring": ring, "workers": workers, "turns": turns, "trace-rows": trace_rows}
+        with _Room() as room:
+            to = None if trace is None else os.path.abspath(trace)
+            return room.report(self._ask("run", *room.game(graph, chips), **options, trace=to))
+
+    def simulate(
+        self,
+        graph: Graph | FileName,
+        chips: Chips | FileName,
+        schedule: Iterable[Sequence[Any]] | FileName,
+        *,
+        limit: int | None = None,
+        ring: int | None = None,
+        rounds: int | None = None,
+        books: bool = False,
+    ) -> Simulation:
+        """Runs a schedule on the detector: a reply for each event, and the report where the root is closed then, or
+        after so many rounds of turns. With `books` there is also what stands in the books after each event."""
+        with _Room() as room:
+            files = [*room.game(graph, chips), room.rows("schedule.csv", schedule, _schedule_text)]
+            text = self._ask("simulate", *files, limit=limit, ring=ring, rounds=rounds, books=books)
+            return Simulation.parse(text, room.graph_known())
+
+    def replay(
+        self,
+        graph: Graph | FileName,
+        chips: Chips | FileName,
+        trace: Iterable[Sequence[Any]] | FileName,
+        *,
+        limit: int | None = None,
+    ) -> list[Firing]:
+        """The firings of a recorded run, in an order in which all that the vertices wrote down fits together."""
+        with _Room() as room:
+            files = [*room.game(graph, chips), room.rows("trace.csv", trace, _trace_text)]
+            words = (line.split() for line in self._ask("replay", *files, limit=limit).splitlines())
+            return [Firing(int(vertex), int(count)) for _, vertex, count in words]
+
+    def resume(self, graph: Graph | FileName, report: Report | FileName, *, limit: int | None = None) -> Report:
+        """Goes on from where a limit or a seal stopped a play; `total` of what comes is what was fired in all."""
+        with _Room() as room:
+            return room.report(self._ask("resume", room.graph(graph), room.earlier(report), limit=limit))
+
+    def explain(self, number: int | None = None) -> str:
+        """What the fault with this number means and what to do; without a number the table of all faults."""
+        return self._ask("explain", *([] if number is None else [str(_whole(number, "a fault's number"))]))
+
+    def identity(self, graph: Graph | FileName) -> dict[Hashable, int]:
+        """The recurrent identity: of the recurrent configurations, the one that adds nothing to any of them.
+
+        With `m` the maximal stable configuration it is the stabilization of `2m` less the stabilization of `2m`.
+        """
+        graph = graph if isinstance(graph, Graph) else Graph.read(graph)
+        twice = {name: 2 * count for name, count in graph.max_stable().items()}
+        rest = self.plain(graph, twice).configuration
+        return self.plain(graph, {name: count - rest[name] for name, count in twice.items()}).configuration
+
+    def _ask(self, command: str, *files: str, **options: int | str | bool | None) -> str:
+        """Runs a command, and returns what it writes; a fault is raised. An option that is True has no value."""
+        given = {name: value for name, value in options.items() if value is not None and value is not False}
+        words = [f"--{name}" if value is True else f"--{name}={value}" for name, value in given.items()]
+        ran = self._start(command, *map(_file_word, files), *words)
+        errors = ran.stderr.splitlines()
+        if ran.returncode in (1, 3) and errors:
+            raise self._fault(errors[-1], ran.returncode)
+        if ran.returncode not in (0, 2, 3):
+            raise RuntimeError(f"{self.path} {command} ended with status {ran.returncode}: {ran.stderr.strip()}")
+        if "chipfire: trace cut" in errors:
+            warnings.warn("a vertex took and fired more often than its trace has rows", TraceCut, stacklevel=3)
+        return ran.stdout
+
+    def _start(self, *words: str) -> subprocess.CompletedProcess[str]:
+        try:
+            return subprocess.run([self.path, *words], stdin=subprocess.DEVNULL, capture_output=True, encoding="utf-8")
+        except (FileNotFoundError, PermissionError) as error:
+            raise ProgramNotFound(error.errno, "no program that can be started", self.path) from None
+
+    def _fault(self, line: str, status: int) -> Fault | RuntimeError:
+        """The fault of a line `chipfire: fault N Name`, with what the program explains of it."""
+        words = line.split()
+        if words[:2] != ["chipfire:", "fault"]:
+            return RuntimeError(line)
+        explained = self._start("explain", words[2])
+        explanation = explained.stdout.strip() if explained.returncode == 0 else ""
+        return Fault(int(words[2]), words[3], tuple(map(int, words[4:])), explanation, status)
+
+
+def _file_word(name: str) -> str:
+    """A file's name as an argument that is no option."""
+    return f"./{name}" if name.startswith("-") else name
+
+
+class _Room(contextlib.ExitStack):
+    """A folder for the files of one call, and the graph that the call is about."""
+
+    def __enter__(self) -> _Room:
+        super().__enter__()
+        self.folder = self.enter_context(tempfile.TemporaryDirectory(prefix="chipfire-"))
+        self.known: Graph | None = None
+        self.graph_file: FileName | None = None
+        return self
+
+    def _file(self, name: str, text: str) -> str:
+        _write(os.path.join(self.folder, name), text)
+        return os.path.join(self.folder, name)
+
+    def graph(self, graph: Graph | FileName) -> str:
+        if isinstance(graph, Graph):
+            self.known = graph
+            return self._file("graph.json", graph.text())
+        self.graph_file = graph
+        return os.fspath(graph)
+
+    def game(self, graph: Graph | FileName, chips: Chips | FileName) -> list[str]:
+        """The files of a graph and of chips on it."""
+        graph_file = self.graph(graph)
+        if isinstance(chips, (str, os.PathLike)):
+            return [graph_file, os.fspath(chips)]
+        known = self.known or Graph.read(graph_file)
+        return [graph_file, self._file("chips.csv", _chips_text(known.chips(chips)))]
+
+    def rows(self, name: str, rows: Iterable[Sequence[Any]] | FileName, text_of: Any) -> str:
+        return os.fspath(rows) if isinstance(rows, (str, os.PathLike)) else self._file(name, text_of(rows))
+
+    def earlier(self, report: Report | FileName) -> str:
+        return self._file("report.json", report.text()) if isinstance(report, Report) else os.fspath(report)
+
+    def graph_known(self) -> Graph | None:
+        """The graph that the call is about, read from its file if need be."""
+        return self.known or (Graph.read(self.graph_file) if self.graph_file is not None else None)
+
+    def report(self, text: str) -> Report:
+        """The report that was written, with its graph."""
+        return Report.parse(text, self.graph_known())
+
+
+def find_program() -> str:
+    """The program's file; the head of this module says where it is looked for."""
+    named = os.environ.get("CHIPFIRE")
+    if named:
+        return named
+    above = os.path.dirname(os.path.dirname(os.path.realpath(__file__)))
+    built = os.path.join(above, "target", "chipfire")
+    if os.access(built, os.X_OK):
+        return built
+    found = shutil.which("chipfire")
+    if found:
+        return found
+    hint = "./chipfire in the repository builds target/chipfire; name it by the environment variable CHIPFIRE"
+    raise ProgramNotFound(2, f"the program is not found ({hint})", "chipfire")
+
+
+def check(graph: Graph | FileName, *, program: FileName | None = None) -> Check:
+    """`Program.check` of the program that is named, or found."""
+    return Program(program).check(graph)
+
+
+def plain(
+    graph: Graph | FileName, chips: Chips | FileName, *, program: FileName | None = None, **options: Any
+) -> Report:
+    """`Program.plain` of the program that is named, or found: the stabilization and its firing vector."""
+    return Program(program).plain(graph, chips, **options)
+
+
+def run(
+    graph: Graph | FileName, chips: Chips | FileName, *, program: FileName | None = None, **options: Any
+) -> Report:
+    """`Program.run` of the program that is named, or found."""
+    return Program(program).run(graph, chips, **options)
+
+
+def simulate(
+    graph: Graph | FileName,
+    chips: Chips | FileName,
+    schedule: Iterable[Sequence[Any]] | FileName,
+    *,
+    program: FileName | None = None,
+    **options: Any,
+) -> Simulation:
+    """`Program.simulate` of the program that is named, or found."""
+    return Program(program).simulate(graph, chips, schedule, **options)
+
+
+def replay(
+    graph: Graph | FileName,
+    chips: Chips | FileName,
+    trace: Iterable[Sequence[Any]] | FileName,
+    *,
+    program: FileName | None = None,
+    **options: Any,
+) -> list[Firing]:
+    """`Program.replay` of the program that is named, or found."""
+    return Program(program).replay(graph, chips, trace, **options)
+
+
+def resume(
+    graph: Graph | FileName, report: Report | FileName, *, program: FileName | None = None, **options: Any
+) -> Report:
+    """`Program.resume` of the program that is named, or found."""
+    return Program(program).resume(graph, report, **options)
+
+
+def explain(number: int | None = None, *, program: FileName | None = None) -> str:
+    """`Program.explain` of the program that is named, or found."""
+    return Program(program).explain(number)
+
+
+def identity(graph: Graph | FileName, *, program: FileName | None = None) -> dict[Hashable, int]:
+    """`Program.identity` of the program that is named, or found: the recurrent identity."""
+    return Program(program).identity(graph)

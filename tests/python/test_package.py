@@ -1,0 +1,315 @@
+"""The package's objects and commands, on games whose answers are known from outside.
+
+The triangle has edges 0 to 1, 0 to the sink 2, 1 to 0 and 1 to the sink. Its plays are worked by hand in docs/GAME.md,
+its schedules in examples/detector/README.md, and examples/ has the files that are compared here.
+"""
+import json
+import os
+import subprocess
+import sys
+import tempfile
+import unittest
+from unittest import mock
+
+import chipfire
+
+HERE = os.path.dirname(os.path.realpath(__file__))
+ROOT = os.path.dirname(os.path.dirname(HERE))
+EXAMPLES = f"{ROOT}/examples"
+TRIANGLE = chipfire.Graph(3, 2, ((0, 1), (0, 2), (1, 0), (1, 2)))
+TRIANGLE_FILE = f"{EXAMPLES}/triangle/graph.json"
+CHIPS_FILE = f"{EXAMPLES}/triangle/chips.csv"
+
+
+def text_of(file_name):
+    with open(file_name, encoding="utf-8", newline="") as file:
+        return file.read()
+
+
+class WithFolder(unittest.TestCase):
+    """A test that has a folder of its own."""
+
+    def setUp(self):
+        room = tempfile.TemporaryDirectory(prefix="chipfire-python-")
+        self.addCleanup(room.cleanup)
+        self.folder = room.name
+
+    def file(self, name, text=None):
+        path = os.path.join(self.folder, name)
+        if text is not None:
+            with open(path, "w", encoding="utf-8", newline="") as file:
+                file.write(text)
+        return path
+
+
+class Graphs(WithFolder):
+    def test_an_edge_without_a_multiplicity_sends_one_chip(self):
+        self.assertEqual(TRIANGLE.edges, ((0, 1, 1), (0, 2, 1), (1, 0, 1), (1, 2, 1)))
+
+    def test_a_graph_file_is_that_of_the_examples(self):
+        TRIANGLE.write(self.file("graph.json"))
+        self.assertEqual(json.loads(text_of(self.file("graph.json"))), json.loads(text_of(TRIANGLE_FILE)))
+        self.assertEqual(chipfire.Graph.read(TRIANGLE_FILE), TRIANGLE)
+
+    def test_the_grid_is_that_of_the_examples(self):
+        self.assertEqual(chipfire.grid(8, 8), chipfire.Graph.read(f"{EXAMPLES}/grid/graph.json"))
+
+    def test_a_path_loses_chips_at_both_ends(self):
+        edges = [(0, 1, 1), (0, 3, 1), (1, 0, 1), (1, 2, 1), (2, 1, 1), (2, 3, 1)]
+        graph = chipfire.path(3)
+        self.assertEqual((graph.vertices, graph.sink, sorted(graph.edges)), (4, 3, edges))
+
+    def test_each_vertex_of_a_torus_has_four_neighbours(self):
+        graph = chipfire.torus(4, 3)
+        heads = sorted(head for tail, head, _ in graph.edges if tail == 5)
+        self.assertEqual((graph.vertices, graph.sink, heads), (12, 0, [1, 4, 6, 9]))
+        self.assertEqual(graph.degrees(), (0,) + (4,) * 11)
+
+    def test_edges_by_their_numbers(self):
+        self.assertEqual((TRIANGLE.outs(1), TRIANGLE.ins(2), TRIANGLE.root_edge(0)), ([2, 3], [1, 3], 4))
+
+    def test_names_and_numbers(self):
+        graph = chipfire.Graph(2, 1, [(0, 1, 3)], ["a", "out"])
+        self.assertEqual((graph.number("out"), graph.max_stable(), graph.chips({"a": 7})), (1, {"a": 2}, (7, 0)))
+        with self.assertRaises(KeyError):
+            graph.number("b")
+
+    def test_what_is_no_graph_or_no_chips(self):
+        for vertices, edges, names in [(2, [(0,)], ()), (2, [(0, -1)], ()), (2, [], ["a"]), (2, [], ["a", "a"])]:
+            with self.assertRaises(ValueError):
+                chipfire.Graph(vertices, 1, edges, names)
+        for chips in [[1, 2], [1, 2, -3], {0: -1}]:
+            with self.assertRaises(ValueError):
+                TRIANGLE.chips(chips)
+        with self.assertRaises(TypeError):
+            TRIANGLE.chips([0.5, 0, 0])
+        with self.assertRaises(KeyError):
+            TRIANGLE.chips({5: 1})
+
+    def test_a_file_that_is_no_graph(self):
+        for text in ["[]", "{}", '{"edges":[],"sink":0,"version":2,"vertices":1}']:
+            with self.assertRaises(ValueError):
+                chipfire.Graph.read(self.file("graph.json", text))
+
+
+class Plain(WithFolder):
+    def test_the_small_triangle(self):
+        report = chipfire.plain(TRIANGLE, [4, 0, 0])
+        self.assertEqual((report.chips, report.fired, report.over, report.sealed), ((1, 0, 3), (2, 1, 0), (), ()))
+        self.assertTrue(report.closed)
+        self.assertEqual((report.configuration, report.odometer), ({0: 1, 1: 0}, {0: 2, 1: 1}))
+
+    def test_chips_as_a_list_a_dict_and_a_file_are_the_same(self):
+        wanted = chipfire.Report((1, 0, 3), (2, 1, 0))
+        for graph in (TRIANGLE, TRIANGLE_FILE):
+            for chips in ([4, 0, 0], (4, 0, 0), {0: 4}, CHIPS_FILE):
+                self.assertEqual(chipfire.plain(graph, chips), wanted)
+
+    def test_a_play_of_files_knows_its_graph(self):
+        self.assertEqual(chipfire.plain(TRIANGLE_FILE, CHIPS_FILE).odometer, {0: 2, 1: 1})
+
+    def test_a_limit_stops_a_play(self):
+        report = chipfire.plain(TRIANGLE, [5, 0, 0], limit=2)
+        self.assertEqual((report.chips, report.fired, report.over), ((2, 0, 3), (2, 1, 0), (0,)))
+        self.assertFalse(report.closed)
+
+    def test_the_largest_numbers(self):
+        report = chipfire.plain(chipfire.Graph(2, 1, [(0, 1)]), [2**40, 0])
+        self.assertEqual((report.chips, report.fired), ((0, 2**40), (2**40, 0)))
+
+    def test_the_reports_of_the_examples(self):
+        for game in ("triangle", "chain", "batch", "grid", "cycle"):
+            report = chipfire.plain(f"{EXAMPLES}/{game}/graph.json", f"{EXAMPLES}/{game}/chips.csv")
+            self.assertEqual(report.text(), text_of(f"{EXAMPLES}/{game}/report.json"))
+
+    def test_a_file_whose_name_begins_as_an_option(self):
+        before = os.getcwd()
+        self.addCleanup(os.chdir, before)
+        os.chdir(self.folder)
+        TRIANGLE.write("--graph.json")
+        chipfire.write_chips("-c", TRIANGLE, {0: 4})
+        self.assertEqual(chipfire.plain("--graph.json", "-c", limit=1).fired, (1, 0, 0))
+
+
+class Sittings(WithFolder):
+    def test_three_sittings_are_those_of_the_examples(self):
+        first = chipfire.plain(TRIANGLE, [5, 0, 0], limit=1)
+        second = chipfire.resume(TRIANGLE, first, limit=1)
+        third = chipfire.resume(TRIANGLE, second)
+        for report, name in [(first, "first"), (second, "second"), (third, "third")]:
+            self.assertEqual(report.text(), text_of(f"{EXAMPLES}/sittings/{name}.json"))
+        self.assertEqual((third.total, third.closed, third.odometer), ((3, 1, 0), True, {0: 3, 1: 1}))
+
+    def test_a_report_goes_through_a_file(self):
+        chipfire.plain(TRIANGLE, [5, 0, 0], limit=1).write(self.file("first.json"))
+        first = chipfire.Report.read(self.file("first.json"), TRIANGLE)
+        self.assertEqual((first.over, first.configuration), ((0,), {0: 3, 1: 1}))
+        self.assertEqual(chipfire.resume(TRIANGLE_FILE, self.file("first.json")).total, (3, 1, 0))
+
+    def test_a_report_without_its_graph_has_no_names(self):
+        with self.assertRaises(ValueError):
+            chipfire.Report((1,), (0,)).configuration
+
+
+class Detector(WithFolder):
+    def test_the_schedules_of_the_examples(self):
+        triangle = (TRIANGLE_FILE, CHIPS_FILE)
+        edges = (f"{EXAMPLES}/detector/two-edges.json", f"{EXAMPLES}/detector/two-chips.csv")
+        games = [("engaging-message-last", edges, {}), ("deficit", triangle, {}), ("left-open", triangle, {})]
+        for name, game, options in [*games, ("sealed-half-way", triangle, {"rounds": 10})]:
+            schedule = f"{EXAMPLES}/detector/{name}.csv"
+            for rows in (schedule, chipfire.read_schedule(schedule)):
+                simulation = chipfire.simulate(*game, rows, **options)
+                self.assertEqual(self.text(simulation), text_of(f"{EXAMPLES}/detector/{name}.txt"))
+
+    @staticmethod
+    def text(simulation):
+        end = f"root closed\n{simulation.report.text()}" if simulation.root_closed else "root open\n"
+        return "".join(f"{reply}\n" for reply in simulation.replies) + end
+
+    def test_a_root_may_close_though_the_report_is_not_closed(self):
+        simulation = chipfire.simulate(TRIANGLE, [4, 0, 0], chipfire.Schedule().seal(1), rounds=10)
+        self.assertTrue(simulation.root_closed)
+        self.assertEqual((simulation.report.sealed, simulation.report.closed), ((0,), False))
+
+    def test_a_reply_in_words(self):
+        events = chipfire.Schedule().take(4).ack(4)
+        took, early = chipfire.simulate(TRIANGLE, {0: 4}, events).replies
+        self.assertEqual((took.kind, took.numbers, took.is_done, took.rule), ("got", (0, 4), True, None))
+        self.assertEqual((str(early), early.is_done), ("not-now 15", False))
+        self.assertEqual(early.rule, "something may be acknowledged on it now")
+
+    def test_the_books_of_the_small_run(self):
+        game = [f"{EXAMPLES}/detector/{name}" for name in ("small-run.json", "two-chips.csv", "small-run.csv")]
+        simulation = chipfire.simulate(*game, books=True)
+        self.assertEqual((len(simulation.replies), len(simulation.boards)), (23, 23))
+        # after A got b: docs/DETECTOR.md, step 7
+        engaged = {0: chipfire.Books(3, 1, {1: 1, 3: 1}), 1: chipfire.Books(0, 2, {0: 1})}
+        self.assertEqual(simulation.boards[13], chipfire.Board(1, engaged))
+        self.assertEqual(simulation.boards[-1], chipfire.Board(0, {}))
+        self.assertEqual(chipfire.simulate(*game).replies, simulation.replies)
+        self.assertEqual(chipfire.simulate(*game).boards, ())
+
+    def test_an_empty_schedule_of_an_empty_game_closes(self):
+        self.assertTrue(chipfire.simulate(TRIANGLE, {}, []).root_closed)
+
+    def test_a_schedule_goes_through_a_file(self):
+        events = chipfire.Schedule().take(4).fire(0, 2).send(0).halt(0).settle(0).seal(1).read(0)
+        chipfire.write_schedule(self.file("schedule.csv"), events)
+        self.assertEqual(chipfire.read_schedule(self.file("schedule.csv")), events)
+        lines = ["event,at,count", "take,4,0", "fire,0,2", "clear,0,0", "claim,0,0", "put,0,0", "halt,0,0"]
+        lines += ["settle,0,0", "seal,1,0", "read,0,0", ""]
+        self.assertEqual(text_of(self.file("schedule.csv")), "\n".join(lines))
+
+
+class Traces(WithFolder):
+    def test_the_trace_of_the_examples(self):
+        trace = f"{EXAMPLES}/triangle/trace.csv"
+        rows = chipfire.read_trace(trace)
+        for given in (trace, rows):
+            self.assertEqual(chipfire.replay(TRIANGLE, [4, 0, 0], given), [(0, 2), (1, 1)])
+        chipfire.write_trace(self.file("trace.csv"), rows)
+        self.assertEqual(text_of(self.file("trace.csv")), text_of(trace))
+
+
+class Refusals(WithFolder):
+    def refused(self, call, *arguments, **options):
+        with self.assertRaises(chipfire.Fault) as caught:
+            call(*arguments, **options)
+        return caught.exception
+
+    def test_a_fault_has_number_name_and_place(self):
+        fault = self.refused(chipfire.check, chipfire.Graph(4, 3, [(0, 1), (1, 0), (2, 3)]))
+        self.assertEqual((fault.number, fault.name, fault.place, fault.status), (8, "Unreached", (0,), 1))
+
+    def test_a_fault_with_two_numbers(self):
+        trace = [(1, "take", 0, 1), (0, "take", 4, 4), (0, "fire", 0, 2)]
+        fault = self.refused(chipfire.replay, TRIANGLE, {0: 4}, trace)
+        self.assertEqual((fault.number, fault.name, fault.place), (70, "Stuck", (1, 0)))
+
+    def test_a_fault_tells_what_the_program_explains(self):
+        fault = self.refused(chipfire.plain, TRIANGLE, self.file("chips.csv", "vertex,chips\n0,4\n0,-1\n"))
+        self.assertEqual((fault.number, fault.place), (25, (1,)))
+        self.assertEqual(fault.explanation, chipfire.explain(25).strip())
+        self.assertTrue(str(fault).startswith("fault 25 Number 1\n"))
+
+    def test_files_are_counted_from_the_command(self):
+        for files, place in [(("missing", CHIPS_FILE), 1), ((TRIANGLE_FILE, "missing"), 2)]:
+            fault = self.refused(chipfire.plain, *files, limit=3)
+            self.assertEqual((fault.number, fault.name, fault.place), (92, "Open", (place,)))
+
+    def test_faults_of_every_command(self):
+        wrong = self.file("wrong", "{")
+        self.assertEqual(self.refused(chipfire.check, wrong).number, 20)
+        self.assertEqual(self.refused(chipfire.simulate, TRIANGLE, {0: 1}, [("jump", 0)]).number, 28)
+        self.assertEqual(self.refused(chipfire.resume, TRIANGLE, wrong).number, 50)
+        self.assertEqual(self.refused(chipfire.plain, TRIANGLE, {0: 1}, limit=2**40 + 1).number, 91)
+        self.assertEqual(self.refused(chipfire.plain, TRIANGLE, {0: 2**40 + 1}).number, 10)
+
+
+class Checks(unittest.TestCase):
+    def test_the_triangle(self):
+        self.assertEqual(chipfire.check(TRIANGLE), chipfire.Check(3, 4, 2, (2, 2, 0), (1, 1, 0)))
+
+    def test_degrees_are_those_of_the_program(self):
+        grid, path, torus = chipfire.grid(5, 3), chipfire.path(4), chipfire.torus(3, 4)
+        for graph in (grid, path, torus, chipfire.cycle(6), chipfire.complete(5)):
+            self.assertEqual(chipfire.check(graph).degrees, graph.degrees())
+
+
+class Finding(WithFolder):
+    def test_package_and_program_have_one_version(self):
+        ran = subprocess.run([os.environ["CHIPFIRE"], "--version"], capture_output=True, encoding="utf-8")
+        self.assertEqual(ran.stdout.split()[-1], chipfire.__version__)
+
+    def test_a_program_that_is_not_there(self):
+        with self.assertRaises(chipfire.ProgramNotFound):
+            chipfire.check(TRIANGLE, program=self.file("nothing"))
+
+    def test_the_program_is_named_found_or_missed(self):
+        program = os.environ["CHIPFIRE"]
+        os.symlink(program, self.file("chipfire"))
+        with mock.patch.dict(os.environ, {"CHIPFIRE": "/elsewhere"}):
+            self.assertEqual(chipfire.Program().path, "/elsewhere")
+            self.assertEqual(chipfire.Program(program).path, program)
+        ask = "import chipfire; print(chipfire.find_program())"
+        for path, status in [(self.folder, 0), (f"{self.folder}/empty", 1)]:
+            environment = {"PATH": path, "PYTHONPATH": self.folder, "PYTHONDONTWRITEBYTECODE": "1"}
+            self.file("chipfire.py", text_of(f"{ROOT}/python/chipfire.py"))
+            ran = subprocess.run([sys.executable, "-c", ask], env=environment, capture_output=True, encoding="utf-8")
+            self.assertEqual((ran.returncode, ran.stdout), (status, "" if status else f"{self.folder}/chipfire\n"))
+
+    def test_pip_installs_the_package(self):
+        words = [sys.executable, "-m", "pip", "install", "--quiet", "--no-index", "--disable-pip-version-check"]
+        subprocess.run([*words, "--target", self.folder, f"{ROOT}/python"], check=True, stderr=subprocess.DEVNULL)
+        ask = "import chipfire; print(chipfire.__file__, chipfire.plain(chipfire.path(1), [3, 0]).fired)"
+        environment = {**os.environ, "PYTHONPATH": self.folder}
+        ran = subprocess.run([sys.executable, "-c", ask], env=environment, capture_output=True, encoding="utf-8")
+        self.assertEqual(ran.stdout, f"{self.folder}/chipfire.py (1, 0)\n")
+
+
+class Running(WithFolder):
+    """The command `run`, where the program has it."""
+
+    def setUp(self):
+        super().setUp()
+        if subprocess.run([os.environ["CHIPFIRE"], "run", "--help"], capture_output=True).returncode:
+            self.skipTest("this program has no command run")
+
+    def test_the_small_triangle_and_its_trace(self):
+        report = chipfire.run(TRIANGLE, {0: 4}, workers=1, trace=self.file("trace.csv"))
+        self.assertEqual(report, chipfire.Report((1, 0, 3), (2, 1, 0)))
+        self.assertEqual(sum(count for _, count in chipfire.replay(TRIANGLE, {0: 4}, self.file("trace.csv"))), 3)
+
+    def test_a_trace_that_is_cut_is_warned_of(self):
+        with self.assertWarns(chipfire.TraceCut):
+            chipfire.run(TRIANGLE, {0: 4}, workers=1, trace=self.file("trace.csv"), trace_rows=1)
+
+    def test_a_run_that_is_not_finished(self):
+        with self.assertRaises(chipfire.Fault) as caught:
+            chipfire.run(TRIANGLE, {0: 4}, workers=2, turns=1)
+        self.assertEqual((caught.exception.number, caught.exception.status), (61, 3))
+
+
+if __name__ == "__main__":
+    unittest.main()

@@ -1,0 +1,140 @@
+"""Sandpiles as others have them: SageMath's answers, stored in sage_cases.json, and graphs of NetworkX and Sage."""
+import collections
+import importlib.util
+import json
+import os
+import unittest
+
+import chipfire
+
+HERE = os.path.dirname(os.path.realpath(__file__))
+
+
+def has(module):
+    return importlib.util.find_spec(module) is not None
+
+
+def name_of(value):
+    return tuple(value) if isinstance(value, list) else value
+
+
+class Case:
+    """A sandpile with what Sage says of it."""
+
+    def __init__(self, stored):
+        self.how, self.stored = stored["how"], stored
+        self.sink = name_of(stored["sink"])
+        self.names = [name_of(name) for name in stored["names"]]
+        self.edges = [(name_of(tail), name_of(head), mult) for tail, head, mult in stored["edges"]]
+        numbers = {name: vertex for vertex, name in enumerate([*self.names, self.sink])}
+        rows = [(numbers[tail], numbers[head], mult) for tail, head, mult in self.edges]
+        self.graph = chipfire.Graph(len(numbers), numbers[self.sink], rows, tuple(numbers))
+
+    def named(self, numbers):
+        return dict(zip(self.names, numbers))
+
+
+with open(f"{HERE}/sage_cases.json", encoding="ascii") as stored_file:
+    CASES = [Case(stored) for stored in json.load(stored_file)["cases"]]
+
+
+class Sage(unittest.TestCase):
+    def test_stabilizations_and_firing_vectors(self):
+        for case in CASES:
+            for play in case.stored["plays"]:
+                with self.subTest(case.how):
+                    report = chipfire.plain(case.graph, case.named(play["chips"]))
+                    self.assertEqual(report.configuration, case.named(play["stable"]))
+                    self.assertEqual(report.odometer, case.named(play["fired"]))
+
+    def test_identities(self):
+        for case in CASES:
+            with self.subTest(case.how):
+                self.assertEqual(chipfire.identity(case.graph), case.named(case.stored["identity"]))
+
+    def test_maximal_stable_configurations(self):
+        for case in CASES:
+            with self.subTest(case.how):
+                self.assertEqual(case.graph.max_stable(), case.named(case.stored["max_stable"]))
+
+    def test_our_families_are_those_of_sage(self):
+        families = {
+            "sandpiles.Grid(2, 3)": chipfire.grid(3, 2),
+            "sandpiles.Grid(5, 4)": chipfire.grid(4, 5),
+            "sandpiles.Grid(20, 20)": chipfire.grid(20, 20),
+            "sandpiles.Cycle(7)": chipfire.cycle(7),
+            "sandpiles.Complete(4)": chipfire.complete(4),
+            "sandpiles.Complete(9)": chipfire.complete(9),
+            "graphs.ToroidalGrid2dGraph(4, 5), (0, 0)": chipfire.torus(5, 4),
+        }
+        for case in CASES:
+            ours = families.pop(case.how, None)
+            if ours is not None:
+                with self.subTest(case.how):
+                    # Sage names the vertices of grids by row and column; in the order of names they are ours.
+                    inner = dict(zip(sorted(case.names), (v for v in range(ours.vertices) if v != ours.sink)))
+                    numbers = {**inner, case.sink: ours.sink}
+                    edges = [(numbers[tail], numbers[head], mult) for tail, head, mult in case.edges]
+                    self.assertEqual(collections.Counter(ours.edges), collections.Counter(edges))
+        self.assertEqual(families, {})
+
+
+@unittest.skipUnless(has("networkx"), "NetworkX is not here")
+class NetworkX(unittest.TestCase):
+    def test_an_undirected_graph_has_an_edge_each_way(self):
+        import networkx
+
+        case = next(it for it in CASES if it.how == "sandpiles.Complete(4)")
+        graph = chipfire.from_networkx(networkx.complete_graph(4), 0)
+        self.assertEqual(sorted(graph.edges), sorted(case.edges))
+        self.assertEqual(chipfire.identity(graph), case.named(case.stored["identity"]))
+
+    def test_a_directed_multigraph_keeps_its_edges_and_multiplicities(self):
+        import networkx
+
+        drawn = networkx.MultiDiGraph()
+        drawn.add_edge("a", "b", mult=3)
+        drawn.add_edge("a", "b")
+        drawn.add_edge("b", "a")
+        graph = chipfire.from_networkx(drawn, "b")
+        self.assertEqual((graph.names, graph.sink, graph.edges), (("a", "b"), 1, ((0, 1, 3), (0, 1, 1))))
+        # four chips cross at each firing, so of nine two firings' worth do
+        self.assertEqual(chipfire.plain(graph, {"a": 9}).chips, (1, 8))
+
+    def test_a_sink_that_is_no_vertex(self):
+        import networkx
+
+        with self.assertRaises(KeyError):
+            chipfire.from_networkx(networkx.path_graph(3), "elsewhere")
+
+
+@unittest.skipUnless(has("sage"), "SageMath is not here")
+class FromSage(unittest.TestCase):
+    def test_a_sandpile_keeps_its_sink_and_names(self):
+        from sage.all import sandpiles
+
+        for sandpile in (sandpiles.Grid(4, 3), sandpiles.House(), sandpiles.Complete(5)):
+            graph = chipfire.from_sage(sandpile)
+            self.assertEqual(chipfire.identity(graph), sandpile.identity())
+            stable, fired = (2 * sandpile.max_stable()).stabilize(True)
+            report = chipfire.plain(graph, 2 * sandpile.max_stable())
+            self.assertEqual((report.configuration, report.odometer), (stable, fired))
+
+    def test_a_graph_wants_a_sink(self):
+        from sage.all import DiGraph, graphs
+
+        with self.assertRaises(ValueError):
+            chipfire.from_sage(graphs.HouseGraph())
+        self.assertEqual(len(chipfire.from_sage(graphs.HouseGraph(), 0).edges), 10)
+        drawn = chipfire.from_sage(DiGraph({"a": {"b": 3}}), "b")
+        self.assertEqual((drawn.vertices, [mult for _, _, mult in drawn.edges]), (2, [3]))
+
+    def test_edges_of_label_0_that_sage_adds_are_left_out(self):
+        from sage.all import DiGraph, Sandpile
+
+        sandpile = Sandpile(DiGraph({0: {}, 1: {0: 1}, 2: {1: 3}}, weighted=True), 0)
+        self.assertEqual(sorted(chipfire.from_sage(sandpile).edges), [(1, 0, 1), (2, 1, 3)])
+
+
+if __name__ == "__main__":
+    unittest.main()

@@ -200,8 +200,9 @@ def many_words(machine):
 
 
 def wide_texts(machine):
-    """16 MiB of small values need much memory: in less, it says so and nothing else."""
-    for name, piece in (("objects", b"{},"), ("lists", b"[],"), ("numbers", b"0,")):
+    """16 MiB of small values need much memory, and where there is less it says so: no other fault comes instead."""
+    nested = b'{"":' * 120 + b"0" + b"}" * 120 + b","
+    for name, piece in (("objects", b'{"":0},'), ("lists", b"[],"), ("numbers", b"0,"), ("nested objects", nested)):
 
         def faults(piece=piece):
             with tempfile.NamedTemporaryFile(prefix="chipfire-hostile-") as file:

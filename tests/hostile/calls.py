@@ -2,7 +2,7 @@
 import errno
 
 from machine import LAST
-from worked import differences
+from worked import TRACE, differences
 
 OPEN_ERRORS = ["ENOENT", "EACCES", "EMFILE", "ENOMEM"]
 READ_ERRORS = ["EIO", "EINTR", "EAGAIN", "EISDIR", "ENOMEM"]
@@ -15,17 +15,18 @@ def seen_calls(machine, worked):
     """The calls that are to fail are seen: each file is opened once and read to its end, and something is written."""
 
     def faults():
-        seen, files = machine.calls(worked.words), len(worked.files())
-        stream = "err" if worked.fault else "out"
-        is_well = seen["open"] == files and seen["read"] >= 2 * files and seen[stream] == 1
-        return [] if is_well else [f"of {files} files and one output these calls were seen: {seen}"]
+        seen, files, opens = machine.calls(worked.words), len(worked.files()), len(worked.opens())
+        is_read = seen["open"] == opens and seen["read"] >= 2 * files
+        is_written = seen["err" if worked.fault else "out"] == 1 and (seen["file"] > 0) == (opens > files)
+        is_well = is_read and is_written and seen["thread"] == worked.threads
+        return [] if is_well else [f"of {files} files and {worked.threads} threads these calls were seen: {seen}"]
 
     yield f"{worked.name}: its calls are seen", faults
 
 
 def failing_opens(machine, worked):
     """An open that fails names the argument; one that is interrupted is made again."""
-    for number, (place, _) in enumerate(worked.files(), 1):
+    for number, place in enumerate(worked.opens(), 1):
 
         def again(number=number):
             ran, _ = machine.run_refusing(worked.words, ("open", number, number, errno.EINTR))
@@ -113,6 +114,32 @@ def failing_faults(machine, worked):
     yield f"{worked.name}: its line by one byte", whole
 
 
+def failing_traces(machine, worked):
+    """Where the file of traces cannot be written, that is told, and the output stays empty."""
+    slow = ("file", 1, LAST, ONE_BYTE)
+    whole = lambda: worked.differences(machine.run_refusing(worked.words, slow)[0])
+    yield f"{worked.name}: its traces by one byte", whole
+    for written in range(len(machine.run_refusing(worked.words)[0].trace or b"")):
+        for how in (errno.EINTR, NOTHING):
+
+            def faults(written=written, how=how):
+                ran, _ = machine.run_refusing(worked.words, ("file", written + 1, written + 1, how), slow)
+                return worked.faulted(ran, "93 Write")
+
+            yield f"{worked.name}: its traces {'fail' if how else 'go nowhere'} after {written} bytes", faults
+
+
+def failing_threads(machine, worked):
+    """A thread that cannot be started is told, and those that were started have ended."""
+    for number in range(1, worked.threads + 1):
+
+        def faults(number=number):
+            ran, _ = machine.run_refusing(worked.words, ("thread", number, number, errno.EAGAIN))
+            return worked.faulted(ran, "65 Spawn")
+
+        yield f"{worked.name}: thread {number} cannot be started", faults
+
+
 def tests(machine, reference, runs):
     for worked in runs:
         yield from seen_calls(machine, worked)
@@ -121,3 +148,6 @@ def tests(machine, reference, runs):
         if worked.files():
             yield from slow_reads(machine, reference, worked)
         yield from failing_faults(machine, worked) if worked.fault else failing_writes(machine, worked)
+        if TRACE in worked.words:
+            yield from failing_traces(machine, worked)
+        yield from failing_threads(machine, worked)

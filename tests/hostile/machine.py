@@ -9,7 +9,7 @@ import launch
 from worked import TRACE
 
 HERE = os.path.dirname(os.path.realpath(__file__))
-KINDS = ["alloc", "read", "out", "err", "open", "thread"]
+KINDS = ["alloc", "read", "out", "err", "file", "open", "thread"]
 LAST = 10**9
 
 

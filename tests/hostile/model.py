@@ -56,8 +56,8 @@ class Model:
     def __init__(self, play, simulate):
         self.play, self.simulate_script = play, simulate
 
-    def answer(self, command, files, limit=MAX_CHIPS, ring=1, rounds=0):
-        """What the program must answer to a command and its files, each some bytes."""
+    def answer(self, command, files, limit=MAX_CHIPS, ring=1, rounds=0, **_):
+        """What the program must answer to a command and its files, each some bytes; threads change nothing."""
         try:
             graph = read_graph(files[0])
             if command == "check":
@@ -65,7 +65,7 @@ class Model:
             if command == "resume":
                 return resumed(graph, files[1], limit)
             chips = read_chips(files[1], graph)
-            if command == "plain":
+            if command in ("plain", "run"):
                 return report_answer(graph, chips, limit)
             if command == "simulate":
                 return self.simulated(graph, chips, read_schedule(files[2], graph), limit, ring, rounds)

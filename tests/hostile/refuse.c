@@ -1,9 +1,9 @@
 /* A library that is loaded before the C library's own calls and has some of them fail, as the environment says.
  *
  * HOSTILE_PLAN is clauses `KIND FROM TO HOW` with `;` between them: the calls of this kind with these numbers, from 1,
- * are met, and the first clause that names a call counts. KIND is `alloc`, `read`, `out` or `err` (a write to standard
- * output or error), `open` or `thread`. HOW is the error that is told, or 0 where a read or write moves nothing and
- * says so, or -1 where it moves one byte.
+ * are met, and the first clause that names a call counts. KIND is `alloc`, `read`, `out`, `err` or `file` (a write to
+ * standard output, to standard error, or elsewhere), `open` or `thread`. HOW is the error that is told, or 0 where a
+ * read or write moves nothing and says so, or -1 where it moves one byte.
  *
  * HOSTILE_TALLY names a file of two numbers of 64 bits for each kind, in the order above: how many calls there were,
  * and how many of them failed by the plan.
@@ -22,7 +22,7 @@
 #include <sys/uio.h>
 #include <unistd.h>
 
-enum kind { ALLOC, READ, OUT, ERR, OPEN, THREAD, KINDS };
+enum kind { ALLOC, READ, OUT, ERR, ELSEWHERE, OPEN, THREAD, KINDS };
 enum { MAX_CLAUSES = 8, ONE_BYTE = -1, GOES_ON = -2 };
 
 struct clause {
@@ -31,7 +31,7 @@ struct clause {
     int how;
 };
 
-static const char *const names[KINDS] = {"alloc", "read", "out", "err", "open", "thread"};
+static const char *const names[KINDS] = {"alloc", "read", "out", "err", "file", "open", "thread"};
 static struct clause clauses[MAX_CLAUSES];
 static int clause_count;
 static long own_tally[2 * KINDS];
@@ -151,7 +151,7 @@ int posix_memalign(void **at, size_t alignment, size_t size)
 /* A read or write of so many bytes under the plan. */
 static ssize_t moved(enum kind kind, long call, int file, void *bytes, size_t size)
 {
-    int how = kind == KINDS ? GOES_ON : next_call(kind);
+    int how = next_call(kind);
     if (how > 0) {
         errno = how;
         return -1;
@@ -168,7 +168,7 @@ ssize_t read(int file, void *bytes, size_t size)
 
 ssize_t write(int file, const void *bytes, size_t size)
 {
-    enum kind kind = file == STDOUT_FILENO ? OUT : file == STDERR_FILENO ? ERR : KINDS;
+    enum kind kind = file == STDOUT_FILENO ? OUT : file == STDERR_FILENO ? ERR : ELSEWHERE;
     return moved(kind, SYS_write, file, (void *)bytes, size);
 }
 

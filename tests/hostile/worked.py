@@ -23,12 +23,17 @@ class Worked:
     status: int = 0
     fault: str = ""
     also: tuple = (NO_MEMORY,)
-    # Whether it makes the same calls in every run.
+    # Whether it makes the same calls in every run, and how many threads it starts.
     is_steady: bool = True
+    threads: int = 0
 
     def files(self):
         """The files of the run, each with its number among the arguments behind the command."""
         return [(at, word) for at, word in enumerate(self.words) if word.endswith(FILE_ENDS)]
+
+    def opens(self):
+        """The numbers of the arguments that are opened, in their order: the file of traces is the last one."""
+        return [at for at, _ in self.files()] + [at for at, word in enumerate(self.words) if word == TRACE]
 
     def bytes_of_files(self):
         found = []

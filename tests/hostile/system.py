@@ -1,5 +1,6 @@
 """The system around the program: streams closed or full, devices, folders, limits, signals, several programs."""
 import concurrent.futures
+import contextlib
 import itertools
 import os
 import random
@@ -140,14 +141,14 @@ def several_at_once(machine, worked):
 
 
 def trickle(path, text, process):
-    """Writes a text into a pipe byte by byte, and stops and continues the process meanwhile."""
-    with open(path, "wb", buffering=0) as pipe:
+    """Writes a text into a pipe byte by byte, and stops and continues the process meanwhile, until that is gone."""
+    with contextlib.suppress(BrokenPipeError, ProcessLookupError), open(path, "wb", buffering=0) as pipe:
         for at in range(len(text)):
             pipe.write(text[at : at + 1])
             if at % 20 == 0:
-                os.kill(process, signal.SIGSTOP)
+                signal.pidfd_send_signal(process, signal.SIGSTOP)
                 time.sleep(0.001)
-                os.kill(process, signal.SIGCONT)
+                signal.pidfd_send_signal(process, signal.SIGCONT)
 
 
 def slow_pipes(machine, worked):
@@ -161,11 +162,13 @@ def slow_pipes(machine, worked):
                 os.mkfifo(words[place])
                 pipes.append((words[place], text))
             begun = machine.start(words)
+            process = os.pidfd_open(begun.process)
             # (each is opened for writing only once the program opens it, and all are opened before one is read)
-            threads = [threading.Thread(target=trickle, args=(*pipe, begun.process), daemon=True) for pipe in pipes]
-            for thread in threads:
-                thread.start()
-            return worked.differences(begun.end())
+            for pipe in pipes:
+                threading.Thread(target=trickle, args=(*pipe, process), daemon=True).start()
+            found = worked.differences(begun.end())
+            os.close(process)
+            return found
 
     if worked.files():
         yield f"{worked.name}: slow pipes, stopped at times", faults

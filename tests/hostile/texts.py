@@ -1,4 +1,5 @@
 """Random games with mutated files: the answer, or the first fault, must be the model's."""
+import contextlib
 import random
 import tempfile
 
@@ -25,16 +26,19 @@ def options_of(command, draw):
     return options
 
 
+def judged(reference, draw):
+    """A command at random, its files, mutated, its options, and the answer that must come."""
+    while True:
+        command = draw.choice(mutate.COMMANDS)
+        files = mutate.mutated(mutate.random_files(command, draw, model.Replay), draw)
+        options = options_of(command, draw)
+        with contextlib.suppress(model.Unjudged):
+            return command, files, options, reference.answer(command, files, **options)
+
+
 def run_of(program, reference, seed):
-    """What is wrong with the answer to the files of this seed; nothing where the reference does not judge them."""
-    draw = random.Random(seed)
-    command = draw.choice(mutate.COMMANDS)
-    files = mutate.mutated(mutate.random_files(command, draw, model.Replay), draw)
-    options = options_of(command, draw)
-    try:
-        wanted = reference.answer(command, files, **options)
-    except model.Unjudged:
-        return []
+    """What is wrong with the answer to the files of this seed."""
+    command, files, options, wanted = judged(reference, random.Random(seed))
     with tempfile.TemporaryDirectory(prefix="chipfire-hostile-") as room:
         paths = [f"{room}/{name}" for name in NAMES[command]]
         for path, text in zip(paths, files):

@@ -2,8 +2,10 @@
 import concurrent.futures
 import contextlib
 import itertools
+import json
 import os
 import random
+import re
 import signal
 import tempfile
 import threading
@@ -174,6 +176,41 @@ def slow_pipes(machine, worked):
         yield f"{worked.name}: slow pipes, stopped at times", faults
 
 
+def read_some(pipe, count):
+    """So many bytes of a pipe, or all until its end."""
+    found = b""
+    while len(found) < count and (some := os.read(pipe, min(4096, count - len(found)))):
+        found += some
+    return found
+
+
+def leaving_readers(machine, reference):
+    """The reader of a long output goes away in its midst: what went out till then is right, and its length is told."""
+    edges = [[vertex, vertex - 1, 1] for vertex in range(1, 4096)]
+    text = json.dumps({"edges": edges, "sink": 0, "version": 1, "vertices": 4096}).encode()
+    whole = reference.answer("check", [text]).out
+    # (a pipe holds 65,536 bytes, and more than these are still to come)
+    for count in (0, 1, 4096, 65_536, 70_000, len(whole) + 1):
+
+        def faults(count=count):
+            reading, writing = os.pipe()
+            with tempfile.NamedTemporaryFile(prefix="chipfire-hostile-") as file:
+                file.write(text)
+                file.flush()
+                begun = machine.start(["check", file.name], actions=[(DUP2, writing, 1)])
+                os.close(writing)
+                read = read_some(reading, count)
+                os.close(reading)
+                ran = begun.end()
+            if count > len(whole):
+                return differences(ran, b"", b"", 0) or ([] if read == whole else ["another output"])
+            told = re.fullmatch(rb"chipfire: fault 93 Write ([0-9]+)\n", ran.err)
+            is_well = told and count <= int(told[1]) < len(whole) and ran.status == 1 and read == whole[:count]
+            return [] if is_well else [f"after {count} bytes: {ran.err!r} and status {ran.status}"]
+
+        yield f"a reader that leaves after {count} of {len(whole)} bytes", faults
+
+
 def killed(machine, worked, seed):
     """Ended from outside while it reads a long file, it has written nothing, or all."""
 
@@ -217,7 +254,7 @@ def wide_texts(machine):
         yield f"16 MiB of {name} in 256 MiB", faults
 
 
-def tests(machine, runs, kills):
+def tests(machine, reference, runs, kills):
     for worked in runs:
         yield from closed_streams(machine, worked)
         yield from useless_streams(machine, worked)
@@ -228,5 +265,6 @@ def tests(machine, runs, kills):
         yield from slow_pipes(machine, worked)
     for seed in range(kills):
         yield from killed(machine, runs[0], seed)
+    yield from leaving_readers(machine, reference)
     yield from many_words(machine)
     yield from wide_texts(machine)

@@ -1,6 +1,7 @@
-"""Starts a program under limits of the system, in bytes: `limited.py AS=N,STACK=N PROGRAM WORDS`.
+"""Starts a program under limits of the system: `limited.py AS=N,STACK=N PROGRAM WORDS`.
 
-A write past a limit on the size of files fails and does not end it, as ./chipfire has it.
+They are those of `ulimit`, in bytes, and CORES: on how many processors it runs. A write past a limit on the size of
+files fails and does not end the program, as ./chipfire has it.
 """
 import os
 import resource
@@ -12,5 +13,8 @@ signal.signal(signal.SIGPIPE, signal.SIG_DFL)
 signal.signal(signal.SIGXFSZ, signal.SIG_IGN)
 for limit in limits.split(","):
     name, value = limit.split("=")
-    resource.setrlimit(getattr(resource, f"RLIMIT_{name}"), (int(value), int(value)))
+    if name == "CORES":
+        os.sched_setaffinity(0, sorted(os.sched_getaffinity(0))[: int(value)])
+    else:
+        resource.setrlimit(getattr(resource, f"RLIMIT_{name}"), (int(value), int(value)))
 os.execv(words[0], words)

@@ -23,8 +23,9 @@ class Machine:
         words = ["cc", "-shared", "-fPIC", "-O1", "-Wall", "-Werror", "-o", self.library, f"{HERE}/refuse.c", "-ldl"]
         subprocess.run(words, check=True)
 
-    def start(self, words, environment=None, actions=(), before=()):
-        """Starts the program, by other words before it if so said."""
+    def start(self, words, environment=None, actions=(), limits=None):
+        """Starts the program, under limits of the system as limited.py takes them."""
+        before = [sys.executable, f"{HERE}/limited.py", limits] if limits else []
         trace = f"{self.room}/{next(self.numbers)}.csv" if TRACE in words else None
         words = [trace if word == TRACE else word for word in words]
         return launch.start([*before, self.program, *words], environment, actions, trace)
@@ -33,9 +34,7 @@ class Machine:
         return self.start(words, actions=actions).end()
 
     def run_under(self, limits, words, actions=()):
-        """Runs the program under limits of the system, as limited.py takes them."""
-        before = [sys.executable, f"{HERE}/limited.py", limits]
-        return self.start(words, actions=actions, before=before).end()
+        return self.start(words, actions=actions, limits=limits).end()
 
     def run_refusing(self, words, *plan):
         """Runs the program under a plan of refuse.c, each part (kind, from, to, how); with it how many calls of each

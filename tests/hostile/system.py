@@ -211,17 +211,24 @@ def leaving_readers(machine, reference):
         yield f"a reader that leaves after {count} of {len(whole)} bytes", faults
 
 
+def with_long_graph(worked, file):
+    """The words of a run whose graph is this file, made as long as it may be."""
+    place, path = worked.files()[0]
+    with open(path, "rb") as graph:
+        file.write(graph.read().ljust(16 * MIB))
+    file.flush()
+    return [*worked.words[:place], file.name, *worked.words[place + 1 :]]
+
+
 def killed(machine, worked, seed):
-    """Ended from outside while it reads a long file, it has written nothing, or all."""
+    """Ended from outside, as it reads a long file or its threads share a processor, it has written nothing, or all."""
 
     def faults():
         with tempfile.NamedTemporaryFile(prefix="chipfire-hostile-") as file:
-            place, path = worked.files()[0]
-            with open(path, "rb") as graph:
-                file.write(graph.read().ljust(16 * MIB))
-            file.flush()
-            words = [*worked.words[:place], file.name, *worked.words[place + 1 :]]
-            begun = machine.start(words)
+            if worked.threads:
+                begun = machine.start(worked.words, limits="CORES=1")
+            else:
+                begun = machine.start(with_long_graph(worked, file))
             time.sleep(random.Random(seed).uniform(0, 0.08))
             os.kill(begun.process, signal.SIGTERM)
             ran = begun.end()
@@ -263,8 +270,9 @@ def tests(machine, reference, runs, kills):
         yield from small_spaces(machine, worked)
         yield from several_at_once(machine, worked)
         yield from slow_pipes(machine, worked)
-    for seed in range(kills):
-        yield from killed(machine, runs[0], seed)
+    for worked in [runs[0], *(it for it in runs if it.threads)]:
+        for seed in range(kills):
+            yield from killed(machine, worked, seed)
     yield from leaving_readers(machine, reference)
     yield from many_words(machine)
     yield from wide_texts(machine)

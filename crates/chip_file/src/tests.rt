@@ -266,7 +266,7 @@ fn a_failing_read_is_told(rt: HostRuntime) {
         assert_eq!(rt; slow.reads, read.saturating_add(1), "no further read");
     }
     let rows = b"vertex,chips\n2,3\n";
-    for read in [0, 5, 12, 16, 17] {
+    for read in 0..=rows.len() {
         let mut slow = Slow::new(rows, Some(read));
         assert_eq!(rt;
             read_chips(rt.alloc(), &mut slow, 3).err(),

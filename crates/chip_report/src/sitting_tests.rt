@@ -71,3 +71,10 @@ fn no_reports_of_sittings(rt: HostRuntime) {
         b"{\"chips\":[0],\"closed\":true,\"fired\":[1],\"over\":[],\"prior\":[0],\"sealed\":[],\"version\":1}\n",
     );
 }
+
+#[test]
+fn each_cut_of_a_sitting_is_none(rt: HostRuntime) {
+    for end in 0..WENT_ON.len() {
+        is_refused(&rt, &WENT_ON[..end]);
+    }
+}

@@ -1,0 +1,153 @@
+"""Opens, reads and writes that fail, are cut short, move one byte, or are interrupted, each in turn."""
+import errno
+
+from machine import LAST
+from worked import TRACE, differences
+
+OPEN_ERRORS = ["ENOENT", "EACCES", "EMFILE", "ENOMEM"]
+READ_ERRORS = ["EIO", "EINTR", "EAGAIN", "EISDIR", "ENOMEM"]
+WRITE_ERRORS = ["EIO", "EINTR", "EAGAIN", "EPIPE", "ENOSPC", "EFBIG", "EBADF"]
+ONE_BYTE = -1
+NOTHING = 0
+
+
+def seen_calls(machine, worked):
+    """The calls that are to fail are seen: each file is opened once and read to its end, and something is written."""
+
+    def faults():
+        seen, files, opens = machine.calls(worked.words), len(worked.files()), len(worked.opens())
+        is_read = seen["open"] == opens and seen["read"] >= 2 * files
+        is_written = seen["err" if worked.fault else "out"] == 1 and (seen["file"] > 0) == (opens > files)
+        is_well = is_read and is_written and seen["thread"] == worked.threads
+        return [] if is_well else [f"of {files} files and {worked.threads} threads these calls were seen: {seen}"]
+
+    yield f"{worked.name}: its calls are seen", faults
+
+
+def failing_opens(machine, worked):
+    """An open that fails names the argument; one that is interrupted is made again."""
+    for number, place in enumerate(worked.opens(), 1):
+
+        def again(number=number):
+            ran, _ = machine.run_refusing(worked.words, ("open", number, number, errno.EINTR))
+            return worked.differences(ran)
+
+        yield f"{worked.name}: open {number} is interrupted", again
+        for name in OPEN_ERRORS:
+
+            def faults(number=number, place=place, error=getattr(errno, name)):
+                ran, _ = machine.run_refusing(worked.words, ("open", number, number, error))
+                return worked.faulted(ran, f"92 Open {place}")
+
+            yield f"{worked.name}: open {number} fails by {name}", faults
+
+
+def failing_reads(machine, worked):
+    """A read that fails is told as one, whichever it is and whyever."""
+    for number in range(1, machine.calls(worked.words)["read"] + 1):
+        for name in READ_ERRORS:
+
+            def faults(number=number, error=getattr(errno, name)):
+                ran, _ = machine.run_refusing(worked.words, ("read", number, number, error))
+                return worked.faulted(ran, "29 Read")
+
+            yield f"{worked.name}: read {number} fails by {name}", faults
+
+
+def slow_reads(machine, reference, worked):
+    """Reads of one byte give the same; where one fails that is told, and one that gives nothing ends a file there."""
+    slow = ("read", 1, LAST, ONE_BYTE)
+    whole = lambda: worked.differences(machine.run_refusing(worked.words, slow)[0])
+    yield f"{worked.name}: reads of one byte", whole
+    files = worked.bytes_of_files()
+    places = [(at, length) for at, text in enumerate(files) for length in range(len(text) + 1)]
+    for number, (at, length) in enumerate(places, 1):
+
+        def failing(number=number):
+            ran, _ = machine.run_refusing(worked.words, ("read", number, number, errno.EINTR), slow)
+            return worked.faulted(ran, "29 Read")
+
+        def cut(number=number, at=at, length=length):
+            ran, _ = machine.run_refusing(worked.words, ("read", number, number, NOTHING), slow)
+            left = [text[:length] if it == at else text for it, text in enumerate(files)]
+            wanted = reference.answer(worked.words[0], left, **worked.options())
+            return wanted.differences(ran.out, ran.err, ran.status)
+
+        yield f"{worked.name}: read {number} of one byte fails", failing
+        yield f"{worked.name}: file {at + 1} is cut after {length} bytes", cut
+
+
+def failing_writes(machine, worked):
+    """A write that fails, or takes nothing, is told with the bytes that went out before it; there is none behind it."""
+    for name in WRITE_ERRORS:
+
+        def faults(error=getattr(errno, name)):
+            ran, tally = machine.run_refusing(worked.words, ("out", 1, 1, error))
+            return worked.faulted(ran, "93 Write 0") + ([] if tally["out"][0] == 1 else ["it wrote once more"])
+
+        yield f"{worked.name}: the output fails by {name}", faults
+    slow = ("out", 1, LAST, ONE_BYTE)
+    whole = lambda: worked.differences(machine.run_refusing(worked.words, slow)[0])
+    yield f"{worked.name}: writes of one byte", whole
+    for written in range(len(worked.out)):
+        for how in (errno.EINTR, NOTHING):
+
+            def faults(written=written, how=how):
+                ran, tally = machine.run_refusing(worked.words, ("out", written + 1, written + 1, how), slow)
+                found = worked.faulted(ran, f"93 Write {written}", worked.out[:written])
+                return found + ([] if tally["out"][0] == written + 1 else ["it wrote once more"])
+
+            yield f"{worked.name}: the output {'fails' if how else 'takes nothing'} after {written} bytes", faults
+
+
+def failing_faults(machine, worked):
+    """Where the line of a fault cannot be written, the status tells; nothing goes elsewhere."""
+    for name in WRITE_ERRORS:
+
+        def faults(error=getattr(errno, name)):
+            ran, _ = machine.run_refusing(worked.words, ("err", 1, LAST, error))
+            return differences(ran, b"", b"", 1)
+
+        yield f"{worked.name}: the fault's line fails by {name}", faults
+    slow = ("err", 1, LAST, ONE_BYTE)
+    whole = lambda: worked.differences(machine.run_refusing(worked.words, slow)[0])
+    yield f"{worked.name}: its line by one byte", whole
+
+
+def failing_traces(machine, worked):
+    """Where the file of traces cannot be written, that is told, and the output stays empty."""
+    slow = ("file", 1, LAST, ONE_BYTE)
+    whole = lambda: worked.differences(machine.run_refusing(worked.words, slow)[0])
+    yield f"{worked.name}: its traces by one byte", whole
+    for written in range(len(machine.run_refusing(worked.words)[0].trace or b"")):
+        for how in (errno.EINTR, NOTHING):
+
+            def faults(written=written, how=how):
+                ran, _ = machine.run_refusing(worked.words, ("file", written + 1, written + 1, how), slow)
+                return worked.faulted(ran, "93 Write")
+
+            yield f"{worked.name}: its traces {'fail' if how else 'go nowhere'} after {written} bytes", faults
+
+
+def failing_threads(machine, worked):
+    """A thread that cannot be started is told, and those that were started have ended."""
+    for number in range(1, worked.threads + 1):
+
+        def faults(number=number):
+            ran, _ = machine.run_refusing(worked.words, ("thread", number, number, errno.EAGAIN))
+            return worked.faulted(ran, "65 Spawn")
+
+        yield f"{worked.name}: thread {number} cannot be started", faults
+
+
+def tests(machine, reference, runs):
+    for worked in runs:
+        yield from seen_calls(machine, worked)
+        yield from failing_opens(machine, worked)
+        yield from failing_reads(machine, worked)
+        if worked.files():
+            yield from slow_reads(machine, reference, worked)
+        yield from failing_faults(machine, worked) if worked.fault else failing_writes(machine, worked)
+        if TRACE in worked.words:
+            yield from failing_traces(machine, worked)
+        yield from failing_threads(machine, worked)

@@ -1,0 +1,482 @@
+"""What chipfire must answer to files with whatever bytes: the answer, or the first fault.
+
+It shares nothing with the program. JSON is read by Python's own reader, rows by the automaton of `Rows`, and the games
+are played by examples/simulate.py and by `play` below, which fires a vertex as often as it can at a time.
+"""
+import dataclasses
+import json
+import re
+
+MAX_BYTES = 16_777_216
+MAX_VERTICES = 4_096
+MAX_EDGES = 65_536
+MAX_MULT = 1 << 20
+MAX_CHIPS = 1 << 40
+MAX_PRIOR = 1 << 60
+MAX_DEPTH = 127
+# A play that takes more rounds than this is not judged.
+MAX_ROUNDS = 20_000
+
+EVENTS_OF_VERTICES = {b"fire", b"halt", b"read"}
+EVENTS_OF_EDGES = {b"take", b"ack", b"clear", b"claim", b"put", b"settle", b"seal"}
+
+
+class Fault(Exception):
+    """The first fault, as the program tells it: its number, name and place."""
+
+
+class Unjudged(Exception):
+    """This play takes too long here."""
+
+
+@dataclasses.dataclass
+class Answer:
+    """What must come: `out` are its bytes, or a function that tells what is wrong with some bytes."""
+
+    out: object = b""
+    fault: str = ""
+    status: int = 0
+
+    def differences(self, out, err, status):
+        """What of a finished run is not as it must be."""
+        found = []
+        line = f"chipfire: fault {self.fault}\n".encode() if self.fault else b""
+        if (err, status) != (line, self.status):
+            found.append(f"expected status {self.status} and {line!r}, got status {status} and {err!r}")
+        if callable(self.out):
+            found += self.out(out)
+        elif out != self.out:
+            found.append(f"expected {self.out!r}, got {out!r}")
+        return found
+
+
+class Model:
+    """The program, made of the scripts play and simulate of examples/."""
+
+    def __init__(self, play, simulate):
+        self.play, self.simulate_script = play, simulate
+
+    def answer(self, command, files, limit=MAX_CHIPS, ring=1, rounds=0, **_):
+        """What the program must answer to a command and its files, each some bytes; threads change nothing."""
+        try:
+            graph = read_graph(files[0])
+            if command == "check":
+                return Answer(f"{self.play.check(graph)}\n".encode())
+            if command == "resume":
+                return resumed(graph, files[1], limit)
+            chips = read_chips(files[1], graph)
+            if command in ("plain", "run"):
+                return report_answer(graph, chips, limit)
+            if command == "simulate":
+                return self.simulated(graph, chips, read_schedule(files[2], graph), limit, ring, rounds)
+            return replayed(graph, chips, read_traces(files[2], graph), limit)
+        except Fault as fault:
+            return Answer(fault=str(fault), status=1)
+
+    def simulated(self, graph, chips, events, limit, ring, rounds):
+        core = self.simulate_script.Core(graph, chips, limit, ring)
+        lines = [core.step(*event) for event in events]
+        core.drive(rounds)
+        if not core.is_closed():
+            lines.append("root open")
+            return Answer("".join(f"{line}\n" for line in lines).encode(), status=3)
+        lines += ["root closed", core.report()]
+        status = 0 if json.loads(lines[-1])["closed"] else 2
+        return Answer("".join(f"{line}\n" for line in lines).encode(), status=status)
+
+
+def whole(text):
+    if len(text) > MAX_BYTES:
+        raise Fault("30 TooLong")
+    return text
+
+
+class NoWhole:
+    """A number that is no whole number of 64 bits."""
+
+
+def whole_number(text):
+    if len(text) > 310 or abs(int(text)) >= 2**1024:
+        raise ValueError("a number too large")
+    number = NoWhole if text.startswith("-") else int(text)
+    return number if number is NoWhole or number < 2**64 else NoWhole
+
+
+def broken_number(text):
+    if float(text) in (float("inf"), float("-inf")):
+        raise ValueError("a number too large")
+    return NoWhole
+
+
+def no_constant(text):
+    raise ValueError(f"no JSON: {text}")
+
+
+def no_half_pairs(value):
+    """Tells by an error that a text, alone or in an array, has half a pair of surrogates."""
+    if isinstance(value, str):
+        value.encode()
+    elif isinstance(value, list):
+        for item in value:
+            no_half_pairs(item)
+
+
+def object_of(pairs):
+    """The object of these members, of which the last of a name counts."""
+    for name, value in pairs:
+        no_half_pairs(name)
+        no_half_pairs(value)
+    return dict(pairs)
+
+
+def depth_of(text):
+    """How deep arrays and objects are nested, as far as the text is JSON."""
+    depth = most = 0
+    for token in re.findall(r'"(?:[^"\\]|\\.)*"?|[\[\]{}]', text, re.DOTALL):
+        depth += {"[": 1, "{": 1, "]": -1, "}": -1}.get(token, 0)
+        most = max(most, depth)
+    return most
+
+
+def read_json(text):
+    try:
+        text = text.decode()
+        if depth_of(text) > MAX_DEPTH:
+            raise ValueError("nested too deep")
+        hooks = {"parse_int": whole_number, "parse_float": broken_number, "parse_constant": no_constant}
+        found = json.loads(text, object_pairs_hook=object_of, **hooks)
+        no_half_pairs(found)
+        return found
+    except ValueError as error:
+        raise Fault("20 NotJson") from error
+
+
+def is_whole(value):
+    return isinstance(value, int) and not isinstance(value, bool)
+
+
+def is_row(row):
+    return isinstance(row, list) and len(row) == 3 and all(is_whole(it) for it in row)
+
+
+def has_graph_shape(found):
+    if not isinstance(found, dict) or set(found) != {"edges", "sink", "version", "vertices"}:
+        return False
+    if not all(is_whole(found[name]) for name in ("sink", "version", "vertices")):
+        return False
+    return isinstance(found["edges"], list) and all(is_row(row) for row in found["edges"])
+
+
+def read_graph(text):
+    graph = read_json(whole(text))
+    if not has_graph_shape(graph):
+        raise Fault("21 Shape")
+    if graph["version"] != 1:
+        raise Fault("22 Version")
+    check_graph(graph)
+    return graph
+
+
+def check_graph(graph):
+    vertices, sink, edges = graph["vertices"], graph["sink"], graph["edges"]
+    if not 1 <= vertices <= MAX_VERTICES:
+        raise Fault("1 Vertices")
+    if sink >= vertices:
+        raise Fault("2 Sink")
+    if len(edges) > MAX_EDGES:
+        raise Fault("3 EdgeCount")
+    for i, (tail, head, mult) in enumerate(edges):
+        if tail >= vertices or head >= vertices:
+            raise Fault(f"4 Endpoint {i}")
+        if not 1 <= mult <= MAX_MULT:
+            raise Fault(f"5 Mult {i}")
+        if tail == head:
+            raise Fault(f"6 Loop {i}")
+        if tail == sink:
+            raise Fault(f"7 FromSink {i}")
+    reached, new = {sink}, [sink]
+    while new:
+        new = list({tail for tail, head, _ in edges if head in new} - reached)
+        reached.update(new)
+    for v in range(vertices):
+        if v not in reached:
+            raise Fault(f"8 Unreached {v}")
+
+
+class Rows:
+    """Reads records of fields: commas between them, a line's end behind them, quotes, and nothing trimmed."""
+
+    def __init__(self):
+        self.records, self.fields, self.field = [], [], bytearray()
+        self.state = self.at_record
+
+    def end_field(self):
+        self.fields.append(bytes(self.field))
+        self.field.clear()
+
+    def end_record(self):
+        self.end_field()
+        self.records.append(self.fields)
+        self.fields = []
+        return self.at_record
+
+    def at_record(self, byte):
+        return self.at_record if byte in b"\r\n" else self.at_field(byte)
+
+    def at_field(self, byte):
+        return self.in_quotes if byte == b'"' else self.in_field(byte)
+
+    def in_field(self, byte):
+        if byte in b"\r\n":
+            return self.end_record()
+        if byte == b",":
+            self.end_field()
+            return self.at_field
+        self.field += byte
+        return self.in_field
+
+    def in_quotes(self, byte):
+        if byte == b'"':
+            return self.after_quote
+        self.field += byte
+        return self.in_quotes
+
+    def after_quote(self, byte):
+        if byte == b'"':
+            self.field += byte
+            return self.in_quotes
+        return self.in_field(byte)
+
+    def read(self, text):
+        for at in range(len(text)):
+            self.state = self.state(text[at : at + 1])
+        # (bound methods are new each time, so they are compared by value)
+        if self.state != self.at_record:
+            self.end_record()
+        return self.records
+
+
+def read_rows(text, header):
+    """The rows behind the header, each with as many fields, or a fault that says where that ends."""
+    text = whole(text)
+    records = Rows().read(text[3:] if text.startswith(b"\xef\xbb\xbf") else text)
+    if not records or records[0] != header:
+        raise Fault("23 Header")
+    for i, row in enumerate(records[1:]):
+        if len(row) != len(header):
+            raise Fault(f"24 Row {i}")
+        yield i, row
+
+
+def numbers(i, *fields):
+    if any(not re.fullmatch(rb"[0-9]{1,20}", field) or int(field) >= 2**64 for field in fields):
+        raise Fault(f"25 Number {i}")
+    return [int(field) for field in fields]
+
+
+def read_chips(text, graph):
+    found = {}
+    for i, row in read_rows(text, [b"vertex", b"chips"]):
+        vertex, chips = numbers(i, *row)
+        if vertex >= graph["vertices"]:
+            raise Fault(f"26 Vertex {i}")
+        if vertex in found:
+            raise Fault(f"27 Repeated {i}")
+        found[vertex] = chips
+    if sum(found.values()) > MAX_CHIPS:
+        raise Fault("10 Total")
+    return [found.get(v, 0) for v in range(graph["vertices"])]
+
+
+def read_schedule(text, graph):
+    events = []
+    all_edges = len(graph["edges"]) + graph["vertices"]
+    for i, (kind, *rest) in read_rows(text, [b"event", b"at", b"count"]):
+        if kind not in EVENTS_OF_VERTICES | EVENTS_OF_EDGES:
+            raise Fault(f"28 Kind {i}")
+        at, count = numbers(i, *rest)
+        if at >= (graph["vertices"] if kind in EVENTS_OF_VERTICES else all_edges):
+            raise Fault(f"26 Vertex {i}")
+        events.append((kind.decode(), at, count))
+    return events
+
+
+def read_traces(text, graph):
+    traces = [[] for _ in range(graph["vertices"])]
+    for i, (vertex, kind, *rest) in read_rows(text, [b"vertex", b"kind", b"edge", b"count"]):
+        if kind not in (b"take", b"fire"):
+            raise Fault(f"28 Kind {i}")
+        vertex, edge, count = numbers(i, vertex, *rest)
+        is_edge = kind == b"fire" or edge < len(graph["edges"]) + graph["vertices"]
+        if vertex >= graph["vertices"] or not is_edge:
+            raise Fault(f"26 Vertex {i}")
+        traces[vertex].append((kind.decode(), edge, count))
+    return traces
+
+
+def degrees(graph):
+    found = [0] * graph["vertices"]
+    for tail, _, mult in graph["edges"]:
+        found[tail] += mult
+    return found
+
+
+def play(graph, chips, limit):
+    """Fires until no vertex may; the chips are changed, and the counts and the vertices at the limit come back."""
+    degree, sink = degrees(graph), graph["sink"]
+    out = [[] for _ in chips]
+    for tail, head, mult in graph["edges"]:
+        out[tail].append((head, mult))
+    fired = [0] * len(chips)
+    movers = [v for v in range(len(chips)) if v != sink]
+    for _ in range(MAX_ROUNDS):
+        is_still = True
+        for v in movers:
+            times = min(chips[v] // degree[v], limit - fired[v])
+            if times:
+                is_still = False
+                fired[v] += times
+                chips[v] -= times * degree[v]
+                for head, mult in out[v]:
+                    chips[head] += times * mult
+        if is_still:
+            return fired, [v for v in movers if chips[v] >= degree[v]]
+    raise Unjudged
+
+
+def report_answer(graph, chips, limit, prior=None):
+    """The report of a play from these chips, of version 2 where there is something prior."""
+    fired, over = play(graph, chips, limit)
+    said = {"chips": chips, "closed": not over, "fired": fired, "over": over, "sealed": [], "version": 1}
+    if prior is not None:
+        said = {**said, "prior": prior, "version": 2}
+    text = json.dumps(said, separators=(",", ":"), sort_keys=True)
+    return Answer(f"{text}\n".encode(), status=2 if over else 0)
+
+
+NUMBER = rb"(?:0|[1-9][0-9]*)"
+LIST = rb"\[((?:%b(?:,%b)*)?)\]" % (NUMBER, NUMBER)
+REPORT = re.compile(
+    rb'\{"chips":%b,"closed":(true|false),"fired":%b,"over":%b(?:,"prior":%b)?,"sealed":%b,"version":([12])\}\n'
+    % ((LIST,) * 5)
+)
+
+
+def read_report(text):
+    """The chips and firings of a report, and what was fired before."""
+    found = REPORT.fullmatch(whole(text))
+    if not found:
+        raise Fault("50 NotReport")
+    chips, fired, over, prior, sealed = (listed(found[it]) for it in (1, 3, 4, 5, 6))
+    is_two = found[7] == b"2"
+    is_report = (
+        1 <= len(chips) <= MAX_VERTICES
+        and len(fired) == len(chips)
+        and max(chips + fired) <= MAX_CHIPS
+        and is_two == (found[5] is not None)
+        and (not is_two or (len(prior) == len(chips) and max(prior) <= MAX_PRIOR))
+        and all(it == sorted(set(it)) and it[-1:] < [len(chips)] for it in (over, sealed))
+        and not set(over) & set(sealed)
+        and (found[2] == b"true") == (not over and not sealed)
+    )
+    if not is_report:
+        raise Fault("50 NotReport")
+    return chips, fired, prior if is_two else [0] * len(chips)
+
+
+def listed(text):
+    return [int(it) for it in text.split(b",")] if text else []
+
+
+def resumed(graph, text, limit):
+    chips, fired, prior = read_report(text)
+    if len(chips) != graph["vertices"]:
+        raise Fault("52 Mismatch")
+    if sum(chips) > MAX_CHIPS:
+        raise Fault("10 Total")
+    before = [a + b for a, b in zip(prior, fired)]
+    for v, count in enumerate(before):
+        if count > MAX_PRIOR:
+            raise Fault(f"51 Prior {v}")
+    return report_answer(graph, chips, limit, before)
+
+
+class Replay:
+    """Takes the rows of traces one by one, as far as they fit."""
+
+    def __init__(self, graph, chips, traces, limit):
+        self.graph, self.traces, self.limit, self.degree = graph, traces, limit, degrees(graph)
+        self.edges = len(graph["edges"])
+        self.messages = [[] for _ in graph["edges"]] + [[it] if it else [] for it in chips]
+        self.taken = [0] * len(self.messages)
+        self.chips, self.fired, self.used = ([0] * len(chips) for _ in range(3))
+
+    def head(self, edge):
+        return self.graph["edges"][edge][1] if edge < self.edges else edge - self.edges
+
+    def next_of(self, v):
+        """How the next row of a vertex stands: `fits`, `wrong`, `waits` or, where there is none, `done`."""
+        if self.used[v] == len(self.traces[v]):
+            return "done"
+        kind, edge, count = self.traces[v][self.used[v]]
+        if kind == "fire":
+            is_met = v != self.graph["sink"] and count >= 1 and self.chips[v] >= count * self.degree[v]
+            return "fits" if is_met and self.fired[v] + count <= self.limit else "wrong"
+        if self.head(edge) != v:
+            return "wrong"
+        if self.taken[edge] == len(self.messages[edge]):
+            return "waits"
+        return "fits" if self.messages[edge][self.taken[edge]] == count else "wrong"
+
+    def use(self, v):
+        """Takes the next row of a vertex, which fits."""
+        kind, edge, count = self.traces[v][self.used[v]]
+        self.used[v] += 1
+        if kind == "take":
+            self.taken[edge] += 1
+            self.chips[v] += count
+            return
+        self.chips[v] -= count * self.degree[v]
+        self.fired[v] += count
+        for e, (tail, _, mult) in enumerate(self.graph["edges"]):
+            if tail == v:
+                self.messages[e].append(count * mult)
+
+    def use_all(self, is_whole=True):
+        """Takes rows as long as one fits, and names the row that is wrong, or left if all are to be taken."""
+        vertices = range(len(self.traces))
+        while any(self.next_of(v) == "fits" for v in vertices):
+            for v in vertices:
+                while self.next_of(v) == "fits":
+                    self.use(v)
+        for state in ("wrong", "waits") if is_whole else ("wrong",):
+            for v in vertices:
+                if self.next_of(v) == state:
+                    raise Fault(f"70 Stuck {v} {self.used[v]}")
+
+    def use_until_fire(self, v):
+        """Takes the rows of a vertex before its next firing, as far as they fit."""
+        while self.next_of(v) == "fits" and self.traces[v][self.used[v]][0] == "take":
+            self.use(v)
+
+
+def replayed(graph, chips, traces, limit):
+    Replay(graph, chips, traces, limit).use_all()
+    return Answer(lambda out: faults_of_firings(Replay(graph, chips, traces, limit), out))
+
+
+def faults_of_firings(replay, out):
+    """What is wrong with the lines of a replay: each must be the next firing of its vertex, when it may come."""
+    for line in out.splitlines(keepends=True):
+        found = re.fullmatch(rb"fire (%b) (%b)\n" % (NUMBER, NUMBER), line)
+        v, count = (int(found[1]), int(found[2])) if found else (0, 0)
+        if not found or v >= len(replay.traces):
+            return [f"no firing: {line!r}"]
+        replay.use_until_fire(v)
+        if replay.next_of(v) != "fits" or replay.traces[v][replay.used[v]][::2] != ("fire", count):
+            return [f"{line!r} comes where it does not fit, in {out!r}"]
+        replay.use(v)
+    for v in range(len(replay.traces)):
+        replay.use_until_fire(v)
+    left = [v for v in range(len(replay.traces)) if replay.next_of(v) != "done"]
+    return [f"rows of {left} are left after {out!r}"] if left else []

@@ -1,0 +1,278 @@
+"""The system around the program: streams closed or full, devices, folders, limits, signals, several programs."""
+import concurrent.futures
+import contextlib
+import itertools
+import json
+import os
+import random
+import re
+import signal
+import tempfile
+import threading
+import time
+
+from worked import NO_MEMORY, differences, fault_differences
+
+KIB, MIB = 1 << 10, 1 << 20
+# Sizes of all memory and of the stack, in KiB: too little for the loader, just about enough, plenty.
+SPACES = [1024, 2048, *range(2688, 3328, 64), 4096, 8192, 65536]
+STACKS = [16, 32, *range(64, 136, 8), 192, 256, 1024, 8192]
+CLOSE, DUP2, OPEN = os.POSIX_SPAWN_CLOSE, os.POSIX_SPAWN_DUP2, os.POSIX_SPAWN_OPEN
+
+
+def closed_streams(machine, worked):
+    """Files that are opened then get the numbers of standard streams, and nothing is written into them."""
+    for closed in itertools.chain.from_iterable(itertools.combinations(range(3), many) for many in (1, 2, 3)):
+
+        def faults(closed=closed):
+            ran = machine.run(worked.words, [(CLOSE, stream) for stream in closed])
+            if 1 in closed:
+                return worked.unwritten(ran, 2 not in closed)
+            return worked.unsaid(ran) if 2 in closed else worked.differences(ran)
+
+        yield f"{worked.name}: with streams {closed} closed", faults
+
+
+def pipe_without_reader():
+    reading, writing = os.pipe()
+    os.close(reading)
+    return writing
+
+
+def full_pipe():
+    """The writing end of a pipe that is full, and does not wait; its other end stays open."""
+    reading, writing = os.pipe2(os.O_NONBLOCK)
+    try:
+        while os.write(writing, bytes(4096)):
+            pass
+    except BlockingIOError:
+        return writing, reading
+
+
+STREAMS = {
+    "a pipe without a reader": lambda: (pipe_without_reader(),),
+    "a full pipe": full_pipe,
+    "a device without room": lambda: (os.open("/dev/full", os.O_WRONLY),),
+    "a file that is only read": lambda: (os.open("/dev/null", os.O_RDONLY),),
+    "a folder": lambda: (os.open("/", os.O_RDONLY),),
+}
+
+
+def useless_streams(machine, worked):
+    """Standard output or error is something that cannot be written."""
+    for name, make in STREAMS.items():
+        for stream, judge in ((1, worked.unwritten), (2, worked.unsaid)):
+
+            def faults(make=make, stream=stream, judge=judge):
+                files = make()
+                try:
+                    return judge(machine.run(worked.words, [(DUP2, files[0], stream)]))
+                finally:
+                    for file in files:
+                        os.close(file)
+
+            yield f"{worked.name}: stream {stream} is {name}", faults
+
+
+def size_limits(machine, worked):
+    """The output stops at the system's limit on the size of files."""
+    limit = KIB
+    for room in sorted({0, 1, len(worked.out) // 2, max(len(worked.out) - 1, 0), len(worked.out)}):
+
+        def faults(room=room):
+            with tempfile.NamedTemporaryFile(prefix="chipfire-hostile-") as file:
+                file.write(bytes(limit - room))
+                file.flush()
+                output = (OPEN, 1, file.name, os.O_WRONLY | os.O_APPEND, 0)
+                ran = machine.run_under(f"FSIZE={limit}", worked.words, [output])
+                with open(file.name, "rb") as written:
+                    ran.out = written.read()[limit - room :]
+            if room < len(worked.out):
+                return worked.faulted(ran, f"93 Write {room}", worked.out[:room])
+            return worked.differences(ran)
+
+        yield f"{worked.name}: a file with room for {room} bytes", faults
+
+
+def odd_files(machine, worked, room):
+    """A folder cannot be read, and a device without an end is too long; of files too many one cannot be opened."""
+    for place, path in worked.files():
+        for odd, fault in ((room, "29 Read"), ("/dev/zero", "30 TooLong"), ("/proc/self/mem", "29 Read")):
+
+            def faults(place=place, odd=odd, fault=fault):
+                words = [*worked.words[:place], odd, *worked.words[place + 1 :]]
+                return worked.faulted(machine.run(words), fault)
+
+            yield f"{worked.name}: {odd} in place of {os.path.basename(path)}", faults
+    for number, (place, _) in enumerate(worked.files()[1:], 1):
+
+        def faults(number=number, place=place):
+            return worked.faulted(machine.run_under(f"NOFILE={3 + number}", worked.words), f"92 Open {place}")
+
+        yield f"{worked.name}: {number} files may be open", faults
+
+
+def is_unstarted(ran):
+    """Whether the system or its loader ended the program, with nothing of its own written."""
+    by_signal = ran.status in (-signal.SIGSEGV, -signal.SIGKILL, -signal.SIGBUS)
+    return ran.out == b"" and b"chipfire: fault" not in ran.err and (by_signal or ran.status == 127)
+
+
+def small_spaces(machine, worked):
+    """In little memory or on a small stack it answers, says that memory ran out, or is ended with nothing written."""
+    for limit, sizes, enough in (("AS", SPACES, 65536), ("STACK", STACKS, 1024)):
+        for size in sizes:
+
+            def faults(limit=limit, size=size, enough=enough):
+                ran = machine.run_under(f"{limit}={size * KIB}", worked.words)
+                if size >= enough:
+                    return worked.differences(ran)
+                return [] if is_unstarted(ran) else worked.differences_or_fault(ran)
+
+            yield f"{worked.name}: {limit} of {size} KiB", faults
+
+
+def several_at_once(machine, worked):
+    """Programs on the same files do not disturb each other."""
+
+    def faults():
+        with concurrent.futures.ThreadPoolExecutor(8) as pool:
+            return [it for ran in pool.map(machine.run, [worked.words] * 8) for it in worked.differences(ran)]
+
+    yield f"{worked.name}: eight at once", faults
+
+
+def trickle(path, text, process):
+    """Writes a text into a pipe byte by byte, and stops and continues the process meanwhile, until that is gone."""
+    with contextlib.suppress(BrokenPipeError, ProcessLookupError), open(path, "wb", buffering=0) as pipe:
+        for at in range(len(text)):
+            pipe.write(text[at : at + 1])
+            if at % 20 == 0:
+                signal.pidfd_send_signal(process, signal.SIGSTOP)
+                time.sleep(0.001)
+                signal.pidfd_send_signal(process, signal.SIGCONT)
+
+
+def slow_pipes(machine, worked):
+    """Files that come byte by byte from pipes, while the program is stopped and goes on, are the files all the same."""
+
+    def faults():
+        with tempfile.TemporaryDirectory(prefix="chipfire-hostile-") as room:
+            words, pipes = list(worked.words), []
+            for (place, _), text in zip(worked.files(), worked.bytes_of_files()):
+                words[place] = f"{room}/{place}"
+                os.mkfifo(words[place])
+                pipes.append((words[place], text))
+            begun = machine.start(words)
+            process = os.pidfd_open(begun.process)
+            # (each is opened for writing only once the program opens it, and all are opened before one is read)
+            for pipe in pipes:
+                threading.Thread(target=trickle, args=(*pipe, process), daemon=True).start()
+            found = worked.differences(begun.end())
+            os.close(process)
+            return found
+
+    if worked.files():
+        yield f"{worked.name}: slow pipes, stopped at times", faults
+
+
+def read_some(pipe, count):
+    """So many bytes of a pipe, or all until its end."""
+    found = b""
+    while len(found) < count and (some := os.read(pipe, min(4096, count - len(found)))):
+        found += some
+    return found
+
+
+def leaving_readers(machine, reference):
+    """The reader of a long output goes away in its midst: what went out till then is right, and its length is told."""
+    edges = [[vertex, vertex - 1, 1] for vertex in range(1, 4096)]
+    text = json.dumps({"edges": edges, "sink": 0, "version": 1, "vertices": 4096}).encode()
+    whole = reference.answer("check", [text]).out
+    # (a pipe holds 65,536 bytes, and more than these are still to come)
+    for count in (0, 1, 4096, 65_536, 70_000, len(whole) + 1):
+
+        def faults(count=count):
+            reading, writing = os.pipe()
+            with tempfile.NamedTemporaryFile(prefix="chipfire-hostile-") as file:
+                file.write(text)
+                file.flush()
+                begun = machine.start(["check", file.name], actions=[(DUP2, writing, 1)])
+                os.close(writing)
+                read = read_some(reading, count)
+                os.close(reading)
+                ran = begun.end()
+            if count > len(whole):
+                return differences(ran, b"", b"", 0) or ([] if read == whole else ["another output"])
+            told = re.fullmatch(rb"chipfire: fault 93 Write ([0-9]+)\n", ran.err)
+            is_well = told and count <= int(told[1]) < len(whole) and ran.status == 1 and read == whole[:count]
+            return [] if is_well else [f"after {count} bytes: {ran.err!r} and status {ran.status}"]
+
+        yield f"a reader that leaves after {count} of {len(whole)} bytes", faults
+
+
+def with_long_graph(worked, file):
+    """The words of a run whose graph is this file, made as long as it may be."""
+    place, path = worked.files()[0]
+    with open(path, "rb") as graph:
+        file.write(graph.read().ljust(16 * MIB))
+    file.flush()
+    return [*worked.words[:place], file.name, *worked.words[place + 1 :]]
+
+
+def killed(machine, worked, seed):
+    """Ended from outside, as it reads a long file or its threads share a processor, it has written nothing, or all."""
+
+    def faults():
+        with tempfile.NamedTemporaryFile(prefix="chipfire-hostile-") as file:
+            if worked.threads:
+                begun = machine.start(worked.words, limits="CORES=1")
+            else:
+                begun = machine.start(with_long_graph(worked, file))
+            time.sleep(random.Random(seed).uniform(0, 0.08))
+            os.kill(begun.process, signal.SIGTERM)
+            ran = begun.end()
+        is_ended = not differences(ran, b"", b"", -signal.SIGTERM)
+        return worked.trace_faults(ran) if is_ended else worked.differences(ran)
+
+    yield f"{worked.name}: ended at moment {seed}", faults
+
+
+def many_words(machine):
+    """Far too many words, or a long one, are told as any other."""
+    many = ["plain"] * 100_000
+    yield "100,000 words", lambda: fault_differences(machine.run(many), "91 Usage")
+    long = ["plain", "x" * 100_000, "y"]
+    yield "a name of 100,000 letters", lambda: fault_differences(machine.run(long), "92 Open 1")
+
+
+def wide_texts(machine):
+    """16 MiB of small values need much memory, and where there is less it says so: no other fault comes instead."""
+    nested = b'{"":' * 120 + b"0" + b"}" * 120 + b","
+    for name, piece in (("objects", b'{"":0},'), ("lists", b"[],"), ("numbers", b"0,"), ("nested objects", nested)):
+
+        def faults(piece=piece):
+            with tempfile.NamedTemporaryFile(prefix="chipfire-hostile-") as file:
+                file.write(b"[" + piece * ((16 * MIB - 3) // len(piece)) + b"0]")
+                file.flush()
+                ran = machine.run_under(f"AS={256 * MIB}", ["check", file.name])
+            return fault_differences(ran, NO_MEMORY) and fault_differences(ran, "21 Shape")
+
+        yield f"16 MiB of {name} in 256 MiB", faults
+
+
+def tests(machine, reference, runs, kills):
+    for worked in runs:
+        yield from closed_streams(machine, worked)
+        yield from useless_streams(machine, worked)
+        yield from size_limits(machine, worked) if not worked.fault else ()
+        yield from odd_files(machine, worked, machine.room)
+        yield from small_spaces(machine, worked)
+        yield from several_at_once(machine, worked)
+        yield from slow_pipes(machine, worked)
+    for worked in [runs[0], *(it for it in runs if it.threads)]:
+        for seed in range(kills):
+            yield from killed(machine, worked, seed)
+    yield from leaving_readers(machine, reference)
+    yield from many_words(machine)
+    yield from wide_texts(machine)

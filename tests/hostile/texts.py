@@ -1,0 +1,57 @@
+"""Random games with mutated files: the answer, or the first fault, must be the model's."""
+import contextlib
+import random
+import tempfile
+
+import launch
+import model
+import mutate
+
+NAMES = {
+    "check": ["graph.json"],
+    "plain": ["graph.json", "chips.csv"],
+    "simulate": ["graph.json", "chips.csv", "schedule.csv"],
+    "replay": ["graph.json", "chips.csv", "trace.csv"],
+    "resume": ["graph.json", "report.json"],
+}
+
+
+def options_of(command, draw):
+    """Options of a command at random, by their names."""
+    options = {}
+    if command != "check" and draw.random() < 0.5:
+        options["limit"] = draw.choice([0, 1, 2, 5, 1 << 40])
+    if command == "simulate":
+        options.update(ring=draw.choice([1, 1, 2, 3, 64]), rounds=draw.choice([0, 1, 3, 50]))
+    return options
+
+
+def judged(reference, draw):
+    """A command at random, its files, mutated, its options, and the answer that must come."""
+    while True:
+        command = draw.choice(mutate.COMMANDS)
+        files = mutate.mutated(mutate.random_files(command, draw, model.Replay), draw)
+        options = options_of(command, draw)
+        with contextlib.suppress(model.Unjudged):
+            return command, files, options, reference.answer(command, files, **options)
+
+
+def run_of(program, reference, seed):
+    """What is wrong with the answer to the files of this seed."""
+    command, files, options, wanted = judged(reference, random.Random(seed))
+    with tempfile.TemporaryDirectory(prefix="chipfire-hostile-") as room:
+        paths = [f"{room}/{name}" for name in NAMES[command]]
+        for path, text in zip(paths, files):
+            with open(path, "wb") as file:
+                file.write(text)
+        given = [word for name, value in options.items() for word in (f"--{name}", str(value))]
+        ran = launch.start([program, command, *paths, *given]).end()
+    found = wanted.differences(ran.out, ran.err, ran.status)
+    return [f"chipfire {command} {given} on {files}", *found] if found else []
+
+
+def tests(program, reference, count):
+    """So many tests, each a name and what finds its faults."""
+    for number in range(count):
+        seed = f"mutated files {number}"
+        yield seed, lambda seed=seed: run_of(program, reference, seed)

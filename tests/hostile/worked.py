@@ -1,0 +1,141 @@
+"""Runs with answers from outside: those that lie under examples/, which tests/cli/run compares with the scripts there.
+
+A command is one more line of `worked_runs`. Words that end as files do are taken from examples/; the word `TRACE` is a
+file of traces that the run writes.
+"""
+import dataclasses
+
+import model
+
+NO_MEMORY = "90 NoMemory"
+FILE_ENDS = (".json", ".csv")
+TRACE = "{trace}"
+TRACE_HEADER = b"vertex,kind,edge,count\n"
+
+
+@dataclasses.dataclass
+class Worked:
+    """A run with its answer; `also` are the faults that may come in its place where the system refuses something."""
+
+    name: str
+    words: list
+    out: bytes = b""
+    status: int = 0
+    fault: str = ""
+    also: tuple = (NO_MEMORY,)
+    # Whether it makes the same calls in every run, and how many threads it starts.
+    is_steady: bool = True
+    threads: int = 0
+
+    def files(self):
+        """The files of the run, each with its number among the arguments behind the command."""
+        return [(at, word) for at, word in enumerate(self.words) if word.endswith(FILE_ENDS)]
+
+    def opens(self):
+        """The numbers of the arguments that are opened, in their order: the file of traces is the last one."""
+        return [at for at, _ in self.files()] + [at for at, word in enumerate(self.words) if word == TRACE]
+
+    def bytes_of_files(self):
+        found = []
+        for _, path in self.files():
+            with open(path, "rb") as file:
+                found.append(file.read())
+        return found
+
+    def options(self):
+        """The numbers among the options of the run, by the names of the options."""
+        pairs = zip(self.words, self.words[1:])
+        return {word[2:]: int(value) for word, value in pairs if word.startswith("--") and value.isdigit()}
+
+    def line(self):
+        return line_of(self.fault) if self.fault else b""
+
+    def differences(self, ran):
+        """What of a finished run is not its answer."""
+        found = differences(ran, self.out, self.line(), self.status)
+        return found or self.trace_faults(ran, is_whole=not self.fault)
+
+    def faulted(self, ran, fault, out=b""):
+        """What of a finished run is not this fault, with these bytes on its output."""
+        return differences(ran, out, line_of(fault), 1) or self.trace_faults(ran)
+
+    def differences_or_fault(self, ran):
+        """The same, where one of the other faults may come instead."""
+        if any(not self.faulted(ran, fault) for fault in self.also):
+            return []
+        return self.differences(ran)
+
+    def unwritten(self, ran, has_errors=True):
+        """What of a finished run is wrong where its output could not be written, nor its errors if so said."""
+        line = self.line() or line_of("93 Write 0")
+        return differences(ran, b"", line if has_errors else b"", 1) or self.trace_faults(ran)
+
+    def unsaid(self, ran):
+        """What of a finished run is wrong where nothing could be written to its errors."""
+        return differences(ran, self.out, b"", self.status) or self.trace_faults(ran, is_whole=not self.fault)
+
+    def trace_faults(self, ran, is_whole=False):
+        """What of the traces that a run left is no beginning of true ones, or not the whole of them if so said."""
+        if TRACE not in self.words or not (ran.trace or is_whole):
+            return []
+        text = ran.trace or b""
+        lines = text[: text.rfind(b"\n") + 1]
+        if not (lines.startswith(TRACE_HEADER) or TRACE_HEADER.startswith(text)) or (is_whole and text != lines):
+            return [f"these are no traces: {text!r}"]
+        graph_text, chips_text = self.bytes_of_files()[:2]
+        graph = model.read_graph(graph_text)
+        try:
+            traces = model.read_traces(lines or TRACE_HEADER, graph)
+            limit = self.options().get("limit", model.MAX_CHIPS)
+            replay = model.Replay(graph, model.read_chips(chips_text, graph), traces, limit)
+            replay.use_all(is_whole)
+        except model.Fault as fault:
+            return [f"traces of a run are {fault}: {text!r}"]
+        fired = b'"fired":%b' % str(replay.fired).replace(" ", "").encode()
+        return [f"the firings of {text!r} are not those of the report"] if is_whole and fired not in ran.out else []
+
+
+def line_of(fault):
+    return f"chipfire: fault {fault}\n".encode()
+
+
+def differences(ran, out, err, status):
+    """What of a finished run is not as it must be."""
+    found, wanted = (ran.out, ran.err, ran.status), (out, err, status)
+    return [] if found == wanted else [f"expected {wanted}, got {found}"]
+
+
+def fault_differences(ran, fault):
+    """What of a finished run is not this fault, with nothing on its output."""
+    return differences(ran, b"", line_of(fault), 1)
+
+
+def worked_runs(examples):
+    """All the runs, with their files in this folder."""
+
+    def run(name, words, answer=None, **more):
+        words = [f"{examples}/{word}" if word.endswith(FILE_ENDS) else word for word in words.split()]
+        if answer:
+            with open(f"{examples}/{answer}", "rb") as file:
+                more["out"] = file.read()
+        return Worked(name, words, **more)
+
+    triangle = "triangle/graph.json triangle/chips.csv"
+    return [
+        run("small triangle", f"plain {triangle}", "triangle/report.json"),
+        run("no words", "", "triangle/report.json"),
+        run("graph of the chain", "check chain/graph.json", "chain/check.txt"),
+        run("first sitting", "plain triangle/graph.json sittings/chips.csv --limit 1", "sittings/first.json", status=2),
+        run("last sitting", "resume triangle/graph.json sittings/second.json", "sittings/third.json"),
+        run(
+            "sealed half way",
+            f"simulate {triangle} detector/sealed-half-way.csv --rounds 10",
+            "detector/sealed-half-way.txt",
+            status=2,
+        ),
+        run("left open", f"simulate {triangle} detector/left-open.csv", "detector/left-open.txt", status=3),
+        run("replayed run", f"replay {triangle} triangle/trace.csv", out=b"fire 0 2\nfire 1 1\n"),
+        run("chips that are a graph", "plain triangle/graph.json chain/graph.json", fault="23 Header", status=1),
+        run("a report that is a graph", "resume triangle/graph.json chain/graph.json", fault="50 NotReport", status=1),
+        run("no command", "spin", fault="91 Usage", status=1),
+    ]

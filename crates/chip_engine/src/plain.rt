@@ -45,7 +45,7 @@ fn played(alloc: Global, game: &Game) -> Result<(Vec<u8>, u8), AllocError>
 }
 
 /// The exit status that tells whether some vertex halted.
-pub(crate) fn status_of(outcome: &Outcome) -> u8
+pub fn status_of(outcome: &Outcome) -> u8
     ensures { result ≡ plain_status outcome.now }
 {
     if is_closed(outcome) { DONE } else { HALTED }

@@ -37,9 +37,13 @@ IsCrewFault g plan f = (e : CrewFault) × IsFaultOf g plan e × (f ≡ fault_of_
 abbrev pub IsRecordFault : Bool → Fault → Type 0
 IsRecordFault asked f = (f ≡ fault.NoMemory) ⊎ ((asked ≡ true) × (f ≡ fault.WriteTrace))
 
--- why no report is written of a game: its crew didn't finish, there is no memory, or the trace was not written
+-- why a game has no report: its crew didn't finish, or there is no memory for it
+abbrev pub IsNotPlayed : ChipGame → Plan → Fault → Type 0
+IsNotPlayed g plan f = IsCrewFault g plan f ⊎ (f ≡ fault.NoMemory)
+
+-- why no report is written of a game: it has none, or the trace was not written
 abbrev pub IsNotReported : ChipGame → Plan → Bool → Fault → Type 0
-IsNotReported g plan asked f = IsCrewFault g plan f ⊎ IsRecordFault asked f
+IsNotReported g plan asked f = IsNotPlayed g plan f ⊎ IsRecordFault asked f
 
 -- what `run` answers: the report of the game that the inputs mean, which is the plain player's; or nothing is written of
 -- it, since the inputs are refused or for one of the reasons above; or the output failed

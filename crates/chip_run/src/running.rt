@@ -1,10 +1,10 @@
 //! The engine.
 
-ghost use Rattle.std.specs.Prelude.{◌≡◌, false, is_some, IfOk, IfErr};
+ghost use Rattle.std.specs.Prelude.{◌≡◌, is_some, IfOk, IfErr};
 ghost use Rattle.std.specs.Option.{ForSome};
 ghost use Rattle.chip_report.specs.ReportText.{report_text};
 ghost use Rattle.chip_engine.specs.PlainCommand.{Reports, plain_status};
-ghost use Rattle.chip_run.specs.RunCommand.{RunAnswers, IsNotReported, plan_of};
+ghost use Rattle.chip_run.specs.RunCommand.{RunAnswers, IsNotPlayed, plan_of};
 
 use crate::recording::recorded;
 use chip_crew::{CrewFault, Finished, Gate, Plan, run};
@@ -88,7 +88,7 @@ fn played<R: Threads + Wait + Sync>(
     plan: Plan,
 ) -> Result<Played, Fault>
     ensures played { IfOk result (λ p. Reports game.now p.text.items p.status) }
-    ensures fault { IfErr result (IsNotReported game.now plan false) }
+    ensures fault { IfErr result (IsNotPlayed game.now plan) }
 {
     match run(rt, alloc, game, plan, &Always) {
         Ok(finished) => Ok(reported(alloc, finished)?),

@@ -1,12 +1,20 @@
 //! The arguments of the program, and what they ask for.
 
 use crate::help_texts as texts;
+use chip_crew::{MAX_TRACE_ROWS, MAX_TURNS, MAX_WORKERS};
 use chip_engine::Fault;
 use chip_graph::MAX_LIMIT;
 use chip_link::Ring;
 use clap::error::ErrorKind;
 use clap::{Arg, ArgAction, ArgMatches, Command, value_parser};
 use std::alloc::{AllocError, Global};
+
+/// How many threads play where it is not said.
+const WORKERS: u64 = 2;
+/// How many turns each makes at most where it is not said.
+const TURNS: u64 = 1 << 30;
+/// How many trace rows of each vertex there is room for where it is not said.
+const TRACE_ROWS: u64 = 1024;
 
 /// The most rounds that follow a schedule.
 const MAX_ROUNDS: u64 = 1 << 40;
@@ -41,6 +49,21 @@ pub struct SimulationArguments<'a> {
     pub books: bool,
 }
 
+/// A play on threads that the arguments ask for.
+#[derive(Clone, Copy)]
+pub struct RunArguments<'a> {
+    pub game: GameArguments<'a>,
+    pub ring: Ring,
+    /// How many threads, 1 to 64.
+    pub workers: u64,
+    /// How many turns each of them makes at most, 1 to 2^40.
+    pub turns: u64,
+    /// The file of the trace, if one is asked for.
+    pub trace: Option<FileArgument<'a>>,
+    /// For how many rows of each vertex there is room in it, up to 2^20.
+    pub trace_rows: u64,
+}
+
 /// A play to go on with that the arguments name: its files, and how often each vertex may fire in this sitting.
 #[derive(Clone, Copy)]
 pub struct SittingArguments<'a> {
@@ -58,6 +81,7 @@ pub enum Request<'a> {
     Check(FileArgument<'a>),
     Plain(GameArguments<'a>),
     Simulate(SimulationArguments<'a>),
+    Run(RunArguments<'a>),
     /// The game, and the file of the traces.
     Replay(GameArguments<'a>, FileArgument<'a>),
     Resume(SittingArguments<'a>),
@@ -92,6 +116,7 @@ fn request_of<'a>(matches: &ArgMatches<'a>, arguments: &[String]) -> Result<Requ
             rounds: found.get_one::<u64>("rounds").unwrap_or(0),
             books: found.get_flag("books"),
         })),
+        "run" => Ok(Request::Run(run_of(found, arguments)?)),
         "replay" => Ok(Request::Replay(
             game_of(found, arguments)?,
             file_of(found, "TRACE", arguments, 2)?,
@@ -104,6 +129,40 @@ fn request_of<'a>(matches: &ArgMatches<'a>, arguments: &[String]) -> Result<Requ
         "explain" => Ok(Request::Explain(found.get_one::<u64>("NUMBER"))),
         _ => Err(Fault::Usage),
     }
+}
+
+/// The play on threads that the arguments ask for.
+fn run_of<'a>(found: &ArgMatches<'a>, arguments: &[String]) -> Result<RunArguments<'a>, Fault> {
+    let trace = match found.get_str("trace") {
+        Some(path) => Some(FileArgument {
+            path,
+            number: value_number_of(arguments, "--trace").ok_or(Fault::Usage)?,
+        }),
+        None => None,
+    };
+    let rows_by_default = if trace.is_some() { TRACE_ROWS } else { 0 };
+    Ok(RunArguments {
+        game: game_of(found, arguments)?,
+        ring: ring_of(found)?,
+        workers: found.get_one::<u64>("workers").unwrap_or(WORKERS),
+        turns: found.get_one::<u64>("turns").unwrap_or(TURNS),
+        trace,
+        trace_rows: found
+            .get_one::<u64>("trace-rows")
+            .unwrap_or(rows_by_default),
+    })
+}
+
+/// The number of the argument that has the value of this option, which may stand behind it or in it.
+fn value_number_of(arguments: &[String], option: &str) -> Option<u64> {
+    for (index, argument) in arguments.iter().enumerate().skip(2) {
+        match argument.as_str().strip_prefix(option) {
+            Some("") => return Some(index as u64),
+            Some(rest) if rest.starts_with('=') => return Some(index as u64 - 1),
+            _ => {}
+        }
+    }
+    None
 }
 
 /// The game that a command's arguments name.
@@ -177,6 +236,7 @@ fn program<'a>(alloc: Global) -> Result<Command<'a>, AllocError> {
         .subcommand_required(true)
         .subcommand(check(alloc)?)?
         .subcommand(plain(alloc)?)?
+        .subcommand(run(alloc)?)?
         .subcommand(simulate(alloc)?)?
         .subcommand(replay(alloc)?)?
         .subcommand(resume(alloc)?)?
@@ -200,6 +260,22 @@ fn plain<'a>(alloc: Global) -> Result<Command<'a>, AllocError> {
         texts::PLAIN,
     )?
     .arg(limit(alloc))
+}
+
+/// The command that plays a game on threads.
+fn run<'a>(alloc: Global) -> Result<Command<'a>, AllocError> {
+    game(
+        alloc,
+        "run",
+        "Plays a game on threads and writes its report, which is that of plain",
+        texts::RUN,
+    )?
+    .arg(limit(alloc))?
+    .arg(ring(alloc))?
+    .arg(workers(alloc))?
+    .arg(turns(alloc))?
+    .arg(trace(alloc))?
+    .arg(trace_rows(alloc))
 }
 
 /// The command that runs a schedule.
@@ -313,4 +389,39 @@ fn books<'a>(alloc: Global) -> Arg<'a> {
         .long("books")
         .action(ArgAction::SetTrue)
         .help("Writes the books of the detector behind each reply: deficits, parents, what is owed")
+}
+
+/// How many threads play.
+fn workers<'a>(alloc: Global) -> Arg<'a> {
+    Arg::new(alloc, "workers")
+        .long("workers")
+        .value_name("W")
+        .help("How many threads share the vertices, 1 to 64 [default: 2]")
+        .value_parser(value_parser!(u64).range(1..=MAX_WORKERS as i64))
+}
+
+/// How many turns each thread makes at most.
+fn turns<'a>(alloc: Global) -> Arg<'a> {
+    Arg::new(alloc, "turns")
+        .long("turns")
+        .value_name("N")
+        .help("How many turns each thread makes at most, 1 to 2^40 [default: 2^30]")
+        .value_parser(value_parser!(u64).range(1..=MAX_TURNS as i64))
+}
+
+/// The file into which the trace goes.
+fn trace<'a>(alloc: Global) -> Arg<'a> {
+    Arg::new(alloc, "trace")
+        .long("trace")
+        .value_name("FILE")
+        .help("Writes what each vertex took and fired into this file, for `replay`")
+}
+
+/// For how many rows of each vertex there is room in the trace.
+fn trace_rows<'a>(alloc: Global) -> Arg<'a> {
+    Arg::new(alloc, "trace-rows")
+        .long("trace-rows")
+        .value_name("K")
+        .help("How many rows of each vertex are recorded, 0 to 2^20 [default: 1024 with --trace]")
+        .value_parser(value_parser!(u64).range(0..=MAX_TRACE_ROWS as i64))
 }

@@ -23,6 +23,19 @@ report names under \"over\"; 1 a fault, which `chipfire explain N` explains.
 
 Example: chipfire plain graph.json chips.csv --limit 1000 >report.json";
 
+pub const RUN: &str = "\
+The report is the same to the byte for every number of threads and every ring: they change
+how long it takes and nothing else. Small games are quickest on one thread, large ones on
+as many as the machine has cores; a ring of a few cells lets a vertex send on before its
+last message was taken. The trace is written first; where it was cut, a line on standard
+error says so, and such a trace need not replay.
+
+Exit status: 0 no vertex can fire any more; 2 the limit stopped some vertex, which the
+report names under \"over\"; 3 the turns did not suffice; 1 another fault, which
+`chipfire explain N` explains.
+
+Example: chipfire run graph.json chips.csv --workers 4 --trace trace.csv >report.json";
+
 pub const SIMULATE: &str = "\
 Exit status: 0 the root closed and no vertex halted; 2 the root closed and some vertex
 halted, which the report names; 3 the root is open; 1 a fault, which `chipfire explain N`

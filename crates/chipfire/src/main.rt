@@ -4,15 +4,20 @@
 //! writes. The program reads the arguments, opens the files that they name and calls the engine.
 #![tactic(auto)]
 
-use arguments::{FileArgument, GameArguments, Request, SimulationArguments, SittingArguments};
+use arguments::{
+    FileArgument, GameArguments, Request, RunArguments, SimulationArguments, SittingArguments,
+};
 pub use chip_engine::{
     DONE, Ended, Fault, check_engine, explain_engine, plain_engine, replay_engine, resume_engine,
     simulate_engine,
 };
 use chip_graph::MAX_LIMIT;
 use chip_report::write_all_of;
+pub use chip_run::run_engine;
 use std::process::ExitCode;
 use std::rt::{Env, Files};
+use std::sync::Wait;
+use std::thread::Threads;
 use std::{env, fs, io};
 
 mod arguments;
@@ -26,17 +31,22 @@ const FOUR_CHIPS: &str = "vertex,chips\n0,4\n";
 
 fn main(rt: HostRuntime) -> ExitCode {
     match run(&rt) {
-        Ok(ended) => ExitCode::from(ended.status),
+        Ok(ended) => {
+            if ended.cut {
+                let _ = eprintln!(&rt; "chipfire: trace cut");
+            }
+            ExitCode::from(ended.status)
+        }
         Err(fault) => {
             // Where even this cannot be written, the status still tells.
             let _ = eprintln!(&rt; "chipfire: {fault}");
-            ExitCode::from(1)
+            ExitCode::from(fault.status())
         }
     }
 }
 
 /// Does what the arguments ask for.
-fn run<R: Env + Files + Print + AllocGlobal>(rt: &R) -> Result<Ended, Fault> {
+fn run<R: Env + Files + Print + AllocGlobal + Threads + Wait + Sync>(rt: &R) -> Result<Ended, Fault> {
     let alloc = rt.alloc();
     let arguments: Vec<String> = env::args(rt).map_err(fault_of_arguments)?.collect(alloc)?;
     let mut output = io::writer(rt);
@@ -49,6 +59,7 @@ fn run<R: Env + Files + Print + AllocGlobal>(rt: &R) -> Result<Ended, Fault> {
         Request::Check(graph) => check_engine(alloc, &mut open(rt, graph)?, &mut output),
         Request::Plain(game) => play(rt, game, &mut output),
         Request::Simulate(asked) => simulate(rt, asked, &mut output),
+        Request::Run(asked) => play_on_threads(rt, asked, &mut output),
         Request::Replay(game, trace) => replay(rt, game, trace, &mut output),
         Request::Resume(sitting) => resume(rt, sitting, &mut output),
         Request::Explain(number) => explain_engine(alloc, number, &mut output),
@@ -64,6 +75,33 @@ fn play<R: Files + AllocGlobal, W: io::Write>(
     let mut graph = open(rt, game.graph)?;
     let mut chips = open(rt, game.chips)?;
     plain_engine(rt.alloc(), &mut graph, &mut chips, game.limit, output)
+}
+
+/// Plays a game on threads.
+fn play_on_threads<R: Files + AllocGlobal + Threads + Wait + Sync, W: io::Write>(
+    rt: &R,
+    asked: RunArguments<'_>,
+    output: &mut W,
+) -> Result<Ended, Fault> {
+    let mut graph = open(rt, asked.game.graph)?;
+    let mut chips = open(rt, asked.game.chips)?;
+    let mut trace = match asked.trace {
+        Some(file) => Some(create(rt, file)?),
+        None => None,
+    };
+    run_engine(
+        rt,
+        rt.alloc(),
+        &mut graph,
+        &mut chips,
+        asked.game.limit,
+        asked.ring.cells(),
+        asked.workers,
+        asked.turns,
+        asked.trace_rows,
+        trace.as_mut(),
+        output,
+    )
 }
 
 /// Runs a schedule.
@@ -123,6 +161,22 @@ fn resume<R: Files + AllocGlobal, W: io::Write>(
 /// not be opened.
 fn open<R: Files>(rt: &R, file: FileArgument<'_>) -> Result<R::File, Fault> {
     fs::open(rt, file.path).map_err(|_| Fault::Open(file.number))
+}
+
+/// Makes the file that an argument names anew.
+///
+/// A file gets the first number that is free, which may be that of a standard stream that is closed. Then a fault's
+/// line would go into it, so three other files have those numbers meanwhile.
+fn create<R: Files>(rt: &R, file: FileArgument<'_>) -> Result<R::File, Fault> {
+    let _first = no_file(rt, file)?;
+    let _second = no_file(rt, file)?;
+    let _third = no_file(rt, file)?;
+    fs::create(rt, file.path).map_err(|_| Fault::Open(file.number))
+}
+
+/// A file in which there is nothing, in the place of one that an argument names.
+fn no_file<R: Files>(rt: &R, file: FileArgument<'_>) -> Result<R::File, Fault> {
+    fs::open(rt, "/dev/null").map_err(|_| Fault::Open(file.number))
 }
 
 /// Why there are no arguments: there is no memory for them, or one is no UTF-8.

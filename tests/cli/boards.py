@@ -1,7 +1,7 @@
 """Random schedules with the books of the detector behind each reply.
 
-The games are small and drawn at random, and so are the events, those of a turn more often than others. What must come is
-known from examples/simulate.py, which shares nothing with the program: each reply, and the board behind it.
+The games are small and drawn at random, and so are the events, those of a turn more often than others. What must come
+is known from examples/simulate.py, which shares nothing with the program: each reply, and the board behind it.
 """
 import json
 import random

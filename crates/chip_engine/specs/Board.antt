@@ -20,7 +20,7 @@ books_text v parent deficit =
     codes "  vertex " ++ decimal v ++ codes " parent " ++ decimal parent
     ++ codes " deficit " ++ decimal deficit ++ codes " owes"
 
--- the line of a vertex that is engaged by this edge, with what it owes, on its root edge last; a neutral vertex has none
+-- the line of a vertex that is engaged by this edge, with what it owes, on its root edge last; a neutral one has none
 abbrev pub vertex_line : Setting → Log → ℕ → Option ℕ → List ℕ
 vertex_line g log v None = []
 vertex_line g log v (Some parent) =

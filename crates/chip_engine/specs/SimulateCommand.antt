@@ -74,7 +74,8 @@ EndsBy g log (Unfinished rounds) end status = (end ≡ codes "root open\n") × (
 
 -- the text and the status of a simulation: the replies to the events from the opening on, with the books or without, at
 -- most so many rounds, and the end
-pub record Simulates (g : Setting) (rounds : ℕ) (books : Bool) (events : List Event) (text : List ℕ) (status : ℕ) : Type 0 where
+pub record Simulates (g : Setting) (rounds : ℕ) (books : Bool) (events : List Event) (text : List ℕ)
+    (status : ℕ) : Type 0 where
   pub after : Log
   pub drive : Drive
   pub driven : IsDrive g rounds (log_after g [] events) after drive

@@ -61,7 +61,8 @@ fn simulated(
     rounds: u64,
     books: bool,
 ) -> Result<(Vec<u8>, u8), Fault>
-    ensures ok { IfOk result (λ made. Simulates (setting_of game.now ring) rounds books events.now made.0.items made.1) }
+    ensures ok { IfOk result
+        (λ made. Simulates (setting_of game.now ring) rounds books events.now made.0.items made.1) }
     ensures err { IfErr result (λ fault. fault ≡ NoMemory) }
 {
     let (mut world, mut text) = scheduled(alloc, game, events, ring, books)?;

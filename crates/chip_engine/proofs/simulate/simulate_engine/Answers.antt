@@ -13,8 +13,8 @@ use Rattle.chip_engine.proofs.simulate.simulate_engine.Goals as goal
 
 pub returns-in_err-game : goal.returns-in_err-game
 returns-in_err-game g c = λ graph_text graph_is chips_text chips_is schedule_text schedule_is.
-    refused_simulate graph_text chips_text schedule_text c.args.limit c.args.ring c.args.rounds c.args.books _ c.from_residual.result
-    _ c.from_residual.ensures.1
+    refused_simulate graph_text chips_text schedule_text c.args.limit c.args.ring c.args.rounds c.args.books _
+    c.from_residual.result _ c.from_residual.ensures.1
     (λ fault is. inl (inl (subst (RefusesInputs graph_text chips_text c.args.limit) (sym is)
     (c.in_err-game.ensures graph_text graph_is chips_text chips_is))))
 
@@ -52,8 +52,8 @@ returns-in_err-write_all_of g c = λ graph_text graph_is chips_text chips_is sch
     c.in_ok-events.events.items =
     means_events graph_text chips_text schedule_text c.args.limit c.in_ok-game.game c.in_ok-events.events.items
     c.graph.result.now c.graph.ensures.value (c.in_ok-game.ensures graph_text graph_is chips_text chips_is) read in
-    let simulates = subst (λ (xs : List Event). Simulates (setting_of c.in_ok-game.game c.args.ring) c.args.rounds c.args.books xs
-    c.in_ok-text.text.items c.in_ok-text.status) c.deref.ensures.value c.in_ok-text.ensures.ok in
+    let simulates = subst (λ (xs : List Event). Simulates (setting_of c.in_ok-game.game c.args.ring) c.args.rounds
+    c.args.books xs c.in_ok-text.text.items c.in_ok-text.status) c.deref.ensures.value c.in_ok-text.ensures.ok in
     let wrote = subst (λ (text : List ℕ). WritesAll (g.W.Write.contents c.args.output.now)
     (g.W.Write.contents c.write_all_of.new.writer) text (Err c.in_err-write_all_of.field-0.0)) c.deref-2.ensures.value
     c.in_err-write_all_of.ensures in
@@ -72,8 +72,8 @@ returns g c = λ graph_text graph_is chips_text chips_is schedule_text schedule_
     c.in_ok-events.events.items =
     means_events graph_text chips_text schedule_text c.args.limit c.in_ok-game.game c.in_ok-events.events.items
     c.graph.result.now c.graph.ensures.value (c.in_ok-game.ensures graph_text graph_is chips_text chips_is) read in
-    let simulates = subst (λ (xs : List Event). Simulates (setting_of c.in_ok-game.game c.args.ring) c.args.rounds c.args.books xs
-    c.in_ok-text.text.items c.in_ok-text.status) c.deref.ensures.value c.in_ok-text.ensures.ok in
+    let simulates = subst (λ (xs : List Event). Simulates (setting_of c.in_ok-game.game c.args.ring) c.args.rounds
+    c.args.books xs c.in_ok-text.text.items c.in_ok-text.status) c.deref.ensures.value c.in_ok-text.ensures.ok in
     let wrote = subst (λ (text : List ℕ). Appends (g.W.Write.contents c.args.output.now)
     (g.W.Write.contents c.write_all_of.new.writer) text) c.deref-2.ensures.value c.in_ok-write_all_of.ensures in (
       c.in_ok-game.game,

@@ -2,7 +2,7 @@
 import json
 
 EVENTS = ["take", "ack", "fire", "clear", "claim", "put", "halt", "settle", "seal", "read"]
-COMMANDS = ["check", "plain", "simulate", "replay", "resume"]
+COMMANDS = ["check", "plain", "simulate", "run", "replay", "resume"]
 NUMBERS = [
     b"0", b"1", b"2", b"3", b"00", b"01", b"-0", b"-1", b"+1", b"1.0", b"1.5", b"1e0", b"1e400", b"4096", b"4097",
     b"65536", b"1048576", b"1048577", b"1099511627776", b"1099511627777", b"1152921504606846976",

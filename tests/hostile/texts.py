@@ -11,6 +11,7 @@ NAMES = {
     "check": ["graph.json"],
     "plain": ["graph.json", "chips.csv"],
     "simulate": ["graph.json", "chips.csv", "schedule.csv"],
+    "run": ["graph.json", "chips.csv"],
     "replay": ["graph.json", "chips.csv", "trace.csv"],
     "resume": ["graph.json", "report.json"],
 }
@@ -23,6 +24,8 @@ def options_of(command, draw):
         options["limit"] = draw.choice([0, 1, 2, 5, 1 << 40])
     if command == "simulate":
         options.update(ring=draw.choice([1, 1, 2, 3, 64]), rounds=draw.choice([0, 1, 3, 50]))
+    if command == "run":
+        options.update(ring=draw.choice([1, 1, 2, 3, 64]), workers=draw.choice([1, 2, 3, 8]))
     return options
 
 

@@ -1,6 +1,6 @@
 //! What the actors of a crew wrote down.
 
-ghost use Rattle.std.specs.Prelude.{◌≡◌, ◌×◌, true, false, is_some, IfOk, IfErr};
+ghost use Rattle.std.specs.Prelude.{◌≡◌, true, false, is_some, IfOk, IfErr};
 ghost use Rattle.chip_run.specs.RunCommand.{IsRecordFault};
 
 use chip_engine::Fault;
@@ -15,8 +15,8 @@ pub(crate) fn recorded<T: Write>(
     actors: &[Actor],
     trace: Option<&mut T>,
 ) -> Result<bool, Fault>
-    ensures cut { IfOk result (λ cut. is_some trace ≡ false → cut ≡ false) }
-    ensures fault { IfErr result (IsRecordFault (is_some trace)) }
+    ensures cut { IfOk result (λ cut. is_some trace.entry ≡ false → cut ≡ false) }
+    ensures fault { IfErr result (IsRecordFault (is_some trace.entry)) }
 {
     match trace {
         Some(writer) => write_traces(alloc, actors, writer),

@@ -1,6 +1,6 @@
 //! The engine.
 
-ghost use Rattle.std.specs.Prelude.{◌≡◌, is_some, IfOk, IfErr};
+ghost use Rattle.std.specs.Prelude.{◌≡◌, None, is_some, IfOk, IfErr};
 ghost use Rattle.std.specs.Option.{ForSome};
 ghost use Rattle.chip_report.specs.ReportText.{report_text};
 ghost use Rattle.chip_engine.specs.PlainCommand.{Reports, plain_status};
@@ -48,7 +48,7 @@ pub fn run_engine<R: Threads + Wait + Sync, G: Read, C: Read, T: Write, W: Write
 ) -> Result<Ended, Fault>
     ensures { ForSome (G.remaining graph.old)
         (λ graph_text. ForSome (C.remaining chips.old)
-        (λ chips_text. RunAnswers graph_text chips_text limit (plan_of ring workers turns trace_rows) (is_some trace)
+        (λ chips_text. RunAnswers graph_text chips_text limit (plan_of ring workers turns trace_rows) (is_some trace.entry)
         (W.contents output.old) (W.contents output.new) result)) }
 {
     let game = read_game(alloc, graph, chips, limit)?;
@@ -59,14 +59,13 @@ pub fn run_engine<R: Threads + Wait + Sync, G: Read, C: Read, T: Write, W: Write
         trace_rows,
         seal: None,
     };
-    let Played {
-        text,
-        status,
-        actors,
-    } = played(rt, alloc, &game, plan)?;
-    let cut = recorded(alloc, &actors, trace)?;
-    write_all_of(output, &text)?;
-    Ok(Ended { status, cut })
+    let played = play(rt, alloc, &game, plan)?;
+    let cut = recorded(alloc, &played.actors, trace)?;
+    write_all_of(output, &played.text)?;
+    Ok(Ended {
+        status: played.status,
+        cut,
+    })
 }
 
 /// A game that was played.
@@ -81,12 +80,13 @@ struct Played {
 }
 
 /// Plays a game.
-fn played<R: Threads + Wait + Sync>(
+fn play<R: Threads + Wait + Sync>(
     rt: &R,
     alloc: Global,
     game: &Game,
     plan: Plan,
 ) -> Result<Played, Fault>
+    requires { plan.seal ≡ None }
     ensures played { IfOk result (λ p. Reports game.now p.text.items p.status) }
     ensures fault { IfErr result (IsNotPlayed game.now plan) }
 {

@@ -116,7 +116,7 @@ fn request_of<'a>(matches: &ArgMatches<'a>, arguments: &[String]) -> Result<Requ
             rounds: found.get_one::<u64>("rounds").unwrap_or(0),
             books: found.get_flag("books"),
         })),
-        "run" => Ok(Request::Run(run_of(found, arguments)?)),
+        "run" => run_of(found, arguments),
         "replay" => Ok(Request::Replay(
             game_of(found, arguments)?,
             file_of(found, "TRACE", arguments, 2)?,
@@ -132,7 +132,7 @@ fn request_of<'a>(matches: &ArgMatches<'a>, arguments: &[String]) -> Result<Requ
 }
 
 /// The play on threads that the arguments ask for.
-fn run_of<'a>(found: &ArgMatches<'a>, arguments: &[String]) -> Result<RunArguments<'a>, Fault> {
+fn run_of<'a>(found: &ArgMatches<'a>, arguments: &[String]) -> Result<Request<'a>, Fault> {
     let trace = match found.get_str("trace") {
         Some(path) => Some(FileArgument {
             path,
@@ -141,7 +141,7 @@ fn run_of<'a>(found: &ArgMatches<'a>, arguments: &[String]) -> Result<RunArgumen
         None => None,
     };
     let rows_by_default = if trace.is_some() { TRACE_ROWS } else { 0 };
-    Ok(RunArguments {
+    Ok(Request::Run(RunArguments {
         game: game_of(found, arguments)?,
         ring: ring_of(found)?,
         workers: found.get_one::<u64>("workers").unwrap_or(WORKERS),
@@ -150,7 +150,7 @@ fn run_of<'a>(found: &ArgMatches<'a>, arguments: &[String]) -> Result<RunArgumen
         trace_rows: found
             .get_one::<u64>("trace-rows")
             .unwrap_or(rows_by_default),
-    })
+    }))
 }
 
 /// The number of the argument that has the value of this option, which may stand behind it or in it.

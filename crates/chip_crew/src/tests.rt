@@ -43,6 +43,23 @@ impl Gate for Never {
     }
 }
 
+/// Lets worker 0 pass. The others are held until it was asked, and then they do not pass.
+#[derive(Drop)]
+struct ZeroAlone {
+    asked: AtomicU64,
+}
+
+impl Gate for ZeroAlone {
+    fn pass(&self, worker: u64, _turn: u64) -> bool {
+        if worker == 0 {
+            self.asked.store(1, SeqCst);
+            return true;
+        }
+        comes_to(&self.asked, 1);
+        false
+    }
+}
+
 /// Whether the number comes to so much while it is looked at a million times.
 fn comes_to(number: &AtomicU64, much: u64) -> bool {
     for _ in 0..1_000_000 {
@@ -151,7 +168,7 @@ fn of_every_size(rt: HostRuntime) -> Result<(), Fail> {
     Ok(())
 }
 
-/// All three workers are asked before one of them goes on: they are threads of their own.
+/// All three workers are asked before one of them goes on: they are threads of their own. There is no fourth.
 #[test]
 fn side_by_side(rt: HostRuntime) -> Result<(), Fail> {
     let gate = Together {
@@ -159,7 +176,9 @@ fn side_by_side(rt: HostRuntime) -> Result<(), Fail> {
         all: 3,
     };
     let plan = Plan { workers: 3, ..PAIR };
-    expect_four(&rt, rt.alloc(), plan, &gate)
+    expect_four(&rt, rt.alloc(), plan, &gate)?;
+    assert_eq!(&rt; gate.asked.load(SeqCst), 3);
+    Ok(())
 }
 
 /// Worker 1 makes all its turns before worker 0 makes one, so it has to have every actor in turn.
@@ -173,13 +192,36 @@ fn shared_by_one_queue(rt: HostRuntime) -> Result<(), Fail> {
     expect_four(&rt, rt.alloc(), plan, &gate)
 }
 
+/// A crew plays four chips on the triangle until a gate answers false.
+fn expect_shut<R: Threads + Wait + Sync + Abort, G: Gate + Sync>(
+    rt: &R,
+    alloc: Global,
+    plan: Plan,
+    gate: &G,
+) -> Result<(), Fail> {
+    let game = triangle(alloc, &[4, 0, 0])?;
+    let answer = run(rt, alloc, &game, plan, gate);
+    assert!(rt; matches!(answer, Err(CrewFault::GateShut)));
+    Ok(())
+}
+
 #[test]
 fn shut(rt: HostRuntime) -> Result<(), Fail> {
-    let alloc = rt.alloc();
-    let game = triangle(alloc, &[4, 0, 0])?;
-    let answer = run(&rt, alloc, &game, PAIR, &Never);
-    assert!(&rt; matches!(answer, Err(CrewFault::GateShut)));
+    for workers in [1, 2] {
+        let plan = Plan { workers, ..PAIR };
+        expect_shut(&rt, rt.alloc(), plan, &Never)?;
+    }
     Ok(())
+}
+
+/// Worker 0 has made its one turn when the gate of worker 1 answers false: that is told, and not the open messages.
+#[test]
+fn shut_for_another(rt: HostRuntime) -> Result<(), Fail> {
+    let gate = ZeroAlone {
+        asked: AtomicU64::new(0),
+    };
+    let plan = Plan { turns: 1, ..PAIR };
+    expect_shut(&rt, rt.alloc(), plan, &gate)
 }
 
 /// One turn of each of two workers is not enough.

@@ -46,7 +46,9 @@ fn main(rt: HostRuntime) -> ExitCode {
 }
 
 /// Does what the arguments ask for.
-fn run<R: Env + Files + Print + AllocGlobal + Threads + Wait + Sync>(rt: &R) -> Result<Ended, Fault> {
+fn run<R: Env + Files + Print + AllocGlobal + Threads + Wait + Sync>(
+    rt: &R,
+) -> Result<Ended, Fault> {
     let alloc = rt.alloc();
     let arguments: Vec<String> = env::args(rt).map_err(fault_of_arguments)?.collect(alloc)?;
     let mut output = io::writer(rt);

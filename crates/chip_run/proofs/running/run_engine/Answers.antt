@@ -1,4 +1,4 @@
-use Rattle.std.proofs.Common.{List, ℕ, is_some, inl, inr, refl, sym, subst}
+use Rattle.std.proofs.Common.{List, ℕ, is_some, inl, inr, sym, subst}
 use Rattle.chip_crew.specs.declared.plan.Plan.{Plan}
 use Rattle.chip_engine.specs.Inputs.{RefusesInputs}
 use Rattle.chip_engine.specs.PlainCommand.{Reports}

@@ -27,6 +27,17 @@ class Crew:
         self.has_trace = draw.random() < 0.5
         self.graph, self.chips = json.dumps(graph), "vertex,chips\n" + "".join(f"{v},{c}\n" for v, c in enumerate(chips))
 
+    @classmethod
+    def of_triangle(cls, program, examples):
+        """The small triangle by three workers, with its trace."""
+        crew = cls(program, examples, 0)
+        crew.limit, crew.options, crew.has_trace = [], ["--workers", "3"], True
+        with open(f"{examples}/triangle/graph.json", encoding="utf-8") as file:
+            crew.graph = file.read()
+        with open(f"{examples}/triangle/chips.csv", encoding="utf-8") as file:
+            crew.chips = file.read()
+        return crew
+
     def call(self, words, folder):
         return subprocess.run(words, stdout=subprocess.PIPE, stderr=subprocess.PIPE, cwd=folder, timeout=SECONDS)
 
@@ -68,9 +79,11 @@ class Crew:
 
 def play_crews(program, examples, count):
     """Plays so many games, and yields of each its place, its name and what was not as it must be."""
-    for number in range(count):
+    crews = {f"game {number} on threads": Crew(program, examples, number) for number in range(count)}
+    crews["the triangle on three threads"] = Crew.of_triangle(program, examples)
+    for name, crew in crews.items():
         try:
-            faults = Crew(program, examples, number).faults()
+            faults = crew.faults()
         except subprocess.TimeoutExpired:
             faults = [f"it had not ended after {SECONDS} seconds"]
-        yield "crews.py", f"game {number} on threads", faults
+        yield "crews.py", name, faults

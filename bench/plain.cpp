@@ -7,17 +7,14 @@
 // order until a pass fires nothing, and divides by 64 bits only where it must; `rounds` does so first over those with
 // even numbers and then over those with odd ones. All fire in batches.
 
-#include <unistd.h>
-
-#include <charconv>
 #include <cstdint>
 #include <cstdlib>
 #include <limits>
-#include <string>
 #include <string_view>
 #include <vector>
 
 #include "game_files.hpp"
+#include "report.hpp"
 
 namespace {
 
@@ -121,35 +118,6 @@ void play_by_rounds(Game& game) {
     }
 }
 
-void add_list(std::string& text, const std::vector<std::uint64_t>& numbers) {
-    char digits[20];
-    text += '[';
-    for (std::size_t i = 0; i < numbers.size(); ++i) {
-        if (i != 0) text += ',';
-        text.append(digits, std::to_chars(digits, digits + sizeof digits, numbers[i]).ptr);
-    }
-    text += ']';
-}
-
-std::string report(const Game& game, const std::vector<std::uint64_t>& over) {
-    std::string text = "{\"chips\":";
-    add_list(text, game.chips);
-    text += over.empty() ? ",\"closed\":true,\"fired\":" : ",\"closed\":false,\"fired\":";
-    add_list(text, game.fired);
-    text += ",\"over\":";
-    add_list(text, over);
-    text += ",\"sealed\":[],\"version\":1}\n";
-    return text;
-}
-
-void write_all(const std::string& text) {
-    for (std::size_t done = 0; done < text.size();) {
-        const ssize_t took = write(1, text.data() + done, text.size() - done);
-        if (took <= 0) stop("the report cannot be written");
-        done += static_cast<std::size_t>(took);
-    }
-}
-
 }  // namespace
 
 int main(int count, char** words) {
@@ -166,6 +134,6 @@ int main(int count, char** words) {
     for (std::size_t v = 0; v < game.vertices(); ++v) {
         if (game.is_legal(v)) over.push_back(v);
     }
-    write_all(report(game, over));
+    write_all(report(game.chips, game.fired, over));
     return over.empty() ? 0 : 2;
 }

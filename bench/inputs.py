@@ -102,24 +102,24 @@ def uphill(_):
     return length + 1, sink, edges, {0: 64}
 
 
-def random_graph(draw):
-    """12,288 edges, three or four from each vertex but the sink; 64 of them go to the sink, the others anywhere."""
-    sink, count = VERTICES - 1, 12288
+def random_graph(draw, vertices=VERTICES):
+    """Three or four edges from each vertex but the sink; one of 192 goes to the sink, the others anywhere."""
+    sink, count = vertices - 1, 3 * vertices
     while True:
         tails = [v for v in range(sink) for _ in range(3)]
         tails += draw.sample(range(sink), count - len(tails))
-        to_sink = set(draw.sample(range(count), 64))
+        to_sink = set(draw.sample(range(count), count // 192))
         edges = []
         for i, tail in enumerate(tails):
             head = sink if i in to_sink else draw.randrange(sink - 1)
             edges.append((tail, head + (head >= tail and head != sink), 1))
         draw.shuffle(edges)
-        if reaches_the_sink(VERTICES, sink, edges):
+        if reaches_the_sink(vertices, sink, edges):
             break
-    chips = [0] * VERTICES
-    for _ in range(2**24):
+    chips = [0] * vertices
+    for _ in range(vertices * vertices):
         chips[int(draw.random() * sink)] += 1
-    return VERTICES, sink, edges, {v: chips[v] for v in range(sink)}
+    return vertices, sink, edges, {v: chips[v] for v in range(sink)}
 
 
 def chain(_):

@@ -9,7 +9,8 @@ use Rattle.chip_actor.specs.Setting.{Setting}
 use Rattle.chip_actor.specs.declared.act.Act.{Act}
 use Rattle.chip_actor.specs.declared.act.Act.TheVariants as Do
 use Rattle.chip_actor.specs.Part.{Part}
-use Rattle.chip_actor.specs.Rules.{Rule, Event, Take, Ack, Fire, Clear, Claim, Put, Halt, Settle, Seal, Read, unmet}
+use Rattle.chip_actor.specs.Rules.{Rule, Event, Take, Ack, Fire, Clear, Claim, Put, Halt, Settle, Seal, Read, Feed, End}
+use Rattle.chip_actor.specs.Rules.{unmet}
 use Rattle.chip_actor.specs.declared.reply.Reply.TheVariants.{NotNow}
 use Rattle.chip_actor.specs.Steps.{Step, Reply, part_of, does, asked}
 use Rattle.chip_actor.specs.Acting.{act_of, event_of, verdict, FitsSeen, CanDo, IsDue, Makes}
@@ -18,11 +19,11 @@ use Rattle.chip_actor.specs.Cursor.{Cursor, IsUnderWay, Begins, StandsAt, TurnCo
 use Rattle.chip_actor.specs.Asking.{fits_seen, may_ask, may_play, may_see_all, Answers}
 use Rattle.chip_actor.proofs.CursorLemmas.{event_of_act}
 
-verdict_ok : (u : Option Rule) (a act : Act) → verdict u a ≡ Ok act → (u ≡ None) × (act ≡ a)
+pub verdict_ok : (u : Option Rule) (a act : Act) → verdict u a ≡ Ok act → (u ≡ None) × (act ≡ a)
 verdict_ok None a act is = (refl, cc)
 verdict_ok (Some rule) a act is = absurd (cc)
 
-verdict_err : (u : Option Rule) (a : Act) (rule : Rule) → verdict u a ≡ Err rule → u ≡ Some rule
+pub verdict_err : (u : Option Rule) (a : Act) (rule : Rule) → verdict u a ≡ Err rule → u ≡ Some rule
 verdict_err None a rule is = absurd (cc)
 verdict_err (Some r) a rule is = cc
 
@@ -39,6 +40,8 @@ fits_from_test s (Halt v) seen is = tt
 fits_from_test s (Settle e) seen is = let both = and_parts _ _ is in (leb-true _ _ both.0, leb-true _ _ both.1)
 fits_from_test s (Seal e) seen is = tt
 fits_from_test s (Read v) seen is = tt
+fits_from_test s (Feed e k) seen is = tt
+fits_from_test s End seen is = tt
 
 module _ (g : Setting) (s : Part) (a : Actor) (stands : StandsFor g s a) (x : Event) (seen : ℕ)
     (may : may_ask g a.vertex s x seen ≡ true) where
@@ -56,6 +59,7 @@ module _ (g : Setting) (s : Part) (a : Actor) (stands : StandsFor g s a) (x : Ev
   module _ (act : Act) (given : verdict (unmet g x s) (act_of g x s) ≡ Ok act) where
     told : event_of a.vertex act ≡ x
     told = ap (event_of a.vertex) (verdict_ok _ _ _ given).1 ∙ event_of_act g a.vertex stands.knows.vertex s x ask_mine
+        (verdict_ok _ _ _ given).0
 
     pub ask_due : IsDue g s a.vertex (record { act = act; seen = seen })
     ask_due = (

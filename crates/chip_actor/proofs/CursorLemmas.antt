@@ -10,11 +10,14 @@ use Rattle.chip_actor.specs.Setting.{Setting}
 use Rattle.chip_actor.specs.Part.{Part}
 use Rattle.chip_actor.specs.declared.act.Act.{Act}
 use Rattle.chip_actor.specs.declared.act.Act.TheVariants as Do
-use Rattle.chip_actor.specs.Rules.{Event, Take, Ack, Fire, Clear, Claim, Put, Halt, Settle, Seal, Read, unmet}
+use Rattle.chip_actor.specs.Rules.{Event, Take, Ack, Fire, Clear, Claim, Put, Halt, Settle, Seal, Read, Feed, End}
+use Rattle.chip_actor.specs.Rules.{unmet}
 use Rattle.chip_actor.specs.Steps.{Step, part_of, does}
 use Rattle.chip_actor.specs.Acting.{act_of, event_of}
 use Rattle.chip_actor.specs.Turn.{Phase, nothing, either_phase, where_phase, and_then, each_phase, turn}
 use Rattle.chip_actor.specs.Cursor.{Cursor, left, fuel, GoesBy, IsDueAt, IsUnderWay, IsNext}
+use Rattle.chip_actor.proofs.EdgeLemmas.{tail_root}
+use Rattle.chip_actor.proofs.RuleLemmas.{rules_met}
 
 -- ---- phases
 
@@ -123,17 +126,20 @@ passes_due g v s cursor next passes (Some due) goes = record {
 
 -- an operation of a vertex tells its event
 module _ (g : Setting) (v : ℕ) (vertex : v < g.graph.vertices) (s : Part) where
-  pub event_of_act : (x : Event) → part_of g x ≡ v → event_of v (act_of g x s) ≡ x
-  event_of_act (Take e) mine = refl
-  event_of_act (Ack e) mine = refl
-  event_of_act (Fire w k) mine = ap (λ (n : ℕ). Fire n k) (sym mine)
-  event_of_act (Clear e) mine = refl
-  event_of_act (Claim e) mine = refl
-  event_of_act (Put e) mine = refl
-  event_of_act (Halt w) mine = ap Halt (sym mine)
-  event_of_act (Settle e) mine = refl
-  event_of_act (Seal e) mine = absurd (omega arith)
-  event_of_act (Read w) mine = absurd (omega arith)
+  pub event_of_act : (x : Event) → part_of g x ≡ v → unmet g x s ≡ None → event_of v (act_of g x s) ≡ x
+  event_of_act (Take e) mine met = refl
+  event_of_act (Ack e) mine met = refl
+  event_of_act (Fire w k) mine met = ap (λ (n : ℕ). Fire n k) (sym mine)
+  event_of_act (Clear e) mine met = refl
+  event_of_act (Claim e) mine met = refl
+  event_of_act (Put e) mine met = refl
+  event_of_act (Halt w) mine met = ap Halt (sym mine)
+  event_of_act (Settle e) mine met = refl
+  event_of_act (Seal e) mine met = absurd (omega arith)
+  event_of_act (Read w) mine met = absurd (omega arith)
+  event_of_act (Feed e k) mine met = let past = rules_met g (Feed e k) s met in let at = tail_root g e past.0 in
+      absurd (omega arith)
+  event_of_act End mine met = absurd (omega arith)
 
   pub act_is_some : (x : Event) → part_of g x ≡ v → act_of g x s ≢ Do.End
   act_is_some (Take e) mine = λ is. absurd (cc)
@@ -146,6 +152,8 @@ module _ (g : Setting) (v : ℕ) (vertex : v < g.graph.vertices) (s : Part) wher
   act_is_some (Settle e) mine = λ is. absurd (cc)
   act_is_some (Seal e) mine = λ is. absurd (omega arith)
   act_is_some (Read w) mine = λ is. absurd (omega arith)
+  act_is_some (Feed e k) mine = λ is. absurd (cc)
+  act_is_some End mine = λ is. absurd (cc)
 
   module _ (cursor next : Cursor) (x : Event) (goes : GoesBy g v s cursor x next) (first : Part) (done : List Step)
       (way : IsUnderWay g v first done cursor s) where
@@ -160,7 +168,7 @@ module _ (g : Setting) (v : ℕ) (vertex : v < g.graph.vertices) (s : Part) wher
 
     pub is_next : (act : Act) → act ≡ act_of g x s → IsNext g v first done s cursor act next
     is_next act is =
-        let told : event_of v act ≡ x = ap (event_of v) is ∙ event_of_act x goes.mine in
+        let told : event_of v act ≡ x = ap (event_of v) is ∙ event_of_act x goes.mine goes.met in
         let all = subst (λ (y : Event). (part_of g y ≡ v) × (unmet g y s ≡ None) × (act ≡ act_of g y s)
         × ((seen : ℕ) → IsUnderWay g v first (done ++ record { event = y; seen = seen } ∷ []) next
         (does g (record { event = y; seen = seen }) s)))

@@ -1,11 +1,12 @@
 -- The edges by their numbers: whose they are, and how sums over them split into the graph's own edges and the root's.
-use Rattle.std.proofs.Common.{◌≡◌, ℕ, ◌+◌, ◌-◌, ◌<◌, ◌≤◌, cond, eqb, length, ap, arith, lt-ltb, le-ltb}
+use Rattle.std.proofs.Common.{◌≡◌, ℕ, ◌+◌, ◌-◌, ◌<◌, ◌≤◌, true, false, cond, eqb, length, ap, arith, lt-ltb, le-ltb}
 use Rattle.chip_graph.specs.Multigraph.{IsGraph, edge_at, sum_out, sum_in, degree}
 use Rattle.chip_actor.specs.Setting.{Setting}
 use Rattle.chip_graph.specs.Sums.{sum_below}
 use Rattle.chip_graph.proofs.SumLemmas.{cond_yes, cond_no, cond_true, cond_false, sum_below_ext, sum_below_none}
-use Rattle.chip_graph.proofs.SumLemmas.{sum_below_split, sum_below_one}
-use Rattle.chip_actor.specs.Edges.{graph_edges, root_edge, root, tail_of, head_of, mult_of, over_outs, over_ins}
+use Rattle.chip_graph.proofs.SumLemmas.{sum_below_split, sum_below_one, by_test}
+use Rattle.chip_actor.specs.Edges.{graph_edges, all_edges, sendable_edges, root_edge, root, tail_of, head_of, mult_of}
+use Rattle.chip_actor.specs.Edges.{over_outs, over_ins}
 
 module _ (g : Setting) where
   pub tail_graph : (e : ℕ) → e < graph_edges g → tail_of g e ≡ (edge_at g.graph e).tail
@@ -19,6 +20,24 @@ module _ (g : Setting) where
 
   pub head_root : (e : ℕ) → graph_edges g ≤ e → head_of g e ≡ e - graph_edges g
   head_root e l = cond_false _ _ _ (le-ltb e (length g.graph.edges) l)
+
+  pub sendable_fed : g.fed ≡ true → sendable_edges g ≡ all_edges g
+  sendable_fed on = cond_true g.fed (all_edges g) (graph_edges g) on
+
+  pub sendable_unfed : g.fed ≡ false → sendable_edges g ≡ graph_edges g
+  sendable_unfed off = cond_false g.fed (all_edges g) (graph_edges g) off
+
+  pub graph_sendable : (e : ℕ) → e < graph_edges g → e < sendable_edges g
+  graph_sendable e l = by_test g.fed (λ on. let a = sendable_fed on in omega arith)
+      (λ off. let a = sendable_unfed off in omega arith)
+
+  pub sendable_inside : (e : ℕ) → e < sendable_edges g → e < all_edges g
+  sendable_inside e l = by_test g.fed (λ on. let a = sendable_fed on in omega arith)
+      (λ off. let a = sendable_unfed off in omega arith)
+
+  -- a root edge may be looked at and put on only where chips are fed
+  pub root_sendable : (e : ℕ) → graph_edges g ≤ e → e < sendable_edges g → g.fed ≡ true
+  root_sendable e past l = by_test g.fed (λ on. on) (λ off. let a = sendable_unfed off in absurd (omega arith))
 
   pub over_outs_graph : (v : ℕ) → v < g.graph.vertices → (f : ℕ → ℕ) → over_outs g v f ≡ sum_out g.graph v f
   over_outs_graph v vertex f =

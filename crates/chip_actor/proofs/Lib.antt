@@ -16,7 +16,9 @@ pub mod TurnSteps
 pub mod TurnActor
 pub mod CompletingTurns
 pub mod AskLemmas
+pub mod AskRootLemmas
 pub mod MediumLemmas
 pub mod TurnOver
 pub mod Resting
+pub mod FeedLemmas
 pub mod RootLemmas

@@ -31,6 +31,7 @@ use Rattle.chip_actor.specs.Ends.{OutEnd, OutEnds, InEnds, out_on, in_on, Change
 use Rattle.chip_actor.specs.Ends.{out_after_clear, out_after_claim, out_after_put, out_after_fire}
 use Rattle.chip_actor.specs.Actor.{Actor, StandsFor, SomePart, WhateverPart, is_passive_now}
 use Rattle.chip_actor.specs.Acting.{CanDo, Makes}
+use Rattle.chip_actor.proofs.EdgeLemmas.{sendable_inside}
 use Rattle.chip_actor.proofs.RuleLemmas.{rules_met}
 use Rattle.chip_actor.proofs.Standing.{among_outs, among_ins, books_in, books_out, out_inside, owed_is, may_ack_is}
 use Rattle.chip_actor.proofs.Standing.{few_got, few_fired}
@@ -249,7 +250,6 @@ may_claim a e seen (g, s, stands, can) =
     let vertices = stands.knows.setting.game.graph_fits.few_vertices in
     let made = out.all_made in
     let sent = stands.books.sent e at in
-    let graph-edge = Rattle.chip_actor.proofs.PartLemmas.made_graph g e s.fired met.0 in
     record {
       among = among_outs g s a stands e at;
       clear = ap (λ (o : OutEnd). o.link.clear) here ∙ met.2;
@@ -314,7 +314,7 @@ may_put a e seen (g, s, stands, can) =
     let one : length (option_to_list (s.out e).link.held) ≡ 1 = ap (λ (h : Option ℕ). length (option_to_list h)) met.1.1
     in
     let of-all = tested_term (all_edges g) (λ i. eqb (tail_of g i) a.vertex)
-    (λ i. length (option_to_list (s.out i).link.held)) e (let z = met.0 in omega arith) (eq-eqb _ _ can.0) in
+    (λ i. length (option_to_list (s.out i).link.held)) e (sendable_inside g e met.0) (eq-eqb _ _ can.0) in
     let all-is = stands.unput in
     record { among = among_outs g s a stands e can.0; some_unput = omega arith }
 

@@ -86,7 +86,7 @@ due_by : (g : Setting) (s : Part) (a : Actor) → StandsFor g s a → (act : Act
     → unmet g e s ≡ None → act ≡ act_of g e s → (event_of a.vertex act ≡ e) × IsDueBy g a.vertex s act
 due_by g s a stands act e mine met is =
     let told : event_of a.vertex act ≡ e = ap (event_of a.vertex) is
-    ∙ event_of_act g a.vertex stands.knows.vertex s e mine in (
+    ∙ event_of_act g a.vertex stands.knows.vertex s e mine met in (
       told,
       record {
         mine = ap (part_of g) told ∙ mine;

@@ -2,28 +2,31 @@
 use Rattle.std.proofs.Common.{◌≡◌, ◌≢◌, ◌⊎◌, ℕ, zero, suc, ◌+◌, ◌-◌, ◌*◌, ◌<◌, ◌≤◌, Bool, true, false, not, ◌&&◌, ◌||◌}
 use Rattle.std.proofs.Common.{cond, eqb, ltb, leb, List, [], ◌∷◌, ◌++◌, length, sum, Option, Some, None, option_to_list}
 use Rattle.std.proofs.Common.{refl, sym, ap, ◌∙◌, subst, arith, inl, inr, ⊎_elim, eq-eqb, ne_eqb, eqb-true, ltb-true}
-use Rattle.std.proofs.Common.{leb-true, lt-ltb, le-ltb, le-leb, true≢false, length-append, mul-add, mul_comm, mul-zero}
+use Rattle.std.proofs.Common.{leb-true, lt-ltb, le-ltb, le-leb, true≢false, length-append, append-nil, mul-add}
+use Rattle.std.proofs.Common.{mul_comm, mul-zero}
 use Rattle.std.proofs.Common.{add-mul}
 use Rattle.std.proofs.lemmas.Bool.{not-true, eqb-false, and_parts, or_cases, and_from, cases_Bool, not_from_true}
 use Rattle.std.proofs.lemmas.List.Sums.{sum_by-append, sum_by_push}
 use mathlib.Core.Logic.{dite}
 use native.Mathlib.Decide.{ℕ_discrete, dec_lt}
+use Rattle.chip_graph.specs.Limits.{max_total}
+use Rattle.chip_graph.specs.Sums.{sum_below}
 use Rattle.chip_graph.specs.Multigraph.{degree}
 use Rattle.chip_actor.specs.Setting.{Setting}
 use Rattle.chip_graph.proofs.SumLemmas.{cond_yes, cond_no, cond_true, cond_false, by_test, tested_le, tested_zero}
-use Rattle.chip_graph.proofs.SumLemmas.{tested_none, tested_move}
-use Rattle.chip_link.specs.Link.{Tail, claims_of, after_clear, after_claim, after_put, after_take}
+use Rattle.chip_graph.proofs.SumLemmas.{tested_none, tested_move, sum_below_ext, sum_below_move}
+use Rattle.chip_link.specs.Link.{Tail, claims_of, sent_counts, after_clear, after_claim, after_put, after_take}
 use Rattle.chip_detect.specs.Acknowledging.{is_parent, or_else}
 use Rattle.chip_actor.specs.declared.cause.Cause.TheVariants.{SealedEdge, FiringLimit}
-use Rattle.chip_actor.specs.Edges.{graph_edges, all_edges, tail_of, head_of, mult_of, start_of, over_outs, over_ins}
-use Rattle.chip_actor.specs.Edges.{made}
+use Rattle.chip_actor.specs.Edges.{graph_edges, all_edges, root_edge, tail_of, head_of, mult_of, over_outs, over_ins}
 use Rattle.chip_actor.specs.Part.{Cause, Part, is_running, owed, outstanding, may_ack, all_owed, pending_of, unput}
-use Rattle.chip_actor.specs.Part.{refusals, cause, is_legal, is_passive, deficit}
-use Rattle.chip_actor.specs.Rules.{Event, Take, Ack, Fire, Clear, Claim, Put, Halt, Settle, Seal, Read, unmet}
+use Rattle.chip_actor.specs.Part.{refusals, cause, is_legal, is_passive, deficit, all_fed}
+use Rattle.chip_actor.specs.Rules.{Event, Take, Ack, Fire, Clear, Claim, Put, Halt, Settle, Seal, Read}
+use Rattle.chip_actor.specs.Rules.{Feed, End, unmet}
 use Rattle.chip_actor.specs.Steps.{part_of, settled_after, got_after, acked_after, halt_after, fired_after}
-use Rattle.chip_actor.specs.Steps.{parent_after, does, Step}
+use Rattle.chip_actor.specs.Steps.{parent_after, link_after, ended_after, does, Step}
 use Rattle.chip_actor.proofs.RuleLemmas.{rules_met}
-use Rattle.chip_actor.proofs.EdgeLemmas.{tail_root}
+use Rattle.chip_actor.proofs.EdgeLemmas.{tail_root, sendable_inside, root_sendable}
 use Rattle.chip_actor.specs.Kept.{Met, IsNeutral, KeepsOut, KeepsPart}
 
 -- one edge is changed, the others are as they were
@@ -48,12 +51,6 @@ module _ (g : Setting) where
   tail_inside e l = dite (dec_lt e (length g.graph.edges)) (λ h. h) (λ n. let a = tail_root g e (omega arith) in
       absurd (omega arith))
 
-  pub made_graph : (e f : ℕ) → e < graph_edges g → made g e f ≡ mult_of g e * f
-  made_graph e f l = cond_true _ _ _ (lt-ltb e (length g.graph.edges) l)
-
-  pub made_root : (e f : ℕ) → graph_edges g ≤ e → made g e f ≡ start_of g (e - graph_edges g)
-  made_root e f l = cond_false _ _ _ (le-ltb e (length g.graph.edges) l)
-
   leaves : ℕ → ℕ → Bool
   leaves v e = eqb (tail_of g e) v
 
@@ -72,15 +69,38 @@ module _ (g : Setting) where
   abbrev pub Outs : ℕ → Part → Type 0
   Outs p s = (e : ℕ) → tail_of g e ≡ p → KeepsOut g e (s.out e).link (s.out e).pending s.fired
 
-  outs_kept : (x : Event) (seen p : ℕ) (s : Part) → p ≡ part_of g x → Met g x s → Outs p s
-      → Outs p (does g (record { event = x; seen = seen }) s)
-  outs_kept (Take e) seen p s by may ok = ok
-  outs_kept (Ack e) seen p s by may ok = ok
-  outs_kept (Halt v) seen p s by may ok = ok
-  outs_kept (Settle e) seen p s by may ok = ok
-  outs_kept (Seal e) seen p s by may ok = ok
-  outs_kept (Read v) seen p s by may ok = ok
-  outs_kept (Fire v k) seen p s by may ok = λ i at.
+  -- where chips are fed, a root edge keeps nothing but that nothing is pending on it
+  root_kept : (e : ℕ) (t : Tail) (pending fired : ℕ) → graph_edges g ≤ e → g.fed ≡ true → pending ≡ 0
+      → KeepsOut g e t pending fired
+  root_kept e t pending fired past on idle = record {
+    all_made = λ l. absurd (omega arith);
+    fewer = λ l. absurd (omega arith);
+    fewer_yet = λ l h. absurd (omega arith);
+    clear_pends = λ l z. absurd (omega arith);
+    refused_pends = λ l z. absurd (omega arith);
+    clear_open = λ l z. absurd (omega arith);
+    free_hand = λ l h. absurd (omega arith);
+    root_idle = λ l. idle;
+    root_unfed = λ l off. absurd (true≢false (sym on ∙ off));
+  }
+
+  -- chips are fed where the end isn't noted
+  fed_by : (s : Part) → (g.fed ≡ false → s.ended ≡ true) → s.ended ≡ false → g.fed ≡ true
+  fed_by s unfed going = by_test g.fed (λ on. on) (λ off. absurd (true≢false (sym (unfed off) ∙ going)))
+
+  outs_kept : (x : Event) (seen p : ℕ) (s : Part) → p ≡ part_of g x → Met g x s → (g.fed ≡ false → s.ended ≡ true)
+      → Outs p s → Outs p (does g (record { event = x; seen = seen }) s)
+  outs_kept (Take e) seen p s by may unfed ok = ok
+  outs_kept (Ack e) seen p s by may unfed ok = ok
+  outs_kept (Halt v) seen p s by may unfed ok = ok
+  outs_kept (Settle e) seen p s by may unfed ok = ok
+  outs_kept (Seal e) seen p s by may unfed ok = ok
+  outs_kept (Read v) seen p s by may unfed ok = ok
+  outs_kept End seen p s by may unfed ok = ok
+  outs_kept (Feed e k) seen p s by may unfed ok = at_edge (λ i (t : Tail). tail_of g i ≡ p
+      → KeepsOut g i t (s.out i).pending s.fired) e (λ i. after_claim k seen (s.out i).link) (λ i. (s.out i).link)
+      (λ at. root_kept e _ _ _ may.0 (fed_by s unfed may.2) ((ok e at).root_idle may.0)) ok
+  outs_kept (Fire v k) seen p s by may unfed ok = λ i at.
       let o = s.out i in
       let old = ok i at in
       let mine : tail_of g i ≡ v = at ∙ by in
@@ -88,15 +108,13 @@ module _ (g : Setting) where
       let none : o.pending ≡ 0 = out_zero v (λ e. (s.out e).pending) may.3 i (omega arith) mine in
       let idle : length (option_to_list o.link.held)
       ≡ 0 = out_zero v (λ e. length (option_to_list (s.out e).link.held)) may.4 i (omega arith) mine in
-      let a = old.all_made in let few = old.fewer inside in
-      let was = made_graph i s.fired inside in
-      let will = made_graph i (s.fired + k) inside in
+      let a = old.all_made inside in let few = old.fewer inside in
       let m = mul-add (mult_of g i) s.fired k in
       let c = mul_comm (mult_of g i) k in
       let some_k = may.5 in
       subst (λ (n : ℕ). KeepsOut g i o.link n (s.fired + k))
       (sym (cond_yes (tail_of g i) v (k * mult_of g i) o.pending mine)) record {
-        all_made = omega arith;
+        all_made = λ l. omega arith;
         fewer = λ l. omega arith;
         fewer_yet = λ l h. omega arith;
         clear_pends = λ l e. (let z = old.clear_pends l e in absurd (omega arith));
@@ -104,28 +122,31 @@ module _ (g : Setting) where
         clear_open = old.clear_open;
         free_hand = λ l h. no_held o.link.held idle;
         root_idle = λ l. absurd (omega arith);
+        root_unfed = λ l off. absurd (omega arith);
       }
-  outs_kept (Clear e) seen p s by may ok = at_edge (λ i (t : Tail). tail_of g i ≡ p
+  outs_kept (Clear e) seen p s by may unfed ok = at_edge (λ i (t : Tail). tail_of g i ≡ p
       → KeepsOut g i t (s.out i).pending s.fired) e (λ i. after_clear seen (s.out i).link) (λ i. (s.out i).link)
-      (λ at. let old = ok e at in record {
+      (λ at. let old = ok e at in ⊎_elim
+      (λ v. record {
         all_made = old.all_made;
         fewer = old.fewer;
         fewer_yet = old.fewer_yet;
-        clear_pends = λ l z. may.3;
+        clear_pends = λ l z. v.3;
         refused_pends = old.refused_pends;
-        clear_open = λ l z. may.2;
+        clear_open = λ l z. v.2;
         free_hand = old.free_hand;
         root_idle = old.root_idle;
-      }) ok
-  outs_kept (Put e) seen p s by may ok = at_edge (λ i (t : Tail). tail_of g i ≡ p
+        root_unfed = λ l off. (let inside = v.0 in absurd (omega arith));
+      })
+      (λ r. root_kept e _ _ _ r.0 r.2 (old.root_idle r.0)) may) ok
+  outs_kept (Put e) seen p s by may unfed ok = at_edge (λ i (t : Tail). tail_of g i ≡ p
       → KeepsOut g i t (s.out i).pending s.fired) e (λ i. after_put (s.out i).link) (λ i. (s.out i).link)
       (λ at. let old = ok e at in
       let t = (s.out e).link in
       let sums = sum_by-append (λ (x : ℕ). x) t.put (option_to_list t.held) in
       let long = length-append t.put (option_to_list t.held) in
-      let a = old.all_made in
       record {
-        all_made = omega arith;
+        all_made = λ l. (let a = old.all_made l in omega arith);
         fewer = λ l. (let b = old.fewer l in omega arith);
         fewer_yet = λ l h. (let b = old.fewer_yet l h in omega arith);
         clear_pends = old.clear_pends;
@@ -133,8 +154,9 @@ module _ (g : Setting) where
         clear_open = old.clear_open;
         free_hand = λ l h. refl;
         root_idle = old.root_idle;
+        root_unfed = λ l off. absurd (true≢false (sym (root_sendable g e l may.0) ∙ off));
       }) ok
-  outs_kept (Claim e) seen p s by may ok = λ i at. dite (ℕ_discrete e i)
+  outs_kept (Claim e) seen p s by may unfed ok = λ i at. dite (ℕ_discrete e i)
       (λ same. (subst (λ (k : ℕ). tail_of g k ≡ p
       → KeepsOut g k (cond (eqb e k) (after_claim (s.out k).pending seen (s.out k).link) (s.out k).link)
       (cond (eqb e k) (cond (eqb seen (claims_of (s.out k).link)) 0 (s.out k).pending) (s.out k).pending) s.fired)
@@ -147,7 +169,8 @@ module _ (g : Setting) where
       let hand = old.free_hand may.0 pends in
       let empty : length (option_to_list o.link.held) ≡ 0 = ap (λ (h : Option ℕ). length (option_to_list h)) hand in
       let nothing : sum (option_to_list o.link.held) ≡ 0 = ap (λ (h : Option ℕ). sum (option_to_list h)) hand in
-      let a = old.all_made in
+      let a = old.all_made may.0 in
+      let inside = may.0 in
       subst (λ (tn : Tail × ℕ). KeepsOut g e tn.0 tn.1 s.fired)
       (λ j. (
         sym (cond_yes e e (after_claim o.pending seen o.link) o.link refl) j,
@@ -161,7 +184,7 @@ module _ (g : Setting) where
         sym (cond_yes seen (claims_of o.link) 0 o.pending hit) j,
       ))
       (let r : KeepsOut g e (record o.link { held = Some o.pending; clear = false }) 0 s.fired = record {
-        all_made = omega arith;
+        all_made = λ l. omega arith;
         fewer = λ l. omega arith;
         fewer_yet = λ l h. absurd (omega arith);
         clear_pends = λ l z. absurd (true≢false (sym z));
@@ -169,6 +192,7 @@ module _ (g : Setting) where
         clear_open = λ l z. absurd (true≢false (sym z));
         free_hand = λ l h. absurd (omega arith);
         root_idle = λ l. refl;
+        root_unfed = λ l off. absurd (omega arith);
       } in r))
       (λ miss. subst (λ (tn : Tail × ℕ). KeepsOut g e tn.0 tn.1 s.fired)
       (λ j. (
@@ -185,6 +209,7 @@ module _ (g : Setting) where
         clear_open = λ l z. absurd (true≢false (sym z));
         free_hand = old.free_hand;
         root_idle = old.root_idle;
+        root_unfed = λ l off. absurd (omega arith);
       } in r)))) at))
       (λ other. subst (λ (tn : Tail × ℕ). KeepsOut g i tn.0 tn.1 s.fired)
       (λ j. (
@@ -241,6 +266,8 @@ module _ (g : Setting) where
   chips_kept (Settle e) seen p s by may ok = ok
   chips_kept (Seal e) seen p s by may ok = ok
   chips_kept (Read v) seen p s by may ok = ok
+  chips_kept (Feed e k) seen p s by may ok = ok
+  chips_kept End seen p s by may ok = ok
 
   within_kept : (x : Event) (s : Part) → Met g x s → s.fired ≤ g.limit → fired_after x s.fired ≤ g.limit
   within_kept (Fire v k) s may ok = may.6
@@ -253,6 +280,8 @@ module _ (g : Setting) where
   within_kept (Settle e) s may ok = ok
   within_kept (Seal e) s may ok = ok
   within_kept (Read v) s may ok = ok
+  within_kept (Feed e k) s may ok = ok
+  within_kept End s may ok = ok
 
   acks_kept : (x : Event) (seen : ℕ) (s : Part) → ((e : ℕ) → (s.into e).acked ≤ length (s.into e).got) → (e : ℕ)
       → acked_after g x s e (s.into e) ≤ length (got_after x seen e (s.into e))
@@ -270,6 +299,8 @@ module _ (g : Setting) where
   acks_kept (Settle e) seen s ok = ok
   acks_kept (Seal e) seen s ok = ok
   acks_kept (Read v) seen s ok = ok
+  acks_kept (Feed e k) seen s ok = ok
+  acks_kept End seen s ok = ok
 
   -- a take that found nothing
   pub idle_take : (e seen : ℕ) (s : Part) → seen ≡ 0 → does g (record { event = Take e; seen = seen }) s ≡ s
@@ -285,6 +316,7 @@ module _ (g : Setting) where
       acked = (s.into i).acked;
     };
     stop = s.stop;
+    ended = s.ended;
   }
     where
       same : (b : Bool) (x y : List ℕ) → x ≡ y → cond b x y ≡ y
@@ -365,6 +397,8 @@ module _ (g : Setting) where
   parents_kept (Settle e) seen p s by may acks ok = ok
   parents_kept (Seal e) seen p s by may acks ok = ok
   parents_kept (Read v) seen p s by may acks ok = ok
+  parents_kept (Feed e k) seen p s by may acks ok = ok
+  parents_kept End seen p s by may acks ok = ok
 
   -- ---- halts
 
@@ -428,6 +462,8 @@ module _ (g : Setting) where
   at_limit_kept (Settle e) seen p s by may ok h = ok h
   at_limit_kept (Seal e) seen p s by may ok h = ok h
   at_limit_kept (Read v) seen p s by may ok h = ok h
+  at_limit_kept (Feed e k) seen p s by may ok h = ok h
+  at_limit_kept End seen p s by may ok h = ok h
 
   -- ---- a neutral vertex: it makes none of the events that would end its rest
 
@@ -469,6 +505,10 @@ module _ (g : Setting) where
         illegal true b c q = ap (λ (t : Bool). t && c) q
         illegal false b c q = refl
 
+  -- a vertex isn't the tail of a root edge
+  not_root : (p e : ℕ) → p < g.graph.vertices → p ≡ tail_of g e → graph_edges g ≤ e → ⊥
+  not_root p e l by past = let at = tail_root g e past in absurd (omega arith)
+
   neutral_kept : (x : Event) (seen p : ℕ) (s : Part) → p ≡ part_of g x → Met g x s → KeepsPart g p s
       → p < g.graph.vertices → parent_after g x seen s ≡ None
       → IsNeutral g p (does g (record { event = x; seen = seen }) s)
@@ -508,13 +548,16 @@ module _ (g : Setting) where
       let a = in_zero p (λ i. owed (s.into i)) (ok.neutral l none).nothing_owed e may.0 (sym by) in
       let b = may.1 in absurd (omega arith))
   neutral_kept (Fire v k) seen p s by may ok l h = absurd (no_fire p s ok.outs (ok.neutral l h) v k by may)
-  neutral_kept (Clear e) seen p s by may ok l h = absurd
-      (no_pending p s ok.outs (ok.neutral l h) e by (let a = may.0 in omega arith) may.1 may.3)
+  neutral_kept (Clear e) seen p s by may ok l h = ⊎_elim
+      (λ v. absurd (no_pending p s ok.outs (ok.neutral l h) e by (let a = v.0 in omega arith) v.1 v.3))
+      (λ r. absurd (not_root p e l by r.0)) may
+  neutral_kept (Feed e k) seen p s by may ok l h = absurd (not_root p e l by may.0)
+  neutral_kept End seen p s by may ok l h = absurd (omega arith)
   neutral_kept (Claim e) seen p s by may ok l h = absurd
       (no_pending p s ok.outs (ok.neutral l h) e by (let a = may.0 in
       omega arith) may.1 ((ok.outs e (sym by)).clear_pends may.0 may.2))
   neutral_kept (Put e) seen p s by may ok l h = absurd
-      (no_put p s ok.outs (ok.neutral l h) e by (let a = may.0 in omega arith) may.1.0 may.1.1)
+      (no_put p s ok.outs (ok.neutral l h) e by (sendable_inside g e may.0) may.1.0 may.1.1)
   neutral_kept (Halt v) seen p s by may ok l h = absurd (no_halt p s ok.outs (ok.neutral l h) v by may)
   neutral_kept (Settle e) seen p s by may ok l h =
       let old = ok.neutral l h in record {
@@ -523,7 +566,7 @@ module _ (g : Setting) where
         nothing_owed = old.nothing_owed;
         no_deficit =
             let a = tested_le (all_edges g) (λ i. eqb (tail_of g i) p)
-            (λ i. claims_of (s.out i).link - settled_after (Settle e) seen i (s.out i)) (λ i. outstanding (s.out i))
+            (λ i. claims_of (s.out i).link - settled_after g (Settle e) seen i (s.out i)) (λ i. outstanding (s.out i))
             (λ i m on.
             at_edge (λ i (n : ℕ). claims_of (s.out i).link - n ≤ outstanding (s.out i)) e
             (λ i. (s.out i).settled + (seen - (s.out i).settled)) (λ i. (s.out i).settled) (omega arith)
@@ -545,16 +588,106 @@ module _ (g : Setting) where
         no_deficit = old.no_deficit;
       }
 
+  -- ---- what was fed
+
+  -- a claim for k chips sends at most these more
+  claim_sends : (k seen : ℕ) (t : Tail) → sum (sent_counts (after_claim k seen t)) ≤ sum (sent_counts t) + k
+  claim_sends k seen t =
+      let was = sum_by-append (λ (x : ℕ). x) t.put (option_to_list t.held) in
+      dite (ℕ_discrete seen (claims_of t))
+      (λ hit.
+      let a = ap (λ (u : Tail). sum (sent_counts u)) (cond_yes seen (claims_of t)
+      (record t { held = Some k; clear = false }) (record t { clear = false; refused = true }) hit) in
+      let b = sum_by_push (λ (x : ℕ). x) t.put k in
+      omega arith)
+      (λ miss.
+      let a = ap (λ (u : Tail). sum (sent_counts u)) (cond_no seen (claims_of t)
+      (record t { held = Some k; clear = false }) (record t { clear = false; refused = true }) miss) in
+      omega arith)
+
+  -- a put sends nothing more
+  put_sends : (t : Tail) → sent_counts (after_put t) ≡ sent_counts t
+  put_sends t = append-nil (sent_counts t)
+
+  -- on an edge that isn't fed as much is sent as before
+  abbrev pub sent_after : Event → ℕ → Part → ℕ → ℕ
+  sent_after x seen s e = sum (sent_counts (link_after x seen e (s.out e)))
+
+  fed_kept : (x : Event) (seen : ℕ) (s : Part) → Met g x s → all_fed g s ≤ max_total
+      → sum_below g.graph.vertices (λ v. sent_after x seen s (root_edge g v)) ≤ max_total
+  fed_kept (Feed e k) seen s may ok =
+      let past = may.0 in
+      let inside = may.1 in
+      let few = may.4 in
+      let v : ℕ = e - graph_edges g in
+      let at : root_edge g v ≡ e = omega arith in
+      let m = sum_below_move g.graph.vertices (λ w. sent_after (Feed e k) seen s (root_edge g w))
+      (λ w. sum (sent_counts (s.out (root_edge g w)).link)) v (omega arith)
+      (λ w l ne. ap (λ (t : Tail). sum (sent_counts t))
+      (cond_no e (root_edge g w) (after_claim k seen (s.out (root_edge g w)).link) (s.out (root_edge g w)).link
+      (λ same. ne (let y : e ≡ root_edge g w = same in omega arith)))) in
+      let here : sent_after (Feed e k) seen s (root_edge g v)
+      ≡ sum (sent_counts (after_claim k seen (s.out (root_edge g v)).link)) = ap (λ (t : Tail). sum (sent_counts t))
+      (cond_yes e (root_edge g v) (after_claim k seen (s.out (root_edge g v)).link) (s.out (root_edge g v)).link
+      (sym at)) in
+      let more = claim_sends k seen (s.out (root_edge g v)).link in
+      omega arith
+  fed_kept (Claim e) seen s may ok =
+      let inside = may.0 in
+      let same = sum_below_ext g.graph.vertices (λ v. sent_after (Claim e) seen s (root_edge g v))
+      (λ v. sum (sent_counts (s.out (root_edge g v)).link)) (λ v l. ap (λ (t : Tail). sum (sent_counts t))
+      (cond_no e (root_edge g v) (after_claim (s.out (root_edge g v)).pending seen (s.out (root_edge g v)).link)
+      (s.out (root_edge g v)).link (λ z. (let y : e ≡ root_edge g v = z in absurd (omega arith))))) in
+      omega arith
+  fed_kept (Clear e) seen s may ok =
+      let same = sum_below_ext g.graph.vertices (λ v. sent_after (Clear e) seen s (root_edge g v))
+      (λ v. sum (sent_counts (s.out (root_edge g v)).link)) (λ v l.
+      at_edge (λ i (t : Tail). sum (sent_counts t) ≡ sum (sent_counts (s.out i).link)) e
+      (λ i. after_clear seen (s.out i).link) (λ i. (s.out i).link) refl (λ i. refl) (root_edge g v)) in
+      omega arith
+  fed_kept (Put e) seen s may ok =
+      let same = sum_below_ext g.graph.vertices (λ v. sent_after (Put e) seen s (root_edge g v))
+      (λ v. sum (sent_counts (s.out (root_edge g v)).link)) (λ v l.
+      at_edge (λ i (t : Tail). sum (sent_counts t) ≡ sum (sent_counts (s.out i).link)) e
+      (λ i. after_put (s.out i).link) (λ i. (s.out i).link) (ap sum (put_sends (s.out e).link)) (λ i. refl)
+      (root_edge g v)) in
+      omega arith
+  fed_kept (Take e) seen s may ok = ok
+  fed_kept (Ack e) seen s may ok = ok
+  fed_kept (Fire v k) seen s may ok = ok
+  fed_kept (Halt v) seen s may ok = ok
+  fed_kept (Settle e) seen s may ok = ok
+  fed_kept (Seal e) seen s may ok = ok
+  fed_kept (Read v) seen s may ok = ok
+  fed_kept End seen s may ok = ok
+
+  -- what is noted stays noted
+  pub stays_ended : (x : Event) (ended : Bool) → ended ≡ true → ended_after x ended ≡ true
+  stays_ended End ended on = refl
+  stays_ended (Take e) ended on = on
+  stays_ended (Ack e) ended on = on
+  stays_ended (Fire v k) ended on = on
+  stays_ended (Clear e) ended on = on
+  stays_ended (Claim e) ended on = on
+  stays_ended (Put e) ended on = on
+  stays_ended (Halt v) ended on = on
+  stays_ended (Settle e) ended on = on
+  stays_ended (Seal e) ended on = on
+  stays_ended (Read v) ended on = on
+  stays_ended (Feed e k) ended on = on
+
   pub part_kept : (x : Event) (seen p : ℕ) (s : Part) → p ≡ part_of g x → Met g x s → KeepsPart g p s
       → KeepsPart g p (does g (record { event = x; seen = seen }) s)
   part_kept x seen p s by may ok = record {
-    outs = outs_kept x seen p s by may ok.outs;
+    outs = outs_kept x seen p s by may ok.unfed_ended ok.outs;
     chips_are = chips_kept x seen p s by may ok.chips_are;
     within = within_kept x s may ok.within;
     acks = acks_kept x seen s ok.acks;
     parents = parents_kept x seen p s by may ok.acks ok.parents;
     at_limit = at_limit_kept x seen p s by may ok.at_limit;
     neutral = neutral_kept x seen p s by may ok;
+    fed_within = λ at. fed_kept x seen s may (ok.fed_within at);
+    unfed_ended = λ off. stays_ended x s.ended (ok.unfed_ended off);
   }
 
   -- the part that makes an event keeps it

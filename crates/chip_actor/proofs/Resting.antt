@@ -14,7 +14,7 @@ use Rattle.chip_actor.specs.Edges.{graph_edges, all_edges, root_edge, head_of}
 use Rattle.chip_actor.specs.Part.{Part, owed, may_ack, all_owed, deficit, is_passive}
 use Rattle.chip_actor.proofs.PickedLemmas.{picked_has}
 use Rattle.chip_actor.proofs.EdgeLemmas.{head_graph, head_root}
-use Rattle.chip_actor.specs.Rules.{Event, Take, Ack, Fire, Clear, Claim, Put, Halt, Settle, Seal, Read}
+use Rattle.chip_actor.specs.Rules.{Event, Take, Ack, Fire, Clear, Claim, Put, Halt, Settle, Seal, Read, Feed, End}
 use Rattle.chip_actor.specs.Steps.{Step, does, reply_of}
 use Rattle.chip_actor.specs.Kept.{KeepsPart}
 use Rattle.chip_actor.specs.Acting.{act_of}
@@ -49,6 +49,8 @@ ack_is_work g s (Halt v) seen = omega arith
 ack_is_work g s (Settle e) seen = omega arith
 ack_is_work g s (Seal e) seen = omega arith
 ack_is_work g s (Read v) seen = omega arith
+ack_is_work g s (Feed e k) seen = omega arith
+ack_is_work g s End seen = omega arith
 
 acks_below : (g : Setting) (s : Part) (xs : List Step) → acks_in xs ≤ work_of g s xs
 acks_below g s [] = omega arith

@@ -1,22 +1,23 @@
 -- The root: what is outstanding at the opening, and how a settle of a root edge changes it.
-use Rattle.std.proofs.Common.{◌≡◌, ℕ, ◌+◌, ◌-◌, ◌<◌, ◌≤◌, true, false, cond, eqb, ltb, leb, List, [], ◌∷◌, length}
-use Rattle.std.proofs.Common.{get_or, set, replicate, slice_index, lt-ltb, le-ltb, eq-eqb, None, refl, sym, ap, ◌∙◌}
+use Rattle.std.proofs.Common.{◌≡◌, ℕ, ◌+◌, ◌-◌, ◌<◌, ◌≤◌, cond, eqb, ltb, List, [], ◌∷◌, length}
+use Rattle.std.proofs.Common.{get_or, set, replicate, slice_index, le-ltb, eq-eqb, Option, Some, None, refl}
+use Rattle.std.proofs.Common.{sym, ap, ◌∙◌}
 use Rattle.std.proofs.Common.{subst, arith, length-set, get_or-set_same, get_or-set_other}
 use Rattle.std.proofs.lemmas.List.{get_or-replicate, length-replicate}
 use Rattle.std.proofs.lemmas.Bool.{leb-true}
 use mathlib.Core.Logic.{dite}
 use native.Mathlib.Decide.{ℕ_discrete}
-use Rattle.chip_graph.specs.Sums.{sum_below}
-use Rattle.chip_graph.proofs.SumLemmas.{tested_term, tested_move, cond_yes, cond_no, cond_true, cond_false}
+use Rattle.chip_graph.proofs.SumLemmas.{tested_term, tested_move, cond_yes, cond_no, cond_false}
 use Rattle.chip_graph.proofs.SumLemmas.{sum_below_ext, sum_below_none, sum_below_split}
 use Rattle.chip_link.specs.Link.{claims_of}
 use Rattle.chip_actor.specs.Setting.{Setting, HasGame}
 use Rattle.chip_actor.specs.Edges.{graph_edges, all_edges, root_edge, start_of, tail_of, root}
-use Rattle.chip_actor.specs.Part.{Part, Out, opened, first_put, outstanding, deficit}
+use Rattle.chip_actor.specs.Part.{Part, opened, first_put, outstanding, deficit}
 use Rattle.chip_actor.specs.Rules.{Settle, unmet}
 use Rattle.chip_actor.specs.Steps.{Step, does}
 use Rattle.chip_actor.specs.declared.reply.Reply.TheVariants.{Done}
-use Rattle.chip_actor.specs.Root.{Root, RootStandsFor, SomeRoot, RootCanDo, RootMakes, with_chips}
+use Rattle.chip_actor.specs.Root.{Root, Feeder, MayFeed, RootStandsFor, SomeRoot, RootCanDo, RootMakes}
+use Rattle.chip_actor.specs.Root.{with_chips}
 use Rattle.chip_actor.proofs.EdgeLemmas.{tail_root, tail_graph}
 use Rattle.chip_actor.proofs.RuleLemmas.{rules_met}
 
@@ -37,7 +38,7 @@ module _ (g : Setting) where
       (λ z. ap (λ (l : List ℕ). (length l + 0) - 0) (cond_no (start_of g v) 0 [] (start_of g v ∷ []) z)
       ∙ sym (cond_no (start_of g v) 0 0 1 z))
 
-  all_outstanding : HasGame g → with_chips g.start g.graph.vertices ≡ deficit g (root g) (opened g)
+  pub all_outstanding : HasGame g → with_chips g.start g.graph.vertices ≡ deficit g (root g) (opened g)
   all_outstanding game =
       let f : ℕ → ℕ = λ e. cond (eqb (tail_of g e) (root g)) (outstanding ((opened g).out e)) 0 in
       let parted = sum_below_split (graph_edges g) g.graph.vertices f in
@@ -53,12 +54,15 @@ module _ (g : Setting) where
           (game.graph_fits.edges_fit e l).tail_is_vertex
 
   pub root_opens : HasGame g → (r : Root) → r.graph_edges ≡ graph_edges g → r.settled ≡ replicate g.graph.vertices 0
-      → r.outstanding ≡ with_chips g.start g.graph.vertices → RootStandsFor g (opened g) r
-  root_opens game r edges settled counted = record {
+      → r.outstanding ≡ with_chips g.start g.graph.vertices → MayFeed g (opened g) r.feeder
+      → RootStandsFor g (opened g) r
+  root_opens game r edges settled counted feeder = record {
+    game = game;
     edges = edges;
     settled_each = ap (λ (l : List ℕ). length l) settled ∙ length-replicate g.graph.vertices 0;
     settled = λ v l. ap (λ (l : List ℕ). slice_index l v) settled ∙ get_or-replicate g.graph.vertices v 0 0 l;
     outstanding = counted ∙ all_outstanding game;
+    feeder = feeder;
   }
 
 -- ---- a settle
@@ -133,16 +137,40 @@ module _ (g : Setting) (s : Part) (r : Root) (stands : RootStandsFor g s r) (edg
       let is = was in let all = stands.outstanding in let few = more_low in
       omega arith
 
+  feeds_still : (m : Option Feeder) → MayFeed g s m → MayFeed g (does g settling s) m
+  feeds_still None unfed = unfed
+  feeds_still (Some f) feeds = record {
+    is_fed = feeds.is_fed;
+    ended = feeds.ended;
+    fed = feeds.fed;
+    within = feeds.within;
+    few_outstanding = (let was = feeds.few_outstanding in let now = outstanding_now in let old = stands.outstanding in
+        omega arith);
+    tails_each = feeds.tails_each;
+    tails = feeds.tails;
+    given = feeds.given;
+    kept = feeds.kept;
+    settled_few = λ u m. dite (ℕ_discrete edge (root_edge g u))
+        (λ same. subst (λ (e : ℕ). ((does g settling s).out e).settled ≤ claims_of (s.out e).link) same
+        (let now = cond_yes edge edge ((s.out edge).settled + (seen - (s.out edge).settled)) (s.out edge).settled refl
+        in omega arith))
+        (λ other. (let now = cond_no edge (root_edge g u)
+        ((s.out (root_edge g u)).settled + (seen - (s.out (root_edge g u)).settled))
+        (s.out (root_edge g u)).settled other in let low = feeds.settled_few u m in omega arith));
+  }
+
   pub settles : (after : Root) → after.graph_edges ≡ r.graph_edges
       → after.settled ≡ set r.settled (edge - r.graph_edges) seen
       → after.outstanding ≡ r.outstanding - (seen - slice_index r.settled (edge - r.graph_edges))
-      → RootStandsFor g (does g settling s) after
-  settles after edges settled counted = record {
+      → after.feeder ≡ r.feeder → RootStandsFor g (does g settling s) after
+  settles after edges settled counted feeder = record {
+    game = stands.game;
     edges = edges ∙ stands.edges;
     settled_each = ap (λ (l : List ℕ). length l) settled ∙ length-set r.settled (edge - r.graph_edges) seen
         ∙ stands.settled_each;
     settled = λ u m. ap (λ (l : List ℕ). slice_index l u) settled ∙ settled_now u m;
     outstanding = counted ∙ outstanding_now;
+    feeder = subst (MayFeed g (does g settling s)) (sym feeder) (feeds_still r.feeder stands.feeder);
   }
 
   pub more_is : seen - slice_index r.settled (edge - r.graph_edges) ≡ seen - (s.out edge).settled
@@ -163,13 +191,13 @@ can_settle r edge seen i at (g, s, stands, can) =
 
 pub settle_made : (r : Root) (edge seen i : ℕ) → i ≡ edge - r.graph_edges → (after : Root) (more : ℕ)
     → more ≡ seen - slice_index r.settled i → after.graph_edges ≡ r.graph_edges
-    → after.settled ≡ set r.settled i seen → after.outstanding ≡ r.outstanding - more
+    → after.settled ≡ set r.settled i seen → after.outstanding ≡ r.outstanding - more → after.feeder ≡ r.feeder
     → RootMakes r after (Settle edge) seen (Done more)
-settle_made r edge seen i at after more more_at edges settled counted = λ g s stands can.
+settle_made r edge seen i at after more more_at edges settled counted feeder = λ g s stands can.
     let past = leb-true (graph_edges g) edge can.0 in
     let is : more ≡ seen - slice_index r.settled (edge - r.graph_edges) = more_at
     ∙ ap (λ (n : ℕ). seen - slice_index r.settled n) at in (
       settles g s r stands edge seen past can.1 can.2.0 can.2.1 after edges (settled
-          ∙ ap (λ (n : ℕ). set r.settled n seen) at) (counted ∙ ap (λ (n : ℕ). r.outstanding - n) is),
+          ∙ ap (λ (n : ℕ). set r.settled n seen) at) (counted ∙ ap (λ (n : ℕ). r.outstanding - n) is) feeder,
       ap Done (is ∙ more_is g s r stands edge seen past can.1 can.2.0 can.2.1),
     )

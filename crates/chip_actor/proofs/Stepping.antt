@@ -25,9 +25,9 @@ use Rattle.chip_actor.specs.Kept.{KeepsPart}
 use Rattle.chip_actor.specs.Ends.{OutEnd, OutEnds, InEnds, out_on, in_on, ChangesOut, ChangesOuts, ChangesIn}
 use Rattle.chip_actor.specs.Ends.{out_after_clear, out_after_claim, out_after_put, out_after_fire}
 use Rattle.chip_actor.specs.Actor.{Actor, KnowsGame, StandsFor, out_end}
-use Rattle.chip_actor.proofs.RuleLemmas.{rules_met}
+use Rattle.chip_actor.proofs.RuleLemmas.{rules_met, vertex_clear}
 use Rattle.chip_actor.proofs.PartLemmas.{events_keep, idle_take, took_some}
-use Rattle.chip_actor.proofs.EdgeLemmas.{over_outs_graph}
+use Rattle.chip_actor.proofs.EdgeLemmas.{over_outs_graph, sendable_inside}
 
 module _ (g : Setting) (s : Part) (a : Actor) (stands : StandsFor g s a) where
   -- what it knows of the game is no matter of its numbers
@@ -255,7 +255,7 @@ module _ (g : Setting) (s : Part) (a : Actor) (stands : StandsFor g s a) where
   pub may_look : (e : ℕ) → tail_of g e ≡ a.vertex → unmet g (Clear e) s ≡ None
       → may_clear (tail_state e g.ring (s.out e).link) ≡ true
   may_look e at may =
-      let met = rules_met g (Clear e) s may in
+      let met = vertex_clear g e s (Rattle.chip_actor.proofs.Standing.out_inside g s a stands e at) may in
       let out = stands.kept.outs e at in
       let hand = out.free_hand met.0 met.3 in
       let fewer = out.fewer_yet met.0 met.3 in
@@ -551,7 +551,7 @@ module _ (g : Setting) (s : Part) (a : Actor) (stands : StandsFor g s a) where
         unput =
             (let move = tested_move (all_edges g) (λ i. eqb (tail_of g i) a.vertex)
             (λ i. length (option_to_list (link_after (Put e) seen i (s.out i)).held))
-            (λ i. length (option_to_list (s.out i).link.held)) e (let z = met.0 in omega arith) (eq-eqb _ _ at)
+            (λ i. length (option_to_list (s.out i).link.held)) e (sendable_inside g e met.0) (eq-eqb _ _ at)
             (λ i l ne on. ap (λ (t : Tail). length (option_to_list t.held)) (else' i (λ z. ne (sym z)))) in
             let new = ap (λ (t : Tail). length (option_to_list t.held)) link_is in
             let old : length (option_to_list o.link.held) ≡ 1 = ap (λ (h : Option ℕ). length (option_to_list h)) met.1.1

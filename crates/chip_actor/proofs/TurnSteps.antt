@@ -2,7 +2,7 @@
 use Rattle.std.proofs.Common.{◌≡◌, ◌≢◌, ℕ, zero, suc, ◌+◌, ◌-◌, ◌*◌, ◌/◌, ◌<◌, ◌≤◌, min, Bool, true, false, not, ◌&&◌}
 use Rattle.std.proofs.Common.{cond, eqb, List, [], ◌∷◌, ◌++◌, length, get_or, slice_index, Option, Some, None, is_some}
 use Rattle.std.proofs.Common.{is_none, option_to_list, refl, sym, ap, ◌∙◌, subst, arith, eq-eqb, ne_eqb, eqb-true}
-use Rattle.std.proofs.Common.{ltb-true, leb-true, true≢false}
+use Rattle.std.proofs.Common.{ltb-true, leb-true, true≢false, inl}
 use Rattle.std.proofs.Math.Nat.{div-mul-le_self, le-div_iff_mul-le, le-min, min-le_left, min-le_right, mul-le-mul_right}
 use Rattle.std.proofs.Math.Nat.{le_trans}
 use Rattle.std.proofs.Math.Seq.{get_or-append_right}
@@ -29,7 +29,7 @@ use Rattle.chip_actor.specs.Turn.{is_at_limit}
 use Rattle.chip_actor.specs.Cursor.{out_at, left, claiming, storing, from_firing, from_settling, from_putting}
 use Rattle.chip_actor.specs.Cursor.{from_refusal, from_sending, from_limit, from_acknowledging, HoldsNothing, IsSending}
 use Rattle.chip_actor.specs.Cursor.{IsAt, GoesBy}
-use Rattle.chip_actor.proofs.EdgeLemmas.{tail_graph, head_graph, head_root}
+use Rattle.chip_actor.proofs.EdgeLemmas.{tail_graph, head_graph, head_root, graph_sendable}
 use Rattle.chip_actor.proofs.RuleLemmas.{met_rules, positive, running}
 use Rattle.chip_actor.proofs.PartLemmas.{out_zero, tail_inside, may_le}
 use Rattle.chip_actor.proofs.PickedLemmas.{picked_passes}
@@ -258,7 +258,7 @@ module _ (g : Setting) (v : ℕ) (vertex : v < g.graph.vertices) (s : Part) wher
       let e : ℕ = out_at g v next in
       record {
         mine = out_leaves g v next within;
-        met = met_rules g (Put e) s (out_inside g v next within, some_of _ held);
+        met = met_rules g (Put e) s (graph_sendable g e (out_inside g v next within), some_of _ held);
         fewer = omega arith;
         fits = λ seen k l. dite (dec_lt k next)
             (λ before. kept_none (eqb e (out_at g v k)) (s.out (out_at g v k)).link
@@ -364,8 +364,8 @@ module _ (g : Setting) (v : ℕ) (vertex : v < g.graph.vertices) (s : Part) wher
       let e : ℕ = out_at g v next in
       record {
         mine = out_leaves g v next within;
-        met = met_rules g (Clear e) s
-            (out_inside g v next within, at.running, at.refused e (out_leaves g v next within), positive _ some);
+        met = met_rules g (Clear e) s (inl
+            (out_inside g v next within, at.running, at.refused e (out_leaves g v next within), positive _ some));
         fewer = omega arith;
         fits = λ seen. (
           within,
@@ -478,7 +478,7 @@ module _ (g : Setting) (v : ℕ) (vertex : v < g.graph.vertices) (s : Part) wher
       let e : ℕ = out_at g v place in
       record {
         mine = out_leaves g v place within;
-        met = met_rules g (Put e) s (out_inside g v place within, some_of _ held);
+        met = met_rules g (Put e) s (graph_sendable g e (out_inside g v place within), some_of _ held);
         fewer = omega arith;
         fits = λ seen. record {
           running = at.running;

@@ -9,14 +9,16 @@ use Rattle.chip_actor.specs.Setting.{Setting}
 use Rattle.chip_link.specs.Words.{claims_in}
 use Rattle.chip_link.specs.Link.{claims_of}
 use Rattle.chip_detect.specs.Tally.{message_limit}
-use Rattle.chip_actor.specs.Edges.{head_of}
+use Rattle.chip_actor.specs.Edges.{head_of, root_edge}
 use Rattle.chip_actor.specs.Part.{Part, may_ack, cause, is_by_limit}
-use Rattle.chip_actor.specs.Rules.{Rule, Event, Take, Ack, Fire, Clear, Claim, Put, Halt, Settle, Seal, Read, unmet}
+use Rattle.chip_actor.specs.Rules.{Rule, Event, Take, Ack, Fire, Clear, Claim, Put, Halt, Settle, Seal, Read}
+use Rattle.chip_actor.specs.Rules.{Feed, End, unmet}
 use Rattle.chip_actor.specs.Steps.{Reply, part_of, does, reply_of}
 use Rattle.chip_actor.specs.Actor.{Actor, WhateverPart, StandsFor}
 
 -- the operation that an event of a vertex needs, where its rules are met. A message with place p stands in cell p %
--- ring, and the one that is claimed and not put has the last place. A seal and a read are no operations of a vertex
+-- ring, and the one that is claimed and not put has the last place. A seal and a read are no operations of a vertex;
+-- those of the root on its edges are of the same kinds
 abbrev pub act_of : Setting → Event → Part → Act
 act_of g (Take e) s = Do.Take e (length (s.into e).got % g.ring)
 act_of g (Ack e) s = Do.Ack e (may_ack g (head_of g e) s e)
@@ -28,6 +30,8 @@ act_of g (Halt v) s = Do.Halt (is_by_limit (cause g v s))
 act_of g (Settle e) s = Do.Settle e
 act_of g (Seal e) s = Do.End
 act_of g (Read v) s = Do.End
+act_of g (Feed e k) s = Do.Claim e (claims_of (s.out e).link) (claims_of (s.out e).link + 1)
+act_of g End s = Do.Settle (root_edge g 0)
 
 -- the event that an operation of the vertex v makes. `End` is none: it is given an event that no vertex makes
 abbrev pub event_of : ℕ → Act → Event

@@ -11,11 +11,13 @@ use Rattle.chip_link.specs.Words.{claims_in}
 use Rattle.chip_link.specs.Link.{claims_of}
 use Rattle.chip_detect.specs.Tally.{message_limit}
 use Rattle.chip_actor.specs.Part.{Part}
-use Rattle.chip_actor.specs.Rules.{Event, Take, Claim, Settle, unmet}
+use Rattle.chip_actor.specs.Rules.{Event, Take, Claim, Settle, Feed, End, unmet}
 use Rattle.chip_actor.specs.Steps.{Reply, part_of, does, asked}
 use Rattle.chip_actor.specs.declared.act.Act.{Act}
 use Rattle.chip_actor.specs.Acting.{event_of}
 use Rattle.chip_actor.specs.Actor.{Actor, WhateverPart, StandsFor}
+use Rattle.chip_actor.specs.Edges.{root_edge}
+use Rattle.chip_actor.specs.Root.{Root, RootStandsFor, WhateverRoot, is_of_root}
 
 -- an operation of this event may see this
 abbrev pub fits_seen : Part → Event → ℕ → Bool
@@ -48,6 +50,29 @@ Answers old new x seen reply =
     WhateverPart old (λ g s. may_ask g old.vertex s x seen ≡ true
     → StandsFor g (asked g (record { event = x; seen = seen }) s (unmet g x s)).0 new
     × (reply ≡ (asked g (record { event = x; seen = seen }) s (unmet g x s)).1) × (new.vertex ≡ old.vertex))
+
+-- what an event of the root may see
+abbrev pub root_fits_seen : Setting → Part → Event → ℕ → Bool
+root_fits_seen g s (Feed e k) seen = seen == claims_of (s.out e).link
+root_fits_seen g s End seen = fits_seen s (Settle (root_edge g 0)) seen
+root_fits_seen g s x seen = fits_seen s x seen
+
+-- the root may be asked for this event, and where it makes it, it may see this
+abbrev pub may_ask_root : Setting → Part → Event → ℕ → Bool
+may_ask_root g s x seen = is_of_root g x && (is_some (unmet g x s) || root_fits_seen g s x seen)
+
+-- and for one event after another
+abbrev pub may_play_root : Setting → Part → List (Event × ℕ × Reply) → Bool
+may_play_root g s [] = true
+may_play_root g s (x ∷ xs) = may_ask_root g s x.0 x.1
+    && may_play_root g (asked g (record { event = x.0; seen = x.1 }) s (unmet g x.0 s)).0 xs
+
+-- the root answered so: whatever part it stood for, it stands for that part after the question
+abbrev pub RootAnswers : Root → Root → Event → ℕ → Reply → Type 0
+RootAnswers old new x seen reply =
+    WhateverRoot old (λ g s. may_ask_root g s x seen ≡ true
+    → RootStandsFor g (asked g (record { event = x; seen = seen }) s (unmet g x s)).0 new
+    × (reply ≡ (asked g (record { event = x; seen = seen }) s (unmet g x s)).1))
 
 -- the game on edges with these ends, which send one chip for each firing. The sink is the last vertex
 abbrev pub edge_of : ℕ × ℕ → Edge

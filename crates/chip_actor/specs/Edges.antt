@@ -49,6 +49,10 @@ over_outs g v f = sum_below (all_edges g) (λ e. if tail_of g e == v then f e el
 abbrev pub over_ins : Setting → ℕ → (ℕ → ℕ) → ℕ
 over_ins g v f = sum_below (all_edges g) (λ e. if head_of g e == v then f e else 0)
 
--- the chips that ever went into e, where its tail fired so often: on a root edge the start of its head
+-- the chips that the firings of its tail put into e, an edge of the graph, where it fired so often
 abbrev pub made : Setting → ℕ → ℕ → ℕ
-made g e fired = if nat_lt e (length g.graph.edges) then mult_of g e * fired else start_of g (e - length g.graph.edges)
+made g e fired = mult_of g e * fired
+
+-- the edges that a tail may look at and put on: those of the graph, and the root's where chips are fed
+abbrev pub sendable_edges : Setting → ℕ
+sendable_edges g = if g.fed then all_edges g else graph_edges g

@@ -3,7 +3,7 @@ use Rattle.std.specs.Prelude.{ℕ}
 use Rattle.chip_actor.specs.declared.rule.Rule.{Rule}
 use Rattle.chip_actor.specs.declared.rule.Rule.TheVariants.{NoSuch, Sink, Halted, Pending, Zero, Limit, NotLegal}
 use Rattle.chip_actor.specs.declared.rule.Rule.TheVariants.{NothingPending, Refused, Unput, NotCleared, NotClaimed}
-use Rattle.chip_actor.specs.declared.rule.Rule.TheVariants.{NoCause, NothingOwed, Engaged, NotClosed}
+use Rattle.chip_actor.specs.declared.rule.Rule.TheVariants.{NoCause, NothingOwed, Engaged, NotClosed, Ended, TooMuch}
 
 -- the number of a rule
 abbrev pub number_of : Rule → ℕ
@@ -23,3 +23,5 @@ number_of NoCause = 13
 number_of NothingOwed = 14
 number_of Engaged = 15
 number_of NotClosed = 16
+number_of Ended = 17
+number_of TooMuch = 18

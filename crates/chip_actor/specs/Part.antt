@@ -2,14 +2,15 @@
 -- record, by the numbers of edges: an edge is looked up in the part of its own tail, of its own head and of the
 -- stopper, and nowhere else.
 use Rattle.std.specs.Prelude.{ℕ, ◌-◌, Bool, true, false, not, ◌&&◌, ◌||◌, ◌==◌, nat_lt, nat_le, if◌then◌else◌, List, []}
-use Rattle.std.specs.Prelude.{◌∷◌, length, Option, Some, None, is_none, option_to_list}
+use Rattle.std.specs.Prelude.{◌∷◌, length, sum, Option, Some, None, is_none, option_to_list}
 pub use Rattle.chip_actor.specs.declared.cause.Cause.{Cause}
 use Rattle.chip_actor.specs.declared.cause.Cause.TheVariants.{SealedEdge, FiringLimit}
 use Rattle.chip_graph.specs.Multigraph.{degree}
 use Rattle.chip_actor.specs.Setting.{Setting}
-use Rattle.chip_link.specs.Link.{Tail, claims_of}
+use Rattle.chip_link.specs.Link.{Tail, claims_of, sent_counts}
 use Rattle.chip_detect.specs.Acknowledging.{acknowledgeable}
-use Rattle.chip_actor.specs.Edges.{graph_edges, start_of, over_outs, over_ins}
+use Rattle.chip_graph.specs.Sums.{sum_below}
+use Rattle.chip_actor.specs.Edges.{graph_edges, root_edge, start_of, over_outs, over_ins}
 
 -- an edge, as the part of its tail has it: what was sent, what is left to send of the last batch, and how many messages
 -- are settled
@@ -25,7 +26,7 @@ pub record Into : Type 0 where
   pub acked : ℕ
 
 -- a part: chips and firings of the vertex, why it halted if it did, the edge of the message that engaged it, all edges,
--- and for each edge the word that its first seal saw
+-- for each edge the word that its first seal saw, and whether the root noted that nothing more is fed
 pub record Part : Type 0 where
   pub chips : ℕ
   pub fired : ℕ
@@ -34,13 +35,15 @@ pub record Part : Type 0 where
   pub out : ℕ → Out
   pub into : ℕ → Into
   pub stop : ℕ → Option ℕ
+  pub ended : Bool
 
 -- the counts with which an edge opens: on the root edge of a vertex that starts with chips these chips, which are put
 abbrev pub first_put : Setting → ℕ → List ℕ
 first_put g e = if nat_lt e (graph_edges g) then [] else if start_of g (e - graph_edges g) == 0 then []
     else start_of g (e - graph_edges g) ∷ []
 
--- every part at the opening. One record serves all, since an edge is looked up in the parts of its own ends alone
+-- every part at the opening. One record serves all, since an edge is looked up in the parts of its own ends alone.
+-- Where no chips are fed the end of feeding is noted from the beginning
 abbrev pub opened : Setting → Part
 opened g = record {
   chips = 0;
@@ -54,6 +57,7 @@ opened g = record {
   };
   into = λ e. record { got = []; acked = 0 };
   stop = λ e. None;
+  ended = not g.fed;
 }
 
 -- the vertex isn't halted
@@ -71,6 +75,10 @@ outstanding o = claims_of o.link - o.settled
 -- the messages that v waits for the acknowledgement of, and so the root
 abbrev pub deficit : Setting → ℕ → Part → ℕ
 deficit g v s = over_outs g v (λ e. outstanding (s.out e))
+
+-- all chips that the root ever sent, on all root edges: those of the start, and those that were fed
+abbrev pub all_fed : Setting → Part → ℕ
+all_fed g s = sum_below g.graph.vertices (λ v. sum (sent_counts (s.out (root_edge g v)).link))
 
 -- all that v owes
 abbrev pub all_owed : Setting → ℕ → Part → ℕ

@@ -1,19 +1,26 @@
--- How a game is set up: the game, and how many cells the ring of each edge has.
-use Rattle.std.specs.Prelude.{ℕ, ◌<◌, ◌≤◌, List}
+-- How a game is set up: the game, how many cells the ring of each edge has, and whether chips are fed while it runs.
+use Rattle.std.specs.Prelude.{ℕ, ◌<◌, ◌≤◌, Bool, false, List}
 use Rattle.chip_graph.specs.Multigraph.{Multigraph}
 use Rattle.chip_graph.specs.ChipGame.{ChipGame, IsGame}
 use Rattle.chip_link.specs.Rings.{max_ring}
 
--- the graph, the chips of each vertex at the start, how often a vertex may fire, and the cells of a ring
+-- the graph, the chips of each vertex at the start, how often a vertex may fire, the cells of a ring, and whether the
+-- root may feed more chips
 pub record Setting : Type 0 where
   pub graph : Multigraph
   pub start : List ℕ
   pub limit : ℕ
   pub ring : ℕ
+  pub fed : Bool
 
--- this game with rings of so many cells
+-- this game with rings of so many cells, fed or not
+abbrev pub setting_with : ChipGame → ℕ → Bool → Setting
+setting_with game ring fed =
+    record { graph = game.graph; start = game.start; limit = game.limit; ring = ring; fed = fed }
+
+-- this game with rings of so many cells, which has all its chips from the start
 abbrev pub setting_of : ChipGame → ℕ → Setting
-setting_of game ring = record { graph = game.graph; start = game.start; limit = game.limit; ring = ring }
+setting_of game ring = setting_with game ring false
 
 -- its game alone
 abbrev pub game_of_setting : Setting → ChipGame

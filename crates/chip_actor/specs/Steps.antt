@@ -1,6 +1,7 @@
 -- What an event does to the part that makes it, field by field, and the reply. `seen` is the word that the event's
 -- operation found, 0 of a store; it is all that an event learns of other parts.
-use Rattle.std.specs.Prelude.{ℕ, ◌+◌, ◌-◌, ◌*◌, ◌&&◌, ◌==◌, if◌then◌else◌, List, [], ◌∷◌, sum, length, Option, Some}
+use Rattle.std.specs.Prelude.{ℕ, Bool, true, ◌+◌, ◌-◌, ◌*◌, ◌&&◌, ◌==◌, if◌then◌else◌, List, [], ◌∷◌, sum, length}
+use Rattle.std.specs.Prelude.{Option, Some}
 use Rattle.std.specs.Prelude.{None, option_to_list}
 use Rattle.chip_link.specs.declared.message.Message.{Message}
 pub use Rattle.chip_link.specs.declared.event.Step.{Step}
@@ -11,9 +12,10 @@ use Rattle.chip_link.specs.Link.{Tail, claims_of, after_clear, after_claim, afte
 use Rattle.chip_detect.specs.Acknowledging.{is_parent, or_else}
 use Rattle.chip_graph.specs.Multigraph.{degree}
 use Rattle.chip_actor.specs.Setting.{Setting}
-use Rattle.chip_actor.specs.Edges.{tail_of, head_of, mult_of, root, stopper}
+use Rattle.chip_actor.specs.Edges.{tail_of, head_of, mult_of, root, root_edge, stopper}
 use Rattle.chip_actor.specs.Part.{Part, Out, Into, Cause, owed, may_ack, cause, refusals}
-use Rattle.chip_actor.specs.Rules.{Rule, Event, Take, Ack, Fire, Clear, Claim, Put, Halt, Settle, Seal, Read, unmet}
+use Rattle.chip_actor.specs.Rules.{Rule, Event, Take, Ack, Fire, Clear, Claim, Put, Halt, Settle, Seal, Read}
+use Rattle.chip_actor.specs.Rules.{Feed, End, unmet}
 
 -- who makes an event
 abbrev pub part_of : Setting → Event → ℕ
@@ -27,6 +29,8 @@ part_of g (Halt v) = v
 part_of g (Settle e) = tail_of g e
 part_of g (Seal e) = stopper g
 part_of g (Read v) = root g
+part_of g (Feed e k) = tail_of g e
+part_of g End = root g
 
 -- chips come by a take, and go by a firing
 abbrev pub chips_after : Setting → Event → ℕ → ℕ → ℕ
@@ -57,6 +61,7 @@ abbrev pub link_after : Event → ℕ → ℕ → Out → Tail
 link_after (Clear e) seen i o = if e == i then after_clear seen o.link else o.link
 link_after (Claim e) seen i o = if e == i then after_claim o.pending seen o.link else o.link
 link_after (Put e) seen i o = if e == i then after_put o.link else o.link
+link_after (Feed e k) seen i o = if e == i then after_claim k seen o.link else o.link
 link_after _ seen i o = o.link
 
 -- a firing leaves something to send on each edge out of its vertex; a claim that is taken sends all of it
@@ -65,10 +70,11 @@ pending_after g (Fire v k) seen i o = if tail_of g i == v then k * mult_of g i e
 pending_after g (Claim e) seen i o = if e == i then (if seen == claims_of o.link then 0 else o.pending) else o.pending
 pending_after g _ seen i o = o.pending
 
--- a settle counts up to the word of acknowledgements
-abbrev pub settled_after : Event → ℕ → ℕ → Out → ℕ
-settled_after (Settle e) seen i o = if e == i then o.settled + (seen - o.settled) else o.settled
-settled_after _ seen i o = o.settled
+-- a settle counts up to the word of acknowledgements; the end of feeding settles the first root edge
+abbrev pub settled_after : Setting → Event → ℕ → ℕ → Out → ℕ
+settled_after g (Settle e) seen i o = if e == i then o.settled + (seen - o.settled) else o.settled
+settled_after g End seen i o = if root_edge g 0 == i then o.settled + (seen - o.settled) else o.settled
+settled_after g _ seen i o = o.settled
 
 -- what was taken on the edge i
 abbrev pub got_after : Event → ℕ → ℕ → Into → List ℕ
@@ -85,6 +91,11 @@ abbrev pub stop_after : Event → ℕ → ℕ → Option ℕ → Option ℕ
 stop_after (Seal e) seen i stop = if e == i then after_seal seen stop else stop
 stop_after _ seen i stop = stop
 
+-- the end is noted for good
+abbrev pub ended_after : Event → Bool → Bool
+ended_after End ended = true
+ended_after _ ended = ended
+
 -- the part that makes an event, after it
 abbrev pub does : Setting → Step → Part → Part
 does g x s = record {
@@ -95,10 +106,11 @@ does g x s = record {
   out = λ i. record {
     link = link_after x.event x.seen i (s.out i);
     pending = pending_after g x.event x.seen i (s.out i);
-    settled = settled_after x.event x.seen i (s.out i);
+    settled = settled_after g x.event x.seen i (s.out i);
   };
   into = λ i. record { got = got_after x.event x.seen i (s.into i); acked = acked_after g x.event s i (s.into i) };
   stop = λ i. stop_after x.event x.seen i (s.stop i);
+  ended = ended_after x.event s.ended;
 }
 
 -- a message, by edge, place and count
@@ -118,6 +130,9 @@ reply_of g (Halt v) seen s = Done (if refusals g v s == 0 then 1 else 0)
 reply_of g (Settle e) seen s = Done (seen - (s.out e).settled)
 reply_of g (Seal e) seen s = Done (claims_in seen)
 reply_of g (Read v) seen s = Done (fired_in seen)
+reply_of g (Feed e k) seen s = if seen == claims_of (s.out e).link
+    then Sent (message_of e (claims_of (s.out e).link) k) else Sealed
+reply_of g End seen s = Done (seen - (s.out (root_edge g 0)).settled)
 
 -- a part and the reply after an event that is asked for: where a rule isn't met nothing is done
 abbrev pub asked : Setting → Step → Part → Option Rule → Part × Reply

@@ -1,5 +1,5 @@
 -- Worked runs of one part, as the definitions compute them. A ring has one cell.
-use Rattle.std.specs.Prelude.{◌≡◌, ℕ, ◌^◌, true, List, [], ◌∷◌, Some, None}
+use Rattle.std.specs.Prelude.{◌≡◌, ℕ, ◌^◌, true, false, List, [], ◌∷◌, Some, None}
 use Rattle.chip_graph.specs.Limits.{max_limit}
 use Rattle.chip_graph.specs.declared.edge.Edge.{Edge}
 use Rattle.chip_actor.specs.Setting.{Setting}
@@ -28,6 +28,7 @@ small_triangle start = record {
   start = start;
   limit = max_limit;
   ring = 1;
+  fed = false;
 }
 
 -- a chain of two edges, with three chips in front
@@ -37,6 +38,7 @@ chain = record {
   start = 3 ∷ 0 ∷ 0 ∷ [];
   limit = max_limit;
   ring = 1;
+  fed = false;
 }
 
 -- two edges from vertex 0 to the sink 1
@@ -46,6 +48,7 @@ two_edges = record {
   start = 2 ∷ 0 ∷ [];
   limit = max_limit;
   ring = 1;
+  fed = false;
 }
 
 -- an event that saw this word

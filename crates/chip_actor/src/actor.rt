@@ -1,5 +1,5 @@
 ghost use Rattle.std.specs.Prelude.{◌≡◌, ◌≢◌, ◌+◌, ◌*◌, ◌<◌, ◌≤◌, ◌==◌, not, ◌&&◌, ◌||◌, nat_le, is_none, length};
-ghost use Rattle.std.specs.Prelude.{slice_index, IfOk, IfSome, None, ⊤};
+ghost use Rattle.std.specs.Prelude.{slice_index, Bool, IfOk, IfSome, None, ⊤};
 
 use crate::act::{Act, Observed};
 use crate::cause::{Cause, is_by_limit};
@@ -64,7 +64,7 @@ impl Model for ActorState {
 
 impl ActorState {
     ghost use Rattle.chip_detect.specs.Acknowledging.{may_ack};
-    ghost use Rattle.chip_actor.specs.Setting.{setting_of};
+    ghost use Rattle.chip_actor.specs.Setting.{setting_with};
     ghost use Rattle.chip_actor.specs.Part.{opened, is_passive, cause};
     ghost use Rattle.chip_actor.specs.Edges.{tail_of, head_of};
     ghost use Rattle.chip_actor.specs.Rules.{unmet};
@@ -247,7 +247,8 @@ impl ActorState {
             Event::Claim(edge) => self.claim_rule(edge),
             Event::Put(edge) => self.put_rule(edge),
             Event::Halt(_) => self.halt_rule(),
-            Event::Seal(_) | Event::Read(_) => unreachable!(),
+            Event::Feed { .. } => Some(Rule::NoSuch),
+            Event::Seal(_) | Event::Read(_) | Event::End => unreachable!(),
         }
     }
 
@@ -287,12 +288,13 @@ impl ActorState {
             Event::Halt(_) => Act::Halt {
                 by_limit: is_by_limit(self.cause()),
             },
-            Event::Seal(_) | Event::Read(_) => unreachable!(),
+            Event::Seal(_) | Event::Read(_) | Event::Feed { .. } | Event::End => unreachable!(),
         }
     }
 
     /// The operation that an event of this vertex needs, or the first of its rules that isn't met. Takes and
-    /// acknowledgements are of edges into the vertex, all others of the vertex itself or of edges out of it.
+    /// acknowledgements are of edges into the vertex, all others of the vertex itself or of edges out of it. No vertex
+    /// feeds.
     pub fn may(&self, event: &Event) -> Result<Act, Rule>
         requires { SomePart self.now (λ g s. part_of g event.now ≡ self.now.vertex) }
         ensures { WhateverPart self.now (λ g s. part_of g event.now ≡ self.now.vertex
@@ -489,7 +491,8 @@ impl ActorState {
     ) -> Result<ActorState, AllocError>
         requires { vertex < game.now.graph.vertices }
         ensures vertex { IfOk result (λ actor. actor.vertex ≡ vertex) }
-        ensures opened { let g = setting_of game.now ring in IfOk result (StandsFor g (opened g)) }
+        ensures opened { IfOk result (λ actor. (fed : Bool) → let g = setting_with game.now ring fed in
+            StandsFor g (opened g) actor) }
     {
         // With the cells read, the proof knows that the ring is in range.
         let _cells = ring.cells();

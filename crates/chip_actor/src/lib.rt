@@ -10,6 +10,7 @@ mod act;
 mod actor;
 mod cause;
 mod cursor;
+mod feeder;
 mod ins;
 pub mod laws;
 mod medium;

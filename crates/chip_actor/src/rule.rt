@@ -37,12 +37,16 @@ pub enum Rule {
     Engaged = 15,
     /// The root isn't closed.
     NotClosed = 16,
+    /// The end of feeding is noted.
+    Ended = 17,
+    /// With so many more, more chips than `MAX_TOTAL` would have been fed.
+    TooMuch = 18,
 }
 
 impl Rule {
     ghost use Rattle.chip_actor.specs.Numbers.{number_of};
 
-    /// The rule's number, 1 to 16, as outputs tell it.
+    /// The rule's number, 1 to 18, as outputs tell it.
     pub fn number(self) -> u8
         ensures { result ≡ number_of self }
     {

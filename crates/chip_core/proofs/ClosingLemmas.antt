@@ -1,8 +1,8 @@
 -- Where the root is closed nothing changes any more, everything is delivered, and chips and counts are those of every
 -- end.
-use Rattle.std.proofs.Common.{◌≡◌, ◌≢◌, ◌⊎◌, ℕ, ◌+◌, ◌-◌, ◌<◌, true, eqb, List, [], ◌∷◌, length, sum, get_or}
-use Rattle.std.proofs.Common.{slice_index, Option, Some, None, refl, sym, ap, ◌∙◌, subst, arith, inl, inr, ⊎_elim}
-use Rattle.std.proofs.Common.{ne_eqb, le-leb, true≢false}
+use Rattle.std.proofs.Common.{◌≡◌, ◌≢◌, ◌⊎◌, ℕ, ◌+◌, ◌-◌, ◌<◌, ◌≤◌, true, false, eqb, List, [], ◌∷◌, length, sum}
+use Rattle.std.proofs.Common.{get_or, option_to_list, Option, Some, None, refl, sym, ap, ◌∙◌, subst, arith, inl, inr}
+use Rattle.std.proofs.Common.{⊎_elim, ne_eqb, le-leb, true≢false}
 use Rattle.std.proofs.lemmas.Bool.{and_from, not_from_false}
 use Rattle.std.proofs.lemmas.List.{get_or_past, drop_all}
 use mathlib.Core.Logic.{dite}
@@ -25,14 +25,15 @@ use Rattle.chip_actor.specs.Part.{is_legal}
 use Rattle.chip_actor.specs.Steps.{settled_after}
 use Rattle.chip_actor.specs.Kept.{IsNeutral}
 use Rattle.chip_actor.proofs.RuleLemmas.{rules_met}
-use Rattle.chip_actor.proofs.PartLemmas.{at_edge, idle_take, passive_parts, no_fire, no_pending, no_put, no_halt}
+use Rattle.chip_actor.proofs.PartLemmas.{at_edge, idle_take, passive_parts, no_fire, no_pending, no_halt}
 use Rattle.chip_actor.proofs.PartLemmas.{out_zero, none_halt}
-use Rattle.chip_core.specs.Core.{Log, Step, Event, Take, Ack, Fire, Clear, Claim, Put, Halt, Settle, Seal, Read, Rule}
-use Rattle.chip_core.specs.Core.{Part, unmet, part_of, does, part_in, out_in, into_in, sees, is_by_limit, IsLegalLog}
-use Rattle.chip_core.specs.Core.{answer, step, log_after, IsClosed, outstanding, tail_of, head_of, root, stopper}
-use Rattle.chip_core.specs.Core.{all_edges, graph_edges}
+use Rattle.chip_actor.proofs.EdgeLemmas.{tail_root, sendable_inside}
+use Rattle.chip_core.specs.Core.{Log, Step, Event, Take, Ack, Fire, Clear, Claim, Put, Halt, Settle, Seal, Read, Feed}
+use Rattle.chip_core.specs.Core.{End, Rule, Part, unmet, part_of, does, part_in, out_in, into_in, sees, is_by_limit}
+use Rattle.chip_core.specs.Core.{IsLegalLog, answer, step, log_after, IsClosed, outstanding, tail_of, head_of, root}
+use Rattle.chip_core.specs.Core.{stopper, root_edge, all_edges, graph_edges}
 use Rattle.chip_core.specs.Messages.{counts_in_flight, messages_from, in_flight}
-use Rattle.chip_core.specs.Positions.{held, chips_at, firings, AgreesWith}
+use Rattle.chip_core.specs.Positions.{started, held, chips_at, firings, AgreesWith}
 use Rattle.chip_core.specs.Headline.{NoneHalted, NoneHaltedBySeal}
 use Rattle.chip_core.specs.Laws.{NothingInFlight}
 use Rattle.chip_core.proofs.LogLemmas.{part_here, part_else, part_kept, tail_inside, tail_cases}
@@ -48,31 +49,40 @@ cases_halt (Some SealedEdge) = inr (inr refl)
 module _ (g : Setting) (game : HasGame g) (some_ring : 0 < g.ring) where
   module _ (log : Log) (legal : IsLegalLog g log) (closed : IsClosed g log) where
     resting : (v : ℕ) → v < g.graph.vertices → IsNeutral g v (part_in g log v)
-    resting = all_neutral g game some_ring log legal closed
+    resting = all_neutral g game some_ring log legal closed.1
 
     -- ---- no later event changes a part, but the stopper's
+
+    -- the root feeds no more
+    not_open : (e : ℕ) → graph_edges g ≤ e → (part_in g log (tail_of g e)).ended ≡ false → ⊥
+    not_open e past going =
+        true≢false (sym closed.0 ∙ ap (λ (p : ℕ). (part_in g log p).ended) (sym (tail_root g e past)) ∙ going)
 
     still_step : (ev : Event) (seen : ℕ) → IsLegalLog g (record { event = ev; seen = seen } ∷ log)
         → part_of g ev ≢ stopper g → does g (record { event = ev; seen = seen }) (part_in g log (part_of g ev))
         ≡ part_in g log (part_of g ev)
     still_step (Take e) seen next ne =
         let l = rules_met g (Take e) (part_in g log (head_of g e)) next.1.0 in
-        let c = all_counts g game some_ring log legal closed e l in
+        let c = all_counts g game some_ring log legal closed.1 e l in
         let is : seen ≡ get_or (out_in g log e).link.put (length (into_in g log e).got) 0 = next.1.1 in
         let c2 = c.2 in
         idle_take g e seen (part_in g log (head_of g e)) (is
         ∙ get_or_past (out_in g log e).link.put (length (into_in g log e).got) 0 (omega arith))
     still_step (Ack e) seen next ne =
         let may = rules_met g (Ack e) (part_in g log (head_of g e)) next.1.0 in
-        let c = all_counts g game some_ring log legal closed e may.0 in
+        let c = all_counts g game some_ring log legal closed.1 e may.0 in
         let c1 = c.1 in let some = may.1 in absurd (omega arith)
     still_step (Fire v k) seen next ne =
         let may = rules_met g (Fire v k) (part_in g log v) next.1.0 in
         absurd (no_fire g v (part_in g log v) (part_kept g game log legal v).outs (resting v may.0) v k refl may)
-    still_step (Clear e) seen next ne =
-        let may = rules_met g (Clear e) (part_in g log (tail_of g e)) next.1.0 in let l = may.0 in
-        absurd (no_pending g (tail_of g e) (part_in g log (tail_of g e)) (part_kept g game log legal (tail_of g e)).outs
-        (resting (tail_of g e) (tail_inside g game e may.0)) e refl (omega arith) may.1 may.3)
+    still_step (Clear e) seen next ne = absurd (⊎_elim
+        (λ v. let l = v.0 in
+        no_pending g (tail_of g e) (part_in g log (tail_of g e)) (part_kept g game log legal (tail_of g e)).outs
+        (resting (tail_of g e) (tail_inside g game e v.0)) e refl (omega arith) v.1 v.3)
+        (λ r. not_open e r.0 r.3)
+        (rules_met g (Clear e) (part_in g log (tail_of g e)) next.1.0))
+    still_step (Feed e k) seen next ne = let may = rules_met g (Feed e k) (part_in g log (tail_of g e)) next.1.0 in
+        absurd (not_open e may.0 may.2)
     still_step (Claim e) seen next ne =
         let may = rules_met g (Claim e) (part_in g log (tail_of g e)) next.1.0 in let l = may.0 in
         let outs = (part_kept g game log legal (tail_of g e)).outs in
@@ -80,19 +90,20 @@ module _ (g : Setting) (game : HasGame g) (some_ring : 0 < g.ring) where
         (resting (tail_of g e) (tail_inside g game e may.0)) e refl (omega arith) may.1
         ((outs e refl).clear_pends may.0 may.2))
     still_step (Put e) seen next ne =
-        let may = rules_met g (Put e) (part_in g log (tail_of g e)) next.1.0 in let l = may.0 in
-        absurd (no_put g (tail_of g e) (part_in g log (tail_of g e)) (part_kept g game log legal (tail_of g e)).outs
-        (resting (tail_of g e) (tail_inside g game e may.0)) e refl (omega arith) may.1.0 may.1.1)
+        let may = rules_met g (Put e) (part_in g log (tail_of g e)) next.1.0 in
+        let none = (all_counts g game some_ring log legal closed.1 e (sendable_inside g e may.0)).3 in
+        let some = ap (λ (h : Option ℕ). length (option_to_list h)) may.1.1 in
+        absurd (omega arith)
     still_step (Halt v) seen next ne =
         let may = rules_met g (Halt v) (part_in g log v) next.1.0 in
         absurd (no_halt g v (part_in g log v) (part_kept g game log legal v).outs (resting v may.0) v refl may)
     still_step (Settle e) seen next ne =
         let s : Part = part_in g log (tail_of g e) in
         let l = rules_met g (Settle e) s next.1.0 in
-        let c = all_counts g game some_ring log legal closed e l in
+        let c = all_counts g game some_ring log legal closed.1 e l in
         let c0 = c.0 in
         let is : seen ≡ (into_in g log e).acked = next.1.1 in
-        let same : (i : ℕ) → settled_after (Settle e) seen i (s.out i) ≡ (s.out i).settled =
+        let same : (i : ℕ) → settled_after g (Settle e) seen i (s.out i) ≡ (s.out i).settled =
         at_edge (λ i (n : ℕ). n ≡ (s.out i).settled) e (λ i. (s.out i).settled + (seen - (s.out i).settled))
         (λ i. (s.out i).settled) (omega arith) (λ i. refl) in
         λ j. record {
@@ -103,6 +114,30 @@ module _ (g : Setting) (game : HasGame g) (some_ring : 0 < g.ring) where
           out = λ i. record { link = (s.out i).link; pending = (s.out i).pending; settled = same i j };
           into = s.into;
           stop = s.stop;
+          ended = s.ended;
+        }
+    still_step End seen next ne =
+        let s : Part = part_in g log (root g) in
+        let e : ℕ = root_edge g 0 in
+        let some = game.graph_fits.some_vertex in
+        let c = all_counts g game some_ring log legal closed.1 e (omega arith) in
+        let c0 = c.0 in
+        let at : tail_of g e ≡ root g = tail_root g e (omega arith) in
+        let mine : (out_in g log e).settled ≡ (s.out e).settled =
+        ap (λ (p : ℕ). ((part_in g log p).out e).settled) at in
+        let is : seen ≡ (into_in g log e).acked = next.1.1 in
+        let same : (i : ℕ) → settled_after g End seen i (s.out i) ≡ (s.out i).settled =
+        at_edge (λ i (n : ℕ). n ≡ (s.out i).settled) e (λ i. (s.out i).settled + (seen - (s.out i).settled))
+        (λ i. (s.out i).settled) (omega arith) (λ i. refl) in
+        λ j. record {
+          chips = s.chips;
+          fired = s.fired;
+          halt = s.halt;
+          parent = s.parent;
+          out = λ i. record { link = (s.out i).link; pending = (s.out i).pending; settled = same i j };
+          into = s.into;
+          stop = s.stop;
+          ended = sym closed.0 j;
         }
     still_step (Seal e) seen next ne = absurd (ne refl)
     still_step (Read v) seen next ne = refl
@@ -115,16 +150,20 @@ module _ (g : Setting) (game : HasGame g) (some_ring : 0 < g.ring) where
         (λ other. part_else g x log p other)
 
     pub still_closed : (x : Step) → IsLegalLog g (x ∷ log) → IsClosed g (x ∷ log)
-    still_closed x next e l at =
-        let same = still x next (tail_of g e) (λ z. (let a : root g ≡ stopper g = sym at ∙ z in absurd (omega arith)))
-        in
-        ap (λ (s : Part). outstanding (s.out e)) same ∙ closed e l at
+    still_closed x next = (
+      ap (λ (s : Part). s.ended) (still x next (root g) (λ z. (let a : root g ≡ stopper g = z in absurd (omega arith))))
+          ∙ closed.0,
+      λ e l at.
+          let same = still x next (tail_of g e) (λ z. (let a : root g ≡ stopper g = sym at ∙ z in absurd (omega arith)))
+          in
+          ap (λ (s : Part). outstanding (s.out e)) same ∙ closed.1 e l at,
+    )
 
     -- ---- everything is delivered
 
     none_in_flight : (e : ℕ) → e < all_edges g → counts_in_flight g log e ≡ []
     none_in_flight e l =
-        let c = all_counts g game some_ring log legal closed e l in
+        let c = all_counts g game some_ring log legal closed.1 e l in
         let c2 = c.2 in let c3 = c.3 in
         let long = length-sent_counts (out_in g log e).link in
         drop_all (length (into_in g log e).got) (sent_counts (out_in g log e).link) (omega arith)
@@ -151,7 +190,7 @@ module _ (g : Setting) (game : HasGame g) (some_ring : 0 < g.ring) where
           (tail_cases g game e)
 
       pub chips_are : (v : ℕ) → v < g.graph.vertices
-          → chips_at g log v ≡ position_after g.graph (slice_index g.start) (firings log) v
+          → chips_at g log v ≡ position_after g.graph (started g log) (firings log) v
       chips_are v l =
           let a = (leads_to g game some_ring log legal).position v l in
           let b : over_ins g v (λ e. sum (counts_in_flight g log e)) ≡ 0 = tested_none (all_edges g)
@@ -161,7 +200,7 @@ module _ (g : Setting) (game : HasGame g) (some_ring : 0 < g.ring) where
           omega arith
 
       -- a vertex that may still fire was halted by the limit
-      legal_halted : (v : ℕ) → IsLegal g.graph (position_after g.graph (slice_index g.start) (firings log)) v
+      legal_halted : (v : ℕ) → IsLegal g.graph (position_after g.graph (started g log) (firings log)) v
           → (part_in g log v).halt ≡ Some FiringLimit
       legal_halted v can =
           let same = chips_are v can.is_vertex in
@@ -173,11 +212,11 @@ module _ (g : Setting) (game : HasGame g) (some_ring : 0 < g.ring) where
           ∙ (passive_parts g v s (resting v can.is_vertex).passive runs).2)))
           (λ h. ⊎_elim (λ z. z) (λ z. absurd (no_seal v can.is_vertex z)) h) (cases_halt s.halt)
 
-      has_ended : HasEndedWithin g.graph (slice_index g.start) g.limit (firings log)
+      has_ended : HasEndedWithin g.graph (started g log) g.limit (firings log)
       has_ended v can = counts_are g log v ∙ ((part_kept g game log legal v).at_limit (legal_halted v can)).0
 
       -- the firings that were made are a whole play
-      pub played : IsWholePlay g.graph (slice_index g.start) g.limit (firings log)
+      pub played : IsWholePlay g.graph (started g log) g.limit (firings log)
       played = record {
         sequence = is_sequence g game some_ring log legal;
         within = is_within g game some_ring log legal;
@@ -200,9 +239,9 @@ module _ (g : Setting) (game : HasGame g) (some_ring : 0 < g.ring) where
           (λ v. is_legal g v (part_in g log v)) g.graph.vertices by_limit_is
 
       -- counts and chips are those of every whole play
-      pub agrees_within : (vs : List ℕ) → IsWholePlay g.graph (slice_index g.start) g.limit vs → AgreesWith g log vs
+      pub agrees_within : (vs : List ℕ) → IsWholePlay g.graph (started g log) g.limit vs → AgreesWith g log vs
       agrees_within vs whole =
-          let one = one_end g.graph (slice_index g.start) g.limit (firings log) vs played whole in
+          let one = one_end g.graph (started g log) g.limit (firings log) vs played whole in
           record { counted = λ v. sym (counts_are g log v) ∙ one.0 v; chips = λ v l. chips_are v l ∙ one.1 v }
 
     -- ---- where no vertex halted
@@ -211,15 +250,15 @@ module _ (g : Setting) (game : HasGame g) (some_ring : 0 < g.ring) where
       no_seals : NoneHaltedBySeal g log
       no_seals v l h = none_halt g (part_in g log v).halt SealedEdge (no_halts v l) h
 
-      pub all_ended : HasEnded g.graph (slice_index g.start) (firings log)
+      pub all_ended : HasEnded g.graph (started g log) (firings log)
       all_ended v can = none_halt g (part_in g log v).halt FiringLimit (no_halts v can.is_vertex)
           (legal_halted no_seals v can)
 
       -- counts and chips are those of every sequence that ends with no vertex legal
-      pub agrees : (vs : List ℕ) → IsFiringSequence g.graph (slice_index g.start) vs
-          → HasEnded g.graph (slice_index g.start) vs → AgreesWith g log vs
+      pub agrees : (vs : List ℕ) → IsFiringSequence g.graph (started g log) vs
+          → HasEnded g.graph (started g log) vs → AgreesWith g log vs
       agrees vs ok ended =
-          let one = same_ends g.graph game.graph_fits (slice_index g.start) (firings log) vs
+          let one = same_ends g.graph game.graph_fits (started g log) (firings log) vs
           (is_sequence g game some_ring log legal) all_ended ok ended in
           record { counted = λ v. sym (counts_are g log v) ∙ one.0 v; chips = λ v l. chips_are no_seals v l ∙ one.1 v }
 

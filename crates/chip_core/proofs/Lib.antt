@@ -1,5 +1,6 @@
 pub mod LogLemmas
 pub mod OrderLemmas
+pub mod GivenLemmas
 pub mod PositionLemmas
 pub mod ReachingLemmas
 pub mod ReplyLemmas

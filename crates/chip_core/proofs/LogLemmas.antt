@@ -1,7 +1,7 @@
 -- The parts and the edges in a legal log: what every one of them keeps, whatever was done.
 use Rattle.std.proofs.Common.{◌≡◌, ◌≢◌, ◌⊎◌, ℕ, ◌+◌, ◌-◌, ◌<◌, ◌≤◌, false, cond, eqb, List, [], ◌∷◌, length, Option}
-use Rattle.std.proofs.Common.{Some, None, option_to_list, refl, sym, ap, ◌∙◌, subst, arith, inl, inr, lt-ltb, le-ltb}
-use Rattle.std.proofs.Common.{pos_of_ne-zero}
+use Rattle.std.proofs.Common.{Some, None, option_to_list, refl, sym, ap, ◌∙◌, subst, arith, inl, inr, ⊎_elim, lt-ltb}
+use Rattle.std.proofs.Common.{le-ltb, pos_of_ne-zero}
 use mathlib.Core.Logic.{dite}
 use native.Mathlib.Decide.{ℕ_discrete, dec_lt}
 use Rattle.chip_actor.specs.Setting.{Setting, HasGame}
@@ -18,9 +18,9 @@ use Rattle.chip_actor.proofs.RuleLemmas.{rules_met}
 use Rattle.chip_actor.proofs.PartLemmas.{at_edge, no_held}
 use Rattle.chip_actor.proofs.PartLemmas as part_lemmas
 use Rattle.chip_actor.proofs.Opening.{opening_keeps}
-use Rattle.chip_core.specs.Core.{Log, Step, Event, Take, Ack, Fire, Clear, Claim, Put, Halt, Settle, Seal, Read, Part}
-use Rattle.chip_core.specs.Core.{Out, Into, part_of, does, part_in, out_in, into_in, stop_in, sees, IsLegalLog, tail_of}
-use Rattle.chip_core.specs.Core.{head_of, root, stopper, all_edges, graph_edges}
+use Rattle.chip_core.specs.Core.{Log, Step, Event, Take, Ack, Fire, Clear, Claim, Put, Halt, Settle, Seal, Read, Feed}
+use Rattle.chip_core.specs.Core.{End, Part, Out, Into, part_of, does, part_in, out_in, into_in, stop_in, sees}
+use Rattle.chip_core.specs.Core.{IsLegalLog, tail_of, head_of, root, root_edge, stopper, all_edges, graph_edges}
 
 module _ (g : Setting) where
   -- ---- the part that acts, and the others
@@ -45,8 +45,11 @@ module _ (g : Setting) where
   link_idle (Settle i) seen e o ne = refl
   link_idle (Seal i) seen e o ne = refl
   link_idle (Read v) seen e o ne = refl
+  link_idle (Feed i k) seen e o ne = cond_no i e (after_claim k seen o.link) o.link (λ z. ne (ap (tail_of g) z))
+  link_idle End seen e o ne = refl
 
-  settled_idle : (x : Event) (seen e : ℕ) (o : Out) → part_of g x ≢ tail_of g e → settled_after x seen e o ≡ o.settled
+  settled_idle : (x : Event) (seen e : ℕ) (o : Out) → part_of g x ≢ tail_of g e
+      → settled_after g x seen e o ≡ o.settled
   settled_idle (Settle i) seen e o ne = cond_no i e (o.settled + (seen - o.settled)) o.settled
       (λ z. ne (ap (tail_of g) z))
   settled_idle (Clear i) seen e o ne = refl
@@ -58,6 +61,9 @@ module _ (g : Setting) where
   settled_idle (Halt v) seen e o ne = refl
   settled_idle (Seal i) seen e o ne = refl
   settled_idle (Read v) seen e o ne = refl
+  settled_idle (Feed i k) seen e o ne = refl
+  settled_idle End seen e o ne = cond_no (root_edge g 0) e (o.settled + (seen - o.settled)) o.settled
+      (λ z. ne (sym (tail_root g e (let a : root_edge g 0 ≡ e = z in omega arith))))
 
   got_idle : (x : Event) (seen e : ℕ) (i : Into) → part_of g x ≢ head_of g e → got_after x seen e i ≡ i.got
   got_idle (Take j) seen e i ne = cond_no j e (after_take seen i.got) i.got (λ z. ne (ap (head_of g) z))
@@ -70,6 +76,8 @@ module _ (g : Setting) where
   got_idle (Settle j) seen e i ne = refl
   got_idle (Seal j) seen e i ne = refl
   got_idle (Read v) seen e i ne = refl
+  got_idle (Feed j k) seen e i ne = refl
+  got_idle End seen e i ne = refl
 
   acked_idle : (x : Event) (s : Part) (e : ℕ) (i : Into) → part_of g x ≢ head_of g e → acked_after g x s e i ≡ i.acked
   acked_idle (Ack j) s e i ne = cond_no j e (i.acked + may_ack g (head_of g j) s j) i.acked (λ z. ne (ap (head_of g) z))
@@ -82,6 +90,8 @@ module _ (g : Setting) where
   acked_idle (Settle j) s e i ne = refl
   acked_idle (Seal j) s e i ne = refl
   acked_idle (Read v) s e i ne = refl
+  acked_idle (Feed j k) s e i ne = refl
+  acked_idle End s e i ne = refl
 
   stop_idle : (x : Event) (seen e : ℕ) (stop : Option ℕ) → part_of g x ≢ stopper g → stop_after x seen e stop ≡ stop
   stop_idle (Seal j) seen e stop ne = absurd (ne refl)
@@ -94,6 +104,8 @@ module _ (g : Setting) where
   stop_idle (Halt v) seen e stop ne = refl
   stop_idle (Settle j) seen e stop ne = refl
   stop_idle (Read v) seen e stop ne = refl
+  stop_idle (Feed j k) seen e stop ne = refl
+  stop_idle End seen e stop ne = refl
 
   -- whichever part made it: a field of the part p is what the event makes of it
   field_step : {A : Type 0} (field : Part → A) (after : Part → A) (x : Step) (log : Log) (p : ℕ)
@@ -111,9 +123,9 @@ module _ (g : Setting) where
       (λ s. refl) (link_idle x.event x.seen e (out_in g log e))
 
   pub settled_step : (x : Step) (log : Log) (e : ℕ)
-      → (out_in g (x ∷ log) e).settled ≡ settled_after x.event x.seen e (out_in g log e)
+      → (out_in g (x ∷ log) e).settled ≡ settled_after g x.event x.seen e (out_in g log e)
   settled_step x log e = field_step (λ (s : Part). (s.out e).settled)
-      (λ (s : Part). settled_after x.event x.seen e (s.out e)) x log (tail_of g e)
+      (λ (s : Part). settled_after g x.event x.seen e (s.out e)) x log (tail_of g e)
       (λ s. refl) (settled_idle x.event x.seen e (out_in g log e))
 
   pub got_step : (x : Step) (log : Log) (e : ℕ)
@@ -173,6 +185,11 @@ module _ (g : Setting) where
       SoundAt : Log → ℕ → Type 0
       SoundAt log e = Sound g.ring (out_in g log e).link (into_in g log e).got (stop_in g log e)
 
+      -- nothing is claimed on an edge that may be looked at
+      pub empty_hand : (log : Log) → IsLegalLog g log → (e : ℕ) → Met g (Clear e) (part_in g log (tail_of g e))
+          → (out_in g log e).link.held ≡ None
+      empty_hand log legal e may = ⊎_elim (λ v. (out_kept log legal e).free_hand v.0 v.3) (λ r. r.4) may
+
       edge_step : (log : Log) (x : Event) (seen : ℕ) → IsLegalLog g log → Met g x (part_in g log (part_of g x))
           → seen ≡ sees g log x → ((e : ℕ) → SoundAt log e)
           → (e : ℕ) → Sound g.ring (link_after x seen e (out_in g log e)) (got_after x seen e (into_in g log e))
@@ -181,7 +198,7 @@ module _ (g : Setting) where
       edge_step log (Clear e) seen legal may is ok = at_edge
           (λ i (t : Tail). Sound g.ring t (into_in g log i).got (stop_in g log i)) e
           (λ i. after_clear seen (out_in g log i).link) (λ i. (out_in g log i).link)
-          (clear_sound g.ring some_ring _ _ _ (ok e) seen ((out_kept log legal e).free_hand may.0 may.3) is) ok
+          (clear_sound g.ring some_ring _ _ _ (ok e) seen (empty_hand log legal e may) is) ok
       edge_step log (Claim e) seen legal may is ok = at_edge
           (λ i (t : Tail). Sound g.ring t (into_in g log i).got (stop_in g log i)) e
           (λ i. after_claim (out_in g log i).pending seen (out_in g log i).link) (λ i. (out_in g log i).link)
@@ -204,6 +221,11 @@ module _ (g : Setting) where
       edge_step log (Halt v) seen legal may is ok = ok
       edge_step log (Settle e) seen legal may is ok = ok
       edge_step log (Read v) seen legal may is ok = ok
+      edge_step log (Feed e k) seen legal may is ok = at_edge
+          (λ i (t : Tail). Sound g.ring t (into_in g log i).got (stop_in g log i)) e
+          (λ i. after_claim k seen (out_in g log i).link) (λ i. (out_in g log i).link)
+          (claim_sound g.ring some_ring _ _ _ (ok e) k seen may.3 may.5 is) ok
+      edge_step log End seen legal may is ok = ok
 
       -- an edge with nothing on it, and a root edge with one message
       first_sound_at : (e : ℕ) → Sound g.ring
@@ -235,7 +257,7 @@ module _ (g : Setting) where
 
     settle_step : (log : Log) (x : Event) (seen : ℕ) → seen ≡ sees g log x
         → ((e : ℕ) → (out_in g log e).settled ≤ (into_in g log e).acked)
-        → (e : ℕ) → settled_after x seen e (out_in g log e)
+        → (e : ℕ) → settled_after g x seen e (out_in g log e)
         ≤ acked_after g x (part_in g log (head_of g e)) e (into_in g log e)
     settle_step log (Settle e) seen is ok = at_edge (λ i (n : ℕ). n ≤ (into_in g log i).acked) e
         (λ i. (out_in g log i).settled + (seen - (out_in g log i).settled)) (λ i. (out_in g log i).settled) (let a = ok e
@@ -251,6 +273,10 @@ module _ (g : Setting) where
     settle_step log (Halt v) seen is ok = ok
     settle_step log (Seal e) seen is ok = ok
     settle_step log (Read v) seen is ok = ok
+    settle_step log (Feed e k) seen is ok = ok
+    settle_step log End seen is ok = at_edge (λ i (n : ℕ). n ≤ (into_in g log i).acked) (root_edge g 0)
+        (λ i. (out_in g log i).settled + (seen - (out_in g log i).settled)) (λ i. (out_in g log i).settled)
+        (let a = ok (root_edge g 0) in omega arith) ok
 
     -- what the tail settled, the head acknowledged
     pub settled_behind : (log : Log) → IsLegalLog g log → (e : ℕ) → (out_in g log e).settled ≤ (into_in g log e).acked

@@ -4,7 +4,7 @@ use Rattle.std.proofs.Common.{length, sum, take, drop, option_to_list, Option, S
 use Rattle.std.proofs.Common.{subst, arith, true≢false, append_assoc, append-nil, length-append}
 use Rattle.std.proofs.lemmas.Bool.{or_right}
 use Rattle.std.proofs.lemmas.List.{take-append-le, take-append-drop, drop_at, append_cancel_left}
-use Rattle.std.proofs.lemmas.List.Sums.{sum_by-cons}
+use Rattle.std.proofs.lemmas.List.Sums.{sum_by-cons, sum_by-append}
 use Rattle.std.specs.List.{slice_get}
 use mathlib.Core.Logic.{dite}
 use native.Mathlib.Decide.{ℕ_discrete}
@@ -16,21 +16,22 @@ use Rattle.chip_link.specs.Laws.{IsPrefix}
 use Rattle.chip_link.proofs.Numbering.{numbered, numbered-append, length-numbered, numbered_at}
 use Rattle.chip_link.proofs.Sounds.{length-sent_counts}
 use Rattle.chip_actor.specs.declared.reply.Reply.TheVariants.{Got, Sent, Empty, Sealed, NotNow}
-use Rattle.chip_actor.specs.Edges.{mult_of}
+use Rattle.chip_actor.specs.Edges.{mult_of, start_of, root_edge}
 use Rattle.chip_actor.specs.Part.{first_put}
 use Rattle.chip_actor.specs.Steps.{message_of, link_after, got_after}
 use Rattle.chip_actor.proofs.RuleLemmas.{rules_met}
 use Rattle.chip_actor.proofs.PartLemmas.{at_edge, took_none}
-use Rattle.chip_actor.proofs.Opening.{first_few}
-use Rattle.chip_core.specs.Core.{Log, Event, Take, Ack, Fire, Clear, Claim, Put, Halt, Settle, Seal, Read, Rule, Out}
-use Rattle.chip_core.specs.Core.{unmet, part_of, reply_of, part_in, out_in, into_in, stop_in, fired_by, sees}
+use Rattle.chip_actor.proofs.Opening.{first_few, first_sent}
+use Rattle.chip_core.specs.Core.{Log, Event, Take, Ack, Fire, Clear, Claim, Put, Halt, Settle, Seal, Read, Feed, End}
+use Rattle.chip_core.specs.Core.{Rule, Out, unmet, part_of, reply_of, part_in, out_in, into_in, stop_in, fired_by, sees}
 use Rattle.chip_core.specs.Core.{IsLegalLog, answer, step, log_after, replies_to, tail_of, head_of, graph_edges}
 use Rattle.chip_core.specs.Messages.{Message, sent_by, delivered_by, is_seal_of, sent_in, sent_after_seal, is_seal}
 use Rattle.chip_core.specs.Messages.{was_sealed, messages_from, counts_in_flight, in_flight, sent_on, delivered_on}
 use Rattle.chip_core.specs.Messages.{AreInOrderFrom, chips_in}
-use Rattle.chip_core.specs.Positions.{held}
-use Rattle.chip_core.specs.Laws.{SentStands, OpeningMessages, InOrderFromTheOpening, HeldFromTheOpening}
+use Rattle.chip_core.specs.Positions.{started, held}
+use Rattle.chip_core.specs.Laws.{SentStands, OpeningMessages, InOrderFromTheOpening, HeldFromTheOpening, GivenIsFed}
 use Rattle.chip_core.proofs.LogLemmas.{edge_sound, link_step, got_step}
+use Rattle.chip_core.proofs.GivenLemmas.{feed_sees, feed_sends}
 use Rattle.chip_core.proofs.PositionLemmas.{held_is}
 use Rattle.chip_core.proofs.NumberLemmas.{seals_stand}
 use Rattle.chip_core.proofs.ReachingLemmas.{run_legal, step_legal}
@@ -81,6 +82,8 @@ not_sent e (Halt v) r = refl
 not_sent e (Settle i) r = refl
 not_sent e (Seal i) r = refl
 not_sent e (Read v) r = refl
+not_sent e (Feed i k) r = refl
+not_sent e End r = refl
 
 not_delivered : (e : ℕ) (x : Event) (r : Rule) → delivered_by e x (NotNow r) ≡ []
 not_delivered e (Take i) r = refl
@@ -93,6 +96,8 @@ not_delivered e (Halt v) r = refl
 not_delivered e (Settle i) r = refl
 not_delivered e (Seal i) r = refl
 not_delivered e (Read v) r = refl
+not_delivered e (Feed i k) r = refl
+not_delivered e End r = refl
 
 not_seal : (e : ℕ) (x : Event) (r : Rule) → is_seal_of e x (NotNow r) ≡ false
 not_seal e (Seal i) r = refl
@@ -105,6 +110,8 @@ not_seal e (Put i) r = refl
 not_seal e (Halt v) r = refl
 not_seal e (Settle i) r = refl
 not_seal e (Read v) r = refl
+not_seal e (Feed i k) r = refl
+not_seal e End r = refl
 
 -- as at_edge, where the claim on the others needs that they are others
 at_other : {A : Type 0} (P : ℕ → A → Type 0) (e : ℕ) (new old : ℕ → A) → P e (new e) → ((i : ℕ) → e ≢ i → P i (old i))
@@ -133,6 +140,22 @@ module _ (g : Setting) where
       (λ hit. ap (sent_by e (Claim i)) (cond_true _ (Sent m) Sealed hit) ∙ cond_no i e (m ∷ []) [] other)
       (λ miss. ap (sent_by e (Claim i)) (cond_false _ (Sent m) Sealed miss)))
 
+  -- nor a feed
+  refused_feed : (log : Log) (e : ℕ) → was_sealed log e ≡ true → (i k : ℕ)
+      → sent_by e (Feed i k) (reply_of g (Feed i k) (sees g log (Feed i k)) (part_in g log (tail_of g i))) ≡ []
+  refused_feed log e was i k =
+      let seen : ℕ = sees g log (Feed i k) in
+      let t : Tail = (out_in g log i).link in
+      let m : Message = message_of i (claims_of t) k in
+      dite (ℕ_discrete i e)
+      (λ same.
+      let bit : is_some (stop_in g log i) ≡ true = sym (seals_stand g log i) ∙ ap (was_sealed log) same ∙ was in
+      let more : seen ≡ edge_word (claims_of t) true = ap (edge_word (claims_of t)) bit in
+      ap (sent_by e (Feed i k)) (cond_no seen (claims_of t) (Sent m) Sealed (λ z. (absurd (omega arith)))))
+      (λ other. by_test (eqb seen (claims_of t))
+      (λ hit. ap (sent_by e (Feed i k)) (cond_true _ (Sent m) Sealed hit) ∙ cond_no i e (m ∷ []) [] other)
+      (λ miss. ap (sent_by e (Feed i k)) (cond_false _ (Sent m) Sealed miss)))
+
   no_send : (log : Log) (e : ℕ) → was_sealed log e ≡ true → (x : Event) (o : Option Rule)
       → sent_by e x (answer g log x o).1 ≡ []
   no_send log e was x (Some r) = not_sent e x r
@@ -146,6 +169,8 @@ module _ (g : Setting) where
   no_send log e was (Settle i) None = refl
   no_send log e was (Seal i) None = refl
   no_send log e was (Read v) None = refl
+  no_send log e was (Feed i k) None = refused_feed log e was i k
+  no_send log e was End None = refl
 
   stays_sealed : (log : Log) (e : ℕ) → was_sealed log e ≡ true → (x : Event) (o : Option Rule)
       → was_sealed (answer g log x o).0 e ≡ true
@@ -174,6 +199,8 @@ module _ (g : Setting) where
   now_sealed log e (Halt v) None is = absurd (true≢false (sym is))
   now_sealed log e (Settle i) None is = absurd (true≢false (sym is))
   now_sealed log e (Read v) None is = absurd (true≢false (sym is))
+  now_sealed log e (Feed i k) None is = absurd (true≢false (sym is))
+  now_sealed log e End None is = absurd (true≢false (sym is))
 
   -- nothing is sent after a seal
   pub nothing_after_seal : (log : Log) (xs : List Event) (e : ℕ) → sent_after_seal e xs (replies_to g log xs) ≡ []
@@ -227,6 +254,8 @@ module _ (g : Setting) where
   got_event (Settle i) log e = sym (append-nil (got_at log e))
   got_event (Seal i) log e = sym (append-nil (got_at log e))
   got_event (Read v) log e = sym (append-nil (got_at log e))
+  got_event (Feed i k) log e = sym (append-nil (got_at log e))
+  got_event End log e = sym (append-nil (got_at log e))
 
   got_answer : (log : Log) (x : Event) (o : Option Rule) (e : ℕ)
       → got_at (answer g log x o).0 e ≡ got_at log e ++ delivered_by e x (answer g log x o).1
@@ -304,6 +333,23 @@ module _ (g : Setting) where
     sent_event (Settle i) log e legal met = sym (append-nil (sent_at log e))
     sent_event (Seal i) log e legal met = sym (append-nil (sent_at log e))
     sent_event (Read v) log e legal met = sym (append-nil (sent_at log e))
+    sent_event End log e legal met = sym (append-nil (sent_at log e))
+    sent_event (Feed i k) log e legal met =
+        let seen : ℕ = sees g log (Feed i k) in
+        let t : Tail = (out_in g log i).link in
+        let m : Message = message_of i (claims_of t) k in
+        let may = rules_met g (Feed i k) (part_in g log (tail_of g i)) met in
+        let hit : seen ≡ claims_of t = feed_sees g log legal i k may.0 in
+        let reply : sent_by e (Feed i k) (reply_of g (Feed i k) seen (part_in g log (tail_of g i)))
+        ≡ cond (eqb i e) (m ∷ []) [] = ap (sent_by e (Feed i k)) (cond_yes seen (claims_of t) (Sent m) Sealed hit) in
+        at_other (λ j (u : Tail). messages_from j 0 (sent_counts u) ≡ sent_at log j ++ cond (eqb i j) (m ∷ []) []) i
+        (λ j. after_claim k seen (out_in g log j).link) (λ j. (out_in g log j).link)
+        (ap (messages_from i 0) (feed_sends g game some_ring log legal i k may)
+        ∙ push i (sent_counts t) (claims_of t) k (sym (length-sent_counts t))
+        ∙ sym (ap (λ (l : List Message). sent_at log i ++ l) (cond_yes i i (m ∷ []) [] refl)))
+        (λ j n. sym (ap (λ (l : List Message). sent_at log j ++ l) (cond_no i j (m ∷ []) [] n)
+        ∙ append-nil (sent_at log j))) e
+        ∙ sym (ap (λ (l : List Message). sent_at log e ++ l) reply)
 
     sent_answer : (log : Log) (x : Event) (o : Option Rule) (e : ℕ) → unmet g x (part_in g log (part_of g x)) ≡ o
         → IsLegalLog g log → sent_at (answer g log x o).0 e ≡ sent_at log e ++ sent_by e x (answer g log x o).1
@@ -396,6 +442,19 @@ module _ (g : Setting) where
     empty_list [] z = refl
     empty_list (x ∷ xs) z = absurd (omega arith)
 
+    -- what was given is the start and what was fed
+    pub given_is_fed_at : (xs : List Event) (v : ℕ) → started g (log_after g [] xs) v
+        ≡ start_of g v + chips_in (sent_in (root_edge g v) xs (replies_to g [] xs))
+    given_is_fed_at xs v =
+        let e : ℕ = root_edge g v in
+        let sent : List Message = sent_in e xs (replies_to g [] xs) in
+        let a = chips_messages e 0 (sent_counts (out_in g (log_after g [] xs) e).link) in
+        let b = ap chips_in (sent_is [] xs e tt) in
+        let c = sum_by-append (λ (m : Message). m.count) (sent_at [] e) sent in
+        let d = chips_messages e 0 (sent_counts (out_in g [] e).link) in
+        let f = first_sent g v in
+        omega arith
+
     pub held_from_opening : (xs : List Event) (e : ℕ) → e < graph_edges g
         → chips_in (sent_in e xs (replies_to g [] xs)) + held g (log_after g [] xs) e
         ≡ mult_of g e * fired_by g (log_after g [] xs) (tail_of g e)
@@ -425,3 +484,6 @@ in_order_from_the_opening g game some_ring xs e p m is = let at = sent_in_order 
 
 pub held_from_the_opening : HeldFromTheOpening
 held_from_the_opening = held_from_opening
+
+pub given_is_fed : GivenIsFed
+given_is_fed = given_is_fed_at

@@ -1,14 +1,14 @@
 -- The numbers of a legal log, the cells and words that its events see, and that these keep within the limits.
 use Rattle.std.proofs.Common.{◌≡◌, ◌≢◌, ◌↔◌, ℕ, suc, ◌+◌, ◌-◌, ◌^◌, ◌<◌, ◌≤◌, ◌||◌, Bool, true, false, cond, eqb, List}
-use Rattle.std.proofs.Common.{[], ◌∷◌, length, sum, drop, get_or, slice_index, Option, Some, None, option_to_list}
-use Rattle.std.proofs.Common.{is_some, refl, sym, ap, ◌∙◌, subst, arith, eq-eqb}
+use Rattle.std.proofs.Common.{[], ◌∷◌, length, sum, drop, get_or, Option, Some, None, option_to_list}
+use Rattle.std.proofs.Common.{is_some, refl, sym, ap, ◌∙◌, subst, arith, eq-eqb, leb-true, true≢false}
 use Rattle.std.proofs.lemmas.List.{get_or_past, get_or_append_left, get_or-drop, length-drop}
-use Rattle.std.proofs.lemmas.List.Sums.{sum_by-cons, get_or-le-sum_by}
+use Rattle.std.proofs.lemmas.List.Sums.{sum_by-cons, sum_by-append, get_or-le-sum_by}
 use mathlib.Core.Logic.{dite}
 use native.Mathlib.Decide.{ℕ_discrete, dec_lt}
-use Rattle.chip_graph.specs.Sums.{sum_below}
+use Rattle.chip_graph.specs.Limits.{max_total}
 use Rattle.chip_actor.specs.Setting.{Setting, HasGame}
-use Rattle.chip_graph.proofs.SumLemmas.{cond_yes, cond_no, sum_below_term, tested_term, sum_by_place}
+use Rattle.chip_graph.proofs.SumLemmas.{cond_yes, cond_no, sum_below_term, tested_term}
 use Rattle.chip_link.specs.Words.{edge_word}
 use Rattle.chip_link.specs.WordLaws.{ReadsAs, ReadsAsFired}
 use Rattle.chip_link.specs.Link.{claims_of, sent_counts, after_seal, IsSealedAt}
@@ -16,19 +16,23 @@ use Rattle.chip_link.proofs.Sounds.{none_held, length-sent_counts}
 use Rattle.chip_link.proofs.WordLaws.{edge_word_reads, fired_word_reads}
 use Rattle.chip_fire.specs.Sequence.{position_after}
 use Rattle.chip_fire.proofs.BoundLemmas.{chips_are_kept}
-use Rattle.chip_actor.specs.Edges.{start_of}
 use Rattle.chip_actor.specs.Steps.{stop_after}
 use Rattle.chip_actor.specs.Acting.{FitsSeen, CanDo}
+use Rattle.chip_actor.specs.Root.{is_of_root, FitsRoot}
+use Rattle.chip_actor.proofs.EdgeLemmas.{tail_root}
 use Rattle.chip_actor.proofs.RuleLemmas.{rules_met}
-use Rattle.chip_actor.proofs.PartLemmas.{made_root}
-use Rattle.chip_core.specs.Core.{Log, Event, Take, Ack, Fire, Clear, Claim, Put, Halt, Settle, Seal, Read, unmet}
-use Rattle.chip_core.specs.Core.{part_of, part_in, out_in, into_in, stop_in, fired_by, word_of_part, sees, is_by_limit}
-use Rattle.chip_core.specs.Core.{IsLegalLog, tail_of, head_of, all_edges, graph_edges}
+use Rattle.chip_core.specs.Core.{root, Log, Event, Take, Ack, Fire, Clear, Claim, Put, Halt, Settle, Seal, Read, Feed}
+use Rattle.chip_core.specs.Core.{End, unmet, part_of, part_in, out_in, into_in, stop_in, fired_by, word_of_part, sees}
+use Rattle.chip_core.specs.Core.{is_by_limit, IsLegalLog, tail_of, head_of, root_edge, all_edges, graph_edges}
 use Rattle.chip_core.specs.Messages.{counts_in_flight, is_seal, was_sealed}
-use Rattle.chip_core.specs.Positions.{full_position, firings}
+use Rattle.chip_core.specs.Positions.{started, played_game, full_position, firings}
 use Rattle.chip_core.specs.Laws.{CountsOf, CountsOfEdges, ChipsOfEdges, NumbersOf, NumbersAreSmall, CellsOf, CellsTell}
-use Rattle.chip_core.specs.Laws.{WordsOf, WordsTell, PartsAreKept, SealsStand, SeenFits}
+use Rattle.chip_core.specs.Laws.{WordsOf, WordsTell, PartsAreKept, SealsStand, SeenFits, RootSeenFits}
+use Rattle.chip_core.specs.Laws.{UnfedIsTheStart, FeedsAreSent, GivenIsAGame}
 use Rattle.chip_core.proofs.LogLemmas.{part_kept, out_kept, edge_sound, edge_counts, stop_step, head_inside}
+use Rattle.chip_core.proofs.LogLemmas.{empty_hand}
+use Rattle.chip_core.proofs.GivenLemmas.{given_sum, given_within, started_outside, never_sealed, feed_sees}
+use Rattle.chip_core.proofs.GivenLemmas.{unfed_played, unfed_started, unfed_closes, played_is_game}
 use Rattle.chip_core.proofs.PositionLemmas.{is_sequence, leads_to, edge_sum}
 
 -- as many as their sum at most, where each is above 0
@@ -62,6 +66,8 @@ module _ (g : Setting) where
   seal_step (Halt v) seen e stop = refl
   seal_step (Settle i) seen e stop = refl
   seal_step (Read v) seen e stop = refl
+  seal_step (Feed i k) seen e stop = refl
+  seal_step End seen e stop = refl
 
   -- the stopper's part has a word exactly where a seal was made
   pub seals_stand : (log : Log) (e : ℕ) → was_sealed log e ≡ is_some (stop_in g log e)
@@ -72,22 +78,24 @@ module _ (g : Setting) where
   module _ (game : HasGame g) (some_ring : 0 < g.ring) (log : Log) (legal : IsLegalLog g log) where
     -- ---- chips
 
-    total_is : sum_below g.graph.vertices (slice_index g.start) ≡ sum g.start
-    total_is = ap (λ (n : ℕ). sum_below n (slice_index g.start)) (sym game.start_fits) ∙ sym (sum_by_place g.start)
-
-    -- no vertex ever has more chips than the game, those on the way to it among them
-    pub full_position_most : (v : ℕ) → v < g.graph.vertices → full_position g log v ≤ sum g.start
+    -- no vertex ever has more chips than were given, those on the way to it among them
+    pub full_position_most : (v : ℕ) → v < g.graph.vertices → full_position g log v ≤ sum (played_game g log).start
     full_position_most v l =
         let a = (leads_to g game some_ring log legal).position v l in
-        let b = chips_are_kept g.graph game.graph_fits (slice_index g.start) (firings log)
+        let b = chips_are_kept g.graph game.graph_fits (started g log) (firings log)
         (is_sequence g game some_ring log legal) in
-        let c = sum_below_term g.graph.vertices (position_after g.graph (slice_index g.start) (firings log)) v l in
-        let d = total_is in
+        let c = sum_below_term g.graph.vertices (position_after g.graph (started g log) (firings log)) v l in
+        let d = given_sum g game some_ring log in
         omega arith
+
+    -- and never more than the range of chips
+    pub few_given : sum (played_game g log).start ≤ max_total
+    few_given = given_within g game some_ring log legal
 
     -- the chips of a vertex and those on the way to it on one edge
     pub chips_with_flight : (e : ℕ) → e < all_edges g
-        → (part_in g log (head_of g e)).chips + sum (counts_in_flight g log e) ≤ sum g.start
+        → (part_in g log (head_of g e)).chips + sum (counts_in_flight g log e)
+        ≤ sum (played_game g log).start
     chips_with_flight e l =
         let a = full_position_most (head_of g e) (head_inside g game e l) in
         let b = tested_term (all_edges g) (λ i. eqb (head_of g i) (head_of g e))
@@ -95,10 +103,10 @@ module _ (g : Setting) where
         omega arith
 
     pub few_chips : (v : ℕ) → v < g.graph.vertices → (part_in g log v).chips ≤ 2 ^ 40
-    few_chips v l = let a = full_position_most v l in let b = game.few_chips in omega arith
+    few_chips v l = let a = full_position_most v l in let b = few_given in omega arith
 
     pub few_in_flight : (e : ℕ) → e < all_edges g → sum (counts_in_flight g log e) ≤ 2 ^ 40
-    few_in_flight e l = let a = chips_with_flight e l in let b = game.few_chips in omega arith
+    few_in_flight e l = let a = chips_with_flight e l in let b = few_given in omega arith
 
     -- ---- messages
 
@@ -107,27 +115,31 @@ module _ (g : Setting) where
     few_claims e l = let a = (out_kept g game log legal e).fewer l in
         let b = (part_kept g game log legal (tail_of g e)).within in omega arith
 
-    -- of a root edge: one for each chip of the start at most
-    pub few_root_claims : (e : ℕ) → graph_edges g ≤ e → claims_of (out_in g log e).link ≤ start_of g (e - graph_edges g)
+    -- of a root edge: one for each chip that was given at most
+    pub few_root_claims : (e : ℕ) → graph_edges g ≤ e
+        → claims_of (out_in g log e).link ≤ started g log (e - graph_edges g)
     few_root_claims e l =
         let s = edge_sound g game some_ring log legal e in
-        let a = length_sum (out_in g log e).link.put s.counted in
-        let b = held_sum (out_in g log e).link.held s.held_counted in
-        let c = (out_kept g game log legal e).all_made in
-        let d = made_root g e (part_in g log (tail_of g e)).fired l in
+        let t = (out_in g log e).link in
+        let a = length_sum t.put s.counted in
+        let b = held_sum t.held s.held_counted in
+        let c = sum_by-append (λ (x : ℕ). x) t.put (option_to_list t.held) in
+        let at : root_edge g (e - graph_edges g) ≡ e = omega arith in
+        let d = ap (λ (i : ℕ). sum (sent_counts (out_in g log i).link)) at in
         omega arith
 
-    start_most : (v : ℕ) → start_of g v ≤ sum g.start
-    start_most v = dite (dec_lt v (length g.start))
-        (λ l. get_or-le-sum_by (λ (n : ℕ). n) g.start v 0 l)
-        (λ n. let a : slice_index g.start v ≡ 0 = get_or_past g.start v 0 (omega arith) in omega arith)
+    given_most : (v : ℕ) → started g log v ≤ sum (played_game g log).start
+    given_most v = dite (dec_lt v g.graph.vertices)
+        (λ l. let a = given_sum g game some_ring log in
+        let b = sum_below_term g.graph.vertices (started g log) v l in omega arith)
+        (λ n. let a = started_outside g game some_ring log legal v (omega arith) in omega arith)
 
     -- of any edge
     pub claims_most : (e : ℕ) → claims_of (out_in g log e).link ≤ 2 ^ 40
     claims_most e = dite (dec_lt e (graph_edges g))
         (λ l. let a = few_claims e l in let b = game.low_limit in omega arith)
-        (λ n. let a = few_root_claims e (omega arith) in let b = start_most (e - graph_edges g) in
-        let c = game.few_chips in omega arith)
+        (λ n. let a = few_root_claims e (omega arith) in let b = given_most (e - graph_edges g) in
+        let c = few_given in omega arith)
 
     pub fired_most : (v : ℕ) → fired_by g log v ≤ g.limit
     fired_most v = (part_kept g game log legal v).within
@@ -135,6 +147,7 @@ module _ (g : Setting) where
     pub numbers : NumbersOf g log
     numbers = record {
       chips = full_position_most;
+      given = few_given;
       fired = fired_most;
       claims = few_claims;
       root_claims = few_root_claims;
@@ -191,8 +204,8 @@ module _ (g : Setting) where
     pub cells : (e : ℕ) → CellsOf g log e
     cells e = record {
       empty = empty_is e;
-      full = λ met. full_is e (let may = rules_met g (Clear e) (part_in g log (tail_of g e)) met in
-          (out_kept g game log legal e).free_hand may.0 may.3);
+      full = λ met. full_is e (empty_hand g game some_ring log legal e
+          (rules_met g (Clear e) (part_in g log (tail_of g e)) met));
     }
 
     -- ---- words
@@ -228,7 +241,7 @@ module _ (g : Setting) where
         let found = take_finds e some in
         let a = chips_with_flight e l in
         let b = claims_most e in
-        let c = game.few_chips in
+        let c = few_given in
         let d = found.0 in let f = found.1 in
         (omega arith, omega arith)
 
@@ -250,6 +263,32 @@ module _ (g : Setting) where
     fits_seen (Halt v) at met = tt
     fits_seen (Seal e) at met = tt
     fits_seen (Read v) at met = tt
+    fits_seen (Feed e k) at met = tt
+    fits_seen End at met = tt
+
+    -- the same of a settle of a root edge, by the root's part
+    root_settle_fits : (e : ℕ) → graph_edges g ≤ e
+        → FitsSeen (part_in g log (root g)) (Settle e) (sees g log (Settle e))
+    root_settle_fits e past = subst (λ (p : ℕ). FitsSeen (part_in g log p) (Settle e) (sees g log (Settle e)))
+        (tail_root g e past) (settle_fits e)
+
+    pub root_fits : (x : Event) → is_of_root g x ≡ true → unmet g x (part_in g log (root g)) ≡ None
+        → FitsRoot g (part_in g log (root g)) x (sees g log x)
+    root_fits (Settle e) own met = root_settle_fits e (leb-true (graph_edges g) e own)
+    root_fits End own met = root_settle_fits (root_edge g 0) (omega arith)
+    root_fits (Feed e k) own met =
+        let past = (rules_met g (Feed e k) (part_in g log (root g)) met).0 in
+        feed_sees g log legal e k past
+        ∙ ap (λ (p : ℕ). claims_of ((part_in g log p).out e).link) (tail_root g e past)
+    root_fits (Clear e) own met = tt
+    root_fits (Put e) own met = tt
+    root_fits (Read v) own met = tt
+    root_fits (Take e) own met = absurd (true≢false (sym own))
+    root_fits (Ack e) own met = absurd (true≢false (sym own))
+    root_fits (Fire v k) own met = absurd (true≢false (sym own))
+    root_fits (Claim e) own met = absurd (true≢false (sym own))
+    root_fits (Halt v) own met = absurd (true≢false (sym own))
+    root_fits (Seal e) own met = absurd (true≢false (sym own))
 
     -- so an actor may be told of it
     pub can_do : (x : Event) → part_of g x < g.graph.vertices → unmet g x (part_in g log (part_of g x)) ≡ None
@@ -267,6 +306,9 @@ parts_are_kept g game some_ring log legal = part_kept g game log legal
 
 pub seen_fits : SeenFits
 seen_fits g game some_ring log legal = fits_seen g game some_ring log legal
+
+pub root_seen_fits : RootSeenFits
+root_seen_fits g game some_ring log legal = root_fits g game some_ring log legal
 
 pub counts_of_edges : CountsOfEdges
 counts_of_edges g game some_ring log legal = counts_of g game some_ring log legal
@@ -288,4 +330,20 @@ seals_stand_law g game some_ring log legal e = (
   seals_stand g log e,
   λ word is. subst (IsSealedAt (claims_of (out_in g log e).link)) is
       (edge_sound g game some_ring log legal e).sealed_at,
+)
+
+pub unfed_is_the_start : UnfedIsTheStart
+unfed_is_the_start g game some_ring log legal off = (
+  unfed_played g game some_ring off log legal,
+  unfed_started g game some_ring off log legal,
+  unfed_closes g game some_ring off log legal,
+)
+
+pub given_is_a_game : GivenIsAGame
+given_is_a_game g game some_ring log legal = played_is_game g game some_ring log legal
+
+pub feeds_are_sent : FeedsAreSent
+feeds_are_sent g game some_ring log legal e k past = (
+  seals_stand g log e ∙ ap is_some (never_sealed g log legal e past),
+  feed_sees g log legal e k past,
 )

@@ -13,9 +13,9 @@ use Rattle.chip_actor.specs.Steps.{parent_after}
 use Rattle.chip_actor.specs.Kept.{IsNeutral}
 use Rattle.chip_actor.proofs.RuleLemmas.{rules_met}
 use Rattle.chip_actor.proofs.PartLemmas.{out_zero}
-use Rattle.chip_core.specs.Core.{Log, Step, Event, Take, Ack, Fire, Clear, Claim, Put, Halt, Settle, Seal, Read, Part}
-use Rattle.chip_core.specs.Core.{part_of, does, part_in, out_in, into_in, IsLegalLog, IsClosed, outstanding, all_edges}
-use Rattle.chip_core.specs.Core.{tail_of, head_of, root}
+use Rattle.chip_core.specs.Core.{Log, Step, Event, Take, Ack, Fire, Clear, Claim, Put, Halt, Settle, Seal, Read, Feed}
+use Rattle.chip_core.specs.Core.{End, Part, part_of, does, part_in, out_in, into_in, IsLegalLog, IsSettled, outstanding}
+use Rattle.chip_core.specs.Core.{all_edges, tail_of, head_of, root}
 use Rattle.chip_core.specs.Detection.{IsTree, IsDetectionOrder}
 use Rattle.chip_core.proofs.LogLemmas.{part_here, part_else, part_kept, edge_counts, head_inside, tail_cases}
 
@@ -248,6 +248,8 @@ module _ (g : Setting) (game : HasGame g) (some_ring : 0 < g.ring) where
   order_step log (Settle e) seen legal o = same_next (record { event = Settle e; seen = seen }) log (λ s. refl) o
   order_step log (Seal e) seen legal o = same_next (record { event = Seal e; seen = seen }) log (λ s. refl) o
   order_step log (Read v) seen legal o = same_next (record { event = Read v; seen = seen }) log (λ s. refl) o
+  order_step log (Feed e k) seen legal o = same_next (record { event = Feed e k; seen = seen }) log (λ s. refl) o
+  order_step log End seen legal o = same_next (record { event = End; seen = seen }) log (λ s. refl) o
 
   ordered : (log : Log) → IsLegalLog g log → Ordered log
   ordered [] legal = ([], tt, λ v l m. refl)
@@ -273,16 +275,16 @@ module _ (g : Setting) (game : HasGame g) (some_ring : 0 < g.ring) where
     },
   )
 
-  -- ---- where the root is closed
+  -- ---- where all that the root sent is settled
 
-  module _ (log : Log) (legal : IsLegalLog g log) (closed : IsClosed g log) where
+  module _ (log : Log) (legal : IsLegalLog g log) (settled : IsSettled g log) where
     no_engaged : (vs : List ℕ) → Chain (parents log) vs → vs ≡ []
     no_engaged [] c = refl
     no_engaged (v ∷ vs) c =
         let none = no_engaged vs c.0 in
         let p = parent_edge log legal v c.2.0 c.2.1 in
         let some = p.3 in
-        ⊎_elim (λ z. let a = closed c.2.0 p.0 z in absurd (omega arith))
+        ⊎_elim (λ z. let a = settled c.2.0 p.0 z in absurd (omega arith))
         (λ z. absurd (contains_nothing (tail_of g c.2.0)
         (subst (λ (l : List ℕ). Contains l (tail_of g c.2.0)) none z))) c.2.2
 
@@ -292,7 +294,7 @@ module _ (g : Setting) (game : HasGame g) (some_ring : 0 < g.ring) where
         (o.2 v l (λ m. contains_nothing v (subst (λ (us : List ℕ). Contains us v) (no_engaged o.0 o.1) m)))
 
     pub none_outstanding : (e : ℕ) → e < all_edges g → outstanding (out_in g log e) ≡ 0
-    none_outstanding e l = ⊎_elim (λ z. closed e l z)
+    none_outstanding e l = ⊎_elim (λ z. settled e l z)
         (λ t. out_zero g (tail_of g e) (λ i. outstanding ((part_in g log (tail_of g e)).out i))
         (all_neutral (tail_of g e) t).no_deficit e l refl) (tail_cases g game e)
 

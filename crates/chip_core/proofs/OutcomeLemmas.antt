@@ -11,14 +11,14 @@ use mathlib.Core.Logic.{dite}
 use native.Mathlib.Decide.{dec_lt}
 use Rattle.chip_graph.specs.Sums.{picked}
 use Rattle.chip_graph.specs.Multigraph.{Multigraph, IsGraph, edge_at, degree}
-use Rattle.chip_actor.specs.Setting.{Setting, HasGame, game_of_setting}
+use Rattle.chip_actor.specs.Setting.{Setting, HasGame}
 use Rattle.chip_graph.proofs.PickLemmas.{All-picked}
 use Rattle.chip_graph.proofs.SumLemmas.{tested_none}
 use Rattle.chip_fire.specs.declared.outcome.Outcome.{Outcome}
 use Rattle.chip_fire.specs.Outcomes.{IsOutcome}
 use Rattle.chip_fire.specs.Play.{IsPlayed}
 use Rattle.chip_fire.specs.Firing.{legal_vertices}
-use Rattle.chip_fire.specs.Sequence.{position_after, IsWholePlay}
+use Rattle.chip_fire.specs.Sequence.{position_after, counts, IsWholePlay}
 use Rattle.chip_fire.specs.Counted.{inflow, position_by_counts, IsBelowZero}
 use Rattle.chip_fire.proofs.FiringLemmas.{counts_outside}
 use Rattle.chip_fire.proofs.EndLemmas.{one_end}
@@ -26,11 +26,12 @@ use Rattle.chip_fire.proofs.LegalLemmas.{picked_no, picked_ext, picked_ascends, 
 use Rattle.chip_actor.specs.declared.cause.Cause.{Cause}
 use Rattle.chip_actor.specs.declared.cause.Cause.TheVariants.{SealedEdge, FiringLimit}
 use Rattle.chip_core.specs.Core.{Log, part_in, fired_by, is_by_limit, IsLegalLog, IsClosed}
-use Rattle.chip_core.specs.Positions.{chips_at, firings}
+use Rattle.chip_core.specs.Positions.{started, played_game, chips_at, firings}
 use Rattle.chip_core.specs.Headline.{NoneHaltedBySeal}
+use Rattle.chip_core.proofs.GivenLemmas.{started_outside, given_is, given_within}
 use Rattle.chip_core.proofs.PositionLemmas.{counts_are, is_sequence, is_within, none_below, by_counts}
 use Rattle.chip_core.proofs.ClosingLemmas.{played, agrees_within, over}
-use Rattle.chip_core.specs.Outcomes.{is_by_seal, AreFired, IsOutcomeOf, ComesTo}
+use Rattle.chip_core.specs.Outcomes.{is_by_seal, AreFired, IsOutcomeOf, ComesTo, OutcomesTell}
 
 -- nothing passes, and nothing is listed
 picked_none : (test : ℕ → Bool) (n : ℕ) → ((v : ℕ) → v < n → test v ≡ false) → picked test n ≡ []
@@ -61,7 +62,7 @@ module _ (g : Setting) (game : HasGame g) (some_ring : 0 < g.ring) (log : Log) (
   -- what isn't a vertex never fires
   fired_outside : (v : ℕ) → g.graph.vertices ≤ v → fired_by g log v ≡ 0
   fired_outside v past = sym (counts_are g log v)
-      ∙ counts_outside g.graph (firings log) (slice_index g.start) v (is_sequence g game some_ring log legal) past
+      ∙ counts_outside g.graph (firings log) (started g log) v (is_sequence g game some_ring log legal) past
 
   all_fired : (fired : List ℕ) → AreFired g log g.graph.vertices fired → (v : ℕ)
       → slice_index fired v ≡ fired_by g log v
@@ -74,32 +75,33 @@ module _ (g : Setting) (game : HasGame g) (some_ring : 0 < g.ring) (log : Log) (
 
   -- no vertex has fired more chips than it had
   pub never_negative : (fired : List ℕ) → AreFired g log g.graph.vertices fired → (v : ℕ)
-      → IsBelowZero g.graph (slice_index g.start) (slice_index fired) v → ⊥
+      → IsBelowZero g.graph (started g log) (slice_index fired) v → ⊥
   never_negative fired are v low = none_below g game some_ring log legal v
-      (subst (λ (f : ℕ → ℕ). IsBelowZero g.graph (slice_index g.start) f v) (same_fired fired are) low)
+      (subst (λ (f : ℕ → ℕ). IsBelowZero g.graph (started g log) f v) (same_fired fired are) low)
 
   -- nothing lies where no vertex is
-  chips_outside : (v : ℕ) → g.graph.vertices ≤ v → position_by_counts g.graph (slice_index g.start) (fired_by g log) v
+  chips_outside : (v : ℕ) → g.graph.vertices ≤ v → position_by_counts g.graph (started g log) (fired_by g log) v
       ≡ 0
   chips_outside v past =
-      let each = game.start_fits in
-      let a = get_or_past g.start v 0 (omega arith) in
+      let a = started_outside g game some_ring log legal v past in
       let b = inflow_outside g.graph game.graph_fits (fired_by g log) v past in
       omega arith
 
   module _ (o : Outcome) (is : IsOutcomeOf g log o) where
-    chips_are : (v : ℕ) → slice_index o.chips.items v ≡ position_after g.graph (slice_index g.start) (firings log) v
+    chips_are : (v : ℕ) → slice_index o.chips.items v ≡ position_after g.graph (started g log) (firings log) v
     chips_are v =
         dite (dec_lt v g.graph.vertices)
         (λ l. is.chips.by_counts v l
-        ∙ ap (λ (f : ℕ → ℕ). position_by_counts g.graph (slice_index g.start) f v)
+        ∙ ap (λ (x : ℕ → ℕ). position_by_counts g.graph x (slice_index o.fired.items) v)
+        (given_is g game some_ring log legal)
+        ∙ ap (λ (f : ℕ → ℕ). position_by_counts g.graph (started g log) f v)
         (same_fired o.fired.items is.fired))
         (λ nl. let n = is.chips.chips_each in get_or_past o.chips.items v 0 (omega arith)
         ∙ sym (chips_outside v (omega arith)))
         ∙ sym (by_counts g game some_ring log legal v)
 
     -- the firings that were made come to it
-    pub comes : ComesTo g (firings log) o
+    pub comes : ComesTo g (started g log) (firings log) o
     comes = record {
       sequence = is_sequence g game some_ring log legal;
       within = is_within g game some_ring log legal;
@@ -130,7 +132,7 @@ module _ (g : Setting) (game : HasGame g) (some_ring : 0 < g.ring) (log : Log) (
               (λ i l. (let a = low_counts i in let b = game.low_limit in omega arith));
           few_chips = All-from_get_or (λ n. n ≤ 2 ^ 40) o.chips.items 0
               (λ i l. (let a = get_or-le-sum_by (λ (n : ℕ). n) o.chips.items i 0 l in let b = is.chips.kept in
-              let c = game.few_chips in omega arith));
+              let c = given_within g game some_ring log legal in omega arith));
           over_ascends = subst IsStrictlyIncreasing (sym is.over)
               (picked_ascends (λ u. is_by_limit (part_in g log u).halt) g.graph.vertices);
           over_vertices = subst (All (λ v. v < length o.fired.items)) (sym is.over)
@@ -146,7 +148,7 @@ module _ (g : Setting) (game : HasGame g) (some_ring : 0 < g.ring) (log : Log) (
     -- ---- where no seal halted a vertex
 
     module _ (closed : IsClosed g log) (no_seal : NoneHaltedBySeal g log) where
-      whole : IsWholePlay g.graph (slice_index g.start) g.limit (firings log)
+      whole : IsWholePlay g.graph (started g log) g.limit (firings log)
       whole = played g game some_ring log legal closed no_seal
 
       -- the chips that lie there are those of the outcome
@@ -159,19 +161,35 @@ module _ (g : Setting) (game : HasGame g) (some_ring : 0 < g.ring) (log : Log) (
           (λ v. not (eqb v g.graph.sink) && leb (degree g.graph v) (slice_index o.chips.items v)) g.graph.vertices
           (λ v l. ap (λ (x : ℕ). not (eqb v g.graph.sink) && leb (degree g.graph v) x) (chips_lie v l))
 
-      -- it is every player's
-      pub is_played : IsPlayed (game_of_setting g) o
-      is_played = record {
-        ends = (firings log, whole);
-        fired_each = is.fired.count_is;
-        chips_each = is.chips.chips_each;
-        counted = λ vs play v. comes.counted v
-            ∙ (one_end g.graph (slice_index g.start) g.limit (firings log) vs whole play).0 v;
-        position = λ vs play v. comes.position v
-            ∙ (one_end g.graph (slice_index g.start) g.limit (firings log) vs whole play).1 v;
-        low_counts = low_counts;
-        kept = is.chips.kept;
-        over = is.over ∙ over g game some_ring log legal closed no_seal ∙ same_legal;
-        sealed = is.sealed ∙ picked_none (λ u. is_by_seal (part_in g log u).halt) g.graph.vertices
-            (λ u l. no_seal_halts (part_in g log u).halt (no_seal u l));
-      }
+      -- it is every player's, in the game that was played
+      pub is_played : IsPlayed (played_game g log) o
+      is_played =
+          let from : started g log ≡ slice_index (played_game g log).start =
+          sym (given_is g game some_ring log legal) in
+          record {
+            ends = (firings log, subst (λ (x : ℕ → ℕ). IsWholePlay g.graph x g.limit (firings log)) from whole);
+            fired_each = is.fired.count_is;
+            chips_each = is.chips.chips_each;
+            counted = λ vs play v. comes.counted v ∙ (ends_alike vs play).0 v;
+            position = λ vs play v. comes.position v ∙ (ends_alike vs play).1 v
+                ∙ ap (λ (x : ℕ → ℕ). position_after g.graph x vs v) from;
+            low_counts = low_counts;
+            kept = is.chips.kept;
+            over = is.over ∙ over g game some_ring log legal closed no_seal ∙ same_legal;
+            sealed = is.sealed ∙ picked_none (λ u. is_by_seal (part_in g log u).halt) g.graph.vertices
+                (λ u l. no_seal_halts (part_in g log u).halt (no_seal u l));
+          }
+        where
+          ends_alike : (vs : List ℕ) → IsWholePlay g.graph (slice_index (played_game g log).start) g.limit vs
+              → ((u : ℕ) → counts (firings log) u ≡ counts vs u)
+              × ((u : ℕ) → position_after g.graph (started g log) (firings log) u
+              ≡ position_after g.graph (started g log) vs u)
+          ends_alike vs play = one_end g.graph (started g log) g.limit (firings log) vs whole
+              (subst (λ (x : ℕ → ℕ). IsWholePlay g.graph x g.limit vs) (given_is g game some_ring log legal) play)
+
+pub outcomes_tell : OutcomesTell
+outcomes_tell g game some_ring log legal o is = record {
+  comes = comes g game some_ring log legal o is;
+  in_range = in_range g game some_ring log legal o is;
+  played = λ closed no_seal. is_played g game some_ring log legal o is closed no_seal;
+}

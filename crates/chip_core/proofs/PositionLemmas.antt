@@ -1,29 +1,30 @@
 -- The full position is the position after the firings that were made.
-use Rattle.std.proofs.Common.{◌≡◌, ℕ, ◌+◌, ◌-◌, ◌*◌, ◌<◌, Bool, eqb, List, [], ◌∷◌, ◌++◌, length, sum, take}
-use Rattle.std.proofs.Common.{slice_index, replicate, option_to_list, refl, sym, ap, ◌∙◌, subst, arith, eqb-true}
+use Rattle.std.proofs.Common.{◌≡◌, ℕ, ◌+◌, ◌-◌, ◌*◌, ◌<◌, ◌≤◌, Bool, eqb, ltb, List, [], ◌∷◌, ◌++◌, length, sum, take}
+use Rattle.std.proofs.Common.{lt-ltb, le-ltb, replicate, option_to_list, refl, sym, ap, ◌∙◌, subst, arith, eqb-true}
 use Rattle.std.proofs.Common.{append-nil}
 use Rattle.std.proofs.lemmas.List.{take-append-le}
 use Rattle.std.proofs.lemmas.List.Sums.{sum_by-append, sum_by-take-drop}
 use mathlib.Core.Logic.{dite}
-use native.Mathlib.Decide.{ℕ_discrete}
+use native.Mathlib.Decide.{ℕ_discrete, dec_lt}
 use Rattle.chip_graph.specs.Multigraph.{degree, edge_at}
 use Rattle.chip_actor.specs.Setting.{Setting, HasGame}
-use Rattle.chip_graph.proofs.SumLemmas.{cond_yes, cond_no, tested_ext, tested_add}
+use Rattle.chip_graph.proofs.SumLemmas.{cond_yes, cond_no, cond_true, cond_false, tested_ext, tested_add}
 use Rattle.chip_link.specs.Link.{sent_counts}
 use Rattle.chip_fire.specs.Sequence.{position_after, IsFiringSequence, counts, IsWithin}
 use Rattle.chip_fire.specs.Counted.{inflow, position_by_counts, IsBelowZero}
 use Rattle.chip_fire.proofs.FiringLemmas.{counts-append, counts-replicate, inflow_ext, position_is, sequence-append}
-use Rattle.chip_fire.proofs.FiringLemmas.{batch, position_by_counts_law}
-use Rattle.chip_actor.specs.Edges.{root_edge, mult_of, start_of, over_ins, made}
+use Rattle.chip_fire.proofs.FiringLemmas.{batch, position_by_counts_law, more_chips}
+use Rattle.chip_actor.specs.Edges.{root_edge, mult_of, over_ins, made}
 use Rattle.chip_actor.proofs.EdgeLemmas.{over_ins_graph, tail_graph}
 use Rattle.chip_actor.proofs.RuleLemmas.{rules_met}
-use Rattle.chip_actor.proofs.PartLemmas.{made_graph, made_root}
-use Rattle.chip_core.specs.Core.{Log, Step, Event, Take, Ack, Fire, Clear, Claim, Put, Halt, Settle, Seal, Read, Part}
-use Rattle.chip_core.specs.Core.{part_of, does, part_in, out_in, into_in, fired_by, IsLegalLog, tail_of, head_of}
-use Rattle.chip_core.specs.Core.{all_edges, graph_edges}
+use Rattle.chip_core.specs.Core.{Log, Step, Event, Take, Ack, Fire, Clear, Claim, Put, Halt, Settle, Seal, Read, Feed}
+use Rattle.chip_core.specs.Core.{End, Part, part_of, does, part_in, out_in, into_in, fired_by, IsLegalLog, tail_of}
+use Rattle.chip_core.specs.Core.{head_of, all_edges, graph_edges}
 use Rattle.chip_core.specs.Messages.{counts_in_flight}
-use Rattle.chip_core.specs.Positions.{held, full_position, firings, firings_of, LeadsTo}
+use Rattle.chip_core.specs.Positions.{started, held, full_position, firings, firings_of, LeadsTo}
+use Rattle.chip_core.specs.Laws.{gone_into}
 use Rattle.chip_core.proofs.LogLemmas.{part_here, part_else, part_kept, out_kept, edge_sound}
+use Rattle.chip_core.proofs.GivenLemmas.{started_grows}
 
 module _ (g : Setting) where
   -- ---- how often each vertex fired
@@ -61,24 +62,35 @@ module _ (g : Setting) where
       (λ s. refl) refl u ih
   counts_step (Seal e) seen log u ih = keeps_fired (record { event = Seal e; seen = seen }) log (λ s. refl) refl u ih
   counts_step (Read v) seen log u ih = keeps_fired (record { event = Read v; seen = seen }) log (λ s. refl) refl u ih
+  counts_step (Feed e k) seen log u ih = keeps_fired (record { event = Feed e k; seen = seen }) log
+      (λ s. refl) refl u ih
+  counts_step End seen log u ih = keeps_fired (record { event = End; seen = seen }) log (λ s. refl) refl u ih
 
   -- the counts of the firings that were made
   pub counts_are : (log : Log) (u : ℕ) → counts (firings log) u ≡ fired_by g log u
   counts_are [] u = refl
   counts_are (x ∷ log) u = counts_step x.event x.seen log u (counts_are log u)
 
-  -- what ever went into the edges into v: its start, and what its neighbours' firings brought
-  pub made_inflow : (f : ℕ → ℕ) (v : ℕ) → v < g.graph.vertices
-      → over_ins g v (λ e. made g e (f (tail_of g e))) ≡ start_of g v + inflow g.graph f v
-  made_inflow f v inside =
-      let all = over_ins_graph g v inside (λ e. made g e (f (tail_of g e))) in
+  pub gone_graph : (log : Log) (e : ℕ) → e < graph_edges g → gone_into g log e ≡ made g e (fired_by g log (tail_of g e))
+  gone_graph log e l = cond_true (ltb e (length g.graph.edges)) (made g e (fired_by g log (tail_of g e)))
+      (started g log (e - graph_edges g)) (lt-ltb e (length g.graph.edges) l)
+
+  pub gone_root : (log : Log) (e : ℕ) → graph_edges g ≤ e → gone_into g log e ≡ started g log (e - graph_edges g)
+  gone_root log e l = cond_false (ltb e (length g.graph.edges)) (made g e (fired_by g log (tail_of g e)))
+      (started g log (e - graph_edges g)) (le-ltb e (length g.graph.edges) l)
+
+  -- what ever went into the edges into v: what it was given, and what its neighbours' firings brought
+  pub gone_inflow : (log : Log) (v : ℕ) → v < g.graph.vertices
+      → over_ins g v (gone_into g log) ≡ started g log v + inflow g.graph (fired_by g log) v
+  gone_inflow log v inside =
+      let f : ℕ → ℕ = fired_by g log in
+      let all = over_ins_graph g v inside (gone_into g log) in
       let own = tested_ext (length g.graph.edges) (λ e. eqb (edge_at g.graph e).head v)
-      (λ e. made g e (f (tail_of g e))) (λ e. (edge_at g.graph e).mult * f (edge_at g.graph e).tail)
-      (λ e l on. made_graph g e (f (tail_of g e)) l ∙ ap (λ (t : ℕ). mult_of g e * f t) (tail_graph g e l)) in
+      (gone_into g log) (λ e. (edge_at g.graph e).mult * f (edge_at g.graph e).tail)
+      (λ e l on. gone_graph log e l ∙ ap (λ (t : ℕ). mult_of g e * f t) (tail_graph g e l)) in
       let at : root_edge g v - graph_edges g ≡ v = omega arith in
-      let one : made g (root_edge g v) (f (tail_of g (root_edge g v)))
-      ≡ start_of g v = made_root g (root_edge g v) (f (tail_of g (root_edge g v))) (omega arith) ∙ ap (start_of g) at
-      in
+      let one : gone_into g log (root_edge g v) ≡ started g log v = gone_root log (root_edge g v) (omega arith)
+      ∙ ap (started g log) at in
       omega arith
 
   module _ (game : HasGame g) (some_ring : 0 < g.ring) where
@@ -94,28 +106,35 @@ module _ (g : Setting) where
         ap sum (s.prefix ∙ sym (take-append-le (length got) t.put (option_to_list t.held) s.behind)) in
         omega arith
 
-    -- what was sent and what is held is what ever went into an edge
-    pub made_sum : (log : Log) → IsLegalLog g log → (e : ℕ)
-        → sum (sent_counts (out_in g log e).link) + held g log e ≡ made g e (fired_by g log (tail_of g e))
-    made_sum log legal e =
-        let t = (out_in g log e).link in
-        let a = sum_by-append (λ (x : ℕ). x) t.put (option_to_list t.held) in
-        let b = (out_kept g game log legal e).all_made in
-        omega arith
-
-    -- on each edge: delivered, in flight and held make what ever went into it
-    pub edge_sum : (log : Log) → IsLegalLog g log → (e : ℕ)
-        → sum (into_in g log e).got + (sum (counts_in_flight g log e) + held g log e)
-        ≡ made g e (fired_by g log (tail_of g e))
-    edge_sum log legal e = let a = sent_sum log legal e in let b = made_sum log legal e in omega arith
-
     -- what is held on an edge of the graph
     pub held_is : (log : Log) → IsLegalLog g log → (e : ℕ) → e < graph_edges g
         → sum (sent_counts (out_in g log e).link) + held g log e ≡ mult_of g e * fired_by g log (tail_of g e)
-    held_is log legal e l = made_sum log legal e ∙ made_graph g e (fired_by g log (tail_of g e)) l
+    held_is log legal e l =
+        let t = (out_in g log e).link in
+        let a = sum_by-append (λ (x : ℕ). x) t.put (option_to_list t.held) in
+        let b = (out_kept g game log legal e).all_made l in
+        omega arith
+
+    -- what was sent and what is held is what ever went into an edge
+    pub gone_sum : (log : Log) → IsLegalLog g log → (e : ℕ)
+        → sum (sent_counts (out_in g log e).link) + held g log e ≡ gone_into g log e
+    gone_sum log legal e = dite (dec_lt e (graph_edges g)) (λ l. held_is log legal e l ∙ sym (gone_graph log e l))
+        (λ n.
+        let past : graph_edges g ≤ e = omega arith in
+        let idle = (out_kept g game log legal e).root_idle past in
+        let at : root_edge g (e - graph_edges g) ≡ e = omega arith in
+        let a = ap (λ (i : ℕ). sum (sent_counts (out_in g log i).link)) at in
+        let b = gone_root log e past in
+        omega arith)
+
+    -- on each edge: delivered, in flight and held make what ever went into it
+    pub edge_sum : (log : Log) → IsLegalLog g log → (e : ℕ)
+        → sum (into_in g log e).got + (sum (counts_in_flight g log e) + held g log e) ≡ gone_into g log e
+    edge_sum log legal e = let a = sent_sum log legal e in let b = gone_sum log legal e in omega arith
 
     full_sum : (log : Log) → IsLegalLog g log → (v : ℕ) → v < g.graph.vertices
-        → full_position g log v + degree g.graph v * fired_by g log v ≡ start_of g v + inflow g.graph (fired_by g log) v
+        → full_position g log v + degree g.graph v * fired_by g log v ≡ started g log v
+        + inflow g.graph (fired_by g log) v
     full_sum log legal v inside =
         let n : ℕ = all_edges g in
         let t : ℕ → Bool = (λ e. eqb (head_of g e) v) in
@@ -131,36 +150,35 @@ module _ (g : Setting) where
         let c : over_ins g v (λ e. gots e + (flies e + holds e)) ≡ over_ins g v gots + over_ins g v
         (λ e. flies e + holds e) = tested_add n t gots (λ e. flies e + holds e) in
         let d : over_ins g v (λ e. gots e + (flies e + holds e))
-        ≡ over_ins g v (λ e. made g e (fired_by g log (tail_of g e))) = tested_ext n t
-        (λ e. gots e + (flies e + holds e)) (λ e. made g e (fired_by g log (tail_of g e)))
+        ≡ over_ins g v (gone_into g log) = tested_ext n t (λ e. gots e + (flies e + holds e)) (gone_into g log)
         (λ e l on. edge_sum log legal e) in
-        let f = made_inflow (fired_by g log) v inside in
+        let f = gone_inflow log v inside in
         omega arith
 
-    position_from : (log : Log) → IsLegalLog g log → IsFiringSequence g.graph (slice_index g.start) (firings log)
-        → (v : ℕ) → v < g.graph.vertices → position_after g.graph (slice_index g.start) (firings log) v
+    position_from : (log : Log) → IsLegalLog g log → IsFiringSequence g.graph (started g log) (firings log)
+        → (v : ℕ) → v < g.graph.vertices → position_after g.graph (started g log) (firings log) v
         ≡ full_position g log v
     position_from log legal ok v inside =
         let a = full_sum log legal v inside in
-        let b = position_is g.graph (firings log) (slice_index g.start) ok v in
+        let b = position_is g.graph (firings log) (started g log) ok v in
         let c = ap (λ (n : ℕ). degree g.graph v * n) (counts_are log v) in
         let d = inflow_ext g.graph (counts (firings log)) (fired_by g log) (counts_are log) v in
         omega arith
 
-    same_sequence : (log : Log) (vs : List ℕ) → vs ≡ [] → IsFiringSequence g.graph (slice_index g.start) (firings log)
-        → IsFiringSequence g.graph (slice_index g.start) (firings log ++ vs)
-    same_sequence log vs none ok = subst (IsFiringSequence g.graph (slice_index g.start))
+    same_sequence : (log : Log) (vs : List ℕ) → vs ≡ [] → IsFiringSequence g.graph (started g log) (firings log)
+        → IsFiringSequence g.graph (started g log) (firings log ++ vs)
+    same_sequence log vs none ok = subst (IsFiringSequence g.graph (started g log))
         (sym (ap (λ (l : List ℕ). firings log ++ l) none ∙ append-nil (firings log))) ok
 
     sequence_step : (ev : Event) (seen : ℕ) (log : Log) → IsLegalLog g (record { event = ev; seen = seen } ∷ log)
-        → IsFiringSequence g.graph (slice_index g.start) (firings log)
-        → IsFiringSequence g.graph (slice_index g.start) (firings log ++ firings_of ev)
+        → IsFiringSequence g.graph (started g log) (firings log)
+        → IsFiringSequence g.graph (started g log) (firings log ++ firings_of ev)
     sequence_step (Fire v k) seen log legal ok =
         let may = rules_met g (Fire v k) (part_in g log v) legal.1.0 in
         let same = position_from log legal.0 ok v may.0 in
         let chips = may.7 in
-        sequence-append g.graph (firings log) (replicate k v) (slice_index g.start) ok
-        (batch g.graph v k (position_after g.graph (slice_index g.start) (firings log)) may.0 may.1 (omega arith))
+        sequence-append g.graph (firings log) (replicate k v) (started g log) ok
+        (batch g.graph v k (position_after g.graph (started g log) (firings log)) may.0 may.1 (omega arith))
     sequence_step (Take e) seen log legal ok = same_sequence log [] refl ok
     sequence_step (Ack e) seen log legal ok = same_sequence log [] refl ok
     sequence_step (Clear e) seen log legal ok = same_sequence log [] refl ok
@@ -170,10 +188,14 @@ module _ (g : Setting) where
     sequence_step (Settle e) seen log legal ok = same_sequence log [] refl ok
     sequence_step (Seal e) seen log legal ok = same_sequence log [] refl ok
     sequence_step (Read v) seen log legal ok = same_sequence log [] refl ok
+    sequence_step (Feed e k) seen log legal ok = same_sequence log [] refl ok
+    sequence_step End seen log legal ok = same_sequence log [] refl ok
 
-    pub is_sequence : (log : Log) → IsLegalLog g log → IsFiringSequence g.graph (slice_index g.start) (firings log)
+    pub is_sequence : (log : Log) → IsLegalLog g log → IsFiringSequence g.graph (started g log) (firings log)
     is_sequence [] legal = tt
-    is_sequence (x ∷ log) legal = sequence_step x.event x.seen log legal (is_sequence log legal.0)
+    is_sequence (x ∷ log) legal = more_chips g.graph (started g log) (started g (x ∷ log))
+        (started_grows g game some_ring x log legal) (firings (x ∷ log))
+        (sequence_step x.event x.seen log legal (is_sequence log legal.0))
 
     pub is_within : (log : Log) → IsLegalLog g log → IsWithin g.limit (firings log)
     is_within log legal u = let a = counts_are log u in let b = (part_kept g game log legal u).within in omega arith
@@ -191,14 +213,14 @@ module _ (g : Setting) where
     same_counts log j u = counts_are log u j
 
     pub none_below : (log : Log) → IsLegalLog g log → (v : ℕ)
-        → IsBelowZero g.graph (slice_index g.start) (fired_by g log) v → ⊥
+        → IsBelowZero g.graph (started g log) (fired_by g log) v → ⊥
     none_below log legal v low =
-        (position_by_counts_law g.graph (slice_index g.start) (firings log) (is_sequence log legal) v).0
-        (subst (λ (f : ℕ → ℕ). IsBelowZero g.graph (slice_index g.start) f v) (sym (same_counts log)) low)
+        (position_by_counts_law g.graph (started g log) (firings log) (is_sequence log legal) v).0
+        (subst (λ (f : ℕ → ℕ). IsBelowZero g.graph (started g log) f v) (sym (same_counts log)) low)
 
     pub by_counts : (log : Log) → IsLegalLog g log → (v : ℕ)
-        → position_after g.graph (slice_index g.start) (firings log) v
-        ≡ position_by_counts g.graph (slice_index g.start) (fired_by g log) v
-    by_counts log legal v = (position_by_counts_law g.graph (slice_index g.start) (firings log)
+        → position_after g.graph (started g log) (firings log) v
+        ≡ position_by_counts g.graph (started g log) (fired_by g log) v
+    by_counts log legal v = (position_by_counts_law g.graph (started g log) (firings log)
         (is_sequence log legal) v).1
-        ∙ ap (λ (f : ℕ → ℕ). position_by_counts g.graph (slice_index g.start) f v) (same_counts log)
+        ∙ ap (λ (f : ℕ → ℕ). position_by_counts g.graph (started g log) f v) (same_counts log)

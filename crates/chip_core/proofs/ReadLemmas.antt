@@ -1,25 +1,33 @@
 -- Every read that was made saw the fired word that stands at the end, and the root is closed there.
-use Rattle.std.proofs.Common.{◌≡◌, ◌↔◌, ◌⊎◌, ℕ, zero, suc, ◌<◌, [], ◌∷◌, length, get_or, None, Contains, sym, ap, ◌∙◌}
-use Rattle.std.proofs.Common.{arith, inl, inr, ⊎_elim, eqb, eqb-true}
+use Rattle.std.proofs.Common.{◌≡◌, ◌↔◌, ◌⊎◌, ℕ, zero, suc, ◌<◌, [], ◌∷◌, length, get_or, true, None, Contains, sym, ap}
+use Rattle.std.proofs.Common.{◌∙◌, arith, inl, inr, ⊎_elim, eqb, eqb-true}
 use Rattle.chip_actor.specs.Setting.{Setting, HasGame}
 use Rattle.chip_graph.proofs.SumLemmas.{tested_none}
 use Rattle.chip_actor.specs.Part.{deficit}
 use Rattle.chip_actor.proofs.RuleLemmas.{rules_met}
 use Rattle.chip_actor.proofs.PartLemmas.{out_zero}
 use Rattle.chip_core.specs.Core.{Log, Step, Event, Read, unmet, part_of, part_in, sees, word_of_part, IsLegalLog}
-use Rattle.chip_core.specs.Core.{IsClosed, outstanding, tail_of, root, all_edges}
+use Rattle.chip_core.specs.Core.{IsSettled, IsClosed, outstanding, tail_of, root, all_edges}
 use Rattle.chip_core.specs.Laws.{ReadsTell}
 use Rattle.chip_core.proofs.ClosingLemmas.{still, still_closed}
 
--- the two ways to say that the root is closed
-pub closed_is : (g : Setting) (log : Log) → (deficit g (root g) (part_in g log (root g)) ≡ 0) ↔ IsClosed g log
-closed_is g log = (
+-- the two ways to say that all that the root sent is settled
+pub settled_is : (g : Setting) (log : Log) → (deficit g (root g) (part_in g log (root g)) ≡ 0) ↔ IsSettled g log
+settled_is g log = (
   (λ none e l at. ap (λ (p : ℕ). outstanding ((part_in g log p).out e)) at
       ∙ out_zero g (root g) (λ i. outstanding ((part_in g log (root g)).out i)) none e l at),
-  (λ closed. tested_none (all_edges g) (λ e. eqb (tail_of g e) (root g))
+  (λ settled. tested_none (all_edges g) (λ e. eqb (tail_of g e) (root g))
       (λ e. outstanding ((part_in g log (root g)).out e)) (λ e l on.
       (let at = eqb-true (tail_of g e) (root g) on in ap (λ (p : ℕ). outstanding ((part_in g log p).out e)) (sym at)
-      ∙ closed e l at))),
+      ∙ settled e l at))),
+)
+
+-- and that it is closed
+pub closed_is : (g : Setting) (log : Log)
+    → (((part_in g log (root g)).ended ≡ true) × (deficit g (root g) (part_in g log (root g)) ≡ 0)) ↔ IsClosed g log
+closed_is g log = (
+  (λ both. (both.0, (settled_is g log).0 both.1)),
+  (λ closed. (closed.0, (settled_is g log).1 closed.1)),
 )
 
 -- the latest, or one before it
@@ -35,7 +43,7 @@ module _ (g : Setting) (game : HasGame g) (some_ring : 0 < g.ring) where
       let none : unmet g (Read v) (part_in g log (root g))
       ≡ None = sym (ap (λ (x : Event). unmet g x (part_in g log (part_of g x))) is) ∙ legal.1.0 in
       let may = rules_met g (Read v) (part_in g log (root g)) none in
-      (may.0, (closed_is g log).0 may.1, legal.1.1 ∙ ap (sees g log) is)
+      (may.0, (closed_is g log).0 (may.2, may.1), legal.1.1 ∙ ap (sees g log) is)
 
   pub all_reads : (log : Log) → IsLegalLog g log → (x : Step) (v : ℕ) → Contains log x → x.event ≡ Read v
       → (v < g.graph.vertices) × IsClosed g log × (x.seen ≡ word_of_part (part_in g log v))

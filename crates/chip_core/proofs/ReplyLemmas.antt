@@ -9,9 +9,9 @@ use Rattle.chip_link.specs.Link.{Tail, claims_of, after_clear, after_claim}
 use Rattle.chip_actor.specs.declared.reply.Reply.TheVariants.{Got, Sent, Empty, Sealed}
 use Rattle.chip_actor.specs.Steps.{message_of}
 use Rattle.chip_actor.proofs.PartLemmas.{at_edge, idle_take}
-use Rattle.chip_core.specs.Core.{Log, Step, Event, Take, Ack, Fire, Clear, Claim, Put, Halt, Settle, Seal, Read, Rule}
-use Rattle.chip_core.specs.Core.{Reply, Part, unmet, part_of, does, reply_of, part_in, sees, answer, step, replies_to}
-use Rattle.chip_core.specs.Core.{log_after}
+use Rattle.chip_core.specs.Core.{Log, Step, Event, Take, Ack, Fire, Clear, Claim, Put, Halt, Settle, Seal, Read, Feed}
+use Rattle.chip_core.specs.Core.{End, Rule, Reply, Part, unmet, part_of, does, reply_of, part_in, sees, answer, step}
+use Rattle.chip_core.specs.Core.{replies_to, log_after}
 use Rattle.chip_core.specs.Replies.{is_idle, DifferInNotes, IdleStepsLeave, RunsGoOn}
 use Rattle.chip_core.proofs.LogLemmas.{part_here, part_else}
 
@@ -28,6 +28,7 @@ same_part s = record {
   got = λ e. refl;
   acked = λ e. refl;
   stop = λ e. refl;
+  ended = refl;
 }
 
 module _ (g : Setting) where
@@ -46,6 +47,7 @@ module _ (g : Setting) where
     got = λ i. refl;
     acked = λ i. refl;
     stop = λ i. refl;
+    ended = refl;
   }
 
   -- a claim that is refused
@@ -74,6 +76,31 @@ module _ (g : Setting) where
         got = λ i. refl;
         acked = λ i. refl;
         stop = λ i. refl;
+        ended = refl;
+      }
+
+  -- a feed that is refused
+  unfed_leaves : (e k seen : ℕ) (s : Part) → seen ≢ claims_of (s.out e).link
+      → DifferInNotes (does g (record { event = Feed e k; seen = seen }) s) s
+  unfed_leaves e k seen s miss =
+      let is : after_claim k seen (s.out e).link ≡ record (s.out e).link { clear = false; refused = true } =
+      cond_no seen (claims_of (s.out e).link) (record (s.out e).link { held = Some k; clear = false })
+      (record (s.out e).link { clear = false; refused = true }) miss in
+      record {
+        chips = refl;
+        fired = refl;
+        halt = refl;
+        parent = refl;
+        put = at_edge (λ i (t : Tail). t.put ≡ (s.out i).link.put) e (λ i. after_claim k seen (s.out i).link)
+            (λ i. (s.out i).link) (ap (λ (t : Tail). t.put) is) (λ i. refl);
+        held = at_edge (λ i (t : Tail). t.held ≡ (s.out i).link.held) e (λ i. after_claim k seen (s.out i).link)
+            (λ i. (s.out i).link) (ap (λ (t : Tail). t.held) is) (λ i. refl);
+        pending = λ i. refl;
+        settled = λ i. refl;
+        got = λ i. refl;
+        acked = λ i. refl;
+        stop = λ i. refl;
+        ended = refl;
       }
 
   -- the part that acts
@@ -96,6 +123,12 @@ module _ (g : Setting) where
   acting_leaves (Settle e) seen s idle = absurd (true≢false (sym idle))
   acting_leaves (Seal e) seen s idle = absurd (true≢false (sym idle))
   acting_leaves (Read v) seen s idle = absurd (true≢false (sym idle))
+  acting_leaves (Feed e k) seen s idle = dite (ℕ_discrete seen (claims_of (s.out e).link))
+      (λ hit. absurd (true≢false (sym idle
+      ∙ ap is_idle (cond_yes seen (claims_of (s.out e).link)
+      (Sent (message_of e (claims_of (s.out e).link) k)) Sealed hit))))
+      (λ miss. unfed_leaves e k seen s miss)
+  acting_leaves End seen s idle = absurd (true≢false (sym idle))
 
   answer_leaves : (log : Log) (x : Event) (o : Option Rule) → is_idle (answer g log x o).1 ≡ true → (p : ℕ)
       → DifferInNotes (part_in g (answer g log x o).0 p) (part_in g log p)

@@ -1,7 +1,7 @@
 -- What the operation of an event finds in its word is what the core says, and the words that it leaves show the log
 -- with that event.
-use Rattle.std.proofs.Common.{◌≡◌, ◌≢◌, ℕ, ◌+◌, ◌-◌, ◌%◌, ◌^◌, ◌<◌, Bool, true, false, cond, eqb, List, ◌∷◌, length}
-use Rattle.std.proofs.Common.{sum, Option, Some, None, option_to_list, is_some, refl, sym, ap, ◌∙◌, subst, arith}
+use Rattle.std.proofs.Common.{◌≡◌, ◌≢◌, ℕ, ◌+◌, ◌-◌, ◌%◌, ◌^◌, ◌<◌, true, false, cond, eqb, List, ◌∷◌, length, sum}
+use Rattle.std.proofs.Common.{Option, Some, None, option_to_list, is_some, refl, sym, ap, ◌∙◌, subst, arith, ⊎_elim}
 use Rattle.std.proofs.Common.{zero-add, bit_or}
 use Rattle.std.proofs.lemmas.Nat.{mod_below}
 use mathlib.Core.Logic.{dite}
@@ -21,13 +21,14 @@ use Rattle.chip_actor.specs.Kept.{Met}
 use Rattle.chip_actor.specs.Steps.{link_after, got_after, acked_after, stop_after}
 use Rattle.chip_actor.proofs.PartLemmas.{may_le}
 use Rattle.chip_actor.proofs.RuleLemmas.{rules_met}
-use Rattle.chip_core.specs.Core.{Log, Step, Event, Take, Ack, Fire, Clear, Claim, Put, Halt, Settle, Seal, Read, Part}
-use Rattle.chip_core.specs.Core.{Out, unmet, part_of, does, part_in, out_in, into_in, stop_in, word_of_part, sees}
-use Rattle.chip_core.specs.Core.{IsLegalLog, tail_of, head_of, all_edges}
-use Rattle.chip_core.specs.Words.{Word, of_edge, of_acks, of_cell, of_vertex, IsWord, halt_bits, touched, left_by}
+use Rattle.chip_core.specs.Core.{Log, Step, Event, Take, Ack, Fire, Clear, Claim, Put, Halt, Settle, Seal, Read, Feed}
+use Rattle.chip_core.specs.Core.{End, Part, Out, unmet, part_of, does, part_in, out_in, into_in, stop_in, word_of_part}
+use Rattle.chip_core.specs.Core.{sees, IsLegalLog, tail_of, head_of, root_edge, all_edges}
+use Rattle.chip_core.specs.Words.{Word, of_edge, of_acks, of_cell, of_vertex, IsWord, halt_bits, touched}
 use Rattle.chip_core.specs.Words.{noted, IsShown, acting, OperationsFind, IsLeft, WordsGoOn}
 use Rattle.chip_core.proofs.LogLemmas.{part_here, part_else, link_step, got_step, acked_step, stop_step, out_kept}
-use Rattle.chip_core.proofs.LogLemmas.{part_kept, edge_sound}
+use Rattle.chip_core.proofs.LogLemmas.{part_kept, edge_sound, empty_hand}
+use Rattle.chip_actor.proofs.EdgeLemmas.{sendable_inside}
 use Rattle.chip_core.proofs.NumberLemmas.{claims_most}
 
 -- what a word is for, its edge or vertex, and its cell
@@ -83,18 +84,24 @@ word_halts FiringLimit n fired few is = ap (λ (k : ℕ). bit_or k (2 ^ 63 + 2 ^
     ∙ halts_by_limit fired false false few
 
 -- the word of an event whose rules are met is there
-pub word_for : (g : Setting) → 0 < g.ring → (x : Event) (s : Part) → unmet g x s ≡ None → IsWord g (touched g x s)
-word_for g some_ring (Take e) s none = (rules_met g (Take e) s none, mod_below _ g.ring some_ring)
-word_for g some_ring (Ack e) s none = (rules_met g (Ack e) s none).0
-word_for g some_ring (Fire v k) s none = (rules_met g (Fire v k) s none).0
-word_for g some_ring (Clear e) s none = let m = rules_met g (Clear e) s none in
-    (omega arith, mod_below _ g.ring some_ring)
-word_for g some_ring (Claim e) s none = let m = rules_met g (Claim e) s none in omega arith
-word_for g some_ring (Put e) s none = let m = rules_met g (Put e) s none in (omega arith, mod_below _ g.ring some_ring)
-word_for g some_ring (Halt v) s none = (rules_met g (Halt v) s none).0
-word_for g some_ring (Settle e) s none = rules_met g (Settle e) s none
-word_for g some_ring (Seal e) s none = let m = rules_met g (Seal e) s none in omega arith
-word_for g some_ring (Read v) s none = (rules_met g (Read v) s none).0
+pub word_for : (g : Setting) → 0 < g.graph.vertices → 0 < g.ring → (x : Event) (s : Part) → unmet g x s ≡ None
+    → IsWord g (touched g x s)
+word_for g some_vertex some_ring (Take e) s none = (rules_met g (Take e) s none, mod_below _ g.ring some_ring)
+word_for g some_vertex some_ring (Ack e) s none = (rules_met g (Ack e) s none).0
+word_for g some_vertex some_ring (Fire v k) s none = (rules_met g (Fire v k) s none).0
+word_for g some_vertex some_ring (Clear e) s none = (
+  ⊎_elim (λ v. (let l = v.0 in omega arith)) (λ r. r.1) (rules_met g (Clear e) s none),
+  mod_below _ g.ring some_ring,
+)
+word_for g some_vertex some_ring (Claim e) s none = let m = rules_met g (Claim e) s none in omega arith
+word_for g some_vertex some_ring (Put e) s none =
+    (sendable_inside g e (rules_met g (Put e) s none).0, mod_below _ g.ring some_ring)
+word_for g some_vertex some_ring (Halt v) s none = (rules_met g (Halt v) s none).0
+word_for g some_vertex some_ring (Settle e) s none = rules_met g (Settle e) s none
+word_for g some_vertex some_ring (Seal e) s none = let m = rules_met g (Seal e) s none in omega arith
+word_for g some_vertex some_ring (Read v) s none = (rules_met g (Read v) s none).0
+word_for g some_vertex some_ring (Feed e k) s none = (rules_met g (Feed e k) s none).1
+word_for g some_vertex some_ring End s none = omega arith
 
 module _ (g : Setting) (game : HasGame g) (some_ring : 0 < g.ring) (log : Log) (legal : IsLegalLog g log) (value : Word
     → ℕ) (shown : IsShown g log value) where
@@ -106,11 +113,11 @@ module _ (g : Setting) (game : HasGame g) (some_ring : 0 < g.ring) (log : Log) (
 
   -- nothing is claimed on an edge that may be looked at
   idle : (e : ℕ) → unmet g (Clear e) (part_in g log (tail_of g e)) ≡ None → (out_in g log e).link.held ≡ None
-  idle e none = let met = met_for (Clear e) none in (out_kept g game log legal e).free_hand met.0 met.3
+  idle e none = empty_hand g game some_ring log legal e (met_for (Clear e) none)
 
   -- the word is there
   pub word_there : (x : Event) → unmet g x (acting g log x) ≡ None → IsWord g (touched g x (acting g log x))
-  word_there x none = word_for g some_ring x (acting g log x) none
+  word_there x none = word_for g game.graph_fits.some_vertex some_ring x (acting g log x) none
 
   -- what is found there
   pub finds : (x : Event) → unmet g x (acting g log x) ≡ None
@@ -126,6 +133,8 @@ module _ (g : Setting) (game : HasGame g) (some_ring : 0 < g.ring) (log : Log) (
   finds (Settle e) none = shown.acks e (word_there (Settle e) none)
   finds (Seal e) none = (shown.edges e (word_there (Seal e) none)).word_is
   finds (Read v) none = shown.fired v (word_there (Read v) none)
+  finds (Feed e k) none = (shown.edges e (word_there (Feed e k) none)).word_is
+  finds End none = shown.acks (root_edge g 0) (word_there End none)
 
   -- other words, that the operation of an event has left
   module _ (value' : Word → ℕ) where
@@ -248,6 +257,25 @@ module _ (g : Setting) (game : HasGame g) (some_ring : 0 < g.ring) (log : Log) (
         e l
     edges_after (Read v) none w e l = other_words (Read v) w e l (other_kind _ _ (λ z. omega arith))
         (λ i. other_kind _ _ (λ z. omega arith))
+    edges_after End none w e l = other_words End w e l (other_kind _ _ (λ z. omega arith))
+        (λ i. other_kind _ _ (λ z. omega arith))
+    edges_after (Feed a k) none w e l = one_edge (λ i (u : Tail). i < all_edges g
+        → Shows g.ring (value' (of_edge i)) (λ j. value' (of_cell i j)) u (into_in g log i).got (stop_in g log i)) a
+        (λ i. after_claim k (seen_by (Feed a k)) (out_in g log i).link) (λ i. (out_in g log i).link)
+        (λ l.
+        let met = met_for (Feed a k) none in
+        let o : Out = out_in g log a in
+        reread g.ring _ _ _ _ _ _ _ some_ring refl
+        (λ j h. w.others (of_cell a j) (l, h) (other_kind _ _ (λ z. omega arith)))
+        (subst (λ (n : ℕ). Shows g.ring (value' (of_edge a)) (λ j. value (of_cell a j)) (after_claim k n o.link)
+        (into_in g log a).got (stop_in g log a)) (finds (Feed a k) none)
+        (claim_shows g.ring some_ring (value (of_edge a)) (λ j. value (of_cell a j)) _ _ _ (sound a)
+        (shown.edges a l) k (value' (of_edge a)) ((sound a).quiet met.5)
+        (λ hit. w.here ∙ cond_yes (value (of_edge a)) (claims_of o.link) (claims_of o.link + 1) (value (of_edge a)) hit)
+        (λ miss. w.here ∙ cond_no (value (of_edge a)) (claims_of o.link) (claims_of o.link + 1)
+        (value (of_edge a)) miss))))
+        (λ i other l. other_words (Feed a k) w i l (other_owner _ _ other) (λ j. other_kind _ _ (λ z. omega arith)))
+        e l
 
     acks_after : (x : Event) → unmet g x (acting g log x) ≡ None → IsLeft g log x value value' → (e : ℕ)
         → e < all_edges g → value' (of_acks e) ≡ acked_after g x (part_in g log (head_of g e)) e (into_in g log e)
@@ -266,6 +294,10 @@ module _ (g : Setting) (game : HasGame g) (some_ring : 0 < g.ring) (log : Log) (
     acks_after (Settle a) none w e l = dite (ℕ_discrete e a)
         (λ same. ap (λ (i : ℕ). value' (of_acks i)) same ∙ w.here ∙ ap (λ (i : ℕ). value (of_acks i)) (sym same))
         (λ other. w.others (of_acks e) l (other_owner _ _ other)) ∙ shown.acks e l
+    acks_after End none w e l = dite (ℕ_discrete e (root_edge g 0))
+        (λ same. ap (λ (i : ℕ). value' (of_acks i)) same ∙ w.here ∙ ap (λ (i : ℕ). value (of_acks i)) (sym same))
+        (λ other. w.others (of_acks e) l (other_owner _ _ other)) ∙ shown.acks e l
+    acks_after (Feed a k) none w e l = w.others (of_acks e) l (other_kind _ _ (λ z. omega arith)) ∙ shown.acks e l
     acks_after (Take a) none w e l = w.others (of_acks e) l (other_kind _ _ (λ z. omega arith)) ∙ shown.acks e l
     acks_after (Fire v k) none w e l = w.others (of_acks e) l (other_kind _ _ (λ z. omega arith)) ∙ shown.acks e l
     acks_after (Clear a) none w e l = w.others (of_acks e) l (other_kind _ _ (λ z. omega arith)) ∙ shown.acks e l
@@ -327,6 +359,10 @@ module _ (g : Setting) (game : HasGame g) (some_ring : 0 < g.ring) (log : Log) (
         (λ same. ap (λ (i : ℕ). value' (of_vertex i)) same ∙ w.here ∙ ap (λ (i : ℕ). value (of_vertex i)) (sym same))
         (λ other. w.others (of_vertex v) l (other_owner _ _ other)) ∙ shown.fired v l
         ∙ sym (word_stays (made_by (Read a)) v (λ s. refl))
+    fired_after (Feed a k) none w v l = w.others (of_vertex v) l (other_kind _ _ (λ z. omega arith)) ∙ shown.fired v l
+        ∙ sym (word_stays (made_by (Feed a k)) v (λ s. refl))
+    fired_after End none w v l = w.others (of_vertex v) l (other_kind _ _ (λ z. omega arith)) ∙ shown.fired v l
+        ∙ sym (word_stays (made_by End) v (λ s. refl))
     fired_after (Take a) none w v l = w.others (of_vertex v) l (other_kind _ _ (λ z. omega arith)) ∙ shown.fired v l
         ∙ sym (word_stays (made_by (Take a)) v (λ s. refl))
     fired_after (Ack a) none w v l = w.others (of_vertex v) l (other_kind _ _ (λ z. omega arith)) ∙ shown.fired v l

@@ -4,13 +4,16 @@ use Rattle.std.proofs.Common.{ℕ, zero, suc, ◌<◌, [], ◌∷◌, refl, arit
 use Rattle.chip_graph.specs.Multigraph.{edge_at, IsEdge, IsGraph, ReachesSink}
 use Rattle.chip_actor.specs.Setting.{Setting}
 use Rattle.chip_actor.specs.Worked.{small_triangle}
-use Rattle.chip_core.specs.Core.{log_after}
+use Rattle.chip_core.specs.Core.{End, log_after}
 use Rattle.chip_core.specs.Worked.{whole_schedule, WholeSchedule, limit_of_two, stopped_by_limit, StoppedByLimit}
-use Rattle.chip_core.specs.Worked.{played_on, StoppedBySeal}
-use Rattle.chip_core.proofs.ReadLemmas.{closed_is}
+use Rattle.chip_core.specs.Worked.{played_on, StoppedBySeal, fed_triangle, fed_schedule, ClosedByTheEnd}
+use Rattle.chip_core.proofs.ReadLemmas.{settled_is, closed_is}
 
 abbrev four_chips : Setting
 four_chips = small_triangle (4 ∷ 0 ∷ 0 ∷ [])
+
+abbrev no_chips : Setting
+no_chips = fed_triangle (0 ∷ 0 ∷ 0 ∷ [])
 
 edges_fit : (e : ℕ) → e < 4 → IsEdge 3 2 (edge_at four_chips.graph e)
 edges_fit zero l = record {
@@ -74,7 +77,7 @@ none_halted = (
     few_chips = omega arith;
     low_limit = omega arith;
   },
-  (closed_is four_chips (log_after four_chips [] whole_schedule)).0 refl,
+  (closed_is four_chips (log_after four_chips [] whole_schedule)).0 (refl, refl),
   refl,
   refl,
   refl,
@@ -88,7 +91,7 @@ by_limit = (
     few_chips = omega arith;
     low_limit = omega arith;
   },
-  (closed_is limit_of_two (log_after limit_of_two [] stopped_by_limit)).0 refl,
+  (closed_is limit_of_two (log_after limit_of_two [] stopped_by_limit)).0 (refl, refl),
   refl,
   refl,
   refl,
@@ -96,4 +99,20 @@ by_limit = (
 )
 
 pub by_seal : StoppedBySeal
-by_seal = ((closed_is four_chips (log_after four_chips [] played_on)).0 refl, refl, refl, refl, refl, refl)
+by_seal = ((closed_is four_chips (log_after four_chips [] played_on)).0 (refl, refl), refl, refl, refl, refl, refl)
+
+pub by_the_end : ClosedByTheEnd
+by_the_end = (
+  record {
+    graph_fits = triangle_is_graph;
+    start_fits = refl;
+    few_chips = omega arith;
+    low_limit = omega arith;
+  },
+  (settled_is no_chips (log_after no_chips [] fed_schedule)).0 refl,
+  refl,
+  refl,
+  (closed_is no_chips (log_after no_chips (log_after no_chips [] fed_schedule) (End ∷ []))).0 (refl, refl),
+  refl,
+  refl,
+)

@@ -1,12 +1,13 @@
 -- The whole core of a running game: the part of each vertex, of the root and of the stopper. All of them follow from
 -- one list, that of the events that were made.
-use Rattle.std.specs.Prelude.{◌≡◌, ℕ, ◌<◌, ◌==◌, if◌then◌else◌, List, [], ◌∷◌, Option, Some, None, is_some}
+use Rattle.std.specs.Prelude.{◌≡◌, ℕ, true, ◌<◌, ◌==◌, if◌then◌else◌, List, [], ◌∷◌, Option, Some, None, is_some}
 use Rattle.chip_actor.specs.Setting.{Setting}
 use Rattle.chip_link.specs.Words.{fired_word}
 use Rattle.chip_link.specs.Link.{cell_at_tail, cell_at_head, word_of}
-pub use Rattle.chip_actor.specs.Edges.{tail_of, head_of, root, stopper, all_edges, graph_edges}
+pub use Rattle.chip_actor.specs.Edges.{tail_of, head_of, root, root_edge, stopper, all_edges, graph_edges}
 pub use Rattle.chip_actor.specs.Part.{Part, Out, Into, opened, is_by_limit, outstanding}
-pub use Rattle.chip_actor.specs.Rules.{Event, Take, Ack, Fire, Clear, Claim, Put, Halt, Settle, Seal, Read, unmet}
+pub use Rattle.chip_actor.specs.Rules.{Event, Take, Ack, Fire, Clear, Claim, Put, Halt, Settle, Seal, Read, Feed, End}
+pub use Rattle.chip_actor.specs.Rules.{unmet}
 pub use Rattle.chip_actor.specs.declared.rule.Rule.{Rule}
 pub use Rattle.chip_link.specs.declared.event.Step.{Step}
 pub use Rattle.chip_actor.specs.declared.reply.Reply.{Reply}
@@ -65,6 +66,8 @@ seen_of g parts (Ack e) = (into_by g parts e).acked
 seen_of g parts (Fire v k) = word_of_part (parts v)
 seen_of g parts (Halt v) = word_of_part (parts v)
 seen_of g parts (Put e) = 0
+seen_of g parts (Feed e k) = word_of (out_by g parts e).link (stop_by g parts e)
+seen_of g parts End = (into_by g parts (root_edge g 0)).acked
 
 -- and so by the parts after these events
 abbrev pub sees : Setting → Log → Event → ℕ
@@ -103,6 +106,11 @@ abbrev pub replies_to : Setting → Log → List Event → List Reply
 replies_to g log [] = []
 replies_to g log (x ∷ xs) = (step g log x).1 ∷ replies_to g (step g log x).0 xs
 
--- the root is closed: on each root edge as many messages are settled as were sent
+-- on each root edge as many messages are settled as were sent
+abbrev pub IsSettled : Setting → Log → Type 0
+IsSettled g log = (e : ℕ) → e < all_edges g → tail_of g e ≡ root g → outstanding (out_in g log e) ≡ 0
+
+-- the root is closed: it noted that nothing more is fed, and on each root edge as many messages are settled as were
+-- sent
 abbrev pub IsClosed : Setting → Log → Type 0
-IsClosed g log = (e : ℕ) → e < all_edges g → tail_of g e ≡ root g → outstanding (out_in g log e) ≡ 0
+IsClosed g log = ((part_in g log (root g)).ended ≡ true) × IsSettled g log

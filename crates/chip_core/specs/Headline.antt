@@ -1,5 +1,5 @@
 -- The core theorem, whole.
-use Rattle.std.specs.Prelude.{◌≡◌, ◌≢◌, ℕ, ◌+◌, ◌*◌, ◌<◌, true, List, [], ◌++◌, length, sum, slice_index, Some, None}
+use Rattle.std.specs.Prelude.{◌≡◌, ◌≢◌, ℕ, ◌+◌, ◌*◌, ◌<◌, true, List, [], ◌++◌, length, sum, Some, None}
 use Rattle.chip_actor.specs.Setting.{Setting, HasGame}
 use Rattle.chip_graph.specs.Sums.{picked}
 use Rattle.chip_link.specs.Link.{sent_counts}
@@ -12,7 +12,7 @@ use Rattle.chip_actor.specs.Edges.{mult_of}
 use Rattle.chip_core.specs.Core.{Log, Event, Reply, part_in, out_in, into_in, fired_by, is_by_limit, replies_to}
 use Rattle.chip_core.specs.Core.{log_after, IsLegalLog, IsClosed, tail_of, all_edges, graph_edges, stopper}
 use Rattle.chip_core.specs.Messages.{sent_in, delivered_in, sent_after_seal, was_sealed, in_flight, AreInOrderFrom}
-use Rattle.chip_core.specs.Positions.{held, chips_at, firings, LeadsTo, AgreesWith}
+use Rattle.chip_core.specs.Positions.{started, held, chips_at, firings, LeadsTo, AgreesWith}
 use Rattle.chip_core.specs.Detection.{IsDetectionOrder}
 
 -- no vertex halted
@@ -28,7 +28,8 @@ NoneHaltedBySeal g log = (v : ℕ) → v < g.graph.vertices → (part_in g log v
 -- vertex halted, chips and firing counts are those of every one-thread legal firing that ends with no vertex legal.
 --
 -- The steps `xs` are asked for after the log `before`, answered by `replies`, and leave the log `after`. A run has to
--- deliver on an edge what was in flight before it, and then what it sent
+-- deliver on an edge what was in flight before it, and then what it sent. A legal firing starts with the chips that
+-- were given to each vertex until now, at the opening and by feeding
 pub record HeadlineOf (g : Setting) (before : Log) (xs : List Event) (replies : List Reply) (after : Log) : Type 0 where
   -- each edge has delivered a prefix of what was sent on it, and what is left of that is in flight
   pub prefix : (e : ℕ) → IsPrefix (delivered_in e xs replies) (in_flight g before e ++ sent_in e xs replies)
@@ -42,9 +43,9 @@ pub record HeadlineOf (g : Setting) (before : Log) (xs : List Event) (replies : 
   -- the firings that were made, one at a time, are a firing sequence within the limit, and lead to the full position
   pub position : LeadsTo g after (firings after)
   -- by the counts alone no vertex is below 0, and it is the position by the counts
-  pub none_below : (v : ℕ) → IsBelowZero g.graph (slice_index g.start) (fired_by g after) v → ⊥
-  pub by_counts : (v : ℕ) → position_after g.graph (slice_index g.start) (firings after) v
-      ≡ position_by_counts g.graph (slice_index g.start) (fired_by g after) v
+  pub none_below : (v : ℕ) → IsBelowZero g.graph (started g after) (fired_by g after) v → ⊥
+  pub by_counts : (v : ℕ) → position_after g.graph (started g after) (firings after) v
+      ≡ position_by_counts g.graph (started g after) (fired_by g after) v
   -- what was sent on an edge of the graph and what is held on it are what the firings of its tail made
   pub made : (e : ℕ) → e < graph_edges g → sum (sent_counts (out_in g after e).link) + held g after e
       ≡ mult_of g e * fired_by g after (tail_of g e)
@@ -56,15 +57,15 @@ pub record HeadlineOf (g : Setting) (before : Log) (xs : List Event) (replies : 
   -- and, unless a vertex halted, chips and firing counts are those of every firing sequence that ends with no vertex
   -- legal; the firings that were made are one
   pub one_end : IsClosed g after → NoneHalted g after → (vs : List ℕ)
-      → IsFiringSequence g.graph (slice_index g.start) vs → HasEnded g.graph (slice_index g.start) vs
+      → IsFiringSequence g.graph (started g after) vs → HasEnded g.graph (started g after) vs
       → AgreesWith g after vs
-  pub ended : IsClosed g after → NoneHalted g after → HasEnded g.graph (slice_index g.start) (firings after)
+  pub ended : IsClosed g after → NoneHalted g after → HasEnded g.graph (started g after) (firings after)
   -- where the limit alone halted vertices, the same of all that end within the limit, and the vertices that it halted
   -- are the legal ones
   pub one_end_within : IsClosed g after → NoneHaltedBySeal g after → (vs : List ℕ)
-      → IsWholePlay g.graph (slice_index g.start) g.limit vs → AgreesWith g after vs
+      → IsWholePlay g.graph (started g after) g.limit vs → AgreesWith g after vs
   pub ended_within : IsClosed g after → NoneHaltedBySeal g after
-      → IsWholePlay g.graph (slice_index g.start) g.limit (firings after)
+      → IsWholePlay g.graph (started g after) g.limit (firings after)
   pub over : IsClosed g after → NoneHaltedBySeal g after
       → picked (λ v. is_by_limit (part_in g after v).halt) g.graph.vertices ≡ legal_vertices g.graph (chips_at g after)
   -- and whatever is asked for afterwards, the root stays closed and no part changes but the stopper's: no list, no

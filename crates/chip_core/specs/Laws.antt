@@ -1,19 +1,24 @@
 -- What else holds of legal logs, of runs and of edges, as the contracts of `laws` cite it.
 use Rattle.std.specs.Prelude.{◌≡◌, ◌≢◌, ◌↔◌, ℕ, ◌+◌, ◌-◌, ◌*◌, ◌^◌, ◌<◌, ◌≤◌, true, false, Contains, List, [], length}
-use Rattle.std.specs.Prelude.{sum, drop, is_some, Some, None}
-use Rattle.chip_actor.specs.Setting.{Setting, HasGame}
+use Rattle.std.specs.Prelude.{sum, drop, is_some, nat_lt, if◌then◌else◌, Some, None}
+use Rattle.chip_graph.specs.ChipGame.{IsGame}
+use Rattle.chip_graph.specs.More.{HasMore}
+use Rattle.chip_actor.specs.Setting.{Setting, HasGame, game_of_setting}
 use Rattle.chip_link.specs.Link.{sent_counts, claims_of}
 use Rattle.chip_link.specs.Laws.{AreInOrder}
 use Rattle.chip_link.specs.Words.{claims_in, fired_in, halted_in, by_limit_in}
+use Rattle.chip_graph.specs.Limits.{max_total}
 use Rattle.chip_actor.specs.Edges.{made, mult_of, start_of}
 use Rattle.chip_actor.specs.Part.{first_put}
 use Rattle.chip_actor.specs.Kept.{KeepsPart}
 use Rattle.chip_actor.specs.Acting.{FitsSeen}
-use Rattle.chip_core.specs.Core.{Log, Step, Event, Take, Clear, Claim, Seal, Read, opened, unmet, part_of, part_in}
-use Rattle.chip_core.specs.Core.{out_in, into_in, stop_in, fired_by, word_of_part, sees, IsLegalLog, replies_to}
-use Rattle.chip_core.specs.Core.{log_after, IsClosed, is_by_limit, tail_of, graph_edges, all_edges}
+use Rattle.chip_actor.specs.Root.{is_of_root, FitsRoot}
+use Rattle.chip_core.specs.Core.{Log, Step, Event, Take, Clear, Claim, Seal, Read, Feed, opened, unmet, part_of}
+use Rattle.chip_core.specs.Core.{part_in, out_in, into_in, stop_in, fired_by, word_of_part, sees, IsLegalLog}
+use Rattle.chip_core.specs.Core.{replies_to, log_after, IsClosed, is_by_limit, tail_of, root, root_edge, graph_edges}
+use Rattle.chip_core.specs.Core.{all_edges}
 use Rattle.chip_core.specs.Messages.{sent_in, was_sealed, messages_from, counts_in_flight, in_flight, sent_on, chips_in}
-use Rattle.chip_core.specs.Positions.{held, full_position, asked_in}
+use Rattle.chip_core.specs.Positions.{started, played_game, held, full_position, asked_in, fed_in}
 use Rattle.chip_core.specs.Histories.{done_by, part_by}
 
 -- of every game within the limits, every ring with a cell and every legal log
@@ -39,6 +44,11 @@ abbrev pub SeenFits : Type 0
 SeenFits = ForEveryLog (λ g log. (x : Event) → part_of g x < g.graph.vertices
     → unmet g x (part_in g log (part_of g x)) ≡ None → FitsSeen (part_in g log (part_of g x)) x (sees g log x))
 
+-- and so does what an event of the root sees
+abbrev pub RootSeenFits : Type 0
+RootSeenFits = ForEveryLog (λ g log. (x : Event) → is_of_root g x ≡ true
+    → unmet g x (part_in g log (root g)) ≡ None → FitsRoot g (part_in g log (root g)) x (sees g log x))
+
 -- settled, acknowledged, delivered, put and claimed on an edge: each at most the next, and at most one is claimed and
 -- not put
 pub record CountsOf (g : Setting) (log : Log) (e : ℕ) : Type 0 where
@@ -51,19 +61,26 @@ pub record CountsOf (g : Setting) (log : Log) (e : ℕ) : Type 0 where
 abbrev pub CountsOfEdges : Type 0
 CountsOfEdges = ForEveryLog (λ g log. (e : ℕ) → CountsOf g log e)
 
+-- the chips that ever went into e: what the firings of its tail made, and on a root edge what was given to its head
+abbrev pub gone_into : Setting → Log → ℕ → ℕ
+gone_into g log e = if nat_lt e (graph_edges g) then made g e (fired_by g log (tail_of g e))
+    else started g log (e - graph_edges g)
+
 -- no chip is lost on an edge: what was delivered, what is in flight and what is held make up what ever went into it
 abbrev pub ChipsOfEdges : Type 0
 ChipsOfEdges = ForEveryLog (λ g log. (e : ℕ)
     → sum (into_in g log e).got + (sum (counts_in_flight g log e) + held g log e)
-    ≡ made g e (fired_by g log (tail_of g e)))
+    ≡ gone_into g log e)
 
--- no vertex has more chips than the game, and no edge has more messages than its tail may fire or, on a root edge, than
--- there are chips
+-- no vertex has more chips than were given, and no edge has more messages than its tail may fire or, on a root edge,
+-- than chips were given, of which there are never more than `max_total`
 pub record NumbersOf (g : Setting) (log : Log) : Type 0 where
-  pub chips : (v : ℕ) → v < g.graph.vertices → full_position g log v ≤ sum g.start
+  pub chips : (v : ℕ) → v < g.graph.vertices → full_position g log v ≤ sum (played_game g log).start
+  pub given : sum (played_game g log).start ≤ max_total
   pub fired : (v : ℕ) → fired_by g log v ≤ g.limit
   pub claims : (e : ℕ) → e < graph_edges g → claims_of (out_in g log e).link ≤ g.limit
-  pub root_claims : (e : ℕ) → graph_edges g ≤ e → claims_of (out_in g log e).link ≤ start_of g (e - graph_edges g)
+  pub root_claims : (e : ℕ) → graph_edges g ≤ e → claims_of (out_in g log e).link
+      ≤ started g log (e - graph_edges g)
 
 abbrev pub NumbersAreSmall : Type 0
 NumbersAreSmall = ForEveryLog (λ g log. NumbersOf g log)
@@ -129,3 +146,31 @@ NothingInFlight = ForEveryLog (λ g log. IsClosed g log → (e : ℕ) → e < al
 abbrev pub ReadsTell : Type 0
 ReadsTell = ForEveryLog (λ g log. (x : Step) (v : ℕ) → Contains log x → x.event ≡ Read v
     → (v < g.graph.vertices) × IsClosed g log × (x.seen ≡ word_of_part (part_in g log v)))
+
+-- what was given to a vertex is what it starts with and, from the opening, what was fed to it
+abbrev pub GivenIsFed : Type 0
+GivenIsFed = (g : Setting) → HasGame g → 0 < g.ring → (xs : List Event) (v : ℕ)
+    → started g (log_after g [] xs) v ≡ start_of g v + chips_in (sent_in (root_edge g v) xs (replies_to g [] xs))
+
+-- a game that is not fed has what it starts with
+abbrev pub UnfedIsTheStart : Type 0
+UnfedIsTheStart = ForEveryLog (λ g log. g.fed ≡ false → (played_game g log ≡ game_of_setting g)
+    × ((v : ℕ) → started g log v ≡ start_of g v) × ((part_in g log (root g)).ended ≡ true))
+
+-- with what was given so far it is a game within the limits
+abbrev pub GivenIsAGame : Type 0
+GivenIsAGame = ForEveryLog (λ g log. IsGame (played_game g log))
+
+-- it has more than the game at the start: what the root fed, by its own record
+abbrev pub GivenByTheRecord : Type 0
+GivenByTheRecord = ForEveryLog (λ g log.
+    HasMore (game_of_setting g) (fed_in g (done_by g (root g) log)) (played_game g log))
+
+-- a game that is not fed has no feed in that record
+abbrev pub UnfedRecordsNone : Type 0
+UnfedRecordsNone = ForEveryLog (λ g log. g.fed ≡ false → fed_in g (done_by g (root g) log) ≡ [])
+
+-- a feed whose rules are met is sent: no root edge is ever sealed
+abbrev pub FeedsAreSent : Type 0
+FeedsAreSent = ForEveryLog (λ g log. (e k : ℕ) → graph_edges g ≤ e
+    → (was_sealed log e ≡ false) × (sees g log (Feed e k) ≡ claims_of (out_in g log e).link))

@@ -6,11 +6,12 @@ pub use Rattle.chip_link.specs.declared.message.Message.{Message}
 use Rattle.chip_link.specs.Link.{sent_counts}
 use Rattle.chip_actor.specs.declared.reply.Reply.TheVariants.{Done, Got, Sent}
 use Rattle.chip_actor.specs.Steps.{message_of}
-use Rattle.chip_core.specs.Core.{Log, Event, Reply, Take, Claim, Seal, out_in, into_in, replies_to}
+use Rattle.chip_core.specs.Core.{Log, Event, Reply, Take, Claim, Seal, Feed, out_in, into_in, replies_to}
 
--- the message that one reply says was sent on the edge e: a claim of e was taken
+-- the message that one reply says was sent on the edge e: a claim of e was taken, or the root fed on it
 abbrev pub sent_by : ℕ → Event → Reply → List Message
 sent_by e (Claim i) (Sent message) = if i == e then message ∷ [] else []
+sent_by e (Feed i k) (Sent message) = if i == e then message ∷ [] else []
 sent_by e _ _ = []
 
 -- the message that one reply says was delivered on the edge e: a take of e got it

@@ -1,13 +1,18 @@
 -- What a log comes to once its root is closed.
 use Rattle.std.specs.Prelude.{◌≡◌, ℕ, ◌<◌, Bool, true, false, List, length, slice_index, Option, Some, None}
-use Rattle.chip_actor.specs.Setting.{Setting, game_of_setting}
+use Rattle.chip_actor.specs.Setting.{Setting}
 use Rattle.chip_graph.specs.Sums.{picked}
 use Rattle.chip_fire.specs.declared.outcome.Outcome.{Outcome}
 use Rattle.chip_fire.specs.Counted.{IsAfter}
+use Rattle.chip_fire.specs.Outcomes.{IsOutcome}
+use Rattle.chip_fire.specs.Play.{IsPlayed}
 use Rattle.chip_fire.specs.Sequence.{position_after, IsFiringSequence, counts, IsWithin}
 use Rattle.chip_actor.specs.declared.cause.Cause.{Cause}
 use Rattle.chip_actor.specs.declared.cause.Cause.TheVariants.{SealedEdge, FiringLimit}
-use Rattle.chip_core.specs.Core.{Log, part_in, fired_by, is_by_limit}
+use Rattle.chip_core.specs.Core.{Log, part_in, fired_by, is_by_limit, IsClosed}
+use Rattle.chip_core.specs.Positions.{started, played_game, firings}
+use Rattle.chip_core.specs.Headline.{NoneHaltedBySeal}
+use Rattle.chip_core.specs.Laws.{ForEveryLog}
 
 -- a seal is the cause
 abbrev pub is_by_seal : Option Cause → Bool
@@ -33,14 +38,24 @@ pub record AreFired (g : Setting) (log : Log) (count : ℕ) (fired : List ℕ) :
 -- its cause
 pub record IsOutcomeOf (g : Setting) (log : Log) (o : Outcome) : Type 0 where
   pub fired : AreFired g log g.graph.vertices o.fired.items
-  pub chips : IsAfter (game_of_setting g) o.fired.items o.chips.items
+  pub chips : IsAfter (played_game g log) o.fired.items o.chips.items
   pub over : o.over.items ≡ picked (λ v. is_by_limit (part_in g log v).halt) g.graph.vertices
   pub sealed : o.sealed.items ≡ picked (λ v. is_by_seal (part_in g log v).halt) g.graph.vertices
 
--- one thread that fires these vertices in turn from the start, within the limit, comes to the counts and the chips of
--- an outcome
-pub record ComesTo (g : Setting) (vs : List ℕ) (o : Outcome) : Type 0 where
-  pub sequence : IsFiringSequence g.graph (slice_index g.start) vs
+-- one thread that fires these vertices in turn from the position x, within the limit, comes to the counts and the chips
+-- of an outcome
+pub record ComesTo (g : Setting) (x : ℕ → ℕ) (vs : List ℕ) (o : Outcome) : Type 0 where
+  pub sequence : IsFiringSequence g.graph x vs
   pub within : IsWithin g.limit vs
   pub counted : (v : ℕ) → slice_index o.fired.items v ≡ counts vs v
-  pub position : (v : ℕ) → slice_index o.chips.items v ≡ position_after g.graph (slice_index g.start) vs v
+  pub position : (v : ℕ) → slice_index o.chips.items v ≡ position_after g.graph x vs v
+
+-- the firings that were made come from all that was given to the outcome of a log, a report takes it, and where the
+-- root is closed and no seal halted a vertex it is that of every player who starts with all that was given
+pub record OutcomeTells (g : Setting) (log : Log) (o : Outcome) : Type 0 where
+  pub comes : ComesTo g (started g log) (firings log) o
+  pub in_range : IsOutcome o
+  pub played : IsClosed g log → NoneHaltedBySeal g log → IsPlayed (played_game g log) o
+
+abbrev pub OutcomesTell : Type 0
+OutcomesTell = ForEveryLog (λ g log. (o : Outcome) → IsOutcomeOf g log o → OutcomeTells g log o)

@@ -1,10 +1,26 @@
 -- Where all chips are at a moment of a run, and the firings that brought them there.
-use Rattle.std.specs.Prelude.{◌≡◌, ℕ, ◌+◌, ◌<◌, List, [], ◌∷◌, ◌++◌, replicate, sum, slice_index}
+use Rattle.std.specs.Prelude.{◌≡◌, ℕ, ◌+◌, ◌-◌, ◌<◌, List, [], ◌∷◌, ◌++◌, replicate, map, sum}
+use Rattle.std.specs.List.{range_with_len}
+use Rattle.chip_graph.specs.ChipGame.{ChipGame}
+use Rattle.chip_link.specs.Link.{sent_counts}
 use Rattle.chip_actor.specs.Setting.{Setting}
 use Rattle.chip_fire.specs.Sequence.{position_after, IsFiringSequence, counts, IsWithin}
 use Rattle.chip_actor.specs.Edges.{over_ins}
-use Rattle.chip_core.specs.Core.{Log, Event, Fire, part_in, out_in, fired_by}
+use Rattle.chip_core.specs.Core.{Log, Step, Event, Fire, Feed, part_in, out_in, fired_by, root_edge, graph_edges}
 use Rattle.chip_core.specs.Messages.{counts_in_flight}
+
+-- the chips that v was given so far, at the opening and by feeding: all that was sent on its root edge
+abbrev pub started : Setting → Log → ℕ → ℕ
+started g log v = sum (sent_counts (out_in g log (root_edge g v)).link)
+
+-- the game that is played so far: its start is what was given to each vertex
+abbrev pub played_game : Setting → Log → ChipGame
+played_game g log =
+    record {
+      graph = g.graph;
+      start = map (started g log) (range_with_len 0 g.graph.vertices);
+      limit = g.limit;
+    }
 
 -- what is held on an edge: the chips of the last batch that are still to be sent
 abbrev pub held : Setting → Log → ℕ → ℕ
@@ -34,16 +50,26 @@ abbrev pub asked_in : Log → List Event
 asked_in [] = []
 asked_in (x ∷ log) = asked_in log ++ x.event ∷ []
 
--- one thread that fires these vertices in turn from the start comes to the full position, within the limit and with the
--- counts of the log
+-- one thread that fires these vertices in turn from all that was given comes to the full position, within the limit and
+-- with the counts of the log
 pub record LeadsTo (g : Setting) (log : Log) (vs : List ℕ) : Type 0 where
-  pub sequence : IsFiringSequence g.graph (slice_index g.start) vs
+  pub sequence : IsFiringSequence g.graph (started g log) vs
   pub within : IsWithin g.limit vs
   pub counted : (v : ℕ) → counts vs v ≡ fired_by g log v
   pub position : (v : ℕ) → v < g.graph.vertices
-      → position_after g.graph (slice_index g.start) vs v ≡ full_position g log v
+      → position_after g.graph (started g log) vs v ≡ full_position g log v
 
--- chips and firing counts of the log are those of one thread that fires these vertices in turn from the start
+-- chips and firing counts of the log are those of one thread that fires these vertices in turn from all that was given
 pub record AgreesWith (g : Setting) (log : Log) (vs : List ℕ) : Type 0 where
   pub counted : (v : ℕ) → fired_by g log v ≡ counts vs v
-  pub chips : (v : ℕ) → v < g.graph.vertices → chips_at g log v ≡ position_after g.graph (slice_index g.start) vs v
+  pub chips : (v : ℕ) → v < g.graph.vertices → chips_at g log v ≡ position_after g.graph (started g log) vs v
+
+-- what an event fed: pairs of a vertex and a count of chips
+abbrev pub fed_of : Setting → Event → List (ℕ × ℕ)
+fed_of g (Feed e k) = (e - graph_edges g, k) ∷ []
+fed_of g _ = []
+
+-- what these steps fed, one after another
+abbrev pub fed_in : Setting → List Step → List (ℕ × ℕ)
+fed_in g [] = []
+fed_in g (x ∷ xs) = fed_of g x.event ++ fed_in g xs

@@ -25,6 +25,7 @@ pub record DifferInNotes (s t : Part) : Type 0 where
   pub got : (e : ℕ) → (s.into e).got ≡ (t.into e).got
   pub acked : (e : ℕ) → (s.into e).acked ≡ (t.into e).acked
   pub stop : (e : ℕ) → s.stop e ≡ t.stop e
+  pub ended : s.ended ≡ t.ended
 
 -- such a reply leaves all parts but for their notes, whatever was done before
 abbrev pub IdleStepsLeave : Type 0

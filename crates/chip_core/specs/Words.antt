@@ -6,8 +6,9 @@ use Rattle.chip_link.specs.Link.{Shows, claims_of}
 use Rattle.chip_link.specs.Words.{exchanged}
 use Rattle.chip_actor.specs.Setting.{Setting}
 use Rattle.chip_actor.specs.Part.{may_ack, cause, is_by_limit}
-use Rattle.chip_core.specs.Core.{Log, Event, Take, Ack, Fire, Clear, Claim, Put, Halt, Settle, Seal, Read, Part, unmet}
-use Rattle.chip_core.specs.Core.{part_of, part_in, out_in, into_in, stop_in, word_of_part, sees, all_edges, head_of}
+use Rattle.chip_core.specs.Core.{Log, Event, Take, Ack, Fire, Clear, Claim, Put, Halt, Settle, Seal, Read, Feed, End}
+use Rattle.chip_core.specs.Core.{Part, unmet, root_edge, part_of, part_in, out_in, into_in, stop_in, word_of_part, sees}
+use Rattle.chip_core.specs.Core.{all_edges, head_of}
 use Rattle.chip_core.specs.Laws.{ForEveryLog}
 
 -- a word, by what it is for: the edge word and the acknowledgements of an edge, a cell of its ring, and the fired word
@@ -42,6 +43,8 @@ touched g (Halt v) s = of_vertex v
 touched g (Settle e) s = of_acks e
 touched g (Seal e) s = of_edge e
 touched g (Read v) s = of_vertex v
+touched g (Feed e k) s = of_edge e
+touched g End s = of_acks (root_edge g 0)
 
 -- what it leaves there, where n was found: what is added goes round at 2 ^ 64
 abbrev pub left_by : Setting → Event → Part → ℕ → ℕ
@@ -55,6 +58,8 @@ left_by g (Halt v) s n = bit_or n (halt_bits (is_by_limit (cause g v s)))
 left_by g (Settle e) s n = n
 left_by g (Seal e) s n = bit_or n (2 ^ 63)
 left_by g (Read v) s n = n
+left_by g (Feed e k) s n = exchanged (claims_of (s.out e).link) (claims_of (s.out e).link + 1) n
+left_by g End s n = n
 
 -- what is noted as seen, where n was found: a store finds nothing
 abbrev pub noted : Event → ℕ → ℕ

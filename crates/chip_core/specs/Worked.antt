@@ -1,18 +1,19 @@
 -- Worked runs of the whole core, as the definitions compute them. The limit is 2 ^ 40 and the ring has one cell where
 -- nothing else is said.
-use Rattle.std.specs.Prelude.{◌≡◌, ℕ, List, [], ◌∷◌, ◌++◌, slice_index, Some}
+use Rattle.std.specs.Prelude.{◌≡◌, ℕ, ◌^◌, true, false, List, [], ◌∷◌, ◌++◌, slice_index, Some}
 use Rattle.chip_actor.specs.Setting.{Setting, HasGame}
 use Rattle.chip_fire.specs.Firing.{legal_vertices}
 use Rattle.chip_fire.specs.Counted.{position_by_counts}
 use Rattle.chip_actor.specs.declared.cause.Cause.TheVariants.{SealedEdge, FiringLimit}
 use Rattle.chip_actor.specs.Worked.{small_triangle, chain, two_edges, saw}
 use Rattle.chip_actor.specs.Steps.{message_of}
-use Rattle.chip_actor.specs.declared.rule.Rule.TheVariants.{Engaged}
+use Rattle.chip_actor.specs.declared.rule.Rule.TheVariants.{Zero, NotCleared, Engaged, NotClosed, Ended}
+use Rattle.chip_actor.specs.declared.rule.Rule.TheVariants.{TooMuch}
 use Rattle.chip_actor.specs.declared.reply.Reply.TheVariants.{Done, Got, Sent, Empty, Full, Sealed, NotNow}
-use Rattle.chip_core.specs.Core.{Log, Event, Take, Ack, Fire, Clear, Claim, Put, Halt, Settle, Seal, Read, part_in}
-use Rattle.chip_core.specs.Core.{fired_by, replies_to, log_after, IsClosed}
+use Rattle.chip_core.specs.Core.{Log, Event, Take, Ack, Fire, Clear, Claim, Put, Halt, Settle, Seal, Read, Feed}
+use Rattle.chip_core.specs.Core.{End, root, part_in, fired_by, replies_to, log_after, IsSettled, IsClosed}
 use Rattle.chip_core.specs.Messages.{sent_in, delivered_in, sent_after_seal, in_flight}
-use Rattle.chip_core.specs.Positions.{held, chips_at, full_position, firings}
+use Rattle.chip_core.specs.Positions.{started, held, chips_at, full_position, firings}
 use Rattle.chip_core.specs.Detection.{IsDetectionOrder}
 use Rattle.chip_core.specs.Histories.{done_by}
 
@@ -101,7 +102,7 @@ WholeSchedule =
 -- the same triangle with five chips and a limit of two firings: vertex 0 gets its third pair of chips and halts, and
 -- the root closes
 abbrev pub limit_of_two : Setting
-limit_of_two = record { graph = (small_triangle []).graph; start = 5 ∷ 0 ∷ 0 ∷ []; limit = 2; ring = 1 }
+limit_of_two = record { graph = (small_triangle []).graph; start = 5 ∷ 0 ∷ 0 ∷ []; limit = 2; ring = 1; fed = false }
 
 abbrev pub stopped_by_limit : List Event
 stopped_by_limit =
@@ -134,6 +135,47 @@ StoppedBySeal =
     × (on_each (chips_at g after) ≡ 1 ∷ 0 ∷ 1 ∷ [])
     × (held g after 1 ≡ 2) × (on_each (position_by_counts g.graph (slice_index g.start) (fired_by g after))
     ≡ 1 ∷ 0 ∷ 3 ∷ [])
+
+-- the same triangle, fed while it runs
+abbrev pub fed_triangle : List ℕ → Setting
+fed_triangle start = record (small_triangle start) { fed = true }
+
+-- three chips are fed to vertex 0, and nothing more as long as they lie in the cell
+abbrev pub fed_once : List Event
+fed_once = Clear 4 ∷ Feed 4 3 ∷ Put 4 ∷ Clear 4 ∷ []
+
+abbrev pub FedOnce : Type 0
+FedOnce =
+    let g : Setting = fed_triangle (0 ∷ 0 ∷ 0 ∷ []) in
+    let after : Log = log_after g [] fed_once in
+    (replies_to g [] fed_once ≡ Done 0 ∷ Sent (message_of 4 0 3) ∷ Done 3 ∷ Full ∷ [])
+    × (in_flight g after 4 ≡ message_of 4 0 3 ∷ []) × (on_each (started g after) ≡ 3 ∷ 0 ∷ 0 ∷ [])
+    × (on_each (full_position g after) ≡ 3 ∷ 0 ∷ 0 ∷ [])
+
+-- what is refused: a feed of nothing, one of a cell that was not seen empty, one past the range of chips, and any after
+-- the end
+abbrev pub FedInVain : Type 0
+FedInVain =
+    let g : Setting = fed_triangle (0 ∷ 0 ∷ 2 ^ 40 ∷ []) in
+    replies_to g [] (Feed 4 0 ∷ Clear 4 ∷ Feed 4 1 ∷ End ∷ Clear 4 ∷ Feed 4 1 ∷ [])
+    ≡ NotNow Zero ∷ Done 0 ∷ NotNow TooMuch ∷ Done 0 ∷ NotNow Ended ∷ NotNow Ended ∷ []
+
+abbrev pub FedUncleared : Type 0
+FedUncleared = replies_to (fed_triangle (0 ∷ 0 ∷ 0 ∷ [])) [] (Feed 4 1 ∷ []) ≡ NotNow NotCleared ∷ []
+
+-- four chips are fed to vertex 0 of an empty triangle and played as from the start; all is settled, but the root closes
+-- only once the end is noted
+abbrev pub fed_schedule : List Event
+fed_schedule = Clear 4 ∷ Feed 4 4 ∷ Put 4 ∷ whole_schedule
+
+abbrev pub ClosedByTheEnd : Type 0
+ClosedByTheEnd =
+    let g : Setting = fed_triangle (0 ∷ 0 ∷ 0 ∷ []) in
+    let before : Log = log_after g [] fed_schedule in
+    let after : Log = log_after g before (End ∷ []) in
+    HasGame g × IsSettled g before × ((part_in g before (root g)).ended ≡ false)
+    × (replies_to g before (Read 0 ∷ End ∷ Read 0 ∷ []) ≡ NotNow NotClosed ∷ Done 0 ∷ Done 2 ∷ []) × IsClosed g after
+    × (firings after ≡ 0 ∷ 0 ∷ 1 ∷ []) × (on_each (chips_at g after) ≡ 1 ∷ 0 ∷ 3 ∷ [])
 
 -- vertex 1 was engaged by vertex 0, and this by the root: so they stand in the detection order, the latest first, and
 -- the sink doesn't

@@ -5,10 +5,14 @@
 
 ghost use Rattle.chip_core.specs.Worked.{ChipsOnTheSink, FullRing, SealedHalfWay, EngagingMessageLast, RingOfTwo};
 ghost use Rattle.chip_core.specs.Worked.{TwoEngaged, WholeSchedule, StoppedByLimit, StoppedBySeal};
+ghost use Rattle.chip_core.specs.Worked.{FedOnce, FedInVain, FedUncleared, ClosedByTheEnd};
+ghost use Rattle.chip_core.specs.Outcomes.{OutcomesTell};
 ghost use Rattle.chip_core.specs.Laws.{LegalLogsAreRuns, PartsByTheirOwnEvents, PartsAreKept, SeenFits, CountsOfEdges};
+ghost use Rattle.chip_core.specs.Laws.{RootSeenFits};
 ghost use Rattle.chip_core.specs.Laws.{ChipsOfEdges, NumbersAreSmall, CellsTell, WordsTell, SealsStand, SentStands};
 ghost use Rattle.chip_core.specs.Laws.{OpeningMessages, InOrderFromTheOpening, HeldFromTheOpening, NothingInFlight};
-ghost use Rattle.chip_core.specs.Laws.{ReadsTell};
+ghost use Rattle.chip_core.specs.Laws.{ReadsTell, GivenIsFed, UnfedIsTheStart, FeedsAreSent, GivenIsAGame};
+ghost use Rattle.chip_core.specs.Laws.{GivenByTheRecord, UnfedRecordsNone};
 ghost use Rattle.chip_core.specs.Replies.{IdleStepsLeave, RunsGoOn};
 ghost use Rattle.chip_core.specs.Words.{OperationsFind, WordsGoOn};
 ghost use Rattle.chip_core.specs.Reached.{ReachedByLegalLogs};
@@ -22,6 +26,14 @@ pub fn worked_runs()
     ensures engaging_message_last { EngagingMessageLast }
     ensures ring_of_two { RingOfTwo }
     ensures two_engaged { TwoEngaged }
+{}
+
+/// Small runs in which the root feeds.
+pub fn worked_feeding()
+    ensures once { FedOnce }
+    ensures in_vain { FedInVain }
+    ensures uncleared { FedUncleared }
+    ensures closed_by_the_end { ClosedByTheEnd }
 {}
 
 /// Whole runs of a small game until the root closes, with no vertex halted, one halted by its limit, and one halted by
@@ -48,6 +60,7 @@ pub fn replies()
 pub fn parts()
     ensures kept { PartsAreKept }
     ensures seen { SeenFits }
+    ensures root_seen { RootSeenFits }
 {}
 
 /// The counts and the chips of every edge, and how large they get.
@@ -84,10 +97,26 @@ pub fn messages()
     ensures held { HeldFromTheOpening }
 {}
 
+/// What was given to each vertex, at the opening and by feeding.
+pub fn given_chips()
+    ensures fed { GivenIsFed }
+    ensures unfed { UnfedIsTheStart }
+    ensures sent { FeedsAreSent }
+    ensures game { GivenIsAGame }
+    ensures recorded { GivenByTheRecord }
+    ensures unfed_record { UnfedRecordsNone }
+{}
+
 /// Where the root is closed.
 pub fn closed_roots()
     ensures in_flight { NothingInFlight }
     ensures reads { ReadsTell }
+{}
+
+/// The outcome of a log: a firing sequence leads to it, a report takes it, and where the root is closed and no seal
+/// halted a vertex it is every player's.
+pub fn outcomes()
+    ensures { OutcomesTell }
 {}
 
 /// For every list of actor steps, each edge has delivered a prefix of what was sent on it, each message once and in

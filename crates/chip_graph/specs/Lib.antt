@@ -11,4 +11,5 @@ pub mod Distances
 pub mod Found
 pub mod Index
 pub mod GameFields
+pub mod More
 pub mod Laws

@@ -38,6 +38,7 @@ impl Game {
     ghost use Rattle.std.specs.Prelude.{◌≡◌, sum};
     ghost use Rattle.chip_graph.specs.ChipGame.{IsGame};
     ghost use Rattle.chip_graph.specs.Faults.{MakesGame};
+    ghost use Rattle.chip_graph.specs.More.{AreOfVertices, AddsChips};
 
     /// A game, or the first reason why it is none. `start` has the chips of each vertex.
     pub fn new(graph: Graph, start: Vec<u64>, limit: u64) -> Result<Game, GameFault>
@@ -73,6 +74,31 @@ impl Game {
             start: Vec::from_slice(alloc, start)?,
             limit: *limit,
             total: *total,
+        })
+    }
+
+    /// The game with more chips at the start. Each pair is a vertex of the game and how many chips more it has; a vertex
+    /// may stand in several. Where there would be more chips than `MAX_TOTAL`, the game comes back as it was. No memory
+    /// is taken.
+    pub fn with_more(self, more: &[(u64, u64)]) -> Result<Game, Game>
+        requires { AreOfVertices self more.now }
+        ensures { AddsChips self more.now result }
+    {
+        let Some(total) = total_with(self.total, more) else {
+            return Err(self);
+        };
+        let Game {
+            graph,
+            mut start,
+            limit,
+            ..
+        } = self;
+        add_each(&mut start, more);
+        Ok(Game {
+            graph,
+            start,
+            limit,
+            total,
         })
     }
 
@@ -122,4 +148,37 @@ fn total_of(chips: &[u64]) -> Option<u64>
         total += *count;
     }
     Some(total)
+}
+
+ghost use Rattle.std.specs.Prelude.{ℕ, ◌+◌, length, slice_index, All};
+ghost use Rattle.chip_graph.specs.More.{brought_to, all_brought};
+
+/// The total with what the pairs bring, or `None` where it is above `MAX_TOTAL`.
+fn total_with(total: u64, more: &[(u64, u64)]) -> Option<u64>
+    requires { total ≤ max_total }
+    ensures some { IfSome result (λ all. (all ≡ total + all_brought more.now) × (all ≤ max_total)) }
+    ensures none { IfNone result (max_total < total + all_brought more.now) }
+{
+    let mut all = total;
+    for &(_, count) in more {
+        if count > MAX_TOTAL - all {
+            return None;
+        }
+        all += count;
+    }
+    Some(all)
+}
+
+/// Adds what each pair brings to its vertex.
+fn add_each(start: &mut [u64], more: &[(u64, u64)])
+    requires vertices { All (λ pair. pair.0 < length start.old) more.now }
+    requires few { sum start.old + all_brought more.now ≤ max_total }
+    ensures each { length start.new ≡ length start.old }
+    ensures start { (v : ℕ) → v < length start.old
+        → slice_index start.new v ≡ slice_index start.old v + brought_to more.now v }
+    ensures total { sum start.new ≡ sum start.old + all_brought more.now }
+{
+    for &(vertex, count) in more {
+        start[vertex as usize] += count;
+    }
 }

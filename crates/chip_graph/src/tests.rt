@@ -1,5 +1,7 @@
 //! Worked refusals and answers, with values from outside.
 
+ghost use Rattle.std.specs.Prelude.{◌≡◌, IfOk};
+
 use crate::{AnyEdge, Edge, Game, GameFault, Graph, GraphFault};
 use std::alloc::Global;
 use std::test::Fail;
@@ -188,6 +190,47 @@ fn copies_a_game(rt: HostRuntime) -> Result<(), Fail> {
     assert_eq!(rt; (copy.limit(), copy.total()), (7, 4));
     assert_eq!(rt; copy.graph().edges(), game.graph().edges());
     assert_eq!(rt; (copy.graph().vertices(), copy.graph().sink()), (3, 2));
+    Ok(())
+}
+
+/// The triangle with these chips.
+fn triangle_game(alloc: Global, start: &[u64]) -> Result<Game, Fail>
+    ensures { IfOk result (λ game. game.graph.vertices ≡ 3) }
+{
+    let graph = Graph::new(alloc, 3, 2, edges(alloc, TRIANGLE)?)?;
+    Ok(Game::new(graph, start.to_vec(alloc)?, 7)?)
+}
+
+#[test]
+fn adds_chips(rt: HostRuntime) -> Result<(), Fail> {
+    let game = triangle_game(rt.alloc(), [4, 0, 1].as_slice())?;
+    let Ok(more) = game.with_more(&[(2, 5), (0, 1), (2, 10)]) else {
+        panic!(rt; "refused");
+    };
+    assert_eq!(rt; more.start(), [5, 0, 16].as_slice());
+    assert_eq!(rt; (more.limit(), more.total()), (7, 21));
+    assert_eq!(rt; more.graph().edges().len(), 4);
+    let Ok(same) = more.with_more(&[]) else {
+        panic!(rt; "refused");
+    };
+    assert_eq!(rt; same.start(), [5, 0, 16].as_slice());
+    Ok(())
+}
+
+#[test]
+fn adds_no_more_than_the_largest_total(rt: HostRuntime) -> Result<(), Fail> {
+    let game = triangle_game(rt.alloc(), [4, 0, 0].as_slice())?;
+    let Ok(full) = game.with_more(&[(1, (1 << 40) - 4)]) else {
+        panic!(rt; "refused");
+    };
+    assert_eq!(rt; full.total(), 1 << 40);
+    let Err(same) = full.with_more(&[(2, 0), (0, 1)]) else {
+        panic!(rt; "taken");
+    };
+    assert_eq!(rt; same.start(), [4, (1 << 40) - 4, 0].as_slice());
+    assert_eq!(rt; (same.limit(), same.total()), (7, 1 << 40));
+    // The sum of these counts is above 2^64.
+    assert!(rt; same.with_more(&[(0, u64::MAX), (1, 5)]).is_err());
     Ok(())
 }
 

@@ -21,6 +21,10 @@ pub enum Event {
     Seal(u64),
     /// The root reads how often this vertex fired, after it closed.
     Read(u64),
+    /// The root claims the next place of this root edge for so many chips, which it feeds to the edge's head.
+    Feed { edge: u64, count: u64 },
+    /// The root settles its first edge, and notes that nothing more is fed.
+    End,
 }
 
 /// An event that was made, with the word that its operation found, or 0 of a store.

@@ -10,6 +10,8 @@ use Rattle.chip_fire.specs.Counted.{IsBelowZero, IsAfter}
 use Rattle.chip_fire.specs.Faults.{IsNegative}
 use Rattle.chip_fire.specs.declared.counted.AfterFault.{AfterFault}
 use Rattle.chip_fire.specs.declared.counted.AfterFault.TheVariants.{Negative, NoMemory}
+use Rattle.chip_fire.specs.Play.{IsPlayed}
+use Rattle.chip_fire.specs.Sequence.{HasEnded}
 use Rattle.chip_fire.proofs.LegalLemmas.{picked_no, picked_ext, picked_has}
 use Rattle.chip_fire.proofs.BoundLemmas.{same_ends}
 use Rattle.chip_link.specs.Words.{fired_in, halted_in, by_limit_in, is_fired_word}
@@ -20,9 +22,10 @@ use Rattle.chip_actor.specs.Part.{is_by_limit}
 use Rattle.chip_core.specs.Core.{Log, part_in, word_of_part, IsLegalLog}
 use Rattle.chip_core.specs.Laws.{WordsOf}
 use Rattle.chip_core.specs.Headline.{NoneHalted, NoneHaltedBySeal}
-use Rattle.chip_core.specs.Positions.{firings}
+use Rattle.chip_core.specs.Positions.{started, played_game, firings}
 use Rattle.chip_core.specs.Outcomes.{is_by_seal, AreFired, IsOutcomeOf, ComesTo}
 use Rattle.chip_core.proofs.NumberLemmas.{words_tell}
+use Rattle.chip_core.proofs.GivenLemmas.{unfed_started, unfed_played}
 use Rattle.chip_core.proofs.ClosingLemmas.{all_ended}
 use Rattle.chip_core.proofs.OutcomeLemmas.{never_negative, comes, in_range, is_played}
 use Rattle.chip_net.specs.Roots.{RootKnown, root_after}
@@ -61,7 +64,7 @@ mapped f zero_is [] k = get_or_past [] k 0 (omega arith) ∙ sym (ap f (get_or_p
 mapped f zero_is (x ∷ xs) zero = refl
 mapped f zero_is (x ∷ xs) (suc k) = mapped f zero_is xs k
 
-module _ (old now : RootKnown) (setting : IsSetting old.net.setting) (tally : TallyState)
+module _ (old now : RootKnown) (setting : IsSetting old.net.setting) (unfed : old.net.setting.fed ≡ false) (tally : TallyState)
     (reading : IsReading old now tally old.net.setting.graph.vertices) where
   abbrev h : Setting
   h = old.net.setting
@@ -71,6 +74,13 @@ module _ (old now : RootKnown) (setting : IsSetting old.net.setting) (tally : Ta
 
   out' : IsReadOut (root_after old (reads_from 0 reading.words)) reading.words
   out' = subst (λ (r : RootKnown). IsReadOut r reading.words) reading.record_is out
+
+  -- no chips are fed: what was given is the start
+  from : started h out'.log ≡ slice_index h.start
+  from j v = unfed_started h setting.game setting.some_ring unfed out'.log out'.legal v j
+
+  same_game : played_game h out'.log ≡ game_of_setting h
+  same_game = unfed_played h setting.game setting.some_ring unfed out'.log out'.legal
 
   told : WordsOf h out'.log
   told = words_tell h setting.game setting.some_ring out'.log out'.legal
@@ -87,14 +97,15 @@ module _ (old now : RootKnown) (setting : IsSetting old.net.setting) (tally : Ta
     }
 
     pub none_negative : (v : ℕ) → IsBelowZero h.graph (λ u. get_or h.start u 0) (λ u. get_or fired u 0) v → ⊥
-    none_negative = never_negative h setting.game setting.some_ring out'.log out'.legal fired are_fired
+    none_negative v low = never_negative h setting.game setting.some_ring out'.log out'.legal fired are_fired v
+        (subst (λ (x : ℕ → ℕ). IsBelowZero h.graph x (slice_index fired) v) (sym from) low)
 
   module _ (o : Outcome) (fired_is : o.fired.items ≡ tally.fired) (over_is : o.over.items ≡ tally.over)
       (sealed_is : o.sealed.items ≡ tally.sealed) (chips : IsAfter (game_of_setting h) o.fired.items o.chips.items) where
     outcome_is : IsOutcomeOf h out'.log o
     outcome_is = record {
       fired = are_fired o.fired.items fired_is;
-      chips = chips;
+      chips = subst (λ (game : ChipGame). IsAfter game o.fired.items o.chips.items) (sym same_game) chips;
       over = over_is ∙ reading.tallied.over ∙ ap (picked (limit_at reading.words)) reading.count_is
           ∙ picked_ext (limit_at reading.words) (λ v. is_by_limit (part_in h out'.log v).halt) h.graph.vertices
           (λ v l. ap by_limit_in (word_at v l) ∙ told.by_limit v);
@@ -121,14 +132,16 @@ module _ (old now : RootKnown) (setting : IsSetting old.net.setting) (tally : Ta
             (none_listed v (subst (λ (xs : List ℕ). Contains xs v) (sym outcome_is.over
             ∙ over) (picked_has (λ u. is_by_limit (part_in h out'.log u).halt) h.graph.vertices v l (ap is_by_limit is))))
 
-    all_come : ComesTo h (firings out'.log) o
-    all_come = comes h setting.game setting.some_ring out'.log out'.legal o outcome_is
+    all_come : ComesTo h (slice_index h.start) (firings out'.log) o
+    all_come = subst (λ (x : ℕ → ℕ). ComesTo h x (firings out'.log) o) from
+        (comes h setting.game setting.some_ring out'.log out'.legal o outcome_is)
 
     one_end : o.over.items ≡ [] → o.sealed.items ≡ [] → IsOneEnd h o
     one_end over sealed vs ok ended =
         let same = same_ends h.graph setting.game.graph_fits (slice_index h.start)
         (firings out'.log) vs all_come.sequence
-        (all_ended h setting.game setting.some_ring out'.log out'.legal out'.closed (no_halts over sealed)) ok ended
+        (subst (λ (x : ℕ → ℕ). HasEnded h.graph x (firings out'.log)) from
+        (all_ended h setting.game setting.some_ring out'.log out'.legal out'.closed (no_halts over sealed))) ok ended
         in
         ((λ v. all_come.counted v ∙ same.0 v), (λ v. all_come.position v ∙ same.1 v))
 
@@ -153,8 +166,8 @@ module _ (old now : RootKnown) (setting : IsSetting old.net.setting) (tally : Ta
       of_log = outcome_is;
       comes = all_come;
       in_range = in_range h setting.game setting.some_ring out'.log out'.legal o outcome_is;
-      played = λ empty. is_played h setting.game setting.some_ring out'.log out'.legal o outcome_is out'.closed
-          (no_seals empty);
+      played = λ empty. subst (λ (game : ChipGame). IsPlayed game o) same_game
+          (is_played h setting.game setting.some_ring out'.log out'.legal o outcome_is out'.closed (no_seals empty));
       one_end = one_end;
       unsealed = unsealed;
     }

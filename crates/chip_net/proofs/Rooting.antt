@@ -132,6 +132,7 @@ module _ (i : Inside) (keeps : IsRoot i.setup i.seat.me.0 i.state) (v edge : ℕ
           let grew : after.0 ≡ grown (root g) x i.seat.me.0 =
           root_grown g keeps.setting i.seat.me keeps.has (Settle edge) mine none key same seen after told in record {
             setting = keeps.setting;
+            unfed = keeps.unfed;
             has = (grown_has (root g) x i.seat.me.0 after.0 keeps.has grew).1;
             stands = subst (λ (t : Part). RootStandsFor g t state)
                 (sym (grown_part g (root g) x i.seat.me.0 after.0 keeps.has grew))

@@ -16,11 +16,13 @@ use Rattle.chip_actor.specs.declared.act.Act as operation
 use Rattle.chip_actor.specs.declared.act.Act.TheVariants as Do
 use Rattle.chip_actor.specs.Acting.{act_of, event_of}
 use Rattle.chip_actor.specs.Medium.{IsDueBy}
-use Rattle.chip_core.specs.Core.{Log, Step, Event, Take, Ack, Fire, Clear, Claim, Put, Halt, Settle, Seal, Read, Part}
-use Rattle.chip_core.specs.Core.{opened, unmet, part_of, sees, Fits}
+use Rattle.chip_core.specs.Core.{Log, Step, Event, Take, Ack, Fire, Clear, Claim, Put, Halt, Settle, Seal, Read, Feed}
+use Rattle.chip_core.specs.Core.{End, Part, opened, unmet, part_of, sees, Fits}
 use Rattle.chip_core.specs.Histories.{done_by, part_by}
 use Rattle.chip_core.specs.Words.{Word, of_edge, of_acks, of_cell, of_vertex, IsWord, halt_bits, touched, left_by}
 use Rattle.chip_core.specs.Words.{noted, IsShown, IsLeft, acting}
+use Rattle.chip_actor.proofs.EdgeLemmas.{tail_root}
+use Rattle.chip_actor.proofs.RuleLemmas.{rules_met}
 use Rattle.chip_core.proofs.ReachingLemmas.{by_history}
 use Rattle.chip_core.proofs.Showing.{word_for, word_there, finds, words_go_on}
 use Rattle.chip_net.specs.Layout.{index_of, word_count, value_in}
@@ -198,6 +200,10 @@ module _ (g : Setting) (slots id : ℕ) (me : Mine) (v : ℕ) (did : List Step) 
   allowed_for x mine none = allowed g slots id me x did (subst (λ (p : ℕ). find p me.0.parts ≡ Some did) (sym mine) has)
       none
 
+  -- no vertex feeds
+  not_fed : (e k : ℕ) → v < g.graph.vertices → part_of g (Feed e k) ≡ v → unmet g (Feed e k) part ≡ None → ⊥
+  not_fed e k l mine none = let at = tail_root g e (rules_met g (Feed e k) part none).0 in absurd (omega arith)
+
   by_event : (x : Event) → v < g.graph.vertices → part_of g x ≡ v → unmet g x part ≡ None
       → AllowsAct x (act_of g x part)
   unfolding AllowsAct
@@ -218,19 +224,23 @@ module _ (g : Setting) (slots id : ℕ) (me : Mine) (v : ℕ) (did : List Step) 
   by_event (Settle e) l mine none = allowed_for (Settle e) mine none
   by_event (Seal e) l mine none = absurd (omega arith)
   by_event (Read u) l mine none = absurd (omega arith)
+  by_event (Feed e k) l mine none = absurd (not_fed e k l mine none)
+  by_event End l mine none = absurd (omega arith)
 
   word_by_event : IsSetting g → (x : Event) → v < g.graph.vertices → part_of g x ≡ v → unmet g x part ≡ None
       → IsWord g (word_of v (act_of g x part))
-  word_by_event setting (Take e) l mine none = word_for g setting.some_ring (Take e) part none
-  word_by_event setting (Ack e) l mine none = word_for g setting.some_ring (Ack e) part none
+  word_by_event setting (Take e) l mine none = word_for g setting.game.graph_fits.some_vertex setting.some_ring (Take e) part none
+  word_by_event setting (Ack e) l mine none = word_for g setting.game.graph_fits.some_vertex setting.some_ring (Ack e) part none
   word_by_event setting (Fire u k) l mine none = l
-  word_by_event setting (Clear e) l mine none = word_for g setting.some_ring (Clear e) part none
-  word_by_event setting (Claim e) l mine none = word_for g setting.some_ring (Claim e) part none
-  word_by_event setting (Put e) l mine none = word_for g setting.some_ring (Put e) part none
+  word_by_event setting (Clear e) l mine none = word_for g setting.game.graph_fits.some_vertex setting.some_ring (Clear e) part none
+  word_by_event setting (Claim e) l mine none = word_for g setting.game.graph_fits.some_vertex setting.some_ring (Claim e) part none
+  word_by_event setting (Put e) l mine none = word_for g setting.game.graph_fits.some_vertex setting.some_ring (Put e) part none
   word_by_event setting (Halt u) l mine none = l
-  word_by_event setting (Settle e) l mine none = word_for g setting.some_ring (Settle e) part none
+  word_by_event setting (Settle e) l mine none = word_for g setting.game.graph_fits.some_vertex setting.some_ring (Settle e) part none
   word_by_event setting (Seal e) l mine none = absurd (omega arith)
   word_by_event setting (Read u) l mine none = absurd (omega arith)
+  word_by_event setting (Feed e k) l mine none = absurd (not_fed e k l mine none)
+  word_by_event setting End l mine none = absurd (omega arith)
 
   pub act_word : IsSetting g → v < g.graph.vertices → (act : operation.Act) → IsDueBy g v part act
       → IsWord g (word_of v act)
@@ -250,7 +260,7 @@ module _ (g : Setting) (setting : IsSetting g) (me : Mine) (x : Event) (has : Ha
   pub event_room : (word words : ℕ) → word ≡ index_of g (touched g x (part_of_view g (part_of g x) me.0))
       → words ≡ word_count g → word < words
   event_room word words at all = let l = inside g _
-      (word_for g setting.some_ring x (part_of_view g (part_of g x) me.0) none) in omega arith
+      (word_for g setting.game.graph_fits.some_vertex setting.some_ring x (part_of_view g (part_of g x) me.0) none) in omega arith
 
   pub event_allowed : (key : Setting) → key ≡ g → (slots id word : ℕ)
       → word ≡ index_of g (touched g x (part_of_view g (part_of g x) me.0))

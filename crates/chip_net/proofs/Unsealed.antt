@@ -9,9 +9,9 @@ use Rattle.chip_actor.specs.Setting.{Setting}
 use Rattle.chip_actor.specs.declared.cause.Cause.TheVariants.{SealedEdge, FiringLimit}
 use Rattle.chip_actor.specs.Part.{refusals, cause, pending_of, is_legal}
 use Rattle.chip_actor.specs.Steps.{link_after, halt_after}
-use Rattle.chip_core.specs.Core.{Log, Step, Event, Take, Ack, Fire, Clear, Claim, Put, Halt, Settle, Seal, Read, Part}
-use Rattle.chip_core.specs.Core.{Out, part_of, part_in, out_in, stop_in, opened, sees, IsLegalLog, stopper, tail_of}
-use Rattle.chip_core.specs.Core.{all_edges}
+use Rattle.chip_core.specs.Core.{Log, Step, Event, Take, Ack, Fire, Clear, Claim, Put, Halt, Settle, Seal, Read, Feed}
+use Rattle.chip_core.specs.Core.{End, Part, Out, part_of, part_in, out_in, stop_in, opened, sees, IsLegalLog, stopper}
+use Rattle.chip_core.specs.Core.{tail_of, all_edges}
 use Rattle.chip_core.specs.Histories.{done_by, part_by}
 use Rattle.chip_core.specs.Outcomes.{is_by_seal}
 use Rattle.chip_core.proofs.ReachingLemmas.{by_history}
@@ -19,28 +19,33 @@ use Rattle.chip_core.proofs.LogLemmas.{part_here, part_else, link_step}
 
 -- an event that sees no seal leaves no refusal on an edge
 refused_step : (x : Event) (seen e : ℕ) (o : Out) → (x ≡ Claim e → seen ≡ claims_of o.link)
-    → (link_after x seen e o).refused ≡ o.link.refused
-refused_step (Clear i) seen e o fine = by_test (eqb i e)
+    → ((k : ℕ) → x ≡ Feed e k → seen ≡ claims_of o.link) → (link_after x seen e o).refused ≡ o.link.refused
+refused_step (Clear i) seen e o fine fed = by_test (eqb i e)
   where
     by_test : (b : Bool) → (cond b (after_clear seen o.link) o.link).refused ≡ o.link.refused
     by_test true = refl
     by_test false = refl
-refused_step (Claim i) seen e o fine = dite (ℕ_discrete i e)
+refused_step (Claim i) seen e o fine fed = dite (ℕ_discrete i e)
     (λ same. ap (λ (t : Tail). t.refused) (cond_yes i e (after_claim o.pending seen o.link) o.link same
     ∙ cond_yes seen (claims_of o.link) _ _ (fine (ap Claim same))))
     (λ other. ap (λ (t : Tail). t.refused) (cond_no i e (after_claim o.pending seen o.link) o.link other))
-refused_step (Put i) seen e o fine = by_test (eqb i e)
+refused_step (Put i) seen e o fine fed = by_test (eqb i e)
   where
     by_test : (b : Bool) → (cond b (after_put o.link) o.link).refused ≡ o.link.refused
     by_test true = refl
     by_test false = refl
-refused_step (Take i) seen e o fine = refl
-refused_step (Ack i) seen e o fine = refl
-refused_step (Fire v k) seen e o fine = refl
-refused_step (Halt v) seen e o fine = refl
-refused_step (Settle i) seen e o fine = refl
-refused_step (Seal i) seen e o fine = refl
-refused_step (Read v) seen e o fine = refl
+refused_step (Take i) seen e o fine fed = refl
+refused_step (Ack i) seen e o fine fed = refl
+refused_step (Fire v k) seen e o fine fed = refl
+refused_step (Halt v) seen e o fine fed = refl
+refused_step (Settle i) seen e o fine fed = refl
+refused_step (Seal i) seen e o fine fed = refl
+refused_step (Read v) seen e o fine fed = refl
+refused_step End seen e o fine fed = refl
+refused_step (Feed i k) seen e o fine fed = dite (ℕ_discrete i e)
+    (λ same. ap (λ (t : Tail). t.refused) (cond_yes i e (after_claim k seen o.link) o.link same
+    ∙ cond_yes seen (claims_of o.link) _ _ (fed k (ap (λ (j : ℕ). Feed j k) same))))
+    (λ other. ap (λ (t : Tail). t.refused) (cond_no i e (after_claim k seen o.link) o.link other))
 
 -- without a refusal a seal is no cause
 cause_step : (g : Setting) (v : ℕ) (s : Part) → refusals g v s ≡ 0 → is_by_seal (cause g v s) ≡ false
@@ -73,6 +78,8 @@ halt_step g x s none old = by_event x.event refl
     by_event (Settle i) is = old
     by_event (Seal i) is = old
     by_event (Read v) is = old
+    by_event (Feed i k) is = old
+    by_event End is = old
 
 not_longer : (xs : List Step) (x : Step) → xs ++ x ∷ [] ≡ [] → ⊥
 not_longer [] x is = cc
@@ -106,6 +113,9 @@ module _ (g : Setting) where
       let saw : (e : ℕ) → x.event ≡ Claim e → x.seen ≡ claims_of (out_in g log e).link = (λ e is.
       legal.1.1 ∙ ap (sees g log) is
       ∙ ap (λ (stop : Option ℕ). word_of (out_in g log e).link stop) (no_stop log before e) ∙ omega arith) in
+      let fed : (e k : ℕ) → x.event ≡ Feed e k → x.seen ≡ claims_of (out_in g log e).link = (λ e k is.
+      legal.1.1 ∙ ap (sees g log) is
+      ∙ ap (λ (stop : Option ℕ). word_of (out_in g log e).link stop) (no_stop log before e) ∙ omega arith) in
       let none_refused : (v : ℕ)
       → refusals g v (part_in g log v)
       ≡ 0 = (λ v. tested_none (all_edges g) (λ e. eqb (tail_of g e) v)
@@ -113,7 +123,7 @@ module _ (g : Setting) where
       (λ e l on. ap (λ (b : Bool). cond b 1 0)
       (ap (λ (u : ℕ). ((part_in g log u).out e).link.refused) (sym (eqb-true (tail_of g e) v on)) ∙ old.0 e))) in (
         (λ e. ap (λ (t : Tail). t.refused) (link_step g x log e)
-            ∙ refused_step x.event x.seen e (out_in g log e) (saw e) ∙ old.0 e),
+            ∙ refused_step x.event x.seen e (out_in g log e) (saw e) (fed e) ∙ old.0 e),
         (λ v. dite (ℕ_discrete (part_of g x.event) v)
             (λ same. ap (λ (s : Part). is_by_seal s.halt) (part_here g x log v same)
             ∙ halt_step g x (part_in g log v)

@@ -1,6 +1,6 @@
 -- Views as finite maps: what a step and a split change.
-use Rattle.std.proofs.Common.{◌≡◌, ◌≢◌, ℕ, zero, suc, ◌+◌, ◌<◌, eqb, cond, List, [], ◌∷◌, ◌++◌, length, length-append}
-use Rattle.std.proofs.Common.{set, Option, Some, None, refl, sym, ap, ◌∙◌, arith}
+use Rattle.std.proofs.Common.{◌≡◌, ◌≢◌, ℕ, zero, suc, ◌+◌, ◌<◌, true, false, not, eqb, cond, List, [], ◌∷◌, ◌++◌}
+use Rattle.std.proofs.Common.{length, length-append, set, Option, Some, None, refl, sym, ap, ◌∙◌, arith}
 use Rattle.std.specs.Prelude.{slice_get}
 use Rattle.std.proofs.lemmas.Option.{slice_get_read, get_or_from_slice_get}
 use Rattle.std.proofs.lemmas.List.{get_or_push, get_or_append_left}
@@ -10,6 +10,7 @@ use native.Mathlib.Decide.{ℕ_discrete}
 use lib.ListN.{get_elem?}
 use Rattle.chip_graph.proofs.SumLemmas.{cond_yes, cond_no}
 use Rattle.chip_actor.specs.Setting.{Setting}
+use Rattle.chip_actor.proofs.PartLemmas.{stays_ended}
 use Rattle.chip_core.specs.Core.{Step, Part, opened, does}
 use Rattle.chip_core.specs.Histories.{part_by}
 use Rattle.chip_net.specs.Views.{History, View, find, grow, grown, steps_or_none, did_in, Has, part_of_view, drop_part}
@@ -66,6 +67,14 @@ pub grown_part : (g : Setting) (p : ℕ) (x : Step) (v w : View) → Has p v →
     → part_of_view g p w ≡ does g x (part_of_view g p v)
 grown_part g p x v w has is = ap (part_by g (opened g)) (grown_has p x v w has is).0
     ∙ part_push g (opened g) (did_in p v) x
+
+-- where no chips are fed the end of feeding is noted, whatever a part did
+ended_by : (g : Setting) (xs : List Step) (s : Part) → s.ended ≡ true → (part_by g s xs).ended ≡ true
+ended_by g [] s on = on
+ended_by g (x ∷ xs) s on = ended_by g xs (does g x s) (stays_ended g x.event s.ended on)
+
+pub unfed_ended : (g : Setting) → g.fed ≡ false → (xs : List Step) → (part_by g (opened g) xs).ended ≡ true
+unfed_ended g off xs = ended_by g xs (opened g) (ap not off)
 
 -- ---- handing on
 

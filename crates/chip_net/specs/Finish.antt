@@ -107,7 +107,7 @@ pub record Finishes (old receipt : RootKnown) (o : Outcome) : Type 0 where
   -- it is the outcome of some legal closed log in which the root did this, and one thread comes to it
   pub read_out : IsReadOut receipt words
   pub of_log : IsOutcomeOf old.net.setting read_out.log o
-  pub comes : ComesTo old.net.setting (firings read_out.log) o
+  pub comes : ComesTo old.net.setting (slice_index old.net.setting.start) (firings read_out.log) o
   pub in_range : IsOutcome o
   -- where no seal halted a vertex it is every player's, and where none halted at all it is every end's
   pub played : o.sealed.items ≡ [] → IsPlayed (game_of_setting old.net.setting) o

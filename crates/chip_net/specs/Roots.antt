@@ -1,5 +1,5 @@
 -- What the clauses of a net's calls know of its root and its stopper.
-use Rattle.std.specs.Prelude.{◌≡◌, ℕ, zero, suc, ◌<◌, List, [], ◌∷◌, ◌++◌, map, Option, Some, is_none}
+use Rattle.std.specs.Prelude.{◌≡◌, ℕ, zero, suc, ◌<◌, false, List, [], ◌∷◌, ◌++◌, map, Option, Some, is_none}
 use Rattle.chip_actor.specs.Setting.{Setting, IsSetting}
 use Rattle.chip_actor.specs.Edges.{root, root_edge, graph_edges}
 use Rattle.chip_actor.specs.Part.{deficit}
@@ -37,6 +37,8 @@ root_after r steps = record { net = r.net; did = r.did ++ steps; stopper_did = r
 -- the view of the root of this game, with what the root keeps of it
 pub record IsRoot (g : Setting) (view : View) (state : Root) : Type 0 where
   pub setting : IsSetting g
+  -- no chips are fed
+  pub unfed : g.fed ≡ false
   pub has : Has (root g) view
   pub stands : RootStandsFor g (part_of_view g (root g) view) state
 

@@ -1,6 +1,6 @@
 -- The rule of a net: between any two steps of whatever threads, words and views are what some legal log of the core
 -- leaves.
-use Rattle.std.specs.Prelude.{◌≡◌, ℕ, ◌+◌, ◌<◌, List, [], ◌∷◌, length, Some}
+use Rattle.std.specs.Prelude.{◌≡◌, ℕ, ◌+◌, ◌<◌, false, List, [], ◌∷◌, length, Some}
 use mathlib.Core.Option.{some}
 use lib.ListN.{get_elem?}
 use Rattle.atomic_table.specs.Table.{State, Me}
@@ -50,4 +50,4 @@ Grows g x before seen after = (after.0 ≡ grown (part_of g x) (step_of x seen) 
 
 -- what no net is opened for
 abbrev pub no_setting : Setting
-no_setting = record { graph = record { vertices = 0; sink = 0; edges = [] }; start = []; limit = 0; ring = 0 }
+no_setting = record { graph = record { vertices = 0; sink = 0; edges = [] }; start = []; limit = 0; ring = 0; fed = false }

@@ -1,4 +1,4 @@
-ghost use Rattle.std.specs.Prelude.{◌≡◌, ◌<◌, true};
+ghost use Rattle.std.specs.Prelude.{◌≡◌, ◌<◌, true, false};
 ghost use Rattle.chip_link.specs.Words.{is_fired_word};
 ghost use Rattle.chip_net.specs.Roots.{root_deficit};
 ghost use Rattle.chip_net.specs.Finish.{ReadsAt, IsReading, blank_tally};
@@ -20,6 +20,7 @@ pub struct Receipt {
 }
 
 impl Model for Receipt {
+    ghost use Rattle.std.specs.Prelude.{◌≡◌, false};
     ghost use Rattle.chip_actor.specs.Edges.{root, stopper};
     ghost use Rattle.chip_actor.specs.Setting.{IsSetting};
     ghost use Rattle.chip_net.specs.Views.{find, did_in, Has};
@@ -33,7 +34,7 @@ impl Model for Receipt {
       stopper_did = find (stopper a.setup) a.seat.me.0.parts;
     } };
 
-    ghost invariant = { λ a. Has (root a.setup) a.seat.me.0 × IsSetting a.setup };
+    ghost invariant = { λ a. Has (root a.setup) a.seat.me.0 × IsSetting a.setup × (a.setup.fed ≡ false) };
 }
 
 impl Receipt {
@@ -44,6 +45,7 @@ impl Receipt {
     pub(crate) fn new(seat: PartSeat, setup: Setup) -> Receipt
         requires has { Has (root setup) seat.me.0 }
         requires setting { IsSetting setup }
+        requires unfed { setup.fed ≡ false }
         ensures { result ≡ record {
           net = record { table = seat.table_id; setting = setup };
           did = did_in (root setup) seat.me.0;

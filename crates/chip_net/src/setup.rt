@@ -1,4 +1,4 @@
-ghost use Rattle.std.specs.Prelude.{◌≡◌, ◌+◌, ◌^◌, ◌<◌, ◌≤◌, IfOk};
+ghost use Rattle.std.specs.Prelude.{◌≡◌, ◌+◌, ◌^◌, ◌<◌, ◌≤◌, false, IfOk};
 
 use chip_graph::Game;
 use chip_link::Ring;
@@ -60,6 +60,7 @@ impl Setup {
     pub(crate) fn game(&self) -> &Game
         ensures value { result.now ≡ game_of_setting self.now }
         ensures setting { IsSetting self.now }
+        ensures unfed { self.now.fed ≡ false }
     {
         &self.game
     }

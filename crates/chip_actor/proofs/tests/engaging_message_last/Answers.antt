@@ -1,4 +1,4 @@
-use Rattle.std.proofs.Common.{◌≡◌, ◌∙◌, ℕ, List, [], ◌∷◌, true, refl}
+use Rattle.std.proofs.Common.{◌≡◌, ◌∙◌, ℕ, List, [], ◌∷◌, true, false, refl}
 use Rattle.chip_actor.specs.declared.act.Act.{Act}
 use Rattle.chip_actor.specs.declared.reply.Reply.TheVariants.{Empty}
 use Rattle.chip_actor.specs.Setting.{Setting, setting_of}
@@ -23,7 +23,7 @@ pub play-requires : goal.play-requires
 play-requires g c = (
   setting_of c.in_ok-game.game c.one.result,
   opened (setting_of c.in_ok-game.game c.one.result),
-  c.in_ok-actor.ensures.opened,
+  c.in_ok-actor.ensures.opened false,
   (λ j. let g : Setting = setting_of (c.in_ok-game.ensures j) (c.one.ensures j) in
       may_play g (c.in_ok-actor.ensures.vertex j) (opened g) questions turn) ∙ plays,
 )

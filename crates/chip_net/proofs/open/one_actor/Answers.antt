@@ -1,6 +1,6 @@
-use Rattle.std.proofs.Common.{◌≡◌, ℕ, ◌<◌, sym, ap, ◌∙◌, subst, arith}
+use Rattle.std.proofs.Common.{◌≡◌, ℕ, Bool, ◌<◌, sym, ap, ◌∙◌, subst, arith}
 use Rattle.chip_graph.specs.ChipGame.{ChipGame}
-use Rattle.chip_actor.specs.Setting.{Setting, setting_of}
+use Rattle.chip_actor.specs.Setting.{Setting, setting_with}
 use Rattle.chip_actor.specs.Part.{opened}
 use Rattle.chip_actor.specs.Actor.{Actor, StandsFor}
 use Rattle.chip_net.specs.Tokens.{ActorKnown, part_known}
@@ -27,7 +27,8 @@ pub new-requires-4-clause-state : goal.new-requires-4-clause-state
 new-requires-4-clause-state c =
     let a : Actor = c.in_ok-state.state in
     let opens : StandsFor c.setup-setup.result.now (opened c.setup-setup.result.now) a =
-    subst (λ (z : ChipGame × ℕ). StandsFor (setting_of z.0 z.1) (opened (setting_of z.0 z.1)) a)
-    (λ i. (c.game.ensures.value i, c.ring.ensures.value i)) c.in_ok-state.ensures.opened in
+    let fed : Bool = c.setup-setup.result.now.fed in
+    subst (λ (z : ChipGame × ℕ). StandsFor (setting_with z.0 z.1 fed) (opened (setting_with z.0 z.1 fed)) a)
+    (λ i. (c.game.ensures.value i, c.ring.ensures.value i)) (c.in_ok-state.ensures.opened fed) in
     subst (λ (k : ActorKnown). StandsFor k.net.setting (part_known k) a) (sym c.new-3.ensures)
     (subst (λ (g : Setting). StandsFor g (opened g) a) (sym c.of.ensures) opens)

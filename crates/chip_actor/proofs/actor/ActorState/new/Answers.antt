@@ -2,7 +2,7 @@ use Rattle.std.proofs.Common.{◌∙◌, ◌+◌, ◌<◌, ◌≤◌, ℕ, List,
 use Rattle.chip_graph.specs.Multigraph.{Multigraph, edge_at, edges_out, edges_in, degree}
 use Rattle.chip_detect.specs.Books.{IsFresh}
 use Rattle.chip_link.specs.Rings.{max_ring}
-use Rattle.chip_actor.specs.Setting.{setting_of}
+use Rattle.chip_actor.specs.Setting.{setting_with}
 use Rattle.chip_actor.specs.Ends.{IsFreshOuts, IsFreshIns}
 use Rattle.chip_actor.specs.Actor.{Actor}
 use Rattle.chip_actor.proofs.PickedLemmas.{length-picked}
@@ -34,7 +34,7 @@ returns-clause-opened c =
     let sink = c.sink.ensures.value ∙ ap (λ (G : Multigraph). G.sink) same in
     let degrees = c.out_degree.ensures ∙ ap (λ (G : Multigraph). degree G c.args.vertex) same in
     let outs = c.outs-2.ensures ∙ ap (λ (G : Multigraph). edges_out G c.args.vertex) same in
-    opens (setting_of c.args.game.now c.args.ring) c.args.vertex record {
+    λ fed. opens (setting_with c.args.game.now c.args.ring fed) c.args.vertex record {
       game = c.graph-graph.ensures.game;
       some_ring = subst (λ (n : ℕ). 0 < n) c.cells-cells.ensures.number c.cells-cells.ensures.range.0;
       small_ring =

@@ -21,4 +21,4 @@ count-requires-clause-few c =
 pub returns : goal.returns
 returns c = settle_made c.args.self.now c.args.edge c.args.seen _
     (ap (λ (a : Root). c.args.edge - a.graph_edges) c.self.view_is) c.count.new.self c.count.result c.count.ensures.more
-    c.count.ensures.edges c.count.ensures.settled c.count.ensures.outstanding
+    c.count.ensures.edges c.count.ensures.settled c.count.ensures.outstanding c.count.ensures.feeder

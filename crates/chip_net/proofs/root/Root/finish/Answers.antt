@@ -31,7 +31,7 @@ unreachable-requires c =
     no_fault (game_of_setting c.self.inside.setup) c.fired.inside.fired.items c.in-Err.field-0
     (subst (λ (z : ChipGame × List ℕ). IsNegative z.0 z.1 c.in-Err.field-0)
     (λ i. (game_is d i, c.deref.ensures.value i)) c.in-Err.ensures.cases)
-    (none_negative (the_view c.self.inside) c.read_all.new.self c.self.invariant.0.setting c.read_all.result
+    (none_negative (the_view c.self.inside) c.read_all.new.self c.self.invariant.0.setting c.self.invariant.0.unfed c.read_all.result
     (reading d) c.fired.inside.fired.items (fired_is d))
 
 pub returns : goal.returns
@@ -55,7 +55,7 @@ returns c =
     ∙ sym c.self.inside.chips.ok.0))) into in (
       none,
       subst (λ (r : RootKnown). Finishes r c.read_all.new.self o) c.self.view_is
-          (finishes (the_view c.self.inside) c.read_all.new.self c.self.invariant.0.setting c.read_all.result
+          (finishes (the_view c.self.inside) c.read_all.new.self c.self.invariant.0.setting c.self.invariant.0.unfed c.read_all.result
           (reading d) o (fired_is d) (ap (λ (t : TallyState). t.over) c.fired.view_is)
           (ap (λ (t : TallyState). t.sealed) c.fired.view_is) chips),
     )

@@ -1,7 +1,7 @@
-use Rattle.std.proofs.Common.{ℕ, Some, List, length, sym, ap, ◌∙◌, subst}
+use Rattle.std.proofs.Common.{ℕ, Bool, Some, List, length, sym, ap, ◌∙◌, subst}
 use Rattle.std.proofs.lemmas.List.{length-replicate}
 use Rattle.chip_graph.specs.ChipGame.{ChipGame}
-use Rattle.chip_actor.specs.Setting.{Setting, setting_of}
+use Rattle.chip_actor.specs.Setting.{Setting, setting_with}
 use Rattle.chip_actor.specs.Root.{RootStandsFor}
 use Rattle.chip_core.specs.Core.{Step, opened}
 use Rattle.chip_core.specs.Histories.{part_by}
@@ -14,10 +14,12 @@ invariant_of-result c =
     let none = ap steps_or_none c.requires in
     let g : Setting = c.args.setup in
     let stands : RootStandsFor g (opened g) c.in_ok-state.state =
-    subst (λ (game : ChipGame). RootStandsFor (setting_of game g.ring)
-    (opened (setting_of game g.ring)) c.in_ok-state.state) c.game.ensures.value (c.in_ok-state.ensures g.ring) in (
+    subst (λ (z : ChipGame × Bool). RootStandsFor (setting_with z.0 g.ring z.1)
+    (opened (setting_with z.0 g.ring z.1)) c.in_ok-state.state)
+    (λ i. (c.game.ensures.value i, sym c.game.ensures.unfed i)) (c.in_ok-state.ensures g.ring) in (
       record {
         setting = c.game.ensures.setting;
+        unfed = c.game.ensures.unfed;
         has = c.requires ∙ ap Some (sym none);
         stands = subst (λ (did : List Step). RootStandsFor g (part_by g (opened g) did) c.in_ok-state.state)
             (sym none) stands;

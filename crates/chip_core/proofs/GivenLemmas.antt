@@ -1,0 +1,380 @@
+-- What was given to each vertex: all that was sent on its root edge, at the opening and by feeding.
+use Rattle.std.proofs.Common.{◌≡◌, ◌≢◌, ℕ, ◌+◌, ◌-◌, ◌<◌, ◌≤◌, true, false, cond, eqb, ltb, List, [], ◌∷◌, ◌++◌, map}
+use Rattle.std.proofs.Common.{length, sum, slice_index, get_or, Option, Some, None, option_to_list, refl, sym, ap, ◌∙◌}
+use Rattle.std.proofs.Common.{subst, arith, append-nil, append_assoc, true≢false}
+use Rattle.std.proofs.lemmas.List.{get_or_past, ext_get_or}
+use Rattle.std.proofs.lemmas.List.FromFn.{get_or-map-range_with_len, length-map-range_with_len}
+use Rattle.std.proofs.lemmas.List.Sums.{sum_by_push, sum_by-cons, sum_by-append}
+use mathlib.Core.Logic.{dite}
+use native.Mathlib.Decide.{ℕ_discrete, dec_lt}
+use Rattle.chip_graph.specs.ChipGame.{IsGame}
+use Rattle.chip_graph.specs.Limits.{max_total}
+use Rattle.chip_graph.specs.Sums.{sum_below}
+use Rattle.chip_graph.specs.More.{brought_to, all_brought, HasMore}
+use Rattle.chip_graph.proofs.SumLemmas.{cond_yes, cond_no, sum_below_ext, sum_by_place}
+use Rattle.chip_graph.proofs.SumLemmas.{sum_below_one, sum_below_add, sum_below_none}
+use Rattle.chip_link.specs.Words.{edge_word}
+use Rattle.chip_link.specs.Link.{Tail, sent_counts, claims_of, after_clear, after_claim, after_put, after_seal}
+use Rattle.chip_actor.specs.Setting.{Setting, HasGame, game_of_setting}
+use Rattle.chip_actor.specs.Edges.{start_of}
+use Rattle.chip_actor.specs.Part.{Part, all_fed}
+use Rattle.chip_actor.specs.Steps.{link_after, stop_after}
+use Rattle.chip_actor.specs.Kept.{Met, opening_tail}
+use Rattle.chip_actor.proofs.EdgeLemmas.{tail_root, sendable_inside}
+use Rattle.chip_actor.proofs.RuleLemmas.{rules_met}
+use Rattle.chip_actor.proofs.PartLemmas.{at_edge}
+use Rattle.chip_actor.proofs.Opening.{first_sent, first_fed}
+use Rattle.chip_core.specs.Core.{Log, Step, Event, Take, Ack, Fire, Clear, Claim, Put, Halt, Settle, Seal, Read, Feed}
+use Rattle.chip_core.specs.Core.{End, part_of, part_in, out_in, stop_in, sees, IsLegalLog, tail_of, root}
+use Rattle.chip_core.specs.Core.{root_edge, all_edges, graph_edges}
+use Rattle.chip_core.specs.Positions.{started, played_game, fed_of, fed_in}
+use Rattle.chip_core.specs.Histories.{done_by}
+use Rattle.chip_core.specs.Laws.{GivenByTheRecord, UnfedRecordsNone}
+use Rattle.chip_core.proofs.LogLemmas.{link_step, stop_step, part_kept, out_kept, edge_sound}
+
+module _ (g : Setting) where
+  -- ---- no root edge is ever sealed
+
+  stop_after_at : (x : Event) (seen e : ℕ) (log : Log) → Met g x (part_in g log (part_of g x)) → graph_edges g ≤ e
+      → stop_in g log e ≡ None → stop_after x seen e (stop_in g log e) ≡ None
+  stop_after_at (Seal i) seen e log may past none =
+      cond_no i e (after_seal seen (stop_in g log e)) (stop_in g log e) (λ z. (let a : i ≡ e = z in
+      let inside : i < graph_edges g = may in absurd (omega arith))) ∙ none
+  stop_after_at (Take i) seen e log may past none = none
+  stop_after_at (Ack i) seen e log may past none = none
+  stop_after_at (Fire v k) seen e log may past none = none
+  stop_after_at (Clear i) seen e log may past none = none
+  stop_after_at (Claim i) seen e log may past none = none
+  stop_after_at (Put i) seen e log may past none = none
+  stop_after_at (Halt v) seen e log may past none = none
+  stop_after_at (Settle i) seen e log may past none = none
+  stop_after_at (Read v) seen e log may past none = none
+  stop_after_at (Feed i k) seen e log may past none = none
+  stop_after_at End seen e log may past none = none
+
+  pub never_sealed : (log : Log) → IsLegalLog g log → (e : ℕ) → graph_edges g ≤ e → stop_in g log e ≡ None
+  never_sealed [] legal e past = refl
+  never_sealed (x ∷ log) legal e past = stop_step g x log e
+      ∙ stop_after_at x.event x.seen e log (rules_met g x.event (part_in g log (part_of g x.event)) legal.1.0) past
+      (never_sealed log legal.0 e past)
+
+  -- so a feed sees the number of claims
+  pub feed_sees : (log : Log) → IsLegalLog g log → (e k : ℕ) → graph_edges g ≤ e
+      → sees g log (Feed e k) ≡ claims_of (out_in g log e).link
+  feed_sees log legal e k past =
+      ap (λ (stop : Option ℕ). edge_word (claims_of (out_in g log e).link)
+      (Rattle.std.proofs.Common.is_some stop)) (never_sealed log legal e past)
+      ∙ (let z : edge_word (claims_of (out_in g log e).link) false ≡ claims_of (out_in g log e).link = omega arith in z)
+
+  -- ---- an edge that isn't there stays as it opened
+
+  outside_step : (x : Event) (seen e : ℕ) (log : Log) → Met g x (part_in g log (part_of g x)) → all_edges g ≤ e
+      → link_after x seen e (out_in g log e) ≡ (out_in g log e).link
+  outside_step (Clear i) seen e log may past = cond_no i e (after_clear seen (out_in g log e).link)
+      (out_in g log e).link (λ z. (let a : i ≡ e = z in
+      Rattle.std.proofs.Common.⊎_elim (λ v. (let b = v.0 in absurd (omega arith)))
+      (λ r. (let b = r.1 in absurd (omega arith))) may))
+  outside_step (Claim i) seen e log may past = cond_no i e (after_claim (out_in g log e).pending seen
+      (out_in g log e).link) (out_in g log e).link (λ z. (let a : i ≡ e = z in let b = may.0 in absurd (omega arith)))
+  outside_step (Put i) seen e log may past = cond_no i e (after_put (out_in g log e).link)
+      (out_in g log e).link (λ z. (let a : i ≡ e = z in let b = sendable_inside g i may.0 in absurd (omega arith)))
+  outside_step (Feed i k) seen e log may past = cond_no i e (after_claim k seen (out_in g log e).link)
+      (out_in g log e).link (λ z. (let a : i ≡ e = z in let b = may.1 in absurd (omega arith)))
+  outside_step (Take i) seen e log may past = refl
+  outside_step (Ack i) seen e log may past = refl
+  outside_step (Fire v k) seen e log may past = refl
+  outside_step (Halt v) seen e log may past = refl
+  outside_step (Settle i) seen e log may past = refl
+  outside_step (Seal i) seen e log may past = refl
+  outside_step (Read v) seen e log may past = refl
+  outside_step End seen e log may past = refl
+
+  pub outside_is : (log : Log) → IsLegalLog g log → (e : ℕ) → all_edges g ≤ e → (out_in g log e).link ≡ opening_tail g e
+  outside_is [] legal e past = refl
+  outside_is (x ∷ log) legal e past = link_step g x log e
+      ∙ outside_step x.event x.seen e log (rules_met g x.event (part_in g log (part_of g x.event)) legal.1.0) past
+      ∙ outside_is log legal.0 e past
+
+  module _ (game : HasGame g) (some_ring : 0 < g.ring) where
+    -- nothing was given to what isn't a vertex
+    pub started_outside : (log : Log) → IsLegalLog g log → (v : ℕ) → g.graph.vertices ≤ v → started g log v ≡ 0
+    started_outside log legal v past =
+        let each = game.start_fits in
+        ap (λ (t : Tail). sum (sent_counts t)) (outside_is log legal (root_edge g v) (omega arith))
+        ∙ first_sent g v ∙ get_or_past g.start v 0 (omega arith)
+
+    -- ---- a feed sends its message
+
+    pub feed_sends : (log : Log) → IsLegalLog g log → (e k : ℕ) → Met g (Feed e k) (part_in g log (tail_of g e))
+        → sent_counts (after_claim k (sees g log (Feed e k)) (out_in g log e).link)
+        ≡ sent_counts (out_in g log e).link ++ k ∷ []
+    feed_sends log legal e k may =
+        let t = (out_in g log e).link in
+        let empty : t.held ≡ None = (edge_sound g game some_ring log legal e).quiet may.5 in
+        let all : sent_counts t ≡ t.put = ap (λ (h : Option ℕ). t.put ++ option_to_list h) empty ∙ append-nil t.put in
+        ap sent_counts (cond_yes (sees g log (Feed e k)) (claims_of t) (record t { held = Some k; clear = false })
+        (record t { clear = false; refused = true }) (feed_sees log legal e k may.0))
+        ∙ ap (λ (l : List ℕ). l ++ k ∷ []) (sym all)
+
+    -- ---- what was given grows by what is fed
+
+    brought_none : (v : ℕ) → brought_to [] v ≡ 0
+    brought_none v = refl
+
+    brought_one : (u v k : ℕ) → brought_to ((u, k) ∷ []) v ≡ cond (eqb u v) k 0
+    brought_one u v k = let a = sum_by-cons (λ (p : ℕ × ℕ). cond (eqb p.0 v) p.1 0) (u, k) [] in omega arith
+
+    gives : (x : Event) (log : Log) → IsLegalLog g log → Met g x (part_in g log (part_of g x)) → (v : ℕ)
+        → sum (sent_counts (link_after x (sees g log x) (root_edge g v) (out_in g log (root_edge g v))))
+        ≡ started g log v + brought_to (fed_of g x) v
+    gives (Feed i k) log legal may v =
+        let o = out_in g log (root_edge g v) in
+        let past = may.0 in
+        let one = brought_one (i - graph_edges g) v k in
+        dite (ℕ_discrete i (root_edge g v))
+        (λ same.
+        let at : i ≡ root_edge g v = same in
+        let a = ap (λ (t : Tail). sum (sent_counts t)) (cond_yes i (root_edge g v)
+        (after_claim k (sees g log (Feed i k)) o.link) o.link same) in
+        let b = ap sum (feed_sends log legal i k may) in
+        let c = sum_by_push (λ (x : ℕ). x) (sent_counts (out_in g log i).link) k in
+        let d = cond_yes (i - graph_edges g) v k 0 (omega arith) in
+        let f = ap (λ (e : ℕ). sum (sent_counts (after_claim k (sees g log (Feed e k)) (out_in g log e).link))) same in
+        let f' : sees g log (Feed i k) ≡ sees g log (Feed (root_edge g v) k) = ap (λ (e : ℕ). sees g log (Feed e k)) same
+        in
+        let f'' = ap (λ (n : ℕ). sum (sent_counts (after_claim k n o.link))) f' in
+        let h = ap (λ (e : ℕ). sum (sent_counts (out_in g log e).link)) same in
+        omega arith)
+        (λ other.
+        let a = ap (λ (t : Tail). sum (sent_counts t)) (cond_no i (root_edge g v)
+        (after_claim k (sees g log (Feed i k)) o.link) o.link other) in
+        let d = cond_no (i - graph_edges g) v k 0 (λ z. other (let y : i - graph_edges g ≡ v = z in omega arith)) in
+        omega arith)
+    gives (Claim i) log legal may v =
+        let e : ℕ = root_edge g v in
+        let a = ap (λ (t : Tail). sum (sent_counts t)) (cond_no i e
+        (after_claim (out_in g log e).pending (sees g log (Claim i)) (out_in g log e).link)
+        (out_in g log e).link (λ z. (let b : i ≡ e = z in let c = may.0 in absurd (omega arith)))) in
+        let b = brought_none v in omega arith
+    gives (Clear i) log legal may v =
+        let b = brought_none v in
+        at_edge (λ j (t : Tail). sum (sent_counts t) ≡ sum (sent_counts (out_in g log j).link) + brought_to [] v) i
+        (λ j. after_clear (sees g log (Clear i)) (out_in g log j).link) (λ j. (out_in g log j).link)
+        (omega arith) (λ j. omega arith) (root_edge g v)
+    gives (Put i) log legal may v =
+        let b = brought_none v in
+        at_edge (λ j (t : Tail). sum (sent_counts t) ≡ sum (sent_counts (out_in g log j).link) + brought_to [] v) i
+        (λ j. after_put (out_in g log j).link) (λ j. (out_in g log j).link)
+        (let a = ap sum (append-nil (sent_counts (out_in g log i).link)) in omega arith) (λ j. omega arith)
+        (root_edge g v)
+    gives (Take i) log legal may v = let b = brought_none v in omega arith
+    gives (Ack i) log legal may v = let b = brought_none v in omega arith
+    gives (Fire u k) log legal may v = let b = brought_none v in omega arith
+    gives (Halt u) log legal may v = let b = brought_none v in omega arith
+    gives (Settle i) log legal may v = let b = brought_none v in omega arith
+    gives (Seal i) log legal may v = let b = brought_none v in omega arith
+    gives (Read u) log legal may v = let b = brought_none v in omega arith
+    gives End log legal may v = let b = brought_none v in omega arith
+
+    pub started_step : (x : Step) (log : Log) → IsLegalLog g (x ∷ log) → (v : ℕ)
+        → started g (x ∷ log) v ≡ started g log v + brought_to (fed_of g x.event) v
+    started_step x log legal v =
+        let e : ℕ = root_edge g v in
+        ap (λ (t : Tail). sum (sent_counts t)) (link_step g x log e
+        ∙ ap (λ (n : ℕ). link_after x.event n e (out_in g log e)) legal.1.1)
+        ∙ gives x.event log legal.0 (rules_met g x.event (part_in g log (part_of g x.event)) legal.1.0) v
+
+    pub started_grows : (x : Step) (log : Log) → IsLegalLog g (x ∷ log) → (v : ℕ)
+        → started g log v ≤ started g (x ∷ log) v
+    started_grows x log legal v = let a = started_step x log legal v in omega arith
+
+    -- ---- by the root's own record
+
+    brought_both : (xs ys : List (ℕ × ℕ)) (v : ℕ) → brought_to (xs ++ ys) v ≡ brought_to xs v + brought_to ys v
+    brought_both xs ys v = sum_by-append (λ (p : ℕ × ℕ). cond (eqb p.0 v) p.1 0) xs ys
+
+    all_both : (xs ys : List (ℕ × ℕ)) → all_brought (xs ++ ys) ≡ all_brought xs + all_brought ys
+    all_both xs ys = sum_by-append (λ (p : ℕ × ℕ). p.1) xs ys
+
+    fed_push : (xs : List Step) (x : Step) → fed_in g (xs ++ x ∷ []) ≡ fed_in g xs ++ fed_of g x.event
+    fed_push [] x = append-nil (fed_of g x.event)
+    fed_push (y ∷ ys) x = ap (λ (l : List (ℕ × ℕ)). fed_of g y.event ++ l) (fed_push ys x)
+        ∙ sym (append_assoc (fed_of g y.event) (fed_in g ys) (fed_of g x.event))
+
+    -- nobody feeds but the root
+    fed_elsewhere : (x : Event) (s : Part) → Met g x s → part_of g x ≢ root g → fed_of g x ≡ []
+    fed_elsewhere (Feed e k) s may other = absurd (other (tail_root g e may.0))
+    fed_elsewhere (Take e) s may other = refl
+    fed_elsewhere (Ack e) s may other = refl
+    fed_elsewhere (Fire v k) s may other = refl
+    fed_elsewhere (Clear e) s may other = refl
+    fed_elsewhere (Claim e) s may other = refl
+    fed_elsewhere (Put e) s may other = refl
+    fed_elsewhere (Halt v) s may other = refl
+    fed_elsewhere (Settle e) s may other = refl
+    fed_elsewhere (Seal e) s may other = refl
+    fed_elsewhere (Read v) s may other = refl
+    fed_elsewhere End s may other = refl
+
+    abbrev pub recorded : Log → List (ℕ × ℕ)
+    recorded log = fed_in g (done_by g (root g) log)
+
+    recorded_step : (x : Step) (log : Log) → IsLegalLog g (x ∷ log)
+        → recorded (x ∷ log) ≡ recorded log ++ fed_of g x.event
+    recorded_step x log legal = dite (ℕ_discrete (part_of g x.event) (root g))
+        (λ same. ap (fed_in g) (cond_yes (part_of g x.event) (root g) (done_by g (root g) log ++ x ∷ [])
+        (done_by g (root g) log) same) ∙ fed_push (done_by g (root g) log) x)
+        (λ other. ap (fed_in g) (cond_no (part_of g x.event) (root g) (done_by g (root g) log ++ x ∷ [])
+        (done_by g (root g) log) other) ∙ sym (append-nil (recorded log))
+        ∙ ap (λ (l : List (ℕ × ℕ)). recorded log ++ l) (sym (fed_elsewhere x.event (part_in g log (part_of g x.event))
+        (rules_met g x.event (part_in g log (part_of g x.event)) legal.1.0) other)))
+
+    -- what a vertex was given is its start and what the record fed it
+    pub started_recorded : (log : Log) → IsLegalLog g log → (v : ℕ)
+        → started g log v ≡ start_of g v + brought_to (recorded log) v
+    started_recorded [] legal v = let a = first_sent g v in let b = brought_none v in omega arith
+    started_recorded (x ∷ log) legal v =
+        let a = started_step x log legal v in
+        let b = started_recorded log legal.0 v in
+        let c = ap (λ (l : List (ℕ × ℕ)). brought_to l v) (recorded_step x log legal) in
+        let d = brought_both (recorded log) (fed_of g x.event) v in
+        omega arith
+
+    nothing_fed : sum_below g.graph.vertices (brought_to []) ≡ all_brought []
+    nothing_fed = sum_below_none g.graph.vertices (brought_to []) (λ v l. refl)
+
+    -- a feed is of one vertex
+    fed_once : (x : Event) (s : Part) → Met g x s
+        → sum_below g.graph.vertices (brought_to (fed_of g x)) ≡ all_brought (fed_of g x)
+    fed_once (Feed e k) s may =
+        let past = may.0 in
+        let inside = may.1 in
+        let v : ℕ = e - graph_edges g in
+        let one = sum_below_one g.graph.vertices (brought_to ((v, k) ∷ [])) v (omega arith)
+        (λ u l ne. (let b = brought_one v u k in let d = cond_no v u k 0 (λ z. ne (sym z)) in omega arith)) in
+        let here = brought_one v v k in
+        let yes = cond_yes v v k 0 refl in
+        let all = sum_by-cons (λ (p : ℕ × ℕ). p.1) (v, k) [] in
+        omega arith
+    fed_once (Take e) s may = nothing_fed
+    fed_once (Ack e) s may = nothing_fed
+    fed_once (Fire v k) s may = nothing_fed
+    fed_once (Clear e) s may = nothing_fed
+    fed_once (Claim e) s may = nothing_fed
+    fed_once (Put e) s may = nothing_fed
+    fed_once (Halt v) s may = nothing_fed
+    fed_once (Settle e) s may = nothing_fed
+    fed_once (Seal e) s may = nothing_fed
+    fed_once (Read v) s may = nothing_fed
+    fed_once End s may = nothing_fed
+
+    total_recorded : (log : Log) → IsLegalLog g log
+        → sum_below g.graph.vertices (started g log) ≡ sum g.start + all_brought (recorded log)
+    total_recorded [] legal =
+        let a = first_fed g game in
+        let b = sum_below_ext g.graph.vertices (started g []) (λ v. sum (sent_counts (opening_tail g (root_edge g v))))
+        (λ v l. refl) in
+        omega arith
+    total_recorded (x ∷ log) legal =
+        let may = rules_met g x.event (part_in g log (part_of g x.event)) legal.1.0 in
+        let a = sum_below_ext g.graph.vertices (started g (x ∷ log))
+        (λ v. started g log v + brought_to (fed_of g x.event) v) (λ v l. started_step x log legal v) in
+        let b = sum_below_add g.graph.vertices (started g log) (brought_to (fed_of g x.event)) in
+        let c = fed_once x.event (part_in g log (part_of g x.event)) may in
+        let d = total_recorded log legal.0 in
+        let f = ap all_brought (recorded_step x log legal) in
+        let h = all_both (recorded log) (fed_of g x.event) in
+        omega arith
+
+    -- ---- all that was given
+
+    pub given_each : (log : Log) (v : ℕ) → v < g.graph.vertices
+        → slice_index (played_game g log).start v ≡ started g log v
+    given_each log v l = get_or-map-range_with_len (started g log) 0 g.graph.vertices v v 0 l (omega arith)
+
+    pub given_is : (log : Log) → IsLegalLog g log → slice_index (played_game g log).start ≡ started g log
+    given_is log legal j v = (dite (dec_lt v g.graph.vertices) (λ l. given_each log v l)
+        (λ nl. let n = length-map-range_with_len (started g log) 0 g.graph.vertices in
+        get_or_past (played_game g log).start v 0 (omega arith) ∙ sym (started_outside log legal v (omega arith)))) j
+
+    pub given_sum : (log : Log) → sum (played_game g log).start ≡ sum_below g.graph.vertices (started g log)
+    given_sum log = sum_by_place (played_game g log).start
+        ∙ ap (λ (n : ℕ). sum_below n (slice_index (played_game g log).start))
+        (length-map-range_with_len (started g log) 0 g.graph.vertices)
+        ∙ sum_below_ext g.graph.vertices (slice_index (played_game g log).start) (started g log) (given_each log)
+
+    -- it is what the root sent
+    pub root_gave : (log : Log) → sum (played_game g log).start ≡ all_fed g (part_in g log (root g))
+    root_gave log = given_sum log ∙ sum_below_ext g.graph.vertices (started g log)
+        (λ v. sum (sent_counts ((part_in g log (root g)).out (root_edge g v)).link))
+        (λ v l. ap (λ (p : ℕ). sum (sent_counts ((part_in g log p).out (root_edge g v)).link))
+        (tail_root g (root_edge g v) (omega arith)))
+
+    pub given_within : (log : Log) → IsLegalLog g log → sum (played_game g log).start ≤ max_total
+    given_within log legal = let a = root_gave log in
+        let b = (part_kept g game log legal (root g)).fed_within refl in omega arith
+
+    -- so the game that is played is one within the limits
+    pub played_is_game : (log : Log) → IsLegalLog g log → IsGame (played_game g log)
+    played_is_game log legal = record {
+      graph_fits = game.graph_fits;
+      start_fits = length-map-range_with_len (started g log) 0 g.graph.vertices;
+      few_chips = given_within log legal;
+      low_limit = game.low_limit;
+    }
+
+    pub played_has_more : (log : Log) → IsLegalLog g log
+        → HasMore (game_of_setting g) (recorded log) (played_game g log)
+    played_has_more log legal = record {
+      same_graph = refl;
+      same_limit = refl;
+      start_each = length-map-range_with_len (started g log) 0 g.graph.vertices ∙ sym game.start_fits;
+      start = λ v l. given_each log v (let n = game.start_fits in omega arith) ∙ started_recorded log legal v;
+      total = given_sum log ∙ total_recorded log legal;
+    }
+
+    -- ---- where no chips are fed
+
+    module _ (off : g.fed ≡ false) where
+      pub unfed_started : (log : Log) → IsLegalLog g log → (v : ℕ) → started g log v ≡ start_of g v
+      unfed_started log legal v = ap (λ (t : Tail). sum (sent_counts t))
+          ((out_kept g game log legal (root_edge g v)).root_unfed (omega arith) off) ∙ first_sent g v
+
+      pub unfed_start : (log : Log) → IsLegalLog g log → (played_game g log).start ≡ g.start
+      unfed_start log legal =
+          let long = length-map-range_with_len (started g log) 0 g.graph.vertices in
+          ext_get_or 0 (played_game g log).start g.start (long ∙ sym game.start_fits)
+          (λ v l. given_each log v (omega arith) ∙ unfed_started log legal v)
+
+      pub unfed_played : (log : Log) → IsLegalLog g log → played_game g log ≡ game_of_setting g
+      unfed_played log legal j = record { graph = g.graph; start = unfed_start log legal j; limit = g.limit }
+
+      pub unfed_closes : (log : Log) → IsLegalLog g log → (part_in g log (root g)).ended ≡ true
+      unfed_closes log legal = (part_kept g game log legal (root g)).unfed_ended off
+
+      feeds_none : (x : Event) (log : Log) → IsLegalLog g log → Met g x (part_in g log (part_of g x)) → fed_of g x ≡ []
+      feeds_none (Feed e k) log legal may = absurd (true≢false (sym (unfed_closes log legal)
+          ∙ ap (λ (p : ℕ). (part_in g log p).ended) (sym (tail_root g e may.0)) ∙ may.2))
+      feeds_none (Take e) log legal may = refl
+      feeds_none (Ack e) log legal may = refl
+      feeds_none (Fire v k) log legal may = refl
+      feeds_none (Clear e) log legal may = refl
+      feeds_none (Claim e) log legal may = refl
+      feeds_none (Put e) log legal may = refl
+      feeds_none (Halt v) log legal may = refl
+      feeds_none (Settle e) log legal may = refl
+      feeds_none (Seal e) log legal may = refl
+      feeds_none (Read v) log legal may = refl
+      feeds_none End log legal may = refl
+
+      pub unfed_records : (log : Log) → IsLegalLog g log → recorded log ≡ []
+      unfed_records [] legal = refl
+      unfed_records (x ∷ log) legal = recorded_step x log legal
+          ∙ ap (λ (l : List (ℕ × ℕ)). l ++ fed_of g x.event) (unfed_records log legal.0)
+          ∙ feeds_none x.event log legal.0 (rules_met g x.event (part_in g log (part_of g x.event)) legal.1.0)
+
+pub given_by_the_record : GivenByTheRecord
+given_by_the_record g game some_ring log legal = played_has_more g game some_ring log legal
+
+pub unfed_records_none : UnfedRecordsNone
+unfed_records_none g game some_ring log legal off = unfed_records g game some_ring off log legal

@@ -6,13 +6,12 @@ use Rattle.std.proofs.lemmas.List.{get_or_past, get_or_append_left, get_or_push,
 use Rattle.std.proofs.Math.Seq.{take-length}
 use mathlib.Core.Logic.{dite}
 use native.Mathlib.Decide.{dec_lt}
-use Rattle.chip_actor.specs.Setting.{Setting}
-use Rattle.chip_graph.proofs.SumLemmas.{cond_no}
-use Rattle.chip_link.specs.Link.{Tail, claims_of, sent_counts, after_clear, after_claim, after_put, Sound, Shows}
+use Rattle.chip_actor.specs.Setting.{Setting, HasGame}
+use Rattle.chip_graph.proofs.SumLemmas.{by_test}
+use Rattle.chip_link.specs.Link.{Tail, claims_of, sent_counts, Sound, Shows}
 use Rattle.chip_link.proofs.Sounds.{none_held, one_held}
-use Rattle.chip_actor.specs.Kept.{Met}
-use Rattle.chip_actor.specs.Steps.{link_after}
-use Rattle.chip_actor.proofs.RuleLemmas.{rules_met}
+use Rattle.chip_actor.specs.Edges.{sendable_edges}
+use Rattle.chip_actor.proofs.EdgeLemmas.{tail_root, sendable_fed}
 use Rattle.chip_link.proofs.Sounds.{length-sent_counts}
 use Rattle.chip_actor.specs.declared.act.Act.{Act}
 use Rattle.chip_actor.specs.declared.rule.Rule.TheVariants.{NotClaimed}
@@ -23,34 +22,10 @@ use Rattle.chip_core.specs.Messages.{Message, messages_from, counts_in_flight, i
 use Rattle.chip_core.proofs.MessageLemmas.{messages-append}
 use Rattle.chip_world.specs.SharedWords.{stored_by}
 use Rattle.chip_world.proofs.VertexLemmas.{passes}
-use Rattle.chip_core.specs.Core.{Rule, unmet, into_in, Log, Event, Take, Ack, Fire, Clear, Claim, Put, Halt, Settle}
-use Rattle.chip_core.specs.Core.{Seal, Read, Part, Out, part_of, part_in, out_in, IsLegalLog, graph_edges}
-use Rattle.chip_core.proofs.LogLemmas.{link_step}
-
-module _ (g : Setting) where
-  -- nobody sends on a root edge
-  root_unsent : (e : ℕ) → graph_edges g ≤ e → (x : Event) (seen : ℕ) (s : Part) (o : Out) → Met g x s
-      → link_after x seen e o ≡ o.link
-  root_unsent e past (Clear i) seen s o met = cond_no i e (after_clear seen o.link) o.link
-      (λ z. absurd (omega (arith, met.0)))
-  root_unsent e past (Claim i) seen s o met = cond_no i e (after_claim o.pending seen o.link) o.link
-      (λ z. absurd (omega (arith, met.0)))
-  root_unsent e past (Put i) seen s o met = cond_no i e (after_put o.link) o.link (λ z. absurd (omega (arith, met.0)))
-  root_unsent e past (Take i) seen s o met = refl
-  root_unsent e past (Ack i) seen s o met = refl
-  root_unsent e past (Fire v k) seen s o met = refl
-  root_unsent e past (Halt v) seen s o met = refl
-  root_unsent e past (Settle i) seen s o met = refl
-  root_unsent e past (Seal i) seen s o met = refl
-  root_unsent e past (Read v) seen s o met = refl
-
-  pub root_holds_none : (e : ℕ) → graph_edges g ≤ e → (log : Log) → IsLegalLog g log → (out_in g log e).link.held ≡ None
-  root_holds_none e past [] legal = refl
-  root_holds_none e past (x ∷ log) legal =
-      ap (λ (t : Tail). t.held) (link_step g x log e
-      ∙ root_unsent e past x.event x.seen (part_in g log (part_of g x.event)) (out_in g log e)
-      (rules_met g x.event (part_in g log (part_of g x.event)) legal.1.0))
-      ∙ root_holds_none e past log legal.0
+use Rattle.chip_core.specs.Core.{Rule, unmet, into_in, Log, Put, Part, part_in, out_in, root, IsLegalLog}
+use Rattle.chip_core.specs.Core.{graph_edges, all_edges}
+use Rattle.chip_core.proofs.LogLemmas.{out_kept}
+use Rattle.chip_core.proofs.GivenLemmas.{outside_is}
 
 -- a hand is empty or holds one
 hand : (held : Option ℕ) → Rattle.std.proofs.Common.◌⊎◌ (held ≡ None) ((count : ℕ) × (held ≡ Some count))
@@ -99,17 +74,29 @@ put_stores g e s act is = by_rule (unmet g (Put e) s) is
     by_rule (Some rule) is = absurd (cc)
 
 -- where no put is due the hand is empty
-pub put_refused : (g : Setting) (e : ℕ) (s : Part) (rule : Rule) → e < graph_edges g
+pub put_refused : (g : Setting) (e : ℕ) (s : Part) (rule : Rule) → e < sendable_edges g
     → ◌≡◌ {A = Result Act Rule} (Err rule) (verdict (unmet g (Put e) s) (act_of g (Put e) s))
     → (s.out e).link.held ≡ None
 put_refused g e s rule l is = ⊎_elim (λ none. none)
-    (λ some. absurd (by_rule (unmet g (Put e) s) (passes (ltb e (graph_edges g)) _ _ (lt-ltb e (graph_edges g) l)
+    (λ some. absurd (by_rule (unmet g (Put e) s) (passes (ltb e (sendable_edges g)) _ _ (lt-ltb e (sendable_edges g) l)
     ∙ ap (λ (h : Option ℕ). need (Rattle.std.proofs.Common.is_some h) NotClaimed None) some.1) is))
     (hand (s.out e).link.held)
   where
     by_rule : (o : Option Rule) → o ≡ None → ◌≡◌ {A = Result Act Rule} (Err rule) (verdict o (act_of g (Put e) s)) → ⊥
     by_rule None none is = absurd (cc)
     by_rule (Some first) none is = absurd (cc)
+
+-- the same on a root edge, in a log
+pub root_put_refused : (g : Setting) → HasGame g → (log : Log) → IsLegalLog g log → (e : ℕ) (rule : Rule)
+    → graph_edges g ≤ e → ◌≡◌ {A = Result Act Rule} (Err rule)
+    (verdict (unmet g (Put e) (part_in g log (root g))) (act_of g (Put e) (part_in g log (root g))))
+    → (out_in g log e).link.held ≡ None
+root_put_refused g game log legal e rule past is = by_test g.fed
+    (λ on. dite (dec_lt e (all_edges g))
+    (λ l. ap (λ (p : ℕ). ((part_in g log p).out e).link.held) (tail_root g e past)
+    ∙ put_refused g e (part_in g log (root g)) rule (let all = sendable_fed g on in omega arith) is)
+    (λ n. ap (λ (t : Tail). t.held) (outside_is g log legal e (omega arith))))
+    (λ off. ap (λ (t : Tail). t.held) ((out_kept g game log legal e).root_unfed past off))
 
 -- ---- the messages in flight, one after another
 

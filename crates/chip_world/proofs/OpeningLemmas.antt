@@ -84,7 +84,8 @@ module _ (g : Setting) (is_setting : IsSetting g) where
   }
 
   pub opens : (w : WorldState) → w.setting ≡ g → AreOpeningActors g g.graph.vertices w.actors
-      → AreOpeningWords g (all_edges g) w.words → RootStandsFor g (opened g) w.root → StandsForLog g [] w
+      → AreOpeningWords (game_of_setting g) g.ring (all_edges g) w.words → RootStandsFor g (opened g) w.root
+      → StandsForLog g [] w
   opens w setting actors words root_stands = record {
     setting = setting;
     is_setting = is_setting;

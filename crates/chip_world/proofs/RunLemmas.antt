@@ -1,18 +1,20 @@
 -- A run of events, noted one after another.
-use Rattle.std.proofs.Common.{◌≡◌, ◌∙◌, ℕ, ◌+◌, ◌<◌, ◌≤◌, Bool, true, false, cond, eqb, ltb, List, [], ◌∷◌, ◌++◌}
+use Rattle.std.proofs.Common.{◌≡◌, ◌∙◌, ℕ, ◌+◌, ◌<◌, ◌≤◌, Bool, true, false, ◌&&◌, cond, eqb, ltb, leb, List, [], ◌∷◌}
+use Rattle.std.proofs.Common.{◌++◌}
 use Rattle.std.proofs.Common.{length, map, get_or, take, ◌⊎◌, inl, inr, Option, Some, refl, sym, ap, subst, arith}
 use Rattle.std.proofs.Common.{append_assoc, append-nil, length-set, get_or-set_same, get_or-set_other, length-append}
 use Rattle.std.proofs.Common.{vec_capacity}
 use Rattle.std.proofs.lemmas.List.{get_or-map, length-map, take_more, get_or_push, get_or_append_left}
-use Rattle.std.proofs.lemmas.Bool.{ltb-true}
+use Rattle.std.proofs.lemmas.Bool.{ltb-true, and_parts}
 use mathlib.Core.Logic.{dite}
 use native.Mathlib.Decide.{ℕ_discrete}
 use Rattle.chip_actor.specs.Setting.{Setting, HasGame}
 use Rattle.chip_graph.proofs.SumLemmas.{by_test, cond_yes, cond_no}
 use Rattle.chip_actor.specs.declared.reply.Reply.TheVariants.{Done, Got, Sent, Empty, Full, Sealed, NotNow}
 use Rattle.chip_actor.specs.declared.rule.Rule.TheVariants.{NoSuch}
-use Rattle.chip_core.specs.Core.{Log, Event, Take, Ack, Fire, Clear, Claim, Put, Halt, Settle, Seal, Read, Reply, Rule}
-use Rattle.chip_core.specs.Core.{unmet, part_of, part_in, answer, step, log_after, replies_to, all_edges, graph_edges}
+use Rattle.chip_core.specs.Core.{Log, Event, Take, Ack, Fire, Clear, Claim, Put, Halt, Settle, Seal, Read, Feed}
+use Rattle.chip_core.specs.Core.{End, Reply, Rule, unmet, part_of, part_in, answer, step, log_after, replies_to}
+use Rattle.chip_core.specs.Core.{all_edges, graph_edges}
 use Rattle.chip_core.specs.Messages.{Message, sent_by, delivered_by, sent_in, delivered_in}
 use Rattle.chip_world.specs.declared.world.running.Notes.{Notes}
 use Rattle.chip_world.specs.Lanes.{Lane, no_lane, lane_at, with_message}
@@ -58,17 +60,20 @@ not_counted test edges xs i d counts l so_far none = counted test edges xs i d c
     (λ e m. (let z : ◌≡◌ {A = ℕ} (cond (test e (get_or xs i d)) 1 0) 0 = ap (λ (b : Bool). let n : ℕ = cond b 1 0 in
     n) (none e) in omega arith))
 
-pub no_claim : (x : Event) → ((i : ℕ) → x ≡ Claim i → ⊥) → (e : ℕ) → is_claim_of e x ≡ false
-no_claim (Claim i) other e = absurd (other i refl)
-no_claim (Take i) other e = refl
-no_claim (Ack i) other e = refl
-no_claim (Fire v k) other e = refl
-no_claim (Clear i) other e = refl
-no_claim (Put i) other e = refl
-no_claim (Halt v) other e = refl
-no_claim (Settle i) other e = refl
-no_claim (Seal i) other e = refl
-no_claim (Read v) other e = refl
+pub no_claim : (x : Event) → ((i : ℕ) → x ≡ Claim i → ⊥) → ((i k : ℕ) → x ≡ Feed i k → ⊥) → (e : ℕ)
+    → is_claim_of e x ≡ false
+no_claim (Claim i) other fed e = absurd (other i refl)
+no_claim (Take i) other fed e = refl
+no_claim (Ack i) other fed e = refl
+no_claim (Fire v k) other fed e = refl
+no_claim (Clear i) other fed e = refl
+no_claim (Put i) other fed e = refl
+no_claim (Halt v) other fed e = refl
+no_claim (Settle i) other fed e = refl
+no_claim (Seal i) other fed e = refl
+no_claim (Read v) other fed e = refl
+no_claim (Feed i k) other fed e = absurd (fed i k refl)
+no_claim End other fed e = refl
 
 pub no_take : (x : Event) → ((i : ℕ) → x ≡ Take i → ⊥) → (e : ℕ) → is_take_of e x ≡ false
 no_take (Take i) other e = absurd (other i refl)
@@ -81,6 +86,8 @@ no_take (Halt v) other e = refl
 no_take (Settle i) other e = refl
 no_take (Seal i) other e = refl
 no_take (Read v) other e = refl
+no_take (Feed i k) other e = refl
+no_take End other e = refl
 
 -- one more list
 pub lane_push : (lanes : List Lane) (lane : Lane) (n e : ℕ) → length lanes ≡ n → e < n + 1
@@ -120,6 +127,20 @@ sent_on_edge g log (Halt v) r is = tt
 sent_on_edge g log (Settle e) r is = tt
 sent_on_edge g log (Seal e) r is = tt
 sent_on_edge g log (Read v) r is = tt
+sent_on_edge g log End r is = tt
+sent_on_edge g log (Feed e k) (Sent m) is = by_test (leb (graph_edges g) e && ltb e (all_edges g))
+    (λ yes. ltb-true e (all_edges g) (and_parts _ _ yes).1)
+    (λ no. absurd (clash m (is ∙ step_refused g log (Feed e k) NoSuch
+    (refused (leb (graph_edges g) e && ltb e (all_edges g)) NoSuch _ no))))
+  where
+    clash : (m : Message) → Sent m ≡ NotNow NoSuch → ⊥
+    clash m q = absurd (cc)
+sent_on_edge g log (Feed e k) (Done n) is = tt
+sent_on_edge g log (Feed e k) (Got m) is = tt
+sent_on_edge g log (Feed e k) Empty is = tt
+sent_on_edge g log (Feed e k) Full is = tt
+sent_on_edge g log (Feed e k) Sealed is = tt
+sent_on_edge g log (Feed e k) (NotNow rule) is = tt
 
 pub got_on_edge : (g : Setting) (log : Log) (x : Event) (r : Reply) → r ≡ (step g log x).1 → GotOnEdge x r (all_edges g)
 got_on_edge g log (Take e) (Got m) is = by_test (ltb e (all_edges g)) (λ yes. ltb-true e (all_edges g) yes)
@@ -142,6 +163,8 @@ got_on_edge g log (Halt v) r is = tt
 got_on_edge g log (Settle e) r is = tt
 got_on_edge g log (Seal e) r is = tt
 got_on_edge g log (Read v) r is = tt
+got_on_edge g log (Feed e k) r is = tt
+got_on_edge g log End r is = tt
 
 -- ---- the list of an edge after an event
 
@@ -203,6 +226,14 @@ sent_longer (Halt v) r lanes e l = same_lane lanes e _
 sent_longer (Settle i) r lanes e l = same_lane lanes e _
 sent_longer (Seal i) r lanes e l = same_lane lanes e _
 sent_longer (Read v) r lanes e l = same_lane lanes e _
+sent_longer End r lanes e l = same_lane lanes e _
+sent_longer (Feed i k) (Sent m) lanes e l = one_message lanes e i m l
+sent_longer (Feed i k) (Done n) lanes e l = same_lane lanes e _
+sent_longer (Feed i k) (Got m) lanes e l = same_lane lanes e _
+sent_longer (Feed i k) Empty lanes e l = same_lane lanes e _
+sent_longer (Feed i k) Full lanes e l = same_lane lanes e _
+sent_longer (Feed i k) Sealed lanes e l = same_lane lanes e _
+sent_longer (Feed i k) (NotNow rule) lanes e l = same_lane lanes e _
 
 got_longer : (x : Event) (r : Reply) (lanes : List Lane) (e : ℕ) → e < length lanes
     → IsLonger lanes (delivered_after x r lanes) e (delivered_by e x r) (cond (is_take_of e x) 1 0)
@@ -222,6 +253,8 @@ got_longer (Halt v) r lanes e l = same_lane lanes e _
 got_longer (Settle i) r lanes e l = same_lane lanes e _
 got_longer (Seal i) r lanes e l = same_lane lanes e _
 got_longer (Read v) r lanes e l = same_lane lanes e _
+got_longer (Feed i k) r lanes e l = same_lane lanes e _
+got_longer End r lanes e l = same_lane lanes e _
 
 sent_edges : (x : Event) (r : Reply) (lanes : List Lane) → length (sent_after x r lanes) ≡ length lanes
 sent_edges (Claim i) (Sent m) lanes = length-set lanes i _
@@ -240,6 +273,14 @@ sent_edges (Halt v) r lanes = refl
 sent_edges (Settle i) r lanes = refl
 sent_edges (Seal i) r lanes = refl
 sent_edges (Read v) r lanes = refl
+sent_edges End r lanes = refl
+sent_edges (Feed i k) (Sent m) lanes = length-set lanes i _
+sent_edges (Feed i k) (Done n) lanes = refl
+sent_edges (Feed i k) (Got m) lanes = refl
+sent_edges (Feed i k) Empty lanes = refl
+sent_edges (Feed i k) Full lanes = refl
+sent_edges (Feed i k) Sealed lanes = refl
+sent_edges (Feed i k) (NotNow rule) lanes = refl
 
 got_edges : (x : Event) (r : Reply) (lanes : List Lane) → length (delivered_after x r lanes) ≡ length lanes
 got_edges (Take i) (Got m) lanes = length-set lanes i _
@@ -258,6 +299,8 @@ got_edges (Halt v) r lanes = refl
 got_edges (Settle i) r lanes = refl
 got_edges (Seal i) r lanes = refl
 got_edges (Read v) r lanes = refl
+got_edges (Feed i k) r lanes = refl
+got_edges End r lanes = refl
 
 -- ---- one event of a run
 

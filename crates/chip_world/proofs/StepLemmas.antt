@@ -1,8 +1,8 @@
 -- One step of a world.
-use Rattle.std.proofs.Common.{◌≡◌, ◌≢◌, ℕ, ◌<◌, ◌≤◌, true, false, ltb, lt-ltb, le-ltb}
+use Rattle.std.proofs.Common.{◌≡◌, ◌≢◌, ℕ, ◌<◌, ◌≤◌, Bool, true, false, ◌&&◌, ltb, leb, lt-ltb, le-ltb, leb-true}
 use Rattle.std.proofs.Common.{List, ◌∷◌, length, get_or, set, Option, Some, None, Result, Ok, Err, refl, sym}
 use Rattle.std.proofs.Common.{ap, ◌∙◌, subst, arith, length-set, get_or-set_same, get_or-set_other, true≢false}
-use Rattle.std.proofs.lemmas.Bool.{le-leb}
+use Rattle.std.proofs.lemmas.Bool.{lt-leb}
 use Rattle.std.specs.Bool.{⊤}
 use mathlib.Core.Logic.{dite}
 use native.Mathlib.Decide.{ℕ_discrete, dec_lt}
@@ -14,20 +14,21 @@ use Rattle.chip_actor.specs.declared.act.Act.{Act}
 use Rattle.chip_actor.specs.declared.act.Act.TheVariants as Do
 use Rattle.chip_actor.specs.declared.reply.Reply.TheVariants.{Done, NotNow}
 use Rattle.chip_actor.specs.Actor.{Actor, StandsFor, WhateverPart, SomePart}
-use Rattle.chip_actor.specs.Acting.{act_of, event_of, verdict, CanDo, FitsSeen, IsDue, Makes}
-use Rattle.chip_actor.specs.Root.{Root, RootStandsFor, WhateverRoot, SomeRoot, is_of_root, RootCanDo, RootMakes}
+use Rattle.chip_actor.specs.Acting.{act_of, event_of, verdict, CanDo, IsDue, Makes}
+use Rattle.chip_actor.specs.Root.{Root, RootStandsFor, WhateverRoot, SomeRoot, is_of_root, FitsRoot, RootCanDo}
+use Rattle.chip_actor.specs.Root.{RootMakes}
 use Rattle.chip_actor.proofs.EdgeLemmas.{tail_root}
 use Rattle.chip_actor.proofs.RuleLemmas.{rules_met}
-use Rattle.chip_core.specs.Core.{Log, Step, Event, Take, Ack, Fire, Clear, Claim, Put, Halt, Settle, Seal, Read, Part}
-use Rattle.chip_core.specs.Core.{Rule, Reply, unmet, part_of, does, reply_of, part_in, word_of_part, sees}
+use Rattle.chip_core.specs.Core.{Log, Step, Event, Take, Ack, Fire, Clear, Claim, Put, Halt, Settle, Seal, Read, Feed}
+use Rattle.chip_core.specs.Core.{End, Part, Rule, Reply, unmet, part_of, does, reply_of, part_in, word_of_part, sees}
 use Rattle.chip_core.specs.Core.{answer, step, Fits, tail_of, graph_edges, all_edges, root, stopper}
-use Rattle.chip_core.proofs.LogLemmas.{part_here, part_else, edge_counts}
+use Rattle.chip_core.proofs.LogLemmas.{part_here, part_else}
 use Rattle.chip_world.specs.SharedWords.{EdgeState, words_of, changed, with_seal, seen_in, words_after, CanPerform}
-use Rattle.chip_world.specs.Makers.{vertex_of, is_of_others}
+use Rattle.chip_world.specs.Makers.{vertex_of, is_root_edge, is_of_others, is_by_act}
 use Rattle.chip_world.specs.World.{WorldState, ShowsEdge, IsActor, StandsForLog, IsDueFor}
-use Rattle.chip_core.proofs.NumberLemmas.{fits_seen}
-use Rattle.chip_world.proofs.WordLemmas.{seal_shown, sees_seal, settle_shown, sees_settle, length-words_after}
-use Rattle.chip_world.proofs.WordLemmas.{can_perform, sees_words, words_shown}
+use Rattle.chip_core.proofs.NumberLemmas.{fits_seen, root_fits}
+use Rattle.chip_world.proofs.WordLemmas.{seal_shown, sees_seal, length-words_after}
+use Rattle.chip_world.proofs.WordLemmas.{can_perform, sees_words, root_sees_words, words_shown, read_shown}
 use Rattle.chip_world.proofs.VertexLemmas.{refused, passes, found}
 
 -- an operation that was given is needed, and every rule is met
@@ -54,18 +55,39 @@ event_is g (Halt u) s v mine at = ap Halt (sym at)
 event_is g (Settle e) s v mine at = refl
 event_is g (Seal e) s v mine at = absurd (true≢false mine)
 event_is g (Read u) s v mine at = absurd (true≢false mine)
+event_is g (Feed e k) s v mine at = absurd (true≢false mine)
+event_is g End s v mine at = absurd (true≢false mine)
+
+-- an event that a vertex makes is by an operation
+pub by_act : (g : Setting) (x : Event) → is_of_others g x ≡ false → is_by_act x ≡ true
+by_act g (Take e) mine = refl
+by_act g (Ack e) mine = refl
+by_act g (Fire u k) mine = refl
+by_act g (Clear e) mine = refl
+by_act g (Claim e) mine = refl
+by_act g (Put e) mine = refl
+by_act g (Halt u) mine = refl
+by_act g (Settle e) mine = refl
+by_act g (Seal e) mine = absurd (true≢false mine)
+by_act g (Read u) mine = absurd (true≢false mine)
+by_act g (Feed e k) mine = absurd (true≢false mine)
+by_act g End mine = absurd (true≢false mine)
+
+-- an edge whose tail is a vertex isn't the root's
+not_root_edge : (g : Setting) (v e : ℕ) → v < g.graph.vertices → tail_of g e ≡ v → is_root_edge g e ≡ false
+not_root_edge g v e l at = dite (dec_lt e (graph_edges g))
+    (λ inside. cond_true (ltb e (graph_edges g)) false true (lt-ltb e (graph_edges g) inside))
+    (λ past. (let is_root = tail_root g e (omega arith) in absurd (omega arith)))
 
 -- an event that a vertex makes is of no other
 pub not_of_others : (g : Setting) (v : ℕ) (act : Act) → v < g.graph.vertices → part_of g (event_of v act) ≡ v
     → is_of_others g (event_of v act) ≡ false
 not_of_others g v (Do.Take e cell) l at = refl
-not_of_others g v (Do.Settle e) l at = dite (dec_lt e (graph_edges g))
-    (λ inside. cond_true (ltb e (graph_edges g)) false true (lt-ltb e (graph_edges g) inside))
-    (λ past. (let is_root = tail_root g e (omega arith) in absurd (omega arith)))
+not_of_others g v (Do.Settle e) l at = not_root_edge g v e l at
 not_of_others g v (Do.Fire k) l at = refl
-not_of_others g v (Do.Clear e cell) l at = refl
+not_of_others g v (Do.Clear e cell) l at = not_root_edge g v e l at
 not_of_others g v (Do.Claim e expected new) l at = refl
-not_of_others g v (Do.Put e cell value) l at = refl
+not_of_others g v (Do.Put e cell value) l at = not_root_edge g v e l at
 not_of_others g v (Do.Halt by_limit) l at = refl
 not_of_others g v (Do.Ack e count) l at = refl
 not_of_others g v Do.End l at = absurd (omega arith)
@@ -102,8 +124,8 @@ module _ (g : Setting) (log : Log) (w : WorldState) (stands : StandsForLog g log
     abbrev x : Event
     x = event_of v act
 
-    mine_here : is_of_others g x ≡ false
-    mine_here = not_of_others g v act is_due.inside is_due.mine
+    mine_here : is_by_act x ≡ true
+    mine_here = by_act g x (not_of_others g v act is_due.inside is_due.mine)
 
     s : Part
     s = part_in g log (part_of g x)
@@ -301,55 +323,138 @@ module _ (g : Setting) (log : Log) (w : WorldState) (stands : StandsForLog g log
       (sees_seal g stands.is_setting.game stands.is_setting.some_ring log stands.legal w.words stands.words_each
       stands.words e l)))
 
-  -- ---- the settle of a root edge
+  -- ---- the events of the root that are operations
 
-  module _ (e : ℕ) (past : graph_edges g ≤ e)
-      (may : WhateverRoot w.root (λ g s. is_of_root g (Settle e) ≡ true → None ≡ unmet g (Settle e) s)) where
+  module _ (x : Event) (own : is_of_root g x ≡ true) where
     abbrev rooted : Part
     rooted = part_in g log (root g)
 
-    at_root : tail_of g e ≡ root g
-    at_root = tail_root g e past
+    at_root : (y : Event) → is_of_root g y ≡ true → unmet g y rooted ≡ None → part_of g y ≡ root g
+    at_root (Clear e) mine met = tail_root g e (leb-true (graph_edges g) e mine)
+    at_root (Put e) mine met = tail_root g e (leb-true (graph_edges g) e mine)
+    at_root (Settle e) mine met = tail_root g e (leb-true (graph_edges g) e mine)
+    at_root (Feed e k) mine met = tail_root g e (rules_met g (Feed e k) rooted met).0
+    at_root (Read v) mine met = refl
+    at_root End mine met = refl
+    at_root (Take e) mine met = absurd (true≢false (sym mine))
+    at_root (Ack e) mine met = absurd (true≢false (sym mine))
+    at_root (Fire v k) mine met = absurd (true≢false (sym mine))
+    at_root (Claim e) mine met = absurd (true≢false (sym mine))
+    at_root (Halt v) mine met = absurd (true≢false (sym mine))
+    at_root (Seal e) mine met = absurd (true≢false (sym mine))
 
-    of_root : is_of_root g (Settle e) ≡ true
-    of_root = le-leb (graph_edges g) e past
+    -- its rules are asked of the root's part
+    root_unmet : (y : Event) → is_of_root g y ≡ true → unmet g y (part_in g log (part_of g y)) ≡ unmet g y rooted
+    root_unmet (Clear e) mine = ap (λ (p : ℕ). unmet g (Clear e) (part_in g log p))
+        (tail_root g e (leb-true (graph_edges g) e mine))
+    root_unmet (Put e) mine = ap (λ (p : ℕ). unmet g (Put e) (part_in g log p))
+        (tail_root g e (leb-true (graph_edges g) e mine))
+    root_unmet (Settle e) mine = ap (λ (p : ℕ). unmet g (Settle e) (part_in g log p))
+        (tail_root g e (leb-true (graph_edges g) e mine))
+    root_unmet (Feed e k) mine = dite (dec_lt e (graph_edges g))
+        (λ l. let none : (leb (graph_edges g) e && ltb e (all_edges g)) ≡ false =
+        ap (λ (b : Bool). b && ltb e (all_edges g)) (lt-leb (graph_edges g) e l) in
+        refused _ NoSuch _ none ∙ sym (refused _ NoSuch _ none))
+        (λ n. ap (λ (p : ℕ). unmet g (Feed e k) (part_in g log p)) (tail_root g e (omega arith)))
+    root_unmet (Read v) mine = refl
+    root_unmet End mine = refl
+    root_unmet (Take e) mine = absurd (true≢false (sym mine))
+    root_unmet (Ack e) mine = absurd (true≢false (sym mine))
+    root_unmet (Fire v k) mine = absurd (true≢false (sym mine))
+    root_unmet (Claim e) mine = absurd (true≢false (sym mine))
+    root_unmet (Halt v) mine = absurd (true≢false (sym mine))
+    root_unmet (Seal e) mine = absurd (true≢false (sym mine))
 
-    met : unmet g (Settle e) rooted ≡ None
-    met = sym (may g rooted stands.root_stands of_root)
+    -- the root's rule that isn't met is the core's
+    pub root_refuses : (rule : Rule) → WhateverRoot w.root (λ g s. is_of_root g x ≡ true
+        → ◌≡◌ {A = Result Act Rule} (Err rule) (verdict (unmet g x s) (act_of g x s)))
+        → StandsForLog g (step g log x).0 w × (NotNow rule ≡ (step g log x).1)
+    root_refuses rule may = refuses x rule
+        (root_unmet x own ∙ withheld (unmet g x rooted) (act_of g x rooted) rule (may g rooted stands.root_stands own))
 
-    fits : FitsSeen rooted (Settle e) (sees g log (Settle e))
-    fits =
-        let counts = edge_counts g stands.is_setting.game stands.is_setting.some_ring log stands.legal e in
-        let c0 = counts.0 in let c1 = counts.1 in let c2 = counts.2 in let c3 = counts.3 in
-        subst (λ (p : ℕ). FitsSeen (part_in g log p) (Settle e) (sees g log (Settle e))) at_root (c0, omega arith)
+    module _ (operates : is_by_act x ≡ true) (act : Act) (may : WhateverRoot w.root (λ g s. is_of_root g x ≡ true
+        → Ok act ≡ verdict (unmet g x s) (act_of g x s))) where
+      root_due : (unmet g x rooted ≡ None) × (act_of g x rooted ≡ act)
+      root_due = given (unmet g x rooted) (act_of g x rooted) act (may g rooted stands.root_stands own)
 
-    module _ (seen : ℕ) (seen_is : seen ≡ (words_of w.words e).acknowledged) where
-      is_seen : seen ≡ sees g log (Settle e)
-      is_seen = seen_is
-          ∙ sees_settle g stands.is_setting.game stands.is_setting.some_ring log stands.legal w.words stands.words_each
-          stands.words e (rules_met g (Settle e) rooted met)
+      here : part_of g x ≡ root g
+      here = at_root x own root_due.0
 
-      can : RootCanDo g rooted (Settle e) seen
-      can = (of_root, met, subst (FitsSeen rooted (Settle e)) (sym is_seen) fits)
+      met : unmet g x (part_in g log (part_of g x)) ≡ None
+      met = root_unmet x own ∙ root_due.0
 
-      pub root_can_settle : SomeRoot w.root (λ g s. RootCanDo g s (Settle e) seen)
-      root_can_settle = (g, rooted, stands.root_stands, can)
+      needed : act_of g x (part_in g log (part_of g x)) ≡ act
+      needed = ap (λ (p : ℕ). act_of g x (part_in g log p)) here ∙ root_due.1
 
-      -- and so it makes the core's step
-      pub root_settles : (new : Root) (reply : Reply) → RootMakes w.root new (Settle e) seen reply
-          → StandsForLog g (step g log (Settle e)).0 (record w { root = new })
-          × (reply ≡ (step g log (Settle e)).1)
-      root_settles new reply makes =
-          let did : Step = record { event = Settle e; seen = sees g log (Settle e) } in
-          let none : unmet g (Settle e) (part_in g log (tail_of g e)) ≡ None =
-          ap (λ (p : ℕ). unmet g (Settle e) (part_in g log p)) at_root ∙ met in
-          let made = makes g rooted stands.root_stands can in
-          accepts (Settle e) (record w { root = new }) reply none
-          (others_stay did (let at = at_root in omega arith) (none, refl) w.words new stands.words_each
-          (settle_shown g stands.is_setting.game stands.is_setting.some_ring log stands.legal w.words stands.words_each
-          stands.words e none)
-          (subst (λ (p : Part). RootStandsFor g p new) (sym (part_here g did log (root g) at_root))
-          (subst (λ (n : ℕ). RootStandsFor g (does g (record { event = Settle e; seen = n }) rooted) new) is_seen
-          made.0)))
-          (made.1 ∙ ap (λ (n : ℕ). reply_of g (Settle e) n rooted) is_seen
-          ∙ ap (λ (p : ℕ). reply_of g (Settle e) (sees g log (Settle e)) (part_in g log p)) (sym at_root))
+      pub root_can_perform : CanPerform act w.words
+      root_can_perform = subst (λ (b : Act). CanPerform b w.words) needed
+          (can_perform g stands.is_setting.game stands.is_setting.some_ring log stands.legal w.words stands.words_each
+          stands.words x operates met)
+
+      module _ (seen : ℕ) (seen_is : seen ≡ seen_in act 0 w.words) where
+        is_seen : seen ≡ sees g log x
+        is_seen = seen_is ∙ ap (λ (b : Act). seen_in b 0 w.words) (sym needed)
+            ∙ root_sees_words g stands.is_setting.game stands.is_setting.some_ring log stands.legal w.words
+            stands.words_each stands.words x own operates met
+
+        can : RootCanDo g rooted x seen
+        can = (
+          own,
+          root_due.0,
+          subst (FitsRoot g rooted x) (sym is_seen)
+              (root_fits g stands.is_setting.game stands.is_setting.some_ring log stands.legal x own root_due.0),
+        )
+
+        pub root_can_apply : SomeRoot w.root (λ g s. RootCanDo g s x seen)
+        root_can_apply = (g, rooted, stands.root_stands, can)
+
+        -- and so it makes the core's step
+        pub root_makes : (new : Root) (reply : Reply) → RootMakes w.root new x seen reply
+            → StandsForLog g (step g log x).0 (record w { words = words_after act w.words; root = new })
+            × (reply ≡ (step g log x).1)
+        root_makes new reply makes =
+            let did : Step = record { event = x; seen = sees g log x } in
+            let made = makes g rooted stands.root_stands can in
+            accepts x (record w { words = words_after act w.words; root = new }) reply met
+            (others_stay did (let at = here in omega arith) (met, refl) (words_after act w.words) new
+            (length-words_after act w.words ∙ stands.words_each)
+            (λ e l d. subst (λ (b : Act). ShowsEdge g (did ∷ log) e (get_or (words_after b w.words) e d)) needed
+            (words_shown g stands.is_setting.game stands.is_setting.some_ring log stands.legal w.words
+            stands.words_each stands.words x operates met e l d))
+            (subst (λ (p : Part). RootStandsFor g p new) (sym (part_here g did log (root g) here))
+            (subst (λ (n : ℕ). RootStandsFor g (does g (record { event = x; seen = n }) rooted) new) is_seen made.0)))
+            (made.1 ∙ ap (λ (n : ℕ). reply_of g x n rooted) is_seen
+            ∙ ap (λ (p : ℕ). reply_of g x (sees g log x) (part_in g log p)) (sym here))
+
+  -- ---- a read
+
+  module _ (v : ℕ) (act : Act) (may : WhateverRoot w.root (λ g s. is_of_root g (Read v) ≡ true
+      → Ok act ≡ verdict (unmet g (Read v) s) (act_of g (Read v) s))) where
+    read_met : unmet g (Read v) (part_in g log (root g)) ≡ None
+    read_met = (given (unmet g (Read v) (part_in g log (root g))) (act_of g (Read v) (part_in g log (root g))) act
+        (may g (part_in g log (root g)) stands.root_stands refl)).0
+
+    pub read_inside : v < g.graph.vertices
+    read_inside = (rules_met g (Read v) (part_in g log (root g)) read_met).0
+
+    pub read_can : (seen : ℕ) → SomeRoot w.root (λ g s. RootCanDo g s (Read v) seen)
+    read_can seen = (g, part_in g log (root g), stands.root_stands, (refl, read_met, tt))
+
+    pub read_makes : (seen : ℕ) → seen ≡ word_of_part (part_in g log v) → (new : Root) (reply : Reply)
+        → RootMakes w.root new (Read v) seen reply
+        → StandsForLog g (step g log (Read v)).0 (record w { root = new }) × (reply ≡ (step g log (Read v)).1)
+    read_makes seen is new reply makes =
+        let did : Step = record { event = Read v; seen = sees g log (Read v) } in
+        let made = makes g (part_in g log (root g)) stands.root_stands (refl, read_met, tt) in
+        accepts (Read v) (record w { root = new }) reply read_met
+        (others_stay did (omega arith) (read_met, refl) w.words new stands.words_each
+        (read_shown g stands.is_setting.game stands.is_setting.some_ring log stands.legal w.words stands.words_each
+        stands.words v read_met)
+        (subst (λ (p : Part). RootStandsFor g p new) (sym (part_here g did log (root g) refl))
+        (subst (λ (n : ℕ). RootStandsFor g (does g (record { event = Read v; seen = n }) (part_in g log (root g))) new) is
+        made.0)))
+        (made.1 ∙ ap (λ (n : ℕ). reply_of g (Read v) n (part_in g log (root g))) is)
+
+    -- the actor that is read
+    pub read_stands : (a : Actor) → a ≡ get_or w.actors v a → StandsFor g (part_in g log v) a
+    read_stands a actor_is = (subst (IsActor g log v) (sym actor_is) (stands.actors v read_inside a)).stands

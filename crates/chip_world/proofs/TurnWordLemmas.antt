@@ -1,6 +1,7 @@
 -- The words of a turn as a medium: each operation finds its word, sees what the core says, and leaves the words of the
 -- longer log.
-use Rattle.std.proofs.Common.{◌≡◌, ℕ, ◌+◌, ◌^◌, ◌<◌, ◌≤◌, Bool, false, List, ◌∷◌, length, get_or, Option, Some, None}
+use Rattle.std.proofs.Common.{◌≡◌, ℕ, ◌+◌, ◌^◌, ◌<◌, ◌≤◌, Bool, true, false, List, ◌∷◌, length, get_or, Option, Some}
+use Rattle.std.proofs.Common.{None}
 use Rattle.std.proofs.Common.{is_some, sym, ap, ◌∙◌, subst, arith, bit_or}
 use Rattle.chip_link.specs.Words.{fired_word}
 use Rattle.chip_link.proofs.WordLaws.{adds_firings, halts_word, halts_by_limit}
@@ -17,12 +18,12 @@ use Rattle.chip_core.specs.Core.{Log, Step, Event, Fire, Halt, Part, unmet, part
 use Rattle.chip_core.proofs.LogLemmas.{part_here, part_kept}
 use Rattle.chip_core.proofs.NumberLemmas.{fits_seen}
 use Rattle.chip_world.specs.SharedWords.{EdgeState, seen_in, words_after, CanPerform}
-use Rattle.chip_world.specs.Makers.{is_of_others}
+use Rattle.chip_world.specs.Makers.{is_by_act}
 use Rattle.chip_world.specs.World.{ShowsEdge}
 use Rattle.chip_core.specs.Words.{halt_bits}
 use Rattle.chip_world.specs.TurnWords.{TurnWords, Holds}
 use Rattle.chip_world.proofs.WordLemmas.{length-words_after, can_perform, sees_words, words_shown}
-use Rattle.chip_world.proofs.StepLemmas.{not_of_others}
+use Rattle.chip_world.proofs.StepLemmas.{not_of_others, by_act}
 
 -- the word of a vertex that halts
 word_halts : (c : Option Cause) (why : Cause) (fired : ℕ) → fired < 2 ^ 62 → c ≡ Some why
@@ -36,8 +37,8 @@ module _ (w : TurnWords) (g : Setting) (v : ℕ) (log : Log) (s : Part) (held : 
   abbrev x : Event
   x = event_of v act
 
-  own : is_of_others g x ≡ false
-  own = not_of_others g v act held.inside due.mine
+  own : is_by_act x ≡ true
+  own = by_act g x (not_of_others g v act held.inside due.mine)
 
   met : unmet g x (part_in g log (part_of g x)) ≡ None
   met = subst (λ (u : ℕ). unmet g x (part_in g log u) ≡ None) (sym due.mine)

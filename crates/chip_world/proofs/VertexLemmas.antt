@@ -7,10 +7,10 @@ use Rattle.chip_graph.proofs.SumLemmas.{by_test, cond_false}
 use Rattle.chip_actor.specs.Rules.{need}
 use Rattle.chip_actor.specs.declared.rule.Rule.{Rule}
 use Rattle.chip_actor.specs.declared.rule.Rule.TheVariants.{NoSuch}
-use Rattle.chip_core.specs.Core.{Event, Take, Ack, Fire, Clear, Claim, Put, Halt, Settle, Seal, Read, Part, unmet}
-use Rattle.chip_core.specs.Core.{part_of, tail_of, head_of, all_edges, graph_edges}
+use Rattle.chip_core.specs.Core.{Event, Take, Ack, Fire, Clear, Claim, Put, Halt, Settle, Seal, Read, Feed}
+use Rattle.chip_core.specs.Core.{End, Part, unmet, part_of, tail_of, head_of, all_edges, graph_edges}
 use Rattle.chip_core.proofs.LogLemmas.{head_inside, tail_inside}
-use Rattle.chip_world.specs.Makers.{head_if, tail_if, vertex_if, vertex_of, is_of_others}
+use Rattle.chip_world.specs.Makers.{head_if, tail_if, vertex_if, vertex_of, is_root_edge, is_of_others}
 
 -- a value that is given only where a test passes
 given : (b : Bool) (n v : ℕ) → cond b (Some n) None ≡ Some v → (b ≡ true) × (n ≡ v)
@@ -58,10 +58,12 @@ module _ (g : Setting) where
     found (Settle e) v is = by_tail e v is
     found (Seal e) v is = absurd (cc)
     found (Read u) v is = absurd (cc)
+    found (Feed e k) v is = absurd (cc)
+    found End v is = absurd (cc)
 
-  -- the settle of an edge of the graph is its tail's
-  pub settles_graph_edge : (e : ℕ) → is_of_others g (Settle e) ≡ false → ltb e (graph_edges g) ≡ true
-  settles_graph_edge e is = by_test (ltb e (graph_edges g)) (λ yes. yes)
+  -- an edge that isn't the root's is the graph's
+  pub is_graph_edge : (e : ℕ) → is_root_edge g e ≡ false → ltb e (graph_edges g) ≡ true
+  is_graph_edge e is = by_test (ltb e (graph_edges g)) (λ yes. yes)
       (λ no. absurd (true≢false (sym (cond_false (ltb e (graph_edges g)) false true no) ∙ is)))
 
   -- where none was found the event names no edge and no vertex
@@ -69,11 +71,15 @@ module _ (g : Setting) where
   missing (Take e) s mine is = refused _ NoSuch _ (withheld (ltb e (all_edges g)) (head_of g e) is)
   missing (Ack e) s mine is = refused _ NoSuch _ (withheld (ltb e (all_edges g)) (head_of g e) is)
   missing (Fire u k) s mine is = refused _ NoSuch _ (withheld (ltb u g.graph.vertices) u is)
-  missing (Clear e) s mine is = refused _ NoSuch _ (withheld (ltb e (graph_edges g)) (tail_of g e) is)
+  missing (Clear e) s mine is = absurd
+      (true≢false (sym (is_graph_edge e mine) ∙ withheld (ltb e (graph_edges g)) (tail_of g e) is))
   missing (Claim e) s mine is = refused _ NoSuch _ (withheld (ltb e (graph_edges g)) (tail_of g e) is)
-  missing (Put e) s mine is = refused _ NoSuch _ (withheld (ltb e (graph_edges g)) (tail_of g e) is)
+  missing (Put e) s mine is = absurd
+      (true≢false (sym (is_graph_edge e mine) ∙ withheld (ltb e (graph_edges g)) (tail_of g e) is))
   missing (Halt u) s mine is = refused _ NoSuch _ (withheld (ltb u g.graph.vertices) u is)
   missing (Settle e) s mine is = absurd
-      (true≢false (sym (settles_graph_edge e mine) ∙ withheld (ltb e (graph_edges g)) (tail_of g e) is))
+      (true≢false (sym (is_graph_edge e mine) ∙ withheld (ltb e (graph_edges g)) (tail_of g e) is))
   missing (Seal e) s mine is = absurd (true≢false mine)
   missing (Read u) s mine is = absurd (true≢false mine)
+  missing (Feed e k) s mine is = absurd (true≢false mine)
+  missing End s mine is = absurd (true≢false mine)

@@ -1,7 +1,7 @@
 -- The shared words of a world by its log: what an operation sees in them is what the core says, and what it leaves
 -- shows the longer log.
-use Rattle.std.proofs.Common.{◌≡◌, ◌≢◌, ℕ, ◌+◌, ◌-◌, ◌%◌, ◌^◌, ◌<◌, false, cond, eqb, List, ◌∷◌, length, sum, get_or}
-use Rattle.std.proofs.Common.{None, option_to_list, refl, sym, ap, ◌∙◌, subst, arith, length-set}
+use Rattle.std.proofs.Common.{◌≡◌, ◌≢◌, ℕ, ◌+◌, ◌-◌, ◌%◌, ◌^◌, ◌<◌, true, cond, eqb, List, ◌∷◌, length, sum, get_or}
+use Rattle.std.proofs.Common.{None, option_to_list, refl, sym, ap, ◌∙◌, subst, arith, ⊎_elim, length-set}
 use Rattle.std.proofs.Common.{true≢false, get_or-set_same, get_or-set_other, bit_or}
 use Rattle.std.proofs.lemmas.Nat.{mod_below}
 use Rattle.std.proofs.lemmas.List.{get_or_default}
@@ -19,8 +19,9 @@ use Rattle.chip_actor.specs.Kept.{Met}
 use Rattle.chip_actor.specs.Acting.{act_of}
 use Rattle.chip_actor.proofs.RuleLemmas.{rules_met}
 use Rattle.chip_core.specs.Core.{Log, Event, Take, Ack, Fire, Clear, Claim, Put, Halt, Settle, Seal, Read}
+use Rattle.chip_core.specs.Core.{Feed, End}
 use Rattle.chip_core.specs.Core.{unmet, part_of, part_in, out_in, into_in, stop_in, word_of_part, sees, IsLegalLog}
-use Rattle.chip_core.specs.Core.{tail_of, head_of, all_edges, graph_edges}
+use Rattle.chip_core.specs.Core.{head_of, all_edges, graph_edges}
 use Rattle.chip_core.specs.Core.{stopper}
 use Rattle.chip_core.specs.Words.{Word, of_edge, of_acks, of_cell, of_vertex, halt_bits, touched, noted, IsShown}
 use Rattle.chip_core.specs.Words.{acting}
@@ -29,7 +30,9 @@ use Rattle.chip_core.proofs.Showing.{operations_find, words_go_on}
 use Rattle.chip_core.proofs.LogLemmas.{part_kept, edge_sound}
 use Rattle.chip_world.specs.SharedWords.{EdgeState, no_words, words_of, with_cell, with_claim, with_acks, with_seal}
 use Rattle.chip_world.specs.SharedWords.{changed, cell_of, seen_in, words_after, HasCell, CanPerform}
-use Rattle.chip_world.specs.Makers.{is_of_others}
+use Rattle.chip_world.specs.Makers.{is_by_act}
+use Rattle.chip_actor.proofs.EdgeLemmas.{sendable_inside}
+use Rattle.chip_actor.specs.Root.{is_of_root}
 use Rattle.chip_world.specs.World.{ShowsEdge}
 use Rattle.chip_core.proofs.NumberLemmas.{claims_most}
 use Rattle.chip_core.proofs.NumberLemmas.{words as words_read}
@@ -133,7 +136,7 @@ module _ (g : Setting) (game : HasGame g) (some_ring : 0 < g.ring) (log : Log) (
     }
 
     -- an operation whose rules are met finds its words
-    pub can_perform : (x : Event) → is_of_others g x ≡ false → unmet g x (part_in g log (part_of g x)) ≡ None
+    pub can_perform : (x : Event) → is_by_act x ≡ true → unmet g x (part_in g log (part_of g x)) ≡ None
         → CanPerform (act_of g x (part_in g log (part_of g x))) words
     can_perform (Take e) mine none = has_cell e (length (into_in g log e).got) (met_for (Take e) none)
     can_perform (Ack e) mine none =
@@ -145,18 +148,20 @@ module _ (g : Setting) (game : HasGame g) (some_ring : 0 < g.ring) (log : Log) (
         let behind = (sound e).behind in
         (omega arith, omega arith)
     can_perform (Fire v k) mine none = tt
-    can_perform (Clear e) mine none = let met = met_for (Clear e) none in
-        has_cell e (claims_of (out_in g log e).link) (omega arith)
+    can_perform (Clear e) mine none = has_cell e (claims_of (out_in g log e).link)
+        (⊎_elim (λ v. (let l = v.0 in omega arith)) (λ r. r.1) (met_for (Clear e) none))
     can_perform (Claim e) mine none = let met = met_for (Claim e) none in omega arith
-    can_perform (Put e) mine none = let met = met_for (Put e) none in
-        has_cell e (claims_of (out_in g log e).link - 1) (omega arith)
+    can_perform (Put e) mine none = has_cell e (claims_of (out_in g log e).link - 1)
+        (sendable_inside g e (met_for (Put e) none).0)
     can_perform (Halt v) mine none = tt
     can_perform (Settle e) mine none = let met = met_for (Settle e) none in omega arith
-    can_perform (Seal e) mine none = absurd (true≢false mine)
-    can_perform (Read v) mine none = absurd (true≢false mine)
+    can_perform (Seal e) mine none = absurd (true≢false (sym mine))
+    can_perform (Read v) mine none = absurd (true≢false (sym mine))
+    can_perform (Feed e k) mine none = let l = (met_for (Feed e k) none).1 in omega arith
+    can_perform End mine none = let some = game.graph_fits.some_vertex in omega arith
 
     -- an operation of a vertex finds the word of its event
-    found_there : (own : ℕ) (x : Event) → own ≡ fired (part_of g x) → is_of_others g x ≡ false
+    found_there : (own : ℕ) (x : Event) → own ≡ fired (part_of g x) → is_by_act x ≡ true
         → seen_in (act_of g x (acting g log x)) own words
         ≡ noted x (value_of words fired (touched g x (acting g log x)))
     found_there own (Take e) is mine = refl
@@ -167,15 +172,39 @@ module _ (g : Setting) (game : HasGame g) (some_ring : 0 < g.ring) (log : Log) (
     found_there own (Put e) is mine = refl
     found_there own (Halt v) is mine = is
     found_there own (Settle e) is mine = refl
-    found_there own (Seal e) is mine = absurd (true≢false mine)
-    found_there own (Read v) is mine = absurd (true≢false mine)
+    found_there own (Seal e) is mine = absurd (true≢false (sym mine))
+    found_there own (Read v) is mine = absurd (true≢false (sym mine))
+    found_there own (Feed e k) is mine = refl
+    found_there own End is mine = refl
 
     -- so it sees in them what the parts have made of them
     pub sees_words : (own : ℕ) (x : Event) → own ≡ fired (part_of g x)
-        → is_of_others g x ≡ false → unmet g x (part_in g log (part_of g x)) ≡ None
+        → is_by_act x ≡ true → unmet g x (part_in g log (part_of g x)) ≡ None
         → seen_in (act_of g x (part_in g log (part_of g x))) own words ≡ sees g log x
     sees_words own x is mine none = found_there own x is mine
         ∙ (operations_find g game some_ring log legal (value_of words fired) all_shown x none).1
+
+    -- an event of the root is on no fired word
+    own_unseen : (own other : ℕ) (x : Event) → is_of_root g x ≡ true
+        → seen_in (act_of g x (acting g log x)) own words ≡ seen_in (act_of g x (acting g log x)) other words
+    own_unseen own other (Clear e) mine = refl
+    own_unseen own other (Put e) mine = refl
+    own_unseen own other (Settle e) mine = refl
+    own_unseen own other (Read v) mine = refl
+    own_unseen own other (Feed e k) mine = refl
+    own_unseen own other End mine = refl
+    own_unseen own other (Take e) mine = absurd (true≢false (sym mine))
+    own_unseen own other (Ack e) mine = absurd (true≢false (sym mine))
+    own_unseen own other (Fire v k) mine = absurd (true≢false (sym mine))
+    own_unseen own other (Claim e) mine = absurd (true≢false (sym mine))
+    own_unseen own other (Halt v) mine = absurd (true≢false (sym mine))
+    own_unseen own other (Seal e) mine = absurd (true≢false (sym mine))
+
+    pub root_sees_words : (x : Event) → is_of_root g x ≡ true
+        → is_by_act x ≡ true → unmet g x (part_in g log (part_of g x)) ≡ None
+        → seen_in (act_of g x (part_in g log (part_of g x))) 0 words ≡ sees g log x
+    root_sees_words x own mine none = own_unseen 0 (fired (part_of g x)) x own
+        ∙ sees_words (fired (part_of g x)) x refl mine none
 
     -- what an event leaves, where its rules are met
     record Leaves (x : Event) (new : List EdgeState) : Type 0 where
@@ -220,7 +249,7 @@ module _ (g : Setting) (game : HasGame g) (some_ring : 0 < g.ring) (log : Log) (
       left = left;
     }
 
-    leaves : (x : Event) → is_of_others g x ≡ false → unmet g x (part_in g log (part_of g x)) ≡ None
+    leaves : (x : Event) → is_by_act x ≡ true → unmet g x (part_in g log (part_of g x)) ≡ None
         → Leaves x (words_after (act_of g x (part_in g log (part_of g x))) words)
     leaves (Take e) mine none =
         let l = met_for (Take e) none in
@@ -258,8 +287,7 @@ module _ (g : Setting) (game : HasGame g) (some_ring : 0 < g.ring) (log : Log) (
               ne;
         }
     leaves (Put e) mine none =
-        let met = met_for (Put e) none in
-        let l : e < all_edges g = omega arith in
+        let l : e < all_edges g = sendable_inside g e (met_for (Put e) none).0 in
         let c : ℕ = (claims_of (out_in g log e).link - 1) % g.ring in
         let n : ℕ = sum (option_to_list (out_in g log e).link.held) in
         let inside = has_cell e (claims_of (out_in g log e).link - 1) l in
@@ -275,11 +303,21 @@ module _ (g : Setting) (game : HasGame g) (some_ring : 0 < g.ring) (log : Log) (
           others = λ w is ne. vertex_else words fired v n w ne;
         }
     leaves (Settle e) mine none = no_edge (Settle e) fired record { here = refl; others = λ w is ne. refl }
-    leaves (Seal e) mine none = absurd (true≢false mine)
-    leaves (Read v) mine none = absurd (true≢false mine)
+    leaves (Seal e) mine none = absurd (true≢false (sym mine))
+    leaves (Read v) mine none = absurd (true≢false (sym mine))
+    leaves (Feed e k) mine none =
+        let met = met_for (Feed e k) none in
+        let claims : ℕ = claims_of (out_in g log e).link in
+        let inside = can_perform (Feed e k) mine none in
+        one_edge (Feed e k) e (with_claim claims (claims + 1)) met.1 refl record {
+          here = ap (λ (s : EdgeState). s.word) (here_changed words e (with_claim claims (claims + 1)) inside);
+          others = λ w is ne. edge_else words fired e (exchanged claims (claims + 1) (words_of words e).word) inside w
+              ne;
+        }
+    leaves End mine none = no_edge End fired record { here = refl; others = λ w is ne. refl }
 
     -- what each operation leaves shows the log with its event
-    pub words_shown : (x : Event) → is_of_others g x ≡ false → unmet g x (part_in g log (part_of g x)) ≡ None
+    pub words_shown : (x : Event) → is_by_act x ≡ true → unmet g x (part_in g log (part_of g x)) ≡ None
         → (e : ℕ) → e < all_edges g → (d : EdgeState)
         → ShowsEdge g (record { event = x; seen = sees g log x } ∷ log) e
         (get_or (words_after (act_of g x (part_in g log (part_of g x))) words) e d)
@@ -298,18 +336,15 @@ module _ (g : Setting) (game : HasGame g) (some_ring : 0 < g.ring) (log : Log) (
           others = λ w is ne. edge_else words fired e (bit_or (words_of words e).word (2 ^ 63)) inside w ne;
         })
 
+    -- a read leaves the words
+    pub read_shown : (v : ℕ) → unmet g (Read v) (part_in g log (part_of g (Read v))) ≡ None → (i : ℕ) → i < all_edges g
+        → (d : EdgeState)
+        → ShowsEdge g (record { event = Read v; seen = sees g log (Read v) } ∷ log) i (get_or words i d)
+    read_shown v none = shows_left (Read v) none words
+        (no_edge (Read v) fired record { here = refl; others = λ w is ne. refl })
+
     pub sees_seal : (e : ℕ) → e < graph_edges g → (words_of words e).word ≡ sees g log (Seal e)
     sees_seal e inside = (at e (omega arith)).shows.word_is
-
-    -- a settle leaves the words
-    pub settle_shown : (e : ℕ) → unmet g (Settle e) (part_in g log (tail_of g e)) ≡ None → (i : ℕ) → i < all_edges g
-        → (d : EdgeState)
-        → ShowsEdge g (record { event = Settle e; seen = sees g log (Settle e) } ∷ log) i (get_or words i d)
-    settle_shown e none = shows_left (Settle e) none words
-        (no_edge (Settle e) fired record { here = refl; others = λ w is ne. refl })
-
-    pub sees_settle : (e : ℕ) → e < all_edges g → (words_of words e).acknowledged ≡ sees g log (Settle e)
-    sees_settle e l = (at e l).acknowledged
 
     -- the numbers that the words tell
     pub claims_told : (e : ℕ) → e < all_edges g → claims_in (words_of words e).word ≡ claims_of (out_in g log e).link

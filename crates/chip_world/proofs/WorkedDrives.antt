@@ -9,7 +9,7 @@ use Rattle.chip_world.specs.Rounds.{IsTurnAfter, IsOpen}
 use Rattle.chip_world.specs.Worked.{sink_alone, OneRoundCloses, NoRoundLeavesOpen}
 
 still_open : IsOpen sink_alone []
-still_open closed = let none : ◌≡◌ {A = ℕ} 1 0 = closed 0 (omega arith) refl in absurd (omega arith)
+still_open closed = let none : ◌≡◌ {A = ℕ} 1 0 = closed.1 0 (omega arith) refl in absurd (omega arith)
 
 turn_of_sink : IsTurnAfter sink_alone 0 [] (saw (Ack 0) 0 ∷ saw (Take 0) 5 ∷ [])
 turn_of_sink =
@@ -80,7 +80,7 @@ one_round_closes = record {
   count = 1;
   within = omega arith;
   are_rounds = ([], refl, still_open, (saw (Ack 0) 0 ∷ saw (Take 0) 5 ∷ [], ([], refl, turn_of_sink), refl));
-  answers = (closed_is sink_alone (saw (Settle 0) 1 ∷ saw (Ack 0) 0 ∷ saw (Take 0) 5 ∷ [])).0 refl;
+  answers = (closed_is sink_alone (saw (Settle 0) 1 ∷ saw (Ack 0) 0 ∷ saw (Take 0) 5 ∷ [])).0 (refl, refl);
 }
 
 pub no_round_leaves_open : NoRoundLeavesOpen

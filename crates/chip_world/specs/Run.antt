@@ -3,7 +3,7 @@ use Rattle.std.specs.Prelude.{◌≡◌, ℕ, ◌+◌, ◌*◌, ◌<◌, ◌≤�
 use Rattle.std.specs.Prelude.{map, slice_index, slice_index_or}
 use Rattle.std.specs.Vec.{vec_len, vec_capacity}
 use Rattle.chip_actor.specs.Setting.{Setting}
-use Rattle.chip_actor.specs.Rules.{Take, Claim}
+use Rattle.chip_actor.specs.Rules.{Take, Claim, Feed}
 use Rattle.chip_actor.specs.declared.reply.Reply.TheVariants.{Got, Sent}
 use Rattle.chip_actor.specs.Edges.{mult_of}
 use Rattle.chip_core.specs.Core.{Log, Event, Reply, tail_of, graph_edges, all_edges, fired_by, log_after, replies_to}
@@ -15,9 +15,10 @@ use Rattle.chip_world.specs.Lanes.{Lane, lane_at, with_message}
 use Rattle.chip_world.specs.declared.world.running.Notes.{Notes}
 use Rattle.chip_world.specs.World.{WorldState, StandsForLog}
 
--- an event is a claim, or a take, of the edge e
+-- an event is a claim, by a vertex or as a feed, or a take, of the edge e
 abbrev pub is_claim_of : ℕ → Event → Bool
 is_claim_of e (Claim i) = i == e
+is_claim_of e (Feed i k) = i == e
 is_claim_of e _ = false
 
 abbrev pub is_take_of : ℕ → Event → Bool
@@ -43,6 +44,7 @@ CountsMore edge old new = (length new ≡ length old)
 -- the lists after an event with this reply
 abbrev pub sent_after : Event → Reply → List Lane → List Lane
 sent_after (Claim e) (Sent message) lanes = with_message e message lanes
+sent_after (Feed e k) (Sent message) lanes = with_message e message lanes
 sent_after _ _ lanes = lanes
 
 abbrev pub delivered_after : Event → Reply → List Lane → List Lane
@@ -52,6 +54,7 @@ delivered_after _ _ lanes = lanes
 -- a message that was sent, or delivered, is of one of so many edges
 abbrev pub SentOnEdge : Event → Reply → ℕ → Type 0
 SentOnEdge (Claim e) (Sent message) edges = e < edges
+SentOnEdge (Feed e k) (Sent message) edges = e < edges
 SentOnEdge _ _ edges = Unit {0}
 
 abbrev pub GotOnEdge : Event → Reply → ℕ → Type 0

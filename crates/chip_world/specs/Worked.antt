@@ -1,5 +1,5 @@
 -- A worked drive, as the definitions compute it.
-use Rattle.std.specs.Prelude.{◌≡◌, ◌^◌, [], ◌∷◌}
+use Rattle.std.specs.Prelude.{◌≡◌, ◌^◌, false, [], ◌∷◌}
 use Rattle.chip_actor.specs.Setting.{Setting}
 use Rattle.chip_actor.specs.Worked.{small_triangle, saw}
 use Rattle.chip_core.specs.Core.{Take, Ack, Settle}
@@ -12,7 +12,13 @@ TriangleRootEdges = root_settles (small_triangle (4 ∷ 0 ∷ 0 ∷ [])) 3 ≡ S
 
 -- the sink alone, with five chips
 abbrev pub sink_alone : Setting
-sink_alone = record { graph = record { vertices = 1; sink = 0; edges = [] }; start = 5 ∷ []; limit = 2 ^ 40; ring = 1 }
+sink_alone = record {
+  graph = record { vertices = 1; sink = 0; edges = [] };
+  start = 5 ∷ [];
+  limit = 2 ^ 40;
+  ring = 1;
+  fed = false;
+}
 
 -- it takes its chips and acknowledges them, and the root settles them: one round of ten is enough
 abbrev pub OneRoundCloses : Type 0

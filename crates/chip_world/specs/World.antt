@@ -2,7 +2,7 @@
 use Rattle.std.specs.Prelude.{◌≡◌, ℕ, ◌-◌, ◌<◌, nat_lt, if◌then◌else◌, List, [], length, slice_index}
 use Rattle.std.specs.Prelude.{slice_index_or, None}
 use Rattle.chip_graph.specs.ChipGame.{ChipGame}
-use Rattle.chip_actor.specs.Setting.{Setting, game_of_setting, IsSetting}
+use Rattle.chip_actor.specs.Setting.{Setting, IsSetting}
 use Rattle.chip_link.specs.Link.{Shows}
 use Rattle.chip_actor.specs.Actor as vertex
 use Rattle.chip_actor.specs.Root.{Root, RootStandsFor}
@@ -73,11 +73,11 @@ abbrev pub first_chips : ChipGame → ℕ → ℕ
 first_chips game e = if nat_lt e (length game.graph.edges) then 0
     else slice_index game.start (e - length game.graph.edges)
 
--- the words of the first edges as the game opens
-pub record AreOpeningWords (g : Setting) (count : ℕ) (words : List EdgeState) : Type 0 where
+-- the words of the first edges as the game opens, with rings of so many cells
+pub record AreOpeningWords (game : ChipGame) (ring count : ℕ) (words : List EdgeState) : Type 0 where
   pub count_is : length words ≡ count
   pub each : (e : ℕ) → e < count → (d : EdgeState)
-      → slice_index_or words e d ≡ opening_words g.ring (first_chips (game_of_setting g) e)
+      → slice_index_or words e d ≡ opening_words ring (first_chips game e)
 
 -- an actor for each of the first vertices as the game opens
 pub record AreOpeningActors (g : Setting) (count : ℕ) (actors : List vertex.Actor) : Type 0 where

@@ -43,6 +43,18 @@ macro_rules! fire {
     };
 }
 
+/// The root feeds so many chips over an edge.
+macro_rules! feed {
+    ($edge:expr, $count:expr) => {
+        Event::Feed {
+            edge: $edge,
+            count: $count,
+        }
+    };
+}
+
+mod feeding;
+
 /// Edges by tail, head and multiplicity.
 type Edges = &'static [(u64, u64, u64)];
 
@@ -55,7 +67,23 @@ const CHAIN: Edges = &[(0, 1, 1), (1, 2, 1)];
 /// No limit that a vertex could meet.
 const MOST: u64 = 1 << 40;
 
-/// A game whose last vertex is the sink, as it opens.
+/// A game whose last vertex is the sink.
+fn game_of(
+    alloc: Global,
+    edges: &[(u64, u64, u64)],
+    start: &[u64],
+    limit: u64,
+) -> Result<Game, Fail> {
+    let mut rows = Vec::new(alloc);
+    for &(tail, head, mult) in edges {
+        rows.push(Edge { tail, head, mult })?;
+    }
+    let vertices = start.len() as u64;
+    let graph = Graph::new(alloc, vertices, vertices.saturating_sub(1), rows)?;
+    Ok(Game::new(graph, Vec::from_slice(alloc, start)?, limit)?)
+}
+
+/// The same as it opens.
 fn opened(
     alloc: Global,
     edges: &[(u64, u64, u64)],
@@ -63,13 +91,7 @@ fn opened(
     limit: u64,
     ring: Ring,
 ) -> Result<World, Fail> {
-    let mut rows = Vec::new(alloc);
-    for &(tail, head, mult) in edges {
-        rows.push(Edge { tail, head, mult })?;
-    }
-    let vertices = start.len() as u64;
-    let graph = Graph::new(alloc, vertices, vertices.saturating_sub(1), rows)?;
-    let game = Game::new(graph, Vec::from_slice(alloc, start)?, limit)?;
+    let game = game_of(alloc, edges, start, limit)?;
     Ok(World::open(alloc, &game, ring)?)
 }
 

@@ -105,13 +105,12 @@ impl Words {
     ghost use Rattle.chip_world.specs.SharedWords.{HasCell, cell_of, words_of, changed, with_cell, with_claim};
     ghost use Rattle.chip_world.specs.SharedWords.{with_acks, with_seal, opening_words, seen_in, words_after};
     ghost use Rattle.chip_world.specs.SharedWords.{CanPerform};
-    ghost use Rattle.chip_actor.specs.Setting.{setting_of};
-    ghost use Rattle.chip_actor.specs.Edges.{all_edges};
     ghost use Rattle.chip_world.specs.World.{AreOpeningWords};
 
     /// The words of a game that opens.
     pub(crate) fn new(alloc: Global, game: &Game, ring: Ring) -> Result<Words, AllocError>
-        ensures { let g = setting_of game.now ring in IfOk result (AreOpeningWords g (all_edges g)) }
+        ensures { IfOk result
+            (AreOpeningWords game.now ring (length game.now.graph.edges + game.now.graph.vertices)) }
     {
         let all_edges = game.graph().edges().len() + game.start().len();
         let mut edges = Vec::with_capacity(alloc, all_edges)?;

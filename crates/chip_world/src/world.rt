@@ -1,5 +1,5 @@
 ghost use Rattle.std.specs.Prelude.{◌≡◌, ◌+◌, ◌^◌, ◌<◌, ◌≤◌, ◌↔◌, [], length, sum, slice_index, option_to_list, IsTrue};
-ghost use Rattle.std.specs.Prelude.{IfOk, false};
+ghost use Rattle.std.specs.Prelude.{IfOk, true, false};
 
 mod books;
 mod driving;
@@ -23,26 +23,28 @@ use std::marker::Model;
 pub struct World {
     game: Game,
     ring: Ring,
+    // Whether the root may feed chips.
+    fed: bool,
     actors: Vec<ActorState>,
     shared: TurnWords,
     root: RootState,
 }
 
 impl Model for World {
-    ghost use Rattle.chip_actor.specs.Setting.{setting_of};
+    ghost use Rattle.chip_actor.specs.Setting.{setting_with};
     ghost use Rattle.chip_world.specs.World.{WorldState, SomeLog};
 
     ghost Value = { WorldState };
 
     ghost view = { λ a. record {
-      setting = setting_of a.game a.ring;
+      setting = setting_with a.game a.ring a.fed;
       actors = a.actors.items;
       words = a.shared.words;
       root = a.root;
     } };
 
     ghost invariant = { λ a. SomeLog (record {
-      setting = setting_of a.game a.ring;
+      setting = setting_with a.game a.ring a.fed;
       actors = a.actors.items;
       words = a.shared.words;
       root = a.root;
@@ -54,9 +56,11 @@ impl World {
     ghost use Rattle.chip_link.specs.Link.{claims_of, sent_counts};
     ghost use Rattle.chip_core.specs.Messages.{in_flight};
     ghost use Rattle.std.specs.Vec.{vec_len, vec_capacity};
-    ghost use Rattle.chip_actor.specs.Setting.{setting_of, game_of_setting};
+    ghost use Rattle.chip_actor.specs.Setting.{setting_of, setting_with, game_of_setting};
     ghost use Rattle.chip_actor.specs.Edges.{graph_edges, all_edges};
-    ghost use Rattle.chip_world.specs.Makers.{head_if, tail_if, vertex_if, vertex_of, is_of_others};
+    ghost use Rattle.chip_world.specs.Makers.{head_if, tail_if, vertex_if, vertex_of, is_of_others, is_by_act};
+    ghost use Rattle.chip_actor.specs.Part.{opened};
+    ghost use Rattle.chip_actor.specs.Root.{RootStandsFor, is_of_root};
     ghost use Rattle.chip_actor.specs.Acting.{event_of};
     ghost use Rattle.chip_world.specs.World.{StandsForLog, SomeLog, WhateverLog, SomeLogWhere, IsDueFor, MakesStep};
     ghost use Rattle.chip_world.specs.World.{Steps};
@@ -66,12 +70,35 @@ impl World {
     pub fn open(alloc: Global, game: &Game, ring: Ring) -> Result<World, AllocError>
         ensures { IfOk result (StandsForLog (setting_of game.now ring) []) }
     {
+        let root = RootState::new(alloc, game)?;
+        World::with_root(alloc, game, ring, false, root)
+    }
+
+    /// The same where the root may feed more chips, until it notes the end of feeding.
+    pub fn open_fed(alloc: Global, game: &Game, ring: Ring) -> Result<World, AllocError>
+        ensures { IfOk result (StandsForLog (setting_with game.now ring true) []) }
+    {
+        let root = RootState::new_fed(alloc, game, ring)?;
+        World::with_root(alloc, game, ring, true, root)
+    }
+
+    // A game that opens with this root, fed or not.
+    fn with_root(
+        alloc: Global,
+        game: &Game,
+        ring: Ring,
+        fed: bool,
+        root: RootState,
+    ) -> Result<World, AllocError>
+        requires { let g = setting_with game.now ring fed in RootStandsFor g (opened g) root }
+        ensures { IfOk result (StandsForLog (setting_with game.now ring fed) []) }
+    {
         let actors = opening_actors(alloc, game, ring)?;
         let words = Words::new(alloc, game, ring)?;
-        let root = RootState::new(alloc, game)?;
         Ok(World {
             game: game.copy(alloc)?,
             ring,
+            fed,
             actors,
             shared: TurnWords { words, fired: 0 },
             root,
@@ -134,7 +161,7 @@ impl World {
                 self.tail(edge)
             }
             Event::Fire { vertex, .. } | Event::Halt(vertex) => self.vertex(vertex),
-            Event::Seal(_) | Event::Read(_) => None,
+            Event::Seal(_) | Event::Read(_) | Event::Feed { .. } | Event::End => None,
         }
     }
 
@@ -152,11 +179,12 @@ impl World {
     fn held(&self, edge: u64) -> u64
         ensures { WhateverLog self.now (λ g log. result ≡ sum (option_to_list (out_in g log edge).link.held)) }
     {
-        let Some(tail) = self.tail(edge) else {
-            return 0;
+        let put = Event::Put(edge);
+        let due = match self.tail(edge) {
+            Some(tail) => self.actors[tail as usize].may(&put),
+            None => self.root.may(&put),
         };
-        let actor = &self.actors[tail as usize];
-        match actor.may(&Event::Put(edge)) {
+        match due {
             Ok(act) => stored_by(act),
             Err(_) => 0,
         }
@@ -234,17 +262,19 @@ impl World {
         Reply::Done(EdgeWord::from_word(self.shared.words.seal(edge)).claims)
     }
 
-    // The root counts the acknowledgements of an edge behind the graph's.
-    fn settle(&mut self, edge: u64) -> Reply
-        requires { graph_edges self.old.setting ≤ edge }
-        ensures { Steps self.old self.new (Settle edge) result }
+    // An event of the root, but for a read.
+    fn of_root(&mut self, event: Event) -> Reply
+        requires root { is_of_root self.old.setting event ≡ true }
+        requires act { is_by_act event ≡ true }
+        ensures { Steps self.old self.new event result }
     {
-        let event = Event::Settle(edge);
-        if let Some(rule) = self.root.may(&event) {
-            return Reply::NotNow(rule);
+        match self.root.may(&event) {
+            Ok(act) => {
+                let seen = self.shared.words.perform(act, 0);
+                self.root.apply(&event, seen)
+            }
+            Err(rule) => Reply::NotNow(rule),
         }
-        let word = self.shared.words.acknowledged(edge);
-        self.root.apply(&event, word)
     }
 
     // The root reads how often this vertex fired.
@@ -252,7 +282,7 @@ impl World {
         ensures { Steps self.old self.new (Read vertex) result }
     {
         let event = Event::Read(vertex);
-        if let Some(rule) = self.root.may(&event) {
+        if let Err(rule) = self.root.may(&event) {
             return Reply::NotNow(rule);
         }
         let fired = fired_word(&self.actors[vertex as usize]);
@@ -268,16 +298,19 @@ impl World {
         match event {
             Event::Seal(edge) => self.seal(edge),
             Event::Read(vertex) => self.read(vertex),
-            Event::Settle(edge) if edge >= graph_edges => self.settle(edge),
+            Event::Feed { .. } | Event::End => self.of_root(event),
+            Event::Clear(edge) | Event::Put(edge) | Event::Settle(edge) if edge >= graph_edges => {
+                self.of_root(event)
+            }
             _ => self.act(event),
         }
     }
 
-    /// Whether as many messages are settled as were sent on each root edge.
+    /// Whether nothing more is fed, and as many messages are settled as were sent on each root edge.
     pub fn closed(&self) -> bool
         ensures { WhateverLog self.now (λ g log. IsTrue result ↔ IsClosed g log) }
     {
-        self.root.outstanding() == 0
+        self.root.closed()
     }
 
     /// How many messages were sent on this edge; root edges come after the graph's.
@@ -323,11 +356,11 @@ impl World {
     }
 }
 
-ghost use Rattle.chip_actor.specs.Setting.{setting_of, IsSetting};
+ghost use Rattle.chip_actor.specs.Setting.{setting_with, IsSetting};
 ghost use Rattle.chip_world.specs.World.{AreOpeningActors};
 ghost use Rattle.chip_actor.specs.Actor.{SomePart, WhateverPart};
 ghost use Rattle.chip_core.specs.Core.{word_of_part};
-ghost use Rattle.std.specs.Prelude.{⊤};
+ghost use Rattle.std.specs.Prelude.{⊤, Bool};
 
 /// The word that stands for the firings and the halt of a vertex.
 fn fired_word(actor: &ActorState) -> u64
@@ -345,9 +378,9 @@ fn fired_word(actor: &ActorState) -> u64
 
 /// An actor for each vertex.
 fn opening_actors(alloc: Global, game: &Game, ring: Ring) -> Result<Vec<ActorState>, AllocError>
-    ensures setting { IsSetting (setting_of game.now ring) }
-    ensures actors { let g = setting_of game.now ring in
-        IfOk result (λ actors. AreOpeningActors g g.graph.vertices actors.items) }
+    ensures setting { (fed : Bool) → IsSetting (setting_with game.now ring fed) }
+    ensures actors { IfOk result (λ actors. (fed : Bool) →
+        AreOpeningActors (setting_with game.now ring fed) game.now.graph.vertices actors.items) }
 {
     // With the cells read, the proof knows that the ring is in range.
     let _cells = ring.cells();

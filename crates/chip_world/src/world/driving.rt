@@ -1,6 +1,7 @@
 ghost use Rattle.std.specs.Prelude.{◌<◌};
 
 use super::{World, fired_word};
+use chip_link::Event;
 
 /// Where a drive ended.
 #[derive(Clone, Copy, Debug, PartialEq, Eq)]
@@ -43,7 +44,7 @@ impl World {
         let graph = self.game.graph();
         let graph_edges = graph.edges().len() as u64;
         for vertex in 0..graph.vertices() {
-            self.settle(graph_edges + vertex);
+            self.of_root(Event::Settle(graph_edges + vertex));
         }
     }
 

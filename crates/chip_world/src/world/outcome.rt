@@ -10,11 +10,10 @@ use std::alloc::{AllocError, Global};
 impl World {
     ghost use Rattle.chip_fire.specs.Outcomes.{IsOutcome};
     ghost use Rattle.chip_fire.specs.Play.{IsPlayed};
-    ghost use Rattle.chip_actor.specs.Setting.{game_of_setting};
     ghost use Rattle.chip_core.specs.Core.{IsClosed};
-    ghost use Rattle.chip_core.specs.Positions.{firings};
+    ghost use Rattle.chip_core.specs.Positions.{started, played_game, firings};
     ghost use Rattle.chip_core.specs.Headline.{NoneHaltedBySeal};
-    ghost use Rattle.chip_world.specs.World.{WhateverLog};
+    ghost use Rattle.chip_world.specs.World.{SomeLog, WhateverLog};
     ghost use Rattle.chip_core.specs.Outcomes.{halted_by, AreFired, IsOutcomeOf, ComesTo};
     ghost use Rattle.chip_world.specs.declared.fault.WorldFault.TheVariants.{NotClosed};
 
@@ -28,21 +27,38 @@ impl World {
         ensures closed { IfOk result (λ o. WhateverLog self.now (λ g log. IsClosed g log)) }
         ensures outcome { IfOk result (λ o. WhateverLog self.now (λ g log. IsOutcomeOf g log o)) }
         ensures in_range { IfOk result IsOutcome }
-        ensures comes { IfOk result (λ o. WhateverLog self.now (λ g log. ComesTo g (firings log) o)) }
+        ensures comes { IfOk result (λ o. WhateverLog self.now (λ g log. ComesTo g (started g log) (firings log) o)) }
         ensures played { IfOk result
-            (λ o. WhateverLog self.now (λ g log. NoneHaltedBySeal g log → IsPlayed (game_of_setting g) o)) }
+            (λ o. WhateverLog self.now (λ g log. NoneHaltedBySeal g log → IsPlayed (played_game g log) o)) }
     {
         if !self.closed() {
             return Err(WorldFault::NotClosed);
         }
         let fired = self.all_fired(alloc)?;
-        let chips = chips_after(alloc, self.game(), &fired)?;
+        let game = self.played_game(alloc)?;
+        let chips = chips_after(alloc, &game, &fired)?;
         Ok(Outcome {
             fired,
             chips,
             over: self.halted_by(alloc, Cause::FiringLimit)?,
             sealed: self.halted_by(alloc, Cause::SealedEdge)?,
         })
+    }
+
+    // The game with all that its vertices were given, at the start and by feeds.
+    fn played_game(&self, alloc: Global) -> Result<Game, AllocError>
+        ensures some { SomeLog self.now }
+        ensures game { IfOk result (λ game. WhateverLog self.now (λ g log. game ≡ played_game g log)) }
+    {
+        if !self.fed {
+            return self.game().copy(alloc);
+        }
+        let graph = self.game().graph().copy(alloc)?;
+        let start = Vec::from_slice(alloc, self.root.given())?;
+        match Game::new(graph, start, self.game().limit()) {
+            Ok(game) => Ok(game),
+            Err(_) => unreachable!(),
+        }
     }
 
     // How often each vertex fired.

@@ -42,6 +42,7 @@ impl Notes {
     {
         match (event, reply) {
             (Event::Claim(edge), Reply::Sent(message)) => self.sent.push(edge, message),
+            (Event::Feed { edge, .. }, Reply::Sent(message)) => self.sent.push(edge, message),
             (Event::Take(edge), Reply::Got(message)) => self.delivered.push(edge, message),
             _ => {}
         }
@@ -87,6 +88,7 @@ impl Tally {
         for event in events {
             match *event {
                 Event::Claim(edge) => count_one(&mut claims, edge),
+                Event::Feed { edge, .. } => count_one(&mut claims, edge),
                 Event::Take(edge) => count_one(&mut takes, edge),
                 _ => {}
             }

@@ -1,8 +1,7 @@
 use Rattle.std.proofs.Common.{◌≤◌, vec_capacity}
-use Rattle.chip_actor.specs.Setting.{setting_of}
 use Rattle.chip_world.specs.World.{AreOpeningWords}
 use Rattle.chip_world.proofs.words.Words.new.Given as goal
 
 abbrev pub invariant-loop-edge : goal.invariant-loop-edge
-invariant-loop-edge l = AreOpeningWords (setting_of l.game l.ring) l.edge l.edges.items
+invariant-loop-edge l = AreOpeningWords l.game l.ring l.edge l.edges.items
     × (l.all_edges ≤ vec_capacity l.edges)

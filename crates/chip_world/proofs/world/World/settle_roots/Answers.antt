@@ -20,10 +20,10 @@ loop-vertex-preserved c = λ g before stands.
     ap (λ (es : List Edge). length es) c.edges.ensures.value
     ∙ ap (λ (G : Multigraph). length G.edges) c.graph-graph.ensures.value
     ∙ ap (λ (h : Setting). length h.graph.edges) setting in
-    let made = c.settle.ensures g here.0 here.1 in
+    let made = c.of_root.ensures g here.0 here.1 in
     let more : suc v ≡ v + 1 = omega arith in (
       (step g here.0 (Settle (root_edge g v))).0,
-      subst (λ (n : ℕ). StandsForLog g (step g here.0 (Settle (n + v))).0 c.settle.new.self) edges made.0,
+      subst (λ (n : ℕ). StandsForLog g (step g here.0 (Settle (n + v))).0 c.of_root.new.self) edges made.0,
       subst (λ (n : ℕ). (step g here.0 (Settle (root_edge g v))).0 ≡ log_after g before (root_settles g n)) more
           (settles_more g before here.0 v here.2),
     )

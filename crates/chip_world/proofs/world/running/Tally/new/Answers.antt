@@ -3,7 +3,7 @@ use Rattle.chip_core.specs.Core.{Event, Take}
 use Rattle.chip_world.specs.Run.{is_claim_of, is_take_of, Counts}
 use Rattle.chip_world.proofs.RunLemmas.{counted, not_counted, no_claim, no_take}
 use Rattle.chip_world.proofs.world.running.Tally.new.Goals as goal
-use Rattle.chip_world.proofs.world.running.Tally.new.Goals.{in-Claim, in-Take, in_default}
+use Rattle.chip_world.proofs.world.running.Tally.new.Goals.{in-Claim, in-Feed, in-Take, in_default}
 
 pub loop-event-preserved : goal.loop-event-preserved
 loop-event-preserved c =
@@ -23,6 +23,20 @@ loop-event-preserved c =
             (not_counted is_take_of c.args.all_edges xs i (Take 0) c.loop-event.takes.items l takes
             (λ e. ap (is_take_of e) w.in-Claim.is)),
       )
+      | in-Feed w ↦ (
+        subst (λ (ns : List ℕ). Counts is_claim_of c.args.all_edges (take (i + 1) xs) ns)
+            (sym (ap (λ (v : Vec ℕ Global). v.items) w.claims-is))
+            (counted is_claim_of c.args.all_edges xs i
+            (Take 0) c.loop-event.claims.items w.count_one-in-Feed.new.counts.items l
+            claims w.count_one-in-Feed.ensures.0
+            (λ e m. w.count_one-in-Feed.ensures.1 e (subst (λ (n : ℕ). e < n) (sym claims.count_is) m)
+            ∙ ap (λ (x : Event). get_or c.loop-event.claims.items e 0 + cond (is_claim_of e x) 1 0)
+            (sym w.in-Feed.is))),
+        subst (λ (ns : List ℕ). Counts is_take_of c.args.all_edges (take (i + 1) xs) ns)
+            (sym (ap (λ (v : Vec ℕ Global). v.items) w.takes-is))
+            (not_counted is_take_of c.args.all_edges xs i (Take 0) c.loop-event.takes.items l takes
+            (λ e. ap (is_take_of e) w.in-Feed.is)),
+      )
       | in-Take w ↦ (
         subst (λ (ns : List ℕ). Counts is_claim_of c.args.all_edges (take (i + 1) xs) ns)
             (sym (ap (λ (v : Vec ℕ Global). v.items) w.claims-is))
@@ -41,7 +55,7 @@ loop-event-preserved c =
         subst (λ (ns : List ℕ). Counts is_claim_of c.args.all_edges (take (i + 1) xs) ns)
             (sym (ap (λ (v : Vec ℕ Global). v.items) w.claims-is))
             (not_counted is_claim_of c.args.all_edges xs i (Take 0) c.loop-event.claims.items l claims
-            (no_claim (get_or xs i (Take 0)) w.in_default.not-Claim)),
+            (no_claim (get_or xs i (Take 0)) w.in_default.not-Claim w.in_default.not-Feed)),
         subst (λ (ns : List ℕ). Counts is_take_of c.args.all_edges (take (i + 1) xs) ns)
             (sym (ap (λ (v : Vec ℕ Global). v.items) w.takes-is))
             (not_counted is_take_of c.args.all_edges xs i (Take 0) c.loop-event.takes.items l takes

@@ -1,0 +1,30 @@
+use Rattle.std.proofs.Common.{sym, subst, refl}
+use Rattle.chip_actor.specs.Setting.{Setting}
+use Rattle.chip_core.specs.Core.{Log, Read, step, part_in}
+use Rattle.chip_world.specs.World.{WorldState, StandsForLog, MakesStep}
+use Rattle.chip_world.specs.contracts.world.World.{the_view}
+use Rattle.chip_world.proofs.StepLemmas.{root_refuses, read_makes, read_stands}
+use Rattle.chip_world.proofs.world.World.read.Goals as goal
+
+pub returns-in-Err : goal.returns-in-Err
+returns-in-Err c = λ g log at.
+    let stands = subst (StandsForLog g log) (sym c.self.view_is) at in
+    let made = root_refuses g log (the_view c.self.inside) stands (Read c.args.vertex) refl c.in-Err.rule c.in-Err.ensures
+    in
+    (subst (StandsForLog g (step g log (Read c.args.vertex)).0) c.self.view_is made.0, made.1)
+
+made : (c : goal.After-apply) → (g : Setting) (log : Log) → StandsForLog g log (the_view c.self.inside)
+    → MakesStep g log (Read c.args.vertex) (record (the_view c.self.inside) { root = c.apply.new.self }) c.apply.result
+made c g log stands =
+    let w : WorldState = the_view c.self.inside in
+    let a = read_stands g log w stands c.args.vertex c.in_default.field-0 c.in_default.ensures c.index.result.now
+    c.index.ensures in
+    read_makes g log w stands c.args.vertex c.in_default.field-0 c.in_default.ensures c.fired_word-fired.result
+    (c.fired_word-fired.ensures g (part_in g log c.args.vertex) a) c.apply.new.self c.apply.result c.apply.ensures
+
+pub invariant_of-self : goal.invariant_of-self
+invariant_of-self c = let some = c.self.invariant in
+    (some.0, (step some.0 some.1 (Read c.args.vertex)).0, (made c some.0 some.1 some.2).0)
+
+pub returns : goal.returns
+returns c = λ g log at. made c g log (subst (StandsForLog g log) (sym c.self.view_is) at)

@@ -1,0 +1,98 @@
+//! Worlds that are fed while they run.
+
+use super::*;
+
+/// The triangle where chips may be fed, as it opens with rings of one cell.
+fn fed_triangle(alloc: Global, start: &[u64]) -> Result<World, Fail> {
+    let game = game_of(alloc, TRIANGLE, start, MOST)?;
+    Ok(World::open_fed(alloc, &game, Ring::one())?)
+}
+
+/// Three chips for vertex 0, whose edge is then full.
+const THREE_CHIPS: [(Event, Reply); 4] = [
+    (Event::Clear(4), Reply::Done(0)),
+    (feed!(4, 3), sent!(4, 0, 3)),
+    (Event::Put(4), Reply::Done(3)),
+    (Event::Clear(4), Reply::Full),
+];
+
+/// One chip more, and the end.
+const THE_LAST_CHIP: [(Event, Reply); 5] = [
+    (Event::Clear(4), Reply::Done(1)),
+    (feed!(4, 1), sent!(4, 1, 1)),
+    (Event::Put(4), Reply::Done(1)),
+    (Event::End, Reply::Done(0)),
+    (Event::Clear(4), Reply::NotNow(Rule::Ended)),
+];
+
+#[test]
+fn fed_twice(rt: HostRuntime) -> Result<(), Fail> {
+    let mut world = fed_triangle(rt.alloc(), &[0, 0, 0])?;
+    let first = message!(4, 0, 3);
+    let record = recorded(&rt, &mut world, &THREE_CHIPS)?;
+    expect_lists(&rt, &record.sent, &[&[], &[], &[], &[], &[first], &[], &[]]);
+    assert_eq!(rt; world.drive(10), Drive::Unfinished(10));
+    assert!(rt; fired(&world, &[1, 0, 0]));
+    is_open(&rt, &world);
+    expect(&rt, &mut world, &THE_LAST_CHIP)?;
+    assert_eq!(rt; world.drive(10), Drive::Closed);
+    ends(&rt, &world, &[2, 1, 0], &[1, 0, 3], &[], &[])
+}
+
+#[test]
+fn fed_past_the_total(rt: HostRuntime) -> Result<(), Fail> {
+    let mut world = fed_triangle(rt.alloc(), &[0, 0, 1 << 40])?;
+    let steps = [
+        (Event::Clear(4), Reply::Done(0)),
+        (feed!(4, 1), Reply::NotNow(Rule::TooMuch)),
+        (feed!(4, u64::MAX), Reply::NotNow(Rule::TooMuch)),
+    ];
+    expect(&rt, &mut world, &steps)
+}
+
+/// Each rule of the root, where it isn't met.
+#[test]
+fn fed_out_of_turn(rt: HostRuntime) -> Result<(), Fail> {
+    let mut world = fed_triangle(rt.alloc(), &[1, 0, 0])?;
+    let steps = [
+        (Event::Clear(7), Reply::NotNow(Rule::NoSuch)),
+        (Event::Put(7), Reply::NotNow(Rule::NoSuch)),
+        (feed!(7, 1), Reply::NotNow(Rule::NoSuch)),
+        (feed!(3, 1), Reply::NotNow(Rule::NoSuch)),
+        (Event::Claim(5), Reply::NotNow(Rule::NoSuch)),
+        (Event::Seal(5), Reply::NotNow(Rule::NoSuch)),
+        (feed!(5, 2), Reply::NotNow(Rule::NotCleared)),
+        (feed!(5, 0), Reply::NotNow(Rule::Zero)),
+        (Event::Put(5), Reply::NotNow(Rule::NotClaimed)),
+        (Event::Clear(4), Reply::Full),
+        (Event::Clear(5), Reply::Done(0)),
+        (feed!(5, 2), sent!(5, 0, 2)),
+        (Event::Clear(5), Reply::NotNow(Rule::Unput)),
+        (feed!(5, 2), Reply::NotNow(Rule::NotCleared)),
+        (Event::Read(0), Reply::NotNow(Rule::NotClosed)),
+        (Event::End, Reply::Done(0)),
+        (Event::Read(0), Reply::NotNow(Rule::NotClosed)),
+        (feed!(5, 2), Reply::NotNow(Rule::Ended)),
+        (Event::Put(5), Reply::Done(2)),
+        (Event::Take(5), got!(5, 0, 2)),
+    ];
+    expect(&rt, &mut world, &steps)?;
+    assert_eq!(rt; world.drive(10), Drive::Closed);
+    ends(&rt, &world, &[1, 1, 0], &[0, 1, 2], &[], &[])
+}
+
+/// A world that isn't fed has no looks, puts and feeds of the root, and its end is noted from the beginning.
+#[test]
+fn unfed(rt: HostRuntime) -> Result<(), Fail> {
+    let steps = [
+        (Event::Clear(4), Reply::NotNow(Rule::NoSuch)),
+        (Event::Put(4), Reply::NotNow(Rule::NoSuch)),
+        (feed!(4, 1), Reply::NotNow(Rule::Ended)),
+        (feed!(7, 1), Reply::NotNow(Rule::NoSuch)),
+        (Event::End, Reply::Done(0)),
+    ];
+    let mut world = triangle(rt.alloc(), &[4, 0, 0], MOST)?;
+    expect(&rt, &mut world, &steps)?;
+    assert_eq!(rt; world.drive(10), Drive::Closed);
+    ends(&rt, &world, &[2, 1, 0], &[1, 0, 3], &[], &[])
+}

@@ -1,7 +1,7 @@
 #!/usr/bin/env python3
 """Runs a schedule on the detector the plain way, to say what `chipfire simulate` must answer.
 
-    examples/simulate.py GRAPH CHIPS SCHEDULE [--limit F] [--ring R] [--rounds N] [--books]
+    examples/simulate.py GRAPH CHIPS SCHEDULE [--limit F] [--ring R] [--rounds N] [--books] [--fed]
 
 It shares nothing with chipfire: every message stands in a list of its edge for good, and what was put, delivered,
 acknowledged and settled are numbers beside it. It expects files that are right, and checks nothing.
@@ -13,7 +13,7 @@ import json
 RULES = {
     "NoSuch": 1, "Sink": 2, "Halted": 3, "Pending": 4, "Zero": 5, "Limit": 6, "NotLegal": 7, "NothingPending": 8,
     "Refused": 9, "Unput": 10, "NotCleared": 11, "NotClaimed": 12, "NoCause": 13, "NothingOwed": 14, "Engaged": 15,
-    "NotClosed": 16,
+    "NotClosed": 16, "Ended": 17, "TooMuch": 18,
 }
 
 
@@ -32,8 +32,9 @@ class Vertex:
 
 
 class Core:
-    def __init__(self, graph, chips, limit, ring):
+    def __init__(self, graph, chips, limit, ring, fed=False):
         self.sink, self.limit, self.ring = graph["sink"], limit, ring
+        self.fed, self.ended = fed, not fed
         self.vertices = [Vertex() for _ in range(graph["vertices"])]
         self.edges = [Edge(*row) for row in graph["edges"]]
         self.graph_edges = len(self.edges)
@@ -76,7 +77,7 @@ class Core:
         return max(owed - 1, 0)
 
     def is_closed(self):
-        return all(e.settled == len(e.sent) for e in self.edges[self.graph_edges :])
+        return self.ended and all(e.settled == len(e.sent) for e in self.edges[self.graph_edges :])
 
     def cause(self, v):
         if any(e.refused for e in self.outs(v)):
@@ -91,6 +92,10 @@ class Core:
                 return f"not-now {RULES[name]}"
         return None
 
+    def sendable_edges(self):
+        """How many edges a tail may look at and put on: the root's only where chips are fed."""
+        return len(self.edges) if self.fed else self.graph_edges
+
     def of_edge(self, at, bound):
         return ("NoSuch", lambda: at < bound)
 
@@ -99,7 +104,7 @@ class Core:
 
     def step(self, event, at, count=0):
         """The reply to one event, as a line."""
-        return getattr(self, event)(at, count) if event == "fire" else getattr(self, event)(at)
+        return getattr(self, event)(at, count) if event in ("fire", "feed") else getattr(self, event)(at)
 
     def take(self, at):
         if unmet := self.first_unmet(self.of_edge(at, len(self.edges))):
@@ -150,11 +155,17 @@ class Core:
         return f"done {vertex().fired}"
 
     def clear(self, at):
-        unmet = self.first_unmet(
-            self.of_edge(at, self.graph_edges),
+        of_graph = [
             self.running(at, True),
             ("Refused", lambda: not self.edges[at].refused),
             ("NothingPending", lambda: self.edges[at].pending > 0),
+        ]
+        of_root = [
+            ("Ended", lambda: not self.ended),
+            ("Unput", lambda: self.edges[at].put == len(self.edges[at].sent)),
+        ]
+        unmet = self.first_unmet(
+            self.of_edge(at, self.sendable_edges()), *(of_graph if at < self.graph_edges else of_root)
         )
         if unmet:
             return unmet
@@ -179,7 +190,8 @@ class Core:
 
     def put(self, at):
         unmet = self.first_unmet(
-            self.of_edge(at, self.graph_edges), ("NotClaimed", lambda: self.edges[at].put < len(self.edges[at].sent))
+            self.of_edge(at, self.sendable_edges()),
+            ("NotClaimed", lambda: self.edges[at].put < len(self.edges[at].sent)),
         )
         if unmet:
             return unmet
@@ -215,6 +227,25 @@ class Core:
     def read(self, at):
         unmet = self.first_unmet(self.of_edge(at, len(self.vertices)), ("NotClosed", self.is_closed))
         return unmet or f"done {self.vertices[at].fired}"
+
+    def feed(self, at, count):
+        unmet = self.first_unmet(
+            ("NoSuch", lambda: self.graph_edges <= at < len(self.edges)),
+            ("Ended", lambda: not self.ended),
+            ("Zero", lambda: count >= 1),
+            ("TooMuch", lambda: sum(sum(e.sent) for e in self.edges[self.graph_edges :]) + count <= 2**40),
+            ("NotCleared", lambda: self.edges[at].clear),
+        )
+        if unmet:
+            return unmet
+        e = self.edges[at]
+        e.clear = False
+        e.sent.append(count)
+        return f"sent {len(e.sent) - 1} {count}"
+
+    def end(self, _at):
+        self.ended = True
+        return self.settle(self.graph_edges)
 
     def turn(self, v):
         """One turn of a vertex, as docs/CORE.md tells it."""
@@ -296,13 +327,14 @@ def main():
     words.add_argument("--ring", type=int, default=1)
     words.add_argument("--rounds", type=int, default=0)
     words.add_argument("--books", action="store_true", help="what stands in the books behind each reply")
+    words.add_argument("--fed", action="store_true", help="the root may feed chips until the end is noted")
     words = words.parse_args()
     with open(words.graph, encoding="utf-8") as file:
         graph = json.load(file)
     chips = [0] * graph["vertices"]
     for row in rows(words.chips):
         chips[int(row["vertex"])] = int(row["chips"])
-    core = Core(graph, chips, words.limit, words.ring)
+    core = Core(graph, chips, words.limit, words.ring, words.fed)
     for row in rows(words.schedule):
         print(core.step(row["event"], int(row["at"]), int(row["count"])))
         if words.books:

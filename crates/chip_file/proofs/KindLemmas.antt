@@ -68,4 +68,4 @@ trace_kinds_text = (refl, (refl, tt))
 
 pub event_kinds_text : AreText event_kinds
 unfolding is_utf8 chars encode
-event_kinds_text = (refl, (refl, (refl, (refl, (refl, (refl, (refl, (refl, (refl, (refl, tt))))))))))
+event_kinds_text = (refl, (refl, (refl, (refl, (refl, (refl, (refl, (refl, (refl, (refl, (refl, (refl, tt))))))))))))

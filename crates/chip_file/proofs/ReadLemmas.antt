@@ -11,7 +11,7 @@ use Rattle.chip_file.specs.Answer.{Gives, FailsInTime}
 use Rattle.chip_file.specs.Rows.{Row, records_of, has_header, rows_under_header, first_row_fault, records_fault}
 use Rattle.chip_file.specs.Rows.{by_index}
 use Rattle.chip_file.specs.ChipsText.{chips_text_fault, chips_row_fault, chips_of_rows, chips_named, vertex_in}
-use Rattle.chip_file.specs.ScheduleText.{schedule_text_fault, event_fault, event_kinds, sites_for}
+use Rattle.chip_file.specs.ScheduleText.{schedule_text_fault, event_fault, event_kinds, may_be_at}
 use Rattle.chip_file.specs.ScheduleText as schedule
 use Rattle.chip_file.specs.Kinds.{kind_at}
 use Rattle.chip_file.specs.Numbers.{number_at, number_in}
@@ -84,7 +84,7 @@ schedule_of_text_alone G text =
     records_of_text _ (by_index (event_fault G)) (records_of text) (λ before row.
     four_of_text (length row == 3) (is_some (kind_at event_kinds 0 row)) (is_some (number_at 1 row)
     && is_some (number_at 2 row))
-    (nat_lt (number_in 1 row) (sites_for G (schedule.kind_in row)))
+    (may_be_at G (schedule.kind_in row) (number_in 1 row))
     (fault.Row (length before)) (fault.Kind (length before)) (fault.Number (length before))
     (fault.Vertex (length before))
     refl refl refl refl)

@@ -24,24 +24,22 @@ event_kinds =
     (codes "take", kind.Take) ∷ (codes "ack", kind.Ack) ∷ (codes "fire", kind.Fire) ∷ (codes "clear", kind.Clear)
     ∷ (codes "claim", kind.Claim)
     ∷ (codes "put", kind.Put) ∷ (codes "halt", kind.Halt) ∷ (codes "settle", kind.Settle) ∷ (codes "seal", kind.Seal)
-    ∷ (codes "read", kind.Read) ∷ []
+    ∷ (codes "read", kind.Read) ∷ (codes "feed", kind.Feed) ∷ (codes "end", kind.End) ∷ []
 
 -- the kind of a row's event
 abbrev pub kind_in : Row → EventKind
 kind_in row = unwrap_or (kind_at event_kinds 0 row) kind.Take
 
--- whether an event of this kind is at a vertex; else it is at an edge
-abbrev pub is_at_vertex : EventKind → Bool
-is_at_vertex kind.Fire = true
-is_at_vertex kind.Halt = true
-is_at_vertex kind.Read = true
-is_at_vertex _ = false
+-- whether an event of this kind may be at this number: the number of a vertex, or of an edge, the root's among them; of
+-- the end of feeding it isn't looked at
+abbrev pub may_be_at : Multigraph → EventKind → ℕ → Bool
+may_be_at G kind.Fire at = nat_lt at G.vertices
+may_be_at G kind.Halt at = nat_lt at G.vertices
+may_be_at G kind.Read at = nat_lt at G.vertices
+may_be_at G kind.End at = true
+may_be_at G _ at = nat_lt at (all_edges G)
 
--- how many sites there are for an event of this kind: the vertices, or all edges
-abbrev pub sites_for : Multigraph → EventKind → ℕ
-sites_for G k = if is_at_vertex k then G.vertices else all_edges G
-
--- the event of this kind at a vertex or an edge; only a firing has a count
+-- the event of this kind at a vertex or an edge; only a firing and a feed have a count
 abbrev pub event_of_kind : EventKind → ℕ → ℕ → Event
 event_of_kind kind.Take at count = event.Take at
 event_of_kind kind.Ack at count = event.Ack at
@@ -53,6 +51,8 @@ event_of_kind kind.Halt at count = event.Halt at
 event_of_kind kind.Settle at count = event.Settle at
 event_of_kind kind.Seal at count = event.Seal at
 event_of_kind kind.Read at count = event.Read at
+event_of_kind kind.Feed at count = event.Feed at count
+event_of_kind kind.End at count = event.End
 
 -- the event of a row
 abbrev pub event_in : Row → Event
@@ -64,7 +64,7 @@ event_fault G index row =
     first_of_faults (unless (length row == 3) (fault.Row index))
     (first_of_faults (unless (is_some (kind_at event_kinds 0 row)) (fault.Kind index))
     (first_of_faults (unless (is_some (number_at 1 row) && is_some (number_at 2 row)) (fault.Number index))
-    (unless (nat_lt (number_in 1 row) (sites_for G (kind_in row))) (fault.Vertex index))))
+    (unless (may_be_at G (kind_in row) (number_in 1 row)) (fault.Vertex index))))
 
 -- the first thing wrong with a text of a schedule for a graph
 abbrev pub schedule_text_fault : Multigraph → List ℕ → Option FileFault

@@ -68,6 +68,18 @@ fn reads_every_kind_of_event(rt: HostRuntime) -> Result<(), Fail> {
         ("event,at,count\nsettle,6,\"0", Some(Event::Settle(6))),
         ("event,at,count\nseal,5,0\n", Some(Event::Seal(5))),
         ("event,at,count\nread,2,0\n", Some(Event::Read(2))),
+        (
+            "event,at,count\nfeed,6,1099511627777\n",
+            Some(Event::Feed {
+                edge: 6,
+                count: 1_099_511_627_777,
+            }),
+        ),
+        ("event,at,count\nend,7,5\n", Some(Event::End)),
+        (
+            "event,at,count\nend,18446744073709551615,0\n",
+            Some(Event::End),
+        ),
         ("event,at,count\n", None),
     ] {
         let events = read_schedule(rt.alloc(), &mut text.as_bytes(), &graph)?;
@@ -77,7 +89,7 @@ fn reads_every_kind_of_event(rt: HostRuntime) -> Result<(), Fail> {
 }
 
 /// Schedules of the triangle that mean none, each with the first thing wrong with it.
-const WRONG_SCHEDULES: [(&str, FileFault); 21] = [
+const WRONG_SCHEDULES: [(&str, FileFault); 23] = [
     ("", FileFault::Header),
     ("take,0,0\n", FileFault::Header),
     ("event,at\n", FileFault::Header),
@@ -101,6 +113,8 @@ const WRONG_SCHEDULES: [(&str, FileFault); 21] = [
     ("event,at,count\nfire,3,1\n", FileFault::Vertex(0)),
     ("event,at,count\nhalt,3,0\n", FileFault::Vertex(0)),
     ("event,at,count\nread,3,0\n", FileFault::Vertex(0)),
+    ("event,at,count\nfeed,7,1\n", FileFault::Vertex(0)),
+    ("event,at,count\nend,0,x\n", FileFault::Number(0)),
     ("event,at,count\nput,7,0\nspin,0,0\n", FileFault::Vertex(0)),
 ];
 

@@ -4,7 +4,7 @@ ghost use Rattle.std.specs.Prelude.{◌≡◌, ◌≤◌, length, map, Some, Non
 ghost use Rattle.csv.specs.Records.{fields_of};
 ghost use Rattle.chip_file.specs.Answer.{Answers, FailsInTime, Gives, max_bytes};
 ghost use Rattle.chip_file.specs.Kinds.{kind_named, kind_at};
-ghost use Rattle.chip_file.specs.ScheduleText.{event_kinds, is_at_vertex, sites_for, event_of_kind, event_in};
+ghost use Rattle.chip_file.specs.ScheduleText.{event_kinds, may_be_at, event_of_kind, event_in};
 ghost use Rattle.chip_file.specs.ScheduleText.{event_fault, schedule_text_fault, schedule_of_text};
 
 use crate::fault::FileFault;
@@ -33,6 +33,8 @@ enum EventKind {
     Settle,
     Seal,
     Read,
+    Feed,
+    End,
 }
 
 impl EventKind {
@@ -51,6 +53,8 @@ impl EventKind {
             "settle" => Some(EventKind::Settle),
             "seal" => Some(EventKind::Seal),
             "read" => Some(EventKind::Read),
+            "feed" => Some(EventKind::Feed),
+            "end" => Some(EventKind::End),
             _ => None,
         }
     }
@@ -62,25 +66,18 @@ impl EventKind {
         EventKind::named(rows::text_at(row, column)?)
     }
 
-    /// Whether an event of this kind is at a vertex; else it is at an edge.
-    fn is_at_vertex(self) -> bool
-        ensures { result ≡ is_at_vertex self }
+    /// Whether an event of this kind may be at this number: a vertex, an edge, or any number for the end of feeding.
+    fn may_be_at(self, graph: &Graph, at: u64) -> bool
+        ensures { result ≡ may_be_at graph.now self at }
     {
-        matches!(self, EventKind::Fire | EventKind::Halt | EventKind::Read)
-    }
-
-    /// How many sites a graph has for events of this kind: its vertices, or all edges.
-    fn sites(self, graph: &Graph) -> u64
-        ensures { result ≡ sites_for graph.now self }
-    {
-        if self.is_at_vertex() {
-            graph.vertices()
-        } else {
-            graph.all_edges()
+        match self {
+            EventKind::Fire | EventKind::Halt | EventKind::Read => at < graph.vertices(),
+            EventKind::End => true,
+            _ => at < graph.all_edges(),
         }
     }
 
-    /// The event of this kind at a vertex or an edge; only a firing has a count.
+    /// The event of this kind at a vertex or an edge; only a firing and a feed have a count.
     fn event(self, at: u64, count: u64) -> Event
         ensures { result ≡ event_of_kind self at count }
     {
@@ -98,6 +95,8 @@ impl EventKind {
             EventKind::Settle => Event::Settle(at),
             EventKind::Seal => Event::Seal(at),
             EventKind::Read => Event::Read(at),
+            EventKind::Feed => Event::Feed { edge: at, count },
+            EventKind::End => Event::End,
         }
     }
 }
@@ -147,7 +146,7 @@ fn event_of(graph: &Graph, row: &ByteRecord, index: u64) -> Result<Event, FileFa
     let kind = EventKind::at(row, 0).ok_or(FileFault::Kind(index))?;
     let at = number_at(row, 1).ok_or(FileFault::Number(index))?;
     let count = number_at(row, 2).ok_or(FileFault::Number(index))?;
-    if at >= kind.sites(graph) {
+    if !kind.may_be_at(graph, at) {
         return Err(FileFault::Vertex(index));
     }
     Ok(kind.event(at, count))

@@ -1,0 +1,554 @@
+//! The table of faults: the number and the name of each, what it means, and what to do.
+
+/// What the numbers behind a fault's name are.
+#[derive(Clone, Copy, Debug, PartialEq, Eq)]
+pub enum Place {
+    /// There is none.
+    Nowhere,
+    /// The number of an edge of the graph.
+    Edge,
+    /// The number of a vertex.
+    Vertex,
+    /// A row of a file of rows, from 0 below the header.
+    Row,
+    /// A vertex, and a row among its own in a trace, from 0.
+    TraceRow,
+    /// An argument behind the command, from 1.
+    Argument,
+    /// How many bytes went out.
+    Bytes,
+    /// How many messages of the root are not acknowledged.
+    Messages,
+}
+
+impl Place {
+    /// What stands for the numbers behind the name, each after a space.
+    pub fn letters(self) -> &'static str {
+        match self {
+            Place::Nowhere => "",
+            Place::Edge | Place::Row => " i",
+            Place::Vertex => " v",
+            Place::TraceRow => " v i",
+            Place::Argument => " n",
+            Place::Bytes | Place::Messages => " n",
+        }
+    }
+
+    /// How to read the numbers, as lines.
+    pub fn reading(self) -> &'static str {
+        match self {
+            Place::Nowhere => "",
+            Place::Edge => {
+                "\
+i is an edge: the row of \"edges\" that has i rows before it. The first one is edge 0.
+"
+            }
+            Place::Vertex => {
+                "\
+v is a vertex: a number from 0 on.
+"
+            }
+            Place::Row => {
+                "\
+i is a row below the header, and the first one is row 0. So it is line i + 2 of the
+file, where lines that are empty are not counted.
+"
+            }
+            Place::TraceRow => {
+                "\
+v is a vertex, and i one of its rows: the one that has i rows of v before it in the
+file, rows of other vertices left out.
+"
+            }
+            Place::Argument => {
+                "\
+n is the argument that names the file: of the arguments behind the command the first
+one is 1, and options and their values count.
+"
+            }
+            Place::Bytes => {
+                "\
+n is how many bytes went out before.
+"
+            }
+            Place::Messages => {
+                "\
+n is how many messages of the root were not acknowledged yet.
+"
+            }
+        }
+    }
+}
+
+/// A row of the table.
+#[derive(Clone, Copy, Debug)]
+pub struct Explanation {
+    pub number: u64,
+    pub name: &'static str,
+    /// What the numbers behind the name are.
+    pub place: Place,
+    /// What is wrong, on one line.
+    pub meaning: &'static str,
+    /// What was expected and what to do, as lines.
+    pub advice: &'static str,
+}
+
+pub const VERTICES: Explanation = Explanation {
+    number: 1,
+    name: "Vertices",
+    place: Place::Nowhere,
+    meaning: "the graph has no vertices, or more than 4096",
+    advice: "\
+\"vertices\" of the graph file says how many there are, 1 to 4096; they are the numbers
+from 0 on.
+",
+};
+
+pub const SINK: Explanation = Explanation {
+    number: 2,
+    name: "Sink",
+    place: Place::Nowhere,
+    meaning: "the sink is no vertex",
+    advice: "\
+\"sink\" of the graph file names the vertex that never fires: a number from 0 to one less
+than \"vertices\".
+",
+};
+
+pub const EDGE_COUNT: Explanation = Explanation {
+    number: 3,
+    name: "EdgeCount",
+    place: Place::Nowhere,
+    meaning: "the graph has more than 65536 edges",
+    advice: "\
+Rows that join the same two vertices can be one row, whose third number is the sum of
+theirs: the same game is played on it.
+",
+};
+
+pub const ENDPOINT: Explanation = Explanation {
+    number: 4,
+    name: "Endpoint",
+    place: Place::Edge,
+    meaning: "an end of edge i is no vertex",
+    advice: "\
+A row is [tail, head, mult]; tail and head are numbers from 0 to one less than
+\"vertices\". A graph whose vertices are counted from 1 is refused so at its last one.
+",
+};
+
+pub const MULT: Explanation = Explanation {
+    number: 5,
+    name: "Mult",
+    place: Place::Edge,
+    meaning: "edge i sends no chips, or more than 1048576",
+    advice: "\
+A row is [tail, head, mult]; mult says how many chips each firing of the tail sends to the
+head, 1 to 1048576. Leave out an edge that sends none.
+",
+};
+
+pub const LOOP: Explanation = Explanation {
+    number: 6,
+    name: "Loop",
+    place: Place::Edge,
+    meaning: "edge i goes back into its own tail",
+    advice: "\
+A row is [tail, head, mult], and tail and head are two vertices. Games with loops are not
+played here.
+",
+};
+
+pub const FROM_SINK: Explanation = Explanation {
+    number: 7,
+    name: "FromSink",
+    place: Place::Edge,
+    meaning: "edge i leaves the sink",
+    advice: "\
+The sink never fires, so such an edge would send nothing: leave it out. A graph without
+directions has an edge each way between two vertices, but none out of its sink.
+",
+};
+
+pub const UNREACHED: Explanation = Explanation {
+    number: 8,
+    name: "Unreached",
+    place: Place::Vertex,
+    meaning: "no walk leads from vertex v to the sink",
+    advice: "\
+It is the least such vertex. Chips that come there could not leave, and a play might
+never end. Every vertex needs a walk along edges, from tail to head, that ends at the
+sink: add an edge, or leave the vertex out.
+",
+};
+
+pub const START_LENGTH: Explanation = Explanation {
+    number: 9,
+    name: "StartLength",
+    place: Place::Nowhere,
+    meaning: "the chips are not one number for each vertex",
+    advice: "\
+Only callers of the library chip_graph meet this. The program reads its chips from rows
+that name their vertices.
+",
+};
+
+pub const TOTAL: Explanation = Explanation {
+    number: 10,
+    name: "Total",
+    place: Place::Nowhere,
+    meaning: "there are more than 1099511627776 chips in all",
+    advice: "\
+That is 2^40. The chips of all vertices together count, those on the sink among them.
+",
+};
+
+pub const LIMIT: Explanation = Explanation {
+    number: 11,
+    name: "Limit",
+    place: Place::Nowhere,
+    meaning: "the firing limit is above 1099511627776",
+    advice: "\
+That is 2^40. Only callers of the libraries meet this: on the command line such a limit
+is fault 91.
+",
+};
+
+pub const NOT_JSON: Explanation = Explanation {
+    number: 20,
+    name: "NotJson",
+    place: Place::Nowhere,
+    meaning: "the graph file is no JSON",
+    advice: "\
+Its bytes are no UTF-8, or the whole of them is no JSON value: it is empty or was cut off,
+a comma or a bracket is missing, something stands behind the value, it begins with a
+byte-order mark. `python3 -m json.tool FILE` tells where. A chips file in place of the
+graph is refused so too: the graph comes first.
+",
+};
+
+pub const SHAPE: Explanation = Explanation {
+    number: 21,
+    name: "Shape",
+    place: Place::Nowhere,
+    meaning: "the JSON is no graph",
+    advice: "\
+A graph file is one object with exactly these four members, in any order:
+    {\"edges\":[[0,1,1]],\"sink\":1,\"version\":1,\"vertices\":2}
+Look for four mistakes: a member is missing or its name is spelt otherwise; there is a
+fifth one; a row of \"edges\" has not three values; a value is no whole number as JSON
+writes one, but has a sign, a point, an exponent or quotes (-1, 1.0, 1e3, \"2\").
+",
+};
+
+pub const VERSION: Explanation = Explanation {
+    number: 22,
+    name: "Version",
+    place: Place::Nowhere,
+    meaning: "the version of the graph file is not 1",
+    advice: "\
+1 is the only version of graph files: write \"version\":1.
+",
+};
+
+pub const HEADER: Explanation = Explanation {
+    number: 23,
+    name: "Header",
+    place: Place::Nowhere,
+    meaning: "a file of rows does not begin with its header",
+    advice: "\
+The first line of each file is, without spaces,
+    vertex,chips               of a chips file
+    event,at,count             of a schedule
+    vertex,kind,edge,count     of a trace
+An empty file has none. Files in another order are refused so too: `--help` behind the
+command tells the order.
+",
+};
+
+pub const ROW: Explanation = Explanation {
+    number: 24,
+    name: "Row",
+    place: Place::Row,
+    meaning: "row i has not as many fields as the header",
+    advice: "\
+A row of a chips file has two fields, one of a schedule three, one of a trace four, with
+commas between them and none at the end.
+",
+};
+
+pub const NUMBER: Explanation = Explanation {
+    number: 25,
+    name: "Number",
+    place: Place::Row,
+    meaning: "a field of row i is no number",
+    advice: "\
+A number is 1 to 20 digits, of a value up to 18446744073709551615. There is no sign, no
+space, no point and no exponent; in a schedule and a trace also a number that nobody
+looks at has to be one, as the count of a take.
+",
+};
+
+pub const VERTEX: Explanation = Explanation {
+    number: 26,
+    name: "Vertex",
+    place: Place::Row,
+    meaning: "row i names a vertex or an edge that is not there",
+    advice: "\
+Vertices are the numbers from 0 to one less than \"vertices\" of the graph file. Edges, in
+a schedule and a trace, are those of the graph from 0 on, and behind them one root edge
+for each vertex: with m edges, m + v brings vertex v its first chips.
+",
+};
+
+pub const REPEATED: Explanation = Explanation {
+    number: 27,
+    name: "Repeated",
+    place: Place::Row,
+    meaning: "row i names a vertex that an earlier row named",
+    advice: "\
+A chips file has one row for a vertex: add the chips of its rows up. A vertex that no row
+names has none.
+",
+};
+
+pub const KIND: Explanation = Explanation {
+    number: 28,
+    name: "Kind",
+    place: Place::Row,
+    meaning: "row i is of no kind that there is",
+    advice: "\
+In a schedule the first field is take, ack, fire, clear, claim, put, halt, settle, seal or
+read; in a trace the second is take or fire. Small letters, and no spaces.
+",
+};
+
+pub const READ: Explanation = Explanation {
+    number: 29,
+    name: "Read",
+    place: Place::Nowhere,
+    meaning: "a file could be opened and not read",
+    advice: "\
+That is so of a folder. Else the system refused a read: try again, or copy the file.
+",
+};
+
+pub const TOO_LONG: Explanation = Explanation {
+    number: 30,
+    name: "TooLong",
+    place: Place::Nowhere,
+    meaning: "a file has more than 16777216 bytes",
+    advice: "\
+That is 16 MiB, for each file. A graph of the greatest size is well below it if it is
+written without spaces.
+",
+};
+
+pub const NOT_CLOSED: Explanation = Explanation {
+    number: 42,
+    name: "NotClosed",
+    place: Place::Nowhere,
+    meaning: "the root is not closed, so there is no outcome",
+    advice: "\
+Only callers of the library chip_world meet this. `simulate` says `root open` instead.
+",
+};
+
+pub const NOT_REPORT: Explanation = Explanation {
+    number: 50,
+    name: "NotReport",
+    place: Place::Nowhere,
+    meaning: "the file is no report",
+    advice: "\
+A report is read only as chipfire writes it, to the byte and with the newline at its end:
+no space, no other order, no number changed so that the rest does not fit. Keep what a
+command wrote in a file, and name that file. Of what `simulate` writes the last line
+alone is the report.
+",
+};
+
+pub const PRIOR: Explanation = Explanation {
+    number: 51,
+    name: "Prior",
+    place: Place::Vertex,
+    meaning: "vertex v fired more than 1152921504606846976 times in all sittings",
+    advice: "\
+That is 2^60, the most that a report counts. Begin anew: a chips file with the report's
+chips is the same position.
+",
+};
+
+pub const MISMATCH: Explanation = Explanation {
+    number: 52,
+    name: "Mismatch",
+    place: Place::Nowhere,
+    meaning: "the report has another number of vertices than the graph",
+    advice: "\
+A report belongs to the graph on which it was played. It does not tell which one that is,
+so name the graph file that the earlier command had.
+",
+};
+
+pub const PLAN: Explanation = Explanation {
+    number: 60,
+    name: "Plan",
+    place: Place::Nowhere,
+    meaning: "a number of the plan for the threads is out of its range",
+    advice: "\
+A plan has 1 to 64 workers, rings of 1 to 64 cells, 1 to 2^40 turns of each worker, up to
+2^20 trace rows of each vertex, and seals an edge of the graph if any. `chipfire run`
+tests its options itself, so this comes from programs that call the engine.
+",
+};
+
+pub const UNFINISHED: Explanation = Explanation {
+    number: 61,
+    name: "Unfinished",
+    place: Place::Messages,
+    meaning: "the threads made all their turns before the game was over",
+    advice: "\
+Nothing is wrong with the game, but its end was not reached, so no report was written.
+Allow more turns by `--turns`, or leave the option away.
+",
+};
+
+pub const GATE_SHUT: Explanation = Explanation {
+    number: 62,
+    name: "GateShut",
+    place: Place::Nowhere,
+    meaning: "a worker was not let into its next turn",
+    advice: "\
+The gate that a program hands to the crew answered false. That of `chipfire run` never
+does.
+",
+};
+
+pub const LOST: Explanation = Explanation {
+    number: 63,
+    name: "Lost",
+    place: Place::Vertex,
+    meaning: "the actor of a vertex was not there when the threads had ended",
+    advice: "\
+This should not happen: it is a mistake of the program. Please report it, with the files.
+",
+};
+
+pub const DOUBLED: Explanation = Explanation {
+    number: 64,
+    name: "Doubled",
+    place: Place::Vertex,
+    meaning: "there were two actors of a vertex when the threads had ended",
+    advice: "\
+This should not happen: it is a mistake of the program. Please report it, with the files.
+",
+};
+
+pub const SPAWN: Explanation = Explanation {
+    number: 65,
+    name: "Spawn",
+    place: Place::Nowhere,
+    meaning: "a thread could not be started",
+    advice: "\
+The system allows no more threads, or has no memory for another. Try fewer by
+`--workers`. Those that were started have ended, and nothing was written.
+",
+};
+
+pub const STUCK: Explanation = Explanation {
+    number: 70,
+    name: "Stuck",
+    place: Place::TraceRow,
+    meaning: "the rows of a trace fit together in no order",
+    advice: "\
+However the rows of the vertices are put into one list, some row is not met where it
+stands: a message is taken that has another count or was not sent, or chips are fired
+that are not there. Row i of v is the one to look at first; docs/TRACES.md tells how. A
+trace of other chips, of another graph or limit, or one that was cut is refused so too.
+",
+};
+
+pub const NO_MEMORY: Explanation = Explanation {
+    number: 90,
+    name: "NoMemory",
+    place: Place::Nowhere,
+    meaning: "memory ran out",
+    advice: "\
+Nothing was written. Let the process have more memory, or give it smaller files.
+",
+};
+
+pub const USAGE: Explanation = Explanation {
+    number: 91,
+    name: "Usage",
+    place: Place::Nowhere,
+    meaning: "the arguments are no command",
+    advice: "\
+`chipfire --help` lists the commands, and `--help` behind a command its files and options
+with the range of each. Look for a file too few or too many, an option that the command
+has not, an option given twice, a number out of its range, a name that is no UTF-8.
+",
+};
+
+pub const OPEN: Explanation = Explanation {
+    number: 92,
+    name: "Open",
+    place: Place::Argument,
+    meaning: "the file that argument n names could not be opened",
+    advice: "\
+There is no such file, or it may not be read. Names go from the folder in which the
+program was started.
+",
+};
+
+pub const WRITE: Explanation = Explanation {
+    number: 93,
+    name: "Write",
+    place: Place::Bytes,
+    meaning: "the output could not be written to its end",
+    advice: "\
+The disk is full, or who should read it ended first, as `head` does. What was written is
+no whole answer, so do not use it. Without a number it is the file of `--trace` that could
+not be written, and nothing of the report was.
+",
+};
+
+/// All rows, by their numbers.
+pub const EXPLANATIONS: [Explanation; 37] = [
+    VERTICES,
+    SINK,
+    EDGE_COUNT,
+    ENDPOINT,
+    MULT,
+    LOOP,
+    FROM_SINK,
+    UNREACHED,
+    START_LENGTH,
+    TOTAL,
+    LIMIT,
+    NOT_JSON,
+    SHAPE,
+    VERSION,
+    HEADER,
+    ROW,
+    NUMBER,
+    VERTEX,
+    REPEATED,
+    KIND,
+    READ,
+    TOO_LONG,
+    NOT_CLOSED,
+    NOT_REPORT,
+    PRIOR,
+    MISMATCH,
+    PLAN,
+    UNFINISHED,
+    GATE_SHUT,
+    LOST,
+    DOUBLED,
+    SPAWN,
+    STUCK,
+    NO_MEMORY,
+    USAGE,
+    OPEN,
+    WRITE,
+];

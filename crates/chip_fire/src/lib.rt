@@ -5,8 +5,9 @@ pub use bound::enough;
 pub use counted::{AfterFault, after, after_into};
 pub use firing::{NotLegal, fire};
 pub use outcome::Outcome;
-pub use player::plain;
+pub use player::{plain, plain_watched};
 pub use sitting::{ResumeFault, Resumed, resume};
+pub use watch::{Unwatched, Watch};
 
 pub mod bound;
 mod certificate;
@@ -20,3 +21,4 @@ mod soon;
 mod start;
 #[cfg(test)]
 mod tests;
+mod watch;

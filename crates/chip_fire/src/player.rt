@@ -4,13 +4,18 @@ ghost use Rattle.chip_graph.specs.Multigraph.{degree};
 ghost use Rattle.chip_fire.specs.Firing.{IsLegal, legal_vertices};
 ghost use Rattle.chip_fire.specs.Outcomes.{IsOutcome};
 ghost use Rattle.chip_fire.specs.Play.{IsPlayed, IsEnough};
-ghost use Rattle.chip_fire.specs.Rounds.{IsInRange, StaysOnTheWay, firings_left, IsSwept};
+ghost use Rattle.chip_fire.specs.Rounds.{IsBegun, IsInRange, StaysOnTheWay, firings_left, IsSwept};
 
 use crate::firing::fire_batch;
 use crate::outcome::Outcome;
 use crate::start::start;
+use crate::watch::{Unwatched, Watch};
 use chip_graph::{Game, Graph};
 use std::alloc::{AllocError, Global};
+
+/// About how much is looked at between two times that it is told how far a play has come, which takes
+/// some milliseconds.
+pub(crate) const STRETCH: u64 = 1 << 20;
 
 /// Plays a game to its end within the limit, on one thread.
 ///
@@ -22,10 +27,23 @@ pub fn plain(alloc: Global, game: &Game) -> Result<Outcome, AllocError>
     ensures in_range { IfOk result IsOutcome }
     ensures not_stopped { IfOk result (λ outcome. IsEnough game.now → outcome.over.items ≡ []) }
 {
-    let graph = game.graph();
-    let (mut chips, mut fired) = start(alloc, game)?;
-    play(graph, game.limit(), &mut chips, &mut fired);
-    let over = still_legal(alloc, graph, &chips)?;
+    plain_watched(alloc, game, &mut Unwatched)
+}
+
+/// Plays a game as `plain` does, and tells time and again how far it has come. The outcome is the
+/// same, whoever is told.
+pub fn plain_watched<W: Watch>(
+    alloc: Global,
+    game: &Game,
+    watch: &mut W,
+) -> Result<Outcome, AllocError>
+    ensures played { IfOk result (IsPlayed game.now) }
+    ensures in_range { IfOk result IsOutcome }
+    ensures not_stopped { IfOk result (λ outcome. IsEnough game.now → outcome.over.items ≡ []) }
+{
+    let (mut chips, mut fired) = start(alloc, game, watch)?;
+    play(game, &mut chips, &mut fired, watch);
+    let over = still_legal(alloc, game.graph(), &chips)?;
     Ok(Outcome {
         fired,
         chips,
@@ -35,14 +53,58 @@ pub fn plain(alloc: Global, game: &Game) -> Result<Outcome, AllocError>
 }
 
 /// Makes rounds until none fires a vertex.
-fn play(graph: &Graph, limit: u64, chips: &mut [u64], fired: &mut [u64])
-    requires { IsInRange graph.now limit chips.old fired.old }
-    ensures in_range { IsInRange graph.now limit chips.new fired.new }
-    ensures stays { StaysOnTheWay graph.now limit chips.old fired.old chips.new fired.new }
-    ensures ended { (v : ℕ) → IsLegal graph.now (slice_index chips.new) v → slice_index fired.new v ≡ limit }
+fn play<W: Watch>(game: &Game, chips: &mut [u64], fired: &mut [u64], watch: &mut W)
+    requires { IsBegun game.now chips.old fired.old }
+    ensures begun { IsBegun game.now chips.new fired.new }
+    ensures ended { (v : ℕ) → IsLegal game.now.graph (slice_index chips.new) v
+        → slice_index fired.new v ≡ game.now.limit }
+{
+    let most = STRETCH / game.graph().vertices().max(1) + 1;
+    'stretches: while told_rounds(game, most, chips, fired, watch) {}
+}
+
+/// Makes so many rounds, or until none fires a vertex, and tells how far the play has come; whether
+/// each of them fired some.
+fn told_rounds<W: Watch>(
+    game: &Game,
+    most: u64,
+    chips: &mut [u64],
+    fired: &mut [u64],
+    watch: &mut W,
+) -> bool
+    requires begun { IsBegun game.now chips.old fired.old }
+    requires some { 0 < most }
+    ensures begun { IsBegun game.now chips.new fired.new }
+    ensures some_fired { OnTrue result
+        (firings_left game.now.graph game.now.limit fired.new < firings_left game.now.graph game.now.limit fired.old) }
+    ensures none_fired { OnFalse result ((v : ℕ) → IsLegal game.now.graph (slice_index chips.new) v
+        → slice_index fired.new v ≡ game.now.limit) }
+{
+    let made = rounds(game, most, chips, fired);
+    watch.rounds(made, game, chips, fired);
+    made == most
+}
+
+/// Makes so many rounds, or until none fires a vertex; how many did.
+// A round is so short that a play takes a seventh longer where this is a call.
+#[inline(always)]
+fn rounds(game: &Game, most: u64, chips: &mut [u64], fired: &mut [u64]) -> u64
+    requires begun { IsBegun game.now chips.old fired.old }
+    requires some { 0 < most }
+    ensures begun { IsBegun game.now chips.new fired.new }
+    ensures at_most { result ≤ most }
+    ensures some_fired { result ≡ most
+        → firings_left game.now.graph game.now.limit fired.new < firings_left game.now.graph game.now.limit fired.old }
+    ensures none_fired { result < most → (v : ℕ) → IsLegal game.now.graph (slice_index chips.new) v
+        → slice_index fired.new v ≡ game.now.limit }
 {
     let mut turns = 0u64;
-    'rounds: while round(graph, limit, chips, fired, &mut turns) {}
+    for made in 0..most {
+        if !round(game, chips, fired, &mut turns) {
+            return made;
+        }
+    }
+    most
 }
 
 /// Lets each vertex fire as often as it may, first those with even numbers and then those with odd
@@ -50,21 +112,16 @@ fn play(graph: &Graph, limit: u64, chips: &mut [u64], fired: &mut [u64])
 ///
 /// Neighbours on paths and grids differ by an odd number, so a sweep over every second vertex seldom
 /// reads what it has just written: in ascending order a path takes nearly twice as long.
-pub(crate) fn round(
-    graph: &Graph,
-    limit: u64,
-    chips: &mut [u64],
-    fired: &mut [u64],
-    turns: &mut u64,
-) -> bool
-    requires { IsInRange graph.now limit chips.old fired.old }
-    ensures in_range { IsInRange graph.now limit chips.new fired.new }
-    ensures stays { StaysOnTheWay graph.now limit chips.old fired.old chips.new fired.new }
+pub(crate) fn round(game: &Game, chips: &mut [u64], fired: &mut [u64], turns: &mut u64) -> bool
+    requires { IsBegun game.now chips.old fired.old }
+    ensures begun { IsBegun game.now chips.new fired.new }
     ensures some_fired { OnTrue result
-        (firings_left graph.now limit fired.new < firings_left graph.now limit fired.old) }
-    ensures none_fired { OnFalse result
-        ((v : ℕ) → IsLegal graph.now (slice_index chips.new) v → slice_index fired.new v ≡ limit) }
+        (firings_left game.now.graph game.now.limit fired.new < firings_left game.now.graph game.now.limit fired.old) }
+    ensures none_fired { OnFalse result ((v : ℕ) → IsLegal game.now.graph (slice_index chips.new) v
+        → slice_index fired.new v ≡ game.now.limit) }
 {
+    let graph = game.graph();
+    let limit = game.limit();
     let even = sweep(graph, limit, 0, chips, fired, turns);
     let odd = sweep(graph, limit, 1, chips, fired, turns);
     even || odd

@@ -1,8 +1,9 @@
 ghost use Rattle.std.specs.Prelude.{◌≡◌, length, slice_index};
-ghost use Rattle.chip_fire.specs.Rounds.{IsInRange, StaysOnTheWay};
+ghost use Rattle.chip_fire.specs.Rounds.{IsBegun, IsInRange};
 
-use crate::player::round;
-use chip_graph::Graph;
+use crate::player::{STRETCH, round};
+use crate::watch::Watch;
+use chip_graph::{Game, Graph};
 
 /// How often each vertex and each edge out is looked at before the work is judged.
 const FIRST_LOOKS: u64 = 16;
@@ -16,11 +17,17 @@ const FEW_LOOKS: u64 = 480;
 
 /// Plays for as long as this takes it soon to an end: each time with twice the work, while that halves
 /// the chips that wait to move or the limit leaves little to do. Whether the play has ended.
-pub(crate) fn ends_soon(graph: &Graph, limit: u64, chips: &mut [u64], fired: &mut [u64]) -> bool
-    requires { IsInRange graph.now limit chips.old fired.old }
-    ensures in_range { IsInRange graph.now limit chips.new fired.new }
-    ensures stays { StaysOnTheWay graph.now limit chips.old fired.old chips.new fired.new }
+pub(crate) fn ends_soon<W: Watch>(
+    game: &Game,
+    chips: &mut [u64],
+    fired: &mut [u64],
+    watch: &mut W,
+) -> bool
+    requires { IsBegun game.now chips.old fired.old }
+    ensures { IsBegun game.now chips.new fired.new }
 {
+    let graph = game.graph();
+    let limit = game.limit();
     let few = looks_at_all(graph).saturating_mul(FEW_LOOKS);
     let mut work = looks_at_all(graph).saturating_mul(FIRST_LOOKS);
     let mut done = 0u64;
@@ -31,7 +38,7 @@ pub(crate) fn ends_soon(graph: &Graph, limit: u64, chips: &mut [u64], fired: &mu
             return false;
         }
         waited = waits;
-        if ends_by(graph, limit, work, chips, fired) {
+        if ends_by(game, work, chips, fired, watch) {
             return true;
         }
         done = done.saturating_add(work);
@@ -72,27 +79,47 @@ fn waiting(graph: &Graph, limit: u64, chips: &[u64], fired: &[u64]) -> u64
     waits
 }
 
-/// Makes rounds until none fires a vertex or so much work is done, in vertices and edges looked at;
-/// whether none fires one.
-pub(crate) fn ends_by(
-    graph: &Graph,
-    limit: u64,
+/// Makes rounds until none fires a vertex or so much work is done, in vertices and edges looked at, and
+/// tells time and again how far the play has come; whether none fires one.
+pub(crate) fn ends_by<W: Watch>(
+    game: &Game,
     work: u64,
     chips: &mut [u64],
     fired: &mut [u64],
+    watch: &mut W,
 ) -> bool
-    requires { IsInRange graph.now limit chips.old fired.old }
-    ensures in_range { IsInRange graph.now limit chips.new fired.new }
-    ensures stays { StaysOnTheWay graph.now limit chips.old fired.old chips.new fired.new }
+    requires { IsBegun game.now chips.old fired.old }
+    ensures { IsBegun game.now chips.new fired.new }
 {
+    let mut left = work;
+    'stretches: for _ in 0..work.div_ceil(STRETCH) {
+        let mut made = 0;
+        let ends = ends_within(game, left.min(STRETCH), chips, fired, &mut made);
+        watch.rounds(made, game, chips, fired);
+        if ends {
+            return true;
+        }
+        left = left.saturating_sub(STRETCH);
+    }
+    false
+}
+
+/// Makes rounds until none fires a vertex or so much work is done; whether none fires one. In how many
+/// one fired is added to `made`, up to 2^64 - 1.
+fn ends_within(game: &Game, work: u64, chips: &mut [u64], fired: &mut [u64], made: &mut u64) -> bool
+    requires { IsBegun game.now chips.old fired.old }
+    ensures { IsBegun game.now chips.new fired.new }
+{
+    let graph = game.graph();
     let vertices = graph.vertices().max(1);
     let mean_degree = graph.edges().len() as u64 / vertices;
     let mut turns = 0u64;
     let mut looked = 0u64;
     'rounds: for _ in 0..work / vertices {
-        if !round(graph, limit, chips, fired, &mut turns) {
+        if !round(game, chips, fired, &mut turns) {
             return true;
         }
+        *made = made.saturating_add(1);
         looked = looked.saturating_add(vertices);
         if looked.saturating_add(turns.saturating_mul(mean_degree)) > work {
             return false;

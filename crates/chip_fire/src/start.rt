@@ -1,8 +1,9 @@
 ghost use Rattle.std.specs.Prelude.{◌≡◌, length, IfOk, IfSome, OnOk};
-ghost use Rattle.chip_fire.specs.Rounds.{IsBegun, IsInRange, StaysOnTheWay};
+ghost use Rattle.chip_fire.specs.Rounds.{IsBegun};
 
 use crate::certificate::certified;
 use crate::soon::{ends_by, ends_soon, looks_at_all};
+use crate::watch::Watch;
 use chip_graph::Game;
 use chip_guess::{GuessedCounts, Search};
 use std::alloc::{AllocError, Global};
@@ -19,31 +20,35 @@ const TURNS: u64 = 1 << 20;
 
 /// The chips of each vertex and how often it has fired, with which a play begins: after some rounds,
 /// and where these have not ended it, at counts that are guessed and certified, if there are some.
-pub(crate) fn start(alloc: Global, game: &Game) -> Result<(Vec<u64>, Vec<u64>), AllocError>
+pub(crate) fn start<W: Watch>(
+    alloc: Global,
+    game: &Game,
+    watch: &mut W,
+) -> Result<(Vec<u64>, Vec<u64>), AllocError>
     ensures { IfOk result (λ begun. IsBegun game.now begun.0.items begun.1.items) }
 {
-    let graph = game.graph();
     let mut chips = Vec::from_slice(alloc, game.start())?;
-    let mut fired = vec![in alloc; 0; graph.vertices() as usize]?;
-    if ends_soon(graph, game.limit(), &mut chips, &mut fired) {
+    let mut fired = vec![in alloc; 0; game.graph().vertices() as usize]?;
+    if ends_soon(game, &mut chips, &mut fired, watch) {
         return Ok((chips, fired));
     }
-    by_turns(alloc, game, chips, fired)
+    by_turns(alloc, game, chips, fired, watch)
 }
 
 /// The chips and counts at which a play goes on once counts were searched: those found, or those to which
 /// the play has come meanwhile.
-fn by_turns(
+fn by_turns<W: Watch>(
     alloc: Global,
     game: &Game,
     mut chips: Vec<u64>,
     mut fired: Vec<u64>,
+    watch: &mut W,
 ) -> Result<(Vec<u64>, Vec<u64>), AllocError>
     requires { IsBegun game.now chips.items fired.items }
     ensures { IfOk result (λ begun. IsBegun game.now begun.0.items begun.1.items) }
 {
     let before = Vec::from_slice(alloc, &fired)?;
-    let Some(more) = searched(alloc, game, &mut chips, &mut fired)? else {
+    let Some(more) = searched(alloc, game, &mut chips, &mut fired, watch)? else {
         return Ok((chips, fired));
     };
     jump(alloc, game, &before, &more, chips, fired)
@@ -51,16 +56,15 @@ fn by_turns(
 
 /// Searches counts for the play from here on, while the play goes on: each has its turns, so that a search
 /// that takes long costs little more than the play. `None` where the play has ended first.
-fn searched(
+fn searched<W: Watch>(
     alloc: Global,
     game: &Game,
     chips: &mut [u64],
     fired: &mut [u64],
+    watch: &mut W,
 ) -> Result<Option<GuessedCounts>, AllocError>
-    requires { IsInRange game.now.graph game.now.limit chips.old fired.old }
-    ensures in_range { OnOk result (IsInRange game.now.graph game.now.limit chips.new fired.new) }
-    ensures stays { OnOk result
-        (StaysOnTheWay game.now.graph game.now.limit chips.old fired.old chips.new fired.new) }
+    requires { IsBegun game.now chips.old fired.old }
+    ensures begun { OnOk result (IsBegun game.now chips.new fired.new) }
     ensures order_each { IfOk result
         (λ found. IfSome found (λ more. length more.order.items ≡ game.now.graph.vertices)) }
 {
@@ -74,7 +78,7 @@ fn searched(
         if search.go_on(alloc, work)? {
             break;
         }
-        if ends_by(graph, game.limit(), turn, chips, fired) {
+        if ends_by(game, turn, chips, fired, watch) {
             return Ok(None);
         }
         work = turn;

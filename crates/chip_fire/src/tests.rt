@@ -139,6 +139,40 @@ fn long_path(rt: HostRuntime) -> Result<(), Fail> {
     Ok(())
 }
 
+/// How many rounds it was told of, and how many firings there were after the last of them.
+#[derive(Drop)]
+struct Told {
+    rounds: u64,
+    firings: u64,
+}
+
+impl Watch for Told {
+    fn rounds(&mut self, more: u64, _game: &Game, _chips: &[u64], fired: &[u64]) {
+        self.rounds = self.rounds.saturating_add(more);
+        self.firings = 0;
+        for times in fired {
+            self.firings = self.firings.saturating_add(*times);
+        }
+    }
+}
+
+/// In the first round vertex 0 fires as often as it can and then vertex 1; five chips take a second round.
+#[test]
+fn watched(rt: HostRuntime) -> Result<(), Fail> {
+    for (chips, rounds, firings) in [(0, 0, 0), (3, 1, 1), (4, 1, 3), (5, 2, 4)] {
+        let game = triangle(rt.alloc(), &[chips, 0, 0], 1 << 40)?;
+        let mut told = Told {
+            rounds: 0,
+            firings: 0,
+        };
+        let outcome = plain_watched(rt.alloc(), &game, &mut told)?;
+        assert_eq!(rt; outcome, plain(rt.alloc(), &game)?);
+        assert_eq!(rt; told.rounds, rounds);
+        assert_eq!(rt; told.firings, firings);
+    }
+    Ok(())
+}
+
 #[test]
 fn positions_by_counts(rt: HostRuntime) -> Result<(), Fail> {
     let game = triangle(rt.alloc(), &[4, 0, 0], 1 << 40)?;

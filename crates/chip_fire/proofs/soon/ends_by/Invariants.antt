@@ -1,8 +1,5 @@
-use Rattle.chip_fire.specs.Rounds.{IsInRange, StaysOnTheWay}
+use Rattle.chip_fire.specs.Rounds.{IsBegun}
 use Rattle.chip_fire.proofs.soon.ends_by.Given as goal
 
-abbrev pub invariant-rounds : goal.invariant-rounds
-invariant-rounds l = record {
-  in_range : IsInRange l.graph l.limit l.chips l.fired;
-  stays : StaysOnTheWay l.graph l.limit l.fn.chips l.fn.fired l.chips l.fired;
-}
+abbrev pub invariant-stretches : goal.invariant-stretches
+invariant-stretches g l = IsBegun l.game l.chips l.fired

@@ -1,8 +1,5 @@
-use Rattle.chip_fire.specs.Rounds.{IsInRange, StaysOnTheWay}
+use Rattle.chip_fire.specs.Rounds.{IsBegun}
 use Rattle.chip_fire.proofs.soon.ends_soon.Given as goal
 
 abbrev pub invariant-doublings : goal.invariant-doublings
-invariant-doublings l = record {
-  in_range : IsInRange l.graph l.limit l.chips l.fired;
-  stays : StaysOnTheWay l.graph l.limit l.fn.chips l.fn.fired l.chips l.fired;
-}
+invariant-doublings g l = IsBegun l.game l.chips l.fired

@@ -1,0 +1,24 @@
+//! Who is told how a play goes on.
+
+ghost use Rattle.chip_fire.specs.Rounds.{IsBegun};
+
+use chip_graph::Game;
+
+/// Told how a play goes on. It returns, and what it does changes nothing of the play.
+pub trait Watch {
+    /// Told after so many more rounds, in each of which some vertex fired, the chips that each vertex has then and how
+    /// often it has fired.
+    ///
+    /// Where counts were found and certified, the play went on from these, and they are among the firings. In any
+    /// case every whole play of the game fires each vertex at least so often.
+    fn rounds(&mut self, more: u64, game: &Game, chips: &[u64], fired: &[u64])
+        requires { IsBegun game.now chips.now fired.now };
+}
+
+/// Nobody is told.
+#[derive(Clone, Copy, Debug)]
+pub struct Unwatched;
+
+impl Watch for Unwatched {
+    fn rounds(&mut self, _more: u64, _game: &Game, _chips: &[u64], _fired: &[u64]) {}
+}

@@ -1,12 +1,12 @@
 -- The places of the actors, one by one.
 use Rattle.std.proofs.Common.{◌≡◌, ℕ, zero, suc, ◌<◌, ◌⊎◌, inl, inr, ⊎_elim, List, [], ◌∷◌, ◌++◌, length, Option, Some}
-use Rattle.std.proofs.Common.{None, refl, sym, ap, ◌∙◌, subst, set, get_or, IfSome, arith}
+use Rattle.std.proofs.Common.{None, is_some, false, refl, sym, ap, ◌∙◌, subst, set, get_or, IfSome, arith}
 use Rattle.std.specs.Prelude.{slice_get}
 use Rattle.std.proofs.lemmas.List.{length-set}
 use Rattle.std.proofs.lemmas.Option.{slice_get_read}
 use Rattle.chip_net.specs.Tokens.{ActorKnown}
 use Rattle.chip_crew.specs.Crew.{CrewId, IsOurs, AreInOrder, AreSeats}
-use Rattle.chip_crew.specs.Gathering.{least}
+use Rattle.chip_crew.specs.Gathering.{least, IsSeated}
 
 module _ {X : Type 0} where
   abbrev value_or : X → Option X → X
@@ -37,6 +37,19 @@ module _ {X : Type 0} where
   at_push (x ∷ xs) y b zero e = inr e
   at_push (x ∷ xs) y b (suc j) e = ⊎_elim (λ (h : (j ≡ length xs) × (y ≡ b)). inl (ap suc h.0, h.1))
       (λ (h : slice_get xs j ≡ Some b). inr h) (at_push xs y b j e)
+
+  -- a place that is not written has what it had
+  pub elsewhere : (xs : List X) (i j : ℕ) (a : X) → i < j → slice_get (set xs i a) j ≡ slice_get xs j
+  elsewhere [] i j a less = refl
+  elsewhere (x ∷ xs) i zero a less = absurd (omega (arith, less))
+  elsewhere (x ∷ xs) zero (suc j) a less = refl
+  elsewhere (x ∷ xs) (suc i) (suc j) a less = elsewhere xs i j a (omega (arith, less))
+
+  -- something stands at each place of a list
+  pub present : (xs : List X) (i : ℕ) → i < length xs → (x : X) × (slice_get xs i ≡ Some x)
+  present [] i less = absurd (omega (arith, less))
+  present (x ∷ xs) zero less = (x, refl)
+  present (x ∷ xs) (suc i) less = present xs i (omega (arith, less))
 
 pub seats_set : (crew : CrewId) (seats : List (Option ActorKnown)) (i : ℕ) (x : Option ActorKnown)
     → ((a : ActorKnown) → x ≡ Some a → IsOurs crew a × (a.vertex ≡ i)) → AreSeats crew seats
@@ -86,3 +99,28 @@ least_below (Some w) v n below here = search (arith)
 pub at_place : {X : Type 0} (xs : List (Option X)) (i : ℕ) (x : Option X) (y : X) → i < length xs → x ≡ get_or xs i x
     → x ≡ Some y → slice_get xs i ≡ Some (Some y)
 at_place xs i x y inside read is = slice_get_read xs (length xs) i x refl inside read ∙ ap Some is
+
+-- in the same way where nothing was read
+pub free_place : {X : Type 0} (xs : List (Option X)) (i : ℕ) (x : Option X) → i < length xs → x ≡ get_or xs i x
+    → x ≡ None → slice_get xs i ≡ Some None
+free_place xs i x inside read is = slice_get_read xs (length xs) i x refl inside read ∙ ap Some is
+
+-- or where what was read tells so
+pub free_where : {X : Type 0} (xs : List (Option X)) (i : ℕ) (x : Option X) → i < length xs → x ≡ get_or xs i x
+    → is_some x ≡ false → slice_get xs i ≡ Some None
+free_where xs i None inside read none = free_place xs i None inside read refl
+free_where xs i (Some y) inside read none = absurd (cc)
+
+-- a place that is free has no actor
+pub free_or_seated : (seats : List (Option ActorKnown)) (v : ℕ) → slice_get seats v ≡ Some None → IsSeated seats v → ⊥
+free_or_seated seats v free seated = absurd (none_some seated.0 (same_some None (Some seated.0) (sym free ∙ seated.1)))
+
+-- an actor that comes out of its place stands behind those of the places before
+pub gathered_push : (seats : List (Option ActorKnown)) (actors : List ActorKnown) (y : ActorKnown)
+    → slice_get seats (length actors) ≡ Some (Some y)
+    → ((v : ℕ) (a : ActorKnown) → slice_get actors v ≡ Some a → slice_get seats v ≡ Some (Some a))
+    → (v : ℕ) (a : ActorKnown) → slice_get (actors ++ y ∷ []) v ≡ Some a → slice_get seats v ≡ Some (Some a)
+gathered_push seats actors y here old v a e = ⊎_elim
+    (λ (h : (v ≡ length actors) × (y ≡ a)).
+    ap (slice_get seats) h.0 ∙ here ∙ ap (λ (z : ActorKnown). Some (Some z)) h.1)
+    (λ (h : slice_get actors v ≡ Some a). old v a h) (at_push actors y a v e)

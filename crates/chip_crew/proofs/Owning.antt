@@ -1,7 +1,11 @@
 -- An actor that the net opened stays one.
-use Rattle.std.proofs.Common.{◌≡◌, ◌<◌, ℕ, ◌∙◌, sym, subst}
+use Rattle.std.proofs.Common.{◌≡◌, ◌<◌, ℕ, Bool, true, false, ◌∙◌, sym, subst}
 use Rattle.chip_net.specs.Tokens.{ActorKnown}
 use Rattle.chip_crew.specs.Crew.{CrewId, IsOurs}
+
+-- a test is not both
+pub true_or_false : (b : Bool) → b ≡ true → b ≡ false → ⊥
+true_or_false b is isnt = absurd (cc)
 
 pub still_ours : (crew : CrewId) (old new : ActorKnown) → (new.net ≡ old.net) × (new.vertex ≡ old.vertex)
     × (new.room ≡ old.room) → IsOurs crew old → IsOurs crew new

@@ -7,6 +7,9 @@ use Rattle.chip_net.specs.Roots.{RootKnown, new_root}
 use Rattle.chip_crew.specs.Plans.{is_plan}
 use Rattle.chip_crew.specs.Crew.{CrewId, AreActors}
 use Rattle.chip_crew.specs.Ending.{EndsWell, EndsOpen}
+use Rattle.chip_crew.specs.Gathering.{IsMissing}
+use Rattle.chip_crew.specs.Staff.{SomeShut}
+use Rattle.chip_crew.specs.declared.staff.Joined.{Joined}
 use Rattle.chip_crew.specs.declared.plan.Plan.{Plan}
 use Rattle.chip_crew.specs.declared.play.Finished.{Finished}
 use Rattle.chip_crew.specs.declared.fault.CrewFault.{CrewFault}
@@ -34,23 +37,35 @@ pub record IsFinished (game : ChipGame) (plan : Plan) (f : Finished) : Type 0 wh
   pub finished : HasFinished crew (root_of crew plan) f
   pub played : plan.seal ≡ None → IsPlayed game f.outcome
 
--- why a crew that was opened didn't finish
-abbrev pub IsStopped : CrewId → RootKnown → ℕ → CrewFault → Type 0
-IsStopped crew old turns fault.Plan = ⊥
-IsStopped crew old turns fault.NoMemory = ⊤
-IsStopped crew old turns fault.Spawn = ⊤
-IsStopped crew old turns fault.GateShut = ⊤
-IsStopped crew old turns (fault.Doubled v) = v < crew.net.setting.graph.vertices
-IsStopped crew old turns (fault.Lost v) = v < crew.net.setting.graph.vertices
-IsStopped crew old turns (fault.Unfinished deficit root) = EndsOpen turns old root deficit
+-- why a crew whose workers have ended didn't finish: a gate was shut; else actors are missing; else the root is open
+abbrev pub IsClosing : CrewId → RootKnown → ℕ → Joined → CrewFault → Type 0
+IsClosing crew old turns joined fault.Plan = ⊥
+IsClosing crew old turns joined fault.NoMemory = ⊥
+IsClosing crew old turns joined fault.Spawn = ⊥
+IsClosing crew old turns joined fault.GateShut = joined.passed ≡ false
+IsClosing crew old turns joined (fault.Doubled v) = (joined.passed ≡ true) × IsMissing joined.roll (fault.Doubled v)
+IsClosing crew old turns joined (fault.Lost v) = (joined.passed ≡ true) × IsMissing joined.roll (fault.Lost v)
+IsClosing crew old turns joined (fault.Unfinished deficit root) =
+    (joined.passed ≡ true) × EndsOpen turns old root deficit
 
--- the plan is at fault, or a crew of this game didn't finish
-abbrev pub IsFaultOf : ChipGame → Plan → CrewFault → Type 0
-IsFaultOf game plan fault.Plan = is_plan game plan ≡ false
-IsFaultOf game plan fault.NoMemory = is_plan game plan ≡ true
-IsFaultOf game plan fault.Spawn = is_plan game plan ≡ true
-IsFaultOf game plan fault.GateShut = is_plan game plan ≡ true
-IsFaultOf game plan (fault.Doubled v) = (is_plan game plan ≡ true) × (v < game.graph.vertices)
-IsFaultOf game plan (fault.Lost v) = (is_plan game plan ≡ true) × (v < game.graph.vertices)
-IsFaultOf game plan (fault.Unfinished deficit root) =
+-- why a crew that was opened didn't finish; `shut` is what is known where a gate was shut
+abbrev pub IsStopped : CrewId → RootKnown → ℕ → Type 0 → CrewFault → Type 0
+IsStopped crew old turns shut fault.Plan = ⊥
+IsStopped crew old turns shut fault.NoMemory = ⊤
+IsStopped crew old turns shut fault.Spawn = ⊤
+IsStopped crew old turns shut fault.GateShut = shut
+IsStopped crew old turns shut (fault.Doubled v) = v < crew.net.setting.graph.vertices
+IsStopped crew old turns shut (fault.Lost v) = v < crew.net.setting.graph.vertices
+IsStopped crew old turns shut (fault.Unfinished deficit root) = EndsOpen turns old root deficit
+
+-- the plan is at fault, or a crew of this game didn't finish, whose gate may answer false at these calls
+abbrev pub IsFaultOf : ChipGame → Plan → (ℕ → ℕ → Type 0) → CrewFault → Type 0
+IsFaultOf game plan may_shut fault.Plan = is_plan game plan ≡ false
+IsFaultOf game plan may_shut fault.NoMemory = is_plan game plan ≡ true
+IsFaultOf game plan may_shut fault.Spawn = is_plan game plan ≡ true
+IsFaultOf game plan may_shut fault.GateShut =
+    (is_plan game plan ≡ true) × SomeShut may_shut plan.workers plan.turns
+IsFaultOf game plan may_shut (fault.Doubled v) = (is_plan game plan ≡ true) × (v < game.graph.vertices)
+IsFaultOf game plan may_shut (fault.Lost v) = (is_plan game plan ≡ true) × (v < game.graph.vertices)
+IsFaultOf game plan may_shut (fault.Unfinished deficit root) =
     (crew : CrewId) × IsCrewFor game plan crew × EndsOpen plan.turns (root_of crew plan) root deficit

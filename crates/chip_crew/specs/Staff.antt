@@ -1,5 +1,5 @@
 -- What the workers hand back.
-use Rattle.std.specs.Prelude.{◌≡◌, ℕ, ◌≤◌, IfSome}
+use Rattle.std.specs.Prelude.{◌≡◌, ℕ, ◌<◌, ◌≤◌, false, IfSome}
 use Rattle.chip_net.specs.Roots.{RootKnown}
 use Rattle.chip_crew.specs.Crew.{CrewId, IsOurs, Polled}
 use Rattle.chip_crew.specs.declared.worker.Shift.{Shift}
@@ -10,8 +10,26 @@ pub record HasPolled (crew : CrewId) (old : RootKnown) (turns : ℕ) (root : Roo
   pub polled : Polled polls old root
   pub at_most : polls ≤ turns
 
--- what worker 0 hands back: an actor that it kept is the net's
-pub record HasLed (crew : CrewId) (old : RootKnown) (turns : ℕ) (shift : Shift) (root : RootKnown) (polls : ℕ)
-    : Type 0 where
+-- a call of the gate for some worker's turn is one that may answer false
+abbrev pub SomeShut : (ℕ → ℕ → Type 0) → ℕ → ℕ → Type 0
+SomeShut may_shut workers turns =
+    (worker : ℕ) × (turn : ℕ) × (worker < workers) × (turn < turns) × may_shut worker turn
+
+-- it is known of the crew where this worker has a call of the gate that may answer false
+abbrev pub TellsShut : (ℕ → Type 0) → ℕ → Type 0 → Type 0
+TellsShut may_shut turns shut = (turn : ℕ) → turn < turns → may_shut turn → shut
+
+-- and where any of so many workers has one
+abbrev pub AllTellShut : (ℕ → ℕ → Type 0) → ℕ → ℕ → Type 0 → Type 0
+AllTellShut may_shut workers turns shut = (worker : ℕ) → worker < workers → TellsShut (may_shut worker) turns shut
+
+-- what a worker hands back: an actor that it kept is the net's, and its gate answered false only where it may
+pub record IsShift (crew : CrewId) (shut : Type 0) (shift : Shift) : Type 0 where
   pub kept : IfSome shift.kept (IsOurs crew)
+  pub passed : shift.passed ≡ false → shut
+
+-- what worker 0 hands back
+pub record HasLed (crew : CrewId) (old : RootKnown) (turns : ℕ) (shut : Type 0) (shift : Shift) (root : RootKnown)
+    (polls : ℕ) : Type 0 where
+  pub handed : IsShift crew shut shift
   pub polled : HasPolled crew old turns root polls

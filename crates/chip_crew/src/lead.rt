@@ -1,6 +1,7 @@
 //! What worker 0 does beside: it seals, and it polls the root.
 
 ghost use Rattle.std.specs.Prelude.{◌≡◌, IfSome};
+ghost use Rattle.chip_crew.specs.Staff.{TellsShut};
 
 use crate::plan::{Gate, SealAt};
 use crate::queue::Room;
@@ -38,7 +39,7 @@ impl<B: Room> Model for Led<B> {
 
     ghost view = { λ a. a.root };
 
-    ghost invariant = { λ a. HasLed B.crew B.root B.turns a.shift a.root a.polls };
+    ghost invariant = { λ a. HasLed B.crew B.root B.turns B.shut a.shift a.root a.polls };
 }
 
 /// Seals, where this is the turn for it.
@@ -62,6 +63,7 @@ impl<'a, B: Room, G: Gate> Floor<'a, B, G> {
         requires turns { self.now.turns ≡ B.turns }
         requires root { (helm.root ≡ B.root) × (helm.root.net ≡ B.crew.net) }
         requires seal { IfSome helm.seal (λ s. s.0.net ≡ B.crew.net) }
+        requires gate { TellsShut (G.may_shut self.now.gate.now 0) self.now.turns B.shut }
     {
         let Helm { mut root, mut seal } = helm;
         let mut pass = self.line.pass();
@@ -69,8 +71,11 @@ impl<'a, B: Room, G: Gate> Floor<'a, B, G> {
         let mut polls = 0;
         let mut passed = true;
         for turn in 0..self.turns {
-            // Only a worker whose gate answered false has told it.
-            if self.stop.load(SeqCst) || !self.gate.pass(0, turn) {
+            // Whoever told it hands back why.
+            if self.stop.load(SeqCst) {
+                break;
+            }
+            if !self.gate.pass(0, turn) {
                 passed = false;
                 self.stop.store(true, SeqCst);
                 break;
@@ -78,9 +83,12 @@ impl<'a, B: Room, G: Gate> Floor<'a, B, G> {
             seal_before(self.net, &mut seal, turn);
             kept = self.one_turn(&mut pass, kept);
             polls = turn + 1;
-            if root.poll(self.net) == RootState::Closed {
-                self.stop.store(true, SeqCst);
-                break;
+            match root.poll(self.net) {
+                RootState::Running(deficit) => self.gate.polled(turn, deficit),
+                RootState::Closed => {
+                    self.stop.store(true, SeqCst);
+                    break;
+                }
             }
         }
         Led {

@@ -5,6 +5,7 @@
 //! (`lead.rt`). Once all have ended there is a last poll (`ending.rt`), and the actors are gathered (`roll.rt`).
 #![tactic(auto)]
 
+mod boxed;
 mod ending;
 mod fault;
 mod lead;

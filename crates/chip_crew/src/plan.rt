@@ -1,4 +1,4 @@
-ghost use Rattle.std.specs.Prelude.{◌≡◌, if◌then◌else◌, Some, None};
+ghost use Rattle.std.specs.Prelude.{◌≡◌, ◌<◌, if◌then◌else◌, Some, None};
 ghost use Rattle.chip_crew.specs.Plans.{is_plan};
 
 use chip_graph::Game;
@@ -13,11 +13,23 @@ pub const MAX_TURNS: u64 = 1 << 40;
 /// The most trace rows of each actor.
 pub const MAX_TRACE_ROWS: u64 = 1 << 20;
 
-/// Asked before each turn of each worker, by the worker's own thread. It returns.
+/// Asked before each turn of each worker, by the worker's own thread, and told of the root's polls. It returns.
 pub trait Gate {
+    ghost use Rattle.std.specs.Prelude.{◌≡◌, ℕ, false};
+
+    // For which worker and which of its turns it may answer false.
+    ghost may_shut: { Self → ℕ → ℕ → Type 0 };
+
     /// Whether the worker may begin its turn of this number. Workers and turns are numbered from 0, and each worker
     /// counts its own turns. Where it may not, the whole crew ends.
-    fn pass(&self, worker: u64, turn: u64) -> bool;
+    fn pass(&self, worker: u64, turn: u64) -> bool
+        ensures { result ≡ false → may_shut self.now worker turn };
+
+    /// Told by worker 0, after its turn of this number, how many of the root's messages aren't acknowledged, where some
+    /// are not. What it does changes nothing of the crew's work.
+    fn polled(&self, turn: u64, deficit: u64)
+        requires { 0 < deficit }
+    {}
 }
 
 /// When worker 0 seals an edge.

@@ -1,14 +1,15 @@
 //! A game played by a crew, from its opening to its end.
 
-ghost use Rattle.std.specs.Prelude.{◌≡◌, ◌<◌, ◌≤◌, [], All, length, IfOk, IfErr, IfSome};
+ghost use Rattle.std.specs.Prelude.{◌≡◌, ◌<◌, ◌≤◌, true, [], All, length, IfOk, IfErr, IfSome};
 ghost use Rattle.std.specs.Vec.{vec_capacity};
 ghost use Rattle.chip_net.specs.Roots.{RootKnown};
-ghost use Rattle.chip_crew.specs.Staff.{HasPolled};
+ghost use Rattle.chip_crew.specs.Staff.{HasPolled, AllTellShut};
 ghost use Rattle.crossbeam_queue.specs.Passes.{IsPassOf};
 ghost use Rattle.chip_crew.specs.Crew.{IsOurs};
 ghost use Rattle.chip_crew.specs.Gathering.{IsRoll};
-ghost use Rattle.chip_crew.specs.Finished.{HasFinished, IsFinished, IsStopped, IsFaultOf};
+ghost use Rattle.chip_crew.specs.Finished.{HasFinished, IsFinished, IsClosing, IsStopped, IsFaultOf};
 
+use crate::boxed::BoxedActor;
 use crate::ending::last_poll;
 use crate::fault::CrewFault;
 use crate::lead::Helm;
@@ -38,7 +39,13 @@ pub struct Finished {
 }
 
 /// Puts the actors into the queue, in their order. One that finds no place there is noted.
-fn fill<B: Room>(line: &Line<B>, pass: &mut LinePass, actors: Vec<Actor>, roll: &mut Roll)
+fn fill<B: Room>(
+    alloc: Global,
+    line: &Line<B>,
+    pass: &mut LinePass,
+    actors: Vec<Actor>,
+    roll: &mut Roll,
+) -> Result<(), AllocError>
     requires pass { IsPassOf line.now pass.old }
     requires actors { All (IsOurs B.crew) actors.items }
     requires roll { IsRoll B.crew roll.old }
@@ -46,10 +53,12 @@ fn fill<B: Room>(line: &Line<B>, pass: &mut LinePass, actors: Vec<Actor>, roll: 
     ensures roll { IsRoll B.crew roll.new }
 {
     for actor in actors {
-        if let Err(actor) = line.try_push_as::<Moves<B>>(pass, actor) {
-            note::<B>(roll, actor);
+        let boxed = BoxedActor::new(alloc, actor)?;
+        if let Err(actor) = line.try_push_as::<Moves<B>>(pass, boxed) {
+            note::<B>(roll, actor.into_actor());
         }
     }
+    Ok(())
 }
 
 /// Notes all actors that are in the queue.
@@ -60,7 +69,7 @@ fn drain<B: Room>(line: &Line<B>, mut pass: LinePass, roll: &mut Roll)
 {
     for _ in 0..line.capacity() {
         match line.try_pop_as::<Moves<B>>(&mut pass) {
-            Some(actor) => note::<B>(roll, actor),
+            Some(actor) => note::<B>(roll, actor.into_actor()),
             None => break,
         }
     }
@@ -72,8 +81,9 @@ fn closing<B: Room>(net: &Net, joined: Joined, turns: u64) -> Result<Finished, C
     requires turns { turns ≡ B.turns }
     requires root { HasPolled B.crew B.root B.turns joined.root joined.polls }
     requires roll { IsRoll B.crew joined.roll }
+    ensures passed { IfOk result (λ _. joined.passed ≡ true) }
     ensures finished { IfOk result (HasFinished B.crew B.root) }
-    ensures stopped { IfErr result (IsStopped B.crew B.root B.turns) }
+    ensures stopped { IfErr result (IsClosing B.crew B.root B.turns joined) }
 {
     let Joined {
         root,
@@ -120,7 +130,7 @@ fn prepared<B: Room>(
     let mut roll = empty_roll::<B>(alloc, vertices)?;
     let others = Vec::with_capacity(alloc, workers)?;
     let (line, mut pass) = Line::<B>::ruled(alloc, vertices)?;
-    fill(&line, &mut pass, actors, &mut roll);
+    fill(alloc, &line, &mut pass, actors, &mut roll)?;
     Ok(Ground {
         line,
         pass,
@@ -145,8 +155,10 @@ fn worked<R: Threads + Wait, B: Room + Send + Sync, G: Gate + Sync>(
     requires turns { plan.now.turns ≡ B.turns }
     requires root { (helm.root ≡ B.root) × (helm.root.net ≡ B.crew.net) }
     requires seal { IfSome helm.seal (λ s. s.0.net ≡ B.crew.net) }
+    requires some_workers { 0 < plan.now.workers }
+    requires gate { AllTellShut (G.may_shut gate.now) plan.now.workers plan.now.turns B.shut }
     ensures finished { IfOk result (HasFinished B.crew B.root) }
-    ensures stopped { IfErr result (IsStopped B.crew B.root B.turns) }
+    ensures stopped { IfErr result (IsStopped B.crew B.root B.turns B.shut) }
 {
     let Ground {
         line,
@@ -184,8 +196,10 @@ fn played_on<R: Threads + Wait, B: Room + Send + Sync, G: Gate + Sync>(
     requires turns { plan.now.turns ≡ B.turns }
     requires root { (helm.root ≡ B.root) × (helm.root.net ≡ B.crew.net) }
     requires seal { IfSome helm.seal (λ s. s.0.net ≡ B.crew.net) }
+    requires some_workers { 0 < plan.now.workers }
+    requires gate { AllTellShut (G.may_shut gate.now) plan.now.workers plan.now.turns B.shut }
     ensures finished { IfOk result (HasFinished B.crew B.root) }
-    ensures stopped { IfErr result (IsStopped B.crew B.root B.turns) }
+    ensures stopped { IfErr result (IsStopped B.crew B.root B.turns B.shut) }
 {
     let ground = prepared::<B>(alloc, actors, plan.workers as usize)?;
     worked(rt, net, ground, helm, plan, gate)
@@ -202,7 +216,7 @@ pub fn run<R: Threads + Wait, G: Gate + Sync>(
     gate: &G,
 ) -> Result<Finished, CrewFault>
     ensures finished { IfOk result (IsFinished game.now plan) }
-    ensures fault { IfErr result (IsFaultOf game.now plan) }
+    ensures fault { IfErr result (IsFaultOf game.now plan (G.may_shut gate.now)) }
 {
     let Some(ring) = plan.ring_for(game) else {
         return Err(CrewFault::Plan);

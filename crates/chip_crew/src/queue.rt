@@ -1,12 +1,12 @@
 //! The queue of the actors, and the rule that it keeps.
 
-use chip_net::Actor;
+use crate::boxed::BoxedActor;
 use crossbeam_queue::protocol::{Lesson, Outcome, Protocol};
 use crossbeam_queue::{Pass, RuledArrayQueue};
 use std::marker::{Brand, PhantomData};
 
-/// Which net's actors a crew shares, the root with which it begins, and how many turns each worker makes at most.
-/// Proofs alone know it.
+/// Which net's actors a crew shares, the root with which it begins, how many turns each worker makes at most, and what
+/// is known where a gate was shut. Proofs alone know it.
 pub(crate) trait Room {
     ghost use Rattle.std.specs.Prelude.{ℕ};
     ghost use Rattle.chip_crew.specs.Crew.{CrewId};
@@ -17,6 +17,8 @@ pub(crate) trait Room {
     ghost root: { RootKnown };
 
     ghost turns: { ℕ };
+
+    ghost shut: { Type 0 };
 }
 
 impl Room for Brand {
@@ -29,6 +31,8 @@ impl Room for Brand {
     ghost root = { new_root no_crew.net None };
 
     ghost turns = { 0 };
+
+    ghost shut = { ⊥ };
 }
 
 /// The rule: every actor in the queue was opened by this net.
@@ -36,7 +40,7 @@ pub(crate) struct Owned<B> {
     of: PhantomData<B>,
 }
 
-impl<B: Room> Protocol<Actor, ()> for Owned<B> {
+impl<B: Room> Protocol<BoxedActor, ()> for Owned<B> {
     ghost use Rattle.std.specs.Prelude.{All};
     ghost use Rattle.chip_crew.specs.Crew.{IsOurs};
 
@@ -50,20 +54,21 @@ pub(crate) struct Moves<B> {
     of: PhantomData<B>,
 }
 
-impl<B: Room> Outcome<Actor, ()> for Moves<B> {
+impl<B: Room> Outcome<BoxedActor, ()> for Moves<B> {
     ghost use Rattle.chip_crew.specs.Crew.{IsOurs};
 
     ghost then = { λ _ a _. IsOurs B.crew a };
 }
 
-impl<B> Lesson<Actor, ()> for Moves<B> {
+impl<B> Lesson<BoxedActor, ()> for Moves<B> {
     ghost use Rattle.std.specs.Prelude.{⊤};
 
     ghost fact = { λ _ _. ⊤ };
 }
 
-/// The queue of the actors that no worker has at the moment.
-pub(crate) type Line<B> = RuledArrayQueue<Actor, (), Owned<B>>;
+/// The queue of the actors that no worker has at the moment. It has each in a box, so that going in or out moves a
+/// pointer and not the actor.
+pub(crate) type Line<B> = RuledArrayQueue<BoxedActor, (), Owned<B>>;
 
 /// A thread's right to use the queue.
-pub(crate) type LinePass = Pass<Actor, ()>;
+pub(crate) type LinePass = Pass<BoxedActor, ()>;

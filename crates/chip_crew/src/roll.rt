@@ -2,7 +2,7 @@
 
 ghost use Rattle.std.specs.Prelude.{◌≡◌, ◌<◌, ◌≤◌, [], length, IfOk, IfErr, IfSome};
 ghost use Rattle.chip_crew.specs.Crew.{IsOurs, AreActors};
-ghost use Rattle.chip_crew.specs.Gathering.{IsRoll, IsMissing, least};
+ghost use Rattle.chip_crew.specs.Gathering.{IsRoll, IsNoted, AreGathered, IsMissing, least};
 
 use crate::fault::CrewFault;
 use crate::queue::Room;
@@ -40,7 +40,8 @@ pub(crate) fn empty_roll<B: Room>(alloc: Global, vertices: usize) -> Result<Roll
 pub(crate) fn note<B: Room>(roll: &mut Roll, actor: Actor)
     requires roll { IsRoll B.crew roll.old }
     requires actor { IsOurs B.crew actor }
-    ensures { IsRoll B.crew roll.new }
+    ensures roll { IsRoll B.crew roll.new }
+    ensures noted { IsNoted roll.old actor roll.new }
 {
     let vertex = actor.vertex();
     let place = vertex as usize;
@@ -65,7 +66,8 @@ fn least_of(before: Option<u64>, vertex: u64) -> u64
 pub(crate) fn gathered<B: Room>(roll: Roll) -> Result<Vec<Actor>, CrewFault>
     requires { IsRoll B.crew roll }
     ensures actors { IfOk result (λ actors. AreActors B.crew actors.items) }
-    ensures fault { IfErr result (IsMissing B.crew) }
+    ensures gathered { IfOk result (λ actors. AreGathered roll actors.items) }
+    ensures fault { IfErr result (IsMissing roll) }
 {
     let Roll {
         mut seats,

@@ -1,10 +1,10 @@
 //! Starting the workers and joining them.
 
-ghost use Rattle.std.specs.Prelude.{◌≡◌, ◌≤◌, [], IfOk, IfErr, IfSome};
+ghost use Rattle.std.specs.Prelude.{◌≡◌, ◌<◌, ◌≤◌, [], false, IfOk, IfErr, IfSome};
 ghost use Rattle.chip_crew.specs.declared.fault.CrewFault.TheVariants.{Spawn};
 ghost use Rattle.std.specs.Vec.{vec_capacity};
 ghost use Rattle.chip_crew.specs.Crew.{IsOurs};
-ghost use Rattle.chip_crew.specs.Staff.{HasPolled};
+ghost use Rattle.chip_crew.specs.Staff.{HasPolled, TellsShut, AllTellShut, IsShift};
 ghost use Rattle.chip_crew.specs.Gathering.{IsRoll};
 
 use crate::fault::CrewFault;
@@ -19,17 +19,17 @@ use std::sync::Wait;
 use std::sync::atomic::Ordering::SeqCst;
 use std::thread::{self, JoinHandle, Promise, PromisedHandle, Scope, Threads};
 
-/// A worker's promise: what it hands back was opened by this net.
+/// A worker's promise: an actor that it hands back was opened by this net, and its gate answered false only where it
+/// may.
 #[derive(Drop)]
 pub(crate) struct Keeps<B> {
     of: PhantomData<B>,
 }
 
 impl<B: Room> Promise<Shift> for Keeps<B> {
-    ghost use Rattle.std.specs.Prelude.{IfSome};
-    ghost use Rattle.chip_crew.specs.Crew.{IsOurs};
+    ghost use Rattle.chip_crew.specs.Staff.{IsShift};
 
-    ghost kept_by = { λ _ shift. IfSome shift.kept (IsOurs B.crew) };
+    ghost kept_by = { λ _ shift. IsShift B.crew B.shut shift };
 }
 
 /// A worker other than worker 0 that has started.
@@ -57,7 +57,7 @@ fn end_shift<B: Room>(roll: &mut Roll, shift: Shift) -> bool
 {
     let Shift { kept, passed } = shift;
     if let Some(actor) = kept {
-        note::<B>(roll, actor);
+        note::<B>(roll, actor.into_actor());
     }
     passed
 }
@@ -72,11 +72,13 @@ fn start_lead<'s, E, B: Room + Send + Sync, G: Gate + Sync>(
     requires turns { floor.now.turns ≡ B.turns }
     requires root { (helm.root ≡ B.root) × (helm.root.net ≡ B.crew.net) }
     requires seal { IfSome helm.seal (λ s. s.0.net ≡ B.crew.net) }
+    requires gate { TellsShut (G.may_shut floor.now.gate.now 0) floor.now.turns B.shut }
     ensures { IfErr result (λ fault. fault ≡ Spawn) }
 {
     let lead = move || -> Led<B>
         requires { (floor.now.net.now ≡ B.crew.net) × (floor.now.turns ≡ B.turns) × (helm.root ≡ B.root)
-            × (helm.root.net ≡ B.crew.net) × IfSome helm.seal (λ s. s.0.net ≡ B.crew.net) }
+            × (helm.root.net ≡ B.crew.net) × IfSome helm.seal (λ s. s.0.net ≡ B.crew.net)
+            × TellsShut (G.may_shut floor.now.gate.now 0) floor.now.turns B.shut }
     { floor.lead(helm) };
     match scope.spawn(lead) {
         Ok(started) => Ok(started),
@@ -90,13 +92,15 @@ fn start_worker<'s, E, B: Room + Send + Sync, G: Gate + Sync>(
     floor: &'s Floor<'s, B, G>,
     worker: u64,
 ) -> Result<Started<B>, CrewFault>
-    requires { floor.now.net.now ≡ B.crew.net }
+    requires net { floor.now.net.now ≡ B.crew.net }
+    requires gate { TellsShut (G.may_shut floor.now.gate.now worker) floor.now.turns B.shut }
     ensures { IfErr result (λ fault. fault ≡ Spawn) }
 {
     let promise = Keeps { of: PhantomData };
     let work = move || -> Shift
-        requires { floor.now.net.now ≡ B.crew.net }
-        ensures { IfSome result.kept (IsOurs B.crew) }
+        requires { (floor.now.net.now ≡ B.crew.net)
+            × TellsShut (G.may_shut floor.now.gate.now worker) floor.now.turns B.shut }
+        ensures { IsShift B.crew B.shut result }
     { floor.work(worker) };
     match scope.spawn_with(promise, work) {
         Ok(started) => Ok(started),
@@ -118,6 +122,8 @@ fn start_all<'s, E, B: Room + Send + Sync, G: Gate + Sync>(
     requires seal { IfSome helm.seal (λ s. s.0.net ≡ B.crew.net) }
     requires none_yet { others.items ≡ [] }
     requires room { workers ≤ vec_capacity others }
+    requires some { 0 < workers }
+    requires gate { AllTellShut (G.may_shut floor.now.gate.now) workers floor.now.turns B.shut }
     ensures { IfErr result (λ fault. fault ≡ Spawn) }
 {
     let lead = start_lead(scope, floor, helm)?;
@@ -143,6 +149,7 @@ fn join_all<B: Room, R: Threads>(
     requires { IsRoll B.crew roll }
     ensures root { HasPolled B.crew B.root B.turns result.root result.polls }
     ensures roll { IsRoll B.crew result.roll }
+    ensures passed { result.passed ≡ false → B.shut }
 {
     let Led {
         shift,
@@ -178,8 +185,11 @@ pub(crate) fn staff<R: Threads + Wait, B: Room + Send + Sync, G: Gate + Sync>(
     requires none_yet { others.items ≡ [] }
     requires room { workers ≤ vec_capacity others }
     requires roll { IsRoll B.crew roll }
+    requires some { 0 < workers }
+    requires gate { AllTellShut (G.may_shut floor.now.gate.now) workers floor.now.turns B.shut }
     ensures root { IfOk result (λ j. HasPolled B.crew B.root B.turns j.root j.polls) }
     ensures roll { IfOk result (λ j. IsRoll B.crew j.roll) }
+    ensures passed { IfOk result (λ j. j.passed ≡ false → B.shut) }
     ensures fault { IfErr result (λ fault. fault ≡ Spawn) }
 {
     thread::scope(
@@ -189,9 +199,10 @@ pub(crate) fn staff<R: Threads + Wait, B: Room + Send + Sync, G: Gate + Sync>(
             requires { (floor.now.net.now ≡ B.crew.net) × (floor.now.turns ≡ B.turns)
                 × (helm.root ≡ B.root) × (helm.root.net ≡ B.crew.net)
                 × IfSome helm.seal (λ s. s.0.net ≡ B.crew.net)
-                × (others.items ≡ []) × (workers ≤ vec_capacity others) × IsRoll B.crew roll }
+                × (others.items ≡ []) × (workers ≤ vec_capacity others) × IsRoll B.crew roll × (0 < workers)
+                × AllTellShut (G.may_shut floor.now.gate.now) workers floor.now.turns B.shut }
             ensures { IfOk result (λ j. HasPolled B.crew B.root B.turns j.root j.polls
-                × IsRoll B.crew j.roll) × IfErr result (λ fault. fault ≡ Spawn) }
+                × IsRoll B.crew j.roll × (j.passed ≡ false → B.shut)) × IfErr result (λ fault. fault ≡ Spawn) }
         {
             let (lead, others) = start_all(scope, floor, helm, workers, others)?;
             Ok(join_all(rt, lead, others, roll))

@@ -29,6 +29,8 @@ const PAIR: Plan = Plan {
 struct Always;
 
 impl Gate for Always {
+    ghost may_shut = { λ _ _ _. ⊥ };
+
     fn pass(&self, _worker: u64, _turn: u64) -> bool {
         true
     }
@@ -38,6 +40,10 @@ impl Gate for Always {
 struct Never;
 
 impl Gate for Never {
+    ghost use Rattle.std.specs.Prelude.{⊤};
+
+    ghost may_shut = { λ _ _ _. ⊤ };
+
     fn pass(&self, _worker: u64, _turn: u64) -> bool {
         false
     }
@@ -50,6 +56,10 @@ struct ZeroAlone {
 }
 
 impl Gate for ZeroAlone {
+    ghost use Rattle.std.specs.Prelude.{◌<◌};
+
+    ghost may_shut = { λ _ worker _. 0 < worker };
+
     fn pass(&self, worker: u64, _turn: u64) -> bool {
         if worker == 0 {
             self.asked.store(1, SeqCst);
@@ -79,6 +89,10 @@ struct Together {
 }
 
 impl Gate for Together {
+    ghost use Rattle.std.specs.Prelude.{◌≡◌};
+
+    ghost may_shut = { λ _ _ turn. turn ≡ 0 };
+
     fn pass(&self, _worker: u64, turn: u64) -> bool {
         if turn > 0 {
             return true;
@@ -96,6 +110,10 @@ struct Behind {
 }
 
 impl Gate for Behind {
+    ghost use Rattle.std.specs.Prelude.{◌≡◌};
+
+    ghost may_shut = { λ _ worker turn. (worker ≡ 0) × (turn ≡ 0) };
+
     fn pass(&self, worker: u64, turn: u64) -> bool {
         if worker == 1 && turn == self.turn {
             self.asked.store(1, SeqCst);
@@ -232,6 +250,45 @@ fn out_of_turns(rt: HostRuntime) -> Result<(), Fail> {
     let plan = Plan { turns: 1, ..PAIR };
     let answer = run(&rt, alloc, &game, plan, &Always);
     assert!(&rt; matches!(answer, Err(CrewFault::Unfinished { deficit: 1, .. })));
+    Ok(())
+}
+
+/// Lets every worker pass, and notes what it is told of the polls.
+#[derive(Drop)]
+struct Noting {
+    polls: AtomicU64,
+    last_turn: AtomicU64,
+    most: AtomicU64,
+}
+
+impl Gate for Noting {
+    ghost may_shut = { λ _ _ _. ⊥ };
+
+    fn pass(&self, _worker: u64, _turn: u64) -> bool {
+        true
+    }
+
+    fn polled(&self, turn: u64, deficit: u64) {
+        self.polls.fetch_add(1, SeqCst);
+        self.last_turn.store(turn, SeqCst);
+        self.most.store(self.most.load(SeqCst).max(deficit), SeqCst);
+    }
+}
+
+/// One worker gives vertex 0, 1 and 2 a turn, and again. In its third turn vertex 0 acknowledges the root's one
+/// message, after which the root is closed, so the six polls before it are told.
+#[test]
+fn polls_are_told(rt: HostRuntime) -> Result<(), Fail> {
+    let gate = Noting {
+        polls: AtomicU64::new(0),
+        last_turn: AtomicU64::new(0),
+        most: AtomicU64::new(0),
+    };
+    let plan = Plan { workers: 1, ..PAIR };
+    expect_four(&rt, rt.alloc(), plan, &gate)?;
+    assert_eq!(&rt; gate.polls.load(SeqCst), 6);
+    assert_eq!(&rt; gate.last_turn.load(SeqCst), 5);
+    assert_eq!(&rt; gate.most.load(SeqCst), 1);
     Ok(())
 }
 

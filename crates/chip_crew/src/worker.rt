@@ -3,10 +3,12 @@
 ghost use Rattle.std.specs.Prelude.{◌≡◌, IfSome};
 ghost use Rattle.crossbeam_queue.specs.Passes.{IsPassOf};
 ghost use Rattle.chip_crew.specs.Crew.{IsOurs};
+ghost use Rattle.chip_crew.specs.Staff.{TellsShut, IsShift};
 
+use crate::boxed::BoxedActor;
 use crate::plan::Gate;
 use crate::queue::{Line, LinePass, Moves, Room};
-use chip_net::{Actor, Net, Turn};
+use chip_net::{Net, Turn};
 use std::sync::atomic::AtomicBool;
 use std::sync::atomic::Ordering::SeqCst;
 use std::thread;
@@ -30,14 +32,14 @@ pub(crate) struct Floor<'a, B: Room, G: Gate> {
 #[derive(Drop)]
 pub(crate) struct Shift {
     /// The actor that it couldn't put back.
-    pub kept: Option<Actor>,
+    pub kept: Option<BoxedActor>,
     /// Whether its gate never answered false.
     pub passed: bool,
 }
 
 impl<'a, B: Room, G: Gate> Floor<'a, B, G> {
     /// The actor that was kept, else one from the queue.
-    fn next_actor(&self, pass: &mut LinePass, kept: Option<Actor>) -> Option<Actor>
+    fn next_actor(&self, pass: &mut LinePass, kept: Option<BoxedActor>) -> Option<BoxedActor>
         requires pass { IsPassOf self.now.line.now pass.old }
         requires kept { IfSome kept (IsOurs B.crew) }
         ensures pass { IsPassOf self.now.line.now pass.new }
@@ -51,7 +53,7 @@ impl<'a, B: Room, G: Gate> Floor<'a, B, G> {
 
     /// Takes an actor, gives it a turn and puts it back. An actor that was kept has its turn in place of one from the
     /// queue, and one that can't be put back is kept.
-    pub fn one_turn(&self, pass: &mut LinePass, kept: Option<Actor>) -> Option<Actor>
+    pub fn one_turn(&self, pass: &mut LinePass, kept: Option<BoxedActor>) -> Option<BoxedActor>
         requires net { self.now.net.now ≡ B.crew.net }
         requires pass { IsPassOf self.now.line.now pass.old }
         requires kept { IfSome kept (IsOurs B.crew) }
@@ -72,8 +74,9 @@ impl<'a, B: Room, G: Gate> Floor<'a, B, G> {
 
     /// The turns of a worker other than worker 0, until it is told to stop.
     pub fn work(&self, worker: u64) -> Shift
-        requires { self.now.net.now ≡ B.crew.net }
-        ensures kept { IfSome result.kept (IsOurs B.crew) }
+        requires net { self.now.net.now ≡ B.crew.net }
+        requires gate { TellsShut (G.may_shut self.now.gate.now worker) self.now.turns B.shut }
+        ensures { IsShift B.crew B.shut result }
     {
         let mut pass = self.line.pass();
         let mut kept = None;

@@ -31,5 +31,5 @@ returns-clause-fault g c =
     } in
     let root : c.in_ok-net.root ≡ root_of crew c.args.plan = c.in_ok-net.ensures.root
     ∙ ap (λ (b : Bool). new_root c.in_ok-net.net (if b then None else Some [])) c.is_some-stoppable.ensures in
-    stopped_for c.args.game.now c.args.plan crew c.in_ok-net.root c.played_on.result opened root
-    c.played_on.ensures.stopped
+    stopped_for c.args.game.now c.args.plan (g.G.Gate.may_shut c.args.gate.now) crew c.in_ok-net.root
+    c.played_on.result opened root c.played_on.ensures.stopped

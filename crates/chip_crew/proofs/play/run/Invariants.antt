@@ -1,3 +1,4 @@
+use Rattle.chip_crew.specs.Staff.{SomeShut}
 use Rattle.chip_crew.proofs.play.run.Given as goal
 
 -- the crew of this net
@@ -6,4 +7,5 @@ ghosts-played_on g a = record {
   crew = record { net = a.net.now; room = a.plan.now.trace_rows };
   root = a.helm.root;
   turns = a.plan.now.turns;
+  shut = SomeShut (g.G.Gate.may_shut a.gate.now) a.plan.now.workers a.plan.now.turns;
 }

@@ -1,5 +1,7 @@
-use Rattle.std.proofs.Common.{◌≡◌, ◌≤◌, length}
+use Rattle.std.proofs.Common.{◌≡◌, ◌≤◌, ℕ, Some, length}
+use Rattle.std.specs.Prelude.{slice_get}
 use Rattle.std.specs.Vec.{vec_capacity}
+use Rattle.chip_net.specs.Tokens.{ActorKnown}
 use Rattle.chip_crew.specs.Crew.{AreSeats, AreInOrder}
 use Rattle.chip_crew.proofs.roll.gathered.Given as goal
 
@@ -9,4 +11,7 @@ invariant-loop-vertex g l = record {
   room : g.B.Room.crew.net.setting.graph.vertices ≤ vec_capacity l.actors;
   count : length l.actors.items ≡ l.vertex;
   order : AreInOrder g.B.Room.crew l.actors.items;
+  left : (v : ℕ) → l.vertex ≤ v → slice_get l.seats.items v ≡ slice_get l.fn.roll.seats.items v;
+  taken : (v : ℕ) (a : ActorKnown) → slice_get l.actors.items v ≡ Some a
+      → slice_get l.fn.roll.seats.items v ≡ Some (Some a);
 }

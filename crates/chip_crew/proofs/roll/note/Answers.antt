@@ -1,11 +1,23 @@
-use Rattle.std.proofs.Common.{sym}
-use Rattle.chip_crew.proofs.Gathering.{seats_put}
+use Rattle.std.proofs.Common.{◌≡◌, ℕ, Some, None, set, ap, refl, sym, subst, rules}
+use Rattle.std.specs.Prelude.{slice_get}
+use Rattle.chip_crew.proofs.Gathering.{seats_put, free_where, free_or_seated}
 use Rattle.chip_crew.proofs.roll.note.Goals as goal
 
-pub returns-then-is_none : goal.returns-then-is_none
-returns-then-is_none g c = record {
+pub returns-then-is_none-clause-roll : goal.returns-then-is_none-clause-roll
+returns-then-is_none-clause-roll g c = record {
   seats = seats_put g.B.Room.crew _ _ c.args.actor c.requires.actor (sym c.vertex-vertex.ensures) c.requires.roll.seats;
   none_yet = c.requires.roll.none_yet;
   room = c.requires.roll.room;
   doubled = c.requires.roll.doubled;
 }
+
+pub returns-then-is_none-clause-noted : goal.returns-then-is_none-clause-noted
+returns-then-is_none-clause-noted g c =
+    let seats = c.args.roll.now.seats.items in
+    let free : slice_get seats c.args.actor.vertex ≡ Some None =
+    subst (λ (v : ℕ). slice_get seats v ≡ Some None) c.vertex-vertex.ensures
+    (free_where seats c.vertex-vertex.result c.index.result.now (search rules) c.index.ensures c.if-is_none.ensures) in
+    record {
+      placed = λ _. (ap (λ (v : ℕ). set seats v (Some c.args.actor)) c.vertex-vertex.ensures, refl);
+      doubled = λ seated. absurd (free_or_seated seats c.args.actor.vertex free seated);
+    }

@@ -1,4 +1,4 @@
-use Rattle.std.proofs.Common.{◌≡◌, IfSome}
+use Rattle.std.proofs.Common.{◌≡◌, true, IfSome}
 use Rattle.crossbeam_queue.specs.Passes.{IsPassOf}
 use Rattle.chip_crew.specs.Crew.{IsOurs, Polled}
 use Rattle.chip_crew.proofs.worker.Floor.lead.Given as goal
@@ -12,4 +12,5 @@ invariant-loop-turn g l = record {
   here : l.self.net.now ≡ g.B.Room.crew.net;
   polls : l.polls ≡ l.turn;
   polled : Polled l.turn l.initial.root l.root;
+  passed : l.passed ≡ true;
 }

@@ -29,9 +29,13 @@ fault_of_crew (crew.Doubled vertex) = fault.Doubled vertex
 fault_of_crew (crew.Lost vertex) = fault.Lost vertex
 fault_of_crew (crew.Unfinished deficit root) = fault.Unfinished deficit
 
--- a crew of this game by this plan didn't finish, and this is why
+-- the calls of a gate that may answer false, where it never does
+abbrev pub never_shut : ℕ → ℕ → Type 0
+never_shut worker turn = ⊥
+
+-- a crew of this game by this plan, whose gate is never shut, didn't finish, and this is why
 abbrev pub IsCrewFault : ChipGame → Plan → Fault → Type 0
-IsCrewFault g plan f = (e : CrewFault) × IsFaultOf g plan e × (f ≡ fault_of_crew e)
+IsCrewFault g plan f = (e : CrewFault) × IsFaultOf g plan never_shut e × (f ≡ fault_of_crew e)
 
 -- why a trace was not written: there is no memory, or it was asked for and a write failed
 abbrev pub IsRecordFault : Bool → Fault → Type 0

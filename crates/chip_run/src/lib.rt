@@ -4,7 +4,7 @@
 //! those need not read the running net.
 #![tactic(auto)]
 
-pub use running::run_engine;
+pub use running::{run_engine, run_engine_gated};
 
 mod recording;
 mod running;

@@ -1,6 +1,7 @@
 //! What the actors of a crew wrote down.
 
-ghost use Rattle.std.specs.Prelude.{◌≡◌, true, false, is_some, IfOk, IfErr};
+ghost use Rattle.std.specs.Prelude.{◌≡◌, true, ◌&&◌, is_some, IfOk, IfErr};
+ghost use Rattle.chip_run.specs.Recording.{Records, some_cut};
 ghost use Rattle.chip_run.specs.RunCommand.{IsRecordFault};
 
 use chip_engine::Fault;
@@ -15,7 +16,7 @@ pub(crate) fn recorded<T: Write>(
     actors: &[Actor],
     trace: Option<&mut T>,
 ) -> Result<bool, Fault>
-    ensures cut { IfOk result (λ cut. is_some trace.entry ≡ false → cut ≡ false) }
+    ensures cut { IfOk result (λ cut. cut ≡ (is_some trace.entry && some_cut actors.now)) }
     ensures fault { IfErr result (IsRecordFault (is_some trace.entry)) }
 {
     match trace {
@@ -26,7 +27,8 @@ pub(crate) fn recorded<T: Write>(
 
 /// Writes the traces of all actors, and tells whether one of them was cut.
 fn write_traces<T: Write>(alloc: Global, actors: &[Actor], writer: &mut T) -> Result<bool, Fault>
-    ensures { IfErr result (IsRecordFault true) }
+    ensures records { IfOk result (λ cut. Records actors.now (T.contents writer.old) (T.contents writer.new) cut) }
+    ensures fault { IfErr result (IsRecordFault true) }
 {
     let mut traces = Vec::with_capacity(alloc, actors.len())?;
     let mut cut = false;

@@ -1,6 +1,6 @@
 //! The engine.
 
-ghost use Rattle.std.specs.Prelude.{◌≡◌, None, is_some, IfOk, IfErr};
+ghost use Rattle.std.specs.Prelude.{◌≡◌, ℕ, None, is_some, IfOk, IfErr};
 ghost use Rattle.std.specs.Option.{ForSome};
 ghost use Rattle.chip_report.specs.ReportText.{report_text};
 ghost use Rattle.chip_engine.specs.PlainCommand.{Reports, plain_status};
@@ -22,6 +22,8 @@ use std::thread::Threads;
 struct Always;
 
 impl Gate for Always {
+    ghost may_shut = { λ _ _ _. ⊥ };
+
     fn pass(&self, _worker: u64, _turn: u64) -> bool {
         true
     }
@@ -51,7 +53,6 @@ pub fn run_engine<R: Threads + Wait + Sync, G: Read, C: Read, T: Write, W: Write
         (λ chips_text. RunAnswers graph_text chips_text limit (plan_of ring workers turns trace_rows) (is_some trace.entry)
         (W.contents output.old) (W.contents output.new) result)) }
 {
-    let game = read_game(alloc, graph, chips, limit)?;
     let plan = Plan {
         workers,
         ring,
@@ -59,7 +60,38 @@ pub fn run_engine<R: Threads + Wait + Sync, G: Read, C: Read, T: Write, W: Write
         trace_rows,
         seal: None,
     };
-    let played = play(rt, alloc, &game, plan)?;
+    run_engine_gated(rt, alloc, graph, chips, limit, plan, &Always, trace, output)
+}
+
+/// Does what `run_engine` does, by a plan that seals nothing. The gate is asked before each turn and always answers true;
+/// it is told of the polls, and changes nothing of the bytes and the status.
+pub fn run_engine_gated<
+    R: Threads + Wait + Sync,
+    G: Read,
+    C: Read,
+    K: Gate + Sync,
+    T: Write,
+    W: Write,
+>(
+    rt: &R,
+    alloc: Global,
+    graph: &mut G,
+    chips: &mut C,
+    limit: u64,
+    plan: Plan,
+    gate: &K,
+    trace: Option<&mut T>,
+    output: &mut W,
+) -> Result<Ended, Fault>
+    requires seal { plan.seal ≡ None }
+    requires gate { (worker turn : ℕ) → K.may_shut gate.now worker turn → ⊥ }
+    ensures { ForSome (G.remaining graph.old)
+        (λ graph_text. ForSome (C.remaining chips.old)
+        (λ chips_text. RunAnswers graph_text chips_text limit plan (is_some trace.entry)
+        (W.contents output.old) (W.contents output.new) result)) }
+{
+    let game = read_game(alloc, graph, chips, limit)?;
+    let played = play(rt, alloc, &game, plan, gate)?;
     let cut = recorded(alloc, &played.actors, trace)?;
     write_all_of(output, &played.text)?;
     Ok(Ended {
@@ -80,17 +112,19 @@ struct Played {
 }
 
 /// Plays a game.
-fn play<R: Threads + Wait + Sync>(
+fn play<R: Threads + Wait + Sync, K: Gate + Sync>(
     rt: &R,
     alloc: Global,
     game: &Game,
     plan: Plan,
+    gate: &K,
 ) -> Result<Played, Fault>
-    requires { plan.seal ≡ None }
+    requires seal { plan.seal ≡ None }
+    requires gate { (worker turn : ℕ) → K.may_shut gate.now worker turn → ⊥ }
     ensures played { IfOk result (λ p. Reports game.now p.text.items p.status) }
     ensures fault { IfErr result (IsNotPlayed game.now plan) }
 {
-    match run(rt, alloc, game, plan, &Always) {
+    match run(rt, alloc, game, plan, gate) {
         Ok(finished) => Ok(reported(alloc, finished)?),
         Err(fault) => Err(fault_of_crew(fault)),
     }

@@ -3,7 +3,7 @@ use Rattle.chip_run.proofs.running.play.Goals as goal
 pub returns-in_ok-reported-in-Ok-clause-played : goal.returns-in_ok-reported-in-Ok-clause-played
 returns-in_ok-reported-in-Ok-clause-played g c = (
   c.in-Ok.finished.outcome,
-  c.in-Ok.ensures.finished.played c.requires,
+  c.in-Ok.ensures.finished.played c.requires.seal,
   c.in_ok-reported-in-Ok.ensures.0,
   c.in_ok-reported-in-Ok.ensures.1,
 )

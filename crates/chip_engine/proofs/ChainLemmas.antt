@@ -23,6 +23,7 @@ use Rattle.chip_report.proofs.ReportTwoLemmas.{one_sitting, not_both}
 use Rattle.chip_engine.specs.Inputs.{Reads, MeansGame}
 use Rattle.chip_engine.specs.ResumeCommand.{LeadsToTheEnd}
 use Rattle.chip_engine.specs.Sittings.{TellsPlayFrom, IsResumedTo, AreResumed}
+use Rattle.chip_core.specs.Positions.{started}
 use Rattle.chip_engine.specs.Sittings.{PlainTellsPlay, SimulateTellsPlay, ResumedPlaysAddUp}
 use Rattle.chip_engine.proofs.SittingLemmas.{LeavesNoneLegal, none_legal, leads_on}
 
@@ -79,7 +80,7 @@ plain_tells_play graph_text chips_text limit report ended (h, means', text, repo
 
 pub simulate_tells_play : SimulateTellsPlay
 simulate_tells_play g log end report status ends is =
-    first_tells g.graph (slice_index g.start) ends.outcome ends.reportable (
+    first_tells g.graph (started g log) ends.outcome ends.reportable (
       _,
       record { sequence = ends.comes.sequence; counted = ends.comes.counted; position = ends.comes.position },
     )

@@ -5,7 +5,7 @@ use Rattle.std.proofs.lemmas.Bool.{eqb-true, leb-true}
 use Rattle.std.specs.Option.{IfSome}
 use Rattle.std.specs.Result.{IsErrAnd}
 use Rattle.std.specs.Io.KnownBytes.{Keeps}
-use Rattle.chip_actor.specs.Setting.{setting_of}
+use Rattle.chip_actor.specs.Setting.{setting_with}
 use Rattle.chip_graph.specs.Multigraph.{Multigraph, IsGraph}
 use Rattle.chip_graph.specs.ChipGame.{ChipGame, IsGame}
 use Rattle.chip_graph.specs.Faults.{first_of_faults, unless, fault_of_game}
@@ -162,24 +162,24 @@ means_traces graph_text chips_text trace_text limit g traces G same game each = 
 }
 
 -- the same of `simulate`
-pub refused_simulate : (graph_text chips_text schedule_text : List ℕ) (limit ring rounds : ℕ) (books : Bool)
+pub refused_simulate : (graph_text chips_text schedule_text : List ℕ) (limit ring rounds : ℕ) (books fed : Bool)
     (known : Option (List ℕ)) (result : Result Ended Fault) (P : Fault → Type 0) → IsErrAnd result P
     → ((fault : Fault) → P fault → RefusesEvents graph_text chips_text schedule_text limit fault ⊎ (fault ≡ NoMemory))
-    → SimulateAnswers graph_text chips_text schedule_text limit ring rounds books known known result
-refused_simulate graph_text chips_text schedule_text limit ring rounds books known (Ok ended) P is why = absurd is
-refused_simulate graph_text chips_text schedule_text limit ring rounds books known (Err fault) P is why =
+    → SimulateAnswers graph_text chips_text schedule_text limit ring rounds books fed known known result
+refused_simulate graph_text chips_text schedule_text limit ring rounds books fed known (Ok ended) P is why = absurd is
+refused_simulate graph_text chips_text schedule_text limit ring rounds books fed known (Err fault) P is why =
     inl (why fault is, Keeps-same known)
 
-pub failed_simulate : (graph_text chips_text schedule_text : List ℕ) (limit ring rounds : ℕ) (books : Bool)
+pub failed_simulate : (graph_text chips_text schedule_text : List ℕ) (limit ring rounds : ℕ) (books fed : Bool)
     (old new : Option (List ℕ)) (result : Result Ended Fault) (P : Fault → Type 0) → IsErrAnd result P → (g : ChipGame)
     (events : List Event)
     → MeansEvents graph_text chips_text schedule_text limit g events → (text : List ℕ) (status : ℕ)
-    → Simulates (setting_of g ring) rounds books events text status → (w : WriteFault)
+    → Simulates (setting_with g ring fed) rounds books events text status → (w : WriteFault)
     → ((fault : Fault) → P fault → fault ≡ Write w) → WritesAll old new text (Err w)
-    → SimulateAnswers graph_text chips_text schedule_text limit ring rounds books old new result
-failed_simulate graph_text chips_text schedule_text limit ring rounds books old new
+    → SimulateAnswers graph_text chips_text schedule_text limit ring rounds books fed old new result
+failed_simulate graph_text chips_text schedule_text limit ring rounds books fed old new
     (Ok ended) P is g events means text status simulates w why wrote = absurd is
-failed_simulate graph_text chips_text schedule_text limit ring rounds books old new
+failed_simulate graph_text chips_text schedule_text limit ring rounds books fed old new
     (Err fault) P is g events means text status simulates w why wrote =
     inr (g, events, means, text, status, simulates, w, why fault is, wrote)
 

@@ -1,5 +1,6 @@
 -- The numbers under which faults are printed, and where each is.
-use Rattle.std.specs.Prelude.{ℕ}
+use Rattle.std.specs.Prelude.{ℕ, List, [], ◌++◌, codes}
+use Rattle.std.specs.Fmt.{decimal}
 use Rattle.chip_graph.specs.declared.fault.GraphFault.{GraphFault}
 use Rattle.chip_graph.specs.declared.fault.GraphFault.TheVariants as graph
 use Rattle.chip_graph.specs.declared.fault.GameFault.{GameFault}
@@ -111,6 +112,12 @@ location_of (fault.Stuck vertex row) = AtRow vertex row
 location_of (fault.Open argument) = At argument
 location_of (fault.Write f) = At f.written
 location_of _ = Nowhere
+
+-- a location as it is printed behind a fault's name: a blank and a number for each of its numbers
+abbrev pub location_text : Location → List ℕ
+location_text Nowhere = []
+location_text (At number) = codes " " ++ decimal number
+location_text (AtRow vertex row) = codes " " ++ decimal vertex ++ codes " " ++ decimal row
 
 -- the exit status of a command that failed: 3 where a crew has no turns left
 abbrev pub status_of_fault : Fault → ℕ

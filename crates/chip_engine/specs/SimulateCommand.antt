@@ -9,7 +9,7 @@ use Rattle.chip_link.specs.declared.event.Event.{Event}
 use Rattle.chip_link.specs.declared.message.Message.{Message}
 use Rattle.chip_actor.specs.declared.reply.Reply.{Reply}
 use Rattle.chip_actor.specs.declared.reply.Reply.TheVariants.{Done, Got, Sent, Empty, Full, Sealed, NotNow}
-use Rattle.chip_actor.specs.Setting.{Setting, setting_of, game_of_setting}
+use Rattle.chip_actor.specs.Setting.{Setting, setting_with}
 use Rattle.chip_actor.specs.Numbers.{number_of}
 use Rattle.chip_core.specs.Core.{Log, step, log_after}
 use Rattle.chip_core.specs.Headline.{NoneHaltedBySeal}
@@ -17,7 +17,7 @@ use Rattle.chip_world.specs.declared.world.driving.Drive.{Drive}
 use Rattle.chip_world.specs.declared.world.driving.Drive.TheVariants.{Closed, Unfinished}
 use Rattle.chip_world.specs.Rounds.{IsDrive}
 use Rattle.chip_core.specs.Outcomes.{IsOutcomeOf, ComesTo}
-use Rattle.chip_core.specs.Positions.{firings}
+use Rattle.chip_core.specs.Positions.{firings, started, played_game}
 use Rattle.chip_file.specs.ScheduleText.{schedule_of_text, schedule_text_fault}
 use Rattle.chip_fire.specs.declared.outcome.Outcome.{Outcome}
 use Rattle.chip_fire.specs.Outcomes.{IsOutcome}
@@ -57,15 +57,15 @@ answers_text books g log (x ∷ xs) =
 
 -- the end of a closed run: the report of its outcome and the status that `plain` has for it. The firings of the run
 -- lead to this outcome, so that a play can go on from it; and unless a vertex halted by a seal, it is what `plain`
--- writes for the game, and its status
+-- writes for the game that has all chips that were given from the start, and its status
 pub record EndsClosed (g : Setting) (log : Log) (end : List ℕ) (status : ℕ) : Type 0 where
   pub outcome : Outcome
   pub outcome_is : IsOutcomeOf g log outcome
   pub reportable : IsOutcome outcome
-  pub comes : ComesTo g (firings log) outcome
+  pub comes : ComesTo g (started g log) (firings log) outcome
   pub reported : end ≡ codes "root closed\n" ++ report_text outcome
   pub status_is : status ≡ plain_status outcome
-  pub plays : NoneHaltedBySeal g log → Reports (game_of_setting g) (report_text outcome) status
+  pub plays : NoneHaltedBySeal g log → Reports (played_game g log) (report_text outcome) status
 
 -- the end of a run, by how its rounds ended
 abbrev pub EndsBy : Setting → Log → Drive → List ℕ → ℕ → Type 0
@@ -98,14 +98,14 @@ RefusesEvents graph_text chips_text schedule_text limit fault =
 
 -- what `simulate` answers: the text of the simulation; or nothing is written and the inputs are refused; or the output
 -- failed
-abbrev pub SimulateAnswers : List ℕ → List ℕ → List ℕ → ℕ → ℕ → ℕ → Bool
+abbrev pub SimulateAnswers : List ℕ → List ℕ → List ℕ → ℕ → ℕ → ℕ → Bool → Bool
     → Option (List ℕ) → Option (List ℕ) → Result Ended Fault → Type 0
-SimulateAnswers graph_text chips_text schedule_text limit ring rounds books old new (Ok ended) =
+SimulateAnswers graph_text chips_text schedule_text limit ring rounds books fed old new (Ok ended) =
     (g : ChipGame) × (events : List Event) × MeansEvents graph_text chips_text schedule_text limit g events
-    × (text : List ℕ) × Simulates (setting_of g ring) rounds books events text ended.status
+    × (text : List ℕ) × Simulates (setting_with g ring fed) rounds books events text ended.status
     × Appends old new text × (ended.cut ≡ false)
-SimulateAnswers graph_text chips_text schedule_text limit ring rounds books old new (Err fault) =
+SimulateAnswers graph_text chips_text schedule_text limit ring rounds books fed old new (Err fault) =
     ((RefusesEvents graph_text chips_text schedule_text limit fault ⊎ (fault ≡ NoMemory)) × Keeps old new)
     ⊎ ((g : ChipGame) × (events : List Event) × MeansEvents graph_text chips_text schedule_text limit g events
-    × (text : List ℕ) × (status : ℕ) × Simulates (setting_of g ring) rounds books events text status
+    × (text : List ℕ) × (status : ℕ) × Simulates (setting_with g ring fed) rounds books events text status
     × (w : WriteFault) × (fault ≡ Write w) × WritesAll old new text (Err w))

@@ -8,6 +8,7 @@ use Rattle.chip_fire.specs.declared.sitting.Resumed.{Resumed}
 use Rattle.chip_report.specs.ReportTwo.{IsAnyReportOf}
 use Rattle.chip_actor.specs.Setting.{Setting}
 use Rattle.chip_core.specs.Core.{Log}
+use Rattle.chip_core.specs.Positions.{started}
 use Rattle.chip_engine.specs.Inputs.{Reads, MeansGame}
 use Rattle.chip_engine.specs.PlainCommand.{PlainAnswers}
 use Rattle.chip_engine.specs.ResumeCommand.{LeadsToTheEnd, ResumeAnswers}
@@ -36,11 +37,11 @@ PlainTellsPlay =
     → PlainAnswers graph_text chips_text limit (Some []) (Some report) (Ok ended)
     → (g : ChipGame) → MeansGame graph_text chips_text limit g → TellsPlayFrom g.graph (slice_index g.start) report
 
--- and so does the report of a simulation that closed, whatever halted its vertices
+-- and so does the report of a simulation that closed, from the chips that were given in it, whatever halted its vertices
 abbrev pub SimulateTellsPlay : Type 0
 SimulateTellsPlay =
     (g : Setting) (log : Log) (end report : List ℕ) (status : ℕ) → EndsClosed g log end status
-    → end ≡ codes "root closed\n" ++ report → TellsPlayFrom g.graph (slice_index g.start) report
+    → end ≡ codes "root closed\n" ++ report → TellsPlayFrom g.graph (started g log) report
 
 -- however often a play was resumed since a report that tells it from x, and once more: the last report leads to the end
 -- of the play that was never stopped

@@ -4,8 +4,8 @@ ghost use Rattle.std.specs.Prelude.{◌≡◌};
 ghost use Rattle.std.specs.Option.{ForSome};
 
 use crate::ended::{DONE, Ended};
-use crate::explanations::{EXPLANATIONS, Explanation};
 use crate::fault::Fault;
+use chip_faults::{EXPLANATIONS, Explanation};
 use chip_report::write_all_of;
 use std::alloc::{AllocError, Global};
 use std::io::Write;

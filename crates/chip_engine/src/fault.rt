@@ -7,8 +7,7 @@ ghost use Rattle.chip_engine.specs.FaultNumbers.{location_of_graph_fault, locati
 ghost use Rattle.chip_engine.specs.declared.fault.Location.TheVariants.{Nowhere};
 
 use crate::ended::{FAILED, OPEN};
-use crate::explanations as table;
-use crate::explanations::Explanation;
+use chip_faults::{Explanation, table};
 use chip_file::FileFault;
 use chip_fire::ResumeFault;
 use chip_graph::{GameFault, GraphFault};
@@ -197,6 +196,11 @@ pub enum Location {
 }
 
 impl fmt::Display for Location {
+    ghost use Rattle.std.specs.Prelude.{Some};
+    ghost use Rattle.chip_engine.specs.FaultNumbers.{location_text};
+
+    ghost output = { λ location. Some (location_text location) };
+
     fn fmt<W: fmt::Write>(&self, f: &mut fmt::Formatter<W>) -> fmt::Result {
         match self {
             Location::Nowhere => Ok(()),

@@ -6,12 +6,12 @@
 #![tactic(auto)]
 
 pub use check::check_engine;
+pub use chip_faults::{EXPLANATIONS, Explanation, Place};
 pub use ended::{DONE, Ended, FAILED, HALTED, OPEN};
 pub use explain::explain_engine;
-pub use explanations::{EXPLANATIONS, Explanation, Place};
 pub use fault::{Fault, FaultLine, Location};
 pub use inputs::read_game;
-pub use plain::{plain_engine, status_of};
+pub use plain::{plain_engine, plain_engine_watched, status_of};
 pub use replay::replay_engine;
 pub use resume::resume_engine;
 pub use simulate::simulate_engine;
@@ -20,7 +20,6 @@ mod board;
 mod check;
 mod ended;
 mod explain;
-mod explanations;
 mod fault;
 #[cfg(test)]
 mod fault_tests;

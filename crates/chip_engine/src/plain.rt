@@ -7,7 +7,7 @@ ghost use Rattle.chip_engine.specs.PlainCommand.{Reports, PlainAnswers, plain_st
 use crate::ended::{DONE, Ended, HALTED};
 use crate::fault::Fault;
 use crate::inputs::read_game;
-use chip_fire::{Outcome, plain};
+use chip_fire::{Outcome, Unwatched, Watch, plain_watched};
 use chip_graph::Game;
 use chip_report::report::{is_closed, report};
 use chip_report::write_all_of;
@@ -29,17 +29,35 @@ pub fn plain_engine<G: Read, C: Read, W: Write>(
         (λ chips_text. PlainAnswers graph_text chips_text limit
         (W.contents output.old) (W.contents output.new) result)) }
 {
+    plain_engine_watched(alloc, graph, chips, limit, &mut Unwatched, output)
+}
+
+/// Does what `plain_engine` does, and tells after each round how far the play has come. Its answer and its bytes are
+/// the same, whoever is told.
+pub fn plain_engine_watched<G: Read, C: Read, P: Watch, W: Write>(
+    alloc: Global,
+    graph: &mut G,
+    chips: &mut C,
+    limit: u64,
+    watch: &mut P,
+    output: &mut W,
+) -> Result<Ended, Fault>
+    ensures { ForSome (G.remaining graph.old)
+        (λ graph_text. ForSome (C.remaining chips.old)
+        (λ chips_text. PlainAnswers graph_text chips_text limit
+        (W.contents output.old) (W.contents output.new) result)) }
+{
     let game = read_game(alloc, graph, chips, limit)?;
-    let (text, status) = played(alloc, &game)?;
+    let (text, status) = played(alloc, &game, watch)?;
     write_all_of(output, &text)?;
     Ok(Ended { status, cut: false })
 }
 
 /// The report of a game played to its end, and the exit status.
-fn played(alloc: Global, game: &Game) -> Result<(Vec<u8>, u8), AllocError>
+fn played<P: Watch>(alloc: Global, game: &Game, watch: &mut P) -> Result<(Vec<u8>, u8), AllocError>
     ensures { IfOk result (λ made. Reports game.now made.0.items made.1) }
 {
-    let outcome = plain(alloc, game)?;
+    let outcome = plain_watched(alloc, game, watch)?;
     let text = report(alloc, &outcome)?;
     Ok((text, status_of(&outcome)))
 }

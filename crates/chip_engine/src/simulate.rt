@@ -2,7 +2,7 @@
 
 ghost use Rattle.std.specs.Prelude.{◌≡◌, ◌++◌, [], IfOk, IfErr, codes, string_bytes};
 ghost use Rattle.std.specs.Option.{ForSome};
-ghost use Rattle.chip_actor.specs.Setting.{Setting, setting_of};
+ghost use Rattle.chip_actor.specs.Setting.{Setting, setting_with};
 ghost use Rattle.chip_core.specs.Core.{Log, IsClosed, log_after};
 ghost use Rattle.chip_world.specs.World.{StandsForLog, WhateverLog};
 ghost use Rattle.chip_world.specs.declared.world.driving.Drive.TheVariants.{Closed};
@@ -27,7 +27,8 @@ use std::io::{Read, Write};
 
 /// Runs a schedule on the game of a graph file, a chips file and a firing limit, with rings of so many cells, and then
 /// so many rounds of turns at most; writes a line for each reply of the schedule, with the books of the detector behind
-/// it where they are asked for, and the report where the root closes.
+/// it where they are asked for, and the report where the root closes. A game that is `fed` gets chips by its schedule
+/// too, and closes only after that has noted the end.
 pub fn simulate_engine<G: Read, C: Read, S: Read, W: Write>(
     alloc: Global,
     graph: &mut G,
@@ -37,17 +38,18 @@ pub fn simulate_engine<G: Read, C: Read, S: Read, W: Write>(
     ring: Ring,
     rounds: u64,
     books: bool,
+    fed: bool,
     output: &mut W,
 ) -> Result<Ended, Fault>
     ensures { ForSome (G.remaining graph.old)
         (λ graph_text. ForSome (C.remaining chips.old)
         (λ chips_text. ForSome (S.remaining schedule.old)
-        (λ schedule_text. SimulateAnswers graph_text chips_text schedule_text limit ring rounds books
+        (λ schedule_text. SimulateAnswers graph_text chips_text schedule_text limit ring rounds books fed
         (W.contents output.old) (W.contents output.new) result))) }
 {
     let game = read_game(alloc, graph, chips, limit)?;
     let events = read_schedule(alloc, schedule, game.graph())?;
-    let (text, status) = simulated(alloc, &game, &events, ring, rounds, books)?;
+    let (text, status) = simulated(alloc, &game, &events, ring, rounds, books, fed)?;
     write_all_of(output, &text)?;
     Ok(Ended { status, cut: false })
 }
@@ -60,12 +62,13 @@ fn simulated(
     ring: Ring,
     rounds: u64,
     books: bool,
+    fed: bool,
 ) -> Result<(Vec<u8>, u8), Fault>
     ensures ok { IfOk result
-        (λ made. Simulates (setting_of game.now ring) rounds books events.now made.0.items made.1) }
+        (λ made. Simulates (setting_with game.now ring fed) rounds books events.now made.0.items made.1) }
     ensures err { IfErr result (λ fault. fault ≡ NoMemory) }
 {
-    let (mut world, mut text) = scheduled(alloc, game, events, ring, books)?;
+    let (mut world, mut text) = scheduled(alloc, game, events, ring, books, fed)?;
     let drive = world.drive(rounds);
     let (end, status) = end_of(alloc, &world, drive)?;
     text.extend_from_slice(&end)?;
@@ -79,19 +82,31 @@ fn scheduled(
     events: &[Event],
     ring: Ring,
     books: bool,
+    fed: bool,
 ) -> Result<(World, Vec<u8>), AllocError>
     ensures world { IfOk result
-        (λ made. let g = setting_of game.now ring in StandsForLog g (log_after g [] events.now) made.0) }
+        (λ made. let g = setting_with game.now ring fed in StandsForLog g (log_after g [] events.now) made.0) }
     ensures lines { IfOk result
-        (λ made. made.1.items ≡ answers_text books (setting_of game.now ring) [] events.now) }
+        (λ made. made.1.items ≡ answers_text books (setting_with game.now ring fed) [] events.now) }
 {
-    let mut world = World::open(alloc, game, ring)?;
+    let mut world = opened(alloc, game, ring, fed)?;
     let mut lines = String::new(alloc);
     for event in events {
         let reply = world.step(*event);
         push_answer(&mut lines, reply, &world, game.graph(), books)?;
     }
     Ok((world, lines.into_bytes()))
+}
+
+/// The world at its opening, which may be fed or not.
+fn opened(alloc: Global, game: &Game, ring: Ring, fed: bool) -> Result<World, AllocError>
+    ensures { IfOk result (StandsForLog (setting_with game.now ring fed) []) }
+{
+    if fed {
+        World::open_fed(alloc, game, ring)
+    } else {
+        World::open(alloc, game, ring)
+    }
 }
 
 /// The end of a run whose rounds ended so, and the exit status.

@@ -221,6 +221,40 @@ fn simulates_what_is_sealed_half_way(rt: HostRuntime) {
             ring,
             rounds,
             false,
+            false,
+            &mut output,
+        );
+        assert_eq!(rt; ended, wanted);
+        assert_eq!(rt; output.as_slice(), text.as_bytes());
+    }
+}
+
+/// Vertex 0 gets four chips while the game runs.
+const FED: &str = "event,at,count\nclear,4,0\nfeed,4,4\nput,4,0\nend,0,0\n";
+
+#[test]
+fn simulates_what_is_fed(rt: HostRuntime) {
+    let fed = "done 0\nsent 0 4\ndone 4\ndone 0\nroot closed\n\
+        {\"chips\":[1,0,3],\"closed\":true,\"fired\":[2,1,0],\"over\":[],\"sealed\":[],\"version\":1}\n";
+    let not_fed = "not-now 1\nnot-now 17\nnot-now 1\ndone 0\nroot closed\n\
+        {\"chips\":[0,0,0],\"closed\":true,\"fired\":[0,0,0],\"over\":[],\"sealed\":[],\"version\":1}\n";
+    let without_end = "event,at,count\n";
+    for (schedule, is_fed, wanted, text) in [
+        (FED, true, closed(0), fed),
+        (FED, false, closed(0), not_fed),
+        (without_end, true, closed(3), "root open\n"),
+    ] {
+        let mut output = Vec::new(rt.alloc());
+        let ended = simulate_engine(
+            rt.alloc(),
+            &mut TRIANGLE.as_bytes(),
+            &mut "vertex,chips\n".as_bytes(),
+            &mut schedule.as_bytes(),
+            NO_LIMIT,
+            Ring::new(1).expect(&rt, "1 to 64 cells"),
+            10,
+            false,
+            is_fed,
             &mut output,
         );
         assert_eq!(rt; ended, wanted);

@@ -37,6 +37,14 @@ pub struct GameArguments<'a> {
     pub limit: u64,
 }
 
+/// A play on one thread that the arguments ask for.
+#[derive(Clone, Copy)]
+pub struct PlainArguments<'a> {
+    pub game: GameArguments<'a>,
+    /// Whether it is told how the play goes on.
+    pub progress: bool,
+}
+
 /// A simulation that the arguments ask for.
 #[derive(Clone, Copy)]
 pub struct SimulationArguments<'a> {
@@ -47,6 +55,8 @@ pub struct SimulationArguments<'a> {
     pub rounds: u64,
     /// Whether the books of the detector follow each reply.
     pub books: bool,
+    /// Whether the schedule may feed chips.
+    pub fed: bool,
 }
 
 /// A play on threads that the arguments ask for.
@@ -62,6 +72,8 @@ pub struct RunArguments<'a> {
     pub trace: Option<FileArgument<'a>>,
     /// For how many rows of each vertex there is room in it, up to 2^20.
     pub trace_rows: u64,
+    /// Whether it is told how the play goes on.
+    pub progress: bool,
 }
 
 /// A play to go on with that the arguments name: its files, and how often each vertex may fire in this sitting.
@@ -79,7 +91,7 @@ pub enum Request<'a> {
     /// The help or the version, to be printed.
     Help(String),
     Check(FileArgument<'a>),
-    Plain(GameArguments<'a>),
+    Plain(PlainArguments<'a>),
     Simulate(SimulationArguments<'a>),
     Run(RunArguments<'a>),
     /// The game, and the file of the traces.
@@ -108,13 +120,17 @@ fn request_of<'a>(matches: &ArgMatches<'a>, arguments: &[String]) -> Result<Requ
     let (name, found) = matches.subcommand().ok_or(Fault::Usage)?;
     match name {
         "check" => Ok(Request::Check(file_of(found, "GRAPH", arguments, 0)?)),
-        "plain" => Ok(Request::Plain(game_of(found, arguments)?)),
+        "plain" => Ok(Request::Plain(PlainArguments {
+            game: game_of(found, arguments)?,
+            progress: found.get_flag("progress"),
+        })),
         "simulate" => Ok(Request::Simulate(SimulationArguments {
             game: game_of(found, arguments)?,
             schedule: file_of(found, "SCHEDULE", arguments, 2)?,
             ring: ring_of(found)?,
             rounds: found.get_one::<u64>("rounds").unwrap_or(0),
             books: found.get_flag("books"),
+            fed: found.get_flag("fed"),
         })),
         "run" => run_of(found, arguments),
         "replay" => Ok(Request::Replay(
@@ -150,6 +166,7 @@ fn run_of<'a>(found: &ArgMatches<'a>, arguments: &[String]) -> Result<Request<'a
         trace_rows: found
             .get_one::<u64>("trace-rows")
             .unwrap_or(rows_by_default),
+        progress: found.get_flag("progress"),
     }))
 }
 
@@ -202,8 +219,8 @@ fn file_of<'a>(
 
 /// The number of the argument that names a file and has so many files before it, to be told where it cannot be opened.
 ///
-/// An option is no file, nor is the argument behind it, where its value stands; behind `--` each argument is a file.
-/// `--books` has no value.
+/// An option is no file, nor is the argument behind it, where its value stands, unless the option has none; behind `--`
+/// each argument is a file.
 fn number_of(arguments: &[String], files_before: u64) -> Option<u64> {
     let mut files_left = files_before;
     let mut is_value = false;
@@ -220,10 +237,15 @@ fn number_of(arguments: &[String], files_before: u64) -> Option<u64> {
         } else if argument == "--" {
             only_files = true;
         } else {
-            is_value = argument != "--books" && !argument.contains('=');
+            is_value = !is_flag(argument) && !argument.contains('=');
         }
     }
     None
+}
+
+/// Whether an option has no value.
+fn is_flag(option: &str) -> bool {
+    matches!(option, "--books" | "--fed" | "--progress")
 }
 
 /// The program as the command-line library knows it.
@@ -259,7 +281,8 @@ fn plain<'a>(alloc: Global) -> Result<Command<'a>, AllocError> {
         "Plays a game on one thread and writes its report",
         texts::PLAIN,
     )?
-    .arg(limit(alloc))
+    .arg(limit(alloc))?
+    .arg(progress(alloc))
 }
 
 /// The command that plays a game on threads.
@@ -275,7 +298,8 @@ fn run<'a>(alloc: Global) -> Result<Command<'a>, AllocError> {
     .arg(workers(alloc))?
     .arg(turns(alloc))?
     .arg(trace(alloc))?
-    .arg(trace_rows(alloc))
+    .arg(trace_rows(alloc))?
+    .arg(progress(alloc))
 }
 
 /// The command that runs a schedule.
@@ -294,7 +318,8 @@ fn simulate<'a>(alloc: Global) -> Result<Command<'a>, AllocError> {
     .arg(limit(alloc))?
     .arg(ring(alloc))?
     .arg(rounds(alloc))?
-    .arg(books(alloc))
+    .arg(books(alloc))?
+    .arg(fed(alloc))
 }
 
 /// The command that replays a recorded run.
@@ -391,6 +416,14 @@ fn books<'a>(alloc: Global) -> Arg<'a> {
         .help("Writes the books of the detector behind each reply: deficits, parents, what is owed")
 }
 
+/// Whether the schedule may feed chips.
+fn fed<'a>(alloc: Global) -> Arg<'a> {
+    Arg::new(alloc, "fed")
+        .long("fed")
+        .action(ArgAction::SetTrue)
+        .help("Lets the schedule feed chips; the root closes only after its event end")
+}
+
 /// How many threads play.
 fn workers<'a>(alloc: Global) -> Arg<'a> {
     Arg::new(alloc, "workers")
@@ -424,4 +457,12 @@ fn trace_rows<'a>(alloc: Global) -> Arg<'a> {
         .value_name("K")
         .help("How many rows of each vertex are recorded, 0 to 2^20 [default: 1024 with --trace]")
         .value_parser(value_parser!(u64).range(0..=MAX_TRACE_ROWS as i64))
+}
+
+/// Whether it is told how the play goes on.
+fn progress<'a>(alloc: Global) -> Arg<'a> {
+    Arg::new(alloc, "progress")
+        .long("progress")
+        .action(ArgAction::SetTrue)
+        .help("Tells on standard error, once a second at most, how the play goes on")
 }

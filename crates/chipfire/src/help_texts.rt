@@ -37,6 +37,9 @@ report names under \"over\"; 3 the turns did not suffice; 1 another fault, which
 Example: chipfire run graph.json chips.csv --workers 4 --trace trace.csv >report.json";
 
 pub const SIMULATE: &str = "\
+With --fed the schedule may feed chips while the game runs: clear, feed and put on the
+edges that come from the root, and then end, before which the root never closes.
+
 Exit status: 0 the root closed and no vertex halted; 2 the root closed and some vertex
 halted, which the report names; 3 the root is open; 1 a fault, which `chipfire explain N`
 explains.

@@ -5,23 +5,27 @@
 #![tactic(auto)]
 
 use arguments::{
-    FileArgument, GameArguments, Request, RunArguments, SimulationArguments, SittingArguments,
+    FileArgument, GameArguments, PlainArguments, Request, RunArguments, SimulationArguments,
+    SittingArguments,
 };
+use chip_crew::Plan;
 pub use chip_engine::{
-    DONE, Ended, Fault, check_engine, explain_engine, plain_engine, replay_engine, resume_engine,
-    simulate_engine,
+    DONE, Ended, Fault, check_engine, explain_engine, plain_engine, plain_engine_watched,
+    replay_engine, resume_engine, simulate_engine,
 };
 use chip_graph::MAX_LIMIT;
 use chip_report::write_all_of;
-pub use chip_run::run_engine;
+pub use chip_run::{run_engine, run_engine_gated};
+use progress::{RoundProgress, TurnProgress};
 use std::process::ExitCode;
-use std::rt::{Env, Files};
+use std::rt::{Clock, Env, Files};
 use std::sync::Wait;
 use std::thread::Threads;
 use std::{env, fs, io};
 
 mod arguments;
 mod help_texts;
+mod progress;
 
 /// The graph of the game that is played without arguments.
 const TRIANGLE: &str =
@@ -46,7 +50,7 @@ fn main(rt: HostRuntime) -> ExitCode {
 }
 
 /// Does what the arguments ask for.
-fn run<R: Env + Files + Print + AllocGlobal + Threads + Wait + Sync>(
+fn run<R: Env + Files + Print + Eprint + Clock + AllocGlobal + Threads + Wait + Sync>(
     rt: &R,
 ) -> Result<Ended, Fault> {
     let alloc = rt.alloc();
@@ -59,7 +63,7 @@ fn run<R: Env + Files + Print + AllocGlobal + Threads + Wait + Sync>(
     match arguments::parse(alloc, &arguments)? {
         Request::Help(text) => help(text.as_str(), &mut output),
         Request::Check(graph) => check_engine(alloc, &mut open(rt, graph)?, &mut output),
-        Request::Plain(game) => play(rt, game, &mut output),
+        Request::Plain(asked) => play(rt, asked, &mut output),
         Request::Simulate(asked) => simulate(rt, asked, &mut output),
         Request::Run(asked) => play_on_threads(rt, asked, &mut output),
         Request::Replay(game, trace) => replay(rt, game, trace, &mut output),
@@ -69,18 +73,25 @@ fn run<R: Env + Files + Print + AllocGlobal + Threads + Wait + Sync>(
 }
 
 /// Plays a game on one thread.
-fn play<R: Files + AllocGlobal, W: io::Write>(
+fn play<R: Files + Clock + Eprint + AllocGlobal, W: io::Write>(
     rt: &R,
-    game: GameArguments<'_>,
+    asked: PlainArguments<'_>,
     output: &mut W,
 ) -> Result<Ended, Fault> {
-    let mut graph = open(rt, game.graph)?;
-    let mut chips = open(rt, game.chips)?;
-    plain_engine(rt.alloc(), &mut graph, &mut chips, game.limit, output)
+    let mut graph = open(rt, asked.game.graph)?;
+    let mut chips = open(rt, asked.game.chips)?;
+    plain_engine_watched(
+        rt.alloc(),
+        &mut graph,
+        &mut chips,
+        asked.game.limit,
+        &mut RoundProgress::start(rt, asked.progress),
+        output,
+    )
 }
 
 /// Plays a game on threads.
-fn play_on_threads<R: Files + AllocGlobal + Threads + Wait + Sync, W: io::Write>(
+fn play_on_threads<R: Files + Clock + Eprint + AllocGlobal + Threads + Wait + Sync, W: io::Write>(
     rt: &R,
     asked: RunArguments<'_>,
     output: &mut W,
@@ -91,16 +102,21 @@ fn play_on_threads<R: Files + AllocGlobal + Threads + Wait + Sync, W: io::Write>
         Some(file) => Some(create(rt, file)?),
         None => None,
     };
-    run_engine(
+    let plan = Plan {
+        workers: asked.workers,
+        ring: asked.ring.cells(),
+        turns: asked.turns,
+        trace_rows: asked.trace_rows,
+        seal: None,
+    };
+    run_engine_gated(
         rt,
         rt.alloc(),
         &mut graph,
         &mut chips,
         asked.game.limit,
-        asked.ring.cells(),
-        asked.workers,
-        asked.turns,
-        asked.trace_rows,
+        plan,
+        &TurnProgress::start(rt, asked.progress),
         trace.as_mut(),
         output,
     )
@@ -124,6 +140,7 @@ fn simulate<R: Files + AllocGlobal, W: io::Write>(
         asked.ring,
         asked.rounds,
         asked.books,
+        asked.fed,
         output,
     )
 }

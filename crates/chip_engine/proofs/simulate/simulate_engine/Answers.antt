@@ -1,6 +1,6 @@
 use Rattle.std.proofs.Common.{◌≡◌, List, ℕ, inl, inr, refl, Some, Ok, Err, sym, subst, ◌∙◌}
 use Rattle.std.specs.Io.KnownBytes.{Appends}
-use Rattle.chip_actor.specs.Setting.{setting_of}
+use Rattle.chip_actor.specs.Setting.{setting_with}
 use Rattle.chip_report.specs.Written.{WritesAll}
 use Rattle.chip_graph.specs.Multigraph.{Multigraph}
 use Rattle.chip_link.specs.declared.event.Event.{Event}
@@ -13,7 +13,7 @@ use Rattle.chip_engine.proofs.simulate.simulate_engine.Goals as goal
 
 pub returns-in_err-game : goal.returns-in_err-game
 returns-in_err-game g c = λ graph_text graph_is chips_text chips_is schedule_text schedule_is.
-    refused_simulate graph_text chips_text schedule_text c.args.limit c.args.ring c.args.rounds c.args.books _
+    refused_simulate graph_text chips_text schedule_text c.args.limit c.args.ring c.args.rounds c.args.books c.args.fed _
     c.from_residual.result _ c.from_residual.ensures.1
     (λ fault is. inl (inl (subst (RefusesInputs graph_text chips_text c.args.limit) (sym is)
     (c.in_err-game.ensures graph_text graph_is chips_text chips_is))))
@@ -23,7 +23,7 @@ returns-in_err-events g c = λ graph_text graph_is chips_text chips_is schedule_
     let why = at_some (λ text. IsRefused text
     (λ f. schedule_text_fault c.graph.result.now text ≡ Some f) c.in_err-events.field-0.0) _ schedule_text schedule_is
     c.in_err-events.ensures.means in
-    refused_simulate graph_text chips_text schedule_text c.args.limit c.args.ring c.args.rounds c.args.books _
+    refused_simulate graph_text chips_text schedule_text c.args.limit c.args.ring c.args.rounds c.args.books c.args.fed _
     c.from_residual-in_err-events.result _ c.from_residual-in_err-events.ensures.1
     (λ fault is. inl (inr (
       c.in_ok-game.game,
@@ -39,7 +39,7 @@ returns-in_err-events g c = λ graph_text graph_is chips_text chips_is schedule_
 
 pub returns-in_err-text : goal.returns-in_err-text
 returns-in_err-text g c = λ graph_text graph_is chips_text chips_is schedule_text schedule_is.
-    refused_simulate graph_text chips_text schedule_text c.args.limit c.args.ring c.args.rounds c.args.books _
+    refused_simulate graph_text chips_text schedule_text c.args.limit c.args.ring c.args.rounds c.args.books c.args.fed _
     c.from_residual-in_err-text.result _ c.from_residual-in_err-text.ensures.1
     (λ fault is. inr (is ∙ c.in_err-text.ensures.err))
 
@@ -52,12 +52,12 @@ returns-in_err-write_all_of g c = λ graph_text graph_is chips_text chips_is sch
     c.in_ok-events.events.items =
     means_events graph_text chips_text schedule_text c.args.limit c.in_ok-game.game c.in_ok-events.events.items
     c.graph.result.now c.graph.ensures.value (c.in_ok-game.ensures graph_text graph_is chips_text chips_is) read in
-    let simulates = subst (λ (xs : List Event). Simulates (setting_of c.in_ok-game.game c.args.ring) c.args.rounds
+    let simulates = subst (λ (xs : List Event). Simulates (setting_with c.in_ok-game.game c.args.ring c.args.fed) c.args.rounds
     c.args.books xs c.in_ok-text.text.items c.in_ok-text.status) c.deref.ensures.value c.in_ok-text.ensures.ok in
     let wrote = subst (λ (text : List ℕ). WritesAll (g.W.Write.contents c.args.output.now)
     (g.W.Write.contents c.write_all_of.new.writer) text (Err c.in_err-write_all_of.field-0.0)) c.deref-2.ensures.value
     c.in_err-write_all_of.ensures in
-    failed_simulate graph_text chips_text schedule_text c.args.limit c.args.ring c.args.rounds c.args.books _ _
+    failed_simulate graph_text chips_text schedule_text c.args.limit c.args.ring c.args.rounds c.args.books c.args.fed _ _
     c.from_residual-in_err-write_all_of.result _ c.from_residual-in_err-write_all_of.ensures.1
     c.in_ok-game.game c.in_ok-events.events.items means
     c.in_ok-text.text.items c.in_ok-text.status simulates
@@ -72,7 +72,7 @@ returns g c = λ graph_text graph_is chips_text chips_is schedule_text schedule_
     c.in_ok-events.events.items =
     means_events graph_text chips_text schedule_text c.args.limit c.in_ok-game.game c.in_ok-events.events.items
     c.graph.result.now c.graph.ensures.value (c.in_ok-game.ensures graph_text graph_is chips_text chips_is) read in
-    let simulates = subst (λ (xs : List Event). Simulates (setting_of c.in_ok-game.game c.args.ring) c.args.rounds
+    let simulates = subst (λ (xs : List Event). Simulates (setting_with c.in_ok-game.game c.args.ring c.args.fed) c.args.rounds
     c.args.books xs c.in_ok-text.text.items c.in_ok-text.status) c.deref.ensures.value c.in_ok-text.ensures.ok in
     let wrote = subst (λ (text : List ℕ). Appends (g.W.Write.contents c.args.output.now)
     (g.W.Write.contents c.write_all_of.new.writer) text) c.deref-2.ensures.value c.in_ok-write_all_of.ensures in (

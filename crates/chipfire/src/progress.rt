@@ -1,0 +1,135 @@
+//! What is told of a long play on standard error, a line once a second at most.
+//!
+//! Nothing of it changes the play. Where the clock cannot be read no line is written, and a line that cannot be written
+//! is left out.
+
+use chip_crew::Gate;
+use chip_fire::Watch;
+use chip_graph::Game;
+use std::rt::Clock;
+use std::sync::atomic::AtomicU64;
+use std::sync::atomic::Ordering::SeqCst;
+use std::time::{Duration, Instant};
+
+/// How many milliseconds lie between two lines at least, and before the first.
+const PAUSE: u64 = 1000;
+
+/// When lines are written.
+#[derive(Drop)]
+struct Pace {
+    start: Instant,
+    /// When the last line was, in milliseconds from the start.
+    last: AtomicU64,
+}
+
+impl Pace {
+    /// From now on, where lines are asked for and the clock can be read.
+    fn start(clock: &impl Clock, asked: bool) -> Option<Pace> {
+        if !asked {
+            return None;
+        }
+        Some(Pace {
+            start: Instant::now(clock).ok()?,
+            last: AtomicU64::new(0),
+        })
+    }
+
+    /// Whether a line is to be written now. Of threads that ask at one time it is one that writes.
+    fn is_due(&self, clock: &impl Clock) -> bool {
+        let Ok(passed) = self.start.elapsed(clock) else {
+            return false;
+        };
+        let now = in_milliseconds(passed);
+        let last = self.last.load(SeqCst);
+        now.saturating_sub(last) >= PAUSE
+            && self
+                .last
+                .compare_exchange(last, now, SeqCst, SeqCst)
+                .is_ok()
+    }
+}
+
+/// A time in milliseconds, up to 2^64 - 1.
+fn in_milliseconds(time: Duration) -> u64 {
+    u64::try_from(time.as_millis()).unwrap_or(u64::MAX)
+}
+
+/// Tells of a play on one thread: how many rounds it has made, and how many firings it has come to.
+#[derive(Drop)]
+pub struct RoundProgress<'a, R: Clock + Eprint> {
+    rt: &'a R,
+    pace: Option<Pace>,
+    rounds: u64,
+}
+
+impl<'a, R: Clock + Eprint> RoundProgress<'a, R> {
+    /// For a play that begins now. Where nothing is asked for nothing is told.
+    pub fn start(rt: &'a R, asked: bool) -> RoundProgress<'a, R> {
+        RoundProgress {
+            rt,
+            pace: Pace::start(rt, asked),
+            rounds: 0,
+        }
+    }
+}
+
+impl<R: Clock + Eprint> Watch for RoundProgress<'_, R> {
+    fn rounds(&mut self, more: u64, _game: &Game, _chips: &[u64], fired: &[u64]) {
+        self.rounds = self.rounds.saturating_add(more);
+        let Some(pace) = &self.pace else {
+            return;
+        };
+        if pace.is_due(self.rt) {
+            let rounds = self.rounds;
+            let firings = sum_of(fired);
+            let _ = eprintln!(self.rt; "chipfire: progress: {rounds} rounds, {firings} firings");
+        }
+    }
+}
+
+/// The sum of some numbers, up to 2^64 - 1, which the firings of a game never come to.
+fn sum_of(numbers: &[u64]) -> u64 {
+    let mut sum = 0u64;
+    for number in numbers {
+        sum = sum.saturating_add(*number);
+    }
+    sum
+}
+
+/// Lets every worker pass, and tells how many turns worker 0 has made and how many of the root's messages aren't
+/// acknowledged.
+#[derive(Drop)]
+pub struct TurnProgress<'a, R: Clock + Eprint> {
+    rt: &'a R,
+    pace: Option<Pace>,
+}
+
+impl<'a, R: Clock + Eprint> TurnProgress<'a, R> {
+    /// For a play that begins now. Where nothing is asked for nothing is told.
+    pub fn start(rt: &'a R, asked: bool) -> TurnProgress<'a, R> {
+        TurnProgress {
+            rt,
+            pace: Pace::start(rt, asked),
+        }
+    }
+}
+
+impl<R: Clock + Eprint> Gate for TurnProgress<'_, R> {
+    ghost may_shut = { λ _ _ _. ⊥ };
+
+    fn pass(&self, _worker: u64, _turn: u64) -> bool {
+        true
+    }
+
+    fn polled(&self, turn: u64, deficit: u64) {
+        let Some(pace) = &self.pace else {
+            return;
+        };
+        if pace.is_due(self.rt) {
+            let turns = turn.saturating_add(1);
+            let _ = eprintln!(self.rt;
+                "chipfire: progress: {turns} turns of worker 0, the root's deficit is {deficit}"
+            );
+        }
+    }
+}

@@ -1,0 +1,93 @@
+"""Long plays with `--progress`: lines on standard error, one a second at most, and all else as without it.
+
+The game is a chain on which each vertex but the last sends two chips back for one that it sends on, so that each vertex
+more doubles the firings: no counts are found for it that shorten the play. With 25 vertices it takes a few seconds, and
+with 40 nobody waits for its end.
+"""
+import json
+import re
+import select
+import subprocess
+import tempfile
+import time
+
+SECONDS = 60
+LONG, ENDLESS = 25, 40
+ROUNDS = re.compile(rb"chipfire: progress: ([0-9]+) rounds, ([0-9]+) firings\n")
+TURNS = re.compile(rb"chipfire: progress: ([0-9]+) turns of worker 0, the root's deficit is ([0-9]+)\n")
+LINES = {"plain": ROUNDS, "run": TURNS}
+
+
+def write_uphill(folder, length):
+    """Writes the game of a chain with so many vertices before its sink, 64 chips on the first."""
+    edges = [[v, v + 1, 1] for v in range(length)] + [[v, v - 1, 2] for v in range(1, length)]
+    with open(f"{folder}/graph.json", "w", encoding="utf-8") as file:
+        json.dump({"edges": edges, "sink": length, "version": 1, "vertices": length + 1}, file)
+    with open(f"{folder}/chips.csv", "w", encoding="utf-8") as file:
+        file.write("vertex,chips\n0,64\n")
+
+
+def line_of(process, until):
+    """The next line on the standard error of a process, or what there is of it until some moment."""
+    line = b""
+    while not line.endswith(b"\n") and select.select([process.stderr], [], [], max(until - time.monotonic(), 0))[0]:
+        some = process.stderr.read(1)
+        if not some:
+            break
+        line += some
+    return line
+
+
+def wrong_lines(command, lines, seconds):
+    """What is wrong with the lines of a command that has run for so many seconds at most."""
+    found = [LINES[command].fullmatch(line) for line in lines]
+    if not all(found):
+        return [f"these are no lines of {command}: {lines}"]
+    if len(lines) > seconds:
+        return [f"{len(lines)} lines in {seconds:.3f} seconds"]
+    done = [int(it[1]) for it in found]
+    return [] if done == sorted(set(done)) and all(done) else [f"what is done does not grow: {lines}"]
+
+
+def told(program, *words):
+    """What is wrong with the first two lines of a play without an end. Its output is empty till then."""
+    with tempfile.TemporaryDirectory(prefix="chipfire-progress-") as room, tempfile.TemporaryFile() as out:
+        write_uphill(room, ENDLESS)
+        begun = time.monotonic()
+        words = [program, words[0], "graph.json", "chips.csv", *words[1:], "--progress"]
+        process = subprocess.Popen(words, stdout=out, stderr=subprocess.PIPE, bufsize=0, cwd=room)
+        with process:
+            lines = [line_of(process, begun + SECONDS) for _ in range(2)]
+            seconds = time.monotonic() - begun
+            process.kill()
+        out.seek(0)
+        written = out.read()
+    return wrong_lines(words[1], lines, seconds) + ([f"it wrote {written!r}"] if written else [])
+
+
+def same(program, *words):
+    """What a long play that ends answers otherwise with the option than without it."""
+    with tempfile.TemporaryDirectory(prefix="chipfire-progress-") as room:
+        write_uphill(room, LONG)
+        how = {"stdout": subprocess.PIPE, "stderr": subprocess.PIPE, "cwd": room, "timeout": SECONDS}
+        words = [program, words[0], "graph.json", "chips.csv", *words[1:]]
+        quiet = subprocess.run(words, **how)
+        begun = time.monotonic()
+        ran = subprocess.run([*words, "--progress"], **how)
+        seconds = time.monotonic() - begun
+    if not ran.stderr.endswith(quiet.stderr):
+        return [f"expected {quiet.stderr!r} at the end of {ran.stderr!r}"]
+    lines = ran.stderr[: len(ran.stderr) - len(quiet.stderr)].splitlines(keepends=True)
+    wanted, came = (quiet.stdout, quiet.returncode), (ran.stdout, ran.returncode)
+    return wrong_lines(words[1], lines, seconds) + ([] if came == wanted else [f"expected {wanted}, got {came}"])
+
+
+def play_long(program):
+    """Plays long games, and yields of each its place, its name and what was not as it must be."""
+    yield "progress.py", "plain tells how it goes on", told(program, "plain")
+    yield "progress.py", "run tells how it goes on", told(program, "run")
+    yield "progress.py", "run tells how it goes on, one worker", told(program, "run", "--workers", "1")
+    yield "progress.py", "a long play answers the same", same(program, "plain")
+    yield "progress.py", "a play stopped by its limit answers the same", same(program, "plain", "--limit", "200000000")
+    turns = ["--workers", "1", "--turns", "3000000"]
+    yield "progress.py", "a fault stands behind what was told", same(program, "run", *turns)

@@ -36,6 +36,7 @@ import operator
 import os
 import shutil
 import subprocess
+import sys
 import tempfile
 import warnings
 from collections.abc import Hashable, Iterable, Iterator, Mapping, Sequence
@@ -61,6 +62,9 @@ FileName = Union[str, "os.PathLike[str]"]
 #: One number for each vertex, or the numbers of some vertices by their names; a vertex that is not named has 0.
 Chips = Union[Sequence[int], Mapping[Hashable, int]]
 
+#: How a line begins that tells of a long play.
+_PROGRESS = "chipfire: progress: "
+
 #: What each rule says that the reply `not-now N` names; docs/CORE.md has the table.
 RULES = {
     1: "the vertex or edge is there",
@@ -79,6 +83,8 @@ RULES = {
     14: "something is owed on the edge",
     15: "something may be acknowledged on it now",
     16: "the root is closed",
+    17: "the end of feeding is not noted",
+    18: "with so many more, no more than 2^40 chips are given in all",
 }
 
 
@@ -382,6 +388,14 @@ class Schedule(list):
         """The root reads how often a vertex fired, once it is closed."""
         return self._add("read", vertex)
 
+    def feed(self, edge: int, count: int) -> Schedule:
+        """What the root does to feed chips on one of its edges: clear, feed and put."""
+        return self.clear(edge)._add("feed", edge, count).put(edge)
+
+    def end(self) -> Schedule:
+        """The root notes that nothing more is fed; before that it never closes in a simulation that is `fed`."""
+        return self._add("end", 0)
+
 
 class TraceRow(NamedTuple):
     """A row of a trace file: what one vertex took ("take") or fired ("fire"); docs/TRACES.md."""
@@ -658,10 +672,20 @@ class Program:
         degrees, distances = (tuple(int(words[place]) for words in lines[3:]) for place in (3, 5))
         return Check(vertices, edges, sink, degrees, distances)
 
-    def plain(self, graph: Graph | FileName, chips: Chips | FileName, *, limit: int | None = None) -> Report:
-        """Stabilizes: plays on one thread until no vertex is legal, or all that are have fired `limit` times."""
+    def plain(
+        self,
+        graph: Graph | FileName,
+        chips: Chips | FileName,
+        *,
+        limit: int | None = None,
+        progress: bool = False,
+    ) -> Report:
+        """Stabilizes: plays on one thread until no vertex is legal, or all that are have fired `limit` times.
+
+        With `progress` there is a line on `sys.stderr`, once a second at most, that tells how the play goes on.
+        """
         with _Room() as room:
-            return room.report(self._ask("plain", *room.game(graph, chips), limit=limit))
+            return room.report(self._ask("plain", *room.game(graph, chips), limit=limit, progress=progress))
 
     def run(
         self,
@@ -674,13 +698,15 @@ class Program:
         turns: int | None = None,
         trace: FileName | None = None,
         trace_rows: int | None = None,
+        progress: bool = False,
     ) -> Report:
         """Plays as `plain` does, with an actor for each vertex, on so many threads, by a program that has this command.
 
         `trace` names a file that is written: what each vertex took and fired, up to `trace_rows` rows each. Where
-        that was not enough for a vertex, the warning `TraceCut` says so.
+        that was not enough for a vertex, the warning `TraceCut` says so. `progress` is as in `plain`.
         """
         options = {"limit": limit, "ring": ring, "workers": workers, "turns": turns, "trace-rows": trace_rows}
+        options["progress"] = progress
         with _Room() as room:
             to = None if trace is None else os.path.abspath(trace)
             return room.report(self._ask("run", *room.game(graph, chips), **options, trace=to))
@@ -695,12 +721,15 @@ class Program:
         ring: int | None = None,
         rounds: int | None = None,
         books: bool = False,
+        fed: bool = False,
     ) -> Simulation:
         """Runs a schedule on the detector: a reply for each event, and the report where the root is closed then, or
-        after so many rounds of turns. With `books` there is also what stands in the books after each event."""
+        after so many rounds of turns. With `books` there is also what stands in the books after each event; where it
+        is `fed`, the schedule may give the vertices more chips, on the edges that come from the root."""
         with _Room() as room:
             files = [*room.game(graph, chips), room.rows("schedule.csv", schedule, _schedule_text)]
-            text = self._ask("simulate", *files, limit=limit, ring=ring, rounds=rounds, books=books)
+            options = {"limit": limit, "ring": ring, "rounds": rounds, "books": books, "fed": fed}
+            text = self._ask("simulate", *files, **options)
             return Simulation.parse(text, room.graph_known())
 
     def replay(
@@ -740,7 +769,8 @@ class Program:
         """Runs a command, and returns what it writes; a fault is raised. An option that is True has no value."""
         given = {name: value for name, value in options.items() if value is not None and value is not False}
         words = [f"--{name}" if value is True else f"--{name}={value}" for name, value in given.items()]
-        ran = self._start(command, *map(_file_word, files), *words)
+        start = self._start_telling if options.get("progress") else self._start
+        ran = start(command, *map(_file_word, files), *words)
         errors = ran.stderr.splitlines()
         if ran.returncode in (1, 3) and errors:
             raise self._fault(errors[-1], ran.returncode)
@@ -751,8 +781,33 @@ class Program:
         return ran.stdout
 
     def _start(self, *words: str) -> subprocess.CompletedProcess[str]:
+        """Runs the program to its end."""
+        return self._started(
+            subprocess.run, [self.path, *words], stdin=subprocess.DEVNULL, capture_output=True, encoding="utf-8"
+        )
+
+    def _start_telling(self, *words: str) -> subprocess.CompletedProcess[str]:
+        """The same; what it tells meanwhile of its progress goes to `sys.stderr`, and is not among its errors."""
+        with tempfile.TemporaryFile("w+", encoding="utf-8") as output:
+            how = {"stdin": subprocess.DEVNULL, "stdout": output, "stderr": subprocess.PIPE, "encoding": "utf-8"}
+            errors = ""
+            with self._started(subprocess.Popen, [self.path, *words], **how) as running:
+                try:
+                    for line in running.stderr:
+                        if line.startswith(_PROGRESS):
+                            print(line, end="", file=sys.stderr, flush=True)
+                        else:
+                            errors += line
+                except BaseException:
+                    running.kill()
+                    raise
+            output.seek(0)
+            return subprocess.CompletedProcess(words, running.returncode, output.read(), errors)
+
+    def _started(self, start: Any, *words: Any, **how: Any) -> Any:
+        """What some way of starting the program gives, where it can be started."""
         try:
-            return subprocess.run([self.path, *words], stdin=subprocess.DEVNULL, capture_output=True, encoding="utf-8")
+            return start(*words, **how)
         except (FileNotFoundError, PermissionError) as error:
             raise ProgramNotFound(error.errno, "no program that can be started", self.path) from None
 

@@ -3,6 +3,8 @@
 The triangle has edges 0 to 1, 0 to the sink 2, 1 to 0 and 1 to the sink. Its plays are worked by hand in docs/GAME.md,
 its schedules in examples/detector/README.md, and examples/ has the files that are compared here.
 """
+import contextlib
+import io
 import json
 import os
 import subprocess
@@ -113,6 +115,23 @@ class Plain(WithFolder):
         self.assertEqual((report.chips, report.fired, report.over), ((2, 0, 3), (2, 1, 0), (0,)))
         self.assertFalse(report.closed)
 
+    def test_a_play_that_is_told_of(self):
+        report = chipfire.plain(TRIANGLE, [5, 0, 0], limit=2, progress=True)
+        self.assertEqual((report.chips, report.fired, report.over), ((2, 0, 3), (2, 1, 0), (0,)))
+        with self.assertRaises(chipfire.Fault) as raised:
+            chipfire.run(TRIANGLE, [4, 0, 0], turns=1, progress=True)
+        self.assertEqual((raised.exception.number, raised.exception.status), (61, 3))
+
+    def test_what_is_told_of_a_play_goes_to_standard_error(self):
+        lines = ["chipfire: progress: 1 rounds, 3 firings", "chipfire: progress: 2 rounds, 4 firings"]
+        says = "".join(f"echo '{line}' >&2\n" for line in lines)
+        text = '{"chips":[1,0,3],"closed":true,"fired":[2,1,0],"over":[],"sealed":[],"version":1}'
+        program = self.file("chipfire", f"#!/bin/sh\n{says}echo '{text}'\n")
+        os.chmod(program, 0o755)
+        with contextlib.redirect_stderr(io.StringIO()) as told:
+            report = chipfire.plain(TRIANGLE, [4, 0, 0], program=program, progress=True)
+        self.assertEqual((report.fired, told.getvalue().splitlines()), ((2, 1, 0), lines))
+
     def test_the_largest_numbers(self):
         report = chipfire.plain(chipfire.Graph(2, 1, [(0, 1)]), [2**40, 0])
         self.assertEqual((report.chips, report.fired), ((0, 2**40), (2**40, 0)))
@@ -190,15 +209,24 @@ class Detector(WithFolder):
         self.assertEqual(chipfire.simulate(*game).replies, simulation.replies)
         self.assertEqual(chipfire.simulate(*game).boards, ())
 
+    def test_a_play_that_is_fed(self):
+        events = chipfire.Schedule().feed(4, 3).take(4).feed(4, 1).end()
+        simulation = chipfire.simulate(TRIANGLE, {}, events, fed=True, rounds=10)
+        self.assertEqual(" ".join(map(str, simulation.replies[:4])), "done 0 sent 0 3 done 3 got 0 3")
+        self.assertEqual((simulation.report.chips, simulation.report.fired), ((1, 0, 3), (2, 1, 0)))
+        late = chipfire.simulate(TRIANGLE, {}, chipfire.Schedule().end().feed(4, 1), fed=True).replies
+        self.assertEqual(late[1].rule, "the end of feeding is not noted")
+        self.assertFalse(chipfire.simulate(TRIANGLE, {}, [], fed=True, rounds=10).root_closed)
+
     def test_an_empty_schedule_of_an_empty_game_closes(self):
         self.assertTrue(chipfire.simulate(TRIANGLE, {}, []).root_closed)
 
     def test_a_schedule_goes_through_a_file(self):
-        events = chipfire.Schedule().take(4).fire(0, 2).send(0).halt(0).settle(0).seal(1).read(0)
+        events = chipfire.Schedule().take(4).fire(0, 2).send(0).halt(0).settle(0).seal(1).read(0).feed(6, 9).end()
         chipfire.write_schedule(self.file("schedule.csv"), events)
         self.assertEqual(chipfire.read_schedule(self.file("schedule.csv")), events)
         lines = ["event,at,count", "take,4,0", "fire,0,2", "clear,0,0", "claim,0,0", "put,0,0", "halt,0,0"]
-        lines += ["settle,0,0", "seal,1,0", "read,0,0", ""]
+        lines += ["settle,0,0", "seal,1,0", "read,0,0", "clear,6,0", "feed,6,9", "put,6,0", "end,0,0", ""]
         self.assertEqual(text_of(self.file("schedule.csv")), "\n".join(lines))
 
 

@@ -18,7 +18,8 @@ MAX_DEPTH = 127
 MAX_ROUNDS = 20_000
 
 EVENTS_OF_VERTICES = {b"fire", b"halt", b"read"}
-EVENTS_OF_EDGES = {b"take", b"ack", b"clear", b"claim", b"put", b"settle", b"seal"}
+EVENTS_OF_EDGES = {b"take", b"ack", b"clear", b"claim", b"put", b"settle", b"seal", b"feed"}
+EVENTS_ANYWHERE = {b"end"}
 
 
 class Fault(Exception):
@@ -56,7 +57,7 @@ class Model:
     def __init__(self, play, simulate):
         self.play, self.simulate_script = play, simulate
 
-    def answer(self, command, files, limit=MAX_CHIPS, ring=1, rounds=0, **_):
+    def answer(self, command, files, limit=MAX_CHIPS, ring=1, rounds=0, fed=False, **_):
         """What the program must answer to a command and its files, each some bytes; threads change nothing."""
         try:
             graph = read_graph(files[0])
@@ -68,13 +69,13 @@ class Model:
             if command in ("plain", "run"):
                 return report_answer(graph, chips, limit)
             if command == "simulate":
-                return self.simulated(graph, chips, read_schedule(files[2], graph), limit, ring, rounds)
+                return self.simulated(graph, chips, read_schedule(files[2], graph), limit, ring, rounds, fed)
             return replayed(graph, chips, read_traces(files[2], graph), limit)
         except Fault as fault:
             return Answer(fault=str(fault), status=1)
 
-    def simulated(self, graph, chips, events, limit, ring, rounds):
-        core = self.simulate_script.Core(graph, chips, limit, ring)
+    def simulated(self, graph, chips, events, limit, ring, rounds, fed):
+        core = self.simulate_script.Core(graph, chips, limit, ring, fed)
         lines = [core.step(*event) for event in events]
         core.drive(rounds)
         if not core.is_closed():
@@ -292,10 +293,11 @@ def read_schedule(text, graph):
     events = []
     all_edges = len(graph["edges"]) + graph["vertices"]
     for i, (kind, *rest) in read_rows(text, [b"event", b"at", b"count"]):
-        if kind not in EVENTS_OF_VERTICES | EVENTS_OF_EDGES:
+        if kind not in EVENTS_OF_VERTICES | EVENTS_OF_EDGES | EVENTS_ANYWHERE:
             raise Fault(f"28 Kind {i}")
         at, count = numbers(i, *rest)
-        if at >= (graph["vertices"] if kind in EVENTS_OF_VERTICES else all_edges):
+        is_there = at < (graph["vertices"] if kind in EVENTS_OF_VERTICES else all_edges)
+        if kind not in EVENTS_ANYWHERE and not is_there:
             raise Fault(f"26 Vertex {i}")
         events.append((kind.decode(), at, count))
     return events

@@ -1,7 +1,7 @@
 """Games drawn at random with all their files, and what is done to the bytes of a file."""
 import json
 
-EVENTS = ["take", "ack", "fire", "clear", "claim", "put", "halt", "settle", "seal", "read"]
+EVENTS = ["take", "ack", "fire", "clear", "claim", "put", "halt", "settle", "seal", "read", "feed", "end"]
 COMMANDS = ["check", "plain", "simulate", "run", "replay", "resume"]
 NUMBERS = [
     b"0", b"1", b"2", b"3", b"00", b"01", b"-0", b"-1", b"+1", b"1.0", b"1.5", b"1e0", b"1e400", b"4096", b"4097",
@@ -14,7 +14,7 @@ PIECES = NUMBERS + [
     b"\x1f", b"\x7f", b"\xc3", b"\xc3\xa4", b"\xed\xa0\x80", b"\xef\xbb\xbf", b"{}", b"[]", b"[" * 130, b"[0,1,1],",
     b"null", b"true", b"false", b"NaN", b"Infinity", b"\\u0041", b"\\ud800", b"\\udc00\\ud800", b"\\ud83d\\ude00",
     b'"x":0', b',"version":2', b'"prior":[0]', b'"over":[]', b"vertex,chips\n", b"event,at,count\n",
-    b"vertex,kind,edge,count\n", b"take", b"fire", b"0,0\n", b"1,5\n",
+    b"vertex,kind,edge,count\n", b"take", b"fire", b"feed", b"end", b"0,0\n", b"1,5\n",
 ]
 
 
@@ -51,9 +51,12 @@ def schedule_text(graph, draw):
     edges, vertices = len(graph["edges"]), graph["vertices"]
     listed = []
     for _ in range(draw.randint(0, 40)):
-        event = draw.choice(EVENTS + ["take", "fire", "clear", "claim", "put"])
-        bound = vertices if event in ("fire", "halt", "read") else edges + vertices
-        listed.append((event, draw.randrange(bound), draw.choice([0, 1, 1, 1, 2, 3])))
+        event = draw.choice(EVENTS + ["take", "fire", "clear", "claim", "put", "feed"])
+        bound = vertices if event in ("fire", "halt", "read") else 1 << 20 if event == "end" else edges + vertices
+        at, count = draw.randrange(bound), draw.choice([0, 1, 1, 1, 2, 3])
+        listed.append((event, at, count))
+        if event == "clear" and at >= edges:
+            listed += [("feed", at, count), ("put", at, 0)]
     return rows("event,at,count", listed)
 
 

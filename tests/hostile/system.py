@@ -74,6 +74,38 @@ def useless_streams(machine, worked):
             yield f"{worked.name}: stream {stream} is {name}", faults
 
 
+def uphill(folder, length):
+    """The files of a game that takes some seconds: a chain whose vertices send two chips back for one that goes on."""
+    edges = [[v, v + 1, 1] for v in range(length)] + [[v, v - 1, 2] for v in range(1, length)]
+    texts = {
+        "graph.json": json.dumps({"edges": edges, "sink": length, "version": 1, "vertices": length + 1}),
+        "chips.csv": "vertex,chips\n0,64\n",
+    }
+    for name, text in texts.items():
+        with open(f"{folder}/{name}", "w", encoding="utf-8") as file:
+            file.write(text)
+    return [f"{folder}/{name}" for name in texts]
+
+
+def unheard_progress(machine, command, *options):
+    """What is told of a long play cannot be written, and its answer is the same."""
+    for name, make in {**STREAMS, "closed": None}.items():
+
+        def faults(make=make):
+            with tempfile.TemporaryDirectory(prefix="chipfire-hostile-") as room:
+                words = [command, *uphill(room, 25), *options]
+                files = make() if make else ()
+                try:
+                    quiet = machine.run(words)
+                    ran = machine.run([*words, "--progress"], [(DUP2, files[0], 2) if files else (CLOSE, 2)])
+                finally:
+                    for file in files:
+                        os.close(file)
+            return differences(ran, quiet.out, b"", quiet.status)
+
+        yield f"a long {command} that tells how it goes on: stream 2 is {name}", faults
+
+
 def size_limits(machine, worked):
     """The output stops at the system's limit on the size of files."""
     limit = KIB
@@ -232,8 +264,11 @@ def killed(machine, worked, seed):
             time.sleep(random.Random(seed).uniform(0, 0.08))
             os.kill(begun.process, signal.SIGTERM)
             ran = begun.end()
-        is_ended = not differences(ran, b"", b"", -signal.SIGTERM)
-        return worked.trace_faults(ran) if is_ended else worked.differences(ran)
+        # (the signal may also come between the last byte and the end of the program)
+        is_ended = ran.status == -signal.SIGTERM
+        if is_ended and not ran.out:
+            return differences(ran, b"", b"", -signal.SIGTERM) + worked.trace_faults(ran)
+        return worked.differences(ran._replace(status=worked.status) if is_ended else ran)
 
     yield f"{worked.name}: ended at moment {seed}", faults
 
@@ -273,6 +308,8 @@ def tests(machine, reference, runs, kills):
     for worked in [runs[0], *(it for it in runs if it.threads)]:
         for seed in range(kills):
             yield from killed(machine, worked, seed)
+    yield from unheard_progress(machine, "plain")
+    yield from unheard_progress(machine, "run", "--workers", "1", "--turns", "3000000")
     yield from leaving_readers(machine, reference)
     yield from many_words(machine)
     yield from wide_texts(machine)

@@ -24,9 +24,17 @@ def options_of(command, draw):
         options["limit"] = draw.choice([0, 1, 2, 5, 1 << 40])
     if command == "simulate":
         options.update(ring=draw.choice([1, 1, 2, 3, 64]), rounds=draw.choice([0, 1, 3, 50]))
+        options.update(fed=draw.random() < 0.5)
     if command == "run":
         options.update(ring=draw.choice([1, 1, 2, 3, 64]), workers=draw.choice([1, 2, 3, 8]))
     return options
+
+
+def words_of(name, value):
+    """An option as words; one that is true or false has no value."""
+    if isinstance(value, bool):
+        return [f"--{name}"] if value else []
+    return [f"--{name}", str(value)]
 
 
 def judged(reference, draw):
@@ -47,7 +55,7 @@ def run_of(program, reference, seed):
         for path, text in zip(paths, files):
             with open(path, "wb") as file:
                 file.write(text)
-        given = [word for name, value in options.items() for word in (f"--{name}", str(value))]
+        given = [word for name, value in options.items() for word in words_of(name, value)]
         ran = launch.start([program, command, *paths, *given]).end()
     found = wanted.differences(ran.out, ran.err, ran.status)
     return [f"chipfire {command} {given} on {files}", *found] if found else []

@@ -123,6 +123,7 @@ def worked_runs(examples):
     triangle = "triangle/graph.json triangle/chips.csv"
     return [
         run("small triangle", f"plain {triangle}", "triangle/report.json"),
+        run("told of", f"plain {triangle} --progress", "triangle/report.json"),
         run("no words", "", "triangle/report.json"),
         run("graph of the chain", "check chain/graph.json", "chain/check.txt"),
         run("first sitting", "plain triangle/graph.json sittings/chips.csv --limit 1", "sittings/first.json", status=2),

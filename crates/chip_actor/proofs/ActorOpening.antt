@@ -7,18 +7,19 @@ use Rattle.std.specs.List.{Contains}
 use Rattle.std.specs.List.Sorted.{IsStrictlyIncreasing}
 use Rattle.std.proofs.lemmas.List.{get_or_default}
 use Rattle.chip_graph.specs.Multigraph.{edges_out, degree}
-use Rattle.chip_actor.specs.Setting.{Setting, IsSetting}
+use Rattle.chip_part.specs.Setting.{Setting, IsSetting}
 use Rattle.chip_graph.proofs.SumLemmas.{cond_yes, cond_no, tested_none}
 use Rattle.chip_link.specs.Ends.{HeadState, new_head}
 use Rattle.chip_detect.specs.Books.{Books, IsSound, IsFresh}
 use Rattle.chip_detect.proofs.Fresh.{stand_in_order}
-use Rattle.chip_actor.specs.Edges.{all_edges, tail_of}
-use Rattle.chip_actor.specs.Part.{opened, first_put}
-use Rattle.chip_actor.specs.Ends.{OutEnd, OutEnds, InEnds, on_edge, no_out, fresh_out, IsFreshOuts, IsFreshIns}
+use Rattle.chip_part.specs.Edges.{all_edges, tail_of}
+use Rattle.chip_part.specs.Part.{opened, first_put}
+use Rattle.chip_ends.specs.declared.outs.OutEnd.{OutEnd}
+use Rattle.chip_ends.specs.Ends.{OutEnds, InEnds, on_edge, no_out, fresh_out, IsFreshOuts, IsFreshIns}
 use Rattle.chip_actor.specs.Actor.{Actor, StandsFor}
-use Rattle.chip_actor.proofs.Opening.{opening_keeps, first_few}
-use Rattle.chip_actor.proofs.PickedLemmas.{outs_rise, ins_rise}
-use Rattle.chip_actor.proofs.Standing.{among_new_outs, among_new_ins}
+use Rattle.chip_part.proofs.Opening.{opening_keeps, first_few}
+use Rattle.chip_part.proofs.PickedLemmas.{outs_rise, ins_rise}
+use Rattle.chip_part.proofs.PickedLemmas.{among_new_outs, among_new_ins}
 
 -- an end that was made from its number
 made_end : {T : Type 0} (none : T) (f : ℕ → T) (xs : List ℕ) (e : ℕ) → Contains xs e
@@ -105,5 +106,5 @@ module _ (g : Setting) (v : ℕ) (setting : IsSetting g) (vertex : v < g.graph.v
     where
       none_claimed : (e : ℕ) → tail_of g e ≡ v → 0 ≡ length (first_put g e) + 0
       none_claimed e at = let few = first_few g e
-          (Rattle.chip_actor.proofs.PartLemmas.tail_inside g e (subst (λ (n : ℕ). n < g.graph.vertices) (sym at) vertex))
+          (Rattle.chip_part.proofs.PartLemmas.tail_inside g e (subst (λ (n : ℕ). n < g.graph.vertices) (sym at) vertex))
           in omega arith

@@ -1,47 +1,30 @@
 -- What the tests ask of an actor, one question after another.
 use Rattle.std.proofs.Common.{◌≡◌, ◌≢◌, ℕ, ◌+◌, ◌<◌, ◌≤◌, true, ◌&&◌, List, [], ◌∷◌, ◌++◌, length, drop, get_or, Option}
-use Rattle.std.proofs.Common.{Some, None, Ok, Err, is_some, refl, sym, ap, ◌∙◌, subst, ⊎_elim, eqb-true, leb-true}
-use Rattle.std.proofs.Common.{ltb-true, true≢false}
+use Rattle.std.proofs.Common.{None, Ok, Err, is_some, refl, sym, ap, ◌∙◌, subst, ⊎_elim, eqb-true}
+use Rattle.std.proofs.Common.{true≢false}
 use Rattle.std.proofs.lemmas.Bool.{and_parts, or_cases}
 use Rattle.std.proofs.lemmas.List.{drop_more}
 use Rattle.std.proofs.Math.ListN.{drop_of_length-le}
-use Rattle.chip_actor.specs.Setting.{Setting}
-use Rattle.chip_actor.specs.declared.act.Act.{Act}
-use Rattle.chip_actor.specs.declared.act.Act.TheVariants as Do
-use Rattle.chip_actor.specs.Part.{Part}
-use Rattle.chip_actor.specs.Rules.{Rule, Event, Take, Ack, Fire, Clear, Claim, Put, Halt, Settle, Seal, Read, Feed, End}
-use Rattle.chip_actor.specs.Rules.{unmet}
-use Rattle.chip_actor.specs.declared.reply.Reply.TheVariants.{NotNow}
-use Rattle.chip_actor.specs.Steps.{Step, Reply, part_of, does, asked}
-use Rattle.chip_actor.specs.Acting.{act_of, event_of, verdict, FitsSeen, CanDo, IsDue, Makes}
+use Rattle.chip_part.specs.Setting.{Setting}
+use Rattle.chip_part.specs.declared.act.Act.{Act}
+use Rattle.chip_part.specs.declared.act.Act.TheVariants as Do
+use Rattle.chip_part.specs.Part.{Part}
+use Rattle.chip_part.specs.declared.rule.Rule.{Rule}
+use Rattle.chip_part.specs.Rules.{Event, End}
+use Rattle.chip_part.specs.Rules.{unmet}
+use Rattle.chip_part.specs.declared.reply.Reply.TheVariants.{NotNow}
+use Rattle.chip_part.specs.declared.reply.Reply.{Reply}
+use Rattle.chip_part.specs.Steps.{Step, part_of, does, asked}
+use Rattle.chip_part.specs.Acting.{act_of, event_of, verdict, FitsSeen, CanDo, IsDue}
+use Rattle.chip_actor.specs.Actor.{Makes}
 use Rattle.chip_actor.specs.Actor.{Actor, StandsFor, SomePart}
-use Rattle.chip_actor.specs.Cursor.{Cursor, IsUnderWay, Begins, StandsAt, TurnContinues}
-use Rattle.chip_actor.specs.Asking.{fits_seen, may_ask, may_play, may_see_all, Answers}
-use Rattle.chip_actor.proofs.CursorLemmas.{event_of_act}
-
-pub verdict_ok : (u : Option Rule) (a act : Act) → verdict u a ≡ Ok act → (u ≡ None) × (act ≡ a)
-verdict_ok None a act is = (refl, cc)
-verdict_ok (Some rule) a act is = absurd (cc)
-
-pub verdict_err : (u : Option Rule) (a : Act) (rule : Rule) → verdict u a ≡ Err rule → u ≡ Some rule
-verdict_err None a rule is = absurd (cc)
-verdict_err (Some r) a rule is = cc
-
--- what the test computes
-pub fits_from_test : (s : Part) (x : Event) (seen : ℕ) → fits_seen s x seen ≡ true → FitsSeen s x seen
-fits_from_test s (Take e) seen is = λ some. ⊎_elim (λ none. absurd (some (eqb-true _ _ none)))
-    (λ few. let both = and_parts _ _ few in (leb-true _ _ both.0, ltb-true _ _ both.1)) (or_cases _ _ is)
-fits_from_test s (Ack e) seen is = tt
-fits_from_test s (Fire v k) seen is = tt
-fits_from_test s (Clear e) seen is = tt
-fits_from_test s (Claim e) seen is = eqb-true _ _ is
-fits_from_test s (Put e) seen is = tt
-fits_from_test s (Halt v) seen is = tt
-fits_from_test s (Settle e) seen is = let both = and_parts _ _ is in (leb-true _ _ both.0, leb-true _ _ both.1)
-fits_from_test s (Seal e) seen is = tt
-fits_from_test s (Read v) seen is = tt
-fits_from_test s (Feed e k) seen is = tt
-fits_from_test s End seen is = tt
+use Rattle.chip_part.specs.declared.cursor.Cursor.{Cursor}
+use Rattle.chip_part.specs.Cursor.{IsUnderWay, Begins}
+use Rattle.chip_actor.specs.Turning.{StandsAt, TurnContinues}
+use Rattle.chip_part.specs.Asking.{may_ask, may_play, may_see_all}
+use Rattle.chip_actor.specs.Asking.{Answers}
+use Rattle.chip_part.proofs.CursorLemmas.{event_of_act}
+use Rattle.chip_part.proofs.AskLemmas.{verdict_ok, verdict_err, fits_from_test}
 
 module _ (g : Setting) (s : Part) (a : Actor) (stands : StandsFor g s a) (x : Event) (seen : ℕ)
     (may : may_ask g a.vertex s x seen ≡ true) where

@@ -22,17 +22,21 @@ use Rattle.chip_detect.specs.Acknowledging as detector
 use Rattle.chip_detect.specs.Steps.{Gets, Acknowledges, Sends, Settles}
 use Rattle.chip_detect.proofs.Soundness.{parent_goes_with_all}
 use Rattle.chip_detect.proofs.Allowed.{within_owed}
-use Rattle.chip_actor.specs.Edges.{all_edges, tail_of, mult_of}
-use Rattle.chip_actor.specs.Part.{Cause, cause}
-use Rattle.chip_actor.specs.Rules.{Take, Ack, Fire, Clear, Claim, Put, Halt, Settle}
-use Rattle.chip_actor.specs.Steps.{Reply, message_of, does}
-use Rattle.chip_actor.specs.declared.reply.Reply.TheVariants.{Done, Got, Sent, Empty, Full, Sealed}
-use Rattle.chip_actor.specs.Ends.{OutEnd, OutEnds, InEnds, out_on, in_on, ChangesOut, ChangesOuts, ChangesIn}
-use Rattle.chip_actor.specs.Ends.{out_after_clear, out_after_claim, out_after_put, out_after_fire}
+use Rattle.chip_part.specs.Edges.{all_edges, tail_of, mult_of}
+use Rattle.chip_part.specs.declared.cause.Cause.{Cause}
+use Rattle.chip_part.specs.Part.{cause}
+use Rattle.chip_part.specs.Rules.{Take, Ack, Fire, Clear, Claim, Put, Halt, Settle}
+use Rattle.chip_part.specs.declared.reply.Reply.{Reply}
+use Rattle.chip_part.specs.Steps.{message_of, does}
+use Rattle.chip_part.specs.declared.reply.Reply.TheVariants.{Done, Got, Sent, Empty, Full, Sealed}
+use Rattle.chip_ends.specs.declared.outs.OutEnd.{OutEnd}
+use Rattle.chip_ends.specs.Ends.{OutEnds, InEnds, out_on, in_on, ChangesOut, ChangesOuts, ChangesIn}
+use Rattle.chip_ends.specs.Ends.{out_after_clear, out_after_claim, out_after_put, out_after_fire}
 use Rattle.chip_actor.specs.Actor.{Actor, StandsFor, SomePart, WhateverPart, is_passive_now}
-use Rattle.chip_actor.specs.Acting.{CanDo, Makes}
-use Rattle.chip_actor.proofs.EdgeLemmas.{sendable_inside}
-use Rattle.chip_actor.proofs.RuleLemmas.{rules_met}
+use Rattle.chip_part.specs.Acting.{CanDo}
+use Rattle.chip_actor.specs.Actor.{Makes}
+use Rattle.chip_part.proofs.EdgeLemmas.{sendable_inside}
+use Rattle.chip_part.proofs.RuleLemmas.{rules_met}
 use Rattle.chip_actor.proofs.Standing.{among_outs, among_ins, books_in, books_out, out_inside, owed_is, may_ack_is}
 use Rattle.chip_actor.proofs.Standing.{few_got, few_fired}
 use Rattle.chip_actor.proofs.Stepping.{takes, takes_none, settles, acknowledges, halts, clears, may_look, claims}
@@ -346,7 +350,7 @@ fire_fits a k seen (g, s, stands, can) e among =
     let here = ap (λ (o : OutEnd). o.mult) (stands.outs e at) in
     let inside = out_inside g s a stands e at in
     let one = tested_term (all_edges g) (λ i. eqb (tail_of g i) a.vertex) (mult_of g) e (omega arith) (eq-eqb _ _ at) in
-    let whole = Rattle.chip_actor.proofs.EdgeLemmas.over_outs_graph g a.vertex stands.knows.vertex (mult_of g) in
+    let whole = Rattle.chip_part.proofs.EdgeLemmas.over_outs_graph g a.vertex stands.knows.vertex (mult_of g) in
     let few = stands.few_chips in
     let cost = met.7 in
     let less : (out_on a.outs e).mult ≤ Rattle.chip_graph.specs.Multigraph.degree g.graph a.vertex = omega arith in

@@ -2,21 +2,25 @@
 use Rattle.std.proofs.Common.{◌≡◌, ◌≢◌, ℕ, ◌+◌, ◌*◌, ◌^◌, ◌<◌, ◌≤◌, Bool, true, false, cond, List, [], ◌∷◌, ◌++◌}
 use Rattle.std.proofs.Common.{reverse, length, Some, None, refl, sym, ap, ◌∙◌, subst, add_assoc, arith}
 use Rattle.std.proofs.lemmas.List.{append_assoc, reverse-append}
-use Rattle.chip_actor.specs.Setting.{Setting}
-use Rattle.chip_actor.specs.declared.act.Act.{Act}
-use Rattle.chip_actor.specs.declared.cursor.Cursor.TheVariants as At
-use Rattle.chip_actor.specs.declared.act.Act.TheVariants as Do
-use Rattle.chip_actor.specs.Part.{Part}
-use Rattle.chip_actor.specs.Rules.{Event, unmet}
-use Rattle.chip_actor.specs.Steps.{Step, Reply, part_of, does, reply_of}
-use Rattle.chip_actor.specs.Acting.{act_of, event_of, CanDo, FitsSeen, Makes}
-use Rattle.chip_actor.specs.Turn.{turn, ins_of, outs_of}
-use Rattle.chip_actor.specs.Cursor.{Cursor, left, IsAt, GoesBy, DueAt, most_left}
-use Rattle.chip_actor.specs.Counting.{work_of, is_work}
+use Rattle.chip_part.specs.Setting.{Setting}
+use Rattle.chip_part.specs.declared.act.Act.{Act}
+use Rattle.chip_part.specs.declared.cursor.Cursor.TheVariants as At
+use Rattle.chip_part.specs.declared.act.Act.TheVariants as Do
+use Rattle.chip_part.specs.Part.{Part}
+use Rattle.chip_part.specs.Rules.{Event, unmet}
+use Rattle.chip_part.specs.declared.reply.Reply.{Reply}
+use Rattle.chip_part.specs.Steps.{Step, part_of, does, reply_of}
+use Rattle.chip_part.specs.Acting.{act_of, event_of, CanDo, FitsSeen}
+use Rattle.chip_actor.specs.Actor.{Makes}
+use Rattle.chip_part.specs.Turn.{turn, ins_of, outs_of}
+use Rattle.chip_part.specs.declared.cursor.Cursor.{Cursor}
+use Rattle.chip_part.specs.Cursor.{left, IsAt, GoesBy, most_left}
+use Rattle.chip_actor.specs.Turning.{DueAt}
+use Rattle.chip_part.specs.Counting.{work_of, is_work}
 use Rattle.chip_actor.specs.Actor.{Actor, StandsFor, SomePart, WhateverPart}
 use Rattle.chip_actor.specs.Medium.{Holding, IsDueBy, MayServe, Serves, Meets, GoesOn, Moves, MeetsDue, MakesDue}
 use Rattle.chip_actor.specs.Medium.{MakesTurn, AreOf}
-use Rattle.chip_actor.proofs.CursorLemmas.{Passes, event_of_act, act_is_some}
+use Rattle.chip_part.proofs.CursorLemmas.{Passes, event_of_act, act_is_some}
 
 -- the latest first, of two lists one after another
 reversed_more : (xs ys ds : List Step) → reverse (xs ++ ys) ++ ds ≡ reverse ys ++ (reverse xs ++ ds)
@@ -154,13 +158,13 @@ pub keeps_ins : (H K : Holding) (a b : Actor) (x y : Cursor) (n : ℕ) → Meets
     → b.ins.edges ≡ a.ins.edges
 keeps_ins H K a b x y n (g, ds, s, held, stands, at) moves =
     let go = (moves g ds s held stands at).2 in
-    go.stands.knows.ins ∙ ap (λ (v : ℕ). Rattle.chip_actor.specs.Turn.ins_of g v) go.vertex ∙ sym stands.knows.ins
+    go.stands.knows.ins ∙ ap (λ (v : ℕ). Rattle.chip_part.specs.Turn.ins_of g v) go.vertex ∙ sym stands.knows.ins
 
 pub keeps_outs : (H K : Holding) (a b : Actor) (x y : Cursor) (n : ℕ) → Meets H a x → Moves H a x K b y n
     → b.outs.edges ≡ a.outs.edges
 keeps_outs H K a b x y n (g, ds, s, held, stands, at) moves =
     let go = (moves g ds s held stands at).2 in
-    go.stands.knows.outs ∙ ap (λ (v : ℕ). Rattle.chip_actor.specs.Turn.outs_of g v) go.vertex ∙ sym stands.knows.outs
+    go.stands.knows.outs ∙ ap (λ (v : ℕ). Rattle.chip_part.specs.Turn.outs_of g v) go.vertex ∙ sym stands.knows.outs
 
 -- a phase with nothing to do
 pub moves_past : (H : Holding) (a : Actor) (x y : Cursor)

@@ -1,26 +1,26 @@
 -- What an actor that stands for a part knows of it.
-use Rattle.std.proofs.Common.{◌≡◌, ◌≢◌, ℕ, ◌+◌, ◌-◌, ◌*◌, ◌<◌, ◌≤◌, ◌^◌, Bool, true, false, not, ◌&&◌, ◌||◌, cond, eqb}
-use Rattle.std.proofs.Common.{leb, List, [], ◌∷◌, ◌++◌, length, Option, Some, None, is_some, is_none, option_to_list}
-use Rattle.std.proofs.Common.{refl, sym, ap, ◌∙◌, subst, arith, eq-eqb}
+use Rattle.std.proofs.Common.{◌≡◌, ℕ, ◌+◌, ◌-◌, ◌<◌, ◌≤◌, ◌^◌, Bool, true, not, ◌&&◌, ◌||◌, eqb}
+use Rattle.std.proofs.Common.{leb, List, [], ◌∷◌, ◌++◌, length, Option, Some, None, is_some, is_none}
+use Rattle.std.proofs.Common.{refl, sym, ap, ◌∙◌, subst, arith}
 use mathlib.Core.Logic.{dite}
 use native.Mathlib.Decide.{dec_lt}
 use Rattle.std.specs.List.{Contains, sum_by}
 use Rattle.std.proofs.lemmas.List.Sums.{sum_by-append}
-use Rattle.std.proofs.lemmas.List.Elements.{Contains-append_left, Contains-append_right}
 use Rattle.chip_graph.specs.Multigraph.{edge_at, edges_out, edges_in, sum_in}
-use Rattle.chip_actor.specs.Setting.{Setting}
+use Rattle.chip_part.specs.Setting.{Setting}
 use Rattle.chip_graph.proofs.SumLemmas.{tested_ext, picked_sum}
-use Rattle.chip_detect.specs.Books.{Books, in_edges, out_edges, got_of, acked_of, sent_of, settled_of}
+use Rattle.chip_detect.specs.Books.{in_edges, out_edges}
 use Rattle.chip_detect.specs.Books as books
 use Rattle.chip_detect.specs.Acknowledging.{acknowledgeable}
 use Rattle.chip_detect.specs.Acknowledging as detector
 use Rattle.chip_detect.specs.Tally.{message_limit}
-use Rattle.chip_actor.specs.Edges.{graph_edges, all_edges, root_edge, tail_of, head_of}
-use Rattle.chip_actor.specs.Part.{Part, Cause, owed, outstanding, deficit, all_owed, is_legal, is_passive, may_ack}
+use Rattle.chip_part.specs.Edges.{graph_edges, all_edges, root_edge, tail_of, head_of}
+use Rattle.chip_part.specs.declared.cause.Cause.{Cause}
+use Rattle.chip_part.specs.Part.{Part, owed, outstanding, deficit, all_owed, is_legal, is_passive, may_ack}
 use Rattle.chip_actor.specs.Actor.{Actor, StandsFor, is_legal_now, is_passive_now}
-use Rattle.chip_actor.proofs.EdgeLemmas.{tail_graph, head_graph, head_root, over_outs_graph, over_ins_graph}
-use Rattle.chip_actor.proofs.PartLemmas.{tail_inside}
-use Rattle.chip_actor.proofs.PickedLemmas.{picked_has, picked_passes}
+use Rattle.chip_part.proofs.EdgeLemmas.{tail_graph, head_graph, head_root, over_outs_graph, over_ins_graph}
+use Rattle.chip_part.proofs.PartLemmas.{tail_inside}
+use Rattle.chip_part.proofs.PickedLemmas.{picked_passes, among_new_outs, among_new_ins}
 use Rattle.std.proofs.lemmas.List.Elements.{All-contains}
 use Rattle.chip_graph.proofs.PickLemmas.{All-picked}
 
@@ -28,21 +28,6 @@ use Rattle.chip_graph.proofs.PickLemmas.{All-picked}
 not_running : (h : Option Cause) → is_some h ≡ not (is_none h)
 not_running None = refl
 not_running (Some c) = refl
-
--- the edges out of a vertex, and into it with its root edge, are all that have it as their tail or head
-pub among_new_outs : (g : Setting) (v : ℕ) → v < g.graph.vertices → (e : ℕ) → tail_of g e ≡ v
-    → Contains (edges_out g.graph v) e
-among_new_outs g v vertex e at =
-    let l = tail_inside g e (subst (λ (n : ℕ). n < g.graph.vertices) (sym at) vertex) in
-    picked_has (λ i. eqb (edge_at g.graph i).tail v) (graph_edges g) e l (eq-eqb _ _ (sym (tail_graph g e l) ∙ at))
-
-pub among_new_ins : (g : Setting) (v : ℕ) → v < g.graph.vertices → (e : ℕ) → head_of g e ≡ v
-    → Contains (edges_in g.graph v ++ root_edge g v ∷ []) e
-among_new_ins g v vertex e at = dite (dec_lt e (graph_edges g))
-    (λ l. Contains-append_left (edges_in g.graph v) (root_edge g v ∷ []) e
-    (picked_has (λ i. eqb (edge_at g.graph i).head v) (graph_edges g) e l (eq-eqb _ _ (sym (head_graph g e l) ∙ at))))
-    (λ n. Contains-append_right (edges_in g.graph v) (root_edge g v ∷ []) e
-    (0, omega arith, (let h = head_root g e (omega arith) in let z : graph_edges g + v ≡ e = omega arith in z)))
 
 module _ (g : Setting) (s : Part) (a : Actor) (stands : StandsFor g s a) where
   -- ---- its edges

@@ -7,7 +7,7 @@ use Rattle.std.proofs.Common.{mul_comm, true≢false}
 use mathlib.Core.Logic.{dite}
 use native.Mathlib.Decide.{ℕ_discrete}
 use Rattle.chip_graph.specs.Multigraph.{degree}
-use Rattle.chip_actor.specs.Setting.{Setting}
+use Rattle.chip_part.specs.Setting.{Setting}
 use Rattle.chip_graph.proofs.SumLemmas.{cond_yes, cond_no, tested_ext, tested_scale, tested_move}
 use Rattle.chip_link.specs.Ends.{may_clear, head_after_take}
 use Rattle.chip_link.specs.Link.{Tail, claims_of, after_clear, after_claim, after_put, after_take, tail_state}
@@ -17,17 +17,19 @@ use Rattle.chip_detect.specs.Tally.{edges_of, messages_on, answered_on}
 use Rattle.chip_detect.specs.Books.{Books, IsSound, in_edges, out_edges, got_of, acked_of, sent_of, settled_of}
 use Rattle.chip_detect.specs.Acknowledging.{is_parent, or_else}
 use Rattle.chip_detect.specs.Steps.{Gets, Acknowledges, Sends, Settles}
-use Rattle.chip_actor.specs.Edges.{all_edges, tail_of, head_of, mult_of, over_outs}
-use Rattle.chip_actor.specs.Part.{Part, Cause, Out, may_ack, cause}
-use Rattle.chip_actor.specs.Rules.{Event, Take, Ack, Fire, Clear, Claim, Put, Halt, Settle, unmet}
-use Rattle.chip_actor.specs.Steps.{part_of, does, link_after, pending_after, got_after}
-use Rattle.chip_actor.specs.Kept.{KeepsPart}
-use Rattle.chip_actor.specs.Ends.{OutEnd, OutEnds, InEnds, out_on, in_on, ChangesOut, ChangesOuts, ChangesIn}
-use Rattle.chip_actor.specs.Ends.{out_after_clear, out_after_claim, out_after_put, out_after_fire}
+use Rattle.chip_part.specs.Edges.{all_edges, tail_of, head_of, mult_of, over_outs}
+use Rattle.chip_part.specs.declared.cause.Cause.{Cause}
+use Rattle.chip_part.specs.Part.{Part, Out, may_ack, cause}
+use Rattle.chip_part.specs.Rules.{Event, Take, Ack, Fire, Clear, Claim, Put, Halt, Settle, unmet}
+use Rattle.chip_part.specs.Steps.{part_of, does, link_after, pending_after, got_after}
+use Rattle.chip_part.specs.Kept.{KeepsPart}
+use Rattle.chip_ends.specs.declared.outs.OutEnd.{OutEnd}
+use Rattle.chip_ends.specs.Ends.{OutEnds, InEnds, out_on, in_on, ChangesOut, ChangesOuts, ChangesIn}
+use Rattle.chip_ends.specs.Ends.{out_after_clear, out_after_claim, out_after_put, out_after_fire}
 use Rattle.chip_actor.specs.Actor.{Actor, KnowsGame, StandsFor, out_end}
-use Rattle.chip_actor.proofs.RuleLemmas.{rules_met, vertex_clear}
-use Rattle.chip_actor.proofs.PartLemmas.{events_keep, idle_take, took_some}
-use Rattle.chip_actor.proofs.EdgeLemmas.{over_outs_graph, sendable_inside}
+use Rattle.chip_part.proofs.RuleLemmas.{rules_met, vertex_clear}
+use Rattle.chip_part.proofs.PartLemmas.{events_keep, idle_take, took_some}
+use Rattle.chip_part.proofs.EdgeLemmas.{over_outs_graph, sendable_inside}
 
 module _ (g : Setting) (s : Part) (a : Actor) (stands : StandsFor g s a) where
   -- what it knows of the game is no matter of its numbers

@@ -1,17 +1,19 @@
 -- What an actor finds in its own lists is what its part says.
 use Rattle.std.proofs.Common.{◌≡◌, ℕ, ◌<◌, Bool, true, false, not, cond, eqb, List, length, slice_index, Option, Some}
 use Rattle.std.proofs.Common.{None, is_some, option_to_list, option_map, refl, sym, ap, ◌∙◌, subst, arith}
-use Rattle.chip_actor.specs.Setting.{Setting}
+use Rattle.chip_part.specs.Setting.{Setting}
 use Rattle.chip_link.specs.Ends.{claim_words, put_of}
 use Rattle.chip_detect.specs.Acknowledging as detector
-use Rattle.chip_actor.specs.Edges.{tail_of, head_of}
-use Rattle.chip_actor.specs.Part.{Part, may_ack}
-use Rattle.chip_actor.specs.Ends.{OutEnd, out_on}
+use Rattle.chip_part.specs.Edges.{tail_of, head_of}
+use Rattle.chip_part.specs.Part.{Part, may_ack}
+use Rattle.chip_ends.specs.declared.outs.OutEnd.{OutEnd}
+use Rattle.chip_ends.specs.Ends.{out_on}
 use Rattle.chip_actor.specs.Actor.{Actor, StandsFor, is_passive_now, out_end}
-use Rattle.chip_actor.specs.Turn.{ins_of, outs_of}
-use Rattle.chip_actor.specs.Cursor.{IsFirstFrom, out_at}
+use Rattle.chip_part.specs.Turn.{ins_of, outs_of}
+use Rattle.chip_ends.specs.Ends.{IsFirstFrom}
+use Rattle.chip_part.specs.Cursor.{out_at}
 use Rattle.chip_actor.proofs.Standing.{may_ack_is}
-use Rattle.chip_actor.proofs.TurnSteps.{in_enters, out_leaves}
+use Rattle.chip_part.proofs.TurnSteps.{in_enters, out_leaves}
 
 -- by an equal test the first place is the same
 first_same : (t u : ℕ → Bool) (xs : List ℕ) → ((k : ℕ) → k < length xs → t (slice_index xs k) ≡ u (slice_index xs k))
@@ -97,16 +99,16 @@ module _ (g : Setting) (s : Part) (a : Actor) (stands : StandsFor g s a) where
       → is_some (s.out (out_at g a.vertex k)).link.held ≡ false
   none_held none k within =
       let e : ℕ = out_at g a.vertex k in
-      let inside = Rattle.chip_actor.proofs.TurnSteps.out_inside g a.vertex k within in
+      let inside = Rattle.chip_part.proofs.TurnSteps.out_inside g a.vertex k within in
       no_length (s.out e).link.held
-      (Rattle.chip_actor.proofs.PartLemmas.out_zero g a.vertex (λ i. length (option_to_list (s.out i).link.held))
+      (Rattle.chip_part.proofs.PartLemmas.out_zero g a.vertex (λ i. length (option_to_list (s.out i).link.held))
       (sym stands.unput ∙ none) e (omega arith) (out_leaves g a.vertex k within))
 
   pub none_pending : a.pending ≡ 0 → (k : ℕ) → k < length (outs_of g a.vertex)
       → not (eqb (s.out (out_at g a.vertex k)).pending 0) ≡ false
   none_pending none k within =
       let e : ℕ = out_at g a.vertex k in
-      let inside = Rattle.chip_actor.proofs.TurnSteps.out_inside g a.vertex k within in
+      let inside = Rattle.chip_part.proofs.TurnSteps.out_inside g a.vertex k within in
       ap (λ (n : ℕ). not (eqb n 0))
-      (Rattle.chip_actor.proofs.PartLemmas.out_zero g a.vertex (λ i. (s.out i).pending) (sym stands.pending
+      (Rattle.chip_part.proofs.PartLemmas.out_zero g a.vertex (λ i. (s.out i).pending) (sym stands.pending
       ∙ none) e (omega arith) (out_leaves g a.vertex k within))

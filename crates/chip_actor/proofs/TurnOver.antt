@@ -5,26 +5,28 @@ use Rattle.std.proofs.Common.{sym, ap, ◌∙◌, subst, arith, eq-eqb, ne_eqb, 
 use Rattle.std.proofs.lemmas.Bool.{and_parts}
 use Rattle.std.proofs.lemmas.List.Sums.{sum_by-cons}
 use Rattle.chip_graph.proofs.SumLemmas.{cond_true}
-use Rattle.chip_actor.specs.Setting.{Setting}
+use Rattle.chip_part.specs.Setting.{Setting}
 use Rattle.chip_link.specs.Link.{claims_of}
 use Rattle.chip_link.specs.Ends.{head_cell, tail_cell, claim_words, put_of}
 use Rattle.chip_detect.specs.Acknowledging as detector
-use Rattle.chip_actor.specs.declared.act.Act.TheVariants as Do
-use Rattle.chip_actor.specs.declared.cursor.Cursor.TheVariants as At
-use Rattle.chip_actor.specs.Edges.{tail_of, head_of}
-use Rattle.chip_actor.specs.Ends.{OutEnd, out_on, in_on}
-use Rattle.chip_actor.specs.Part.{Part, Cause, cause, is_by_limit, may_ack, all_owed, refusals}
-use Rattle.chip_actor.specs.Rules.{Take, Ack, Fire, Clear, Claim, Put, Halt, Settle}
-use Rattle.chip_actor.specs.Turn.{ins_of, outs_of, may_fire, batch_of, is_at_limit}
-use Rattle.chip_actor.specs.Cursor.{GoesBy, out_at}
+use Rattle.chip_part.specs.declared.act.Act.TheVariants as Do
+use Rattle.chip_part.specs.declared.cursor.Cursor.TheVariants as At
+use Rattle.chip_part.specs.Edges.{tail_of, head_of}
+use Rattle.chip_ends.specs.declared.outs.OutEnd.{OutEnd}
+use Rattle.chip_ends.specs.Ends.{out_on, in_on}
+use Rattle.chip_part.specs.declared.cause.Cause.{Cause}
+use Rattle.chip_part.specs.Part.{Part, cause, is_by_limit, may_ack, all_owed, refusals}
+use Rattle.chip_part.specs.Rules.{Take, Ack, Fire, Clear, Claim, Put, Halt, Settle}
+use Rattle.chip_part.specs.Turn.{ins_of, outs_of, may_fire, batch_of, is_at_limit}
+use Rattle.chip_part.specs.Cursor.{GoesBy, out_at}
 use Rattle.chip_actor.specs.Actor.{Actor, StandsFor, WhateverPart, is_passive_now}
 use Rattle.chip_actor.specs.Medium.{Holding, Moves}
 use Rattle.chip_actor.proofs.Standing.{may_ack_is}
-use Rattle.chip_actor.proofs.PartLemmas.{may_le}
-use Rattle.chip_actor.proofs.TurnSteps.{take_due, takes_over, settle_due, settles_over, in_enters, out_leaves, fire_due}
-use Rattle.chip_actor.proofs.TurnSteps.{no_fire_due, puts_over, puts_fit, refusal_none, sends_begin, send_due, sends_to}
-use Rattle.chip_actor.proofs.TurnSteps.{sends_over, claim_due, claim_over, store_due, stop_due, no_limit_due, ack_due}
-use Rattle.chip_actor.proofs.TurnSteps.{acks_to, acks_over, no_parent}
+use Rattle.chip_part.proofs.PartLemmas.{may_le}
+use Rattle.chip_part.proofs.TurnSteps.{take_due, takes_over, settle_due, settles_over, in_enters, out_leaves, fire_due}
+use Rattle.chip_part.proofs.TurnSteps.{no_fire_due, puts_over, puts_fit, refusal_none, sends_begin, send_due, sends_to}
+use Rattle.chip_part.proofs.TurnSteps.{sends_over, claim_due, claim_over, store_due, stop_due, no_limit_due, ack_due}
+use Rattle.chip_part.proofs.TurnSteps.{acks_to, acks_over, no_parent}
 use Rattle.chip_actor.proofs.TurnActor.{pending_is, held_at_place, clear_at_place, none_held}
 use Rattle.chip_actor.proofs.MediumLemmas.{DueBy, moves_past, moves_on, turn_ends}
 
@@ -307,8 +309,8 @@ nothing_owed H a off =
         → head_of g e ≡ a.vertex → may_ack g (head_of g e) s e ≡ 0
     owes_none g s a stands none e mine =
         let idle = (stands.kept.neutral stands.knows.vertex none).nothing_owed in
-        let one = Rattle.chip_actor.proofs.PartLemmas.in_zero g a.vertex
-        (λ i. Rattle.chip_actor.specs.Part.owed (s.into i)) idle e
+        let one = Rattle.chip_part.proofs.PartLemmas.in_zero g a.vertex
+        (λ i. Rattle.chip_part.specs.Part.owed (s.into i)) idle e
         (Rattle.chip_actor.proofs.Standing.in_inside g s a stands e mine) mine in
         let most = may_le g (head_of g e) e s in
         omega arith

@@ -3,13 +3,19 @@ use Rattle.std.specs.Prelude.{◌≡◌, ℕ, ◌<◌, ◌≤◌, Bool, not, ◌
 use Rattle.std.specs.Prelude.{length, Option}
 use Rattle.chip_graph.specs.Limits.{max_total}
 use Rattle.chip_graph.specs.Multigraph.{edges_out, edges_in, degree}
-use Rattle.chip_actor.specs.Setting.{Setting, IsSetting}
+use Rattle.chip_part.specs.Setting.{Setting, IsSetting}
 use Rattle.chip_link.specs.Link.{claims_of, tail_state, head_state}
 use Rattle.chip_detect.specs.Books.{Books, IsSound, in_edges, out_edges, got_of, acked_of, sent_of, settled_of}
-use Rattle.chip_actor.specs.Edges.{root_edge, tail_of, head_of, mult_of}
-use Rattle.chip_actor.specs.Part.{Part, Out, Cause, pending_of, unput, refusals}
-use Rattle.chip_actor.specs.Kept.{KeepsPart}
-use Rattle.chip_actor.specs.Ends.{OutEnds, InEnds, OutEnd, out_on, in_on}
+use Rattle.chip_part.specs.Edges.{root_edge, tail_of, head_of, mult_of}
+use Rattle.chip_part.specs.declared.cause.Cause.{Cause}
+use Rattle.chip_part.specs.Part.{Part, Out, pending_of, unput, refusals}
+use Rattle.chip_part.specs.Kept.{KeepsPart}
+use Rattle.chip_part.specs.Rules.{Event}
+use Rattle.chip_part.specs.declared.reply.Reply.{Reply}
+use Rattle.chip_part.specs.Steps.{does, reply_of}
+use Rattle.chip_part.specs.Acting.{CanDo}
+use Rattle.chip_ends.specs.declared.outs.OutEnd.{OutEnd}
+use Rattle.chip_ends.specs.Ends.{OutEnds, InEnds, out_on, in_on}
 
 -- what an `ActorState` shows. The last three are sums over the edges out of it, so that nobody has to add them up: what
 -- is pending, how many messages are claimed and not put, and on how many edges a claim was refused
@@ -83,3 +89,11 @@ is_legal_now a = not a.is_sink && nat_le a.degree a.chips
 
 abbrev pub is_passive_now : Actor → Bool
 is_passive_now a = a.unput == 0 && (is_some a.halt || (a.pending == 0 && not (is_legal_now a)))
+
+-- the actor made this event and answered this: whatever part it stood for, it stands for that part after the event, at
+-- the same vertex
+abbrev pub Makes : Actor → Actor → Event → ℕ → Reply → Type 0
+Makes old new x seen reply =
+    WhateverPart old (λ g s. CanDo g s old.vertex x seen
+    → StandsFor g (does g (record { event = x; seen = seen }) s) new × (reply ≡ reply_of g x seen s)
+    × (new.vertex ≡ old.vertex))

@@ -1,48 +1,10 @@
--- Lists of events and of operations of one vertex, each with a word that it may see: what the tests give to an actor.
--- The tests of a list compute.
-use Rattle.std.specs.Prelude.{◌≡◌, ℕ, ◌+◌, ◌-◌, Bool, true, ◌&&◌, ◌||◌, ◌==◌, nat_lt, nat_le, List, [], ◌∷◌}
-use Rattle.std.specs.Prelude.{length, map, is_some}
-use Rattle.chip_graph.specs.Limits.{max_total, max_limit}
-use Rattle.chip_graph.specs.declared.edge.Edge.{Edge}
-use Rattle.chip_graph.specs.ChipGame.{ChipGame}
-use Rattle.chip_actor.specs.Setting.{Setting}
-use Rattle.chip_actor.specs.Worked.{edge}
-use Rattle.chip_link.specs.Words.{claims_in}
-use Rattle.chip_link.specs.Link.{claims_of}
-use Rattle.chip_detect.specs.Tally.{message_limit}
-use Rattle.chip_actor.specs.Part.{Part}
-use Rattle.chip_actor.specs.Rules.{Event, Take, Claim, Settle, Feed, End, unmet}
-use Rattle.chip_actor.specs.Steps.{Reply, part_of, does, asked}
-use Rattle.chip_actor.specs.declared.act.Act.{Act}
-use Rattle.chip_actor.specs.Acting.{event_of}
+-- What an actor answers where it is asked for an event: what the tests go by.
+use Rattle.std.specs.Prelude.{◌≡◌, ℕ, true}
+use Rattle.chip_part.specs.Rules.{Event, unmet}
+use Rattle.chip_part.specs.declared.reply.Reply.{Reply}
+use Rattle.chip_part.specs.Steps.{asked}
+use Rattle.chip_part.specs.Asking.{may_ask}
 use Rattle.chip_actor.specs.Actor.{Actor, WhateverPart, StandsFor}
-use Rattle.chip_actor.specs.Edges.{root_edge}
-use Rattle.chip_actor.specs.Root.{Root, RootStandsFor, WhateverRoot, is_of_root}
-
--- an operation of this event may see this
-abbrev pub fits_seen : Part → Event → ℕ → Bool
-fits_seen s (Take e) seen = seen == 0
-    || (nat_le (s.chips + seen) max_total && nat_lt (length (s.into e).got) message_limit)
-fits_seen s (Claim e) seen = claims_in seen == claims_of (s.out e).link
-fits_seen s (Settle e) seen = nat_le (s.out e).settled seen && nat_le seen (claims_of (s.out e).link)
-fits_seen s _ seen = true
-
--- the vertex may be asked for this event, and where it makes it, it may see this
-abbrev pub may_ask : Setting → ℕ → Part → Event → ℕ → Bool
-may_ask g v s x seen = part_of g x == v && (is_some (unmet g x s) || fits_seen s x seen)
-
--- these operations may see what stands beside them, one after another
-abbrev pub may_see_all : Setting → ℕ → Part → List (Act × ℕ) → Bool
-may_see_all g v s [] = true
-may_see_all g v s (o ∷ os) = fits_seen s (event_of v o.0) o.1
-    && may_see_all g v (does g (record { event = event_of v o.0; seen = o.1 }) s) os
-
--- the vertex may be asked for one event after another, and make these operations then. Beside each event stands what it
--- sees, and the reply that is hoped for
-abbrev pub may_play : Setting → ℕ → Part → List (Event × ℕ × Reply) → List (Act × ℕ) → Bool
-may_play g v s [] turn = may_see_all g v s turn
-may_play g v s (x ∷ xs) turn = may_ask g v s x.0 x.1
-    && may_play g v (asked g (record { event = x.0; seen = x.1 }) s (unmet g x.0 s)).0 xs turn
 
 -- the actor answered so: whatever part it stood for, it stands for that part after the question, at the same vertex
 abbrev pub Answers : Actor → Actor → Event → ℕ → Reply → Type 0
@@ -50,38 +12,3 @@ Answers old new x seen reply =
     WhateverPart old (λ g s. may_ask g old.vertex s x seen ≡ true
     → StandsFor g (asked g (record { event = x; seen = seen }) s (unmet g x s)).0 new
     × (reply ≡ (asked g (record { event = x; seen = seen }) s (unmet g x s)).1) × (new.vertex ≡ old.vertex))
-
--- what an event of the root may see
-abbrev pub root_fits_seen : Setting → Part → Event → ℕ → Bool
-root_fits_seen g s (Feed e k) seen = seen == claims_of (s.out e).link
-root_fits_seen g s End seen = fits_seen s (Settle (root_edge g 0)) seen
-root_fits_seen g s x seen = fits_seen s x seen
-
--- the root may be asked for this event, and where it makes it, it may see this
-abbrev pub may_ask_root : Setting → Part → Event → ℕ → Bool
-may_ask_root g s x seen = is_of_root g x && (is_some (unmet g x s) || root_fits_seen g s x seen)
-
--- and for one event after another
-abbrev pub may_play_root : Setting → Part → List (Event × ℕ × Reply) → Bool
-may_play_root g s [] = true
-may_play_root g s (x ∷ xs) = may_ask_root g s x.0 x.1
-    && may_play_root g (asked g (record { event = x.0; seen = x.1 }) s (unmet g x.0 s)).0 xs
-
--- the root answered so: whatever part it stood for, it stands for that part after the question
-abbrev pub RootAnswers : Root → Root → Event → ℕ → Reply → Type 0
-RootAnswers old new x seen reply =
-    WhateverRoot old (λ g s. may_ask_root g s x seen ≡ true
-    → RootStandsFor g (asked g (record { event = x; seen = seen }) s (unmet g x s)).0 new
-    × (reply ≡ (asked g (record { event = x; seen = seen }) s (unmet g x s)).1))
-
--- the game on edges with these ends, which send one chip for each firing. The sink is the last vertex
-abbrev pub edge_of : ℕ × ℕ → Edge
-edge_of ends = edge ends.0 ends.1
-
-abbrev pub game_on : ℕ → List (ℕ × ℕ) → List ℕ → ChipGame
-game_on vertices ends start =
-    record {
-      graph = record { vertices = vertices; sink = vertices - 1; edges = map edge_of ends };
-      start = start;
-      limit = max_limit;
-    }

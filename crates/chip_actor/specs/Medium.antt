@@ -2,15 +2,16 @@
 -- made, each with the word that it saw; an operation makes the record longer by one step, and the word that it answers
 -- fits. A turn makes it longer by a turn.
 use Rattle.std.specs.Prelude.{◌≡◌, ℕ, Bool, ◌+◌, List, [], ◌∷◌, ◌++◌, reverse, None}
-use Rattle.chip_actor.specs.Setting.{Setting}
-use Rattle.chip_actor.specs.declared.act.Act.{Act}
-use Rattle.chip_actor.specs.Part.{Part}
-use Rattle.chip_actor.specs.Rules.{unmet}
-use Rattle.chip_actor.specs.Steps.{Step, part_of, does, reply_of}
-use Rattle.chip_actor.specs.Acting.{act_of, event_of, FitsSeen}
-use Rattle.chip_actor.specs.Turn.{turn}
-use Rattle.chip_actor.specs.Cursor.{Cursor, left, IsAt}
-use Rattle.chip_actor.specs.Counting.{work_of, is_work}
+use Rattle.chip_part.specs.Setting.{Setting}
+use Rattle.chip_part.specs.declared.act.Act.{Act}
+use Rattle.chip_part.specs.Part.{Part}
+use Rattle.chip_part.specs.Rules.{unmet}
+use Rattle.chip_part.specs.Steps.{Step, part_of, does, reply_of}
+use Rattle.chip_part.specs.Acting.{act_of, event_of, FitsSeen}
+use Rattle.chip_part.specs.Turn.{turn}
+use Rattle.chip_part.specs.declared.cursor.Cursor.{Cursor}
+use Rattle.chip_part.specs.Cursor.{left, IsAt}
+use Rattle.chip_part.specs.Counting.{work_of, is_work}
 use Rattle.chip_actor.specs.Actor.{Actor, StandsFor}
 
 -- what a medium holds: of a game that is set up so, for this vertex, these steps, the latest first, which leave this

@@ -1,15 +1,11 @@
 ghost use Rattle.std.specs.Prelude.{◌≡◌, ◌≢◌, ◌+◌, ◌*◌, ◌<◌, ◌≤◌, ◌==◌, not, ◌&&◌, ◌||◌, nat_le, is_none, length};
 ghost use Rattle.std.specs.Prelude.{slice_index, Bool, IfOk, IfSome, None, ⊤};
 
-use crate::act::{Act, Observed};
-use crate::cause::{Cause, is_by_limit};
-use crate::ins::Ins;
-use crate::outs::Outs;
-use crate::reply::Reply;
-use crate::rule::{Rule, first_unmet};
 use chip_detect::Detect;
+use chip_ends::{Ins, Outs};
 use chip_graph::Game;
 use chip_link::{Event, Ring};
+use chip_part::{Act, Cause, Observed, Reply, Rule, first_unmet, is_by_limit};
 use std::alloc::{AllocError, Global};
 use std::marker::Model;
 
@@ -64,13 +60,14 @@ impl Model for ActorState {
 
 impl ActorState {
     ghost use Rattle.chip_detect.specs.Acknowledging.{may_ack};
-    ghost use Rattle.chip_actor.specs.Setting.{setting_with};
-    ghost use Rattle.chip_actor.specs.Part.{opened, is_passive, cause};
-    ghost use Rattle.chip_actor.specs.Edges.{tail_of, head_of};
-    ghost use Rattle.chip_actor.specs.Rules.{unmet};
-    ghost use Rattle.chip_actor.specs.Steps.{part_of};
-    ghost use Rattle.chip_actor.specs.Acting.{act_of, event_of, verdict, CanDo, IsDue, Makes};
-    ghost use Rattle.chip_actor.specs.Actor.{Actor, StandsFor, WhateverPart, SomePart, is_legal_now, is_passive_now};
+    ghost use Rattle.chip_part.specs.Setting.{setting_with};
+    ghost use Rattle.chip_part.specs.Part.{opened, is_passive, cause};
+    ghost use Rattle.chip_part.specs.Edges.{tail_of, head_of};
+    ghost use Rattle.chip_part.specs.Rules.{unmet};
+    ghost use Rattle.chip_part.specs.Steps.{part_of};
+    ghost use Rattle.chip_part.specs.Acting.{act_of, event_of, verdict, CanDo, IsDue};
+    ghost use Rattle.chip_actor.specs.Actor.{Actor, StandsFor, WhateverPart, SomePart, Makes, is_legal_now};
+    ghost use Rattle.chip_actor.specs.Actor.{is_passive_now};
     ghost use Rattle.chip_link.specs.declared.event.Event.TheVariants.{Take, Ack, Fire, Clear, Claim, Put, Halt};
     ghost use Rattle.chip_link.specs.declared.event.Event.TheVariants.{Settle};
 

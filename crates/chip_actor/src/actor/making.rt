@@ -3,15 +3,12 @@
 ghost use Rattle.std.specs.Prelude.{◌≡◌, ◌≢◌, ◌+◌, ◌*◌, ◌^◌, ◌<◌, ◌≤◌, length, slice_index, ◌==◌, ◌&&◌, is_none};
 ghost use Rattle.std.specs.Prelude.{if◌then◌else◌, MatchOption, IfSome};
 
-use crate::act::{Act, Observed};
 use crate::actor::ActorState;
-use crate::cause::is_by_limit;
-use crate::cursor::Cursor;
 use crate::medium::Medium;
-use crate::reply::Reply;
+use chip_part::{Act, Cursor, Observed, Reply, is_by_limit};
 
 impl ActorState {
-    ghost use Rattle.chip_actor.specs.Ends.{out_on};
+    ghost use Rattle.chip_ends.specs.Ends.{out_on};
     ghost use Rattle.chip_actor.specs.Medium.{Meets, Moves, MeetsDue, MakesDue, MakesTurn};
 
     /// Takes once from the edge at this index of those into the vertex.
@@ -308,7 +305,7 @@ impl ActorState {
     }
 }
 
-ghost use Rattle.chip_actor.specs.Counting.{is_work};
+ghost use Rattle.chip_part.specs.Counting.{is_work};
 ghost use Rattle.chip_actor.specs.Medium.{MayServe, Serves};
 
 /// How much a step with this reply counts for: 1 where it is work, else 0.

@@ -1,11 +1,11 @@
 use Rattle.std.proofs.Common.{◌≡◌, ◌∙◌, ℕ, List, [], ◌∷◌, true, false, refl}
-use Rattle.chip_actor.specs.declared.act.Act.{Act}
-use Rattle.chip_actor.specs.declared.reply.Reply.TheVariants.{Empty}
-use Rattle.chip_actor.specs.Setting.{Setting, setting_of}
-use Rattle.chip_actor.specs.Part.{opened}
-use Rattle.chip_actor.specs.Rules.{Event, Take, Ack}
-use Rattle.chip_actor.specs.Steps.{Reply}
-use Rattle.chip_actor.specs.Asking.{game_on, may_play}
+use Rattle.chip_part.specs.declared.act.Act.{Act}
+use Rattle.chip_part.specs.declared.reply.Reply.TheVariants.{Empty}
+use Rattle.chip_part.specs.Setting.{Setting, setting_of}
+use Rattle.chip_part.specs.Part.{opened}
+use Rattle.chip_part.specs.Rules.{Event, Take, Ack}
+use Rattle.chip_part.specs.declared.reply.Reply.{Reply}
+use Rattle.chip_part.specs.Asking.{game_on, may_play}
 use Rattle.chip_actor.proofs.tests.engaging_message_last.Goals as goal
 
 -- the script, whose replies don't matter here

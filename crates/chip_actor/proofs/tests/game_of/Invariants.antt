@@ -1,5 +1,5 @@
 use Rattle.std.proofs.Common.{◌≡◌, take, map}
-use Rattle.chip_actor.specs.Asking.{edge_of}
+use Rattle.chip_part.specs.Asking.{edge_of}
 use Rattle.chip_actor.proofs.tests.game_of.Given as goal
 
 abbrev pub invariant-loop-i : goal.invariant-loop-i

@@ -1,8 +1,8 @@
 use Rattle.std.proofs.Common.{◌≡◌, ◌≢◌, ◌∙◌, ℕ, ◌+◌, List, slice_index, true, sym, ap}
 use Rattle.chip_detect.specs.Acknowledging as detector
-use Rattle.chip_actor.specs.declared.act.Act.TheVariants as Do
-use Rattle.chip_actor.specs.declared.cursor.Cursor.TheVariants as At
-use Rattle.chip_actor.specs.Rules.{Ack}
+use Rattle.chip_part.specs.declared.act.Act.TheVariants as Do
+use Rattle.chip_part.specs.declared.cursor.Cursor.TheVariants as At
+use Rattle.chip_part.specs.Rules.{Ack}
 use Rattle.chip_actor.specs.Actor.{Actor, is_passive_now}
 use Rattle.chip_actor.proofs.MediumLemmas.{DueBy, may_serve, can_do, moves_one, one_few}
 use Rattle.chip_actor.proofs.TurnOver.{ack_by, ack_none}

@@ -3,10 +3,10 @@ use Rattle.std.specs.List.{Contains}
 use Rattle.chip_detect.specs.Books.{in_edges}
 use Rattle.chip_detect.specs.Books as books
 use Rattle.chip_detect.specs.Acknowledging as detector
-use Rattle.chip_actor.specs.declared.rule.Rule.TheVariants.{NoSuch, NothingOwed, Engaged}
-use Rattle.chip_actor.specs.Edges.{all_edges, head_of}
-use Rattle.chip_actor.specs.Part.{owed, may_ack}
-use Rattle.chip_actor.specs.Rules.{need}
+use Rattle.chip_part.specs.declared.rule.Rule.TheVariants.{NoSuch, NothingOwed, Engaged}
+use Rattle.chip_part.specs.Edges.{all_edges, head_of}
+use Rattle.chip_part.specs.Part.{owed, may_ack}
+use Rattle.chip_part.specs.Rules.{need}
 use Rattle.chip_actor.specs.Actor.{Actor}
 use Rattle.chip_actor.proofs.Standing.{books_in, owed_is, may_ack_is, in_inside}
 use Rattle.chip_actor.proofs.actor.ActorState.ack_rule.Goals as goal

@@ -1,5 +1,5 @@
 use Rattle.std.proofs.Common.{◌∙◌, is_some, sym, ap}
-use Rattle.chip_actor.specs.declared.cursor.Cursor.TheVariants as At
+use Rattle.chip_part.specs.declared.cursor.Cursor.TheVariants as At
 use Rattle.chip_actor.specs.Actor.{Actor}
 use Rattle.chip_actor.proofs.MediumLemmas.{moves_on, meets_after}
 use Rattle.chip_actor.proofs.TurnOver.{nothing_owed}

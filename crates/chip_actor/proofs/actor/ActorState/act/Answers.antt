@@ -2,12 +2,12 @@ use Rattle.std.proofs.Common.{◌≡◌, ◌∙◌, sym, ap, subst, ℕ}
 use Rattle.std.specs.List.{Contains}
 use Rattle.chip_detect.specs.Books.{in_edges}
 use Rattle.chip_detect.specs.Acknowledging as detector
-use Rattle.chip_actor.specs.declared.act.Act.TheVariants as Do
-use Rattle.chip_actor.specs.Edges.{head_of}
-use Rattle.chip_actor.specs.Part.{may_ack, cause, is_by_limit}
-use Rattle.chip_actor.specs.Rules.{Event}
-use Rattle.chip_actor.specs.Steps.{part_of}
-use Rattle.chip_actor.specs.Acting.{act_of}
+use Rattle.chip_part.specs.declared.act.Act.TheVariants as Do
+use Rattle.chip_part.specs.Edges.{head_of}
+use Rattle.chip_part.specs.Part.{may_ack, cause, is_by_limit}
+use Rattle.chip_part.specs.Rules.{Event}
+use Rattle.chip_part.specs.Steps.{part_of}
+use Rattle.chip_part.specs.Acting.{act_of}
 use Rattle.chip_actor.specs.Actor.{Actor}
 use Rattle.chip_actor.proofs.Standing.{among_outs, among_ins, books_in, may_ack_is}
 use Rattle.chip_actor.proofs.actor.ActorState.act.Goals as goal

@@ -1,6 +1,7 @@
 use Rattle.std.proofs.Common.{sym, subst}
-use Rattle.chip_actor.specs.declared.act.Act.{Act}
-use Rattle.chip_actor.specs.Acting.{Makes, event_of}
+use Rattle.chip_part.specs.declared.act.Act.{Act}
+use Rattle.chip_actor.specs.Actor.{Makes}
+use Rattle.chip_part.specs.Acting.{event_of}
 use Rattle.chip_actor.proofs.actor.ActorState.apply.Goals as goal
 
 -- each arm makes its own event

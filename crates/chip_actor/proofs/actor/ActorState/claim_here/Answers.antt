@@ -1,10 +1,11 @@
 use Rattle.std.proofs.Common.{◌≡◌, ◌∙◌, ℕ, List, slice_index, Some, sym, ap}
-use Rattle.chip_actor.specs.declared.act.Act.TheVariants as Do
-use Rattle.chip_actor.specs.declared.cursor.Cursor.TheVariants as At
-use Rattle.chip_actor.specs.Ends.{OutEnd, out_on}
+use Rattle.chip_part.specs.declared.act.Act.TheVariants as Do
+use Rattle.chip_part.specs.declared.cursor.Cursor.TheVariants as At
+use Rattle.chip_ends.specs.declared.outs.OutEnd.{OutEnd}
+use Rattle.chip_ends.specs.Ends.{out_on}
 use Rattle.chip_actor.specs.Actor.{Actor}
 use Rattle.chip_link.specs.Ends.{claim_words}
-use Rattle.chip_actor.specs.Rules.{Claim}
+use Rattle.chip_part.specs.Rules.{Claim}
 use Rattle.chip_actor.proofs.MediumLemmas.{DueBy, may_serve, can_do, moves_one, one_few}
 use Rattle.chip_actor.proofs.TurnOver.{claim_by, claim_none}
 use Rattle.chip_actor.proofs.actor.ActorState.claim_here.Goals as goal

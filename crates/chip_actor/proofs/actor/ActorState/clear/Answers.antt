@@ -1,7 +1,7 @@
 use Rattle.std.proofs.Common.{sym, subst}
-use Rattle.chip_actor.specs.Rules.{Clear}
+use Rattle.chip_part.specs.Rules.{Clear}
 use Rattle.chip_actor.specs.Actor.{Actor, SomePart}
-use Rattle.chip_actor.specs.Acting.{CanDo}
+use Rattle.chip_part.specs.Acting.{CanDo}
 use Rattle.chip_actor.specs.contracts.actor.ActorState.{the_view}
 use Rattle.chip_actor.proofs.Making.{clear_among}
 use Rattle.chip_actor.proofs.actor.ActorState.clear.Goals as goal

@@ -1,6 +1,6 @@
 use Rattle.std.proofs.Common.{ℕ, subst}
-use Rattle.chip_actor.specs.Rules.{Clear}
-use Rattle.chip_actor.specs.Acting.{Makes}
+use Rattle.chip_part.specs.Rules.{Clear}
+use Rattle.chip_actor.specs.Actor.{Makes}
 use Rattle.chip_actor.specs.contracts.actor.ActorState.{the_view}
 use Rattle.chip_actor.proofs.Making.{clear_made, clear_reply}
 use Rattle.std.proofs.Common.{Option}

@@ -1,5 +1,6 @@
 use Rattle.std.proofs.Common.{sym, subst}
-use Rattle.chip_actor.specs.Cursor.{Cursor, DueAt}
+use Rattle.chip_part.specs.declared.cursor.Cursor.{Cursor}
+use Rattle.chip_actor.specs.Turning.{DueAt}
 use Rattle.chip_actor.proofs.actor.ActorState.due.Goals as goal
 
 -- each arm is at its own cursor

@@ -1,13 +1,13 @@
 use Rattle.std.proofs.Common.{◌∙◌, ℕ, ◌+◌, List, is_some, sym, ap, subst, get_or}
 use Rattle.chip_link.specs.Ends.{claim_words}
-use Rattle.chip_actor.specs.declared.cursor.Cursor.TheVariants as At
-use Rattle.chip_actor.specs.Rules.{Claim}
+use Rattle.chip_part.specs.declared.cursor.Cursor.TheVariants as At
+use Rattle.chip_part.specs.Rules.{Claim}
 use Rattle.chip_actor.specs.Actor.{Actor}
-use Rattle.chip_actor.specs.Ends.{OutEnd}
-use Rattle.chip_actor.specs.Cursor.{GoesBy}
-use Rattle.chip_actor.proofs.TurnSteps.{claim_due, claim_over}
+use Rattle.chip_ends.specs.declared.outs.OutEnd.{OutEnd}
+use Rattle.chip_part.specs.Cursor.{GoesBy}
+use Rattle.chip_part.proofs.TurnSteps.{claim_due, claim_over}
 use Rattle.chip_actor.proofs.TurnActor.{clear_at_place}
-use Rattle.chip_actor.proofs.CursorLemmas.{passes_due}
+use Rattle.chip_part.proofs.CursorLemmas.{passes_due}
 use Rattle.chip_actor.proofs.actor.ActorState.due_claim.Goals as goal
 
 pub returns-then-is_some : goal.returns-then-is_some

@@ -3,10 +3,10 @@ use Rattle.std.specs.List.{Contains}
 use Rattle.chip_detect.specs.Acknowledging as detector
 use Rattle.chip_detect.specs.Books.{in_edges}
 use Rattle.chip_actor.specs.Actor.{Actor}
-use Rattle.chip_actor.specs.Edges.{head_of}
-use Rattle.chip_actor.specs.Part.{may_ack}
+use Rattle.chip_part.specs.Edges.{head_of}
+use Rattle.chip_part.specs.Part.{may_ack}
 use Rattle.chip_actor.proofs.Standing.{books_in, may_ack_is}
-use Rattle.chip_actor.proofs.TurnSteps.{parent_due, no_parent_due}
+use Rattle.chip_part.proofs.TurnSteps.{parent_due, no_parent_due}
 use Rattle.chip_actor.proofs.actor.ActorState.due_parent.Goals as goal
 
 pub may_ack-requires : goal.may_ack-requires

@@ -1,11 +1,11 @@
 use Rattle.std.proofs.Common.{◌∙◌, ℕ, List, Some, None, sym, ap, subst, get_or}
-use Rattle.chip_actor.specs.declared.cursor.Cursor.TheVariants as At
-use Rattle.chip_actor.specs.Rules.{Clear}
+use Rattle.chip_part.specs.declared.cursor.Cursor.TheVariants as At
+use Rattle.chip_part.specs.Rules.{Clear}
 use Rattle.chip_actor.specs.Actor.{Actor}
-use Rattle.chip_actor.specs.Cursor.{GoesBy}
-use Rattle.chip_actor.proofs.TurnSteps.{send_due, sends_over}
+use Rattle.chip_part.specs.Cursor.{GoesBy}
+use Rattle.chip_part.proofs.TurnSteps.{send_due, sends_over}
 use Rattle.chip_actor.proofs.TurnActor.{first_pending, none_pending}
-use Rattle.chip_actor.proofs.CursorLemmas.{passes_due}
+use Rattle.chip_part.proofs.CursorLemmas.{passes_due}
 use Rattle.chip_actor.proofs.actor.ActorState.due_send.Goals as goal
 
 pub returns-in-Some : goal.returns-in-Some

@@ -1,7 +1,8 @@
 use Rattle.std.proofs.Common.{◌≡◌, ℕ, ◌+◌, Option, true, false, subst, arith}
-use Rattle.chip_actor.specs.declared.cursor.Cursor.TheVariants as At
-use Rattle.chip_actor.specs.Rules.{Event}
-use Rattle.chip_actor.specs.Cursor.{Cursor, DueAt}
+use Rattle.chip_part.specs.declared.cursor.Cursor.TheVariants as At
+use Rattle.chip_part.specs.Rules.{Event}
+use Rattle.chip_part.specs.declared.cursor.Cursor.{Cursor}
+use Rattle.chip_actor.specs.Turning.{DueAt}
 use Rattle.chip_actor.specs.Medium.{Meets, Moves}
 use Rattle.chip_actor.proofs.MediumLemmas.{moves_none, moves_on, meets_after, then_over, meets_due, moves_made}
 use Rattle.chip_actor.proofs.MediumLemmas.{fewer_since, few_left, turn_ends, not_end}

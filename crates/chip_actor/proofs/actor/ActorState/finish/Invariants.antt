@@ -1,5 +1,5 @@
 use Rattle.std.proofs.Common.{◌+◌, ◌≤◌, length}
-use Rattle.chip_actor.specs.Cursor.{most_left}
+use Rattle.chip_part.specs.Cursor.{most_left}
 use Rattle.chip_actor.specs.Medium.{Moves}
 use Rattle.chip_actor.proofs.actor.ActorState.finish.Given as goal
 

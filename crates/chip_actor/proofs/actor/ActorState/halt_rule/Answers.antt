@@ -1,8 +1,8 @@
 use Rattle.std.proofs.Common.{◌≡◌, ◌∙◌, Bool, true, false, sym, ap, not, eqb, lt-ltb, Option, Some, None, is_some}
 use Rattle.std.proofs.Common.{is_none, refl}
-use Rattle.chip_actor.specs.declared.rule.Rule.TheVariants.{NoSuch, Sink, Halted, Unput, NoCause}
-use Rattle.chip_actor.specs.Part.{Cause}
-use Rattle.chip_actor.specs.Rules.{need}
+use Rattle.chip_part.specs.declared.rule.Rule.TheVariants.{NoSuch, Sink, Halted, Unput, NoCause}
+use Rattle.chip_part.specs.declared.cause.Cause.{Cause}
+use Rattle.chip_part.specs.Rules.{need}
 use Rattle.chip_actor.specs.Actor.{Actor}
 use Rattle.chip_actor.proofs.actor.ActorState.halt_rule.Goals as goal
 

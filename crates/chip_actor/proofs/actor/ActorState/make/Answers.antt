@@ -1,5 +1,5 @@
 use Rattle.std.proofs.Common.{◌∙◌, ap}
-use Rattle.chip_actor.specs.Counting.{is_work}
+use Rattle.chip_part.specs.Counting.{is_work}
 use Rattle.chip_actor.proofs.actor.ActorState.make.Goals as goal
 
 pub returns : goal.returns

@@ -1,6 +1,6 @@
 use Rattle.std.proofs.Common.{◌∙◌, sym, ap, Option, Ok}
-use Rattle.chip_actor.specs.Rules.{Rule}
-use Rattle.chip_actor.specs.Acting.{act_of, verdict}
+use Rattle.chip_part.specs.declared.rule.Rule.{Rule}
+use Rattle.chip_part.specs.Acting.{act_of, verdict}
 use Rattle.chip_actor.proofs.actor.ActorState.may.Goals as goal
 
 pub act-requires : goal.act-requires

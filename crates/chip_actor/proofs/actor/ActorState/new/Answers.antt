@@ -2,10 +2,10 @@ use Rattle.std.proofs.Common.{◌∙◌, ◌+◌, ◌<◌, ◌≤◌, ℕ, List,
 use Rattle.chip_graph.specs.Multigraph.{Multigraph, edge_at, edges_out, edges_in, degree}
 use Rattle.chip_detect.specs.Books.{IsFresh}
 use Rattle.chip_link.specs.Rings.{max_ring}
-use Rattle.chip_actor.specs.Setting.{setting_with}
-use Rattle.chip_actor.specs.Ends.{IsFreshOuts, IsFreshIns}
+use Rattle.chip_part.specs.Setting.{setting_with}
+use Rattle.chip_ends.specs.Ends.{IsFreshOuts, IsFreshIns}
 use Rattle.chip_actor.specs.Actor.{Actor}
-use Rattle.chip_actor.proofs.PickedLemmas.{length-picked}
+use Rattle.chip_part.proofs.PickedLemmas.{length-picked}
 use Rattle.chip_actor.proofs.ActorOpening.{opens}
 use Rattle.chip_actor.proofs.actor.ActorState.new.Goals as goal
 

@@ -1,7 +1,7 @@
 use Rattle.std.proofs.Common.{sym, subst}
-use Rattle.chip_actor.specs.Rules.{Settle}
+use Rattle.chip_part.specs.Rules.{Settle}
 use Rattle.chip_actor.specs.Actor.{Actor, SomePart}
-use Rattle.chip_actor.specs.Acting.{CanDo}
+use Rattle.chip_part.specs.Acting.{CanDo}
 use Rattle.chip_actor.specs.contracts.actor.ActorState.{the_view}
 use Rattle.chip_actor.proofs.Making.{settle_among}
 use Rattle.chip_actor.proofs.actor.ActorState.settle.Goals as goal

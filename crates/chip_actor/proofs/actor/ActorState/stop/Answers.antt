@@ -1,6 +1,6 @@
 use Rattle.std.proofs.Common.{◌≡◌, sym, subst}
 use Rattle.chip_graph.proofs.SumLemmas.{cond_yes, cond_no}
-use Rattle.chip_actor.specs.Part.{cause}
+use Rattle.chip_part.specs.Part.{cause}
 use Rattle.chip_actor.specs.Actor.{Actor, WhateverPart}
 use Rattle.chip_actor.specs.contracts.actor.ActorState.{the_view}
 use Rattle.chip_actor.proofs.Making.{halt_made}

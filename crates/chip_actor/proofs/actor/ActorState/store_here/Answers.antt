@@ -1,11 +1,12 @@
 use Rattle.std.proofs.Common.{◌≡◌, ◌∙◌, ℕ, ◌+◌, Bool, List, slice_index, Some, None, refl, sym, ap}
-use Rattle.chip_actor.specs.declared.act.Act.TheVariants as Do
-use Rattle.chip_actor.specs.declared.cursor.Cursor.TheVariants as At
-use Rattle.chip_actor.specs.Ends.{OutEnd, out_on}
+use Rattle.chip_part.specs.declared.act.Act.TheVariants as Do
+use Rattle.chip_part.specs.declared.cursor.Cursor.TheVariants as At
+use Rattle.chip_ends.specs.declared.outs.OutEnd.{OutEnd}
+use Rattle.chip_ends.specs.Ends.{out_on}
 use Rattle.chip_actor.specs.Actor.{Actor, WhateverPart}
 use Rattle.chip_link.specs.Ends.{put_of}
-use Rattle.chip_actor.specs.Part.{cause, is_by_limit}
-use Rattle.chip_actor.specs.Rules.{Put, Halt}
+use Rattle.chip_part.specs.Part.{cause, is_by_limit}
+use Rattle.chip_part.specs.Rules.{Put, Halt}
 use Rattle.chip_actor.proofs.MediumLemmas.{DueBy, may_serve, can_do, moves_one}
 use Rattle.chip_actor.proofs.TurnOver.{store_by, stop_by}
 use Rattle.chip_actor.proofs.actor.ActorState.store_here.Goals as goal

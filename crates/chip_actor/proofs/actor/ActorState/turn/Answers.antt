@@ -1,5 +1,5 @@
 use Rattle.std.proofs.Common.{◌+◌}
-use Rattle.chip_actor.specs.declared.cursor.Cursor.TheVariants as At
+use Rattle.chip_part.specs.declared.cursor.Cursor.TheVariants as At
 use Rattle.chip_actor.proofs.MediumLemmas.{moves_on, meets_after, whole_turn}
 use Rattle.chip_actor.proofs.actor.ActorState.turn.Goals as goal
 

@@ -1,6 +1,6 @@
 use Rattle.std.proofs.Common.{◌∙◌, sym, ap, ℕ}
-use Rattle.chip_actor.specs.Rules.{Event, Fire, Halt, unmet}
-use Rattle.chip_actor.specs.Steps.{part_of}
+use Rattle.chip_part.specs.Rules.{Event, Fire, Halt, unmet}
+use Rattle.chip_part.specs.Steps.{part_of}
 use Rattle.chip_actor.proofs.actor.ActorState.unmet.Goals as goal
 
 -- each arm asks its own event

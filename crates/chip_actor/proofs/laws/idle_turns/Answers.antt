@@ -1,5 +1,0 @@
-use Rattle.chip_actor.proofs.Resting.{idle_turn_rests}
-use Rattle.chip_actor.proofs.laws.idle_turns.Goals as goal
-
-pub returns : goal.returns
-returns c = idle_turn_rests

@@ -1,6 +1,0 @@
-use Rattle.chip_actor.proofs.TurnLemmas.{turns_bounded}
-use Rattle.chip_actor.proofs.CompletingTurns.{under_way_bounded}
-use Rattle.chip_actor.proofs.laws.turns.Goals as goal
-
-pub returns : goal.returns
-returns c = record { bounded = turns_bounded; under_way = under_way_bounded }

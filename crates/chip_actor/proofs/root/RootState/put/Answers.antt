@@ -1,8 +1,0 @@
-use Rattle.chip_actor.specs.contracts.root.RootState.{the_view}
-use Rattle.chip_actor.proofs.FeedLemmas.{put_made}
-use Rattle.chip_actor.proofs.root.RootState.put.Goals as goal
-
-pub returns : goal.returns
-returns c = rw (← c.self.view_is)
-    (put_made (the_view c.self.inside) c.in-Some.feeder c.put.new.self c.args.edge c.args.seen c.put.result c.in-Some.is
-    c.put.ensures.reply c.put.ensures.after)

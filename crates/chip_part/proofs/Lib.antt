@@ -1,0 +1,12 @@
+pub mod EdgeLemmas
+pub mod RuleLemmas
+pub mod PartLemmas
+pub mod Opening
+pub mod PickedLemmas
+pub mod TurnLemmas
+pub mod CursorLemmas
+pub mod TurnSteps
+pub mod CompletingTurns
+pub mod Resting
+pub mod WorkedTurns
+pub mod AskLemmas

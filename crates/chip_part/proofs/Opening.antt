@@ -1,0 +1,95 @@
+-- Every part opens with what it keeps.
+use Rattle.std.proofs.Common.{◌≡◌, ℕ, ◌+◌, ◌-◌, ◌<◌, ◌≤◌, Bool, true, false, not, ◌&&◌, cond, eqb, ltb, leb, [], ◌∷◌}
+use Rattle.std.proofs.Common.{length, sum, Option, Some, None, refl, sym, ap, ◌∙◌, subst, arith, eq-eqb, eqb-true}
+use Rattle.std.proofs.Common.{lt-ltb, le-ltb, true≢false, mul-zero, append-nil}
+use Rattle.std.proofs.lemmas.Bool.{and_from, not_from_false, or_right, lt-leb, and_right}
+use mathlib.Core.Logic.{dite}
+use native.Mathlib.Decide.{ℕ_discrete}
+use Rattle.chip_graph.specs.Multigraph.{degree}
+use Rattle.chip_part.specs.Setting.{Setting, HasGame}
+use Rattle.chip_graph.specs.Sums.{sum_below}
+use Rattle.chip_graph.proofs.SumLemmas.{cond_yes, cond_no, cond_true, cond_false, tested_none, sum_below_ext}
+use Rattle.chip_graph.proofs.SumLemmas.{sum_by_place}
+use Rattle.chip_graph.proofs.Walks.{degree_positive}
+use Rattle.chip_link.specs.Link.{claims_of, sent_counts}
+use Rattle.chip_part.specs.Edges.{graph_edges, all_edges, root_edge, tail_of, head_of, mult_of, start_of}
+use Rattle.chip_part.specs.Part.{Cause, opened, first_put, is_legal, all_fed}
+use Rattle.chip_part.specs.Kept.{KeepsPart, opening_tail}
+use Rattle.chip_part.proofs.PartLemmas.{tail_inside}
+
+module _ (g : Setting) where
+  first_sum : (v : ℕ) → sum (first_put g (root_edge g v)) ≡ start_of g v
+  first_sum v =
+      let l : graph_edges g ≤ root_edge g v = omega arith in
+      let s : ℕ = start_of g (root_edge g v - graph_edges g) in
+      let a : first_put g (root_edge g v) ≡ cond (eqb s 0) [] (s ∷ []) =
+      cond_false (ltb (root_edge g v) (length g.graph.edges)) [] _ (le-ltb (root_edge g v) (length g.graph.edges) l) in
+      let d : sum (cond (eqb s 0) [] (s ∷ [])) ≡ s = dite (ℕ_discrete s 0) (λ z. ap sum (cond_yes s 0 [] (s ∷ []) z)
+      ∙ sym z) (λ z. ap sum (cond_no s 0 [] (s ∷ []) z) ∙ (let y : 0 + s ≡ s = omega arith in y)) in
+      let at : root_edge g v - graph_edges g ≡ v = omega arith in
+      ap sum a ∙ d ∙ ap (start_of g) at
+
+  -- what an opening edge ever sent to a vertex is what this starts with
+  pub first_sent : (v : ℕ) → sum (sent_counts (opening_tail g (root_edge g v))) ≡ start_of g v
+  first_sent v = ap sum (append-nil (first_put g (root_edge g v))) ∙ first_sum v
+
+  -- the chips of the start are those of the game
+  pub first_fed : HasGame g → all_fed g (opened g) ≡ sum g.start
+  first_fed game = sum_below_ext g.graph.vertices _ (start_of g) (λ v l. first_sent v)
+      ∙ ap (λ (n : ℕ). sum_below n (start_of g)) (sym game.start_fits) ∙ sym (sum_by_place g.start)
+
+  none_put : (e : ℕ) → e < graph_edges g → first_put g e ≡ []
+  none_put e l = cond_true (ltb e (length g.graph.edges)) [] _ (lt-ltb e (length g.graph.edges) l)
+
+  pub first_few : (e : ℕ) → e < graph_edges g → length (first_put g e) ≡ 0
+  first_few e l = ap length (none_put e l)
+
+  pub opening_keeps : HasGame g → (p : ℕ) → KeepsPart g p (opened g)
+  opening_keeps game p = record {
+    outs = λ e at. record {
+      all_made = λ l. (let a = ap sum (none_put e l) in let b = mul-zero (mult_of g e) in omega arith);
+      fewer = λ l. (let a = first_few e l in omega arith);
+      fewer_yet = λ l h. absurd (omega arith);
+      clear_pends = λ l z. absurd (true≢false (sym z));
+      refused_pends = λ l z. absurd (true≢false (sym z));
+      clear_open = λ l z. refl;
+      free_hand = λ l h. refl;
+      root_idle = λ l. refl;
+      root_unfed = λ l off. refl;
+    };
+    chips_are = (let a = tested_none (all_edges g) (λ e. eqb (head_of g e) p) (λ e. 0) (λ e l on. refl) in
+        let b = mul-zero (degree g.graph p) in omega arith);
+    within = omega arith;
+    acks = λ e. omega arith;
+    parents = λ e h. absurd (none_some e h);
+    at_limit = λ h. absurd (none_cause h);
+    neutral = λ l h. record {
+      no_parent = refl;
+      passive = and_from _ _ (eq-eqb _ _ (tested_none (all_edges g) (λ e. eqb (tail_of g e) p) (λ e. 0)
+          (λ e m on. refl)))
+          (or_right (not true) _ (and_from _ _
+          (eq-eqb _ _ (tested_none (all_edges g) (λ e. eqb (tail_of g e) p) (λ e. 0) (λ e m on. refl)))
+          (not_from_false _ (illegal l))));
+      nothing_owed = tested_none (all_edges g) (λ e. eqb (head_of g e) p) (λ e. 0 - 0) (λ e m on. refl);
+      no_deficit = tested_none (all_edges g) (λ e. eqb (tail_of g e) p)
+          (λ e. claims_of (record { put = first_put g e; held = None; clear = false; refused = false }) - 0) (λ e m on.
+          (let at = eqb-true _ _ on in
+          let inside = tail_inside g e (subst (λ (n : ℕ). n < g.graph.vertices) (sym at) l) in
+          let a = first_few e inside in omega arith));
+    };
+    fed_within = λ at. (let a = first_fed game in let b = game.few_chips in omega arith);
+    unfed_ended = λ off. ap not off;
+  }
+    where
+      none_some : (e : ℕ) → ◌≡◌ {A = Option ℕ} None (Some e) → ⊥
+      none_some e q = absurd (cc)
+
+      none_cause : {c : Cause} → ◌≡◌ {A = Option Cause} None (Some c) → ⊥
+      none_cause q = absurd (cc)
+
+      illegal : p < g.graph.vertices → is_legal g p (opened g) ≡ false
+      illegal l = dite (ℕ_discrete p g.graph.sink)
+          (λ e. ap (λ (b : Bool). not b && leb (degree g.graph p) 0) (eq-eqb p g.graph.sink e))
+          (λ ne. and_right _ _ (lt-leb (degree g.graph p) 0
+          (degree_positive g.graph p (game.graph_fits.all_reach p l) ne
+          (λ e m. (game.graph_fits.edges_fit e m).some_chips))))

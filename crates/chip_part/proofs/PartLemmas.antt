@@ -1,0 +1,696 @@
+-- What every part keeps by its own events, whatever they see.
+use Rattle.std.proofs.Common.{◌≡◌, ◌≢◌, ◌⊎◌, ℕ, zero, suc, ◌+◌, ◌-◌, ◌*◌, ◌<◌, ◌≤◌, Bool, true, false, not, ◌&&◌, ◌||◌}
+use Rattle.std.proofs.Common.{cond, eqb, ltb, leb, List, [], ◌∷◌, ◌++◌, length, sum, Option, Some, None, option_to_list}
+use Rattle.std.proofs.Common.{refl, sym, ap, ◌∙◌, subst, arith, inl, inr, ⊎_elim, eq-eqb, ne_eqb, eqb-true, ltb-true}
+use Rattle.std.proofs.Common.{leb-true, lt-ltb, le-ltb, le-leb, true≢false, length-append, append-nil, mul-add}
+use Rattle.std.proofs.Common.{mul_comm, mul-zero}
+use Rattle.std.proofs.Common.{add-mul}
+use Rattle.std.proofs.lemmas.Bool.{not-true, eqb-false, and_parts, or_cases, and_from, cases_Bool, not_from_true}
+use Rattle.std.proofs.lemmas.List.Sums.{sum_by-append, sum_by_push}
+use mathlib.Core.Logic.{dite}
+use native.Mathlib.Decide.{ℕ_discrete, dec_lt}
+use Rattle.chip_graph.specs.Limits.{max_total}
+use Rattle.chip_graph.specs.Sums.{sum_below}
+use Rattle.chip_graph.specs.Multigraph.{degree}
+use Rattle.chip_part.specs.Setting.{Setting}
+use Rattle.chip_graph.proofs.SumLemmas.{cond_yes, cond_no, cond_true, cond_false, by_test, tested_le, tested_zero}
+use Rattle.chip_graph.proofs.SumLemmas.{tested_none, tested_move, sum_below_ext, sum_below_move}
+use Rattle.chip_link.specs.Link.{Tail, claims_of, sent_counts, after_clear, after_claim, after_put, after_take}
+use Rattle.chip_detect.specs.Acknowledging.{is_parent, or_else}
+use Rattle.chip_part.specs.declared.cause.Cause.TheVariants.{SealedEdge, FiringLimit}
+use Rattle.chip_part.specs.Edges.{graph_edges, all_edges, root_edge, tail_of, head_of, mult_of, over_outs, over_ins}
+use Rattle.chip_part.specs.Part.{Cause, Part, is_running, owed, outstanding, may_ack, all_owed, pending_of, unput}
+use Rattle.chip_part.specs.Part.{refusals, cause, is_legal, is_passive, deficit, all_fed}
+use Rattle.chip_part.specs.Rules.{Event, Take, Ack, Fire, Clear, Claim, Put, Halt, Settle, Seal, Read}
+use Rattle.chip_part.specs.Rules.{Feed, End, unmet}
+use Rattle.chip_part.specs.Steps.{part_of, settled_after, got_after, acked_after, halt_after, fired_after}
+use Rattle.chip_part.specs.Steps.{parent_after, link_after, ended_after, does, Step}
+use Rattle.chip_part.proofs.RuleLemmas.{rules_met}
+use Rattle.chip_part.proofs.EdgeLemmas.{tail_root, sendable_inside, root_sendable}
+use Rattle.chip_part.specs.Kept.{Met, IsNeutral, KeepsOut, KeepsPart}
+
+-- one edge is changed, the others are as they were
+pub at_edge : {A : Type 0} (P : ℕ → A → Type 0) (e : ℕ) (new old : ℕ → A) → P e (new e) → ((i : ℕ) → P i (old i))
+    → (i : ℕ) → P i (cond (eqb e i) (new i) (old i))
+at_edge P e new old here rest i = dite (ℕ_discrete e i)
+    (λ same. subst (λ (k : ℕ). P k (cond (eqb e k) (new k) (old k))) same
+    (subst (P e) (sym (cond_yes e e (new e) (old e) refl)) here))
+    (λ other. subst (P i) (sym (cond_no e i (new i) (old i) other)) (rest i))
+
+-- no message is claimed where none is counted
+pub no_held : (held : Option ℕ) → length (option_to_list held) ≡ 0 → held ≡ None
+no_held None z = refl
+no_held (Some count) z = absurd (omega arith)
+
+held_counts : (held : Option ℕ) (count : ℕ) → held ≡ Some count → 0 < length (option_to_list held)
+held_counts None count h = absurd (cc)
+held_counts (Some c) count h = omega arith
+
+module _ (g : Setting) where
+  pub tail_inside : (e : ℕ) → tail_of g e < g.graph.vertices → e < graph_edges g
+  tail_inside e l = dite (dec_lt e (length g.graph.edges)) (λ h. h) (λ n. let a = tail_root g e (omega arith) in
+      absurd (omega arith))
+
+  leaves : ℕ → ℕ → Bool
+  leaves v e = eqb (tail_of g e) v
+
+  enters : ℕ → ℕ → Bool
+  enters v e = eqb (head_of g e) v
+
+  -- of the edges out of v, each is 0 where their sum is
+  pub out_zero : (v : ℕ) (f : ℕ → ℕ) → over_outs g v f ≡ 0 → (e : ℕ) → e < all_edges g → tail_of g e ≡ v → f e ≡ 0
+  out_zero v f z e l at = tested_zero (all_edges g) (λ i. eqb (tail_of g i) v) f z e l (eq-eqb (tail_of g e) v at)
+
+  pub in_zero : (v : ℕ) (f : ℕ → ℕ) → over_ins g v f ≡ 0 → (e : ℕ) → e < all_edges g → head_of g e ≡ v → f e ≡ 0
+  in_zero v f z e l at = tested_zero (all_edges g) (λ i. eqb (head_of g i) v) f z e l (eq-eqb (head_of g e) v at)
+
+  -- ---- the edges out of the part
+
+  abbrev pub Outs : ℕ → Part → Type 0
+  Outs p s = (e : ℕ) → tail_of g e ≡ p → KeepsOut g e (s.out e).link (s.out e).pending s.fired
+
+  -- where chips are fed, a root edge keeps nothing but that nothing is pending on it
+  root_kept : (e : ℕ) (t : Tail) (pending fired : ℕ) → graph_edges g ≤ e → g.fed ≡ true → pending ≡ 0
+      → KeepsOut g e t pending fired
+  root_kept e t pending fired past on idle = record {
+    all_made = λ l. absurd (omega arith);
+    fewer = λ l. absurd (omega arith);
+    fewer_yet = λ l h. absurd (omega arith);
+    clear_pends = λ l z. absurd (omega arith);
+    refused_pends = λ l z. absurd (omega arith);
+    clear_open = λ l z. absurd (omega arith);
+    free_hand = λ l h. absurd (omega arith);
+    root_idle = λ l. idle;
+    root_unfed = λ l off. absurd (true≢false (sym on ∙ off));
+  }
+
+  -- chips are fed where the end isn't noted
+  fed_by : (s : Part) → (g.fed ≡ false → s.ended ≡ true) → s.ended ≡ false → g.fed ≡ true
+  fed_by s unfed going = by_test g.fed (λ on. on) (λ off. absurd (true≢false (sym (unfed off) ∙ going)))
+
+  outs_kept : (x : Event) (seen p : ℕ) (s : Part) → p ≡ part_of g x → Met g x s → (g.fed ≡ false → s.ended ≡ true)
+      → Outs p s → Outs p (does g (record { event = x; seen = seen }) s)
+  outs_kept (Take e) seen p s by may unfed ok = ok
+  outs_kept (Ack e) seen p s by may unfed ok = ok
+  outs_kept (Halt v) seen p s by may unfed ok = ok
+  outs_kept (Settle e) seen p s by may unfed ok = ok
+  outs_kept (Seal e) seen p s by may unfed ok = ok
+  outs_kept (Read v) seen p s by may unfed ok = ok
+  outs_kept End seen p s by may unfed ok = ok
+  outs_kept (Feed e k) seen p s by may unfed ok = at_edge (λ i (t : Tail). tail_of g i ≡ p
+      → KeepsOut g i t (s.out i).pending s.fired) e (λ i. after_claim k seen (s.out i).link) (λ i. (s.out i).link)
+      (λ at. root_kept e _ _ _ may.0 (fed_by s unfed may.2) ((ok e at).root_idle may.0)) ok
+  outs_kept (Fire v k) seen p s by may unfed ok = λ i at.
+      let o = s.out i in
+      let old = ok i at in
+      let mine : tail_of g i ≡ v = at ∙ by in
+      let inside : i < graph_edges g = tail_inside i (subst (λ (n : ℕ). n < g.graph.vertices) (sym mine) may.0) in
+      let none : o.pending ≡ 0 = out_zero v (λ e. (s.out e).pending) may.3 i (omega arith) mine in
+      let idle : length (option_to_list o.link.held)
+      ≡ 0 = out_zero v (λ e. length (option_to_list (s.out e).link.held)) may.4 i (omega arith) mine in
+      let a = old.all_made inside in let few = old.fewer inside in
+      let m = mul-add (mult_of g i) s.fired k in
+      let c = mul_comm (mult_of g i) k in
+      let some_k = may.5 in
+      subst (λ (n : ℕ). KeepsOut g i o.link n (s.fired + k))
+      (sym (cond_yes (tail_of g i) v (k * mult_of g i) o.pending mine)) record {
+        all_made = λ l. omega arith;
+        fewer = λ l. omega arith;
+        fewer_yet = λ l h. omega arith;
+        clear_pends = λ l e. (let z = old.clear_pends l e in absurd (omega arith));
+        refused_pends = λ l e. (let z = old.refused_pends l e in absurd (omega arith));
+        clear_open = old.clear_open;
+        free_hand = λ l h. no_held o.link.held idle;
+        root_idle = λ l. absurd (omega arith);
+        root_unfed = λ l off. absurd (omega arith);
+      }
+  outs_kept (Clear e) seen p s by may unfed ok = at_edge (λ i (t : Tail). tail_of g i ≡ p
+      → KeepsOut g i t (s.out i).pending s.fired) e (λ i. after_clear seen (s.out i).link) (λ i. (s.out i).link)
+      (λ at. let old = ok e at in ⊎_elim
+      (λ v. record {
+        all_made = old.all_made;
+        fewer = old.fewer;
+        fewer_yet = old.fewer_yet;
+        clear_pends = λ l z. v.3;
+        refused_pends = old.refused_pends;
+        clear_open = λ l z. v.2;
+        free_hand = old.free_hand;
+        root_idle = old.root_idle;
+        root_unfed = λ l off. (let inside = v.0 in absurd (omega arith));
+      })
+      (λ r. root_kept e _ _ _ r.0 r.2 (old.root_idle r.0)) may) ok
+  outs_kept (Put e) seen p s by may unfed ok = at_edge (λ i (t : Tail). tail_of g i ≡ p
+      → KeepsOut g i t (s.out i).pending s.fired) e (λ i. after_put (s.out i).link) (λ i. (s.out i).link)
+      (λ at. let old = ok e at in
+      let t = (s.out e).link in
+      let sums = sum_by-append (λ (x : ℕ). x) t.put (option_to_list t.held) in
+      let long = length-append t.put (option_to_list t.held) in
+      record {
+        all_made = λ l. (let a = old.all_made l in omega arith);
+        fewer = λ l. (let b = old.fewer l in omega arith);
+        fewer_yet = λ l h. (let b = old.fewer_yet l h in omega arith);
+        clear_pends = old.clear_pends;
+        refused_pends = old.refused_pends;
+        clear_open = old.clear_open;
+        free_hand = λ l h. refl;
+        root_idle = old.root_idle;
+        root_unfed = λ l off. absurd (true≢false (sym (root_sendable g e l may.0) ∙ off));
+      }) ok
+  outs_kept (Claim e) seen p s by may unfed ok = λ i at. dite (ℕ_discrete e i)
+      (λ same. (subst (λ (k : ℕ). tail_of g k ≡ p
+      → KeepsOut g k (cond (eqb e k) (after_claim (s.out k).pending seen (s.out k).link) (s.out k).link)
+      (cond (eqb e k) (cond (eqb seen (claims_of (s.out k).link)) 0 (s.out k).pending) (s.out k).pending) s.fired)
+      same
+      (λ mine.
+      let o = s.out e in
+      let old = ok e mine in
+      let pends = old.clear_pends may.0 may.2 in
+      let few = old.fewer_yet may.0 pends in
+      let hand = old.free_hand may.0 pends in
+      let empty : length (option_to_list o.link.held) ≡ 0 = ap (λ (h : Option ℕ). length (option_to_list h)) hand in
+      let nothing : sum (option_to_list o.link.held) ≡ 0 = ap (λ (h : Option ℕ). sum (option_to_list h)) hand in
+      let a = old.all_made may.0 in
+      let inside = may.0 in
+      subst (λ (tn : Tail × ℕ). KeepsOut g e tn.0 tn.1 s.fired)
+      (λ j. (
+        sym (cond_yes e e (after_claim o.pending seen o.link) o.link refl) j,
+        sym (cond_yes e e (cond (eqb seen (claims_of o.link)) 0 o.pending) o.pending refl) j,
+      ))
+      (dite (ℕ_discrete seen (claims_of o.link))
+      (λ hit. subst (λ (tn : Tail × ℕ). KeepsOut g e tn.0 tn.1 s.fired)
+      (λ j. (
+        sym (cond_yes seen (claims_of o.link) (record o.link { held = Some o.pending; clear = false })
+            (record o.link { clear = false; refused = true }) hit) j,
+        sym (cond_yes seen (claims_of o.link) 0 o.pending hit) j,
+      ))
+      (let r : KeepsOut g e (record o.link { held = Some o.pending; clear = false }) 0 s.fired = record {
+        all_made = λ l. omega arith;
+        fewer = λ l. omega arith;
+        fewer_yet = λ l h. absurd (omega arith);
+        clear_pends = λ l z. absurd (true≢false (sym z));
+        refused_pends = λ l z. absurd (true≢false (sym z ∙ old.clear_open may.0 may.2));
+        clear_open = λ l z. absurd (true≢false (sym z));
+        free_hand = λ l h. absurd (omega arith);
+        root_idle = λ l. refl;
+        root_unfed = λ l off. absurd (omega arith);
+      } in r))
+      (λ miss. subst (λ (tn : Tail × ℕ). KeepsOut g e tn.0 tn.1 s.fired)
+      (λ j. (
+        sym (cond_no seen (claims_of o.link) (record o.link { held = Some o.pending; clear = false })
+            (record o.link { clear = false; refused = true }) miss) j,
+        sym (cond_no seen (claims_of o.link) 0 o.pending miss) j,
+      ))
+      (let r : KeepsOut g e (record o.link { clear = false; refused = true }) o.pending s.fired = record {
+        all_made = old.all_made;
+        fewer = old.fewer;
+        fewer_yet = old.fewer_yet;
+        clear_pends = λ l z. absurd (true≢false (sym z));
+        refused_pends = λ l z. pends;
+        clear_open = λ l z. absurd (true≢false (sym z));
+        free_hand = old.free_hand;
+        root_idle = old.root_idle;
+        root_unfed = λ l off. absurd (omega arith);
+      } in r)))) at))
+      (λ other. subst (λ (tn : Tail × ℕ). KeepsOut g i tn.0 tn.1 s.fired)
+      (λ j. (
+        sym (cond_no e i (after_claim (s.out i).pending seen (s.out i).link) (s.out i).link other) j,
+        sym (cond_no e i (cond (eqb seen (claims_of (s.out i).link)) 0 (s.out i).pending) (s.out i).pending other) j,
+      ))
+      (ok i at))
+
+  -- ---- the edges into the part
+
+  pub took_sum : (seen : ℕ) (got : List ℕ) → sum (after_take seen got) ≡ sum got + seen
+  took_sum seen got = dite (ℕ_discrete seen 0)
+      (λ none. let a = ap sum (cond_yes seen 0 got (got ++ seen ∷ []) none) in omega arith)
+      (λ some. let a = ap sum (cond_no seen 0 got (got ++ seen ∷ []) some) in
+      let b = sum_by_push (λ (x : ℕ). x) got seen in omega arith)
+
+  pub took_some : (seen : ℕ) (got : List ℕ) → seen ≢ 0 → length (after_take seen got) ≡ length got + 1
+  took_some seen got some = let a = ap length (cond_no seen 0 got (got ++ seen ∷ []) some) in
+      let b = length-append got (seen ∷ []) in omega arith
+
+  pub took_none : (seen : ℕ) (got : List ℕ) → seen ≡ 0 → after_take seen got ≡ got
+  took_none seen got none = cond_yes seen 0 got (got ++ seen ∷ []) none
+
+  took_more : (seen : ℕ) (got : List ℕ) → length got ≤ length (after_take seen got)
+  took_more seen got = dite (ℕ_discrete seen 0) (λ none. let a = ap length (took_none seen got none) in omega arith)
+      (λ some. let a = took_some seen got some in omega arith)
+
+  pub may_le : (v e : ℕ) (s : Part) → may_ack g v s e ≤ owed (s.into e)
+  may_le v e s = by_test (is_parent e s.parent
+      && not (eqb (all_owed g v s) (owed (s.into e)) && is_passive g v s && eqb (deficit g v s) 0))
+      (λ y. let a = cond_true _ (owed (s.into e) - 1) (owed (s.into e)) y in omega arith)
+      (λ n. let a = cond_false _ (owed (s.into e) - 1) (owed (s.into e)) n in omega arith)
+
+  chips_kept : (x : Event) (seen p : ℕ) (s : Part) → p ≡ part_of g x → Met g x s
+      → s.chips + degree g.graph p * s.fired ≡ over_ins g p (λ e. sum (s.into e).got)
+      → (does g (record { event = x; seen = seen }) s).chips + degree g.graph p
+      * (does g (record { event = x; seen = seen }) s).fired
+      ≡ over_ins g p (λ e. sum ((does g (record { event = x; seen = seen }) s).into e).got)
+  chips_kept (Take e) seen p s by may ok =
+      let a = tested_move (all_edges g) (λ i. eqb (head_of g i) p) (λ i. sum (got_after (Take e) seen i (s.into i)))
+      (λ i. sum (s.into i).got) e may (eq-eqb _ _ (sym by))
+      (λ i l ne on. ap sum (cond_no e i (after_take seen (s.into i).got) (s.into i).got (λ z. ne (sym z)))) in
+      let b = ap sum (cond_yes e e (after_take seen (s.into e).got) (s.into e).got refl) in
+      let c = took_sum seen (s.into e).got in
+      omega arith
+  chips_kept (Fire v k) seen p s by may ok =
+      let a = mul-add (degree g.graph p) s.fired k in let b = mul_comm (degree g.graph p) k in
+      let c = ap (λ (w : ℕ). k * degree g.graph w) by in let d = may.7 in omega arith
+  chips_kept (Ack e) seen p s by may ok = ok
+  chips_kept (Clear e) seen p s by may ok = ok
+  chips_kept (Claim e) seen p s by may ok = ok
+  chips_kept (Put e) seen p s by may ok = ok
+  chips_kept (Halt v) seen p s by may ok = ok
+  chips_kept (Settle e) seen p s by may ok = ok
+  chips_kept (Seal e) seen p s by may ok = ok
+  chips_kept (Read v) seen p s by may ok = ok
+  chips_kept (Feed e k) seen p s by may ok = ok
+  chips_kept End seen p s by may ok = ok
+
+  within_kept : (x : Event) (s : Part) → Met g x s → s.fired ≤ g.limit → fired_after x s.fired ≤ g.limit
+  within_kept (Fire v k) s may ok = may.6
+  within_kept (Take e) s may ok = ok
+  within_kept (Ack e) s may ok = ok
+  within_kept (Clear e) s may ok = ok
+  within_kept (Claim e) s may ok = ok
+  within_kept (Put e) s may ok = ok
+  within_kept (Halt v) s may ok = ok
+  within_kept (Settle e) s may ok = ok
+  within_kept (Seal e) s may ok = ok
+  within_kept (Read v) s may ok = ok
+  within_kept (Feed e k) s may ok = ok
+  within_kept End s may ok = ok
+
+  acks_kept : (x : Event) (seen : ℕ) (s : Part) → ((e : ℕ) → (s.into e).acked ≤ length (s.into e).got) → (e : ℕ)
+      → acked_after g x s e (s.into e) ≤ length (got_after x seen e (s.into e))
+  acks_kept (Take e) seen s ok = at_edge (λ i (l : List ℕ). (s.into i).acked ≤ length l) e
+      (λ i. after_take seen (s.into i).got) (λ i. (s.into i).got) (let a = ok e in let b = took_more seen (s.into e).got
+      in omega arith) ok
+  acks_kept (Ack e) seen s ok = at_edge (λ i (n : ℕ). n ≤ length (s.into i).got) e
+      (λ i. (s.into i).acked + may_ack g (head_of g e) s e) (λ i. (s.into i).acked) (let a = ok e in
+      let b = may_le (head_of g e) e s in omega arith) ok
+  acks_kept (Fire v k) seen s ok = ok
+  acks_kept (Clear e) seen s ok = ok
+  acks_kept (Claim e) seen s ok = ok
+  acks_kept (Put e) seen s ok = ok
+  acks_kept (Halt v) seen s ok = ok
+  acks_kept (Settle e) seen s ok = ok
+  acks_kept (Seal e) seen s ok = ok
+  acks_kept (Read v) seen s ok = ok
+  acks_kept (Feed e k) seen s ok = ok
+  acks_kept End seen s ok = ok
+
+  -- a take that found nothing
+  pub idle_take : (e seen : ℕ) (s : Part) → seen ≡ 0 → does g (record { event = Take e; seen = seen }) s ≡ s
+  idle_take e seen s none = λ j. record {
+    chips = (let z : s.chips + seen ≡ s.chips = omega arith in z) j;
+    fired = s.fired;
+    halt = s.halt;
+    parent = cond_yes seen 0 s.parent (or_else s.parent e) none j;
+    out = s.out;
+    into = λ i. record {
+      got = same (eqb e i) (after_take seen (s.into i).got) (s.into i).got
+          (took_none seen (s.into i).got none) j;
+      acked = (s.into i).acked;
+    };
+    stop = s.stop;
+    ended = s.ended;
+  }
+    where
+      same : (b : Bool) (x y : List ℕ) → x ≡ y → cond b x y ≡ y
+      same true x y q = q
+      same false x y q = refl
+
+  -- ---- the parent
+
+  is_parent_of : (o : Option ℕ) (e : ℕ) → o ≡ Some e → is_parent e o ≡ true
+  is_parent_of None e h = absurd (cc)
+  is_parent_of (Some p) e h = eq-eqb p e (let z : p ≡ e = cc in z)
+
+  parent_from : (o : Option ℕ) (e : ℕ) → is_parent e o ≡ true → o ≡ Some e
+  parent_from None e h = absurd (true≢false (sym h))
+  parent_from (Some p) e h = ap Some (eqb-true p e h)
+
+  abbrev pub Parents : ℕ → Part → Type 0
+  Parents p s = (e : ℕ) → s.parent ≡ Some e → (e < all_edges g) × (head_of g e ≡ p) × (0 < owed (s.into e))
+
+  -- more was got, or nothing
+  owed_take : (e seen : ℕ) (s : Part) (i : ℕ)
+      → owed (s.into i) ≤ length (got_after (Take e) seen i (s.into i)) - (s.into i).acked
+  owed_take e seen s = at_edge (λ i (l : List ℕ). owed (s.into i) ≤ length l - (s.into i).acked) e
+      (λ i. after_take seen (s.into i).got) (λ i. (s.into i).got) (let b = took_more seen (s.into e).got in omega arith)
+      (λ i. omega arith)
+
+  or_else_is : (o : Option ℕ) (e i : ℕ) → or_else o e ≡ Some i → (o ≡ Some i) ⊎ (e ≡ i)
+  or_else_is None e i h = inr (let z : e ≡ i = cc in z)
+  or_else_is (Some q) e i h = inl h
+
+  or_else-not_none : (o : Option ℕ) (e : ℕ) → or_else o e ≡ None → ⊥
+  or_else-not_none None e h = absurd (cc)
+  or_else-not_none (Some q) e h = absurd (cc)
+
+  parents_kept : (x : Event) (seen p : ℕ) (s : Part) → p ≡ part_of g x → Met g x s
+      → ((e : ℕ) → (s.into e).acked ≤ length (s.into e).got) → Parents p s
+      → Parents p (does g (record { event = x; seen = seen }) s)
+  parents_kept (Take e) seen p s by may acks ok = dite (ℕ_discrete seen 0)
+      (λ none. subst (λ (t : Part). (i : ℕ) → t.parent ≡ Some i → (i < all_edges g) × (head_of g i ≡ p)
+      × (0 < owed (t.into i))) (sym (idle_take e seen s none)) ok)
+      (λ some i h. ⊎_elim
+      (λ was. let a = ok i was in let b = a.2 in let c = owed_take e seen s i in (a.0, a.1, omega arith))
+      (λ new. subst (λ (k : ℕ). (k < all_edges g) × (head_of g k ≡ p)
+      × (0 < length (got_after (Take e) seen k (s.into k)) - (s.into k).acked)) new
+      (let a = ap length (cond_yes e e (after_take seen (s.into e).got) (s.into e).got refl) in
+      let b = took_some seen (s.into e).got some in let c = acks e in (may, sym by, omega arith)))
+      (or_else_is s.parent e i (sym (cond_no seen 0 s.parent (or_else s.parent e) some) ∙ h)))
+  parents_kept (Ack e) seen p s by may acks ok = λ i h. by_test (is_parent e s.parent
+      && eqb (may_ack g (head_of g e) s e) (owed (s.into e)))
+      (λ y. absurd (none_some i (sym (cond_true _ None s.parent y) ∙ h)))
+      (λ n.
+      let was : s.parent ≡ Some i = sym (cond_false _ None s.parent n) ∙ h in
+      let a = ok i was in
+      let some_owed = a.2 in (
+        a.0,
+        a.1,
+        dite (ℕ_discrete e i)
+            (λ same.
+            let mine : is_parent e s.parent ≡ true = is_parent_of s.parent e (was ∙ ap Some (sym same)) in
+            let not_all : may_ack g (head_of g e) s e
+            ≢ owed (s.into e) = (λ z. true≢false (sym (and_from _ _ mine (eq-eqb _ _ z)) ∙ n)) in
+            let le = may_le (head_of g e) e s in
+            let has = acks e in
+            subst (λ (k : ℕ). 0 < length (s.into k).got - acked_after g (Ack e) s k (s.into k)) same
+            (let c = cond_yes e e ((s.into e).acked + may_ack g (head_of g e) s e) (s.into e).acked refl in
+            omega arith))
+            (λ other. let c = cond_no e i ((s.into i).acked + may_ack g (head_of g e) s e) (s.into i).acked other in
+            omega arith),
+      ))
+    where
+      none_some : (i : ℕ) → ◌≡◌ {A = Option ℕ} None (Some i) → ⊥
+      none_some i q = absurd (cc)
+  parents_kept (Fire v k) seen p s by may acks ok = ok
+  parents_kept (Clear e) seen p s by may acks ok = ok
+  parents_kept (Claim e) seen p s by may acks ok = ok
+  parents_kept (Put e) seen p s by may acks ok = ok
+  parents_kept (Halt v) seen p s by may acks ok = ok
+  parents_kept (Settle e) seen p s by may acks ok = ok
+  parents_kept (Seal e) seen p s by may acks ok = ok
+  parents_kept (Read v) seen p s by may acks ok = ok
+  parents_kept (Feed e k) seen p s by may acks ok = ok
+  parents_kept End seen p s by may acks ok = ok
+
+  -- ---- halts
+
+  pub none_halt : (h : Option Cause) (c : Cause) → h ≡ None → h ≡ Some c → ⊥
+  none_halt h c n q = absurd (cc)
+
+  -- a running vertex that is passive has nothing to do
+  pub passive_parts : (v : ℕ) (s : Part) → is_passive g v s ≡ true → s.halt ≡ None
+      → (unput g v s ≡ 0) × (pending_of g v s ≡ 0) × (is_legal g v s ≡ false)
+  passive_parts v s h none =
+      let a = and_parts _ _ h in
+      let run : is_running s.halt ≡ true = ap is_running none in
+      ⊎_elim (λ z. absurd (true≢false (sym z ∙ not_from_true _ run))) (λ z. let b = and_parts _ _ z in
+      (eqb-true _ _ a.0, eqb-true _ _ b.0, not-true _ b.1)) (or_cases _ _ a.1)
+
+  pub no_refusals : (p : ℕ) (s : Part) → p < g.graph.vertices → Outs p s → pending_of g p s ≡ 0 → refusals g p s ≡ 0
+  no_refusals p s vertex outs none = tested_none (all_edges g) (λ e. eqb (tail_of g e) p)
+      (λ e. cond (s.out e).link.refused 1 0) (λ e l on. by_test (s.out e).link.refused
+      (λ y. let at = eqb-true _ _ on in
+      let inside : e < graph_edges g = tail_inside e (subst (λ (n : ℕ). n < g.graph.vertices) (sym at) vertex) in
+      let a = (outs e at).refused_pends inside y in let b = out_zero p (λ i. (s.out i).pending) none e l at in
+      absurd (omega arith))
+      (λ n. cond_false _ 1 0 n))
+
+  pub cause_limit : (v : ℕ) (s : Part) → cause g v s ≡ Some FiringLimit → (s.fired ≡ g.limit) × (pending_of g v s ≡ 0)
+      × (is_legal g v s ≡ true)
+  cause_limit v s h = by_test (not (eqb (refusals g v s) 0))
+      (λ y. absurd (other_cause (sym (cond_true _ (Some SealedEdge) rest y) ∙ h)))
+      (λ n.
+      let h' : rest ≡ Some FiringLimit = sym (cond_false _ (Some SealedEdge) rest n) ∙ h in
+      by_test test
+      (λ y. let a = and_parts _ _ y in let b = and_parts _ _ a.0 in (eqb-true _ _ a.1, eqb-true _ _ b.0, b.1))
+      (λ n'. absurd (no_cause (sym (cond_false test (Some FiringLimit) None n') ∙ h'))))
+    where
+      test : Bool
+      test = eqb (pending_of g v s) 0 && is_legal g v s && eqb s.fired g.limit
+
+      rest : Option Cause
+      rest = cond test (Some FiringLimit) None
+
+      other_cause : ◌≡◌ {A = Option Cause} (Some SealedEdge) (Some FiringLimit) → ⊥
+      other_cause q = absurd (cc)
+
+      no_cause : ◌≡◌ {A = Option Cause} None (Some FiringLimit) → ⊥
+      no_cause q = absurd (cc)
+
+  at_limit_kept : (x : Event) (seen p : ℕ) (s : Part) → p ≡ part_of g x → Met g x s
+      → (s.halt ≡ Some FiringLimit → (s.fired ≡ g.limit) × (pending_of g p s ≡ 0) × (is_legal g p s ≡ true))
+      → halt_after g x s ≡ Some FiringLimit → ((does g (record { event = x; seen = seen }) s).fired ≡ g.limit)
+      × (pending_of g p (does g (record { event = x; seen = seen }) s) ≡ 0)
+      × (is_legal g p (does g (record { event = x; seen = seen }) s) ≡ true)
+  at_limit_kept (Take e) seen p s by may ok h = let a = ok h in let b = and_parts _ _ a.2 in let c = leb-true _ _ b.1 in
+      (a.0, a.1, and_from _ _ b.0 (le-leb (degree g.graph p) (s.chips + seen) (omega arith)))
+  at_limit_kept (Fire v k) seen p s by may ok h = absurd (none_halt s.halt FiringLimit may.2 h)
+  at_limit_kept (Claim e) seen p s by may ok h = absurd (none_halt s.halt FiringLimit may.1 h)
+  at_limit_kept (Halt v) seen p s by may ok h = subst (λ (w : ℕ). (s.fired ≡ g.limit) × (pending_of g w s ≡ 0)
+      × (is_legal g w s ≡ true)) (sym by) (cause_limit v s h)
+  at_limit_kept (Ack e) seen p s by may ok h = ok h
+  at_limit_kept (Clear e) seen p s by may ok h = ok h
+  at_limit_kept (Put e) seen p s by may ok h = ok h
+  at_limit_kept (Settle e) seen p s by may ok h = ok h
+  at_limit_kept (Seal e) seen p s by may ok h = ok h
+  at_limit_kept (Read v) seen p s by may ok h = ok h
+  at_limit_kept (Feed e k) seen p s by may ok h = ok h
+  at_limit_kept End seen p s by may ok h = ok h
+
+  -- ---- a neutral vertex: it makes none of the events that would end its rest
+
+  module _ (p : ℕ) (s : Part) (outs : Outs p s) (rest : IsNeutral g p s) where
+    pub no_fire : (v k : ℕ) → p ≡ v → Met g (Fire v k) s → ⊥
+    no_fire v k by may =
+        let idle = passive_parts p s rest.passive may.2 in
+        let some_k = may.5 in
+        let chips = may.7 in
+        let enough : degree g.graph v ≤ k * degree g.graph v = one_of k (degree g.graph v) some_k in
+        let legal : is_legal g v s
+        ≡ true = and_from _ _ (Rattle.std.proofs.lemmas.Bool.not_from_false _ (ne_eqb _ _ may.1))
+        (le-leb (degree g.graph v) s.chips (omega arith)) in
+        true≢false (sym (subst (λ (w : ℕ). is_legal g w s ≡ true) (sym by) legal) ∙ idle.2)
+      where
+        one_of : (k d : ℕ) → 0 < k → d ≤ k * d
+        one_of zero d l = absurd (omega arith)
+        one_of (suc k) d l = omega (arith, Rattle.std.proofs.Common.suc-mul k d)
+
+    pub no_pending : (e : ℕ) → p ≡ tail_of g e → e < all_edges g → s.halt ≡ None → 0 < (s.out e).pending → ⊥
+    no_pending e by l none h = let idle = passive_parts p s rest.passive none in
+        let a = out_zero p (λ i. (s.out i).pending) idle.1 e l (sym by) in absurd (omega arith)
+
+    pub no_put : (e : ℕ) → p ≡ tail_of g e → e < all_edges g → (count : ℕ) → (s.out e).link.held ≡ Some count → ⊥
+    no_put e by l count h = let some = held_counts (s.out e).link.held count h in let a = and_parts _ _ rest.passive in
+        let b = out_zero p (λ i. length (option_to_list (s.out i).link.held)) (eqb-true _ _ a.0) e l (sym by) in
+        absurd (omega arith)
+
+    pub no_halt : (v : ℕ) → p ≡ v → Met g (Halt v) s → ⊥
+    no_halt v by may =
+        let idle = passive_parts p s rest.passive may.2 in
+        let refused = no_refusals p s (subst (λ (n : ℕ). n < g.graph.vertices) (sym by) may.0) outs idle.1 in
+        let none : cause g p s ≡ None = cond_false _ (Some SealedEdge) _ (not_from_true _ (eq-eqb _ _ refused))
+        ∙ cond_false _ (Some FiringLimit) None
+        (illegal (eqb (pending_of g p s) 0) (is_legal g p s) (eqb s.fired g.limit) idle.2) in
+        none_halt (cause g p s) may.4.0 none (ap (λ (w : ℕ). cause g w s) by ∙ may.4.1)
+      where
+        illegal : (a b c : Bool) → b ≡ false → ((a && b) && c) ≡ false
+        illegal true b c q = ap (λ (t : Bool). t && c) q
+        illegal false b c q = refl
+
+  -- a vertex isn't the tail of a root edge
+  not_root : (p e : ℕ) → p < g.graph.vertices → p ≡ tail_of g e → graph_edges g ≤ e → ⊥
+  not_root p e l by past = let at = tail_root g e past in absurd (omega arith)
+
+  neutral_kept : (x : Event) (seen p : ℕ) (s : Part) → p ≡ part_of g x → Met g x s → KeepsPart g p s
+      → p < g.graph.vertices → parent_after g x seen s ≡ None
+      → IsNeutral g p (does g (record { event = x; seen = seen }) s)
+  neutral_kept (Take e) seen p s by may ok l h = dite (ℕ_discrete seen 0)
+      (λ none. subst (IsNeutral g p) (sym (idle_take e seen s none))
+      (ok.neutral l (sym (cond_yes seen 0 s.parent (or_else s.parent e) none) ∙ h)))
+      (λ some. absurd (or_else-not_none s.parent e (sym (cond_no seen 0 s.parent (or_else s.parent e) some) ∙ h)))
+  neutral_kept (Ack e) seen p s by may ok l h =
+      by_test (is_parent e s.parent && eqb (may_ack g (head_of g e) s e) (owed (s.into e)))
+      (λ y.
+      let both = and_parts _ _ y in
+      let all_of = eqb-true _ _ both.1 in
+      let done : Bool = eqb (all_owed g (head_of g e) s) (owed (s.into e)) && is_passive g (head_of g e) s
+      && eqb (deficit g (head_of g e) s) 0 in
+      let finished : done ≡ true = by_test done (λ z. z)
+      (λ n. (let few = cond_true (is_parent e s.parent && not done) (owed (s.into e) - 1) (owed (s.into e))
+      (and_from _ _ both.0 (Rattle.std.proofs.lemmas.Bool.not_from_false _ n)) in let some = may.1 in
+      absurd (omega arith))) in
+      let one = and_parts _ _ finished in
+      let two = and_parts _ _ one.0 in
+      let only : all_owed g (head_of g e) s ≡ owed (s.into e) = eqb-true _ _ two.0 in
+      subst (λ (w : ℕ). IsNeutral g w (does g (record { event = Ack e; seen = seen }) s)) (sym by) record {
+        no_parent = cond_true _ None s.parent y;
+        passive = two.1;
+        nothing_owed =
+            let a = tested_move (all_edges g) (λ i. eqb (head_of g i) (head_of g e))
+            (λ i. length (s.into i).got - acked_after g (Ack e) s i (s.into i))
+            (λ i. owed (s.into i)) e may.0 (eq-eqb _ _ refl)
+            (λ i m ne on. ap (λ (n : ℕ). length (s.into i).got - n)
+            (cond_no e i ((s.into i).acked + may_ack g (head_of g e) s e) (s.into i).acked (λ z. ne (sym z)))) in
+            let c = cond_yes e e ((s.into e).acked + may_ack g (head_of g e) s e) (s.into e).acked refl in
+            omega arith;
+        no_deficit = eqb-true _ _ one.1;
+      })
+      (λ n.
+      let none : s.parent ≡ None = sym (cond_false _ None s.parent n) ∙ h in
+      let a = in_zero p (λ i. owed (s.into i)) (ok.neutral l none).nothing_owed e may.0 (sym by) in
+      let b = may.1 in absurd (omega arith))
+  neutral_kept (Fire v k) seen p s by may ok l h = absurd (no_fire p s ok.outs (ok.neutral l h) v k by may)
+  neutral_kept (Clear e) seen p s by may ok l h = ⊎_elim
+      (λ v. absurd (no_pending p s ok.outs (ok.neutral l h) e by (let a = v.0 in omega arith) v.1 v.3))
+      (λ r. absurd (not_root p e l by r.0)) may
+  neutral_kept (Feed e k) seen p s by may ok l h = absurd (not_root p e l by may.0)
+  neutral_kept End seen p s by may ok l h = absurd (omega arith)
+  neutral_kept (Claim e) seen p s by may ok l h = absurd
+      (no_pending p s ok.outs (ok.neutral l h) e by (let a = may.0 in
+      omega arith) may.1 ((ok.outs e (sym by)).clear_pends may.0 may.2))
+  neutral_kept (Put e) seen p s by may ok l h = absurd
+      (no_put p s ok.outs (ok.neutral l h) e by (sendable_inside g e may.0) may.1.0 may.1.1)
+  neutral_kept (Halt v) seen p s by may ok l h = absurd (no_halt p s ok.outs (ok.neutral l h) v by may)
+  neutral_kept (Settle e) seen p s by may ok l h =
+      let old = ok.neutral l h in record {
+        no_parent = old.no_parent;
+        passive = old.passive;
+        nothing_owed = old.nothing_owed;
+        no_deficit =
+            let a = tested_le (all_edges g) (λ i. eqb (tail_of g i) p)
+            (λ i. claims_of (s.out i).link - settled_after g (Settle e) seen i (s.out i)) (λ i. outstanding (s.out i))
+            (λ i m on.
+            at_edge (λ i (n : ℕ). claims_of (s.out i).link - n ≤ outstanding (s.out i)) e
+            (λ i. (s.out i).settled + (seen - (s.out i).settled)) (λ i. (s.out i).settled) (omega arith)
+            (λ i. omega arith) i) in
+            let b = old.no_deficit in omega arith;
+      }
+  neutral_kept (Seal e) seen p s by may ok l h = let old = ok.neutral l h in
+      record {
+        no_parent = old.no_parent;
+        passive = old.passive;
+        nothing_owed = old.nothing_owed;
+        no_deficit = old.no_deficit;
+      }
+  neutral_kept (Read v) seen p s by may ok l h = let old = ok.neutral l h in
+      record {
+        no_parent = old.no_parent;
+        passive = old.passive;
+        nothing_owed = old.nothing_owed;
+        no_deficit = old.no_deficit;
+      }
+
+  -- ---- what was fed
+
+  -- a claim for k chips sends at most these more
+  claim_sends : (k seen : ℕ) (t : Tail) → sum (sent_counts (after_claim k seen t)) ≤ sum (sent_counts t) + k
+  claim_sends k seen t =
+      let was = sum_by-append (λ (x : ℕ). x) t.put (option_to_list t.held) in
+      dite (ℕ_discrete seen (claims_of t))
+      (λ hit.
+      let a = ap (λ (u : Tail). sum (sent_counts u)) (cond_yes seen (claims_of t)
+      (record t { held = Some k; clear = false }) (record t { clear = false; refused = true }) hit) in
+      let b = sum_by_push (λ (x : ℕ). x) t.put k in
+      omega arith)
+      (λ miss.
+      let a = ap (λ (u : Tail). sum (sent_counts u)) (cond_no seen (claims_of t)
+      (record t { held = Some k; clear = false }) (record t { clear = false; refused = true }) miss) in
+      omega arith)
+
+  -- a put sends nothing more
+  put_sends : (t : Tail) → sent_counts (after_put t) ≡ sent_counts t
+  put_sends t = append-nil (sent_counts t)
+
+  -- on an edge that isn't fed as much is sent as before
+  abbrev pub sent_after : Event → ℕ → Part → ℕ → ℕ
+  sent_after x seen s e = sum (sent_counts (link_after x seen e (s.out e)))
+
+  fed_kept : (x : Event) (seen : ℕ) (s : Part) → Met g x s → all_fed g s ≤ max_total
+      → sum_below g.graph.vertices (λ v. sent_after x seen s (root_edge g v)) ≤ max_total
+  fed_kept (Feed e k) seen s may ok =
+      let past = may.0 in
+      let inside = may.1 in
+      let few = may.4 in
+      let v : ℕ = e - graph_edges g in
+      let at : root_edge g v ≡ e = omega arith in
+      let m = sum_below_move g.graph.vertices (λ w. sent_after (Feed e k) seen s (root_edge g w))
+      (λ w. sum (sent_counts (s.out (root_edge g w)).link)) v (omega arith)
+      (λ w l ne. ap (λ (t : Tail). sum (sent_counts t))
+      (cond_no e (root_edge g w) (after_claim k seen (s.out (root_edge g w)).link) (s.out (root_edge g w)).link
+      (λ same. ne (let y : e ≡ root_edge g w = same in omega arith)))) in
+      let here : sent_after (Feed e k) seen s (root_edge g v)
+      ≡ sum (sent_counts (after_claim k seen (s.out (root_edge g v)).link)) = ap (λ (t : Tail). sum (sent_counts t))
+      (cond_yes e (root_edge g v) (after_claim k seen (s.out (root_edge g v)).link) (s.out (root_edge g v)).link
+      (sym at)) in
+      let more = claim_sends k seen (s.out (root_edge g v)).link in
+      omega arith
+  fed_kept (Claim e) seen s may ok =
+      let inside = may.0 in
+      let same = sum_below_ext g.graph.vertices (λ v. sent_after (Claim e) seen s (root_edge g v))
+      (λ v. sum (sent_counts (s.out (root_edge g v)).link)) (λ v l. ap (λ (t : Tail). sum (sent_counts t))
+      (cond_no e (root_edge g v) (after_claim (s.out (root_edge g v)).pending seen (s.out (root_edge g v)).link)
+      (s.out (root_edge g v)).link (λ z. (let y : e ≡ root_edge g v = z in absurd (omega arith))))) in
+      omega arith
+  fed_kept (Clear e) seen s may ok =
+      let same = sum_below_ext g.graph.vertices (λ v. sent_after (Clear e) seen s (root_edge g v))
+      (λ v. sum (sent_counts (s.out (root_edge g v)).link)) (λ v l.
+      at_edge (λ i (t : Tail). sum (sent_counts t) ≡ sum (sent_counts (s.out i).link)) e
+      (λ i. after_clear seen (s.out i).link) (λ i. (s.out i).link) refl (λ i. refl) (root_edge g v)) in
+      omega arith
+  fed_kept (Put e) seen s may ok =
+      let same = sum_below_ext g.graph.vertices (λ v. sent_after (Put e) seen s (root_edge g v))
+      (λ v. sum (sent_counts (s.out (root_edge g v)).link)) (λ v l.
+      at_edge (λ i (t : Tail). sum (sent_counts t) ≡ sum (sent_counts (s.out i).link)) e
+      (λ i. after_put (s.out i).link) (λ i. (s.out i).link) (ap sum (put_sends (s.out e).link)) (λ i. refl)
+      (root_edge g v)) in
+      omega arith
+  fed_kept (Take e) seen s may ok = ok
+  fed_kept (Ack e) seen s may ok = ok
+  fed_kept (Fire v k) seen s may ok = ok
+  fed_kept (Halt v) seen s may ok = ok
+  fed_kept (Settle e) seen s may ok = ok
+  fed_kept (Seal e) seen s may ok = ok
+  fed_kept (Read v) seen s may ok = ok
+  fed_kept End seen s may ok = ok
+
+  -- what is noted stays noted
+  pub stays_ended : (x : Event) (ended : Bool) → ended ≡ true → ended_after x ended ≡ true
+  stays_ended End ended on = refl
+  stays_ended (Take e) ended on = on
+  stays_ended (Ack e) ended on = on
+  stays_ended (Fire v k) ended on = on
+  stays_ended (Clear e) ended on = on
+  stays_ended (Claim e) ended on = on
+  stays_ended (Put e) ended on = on
+  stays_ended (Halt v) ended on = on
+  stays_ended (Settle e) ended on = on
+  stays_ended (Seal e) ended on = on
+  stays_ended (Read v) ended on = on
+  stays_ended (Feed e k) ended on = on
+
+  pub part_kept : (x : Event) (seen p : ℕ) (s : Part) → p ≡ part_of g x → Met g x s → KeepsPart g p s
+      → KeepsPart g p (does g (record { event = x; seen = seen }) s)
+  part_kept x seen p s by may ok = record {
+    outs = outs_kept x seen p s by may ok.unfed_ended ok.outs;
+    chips_are = chips_kept x seen p s by may ok.chips_are;
+    within = within_kept x s may ok.within;
+    acks = acks_kept x seen s ok.acks;
+    parents = parents_kept x seen p s by may ok.acks ok.parents;
+    at_limit = at_limit_kept x seen p s by may ok.at_limit;
+    neutral = neutral_kept x seen p s by may ok;
+    fed_within = λ at. fed_kept x seen s may (ok.fed_within at);
+    unfed_ended = λ off. stays_ended x s.ended (ok.unfed_ended off);
+  }
+
+  -- the part that makes an event keeps it
+  pub events_keep : (x : Step) (s : Part) → unmet g x.event s ≡ None → KeepsPart g (part_of g x.event) s
+      → KeepsPart g (part_of g x.event) (does g x s)
+  events_keep x s may ok = part_kept x.event x.seen (part_of g x.event) s refl (rules_met g x.event s may) ok

@@ -1,0 +1,58 @@
+-- The edges of a running game by their numbers: the graph's own edges, and after them for each vertex v the root edge
+-- that brings its first chips. The root and the stopper are numbers beside the vertices. All functions are total.
+use Rattle.std.specs.Prelude.{ℕ, ◌+◌, ◌-◌, ◌*◌, ◌==◌, nat_lt, if◌then◌else◌, length, slice_index}
+use Rattle.chip_graph.specs.Multigraph.{edge_at}
+use Rattle.chip_part.specs.Setting.{Setting}
+use Rattle.chip_graph.specs.Sums.{sum_below}
+
+-- how many edges the graph has
+abbrev pub graph_edges : Setting → ℕ
+graph_edges g = length g.graph.edges
+
+-- how many edges there are with the root's
+abbrev pub all_edges : Setting → ℕ
+all_edges g = length g.graph.edges + g.graph.vertices
+
+-- the root, as the tail of the root edges
+abbrev pub root : Setting → ℕ
+root g = g.graph.vertices
+
+-- the stopper, who seals edges
+abbrev pub stopper : Setting → ℕ
+stopper g = g.graph.vertices + 1
+
+-- the edge from the root to v
+abbrev pub root_edge : Setting → ℕ → ℕ
+root_edge g v = length g.graph.edges + v
+
+-- who sends on e
+abbrev pub tail_of : Setting → ℕ → ℕ
+tail_of g e = if nat_lt e (length g.graph.edges) then (edge_at g.graph e).tail else g.graph.vertices
+
+-- who gets what is sent on e
+abbrev pub head_of : Setting → ℕ → ℕ
+head_of g e = if nat_lt e (length g.graph.edges) then (edge_at g.graph e).head else e - length g.graph.edges
+
+-- the chips that one firing of its tail sends along e, 0 for a root edge
+abbrev pub mult_of : Setting → ℕ → ℕ
+mult_of g e = (edge_at g.graph e).mult
+
+-- the chips of v at the start
+abbrev pub start_of : Setting → ℕ → ℕ
+start_of g v = slice_index g.start v
+
+-- the sum of f over all edges out of v
+abbrev pub over_outs : Setting → ℕ → (ℕ → ℕ) → ℕ
+over_outs g v f = sum_below (all_edges g) (λ e. if tail_of g e == v then f e else 0)
+
+-- the sum of f over all edges into v, its root edge among them
+abbrev pub over_ins : Setting → ℕ → (ℕ → ℕ) → ℕ
+over_ins g v f = sum_below (all_edges g) (λ e. if head_of g e == v then f e else 0)
+
+-- the chips that the firings of its tail put into e, an edge of the graph, where it fired so often
+abbrev pub made : Setting → ℕ → ℕ → ℕ
+made g e fired = mult_of g e * fired
+
+-- the edges that a tail may look at and put on: those of the graph, and the root's where chips are fed
+abbrev pub sendable_edges : Setting → ℕ
+sendable_edges g = if g.fed then all_edges g else graph_edges g

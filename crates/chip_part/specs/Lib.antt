@@ -1,0 +1,14 @@
+pub mod Numbers
+pub mod Setting
+pub mod Edges
+pub mod Part
+pub mod Rules
+pub mod Steps
+pub mod Kept
+pub mod Acting
+pub mod Turn
+pub mod Cursor
+pub mod Counting
+pub mod Worked
+pub mod Asking
+pub mod Laws

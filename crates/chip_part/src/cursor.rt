@@ -1,0 +1,43 @@
+ghost use Rattle.std.specs.Prelude.{◌≡◌, ℕ, ◌+◌, ◌*◌};
+
+/// Where a turn stands: what it does next. A place is one in the list of the edges that are gone through, from 0.
+#[derive(Clone, Copy, Debug, PartialEq, Eq)]
+pub enum Cursor {
+    /// Take from the edges into the vertex, from this place on.
+    Take(usize),
+    /// Settle the edges out of it, from this place on.
+    Settle(usize),
+    /// Fire, where it may.
+    Fire,
+    /// Put what was claimed before, on the edges out of it from this place on.
+    Put(usize),
+    /// Halt where a claim was refused before, else send.
+    Refusal,
+    /// Send on the edges out of it, from this place on.
+    Send(usize),
+    /// Claim the edge at this place, where its cell was found empty.
+    Claim(usize),
+    /// Put what was claimed on the edge at this place, or halt where the claim was refused.
+    Store(usize),
+    /// Halt by the firing limit, where it may.
+    Limit,
+    /// Acknowledge on the edges into it, from this place on.
+    Ack(usize),
+    /// Acknowledge on the parent edge once more.
+    Parent,
+    /// Nothing: the turn is over.
+    Over,
+}
+
+impl Cursor {
+    ghost use Rattle.chip_part.specs.Cursor.{Begins, most_left};
+
+    /// The beginning of a turn.
+    pub fn start() -> Cursor
+        ensures first { result ≡ Cursor.Take 0 }
+        ensures begins { Begins result }
+        ensures most { (i o : ℕ) → most_left i o result ≡ (2 * i + 5 * o) + 3 }
+    {
+        Cursor::Take(0)
+    }
+}

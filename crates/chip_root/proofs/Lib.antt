@@ -1,0 +1,3 @@
+pub mod RootLemmas
+pub mod FeedLemmas
+pub mod AskRootLemmas

@@ -1,0 +1,203 @@
+-- The root: what is outstanding at the opening, and how a settle of a root edge changes it.
+use Rattle.std.proofs.Common.{◌≡◌, ℕ, ◌+◌, ◌-◌, ◌<◌, ◌≤◌, cond, eqb, ltb, List, [], ◌∷◌, length}
+use Rattle.std.proofs.Common.{get_or, set, replicate, slice_index, le-ltb, eq-eqb, Option, Some, None, refl}
+use Rattle.std.proofs.Common.{sym, ap, ◌∙◌}
+use Rattle.std.proofs.Common.{subst, arith, length-set, get_or-set_same, get_or-set_other}
+use Rattle.std.proofs.lemmas.List.{get_or-replicate, length-replicate}
+use Rattle.std.proofs.lemmas.Bool.{leb-true}
+use mathlib.Core.Logic.{dite}
+use native.Mathlib.Decide.{ℕ_discrete}
+use Rattle.chip_graph.proofs.SumLemmas.{tested_term, tested_move, cond_yes, cond_no, cond_false}
+use Rattle.chip_graph.proofs.SumLemmas.{sum_below_ext, sum_below_none, sum_below_split}
+use Rattle.chip_link.specs.Link.{claims_of}
+use Rattle.chip_part.specs.Setting.{Setting, HasGame}
+use Rattle.chip_part.specs.Edges.{graph_edges, all_edges, root_edge, start_of, tail_of, root}
+use Rattle.chip_part.specs.Part.{Part, opened, first_put, outstanding, deficit}
+use Rattle.chip_part.specs.Rules.{Settle, unmet}
+use Rattle.chip_part.specs.Steps.{Step, does}
+use Rattle.chip_part.specs.declared.reply.Reply.TheVariants.{Done}
+use Rattle.chip_root.specs.Root.{Root, Feeder, MayFeed, RootStandsFor, SomeRoot, RootCanDo, RootMakes}
+use Rattle.chip_root.specs.Root.{with_chips}
+use Rattle.chip_part.proofs.EdgeLemmas.{tail_root, tail_graph}
+use Rattle.chip_part.proofs.RuleLemmas.{rules_met}
+
+-- ---- the opening
+
+module _ (g : Setting) where
+  -- one message is outstanding on the root edge of a vertex that starts with chips
+  one_each : (v : ℕ) → outstanding ((opened g).out (root_edge g v)) ≡ cond (eqb (start_of g v) 0) 0 1
+  one_each v =
+      let past = le-ltb (root_edge g v) (graph_edges g) (omega arith) in
+      let at : root_edge g v - graph_edges g ≡ v = omega arith in
+      let put : first_put g (root_edge g v) ≡ cond (eqb (start_of g v) 0) [] (start_of g v ∷ []) =
+      cond_false (ltb (root_edge g v) (graph_edges g)) [] _ past
+      ∙ ap (λ (u : ℕ). cond (eqb (start_of g u) 0) [] (start_of g u ∷ [])) at in
+      ap (λ (l : List ℕ). (length l + 0) - 0) put ∙ dite (ℕ_discrete (start_of g v) 0)
+      (λ z. ap (λ (l : List ℕ). (length l + 0) - 0) (cond_yes (start_of g v) 0 [] (start_of g v ∷ []) z)
+      ∙ sym (cond_yes (start_of g v) 0 0 1 z))
+      (λ z. ap (λ (l : List ℕ). (length l + 0) - 0) (cond_no (start_of g v) 0 [] (start_of g v ∷ []) z)
+      ∙ sym (cond_no (start_of g v) 0 0 1 z))
+
+  pub all_outstanding : HasGame g → with_chips g.start g.graph.vertices ≡ deficit g (root g) (opened g)
+  all_outstanding game =
+      let f : ℕ → ℕ = λ e. cond (eqb (tail_of g e) (root g)) (outstanding ((opened g).out e)) 0 in
+      let parted = sum_below_split (graph_edges g) g.graph.vertices f in
+      let none = sum_below_none (graph_edges g) f
+      (λ e l. cond_no (tail_of g e) (root g) _ 0 (λ z. (let inside = edge_inside e l in absurd (omega arith)))) in
+      let each = sum_below_ext g.graph.vertices (λ v. f (graph_edges g + v)) (λ v. cond (eqb (start_of g v) 0) 0 1)
+      (λ v l. cond_yes (tail_of g (root_edge g v)) (root g) _ 0 (tail_root g (root_edge g v) (omega arith))
+      ∙ one_each v) in
+      omega arith
+    where
+      edge_inside : (e : ℕ) → e < graph_edges g → tail_of g e < g.graph.vertices
+      edge_inside e l = subst (λ (t : ℕ). t < g.graph.vertices) (sym (tail_graph g e l))
+          (game.graph_fits.edges_fit e l).tail_is_vertex
+
+  pub root_opens : HasGame g → (r : Root) → r.graph_edges ≡ graph_edges g → r.settled ≡ replicate g.graph.vertices 0
+      → r.outstanding ≡ with_chips g.start g.graph.vertices → MayFeed g (opened g) r.feeder
+      → RootStandsFor g (opened g) r
+  root_opens game r edges settled counted feeder = record {
+    game = game;
+    edges = edges;
+    settled_each = ap (λ (l : List ℕ). length l) settled ∙ length-replicate g.graph.vertices 0;
+    settled = λ v l. ap (λ (l : List ℕ). slice_index l v) settled ∙ get_or-replicate g.graph.vertices v 0 0 l;
+    outstanding = counted ∙ all_outstanding game;
+    feeder = feeder;
+  }
+
+-- ---- a settle
+
+module _ (g : Setting) (s : Part) (r : Root) (stands : RootStandsFor g s r) (edge seen : ℕ)
+    (past : graph_edges g ≤ edge) (may : unmet g (Settle edge) s ≡ None)
+    (low : (s.out edge).settled ≤ seen) (high : seen ≤ claims_of (s.out edge).link) where
+  abbrev v : ℕ
+  v = edge - graph_edges g
+
+  edge_is : edge ≡ root_edge g v
+  edge_is = omega arith
+
+  within : edge < all_edges g
+  within = rules_met g (Settle edge) s may
+
+  own_edge : tail_of g edge ≡ root g
+  own_edge = tail_root g edge past
+
+  pub vertex_within : edge - r.graph_edges < length r.settled
+  vertex_within = let edges = stands.edges in let each = stands.settled_each in let l = within in omega arith
+
+  was : slice_index r.settled (edge - r.graph_edges) ≡ (s.out edge).settled
+  was =
+      let l = within in
+      ap (λ (n : ℕ). slice_index r.settled (edge - n)) stands.edges ∙ stands.settled v (omega arith)
+      ∙ ap (λ (e : ℕ). (s.out e).settled) (sym edge_is)
+
+  pub settled_low : slice_index r.settled (edge - r.graph_edges) ≤ seen
+  settled_low = let is = was in omega arith
+
+  pub more_low : seen - slice_index r.settled (edge - r.graph_edges) ≤ r.outstanding
+  more_low =
+      let term = tested_term (all_edges g) (λ e. eqb (tail_of g e) (root g)) (λ e. outstanding (s.out e)) edge within
+      (eq-eqb _ _ own_edge) in
+      let all = stands.outstanding in let is = was in
+      omega arith
+
+  abbrev settling : Step
+  settling = record { event = Settle edge; seen = seen }
+
+  settled_now : (u : ℕ) → u < g.graph.vertices
+      → slice_index (set r.settled (edge - r.graph_edges) seen) u ≡ ((does g settling s).out (root_edge g u)).settled
+  settled_now u m = dite (ℕ_discrete u v)
+      (λ same.
+      let l = vertex_within in let edges = stands.edges in
+      let at : edge ≡ root_edge g u = edge_is ∙ ap (root_edge g) (sym same) in
+      let here : u ≡ edge - r.graph_edges = omega arith in
+      let before : ℕ = (s.out (root_edge g u)).settled in
+      let before_is : before ≡ (s.out edge).settled = ap (λ (e : ℕ). (s.out e).settled) (sym at) in
+      let all : seen ≡ before + (seen - before) = omega arith in
+      ap (λ (n : ℕ). get_or (set r.settled (edge - r.graph_edges) seen) n 0) here
+      ∙ get_or-set_same r.settled (edge - r.graph_edges) seen 0 l ∙ all
+      ∙ sym (cond_yes edge (root_edge g u) (before + (seen - before)) before at))
+      (λ other.
+      let edges = stands.edges in
+      get_or-set_other r.settled (edge - r.graph_edges) u seen 0 (λ z. other (let a : u ≡ v = omega arith in a))
+      ∙ stands.settled u m ∙ sym (cond_no edge (root_edge g u) _ (s.out (root_edge g u)).settled
+      (λ z. other (let a : u ≡ v = omega arith in a))))
+
+  outstanding_now : r.outstanding - (seen - slice_index r.settled (edge - r.graph_edges))
+      ≡ deficit g (root g) (does g settling s)
+  outstanding_now =
+      let new : Part = does g settling s in
+      let moved = tested_move (all_edges g) (λ e. eqb (tail_of g e) (root g)) (λ e. outstanding (new.out e))
+      (λ e. outstanding (s.out e)) edge within (eq-eqb _ _ own_edge)
+      (λ e m other on. ap (λ (n : ℕ). claims_of (s.out e).link - n)
+      (cond_no edge e _ (s.out e).settled (λ z. other (sym z)))) in
+      let here : outstanding (new.out edge)
+      ≡ claims_of (s.out edge).link - ((s.out edge).settled + (seen - (s.out edge).settled)) =
+      ap (λ (n : ℕ). claims_of (s.out edge).link - n) (cond_yes edge edge _ (s.out edge).settled refl) in
+      let is = was in let all = stands.outstanding in let few = more_low in
+      omega arith
+
+  feeds_still : (m : Option Feeder) → MayFeed g s m → MayFeed g (does g settling s) m
+  feeds_still None unfed = unfed
+  feeds_still (Some f) feeds = record {
+    is_fed = feeds.is_fed;
+    ended = feeds.ended;
+    fed = feeds.fed;
+    within = feeds.within;
+    few_outstanding = (let was = feeds.few_outstanding in let now = outstanding_now in let old = stands.outstanding in
+        omega arith);
+    tails_each = feeds.tails_each;
+    tails = feeds.tails;
+    given = feeds.given;
+    kept = feeds.kept;
+    settled_few = λ u m. dite (ℕ_discrete edge (root_edge g u))
+        (λ same. subst (λ (e : ℕ). ((does g settling s).out e).settled ≤ claims_of (s.out e).link) same
+        (let now = cond_yes edge edge ((s.out edge).settled + (seen - (s.out edge).settled)) (s.out edge).settled refl
+        in omega arith))
+        (λ other. (let now = cond_no edge (root_edge g u)
+        ((s.out (root_edge g u)).settled + (seen - (s.out (root_edge g u)).settled))
+        (s.out (root_edge g u)).settled other in let low = feeds.settled_few u m in omega arith));
+  }
+
+  pub settles : (after : Root) → after.graph_edges ≡ r.graph_edges
+      → after.settled ≡ set r.settled (edge - r.graph_edges) seen
+      → after.outstanding ≡ r.outstanding - (seen - slice_index r.settled (edge - r.graph_edges))
+      → after.feeder ≡ r.feeder → RootStandsFor g (does g settling s) after
+  settles after edges settled counted feeder = record {
+    game = stands.game;
+    edges = edges ∙ stands.edges;
+    settled_each = ap (λ (l : List ℕ). length l) settled ∙ length-set r.settled (edge - r.graph_edges) seen
+        ∙ stands.settled_each;
+    settled = λ u m. ap (λ (l : List ℕ). slice_index l u) settled ∙ settled_now u m;
+    outstanding = counted ∙ outstanding_now;
+    feeder = subst (MayFeed g (does g settling s)) (sym feeder) (feeds_still r.feeder stands.feeder);
+  }
+
+  pub more_is : seen - slice_index r.settled (edge - r.graph_edges) ≡ seen - (s.out edge).settled
+  more_is = ap (λ (n : ℕ). seen - n) was
+
+-- a root that stands for some part may count what such a settle saw, at the place of the vertex
+pub can_settle : (r : Root) (edge seen i : ℕ) → i ≡ edge - r.graph_edges
+    → SomeRoot r (λ g s. RootCanDo g s (Settle edge) seen)
+    → (i < length r.settled) × (slice_index r.settled i ≤ seen) × (seen - slice_index r.settled i ≤ r.outstanding)
+can_settle r edge seen i at (g, s, stands, can) =
+    let past = leb-true (graph_edges g) edge can.0 in
+    subst (λ (n : ℕ). (n < length r.settled) × (slice_index r.settled n ≤ seen)
+    × (seen - slice_index r.settled n ≤ r.outstanding)) (sym at) (
+      vertex_within g s r stands edge seen past can.1 can.2.0 can.2.1,
+      settled_low g s r stands edge seen past can.1 can.2.0 can.2.1,
+      more_low g s r stands edge seen past can.1 can.2.0 can.2.1,
+    )
+
+pub settle_made : (r : Root) (edge seen i : ℕ) → i ≡ edge - r.graph_edges → (after : Root) (more : ℕ)
+    → more ≡ seen - slice_index r.settled i → after.graph_edges ≡ r.graph_edges
+    → after.settled ≡ set r.settled i seen → after.outstanding ≡ r.outstanding - more → after.feeder ≡ r.feeder
+    → RootMakes r after (Settle edge) seen (Done more)
+settle_made r edge seen i at after more more_at edges settled counted feeder = λ g s stands can.
+    let past = leb-true (graph_edges g) edge can.0 in
+    let is : more ≡ seen - slice_index r.settled (edge - r.graph_edges) = more_at
+    ∙ ap (λ (n : ℕ). seen - slice_index r.settled n) at in (
+      settles g s r stands edge seen past can.1 can.2.0 can.2.1 after edges (settled
+          ∙ ap (λ (n : ℕ). set r.settled n seen) at) (counted ∙ ap (λ (n : ℕ). r.outstanding - n) is) feeder,
+      ap Done (is ∙ more_is g s r stands edge seen past can.1 can.2.0 can.2.1),
+    )

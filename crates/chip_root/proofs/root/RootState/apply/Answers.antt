@@ -1,0 +1,18 @@
+use Rattle.std.proofs.Common.{sym, ap, subst}
+use Rattle.chip_part.specs.declared.reply.Reply.TheVariants.{Done}
+use Rattle.chip_part.specs.Rules.{Event}
+use Rattle.chip_root.specs.Root.{SomeRoot, RootCanDo, RootMakes}
+use Rattle.chip_root.proofs.root.RootState.apply.Goals as goal
+
+pub settle-requires : goal.settle-requires
+settle-requires c = subst (λ (x : Event). SomeRoot c.args.self.now (λ g s. RootCanDo g s x c.args.seen)) c.in-Settle.is
+    c.requires
+
+pub returns-in-Settle : goal.returns-in-Settle
+returns-in-Settle c = subst (λ (x : Event). RootMakes c.args.self.now c.settle.new.self x c.args.seen c.settle.result)
+    (sym c.in-Settle.is) c.settle.ensures
+
+pub returns-in-Read : goal.returns-in-Read
+returns-in-Read c = subst
+    (λ (x : Event). RootMakes c.args.self.now c.args.self.now x c.args.seen (Done c.fired_in.result)) (sym c.in-Read.is)
+    (λ g s stands can. (stands, ap Done c.fired_in.ensures))

@@ -1,0 +1,374 @@
+ghost use Rattle.std.specs.Prelude.{◌≡◌, ℕ, ◌-◌, ◌<◌, ◌≤◌, ◌==◌, ◌&&◌, true, length, replicate, slice_index, slice_set};
+ghost use Rattle.std.specs.Prelude.{IfOk, None, ⊤};
+
+use crate::feeder::FeederState;
+use chip_graph::Game;
+use chip_link::{Event, Ring, TailLink};
+use chip_part::{Act, Reply, Rule, first_unmet};
+use std::alloc::{AllocError, Global};
+use std::marker::Model;
+
+/// The root at run time: of each root edge, by vertices, how many messages are settled, and how many are outstanding on
+/// all of them; and where chips are fed, what it feeds them with.
+#[derive(Debug, Drop)]
+pub struct RootState {
+    graph_edges: u64,
+    settled: Vec<u64>,
+    outstanding: u64,
+    feeder: Option<FeederState>,
+}
+
+impl Model for RootState {
+    ghost use Rattle.std.specs.Prelude.{◌≤◌};
+    ghost use Rattle.std.specs.Vec.{vec_len};
+    ghost use Rattle.chip_graph.specs.Limits.{max_edges, max_vertices};
+    ghost use Rattle.chip_root.specs.Root.{Root};
+
+    ghost Value = { Root };
+
+    ghost view = { λ a. record {
+      graph_edges = a.graph_edges;
+      settled = a.settled.items;
+      outstanding = a.outstanding;
+      feeder = a.feeder;
+    } };
+
+    ghost invariant = { λ a. (a.graph_edges ≤ max_edges) × (vec_len a.settled ≤ max_vertices) };
+}
+
+impl RootState {
+    ghost use Rattle.chip_graph.specs.ChipGame.{IsGame};
+    ghost use Rattle.chip_link.specs.Link.{tail_state};
+    ghost use Rattle.chip_part.specs.Setting.{setting_of, setting_with};
+    ghost use Rattle.chip_part.specs.Edges.{graph_edges, all_edges, root};
+    ghost use Rattle.chip_part.specs.Part.{opened, deficit};
+    ghost use Rattle.chip_part.specs.Rules.{unmet};
+    ghost use Rattle.chip_part.specs.Acting.{act_of, verdict};
+    ghost use Rattle.chip_root.specs.Root.{RootStandsFor, WhateverRoot, SomeRoot, RootCanDo, RootMakes};
+    ghost use Rattle.chip_part.specs.Acting.{is_of_root};
+    ghost use Rattle.chip_root.specs.Root.{with_chips, root_vertex, ended_root, AreGiven};
+    ghost use Rattle.chip_link.specs.declared.event.Event.TheVariants.{Clear, Put, Settle, Read, Feed, End};
+
+    /// The root at the opening of a game that has all its chips from the start, with one message outstanding for each
+    /// vertex that starts with chips. The size of the rings is no matter.
+    pub fn new(alloc: Global, game: &Game) -> Result<RootState, AllocError>
+        ensures { IfOk result (λ root. (ring : ℕ) → let g = setting_of game.now ring in
+            RootStandsFor g (opened g) root) }
+    {
+        let root = RootState::unsettled(alloc, game)?;
+        Ok(root)
+    }
+
+    /// The same where chips may be fed while it runs. It takes all the memory that feeding ever needs.
+    pub fn new_fed(alloc: Global, game: &Game, ring: Ring) -> Result<RootState, AllocError>
+        ensures { let g = setting_with game.now ring true in IfOk result (RootStandsFor g (opened g)) }
+    {
+        let root = RootState::unsettled(alloc, game)?;
+        Ok(RootState {
+            feeder: Some(FeederState::new(alloc, game, ring)?),
+            ..root
+        })
+    }
+
+    /// Nothing is settled, and so many messages are outstanding as vertices start with chips.
+    fn unsettled(alloc: Global, game: &Game) -> Result<RootState, AllocError>
+        ensures game { IsGame game.now }
+        ensures edges { IfOk result (λ root. root.graph_edges ≡ length game.now.graph.edges) }
+        ensures settled { IfOk result (λ root. root.settled ≡ replicate game.now.graph.vertices 0) }
+        ensures outstanding { IfOk result
+            (λ root. root.outstanding ≡ with_chips game.now.start game.now.graph.vertices) }
+        ensures unfed { IfOk result (λ root. root.feeder ≡ None) }
+    {
+        let graph_edges = game.graph().edges().len() as u64;
+        let start = game.start();
+        let mut outstanding = 0;
+        for &chips in start {
+            if chips > 0 {
+                outstanding += 1;
+            }
+        }
+        Ok(RootState {
+            graph_edges,
+            settled: vec![in alloc; 0; start.len()]?,
+            outstanding,
+            feeder: None,
+        })
+    }
+
+    /// How many messages are outstanding.
+    pub fn outstanding(&self) -> u64
+        ensures { WhateverRoot self.now (λ g s. result ≡ deficit g (root g) s) }
+    {
+        self.outstanding
+    }
+
+    /// Whether nothing more is fed, and no message is outstanding.
+    pub fn closed(&self) -> bool
+        ensures { WhateverRoot self.now (λ g s. result ≡ (deficit g (root g) s == 0 && s.ended)) }
+    {
+        self.outstanding == 0 && self.ended()
+    }
+
+    // Whether the end of feeding is noted.
+    fn ended(&self) -> bool
+        ensures { WhateverRoot self.now (λ g s. result ≡ s.ended) }
+    {
+        match &self.feeder {
+            Some(feeder) => feeder.ended(),
+            None => true,
+        }
+    }
+
+    /// How many chips each vertex was given, at the start and by feeds, of a root that may feed. Of another it is what
+    /// the game starts with.
+    pub fn given(&self) -> &[u64]
+        requires { SomeRoot self.now (λ g s. g.fed ≡ true) }
+        ensures { WhateverRoot self.now (λ g s. AreGiven g s result.now) }
+    {
+        match &self.feeder {
+            Some(feeder) => feeder.given(),
+            None => unreachable!(),
+        }
+    }
+
+    // The vertex of a root edge, if it is one.
+    fn vertex_of(&self, edge: u64) -> Option<usize>
+        ensures { result ≡ root_vertex self.now edge }
+    {
+        if edge >= self.graph_edges && edge - self.graph_edges < self.settled.len() as u64 {
+            Some((edge - self.graph_edges) as usize)
+        } else {
+            None
+        }
+    }
+
+    // The first rule that isn't met of a look at the next cell of a root edge.
+    fn look_rule(&self, edge: u64) -> Option<Rule>
+        requires { SomeRoot self.now (λ g s. graph_edges g ≤ edge) }
+        ensures { WhateverRoot self.now (λ g s. graph_edges g ≤ edge → result ≡ unmet g (Clear edge) s) }
+    {
+        let Some(vertex) = self.vertex_of(edge) else {
+            return Some(Rule::NoSuch);
+        };
+        match &self.feeder {
+            Some(feeder) => feeder.look_rule(vertex),
+            None => Some(Rule::NoSuch),
+        }
+    }
+
+    // The same of a put there.
+    fn put_rule(&self, edge: u64) -> Option<Rule>
+        requires { SomeRoot self.now (λ g s. graph_edges g ≤ edge) }
+        ensures { WhateverRoot self.now (λ g s. graph_edges g ≤ edge → result ≡ unmet g (Put edge) s) }
+    {
+        let Some(vertex) = self.vertex_of(edge) else {
+            return Some(Rule::NoSuch);
+        };
+        match &self.feeder {
+            Some(feeder) => feeder.put_rule(vertex),
+            None => Some(Rule::NoSuch),
+        }
+    }
+
+    // The same of a feed over an edge.
+    fn feed_rule(&self, edge: u64, count: u64) -> Option<Rule>
+        requires { SomeRoot self.now (λ g s. ⊤) }
+        ensures { WhateverRoot self.now (λ g s. result ≡ unmet g (Feed edge count) s) }
+    {
+        let Some(vertex) = self.vertex_of(edge) else {
+            return Some(Rule::NoSuch);
+        };
+        match &self.feeder {
+            Some(feeder) => feeder.feed_rule(vertex, count),
+            None => Some(Rule::Ended),
+        }
+    }
+
+    // The first rule of an event of the root that isn't met.
+    fn unmet(&self, event: &Event) -> Option<Rule>
+        requires { SomeRoot self.now (λ g s. is_of_root g event.now ≡ true) }
+        ensures { WhateverRoot self.now (λ g s. is_of_root g event.now ≡ true → result ≡ unmet g event.now s) }
+    {
+        let vertices = self.settled.len() as u64;
+        match *event {
+            Event::Settle(edge) => {
+                first_unmet(&[(edge < self.graph_edges + vertices, Rule::NoSuch)])
+            }
+            Event::Clear(edge) => self.look_rule(edge),
+            Event::Put(edge) => self.put_rule(edge),
+            Event::Feed { edge, count } => self.feed_rule(edge, count),
+            Event::End => None,
+            Event::Read(vertex) => first_unmet(&[
+                (vertex < vertices, Rule::NoSuch),
+                (self.closed(), Rule::NotClosed),
+            ]),
+            _ => unreachable!(),
+        }
+    }
+
+    // The tail of a root edge, where chips are fed.
+    fn tail(&self, edge: u64) -> &TailLink
+        requires { SomeRoot self.now (λ g s. (g.fed ≡ true) × (graph_edges g ≤ edge) × (edge < all_edges g)) }
+        ensures { WhateverRoot self.now (λ g s. graph_edges g ≤ edge → edge < all_edges g
+            → result.now ≡ tail_state edge g.ring (s.out edge).link) }
+    {
+        let Some(feeder) = &self.feeder else {
+            unreachable!();
+        };
+        feeder.tail((edge - self.graph_edges) as usize)
+    }
+
+    // The operation that an event of the root needs, whose rules are met.
+    fn act(&self, event: &Event) -> Act
+        requires { SomeRoot self.now (λ g s. (is_of_root g event.now ≡ true) × (unmet g event.now s ≡ None)) }
+        ensures { WhateverRoot self.now (λ g s. is_of_root g event.now ≡ true → unmet g event.now s ≡ None
+            → result ≡ act_of g event.now s) }
+    {
+        match *event {
+            Event::Settle(edge) => Act::Settle { edge },
+            Event::Clear(edge) => Act::Clear {
+                edge,
+                cell: self.tail(edge).cell(),
+            },
+            Event::Put(edge) => {
+                let (cell, value) = self.tail(edge).held().unwrap();
+                Act::Put { edge, cell, value }
+            }
+            Event::Feed { edge, .. } => {
+                let (expected, new) = self.tail(edge).claim_next().unwrap();
+                Act::Claim {
+                    edge,
+                    expected,
+                    new,
+                }
+            }
+            Event::End => Act::Settle {
+                edge: self.graph_edges,
+            },
+            Event::Read(_) => Act::End,
+            _ => unreachable!(),
+        }
+    }
+
+    /// The operation that an event of the root needs, or the first of its rules that isn't met. The event is a look, a
+    /// put or a settle of a root edge, a feed, the end of feeding, or a read. A read is no operation on an edge: `End`.
+    pub fn may(&self, event: &Event) -> Result<Act, Rule>
+        requires { SomeRoot self.now (λ g s. is_of_root g event.now ≡ true) }
+        ensures { WhateverRoot self.now (λ g s. is_of_root g event.now ≡ true
+            → result ≡ verdict (unmet g event.now s) (act_of g event.now s)) }
+    {
+        match self.unmet(event) {
+            Some(rule) => Err(rule),
+            None => Ok(self.act(event)),
+        }
+    }
+
+    /// The reply to an event that was made, and the state after it. The event is one that `may` has nothing against,
+    /// and the word that it saw fits: see `FitsRoot`.
+    pub fn apply(&mut self, event: &Event, seen: u64) -> Reply
+        requires { SomeRoot self.old (λ g s. RootCanDo g s event.now seen) }
+        ensures { RootMakes self.old self.new event.now seen result }
+    {
+        match *event {
+            Event::Settle(edge) => self.settle(edge, seen),
+            Event::Clear(edge) => self.look(edge, seen),
+            Event::Put(edge) => self.put(edge, seen),
+            Event::Feed { edge, count } => self.feed(edge, count, seen),
+            Event::End => self.end(seen),
+            Event::Read(_) => Reply::Done(fired_in(seen)),
+            _ => unreachable!(),
+        }
+    }
+
+    /// A look at the next cell of a root edge, with what stood in it.
+    fn look(&mut self, edge: u64, seen: u64) -> Reply
+        requires { SomeRoot self.old (λ g s. RootCanDo g s (Clear edge) seen) }
+        ensures { RootMakes self.old self.new (Clear edge) seen result }
+    {
+        let vertex = (edge - self.graph_edges) as usize;
+        match &mut self.feeder {
+            Some(feeder) => feeder.look(vertex, seen),
+            None => unreachable!(),
+        }
+    }
+
+    /// A put on a root edge.
+    fn put(&mut self, edge: u64, seen: u64) -> Reply
+        requires { SomeRoot self.old (λ g s. RootCanDo g s (Put edge) seen) }
+        ensures { RootMakes self.old self.new (Put edge) seen result }
+    {
+        let vertex = (edge - self.graph_edges) as usize;
+        match &mut self.feeder {
+            Some(feeder) => feeder.put(vertex),
+            None => unreachable!(),
+        }
+    }
+
+    /// A claim of a root edge for so many chips, with its word.
+    fn feed(&mut self, edge: u64, count: u64, seen: u64) -> Reply
+        requires { SomeRoot self.old (λ g s. RootCanDo g s (Feed edge count) seen) }
+        ensures { RootMakes self.old self.new (Feed edge count) seen result }
+    {
+        let vertex = (edge - self.graph_edges) as usize;
+        match &mut self.feeder {
+            Some(feeder) => {
+                self.outstanding += 1;
+                feeder.feed(vertex, count, seen)
+            }
+            None => unreachable!(),
+        }
+    }
+
+    /// The end of feeding, with the word of acknowledgements of the first root edge.
+    fn end(&mut self, seen: u64) -> Reply
+        requires { SomeRoot self.old (λ g s. RootCanDo g s End seen) }
+        ensures { RootMakes self.old self.new End seen result }
+    {
+        self.note_end();
+        self.settle(self.graph_edges, seen)
+    }
+
+    // Notes that nothing more is fed.
+    fn note_end(&mut self)
+        ensures { self.new ≡ ended_root self.old }
+    {
+        if let Some(feeder) = &mut self.feeder {
+            feeder.end();
+        }
+    }
+
+    /// Counts the acknowledgements of a root edge up to the word that was seen.
+    fn settle(&mut self, edge: u64, seen: u64) -> Reply
+        requires { SomeRoot self.old (λ g s. RootCanDo g s (Settle edge) seen) }
+        ensures { RootMakes self.old self.new (Settle edge) seen result }
+    {
+        let vertex = (edge - self.graph_edges) as usize;
+        Reply::Done(self.count(vertex, seen))
+    }
+
+    /// Notes how many messages of a vertex's root edge are settled, and gives how many of them are new.
+    fn count(&mut self, vertex: usize, settled: u64) -> u64
+        requires vertex { vertex < length self.old.settled }
+        requires more { slice_index self.old.settled vertex ≤ settled }
+        requires few { settled - slice_index self.old.settled vertex ≤ self.old.outstanding }
+        ensures more { result ≡ settled - slice_index self.old.settled vertex }
+        ensures edges { self.new.graph_edges ≡ self.old.graph_edges }
+        ensures settled { self.new.settled ≡ slice_set self.old.settled vertex settled }
+        ensures outstanding { self.new.outstanding ≡ self.old.outstanding - result }
+        ensures feeder { self.new.feeder ≡ self.old.feeder }
+    {
+        let more = settled - self.settled[vertex];
+        self.settled[vertex] = settled;
+        self.outstanding -= more;
+        more
+    }
+}
+
+ghost use Rattle.chip_link.specs.Words.{fired_in};
+
+/// How often a fired word says that its vertex fired.
+fn fired_in(word: u64) -> u64
+    ensures { result ≡ fired_in word }
+{
+    word % (1 << 62)
+}

@@ -1,5 +1,5 @@
 -- Recorded runs as text: a header, and a line for each row.
-use Rattle.std.specs.Prelude.{◌≡◌, ℕ, suc, List, [], ◌∷◌, ◌++◌, codes, Option, Result, Ok, Err}
+use Rattle.std.specs.Prelude.{◌≡◌, ℕ, suc, ◌<◌, List, [], ◌∷◌, ◌++◌, length, take, codes, Option, Result, Ok, Err}
 use Rattle.std.specs.Fmt.{decimal}
 use Rattle.std.specs.Io.KnownBytes.{Appends}
 use Rattle.chip_link.specs.declared.trace.TraceRow.{TraceRow}
@@ -30,8 +30,9 @@ lines_from v (trace ∷ traces) = rows_text v trace ++ lines_from (suc v) traces
 abbrev pub trace_text : List (List TraceRow) → List ℕ
 trace_text traces = header ++ lines_from 0 traces
 
--- the text went out and nothing else; where memory ran out, nothing did
+-- the text went out and nothing else; where a write failed, just its first bytes did, and not all of them; where memory
+-- ran out, nothing did
 abbrev pub WritesText : Option (List ℕ) → Option (List ℕ) → List ℕ → Result (Unit {0}) TraceFault → Type 0
 WritesText old new text (Ok done) = Appends old new text
-WritesText old new text (Err fault.Write) = Unit {0}
+WritesText old new text (Err fault.Write) = (n : ℕ) × (n < length text) × Appends old new (take n text)
 WritesText old new text (Err fault.NoMemory) = new ≡ old

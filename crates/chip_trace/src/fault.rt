@@ -42,7 +42,7 @@ impl<T: Drop> From<AllocFailed<T>> for ReplayFault {
 /// Why recorded runs were not written.
 #[derive(Clone, Copy, Debug, PartialEq, Eq, Error)]
 pub enum TraceFault {
-    /// A write failed; some of the text may have gone out before.
+    /// A write failed; the first bytes of the text may have gone out before, and not all of them.
     #[error("a write failed")]
     Write,
     /// Memory ran out.

@@ -99,6 +99,45 @@ fn writes_the_triangle(rt: HostRuntime) -> Result<(), Fail> {
     Ok(())
 }
 
+/// As many vertices as there may be, each with a chip and an edge to the one before it; the sink is vertex 0.
+fn row(alloc: Global) -> Result<Game, Fail> {
+    let mut edges = Vec::new(alloc);
+    for head in 0..4_095u64 {
+        edges.push(Edge {
+            tail: head + 1,
+            head,
+            mult: 1,
+        })?;
+    }
+    let graph = Graph::new(alloc, 4_096, 0, edges)?;
+    Ok(Game::new(graph, vec![in alloc; 1; 4_096]?, 1 << 40)?)
+}
+
+/// A run of it: each vertex takes its chip, and all but the sink fire.
+fn run_of_the_row(alloc: Global) -> Result<Vec<Vec<TraceRow>>, Fail> {
+    let mut traces = Vec::new(alloc);
+    for vertex in 0..4_096u64 {
+        let mut rows = Vec::new(alloc);
+        rows.push(take(4_095 + vertex, 1))?;
+        if vertex > 0 {
+            rows.push(fire(1))?;
+        }
+        traces.push(rows)?;
+    }
+    Ok(traces)
+}
+
+#[test]
+fn replays_a_run_of_every_vertex(rt: HostRuntime) -> Result<(), Fail> {
+    let game = row(rt.alloc())?;
+    let traces = run_of_the_row(rt.alloc())?;
+    assert!(rt; traces.len() as u64 == game.graph().vertices());
+    let fired = replay(rt.alloc(), &game, &traces)?;
+    assert_eq!(rt; fired.len(), 4_095);
+    assert!(rt; fired.iter().all(|firing| firing.1 == 1));
+    Ok(())
+}
+
 /// A vertex with one edge to the sink, and 50,000 chips on it; its root edge is 1.
 fn single(alloc: Global) -> Result<Game, Fail> {
     let mut edges = Vec::new(alloc);

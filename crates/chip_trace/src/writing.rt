@@ -6,11 +6,11 @@ ghost use Rattle.chip_trace.specs.TraceText.{row_text, rows_text, trace_text, Wr
 use crate::fault::TraceFault;
 use chip_link::TraceRow;
 use std::alloc::{AllocError, Global};
-use std::io::Write;
+use std::io::{ErrorKind, Write};
 
 /// Writes recorded runs as rows of text, the vertices ascending.
 ///
-/// `traces` has the rows of each vertex.
+/// `traces` has the rows of each vertex. The text is made whole before anything of it is written.
 pub fn write_trace<W: Write>(
     alloc: Global,
     traces: &[&[TraceRow]],
@@ -20,9 +20,28 @@ pub fn write_trace<W: Write>(
         (trace_text (map (λ t. t.now) traces.now)) result }
 {
     let text = text_of(alloc, traces)?;
-    match writer.write_all(text.as_bytes()) {
-        Ok(()) => Ok(()),
-        Err(_) => Err(TraceFault::Write),
+    write_bytes(writer, text.as_bytes())
+}
+
+/// Writes bytes, by as many writes as the writer needs; one that was interrupted is made again.
+fn write_bytes<W: Write>(writer: &mut W, bytes: &[u8]) -> Result<(), TraceFault>
+    ensures { WritesText (W.contents writer.old) (W.contents writer.new) bytes.now result }
+{
+    let mut rest = bytes;
+    for _ in 0..u64::MAX {
+        if rest.is_empty() {
+            return Ok(());
+        }
+        match writer.write(rest) {
+            Ok(count) if count > 0 => rest = &rest[count..],
+            Err(error) if error.kind() == ErrorKind::Interrupted => {}
+            Ok(_) | Err(_) => return Err(TraceFault::Write),
+        }
+    }
+    if rest.is_empty() {
+        Ok(())
+    } else {
+        Err(TraceFault::Write)
     }
 }
 

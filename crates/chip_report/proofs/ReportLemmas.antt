@@ -255,10 +255,15 @@ refused bytes json e (Err g) f is (inl memory) = inl (is ∙ memory)
 refused bytes json e (Err g) f is (inr none) = inr (is ∙ none.0, none_told bytes json e none.1)
 
 -- bytes that end in a newline
-pub of_a_line : (bytes json : List ℕ) → bytes ≡ json ++ 10 ∷ [] → (result : Result Outcome ReportFault)
+pub of_a_line : {T : Type 0} (bytes json : List ℕ) → bytes ≡ json ++ 10 ∷ [] → (result : Result T ReportFault)
     → GrowsForALine bytes result
 of_a_line bytes json e (Ok o) = tt
 of_a_line bytes json e (Err f) = λ memory. (json, e)
+
+pub of_a_report : {T : Type 0} (bytes : List ℕ) (o : Outcome) → bytes ≡ report_text o → (result : Result T ReportFault)
+    → GrowsForALine bytes result
+of_a_report bytes o e result =
+    of_a_line bytes (json_text (closed_of (told o)) (told o)) (e ∙ sym (with_newline o)) result
 
 pub not_the_one_told : (bytes json : List ℕ) (found : Outcome) → bytes ≡ json ++ 10 ∷ []
     → told_by_json json ≡ Some (told found) → (IsReportOf bytes found → ⊥) → IsNoReport bytes

@@ -3,7 +3,7 @@
 ghost use Rattle.std.specs.Prelude.{◌≡◌, ◌≤◌, ◌↔◌, true, None, Some, IfOk, All, length};
 ghost use Rattle.chip_fire.specs.Resume.{IsResumed, max_prior};
 ghost use Rattle.serde_json.specs.View.{view};
-ghost use Rattle.chip_report.specs.Reportable.{Gives};
+ghost use Rattle.chip_report.specs.Reportable.{Gives, GrowsForALine};
 ghost use Rattle.chip_report.specs.ReportTwo.{report_two_text, told_of_all, told_of_all_by_value, told_of_all_by_json};
 ghost use Rattle.chip_report.specs.ReportTwo.{IsReportTwoOf, IsNoReportTwo, IsAnyReportOf, IsNoReportAtAll};
 
@@ -41,7 +41,8 @@ pub fn report_two(alloc: Global, resumed: &Resumed) -> Result<Vec<u8>, AllocErro
 
 /// The sitting whose report the bytes are: of a first one, before which nothing was fired, or of one that went on.
 pub fn read_any(alloc: Global, bytes: &[u8]) -> Result<Resumed, ReportFault>
-    ensures { Gives (IsAnyReportOf bytes.now) (IsNoReportAtAll bytes.now) result }
+    ensures sitting { Gives (IsAnyReportOf bytes.now) (IsNoReportAtAll bytes.now) result }
+    ensures memory { GrowsForALine bytes.now result }
 {
     match read_report(alloc, bytes) {
         Ok(outcome) => Ok(Resumed::first(alloc, outcome)?),
@@ -52,7 +53,8 @@ pub fn read_any(alloc: Global, bytes: &[u8]) -> Result<Resumed, ReportFault>
 
 /// The sitting that went on whose report the bytes are, by writing the report anew.
 fn read_report_two(alloc: Global, bytes: &[u8]) -> Result<Resumed, ReportFault>
-    ensures { Gives (IsReportTwoOf bytes.now) (IsNoReportTwo bytes.now) result }
+    ensures sitting { Gives (IsReportTwoOf bytes.now) (IsNoReportTwo bytes.now) result }
+    ensures memory { GrowsForALine bytes.now result }
 {
     let Some(json) = bytes.strip_suffix(b"\n") else {
         return Err(ReportFault::NotReport);

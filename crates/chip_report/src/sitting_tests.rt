@@ -43,6 +43,9 @@ fn the_widest_sitting(rt: HostRuntime) -> Result<(), Fail> {
     // `,"prior":[]`, 19 digits for each vertex and a comma between two of them
     assert_eq!(&rt; text.len().checked_sub(last.len()), Some(81_930));
     assert!(&rt; read_any(rt.alloc(), &text)? == resumed);
+    let first = read_any(rt.alloc(), last.as_bytes())?;
+    assert!(&rt; first.outcome == resumed.outcome);
+    assert!(&rt; first.prior.len() == 4_096 && first.prior.iter().all(|times| *times == 0));
     Ok(())
 }
 

@@ -13,9 +13,9 @@ returns-in_err-read_any-clause-sitting g c = λ text text_is.
     let why = subst (λ (bytes : List ℕ).
     (c.in_err-read_any.field-0.0 ≡ report_fault.NoMemory)
     ⊎ ((c.in_err-read_any.field-0.0 ≡ report_fault.NotReport) × IsNoReportAtAll bytes))
-    (c.deref.ensures.value ∙ read.1) c.in_err-read_any.ensures in
+    (c.deref.ensures.value ∙ read.1) c.in_err-read_any.ensures.sitting in
     refused_sitting text _ _ c.from_residual-in_err-read_any.ensures.1
     (refused_report text c.in_err-read_any.field-0.0 read.0 why)
 
 pub returns-clause-in_range : goal.returns-clause-in_range
-returns-clause-in_range g c = resumed_of_report _ _ c.in_ok-read_any.ensures
+returns-clause-in_range g c = resumed_of_report _ _ c.in_ok-read_any.ensures.sitting

@@ -11,7 +11,11 @@ use Rattle.atomic_table.proofs.shared.Seat.TheSendSync as seat
 use Rattle.chip_actor.proofs.actor.ActorState.TheSendSync as state
 use Rattle.chip_net.proofs.trace.Trace.TheSendSync as trace
 use Rattle.chip_net.proofs.net.Net.TheSendSync as shared
-use Rattle.chip_net.proofs.root.Root.TheSendSync as root
+use Rattle.chip_actor.proofs.root.RootState.TheSendSync as root_state
+use Rattle.chip_graph.proofs.game.Game.TheSendSync as game
+use Rattle.chip_net.proofs.tally.Tally.TheSendSync as tally
+use Rattle.chip_net.specs.contracts.root_hand.RootHand as root_hand
+use Rattle.chip_net.specs.contracts.root.Root as root
 use Rattle.chip_net.specs.contracts.hand.Hand as hand
 use Rattle.chip_net.specs.contracts.actor.Actor as actor
 use Rattle.chip_net.specs.contracts.stopper.Stopper as stopper
@@ -22,6 +26,12 @@ hand_send = search (crosses, sendable, seat.the_send, trace.the_send) depth 60
 
 pub actor_send : IsSend actor.the_row
 actor_send = search (crosses, sendable, hand_send, state.the_send) depth 60
+
+pub root_hand_send : IsSend root_hand.the_row
+root_hand_send = search (crosses, sendable, seat.the_send, root_state.the_send) depth 60
+
+pub root_send : IsSend root.the_row
+root_send = search (crosses, sendable, root_hand_send, game.the_send, tally.the_send) depth 60
 
 pub stopper_send : IsSend stopper.the_row
 stopper_send = search (crosses, sendable, seat.the_send) depth 60
@@ -34,4 +44,4 @@ pub flag_ref_send : (ℓ : Lifetime) (κ : Lft) → IsSend (ShrRef ℓ κ flag_a
 flag_ref_send ℓ κ = shr_send ℓ κ flag_at.the_row flag.the_sync
 
 -- for `search`, where what is sent holds tokens
-pub ruleset net_crosses = (actor_send, stopper_send, root.the_send, net_ref_send, flag_ref_send)
+pub ruleset net_crosses = (actor_send, stopper_send, root_send, net_ref_send, flag_ref_send)

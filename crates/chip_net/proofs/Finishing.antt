@@ -4,6 +4,8 @@ use Rattle.std.proofs.Common.{get_or, slice_index, Option, Some, None, is_some, 
 use Rattle.std.proofs.Common.{arith}
 use Rattle.std.proofs.lemmas.List.{get_or_past, length-map}
 use Rattle.chip_graph.specs.ChipGame.{ChipGame}
+use Rattle.chip_graph.specs.Multigraph.{Multigraph}
+use Rattle.chip_graph.specs.More.{HasMore}
 use Rattle.chip_graph.specs.Sums.{picked}
 use Rattle.chip_fire.specs.declared.outcome.Outcome.{Outcome}
 use Rattle.chip_fire.specs.Counted.{IsBelowZero, IsAfter}
@@ -18,18 +20,22 @@ use Rattle.chip_link.specs.Words.{fired_in, halted_in, by_limit_in, is_fired_wor
 use Rattle.chip_actor.specs.Setting.{Setting, IsSetting, game_of_setting}
 use Rattle.chip_actor.specs.declared.cause.Cause.{Cause}
 use Rattle.chip_actor.specs.declared.cause.Cause.TheVariants.{SealedEdge, FiringLimit}
+use Rattle.chip_actor.specs.Edges.{root}
 use Rattle.chip_actor.specs.Part.{is_by_limit}
 use Rattle.chip_core.specs.Core.{Log, part_in, word_of_part, IsLegalLog}
 use Rattle.chip_core.specs.Laws.{WordsOf}
 use Rattle.chip_core.specs.Headline.{NoneHalted, NoneHaltedBySeal}
-use Rattle.chip_core.specs.Positions.{started, played_game, firings}
+use Rattle.chip_core.specs.Histories.{done_by}
+use Rattle.chip_core.specs.Positions.{started, played_game, firings, fed_in}
 use Rattle.chip_core.specs.Outcomes.{is_by_seal, AreFired, IsOutcomeOf, ComesTo}
 use Rattle.chip_core.proofs.NumberLemmas.{words_tell}
-use Rattle.chip_core.proofs.GivenLemmas.{unfed_started, unfed_played}
+use Rattle.chip_core.proofs.GivenLemmas.{given_is, played_has_more, unfed_played}
 use Rattle.chip_core.proofs.ClosingLemmas.{all_ended}
 use Rattle.chip_core.proofs.OutcomeLemmas.{never_negative, comes, in_range, is_played}
-use Rattle.chip_net.specs.Roots.{RootKnown, root_after}
+use Rattle.chip_net.specs.Roots.{RootKnown, root_after, fed_by}
 use Rattle.chip_net.specs.Finish.{reads_from, IsReadOut, TallyState, limit_at, seal_at, IsReading, IsOneEnd, Finishes}
+use Rattle.chip_net.proofs.Feeding.{one_more}
+use Rattle.chip_net.proofs.Reading.{reads_feed_none}
 use Rattle.chip_net.proofs.Unsealed.{never_sealed}
 
 none_listed : (v : ℕ) → Contains [] v → ⊥
@@ -64,8 +70,9 @@ mapped f zero_is [] k = get_or_past [] k 0 (omega arith) ∙ sym (ap f (get_or_p
 mapped f zero_is (x ∷ xs) zero = refl
 mapped f zero_is (x ∷ xs) (suc k) = mapped f zero_is xs k
 
-module _ (old now : RootKnown) (setting : IsSetting old.net.setting) (unfed : old.net.setting.fed ≡ false) (tally : TallyState)
-    (reading : IsReading old now tally old.net.setting.graph.vertices) where
+module _ (old now : RootKnown) (setting : IsSetting old.net.setting) (tally : TallyState)
+    (reading : IsReading old now tally old.net.setting.graph.vertices) (game : ChipGame)
+    (more : HasMore (game_of_setting old.net.setting) (fed_by old) game) where
   abbrev h : Setting
   h = old.net.setting
 
@@ -75,12 +82,18 @@ module _ (old now : RootKnown) (setting : IsSetting old.net.setting) (unfed : ol
   out' : IsReadOut (root_after old (reads_from 0 reading.words)) reading.words
   out' = subst (λ (r : RootKnown). IsReadOut r reading.words) reading.record_is out
 
-  -- no chips are fed: what was given is the start
-  from : started h out'.log ≡ slice_index h.start
-  from j v = unfed_started h setting.game setting.some_ring unfed out'.log out'.legal v j
+  -- the reads feed nothing: what was fed is in that log
+  recorded : fed_in h (done_by h (root h) out'.log) ≡ fed_by old
+  recorded = ap (fed_in h) (sym out'.agrees.root_did) ∙ reads_feed_none h old.did 0 reading.words
 
-  same_game : played_game h out'.log ≡ game_of_setting h
-  same_game = unfed_played h setting.game setting.some_ring unfed out'.log out'.legal
+  same_game : played_game h out'.log ≡ game
+  same_game = one_more (game_of_setting h) (played_game h out'.log) game (fed_by old)
+      (subst (λ (fed : List (ℕ × ℕ)). HasMore (game_of_setting h) fed (played_game h out'.log)) recorded
+      (played_has_more h setting.game setting.some_ring out'.log out'.legal)) more
+
+  from : started h out'.log ≡ slice_index game.start
+  from = sym (given_is h setting.game setting.some_ring out'.log out'.legal)
+      ∙ ap (λ (k : ChipGame). slice_index k.start) same_game
 
   told : WordsOf h out'.log
   told = words_tell h setting.game setting.some_ring out'.log out'.legal
@@ -96,16 +109,17 @@ module _ (old now : RootKnown) (setting : IsSetting old.net.setting) (unfed : ol
           ∙ mapped fired_in refl reading.words v ∙ ap fired_in (word_at v l) ∙ told.fired v;
     }
 
-    pub none_negative : (v : ℕ) → IsBelowZero h.graph (λ u. get_or h.start u 0) (λ u. get_or fired u 0) v → ⊥
+    pub none_negative : (v : ℕ) → IsBelowZero game.graph (λ u. get_or game.start u 0) (λ u. get_or fired u 0) v → ⊥
     none_negative v low = never_negative h setting.game setting.some_ring out'.log out'.legal fired are_fired v
-        (subst (λ (x : ℕ → ℕ). IsBelowZero h.graph x (slice_index fired) v) (sym from) low)
+        (subst (λ (z : Multigraph × (ℕ → ℕ)). IsBelowZero z.0 z.1 (slice_index fired) v)
+        (λ i. (more.same_graph i, sym from i)) low)
 
   module _ (o : Outcome) (fired_is : o.fired.items ≡ tally.fired) (over_is : o.over.items ≡ tally.over)
-      (sealed_is : o.sealed.items ≡ tally.sealed) (chips : IsAfter (game_of_setting h) o.fired.items o.chips.items) where
+      (sealed_is : o.sealed.items ≡ tally.sealed) (chips : IsAfter game o.fired.items o.chips.items) where
     outcome_is : IsOutcomeOf h out'.log o
     outcome_is = record {
       fired = are_fired o.fired.items fired_is;
-      chips = subst (λ (game : ChipGame). IsAfter game o.fired.items o.chips.items) (sym same_game) chips;
+      chips = subst (λ (k : ChipGame). IsAfter k o.fired.items o.chips.items) (sym same_game) chips;
       over = over_is ∙ reading.tallied.over ∙ ap (picked (limit_at reading.words)) reading.count_is
           ∙ picked_ext (limit_at reading.words) (λ v. is_by_limit (part_in h out'.log v).halt) h.graph.vertices
           (λ v l. ap by_limit_in (word_at v l) ∙ told.by_limit v);
@@ -132,18 +146,19 @@ module _ (old now : RootKnown) (setting : IsSetting old.net.setting) (unfed : ol
             (none_listed v (subst (λ (xs : List ℕ). Contains xs v) (sym outcome_is.over
             ∙ over) (picked_has (λ u. is_by_limit (part_in h out'.log u).halt) h.graph.vertices v l (ap is_by_limit is))))
 
-    all_come : ComesTo h (slice_index h.start) (firings out'.log) o
+    all_come : ComesTo h (slice_index game.start) (firings out'.log) o
     all_come = subst (λ (x : ℕ → ℕ). ComesTo h x (firings out'.log) o) from
         (comes h setting.game setting.some_ring out'.log out'.legal o outcome_is)
 
-    one_end : o.over.items ≡ [] → o.sealed.items ≡ [] → IsOneEnd h o
-    one_end over sealed vs ok ended =
-        let same = same_ends h.graph setting.game.graph_fits (slice_index h.start)
+    one_end : o.over.items ≡ [] → o.sealed.items ≡ [] → IsOneEnd game o
+    one_end over sealed = subst (λ (G : Multigraph). IsOneEnd (record { graph = G; start = game.start; limit = 0 }) o)
+        (sym more.same_graph) (λ vs ok ended.
+        let same = same_ends h.graph setting.game.graph_fits (slice_index game.start)
         (firings out'.log) vs all_come.sequence
         (subst (λ (x : ℕ → ℕ). HasEnded h.graph x (firings out'.log)) from
         (all_ended h setting.game setting.some_ring out'.log out'.legal out'.closed (no_halts over sealed))) ok ended
         in
-        ((λ v. all_come.counted v ∙ same.0 v), (λ v. all_come.position v ∙ same.1 v))
+        ((λ v. all_come.counted v ∙ same.0 v), (λ v. all_come.position v ∙ same.1 v)))
 
     -- the stopper's part stands in the root's view, and did nothing
     unsealed : old.stopper_did ≡ Some [] → o.sealed.items ≡ []
@@ -152,6 +167,9 @@ module _ (old now : RootKnown) (setting : IsSetting old.net.setting) (unfed : ol
 
     pub finishes : Finishes old now o
     finishes = subst (λ (r : RootKnown). Finishes old r o) (sym reading.record_is) record {
+      game = game;
+      more = more;
+      unfed = λ off. sym same_game ∙ unfed_played h setting.game setting.some_ring off out'.log out'.legal;
       words = reading.words;
       one_each = reading.count_is;
       record_is = refl;
@@ -166,7 +184,7 @@ module _ (old now : RootKnown) (setting : IsSetting old.net.setting) (unfed : ol
       of_log = outcome_is;
       comes = all_come;
       in_range = in_range h setting.game setting.some_ring out'.log out'.legal o outcome_is;
-      played = λ empty. subst (λ (game : ChipGame). IsPlayed game o) same_game
+      played = λ empty. subst (λ (k : ChipGame). IsPlayed k o) same_game
           (is_played h setting.game setting.some_ring out'.log out'.legal o outcome_is out'.closed (no_seals empty));
       one_end = one_end;
       unsealed = unsealed;

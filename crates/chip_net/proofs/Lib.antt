@@ -7,9 +7,11 @@ pub mod Acting
 pub mod Turning
 pub mod Answering
 pub mod Rooting
+pub mod Sending
 pub mod Stopping
 pub mod Reading
 pub mod Unsealed
+pub mod Feeding
 pub mod Finishing
 pub mod Receiving
 pub mod Reaching

@@ -14,11 +14,13 @@ use Rattle.chip_actor.specs.Edges.{root, stopper}
 use Rattle.chip_actor.specs.Part.{deficit}
 use Rattle.chip_core.specs.Core.{Log, Step, Read, Part, opened, part_of, part_in, does, word_of_part, IsClosed}
 use Rattle.chip_core.specs.Histories.{done_by, part_by}
+use Rattle.chip_core.specs.Positions.{fed_of, fed_in}
 use Rattle.chip_core.proofs.ReadLemmas.{reads_tell}
 use Rattle.chip_net.specs.Tokens.{NetId}
-use Rattle.chip_net.specs.Roots.{RootKnown, root_part, root_deficit, root_after}
+use Rattle.chip_net.specs.Roots.{RootKnown, root_part, root_deficit, root_after, IsOver}
 use Rattle.chip_net.specs.Finish.{ReadsAt, reads_from, IsReadOut, TallyState, tally_after, limit_at, seal_at, AreRead}
 use Rattle.chip_net.specs.Finish.{IsReading}
+use Rattle.chip_net.proofs.Viewing.{part_append}
 
 -- a read that saw this
 abbrev read : ℕ → ℕ → Step
@@ -58,23 +60,34 @@ reads_push : (v : ℕ) (ws : List ℕ) (w u : ℕ) → u ≡ v + length ws
 reads_push v [] w u is = ap (λ (n : ℕ). (read n w) ∷ []) (omega arith)
 reads_push v (x ∷ xs) w u is = ap (λ (l : List Step). (read v x) ∷ l) (reads_push (suc v) xs w u (omega arith))
 
--- ---- reads leave the deficit
+-- ---- reads leave the deficit and the end
 
 reads_leave : (g : Setting) (s : Part) (v : ℕ) (ws : List ℕ)
     → deficit g (root g) (part_by g s (reads_from v ws)) ≡ deficit g (root g) s
 reads_leave g s v [] = refl
 reads_leave g s v (w ∷ ws) = reads_leave g (does g (read v w) s) (suc v) ws
 
-part_append : (g : Setting) (s : Part) (xs ys : List Step) → part_by g s (xs ++ ys) ≡ part_by g (part_by g s xs) ys
-part_append g s [] ys = refl
-part_append g s (x ∷ xs) ys = part_append g (does g x s) xs ys
+reads_end : (g : Setting) (s : Part) (v : ℕ) (ws : List ℕ) → (part_by g s (reads_from v ws)).ended ≡ s.ended
+reads_end g s v [] = refl
+reads_end g s v (w ∷ ws) = reads_end g (does g (read v w) s) (suc v) ws
 
-pub still_settled : (old now : RootKnown) (tally : TallyState) (v : ℕ) → IsReading old now tally v
-    → root_deficit old ≡ 0 → root_deficit now ≡ 0
-still_settled old now tally v reading none = ap root_deficit reading.record_is
-    ∙ ap (deficit old.net.setting (root old.net.setting))
-    (part_append old.net.setting (opened old.net.setting) old.did (reads_from 0 reading.words))
-    ∙ reads_leave old.net.setting (root_part old) 0 reading.words ∙ none
+-- nor do they feed
+pub reads_feed_none : (g : Setting) (did : List Step) (v : ℕ) (ws : List ℕ)
+    → fed_in g (did ++ reads_from v ws) ≡ fed_in g did
+reads_feed_none g [] v [] = refl
+reads_feed_none g [] v (w ∷ ws) = reads_feed_none g [] (suc v) ws
+reads_feed_none g (x ∷ xs) v ws = ap (λ (l : List (ℕ × ℕ)). fed_of g x.event ++ l) (reads_feed_none g xs v ws)
+
+pub still_over : (old now : RootKnown) (tally : TallyState) (v : ℕ) → IsReading old now tally v → IsOver old → IsOver now
+still_over old now tally v reading over =
+    let g : Setting = old.net.setting in
+    let part_is : root_part now ≡ part_by g (root_part old) (reads_from 0 reading.words) = ap root_part reading.record_is
+    ∙ part_append g (opened g) old.did (reads_from 0 reading.words) in (
+      ap root_deficit reading.record_is
+          ∙ ap (deficit g (root g)) (part_append g (opened g) old.did (reads_from 0 reading.words))
+          ∙ reads_leave g (root_part old) 0 reading.words ∙ over.0,
+      ap (λ (s : Part). s.ended) part_is ∙ reads_end g (root_part old) 0 reading.words ∙ over.1,
+    )
 
 pub reading_net : (old now : RootKnown) (tally : TallyState) (v : ℕ) → IsReading old now tally v → now.net ≡ old.net
 reading_net old now tally v reading = ap (λ (r : RootKnown). r.net) reading.record_is

@@ -1,11 +1,10 @@
 -- One read of the root over the net.
-use Rattle.std.proofs.Common.{◌≡◌, ℕ, ◌<◌, true, false, None, refl, subst}
+use Rattle.std.proofs.Common.{◌≡◌, ℕ, ◌<◌, true, None, refl, subst}
 use Rattle.atomic_table.specs.Seated.{TableId}
 use Rattle.atomic_table.specs.Table.{Allows}
 use Rattle.chip_link.specs.Words.{is_fired_word}
 use Rattle.chip_actor.specs.Setting.{Setting, IsSetting}
 use Rattle.chip_actor.specs.Edges.{root, stopper}
-use Rattle.chip_actor.specs.Part.{deficit}
 use Rattle.chip_actor.proofs.RuleLemmas.{met_rules}
 use Rattle.chip_core.specs.Core.{Step, Read, unmet}
 use Rattle.chip_core.specs.Words.{of_vertex}
@@ -14,22 +13,21 @@ use Rattle.chip_net.specs.contracts.receipt.Receipt.{the_view}
 use Rattle.chip_net.specs.Layout.{index_of}
 use Rattle.chip_net.specs.Views.{find, grown, did_in, Has, part_of_view}
 use Rattle.chip_net.specs.Rule.{Kept, Stepped, Grows}
-use Rattle.chip_net.specs.Roots.{RootKnown}
+use Rattle.chip_net.specs.Roots.{RootKnown, IsOver}
 use Rattle.chip_net.specs.Finish.{ReadsAt}
-use Rattle.chip_net.proofs.Viewing.{grown_has, unfed_ended}
+use Rattle.chip_net.proofs.Viewing.{grown_has}
 use Rattle.chip_net.proofs.Ruling.{Mine}
 use Rattle.chip_net.proofs.Rooting.{root_rule, root_grown, root_stepped, root_record}
 use Rattle.chip_net.proofs.Finishing.{fired_word_is}
 
-module _ (i : Inside) (keeps : Has (root i.setup) i.seat.me.0 × IsSetting i.setup × (i.setup.fed ≡ false)) (v : ℕ)
-    (inside : v < i.setup.graph.vertices)
-    (closed : deficit i.setup (root i.setup) (part_of_view i.setup (root i.setup) i.seat.me.0) ≡ 0) where
+module _ (i : Inside) (keeps : Has (root i.setup.value) i.seat.me.0 × IsSetting i.setup.value) (v : ℕ)
+    (inside : v < i.setup.value.graph.vertices) (over : IsOver (the_view i)) where
   abbrev g : Setting
-  g = i.setup
+  g = i.setup.value
 
   none : unmet g (Read v) (part_of_view g (root g) i.seat.me.0) ≡ None
   none = met_rules g (Read v) (part_of_view g (root g) i.seat.me.0)
-      (inside, closed, unfed_ended g keeps.2 (did_in (root g) i.seat.me.0))
+      (inside, over.0, over.1)
 
   pub read_rule : (key : Setting) → key ≡ g → (slots word : ℕ) → word ≡ index_of g (of_vertex v)
       → Allows (Kept key) slots i.seat.id i.seat.me word (λ n. n) (Grows key (Read v) i.seat.me)
@@ -47,8 +45,8 @@ module _ (i : Inside) (keeps : Has (root i.setup) i.seat.me.0 × IsSetting i.set
     grew : after.0 ≡ grown (root g) x i.seat.me.0
     grew = root_grown g keeps.1 i.seat.me keeps.0 (Read v) refl none key same seen after told
 
-    pub still_receipt : Has (root g) after.0 × IsSetting g × (g.fed ≡ false)
-    still_receipt = ((grown_has (root g) x i.seat.me.0 after.0 keeps.0 grew).1, keeps.1, keeps.2)
+    pub still_receipt : Has (root g) after.0 × IsSetting g
+    still_receipt = ((grown_has (root g) x i.seat.me.0 after.0 keeps.0 grew).1, keeps.1)
 
     pub reads : (own : RootKnown) → the_view i ≡ own → (table : TableId) → table ≡ i.seat.table_id
         → ReadsAt own (record {

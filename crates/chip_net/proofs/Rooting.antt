@@ -1,31 +1,39 @@
 -- The root: an event of its own over the net, and a poll of settles.
-use Rattle.std.proofs.Common.{◌≡◌, ℕ, ◌+◌, ◌<◌, true, List, [], ◌∷◌, ◌++◌, None, sym, ap, ◌∙◌, subst, arith, add-one}
-use Rattle.std.proofs.Common.{append_assoc}
+use Rattle.std.proofs.Common.{◌≡◌, ℕ, suc, ◌+◌, ◌-◌, ◌<◌, ◌≤◌, Bool, true, false, cond, eqb, List, [], ◌∷◌, ◌++◌, Option, None, refl, sym, ap, ◌∙◌}
+use Rattle.std.proofs.Common.{subst, arith, append_assoc}
 use Rattle.std.proofs.lemmas.List.{map-append}
 use Rattle.std.proofs.lemmas.Bool.{le-leb}
 use Rattle.atomic_table.specs.Seated.{TableId}
 use Rattle.atomic_table.specs.Table.{Allows}
-use Rattle.chip_link.specs.Link.{claims_of}
+use Rattle.chip_graph.proofs.SumLemmas.{cond_yes}
+use Rattle.chip_link.specs.Link.{claims_of, after_clear}
 use Rattle.chip_actor.specs.Setting.{Setting, IsSetting}
+use Rattle.chip_actor.specs.declared.act.Act as operation
+use Rattle.chip_actor.specs.declared.act.Act.TheVariants as Do
 use Rattle.chip_actor.specs.Edges.{root, stopper, root_edge, all_edges, graph_edges}
-use Rattle.chip_actor.specs.Acting.{FitsSeen}
-use Rattle.chip_actor.specs.Root.{Root, RootStandsFor, SomeRoot, is_of_root, RootCanDo, RootMakes}
+use Rattle.chip_actor.specs.Acting.{act_of}
+use Rattle.chip_actor.specs.Root.{Root, RootStandsFor, FitsRoot, SomeRoot, is_of_root, RootCanDo, RootMakes}
+use Rattle.chip_actor.specs.Steps.{link_after}
 use Rattle.chip_actor.proofs.EdgeLemmas.{tail_root}
 use Rattle.chip_actor.proofs.RuleLemmas.{met_rules}
-use Rattle.chip_core.specs.Core.{Step, Event, Settle, Part, Reply, opened, unmet, part_of, part_in, out_in, into_in}
-use Rattle.chip_core.specs.Core.{tail_of}
-use Rattle.chip_core.specs.Histories.{part_by}
-use Rattle.chip_core.specs.Words.{touched, left_by}
+use Rattle.chip_core.specs.Core.{Step, Event, Take, Ack, Fire, Clear, Claim, Put, Halt, Settle, Seal, Read, Feed, End}
+use Rattle.chip_core.specs.Core.{Part, Out, Reply, opened, does, unmet, part_of, part_in, tail_of, sees, reply_of}
+use Rattle.chip_core.specs.Histories.{done_by, part_by}
+use Rattle.chip_core.specs.Words.{IsWord, touched, left_by, noted}
 use Rattle.chip_core.proofs.ReachingLemmas.{by_history}
-use Rattle.chip_core.proofs.LogLemmas.{edge_counts}
-use Rattle.chip_net.specs.declared.root.Root.TheInside.{Inside}
-use Rattle.chip_net.specs.contracts.root.Root.{the_view}
+use Rattle.chip_core.proofs.NumberLemmas.{root_fits}
+use Rattle.chip_core.proofs.Showing.{word_for}
+use Rattle.chip_net.specs.declared.root_hand.RootHand.TheInside.{Inside}
+use Rattle.chip_net.specs.contracts.root_hand.RootHand.{the_view}
 use Rattle.chip_net.specs.Layout.{index_of, word_count}
 use Rattle.chip_net.specs.Views.{View, find, grown, did_in, Has, part_of_view}
 use Rattle.chip_net.specs.Rule.{Kept, step_of, Stepped, Grows}
-use Rattle.chip_net.specs.Roots.{RootKnown, root_after, IsRoot, Settles, root_settles, IsPolling}
-use Rattle.chip_net.proofs.Viewing.{grown_has, grown_part, find_else}
-use Rattle.chip_net.proofs.Ruling.{Mine, event_room, event_allowed}
+use Rattle.chip_net.specs.Roots.{RootKnown, root_after, root_part, IsRoot, IsFeeding, IsDueInView, MakesEvent, Replies}
+use Rattle.chip_net.specs.Roots.{settles_from, DoesMore, HoldsNothing, has_ended, new_root}
+use Rattle.chip_net.proofs.Laying.{inside}
+use Rattle.chip_net.specs.Tokens.{NetId}
+use Rattle.chip_net.proofs.Viewing.{grown_has, grown_part, find_else, part_push, part_append, ended_by}
+use Rattle.chip_net.proofs.Ruling.{Mine, word_of, left_over, one_exchange, event_room, event_allowed}
 
 -- the root sends on the root edges
 root_tail : (g : Setting) (v : ℕ) → tail_of g (root_edge g v) ≡ root g
@@ -76,112 +84,347 @@ module _ (g : Setting) (setting : IsSetting g) (me : Mine) (has : Has (root g) m
     root_in_log = ap (part_by g (opened g)) (root_stepped.agrees (root g) (did_in (root g) me.0) has)
         ∙ sym (by_history g root_stepped.log (root g))
 
--- ---- a settle of a root edge
+-- what is noted is noted
+noted_twice : (x : Event) (n : ℕ) → noted x n ≡ noted x (noted x n)
+noted_twice (Put e) n = refl
+noted_twice (Take e) n = refl
+noted_twice (Ack e) n = refl
+noted_twice (Fire v k) n = refl
+noted_twice (Clear e) n = refl
+noted_twice (Claim e) n = refl
+noted_twice (Halt v) n = refl
+noted_twice (Settle e) n = refl
+noted_twice (Seal e) n = refl
+noted_twice (Read v) n = refl
+noted_twice (Feed e k) n = refl
+noted_twice End n = refl
 
-module _ (i : Inside) (keeps : IsRoot i.setup i.seat.me.0 i.state) (v edge : ℕ) (inside : v < i.setup.graph.vertices)
-    (edge_is : edge ≡ root_edge i.setup v) where
+-- ---- an event of the root's hand
+
+module _ (i : Inside) (keeps : IsRoot i.setup.value i.seat.me.0 i.state) (x : Event)
+    (mine : part_of i.setup.value x ≡ root i.setup.value) (own : is_of_root i.setup.value x ≡ true)
+    (none : unmet i.setup.value x (part_of_view i.setup.value (root i.setup.value) i.seat.me.0) ≡ None) where
   abbrev g : Setting
-  g = i.setup
+  g = i.setup.value
 
   abbrev s : Part
   s = part_of_view g (root g) i.seat.me.0
 
-  mine : part_of g (Settle edge) ≡ root g
-  mine = ap (tail_of g) edge_is ∙ root_tail g v
+  module _ (key : Setting) (same : key ≡ g) (n : ℕ) (after : Mine) (told : Grows key x i.seat.me n after) where
+    stepped : Stepped g (step_of x n) i.seat.me.0
+    stepped = root_stepped g keeps.setting i.seat.me keeps.has x mine none key same n after told
 
-  none : unmet g (Settle edge) s ≡ None
-  none = met_rules g (Settle edge) s (omega arith)
+    grew : after.0 ≡ grown (root g) (step_of x n) i.seat.me.0
+    grew = root_grown g keeps.setting i.seat.me keeps.has x mine none key same n after told
 
-  pub settle_room : (word words : ℕ) → word ≡ all_edges g + edge → words ≡ word_count g → word < words
-  settle_room = root_room g keeps.setting i.seat.me keeps.has (Settle edge) mine none
+    -- it is the part in that log
+    in_log : s ≡ part_in g stepped.log (root g)
+    in_log = ap (part_by g (opened g)) (stepped.agrees (root g) (did_in (root g) i.seat.me.0) keeps.has)
+        ∙ sym (by_history g stepped.log (root g))
 
-  pub settle_rule : (key : Setting) → key ≡ g → (slots word : ℕ) → word ≡ all_edges g + edge
-      → Allows (Kept key) slots i.seat.id i.seat.me word (λ n. n) (Grows key (Settle edge) i.seat.me)
-  settle_rule key same slots word at = root_rule g keeps.setting i.seat.me keeps.has
-      (Settle edge) mine none key same slots i.seat.id word at
-
-  module _ (key : Setting) (same : key ≡ g) (seen : ℕ) (after : Mine)
-      (told : Grows key (Settle edge) i.seat.me seen after) where
-    abbrev stepped : Stepped g (record { event = Settle edge; seen = seen }) i.seat.me.0
-    stepped = root_stepped g keeps.setting i.seat.me keeps.has (Settle edge) mine none key same seen after told
-
-    -- settled, acknowledged, sent
-    fits : FitsSeen s (Settle edge) seen
+    fits : FitsRoot g s x (noted x n)
     fits =
         let log = stepped.log in
-        let counts = edge_counts g keeps.setting.game keeps.setting.some_ring log stepped.legal.0 edge in
-        let c0 = counts.0 in let c1 = counts.1 in let c2 = counts.2 in let c3 = counts.3 in
-        let in_log : s ≡ part_in g log (tail_of g edge) = root_in_log g keeps.setting i.seat.me keeps.has
-        (Settle edge) mine none key same seen after told ∙ ap (part_in g log) (sym mine) in
-        let is : seen ≡ (into_in g log edge).acked = stepped.legal.1.1 in
-        let low : (s.out edge).settled ≡ (out_in g log edge).settled = ap (λ (p : Part). (p.out edge).settled) in_log in
-        let high : claims_of (s.out edge).link ≡ claims_of (out_in g log edge).link =
-        ap (λ (p : Part). claims_of (p.out edge).link) in_log in
-        (omega arith, omega arith)
+        let none' : unmet g x (part_in g log (root g)) ≡ None = subst (λ (b : Part). unmet g x b ≡ None) in_log none in
+        subst (λ (z : Part × ℕ). FitsRoot g z.0 x z.1) (λ j. (sym in_log j, sym stepped.legal.1.1 j))
+        (root_fits g keeps.setting.game keeps.setting.some_ring log stepped.legal.0 x own none')
 
-    of_root : is_of_root g (Settle edge) ≡ true
-    of_root = le-leb (graph_edges g) edge (omega arith)
+    pub may_make : SomeRoot i.state (λ h t. RootCanDo h t x (noted x n))
+    may_make = (g, s, keeps.stands, (own, none, fits))
 
-    pub may_settle : SomeRoot i.state (λ h t. RootCanDo h t (Settle edge) seen)
-    may_settle = (g, s, keeps.stands, (of_root, none, fits))
+    longer : (did_in (root g) after.0 ≡ did_in (root g) i.seat.me.0 ++ step_of x n ∷ [])
+        × (find (stopper g) after.0.parts ≡ find (stopper g) i.seat.me.0.parts)
+    longer = root_record g (step_of x n) i.seat.me.0 after.0 keeps.has grew
 
-    module _ (state : Root) (reply : Reply) (makes : RootMakes i.state state (Settle edge) seen reply) where
+    module _ (state : Root) (reply : Reply) (makes : RootMakes i.state state x (noted x n) reply) where
       pub still_root : IsRoot g after.0 state
       still_root =
-          let x : Step = record { event = Settle edge; seen = seen } in
-          let grew : after.0 ≡ grown (root g) x i.seat.me.0 =
-          root_grown g keeps.setting i.seat.me keeps.has (Settle edge) mine none key same seen after told in record {
+          let y : Step = step_of x n in record {
             setting = keeps.setting;
-            unfed = keeps.unfed;
-            has = (grown_has (root g) x i.seat.me.0 after.0 keeps.has grew).1;
+            has = (grown_has (root g) y i.seat.me.0 after.0 keeps.has grew).1;
             stands = subst (λ (t : Part). RootStandsFor g t state)
-                (sym (grown_part g (root g) x i.seat.me.0 after.0 keeps.has grew))
-                (makes g s keeps.stands (of_root, none, fits)).0;
+                (sym (grown_part g (root g) y i.seat.me.0 after.0 keeps.has grew))
+                (makes g s keeps.stands (own, none, fits)).0;
+            log = y ∷ stepped.log;
+            legal = stepped.legal;
+            in_log = longer.0
+                ∙ ap (λ (d : List Step). d ++ y ∷ [])
+                (stepped.agrees (root g) (did_in (root g) i.seat.me.0) keeps.has)
+                ∙ sym (cond_yes (part_of g x) (root g) (done_by g (root g) stepped.log ++ y ∷ [])
+                (done_by g (root g) stepped.log) mine);
           }
 
-    pub settles : (own : RootKnown) → the_view i ≡ own → (table : TableId) → table ≡ i.seat.table_id
-        → Settles own (record {
-          net = record { table = table; setting = g };
-          did = did_in (root g) after.0;
-          stopper_did = find (stopper g) after.0.parts;
-        }) v seen
-    settles own view_is table table_is =
-        let x : Step = record { event = Settle edge; seen = seen } in
-        let grew : after.0 ≡ grown (root g) x i.seat.me.0 = root_grown g keeps.setting i.seat.me keeps.has
-        (Settle edge) mine none key same seen after told in
-        let longer = root_record g x i.seat.me.0 after.0 keeps.has grew in
-        subst (λ (k : RootKnown). Settles k
-        (record {
-          net = record { table = table; setting = g };
-          did = did_in (root g) after.0;
-          stopper_did = find (stopper g) after.0.parts;
-        }) v seen) view_is record {
-          record_is = λ j. record {
-            net = record { table = table_is j; setting = g };
-            did = (longer.0 ∙ ap (λ (e : ℕ). did_in (root g) i.seat.me.0 ++ record { event = Settle e; seen = seen }
-                ∷ []) edge_is) j;
-            stopper_did = longer.1 j;
-          };
-        }
+    module _ (old : RootKnown) (view_is : the_view i ≡ old) (table : TableId) (table_is : table ≡ i.seat.table_id) where
+      pub makes_event : MakesEvent old (record {
+        net = record { table = table; setting = g };
+        did = did_in (root g) after.0;
+        stopper_did = find (stopper g) after.0.parts;
+      }) x (noted x n)
+      makes_event = subst (λ (k : RootKnown). MakesEvent k
+          (record {
+            net = record { table = table; setting = g };
+            did = did_in (root g) after.0;
+            stopper_did = find (stopper g) after.0.parts;
+          }) x (noted x n)) view_is record {
+            record_is = λ j. record {
+              net = record { table = table_is j; setting = g };
+              did = longer.0 j;
+              stopper_did = longer.1 j;
+            };
+            fits = fits;
+            noted_is = noted_twice x n;
+          }
+
+      pub replies : (state : Root) (reply : Reply) → RootMakes i.state state x (noted x n) reply
+          → Replies old (record {
+            net = record { table = table; setting = g };
+            did = did_in (root g) after.0;
+            stopper_did = find (stopper g) after.0.parts;
+          }) x reply
+      replies state reply makes = record {
+        seen = noted x n;
+        made = makes_event;
+        reply_is = (makes g s keeps.stands (own, none, fits)).1
+            ∙ ap (λ (k : RootKnown). reply_of k.net.setting x (noted x n) (root_part k)) view_is;
+      }
+
+-- ---- a settle of a root edge
+
+module _ (i : Inside) (keeps : IsRoot i.setup.value i.seat.me.0 i.state) (v edge : ℕ)
+    (inside : v < i.setup.value.graph.vertices) (edge_is : edge ≡ root_edge i.setup.value v) where
+  pub settle_mine : part_of i.setup.value (Settle edge) ≡ root i.setup.value
+  settle_mine = ap (tail_of i.setup.value) edge_is ∙ root_tail i.setup.value v
+
+  pub settle_own : is_of_root i.setup.value (Settle edge) ≡ true
+  settle_own = le-leb (graph_edges i.setup.value) edge (omega arith)
+
+  pub settle_due : unmet i.setup.value (Settle edge) (part_of_view i.setup.value (root i.setup.value) i.seat.me.0) ≡ None
+  settle_due = met_rules i.setup.value (Settle edge) (part_of_view i.setup.value (root i.setup.value) i.seat.me.0)
+      (omega arith)
+
+-- the same of the edge by another name
+pub settles_at : (old new : RootKnown) (e f seen : ℕ) → e ≡ f → MakesEvent old new (Settle e) seen
+    → MakesEvent old new (Settle f) seen
+settles_at old new e f seen is made = subst (λ (i : ℕ). MakesEvent old new (Settle i) seen) is made
+
+-- ---- an event by which the root feeds
+
+-- it is the root's
+pub feeding_mine : (g : Setting) (x : Event) → IsFeeding g x → (part_of g x ≡ root g) × (is_of_root g x ≡ true)
+feeding_mine g (Clear e) past = (tail_root g e past, le-leb (graph_edges g) e past)
+feeding_mine g (Put e) past = (tail_root g e past, le-leb (graph_edges g) e past)
+feeding_mine g (Feed e k) past = (tail_root g e past, refl)
+feeding_mine g End past = (refl, refl)
+feeding_mine g (Take e) z = absurd z
+feeding_mine g (Ack e) z = absurd z
+feeding_mine g (Fire v k) z = absurd z
+feeding_mine g (Claim e) z = absurd z
+feeding_mine g (Halt v) z = absurd z
+feeding_mine g (Settle e) z = absurd z
+feeding_mine g (Seal e) z = absurd z
+feeding_mine g (Read v) z = absurd z
+
+-- what is noted where such an operation found n
+abbrev pub noted_over : operation.Act → ℕ → ℕ
+noted_over (Do.Put e cell value) n = 0
+noted_over _ n = n
+
+pub noted_is : (g : Setting) (s : Part) (x : Event) → IsFeeding g x → (n : ℕ) → noted x n ≡ noted_over (act_of g x s) n
+noted_is g s (Clear e) past n = refl
+noted_is g s (Put e) past n = refl
+noted_is g s (Feed e k) past n = refl
+noted_is g s End past n = refl
+noted_is g s (Take e) z n = absurd z
+noted_is g s (Ack e) z n = absurd z
+noted_is g s (Fire v k) z n = absurd z
+noted_is g s (Claim e) z n = absurd z
+noted_is g s (Halt v) z n = absurd z
+noted_is g s (Settle e) z n = absurd z
+noted_is g s (Seal e) z n = absurd z
+noted_is g s (Read v) z n = absurd z
+
+-- the four kinds of such an operation
+abbrev pub IsOneOfFour : operation.Act → Type 0
+IsOneOfFour (Do.Settle e) = Unit {0}
+IsOneOfFour (Do.Clear e cell) = Unit {0}
+IsOneOfFour (Do.Claim e expected new) = Unit {0}
+IsOneOfFour (Do.Put e cell value) = Unit {0}
+IsOneOfFour _ = ⊥
+
+one_of_four : (g : Setting) (s : Part) (x : Event) → IsFeeding g x → IsOneOfFour (act_of g x s)
+one_of_four g s (Clear e) past = tt
+one_of_four g s (Put e) past = tt
+one_of_four g s (Feed e k) past = tt
+one_of_four g s End past = tt
+one_of_four g s (Take e) z = absurd z
+one_of_four g s (Ack e) z = absurd z
+one_of_four g s (Fire v k) z = absurd z
+one_of_four g s (Claim e) z = absurd z
+one_of_four g s (Halt v) z = absurd z
+one_of_four g s (Settle e) z = absurd z
+one_of_four g s (Seal e) z = absurd z
+one_of_four g s (Read v) z = absurd z
+
+module _ (g : Setting) (me : Mine) (x : Event) (act : operation.Act) (due : IsDueInView g me.0 x act) where
+  abbrev part : Part
+  part = part_of_view g (root g) me.0
+
+  pub kind_is : IsOneOfFour act
+  kind_is = subst IsOneOfFour (sym due.needed) (one_of_four g part x due.feeding)
+
+  pub noted_here : (n : ℕ) → noted x n ≡ noted_over act n
+  noted_here n = noted_is g part x due.feeding n ∙ ap (λ (a : operation.Act). noted_over a n) (sym due.needed)
+
+  -- the word of the operation is that of the event
+  over_word : (y : Event) → IsFeeding g y → word_of 0 (act_of g y part) ≡ touched g y part
+  over_word (Clear e) past = refl
+  over_word (Put e) past = refl
+  over_word (Feed e k) past = refl
+  over_word End past = refl
+  over_word (Take e) z = absurd z
+  over_word (Ack e) z = absurd z
+  over_word (Fire v k) z = absurd z
+  over_word (Claim e) z = absurd z
+  over_word (Halt v) z = absurd z
+  over_word (Settle e) z = absurd z
+  over_word (Seal e) z = absurd z
+  over_word (Read v) z = absurd z
+
+  -- and so is what it leaves there
+  over_left : (y : Event) → IsFeeding g y → (n : ℕ) → left_by g y part n ≡ left_over (act_of g y part) n
+  over_left (Clear e) past n = refl
+  over_left (Put e) past n = refl
+  over_left (Feed e k) past n = one_exchange (claims_of (part.out e).link) (claims_of (part.out e).link + 1) n
+  over_left End past n = refl
+  over_left (Take e) z n = absurd z
+  over_left (Ack e) z n = absurd z
+  over_left (Fire v k) z n = absurd z
+  over_left (Claim e) z n = absurd z
+  over_left (Halt v) z n = absurd z
+  over_left (Settle e) z n = absurd z
+  over_left (Seal e) z n = absurd z
+  over_left (Read v) z n = absurd z
+
+  word_is : word_of 0 act ≡ touched g x part
+  word_is = ap (word_of 0) due.needed ∙ over_word x due.feeding
+
+  pub feeding_word : IsWord g (word_of 0 act)
+  feeding_word = subst (IsWord g) (sym word_is)
+      (word_for g due.setting.game.graph_fits.some_vertex due.setting.some_ring x part due.met)
+
+  pub feeding_room : (word words : ℕ) → word ≡ index_of g (word_of 0 act) → words ≡ word_count g → word < words
+  feeding_room word words at all = let l = inside g (word_of 0 act) feeding_word in omega arith
+
+  pub feeding_rule : (key : Setting) → key ≡ g → (slots id word : ℕ) → word ≡ index_of g (word_of 0 act)
+      → Allows (Kept key) slots id me word (left_over act) (Grows key x me)
+  feeding_rule key same slots id word at =
+      let left : left_by g x part ≡ left_over act =
+      (λ j n. (over_left x due.feeding n ∙ ap (λ (a : operation.Act). left_over a n) (sym due.needed)) j) in
+      subst (λ (f : ℕ → ℕ). Allows (Kept key) slots id me word f (Grows key x me)) left
+      (root_rule g due.setting me due.has x (feeding_mine g x due.feeding).0 due.met key same slots id word
+      (at ∙ ap (index_of g) word_is))
+
+  -- a store tells the same, whatever it found
+  pub store_rule : (key : Setting) → key ≡ g → (slots id word : ℕ) → word ≡ index_of g (word_of 0 act) → (value : ℕ)
+      → ((n : ℕ) → noted_over act n ≡ 0)
+      → Allows (Kept key) slots id me word (left_over act) (λ n. Grows key x me value)
+  store_rule key same slots id word at value zero =
+      let told : Grows key x me ≡ (λ n. Grows key x me value) =
+      (λ j n after. let step : step_of x n ≡ step_of x value =
+      (λ k. record { event = x; seen = (noted_here n ∙ zero n ∙ sym (noted_here value ∙ zero value)) k }) in
+      ((after.0 ≡ grown (part_of key x) (step j) me.0) × Stepped key (step j) me.0)) in
+      subst (λ (f : ℕ → Mine → Type 0). Allows (Kept key) slots id me word (left_over act) f) told
+      (feeding_rule key same slots id word at)
 
 -- ---- a poll
 
--- one settle more of it
-pub polls_more : (old now after : RootKnown) (v seen : ℕ) → IsPolling old now v → Settles now after v seen
-    → IsPolling old after (v + 1)
-polls_more old now after v seen polling settles =
-    let g : Setting = old.net.setting in
-    let x : Step = record { event = Settle (root_edge g v); seen = seen } in record {
-      steps = polling.steps ++ x ∷ [];
-      record_is = settles.record_is
-          ∙ (λ i. root_after (polling.record_is i)
-          (record { event = Settle (root_edge (polling.record_is i).net.setting v); seen = seen } ∷ []))
+-- one settle more
+pub does_more : (old now after : RootKnown) (events : List Event) (x : Event) (seen : ℕ) → DoesMore old now events
+    → MakesEvent now after x seen → DoesMore old after (events ++ x ∷ [])
+does_more old now after events x seen before made =
+    let y : Step = record { event = x; seen = seen } in record {
+      steps = before.steps ++ y ∷ [];
+      record_is = made.record_is ∙ ap (λ (r : RootKnown). root_after r (y ∷ [])) before.record_is
           ∙ ap (λ (d : List Step). record { net = old.net; did = d; stopper_did = old.stopper_did })
-          (append_assoc old.did polling.steps (x ∷ []));
-      events = map-append (λ (y : Step). y.event) polling.steps (x ∷ [])
-          ∙ ap (λ (es : List Event). es ++ Settle (root_edge g v) ∷ []) polling.events
-          ∙ ap (root_settles g) (sym (add-one v));
+          (append_assoc old.did before.steps (y ∷ []));
+      events_are = map-append (λ (z : Step). z.event) before.steps (y ∷ [])
+          ∙ ap (λ (es : List Event). es ++ x ∷ []) before.events_are;
     }
 
-pub polling_net : (old now : RootKnown) (v : ℕ) → IsPolling old now v → now.net ≡ old.net
-polling_net old now v polling = ap (λ (r : RootKnown). r.net) polling.record_is
+pub does_net : (old now : RootKnown) (events : List Event) → DoesMore old now events → now.net ≡ old.net
+does_net old now events before = ap (λ (r : RootKnown). r.net) before.record_is
+
+-- the next settle of some in a row
+pub settles_next : (g : Setting) (first v : ℕ) → first ≤ v
+    → settles_from g first (v - first) ++ Settle (root_edge g v) ∷ [] ≡ settles_from g first ((v + 1) - first)
+settles_next g first v l =
+    let same : v ≡ first + (v - first) = omega arith in
+    let count : suc (v - first) ≡ (v + 1) - first = omega arith in
+    ap (λ (u : ℕ). settles_from g first (v - first) ++ Settle (root_edge g u) ∷ []) same
+    ∙ ap (settles_from g first) count
+
+pub settles_more : (old now after : RootKnown) (first v seen : ℕ) → first ≤ v
+    → DoesMore old now (settles_from old.net.setting first (v - first))
+    → MakesEvent now after (Settle (root_edge now.net.setting v)) seen
+    → DoesMore old after (settles_from old.net.setting first ((v + 1) - first))
+settles_more old now after first v seen l before made =
+    let g : Setting = old.net.setting in
+    let edge = ap (λ (n : NetId). root_edge n.setting v) (does_net old now (settles_from g first (v - first)) before) in
+    subst (DoesMore old after) (settles_next g first v l)
+    (does_more old now after (settles_from g first (v - first)) (Settle (root_edge g v)) seen before
+    (settles_at now after (root_edge now.net.setting v) (root_edge g v) seen edge made))
+
+-- an event and what follows
+pub does_after : (old now after : RootKnown) (x : Event) (seen : ℕ) (events : List Event) → MakesEvent old now x seen
+    → DoesMore now after events → DoesMore old after (x ∷ events)
+does_after old now after x seen events made more =
+    let y : Step = record { event = x; seen = seen } in record {
+      steps = y ∷ more.steps;
+      record_is = more.record_is ∙ ap (λ (r : RootKnown). root_after r more.steps) made.record_is
+          ∙ ap (λ (d : List Step). record { net = old.net; did = d; stopper_did = old.stopper_did })
+          (append_assoc old.did (y ∷ []) more.steps);
+      events_are = ap (λ (es : List Event). x ∷ es) more.events_are;
+    }
+
+-- ---- the part of the root after an event
+
+pub root_step : (r : RootKnown) (y : Step)
+    → root_part (root_after r (y ∷ [])) ≡ does r.net.setting y (root_part r)
+root_step r y = part_push r.net.setting (opened r.net.setting) r.did y
+
+-- as a net opens nothing is held
+pub holds_first : (net : NetId) (stopper_did : Option (List Step)) → HoldsNothing (new_root net stopper_did)
+holds_first net stopper_did v l = refl
+
+-- it holds as little as before where the event leaves what is held
+pub holds_by : (old now : RootKnown) (x : Event) (seen : ℕ)
+    → ((e : ℕ) (o : Out) → (link_after x seen e o).held ≡ o.link.held) → MakesEvent old now x seen → HoldsNothing old
+    → HoldsNothing now
+holds_by old now x seen same made none = subst HoldsNothing (sym made.record_is)
+    (λ v l. ap (λ (s : Part). (s.out (root_edge old.net.setting v)).link.held)
+    (root_step old (record { event = x; seen = seen }))
+    ∙ same (root_edge old.net.setting v) ((root_part old).out (root_edge old.net.setting v)) ∙ none v l)
+
+pub held_settle : (i seen e : ℕ) (o : Out) → (link_after (Settle i) seen e o).held ≡ o.link.held
+held_settle i seen e o = refl
+
+pub held_end : (seen e : ℕ) (o : Out) → (link_after End seen e o).held ≡ o.link.held
+held_end seen e o = refl
+
+pub held_clear : (i seen e : ℕ) (o : Out) → (link_after (Clear i) seen e o).held ≡ o.link.held
+held_clear i seen e o = by_test (eqb i e)
+  where
+    by_test : (b : Bool) → (cond b (after_clear seen o.link) o.link).held ≡ o.link.held
+    by_test true = refl
+    by_test false = refl
+
+-- once the end is noted it stays so
+pub stays_over : (old now : RootKnown) (events : List Event) → DoesMore old now events → has_ended old ≡ true
+    → has_ended now ≡ true
+stays_over old now events more on = ap has_ended more.record_is
+    ∙ ap (λ (s : Part). s.ended) (part_append old.net.setting (opened old.net.setting) old.did more.steps)
+    ∙ ended_by old.net.setting more.steps (root_part old) on
+
+pub over_by_end : (old now : RootKnown) (seen : ℕ) → MakesEvent old now End seen → has_ended now ≡ true
+over_by_end old now seen made = ap has_ended made.record_is
+    ∙ ap (λ (s : Part). s.ended) (root_step old (record { event = End; seen = seen }))

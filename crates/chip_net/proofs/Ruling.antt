@@ -181,7 +181,7 @@ left_over (Do.Ack e count) n = (n + count) % 2 ^ 64
 left_over Do.End n = n
 
 -- the two ways to say what an exchange leaves
-one_exchange : (expected new n : ℕ) → exchanged expected new n ≡ either (n == expected) new n
+pub one_exchange : (expected new n : ℕ) → exchanged expected new n ≡ either (n == expected) new n
 one_exchange expected new n = by_test (n == expected)
   where
     by_test : (b : Bool) → cond b new n ≡ either b new n

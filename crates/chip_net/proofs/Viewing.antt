@@ -62,6 +62,11 @@ pub part_push : (g : Setting) (s : Part) (xs : List Step) (x : Step)
 part_push g s [] x = refl
 part_push g s (y ∷ ys) x = part_push g (does g y s) ys x
 
+-- a part after more events of its own
+pub part_append : (g : Setting) (s : Part) (xs ys : List Step) → part_by g s (xs ++ ys) ≡ part_by g (part_by g s xs) ys
+part_append g s [] ys = refl
+part_append g s (x ∷ xs) ys = part_append g (does g x s) xs ys
+
 -- and the state that its record leaves
 pub grown_part : (g : Setting) (p : ℕ) (x : Step) (v w : View) → Has p v → w ≡ grown p x v
     → part_of_view g p w ≡ does g x (part_of_view g p v)
@@ -69,7 +74,7 @@ grown_part g p x v w has is = ap (part_by g (opened g)) (grown_has p x v w has i
     ∙ part_push g (opened g) (did_in p v) x
 
 -- where no chips are fed the end of feeding is noted, whatever a part did
-ended_by : (g : Setting) (xs : List Step) (s : Part) → s.ended ≡ true → (part_by g s xs).ended ≡ true
+pub ended_by : (g : Setting) (xs : List Step) (s : Part) → s.ended ≡ true → (part_by g s xs).ended ≡ true
 ended_by g [] s on = on
 ended_by g (x ∷ xs) s on = ended_by g xs (does g x s) (stays_ended g x.event s.ended on)
 

@@ -1,6 +1,8 @@
 -- What the root reads once it is closed, and what it makes of it.
-use Rattle.std.specs.Prelude.{◌≡◌, ℕ, suc, ◌<◌, ◌-◌, Bool, not, ◌&&◌, if◌then◌else◌, List, [], ◌∷◌, ◌++◌, length, map}
+use Rattle.std.specs.Prelude.{◌≡◌, ℕ, suc, ◌<◌, ◌≤◌, ◌-◌, Bool, false, not, ◌&&◌, if◌then◌else◌, List, [], ◌∷◌, ◌++◌, length, map}
 use Rattle.std.specs.Prelude.{slice_index, Some}
+use Rattle.chip_graph.specs.ChipGame.{ChipGame}
+use Rattle.chip_graph.specs.More.{HasMore}
 use Rattle.chip_graph.specs.Sums.{picked}
 use Rattle.chip_fire.specs.declared.outcome.Outcome.{Outcome}
 use Rattle.chip_fire.specs.Outcomes.{IsOutcome}
@@ -14,7 +16,7 @@ use Rattle.chip_core.specs.Core.{Log, Step, Read, part_in, word_of_part, IsLegal
 use Rattle.chip_core.specs.Histories.{done_by}
 use Rattle.chip_core.specs.Positions.{firings}
 use Rattle.chip_core.specs.Outcomes.{IsOutcomeOf, ComesTo}
-use Rattle.chip_net.specs.Roots.{RootKnown, root_after}
+use Rattle.chip_net.specs.Roots.{RootKnown, root_after, fed_by}
 
 -- the root, and the stopper where the root holds that part, did these steps in this log
 pub record AgreesWith (r : RootKnown) (log : Log) : Type 0 where
@@ -87,10 +89,20 @@ pub record IsReading (old now : RootKnown) (tally : TallyState) (count : ℕ) : 
   pub tallied : AreRead words tally.fired tally.over tally.sealed
   pub room_is : tally.room ≡ old.net.setting.graph.vertices - count
 
+-- what the root keeps for its end: the game that the net was opened for, and room for what was fed to each vertex, for
+-- the tally and for the chips
+pub record IsReady (g : Setting) (game : ChipGame) (more : List (ℕ × ℕ)) (room : ℕ) (tally : TallyState)
+    (chips : List ℕ) : Type 0 where
+  pub game_is : game ≡ game_of_setting g
+  pub none_yet : more ≡ []
+  pub room_each : g.graph.vertices ≤ room
+  pub blank : tally ≡ blank_tally g.graph.vertices
+  pub chips_each : length chips ≡ g.graph.vertices
+
 -- ---- the end
 
 -- the counts and the chips are those of every firing sequence that ends with no vertex legal
-abbrev pub IsOneEnd : Setting → Outcome → Type 0
+abbrev pub IsOneEnd : ChipGame → Outcome → Type 0
 IsOneEnd g o = (vs : List ℕ) → IsFiringSequence g.graph (slice_index g.start) vs
     → HasEnded g.graph (slice_index g.start) vs
     → ((v : ℕ) → slice_index o.fired.items v ≡ counts vs v)
@@ -98,19 +110,23 @@ IsOneEnd g o = (vs : List ℕ) → IsFiringSequence g.graph (slice_index g.start
 
 -- every fired word was read once, ascending, and these readings make the outcome
 pub record Finishes (old receipt : RootKnown) (o : Outcome) : Type 0 where
+  -- the game that was played has what was fed more than the net was opened with; where nothing was, it is the same
+  pub game : ChipGame
+  pub more : HasMore (game_of_setting old.net.setting) (fed_by old) game
+  pub unfed : old.net.setting.fed ≡ false → game ≡ game_of_setting old.net.setting
   pub words : List ℕ
   pub one_each : length words ≡ old.net.setting.graph.vertices
   pub record_is : receipt ≡ root_after old (reads_from 0 words)
   -- the counts and the halts are those that were read, and the chips are the position by the counts
   pub read : AreRead words o.fired.items o.over.items o.sealed.items
-  pub chips : IsAfter (game_of_setting old.net.setting) o.fired.items o.chips.items
+  pub chips : IsAfter game o.fired.items o.chips.items
   -- it is the outcome of some legal closed log in which the root did this, and one thread comes to it
   pub read_out : IsReadOut receipt words
   pub of_log : IsOutcomeOf old.net.setting read_out.log o
-  pub comes : ComesTo old.net.setting (slice_index old.net.setting.start) (firings read_out.log) o
+  pub comes : ComesTo old.net.setting (slice_index game.start) (firings read_out.log) o
   pub in_range : IsOutcome o
   -- where no seal halted a vertex it is every player's, and where none halted at all it is every end's
-  pub played : o.sealed.items ≡ [] → IsPlayed (game_of_setting old.net.setting) o
-  pub one_end : o.over.items ≡ [] → o.sealed.items ≡ [] → IsOneEnd old.net.setting o
+  pub played : o.sealed.items ≡ [] → IsPlayed game o
+  pub one_end : o.over.items ≡ [] → o.sealed.items ≡ [] → IsOneEnd game o
   -- where the root holds the stopper's part, which did nothing, no seal halted a vertex
   pub unsealed : old.stopper_did ≡ Some [] → o.sealed.items ≡ []

@@ -1,13 +1,26 @@
 -- What the clauses of a net's calls know of its root and its stopper.
-use Rattle.std.specs.Prelude.{◌≡◌, ℕ, zero, suc, ◌<◌, false, List, [], ◌∷◌, ◌++◌, map, Option, Some, is_none}
-use Rattle.chip_actor.specs.Setting.{Setting, IsSetting}
+use Rattle.std.specs.Prelude.{◌≡◌, ◌≢◌, ℕ, zero, suc, ◌+◌, ◌-◌, ◌<◌, ◌≤◌, Bool, true, false, List, [], ◌∷◌, ◌++◌, map}
+use Rattle.std.specs.Prelude.{sum, Option, Some, None, is_none, Result, Ok, Err}
+use Rattle.chip_graph.specs.Limits.{max_total}
+use Rattle.chip_graph.specs.More.{AreOfVertices, brought_to, all_brought}
+use Rattle.chip_link.specs.Link.{claims_of}
+use Rattle.chip_actor.specs.Setting.{Setting, IsSetting, game_of_setting}
 use Rattle.chip_actor.specs.Edges.{root, root_edge, graph_edges}
-use Rattle.chip_actor.specs.Part.{deficit}
-use Rattle.chip_actor.specs.Root.{Root, RootStandsFor}
-use Rattle.chip_core.specs.Core.{Step, Event, Settle, Seal, Part, opened}
-use Rattle.chip_core.specs.Histories.{part_by}
-use Rattle.chip_net.specs.Views.{View, Has, part_of_view}
+use Rattle.chip_actor.specs.Part.{deficit, all_fed}
+use Rattle.chip_actor.specs.declared.act.Act.{Act}
+use Rattle.chip_actor.specs.declared.rule.Rule.{Rule}
+use Rattle.chip_actor.specs.declared.rule.Rule.TheVariants as Not
+use Rattle.chip_actor.specs.Acting.{act_of}
+use Rattle.chip_actor.specs.Root.{Root, RootStandsFor, FitsRoot}
+use Rattle.chip_core.specs.Core.{Log, Step, Event, Clear, Put, Settle, Seal, Feed, End, Reply, Part, opened, unmet}
+use Rattle.chip_core.specs.Core.{reply_of, IsLegalLog}
+use Rattle.chip_core.specs.Histories.{done_by, part_by}
+use Rattle.chip_core.specs.Positions.{fed_in}
+use Rattle.chip_core.specs.Words.{noted}
+use Rattle.chip_net.specs.Views.{View, Has, did_in, part_of_view}
 use Rattle.chip_net.specs.Tokens.{NetId}
+use Rattle.chip_net.specs.declared.root.FeedFault.{FeedFault}
+use Rattle.chip_net.specs.declared.root.FeedFault.TheVariants.{Ended, Total, Full}
 use Rattle.chip_net.specs.declared.root.RootState.{RootState}
 use Rattle.chip_net.specs.declared.root.RootState.TheVariants.{Closed, Running}
 use Rattle.chip_net.specs.declared.stopper.SealedAt.{SealedAt}
@@ -26,6 +39,26 @@ root_part r = part_by r.net.setting (opened r.net.setting) r.did
 abbrev pub root_deficit : RootKnown → ℕ
 root_deficit r = deficit r.net.setting (root r.net.setting) (root_part r)
 
+-- it noted the end of feeding; where no chips are fed it is noted from the beginning
+abbrev pub has_ended : RootKnown → Bool
+has_ended r = (root_part r).ended
+
+-- it is closed: nothing more is fed, and no message is outstanding
+abbrev pub IsOver : RootKnown → Type 0
+IsOver r = (root_deficit r ≡ 0) × (has_ended r ≡ true)
+
+-- what it fed, one after another: pairs of a vertex and a count of chips
+abbrev pub fed_by : RootKnown → List (ℕ × ℕ)
+fed_by r = fed_in r.net.setting r.did
+
+-- all chips that were given, at the start and by feeds
+abbrev pub all_given : RootKnown → ℕ
+all_given r = sum r.net.setting.start + all_brought (fed_by r)
+
+-- how many messages were sent on the root edge of a vertex
+abbrev pub sent_to : RootKnown → ℕ → ℕ
+sent_to r vertex = claims_of ((root_part r).out (root_edge r.net.setting vertex)).link
+
 -- the root of a net that opens
 abbrev pub new_root : NetId → Option (List Step) → RootKnown
 new_root net stopper_did = record { net = net; did = []; stopper_did = stopper_did }
@@ -34,38 +67,147 @@ new_root net stopper_did = record { net = net; did = []; stopper_did = stopper_d
 abbrev pub root_after : RootKnown → List Step → RootKnown
 root_after r steps = record { net = r.net; did = r.did ++ steps; stopper_did = r.stopper_did }
 
+-- ---- the root's hand
+
 -- the view of the root of this game, with what the root keeps of it
 pub record IsRoot (g : Setting) (view : View) (state : Root) : Type 0 where
   pub setting : IsSetting g
-  -- no chips are fed
-  pub unfed : g.fed ≡ false
   pub has : Has (root g) view
   pub stands : RootStandsFor g (part_of_view g (root g) view) state
+  -- the root did this in some legal log
+  pub log : Log
+  pub legal : IsLegalLog g log
+  pub in_log : did_in (root g) view ≡ done_by g (root g) log
 
--- a settle of a root edge was made and saw this
-pub record Settles (old new : RootKnown) (vertex seen : ℕ) : Type 0 where
-  pub record_is : new ≡ root_after old (record { event = Settle (root_edge old.net.setting vertex); seen = seen } ∷ [])
+-- an event by which the root feeds, or ends feeding
+abbrev pub IsFeeding : Setting → Event → Type 0
+IsFeeding g (Clear e) = graph_edges g ≤ e
+IsFeeding g (Put e) = graph_edges g ≤ e
+IsFeeding g (Feed e k) = graph_edges g ≤ e
+IsFeeding g End = Unit {0}
+IsFeeding g _ = ⊥
 
--- the events of a poll: a settle of each of the first root edges, ascending
+-- such an event, whose rules are met
+abbrev pub IsDueForRoot : RootKnown → Event → Type 0
+IsDueForRoot r x = IsFeeding r.net.setting x × (unmet r.net.setting x (root_part r) ≡ None)
+
+-- the same by the root's view, with the operation that the event needs
+pub record IsDueInView (g : Setting) (view : View) (x : Event) (act : Act) : Type 0 where
+  pub setting : IsSetting g
+  pub has : Has (root g) view
+  pub feeding : IsFeeding g x
+  pub met : unmet g x (part_of_view g (root g) view) ≡ None
+  pub needed : act ≡ act_of g x (part_of_view g (root g) view)
+
+-- one event was made and saw this
+pub record MakesEvent (old new : RootKnown) (x : Event) (seen : ℕ) : Type 0 where
+  pub record_is : new ≡ root_after old (record { event = x; seen = seen } ∷ [])
+  pub fits : FitsRoot old.net.setting (root_part old) x seen
+  -- a store finds nothing
+  pub noted_is : seen ≡ noted x seen
+
+-- one event was made, and this is the reply to it
+pub record Replies (old new : RootKnown) (x : Event) (reply : Reply) : Type 0 where
+  pub seen : ℕ
+  pub made : MakesEvent old new x seen
+  pub reply_is : reply ≡ reply_of old.net.setting x seen (root_part old)
+
+-- nothing is claimed on a root edge that isn't put
+abbrev pub HoldsNothing : RootKnown → Type 0
+HoldsNothing r = (v : ℕ) → v < r.net.setting.graph.vertices
+    → ((root_part r).out (root_edge r.net.setting v)).link.held ≡ None
+
+-- ---- feeding
+
+-- a feed of so many chips: a look that sees the next cell empty, a claim that sees how many messages were sent before,
+-- and the put
+abbrev pub feed_steps : Setting → ℕ → ℕ → ℕ → List Step
+feed_steps g vertex count place =
+    record { event = Clear (root_edge g vertex); seen = 0 }
+    ∷ record { event = Feed (root_edge g vertex) count; seen = place }
+    ∷ record { event = Put (root_edge g vertex); seen = 0 }
+    ∷ []
+
+-- the root fed so many chips to a vertex, by a message with this place
+pub record Feeds (old new : RootKnown) (vertex count place : ℕ) : Type 0 where
+  pub not_ended : has_ended old ≡ false
+  pub within : all_given old + count ≤ max_total
+  pub place_is : place ≡ sent_to old vertex
+  pub record_is : new ≡ root_after old (feed_steps old.net.setting vertex count place)
+
+-- the cell of the root edge wasn't empty: the look at it was made, and nothing else
+pub record LooksInVain (old new : RootKnown) (vertex : ℕ) : Type 0 where
+  pub seen : ℕ
+  pub some : seen ≢ 0
+  pub record_is : new
+      ≡ root_after old (record { event = Clear (root_edge old.net.setting vertex); seen = seen } ∷ [])
+
+-- why so many chips were not fed to a vertex: nothing more may be fed; else there would be too many; else the ring of
+-- its root edge was full
+abbrev pub RefusesFeed : RootKnown → RootKnown → ℕ → ℕ → FeedFault → Type 0
+RefusesFeed old new vertex count Ended = (has_ended old ≡ true) × (new ≡ old)
+RefusesFeed old new vertex count Total =
+    (has_ended old ≡ false) × (max_total < all_given old + count) × (new ≡ old)
+RefusesFeed old new vertex count Full =
+    (has_ended old ≡ false) × (all_given old + count ≤ max_total) × LooksInVain old new vertex
+
+-- the fault that it is where this rule of a feed isn't met
+abbrev pub feed_fault : Rule → Option FeedFault
+feed_fault Not.Ended = Some Ended
+feed_fault Not.TooMuch = Some Total
+feed_fault _ = None
+
+-- whether so many chips may be fed, as far as the root knows
+abbrev pub AllowsFeed : RootKnown → ℕ → Result (Unit {0}) FeedFault → Type 0
+AllowsFeed r count (Ok done) = (has_ended r ≡ false) × (all_given r + count ≤ max_total)
+    × (all_fed r.net.setting (root_part r) ≡ all_given r)
+AllowsFeed r count (Err Ended) = has_ended r ≡ true
+AllowsFeed r count (Err Total) = (has_ended r ≡ false) × (max_total < all_given r + count)
+AllowsFeed r count (Err Full) = ⊥
+
+-- these pairs bring the same chips as the feeds of the root, which are not too many
+pub record BringsFed (r : RootKnown) (pairs : List (ℕ × ℕ)) : Type 0 where
+  pub of_vertices : AreOfVertices (game_of_setting r.net.setting) pairs
+  pub each : (v : ℕ) → v < r.net.setting.graph.vertices → brought_to pairs v ≡ brought_to (fed_by r) v
+  pub all : all_brought pairs ≡ all_brought (fed_by r)
+  pub within : all_given r ≤ max_total
+
+-- ---- settling
+
+-- settles of so many root edges, ascending from that of v
+abbrev pub settles_from : Setting → ℕ → ℕ → List Event
+settles_from g v zero = []
+settles_from g v (suc n) = settles_from g v n ++ Settle (root_edge g (v + n)) ∷ []
+
+-- the events of a poll: a settle of each of the first root edges
 abbrev pub root_settles : Setting → ℕ → List Event
-root_settles g zero = []
-root_settles g (suc v) = root_settles g v ++ Settle (root_edge g v) ∷ []
+root_settles g count = settles_from g 0 count
 
--- settles of the first root edges were made
-pub record IsPolling (old now : RootKnown) (count : ℕ) : Type 0 where
+-- the root made these events more
+pub record DoesMore (old now : RootKnown) (events : List Event) : Type 0 where
   pub steps : List Step
   pub record_is : now ≡ root_after old steps
-  pub events : map (λ x. x.event) steps ≡ root_settles old.net.setting count
+  pub events_are : map (λ x. x.event) steps ≡ events
 
--- what a poll answers, by the deficit after it
-abbrev pub AnswersPoll : ℕ → RootState → Type 0
-AnswersPoll deficit Closed = deficit ≡ 0
-AnswersPoll deficit (Running n) = (n ≡ deficit) × (0 < n)
+-- settles of the first root edges were made
+abbrev pub IsPolling : RootKnown → RootKnown → ℕ → Type 0
+IsPolling old now count = DoesMore old now (root_settles old.net.setting count)
+
+-- what a poll answers, by the root after it: without a deficit it runs only where more may be fed
+abbrev pub AnswersPoll : RootKnown → RootState → Type 0
+AnswersPoll r Closed = IsOver r
+AnswersPoll r (Running n) = (n ≡ root_deficit r) × (n ≡ 0 → has_ended r ≡ false)
 
 -- the root settled each root edge once more, and this is the answer
 pub record Polls (old new : RootKnown) (answer : RootState) : Type 0 where
   pub polling : IsPolling old new old.net.setting.graph.vertices
-  pub answers : AnswersPoll (root_deficit new) answer
+  pub answers : AnswersPoll new answer
+
+-- the same, where the first settle noted the end of feeding
+pub record Ends (old new : RootKnown) (answer : RootState) : Type 0 where
+  pub ending : DoesMore old new (End ∷ settles_from old.net.setting 1 (old.net.setting.graph.vertices - 1))
+  pub ended : has_ended new ≡ true
+  pub answers : AnswersPoll new answer
 
 -- ---- the stopper
 

@@ -1,7 +1,7 @@
 //! How a net is opened.
 
-ghost use Rattle.std.specs.Prelude.{◌≡◌, ℕ, ◌<◌, ◌≤◌, ◌+◌, [], length, IfOk, Some, None, All, slice_get, if◌then◌else◌};
-ghost use Rattle.chip_actor.specs.Setting.{setting_of};
+ghost use Rattle.std.specs.Prelude.{◌≡◌, ℕ, ◌<◌, ◌≤◌, ◌+◌, [], length, IfOk, Some, None, All, slice_get, if◌then◌else◌, true};
+ghost use Rattle.chip_actor.specs.Setting.{setting_of, setting_with};
 ghost use Rattle.chip_actor.specs.Edges.{graph_edges, all_edges, root, stopper};
 ghost use Rattle.chip_net.specs.Opening.{AreOpening};
 ghost use Rattle.chip_net.specs.Views.{find};
@@ -115,10 +115,33 @@ fn stopper_of(net: &Net, seat: &mut PartSeat, stoppable: bool) -> Option<Stopper
     Some(Stopper::new(Snapshot::of(net.setup()), own))
 }
 
+/// A net for this game, fed or not, with its tokens.
+fn opened(
+    alloc: Global,
+    setup: Setup,
+    trace_rows: u64,
+    stoppable: bool,
+) -> Result<(Net, Root, Vec<Actor>, Option<Stopper>), AllocError>
+    ensures setting { IfOk result (λ r. r.0.setting ≡ setup) }
+    ensures root { IfOk result (λ r. r.1 ≡ new_root r.0 (if stoppable then None else Some [])) }
+    ensures count { IfOk result (λ r. length r.2.items ≡ setup.graph.vertices) }
+    ensures actors { IfOk result (λ r. (v : ℕ) → v < setup.graph.vertices
+        → slice_get r.2.items v ≡ Some (newcomer r.0 trace_rows v)) }
+    ensures ours { IfOk result (λ r. All (λ a. a.net ≡ r.0) r.2.items) }
+    ensures stopper { IfOk result (λ r. r.3 ≡ (if stoppable then Some (new_stopper r.0) else None)) }
+{
+    let words = opening_words(alloc, &setup)?;
+    let (net, mut seat) = Net::of_words(alloc, setup, &words)?;
+    let actors = all_actors(alloc, &net, &mut seat, trace_rows)?;
+    let stopper = stopper_of(&net, &mut seat, stoppable);
+    let root = Root::new(alloc, net.setup(), seat)?;
+    Ok((net, root, actors, stopper))
+}
+
 impl Net {
     /// A net for this game, whose edges have such rings, with its tokens: the root, the actors of the vertices in
     /// ascending order, each with room for so many trace rows, and a stopper where the net is to be stoppable. All
-    /// memory of the net's life is taken here, and for want of it alone it is refused.
+    /// memory of the net's life is taken here, and for want of it alone it is refused. Nothing can be fed.
     pub fn open(
         alloc: Global,
         game: &Game,
@@ -134,13 +157,27 @@ impl Net {
         ensures ours { IfOk result (λ r. All (λ a. a.net ≡ r.0) r.2.items) }
         ensures stopper { IfOk result (λ r. r.3 ≡ (if stoppable then Some (new_stopper r.0) else None)) }
     {
-        let setup = Setup::new(alloc, game, ring)?;
-        let own = setup.copy(alloc)?;
-        let words = opening_words(alloc, &setup)?;
-        let (net, mut seat) = Net::of_words(alloc, setup, &words)?;
-        let actors = all_actors(alloc, &net, &mut seat, trace_rows)?;
-        let stopper = stopper_of(&net, &mut seat, stoppable);
-        let root = Root::new(alloc, own, seat)?;
-        Ok((net, root, actors, stopper))
+        let setup = Setup::new(alloc, game, ring, false)?;
+        opened(alloc, setup, trace_rows, stoppable)
+    }
+
+    /// The same where the root may feed more chips, until it notes the end of feeding: the net can't close before.
+    pub fn open_fed(
+        alloc: Global,
+        game: &Game,
+        ring: Ring,
+        trace_rows: u64,
+        stoppable: bool,
+    ) -> Result<(Net, Root, Vec<Actor>, Option<Stopper>), AllocError>
+        ensures setting { IfOk result (λ r. r.0.setting ≡ setting_with game.now ring true) }
+        ensures root { IfOk result (λ r. r.1 ≡ new_root r.0 (if stoppable then None else Some [])) }
+        ensures count { IfOk result (λ r. length r.2.items ≡ game.now.graph.vertices) }
+        ensures actors { IfOk result (λ r. (v : ℕ) → v < game.now.graph.vertices
+            → slice_get r.2.items v ≡ Some (newcomer r.0 trace_rows v)) }
+        ensures ours { IfOk result (λ r. All (λ a. a.net ≡ r.0) r.2.items) }
+        ensures stopper { IfOk result (λ r. r.3 ≡ (if stoppable then Some (new_stopper r.0) else None)) }
+    {
+        let setup = Setup::new(alloc, game, ring, true)?;
+        opened(alloc, setup, trace_rows, stoppable)
     }
 }

@@ -1,134 +1,152 @@
-ghost use Rattle.std.specs.Prelude.{◌≡◌, ◌≢◌, ℕ, ◌<◌, [], Some, IfOk, MatchResult};
+ghost use Rattle.std.specs.Prelude.{◌≡◌, ◌<◌, ◌≤◌, [], Some, IfOk, MatchResult};
 ghost use Rattle.chip_actor.specs.Edges.{root, stopper};
 ghost use Rattle.chip_net.specs.Views.{find};
-ghost use Rattle.chip_net.specs.Roots.{new_root, root_deficit, Settles, Polls};
+ghost use Rattle.chip_net.specs.Roots.{new_root, IsOver, Feeds, RefusesFeed, Polls, Ends};
 ghost use Rattle.chip_net.specs.Finish.{Finishes};
 
-use crate::calls;
 use crate::net::Net;
 use crate::receipt::Receipt;
+use crate::root_hand::RootHand;
 use crate::rule::PartSeat;
 use crate::setup::Setup;
 use crate::tally::Tally;
+
+use chip_actor::Reply;
 use chip_fire::{Outcome, after_into};
+use chip_graph::Game;
 use chip_link::Event;
 use std::alloc::{AllocError, Global};
-use std::marker::{Brand, Model};
+use std::marker::Model;
 
 /// What a poll came to.
 #[derive(Clone, Copy, Debug, PartialEq, Eq)]
 pub enum RootState {
-    /// Every message of the root is acknowledged: the game is over.
+    /// Nothing more is fed, and every message of the root is acknowledged: the game is over.
     Closed,
-    /// So many of them aren't, 1 or more.
+    /// So many of them aren't; 0 only where more chips may be fed.
     Running(u64),
+}
+
+/// Why nothing was fed.
+#[derive(Clone, Copy, Debug, PartialEq, Eq)]
+pub enum FeedFault {
+    /// The end of feeding is noted, or the net was opened to be played without feeding.
+    Ended,
+    /// With so many more, more chips than 2^40 would have been given.
+    Total,
+    /// As many messages to the vertex as its ring has cells are not taken yet.
+    Full,
 }
 
 /// The root of a net. Contracts see what it has done.
 #[derive(Drop)]
 pub struct Root {
-    seat: PartSeat,
-    setup: Setup,
-    state: chip_actor::RootState,
-    // What `finish` fills.
+    hand: RootHand,
+    // What `finish` makes the outcome of.
+    game: Game,
+    more: Vec<(u64, u64)>,
     tally: Tally,
     chips: Vec<u64>,
 }
 
 impl Model for Root {
-    ghost use Rattle.std.specs.Prelude.{◌≡◌, length};
-    ghost use Rattle.chip_actor.specs.Edges.{root, stopper};
-    ghost use Rattle.chip_net.specs.Views.{find, did_in};
-    ghost use Rattle.chip_net.specs.Finish.{blank_tally};
-    ghost use Rattle.chip_net.specs.Roots.{RootKnown, IsRoot};
+    ghost use Rattle.std.specs.Vec.{vec_capacity};
+    ghost use Rattle.chip_net.specs.Roots.{RootKnown, HoldsNothing};
+    ghost use Rattle.chip_net.specs.Finish.{IsReady};
 
     ghost Value = { RootKnown };
 
-    ghost view = { λ a. record {
-      net = record { table = a.seat.table_id; setting = a.setup };
-      did = did_in (root a.setup) a.seat.me.0;
-      stopper_did = find (stopper a.setup) a.seat.me.0.parts;
-    } };
+    ghost view = { λ a. a.hand };
 
-    ghost invariant = { λ a. IsRoot a.setup a.seat.me.0 a.state × (a.tally ≡ blank_tally a.setup.graph.vertices)
-        × (length a.chips.items ≡ a.setup.graph.vertices) };
+    ghost invariant = { λ a. HoldsNothing a.hand
+        × IsReady a.hand.net.setting a.game a.more.items (vec_capacity a.more) a.tally a.chips.items };
 }
 
 impl Root {
-    pub(crate) fn new(alloc: Global, setup: Setup, seat: PartSeat) -> Result<Root, AllocError>
-        requires { find (root setup) seat.me.0.parts ≡ Some [] }
-        ensures { IfOk result (λ r. r ≡ new_root (record { table = seat.table_id; setting = setup })
-            (find (stopper setup) seat.me.0.parts)) }
+    pub(crate) fn new(alloc: Global, setup: &Setup, seat: PartSeat) -> Result<Root, AllocError>
+        requires { find (root setup.now) seat.me.0.parts ≡ Some [] }
+        ensures { IfOk result (λ r. r ≡ new_root (record { table = seat.table_id; setting = setup.now })
+            (find (stopper setup.now) seat.me.0.parts)) }
     {
         let vertices = setup.vertices() as usize;
-        let state = chip_actor::RootState::new(alloc, setup.game())?;
-        let tally = Tally::new(alloc, vertices)?;
-        let chips = vec![in alloc; 0; vertices]?;
         Ok(Root {
-            seat,
-            setup,
-            state,
-            tally,
-            chips,
+            hand: RootHand::new(alloc, setup, seat)?,
+            game: setup.game().copy(alloc)?,
+            more: Vec::with_capacity(alloc, vertices)?,
+            tally: Tally::new(alloc, vertices)?,
+            chips: vec![in alloc; 0; vertices]?,
         })
     }
 
-    /// Settles the root edge of a vertex.
-    fn settle(&mut self, net: &Net, vertex: u64)
+    /// Feeds so many chips, 1 or more, to a vertex, and tells how many messages the root sent there before. Nothing
+    /// waits: where the ring to the vertex is full, it says so, and a later try may go through.
+    pub fn feed(&mut self, net: &Net, vertex: u64, count: u64) -> Result<u64, FeedFault>
         requires net { self.old.net ≡ net.now }
         requires vertex { vertex < self.old.net.setting.graph.vertices }
-        ensures { (seen : ℕ) × Settles self.old self.new vertex seen }
+        requires count { 1 ≤ count }
+        ensures cases { MatchResult result (Feeds self.old self.new vertex count)
+            (RefusesFeed self.old self.new vertex count) }
+        ensures same { self.new.net ≡ self.old.net }
     {
-        let edge = self.setup.root_edge(vertex);
-        let word = self.setup.acks_word(edge);
-        let event = Event::Settle(edge);
-        let seen = calls::load::<Brand>(net.words(), &mut self.seat, word, event);
-        self.state.apply(&event, seen);
+        let edge = net.setup().root_edge(vertex);
+        self.hand.may_feed(vertex, edge, count)?;
+        let Reply::Done(place) = self.hand.make(net, Event::Clear(edge)) else {
+            return Err(FeedFault::Full);
+        };
+        self.hand.make(net, Event::Feed { edge, count });
+        self.hand.make(net, Event::Put(edge));
+        Ok(place)
     }
 
-    /// Settles each root edge once, and tells whether every message of the root is then acknowledged.
+    /// Notes that nothing more is fed, and polls. Only then can the net close; where it was noted before, this is a
+    /// poll.
+    pub fn end(&mut self, net: &Net) -> RootState
+        requires net { self.old.net ≡ net.now }
+        ensures ends { Ends self.old self.new result }
+        ensures same { self.new.net ≡ self.old.net }
+    {
+        self.hand.make(net, Event::End);
+        self.hand.settle_from(net, 1);
+        self.hand.poll_state()
+    }
+
+    /// Settles each root edge once, and tells whether the game is over then.
     pub fn poll(&mut self, net: &Net) -> RootState
         requires net { self.old.net ≡ net.now }
         ensures polls { Polls self.old self.new result }
         ensures same { self.new.net ≡ self.old.net }
     {
-        for vertex in 0..self.vertices() {
-            self.settle(net, vertex);
-        }
-        let deficit = self.deficit();
-        if deficit == 0 {
-            RootState::Closed
-        } else {
-            RootState::Running(deficit)
-        }
+        self.hand.settle_from(net, 0);
+        self.hand.poll_state()
     }
 
-    /// Once every message of the root is acknowledged, reads how often each vertex fired and whether it halted, and
-    /// tells how the game ended: the chips are those by the counts, so that what a sealed edge holds back counts as
+    /// Once the game is over, reads how often each vertex fired and whether it halted, and tells how the game ended,
+    /// with all chips that were fed: the chips are those by the counts, so that what a sealed edge holds back counts as
     /// sent. Before, it hands the root back.
     pub fn finish(self, net: &Net) -> Result<(Outcome, Receipt), Root>
         requires net { self.net ≡ net.now }
-        ensures { MatchResult result (λ r. (root_deficit self ≡ 0) × Finishes self r.1 r.0)
-            (λ r. (r ≡ self) × (root_deficit self ≢ 0)) }
+        ensures { MatchResult result (λ r. IsOver self × Finishes self r.1 r.0)
+            (λ r. (r ≡ self) × (IsOver self → ⊥)) }
     {
-        if self.deficit() > 0 {
+        if !self.hand.closed() {
             return Err(self);
         }
         let Root {
-            seat,
-            setup,
-            state: _,
+            hand,
+            game,
+            more,
             tally,
             mut chips,
         } = self;
-        let mut receipt = Receipt::new(seat, setup);
+        let game = hand.with_fed(net, game, more);
+        let mut receipt = hand.receipt();
         let Tally {
             fired,
             over,
             sealed,
             ..
         } = receipt.read_all(net, tally);
-        match after_into(receipt.game(), &fired, &mut chips) {
+        match after_into(&game, &fired, &mut chips) {
             Ok(()) => {}
             Err(_) => unreachable!(),
         }
@@ -139,17 +157,5 @@ impl Root {
             sealed,
         };
         Ok((outcome, receipt))
-    }
-
-    fn vertices(&self) -> u64
-        ensures { result ≡ self.now.net.setting.graph.vertices }
-    {
-        self.setup.vertices()
-    }
-
-    fn deficit(&self) -> u64
-        ensures { result ≡ root_deficit self.now }
-    {
-        self.state.outstanding()
     }
 }

@@ -1,41 +1,47 @@
-ghost use Rattle.std.specs.Prelude.{◌≡◌, ◌+◌, ◌^◌, ◌<◌, ◌≤◌, false, IfOk};
+ghost use Rattle.std.specs.Prelude.{◌≡◌, ◌+◌, ◌^◌, ◌<◌, ◌≤◌, IfOk};
 
 use chip_graph::Game;
 use chip_link::Ring;
 use std::alloc::{AllocError, Global};
 use std::marker::Model;
 
-/// What a net is opened for, a game and the rings of its edges, and where each word lies. Contracts see it as a
-/// setting.
+/// What a net is opened for, a game, the rings of its edges and whether chips are fed, and where each word lies.
+/// Contracts see it as a setting.
 #[derive(Debug, Drop)]
 pub struct Setup {
     game: Game,
     ring: Ring,
+    fed: bool,
     // How many edges there are, the root's among them: each operation needs it.
     edges: u64,
 }
 
 impl Model for Setup {
     ghost use Rattle.std.specs.Prelude.{◌≡◌};
-    ghost use Rattle.chip_actor.specs.Setting.{Setting, setting_of, IsSetting};
+    ghost use Rattle.chip_actor.specs.Setting.{Setting, setting_with, IsSetting};
     ghost use Rattle.chip_actor.specs.Edges.{all_edges};
 
     ghost Value = { Setting };
 
-    ghost view = { λ a. setting_of a.game a.ring };
+    ghost view = { λ a. setting_with a.game a.ring a.fed };
 
-    ghost invariant = { λ a. IsSetting (setting_of a.game a.ring) × (a.edges ≡ all_edges (setting_of a.game a.ring)) };
+    ghost invariant = { λ a. let g = setting_with a.game a.ring a.fed in IsSetting g × (a.edges ≡ all_edges g) };
 }
 
 impl Setup {
-    ghost use Rattle.chip_actor.specs.Setting.{setting_of, game_of_setting, IsSetting};
+    ghost use Rattle.chip_actor.specs.Setting.{setting_with, game_of_setting, IsSetting};
     ghost use Rattle.chip_actor.specs.Edges.{all_edges, graph_edges, root_edge};
     ghost use Rattle.chip_core.specs.Words.{of_edge, of_acks, of_cell, of_vertex, IsWord};
     ghost use Rattle.chip_net.specs.Layout.{index_of, word_count};
 
-    /// For a copy of the game, with these rings.
-    pub(crate) fn new(alloc: Global, game: &Game, ring: Ring) -> Result<Setup, AllocError>
-        ensures { IfOk result (λ setup. setup ≡ setting_of game.now ring) }
+    /// For a copy of the game, with these rings, fed or not.
+    pub(crate) fn new(
+        alloc: Global,
+        game: &Game,
+        ring: Ring,
+        fed: bool,
+    ) -> Result<Setup, AllocError>
+        ensures { IfOk result (λ setup. setup ≡ setting_with game.now ring fed) }
     {
         let graph = game.graph();
         let _cells = ring.cells();
@@ -43,24 +49,14 @@ impl Setup {
         Ok(Setup {
             game: game.copy(alloc)?,
             ring,
+            fed,
             edges,
-        })
-    }
-
-    pub(crate) fn copy(&self, alloc: Global) -> Result<Setup, AllocError>
-        ensures { IfOk result (λ setup. setup ≡ self.now) }
-    {
-        Ok(Setup {
-            game: self.game.copy(alloc)?,
-            ring: self.ring,
-            edges: self.edges,
         })
     }
 
     pub(crate) fn game(&self) -> &Game
         ensures value { result.now ≡ game_of_setting self.now }
         ensures setting { IsSetting self.now }
-        ensures unfed { self.now.fed ≡ false }
     {
         &self.game
     }
@@ -70,6 +66,13 @@ impl Setup {
         ensures setting { IsSetting self.now }
     {
         self.ring
+    }
+
+    /// Whether chips are fed while the net runs.
+    pub(crate) fn fed(&self) -> bool
+        ensures { result ≡ self.now.fed }
+    {
+        self.fed
     }
 
     pub(crate) fn vertices(&self) -> u64

@@ -2,13 +2,15 @@ use Rattle.std.proofs.Common.{◌≡◌, ◌+◌, Option, sym, ◌∙◌, subst}
 use Rattle.std.specs.Prelude.{IfSome}
 use Rattle.chip_link.specs.declared.words.FiredWord.{FiredWord}
 use Rattle.chip_link.specs.Words.{fired_in, halted_in, by_limit_in}
+use Rattle.chip_actor.specs.Setting.{IsSetting}
+use Rattle.chip_net.specs.Tokens.{NetId}
 use Rattle.chip_net.specs.Finish.{TallyState, tally_after, IsReading}
-use Rattle.chip_net.proofs.Reading.{still_settled, reads_more}
+use Rattle.chip_net.proofs.Reading.{still_over, reads_more}
 use Rattle.chip_net.proofs.receipt.Receipt.read_all.Goals as goal
 
-pub read-requires-clause-closed : goal.read-requires-clause-closed
-read-requires-clause-closed c = still_settled c.args.self.now c.loop-vertex.self c.loop-vertex.tally
-    c.loop-vertex.vertex c.loop-vertex.invariant c.requires.closed
+pub read-requires-clause-over : goal.read-requires-clause-over
+read-requires-clause-over c = still_over c.args.self.now c.loop-vertex.self c.loop-vertex.tally
+    c.loop-vertex.vertex c.loop-vertex.invariant c.requires.over
 
 pub loop-vertex-preserved : goal.loop-vertex-preserved
 loop-vertex-preserved c =
@@ -26,4 +28,4 @@ loop-vertex-preserved c =
     subst (λ (u : TallyState). IsReading c.args.self.now c.read.new.self u (c.loop-vertex.vertex + 1))
     (sym (c.note.ensures ∙ (λ i. tally_after (fired i) (halted i) (by_limit i) t)))
     (reads_more c.args.self.now c.loop-vertex.self c.read.new.self t c.loop-vertex.vertex c.read.result
-    c.game.ensures.setting c.loop-vertex.invariant c.read.ensures.reads)
+    (subst (λ (n : NetId). IsSetting n.setting) (sym c.requires.net) c.setup.ensures.setting) c.loop-vertex.invariant c.read.ensures.reads)

@@ -2,17 +2,17 @@ use Rattle.std.proofs.Common.{◌≡◌, ◌<◌, ◌+◌, ap, ◌∙◌, subst,
 use Rattle.chip_actor.specs.Setting.{Setting}
 use Rattle.chip_net.specs.Views.{View, find}
 use Rattle.chip_net.proofs.Viewing.{part_there}
-use Rattle.chip_net.proofs.net.Net.open.Goals as goal
-use Rattle.chip_net.proofs.net.Net.open.Goals.{In_ok-net}
+use Rattle.chip_net.proofs.open.opened.Goals as goal
+use Rattle.chip_net.proofs.open.opened.Goals.{In_ok-net}
 
-vertices : (c : In_ok-net) → c.in_ok-net.net.setting.graph.vertices ≡ c.args.game.now.graph.vertices
-vertices c = ap (λ (g : Setting). g.graph.vertices) (c.in_ok-net.ensures.net ∙ c.in_ok-setup.ensures)
+vertices : (c : In_ok-net) → c.in_ok-net.net.setting.graph.vertices ≡ c.args.setup.graph.vertices
+vertices c = ap (λ (g : Setting). g.graph.vertices) c.in_ok-net.ensures.net
 
 pub all_actors-requires-clause-parts : goal.all_actors-requires-clause-parts
 all_actors-requires-clause-parts c = λ p l.
     let same = c.in_ok-net.ensures.net in
     ap (λ (v : View). find p v.parts) c.in_ok-net.ensures.seat.1
-    ∙ part_there (c.in_ok-setup.setup.graph.vertices + 2) p (subst (λ (g : Setting). p < g.graph.vertices + 2) same l)
+    ∙ part_there (c.args.setup.graph.vertices + 2) p (subst (λ (g : Setting). p < g.graph.vertices + 2) same l)
 
 pub returns-clause-actors : goal.returns-clause-actors
 returns-clause-actors c = λ v l.

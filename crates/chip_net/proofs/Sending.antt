@@ -1,0 +1,197 @@
+-- A feed of the root: each of its three events is due when it is made, and nothing is held after it.
+use Rattle.std.proofs.Common.{◌≡◌, ◌≢◌, ℕ, ◌+◌, ◌<◌, ◌≤◌, Bool, true, false, cond, eqb, List, [], ◌∷◌, ◌++◌, sum, Some, None}
+use Rattle.std.proofs.Common.{refl, sym, ap, ◌∙◌, subst, arith, inr, append_assoc, true≢false}
+use mathlib.Core.Logic.{dite}
+use native.Mathlib.Decide.{ℕ_discrete}
+use Rattle.chip_graph.specs.Limits.{max_total}
+use Rattle.chip_graph.specs.Sums.{sum_below}
+use Rattle.chip_graph.proofs.SumLemmas.{cond_yes, cond_no, by_test, sum_below_ext}
+use Rattle.chip_link.specs.Link.{Tail, claims_of, sent_counts, after_clear, after_claim, after_put}
+use Rattle.chip_actor.specs.Setting.{Setting}
+use Rattle.chip_actor.specs.Edges.{root_edge, graph_edges, all_edges}
+use Rattle.chip_actor.specs.Part.{all_fed}
+use Rattle.chip_actor.specs.Steps.{link_after}
+use Rattle.chip_actor.specs.declared.reply.Reply.TheVariants.{Done, Full}
+use Rattle.chip_actor.proofs.EdgeLemmas.{sendable_fed}
+use Rattle.chip_actor.proofs.RuleLemmas.{met_rules}
+use Rattle.chip_core.specs.Core.{Step, Event, Clear, Put, Feed, Part, Out, Reply, opened, does, unmet}
+use Rattle.chip_core.specs.Histories.{part_by}
+use Rattle.chip_net.specs.Roots.{RootKnown, root_part, root_after, has_ended, all_given, sent_to, IsDueForRoot}
+use Rattle.chip_net.specs.Roots.{MakesEvent, Replies, HoldsNothing, feed_steps, Feeds, LooksInVain}
+use Rattle.chip_net.proofs.Viewing.{part_append, unfed_ended}
+use Rattle.chip_net.proofs.Rooting.{root_step, holds_by, held_clear}
+
+-- a look leaves what was sent
+sent_clear : (e i : ℕ) (o : Out) → sent_counts (link_after (Clear e) 0 i o) ≡ sent_counts o.link
+sent_clear e i o = by_bool (eqb e i)
+  where
+    by_bool : (b : Bool) → sent_counts (cond b (after_clear 0 o.link) o.link) ≡ sent_counts o.link
+    by_bool true = refl
+    by_bool false = refl
+
+claims_clear : (e i : ℕ) (o : Out) → claims_of (link_after (Clear e) 0 i o) ≡ claims_of o.link
+claims_clear e i o = by_bool (eqb e i)
+  where
+    by_bool : (b : Bool) → claims_of (cond b (after_clear 0 o.link) o.link) ≡ claims_of o.link
+    by_bool true = refl
+    by_bool false = refl
+
+-- what a look replies
+found_empty : (b : Bool) (claims place : ℕ) → Done place ≡ cond b (Done claims) Full → (b ≡ true) × (place ≡ claims)
+found_empty true claims place is = (refl, cc)
+found_empty false claims place is = absurd (cc)
+
+pub look_done : (seen claims place : ℕ) → Done place ≡ cond (eqb seen 0) (Done claims) Full → (seen ≡ 0) × (place ≡ claims)
+look_done seen claims place is = let both = found_empty (eqb seen 0) claims place is in
+    (Rattle.std.proofs.Common.eqb-true seen 0 both.0, both.1)
+
+pub look_full : (seen claims : ℕ) (reply : Reply) → reply ≡ cond (eqb seen 0) (Done claims) Full
+    → ((n : ℕ) → reply ≡ Done n → ⊥) → seen ≢ 0
+look_full seen claims reply is other = λ zero. other claims (is ∙ cond_yes seen 0 (Done claims) Full zero)
+
+-- steps after steps
+steps_more : (r : RootKnown) (xs ys : List Step) → root_after (root_after r xs) ys ≡ root_after r (xs ++ ys)
+steps_more r xs ys = ap (λ (d : List Step). record { net = r.net; did = d; stopper_did = r.stopper_did })
+    (append_assoc r.did xs ys)
+
+module _ (r : RootKnown) (vertex e count : ℕ) (inside : vertex < r.net.setting.graph.vertices)
+    (edge_is : e ≡ root_edge r.net.setting vertex) (not_ended : has_ended r ≡ false) (free : HoldsNothing r) where
+  abbrev g : Setting
+  g = r.net.setting
+
+  abbrev s : Part
+  s = root_part r
+
+  is_fed : g.fed ≡ true
+  is_fed = by_test g.fed (λ on. on) (λ off. absurd (true≢false (sym (unfed_ended g off r.did) ∙ not_ended)))
+
+  past : graph_edges g ≤ e
+  past = omega arith
+
+  below : e < all_edges g
+  below = omega arith
+
+  pub look_due : IsDueForRoot r (Clear e)
+  look_due = (
+    past,
+    met_rules g (Clear e) s (inr (
+      past,
+      below,
+      is_fed,
+      not_ended,
+      ap (λ (i : ℕ). (s.out i).link.held) edge_is ∙ free vertex inside,
+    )),
+  )
+
+  abbrev look : Step
+  look = record { event = Clear e; seen = 0 }
+
+  abbrev s1 : Part
+  s1 = does g look s
+
+  module _ (some : 1 ≤ count) (few : all_given r + count ≤ max_total) (given : all_fed g s ≡ all_given r) where
+    same_fed : all_fed g s1 ≡ all_fed g s
+    same_fed = sum_below_ext g.graph.vertices (λ v. sum (sent_counts (s1.out (root_edge g v)).link))
+        (λ v. sum (sent_counts (s.out (root_edge g v)).link))
+        (λ v l. ap sum (sent_clear e (root_edge g v) (s.out (root_edge g v))))
+
+    feed_met : unmet g (Feed e count) s1 ≡ None
+    feed_met = met_rules g (Feed e count) s1 (
+      past,
+      below,
+      not_ended,
+      omega arith,
+      (let a = same_fed in omega arith),
+      ap (λ (t : Tail). t.clear) (cond_yes e e (after_clear 0 (s.out e).link) (s.out e).link refl),
+    )
+
+    feed_due : IsDueForRoot (root_after r (look ∷ [])) (Feed e count)
+    feed_due = (past, subst (λ (t : Part). unmet g (Feed e count) t ≡ None) (sym (root_step r look)) feed_met)
+
+    module _ (r1 : RootKnown) (seen1 : ℕ) (made1 : MakesEvent r r1 (Clear e) seen1) (zero : seen1 ≡ 0) where
+      first : r1 ≡ root_after r (look ∷ [])
+      first = made1.record_is ∙ ap (λ (n : ℕ). root_after r (record { event = Clear e; seen = n } ∷ [])) zero
+
+      pub due2 : IsDueForRoot r1 (Feed e count)
+      due2 = subst (λ (k : RootKnown). IsDueForRoot k (Feed e count)) (sym first) feed_due
+
+      module _ (r2 : RootKnown) (seen2 : ℕ) (made2 : MakesEvent r1 r2 (Feed e count) seen2) where
+        abbrev feed : Step
+        feed = record { event = Feed e count; seen = seen2 }
+
+        -- it saw how many were sent before
+        place2 : seen2 ≡ claims_of (s.out e).link
+        place2 = made2.fits ∙ ap (λ (k : RootKnown). claims_of ((root_part k).out e).link) first
+            ∙ ap (λ (t : Part). claims_of (t.out e).link) (root_step r look) ∙ claims_clear e e (s.out e)
+
+        second : r2 ≡ root_after r (look ∷ feed ∷ [])
+        second = made2.record_is ∙ ap (λ (k : RootKnown). root_after k (feed ∷ [])) first
+            ∙ steps_more r (look ∷ []) (feed ∷ [])
+
+        abbrev s2 : Part
+        s2 = does g feed s1
+
+        part2 : root_part (root_after r (look ∷ feed ∷ [])) ≡ s2
+        part2 = part_append g (opened g) r.did (look ∷ feed ∷ [])
+
+        claimed : (s2.out e).link.held ≡ Some count
+        claimed = ap (λ (t : Tail). t.held)
+            (cond_yes e e (after_claim count seen2 (s1.out e).link) (s1.out e).link refl
+            ∙ cond_yes seen2 (claims_of (s1.out e).link) _ _ (place2 ∙ sym (claims_clear e e (s.out e))))
+
+        pub due3 : IsDueForRoot r2 (Put e)
+        due3 = subst (λ (k : RootKnown). IsDueForRoot k (Put e)) (sym second) (
+          past,
+          subst (λ (t : Part). unmet g (Put e) t ≡ None) (sym part2)
+              (met_rules g (Put e) s2 ((let a = sendable_fed g is_fed in omega arith), (count, claimed))),
+        )
+
+        module _ (r3 : RootKnown) (seen3 : ℕ) (made3 : MakesEvent r2 r3 (Put e) seen3) where
+          abbrev put : Step
+          put = record { event = Put e; seen = 0 }
+
+          third : r3 ≡ root_after r (look ∷ feed ∷ put ∷ [])
+          third = made3.record_is
+              ∙ ap (λ (n : ℕ). root_after r2 (record { event = Put e; seen = n } ∷ [])) made3.noted_is
+              ∙ ap (λ (k : RootKnown). root_after k (put ∷ [])) second
+              ∙ steps_more r (look ∷ feed ∷ []) (put ∷ [])
+
+          abbrev s3 : Part
+          s3 = does g put s2
+
+          holds3 : (v : ℕ) → v < g.graph.vertices → (s3.out (root_edge g v)).link.held ≡ None
+          holds3 v l =
+              let i : ℕ = root_edge g v in
+              dite (ℕ_discrete e i)
+              (λ same. ap (λ (t : Tail). t.held) (cond_yes e i (after_put (s2.out i).link) (s2.out i).link same))
+              (λ other. ap (λ (t : Tail). t.held)
+              (cond_no e i (after_put (s2.out i).link) (s2.out i).link other
+              ∙ cond_no e i (after_claim count seen2 (s1.out i).link) (s1.out i).link other
+              ∙ cond_no e i (after_clear 0 (s.out i).link) (s.out i).link other) ∙ free v l)
+
+          pub free3 : HoldsNothing r3
+          free3 = subst HoldsNothing (sym third) (λ v l. ap (λ (t : Part). (t.out (root_edge g v)).link.held)
+              (part_append g (opened g) r.did (look ∷ feed ∷ put ∷ [])) ∙ holds3 v l)
+
+          pub feeds : (place : ℕ) → place ≡ claims_of (s.out e).link → Feeds r r3 vertex count place
+          feeds place place_is = record {
+            not_ended = not_ended;
+            within = few;
+            place_is = place_is ∙ ap (λ (i : ℕ). claims_of (s.out i).link) edge_is;
+            record_is = third
+                ∙ (λ j. root_after r (record { event = Clear (edge_is j); seen = 0 }
+                ∷ record { event = Feed (edge_is j) count; seen = (place2 ∙ sym place_is) j }
+                ∷ record { event = Put (edge_is j); seen = 0 } ∷ []));
+          }
+
+  module _ (r1 : RootKnown) (seen1 : ℕ) (made1 : MakesEvent r r1 (Clear e) seen1) where
+    pub free1 : HoldsNothing r1
+    free1 = holds_by r r1 (Clear e) seen1 (held_clear e seen1) made1 free
+
+    pub in_vain : seen1 ≢ 0 → LooksInVain r r1 vertex
+    in_vain some = record {
+      seen = seen1;
+      some = some;
+      record_is = made1.record_is
+          ∙ ap (λ (i : ℕ). root_after r (record { event = Clear i; seen = seen1 } ∷ [])) edge_is;
+    }

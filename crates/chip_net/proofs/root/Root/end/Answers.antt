@@ -1,0 +1,33 @@
+use Rattle.std.proofs.Common.{◌≡◌, ◌-◌, sym, ap, ◌∙◌, subst, arith}
+use Rattle.std.specs.Vec.{vec_capacity}
+use Rattle.chip_core.specs.Core.{End}
+use Rattle.chip_net.specs.Tokens.{NetId}
+use Rattle.chip_net.specs.Roots.{RootKnown, DoesMore, settles_from, Ends}
+use Rattle.chip_net.specs.Finish.{IsReady}
+use Rattle.chip_net.proofs.Rooting.{does_after, does_net, holds_by, held_end, stays_over, over_by_end}
+use Rattle.chip_net.proofs.root.Root.end.Goals as goal
+
+pub invariant_of-self : goal.invariant_of-self
+invariant_of-self c =
+    let net : c.settle_from.new.self.net ≡ c.self.inside.hand.net =
+    ap (λ (r : RootKnown). r.net) c.settle_from.ensures.settles.record_is
+    ∙ ap (λ (r : RootKnown). r.net) c.make.ensures.made.record_is in (
+      c.settle_from.ensures.holds (holds_by c.self.inside.hand c.make.new.self End c.make.ensures.seen
+          (held_end c.make.ensures.seen) c.make.ensures.made c.self.invariant.0),
+      subst (λ (n : NetId). IsReady n.setting c.self.inside.game c.self.inside.more.items
+          (vec_capacity c.self.inside.more) c.self.inside.tally c.self.inside.chips.items) (sym net) c.self.invariant.1,
+    )
+
+pub returns-clause-ends : goal.returns-clause-ends
+returns-clause-ends c =
+    let hand = c.self.inside.hand in
+    let made = c.make.ensures.made in
+    let net = ap (λ (r : RootKnown). r.net) made.record_is in
+    let rest = subst (λ (n : NetId). DoesMore c.make.new.self c.settle_from.new.self
+    (settles_from n.setting 1 (n.setting.graph.vertices - 1))) net c.settle_from.ensures.settles in
+    subst (λ (r : RootKnown). Ends r c.settle_from.new.self c.poll_state.result) c.self.view_is record {
+      ending = does_after hand c.make.new.self c.settle_from.new.self End c.make.ensures.seen _ made rest;
+      ended = stays_over c.make.new.self c.settle_from.new.self _ c.settle_from.ensures.settles
+          (over_by_end hand c.make.new.self c.make.ensures.seen made);
+      answers = c.poll_state.ensures;
+    }

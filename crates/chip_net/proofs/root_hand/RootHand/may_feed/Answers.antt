@@ -1,0 +1,38 @@
+use Rattle.std.proofs.Common.{◌≡◌, ◌<◌, refl, sym, ap, ◌∙◌, subst, arith}
+use Rattle.std.specs.Prelude.{Result}
+use Rattle.chip_actor.specs.declared.act.Act.{Act}
+use Rattle.chip_actor.specs.declared.rule.Rule.{Rule}
+use Rattle.chip_actor.specs.Edges.{root_edge}
+use Rattle.chip_net.specs.Roots.{RootKnown, root_part, AllowsFeed}
+use Rattle.chip_net.specs.contracts.root_hand.RootHand.{the_view}
+use Rattle.chip_net.proofs.Feeding.{feed_answer, answer_some, answer_none, allows_feed, given_is_fed}
+use Rattle.chip_net.proofs.root_hand.RootHand.may_feed.Goals as goal
+use Rattle.chip_net.proofs.root_hand.RootHand.may_feed.Goals.{After-may}
+
+allowed : (c : After-may) → AllowsFeed c.args.self.now c.args.count (feed_answer c.may.result)
+allowed c =
+    let own = c.self.inside.setup.value in
+    let edge : c.args.edge ≡ root_edge own c.args.vertex = c.requires.edge
+    ∙ ap (λ (r : RootKnown). root_edge r.net.setting c.args.vertex) (sym c.self.view_is) in
+    let below = subst (λ (r : RootKnown). c.args.vertex < r.net.setting.graph.vertices) (sym c.self.view_is)
+    c.requires.vertex in
+    let some = c.requires.count in
+    subst (λ (r : RootKnown). AllowsFeed r c.args.count (feed_answer c.may.result)) c.self.view_is
+    (subst (λ (a : Result Act Rule). AllowsFeed (the_view c.self.inside) c.args.count (feed_answer a))
+    (sym (c.may.ensures own (root_part (the_view c.self.inside)) c.self.invariant.stands refl))
+    (allows_feed (the_view c.self.inside) c.args.count (given_is_fed c.self.inside c.self.invariant) c.args.edge
+    (omega arith) (omega arith) (omega arith) _))
+
+pub returns-in_default : goal.returns-in_default
+returns-in_default c = subst (λ (a : Result Act Rule). AllowsFeed c.args.self.now c.args.count (feed_answer a))
+    c.in_default.is (allowed (goal.at.returns-in_default c).After-may)
+
+pub returns-in-Some : goal.returns-in-Some
+returns-in-Some c = subst (AllowsFeed c.args.self.now c.args.count)
+    (ap feed_answer c.in-Err.is ∙ answer_some c.in-Err.rule c.in-Some.fault (sym c.fault_of.ensures ∙ c.in-Some.is))
+    (allowed (goal.at.returns-in-Some c).After-may)
+
+pub returns-in-None : goal.returns-in-None
+returns-in-None c = subst (AllowsFeed c.args.self.now c.args.count)
+    (ap feed_answer c.in-Err.is ∙ answer_none c.in-Err.rule (sym c.fault_of.ensures ∙ c.in-None.is))
+    (allowed (goal.at.returns-in-None c).After-may)

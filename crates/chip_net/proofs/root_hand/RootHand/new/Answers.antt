@@ -1,0 +1,22 @@
+use Rattle.std.proofs.Common.{ap, sym, ◌∙◌, subst, Some, List, []}
+use Rattle.chip_actor.specs.Setting.{Setting}
+use Rattle.chip_actor.specs.Root.{RootStandsFor}
+use Rattle.chip_core.specs.Core.{Step, opened}
+use Rattle.chip_core.specs.Histories.{part_by}
+use Rattle.chip_net.specs.Views.{steps_or_none}
+use Rattle.chip_net.specs.Roots.{IsRoot}
+use Rattle.chip_net.proofs.root_hand.RootHand.new.Goals as goal
+
+pub invariant_of-result : goal.invariant_of-result
+invariant_of-result c =
+    let none = ap steps_or_none c.requires in
+    let g : Setting = c.args.setup.now in
+    subst (λ (h : Setting). IsRoot h c.args.seat.me.0 c.in_ok-opening_state.field-0) (sym c.of.ensures) record {
+      setting = c.opening_state.ensures.setting;
+      has = c.requires ∙ ap Some (sym none);
+      stands = subst (λ (did : List Step). RootStandsFor g (part_by g (opened g) did) c.in_ok-opening_state.field-0)
+          (sym none) c.in_ok-opening_state.ensures.state;
+      log = [];
+      legal = tt;
+      in_log = none;
+    }

@@ -1,0 +1,21 @@
+use Rattle.std.proofs.Common.{◌≡◌, ◌<◌, sym, ap, ◌∙◌, subst, arith}
+use Rattle.chip_actor.specs.Setting.{Setting}
+use Rattle.chip_actor.specs.Edges.{root_edge}
+use Rattle.chip_net.specs.Tokens.{NetId}
+use Rattle.chip_net.specs.Roots.{settles_from}
+use Rattle.chip_net.proofs.Rooting.{does_net, settles_more, holds_by, held_settle}
+use Rattle.chip_net.proofs.root_hand.RootHand.settle_from.Goals as goal
+
+pub loop-vertex-preserved : goal.loop-vertex-preserved
+loop-vertex-preserved c =
+    let i = c.loop-vertex.invariant in record {
+      from = (let l = i.from in omega arith);
+      within = (let l = c.loop-vertex-test.true in
+          let n = c.vertices-vertex-end.ensures.value
+          ∙ ap (λ (g : Setting). g.graph.vertices) (c.setup.ensures.value ∙ sym (ap (λ (n : NetId). n.setting) c.requires.net))
+          in omega arith);
+      settles = settles_more c.args.self.now c.loop-vertex.self c.settle.new.self c.args.first c.loop-vertex.vertex
+          c.settle.ensures.0 i.from i.settles c.settle.ensures.1;
+      holds = λ none. holds_by c.loop-vertex.self c.settle.new.self _ c.settle.ensures.0 (held_settle (root_edge c.loop-vertex.self.net.setting c.loop-vertex.vertex) c.settle.ensures.0)
+          c.settle.ensures.1 (i.holds none);
+    }

@@ -1,0 +1,11 @@
+use Rattle.std.proofs.Common.{◌-◌, ◌≤◌}
+use Rattle.chip_net.specs.Roots.{DoesMore, settles_from, HoldsNothing}
+use Rattle.chip_net.proofs.root_hand.RootHand.settle_from.Given as goal
+
+abbrev pub invariant-loop-vertex : goal.invariant-loop-vertex
+invariant-loop-vertex l = record {
+  from : l.first ≤ l.vertex;
+  within : l.vertex ≤ l.fn.self.net.setting.graph.vertices;
+  settles : DoesMore l.fn.self l.self (settles_from l.fn.self.net.setting l.first (l.vertex - l.first));
+  holds : HoldsNothing l.fn.self → HoldsNothing l.self;
+}

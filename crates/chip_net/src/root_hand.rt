@@ -1,0 +1,249 @@
+//! What the root acts with: its seat at the shared words, and what it keeps of its edges.
+
+ghost use Rattle.std.specs.Prelude.{◌≡◌, ℕ, ◌-◌, ◌<◌, ◌≤◌, ◌==◌, ◌&&◌, [], Some, IfOk, MatchResult, true};
+ghost use Rattle.std.specs.Vec.{vec_capacity};
+ghost use Rattle.chip_graph.specs.More.{HasMore};
+ghost use Rattle.chip_actor.specs.Setting.{IsSetting, game_of_setting};
+ghost use Rattle.chip_actor.specs.Edges.{root, stopper, root_edge};
+ghost use Rattle.chip_actor.specs.Root.{RootStandsFor};
+ghost use Rattle.chip_actor.specs.Part.{opened};
+ghost use Rattle.chip_core.specs.Core.{End, Settle, part_of, unmet};
+ghost use Rattle.chip_core.specs.Words.{noted};
+ghost use Rattle.chip_net.specs.Rule.{Grows};
+ghost use Rattle.chip_net.specs.Views.{find};
+ghost use Rattle.chip_net.specs.Roots.{new_root, root_deficit, has_ended, fed_by, IsOver};
+ghost use Rattle.chip_net.specs.Roots.{IsDueForRoot, IsDueInView, MakesEvent, Replies, DoesMore, settles_from};
+ghost use Rattle.chip_net.specs.Roots.{HoldsNothing, AnswersPoll, AllowsFeed, BringsFed, feed_fault};
+
+use crate::calls;
+use crate::net::Net;
+use crate::receipt::Receipt;
+use crate::root::{FeedFault, RootState as PollState};
+use crate::rule::PartSeat;
+use crate::setup::Setup;
+use chip_actor::{Act, Reply, RootState, Rule};
+use chip_graph::Game;
+use chip_link::Event;
+use std::alloc::{AllocError, Global};
+use std::marker::{Brand, Model};
+use std::snapshot::Snapshot;
+
+/// The seat of the root, and its state.
+#[derive(Drop)]
+pub(crate) struct RootHand {
+    seat: PartSeat,
+    setup: Snapshot<Setup>,
+    state: RootState,
+}
+
+impl Model for RootHand {
+    ghost use Rattle.chip_actor.specs.Edges.{root, stopper};
+    ghost use Rattle.chip_net.specs.Views.{find, did_in};
+    ghost use Rattle.chip_net.specs.Roots.{RootKnown, IsRoot};
+
+    ghost Value = { RootKnown };
+
+    ghost view = { λ a. record {
+      net = record { table = a.seat.table_id; setting = a.setup.value };
+      did = did_in (root a.setup.value) a.seat.me.0;
+      stopper_did = find (stopper a.setup.value) a.seat.me.0.parts;
+    } };
+
+    ghost invariant = { λ a. IsRoot a.setup.value a.seat.me.0 a.state };
+}
+
+impl RootHand {
+    /// For a root that has done nothing.
+    pub(crate) fn new(alloc: Global, setup: &Setup, seat: PartSeat) -> Result<RootHand, AllocError>
+        requires { find (root setup.now) seat.me.0.parts ≡ Some [] }
+        ensures { IfOk result (λ r. r ≡ new_root (record { table = seat.table_id; setting = setup.now })
+            (find (stopper setup.now) seat.me.0.parts)) }
+    {
+        Ok(RootHand {
+            seat,
+            setup: Snapshot::of(setup),
+            state: opening_state(alloc, setup)?,
+        })
+    }
+
+    /// Settles the root edge of a vertex.
+    pub(crate) fn settle(&mut self, net: &Net, vertex: u64)
+        requires net { self.old.net ≡ net.now }
+        requires vertex { vertex < self.old.net.setting.graph.vertices }
+        ensures { (seen : ℕ) × MakesEvent self.old self.new (Settle (root_edge self.old.net.setting vertex)) seen }
+    {
+        let seat = &mut self.seat;
+        let setup = net.setup();
+        let edge = setup.root_edge(vertex);
+        let word = setup.acks_word(edge);
+        let event = Event::Settle(edge);
+        let seen = calls::load::<Brand>(net.words(), seat, word, event);
+        self.state.apply(&event, seen);
+    }
+
+    /// Settles the root edges from the first or the second one on.
+    pub(crate) fn settle_from(&mut self, net: &Net, first: u64)
+        requires net { self.old.net ≡ net.now }
+        requires first { first ≤ 1 }
+        ensures settles { DoesMore self.old self.new
+            (settles_from self.old.net.setting first (self.old.net.setting.graph.vertices - first)) }
+        ensures holds { HoldsNothing self.old → HoldsNothing self.new }
+    {
+        for vertex in first..net.setup().vertices() {
+            self.settle(net, vertex);
+        }
+    }
+
+    /// Makes an event by which the root feeds, or ends feeding.
+    pub(crate) fn make(&mut self, net: &Net, event: Event) -> Reply
+        requires net { self.old.net ≡ net.now }
+        requires due { IsDueForRoot self.old event }
+        ensures { Replies self.old self.new event result }
+    {
+        let Ok(act) = self.state.may(&event) else {
+            unreachable!()
+        };
+        let seen = operate(net, &mut self.seat, &act, event);
+        self.state.apply(&event, seen)
+    }
+
+    /// Whether so many chips may be fed over a root edge, as far as the root knows.
+    pub(crate) fn may_feed(&self, vertex: u64, edge: u64, count: u64) -> Result<(), FeedFault>
+        requires vertex { vertex < self.now.net.setting.graph.vertices }
+        requires edge { edge ≡ root_edge self.now.net.setting vertex }
+        requires count { 1 ≤ count }
+        ensures { AllowsFeed self.now count result }
+    {
+        let Err(rule) = self.state.may(&Event::Feed { edge, count }) else {
+            return Ok(());
+        };
+        match fault_of(rule) {
+            Some(fault) => Err(fault),
+            None => Ok(()),
+        }
+    }
+
+    /// Whether nothing more is fed, and no message is outstanding.
+    pub(crate) fn closed(&self) -> bool
+        ensures { result ≡ (root_deficit self.now == 0 && has_ended self.now) }
+    {
+        self.state.closed()
+    }
+
+    /// Whether that is so, and else how many messages are outstanding.
+    pub(crate) fn poll_state(&self) -> PollState
+        ensures { AnswersPoll self.now result }
+    {
+        if self.closed() {
+            PollState::Closed
+        } else {
+            PollState::Running(self.state.outstanding())
+        }
+    }
+
+    /// The game of the net with all that was fed. The list without an entry has room for one of each vertex.
+    pub(crate) fn with_fed(&self, net: &Net, game: Game, more: Vec<(u64, u64)>) -> Game
+        requires net { self.now.net ≡ net.now }
+        requires game { game ≡ game_of_setting self.now.net.setting }
+        requires none { more.items ≡ [] }
+        requires room { self.now.net.setting.graph.vertices ≤ vec_capacity more }
+        ensures { HasMore (game_of_setting self.now.net.setting) (fed_by self.now) result }
+    {
+        let more = self.fed_pairs(net, &game, more);
+        match game.with_more(&more) {
+            Ok(game) => game,
+            Err(_) => unreachable!(),
+        }
+    }
+
+    /// What each vertex was fed, written into the list.
+    fn fed_pairs(&self, net: &Net, game: &Game, mut more: Vec<(u64, u64)>) -> Vec<(u64, u64)>
+        requires net { self.now.net ≡ net.now }
+        requires game { game.now ≡ game_of_setting self.now.net.setting }
+        requires none { more.items ≡ [] }
+        requires room { self.now.net.setting.graph.vertices ≤ vec_capacity more }
+        ensures { BringsFed self.now result.items }
+    {
+        let state = &self.state;
+        if !net.setup().fed() {
+            return more;
+        }
+        let start = game.start();
+        for (vertex, &given) in state.given().iter().enumerate() {
+            more.push_reserved((vertex as u64, given - start[vertex]));
+        }
+        more
+    }
+
+    /// The root that reads, once it is closed.
+    pub(crate) fn receipt(self) -> Receipt
+        ensures value { result ≡ self }
+        ensures setting { IsSetting self.net.setting }
+    {
+        let RootHand {
+            seat,
+            setup,
+            state: _,
+        } = self;
+        Receipt::new(seat, setup)
+    }
+}
+
+/// The root's state at the opening.
+fn opening_state(alloc: Global, setup: &Setup) -> Result<RootState, AllocError>
+    ensures state { IfOk result (RootStandsFor setup.now (opened setup.now)) }
+    ensures setting { IsSetting setup.now }
+{
+    let game = setup.game();
+    if setup.fed() {
+        return RootState::new_fed(alloc, game, setup.ring());
+    }
+    let state = RootState::new(alloc, game)?;
+    Ok(state)
+}
+
+/// The fault that it is where this rule of a feed isn't met; none of a rule that a look at the cell may mend.
+fn fault_of(rule: Rule) -> Option<FeedFault>
+    ensures { result ≡ feed_fault rule }
+{
+    match rule {
+        Rule::Ended => Some(FeedFault::Ended),
+        Rule::TooMuch => Some(FeedFault::Total),
+        _ => None,
+    }
+}
+
+/// The operation of an event of the root on the shared words; what it found, 0 of a store.
+fn operate(net: &Net, seat: &mut PartSeat, act: &Act, event: Event) -> u64
+    requires table { seat.old.table_id ≡ net.now.table }
+    requires due { IsDueInView net.now.setting seat.old.me.0 event act.now }
+    ensures same { seat.new.table_id ≡ seat.old.table_id }
+    ensures told { (n : ℕ) × (result ≡ noted event n) × Grows net.now.setting event seat.old.me n seat.new.me }
+{
+    let setup = net.setup();
+    let words = net.words();
+    match *act {
+        Act::Settle { edge } => {
+            let word = setup.acks_word(edge);
+            calls::load::<Brand>(words, seat, word, event)
+        }
+        Act::Clear { edge, cell } => {
+            let word = setup.cell_word(edge, cell);
+            calls::load::<Brand>(words, seat, word, event)
+        }
+        Act::Claim {
+            edge,
+            expected,
+            new,
+        } => {
+            let word = setup.edge_word(edge);
+            calls::exchange::<Brand>(words, seat, word, expected, new, event)
+        }
+        Act::Put { edge, cell, value } => {
+            let word = setup.cell_word(edge, cell);
+            calls::store::<Brand>(words, seat, word, value, event);
+            0
+        }
+        _ => unreachable!(),
+    }
+}

@@ -12,6 +12,7 @@ use Rattle.chip_net.proofs.Crossing.{actor_send, net_crosses}
 use Rattle.chip_crew.specs.declared.queue.Room.{Ghosts}
 use Rattle.chip_crew.specs.contracts.worker.Floor as floor
 use Rattle.chip_crew.specs.contracts.lead.Led as led
+use Rattle.chip_crew.specs.contracts.lead.Helm as helm
 
 -- threads may share it where they may share the gate
 pub floor_sync : (ν : NamedLft) (B G : RattleType) (r : Ghosts B.Denot) → IsSync G → IsSync (floor.the_row ν B G r)
@@ -26,3 +27,7 @@ floor_ref_send ℓ κ ν B G r gate = shr_send ℓ κ (floor.the_row ν B G r) (
 -- what worker 0 hands back may go to the thread that joins it
 pub led_send : (B : RattleType) (r : Ghosts B.Denot) → IsSend (led.the_row B r)
 led_send B r = search (crosses, sendable, net_crosses) depth 60
+
+-- worker 0 may take what it begins with
+pub helm_send : (ν : NamedLft) → IsSend (helm.the_row ν)
+helm_send ν = search (crosses, sendable, net_crosses) depth 60

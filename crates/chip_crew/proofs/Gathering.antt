@@ -51,6 +51,18 @@ module _ {X : Type 0} where
   present (x ∷ xs) zero less = (x, refl)
   present (x ∷ xs) (suc i) less = present xs i (omega (arith, less))
 
+-- what stands at a place is read there
+pub read_at : {X : Type 0} (xs : List X) (i : ℕ) (d x : X) → slice_get xs i ≡ Some x → get_or xs i d ≡ x
+read_at [] i d x e = absurd (none_some x e)
+read_at (y ∷ ys) zero d x e = same_some y x e
+read_at (y ∷ ys) (suc i) d x e = read_at ys i d x e
+
+-- and that place is one of the list
+pub placed : {X : Type 0} (xs : List X) (i : ℕ) (x : X) → slice_get xs i ≡ Some x → i < length xs
+placed [] i x e = absurd (none_some x e)
+placed (y ∷ ys) zero x e = omega arith
+placed (y ∷ ys) (suc i) x e = let below = placed ys i x e in omega (arith, below)
+
 pub seats_set : (crew : CrewId) (seats : List (Option ActorKnown)) (i : ℕ) (x : Option ActorKnown)
     → ((a : ActorKnown) → x ≡ Some a → IsOurs crew a × (a.vertex ≡ i)) → AreSeats crew seats
     → AreSeats crew (set seats i x)

@@ -1,6 +1,8 @@
 pub mod Queueing
+pub mod Gathering
 pub mod Owning
 pub mod Polling
-pub mod Gathering
+pub mod FeedLemmas
 pub mod Crossing
 pub mod Finishing
+pub mod FedLemmas

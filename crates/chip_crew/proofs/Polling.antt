@@ -1,12 +1,13 @@
 -- Polls, one after another.
-use Rattle.std.proofs.Common.{◌≡◌, ℕ, zero, suc, ◌+◌, ◌-◌, ◌≤◌, refl, sym, ◌∙◌, ap, subst, add-one, arith}
-use Rattle.chip_net.specs.Roots.{RootKnown, IsPolling, AnswersPoll, root_deficit}
+use Rattle.std.proofs.Common.{◌≡◌, ℕ, zero, suc, ◌+◌, ◌-◌, ◌<◌, ◌≤◌, true, false, refl, sym, subst, add-one, arith}
+use Rattle.chip_net.specs.Roots.{RootKnown, IsPolling, AnswersPoll, IsOver, has_ended}
 use Rattle.chip_net.specs.declared.root.RootState.{RootState}
 use Rattle.chip_net.specs.declared.root.RootState.TheVariants.{Closed, Running}
 use Rattle.chip_crew.specs.Crew.{Polled}
-use Rattle.chip_crew.specs.Ending.{IsPolledUntil, EndsWell, EndsOpen}
+use Rattle.chip_crew.specs.Ending.{StaysOpen, IsPolledUntil, EndsWell, EndsOpen}
 use Rattle.chip_fire.specs.declared.outcome.Outcome.{Outcome}
 use Rattle.chip_net.specs.Finish.{Finishes}
+use Rattle.chip_crew.proofs.Owning.{true_or_false}
 
 pub polled_same : (k j : ℕ) (old now here : RootKnown) → k ≡ j → now ≡ here → Polled j old here → Polled k old now
 polled_same k j old now here count is polled =
@@ -19,17 +20,17 @@ polled_more k old before now first poll = subst (λ (n : ℕ). Polled n old now)
 
 -- what the last of some polls answers
 pub until_answer : (more : ℕ) (old now : RootKnown) (state : RootState) → Polled (more + 1) old now
-    → AnswersPoll (root_deficit now) state → IsPolledUntil more old now state
+    → AnswersPoll now state → IsPolledUntil more old now state
 until_answer more old now Closed polled answer = (more + 1, polled, answer)
-until_answer more old now (Running n) polled answer = (polled, answer.0, answer.1)
+until_answer more old now (Running n) polled answer = record { polled = polled; deficit = answer.0; some = answer.1 }
 
 -- after polls that closed the root it finishes
 pub ends_well : (more : ℕ) (old now receipt : RootKnown) (o : Outcome) (state : RootState)
-    → IsPolledUntil more old now state → root_deficit now ≡ 0 → Finishes now receipt o → EndsWell old receipt o
+    → IsPolledUntil more old now state → IsOver now → Finishes now receipt o → EndsWell old receipt o
 ends_well more old now receipt o Closed until closed finishes =
     record { polls = until.0; root = now; polled = until.1; closed = closed; finishes = finishes }
 ends_well more old now receipt o (Running n) until closed finishes =
-    record { polls = more + 1; root = now; polled = until.0; closed = closed; finishes = finishes }
+    record { polls = more + 1; root = now; polled = until.polled; closed = closed; finishes = finishes }
 
 -- polls after polls
 pub polled_on : (k j : ℕ) (old middle now : RootKnown) → Polled k old middle → Polled j middle now → Polled (j + k) old now
@@ -48,21 +49,15 @@ finished_after polls old middle receipt o first ends = record {
   finishes = ends.finishes;
 }
 
-pub stopped_after : (polls turns left : ℕ) (old middle now : RootKnown) → Polled polls old middle → polls ≤ turns
-    → EndsOpen (turns - polls) middle now left → EndsOpen turns old now left
-stopped_after polls turns left old middle now first below ends = record {
+pub open_after : (polls turns left : ℕ) (old middle now : RootKnown) → Polled polls old middle → polls ≤ turns
+    → has_ended now ≡ true → StaysOpen (turns - polls) middle now left → EndsOpen turns old now left
+open_after polls turns left old middle now first below ended stays = record {
   polled = polled_same (turns + 1) ((turns - polls + 1) + polls) old now now (omega arith) refl
-      (polled_on polls (turns - polls + 1) old middle now first ends.polled);
-  deficit = ends.deficit;
-  some = ends.some;
+      (polled_on polls (turns - polls + 1) old middle now first stays.polled);
+  deficit = stays.deficit;
+  some = some_left left stays.some;
 }
-
--- polls leave the net and the stopper's part as they are
-pub polled_net : (k : ℕ) (old now : RootKnown) → Polled k old now → now.net ≡ old.net
-polled_net zero old now is = ap (λ (r : RootKnown). r.net) is
-polled_net (suc k) old now more = ap (λ (r : RootKnown). r.net) more.2.record_is ∙ polled_net k old more.0 more.1
-
-pub polled_stopper : (k : ℕ) (old now : RootKnown) → Polled k old now → now.stopper_did ≡ old.stopper_did
-polled_stopper zero old now is = ap (λ (r : RootKnown). r.stopper_did) is
-polled_stopper (suc k) old now more =
-    ap (λ (r : RootKnown). r.stopper_did) more.2.record_is ∙ polled_stopper k old more.0 more.1
+  where
+    some_left : (n : ℕ) → (n ≡ 0 → has_ended now ≡ false) → 0 < n
+    some_left zero none = absurd (true_or_false (has_ended now) ended (none refl))
+    some_left (suc n) none = omega arith

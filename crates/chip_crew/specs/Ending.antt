@@ -1,27 +1,54 @@
 -- How a crew ends.
-use Rattle.std.specs.Prelude.{◌≡◌, ℕ, ◌+◌, ◌<◌}
+use Rattle.std.specs.Prelude.{◌≡◌, ℕ, ◌+◌, ◌-◌, ◌<◌, ◌≤◌, false, None}
 use Rattle.chip_fire.specs.declared.outcome.Outcome.{Outcome}
-use Rattle.chip_net.specs.Roots.{RootKnown, root_deficit}
+use Rattle.chip_net.specs.Roots.{RootKnown, root_deficit, has_ended, IsOver}
 use Rattle.chip_net.specs.Finish.{Finishes}
 use Rattle.chip_net.specs.declared.root.RootState.{RootState}
 use Rattle.chip_net.specs.declared.root.RootState.TheVariants.{Closed, Running}
 use Rattle.chip_crew.specs.Crew.{Polled}
+use Rattle.chip_crew.specs.Feeding.{Left, IsLed}
+
+-- the root was polled so many times and once more, and so many messages are left, none only where the end of feeding isn't
+-- noted
+pub record StaysOpen (more : ℕ) (old now : RootKnown) (left : ℕ) : Type 0 where
+  pub polled : Polled (more + 1) old now
+  pub deficit : left ≡ root_deficit now
+  pub some : left ≡ 0 → has_ended now ≡ false
 
 -- the root was polled until it was closed, or so many times and once more
 abbrev pub IsPolledUntil : ℕ → RootKnown → RootKnown → RootState → Type 0
-IsPolledUntil more old now Closed = (polls : ℕ) × Polled polls old now × (root_deficit now ≡ 0)
-IsPolledUntil more old now (Running n) = Polled (more + 1) old now × (n ≡ root_deficit now) × (0 < n)
+IsPolledUntil more old now Closed = (polls : ℕ) × Polled polls old now × IsOver now
+IsPolledUntil more old now (Running n) = StaysOpen more old now n
 
 -- it was polled until it was closed, and then it finished
 pub record EndsWell (old receipt : RootKnown) (o : Outcome) : Type 0 where
   pub polls : ℕ
   pub root : RootKnown
   pub polled : Polled polls old root
-  pub closed : root_deficit root ≡ 0
+  pub closed : IsOver root
   pub finishes : Finishes root receipt o
 
--- it was polled so many times and once more, and so many messages are left
+-- the same where nothing is fed: some message is left
 pub record EndsOpen (more : ℕ) (old now : RootKnown) (left : ℕ) : Type 0 where
   pub polled : Polled (more + 1) old now
   pub deficit : left ≡ root_deficit now
   pub some : 0 < left
+
+-- ---- of a root that is fed
+
+-- worker 0 led it until all was fed and the end noted; then it was polled until it was closed, and it finished
+pub record EndsFed (feeds : Left) (old receipt : RootKnown) (o : Outcome) : Type 0 where
+  pub polls : ℕ
+  pub led : RootKnown
+  pub is_led : IsLed polls feeds old None led
+  pub ends : EndsWell led receipt o
+
+-- worker 0 led it for so many polls, which left this to be fed; then it was polled as often as worker 0 had not, and
+-- once more, and it isn't closed
+pub record StaysOpenFed (turns : ℕ) (feeds : Left) (old now : RootKnown) (deficit : ℕ) : Type 0 where
+  pub polls : ℕ
+  pub at_most : polls ≤ turns
+  pub left : Left
+  pub led : RootKnown
+  pub is_led : IsLed polls feeds old left led
+  pub stays : StaysOpen (turns - polls) led now deficit

@@ -5,7 +5,7 @@ use Rattle.chip_net.specs.Tokens.{ActorKnown}
 use Rattle.chip_crew.specs.Crew.{CrewId, AreSeats}
 use Rattle.chip_crew.specs.declared.roll.Roll.{Roll}
 use Rattle.chip_crew.specs.declared.fault.CrewFault.{CrewFault}
-use Rattle.chip_crew.specs.declared.fault.CrewFault.TheVariants.{Plan, NoMemory, Spawn, GateShut, Doubled, Lost}
+use Rattle.chip_crew.specs.declared.fault.CrewFault.TheVariants.{Plan, Total, NoMemory, Spawn, GateShut, Doubled, Lost}
 use Rattle.chip_crew.specs.declared.fault.CrewFault.TheVariants.{Unfinished}
 
 -- the lesser of two vertices, where there are two
@@ -46,6 +46,7 @@ abbrev pub IsMissing : Roll → CrewFault → Type 0
 IsMissing roll (Doubled v) = roll.doubled ≡ Some v
 IsMissing roll (Lost v) = (roll.doubled ≡ None) × IsLeastFree roll.seats.items v
 IsMissing roll Plan = ⊥
+IsMissing roll Total = ⊥
 IsMissing roll NoMemory = ⊥
 IsMissing roll Spawn = ⊥
 IsMissing roll GateShut = ⊥

@@ -1,5 +1,6 @@
 pub mod Plans
 pub mod Crew
+pub mod Feeding
 pub mod Ending
 pub mod Gathering
 pub mod Staff

@@ -1,5 +1,8 @@
 -- Which plans there are for a crew.
-use Rattle.std.specs.Prelude.{ℕ, ◌^◌, Bool, true, ◌&&◌, nat_lt, nat_le, length, Option, Some, None}
+use Rattle.std.specs.Prelude.{ℕ, ◌+◌, ◌≤◌, ◌^◌, Bool, true, ◌&&◌, nat_lt, nat_le, List, length, sum, Option, Some, None}
+use Rattle.std.specs.List.{list_all}
+use Rattle.chip_graph.specs.Limits.{max_total}
+use Rattle.chip_graph.specs.More.{all_brought}
 use Rattle.chip_graph.specs.ChipGame.{ChipGame}
 use Rattle.chip_link.specs.Rings.{max_ring}
 use Rattle.chip_crew.specs.declared.plan.Plan.{Plan}
@@ -30,3 +33,15 @@ names_edge game (Some at) = nat_lt at.edge (length game.graph.edges)
 abbrev pub is_plan : ChipGame → Plan → Bool
 is_plan game plan = is_count max_workers plan.workers && is_count max_ring plan.ring && is_count max_turns plan.turns
     && nat_le plan.trace_rows max_trace_rows && names_edge game plan.seal
+
+-- each is of one chip or more for a vertex of the graph
+abbrev pub are_feeds : ChipGame → List (ℕ × ℕ) → Bool
+are_feeds game feeds = list_all (λ pair. nat_lt pair.0 game.graph.vertices && nat_lt 0 pair.1) feeds
+
+-- plan and feeds are in their ranges
+abbrev pub is_fed_plan : ChipGame → List (ℕ × ℕ) → Plan → Bool
+is_fed_plan game feeds plan = is_plan game plan && are_feeds game feeds
+
+-- with the chips of the start they stay within the total
+abbrev pub AreWithinTotal : ChipGame → List (ℕ × ℕ) → Type 0
+AreWithinTotal game feeds = sum game.start + all_brought feeds ≤ max_total

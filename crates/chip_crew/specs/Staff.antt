@@ -1,13 +1,27 @@
 -- What the workers hand back.
 use Rattle.std.specs.Prelude.{◌≡◌, ℕ, ◌<◌, ◌≤◌, false, IfSome}
+use Rattle.std.specs.Option.{option_copied}
 use Rattle.chip_net.specs.Roots.{RootKnown}
-use Rattle.chip_crew.specs.Crew.{CrewId, IsOurs, Polled}
+use Rattle.chip_crew.specs.Crew.{CrewId, IsOurs}
+use Rattle.chip_crew.specs.Feeding.{Left, IsLed, MayFeedLeft}
+use Rattle.chip_crew.specs.declared.lead.Helm.{Helm}
 use Rattle.chip_crew.specs.declared.worker.Shift.{Shift}
 
--- worker 0 polled the root so often, at most once for each of its turns
-pub record HasPolled (crew : CrewId) (old : RootKnown) (turns : ℕ) (root : RootKnown) (polls : ℕ) : Type 0 where
+-- what worker 0 begins with: the root of the crew, what it may feed, and the stopper
+pub record IsHelm (crew : CrewId) (left : Left) (old : RootKnown) (helm : Helm) : Type 0 where
+  pub root : helm.root ≡ old
+  pub net : old.net ≡ crew.net
+  pub feeds : option_copied helm.feeds ≡ left
+  pub may : MayFeedLeft old left
+  pub seal : IfSome helm.seal (λ s. s.0.net ≡ crew.net)
+
+-- worker 0 polled the root so often, at most once for each of its turns, and fed it before each poll
+pub record HasPolled (crew : CrewId) (feeds : Left) (old : RootKnown) (turns : ℕ) (root : RootKnown) (polls : ℕ)
+    : Type 0 where
   pub net : root.net ≡ crew.net
-  pub polled : Polled polls old root
+  pub left : Left
+  pub led : IsLed polls feeds old left root
+  pub may : MayFeedLeft root left
   pub at_most : polls ≤ turns
 
 -- a call of the gate for some worker's turn is one that may answer false
@@ -29,7 +43,7 @@ pub record IsShift (crew : CrewId) (shut : Type 0) (shift : Shift) : Type 0 wher
   pub passed : shift.passed ≡ false → shut
 
 -- what worker 0 hands back
-pub record HasLed (crew : CrewId) (old : RootKnown) (turns : ℕ) (shut : Type 0) (shift : Shift) (root : RootKnown)
-    (polls : ℕ) : Type 0 where
+pub record HasLed (crew : CrewId) (feeds : Left) (old : RootKnown) (turns : ℕ) (shut : Type 0) (shift : Shift)
+    (root : RootKnown) (polls : ℕ) : Type 0 where
   pub handed : IsShift crew shut shift
-  pub polled : HasPolled crew old turns root polls
+  pub polled : HasPolled crew feeds old turns root polls

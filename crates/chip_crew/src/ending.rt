@@ -1,7 +1,7 @@
 //! What is done with the root once all workers have ended.
 
 ghost use Rattle.std.specs.Prelude.{◌≡◌, ◌-◌, ◌≤◌, MatchResult};
-ghost use Rattle.chip_crew.specs.Ending.{IsPolledUntil, EndsWell, EndsOpen};
+ghost use Rattle.chip_crew.specs.Ending.{IsPolledUntil, EndsWell, StaysOpen};
 
 use chip_fire::Outcome;
 use chip_net::{Net, Receipt, Root, RootState};
@@ -31,7 +31,7 @@ pub(crate) fn last_poll(
 ) -> Result<(Outcome, Receipt), (u64, Root)>
     requires net { root.net ≡ net.now }
     requires polls { polls ≤ turns }
-    ensures { MatchResult result (λ r. EndsWell root r.1 r.0) (λ r. EndsOpen (turns - polls) root r.1 r.0) }
+    ensures { MatchResult result (λ r. EndsWell root r.1 r.0) (λ r. StaysOpen (turns - polls) root r.1 r.0) }
 {
     let state = poll_until(net, &mut root, turns - polls);
     match root.finish(net) {

@@ -4,8 +4,11 @@ use std::alloc::AllocError;
 /// Why a crew didn't finish: the first reason in this order.
 #[derive(Drop)]
 pub enum CrewFault {
-    /// A number of the plan is out of its range, or the edge to be sealed is none of the graph's.
+    /// A number of the plan is out of its range, the edge to be sealed is none of the graph's, or a feed is of no chip
+    /// or of no vertex of the graph.
     Plan,
+    /// The chips of the start and of all feeds are more than `MAX_TOTAL`.
+    Total,
     /// Memory ran out before a worker was started.
     NoMemory,
     /// A thread could not be started. Those that were started have ended.
@@ -16,9 +19,10 @@ pub enum CrewFault {
     Doubled(u64),
     /// No actor of this vertex was gathered, the least such vertex.
     Lost(u64),
-    /// All turns were made and the root isn't closed.
+    /// All turns were made and the root isn't closed. Feeds that weren't made by then are not made.
     Unfinished {
-        /// How many of its messages aren't acknowledged, 1 or more, as the last poll found.
+        /// How many of its messages aren't acknowledged, as the last poll found: 1 or more, but 0 may be where not all
+        /// was fed.
         deficit: u64,
         /// The root.
         root: Root,

@@ -1,8 +1,9 @@
-//! What worker 0 does beside: it seals, and it polls the root.
+//! What worker 0 does beside: it seals, it feeds, and it polls the root.
 
 ghost use Rattle.std.specs.Prelude.{◌≡◌, IfSome};
-ghost use Rattle.chip_crew.specs.Staff.{TellsShut};
+ghost use Rattle.chip_crew.specs.Staff.{TellsShut, IsHelm};
 
+use crate::feeding::feed_once;
 use crate::plan::{Gate, SealAt};
 use crate::queue::Room;
 use crate::worker::{Floor, Shift};
@@ -12,9 +13,11 @@ use std::sync::atomic::Ordering::SeqCst;
 
 /// What worker 0 has beside its actors.
 #[derive(Drop)]
-pub(crate) struct Helm {
+pub(crate) struct Helm<'a> {
     /// The root, which it polls after each of its turns.
     pub root: Root,
+    /// What it feeds, a vertex and its chips each, before it notes the end; `None` where the end is noted.
+    pub feeds: Option<&'a [(u64, u64)]>,
     /// The stopper, and when it is to seal which edge.
     pub seal: Option<(Stopper, SealAt)>,
 }
@@ -39,7 +42,7 @@ impl<B: Room> Model for Led<B> {
 
     ghost view = { λ a. a.root };
 
-    ghost invariant = { λ a. HasLed B.crew B.root B.turns B.shut a.shift a.root a.polls };
+    ghost invariant = { λ a. HasLed B.crew B.feeds B.root B.turns B.shut a.shift a.root a.polls };
 }
 
 /// Seals, where this is the turn for it.
@@ -56,16 +59,19 @@ fn seal_before(net: &Net, seal: &mut Option<(Stopper, SealAt)>, turn: u64)
 }
 
 impl<'a, B: Room, G: Gate> Floor<'a, B, G> {
-    /// The turns of worker 0, with a poll after each, until the root is closed or it is told to stop, where it tells
-    /// the others.
+    /// The turns of worker 0, with a feed before and a poll after each, until the root is closed or it is told to stop,
+    /// where it tells the others.
     pub fn lead(&self, helm: Helm) -> Led<B>
         requires net { self.now.net.now ≡ B.crew.net }
         requires turns { self.now.turns ≡ B.turns }
-        requires root { (helm.root ≡ B.root) × (helm.root.net ≡ B.crew.net) }
-        requires seal { IfSome helm.seal (λ s. s.0.net ≡ B.crew.net) }
+        requires helm { IsHelm B.crew B.feeds B.root helm }
         requires gate { TellsShut (G.may_shut self.now.gate.now 0) self.now.turns B.shut }
     {
-        let Helm { mut root, mut seal } = helm;
+        let Helm {
+            mut root,
+            mut feeds,
+            mut seal,
+        } = helm;
         let mut pass = self.line.pass();
         let mut kept = None;
         let mut polls = 0;
@@ -81,9 +87,11 @@ impl<'a, B: Room, G: Gate> Floor<'a, B, G> {
                 break;
             }
             seal_before(self.net, &mut seal, turn);
+            feeds = feed_once(self.net, &mut root, feeds);
             kept = self.one_turn(&mut pass, kept);
             polls = turn + 1;
             match root.poll(self.net) {
+                RootState::Running(0) => {}
                 RootState::Running(deficit) => self.gate.polled(turn, deficit),
                 RootState::Closed => {
                     self.stop.store(true, SeqCst);

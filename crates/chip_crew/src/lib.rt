@@ -1,13 +1,14 @@
 //! What each worker of a running net does. Workers share the net's actors by one bounded queue.
 //!
 //! The rule of the queue (`queue.rt`) is that every actor in it was opened by this net. A worker takes an actor,
-//! gives it a turn and puts it back (`worker.rt`); worker 0 has also the root, which it polls, and the stopper
-//! (`lead.rt`). Once all have ended there is a last poll (`ending.rt`), and the actors are gathered (`roll.rt`).
+//! gives it a turn and puts it back (`worker.rt`); worker 0 has also the root, which it feeds (`feeding.rt`) and polls,
+//! and the stopper (`lead.rt`). Once all have ended there is a last poll (`ending.rt`), and the actors are gathered (`roll.rt`).
 #![tactic(auto)]
 
 mod boxed;
 mod ending;
 mod fault;
+mod feeding;
 mod lead;
 mod plan;
 mod play;
@@ -20,4 +21,4 @@ mod worker;
 
 pub use fault::CrewFault;
 pub use plan::{Gate, MAX_TRACE_ROWS, MAX_TURNS, MAX_WORKERS, Plan, SealAt};
-pub use play::{Finished, run};
+pub use play::{Finished, run, run_fed};

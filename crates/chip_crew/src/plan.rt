@@ -1,7 +1,8 @@
-ghost use Rattle.std.specs.Prelude.{◌≡◌, ◌<◌, if◌then◌else◌, Some, None};
-ghost use Rattle.chip_crew.specs.Plans.{is_plan};
+ghost use Rattle.std.specs.Prelude.{◌≡◌, ◌↔◌, ◌<◌, true, false, IsTrue, MatchResult};
+ghost use Rattle.chip_crew.specs.Plans.{is_plan, AreWithinTotal};
 
-use chip_graph::Game;
+use crate::fault::CrewFault;
+use chip_graph::{Game, MAX_TOTAL};
 use chip_link::{MAX_RING, Ring};
 
 /// The most workers of a crew.
@@ -58,13 +59,13 @@ pub struct Plan {
 
 impl Plan {
     /// The rings of this plan's net, where its numbers are in their ranges for this game.
-    pub(crate) fn ring_for(&self, game: &Game) -> Option<Ring>
-        ensures { result ≡ (if is_plan game.now self.now then Some self.now.ring else None) }
+    pub(crate) fn ring_for(&self, game: &Game) -> Result<Ring, CrewFault>
+        ensures { MatchResult result (λ ring. (is_plan game.now self.now ≡ true) × (ring ≡ self.now.ring))
+            (λ fault. (is_plan game.now self.now ≡ false) × (fault ≡ CrewFault.Plan)) }
     {
-        if self.is_within(game) {
-            Ring::new(self.ring)
-        } else {
-            None
+        match Ring::new(self.ring) {
+            Some(ring) if self.is_within(game) => Ok(ring),
+            _ => Err(CrewFault::Plan),
         }
     }
 
@@ -88,4 +89,28 @@ fn is_count(most: u64, count: u64) -> bool
     ensures { result ≡ Rattle.chip_crew.specs.Plans.is_count most count }
 {
     0 < count && count <= most
+}
+
+/// Whether each feed is of a vertex of the graph and of one chip or more.
+pub(crate) fn are_feeds(game: &Game, feeds: &[(u64, u64)]) -> bool
+    ensures { result ≡ Rattle.chip_crew.specs.Plans.are_feeds game.now feeds.now }
+{
+    let vertices = game.graph().vertices();
+    feeds
+        .iter()
+        .all(|&(vertex, count)| vertex < vertices && 0 < count)
+}
+
+/// Whether the chips of the start and of all feeds are at most `MAX_TOTAL`.
+pub(crate) fn are_within_total(game: &Game, feeds: &[(u64, u64)]) -> bool
+    ensures { IsTrue result ↔ AreWithinTotal game.now feeds.now }
+{
+    let mut room = MAX_TOTAL - game.total();
+    for &(_, count) in feeds {
+        if count > room {
+            return false;
+        }
+        room -= count;
+    }
+    true
 }

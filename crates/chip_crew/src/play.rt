@@ -3,24 +3,27 @@
 ghost use Rattle.std.specs.Prelude.{◌≡◌, ◌<◌, ◌≤◌, true, [], All, length, IfOk, IfErr, IfSome};
 ghost use Rattle.std.specs.Vec.{vec_capacity};
 ghost use Rattle.chip_net.specs.Roots.{RootKnown};
-ghost use Rattle.chip_crew.specs.Staff.{HasPolled, AllTellShut};
+ghost use Rattle.chip_crew.specs.Staff.{HasPolled, IsHelm, AllTellShut};
 ghost use Rattle.crossbeam_queue.specs.Passes.{IsPassOf};
+ghost use Rattle.std.specs.Option.{option_copied};
 ghost use Rattle.chip_crew.specs.Crew.{IsOurs};
+ghost use Rattle.chip_crew.specs.Feeding.{MayFeedLeft};
 ghost use Rattle.chip_crew.specs.Gathering.{IsRoll};
-ghost use Rattle.chip_crew.specs.Finished.{HasFinished, IsFinished, IsClosing, IsStopped, IsFaultOf};
+ghost use Rattle.chip_crew.specs.Finished.{HasFinishedFed, IsFinished, IsFinishedFed, IsClosing, IsStopped};
+ghost use Rattle.chip_crew.specs.Finished.{IsFaultOf, IsFedFaultOf};
 
 use crate::boxed::BoxedActor;
 use crate::ending::last_poll;
 use crate::fault::CrewFault;
 use crate::lead::Helm;
-use crate::plan::{Gate, Plan};
+use crate::plan::{Gate, Plan, are_feeds, are_within_total};
 use crate::queue::{Line, LinePass, Moves, Room};
 use crate::roll::{Roll, empty_roll, gathered, note};
 use crate::staff::{Joined, Started, staff};
 use crate::worker::Floor;
 use chip_fire::Outcome;
 use chip_graph::Game;
-use chip_net::{Actor, Net, Receipt};
+use chip_net::{Actor, Net, Receipt, Root, Stopper};
 use std::alloc::{AllocError, Global};
 use std::marker::Brand;
 use std::sync::Wait;
@@ -79,11 +82,11 @@ fn drain<B: Room>(line: &Line<B>, mut pass: LinePass, roll: &mut Roll)
 fn closing<B: Room>(net: &Net, joined: Joined, turns: u64) -> Result<Finished, CrewFault>
     requires net { net.now ≡ B.crew.net }
     requires turns { turns ≡ B.turns }
-    requires root { HasPolled B.crew B.root B.turns joined.root joined.polls }
+    requires root { HasPolled B.crew B.feeds B.root B.turns joined.root joined.polls }
     requires roll { IsRoll B.crew joined.roll }
     ensures passed { IfOk result (λ _. joined.passed ≡ true) }
-    ensures finished { IfOk result (HasFinished B.crew B.root) }
-    ensures stopped { IfErr result (IsClosing B.crew B.root B.turns joined) }
+    ensures finished { IfOk result (HasFinishedFed B.crew B.feeds B.root) }
+    ensures stopped { IfErr result (IsClosing B.crew B.feeds B.root B.turns joined) }
 {
     let Joined {
         root,
@@ -153,12 +156,11 @@ fn worked<R: Threads + Wait, B: Room + Send + Sync, G: Gate + Sync>(
     requires others { (ground.others.items ≡ []) × (plan.now.workers ≤ vec_capacity ground.others) }
     requires roll { IsRoll B.crew ground.roll }
     requires turns { plan.now.turns ≡ B.turns }
-    requires root { (helm.root ≡ B.root) × (helm.root.net ≡ B.crew.net) }
-    requires seal { IfSome helm.seal (λ s. s.0.net ≡ B.crew.net) }
+    requires helm { IsHelm B.crew B.feeds B.root helm }
     requires some_workers { 0 < plan.now.workers }
     requires gate { AllTellShut (G.may_shut gate.now) plan.now.workers plan.now.turns B.shut }
-    ensures finished { IfOk result (HasFinished B.crew B.root) }
-    ensures stopped { IfErr result (IsStopped B.crew B.root B.turns B.shut) }
+    ensures finished { IfOk result (HasFinishedFed B.crew B.feeds B.root) }
+    ensures stopped { IfErr result (IsStopped B.crew B.feeds B.root B.turns B.shut) }
 {
     let Ground {
         line,
@@ -179,30 +181,39 @@ fn worked<R: Threads + Wait, B: Room + Send + Sync, G: Gate + Sync>(
     closing::<B>(net, joined, plan.turns)
 }
 
-/// Plays on a net that has just been opened.
+/// A net that has just been opened, with its tokens.
+type Opened = (Net, Root, Vec<Actor>, Option<Stopper>);
+
+/// Plays on a net that has just been opened, and feeds it.
 fn played_on<R: Threads + Wait, B: Room + Send + Sync, G: Gate + Sync>(
     rt: &R,
     alloc: Global,
-    net: &Net,
-    actors: Vec<Actor>,
-    helm: Helm,
+    opened: Opened,
+    feeds: Option<&[(u64, u64)]>,
     plan: &Plan,
     gate: &G,
 ) -> Result<Finished, CrewFault>
-    requires net { net.now ≡ B.crew.net }
-    requires actors { All (IsOurs B.crew) actors.items }
-    requires count { length actors.items ≡ B.crew.net.setting.graph.vertices }
+    requires net { opened.0 ≡ B.crew.net }
+    requires root { (opened.1 ≡ B.root) × (opened.1.net ≡ B.crew.net) }
+    requires actors { All (IsOurs B.crew) opened.2.items }
+    requires stopper { IfSome opened.3 (λ s. s.net ≡ B.crew.net) }
+    requires feeds { (option_copied feeds ≡ B.feeds) × MayFeedLeft B.root B.feeds }
+    requires count { length opened.2.items ≡ B.crew.net.setting.graph.vertices }
     requires some { 0 < B.crew.net.setting.graph.vertices }
     requires turns { plan.now.turns ≡ B.turns }
-    requires root { (helm.root ≡ B.root) × (helm.root.net ≡ B.crew.net) }
-    requires seal { IfSome helm.seal (λ s. s.0.net ≡ B.crew.net) }
     requires some_workers { 0 < plan.now.workers }
     requires gate { AllTellShut (G.may_shut gate.now) plan.now.workers plan.now.turns B.shut }
-    ensures finished { IfOk result (HasFinished B.crew B.root) }
-    ensures stopped { IfErr result (IsStopped B.crew B.root B.turns B.shut) }
+    ensures finished { IfOk result (HasFinishedFed B.crew B.feeds B.root) }
+    ensures stopped { IfErr result (IsStopped B.crew B.feeds B.root B.turns B.shut) }
 {
+    let (net, root, actors, stopper) = opened;
+    let helm = Helm {
+        root,
+        feeds,
+        seal: stopper.zip(plan.seal),
+    };
     let ground = prepared::<B>(alloc, actors, plan.workers as usize)?;
-    worked(rt, net, ground, helm, plan, gate)
+    worked(rt, &net, ground, helm, plan, gate)
 }
 
 /// Plays a game on a net of its own by as many threads as the plan says. Worker 0 polls the root after each turn of
@@ -218,14 +229,34 @@ pub fn run<R: Threads + Wait, G: Gate + Sync>(
     ensures finished { IfOk result (IsFinished game.now plan) }
     ensures fault { IfErr result (IsFaultOf game.now plan (G.may_shut gate.now)) }
 {
-    let Some(ring) = plan.ring_for(game) else {
-        return Err(CrewFault::Plan);
-    };
+    let ring = plan.ring_for(game)?;
     let stoppable = plan.seal.is_some();
-    let (net, root, actors, stopper) = Net::open(alloc, game, ring, plan.trace_rows, stoppable)?;
-    let helm = Helm {
-        root,
-        seal: stopper.zip(plan.seal),
-    };
-    played_on::<R, Brand, G>(rt, alloc, &net, actors, helm, &plan, gate)
+    let opened = Net::open(alloc, game, ring, plan.trace_rows, stoppable)?;
+    played_on::<R, Brand, G>(rt, alloc, opened, None, &plan, gate)
+}
+
+/// As `run`, with chips that are fed while the game runs: each feed is a vertex and a count of chips for it. Before each
+/// turn of its own worker 0 makes the next feed, where the cell for its message is empty, and after the last one it
+/// notes that no more come. Without a seal the game ends as the one that has all these chips at the start.
+pub fn run_fed<R: Threads + Wait, G: Gate + Sync>(
+    rt: &R,
+    alloc: Global,
+    game: &Game,
+    plan: Plan,
+    feeds: &[(u64, u64)],
+    gate: &G,
+) -> Result<Finished, CrewFault>
+    ensures finished { IfOk result (IsFinishedFed game.now feeds.now plan) }
+    ensures fault { IfErr result (IsFedFaultOf game.now feeds.now plan (G.may_shut gate.now)) }
+{
+    let ring = plan.ring_for(game)?;
+    if !are_feeds(game, feeds) {
+        return Err(CrewFault::Plan);
+    }
+    if !are_within_total(game, feeds) {
+        return Err(CrewFault::Total);
+    }
+    let stoppable = plan.seal.is_some();
+    let opened = Net::open_fed(alloc, game, ring, plan.trace_rows, stoppable)?;
+    played_on::<R, Brand, G>(rt, alloc, opened, Some(feeds), &plan, gate)
 }

@@ -5,16 +5,19 @@ use crossbeam_queue::protocol::{Lesson, Outcome, Protocol};
 use crossbeam_queue::{Pass, RuledArrayQueue};
 use std::marker::{Brand, PhantomData};
 
-/// Which net's actors a crew shares, the root with which it begins, how many turns each worker makes at most, and what
-/// is known where a gate was shut. Proofs alone know it.
+/// Which net's actors a crew shares, the root with which it begins, what it has to feed, how many turns each worker makes
+/// at most, and what is known where a gate was shut. Proofs alone know it.
 pub(crate) trait Room {
     ghost use Rattle.std.specs.Prelude.{ℕ};
     ghost use Rattle.chip_crew.specs.Crew.{CrewId};
+    ghost use Rattle.chip_crew.specs.Feeding.{Left};
     ghost use Rattle.chip_net.specs.Roots.{RootKnown};
 
     ghost crew: { CrewId };
 
     ghost root: { RootKnown };
+
+    ghost feeds: { Left };
 
     ghost turns: { ℕ };
 
@@ -29,6 +32,8 @@ impl Room for Brand {
     ghost crew = { no_crew };
 
     ghost root = { new_root no_crew.net None };
+
+    ghost feeds = { None };
 
     ghost turns = { 0 };
 

@@ -4,7 +4,7 @@ ghost use Rattle.std.specs.Prelude.{◌≡◌, ◌<◌, ◌≤◌, [], false, If
 ghost use Rattle.chip_crew.specs.declared.fault.CrewFault.TheVariants.{Spawn};
 ghost use Rattle.std.specs.Vec.{vec_capacity};
 ghost use Rattle.chip_crew.specs.Crew.{IsOurs};
-ghost use Rattle.chip_crew.specs.Staff.{HasPolled, TellsShut, AllTellShut, IsShift};
+ghost use Rattle.chip_crew.specs.Staff.{HasPolled, IsHelm, TellsShut, AllTellShut, IsShift};
 ghost use Rattle.chip_crew.specs.Gathering.{IsRoll};
 
 use crate::fault::CrewFault;
@@ -66,18 +66,16 @@ fn end_shift<B: Room>(roll: &mut Roll, shift: Shift) -> bool
 fn start_lead<'s, E, B: Room + Send + Sync, G: Gate + Sync>(
     scope: &Scope<'s, E>,
     floor: &'s Floor<'s, B, G>,
-    helm: Helm,
+    helm: Helm<'s>,
 ) -> Result<JoinHandle<Led<B>>, CrewFault>
     requires net { floor.now.net.now ≡ B.crew.net }
     requires turns { floor.now.turns ≡ B.turns }
-    requires root { (helm.root ≡ B.root) × (helm.root.net ≡ B.crew.net) }
-    requires seal { IfSome helm.seal (λ s. s.0.net ≡ B.crew.net) }
+    requires helm { IsHelm B.crew B.feeds B.root helm }
     requires gate { TellsShut (G.may_shut floor.now.gate.now 0) floor.now.turns B.shut }
     ensures { IfErr result (λ fault. fault ≡ Spawn) }
 {
     let lead = move || -> Led<B>
-        requires { (floor.now.net.now ≡ B.crew.net) × (floor.now.turns ≡ B.turns) × (helm.root ≡ B.root)
-            × (helm.root.net ≡ B.crew.net) × IfSome helm.seal (λ s. s.0.net ≡ B.crew.net)
+        requires { (floor.now.net.now ≡ B.crew.net) × (floor.now.turns ≡ B.turns) × IsHelm B.crew B.feeds B.root helm
             × TellsShut (G.may_shut floor.now.gate.now 0) floor.now.turns B.shut }
     { floor.lead(helm) };
     match scope.spawn(lead) {
@@ -112,14 +110,13 @@ fn start_worker<'s, E, B: Room + Send + Sync, G: Gate + Sync>(
 fn start_all<'s, E, B: Room + Send + Sync, G: Gate + Sync>(
     scope: &Scope<'s, E>,
     floor: &'s Floor<'s, B, G>,
-    helm: Helm,
+    helm: Helm<'s>,
     workers: u64,
     mut others: Vec<Started<B>>,
 ) -> Result<(JoinHandle<Led<B>>, Vec<Started<B>>), CrewFault>
     requires net { floor.now.net.now ≡ B.crew.net }
     requires turns { floor.now.turns ≡ B.turns }
-    requires root { (helm.root ≡ B.root) × (helm.root.net ≡ B.crew.net) }
-    requires seal { IfSome helm.seal (λ s. s.0.net ≡ B.crew.net) }
+    requires helm { IsHelm B.crew B.feeds B.root helm }
     requires none_yet { others.items ≡ [] }
     requires room { workers ≤ vec_capacity others }
     requires some { 0 < workers }
@@ -147,7 +144,7 @@ fn join_all<B: Room, R: Threads>(
     mut roll: Roll,
 ) -> Joined
     requires { IsRoll B.crew roll }
-    ensures root { HasPolled B.crew B.root B.turns result.root result.polls }
+    ensures root { HasPolled B.crew B.feeds B.root B.turns result.root result.polls }
     ensures roll { IsRoll B.crew result.roll }
     ensures passed { result.passed ≡ false → B.shut }
 {
@@ -180,14 +177,13 @@ pub(crate) fn staff<R: Threads + Wait, B: Room + Send + Sync, G: Gate + Sync>(
 ) -> Result<Joined, CrewFault>
     requires net { floor.now.net.now ≡ B.crew.net }
     requires turns { floor.now.turns ≡ B.turns }
-    requires root { (helm.root ≡ B.root) × (helm.root.net ≡ B.crew.net) }
-    requires seal { IfSome helm.seal (λ s. s.0.net ≡ B.crew.net) }
+    requires helm { IsHelm B.crew B.feeds B.root helm }
     requires none_yet { others.items ≡ [] }
     requires room { workers ≤ vec_capacity others }
     requires roll { IsRoll B.crew roll }
     requires some { 0 < workers }
     requires gate { AllTellShut (G.may_shut floor.now.gate.now) workers floor.now.turns B.shut }
-    ensures root { IfOk result (λ j. HasPolled B.crew B.root B.turns j.root j.polls) }
+    ensures root { IfOk result (λ j. HasPolled B.crew B.feeds B.root B.turns j.root j.polls) }
     ensures roll { IfOk result (λ j. IsRoll B.crew j.roll) }
     ensures passed { IfOk result (λ j. j.passed ≡ false → B.shut) }
     ensures fault { IfErr result (λ fault. fault ≡ Spawn) }
@@ -197,11 +193,9 @@ pub(crate) fn staff<R: Threads + Wait, B: Room + Send + Sync, G: Gate + Sync>(
         rt,
         |scope| -> Result<Joined, CrewFault>
             requires { (floor.now.net.now ≡ B.crew.net) × (floor.now.turns ≡ B.turns)
-                × (helm.root ≡ B.root) × (helm.root.net ≡ B.crew.net)
-                × IfSome helm.seal (λ s. s.0.net ≡ B.crew.net)
-                × (others.items ≡ []) × (workers ≤ vec_capacity others) × IsRoll B.crew roll × (0 < workers)
+                × IsHelm B.crew B.feeds B.root helm × (others.items ≡ []) × (workers ≤ vec_capacity others) × IsRoll B.crew roll × (0 < workers)
                 × AllTellShut (G.may_shut floor.now.gate.now) workers floor.now.turns B.shut }
-            ensures { IfOk result (λ j. HasPolled B.crew B.root B.turns j.root j.polls
+            ensures { IfOk result (λ j. HasPolled B.crew B.feeds B.root B.turns j.root j.polls
                 × IsRoll B.crew j.roll × (j.passed ≡ false → B.shut)) × IfErr result (λ fault. fault ≡ Spawn) }
         {
             let (lead, others) = start_all(scope, floor, helm, workers, others)?;

@@ -1,4 +1,4 @@
-//! Crews on small games: how many workers share them, gates that hold them, seals and traces.
+//! Crews on small games: how many workers share them, gates that hold them, seals, traces and feeds.
 
 use super::*;
 use chip_fire::{Outcome, plain};
@@ -124,12 +124,17 @@ impl Gate for Behind {
 
 /// The triangle with these chips.
 fn triangle(alloc: Global, chips: &[u64]) -> Result<Game, Fail> {
+    triangle_within(alloc, chips, LIMIT)
+}
+
+/// The triangle with these chips, whose vertices fire up to so often.
+fn triangle_within(alloc: Global, chips: &[u64], limit: u64) -> Result<Game, Fail> {
     let mut edges = Vec::new(alloc);
     for &(tail, head, mult) in &TRIANGLE {
         edges.push(Edge { tail, head, mult })?;
     }
     let graph = Graph::new(alloc, 3, 2, edges)?;
-    Ok(Game::new(graph, Vec::from_slice(alloc, chips)?, LIMIT)?)
+    Ok(Game::new(graph, Vec::from_slice(alloc, chips)?, limit)?)
 }
 
 /// What a crew comes to, which finishes.
@@ -398,4 +403,137 @@ fn traces(rt: HostRuntime) -> Result<(), Fail> {
     expect_trace(&rt, &ended, 1, &[take(0, 2), fire(1)], false);
     expect_trace(&rt, &ended, 2, &[take(1, 2), take(3, 1)], false);
     Ok(())
+}
+
+/// What a crew comes to that feeds the game, and finishes.
+fn fed<R: Threads + Wait + Sync + Abort>(
+    rt: &R,
+    alloc: Global,
+    game: &Game,
+    plan: Plan,
+    feeds: &[(u64, u64)],
+) -> Finished {
+    match run_fed(rt, alloc, game, plan, feeds, &Always) {
+        Ok(finished) => finished,
+        Err(_) => panic!(rt; "the crew did not finish"),
+    }
+}
+
+/// Four chips come to vertex 0 in all, at the start and by feeds.
+#[test]
+fn feeds(rt: HostRuntime) -> Result<(), Fail> {
+    let alloc = rt.alloc();
+    let none = triangle(alloc, &[0, 0, 0])?;
+    for workers in [1, 2, 3] {
+        let plan = Plan { workers, ..PAIR };
+        let ended = fed(&rt, alloc, &none, plan, &[(0, 4)]);
+        expect_outcome(&rt, &ended.outcome, &[2, 1, 0], &[1, 0, 3], &[]);
+        assert_eq!(&rt; ended.actors.len(), 3);
+        let ended = fed(&rt, alloc, &none, plan, &[(0, 1), (0, 1), (0, 1), (0, 1)]);
+        expect_outcome(&rt, &ended.outcome, &[2, 1, 0], &[1, 0, 3], &[]);
+    }
+    // The cell is full at first.
+    let three = triangle(alloc, &[3, 0, 0])?;
+    let ended = fed(&rt, alloc, &three, PAIR, &[(0, 1)]);
+    expect_outcome(&rt, &ended.outcome, &[2, 1, 0], &[1, 0, 3], &[]);
+    let four = triangle(alloc, &[4, 0, 0])?;
+    let ended = fed(&rt, alloc, &four, PAIR, &[]);
+    expect_outcome(&rt, &ended.outcome, &[2, 1, 0], &[1, 0, 3], &[]);
+    Ok(())
+}
+
+/// With five chips vertex 0 fires twice and has two again, which it may not fire.
+#[test]
+fn feeds_up_to_the_limit(rt: HostRuntime) -> Result<(), Fail> {
+    let alloc = rt.alloc();
+    let game = triangle_within(alloc, &[2, 0, 0], 2)?;
+    let outcome = fed(&rt, alloc, &game, PAIR, &[(0, 3)]).outcome;
+    assert_eq!(&rt; outcome.fired.as_slice(), [2, 1, 0].as_slice());
+    assert_eq!(&rt; outcome.chips.as_slice(), [2, 0, 3].as_slice());
+    assert_eq!(&rt; outcome.over.as_slice(), [0].as_slice());
+    Ok(())
+}
+
+/// The first edge is sealed before anything was sent on it, and what would go there is left to vertex 1.
+#[test]
+fn feeds_a_sealed_game(rt: HostRuntime) -> Result<(), Fail> {
+    let alloc = rt.alloc();
+    let game = triangle(alloc, &[0, 0, 0])?;
+    let plan = Plan {
+        workers: 1,
+        seal: Some(SealAt { turn: 0, edge: 0 }),
+        ..PAIR
+    };
+    let ended = fed(&rt, alloc, &game, plan, &[(0, 4)]);
+    expect_outcome(&rt, &ended.outcome, &[2, 0, 0], &[0, 2, 2], &[0]);
+    Ok(())
+}
+
+/// The fault of a crew that is to feed the game.
+fn feed_fault<R: Threads + Wait + Sync + Abort>(
+    rt: &R,
+    alloc: Global,
+    chips: &[u64],
+    plan: Plan,
+    feeds: &[(u64, u64)],
+) -> Result<CrewFault, Fail> {
+    let game = triangle(alloc, chips)?;
+    match run_fed(rt, alloc, &game, plan, feeds, &Always) {
+        Ok(_) => panic!(rt; "the crew finished"),
+        Err(fault) => Ok(fault),
+    }
+}
+
+#[test]
+fn feeds_that_are_refused(rt: HostRuntime) -> Result<(), Fail> {
+    let alloc = rt.alloc();
+    let none = [0, 0, 0];
+    for feed in [(3, 1), (0, 0)] {
+        let fault = feed_fault(&rt, alloc, &none, PAIR, &[(1, 1), feed])?;
+        assert!(&rt; matches!(fault, CrewFault::Plan));
+    }
+    let past = Plan { ring: 0, ..PAIR };
+    let fault = feed_fault(&rt, alloc, &none, past, &[(0, LIMIT), (0, 1)])?;
+    assert!(&rt; matches!(fault, CrewFault::Plan));
+    let fault = feed_fault(&rt, alloc, &none, PAIR, &[(0, LIMIT), (0, 1)])?;
+    assert!(&rt; matches!(fault, CrewFault::Total));
+    let fault = feed_fault(&rt, alloc, &[1, 0, 0], PAIR, &[(2, LIMIT)])?;
+    assert!(&rt; matches!(fault, CrewFault::Total));
+    // As many chips as there may be, all on the sink.
+    let game = triangle(alloc, &none)?;
+    let ended = fed(&rt, alloc, &game, PAIR, &[(2, LIMIT)]);
+    expect_outcome(&rt, &ended.outcome, &[0, 0, 0], &[0, 0, LIMIT], &[]);
+    Ok(())
+}
+
+/// How many messages are open where one worker's turns do not suffice for these feeds. Its turns are of vertex 0, 1, 2
+/// and so on, and each begins with a feed.
+fn expect_open<R: Threads + Wait + Sync + Abort>(
+    rt: &R,
+    alloc: Global,
+    turns: u64,
+    feeds: &[(u64, u64)],
+    open: u64,
+) -> Result<(), Fail> {
+    let plan = Plan {
+        workers: 1,
+        turns,
+        ..PAIR
+    };
+    let fault = feed_fault(rt, alloc, &[0, 0, 0], plan, feeds)?;
+    assert!(rt; matches!(fault, CrewFault::Unfinished { deficit, .. } if deficit == open));
+    Ok(())
+}
+
+#[test]
+fn out_of_turns_for_feeds(rt: HostRuntime) -> Result<(), Fail> {
+    let alloc = rt.alloc();
+    // Vertex 0 takes the first and acknowledges it in its turn, since it can't fire. The second is not made.
+    expect_open(&rt, alloc, 1, &[(0, 1), (1, 1)], 0)?;
+    // Vertex 1 has no turn.
+    expect_open(&rt, alloc, 1, &[(1, 1), (0, 1)], 1)?;
+    // The sink takes the first in the third turn. Before the second and third its cell is full, so nothing is fed.
+    expect_open(&rt, alloc, 3, &[(2, 1), (2, 1)], 0)?;
+    // Before the fourth the second is fed, and that is a turn of vertex 0.
+    expect_open(&rt, alloc, 4, &[(2, 1), (2, 1)], 1)
 }

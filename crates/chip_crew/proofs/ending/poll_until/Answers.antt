@@ -1,5 +1,5 @@
 use Rattle.std.proofs.Common.{◌+◌, subst, rules, refl}
-use Rattle.chip_net.specs.Roots.{AnswersPoll, root_deficit}
+use Rattle.chip_net.specs.Roots.{AnswersPoll}
 use Rattle.chip_net.specs.declared.root.RootState.{RootState}
 use Rattle.chip_crew.proofs.Polling.{polled_same, polled_more, until_answer}
 use Rattle.chip_crew.proofs.ending.poll_until.Goals as goal
@@ -8,7 +8,7 @@ pub returns-in-Closed-clause-until : goal.returns-in-Closed-clause-until
 returns-in-Closed-clause-until c = (
   c.loop.counter + 1,
   polled_more _ _ _ _ c.loop.invariant.1 c.poll.ensures.polls.polling,
-  subst (λ (state : RootState). AnswersPoll (root_deficit c.poll.new.self) state) c.in-Closed.is
+  subst (λ (state : RootState). AnswersPoll c.poll.new.self state) c.in-Closed.is
       c.poll.ensures.polls.answers,
 )
 

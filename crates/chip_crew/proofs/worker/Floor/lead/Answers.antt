@@ -1,7 +1,5 @@
-use Rattle.std.proofs.Common.{◌∙◌, sym, subst, rules}
-use Rattle.chip_net.specs.Roots.{RootKnown}
-use Rattle.chip_crew.specs.Crew.{Polled}
-use Rattle.chip_crew.proofs.Polling.{polled_same, polled_more}
+use Rattle.std.proofs.Common.{◌+◌, ◌∙◌, sym, rules}
+use Rattle.chip_crew.proofs.FeedLemmas.{OnTheWay, led_more, may_more, still_there}
 use Rattle.chip_crew.proofs.Owning.{true_or_false}
 use Rattle.chip_crew.proofs.worker.Floor.lead.Goals as goal
 use Rattle.chip_crew.proofs.worker.Floor.lead.Goals.{else-loop-turn-test, then-loop-turn-test+then-load}
@@ -11,6 +9,16 @@ use Rattle.chip_crew.proofs.worker.Floor.lead.Goals.{then-loop-turn-test+else-lo
 pub invariant_of-result : goal.invariant_of-result
 invariant_of-result g c =
     let i = c.loop-turn.invariant in
+    let way : OnTheWay g.B.Room.feeds g.B.Room.root c.loop-turn-test.polls c.loop-turn-test.root =
+    elim c.loop-turn-test.branch [
+      | else-loop-turn-test w ↦ still_there _ _ _ _ _ _ _ i.led i.may (w.polls-is ∙ i.polls) w.root-is
+      | then-loop-turn-test+then-load w ↦ still_there _ _ _ _ _ _ _ i.led i.may (w.polls-is ∙ i.polls) w.root-is
+      | then-loop-turn-test+else-load+then-not-pass w ↦ still_there _ _ _ _ _ _ _ i.led i.may (w.polls-is ∙ i.polls)
+          w.root-is
+      | then-loop-turn-test+else-load+else-not-pass+in-Closed w ↦ still_there _ _ _ _ _ (c.loop-turn.turn + 1) _
+          (led_more _ _ _ _ _ _ _ _ i.led w.feed_once-feeds.ensures.fed w.poll.ensures.polls.polling)
+          (may_more _ _ _ _ _ i.may w.feed_once-feeds.ensures.fed w.poll.ensures.polls.polling) w.polls-is w.root-is
+    ] in
     record {
       handed = record {
         kept = search rules;
@@ -25,14 +33,24 @@ invariant_of-result g c =
       };
       polled = record {
         net = search rules;
-        polled = subst (λ (r : RootKnown). Polled c.loop-turn-test.polls r c.loop-turn-test.root) c.requires.root.0 (elim c.loop-turn-test.branch [
-          | else-loop-turn-test w ↦ polled_same _ _ c.args.helm.root _ _ (w.polls-is ∙ i.polls) w.root-is i.polled
-          | then-loop-turn-test+then-load w ↦ polled_same _ _ c.args.helm.root _ _ (w.polls-is ∙ i.polls) w.root-is i.polled
-          | then-loop-turn-test+else-load+then-not-pass w ↦ polled_same _ _ c.args.helm.root _ _
-              (w.polls-is ∙ i.polls) w.root-is i.polled
-          | then-loop-turn-test+else-load+else-not-pass+in-Closed w ↦ polled_same _ _ c.args.helm.root _ _ w.polls-is
-              w.root-is (polled_more _ _ _ _ i.polled w.poll.ensures.polls.polling)
-        ]);
+        left = way.left;
+        led = way.led;
+        may = way.may;
         at_most = search rules;
       };
+    }
+
+pub loop-turn-preserved : goal.loop-turn-preserved
+loop-turn-preserved g c =
+    let i = c.loop-turn.invariant in
+    record {
+      pass = search rules;
+      kept = search rules;
+      seal = search rules;
+      net = search rules;
+      here = search rules;
+      polls = search rules;
+      led = led_more _ _ _ _ _ _ _ _ i.led c.feed_once-feeds.ensures.fed c.poll.ensures.polls.polling;
+      may = may_more _ _ _ _ _ i.may c.feed_once-feeds.ensures.fed c.poll.ensures.polls.polling;
+      passed = search rules;
     }

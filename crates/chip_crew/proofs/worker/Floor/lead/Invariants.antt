@@ -1,6 +1,8 @@
 use Rattle.std.proofs.Common.{◌≡◌, true, IfSome}
+use Rattle.std.specs.Option.{option_copied}
 use Rattle.crossbeam_queue.specs.Passes.{IsPassOf}
-use Rattle.chip_crew.specs.Crew.{IsOurs, Polled}
+use Rattle.chip_crew.specs.Crew.{IsOurs}
+use Rattle.chip_crew.specs.Feeding.{IsLed, MayFeedLeft}
 use Rattle.chip_crew.proofs.worker.Floor.lead.Given as goal
 
 abbrev pub invariant-loop-turn : goal.invariant-loop-turn
@@ -11,6 +13,7 @@ invariant-loop-turn g l = record {
   net : l.root.net ≡ g.B.Room.crew.net;
   here : l.self.net.now ≡ g.B.Room.crew.net;
   polls : l.polls ≡ l.turn;
-  polled : Polled l.turn l.initial.root l.root;
+  led : IsLed l.turn g.B.Room.feeds g.B.Room.root (option_copied l.feeds) l.root;
+  may : MayFeedLeft l.root (option_copied l.feeds);
   passed : l.passed ≡ true;
 }

@@ -1,0 +1,302 @@
+-- What feeds, polls and the end leave of the root: what was fed, what may be fed still, and whether the end is noted.
+use Rattle.std.proofs.Common.{◌≡◌, ℕ, zero, suc, ◌+◌, ◌-◌, ◌<◌, Bool, true, List, [], ◌∷◌, ◌++◌, map}
+use Rattle.std.proofs.Common.{Some, None, All, sum, refl, sym, ap, ◌∙◌, subst, arith, append-nil, append_assoc, ⊎_elim}
+use Rattle.std.proofs.Common.{add-one}
+use Rattle.std.proofs.lemmas.List.Elements.{All-tail}
+use Rattle.std.proofs.lemmas.List.Sums.{sum_by-append}
+use Rattle.chip_graph.specs.More.{all_brought}
+use Rattle.chip_actor.specs.Setting.{Setting}
+use Rattle.chip_actor.specs.Steps.{ended_after, does}
+use Rattle.chip_core.specs.Core.{Step, Event, Clear, Settle, Part, opened, root_edge, graph_edges}
+use Rattle.chip_core.specs.Histories.{part_by}
+use Rattle.chip_core.specs.Positions.{fed_of, fed_in}
+use Rattle.chip_net.specs.Tokens.{NetId}
+use Rattle.chip_net.specs.declared.root.RootState.{RootState}
+use Rattle.chip_net.specs.Roots.{RootKnown, root_part, root_after, has_ended, fed_by, all_given, Feeds, LooksInVain}
+use Rattle.chip_net.specs.Roots.{feed_steps, settles_from, IsPolling, Ends}
+use Rattle.chip_crew.specs.Crew.{Polled}
+use Rattle.chip_crew.proofs.Owning.{true_or_false}
+use Rattle.chip_crew.specs.Feeding.{Left, MayFeed, MayFeedLeft, FeedsNext, EndsAfter, FeedsOnce, IsLed}
+
+-- ---- events of the root
+
+-- whether the end is noted after these events
+abbrev noted_after : Bool → List Event → Bool
+noted_after b [] = b
+noted_after b (x ∷ xs) = noted_after (ended_after x b) xs
+
+noted_append : (b : Bool) (xs ys : List Event) → noted_after b (xs ++ ys) ≡ noted_after (noted_after b xs) ys
+noted_append b [] ys = refl
+noted_append b (x ∷ xs) ys = noted_append (ended_after x b) xs ys
+
+-- what these events feed
+abbrev fed_events : Setting → List Event → List (ℕ × ℕ)
+fed_events g [] = []
+fed_events g (x ∷ xs) = fed_of g x ++ fed_events g xs
+
+module _ (g : Setting) where
+  noted_settles : (b : Bool) (v n : ℕ) → noted_after b (settles_from g v n) ≡ b
+  noted_settles b v zero = refl
+  noted_settles b v (suc n) = noted_append b (settles_from g v n) (Settle (root_edge g (v + n)) ∷ [])
+      ∙ noted_settles b v n
+
+  fed_append : (xs ys : List Event) → fed_events g (xs ++ ys) ≡ fed_events g xs ++ fed_events g ys
+  fed_append [] ys = refl
+  fed_append (x ∷ xs) ys = ap (λ (l : List (ℕ × ℕ)). fed_of g x ++ l) (fed_append xs ys)
+      ∙ sym (append_assoc (fed_of g x) (fed_events g xs) (fed_events g ys))
+
+  fed_settles : (v n : ℕ) → fed_events g (settles_from g v n) ≡ []
+  fed_settles v zero = refl
+  fed_settles v (suc n) = fed_append (settles_from g v n) (Settle (root_edge g (v + n)) ∷ [])
+      ∙ append-nil (fed_events g (settles_from g v n)) ∙ fed_settles v n
+
+  part_ended : (s : Part) (xs : List Step)
+      → (part_by g s xs).ended ≡ noted_after s.ended (map (λ (x : Step). x.event) xs)
+  part_ended s [] = refl
+  part_ended s (x ∷ xs) = part_ended (does g x s) xs
+
+  part_append : (s : Part) (xs ys : List Step) → part_by g s (xs ++ ys) ≡ part_by g (part_by g s xs) ys
+  part_append s [] ys = refl
+  part_append s (x ∷ xs) ys = part_append (does g x s) xs ys
+
+  fed_is : (xs : List Step) → fed_in g xs ≡ fed_events g (map (λ (x : Step). x.event) xs)
+  fed_is [] = refl
+  fed_is (x ∷ xs) = ap (λ (l : List (ℕ × ℕ)). fed_of g x.event ++ l) (fed_is xs)
+
+  fed_steps : (xs ys : List Step) → fed_in g (xs ++ ys) ≡ fed_in g xs ++ fed_in g ys
+  fed_steps [] ys = refl
+  fed_steps (x ∷ xs) ys = ap (λ (l : List (ℕ × ℕ)). fed_of g x.event ++ l) (fed_steps xs ys)
+      ∙ sym (append_assoc (fed_of g x.event) (fed_in g xs) (fed_in g ys))
+
+-- ---- the root after more
+
+-- it has the same net, fed these more, and the end is noted or not
+pub record Adds (old new : RootKnown) (more : List (ℕ × ℕ)) (ended : Bool) : Type 0 where
+  pub net : new.net ≡ old.net
+  pub stopper : new.stopper_did ≡ old.stopper_did
+  pub fed : fed_by new ≡ fed_by old ++ more
+  pub ended_is : has_ended new ≡ ended
+
+adds_steps : (old new : RootKnown) (steps : List Step) (xs : List Event) (more : List (ℕ × ℕ)) (ended : Bool)
+    → new ≡ root_after old steps → map (λ (x : Step). x.event) steps ≡ xs → noted_after (has_ended old) xs ≡ ended
+    → fed_events old.net.setting xs ≡ more → Adds old new more ended
+adds_steps old new steps xs more ended is events_are noted feeds =
+    let g : Setting = old.net.setting in
+    let after : RootKnown = root_after old steps in
+    let ended_is : has_ended after ≡ ended =
+    ap (λ (s : Part). s.ended) (part_append g (opened g) old.did steps) ∙ part_ended g (root_part old) steps
+    ∙ ap (noted_after (has_ended old)) events_are ∙ noted in
+    let fed : fed_by after ≡ fed_by old ++ more = fed_steps g old.did steps
+    ∙ ap (λ (l : List (ℕ × ℕ)). fed_by old ++ l) (fed_is g steps ∙ ap (fed_events g) events_are ∙ feeds) in
+    subst (λ (r : RootKnown). Adds old r more ended) (sym is)
+    (record { net = refl; stopper = refl; fed = fed; ended_is = ended_is })
+
+-- a poll feeds nothing
+pub poll_adds : (old new : RootKnown) (n : ℕ) → IsPolling old new n → Adds old new [] (has_ended old)
+poll_adds old new n polling = adds_steps old new polling.steps _ [] (has_ended old) polling.record_is
+    polling.events_are (noted_settles old.net.setting (has_ended old) 0 n) (fed_settles old.net.setting 0 n)
+
+-- nor does a look in vain
+look_adds : (old new : RootKnown) (v : ℕ) → LooksInVain old new v → Adds old new [] (has_ended old)
+look_adds old new v looks =
+    adds_steps old new (record { event = Clear (root_edge old.net.setting v); seen = looks.seen } ∷ []) _ []
+    (has_ended old) looks.record_is refl refl refl
+
+-- nor the end
+end_adds : (old new : RootKnown) (answer : RootState) → Ends old new answer → Adds old new [] true
+end_adds old new answer ends =
+    let g : Setting = old.net.setting in
+    adds_steps old new ends.ending.steps _ [] true ends.ending.record_is ends.ending.events_are
+    (noted_settles g true 1 (g.graph.vertices - 1)) (fed_settles g 1 (g.graph.vertices - 1))
+
+-- a feed feeds what it says
+feed_adds : (old new : RootKnown) (v k place : ℕ) → Feeds old new v k place
+    → Adds old new ((v, k) ∷ []) (has_ended old)
+feed_adds old new v k place feeds =
+    let g : Setting = old.net.setting in
+    let back : root_edge g v - graph_edges g ≡ v = omega arith in
+    adds_steps old new (feed_steps g v k place) _ ((v, k) ∷ []) (has_ended old) feeds.record_is refl refl
+    (ap (λ (w : ℕ). (w, k) ∷ []) back)
+
+-- so many polls feed nothing
+pub polls_add : (k : ℕ) (old now : RootKnown) → Polled k old now → Adds old now [] (has_ended old)
+polls_add zero old now is = subst (λ (r : RootKnown). Adds old r [] (has_ended old)) (sym is)
+    (record { net = refl; stopper = refl; fed = sym (append-nil (fed_by old)); ended_is = refl })
+polls_add (suc k) old now more =
+    let first = polls_add k old more.0 more.1 in
+    let last = poll_adds more.0 now more.0.net.setting.graph.vertices more.2 in
+    record {
+      net = last.net ∙ first.net;
+      stopper = last.stopper ∙ first.stopper;
+      fed = last.fed ∙ append-nil (fed_by more.0) ∙ first.fed;
+      ended_is = last.ended_is ∙ first.ended_is;
+    }
+
+-- ---- what may be fed still
+
+all_right : {X : Type 0} (P : X → Type 0) (xs ys : List X) → All P (xs ++ ys) → All P ys
+all_right P [] ys all = all
+all_right P (x ∷ xs) ys all = all_right P xs ys (All-tail P x (xs ++ ys) all)
+
+all_brought_both : (xs ys : List (ℕ × ℕ)) → all_brought (xs ++ ys) ≡ all_brought xs + all_brought ys
+all_brought_both xs ys = sum_by-append (λ (p : ℕ × ℕ). p.1) xs ys
+
+may_after : (old new : RootKnown) (more left : List (ℕ × ℕ)) → Adds old new more (has_ended old)
+    → MayFeed old (more ++ left) → MayFeed new left
+may_after old new more left adds may =
+    let given : all_given new ≡ all_given old + all_brought more =
+    ap (λ (n : NetId). sum n.setting.start + all_brought (fed_by new)) adds.net
+    ∙ ap (λ (l : List (ℕ × ℕ)). sum old.net.setting.start + all_brought l) adds.fed
+    ∙ ap (λ (n : ℕ). sum old.net.setting.start + n) (all_brought_both (fed_by old) more) ∙ omega arith in
+    let both : all_brought (more ++ left) ≡ all_brought more + all_brought left = all_brought_both more left in
+    record {
+      not_ended = adds.ended_is ∙ may.not_ended;
+      each = subst (λ (n : NetId). All (λ (p : ℕ × ℕ). (p.0 < n.setting.graph.vertices) × (0 < p.1)) left)
+          (sym adds.net) (all_right (λ (p : ℕ × ℕ). (p.0 < old.net.setting.graph.vertices) × (0 < p.1)) more left may.each);
+      within = omega (arith, may.within, given, both);
+    }
+
+-- what is left, as a list
+abbrev pub pairs : Left → List (ℕ × ℕ)
+pairs None = []
+pairs (Some left) = left
+
+-- the root went on feeding: of what was left some was fed, in order, and the others are left and may be fed
+pub record GoesOn (feeds left : Left) (old new : RootKnown) : Type 0 where
+  pub net : new.net ≡ old.net
+  pub stopper : new.stopper_did ≡ old.stopper_did
+  pub fed : fed_by new ++ pairs left ≡ fed_by old ++ pairs feeds
+  pub may : MayFeedLeft old feeds → MayFeedLeft new left
+
+stays : (feeds left : Left) (old new : RootKnown) → left ≡ feeds → new ≡ old → GoesOn feeds left old new
+stays feeds left old new same is = subst (λ (l : Left). GoesOn feeds l old new) (sym same)
+    (subst (λ (r : RootKnown). GoesOn feeds feeds old r) (sym is)
+    (record { net = refl; stopper = refl; fed = refl; may = λ may. may }))
+
+goes_on : (a b c : Left) (x y z : RootKnown) → GoesOn a b x y → GoesOn b c y z → GoesOn a c x z
+goes_on a b c x y z first last = record {
+  net = last.net ∙ first.net;
+  stopper = last.stopper ∙ first.stopper;
+  fed = last.fed ∙ first.fed;
+  may = λ may. last.may (first.may may);
+}
+
+-- a poll leaves what is left
+pub poll_goes_on : (left : Left) (old new : RootKnown) (n : ℕ) → IsPolling old new n → GoesOn left left old new
+poll_goes_on None old new n polling =
+    let adds = poll_adds old new n polling in
+    record {
+      net = adds.net;
+      stopper = adds.stopper;
+      fed = ap (λ (l : List (ℕ × ℕ)). l ++ []) (adds.fed ∙ append-nil (fed_by old));
+      may = λ may. tt;
+    }
+poll_goes_on (Some left) old new n polling =
+    let adds = poll_adds old new n polling in
+    record {
+      net = adds.net;
+      stopper = adds.stopper;
+      fed = ap (λ (l : List (ℕ × ℕ)). l ++ left) (adds.fed ∙ append-nil (fed_by old));
+      may = λ may. may_after old new [] left adds may;
+    }
+
+-- the first that is left was fed, or is left still
+next_goes_on : (feeds left : List (ℕ × ℕ)) (old new : RootKnown) → FeedsNext feeds left old new
+    → GoesOn (Some feeds) (Some left) old new
+next_goes_on [] left old new next = stays (Some []) (Some left) old new (ap Some next.0) next.1
+next_goes_on (pair ∷ rest) left old new next = ⊎_elim
+    (λ (h : (left ≡ rest) × ((place : ℕ) × Feeds old new pair.0 pair.1 place)).
+    let adds = feed_adds old new pair.0 pair.1 h.1.0 h.1.1 in
+    subst (λ (l : List (ℕ × ℕ)). GoesOn (Some (pair ∷ rest)) (Some l) old new) (sym h.0)
+    (record {
+      net = adds.net;
+      stopper = adds.stopper;
+      fed = ap (λ (l : List (ℕ × ℕ)). l ++ rest) adds.fed ∙ append_assoc (fed_by old) (pair ∷ []) rest;
+      may = λ may. may_after old new (pair ∷ []) rest adds may;
+    }))
+    (λ (h : (left ≡ pair ∷ rest) × LooksInVain old new pair.0).
+    let adds = look_adds old new pair.0 h.1 in
+    subst (λ (l : List (ℕ × ℕ)). GoesOn (Some (pair ∷ rest)) (Some l) old new) (sym h.0)
+    (record {
+      net = adds.net;
+      stopper = adds.stopper;
+      fed = ap (λ (l : List (ℕ × ℕ)). l ++ (pair ∷ rest)) (adds.fed ∙ append-nil (fed_by old));
+      may = λ may. may_after old new [] (pair ∷ rest) adds may;
+    }))
+    next
+
+-- the end is noted where nothing is left
+end_goes_on : (rest : List (ℕ × ℕ)) (left : Left) (old new : RootKnown) → EndsAfter rest left old new
+    → GoesOn (Some rest) left old new
+end_goes_on [] left old new ends =
+    let adds = end_adds old new ends.1.0 ends.1.1 in
+    subst (λ (l : Left). GoesOn (Some []) l old new) (sym ends.0)
+    (record {
+      net = adds.net;
+      stopper = adds.stopper;
+      fed = ap (λ (l : List (ℕ × ℕ)). l ++ []) (adds.fed ∙ append-nil (fed_by old));
+      may = λ may. tt;
+    })
+end_goes_on (pair ∷ rest) left old new ends = stays (Some (pair ∷ rest)) left old new ends.0 ends.1
+
+pub once_goes_on : (feeds left : Left) (old new : RootKnown) → FeedsOnce feeds left old new
+    → GoesOn feeds left old new
+once_goes_on None left old new once = stays None left old new once.0 once.1
+once_goes_on (Some feeds) left old new once = goes_on (Some feeds) (Some once.0) left old once.1 new
+    (next_goes_on feeds once.0 old once.1 once.2) (end_goes_on once.0 left once.1 new once.3)
+
+-- worker 0 leads the root so
+pub led_goes_on : (k : ℕ) (feeds left : Left) (old now : RootKnown) → IsLed k feeds old left now
+    → GoesOn feeds left old now
+led_goes_on zero feeds left old now led = stays feeds left old now led.0 led.1
+led_goes_on (suc k) feeds left old now led =
+    goes_on feeds led.0 left old led.1 now (led_goes_on k feeds led.0 old led.1 led.3)
+    (goes_on led.0 left left led.1 led.2 now (once_goes_on led.0 left led.1 led.2 led.4)
+    (poll_goes_on left led.2 now led.2.net.setting.graph.vertices led.5))
+
+-- ---- the root that is led
+
+-- one poll more, and a feed before it
+pub led_more : (k : ℕ) (feeds rest left : Left) (old before fed now : RootKnown) → IsLed k feeds old rest before
+    → FeedsOnce rest left before fed → IsPolling fed now fed.net.setting.graph.vertices
+    → IsLed (k + 1) feeds old left now
+led_more k feeds rest left old before fed now led once poll =
+    subst (λ (n : ℕ). IsLed n feeds old left now) (sym (add-one k)) (rest, before, fed, led, once, poll)
+
+pub may_more : (rest left : Left) (before fed now : RootKnown) → MayFeedLeft before rest
+    → FeedsOnce rest left before fed → IsPolling fed now fed.net.setting.graph.vertices → MayFeedLeft now left
+may_more rest left before fed now may once poll =
+    (poll_goes_on left fed now fed.net.setting.graph.vertices poll).may ((once_goes_on rest left before fed once).may may)
+
+-- after so many polls something is left, which may be fed
+pub record OnTheWay (feeds : Left) (old : RootKnown) (polls : ℕ) (root : RootKnown) : Type 0 where
+  pub left : Left
+  pub led : IsLed polls feeds old left root
+  pub may : MayFeedLeft root left
+
+pub still_there : (feeds left : Left) (old here now : RootKnown) (j k : ℕ) → IsLed j feeds old left here
+    → MayFeedLeft here left → k ≡ j → now ≡ here → OnTheWay feeds old k now
+still_there feeds left old here now j k led may count is =
+    subst (λ (n : ℕ). OnTheWay feeds old n now) (sym count) (subst (λ (r : RootKnown). OnTheWay feeds old j r) (sym is)
+    (record { left = left; led = led; may = may }))
+
+-- where the end is noted from the beginning these are polls alone
+pub led_unfed : (k : ℕ) (left : Left) (old now : RootKnown) → IsLed k None old left now
+    → (left ≡ None) × Polled k old now
+led_unfed zero left old now led = led
+led_unfed (suc k) left old now led =
+    let before = led_unfed k led.0 old led.1 led.3 in
+    let once : FeedsOnce None left led.1 led.2 =
+    subst (λ (l : Left). FeedsOnce l left led.1 led.2) before.0 led.4 in (
+      once.0,
+      (
+        led.1,
+        before.1,
+        subst (λ (r : RootKnown). IsPolling r now r.net.setting.graph.vertices) once.1 led.5,
+      ),
+    )
+
+-- a root that is closed has nothing left to feed
+pub over_has_fed : (left : Left) (root : RootKnown) → MayFeedLeft root left → has_ended root ≡ true → left ≡ None
+over_has_fed None root may ended = refl
+over_has_fed (Some left) root may ended = absurd (true_or_false (has_ended root) ended may.not_ended)

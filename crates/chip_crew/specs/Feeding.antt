@@ -1,0 +1,46 @@
+-- How worker 0 feeds a game while it runs.
+use Rattle.std.specs.Prelude.{◌≡◌, ◌⊎◌, ℕ, zero, suc, ◌+◌, ◌<◌, ◌≤◌, false, All, List, [], ◌∷◌, Option, Some, None}
+use Rattle.chip_graph.specs.Limits.{max_total}
+use Rattle.chip_graph.specs.More.{all_brought}
+use Rattle.chip_net.specs.Roots.{RootKnown, has_ended, all_given, Feeds, LooksInVain, Ends, IsPolling}
+use Rattle.chip_net.specs.declared.root.RootState.{RootState}
+
+-- what is left to feed before the end is noted, a vertex and its chips each; nothing where the end is noted
+abbrev pub Left : Type 0
+Left = Option (List (ℕ × ℕ))
+
+-- the root may feed all of these: the end isn't noted, each is of one chip or more for a vertex, and with what was given
+-- they stay within the total
+pub record MayFeed (root : RootKnown) (left : List (ℕ × ℕ)) : Type 0 where
+  pub not_ended : has_ended root ≡ false
+  pub each : All (λ pair. (pair.0 < root.net.setting.graph.vertices) × (0 < pair.1)) left
+  pub within : all_given root + all_brought left ≤ max_total
+
+-- so it may, where the end isn't noted
+abbrev pub MayFeedLeft : RootKnown → Left → Type 0
+MayFeedLeft root None = Unit {0}
+MayFeedLeft root (Some left) = MayFeed root left
+
+-- the first that is left was fed; or its cell was full, and it is left still
+abbrev pub FeedsNext : List (ℕ × ℕ) → List (ℕ × ℕ) → RootKnown → RootKnown → Type 0
+FeedsNext [] left old new = (left ≡ []) × (new ≡ old)
+FeedsNext (pair ∷ rest) left old new = ((left ≡ rest) × ((place : ℕ) × Feeds old new pair.0 pair.1 place))
+    ⊎ ((left ≡ pair ∷ rest) × LooksInVain old new pair.0)
+
+-- where nothing is left, the end is noted
+abbrev pub EndsAfter : List (ℕ × ℕ) → Left → RootKnown → RootKnown → Type 0
+EndsAfter [] left old new = (left ≡ None) × ((answer : RootState) × Ends old new answer)
+EndsAfter (pair ∷ rest) left old new = (left ≡ Some (pair ∷ rest)) × (new ≡ old)
+
+-- the first that is left was fed if its cell was empty, and the end was noted where then nothing was left
+abbrev pub FeedsOnce : Left → Left → RootKnown → RootKnown → Type 0
+FeedsOnce None left old new = (left ≡ None) × (new ≡ old)
+FeedsOnce (Some feeds) left old new =
+    (rest : List (ℕ × ℕ)) × (middle : RootKnown) × FeedsNext feeds rest old middle × EndsAfter rest left middle new
+
+-- the root was polled so many times, and before each poll it fed what it could of these; this is what is left
+abbrev pub IsLed : ℕ → Left → RootKnown → Left → RootKnown → Type 0
+IsLed zero feeds old left now = (left ≡ feeds) × (now ≡ old)
+IsLed (suc k) feeds old left now =
+    (rest : Left) × (before : RootKnown) × (fed : RootKnown) × IsLed k feeds old rest before
+    × FeedsOnce rest left before fed × IsPolling fed now fed.net.setting.graph.vertices

@@ -1,0 +1,45 @@
+//! How worker 0 feeds a game while it runs.
+
+ghost use Rattle.std.specs.Prelude.{◌≡◌};
+ghost use Rattle.std.specs.Option.{option_copied};
+ghost use Rattle.chip_crew.specs.Feeding.{MayFeed, MayFeedLeft, FeedsNext, FeedsOnce};
+
+use chip_net::{FeedFault, Net, Root};
+
+/// Feeds the first that is left, and tells what is left then. Where its cell is full it is left still.
+fn feed_next<'a>(net: &Net, root: &mut Root, left: &'a [(u64, u64)]) -> &'a [(u64, u64)]
+    requires net { root.old.net ≡ net.now }
+    requires may { MayFeed root.old left.now }
+    ensures fed { FeedsNext left.now result.now root.old root.new }
+    ensures net { root.new.net ≡ net.now }
+{
+    let [(vertex, count), rest @ ..] = left else {
+        return left;
+    };
+    match root.feed(net, *vertex, *count) {
+        Ok(_) => rest,
+        Err(FeedFault::Full) => left,
+        // What a crew feeds stays within the total, and it notes the end once nothing is left.
+        Err(FeedFault::Ended | FeedFault::Total) => unreachable!(),
+    }
+}
+
+/// Feeds the first that is left, and notes the end once nothing is. Where it is noted nothing is done.
+pub(crate) fn feed_once<'a>(
+    net: &Net,
+    root: &mut Root,
+    left: Option<&'a [(u64, u64)]>,
+) -> Option<&'a [(u64, u64)]>
+    requires net { root.old.net ≡ net.now }
+    requires may { MayFeedLeft root.old (option_copied left) }
+    ensures fed { FeedsOnce (option_copied left.entry) (option_copied result) root.old root.new }
+    ensures net { root.new.net ≡ net.now }
+{
+    let left = feed_next(net, root, left?);
+    if left.is_empty() {
+        root.end(net);
+        None
+    } else {
+        Some(left)
+    }
+}

@@ -9,7 +9,7 @@ use mathlib.Core.Logic.{dite}
 use native.Mathlib.Decide.{ℕ_discrete, dec_lt}
 use Rattle.chip_graph.specs.Sums.{picked}
 use Rattle.chip_graph.specs.Multigraph.{degree}
-use Rattle.chip_actor.specs.Setting.{Setting, HasGame}
+use Rattle.chip_part.specs.Setting.{Setting, HasGame}
 use Rattle.chip_graph.proofs.SumLemmas.{tested_none}
 use Rattle.chip_link.specs.Link.{sent_counts}
 use Rattle.chip_link.proofs.Sounds.{length-sent_counts}
@@ -18,16 +18,16 @@ use Rattle.chip_fire.specs.Sequence.{position_after, IsFiringSequence, HasEnded,
 use Rattle.chip_fire.proofs.EndLemmas.{one_end}
 use Rattle.chip_fire.proofs.BoundLemmas.{same_ends}
 use Rattle.chip_fire.proofs.LegalLemmas.{picked_ext}
-use Rattle.chip_actor.specs.declared.cause.Cause.{Cause}
-use Rattle.chip_actor.specs.declared.cause.Cause.TheVariants.{SealedEdge, FiringLimit}
-use Rattle.chip_actor.specs.Edges.{over_ins}
-use Rattle.chip_actor.specs.Part.{is_legal}
-use Rattle.chip_actor.specs.Steps.{settled_after}
-use Rattle.chip_actor.specs.Kept.{IsNeutral}
-use Rattle.chip_actor.proofs.RuleLemmas.{rules_met}
-use Rattle.chip_actor.proofs.PartLemmas.{at_edge, idle_take, passive_parts, no_fire, no_pending, no_halt}
-use Rattle.chip_actor.proofs.PartLemmas.{out_zero, none_halt}
-use Rattle.chip_actor.proofs.EdgeLemmas.{tail_root, sendable_inside}
+use Rattle.chip_part.specs.declared.cause.Cause.{Cause}
+use Rattle.chip_part.specs.declared.cause.Cause.TheVariants.{SealedEdge, FiringLimit}
+use Rattle.chip_part.specs.Edges.{over_ins}
+use Rattle.chip_part.specs.Part.{is_legal}
+use Rattle.chip_part.specs.Steps.{settled_after}
+use Rattle.chip_part.specs.Kept.{IsNeutral}
+use Rattle.chip_part.proofs.RuleLemmas.{rules_met}
+use Rattle.chip_part.proofs.PartLemmas.{at_edge, idle_take, passive_parts, no_fire, no_pending, no_halt}
+use Rattle.chip_part.proofs.PartLemmas.{out_zero, none_halt}
+use Rattle.chip_part.proofs.EdgeLemmas.{tail_root, sendable_inside}
 use Rattle.chip_core.specs.Core.{Log, Step, Event, Take, Ack, Fire, Clear, Claim, Put, Halt, Settle, Seal, Read, Feed}
 use Rattle.chip_core.specs.Core.{End, Rule, Part, unmet, part_of, does, part_in, out_in, into_in, sees, is_by_limit}
 use Rattle.chip_core.specs.Core.{IsLegalLog, answer, step, log_after, IsClosed, outstanding, tail_of, head_of, root}

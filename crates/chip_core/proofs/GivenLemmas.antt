@@ -15,15 +15,15 @@ use Rattle.chip_graph.proofs.SumLemmas.{cond_yes, cond_no, sum_below_ext, sum_by
 use Rattle.chip_graph.proofs.SumLemmas.{sum_below_one, sum_below_add, sum_below_none}
 use Rattle.chip_link.specs.Words.{edge_word}
 use Rattle.chip_link.specs.Link.{Tail, sent_counts, claims_of, after_clear, after_claim, after_put, after_seal}
-use Rattle.chip_actor.specs.Setting.{Setting, HasGame, game_of_setting}
-use Rattle.chip_actor.specs.Edges.{start_of}
-use Rattle.chip_actor.specs.Part.{Part, all_fed}
-use Rattle.chip_actor.specs.Steps.{link_after, stop_after}
-use Rattle.chip_actor.specs.Kept.{Met, opening_tail}
-use Rattle.chip_actor.proofs.EdgeLemmas.{tail_root, sendable_inside}
-use Rattle.chip_actor.proofs.RuleLemmas.{rules_met}
-use Rattle.chip_actor.proofs.PartLemmas.{at_edge}
-use Rattle.chip_actor.proofs.Opening.{first_sent, first_fed}
+use Rattle.chip_part.specs.Setting.{Setting, HasGame, game_of_setting}
+use Rattle.chip_part.specs.Edges.{start_of}
+use Rattle.chip_part.specs.Part.{Part, all_fed}
+use Rattle.chip_part.specs.Steps.{link_after, stop_after}
+use Rattle.chip_part.specs.Kept.{Met, opening_tail}
+use Rattle.chip_part.proofs.EdgeLemmas.{tail_root, sendable_inside}
+use Rattle.chip_part.proofs.RuleLemmas.{rules_met}
+use Rattle.chip_part.proofs.PartLemmas.{at_edge}
+use Rattle.chip_part.proofs.Opening.{first_sent, first_fed}
 use Rattle.chip_core.specs.Core.{Log, Step, Event, Take, Ack, Fire, Clear, Claim, Put, Halt, Settle, Seal, Read, Feed}
 use Rattle.chip_core.specs.Core.{End, part_of, part_in, out_in, stop_in, sees, IsLegalLog, tail_of, root}
 use Rattle.chip_core.specs.Core.{root_edge, all_edges, graph_edges}

@@ -1,6 +1,6 @@
 -- The core theorem.
 use Rattle.std.proofs.Common.{◌≡◌, ℕ, ◌<◌, ◌++◌, List, sym, ap, ◌∙◌, append-nil}
-use Rattle.chip_actor.specs.Setting.{Setting, HasGame}
+use Rattle.chip_part.specs.Setting.{Setting, HasGame}
 use Rattle.chip_core.specs.Core.{Log, Event, IsLegalLog, log_after, IsClosed, all_edges}
 use Rattle.chip_core.specs.Messages.{Message, sent_on, delivered_on}
 use Rattle.chip_core.specs.Headline.{Headline, CoreTheorem}

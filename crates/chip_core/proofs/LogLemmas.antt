@@ -4,20 +4,20 @@ use Rattle.std.proofs.Common.{Some, None, option_to_list, refl, sym, ap, ◌∙�
 use Rattle.std.proofs.Common.{le-ltb, pos_of_ne-zero}
 use mathlib.Core.Logic.{dite}
 use native.Mathlib.Decide.{ℕ_discrete, dec_lt}
-use Rattle.chip_actor.specs.Setting.{Setting, HasGame}
+use Rattle.chip_part.specs.Setting.{Setting, HasGame}
 use Rattle.chip_graph.proofs.SumLemmas.{cond_yes, cond_no, cond_true, cond_false}
 use Rattle.chip_link.specs.Link.{Tail, claims_of, after_clear, after_claim, after_put, after_take, after_seal, Sound}
 use Rattle.chip_link.proofs.Sounds.{clear_sound, claim_sound, put_sound, take_sound, seal_sound, fresh_sound}
 use Rattle.chip_link.proofs.Sounds.{first_sound}
-use Rattle.chip_actor.specs.Edges.{start_of}
-use Rattle.chip_actor.specs.Part.{first_put, may_ack}
-use Rattle.chip_actor.specs.Steps.{link_after, settled_after, got_after, acked_after, stop_after}
-use Rattle.chip_actor.specs.Kept.{Met, KeepsOut, KeepsPart}
-use Rattle.chip_actor.proofs.EdgeLemmas.{tail_graph, tail_root, head_graph, head_root}
-use Rattle.chip_actor.proofs.RuleLemmas.{rules_met}
-use Rattle.chip_actor.proofs.PartLemmas.{at_edge, no_held}
-use Rattle.chip_actor.proofs.PartLemmas as part_lemmas
-use Rattle.chip_actor.proofs.Opening.{opening_keeps}
+use Rattle.chip_part.specs.Edges.{start_of}
+use Rattle.chip_part.specs.Part.{first_put, may_ack}
+use Rattle.chip_part.specs.Steps.{link_after, settled_after, got_after, acked_after, stop_after}
+use Rattle.chip_part.specs.Kept.{Met, KeepsOut, KeepsPart}
+use Rattle.chip_part.proofs.EdgeLemmas.{tail_graph, tail_root, head_graph, head_root}
+use Rattle.chip_part.proofs.RuleLemmas.{rules_met}
+use Rattle.chip_part.proofs.PartLemmas.{at_edge, no_held}
+use Rattle.chip_part.proofs.PartLemmas as part_lemmas
+use Rattle.chip_part.proofs.Opening.{opening_keeps}
 use Rattle.chip_core.specs.Core.{Log, Step, Event, Take, Ack, Fire, Clear, Claim, Put, Halt, Settle, Seal, Read, Feed}
 use Rattle.chip_core.specs.Core.{End, Part, Out, Into, part_of, does, part_in, out_in, into_in, stop_in, sees}
 use Rattle.chip_core.specs.Core.{IsLegalLog, tail_of, head_of, root, root_edge, stopper, all_edges, graph_edges}

@@ -8,20 +8,20 @@ use Rattle.std.proofs.lemmas.List.Sums.{sum_by-cons, sum_by-append}
 use Rattle.std.specs.List.{slice_get}
 use mathlib.Core.Logic.{dite}
 use native.Mathlib.Decide.{ℕ_discrete}
-use Rattle.chip_actor.specs.Setting.{Setting, HasGame}
+use Rattle.chip_part.specs.Setting.{Setting, HasGame}
 use Rattle.chip_graph.proofs.SumLemmas.{cond_yes, cond_no, by_test, cond_true, cond_false}
 use Rattle.chip_link.specs.Words.{edge_word}
 use Rattle.chip_link.specs.Link.{Tail, sent_counts, claims_of, after_clear, after_claim, after_put, after_take}
 use Rattle.chip_link.specs.Laws.{IsPrefix}
 use Rattle.chip_link.proofs.Numbering.{numbered, numbered-append, length-numbered, numbered_at}
 use Rattle.chip_link.proofs.Sounds.{length-sent_counts}
-use Rattle.chip_actor.specs.declared.reply.Reply.TheVariants.{Got, Sent, Empty, Sealed, NotNow}
-use Rattle.chip_actor.specs.Edges.{mult_of, start_of, root_edge}
-use Rattle.chip_actor.specs.Part.{first_put}
-use Rattle.chip_actor.specs.Steps.{message_of, link_after, got_after}
-use Rattle.chip_actor.proofs.RuleLemmas.{rules_met}
-use Rattle.chip_actor.proofs.PartLemmas.{at_edge, took_none}
-use Rattle.chip_actor.proofs.Opening.{first_few, first_sent}
+use Rattle.chip_part.specs.declared.reply.Reply.TheVariants.{Got, Sent, Empty, Sealed, NotNow}
+use Rattle.chip_part.specs.Edges.{mult_of, start_of, root_edge}
+use Rattle.chip_part.specs.Part.{first_put}
+use Rattle.chip_part.specs.Steps.{message_of, link_after, got_after}
+use Rattle.chip_part.proofs.RuleLemmas.{rules_met}
+use Rattle.chip_part.proofs.PartLemmas.{at_edge, took_none}
+use Rattle.chip_part.proofs.Opening.{first_few, first_sent}
 use Rattle.chip_core.specs.Core.{Log, Event, Take, Ack, Fire, Clear, Claim, Put, Halt, Settle, Seal, Read, Feed, End}
 use Rattle.chip_core.specs.Core.{Rule, Out, unmet, part_of, reply_of, part_in, out_in, into_in, stop_in, fired_by, sees}
 use Rattle.chip_core.specs.Core.{IsLegalLog, answer, step, log_after, replies_to, tail_of, head_of, graph_edges}

@@ -7,7 +7,7 @@ use Rattle.std.proofs.lemmas.List.Sums.{sum_by-cons, sum_by-append, get_or-le-su
 use mathlib.Core.Logic.{dite}
 use native.Mathlib.Decide.{ℕ_discrete, dec_lt}
 use Rattle.chip_graph.specs.Limits.{max_total}
-use Rattle.chip_actor.specs.Setting.{Setting, HasGame}
+use Rattle.chip_part.specs.Setting.{Setting, HasGame}
 use Rattle.chip_graph.proofs.SumLemmas.{cond_yes, cond_no, sum_below_term, tested_term}
 use Rattle.chip_link.specs.Words.{edge_word}
 use Rattle.chip_link.specs.WordLaws.{ReadsAs, ReadsAsFired}
@@ -16,11 +16,11 @@ use Rattle.chip_link.proofs.Sounds.{none_held, length-sent_counts}
 use Rattle.chip_link.proofs.WordLaws.{edge_word_reads, fired_word_reads}
 use Rattle.chip_fire.specs.Sequence.{position_after}
 use Rattle.chip_fire.proofs.BoundLemmas.{chips_are_kept}
-use Rattle.chip_actor.specs.Steps.{stop_after}
-use Rattle.chip_actor.specs.Acting.{FitsSeen, CanDo}
-use Rattle.chip_actor.specs.Root.{is_of_root, FitsRoot}
-use Rattle.chip_actor.proofs.EdgeLemmas.{tail_root}
-use Rattle.chip_actor.proofs.RuleLemmas.{rules_met}
+use Rattle.chip_part.specs.Steps.{stop_after}
+use Rattle.chip_part.specs.Acting.{FitsSeen, CanDo}
+use Rattle.chip_part.specs.Acting.{is_of_root, FitsRoot}
+use Rattle.chip_part.proofs.EdgeLemmas.{tail_root}
+use Rattle.chip_part.proofs.RuleLemmas.{rules_met}
 use Rattle.chip_core.specs.Core.{root, Log, Event, Take, Ack, Fire, Clear, Claim, Put, Halt, Settle, Seal, Read, Feed}
 use Rattle.chip_core.specs.Core.{End, unmet, part_of, part_in, out_in, into_in, stop_in, fired_by, word_of_part, sees}
 use Rattle.chip_core.specs.Core.{is_by_limit, IsLegalLog, tail_of, head_of, root_edge, all_edges, graph_edges}

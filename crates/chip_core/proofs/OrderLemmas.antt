@@ -5,14 +5,14 @@ use Rattle.std.proofs.lemmas.List.{get_or_past}
 use Rattle.std.proofs.lemmas.List.Elements.{Contains-append_right}
 use mathlib.Core.Logic.{dite}
 use native.Mathlib.Decide.{ℕ_discrete, dec_lt}
-use Rattle.chip_actor.specs.Setting.{Setting, HasGame}
+use Rattle.chip_part.specs.Setting.{Setting, HasGame}
 use Rattle.chip_graph.proofs.SumLemmas.{cond_yes, cond_no, cond_true, cond_false, by_test}
 use Rattle.chip_detect.specs.Acknowledging.{is_parent, or_else}
-use Rattle.chip_actor.specs.Part.{owed, may_ack}
-use Rattle.chip_actor.specs.Steps.{parent_after}
-use Rattle.chip_actor.specs.Kept.{IsNeutral}
-use Rattle.chip_actor.proofs.RuleLemmas.{rules_met}
-use Rattle.chip_actor.proofs.PartLemmas.{out_zero}
+use Rattle.chip_part.specs.Part.{owed, may_ack}
+use Rattle.chip_part.specs.Steps.{parent_after}
+use Rattle.chip_part.specs.Kept.{IsNeutral}
+use Rattle.chip_part.proofs.RuleLemmas.{rules_met}
+use Rattle.chip_part.proofs.PartLemmas.{out_zero}
 use Rattle.chip_core.specs.Core.{Log, Step, Event, Take, Ack, Fire, Clear, Claim, Put, Halt, Settle, Seal, Read, Feed}
 use Rattle.chip_core.specs.Core.{End, Part, part_of, does, part_in, out_in, into_in, IsLegalLog, IsSettled, outstanding}
 use Rattle.chip_core.specs.Core.{all_edges, tail_of, head_of, root}

@@ -11,7 +11,7 @@ use mathlib.Core.Logic.{dite}
 use native.Mathlib.Decide.{dec_lt}
 use Rattle.chip_graph.specs.Sums.{picked}
 use Rattle.chip_graph.specs.Multigraph.{Multigraph, IsGraph, edge_at, degree}
-use Rattle.chip_actor.specs.Setting.{Setting, HasGame}
+use Rattle.chip_part.specs.Setting.{Setting, HasGame}
 use Rattle.chip_graph.proofs.PickLemmas.{All-picked}
 use Rattle.chip_graph.proofs.SumLemmas.{tested_none}
 use Rattle.chip_fire.specs.declared.outcome.Outcome.{Outcome}
@@ -23,8 +23,8 @@ use Rattle.chip_fire.specs.Counted.{inflow, position_by_counts, IsBelowZero}
 use Rattle.chip_fire.proofs.FiringLemmas.{counts_outside}
 use Rattle.chip_fire.proofs.EndLemmas.{one_end}
 use Rattle.chip_fire.proofs.LegalLemmas.{picked_no, picked_ext, picked_ascends, Contains-picked}
-use Rattle.chip_actor.specs.declared.cause.Cause.{Cause}
-use Rattle.chip_actor.specs.declared.cause.Cause.TheVariants.{SealedEdge, FiringLimit}
+use Rattle.chip_part.specs.declared.cause.Cause.{Cause}
+use Rattle.chip_part.specs.declared.cause.Cause.TheVariants.{SealedEdge, FiringLimit}
 use Rattle.chip_core.specs.Core.{Log, part_in, fired_by, is_by_limit, IsLegalLog, IsClosed}
 use Rattle.chip_core.specs.Positions.{started, played_game, chips_at, firings}
 use Rattle.chip_core.specs.Headline.{NoneHaltedBySeal}

@@ -7,16 +7,16 @@ use Rattle.std.proofs.lemmas.List.Sums.{sum_by-append, sum_by-take-drop}
 use mathlib.Core.Logic.{dite}
 use native.Mathlib.Decide.{ℕ_discrete, dec_lt}
 use Rattle.chip_graph.specs.Multigraph.{degree, edge_at}
-use Rattle.chip_actor.specs.Setting.{Setting, HasGame}
+use Rattle.chip_part.specs.Setting.{Setting, HasGame}
 use Rattle.chip_graph.proofs.SumLemmas.{cond_yes, cond_no, cond_true, cond_false, tested_ext, tested_add}
 use Rattle.chip_link.specs.Link.{sent_counts}
 use Rattle.chip_fire.specs.Sequence.{position_after, IsFiringSequence, counts, IsWithin}
 use Rattle.chip_fire.specs.Counted.{inflow, position_by_counts, IsBelowZero}
 use Rattle.chip_fire.proofs.FiringLemmas.{counts-append, counts-replicate, inflow_ext, position_is, sequence-append}
 use Rattle.chip_fire.proofs.FiringLemmas.{batch, position_by_counts_law, more_chips}
-use Rattle.chip_actor.specs.Edges.{root_edge, mult_of, over_ins, made}
-use Rattle.chip_actor.proofs.EdgeLemmas.{over_ins_graph, tail_graph}
-use Rattle.chip_actor.proofs.RuleLemmas.{rules_met}
+use Rattle.chip_part.specs.Edges.{root_edge, mult_of, over_ins, made}
+use Rattle.chip_part.proofs.EdgeLemmas.{over_ins_graph, tail_graph}
+use Rattle.chip_part.proofs.RuleLemmas.{rules_met}
 use Rattle.chip_core.specs.Core.{Log, Step, Event, Take, Ack, Fire, Clear, Claim, Put, Halt, Settle, Seal, Read, Feed}
 use Rattle.chip_core.specs.Core.{End, Part, part_of, does, part_in, out_in, into_in, fired_by, IsLegalLog, tail_of}
 use Rattle.chip_core.specs.Core.{head_of, all_edges, graph_edges}

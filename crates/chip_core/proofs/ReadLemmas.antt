@@ -1,11 +1,11 @@
 -- Every read that was made saw the fired word that stands at the end, and the root is closed there.
 use Rattle.std.proofs.Common.{◌≡◌, ◌↔◌, ◌⊎◌, ℕ, zero, suc, ◌<◌, [], ◌∷◌, length, get_or, true, None, Contains, sym, ap}
 use Rattle.std.proofs.Common.{◌∙◌, arith, inl, inr, ⊎_elim, eqb, eqb-true}
-use Rattle.chip_actor.specs.Setting.{Setting, HasGame}
+use Rattle.chip_part.specs.Setting.{Setting, HasGame}
 use Rattle.chip_graph.proofs.SumLemmas.{tested_none}
-use Rattle.chip_actor.specs.Part.{deficit}
-use Rattle.chip_actor.proofs.RuleLemmas.{rules_met}
-use Rattle.chip_actor.proofs.PartLemmas.{out_zero}
+use Rattle.chip_part.specs.Part.{deficit}
+use Rattle.chip_part.proofs.RuleLemmas.{rules_met}
+use Rattle.chip_part.proofs.PartLemmas.{out_zero}
 use Rattle.chip_core.specs.Core.{Log, Step, Event, Read, unmet, part_of, part_in, sees, word_of_part, IsLegalLog}
 use Rattle.chip_core.specs.Core.{IsSettled, IsClosed, outstanding, tail_of, root, all_edges}
 use Rattle.chip_core.specs.Laws.{ReadsTell}

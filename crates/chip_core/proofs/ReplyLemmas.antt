@@ -3,12 +3,12 @@ use Rattle.std.proofs.Common.{◌≡◌, ◌≢◌, ℕ, suc, true, false, cond,
 use Rattle.std.proofs.Common.{refl, sym, ap, ◌∙◌, subst, true≢false}
 use mathlib.Core.Logic.{dite}
 use native.Mathlib.Decide.{ℕ_discrete}
-use Rattle.chip_actor.specs.Setting.{Setting}
+use Rattle.chip_part.specs.Setting.{Setting}
 use Rattle.chip_graph.proofs.SumLemmas.{cond_yes, cond_no}
 use Rattle.chip_link.specs.Link.{Tail, claims_of, after_clear, after_claim}
-use Rattle.chip_actor.specs.declared.reply.Reply.TheVariants.{Got, Sent, Empty, Sealed}
-use Rattle.chip_actor.specs.Steps.{message_of}
-use Rattle.chip_actor.proofs.PartLemmas.{at_edge, idle_take}
+use Rattle.chip_part.specs.declared.reply.Reply.TheVariants.{Got, Sent, Empty, Sealed}
+use Rattle.chip_part.specs.Steps.{message_of}
+use Rattle.chip_part.proofs.PartLemmas.{at_edge, idle_take}
 use Rattle.chip_core.specs.Core.{Log, Step, Event, Take, Ack, Fire, Clear, Claim, Put, Halt, Settle, Seal, Read, Feed}
 use Rattle.chip_core.specs.Core.{End, Rule, Reply, Part, unmet, part_of, does, reply_of, part_in, sees, answer, step}
 use Rattle.chip_core.specs.Core.{replies_to, log_after}

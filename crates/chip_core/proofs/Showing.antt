@@ -13,14 +13,14 @@ use Rattle.chip_link.specs.Words.{fired_word}
 use Rattle.chip_link.proofs.Shown.{clear_sees, claim_shows, put_shows, take_sees, take_shows, seal_shows}
 use Rattle.chip_link.proofs.Sounds.{one_held}
 use Rattle.chip_link.proofs.WordLaws.{halts_word, halts_by_limit}
-use Rattle.chip_actor.specs.Setting.{Setting, HasGame}
-use Rattle.chip_actor.specs.declared.cause.Cause.{Cause}
-use Rattle.chip_actor.specs.Part.{may_ack, cause, is_by_limit}
-use Rattle.chip_actor.specs.declared.cause.Cause.TheVariants.{SealedEdge, FiringLimit}
-use Rattle.chip_actor.specs.Kept.{Met}
-use Rattle.chip_actor.specs.Steps.{link_after, got_after, acked_after, stop_after}
-use Rattle.chip_actor.proofs.PartLemmas.{may_le}
-use Rattle.chip_actor.proofs.RuleLemmas.{rules_met}
+use Rattle.chip_part.specs.Setting.{Setting, HasGame}
+use Rattle.chip_part.specs.declared.cause.Cause.{Cause}
+use Rattle.chip_part.specs.Part.{may_ack, cause, is_by_limit}
+use Rattle.chip_part.specs.declared.cause.Cause.TheVariants.{SealedEdge, FiringLimit}
+use Rattle.chip_part.specs.Kept.{Met}
+use Rattle.chip_part.specs.Steps.{link_after, got_after, acked_after, stop_after}
+use Rattle.chip_part.proofs.PartLemmas.{may_le}
+use Rattle.chip_part.proofs.RuleLemmas.{rules_met}
 use Rattle.chip_core.specs.Core.{Log, Step, Event, Take, Ack, Fire, Clear, Claim, Put, Halt, Settle, Seal, Read, Feed}
 use Rattle.chip_core.specs.Core.{End, Part, Out, unmet, part_of, does, part_in, out_in, into_in, stop_in, word_of_part}
 use Rattle.chip_core.specs.Core.{sees, IsLegalLog, tail_of, head_of, root_edge, all_edges}
@@ -28,7 +28,7 @@ use Rattle.chip_core.specs.Words.{Word, of_edge, of_acks, of_cell, of_vertex, Is
 use Rattle.chip_core.specs.Words.{noted, IsShown, acting, OperationsFind, IsLeft, WordsGoOn}
 use Rattle.chip_core.proofs.LogLemmas.{part_here, part_else, link_step, got_step, acked_step, stop_step, out_kept}
 use Rattle.chip_core.proofs.LogLemmas.{part_kept, edge_sound, empty_hand}
-use Rattle.chip_actor.proofs.EdgeLemmas.{sendable_inside}
+use Rattle.chip_part.proofs.EdgeLemmas.{sendable_inside}
 use Rattle.chip_core.proofs.NumberLemmas.{claims_most}
 
 -- what a word is for, its edge or vertex, and its cell

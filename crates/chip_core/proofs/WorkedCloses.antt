@@ -2,8 +2,8 @@
 -- root.
 use Rattle.std.proofs.Common.{ℕ, zero, suc, ◌<◌, [], ◌∷◌, refl, arith}
 use Rattle.chip_graph.specs.Multigraph.{edge_at, IsEdge, IsGraph, ReachesSink}
-use Rattle.chip_actor.specs.Setting.{Setting}
-use Rattle.chip_actor.specs.Worked.{small_triangle}
+use Rattle.chip_part.specs.Setting.{Setting}
+use Rattle.chip_part.specs.Worked.{small_triangle}
 use Rattle.chip_core.specs.Core.{End, log_after}
 use Rattle.chip_core.specs.Worked.{whole_schedule, WholeSchedule, limit_of_two, stopped_by_limit, StoppedByLimit}
 use Rattle.chip_core.specs.Worked.{played_on, StoppedBySeal, fed_triangle, fed_schedule, ClosedByTheEnd}

@@ -1,18 +1,18 @@
 -- The whole core of a running game: the part of each vertex, of the root and of the stopper. All of them follow from
 -- one list, that of the events that were made.
 use Rattle.std.specs.Prelude.{◌≡◌, ℕ, true, ◌<◌, ◌==◌, if◌then◌else◌, List, [], ◌∷◌, Option, Some, None, is_some}
-use Rattle.chip_actor.specs.Setting.{Setting}
+use Rattle.chip_part.specs.Setting.{Setting}
 use Rattle.chip_link.specs.Words.{fired_word}
 use Rattle.chip_link.specs.Link.{cell_at_tail, cell_at_head, word_of}
-pub use Rattle.chip_actor.specs.Edges.{tail_of, head_of, root, root_edge, stopper, all_edges, graph_edges}
-pub use Rattle.chip_actor.specs.Part.{Part, Out, Into, opened, is_by_limit, outstanding}
-pub use Rattle.chip_actor.specs.Rules.{Event, Take, Ack, Fire, Clear, Claim, Put, Halt, Settle, Seal, Read, Feed, End}
-pub use Rattle.chip_actor.specs.Rules.{unmet}
-pub use Rattle.chip_actor.specs.declared.rule.Rule.{Rule}
+pub use Rattle.chip_part.specs.Edges.{tail_of, head_of, root, root_edge, stopper, all_edges, graph_edges}
+pub use Rattle.chip_part.specs.Part.{Part, Out, Into, opened, is_by_limit, outstanding}
+pub use Rattle.chip_part.specs.Rules.{Event, Take, Ack, Fire, Clear, Claim, Put, Halt, Settle, Seal, Read, Feed, End}
+pub use Rattle.chip_part.specs.Rules.{unmet}
+pub use Rattle.chip_part.specs.declared.rule.Rule.{Rule}
 pub use Rattle.chip_link.specs.declared.event.Step.{Step}
-pub use Rattle.chip_actor.specs.declared.reply.Reply.{Reply}
-pub use Rattle.chip_actor.specs.Steps.{part_of, does, reply_of}
-use Rattle.chip_actor.specs.declared.reply.Reply.TheVariants.{NotNow}
+pub use Rattle.chip_part.specs.declared.reply.Reply.{Reply}
+pub use Rattle.chip_part.specs.Steps.{part_of, does, reply_of}
+use Rattle.chip_part.specs.declared.reply.Reply.TheVariants.{NotNow}
 
 -- the events that were made since the opening, each with the word that it saw. The latest stands first, since all
 -- proofs go back from the last event; `asked_in` has them in the order in which they were made

@@ -1,8 +1,8 @@
 -- The tree of Dijkstra and Scholten (Termination detection for diffusing computations, 1980), as a list of its members.
 use Rattle.std.specs.Prelude.{◌≡◌, ◌⊎◌, ℕ, ◌<◌, List, [], ◌∷◌, Contains, Some}
-use Rattle.chip_actor.specs.Setting.{Setting}
-use Rattle.chip_actor.specs.Part.{owed}
-use Rattle.chip_actor.specs.Kept.{IsNeutral}
+use Rattle.chip_part.specs.Setting.{Setting}
+use Rattle.chip_part.specs.Part.{owed}
+use Rattle.chip_part.specs.Kept.{IsNeutral}
 use Rattle.chip_core.specs.Core.{Log, part_in, into_in, tail_of, head_of, all_edges, root}
 
 -- the edge e engaged v: it is the parent edge of v, it comes from the root or from one of these vertices, and v owes

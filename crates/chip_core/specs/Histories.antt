@@ -1,6 +1,6 @@
 -- The events of one part of the core, and the part that they leave.
 use Rattle.std.specs.Prelude.{ℕ, ◌==◌, if◌then◌else◌, List, [], ◌∷◌, ◌++◌}
-use Rattle.chip_actor.specs.Setting.{Setting}
+use Rattle.chip_part.specs.Setting.{Setting}
 use Rattle.chip_core.specs.Core.{Log, Step, Part, part_of, does}
 
 -- the events that the part p made, the first one in front

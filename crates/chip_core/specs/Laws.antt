@@ -3,16 +3,16 @@ use Rattle.std.specs.Prelude.{◌≡◌, ◌≢◌, ◌↔◌, ℕ, ◌+◌, ◌
 use Rattle.std.specs.Prelude.{sum, drop, is_some, nat_lt, if◌then◌else◌, Some, None}
 use Rattle.chip_graph.specs.ChipGame.{IsGame}
 use Rattle.chip_graph.specs.More.{HasMore}
-use Rattle.chip_actor.specs.Setting.{Setting, HasGame, game_of_setting}
+use Rattle.chip_part.specs.Setting.{Setting, HasGame, game_of_setting}
 use Rattle.chip_link.specs.Link.{sent_counts, claims_of}
 use Rattle.chip_link.specs.Laws.{AreInOrder}
 use Rattle.chip_link.specs.Words.{claims_in, fired_in, halted_in, by_limit_in}
 use Rattle.chip_graph.specs.Limits.{max_total}
-use Rattle.chip_actor.specs.Edges.{made, mult_of, start_of}
-use Rattle.chip_actor.specs.Part.{first_put}
-use Rattle.chip_actor.specs.Kept.{KeepsPart}
-use Rattle.chip_actor.specs.Acting.{FitsSeen}
-use Rattle.chip_actor.specs.Root.{is_of_root, FitsRoot}
+use Rattle.chip_part.specs.Edges.{made, mult_of, start_of}
+use Rattle.chip_part.specs.Part.{first_put}
+use Rattle.chip_part.specs.Kept.{KeepsPart}
+use Rattle.chip_part.specs.Acting.{FitsSeen}
+use Rattle.chip_part.specs.Acting.{is_of_root, FitsRoot}
 use Rattle.chip_core.specs.Core.{Log, Step, Event, Take, Clear, Claim, Seal, Read, Feed, opened, unmet, part_of}
 use Rattle.chip_core.specs.Core.{part_in, out_in, into_in, stop_in, fired_by, word_of_part, sees, IsLegalLog}
 use Rattle.chip_core.specs.Core.{replies_to, log_after, IsClosed, is_by_limit, tail_of, root, root_edge, graph_edges}

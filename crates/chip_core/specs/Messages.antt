@@ -1,11 +1,11 @@
 -- The messages of an edge, read off events and replies.
 use Rattle.std.specs.Prelude.{◌≡◌, ℕ, ◌+◌, ◌==◌, ◌||◌, Bool, false, if◌then◌else◌, List, [], ◌∷◌, ◌++◌, length, drop}
 use Rattle.std.specs.Prelude.{sum_by, slice_get, Some}
-use Rattle.chip_actor.specs.Setting.{Setting}
+use Rattle.chip_part.specs.Setting.{Setting}
 pub use Rattle.chip_link.specs.declared.message.Message.{Message}
 use Rattle.chip_link.specs.Link.{sent_counts}
-use Rattle.chip_actor.specs.declared.reply.Reply.TheVariants.{Done, Got, Sent}
-use Rattle.chip_actor.specs.Steps.{message_of}
+use Rattle.chip_part.specs.declared.reply.Reply.TheVariants.{Done, Got, Sent}
+use Rattle.chip_part.specs.Steps.{message_of}
 use Rattle.chip_core.specs.Core.{Log, Event, Reply, Take, Claim, Seal, Feed, out_in, into_in, replies_to}
 
 -- the message that one reply says was sent on the edge e: a claim of e was taken, or the root fed on it

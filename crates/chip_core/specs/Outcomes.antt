@@ -1,14 +1,14 @@
 -- What a log comes to once its root is closed.
 use Rattle.std.specs.Prelude.{◌≡◌, ℕ, ◌<◌, Bool, true, false, List, length, slice_index, Option, Some, None}
-use Rattle.chip_actor.specs.Setting.{Setting}
+use Rattle.chip_part.specs.Setting.{Setting}
 use Rattle.chip_graph.specs.Sums.{picked}
 use Rattle.chip_fire.specs.declared.outcome.Outcome.{Outcome}
 use Rattle.chip_fire.specs.Counted.{IsAfter}
 use Rattle.chip_fire.specs.Outcomes.{IsOutcome}
 use Rattle.chip_fire.specs.Play.{IsPlayed}
 use Rattle.chip_fire.specs.Sequence.{position_after, IsFiringSequence, counts, IsWithin}
-use Rattle.chip_actor.specs.declared.cause.Cause.{Cause}
-use Rattle.chip_actor.specs.declared.cause.Cause.TheVariants.{SealedEdge, FiringLimit}
+use Rattle.chip_part.specs.declared.cause.Cause.{Cause}
+use Rattle.chip_part.specs.declared.cause.Cause.TheVariants.{SealedEdge, FiringLimit}
 use Rattle.chip_core.specs.Core.{Log, part_in, fired_by, is_by_limit, IsClosed}
 use Rattle.chip_core.specs.Positions.{started, played_game, firings}
 use Rattle.chip_core.specs.Headline.{NoneHaltedBySeal}

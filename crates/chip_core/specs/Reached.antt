@@ -1,6 +1,6 @@
 -- The worlds that a running game can come to, told by what each part did. They grow by one event at a time.
 use Rattle.std.specs.Prelude.{◌≡◌, ◌≢◌, ℕ, List, [], ◌∷◌, ◌++◌, None}
-use Rattle.chip_actor.specs.Setting.{Setting}
+use Rattle.chip_part.specs.Setting.{Setting}
 use Rattle.chip_core.specs.Core.{Log, Step, Part, opened, unmet, part_of, IsLegalLog, seen_of}
 use Rattle.chip_core.specs.Histories.{done_by, part_by}
 

@@ -1,7 +1,7 @@
 -- The replies by which nothing was done, and the replies to lists of events that follow one another.
 use Rattle.std.specs.Prelude.{◌≡◌, ℕ, Bool, true, false, List, ◌++◌, length}
-use Rattle.chip_actor.specs.Setting.{Setting}
-use Rattle.chip_actor.specs.declared.reply.Reply.TheVariants.{Empty, Full, Sealed, NotNow}
+use Rattle.chip_part.specs.Setting.{Setting}
+use Rattle.chip_part.specs.declared.reply.Reply.TheVariants.{Empty, Full, Sealed, NotNow}
 use Rattle.chip_core.specs.Core.{Log, Event, Reply, Part, part_in, step, replies_to, log_after}
 
 -- nothing was there to take, no cell was free, the edge was sealed, or a rule wasn't met

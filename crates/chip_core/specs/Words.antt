@@ -4,8 +4,8 @@ use Rattle.std.specs.Prelude.{◌≡◌, ◌≢◌, ℕ, ◌+◌, ◌-◌, ◌%�
 use Rattle.std.specs.Prelude.{bit_or, None}
 use Rattle.chip_link.specs.Link.{Shows, claims_of}
 use Rattle.chip_link.specs.Words.{exchanged}
-use Rattle.chip_actor.specs.Setting.{Setting}
-use Rattle.chip_actor.specs.Part.{may_ack, cause, is_by_limit}
+use Rattle.chip_part.specs.Setting.{Setting}
+use Rattle.chip_part.specs.Part.{may_ack, cause, is_by_limit}
 use Rattle.chip_core.specs.Core.{Log, Event, Take, Ack, Fire, Clear, Claim, Put, Halt, Settle, Seal, Read, Feed, End}
 use Rattle.chip_core.specs.Core.{Part, unmet, root_edge, part_of, part_in, out_in, into_in, stop_in, word_of_part, sees}
 use Rattle.chip_core.specs.Core.{all_edges, head_of}

@@ -1,15 +1,15 @@
 -- Worked runs of the whole core, as the definitions compute them. The limit is 2 ^ 40 and the ring has one cell where
 -- nothing else is said.
 use Rattle.std.specs.Prelude.{◌≡◌, ℕ, ◌^◌, true, false, List, [], ◌∷◌, ◌++◌, slice_index, Some}
-use Rattle.chip_actor.specs.Setting.{Setting, HasGame}
+use Rattle.chip_part.specs.Setting.{Setting, HasGame}
 use Rattle.chip_fire.specs.Firing.{legal_vertices}
 use Rattle.chip_fire.specs.Counted.{position_by_counts}
-use Rattle.chip_actor.specs.declared.cause.Cause.TheVariants.{SealedEdge, FiringLimit}
-use Rattle.chip_actor.specs.Worked.{small_triangle, chain, two_edges, saw}
-use Rattle.chip_actor.specs.Steps.{message_of}
-use Rattle.chip_actor.specs.declared.rule.Rule.TheVariants.{Zero, NotCleared, Engaged, NotClosed, Ended}
-use Rattle.chip_actor.specs.declared.rule.Rule.TheVariants.{TooMuch}
-use Rattle.chip_actor.specs.declared.reply.Reply.TheVariants.{Done, Got, Sent, Empty, Full, Sealed, NotNow}
+use Rattle.chip_part.specs.declared.cause.Cause.TheVariants.{SealedEdge, FiringLimit}
+use Rattle.chip_part.specs.Worked.{small_triangle, chain, two_edges, saw}
+use Rattle.chip_part.specs.Steps.{message_of}
+use Rattle.chip_part.specs.declared.rule.Rule.TheVariants.{Zero, NotCleared, Engaged, NotClosed, Ended}
+use Rattle.chip_part.specs.declared.rule.Rule.TheVariants.{TooMuch}
+use Rattle.chip_part.specs.declared.reply.Reply.TheVariants.{Done, Got, Sent, Empty, Full, Sealed, NotNow}
 use Rattle.chip_core.specs.Core.{Log, Event, Take, Ack, Fire, Clear, Claim, Put, Halt, Settle, Seal, Read, Feed}
 use Rattle.chip_core.specs.Core.{End, root, part_in, fired_by, replies_to, log_after, IsSettled, IsClosed}
 use Rattle.chip_core.specs.Messages.{sent_in, delivered_in, sent_after_seal, in_flight}

@@ -6,7 +6,7 @@ use Rattle.std.proofs.lemmas.Bool.{and_parts}
 use Rattle.chip_graph.specs.ChipGame.{ChipGame}
 use Rattle.chip_graph.specs.Limits.{max_total}
 use Rattle.chip_graph.specs.More.{HasMore, all_brought}
-use Rattle.chip_actor.specs.Setting.{Setting, game_of_setting, setting_with}
+use Rattle.chip_part.specs.Setting.{Setting, game_of_setting, setting_with}
 use Rattle.chip_net.specs.Tokens.{NetId}
 use Rattle.chip_core.specs.Core.{Step}
 use Rattle.chip_net.specs.Roots.{RootKnown, new_root, fed_by}

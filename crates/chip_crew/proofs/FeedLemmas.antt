@@ -5,8 +5,8 @@ use Rattle.std.proofs.Common.{add-one}
 use Rattle.std.proofs.lemmas.List.Elements.{All-tail}
 use Rattle.std.proofs.lemmas.List.Sums.{sum_by-append}
 use Rattle.chip_graph.specs.More.{all_brought}
-use Rattle.chip_actor.specs.Setting.{Setting}
-use Rattle.chip_actor.specs.Steps.{ended_after, does}
+use Rattle.chip_part.specs.Setting.{Setting}
+use Rattle.chip_part.specs.Steps.{ended_after, does}
 use Rattle.chip_core.specs.Core.{Step, Event, Clear, Settle, Part, opened, root_edge, graph_edges}
 use Rattle.chip_core.specs.Histories.{part_by}
 use Rattle.chip_core.specs.Positions.{fed_of, fed_in}

@@ -5,7 +5,7 @@ use Rattle.std.specs.Result.{IsErrAnd}
 use Rattle.chip_graph.specs.ChipGame.{ChipGame}
 use Rattle.chip_fire.specs.declared.outcome.Outcome.{Outcome}
 use Rattle.chip_fire.specs.Play.{IsPlayed}
-use Rattle.chip_actor.specs.Setting.{Setting, game_of_setting, setting_of}
+use Rattle.chip_part.specs.Setting.{Setting, game_of_setting, setting_of}
 use Rattle.chip_net.specs.Tokens.{NetId}
 use Rattle.chip_net.specs.Roots.{RootKnown, new_root, has_ended}
 use Rattle.chip_crew.specs.Crew.{CrewId, Polled}

@@ -3,8 +3,8 @@ use Rattle.std.proofs.Common.{◌≡◌, ℕ, ◌+◌, ◌<◌, Bool, List, [], 
 use Rattle.std.proofs.Common.{append_assoc, append-nil}
 use Rattle.std.proofs.lemmas.List.{take_more}
 use Rattle.chip_link.specs.declared.event.Event.{Event}
-use Rattle.chip_actor.specs.declared.reply.Reply.{Reply}
-use Rattle.chip_actor.specs.Setting.{Setting}
+use Rattle.chip_part.specs.declared.reply.Reply.{Reply}
+use Rattle.chip_part.specs.Setting.{Setting}
 use Rattle.chip_core.specs.Core.{Log, step, log_after}
 use Rattle.chip_core.proofs.ReplyLemmas.{log_after-append}
 use Rattle.chip_world.specs.World.{WorldState, StandsForLog, WhateverLog, Steps}

@@ -1,9 +1,9 @@
 -- The board, put together from its pieces.
 use Rattle.std.proofs.Common.{◌≡◌, ℕ, ◌+◌, List, ◌++◌, Some, codes, sym, ap, ◌∙◌, append_assoc, add-one}
 use Rattle.chip_graph.specs.Multigraph.{edges_in}
-use Rattle.chip_actor.specs.Setting.{Setting}
-use Rattle.chip_actor.specs.Part.{deficit}
-use Rattle.chip_actor.specs.Edges.{root_edge}
+use Rattle.chip_part.specs.Setting.{Setting}
+use Rattle.chip_part.specs.Part.{deficit}
+use Rattle.chip_part.specs.Edges.{root_edge}
 use Rattle.chip_core.specs.Core.{Log, part_in}
 use Rattle.chip_engine.specs.Lines.{lines_text}
 use Rattle.chip_engine.specs.Board.{books_text, vertex_line, vertex_lines, owed_text}

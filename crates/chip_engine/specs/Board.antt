@@ -2,9 +2,9 @@
 use Rattle.std.specs.Prelude.{ℕ, zero, suc, List, [], ◌++◌, ◌==◌, if◌then◌else◌, codes, Option, Some, None}
 use Rattle.std.specs.Fmt.{decimal}
 use Rattle.chip_graph.specs.Multigraph.{edges_in}
-use Rattle.chip_actor.specs.Setting.{Setting}
-use Rattle.chip_actor.specs.Part.{owed, deficit}
-use Rattle.chip_actor.specs.Edges.{root, root_edge}
+use Rattle.chip_part.specs.Setting.{Setting}
+use Rattle.chip_part.specs.Part.{owed, deficit}
+use Rattle.chip_part.specs.Edges.{root, root_edge}
 use Rattle.chip_core.specs.Core.{Log, part_in, into_in}
 use Rattle.chip_engine.specs.Lines.{lines_text}
 

@@ -7,10 +7,10 @@ use Rattle.std.specs.Io.KnownBytes.{Appends, Keeps}
 use Rattle.chip_graph.specs.ChipGame.{ChipGame}
 use Rattle.chip_link.specs.declared.event.Event.{Event}
 use Rattle.chip_link.specs.declared.message.Message.{Message}
-use Rattle.chip_actor.specs.declared.reply.Reply.{Reply}
-use Rattle.chip_actor.specs.declared.reply.Reply.TheVariants.{Done, Got, Sent, Empty, Full, Sealed, NotNow}
-use Rattle.chip_actor.specs.Setting.{Setting, setting_with}
-use Rattle.chip_actor.specs.Numbers.{number_of}
+use Rattle.chip_part.specs.declared.reply.Reply.{Reply}
+use Rattle.chip_part.specs.declared.reply.Reply.TheVariants.{Done, Got, Sent, Empty, Full, Sealed, NotNow}
+use Rattle.chip_part.specs.Setting.{Setting, setting_with}
+use Rattle.chip_part.specs.Numbers.{number_of}
 use Rattle.chip_core.specs.Core.{Log, step, log_after}
 use Rattle.chip_core.specs.Headline.{NoneHaltedBySeal}
 use Rattle.chip_world.specs.declared.world.driving.Drive.{Drive}

@@ -6,7 +6,7 @@ use Rattle.chip_file.specs.GraphText.{MeansGraph}
 use Rattle.chip_fire.specs.Resume.{IsPlayFrom}
 use Rattle.chip_fire.specs.declared.sitting.Resumed.{Resumed}
 use Rattle.chip_report.specs.ReportTwo.{IsAnyReportOf}
-use Rattle.chip_actor.specs.Setting.{Setting}
+use Rattle.chip_part.specs.Setting.{Setting}
 use Rattle.chip_core.specs.Core.{Log}
 use Rattle.chip_core.specs.Positions.{started}
 use Rattle.chip_engine.specs.Inputs.{Reads, MeansGame}

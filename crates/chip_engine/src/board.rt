@@ -2,7 +2,7 @@
 
 ghost use Rattle.std.specs.Prelude.{◌≡◌, ◌++◌, ◌<◌, IfOk, string_bytes};
 ghost use Rattle.std.specs.List.{All};
-ghost use Rattle.chip_actor.specs.Edges.{all_edges};
+ghost use Rattle.chip_part.specs.Edges.{all_edges};
 ghost use Rattle.chip_core.specs.Core.{part_in};
 ghost use Rattle.chip_world.specs.World.{WhateverLog};
 ghost use Rattle.chip_engine.specs.Lines.{lines_text};

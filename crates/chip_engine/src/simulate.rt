@@ -2,7 +2,7 @@
 
 ghost use Rattle.std.specs.Prelude.{◌≡◌, ◌++◌, [], IfOk, IfErr, codes, string_bytes};
 ghost use Rattle.std.specs.Option.{ForSome};
-ghost use Rattle.chip_actor.specs.Setting.{Setting, setting_with};
+ghost use Rattle.chip_part.specs.Setting.{Setting, setting_with};
 ghost use Rattle.chip_core.specs.Core.{Log, IsClosed, log_after};
 ghost use Rattle.chip_world.specs.World.{StandsForLog, WhateverLog};
 ghost use Rattle.chip_world.specs.declared.world.driving.Drive.TheVariants.{Closed};
@@ -15,10 +15,10 @@ use crate::ended::{Ended, OPEN};
 use crate::fault::Fault;
 use crate::inputs::read_game;
 use crate::plain::status_of;
-use chip_actor::Reply;
 use chip_file::read_schedule;
 use chip_graph::{Game, Graph};
 use chip_link::{Event, Message, Ring};
+use chip_part::Reply;
 use chip_report::report::report;
 use chip_report::write_all_of;
 use chip_world::{Drive, World};

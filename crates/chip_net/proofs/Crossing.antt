@@ -11,7 +11,7 @@ use Rattle.atomic_table.proofs.shared.Seat.TheSendSync as seat
 use Rattle.chip_actor.proofs.actor.ActorState.TheSendSync as state
 use Rattle.chip_net.proofs.trace.Trace.TheSendSync as trace
 use Rattle.chip_net.proofs.net.Net.TheSendSync as shared
-use Rattle.chip_actor.proofs.root.RootState.TheSendSync as root_state
+use Rattle.chip_root.proofs.root.RootState.TheSendSync as root_state
 use Rattle.chip_graph.proofs.game.Game.TheSendSync as game
 use Rattle.chip_net.proofs.tally.Tally.TheSendSync as tally
 use Rattle.chip_net.specs.contracts.root_hand.RootHand as root_hand

@@ -15,16 +15,16 @@ use Rattle.chip_graph.specs.More.{brought_to, all_brought, HasMore}
 use Rattle.chip_graph.specs.Sums.{sum_below}
 use Rattle.chip_graph.proofs.SumLemmas.{cond_yes, cond_no, sum_below_ext, sum_below_add, sum_by_place}
 use Rattle.chip_link.specs.Link.{sent_counts}
-use Rattle.chip_actor.specs.Setting.{Setting, IsSetting, game_of_setting}
-use Rattle.chip_actor.specs.Edges.{root, root_edge, start_of, graph_edges, all_edges}
-use Rattle.chip_actor.specs.Part.{all_fed}
-use Rattle.chip_actor.specs.declared.rule.Rule.{Rule}
-use Rattle.chip_actor.specs.Rules.{need, unmet, Feed}
-use Rattle.chip_actor.specs.declared.rule.Rule.TheVariants.{NoSuch, Ended, Zero, TooMuch, NotCleared}
-use Rattle.chip_actor.specs.declared.act.Act.{Act}
-use Rattle.chip_actor.specs.Acting.{verdict}
-use Rattle.chip_actor.specs.Root.{AreGiven}
-use Rattle.chip_actor.proofs.EdgeLemmas.{tail_root}
+use Rattle.chip_part.specs.Setting.{Setting, IsSetting, game_of_setting}
+use Rattle.chip_part.specs.Edges.{root, root_edge, start_of, graph_edges, all_edges}
+use Rattle.chip_part.specs.Part.{all_fed}
+use Rattle.chip_part.specs.declared.rule.Rule.{Rule}
+use Rattle.chip_part.specs.Rules.{need, unmet, Feed}
+use Rattle.chip_part.specs.declared.rule.Rule.TheVariants.{NoSuch, Ended, Zero, TooMuch, NotCleared}
+use Rattle.chip_part.specs.declared.act.Act.{Act}
+use Rattle.chip_part.specs.Acting.{verdict}
+use Rattle.chip_root.specs.Root.{AreGiven}
+use Rattle.chip_part.proofs.EdgeLemmas.{tail_root}
 use Rattle.chip_core.specs.Core.{Log, Part, part_in, opened, IsLegalLog}
 use Rattle.chip_core.specs.Histories.{done_by, part_by}
 use Rattle.chip_core.specs.Positions.{started, played_game, fed_in}

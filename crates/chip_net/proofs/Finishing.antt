@@ -17,11 +17,11 @@ use Rattle.chip_fire.specs.Sequence.{HasEnded}
 use Rattle.chip_fire.proofs.LegalLemmas.{picked_no, picked_ext, picked_has}
 use Rattle.chip_fire.proofs.BoundLemmas.{same_ends}
 use Rattle.chip_link.specs.Words.{fired_in, halted_in, by_limit_in, is_fired_word}
-use Rattle.chip_actor.specs.Setting.{Setting, IsSetting, game_of_setting}
-use Rattle.chip_actor.specs.declared.cause.Cause.{Cause}
-use Rattle.chip_actor.specs.declared.cause.Cause.TheVariants.{SealedEdge, FiringLimit}
-use Rattle.chip_actor.specs.Edges.{root}
-use Rattle.chip_actor.specs.Part.{is_by_limit}
+use Rattle.chip_part.specs.Setting.{Setting, IsSetting, game_of_setting}
+use Rattle.chip_part.specs.declared.cause.Cause.{Cause}
+use Rattle.chip_part.specs.declared.cause.Cause.TheVariants.{SealedEdge, FiringLimit}
+use Rattle.chip_part.specs.Edges.{root}
+use Rattle.chip_part.specs.Part.{is_by_limit}
 use Rattle.chip_core.specs.Core.{Log, part_in, word_of_part, IsLegalLog}
 use Rattle.chip_core.specs.Laws.{WordsOf}
 use Rattle.chip_core.specs.Headline.{NoneHalted, NoneHaltedBySeal}

@@ -9,9 +9,9 @@ use native.Mathlib.Decide.{ℕ_discrete, dec_lt}
 use lib.ListN.{get_elem?}
 use Rattle.atomic_table.specs.Table.{opening}
 use Rattle.chip_graph.proofs.SumLemmas.{cond_yes, cond_no, cond_true, cond_false}
-use Rattle.chip_actor.specs.Setting.{Setting, IsSetting}
-use Rattle.chip_actor.specs.Edges.{graph_edges, all_edges, start_of}
-use Rattle.chip_actor.specs.Part.{first_put}
+use Rattle.chip_part.specs.Setting.{Setting, IsSetting}
+use Rattle.chip_part.specs.Edges.{graph_edges, all_edges, start_of}
+use Rattle.chip_part.specs.Part.{first_put}
 use Rattle.chip_core.specs.Core.{Step}
 use Rattle.chip_core.specs.Words.{Word, of_edge, of_acks, of_cell, of_vertex, IsWord}
 use Rattle.chip_core.proofs.Showing.{other_kind, other_owner, other_cell}

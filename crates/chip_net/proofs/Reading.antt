@@ -9,9 +9,9 @@ use Rattle.chip_graph.specs.Sums.{picked}
 use Rattle.chip_graph.proofs.SumLemmas.{cond_yes, cond_no}
 use Rattle.chip_fire.proofs.LegalLemmas.{picked_ext}
 use Rattle.chip_link.specs.Words.{fired_in, halted_in, by_limit_in}
-use Rattle.chip_actor.specs.Setting.{Setting, IsSetting}
-use Rattle.chip_actor.specs.Edges.{root, stopper}
-use Rattle.chip_actor.specs.Part.{deficit}
+use Rattle.chip_part.specs.Setting.{Setting, IsSetting}
+use Rattle.chip_part.specs.Edges.{root, stopper}
+use Rattle.chip_part.specs.Part.{deficit}
 use Rattle.chip_core.specs.Core.{Log, Step, Read, Part, opened, part_of, part_in, does, word_of_part, IsClosed}
 use Rattle.chip_core.specs.Histories.{done_by, part_by}
 use Rattle.chip_core.specs.Positions.{fed_of, fed_in}

@@ -3,9 +3,9 @@ use Rattle.std.proofs.Common.{◌≡◌, ℕ, ◌<◌, true, None, refl, subst}
 use Rattle.atomic_table.specs.Seated.{TableId}
 use Rattle.atomic_table.specs.Table.{Allows}
 use Rattle.chip_link.specs.Words.{is_fired_word}
-use Rattle.chip_actor.specs.Setting.{Setting, IsSetting}
-use Rattle.chip_actor.specs.Edges.{root, stopper}
-use Rattle.chip_actor.proofs.RuleLemmas.{met_rules}
+use Rattle.chip_part.specs.Setting.{Setting, IsSetting}
+use Rattle.chip_part.specs.Edges.{root, stopper}
+use Rattle.chip_part.proofs.RuleLemmas.{met_rules}
 use Rattle.chip_core.specs.Core.{Step, Read, unmet}
 use Rattle.chip_core.specs.Words.{of_vertex}
 use Rattle.chip_net.specs.declared.receipt.Receipt.TheInside.{Inside}

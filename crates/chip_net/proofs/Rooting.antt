@@ -7,15 +7,16 @@ use Rattle.atomic_table.specs.Seated.{TableId}
 use Rattle.atomic_table.specs.Table.{Allows}
 use Rattle.chip_graph.proofs.SumLemmas.{cond_yes}
 use Rattle.chip_link.specs.Link.{claims_of, after_clear}
-use Rattle.chip_actor.specs.Setting.{Setting, IsSetting}
-use Rattle.chip_actor.specs.declared.act.Act as operation
-use Rattle.chip_actor.specs.declared.act.Act.TheVariants as Do
-use Rattle.chip_actor.specs.Edges.{root, stopper, root_edge, all_edges, graph_edges}
-use Rattle.chip_actor.specs.Acting.{act_of}
-use Rattle.chip_actor.specs.Root.{Root, RootStandsFor, FitsRoot, SomeRoot, is_of_root, RootCanDo, RootMakes}
-use Rattle.chip_actor.specs.Steps.{link_after}
-use Rattle.chip_actor.proofs.EdgeLemmas.{tail_root}
-use Rattle.chip_actor.proofs.RuleLemmas.{met_rules}
+use Rattle.chip_part.specs.Setting.{Setting, IsSetting}
+use Rattle.chip_part.specs.declared.act.Act as operation
+use Rattle.chip_part.specs.declared.act.Act.TheVariants as Do
+use Rattle.chip_part.specs.Edges.{root, stopper, root_edge, all_edges, graph_edges}
+use Rattle.chip_part.specs.Acting.{act_of}
+use Rattle.chip_root.specs.Root.{Root, RootStandsFor, SomeRoot, RootCanDo, RootMakes}
+use Rattle.chip_part.specs.Acting.{FitsRoot, is_of_root}
+use Rattle.chip_part.specs.Steps.{link_after}
+use Rattle.chip_part.proofs.EdgeLemmas.{tail_root}
+use Rattle.chip_part.proofs.RuleLemmas.{met_rules}
 use Rattle.chip_core.specs.Core.{Step, Event, Take, Ack, Fire, Clear, Claim, Put, Halt, Settle, Seal, Read, Feed, End}
 use Rattle.chip_core.specs.Core.{Part, Out, Reply, opened, does, unmet, part_of, part_in, tail_of, sees, reply_of}
 use Rattle.chip_core.specs.Histories.{done_by, part_by}

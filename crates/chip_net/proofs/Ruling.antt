@@ -11,18 +11,18 @@ use Rattle.atomic_table.specs.Table.{State, Me, Act, Valid, keeps, carried_after
 use Rattle.atomic_table.proofs.Lists.{at_set, set_else}
 use Rattle.chip_graph.proofs.SumLemmas.{cond_yes, cond_no}
 use Rattle.chip_link.specs.Words.{exchanged}
-use Rattle.chip_actor.specs.Setting.{Setting, IsSetting}
-use Rattle.chip_actor.specs.declared.act.Act as operation
-use Rattle.chip_actor.specs.declared.act.Act.TheVariants as Do
-use Rattle.chip_actor.specs.Acting.{act_of, event_of}
+use Rattle.chip_part.specs.Setting.{Setting, IsSetting}
+use Rattle.chip_part.specs.declared.act.Act as operation
+use Rattle.chip_part.specs.declared.act.Act.TheVariants as Do
+use Rattle.chip_part.specs.Acting.{act_of, event_of}
 use Rattle.chip_actor.specs.Medium.{IsDueBy}
 use Rattle.chip_core.specs.Core.{Log, Step, Event, Take, Ack, Fire, Clear, Claim, Put, Halt, Settle, Seal, Read, Feed}
 use Rattle.chip_core.specs.Core.{End, Part, opened, unmet, part_of, sees, Fits}
 use Rattle.chip_core.specs.Histories.{done_by, part_by}
 use Rattle.chip_core.specs.Words.{Word, of_edge, of_acks, of_cell, of_vertex, IsWord, halt_bits, touched, left_by}
 use Rattle.chip_core.specs.Words.{noted, IsShown, IsLeft, acting}
-use Rattle.chip_actor.proofs.EdgeLemmas.{tail_root}
-use Rattle.chip_actor.proofs.RuleLemmas.{rules_met}
+use Rattle.chip_part.proofs.EdgeLemmas.{tail_root}
+use Rattle.chip_part.proofs.RuleLemmas.{rules_met}
 use Rattle.chip_core.proofs.ReachingLemmas.{by_history}
 use Rattle.chip_core.proofs.Showing.{word_for, word_there, finds, words_go_on}
 use Rattle.chip_net.specs.Layout.{index_of, word_count, value_in}

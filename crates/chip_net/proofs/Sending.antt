@@ -7,13 +7,13 @@ use Rattle.chip_graph.specs.Limits.{max_total}
 use Rattle.chip_graph.specs.Sums.{sum_below}
 use Rattle.chip_graph.proofs.SumLemmas.{cond_yes, cond_no, by_test, sum_below_ext}
 use Rattle.chip_link.specs.Link.{Tail, claims_of, sent_counts, after_clear, after_claim, after_put}
-use Rattle.chip_actor.specs.Setting.{Setting}
-use Rattle.chip_actor.specs.Edges.{root_edge, graph_edges, all_edges}
-use Rattle.chip_actor.specs.Part.{all_fed}
-use Rattle.chip_actor.specs.Steps.{link_after}
-use Rattle.chip_actor.specs.declared.reply.Reply.TheVariants.{Done, Full}
-use Rattle.chip_actor.proofs.EdgeLemmas.{sendable_fed}
-use Rattle.chip_actor.proofs.RuleLemmas.{met_rules}
+use Rattle.chip_part.specs.Setting.{Setting}
+use Rattle.chip_part.specs.Edges.{root_edge, graph_edges, all_edges}
+use Rattle.chip_part.specs.Part.{all_fed}
+use Rattle.chip_part.specs.Steps.{link_after}
+use Rattle.chip_part.specs.declared.reply.Reply.TheVariants.{Done, Full}
+use Rattle.chip_part.proofs.EdgeLemmas.{sendable_fed}
+use Rattle.chip_part.proofs.RuleLemmas.{met_rules}
 use Rattle.chip_core.specs.Core.{Step, Event, Clear, Put, Feed, Part, Out, Reply, opened, does, unmet}
 use Rattle.chip_core.specs.Histories.{part_by}
 use Rattle.chip_net.specs.Roots.{RootKnown, root_part, root_after, has_ended, all_given, sent_to, IsDueForRoot}

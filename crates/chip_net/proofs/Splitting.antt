@@ -11,7 +11,7 @@ use Rattle.atomic_table.proofs.Lists.{at_set, at_longer, at_last, set_else}
 use Rattle.chip_graph.proofs.SumLemmas.{cond_yes, cond_no}
 use Rattle.chip_core.specs.Core.{Step}
 use Rattle.chip_core.specs.Histories.{done_by}
-use Rattle.chip_actor.specs.Setting.{Setting}
+use Rattle.chip_part.specs.Setting.{Setting}
 use Rattle.chip_net.specs.Views.{View, find, drop_part, only, without, alone}
 use Rattle.chip_net.specs.Rule.{Kept}
 use Rattle.chip_net.proofs.Viewing.{none_some, set_there, dropped_here, dropped_else, only_finds}

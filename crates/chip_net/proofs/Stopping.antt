@@ -9,9 +9,9 @@ use Rattle.chip_link.specs.Words.{edge_word, claims_in, sealed_in}
 use Rattle.chip_link.specs.WordLaws.{ReadsAs}
 use Rattle.chip_link.specs.Link.{claims_of, after_seal, IsSealedAt}
 use Rattle.chip_link.proofs.WordLaws.{read_edge}
-use Rattle.chip_actor.specs.Setting.{Setting, IsSetting}
-use Rattle.chip_actor.specs.Edges.{stopper, graph_edges}
-use Rattle.chip_actor.proofs.RuleLemmas.{met_rules}
+use Rattle.chip_part.specs.Setting.{Setting, IsSetting}
+use Rattle.chip_part.specs.Edges.{stopper, graph_edges}
+use Rattle.chip_part.proofs.RuleLemmas.{met_rules}
 use Rattle.chip_core.specs.Core.{Step, Seal, Part, opened, part_in, out_in, stop_in, does}
 use Rattle.chip_core.specs.Histories.{part_by}
 use Rattle.chip_core.proofs.ReachingLemmas.{by_history}

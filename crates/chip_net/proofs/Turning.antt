@@ -1,15 +1,15 @@
 -- The net's words as the medium of a turn, and what the turn leaves.
 use Rattle.std.proofs.Common.{◌≡◌, ℕ, ◌<◌, List, [], ◌∷◌, ◌++◌, reverse, sym, ap, ◌∙◌, subst}
 use Rattle.std.proofs.lemmas.List.{reverse-append, reverse-reverse}
-use Rattle.chip_actor.specs.Setting.{Setting}
-use Rattle.chip_actor.specs.declared.act.Act.{Act}
-use Rattle.chip_actor.specs.Acting.{event_of, FitsSeen}
+use Rattle.chip_part.specs.Setting.{Setting}
+use Rattle.chip_part.specs.declared.act.Act.{Act}
+use Rattle.chip_part.specs.Acting.{event_of, FitsSeen}
 use Rattle.chip_actor.specs.Actor.{Actor, StandsFor}
 use Rattle.chip_actor.specs.Medium.{Serves, Meets, MakesTurn}
-use Rattle.chip_actor.specs.Turn.{turn}
-use Rattle.chip_actor.specs.Kept.{KeepsPart}
-use Rattle.chip_actor.proofs.TurnLemmas.{turns_bounded}
-use Rattle.chip_actor.specs.declared.cursor.Cursor.TheVariants as At
+use Rattle.chip_part.specs.Turn.{turn}
+use Rattle.chip_part.specs.Kept.{KeepsPart}
+use Rattle.chip_part.proofs.TurnLemmas.{turns_bounded}
+use Rattle.chip_part.specs.declared.cursor.Cursor.TheVariants as At
 use Rattle.chip_core.specs.Core.{Step, Part, opened, does}
 use Rattle.chip_core.specs.Histories.{part_by}
 use Rattle.chip_net.specs.Tokens.{NetId, ActorKnown, part_known, after_these, MakesStep, Holds, MakesTurnBy}

@@ -5,10 +5,10 @@ use mathlib.Core.Logic.{dite}
 use native.Mathlib.Decide.{ℕ_discrete}
 use Rattle.chip_graph.proofs.SumLemmas.{cond_yes, cond_no, tested_none}
 use Rattle.chip_link.specs.Link.{Tail, claims_of, after_clear, after_claim, after_put, word_of}
-use Rattle.chip_actor.specs.Setting.{Setting}
-use Rattle.chip_actor.specs.declared.cause.Cause.TheVariants.{SealedEdge, FiringLimit}
-use Rattle.chip_actor.specs.Part.{refusals, cause, pending_of, is_legal}
-use Rattle.chip_actor.specs.Steps.{link_after, halt_after}
+use Rattle.chip_part.specs.Setting.{Setting}
+use Rattle.chip_part.specs.declared.cause.Cause.TheVariants.{SealedEdge, FiringLimit}
+use Rattle.chip_part.specs.Part.{refusals, cause, pending_of, is_legal}
+use Rattle.chip_part.specs.Steps.{link_after, halt_after}
 use Rattle.chip_core.specs.Core.{Log, Step, Event, Take, Ack, Fire, Clear, Claim, Put, Halt, Settle, Seal, Read, Feed}
 use Rattle.chip_core.specs.Core.{End, Part, Out, part_of, part_in, out_in, stop_in, opened, sees, IsLegalLog, stopper}
 use Rattle.chip_core.specs.Core.{tail_of, all_edges}

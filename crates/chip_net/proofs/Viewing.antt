@@ -9,8 +9,8 @@ use mathlib.Core.Option.{some, some-ne-none}
 use native.Mathlib.Decide.{ℕ_discrete}
 use lib.ListN.{get_elem?}
 use Rattle.chip_graph.proofs.SumLemmas.{cond_yes, cond_no}
-use Rattle.chip_actor.specs.Setting.{Setting}
-use Rattle.chip_actor.proofs.PartLemmas.{stays_ended}
+use Rattle.chip_part.specs.Setting.{Setting}
+use Rattle.chip_part.proofs.PartLemmas.{stays_ended}
 use Rattle.chip_core.specs.Core.{Step, Part, opened, does}
 use Rattle.chip_core.specs.Histories.{part_by}
 use Rattle.chip_net.specs.Views.{History, View, find, grow, grown, steps_or_none, did_in, Has, part_of_view, drop_part}

@@ -10,8 +10,8 @@ use Rattle.chip_fire.specs.Counted.{IsAfter}
 use Rattle.chip_fire.specs.Sequence.{position_after, counts, IsFiringSequence, HasEnded}
 use Rattle.chip_fire.specs.Play.{IsPlayed}
 use Rattle.chip_link.specs.Words.{fired_in, halted_in, by_limit_in}
-use Rattle.chip_actor.specs.Setting.{Setting, game_of_setting}
-use Rattle.chip_actor.specs.Edges.{root, stopper}
+use Rattle.chip_part.specs.Setting.{Setting, game_of_setting}
+use Rattle.chip_part.specs.Edges.{root, stopper}
 use Rattle.chip_core.specs.Core.{Log, Step, Read, part_in, word_of_part, IsLegalLog, IsClosed}
 use Rattle.chip_core.specs.Histories.{done_by}
 use Rattle.chip_core.specs.Positions.{firings}

@@ -4,7 +4,7 @@ use mathlib.Core.Option.{some}
 use lib.ListN.{get_elem?}
 use Rattle.atomic_table.specs.Table.{State}
 use Rattle.chip_link.specs.Link.{word_of}
-use Rattle.chip_actor.specs.Setting.{Setting}
+use Rattle.chip_part.specs.Setting.{Setting}
 use Rattle.chip_core.specs.Core.{Step, Part, all_edges, out_by, into_by, stop_by, word_of_part}
 use Rattle.chip_core.specs.Words.{of_edge, of_acks, of_cell, of_vertex}
 use Rattle.chip_core.specs.Reached.{parts_by, IsReached}

@@ -1,8 +1,8 @@
 -- Where the words of a net lie, one after another: the edge words of all edges, their words of acknowledgements, their
 -- rings of cells, and the fired words of the vertices.
 use Rattle.std.specs.Prelude.{ℕ, ◌+◌, ◌*◌, List, slice_index}
-use Rattle.chip_actor.specs.Setting.{Setting}
-use Rattle.chip_actor.specs.Edges.{all_edges}
+use Rattle.chip_part.specs.Setting.{Setting}
+use Rattle.chip_part.specs.Edges.{all_edges}
 use Rattle.chip_core.specs.Words.{Word, of_edge, of_acks, of_cell, of_vertex}
 
 -- where the cells begin

@@ -1,7 +1,7 @@
 -- The words of a net that opens.
 use Rattle.std.specs.Prelude.{◌≡◌, ℕ, nat_lt, if◌then◌else◌, List, length, slice_index}
-use Rattle.chip_actor.specs.Setting.{Setting}
-use Rattle.chip_actor.specs.Part.{first_put}
+use Rattle.chip_part.specs.Setting.{Setting}
+use Rattle.chip_part.specs.Part.{first_put}
 use Rattle.chip_core.specs.Words.{Word, of_edge, of_acks, of_cell, of_vertex, IsWord}
 use Rattle.chip_net.specs.Layout.{word_count, value_in}
 

@@ -4,14 +4,15 @@ use Rattle.std.specs.Prelude.{sum, Option, Some, None, is_none, Result, Ok, Err}
 use Rattle.chip_graph.specs.Limits.{max_total}
 use Rattle.chip_graph.specs.More.{AreOfVertices, brought_to, all_brought}
 use Rattle.chip_link.specs.Link.{claims_of}
-use Rattle.chip_actor.specs.Setting.{Setting, IsSetting, game_of_setting}
-use Rattle.chip_actor.specs.Edges.{root, root_edge, graph_edges}
-use Rattle.chip_actor.specs.Part.{deficit, all_fed}
-use Rattle.chip_actor.specs.declared.act.Act.{Act}
-use Rattle.chip_actor.specs.declared.rule.Rule.{Rule}
-use Rattle.chip_actor.specs.declared.rule.Rule.TheVariants as Not
-use Rattle.chip_actor.specs.Acting.{act_of}
-use Rattle.chip_actor.specs.Root.{Root, RootStandsFor, FitsRoot}
+use Rattle.chip_part.specs.Setting.{Setting, IsSetting, game_of_setting}
+use Rattle.chip_part.specs.Edges.{root, root_edge, graph_edges}
+use Rattle.chip_part.specs.Part.{deficit, all_fed}
+use Rattle.chip_part.specs.declared.act.Act.{Act}
+use Rattle.chip_part.specs.declared.rule.Rule.{Rule}
+use Rattle.chip_part.specs.declared.rule.Rule.TheVariants as Not
+use Rattle.chip_part.specs.Acting.{act_of}
+use Rattle.chip_root.specs.Root.{Root, RootStandsFor}
+use Rattle.chip_part.specs.Acting.{FitsRoot}
 use Rattle.chip_core.specs.Core.{Log, Step, Event, Clear, Put, Settle, Seal, Feed, End, Reply, Part, opened, unmet}
 use Rattle.chip_core.specs.Core.{reply_of, IsLegalLog}
 use Rattle.chip_core.specs.Histories.{done_by, part_by}

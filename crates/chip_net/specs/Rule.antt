@@ -4,7 +4,7 @@ use Rattle.std.specs.Prelude.{◌≡◌, ℕ, ◌+◌, ◌<◌, false, List, [],
 use mathlib.Core.Option.{some}
 use lib.ListN.{get_elem?}
 use Rattle.atomic_table.specs.Table.{State, Me}
-use Rattle.chip_actor.specs.Setting.{Setting, IsSetting}
+use Rattle.chip_part.specs.Setting.{Setting, IsSetting}
 use Rattle.chip_core.specs.Core.{Log, Step, Event, part_of, IsLegalLog}
 use Rattle.chip_core.specs.Histories.{done_by}
 use Rattle.chip_core.specs.Words.{noted, IsShown}

@@ -2,13 +2,13 @@
 use Rattle.std.specs.Prelude.{◌≡◌, ◌⊎◌, ℕ, ◌+◌, ◌*◌, ◌<◌, ◌≤◌, true, false, List, [], ◌∷◌, ◌++◌, length, reverse}
 use Rattle.std.specs.Prelude.{Option, Some, None}
 use Rattle.atomic_table.specs.Seated.{TableId}
-use Rattle.chip_actor.specs.Setting.{Setting, IsSetting}
-use Rattle.chip_actor.specs.declared.act.Act.{Act}
+use Rattle.chip_part.specs.Setting.{Setting, IsSetting}
+use Rattle.chip_part.specs.declared.act.Act.{Act}
 use Rattle.chip_actor.specs.Actor.{Actor, StandsFor}
-use Rattle.chip_actor.specs.Acting.{event_of, FitsSeen}
-use Rattle.chip_actor.specs.Part.{is_passive, deficit}
-use Rattle.chip_actor.specs.Turn.{turn, ins_of, outs_of}
-use Rattle.chip_actor.specs.Counting.{work_of}
+use Rattle.chip_part.specs.Acting.{event_of, FitsSeen}
+use Rattle.chip_part.specs.Part.{is_passive, deficit}
+use Rattle.chip_part.specs.Turn.{turn, ins_of, outs_of}
+use Rattle.chip_part.specs.Counting.{work_of}
 use Rattle.chip_actor.specs.Medium.{IsDueBy}
 use Rattle.chip_core.specs.Core.{Step, Part, opened}
 use Rattle.chip_core.specs.Histories.{part_by}

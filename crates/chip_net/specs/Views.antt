@@ -1,6 +1,6 @@
 -- What the seats of a net know: a finite map from parts to what each of them did.
 use Rattle.std.specs.Prelude.{◌≡◌, ℕ, zero, suc, ◌+◌, ◌==◌, if◌then◌else◌, List, [], ◌∷◌, ◌++◌, Option, Some, None}
-use Rattle.chip_actor.specs.Setting.{Setting}
+use Rattle.chip_part.specs.Setting.{Setting}
 use Rattle.chip_core.specs.Core.{Step, Part, opened}
 use Rattle.chip_core.specs.Histories.{part_by}
 pub use Rattle.chip_net.specs.declared.views.History.{History}

@@ -1,8 +1,8 @@
 -- The small triangle as a net, as the definitions compute it: four edges, and the root edges 4 to 6.
 use Rattle.std.specs.Prelude.{◌≡◌, true, false, [], ◌∷◌, take, Some, None}
 use Rattle.chip_link.specs.declared.trace.TraceRow.TheVariants as Row
-use Rattle.chip_actor.specs.Setting.{Setting}
-use Rattle.chip_actor.specs.Worked.{small_triangle, saw}
+use Rattle.chip_part.specs.Setting.{Setting}
+use Rattle.chip_part.specs.Worked.{small_triangle, saw}
 use Rattle.chip_core.specs.Core.{Take, Ack, Fire, Settle, Read}
 use Rattle.chip_core.specs.Words.{of_edge, of_acks, of_cell, of_vertex}
 use Rattle.chip_net.specs.Layout.{index_of, word_count}

@@ -1,6 +1,6 @@
 ghost use Rattle.std.specs.Prelude.{◌≡◌, ◌<◌, nat_lt, length, take};
 ghost use Rattle.chip_actor.specs.Actor.{StandsFor};
-ghost use Rattle.chip_actor.specs.Part.{opened};
+ghost use Rattle.chip_part.specs.Part.{opened};
 ghost use Rattle.chip_net.specs.Traces.{rows_of};
 ghost use Rattle.chip_net.specs.Tokens.{ActorKnown, part_known, MakesTurn, MakesTurnBy};
 

@@ -8,8 +8,8 @@ use crate::net::Net;
 use crate::rule::PartSeat;
 use crate::setup::Setup;
 use crate::trace::Trace;
-use chip_actor::Act;
 use chip_link::{Event, FiredWord, TraceRow};
+use chip_part::Act;
 use std::marker::{Brand, Model};
 use std::snapshot::Snapshot;
 
@@ -40,7 +40,7 @@ impl Model for Hand {
 
 impl Hand {
     ghost use Rattle.std.specs.Prelude.{◌≡◌, ◌<◌, [], Some, take, nat_lt, length};
-    ghost use Rattle.chip_actor.specs.Setting.{IsSetting};
+    ghost use Rattle.chip_part.specs.Setting.{IsSetting};
     ghost use Rattle.chip_net.specs.Views.{find};
     ghost use Rattle.chip_net.specs.Traces.{Keeps, rows_of};
 

@@ -17,7 +17,7 @@ pub struct Net {
 impl Model for Net {
     ghost use Rattle.chip_net.specs.Tokens.{NetId};
     ghost use Rattle.chip_net.specs.Layout.{word_count};
-    ghost use Rattle.chip_actor.specs.Setting.{IsSetting};
+    ghost use Rattle.chip_part.specs.Setting.{IsSetting};
     ghost use Rattle.std.specs.Prelude.{◌≡◌};
 
     ghost Value = { NetId };
@@ -29,8 +29,8 @@ impl Model for Net {
 }
 
 impl Net {
-    ghost use Rattle.chip_actor.specs.Setting.{IsSetting};
-    ghost use Rattle.chip_actor.specs.Edges.{all_edges};
+    ghost use Rattle.chip_part.specs.Setting.{IsSetting};
+    ghost use Rattle.chip_part.specs.Edges.{all_edges};
     ghost use Rattle.chip_net.specs.Layout.{word_count};
     ghost use Rattle.chip_net.specs.Opening.{AreOpening};
     ghost use Rattle.chip_net.specs.Views.{find, opening_view, without};

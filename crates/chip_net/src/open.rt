@@ -1,8 +1,8 @@
 //! How a net is opened.
 
 ghost use Rattle.std.specs.Prelude.{◌≡◌, ℕ, ◌<◌, ◌≤◌, ◌+◌, [], length, IfOk, Some, None, All, slice_get, if◌then◌else◌, true};
-ghost use Rattle.chip_actor.specs.Setting.{setting_of, setting_with};
-ghost use Rattle.chip_actor.specs.Edges.{graph_edges, all_edges, root, stopper};
+ghost use Rattle.chip_part.specs.Setting.{setting_of, setting_with};
+ghost use Rattle.chip_part.specs.Edges.{graph_edges, all_edges, root, stopper};
 ghost use Rattle.chip_net.specs.Opening.{AreOpening};
 ghost use Rattle.chip_net.specs.Views.{find};
 ghost use Rattle.chip_net.specs.Tokens.{newcomer};

@@ -20,8 +20,8 @@ pub struct Receipt {
 }
 
 impl Model for Receipt {
-    ghost use Rattle.chip_actor.specs.Edges.{root, stopper};
-    ghost use Rattle.chip_actor.specs.Setting.{IsSetting};
+    ghost use Rattle.chip_part.specs.Edges.{root, stopper};
+    ghost use Rattle.chip_part.specs.Setting.{IsSetting};
     ghost use Rattle.chip_net.specs.Views.{find, did_in, Has};
     ghost use Rattle.chip_net.specs.Roots.{RootKnown};
 
@@ -37,8 +37,8 @@ impl Model for Receipt {
 }
 
 impl Receipt {
-    ghost use Rattle.chip_actor.specs.Edges.{root, stopper};
-    ghost use Rattle.chip_actor.specs.Setting.{IsSetting};
+    ghost use Rattle.chip_part.specs.Edges.{root, stopper};
+    ghost use Rattle.chip_part.specs.Setting.{IsSetting};
     ghost use Rattle.chip_net.specs.Views.{find, did_in, Has};
 
     pub(crate) fn new(seat: PartSeat, setup: Snapshot<Setup>) -> Receipt

@@ -1,5 +1,5 @@
 ghost use Rattle.std.specs.Prelude.{◌≡◌, ◌<◌, ◌≤◌, [], Some, IfOk, MatchResult};
-ghost use Rattle.chip_actor.specs.Edges.{root, stopper};
+ghost use Rattle.chip_part.specs.Edges.{root, stopper};
 ghost use Rattle.chip_net.specs.Views.{find};
 ghost use Rattle.chip_net.specs.Roots.{new_root, IsOver, Feeds, RefusesFeed, Polls, Ends};
 ghost use Rattle.chip_net.specs.Finish.{Finishes};
@@ -10,11 +10,10 @@ use crate::root_hand::RootHand;
 use crate::rule::PartSeat;
 use crate::setup::Setup;
 use crate::tally::Tally;
-
-use chip_actor::Reply;
 use chip_fire::{Outcome, after_into};
 use chip_graph::Game;
 use chip_link::Event;
+use chip_part::Reply;
 use std::alloc::{AllocError, Global};
 use std::marker::Model;
 

@@ -3,10 +3,10 @@
 ghost use Rattle.std.specs.Prelude.{◌≡◌, ℕ, ◌-◌, ◌<◌, ◌≤◌, ◌==◌, ◌&&◌, [], Some, IfOk, MatchResult, true};
 ghost use Rattle.std.specs.Vec.{vec_capacity};
 ghost use Rattle.chip_graph.specs.More.{HasMore};
-ghost use Rattle.chip_actor.specs.Setting.{IsSetting, game_of_setting};
-ghost use Rattle.chip_actor.specs.Edges.{root, stopper, root_edge};
-ghost use Rattle.chip_actor.specs.Root.{RootStandsFor};
-ghost use Rattle.chip_actor.specs.Part.{opened};
+ghost use Rattle.chip_part.specs.Setting.{IsSetting, game_of_setting};
+ghost use Rattle.chip_part.specs.Edges.{root, stopper, root_edge};
+ghost use Rattle.chip_root.specs.Root.{RootStandsFor};
+ghost use Rattle.chip_part.specs.Part.{opened};
 ghost use Rattle.chip_core.specs.Core.{End, Settle, part_of, unmet};
 ghost use Rattle.chip_core.specs.Words.{noted};
 ghost use Rattle.chip_net.specs.Rule.{Grows};
@@ -21,9 +21,10 @@ use crate::receipt::Receipt;
 use crate::root::{FeedFault, RootState as PollState};
 use crate::rule::PartSeat;
 use crate::setup::Setup;
-use chip_actor::{Act, Reply, RootState, Rule};
 use chip_graph::Game;
 use chip_link::Event;
+use chip_part::{Act, Reply, Rule};
+use chip_root::RootState;
 use std::alloc::{AllocError, Global};
 use std::marker::{Brand, Model};
 use std::snapshot::Snapshot;
@@ -37,7 +38,7 @@ pub(crate) struct RootHand {
 }
 
 impl Model for RootHand {
-    ghost use Rattle.chip_actor.specs.Edges.{root, stopper};
+    ghost use Rattle.chip_part.specs.Edges.{root, stopper};
     ghost use Rattle.chip_net.specs.Views.{find, did_in};
     ghost use Rattle.chip_net.specs.Roots.{RootKnown, IsRoot};
 

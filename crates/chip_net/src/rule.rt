@@ -27,7 +27,7 @@ pub(crate) type PartSeat = Seat<(), View>;
 
 /// An event, and the net in which it is made.
 pub(crate) trait Making {
-    ghost use Rattle.chip_actor.specs.Setting.{Setting};
+    ghost use Rattle.chip_part.specs.Setting.{Setting};
     ghost use Rattle.chip_core.specs.Core.{Event};
 
     ghost setting: { Setting };

@@ -18,8 +18,8 @@ pub struct Setup {
 
 impl Model for Setup {
     ghost use Rattle.std.specs.Prelude.{◌≡◌};
-    ghost use Rattle.chip_actor.specs.Setting.{Setting, setting_with, IsSetting};
-    ghost use Rattle.chip_actor.specs.Edges.{all_edges};
+    ghost use Rattle.chip_part.specs.Setting.{Setting, setting_with, IsSetting};
+    ghost use Rattle.chip_part.specs.Edges.{all_edges};
 
     ghost Value = { Setting };
 
@@ -29,8 +29,8 @@ impl Model for Setup {
 }
 
 impl Setup {
-    ghost use Rattle.chip_actor.specs.Setting.{setting_with, game_of_setting, IsSetting};
-    ghost use Rattle.chip_actor.specs.Edges.{all_edges, graph_edges, root_edge};
+    ghost use Rattle.chip_part.specs.Setting.{setting_with, game_of_setting, IsSetting};
+    ghost use Rattle.chip_part.specs.Edges.{all_edges, graph_edges, root_edge};
     ghost use Rattle.chip_core.specs.Words.{of_edge, of_acks, of_cell, of_vertex, IsWord};
     ghost use Rattle.chip_net.specs.Layout.{index_of, word_count};
 

@@ -1,6 +1,6 @@
 ghost use Rattle.std.specs.Prelude.{◌≡◌, ◌≤◌, [], Some, MatchResult};
-ghost use Rattle.chip_actor.specs.Setting.{IsSetting};
-ghost use Rattle.chip_actor.specs.Edges.{graph_edges, stopper};
+ghost use Rattle.chip_part.specs.Setting.{IsSetting};
+ghost use Rattle.chip_part.specs.Edges.{graph_edges, stopper};
 ghost use Rattle.chip_net.specs.Views.{find};
 ghost use Rattle.chip_net.specs.Roots.{StopperKnown, new_stopper, Seals};
 
@@ -33,7 +33,7 @@ pub struct Stopper {
 }
 
 impl Model for Stopper {
-    ghost use Rattle.chip_actor.specs.Edges.{stopper};
+    ghost use Rattle.chip_part.specs.Edges.{stopper};
     ghost use Rattle.chip_net.specs.Views.{Has, did_in};
     ghost use Rattle.chip_net.specs.Roots.{StopperKnown};
 

@@ -1,11 +1,11 @@
 -- How many messages an edge delivered, by the books of its head.
 use Rattle.std.proofs.Common.{◌≡◌, ℕ, ◌+◌, ◌<◌, length, get_or, Some, sym, ap, ◌∙◌, subst, arith}
 use Rattle.std.specs.List.{Contains}
-use Rattle.chip_actor.specs.Setting.{Setting}
+use Rattle.chip_part.specs.Setting.{Setting}
 use Rattle.chip_detect.specs.Books.{in_edges}
 use Rattle.chip_detect.specs.Books as books
-use Rattle.chip_actor.specs.Edges.{all_edges}
-use Rattle.chip_actor.specs.Part.{owed}
+use Rattle.chip_part.specs.Edges.{all_edges}
+use Rattle.chip_part.specs.Part.{owed}
 use Rattle.chip_actor.specs.Actor.{Actor, StandsFor}
 use Rattle.chip_actor.proofs.Standing.{books_in, owed_is}
 use Rattle.chip_core.specs.Core.{Log, Take, part_in, into_in, head_of}

@@ -4,13 +4,13 @@ use Rattle.std.proofs.Common.{Some, None, refl, sym, ap, ◌∙◌, subst, arith
 use Rattle.std.proofs.lemmas.Grind.{reverse_onto}
 use mathlib.Core.Logic.{dite}
 use native.Mathlib.Decide.{ℕ_discrete, dec_lt}
-use Rattle.chip_actor.specs.Setting.{Setting}
-use Rattle.chip_actor.specs.Part.{Part, is_running}
-use Rattle.chip_actor.specs.Rules.{Event, Take, Ack, Fire, Clear, Claim, Put, Halt, Settle}
-use Rattle.chip_actor.specs.Turn.{Phase, nothing, either_phase, where_phase, and_then, each_phase, ins_of, outs_of}
-use Rattle.chip_actor.specs.Turn.{seeing, one_step, may_fire, batch_of, firing, after_claim_phase, after_clear_phase}
-use Rattle.chip_actor.specs.Turn.{sending, putting, sending_all, is_at_limit, acknowledging, acknowledging_parent}
-use Rattle.chip_actor.specs.Turn.{last_acknowledgement, turn}
+use Rattle.chip_part.specs.Setting.{Setting}
+use Rattle.chip_part.specs.Part.{Part, is_running}
+use Rattle.chip_part.specs.Rules.{Event, Take, Ack, Fire, Clear, Claim, Put, Halt, Settle}
+use Rattle.chip_part.specs.Turn.{Phase, nothing, either_phase, where_phase, and_then, each_phase, ins_of, outs_of}
+use Rattle.chip_part.specs.Turn.{seeing, one_step, may_fire, batch_of, firing, after_claim_phase, after_clear_phase}
+use Rattle.chip_part.specs.Turn.{sending, putting, sending_all, is_at_limit, acknowledging, acknowledging_parent}
+use Rattle.chip_part.specs.Turn.{last_acknowledgement, turn}
 use Rattle.chip_core.specs.Core.{Log, Step, does, part_in, Fits, IsLegalLog, log_after}
 use Rattle.chip_world.specs.declared.world.driving.Drive.{Drive}
 use Rattle.chip_world.specs.declared.world.driving.Drive.TheVariants.{Closed, Unfinished}

@@ -5,10 +5,10 @@ use Rattle.std.specs.Bool.{⊤}
 use Rattle.std.proofs.lemmas.List.{append_assoc, reverse-append}
 use mathlib.Core.Logic.{dite}
 use native.Mathlib.Decide.{ℕ_discrete}
-use Rattle.chip_actor.specs.Setting.{Setting}
-use Rattle.chip_actor.specs.declared.cursor.Cursor.TheVariants as At
-use Rattle.chip_actor.specs.Edges.{root_edge}
-use Rattle.chip_actor.specs.Root.{RootStandsFor}
+use Rattle.chip_part.specs.Setting.{Setting}
+use Rattle.chip_part.specs.declared.cursor.Cursor.TheVariants as At
+use Rattle.chip_part.specs.Edges.{root_edge}
+use Rattle.chip_root.specs.Root.{RootStandsFor}
 use Rattle.chip_actor.specs.Actor.{Actor, StandsFor, SomePart, WhateverPart}
 use Rattle.chip_actor.specs.Medium.{AreOf, Meets, MakesTurn, IsTurnMade}
 use Rattle.chip_core.specs.Core.{Log, Step, Part, Settle, part_in, word_of_part, root, step}

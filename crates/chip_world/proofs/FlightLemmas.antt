@@ -6,18 +6,18 @@ use Rattle.std.proofs.lemmas.List.{get_or_past, get_or_append_left, get_or_push,
 use Rattle.std.proofs.Math.Seq.{take-length}
 use mathlib.Core.Logic.{dite}
 use native.Mathlib.Decide.{dec_lt}
-use Rattle.chip_actor.specs.Setting.{Setting, HasGame}
+use Rattle.chip_part.specs.Setting.{Setting, HasGame}
 use Rattle.chip_graph.proofs.SumLemmas.{by_test}
 use Rattle.chip_link.specs.Link.{Tail, claims_of, sent_counts, Sound, Shows}
 use Rattle.chip_link.proofs.Sounds.{none_held, one_held}
-use Rattle.chip_actor.specs.Edges.{sendable_edges}
-use Rattle.chip_actor.proofs.EdgeLemmas.{tail_root, sendable_fed}
+use Rattle.chip_part.specs.Edges.{sendable_edges}
+use Rattle.chip_part.proofs.EdgeLemmas.{tail_root, sendable_fed}
 use Rattle.chip_link.proofs.Sounds.{length-sent_counts}
-use Rattle.chip_actor.specs.declared.act.Act.{Act}
-use Rattle.chip_actor.specs.declared.rule.Rule.TheVariants.{NotClaimed}
-use Rattle.chip_actor.specs.Rules.{need}
-use Rattle.chip_actor.specs.Steps.{message_of}
-use Rattle.chip_actor.specs.Acting.{act_of, verdict}
+use Rattle.chip_part.specs.declared.act.Act.{Act}
+use Rattle.chip_part.specs.declared.rule.Rule.TheVariants.{NotClaimed}
+use Rattle.chip_part.specs.Rules.{need}
+use Rattle.chip_part.specs.Steps.{message_of}
+use Rattle.chip_part.specs.Acting.{act_of, verdict}
 use Rattle.chip_core.specs.Messages.{Message, messages_from, counts_in_flight, in_flight}
 use Rattle.chip_core.proofs.MessageLemmas.{messages-append}
 use Rattle.chip_world.specs.SharedWords.{stored_by}

@@ -9,9 +9,9 @@ use Rattle.chip_graph.specs.Faults.{first_of_faults, unless, fault_of_game}
 use Rattle.chip_graph.specs.declared.fault.GameFault.{GameFault}
 use Rattle.chip_link.specs.Link.{sent_counts}
 use Rattle.std.specs.Prelude.{sum}
-use Rattle.chip_actor.specs.Setting.{Setting, HasGame}
-use Rattle.chip_actor.specs.Root.{AreGiven}
-use Rattle.chip_actor.proofs.EdgeLemmas.{tail_root}
+use Rattle.chip_part.specs.Setting.{Setting, HasGame}
+use Rattle.chip_root.specs.Root.{AreGiven}
+use Rattle.chip_part.proofs.EdgeLemmas.{tail_root}
 use Rattle.chip_core.specs.Core.{Log, IsLegalLog, part_in, root, root_edge}
 use Rattle.chip_core.specs.Positions.{started, played_game}
 use Rattle.chip_core.proofs.GivenLemmas.{played_is_game}

@@ -4,14 +4,15 @@ use Rattle.std.proofs.Common.{true, Result, Err}
 use Rattle.std.proofs.lemmas.Bool.{ltb-true, le-leb}
 use mathlib.Core.Logic.{dite}
 use native.Mathlib.Decide.{dec_lt}
-use Rattle.chip_actor.specs.Setting.{Setting}
+use Rattle.chip_part.specs.Setting.{Setting}
 use Rattle.chip_graph.proofs.SumLemmas.{by_test, cond_true, cond_false}
-use Rattle.chip_actor.specs.Edges.{graph_edges, tail_of, root}
+use Rattle.chip_part.specs.Edges.{graph_edges, tail_of, root}
 use Rattle.chip_actor.specs.Actor.{Actor, StandsFor, WhateverPart}
-use Rattle.chip_actor.specs.Acting.{act_of, verdict}
-use Rattle.chip_actor.specs.declared.act.Act.{Act}
-use Rattle.chip_actor.specs.Root.{WhateverRoot, is_of_root}
-use Rattle.chip_actor.proofs.EdgeLemmas.{tail_root, graph_sendable}
+use Rattle.chip_part.specs.Acting.{act_of, verdict}
+use Rattle.chip_part.specs.declared.act.Act.{Act}
+use Rattle.chip_root.specs.Root.{WhateverRoot}
+use Rattle.chip_part.specs.Acting.{is_of_root}
+use Rattle.chip_part.proofs.EdgeLemmas.{tail_root, graph_sendable}
 use Rattle.chip_core.specs.Core.{Log, Put, Rule, part_of, part_in, out_in, unmet}
 use Rattle.chip_world.proofs.FlightLemmas.{put_refused, root_put_refused}
 use Rattle.chip_world.specs.Makers.{tail_if}

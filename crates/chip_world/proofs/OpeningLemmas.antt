@@ -5,13 +5,13 @@ use Rattle.std.proofs.Common.{length-set, false, get_or-set_same, get_or-set_oth
 use Rattle.std.proofs.lemmas.List.{get_or-replicate, get_or_past, get_or_push, get_or_append_left, length-replicate}
 use mathlib.Core.Logic.{dite}
 use native.Mathlib.Decide.{ℕ_discrete, dec_lt}
-use Rattle.chip_actor.specs.Setting.{Setting, game_of_setting, IsSetting}
+use Rattle.chip_part.specs.Setting.{Setting, game_of_setting, IsSetting}
 use Rattle.chip_graph.proofs.SumLemmas.{cond_yes, cond_no, cond_true, cond_false}
 use Rattle.chip_link.specs.Link.{Shows}
 use Rattle.chip_link.proofs.Shown.{fresh_shows, first_shows}
-use Rattle.chip_actor.specs.Edges.{start_of}
-use Rattle.chip_actor.specs.Root.{RootStandsFor}
-use Rattle.chip_actor.specs.Part.{first_put, opened}
+use Rattle.chip_part.specs.Edges.{start_of}
+use Rattle.chip_root.specs.Root.{RootStandsFor}
+use Rattle.chip_part.specs.Part.{first_put, opened}
 use Rattle.chip_core.specs.Core.{graph_edges, all_edges}
 use Rattle.chip_world.specs.SharedWords.{opening_words}
 use Rattle.chip_world.specs.World.{WorldState, ShowsEdge, StandsForLog, first_chips, AreOpeningWords}

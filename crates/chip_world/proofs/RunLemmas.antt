@@ -8,10 +8,10 @@ use Rattle.std.proofs.lemmas.List.{get_or-map, length-map, take_more, get_or_pus
 use Rattle.std.proofs.lemmas.Bool.{ltb-true, and_parts}
 use mathlib.Core.Logic.{dite}
 use native.Mathlib.Decide.{ℕ_discrete}
-use Rattle.chip_actor.specs.Setting.{Setting, HasGame}
+use Rattle.chip_part.specs.Setting.{Setting, HasGame}
 use Rattle.chip_graph.proofs.SumLemmas.{by_test, cond_yes, cond_no}
-use Rattle.chip_actor.specs.declared.reply.Reply.TheVariants.{Done, Got, Sent, Empty, Full, Sealed, NotNow}
-use Rattle.chip_actor.specs.declared.rule.Rule.TheVariants.{NoSuch}
+use Rattle.chip_part.specs.declared.reply.Reply.TheVariants.{Done, Got, Sent, Empty, Full, Sealed, NotNow}
+use Rattle.chip_part.specs.declared.rule.Rule.TheVariants.{NoSuch}
 use Rattle.chip_core.specs.Core.{Log, Event, Take, Ack, Fire, Clear, Claim, Put, Halt, Settle, Seal, Read, Feed}
 use Rattle.chip_core.specs.Core.{End, Reply, Rule, unmet, part_of, part_in, answer, step, log_after, replies_to}
 use Rattle.chip_core.specs.Core.{all_edges, graph_edges}

@@ -6,19 +6,21 @@ use Rattle.std.proofs.lemmas.Bool.{lt-leb}
 use Rattle.std.specs.Bool.{⊤}
 use mathlib.Core.Logic.{dite}
 use native.Mathlib.Decide.{ℕ_discrete, dec_lt}
-use Rattle.chip_actor.specs.Setting.{Setting}
+use Rattle.chip_part.specs.Setting.{Setting}
 use Rattle.chip_graph.proofs.SumLemmas.{cond_true}
 use Rattle.chip_link.specs.Words.{claims_in}
-use Rattle.chip_actor.specs.declared.rule.Rule.TheVariants.{NoSuch}
-use Rattle.chip_actor.specs.declared.act.Act.{Act}
-use Rattle.chip_actor.specs.declared.act.Act.TheVariants as Do
-use Rattle.chip_actor.specs.declared.reply.Reply.TheVariants.{Done, NotNow}
+use Rattle.chip_part.specs.declared.rule.Rule.TheVariants.{NoSuch}
+use Rattle.chip_part.specs.declared.act.Act.{Act}
+use Rattle.chip_part.specs.declared.act.Act.TheVariants as Do
+use Rattle.chip_part.specs.declared.reply.Reply.TheVariants.{Done, NotNow}
 use Rattle.chip_actor.specs.Actor.{Actor, StandsFor, WhateverPart, SomePart}
-use Rattle.chip_actor.specs.Acting.{act_of, event_of, verdict, CanDo, IsDue, Makes}
-use Rattle.chip_actor.specs.Root.{Root, RootStandsFor, WhateverRoot, SomeRoot, is_of_root, FitsRoot, RootCanDo}
-use Rattle.chip_actor.specs.Root.{RootMakes}
-use Rattle.chip_actor.proofs.EdgeLemmas.{tail_root}
-use Rattle.chip_actor.proofs.RuleLemmas.{rules_met}
+use Rattle.chip_part.specs.Acting.{act_of, event_of, verdict, CanDo, IsDue}
+use Rattle.chip_actor.specs.Actor.{Makes}
+use Rattle.chip_root.specs.Root.{Root, RootStandsFor, WhateverRoot, SomeRoot, RootCanDo}
+use Rattle.chip_part.specs.Acting.{is_of_root, FitsRoot}
+use Rattle.chip_root.specs.Root.{RootMakes}
+use Rattle.chip_part.proofs.EdgeLemmas.{tail_root}
+use Rattle.chip_part.proofs.RuleLemmas.{rules_met}
 use Rattle.chip_core.specs.Core.{Log, Step, Event, Take, Ack, Fire, Clear, Claim, Put, Halt, Settle, Seal, Read, Feed}
 use Rattle.chip_core.specs.Core.{End, Part, Rule, Reply, unmet, part_of, does, reply_of, part_in, word_of_part, sees}
 use Rattle.chip_core.specs.Core.{answer, step, Fits, tail_of, graph_edges, all_edges, root, stopper}
@@ -176,7 +178,7 @@ module _ (g : Setting) (log : Log) (w : WorldState) (stands : StandsForLog g log
         can_do = (
           own,
           due.0,
-          subst (Rattle.chip_actor.specs.Acting.FitsSeen s x) (sym sees_it)
+          subst (Rattle.chip_part.specs.Acting.FitsSeen s x) (sym sees_it)
               (fits_seen g stands.is_setting.game stands.is_setting.some_ring log stands.legal x
               (subst (λ (n : ℕ). n < g.graph.vertices) (sym is_due.mine) is_due.inside) due.0),
         )

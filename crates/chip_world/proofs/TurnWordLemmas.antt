@@ -5,15 +5,15 @@ use Rattle.std.proofs.Common.{None}
 use Rattle.std.proofs.Common.{is_some, sym, ap, ◌∙◌, subst, arith, bit_or}
 use Rattle.chip_link.specs.Words.{fired_word}
 use Rattle.chip_link.proofs.WordLaws.{adds_firings, halts_word, halts_by_limit}
-use Rattle.chip_actor.specs.Setting.{Setting}
-use Rattle.chip_actor.specs.declared.act.Act.{Act}
-use Rattle.chip_actor.specs.declared.act.Act.TheVariants as Do
-use Rattle.chip_actor.specs.declared.cause.Cause.{Cause}
-use Rattle.chip_actor.specs.Part.{cause, is_by_limit}
-use Rattle.chip_actor.specs.declared.cause.Cause.TheVariants.{SealedEdge, FiringLimit}
-use Rattle.chip_actor.specs.Acting.{act_of, event_of, FitsSeen}
+use Rattle.chip_part.specs.Setting.{Setting}
+use Rattle.chip_part.specs.declared.act.Act.{Act}
+use Rattle.chip_part.specs.declared.act.Act.TheVariants as Do
+use Rattle.chip_part.specs.declared.cause.Cause.{Cause}
+use Rattle.chip_part.specs.Part.{cause, is_by_limit}
+use Rattle.chip_part.specs.declared.cause.Cause.TheVariants.{SealedEdge, FiringLimit}
+use Rattle.chip_part.specs.Acting.{act_of, event_of, FitsSeen}
 use Rattle.chip_actor.specs.Medium.{IsDueBy, MayServe, Serves, IsLonger}
-use Rattle.chip_actor.proofs.RuleLemmas.{rules_met}
+use Rattle.chip_part.proofs.RuleLemmas.{rules_met}
 use Rattle.chip_core.specs.Core.{Log, Step, Event, Fire, Halt, Part, unmet, part_of, does, part_in, word_of_part, sees}
 use Rattle.chip_core.proofs.LogLemmas.{part_here, part_kept}
 use Rattle.chip_core.proofs.NumberLemmas.{fits_seen}

@@ -7,17 +7,17 @@ use Rattle.std.proofs.lemmas.Nat.{mod_below}
 use Rattle.std.proofs.lemmas.List.{get_or_default}
 use mathlib.Core.Logic.{dite}
 use native.Mathlib.Decide.{ℕ_discrete}
-use Rattle.chip_actor.specs.Setting.{Setting, HasGame}
+use Rattle.chip_part.specs.Setting.{Setting, HasGame}
 use Rattle.chip_graph.proofs.SumLemmas.{cond_yes, cond_no}
 use Rattle.chip_link.specs.Link.{claims_of, Sound}
 use Rattle.chip_link.specs.Words.{exchanged, claims_in}
-use Rattle.chip_actor.proofs.PartLemmas.{may_le}
-use Rattle.chip_actor.specs.declared.act.Act.{Act}
-use Rattle.chip_actor.specs.declared.act.Act.TheVariants as Do
-use Rattle.chip_actor.specs.Part.{may_ack, cause, is_by_limit}
-use Rattle.chip_actor.specs.Kept.{Met}
-use Rattle.chip_actor.specs.Acting.{act_of}
-use Rattle.chip_actor.proofs.RuleLemmas.{rules_met}
+use Rattle.chip_part.proofs.PartLemmas.{may_le}
+use Rattle.chip_part.specs.declared.act.Act.{Act}
+use Rattle.chip_part.specs.declared.act.Act.TheVariants as Do
+use Rattle.chip_part.specs.Part.{may_ack, cause, is_by_limit}
+use Rattle.chip_part.specs.Kept.{Met}
+use Rattle.chip_part.specs.Acting.{act_of}
+use Rattle.chip_part.proofs.RuleLemmas.{rules_met}
 use Rattle.chip_core.specs.Core.{Log, Event, Take, Ack, Fire, Clear, Claim, Put, Halt, Settle, Seal, Read}
 use Rattle.chip_core.specs.Core.{Feed, End}
 use Rattle.chip_core.specs.Core.{unmet, part_of, part_in, out_in, into_in, stop_in, word_of_part, sees, IsLegalLog}
@@ -31,8 +31,8 @@ use Rattle.chip_core.proofs.LogLemmas.{part_kept, edge_sound}
 use Rattle.chip_world.specs.SharedWords.{EdgeState, no_words, words_of, with_cell, with_claim, with_acks, with_seal}
 use Rattle.chip_world.specs.SharedWords.{changed, cell_of, seen_in, words_after, HasCell, CanPerform}
 use Rattle.chip_world.specs.Makers.{is_by_act}
-use Rattle.chip_actor.proofs.EdgeLemmas.{sendable_inside}
-use Rattle.chip_actor.specs.Root.{is_of_root}
+use Rattle.chip_part.proofs.EdgeLemmas.{sendable_inside}
+use Rattle.chip_part.specs.Acting.{is_of_root}
 use Rattle.chip_world.specs.World.{ShowsEdge}
 use Rattle.chip_core.proofs.NumberLemmas.{claims_most}
 use Rattle.chip_core.proofs.NumberLemmas.{words as words_read}

@@ -1,9 +1,9 @@
 -- The lists of an outcome after runs that were played by hand, as the definitions compute them: one with a vertex that
 -- the limit halted, one with a vertex that a seal halted.
 use Rattle.std.proofs.Common.{◌≡◌, ℕ, zero, suc, ◌<◌, [], ◌∷◌, slice_index, refl, arith}
-use Rattle.chip_actor.specs.Setting.{Setting}
-use Rattle.chip_actor.specs.declared.cause.Cause.TheVariants.{SealedEdge, FiringLimit}
-use Rattle.chip_actor.specs.Worked.{small_triangle}
+use Rattle.chip_part.specs.Setting.{Setting}
+use Rattle.chip_part.specs.declared.cause.Cause.TheVariants.{SealedEdge, FiringLimit}
+use Rattle.chip_part.specs.Worked.{small_triangle}
 use Rattle.chip_core.specs.Core.{Log, fired_by, log_after}
 use Rattle.chip_core.specs.Worked.{limit_of_two, stopped_by_limit, played_on}
 use Rattle.chip_core.specs.Outcomes.{halted_by, AreFired}

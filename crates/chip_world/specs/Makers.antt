@@ -1,8 +1,8 @@
 -- Which vertex makes an event.
 use Rattle.std.specs.Prelude.{ℕ, Bool, true, false, nat_lt, if◌then◌else◌, Option, Some, None}
-use Rattle.chip_actor.specs.Setting.{Setting}
+use Rattle.chip_part.specs.Setting.{Setting}
 use Rattle.chip_core.specs.Core.{Event, tail_of, head_of, all_edges, graph_edges}
-use Rattle.chip_actor.specs.Rules.{Take, Ack, Fire, Clear, Claim, Put, Halt, Settle, Seal, Read, Feed, End}
+use Rattle.chip_part.specs.Rules.{Take, Ack, Fire, Clear, Claim, Put, Halt, Settle, Seal, Read, Feed, End}
 
 -- the head of an edge, if the edge is there
 abbrev pub head_if : Setting → ℕ → Option ℕ

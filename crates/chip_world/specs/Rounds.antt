@@ -1,8 +1,8 @@
 -- Turns, rounds and drives, by the logs before and after them.
 use Rattle.std.specs.Prelude.{◌≡◌, ℕ, zero, suc, ◌≤◌, List, [], ◌∷◌, ◌++◌, reverse}
-use Rattle.chip_actor.specs.Setting.{Setting}
-use Rattle.chip_actor.specs.Edges.{root_edge}
-use Rattle.chip_actor.specs.Turn.{IsTurn}
+use Rattle.chip_part.specs.Setting.{Setting}
+use Rattle.chip_part.specs.Edges.{root_edge}
+use Rattle.chip_part.specs.Turn.{IsTurn}
 use Rattle.chip_core.specs.Core.{Log, Step, Event, Settle, part_in, IsLegalLog, IsClosed, log_after}
 use Rattle.chip_world.specs.World.{WorldState, StandsForLog, WhateverLog}
 use Rattle.chip_world.specs.declared.world.driving.Drive.{Drive}

@@ -2,10 +2,10 @@
 use Rattle.std.specs.Prelude.{◌≡◌, ℕ, ◌+◌, ◌*◌, ◌<◌, ◌≤◌, ◌==◌, if◌then◌else◌, Bool, false, List, [], ◌∷◌, ◌++◌, length}
 use Rattle.std.specs.Prelude.{map, slice_index, slice_index_or}
 use Rattle.std.specs.Vec.{vec_len, vec_capacity}
-use Rattle.chip_actor.specs.Setting.{Setting}
-use Rattle.chip_actor.specs.Rules.{Take, Claim, Feed}
-use Rattle.chip_actor.specs.declared.reply.Reply.TheVariants.{Got, Sent}
-use Rattle.chip_actor.specs.Edges.{mult_of}
+use Rattle.chip_part.specs.Setting.{Setting}
+use Rattle.chip_part.specs.Rules.{Take, Claim, Feed}
+use Rattle.chip_part.specs.declared.reply.Reply.TheVariants.{Got, Sent}
+use Rattle.chip_part.specs.Edges.{mult_of}
 use Rattle.chip_core.specs.Core.{Log, Event, Reply, tail_of, graph_edges, all_edges, fired_by, log_after, replies_to}
 use Rattle.chip_core.specs.Messages.{Message, sent_in, delivered_in, sent_on, delivered_on, chips_in}
 use Rattle.chip_core.specs.Positions.{held}

@@ -2,8 +2,8 @@
 use Rattle.std.specs.Prelude.{ℕ, ◌+◌, ◌^◌, ◌<◌, ◌==◌, if◌then◌else◌, List, [], length, replicate, slice_index}
 use Rattle.std.specs.Prelude.{slice_index_or, slice_set, bit_or}
 use Rattle.chip_link.specs.Words.{exchanged}
-use Rattle.chip_actor.specs.declared.act.Act.{Act}
-use Rattle.chip_actor.specs.declared.act.Act.TheVariants as Do
+use Rattle.chip_part.specs.declared.act.Act.{Act}
+use Rattle.chip_part.specs.declared.act.Act.TheVariants as Do
 
 -- the words of one edge: the edge word, how many of its messages were acknowledged, and its ring of cells
 pub record EdgeState : Type 0 where

@@ -1,7 +1,7 @@
 -- What the words of a turn show: the words of all edges, and the fired word of the vertex whose turn it is.
 use Rattle.std.specs.Prelude.{◌≡◌, ℕ, ◌<◌, length, slice_index_or}
 pub use Rattle.chip_world.specs.declared.turn_words.TurnWords.{TurnWords}
-use Rattle.chip_actor.specs.Setting.{Setting, IsSetting}
+use Rattle.chip_part.specs.Setting.{Setting, IsSetting}
 use Rattle.chip_core.specs.Core.{Log, Part, part_in, word_of_part, all_edges, IsLegalLog}
 use Rattle.chip_world.specs.SharedWords.{EdgeState}
 use Rattle.chip_world.specs.World.{ShowsEdge}

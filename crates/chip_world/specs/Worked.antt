@@ -1,7 +1,7 @@
 -- A worked drive, as the definitions compute it.
 use Rattle.std.specs.Prelude.{◌≡◌, ◌^◌, false, [], ◌∷◌}
-use Rattle.chip_actor.specs.Setting.{Setting}
-use Rattle.chip_actor.specs.Worked.{small_triangle, saw}
+use Rattle.chip_part.specs.Setting.{Setting}
+use Rattle.chip_part.specs.Worked.{small_triangle, saw}
 use Rattle.chip_core.specs.Core.{Take, Ack, Settle}
 use Rattle.chip_world.specs.declared.world.driving.Drive.TheVariants.{Closed, Unfinished}
 use Rattle.chip_world.specs.Rounds.{root_settles, IsDrive}

@@ -2,12 +2,12 @@
 use Rattle.std.specs.Prelude.{◌≡◌, ℕ, ◌-◌, ◌<◌, nat_lt, if◌then◌else◌, List, [], length, slice_index}
 use Rattle.std.specs.Prelude.{slice_index_or, None}
 use Rattle.chip_graph.specs.ChipGame.{ChipGame}
-use Rattle.chip_actor.specs.Setting.{Setting, IsSetting}
+use Rattle.chip_part.specs.Setting.{Setting, IsSetting}
 use Rattle.chip_link.specs.Link.{Shows}
 use Rattle.chip_actor.specs.Actor as vertex
-use Rattle.chip_actor.specs.Root.{Root, RootStandsFor}
-use Rattle.chip_actor.specs.declared.act.Act.{Act}
-use Rattle.chip_actor.specs.Acting.{act_of, event_of}
+use Rattle.chip_root.specs.Root.{Root, RootStandsFor}
+use Rattle.chip_part.specs.declared.act.Act.{Act}
+use Rattle.chip_part.specs.Acting.{act_of, event_of}
 use Rattle.chip_core.specs.Core.{Log, Event, Reply, unmet, part_of, part_in, out_in, into_in, stop_in, all_edges, root}
 use Rattle.chip_core.specs.Core.{IsLegalLog, step}
 use Rattle.chip_world.specs.SharedWords.{EdgeState, opening_words}

@@ -1,9 +1,9 @@
 //! Small games: reply for reply, what a run records, round by round, and until the root closes.
 
 use crate::{Drive, Record, World, WorldFault};
-use chip_actor::{Cause, Reply, Rule};
 use chip_graph::{Edge, Game, Graph};
 use chip_link::{Event, Message, Ring};
+use chip_part::{Cause, Reply, Rule};
 use std::alloc::Global;
 use std::process::Abort;
 use std::test::Fail;

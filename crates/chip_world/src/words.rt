@@ -2,9 +2,9 @@ ghost use Rattle.std.specs.Prelude.{◌≡◌, ◌+◌, ◌^◌, ◌<◌, ◌==�
 ghost use Rattle.std.specs.Prelude.{IfOk};
 ghost use Rattle.chip_link.specs.Words.{exchanged};
 
-use chip_actor::Act;
 use chip_graph::Game;
 use chip_link::{EdgeWord, Ring};
+use chip_part::Act;
 use std::alloc::{AllocError, Global};
 use std::marker::Model;
 

@@ -8,9 +8,11 @@ mod running;
 
 use crate::turn_words::TurnWords;
 use crate::words::{Words, stored_by};
-use chip_actor::{Act, ActorState, Cause, Observed, Reply, RootState, Rule};
+use chip_actor::ActorState;
 use chip_graph::Game;
 use chip_link::{EdgeWord, Event, FiredWord, Message, Ring};
+use chip_part::{Act, Cause, Observed, Reply, Rule};
+use chip_root::RootState;
 pub use driving::Drive;
 pub use running::Record;
 use std::alloc::{AllocError, Global};
@@ -31,7 +33,7 @@ pub struct World {
 }
 
 impl Model for World {
-    ghost use Rattle.chip_actor.specs.Setting.{setting_with};
+    ghost use Rattle.chip_part.specs.Setting.{setting_with};
     ghost use Rattle.chip_world.specs.World.{WorldState, SomeLog};
 
     ghost Value = { WorldState };
@@ -56,12 +58,13 @@ impl World {
     ghost use Rattle.chip_link.specs.Link.{claims_of, sent_counts};
     ghost use Rattle.chip_core.specs.Messages.{in_flight};
     ghost use Rattle.std.specs.Vec.{vec_len, vec_capacity};
-    ghost use Rattle.chip_actor.specs.Setting.{setting_of, setting_with, game_of_setting};
-    ghost use Rattle.chip_actor.specs.Edges.{graph_edges, all_edges};
+    ghost use Rattle.chip_part.specs.Setting.{setting_of, setting_with, game_of_setting};
+    ghost use Rattle.chip_part.specs.Edges.{graph_edges, all_edges};
     ghost use Rattle.chip_world.specs.Makers.{head_if, tail_if, vertex_if, vertex_of, is_of_others, is_by_act};
-    ghost use Rattle.chip_actor.specs.Part.{opened};
-    ghost use Rattle.chip_actor.specs.Root.{RootStandsFor, is_of_root};
-    ghost use Rattle.chip_actor.specs.Acting.{event_of};
+    ghost use Rattle.chip_part.specs.Part.{opened};
+    ghost use Rattle.chip_root.specs.Root.{RootStandsFor};
+    ghost use Rattle.chip_part.specs.Acting.{is_of_root};
+    ghost use Rattle.chip_part.specs.Acting.{event_of};
     ghost use Rattle.chip_world.specs.World.{StandsForLog, SomeLog, WhateverLog, SomeLogWhere, IsDueFor, MakesStep};
     ghost use Rattle.chip_world.specs.World.{Steps};
     ghost use Rattle.chip_link.specs.declared.event.Event.TheVariants.{Seal, Settle, Read};
@@ -356,7 +359,7 @@ impl World {
     }
 }
 
-ghost use Rattle.chip_actor.specs.Setting.{setting_with, IsSetting};
+ghost use Rattle.chip_part.specs.Setting.{setting_with, IsSetting};
 ghost use Rattle.chip_world.specs.World.{AreOpeningActors};
 ghost use Rattle.chip_actor.specs.Actor.{SomePart, WhateverPart};
 ghost use Rattle.chip_core.specs.Core.{word_of_part};

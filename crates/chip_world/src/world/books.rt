@@ -5,8 +5,8 @@ ghost use Rattle.std.specs.Prelude.{◌≡◌, ◌<◌};
 use super::World;
 
 impl World {
-    ghost use Rattle.chip_actor.specs.Part.{deficit, owed};
-    ghost use Rattle.chip_actor.specs.Edges.{all_edges, root};
+    ghost use Rattle.chip_part.specs.Part.{deficit, owed};
+    ghost use Rattle.chip_part.specs.Edges.{all_edges, root};
     ghost use Rattle.chip_core.specs.Core.{part_in, into_in};
     ghost use Rattle.chip_world.specs.World.{WhateverLog};
 

@@ -2,9 +2,9 @@ ghost use Rattle.std.specs.Prelude.{◌≡◌, ◌↔◌, ℕ, length, slice_ind
 
 use super::World;
 use crate::fault::WorldFault;
-use chip_actor::Cause;
 use chip_fire::{AfterFault, Outcome, after};
 use chip_graph::Game;
+use chip_part::Cause;
 use std::alloc::{AllocError, Global};
 
 impl World {

@@ -3,8 +3,8 @@ ghost use Rattle.std.specs.Vec.{vec_capacity};
 
 use super::World;
 use crate::lanes::Lanes;
-use chip_actor::Reply;
 use chip_link::{Event, Message};
+use chip_part::Reply;
 use std::alloc::{AllocError, Global};
 
 /// What a run of events came to. Edges have their numbers, the root edges after the graph's.

@@ -1,5 +1,5 @@
 use Rattle.std.proofs.Common.{◌∙◌, refl, ap}
-use Rattle.chip_actor.specs.Setting.{Setting, setting_of}
+use Rattle.chip_part.specs.Setting.{Setting, setting_of}
 use Rattle.chip_crew.specs.Crew.{CrewId}
 use Rattle.chip_crew.specs.Finished.{IsCrewFor}
 use Rattle.chip_crew.proofs.Owning.{ours_by}

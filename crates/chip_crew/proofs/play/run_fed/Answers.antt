@@ -1,6 +1,6 @@
 use Rattle.std.proofs.Common.{◌≡◌, ◌∙◌, refl, ap, true, ℕ, rules}
 use Rattle.std.proofs.lemmas.Bool.{and_from}
-use Rattle.chip_actor.specs.Setting.{Setting, setting_with}
+use Rattle.chip_part.specs.Setting.{Setting, setting_with}
 use Rattle.chip_crew.specs.Plans.{is_plan, are_feeds, AreWithinTotal}
 use Rattle.chip_crew.specs.Crew.{CrewId}
 use Rattle.chip_crew.specs.Finished.{IsFedCrewFor}

@@ -1,6 +1,6 @@
 use Rattle.std.proofs.Common.{◌≡◌, ◌++◌, string_bytes}
-use Rattle.chip_actor.specs.Part.{deficit}
-use Rattle.chip_actor.specs.Edges.{root}
+use Rattle.chip_part.specs.Part.{deficit}
+use Rattle.chip_part.specs.Edges.{root}
 use Rattle.chip_core.specs.Core.{part_in}
 use Rattle.chip_world.specs.World.{WhateverLog}
 use Rattle.chip_engine.specs.Board.{root_line, vertex_lines}

@@ -2,8 +2,8 @@ use Rattle.std.proofs.Common.{◌≡◌, ℕ, ◌+◌, ◌<◌, List, length, eq
 use Rattle.std.specs.List.{All}
 use Rattle.chip_graph.specs.Multigraph.{Multigraph, edges_in, edge_at}
 use Rattle.chip_graph.proofs.PickLemmas.{All-picked}
-use Rattle.chip_actor.specs.Setting.{Setting}
-use Rattle.chip_actor.specs.Edges.{all_edges}
+use Rattle.chip_part.specs.Setting.{Setting}
+use Rattle.chip_part.specs.Edges.{all_edges}
 use Rattle.chip_engine.specs.Lines.{lines_text}
 use Rattle.chip_engine.specs.Board.{books_text, owed_text}
 use Rattle.chip_engine.proofs.BoardLemmas.{four_pieces, vertex_line_is}

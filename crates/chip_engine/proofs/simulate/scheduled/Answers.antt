@@ -1,5 +1,5 @@
 use Rattle.std.proofs.Common.{string_bytes}
-use Rattle.chip_actor.specs.Setting.{setting_with}
+use Rattle.chip_part.specs.Setting.{setting_with}
 use Rattle.chip_link.specs.declared.event.Event.TheVariants.{Take}
 use Rattle.chip_engine.proofs.AnswerLemmas.{one_answer_more}
 use Rattle.chip_engine.proofs.simulate.scheduled.Goals as goal

@@ -1,5 +1,5 @@
 use Rattle.std.proofs.Common.{◌≡◌, [], take, string_bytes}
-use Rattle.chip_actor.specs.Setting.{setting_with}
+use Rattle.chip_part.specs.Setting.{setting_with}
 use Rattle.chip_core.specs.Core.{log_after}
 use Rattle.chip_world.specs.World.{StandsForLog}
 use Rattle.chip_engine.specs.SimulateCommand.{answers_text}

@@ -1,6 +1,6 @@
 use Rattle.std.proofs.Common.{◌≡◌, List, ℕ, inl, inr, refl, Some, Ok, Err, sym, subst, ◌∙◌}
 use Rattle.std.specs.Io.KnownBytes.{Appends}
-use Rattle.chip_actor.specs.Setting.{setting_with}
+use Rattle.chip_part.specs.Setting.{setting_with}
 use Rattle.chip_report.specs.Written.{WritesAll}
 use Rattle.chip_graph.specs.Multigraph.{Multigraph}
 use Rattle.chip_link.specs.declared.event.Event.{Event}

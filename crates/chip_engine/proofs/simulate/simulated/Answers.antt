@@ -1,5 +1,5 @@
 use Rattle.std.proofs.Common.{◌++◌, List, ℕ, ap, ◌∙◌, subst}
-use Rattle.chip_actor.specs.Setting.{setting_with}
+use Rattle.chip_part.specs.Setting.{setting_with}
 use Rattle.chip_world.specs.Rounds.{AnswersDrive}
 use Rattle.chip_world.specs.declared.world.driving.Drive.{Drive}
 use Rattle.chip_engine.proofs.simulate.simulated.Goals as goal

@@ -1,7 +1,7 @@
 use Rattle.std.proofs.Common.{◌≡◌, ℕ, Bool, ◌<◌, sym, ap, ◌∙◌, subst, arith}
 use Rattle.chip_graph.specs.ChipGame.{ChipGame}
-use Rattle.chip_actor.specs.Setting.{Setting, setting_with}
-use Rattle.chip_actor.specs.Part.{opened}
+use Rattle.chip_part.specs.Setting.{Setting, setting_with}
+use Rattle.chip_part.specs.Part.{opened}
 use Rattle.chip_actor.specs.Actor.{Actor, StandsFor}
 use Rattle.chip_net.specs.Tokens.{ActorKnown, part_known}
 use Rattle.chip_net.specs.Views.{View, find}

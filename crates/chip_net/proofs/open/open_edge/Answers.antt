@@ -1,6 +1,6 @@
 use Rattle.std.proofs.Common.{◌≡◌, ◌+◌, ℕ, List, get_or, set, sym, ap, ◌∙◌, subst, arith}
 use Rattle.chip_graph.specs.ChipGame.{ChipGame}
-use Rattle.chip_actor.specs.Edges.{graph_edges, start_of}
+use Rattle.chip_part.specs.Edges.{graph_edges, start_of}
 use Rattle.chip_core.specs.Words.{of_cell}
 use Rattle.chip_net.specs.Layout.{index_of}
 use Rattle.chip_net.specs.Opening.{AreOpening}

@@ -1,5 +1,5 @@
 use Rattle.std.proofs.Common.{◌≡◌, ◌<◌, ◌+◌, ap, ◌∙◌, subst, arith}
-use Rattle.chip_actor.specs.Setting.{Setting}
+use Rattle.chip_part.specs.Setting.{Setting}
 use Rattle.chip_net.specs.Views.{View, find}
 use Rattle.chip_net.proofs.Viewing.{part_there}
 use Rattle.chip_net.proofs.open.opened.Goals as goal

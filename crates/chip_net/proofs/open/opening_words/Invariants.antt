@@ -1,5 +1,5 @@
 use Rattle.std.proofs.Common.{◌+◌}
-use Rattle.chip_actor.specs.Edges.{graph_edges}
+use Rattle.chip_part.specs.Edges.{graph_edges}
 use Rattle.chip_net.specs.Opening.{AreOpening}
 use Rattle.chip_net.proofs.open.opening_words.Given as goal
 

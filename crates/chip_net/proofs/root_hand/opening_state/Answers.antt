@@ -1,7 +1,7 @@
 use Rattle.std.proofs.Common.{◌≡◌, ℕ, Bool, ◌∙◌, subst}
 use Rattle.chip_graph.specs.ChipGame.{ChipGame}
-use Rattle.chip_actor.specs.Setting.{Setting, setting_with}
-use Rattle.chip_actor.specs.Root.{RootStandsFor}
+use Rattle.chip_part.specs.Setting.{Setting, setting_with}
+use Rattle.chip_root.specs.Root.{RootStandsFor}
 use Rattle.chip_core.specs.Core.{opened}
 use Rattle.chip_net.proofs.root_hand.opening_state.Goals as goal
 

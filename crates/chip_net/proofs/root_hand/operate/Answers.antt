@@ -1,8 +1,8 @@
 use Rattle.std.proofs.Common.{◌≡◌, refl, sym, ap, ◌∙◌, subst}
 use Rattle.atomic_table.specs.Seated.{TableId}
-use Rattle.chip_actor.specs.declared.act.Act.{Act}
-use Rattle.chip_actor.specs.declared.act.Act.TheVariants as Do
-use Rattle.chip_actor.specs.Setting.{Setting}
+use Rattle.chip_part.specs.declared.act.Act.{Act}
+use Rattle.chip_part.specs.declared.act.Act.TheVariants as Do
+use Rattle.chip_part.specs.Setting.{Setting}
 use Rattle.chip_core.specs.Words.{of_edge, of_acks, of_cell}
 use Rattle.chip_net.specs.Layout.{index_of}
 use Rattle.chip_net.specs.Roots.{IsDueInView}

@@ -1,6 +1,6 @@
 use Rattle.std.proofs.Common.{false, ◌≡◌, ◌∙◌, ℕ, ap, ◌+◌, [], ◌∷◌, sym, subst, arith, length-append}
 use Rattle.chip_graph.specs.Multigraph.{Multigraph}
-use Rattle.chip_actor.specs.Setting.{setting_with}
+use Rattle.chip_part.specs.Setting.{setting_with}
 use Rattle.chip_world.specs.World.{IsActor, AreOpeningActors}
 use Rattle.chip_world.proofs.OpeningLemmas.{pushed}
 use Rattle.chip_world.proofs.world.opening_actors.Goals as goal

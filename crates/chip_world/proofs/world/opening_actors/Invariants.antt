@@ -1,5 +1,5 @@
 use Rattle.std.proofs.Common.{◌≤◌, Bool, vec_capacity}
-use Rattle.chip_actor.specs.Setting.{setting_with}
+use Rattle.chip_part.specs.Setting.{setting_with}
 use Rattle.chip_world.specs.World.{AreOpeningActors}
 use Rattle.chip_world.proofs.world.opening_actors.Given as goal
 

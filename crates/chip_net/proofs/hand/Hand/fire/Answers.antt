@@ -1,4 +1,4 @@
-use Rattle.chip_actor.specs.declared.act.Act.TheVariants as Do
+use Rattle.chip_part.specs.declared.act.Act.TheVariants as Do
 use Rattle.chip_net.proofs.Acting.{same_table, word_room, word_there, act_rule, still_hand, makes}
 use Rattle.chip_net.proofs.hand.Hand.fire.Goals as goal
 

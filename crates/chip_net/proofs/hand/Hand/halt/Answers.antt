@@ -1,6 +1,6 @@
 use Rattle.std.proofs.Common.{refl, ℕ, sym, subst, bit_or}
 use Rattle.atomic_table.specs.Table.{Allows}
-use Rattle.chip_actor.specs.declared.act.Act.TheVariants as Do
+use Rattle.chip_part.specs.declared.act.Act.TheVariants as Do
 use Rattle.chip_core.specs.Core.{Halt}
 use Rattle.chip_net.specs.Rule.{Kept, Grows}
 use Rattle.chip_net.proofs.Acting.{same_table, word_room, word_there, act_rule, still_hand, makes, keeps_none}

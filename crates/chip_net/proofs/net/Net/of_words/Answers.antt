@@ -1,6 +1,6 @@
 use Rattle.std.proofs.Common.{[], sym, subst}
 use Rattle.atomic_table.specs.Table.{opening}
-use Rattle.chip_actor.specs.Setting.{Setting}
+use Rattle.chip_part.specs.Setting.{Setting}
 use Rattle.chip_net.specs.Views.{opening_view}
 use Rattle.chip_net.specs.Rule.{Kept}
 use Rattle.chip_net.proofs.Opening.{opens}

@@ -1,5 +1,5 @@
 use Rattle.std.proofs.Common.{◌≡◌, ◌<◌, sym, ap, ◌∙◌, subst}
-use Rattle.chip_actor.specs.Setting.{Setting}
+use Rattle.chip_part.specs.Setting.{Setting}
 use Rattle.chip_core.specs.Words.{of_vertex}
 use Rattle.chip_net.specs.Layout.{index_of}
 use Rattle.chip_net.specs.Tokens.{NetId}

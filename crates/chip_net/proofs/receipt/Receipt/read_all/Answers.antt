@@ -2,7 +2,7 @@ use Rattle.std.proofs.Common.{◌≡◌, ◌+◌, Option, sym, ◌∙◌, subst}
 use Rattle.std.specs.Prelude.{IfSome}
 use Rattle.chip_link.specs.declared.words.FiredWord.{FiredWord}
 use Rattle.chip_link.specs.Words.{fired_in, halted_in, by_limit_in}
-use Rattle.chip_actor.specs.Setting.{IsSetting}
+use Rattle.chip_part.specs.Setting.{IsSetting}
 use Rattle.chip_net.specs.Tokens.{NetId}
 use Rattle.chip_net.specs.Finish.{TallyState, tally_after, IsReading}
 use Rattle.chip_net.proofs.Reading.{still_over, reads_more}

@@ -1,7 +1,7 @@
 use Rattle.std.proofs.Common.{◌≡◌, ◌<◌, ℕ, sym, ap, ◌∙◌, subst}
 use Rattle.std.specs.Vec.{vec_capacity}
-use Rattle.chip_actor.specs.Setting.{Setting}
-use Rattle.chip_actor.specs.Edges.{root_edge}
+use Rattle.chip_part.specs.Setting.{Setting}
+use Rattle.chip_part.specs.Edges.{root_edge}
 use Rattle.chip_net.specs.Tokens.{NetId}
 use Rattle.chip_net.specs.Roots.{RootKnown, Feeds}
 use Rattle.chip_net.specs.Finish.{IsReady}

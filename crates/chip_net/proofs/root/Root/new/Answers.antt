@@ -1,7 +1,7 @@
 use Rattle.std.proofs.Common.{◌≡◌, ◌≤◌, ℕ, None, length, refl, sym, ap, ◌∙◌, subst, arith, cond, eqb}
 use Rattle.std.proofs.lemmas.List.{length-replicate}
-use Rattle.chip_actor.specs.Setting.{Setting, game_of_setting}
-use Rattle.chip_actor.specs.Edges.{stopper}
+use Rattle.chip_part.specs.Setting.{Setting, game_of_setting}
+use Rattle.chip_part.specs.Edges.{stopper}
 use Rattle.chip_net.specs.Views.{find}
 use Rattle.chip_net.specs.Roots.{RootKnown, HoldsNothing}
 use Rattle.chip_net.specs.Finish.{blank_tally}

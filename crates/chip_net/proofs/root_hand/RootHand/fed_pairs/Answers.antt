@@ -2,8 +2,8 @@ use Rattle.std.proofs.Common.{◌≡◌, ◌<◌, ◌≤◌, ◌+◌, ◌-◌, �
 use Rattle.std.proofs.Common.{subst, arith}
 use Rattle.std.specs.Vec.{vec_capacity}
 use Rattle.chip_graph.specs.ChipGame.{ChipGame}
-use Rattle.chip_actor.specs.Setting.{Setting}
-use Rattle.chip_actor.specs.Root.{AreGiven}
+use Rattle.chip_part.specs.Setting.{Setting}
+use Rattle.chip_root.specs.Root.{AreGiven}
 use Rattle.chip_net.specs.Tokens.{NetId}
 use Rattle.chip_net.specs.Roots.{RootKnown, root_part, BringsFed}
 use Rattle.chip_net.specs.contracts.root_hand.RootHand.{the_view}

@@ -1,5 +1,5 @@
 use Rattle.std.proofs.Common.{◌≡◌, sym, ap, ◌∙◌, subst}
-use Rattle.chip_actor.specs.Root.{SomeRoot, RootCanDo, RootMakes}
+use Rattle.chip_root.specs.Root.{SomeRoot, RootCanDo, RootMakes}
 use Rattle.chip_net.specs.Tokens.{NetId}
 use Rattle.chip_net.specs.Roots.{RootKnown, IsDueForRoot}
 use Rattle.chip_net.specs.contracts.root_hand.RootHand.{the_view}

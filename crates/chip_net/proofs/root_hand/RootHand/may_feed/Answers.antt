@@ -1,8 +1,8 @@
 use Rattle.std.proofs.Common.{◌≡◌, ◌<◌, refl, sym, ap, ◌∙◌, subst, arith}
 use Rattle.std.specs.Prelude.{Result}
-use Rattle.chip_actor.specs.declared.act.Act.{Act}
-use Rattle.chip_actor.specs.declared.rule.Rule.{Rule}
-use Rattle.chip_actor.specs.Edges.{root_edge}
+use Rattle.chip_part.specs.declared.act.Act.{Act}
+use Rattle.chip_part.specs.declared.rule.Rule.{Rule}
+use Rattle.chip_part.specs.Edges.{root_edge}
 use Rattle.chip_net.specs.Roots.{RootKnown, root_part, AllowsFeed}
 use Rattle.chip_net.specs.contracts.root_hand.RootHand.{the_view}
 use Rattle.chip_net.proofs.Feeding.{feed_answer, answer_some, answer_none, allows_feed, given_is_fed}

@@ -1,6 +1,6 @@
 use Rattle.std.proofs.Common.{ap, sym, ◌∙◌, subst, Some, List, []}
-use Rattle.chip_actor.specs.Setting.{Setting}
-use Rattle.chip_actor.specs.Root.{RootStandsFor}
+use Rattle.chip_part.specs.Setting.{Setting}
+use Rattle.chip_root.specs.Root.{RootStandsFor}
 use Rattle.chip_core.specs.Core.{Step, opened}
 use Rattle.chip_core.specs.Histories.{part_by}
 use Rattle.chip_net.specs.Views.{steps_or_none}

@@ -1,6 +1,6 @@
 use Rattle.std.proofs.Common.{◌≡◌, ◌<◌, sym, ap, ◌∙◌, subst}
-use Rattle.chip_actor.specs.Setting.{Setting}
-use Rattle.chip_actor.specs.Edges.{root_edge}
+use Rattle.chip_part.specs.Setting.{Setting}
+use Rattle.chip_part.specs.Edges.{root_edge}
 use Rattle.chip_core.specs.Core.{Settle}
 use Rattle.chip_core.specs.Words.{of_acks}
 use Rattle.chip_net.specs.Layout.{index_of}

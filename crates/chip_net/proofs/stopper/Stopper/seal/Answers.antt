@@ -1,6 +1,6 @@
 use Rattle.std.proofs.Common.{◌≡◌, ◌<◌, not, sym, ap, ◌∙◌, subst, arith}
-use Rattle.chip_actor.specs.Setting.{IsSetting}
-use Rattle.chip_actor.specs.Edges.{graph_edges}
+use Rattle.chip_part.specs.Setting.{IsSetting}
+use Rattle.chip_part.specs.Edges.{graph_edges}
 use Rattle.chip_net.specs.Tokens.{NetId}
 use Rattle.chip_net.specs.Roots.{StopperKnown}
 use Rattle.chip_net.proofs.Stopping.{seal_rule, still_stopper, seals}

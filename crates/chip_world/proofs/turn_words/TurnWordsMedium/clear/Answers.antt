@@ -1,5 +1,5 @@
 use Rattle.std.proofs.Common.{refl}
-use Rattle.chip_actor.specs.declared.act.Act.TheVariants as Do
+use Rattle.chip_part.specs.declared.act.Act.TheVariants as Do
 use Rattle.chip_world.proofs.TurnWordLemmas.{finds_some, serves}
 use Rattle.chip_world.proofs.turn_words.TurnWordsMedium.clear.Goals as goal
 

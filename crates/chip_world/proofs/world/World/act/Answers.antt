@@ -1,6 +1,6 @@
 use Rattle.std.proofs.Common.{get_or, sym, ap, ◌∙◌, subst}
-use Rattle.chip_actor.specs.Setting.{Setting}
-use Rattle.chip_actor.specs.declared.rule.Rule.TheVariants.{NoSuch}
+use Rattle.chip_part.specs.Setting.{Setting}
+use Rattle.chip_part.specs.declared.rule.Rule.TheVariants.{NoSuch}
 use Rattle.chip_core.specs.Core.{Event, part_of, part_in}
 use Rattle.chip_world.specs.World.{WorldState, StandsForLog, MakesStep}
 use Rattle.chip_world.specs.Makers.{vertex_of, is_of_others}

@@ -1,6 +1,6 @@
 use Rattle.std.proofs.Common.{◌∙◌, ◌%◌, ◌<◌, ℕ, ap, sym, subst}
-use Rattle.chip_actor.specs.Setting.{Setting}
-use Rattle.chip_actor.specs.Edges.{all_edges}
+use Rattle.chip_part.specs.Setting.{Setting}
+use Rattle.chip_part.specs.Edges.{all_edges}
 use Rattle.chip_core.proofs.LogLemmas.{edge_sound}
 use Rattle.chip_world.specs.SharedWords.{cell_of, no_words}
 use Rattle.chip_world.specs.World.{StandsForLog}

@@ -1,5 +1,5 @@
 use Rattle.std.proofs.Common.{◌∙◌, ℕ, Option, sum, option_to_list, ap, sym, subst}
-use Rattle.chip_actor.specs.Edges.{tail_of}
+use Rattle.chip_part.specs.Edges.{tail_of}
 use Rattle.chip_core.specs.Core.{part_in}
 use Rattle.chip_world.specs.Makers.{tail_if}
 use Rattle.chip_world.specs.World.{WorldState, StandsForLog}

@@ -1,6 +1,6 @@
 use Rattle.std.proofs.Common.{List, set, sym, subst}
-use Rattle.chip_actor.specs.Setting.{Setting}
-use Rattle.chip_actor.specs.Acting.{event_of}
+use Rattle.chip_part.specs.Setting.{Setting}
+use Rattle.chip_part.specs.Acting.{event_of}
 use Rattle.chip_core.specs.Core.{Log, step}
 use Rattle.chip_world.specs.World.{WorldState, StandsForLog, SomeLogWhere, IsDueFor, MakesStep}
 use Rattle.chip_world.specs.contracts.world.World.{the_view}

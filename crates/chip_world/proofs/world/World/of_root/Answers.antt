@@ -1,7 +1,7 @@
 use Rattle.std.proofs.Common.{◌≡◌, List, true, sym, ap, ◌∙◌, subst}
-use Rattle.chip_actor.specs.Setting.{Setting}
-use Rattle.chip_actor.specs.Root.{is_of_root}
-use Rattle.chip_actor.specs.declared.reply.Reply.TheVariants.{NotNow}
+use Rattle.chip_part.specs.Setting.{Setting}
+use Rattle.chip_part.specs.Acting.{is_of_root}
+use Rattle.chip_part.specs.declared.reply.Reply.TheVariants.{NotNow}
 use Rattle.chip_core.specs.Core.{Log, Event, step}
 use Rattle.chip_world.specs.SharedWords.{EdgeState}
 use Rattle.chip_world.specs.World.{WorldState, StandsForLog, MakesStep}

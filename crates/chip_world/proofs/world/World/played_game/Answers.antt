@@ -1,7 +1,7 @@
 use Rattle.std.proofs.Common.{◌≡◌, ◌∙◌, false, sym, ap, subst}
 use Rattle.std.proofs.lemmas.Result.{IfOk-weaker}
 use Rattle.chip_graph.specs.ChipGame.{ChipGame}
-use Rattle.chip_actor.specs.Setting.{Setting, game_of_setting}
+use Rattle.chip_part.specs.Setting.{Setting, game_of_setting}
 use Rattle.chip_core.specs.Core.{part_in, root}
 use Rattle.chip_core.proofs.GivenLemmas.{unfed_played}
 use Rattle.chip_world.specs.World.{WorldState, StandsForLog}

@@ -1,5 +1,5 @@
 use Rattle.std.proofs.Common.{sym, subst, refl}
-use Rattle.chip_actor.specs.Setting.{Setting}
+use Rattle.chip_part.specs.Setting.{Setting}
 use Rattle.chip_core.specs.Core.{Log, Read, step, part_in}
 use Rattle.chip_world.specs.World.{WorldState, StandsForLog, MakesStep}
 use Rattle.chip_world.specs.contracts.world.World.{the_view}

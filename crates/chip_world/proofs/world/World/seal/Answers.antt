@@ -1,10 +1,10 @@
 use Rattle.std.proofs.Common.{◌≡◌, ◌∙◌, ◌<◌, ℕ, length, List, ap, sym, subst}
 use Rattle.chip_graph.specs.Multigraph.{Multigraph}
-use Rattle.chip_actor.specs.Setting.{Setting}
+use Rattle.chip_part.specs.Setting.{Setting}
 use Rattle.chip_link.specs.Words.{claims_in}
-use Rattle.chip_actor.specs.Edges.{graph_edges}
-use Rattle.chip_actor.specs.Rules.{Seal}
-use Rattle.chip_actor.specs.declared.reply.Reply.TheVariants.{Done}
+use Rattle.chip_part.specs.Edges.{graph_edges}
+use Rattle.chip_part.specs.Rules.{Seal}
+use Rattle.chip_part.specs.declared.reply.Reply.TheVariants.{Done}
 use Rattle.chip_core.specs.Core.{Log, step}
 use Rattle.chip_world.specs.SharedWords.{EdgeState}
 use Rattle.chip_world.specs.World.{WorldState, StandsForLog}

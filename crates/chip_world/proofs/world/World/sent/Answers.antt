@@ -1,7 +1,7 @@
 use Rattle.std.proofs.Common.{◌∙◌, ◌<◌, ap, sym, subst}
-use Rattle.chip_actor.specs.Setting.{Setting}
+use Rattle.chip_part.specs.Setting.{Setting}
 use Rattle.chip_link.specs.Words.{claims_in}
-use Rattle.chip_actor.specs.Edges.{all_edges}
+use Rattle.chip_part.specs.Edges.{all_edges}
 use Rattle.chip_world.specs.World.{StandsForLog}
 use Rattle.chip_world.proofs.WordLemmas.{claims_told}
 use Rattle.chip_world.proofs.world.World.sent.Goals as goal

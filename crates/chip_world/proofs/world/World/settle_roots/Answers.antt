@@ -1,8 +1,8 @@
 use Rattle.std.proofs.Common.{◌≡◌, ◌+◌, ℕ, suc, List, length, ◌∙◌, ap, subst, arith}
 use Rattle.chip_graph.specs.declared.edge.Edge.{Edge}
 use Rattle.chip_graph.specs.Multigraph.{Multigraph}
-use Rattle.chip_actor.specs.Setting.{Setting}
-use Rattle.chip_actor.specs.Edges.{root_edge}
+use Rattle.chip_part.specs.Setting.{Setting}
+use Rattle.chip_part.specs.Edges.{root_edge}
 use Rattle.chip_core.specs.Core.{Settle, step, log_after}
 use Rattle.chip_world.specs.World.{WorldState, StandsForLog}
 use Rattle.chip_world.specs.contracts.world.World.{the_view}

@@ -1,5 +1,5 @@
 use Rattle.std.proofs.Common.{◌<◌, set, sym, ◌∙◌, subst}
-use Rattle.chip_actor.specs.Setting.{Setting}
+use Rattle.chip_part.specs.Setting.{Setting}
 use Rattle.chip_core.specs.Core.{Log}
 use Rattle.chip_world.specs.World.{WorldState, StandsForLog, SomeLogWhere}
 use Rattle.chip_world.specs.Rounds.{IsTurnAfter}

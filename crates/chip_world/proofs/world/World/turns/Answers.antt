@@ -1,6 +1,6 @@
 use Rattle.std.proofs.Common.{◌≡◌, ◌<◌, ◌+◌, ℕ, suc, ◌∙◌, ap, subst, arith}
 use Rattle.chip_graph.specs.Multigraph.{Multigraph}
-use Rattle.chip_actor.specs.Setting.{Setting}
+use Rattle.chip_part.specs.Setting.{Setting}
 use Rattle.chip_world.specs.World.{StandsForLog}
 use Rattle.chip_world.specs.Rounds.{AreTurns}
 use Rattle.chip_world.proofs.world.World.turns.Goals as goal

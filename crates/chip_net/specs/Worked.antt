@@ -3,13 +3,14 @@ use Rattle.std.specs.Prelude.{◌≡◌, true, false, [], ◌∷◌, take, Some,
 use Rattle.chip_link.specs.declared.trace.TraceRow.TheVariants as Row
 use Rattle.chip_part.specs.Setting.{Setting}
 use Rattle.chip_part.specs.Worked.{small_triangle, saw}
-use Rattle.chip_core.specs.Core.{Take, Ack, Fire, Settle, Read}
+use Rattle.chip_core.specs.Core.{Take, Ack, Fire, Clear, Put, Settle, Read, Feed}
+use Rattle.chip_core.specs.Positions.{fed_in}
 use Rattle.chip_core.specs.Words.{of_edge, of_acks, of_cell, of_vertex}
 use Rattle.chip_net.specs.Layout.{index_of, word_count}
 use Rattle.chip_net.specs.Views.{View, find, grown, without, alone}
 use Rattle.chip_net.specs.Opening.{first_value}
 use Rattle.chip_net.specs.Traces.{rows_of}
-use Rattle.chip_net.specs.Roots.{root_settles}
+use Rattle.chip_net.specs.Roots.{root_settles, settles_from, feed_steps}
 use Rattle.chip_net.specs.Finish.{reads_from, blank_tally, tally_after}
 
 -- four chips on vertex 0, and rings of two cells
@@ -56,3 +57,10 @@ RootOfTheTriangle =
     × (reads_from 0 (2 ∷ 1 ∷ []) ≡ saw (Read 0) 2 ∷ saw (Read 1) 1 ∷ [])
     × (tally_after 0 true false (tally_after 1 true true (tally_after 2 false false (blank_tally 3)))
     ≡ record { fired = 2 ∷ 1 ∷ 0 ∷ []; over = 1 ∷ []; sealed = 2 ∷ []; room = 0 })
+
+-- three chips for vertex 1, whose root edge is 5, with what the root's list has of them, and the settles of an end
+abbrev pub FeedOfTheTriangle : Type 0
+FeedOfTheTriangle =
+    (feed_steps two_cells 1 3 0 ≡ saw (Clear 5) 0 ∷ saw (Feed 5 3) 0 ∷ saw (Put 5) 0 ∷ [])
+    × (fed_in two_cells (feed_steps two_cells 1 3 0) ≡ (1, 3) ∷ [])
+    × (settles_from two_cells 1 2 ≡ Settle 5 ∷ Settle 6 ∷ [])

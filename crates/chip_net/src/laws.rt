@@ -1,6 +1,7 @@
 //! What holds of a net at every moment, and worked words and records, as the contracts of functions that do nothing.
 
 ghost use Rattle.chip_net.specs.Worked.{TriangleWords, TriangleOpens, PartHandedOn, RowsOfATurn, RootOfTheTriangle};
+ghost use Rattle.chip_net.specs.Worked.{FeedOfTheTriangle};
 ghost use Rattle.chip_net.specs.Laws.{EveryMomentIsReached};
 
 /// The small triangle as a net, as the definitions compute it.
@@ -10,6 +11,7 @@ pub fn worked_nets()
     ensures handed_on { PartHandedOn }
     ensures rows { RowsOfATurn }
     ensures root { RootOfTheTriangle }
+    ensures feed { FeedOfTheTriangle }
 {}
 
 /// Whatever threads do, words and views are a world that grows by one event at a time from the opening's. What each

@@ -2,6 +2,7 @@
 
 ghost use Rattle.std.specs.Prelude.{◌≡◌, All};
 
+mod feeding;
 mod threads;
 
 use super::*;

@@ -15,10 +15,10 @@ use std::test::Fail;
 use std::thread::{self, Threads};
 
 /// How many calls a thread makes at most.
-const MOST: u64 = 10_000_000;
+pub(crate) const MOST: u64 = 10_000_000;
 
 /// Turns of these actors, one after another, until the root is closed.
-fn turn_until(net: &Net, closed: &AtomicBool, mut actors: Vec<Actor>)
+pub(crate) fn turn_until(net: &Net, closed: &AtomicBool, mut actors: Vec<Actor>)
     requires { All (λ a. a.net ≡ net.now) actors.items }
 {
     for _ in 0..MOST {
@@ -31,7 +31,7 @@ fn turn_until(net: &Net, closed: &AtomicBool, mut actors: Vec<Actor>)
 }
 
 /// Polls until the root is closed.
-fn poll_until(net: &Net, closed: &AtomicBool, mut root: Root) -> Root
+pub(crate) fn poll_until(net: &Net, closed: &AtomicBool, mut root: Root) -> Root
     requires { root.net ≡ net.now }
     ensures { result.net ≡ net.now }
 {

@@ -5,3 +5,6 @@ use Rattle.net_bench.proofs.play.two_play.Goals as goal
 
 pub join-polled-requires-send-F : goal.join-polled-requires-send-F
 join-polled-requires-send-F g c κs within = search (crosses, sendable, net_crosses) depth 60
+
+pub join-polled-requires-send-A : goal.join-polled-requires-send-A
+join-polled-requires-send-A g c κs within = search (crosses, sendable, net_crosses) depth 60

@@ -5,26 +5,27 @@ use Rattle.chip_net.specs.Roots.{RootKnown, IsDueForRoot}
 use Rattle.chip_net.specs.contracts.root_hand.RootHand.{the_view}
 use Rattle.chip_net.proofs.Rooting.{feeding_mine, may_make, still_root, replies}
 use Rattle.chip_net.proofs.root_hand.RootHand.make.Goals as goal
-use Rattle.chip_net.proofs.root_hand.RootHand.make.Goals.{After-event-2-1}
+use Rattle.chip_net.proofs.root_hand.RootHand.make.Goals.{After-operate-seen}
 
-due : (c : After-event-2-1) → IsDueForRoot (the_view c.self.inside) c.args.event
+due : (c : After-operate-seen) → IsDueForRoot (the_view c.self.inside) c.args.event
 due c = subst (λ (r : RootKnown). IsDueForRoot r c.args.event) (sym c.self.view_is) c.requires.due
 
-here : (c : After-event-2-1) → c.args.net.now.setting ≡ c.self.inside.setup.value
+here : (c : After-operate-seen) → c.args.net.now.setting ≡ c.self.inside.setup.value
 here c = sym (ap (λ (n : NetId). n.setting) (ap (λ (r : RootKnown). r.net) c.self.view_is ∙ c.requires.net))
 
 pub apply-requires : goal.apply-requires
 apply-requires c =
+    let d = (goal.at.apply-requires c).After-operate-seen in
     let g = c.self.inside.setup.value in
-    let mine = feeding_mine g c.args.event (due c).0 in
+    let mine = feeding_mine g c.args.event (due d).0 in
     let told = c.operate-seen.ensures.told in
     subst (λ seen. SomeRoot c.self.inside.state (λ h t. RootCanDo h t c.args.event seen)) (sym told.1)
-    (may_make c.self.inside c.self.invariant c.args.event mine.0 mine.1 (due c).1 c.args.net.now.setting (here c)
+    (may_make c.self.inside c.self.invariant c.args.event mine.0 mine.1 (due d).1 c.args.net.now.setting (here d)
     told.0 c.operate-seen.new.seat.me told.2)
 
 pub invariant_of-self : goal.invariant_of-self
 invariant_of-self c =
-    let d = (goal.at.invariant_of-self c).After-event-2-1 in
+    let d = (goal.at.invariant_of-self c).After-operate-seen in
     let g = c.self.inside.setup.value in
     let mine = feeding_mine g c.args.event (due d).0 in
     let told = c.operate-seen.ensures.told in
@@ -35,7 +36,7 @@ invariant_of-self c =
 
 pub returns : goal.returns
 returns c =
-    let d = (goal.at.returns c).After-event-2-1 in
+    let d = (goal.at.returns c).After-operate-seen in
     let g = c.self.inside.setup.value in
     let mine = feeding_mine g c.args.event (due d).0 in
     let told = c.operate-seen.ensures.told in

@@ -5,3 +5,6 @@ use Rattle.chip_net.proofs.tests.threads.turn_and_poll.Goals as goal
 
 pub join-root-requires-send-F : goal.join-root-requires-send-F
 join-root-requires-send-F g c κs within = search (crosses, sendable, net_crosses, c.type_bounds.sync-R) depth 60
+
+pub join-root-requires-send-A : goal.join-root-requires-send-A
+join-root-requires-send-A g c κs within = search (crosses, sendable, net_crosses) depth 60

@@ -114,40 +114,82 @@ fn six_chips(rt: HostRuntime) -> Result<(), Fail> {
     play(&rt, &game, &[3, 1, 0], &[1, 1, 4], &[])
 }
 
-/// As many vertices as there may be, on a path whose ends lose chips: firing alone would take minutes.
-#[test]
-fn long_path(rt: HostRuntime) -> Result<(), Fail> {
-    let alloc = rt.alloc();
-    let length = 4095u64;
+/// The last vertex of a long path.
+const END: u64 = 4_095;
+
+/// As many vertices as there may be, on a path whose ends lose chips to its sink, the last vertex.
+fn long_path(alloc: Global) -> Result<Graph, Fail> {
     let mut rows = Vec::new(alloc);
-    for vertex in 0..length {
+    for vertex in 0..END {
         rows.push((vertex, vertex + 1, 1))?;
-        rows.push((vertex, vertex.checked_sub(1).unwrap_or(length), 1))?;
+        rows.push((vertex, vertex.checked_sub(1).unwrap_or(END), 1))?;
     }
-    let graph = graph_of(alloc, length + 1, length, &rows)?;
-    let mut start = vec![in alloc; 0; 4096]?;
-    if let Some(chips) = start.get_mut(2047) {
+    graph_of(alloc, END + 1, END, &rows)
+}
+
+/// 2^20 chips in the middle of the path: firing alone would take minutes.
+fn long_game(alloc: Global, limit: u64) -> Result<Game, Fail> {
+    let mut start = vec![in alloc; 0; 4_096]?;
+    if let Some(chips) = start.get_mut(2_047) {
         *chips = 1 << 20;
     }
-    let outcome = plain(alloc, &Game::new(graph, start, 1 << 40)?)?;
-    assert_eq!(rt; outcome.fired.get(2047).copied(), Some(1_071_645_696));
-    assert_eq!(rt; outcome.fired.get(0).copied(), Some(522_241));
-    assert_eq!(rt; outcome.chips.get(2047).copied(), Some(0));
+    Ok(Game::new(long_path(alloc)?, start, limit)?)
+}
+
+/// The chips in the middle, at the first vertex and on the sink, once nothing may fire.
+fn long_path_ends(rt: &impl Abort, outcome: &Outcome) {
+    assert_eq!(rt; outcome.chips.get(2_047).copied(), Some(0));
     assert_eq!(rt; outcome.chips.get(0).copied(), Some(1));
-    assert_eq!(rt; outcome.chips.get(4095).copied(), Some(1_044_482));
+    assert_eq!(rt; outcome.chips.get(4_095).copied(), Some(1_044_482));
     assert!(rt; outcome.over.is_empty());
+}
+
+#[test]
+fn plays_a_long_path(rt: HostRuntime) -> Result<(), Fail> {
+    let mut told = Told::nothing();
+    let game = long_game(rt.alloc(), 1 << 40)?;
+    let outcome = plain_watched(rt.alloc(), &game, &mut told)?;
+    assert_eq!(&rt; outcome.fired.get(2_047).copied(), Some(1_071_645_696));
+    assert_eq!(&rt; outcome.fired.get(0).copied(), Some(522_241));
+    long_path_ends(&rt, &outcome);
+    assert!(&rt; told.times > 1, "told on the way, and not at the end alone");
     Ok(())
 }
 
-/// How many rounds it was told of, and how many firings there were after the last of them.
+/// At first each vertex may fire once, and then as often as it can: the counts add up to those of one sitting.
+#[test]
+fn a_long_path_in_two_sittings(rt: HostRuntime) -> Result<(), Fail> {
+    let alloc = rt.alloc();
+    let first = Resumed::first(alloc, plain(alloc, &long_game(alloc, 1)?)?)?;
+    assert_eq!(&rt; first.outcome.over.as_slice(), [2_047].as_slice());
+    let last = resume(alloc, long_path(alloc)?, &first, 1 << 40)?;
+    assert_eq!(&rt; last.prior.get(2_047).copied(), Some(1));
+    assert_eq!(&rt; last.outcome.fired.get(2_047).copied(), Some(1_071_645_695));
+    long_path_ends(&rt, &last.outcome);
+    Ok(())
+}
+
+/// How often it was told something, of how many rounds in all, and how many firings there were after the last of them.
 #[derive(Drop)]
 struct Told {
+    times: u64,
     rounds: u64,
     firings: u64,
 }
 
+impl Told {
+    fn nothing() -> Told {
+        Told {
+            times: 0,
+            rounds: 0,
+            firings: 0,
+        }
+    }
+}
+
 impl Watch for Told {
     fn rounds(&mut self, more: u64, _game: &Game, _chips: &[u64], fired: &[u64]) {
+        self.times = self.times.saturating_add(1);
         self.rounds = self.rounds.saturating_add(more);
         self.firings = 0;
         for times in fired {
@@ -161,10 +203,7 @@ impl Watch for Told {
 fn watched(rt: HostRuntime) -> Result<(), Fail> {
     for (chips, rounds, firings) in [(0, 0, 0), (3, 1, 1), (4, 1, 3), (5, 2, 4)] {
         let game = triangle(rt.alloc(), &[chips, 0, 0], 1 << 40)?;
-        let mut told = Told {
-            rounds: 0,
-            firings: 0,
-        };
+        let mut told = Told::nothing();
         let outcome = plain_watched(rt.alloc(), &game, &mut told)?;
         assert_eq!(rt; outcome, plain(rt.alloc(), &game)?);
         assert_eq!(rt; told.rounds, rounds);

@@ -1,6 +1,7 @@
 """The system around the program: streams closed or full, devices, folders, limits, signals, several programs."""
 import concurrent.futures
 import contextlib
+import dataclasses
 import itertools
 import json
 import os
@@ -11,6 +12,7 @@ import tempfile
 import threading
 import time
 
+import launch
 from worked import NO_MEMORY, differences, fault_differences
 
 KIB, MIB = 1 << 10, 1 << 20
@@ -198,9 +200,13 @@ def slow_pipes(machine, worked):
             begun = machine.start(words)
             process = os.pidfd_open(begun.process)
             # (each is opened for writing only once the program opens it, and all are opened before one is read)
-            for pipe in pipes:
-                threading.Thread(target=trickle, args=(*pipe, process), daemon=True).start()
+            threads = [threading.Thread(target=trickle, args=(*pipe, process), daemon=True) for pipe in pipes]
+            for thread in threads:
+                thread.start()
             found = worked.differences(begun.end())
+            # (a thread ends with the program, whose number it has until then, unless its pipe was never opened)
+            for thread in threads:
+                thread.join(launch.SECONDS)
             os.close(process)
             return found
 
@@ -268,7 +274,7 @@ def killed(machine, worked, seed):
         is_ended = ran.status == -signal.SIGTERM
         if is_ended and not ran.out:
             return differences(ran, b"", b"", -signal.SIGTERM) + worked.trace_faults(ran)
-        return worked.differences(ran._replace(status=worked.status) if is_ended else ran)
+        return worked.differences(dataclasses.replace(ran, status=worked.status) if is_ended else ran)
 
     yield f"{worked.name}: ended at moment {seed}", faults
 

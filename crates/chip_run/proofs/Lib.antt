@@ -1,1 +1,2 @@
+pub mod FeedLemmas
 pub mod RunLemmas

@@ -1,2 +1,3 @@
+pub mod Feeding
 pub mod Recording
 pub mod RunCommand

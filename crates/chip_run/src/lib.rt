@@ -6,5 +6,6 @@
 
 pub use running::{run_engine, run_engine_gated};
 
+mod feeding;
 mod recording;
 mod running;

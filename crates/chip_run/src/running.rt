@@ -1,15 +1,17 @@
 //! The engine.
 
-ghost use Rattle.std.specs.Prelude.{◌≡◌, ℕ, None, is_some, IfOk, IfErr};
+ghost use Rattle.std.specs.Prelude.{◌≡◌, ℕ, None, is_some, option_map, IfOk, IfErr};
 ghost use Rattle.std.specs.Option.{ForSome};
 ghost use Rattle.chip_report.specs.ReportText.{report_text};
-ghost use Rattle.chip_engine.specs.PlainCommand.{Reports, plain_status};
-ghost use Rattle.chip_run.specs.RunCommand.{RunAnswers, IsNotPlayed, plan_of};
+ghost use Rattle.chip_engine.specs.PlainCommand.{plain_status};
+ghost use Rattle.chip_run.specs.Feeding.{ForText};
+ghost use Rattle.chip_run.specs.RunCommand.{RunAnswers, PlaysFed, ReportsFed, StopsCrew, IsNotPlayed, plan_of};
 
+use crate::feeding::read_fed;
 use crate::recording::recorded;
-use chip_crew::{CrewFault, Finished, Gate, Plan, run};
+use chip_crew::{CrewFault, Finished, Gate, Plan, run, run_fed};
 use chip_engine::{Ended, Fault, read_game, status_of};
-use chip_graph::Game;
+use chip_graph::{Game, GameFault};
 use chip_net::Actor;
 use chip_report::report::report;
 use chip_report::write_all_of;
@@ -30,16 +32,18 @@ impl Gate for Always {
 }
 
 /// Plays the game of a graph file, a chips file and a firing limit on so many threads, with such rings, each thread for
-/// so many turns at most. Where a trace is asked for it is written first, with room for so many rows of each vertex,
-/// and then the report.
+/// so many turns at most. The chips of the file of feeds, where there is one, come while the vertices fire. Where a
+/// trace is asked for it is written first, with room for so many rows of each vertex, and then the report.
 ///
-/// Its bytes and its status are those of `plain_engine`, however the threads were scheduled. The report is made whole
-/// before the first byte of either is written, and where the trace cannot be written nothing of the report is.
-pub fn run_engine<R: Threads + Wait + Sync, G: Read, C: Read, T: Write, W: Write>(
+/// Its bytes and its status are those of `plain_engine` for the game that has all these chips at the start, however the
+/// threads were scheduled. The readers are read in their order. The report is made whole before the first byte of
+/// either is written, and where the trace cannot be written nothing of the report is.
+pub fn run_engine<R: Threads + Wait + Sync, G: Read, C: Read, F: Read, T: Write, W: Write>(
     rt: &R,
     alloc: Global,
     graph: &mut G,
     chips: &mut C,
+    feed: Option<&mut F>,
     limit: u64,
     ring: u64,
     workers: u64,
@@ -50,8 +54,9 @@ pub fn run_engine<R: Threads + Wait + Sync, G: Read, C: Read, T: Write, W: Write
 ) -> Result<Ended, Fault>
     ensures { ForSome (G.remaining graph.old)
         (λ graph_text. ForSome (C.remaining chips.old)
-        (λ chips_text. RunAnswers graph_text chips_text limit (plan_of ring workers turns trace_rows) (is_some trace.entry)
-        (W.contents output.old) (W.contents output.new) result)) }
+        (λ chips_text. ForText (option_map (λ reader. F.remaining reader.now) feed.entry)
+        (λ feed_text. RunAnswers graph_text chips_text feed_text limit (plan_of ring workers turns trace_rows)
+        (is_some trace.entry) (W.contents output.old) (W.contents output.new) result))) }
 {
     let plan = Plan {
         workers,
@@ -60,7 +65,9 @@ pub fn run_engine<R: Threads + Wait + Sync, G: Read, C: Read, T: Write, W: Write
         trace_rows,
         seal: None,
     };
-    run_engine_gated(rt, alloc, graph, chips, limit, plan, &Always, trace, output)
+    run_engine_gated(
+        rt, alloc, graph, chips, feed, limit, plan, &Always, trace, output,
+    )
 }
 
 /// Does what `run_engine` does, by a plan that seals nothing. The gate is asked before each turn and always answers true;
@@ -69,6 +76,7 @@ pub fn run_engine_gated<
     R: Threads + Wait + Sync,
     G: Read,
     C: Read,
+    F: Read,
     K: Gate + Sync,
     T: Write,
     W: Write,
@@ -77,6 +85,7 @@ pub fn run_engine_gated<
     alloc: Global,
     graph: &mut G,
     chips: &mut C,
+    feed: Option<&mut F>,
     limit: u64,
     plan: Plan,
     gate: &K,
@@ -87,11 +96,13 @@ pub fn run_engine_gated<
     requires gate { (worker turn : ℕ) → K.may_shut gate.now worker turn → ⊥ }
     ensures { ForSome (G.remaining graph.old)
         (λ graph_text. ForSome (C.remaining chips.old)
-        (λ chips_text. RunAnswers graph_text chips_text limit plan (is_some trace.entry)
-        (W.contents output.old) (W.contents output.new) result)) }
+        (λ chips_text. ForText (option_map (λ reader. F.remaining reader.now) feed.entry)
+        (λ feed_text. RunAnswers graph_text chips_text feed_text limit plan (is_some trace.entry)
+        (W.contents output.old) (W.contents output.new) result))) }
 {
     let game = read_game(alloc, graph, chips, limit)?;
-    let played = play(rt, alloc, &game, plan, gate)?;
+    let feeds = read_fed(alloc, feed, game.graph().vertices())?;
+    let played = play(rt, alloc, &game, feeds, plan, gate)?;
     let cut = recorded(alloc, &played.actors, trace)?;
     write_all_of(output, &played.text)?;
     Ok(Ended {
@@ -111,22 +122,45 @@ struct Played {
     actors: Vec<Actor>,
 }
 
-/// Plays a game.
+/// Plays a game, with these feeds if there are any.
 fn play<R: Threads + Wait + Sync, K: Gate + Sync>(
     rt: &R,
     alloc: Global,
     game: &Game,
+    feeds: Option<Vec<(u64, u64)>>,
     plan: Plan,
     gate: &K,
 ) -> Result<Played, Fault>
     requires seal { plan.seal ≡ None }
     requires gate { (worker turn : ℕ) → K.may_shut gate.now worker turn → ⊥ }
-    ensures played { IfOk result (λ p. Reports game.now p.text.items p.status) }
-    ensures fault { IfErr result (IsNotPlayed game.now plan) }
+    ensures played { IfOk result
+        (λ p. ReportsFed game.now (option_map (λ fed. fed.items) feeds) p.text.items p.status) }
+    ensures fault { IfErr result (IsNotPlayed game.now (option_map (λ fed. fed.items) feeds) plan) }
 {
-    match run(rt, alloc, game, plan, gate) {
+    match crewed(rt, alloc, game, feeds, plan, gate) {
         Ok(finished) => Ok(reported(alloc, finished)?),
         Err(fault) => Err(fault_of_crew(fault)),
+    }
+}
+
+/// Has a crew play a game, and feed it where there are feeds.
+fn crewed<R: Threads + Wait + Sync, K: Gate + Sync>(
+    rt: &R,
+    alloc: Global,
+    game: &Game,
+    feeds: Option<Vec<(u64, u64)>>,
+    plan: Plan,
+    gate: &K,
+) -> Result<Finished, CrewFault>
+    requires seal { plan.seal ≡ None }
+    requires gate { (worker turn : ℕ) → K.may_shut gate.now worker turn → ⊥ }
+    ensures played { IfOk result
+        (λ finished. PlaysFed game.now (option_map (λ fed. fed.items) feeds) finished.outcome) }
+    ensures fault { IfErr result (StopsCrew game.now (option_map (λ fed. fed.items) feeds) plan) }
+{
+    match feeds {
+        Some(feeds) => run_fed(rt, alloc, game, plan, &feeds, gate),
+        None => run(rt, alloc, game, plan, gate),
     }
 }
 
@@ -154,6 +188,7 @@ fn fault_of_crew(fault: CrewFault) -> Fault
 {
     match fault {
         CrewFault::Plan => Fault::Plan,
+        CrewFault::Total => Fault::Game(GameFault::Total),
         CrewFault::NoMemory => Fault::NoMemory,
         CrewFault::Spawn => Fault::Spawn,
         CrewFault::GateShut => Fault::GateShut,

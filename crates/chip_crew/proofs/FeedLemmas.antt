@@ -14,6 +14,7 @@ use Rattle.chip_net.specs.Tokens.{NetId}
 use Rattle.chip_net.specs.declared.root.RootState.{RootState}
 use Rattle.chip_net.specs.Roots.{RootKnown, root_part, root_after, has_ended, fed_by, all_given, Feeds, LooksInVain}
 use Rattle.chip_net.specs.Roots.{feed_steps, settles_from, IsPolling, Ends}
+use Rattle.chip_net.proofs.Viewing.{part_append}
 use Rattle.chip_crew.specs.Crew.{Polled}
 use Rattle.chip_crew.proofs.Owning.{true_or_false}
 use Rattle.chip_crew.specs.Feeding.{Left, MayFeed, MayFeedLeft, FeedsNext, EndsAfter, FeedsOnce, IsLed}
@@ -54,10 +55,6 @@ module _ (g : Setting) where
       → (part_by g s xs).ended ≡ noted_after s.ended (map (λ (x : Step). x.event) xs)
   part_ended s [] = refl
   part_ended s (x ∷ xs) = part_ended (does g x s) xs
-
-  part_append : (s : Part) (xs ys : List Step) → part_by g s (xs ++ ys) ≡ part_by g (part_by g s xs) ys
-  part_append s [] ys = refl
-  part_append s (x ∷ xs) ys = part_append (does g x s) xs ys
 
   fed_is : (xs : List Step) → fed_in g xs ≡ fed_events g (map (λ (x : Step). x.event) xs)
   fed_is [] = refl

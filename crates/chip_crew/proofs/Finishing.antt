@@ -109,7 +109,7 @@ missing_closing crew feeds old turns joined e (Ok f) P is same passed why = absu
 missing_closing crew feeds old turns joined e (Err f) P is same passed why =
     subst (IsClosing crew feeds old turns joined) (sym (same f is)) (missing_closes crew feeds old turns joined e passed why)
 
--- why no crew's workers closed it is why it stopped
+-- why it did not close is why the crew stopped
 closing_stops : (crew : CrewId) (feeds : Left) (old : RootKnown) (turns : ℕ) (joined : Joined) (shut : Type 0)
     (e : CrewFault) → (joined.passed ≡ false → shut) → IsRoll crew joined.roll → IsClosing crew feeds old turns joined e
     → IsStopped crew feeds old turns shut e

@@ -484,23 +484,43 @@ fn feed_fault<R: Threads + Wait + Sync + Abort>(
     }
 }
 
-#[test]
-fn feeds_that_are_refused(rt: HostRuntime) -> Result<(), Fail> {
-    let alloc = rt.alloc();
-    let none = [0, 0, 0];
-    for feed in [(3, 1), (0, 0)] {
-        let fault = feed_fault(&rt, alloc, &none, PAIR, &[(1, 1), feed])?;
-        assert!(&rt; matches!(fault, CrewFault::Plan));
+/// The crew is not to make these feeds: their total is at fault, or else one of them.
+fn expect_refused_feeds<R: Threads + Wait + Sync + Abort>(
+    rt: &R,
+    alloc: Global,
+    chips: &[u64],
+    feeds: &[(u64, u64)],
+    total: bool,
+) -> Result<(), Fail> {
+    match feed_fault(rt, alloc, chips, PAIR, feeds)? {
+        CrewFault::Plan => assert!(rt; !total),
+        CrewFault::Total => assert!(rt; total),
+        _ => panic!(rt; "another fault"),
     }
-    let past = Plan { ring: 0, ..PAIR };
-    let fault = feed_fault(&rt, alloc, &none, past, &[(0, LIMIT), (0, 1)])?;
-    assert!(&rt; matches!(fault, CrewFault::Plan));
-    let fault = feed_fault(&rt, alloc, &none, PAIR, &[(0, LIMIT), (0, 1)])?;
-    assert!(&rt; matches!(fault, CrewFault::Total));
-    let fault = feed_fault(&rt, alloc, &[1, 0, 0], PAIR, &[(2, LIMIT)])?;
-    assert!(&rt; matches!(fault, CrewFault::Total));
-    // As many chips as there may be, all on the sink.
-    let game = triangle(alloc, &none)?;
+    Ok(())
+}
+
+#[test]
+fn feeds_out_of_range(rt: HostRuntime) -> Result<(), Fail> {
+    let alloc = rt.alloc();
+    expect_refused_feeds(&rt, alloc, &[0, 0, 0], &[(1, 1), (3, 1)], false)?;
+    expect_refused_feeds(&rt, alloc, &[0, 0, 0], &[(1, 1), (0, 0)], false)?;
+    // One is out of range, and all are too many: the first is told.
+    expect_refused_feeds(&rt, alloc, &[0, 0, 0], &[(2, LIMIT), (3, 1)], false)
+}
+
+#[test]
+fn feeds_past_the_total(rt: HostRuntime) -> Result<(), Fail> {
+    let alloc = rt.alloc();
+    expect_refused_feeds(&rt, alloc, &[0, 0, 0], &[(2, LIMIT), (2, 1)], true)?;
+    expect_refused_feeds(&rt, alloc, &[1, 0, 0], &[(2, LIMIT)], true)
+}
+
+/// As many chips as there may be, all on the sink.
+#[test]
+fn feeds_up_to_the_total(rt: HostRuntime) -> Result<(), Fail> {
+    let alloc = rt.alloc();
+    let game = triangle(alloc, &[0, 0, 0])?;
     let ended = fed(&rt, alloc, &game, PAIR, &[(2, LIMIT)]);
     expect_outcome(&rt, &ended.outcome, &[0, 0, 0], &[0, 0, LIMIT], &[]);
     Ok(())

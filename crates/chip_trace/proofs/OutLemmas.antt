@@ -44,9 +44,12 @@ pub cut_short : (all : List ℕ) (old middle new : Option (List ℕ)) (rest : Li
 cut_short all old middle new rest g some nothing =
     let counted = ap length g.split ∙ length-append g.done rest in
     let first : take (length g.done + 0) all ≡ g.done ++ [] =
-    ap (take (length g.done + 0)) g.split ∙ take-append-add g.done rest 0 in
-    (length g.done + 0, omega arith, subst (Appends old new) (sym first)
-    (Appends-trans old middle new g.done [] g.appended nothing))
+    ap (take (length g.done + 0)) g.split ∙ take-append-add g.done rest 0 in (
+      length g.done + 0,
+      omega arith,
+      subst (Appends old new) (sym first)
+          (Appends-trans old middle new g.done [] g.appended nothing),
+    )
 
 -- where none are left, all went out
 pub all_out : (all : List ℕ) (old new : Option (List ℕ)) (rest : List ℕ) → GoneOut all old new rest → length rest ≡ 0

@@ -199,7 +199,8 @@ pub const TOTAL: Explanation = Explanation {
     place: Place::Nowhere,
     meaning: "there are more than 1099511627776 chips in all",
     advice: "\
-That is 2^40. The chips of all vertices together count, those on the sink among them.
+That is 2^40. The chips of all vertices together count, those on the sink among them, and
+those of the file of `--feed`.
 ",
 };
 
@@ -408,6 +409,7 @@ pub const UNFINISHED: Explanation = Explanation {
     meaning: "the threads made all their turns before the game was over",
     advice: "\
 Nothing is wrong with the game, but its end was not reached, so no report was written.
+With --feed, n may be 0: then some chips were not fed yet.
 Allow more turns by `--turns`, or leave the option away.
 ",
 };

@@ -1,23 +1,25 @@
 //! The arguments of the program, and what they ask for.
 
+use crate::commands::{
+    BOOKS, CHIPS, COMMANDS, CommandRow, FAULT_NUMBER, FED, FEED, FLAGS, GRAPH, LIMIT, Operand,
+    OperandRow, OptionRow, OptionValue, PROGRESS, REPORT, RING, ROUNDS, SCHEDULE, TRACE,
+    TRACE_FILE, TRACE_ROWS, TURNS, WORKERS,
+};
 use crate::help_texts as texts;
-use chip_crew::{MAX_TRACE_ROWS, MAX_TURNS, MAX_WORKERS};
 use chip_engine::Fault;
 use chip_graph::MAX_LIMIT;
 use chip_link::Ring;
+use clap::builder::ValueParser;
 use clap::error::ErrorKind;
-use clap::{Arg, ArgAction, ArgMatches, Command, value_parser};
+use clap::{Arg, ArgAction, ArgMatches, Command};
 use std::alloc::{AllocError, Global};
 
 /// How many threads play where it is not said.
-const WORKERS: u64 = 2;
+const USUAL_WORKERS: u64 = 2;
 /// How many turns each makes at most where it is not said.
-const TURNS: u64 = 1 << 30;
-/// How many trace rows of each vertex there is room for where it is not said.
-const TRACE_ROWS: u64 = 1024;
-
-/// The most rounds that follow a schedule.
-const MAX_ROUNDS: u64 = 1 << 40;
+const USUAL_TURNS: u64 = 1 << 30;
+/// How many trace rows of each vertex there is room for where a trace is asked for and it is not said.
+const USUAL_TRACE_ROWS: u64 = 1024;
 
 /// A file that an argument names.
 #[derive(Clone, Copy)]
@@ -68,6 +70,8 @@ pub struct RunArguments<'a> {
     pub workers: u64,
     /// How many turns each of them makes at most, 1 to 2^40.
     pub turns: u64,
+    /// The file of the chips that are fed, if there are any.
+    pub feed: Option<FileArgument<'a>>,
     /// The file of the trace, if one is asked for.
     pub trace: Option<FileArgument<'a>>,
     /// For how many rows of each vertex there is room in it, up to 2^20.
@@ -119,61 +123,109 @@ pub fn parse<'a>(alloc: Global, arguments: &'a [String]) -> Result<Request<'a>, 
 fn request_of<'a>(matches: &ArgMatches<'a>, arguments: &[String]) -> Result<Request<'a>, Fault> {
     let (name, found) = matches.subcommand().ok_or(Fault::Usage)?;
     match name {
-        "check" => Ok(Request::Check(file_of(found, "GRAPH", arguments, 0)?)),
+        "check" => Ok(Request::Check(file_of(found, GRAPH, arguments, 0)?)),
         "plain" => Ok(Request::Plain(PlainArguments {
             game: game_of(found, arguments)?,
-            progress: found.get_flag("progress"),
+            progress: found.get_flag(PROGRESS.name),
         })),
         "simulate" => Ok(Request::Simulate(SimulationArguments {
             game: game_of(found, arguments)?,
-            schedule: file_of(found, "SCHEDULE", arguments, 2)?,
+            schedule: file_of(found, SCHEDULE, arguments, 2)?,
             ring: ring_of(found)?,
-            rounds: found.get_one::<u64>("rounds").unwrap_or(0),
-            books: found.get_flag("books"),
-            fed: found.get_flag("fed"),
+            rounds: number_in(found, ROUNDS).unwrap_or(0),
+            books: found.get_flag(BOOKS.name),
+            fed: found.get_flag(FED.name),
         })),
         "run" => run_of(found, arguments),
         "replay" => Ok(Request::Replay(
             game_of(found, arguments)?,
-            file_of(found, "TRACE", arguments, 2)?,
+            file_of(found, TRACE_FILE, arguments, 2)?,
         )),
         "resume" => Ok(Request::Resume(SittingArguments {
-            graph: file_of(found, "GRAPH", arguments, 0)?,
-            report: file_of(found, "REPORT", arguments, 1)?,
+            graph: file_of(found, GRAPH, arguments, 0)?,
+            report: file_of(found, REPORT, arguments, 1)?,
             limit: limit_of(found),
         })),
-        "explain" => Ok(Request::Explain(found.get_one::<u64>("NUMBER"))),
+        "explain" => Ok(Request::Explain(found.get_one::<u64>(FAULT_NUMBER.name))),
         _ => Err(Fault::Usage),
     }
 }
 
 /// The play on threads that the arguments ask for.
 fn run_of<'a>(found: &ArgMatches<'a>, arguments: &[String]) -> Result<Request<'a>, Fault> {
-    let trace = match found.get_str("trace") {
-        Some(path) => Some(FileArgument {
-            path,
-            number: value_number_of(arguments, "--trace").ok_or(Fault::Usage)?,
-        }),
-        None => None,
-    };
-    let rows_by_default = if trace.is_some() { TRACE_ROWS } else { 0 };
+    let trace = file_in(found, TRACE, arguments)?;
+    let usual_rows = if trace.is_some() { USUAL_TRACE_ROWS } else { 0 };
     Ok(Request::Run(RunArguments {
         game: game_of(found, arguments)?,
         ring: ring_of(found)?,
-        workers: found.get_one::<u64>("workers").unwrap_or(WORKERS),
-        turns: found.get_one::<u64>("turns").unwrap_or(TURNS),
+        workers: number_in(found, WORKERS).unwrap_or(USUAL_WORKERS),
+        turns: number_in(found, TURNS).unwrap_or(USUAL_TURNS),
+        feed: file_in(found, FEED, arguments)?,
         trace,
-        trace_rows: found
-            .get_one::<u64>("trace-rows")
-            .unwrap_or(rows_by_default),
-        progress: found.get_flag("progress"),
+        trace_rows: number_in(found, TRACE_ROWS).unwrap_or(usual_rows),
+        progress: found.get_flag(PROGRESS.name),
     }))
 }
 
+/// The game that a command's arguments name.
+fn game_of<'a>(found: &ArgMatches<'a>, arguments: &[String]) -> Result<GameArguments<'a>, Fault> {
+    Ok(GameArguments {
+        graph: file_of(found, GRAPH, arguments, 0)?,
+        chips: file_of(found, CHIPS, arguments, 1)?,
+        limit: limit_of(found),
+    })
+}
+
+/// The limit that is asked for, or the greatest.
+fn limit_of(found: &ArgMatches<'_>) -> u64 {
+    number_in(found, LIMIT).unwrap_or(MAX_LIMIT)
+}
+
+/// The ring that is asked for, or that of one cell.
+fn ring_of(found: &ArgMatches<'_>) -> Result<Ring, Fault> {
+    match number_in(found, RING) {
+        Some(cells) => Ring::new(cells).ok_or(Fault::Usage),
+        None => Ok(Ring::one()),
+    }
+}
+
+/// The number of an option, if it is there.
+fn number_in(found: &ArgMatches<'_>, option: OptionRow) -> Option<u64> {
+    found.get_one::<u64>(option.name)
+}
+
+/// The file of an option, if it is there.
+fn file_in<'a>(
+    found: &ArgMatches<'a>,
+    option: OptionRow,
+    arguments: &[String],
+) -> Result<Option<FileArgument<'a>>, Fault> {
+    match found.get_str(option.name) {
+        Some(path) => Ok(Some(FileArgument {
+            path,
+            number: value_number_of(arguments, option).ok_or(Fault::Usage)?,
+        })),
+        None => Ok(None),
+    }
+}
+
+/// The file that is this operand of a command, which has so many operands before it.
+fn file_of<'a>(
+    found: &ArgMatches<'a>,
+    operand: OperandRow,
+    arguments: &[String],
+    operands_before: u64,
+) -> Result<FileArgument<'a>, Fault> {
+    Ok(FileArgument {
+        path: found.get_str(operand.name).ok_or(Fault::Usage)?,
+        number: number_of(arguments, operands_before).ok_or(Fault::Usage)?,
+    })
+}
+
 /// The number of the argument that has the value of this option, which may stand behind it or in it.
-fn value_number_of(arguments: &[String], option: &str) -> Option<u64> {
+fn value_number_of(arguments: &[String], option: OptionRow) -> Option<u64> {
     for (index, argument) in arguments.iter().enumerate().skip(2) {
-        match argument.as_str().strip_prefix(option) {
+        match after_name(argument.as_str(), option) {
             Some("") => return Some(index as u64),
             Some(rest) if rest.starts_with('=') => return Some(index as u64 - 1),
             _ => {}
@@ -182,60 +234,31 @@ fn value_number_of(arguments: &[String], option: &str) -> Option<u64> {
     None
 }
 
-/// The game that a command's arguments name.
-fn game_of<'a>(found: &ArgMatches<'a>, arguments: &[String]) -> Result<GameArguments<'a>, Fault> {
-    Ok(GameArguments {
-        graph: file_of(found, "GRAPH", arguments, 0)?,
-        chips: file_of(found, "CHIPS", arguments, 1)?,
-        limit: limit_of(found),
-    })
+/// What stands in an argument behind the name of this option, where it begins with that.
+fn after_name<'a>(argument: &'a str, option: OptionRow) -> Option<&'a str> {
+    argument.strip_prefix("--")?.strip_prefix(option.name)
 }
 
-/// The limit that is asked for, or the greatest.
-fn limit_of(found: &ArgMatches<'_>) -> u64 {
-    found.get_one::<u64>("limit").unwrap_or(MAX_LIMIT)
-}
-
-/// The ring that is asked for, or that of one cell.
-fn ring_of(found: &ArgMatches<'_>) -> Result<Ring, Fault> {
-    match found.get_one::<u64>("ring") {
-        Some(cells) => Ring::new(cells).ok_or(Fault::Usage),
-        None => Ok(Ring::one()),
-    }
-}
-
-/// The file of this name among a command's files, of which it has so many before it.
-fn file_of<'a>(
-    found: &ArgMatches<'a>,
-    name: &str,
-    arguments: &[String],
-    files_before: u64,
-) -> Result<FileArgument<'a>, Fault> {
-    Ok(FileArgument {
-        path: found.get_str(name).ok_or(Fault::Usage)?,
-        number: number_of(arguments, files_before).ok_or(Fault::Usage)?,
-    })
-}
-
-/// The number of the argument that names a file and has so many files before it, to be told where it cannot be opened.
+/// The number of the argument that is an operand and has so many operands before it, to be told where its file cannot
+/// be opened.
 ///
-/// An option is no file, nor is the argument behind it, where its value stands, unless the option has none; behind `--`
-/// each argument is a file.
-fn number_of(arguments: &[String], files_before: u64) -> Option<u64> {
-    let mut files_left = files_before;
+/// An option is no operand, nor is the argument behind it, where its value stands, unless it takes none; behind `--`
+/// each argument is an operand.
+fn number_of(arguments: &[String], operands_before: u64) -> Option<u64> {
+    let mut operands_left = operands_before;
     let mut is_value = false;
-    let mut only_files = false;
+    let mut only_operands = false;
     for (index, argument) in arguments.iter().enumerate().skip(2) {
         let argument = argument.as_str();
         if is_value {
             is_value = false;
-        } else if only_files || !argument.starts_with("--") {
-            if files_left == 0 {
+        } else if only_operands || !argument.starts_with("--") {
+            if operands_left == 0 {
                 return Some(index as u64 - 1);
             }
-            files_left -= 1;
+            operands_left -= 1;
         } else if argument == "--" {
-            only_files = true;
+            only_operands = true;
         } else {
             is_value = !is_flag(argument) && !argument.contains('=');
         }
@@ -243,226 +266,62 @@ fn number_of(arguments: &[String], files_before: u64) -> Option<u64> {
     None
 }
 
-/// Whether an option has no value.
-fn is_flag(option: &str) -> bool {
-    matches!(option, "--books" | "--fed" | "--progress")
+/// Whether an argument is an option that takes nothing.
+fn is_flag(argument: &str) -> bool {
+    FLAGS
+        .iter()
+        .any(|option| after_name(argument, *option) == Some(""))
 }
 
 /// The program as the command-line library knows it.
 fn program<'a>(alloc: Global) -> Result<Command<'a>, AllocError> {
-    Command::new(alloc, "chipfire")
+    let mut program = Command::new(alloc, "chipfire")
         .about("A chip-firing machine that is proved right")
         .version(texts::VERSION)
         .after_help(texts::PROGRAM)
         .disable_help_subcommand(true)
-        .subcommand_required(true)
-        .subcommand(check(alloc)?)?
-        .subcommand(plain(alloc)?)?
-        .subcommand(run(alloc)?)?
-        .subcommand(simulate(alloc)?)?
-        .subcommand(replay(alloc)?)?
-        .subcommand(resume(alloc)?)?
-        .subcommand(explain(alloc)?)
+        .subcommand_required(true);
+    for row in COMMANDS {
+        program = program.subcommand(command(alloc, row)?)?;
+    }
+    Ok(program)
 }
 
-/// The command that shows a graph.
-fn check<'a>(alloc: Global) -> Result<Command<'a>, AllocError> {
-    Command::new(alloc, "check")
-        .about("Shows a graph: each vertex with its out-degree and its distance to the sink")
-        .after_help(texts::CHECK)
-        .arg(file(alloc, "GRAPH", "The graph, as JSON"))
+/// A command as the library knows it.
+fn command<'a>(alloc: Global, row: CommandRow) -> Result<Command<'a>, AllocError> {
+    let mut command = Command::new(alloc, row.name)
+        .about(row.about)
+        .after_help(row.after_help);
+    for operand in row.operands {
+        command = command.arg(argument_of_operand(alloc, *operand))?;
+    }
+    for option in row.options {
+        command = command.arg(argument_of_option(alloc, *option))?;
+    }
+    Ok(command)
 }
 
-/// The command that plays a game on one thread.
-fn plain<'a>(alloc: Global) -> Result<Command<'a>, AllocError> {
-    game(
-        alloc,
-        "plain",
-        "Plays a game on one thread and writes its report",
-        texts::PLAIN,
-    )?
-    .arg(limit(alloc))?
-    .arg(progress(alloc))
+/// An operand as the library knows it.
+fn argument_of_operand<'a>(alloc: Global, row: OperandRow) -> Arg<'a> {
+    let argument = Arg::new(alloc, row.name).help(row.help);
+    match row.is {
+        Operand::File => argument.required(true),
+        Operand::Number => argument.value_parser(ValueParser::Unsigned(0, u64::MAX)),
+    }
 }
 
-/// The command that plays a game on threads.
-fn run<'a>(alloc: Global) -> Result<Command<'a>, AllocError> {
-    game(
-        alloc,
-        "run",
-        "Plays a game on threads and writes its report, which is that of plain",
-        texts::RUN,
-    )?
-    .arg(limit(alloc))?
-    .arg(ring(alloc))?
-    .arg(workers(alloc))?
-    .arg(turns(alloc))?
-    .arg(trace(alloc))?
-    .arg(trace_rows(alloc))?
-    .arg(progress(alloc))
-}
-
-/// The command that runs a schedule.
-fn simulate<'a>(alloc: Global) -> Result<Command<'a>, AllocError> {
-    game(
-        alloc,
-        "simulate",
-        "Runs a schedule on the detector, and writes each reply and the report where the root closes",
-        texts::SIMULATE,
-    )?
-    .arg(file(
-        alloc,
-        "SCHEDULE",
-        "What happens, one event after another, as rows",
-    ))?
-    .arg(limit(alloc))?
-    .arg(ring(alloc))?
-    .arg(rounds(alloc))?
-    .arg(books(alloc))?
-    .arg(fed(alloc))
-}
-
-/// The command that replays a recorded run.
-fn replay<'a>(alloc: Global) -> Result<Command<'a>, AllocError> {
-    game(
-        alloc,
-        "replay",
-        "Replays a recorded run and writes its firings, in an order in which they fit together",
-        texts::REPLAY,
-    )?
-    .arg(file(alloc, "TRACE", "What each vertex took and fired, as rows"))?
-    .arg(limit(alloc))
-}
-
-/// The command that goes on with a play.
-fn resume<'a>(alloc: Global) -> Result<Command<'a>, AllocError> {
-    Command::new(alloc, "resume")
-        .about(
-            "Goes on from where a report says that a play stopped, and writes the report of this sitting",
-        )
-        .after_help(texts::RESUME)
-        .arg(file(alloc, "GRAPH", "The graph, as JSON"))?
-        .arg(file(
-            alloc,
-            "REPORT",
-            "The report of the play so far, of version 1 or 2",
-        ))?
-        .arg(limit(alloc))
-}
-
-/// The command that explains faults.
-fn explain<'a>(alloc: Global) -> Result<Command<'a>, AllocError> {
-    Command::new(alloc, "explain")
-        .about("Explains the fault with a number, or lists all faults")
-        .after_help(texts::EXPLAIN)
-        .arg(
-            Arg::new(alloc, "NUMBER")
-                .help("The number of a fault, as in `fault 21 Shape`")
-                .value_parser(value_parser!(u64)),
-        )
-}
-
-/// A command that begins with the files of a game.
-fn game<'a>(
-    alloc: Global,
-    name: &'a str,
-    about: &'a str,
-    after_help: &'a str,
-) -> Result<Command<'a>, AllocError> {
-    Command::new(alloc, name)
-        .about(about)
-        .after_help(after_help)
-        .arg(file(alloc, "GRAPH", "The graph, as JSON"))?
-        .arg(file(alloc, "CHIPS", "The chips at the start, as rows"))
-}
-
-/// A file that a command needs.
-fn file<'a>(alloc: Global, name: &'a str, help: &'a str) -> Arg<'a> {
-    Arg::new(alloc, name).required(true).help(help)
-}
-
-/// How often each vertex may fire.
-fn limit<'a>(alloc: Global) -> Arg<'a> {
-    Arg::new(alloc, "limit")
-        .long("limit")
-        .value_name("F")
-        .help("How often each vertex may fire, 0 to 2^40 [default: 2^40]")
-        .value_parser(value_parser!(u64).range(0..=MAX_LIMIT as i64))
-}
-
-/// How many messages an edge holds; `Ring` itself knows which numbers of cells there are.
-fn ring<'a>(alloc: Global) -> Arg<'a> {
-    Arg::new(alloc, "ring")
-        .long("ring")
-        .value_name("R")
-        .help("How many cells the ring of an edge has, 1 to 64 [default: 1]")
-        .value_parser(value_parser!(u64))
-}
-
-/// How many rounds of turns follow a schedule at most.
-fn rounds<'a>(alloc: Global) -> Arg<'a> {
-    Arg::new(alloc, "rounds")
-        .long("rounds")
-        .value_name("N")
-        .help("How many rounds of turns follow, until the root closes, 0 to 2^40 [default: 0]")
-        .value_parser(value_parser!(u64).range(0..=MAX_ROUNDS as i64))
-}
-
-/// Whether the books of the detector follow each reply.
-fn books<'a>(alloc: Global) -> Arg<'a> {
-    Arg::new(alloc, "books")
-        .long("books")
-        .action(ArgAction::SetTrue)
-        .help("Writes the books of the detector behind each reply: deficits, parents, what is owed")
-}
-
-/// Whether the schedule may feed chips.
-fn fed<'a>(alloc: Global) -> Arg<'a> {
-    Arg::new(alloc, "fed")
-        .long("fed")
-        .action(ArgAction::SetTrue)
-        .help("Lets the schedule feed chips; the root closes only after its event end")
-}
-
-/// How many threads play.
-fn workers<'a>(alloc: Global) -> Arg<'a> {
-    Arg::new(alloc, "workers")
-        .long("workers")
-        .value_name("W")
-        .help("How many threads share the vertices, 1 to 64 [default: 2]")
-        .value_parser(value_parser!(u64).range(1..=MAX_WORKERS as i64))
-}
-
-/// How many turns each thread makes at most.
-fn turns<'a>(alloc: Global) -> Arg<'a> {
-    Arg::new(alloc, "turns")
-        .long("turns")
-        .value_name("N")
-        .help("How many turns each thread makes at most, 1 to 2^40 [default: 2^30]")
-        .value_parser(value_parser!(u64).range(1..=MAX_TURNS as i64))
-}
-
-/// The file into which the trace goes.
-fn trace<'a>(alloc: Global) -> Arg<'a> {
-    Arg::new(alloc, "trace")
-        .long("trace")
-        .value_name("FILE")
-        .help("Writes what each vertex took and fired into this file, for `replay`")
-}
-
-/// For how many rows of each vertex there is room in the trace.
-fn trace_rows<'a>(alloc: Global) -> Arg<'a> {
-    Arg::new(alloc, "trace-rows")
-        .long("trace-rows")
-        .value_name("K")
-        .help("How many rows of each vertex are recorded, 0 to 2^20 [default: 1024 with --trace]")
-        .value_parser(value_parser!(u64).range(0..=MAX_TRACE_ROWS as i64))
-}
-
-/// Whether it is told how the play goes on.
-fn progress<'a>(alloc: Global) -> Arg<'a> {
-    Arg::new(alloc, "progress")
-        .long("progress")
-        .action(ArgAction::SetTrue)
-        .help("Tells on standard error, once a second at most, how the play goes on")
+/// An option as the library knows it.
+fn argument_of_option<'a>(alloc: Global, row: OptionRow) -> Arg<'a> {
+    let argument = Arg::new(alloc, row.name).long(row.name).help(row.help);
+    match row.takes {
+        OptionValue::Nothing => argument.action(ArgAction::SetTrue),
+        OptionValue::File => argument.value_name("FILE"),
+        OptionValue::Number {
+            letter,
+            least,
+            most,
+        } => argument
+            .value_name(letter)
+            .value_parser(ValueParser::Unsigned(least, most)),
+    }
 }

@@ -27,8 +27,10 @@ pub const RUN: &str = "\
 The report is the same to the byte for every number of threads and every ring: they change
 how long it takes and nothing else. Small games are quickest on one thread, large ones on
 as many as the machine has cores; a ring of a few cells lets a vertex send on before its
-last message was taken. The trace is written first; where it was cut, a line on standard
-error says so, and such a trace need not replay.
+last message was taken. With --feed the chips of a second chips file come while the
+vertices fire; the report is that of a game which has all of them from the start. The trace
+is written first; where it was cut, a line on standard error says so, and such a trace need
+not replay.
 
 Exit status: 0 no vertex can fire any more; 2 the limit stopped some vertex, which the
 report names under \"over\"; 3 the turns did not suffice; 1 another fault, which

@@ -24,6 +24,7 @@ use std::thread::Threads;
 use std::{env, fs, io};
 
 mod arguments;
+mod commands;
 mod help_texts;
 mod progress;
 
@@ -98,6 +99,10 @@ fn play_on_threads<R: Files + Clock + Eprint + AllocGlobal + Threads + Wait + Sy
 ) -> Result<Ended, Fault> {
     let mut graph = open(rt, asked.game.graph)?;
     let mut chips = open(rt, asked.game.chips)?;
+    let mut feed = match asked.feed {
+        Some(file) => Some(open(rt, file)?),
+        None => None,
+    };
     let mut trace = match asked.trace {
         Some(file) => Some(create(rt, file)?),
         None => None,
@@ -114,6 +119,7 @@ fn play_on_threads<R: Files + Clock + Eprint + AllocGlobal + Threads + Wait + Sy
         rt.alloc(),
         &mut graph,
         &mut chips,
+        feed.as_mut(),
         asked.game.limit,
         plan,
         &TurnProgress::start(rt, asked.progress),

@@ -2,6 +2,9 @@
 
 What must come is known from examples/play.py, which shares nothing with the program: the report, to the byte, however
 the threads were scheduled. A trace that was not cut must replay, with as many firings of each vertex as the report has.
+
+A fed game has its chips in two files, those at the start and those that are fed; what must come is what play.py says of
+all of them together. Its trace replays on all chips where no vertex has some of both, since it then takes them at once.
 """
 import json
 import random
@@ -15,22 +18,28 @@ import chains
 SECONDS = 60
 
 
+def chips_text(chips):
+    return "vertex,chips\n" + "".join(f"{v},{c}\n" for v, c in enumerate(chips))
+
+
 class Crew:
     """One game on threads, with its files in a folder."""
 
-    def __init__(self, program, examples, number):
-        draw = random.Random(f"crew {number}")
+    # What the command has beside the options that are drawn, and the files for it.
+    feed, feed_files = [], {}
+
+    def __init__(self, program, examples, draw):
         graph, chips = chains.random_game(draw)
         self.program, self.examples = program, examples
         self.limit = [] if draw.random() < 0.7 else ["--limit", str(draw.randint(0, 8))]
         self.options = ["--workers", str(draw.choice([1, 2, 3, 4, 8, 64])), "--ring", str(draw.choice([1, 2, 3, 64]))]
         self.has_trace = draw.random() < 0.5
-        self.graph, self.chips = json.dumps(graph), "vertex,chips\n" + "".join(f"{v},{c}\n" for v, c in enumerate(chips))
+        self.graph, self.chips = json.dumps(graph), chips_text(chips)
 
     @classmethod
     def of_triangle(cls, program, examples):
         """The small triangle by three workers, with its trace."""
-        crew = cls(program, examples, 0)
+        crew = cls(program, examples, random.Random("crew 0"))
         crew.limit, crew.options, crew.has_trace = [], ["--workers", "3"], True
         with open(f"{examples}/triangle/graph.json", encoding="utf-8") as file:
             crew.graph = file.read()
@@ -44,13 +53,14 @@ class Crew:
     def faults(self):
         """What is not as it must be."""
         with tempfile.TemporaryDirectory(prefix="chipfire-crew-") as folder:
-            for name, text in [("graph.json", self.graph), ("chips.csv", self.chips)]:
+            for name, text in {"graph.json": self.graph, "chips.csv": self.chips, **self.feed_files}.items():
                 with open(f"{folder}/{name}", "w", encoding="utf-8") as file:
                     file.write(text)
             game = ["graph.json", "chips.csv", *self.limit]
             wanted = self.call([sys.executable, f"{self.examples}/play.py", *game], folder).stdout
-            trace = ["--trace", "trace.csv", "--trace-rows", "4096"]
-            words = [self.program, "run", *game, *self.options, *(trace if self.has_trace else [])]
+            trace = ["--trace", "trace.csv", "--trace-rows", "4096"] if self.has_trace else []
+            files = ["graph.json", "start.csv"] if self.feed else game[:2]
+            words = [self.program, "run", *files, *self.limit, *self.options, *self.feed, *trace]
             ran = self.call(words, folder)
             found = self.differences(ran, wanted)
             if self.has_trace and not found:
@@ -77,11 +87,28 @@ class Crew:
         return [] if is_well else [f"its trace replays to {dict(fired)}, status {ran.returncode}, {ran.stderr!r}"]
 
 
-def play_crews(program, examples, count):
-    """Plays so many games, and yields of each its place, its name and what was not as it must be."""
-    crews = {f"game {number} on threads": Crew(program, examples, number) for number in range(count)}
-    crews["the triangle on three threads"] = Crew.of_triangle(program, examples)
-    for name, crew in crews.items():
+class FedCrew(Crew):
+    """One game on threads some of whose chips are fed: `chips.csv` has all, and `start.csv` those at the start."""
+
+    feed = ["--feed", "feed.csv"]
+
+    def __init__(self, program, examples, draw):
+        super().__init__(program, examples, draw)
+        chips = [int(row.split(",")[1]) for row in self.chips.splitlines()[1:]]
+        by_vertex = draw.random() < 0.5
+        start = [draw.choice([0, count]) if by_vertex else draw.randint(0, count) for count in chips]
+        fed = [count - first for count, first in zip(chips, start)]
+        self.has_trace = self.has_trace and by_vertex
+        self.feed_files = {"start.csv": chips_text(start), "feed.csv": chips_text(fed)}
+
+
+def play_crews(program, examples, count, fed_count):
+    """Plays so many games and so many that are fed, and yields of each its place, its name and what was not as it must
+    be."""
+    crews = {f"game {number} on threads": (Crew, f"crew {number}") for number in range(count)}
+    crews |= {f"fed game {number} on threads": (FedCrew, f"fed crew {number}") for number in range(fed_count)}
+    games = [(name, kind(program, examples, random.Random(seed))) for name, (kind, seed) in crews.items()]
+    for name, crew in [*games, ("the triangle on three threads", Crew.of_triangle(program, examples))]:
         try:
             faults = crew.faults()
         except subprocess.TimeoutExpired:

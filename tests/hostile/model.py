@@ -58,7 +58,10 @@ class Model:
         self.play, self.simulate_script = play, simulate
 
     def answer(self, command, files, limit=MAX_CHIPS, ring=1, rounds=0, fed=False, **_):
-        """What the program must answer to a command and its files, each some bytes; threads change nothing."""
+        """What the program must answer to a command and its files, each some bytes; threads change nothing.
+
+        A third file of `run` is the one of its feeds.
+        """
         try:
             graph = read_graph(files[0])
             if command == "check":
@@ -66,6 +69,8 @@ class Model:
             if command == "resume":
                 return resumed(graph, files[1], limit)
             chips = read_chips(files[1], graph)
+            if command == "run" and len(files) > 2:
+                chips = with_feeds(chips, read_chips(files[2], graph))
             if command in ("plain", "run"):
                 return report_answer(graph, chips, limit)
             if command == "simulate":
@@ -289,6 +294,14 @@ def read_chips(text, graph):
     return [found.get(v, 0) for v in range(graph["vertices"])]
 
 
+def with_feeds(chips, feeds):
+    """The chips of a game that is fed: it is played as if it had all of them at the start."""
+    together = [first + more for first, more in zip(chips, feeds)]
+    if sum(together) > MAX_CHIPS:
+        raise Fault("10 Total")
+    return together
+
+
 def read_schedule(text, graph):
     events = []
     all_edges = len(graph["edges"]) + graph["vertices"]
@@ -404,12 +417,13 @@ def resumed(graph, text, limit):
 
 
 class Replay:
-    """Takes the rows of traces one by one, as far as they fit."""
+    """Takes the rows of traces one by one, as far as they fit; a vertex that is fed gets that after its first chips."""
 
-    def __init__(self, graph, chips, traces, limit):
+    def __init__(self, graph, chips, traces, limit, feeds=None):
         self.graph, self.traces, self.limit, self.degree = graph, traces, limit, degrees(graph)
         self.edges = len(graph["edges"])
-        self.messages = [[] for _ in graph["edges"]] + [[it] if it else [] for it in chips]
+        given = zip(chips, feeds or [0] * len(chips))
+        self.messages = [[] for _ in graph["edges"]] + [[it for it in of_vertex if it] for of_vertex in given]
         self.taken = [0] * len(self.messages)
         self.chips, self.fired, self.used = ([0] * len(chips) for _ in range(3))
 

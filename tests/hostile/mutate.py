@@ -100,7 +100,7 @@ def report_text(graph, chips, draw):
 
 
 def random_files(command, draw, replay):
-    """The files of a command, as bytes."""
+    """The files of a command, as bytes; `run` may have a third one, of feeds."""
     graph = random_graph(draw)
     chips = chips_of(graph, draw)
     texts = [json.dumps(graph, separators=draw.choice([(",", ":"), (", ", ": ")]))]
@@ -112,6 +112,8 @@ def random_files(command, draw, replay):
         texts.append(schedule_text(graph, draw))
     elif command == "replay":
         texts.append(trace_text(graph, chips, draw, replay))
+    elif command == "run" and draw.random() < 0.6:
+        texts.append(chips_text(chips_of(graph, draw), draw))
     return [text.encode() for text in texts]
 
 

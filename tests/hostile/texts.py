@@ -11,7 +11,7 @@ NAMES = {
     "check": ["graph.json"],
     "plain": ["graph.json", "chips.csv"],
     "simulate": ["graph.json", "chips.csv", "schedule.csv"],
-    "run": ["graph.json", "chips.csv"],
+    "run": ["graph.json", "chips.csv", "feed.csv"],
     "replay": ["graph.json", "chips.csv", "trace.csv"],
     "resume": ["graph.json", "report.json"],
 }
@@ -37,8 +37,19 @@ def words_of(name, value):
     return [f"--{name}", str(value)]
 
 
+def placed(command, paths, draw):
+    """The files of a command as words; that of feeds belongs to an option, which may stand anywhere among them."""
+    if command != "run" or len(paths) < 3:
+        return paths
+    at = draw.randrange(3)
+    return [*paths[:at], "--feed", paths[2], *paths[at:2]]
+
+
 def judged(reference, draw):
-    """A command at random, its files, mutated, its options, and the answer that must come."""
+    """A command at random, its files, mutated, its options, and the answer that must come.
+
+    A third file of `run` is the one of its feeds.
+    """
     while True:
         command = draw.choice(mutate.COMMANDS)
         files = mutate.mutated(mutate.random_files(command, draw, model.Replay), draw)
@@ -49,16 +60,18 @@ def judged(reference, draw):
 
 def run_of(program, reference, seed):
     """What is wrong with the answer to the files of this seed."""
-    command, files, options, wanted = judged(reference, random.Random(seed))
+    draw = random.Random(seed)
+    command, files, options, wanted = judged(reference, draw)
     with tempfile.TemporaryDirectory(prefix="chipfire-hostile-") as room:
         paths = [f"{room}/{name}" for name in NAMES[command]]
         for path, text in zip(paths, files):
             with open(path, "wb") as file:
                 file.write(text)
-        given = [word for name, value in options.items() for word in words_of(name, value)]
-        ran = launch.start([program, command, *paths, *given]).end()
+        words = placed(command, paths[: len(files)], draw)
+        words += [word for name, value in options.items() for word in words_of(name, value)]
+        ran = launch.start([program, command, *words]).end()
     found = wanted.differences(ran.out, ran.err, ran.status)
-    return [f"chipfire {command} {given} on {files}", *found] if found else []
+    return [f"chipfire {command} {words} on {files}", *found] if found else []
 
 
 def tests(program, reference, count):

@@ -11,6 +11,7 @@ NO_MEMORY = "90 NoMemory"
 FILE_ENDS = (".json", ".csv")
 TRACE = "{trace}"
 TRACE_HEADER = b"vertex,kind,edge,count\n"
+CHIPS_HEADER = b"vertex,chips\n"
 
 
 @dataclasses.dataclass
@@ -28,8 +29,9 @@ class Worked:
     threads: int = 0
 
     def files(self):
-        """The files of the run, each with its number among the arguments behind the command."""
-        return [(at, word) for at, word in enumerate(self.words) if word.endswith(FILE_ENDS)]
+        """The files of the run as they are opened, that of feeds last, each with its number among the arguments."""
+        found = [(at, word) for at, word in enumerate(self.words) if word.endswith(FILE_ENDS)]
+        return sorted(found, key=lambda file: self.words[file[0] - 1] == "--feed")
 
     def opens(self):
         """The numbers of the arguments that are opened, in their order: the file of traces is the last one."""
@@ -82,12 +84,13 @@ class Worked:
         lines = text[: text.rfind(b"\n") + 1]
         if not (lines.startswith(TRACE_HEADER) or TRACE_HEADER.startswith(text)) or (is_whole and text != lines):
             return [f"these are no traces: {text!r}"]
-        graph_text, chips_text = self.bytes_of_files()[:2]
+        graph_text, *chips_texts = self.bytes_of_files()
         graph = model.read_graph(graph_text)
+        chips, feeds = (model.read_chips(it, graph) for it in (chips_texts + [CHIPS_HEADER])[:2])
         try:
             traces = model.read_traces(lines or TRACE_HEADER, graph)
             limit = self.options().get("limit", model.MAX_CHIPS)
-            replay = model.Replay(graph, model.read_chips(chips_text, graph), traces, limit)
+            replay = model.Replay(graph, chips, traces, limit, feeds)
             replay.use_all(is_whole)
         except model.Fault as fault:
             return [f"traces of a run are {fault}: {text!r}"]
@@ -144,7 +147,21 @@ def worked_runs(examples):
             is_steady=False,
             threads=2,
         ),
+        run(
+            "fed on two threads",
+            f"run triangle/graph.json triangle/no-chips.csv --feed triangle/chips.csv --trace {TRACE}",
+            "triangle/report.json",
+            also=(NO_MEMORY, "65 Spawn"),
+            is_steady=False,
+            threads=2,
+        ),
         run("chips that are a graph", "plain triangle/graph.json chain/graph.json", fault="23 Header", status=1),
+        run(
+            "feeds that are a graph",
+            "run --feed triangle/graph.json triangle/graph.json triangle/chips.csv",
+            fault="23 Header",
+            status=1,
+        ),
         run("a report that is a graph", "resume triangle/graph.json chain/graph.json", fault="50 NotReport", status=1),
         run("no command", "spin", fault="91 Usage", status=1),
     ]

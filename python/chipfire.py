@@ -696,20 +696,24 @@ class Program:
         ring: int | None = None,
         workers: int | None = None,
         turns: int | None = None,
+        feed: Chips | FileName | None = None,
         trace: FileName | None = None,
         trace_rows: int | None = None,
         progress: bool = False,
     ) -> Report:
         """Plays as `plain` does, with an actor for each vertex, on so many threads, by a program that has this command.
 
-        `trace` names a file that is written: what each vertex took and fired, up to `trace_rows` rows each. Where
-        that was not enough for a vertex, the warning `TraceCut` says so. `progress` is as in `plain`.
+        `feed` are chips that the vertices get while they play; the report is that of a game which has all of them from
+        the start. `trace` names a file that is written: what each vertex took and fired, up to `trace_rows` rows each.
+        Where that was not enough for a vertex, the warning `TraceCut` says so. `progress` is as in `plain`.
         """
-        options = {"limit": limit, "ring": ring, "workers": workers, "turns": turns, "trace-rows": trace_rows}
-        options["progress"] = progress
+        options: dict[str, Any] = {"limit": limit, "ring": ring, "workers": workers, "turns": turns}
+        options |= {"trace-rows": trace_rows, "progress": progress}
         with _Room() as room:
-            to = None if trace is None else os.path.abspath(trace)
-            return room.report(self._ask("run", *room.game(graph, chips), **options, trace=to))
+            game = room.game(graph, chips)
+            options["feed"] = None if feed is None else room.chips("feed.csv", feed)
+            options["trace"] = None if trace is None else os.path.abspath(trace)
+            return room.report(self._ask("run", *game, **options))
 
     def simulate(
         self,
@@ -849,11 +853,13 @@ class _Room(contextlib.ExitStack):
 
     def game(self, graph: Graph | FileName, chips: Chips | FileName) -> list[str]:
         """The files of a graph and of chips on it."""
-        graph_file = self.graph(graph)
+        return [self.graph(graph), self.chips("chips.csv", chips)]
+
+    def chips(self, name: str, chips: Chips | FileName) -> str:
+        """The file of chips on the graph that the call is about."""
         if isinstance(chips, (str, os.PathLike)):
-            return [graph_file, os.fspath(chips)]
-        known = self.known or Graph.read(graph_file)
-        return [graph_file, self._file("chips.csv", _chips_text(known.chips(chips)))]
+            return os.fspath(chips)
+        return self._file(name, _chips_text(self.graph_known().chips(chips)))
 
     def rows(self, name: str, rows: Iterable[Sequence[Any]] | FileName, text_of: Any) -> str:
         return os.fspath(rows) if isinstance(rows, (str, os.PathLike)) else self._file(name, text_of(rows))

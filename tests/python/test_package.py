@@ -338,6 +338,25 @@ class Running(WithFolder):
             chipfire.run(TRIANGLE, {0: 4}, workers=2, turns=1)
         self.assertEqual((caught.exception.number, caught.exception.status), (61, 3))
 
+    def test_a_run_that_is_fed(self):
+        for start, feed in [({}, {0: 4}), ({0: 3}, [1, 0, 0]), ([4, 0, 0], {}), ({}, CHIPS_FILE)]:
+            with self.subTest(start=start, feed=feed):
+                for graph in (TRIANGLE, TRIANGLE_FILE):
+                    self.assertEqual(chipfire.run(graph, start, feed=feed), chipfire.Report((1, 0, 3), (2, 1, 0)))
+
+    def test_feeds_go_by_names(self):
+        graph = chipfire.Graph(2, 1, [(0, 1, 3)], ["a", "out"])
+        report = chipfire.run(graph, {"a": 2}, feed={"a": 5, "out": 1}, limit=1)
+        self.assertEqual((report.chips, report.over), ((4, 4), (0,)))
+        with self.assertRaises(KeyError):
+            chipfire.run(graph, {}, feed={"b": 1})
+
+    def test_feeds_that_are_refused(self):
+        for feed, fault in [({2: 1}, (10, ())), (self.file("none.csv"), (92, (3,))), (TRIANGLE_FILE, (23, ()))]:
+            with self.subTest(feed=feed), self.assertRaises(chipfire.Fault) as caught:
+                chipfire.run(TRIANGLE, {2: chipfire.MAX_CHIPS}, feed=feed)
+            self.assertEqual((caught.exception.number, caught.exception.place), fault)
+
 
 if __name__ == "__main__":
     unittest.main()

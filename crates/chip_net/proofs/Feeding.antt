@@ -15,7 +15,7 @@ use Rattle.chip_graph.specs.More.{brought_to, all_brought, HasMore}
 use Rattle.chip_graph.specs.Sums.{sum_below}
 use Rattle.chip_graph.proofs.SumLemmas.{cond_yes, cond_no, sum_below_ext, sum_below_add, sum_by_place}
 use Rattle.chip_link.specs.Link.{sent_counts}
-use Rattle.chip_part.specs.Setting.{Setting, IsSetting, game_of_setting}
+use Rattle.chip_part.specs.Setting.{Setting, IsSetting}
 use Rattle.chip_part.specs.Edges.{root, root_edge, start_of, graph_edges, all_edges}
 use Rattle.chip_part.specs.Part.{all_fed}
 use Rattle.chip_part.specs.declared.rule.Rule.{Rule}
@@ -27,7 +27,7 @@ use Rattle.chip_root.specs.Root.{AreGiven}
 use Rattle.chip_part.proofs.EdgeLemmas.{tail_root}
 use Rattle.chip_core.specs.Core.{Log, Part, part_in, opened, IsLegalLog}
 use Rattle.chip_core.specs.Histories.{done_by, part_by}
-use Rattle.chip_core.specs.Positions.{started, played_game, fed_in}
+use Rattle.chip_core.specs.Positions.{started, fed_in}
 use Rattle.chip_core.proofs.GivenLemmas.{started_recorded, given_sum, root_gave, given_within, played_has_more}
 use Rattle.chip_core.proofs.GivenLemmas.{unfed_records_none}
 use Rattle.chip_core.proofs.ReachingLemmas.{by_history}

@@ -10,7 +10,7 @@ use Rattle.chip_link.specs.Link.{claims_of, after_clear}
 use Rattle.chip_part.specs.Setting.{Setting, IsSetting}
 use Rattle.chip_part.specs.declared.act.Act as operation
 use Rattle.chip_part.specs.declared.act.Act.TheVariants as Do
-use Rattle.chip_part.specs.Edges.{root, stopper, root_edge, all_edges, graph_edges}
+use Rattle.chip_part.specs.Edges.{root, stopper, root_edge, graph_edges}
 use Rattle.chip_part.specs.Acting.{act_of}
 use Rattle.chip_root.specs.Root.{Root, RootStandsFor, SomeRoot, RootCanDo, RootMakes}
 use Rattle.chip_part.specs.Acting.{FitsRoot, is_of_root}
@@ -18,7 +18,7 @@ use Rattle.chip_part.specs.Steps.{link_after}
 use Rattle.chip_part.proofs.EdgeLemmas.{tail_root}
 use Rattle.chip_part.proofs.RuleLemmas.{met_rules}
 use Rattle.chip_core.specs.Core.{Step, Event, Take, Ack, Fire, Clear, Claim, Put, Halt, Settle, Seal, Read, Feed, End}
-use Rattle.chip_core.specs.Core.{Part, Out, Reply, opened, does, unmet, part_of, part_in, tail_of, sees, reply_of}
+use Rattle.chip_core.specs.Core.{Part, Out, Reply, opened, does, unmet, part_of, part_in, tail_of, reply_of}
 use Rattle.chip_core.specs.Histories.{done_by, part_by}
 use Rattle.chip_core.specs.Words.{IsWord, touched, left_by, noted}
 use Rattle.chip_core.proofs.ReachingLemmas.{by_history}

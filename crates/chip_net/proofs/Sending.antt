@@ -4,7 +4,6 @@ use Rattle.std.proofs.Common.{refl, sym, ap, ◌∙◌, subst, arith, inr, appen
 use mathlib.Core.Logic.{dite}
 use native.Mathlib.Decide.{ℕ_discrete}
 use Rattle.chip_graph.specs.Limits.{max_total}
-use Rattle.chip_graph.specs.Sums.{sum_below}
 use Rattle.chip_graph.proofs.SumLemmas.{cond_yes, cond_no, by_test, sum_below_ext}
 use Rattle.chip_link.specs.Link.{Tail, claims_of, sent_counts, after_clear, after_claim, after_put}
 use Rattle.chip_part.specs.Setting.{Setting}
@@ -14,10 +13,9 @@ use Rattle.chip_part.specs.Steps.{link_after}
 use Rattle.chip_part.specs.declared.reply.Reply.TheVariants.{Done, Full}
 use Rattle.chip_part.proofs.EdgeLemmas.{sendable_fed}
 use Rattle.chip_part.proofs.RuleLemmas.{met_rules}
-use Rattle.chip_core.specs.Core.{Step, Event, Clear, Put, Feed, Part, Out, Reply, opened, does, unmet}
-use Rattle.chip_core.specs.Histories.{part_by}
-use Rattle.chip_net.specs.Roots.{RootKnown, root_part, root_after, has_ended, all_given, sent_to, IsDueForRoot}
-use Rattle.chip_net.specs.Roots.{MakesEvent, Replies, HoldsNothing, feed_steps, Feeds, LooksInVain}
+use Rattle.chip_core.specs.Core.{Step, Clear, Put, Feed, Part, Out, Reply, opened, does, unmet}
+use Rattle.chip_net.specs.Roots.{RootKnown, root_part, root_after, has_ended, all_given, IsDueForRoot}
+use Rattle.chip_net.specs.Roots.{MakesEvent, HoldsNothing, Feeds, LooksInVain}
 use Rattle.chip_net.proofs.Viewing.{part_append, unfed_ended}
 use Rattle.chip_net.proofs.Rooting.{root_step, holds_by, held_clear}
 

@@ -8,7 +8,8 @@ ghost use Rattle.chip_part.specs.Edges.{root, stopper, root_edge};
 ghost use Rattle.chip_root.specs.Root.{RootStandsFor};
 ghost use Rattle.chip_part.specs.Part.{opened};
 ghost use Rattle.chip_core.specs.Core.{End, Settle, part_of, unmet};
-ghost use Rattle.chip_core.specs.Words.{noted};
+ghost use Rattle.chip_core.specs.Words.{noted, of_acks};
+ghost use Rattle.chip_net.specs.Layout.{index_of};
 ghost use Rattle.chip_net.specs.Rule.{Grows};
 ghost use Rattle.chip_net.specs.Views.{find};
 ghost use Rattle.chip_net.specs.Roots.{new_root, root_deficit, has_ended, fed_by, IsOver};
@@ -67,19 +68,19 @@ impl RootHand {
         })
     }
 
-    /// Settles the root edge of a vertex.
-    pub(crate) fn settle(&mut self, net: &Net, vertex: u64)
+    /// Settles the root edge of a vertex, of which that is the word of acknowledgements.
+    fn settle(&mut self, net: &Net, vertex: u64, word: usize)
         requires net { self.old.net ≡ net.now }
         requires vertex { vertex < self.old.net.setting.graph.vertices }
+        requires word { word ≡ index_of self.old.net.setting (of_acks (root_edge self.old.net.setting vertex)) }
         ensures { (seen : ℕ) × MakesEvent self.old self.new (Settle (root_edge self.old.net.setting vertex)) seen }
     {
         let seat = &mut self.seat;
         let setup = net.setup();
         let edge = setup.root_edge(vertex);
-        let word = setup.acks_word(edge);
         let event = Event::Settle(edge);
         let seen = calls::load::<Brand>(net.words(), seat, word, event);
-        self.state.apply(&event, seen);
+        self.state.settle(vertex as usize, seen);
     }
 
     /// Settles the root edges from the first or the second one on.
@@ -90,8 +91,11 @@ impl RootHand {
             (settles_from self.old.net.setting first (self.old.net.setting.graph.vertices - first)) }
         ensures holds { HoldsNothing self.old → HoldsNothing self.new }
     {
-        for vertex in first..net.setup().vertices() {
-            self.settle(net, vertex);
+        let setup = net.setup();
+        // (once for all: what lies in memory is read again after each load of a shared word)
+        let words = setup.root_acks();
+        for vertex in first..setup.vertices() {
+            self.settle(net, vertex, words + vertex as usize);
         }
     }
 

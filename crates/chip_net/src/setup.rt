@@ -1,4 +1,4 @@
-ghost use Rattle.std.specs.Prelude.{◌≡◌, ◌+◌, ◌^◌, ◌<◌, ◌≤◌, IfOk};
+ghost use Rattle.std.specs.Prelude.{◌≡◌, ℕ, ◌+◌, ◌^◌, ◌<◌, ◌≤◌, IfOk};
 
 use chip_graph::Game;
 use chip_link::Ring;
@@ -125,6 +125,14 @@ impl Setup {
         ensures { result ≡ index_of self.now (of_acks edge) }
     {
         (self.all_edges() + edge) as usize
+    }
+
+    /// The number of the word of acknowledgements of the first vertex's root edge; those of the others follow it.
+    pub(crate) fn root_acks(&self) -> usize
+        ensures words { (v : ℕ) → result + v ≡ index_of self.now (of_acks (root_edge self.now v)) }
+        ensures few { result < 2 ^ 20 }
+    {
+        (self.all_edges() + self.graph_edges()) as usize
     }
 
     /// The number of a cell of an edge.

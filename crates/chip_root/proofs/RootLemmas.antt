@@ -14,10 +14,10 @@ use Rattle.chip_part.specs.Setting.{Setting, HasGame}
 use Rattle.chip_part.specs.Edges.{graph_edges, all_edges, root_edge, start_of, tail_of, root}
 use Rattle.chip_part.specs.Part.{Part, opened, first_put, outstanding, deficit}
 use Rattle.chip_part.specs.Rules.{Settle, unmet}
-use Rattle.chip_part.specs.Steps.{Step, does}
+use Rattle.chip_part.specs.Steps.{Step, does, reply_of}
 use Rattle.chip_part.specs.declared.reply.Reply.TheVariants.{Done}
 use Rattle.chip_root.specs.Root.{Root, Feeder, MayFeed, RootStandsFor, SomeRoot, RootCanDo, RootMakes}
-use Rattle.chip_root.specs.Root.{with_chips}
+use Rattle.chip_root.specs.Root.{RootSettles, with_chips}
 use Rattle.chip_part.proofs.EdgeLemmas.{tail_root, tail_graph}
 use Rattle.chip_part.proofs.RuleLemmas.{rules_met}
 
@@ -201,3 +201,30 @@ settle_made r edge seen i at after more more_at edges settled counted feeder = �
           ∙ ap (λ (n : ℕ). set r.settled n seen) at) (counted ∙ ap (λ (n : ℕ). r.outstanding - n) is) feeder,
       ap Done (is ∙ more_is g s r stands edge seen past can.1 can.2.0 can.2.1),
     )
+
+-- the same of the root edge of a vertex
+pub can_settle_at : (r : Root) (v seen : ℕ) → SomeRoot r (λ g s. RootCanDo g s (Settle (root_edge g v)) seen)
+    → (v < length r.settled) × (slice_index r.settled v ≤ seen) × (seen - slice_index r.settled v ≤ r.outstanding)
+can_settle_at r v seen (g, s, stands, can) =
+    can_settle r (root_edge g v) seen v (let edges = stands.edges in omega arith) (g, s, stands, can)
+
+pub settle_made_at : (r : Root) (v seen : ℕ) (after : Root) (more : ℕ) → more ≡ seen - slice_index r.settled v
+    → after.graph_edges ≡ r.graph_edges → after.settled ≡ set r.settled v seen
+    → after.outstanding ≡ r.outstanding - more → after.feeder ≡ r.feeder → RootSettles r after v seen more
+settle_made_at r v seen after more more_at edges settled counted feeder = λ g s stands can.
+    settle_made r (root_edge g v) seen v (let is = stands.edges in omega arith) after more more_at edges settled counted
+    feeder g s stands can
+
+-- such a settle, by the number of the edge
+pub asks_at : (r : Root) (v e seen : ℕ) → e ≡ r.graph_edges + v → SomeRoot r (λ g s. RootCanDo g s (Settle e) seen)
+    → SomeRoot r (λ g s. RootCanDo g s (Settle (root_edge g v)) seen)
+asks_at r v e seen at (g, s, stands, can) =
+    let is : e ≡ root_edge g v = at ∙ ap (λ (n : ℕ). n + v) stands.edges in
+    (g, s, stands, subst (λ (f : ℕ). RootCanDo g s (Settle f) seen) is can)
+
+pub makes_at : (old new : Root) (v e seen more : ℕ) → e ≡ old.graph_edges + v → RootSettles old new v seen more
+    → RootMakes old new (Settle e) seen (Done more)
+makes_at old new v e seen more at settles = λ g s stands.
+    let is : root_edge g v ≡ e = sym (at ∙ ap (λ (n : ℕ). n + v) stands.edges) in
+    subst (λ (f : ℕ). RootCanDo g s (Settle f) seen → RootStandsFor g (does g (record { event = Settle f; seen = seen }) s) new
+    × (Done more ≡ reply_of g (Settle f) seen s)) is (settles g s stands)

@@ -12,7 +12,7 @@ use Rattle.chip_part.specs.Setting.{Setting, HasGame}
 use Rattle.chip_part.specs.Edges.{graph_edges, root_edge, root}
 use Rattle.chip_part.specs.Part.{Part, deficit, all_fed}
 use Rattle.chip_part.specs.declared.rule.Rule.{Rule}
-use Rattle.chip_part.specs.Rules.{Event, need, unmet}
+use Rattle.chip_part.specs.Rules.{Event, Settle, need, unmet}
 use Rattle.chip_part.specs.declared.rule.Rule.TheVariants.{Ended, Zero, TooMuch, Unput, NotCleared, NotClaimed}
 use Rattle.chip_part.specs.declared.reply.Reply.TheVariants.{Done, Sent, Full}
 use Rattle.chip_part.specs.declared.reply.Reply.{Reply}
@@ -158,6 +158,11 @@ abbrev pub RootMakes : Root → Root → Event → ℕ → Reply → Type 0
 RootMakes old new x seen reply =
     WhateverRoot old (λ g s. RootCanDo g s x seen → RootStandsFor g (does g (record { event = x; seen = seen }) s) new
     × (reply ≡ reply_of g x seen s))
+
+-- the root made a settle of the root edge of a vertex, of which so many acknowledgements were new
+abbrev pub RootSettles : Root → Root → ℕ → ℕ → ℕ → Type 0
+RootSettles old new v seen more = WhateverRoot old (λ g s. let x = Settle (root_edge g v) in RootCanDo g s x seen
+    → RootStandsFor g (does g (record { event = x; seen = seen }) s) new × (Done more ≡ reply_of g x seen s))
 
 -- how many of the first vertices start with chips
 abbrev pub with_chips : List ℕ → ℕ → ℕ

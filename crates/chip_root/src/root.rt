@@ -40,11 +40,11 @@ impl RootState {
     ghost use Rattle.chip_graph.specs.ChipGame.{IsGame};
     ghost use Rattle.chip_link.specs.Link.{tail_state};
     ghost use Rattle.chip_part.specs.Setting.{setting_of, setting_with};
-    ghost use Rattle.chip_part.specs.Edges.{graph_edges, all_edges, root};
+    ghost use Rattle.chip_part.specs.Edges.{graph_edges, all_edges, root, root_edge};
     ghost use Rattle.chip_part.specs.Part.{opened, deficit};
     ghost use Rattle.chip_part.specs.Rules.{unmet};
     ghost use Rattle.chip_part.specs.Acting.{act_of, verdict};
-    ghost use Rattle.chip_root.specs.Root.{RootStandsFor, WhateverRoot, SomeRoot, RootCanDo, RootMakes};
+    ghost use Rattle.chip_root.specs.Root.{RootStandsFor, WhateverRoot, SomeRoot, RootCanDo, RootMakes, RootSettles};
     ghost use Rattle.chip_part.specs.Acting.{is_of_root};
     ghost use Rattle.chip_root.specs.Root.{with_chips, root_vertex, ended_root, AreGiven};
     ghost use Rattle.chip_link.specs.declared.event.Event.TheVariants.{Clear, Put, Settle, Read, Feed, End};
@@ -270,7 +270,7 @@ impl RootState {
         ensures { RootMakes self.old self.new event.now seen result }
     {
         match *event {
-            Event::Settle(edge) => self.settle(edge, seen),
+            Event::Settle(edge) => self.settle_edge(edge, seen),
             Event::Clear(edge) => self.look(edge, seen),
             Event::Put(edge) => self.put(edge, seen),
             Event::Feed { edge, count } => self.feed(edge, count, seen),
@@ -325,7 +325,7 @@ impl RootState {
         ensures { RootMakes self.old self.new End seen result }
     {
         self.note_end();
-        self.settle(self.graph_edges, seen)
+        self.settle_edge(self.graph_edges, seen)
     }
 
     // Notes that nothing more is fed.
@@ -337,8 +337,17 @@ impl RootState {
         }
     }
 
-    /// Counts the acknowledgements of a root edge up to the word that was seen.
-    fn settle(&mut self, edge: u64, seen: u64) -> Reply
+    /// Counts the acknowledgements of a vertex's root edge up to the word that was seen, and gives how many of them are
+    /// new. It is what `apply` does with a settle of that edge.
+    pub fn settle(&mut self, vertex: usize, seen: u64) -> u64
+        requires { SomeRoot self.old (λ g s. RootCanDo g s (Settle (root_edge g vertex)) seen) }
+        ensures { RootSettles self.old self.new vertex seen result }
+    {
+        self.count(vertex, seen)
+    }
+
+    /// The same of a root edge by its own number.
+    fn settle_edge(&mut self, edge: u64, seen: u64) -> Reply
         requires { SomeRoot self.old (λ g s. RootCanDo g s (Settle edge) seen) }
         ensures { RootMakes self.old self.new (Settle edge) seen result }
     {
@@ -358,8 +367,11 @@ impl RootState {
         ensures feeder { self.new.feeder ≡ self.old.feeder }
     {
         let more = settled - self.settled[vertex];
-        self.settled[vertex] = settled;
-        self.outstanding -= more;
+        // (mostly nothing is new, and then nothing is written: a poll looks at each root edge)
+        if more > 0 {
+            self.settled[vertex] = settled;
+            self.outstanding -= more;
+        }
         more
     }
 }

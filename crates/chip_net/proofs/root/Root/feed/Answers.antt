@@ -1,11 +1,11 @@
-use Rattle.std.proofs.Common.{◌≡◌, ◌<◌, ℕ, sym, ap, ◌∙◌, subst}
+use Rattle.std.proofs.Common.{◌≡◌, ◌<◌, sym, ap, ◌∙◌, subst}
 use Rattle.std.specs.Vec.{vec_capacity}
 use Rattle.chip_part.specs.Setting.{Setting}
 use Rattle.chip_part.specs.Edges.{root_edge}
 use Rattle.chip_net.specs.Tokens.{NetId}
 use Rattle.chip_net.specs.Roots.{RootKnown, Feeds}
 use Rattle.chip_net.specs.Finish.{IsReady}
-use Rattle.chip_net.proofs.Sending.{look_due, look_done, look_full, due2, due3, free1, free3, feeds, in_vain}
+use Rattle.chip_net.proofs.Sending.{look_due, look_done, due2, due3, free1, free3, feeds}
 use Rattle.chip_net.proofs.root.Root.feed.Goals as goal
 use Rattle.chip_net.proofs.root.Root.feed.Goals.{In_ok-may_feed}
 

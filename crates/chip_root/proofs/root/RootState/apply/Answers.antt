@@ -4,13 +4,13 @@ use Rattle.chip_part.specs.Rules.{Event}
 use Rattle.chip_root.specs.Root.{SomeRoot, RootCanDo, RootMakes}
 use Rattle.chip_root.proofs.root.RootState.apply.Goals as goal
 
-pub settle-requires : goal.settle-requires
-settle-requires c = subst (λ (x : Event). SomeRoot c.args.self.now (λ g s. RootCanDo g s x c.args.seen)) c.in-Settle.is
+pub settle_edge-requires : goal.settle_edge-requires
+settle_edge-requires c = subst (λ (x : Event). SomeRoot c.args.self.now (λ g s. RootCanDo g s x c.args.seen)) c.in-Settle.is
     c.requires
 
 pub returns-in-Settle : goal.returns-in-Settle
-returns-in-Settle c = subst (λ (x : Event). RootMakes c.args.self.now c.settle.new.self x c.args.seen c.settle.result)
-    (sym c.in-Settle.is) c.settle.ensures
+returns-in-Settle c = subst (λ (x : Event). RootMakes c.args.self.now c.settle_edge.new.self x c.args.seen c.settle_edge.result)
+    (sym c.in-Settle.is) c.settle_edge.ensures
 
 pub returns-in-Read : goal.returns-in-Read
 returns-in-Read c = subst

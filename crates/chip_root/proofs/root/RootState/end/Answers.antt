@@ -4,20 +4,20 @@ use Rattle.chip_root.specs.Root.{Root, SomeRoot, RootCanDo, RootMakes, ended_roo
 use Rattle.chip_root.proofs.FeedLemmas.{end_settles, end_made}
 use Rattle.chip_root.proofs.root.RootState.end.Goals as goal
 
-pub settle-requires : goal.settle-requires
-settle-requires c =
+pub settle_edge-requires : goal.settle_edge-requires
+settle_edge-requires c =
     let noted = c.note_end.ensures in
-    let first = ap (λ (r : Root). r.graph_edges) (c.settle.view_is ∙ noted) in
-    subst (λ (r : Root). SomeRoot r (λ g s. RootCanDo g s (Settle c.settle.inside.graph_edges) c.args.seen)) (sym noted)
+    let first = ap (λ (r : Root). r.graph_edges) (c.settle_edge.view_is ∙ noted) in
+    subst (λ (r : Root). SomeRoot r (λ g s. RootCanDo g s (Settle c.settle_edge.inside.graph_edges) c.args.seen)) (sym noted)
     (subst (λ (e : ℕ). SomeRoot (ended_root c.args.self.now) (λ g s. RootCanDo g s (Settle e) c.args.seen)) (sym first)
     (end_settles c.args.self.now c.args.seen c.requires))
 
 pub returns : goal.returns
 returns c =
     let noted = c.note_end.ensures in
-    let first = ap (λ (r : Root). r.graph_edges) (c.settle.view_is ∙ noted) in
-    end_made c.args.self.now c.settle-2.new.self c.args.seen c.settle-2.result
-    (subst (λ (e : ℕ). RootMakes (ended_root c.args.self.now) c.settle-2.new.self (Settle e) c.args.seen
-    c.settle-2.result) first
-    (subst (λ (r : Root). RootMakes r c.settle-2.new.self (Settle c.settle.inside.graph_edges) c.args.seen
-    c.settle-2.result) noted c.settle-2.ensures))
+    let first = ap (λ (r : Root). r.graph_edges) (c.settle_edge.view_is ∙ noted) in
+    end_made c.args.self.now c.settle_edge-2.new.self c.args.seen c.settle_edge-2.result
+    (subst (λ (e : ℕ). RootMakes (ended_root c.args.self.now) c.settle_edge-2.new.self (Settle e) c.args.seen
+    c.settle_edge-2.result) first
+    (subst (λ (r : Root). RootMakes r c.settle_edge-2.new.self (Settle c.settle_edge.inside.graph_edges) c.args.seen
+    c.settle_edge-2.result) noted c.settle_edge-2.ensures))

@@ -1,11 +1,17 @@
 -- From the parts of the engine to its whole.
-use Rattle.std.proofs.Common.{◌≡◌, ◌∙◌, ℕ, Bool, false, ◌&&◌, ap, subst, List, Option, Some, None, Result, Ok, Err, inl, inr}
+use Rattle.std.proofs.Common.{◌≡◌, ℕ, Bool, refl, sym, subst, List, map, Option, Some, None, Result, Ok, Err, inl, inr}
 use Rattle.std.specs.Result.{IsErrAnd, IfErr}
 use Rattle.std.specs.Io.KnownBytes.{Appends}
 use Rattle.chip_graph.specs.ChipGame.{ChipGame}
 use Rattle.chip_report.specs.Written.{WritesAll}
 use Rattle.chip_report.specs.declared.write.WriteFault.{WriteFault}
 use Rattle.chip_crew.specs.declared.plan.Plan.{Plan}
+use Rattle.chip_crew.specs.declared.play.Finished.{Finished}
+use Rattle.chip_net.specs.Tokens.{ActorKnown}
+use Rattle.chip_trace.specs.TraceText.{trace_text, WritesText}
+use Rattle.chip_trace.specs.declared.fault.TraceFault.{TraceFault}
+use Rattle.chip_trace.specs.declared.fault.TraceFault.TheVariants as trace
+use Rattle.chip_engine.specs.Faults.{fault_of_trace}
 use Rattle.chip_engine.specs.Inputs.{MeansGame}
 use Rattle.chip_engine.specs.declared.ended.Ended.{Ended}
 use Rattle.chip_engine.specs.declared.fault.Fault.{Fault}
@@ -15,7 +21,9 @@ use Rattle.chip_crew.specs.Finished.{IsFaultOf, IsFedFaultOf}
 use Rattle.chip_crew.specs.declared.fault.CrewFault.{CrewFault}
 use Rattle.chip_crew.specs.declared.fault.CrewFault.TheVariants as crew
 use Rattle.chip_run.specs.Feeding.{ForText, MeansFed, MeansFedGame, RefusesFedGame}
-use Rattle.chip_run.specs.RunCommand.{RunAnswers, IsNotReported, ReportsFed, never_shut}
+use Rattle.chip_run.specs.Recording.{rows_kept, RecordsIfAsked, FailsToRecord}
+use Rattle.chip_run.specs.RunCommand.{RunAnswers, Outputs, KeepsBoth, IsNotPlayed, Finishes, Plays, PlaysFed}
+use Rattle.chip_run.specs.RunCommand.{never_shut}
 
 -- what is known of a text is all that follows of it
 pub for_text : (left : Option (Option (List ℕ))) (P Q : Option (List ℕ) → Type 0)
@@ -29,44 +37,88 @@ pub for_each_text : (left : Option (Option (List ℕ))) (Q : Option (List ℕ) �
 for_each_text None Q each = each None
 for_each_text (Some left) Q each = λ text is. each (Some text)
 
+-- nothing went out
+keeps_both : (o : Outputs) → KeepsBoth o o
+keeps_both o = record { report = Keeps-same o.report; trace = refl }
+
 -- inputs that are refused, and nothing is written
-pub refused_run : (graph_text chips_text : List ℕ) (feed_text : Option (List ℕ)) (limit : ℕ) (plan : Plan) (asked : Bool)
-    (known : Option (List ℕ)) (result : Result Ended Fault) (P : Fault → Type 0) → IsErrAnd result P
+pub refused_run : (graph_text chips_text : List ℕ) (feed_text : Option (List ℕ)) (limit : ℕ) (plan : Plan)
+    (known : Outputs) (result : Result Ended Fault) (P : Fault → Type 0) → IsErrAnd result P
     → ((f : Fault) → P f → RefusesFedGame graph_text chips_text feed_text limit f)
-    → RunAnswers graph_text chips_text feed_text limit plan asked known known result
-refused_run graph_text chips_text feed_text limit plan asked known (Ok ended) P is why = absurd is
-refused_run graph_text chips_text feed_text limit plan asked known (Err f) P is why = inl (why f is, Keeps-same known)
+    → RunAnswers graph_text chips_text feed_text limit plan known known result
+refused_run graph_text chips_text feed_text limit plan known (Ok ended) P is why = absurd is
+refused_run graph_text chips_text feed_text limit plan known (Err f) P is why = inl (why f is, keeps_both known)
 
--- a game without a report, and nothing is written
-pub unreported_run : (graph_text chips_text : List ℕ) (feed_text : Option (List ℕ)) (limit : ℕ) (plan : Plan)
-    (asked : Bool) (known : Option (List ℕ)) (result : Result Ended Fault) (P : Fault → Type 0) → IsErrAnd result P
-    → (g : ChipGame) (feeds : Option (List (ℕ × ℕ))) → MeansFedGame graph_text chips_text feed_text limit g feeds
-    → ((f : Fault) → P f → IsNotReported g feeds plan asked f)
-    → RunAnswers graph_text chips_text feed_text limit plan asked known known result
-unreported_run graph_text chips_text feed_text limit plan asked known (Ok ended) P is g feeds means why = absurd is
-unreported_run graph_text chips_text feed_text limit plan asked known (Err f) P is g feeds means why =
-    inr (inl (g, feeds, means, why f is, Keeps-same known))
+-- ---- where the inputs mean a game
 
--- an output that failed
-pub failed_run : (graph_text chips_text : List ℕ) (feed_text : Option (List ℕ)) (limit : ℕ) (plan : Plan) (asked : Bool)
-    (old new : Option (List ℕ)) (result : Result Ended Fault) (P : Fault → Type 0) → IsErrAnd result P
-    → (g : ChipGame) (feeds : Option (List (ℕ × ℕ))) → MeansFedGame graph_text chips_text feed_text limit g feeds
-    → (text : List ℕ) (status : ℕ) → ReportsFed g feeds text status → (w : WriteFault)
-    → ((f : Fault) → P f → f ≡ Write w) → WritesAll old new text (Err w)
-    → RunAnswers graph_text chips_text feed_text limit plan asked old new result
-failed_run graph_text chips_text feed_text limit plan asked old new (Ok ended) P is g feeds means text status reports w
-    why wrote = absurd is
-failed_run graph_text chips_text feed_text limit plan asked old new (Err f) P is g feeds means text status reports w
-    why wrote = inr (inr (g, feeds, means, text, status, reports, w, why f is, wrote))
+module _ (graph_text chips_text : List ℕ) (feed_text : Option (List ℕ)) (limit : ℕ) (plan : Plan) (g : ChipGame)
+    (feeds : Option (List (ℕ × ℕ))) (means : MeansFedGame graph_text chips_text feed_text limit g feeds) where
+  -- a game that was not played, and nothing is written
+  pub unplayed_run : (known : Outputs) (result : Result Ended Fault) (P : Fault → Type 0) → IsErrAnd result P
+      → ((f : Fault) → P f → IsNotPlayed g feeds plan f)
+      → RunAnswers graph_text chips_text feed_text limit plan known known result
+  unplayed_run known (Ok ended) P is why = absurd is
+  unplayed_run known (Err f) P is why = inr (g, feeds, means, inl (why f is, keeps_both known))
 
--- a report that was written whole
-pub reported_run : (graph_text chips_text : List ℕ) (feed_text : Option (List ℕ)) (limit : ℕ) (plan : Plan)
-    (asked : Bool) (old new : Option (List ℕ)) (ended : Ended) (g : ChipGame) (feeds : Option (List (ℕ × ℕ)))
-    → MeansFedGame graph_text chips_text feed_text limit g feeds → (text : List ℕ)
-    → ReportsFed g feeds text ended.status → Appends old new text → (asked ≡ false → ended.cut ≡ false)
-    → RunAnswers graph_text chips_text feed_text limit plan asked old new (Ok ended)
-reported_run graph_text chips_text feed_text limit plan asked old new ended g feeds means text reports appends uncut =
-    (g, feeds, means, text, reports, appends, uncut)
+  module _ (report new_report : Option (List ℕ)) (trace new_trace : Option (Option (List ℕ)))
+      (actors : List ActorKnown) (text : List ℕ) where
+    abbrev before : Outputs
+    before = record { report = report; trace = trace }
+
+    abbrev after : Outputs
+    after = record { report = new_report; trace = new_trace }
+
+    -- a trace that failed, and nothing is written of the report
+    pub untraced_run : (status : ℕ) → Plays g feeds plan actors text status → (result : Result Ended Fault)
+        (P : Fault → Type 0) → IsErrAnd result P → ((f : Fault) → P f → FailsToRecord actors trace new_trace f)
+        → RunAnswers graph_text chips_text feed_text limit plan before (record { report = report; trace = new_trace }) result
+    untraced_run status plays (Ok ended) P is why = absurd is
+    untraced_run status plays (Err f) P is why =
+        inr (g, feeds, means, inr (inl (actors, text, status, plays, why f is, Keeps-same report)))
+
+    -- an output that failed
+    pub failed_run : (status : ℕ) → Plays g feeds plan actors text status → (cut : Bool)
+        → RecordsIfAsked actors trace new_trace cut → (result : Result Ended Fault) (P : Fault → Type 0)
+        → IsErrAnd result P → (w : WriteFault) → ((f : Fault) → P f → f ≡ Write w)
+        → WritesAll report new_report text (Err w)
+        → RunAnswers graph_text chips_text feed_text limit plan before after result
+    failed_run status plays cut records (Ok ended) P is w why wrote = absurd is
+    failed_run status plays cut records (Err f) P is w why wrote =
+        inr (g, feeds, means, inr (inr (actors, text, status, plays, cut, records, w, why f is, wrote)))
+
+    -- a report that was written whole
+    pub reported_run : (ended : Ended) → Plays g feeds plan actors text ended.status
+        → RecordsIfAsked actors trace new_trace ended.cut → Appends report new_report text
+        → RunAnswers graph_text chips_text feed_text limit plan before after (Ok ended)
+    reported_run ended plays records appends = inr (g, feeds, means, (actors, text, plays, records, appends))
+
+-- the same actors and the same text by other names
+pub plays_as : (g : ChipGame) (feeds : Option (List (ℕ × ℕ))) (plan : Plan) (actors seen : List ActorKnown)
+    (text told : List ℕ) (status : ℕ) → Plays g feeds plan actors text status → seen ≡ actors → told ≡ text
+    → Plays g feeds plan seen told status
+plays_as g feeds plan actors seen text told status plays actors_is text_is =
+    subst (λ (l : List ActorKnown). Plays g feeds plan l told status) (sym actors_is)
+    (subst (λ (t : List ℕ). Plays g feeds plan actors t status) (sym text_is) plays)
+
+-- without a seal a crew that finished played as the plain player does
+pub plays_fed : (g : ChipGame) (feeds : Option (List (ℕ × ℕ))) (plan : Plan) (f : Finished) → Finishes g feeds plan f
+    → plan.seal ≡ None → PlaysFed g feeds f.outcome
+plays_fed g None plan f is unsealed = (g, refl, is.played unsealed)
+plays_fed g (Some feeds) plan f is unsealed = (is.more, is.has_more, is.played unsealed)
+
+-- why the rows of these actors did not go out, by the fault of what writes their text
+pub fails_by : (actors : List ActorKnown) (old new : Option (List ℕ)) (text : List ℕ)
+    → text ≡ trace_text (map rows_kept actors) → (e : TraceFault) → WritesText old new text (Err e)
+    → FailsToRecord actors (Some old) (Some new) (fault_of_trace e)
+fails_by actors old new text is trace.Write wrote =
+    subst (λ (t : List ℕ). WritesText old new t (Err trace.Write)) is wrote
+fails_by actors old new text is trace.NoMemory wrote = wrote
+
+-- what holds of the fault holds where a result has it
+pub err_by : {T : Type 0} (result : Result T Fault) (P : Fault → Type 0) (f : Fault) → IsErrAnd result (λ x. x ≡ f)
+    → P f → IfErr result P
+err_by (Ok value) P f is holds = absurd is
+err_by (Err x) P f is holds = subst P (sym is) holds
 
 -- a game and the feeds that a text has for the vertices of its graph
 pub means_fed : (graph_text chips_text : List ℕ) (feed_text : Option (List ℕ)) (limit : ℕ) (g : ChipGame)
@@ -77,10 +129,6 @@ means_fed graph_text chips_text feed_text limit g feeds vertices same game fed =
   game = game;
   fed = subst (λ (n : ℕ). MeansFed feed_text n feeds) same fed;
 }
-
--- no trace is cut where none is asked for
-pub uncut : (asked some cut : Bool) → cut ≡ (asked && some) → asked ≡ false → cut ≡ false
-uncut asked some cut is none = is ∙ ap (λ (b : Bool). b && some) none
 
 -- the fault of a crew whose gate may answer false nowhere is that of one whose gate is never shut
 pub of_open_gate : (g : ChipGame) (plan : Plan) (may_shut : ℕ → ℕ → Type 0)

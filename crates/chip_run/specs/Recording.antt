@@ -1,11 +1,14 @@
 -- What the actors of a crew wrote down.
-use Rattle.std.specs.Prelude.{◌≡◌, ℕ, nat_lt, Bool, List, length, map, take, Option}
+use Rattle.std.specs.Prelude.{◌≡◌, ℕ, nat_lt, Bool, false, List, length, map, take, Option, None, Some, Err}
 use Rattle.std.specs.List.{list_any}
 use Rattle.std.specs.Io.KnownBytes.{Appends}
 use Rattle.chip_link.specs.declared.trace.TraceRow.{TraceRow}
 use Rattle.chip_net.specs.Tokens.{ActorKnown}
 use Rattle.chip_net.specs.Traces.{rows_of}
-use Rattle.chip_trace.specs.TraceText.{trace_text}
+use Rattle.chip_trace.specs.TraceText.{trace_text, WritesText}
+use Rattle.chip_trace.specs.declared.fault.TraceFault.TheVariants as trace
+use Rattle.chip_engine.specs.declared.fault.Fault.{Fault}
+use Rattle.chip_engine.specs.declared.fault.Fault.TheVariants as fault
 
 -- the takes and firings of an actor for which it had room
 abbrev pub rows_kept : ActorKnown → List TraceRow
@@ -23,3 +26,19 @@ some_cut actors = list_any is_cut actors
 pub record Records (actors : List ActorKnown) (old new : Option (List ℕ)) (cut : Bool) : Type 0 where
   pub text : Appends old new (trace_text (map rows_kept actors))
   pub cut_is : cut ≡ some_cut actors
+
+-- the same where there may be no writer: nothing is told of what is not asked for
+abbrev pub RecordsIfAsked : List ActorKnown → Option (Option (List ℕ)) → Option (Option (List ℕ)) → Bool → Type 0
+RecordsIfAsked actors None None cut = cut ≡ false
+RecordsIfAsked actors None (Some new) cut = ⊥
+RecordsIfAsked actors (Some old) None cut = ⊥
+RecordsIfAsked actors (Some old) (Some new) cut = Records actors old new cut
+
+-- why the rows of these actors did not go out: there is no memory, and nothing was written; or a write failed, and just
+-- their first bytes were, and not all of them
+abbrev pub FailsToRecord : List ActorKnown → Option (Option (List ℕ)) → Option (Option (List ℕ)) → Fault → Type 0
+FailsToRecord actors (Some old) (Some new) fault.NoMemory =
+    WritesText old new (trace_text (map rows_kept actors)) (Err trace.NoMemory)
+FailsToRecord actors (Some old) (Some new) fault.WriteTrace =
+    WritesText old new (trace_text (map rows_kept actors)) (Err trace.Write)
+FailsToRecord actors old new f = ⊥

@@ -1,5 +1,5 @@
 -- From the bytes of a graph file, a chips file and a file of feeds to those of the report of a game that threads play.
-use Rattle.std.specs.Prelude.{◌≡◌, ◌⊎◌, ℕ, Bool, true, false, List, Option, None, Some, Result, Ok, Err}
+use Rattle.std.specs.Prelude.{◌≡◌, ◌⊎◌, ℕ, Bool, List, Option, None, Some, Result, Ok, Err}
 use Rattle.std.specs.Io.KnownBytes.{Appends, Keeps}
 use Rattle.chip_graph.specs.ChipGame.{ChipGame}
 use Rattle.chip_graph.specs.declared.fault.GameFault.TheVariants.{Total}
@@ -7,7 +7,9 @@ use Rattle.chip_fire.specs.Play.{IsPlayed}
 use Rattle.chip_fire.specs.declared.outcome.Outcome.{Outcome}
 use Rattle.chip_report.specs.Written.{WritesAll}
 use Rattle.chip_report.specs.declared.write.WriteFault.{WriteFault}
-use Rattle.chip_crew.specs.Finished.{IsFaultOf, IsFedFaultOf}
+use Rattle.chip_crew.specs.Finished.{IsFinished, IsFinishedFed, IsFaultOf, IsFedFaultOf}
+use Rattle.chip_crew.specs.declared.play.Finished.{Finished}
+use Rattle.chip_net.specs.Tokens.{ActorKnown}
 use Rattle.chip_crew.specs.declared.plan.Plan.{Plan}
 use Rattle.chip_crew.specs.declared.fault.CrewFault.{CrewFault}
 use Rattle.chip_crew.specs.declared.fault.CrewFault.TheVariants as crew
@@ -16,6 +18,7 @@ use Rattle.chip_engine.specs.declared.ended.Ended.{Ended}
 use Rattle.chip_engine.specs.declared.fault.Fault.{Fault}
 use Rattle.chip_engine.specs.declared.fault.Fault.TheVariants as fault
 use Rattle.chip_run.specs.Feeding.{MeansFedGame, RefusesFedGame, IsWhole}
+use Rattle.chip_run.specs.Recording.{RecordsIfAsked, FailsToRecord}
 
 -- the plan by these numbers, which seals nothing
 abbrev pub plan_of : ℕ → ℕ → ℕ → ℕ → Plan
@@ -46,17 +49,9 @@ StopsCrew g (Some feeds) plan e = IsFedFaultOf g feeds plan never_shut e
 abbrev pub IsCrewFault : ChipGame → Option (List (ℕ × ℕ)) → Plan → Fault → Type 0
 IsCrewFault g feeds plan f = (e : CrewFault) × StopsCrew g feeds plan e × (f ≡ fault_of_crew e)
 
--- why a trace was not written: there is no memory, or it was asked for and a write failed
-abbrev pub IsRecordFault : Bool → Fault → Type 0
-IsRecordFault asked f = (f ≡ fault.NoMemory) ⊎ ((asked ≡ true) × (f ≡ fault.WriteTrace))
-
 -- why a game has no report: its crew didn't finish, or there is no memory for it
 abbrev pub IsNotPlayed : ChipGame → Option (List (ℕ × ℕ)) → Plan → Fault → Type 0
 IsNotPlayed g feeds plan f = IsCrewFault g feeds plan f ⊎ (f ≡ fault.NoMemory)
-
--- why no report is written of a game: it has none, or the trace was not written
-abbrev pub IsNotReported : ChipGame → Option (List (ℕ × ℕ)) → Plan → Bool → Fault → Type 0
-IsNotReported g feeds plan asked f = IsNotPlayed g feeds plan f ⊎ IsRecordFault asked f
 
 -- an outcome is the plain player's of a game with these feeds
 abbrev pub PlaysFed : ChipGame → Option (List (ℕ × ℕ)) → Outcome → Type 0
@@ -66,18 +61,53 @@ PlaysFed g feeds outcome = (whole : ChipGame) × IsWhole g feeds whole × IsPlay
 abbrev pub ReportsFed : ChipGame → Option (List (ℕ × ℕ)) → List ℕ → ℕ → Type 0
 ReportsFed g feeds text status = (whole : ChipGame) × IsWhole g feeds whole × Reports whole text status
 
--- what `run` answers: the plain player's report of the game and the feeds that the inputs mean; or nothing of a report
--- is written, since the inputs are refused or for one of the reasons above; or the output failed
-abbrev pub RunAnswers : List ℕ → List ℕ → Option (List ℕ) → ℕ → Plan → Bool → Option (List ℕ) → Option (List ℕ)
-    → Result Ended Fault → Type 0
-RunAnswers graph_text chips_text feed_text limit plan asked old new (Ok ended) =
-    (g : ChipGame) × (feeds : Option (List (ℕ × ℕ))) × MeansFedGame graph_text chips_text feed_text limit g feeds
-    × (text : List ℕ) × ReportsFed g feeds text ended.status × Appends old new text
-    × (asked ≡ false → ended.cut ≡ false)
-RunAnswers graph_text chips_text feed_text limit plan asked old new (Err f) =
-    (RefusesFedGame graph_text chips_text feed_text limit f × Keeps old new)
+-- a crew of this game by this plan, which has these feeds, finished so
+abbrev pub Finishes : ChipGame → Option (List (ℕ × ℕ)) → Plan → Finished → Type 0
+Finishes g None plan f = IsFinished g plan f
+Finishes g (Some feeds) plan f = IsFinishedFed g feeds plan f
+
+-- a crew finished the game with these actors, and text and status are its report and its status
+pub record Plays (g : ChipGame) (feeds : Option (List (ℕ × ℕ))) (plan : Plan) (actors : List ActorKnown) (text : List ℕ)
+    (status : ℕ) : Type 0 where
+  pub crew : Finished
+  pub finished : Finishes g feeds plan crew
+  pub actors_are : actors ≡ crew.actors.items
+  pub reports : ReportsFed g feeds text status
+
+-- what is known of the two outputs: of the report's, and of the trace's where there is one
+pub record Outputs : Type 0 where
+  pub report : Option (List ℕ)
+  pub trace : Option (Option (List ℕ))
+
+-- nothing went out
+pub record KeepsBoth (old new : Outputs) : Type 0 where
+  pub report : Keeps old.report new.report
+  pub trace : new.trace ≡ old.trace
+
+-- what `run` answers where the inputs mean this game and these feeds: the trace of a crew that finished the game went
+-- out, and the plain player's report; or nothing did, since the crew didn't finish; or the trace did not go out, and
+-- nothing of the report; or the trace did, and the output of the report failed
+abbrev pub RunAnswersFor : ChipGame → Option (List (ℕ × ℕ)) → Plan → Outputs → Outputs → Result Ended Fault → Type 0
+RunAnswersFor g feeds plan old new (Ok ended) =
+    (actors : List ActorKnown) × (text : List ℕ) × Plays g feeds plan actors text ended.status
+    × RecordsIfAsked actors old.trace new.trace ended.cut × Appends old.report new.report text
+RunAnswersFor g feeds plan old new (Err f) =
+    (IsNotPlayed g feeds plan f × KeepsBoth old new)
+    ⊎ ((actors : List ActorKnown) × (text : List ℕ) × (status : ℕ) × Plays g feeds plan actors text status
+    × FailsToRecord actors old.trace new.trace f × Keeps old.report new.report)
+    ⊎ ((actors : List ActorKnown) × (text : List ℕ) × (status : ℕ) × Plays g feeds plan actors text status
+    × (cut : Bool) × RecordsIfAsked actors old.trace new.trace cut
+    × (w : WriteFault) × (f ≡ fault.Write w) × WritesAll old.report new.report text (Err w))
+
+-- and where they mean none: nothing went out, and this is why
+abbrev pub IsRefused : List ℕ → List ℕ → Option (List ℕ) → ℕ → Outputs → Outputs → Result Ended Fault → Type 0
+IsRefused graph_text chips_text feed_text limit old new (Ok ended) = ⊥
+IsRefused graph_text chips_text feed_text limit old new (Err f) =
+    RefusesFedGame graph_text chips_text feed_text limit f × KeepsBoth old new
+
+-- what `run` answers
+abbrev pub RunAnswers : List ℕ → List ℕ → Option (List ℕ) → ℕ → Plan → Outputs → Outputs → Result Ended Fault → Type 0
+RunAnswers graph_text chips_text feed_text limit plan old new result =
+    IsRefused graph_text chips_text feed_text limit old new result
     ⊎ ((g : ChipGame) × (feeds : Option (List (ℕ × ℕ))) × MeansFedGame graph_text chips_text feed_text limit g feeds
-    × IsNotReported g feeds plan asked f × Keeps old new)
-    ⊎ ((g : ChipGame) × (feeds : Option (List (ℕ × ℕ))) × MeansFedGame graph_text chips_text feed_text limit g feeds
-    × (text : List ℕ) × (status : ℕ) × ReportsFed g feeds text status
-    × (w : WriteFault) × (f ≡ fault.Write w) × WritesAll old new text (Err w))
+    × RunAnswersFor g feeds plan old new result)

@@ -1,8 +1,7 @@
 //! What the actors of a crew wrote down.
 
-ghost use Rattle.std.specs.Prelude.{◌≡◌, true, ◌&&◌, is_some, IfOk, IfErr};
-ghost use Rattle.chip_run.specs.Recording.{Records, some_cut};
-ghost use Rattle.chip_run.specs.RunCommand.{IsRecordFault};
+ghost use Rattle.std.specs.Prelude.{Some, option_map, IfOk, IfErr, MatchResult};
+ghost use Rattle.chip_run.specs.Recording.{Records, RecordsIfAsked, FailsToRecord};
 
 use chip_engine::Fault;
 use chip_net::Actor;
@@ -14,10 +13,10 @@ use std::io::Write;
 pub(crate) fn recorded<T: Write>(
     alloc: Global,
     actors: &[Actor],
-    trace: Option<&mut T>,
+    trace: &mut Option<T>,
 ) -> Result<bool, Fault>
-    ensures cut { IfOk result (λ cut. cut ≡ (is_some trace.entry && some_cut actors.now)) }
-    ensures fault { IfErr result (IsRecordFault (is_some trace.entry)) }
+    ensures { let old = option_map T.contents trace.old in let new = option_map T.contents trace.new in
+        MatchResult result (RecordsIfAsked actors.now old new) (FailsToRecord actors.now old new) }
 {
     match trace {
         Some(writer) => write_traces(alloc, actors, writer),
@@ -27,8 +26,9 @@ pub(crate) fn recorded<T: Write>(
 
 /// Writes the traces of all actors, and tells whether one of them was cut.
 fn write_traces<T: Write>(alloc: Global, actors: &[Actor], writer: &mut T) -> Result<bool, Fault>
-    ensures records { IfOk result (λ cut. Records actors.now (T.contents writer.old) (T.contents writer.new) cut) }
-    ensures fault { IfErr result (IsRecordFault true) }
+    ensures records { IfOk result (Records actors.now (T.contents writer.old) (T.contents writer.new)) }
+    ensures fault { IfErr result (FailsToRecord actors.now (Some (T.contents writer.old))
+        (Some (T.contents writer.new))) }
 {
     let mut traces = Vec::with_capacity(alloc, actors.len())?;
     let mut cut = false;

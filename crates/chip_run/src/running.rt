@@ -1,11 +1,11 @@
 //! The engine.
 
-ghost use Rattle.std.specs.Prelude.{◌≡◌, ℕ, None, is_some, option_map, IfOk, IfErr};
+ghost use Rattle.std.specs.Prelude.{◌≡◌, ℕ, None, option_map, IfOk, IfErr};
 ghost use Rattle.std.specs.Option.{ForSome};
 ghost use Rattle.chip_report.specs.ReportText.{report_text};
 ghost use Rattle.chip_engine.specs.PlainCommand.{plain_status};
 ghost use Rattle.chip_run.specs.Feeding.{ForText};
-ghost use Rattle.chip_run.specs.RunCommand.{RunAnswers, PlaysFed, ReportsFed, StopsCrew, IsNotPlayed, plan_of};
+ghost use Rattle.chip_run.specs.RunCommand.{RunAnswers, Finishes, Plays, StopsCrew, IsNotPlayed, plan_of};
 
 use crate::feeding::read_fed;
 use crate::recording::recorded;
@@ -33,7 +33,8 @@ impl Gate for Always {
 
 /// Plays the game of a graph file, a chips file and a firing limit on so many threads, with such rings, each thread for
 /// so many turns at most. The chips of the file of feeds, where there is one, come while the vertices fire. Where a
-/// trace is asked for it is written first, with room for so many rows of each vertex, and then the report.
+/// trace is asked for it is written first, with room for so many rows of each vertex, and then the report: the rows that
+/// the actors wrote down who played.
 ///
 /// Its bytes and its status are those of `plain_engine` for the game that has all these chips at the start, however the
 /// threads were scheduled. The readers are read in their order. The report is made whole before the first byte of
@@ -49,14 +50,15 @@ pub fn run_engine<R: Threads + Wait + Sync, G: Read, C: Read, F: Read, T: Write,
     workers: u64,
     turns: u64,
     trace_rows: u64,
-    trace: Option<&mut T>,
+    trace: &mut Option<T>,
     output: &mut W,
 ) -> Result<Ended, Fault>
     ensures { ForSome (G.remaining graph.old)
         (λ graph_text. ForSome (C.remaining chips.old)
         (λ chips_text. ForText (option_map (λ reader. F.remaining reader.now) feed.entry)
         (λ feed_text. RunAnswers graph_text chips_text feed_text limit (plan_of ring workers turns trace_rows)
-        (is_some trace.entry) (W.contents output.old) (W.contents output.new) result))) }
+        (record { report = W.contents output.old; trace = option_map T.contents trace.old })
+        (record { report = W.contents output.new; trace = option_map T.contents trace.new }) result))) }
 {
     let plan = Plan {
         workers,
@@ -89,7 +91,7 @@ pub fn run_engine_gated<
     limit: u64,
     plan: Plan,
     gate: &K,
-    trace: Option<&mut T>,
+    trace: &mut Option<T>,
     output: &mut W,
 ) -> Result<Ended, Fault>
     requires seal { plan.seal ≡ None }
@@ -97,8 +99,9 @@ pub fn run_engine_gated<
     ensures { ForSome (G.remaining graph.old)
         (λ graph_text. ForSome (C.remaining chips.old)
         (λ chips_text. ForText (option_map (λ reader. F.remaining reader.now) feed.entry)
-        (λ feed_text. RunAnswers graph_text chips_text feed_text limit plan (is_some trace.entry)
-        (W.contents output.old) (W.contents output.new) result))) }
+        (λ feed_text. RunAnswers graph_text chips_text feed_text limit plan
+        (record { report = W.contents output.old; trace = option_map T.contents trace.old })
+        (record { report = W.contents output.new; trace = option_map T.contents trace.new }) result))) }
 {
     let game = read_game(alloc, graph, chips, limit)?;
     let feeds = read_fed(alloc, feed, game.graph().vertices())?;
@@ -133,8 +136,8 @@ fn play<R: Threads + Wait + Sync, K: Gate + Sync>(
 ) -> Result<Played, Fault>
     requires seal { plan.seal ≡ None }
     requires gate { (worker turn : ℕ) → K.may_shut gate.now worker turn → ⊥ }
-    ensures played { IfOk result
-        (λ p. ReportsFed game.now (option_map (λ fed. fed.items) feeds) p.text.items p.status) }
+    ensures played { IfOk result (λ p. Plays game.now (option_map (λ fed. fed.items) feeds) plan p.actors.items
+        p.text.items p.status) }
     ensures fault { IfErr result (IsNotPlayed game.now (option_map (λ fed. fed.items) feeds) plan) }
 {
     match crewed(rt, alloc, game, feeds, plan, gate) {
@@ -154,8 +157,7 @@ fn crewed<R: Threads + Wait + Sync, K: Gate + Sync>(
 ) -> Result<Finished, CrewFault>
     requires seal { plan.seal ≡ None }
     requires gate { (worker turn : ℕ) → K.may_shut gate.now worker turn → ⊥ }
-    ensures played { IfOk result
-        (λ finished. PlaysFed game.now (option_map (λ fed. fed.items) feeds) finished.outcome) }
+    ensures finished { IfOk result (Finishes game.now (option_map (λ fed. fed.items) feeds) plan) }
     ensures fault { IfErr result (StopsCrew game.now (option_map (λ fed. fed.items) feeds) plan) }
 {
     match feeds {
@@ -166,8 +168,9 @@ fn crewed<R: Threads + Wait + Sync, K: Gate + Sync>(
 
 /// The report of a game that a crew finished.
 fn reported(alloc: Global, finished: Finished) -> Result<Played, AllocError>
-    ensures { IfOk result (λ p. (p.text.items ≡ report_text finished.outcome)
-        × (p.status ≡ plain_status finished.outcome)) }
+    ensures text { IfOk result (λ p. p.text.items ≡ report_text finished.outcome) }
+    ensures status { IfOk result (λ p. p.status ≡ plain_status finished.outcome) }
+    ensures actors { IfOk result (λ p. p.actors ≡ finished.actors) }
 {
     let Finished {
         outcome,

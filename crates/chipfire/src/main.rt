@@ -123,7 +123,7 @@ fn play_on_threads<R: Files + Clock + Eprint + AllocGlobal + Threads + Wait + Sy
         asked.game.limit,
         plan,
         &TurnProgress::start(rt, asked.progress),
-        trace.as_mut(),
+        &mut trace,
         output,
     )
 }

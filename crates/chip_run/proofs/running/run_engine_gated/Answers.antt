@@ -1,16 +1,18 @@
-use Rattle.std.proofs.Common.{◌∙◌, ℕ, ap, List, Option, option_map, is_some, inl, inr, sym, subst}
+use Rattle.std.proofs.Common.{◌∙◌, ℕ, ap, List, Option, option_map, inl, inr, refl, sym, subst}
 use Rattle.chip_graph.specs.Multigraph.{Multigraph}
 use Rattle.chip_crew.specs.declared.plan.Plan.{Plan}
 use Rattle.chip_engine.specs.Inputs.{RefusesInputs}
 use Rattle.chip_run.specs.Feeding.{RefusesFed}
-use Rattle.chip_run.specs.RunCommand.{IsNotPlayed, IsRecordFault, ReportsFed}
-use Rattle.chip_run.proofs.RunLemmas.{for_text, for_each_text, refused_run, unreported_run, failed_run, reported_run, means_fed, uncut}
+use Rattle.chip_run.specs.Recording.{FailsToRecord}
+use Rattle.chip_run.specs.RunCommand.{IsNotPlayed}
+use Rattle.chip_run.proofs.RunLemmas.{for_text, for_each_text, refused_run, unplayed_run, untraced_run, failed_run}
+use Rattle.chip_run.proofs.RunLemmas.{reported_run, means_fed, plays_as}
 use Rattle.chip_run.proofs.running.run_engine_gated.Goals as goal
 
 pub returns-in_err-game : goal.returns-in_err-game
 returns-in_err-game g c = λ graph_text graph_is chips_text chips_is. for_each_text _ _ (λ feed_text.
-    refused_run graph_text chips_text feed_text c.args.limit c.args.plan (is_some c.args.trace) _
-    c.from_residual.result _ c.from_residual.ensures.1
+    refused_run graph_text chips_text feed_text c.args.limit c.args.plan _ c.from_residual.result _
+    c.from_residual.ensures.1
     (λ fault is. inl (subst (RefusesInputs graph_text chips_text c.args.limit) (sym is)
     (c.in_err-game.ensures graph_text graph_is chips_text chips_is))))
 
@@ -18,8 +20,8 @@ pub returns-in_err-feeds : goal.returns-in_err-feeds
 returns-in_err-feeds g c = λ graph_text graph_is chips_text chips_is. for_text _ _ _ (λ feed_text refuses.
     let vertices = c.vertices.ensures.value ∙ ap (λ (G : Multigraph). G.vertices) c.graph.ensures.value in
     let why = subst (λ (n : ℕ). RefusesFed feed_text n c.in_err-feeds.field-0.0) vertices refuses in
-    refused_run graph_text chips_text feed_text c.args.limit c.args.plan (is_some c.args.trace) _
-    c.from_residual-in_err-feeds.result _ c.from_residual-in_err-feeds.ensures.1
+    refused_run graph_text chips_text feed_text c.args.limit c.args.plan _ c.from_residual-in_err-feeds.result _
+    c.from_residual-in_err-feeds.ensures.1
     (λ fault is. inr (
       c.in_ok-game.game,
       c.in_ok-game.ensures graph_text graph_is chips_text chips_is,
@@ -31,46 +33,46 @@ returns-in_err-played g c = λ graph_text graph_is chips_text chips_is. for_text
     let vertices = c.vertices.ensures.value ∙ ap (λ (G : Multigraph). G.vertices) c.graph.ensures.value in
     let plan : Plan = c.args.plan in
     let feeds : Option (List (ℕ × ℕ)) = option_map (λ feeds. feeds.items) c.in_ok-feeds.feeds in
-    unreported_run graph_text chips_text feed_text c.args.limit plan (is_some c.args.trace) _
-    c.from_residual-in_err-played.result _ c.from_residual-in_err-played.ensures.1 c.in_ok-game.game feeds
+    unplayed_run graph_text chips_text feed_text c.args.limit plan c.in_ok-game.game feeds
     (means_fed graph_text chips_text feed_text c.args.limit c.in_ok-game.game feeds _ vertices
-    (c.in_ok-game.ensures graph_text graph_is chips_text chips_is) fed)
-    (λ fault is. inl (subst (IsNotPlayed c.in_ok-game.game feeds plan) (sym is) c.in_err-played.ensures.fault)))
+    (c.in_ok-game.ensures graph_text graph_is chips_text chips_is) fed) _ c.from_residual-in_err-played.result _
+    c.from_residual-in_err-played.ensures.1
+    (λ fault is. subst (IsNotPlayed c.in_ok-game.game feeds plan) (sym is) c.in_err-played.ensures.fault))
     c.in_ok-feeds.ensures
 
 pub returns-in_err-cut : goal.returns-in_err-cut
 returns-in_err-cut g c = λ graph_text graph_is chips_text chips_is. for_text _ _ _ (λ feed_text fed.
     let vertices = c.vertices.ensures.value ∙ ap (λ (G : Multigraph). G.vertices) c.graph.ensures.value in
     let feeds : Option (List (ℕ × ℕ)) = option_map (λ feeds. feeds.items) c.in_ok-feeds.feeds in
-    unreported_run graph_text chips_text feed_text c.args.limit c.args.plan (is_some c.args.trace) _
-    c.from_residual-in_err-cut.result _ c.from_residual-in_err-cut.ensures.1 c.in_ok-game.game feeds
+    untraced_run graph_text chips_text feed_text c.args.limit c.args.plan c.in_ok-game.game feeds
     (means_fed graph_text chips_text feed_text c.args.limit c.in_ok-game.game feeds _ vertices
-    (c.in_ok-game.ensures graph_text graph_is chips_text chips_is) fed)
-    (λ fault is. inr (subst (IsRecordFault (is_some c.args.trace)) (sym is) c.in_err-cut.ensures.fault)))
-    c.in_ok-feeds.ensures
+    (c.in_ok-game.ensures graph_text graph_is chips_text chips_is) fed) _ (g.W.Write.contents c.args.output.now) _ _
+    c.deref.result.now
+    c.in_ok-played.played.text.items c.in_ok-played.played.status
+    (plays_as _ _ _ _ _ _ _ _ c.in_ok-played.ensures.played c.deref.ensures.value refl)
+    c.from_residual-in_err-cut.result _ c.from_residual-in_err-cut.ensures.1
+    (λ fault is. subst (FailsToRecord c.deref.result.now _ _) (sym is) c.in_err-cut.ensures)) c.in_ok-feeds.ensures
 
 pub returns-in_err-write_all_of : goal.returns-in_err-write_all_of
 returns-in_err-write_all_of g c = λ graph_text graph_is chips_text chips_is. for_text _ _ _ (λ feed_text fed.
     let vertices = c.vertices.ensures.value ∙ ap (λ (G : Multigraph). G.vertices) c.graph.ensures.value in
     let feeds : Option (List (ℕ × ℕ)) = option_map (λ feeds. feeds.items) c.in_ok-feeds.feeds in
-    failed_run graph_text chips_text feed_text c.args.limit c.args.plan (is_some c.args.trace) _ _
-    c.from_residual-in_err-write_all_of.result _ c.from_residual-in_err-write_all_of.ensures.1 c.in_ok-game.game feeds
+    failed_run graph_text chips_text feed_text c.args.limit c.args.plan c.in_ok-game.game feeds
     (means_fed graph_text chips_text feed_text c.args.limit c.in_ok-game.game feeds _ vertices
-    (c.in_ok-game.ensures graph_text graph_is chips_text chips_is) fed)
+    (c.in_ok-game.ensures graph_text graph_is chips_text chips_is) fed) _ _ _ _ c.deref.result.now
     c.deref-2.result.now c.in_ok-played.played.status
-    (subst (λ (t : List ℕ). ReportsFed c.in_ok-game.game feeds t c.in_ok-played.played.status)
-    (sym c.deref-2.ensures.value) c.in_ok-played.ensures.played)
-    c.in_err-write_all_of.field-0.0 (λ fault is. is) c.in_err-write_all_of.ensures) c.in_ok-feeds.ensures
+    (plays_as _ _ _ _ _ _ _ _ c.in_ok-played.ensures.played c.deref.ensures.value c.deref-2.ensures.value)
+    c.in_ok-cut.cut c.in_ok-cut.ensures c.from_residual-in_err-write_all_of.result _
+    c.from_residual-in_err-write_all_of.ensures.1 c.in_err-write_all_of.field-0.0 (λ fault is. is)
+    c.in_err-write_all_of.ensures) c.in_ok-feeds.ensures
 
 pub returns : goal.returns
 returns g c = λ graph_text graph_is chips_text chips_is. for_text _ _ _ (λ feed_text fed.
     let vertices = c.vertices.ensures.value ∙ ap (λ (G : Multigraph). G.vertices) c.graph.ensures.value in
     let feeds : Option (List (ℕ × ℕ)) = option_map (λ feeds. feeds.items) c.in_ok-feeds.feeds in
-    reported_run graph_text chips_text feed_text c.args.limit c.args.plan (is_some c.args.trace) _ _ _
-    c.in_ok-game.game feeds
+    reported_run graph_text chips_text feed_text c.args.limit c.args.plan c.in_ok-game.game feeds
     (means_fed graph_text chips_text feed_text c.args.limit c.in_ok-game.game feeds _ vertices
-    (c.in_ok-game.ensures graph_text graph_is chips_text chips_is) fed)
-    c.deref-2.result.now
-    (subst (λ (t : List ℕ). ReportsFed c.in_ok-game.game feeds t c.in_ok-played.played.status)
-    (sym c.deref-2.ensures.value) c.in_ok-played.ensures.played)
-    c.in_ok-write_all_of.ensures (uncut _ _ _ c.in_ok-cut.ensures.cut)) c.in_ok-feeds.ensures
+    (c.in_ok-game.ensures graph_text graph_is chips_text chips_is) fed) _ _ _ _ c.deref.result.now
+    c.deref-2.result.now _
+    (plays_as _ _ _ _ _ _ _ _ c.in_ok-played.ensures.played c.deref.ensures.value c.deref-2.ensures.value)
+    c.in_ok-cut.ensures c.in_ok-write_all_of.ensures) c.in_ok-feeds.ensures

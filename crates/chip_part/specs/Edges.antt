@@ -1,21 +1,22 @@
--- The edges of a running game by their numbers: the graph's own edges, and after them for each vertex v the root edge
--- that brings its first chips. The root and the stopper are numbers beside the vertices. All functions are total.
-use Rattle.std.specs.Prelude.{ℕ, ◌+◌, ◌-◌, ◌*◌, ◌==◌, nat_lt, if◌then◌else◌, length, slice_index}
+-- The edges of a running game by their numbers, which are those of its graph and of the root. The stopper is a number
+-- beside the vertices and the root. All functions are total.
+use Rattle.std.specs.Prelude.{ℕ, ◌+◌, ◌*◌, ◌==◌, if◌then◌else◌, slice_index}
 use Rattle.chip_graph.specs.Multigraph.{edge_at}
+use Rattle.chip_graph.specs.Edges as edges
 use Rattle.chip_part.specs.Setting.{Setting}
 use Rattle.chip_graph.specs.Sums.{sum_below}
 
 -- how many edges the graph has
 abbrev pub graph_edges : Setting → ℕ
-graph_edges g = length g.graph.edges
+graph_edges g = edges.graph_edges g.graph
 
 -- how many edges there are with the root's
 abbrev pub all_edges : Setting → ℕ
-all_edges g = length g.graph.edges + g.graph.vertices
+all_edges g = edges.all_edges g.graph
 
 -- the root, as the tail of the root edges
 abbrev pub root : Setting → ℕ
-root g = g.graph.vertices
+root g = edges.root g.graph
 
 -- the stopper, who seals edges
 abbrev pub stopper : Setting → ℕ
@@ -23,15 +24,15 @@ stopper g = g.graph.vertices + 1
 
 -- the edge from the root to v
 abbrev pub root_edge : Setting → ℕ → ℕ
-root_edge g v = length g.graph.edges + v
+root_edge g v = edges.root_edge g.graph v
 
 -- who sends on e
 abbrev pub tail_of : Setting → ℕ → ℕ
-tail_of g e = if nat_lt e (length g.graph.edges) then (edge_at g.graph e).tail else g.graph.vertices
+tail_of g e = edges.tail_of g.graph e
 
 -- who gets what is sent on e
 abbrev pub head_of : Setting → ℕ → ℕ
-head_of g e = if nat_lt e (length g.graph.edges) then (edge_at g.graph e).head else e - length g.graph.edges
+head_of g e = edges.head_of g.graph e
 
 -- the chips that one firing of its tail sends along e, 0 for a root edge
 abbrev pub mult_of : Setting → ℕ → ℕ

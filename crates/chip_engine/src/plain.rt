@@ -32,8 +32,8 @@ pub fn plain_engine<G: Read, C: Read, W: Write>(
     plain_engine_watched(alloc, graph, chips, limit, &mut Unwatched, output)
 }
 
-/// Does what `plain_engine` does, and tells after each round how far the play has come. Its answer and its bytes are
-/// the same, whoever is told.
+/// Does what `plain_engine` does, and tells now and then, after some more rounds, how far the play has come. Its answer
+/// and its bytes are the same, whoever is told.
 pub fn plain_engine_watched<G: Read, C: Read, P: Watch, W: Write>(
     alloc: Global,
     graph: &mut G,

@@ -88,6 +88,20 @@ fn unfed_root(rt: HostRuntime) -> Result<(), Fail> {
 }
 
 #[test]
+fn settled_root(rt: HostRuntime) -> Result<(), Fail> {
+    let game = game_of(rt.alloc(), 3, &[(0, 1), (0, 2), (1, 0), (1, 2)], &[4, 0, 0])?;
+    let mut root = RootState::new(rt.alloc(), &game)?;
+    assert_eq!(rt; root.outstanding(), 1);
+    let first = root.settle(0, 1);
+    assert_eq!(rt; first, 1);
+    assert!(rt; root.closed());
+    let second = root.settle(0, 1);
+    assert_eq!(rt; second, 0);
+    assert!(rt; root.closed());
+    Ok(())
+}
+
+#[test]
 fn fed_root(rt: HostRuntime) -> Result<(), Fail> {
     let game = game_of(rt.alloc(), 3, &[(0, 1), (0, 2), (1, 0), (1, 2)], &[0, 0, 1])?;
     let mut root = RootState::new_fed(rt.alloc(), &game, Ring::one())?;

@@ -18,6 +18,8 @@ mod chips;
 mod fault;
 mod graph;
 mod json;
+#[cfg(test)]
+mod largest_tests;
 mod number;
 mod rows;
 #[cfg(test)]

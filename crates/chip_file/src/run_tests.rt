@@ -3,7 +3,6 @@
 use crate::tests::{Slow, TRIANGLE};
 use crate::{FileFault, MAX_BYTES, read_graph, read_schedule, read_trace};
 use chip_link::{Event, TraceRow};
-use std::alloc::{AllocError, Global};
 use std::test::Fail;
 
 /// A stop of edge 1 while vertex 0 sends.
@@ -228,34 +227,6 @@ fn a_failing_read_of_runs_is_told(rt: HostRuntime) -> Result<(), Fail> {
             Some(FileFault::Read)
         );
     }
-    Ok(())
-}
-
-/// A header, and 100,000 times the same row.
-fn many_rows(alloc: Global, header: &str, row: &str) -> Result<String, AllocError> {
-    let mut text = String::new(alloc);
-    text.push_str(header)?;
-    for _ in 0..100_000 {
-        text.push_str(row)?;
-    }
-    Ok(text)
-}
-
-#[test]
-fn many_rows_of_one_vertex(rt: HostRuntime) -> Result<(), Fail> {
-    let graph = read_graph(rt.alloc(), &mut TRIANGLE.as_bytes())?;
-    let text = many_rows(rt.alloc(), "vertex,kind,edge,count\n", "1,take,0,1\n")?;
-    let traces = read_trace(rt.alloc(), &mut text.as_bytes(), &graph)?;
-    assert!(rt; traces.len() == 3 && traces[1].len() == 100_000);
-    Ok(())
-}
-
-#[test]
-fn many_events(rt: HostRuntime) -> Result<(), Fail> {
-    let graph = read_graph(rt.alloc(), &mut TRIANGLE.as_bytes())?;
-    let text = many_rows(rt.alloc(), "event,at,count\n", "settle,6,0\n")?;
-    let events = read_schedule(rt.alloc(), &mut text.as_bytes(), &graph)?;
-    assert_eq!(rt; events.len(), 100_000);
     Ok(())
 }
 

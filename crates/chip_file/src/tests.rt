@@ -302,7 +302,7 @@ fn the_longest_input(rt: HostRuntime) -> Result<(), Fail> {
 }
 
 /// A file of the largest graph: 4,096 vertices in a row, 16 edges from each to the one before it, and 32 from the last.
-fn largest_graph(alloc: Global) -> Result<String, AllocError> {
+pub(crate) fn largest_graph(alloc: Global) -> Result<String, AllocError> {
     let mut text = String::new(alloc);
     text.push_str("{\"version\":1,\"vertices\":4096,\"sink\":0,\"edges\":[[1,0,1]")?;
     for i in 1..65_536u64 {
@@ -329,7 +329,7 @@ fn reads_the_largest_graph(rt: HostRuntime) -> Result<(), Fail> {
 }
 
 /// Chips for each of 4,096 vertices, a total of 2^40.
-fn largest_chips(alloc: Global) -> Result<String, AllocError> {
+pub(crate) fn largest_chips(alloc: Global) -> Result<String, AllocError> {
     let mut text = String::new(alloc);
     text.push_str("vertex,chips\n")?;
     for vertex in 0..4_096u64 {

@@ -72,3 +72,16 @@ fn lists_in_any_order(rt: HostRuntime) -> Result<(), Fail> {
     assert_eq!(rt; detect.deficit(), 0);
     Ok(())
 }
+
+/// A body that gives up at long lists meets its contract too.
+#[test]
+fn as_many_edges_as_there_may_be(rt: HostRuntime) -> Result<(), Fail> {
+    let mut edges = [0u64; 65_537];
+    for (place, edge) in edges.iter_mut().enumerate() {
+        *edge = place as u64;
+    }
+    let detect = Detect::new(rt.alloc(), &edges, &edges)?;
+    assert!(rt; !detect.engaged());
+    assert_eq!(rt; detect.deficit(), 0);
+    Ok(())
+}

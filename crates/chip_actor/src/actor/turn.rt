@@ -18,7 +18,8 @@ impl ActorState {
     /// or the last one that was given, with its operation applied: see `IsUnderWay`.
     pub fn next(&self, cursor: Cursor) -> (Act, Cursor)
         requires { StandsAt self.now cursor }
-        ensures { TurnContinues self.now cursor result.0 result.1 }
+        ensures goes { TurnContinues self.now cursor result.0 result.1 }
+        ensures over { result.0 ≡ Act.End → result.1 ≡ Cursor.Over }
     {
         match self.due(cursor) {
             Some((event, next)) => (self.act(&event), next),

@@ -10,7 +10,7 @@ use Rattle.chip_part.specs.declared.act.Act.{Act}
 use Rattle.chip_part.specs.declared.act.Act.TheVariants as Do
 use Rattle.chip_part.specs.Part.{Part}
 use Rattle.chip_part.specs.declared.rule.Rule.{Rule}
-use Rattle.chip_part.specs.Rules.{Event, End}
+use Rattle.chip_part.specs.Rules.{Event}
 use Rattle.chip_part.specs.Rules.{unmet}
 use Rattle.chip_part.specs.declared.reply.Reply.TheVariants.{NotNow}
 use Rattle.chip_part.specs.declared.reply.Reply.{Reply}

@@ -1,7 +1,7 @@
 """Games of the largest size, whose answers are known by arithmetic: 4,096 vertices, 65,536 edges, rings of 64 cells, 64
 workers, a chip that goes 4,095 steps, a schedule of 180,000 events, and outputs of more than a mebibyte.
 
-A command that gave up here for want of memory, or answered something else, would keep every contract but this test.
+A command may always say that memory ran out, so that no contract refuses one which gives up at such sizes.
 """
 import itertools
 import json
@@ -29,7 +29,8 @@ def rows_of(header, rows):
 def report(chips, fired, over=(), prior=None):
     """The report of a game that stopped so, of version 2 where there are sittings before."""
     more = {"version": 1} if prior is None else {"prior": prior, "version": 2}
-    return compact({"chips": chips, "closed": not over, "fired": fired, "over": list(over), "sealed": [], **more}) + "\n"
+    end = {"chips": chips, "closed": not over, "fired": fired, "over": list(over), "sealed": []}
+    return compact({**end, **more}) + "\n"
 
 
 class Fan:
@@ -118,7 +119,8 @@ class Room:
         """Runs the program; what it wrote on standard output and on standard error, and its status."""
         how = {"stdin": subprocess.DEVNULL, "stdout": subprocess.PIPE, "stderr": subprocess.PIPE, "timeout": SECONDS}
         done = subprocess.run([self.program, *arguments.split(" ")], cwd=self.folder, **how)
-        return done.stdout.decode(errors="backslashreplace"), done.stderr.decode(errors="backslashreplace"), done.returncode
+        written, errors = (text.decode(errors="backslashreplace") for text in (done.stdout, done.stderr))
+        return written, errors, done.returncode
 
     def faults_of(self, arguments, wanted, status=0):
         """Runs the program, and tells what of its answer is not as it must be."""

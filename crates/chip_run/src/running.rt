@@ -33,8 +33,8 @@ impl Gate for Always {
 
 /// Plays the game of a graph file, a chips file and a firing limit on so many threads, with such rings, each thread for
 /// so many turns at most. The chips of the file of feeds, where there is one, come while the vertices fire. Where a
-/// trace is asked for it is written first, with room for so many rows of each vertex, and then the report: the rows that
-/// the actors wrote down who played.
+/// trace is asked for, the rows that the actors wrote down are written first, at most so many of each vertex, and then
+/// the report.
 ///
 /// Its bytes and its status are those of `plain_engine` for the game that has all these chips at the start, however the
 /// threads were scheduled. The readers are read in their order. The report is made whole before the first byte of
@@ -72,8 +72,8 @@ pub fn run_engine<R: Threads + Wait + Sync, G: Read, C: Read, F: Read, T: Write,
     )
 }
 
-/// Does what `run_engine` does, by a plan that seals nothing. The gate is asked before each turn and always answers true;
-/// it is told of the polls, and changes nothing of the bytes and the status.
+/// Does what `run_engine` does, by a plan that seals nothing. The gate is asked before each turn and always answers
+/// true; it is told of the polls, and changes nothing of the bytes and the status.
 pub fn run_engine_gated<
     R: Threads + Wait + Sync,
     G: Read,

@@ -44,43 +44,46 @@ fn reads_the_schedule_of_sealed_half_way(rt: HostRuntime) -> Result<(), Fail> {
     Ok(())
 }
 
+/// Schedules of the triangle, each with the event that it names, if it names one.
+const SCHEDULES: [(&str, Option<Event>); 14] = [
+    ("event,at,count\ntake,6,0\n", Some(Event::Take(6))),
+    ("event,at,count\nack,06,007\n", Some(Event::Ack(6))),
+    (
+        "event,at,count\nfire,2,18446744073709551615\n",
+        Some(Event::Fire {
+            vertex: 2,
+            k: u64::MAX,
+        }),
+    ),
+    ("\u{feff}event,at,count\nclear,0,0\n", Some(Event::Clear(0))),
+    ("event,at,count\r\nclaim,3,0", Some(Event::Claim(3))),
+    (
+        "\"event\",\"at\",\"count\"\n\"put\",\"3\",\"0\"\n",
+        Some(Event::Put(3)),
+    ),
+    ("event,at,count\n\nhalt,2,1\n\n", Some(Event::Halt(2))),
+    ("event,at,count\nsettle,6,\"0", Some(Event::Settle(6))),
+    ("event,at,count\nseal,5,0\n", Some(Event::Seal(5))),
+    ("event,at,count\nread,2,0\n", Some(Event::Read(2))),
+    (
+        "event,at,count\nfeed,6,1099511627777\n",
+        Some(Event::Feed {
+            edge: 6,
+            count: 1_099_511_627_777,
+        }),
+    ),
+    ("event,at,count\nend,7,5\n", Some(Event::End)),
+    (
+        "event,at,count\nend,18446744073709551615,0\n",
+        Some(Event::End),
+    ),
+    ("event,at,count\n", None),
+];
+
 #[test]
 fn reads_every_kind_of_event(rt: HostRuntime) -> Result<(), Fail> {
     let graph = read_graph(rt.alloc(), &mut TRIANGLE.as_bytes())?;
-    for (text, event) in [
-        ("event,at,count\ntake,6,0\n", Some(Event::Take(6))),
-        ("event,at,count\nack,06,007\n", Some(Event::Ack(6))),
-        (
-            "event,at,count\nfire,2,18446744073709551615\n",
-            Some(Event::Fire {
-                vertex: 2,
-                k: u64::MAX,
-            }),
-        ),
-        ("\u{feff}event,at,count\nclear,0,0\n", Some(Event::Clear(0))),
-        ("event,at,count\r\nclaim,3,0", Some(Event::Claim(3))),
-        (
-            "\"event\",\"at\",\"count\"\n\"put\",\"3\",\"0\"\n",
-            Some(Event::Put(3)),
-        ),
-        ("event,at,count\n\nhalt,2,1\n\n", Some(Event::Halt(2))),
-        ("event,at,count\nsettle,6,\"0", Some(Event::Settle(6))),
-        ("event,at,count\nseal,5,0\n", Some(Event::Seal(5))),
-        ("event,at,count\nread,2,0\n", Some(Event::Read(2))),
-        (
-            "event,at,count\nfeed,6,1099511627777\n",
-            Some(Event::Feed {
-                edge: 6,
-                count: 1_099_511_627_777,
-            }),
-        ),
-        ("event,at,count\nend,7,5\n", Some(Event::End)),
-        (
-            "event,at,count\nend,18446744073709551615,0\n",
-            Some(Event::End),
-        ),
-        ("event,at,count\n", None),
-    ] {
+    for (text, event) in SCHEDULES {
         let events = read_schedule(rt.alloc(), &mut text.as_bytes(), &graph)?;
         assert_eq!(rt; events.as_slice(), event.as_slice(), "{text}");
     }

@@ -68,96 +68,96 @@ fn reads_the_triangle(rt: HostRuntime) -> Result<(), Fail> {
     Ok(())
 }
 
+/// Texts of graphs, each with the first thing wrong with it, if something is.
+const GRAPHS: [(&str, Option<FileFault>); 23] = [
+    (TRIANGLE, None),
+    (
+        "{\"edges\":[],\"sink\":0,\"version\":1,\"vertices\":1}",
+        None,
+    ),
+    (
+        " {\"sink\":7, \"vertices\":1,\"edges\":[],\"version\":1,\"sink\":0}\r\n",
+        None,
+    ),
+    (
+        "{\"edges\":[[0,1,1],[1,0,1],[2,3,1]],\"sink\":3,\"version\":1,\"vertices\":4}",
+        Some(FileFault::Graph(GraphFault::Unreached(0))),
+    ),
+    (
+        "{\"edges\":[[1,1,1]],\"sink\":2,\"version\":1,\"vertices\":3}",
+        Some(FileFault::Graph(GraphFault::Loop(0))),
+    ),
+    (
+        "{\"edges\":[[2,2,1]],\"sink\":2,\"version\":1,\"vertices\":3}",
+        Some(FileFault::Graph(GraphFault::Loop(0))),
+    ),
+    (
+        "{\"edges\":[],\"sink\":0,\"version\":1,\"vertices\":0}",
+        Some(FileFault::Graph(GraphFault::Vertices)),
+    ),
+    (
+        "{\"edges\":[],\"sink\":0,\"version\":2,\"vertices\":0}",
+        Some(FileFault::Version),
+    ),
+    (
+        "{\"edges\":[],\"sink\":0,\"version\":1,\"vertices\":1,\"x\":0}",
+        Some(FileFault::Shape),
+    ),
+    (
+        "{\"edges\":[],\"sink\":0,\"version\":1}",
+        Some(FileFault::Shape),
+    ),
+    (
+        "{\"edges\":[[0,1,1.5]],\"sink\":1,\"version\":2,\"vertices\":2}",
+        Some(FileFault::Shape),
+    ),
+    (
+        "{\"edges\":[[0,1]],\"sink\":1,\"version\":1,\"vertices\":2}",
+        Some(FileFault::Shape),
+    ),
+    (
+        "{\"edges\":[[0,1,1,1]],\"sink\":1,\"version\":1,\"vertices\":2}",
+        Some(FileFault::Shape),
+    ),
+    (
+        "{\"edges\":[],\"sink\":-0,\"version\":1,\"vertices\":1}",
+        Some(FileFault::Shape),
+    ),
+    (
+        "{\"edges\":[],\"sink\":0,\"version\":1,\"vertices\":1e0}",
+        Some(FileFault::Shape),
+    ),
+    (
+        "{\"edges\":[],\"sink\":18446744073709551616,\"version\":1,\"vertices\":1}",
+        Some(FileFault::Shape),
+    ),
+    (
+        "{\"edges\":[],\"sink\":18446744073709551615,\"version\":1,\"vertices\":1}",
+        Some(FileFault::Graph(GraphFault::Sink)),
+    ),
+    ("[]", Some(FileFault::Shape)),
+    ("", Some(FileFault::NotJson)),
+    ("{}}", Some(FileFault::NotJson)),
+    ("\u{feff}{}", Some(FileFault::NotJson)),
+    ("1e400", Some(FileFault::NotJson)),
+    ("1e300", Some(FileFault::Shape)),
+];
+
 #[test]
 fn names_the_first_fault_of_a_graph(rt: HostRuntime) {
-    let unreached = FileFault::Graph(GraphFault::Unreached(0));
-    for (text, fault) in [
-        (TRIANGLE, None),
-        (
-            "{\"edges\":[],\"sink\":0,\"version\":1,\"vertices\":1}",
-            None,
-        ),
-        (
-            " {\"sink\":7, \"vertices\":1,\"edges\":[],\"version\":1,\"sink\":0}\r\n",
-            None,
-        ),
-        (
-            "{\"edges\":[[0,1,1],[1,0,1],[2,3,1]],\"sink\":3,\"version\":1,\"vertices\":4}",
-            Some(unreached),
-        ),
-        (
-            "{\"edges\":[[1,1,1]],\"sink\":2,\"version\":1,\"vertices\":3}",
-            Some(FileFault::Graph(GraphFault::Loop(0))),
-        ),
-        (
-            "{\"edges\":[[2,2,1]],\"sink\":2,\"version\":1,\"vertices\":3}",
-            Some(FileFault::Graph(GraphFault::Loop(0))),
-        ),
-        (
-            "{\"edges\":[],\"sink\":0,\"version\":1,\"vertices\":0}",
-            Some(FileFault::Graph(GraphFault::Vertices)),
-        ),
-        (
-            "{\"edges\":[],\"sink\":0,\"version\":2,\"vertices\":0}",
-            Some(FileFault::Version),
-        ),
-        (
-            "{\"edges\":[],\"sink\":0,\"version\":1,\"vertices\":1,\"x\":0}",
-            Some(FileFault::Shape),
-        ),
-        (
-            "{\"edges\":[],\"sink\":0,\"version\":1}",
-            Some(FileFault::Shape),
-        ),
-        (
-            "{\"edges\":[[0,1,1.5]],\"sink\":1,\"version\":2,\"vertices\":2}",
-            Some(FileFault::Shape),
-        ),
-        (
-            "{\"edges\":[[0,1]],\"sink\":1,\"version\":1,\"vertices\":2}",
-            Some(FileFault::Shape),
-        ),
-        (
-            "{\"edges\":[[0,1,1,1]],\"sink\":1,\"version\":1,\"vertices\":2}",
-            Some(FileFault::Shape),
-        ),
-        (
-            "{\"edges\":[],\"sink\":-0,\"version\":1,\"vertices\":1}",
-            Some(FileFault::Shape),
-        ),
-        (
-            "{\"edges\":[],\"sink\":0,\"version\":1,\"vertices\":1e0}",
-            Some(FileFault::Shape),
-        ),
-        (
-            "{\"edges\":[],\"sink\":18446744073709551616,\"version\":1,\"vertices\":1}",
-            Some(FileFault::Shape),
-        ),
-        (
-            "{\"edges\":[],\"sink\":18446744073709551615,\"version\":1,\"vertices\":1}",
-            Some(FileFault::Graph(GraphFault::Sink)),
-        ),
-        ("[]", Some(FileFault::Shape)),
-        ("", Some(FileFault::NotJson)),
-        ("{}}", Some(FileFault::NotJson)),
-        ("\u{feff}{}", Some(FileFault::NotJson)),
-        ("1e400", Some(FileFault::NotJson)),
-        ("1e300", Some(FileFault::Shape)),
-    ] {
-        assert_eq!(rt;
-            read_graph(rt.alloc(), &mut text.as_bytes()).err(),
-            fault,
-            "{text}"
-        );
+    for (text, fault) in GRAPHS {
+        let found = read_graph(rt.alloc(), &mut text.as_bytes()).err();
+        assert_eq!(rt; found, fault, "{text}");
     }
-    assert_eq!(rt;
-        read_graph(rt.alloc(), &mut [b'[', 0xff, b']'].as_slice()).err(),
-        Some(FileFault::NotJson)
-    );
-    assert_eq!(rt;
-        read_graph(rt.alloc(), &mut [b'['; 200].as_slice()).err(),
-        Some(FileFault::NotJson)
-    );
+}
+
+#[test]
+fn bytes_that_are_no_json(rt: HostRuntime) {
+    for bytes in [[b'[', 0xff, b']'].as_slice(), [b'['; 200].as_slice()] {
+        let mut rest = bytes;
+        let found = read_graph(rt.alloc(), &mut rest).err();
+        assert_eq!(rt; found, Some(FileFault::NotJson));
+    }
 }
 
 #[test]
@@ -172,82 +172,89 @@ fn each_cut_of_the_triangle_is_no_json(rt: HostRuntime) {
     }
 }
 
+/// Texts of chips on three vertices, each with what it means.
+const CHIPS: [(&str, [u64; 3]); 7] = [
+    ("vertex,chips\n", [0, 0, 0]),
+    ("vertex,chips\n00,04\n", [4, 0, 0]),
+    ("vertex,chips\r\n2,7\r\n\r\n0,4", [4, 0, 7]),
+    ("\"vertex\",\"chips\"\n\"1\",\"5\"\n", [0, 5, 0]),
+    ("\u{feff}vertex,chips\n1,1099511627776\n", [0, 1 << 40, 0]),
+    ("vertex,chips\n1,\"2", [0, 2, 0]),
+    ("vertex,chips\n1,00000000000000000002\n", [0, 2, 0]),
+];
+
 #[test]
 fn reads_chips(rt: HostRuntime) -> Result<(), Fail> {
-    for (text, chips) in [
-        ("vertex,chips\n", [0, 0, 0]),
-        ("vertex,chips\n00,04\n", [4, 0, 0]),
-        ("vertex,chips\r\n2,7\r\n\r\n0,4", [4, 0, 7]),
-        ("\"vertex\",\"chips\"\n\"1\",\"5\"\n", [0, 5, 0]),
-        ("\u{feff}vertex,chips\n1,1099511627776\n", [0, 1 << 40, 0]),
-        ("vertex,chips\n1,\"2", [0, 2, 0]),
-        ("vertex,chips\n1,00000000000000000002\n", [0, 2, 0]),
-    ] {
+    for (text, chips) in CHIPS {
         let read = read_chips(rt.alloc(), &mut text.as_bytes(), 3)?;
         assert_eq!(rt; read.as_slice(), chips.as_slice(), "{text}");
     }
     Ok(())
 }
 
+/// Texts that mean no chips on three vertices, each with the first thing wrong with it.
+const WRONG_CHIPS: [(&str, FileFault); 23] = [
+    ("", FileFault::Header),
+    ("0,4\n", FileFault::Header),
+    ("vertex,chips,more\n", FileFault::Header),
+    ("vertex\n", FileFault::Header),
+    ("vertex, chips\n", FileFault::Header),
+    ("chips,vertex\n", FileFault::Header),
+    ("vertex,chips\n0,4\n0,1\n", FileFault::Repeated(1)),
+    ("vertex,chips\n0,-1\n", FileFault::Number(0)),
+    ("vertex,chips\n0,+1\n", FileFault::Number(0)),
+    ("vertex,chips\n0,\n", FileFault::Number(0)),
+    ("vertex,chips\n0, 1\n", FileFault::Number(0)),
+    ("vertex,chips\n0,1e3\n", FileFault::Number(0)),
+    (
+        "vertex,chips\n0,18446744073709551616\n",
+        FileFault::Number(0),
+    ),
+    (
+        "vertex,chips\n0,000000000000000000001\n",
+        FileFault::Number(0),
+    ),
+    ("vertex,chips\n0,4\nvertex,chips\n", FileFault::Number(1)),
+    ("vertex,chips\n3,x\n", FileFault::Number(0)),
+    ("vertex,chips\n3,1\n", FileFault::Vertex(0)),
+    (
+        "vertex,chips\n18446744073709551615,1\n",
+        FileFault::Vertex(0),
+    ),
+    ("vertex,chips\n0\n", FileFault::Row(0)),
+    ("vertex,chips\n1,1\n0,1,1\n", FileFault::Row(1)),
+    ("vertex,chips\n0,1099511627777\n", FileFault::Total),
+    ("vertex,chips\n0,1099511627776\n1,1\n", FileFault::Total),
+    (
+        "vertex,chips\n0,18446744073709551615\n1,1\n5,5\n",
+        FileFault::Vertex(2),
+    ),
+];
+
 #[test]
 fn names_the_first_fault_of_chips(rt: HostRuntime) {
-    for (text, fault) in [
-        ("", FileFault::Header),
-        ("0,4\n", FileFault::Header),
-        ("vertex,chips,more\n", FileFault::Header),
-        ("vertex\n", FileFault::Header),
-        ("vertex, chips\n", FileFault::Header),
-        ("chips,vertex\n", FileFault::Header),
-        ("vertex,chips\n0,4\n0,1\n", FileFault::Repeated(1)),
-        ("vertex,chips\n0,-1\n", FileFault::Number(0)),
-        ("vertex,chips\n0,+1\n", FileFault::Number(0)),
-        ("vertex,chips\n0,\n", FileFault::Number(0)),
-        ("vertex,chips\n0, 1\n", FileFault::Number(0)),
-        ("vertex,chips\n0,1e3\n", FileFault::Number(0)),
-        (
-            "vertex,chips\n0,18446744073709551616\n",
-            FileFault::Number(0),
-        ),
-        (
-            "vertex,chips\n0,000000000000000000001\n",
-            FileFault::Number(0),
-        ),
-        ("vertex,chips\n0,4\nvertex,chips\n", FileFault::Number(1)),
-        ("vertex,chips\n3,x\n", FileFault::Number(0)),
-        ("vertex,chips\n3,1\n", FileFault::Vertex(0)),
-        (
-            "vertex,chips\n18446744073709551615,1\n",
-            FileFault::Vertex(0),
-        ),
-        ("vertex,chips\n0\n", FileFault::Row(0)),
-        ("vertex,chips\n1,1\n0,1,1\n", FileFault::Row(1)),
-        ("vertex,chips\n0,1099511627777\n", FileFault::Total),
-        ("vertex,chips\n0,1099511627776\n1,1\n", FileFault::Total),
-        (
-            "vertex,chips\n0,18446744073709551615\n1,1\n5,5\n",
-            FileFault::Vertex(2),
-        ),
-    ] {
-        assert_eq!(rt;
-            read_chips(rt.alloc(), &mut text.as_bytes(), 3).err(),
-            Some(fault),
-            "{text}"
-        );
+    for (text, fault) in WRONG_CHIPS {
+        let found = read_chips(rt.alloc(), &mut text.as_bytes(), 3).err();
+        assert_eq!(rt; found, Some(fault), "{text}");
     }
-    assert_eq!(rt;
-        read_chips(rt.alloc(), &mut [0xff, b','].as_slice(), 3).err(),
-        Some(FileFault::Header)
-    );
+    let no_text = [0xff, b','];
+    let found = read_chips(rt.alloc(), &mut no_text.as_slice(), 3).err();
+    assert_eq!(rt; found, Some(FileFault::Header));
 }
 
 #[test]
 fn slow_readers_give_the_same(rt: HostRuntime) -> Result<(), Fail> {
-    let text = TRIANGLE.as_bytes();
-    let graph = read_graph(rt.alloc(), &mut Slow::new(text, None))?;
+    let graph = read_graph(rt.alloc(), &mut Slow::new(TRIANGLE.as_bytes(), None))?;
     assert_eq!(rt; (graph.vertices(), graph.edges().len()), (3, 4));
     let rows = b"vertex,chips\n2,3\n0,1\n";
     let chips = read_chips(rt.alloc(), &mut Slow::new(rows, None), 3)?;
     assert_eq!(rt; chips.as_slice(), [1, 0, 3].as_slice());
+    Ok(())
+}
+
+#[test]
+fn a_slow_reader_is_read_to_its_end(rt: HostRuntime) -> Result<(), Fail> {
+    let text = TRIANGLE.as_bytes();
     let mut slow = Slow::new(text, None);
     assert_eq!(rt; read_whole(rt.alloc(), &mut slow)?.as_slice(), text);
     assert_eq!(rt; slow.reads, text.len().saturating_add(1));
@@ -255,50 +262,50 @@ fn slow_readers_give_the_same(rt: HostRuntime) -> Result<(), Fail> {
 }
 
 #[test]
-fn a_failing_read_is_told(rt: HostRuntime) {
+fn a_failing_read_of_a_graph_is_told(rt: HostRuntime) {
     let text = TRIANGLE.as_bytes();
     for read in 0..=text.len() {
         let mut slow = Slow::new(text, Some(read));
-        assert_eq!(rt;
-            read_graph(rt.alloc(), &mut slow).err(),
-            Some(FileFault::Read)
-        );
+        let found = read_graph(rt.alloc(), &mut slow).err();
+        assert_eq!(rt; found, Some(FileFault::Read));
         assert_eq!(rt; slow.reads, read.saturating_add(1), "no further read");
     }
+}
+
+#[test]
+fn a_failing_read_of_chips_is_told(rt: HostRuntime) {
     let rows = b"vertex,chips\n2,3\n";
     for read in 0..=rows.len() {
         let mut slow = Slow::new(rows, Some(read));
-        assert_eq!(rt;
-            read_chips(rt.alloc(), &mut slow, 3).err(),
-            Some(FileFault::Read)
-        );
+        let found = read_chips(rt.alloc(), &mut slow, 3).err();
+        assert_eq!(rt; found, Some(FileFault::Read));
     }
 }
 
 #[test]
 fn the_longest_input(rt: HostRuntime) -> Result<(), Fail> {
-    let alloc = rt.alloc();
-    let mut spaces = vec![in alloc; b' '; MAX_BYTES]?;
-    assert_eq!(rt;
-        read_graph(alloc, &mut spaces.as_slice()).err(),
-        Some(FileFault::NotJson)
-    );
-    spaces.push(b' ')?;
-    assert_eq!(rt;
-        read_graph(alloc, &mut spaces.as_slice()).err(),
-        Some(FileFault::TooLong)
-    );
-    assert_eq!(rt;
-        read_chips(alloc, &mut spaces.as_slice(), 3).err(),
-        Some(FileFault::TooLong)
-    );
-    let mut endless = Endless(0);
-    assert_eq!(rt;
-        read_whole(alloc, &mut endless).err(),
-        Some(FileFault::TooLong)
-    );
-    assert_eq!(rt; endless.0, 16_777_217, "one read more than bytes");
+    let spaces = vec![in rt.alloc(); b' '; MAX_BYTES]?;
+    let found = read_graph(rt.alloc(), &mut spaces.as_slice()).err();
+    assert_eq!(rt; found, Some(FileFault::NotJson));
     Ok(())
+}
+
+#[test]
+fn one_byte_too_many(rt: HostRuntime) -> Result<(), Fail> {
+    let spaces = vec![in rt.alloc(); b' '; MAX_BYTES + 1]?;
+    let found = read_graph(rt.alloc(), &mut spaces.as_slice()).err();
+    assert_eq!(rt; found, Some(FileFault::TooLong));
+    let found = read_chips(rt.alloc(), &mut spaces.as_slice(), 3).err();
+    assert_eq!(rt; found, Some(FileFault::TooLong));
+    Ok(())
+}
+
+#[test]
+fn an_input_that_never_ends(rt: HostRuntime) {
+    let mut endless = Endless(0);
+    let found = read_whole(rt.alloc(), &mut endless).err();
+    assert_eq!(rt; found, Some(FileFault::TooLong));
+    assert_eq!(rt; endless.0, 16_777_217, "one read more than bytes");
 }
 
 /// A file of the largest graph: 4,096 vertices in a row, 16 edges from each to the one before it, and 32 from the last.

@@ -153,6 +153,11 @@ fn plays_a_long_path(rt: HostRuntime) -> Result<(), Fail> {
     assert_eq!(&rt; outcome.fired.get(0).copied(), Some(522_241));
     long_path_ends(&rt, &outcome);
     assert!(&rt; told.times > 1, "told on the way, and not at the end alone");
+    assert_eq!(&rt;
+        told.firings,
+        all_firings(&outcome.fired),
+        "told of the end"
+    );
     Ok(())
 }
 
@@ -191,11 +196,17 @@ impl Watch for Told {
     fn rounds(&mut self, more: u64, _game: &Game, _chips: &[u64], fired: &[u64]) {
         self.times = self.times.saturating_add(1);
         self.rounds = self.rounds.saturating_add(more);
-        self.firings = 0;
-        for times in fired {
-            self.firings = self.firings.saturating_add(*times);
-        }
+        self.firings = all_firings(fired);
     }
+}
+
+/// How often all vertices fired.
+fn all_firings(fired: &[u64]) -> u64 {
+    let mut all = 0u64;
+    for times in fired {
+        all = all.saturating_add(*times);
+    }
+    all
 }
 
 /// In the first round vertex 0 fires as often as it can and then vertex 1; five chips take a second round.

@@ -2,6 +2,7 @@ pub mod ChainLemmas
 pub mod CheckLemmas
 pub mod EngineLemmas
 pub mod LineLemmas
+pub mod ExplainLemmas
 pub mod SittingLemmas
 pub mod BoardLemmas
 pub mod AnswerLemmas

@@ -5,6 +5,7 @@ pub mod Lines
 pub mod PlainCommand
 pub mod Board
 pub mod CheckCommand
+pub mod ExplainCommand
 pub mod ReplayCommand
 pub mod SimulateCommand
 pub mod ResumeCommand

@@ -1,5 +1,5 @@
 -- Worked rows, as the definitions compute them.
-use Rattle.std.specs.Prelude.{◌≡◌, ℕ, List, [], ◌∷◌, ◌++◌, codes, slice_index}
+use Rattle.std.specs.Prelude.{◌≡◌, ℕ, List, [], ◌∷◌, ◌++◌, codes, slice_index, Some, None}
 use Rattle.chip_fire.specs.Firing.{legal_vertices}
 use Rattle.chip_fire.specs.Sequence.{position_after, counts}
 use Rattle.chip_graph.specs.Worked.{triangle}
@@ -8,9 +8,11 @@ use Rattle.chip_fire.specs.Resume.{fired_in_all}
 use Rattle.chip_fire.specs.declared.sitting.Resumed.{Resumed}
 use Rattle.chip_fire.specs.declared.sitting.ResumeFault.TheVariants.{Mismatch, Total, Limit, Prior}
 use Rattle.chip_report.specs.ReportTwo.{report_two_text}
+use Rattle.chip_faults.specs.declared.table.Explanation.{Explanation}
 use Rattle.chip_engine.specs.Faults.{fault_of_resume}
 use Rattle.chip_engine.specs.FaultNumbers.{number_of, location_of}
 use Rattle.chip_engine.specs.PlainCommand.{plain_status}
+use Rattle.chip_engine.specs.ExplainCommand.{explanation}
 use Rattle.chip_engine.specs.declared.fault.Fault.TheVariants.{NotReport}
 use Rattle.chip_engine.specs.declared.fault.Location.TheVariants.{Nowhere, At}
 
@@ -48,3 +50,25 @@ RefusalsAreNumbered =
     × (number_of (fault_of_resume (Prior 3)) ≡ 51) × (location_of (fault_of_resume (Prior 3)) ≡ At 3)
     × (number_of (fault_of_resume Mismatch) ≡ 52) × (location_of (fault_of_resume Mismatch) ≡ Nowhere)
     × (number_of (fault_of_resume Total) ≡ 10) × (number_of (fault_of_resume Limit) ≡ 11)
+
+-- a row that says what fault 6 is, and what to do
+pub record SaysLoop (row : Explanation) : Type 0 where
+  pub number : row.number ≡ 6
+  pub name : row.name.now ≡ codes "Loop"
+  pub letters : row.place.letters.now ≡ codes " i"
+  pub reading : row.place.reading.now ≡ codes "i is an edge.\n"
+  pub meaning : row.meaning.now ≡ codes "edge i is a loop"
+  pub advice : row.advice.now ≡ codes "Leave it out.\n"
+
+-- what a table of this row has to say of fault 6, of fault 7 and of all faults
+pub record IsExplained (row : Explanation) : Type 0 where
+  pub asked : explanation (row ∷ []) (Some 6)
+      ≡ Some (codes "fault 6 Loop i: edge i is a loop\n\ni is an edge.\nLeave it out.\n")
+  pub unknown : explanation (row ∷ []) (Some 7) ≡ None
+  pub listed : explanation (row ∷ []) None
+      ≡ Some (codes "fault 6 Loop i: edge i is a loop\n"
+      ++ codes "\n`chipfire explain N` says more of fault N, and docs/FORMATS.md has the files.\n")
+
+-- a row, explained
+abbrev pub LoopIsExplained : Type 0
+LoopIsExplained = (row : Explanation) → SaysLoop row → IsExplained row

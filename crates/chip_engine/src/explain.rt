@@ -1,27 +1,28 @@
-//! `explain`: what a fault means, how to read its numbers and what to do, from the table of faults.
+//! `explain`: what a fault means, how to read its numbers and what to do, from a table of faults.
 
-ghost use Rattle.std.specs.Prelude.{◌≡◌};
-ghost use Rattle.std.specs.Option.{ForSome};
+ghost use Rattle.std.specs.Prelude.{◌≡◌, ◌++◌, IfOk, MatchResult, option_map, string_bytes};
+ghost use Rattle.chip_engine.specs.ExplainCommand.{ExplainAnswers, TellsNothing, explanation, line_text, row_text};
+ghost use Rattle.chip_engine.specs.ExplainCommand.{row_with, table_text};
 
 use crate::ended::{DONE, Ended};
 use crate::fault::Fault;
-use chip_faults::{EXPLANATIONS, Explanation};
+use chip_faults::Explanation;
 use chip_report::write_all_of;
 use std::alloc::{AllocError, Global};
 use std::io::Write;
 
-/// Explains the fault with this number, or lists all faults, a line each, where no number is given.
+/// Explains the fault of a table with this number, or lists all its faults, a line each, where no number is given.
 ///
-/// `Fault::Usage` where no fault of the program has the number.
+/// `Fault::Usage` where no row of the table has the number.
 pub fn explain_engine<W: Write>(
     alloc: Global,
+    table: &[Explanation],
     number: Option<u64>,
     output: &mut W,
-) -> Result<Ended, Fault> {
-    let text = match number {
-        Some(number) => explained(alloc, explanation_of(number).ok_or(Fault::Usage)?)?,
-        None => listed(alloc)?,
-    };
+) -> Result<Ended, Fault>
+    ensures { ExplainAnswers (explanation table.now number) (W.contents output.old) (W.contents output.new) result }
+{
+    let text = told(alloc, table, number)?;
     write_all_of(output, text.as_bytes())?;
     Ok(Ended {
         status: DONE,
@@ -29,25 +30,41 @@ pub fn explain_engine<W: Write>(
     })
 }
 
-/// The row of the table with this number, where there is one.
-fn explanation_of(number: u64) -> Option<Explanation>
-    ensures { ForSome result (λ row. row.number ≡ number) }
+/// What a table says of the fault with this number, or of all its faults.
+fn told(alloc: Global, table: &[Explanation], number: Option<u64>) -> Result<String, Fault>
+    ensures { MatchResult result (λ text. explanation table.now number ≡ Some (string_bytes text))
+        (TellsNothing (explanation table.now number)) }
 {
-    EXPLANATIONS.into_iter().find(|row| row.number == number)
+    let Some(number) = number else {
+        return Ok(listed(alloc, table)?);
+    };
+    let row = row_of(table, number).ok_or(Fault::Usage)?;
+    Ok(explained(alloc, row)?)
+}
+
+/// The row of a table with this number, where there is one.
+fn row_of(table: &[Explanation], number: u64) -> Option<&Explanation>
+    ensures { option_map (λ row. row.now) result ≡ row_with table.now number }
+{
+    table.iter().find(|row| row.number == number)
 }
 
 /// All that the table says of one fault.
-fn explained(alloc: Global, row: Explanation) -> Result<String, AllocError> {
+fn explained(alloc: Global, row: &Explanation) -> Result<String, AllocError>
+    ensures { IfOk result (λ text. string_bytes text ≡ row_text row.now) }
+{
     let mut text = String::new(alloc);
     push_line(&mut text, row)?;
-    write!(text, "\n{}{}", row.place.reading(), row.advice)?;
+    write!(text, "\n{}{}", row.place.reading, row.advice)?;
     Ok(text)
 }
 
-/// A line for each fault.
-fn listed(alloc: Global) -> Result<String, AllocError> {
+/// A line for each fault of a table, and where more is said.
+fn listed(alloc: Global, table: &[Explanation]) -> Result<String, AllocError>
+    ensures { IfOk result (λ text. string_bytes text ≡ table_text table.now) }
+{
     let mut text = String::new(alloc);
-    for row in EXPLANATIONS {
+    for row in table {
         push_line(&mut text, row)?;
     }
     text.push_str(
@@ -57,11 +74,12 @@ fn listed(alloc: Global) -> Result<String, AllocError> {
 }
 
 /// Appends a fault and what it means, on one line.
-fn push_line(text: &mut String, row: Explanation) -> Result<(), AllocError> {
-    let letters = row.place.letters();
+fn push_line(text: &mut String, row: &Explanation) -> Result<(), AllocError>
+    ensures { IfOk result (λ _. string_bytes text.new ≡ string_bytes text.old ++ line_text row.now) }
+{
     write!(
         text,
-        "fault {} {}{letters}: {}\n",
-        row.number, row.name, row.meaning
+        "fault {} {}{}: {}\n",
+        row.number, row.name, row.place.letters, row.meaning
     )
 }

@@ -1,12 +1,17 @@
 //! Laws of the commands: functions that do nothing, whose contracts are the laws.
 
-ghost use Rattle.chip_engine.specs.Worked.{TriangleGoesOn, RefusalsAreNumbered};
+ghost use Rattle.chip_engine.specs.Worked.{TriangleGoesOn, RefusalsAreNumbered, LoopIsExplained};
 ghost use Rattle.chip_engine.specs.Sittings.{PlainTellsPlay, SimulateTellsPlay, ResumedPlaysAddUp};
 
 /// A sitting that went on, and the refusals of going on, as the definitions compute them.
 pub fn worked_sitting()
     ensures triangle { TriangleGoesOn }
     ensures refusals { RefusalsAreNumbered }
+{}
+
+/// A table of one row, as the definitions read it.
+pub fn worked_row()
+    ensures { LoopIsExplained }
 {}
 
 /// The reports of a play in several sittings add up, however many there are and whatever stopped each: `plain` or

@@ -1,83 +1,79 @@
 //! The table of faults: the number and the name of each, what it means, and what to do.
 
 /// What the numbers behind a fault's name are.
-#[derive(Clone, Copy, Debug, PartialEq, Eq)]
-pub enum Place {
-    /// There is none.
-    Nowhere,
-    /// The number of an edge of the graph.
-    Edge,
-    /// The number of a vertex.
-    Vertex,
-    /// A row of a file of rows, from 0 below the header.
-    Row,
-    /// A vertex, and a row among its own in a trace, from 0.
-    TraceRow,
-    /// An argument behind the command, from 1.
-    Argument,
-    /// How many bytes went out.
-    Bytes,
-    /// How many messages of the root are not acknowledged.
-    Messages,
+#[derive(Clone, Copy, Debug)]
+pub struct Place {
+    /// What stands for the numbers behind the name, each after a space.
+    pub letters: &'static str,
+    /// How to read the numbers, as lines.
+    pub reading: &'static str,
 }
 
 impl Place {
-    /// What stands for the numbers behind the name, each after a space.
-    pub fn letters(self) -> &'static str {
-        match self {
-            Place::Nowhere => "",
-            Place::Edge | Place::Row => " i",
-            Place::Vertex => " v",
-            Place::TraceRow => " v i",
-            Place::Argument => " n",
-            Place::Bytes | Place::Messages => " n",
-        }
-    }
+    /// There are no numbers.
+    pub const NOWHERE: Place = Place {
+        letters: "",
+        reading: "",
+    };
 
-    /// How to read the numbers, as lines.
-    pub fn reading(self) -> &'static str {
-        match self {
-            Place::Nowhere => "",
-            Place::Edge => {
-                "\
+    /// The number of an edge of the graph.
+    pub const EDGE: Place = Place {
+        letters: " i",
+        reading: "\
 i is an edge: the row of \"edges\" that has i rows before it. The first one is edge 0.
-"
-            }
-            Place::Vertex => {
-                "\
+",
+    };
+
+    /// The number of a vertex.
+    pub const VERTEX: Place = Place {
+        letters: " v",
+        reading: "\
 v is a vertex: a number from 0 on.
-"
-            }
-            Place::Row => {
-                "\
+",
+    };
+
+    /// A row of a file of rows, from 0 below the header.
+    pub const ROW: Place = Place {
+        letters: " i",
+        reading: "\
 i is a row below the header, and the first one is row 0. So it is line i + 2 of the
 file, where lines that are empty are not counted.
-"
-            }
-            Place::TraceRow => {
-                "\
+",
+    };
+
+    /// A vertex, and a row among its own in a trace, from 0.
+    pub const TRACE_ROW: Place = Place {
+        letters: " v i",
+        reading: "\
 v is a vertex, and i one of its rows: the one that has i rows of v before it in the
 file, rows of other vertices left out.
-"
-            }
-            Place::Argument => {
-                "\
+",
+    };
+
+    /// An argument behind the command, from 1.
+    pub const ARGUMENT: Place = Place {
+        letters: " n",
+        reading: "\
 n is the argument that names the file: of the arguments behind the command the first
 one is 1, and options and their values count.
-"
-            }
-            Place::Bytes => {
-                "\
+",
+    };
+
+    /// How many bytes went out.
+    pub const BYTES: Place = Place {
+        letters: " n",
+        reading: "\
 n is how many bytes went out before.
-"
-            }
-            Place::Messages => {
-                "\
+",
+    };
+
+    /// How many messages of the root are not acknowledged.
+    pub const MESSAGES: Place = Place {
+        letters: " n",
+        reading: "\
 n is how many messages of the root were not acknowledged yet.
-"
-            }
-        }
-    }
+",
+    };
 }
 
 /// A row of the table.
@@ -96,7 +92,7 @@ pub struct Explanation {
 pub const VERTICES: Explanation = Explanation {
     number: 1,
     name: "Vertices",
-    place: Place::Nowhere,
+    place: Place::NOWHERE,
     meaning: "the graph has no vertices, or more than 4096",
     advice: "\
 \"vertices\" of the graph file says how many there are, 1 to 4096; they are the numbers
@@ -107,7 +103,7 @@ from 0 on.
 pub const SINK: Explanation = Explanation {
     number: 2,
     name: "Sink",
-    place: Place::Nowhere,
+    place: Place::NOWHERE,
     meaning: "the sink is no vertex",
     advice: "\
 \"sink\" of the graph file names the vertex that never fires: a number from 0 to one less
@@ -118,7 +114,7 @@ than \"vertices\".
 pub const EDGE_COUNT: Explanation = Explanation {
     number: 3,
     name: "EdgeCount",
-    place: Place::Nowhere,
+    place: Place::NOWHERE,
     meaning: "the graph has more than 65536 edges",
     advice: "\
 Rows that join the same two vertices can be one row, whose third number is the sum of
@@ -129,7 +125,7 @@ theirs: the same game is played on it.
 pub const ENDPOINT: Explanation = Explanation {
     number: 4,
     name: "Endpoint",
-    place: Place::Edge,
+    place: Place::EDGE,
     meaning: "an end of edge i is no vertex",
     advice: "\
 A row is [tail, head, mult]; tail and head are numbers from 0 to one less than
@@ -140,7 +136,7 @@ A row is [tail, head, mult]; tail and head are numbers from 0 to one less than
 pub const MULT: Explanation = Explanation {
     number: 5,
     name: "Mult",
-    place: Place::Edge,
+    place: Place::EDGE,
     meaning: "edge i sends no chips, or more than 1048576",
     advice: "\
 A row is [tail, head, mult]; mult says how many chips each firing of the tail sends to the
@@ -151,7 +147,7 @@ head, 1 to 1048576. Leave out an edge that sends none.
 pub const LOOP: Explanation = Explanation {
     number: 6,
     name: "Loop",
-    place: Place::Edge,
+    place: Place::EDGE,
     meaning: "edge i goes back into its own tail",
     advice: "\
 A row is [tail, head, mult], and tail and head are two vertices. Games with loops are not
@@ -162,7 +158,7 @@ played here.
 pub const FROM_SINK: Explanation = Explanation {
     number: 7,
     name: "FromSink",
-    place: Place::Edge,
+    place: Place::EDGE,
     meaning: "edge i leaves the sink",
     advice: "\
 The sink never fires, so such an edge would send nothing: leave it out. A graph without
@@ -173,7 +169,7 @@ directions has an edge each way between two vertices, but none out of its sink.
 pub const UNREACHED: Explanation = Explanation {
     number: 8,
     name: "Unreached",
-    place: Place::Vertex,
+    place: Place::VERTEX,
     meaning: "no walk leads from vertex v to the sink",
     advice: "\
 It is the least such vertex. Chips that come there could not leave, and a play might
@@ -185,7 +181,7 @@ sink: add an edge, or leave the vertex out.
 pub const START_LENGTH: Explanation = Explanation {
     number: 9,
     name: "StartLength",
-    place: Place::Nowhere,
+    place: Place::NOWHERE,
     meaning: "the chips are not one number for each vertex",
     advice: "\
 Only callers of the library chip_graph meet this. The program reads its chips from rows
@@ -196,7 +192,7 @@ that name their vertices.
 pub const TOTAL: Explanation = Explanation {
     number: 10,
     name: "Total",
-    place: Place::Nowhere,
+    place: Place::NOWHERE,
     meaning: "there are more than 1099511627776 chips in all",
     advice: "\
 That is 2^40. The chips of all vertices together count, those on the sink among them, and
@@ -207,7 +203,7 @@ those of the file of `--feed`.
 pub const LIMIT: Explanation = Explanation {
     number: 11,
     name: "Limit",
-    place: Place::Nowhere,
+    place: Place::NOWHERE,
     meaning: "the firing limit is above 1099511627776",
     advice: "\
 That is 2^40. Only callers of the libraries meet this: on the command line such a limit
@@ -218,7 +214,7 @@ is fault 91.
 pub const NOT_JSON: Explanation = Explanation {
     number: 20,
     name: "NotJson",
-    place: Place::Nowhere,
+    place: Place::NOWHERE,
     meaning: "the graph file is no JSON",
     advice: "\
 Its bytes are no UTF-8, or the whole of them is no JSON value: it is empty or was cut off,
@@ -231,7 +227,7 @@ graph is refused so too: the graph comes first.
 pub const SHAPE: Explanation = Explanation {
     number: 21,
     name: "Shape",
-    place: Place::Nowhere,
+    place: Place::NOWHERE,
     meaning: "the JSON is no graph",
     advice: "\
 A graph file is one object with exactly these four members, in any order:
@@ -245,7 +241,7 @@ writes one, but has a sign, a point, an exponent or quotes (-1, 1.0, 1e3, \"2\")
 pub const VERSION: Explanation = Explanation {
     number: 22,
     name: "Version",
-    place: Place::Nowhere,
+    place: Place::NOWHERE,
     meaning: "the version of the graph file is not 1",
     advice: "\
 1 is the only version of graph files: write \"version\":1.
@@ -255,7 +251,7 @@ pub const VERSION: Explanation = Explanation {
 pub const HEADER: Explanation = Explanation {
     number: 23,
     name: "Header",
-    place: Place::Nowhere,
+    place: Place::NOWHERE,
     meaning: "a file of rows does not begin with its header",
     advice: "\
 The first line of each file is, without spaces,
@@ -270,7 +266,7 @@ command tells the order.
 pub const ROW: Explanation = Explanation {
     number: 24,
     name: "Row",
-    place: Place::Row,
+    place: Place::ROW,
     meaning: "row i has not as many fields as the header",
     advice: "\
 A row of a chips file has two fields, one of a schedule three, one of a trace four, with
@@ -281,7 +277,7 @@ commas between them and none at the end.
 pub const NUMBER: Explanation = Explanation {
     number: 25,
     name: "Number",
-    place: Place::Row,
+    place: Place::ROW,
     meaning: "a field of row i is no number",
     advice: "\
 A number is 1 to 20 digits, of a value up to 18446744073709551615. There is no sign, no
@@ -293,7 +289,7 @@ looks at has to be one, as the count of a take.
 pub const VERTEX: Explanation = Explanation {
     number: 26,
     name: "Vertex",
-    place: Place::Row,
+    place: Place::ROW,
     meaning: "row i names a vertex or an edge that is not there",
     advice: "\
 Vertices are the numbers from 0 to one less than \"vertices\" of the graph file. Edges, in
@@ -305,7 +301,7 @@ for each vertex: with m edges, m + v brings vertex v its first chips.
 pub const REPEATED: Explanation = Explanation {
     number: 27,
     name: "Repeated",
-    place: Place::Row,
+    place: Place::ROW,
     meaning: "row i names a vertex that an earlier row named",
     advice: "\
 A chips file has one row for a vertex: add the chips of its rows up. A vertex that no row
@@ -316,7 +312,7 @@ names has none.
 pub const KIND: Explanation = Explanation {
     number: 28,
     name: "Kind",
-    place: Place::Row,
+    place: Place::ROW,
     meaning: "row i is of no kind that there is",
     advice: "\
 In a schedule the first field is take, ack, fire, clear, claim, put, halt, settle, seal or
@@ -327,7 +323,7 @@ read; in a trace the second is take or fire. Small letters, and no spaces.
 pub const READ: Explanation = Explanation {
     number: 29,
     name: "Read",
-    place: Place::Nowhere,
+    place: Place::NOWHERE,
     meaning: "a file could be opened and not read",
     advice: "\
 That is so of a folder. Else the system refused a read: try again, or copy the file.
@@ -337,7 +333,7 @@ That is so of a folder. Else the system refused a read: try again, or copy the f
 pub const TOO_LONG: Explanation = Explanation {
     number: 30,
     name: "TooLong",
-    place: Place::Nowhere,
+    place: Place::NOWHERE,
     meaning: "a file has more than 16777216 bytes",
     advice: "\
 That is 16 MiB, for each file. A graph of the greatest size is well below it if it is
@@ -348,7 +344,7 @@ written without spaces.
 pub const NOT_CLOSED: Explanation = Explanation {
     number: 42,
     name: "NotClosed",
-    place: Place::Nowhere,
+    place: Place::NOWHERE,
     meaning: "the root is not closed, so there is no outcome",
     advice: "\
 Only callers of the library chip_world meet this. `simulate` says `root open` instead.
@@ -358,7 +354,7 @@ Only callers of the library chip_world meet this. `simulate` says `root open` in
 pub const NOT_REPORT: Explanation = Explanation {
     number: 50,
     name: "NotReport",
-    place: Place::Nowhere,
+    place: Place::NOWHERE,
     meaning: "the file is no report",
     advice: "\
 A report is read only as chipfire writes it, to the byte and with the newline at its end:
@@ -371,7 +367,7 @@ alone is the report.
 pub const PRIOR: Explanation = Explanation {
     number: 51,
     name: "Prior",
-    place: Place::Vertex,
+    place: Place::VERTEX,
     meaning: "vertex v fired more than 1152921504606846976 times in all sittings",
     advice: "\
 That is 2^60, the most that a report counts. Begin anew: a chips file with the report's
@@ -382,7 +378,7 @@ chips is the same position.
 pub const MISMATCH: Explanation = Explanation {
     number: 52,
     name: "Mismatch",
-    place: Place::Nowhere,
+    place: Place::NOWHERE,
     meaning: "the report has another number of vertices than the graph",
     advice: "\
 A report belongs to the graph on which it was played. It does not tell which one that is,
@@ -393,7 +389,7 @@ so name the graph file that the earlier command had.
 pub const PLAN: Explanation = Explanation {
     number: 60,
     name: "Plan",
-    place: Place::Nowhere,
+    place: Place::NOWHERE,
     meaning: "a number of the plan for the threads is out of its range",
     advice: "\
 A plan has 1 to 64 workers, rings of 1 to 64 cells, 1 to 2^40 turns of each worker, up to
@@ -405,7 +401,7 @@ tests its options itself, so this comes from programs that call the engine.
 pub const UNFINISHED: Explanation = Explanation {
     number: 61,
     name: "Unfinished",
-    place: Place::Messages,
+    place: Place::MESSAGES,
     meaning: "the threads made all their turns before the game was over",
     advice: "\
 Nothing is wrong with the game, but its end was not reached, so no report was written.
@@ -417,7 +413,7 @@ Allow more turns by `--turns`, or leave the option away.
 pub const GATE_SHUT: Explanation = Explanation {
     number: 62,
     name: "GateShut",
-    place: Place::Nowhere,
+    place: Place::NOWHERE,
     meaning: "a worker was not let into its next turn",
     advice: "\
 The gate that a program hands to the crew answered false. That of `chipfire run` never
@@ -428,7 +424,7 @@ does.
 pub const LOST: Explanation = Explanation {
     number: 63,
     name: "Lost",
-    place: Place::Vertex,
+    place: Place::VERTEX,
     meaning: "the actor of a vertex was not there when the threads had ended",
     advice: "\
 This should not happen: it is a mistake of the program. Please report it, with the files.
@@ -438,7 +434,7 @@ This should not happen: it is a mistake of the program. Please report it, with t
 pub const DOUBLED: Explanation = Explanation {
     number: 64,
     name: "Doubled",
-    place: Place::Vertex,
+    place: Place::VERTEX,
     meaning: "there were two actors of a vertex when the threads had ended",
     advice: "\
 This should not happen: it is a mistake of the program. Please report it, with the files.
@@ -448,7 +444,7 @@ This should not happen: it is a mistake of the program. Please report it, with t
 pub const SPAWN: Explanation = Explanation {
     number: 65,
     name: "Spawn",
-    place: Place::Nowhere,
+    place: Place::NOWHERE,
     meaning: "a thread could not be started",
     advice: "\
 The system allows no more threads, or has no memory for another. Try fewer by
@@ -459,7 +455,7 @@ The system allows no more threads, or has no memory for another. Try fewer by
 pub const STUCK: Explanation = Explanation {
     number: 70,
     name: "Stuck",
-    place: Place::TraceRow,
+    place: Place::TRACE_ROW,
     meaning: "the rows of a trace fit together in no order",
     advice: "\
 However the rows of the vertices are put into one list, some row is not met where it
@@ -472,7 +468,7 @@ trace of other chips, of another graph or limit, or one that was cut is refused 
 pub const NO_MEMORY: Explanation = Explanation {
     number: 90,
     name: "NoMemory",
-    place: Place::Nowhere,
+    place: Place::NOWHERE,
     meaning: "memory ran out",
     advice: "\
 Nothing was written. Let the process have more memory, or give it smaller files.
@@ -482,7 +478,7 @@ Nothing was written. Let the process have more memory, or give it smaller files.
 pub const USAGE: Explanation = Explanation {
     number: 91,
     name: "Usage",
-    place: Place::Nowhere,
+    place: Place::NOWHERE,
     meaning: "the arguments are no command",
     advice: "\
 `chipfire --help` lists the commands, and `--help` behind a command its files and options
@@ -494,7 +490,7 @@ has not, an option given twice, a number out of its range, a name that is no UTF
 pub const OPEN: Explanation = Explanation {
     number: 92,
     name: "Open",
-    place: Place::Argument,
+    place: Place::ARGUMENT,
     meaning: "the file that argument n names could not be opened",
     advice: "\
 There is no such file, or it may not be read. Names go from the folder in which the
@@ -505,7 +501,7 @@ program was started.
 pub const WRITE: Explanation = Explanation {
     number: 93,
     name: "Write",
-    place: Place::Bytes,
+    place: Place::BYTES,
     meaning: "the output could not be written to its end",
     advice: "\
 The disk is full, or who should read it ended first, as `head` does. What was written is

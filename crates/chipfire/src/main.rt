@@ -10,8 +10,8 @@ use arguments::{
 };
 use chip_crew::Plan;
 pub use chip_engine::{
-    DONE, Ended, Fault, check_engine, explain_engine, plain_engine, plain_engine_watched,
-    replay_engine, resume_engine, simulate_engine,
+    DONE, EXPLANATIONS, Ended, Fault, check_engine, explain_engine, plain_engine,
+    plain_engine_watched, replay_engine, resume_engine, simulate_engine,
 };
 use chip_graph::MAX_LIMIT;
 use chip_report::write_all_of;
@@ -69,7 +69,7 @@ fn run<R: Env + Files + Print + Eprint + Clock + AllocGlobal + Threads + Wait + 
         Request::Run(asked) => play_on_threads(rt, asked, &mut output),
         Request::Replay(game, trace) => replay(rt, game, trace, &mut output),
         Request::Resume(sitting) => resume(rt, sitting, &mut output),
-        Request::Explain(number) => explain_engine(alloc, number, &mut output),
+        Request::Explain(number) => explain(rt, number, &mut output),
     }
 }
 
@@ -180,6 +180,15 @@ fn resume<R: Files + AllocGlobal, W: io::Write>(
     let mut graph = open(rt, sitting.graph)?;
     let mut report = open(rt, sitting.report)?;
     resume_engine(rt.alloc(), &mut graph, &mut report, sitting.limit, output)
+}
+
+/// Explains a fault of the program, or lists them.
+fn explain<R: AllocGlobal, W: io::Write>(
+    rt: &R,
+    number: Option<u64>,
+    output: &mut W,
+) -> Result<Ended, Fault> {
+    explain_engine(rt.alloc(), &EXPLANATIONS, number, output)
 }
 
 /// Opens the file that an argument names. Nothing is allocated for it, so where the system wants memory the file could

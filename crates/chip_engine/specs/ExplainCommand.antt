@@ -1,0 +1,50 @@
+-- From the number of a fault to what a table of faults says of it.
+use Rattle.std.specs.Prelude.{◌≡◌, ◌⊎◌, ◌==◌, ℕ, List, ◌++◌, false, codes, find, Option, Some, None, option_map}
+use Rattle.std.specs.Prelude.{Result, Ok, Err}
+use Rattle.std.specs.Fmt.{decimal}
+use Rattle.std.specs.Io.KnownBytes.{Appends, Keeps}
+use Rattle.chip_faults.specs.declared.table.Explanation.{Explanation}
+use Rattle.chip_report.specs.Written.{WritesAll}
+use Rattle.chip_report.specs.declared.write.WriteFault.{WriteFault}
+use Rattle.chip_engine.specs.Lines.{lines_text}
+use Rattle.chip_engine.specs.declared.ended.Ended.{Ended}
+use Rattle.chip_engine.specs.declared.fault.Fault.{Fault}
+use Rattle.chip_engine.specs.declared.fault.Fault.TheVariants.{Write, NoMemory, Usage}
+
+-- a fault and what it means, on one line
+abbrev pub line_text : Explanation → List ℕ
+line_text row =
+    codes "fault " ++ decimal row.number ++ codes " " ++ row.name.now ++ row.place.letters.now ++ codes ": "
+    ++ row.meaning.now ++ codes "\n"
+
+-- all that is said of one fault: its line, an empty line, how to read its numbers, and what to do
+abbrev pub row_text : Explanation → List ℕ
+row_text row = line_text row ++ codes "\n" ++ row.place.reading.now ++ row.advice.now
+
+-- a line for each fault of a table, and where more is said
+abbrev pub table_text : List Explanation → List ℕ
+table_text table =
+    lines_text line_text table
+    ++ codes "\n`chipfire explain N` says more of fault N, and docs/FORMATS.md has the files.\n"
+
+-- the row of a table with this number, where there is one
+abbrev pub row_with : List Explanation → ℕ → Option Explanation
+row_with table number = find (λ row. row.number == number) table
+
+-- what a table has to say: of the fault with a number, where a row has it; of all faults where no number is given
+abbrev pub explanation : List Explanation → Option ℕ → Option (List ℕ)
+explanation table (Some number) = option_map row_text (row_with table number)
+explanation table None = Some (table_text table)
+
+-- why nothing is told: there is nothing to say, or else want of memory
+abbrev pub TellsNothing : Option (List ℕ) → Fault → Type 0
+TellsNothing None fault = fault ≡ Usage
+TellsNothing (Some text) fault = fault ≡ NoMemory
+
+-- what `explain` answers: all that there is to say; or nothing is written, and why; or the output failed
+abbrev pub ExplainAnswers : Option (List ℕ) → Option (List ℕ) → Option (List ℕ) → Result Ended Fault → Type 0
+ExplainAnswers said old new (Ok ended) =
+    (text : List ℕ) × (said ≡ Some text) × Appends old new text × (ended ≡ record { status = 0; cut = false })
+ExplainAnswers said old new (Err fault) =
+    (TellsNothing said fault × Keeps old new)
+    ⊎ ((text : List ℕ) × (said ≡ Some text) × (w : WriteFault) × (fault ≡ Write w) × WritesAll old new text (Err w))

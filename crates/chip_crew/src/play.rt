@@ -17,7 +17,7 @@ use crate::ending::last_poll;
 use crate::fault::CrewFault;
 use crate::lead::Helm;
 use crate::plan::{Gate, Plan, are_feeds, are_within_total};
-use crate::queue::{Line, LinePass, Moves, Room};
+use crate::queue::{Line, LinePass, Puts, Room, Takes};
 use crate::roll::{Roll, empty_roll, gathered, note};
 use crate::staff::{Joined, Started, staff};
 use crate::worker::Floor;
@@ -57,7 +57,7 @@ fn fill<B: Room>(
 {
     for actor in actors {
         let boxed = BoxedActor::new(alloc, actor)?;
-        if let Err(actor) = line.try_push_as::<Moves<B>>(pass, boxed) {
+        if let Err(actor) = line.try_push_as::<Puts<B>>(pass, boxed) {
             note::<B>(roll, actor.into_actor());
         }
     }
@@ -71,7 +71,7 @@ fn drain<B: Room>(line: &Line<B>, mut pass: LinePass, roll: &mut Roll)
     ensures roll { IsRoll B.crew roll.new }
 {
     for _ in 0..line.capacity() {
-        match line.try_pop_as::<Moves<B>>(&mut pass) {
+        match line.try_pop_as::<Takes<B>>(&mut pass) {
             Some(actor) => note::<B>(roll, actor.into_actor()),
             None => break,
         }

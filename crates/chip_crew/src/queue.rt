@@ -1,8 +1,9 @@
 //! The queue of the actors, and the rule that it keeps.
 
 use crate::boxed::BoxedActor;
-use crossbeam_queue::protocol::{Lesson, Outcome, Protocol};
+use crossbeam_queue::protocol::{Outcome, Protocol};
 use crossbeam_queue::{Pass, RuledArrayQueue};
+use std::collections::LinkedList;
 use std::marker::{Brand, PhantomData};
 
 /// Which net's actors a crew shares, the root with which it begins, what it has to feed, how many turns each worker makes
@@ -40,40 +41,57 @@ impl Room for Brand {
     ghost shut = { ⊥ };
 }
 
+/// What a thread did at the queue: the actors that it took from there, and those that it put there, each in their order.
+/// No value of it is made.
+pub(crate) struct Ledger {
+    pub taken: LinkedList<BoxedActor>,
+    pub put: LinkedList<BoxedActor>,
+}
+
 /// The rule: every actor in the queue was opened by this net.
 pub(crate) struct Owned<B> {
     of: PhantomData<B>,
 }
 
-impl<B: Room> Protocol<BoxedActor, ()> for Owned<B> {
+impl<B: Room> Protocol<BoxedActor, Ledger> for Owned<B> {
     ghost use Rattle.std.specs.Prelude.{All};
     ghost use Rattle.chip_crew.specs.Crew.{IsOurs};
+    ghost use Rattle.chip_crew.specs.Ledger.{new_ledger};
 
     ghost holds = { λ items _. All (IsOurs B.crew) items };
 
-    ghost first = { tt };
+    ghost first = { new_ledger };
 }
 
-/// An actor goes in or comes out: it was opened by this net.
-pub(crate) struct Moves<B> {
+/// An actor comes out: it was opened by this net, and the ledger has it as taken.
+pub(crate) struct Takes<B> {
     of: PhantomData<B>,
 }
 
-impl<B: Room> Outcome<BoxedActor, ()> for Moves<B> {
+impl<B: Room> Outcome<BoxedActor, Ledger> for Takes<B> {
+    ghost use Rattle.std.specs.Prelude.{◌≡◌};
     ghost use Rattle.chip_crew.specs.Crew.{IsOurs};
+    ghost use Rattle.chip_crew.specs.Ledger.{with_taken};
 
-    ghost then = { λ _ a _. IsOurs B.crew a };
+    ghost then = { λ old a new. IsOurs B.crew a × (new ≡ with_taken old a) };
 }
 
-impl<B> Lesson<BoxedActor, ()> for Moves<B> {
-    ghost use Rattle.std.specs.Prelude.{⊤};
+/// An actor goes in: it was opened by this net, and the ledger has it as put.
+pub(crate) struct Puts<B> {
+    of: PhantomData<B>,
+}
 
-    ghost fact = { λ _ _. ⊤ };
+impl<B: Room> Outcome<BoxedActor, Ledger> for Puts<B> {
+    ghost use Rattle.std.specs.Prelude.{◌≡◌};
+    ghost use Rattle.chip_crew.specs.Crew.{IsOurs};
+    ghost use Rattle.chip_crew.specs.Ledger.{with_put};
+
+    ghost then = { λ old a new. IsOurs B.crew a × (new ≡ with_put old a) };
 }
 
 /// The queue of the actors that no worker has at the moment. It has each in a box, so that going in or out moves a
 /// pointer and not the actor.
-pub(crate) type Line<B> = RuledArrayQueue<BoxedActor, (), Owned<B>>;
+pub(crate) type Line<B> = RuledArrayQueue<BoxedActor, Ledger, Owned<B>>;
 
-/// A thread's right to use the queue.
-pub(crate) type LinePass = Pass<BoxedActor, ()>;
+/// A thread's right to use the queue. Proofs alone know its ledger.
+pub(crate) type LinePass = Pass<BoxedActor, Ledger>;

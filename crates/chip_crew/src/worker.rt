@@ -1,13 +1,14 @@
 //! What each worker does.
 
 ghost use Rattle.std.specs.Prelude.{◌≡◌, IfSome};
-ghost use Rattle.crossbeam_queue.specs.Passes.{IsPassOf};
+ghost use Rattle.crossbeam_queue.specs.Passes.{view, IsPassOf};
 ghost use Rattle.chip_crew.specs.Crew.{IsOurs};
+ghost use Rattle.chip_crew.specs.Ledger.{IsNext, MakesOneTurn};
 ghost use Rattle.chip_crew.specs.Staff.{TellsShut, IsShift};
 
 use crate::boxed::BoxedActor;
 use crate::plan::Gate;
-use crate::queue::{Line, LinePass, Moves, Room};
+use crate::queue::{Line, LinePass, Puts, Room, Takes};
 use chip_net::{Net, Turn};
 use std::sync::atomic::AtomicBool;
 use std::sync::atomic::Ordering::SeqCst;
@@ -44,10 +45,11 @@ impl<'a, B: Room, G: Gate> Floor<'a, B, G> {
         requires kept { IfSome kept (IsOurs B.crew) }
         ensures pass { IsPassOf self.now.line.now pass.new }
         ensures actor { IfSome result (IsOurs B.crew) }
+        ensures next { IsNext (view pass.old) (view pass.new) kept result }
     {
         match kept {
             Some(actor) => Some(actor),
-            None => self.line.try_pop_as::<Moves<B>>(pass),
+            None => self.line.try_pop_as::<Takes<B>>(pass),
         }
     }
 
@@ -59,13 +61,14 @@ impl<'a, B: Room, G: Gate> Floor<'a, B, G> {
         requires kept { IfSome kept (IsOurs B.crew) }
         ensures pass { IsPassOf self.now.line.now pass.new }
         ensures kept { IfSome result (IsOurs B.crew) }
+        ensures turn { MakesOneTurn (view pass.old) (view pass.new) kept result }
     {
         let Some(mut actor) = self.next_actor(pass, kept) else {
             thread::yield_now();
             return None;
         };
         let turn = actor.turn(self.net);
-        let back = self.line.try_push_as::<Moves<B>>(pass, actor);
+        let back = self.line.try_push_as::<Puts<B>>(pass, actor);
         if matches!(turn, Turn::Waiting | Turn::Idle) {
             thread::yield_now();
         }

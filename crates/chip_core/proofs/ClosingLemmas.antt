@@ -13,11 +13,11 @@ use Rattle.chip_part.specs.Setting.{Setting, HasGame}
 use Rattle.chip_graph.proofs.SumLemmas.{tested_none}
 use Rattle.chip_link.specs.Link.{sent_counts}
 use Rattle.chip_link.proofs.Sounds.{length-sent_counts}
-use Rattle.chip_fire.specs.Firing.{IsLegal, legal_vertices}
-use Rattle.chip_fire.specs.Sequence.{position_after, IsFiringSequence, HasEnded, HasEndedWithin, IsWholePlay}
-use Rattle.chip_fire.proofs.EndLemmas.{one_end}
-use Rattle.chip_fire.proofs.BoundLemmas.{same_ends}
-use Rattle.chip_fire.proofs.LegalLemmas.{picked_ext}
+use Rattle.chip_sequence.specs.Firing.{IsLegal, legal_vertices}
+use Rattle.chip_sequence.specs.Sequence.{position_after, IsFiringSequence, HasEnded, HasEndedWithin, IsWholePlay}
+use Rattle.chip_sequence.proofs.EndLemmas.{one_end}
+use Rattle.chip_sequence.proofs.BoundLemmas.{same_ends}
+use Rattle.chip_sequence.proofs.LegalLemmas.{picked_ext}
 use Rattle.chip_part.specs.declared.cause.Cause.{Cause}
 use Rattle.chip_part.specs.declared.cause.Cause.TheVariants.{SealedEdge, FiringLimit}
 use Rattle.chip_part.specs.Edges.{over_ins}

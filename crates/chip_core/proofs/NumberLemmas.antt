@@ -14,8 +14,8 @@ use Rattle.chip_link.specs.WordLaws.{ReadsAs, ReadsAsFired}
 use Rattle.chip_link.specs.Link.{claims_of, sent_counts, after_seal, IsSealedAt}
 use Rattle.chip_link.proofs.Sounds.{none_held, length-sent_counts}
 use Rattle.chip_link.proofs.WordLaws.{edge_word_reads, fired_word_reads}
-use Rattle.chip_fire.specs.Sequence.{position_after}
-use Rattle.chip_fire.proofs.BoundLemmas.{chips_are_kept}
+use Rattle.chip_sequence.specs.Sequence.{position_after}
+use Rattle.chip_sequence.proofs.BoundLemmas.{chips_are_kept}
 use Rattle.chip_part.specs.Steps.{stop_after}
 use Rattle.chip_part.specs.Acting.{FitsSeen, CanDo}
 use Rattle.chip_part.specs.Acting.{is_of_root, FitsRoot}

@@ -14,15 +14,15 @@ use Rattle.chip_graph.specs.Multigraph.{Multigraph, IsGraph, edge_at, degree}
 use Rattle.chip_part.specs.Setting.{Setting, HasGame}
 use Rattle.chip_graph.proofs.PickLemmas.{All-picked}
 use Rattle.chip_graph.proofs.SumLemmas.{tested_none}
-use Rattle.chip_fire.specs.declared.outcome.Outcome.{Outcome}
-use Rattle.chip_fire.specs.Outcomes.{IsOutcome}
-use Rattle.chip_fire.specs.Play.{IsPlayed}
-use Rattle.chip_fire.specs.Firing.{legal_vertices}
-use Rattle.chip_fire.specs.Sequence.{position_after, counts, IsWholePlay}
-use Rattle.chip_fire.specs.Counted.{inflow, position_by_counts, IsBelowZero}
-use Rattle.chip_fire.proofs.FiringLemmas.{counts_outside}
-use Rattle.chip_fire.proofs.EndLemmas.{one_end}
-use Rattle.chip_fire.proofs.LegalLemmas.{picked_no, picked_ext, picked_ascends, Contains-picked}
+use Rattle.chip_sequence.specs.declared.outcome.Outcome.{Outcome}
+use Rattle.chip_sequence.specs.Outcomes.{IsOutcome}
+use Rattle.chip_sequence.specs.Play.{IsPlayed}
+use Rattle.chip_sequence.specs.Firing.{legal_vertices}
+use Rattle.chip_sequence.specs.Sequence.{position_after, counts, IsWholePlay}
+use Rattle.chip_sequence.specs.Counted.{inflow, position_by_counts, IsBelowZero}
+use Rattle.chip_sequence.proofs.FiringLemmas.{counts_outside}
+use Rattle.chip_sequence.proofs.EndLemmas.{one_end}
+use Rattle.chip_sequence.proofs.LegalLemmas.{picked_no, picked_ext, picked_ascends, Contains-picked}
 use Rattle.chip_part.specs.declared.cause.Cause.{Cause}
 use Rattle.chip_part.specs.declared.cause.Cause.TheVariants.{SealedEdge, FiringLimit}
 use Rattle.chip_core.specs.Core.{Log, part_in, fired_by, is_by_limit, IsLegalLog, IsClosed}

@@ -10,10 +10,10 @@ use Rattle.chip_graph.specs.Multigraph.{degree, edge_at}
 use Rattle.chip_part.specs.Setting.{Setting, HasGame}
 use Rattle.chip_graph.proofs.SumLemmas.{cond_yes, cond_no, cond_true, cond_false, tested_ext, tested_add}
 use Rattle.chip_link.specs.Link.{sent_counts}
-use Rattle.chip_fire.specs.Sequence.{position_after, IsFiringSequence, counts, IsWithin}
-use Rattle.chip_fire.specs.Counted.{inflow, position_by_counts, IsBelowZero}
-use Rattle.chip_fire.proofs.FiringLemmas.{counts-append, counts-replicate, inflow_ext, position_is, sequence-append}
-use Rattle.chip_fire.proofs.FiringLemmas.{batch, position_by_counts_law, more_chips}
+use Rattle.chip_sequence.specs.Sequence.{position_after, IsFiringSequence, counts, IsWithin}
+use Rattle.chip_sequence.specs.Counted.{inflow, position_by_counts, IsBelowZero}
+use Rattle.chip_sequence.proofs.FiringLemmas.{counts-append, counts-replicate, inflow_ext, position_is, sequence-append}
+use Rattle.chip_sequence.proofs.FiringLemmas.{batch, position_by_counts_law, more_chips}
 use Rattle.chip_part.specs.Edges.{root_edge, mult_of, over_ins, made}
 use Rattle.chip_part.proofs.EdgeLemmas.{over_ins_graph, tail_graph}
 use Rattle.chip_part.proofs.RuleLemmas.{rules_met}

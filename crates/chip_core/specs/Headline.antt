@@ -4,9 +4,9 @@ use Rattle.chip_part.specs.Setting.{Setting, HasGame}
 use Rattle.chip_graph.specs.Sums.{picked}
 use Rattle.chip_link.specs.Link.{sent_counts}
 use Rattle.chip_link.specs.Laws.{IsPrefix}
-use Rattle.chip_fire.specs.Firing.{legal_vertices}
-use Rattle.chip_fire.specs.Sequence.{position_after, IsFiringSequence, HasEnded, IsWholePlay}
-use Rattle.chip_fire.specs.Counted.{position_by_counts, IsBelowZero}
+use Rattle.chip_sequence.specs.Firing.{legal_vertices}
+use Rattle.chip_sequence.specs.Sequence.{position_after, IsFiringSequence, HasEnded, IsWholePlay}
+use Rattle.chip_sequence.specs.Counted.{position_by_counts, IsBelowZero}
 use Rattle.chip_part.specs.declared.cause.Cause.TheVariants.{SealedEdge}
 use Rattle.chip_part.specs.Edges.{mult_of}
 use Rattle.chip_core.specs.Core.{Log, Event, Reply, part_in, out_in, into_in, fired_by, is_by_limit, replies_to}

@@ -2,11 +2,11 @@
 use Rattle.std.specs.Prelude.{◌≡◌, ℕ, ◌<◌, Bool, true, false, List, length, slice_index, Option, Some, None}
 use Rattle.chip_part.specs.Setting.{Setting}
 use Rattle.chip_graph.specs.Sums.{picked}
-use Rattle.chip_fire.specs.declared.outcome.Outcome.{Outcome}
-use Rattle.chip_fire.specs.Counted.{IsAfter}
-use Rattle.chip_fire.specs.Outcomes.{IsOutcome}
-use Rattle.chip_fire.specs.Play.{IsPlayed}
-use Rattle.chip_fire.specs.Sequence.{position_after, IsFiringSequence, counts, IsWithin}
+use Rattle.chip_sequence.specs.declared.outcome.Outcome.{Outcome}
+use Rattle.chip_sequence.specs.Counted.{IsAfter}
+use Rattle.chip_sequence.specs.Outcomes.{IsOutcome}
+use Rattle.chip_sequence.specs.Play.{IsPlayed}
+use Rattle.chip_sequence.specs.Sequence.{position_after, IsFiringSequence, counts, IsWithin}
 use Rattle.chip_part.specs.declared.cause.Cause.{Cause}
 use Rattle.chip_part.specs.declared.cause.Cause.TheVariants.{SealedEdge, FiringLimit}
 use Rattle.chip_core.specs.Core.{Log, part_in, fired_by, is_by_limit, IsClosed}

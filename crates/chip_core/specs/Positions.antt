@@ -4,7 +4,7 @@ use Rattle.std.specs.List.{range_with_len}
 use Rattle.chip_graph.specs.ChipGame.{ChipGame}
 use Rattle.chip_link.specs.Link.{sent_counts}
 use Rattle.chip_part.specs.Setting.{Setting}
-use Rattle.chip_fire.specs.Sequence.{position_after, IsFiringSequence, counts, IsWithin}
+use Rattle.chip_sequence.specs.Sequence.{position_after, IsFiringSequence, counts, IsWithin}
 use Rattle.chip_part.specs.Edges.{over_ins}
 use Rattle.chip_core.specs.Core.{Log, Step, Event, Fire, Feed, part_in, out_in, fired_by, root_edge, graph_edges}
 use Rattle.chip_core.specs.Messages.{counts_in_flight}

@@ -2,8 +2,8 @@
 -- nothing else is said.
 use Rattle.std.specs.Prelude.{◌≡◌, ℕ, ◌^◌, true, false, List, [], ◌∷◌, ◌++◌, slice_index, Some}
 use Rattle.chip_part.specs.Setting.{Setting, HasGame}
-use Rattle.chip_fire.specs.Firing.{legal_vertices}
-use Rattle.chip_fire.specs.Counted.{position_by_counts}
+use Rattle.chip_sequence.specs.Firing.{legal_vertices}
+use Rattle.chip_sequence.specs.Counted.{position_by_counts}
 use Rattle.chip_part.specs.declared.cause.Cause.TheVariants.{SealedEdge, FiringLimit}
 use Rattle.chip_part.specs.Worked.{small_triangle, chain, two_edges, saw}
 use Rattle.chip_part.specs.Steps.{message_of}

@@ -5,7 +5,7 @@ use Rattle.chip_net.specs.declared.root.RootState.{RootState}
 use Rattle.chip_net.specs.declared.root.RootState.TheVariants.{Closed, Running}
 use Rattle.chip_crew.specs.Crew.{Polled}
 use Rattle.chip_crew.specs.Ending.{StaysOpen, IsPolledUntil, EndsWell, EndsOpen}
-use Rattle.chip_fire.specs.declared.outcome.Outcome.{Outcome}
+use Rattle.chip_sequence.specs.declared.outcome.Outcome.{Outcome}
 use Rattle.chip_net.specs.Finish.{Finishes}
 use Rattle.chip_crew.proofs.Owning.{true_or_false}
 

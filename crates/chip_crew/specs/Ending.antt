@@ -1,6 +1,6 @@
 -- How a crew ends.
 use Rattle.std.specs.Prelude.{◌≡◌, ℕ, ◌+◌, ◌-◌, ◌<◌, ◌≤◌, false, None}
-use Rattle.chip_fire.specs.declared.outcome.Outcome.{Outcome}
+use Rattle.chip_sequence.specs.declared.outcome.Outcome.{Outcome}
 use Rattle.chip_net.specs.Roots.{RootKnown, root_deficit, has_ended, IsOver}
 use Rattle.chip_net.specs.Finish.{Finishes}
 use Rattle.chip_net.specs.declared.root.RootState.{RootState}

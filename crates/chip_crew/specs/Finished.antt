@@ -3,7 +3,7 @@ use Rattle.std.specs.Prelude.{◌≡◌, ℕ, ◌+◌, ◌<◌, ⊤, true, false
 use Rattle.chip_graph.specs.Limits.{max_total}
 use Rattle.chip_graph.specs.More.{HasMore, all_brought}
 use Rattle.chip_graph.specs.ChipGame.{ChipGame}
-use Rattle.chip_fire.specs.Play.{IsPlayed}
+use Rattle.chip_sequence.specs.Play.{IsPlayed}
 use Rattle.chip_part.specs.Setting.{setting_of, setting_with}
 use Rattle.chip_net.specs.Roots.{RootKnown, new_root, fed_by}
 use Rattle.chip_crew.specs.Plans.{is_plan, is_fed_plan, AreWithinTotal}

@@ -3,8 +3,8 @@
 ghost use Rattle.std.specs.Prelude.{◌≡◌, ◌-◌, ◌≤◌, MatchResult};
 ghost use Rattle.chip_crew.specs.Ending.{IsPolledUntil, EndsWell, StaysOpen};
 
-use chip_fire::Outcome;
 use chip_net::{Net, Receipt, Root, RootState};
+use chip_sequence::Outcome;
 
 /// Polls so many times and once more, or until the root is closed.
 fn poll_until(net: &Net, root: &mut Root, more: u64) -> RootState

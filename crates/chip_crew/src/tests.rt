@@ -1,9 +1,9 @@
 //! Crews on small games: how many workers share them, gates that hold them, seals, traces and feeds.
 
 use super::*;
-use chip_fire::{Outcome, plain};
 use chip_graph::{Edge, Game, Graph};
 use chip_link::TraceRow;
+use chip_sequence::Outcome;
 use std::alloc::Global;
 use std::process::Abort;
 use std::sync::Wait;
@@ -337,8 +337,13 @@ fn plans(rt: HostRuntime) -> Result<(), Fail> {
 }
 
 /// Played on from where it ended, the game comes to its end.
-fn expect_plays_on(rt: &impl Abort, alloc: Global, outcome: &Outcome) -> Result<(), Fail> {
-    let more = plain(alloc, &triangle(alloc, &outcome.chips)?)?;
+fn expect_plays_on<R: Threads + Wait + Sync + Abort>(
+    rt: &R,
+    alloc: Global,
+    outcome: &Outcome,
+) -> Result<(), Fail> {
+    let rest = triangle(alloc, &outcome.chips)?;
+    let more = finished(rt, alloc, &rest, PAIR, &Always).outcome;
     for ((fired, more), all) in outcome.fired.iter().zip(&more.fired).zip(&[2, 1, 0]) {
         assert_eq!(rt; fired.checked_add(*more), Some(*all));
     }

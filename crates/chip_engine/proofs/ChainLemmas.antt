@@ -8,13 +8,13 @@ use native.Mathlib.Decide.{dec_lt}
 use Rattle.chip_graph.specs.Multigraph.{Multigraph}
 use Rattle.chip_graph.specs.ChipGame.{ChipGame}
 use Rattle.chip_file.specs.GraphText.{MeansGraph}
-use Rattle.chip_fire.specs.Firing.{IsLegal}
-use Rattle.chip_fire.specs.Outcomes.{IsOutcome}
-use Rattle.chip_fire.specs.Resume.{IsResumed, IsPlayFrom, LeadsTo, fired_in_all}
-use Rattle.chip_fire.specs.declared.outcome.Outcome.{Outcome}
-use Rattle.chip_fire.specs.declared.sitting.Resumed.{Resumed}
+use Rattle.chip_sequence.specs.Firing.{IsLegal}
+use Rattle.chip_sequence.specs.Outcomes.{IsOutcome}
+use Rattle.chip_sequence.specs.Sittings.{IsResumed, IsPlayFrom, LeadsTo, fired_in_all}
+use Rattle.chip_sequence.specs.declared.outcome.Outcome.{Outcome}
+use Rattle.chip_sequence.specs.declared.resumed.Resumed.{Resumed}
 use Rattle.chip_fire.proofs.PlayLemmas.{outcome_is}
-use Rattle.chip_fire.proofs.ResumeLemmas.{played_is_sitting}
+use Rattle.chip_sequence.proofs.SittingLemmas.{played_is_sitting}
 use Rattle.chip_report.specs.ReportText.{is_empty, report_text}
 use Rattle.chip_report.specs.Reportable.{Told, told}
 use Rattle.chip_report.specs.ReportTwo.{ToldOfAll, told_of_all, report_two_text, IsAnyReportOf}

@@ -8,13 +8,13 @@ use Rattle.std.proofs.lemmas.List.{length-replicate}
 use Rattle.std.proofs.lemmas.List.Elements.{All-replicate}
 use Rattle.chip_graph.specs.Multigraph.{Multigraph, IsGraph}
 use Rattle.chip_graph.specs.ChipGame.{ChipGame}
-use Rattle.chip_fire.specs.Firing.{IsLegal, legal_vertices}
-use Rattle.chip_fire.specs.Play.{IsPlayed}
-use Rattle.chip_fire.specs.Resume.{IsResumed, IsPlayFrom, fired_in_all, max_prior}
-use Rattle.chip_fire.specs.declared.outcome.Outcome.{Outcome}
-use Rattle.chip_fire.specs.declared.sitting.Resumed.{Resumed}
-use Rattle.chip_fire.proofs.LegalLemmas.{legal_vertices_law}
-use Rattle.chip_fire.proofs.ResumeLemmas as resuming
+use Rattle.chip_sequence.specs.Firing.{IsLegal, legal_vertices}
+use Rattle.chip_sequence.specs.Play.{IsPlayed}
+use Rattle.chip_sequence.specs.Sittings.{IsResumed, IsPlayFrom, fired_in_all, max_prior}
+use Rattle.chip_sequence.specs.declared.outcome.Outcome.{Outcome}
+use Rattle.chip_sequence.specs.declared.resumed.Resumed.{Resumed}
+use Rattle.chip_sequence.proofs.LegalLemmas.{legal_vertices_law}
+use Rattle.chip_sequence.proofs.SittingLemmas as sittings
 use Rattle.chip_report.specs.ReportText.{is_empty, is_closed}
 use Rattle.chip_report.specs.ReportTwo.{IsAnyReportOf, IsNoReportAtAll}
 use Rattle.chip_report.specs.Written.{WritesAll}
@@ -62,7 +62,7 @@ none_legal g o played closed v can =
 pub leads_on : (G : Multigraph) → IsGraph G → (x : ℕ → ℕ) (r : Resumed) → IsPlayFrom G x r
     → LeavesNoneLegal G r.outcome → LeadsToTheEnd G x r
 leads_on G good x r leads none =
-    let alike = resuming.ends_alike G good x (fired_in_all r) (slice_index r.outcome.chips.items) leads in record {
+    let alike = sittings.ends_alike G good x (fired_in_all r) (slice_index r.outcome.chips.items) leads in record {
       leads = leads;
       ends_alike = alike;
       closed = λ closed. record {

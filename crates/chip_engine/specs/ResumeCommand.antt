@@ -3,9 +3,10 @@ use Rattle.std.specs.Prelude.{◌≡◌, ◌⊎◌, ℕ, ◌+◌, List, true, fa
 use Rattle.std.specs.Io.KnownBytes.{Appends, Keeps}
 use Rattle.chip_graph.specs.Multigraph.{Multigraph}
 use Rattle.chip_file.specs.GraphText.{MeansGraph, IsGraphTextFault}
-use Rattle.chip_fire.specs.Sequence.{position_after, IsFiringSequence, counts, HasEnded}
-use Rattle.chip_fire.specs.Resume.{GoesOn, IsResumeFault, IsPlayFrom, fired_in_all}
-use Rattle.chip_fire.specs.declared.sitting.Resumed.{Resumed}
+use Rattle.chip_sequence.specs.Sequence.{position_after, IsFiringSequence, counts, HasEnded}
+use Rattle.chip_sequence.specs.Sittings.{IsPlayFrom, fired_in_all}
+use Rattle.chip_fire.specs.Resume.{GoesOn, IsResumeFault}
+use Rattle.chip_sequence.specs.declared.resumed.Resumed.{Resumed}
 use Rattle.chip_fire.specs.declared.sitting.ResumeFault.{ResumeFault}
 use Rattle.chip_report.specs.ReportText.{is_closed}
 use Rattle.chip_report.specs.ReportTwo.{report_two_text, IsAnyReportOf, IsNoReportAtAll}

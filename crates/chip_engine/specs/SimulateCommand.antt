@@ -19,8 +19,8 @@ use Rattle.chip_world.specs.Rounds.{IsDrive}
 use Rattle.chip_core.specs.Outcomes.{IsOutcomeOf, ComesTo}
 use Rattle.chip_core.specs.Positions.{firings, started, played_game}
 use Rattle.chip_file.specs.ScheduleText.{schedule_of_text, schedule_text_fault}
-use Rattle.chip_fire.specs.declared.outcome.Outcome.{Outcome}
-use Rattle.chip_fire.specs.Outcomes.{IsOutcome}
+use Rattle.chip_sequence.specs.declared.outcome.Outcome.{Outcome}
+use Rattle.chip_sequence.specs.Outcomes.{IsOutcome}
 use Rattle.chip_report.specs.ReportText.{report_text}
 use Rattle.chip_report.specs.Written.{WritesAll}
 use Rattle.chip_report.specs.declared.write.WriteFault.{WriteFault}

@@ -3,8 +3,8 @@ use Rattle.std.specs.Prelude.{◌≡◌, ℕ, List, [], ◌∷◌, ◌++◌, cod
 use Rattle.chip_graph.specs.Multigraph.{Multigraph}
 use Rattle.chip_graph.specs.ChipGame.{ChipGame}
 use Rattle.chip_file.specs.GraphText.{MeansGraph}
-use Rattle.chip_fire.specs.Resume.{IsPlayFrom}
-use Rattle.chip_fire.specs.declared.sitting.Resumed.{Resumed}
+use Rattle.chip_sequence.specs.Sittings.{IsPlayFrom}
+use Rattle.chip_sequence.specs.declared.resumed.Resumed.{Resumed}
 use Rattle.chip_report.specs.ReportTwo.{IsAnyReportOf}
 use Rattle.chip_part.specs.Setting.{Setting}
 use Rattle.chip_core.specs.Core.{Log}

@@ -1,11 +1,11 @@
 -- Worked rows, as the definitions compute them.
 use Rattle.std.specs.Prelude.{◌≡◌, ℕ, List, [], ◌∷◌, ◌++◌, codes, slice_index, Some, None}
-use Rattle.chip_fire.specs.Firing.{legal_vertices}
-use Rattle.chip_fire.specs.Sequence.{position_after, counts}
+use Rattle.chip_sequence.specs.Firing.{legal_vertices}
+use Rattle.chip_sequence.specs.Sequence.{position_after, counts}
 use Rattle.chip_graph.specs.Worked.{triangle}
-use Rattle.chip_fire.specs.Worked.{chips_on, on_each}
-use Rattle.chip_fire.specs.Resume.{fired_in_all}
-use Rattle.chip_fire.specs.declared.sitting.Resumed.{Resumed}
+use Rattle.chip_sequence.specs.Worked.{chips_on, on_each}
+use Rattle.chip_sequence.specs.Sittings.{fired_in_all}
+use Rattle.chip_sequence.specs.declared.resumed.Resumed.{Resumed}
 use Rattle.chip_fire.specs.declared.sitting.ResumeFault.TheVariants.{Mismatch, Total, Limit, Prior}
 use Rattle.chip_report.specs.ReportTwo.{report_two_text}
 use Rattle.chip_faults.specs.declared.table.Explanation.{Explanation}

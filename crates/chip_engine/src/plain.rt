@@ -7,10 +7,11 @@ ghost use Rattle.chip_engine.specs.PlainCommand.{Reports, PlainAnswers, plain_st
 use crate::ended::{DONE, Ended, HALTED};
 use crate::fault::Fault;
 use crate::inputs::read_game;
-use chip_fire::{Outcome, Unwatched, Watch, plain_watched};
+use chip_fire::{Unwatched, Watch, plain_watched};
 use chip_graph::Game;
 use chip_report::report::{is_closed, report};
 use chip_report::write_all_of;
+use chip_sequence::Outcome;
 use std::alloc::{AllocError, Global};
 use std::io::{Read, Write};
 

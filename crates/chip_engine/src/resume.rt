@@ -3,7 +3,7 @@
 ghost use Rattle.std.specs.Prelude.{◌≡◌, ◌⊎◌, IfOk, IfErr};
 ghost use Rattle.std.specs.Option.{ForSome};
 ghost use Rattle.chip_graph.specs.Multigraph.{IsGraph};
-ghost use Rattle.chip_fire.specs.Resume.{IsResumed};
+ghost use Rattle.chip_sequence.specs.Sittings.{IsResumed};
 ghost use Rattle.chip_engine.specs.ResumeCommand.{GivesSitting, RefusesToGoOn, ReportsOn, ResumeAnswers};
 ghost use Rattle.chip_engine.specs.declared.fault.Fault.TheVariants.{NoMemory};
 
@@ -11,9 +11,10 @@ use crate::ended::Ended;
 use crate::fault::Fault;
 use crate::plain::status_of;
 use chip_file::{read_graph, read_whole};
-use chip_fire::{Resumed, resume};
+use chip_fire::resume;
 use chip_graph::Graph;
 use chip_report::{read_any, report_two, write_all_of};
+use chip_sequence::Resumed;
 use std::alloc::Global;
 use std::io::{Read, Write};
 

@@ -1,13 +1,2 @@
-pub mod FiringLemmas
-pub mod EndLemmas
-pub mod BoundLemmas
-pub mod CertificateLemmas
-pub mod BurningLemmas
-pub mod LastLemmas
-pub mod ScriptLemmas
-pub mod LegalLemmas
-pub mod BatchLemmas
 pub mod PlayLemmas
-pub mod DistanceLemmas
-pub mod AfterLemmas
 pub mod ResumeLemmas

@@ -2,7 +2,7 @@
 use Rattle.std.proofs.Common.{◌≡◌, ◌≢◌, ℕ, zero, suc, ◌+◌, ◌-◌, ◌*◌, ◌/◌, ◌<◌, ◌≤◌, Bool, true, false, not, ◌&&◌}
 use Rattle.std.proofs.Common.{eqb, leb, All, Contains, List, [], length, sum, get_or, set, slice_index, replicate, ◌⊎◌}
 use Rattle.std.proofs.Common.{inl, inr, ⊎_elim, refl, sym, ap, ◌∙◌, subst, arith, length-set, get_or-set_same}
-use Rattle.std.proofs.Common.{get_or-set_other, mul-add, mul_comm, mul-le-mul_left}
+use Rattle.std.proofs.Common.{get_or-set_other, mul_comm, mul-le-mul_left}
 use Rattle.std.specs.List.Sorted.{IsStrictlyIncreasing}
 use Rattle.std.proofs.lemmas.List.{length-replicate}
 use Rattle.std.proofs.lemmas.List.Elements.{All-from_get_or}
@@ -16,29 +16,24 @@ use Rattle.chip_graph.specs.Multigraph.{Multigraph, degree}
 use Rattle.chip_graph.specs.ChipGame.{ChipGame, IsGame}
 use Rattle.chip_graph.proofs.PickLemmas.{All-picked}
 use Rattle.chip_graph.proofs.SumLemmas.{cond_yes, cond_no, sum_below_move, sum_by_place}
-use Rattle.chip_fire.specs.declared.outcome.Outcome.{Outcome}
-use Rattle.chip_fire.specs.Outcomes.{IsOutcome}
-use Rattle.chip_fire.specs.Firing.{IsLegal, legal_vertices}
-use Rattle.chip_fire.specs.Sequence.{position_after, counts, IsWholePlay}
-use Rattle.chip_fire.specs.Counted.{IsAfter}
-use Rattle.chip_fire.specs.Certificate.{AreForced, IsCertified, AreBurnt, IsOnTheWay}
-use Rattle.chip_fire.specs.Bound.{firing_bound, greatest_degree}
-use Rattle.chip_fire.specs.Play.{IsPlayed, IsEnough}
+use Rattle.chip_sequence.specs.declared.outcome.Outcome.{Outcome}
+use Rattle.chip_sequence.specs.Outcomes.{IsOutcome}
+use Rattle.chip_sequence.specs.Firing.{IsLegal, legal_vertices}
+use Rattle.chip_sequence.specs.Sequence.{position_after, counts, IsWholePlay}
+use Rattle.chip_sequence.specs.Counted.{IsAfter}
+use Rattle.chip_sequence.specs.Certificate.{AreForced, IsCertified, AreBurnt, IsOnTheWay}
+use Rattle.chip_sequence.specs.Bound.{firing_bound, greatest_degree}
+use Rattle.chip_sequence.specs.Play.{IsPlayed, IsEnough}
 use Rattle.chip_fire.specs.Rounds.{IsInRange, IsBegun, StaysOnTheWay, firings_left, IsSwept}
-use Rattle.chip_fire.proofs.FiringLemmas.{counts-replicate, batch}
-use Rattle.chip_fire.proofs.EndLemmas.{continued}
-use Rattle.chip_fire.proofs.CertificateLemmas.{certified_counts, led, on_the_way, start_on_the_way}
-use Rattle.chip_fire.proofs.CertificateLemmas.{same_way, playing_on, end_of_the_way, led_after}
-use Rattle.chip_fire.proofs.LegalLemmas.{picked_ascends, picked_none, legal_of_test}
-use Rattle.chip_fire.proofs.BurningLemmas.{burnt_counts}
-use Rattle.chip_fire.proofs.BoundLemmas.{led_total, enough_law}
+use Rattle.chip_sequence.proofs.FiringLemmas.{counts-replicate, batch}
+use Rattle.chip_sequence.proofs.EndLemmas.{continued}
+use Rattle.chip_sequence.proofs.CertificateLemmas.{certified_counts, led, on_the_way, start_on_the_way}
+use Rattle.chip_sequence.proofs.CertificateLemmas.{same_way, playing_on, end_of_the_way, led_after}
+use Rattle.chip_sequence.proofs.LegalLemmas.{picked_ascends, picked_none, legal_of_test}
+use Rattle.chip_sequence.proofs.BurningLemmas.{burnt_counts}
+use Rattle.chip_sequence.proofs.BoundLemmas.{led_total, enough_law}
 
 -- ---- quotients
-
--- a number above the quotient asks for more than there is
-pub above_quotient : (x d k : ℕ) → 0 < d → x / d < k → x < k * d
-above_quotient x d k some above = let a = mul-le-mul_left d (let h : x / d + 1 ≤ k = omega arith in h) in let b =
-    mul-add d (x / d) 1 in let c = mul_comm d k in omega arith
 
 -- a number up to the quotient asks for what there is
 pub within_quotient : (x d k : ℕ) → 0 < d → k ≤ x / d → k * d ≤ x

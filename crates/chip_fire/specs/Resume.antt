@@ -1,32 +1,15 @@
--- A play in several sittings: what a limit or a seal stopped goes on from the chips that lie there.
-use Rattle.std.specs.Prelude.{◌≡◌, ◌≢◌, ◌⊎◌, ℕ, ◌+◌, ◌^◌, ◌<◌, ◌≤◌, All, List, [], ◌∷◌, length, sum, slice_index}
-use Rattle.std.specs.Prelude.{Result, Ok, Err}
+-- Going on with a play: what a limit or a seal stopped goes on from the chips that lie there.
+use Rattle.std.specs.Prelude.{◌≡◌, ◌≢◌, ◌⊎◌, ℕ, ◌<◌, ◌≤◌, length, sum, slice_index, Result, Ok, Err}
 use Rattle.chip_graph.specs.Limits.{max_total, max_limit}
-use Rattle.chip_graph.specs.Multigraph.{Multigraph, IsGraph}
+use Rattle.chip_graph.specs.Multigraph.{Multigraph}
 use Rattle.chip_graph.specs.ChipGame.{ChipGame, IsGame}
 use Rattle.chip_graph.specs.declared.fault.GameFault.{GameFault}
 use Rattle.chip_graph.specs.declared.fault.GameFault.TheVariants as game_fault
-use Rattle.chip_fire.specs.declared.outcome.Outcome.{Outcome}
-use Rattle.chip_fire.specs.declared.sitting.Resumed.{Resumed}
+use Rattle.chip_sequence.specs.declared.resumed.Resumed.{Resumed}
+use Rattle.chip_sequence.specs.Play.{IsPlayed}
+use Rattle.chip_sequence.specs.Sittings.{max_prior, IsResumed, fired_in_all}
 use Rattle.chip_fire.specs.declared.sitting.ResumeFault.{ResumeFault}
 use Rattle.chip_fire.specs.declared.sitting.ResumeFault.TheVariants.{Mismatch, Total, Limit, Prior, NoMemory}
-use Rattle.chip_fire.specs.Outcomes.{IsOutcome}
-use Rattle.chip_fire.specs.Play.{IsPlayed}
-use Rattle.chip_fire.specs.Sequence.{position_after, IsFiringSequence, counts, HasEnded}
-
--- how often a vertex may have fired before a sitting, at most
-abbrev pub max_prior : ℕ
-max_prior = 2 ^ 60
-
--- numbers that a report takes: an outcome, and one number in range for each vertex of it
-pub record IsResumed (r : Resumed) : Type 0 where
-  pub outcome_fits : IsOutcome r.outcome
-  pub prior_each : length r.prior.items ≡ length r.outcome.fired.items
-  pub few_before : All (λ n. n ≤ max_prior) r.prior.items
-
--- how often v fired in all sittings, the last one among them
-abbrev pub fired_in_all : Resumed → ℕ → ℕ
-fired_in_all r v = slice_index r.prior.items v + slice_index r.outcome.fired.items v
 
 -- the game that goes on from where an earlier sitting ended
 abbrev pub game_from : Multigraph → Resumed → ℕ → ChipGame
@@ -71,48 +54,3 @@ pub record GoesOn (G : Multigraph) (earlier : Resumed) (limit : ℕ) (r : Resume
 abbrev pub Resumes : Multigraph → Resumed → ℕ → Result Resumed ResumeFault → Type 0
 Resumes G earlier limit (Ok r) = GoesOn G earlier limit r
 Resumes G earlier limit (Err fault) = IsResumeFault G earlier limit fault
-
--- firings with these counts lead from the position x to the position y
-pub record Leads (G : Multigraph) (x f y : ℕ → ℕ) (vs : List ℕ) : Type 0 where
-  pub sequence : IsFiringSequence G x vs
-  pub counted : (v : ℕ) → f v ≡ counts vs v
-  pub position : (v : ℕ) → y v ≡ position_after G x vs v
-
--- some firings do
-abbrev pub LeadsTo : Multigraph → (x f y : ℕ → ℕ) → Type 0
-LeadsTo G x f y = (vs : List ℕ) × Leads G x f y vs
-
--- what was fired in all sittings leads from x to the chips that lie there
-abbrev pub IsPlayFrom : Multigraph → (ℕ → ℕ) → Resumed → Type 0
-IsPlayFrom G x r = LeadsTo G x (fired_in_all r) (slice_index r.outcome.chips.items)
-
--- sittings one after another, each by its counts and the position that it left: each begins where the one before
--- it ended
-abbrev pub AreSittings : Multigraph → (ℕ → ℕ) → List ((ℕ → ℕ) × (ℕ → ℕ)) → Type 0
-AreSittings G x [] = Unit {0}
-AreSittings G x ((f, y) ∷ rest) = LeadsTo G x f y × AreSittings G y rest
-
--- how often v fired in all of them
-abbrev pub counts_of_all : List ((ℕ → ℕ) × (ℕ → ℕ)) → ℕ → ℕ
-counts_of_all [] v = 0
-counts_of_all ((f, y) ∷ rest) v = f v + counts_of_all rest v
-
--- the position that the last of them left
-abbrev pub left_by_all : (ℕ → ℕ) → List ((ℕ → ℕ) × (ℕ → ℕ)) → ℕ → ℕ
-left_by_all x [] = x
-left_by_all x ((f, y) ∷ rest) = left_by_all y rest
-
--- however many sittings there were: with the counts of a sequence that goes on from there to an end, they are the
--- counts of every sequence from the first start that ends, and all end at the same position
-abbrev pub SittingsAddUp : Type 0
-SittingsAddUp =
-    (G : Multigraph) → IsGraph G → (x : ℕ → ℕ) (sittings : List ((ℕ → ℕ) × (ℕ → ℕ))) → AreSittings G x sittings
-    → (ws : List ℕ) → IsFiringSequence G (left_by_all x sittings) ws → HasEnded G (left_by_all x sittings) ws
-    → (vs : List ℕ) → IsFiringSequence G x vs → HasEnded G x vs
-    → ((v : ℕ) → counts_of_all sittings v + counts ws v ≡ counts vs v)
-    × ((v : ℕ) → position_after G (left_by_all x sittings) ws v ≡ position_after G x vs v)
-
--- the outcome of a game is such a sitting, whatever halted its vertices by the limit
-abbrev pub PlayedIsSitting : Type 0
-PlayedIsSitting = (g : ChipGame) (o : Outcome) → IsPlayed g o
-    → LeadsTo g.graph (slice_index g.start) (slice_index o.fired.items) (slice_index o.chips.items)

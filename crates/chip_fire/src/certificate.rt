@@ -2,12 +2,12 @@ ghost use Rattle.std.specs.Prelude.{◌≡◌, ◌≢◌, ℕ, ◌+◌, ◌<◌,
 ghost use Rattle.std.specs.Prelude.{IfOk, IsTrue, MatchOption};
 ghost use Rattle.chip_graph.specs.Multigraph.{degree};
 ghost use Rattle.chip_graph.specs.ChipGame.{IsGame};
-ghost use Rattle.chip_fire.specs.Counted.{IsAfter};
-ghost use Rattle.chip_fire.specs.Certificate.{AreForced, IsCertified, AreBurnt, in_degree, late_in_degree};
+ghost use Rattle.chip_sequence.specs.Counted.{IsAfter};
+ghost use Rattle.chip_sequence.specs.Certificate.{AreForced, IsCertified, AreBurnt, in_degree, late_in_degree};
 ghost use Rattle.chip_fire.specs.Rounds.{IsBegun};
 
-use crate::counted::{AfterFault, after};
 use chip_graph::{Game, Graph};
+use chip_sequence::{AfterFault, after};
 use std::alloc::{AllocError, Global};
 
 /// The position by these counts, where a test shows that every play within the limit that has ended

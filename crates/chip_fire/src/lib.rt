@@ -1,21 +1,13 @@
-//! Firings, firing sequences and their laws, and the plain player of chip-firing games.
+//! The plain player of chip-firing games, and going on with a play that was stopped.
 #![tactic(auto)]
 
-pub use bound::enough;
-pub use counted::{AfterFault, after, after_into};
-pub use firing::{NotLegal, fire};
-pub use outcome::Outcome;
 pub use player::{plain, plain_watched};
-pub use sitting::{ResumeFault, Resumed, resume};
+pub use sitting::{ResumeFault, resume};
 pub use watch::{Unwatched, Watch};
 
-pub mod bound;
 mod certificate;
-pub mod counted;
-pub mod firing;
-pub mod laws;
-pub mod outcome;
 pub mod player;
+mod rounds;
 pub mod sitting;
 mod soon;
 mod start;

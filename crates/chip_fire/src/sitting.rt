@@ -1,42 +1,14 @@
 //! Going on with a play that a limit or a seal stopped.
 
 ghost use Rattle.std.specs.Prelude.{◌≡◌, ℕ, ◌<◌, ◌≤◌, IfOk, IfErr, length, slice_index};
-ghost use Rattle.chip_fire.specs.Resume.{IsResumed, IsPlayFrom, Resumes, IsPriorFault, fired_in_all, max_prior};
+ghost use Rattle.chip_sequence.specs.Sittings.{IsResumed, IsPlayFrom, fired_in_all, max_prior};
+ghost use Rattle.chip_fire.specs.Resume.{Resumes, IsPriorFault};
 
-use crate::outcome::Outcome;
 use crate::player::plain;
 use chip_graph::{Game, GameFault, Graph};
+use chip_sequence::{MAX_PRIOR, Resumed};
 use std::alloc::{AllocError, Global};
 use thiserror::Error;
-
-/// How often a vertex may have fired before a sitting, at most.
-pub const MAX_PRIOR: u64 = 1 << 60;
-
-/// How a sitting ended, and how often each vertex fired in the sittings before it.
-#[derive(Debug, Drop, PartialEq, Eq)]
-pub struct Resumed {
-    /// The last sitting's own outcome.
-    pub outcome: Outcome,
-    /// One number for each vertex, up to 2^60.
-    pub prior: Vec<u64>,
-}
-
-impl Resumed {
-    ghost use Rattle.std.specs.Prelude.{◌≡◌, IfOk, length, replicate};
-    ghost use Rattle.chip_fire.specs.Outcomes.{IsOutcome};
-    ghost use Rattle.chip_fire.specs.Resume.{IsResumed};
-
-    /// A first sitting: nothing was fired before it.
-    pub fn first(alloc: Global, outcome: Outcome) -> Result<Resumed, AllocError>
-        requires { IsOutcome outcome }
-        ensures outcome { IfOk result (λ resumed. resumed.outcome ≡ outcome) }
-        ensures prior { IfOk result (λ resumed. resumed.prior.items ≡ replicate (length outcome.fired.items) 0) }
-        ensures in_range { IfOk result IsResumed }
-    {
-        let prior = vec![in alloc; 0; outcome.fired.len()]?;
-        Ok(Resumed { outcome, prior })
-    }
-}
 
 /// Why a play does not go on: the first reason in this order.
 #[derive(Clone, Copy, Debug, PartialEq, Eq, Error)]

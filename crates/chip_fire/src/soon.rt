@@ -1,7 +1,7 @@
 ghost use Rattle.std.specs.Prelude.{◌≡◌, length, slice_index};
 ghost use Rattle.chip_fire.specs.Rounds.{IsBegun, IsInRange};
 
-use crate::player::{STRETCH, round};
+use crate::rounds::{STRETCH, round};
 use crate::watch::Watch;
 use chip_graph::{Game, Graph};
 

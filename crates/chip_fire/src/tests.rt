@@ -1,10 +1,11 @@
 //! Games worked out by hand, and each call once. What holds for all inputs stands in the contracts.
 
-ghost use Rattle.std.specs.Prelude.{◌≡◌, ◌<◌, IfOk};
-ghost use Rattle.chip_fire.specs.Resume.{IsResumed};
+ghost use Rattle.std.specs.Prelude.{◌≡◌, IfOk};
+ghost use Rattle.chip_sequence.specs.Sittings.{IsResumed};
 
 use super::*;
 use chip_graph::{Edge, Game, Graph};
+use chip_sequence::{Outcome, Resumed};
 use std::alloc::Global;
 use std::process::Abort;
 use std::test::Fail;
@@ -29,12 +30,14 @@ fn graph_of(
     Ok(Graph::new(alloc, vertices, sink, edges)?)
 }
 
+/// The edges of the triangle.
+const TRIANGLE: [(u64, u64, u64); 4] = [(0, 1, 1), (0, 2, 1), (1, 0, 1), (1, 2, 1)];
+
 /// The game on the triangle, whose sink is 2.
 fn triangle(alloc: Global, start: &[u64], limit: u64) -> Result<Game, Fail>
     ensures { IfOk result (λ game. game.graph.vertices ≡ 3) }
 {
-    let rows = [(0, 1, 1), (0, 2, 1), (1, 0, 1), (1, 2, 1)];
-    let graph = graph_of(alloc, 3, 2, &rows)?;
+    let graph = graph_of(alloc, 3, 2, &TRIANGLE)?;
     Ok(Game::new(graph, Vec::from_slice(alloc, start)?, limit)?)
 }
 
@@ -42,17 +45,6 @@ fn triangle(alloc: Global, start: &[u64], limit: u64) -> Result<Game, Fail>
 fn one_edge(alloc: Global, mult: u64, chips: u64) -> Result<Game, Fail> {
     let graph = graph_of(alloc, 2, 1, &[(0, 1, mult)])?;
     Ok(Game::new(graph, Vec::from_slice(alloc, &[chips, 0])?, 1 << 40)?)
-}
-
-/// A chain whose sink is its last vertex.
-fn chain(alloc: Global, vertices: u64, mult: u64) -> Result<Graph, Fail>
-    requires { 0 < vertices }
-{
-    let mut rows = Vec::new(alloc);
-    for vertex in 0..vertices - 1 {
-        rows.push((vertex, vertex + 1, mult))?;
-    }
-    graph_of(alloc, vertices, vertices - 1, &rows)
 }
 
 /// Plays a game, and compares how often each vertex fired, the chips at the end and the halted vertices.
@@ -209,71 +201,27 @@ fn all_firings(fired: &[u64]) -> u64 {
     all
 }
 
+fn expect_same(rt: &impl Abort, outcome: &Outcome, other: &Outcome) {
+    assert_eq!(rt; outcome.fired.as_slice(), other.fired.as_slice());
+    assert_eq!(rt; outcome.chips.as_slice(), other.chips.as_slice());
+    assert_eq!(rt; outcome.over.as_slice(), other.over.as_slice());
+    assert_eq!(rt; outcome.sealed.as_slice(), other.sealed.as_slice());
+}
+
+/// The chips on vertex 0, how many rounds they take, and how many firings.
+const ROUNDS: [(u64, u64, u64); 4] = [(0, 0, 0), (3, 1, 1), (4, 1, 3), (5, 2, 4)];
+
 /// In the first round vertex 0 fires as often as it can and then vertex 1; five chips take a second round.
 #[test]
 fn watched(rt: HostRuntime) -> Result<(), Fail> {
-    for (chips, rounds, firings) in [(0, 0, 0), (3, 1, 1), (4, 1, 3), (5, 2, 4)] {
+    for (chips, rounds, firings) in ROUNDS {
         let game = triangle(rt.alloc(), &[chips, 0, 0], 1 << 40)?;
         let mut told = Told::nothing();
         let outcome = plain_watched(rt.alloc(), &game, &mut told)?;
-        assert_eq!(rt; outcome, plain(rt.alloc(), &game)?);
+        expect_same(&rt, &outcome, &plain(rt.alloc(), &game)?);
         assert_eq!(rt; told.rounds, rounds);
         assert_eq!(rt; told.firings, firings);
     }
-    Ok(())
-}
-
-#[test]
-fn positions_by_counts(rt: HostRuntime) -> Result<(), Fail> {
-    let game = triangle(rt.alloc(), &[4, 0, 0], 1 << 40)?;
-    let chips = after(rt.alloc(), &game, &[2, 1, 0])?;
-    assert_eq!(rt; chips.as_slice(), [1, 0, 3].as_slice());
-    let mut into = [7, 7, 7];
-    assert_eq!(rt; after_into(&game, &[2, 1, 0], &mut into), Ok(()));
-    assert_eq!(rt; into, [1, 0, 3]);
-    let most = u64::MAX;
-    for (fired, vertex) in [([0, 1, 0], 1), ([3, 0, 0], 0), ([most, most, 0], 0)] {
-        let negative = Err(AfterFault::Negative(vertex));
-        assert_eq!(rt; after_into(&game, &fired, &mut into), negative);
-        assert_eq!(rt; into, [1, 0, 3]);
-    }
-    Ok(())
-}
-
-#[test]
-fn negative_counts(rt: HostRuntime) -> Result<(), Fail> {
-    let game = triangle(rt.alloc(), &[4, 0, 0], 1 << 40)?;
-    match after(rt.alloc(), &game, &[0, 1, 0]) {
-        Err(AfterFault::Negative(vertex)) => assert_eq!(rt; vertex, 1),
-        Err(AfterFault::NoMemory) => return Err("out of memory".into()),
-        Ok(_) => panic!(rt; "vertex 1 had nothing to fire"),
-    }
-    Ok(())
-}
-
-#[test]
-fn limits(rt: HostRuntime) -> Result<(), Fail> {
-    let alloc = rt.alloc();
-    assert_eq!(rt; enough(&chain(alloc, 3, 1)?, 3), Some(6));
-    assert_eq!(rt; enough(triangle(alloc, &[4, 0, 0], 0)?.graph(), 4), Some(4));
-    assert_eq!(rt; enough(&chain(alloc, 41, 2)?, 1), Some(1_099_511_627_775));
-    assert_eq!(rt; enough(&chain(alloc, 42, 2)?, 1), None);
-    assert_eq!(rt; enough(&chain(alloc, 1, 1)?, 1 << 40), Some(0));
-    Ok(())
-}
-
-#[test]
-fn firings(rt: HostRuntime) -> Result<(), Fail> {
-    let game = triangle(rt.alloc(), &[4, 0, 0], 1 << 40)?;
-    let graph = game.graph();
-    for (vertex, k) in [(2, 1), (0, 0), (0, 3), (1, 1), (0, u64::MAX)] {
-        let mut position = [4, 0, 0];
-        assert_eq!(rt; fire(&mut position, graph, vertex, k), Err(NotLegal));
-        assert_eq!(rt; position, [4, 0, 0]);
-    }
-    let mut position = [4, 0, 0];
-    assert_eq!(rt; fire(&mut position, graph, 0, 2), Ok(()));
-    assert_eq!(rt; position, [0, 2, 2]);
     Ok(())
 }
 
@@ -290,12 +238,7 @@ fn go_on(
     requires { IsResumed earlier.now }
     ensures { IfOk result IsResumed }
 {
-    let graph = graph_of(
-        rt.alloc(),
-        3,
-        2,
-        &[(0, 1, 1), (0, 2, 1), (1, 0, 1), (1, 2, 1)],
-    )?;
+    let graph = graph_of(rt.alloc(), 3, 2, &TRIANGLE)?;
     let resumed = resume(rt.alloc(), graph, earlier, limit)?;
     assert_eq!(rt; resumed.outcome.fired.as_slice(), fired);
     assert_eq!(rt; resumed.outcome.chips.as_slice(), chips);
@@ -320,6 +263,6 @@ fn another_graph(rt: HostRuntime) -> Result<(), Fail> {
     let first = Resumed::first(alloc, plain(alloc, &triangle(alloc, &[5, 0, 0], 2)?)?)?;
     let graph = graph_of(alloc, 2, 1, &[(0, 1, 1)])?;
     let answer = resume(alloc, graph, &first, (1 << 40) + 1);
-    assert_eq!(&rt; answer, Err(ResumeFault::Mismatch));
+    assert!(&rt; matches!(answer, Err(ResumeFault::Mismatch)));
     Ok(())
 }

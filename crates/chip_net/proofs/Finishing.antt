@@ -7,15 +7,15 @@ use Rattle.chip_graph.specs.ChipGame.{ChipGame}
 use Rattle.chip_graph.specs.Multigraph.{Multigraph}
 use Rattle.chip_graph.specs.More.{HasMore}
 use Rattle.chip_graph.specs.Sums.{picked}
-use Rattle.chip_fire.specs.declared.outcome.Outcome.{Outcome}
-use Rattle.chip_fire.specs.Counted.{IsBelowZero, IsAfter}
-use Rattle.chip_fire.specs.Faults.{IsNegative}
-use Rattle.chip_fire.specs.declared.counted.AfterFault.{AfterFault}
-use Rattle.chip_fire.specs.declared.counted.AfterFault.TheVariants.{Negative, NoMemory}
-use Rattle.chip_fire.specs.Play.{IsPlayed}
-use Rattle.chip_fire.specs.Sequence.{HasEnded}
-use Rattle.chip_fire.proofs.LegalLemmas.{picked_no, picked_ext, picked_has}
-use Rattle.chip_fire.proofs.BoundLemmas.{same_ends}
+use Rattle.chip_sequence.specs.declared.outcome.Outcome.{Outcome}
+use Rattle.chip_sequence.specs.Counted.{IsBelowZero, IsAfter}
+use Rattle.chip_sequence.specs.Faults.{IsNegative}
+use Rattle.chip_sequence.specs.declared.counted.AfterFault.{AfterFault}
+use Rattle.chip_sequence.specs.declared.counted.AfterFault.TheVariants.{Negative, NoMemory}
+use Rattle.chip_sequence.specs.Play.{IsPlayed}
+use Rattle.chip_sequence.specs.Sequence.{HasEnded}
+use Rattle.chip_sequence.proofs.LegalLemmas.{picked_no, picked_ext, picked_has}
+use Rattle.chip_sequence.proofs.BoundLemmas.{same_ends}
 use Rattle.chip_link.specs.Words.{fired_in, halted_in, by_limit_in, is_fired_word}
 use Rattle.chip_part.specs.Setting.{Setting, IsSetting, game_of_setting}
 use Rattle.chip_part.specs.declared.cause.Cause.{Cause}

@@ -7,7 +7,7 @@ use mathlib.Core.Logic.{dite}
 use native.Mathlib.Decide.{ℕ_discrete, dec_lt}
 use Rattle.chip_graph.specs.Sums.{picked}
 use Rattle.chip_graph.proofs.SumLemmas.{cond_yes, cond_no}
-use Rattle.chip_fire.proofs.LegalLemmas.{picked_ext}
+use Rattle.chip_sequence.proofs.LegalLemmas.{picked_ext}
 use Rattle.chip_link.specs.Words.{fired_in, halted_in, by_limit_in}
 use Rattle.chip_part.specs.Setting.{Setting, IsSetting}
 use Rattle.chip_part.specs.Edges.{root, stopper}

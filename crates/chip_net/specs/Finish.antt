@@ -4,11 +4,11 @@ use Rattle.std.specs.Prelude.{slice_index, Some}
 use Rattle.chip_graph.specs.ChipGame.{ChipGame}
 use Rattle.chip_graph.specs.More.{HasMore}
 use Rattle.chip_graph.specs.Sums.{picked}
-use Rattle.chip_fire.specs.declared.outcome.Outcome.{Outcome}
-use Rattle.chip_fire.specs.Outcomes.{IsOutcome}
-use Rattle.chip_fire.specs.Counted.{IsAfter}
-use Rattle.chip_fire.specs.Sequence.{position_after, counts, IsFiringSequence, HasEnded}
-use Rattle.chip_fire.specs.Play.{IsPlayed}
+use Rattle.chip_sequence.specs.declared.outcome.Outcome.{Outcome}
+use Rattle.chip_sequence.specs.Outcomes.{IsOutcome}
+use Rattle.chip_sequence.specs.Counted.{IsAfter}
+use Rattle.chip_sequence.specs.Sequence.{position_after, counts, IsFiringSequence, HasEnded}
+use Rattle.chip_sequence.specs.Play.{IsPlayed}
 use Rattle.chip_link.specs.Words.{fired_in, halted_in, by_limit_in}
 use Rattle.chip_part.specs.Setting.{Setting, game_of_setting}
 use Rattle.chip_part.specs.Edges.{root, stopper}

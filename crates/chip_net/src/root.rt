@@ -10,10 +10,10 @@ use crate::root_hand::RootHand;
 use crate::rule::PartSeat;
 use crate::setup::Setup;
 use crate::tally::Tally;
-use chip_fire::{Outcome, after_into};
 use chip_graph::Game;
 use chip_link::Event;
 use chip_part::Reply;
+use chip_sequence::{Outcome, after_into};
 use std::alloc::{AllocError, Global};
 use std::marker::Model;
 

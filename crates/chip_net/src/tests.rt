@@ -6,9 +6,9 @@ mod feeding;
 mod threads;
 
 use super::*;
-use chip_fire::Outcome;
 use chip_graph::{Edge, Game, Graph};
 use chip_link::{Ring, TraceRow};
+use chip_sequence::Outcome;
 use std::alloc::Global;
 use std::process::Abort;
 use std::test::Fail;
@@ -165,7 +165,7 @@ fn drive(net: &Net, mut root: Root, actors: &mut Vec<Actor>) -> Root
     requires actors { All (λ a. a.net ≡ net.now) actors.old.items }
     ensures { result.net ≡ net.now }
 {
-    for _ in 0..100 {
+    for _ in 0..1_000 {
         if root.poll(net) == RootState::Closed {
             break;
         }

@@ -18,8 +18,8 @@ use Rattle.serde_json.specs.Data.{Data, boolean, number, unsigned, array, object
 use Rattle.serde_json.specs.Read.{read, max_depth, of_json}
 use Rattle.serde_json.specs.Written.{outline, compact_text}
 use Rattle.serde_json.proofs.Numbers.{number_of-decimal}
-use Rattle.chip_fire.specs.declared.outcome.Outcome.{Outcome}
-use Rattle.chip_fire.specs.Outcomes.{IsOutcome}
+use Rattle.chip_sequence.specs.declared.outcome.Outcome.{Outcome}
+use Rattle.chip_sequence.specs.Outcomes.{IsOutcome}
 use Rattle.chip_graph.specs.Limits.{max_limit, max_total}
 use Rattle.chip_report.specs.OutcomeParts.{AreCounts, AreHalted}
 use Rattle.chip_report.specs.ReportText.{comma, array_text, bool_text, is_empty, is_closed, report_text}

@@ -16,8 +16,8 @@ use Rattle.serde_json.specs.Data.{Data, boolean, number, unsigned, array, object
 use Rattle.serde_json.specs.Read.{read, max_depth, of_json}
 use Rattle.serde_json.specs.Written.{outline, compact_text}
 use Rattle.serde_json.proofs.Numbers.{number_of-decimal}
-use Rattle.chip_fire.specs.declared.sitting.Resumed.{Resumed}
-use Rattle.chip_fire.specs.Resume.{IsResumed, max_prior}
+use Rattle.chip_sequence.specs.declared.resumed.Resumed.{Resumed}
+use Rattle.chip_sequence.specs.Sittings.{IsResumed, max_prior}
 use Rattle.chip_report.specs.ReportText.{array_text, bool_text, is_closed, report_text}
 use Rattle.chip_report.specs.Reportable.{told, IsReportOf, IsNoReport, Gives}
 use Rattle.chip_report.specs.ReportTwo.{report_two_text, IsReportTwoOf, IsNoReportTwo, IsAnyReportOf, IsNoReportAtAll}
@@ -31,8 +31,8 @@ use Rattle.chip_report.proofs.ReportLemmas.{closed_of, AreShortLists, short_list
 use Rattle.chip_report.proofs.ReportLemmas.{AreOfOutcome, outcome_then, outcome_if, json_text, read-value, utf8-text}
 use Rattle.chip_report.proofs.ReportLemmas.{told-value, with_newline}
 use Rattle.chip_report.specs.Laws.{RoundTripTwo}
-use Rattle.chip_fire.specs.declared.outcome.Outcome.{Outcome}
-use Rattle.chip_fire.specs.Outcomes.{IsOutcome}
+use Rattle.chip_sequence.specs.declared.outcome.Outcome.{Outcome}
+use Rattle.chip_sequence.specs.Outcomes.{IsOutcome}
 
 -- ---- the value of a report
 

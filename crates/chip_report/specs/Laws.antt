@@ -1,10 +1,10 @@
 -- The laws of reports, as the functions of `src/laws.rt` state them.
 use Rattle.std.specs.Prelude.{◌≡◌, ◌⊎◌, ℕ, List, Result, Ok, Err}
-use Rattle.chip_fire.specs.declared.sitting.Resumed.{Resumed}
-use Rattle.chip_fire.specs.Resume.{IsResumed}
+use Rattle.chip_sequence.specs.declared.resumed.Resumed.{Resumed}
+use Rattle.chip_sequence.specs.Sittings.{IsResumed}
 use Rattle.chip_report.specs.ReportTwo.{report_two_text, told_of_all, IsReportTwoOf, IsAnyReportOf, IsNoReportAtAll}
-use Rattle.chip_fire.specs.declared.outcome.Outcome.{Outcome}
-use Rattle.chip_fire.specs.Outcomes.{IsOutcome}
+use Rattle.chip_sequence.specs.declared.outcome.Outcome.{Outcome}
+use Rattle.chip_sequence.specs.Outcomes.{IsOutcome}
 use Rattle.chip_report.specs.ReportText.{report_text}
 use Rattle.chip_report.specs.Reportable.{told, IsReportOf, IsNoReport, Gives}
 use Rattle.chip_report.specs.declared.fault.ReportFault.{ReportFault}

@@ -2,7 +2,7 @@
 use Rattle.std.specs.Prelude.{ℕ, zero, suc, Bool, true, false, ◌&&◌, List, [], ◌∷◌, ◌++◌, map, codes}
 use Rattle.std.specs.List.{join_with_byte}
 use Rattle.std.specs.Fmt.{decimal}
-use Rattle.chip_fire.specs.declared.outcome.Outcome.{Outcome}
+use Rattle.chip_sequence.specs.declared.outcome.Outcome.{Outcome}
 
 -- the code of a comma
 abbrev pub comma : ℕ

@@ -2,8 +2,8 @@
 -- report of the last
 -- sitting, and under `prior` how often each vertex fired in the sittings before it.
 use Rattle.std.specs.Prelude.{◌≡◌, ◌⊎◌, ℕ, List, ◌++◌, codes, length, replicate, Option, None, Some, option_and_then}
-use Rattle.chip_fire.specs.declared.sitting.Resumed.{Resumed}
-use Rattle.chip_fire.specs.Resume.{IsResumed}
+use Rattle.chip_sequence.specs.declared.resumed.Resumed.{Resumed}
+use Rattle.chip_sequence.specs.Sittings.{IsResumed}
 use Rattle.serde_json.specs.Data.{Data}
 use Rattle.chip_report.specs.ReportText.{array_text, bool_text, is_closed}
 use Rattle.chip_report.specs.Reportable.{Told, told, IsReportOf}

@@ -1,7 +1,7 @@
 -- Which bytes are a report, and of which outcome.
 use Rattle.std.specs.Prelude.{◌≡◌, ◌⊎◌, ℕ, List, [], ◌∷◌, ◌++◌, Result, Ok, Err, IfErr}
-use Rattle.chip_fire.specs.declared.outcome.Outcome.{Outcome}
-use Rattle.chip_fire.specs.Outcomes.{IsOutcome}
+use Rattle.chip_sequence.specs.declared.outcome.Outcome.{Outcome}
+use Rattle.chip_sequence.specs.Outcomes.{IsOutcome}
 use Rattle.chip_report.specs.ReportText.{report_text}
 use Rattle.chip_report.specs.declared.fault.ReportFault.{ReportFault}
 use Rattle.chip_report.specs.declared.fault.ReportFault.TheVariants as fault

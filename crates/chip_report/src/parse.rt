@@ -6,7 +6,7 @@ ghost use Rattle.chip_report.specs.Reportable.{told, Gives};
 ghost use Rattle.chip_report.specs.ReportJson.{value_of, numbers_of, numbers_under, told_by_value, told_by_json};
 
 use crate::fault::ReportFault;
-use chip_fire::Outcome;
+use chip_sequence::Outcome;
 use serde_json::Value;
 use std::alloc::Global;
 

@@ -6,7 +6,7 @@ use crate::fault::ReportFault;
 use crate::parse::outcome_of_json;
 use crate::report::report;
 use crate::reportable::is_outcome;
-use chip_fire::Outcome;
+use chip_sequence::Outcome;
 use std::alloc::Global;
 
 /// The outcome whose report the bytes are.

@@ -4,7 +4,7 @@ ghost use Rattle.std.specs.Prelude.{◌≡◌, ◌++◌, IfOk, string_bytes};
 ghost use Rattle.std.specs.Fmt.{decimal};
 ghost use Rattle.chip_report.specs.ReportText.{member_text, array_text, bool_text, is_closed, report_text};
 
-use chip_fire::Outcome;
+use chip_sequence::Outcome;
 use std::alloc::{AllocError, Global};
 
 /// The report of an outcome, ending in a newline.

@@ -2,11 +2,11 @@
 
 ghost use Rattle.std.specs.Prelude.{◌≡◌, ◌↔◌, true, Contains};
 ghost use Rattle.std.specs.List.Sorted.{IsStrictlyIncreasing};
-ghost use Rattle.chip_fire.specs.Outcomes.{IsOutcome};
+ghost use Rattle.chip_sequence.specs.Outcomes.{IsOutcome};
 ghost use Rattle.chip_report.specs.OutcomeParts.{AreCounts, AscendBelow, AreApart, AreHalted};
 
-use chip_fire::Outcome;
 use chip_graph::{MAX_LIMIT, MAX_TOTAL, MAX_VERTICES};
+use chip_sequence::Outcome;
 
 /// Whether the numbers are in range, and the halted vertices two ascending lists with none in both.
 pub(crate) fn is_outcome(outcome: &Outcome) -> bool

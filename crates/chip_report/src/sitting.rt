@@ -1,7 +1,7 @@
 //! The report of a play in several sittings, written and read.
 
 ghost use Rattle.std.specs.Prelude.{◌≡◌, ◌≤◌, ◌↔◌, true, None, Some, IfOk, All, length};
-ghost use Rattle.chip_fire.specs.Resume.{IsResumed, max_prior};
+ghost use Rattle.chip_sequence.specs.Sittings.{IsResumed, max_prior};
 ghost use Rattle.serde_json.specs.View.{view};
 ghost use Rattle.chip_report.specs.Reportable.{Gives, GrowsForALine};
 ghost use Rattle.chip_report.specs.ReportTwo.{report_two_text, told_of_all, told_of_all_by_value, told_of_all_by_json};
@@ -12,8 +12,7 @@ use crate::parse::{numbers_under, outcome_of_value, value_of};
 use crate::read::read_report;
 use crate::report::{is_closed, push_array, push_bool};
 use crate::reportable::is_outcome;
-use chip_fire::Resumed;
-use chip_fire::sitting::MAX_PRIOR;
+use chip_sequence::{MAX_PRIOR, Resumed};
 use serde_json::Value;
 use std::alloc::{AllocError, Global};
 

@@ -3,8 +3,8 @@ use Rattle.std.specs.Prelude.{◌≡◌, ◌⊎◌, ℕ, Bool, List, Option, Non
 use Rattle.std.specs.Io.KnownBytes.{Appends, Keeps}
 use Rattle.chip_graph.specs.ChipGame.{ChipGame}
 use Rattle.chip_graph.specs.declared.fault.GameFault.TheVariants.{Total}
-use Rattle.chip_fire.specs.Play.{IsPlayed}
-use Rattle.chip_fire.specs.declared.outcome.Outcome.{Outcome}
+use Rattle.chip_sequence.specs.Play.{IsPlayed}
+use Rattle.chip_sequence.specs.declared.outcome.Outcome.{Outcome}
 use Rattle.chip_report.specs.Written.{WritesAll}
 use Rattle.chip_report.specs.declared.write.WriteFault.{WriteFault}
 use Rattle.chip_crew.specs.Finished.{IsFinished, IsFinishedFed, IsFaultOf, IsFedFaultOf}

@@ -7,7 +7,6 @@ use super::{
     LIMIT, TRIANGLE, all_turn, drive, expect_open, expect_outcome, expect_poll, finished, game,
 };
 use crate::{Actor, FeedFault, Net, Root, RootState};
-use chip_fire::plain;
 use chip_link::Ring;
 use std::alloc::Global;
 use std::process::Abort;
@@ -181,14 +180,14 @@ fn turn_and_feed<R: Threads>(rt: &R, net: &Net, actors: Vec<Actor>, root: Root, 
     root
 }
 
-/// A thousand chips, fed one by one while another thread turns, end as they do where all lie there from the start.
+/// A thousand chips, fed one by one while another thread turns, end as they do where all lie there from the start:
+/// vertex 0 has 1000 - 2 * 666 + 333 left, vertex 1 has 666 - 2 * 333, and the sink got 666 + 333.
 #[test]
 fn fed_on_threads(rt: HostRuntime) -> Result<(), Fail> {
     let alloc = rt.alloc();
-    let end = plain(alloc, &game(alloc, &TRIANGLE, &[1000, 0, 0], LIMIT)?)?;
     let (net, root, actors) = open_triangle(&rt, alloc, &[0, 0, 0])?;
     let root = turn_and_feed(&rt, &net, actors, root, 1000);
     let outcome = finished(&rt, &net, root);
-    assert_eq!(rt; outcome, end);
+    expect_outcome(&rt, &outcome, &[666, 333, 0], &[1, 0, 999], &[]);
     Ok(())
 }

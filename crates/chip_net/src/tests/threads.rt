@@ -2,11 +2,11 @@
 
 ghost use Rattle.std.specs.Prelude.{◌≡◌, All, IfOk, IfSome};
 
-use super::{LIMIT, TRIANGLE, all_turn, expect_outcome, finished, game, next_actor};
+use super::{LIMIT, TRIANGLE, all_turn, drive, expect_outcome, finished, game, next_actor};
 use crate::{Actor, Net, Root, RootState, Stopper};
-use chip_fire::{Outcome, plain};
 use chip_graph::{Edge, Game, Graph};
 use chip_link::Ring;
+use chip_sequence::Outcome;
 use std::alloc::Global;
 use std::process::Abort;
 use std::sync::atomic::AtomicBool;
@@ -245,18 +245,30 @@ fn grid_game(alloc: Global, chips: &[u64]) -> Result<Game, Fail> {
     Ok(Game::new(graph, Vec::from_slice(alloc, chips)?, LIMIT)?)
 }
 
-/// Played on from where it ended, a game comes to the end of the plain player.
-fn expect_plays_on(
-    rt: &impl Abort,
-    alloc: Global,
-    outcome: &Outcome,
-    end: &Outcome,
-) -> Result<(), Fail> {
-    let more = plain(alloc, &grid_game(alloc, &outcome.chips)?)?;
-    for ((fired, more), all) in outcome.fired.iter().zip(&more.fired).zip(&end.fired) {
+/// How often each cell and the sink fire where each cell has four chips: what `examples/play.py` says.
+const FIRED: [u64; 65] = [
+    3, 4, 4, 4, 4, 4, 4, 3, 4, 6, 7, 7, 7, 7, 6, 4, 4, 7, 9, 9, 9, 9, 7, 4, 4, 7, 9, 10, 10, 9, 7,
+    4, 4, 7, 9, 10, 10, 9, 7, 4, 4, 7, 9, 9, 9, 9, 7, 4, 4, 6, 7, 7, 7, 7, 6, 4, 3, 4, 4, 4, 4, 4,
+    4, 3, 0,
+];
+
+/// The chips that they end with, by the same.
+const CHIPS: [u64; 65] = [
+    0, 1, 3, 3, 3, 3, 1, 0, 1, 2, 2, 3, 3, 2, 2, 1, 3, 2, 0, 3, 3, 0, 2, 3, 3, 3, 3, 2, 2, 3, 3, 3,
+    3, 3, 3, 2, 2, 3, 3, 3, 3, 2, 0, 3, 3, 0, 2, 3, 1, 2, 2, 3, 3, 2, 2, 1, 0, 1, 3, 3, 3, 3, 1, 0,
+    120,
+];
+
+/// Played on by turns from where it ended, the game with four chips on each cell comes to its end.
+fn expect_plays_on(rt: &impl Abort, alloc: Global, outcome: &Outcome) -> Result<(), Fail> {
+    let game = grid_game(alloc, &outcome.chips)?;
+    let (net, root, mut actors, _stopper) = Net::open(alloc, &game, Ring::one(), 0, false)?;
+    let root = drive(&net, root, &mut actors);
+    let more = finished(rt, &net, root);
+    for ((fired, more), all) in outcome.fired.iter().zip(&more.fired).zip(&FIRED) {
         assert_eq!(rt; fired.checked_add(*more), Some(*all));
     }
-    assert_eq!(rt; more.chips.as_slice(), end.chips.as_slice());
+    assert_eq!(rt; more.chips.as_slice(), CHIPS.as_slice());
     Ok(())
 }
 
@@ -267,13 +279,12 @@ fn grids(rt: HostRuntime) -> Result<(), Fail> {
     let mut chips = vec![in alloc; 4; (SIDE * SIDE) as usize]?;
     chips.push(0)?;
     let game = grid_game(alloc, &chips)?;
-    let end = plain(alloc, &game)?;
     for round in 0..100 {
         let outcome = played_on_threads(&rt, alloc, &game, round % 4 != 0, round * 2)?;
         if outcome.sealed.is_empty() {
-            assert_eq!(rt; outcome, end);
+            expect_outcome(&rt, &outcome, &FIRED, &CHIPS, &[]);
         }
-        expect_plays_on(&rt, alloc, &outcome, &end)?;
+        expect_plays_on(&rt, alloc, &outcome)?;
     }
     Ok(())
 }

@@ -2,14 +2,14 @@ ghost use Rattle.std.specs.Prelude.{◌≡◌, ◌↔◌, ℕ, length, slice_ind
 
 use super::World;
 use crate::fault::WorldFault;
-use chip_fire::{AfterFault, Outcome, after};
 use chip_graph::Game;
 use chip_part::Cause;
+use chip_sequence::{AfterFault, Outcome, after};
 use std::alloc::{AllocError, Global};
 
 impl World {
-    ghost use Rattle.chip_fire.specs.Outcomes.{IsOutcome};
-    ghost use Rattle.chip_fire.specs.Play.{IsPlayed};
+    ghost use Rattle.chip_sequence.specs.Outcomes.{IsOutcome};
+    ghost use Rattle.chip_sequence.specs.Play.{IsPlayed};
     ghost use Rattle.chip_core.specs.Core.{IsClosed};
     ghost use Rattle.chip_core.specs.Positions.{started, played_game, firings};
     ghost use Rattle.chip_core.specs.Headline.{NoneHaltedBySeal};
@@ -88,7 +88,7 @@ impl World {
     }
 }
 
-ghost use Rattle.chip_fire.specs.Counted.{IsBelowZero, IsAfter};
+ghost use Rattle.chip_sequence.specs.Counted.{IsBelowZero, IsAfter};
 
 /// The chips of each vertex after firings that were made, so that none is below 0.
 fn chips_after(alloc: Global, game: &Game, fired: &[u64]) -> Result<Vec<u64>, AllocError>

@@ -1,5 +1,5 @@
 use Rattle.std.proofs.Common.{ℕ, ◌<◌, slice_index}
-use Rattle.chip_fire.specs.Certificate.{IsBurnt}
+use Rattle.chip_sequence.specs.Certificate.{IsBurnt}
 use Rattle.chip_fire.proofs.certificate.all_burnt.Given as goal
 
 abbrev pub invariant-loop-vertex : goal.invariant-loop-vertex

@@ -1,7 +1,7 @@
 use Rattle.std.proofs.Common.{◌≡◌, ℕ, List, slice_index, ap, ◌∙◌, arith}
 use Rattle.std.proofs.lemmas.List.{with_items_is}
 use Rattle.chip_graph.specs.Multigraph.{Multigraph}
-use Rattle.chip_fire.specs.Firing.{legal_vertices}
+use Rattle.chip_sequence.specs.Firing.{legal_vertices}
 use Rattle.chip_fire.specs.Rounds.{IsBegun}
 use Rattle.chip_fire.proofs.PlayLemmas.{game_played, outcome_is, not_stopped}
 use Rattle.chip_fire.proofs.player.plain_watched.Goals as goal

@@ -3,9 +3,9 @@ use Rattle.std.specs.Vec.{with_items}
 use Rattle.std.proofs.lemmas.List.{with_items_is}
 use Rattle.std.proofs.lemmas.Bool.{and_parts}
 use Rattle.chip_graph.specs.Multigraph.{Multigraph}
-use Rattle.chip_fire.specs.declared.outcome.Outcome.{Outcome}
-use Rattle.chip_fire.specs.Counted.{IsAfter}
-use Rattle.chip_fire.specs.Faults.{IsNegative}
+use Rattle.chip_sequence.specs.declared.outcome.Outcome.{Outcome}
+use Rattle.chip_sequence.specs.Counted.{IsAfter}
+use Rattle.chip_sequence.specs.Faults.{IsNegative}
 use Rattle.chip_net.specs.Roots.{RootKnown, IsOver}
 use Rattle.chip_net.specs.Finish.{TallyState, IsReading, Finishes}
 use Rattle.chip_net.proofs.Finishing.{none_negative, finishes, no_fault}

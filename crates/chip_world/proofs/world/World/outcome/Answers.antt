@@ -1,6 +1,6 @@
 use Rattle.std.proofs.Common.{◌≡◌, ℕ, List, slice_index, sym, subst}
 use Rattle.chip_graph.specs.ChipGame.{ChipGame}
-use Rattle.chip_fire.specs.Counted.{IsBelowZero, IsAfter}
+use Rattle.chip_sequence.specs.Counted.{IsBelowZero, IsAfter}
 use Rattle.chip_core.specs.Positions.{played_game}
 use Rattle.chip_core.proofs.GivenLemmas.{given_is}
 use Rattle.chip_core.proofs.OutcomeLemmas.{never_negative, comes, in_range, is_played}

@@ -1,5 +1,5 @@
 use Rattle.std.proofs.Common.{subst}
-use Rattle.chip_fire.specs.Faults.{IsNegativeOrMemory}
+use Rattle.chip_sequence.specs.Faults.{IsNegativeOrMemory}
 use Rattle.chip_world.proofs.world.outcome.chips_after.Goals as goal
 
 pub unreachable-requires : goal.unreachable-requires

@@ -1,9 +1,0 @@
-use Rattle.std.proofs.Common.{◌≡◌, ◌≤◌, ◌^◌}
-use Rattle.chip_fire.specs.Bound.{firing_bound}
-use Rattle.chip_fire.proofs.bound.enough.Given as goal
-
-abbrev pub invariant-loop : goal.invariant-loop
-invariant-loop l = record {
-  is : l.bound ≡ firing_bound l.total l.degree l.counter;
-  small : l.bound ≤ 2 ^ 40;
-}

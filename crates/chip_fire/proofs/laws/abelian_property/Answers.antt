@@ -1,5 +1,0 @@
-use Rattle.chip_fire.proofs.BoundLemmas.{ends, same_ends}
-use Rattle.chip_fire.proofs.laws.abelian_property.Goals as goal
-
-pub returns : goal.returns
-returns c G x good = (ends G good x, same_ends G good x)

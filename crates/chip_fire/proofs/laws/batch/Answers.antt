@@ -1,5 +1,0 @@
-use Rattle.chip_fire.proofs.FiringLemmas.{batch}
-use Rattle.chip_fire.proofs.laws.batch.Goals as goal
-
-pub returns : goal.returns
-returns c G x v k = batch G v k x

@@ -1,5 +1,0 @@
-use Rattle.chip_fire.proofs.BoundLemmas.{enough_law}
-use Rattle.chip_fire.proofs.laws.enough_limit.Goals as goal
-
-pub returns : goal.returns
-returns c G x good distance limit far = enough_law G good x distance far.greatest limit

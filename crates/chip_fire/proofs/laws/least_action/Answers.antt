@@ -1,5 +1,0 @@
-use Rattle.chip_fire.proofs.EndLemmas.{least_action}
-use Rattle.chip_fire.proofs.laws.least_action.Goals as goal
-
-pub returns : goal.returns
-returns c = least_action

@@ -1,5 +1,0 @@
-use Rattle.chip_fire.proofs.LegalLemmas.{legal_vertices_law}
-use Rattle.chip_fire.proofs.laws.legal_vertices.Goals as goal
-
-pub returns : goal.returns
-returns c = legal_vertices_law

@@ -1,5 +1,0 @@
-use Rattle.chip_fire.proofs.EndLemmas.{one_end}
-use Rattle.chip_fire.proofs.laws.one_end.Goals as goal
-
-pub returns : goal.returns
-returns c = one_end

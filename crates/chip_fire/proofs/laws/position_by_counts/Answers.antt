@@ -1,5 +1,0 @@
-use Rattle.chip_fire.proofs.FiringLemmas.{position_by_counts_law}
-use Rattle.chip_fire.proofs.laws.position_by_counts.Goals as goal
-
-pub returns : goal.returns
-returns c = position_by_counts_law

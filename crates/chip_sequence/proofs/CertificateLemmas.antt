@@ -1,0 +1,205 @@
+-- Counts that are forced: by a certificate, by playing on, and at the end.
+use Rattle.std.proofs.Common.{◌≡◌, ℕ, zero, suc, ◌+◌, ◌-◌, ◌*◌, ◌<◌, ◌≤◌, eqb, List, [], ◌∷◌, length, slice_index, refl}
+use Rattle.std.proofs.Common.{sym, ap, ◌∙◌, subst, arith, eq-eqb, mul-add, mul-zero, mul-le-mul_right}
+use Rattle.std.proofs.lemmas.List.{get_or_past}
+use mathlib.Core.Logic.{dite}
+use native.Mathlib.Decide.{ℕ_discrete, dec_lt}
+use Rattle.chip_graph.specs.Sums.{sum_below}
+use Rattle.chip_graph.specs.Multigraph.{Multigraph, edge_at, degree, IsWalk, IsGraph}
+use Rattle.chip_graph.specs.ChipGame.{ChipGame, IsGame}
+use Rattle.chip_graph.proofs.SumLemmas.{cond_no, sum_below_le, sum_below_none, tested_ext, tested_add, tested_term}
+use Rattle.chip_sequence.specs.Firing.{IsLegal}
+use Rattle.chip_sequence.specs.Sequence.{position_after, IsFiringSequence, counts, IsWholePlay}
+use Rattle.chip_sequence.specs.Counted.{inflow, IsAfter}
+use Rattle.chip_sequence.specs.Certificate.{AreForced, IsEarned, IsCertified, IsOnTheWay}
+use Rattle.chip_sequence.proofs.FiringLemmas.{inflow_le, inflow_none, IsLedTo, led_once, position_is}
+use Rattle.chip_sequence.proofs.EndLemmas.{least_from, least}
+use Rattle.chip_sequence.proofs.BoundLemmas.{flows_through}
+
+-- ---- sums
+
+-- where no term is above the other's, and the sum is not below, the terms are equal
+sum_below_tight : (n : ℕ) (f h : ℕ → ℕ) → ((e : ℕ) → e < n → f e ≤ h e) → sum_below n h ≤ sum_below n f → (e : ℕ)
+    → e < n → h e ≤ f e
+sum_below_tight zero f h p s e l = absurd (omega arith)
+sum_below_tight (suc n) f h p s e l =
+    let a = sum_below_le n f h (λ i m. p i (omega arith)) in
+    let b = p n (omega arith) in
+    dite (ℕ_discrete e n)
+    (λ same. subst (λ (i : ℕ). h i ≤ f i) (sym same) (omega arith))
+    (λ other. sum_below_tight n f h (λ i m. p i (omega arith)) (omega arith) e (omega arith))
+
+-- what is 0 in one factor brings nothing
+nothing_times : (d w : ℕ) → w ≡ 0 → d * w ≡ 0
+nothing_times d w e = ap (λ (n : ℕ). d * n) e ∙ mul-zero d
+
+-- a vertex that has earned by g what it has not fired by u: where it is not legal by u, it takes no more away by what
+-- is missing than flows in by it
+missing : (d g u w chips start in_g in_u in_w : ℕ) → g ≡ u + w → d * (g + 1) ≤ start + in_g + 1
+    → chips + d * u ≡ start + in_u → chips < d → in_g ≤ in_u + in_w → d * w ≤ in_w
+missing d g u w chips start in_g in_u in_w split earned is short flows =
+    let a : d * (g + 1) ≡ d * (u + w + 1) = ap (λ (n : ℕ). d * (n + 1)) split in
+    let b = mul-add d (u + w) 1 in
+    let c = mul-add d u w in
+    omega arith
+
+module _ (G : Multigraph) where
+  -- what flows in by two counts together
+  pub inflow_add : (f h : ℕ → ℕ) (u : ℕ) → inflow G (λ z. f z + h z) u ≡ inflow G f u + inflow G h u
+  inflow_add f h u =
+      tested_ext _ (λ e. eqb (edge_at G e).head u)
+      (λ e. (edge_at G e).mult * (f (edge_at G e).tail + h (edge_at G e).tail))
+      (λ e. (edge_at G e).mult * f (edge_at G e).tail + (edge_at G e).mult * h (edge_at G e).tail)
+      (λ e l on. mul-add (edge_at G e).mult (f (edge_at G e).tail) (h (edge_at G e).tail))
+      ∙ tested_add _ (λ e. eqb (edge_at G e).head u) (λ e. (edge_at G e).mult * f (edge_at G e).tail)
+      (λ e. (edge_at G e).mult * h (edge_at G e).tail)
+
+  -- ---- a certificate
+
+  module _ (good : IsGraph G) where
+    -- counts by which no vertex takes more away than flows in
+    module _ (w : ℕ → ℕ) (gains : (v : ℕ) → v < G.vertices → degree G v * w v ≤ inflow G w v) where
+      -- no vertex gains by them
+      balanced : (v : ℕ) → v < G.vertices → inflow G w v ≤ degree G v * w v
+      balanced = sum_below_tight G.vertices (λ v. degree G v * w v) (inflow G w) gains
+          (let a = flows_through G good w in omega arith)
+
+      -- the head of an edge fires where its tail does
+      onward : (e : ℕ) → e < length G.edges → 0 < w (edge_at G e).tail → 0 < w (edge_at G e).head
+      onward e l some = dite (dec_lt 0 (w (edge_at G e).head))
+          (λ m. m)
+          (λ none.
+          let edge = good.edges_fit e l in
+          let a = balanced (edge_at G e).head edge.head_is_vertex in
+          let b = nothing_times (degree G (edge_at G e).head) (w (edge_at G e).head) (omega arith) in
+          let c : (edge_at G e).mult * w (edge_at G e).tail ≤ inflow G w (edge_at G e).head =
+          tested_term (length G.edges) (λ i. eqb (edge_at G i).head (edge_at G e).head)
+          (λ i. (edge_at G i).mult * w (edge_at G i).tail) e l
+          (eq-eqb (edge_at G e).head (edge_at G e).head refl) in
+          let d : 1 * w (edge_at G e).tail ≤ (edge_at G e).mult * w (edge_at G e).tail =
+          mul-le-mul_right (w (edge_at G e).tail) (let k = edge.some_chips in
+          let k' : 1 ≤ (edge_at G e).mult = omega arith in k') in
+          absurd (omega arith))
+
+      -- so the sink does, where a walk leads to it
+      onward_to_sink : (es : List ℕ) (v : ℕ) → IsWalk G v es G.sink → 0 < w v → 0 < w G.sink
+      onward_to_sink [] v is some = subst (λ (u : ℕ). 0 < w u) is some
+      onward_to_sink (e ∷ es) v way some =
+          onward_to_sink es (edge_at G e).head way.2 (onward e way.0 (subst (λ (u : ℕ). 0 < w u) (sym way.1) some))
+
+    module _ (x : ℕ → ℕ) (limit : ℕ) (f g : ℕ → ℕ) (forced : AreForced G x limit f)
+        (certified : IsCertified G x limit f g) where
+      pub certified_counts : AreForced G x limit g
+      certified_counts vs ok ended u = dite (dec_lt (counts vs u) (g u))
+          (λ more.
+          let short : ℕ → ℕ = λ v. g v - counts vs v in
+          let way = good.all_reach u (earned u more).is_vertex in
+          let at_sink = onward_to_sink short gains way.0 u way.1 (omega arith) in
+          absurd ((earned G.sink (omega arith)).not_sink refl))
+          (λ enough. omega arith)
+        where
+          earned : (v : ℕ) → counts vs v < g v → IsEarned G x limit g v
+          earned v more = certified v (let a = forced vs ok ended v in omega arith)
+
+          gains : (v : ℕ) → v < G.vertices → degree G v * (g v - counts vs v) ≤ inflow G (λ w. g w - counts vs w) v
+          gains v l = dite (dec_lt (counts vs v) (g v))
+              (λ more.
+              let why = earned v more in
+              let within = why.within in
+              let not_legal : position_after G x vs v < degree G v =
+              dite (dec_lt (position_after G x vs v) (degree G v)) (λ short. short)
+              (λ enough. let full = ended v (record {
+                is_vertex = l;
+                not_sink = why.not_sink;
+                enough_chips = omega arith;
+              }) in absurd (omega arith)) in
+              missing (degree G v) (g v) (counts vs v) (g v - counts vs v) (position_after G x vs v) (x v)
+              (inflow G g v) (inflow G (counts vs) v) (inflow G (λ w. g w - counts vs w) v)
+              (omega arith) why.one_missing (position_is G vs x ok v) not_legal
+              (let a = inflow_le G g (λ w. counts vs w + (g w - counts vs w)) (λ w. omega arith) v in
+              let b = inflow_add (counts vs) (λ w. g w - counts vs w) v in omega arith))
+              (λ enough. let a = nothing_times (degree G v) (g v - counts vs v) (omega arith) in omega arith)
+
+  -- ---- on the way
+
+  module _ (x : ℕ → ℕ) (limit : ℕ) where
+    -- who is on the way has been led there
+    pub led : (y f : ℕ → ℕ) → IsOnTheWay G x limit y f → IsLedTo G x f y
+    led y f is u = let a = is.none_below u in let b = is.position u in omega arith
+
+    -- who has been led there by forced counts is on the way
+    pub on_the_way : (y f : ℕ → ℕ) → IsLedTo G x f y → AreForced G x limit f → IsOnTheWay G x limit y f
+    on_the_way y f to forced = record {
+      none_below = λ u low. (let a = to u in absurd (omega arith));
+      position = λ u. (let a = to u in omega arith);
+      forced = forced;
+    }
+
+    -- who is on the way is so with equal chips and counts
+    pub same_way : (y f y' f' : ℕ → ℕ) → IsOnTheWay G x limit y f → ((u : ℕ) → y' u ≡ y u) → ((u : ℕ) → f' u ≡ f u)
+        → IsOnTheWay G x limit y' f'
+    same_way y f y' f' is same same' =
+        let here : y ≡ y' = (λ i u. sym (same u) i) in
+        let here' : f ≡ f' = (λ i u. sym (same' u) i) in
+        subst (λ (z : ℕ → ℕ). IsOnTheWay G x limit z f') here (subst (IsOnTheWay G x limit y) here' is)
+
+    -- nothing is forced
+    pub none_forced : AreForced G x limit (λ v. 0)
+    none_forced vs ok ended u = omega arith
+
+    -- the start is on the way
+    pub start_on_the_way : IsOnTheWay G x limit x (λ v. 0)
+    start_on_the_way =
+        on_the_way x (λ v. 0)
+        (λ u. (let a = inflow_none G (λ v. 0) (λ v. refl) u in let b = mul-zero (degree G u) in omega arith))
+        none_forced
+
+    module _ (y f : ℕ → ℕ) (is : IsOnTheWay G x limit y f) where
+      pub playing_on : (vs : List ℕ) → IsFiringSequence G y vs → ((u : ℕ) → f u + counts vs u ≤ limit)
+          → IsOnTheWay G x limit (position_after G y vs) (λ u. f u + counts vs u)
+      playing_on vs ok within = on_the_way (position_after G y vs) (λ u. f u + counts vs u)
+          (λ u.
+          let a = led y f is u in
+          let b = position_is G vs y ok u in
+          let c = inflow_add f (counts vs) u in
+          let d = mul-add (degree G u) (f u) (counts vs u) in
+          omega arith)
+          (λ ws ws_ok ws_ended. least_from G x limit (counts ws) (position_after G x ws) (position_is G ws x ws_ok)
+          ws_ended vs f y (led y f is) (is.forced ws ws_ok ws_ended) ok within)
+
+      module _ (rests : (v : ℕ) → IsLegal G y v → f v ≡ limit) (vs : List ℕ) (play : IsWholePlay G x limit vs) where
+        end_counts : (u : ℕ) → f u ≡ counts vs u
+        end_counts u =
+            let a = is.forced vs play.sequence play.ended u in
+            let b = least G x limit f y (led y f is) rests vs play.sequence play.within u in
+            omega arith
+
+        pub end_of_the_way : ((u : ℕ) → f u ≡ counts vs u) × ((u : ℕ) → y u ≡ position_after G x vs u)
+        end_of_the_way = (
+          end_counts,
+          led_once G x f (counts vs) y (position_after G x vs) (led y f is)
+              (position_is G vs x play.sequence) end_counts,
+        )
+
+-- ---- the check of a certificate
+
+-- nothing flows in where no vertex is
+inflow_outside : (G : Multigraph) → IsGraph G → (f : ℕ → ℕ) (u : ℕ) → G.vertices ≤ u → inflow G f u ≡ 0
+inflow_outside G good f u past =
+    sum_below_none (length G.edges) _
+    (λ e l. cond_no (edge_at G e).head u _ 0
+    (λ same. (let a = (good.edges_fit e l).head_is_vertex in absurd (omega arith))))
+
+module _ (g : ChipGame) (ok : IsGame g) (fired : List ℕ) where
+  -- the counts lead to the chips that they leave
+  pub led_after : (chips : List ℕ) → length fired ≡ g.graph.vertices → IsAfter g fired chips
+      → IsLedTo g.graph (slice_index g.start) (slice_index fired) (slice_index chips)
+  led_after chips each after u = dite (dec_lt u g.graph.vertices)
+      (λ l. let a = after.none_below u l in let b = after.by_counts u l in omega arith)
+      (λ past.
+      let a : slice_index chips u ≡ 0 = get_or_past chips u 0 (let b = after.chips_each in omega arith) in
+      let b : slice_index fired u ≡ 0 = get_or_past fired u 0 (omega arith) in
+      let c : slice_index g.start u ≡ 0 = get_or_past g.start u 0 (let d = ok.start_fits in omega arith) in
+      let d = nothing_times (degree g.graph u) (slice_index fired u) b in
+      let e = inflow_outside g.graph ok.graph_fits (slice_index fired) u (omega arith) in
+      omega arith)

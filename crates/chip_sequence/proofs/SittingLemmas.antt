@@ -1,0 +1,69 @@
+-- Plays in several sittings: what they lead to, and that they add up.
+use Rattle.std.proofs.Common.{◌≡◌, ℕ, ◌+◌, List, [], ◌∷◌, ◌++◌, slice_index, refl, sym, ap, ◌∙◌, subst, arith}
+use Rattle.chip_graph.specs.Multigraph.{Multigraph, IsGraph}
+use Rattle.chip_sequence.specs.Firing.{IsLegal}
+use Rattle.chip_sequence.specs.Sequence.{position_after, IsFiringSequence, counts, HasEnded, IsWholePlay}
+use Rattle.chip_sequence.specs.Sittings.{Leads, LeadsTo, AreSittings, counts_of_all, left_by_all}
+use Rattle.chip_sequence.specs.Sittings.{SittingsAddUp, PlayedIsSitting}
+use Rattle.chip_sequence.proofs.FiringLemmas.{counts-append, position-append, sequence-append}
+use Rattle.chip_sequence.proofs.BoundLemmas.{same_ends}
+
+-- nothing fired
+pub leads_none : (G : Multigraph) (x : ℕ → ℕ) → LeadsTo G x (λ v. 0) x
+leads_none G x = ([], record { sequence = tt; counted = λ v. refl; position = λ v. refl })
+
+-- one after the other
+pub leads_both : (G : Multigraph) (x f y h z : ℕ → ℕ) → LeadsTo G x f y → LeadsTo G y h z
+    → LeadsTo G x (λ v. f v + h v) z
+leads_both G x f y h z one two =
+    let vs : List ℕ = one.0 in
+    let first : Leads G x f y vs = one.1 in
+    let ws : List ℕ = two.0 in
+    let second : Leads G y h z ws = two.1 in
+    let there : y ≡ position_after G x vs = (λ i u. first.position u i) in (
+      vs ++ ws,
+      record {
+        sequence = sequence-append G vs ws x first.sequence
+            (subst (λ (p : ℕ → ℕ). IsFiringSequence G p ws) there second.sequence);
+        counted = λ u. (let a = first.counted u in let b = second.counted u in let c = counts-append vs ws u in
+            omega arith);
+        position = λ u. second.position u ∙ ap (λ (p : ℕ → ℕ). position_after G p ws u) there
+            ∙ sym (ap (λ (p : ℕ → ℕ). p u) (position-append G vs ws x));
+      },
+    )
+
+-- all sittings are one
+pub leads_all : (G : Multigraph) (x : ℕ → ℕ) (sittings : List ((ℕ → ℕ) × (ℕ → ℕ))) → AreSittings G x sittings
+    → LeadsTo G x (counts_of_all sittings) (left_by_all x sittings)
+leads_all G x [] are = leads_none G x
+leads_all G x ((f, y) ∷ rest) are =
+    leads_both G x f y (counts_of_all rest) (left_by_all y rest) are.0 (leads_all G y rest are.1)
+
+-- whatever goes on to an end has, with what was fired before, the counts and the end of every play that ends
+pub ends_alike : (G : Multigraph) → IsGraph G → (x f y : ℕ → ℕ) → LeadsTo G x f y → (ws : List ℕ)
+    → IsFiringSequence G y ws → HasEnded G y ws
+    → (vs : List ℕ) → IsFiringSequence G x vs → HasEnded G x vs
+    → ((v : ℕ) → f v + counts ws v ≡ counts vs v) × ((v : ℕ) → position_after G y ws v ≡ position_after G x vs v)
+ends_alike G good x f y one ws ok ended vs ok' ended' =
+    let us : List ℕ = one.0 in
+    let first : Leads G x f y us = one.1 in
+    let there : y ≡ position_after G x us = (λ i u. first.position u i) in
+    let goes : position_after G x (us ++ ws) ≡ position_after G y ws = position-append G us ws x
+    ∙ ap (λ (p : ℕ → ℕ). position_after G p ws) (sym there) in
+    let sequence : IsFiringSequence G x (us ++ ws) =
+    sequence-append G us ws x first.sequence (subst (λ (p : ℕ → ℕ). IsFiringSequence G p ws) there ok) in
+    let same = same_ends G good x (us ++ ws) vs sequence
+    (λ v can. ended v (subst (λ (p : ℕ → ℕ). IsLegal G p v) goes can)) ok' ended' in (
+      λ v. (let a = first.counted v in let b = counts-append us ws v in let c = same.0 v in omega arith),
+      λ v. sym (ap (λ (p : ℕ → ℕ). p v) goes) ∙ same.1 v,
+    )
+
+pub sittings_add_up : SittingsAddUp
+sittings_add_up G good x sittings are =
+    ends_alike G good x (counts_of_all sittings) (left_by_all x sittings) (leads_all G x sittings are)
+
+pub played_is_sitting : PlayedIsSitting
+played_is_sitting g o played =
+    let vs : List ℕ = played.ends.0 in
+    let whole : IsWholePlay g.graph (slice_index g.start) g.limit vs = played.ends.1 in
+    (vs, record { sequence = whole.sequence; counted = played.counted vs whole; position = played.position vs whole })

@@ -1,0 +1,7 @@
+use Rattle.std.proofs.Common.{◌≡◌}
+use Rattle.chip_graph.specs.Multigraph.{degree}
+use Rattle.chip_sequence.specs.Bound.{greatest_below}
+use Rattle.chip_sequence.proofs.bound.most_sent.Given as goal
+
+abbrev pub invariant-loop-vertex : goal.invariant-loop-vertex
+invariant-loop-vertex l = l.most ≡ greatest_below l.vertex (degree l.graph)

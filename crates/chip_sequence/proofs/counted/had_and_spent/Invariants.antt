@@ -1,0 +1,8 @@
+use Rattle.std.proofs.Common.{◌≡◌, ◌+◌, ◌*◌, take, sum_by, slice_index}
+use Rattle.chip_graph.specs.Multigraph.{edge_at, edges_in}
+use Rattle.chip_sequence.proofs.counted.had_and_spent.Given as goal
+
+abbrev pub invariant-loop-e : goal.invariant-loop-e
+invariant-loop-e l = l.had ≡ slice_index l.game.start l.vertex + sum_by
+    (λ e. (edge_at l.game.graph e).mult * slice_index l.fired (edge_at l.game.graph e).tail)
+    (take l.e-index (edges_in l.game.graph l.vertex))

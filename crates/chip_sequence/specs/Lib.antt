@@ -1,0 +1,15 @@
+pub use Rattle.chip_graph.specs.Limits
+pub use Rattle.chip_graph.specs.Sums
+pub use Rattle.chip_graph.specs.Multigraph
+pub use Rattle.chip_graph.specs.ChipGame
+pub mod Firing
+pub mod Sequence
+pub mod Counted
+pub mod Certificate
+pub mod Bound
+pub mod Laws
+pub mod Worked
+pub mod Play
+pub mod Outcomes
+pub mod Faults
+pub mod Sittings

@@ -1,0 +1,98 @@
+ghost use Rattle.std.specs.Prelude.{◌≡◌, ℕ, ◌+◌, ◌*◌, ◌<◌, length, slice_index, MatchResult, MatchOption, OnErr};
+ghost use Rattle.chip_graph.specs.Multigraph.{degree};
+ghost use Rattle.chip_graph.specs.ChipGame.{IsGame};
+ghost use Rattle.chip_sequence.specs.Counted.{inflow, IsBelowZero, IsLeastBelowZero, IsAfter};
+ghost use Rattle.chip_sequence.specs.Faults.{IsNegative, IsNegativeOrMemory};
+
+use chip_graph::Game;
+use std::alloc::{AllocError, Global};
+use thiserror::Error;
+
+/// Why counts lead to no position.
+#[derive(Clone, Copy, Debug, Error)]
+pub enum AfterFault {
+    /// This vertex would have fired more chips than it ever got, and it is the least such vertex.
+    #[error("vertex {0} would be below 0")]
+    Negative(u64),
+    /// Memory ran out.
+    #[error("out of memory")]
+    NoMemory,
+}
+
+impl From<AllocError> for AfterFault {
+    ghost use Rattle.std.specs.Prelude.{◌≡◌};
+    ghost use Rattle.chip_sequence.specs.declared.counted.AfterFault.TheVariants.{NoMemory};
+
+    ghost from_gives = { λ _ fault. fault ≡ NoMemory };
+
+    fn from(_error: AllocError) -> AfterFault {
+        AfterFault::NoMemory
+    }
+}
+
+/// The chips of each vertex once each has fired as often as `fired` says, in whatever order.
+///
+/// Any counts may be asked for: nothing says that some firing sequence has them.
+pub fn after(alloc: Global, game: &Game, fired: &[u64]) -> Result<Vec<u64>, AfterFault>
+    requires { length fired.now ≡ game.now.graph.vertices }
+    ensures { MatchResult result (λ chips. IsAfter game.now fired.now chips.items)
+        (IsNegativeOrMemory game.now fired.now) }
+{
+    let mut chips = vec![in alloc; 0; fired.len()]?;
+    after_into(game, fired, &mut chips)?;
+    Ok(chips)
+}
+
+/// What `after` answers, written into a slice that has a number for each vertex; it takes no memory.
+/// The slice stays as it was where some vertex would be below 0.
+pub fn after_into(game: &Game, fired: &[u64], into: &mut [u64]) -> Result<(), AfterFault>
+    requires counts_each { length fired.now ≡ game.now.graph.vertices }
+    requires chips_each { length into.old ≡ game.now.graph.vertices }
+    ensures cases { MatchResult result (λ _. IsAfter game.now fired.now into.new) (IsNegative game.now fired.now) }
+    ensures unchanged { OnErr result (into.new ≡ into.old) }
+{
+    if let Some(vertex) = first_negative(game, fired) {
+        return Err(AfterFault::Negative(vertex));
+    }
+    for (vertex, chips) in into.iter_mut().enumerate() {
+        let (had, spent) = had_and_spent(game, fired, vertex as u64);
+        *chips = (had - spent) as u64;
+    }
+    Ok(())
+}
+
+/// The least vertex that would be below 0.
+fn first_negative(game: &Game, fired: &[u64]) -> Option<u64>
+    requires { length fired.now ≡ game.now.graph.vertices }
+    ensures game { IsGame game.now }
+    ensures least { MatchOption result
+        ((v : ℕ) → v < game.now.graph.vertices
+        → IsBelowZero game.now.graph (slice_index game.now.start) (slice_index fired.now) v → ⊥)
+        (IsLeastBelowZero game.now.graph (slice_index game.now.start) (slice_index fired.now)) }
+{
+    for vertex in 0..game.graph().vertices() {
+        let (had, spent) = had_and_spent(game, fired, vertex);
+        if had < spent {
+            return Some(vertex);
+        }
+    }
+    None
+}
+
+/// How many chips a vertex ever has, at the start and along its edges, and how many its firings take away.
+fn had_and_spent(game: &Game, fired: &[u64], vertex: u64) -> (u128, u128)
+    requires is_vertex { vertex < game.now.graph.vertices }
+    requires counts_each { length fired.now ≡ game.now.graph.vertices }
+    ensures had { result.0 ≡ slice_index game.now.start vertex + inflow game.now.graph (slice_index fired.now) vertex }
+    ensures spent { result.1 ≡ degree game.now.graph vertex * slice_index fired.now vertex }
+{
+    let graph = game.graph();
+    let edges = graph.edges();
+    let mut had = u128::from(game.start()[vertex as usize]);
+    for e in graph.ins(vertex) {
+        let edge = edges[*e as usize];
+        had += u128::from(edge.mult) * u128::from(fired[edge.tail as usize]);
+    }
+    let spent = u128::from(graph.out_degree(vertex)) * u128::from(fired[vertex as usize]);
+    (had, spent)
+}

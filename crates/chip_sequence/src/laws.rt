@@ -1,0 +1,115 @@
+//! The laws of chip-firing: functions that do nothing, whose contracts are the laws.
+//!
+//! They speak of any directed multigraph and any position, limit and firing sequence on it; where a
+//! law needs the global sink it says so. `docs/GAME.md` goes through them in this order.
+
+ghost use Rattle.chip_sequence.specs.Worked.{SmallTriangle, OneChipShort};
+ghost use Rattle.chip_sequence.specs.Laws.{LegalVertices, PositionByCounts, Batch, Diamond, LeastAction, OneEnd};
+ghost use Rattle.chip_sequence.specs.Laws.{Continuation, ChipsAreKept, FiringBound, Enough, AbelianProperty, MoreChips};
+ghost use Rattle.chip_sequence.specs.Laws.{CertifiedCounts, BurntCounts, FiredBurn, ScriptCounts, PlayingOn, EndOfTheWay};
+ghost use Rattle.chip_sequence.specs.Sittings.{SittingsAddUp, PlayedIsSitting};
+
+/// The game on the smallest graph on which a vertex sends chips back, played by hand.
+pub fn triangle()
+    ensures small_triangle { SmallTriangle }
+    ensures one_chip_short { OneChipShort }
+{}
+
+/// The list of the legal vertices has exactly these.
+pub fn legal_vertices()
+    ensures { LegalVertices }
+{}
+
+/// What a firing sequence leaves depends on how often each vertex fired, and not on the order.
+pub fn position_by_counts()
+    ensures { PositionByCounts }
+{}
+
+/// Several firings of one vertex in a row are firings one at a time.
+pub fn batch()
+    ensures { Batch }
+{}
+
+/// Two legal vertices may fire in either order, to the same position.
+pub fn diamond()
+    ensures { Diamond }
+{}
+
+/// A sequence that has ended fires each vertex at least as often as any other.
+pub fn least_action()
+    ensures { LeastAction }
+{}
+
+/// All sequences that have ended agree, in their counts and in where they end.
+pub fn one_end()
+    ensures { OneEnd }
+{}
+
+/// Every sequence can be continued to one that has ended.
+pub fn continuation()
+    ensures { Continuation }
+{}
+
+/// No chip is made or lost.
+pub fn chips_are_kept()
+    ensures { ChipsAreKept }
+{}
+
+/// No vertex fires more often than the bound at its distance from the sink.
+pub fn firing_bound()
+    ensures { FiringBound }
+{}
+
+/// A limit of at least the bound at the greatest distance stops no vertex.
+pub fn enough_limit()
+    ensures { Enough }
+{}
+
+/// The game without a limit: each sequence can be played to an end, and all ends agree.
+pub fn abelian_property()
+    ensures { AbelianProperty }
+{}
+
+/// Chips added to a position keep a sequence legal.
+pub fn more_chips()
+    ensures { MoreChips }
+{}
+
+/// What is certified by whole numbers at each vertex is reached by every sequence that has ended.
+pub fn certified_counts()
+    ensures { CertifiedCounts }
+{}
+
+/// What passes the burning test at each vertex is reached by every sequence that has ended: where no
+/// in-degree is above the degree.
+pub fn burnt_counts()
+    ensures { BurntCounts }
+{}
+
+/// The burning test loses nothing where no in-degree is above the degree: what a sequence fires passes it,
+/// by the order in which its vertices fire for the last time.
+pub fn fired_burn()
+    ensures { FiredBurn }
+{}
+
+/// The burning test for any graph: a sequence that could be played last takes the place of each vertex
+/// once.
+pub fn script_counts()
+    ensures { ScriptCounts }
+{}
+
+/// From counts that must be reached, each firing that is legal there leads to counts that must be reached.
+pub fn playing_on()
+    ensures { PlayingOn }
+{}
+
+/// Where nothing may go on, counts that must be reached are those of every whole play.
+pub fn end_of_the_way()
+    ensures { EndOfTheWay }
+{}
+
+/// The sittings of a play add up, however many there are and whatever stopped each.
+pub fn sittings()
+    ensures add_up { SittingsAddUp }
+    ensures played { PlayedIsSitting }
+{}

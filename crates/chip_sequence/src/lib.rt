@@ -1,0 +1,20 @@
+//! Chip-firing by itself: firings, firing sequences and their laws, positions by counts, and outcomes.
+//!
+//! Nothing here plays a game. The laws speak of every firing sequence, and of counts that every whole play must
+//! reach; who plays a game, by whatever order or guess, proves its outcome from them.
+#![tactic(auto)]
+
+pub use bound::enough;
+pub use counted::{AfterFault, after, after_into};
+pub use firing::{NotLegal, fire, fire_batch};
+pub use outcome::Outcome;
+pub use resumed::{MAX_PRIOR, Resumed};
+
+pub mod bound;
+pub mod counted;
+pub mod firing;
+pub mod laws;
+pub mod outcome;
+pub mod resumed;
+#[cfg(test)]
+mod tests;

@@ -17,7 +17,7 @@ mod turn;
 /// Contracts see it as plain data (`specs/Actor.antt`) and say what it does to the part of the core that it stands for.
 /// A call takes time logarithmic in the vertex's edges at most, but that a firing takes time linear in the edges out of
 /// it.
-#[derive(Debug, Drop)]
+#[derive(Drop)]
 pub struct ActorState {
     vertex: u64,
     is_sink: bool,

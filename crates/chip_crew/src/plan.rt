@@ -34,7 +34,7 @@ pub trait Gate {
 }
 
 /// When worker 0 seals an edge.
-#[derive(Clone, Copy, Debug, PartialEq, Eq)]
+#[derive(Clone, Copy)]
 pub struct SealAt {
     /// Before the turn of worker 0 that has this number, counted from 0. A turn that is never made seals nothing.
     pub turn: u64,
@@ -43,7 +43,7 @@ pub struct SealAt {
 }
 
 /// How a crew is to work.
-#[derive(Clone, Copy, Debug, PartialEq, Eq)]
+#[derive(Clone, Copy)]
 pub struct Plan {
     /// How many threads share the actors, 1 to `MAX_WORKERS`.
     pub workers: u64,

@@ -12,7 +12,7 @@ use std::marker::Model;
 /// An edge is found by binary search. Whoever goes through the edges in ascending order knows where
 /// each stands, and gives its index to the calls whose names end in `_at`, which look for nothing.
 /// The deficit is kept, and `new` alone takes memory.
-#[derive(Debug, Drop)]
+#[derive(Drop)]
 pub struct Detect {
     /// An open message here is one that the vertex owes an acknowledgement.
     ins: Tallies,

@@ -9,7 +9,7 @@ use std::marker::Model;
 
 /// The edges into a vertex, its root edge last, by ascending numbers. The numbers stand apart, so that a search reads
 /// nothing else.
-#[derive(Debug, Drop)]
+#[derive(Drop)]
 pub struct Ins {
     edges: Vec<u64>,
     ends: Vec<HeadLink>,

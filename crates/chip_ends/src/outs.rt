@@ -9,7 +9,7 @@ use std::alloc::{AllocError, Global};
 use std::marker::Model;
 
 /// One edge out of a vertex.
-#[derive(Debug, Drop)]
+#[derive(Drop)]
 pub struct OutEnd {
     /// The chips that one firing sends along it.
     pub mult: u64,
@@ -20,7 +20,7 @@ pub struct OutEnd {
 }
 
 /// The edges out of a vertex, by ascending numbers. The numbers stand apart, so that a search reads nothing else.
-#[derive(Debug, Drop)]
+#[derive(Drop)]
 pub struct Outs {
     edges: Vec<u64>,
     ends: Vec<OutEnd>,

@@ -8,7 +8,7 @@ pub const HALTED: u8 = 2;
 pub const OPEN: u8 = 3;
 
 /// How a command ended that wrote its output.
-#[derive(Clone, Copy, Debug, PartialEq, Eq)]
+#[derive(Clone, Copy, PartialEq, Eq)]
 pub struct Ended {
     /// The exit status.
     pub status: u8,

@@ -1,7 +1,7 @@
 //! The table of faults: the number and the name of each, what it means, and what to do.
 
 /// What the numbers behind a fault's name are.
-#[derive(Clone, Copy, Debug)]
+#[derive(Clone, Copy)]
 pub struct Place {
     /// What stands for the numbers behind the name, each after a space.
     pub letters: &'static str,
@@ -77,7 +77,7 @@ n is how many messages of the root were not acknowledged yet.
 }
 
 /// A row of the table.
-#[derive(Clone, Copy, Debug)]
+#[derive(Clone, Copy)]
 pub struct Explanation {
     pub number: u64,
     pub name: &'static str,

@@ -35,10 +35,7 @@ fn reads_a_run_of_every_vertex(rt: HostRuntime) -> Result<(), Fail> {
     for (vertex, trace) in traces.iter().enumerate() {
         let count = vertex as u64;
         let edge = count.saturating_add(65_536);
-        assert_eq!(rt;
-            trace.as_slice(),
-            [TraceRow::Take { edge, count }].as_slice()
-        );
+        assert!(rt; trace.as_slice() == [TraceRow::Take { edge, count }].as_slice());
     }
     Ok(())
 }
@@ -60,7 +57,7 @@ fn reads_an_event_at_every_edge(rt: HostRuntime) -> Result<(), Fail> {
     let events = read_schedule(rt.alloc(), &mut text.as_bytes(), &graph)?;
     assert_eq!(rt; events.len(), 69_632);
     for (edge, event) in events.iter().enumerate() {
-        assert_eq!(rt; *event, Event::Settle(edge as u64));
+        assert!(rt; *event == Event::Settle(edge as u64));
     }
     Ok(())
 }

@@ -64,7 +64,7 @@ fn reads_the_triangle(rt: HostRuntime) -> Result<(), Fail> {
         head,
         mult: 1,
     });
-    assert_eq!(rt; graph.edges(), edges.as_slice());
+    assert!(rt; graph.edges() == edges.as_slice());
     Ok(())
 }
 
@@ -331,7 +331,7 @@ fn reads_the_largest_graph(rt: HostRuntime) -> Result<(), Fail> {
         head: 4_094,
         mult: 1,
     };
-    assert_eq!(rt; graph.edges().last().copied(), Some(last));
+    assert!(rt; graph.edges().last().copied() == Some(last));
     Ok(())
 }
 

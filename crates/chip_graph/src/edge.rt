@@ -3,7 +3,7 @@ ghost use Rattle.std.specs.Prelude.{◌≡◌};
 /// One row of a graph: `mult` parallel edges from `tail` to `head`.
 ///
 /// Several rows may join the same two vertices; each is an edge of its own, named by its number: its index in the list.
-#[derive(Clone, Copy, Debug, PartialEq, Eq)]
+#[derive(Clone, Copy, PartialEq, Eq)]
 pub struct Edge {
     /// The vertex that it leaves.
     pub tail: u64,
@@ -14,7 +14,7 @@ pub struct Edge {
 }
 
 /// An edge of a running game.
-#[derive(Clone, Copy, Debug, PartialEq, Eq)]
+#[derive(Clone, Copy, PartialEq, Eq)]
 pub enum AnyEdge {
     /// One of the graph's own.
     Own(Edge),
@@ -26,7 +26,7 @@ pub enum AnyEdge {
 }
 
 /// One of the two ends of an edge.
-#[derive(Clone, Copy, Debug, PartialEq, Eq)]
+#[derive(Clone, Copy)]
 pub(crate) enum End {
     /// The vertex that it leaves.
     Tail,

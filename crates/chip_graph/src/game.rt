@@ -12,7 +12,7 @@ pub const MAX_TOTAL: u64 = 1 << 40;
 pub const MAX_LIMIT: u64 = 1 << 40;
 
 /// A chip-firing game: a graph, the chips at the start, and how often each vertex may fire.
-#[derive(Debug, Drop)]
+#[derive(Drop)]
 pub struct Game {
     graph: Graph,
     /// By vertex.

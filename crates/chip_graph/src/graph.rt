@@ -21,7 +21,7 @@ pub const MAX_MULT: u64 = 1_048_576;
 ///
 /// Vertices are the numbers below `vertices()`, and edges are named by their numbers: their indices in `edges()`.
 /// What is asked of a vertex is made once, with the graph, and answered in constant time.
-#[derive(Debug, Drop)]
+#[derive(Drop)]
 pub struct Graph {
     vertices: u64,
     sink: u64,

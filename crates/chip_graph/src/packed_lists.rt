@@ -5,7 +5,7 @@ use std::alloc::{AllocError, Global};
 use std::marker::Model;
 
 /// Lists that lie side by side in one vector, and are told apart by where they start.
-#[derive(Debug, Drop)]
+#[derive(Drop)]
 pub(crate) struct PackedLists<T> {
     starts: Vec<usize>,
     members: Vec<T>,

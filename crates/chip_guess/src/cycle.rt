@@ -2,7 +2,7 @@ use crate::level::{Level, Order};
 use crate::number::{BIG, within};
 
 /// How the counts of groups are made greater or smaller, all at once.
-#[derive(Clone, Copy, Debug, PartialEq, Eq)]
+#[derive(Clone, Copy)]
 pub(crate) enum Stretch {
     /// To the least energy: where links go both ways.
     Energy,

@@ -8,14 +8,14 @@ use std::alloc::{AllocError, Global};
 pub(crate) const NO_GROUP: usize = usize::MAX;
 
 /// What comes into a vertex, for each firing of another one.
-#[derive(Clone, Copy, Debug)]
+#[derive(Clone, Copy)]
 pub(crate) struct Link {
     pub(crate) tail: usize,
     pub(crate) mult: i64,
 }
 
 /// A vertex of a level.
-#[derive(Clone, Copy, Debug)]
+#[derive(Clone, Copy)]
 pub(crate) struct Node {
     /// Where its links begin in the level's.
     pub(crate) first: usize,
@@ -42,7 +42,7 @@ pub(crate) struct Node {
 }
 
 /// A game whose vertices are groups of vertices that fire together, and counts that are worked at.
-#[derive(Debug, Drop)]
+#[derive(Drop)]
 pub(crate) struct Level {
     pub(crate) nodes: Vec<Node>,
     pub(crate) links: Vec<Link>,
@@ -52,7 +52,7 @@ pub(crate) struct Level {
 }
 
 /// In which order a sweep goes through the vertices.
-#[derive(Clone, Copy, Debug, PartialEq, Eq)]
+#[derive(Clone, Copy)]
 pub(crate) enum Order {
     /// First those with even numbers, then those with odd ones.
     EvenOdd,

@@ -7,7 +7,7 @@ use std::alloc::{AllocError, Global};
 const NONE: usize = usize::MAX;
 
 /// The groups of a level.
-#[derive(Debug, Drop)]
+#[derive(Drop)]
 struct Groups {
     /// The group of each vertex; `NO_GROUP` for the sink.
     of: Vec<usize>,
@@ -16,7 +16,7 @@ struct Groups {
 }
 
 /// The members of each group, as chains.
-#[derive(Debug, Drop)]
+#[derive(Drop)]
 struct Members {
     /// The least member of each group.
     first: Vec<usize>,

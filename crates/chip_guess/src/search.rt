@@ -13,7 +13,7 @@ use std::alloc::{AllocError, Global};
 const MOST_STEPS: u64 = 4_096;
 
 /// What the edges of a graph tell about the way to guess.
-#[derive(Clone, Copy, Debug, PartialEq, Eq)]
+#[derive(Clone, Copy)]
 enum Kind {
     /// Between each two vertices but the sink as much goes there as comes back.
     BothWays,
@@ -24,7 +24,7 @@ enum Kind {
 }
 
 /// What a search is at.
-#[derive(Clone, Copy, Debug, PartialEq, Eq)]
+#[derive(Clone, Copy)]
 enum Stage {
     /// The counts come near to those that leave about a density.
     Nearing,
@@ -59,7 +59,7 @@ pub struct Search<'a> {
 }
 
 /// Counts, and an order of the vertices that may show that every play reaches them.
-#[derive(Debug, Drop)]
+#[derive(Drop)]
 pub struct GuessedCounts {
     /// How often each vertex fires.
     pub counts: Vec<u64>,

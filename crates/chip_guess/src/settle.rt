@@ -9,7 +9,7 @@ const ROUNDS: u64 = 400;
 const BARREN: u64 = 16;
 
 /// What is known of a vertex while counts are lowered.
-#[derive(Clone, Copy, Debug)]
+#[derive(Clone, Copy)]
 pub(crate) struct Held {
     /// How often it has fired.
     pub(crate) fired: i64,

@@ -5,7 +5,7 @@ use crate::level::{Level, Link, Node, links_of};
 use crate::number::{BIG, times, within};
 
 /// How many chips each vertex may keep, from few to many.
-#[derive(Clone, Copy, Debug, PartialEq, Eq)]
+#[derive(Clone, Copy)]
 pub(crate) enum Density {
     /// As many as lie on a vertex in the end where edges go both ways: half its degree and a little.
     Low,
@@ -32,7 +32,7 @@ impl Density {
 }
 
 /// How exactly counts are sought.
-#[derive(Clone, Copy, Debug)]
+#[derive(Clone, Copy)]
 pub(crate) struct Precision {
     /// The unit of counts is a firing by two to this power, which is at most 16.
     shift: u32,
@@ -132,7 +132,7 @@ impl Sought<'_> {
 }
 
 /// How far something has come that is made step by step.
-#[derive(Clone, Copy, Debug, PartialEq, Eq)]
+#[derive(Clone, Copy)]
 pub(crate) enum Progress {
     /// It goes on.
     Going,
@@ -143,7 +143,7 @@ pub(crate) enum Progress {
 }
 
 /// Cycles that bring counts nearer to what is sought.
-#[derive(Clone, Copy, Debug)]
+#[derive(Clone, Copy)]
 pub(crate) struct Approach {
     pub(crate) precision: Precision,
     /// How many cycles were made.

@@ -1,5 +1,5 @@
 /// What may happen in a net: one operation on one shared word, made by one vertex, by the root or by the stopper.
-#[derive(Clone, Copy, Debug, PartialEq, Eq)]
+#[derive(Clone, Copy, PartialEq, Eq)]
 pub enum Event {
     /// The head of this edge takes the next message, where there is one.
     Take(u64),
@@ -28,7 +28,7 @@ pub enum Event {
 }
 
 /// An event that was made, with the word that its operation found, or 0 of a store.
-#[derive(Clone, Copy, Debug, PartialEq, Eq)]
+#[derive(Clone, Copy)]
 pub struct Step {
     pub event: Event,
     pub seen: u64,

@@ -7,7 +7,7 @@ use std::marker::Model;
 
 /// The end of an edge that receives. It swaps the cell of the next place (`cell`) with 0 and notes what it found
 /// there (`taken`).
-#[derive(Debug, Drop)]
+#[derive(Drop)]
 pub struct HeadLink {
     edge: u64,
     ring: Ring,

@@ -1,5 +1,5 @@
 /// A message that was claimed or taken.
-#[derive(Clone, Copy, Debug, PartialEq, Eq)]
+#[derive(Clone, Copy, PartialEq, Eq)]
 pub struct Message {
     /// The edge that it goes over.
     pub edge: u64,

@@ -6,7 +6,7 @@ use std::marker::Model;
 pub const MAX_RING: u64 = 64;
 
 /// How many cells the ring of an edge has, 1 to `MAX_RING`. Contracts see it as that number.
-#[derive(Clone, Copy, Debug, PartialEq, Eq)]
+#[derive(Clone, Copy)]
 pub struct Ring {
     cells: u64,
 }

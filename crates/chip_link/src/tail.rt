@@ -9,7 +9,7 @@ use std::marker::Model;
 
 /// The end of an edge that sends. For each message it looks at the cell of the next place (`cell`, `cleared`),
 /// claims that place (`claim_next`, `claimed`) and stores the count in the cell (`put_value`).
-#[derive(Debug, Drop)]
+#[derive(Drop)]
 pub struct TailLink {
     edge: u64,
     ring: Ring,
@@ -18,7 +18,7 @@ pub struct TailLink {
 }
 
 /// How far the tail is with the next message.
-#[derive(Debug, Drop)]
+#[derive(Drop)]
 enum Stage {
     /// Nothing is under way.
     Idle,

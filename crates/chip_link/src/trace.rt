@@ -1,5 +1,5 @@
 /// What a vertex writes down of its own run, in order.
-#[derive(Clone, Copy, Debug, PartialEq, Eq)]
+#[derive(Clone, Copy, PartialEq, Eq)]
 pub enum TraceRow {
     /// It took a message of `count` chips from `edge`.
     Take { edge: u64, count: u64 },

@@ -3,7 +3,7 @@ ghost use Rattle.chip_link.specs.Words.{edge_word, claims_in, sealed_in, fired_w
 ghost use Rattle.chip_link.specs.Words.{is_fired_word};
 
 /// What the word of an edge stands for.
-#[derive(Clone, Copy, Debug, PartialEq, Eq)]
+#[derive(Clone, Copy)]
 pub struct EdgeWord {
     /// How many messages were claimed on the edge.
     pub claims: u64,
@@ -43,7 +43,7 @@ impl EdgeWord {
 }
 
 /// What the word of a vertex stands for.
-#[derive(Clone, Copy, Debug, PartialEq, Eq)]
+#[derive(Clone, Copy)]
 pub struct FiredWord {
     /// How often the vertex fired.
     pub fired: u64,

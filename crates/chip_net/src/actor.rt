@@ -12,7 +12,7 @@ use chip_link::TraceRow;
 use std::marker::{Brand, Model, PhantomData};
 
 /// What a turn came to.
-#[derive(Clone, Copy, Debug, PartialEq, Eq)]
+#[derive(Clone, Copy, PartialEq, Eq)]
 pub enum Turn {
     /// So many of its steps, 1 or more, took, fired, sent, put, halted, acknowledged, or settled something new.
     Worked(u64),

@@ -18,7 +18,7 @@ use std::alloc::{AllocError, Global};
 use std::marker::Model;
 
 /// What a poll came to.
-#[derive(Clone, Copy, Debug, PartialEq, Eq)]
+#[derive(Clone, Copy, PartialEq, Eq)]
 pub enum RootState {
     /// Nothing more is fed, and every message of the root is acknowledged: the game is over.
     Closed,
@@ -27,7 +27,7 @@ pub enum RootState {
 }
 
 /// Why nothing was fed.
-#[derive(Clone, Copy, Debug, PartialEq, Eq)]
+#[derive(Clone, Copy, PartialEq, Eq)]
 pub enum FeedFault {
     /// The end of feeding is noted, or the net was opened to be played without feeding.
     Ended,

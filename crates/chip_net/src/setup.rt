@@ -7,7 +7,7 @@ use std::marker::Model;
 
 /// What a net is opened for, a game, the rings of its edges and whether chips are fed, and where each word lies.
 /// Contracts see it as a setting.
-#[derive(Debug, Drop)]
+#[derive(Drop)]
 pub struct Setup {
     game: Game,
     ring: Ring,

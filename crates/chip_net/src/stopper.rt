@@ -13,7 +13,7 @@ use std::marker::{Brand, Model};
 use std::snapshot::Snapshot;
 
 /// What a seal found.
-#[derive(Clone, Copy, Debug, PartialEq, Eq)]
+#[derive(Clone, Copy, PartialEq, Eq)]
 pub struct SealedAt {
     /// How many messages were ever sent on the edge, up to 2^40: no more will be.
     pub count: u64,
@@ -22,7 +22,7 @@ pub struct SealedAt {
 }
 
 /// No edge of the graph has this number.
-#[derive(Clone, Copy, Debug, PartialEq, Eq)]
+#[derive(Clone, Copy, PartialEq, Eq)]
 pub struct NoEdge;
 
 /// The stopper of a net, who seals edges. Contracts see what it has done.

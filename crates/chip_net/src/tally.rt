@@ -6,7 +6,7 @@ use std::alloc::{AllocError, Global};
 use std::marker::Model;
 
 /// What the fired words tell, of one vertex after another. All memory is taken at the beginning.
-#[derive(Debug, Drop)]
+#[derive(Drop)]
 pub(crate) struct Tally {
     pub(crate) fired: Vec<u64>,
     pub(crate) over: Vec<u64>,

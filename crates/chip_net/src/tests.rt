@@ -33,7 +33,7 @@ fn expect_turn(rt: &impl Abort, net: &Net, actor: &mut Actor, turn: Turn)
     ensures { actor.new.net ≡ actor.old.net }
 {
     let made = actor.turn(net);
-    assert_eq!(rt; made, turn);
+    assert!(rt; made == turn);
 }
 
 fn expect_poll(rt: &impl Abort, net: &Net, root: &mut Root, state: RootState)
@@ -41,7 +41,7 @@ fn expect_poll(rt: &impl Abort, net: &Net, root: &mut Root, state: RootState)
     ensures { root.new.net ≡ root.old.net }
 {
     let polled = root.poll(net);
-    assert_eq!(rt; polled, state);
+    assert!(rt; polled == state);
 }
 
 fn expect_open(rt: &impl Abort, net: &Net, root: Root) -> Root
@@ -130,7 +130,7 @@ fn four_chips_on(
 
 fn expect_trace(rt: &impl Abort, actor: &Actor, rows: &[TraceRow], cut: bool) {
     let (written, was_cut) = actor.trace();
-    assert_eq!(rt; written, rows);
+    assert!(rt; written == rows);
     assert_eq!(rt; was_cut, cut);
 }
 
@@ -233,7 +233,7 @@ fn expect_seal(rt: &impl Abort, net: &Net, stopper: &mut Stopper, edge: u64, at:
     ensures { stopper.new.net ≡ stopper.old.net }
 {
     let sealed = stopper.seal(net, edge);
-    assert_eq!(rt; sealed, Ok(at));
+    assert!(rt; sealed == Ok(at));
 }
 
 /// An edge that is sealed twice, and a root edge.
@@ -256,6 +256,6 @@ fn sealed_twice(rt: HostRuntime) -> Result<(), Fail> {
     expect_seal(&rt, &net, &mut stopper, 1, first);
     expect_seal(&rt, &net, &mut stopper, 1, again);
     let none = stopper.seal(&net, 4);
-    assert_eq!(rt; none, Err(NoEdge));
+    assert!(rt; none == Err(NoEdge));
     Ok(())
 }

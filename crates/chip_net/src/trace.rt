@@ -6,7 +6,7 @@ use std::alloc::{AllocError, Global};
 use std::marker::Model;
 
 /// What an actor wrote down of its run, as far as there was room. All memory is taken at the beginning.
-#[derive(Debug, Drop)]
+#[derive(Drop)]
 pub(crate) struct Trace {
     rows: Vec<TraceRow>,
     room: usize,

@@ -2,7 +2,7 @@ ghost use Rattle.std.specs.Prelude.{◌≡◌};
 ghost use Rattle.chip_part.specs.Part.{is_by_limit};
 
 /// Why a vertex halted. There is no third reason.
-#[derive(Clone, Copy, Debug, PartialEq, Eq)]
+#[derive(Clone, Copy, PartialEq, Eq)]
 pub enum Cause {
     /// A claim of it was refused by a seal.
     SealedEdge,

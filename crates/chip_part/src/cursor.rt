@@ -1,7 +1,7 @@
 ghost use Rattle.std.specs.Prelude.{◌≡◌, ℕ, ◌+◌, ◌*◌};
 
 /// Where a turn stands: what it does next. A place is one in the list of the edges that are gone through, from 0.
-#[derive(Clone, Copy, Debug, PartialEq, Eq)]
+#[derive(Clone, Copy)]
 pub enum Cursor {
     /// Take from the edges into the vertex, from this place on.
     Take(usize),

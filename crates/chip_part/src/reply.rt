@@ -2,7 +2,7 @@ use crate::rule::Rule;
 use chip_link::Message;
 
 /// The answer to an event. The last four leave chips, messages and words as they were; `Sealed` is noted by the tail.
-#[derive(Clone, Copy, Debug, PartialEq, Eq)]
+#[derive(Clone, Copy, PartialEq, Eq)]
 pub enum Reply {
     /// It was done, with the number that the event tells.
     Done(u64),

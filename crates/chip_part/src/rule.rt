@@ -3,7 +3,7 @@ ghost use Rattle.chip_part.specs.Rules.{first_unmet};
 
 /// Why an event may not be made: the rule that isn't met, said by what is so instead. `number` gives the numbers that
 /// stand here.
-#[derive(Clone, Copy, Debug, PartialEq, Eq)]
+#[derive(Clone, Copy, PartialEq, Eq)]
 pub enum Rule {
     /// There is no such vertex or edge.
     NoSuch = 1,

@@ -9,7 +9,7 @@ use std::alloc::{AllocError, Global};
 use std::marker::Model;
 
 /// What the root keeps to feed chips while the machine runs: the tails of the root edges.
-#[derive(Debug, Drop)]
+#[derive(Drop)]
 pub(crate) struct FeederState {
     tails: Vec<TailLink>,
     given: Vec<u64>,

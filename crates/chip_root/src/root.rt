@@ -10,7 +10,7 @@ use std::marker::Model;
 
 /// The root at run time: of each root edge, by vertices, how many messages are settled, and how many are outstanding on
 /// all of them; and where chips are fed, what it feeds them with.
-#[derive(Debug, Drop)]
+#[derive(Drop)]
 pub struct RootState {
     graph_edges: u64,
     settled: Vec<u64>,

@@ -63,7 +63,7 @@ fn play_root(rt: &impl Abort, root: &mut RootState, questions: &[(Event, u64, Re
     for i in 0..questions.len() {
         let (event, seen, reply) = questions[i];
         let answer = ask_root(root, event, seen);
-        assert_eq!(rt; answer, reply);
+        assert!(rt; answer == reply);
     }
 }
 

@@ -3,7 +3,7 @@ use std::marker::Model;
 
 /// Which vertices are to be looked at, and which wait for a firing of which tail, so that a row is looked at again
 /// only where something came for it.
-#[derive(Debug, Drop)]
+#[derive(Drop)]
 pub(crate) struct Agenda {
     due: Vec<u64>,
     waiting: Vec<Vec<u64>>,

@@ -12,7 +12,7 @@ use chip_graph::{AnyEdge, Edge, Game, Graph};
 use chip_link::TraceRow;
 
 /// What a look at the next row of a vertex finds.
-#[derive(Clone, Copy, Debug)]
+#[derive(Clone, Copy)]
 pub(crate) enum Look {
     /// There is none: all its rows are used.
     Done,

@@ -4,7 +4,7 @@ use chip_link::TraceRow;
 use std::alloc::{AllocError, Global};
 
 /// How far a replay has come.
-#[derive(Debug, Drop)]
+#[derive(Drop)]
 pub(crate) struct Progress {
     /// By vertex.
     pub(crate) runners: Vec<Runner>,

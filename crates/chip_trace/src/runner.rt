@@ -2,7 +2,7 @@ use std::alloc::{AllocError, Global};
 use std::marker::Model;
 
 /// How far one vertex has come.
-#[derive(Debug, Drop)]
+#[derive(Drop)]
 pub(crate) struct Runner {
     used: usize,
     fires: Vec<u64>,

@@ -6,7 +6,7 @@ use std::alloc::{AllocError, Global};
 use std::marker::Model;
 
 /// Messages by edges, with the room that was reserved for them.
-#[derive(Debug, Drop)]
+#[derive(Drop)]
 pub(crate) struct Lanes {
     lists: Vec<Vec<Message>>,
 }

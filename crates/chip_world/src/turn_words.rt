@@ -6,7 +6,7 @@ use chip_link::FiredWord;
 
 /// The shared words as the vertex whose turn it is finds them: those of all edges, and its own fired word. A net keeps
 /// that word among them; here its actor alone knows it, and it is noted when the turn begins.
-#[derive(Debug, Drop)]
+#[derive(Drop)]
 pub(crate) struct TurnWords {
     pub(crate) words: Words,
     pub(crate) fired: u64,

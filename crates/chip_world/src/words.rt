@@ -9,7 +9,7 @@ use std::alloc::{AllocError, Global};
 use std::marker::Model;
 
 /// The shared words of one edge, as a net has them: the edge word, the word of acknowledgements and the ring of cells.
-#[derive(Debug, Drop)]
+#[derive(Drop)]
 pub(crate) struct EdgeWords {
     word: u64,
     acknowledged: u64,
@@ -87,7 +87,7 @@ impl EdgeWords {
 }
 
 /// The shared words of all edges, the root edges behind the graph's.
-#[derive(Debug, Drop)]
+#[derive(Drop)]
 pub(crate) struct Words {
     edges: Vec<EdgeWords>,
 }

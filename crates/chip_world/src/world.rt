@@ -21,7 +21,7 @@ use std::marker::Model;
 /// A whole game in play: the core of the machine on one thread.
 ///
 /// Contracts see it as plain data (`specs/World.antt`) and say what it does to the log of the core that it stands for.
-#[derive(Debug, Drop)]
+#[derive(Drop)]
 pub struct World {
     game: Game,
     ring: Ring,

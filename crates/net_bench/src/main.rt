@@ -40,7 +40,7 @@ fn main(rt: HostRuntime) -> Result<()> {
 }
 
 /// How a game is played.
-#[derive(Clone, Copy, Debug)]
+#[derive(Clone, Copy)]
 struct Rules {
     ring: Ring,
     /// How many rounds there are at most.
@@ -108,7 +108,7 @@ fn read_game<G: Read, C: Read>(alloc: Global, graph: &mut G, chips: &mut C) -> R
 }
 
 /// How a play ended.
-#[derive(Clone, Copy, Debug)]
+#[derive(Clone, Copy)]
 struct Played {
     /// How often all vertices fired, where the root is closed.
     firings: Option<u64>,

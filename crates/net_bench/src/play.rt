@@ -9,7 +9,7 @@ use std::sync::atomic::Ordering::SeqCst;
 use std::thread::{self, Threads};
 
 /// How many threads play.
-#[derive(Clone, Copy, Debug)]
+#[derive(Clone, Copy)]
 pub enum Crew {
     One,
     Two,

@@ -44,7 +44,7 @@ fn expect_feed(
     ensures { root.new.net ≡ root.old.net }
 {
     let fed = root.feed(net, vertex, count);
-    assert_eq!(rt; fed, answer);
+    assert!(rt; fed == answer);
 }
 
 fn expect_end(rt: &impl Abort, net: &Net, root: &mut Root, state: RootState)
@@ -52,7 +52,7 @@ fn expect_end(rt: &impl Abort, net: &Net, root: &mut Root, state: RootState)
     ensures { root.new.net ≡ root.old.net }
 {
     let ended = root.end(net);
-    assert_eq!(rt; ended, state);
+    assert!(rt; ended == state);
 }
 
 /// The end of four chips on the first vertex.

@@ -31,11 +31,11 @@ fn fed_twice(rt: HostRuntime) -> Result<(), Fail> {
     let first = message!(4, 0, 3);
     let record = recorded(&rt, &mut world, &THREE_CHIPS)?;
     expect_lists(&rt, &record.sent, &[&[], &[], &[], &[], &[first], &[], &[]]);
-    assert_eq!(rt; world.drive(10), Drive::Unfinished(10));
+    assert!(rt; world.drive(10) == Drive::Unfinished(10));
     assert!(rt; fired(&world, &[1, 0, 0]));
     is_open(&rt, &world);
     expect(&rt, &mut world, &THE_LAST_CHIP)?;
-    assert_eq!(rt; world.drive(10), Drive::Closed);
+    assert!(rt; world.drive(10) == Drive::Closed);
     ends(&rt, &world, &[2, 1, 0], &[1, 0, 3], &[], &[])
 }
 
@@ -77,7 +77,7 @@ fn fed_out_of_turn(rt: HostRuntime) -> Result<(), Fail> {
         (Event::Take(5), got!(5, 0, 2)),
     ];
     expect(&rt, &mut world, &steps)?;
-    assert_eq!(rt; world.drive(10), Drive::Closed);
+    assert!(rt; world.drive(10) == Drive::Closed);
     ends(&rt, &world, &[1, 1, 0], &[0, 1, 2], &[], &[])
 }
 
@@ -93,6 +93,6 @@ fn unfed(rt: HostRuntime) -> Result<(), Fail> {
     ];
     let mut world = triangle(rt.alloc(), &[4, 0, 0], MOST)?;
     expect(&rt, &mut world, &steps)?;
-    assert_eq!(rt; world.drive(10), Drive::Closed);
+    assert!(rt; world.drive(10) == Drive::Closed);
     ends(&rt, &world, &[2, 1, 0], &[1, 0, 3], &[], &[])
 }

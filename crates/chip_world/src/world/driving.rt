@@ -4,7 +4,7 @@ use super::{World, fired_word};
 use chip_link::Event;
 
 /// Where a drive ended.
-#[derive(Clone, Copy, Debug, PartialEq, Eq)]
+#[derive(Clone, Copy, PartialEq, Eq)]
 pub enum Drive {
     /// The root is closed.
     Closed,

@@ -8,7 +8,7 @@ use chip_part::Reply;
 use std::alloc::{AllocError, Global};
 
 /// What a run of events came to. Edges have their numbers, the root edges after the graph's.
-#[derive(Debug, Drop)]
+#[derive(Drop)]
 pub struct Record {
     /// The reply to each event.
     pub replies: Vec<Reply>,
@@ -19,7 +19,7 @@ pub struct Record {
 }
 
 /// A record that is written, with room for all that may come.
-#[derive(Debug, Drop)]
+#[derive(Drop)]
 pub(crate) struct Notes {
     pub(crate) replies: Vec<Reply>,
     pub(crate) sent: Lanes,
@@ -71,7 +71,7 @@ impl Notes {
 ghost use Rattle.chip_world.specs.Run.{is_claim_of, is_take_of, count_among, Counts, CountsMore};
 
 /// How many events of a list are about each edge.
-#[derive(Debug, Drop)]
+#[derive(Drop)]
 struct Tally {
     claims: Vec<usize>,
     takes: Vec<usize>,

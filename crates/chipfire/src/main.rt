@@ -4,18 +4,19 @@
 //! writes. The program reads the arguments, opens the files that they name and calls the engine.
 #![tactic(auto)]
 
-use arguments::{
-    FileArgument, GameArguments, PlainArguments, Request, RunArguments, SimulationArguments,
-    SittingArguments,
+use chip_arguments::{
+    ArgumentsFault, FileArgument, GameArguments, PlainArguments, Request, RunArguments,
+    SimulationArguments, SittingArguments, limits, parse,
 };
-use chip_crew::Plan;
-pub use chip_engine::{
+use chip_crew::{MAX_TRACE_ROWS, MAX_TURNS, MAX_WORKERS, Plan};
+use chip_engine::{
     DONE, EXPLANATIONS, Ended, Fault, check_engine, explain_engine, plain_engine,
     plain_engine_watched, replay_engine, resume_engine, simulate_engine,
 };
 use chip_graph::MAX_LIMIT;
+use chip_link::{MAX_RING, Ring};
 use chip_report::write_all_of;
-pub use chip_run::{run_engine, run_engine_gated};
+use chip_run::run_engine_gated;
 use progress::{RoundProgress, TurnProgress};
 use std::process::ExitCode;
 use std::rt::{Clock, Env, Files};
@@ -23,10 +24,18 @@ use std::sync::Wait;
 use std::thread::Threads;
 use std::{env, fs, io};
 
-mod arguments;
-mod commands;
-mod help_texts;
 mod progress;
+
+// What the arguments may ask for is what the engines take.
+const _: () = prove!(limits::MAX_LIMIT == MAX_LIMIT);
+
+const _: () = prove!(limits::MAX_RING == MAX_RING);
+
+const _: () = prove!(limits::MAX_WORKERS == MAX_WORKERS);
+
+const _: () = prove!(limits::MAX_TURNS == MAX_TURNS);
+
+const _: () = prove!(limits::MAX_TRACE_ROWS == MAX_TRACE_ROWS);
 
 /// The graph of the game that is played without arguments.
 const TRIANGLE: &str =
@@ -61,7 +70,7 @@ fn run<R: Env + Files + Print + Eprint + Clock + AllocGlobal + Threads + Wait + 
         let (mut graph, mut chips) = (TRIANGLE.as_bytes(), FOUR_CHIPS.as_bytes());
         return plain_engine(alloc, &mut graph, &mut chips, MAX_LIMIT, &mut output);
     }
-    match arguments::parse(alloc, &arguments)? {
+    match parse(alloc, &arguments).map_err(fault_of)? {
         Request::Help(text) => help(text.as_str(), &mut output),
         Request::Check(graph) => check_engine(alloc, &mut open(rt, graph)?, &mut output),
         Request::Plain(asked) => play(rt, asked, &mut output),
@@ -109,7 +118,7 @@ fn play_on_threads<R: Files + Clock + Eprint + AllocGlobal + Threads + Wait + Sy
     };
     let plan = Plan {
         workers: asked.workers,
-        ring: asked.ring.cells(),
+        ring: asked.ring,
         turns: asked.turns,
         trace_rows: asked.trace_rows,
         seal: None,
@@ -134,6 +143,7 @@ fn simulate<R: Files + AllocGlobal, W: io::Write>(
     asked: SimulationArguments<'_>,
     output: &mut W,
 ) -> Result<Ended, Fault> {
+    let ring = Ring::new(asked.ring).ok_or(Fault::Usage)?;
     let mut graph = open(rt, asked.game.graph)?;
     let mut chips = open(rt, asked.game.chips)?;
     let mut schedule = open(rt, asked.schedule)?;
@@ -143,7 +153,7 @@ fn simulate<R: Files + AllocGlobal, W: io::Write>(
         &mut chips,
         &mut schedule,
         asked.game.limit,
-        asked.ring,
+        ring,
         asked.rounds,
         asked.books,
         asked.fed,
@@ -218,6 +228,14 @@ fn fault_of_arguments(error: io::Error) -> Fault {
     match error.kind() {
         io::ErrorKind::OutOfMemory => Fault::NoMemory,
         _ => Fault::Usage,
+    }
+}
+
+/// The fault of arguments that are refused.
+fn fault_of(fault: ArgumentsFault) -> Fault {
+    match fault {
+        ArgumentsFault::Usage => Fault::Usage,
+        ArgumentsFault::NoMemory => Fault::NoMemory,
     }
 }
 

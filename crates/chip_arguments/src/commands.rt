@@ -1,12 +1,7 @@
 //! The commands of the program: a table of their operands, their options and what the help says of them.
 
 use crate::help_texts as texts;
-use chip_crew::{MAX_TRACE_ROWS, MAX_TURNS, MAX_WORKERS};
-use chip_graph::MAX_LIMIT;
-use chip_link::MAX_RING;
-
-/// The most rounds that follow a schedule.
-const MAX_ROUNDS: u64 = 1 << 40;
+use crate::limits::{MAX_LIMIT, MAX_RING, MAX_ROUNDS, MAX_TRACE_ROWS, MAX_TURNS, MAX_WORKERS};
 
 /// A command.
 #[derive(Clone, Copy)]

@@ -5,15 +5,16 @@ use crate::commands::{
     OperandRow, OptionRow, OptionValue, PROGRESS, REPORT, RING, ROUNDS, SCHEDULE, TRACE,
     TRACE_FILE, TRACE_ROWS, TURNS, WORKERS,
 };
+use crate::fault::ArgumentsFault;
 use crate::help_texts as texts;
-use chip_engine::Fault;
-use chip_graph::MAX_LIMIT;
-use chip_link::Ring;
+use crate::limits::MAX_LIMIT;
 use clap::builder::ValueParser;
 use clap::error::ErrorKind;
 use clap::{Arg, ArgAction, ArgMatches, Command};
 use std::alloc::{AllocError, Global};
 
+/// How many cells a ring has where it is not said.
+const USUAL_RING: u64 = 1;
 /// How many threads play where it is not said.
 const USUAL_WORKERS: u64 = 2;
 /// How many turns each makes at most where it is not said.
@@ -52,7 +53,8 @@ pub struct PlainArguments<'a> {
 pub struct SimulationArguments<'a> {
     pub game: GameArguments<'a>,
     pub schedule: FileArgument<'a>,
-    pub ring: Ring,
+    /// How many cells the ring of an edge has, 1 to 64.
+    pub ring: u64,
     /// Up to 2^40.
     pub rounds: u64,
     /// Whether the books of the detector follow each reply.
@@ -65,7 +67,8 @@ pub struct SimulationArguments<'a> {
 #[derive(Clone, Copy)]
 pub struct RunArguments<'a> {
     pub game: GameArguments<'a>,
-    pub ring: Ring,
+    /// How many cells the ring of an edge has, 1 to 64.
+    pub ring: u64,
     /// How many threads, 1 to 64.
     pub workers: u64,
     /// How many turns each of them makes at most, 1 to 2^40.
@@ -106,22 +109,25 @@ pub enum Request<'a> {
 }
 
 /// Reads the arguments, the program's own name first.
-pub fn parse<'a>(alloc: Global, arguments: &'a [String]) -> Result<Request<'a>, Fault> {
+pub fn parse<'a>(alloc: Global, arguments: &'a [String]) -> Result<Request<'a>, ArgumentsFault> {
     match program(alloc)?.try_get_matches_from(arguments) {
         Ok(matches) => request_of(&matches, arguments),
         Err(error) => match error.kind() {
             ErrorKind::DisplayHelp | ErrorKind::DisplayVersion => {
                 Ok(Request::Help(error.to_string(alloc)?))
             }
-            ErrorKind::OutOfMemory => Err(Fault::NoMemory),
-            _ => Err(Fault::Usage),
+            ErrorKind::OutOfMemory => Err(ArgumentsFault::NoMemory),
+            _ => Err(ArgumentsFault::Usage),
         },
     }
 }
 
 /// What arguments that the command-line library took ask for.
-fn request_of<'a>(matches: &ArgMatches<'a>, arguments: &[String]) -> Result<Request<'a>, Fault> {
-    let (name, found) = matches.subcommand().ok_or(Fault::Usage)?;
+fn request_of<'a>(
+    matches: &ArgMatches<'a>,
+    arguments: &[String],
+) -> Result<Request<'a>, ArgumentsFault> {
+    let (name, found) = matches.subcommand().ok_or(ArgumentsFault::Usage)?;
     match name {
         "check" => Ok(Request::Check(file_of(found, GRAPH, arguments, 0)?)),
         "plain" => Ok(Request::Plain(PlainArguments {
@@ -131,7 +137,7 @@ fn request_of<'a>(matches: &ArgMatches<'a>, arguments: &[String]) -> Result<Requ
         "simulate" => Ok(Request::Simulate(SimulationArguments {
             game: game_of(found, arguments)?,
             schedule: file_of(found, SCHEDULE, arguments, 2)?,
-            ring: ring_of(found)?,
+            ring: number_in(found, RING).unwrap_or(USUAL_RING),
             rounds: number_in(found, ROUNDS).unwrap_or(0),
             books: found.get_flag(BOOKS.name),
             fed: found.get_flag(FED.name),
@@ -147,17 +153,17 @@ fn request_of<'a>(matches: &ArgMatches<'a>, arguments: &[String]) -> Result<Requ
             limit: limit_of(found),
         })),
         "explain" => Ok(Request::Explain(found.get_one::<u64>(FAULT_NUMBER.name))),
-        _ => Err(Fault::Usage),
+        _ => Err(ArgumentsFault::Usage),
     }
 }
 
 /// The play on threads that the arguments ask for.
-fn run_of<'a>(found: &ArgMatches<'a>, arguments: &[String]) -> Result<Request<'a>, Fault> {
+fn run_of<'a>(found: &ArgMatches<'a>, arguments: &[String]) -> Result<Request<'a>, ArgumentsFault> {
     let trace = file_in(found, TRACE, arguments)?;
     let usual_rows = if trace.is_some() { USUAL_TRACE_ROWS } else { 0 };
     Ok(Request::Run(RunArguments {
         game: game_of(found, arguments)?,
-        ring: ring_of(found)?,
+        ring: number_in(found, RING).unwrap_or(USUAL_RING),
         workers: number_in(found, WORKERS).unwrap_or(USUAL_WORKERS),
         turns: number_in(found, TURNS).unwrap_or(USUAL_TURNS),
         feed: file_in(found, FEED, arguments)?,
@@ -168,7 +174,10 @@ fn run_of<'a>(found: &ArgMatches<'a>, arguments: &[String]) -> Result<Request<'a
 }
 
 /// The game that a command's arguments name.
-fn game_of<'a>(found: &ArgMatches<'a>, arguments: &[String]) -> Result<GameArguments<'a>, Fault> {
+fn game_of<'a>(
+    found: &ArgMatches<'a>,
+    arguments: &[String],
+) -> Result<GameArguments<'a>, ArgumentsFault> {
     Ok(GameArguments {
         graph: file_of(found, GRAPH, arguments, 0)?,
         chips: file_of(found, CHIPS, arguments, 1)?,
@@ -181,14 +190,6 @@ fn limit_of(found: &ArgMatches<'_>) -> u64 {
     number_in(found, LIMIT).unwrap_or(MAX_LIMIT)
 }
 
-/// The ring that is asked for, or that of one cell.
-fn ring_of(found: &ArgMatches<'_>) -> Result<Ring, Fault> {
-    match number_in(found, RING) {
-        Some(cells) => Ring::new(cells).ok_or(Fault::Usage),
-        None => Ok(Ring::one()),
-    }
-}
-
 /// The number of an option, if it is there.
 fn number_in(found: &ArgMatches<'_>, option: OptionRow) -> Option<u64> {
     found.get_one::<u64>(option.name)
@@ -199,11 +200,11 @@ fn file_in<'a>(
     found: &ArgMatches<'a>,
     option: OptionRow,
     arguments: &[String],
-) -> Result<Option<FileArgument<'a>>, Fault> {
+) -> Result<Option<FileArgument<'a>>, ArgumentsFault> {
     match found.get_str(option.name) {
         Some(path) => Ok(Some(FileArgument {
             path,
-            number: value_number_of(arguments, option).ok_or(Fault::Usage)?,
+            number: value_number_of(arguments, option).ok_or(ArgumentsFault::Usage)?,
         })),
         None => Ok(None),
     }
@@ -215,10 +216,10 @@ fn file_of<'a>(
     operand: OperandRow,
     arguments: &[String],
     operands_before: u64,
-) -> Result<FileArgument<'a>, Fault> {
+) -> Result<FileArgument<'a>, ArgumentsFault> {
     Ok(FileArgument {
-        path: found.get_str(operand.name).ok_or(Fault::Usage)?,
-        number: number_of(arguments, operands_before).ok_or(Fault::Usage)?,
+        path: found.get_str(operand.name).ok_or(ArgumentsFault::Usage)?,
+        number: number_of(arguments, operands_before).ok_or(ArgumentsFault::Usage)?,
     })
 }
 

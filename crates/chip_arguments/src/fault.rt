@@ -1,0 +1,21 @@
+//! Why arguments are refused.
+
+use std::alloc::AllocError;
+use thiserror::Error;
+
+/// Why arguments ask for nothing.
+#[derive(Debug, Drop, Error)]
+pub enum ArgumentsFault {
+    /// They are not as the help says.
+    #[error("the arguments are not as `--help` says")]
+    Usage,
+    /// There is no memory for them.
+    #[error("there is no memory for the arguments")]
+    NoMemory,
+}
+
+impl From<AllocError> for ArgumentsFault {
+    fn from(_error: AllocError) -> ArgumentsFault {
+        ArgumentsFault::NoMemory
+    }
+}

@@ -1,0 +1,17 @@
+//! The arguments of the program: what they ask for, and the help.
+//!
+//! The crate waits for no engine, and promises nothing: what it reads is tested on the program. `chipfire` calls it,
+//! and holds the limits in it to those of the engines.
+#![tactic(auto)]
+
+pub use arguments::{
+    FileArgument, GameArguments, PlainArguments, Request, RunArguments, SimulationArguments,
+    SittingArguments, parse,
+};
+pub use fault::ArgumentsFault;
+
+mod arguments;
+mod commands;
+mod fault;
+mod help_texts;
+pub mod limits;

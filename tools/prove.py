@@ -1,0 +1,218 @@
+#!/usr/bin/env python3
+"""Proves crates side by side, each as one process, and first those with the longest chain of others behind them.
+
+    tools/prove.py NAME ..              the crates of these names, and all that they stand on
+    tools/prove.py --above NAME ..      these, all that stand on them, and all below; standard output names the former two
+
+In one folder the kit's command `rt` proves one crate at a time, since it locks all that a crate stands on, and shares the
+crate among the processors by copies of itself, which together do twice the work. Here each crate is proved in a room of
+its own below target/rooms/, with a copy of the sources and what is built of the crates below it, so that no crate waits for
+another's lock. What `rt` keeps for later checks goes back to where it keeps it.
+
+Standard error tells of each crate that is proved, and how much is left by the costs in tools/costs.txt. What `rt` says of
+a crate goes into target/NAME.log. The status is 0 where all are proved.
+"""
+
+import fcntl
+import os
+import shutil
+import subprocess
+import sys
+import time
+from concurrent.futures import FIRST_COMPLETED, ThreadPoolExecutor, wait
+
+ROOT = os.path.dirname(os.path.dirname(os.path.realpath(__file__)))
+CRATES = f"{ROOT}/crates"
+TARGET = f"{ROOT}/target"
+# What one check takes at most, in bytes.
+MEMORY = 3 << 30
+# What a crate costs that has no line in tools/costs.txt, in seconds.
+USUAL_COST = 60
+# What proves a crate: a library for the crates above it, the program, which rt builds only to run it, or another program.
+LIBRARY = ["rt", "lib", "--jobs", "1"]
+PROGRAM = ["rt", "run", "--jobs", "1", "--", "--help"]
+OTHER_PROGRAM = ["rt", "check", "--jobs", "1"]
+
+
+def say(text):
+    print(f"chipfire: {text}", file=sys.stderr, flush=True)
+
+
+def rows(path):
+    """Returns the lines of a file without comments and empty lines."""
+    with open(path, encoding="utf-8") as lines:
+        return [it for it in (line.partition("#")[0].strip() for line in lines) if it]
+
+
+def name_in(row):
+    """Returns the name of the crate that a row of crates.txt is about."""
+    return row.partition(":")[0].split()[0]
+
+
+def libraries():
+    """Returns the names of the repository's crates, each with those of the crates that it stands on."""
+    named = {name_in(row): row.partition(":")[2].split() for row in rows(f"{ROOT}/crates.txt")}
+    return {name: [it for it in below if it in named] for name, below in named.items()}
+
+
+def below(name, direct):
+    """Returns all that a crate stands on, each after what it stands on itself."""
+    found = []
+    for it in direct[name]:
+        found += [low for low in [*below(it, direct), it] if low not in found]
+    return found
+
+
+def costs():
+    """Returns the seconds that proving each crate took where they were written down."""
+    if not os.path.isfile(f"{ROOT}/tools/costs.txt"):
+        return {}
+    pairs = [row.split() for row in rows(f"{ROOT}/tools/costs.txt")]
+    return {name: float(seconds) for name, seconds in pairs}
+
+
+def lanes():
+    """Returns how many crates are proved at a time: one for each processor, as many as memory holds."""
+    with open("/proc/meminfo", encoding="ascii") as lines:
+        sizes = dict(line.split(":") for line in lines)
+    free = int(sizes["MemAvailable"].split()[0]) << 10
+    return max(1, min(len(os.sched_getaffinity(0)), free // MEMORY))
+
+
+def bring(part, room, by):
+    """Puts a folder of the repository's crates, where it is there, into the same place of a room."""
+    if os.path.isdir(f"{CRATES}/{part}"):
+        shutil.copytree(f"{CRATES}/{part}", f"{room}/crates/{part}", copy_function=by)
+
+
+def keep(name, room):
+    """Moves what was kept of a crate from a room to where rt keeps it."""
+    if os.path.isdir(f"{room}/crates/{name}/out"):
+        shutil.rmtree(f"{CRATES}/{name}/out", ignore_errors=True)
+        os.rename(f"{room}/crates/{name}/out", f"{CRATES}/{name}/out")
+
+
+def words_for(name):
+    """Returns the command that proves a crate."""
+    if not os.path.isfile(f"{CRATES}/{name}/src/main.rt"):
+        return LIBRARY
+    return PROGRAM if name == "chipfire" else OTHER_PROGRAM
+
+
+def prove(name, lower):
+    """Proves a crate in a room, over what was kept of it and of those that it stands on. Returns its status and its seconds."""
+    begun, room = time.monotonic(), f"{TARGET}/rooms/{name}"
+    # (a run that was killed left its room)
+    keep(name, room)
+    shutil.rmtree(room, ignore_errors=True)
+    os.makedirs(f"{room}/crates/{name}")
+    with open(f"{room}/crates.txt", "w", encoding="utf-8") as its_rows:
+        its_rows.writelines(f"{row}\n" for row in rows(f"{ROOT}/crates.txt") if name_in(row) in [*lower, name])
+    for crate in [*lower, name]:
+        for part in ("src", "specs", "proofs"):
+            bring(f"{crate}/{part}", room, shutil.copy2)
+    for crate in lower:
+        bring(f"{crate}/out/rlib", room, os.link)
+    if os.path.isdir(f"{CRATES}/{name}/out"):
+        os.rename(f"{CRATES}/{name}/out", f"{room}/crates/{name}/out")
+    words = words_for(name)
+    with open(f"{TARGET}/{name}.log", "w", encoding="utf-8") as log:
+        how = {"stdin": subprocess.DEVNULL, "stdout": log, "stderr": log}
+        ran = subprocess.run(words, cwd=f"{room}/crates/{name}", **how)
+    keep(name, room)
+    shutil.rmtree(room)
+    return ran.returncode, time.monotonic() - begun
+
+
+class Work:
+    """What is to be proved, what it costs, and what is proved."""
+
+    def __init__(self, names, direct):
+        known = costs()
+        self.direct = direct
+        self.left = list(names)
+        self.proved = set()
+        self.cost = {it: known.get(it, USUAL_COST) for it in names}
+        self.total = len(names)
+        self.spent = self.planned = 0.0
+        # The cost of the longest chain that begins with a crate. (A crate comes after those that it stands on.)
+        self.chain = {}
+        for name in reversed(names):
+            above = [self.chain[it] for it in self.chain if name in direct[it]]
+            self.chain[name] = self.cost[name] + max(above, default=0)
+
+    def next(self):
+        """Takes the crate with the longest chain behind it of those that wait for nothing, if there is one."""
+        ready = [it for it in self.left if self.proved.issuperset(self.direct[it])]
+        if not ready:
+            return None
+        first = max(ready, key=self.chain.get)
+        self.left.remove(first)
+        return first
+
+    def end(self, name, seconds):
+        self.proved.add(name)
+        self.spent += seconds
+        self.planned += self.cost[name]
+
+    def minutes_left(self, running, places):
+        """Returns how many minutes are left, by the costs and by how quick this machine has been."""
+        open_ones = [*self.left, *running]
+        work = sum(self.cost[it] for it in open_ones) / places
+        longest = max((self.chain[it] for it in open_ones), default=0)
+        return max(work, longest) * self.spent / self.planned / 60
+
+
+def prove_all(names, direct):
+    """Proves these crates, each of which comes after those that it stands on, or ends the program where one fails."""
+    work, places, running = Work(names, direct), lanes(), {}
+    with ThreadPoolExecutor(places) as pool:
+        while work.left or running:
+            while len(running) < places and (name := work.next()):
+                running[pool.submit(prove, name, below(name, direct))] = name
+            for done in wait(running, return_when=FIRST_COMPLETED).done:
+                name, (status, seconds) = running.pop(done), done.result()
+                if status:
+                    fail(name, seconds)
+                work.end(name, seconds)
+                left = work.minutes_left(running.values(), places)
+                now = f"{name} proved ({seconds:.0f} s), {len(work.proved)} of {work.total} crates"
+                say(f"{now}, some {left:.0f} min left" if left >= 1 else now)
+
+
+def fail(name, seconds):
+    """Shows why a crate is not proved, and ends the program and what it has started."""
+    say(f"{name} failed after {seconds:.0f} s; {TARGET}/{name}.log ends with:")
+    with open(f"{TARGET}/{name}.log", encoding="utf-8", errors="replace") as lines:
+        sys.stderr.writelines(list(lines)[-30:])
+    sys.stderr.flush()
+    os._exit(1)
+
+
+def lock(names):
+    """Waits until no rt works in these crates' folders, and keeps others out as rt does until the program ends."""
+    held = [os.open(f"{CRATES}/{it}", os.O_RDONLY) for it in sorted(names)]
+    for it in held:
+        fcntl.flock(it, fcntl.LOCK_EX)
+
+
+def main(words):
+    direct = libraries()
+    asked = [it for it in words if it != "--above"]
+    unknown = [it for it in asked if it not in direct]
+    if unknown:
+        say(f"crates.txt has no line for {' '.join(unknown)}")
+        sys.exit(1)
+    if "--above" in words:
+        asked = [it for it in direct if {it, *below(it, direct)}.intersection(asked)]
+        print(*asked, sep="\n")
+    names = []
+    for it in asked:
+        names += [low for low in [*below(it, direct), it] if low not in names]
+    os.makedirs(TARGET, exist_ok=True)
+    lock(names)
+    prove_all(names, direct)
+
+
+if __name__ == "__main__":
+    main(sys.argv[1:])

@@ -13,9 +13,11 @@ Standard error tells of each crate that is proved, and how much is left by the c
 a crate goes into target/NAME.log. The status is 0 where all are proved.
 """
 
+import contextlib
 import fcntl
 import os
 import shutil
+import signal
 import subprocess
 import sys
 import time
@@ -32,6 +34,8 @@ USUAL_COST = 60
 LIBRARY = ["rt", "lib", "--jobs", "1"]
 PROGRAM = ["rt", "run", "--jobs", "1", "--", "--help"]
 OTHER_PROGRAM = ["rt", "check", "--jobs", "1"]
+# The commands that run, by crate.
+COMMANDS = {}
 
 
 def say(text):
@@ -115,13 +119,14 @@ def prove(name, lower):
         bring(f"{crate}/out/rlib", room, os.link)
     if os.path.isdir(f"{CRATES}/{name}/out"):
         os.rename(f"{CRATES}/{name}/out", f"{room}/crates/{name}/out")
-    words = words_for(name)
     with open(f"{TARGET}/{name}.log", "w", encoding="utf-8") as log:
         how = {"stdin": subprocess.DEVNULL, "stdout": log, "stderr": log}
-        ran = subprocess.run(words, cwd=f"{room}/crates/{name}", **how)
+        COMMANDS[name] = subprocess.Popen(words_for(name), cwd=f"{room}/crates/{name}", **how)
+        status = COMMANDS[name].wait()
+        del COMMANDS[name]
     keep(name, room)
     shutil.rmtree(room)
-    return ran.returncode, time.monotonic() - begun
+    return status, time.monotonic() - begun
 
 
 class Work:
@@ -164,29 +169,41 @@ class Work:
 
 
 def prove_all(names, direct):
-    """Proves these crates, each of which comes after those that it stands on, or ends the program where one fails."""
+    """Proves these crates, each of which comes after those that it stands on. Returns whether all are proved."""
     work, places, running = Work(names, direct), lanes(), {}
-    with ThreadPoolExecutor(places) as pool:
+    with ThreadPoolExecutor(places) as pool, ended_by_signals():
         while work.left or running:
             while len(running) < places and (name := work.next()):
                 running[pool.submit(prove, name, below(name, direct))] = name
             for done in wait(running, return_when=FIRST_COMPLETED).done:
                 name, (status, seconds) = running.pop(done), done.result()
                 if status:
-                    fail(name, seconds)
+                    tell_failure(name, seconds)
+                    return False
                 work.end(name, seconds)
                 left = work.minutes_left(running.values(), places)
                 now = f"{name} proved ({seconds:.0f} s), {len(work.proved)} of {work.total} crates"
                 say(f"{now}, some {left:.0f} min left" if left >= 1 else now)
+    return True
 
 
-def fail(name, seconds):
-    """Shows why a crate is not proved, and ends the program and what it has started."""
+@contextlib.contextmanager
+def ended_by_signals():
+    """Ends the commands that run where what stands in it ends before they do, by a signal too."""
+    for it in (signal.SIGTERM, signal.SIGHUP):
+        signal.signal(it, lambda number, _: sys.exit(128 + number))
+    try:
+        yield
+    finally:
+        for it in [*COMMANDS.values()]:
+            it.terminate()
+
+
+def tell_failure(name, seconds):
+    """Shows why a crate is not proved."""
     say(f"{name} failed after {seconds:.0f} s; {TARGET}/{name}.log ends with:")
     with open(f"{TARGET}/{name}.log", encoding="utf-8", errors="replace") as lines:
         sys.stderr.writelines(list(lines)[-30:])
-    sys.stderr.flush()
-    os._exit(1)
 
 
 def lock(names):
@@ -202,7 +219,7 @@ def main(words):
     unknown = [it for it in asked if it not in direct]
     if unknown:
         say(f"crates.txt has no line for {' '.join(unknown)}")
-        sys.exit(1)
+        return 1
     if "--above" in words:
         asked = [it for it in direct if {it, *below(it, direct)}.intersection(asked)]
         print(*asked, sep="\n")
@@ -211,8 +228,8 @@ def main(words):
         names += [low for low in [*below(it, direct), it] if low not in names]
     os.makedirs(TARGET, exist_ok=True)
     lock(names)
-    prove_all(names, direct)
+    return 0 if prove_all(names, direct) else 1
 
 
 if __name__ == "__main__":
-    main(sys.argv[1:])
+    sys.exit(main(sys.argv[1:]))

@@ -14,8 +14,8 @@ use Rattle.chip_detect.specs.Books.{Books, IsSound, IsFresh}
 use Rattle.chip_detect.proofs.Fresh.{stand_in_order}
 use Rattle.chip_part.specs.Edges.{all_edges, tail_of}
 use Rattle.chip_part.specs.Part.{opened, first_put}
-use Rattle.chip_ends.specs.declared.outs.OutEnd.{OutEnd}
-use Rattle.chip_ends.specs.Ends.{OutEnds, InEnds, on_edge, no_out, fresh_out, IsFreshOuts, IsFreshIns}
+use Rattle.chip_actor.specs.declared.ends.outs.OutEnd.{OutEnd}
+use Rattle.chip_actor.specs.Ends.{OutEnds, InEnds, on_edge, no_out, fresh_out, IsFreshOuts, IsFreshIns}
 use Rattle.chip_actor.specs.Actor.{Actor, StandsFor}
 use Rattle.chip_part.proofs.Opening.{opening_keeps, first_few}
 use Rattle.chip_part.proofs.PickedLemmas.{outs_rise, ins_rise}

@@ -1,3 +1,5 @@
+pub mod Lookups
+pub mod EndLemmas
 pub mod Standing
 pub mod Stepping
 pub mod Making

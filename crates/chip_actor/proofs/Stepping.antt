@@ -23,9 +23,9 @@ use Rattle.chip_part.specs.Part.{Part, Out, may_ack, cause}
 use Rattle.chip_part.specs.Rules.{Event, Take, Ack, Fire, Clear, Claim, Put, Halt, Settle, unmet}
 use Rattle.chip_part.specs.Steps.{part_of, does, link_after, pending_after, got_after}
 use Rattle.chip_part.specs.Kept.{KeepsPart}
-use Rattle.chip_ends.specs.declared.outs.OutEnd.{OutEnd}
-use Rattle.chip_ends.specs.Ends.{OutEnds, InEnds, out_on, in_on, ChangesOut, ChangesOuts, ChangesIn}
-use Rattle.chip_ends.specs.Ends.{out_after_clear, out_after_claim, out_after_put, out_after_fire}
+use Rattle.chip_actor.specs.declared.ends.outs.OutEnd.{OutEnd}
+use Rattle.chip_actor.specs.Ends.{OutEnds, InEnds, out_on, in_on, ChangesOut, ChangesOuts, ChangesIn}
+use Rattle.chip_actor.specs.Ends.{out_after_clear, out_after_claim, out_after_put, out_after_fire}
 use Rattle.chip_actor.specs.Actor.{Actor, KnowsGame, StandsFor, out_end}
 use Rattle.chip_part.proofs.RuleLemmas.{rules_met, vertex_clear}
 use Rattle.chip_part.proofs.PartLemmas.{events_keep, idle_take, took_some}

@@ -6,11 +6,11 @@ use Rattle.chip_link.specs.Ends.{claim_words, put_of}
 use Rattle.chip_detect.specs.Acknowledging as detector
 use Rattle.chip_part.specs.Edges.{tail_of, head_of}
 use Rattle.chip_part.specs.Part.{Part, may_ack}
-use Rattle.chip_ends.specs.declared.outs.OutEnd.{OutEnd}
-use Rattle.chip_ends.specs.Ends.{out_on}
+use Rattle.chip_actor.specs.declared.ends.outs.OutEnd.{OutEnd}
+use Rattle.chip_actor.specs.Ends.{out_on}
 use Rattle.chip_actor.specs.Actor.{Actor, StandsFor, is_passive_now, out_end}
 use Rattle.chip_part.specs.Turn.{ins_of, outs_of}
-use Rattle.chip_ends.specs.Ends.{IsFirstFrom}
+use Rattle.chip_actor.specs.Ends.{IsFirstFrom}
 use Rattle.chip_part.specs.Cursor.{out_at}
 use Rattle.chip_actor.proofs.Standing.{may_ack_is}
 use Rattle.chip_part.proofs.TurnSteps.{in_enters, out_leaves}

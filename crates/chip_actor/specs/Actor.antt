@@ -14,8 +14,8 @@ use Rattle.chip_part.specs.Rules.{Event}
 use Rattle.chip_part.specs.declared.reply.Reply.{Reply}
 use Rattle.chip_part.specs.Steps.{does, reply_of}
 use Rattle.chip_part.specs.Acting.{CanDo}
-use Rattle.chip_ends.specs.declared.outs.OutEnd.{OutEnd}
-use Rattle.chip_ends.specs.Ends.{OutEnds, InEnds, out_on, in_on}
+use Rattle.chip_actor.specs.declared.ends.outs.OutEnd.{OutEnd}
+use Rattle.chip_actor.specs.Ends.{OutEnds, InEnds, out_on, in_on}
 
 -- what an `ActorState` shows. The last three are sums over the edges out of it, so that nobody has to add them up: what
 -- is pending, how many messages are claimed and not put, and on how many edges a claim was refused

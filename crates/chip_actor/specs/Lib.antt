@@ -1,3 +1,4 @@
+pub mod Ends
 pub mod Actor
 pub mod Turning
 pub mod Medium

@@ -1,8 +1,8 @@
 ghost use Rattle.std.specs.Prelude.{◌≡◌, ◌≢◌, ◌+◌, ◌*◌, ◌<◌, ◌≤◌, ◌==◌, not, ◌&&◌, ◌||◌, nat_le, is_none, length};
 ghost use Rattle.std.specs.Prelude.{slice_index, Bool, IfOk, IfSome, None, ⊤};
 
+use crate::ends::{Ins, Outs};
 use chip_detect::Detect;
-use chip_ends::{Ins, Outs};
 use chip_graph::Game;
 use chip_link::{Event, Ring};
 use chip_part::{Act, Cause, Observed, Reply, Rule, first_unmet, is_by_limit};

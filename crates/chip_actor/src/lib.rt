@@ -6,6 +6,7 @@
 #![tactic(auto)]
 
 mod actor;
+mod ends;
 mod medium;
 #[cfg(test)]
 mod tests;

@@ -8,7 +8,7 @@ use crate::medium::Medium;
 use chip_part::{Act, Cursor, Observed, Reply, is_by_limit};
 
 impl ActorState {
-    ghost use Rattle.chip_ends.specs.Ends.{out_on};
+    ghost use Rattle.chip_actor.specs.Ends.{out_on};
     ghost use Rattle.chip_actor.specs.Medium.{Meets, Moves, MeetsDue, MakesDue, MakesTurn};
 
     /// Takes once from the edge at this index of those into the vertex.

@@ -9,7 +9,7 @@ use chip_part::{Act, Cursor};
 
 impl ActorState {
     ghost use Rattle.chip_actor.specs.Turning.{StandsAt, TurnContinues, DueAt, MayBeAt};
-    ghost use Rattle.chip_ends.specs.Ends.{IsFirstFrom};
+    ghost use Rattle.chip_actor.specs.Ends.{IsFirstFrom};
     ghost use Rattle.chip_part.specs.Turn.{may_fire, batch_of, is_at_limit};
     ghost use Rattle.chip_actor.specs.Actor.{WhateverPart, SomePart, is_passive_now};
     ghost use Rattle.chip_detect.specs.Acknowledging.{may_ack};

@@ -3,7 +3,7 @@ use Rattle.chip_part.specs.Rules.{Claim}
 use Rattle.chip_actor.specs.Actor.{Actor, SomePart}
 use Rattle.chip_part.specs.Acting.{CanDo}
 use Rattle.chip_actor.specs.contracts.actor.ActorState.{the_view}
-use Rattle.chip_ends.specs.Ends.{out_on}
+use Rattle.chip_actor.specs.Ends.{out_on}
 use Rattle.chip_actor.proofs.Making.{may_claim, message_count, claim_sealed, claim_made}
 use Rattle.chip_actor.proofs.actor.ActorState.claim_at.Goals as goal
 

@@ -1,8 +1,8 @@
 use Rattle.std.proofs.Common.{◌≡◌, ◌≢◌, ◌∙◌, ℕ, List, slice_index, refl, sym, ap, subst}
 use Rattle.chip_part.specs.declared.act.Act.TheVariants as Do
 use Rattle.chip_part.specs.declared.cursor.Cursor.TheVariants as At
-use Rattle.chip_ends.specs.declared.outs.OutEnd.{OutEnd}
-use Rattle.chip_ends.specs.Ends.{out_on}
+use Rattle.chip_actor.specs.declared.ends.outs.OutEnd.{OutEnd}
+use Rattle.chip_actor.specs.Ends.{out_on}
 use Rattle.chip_actor.specs.Actor.{Actor}
 use Rattle.chip_link.specs.Ends.{tail_cell}
 use Rattle.chip_part.specs.Rules.{Clear}

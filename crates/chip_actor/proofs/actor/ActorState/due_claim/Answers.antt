@@ -3,7 +3,7 @@ use Rattle.chip_link.specs.Ends.{claim_words}
 use Rattle.chip_part.specs.declared.cursor.Cursor.TheVariants as At
 use Rattle.chip_part.specs.Rules.{Claim}
 use Rattle.chip_actor.specs.Actor.{Actor}
-use Rattle.chip_ends.specs.declared.outs.OutEnd.{OutEnd}
+use Rattle.chip_actor.specs.declared.ends.outs.OutEnd.{OutEnd}
 use Rattle.chip_part.specs.Cursor.{GoesBy}
 use Rattle.chip_part.proofs.TurnSteps.{claim_due, claim_over}
 use Rattle.chip_actor.proofs.TurnActor.{clear_at_place}

@@ -3,7 +3,7 @@ use Rattle.chip_part.specs.declared.cursor.Cursor.TheVariants as At
 use Rattle.chip_link.specs.Ends.{put_of}
 use Rattle.chip_part.specs.Rules.{Put, Halt}
 use Rattle.chip_actor.specs.Actor.{Actor}
-use Rattle.chip_ends.specs.declared.outs.OutEnd.{OutEnd}
+use Rattle.chip_actor.specs.declared.ends.outs.OutEnd.{OutEnd}
 use Rattle.chip_part.specs.Cursor.{GoesBy}
 use Rattle.chip_part.proofs.TurnSteps.{store_due, stop_due}
 use Rattle.chip_actor.proofs.TurnActor.{held_at_place}

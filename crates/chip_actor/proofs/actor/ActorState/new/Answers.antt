@@ -3,7 +3,7 @@ use Rattle.chip_graph.specs.Multigraph.{Multigraph, edge_at, edges_out, edges_in
 use Rattle.chip_detect.specs.Books.{IsFresh}
 use Rattle.chip_link.specs.Rings.{max_ring}
 use Rattle.chip_part.specs.Setting.{setting_with}
-use Rattle.chip_ends.specs.Ends.{IsFreshOuts, IsFreshIns}
+use Rattle.chip_actor.specs.Ends.{IsFreshOuts, IsFreshIns}
 use Rattle.chip_actor.specs.Actor.{Actor}
 use Rattle.chip_part.proofs.PickedLemmas.{length-picked}
 use Rattle.chip_actor.proofs.ActorOpening.{opens}

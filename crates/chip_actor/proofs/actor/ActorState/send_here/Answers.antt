@@ -1,7 +1,7 @@
 use Rattle.std.proofs.Common.{◌≡◌, ◌∙◌, ◌+◌, slice_index, refl, sym, ap, arith}
 use Rattle.chip_part.specs.declared.cursor.Cursor.TheVariants as At
-use Rattle.chip_ends.specs.declared.outs.OutEnd.{OutEnd}
-use Rattle.chip_ends.specs.Ends.{out_on}
+use Rattle.chip_actor.specs.declared.ends.outs.OutEnd.{OutEnd}
+use Rattle.chip_actor.specs.Ends.{out_on}
 use Rattle.chip_actor.specs.Actor.{Actor}
 use Rattle.chip_actor.proofs.MediumLemmas.{moves_on, meets_after, counts}
 use Rattle.chip_actor.proofs.TurnOver.{send_none}

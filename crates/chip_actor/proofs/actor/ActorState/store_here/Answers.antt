@@ -1,8 +1,8 @@
 use Rattle.std.proofs.Common.{◌≡◌, ◌∙◌, ℕ, ◌+◌, Bool, List, slice_index, Some, None, refl, sym, ap}
 use Rattle.chip_part.specs.declared.act.Act.TheVariants as Do
 use Rattle.chip_part.specs.declared.cursor.Cursor.TheVariants as At
-use Rattle.chip_ends.specs.declared.outs.OutEnd.{OutEnd}
-use Rattle.chip_ends.specs.Ends.{out_on}
+use Rattle.chip_actor.specs.declared.ends.outs.OutEnd.{OutEnd}
+use Rattle.chip_actor.specs.Ends.{out_on}
 use Rattle.chip_actor.specs.Actor.{Actor, WhateverPart}
 use Rattle.chip_link.specs.Ends.{put_of}
 use Rattle.chip_part.specs.Part.{cause, is_by_limit}

@@ -3,7 +3,7 @@ use Rattle.chip_link.specs.Ends.{head_cell}
 use Rattle.chip_part.specs.declared.act.Act.TheVariants as Do
 use Rattle.chip_part.specs.declared.cursor.Cursor.TheVariants as At
 use Rattle.chip_part.specs.Rules.{Take}
-use Rattle.chip_ends.specs.Ends.{in_on}
+use Rattle.chip_actor.specs.Ends.{in_on}
 use Rattle.chip_actor.specs.Actor.{Actor}
 use Rattle.chip_actor.proofs.MediumLemmas.{DueBy, may_serve, can_do, moves_one, one_few}
 use Rattle.chip_actor.proofs.TurnOver.{take_by}

@@ -1,0 +1,128 @@
+-- The ends of a vertex's edges: what a search finds there, and what a write at the place that it found changes.
+use Rattle.std.proofs.lemmas.List.{take_more, take_more_set, drop-set-lt, map-append}
+use Rattle.std.proofs.Math.Seq.{drop-cons}
+use Rattle.std.proofs.Common.{◌≡◌, ℕ, suc, ◌+◌, ◌<◌, ◌≤◌, subst, cond, eqb, List, [], ◌∷◌, ◌++◌, length, take, drop}
+use Rattle.std.proofs.Common.{map, get_or, set, Some, None, refl, sym, ap, ◌∙◌, arith}
+use mathlib.Core.Logic.{dite}
+use native.Mathlib.Decide.{ℕ_discrete, dec_lt}
+use Rattle.chip_graph.proofs.SumLemmas.{cond_yes, cond_no}
+use Rattle.chip_detect.proofs.Lookups.{ascends}
+use Rattle.chip_link.specs.declared.message.Message.{Message}
+use Rattle.chip_link.specs.Ends.{HeadState, message_claimed, tail_after_claim, new_head}
+use Rattle.chip_actor.specs.Ends.{on_edge, OutEnd, OutEnds, InEnds, no_out, out_on, in_on, AreApart, ChangesOut}
+use Rattle.chip_actor.specs.Ends.{ChangesIn, out_after_claim}
+use Rattle.chip_actor.proofs.Lookups.{on_edge_at, on_edge_changed}
+use Rattle.std.specs.List.Sorted.{IsStrictlyIncreasing}
+use Rattle.std.proofs.lemmas.List.{length-map, take_all}
+
+module _ {T : Type 0} (none : T) (edges : List ℕ) (ends : List T) (apart : AreApart edges ends) (i e : ℕ)
+    (within : i < length edges) (at : get_or edges i 0 ≡ e) (old : T) (was : old ≡ get_or ends i old) where
+  pub found : old ≡ on_edge none edges ends e
+  found = was ∙ sym (on_edge_at none edges ends i old (ascends edges apart.ascending) apart.one_each within)
+      ∙ ap (on_edge none edges ends) at
+
+  pub changed : (new : T) (f : T → T) → new ≡ f old → (j : ℕ)
+      → on_edge none edges (set ends i new) j ≡ cond (eqb e j) (f (on_edge none edges ends j)) (on_edge none edges ends j)
+  changed new f is = on_edge_changed none edges ends i e old new f apart.ascending apart.one_each within at (is
+      ∙ ap f was)
+
+module _ (os : OutEnds) (apart : AreApart os.edges os.ends) (i e : ℕ) (within : i < length os.edges)
+    (at : get_or os.edges i 0 ≡ e) (old : OutEnd) (was : old ≡ get_or os.ends i old) where
+  pub found_out : old ≡ out_on os e
+  found_out = found no_out os.edges os.ends apart i e within at old was
+
+  pub changes_out : (new : OutEnd) (f : OutEnd → OutEnd) → new ≡ f old
+      → ChangesOut os (record { edges = os.edges; ends = set os.ends i new }) e f
+  changes_out new f is = record {
+    edges = refl;
+    each = changed no_out os.edges os.ends apart i e within at old was new f is;
+  }
+
+module _ (is : InEnds) (apart : AreApart is.edges is.ends) (i e : ℕ) (within : i < length is.edges)
+    (at : get_or is.edges i 0 ≡ e) (old : HeadState) (was : old ≡ get_or is.ends i old) where
+  pub found_in : old ≡ in_on is e
+  found_in = found (new_head 0 1) is.edges is.ends apart i e within at old was
+
+  pub changes_in : (new : HeadState) (f : HeadState → HeadState) → new ≡ f old
+      → ChangesIn is (record { edges = is.edges; ends = set is.ends i new }) e f
+  changes_in new f eq = record {
+    edges = refl;
+    each = changed (new_head 0 1) is.edges is.ends apart i e within at old was new f eq;
+  }
+
+-- an end with a claim, and with so much pending
+abbrev claiming : ℕ → OutEnd → ℕ → OutEnd
+claiming word o pending = record o { pending = pending; link = tail_after_claim word o.pending o.link }
+
+-- a claim that is answered by a message sent all that was pending
+pub claim_taken : (word : ℕ) (o : OutEnd) (m : Message) → Some m ≡ message_claimed word o.pending o.link
+    → (let n : OutEnd = record o { pending = 0; link = tail_after_claim word o.pending o.link } in n)
+    ≡ out_after_claim word o
+claim_taken word o m sent = dite (ℕ_discrete word o.link.claims)
+    (λ hit. ap (claiming word o) (sym (cond_yes word o.link.claims 0 o.pending hit)))
+    (λ miss. absurd (not_sent (sent ∙ cond_no word o.link.claims _ None miss)))
+  where
+    not_sent : Some m ≡ None → ⊥
+    not_sent q = cc
+
+-- one that is refused leaves it
+pub claim_refused : (word : ℕ) (o : OutEnd) → None ≡ message_claimed word o.pending o.link
+    → (let n : OutEnd = record o { link = tail_after_claim word o.pending o.link } in n) ≡ out_after_claim word o
+claim_refused word o sent = dite (ℕ_discrete word o.link.claims)
+    (λ hit. absurd (not_none (sent ∙ cond_yes word o.link.claims _ None hit)))
+    (λ miss. ap (claiming word o) (sym (cond_no word o.link.claims 0 o.pending miss)))
+  where
+    not_none : {m : Message} → None ≡ Some m → ⊥
+    not_none q = cc
+
+-- one step of a loop that changes each element by f
+module _ {T : Type 0} (f : T → T) (old xs : List T) (i : ℕ) (d : T) (lengths : length xs ≡ length old)
+    (done : take i xs ≡ map f (take i old)) (rest : drop i xs ≡ drop i old) (l : i < length xs) where
+  pub reads_old : get_or xs i d ≡ get_or old i d
+  reads_old = let a = drop-cons xs i d l in let k : i < length old = omega arith in let b = drop-cons old i d k in
+      heads (sym a ∙ rest ∙ b)
+    where
+      heads : {x y : T} {us vs : List T} → x ∷ us ≡ y ∷ vs → x ≡ y
+      heads e = cc
+
+  pub done_more : take (i + 1) (set xs i (f (get_or xs i d))) ≡ map f (take (i + 1) old)
+  done_more =
+      let k : i < length old = omega arith in
+      take_more_set xs i (f (get_or xs i d)) l
+      ∙ (λ j. done j ++ f (reads_old j) ∷ [])
+      ∙ sym (map-append f (take i old) (get_or old i d ∷ []))
+      ∙ ap (map f) (sym (take_more old i d k))
+
+  pub rest_less : drop (i + 1) (set xs i (f (get_or xs i d))) ≡ drop (i + 1) old
+  rest_less =
+      let k : i < length old = omega arith in
+      drop-set-lt (i + 1) xs i (f (get_or xs i d)) (omega arith)
+      ∙ (let e : i + 1 ≡ suc i = omega arith in ap (λ (n : ℕ). drop n xs) e
+      ∙ tails (sym (drop-cons xs i d l) ∙ rest ∙ drop-cons old i d k) ∙ ap (λ (n : ℕ). drop n old) (sym e))
+    where
+      tails : {x y : T} {us vs : List T} → x ∷ us ≡ y ∷ vs → us ≡ vs
+      tails e = cc
+
+-- what holds up to an index, and at it, holds up to the next one
+pub from_more : (P : ℕ → Type 0) (from i : ℕ) → ((k : ℕ) → from ≤ k → k < i → P k) → P i → (k : ℕ) → from ≤ k
+    → k < i + 1 → P k
+from_more P from i below here k le lt = dite (dec_lt k i) (λ l. below k le l)
+    (λ n. subst P (let z : i ≡ k = omega arith in z) here)
+
+-- the edge at a place, by its number
+module _ (os now : OutEnds) (same : os ≡ now) (apart : AreApart os.edges os.ends) (place : ℕ)
+    (within : place < length now.edges) (end : OutEnd) (was : end ≡ get_or os.ends place end) where
+  pub out_there : end ≡ out_on now (get_or now.edges place 0)
+  out_there =
+      let inside = subst (λ (o : OutEnds). place < length o.edges) (sym same) within in
+      found_out os apart place (get_or os.edges place 0) inside refl end was
+      ∙ ap (λ (o : OutEnds). out_on o (get_or o.edges place 0)) same
+
+-- a list that was made from the numbers of edges, one end after another
+pub made_apart : {T : Type 0} (edges : List ℕ) (f : ℕ → T) (ts : List T) (i : ℕ) → IsStrictlyIncreasing edges
+    → ts ≡ map f (take i edges) → length edges ≤ i → AreApart edges ts
+made_apart edges f ts i rising is all = record {
+  ascending = rising;
+  one_each = ap length is
+      ∙ length-map (take i edges) f ∙ ap length (take_all i edges all);
+}

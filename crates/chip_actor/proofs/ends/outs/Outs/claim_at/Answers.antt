@@ -1,0 +1,68 @@
+use Rattle.std.proofs.Common.{◌≡◌, ◌∙◌, ap, sym, subst, ◌^◌, ◌≤◌, IsTrue, set, ◌<◌, length, get_or}
+use Rattle.chip_link.specs.Words.{claims_in}
+use Rattle.chip_link.specs.Ends.{TailState, message_claimed}
+use Rattle.chip_actor.specs.Ends.{OutEnds, OutEnd, out_on, out_after_claim, ChangesOut}
+use Rattle.chip_actor.proofs.EndLemmas.{changes_out, found_out, claim_taken, claim_refused}
+use Rattle.chip_actor.proofs.ends.outs.Outs.claim_at.Goals as goal
+use Rattle.chip_actor.proofs.ends.outs.Outs.claim_at.Goals.{After-index_mut-out}
+
+-- the end that was found is the edge's
+is : (c : After-index_mut-out) → c.index_mut-out.result.now ≡ out_on c.args.self.now c.args.edge
+is c =
+    found_out (record { edges = c.self.inside.edges.items; ends = c.self.inside.ends.items }) c.self.invariant
+    c.args.index c.args.edge (subst (λ (os : OutEnds). c.args.index < length os.edges)
+    (sym c.self.view_is) c.requires.within)
+    (subst (λ (os : OutEnds). get_or os.edges c.args.index 0 ≡ c.args.edge) (sym c.self.view_is) c.requires.edge)
+    c.index_mut-out.result.now c.index_mut-out.ensures.value
+    ∙ ap (λ (os : OutEnds). out_on os c.args.edge) c.self.view_is
+
+pub claimed-requires-clause-clear : goal.claimed-requires-clause-clear
+claimed-requires-clause-clear c = subst
+    (λ (o : OutEnd). IsTrue o.link.clear) (sym (is (goal.at.claimed-requires-clause-clear c).After-index_mut-out))
+    c.requires.clear
+
+pub claimed-requires-clause-word : goal.claimed-requires-clause-word
+claimed-requires-clause-word c = subst (λ (o : OutEnd). claims_in c.args.word ≡ o.link.claims)
+    (sym (is (goal.at.claimed-requires-clause-word c).After-index_mut-out)) c.requires.word
+
+pub claimed-requires-clause-count : goal.claimed-requires-clause-count
+claimed-requires-clause-count c = subst (λ (o : OutEnd). (1 ≤ o.pending) × (o.pending ≤ 2 ^ 40))
+    (sym (is (goal.at.claimed-requires-clause-count c).After-index_mut-out)) c.requires.count
+
+-- what a claim leaves at the place that was found
+wrote : (c : After-index_mut-out) → (new : OutEnd) → new ≡ out_after_claim c.args.word c.index_mut-out.result.now
+    → ChangesOut c.args.self.now
+    (record { edges = c.self.inside.edges.items; ends = set c.self.inside.ends.items c.args.index new }) c.args.edge
+    (out_after_claim c.args.word)
+wrote c new eq = rw (← c.self.view_is)
+    (changes_out (record { edges = c.self.inside.edges.items; ends = c.self.inside.ends.items }) c.self.invariant
+    c.args.index c.args.edge (subst (λ (os : OutEnds). c.args.index < length os.edges)
+    (sym c.self.view_is) c.requires.within)
+    (subst (λ (os : OutEnds). get_or os.edges c.args.index 0 ≡ c.args.edge) (sym c.self.view_is) c.requires.edge)
+    c.index_mut-out.result.now c.index_mut-out.ensures.value
+    new (out_after_claim c.args.word) eq)
+
+pub returns-clause-message : goal.returns-clause-message
+returns-clause-message c =
+    c.in_ok-message.ensures.message
+    ∙ ap (λ (o : OutEnd). message_claimed c.args.word o.pending o.link)
+    (is (goal.at.returns-clause-message c).After-index_mut-out)
+
+pub returns-clause-after : goal.returns-clause-after
+returns-clause-after c =
+    let o : OutEnd = c.index_mut-out.result.now in
+    wrote (goal.at.returns-clause-after c).After-index_mut-out _
+    (ap (λ (t : TailState). let n : OutEnd = record o { pending = 0; link = t } in n) c.claimed.ensures.after
+    ∙ claim_taken c.args.word o c.in_ok-message.message c.in_ok-message.ensures.message)
+
+pub returns-in_err-message-clause-message : goal.returns-in_err-message-clause-message
+returns-in_err-message-clause-message c = c.from_residual.ensures ∙ c.in_err-message.ensures.message
+    ∙ ap (λ (o : OutEnd). message_claimed c.args.word o.pending o.link)
+    (is (goal.at.returns-in_err-message-clause-message c).After-index_mut-out)
+
+pub returns-in_err-message-clause-after : goal.returns-in_err-message-clause-after
+returns-in_err-message-clause-after c =
+    let o : OutEnd = c.index_mut-out.result.now in
+    wrote (goal.at.returns-in_err-message-clause-after c).After-index_mut-out _
+    (ap (λ (t : TailState). let n : OutEnd = record o { link = t } in n) c.claimed.ensures.after
+    ∙ claim_refused c.args.word o c.in_err-message.ensures.message)

@@ -1,0 +1,8 @@
+use Rattle.std.proofs.Common.{◌≡◌, ℕ, ◌<◌, ◌≤◌, false, slice_index, is_some}
+use Rattle.chip_link.specs.Ends.{put_of}
+use Rattle.chip_actor.specs.Ends.{out_on}
+use Rattle.chip_actor.proofs.ends.outs.Outs.next_held.Given as goal
+
+abbrev pub invariant-loop-next : goal.invariant-loop-next
+invariant-loop-next l = (k : ℕ) → l.place ≤ k → k < l.next
+    → is_some (put_of (out_on l.self (slice_index l.self.edges k)).link) ≡ false

@@ -1,0 +1,8 @@
+//! The ends of a vertex's edges, as one who keeps them finds them: by the number of an edge, or by its place.
+
+mod ins;
+mod outs;
+mod search;
+
+pub use ins::Ins;
+pub use outs::{OutEnd, Outs};

@@ -1,0 +1,92 @@
+ghost use Rattle.std.specs.Prelude.{◌≡◌, ◌^◌, ◌<◌, ◌≤◌, length, slice_index, map, IfOk, Contains};
+ghost use Rattle.std.specs.List.Sorted.{IsStrictlyIncreasing};
+
+use crate::ends::search::index_of;
+use chip_graph::Graph;
+use chip_link::{HeadLink, Message, Ring};
+use std::alloc::{AllocError, Global};
+use std::marker::Model;
+
+/// The edges into a vertex, its root edge last, by ascending numbers. The numbers stand apart, so that a search reads
+/// nothing else.
+#[derive(Drop)]
+pub struct Ins {
+    edges: Vec<u64>,
+    ends: Vec<HeadLink>,
+}
+
+impl Model for Ins {
+    ghost use Rattle.chip_actor.specs.Ends.{InEnds, AreApart};
+
+    ghost Value = { InEnds };
+
+    ghost view = { λ a. record { edges = a.edges.items; ends = a.ends.items } };
+
+    ghost invariant = { λ a. AreApart a.edges.items a.ends.items };
+}
+
+impl Ins {
+    ghost use Rattle.chip_link.specs.Ends.{head_cell, message_taken, head_after_take};
+    ghost use Rattle.chip_actor.specs.Ends.{InEnds, in_on, ChangesIn, IsFreshIns};
+
+    /// The index of an edge.
+    pub fn index_of(&self, edge: u64) -> usize
+        requires { Contains self.now.edges edge }
+        ensures within { result < length self.now.edges }
+        ensures edge { slice_index self.now.edges result ≡ edge }
+    {
+        index_of(&self.edges, edge)
+    }
+
+    /// The cell of the next place to take on an edge.
+    pub fn cell(&self, edge: u64) -> u64
+        requires { Contains self.now.edges edge }
+        ensures { result ≡ head_cell (in_on self.now edge) }
+    {
+        self.cell_at(self.index_of(edge), edge)
+    }
+
+    /// The same of the edge at this index.
+    pub fn cell_at(&self, index: usize, edge: u64) -> u64
+        requires within { index < length self.now.edges }
+        requires edge { slice_index self.now.edges index ≡ edge }
+        ensures { result ≡ head_cell (in_on self.now edge) }
+    {
+        self.ends[index].cell()
+    }
+
+    /// The message that was found in that cell of the edge at this index.
+    pub fn take_at(&mut self, index: usize, edge: u64, cell: u64) -> Option<Message>
+        requires within { index < length self.old.edges }
+        requires edge { slice_index self.old.edges index ≡ edge }
+        requires few { (in_on self.old edge).taken < 2 ^ 62 }
+        ensures message { result ≡ message_taken cell (in_on self.old edge) }
+        ensures after { ChangesIn self.old self.new edge (head_after_take cell) }
+    {
+        let end = &mut self.ends[index];
+        end.taken(cell)
+    }
+
+    /// The edges into a vertex, the given root edge last, on which nothing was taken.
+    pub fn new(alloc: Global, graph: &Graph, vertex: u64, ring: Ring) -> Result<Ins, AllocError>
+        requires { vertex < graph.now.vertices }
+        ensures { IfOk result (λ ins. IsFreshIns graph.now ring vertex ins) }
+    {
+        let numbers = graph.ins(vertex);
+        let mut edges = Vec::from_slice(alloc, numbers)?;
+        edges.push(graph.edges().len() as u64 + vertex)?;
+        let mut ends = Vec::with_capacity(alloc, edges.len())?;
+        for &edge in &edges {
+            ends.push_reserved(HeadLink::new(edge, ring));
+        }
+        Ok(Ins { edges, ends })
+    }
+
+    /// The numbers of the edges.
+    pub fn edges(&self) -> &[u64]
+        ensures edges { result.now ≡ self.now.edges }
+        ensures ascending { IsStrictlyIncreasing result.now }
+    {
+        &self.edges
+    }
+}

@@ -1,0 +1,170 @@
+ghost use Rattle.std.specs.Prelude.{◌≡◌, ℕ, ◌*◌, ◌^◌, ◌<◌, ◌≤◌, length, map, IfOk, Contains, IsTrue, Option};
+ghost use Rattle.std.specs.Prelude.{slice_index, slice_index_or, not, is_some, ◌==◌};
+ghost use Rattle.chip_graph.specs.Limits.{max_total};
+
+use crate::ends::search::index_of;
+use chip_graph::Graph;
+use chip_link::{Message, Ring, TailLink};
+use std::alloc::{AllocError, Global};
+use std::marker::Model;
+
+/// One edge out of a vertex.
+#[derive(Drop)]
+pub struct OutEnd {
+    /// The chips that one firing sends along it.
+    pub mult: u64,
+    /// What is left to send of the last batch.
+    pub pending: u64,
+    /// What was sent along it.
+    pub link: TailLink,
+}
+
+/// The edges out of a vertex, by ascending numbers. The numbers stand apart, so that a search reads nothing else.
+#[derive(Drop)]
+pub struct Outs {
+    edges: Vec<u64>,
+    ends: Vec<OutEnd>,
+}
+
+impl Model for Outs {
+    ghost use Rattle.chip_actor.specs.Ends.{OutEnds, AreApart};
+
+    ghost Value = { OutEnds };
+
+    ghost view = { λ a. record { edges = a.edges.items; ends = a.ends.items } };
+
+    ghost invariant = { λ a. AreApart a.edges.items a.ends.items };
+}
+
+impl Outs {
+    ghost use Rattle.chip_link.specs.Words.{claims_in};
+    ghost use Rattle.chip_actor.specs.Ends.{IsFirstFrom};
+    ghost use Rattle.chip_link.specs.Ends.{put_of, message_claimed, may_clear, claim_words, tail_after_clear};
+    ghost use Rattle.chip_actor.specs.Ends.{OutEnds, OutEnd, out_on, ChangesOut, ChangesOuts, IsFreshOuts};
+    ghost use Rattle.chip_actor.specs.Ends.{out_after_clear, out_after_claim, out_after_put, out_after_fire};
+
+    /// The index of an edge.
+    pub fn index_of(&self, edge: u64) -> usize
+        requires { Contains self.now.edges edge }
+        ensures within { result < length self.now.edges }
+        ensures edge { slice_index self.now.edges result ≡ edge }
+    {
+        index_of(&self.edges, edge)
+    }
+
+    /// What is known of an edge.
+    pub fn get(&self, edge: u64) -> &OutEnd
+        requires { Contains self.now.edges edge }
+        ensures { result.now ≡ out_on self.now edge }
+    {
+        self.at(self.index_of(edge))
+    }
+
+    /// The numbers of the edges.
+    pub fn edges(&self) -> &[u64]
+        ensures { result.now ≡ self.now.edges }
+    {
+        &self.edges
+    }
+
+    /// What is known of the edge at this index.
+    pub fn at(&self, index: usize) -> &OutEnd
+        requires { index < length self.now.edges }
+        ensures { result.now ≡ out_on self.now (slice_index self.now.edges index) }
+    {
+        &self.ends[index]
+    }
+
+    /// The first place from this one on with an edge on which a message is claimed and not put.
+    pub fn next_held(&self, place: usize) -> Option<usize>
+        ensures { IsFirstFrom (λ e. is_some (put_of (out_on self.now e).link)) self.now.edges place result }
+    {
+        for next in place..self.ends.len() {
+            if self.ends[next].link.held().is_some() {
+                return Some(next);
+            }
+        }
+        None
+    }
+
+    /// The first place from this one on with an edge on which something is pending.
+    pub fn next_pending(&self, place: usize) -> Option<usize>
+        ensures { IsFirstFrom (λ e. not ((out_on self.now e).pending == 0)) self.now.edges place result }
+    {
+        for next in place..self.ends.len() {
+            if self.ends[next].pending != 0 {
+                return Some(next);
+            }
+        }
+        None
+    }
+
+    /// Notes what a look at the cell of the edge at this index found, and gives the words of a claim that may follow,
+    /// the first of which is its place.
+    pub fn clear_at(&mut self, index: usize, edge: u64, cell: u64) -> Option<(u64, u64)>
+        requires within { index < length self.old.edges }
+        requires edge { slice_index self.old.edges index ≡ edge }
+        ensures words { result ≡ claim_words (tail_after_clear cell (out_on self.old edge).link) }
+        ensures after { ChangesOut self.old self.new edge (out_after_clear cell) }
+    {
+        let out = &mut self.ends[index];
+        let _is_clear = out.link.cleared(cell);
+        out.link.claim_next()
+    }
+
+    /// Notes the word that a claim for all that is pending on the edge at this index saw.
+    pub fn claim_at(&mut self, index: usize, edge: u64, word: u64) -> Option<Message>
+        requires within { index < length self.old.edges }
+        requires edge { slice_index self.old.edges index ≡ edge }
+        requires clear { IsTrue (out_on self.old edge).link.clear }
+        requires word { claims_in word ≡ (out_on self.old edge).link.claims }
+        requires count { (1 ≤ (out_on self.old edge).pending) × ((out_on self.old edge).pending ≤ max_total) }
+        ensures message { result ≡ message_claimed word (out_on self.old edge).pending (out_on self.old edge).link }
+        ensures after { ChangesOut self.old self.new edge (out_after_claim word) }
+    {
+        let out = &mut self.ends[index];
+        let message = out.link.claimed(word, out.pending)?;
+        out.pending = 0;
+        Some(message)
+    }
+
+    /// The cell and the value of what is claimed and not put on the edge at this index, and notes that it is stored.
+    pub fn put_at(&mut self, index: usize, edge: u64) -> Option<(u64, u64)>
+        requires within { index < length self.old.edges }
+        requires edge { slice_index self.old.edges index ≡ edge }
+        ensures stored { result ≡ put_of (out_on self.old edge).link }
+        ensures after { ChangesOut self.old self.new edge out_after_put }
+    {
+        let out = &mut self.ends[index];
+        out.link.put_value()
+    }
+
+    /// Notes that the vertex fired `k` times in a row.
+    pub fn fire(&mut self, k: u64)
+        requires { (e : ℕ) → Contains self.old.edges e → k * (out_on self.old e).mult < 2 ^ 64 }
+        ensures { ChangesOuts self.old self.new (out_after_fire k) }
+    {
+        for out in self.ends.iter_mut() {
+            out.pending = k * out.mult;
+        }
+    }
+
+    /// The edges out of a vertex, on which nothing was sent.
+    pub fn new(alloc: Global, graph: &Graph, vertex: u64, ring: Ring) -> Result<Outs, AllocError>
+        requires { vertex < graph.now.vertices }
+        ensures { IfOk result (λ outs. IsFreshOuts graph.now ring vertex outs) }
+    {
+        let numbers = graph.outs(vertex);
+        let edges = Vec::from_slice(alloc, numbers)?;
+        let mut ends = Vec::with_capacity(alloc, numbers.len())?;
+        let rows = graph.edges();
+        for &edge in numbers {
+            ends.push_reserved(OutEnd {
+                mult: rows[edge as usize].mult,
+                pending: 0,
+                link: TailLink::new(edge, ring),
+            });
+        }
+        Ok(Outs { edges, ends })
+    }
+}

@@ -1,6 +1,0 @@
-use Rattle.chip_ends.proofs.EndLemmas.{out_there}
-use Rattle.chip_ends.proofs.outs.Outs.at.Goals as goal
-
-pub returns : goal.returns
-returns c = out_there (record { edges = c.self.inside.edges.items; ends = c.self.inside.ends.items }) c.args.self.now
-    c.self.view_is c.self.invariant c.args.index c.requires c.index.result.now c.index.ensures

@@ -1,7 +1,0 @@
-use Rattle.std.proofs.Common.{◌≡◌, ℕ, ◌<◌, ◌≤◌, false, slice_index, not, ◌==◌}
-use Rattle.chip_ends.specs.Ends.{out_on}
-use Rattle.chip_ends.proofs.outs.Outs.next_pending.Given as goal
-
-abbrev pub invariant-loop-next : goal.invariant-loop-next
-invariant-loop-next l = (k : ℕ) → l.place ≤ k → k < l.next
-    → not ((out_on l.self (slice_index l.self.edges k)).pending == 0) ≡ false

@@ -1,9 +1,0 @@
-//! The ends of a vertex's edges, as one who keeps them finds them: by the number of an edge, or by its place.
-#![tactic(auto)]
-
-mod ins;
-mod outs;
-mod search;
-
-pub use ins::Ins;
-pub use outs::{OutEnd, Outs};

@@ -1,6 +1,7 @@
 -- From the number of a fault to what a table of faults says of it.
-use Rattle.std.specs.Prelude.{◌≡◌, ◌⊎◌, ◌==◌, ℕ, List, ◌++◌, false, codes, find, Option, Some, None, option_map}
+use Rattle.std.specs.Prelude.{◌≡◌, ◌⊎◌, ◌==◌, ℕ, List, ◌++◌, false, codes, find, Option, Some, None, option_map, map}
 use Rattle.std.specs.Prelude.{Result, Ok, Err}
+use Rattle.std.specs.Borrow.{Bor}
 use Rattle.std.specs.Fmt.{decimal}
 use Rattle.std.specs.Io.KnownBytes.{Appends, Keeps}
 use Rattle.chip_faults.specs.declared.table.Explanation.{Explanation}
@@ -26,6 +27,10 @@ abbrev pub table_text : List Explanation → List ℕ
 table_text table =
     lines_text line_text table
     ++ codes "\n`chipfire explain N` says more of fault N, and docs/FORMATS.md has the files.\n"
+
+-- the rows that a table refers to
+abbrev pub rows_of : List (Bor Explanation) → List Explanation
+rows_of table = map (λ row. row.now) table
 
 -- the row of a table with this number, where there is one
 abbrev pub row_with : List Explanation → ℕ → Option Explanation

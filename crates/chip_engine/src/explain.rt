@@ -2,7 +2,7 @@
 
 ghost use Rattle.std.specs.Prelude.{◌≡◌, ◌++◌, IfOk, MatchResult, option_map, string_bytes};
 ghost use Rattle.chip_engine.specs.ExplainCommand.{ExplainAnswers, TellsNothing, explanation, line_text, row_text};
-ghost use Rattle.chip_engine.specs.ExplainCommand.{row_with, table_text};
+ghost use Rattle.chip_engine.specs.ExplainCommand.{row_with, rows_of, table_text};
 
 use crate::ended::{DONE, Ended};
 use crate::fault::Fault;
@@ -16,11 +16,11 @@ use std::io::Write;
 /// `Fault::Usage` where no row of the table has the number.
 pub fn explain_engine<W: Write>(
     alloc: Global,
-    table: &[Explanation],
+    table: &[&Explanation],
     number: Option<u64>,
     output: &mut W,
 ) -> Result<Ended, Fault>
-    ensures { ExplainAnswers (explanation table.now number) (W.contents output.old) (W.contents output.new) result }
+    ensures { ExplainAnswers (explanation (rows_of table.now) number) (W.contents output.old) (W.contents output.new) result }
 {
     let text = told(alloc, table, number)?;
     write_all_of(output, text.as_bytes())?;
@@ -31,9 +31,9 @@ pub fn explain_engine<W: Write>(
 }
 
 /// What a table says of the fault with this number, or of all its faults.
-fn told(alloc: Global, table: &[Explanation], number: Option<u64>) -> Result<String, Fault>
-    ensures { MatchResult result (λ text. explanation table.now number ≡ Some (string_bytes text))
-        (TellsNothing (explanation table.now number)) }
+fn told(alloc: Global, table: &[&Explanation], number: Option<u64>) -> Result<String, Fault>
+    ensures { MatchResult result (λ text. explanation (rows_of table.now) number ≡ Some (string_bytes text))
+        (TellsNothing (explanation (rows_of table.now) number)) }
 {
     let Some(number) = number else {
         return Ok(listed(alloc, table)?);
@@ -43,10 +43,15 @@ fn told(alloc: Global, table: &[Explanation], number: Option<u64>) -> Result<Str
 }
 
 /// The row of a table with this number, where there is one.
-fn row_of(table: &[Explanation], number: u64) -> Option<&Explanation>
-    ensures { option_map (λ row. row.now) result ≡ row_with table.now number }
+fn row_of<'a>(table: &[&'a Explanation], number: u64) -> Option<&'a Explanation>
+    ensures { option_map (λ row. row.now) result ≡ row_with (rows_of table.now) number }
 {
-    table.iter().find(|row| row.number == number)
+    for row in table {
+        if row.number == number {
+            return Some(row);
+        }
+    }
+    None
 }
 
 /// All that the table says of one fault.
@@ -60,8 +65,8 @@ fn explained(alloc: Global, row: &Explanation) -> Result<String, AllocError>
 }
 
 /// A line for each fault of a table, and where more is said.
-fn listed(alloc: Global, table: &[Explanation]) -> Result<String, AllocError>
-    ensures { IfOk result (λ text. string_bytes text ≡ table_text table.now) }
+fn listed(alloc: Global, table: &[&Explanation]) -> Result<String, AllocError>
+    ensures { IfOk result (λ text. string_bytes text ≡ table_text (rows_of table.now)) }
 {
     let mut text = String::new(alloc);
     for row in table {

@@ -6,7 +6,7 @@
 #![tactic(auto)]
 
 pub use check::check_engine;
-pub use chip_faults::{EXPLANATIONS, Explanation, Place};
+pub use chip_faults::{Explanation, Place, explanations};
 pub use ended::{DONE, Ended, FAILED, HALTED, OPEN};
 pub use explain::explain_engine;
 pub use fault::{Fault, FaultLine, Location};

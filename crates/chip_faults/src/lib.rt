@@ -6,4 +6,4 @@
 
 pub mod table;
 
-pub use table::{EXPLANATIONS, Explanation, Place};
+pub use table::{Explanation, Place, explanations};

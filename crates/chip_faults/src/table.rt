@@ -89,7 +89,7 @@ pub struct Explanation {
     pub advice: &'static str,
 }
 
-pub const VERTICES: Explanation = Explanation {
+pub static VERTICES: Explanation = Explanation {
     number: 1,
     name: "Vertices",
     place: Place::NOWHERE,
@@ -100,7 +100,7 @@ from 0 on.
 ",
 };
 
-pub const SINK: Explanation = Explanation {
+pub static SINK: Explanation = Explanation {
     number: 2,
     name: "Sink",
     place: Place::NOWHERE,
@@ -111,7 +111,7 @@ than \"vertices\".
 ",
 };
 
-pub const EDGE_COUNT: Explanation = Explanation {
+pub static EDGE_COUNT: Explanation = Explanation {
     number: 3,
     name: "EdgeCount",
     place: Place::NOWHERE,
@@ -122,7 +122,7 @@ theirs: the same game is played on it.
 ",
 };
 
-pub const ENDPOINT: Explanation = Explanation {
+pub static ENDPOINT: Explanation = Explanation {
     number: 4,
     name: "Endpoint",
     place: Place::EDGE,
@@ -133,7 +133,7 @@ A row is [tail, head, mult]; tail and head are numbers from 0 to one less than
 ",
 };
 
-pub const MULT: Explanation = Explanation {
+pub static MULT: Explanation = Explanation {
     number: 5,
     name: "Mult",
     place: Place::EDGE,
@@ -144,7 +144,7 @@ head, 1 to 1048576. Leave out an edge that sends none.
 ",
 };
 
-pub const LOOP: Explanation = Explanation {
+pub static LOOP: Explanation = Explanation {
     number: 6,
     name: "Loop",
     place: Place::EDGE,
@@ -155,7 +155,7 @@ played here.
 ",
 };
 
-pub const FROM_SINK: Explanation = Explanation {
+pub static FROM_SINK: Explanation = Explanation {
     number: 7,
     name: "FromSink",
     place: Place::EDGE,
@@ -166,7 +166,7 @@ directions has an edge each way between two vertices, but none out of its sink.
 ",
 };
 
-pub const UNREACHED: Explanation = Explanation {
+pub static UNREACHED: Explanation = Explanation {
     number: 8,
     name: "Unreached",
     place: Place::VERTEX,
@@ -178,7 +178,7 @@ sink: add an edge, or leave the vertex out.
 ",
 };
 
-pub const START_LENGTH: Explanation = Explanation {
+pub static START_LENGTH: Explanation = Explanation {
     number: 9,
     name: "StartLength",
     place: Place::NOWHERE,
@@ -189,7 +189,7 @@ that name their vertices.
 ",
 };
 
-pub const TOTAL: Explanation = Explanation {
+pub static TOTAL: Explanation = Explanation {
     number: 10,
     name: "Total",
     place: Place::NOWHERE,
@@ -200,7 +200,7 @@ those of the file of `--feed`.
 ",
 };
 
-pub const LIMIT: Explanation = Explanation {
+pub static LIMIT: Explanation = Explanation {
     number: 11,
     name: "Limit",
     place: Place::NOWHERE,
@@ -211,7 +211,7 @@ is fault 91.
 ",
 };
 
-pub const NOT_JSON: Explanation = Explanation {
+pub static NOT_JSON: Explanation = Explanation {
     number: 20,
     name: "NotJson",
     place: Place::NOWHERE,
@@ -224,7 +224,7 @@ graph is refused so too: the graph comes first.
 ",
 };
 
-pub const SHAPE: Explanation = Explanation {
+pub static SHAPE: Explanation = Explanation {
     number: 21,
     name: "Shape",
     place: Place::NOWHERE,
@@ -238,7 +238,7 @@ writes one, but has a sign, a point, an exponent or quotes (-1, 1.0, 1e3, \"2\")
 ",
 };
 
-pub const VERSION: Explanation = Explanation {
+pub static VERSION: Explanation = Explanation {
     number: 22,
     name: "Version",
     place: Place::NOWHERE,
@@ -248,7 +248,7 @@ pub const VERSION: Explanation = Explanation {
 ",
 };
 
-pub const HEADER: Explanation = Explanation {
+pub static HEADER: Explanation = Explanation {
     number: 23,
     name: "Header",
     place: Place::NOWHERE,
@@ -263,7 +263,7 @@ command tells the order.
 ",
 };
 
-pub const ROW: Explanation = Explanation {
+pub static ROW: Explanation = Explanation {
     number: 24,
     name: "Row",
     place: Place::ROW,
@@ -274,7 +274,7 @@ commas between them and none at the end.
 ",
 };
 
-pub const NUMBER: Explanation = Explanation {
+pub static NUMBER: Explanation = Explanation {
     number: 25,
     name: "Number",
     place: Place::ROW,
@@ -286,7 +286,7 @@ looks at has to be one, as the count of a take.
 ",
 };
 
-pub const VERTEX: Explanation = Explanation {
+pub static VERTEX: Explanation = Explanation {
     number: 26,
     name: "Vertex",
     place: Place::ROW,
@@ -298,7 +298,7 @@ for each vertex: with m edges, m + v brings vertex v its first chips.
 ",
 };
 
-pub const REPEATED: Explanation = Explanation {
+pub static REPEATED: Explanation = Explanation {
     number: 27,
     name: "Repeated",
     place: Place::ROW,
@@ -309,7 +309,7 @@ names has none.
 ",
 };
 
-pub const KIND: Explanation = Explanation {
+pub static KIND: Explanation = Explanation {
     number: 28,
     name: "Kind",
     place: Place::ROW,
@@ -320,7 +320,7 @@ read; in a trace the second is take or fire. Small letters, and no spaces.
 ",
 };
 
-pub const READ: Explanation = Explanation {
+pub static READ: Explanation = Explanation {
     number: 29,
     name: "Read",
     place: Place::NOWHERE,
@@ -330,7 +330,7 @@ That is so of a folder. Else the system refused a read: try again, or copy the f
 ",
 };
 
-pub const TOO_LONG: Explanation = Explanation {
+pub static TOO_LONG: Explanation = Explanation {
     number: 30,
     name: "TooLong",
     place: Place::NOWHERE,
@@ -341,7 +341,7 @@ written without spaces.
 ",
 };
 
-pub const NOT_CLOSED: Explanation = Explanation {
+pub static NOT_CLOSED: Explanation = Explanation {
     number: 42,
     name: "NotClosed",
     place: Place::NOWHERE,
@@ -351,7 +351,7 @@ Only callers of the library chip_world meet this. `simulate` says `root open` in
 ",
 };
 
-pub const NOT_REPORT: Explanation = Explanation {
+pub static NOT_REPORT: Explanation = Explanation {
     number: 50,
     name: "NotReport",
     place: Place::NOWHERE,
@@ -364,7 +364,7 @@ alone is the report.
 ",
 };
 
-pub const PRIOR: Explanation = Explanation {
+pub static PRIOR: Explanation = Explanation {
     number: 51,
     name: "Prior",
     place: Place::VERTEX,
@@ -375,7 +375,7 @@ chips is the same position.
 ",
 };
 
-pub const MISMATCH: Explanation = Explanation {
+pub static MISMATCH: Explanation = Explanation {
     number: 52,
     name: "Mismatch",
     place: Place::NOWHERE,
@@ -386,7 +386,7 @@ so name the graph file that the earlier command had.
 ",
 };
 
-pub const PLAN: Explanation = Explanation {
+pub static PLAN: Explanation = Explanation {
     number: 60,
     name: "Plan",
     place: Place::NOWHERE,
@@ -398,7 +398,7 @@ tests its options itself, so this comes from programs that call the engine.
 ",
 };
 
-pub const UNFINISHED: Explanation = Explanation {
+pub static UNFINISHED: Explanation = Explanation {
     number: 61,
     name: "Unfinished",
     place: Place::MESSAGES,
@@ -410,7 +410,7 @@ Allow more turns by `--turns`, or leave the option away.
 ",
 };
 
-pub const GATE_SHUT: Explanation = Explanation {
+pub static GATE_SHUT: Explanation = Explanation {
     number: 62,
     name: "GateShut",
     place: Place::NOWHERE,
@@ -421,7 +421,7 @@ does.
 ",
 };
 
-pub const LOST: Explanation = Explanation {
+pub static LOST: Explanation = Explanation {
     number: 63,
     name: "Lost",
     place: Place::VERTEX,
@@ -431,7 +431,7 @@ This should not happen: it is a mistake of the program. Please report it, with t
 ",
 };
 
-pub const DOUBLED: Explanation = Explanation {
+pub static DOUBLED: Explanation = Explanation {
     number: 64,
     name: "Doubled",
     place: Place::VERTEX,
@@ -441,7 +441,7 @@ This should not happen: it is a mistake of the program. Please report it, with t
 ",
 };
 
-pub const SPAWN: Explanation = Explanation {
+pub static SPAWN: Explanation = Explanation {
     number: 65,
     name: "Spawn",
     place: Place::NOWHERE,
@@ -452,7 +452,7 @@ The system allows no more threads, or has no memory for another. Try fewer by
 ",
 };
 
-pub const STUCK: Explanation = Explanation {
+pub static STUCK: Explanation = Explanation {
     number: 70,
     name: "Stuck",
     place: Place::TRACE_ROW,
@@ -465,7 +465,7 @@ trace of other chips, of another graph or limit, or one that was cut is refused 
 ",
 };
 
-pub const NO_MEMORY: Explanation = Explanation {
+pub static NO_MEMORY: Explanation = Explanation {
     number: 90,
     name: "NoMemory",
     place: Place::NOWHERE,
@@ -475,7 +475,7 @@ Nothing was written. Let the process have more memory, or give it smaller files.
 ",
 };
 
-pub const USAGE: Explanation = Explanation {
+pub static USAGE: Explanation = Explanation {
     number: 91,
     name: "Usage",
     place: Place::NOWHERE,
@@ -487,7 +487,7 @@ has not, an option given twice, a number out of its range, a name that is no UTF
 ",
 };
 
-pub const OPEN: Explanation = Explanation {
+pub static OPEN: Explanation = Explanation {
     number: 92,
     name: "Open",
     place: Place::ARGUMENT,
@@ -498,7 +498,7 @@ program was started.
 ",
 };
 
-pub const WRITE: Explanation = Explanation {
+pub static WRITE: Explanation = Explanation {
     number: 93,
     name: "Write",
     place: Place::BYTES,
@@ -511,42 +511,44 @@ not be written, and nothing of the report was.
 };
 
 /// All rows, by their numbers.
-pub const EXPLANATIONS: [Explanation; 37] = [
-    VERTICES,
-    SINK,
-    EDGE_COUNT,
-    ENDPOINT,
-    MULT,
-    LOOP,
-    FROM_SINK,
-    UNREACHED,
-    START_LENGTH,
-    TOTAL,
-    LIMIT,
-    NOT_JSON,
-    SHAPE,
-    VERSION,
-    HEADER,
-    ROW,
-    NUMBER,
-    VERTEX,
-    REPEATED,
-    KIND,
-    READ,
-    TOO_LONG,
-    NOT_CLOSED,
-    NOT_REPORT,
-    PRIOR,
-    MISMATCH,
-    PLAN,
-    UNFINISHED,
-    GATE_SHUT,
-    LOST,
-    DOUBLED,
-    SPAWN,
-    STUCK,
-    NO_MEMORY,
-    USAGE,
-    OPEN,
-    WRITE,
-];
+pub fn explanations() -> [&'static Explanation; 37] {
+    [
+        &VERTICES,
+        &SINK,
+        &EDGE_COUNT,
+        &ENDPOINT,
+        &MULT,
+        &LOOP,
+        &FROM_SINK,
+        &UNREACHED,
+        &START_LENGTH,
+        &TOTAL,
+        &LIMIT,
+        &NOT_JSON,
+        &SHAPE,
+        &VERSION,
+        &HEADER,
+        &ROW,
+        &NUMBER,
+        &VERTEX,
+        &REPEATED,
+        &KIND,
+        &READ,
+        &TOO_LONG,
+        &NOT_CLOSED,
+        &NOT_REPORT,
+        &PRIOR,
+        &MISMATCH,
+        &PLAN,
+        &UNFINISHED,
+        &GATE_SHUT,
+        &LOST,
+        &DOUBLED,
+        &SPAWN,
+        &STUCK,
+        &NO_MEMORY,
+        &USAGE,
+        &OPEN,
+        &WRITE,
+    ]
+}

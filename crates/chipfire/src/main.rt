@@ -10,7 +10,7 @@ use chip_arguments::{
 };
 use chip_crew::{MAX_TRACE_ROWS, MAX_TURNS, MAX_WORKERS, Plan};
 use chip_engine::{
-    DONE, EXPLANATIONS, Ended, Fault, check_engine, explain_engine, plain_engine,
+    DONE, Ended, Fault, check_engine, explain_engine, explanations, plain_engine,
     plain_engine_watched, replay_engine, resume_engine, simulate_engine,
 };
 use chip_graph::MAX_LIMIT;
@@ -198,7 +198,7 @@ fn explain<R: AllocGlobal, W: io::Write>(
     number: Option<u64>,
     output: &mut W,
 ) -> Result<Ended, Fault> {
-    explain_engine(rt.alloc(), &EXPLANATIONS, number, output)
+    explain_engine(rt.alloc(), &explanations(), number, output)
 }
 
 /// Opens the file that an argument names. Nothing is allocated for it, so where the system wants memory the file could

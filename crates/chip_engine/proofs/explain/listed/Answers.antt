@@ -1,4 +1,4 @@
-use Rattle.std.proofs.Common.{length, ◌≤◌, arith}
+use Rattle.std.proofs.Common.{◌≤◌, length, arith}
 use Rattle.chip_engine.proofs.ExplainLemmas.{listed_more, listed_all}
 use Rattle.chip_engine.proofs.explain.listed.Goals as goal
 

@@ -68,34 +68,52 @@ fn simulated(
         (λ made. Simulates (setting_with game.now ring fed) rounds books events.now made.0.items made.1) }
     ensures err { IfErr result (λ fault. fault ≡ NoMemory) }
 {
-    let (mut world, mut text) = scheduled(alloc, game, events, ring, books, fed)?;
+    let mut world = opened(alloc, game, ring, fed)?;
+    run(alloc, &mut world, game.graph(), events, rounds, books)
+}
+
+/// Runs a world from its opening, through a schedule and then some rounds: the lines, and the exit status.
+fn run(
+    alloc: Global,
+    world: &mut World,
+    graph: &Graph,
+    events: &[Event],
+    rounds: u64,
+    books: bool,
+) -> Result<(Vec<u8>, u8), Fault>
+    requires opening { StandsForLog world.old.setting [] world.old }
+    requires graph { world.old.setting.graph ≡ graph.now }
+    ensures ok { IfOk result
+        (λ made. Simulates world.old.setting rounds books events.now made.0.items made.1) }
+    ensures err { IfErr result (λ fault. fault ≡ NoMemory) }
+{
+    let mut text = scheduled(alloc, world, graph, events, books)?;
     let drive = world.drive(rounds);
-    let (end, status) = end_of(alloc, &world, drive)?;
+    let (end, status) = end_of(alloc, world, drive)?;
     text.extend_from_slice(&end)?;
     Ok((text, status))
 }
 
-/// The world after a schedule from the opening, and the lines of its replies, with or without the books.
+/// Runs a world from its opening through a schedule: the lines of its replies, with or without the books.
 fn scheduled(
     alloc: Global,
-    game: &Game,
+    world: &mut World,
+    graph: &Graph,
     events: &[Event],
-    ring: Ring,
     books: bool,
-    fed: bool,
-) -> Result<(World, Vec<u8>), AllocError>
+) -> Result<Vec<u8>, AllocError>
+    requires opening { StandsForLog world.old.setting [] world.old }
+    requires graph { world.old.setting.graph ≡ graph.now }
     ensures world { IfOk result
-        (λ made. let g = setting_with game.now ring fed in StandsForLog g (log_after g [] events.now) made.0) }
-    ensures lines { IfOk result
-        (λ made. made.1.items ≡ answers_text books (setting_with game.now ring fed) [] events.now) }
+        (λ _. let g = world.old.setting in StandsForLog g (log_after g [] events.now) world.new) }
+    ensures lines { IfOk result (λ lines. lines.items ≡ answers_text books world.old.setting [] events.now) }
 {
-    let mut world = opened(alloc, game, ring, fed)?;
     let mut lines = String::new(alloc);
     for event in events {
         let reply = world.step(*event);
-        push_answer(&mut lines, reply, &world, game.graph(), books)?;
+        push_answer(&mut lines, reply, world, graph, books)?;
     }
-    Ok((world, lines.into_bytes()))
+    Ok(lines.into_bytes())
 }
 
 /// The world at its opening, which may be fed or not.

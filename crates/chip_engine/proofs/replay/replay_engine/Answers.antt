@@ -1,4 +1,4 @@
-use Rattle.std.proofs.Common.{◌≡◌, List, Vec, Global, inl, inr, refl, Some, Ok, sym, subst, ◌∙◌, ap, map}
+use Rattle.std.proofs.Common.{◌≡◌, List, Vec, Global, inl, inr, refl, Some, Ok, sym, subst, ◌∙◌, ap, map, length}
 use Rattle.chip_graph.specs.Multigraph.{Multigraph}
 use Rattle.chip_link.specs.declared.trace.TraceRow.{TraceRow}
 use Rattle.chip_file.specs.Answer.{Answers}
@@ -9,6 +9,11 @@ use Rattle.chip_engine.specs.Lines.{lines_text}
 use Rattle.chip_engine.specs.ReplayCommand.{MeansTraces, firing_text}
 use Rattle.chip_engine.proofs.EngineLemmas.{at_some, refused_replay, refused_stuck, failed_replay, means_traces}
 use Rattle.chip_engine.proofs.replay.replay_engine.Goals as goal
+
+pub replay-requires : goal.replay-requires
+replay-requires g c =
+    ap (λ (ts : List (Vec TraceRow Global)). length ts) c.deref.ensures.value ∙ c.in_ok-traces.ensures.each
+    ∙ ap (λ (G : Multigraph). G.vertices) c.graph.ensures.value
 
 pub returns-in_err-game : goal.returns-in_err-game
 returns-in_err-game g c = λ graph_text graph_is chips_text chips_is trace_text trace_is.

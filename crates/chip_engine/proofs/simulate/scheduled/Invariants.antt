@@ -1,11 +1,10 @@
 use Rattle.std.proofs.Common.{◌≡◌, [], take, string_bytes}
-use Rattle.chip_part.specs.Setting.{setting_with}
 use Rattle.chip_core.specs.Core.{log_after}
 use Rattle.chip_world.specs.World.{StandsForLog}
 use Rattle.chip_engine.specs.SimulateCommand.{answers_text}
 use Rattle.chip_engine.proofs.simulate.scheduled.Given as goal
 
 abbrev pub invariant-loop-event : goal.invariant-loop-event
-invariant-loop-event l = let g = setting_with l.fn.game l.fn.ring l.fn.fed in
+invariant-loop-event l = let g = l.fn.world.setting in
     StandsForLog g (log_after g [] (take l.event-index l.events)) l.world
     × (string_bytes l.lines ≡ answers_text l.fn.books g [] (take l.event-index l.events))

@@ -1,0 +1,30 @@
+use Rattle.std.proofs.Common.{◌++◌, List, ℕ, ap, ◌∙◌, subst}
+use Rattle.chip_world.specs.Rounds.{AnswersDrive}
+use Rattle.chip_world.specs.declared.world.driving.Drive.{Drive}
+use Rattle.chip_engine.proofs.simulate.run.Goals as goal
+
+pub end_of-requires : goal.end_of-requires
+end_of-requires c =
+    let g = c.args.world.now.setting in
+    let driven = c.drive-drive.ensures.drives g _ c.in_ok-text.ensures.world in (
+      g,
+      driven.0,
+      driven.1,
+      (λ is. subst (λ (d : Drive). AnswersDrive g c.args.rounds driven.2.count driven.0 d) is driven.2.answers),
+    )
+
+pub returns-clause-ok : goal.returns-clause-ok
+returns-clause-ok c =
+    let g = c.args.world.now.setting in
+    let driven = c.drive-drive.ensures.drives g _ c.in_ok-text.ensures.world in
+    record {
+      after = driven.0;
+      drive = c.drive-drive.result;
+      driven = driven.2;
+      end = c.in_ok-end.end.items;
+      lines =
+          c.in_ok-extend_from_slice.ensures.items
+          ∙ ap (λ (t : List ℕ). c.in_ok-text.text.items ++ t) c.deref.ensures.value
+          ∙ ap (λ (t : List ℕ). t ++ c.in_ok-end.end.items) c.in_ok-text.ensures.lines;
+      ends = c.in_ok-end.ensures.ok g driven.0 driven.1;
+    }

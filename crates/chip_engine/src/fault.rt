@@ -19,8 +19,7 @@ use std::fmt;
 use thiserror::Error;
 
 /// Why a command failed.
-#[derive(Debug, Drop, PartialEq, Eq, Error)]
-#[error("{}", self.line())]
+#[derive(Debug, Drop, PartialEq, Eq)]
 pub enum Fault {
     /// The text of a file, or its bytes.
     File(FileFault),
@@ -57,6 +56,14 @@ pub enum Fault {
     /// Memory ran out.
     NoMemory,
 }
+
+impl fmt::Display for Fault {
+    fn fmt<W: fmt::Write>(&self, f: &mut fmt::Formatter<W>) -> fmt::Result {
+        write!(f, "{}", self.line())
+    }
+}
+
+impl std::error::Error for Fault {}
 
 impl From<FileFault> for Fault {
     ghost use Rattle.std.specs.Prelude.{◌≡◌};

@@ -1,6 +1,6 @@
 -- From the parts of an engine to its whole.
 use Rattle.std.proofs.Common.{◌≡◌, ◌⊎◌, ℕ, ◌^◌, ◌==◌, nat_le, Bool, true, false, List, length, sum, Option, Some, None}
-use Rattle.std.proofs.Common.{Result, Ok, Err, refl, subst, inl, inr}
+use Rattle.std.proofs.Common.{Result, Ok, Err, String, Global, refl, subst, inl, inr}
 use Rattle.std.proofs.lemmas.Bool.{eqb-true, leb-true}
 use Rattle.std.specs.Option.{IfSome}
 use Rattle.std.specs.Result.{IsErrAnd}
@@ -21,7 +21,8 @@ use Rattle.chip_engine.specs.Faults.{fault_of_replay}
 use Rattle.chip_engine.specs.Inputs.{Reads, RefusesText, NamesGame, MeansGame, RefusesInputs, GivesGame}
 use Rattle.chip_engine.specs.PlainCommand.{Reports, PlainAnswers}
 use Rattle.chip_link.specs.declared.trace.TraceRow.{TraceRow}
-use Rattle.chip_engine.specs.ReplayCommand.{MeansTraces, AreReplayed, RefusesTraces, ReplayAnswers}
+use Rattle.chip_engine.specs.ReplayCommand.{MeansTraces, AreReplayed, RefusesReplay, GivesReplay}
+use Rattle.chip_engine.specs.ReplayCommand.{RefusesTraces, ReplayAnswers}
 use Rattle.chip_link.specs.declared.event.Event.{Event}
 use Rattle.chip_engine.specs.SimulateCommand.{MeansEvents, RefusesEvents, Simulates, SimulateAnswers}
 use Rattle.chip_engine.specs.CheckCommand.{IsShown, CheckAnswers}
@@ -142,24 +143,38 @@ failed_replay graph_text chips_text trace_text limit old new (Ok ended) P is g t
 failed_replay graph_text chips_text trace_text limit old new (Err fault) P is g traces means lines replayed w why wrote
     = inr (g, traces, means, lines, replayed, w, why fault is, wrote)
 
--- what a replay refuses is why nothing is replayed
-pub refused_stuck : (graph_text chips_text trace_text : List ℕ) (limit : ℕ) (g : ChipGame)
-    (traces : List (List TraceRow)) → MeansTraces graph_text chips_text trace_text limit g traces → (f : ReplayFault)
+-- what a replay refuses is why the traces are not replayed
+pub refused_stuck : (g : ChipGame) (trace_text : List ℕ) (traces : List (List TraceRow))
+    → Reads trace_text (traces_of_text g.graph trace_text ≡ Some traces) → (f : ReplayFault)
     → IsReplayFault g traces f → (fault : Fault) → fault ≡ fault_of_replay f
-    → RefusesTraces graph_text chips_text trace_text limit fault ⊎ (fault ≡ NoMemory)
-refused_stuck graph_text chips_text trace_text limit g traces means (replay_fault.Stuck vertex row) stuck fault is =
-    inl (inr (inr (g, traces, means, vertex, row, is, stuck)))
-refused_stuck graph_text chips_text trace_text limit g traces means replay_fault.NoMemory stuck fault is = inr is
+    → RefusesReplay g trace_text fault ⊎ (fault ≡ NoMemory)
+refused_stuck g trace_text traces each (replay_fault.Stuck vertex row) stuck fault is =
+    inl (inr (traces, each, vertex, row, is, stuck))
+refused_stuck g trace_text traces each replay_fault.NoMemory stuck fault is = inr is
 
--- the traces of a game that the texts mean
-pub means_traces : (graph_text chips_text trace_text : List ℕ) (limit : ℕ) (g : ChipGame)
-    (traces : List (List TraceRow)) (G : Multigraph) → G ≡ g.graph → MeansGame graph_text chips_text limit g
-    → Reads trace_text (traces_of_text G trace_text ≡ Some traces)
-    → MeansTraces graph_text chips_text trace_text limit g traces
-means_traces graph_text chips_text trace_text limit g traces G same game each = record {
-  game = game;
-  each = subst (λ (G : Multigraph). Reads trace_text (traces_of_text G trace_text ≡ Some traces)) same each;
-}
+-- traces that are refused have no lines
+pub refused_lines : (g : ChipGame) (trace_text : List ℕ) (result : Result (String Global) Fault) (P : Fault → Type 0)
+    → IsErrAnd result P → ((fault : Fault) → P fault → RefusesReplay g trace_text fault ⊎ (fault ≡ NoMemory))
+    → GivesReplay g trace_text result
+refused_lines g trace_text (Ok lines) P is why = absurd is
+refused_lines g trace_text (Err fault) P is why = why fault is
+
+-- and they are why nothing is replayed
+pub refused_traces : (graph_text chips_text trace_text : List ℕ) (limit : ℕ) (g : ChipGame)
+    → MeansGame graph_text chips_text limit g
+    → (fault : Fault) → RefusesReplay g trace_text fault ⊎ (fault ≡ NoMemory)
+    → RefusesTraces graph_text chips_text trace_text limit fault ⊎ (fault ≡ NoMemory)
+refused_traces graph_text chips_text trace_text limit g game fault (inl (inl text)) = inl (inr (inl (g, game, text)))
+refused_traces graph_text chips_text trace_text limit g game fault (inl (inr stuck)) = inl (inr (inr (
+  g,
+  stuck.0,
+  record { game = game; each = stuck.1 },
+  stuck.2,
+  stuck.3,
+  stuck.4,
+  stuck.5,
+)))
+refused_traces graph_text chips_text trace_text limit g game fault (inr none) = inr none
 
 -- the same of `simulate`
 pub refused_simulate : (graph_text chips_text schedule_text : List ℕ) (limit ring rounds : ℕ) (books fed : Bool)

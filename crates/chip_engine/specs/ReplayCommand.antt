@@ -1,5 +1,6 @@
 -- From the bytes of a graph file, a chips file and a trace file to the lines of the firings.
-use Rattle.std.specs.Prelude.{◌≡◌, ◌⊎◌, ℕ, List, ◌++◌, codes, false, Option, Some, Result, Ok, Err}
+use Rattle.std.specs.Prelude.{◌≡◌, ◌⊎◌, ℕ, List, ◌++◌, codes, string_bytes, false, Option, Some, Result, Ok, Err, String}
+use Rattle.std.specs.Global.{Global}
 use Rattle.std.specs.Fmt.{decimal}
 use Rattle.std.specs.Io.KnownBytes.{Appends, Keeps}
 use Rattle.chip_graph.specs.ChipGame.{ChipGame}
@@ -28,6 +29,20 @@ pub record MeansTraces (graph_text chips_text trace_text : List ℕ) (limit : �
 -- the lines of the firings of some interleaving of the traces
 abbrev pub AreReplayed : ChipGame → List (List TraceRow) → List ℕ → Type 0
 AreReplayed g traces lines = (fired : List (ℕ × ℕ)) × AreFirings g traces fired × (lines ≡ lines_text firing_text fired)
+
+-- why the traces of a game are not replayed: their text has a fault, or they have no interleaving
+abbrev pub RefusesReplay : ChipGame → List ℕ → Fault → Type 0
+RefusesReplay g trace_text fault =
+    RefusesText trace_text (λ f. trace_text_fault g.graph trace_text ≡ Some f) fault
+    ⊎ ((traces : List (List TraceRow)) × Reads trace_text (traces_of_text g.graph trace_text ≡ Some traces)
+    × (vertex : ℕ) × (row : ℕ) × (fault ≡ Stuck vertex row) × IsStuck g traces vertex row)
+
+-- what replaying the traces of a game answers
+abbrev pub GivesReplay : ChipGame → List ℕ → Result (String Global) Fault → Type 0
+GivesReplay g trace_text (Ok lines) =
+    (traces : List (List TraceRow)) × Reads trace_text (traces_of_text g.graph trace_text ≡ Some traces)
+    × AreReplayed g traces (string_bytes lines)
+GivesReplay g trace_text (Err fault) = RefusesReplay g trace_text fault ⊎ (fault ≡ NoMemory)
 
 -- why nothing is replayed: the inputs make no game, or the trace file has a fault, or its traces have no interleaving
 abbrev pub RefusesTraces : List ℕ → List ℕ → List ℕ → ℕ → Fault → Type 0

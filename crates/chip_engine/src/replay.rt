@@ -3,12 +3,13 @@
 ghost use Rattle.std.specs.Prelude.{◌≡◌, ◌++◌, IfOk, string_bytes};
 ghost use Rattle.std.specs.Option.{ForSome};
 ghost use Rattle.chip_engine.specs.Lines.{lines_text};
-ghost use Rattle.chip_engine.specs.ReplayCommand.{ReplayAnswers, firing_text};
+ghost use Rattle.chip_engine.specs.ReplayCommand.{GivesReplay, ReplayAnswers, firing_text};
 
 use crate::ended::{DONE, Ended};
 use crate::fault::Fault;
 use crate::inputs::read_game;
 use chip_file::read_trace;
+use chip_graph::Game;
 use chip_report::write_all_of;
 use chip_trace::replay;
 use std::alloc::{AllocError, Global};
@@ -31,14 +32,22 @@ pub fn replay_engine<G: Read, C: Read, T: Read, W: Write>(
         (W.contents output.old) (W.contents output.new) result))) }
 {
     let game = read_game(alloc, graph, chips, limit)?;
-    let traces = read_trace(alloc, trace, game.graph())?;
-    let firings = replay(alloc, &game, &traces)?;
-    let lines = lines_of(alloc, &firings)?;
+    let lines = replayed(alloc, &game, trace)?;
     write_all_of(output, lines.as_bytes())?;
     Ok(Ended {
         status: DONE,
         cut: false,
     })
+}
+
+/// The lines of the firings that the traces of a file have in a game.
+fn replayed<T: Read>(alloc: Global, game: &Game, trace: &mut T) -> Result<String, Fault>
+    ensures { ForSome (T.remaining trace.old) (λ trace_text. GivesReplay game.now trace_text result) }
+{
+    let traces = read_trace(alloc, trace, game.graph())?;
+    let firings = replay(alloc, game, &traces)?;
+    let lines = lines_of(alloc, &firings)?;
+    Ok(lines)
 }
 
 /// The lines of firings.

@@ -1,19 +1,13 @@
 //! Inputs of the largest graph, and of the greatest length. A reader that gives up with no memory meets its contract,
 //! so that only these tests tell it from one that reads.
 
-use crate::tests::{Slow, TRIANGLE, largest_chips, largest_graph};
-use crate::{MAX_BYTES, read_chips, read_graph, read_schedule, read_trace, read_whole};
-use chip_graph::Graph;
+use crate::run_tests::{events_of, runs_of};
+use crate::tests::{
+    Slow, are_largest_chips, largest_chips, largest_graph, read_largest_chips, read_largest_graph,
+};
+use crate::{FileFault, MAX_BYTES, read_graph, read_schedule, read_trace, read_whole};
 use chip_link::{Event, TraceRow};
 use std::alloc::{AllocError, Global};
-use std::test::Fail;
-
-/// What was read of the largest graph: 4,096 vertices and 65,536 edges.
-fn read_largest_graph(alloc: Global) -> Result<Graph, Fail> {
-    let text = largest_graph(alloc)?;
-    let graph = read_graph(alloc, &mut text.as_bytes())?;
-    Ok(graph)
-}
 
 /// A row of each vertex of the largest graph, the last one first: a take from its root edge.
 fn row_of_every_vertex(alloc: Global) -> Result<String, AllocError> {
@@ -26,16 +20,22 @@ fn row_of_every_vertex(alloc: Global) -> Result<String, AllocError> {
     Ok(text)
 }
 
+/// What is read of that text.
+fn read_run_of_every_vertex(alloc: Global) -> Result<Vec<Vec<TraceRow>>, FileFault> {
+    let text = row_of_every_vertex(alloc)?;
+    let graph = read_largest_graph(alloc)?;
+    read_trace(alloc, &mut text.as_bytes(), &graph)
+}
+
 #[test]
-fn reads_a_run_of_every_vertex(rt: HostRuntime) -> Result<(), Fail> {
-    let graph = read_largest_graph(rt.alloc())?;
-    let text = row_of_every_vertex(rt.alloc())?;
-    let traces = read_trace(rt.alloc(), &mut text.as_bytes(), &graph)?;
+fn reads_a_run_of_every_vertex(rt: HostRuntime) -> Result<(), FileFault> {
+    let traces = read_run_of_every_vertex(rt.alloc())?;
     assert_eq!(rt; traces.len(), 4_096);
-    for (vertex, trace) in traces.iter().enumerate() {
-        let count = vertex as u64;
+    let mut count = 0u64;
+    for trace in &traces {
         let edge = count.saturating_add(65_536);
         assert!(rt; trace.as_slice() == [TraceRow::Take { edge, count }].as_slice());
+        count = count.saturating_add(1);
     }
     Ok(())
 }
@@ -50,11 +50,16 @@ fn event_at_every_edge(alloc: Global) -> Result<String, AllocError> {
     Ok(text)
 }
 
+/// What is read of that text.
+fn read_event_at_every_edge(alloc: Global) -> Result<Vec<Event>, FileFault> {
+    let text = event_at_every_edge(alloc)?;
+    let graph = read_largest_graph(alloc)?;
+    read_schedule(alloc, &mut text.as_bytes(), &graph)
+}
+
 #[test]
-fn reads_an_event_at_every_edge(rt: HostRuntime) -> Result<(), Fail> {
-    let graph = read_largest_graph(rt.alloc())?;
-    let text = event_at_every_edge(rt.alloc())?;
-    let events = read_schedule(rt.alloc(), &mut text.as_bytes(), &graph)?;
+fn reads_an_event_at_every_edge(rt: HostRuntime) -> Result<(), FileFault> {
+    let events = read_event_at_every_edge(rt.alloc())?;
     assert_eq!(rt; events.len(), 69_632);
     for (edge, event) in events.iter().enumerate() {
         assert!(rt; *event == Event::Settle(edge as u64));
@@ -80,56 +85,54 @@ fn rows(alloc: Global, header: &str, row: &str, count: u64) -> Result<String, Al
     Ok(text)
 }
 
+/// A header and so many times the same row, with empty lines up to 16,777,216 bytes.
+fn longest_rows(alloc: Global, header: &str, row: &str, count: u64) -> Result<String, AllocError> {
+    let text = rows(alloc, header, row, count)?;
+    filled(text, '\n')
+}
+
 #[test]
-fn the_longest_graph(rt: HostRuntime) -> Result<(), Fail> {
+fn the_longest_graph(rt: HostRuntime) -> Result<(), FileFault> {
     let text = filled(largest_graph(rt.alloc())?, ' ')?;
     let graph = read_graph(rt.alloc(), &mut text.as_bytes())?;
-    assert_eq!(rt; (text.len(), graph.edges().len()), (MAX_BYTES, 65_536));
+    assert!(rt; text.len() == MAX_BYTES && graph.edges().len() == 65_536);
     Ok(())
 }
 
 #[test]
-fn the_longest_chips(rt: HostRuntime) -> Result<(), Fail> {
+fn the_longest_chips(rt: HostRuntime) -> Result<(), FileFault> {
     let text = filled(largest_chips(rt.alloc())?, '\n')?;
-    let chips = read_chips(rt.alloc(), &mut text.as_bytes(), 4_096)?;
-    assert!(rt; text.len() == MAX_BYTES && chips.iter().all(|count| *count == 1 << 28));
+    let chips = read_largest_chips(rt.alloc(), &text)?;
+    assert!(rt; text.len() == MAX_BYTES && are_largest_chips(&chips));
     Ok(())
 }
 
 #[test]
-fn the_longest_schedule(rt: HostRuntime) -> Result<(), Fail> {
-    let graph = read_graph(rt.alloc(), &mut TRIANGLE.as_bytes())?;
-    let text = filled(
-        rows(rt.alloc(), "event,at,count\n", "end,0,0\n", 2_097_150)?,
-        '\n',
-    )?;
-    let events = read_schedule(rt.alloc(), &mut text.as_bytes(), &graph)?;
-    assert_eq!(rt; (text.len(), events.len()), (MAX_BYTES, 2_097_150));
+fn the_longest_schedule(rt: HostRuntime) -> Result<(), FileFault> {
+    let text = longest_rows(rt.alloc(), "event,at,count\n", "end,0,0\n", 2_097_150)?;
+    let events = events_of(rt.alloc(), text.as_bytes())?;
+    assert!(rt; text.len() == MAX_BYTES && events.len() == 2_097_150);
     Ok(())
 }
 
 #[test]
-fn the_longest_run(rt: HostRuntime) -> Result<(), Fail> {
-    let graph = read_graph(rt.alloc(), &mut TRIANGLE.as_bytes())?;
-    let text = filled(
-        rows(
-            rt.alloc(),
-            "vertex,kind,edge,count\n",
-            "1,fire,0,1\n",
-            1_525_199,
-        )?,
-        '\n',
+fn the_longest_run(rt: HostRuntime) -> Result<(), FileFault> {
+    let text = longest_rows(
+        rt.alloc(),
+        "vertex,kind,edge,count\n",
+        "1,fire,0,1\n",
+        1_525_199,
     )?;
-    let traces = read_trace(rt.alloc(), &mut text.as_bytes(), &graph)?;
+    let traces = runs_of(rt.alloc(), text.as_bytes())?;
     assert!(rt; text.len() == MAX_BYTES && traces.len() == 3 && traces[1].len() == 1_525_199);
     Ok(())
 }
 
 #[test]
-fn the_longest_input_byte_by_byte(rt: HostRuntime) -> Result<(), Fail> {
+fn the_longest_input_byte_by_byte(rt: HostRuntime) -> Result<(), FileFault> {
     let text = filled(String::new(rt.alloc()), 'x')?;
     let mut slow = Slow::new(text.as_bytes(), None);
     let bytes = read_whole(rt.alloc(), &mut slow)?;
-    assert!(rt; bytes.len() == MAX_BYTES && bytes.iter().all(|byte| *byte == b'x'));
+    assert!(rt; bytes.len() == MAX_BYTES && bytes.as_slice() == text.as_bytes());
     Ok(())
 }

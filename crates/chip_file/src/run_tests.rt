@@ -1,46 +1,43 @@
 //! Worked schedules and recorded runs of the triangle, with values from outside.
 
-use crate::tests::{Slow, TRIANGLE};
-use crate::{FileFault, MAX_BYTES, read_graph, read_schedule, read_trace};
+use crate::tests::{Slow, spaces, triangle};
+use crate::{FileFault, MAX_BYTES, read_schedule, read_trace};
 use chip_link::{Event, TraceRow};
-use std::test::Fail;
+use std::alloc::Global;
+use std::io::Read;
 
 /// A stop of edge 1 while vertex 0 sends.
 const SEALED_HALF_WAY: &str =
     "event,at,count\nseal,1,0\ntake,4,0\nfire,0,2\nclear,0,0\nclaim,0,0\nput,0,0\nclear,1,0\nclaim,1,0\nhalt,0,0\n";
 
-/// A whole run from four chips on vertex 0, the rows of vertex 1 first.
-const RECORDED: &str =
-    "vertex,kind,edge,count\n1,take,0,2\n1,fire,0,1\n0,take,4,4\n0,fire,0,2\n0,take,2,1\n2,take,1,2\n2,take,3,1\n";
+/// What that schedule means.
+const SEALED_HALF_WAY_EVENTS: [Event; 9] = [
+    Event::Seal(1),
+    Event::Take(4),
+    Event::Fire { vertex: 0, k: 2 },
+    Event::Clear(0),
+    Event::Claim(0),
+    Event::Put(0),
+    Event::Clear(1),
+    Event::Claim(1),
+    Event::Halt(0),
+];
 
-const fn take(edge: u64, count: u64) -> TraceRow {
-    TraceRow::Take { edge, count }
+/// What is read of a schedule of the triangle.
+fn read_events<R: Read>(alloc: Global, reader: &mut R) -> Result<Vec<Event>, FileFault> {
+    let graph = triangle(alloc)?;
+    read_schedule(alloc, reader, &graph)
 }
 
-const fn fire(k: u64) -> TraceRow {
-    TraceRow::Fire { k }
+/// The events that a text means.
+pub(crate) fn events_of(alloc: Global, mut text: &[u8]) -> Result<Vec<Event>, FileFault> {
+    read_events(alloc, &mut text)
 }
 
 #[test]
-fn reads_the_schedule_of_sealed_half_way(rt: HostRuntime) -> Result<(), Fail> {
-    let graph = read_graph(rt.alloc(), &mut TRIANGLE.as_bytes())?;
-    let events = read_schedule(rt.alloc(), &mut SEALED_HALF_WAY.as_bytes(), &graph)?;
-    let fire = Event::Fire { vertex: 0, k: 2 };
-    assert!(rt;
-        events.as_slice()
-            == [
-                Event::Seal(1),
-                Event::Take(4),
-                fire,
-                Event::Clear(0),
-                Event::Claim(0),
-                Event::Put(0),
-                Event::Clear(1),
-                Event::Claim(1),
-                Event::Halt(0),
-            ]
-            .as_slice()
-    );
+fn reads_the_schedule_of_sealed_half_way(rt: HostRuntime) -> Result<(), FileFault> {
+    let events = events_of(rt.alloc(), SEALED_HALF_WAY.as_bytes())?;
+    assert!(rt; events.as_slice() == SEALED_HALF_WAY_EVENTS.as_slice());
     Ok(())
 }
 
@@ -81,10 +78,9 @@ const SCHEDULES: [(&str, Option<Event>); 14] = [
 ];
 
 #[test]
-fn reads_every_kind_of_event(rt: HostRuntime) -> Result<(), Fail> {
-    let graph = read_graph(rt.alloc(), &mut TRIANGLE.as_bytes())?;
-    for (text, event) in SCHEDULES {
-        let events = read_schedule(rt.alloc(), &mut text.as_bytes(), &graph)?;
+fn reads_every_kind_of_event(rt: HostRuntime) -> Result<(), FileFault> {
+    for (text, event) in &SCHEDULES {
+        let events = events_of(rt.alloc(), text.as_bytes())?;
         assert!(rt; events.as_slice() == event.as_slice(), "{text}");
     }
     Ok(())
@@ -121,41 +117,79 @@ const WRONG_SCHEDULES: [(&str, FileFault); 23] = [
 ];
 
 #[test]
-fn names_the_first_fault_of_a_schedule(rt: HostRuntime) -> Result<(), Fail> {
-    let graph = read_graph(rt.alloc(), &mut TRIANGLE.as_bytes())?;
-    for (text, fault) in WRONG_SCHEDULES {
-        let found = read_schedule(rt.alloc(), &mut text.as_bytes(), &graph).err();
-        assert_eq!(rt; found, Some(fault), "{text}");
+fn names_the_first_fault_of_a_schedule(rt: HostRuntime) {
+    for (text, fault) in &WRONG_SCHEDULES {
+        let found = events_of(rt.alloc(), text.as_bytes()).err();
+        assert!(rt; found.as_ref() == Some(fault), "{text}: {found:?}");
     }
-    let no_text = b"event,at,count\n\xff,0,0\n";
-    assert_eq!(rt;
-        read_schedule(rt.alloc(), &mut no_text.as_slice(), &graph).err(),
-        Some(FileFault::Kind(0))
-    );
+}
+
+#[test]
+fn a_kind_that_is_no_text(rt: HostRuntime) {
+    let found = events_of(rt.alloc(), b"event,at,count\n\xff,0,0\n").err();
+    assert!(rt; found == Some(FileFault::Kind(0)));
+}
+
+/// A whole run from four chips on vertex 0, the rows of vertex 1 first.
+const RECORDED: &str =
+    "vertex,kind,edge,count\n1,take,0,2\n1,fire,0,1\n0,take,4,4\n0,fire,0,2\n0,take,2,1\n2,take,1,2\n2,take,3,1\n";
+
+/// The same run, its vertices mixed, with other numbers where a firing has no edge.
+const MIXED: &str =
+    "vertex,kind,edge,count\n2,take,1,2\n0,take,4,4\n1,take,0,2\n0,fire,99,2\n2,take,3,1\n1,fire,18446744073709551615,01\n0,take,2,1";
+
+/// What is recorded of each vertex in that run.
+const RUNS: [&[TraceRow]; 3] = [
+    &[
+        TraceRow::Take { edge: 4, count: 4 },
+        TraceRow::Fire { k: 2 },
+        TraceRow::Take { edge: 2, count: 1 },
+    ],
+    &[
+        TraceRow::Take { edge: 0, count: 2 },
+        TraceRow::Fire { k: 1 },
+    ],
+    &[
+        TraceRow::Take { edge: 1, count: 2 },
+        TraceRow::Take { edge: 3, count: 1 },
+    ],
+];
+
+/// What is read of recorded runs of the triangle.
+fn read_runs<R: Read>(alloc: Global, reader: &mut R) -> Result<Vec<Vec<TraceRow>>, FileFault> {
+    let graph = triangle(alloc)?;
+    read_trace(alloc, reader, &graph)
+}
+
+/// The recorded runs that a text means.
+pub(crate) fn runs_of(alloc: Global, mut text: &[u8]) -> Result<Vec<Vec<TraceRow>>, FileFault> {
+    read_runs(alloc, &mut text)
+}
+
+/// Whether the three vertices have these runs.
+fn are_runs(traces: &[Vec<TraceRow>], runs: &[&[TraceRow]; 3]) -> bool {
+    let [first, second, sink] = runs;
+    match traces {
+        [zero, one, two] => {
+            zero.as_slice() == *first && one.as_slice() == *second && two.as_slice() == *sink
+        }
+        _ => false,
+    }
+}
+
+#[test]
+fn reads_recorded_runs(rt: HostRuntime) -> Result<(), FileFault> {
+    for text in [RECORDED, MIXED] {
+        let traces = runs_of(rt.alloc(), text.as_bytes())?;
+        assert!(rt; are_runs(&traces, &RUNS), "{text}");
+    }
     Ok(())
 }
 
 #[test]
-fn reads_recorded_runs(rt: HostRuntime) -> Result<(), Fail> {
-    let graph = read_graph(rt.alloc(), &mut TRIANGLE.as_bytes())?;
-    let first = [take(4, 4), fire(2), take(2, 1)];
-    let second = [take(0, 2), fire(1)];
-    let sink = [take(1, 2), take(3, 1)];
-    let mixed =
-        "vertex,kind,edge,count\n2,take,1,2\n0,take,4,4\n1,take,0,2\n0,fire,99,2\n2,take,3,1\n1,fire,18446744073709551615,01\n0,take,2,1";
-    for text in [RECORDED, mixed] {
-        let traces = read_trace(rt.alloc(), &mut text.as_bytes(), &graph)?;
-        assert_eq!(rt; traces.len(), 3);
-        assert!(rt; traces[0].as_slice() == first.as_slice());
-        assert!(rt; traces[1].as_slice() == second.as_slice());
-        assert!(rt; traces[2].as_slice() == sink.as_slice());
-    }
-    let none = read_trace(
-        rt.alloc(),
-        &mut b"vertex,kind,edge,count".as_slice(),
-        &graph,
-    )?;
-    assert!(rt; none.len() == 3 && none.iter().all(|trace| trace.is_empty()));
+fn reads_runs_of_no_rows(rt: HostRuntime) -> Result<(), FileFault> {
+    let traces = runs_of(rt.alloc(), b"vertex,kind,edge,count")?;
+    assert!(rt; are_runs(&traces, &[&[], &[], &[]]));
     Ok(())
 }
 
@@ -191,60 +225,68 @@ const WRONG_RUNS: [(&str, FileFault); 15] = [
 ];
 
 #[test]
-fn names_the_first_fault_of_recorded_runs(rt: HostRuntime) -> Result<(), Fail> {
-    let graph = read_graph(rt.alloc(), &mut TRIANGLE.as_bytes())?;
-    for (text, fault) in WRONG_RUNS {
-        let found = read_trace(rt.alloc(), &mut text.as_bytes(), &graph).err();
-        assert_eq!(rt; found, Some(fault), "{text}");
+fn names_the_first_fault_of_recorded_runs(rt: HostRuntime) {
+    for (text, fault) in &WRONG_RUNS {
+        let found = runs_of(rt.alloc(), text.as_bytes()).err();
+        assert!(rt; found.as_ref() == Some(fault), "{text}: {found:?}");
     }
+}
+
+/// What is read of the schedule byte by byte, where a read may fail.
+fn events_read_slowly(alloc: Global, fails_at: Option<usize>) -> Result<Vec<Event>, FileFault> {
+    read_events(alloc, &mut Slow::new(SEALED_HALF_WAY.as_bytes(), fails_at))
+}
+
+/// What is read of the whole run byte by byte, where a read may fail.
+fn runs_read_slowly(
+    alloc: Global,
+    fails_at: Option<usize>,
+) -> Result<Vec<Vec<TraceRow>>, FileFault> {
+    read_runs(alloc, &mut Slow::new(RECORDED.as_bytes(), fails_at))
+}
+
+#[test]
+fn a_slow_reader_gives_the_same_schedule(rt: HostRuntime) -> Result<(), FileFault> {
+    let events = events_read_slowly(rt.alloc(), None)?;
+    assert!(rt; events.as_slice() == SEALED_HALF_WAY_EVENTS.as_slice());
     Ok(())
 }
 
 #[test]
-fn slow_readers_give_the_same_runs(rt: HostRuntime) -> Result<(), Fail> {
-    let graph = read_graph(rt.alloc(), &mut TRIANGLE.as_bytes())?;
-    let mut slow = Slow::new(SEALED_HALF_WAY.as_bytes(), None);
-    let events = read_schedule(rt.alloc(), &mut slow, &graph)?;
-    assert_eq!(rt; events.len(), 9);
-    let mut slow = Slow::new(RECORDED.as_bytes(), None);
-    let traces = read_trace(rt.alloc(), &mut slow, &graph)?;
-    assert_eq!(rt; traces.len(), 3);
-    assert!(rt; traces[2].as_slice() == [take(1, 2), take(3, 1)].as_slice());
+fn a_slow_reader_gives_the_same_runs(rt: HostRuntime) -> Result<(), FileFault> {
+    let traces = runs_read_slowly(rt.alloc(), None)?;
+    assert!(rt; are_runs(&traces, &RUNS));
     Ok(())
 }
 
 #[test]
-fn a_failing_read_of_runs_is_told(rt: HostRuntime) -> Result<(), Fail> {
-    let graph = read_graph(rt.alloc(), &mut TRIANGLE.as_bytes())?;
+fn a_failing_read_of_a_schedule_is_told(rt: HostRuntime) {
     for read in 0..=SEALED_HALF_WAY.len() {
-        let mut slow = Slow::new(SEALED_HALF_WAY.as_bytes(), Some(read));
-        assert_eq!(rt;
-            read_schedule(rt.alloc(), &mut slow, &graph).err(),
-            Some(FileFault::Read)
-        );
+        let found = events_read_slowly(rt.alloc(), Some(read)).err();
+        assert!(rt; found == Some(FileFault::Read), "{found:?}");
     }
+}
+
+#[test]
+fn a_failing_read_of_runs_is_told(rt: HostRuntime) {
     for read in 0..=RECORDED.len() {
-        let mut slow = Slow::new(RECORDED.as_bytes(), Some(read));
-        assert_eq!(rt;
-            read_trace(rt.alloc(), &mut slow, &graph).err(),
-            Some(FileFault::Read)
-        );
+        let found = runs_read_slowly(rt.alloc(), Some(read)).err();
+        assert!(rt; found == Some(FileFault::Read), "{found:?}");
     }
+}
+
+#[test]
+fn a_schedule_that_is_too_long(rt: HostRuntime) -> Result<(), FileFault> {
+    let spaces = spaces(rt.alloc(), MAX_BYTES + 1)?;
+    let found = events_of(rt.alloc(), spaces.as_slice()).err();
+    assert!(rt; found == Some(FileFault::TooLong));
     Ok(())
 }
 
 #[test]
-fn runs_that_are_too_long(rt: HostRuntime) -> Result<(), Fail> {
-    let alloc = rt.alloc();
-    let graph = read_graph(alloc, &mut TRIANGLE.as_bytes())?;
-    let spaces = vec![in alloc; b' '; MAX_BYTES + 1]?;
-    assert_eq!(rt;
-        read_trace(alloc, &mut spaces.as_slice(), &graph).err(),
-        Some(FileFault::TooLong)
-    );
-    assert_eq!(rt;
-        read_schedule(alloc, &mut spaces.as_slice(), &graph).err(),
-        Some(FileFault::TooLong)
-    );
+fn runs_that_are_too_long(rt: HostRuntime) -> Result<(), FileFault> {
+    let spaces = spaces(rt.alloc(), MAX_BYTES + 1)?;
+    let found = runs_of(rt.alloc(), spaces.as_slice()).err();
+    assert!(rt; found == Some(FileFault::TooLong));
     Ok(())
 }

@@ -1,15 +1,19 @@
 //! Worked files, with values from outside, and readers that are slow or fail.
 
 use crate::{FileFault, MAX_BYTES, read_chips, read_graph, read_whole};
-use chip_graph::{Edge, GraphFault};
+use chip_graph::{Edge, Graph, GraphFault};
 use std::alloc::{AllocError, Global};
 use std::io;
 use std::io::{ErrorKind, Read};
-use std::test::Fail;
 
 /// The triangle: its root edges are 4, 5 and 6.
 pub(crate) const TRIANGLE: &str =
     "{\"edges\":[[0,1,1],[0,2,1],[1,0,1],[1,2,1]],\"sink\":2,\"version\":1,\"vertices\":3}";
+
+/// The graph that the triangle's text means.
+pub(crate) fn triangle(alloc: Global) -> Result<Graph, FileFault> {
+    read_graph(alloc, &mut TRIANGLE.as_bytes())
+}
 
 /// Gives one byte at each read, and may fail at one of them.
 #[derive(Drop)]
@@ -54,16 +58,20 @@ impl Read for Endless {
     }
 }
 
-#[test]
-fn reads_the_triangle(rt: HostRuntime) -> Result<(), Fail> {
-    let graph = read_graph(rt.alloc(), &mut TRIANGLE.as_bytes())?;
-    assert_eq!(rt; graph.vertices(), 3);
-    assert_eq!(rt; graph.sink(), 2);
-    let edges = [(0, 1), (0, 2), (1, 0), (1, 2)].map(|(tail, head)| Edge {
+/// A single edge.
+const fn edge(tail: u64, head: u64) -> Edge {
+    Edge {
         tail,
         head,
         mult: 1,
-    });
+    }
+}
+
+#[test]
+fn reads_the_triangle(rt: HostRuntime) -> Result<(), FileFault> {
+    let graph = triangle(rt.alloc())?;
+    let edges = [edge(0, 1), edge(0, 2), edge(1, 0), edge(1, 2)];
+    assert!(rt; graph.vertices() == 3 && graph.sink() == 2);
     assert!(rt; graph.edges() == edges.as_slice());
     Ok(())
 }
@@ -143,31 +151,35 @@ const GRAPHS: [(&str, Option<FileFault>); 23] = [
     ("1e300", Some(FileFault::Shape)),
 ];
 
+/// The first thing wrong with a text of a graph, if something is.
+fn fault_of_graph(alloc: Global, mut text: &[u8]) -> Option<FileFault> {
+    read_graph(alloc, &mut text).err()
+}
+
 #[test]
 fn names_the_first_fault_of_a_graph(rt: HostRuntime) {
-    for (text, fault) in GRAPHS {
-        let found = read_graph(rt.alloc(), &mut text.as_bytes()).err();
-        assert_eq!(rt; found, fault, "{text}");
+    for (text, fault) in &GRAPHS {
+        let found = fault_of_graph(rt.alloc(), text.as_bytes());
+        assert!(rt; found == *fault, "{text}: {found:?}");
     }
 }
 
 #[test]
 fn bytes_that_are_no_json(rt: HostRuntime) {
-    for bytes in [[b'[', 0xff, b']'].as_slice(), [b'['; 200].as_slice()] {
-        let mut rest = bytes;
-        let found = read_graph(rt.alloc(), &mut rest).err();
-        assert_eq!(rt; found, Some(FileFault::NotJson));
-    }
+    let no_text = fault_of_graph(rt.alloc(), &[b'[', 0xff, b']']);
+    assert!(rt; no_text == Some(FileFault::NotJson));
+    let too_deep = fault_of_graph(rt.alloc(), &[b'['; 200]);
+    assert!(rt; too_deep == Some(FileFault::NotJson));
 }
 
 #[test]
 fn each_cut_of_the_triangle_is_no_json(rt: HostRuntime) {
     let text = TRIANGLE.as_bytes();
     for end in 0..text.len() {
-        assert_eq!(rt;
-            read_graph(rt.alloc(), &mut &text[..end]).err(),
-            Some(FileFault::NotJson),
-            "the first {end} bytes"
+        let found = fault_of_graph(rt.alloc(), &text[..end]);
+        assert!(rt;
+            found == Some(FileFault::NotJson),
+            "the first {end} bytes: {found:?}"
         );
     }
 }
@@ -183,11 +195,16 @@ const CHIPS: [(&str, [u64; 3]); 7] = [
     ("vertex,chips\n1,00000000000000000002\n", [0, 2, 0]),
 ];
 
+/// The chips on three vertices that a text means.
+fn chips_of(alloc: Global, mut text: &[u8]) -> Result<Vec<u64>, FileFault> {
+    read_chips(alloc, &mut text, 3)
+}
+
 #[test]
-fn reads_chips(rt: HostRuntime) -> Result<(), Fail> {
-    for (text, chips) in CHIPS {
-        let read = read_chips(rt.alloc(), &mut text.as_bytes(), 3)?;
-        assert_eq!(rt; read.as_slice(), chips.as_slice(), "{text}");
+fn reads_chips(rt: HostRuntime) -> Result<(), FileFault> {
+    for (text, chips) in &CHIPS {
+        let read = chips_of(rt.alloc(), text.as_bytes())?;
+        assert!(rt; read.as_slice() == chips.as_slice(), "{text}");
     }
     Ok(())
 }
@@ -233,41 +250,49 @@ const WRONG_CHIPS: [(&str, FileFault); 23] = [
 
 #[test]
 fn names_the_first_fault_of_chips(rt: HostRuntime) {
-    for (text, fault) in WRONG_CHIPS {
-        let found = read_chips(rt.alloc(), &mut text.as_bytes(), 3).err();
-        assert_eq!(rt; found, Some(fault), "{text}");
+    for (text, fault) in &WRONG_CHIPS {
+        let found = chips_of(rt.alloc(), text.as_bytes()).err();
+        assert!(rt; found.as_ref() == Some(fault), "{text}: {found:?}");
     }
-    let no_text = [0xff, b','];
-    let found = read_chips(rt.alloc(), &mut no_text.as_slice(), 3).err();
-    assert_eq!(rt; found, Some(FileFault::Header));
 }
 
 #[test]
-fn slow_readers_give_the_same(rt: HostRuntime) -> Result<(), Fail> {
+fn chips_that_are_no_text(rt: HostRuntime) {
+    let found = chips_of(rt.alloc(), &[0xff, b',']).err();
+    assert!(rt; found == Some(FileFault::Header));
+}
+
+#[test]
+fn a_slow_reader_gives_the_same_graph(rt: HostRuntime) -> Result<(), FileFault> {
     let graph = read_graph(rt.alloc(), &mut Slow::new(TRIANGLE.as_bytes(), None))?;
-    assert_eq!(rt; (graph.vertices(), graph.edges().len()), (3, 4));
-    let rows = b"vertex,chips\n2,3\n0,1\n";
-    let chips = read_chips(rt.alloc(), &mut Slow::new(rows, None), 3)?;
-    assert_eq!(rt; chips.as_slice(), [1, 0, 3].as_slice());
+    assert!(rt; graph.vertices() == 3 && graph.edges().len() == 4);
     Ok(())
 }
 
 #[test]
-fn a_slow_reader_is_read_to_its_end(rt: HostRuntime) -> Result<(), Fail> {
+fn a_slow_reader_gives_the_same_chips(rt: HostRuntime) -> Result<(), FileFault> {
+    let rows = b"vertex,chips\n2,3\n0,1\n";
+    let chips = read_chips(rt.alloc(), &mut Slow::new(rows, None), 3)?;
+    assert!(rt; chips.as_slice() == [1, 0, 3].as_slice());
+    Ok(())
+}
+
+#[test]
+fn a_slow_reader_is_read_to_its_end(rt: HostRuntime) -> Result<(), FileFault> {
     let text = TRIANGLE.as_bytes();
     let mut slow = Slow::new(text, None);
-    assert_eq!(rt; read_whole(rt.alloc(), &mut slow)?.as_slice(), text);
+    let read = read_whole(rt.alloc(), &mut slow)?;
+    assert!(rt; read.as_slice() == text);
     assert_eq!(rt; slow.reads, text.len().saturating_add(1));
     Ok(())
 }
 
 #[test]
 fn a_failing_read_of_a_graph_is_told(rt: HostRuntime) {
-    let text = TRIANGLE.as_bytes();
-    for read in 0..=text.len() {
-        let mut slow = Slow::new(text, Some(read));
+    for read in 0..=TRIANGLE.len() {
+        let mut slow = Slow::new(TRIANGLE.as_bytes(), Some(read));
         let found = read_graph(rt.alloc(), &mut slow).err();
-        assert_eq!(rt; found, Some(FileFault::Read));
+        assert!(rt; found == Some(FileFault::Read), "{found:?}");
         assert_eq!(rt; slow.reads, read.saturating_add(1), "no further read");
     }
 }
@@ -278,25 +303,36 @@ fn a_failing_read_of_chips_is_told(rt: HostRuntime) {
     for read in 0..=rows.len() {
         let mut slow = Slow::new(rows, Some(read));
         let found = read_chips(rt.alloc(), &mut slow, 3).err();
-        assert_eq!(rt; found, Some(FileFault::Read));
+        assert!(rt; found == Some(FileFault::Read), "{found:?}");
     }
 }
 
+/// So many spaces.
+pub(crate) fn spaces(alloc: Global, count: usize) -> Result<Vec<u8>, AllocError> {
+    vec![in alloc; b' '; count]
+}
+
 #[test]
-fn the_longest_input(rt: HostRuntime) -> Result<(), Fail> {
-    let spaces = vec![in rt.alloc(); b' '; MAX_BYTES]?;
-    let found = read_graph(rt.alloc(), &mut spaces.as_slice()).err();
-    assert_eq!(rt; found, Some(FileFault::NotJson));
+fn the_longest_input(rt: HostRuntime) -> Result<(), FileFault> {
+    let spaces = spaces(rt.alloc(), MAX_BYTES)?;
+    let found = fault_of_graph(rt.alloc(), spaces.as_slice());
+    assert!(rt; found == Some(FileFault::NotJson));
     Ok(())
 }
 
 #[test]
-fn one_byte_too_many(rt: HostRuntime) -> Result<(), Fail> {
-    let spaces = vec![in rt.alloc(); b' '; MAX_BYTES + 1]?;
-    let found = read_graph(rt.alloc(), &mut spaces.as_slice()).err();
-    assert_eq!(rt; found, Some(FileFault::TooLong));
-    let found = read_chips(rt.alloc(), &mut spaces.as_slice(), 3).err();
-    assert_eq!(rt; found, Some(FileFault::TooLong));
+fn a_graph_of_one_byte_too_many(rt: HostRuntime) -> Result<(), FileFault> {
+    let spaces = spaces(rt.alloc(), MAX_BYTES + 1)?;
+    let found = fault_of_graph(rt.alloc(), spaces.as_slice());
+    assert!(rt; found == Some(FileFault::TooLong));
+    Ok(())
+}
+
+#[test]
+fn chips_of_one_byte_too_many(rt: HostRuntime) -> Result<(), FileFault> {
+    let spaces = spaces(rt.alloc(), MAX_BYTES + 1)?;
+    let found = chips_of(rt.alloc(), spaces.as_slice()).err();
+    assert!(rt; found == Some(FileFault::TooLong));
     Ok(())
 }
 
@@ -304,7 +340,7 @@ fn one_byte_too_many(rt: HostRuntime) -> Result<(), Fail> {
 fn an_input_that_never_ends(rt: HostRuntime) {
     let mut endless = Endless(0);
     let found = read_whole(rt.alloc(), &mut endless).err();
-    assert_eq!(rt; found, Some(FileFault::TooLong));
+    assert!(rt; found == Some(FileFault::TooLong));
     assert_eq!(rt; endless.0, 16_777_217, "one read more than bytes");
 }
 
@@ -321,17 +357,17 @@ pub(crate) fn largest_graph(alloc: Global) -> Result<String, AllocError> {
     Ok(text)
 }
 
+/// What is read of the largest graph: 4,096 vertices and 65,536 edges.
+pub(crate) fn read_largest_graph(alloc: Global) -> Result<Graph, FileFault> {
+    let text = largest_graph(alloc)?;
+    read_graph(alloc, &mut text.as_bytes())
+}
+
 #[test]
-fn reads_the_largest_graph(rt: HostRuntime) -> Result<(), Fail> {
-    let text = largest_graph(rt.alloc())?;
-    let graph = read_graph(rt.alloc(), &mut text.as_bytes())?;
-    assert_eq!(rt; (graph.vertices(), graph.edges().len()), (4_096, 65_536));
-    let last = Edge {
-        tail: 4_095,
-        head: 4_094,
-        mult: 1,
-    };
-    assert!(rt; graph.edges().last().copied() == Some(last));
+fn reads_the_largest_graph(rt: HostRuntime) -> Result<(), FileFault> {
+    let graph = read_largest_graph(rt.alloc())?;
+    assert!(rt; graph.vertices() == 4_096 && graph.edges().len() == 65_536);
+    assert!(rt; graph.edges().last() == Some(&edge(4_095, 4_094)));
     Ok(())
 }
 
@@ -345,10 +381,20 @@ pub(crate) fn largest_chips(alloc: Global) -> Result<String, AllocError> {
     Ok(text)
 }
 
+/// What is read of a text of chips for each of 4,096 vertices.
+pub(crate) fn read_largest_chips(alloc: Global, text: &str) -> Result<Vec<u64>, FileFault> {
+    read_chips(alloc, &mut text.as_bytes(), 4_096)
+}
+
+/// Whether each of 4,096 vertices has 2^28 chips.
+pub(crate) fn are_largest_chips(chips: &[u64]) -> bool {
+    chips.len() == 4_096 && chips.iter().all(|count| *count == 1 << 28)
+}
+
 #[test]
-fn reads_chips_of_every_vertex(rt: HostRuntime) -> Result<(), Fail> {
+fn reads_chips_of_every_vertex(rt: HostRuntime) -> Result<(), FileFault> {
     let text = largest_chips(rt.alloc())?;
-    let chips = read_chips(rt.alloc(), &mut text.as_bytes(), 4_096)?;
-    assert!(rt; chips.len() == 4_096 && chips.iter().all(|count| *count == 1 << 28));
+    let chips = read_largest_chips(rt.alloc(), &text)?;
+    assert!(rt; are_largest_chips(&chips));
     Ok(())
 }

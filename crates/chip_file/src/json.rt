@@ -38,7 +38,7 @@ pub(crate) fn member_count(value: &Value) -> usize
 pub(crate) fn number_under(value: &Value, name: &str) -> Option<u64>
     ensures { result ≡ number_under name.now (view value.now) }
 {
-    value.get(name).and_then(Value::as_u64)
+    value.get(name)?.as_u64()
 }
 
 /// The edges under a name.

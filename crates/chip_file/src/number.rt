@@ -15,7 +15,7 @@ const MAX_DIGITS: usize = 20;
 pub(crate) fn number_at(row: &ByteRecord, column: usize) -> Option<u64>
     ensures { result ≡ number_at column (fields_of row.now) }
 {
-    row.get(column).and_then(number_of)
+    number_of(row.get(column)?)
 }
 
 /// The number that a field is, if it is one.

@@ -31,11 +31,10 @@ fn read_run_of_every_vertex(alloc: Global) -> Result<Vec<Vec<TraceRow>>, FileFau
 fn reads_a_run_of_every_vertex(rt: HostRuntime) -> Result<(), FileFault> {
     let traces = read_run_of_every_vertex(rt.alloc())?;
     assert_eq!(rt; traces.len(), 4_096);
-    let mut count = 0u64;
-    for trace in &traces {
+    for (vertex, trace) in traces.iter().enumerate() {
+        let count = vertex as u64;
         let edge = count.saturating_add(65_536);
         assert!(rt; trace.as_slice() == [TraceRow::Take { edge, count }].as_slice());
-        count = count.saturating_add(1);
     }
     Ok(())
 }

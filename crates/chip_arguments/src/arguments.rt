@@ -159,18 +159,23 @@ fn request_of<'a>(
 
 /// The play on threads that the arguments ask for.
 fn run_of<'a>(found: &ArgMatches<'a>, arguments: &[String]) -> Result<Request<'a>, ArgumentsFault> {
-    let trace = file_in(found, TRACE, arguments)?;
-    let usual_rows = if trace.is_some() { USUAL_TRACE_ROWS } else { 0 };
     Ok(Request::Run(RunArguments {
         game: game_of(found, arguments)?,
         ring: number_in(found, RING).unwrap_or(USUAL_RING),
         workers: number_in(found, WORKERS).unwrap_or(USUAL_WORKERS),
         turns: number_in(found, TURNS).unwrap_or(USUAL_TURNS),
         feed: file_in(found, FEED, arguments)?,
-        trace,
-        trace_rows: number_in(found, TRACE_ROWS).unwrap_or(usual_rows),
+        trace: file_in(found, TRACE, arguments)?,
+        trace_rows: trace_rows_of(found),
         progress: found.get_flag(PROGRESS.name),
     }))
+}
+
+/// For how many rows of each vertex there is room in the trace: none where no trace is asked for and it is not said.
+fn trace_rows_of(found: &ArgMatches<'_>) -> u64 {
+    let has_trace = found.get_str(TRACE.name).is_some();
+    let usual_rows = if has_trace { USUAL_TRACE_ROWS } else { 0 };
+    number_in(found, TRACE_ROWS).unwrap_or(usual_rows)
 }
 
 /// The game that a command's arguments name.

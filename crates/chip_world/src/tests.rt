@@ -4,9 +4,18 @@ use crate::{Drive, Record, World, WorldFault};
 use chip_graph::{Edge, Game, Graph};
 use chip_link::{Event, Message, Ring};
 use chip_part::{Cause, Reply, Rule};
-use std::alloc::Global;
 use std::process::Abort;
-use std::test::Fail;
+
+/// A row of a graph.
+macro_rules! edge {
+    ($tail:expr, $head:expr, $mult:expr) => {
+        Edge {
+            tail: $tail,
+            head: $head,
+            mult: $mult,
+        }
+    };
+}
 
 /// A message by edge, place and count.
 macro_rules! message {
@@ -55,49 +64,51 @@ macro_rules! feed {
 
 mod feeding;
 
-/// Edges by tail, head and multiplicity.
-type Edges = &'static [(u64, u64, u64)];
+/// The rows of a graph.
+type Edges = &'static [Edge];
 
 /// Two vertices that send to each other, and both to the sink 2.
-const TRIANGLE: Edges = &[(0, 1, 1), (0, 2, 1), (1, 0, 1), (1, 2, 1)];
+const TRIANGLE: Edges = &[
+    edge!(0, 1, 1),
+    edge!(0, 2, 1),
+    edge!(1, 0, 1),
+    edge!(1, 2, 1),
+];
 
 /// A chain of two edges to the sink 2.
-const CHAIN: Edges = &[(0, 1, 1), (1, 2, 1)];
+const CHAIN: Edges = &[edge!(0, 1, 1), edge!(1, 2, 1)];
 
 /// No limit that a vertex could meet.
 const MOST: u64 = 1 << 40;
 
+/// A graph whose last vertex is the sink.
+fn graph_of(rt: &(impl AllocGlobal + Abort), edges: &[Edge], vertices: u64) -> Graph {
+    let rows = Vec::from_slice(rt.alloc(), edges).expect(rt, "memory");
+    Graph::new(rt.alloc(), vertices, vertices.saturating_sub(1), rows).expect(rt, "a graph")
+}
+
 /// A game whose last vertex is the sink.
-fn game_of(
-    alloc: Global,
-    edges: &[(u64, u64, u64)],
-    start: &[u64],
-    limit: u64,
-) -> Result<Game, Fail> {
-    let mut rows = Vec::new(alloc);
-    for &(tail, head, mult) in edges {
-        rows.push(Edge { tail, head, mult })?;
-    }
-    let vertices = start.len() as u64;
-    let graph = Graph::new(alloc, vertices, vertices.saturating_sub(1), rows)?;
-    Ok(Game::new(graph, Vec::from_slice(alloc, start)?, limit)?)
+fn game_of(rt: &(impl AllocGlobal + Abort), edges: &[Edge], start: &[u64], limit: u64) -> Game {
+    let graph = graph_of(rt, edges, start.len() as u64);
+    let start = Vec::from_slice(rt.alloc(), start).expect(rt, "memory");
+    Game::new(graph, start, limit).expect(rt, "a game")
 }
 
 /// The same as it opens.
 fn opened(
-    alloc: Global,
-    edges: &[(u64, u64, u64)],
+    rt: &(impl AllocGlobal + Abort),
+    edges: &[Edge],
     start: &[u64],
     limit: u64,
     ring: Ring,
-) -> Result<World, Fail> {
-    let game = game_of(alloc, edges, start, limit)?;
-    Ok(World::open(alloc, &game, ring)?)
+) -> World {
+    let game = game_of(rt, edges, start, limit);
+    World::open(rt.alloc(), &game, ring).expect(rt, "memory")
 }
 
 /// The triangle, as it opens with rings of one cell.
-fn triangle(alloc: Global, start: &[u64], limit: u64) -> Result<World, Fail> {
-    opened(alloc, TRIANGLE, start, limit, Ring::one())
+fn triangle(rt: &(impl AllocGlobal + Abort), start: &[u64], limit: u64) -> World {
+    opened(rt, TRIANGLE, start, limit, Ring::one())
 }
 
 /// Compares the messages of all edges.
@@ -108,32 +119,32 @@ fn expect_lists(rt: &impl Abort, lists: &[Vec<Message>], wanted: &[&[Message]]) 
     }
 }
 
+/// The record of some events.
+fn run(rt: &(impl AllocGlobal + Abort), world: &mut World, events: &[Event]) -> Record {
+    world.run(rt.alloc(), events).expect(rt, "memory")
+}
+
 /// Runs some events, each with the reply that it is to have, and gives the record.
 fn recorded(
     rt: &(impl AllocGlobal + Abort),
     world: &mut World,
     steps: &[(Event, Reply)],
-) -> Result<Record, Fail> {
+) -> Record {
     let mut events = Vec::new(rt.alloc());
     for step in steps {
-        events.push(step.0)?;
+        events.push(step.0).expect(rt, "memory");
     }
-    let record = world.run(rt.alloc(), &events)?;
+    let record = run(rt, world, &events);
     assert_eq!(rt; record.replies.len(), steps.len());
     for (reply, step) in record.replies.iter().zip(steps) {
         assert!(rt; *reply == step.1);
     }
-    Ok(record)
+    record
 }
 
 /// Runs some events, each with the reply that it is to have.
-fn expect(
-    rt: &(impl AllocGlobal + Abort),
-    world: &mut World,
-    steps: &[(Event, Reply)],
-) -> Result<(), Fail> {
-    let _record = recorded(rt, world, steps)?;
-    Ok(())
+fn expect(rt: &(impl AllocGlobal + Abort), world: &mut World, steps: &[(Event, Reply)]) {
+    let _record = recorded(rt, world, steps);
 }
 
 /// Opens a game and runs some events, each with the reply that it is to have.
@@ -143,9 +154,9 @@ fn plays(
     start: &[u64],
     ring: Ring,
     steps: &[(Event, Reply)],
-) -> Result<(), Fail> {
-    let mut world = opened(rt.alloc(), edges, start, MOST, ring)?;
-    expect(rt, &mut world, steps)
+) {
+    let mut world = opened(rt, edges, start, MOST, ring);
+    expect(rt, &mut world, steps);
 }
 
 /// Makes these events, none of which may be refused.
@@ -170,13 +181,12 @@ fn ends(
     chips: &[u64],
     over: &[u64],
     sealed: &[u64],
-) -> Result<(), Fail> {
-    let outcome = world.outcome(rt.alloc())?;
+) {
+    let outcome = world.outcome(rt.alloc()).expect(rt, "an outcome");
     assert_eq!(rt; outcome.fired.as_slice(), fired);
     assert_eq!(rt; outcome.chips.as_slice(), chips);
     assert_eq!(rt; outcome.over.as_slice(), over);
     assert_eq!(rt; outcome.sealed.as_slice(), sealed);
-    Ok(())
 }
 
 /// Whether these are the chips of all vertices.
@@ -230,18 +240,18 @@ const FULL_RING: [(Event, Reply); 7] = [
     (Event::Clear(0), Reply::Full),
 ];
 
+/// What is sent then, by edge.
+const FULL_RING_SENT: [&[Message]; 5] = [&[message!(0, 0, 1)], &[], &[message!(2, 0, 3)], &[], &[]];
+
+/// What is delivered then, by edge.
+const FULL_RING_DELIVERED: [&[Message]; 5] = [&[], &[], &[message!(2, 0, 3)], &[], &[]];
+
 #[test]
-fn full_ring(rt: HostRuntime) -> Result<(), Fail> {
-    let mut world = opened(rt.alloc(), CHAIN, &[3, 0, 0], MOST, Ring::one())?;
-    let record = recorded(&rt, &mut world, &FULL_RING)?;
-    let first = message!(2, 0, 3);
-    expect_lists(
-        &rt,
-        &record.sent,
-        &[&[message!(0, 0, 1)], &[], &[first], &[], &[]],
-    );
-    expect_lists(&rt, &record.delivered, &[&[], &[], &[first], &[], &[]]);
-    Ok(())
+fn full_ring(rt: HostRuntime) {
+    let mut world = opened(&rt, CHAIN, &[3, 0, 0], MOST, Ring::one());
+    let record = recorded(&rt, &mut world, &FULL_RING);
+    expect_lists(&rt, &record.sent, &FULL_RING_SENT);
+    expect_lists(&rt, &record.delivered, &FULL_RING_DELIVERED);
 }
 
 /// The edge to the sink is sealed before the firing that would go over it.
@@ -275,9 +285,9 @@ const ENGAGING_MESSAGE_LAST: [(Event, Reply); 13] = [
 ];
 
 #[test]
-fn engaging_message_last(rt: HostRuntime) -> Result<(), Fail> {
-    let twice = &[(0, 1, 1), (0, 1, 1)];
-    plays(&rt, twice, &[2, 0], Ring::one(), &ENGAGING_MESSAGE_LAST)
+fn engaging_message_last(rt: HostRuntime) {
+    let twice = &[edge!(0, 1, 1), edge!(0, 1, 1)];
+    plays(&rt, twice, &[2, 0], Ring::one(), &ENGAGING_MESSAGE_LAST);
 }
 
 /// A ring of two cells, which holds a second message while the first is not taken.
@@ -303,22 +313,26 @@ const RING_OF_TWO: [(Event, Reply); 18] = [
 ];
 
 #[test]
-fn ring_of_two(rt: HostRuntime) -> Result<(), Fail> {
+fn ring_of_two(rt: HostRuntime) {
     let ring = Ring::new(2).expect(&rt, "two cells");
-    plays(&rt, CHAIN, &[3, 0, 0], ring, &RING_OF_TWO)
+    plays(&rt, CHAIN, &[3, 0, 0], ring, &RING_OF_TWO);
 }
 
-#[test]
-fn long_schedule(rt: HostRuntime) -> Result<(), Fail> {
-    let ring = Ring::new(64).expect(&rt, "64 cells");
-    let mut world = opened(rt.alloc(), CHAIN, &[3, 0, 0], MOST, ring)?;
-    let events = Vec::from_elem(rt.alloc(), Event::Take(0), 100_000)?;
-    let record = world.run(rt.alloc(), &events)?;
-    assert_eq!(rt; record.replies.len(), 100_000);
+/// So many takes of an edge on which nothing was sent.
+fn takes_nothing(rt: &(impl AllocGlobal + Abort), world: &mut World, edge: u64, count: usize) {
+    let events = Vec::from_elem(rt.alloc(), Event::Take(edge), count).expect(rt, "memory");
+    let record = run(rt, world, &events);
+    assert_eq!(rt; record.replies.len(), count);
     for reply in record.replies.iter() {
         assert!(rt; *reply == Reply::Empty);
     }
-    Ok(())
+}
+
+#[test]
+fn long_schedule(rt: HostRuntime) {
+    let ring = Ring::new(64).expect(&rt, "64 cells");
+    let mut world = opened(&rt, CHAIN, &[3, 0, 0], MOST, ring);
+    takes_nothing(&rt, &mut world, 0, 100_000);
 }
 
 /// A game, and where it ends.
@@ -365,7 +379,7 @@ const ENDINGS: [Ending; 7] = [
         over: &[],
     },
     Ending {
-        edges: &[(0, 1, 3)],
+        edges: &[edge!(0, 1, 3)],
         start: &[7, 0],
         limit: MOST,
         chips: &[1, 6],
@@ -381,7 +395,7 @@ const ENDINGS: [Ending; 7] = [
         over: &[0],
     },
     Ending {
-        edges: &[(0, 1, 1)],
+        edges: &[edge!(0, 1, 1)],
         start: &[MOST, 0],
         limit: MOST,
         chips: &[0, MOST],
@@ -390,20 +404,18 @@ const ENDINGS: [Ending; 7] = [
     },
 ];
 
+/// Drives a game from its opening until the root closes.
+fn drives_to(rt: &(impl AllocGlobal + Abort), ending: &Ending) {
+    let mut world = opened(rt, ending.edges, ending.start, ending.limit, Ring::one());
+    assert!(rt; world.drive(10) == Drive::Closed);
+    ends(rt, &world, ending.fired, ending.chips, ending.over, &[]);
+}
+
 #[test]
-fn drives_to_the_end(rt: HostRuntime) -> Result<(), Fail> {
+fn drives_to_the_end(rt: HostRuntime) {
     for ending in &ENDINGS {
-        let mut world = opened(
-            rt.alloc(),
-            ending.edges,
-            ending.start,
-            ending.limit,
-            Ring::one(),
-        )?;
-        assert!(rt; world.drive(10) == Drive::Closed);
-        ends(&rt, &world, ending.fired, ending.chips, ending.over, &[])?;
+        drives_to(&rt, ending);
     }
-    Ok(())
 }
 
 /// One round: where it ends, and what is owed then.
@@ -451,38 +463,44 @@ const ROUNDS: [Round; 3] = [
 ];
 
 /// The triangle after `SEALED_HALF_WAY`.
-fn sealed_half_way(rt: &(impl AllocGlobal + Abort)) -> Result<World, Fail> {
-    let mut world = triangle(rt.alloc(), &[4, 0, 0], MOST)?;
-    expect(rt, &mut world, &SEALED_HALF_WAY)?;
-    Ok(world)
+fn sealed_half_way(rt: &(impl AllocGlobal + Abort)) -> World {
+    let mut world = triangle(rt, &[4, 0, 0], MOST);
+    expect(rt, &mut world, &SEALED_HALF_WAY);
+    world
+}
+
+/// Compares the chips and the firings of all vertices, and the messages that were delivered on all edges.
+fn stands_at(rt: &impl Abort, world: &World, chips: &[u64], counts: &[u64], messages: &[u64]) {
+    assert!(rt; holds(world, chips));
+    assert!(rt; fired(world, counts));
+    assert!(rt; delivered(world, messages));
+}
+
+/// Drives a world by one round.
+fn drives_round(rt: &(impl AllocGlobal + Abort), world: &mut World, round: &Round) {
+    assert!(rt; world.drive(1) == round.drive);
+    stands_at(rt, world, round.chips, round.fired, round.delivered);
+    expect(rt, world, round.then);
 }
 
 #[test]
-fn drives_round_by_round(rt: HostRuntime) -> Result<(), Fail> {
-    let mut world = sealed_half_way(&rt)?;
-    assert!(rt; holds(&world, &[0, 0, 0]));
-    assert!(rt; fired(&world, &[2, 0, 0]));
-    assert!(rt; delivered(&world, &[0, 0, 0, 0, 1, 0, 0]));
+fn drives_round_by_round(rt: HostRuntime) {
+    let mut world = sealed_half_way(&rt);
+    stands_at(&rt, &world, &[0, 0, 0], &[2, 0, 0], &[0, 0, 0, 0, 1, 0, 0]);
     for round in &ROUNDS {
-        assert!(rt; world.drive(1) == round.drive);
-        assert!(rt; holds(&world, round.chips));
-        assert!(rt; fired(&world, round.fired));
-        assert!(rt; delivered(&world, round.delivered));
-        expect(&rt, &mut world, round.then)?;
+        drives_round(&rt, &mut world, round);
     }
-    Ok(())
 }
 
 #[test]
-fn drives_no_further_than_asked(rt: HostRuntime) -> Result<(), Fail> {
-    let mut world = sealed_half_way(&rt)?;
+fn drives_no_further_than_asked(rt: HostRuntime) {
+    let mut world = sealed_half_way(&rt);
     assert!(rt; world.drive(2) == Drive::Unfinished(2));
     assert!(rt; !world.closed());
     assert!(rt; world.drive(10) == Drive::Closed);
     assert!(rt; holds(&world, &[1, 0, 1]));
     assert!(rt; fired(&world, &[2, 1, 0]));
     assert!(rt; world.halted(0) == Some(Cause::SealedEdge));
-    Ok(())
 }
 
 /// Vertex 0 fires twice and sends, and then vertex 1 fires once.
@@ -555,18 +573,18 @@ const PLAYED_ON: [Event; 18] = [
 ];
 
 #[test]
-fn chips_on_the_sink(rt: HostRuntime) -> Result<(), Fail> {
-    let mut world = triangle(rt.alloc(), &[0, 0, 9], MOST)?;
+fn chips_on_the_sink(rt: HostRuntime) {
+    let mut world = triangle(&rt, &[0, 0, 9], MOST);
     is_open(&rt, &world);
     play(&rt, &mut world, &[Event::Take(6), Event::Ack(6)]);
     is_open(&rt, &world);
     play(&rt, &mut world, &[Event::Settle(6)]);
-    ends(&rt, &world, &[0, 0, 0], &[0, 0, 9], &[], &[])
+    ends(&rt, &world, &[0, 0, 0], &[0, 0, 9], &[], &[]);
 }
 
 #[test]
-fn whole_schedule(rt: HostRuntime) -> Result<(), Fail> {
-    let mut world = triangle(rt.alloc(), &[4, 0, 0], MOST)?;
+fn whole_schedule(rt: HostRuntime) {
+    let mut world = triangle(&rt, &[4, 0, 0], MOST);
     play(&rt, &mut world, &FIRINGS);
     play(
         &rt,
@@ -575,12 +593,12 @@ fn whole_schedule(rt: HostRuntime) -> Result<(), Fail> {
     );
     is_open(&rt, &world);
     play(&rt, &mut world, &CLOSING);
-    ends(&rt, &world, &[2, 1, 0], &[1, 0, 3], &[], &[])
+    ends(&rt, &world, &[2, 1, 0], &[1, 0, 3], &[], &[]);
 }
 
 #[test]
-fn stopped_by_limit(rt: HostRuntime) -> Result<(), Fail> {
-    let mut world = triangle(rt.alloc(), &[5, 0, 0], 2)?;
+fn stopped_by_limit(rt: HostRuntime) {
+    let mut world = triangle(&rt, &[5, 0, 0], 2);
     play(&rt, &mut world, &FIRINGS);
     play(
         &rt,
@@ -588,14 +606,14 @@ fn stopped_by_limit(rt: HostRuntime) -> Result<(), Fail> {
         &[Event::Ack(3), Event::Ack(1), Event::Take(2), Event::Halt(0)],
     );
     play(&rt, &mut world, &CLOSING);
-    ends(&rt, &world, &[2, 1, 0], &[2, 0, 3], &[0], &[])
+    ends(&rt, &world, &[2, 1, 0], &[2, 0, 3], &[0], &[]);
 }
 
 #[test]
-fn stopped_by_a_seal(rt: HostRuntime) -> Result<(), Fail> {
-    let mut world = triangle(rt.alloc(), &[4, 0, 0], MOST)?;
+fn stopped_by_a_seal(rt: HostRuntime) {
+    let mut world = triangle(&rt, &[4, 0, 0], MOST);
     play(&rt, &mut world, &SEALED_HALF_SENT);
     is_open(&rt, &world);
     play(&rt, &mut world, &PLAYED_ON);
-    ends(&rt, &world, &[2, 1, 0], &[1, 0, 3], &[], &[0])
+    ends(&rt, &world, &[2, 1, 0], &[1, 0, 3], &[], &[0]);
 }

@@ -3,9 +3,9 @@
 use super::*;
 
 /// The triangle where chips may be fed, as it opens with rings of one cell.
-fn fed_triangle(alloc: Global, start: &[u64]) -> Result<World, Fail> {
-    let game = game_of(alloc, TRIANGLE, start, MOST)?;
-    Ok(World::open_fed(alloc, &game, Ring::one())?)
+fn fed_triangle(rt: &(impl AllocGlobal + Abort), start: &[u64]) -> World {
+    let game = game_of(rt, TRIANGLE, start, MOST);
+    World::open_fed(rt.alloc(), &game, Ring::one()).expect(rt, "memory")
 }
 
 /// Three chips for vertex 0, whose edge is then full.
@@ -16,6 +16,9 @@ const THREE_CHIPS: [(Event, Reply); 4] = [
     (Event::Clear(4), Reply::Full),
 ];
 
+/// What is sent then, by edge.
+const THREE_CHIPS_SENT: [&[Message]; 7] = [&[], &[], &[], &[], &[message!(4, 0, 3)], &[], &[]];
+
 /// One chip more, and the end.
 const THE_LAST_CHIP: [(Event, Reply); 5] = [
     (Event::Clear(4), Reply::Done(1)),
@@ -25,35 +28,39 @@ const THE_LAST_CHIP: [(Event, Reply); 5] = [
     (Event::Clear(4), Reply::NotNow(Rule::Ended)),
 ];
 
-#[test]
-fn fed_twice(rt: HostRuntime) -> Result<(), Fail> {
-    let mut world = fed_triangle(rt.alloc(), &[0, 0, 0])?;
-    let first = message!(4, 0, 3);
-    let record = recorded(&rt, &mut world, &THREE_CHIPS)?;
-    expect_lists(&rt, &record.sent, &[&[], &[], &[], &[], &[first], &[], &[]]);
-    assert!(rt; world.drive(10) == Drive::Unfinished(10));
-    assert!(rt; fired(&world, &[1, 0, 0]));
-    is_open(&rt, &world);
-    expect(&rt, &mut world, &THE_LAST_CHIP)?;
-    assert!(rt; world.drive(10) == Drive::Closed);
-    ends(&rt, &world, &[2, 1, 0], &[1, 0, 3], &[], &[])
+/// Feeds three chips, which are all that is sent.
+fn feeds_three(rt: &(impl AllocGlobal + Abort), world: &mut World) {
+    let record = recorded(rt, world, &THREE_CHIPS);
+    expect_lists(rt, &record.sent, &THREE_CHIPS_SENT);
 }
 
 #[test]
-fn fed_past_the_total(rt: HostRuntime) -> Result<(), Fail> {
-    let mut world = fed_triangle(rt.alloc(), &[0, 0, 1 << 40])?;
+fn fed_twice(rt: HostRuntime) {
+    let mut world = fed_triangle(&rt, &[0, 0, 0]);
+    feeds_three(&rt, &mut world);
+    assert!(rt; world.drive(10) == Drive::Unfinished(10));
+    assert!(rt; fired(&world, &[1, 0, 0]));
+    is_open(&rt, &world);
+    expect(&rt, &mut world, &THE_LAST_CHIP);
+    assert!(rt; world.drive(10) == Drive::Closed);
+    ends(&rt, &world, &[2, 1, 0], &[1, 0, 3], &[], &[]);
+}
+
+#[test]
+fn fed_past_the_total(rt: HostRuntime) {
+    let mut world = fed_triangle(&rt, &[0, 0, 1 << 40]);
     let steps = [
         (Event::Clear(4), Reply::Done(0)),
         (feed!(4, 1), Reply::NotNow(Rule::TooMuch)),
         (feed!(4, u64::MAX), Reply::NotNow(Rule::TooMuch)),
     ];
-    expect(&rt, &mut world, &steps)
+    expect(&rt, &mut world, &steps);
 }
 
 /// Each rule of the root, where it isn't met.
 #[test]
-fn fed_out_of_turn(rt: HostRuntime) -> Result<(), Fail> {
-    let mut world = fed_triangle(rt.alloc(), &[1, 0, 0])?;
+fn fed_out_of_turn(rt: HostRuntime) {
+    let mut world = fed_triangle(&rt, &[1, 0, 0]);
     let steps = [
         (Event::Clear(7), Reply::NotNow(Rule::NoSuch)),
         (Event::Put(7), Reply::NotNow(Rule::NoSuch)),
@@ -76,14 +83,14 @@ fn fed_out_of_turn(rt: HostRuntime) -> Result<(), Fail> {
         (Event::Put(5), Reply::Done(2)),
         (Event::Take(5), got!(5, 0, 2)),
     ];
-    expect(&rt, &mut world, &steps)?;
+    expect(&rt, &mut world, &steps);
     assert!(rt; world.drive(10) == Drive::Closed);
-    ends(&rt, &world, &[1, 1, 0], &[0, 1, 2], &[], &[])
+    ends(&rt, &world, &[1, 1, 0], &[0, 1, 2], &[], &[]);
 }
 
 /// A world that isn't fed has no looks, puts and feeds of the root, and its end is noted from the beginning.
 #[test]
-fn unfed(rt: HostRuntime) -> Result<(), Fail> {
+fn unfed(rt: HostRuntime) {
     let steps = [
         (Event::Clear(4), Reply::NotNow(Rule::NoSuch)),
         (Event::Put(4), Reply::NotNow(Rule::NoSuch)),
@@ -91,8 +98,8 @@ fn unfed(rt: HostRuntime) -> Result<(), Fail> {
         (feed!(7, 1), Reply::NotNow(Rule::NoSuch)),
         (Event::End, Reply::Done(0)),
     ];
-    let mut world = triangle(rt.alloc(), &[4, 0, 0], MOST)?;
-    expect(&rt, &mut world, &steps)?;
+    let mut world = triangle(&rt, &[4, 0, 0], MOST);
+    expect(&rt, &mut world, &steps);
     assert!(rt; world.drive(10) == Drive::Closed);
-    ends(&rt, &world, &[2, 1, 0], &[1, 0, 3], &[], &[])
+    ends(&rt, &world, &[2, 1, 0], &[1, 0, 3], &[], &[]);
 }

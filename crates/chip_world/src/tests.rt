@@ -476,20 +476,20 @@ fn stands_at(rt: &impl Abort, world: &World, chips: &[u64], counts: &[u64], mess
     assert!(rt; delivered(world, messages));
 }
 
-/// Drives a world by one round.
-fn drives_round(rt: &(impl AllocGlobal + Abort), world: &mut World, round: &Round) {
-    assert!(rt; world.drive(1) == round.drive);
-    stands_at(rt, world, round.chips, round.fired, round.delivered);
-    expect(rt, world, round.then);
+/// Drives a world round by round.
+fn drives_rounds(rt: &(impl AllocGlobal + Abort), world: &mut World, rounds: &[Round]) {
+    for round in rounds {
+        assert!(rt; world.drive(1) == round.drive);
+        stands_at(rt, world, round.chips, round.fired, round.delivered);
+        expect(rt, world, round.then);
+    }
 }
 
 #[test]
 fn drives_round_by_round(rt: HostRuntime) {
     let mut world = sealed_half_way(&rt);
     stands_at(&rt, &world, &[0, 0, 0], &[2, 0, 0], &[0, 0, 0, 0, 1, 0, 0]);
-    for round in &ROUNDS {
-        drives_round(&rt, &mut world, round);
-    }
+    drives_rounds(&rt, &mut world, &ROUNDS);
 }
 
 #[test]

@@ -1,6 +1,6 @@
 //! Small nets, turn for turn, and nets whose tokens go to threads.
 
-ghost use Rattle.std.specs.Prelude.{◌≡◌, All};
+ghost use Rattle.std.specs.Prelude.{◌≡◌, All, IfSome};
 
 mod feeding;
 mod threads;
@@ -28,10 +28,13 @@ fn game(alloc: Global, edges: &[(u64, u64, u64)], start: &[u64], limit: u64) -> 
     Ok(Game::new(graph, Vec::from_slice(alloc, start)?, limit)?)
 }
 
-fn expect_turn(rt: &impl Abort, net: &Net, actor: &mut Actor, turn: Turn)
-    requires { actor.old.net ≡ net.now }
-    ensures { actor.new.net ≡ actor.old.net }
+/// The actor of this vertex makes a turn.
+fn expect_turn(rt: &impl Abort, net: &Net, actors: &mut Vec<Actor>, vertex: usize, turn: Turn)
+    requires { All (λ a. a.net ≡ net.now) actors.old.items }
+    ensures { All (λ a. a.net ≡ net.now) actors.new.items }
 {
+    assert!(rt; vertex < actors.len());
+    let actor = &mut actors[vertex];
     let made = actor.turn(net);
     assert!(rt; made == turn);
 }
@@ -70,47 +73,35 @@ fn expect_outcome(rt: &impl Abort, outcome: &Outcome, fired: &[u64], chips: &[u6
     assert!(rt; outcome.sealed.is_empty());
 }
 
-/// The last of the actors, which this net opened.
-fn next_actor(rt: &impl Abort, net: &Net, actors: &mut Vec<Actor>) -> Actor
-    requires { All (λ a. a.net ≡ net.now) actors.old.items }
-    ensures actor { result.net ≡ net.now }
-    ensures others { All (λ a. a.net ≡ net.now) actors.new.items }
-{
-    let Some(actor) = actors.pop() else {
-        panic!(rt; "no actor is left");
-    };
-    actor
-}
-
-fn four_chips_on(
-    rt: &impl Abort,
-    net: &Net,
-    root: Root,
-    mut zero: Actor,
-    mut one: Actor,
-    mut two: Actor,
-)
+/// The turns of four chips on the first vertex, and their end.
+fn four_chips_turn(rt: &impl Abort, net: &Net, root: Root, actors: &mut Vec<Actor>)
     requires root { root.net ≡ net.now }
-    requires zero { zero.net ≡ net.now }
-    requires one { one.net ≡ net.now }
-    requires two { two.net ≡ net.now }
+    requires actors { All (λ a. a.net ≡ net.now) actors.old.items }
 {
     let mut root = expect_open(rt, net, root);
     expect_poll(rt, net, &mut root, RootState::Running(1));
-    expect_turn(rt, net, &mut zero, Turn::Worked(6));
-    expect_turn(rt, net, &mut zero, Turn::Idle);
-    expect_turn(rt, net, &mut one, Turn::Worked(6));
-    expect_turn(rt, net, &mut two, Turn::Worked(4));
+    expect_turn(rt, net, actors, 0, Turn::Worked(6));
+    expect_turn(rt, net, actors, 0, Turn::Idle);
+    expect_turn(rt, net, actors, 1, Turn::Worked(6));
+    expect_turn(rt, net, actors, 2, Turn::Worked(4));
     expect_poll(rt, net, &mut root, RootState::Running(1));
-    expect_turn(rt, net, &mut zero, Turn::Worked(3));
-    expect_turn(rt, net, &mut one, Turn::Worked(3));
-    expect_turn(rt, net, &mut zero, Turn::Worked(2));
+    expect_turn(rt, net, actors, 0, Turn::Worked(3));
+    expect_turn(rt, net, actors, 1, Turn::Worked(3));
+    expect_turn(rt, net, actors, 0, Turn::Worked(2));
     expect_poll(rt, net, &mut root, RootState::Closed);
     let outcome = finished(rt, net, root);
     expect_outcome(rt, &outcome, &[2, 1, 0], &[1, 0, 3], &[]);
+}
+
+/// Their traces: the first vertex has three rows, for two of which there is room.
+fn four_chips_traced(rt: &impl Abort, actors: &[Actor]) {
+    let [zero, one, two] = actors else {
+        panic!(rt; "the triangle has three actors");
+    };
+    assert_eq!(rt; (zero.vertex(), one.vertex(), two.vertex()), (0, 1, 2));
     expect_trace(
         rt,
-        &zero,
+        zero,
         &[
             TraceRow::Take { edge: 4, count: 4 },
             TraceRow::Fire { k: 2 },
@@ -119,7 +110,7 @@ fn four_chips_on(
     );
     expect_trace(
         rt,
-        &one,
+        one,
         &[
             TraceRow::Take { edge: 0, count: 2 },
             TraceRow::Fire { k: 1 },
@@ -134,18 +125,19 @@ fn expect_trace(rt: &impl Abort, actor: &Actor, rows: &[TraceRow], cut: bool) {
     assert_eq!(rt; was_cut, cut);
 }
 
-/// Four chips on the triangle, by one thread. The first vertex has three rows, for two of which there is room.
+fn expect_four_chips(rt: &impl Abort, alloc: Global, game: &Game) -> Result<(), Fail> {
+    let (net, root, mut actors, _stopper) = Net::open(alloc, game, Ring::one(), 2, false)?;
+    four_chips_turn(rt, &net, root, &mut actors);
+    four_chips_traced(rt, &actors);
+    Ok(())
+}
+
+/// Four chips on the triangle, by one thread.
 #[test]
 fn four_chips(rt: HostRuntime) -> Result<(), Fail> {
     let alloc = rt.alloc();
     let game = game(alloc, &TRIANGLE, &[4, 0, 0], LIMIT)?;
-    let (net, root, mut actors, _stopper) = Net::open(alloc, &game, Ring::one(), 2, false)?;
-    let two = next_actor(&rt, &net, &mut actors);
-    let one = next_actor(&rt, &net, &mut actors);
-    let zero = next_actor(&rt, &net, &mut actors);
-    assert_eq!(rt; (zero.vertex(), one.vertex(), two.vertex()), (0, 1, 2));
-    four_chips_on(&rt, &net, root, zero, one, two);
-    Ok(())
+    expect_four_chips(&rt, alloc, &game)
 }
 
 /// A turn of each actor.
@@ -217,15 +209,27 @@ fn triangles(rt: HostRuntime) -> Result<(), Fail> {
     expect_triangle(&rt, alloc, &[5, 0, 0], LIMIT, &[3, 1, 0], &[0, 1, 4], &[])
 }
 
-/// A limit of two, a batch of two, and the largest total.
+/// A limit of two.
 #[test]
-fn limits(rt: HostRuntime) -> Result<(), Fail> {
+fn limit_of_two(rt: HostRuntime) -> Result<(), Fail> {
     let alloc = rt.alloc();
-    expect_triangle(&rt, alloc, &[5, 0, 0], 2, &[2, 1, 0], &[2, 0, 3], &[0])?;
-    let batch = game(alloc, &[(0, 1, 3)], &[7, 0], LIMIT)?;
-    expect_played(&rt, alloc, &batch, &[2, 0], &[1, 6], &[])?;
-    let largest = game(alloc, &[(0, 1, 1)], &[LIMIT, 0], LIMIT)?;
-    expect_played(&rt, alloc, &largest, &[LIMIT, 0], &[0, LIMIT], &[])
+    expect_triangle(&rt, alloc, &[5, 0, 0], 2, &[2, 1, 0], &[2, 0, 3], &[0])
+}
+
+/// A batch of two.
+#[test]
+fn batch_of_two(rt: HostRuntime) -> Result<(), Fail> {
+    let alloc = rt.alloc();
+    let game = game(alloc, &[(0, 1, 3)], &[7, 0], LIMIT)?;
+    expect_played(&rt, alloc, &game, &[2, 0], &[1, 6], &[])
+}
+
+/// The largest total.
+#[test]
+fn largest_total(rt: HostRuntime) -> Result<(), Fail> {
+    let alloc = rt.alloc();
+    let game = game(alloc, &[(0, 1, 1)], &[LIMIT, 0], LIMIT)?;
+    expect_played(&rt, alloc, &game, &[LIMIT, 0], &[0, LIMIT], &[])
 }
 
 fn expect_seal(rt: &impl Abort, net: &Net, stopper: &mut Stopper, edge: u64, at: SealedAt)
@@ -236,12 +240,17 @@ fn expect_seal(rt: &impl Abort, net: &Net, stopper: &mut Stopper, edge: u64, at:
     assert!(rt; sealed == Ok(at));
 }
 
-/// An edge that is sealed twice, and a root edge.
-#[test]
-fn sealed_twice(rt: HostRuntime) -> Result<(), Fail> {
-    let alloc = rt.alloc();
-    let game = game(alloc, &TRIANGLE, &[4, 0, 0], LIMIT)?;
-    let (net, _root, _actors, stopper) = Net::open(alloc, &game, Ring::one(), 0, true)?;
+fn expect_no_edge(rt: &impl Abort, net: &Net, stopper: &mut Stopper, edge: u64)
+    requires { stopper.old.net ≡ net.now }
+{
+    let sealed = stopper.seal(net, edge);
+    assert!(rt; sealed == Err(NoEdge));
+}
+
+/// Seals an edge twice, and a root edge.
+fn seal_twice(rt: &impl Abort, net: &Net, stopper: Option<Stopper>)
+    requires { IfSome stopper (λ s. s.net ≡ net.now) }
+{
     let Some(mut stopper) = stopper else {
         panic!(rt; "no stopper");
     };
@@ -253,9 +262,21 @@ fn sealed_twice(rt: HostRuntime) -> Result<(), Fail> {
         count: 0,
         first: false,
     };
-    expect_seal(&rt, &net, &mut stopper, 1, first);
-    expect_seal(&rt, &net, &mut stopper, 1, again);
-    let none = stopper.seal(&net, 4);
-    assert!(rt; none == Err(NoEdge));
+    expect_seal(rt, net, &mut stopper, 1, first);
+    expect_seal(rt, net, &mut stopper, 1, again);
+    expect_no_edge(rt, net, &mut stopper, 4);
+}
+
+fn expect_sealed_twice(rt: &impl Abort, alloc: Global, game: &Game) -> Result<(), Fail> {
+    let (net, _root, _actors, stopper) = Net::open(alloc, game, Ring::one(), 0, true)?;
+    seal_twice(rt, &net, stopper);
     Ok(())
+}
+
+/// An edge that is sealed twice, and a root edge.
+#[test]
+fn sealed_twice(rt: HostRuntime) -> Result<(), Fail> {
+    let alloc = rt.alloc();
+    let game = game(alloc, &TRIANGLE, &[4, 0, 0], LIMIT)?;
+    expect_sealed_twice(&rt, alloc, &game)
 }

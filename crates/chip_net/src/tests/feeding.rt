@@ -7,6 +7,7 @@ use super::{
     LIMIT, TRIANGLE, all_turn, drive, expect_open, expect_outcome, expect_poll, finished, game,
 };
 use crate::{Actor, FeedFault, Net, Root, RootState};
+use chip_graph::Game;
 use chip_link::Ring;
 use std::alloc::Global;
 use std::process::Abort;
@@ -15,17 +16,11 @@ use std::test::Fail;
 use std::thread::{self, Threads};
 
 /// The triangle with these chips as a net that is fed, with rings of one cell.
-fn open_triangle(
-    rt: &impl Abort,
-    alloc: Global,
-    start: &[u64],
-) -> Result<(Net, Root, Vec<Actor>), Fail>
-    ensures vertices { IfOk result (λ r. r.0.setting.graph.vertices ≡ 3) }
+fn open_triangle(alloc: Global, start: &[u64]) -> Result<(Net, Root, Vec<Actor>), Fail>
     ensures root { IfOk result (λ r. r.1.net ≡ r.0) }
     ensures actors { IfOk result (λ r. All (λ a. a.net ≡ r.0) r.2.items) }
 {
     let game = game(alloc, &TRIANGLE, start, LIMIT)?;
-    assert_eq!(rt; game.graph().vertices(), 3);
     let (net, root, actors, _stopper) = Net::open_fed(alloc, &game, Ring::one(), 0, false)?;
     Ok((net, root, actors))
 }
@@ -39,10 +34,10 @@ fn expect_feed(
     answer: Result<u64, FeedFault>,
 )
     requires net { root.old.net ≡ net.now }
-    requires vertex { vertex < net.now.setting.graph.vertices }
     requires count { 1 ≤ count }
     ensures { root.new.net ≡ root.old.net }
 {
+    assert!(rt; vertex < net.setup().vertices());
     let fed = root.feed(net, vertex, count);
     assert!(rt; fed == answer);
 }
@@ -63,15 +58,24 @@ fn expect_four_chips(rt: &impl Abort, net: &Net, root: Root)
     expect_outcome(rt, &outcome, &[2, 1, 0], &[1, 0, 3], &[]);
 }
 
+/// Feeds four chips at once, and notes the end.
+fn feed_four(rt: &impl Abort, net: &Net, mut root: Root) -> Root
+    requires { root.net ≡ net.now }
+    ensures { result.net ≡ net.now }
+{
+    expect_poll(rt, net, &mut root, RootState::Running(0));
+    let mut root = expect_open(rt, net, root);
+    expect_feed(rt, net, &mut root, 0, 4, Ok(0));
+    expect_end(rt, net, &mut root, RootState::Running(1));
+    root
+}
+
 /// Four chips at once, then the end.
 #[test]
 fn four_fed(rt: HostRuntime) -> Result<(), Fail> {
     let alloc = rt.alloc();
-    let (net, mut root, mut actors) = open_triangle(&rt, alloc, &[0, 0, 0])?;
-    expect_poll(&rt, &net, &mut root, RootState::Running(0));
-    let mut root = expect_open(&rt, &net, root);
-    expect_feed(&rt, &net, &mut root, 0, 4, Ok(0));
-    expect_end(&rt, &net, &mut root, RootState::Running(1));
+    let (net, root, mut actors) = open_triangle(alloc, &[0, 0, 0])?;
+    let root = feed_four(&rt, &net, root);
     let root = drive(&net, root, &mut actors);
     expect_four_chips(&rt, &net, root);
     Ok(())
@@ -79,7 +83,6 @@ fn four_fed(rt: HostRuntime) -> Result<(), Fail> {
 
 /// Three chips fill the ring, and one more goes in once the actors have turned.
 fn feed_twice(rt: &impl Abort, net: &Net, mut root: Root, actors: &mut Vec<Actor>) -> Root
-    requires vertices { 0 < net.now.setting.graph.vertices }
     requires root { root.net ≡ net.now }
     requires actors { All (λ a. a.net ≡ net.now) actors.old.items }
     ensures root { result.net ≡ net.now }
@@ -94,8 +97,7 @@ fn feed_twice(rt: &impl Abort, net: &Net, mut root: Root, actors: &mut Vec<Actor
 
 /// The end closes a net with nothing outstanding, and nothing is fed after it.
 fn end_twice(rt: &impl Abort, net: &Net, mut root: Root) -> Root
-    requires vertices { 0 < net.now.setting.graph.vertices }
-    requires root { root.net ≡ net.now }
+    requires { root.net ≡ net.now }
     ensures { result.net ≡ net.now }
 {
     expect_poll(rt, net, &mut root, RootState::Running(0));
@@ -110,7 +112,7 @@ fn end_twice(rt: &impl Abort, net: &Net, mut root: Root) -> Root
 #[test]
 fn fed_twice(rt: HostRuntime) -> Result<(), Fail> {
     let alloc = rt.alloc();
-    let (net, root, mut actors) = open_triangle(&rt, alloc, &[0, 0, 0])?;
+    let (net, root, mut actors) = open_triangle(alloc, &[0, 0, 0])?;
     let root = feed_twice(&rt, &net, root, &mut actors);
     let root = drive(&net, root, &mut actors);
     let root = end_twice(&rt, &net, root);
@@ -118,12 +120,25 @@ fn fed_twice(rt: HostRuntime) -> Result<(), Fail> {
     Ok(())
 }
 
+/// A chip for the first vertex is refused.
+fn expect_refused(rt: &impl Abort, net: &Net, mut root: Root, fault: FeedFault)
+    requires { root.net ≡ net.now }
+{
+    expect_feed(rt, net, &mut root, 0, 1, Err(fault));
+}
+
 /// No chip is fed past the largest total.
 #[test]
 fn largest_total(rt: HostRuntime) -> Result<(), Fail> {
     let alloc = rt.alloc();
-    let (net, mut root, _actors) = open_triangle(&rt, alloc, &[0, 0, LIMIT])?;
-    expect_feed(&rt, &net, &mut root, 0, 1, Err(FeedFault::Total));
+    let (net, root, _actors) = open_triangle(alloc, &[0, 0, LIMIT])?;
+    expect_refused(&rt, &net, root, FeedFault::Total);
+    Ok(())
+}
+
+fn expect_not_fed(rt: &impl Abort, alloc: Global, game: &Game) -> Result<(), Fail> {
+    let (net, root, _actors, _stopper) = Net::open(alloc, game, Ring::one(), 0, false)?;
+    expect_refused(rt, &net, root, FeedFault::Ended);
     Ok(())
 }
 
@@ -132,10 +147,7 @@ fn largest_total(rt: HostRuntime) -> Result<(), Fail> {
 fn not_for_feeding(rt: HostRuntime) -> Result<(), Fail> {
     let alloc = rt.alloc();
     let game = game(alloc, &TRIANGLE, &[0, 0, 0], LIMIT)?;
-    assert_eq!(rt; game.graph().vertices(), 3);
-    let (net, mut root, _actors, _stopper) = Net::open(alloc, &game, Ring::one(), 0, false)?;
-    expect_feed(&rt, &net, &mut root, 0, 1, Err(FeedFault::Ended));
-    Ok(())
+    expect_not_fed(&rt, alloc, &game)
 }
 
 /// Feeds so many single chips to the first vertex, notes the end, and polls until the root is closed.
@@ -185,7 +197,8 @@ fn turn_and_feed<R: Threads>(rt: &R, net: &Net, actors: Vec<Actor>, root: Root, 
 #[test]
 fn fed_on_threads(rt: HostRuntime) -> Result<(), Fail> {
     let alloc = rt.alloc();
-    let (net, root, actors) = open_triangle(&rt, alloc, &[0, 0, 0])?;
+    let (net, root, actors) = open_triangle(alloc, &[0, 0, 0])?;
+    assert!(rt; net.setup().vertices() > 0);
     let root = turn_and_feed(&rt, &net, actors, root, 1000);
     let outcome = finished(&rt, &net, root);
     expect_outcome(&rt, &outcome, &[666, 333, 0], &[1, 0, 999], &[]);

@@ -1,13 +1,13 @@
 //! Tokens on threads of their own.
 
-ghost use Rattle.std.specs.Prelude.{◌≡◌, All, IfOk, IfSome};
+ghost use Rattle.std.specs.Prelude.{◌≡◌, ◌<◌, All, IfOk, IfSome};
 
-use super::{LIMIT, TRIANGLE, all_turn, drive, expect_outcome, finished, game, next_actor};
+use super::{LIMIT, TRIANGLE, all_turn, drive, expect_outcome, finished, game};
 use crate::{Actor, Net, Root, RootState, Stopper};
 use chip_graph::{Edge, Game, Graph};
 use chip_link::Ring;
 use chip_sequence::Outcome;
-use std::alloc::Global;
+use std::alloc::{AllocError, Global};
 use std::process::Abort;
 use std::sync::atomic::AtomicBool;
 use std::sync::atomic::Ordering::SeqCst;
@@ -164,24 +164,15 @@ fn all_play<R: Threads + Sync>(
     root
 }
 
-/// The actors behind the first `count`, which go to a list of their own.
-fn rest_of(
-    rt: &impl Abort,
-    alloc: Global,
-    net: &Net,
-    actors: &mut Vec<Actor>,
-    count: usize,
-) -> Result<Vec<Actor>, Fail>
+/// The actors from this one on, which leave the list.
+fn tail_of(net: &Net, actors: &mut Vec<Actor>, at: usize) -> Result<Vec<Actor>, AllocError>
     requires { All (λ a. a.net ≡ net.now) actors.old.items }
     ensures first { All (λ a. a.net ≡ net.now) actors.new.items }
-    ensures rest { IfOk result (λ rest. All (λ a. a.net ≡ net.now) rest.items) }
+    ensures tail { IfOk result (λ tail. All (λ a. a.net ≡ net.now) tail.items) }
 {
-    let mut rest = Vec::new(alloc);
-    for _ in count..actors.len() {
-        let actor = next_actor(rt, net, actors);
-        rest.push(actor)?;
-    }
-    Ok(rest)
+    let at = at.min(actors.len());
+    let tail = actors.split_off(at)?;
+    Ok(tail)
 }
 
 /// Plays a game on threads, which share the actors by thirds, and seals an edge of it where it is stoppable.
@@ -194,8 +185,8 @@ fn played_on_threads<R: Threads + Sync + Abort>(
 ) -> Result<Outcome, Fail> {
     let (net, root, mut actors, stopper) = Net::open(alloc, game, Ring::one(), 0, stoppable)?;
     let third = actors.len() / 3;
-    let last = rest_of(rt, alloc, &net, &mut actors, 2 * third)?;
-    let middle = rest_of(rt, alloc, &net, &mut actors, third)?;
+    let last = tail_of(&net, &mut actors, 2 * third)?;
+    let middle = tail_of(&net, &mut actors, third)?;
     let shares = (actors, middle, last);
     let root = all_play(rt, &net, shares, stopper, edge, root);
     Ok(finished(rt, &net, root))
@@ -214,27 +205,40 @@ fn fires_again(rt: HostRuntime) -> Result<(), Fail> {
 /// How wide the grid is.
 const SIDE: u64 = 8;
 
-/// The edges of the grid: each cell has one to each of its neighbours, and to the sink those that have no neighbour.
-fn grid(alloc: Global) -> Result<Vec<Edge>, Fail> {
+/// The neighbours of a cell of the grid, and the sink for each that there is not.
+fn neighbours(row: u64, column: u64) -> [u64; 4]
+    requires row { row < 8 }
+    requires column { column < 8 }
+{
     let sink = SIDE * SIDE;
+    let cell = row * SIDE + column;
+    [
+        if row > 0 { cell - SIDE } else { sink },
+        if row + 1 < SIDE { cell + SIDE } else { sink },
+        if column > 0 { cell - 1 } else { sink },
+        if column + 1 < SIDE { cell + 1 } else { sink },
+    ]
+}
+
+/// The edges of a cell of the grid: one to each neighbour.
+fn add_cell(edges: &mut Vec<Edge>, tail: u64) -> Result<(), AllocError>
+    requires { tail < 64 }
+{
+    for head in neighbours(tail / SIDE, tail % SIDE) {
+        edges.push(Edge {
+            tail,
+            head,
+            mult: 1,
+        })?;
+    }
+    Ok(())
+}
+
+/// The edges of the grid: each cell has one to each of its neighbours, and to the sink those that have no neighbour.
+fn grid(alloc: Global) -> Result<Vec<Edge>, AllocError> {
     let mut edges = Vec::new(alloc);
-    for row in 0..SIDE {
-        for column in 0..SIDE {
-            let tail = row * SIDE + column;
-            let heads = [
-                if row > 0 { tail - SIDE } else { sink },
-                if row + 1 < SIDE { tail + SIDE } else { sink },
-                if column > 0 { tail - 1 } else { sink },
-                if column + 1 < SIDE { tail + 1 } else { sink },
-            ];
-            for head in heads {
-                edges.push(Edge {
-                    tail,
-                    head,
-                    mult: 1,
-                })?;
-            }
-        }
+    for tail in 0..SIDE * SIDE {
+        add_cell(&mut edges, tail)?;
     }
     Ok(edges)
 }
@@ -272,6 +276,22 @@ fn expect_plays_on(rt: &impl Abort, alloc: Global, outcome: &Outcome) -> Result<
     Ok(())
 }
 
+/// Threads play the game, and all but each fourth round seal an edge, each time another one.
+fn expect_round<R: Threads + Sync + Abort>(
+    rt: &R,
+    alloc: Global,
+    game: &Game,
+    round: u64,
+) -> Result<(), Fail>
+    requires { round < 100 }
+{
+    let outcome = played_on_threads(rt, alloc, game, round % 4 != 0, round * 2)?;
+    if outcome.sealed.is_empty() {
+        expect_outcome(rt, &outcome, &FIRED, &CHIPS, &[]);
+    }
+    expect_plays_on(rt, alloc, &outcome)
+}
+
 /// Threads that turn, poll and seal at once, a hundred times on the grid, each time with another edge to seal.
 #[test]
 fn grids(rt: HostRuntime) -> Result<(), Fail> {
@@ -280,11 +300,7 @@ fn grids(rt: HostRuntime) -> Result<(), Fail> {
     chips.push(0)?;
     let game = grid_game(alloc, &chips)?;
     for round in 0..100 {
-        let outcome = played_on_threads(&rt, alloc, &game, round % 4 != 0, round * 2)?;
-        if outcome.sealed.is_empty() {
-            expect_outcome(&rt, &outcome, &FIRED, &CHIPS, &[]);
-        }
-        expect_plays_on(&rt, alloc, &outcome)?;
+        expect_round(&rt, alloc, &game, round)?;
     }
     Ok(())
 }

@@ -1,6 +1,6 @@
 -- What a graph keeps beside its edges, and that this is what follows from them.
 use Rattle.std.specs.Prelude.{◌≡◌, ℕ, ◌<◌, List, [], length, map, slice_index, slice_index_or}
-use Rattle.chip_graph.specs.declared.graph.Graph.TheInside.{Inside}
+use Rattle.chip_graph.specs.declared.graph.Rows.TheInside.{Inside}
 use Rattle.chip_graph.specs.declared.edge.Edge.{Edge}
 use Rattle.chip_graph.specs.Multigraph.{Multigraph, IsGraph, IsDistance, edge_at, edges_out, edges_in, degree}
 

@@ -23,6 +23,20 @@ pub const MAX_MULT: u64 = 1_048_576;
 /// What is asked of a vertex is made once, with the graph, and answered in constant time.
 #[derive(Drop)]
 pub struct Graph {
+    rows: Box<Rows>,
+}
+
+impl Model for Graph {
+    ghost use Rattle.chip_graph.specs.Multigraph.{Multigraph};
+
+    ghost Value = { Multigraph };
+
+    ghost view = { λ a. a.rows.value };
+}
+
+/// The edges of a graph, and what follows from them.
+#[derive(Drop)]
+struct Rows {
     vertices: u64,
     sink: u64,
     /// By number.
@@ -39,7 +53,7 @@ pub struct Graph {
     links: PackedLists<Edge>,
 }
 
-impl Model for Graph {
+impl Model for Rows {
     ghost use Rattle.chip_graph.specs.Multigraph.{Multigraph};
 
     ghost Value = { Multigraph };
@@ -49,6 +63,69 @@ impl Model for Graph {
     ghost view = { graph_of };
 
     ghost invariant = { IsIndexed };
+}
+
+impl Rows {
+    ghost use Rattle.std.specs.Prelude.{◌≡◌};
+    ghost use Rattle.chip_graph.specs.Faults.{MakesGraph};
+
+    /// The rows of these edges, or the first reason why they are no graph.
+    fn new(
+        alloc: Global,
+        vertices: u64,
+        sink: u64,
+        edges: Vec<Edge>,
+    ) -> Result<Rows, GraphFault>
+        ensures makes { MakesGraph (record { vertices = vertices; sink = sink; edges = edges.items }) result }
+        ensures accepted { IfOk result (λ rows. fault_of_rows rows ≡ None) }
+    {
+        let rows = edges.as_slice();
+        check_rows(vertices, sink, rows)?;
+        let outs = index::edges_by(alloc, vertices, rows, End::Tail)?;
+        let ins = index::edges_by(alloc, vertices, rows, End::Head)?;
+        let found = distances(alloc, sink, rows, &ins)?;
+        let distances = all_reached(alloc, &found)?;
+        let degrees = index::degrees(alloc, vertices, rows)?;
+        let links = index::edges_side_by_side(alloc, rows, &outs)?;
+        let outs = index::side_by_side(alloc, &outs)?;
+        let ins = index::side_by_side(alloc, &ins)?;
+        Ok(Rows {
+            vertices,
+            sink,
+            edges,
+            degrees,
+            distances,
+            outs,
+            ins,
+            links,
+        })
+    }
+
+    /// Equal rows.
+    fn copy(&self, alloc: Global) -> Result<Rows, AllocError>
+        ensures { IfOk result (λ rows. rows ≡ self.now) }
+    {
+        let Rows {
+            vertices,
+            sink,
+            edges,
+            degrees,
+            distances,
+            outs,
+            ins,
+            links,
+        } = self;
+        Ok(Rows {
+            vertices: *vertices,
+            sink: *sink,
+            edges: Vec::from_slice(alloc, edges)?,
+            degrees: Vec::from_slice(alloc, degrees)?,
+            distances: Vec::from_slice(alloc, distances)?,
+            outs: outs.copy(alloc)?,
+            ins: ins.copy(alloc)?,
+            links: links.copy(alloc)?,
+        })
+    }
 }
 
 impl Graph {
@@ -67,25 +144,9 @@ impl Graph {
     ) -> Result<Graph, GraphFault>
         ensures { MakesGraph (record { vertices = vertices; sink = sink; edges = edges.items }) result }
     {
-        let rows = edges.as_slice();
-        check_rows(vertices, sink, rows)?;
-        let outs = index::edges_by(alloc, vertices, rows, End::Tail)?;
-        let ins = index::edges_by(alloc, vertices, rows, End::Head)?;
-        let found = distances(alloc, sink, rows, &ins)?;
-        let distances = all_reached(alloc, &found)?;
-        let degrees = index::degrees(alloc, vertices, rows)?;
-        let links = index::edges_side_by_side(alloc, rows, &outs)?;
-        let outs = index::side_by_side(alloc, &outs)?;
-        let ins = index::side_by_side(alloc, &ins)?;
+        let rows = Rows::new(alloc, vertices, sink, edges)?;
         Ok(Graph {
-            vertices,
-            sink,
-            edges,
-            degrees,
-            distances,
-            outs,
-            ins,
-            links,
+            rows: Box::new(alloc, rows)?,
         })
     }
 
@@ -93,25 +154,9 @@ impl Graph {
     pub fn copy(&self, alloc: Global) -> Result<Graph, AllocError>
         ensures { IfOk result (λ graph. graph ≡ self.now) }
     {
-        let Graph {
-            vertices,
-            sink,
-            edges,
-            degrees,
-            distances,
-            outs,
-            ins,
-            links,
-        } = self;
+        let rows = self.rows.copy(alloc)?;
         Ok(Graph {
-            vertices: *vertices,
-            sink: *sink,
-            edges: Vec::from_slice(alloc, edges)?,
-            degrees: Vec::from_slice(alloc, degrees)?,
-            distances: Vec::from_slice(alloc, distances)?,
-            outs: outs.copy(alloc)?,
-            ins: ins.copy(alloc)?,
-            links: links.copy(alloc)?,
+            rows: Box::new(alloc, rows)?,
         })
     }
 
@@ -120,7 +165,8 @@ impl Graph {
         ensures value { result ≡ self.now.vertices }
         ensures graph { IsGraph self.now }
     {
-        self.vertices
+        let rows: &Rows = &self.rows;
+        rows.vertices
     }
 
     /// The sink, which never fires.
@@ -128,7 +174,8 @@ impl Graph {
         ensures value { result ≡ self.now.sink }
         ensures graph { IsGraph self.now }
     {
-        self.sink
+        let rows: &Rows = &self.rows;
+        rows.sink
     }
 
     /// The graph's own edges, named by their indices.
@@ -136,7 +183,8 @@ impl Graph {
         ensures value { result.now ≡ self.now.edges }
         ensures graph { IsGraph self.now }
     {
-        &self.edges
+        let rows: &Rows = &self.rows;
+        &rows.edges
     }
 
     /// How many edges a running game has: the graph's own, and then a root edge for each vertex.
@@ -144,7 +192,8 @@ impl Graph {
         ensures value { result ≡ all_edges self.now }
         ensures graph { IsGraph self.now }
     {
-        self.edges.len() as u64 + self.vertices
+        let rows: &Rows = &self.rows;
+        rows.edges.len() as u64 + rows.vertices
     }
 
     /// The number of the root edge into this vertex.
@@ -153,7 +202,8 @@ impl Graph {
         ensures value { result ≡ root_edge self.now vertex }
         ensures graph { IsGraph self.now }
     {
-        self.edges.len() as u64 + vertex
+        let rows: &Rows = &self.rows;
+        rows.edges.len() as u64 + vertex
     }
 
     /// The edge that has this number, or `None` from `all_edges()` on.
@@ -161,9 +211,10 @@ impl Graph {
         ensures edge { IsNumbered self.now number result }
         ensures graph { IsGraph self.now }
     {
-        let graph_edges = self.edges.len() as u64;
+        let rows: &Rows = &self.rows;
+        let graph_edges = rows.edges.len() as u64;
         if number < graph_edges {
-            Some(AnyEdge::Own(self.edges[number as usize]))
+            Some(AnyEdge::Own(rows.edges[number as usize]))
         } else if number < self.all_edges() {
             Some(AnyEdge::Root {
                 head: number - graph_edges,
@@ -178,7 +229,8 @@ impl Graph {
         requires { vertex < self.now.vertices }
         ensures { result ≡ degree self.now vertex }
     {
-        self.degrees[vertex as usize]
+        let rows: &Rows = &self.rows;
+        rows.degrees[vertex as usize]
     }
 
     /// The edges out of this vertex, ascending.
@@ -186,7 +238,8 @@ impl Graph {
         requires { vertex < self.now.vertices }
         ensures { result.now ≡ edges_out self.now vertex }
     {
-        self.outs.list(vertex as usize)
+        let rows: &Rows = &self.rows;
+        rows.outs.list(vertex as usize)
     }
 
     /// The edges into this vertex, ascending.
@@ -194,7 +247,8 @@ impl Graph {
         requires { vertex < self.now.vertices }
         ensures { result.now ≡ edges_in self.now vertex }
     {
-        self.ins.list(vertex as usize)
+        let rows: &Rows = &self.rows;
+        rows.ins.list(vertex as usize)
     }
 
     /// The edges out of this vertex as they are, in the order of `outs`, side by side in memory.
@@ -202,7 +256,8 @@ impl Graph {
         requires { vertex < self.now.vertices }
         ensures { result.now ≡ map (edge_at self.now) (edges_out self.now vertex) }
     {
-        self.links.list(vertex as usize)
+        let rows: &Rows = &self.rows;
+        rows.links.list(vertex as usize)
     }
 
     /// The least number of edges from this vertex to the sink; 0 at the sink.
@@ -210,7 +265,8 @@ impl Graph {
         requires { vertex < self.now.vertices }
         ensures { IsDistance self.now vertex result }
     {
-        self.distances[vertex as usize]
+        let rows: &Rows = &self.rows;
+        rows.distances[vertex as usize]
     }
 }
 

@@ -4,9 +4,10 @@ use Rattle.chip_graph.proofs.graph.Graph.distance.Goals as goal
 
 pub returns : goal.returns
 returns c =
-    let vertices = ap (λ G. G.vertices) c.self.view_is in
-    let inside : c.args.vertex < c.self.inside.vertices = (let below = c.requires in omega arith) in
+    let is = c.rows.view_is ∙ c.deref-rows.ensures ∙ c.self.view_is in
+    let vertices = ap (λ G. G.vertices) is in
+    let inside : c.args.vertex < c.rows.inside.vertices = (let below = c.requires in omega arith) in
     let read = c.index.ensures
-    ∙ get_or_default c.self.inside.distances.items c.args.vertex c.index.result.now 0
-    (let each = c.self.invariant.distance_each in omega arith) in
-    rw (read, ← c.self.view_is) (c.self.invariant.distances c.args.vertex inside)
+    ∙ get_or_default c.rows.inside.distances.items c.args.vertex c.index.result.now 0
+    (let each = c.rows.invariant.distance_each in omega arith) in
+    rw (read, ← is) (c.rows.invariant.distances c.args.vertex inside)

@@ -1,6 +1,6 @@
 use Rattle.std.proofs.Common.{◌∙◌}
 use Rattle.chip_graph.proofs.IndexLemmas.{copied}
-use Rattle.chip_graph.proofs.graph.Graph.copy.Goals as goal
+use Rattle.chip_graph.proofs.graph.Rows.copy.Goals as goal
 
 pub invariant_of-result : goal.invariant_of-result
 invariant_of-result c =

@@ -20,7 +20,7 @@ use Rattle.chip_report.specs.Reportable.{Told, told}
 use Rattle.chip_report.specs.ReportTwo.{ToldOfAll, told_of_all, report_two_text, IsAnyReportOf}
 use Rattle.chip_report.proofs.ReportLemmas.{one_outcome}
 use Rattle.chip_report.proofs.ReportTwoLemmas.{one_sitting, not_both}
-use Rattle.chip_engine.specs.Inputs.{Reads, MeansGame}
+use Rattle.chip_command.specs.Inputs.{Reads, MeansGame}
 use Rattle.chip_engine.specs.ResumeCommand.{LeadsToTheEnd}
 use Rattle.chip_engine.specs.Sittings.{TellsPlayFrom, IsResumedTo, AreResumed}
 use Rattle.chip_core.specs.Positions.{started}

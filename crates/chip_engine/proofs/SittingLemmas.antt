@@ -23,13 +23,13 @@ use Rattle.chip_report.specs.declared.fault.ReportFault.TheVariants as report_fa
 use Rattle.chip_report.specs.declared.write.WriteFault.{WriteFault}
 use Rattle.chip_file.specs.Answer.{max_bytes}
 use Rattle.chip_file.specs.declared.fault.FileFault.TheVariants as file_fault
-use Rattle.chip_engine.specs.Faults.{fault_of_report}
+use Rattle.chip_command.specs.Faults.{fault_of_report}
 use Rattle.chip_engine.specs.ResumeCommand.{MeansSitting, LeadsToTheEnd, ReportsOn, GivesSitting}
 use Rattle.chip_engine.specs.ResumeCommand.{RefusesReport, RefusesToGoOn, RefusesSitting, ResumeAnswers}
-use Rattle.chip_engine.specs.declared.ended.Ended.{Ended}
-use Rattle.chip_engine.specs.declared.fault.Fault.{Fault}
-use Rattle.chip_engine.specs.declared.fault.Fault.TheVariants.{Write, NoMemory}
-use Rattle.chip_engine.proofs.EngineLemmas.{Keeps-same}
+use Rattle.chip_command.specs.declared.ended.Ended.{Ended}
+use Rattle.chip_command.specs.declared.fault.Fault.{Fault}
+use Rattle.chip_command.specs.declared.fault.Fault.TheVariants.{Write, NoMemory}
+use Rattle.chip_command.proofs.InputLemmas.{Keeps-same}
 
 -- a sitting that some report tells is in range
 pub resumed_of_report : (bytes : List ℕ) (r : Resumed) → IsAnyReportOf bytes r → IsResumed r

@@ -5,11 +5,11 @@ use Rattle.std.specs.Fmt.{decimal}
 use Rattle.std.specs.Io.KnownBytes.{Appends, Keeps}
 use Rattle.chip_graph.specs.Multigraph.{Multigraph, IsDistance, degree}
 use Rattle.chip_file.specs.GraphText.{MeansGraph, IsGraphTextFault}
-use Rattle.chip_engine.specs.Inputs.{Reads, RefusesText}
+use Rattle.chip_command.specs.Inputs.{Reads, RefusesText}
 use Rattle.chip_report.specs.Written.{WritesAll}
-use Rattle.chip_engine.specs.declared.ended.Ended.{Ended}
-use Rattle.chip_engine.specs.declared.fault.Fault.{Fault}
-use Rattle.chip_engine.specs.declared.fault.Fault.TheVariants.{Write, NoMemory}
+use Rattle.chip_command.specs.declared.ended.Ended.{Ended}
+use Rattle.chip_command.specs.declared.fault.Fault.{Fault}
+use Rattle.chip_command.specs.declared.fault.Fault.TheVariants.{Write, NoMemory}
 use Rattle.chip_report.specs.declared.write.WriteFault.{WriteFault}
 
 -- the lines on the graph as a whole

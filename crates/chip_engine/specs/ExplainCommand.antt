@@ -4,18 +4,18 @@ use Rattle.std.specs.Prelude.{Result, Ok, Err}
 use Rattle.std.specs.Borrow.{Bor}
 use Rattle.std.specs.Fmt.{decimal}
 use Rattle.std.specs.Io.KnownBytes.{Appends, Keeps}
-use Rattle.chip_faults.specs.declared.table.Explanation.{Explanation}
+use Rattle.chip_command.specs.declared.table.Explanation.{Explanation}
 use Rattle.chip_report.specs.Written.{WritesAll}
 use Rattle.chip_report.specs.declared.write.WriteFault.{WriteFault}
 use Rattle.chip_engine.specs.Lines.{lines_text}
-use Rattle.chip_engine.specs.declared.ended.Ended.{Ended}
-use Rattle.chip_engine.specs.declared.fault.Fault.{Fault}
-use Rattle.chip_engine.specs.declared.fault.Fault.TheVariants.{Write, NoMemory, Usage}
+use Rattle.chip_command.specs.declared.ended.Ended.{Ended}
+use Rattle.chip_command.specs.declared.fault.Fault.{Fault}
+use Rattle.chip_command.specs.declared.fault.Fault.TheVariants.{Write, NoMemory, Usage}
 
 -- a fault and what it means, on one line
 abbrev pub line_text : Explanation → List ℕ
 line_text row =
-    codes "fault " ++ decimal row.number ++ codes " " ++ row.name.now ++ row.place.letters.now ++ codes ": "
+    codes "fault " ++ decimal row.code.number ++ codes " " ++ row.code.name.now ++ row.place.letters.now ++ codes ": "
     ++ row.meaning.now ++ codes "\n"
 
 -- all that is said of one fault: its line, an empty line, how to read its numbers, and what to do
@@ -34,7 +34,7 @@ rows_of table = map (λ row. row.now) table
 
 -- the row of a table with this number, where there is one
 abbrev pub row_with : List Explanation → ℕ → Option Explanation
-row_with table number = find (λ row. row.number == number) table
+row_with table number = find (λ row. row.code.number == number) table
 
 -- what a table has to say: of the fault with a number, where a row has it; of all faults where no number is given
 abbrev pub explanation : List Explanation → Option ℕ → Option (List ℕ)

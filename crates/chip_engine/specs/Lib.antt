@@ -1,6 +1,3 @@
-pub mod Faults
-pub mod FaultNumbers
-pub mod Inputs
 pub mod Lines
 pub mod PlainCommand
 pub mod Board

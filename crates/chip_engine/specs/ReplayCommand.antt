@@ -11,10 +11,10 @@ use Rattle.chip_trace.specs.Progress.{IsStuck}
 use Rattle.chip_report.specs.Written.{WritesAll}
 use Rattle.chip_report.specs.declared.write.WriteFault.{WriteFault}
 use Rattle.chip_engine.specs.Lines.{lines_text}
-use Rattle.chip_engine.specs.Inputs.{Reads, MeansGame, RefusesInputs, RefusesText}
-use Rattle.chip_engine.specs.declared.ended.Ended.{Ended}
-use Rattle.chip_engine.specs.declared.fault.Fault.{Fault}
-use Rattle.chip_engine.specs.declared.fault.Fault.TheVariants.{Stuck, Write, NoMemory}
+use Rattle.chip_command.specs.Inputs.{Reads, MeansGame, RefusesInputs, RefusesText}
+use Rattle.chip_command.specs.declared.ended.Ended.{Ended}
+use Rattle.chip_command.specs.declared.fault.Fault.{Fault}
+use Rattle.chip_command.specs.declared.fault.Fault.TheVariants.{Stuck, Write, NoMemory}
 
 -- the line of a firing: its vertex, and how many firings it is in a row
 abbrev pub firing_text : ℕ × ℕ → List ℕ

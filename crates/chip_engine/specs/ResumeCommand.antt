@@ -12,12 +12,12 @@ use Rattle.chip_report.specs.ReportText.{is_closed}
 use Rattle.chip_report.specs.ReportTwo.{report_two_text, IsAnyReportOf, IsNoReportAtAll}
 use Rattle.chip_report.specs.Written.{WritesAll}
 use Rattle.chip_report.specs.declared.write.WriteFault.{WriteFault}
-use Rattle.chip_engine.specs.Faults.{fault_of_resume}
-use Rattle.chip_engine.specs.Inputs.{Reads, RefusesText}
-use Rattle.chip_engine.specs.PlainCommand.{plain_status}
-use Rattle.chip_engine.specs.declared.ended.Ended.{Ended}
-use Rattle.chip_engine.specs.declared.fault.Fault.{Fault}
-use Rattle.chip_engine.specs.declared.fault.Fault.TheVariants.{NotReport, Write, NoMemory}
+use Rattle.chip_command.specs.Faults.{fault_of_resume}
+use Rattle.chip_command.specs.Inputs.{Reads, RefusesText}
+use Rattle.chip_command.specs.Reports.{plain_status}
+use Rattle.chip_command.specs.declared.ended.Ended.{Ended}
+use Rattle.chip_command.specs.declared.fault.Fault.{Fault}
+use Rattle.chip_command.specs.declared.fault.Fault.TheVariants.{NotReport, Write, NoMemory}
 
 -- two texts mean this graph, and this sitting to go on from: the first of a play, or one that went on itself
 pub record MeansSitting (graph_text report_text : List ℕ) (G : Multigraph) (earlier : Resumed) : Type 0 where

@@ -9,11 +9,11 @@ use Rattle.chip_report.specs.ReportTwo.{IsAnyReportOf}
 use Rattle.chip_part.specs.Setting.{Setting}
 use Rattle.chip_core.specs.Core.{Log}
 use Rattle.chip_core.specs.Positions.{started}
-use Rattle.chip_engine.specs.Inputs.{Reads, MeansGame}
+use Rattle.chip_command.specs.Inputs.{Reads, MeansGame}
 use Rattle.chip_engine.specs.PlainCommand.{PlainAnswers}
 use Rattle.chip_engine.specs.ResumeCommand.{LeadsToTheEnd, ResumeAnswers}
 use Rattle.chip_engine.specs.SimulateCommand.{EndsClosed}
-use Rattle.chip_engine.specs.declared.ended.Ended.{Ended}
+use Rattle.chip_command.specs.declared.ended.Ended.{Ended}
 
 -- whichever sitting is read from a report, what was fired in all leads from the start x to the chips that lie there
 abbrev pub TellsPlayFrom : Multigraph → (ℕ → ℕ) → List ℕ → Type 0

@@ -8,13 +8,13 @@ use Rattle.chip_sequence.specs.Sittings.{fired_in_all}
 use Rattle.chip_sequence.specs.declared.resumed.Resumed.{Resumed}
 use Rattle.chip_fire.specs.declared.sitting.ResumeFault.TheVariants.{Mismatch, Total, Limit, Prior}
 use Rattle.chip_report.specs.ReportTwo.{report_two_text}
-use Rattle.chip_faults.specs.declared.table.Explanation.{Explanation}
-use Rattle.chip_engine.specs.Faults.{fault_of_resume}
-use Rattle.chip_engine.specs.FaultNumbers.{number_of, location_of}
-use Rattle.chip_engine.specs.PlainCommand.{plain_status}
+use Rattle.chip_command.specs.declared.table.Explanation.{Explanation}
+use Rattle.chip_command.specs.Faults.{fault_of_resume}
+use Rattle.chip_command.specs.FaultNumbers.{number_of, location_of}
+use Rattle.chip_command.specs.Reports.{plain_status}
 use Rattle.chip_engine.specs.ExplainCommand.{explanation}
-use Rattle.chip_engine.specs.declared.fault.Fault.TheVariants.{NotReport}
-use Rattle.chip_engine.specs.declared.fault.Location.TheVariants.{Nowhere, At}
+use Rattle.chip_command.specs.declared.fault.Fault.TheVariants.{NotReport}
+use Rattle.chip_command.specs.declared.fault.Location.TheVariants.{Nowhere, At}
 
 -- the triangle with five chips on vertex 0, which was stopped behind the counts 2, 1 and 0
 pub record WentOn (r : Resumed) : Type 0 where
@@ -53,8 +53,8 @@ RefusalsAreNumbered =
 
 -- a row that says what fault 6 is, and what to do
 pub record SaysLoop (row : Explanation) : Type 0 where
-  pub number : row.number ≡ 6
-  pub name : row.name.now ≡ codes "Loop"
+  pub number : row.code.number ≡ 6
+  pub name : row.code.name.now ≡ codes "Loop"
   pub letters : row.place.letters.now ≡ codes " i"
   pub reading : row.place.reading.now ≡ codes "i is an edge.\n"
   pub meaning : row.meaning.now ≡ codes "edge i is a loop"

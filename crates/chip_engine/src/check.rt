@@ -5,8 +5,7 @@ ghost use Rattle.std.specs.Option.{ForSome};
 ghost use Rattle.chip_graph.specs.Multigraph.{IsDistance, degree};
 ghost use Rattle.chip_engine.specs.CheckCommand.{CheckAnswers, IsShown, head_text, vertex_text};
 
-use crate::ended::{DONE, Ended};
-use crate::fault::Fault;
+use chip_command::{DONE, Ended, Fault};
 use chip_file::read_graph;
 use chip_graph::Graph;
 use chip_report::write_all_of;

@@ -4,9 +4,7 @@ ghost use Rattle.std.specs.Prelude.{◌≡◌, ◌++◌, IfOk, MatchResult, opti
 ghost use Rattle.chip_engine.specs.ExplainCommand.{ExplainAnswers, TellsNothing, explanation, line_text, row_text};
 ghost use Rattle.chip_engine.specs.ExplainCommand.{row_with, rows_of, table_text};
 
-use crate::ended::{DONE, Ended};
-use crate::fault::Fault;
-use chip_faults::Explanation;
+use chip_command::{DONE, Ended, Explanation, Fault};
 use chip_report::write_all_of;
 use std::alloc::{AllocError, Global};
 use std::io::Write;
@@ -47,7 +45,7 @@ fn row_of<'a>(table: &[&'a Explanation], number: u64) -> Option<&'a Explanation>
     ensures { option_map (λ row. row.now) result ≡ row_with (rows_of table.now) number }
 {
     for row in table {
-        if row.number == number {
+        if row.code.number == number {
             return Some(row);
         }
     }
@@ -85,6 +83,6 @@ fn push_line(text: &mut String, row: &Explanation) -> Result<(), AllocError>
     write!(
         text,
         "fault {} {}{}: {}\n",
-        row.number, row.name, row.place.letters, row.meaning
+        row.code.number, row.code.name, row.place.letters, row.meaning
     )
 }

@@ -1,17 +1,15 @@
 //! `plain`: the report of a game played on one thread.
 
-ghost use Rattle.std.specs.Prelude.{◌≡◌, IfOk};
+ghost use Rattle.std.specs.Prelude.{IfOk};
 ghost use Rattle.std.specs.Option.{ForSome};
-ghost use Rattle.chip_engine.specs.PlainCommand.{Reports, PlainAnswers, plain_status};
+ghost use Rattle.chip_engine.specs.PlainCommand.{PlainAnswers};
+ghost use Rattle.chip_command.specs.Reports.{Reports};
 
-use crate::ended::{DONE, Ended, HALTED};
-use crate::fault::Fault;
-use crate::inputs::read_game;
+use chip_command::{Ended, Fault, read_game, status_of};
 use chip_fire::{Unwatched, Watch, plain_watched};
 use chip_graph::Game;
-use chip_report::report::{is_closed, report};
+use chip_report::report::report;
 use chip_report::write_all_of;
-use chip_sequence::Outcome;
 use std::alloc::{AllocError, Global};
 use std::io::{Read, Write};
 
@@ -61,11 +59,4 @@ fn played<P: Watch>(alloc: Global, game: &Game, watch: &mut P) -> Result<(Vec<u8
     let outcome = plain_watched(alloc, game, watch)?;
     let text = report(alloc, &outcome)?;
     Ok((text, status_of(&outcome)))
-}
-
-/// The exit status that tells whether some vertex halted.
-pub fn status_of(outcome: &Outcome) -> u8
-    ensures { result ≡ plain_status outcome.now }
-{
-    if is_closed(outcome) { DONE } else { HALTED }
 }

@@ -5,9 +5,7 @@ ghost use Rattle.std.specs.Option.{ForSome};
 ghost use Rattle.chip_engine.specs.Lines.{lines_text};
 ghost use Rattle.chip_engine.specs.ReplayCommand.{GivesReplay, ReplayAnswers, firing_text};
 
-use crate::ended::{DONE, Ended};
-use crate::fault::Fault;
-use crate::inputs::read_game;
+use chip_command::{DONE, Ended, Fault, read_game};
 use chip_file::read_trace;
 use chip_graph::Game;
 use chip_report::write_all_of;

@@ -5,11 +5,9 @@ ghost use Rattle.std.specs.Option.{ForSome};
 ghost use Rattle.chip_graph.specs.Multigraph.{IsGraph};
 ghost use Rattle.chip_sequence.specs.Sittings.{IsResumed};
 ghost use Rattle.chip_engine.specs.ResumeCommand.{GivesSitting, RefusesToGoOn, ReportsOn, ResumeAnswers};
-ghost use Rattle.chip_engine.specs.declared.fault.Fault.TheVariants.{NoMemory};
+ghost use Rattle.chip_command.specs.declared.fault.Fault.TheVariants.{NoMemory};
 
-use crate::ended::Ended;
-use crate::fault::Fault;
-use crate::plain::status_of;
+use chip_command::{Ended, Fault, status_of};
 use chip_file::{read_graph, read_whole};
 use chip_fire::resume;
 use chip_graph::Graph;

@@ -6,22 +6,19 @@ ghost use Rattle.chip_part.specs.Setting.{Setting, setting_with};
 ghost use Rattle.chip_core.specs.Core.{Log, IsClosed, log_after};
 ghost use Rattle.chip_world.specs.World.{StandsForLog, WhateverLog};
 ghost use Rattle.chip_world.specs.declared.world.driving.Drive.TheVariants.{Closed};
-ghost use Rattle.chip_engine.specs.declared.fault.Fault.TheVariants.{NoMemory};
+ghost use Rattle.chip_command.specs.declared.fault.Fault.TheVariants.{NoMemory};
 ghost use Rattle.chip_engine.specs.SimulateCommand.{SimulateAnswers, Simulates, EndsClosed, EndsBy};
 ghost use Rattle.chip_engine.specs.SimulateCommand.{message_text, reply_text, answer_text, answers_text};
 
 use crate::board::push_board;
-use crate::ended::{Ended, OPEN};
-use crate::fault::Fault;
-use crate::inputs::read_game;
-use crate::plain::status_of;
+use chip_command::{Ended, Fault, OPEN, read_game, status_of};
 use chip_file::read_schedule;
 use chip_graph::{Game, Graph};
 use chip_link::{Event, Message, Ring};
 use chip_part::Reply;
 use chip_report::report::report;
 use chip_report::write_all_of;
-use chip_world::{Drive, World};
+use chip_world::{Drive, World, WorldFault};
 use std::alloc::{AllocError, Global};
 use std::io::{Read, Write};
 
@@ -146,10 +143,23 @@ fn closed(alloc: Global, world: &World) -> Result<(Vec<u8>, u8), Fault>
     ensures ok { IfOk result (λ made. WhateverLog world.now (λ g log. EndsClosed g log made.0.items made.1)) }
     ensures err { IfErr result (λ fault. fault ≡ NoMemory) }
 {
-    let outcome = world.outcome(alloc)?;
+    let outcome = match world.outcome(alloc) {
+        Ok(outcome) => outcome,
+        Err(fault) => return Err(fault_of_world(fault)),
+    };
     let mut end = Vec::from_slice(alloc, b"root closed\n")?;
     end.extend_from_slice(&report(alloc, &outcome)?)?;
     Ok((end, status_of(&outcome)))
+}
+
+/// The fault of a world that gives no outcome.
+fn fault_of_world(fault: WorldFault) -> Fault
+    ensures { result ≡ Rattle.chip_engine.specs.SimulateCommand.fault_of_world fault }
+{
+    match fault {
+        WorldFault::NotClosed => Fault::NotClosed,
+        WorldFault::NoMemory => Fault::NoMemory,
+    }
 }
 
 /// Appends the line of a reply, and the books after it where they are asked for.

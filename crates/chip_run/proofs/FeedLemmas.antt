@@ -5,8 +5,8 @@ use Rattle.std.proofs.lemmas.List.FromFn.{length-enumerate_from, get_or-enumerat
 use Rattle.std.proofs.lemmas.List.Elements.{filter_more}
 use Rattle.std.specs.Result.{IsErrAnd, MatchResult}
 use Rattle.chip_file.specs.declared.fault.FileFault.TheVariants as file_fault
-use Rattle.chip_engine.specs.declared.fault.Fault.{Fault}
-use Rattle.chip_engine.specs.declared.fault.Fault.TheVariants.{NoMemory}
+use Rattle.chip_command.specs.declared.fault.Fault.{Fault}
+use Rattle.chip_command.specs.declared.fault.Fault.TheVariants.{NoMemory}
 use Rattle.chip_run.specs.Feeding.{has_chips, RefusesFeeds}
 
 -- those of the first vertices

@@ -11,12 +11,12 @@ use Rattle.chip_net.specs.Tokens.{ActorKnown}
 use Rattle.chip_trace.specs.TraceText.{trace_text, WritesText}
 use Rattle.chip_trace.specs.declared.fault.TraceFault.{TraceFault}
 use Rattle.chip_trace.specs.declared.fault.TraceFault.TheVariants as trace
-use Rattle.chip_engine.specs.Faults.{fault_of_trace}
-use Rattle.chip_engine.specs.Inputs.{MeansGame}
-use Rattle.chip_engine.specs.declared.ended.Ended.{Ended}
-use Rattle.chip_engine.specs.declared.fault.Fault.{Fault}
-use Rattle.chip_engine.specs.declared.fault.Fault.TheVariants.{Write}
-use Rattle.chip_engine.proofs.EngineLemmas.{Keeps-same}
+use Rattle.chip_command.specs.Faults.{fault_of_trace}
+use Rattle.chip_command.specs.Inputs.{MeansGame}
+use Rattle.chip_command.specs.declared.ended.Ended.{Ended}
+use Rattle.chip_command.specs.declared.fault.Fault.{Fault}
+use Rattle.chip_command.specs.declared.fault.Fault.TheVariants.{Write}
+use Rattle.chip_command.proofs.InputLemmas.{Keeps-same}
 use Rattle.chip_crew.specs.Finished.{IsFaultOf, IsFedFaultOf}
 use Rattle.chip_crew.specs.declared.fault.CrewFault.{CrewFault}
 use Rattle.chip_crew.specs.declared.fault.CrewFault.TheVariants as crew

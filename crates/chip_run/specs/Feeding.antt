@@ -6,8 +6,8 @@ use Rattle.std.specs.Option.{ForSome}
 use Rattle.chip_graph.specs.ChipGame.{ChipGame}
 use Rattle.chip_graph.specs.More.{HasMore}
 use Rattle.chip_file.specs.ChipsText.{chips_of_text, chips_text_fault}
-use Rattle.chip_engine.specs.Inputs.{Reads, MeansGame, RefusesInputs, RefusesText}
-use Rattle.chip_engine.specs.declared.fault.Fault.{Fault}
+use Rattle.chip_command.specs.Inputs.{Reads, MeansGame, RefusesInputs, RefusesText}
+use Rattle.chip_command.specs.declared.fault.Fault.{Fault}
 
 -- whether a vertex, with how many chips it has, has any
 abbrev pub has_chips : ℕ × ℕ → Bool

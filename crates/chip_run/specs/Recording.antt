@@ -7,8 +7,8 @@ use Rattle.chip_net.specs.Tokens.{ActorKnown}
 use Rattle.chip_net.specs.Traces.{rows_of}
 use Rattle.chip_trace.specs.TraceText.{trace_text, WritesText}
 use Rattle.chip_trace.specs.declared.fault.TraceFault.TheVariants as trace
-use Rattle.chip_engine.specs.declared.fault.Fault.{Fault}
-use Rattle.chip_engine.specs.declared.fault.Fault.TheVariants as fault
+use Rattle.chip_command.specs.declared.fault.Fault.{Fault}
+use Rattle.chip_command.specs.declared.fault.Fault.TheVariants as fault
 
 -- the takes and firings of an actor for which it had room
 abbrev pub rows_kept : ActorKnown → List TraceRow

@@ -13,10 +13,10 @@ use Rattle.chip_net.specs.Tokens.{ActorKnown}
 use Rattle.chip_crew.specs.declared.plan.Plan.{Plan}
 use Rattle.chip_crew.specs.declared.fault.CrewFault.{CrewFault}
 use Rattle.chip_crew.specs.declared.fault.CrewFault.TheVariants as crew
-use Rattle.chip_engine.specs.PlainCommand.{Reports}
-use Rattle.chip_engine.specs.declared.ended.Ended.{Ended}
-use Rattle.chip_engine.specs.declared.fault.Fault.{Fault}
-use Rattle.chip_engine.specs.declared.fault.Fault.TheVariants as fault
+use Rattle.chip_command.specs.Reports.{Reports}
+use Rattle.chip_command.specs.declared.ended.Ended.{Ended}
+use Rattle.chip_command.specs.declared.fault.Fault.{Fault}
+use Rattle.chip_command.specs.declared.fault.Fault.TheVariants as fault
 use Rattle.chip_run.specs.Feeding.{MeansFedGame, RefusesFedGame, IsWhole}
 use Rattle.chip_run.specs.Recording.{RecordsIfAsked, FailsToRecord}
 

@@ -4,7 +4,7 @@ ghost use Rattle.std.specs.Prelude.{◌≡◌, IfOk, MatchResult, option_map};
 ghost use Rattle.std.specs.Option.{ForSome};
 ghost use Rattle.chip_run.specs.Feeding.{ForText, MeansFeeds, MeansFed, RefusesFeeds, RefusesFed};
 
-use chip_engine::Fault;
+use chip_command::Fault;
 use chip_file::read_chips;
 use std::alloc::{AllocError, Global};
 use std::io::Read;

@@ -3,7 +3,7 @@
 ghost use Rattle.std.specs.Prelude.{Some, option_map, IfOk, IfErr, MatchResult};
 ghost use Rattle.chip_run.specs.Recording.{Records, RecordsIfAsked, FailsToRecord};
 
-use chip_engine::Fault;
+use chip_command::Fault;
 use chip_net::Actor;
 use chip_trace::write_trace;
 use std::alloc::Global;

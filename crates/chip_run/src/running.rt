@@ -3,14 +3,14 @@
 ghost use Rattle.std.specs.Prelude.{◌≡◌, ℕ, None, option_map, IfOk, IfErr};
 ghost use Rattle.std.specs.Option.{ForSome};
 ghost use Rattle.chip_report.specs.ReportText.{report_text};
-ghost use Rattle.chip_engine.specs.PlainCommand.{plain_status};
+ghost use Rattle.chip_command.specs.Reports.{plain_status};
 ghost use Rattle.chip_run.specs.Feeding.{ForText};
 ghost use Rattle.chip_run.specs.RunCommand.{RunAnswers, Finishes, Plays, StopsCrew, IsNotPlayed, plan_of};
 
 use crate::feeding::read_fed;
 use crate::recording::recorded;
 use chip_crew::{CrewFault, Finished, Gate, Plan, run, run_fed};
-use chip_engine::{Ended, Fault, read_game, status_of};
+use chip_command::{Ended, Fault, read_game, status_of};
 use chip_graph::{Game, GameFault};
 use chip_net::Actor;
 use chip_report::report::report;

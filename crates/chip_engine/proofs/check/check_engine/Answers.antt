@@ -1,9 +1,10 @@
 use Rattle.std.proofs.Common.{inl, inr, refl, Ok, sym, subst}
 use Rattle.chip_file.specs.Answer.{Answers}
 use Rattle.chip_file.specs.GraphText.{MeansGraph, IsGraphTextFault}
-use Rattle.chip_engine.specs.Inputs.{IsRefused}
+use Rattle.chip_command.specs.Inputs.{IsRefused}
 use Rattle.chip_engine.specs.CheckCommand.{IsShown}
-use Rattle.chip_engine.proofs.EngineLemmas.{at_some, refused_check, failed_check}
+use Rattle.chip_command.proofs.InputLemmas.{at_some}
+use Rattle.chip_engine.proofs.EngineLemmas.{refused_check, failed_check}
 use Rattle.chip_engine.proofs.check.check_engine.Goals as goal
 
 pub returns-in_err-graph : goal.returns-in_err-graph

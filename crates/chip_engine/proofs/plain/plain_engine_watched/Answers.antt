@@ -1,6 +1,6 @@
 use Rattle.std.proofs.Common.{List, ℕ, inl, inr, refl, sym, subst}
-use Rattle.chip_engine.specs.Inputs.{RefusesInputs}
-use Rattle.chip_engine.specs.PlainCommand.{Reports}
+use Rattle.chip_command.specs.Inputs.{RefusesInputs}
+use Rattle.chip_command.specs.Reports.{Reports}
 use Rattle.chip_engine.proofs.EngineLemmas.{refused_plain, failed_plain}
 use Rattle.chip_engine.proofs.plain.plain_engine_watched.Goals as goal
 

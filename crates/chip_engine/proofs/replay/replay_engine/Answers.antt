@@ -1,8 +1,8 @@
 use Rattle.std.proofs.Common.{◌≡◌, ◌⊎◌, inl, refl, sym, subst}
-use Rattle.chip_engine.specs.Inputs.{RefusesInputs}
+use Rattle.chip_command.specs.Inputs.{RefusesInputs}
 use Rattle.chip_engine.specs.ReplayCommand.{MeansTraces, AreReplayed, RefusesReplay}
-use Rattle.chip_engine.specs.declared.fault.Fault.{Fault}
-use Rattle.chip_engine.specs.declared.fault.Fault.TheVariants.{NoMemory}
+use Rattle.chip_command.specs.declared.fault.Fault.{Fault}
+use Rattle.chip_command.specs.declared.fault.Fault.TheVariants.{NoMemory}
 use Rattle.chip_engine.proofs.EngineLemmas.{refused_replay, refused_traces, failed_replay}
 use Rattle.chip_engine.proofs.replay.replay_engine.Goals as goal
 

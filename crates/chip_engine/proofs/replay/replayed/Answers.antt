@@ -4,10 +4,11 @@ use Rattle.chip_link.specs.declared.trace.TraceRow.{TraceRow}
 use Rattle.chip_file.specs.Answer.{Answers}
 use Rattle.chip_file.specs.TraceText.{traces_of_text, trace_text_fault}
 use Rattle.chip_trace.specs.Replay.{AreFirings, IsReplayFault}
-use Rattle.chip_engine.specs.Inputs.{IsRefused, Reads}
+use Rattle.chip_command.specs.Inputs.{IsRefused, Reads}
 use Rattle.chip_engine.specs.Lines.{lines_text}
 use Rattle.chip_engine.specs.ReplayCommand.{firing_text}
-use Rattle.chip_engine.proofs.EngineLemmas.{at_some, refused_stuck, refused_lines}
+use Rattle.chip_command.proofs.InputLemmas.{at_some}
+use Rattle.chip_engine.proofs.EngineLemmas.{refused_stuck, refused_lines}
 use Rattle.chip_engine.proofs.replay.replayed.Goals as goal
 
 pub replay-requires : goal.replay-requires

@@ -2,7 +2,7 @@ use Rattle.std.proofs.Common.{◌≡◌, ◌⊎◌, ℕ, List, Ok, ◌∙◌, su
 use Rattle.chip_file.specs.Answer.{Answers}
 use Rattle.chip_report.specs.ReportTwo.{IsNoReportAtAll}
 use Rattle.chip_report.specs.declared.fault.ReportFault.TheVariants as report_fault
-use Rattle.chip_engine.proofs.EngineLemmas.{at_some}
+use Rattle.chip_command.proofs.InputLemmas.{at_some}
 use Rattle.chip_engine.proofs.SittingLemmas.{resumed_of_report, refused_sitting, refused_report}
 use Rattle.chip_engine.proofs.resume.read_sitting.Goals as goal
 

@@ -2,7 +2,7 @@ use Rattle.std.proofs.Common.{List, ℕ, Ok, Err, inl, inr, refl, sym, subst}
 use Rattle.chip_file.specs.Answer.{Answers}
 use Rattle.chip_file.specs.GraphText.{MeansGraph, IsGraphTextFault}
 use Rattle.chip_engine.specs.ResumeCommand.{MeansSitting, ReportsOn, RefusesReport}
-use Rattle.chip_engine.proofs.EngineLemmas.{at_some}
+use Rattle.chip_command.proofs.InputLemmas.{at_some}
 use Rattle.chip_engine.proofs.SittingLemmas.{refused_resume, refused_going, failed_resume}
 use Rattle.chip_engine.proofs.resume.resume_engine.Goals as goal
 

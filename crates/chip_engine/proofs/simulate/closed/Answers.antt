@@ -4,18 +4,18 @@ use Rattle.chip_engine.proofs.simulate.closed.Goals as goal
 
 pub returns-clause-ok : goal.returns-clause-ok
 returns-clause-ok c = λ g log stands. record {
-  outcome = c.in_ok-outcome.outcome;
-  outcome_is = c.in_ok-outcome.ensures.outcome g log stands;
-  reportable = c.in_ok-outcome.ensures.in_range;
-  comes = c.in_ok-outcome.ensures.comes g log stands;
+  outcome = c.in-Ok.outcome;
+  outcome_is = c.in-Ok.ensures.outcome g log stands;
+  reportable = c.in-Ok.ensures.in_range;
+  comes = c.in-Ok.ensures.comes g log stands;
   reported =
       c.in_ok-extend_from_slice.ensures.items
       ∙ ap (λ (t : List ℕ). c.in_ok-end.end.items ++ t) (c.deref.ensures.value ∙ c.in_ok-report.ensures)
-      ∙ ap (λ (t : List ℕ). t ++ report_text c.in_ok-outcome.outcome) c.in_ok-end.ensures.items;
+      ∙ ap (λ (t : List ℕ). t ++ report_text c.in-Ok.outcome) c.in_ok-end.ensures.items;
   status_is = c.status_of.ensures;
   plays = λ none. (
-    c.in_ok-outcome.outcome,
-    c.in_ok-outcome.ensures.played g log stands none,
+    c.in-Ok.outcome,
+    c.in-Ok.ensures.played g log stands none,
     refl,
     c.status_of.ensures,
   );

@@ -6,9 +6,10 @@ use Rattle.chip_graph.specs.Multigraph.{Multigraph}
 use Rattle.chip_link.specs.declared.event.Event.{Event}
 use Rattle.chip_file.specs.Answer.{Answers}
 use Rattle.chip_file.specs.ScheduleText.{schedule_of_text, schedule_text_fault}
-use Rattle.chip_engine.specs.Inputs.{IsRefused, RefusesInputs}
+use Rattle.chip_command.specs.Inputs.{IsRefused, RefusesInputs}
 use Rattle.chip_engine.specs.SimulateCommand.{MeansEvents, Simulates}
-use Rattle.chip_engine.proofs.EngineLemmas.{at_some, refused_simulate, failed_simulate, means_events}
+use Rattle.chip_command.proofs.InputLemmas.{at_some}
+use Rattle.chip_engine.proofs.EngineLemmas.{refused_simulate, failed_simulate, means_events}
 use Rattle.chip_engine.proofs.simulate.simulate_engine.Goals as goal
 
 pub returns-in_err-game : goal.returns-in_err-game

@@ -1,7 +1,7 @@
 use Rattle.std.proofs.Common.{◌∙◌, ℕ, ap, List, Option, option_map, inl, inr, refl, sym, subst}
 use Rattle.chip_graph.specs.Multigraph.{Multigraph}
 use Rattle.chip_crew.specs.declared.plan.Plan.{Plan}
-use Rattle.chip_engine.specs.Inputs.{RefusesInputs}
+use Rattle.chip_command.specs.Inputs.{RefusesInputs}
 use Rattle.chip_run.specs.Feeding.{RefusesFed}
 use Rattle.chip_run.specs.Recording.{FailsToRecord}
 use Rattle.chip_run.specs.RunCommand.{IsNotPlayed}

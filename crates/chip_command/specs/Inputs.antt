@@ -9,9 +9,9 @@ use Rattle.chip_file.specs.GraphText.{MeansGraph, IsGraphTextFault}
 use Rattle.chip_file.specs.ChipsText.{chips_of_text, chips_text_fault}
 use Rattle.chip_file.specs.declared.fault.FileFault.{FileFault}
 use Rattle.chip_file.specs.declared.fault.FileFault.TheVariants as file_fault
-use Rattle.chip_engine.specs.Faults.{fault_of_file}
-use Rattle.chip_engine.specs.declared.fault.Fault.{Fault}
-use Rattle.chip_engine.specs.declared.fault.Fault.TheVariants.{Game}
+use Rattle.chip_command.specs.Faults.{fault_of_file}
+use Rattle.chip_command.specs.declared.fault.Fault.{Fault}
+use Rattle.chip_command.specs.declared.fault.Fault.TheVariants.{Game}
 
 -- a text has no more bytes than are read, and this meaning
 abbrev pub Reads : List ℕ → Type 0 → Type 0

@@ -1,4 +1,6 @@
-//! The table of faults: the number and the name of each, what it means, and what to do.
+//! The table of faults: what each means, and what to do.
+
+use crate::code::Code;
 
 /// What the numbers behind a fault's name are.
 #[derive(Clone, Copy)]
@@ -79,8 +81,7 @@ n is how many messages of the root were not acknowledged yet.
 /// A row of the table.
 #[derive(Clone, Copy)]
 pub struct Explanation {
-    pub number: u64,
-    pub name: &'static str,
+    pub code: Code,
     /// What the numbers behind the name are.
     pub place: Place,
     /// What is wrong, on one line.
@@ -90,8 +91,7 @@ pub struct Explanation {
 }
 
 pub static VERTICES: Explanation = Explanation {
-    number: 1,
-    name: "Vertices",
+    code: Code::VERTICES,
     place: Place::NOWHERE,
     meaning: "the graph has no vertices, or more than 4096",
     advice: "\
@@ -101,8 +101,7 @@ from 0 on.
 };
 
 pub static SINK: Explanation = Explanation {
-    number: 2,
-    name: "Sink",
+    code: Code::SINK,
     place: Place::NOWHERE,
     meaning: "the sink is no vertex",
     advice: "\
@@ -112,8 +111,7 @@ than \"vertices\".
 };
 
 pub static EDGE_COUNT: Explanation = Explanation {
-    number: 3,
-    name: "EdgeCount",
+    code: Code::EDGE_COUNT,
     place: Place::NOWHERE,
     meaning: "the graph has more than 65536 edges",
     advice: "\
@@ -123,8 +121,7 @@ theirs: the same game is played on it.
 };
 
 pub static ENDPOINT: Explanation = Explanation {
-    number: 4,
-    name: "Endpoint",
+    code: Code::ENDPOINT,
     place: Place::EDGE,
     meaning: "an end of edge i is no vertex",
     advice: "\
@@ -134,8 +131,7 @@ A row is [tail, head, mult]; tail and head are numbers from 0 to one less than
 };
 
 pub static MULT: Explanation = Explanation {
-    number: 5,
-    name: "Mult",
+    code: Code::MULT,
     place: Place::EDGE,
     meaning: "edge i sends no chips, or more than 1048576",
     advice: "\
@@ -145,8 +141,7 @@ head, 1 to 1048576. Leave out an edge that sends none.
 };
 
 pub static LOOP: Explanation = Explanation {
-    number: 6,
-    name: "Loop",
+    code: Code::LOOP,
     place: Place::EDGE,
     meaning: "edge i goes back into its own tail",
     advice: "\
@@ -156,8 +151,7 @@ played here.
 };
 
 pub static FROM_SINK: Explanation = Explanation {
-    number: 7,
-    name: "FromSink",
+    code: Code::FROM_SINK,
     place: Place::EDGE,
     meaning: "edge i leaves the sink",
     advice: "\
@@ -167,8 +161,7 @@ directions has an edge each way between two vertices, but none out of its sink.
 };
 
 pub static UNREACHED: Explanation = Explanation {
-    number: 8,
-    name: "Unreached",
+    code: Code::UNREACHED,
     place: Place::VERTEX,
     meaning: "no walk leads from vertex v to the sink",
     advice: "\
@@ -179,8 +172,7 @@ sink: add an edge, or leave the vertex out.
 };
 
 pub static START_LENGTH: Explanation = Explanation {
-    number: 9,
-    name: "StartLength",
+    code: Code::START_LENGTH,
     place: Place::NOWHERE,
     meaning: "the chips are not one number for each vertex",
     advice: "\
@@ -190,8 +182,7 @@ that name their vertices.
 };
 
 pub static TOTAL: Explanation = Explanation {
-    number: 10,
-    name: "Total",
+    code: Code::TOTAL,
     place: Place::NOWHERE,
     meaning: "there are more than 1099511627776 chips in all",
     advice: "\
@@ -201,8 +192,7 @@ those of the file of `--feed`.
 };
 
 pub static LIMIT: Explanation = Explanation {
-    number: 11,
-    name: "Limit",
+    code: Code::LIMIT,
     place: Place::NOWHERE,
     meaning: "the firing limit is above 1099511627776",
     advice: "\
@@ -212,8 +202,7 @@ is fault 91.
 };
 
 pub static NOT_JSON: Explanation = Explanation {
-    number: 20,
-    name: "NotJson",
+    code: Code::NOT_JSON,
     place: Place::NOWHERE,
     meaning: "the graph file is no JSON",
     advice: "\
@@ -225,8 +214,7 @@ graph is refused so too: the graph comes first.
 };
 
 pub static SHAPE: Explanation = Explanation {
-    number: 21,
-    name: "Shape",
+    code: Code::SHAPE,
     place: Place::NOWHERE,
     meaning: "the JSON is no graph",
     advice: "\
@@ -239,8 +227,7 @@ writes one, but has a sign, a point, an exponent or quotes (-1, 1.0, 1e3, \"2\")
 };
 
 pub static VERSION: Explanation = Explanation {
-    number: 22,
-    name: "Version",
+    code: Code::VERSION,
     place: Place::NOWHERE,
     meaning: "the version of the graph file is not 1",
     advice: "\
@@ -249,8 +236,7 @@ pub static VERSION: Explanation = Explanation {
 };
 
 pub static HEADER: Explanation = Explanation {
-    number: 23,
-    name: "Header",
+    code: Code::HEADER,
     place: Place::NOWHERE,
     meaning: "a file of rows does not begin with its header",
     advice: "\
@@ -264,8 +250,7 @@ command tells the order.
 };
 
 pub static ROW: Explanation = Explanation {
-    number: 24,
-    name: "Row",
+    code: Code::ROW,
     place: Place::ROW,
     meaning: "row i has not as many fields as the header",
     advice: "\
@@ -275,8 +260,7 @@ commas between them and none at the end.
 };
 
 pub static NUMBER: Explanation = Explanation {
-    number: 25,
-    name: "Number",
+    code: Code::NUMBER,
     place: Place::ROW,
     meaning: "a field of row i is no number",
     advice: "\
@@ -287,8 +271,7 @@ looks at has to be one, as the count of a take.
 };
 
 pub static VERTEX: Explanation = Explanation {
-    number: 26,
-    name: "Vertex",
+    code: Code::VERTEX,
     place: Place::ROW,
     meaning: "row i names a vertex or an edge that is not there",
     advice: "\
@@ -299,8 +282,7 @@ for each vertex: with m edges, m + v brings vertex v its first chips.
 };
 
 pub static REPEATED: Explanation = Explanation {
-    number: 27,
-    name: "Repeated",
+    code: Code::REPEATED,
     place: Place::ROW,
     meaning: "row i names a vertex that an earlier row named",
     advice: "\
@@ -310,8 +292,7 @@ names has none.
 };
 
 pub static KIND: Explanation = Explanation {
-    number: 28,
-    name: "Kind",
+    code: Code::KIND,
     place: Place::ROW,
     meaning: "row i is of no kind that there is",
     advice: "\
@@ -321,8 +302,7 @@ read; in a trace the second is take or fire. Small letters, and no spaces.
 };
 
 pub static READ: Explanation = Explanation {
-    number: 29,
-    name: "Read",
+    code: Code::READ,
     place: Place::NOWHERE,
     meaning: "a file could be opened and not read",
     advice: "\
@@ -331,8 +311,7 @@ That is so of a folder. Else the system refused a read: try again, or copy the f
 };
 
 pub static TOO_LONG: Explanation = Explanation {
-    number: 30,
-    name: "TooLong",
+    code: Code::TOO_LONG,
     place: Place::NOWHERE,
     meaning: "a file has more than 16777216 bytes",
     advice: "\
@@ -342,8 +321,7 @@ written without spaces.
 };
 
 pub static NOT_CLOSED: Explanation = Explanation {
-    number: 42,
-    name: "NotClosed",
+    code: Code::NOT_CLOSED,
     place: Place::NOWHERE,
     meaning: "the root is not closed, so there is no outcome",
     advice: "\
@@ -352,8 +330,7 @@ Only callers of the library chip_world meet this. `simulate` says `root open` in
 };
 
 pub static NOT_REPORT: Explanation = Explanation {
-    number: 50,
-    name: "NotReport",
+    code: Code::NOT_REPORT,
     place: Place::NOWHERE,
     meaning: "the file is no report",
     advice: "\
@@ -365,8 +342,7 @@ alone is the report.
 };
 
 pub static PRIOR: Explanation = Explanation {
-    number: 51,
-    name: "Prior",
+    code: Code::PRIOR,
     place: Place::VERTEX,
     meaning: "vertex v fired more than 1152921504606846976 times in all sittings",
     advice: "\
@@ -376,8 +352,7 @@ chips is the same position.
 };
 
 pub static MISMATCH: Explanation = Explanation {
-    number: 52,
-    name: "Mismatch",
+    code: Code::MISMATCH,
     place: Place::NOWHERE,
     meaning: "the report has another number of vertices than the graph",
     advice: "\
@@ -387,8 +362,7 @@ so name the graph file that the earlier command had.
 };
 
 pub static PLAN: Explanation = Explanation {
-    number: 60,
-    name: "Plan",
+    code: Code::PLAN,
     place: Place::NOWHERE,
     meaning: "a number of the plan for the threads is out of its range",
     advice: "\
@@ -399,8 +373,7 @@ tests its options itself, so this comes from programs that call the engine.
 };
 
 pub static UNFINISHED: Explanation = Explanation {
-    number: 61,
-    name: "Unfinished",
+    code: Code::UNFINISHED,
     place: Place::MESSAGES,
     meaning: "the threads made all their turns before the game was over",
     advice: "\
@@ -411,8 +384,7 @@ Allow more turns by `--turns`, or leave the option away.
 };
 
 pub static GATE_SHUT: Explanation = Explanation {
-    number: 62,
-    name: "GateShut",
+    code: Code::GATE_SHUT,
     place: Place::NOWHERE,
     meaning: "a worker was not let into its next turn",
     advice: "\
@@ -422,8 +394,7 @@ does.
 };
 
 pub static LOST: Explanation = Explanation {
-    number: 63,
-    name: "Lost",
+    code: Code::LOST,
     place: Place::VERTEX,
     meaning: "the actor of a vertex was not there when the threads had ended",
     advice: "\
@@ -432,8 +403,7 @@ This should not happen: it is a mistake of the program. Please report it, with t
 };
 
 pub static DOUBLED: Explanation = Explanation {
-    number: 64,
-    name: "Doubled",
+    code: Code::DOUBLED,
     place: Place::VERTEX,
     meaning: "there were two actors of a vertex when the threads had ended",
     advice: "\
@@ -442,8 +412,7 @@ This should not happen: it is a mistake of the program. Please report it, with t
 };
 
 pub static SPAWN: Explanation = Explanation {
-    number: 65,
-    name: "Spawn",
+    code: Code::SPAWN,
     place: Place::NOWHERE,
     meaning: "a thread could not be started",
     advice: "\
@@ -453,8 +422,7 @@ The system allows no more threads, or has no memory for another. Try fewer by
 };
 
 pub static STUCK: Explanation = Explanation {
-    number: 70,
-    name: "Stuck",
+    code: Code::STUCK,
     place: Place::TRACE_ROW,
     meaning: "the rows of a trace fit together in no order",
     advice: "\
@@ -466,8 +434,7 @@ trace of other chips, of another graph or limit, or one that was cut is refused 
 };
 
 pub static NO_MEMORY: Explanation = Explanation {
-    number: 90,
-    name: "NoMemory",
+    code: Code::NO_MEMORY,
     place: Place::NOWHERE,
     meaning: "memory ran out",
     advice: "\
@@ -476,8 +443,7 @@ Nothing was written. Let the process have more memory, or give it smaller files.
 };
 
 pub static USAGE: Explanation = Explanation {
-    number: 91,
-    name: "Usage",
+    code: Code::USAGE,
     place: Place::NOWHERE,
     meaning: "the arguments are no command",
     advice: "\
@@ -488,8 +454,7 @@ has not, an option given twice, a number out of its range, a name that is no UTF
 };
 
 pub static OPEN: Explanation = Explanation {
-    number: 92,
-    name: "Open",
+    code: Code::OPEN,
     place: Place::ARGUMENT,
     meaning: "the file that argument n names could not be opened",
     advice: "\
@@ -499,8 +464,7 @@ program was started.
 };
 
 pub static WRITE: Explanation = Explanation {
-    number: 93,
-    name: "Write",
+    code: Code::WRITE,
     place: Place::BYTES,
     meaning: "the output could not be written to its end",
     advice: "\

@@ -3,9 +3,9 @@ use Rattle.chip_graph.specs.ChipGame.{ChipGame}
 use Rattle.chip_file.specs.Answer.{Answers}
 use Rattle.chip_file.specs.GraphText.{MeansGraph, IsGraphTextFault}
 use Rattle.chip_file.specs.ChipsText.{chips_of_text, chips_text_fault}
-use Rattle.chip_engine.specs.Inputs.{IsRefused, MeansGame}
-use Rattle.chip_engine.proofs.EngineLemmas.{at_some, refused_game, named_game, means_game}
-use Rattle.chip_engine.proofs.inputs.read_game.Goals as goal
+use Rattle.chip_command.specs.Inputs.{IsRefused, MeansGame}
+use Rattle.chip_command.proofs.InputLemmas.{at_some, refused_game, named_game, means_game}
+use Rattle.chip_command.proofs.inputs.read_game.Goals as goal
 
 pub returns-in_err-graph : goal.returns-in_err-graph
 returns-in_err-graph g c = λ graph_text graph_is chips_text chips_is.

@@ -1,3 +1,11 @@
+//! How a command ended that wrote its output.
+
+ghost use Rattle.std.specs.Prelude.{◌≡◌};
+ghost use Rattle.chip_command.specs.Reports.{plain_status};
+
+use chip_report::report::is_closed;
+use chip_sequence::Outcome;
+
 /// The exit status of a command that did all it was to do; of a game, that it closed and no vertex halted.
 pub const DONE: u8 = 0;
 /// The exit status of a command that failed.
@@ -14,4 +22,11 @@ pub struct Ended {
     pub status: u8,
     /// Whether a trace that was asked for was cut.
     pub cut: bool,
+}
+
+/// The exit status that tells whether some vertex halted.
+pub fn status_of(outcome: &Outcome) -> u8
+    ensures { result ≡ plain_status outcome.now }
+{
+    if is_closed(outcome) { DONE } else { HALTED }
 }

@@ -1,19 +1,18 @@
 //! What can go wrong with a command, and the line under which it is printed.
 
 ghost use Rattle.std.specs.Prelude.{◌≡◌};
-ghost use Rattle.chip_engine.specs.FaultNumbers.{number_of_graph_fault, number_of_game_fault, number_of_file_fault};
-ghost use Rattle.chip_engine.specs.FaultNumbers.{number_of_resume_fault, location_of_resume_fault};
-ghost use Rattle.chip_engine.specs.FaultNumbers.{location_of_graph_fault, location_of_file_fault};
-ghost use Rattle.chip_engine.specs.declared.fault.Location.TheVariants.{Nowhere};
+ghost use Rattle.chip_command.specs.FaultNumbers.{number_of_graph_fault, number_of_game_fault, number_of_file_fault};
+ghost use Rattle.chip_command.specs.FaultNumbers.{number_of_resume_fault, location_of_resume_fault};
+ghost use Rattle.chip_command.specs.FaultNumbers.{location_of_graph_fault, location_of_file_fault};
+ghost use Rattle.chip_command.specs.declared.fault.Location.TheVariants.{Nowhere};
 
+use crate::code::Code;
 use crate::ended::{FAILED, OPEN};
-use chip_faults::{Explanation, table};
 use chip_file::FileFault;
 use chip_fire::ResumeFault;
 use chip_graph::{GameFault, GraphFault};
 use chip_report::{ReportFault, WriteFault};
 use chip_trace::{ReplayFault, TraceFault};
-use chip_world::WorldFault;
 use std::alloc::{AllocError, AllocFailed};
 use std::fmt;
 use thiserror::Error;
@@ -67,7 +66,7 @@ impl std::error::Error for Fault {}
 
 impl From<FileFault> for Fault {
     ghost use Rattle.std.specs.Prelude.{◌≡◌};
-    ghost use Rattle.chip_engine.specs.Faults.{fault_of_file};
+    ghost use Rattle.chip_command.specs.Faults.{fault_of_file};
 
     ghost from_gives = { λ file fault. fault ≡ fault_of_file file };
 
@@ -81,7 +80,7 @@ impl From<FileFault> for Fault {
 
 impl From<GameFault> for Fault {
     ghost use Rattle.std.specs.Prelude.{◌≡◌};
-    ghost use Rattle.chip_engine.specs.declared.fault.Fault.TheVariants.{Game};
+    ghost use Rattle.chip_command.specs.declared.fault.Fault.TheVariants.{Game};
 
     ghost from_gives = { λ game fault. fault ≡ Game game };
 
@@ -92,7 +91,7 @@ impl From<GameFault> for Fault {
 
 impl From<ReportFault> for Fault {
     ghost use Rattle.std.specs.Prelude.{◌≡◌};
-    ghost use Rattle.chip_engine.specs.Faults.{fault_of_report};
+    ghost use Rattle.chip_command.specs.Faults.{fault_of_report};
 
     ghost from_gives = { λ report fault. fault ≡ fault_of_report report };
 
@@ -106,7 +105,7 @@ impl From<ReportFault> for Fault {
 
 impl From<ResumeFault> for Fault {
     ghost use Rattle.std.specs.Prelude.{◌≡◌};
-    ghost use Rattle.chip_engine.specs.Faults.{fault_of_resume};
+    ghost use Rattle.chip_command.specs.Faults.{fault_of_resume};
 
     ghost from_gives = { λ resume fault. fault ≡ fault_of_resume resume };
 
@@ -120,7 +119,7 @@ impl From<ResumeFault> for Fault {
 
 impl From<ReplayFault> for Fault {
     ghost use Rattle.std.specs.Prelude.{◌≡◌};
-    ghost use Rattle.chip_engine.specs.Faults.{fault_of_replay};
+    ghost use Rattle.chip_command.specs.Faults.{fault_of_replay};
 
     ghost from_gives = { λ replay fault. fault ≡ fault_of_replay replay };
 
@@ -134,7 +133,7 @@ impl From<ReplayFault> for Fault {
 
 impl From<TraceFault> for Fault {
     ghost use Rattle.std.specs.Prelude.{◌≡◌};
-    ghost use Rattle.chip_engine.specs.Faults.{fault_of_trace};
+    ghost use Rattle.chip_command.specs.Faults.{fault_of_trace};
 
     ghost from_gives = { λ trace fault. fault ≡ fault_of_trace trace };
 
@@ -146,23 +145,9 @@ impl From<TraceFault> for Fault {
     }
 }
 
-impl From<WorldFault> for Fault {
-    ghost use Rattle.std.specs.Prelude.{◌≡◌};
-    ghost use Rattle.chip_engine.specs.Faults.{fault_of_world};
-
-    ghost from_gives = { λ world fault. fault ≡ fault_of_world world };
-
-    fn from(fault: WorldFault) -> Fault {
-        match fault {
-            WorldFault::NotClosed => Fault::NotClosed,
-            WorldFault::NoMemory => Fault::NoMemory,
-        }
-    }
-}
-
 impl From<WriteFault> for Fault {
     ghost use Rattle.std.specs.Prelude.{◌≡◌};
-    ghost use Rattle.chip_engine.specs.declared.fault.Fault.TheVariants.{Write};
+    ghost use Rattle.chip_command.specs.declared.fault.Fault.TheVariants.{Write};
 
     ghost from_gives = { λ write fault. fault ≡ Write write };
 
@@ -173,7 +158,7 @@ impl From<WriteFault> for Fault {
 
 impl From<AllocError> for Fault {
     ghost use Rattle.std.specs.Prelude.{◌≡◌};
-    ghost use Rattle.chip_engine.specs.declared.fault.Fault.TheVariants.{NoMemory};
+    ghost use Rattle.chip_command.specs.declared.fault.Fault.TheVariants.{NoMemory};
 
     ghost from_gives = { λ _ fault. fault ≡ NoMemory };
 
@@ -184,7 +169,7 @@ impl From<AllocError> for Fault {
 
 impl<T: Drop> From<AllocFailed<T>> for Fault {
     ghost use Rattle.std.specs.Prelude.{◌≡◌};
-    ghost use Rattle.chip_engine.specs.declared.fault.Fault.TheVariants.{NoMemory};
+    ghost use Rattle.chip_command.specs.declared.fault.Fault.TheVariants.{NoMemory};
 
     ghost from_gives = { λ _ fault. fault ≡ NoMemory };
 
@@ -204,7 +189,7 @@ pub enum Location {
 
 impl fmt::Display for Location {
     ghost use Rattle.std.specs.Prelude.{Some};
-    ghost use Rattle.chip_engine.specs.FaultNumbers.{location_text};
+    ghost use Rattle.chip_command.specs.FaultNumbers.{location_text};
 
     ghost output = { λ location. Some (location_text location) };
 
@@ -226,87 +211,111 @@ pub struct FaultLine {
     pub location: Location,
 }
 
-/// The line of a fault that is there, with the number and the name of its row of the table.
-fn line(row: Explanation, location: Location) -> FaultLine
-    ensures { (result.number ≡ row.number) × (result.location ≡ location) }
+/// The code of a fault of a graph.
+fn code_of_graph(fault: &GraphFault) -> Code
+    ensures { result.number ≡ number_of_graph_fault fault.now }
 {
-    FaultLine {
-        number: row.number,
-        name: row.name,
-        location,
+    match fault {
+        GraphFault::Vertices => Code::VERTICES,
+        GraphFault::Sink => Code::SINK,
+        GraphFault::EdgeCount => Code::EDGE_COUNT,
+        GraphFault::Endpoint(_) => Code::ENDPOINT,
+        GraphFault::Mult(_) => Code::MULT,
+        GraphFault::Loop(_) => Code::LOOP,
+        GraphFault::FromSink(_) => Code::FROM_SINK,
+        GraphFault::Unreached(_) => Code::UNREACHED,
+        GraphFault::NoMemory => Code::NO_MEMORY,
     }
 }
 
-/// The lines of faults of a graph.
-fn graph_line(fault: &GraphFault) -> FaultLine
-    ensures number { result.number ≡ number_of_graph_fault fault.now }
-    ensures location { result.location ≡ location_of_graph_fault fault.now }
+/// The code of a fault of a game.
+fn code_of_game(fault: &GameFault) -> Code
+    ensures { result.number ≡ number_of_game_fault fault.now }
 {
     match fault {
-        GraphFault::Vertices => line(table::VERTICES, Location::Nowhere),
-        GraphFault::Sink => line(table::SINK, Location::Nowhere),
-        GraphFault::EdgeCount => line(table::EDGE_COUNT, Location::Nowhere),
-        GraphFault::Endpoint(edge) => line(table::ENDPOINT, Location::At(*edge)),
-        GraphFault::Mult(edge) => line(table::MULT, Location::At(*edge)),
-        GraphFault::Loop(edge) => line(table::LOOP, Location::At(*edge)),
-        GraphFault::FromSink(edge) => line(table::FROM_SINK, Location::At(*edge)),
-        GraphFault::Unreached(vertex) => line(table::UNREACHED, Location::At(*vertex)),
-        GraphFault::NoMemory => line(table::NO_MEMORY, Location::Nowhere),
+        GameFault::StartLength => Code::START_LENGTH,
+        GameFault::Total => Code::TOTAL,
+        GameFault::Limit => Code::LIMIT,
     }
 }
 
-/// The lines of faults of a game.
-fn game_line(fault: &GameFault) -> FaultLine
-    ensures number { result.number ≡ number_of_game_fault fault.now }
-    ensures location { result.location ≡ Nowhere }
+/// The code of a fault of a file.
+fn code_of_file(fault: &FileFault) -> Code
+    ensures { result.number ≡ number_of_file_fault fault.now }
 {
     match fault {
-        GameFault::StartLength => line(table::START_LENGTH, Location::Nowhere),
-        GameFault::Total => line(table::TOTAL, Location::Nowhere),
-        GameFault::Limit => line(table::LIMIT, Location::Nowhere),
+        FileFault::Graph(fault) => code_of_graph(fault),
+        FileFault::Total => Code::TOTAL,
+        FileFault::NotJson => Code::NOT_JSON,
+        FileFault::Shape => Code::SHAPE,
+        FileFault::Version => Code::VERSION,
+        FileFault::Header => Code::HEADER,
+        FileFault::Row(_) => Code::ROW,
+        FileFault::Number(_) => Code::NUMBER,
+        FileFault::Vertex(_) => Code::VERTEX,
+        FileFault::Repeated(_) => Code::REPEATED,
+        FileFault::Kind(_) => Code::KIND,
+        FileFault::Read => Code::READ,
+        FileFault::TooLong => Code::TOO_LONG,
+        FileFault::NoMemory => Code::NO_MEMORY,
     }
 }
 
-/// The lines of faults of a file.
-fn file_line(fault: &FileFault) -> FaultLine
-    ensures number { result.number ≡ number_of_file_fault fault.now }
-    ensures location { result.location ≡ location_of_file_fault fault.now }
+/// The code of a fault of resuming.
+fn code_of_resume(fault: &ResumeFault) -> Code
+    ensures { result.number ≡ number_of_resume_fault fault.now }
 {
     match fault {
-        FileFault::Graph(fault) => graph_line(fault),
-        FileFault::Total => line(table::TOTAL, Location::Nowhere),
-        FileFault::NotJson => line(table::NOT_JSON, Location::Nowhere),
-        FileFault::Shape => line(table::SHAPE, Location::Nowhere),
-        FileFault::Version => line(table::VERSION, Location::Nowhere),
-        FileFault::Header => line(table::HEADER, Location::Nowhere),
-        FileFault::Row(row) => line(table::ROW, Location::At(*row)),
-        FileFault::Number(row) => line(table::NUMBER, Location::At(*row)),
-        FileFault::Vertex(row) => line(table::VERTEX, Location::At(*row)),
-        FileFault::Repeated(row) => line(table::REPEATED, Location::At(*row)),
-        FileFault::Kind(row) => line(table::KIND, Location::At(*row)),
-        FileFault::Read => line(table::READ, Location::Nowhere),
-        FileFault::TooLong => line(table::TOO_LONG, Location::Nowhere),
-        FileFault::NoMemory => line(table::NO_MEMORY, Location::Nowhere),
+        ResumeFault::Total => Code::TOTAL,
+        ResumeFault::Limit => Code::LIMIT,
+        ResumeFault::Prior(_) => Code::PRIOR,
+        ResumeFault::Mismatch => Code::MISMATCH,
+        ResumeFault::NoMemory => Code::NO_MEMORY,
     }
 }
 
-/// The lines of faults of resuming.
-fn resume_line(fault: &ResumeFault) -> FaultLine
-    ensures number { result.number ≡ number_of_resume_fault fault.now }
-    ensures location { result.location ≡ location_of_resume_fault fault.now }
+/// Where a fault of a graph is.
+fn location_of_graph(fault: &GraphFault) -> Location
+    ensures { result ≡ location_of_graph_fault fault.now }
 {
     match fault {
-        ResumeFault::Total => line(table::TOTAL, Location::Nowhere),
-        ResumeFault::Limit => line(table::LIMIT, Location::Nowhere),
-        ResumeFault::Prior(vertex) => line(table::PRIOR, Location::At(*vertex)),
-        ResumeFault::Mismatch => line(table::MISMATCH, Location::Nowhere),
-        ResumeFault::NoMemory => line(table::NO_MEMORY, Location::Nowhere),
+        GraphFault::Endpoint(edge) => Location::At(*edge),
+        GraphFault::Mult(edge) => Location::At(*edge),
+        GraphFault::Loop(edge) => Location::At(*edge),
+        GraphFault::FromSink(edge) => Location::At(*edge),
+        GraphFault::Unreached(vertex) => Location::At(*vertex),
+        _ => Location::Nowhere,
+    }
+}
+
+/// Where a fault of a file is.
+fn location_of_file(fault: &FileFault) -> Location
+    ensures { result ≡ location_of_file_fault fault.now }
+{
+    match fault {
+        FileFault::Graph(fault) => location_of_graph(fault),
+        FileFault::Row(row) => Location::At(*row),
+        FileFault::Number(row) => Location::At(*row),
+        FileFault::Vertex(row) => Location::At(*row),
+        FileFault::Repeated(row) => Location::At(*row),
+        FileFault::Kind(row) => Location::At(*row),
+        _ => Location::Nowhere,
+    }
+}
+
+/// Where a fault of resuming is.
+fn location_of_resume(fault: &ResumeFault) -> Location
+    ensures { result ≡ location_of_resume_fault fault.now }
+{
+    match fault {
+        ResumeFault::Prior(vertex) => Location::At(*vertex),
+        _ => Location::Nowhere,
     }
 }
 
 impl Fault {
     ghost use Rattle.std.specs.Prelude.{◌≡◌};
-    ghost use Rattle.chip_engine.specs.FaultNumbers.{number_of, location_of, status_of_fault};
+    ghost use Rattle.chip_command.specs.FaultNumbers.{number_of, location_of, status_of_fault};
 
     /// The exit status of a command that failed so: a crew that ran out of turns is no failure of its inputs.
     pub fn status(&self) -> u8
@@ -323,27 +332,54 @@ impl Fault {
         ensures number { result.number ≡ number_of self.now }
         ensures location { result.location ≡ location_of self.now }
     {
+        let Code { number, name } = self.code();
+        FaultLine {
+            number,
+            name,
+            location: self.location(),
+        }
+    }
+
+    fn code(&self) -> Code
+        ensures { result.number ≡ number_of self.now }
+    {
         match self {
-            Fault::File(fault) => file_line(fault),
-            Fault::Game(fault) => game_line(fault),
-            Fault::NotClosed => line(table::NOT_CLOSED, Location::Nowhere),
-            Fault::NotReport => line(table::NOT_REPORT, Location::Nowhere),
-            Fault::Resume(fault) => resume_line(fault),
-            Fault::Plan => line(table::PLAN, Location::Nowhere),
-            Fault::Unfinished(deficit) => line(table::UNFINISHED, Location::At(*deficit)),
-            Fault::GateShut => line(table::GATE_SHUT, Location::Nowhere),
-            Fault::Lost(vertex) => line(table::LOST, Location::At(*vertex)),
-            Fault::Doubled(vertex) => line(table::DOUBLED, Location::At(*vertex)),
-            Fault::Spawn => line(table::SPAWN, Location::Nowhere),
+            Fault::File(fault) => code_of_file(fault),
+            Fault::Game(fault) => code_of_game(fault),
+            Fault::NotClosed => Code::NOT_CLOSED,
+            Fault::NotReport => Code::NOT_REPORT,
+            Fault::Resume(fault) => code_of_resume(fault),
+            Fault::Plan => Code::PLAN,
+            Fault::Unfinished(_) => Code::UNFINISHED,
+            Fault::GateShut => Code::GATE_SHUT,
+            Fault::Lost(_) => Code::LOST,
+            Fault::Doubled(_) => Code::DOUBLED,
+            Fault::Spawn => Code::SPAWN,
+            Fault::Stuck { .. } => Code::STUCK,
+            Fault::NoMemory => Code::NO_MEMORY,
+            Fault::Usage => Code::USAGE,
+            Fault::Open(_) => Code::OPEN,
+            Fault::Write(_) => Code::WRITE,
+            Fault::WriteTrace => Code::WRITE,
+        }
+    }
+
+    fn location(&self) -> Location
+        ensures { result ≡ location_of self.now }
+    {
+        match self {
+            Fault::File(fault) => location_of_file(fault),
+            Fault::Resume(fault) => location_of_resume(fault),
+            Fault::Unfinished(deficit) => Location::At(*deficit),
+            Fault::Lost(vertex) => Location::At(*vertex),
+            Fault::Doubled(vertex) => Location::At(*vertex),
             Fault::Stuck { vertex, row } => {
                 let (vertex, row) = (*vertex, *row);
-                line(table::STUCK, Location::AtRow { vertex, row })
+                Location::AtRow { vertex, row }
             }
-            Fault::NoMemory => line(table::NO_MEMORY, Location::Nowhere),
-            Fault::Usage => line(table::USAGE, Location::Nowhere),
-            Fault::Open(argument) => line(table::OPEN, Location::At(*argument)),
-            Fault::Write(fault) => line(table::WRITE, Location::At(fault.written)),
-            Fault::WriteTrace => line(table::WRITE, Location::Nowhere),
+            Fault::Open(argument) => Location::At(*argument),
+            Fault::Write(fault) => Location::At(fault.written),
+            _ => Location::Nowhere,
         }
     }
 }

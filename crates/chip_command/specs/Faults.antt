@@ -9,10 +9,8 @@ use Rattle.chip_trace.specs.declared.fault.ReplayFault.{ReplayFault}
 use Rattle.chip_trace.specs.declared.fault.ReplayFault.TheVariants as replay
 use Rattle.chip_trace.specs.declared.fault.TraceFault.{TraceFault}
 use Rattle.chip_trace.specs.declared.fault.TraceFault.TheVariants as trace
-use Rattle.chip_world.specs.declared.fault.WorldFault.{WorldFault}
-use Rattle.chip_world.specs.declared.fault.WorldFault.TheVariants as world
-use Rattle.chip_engine.specs.declared.fault.Fault.{Fault}
-use Rattle.chip_engine.specs.declared.fault.Fault.TheVariants.{File, Stuck, WriteTrace, NotClosed, NotReport, Resume, NoMemory}
+use Rattle.chip_command.specs.declared.fault.Fault.{Fault}
+use Rattle.chip_command.specs.declared.fault.Fault.TheVariants.{File, Stuck, WriteTrace, NotReport, Resume, NoMemory}
 
 -- want of memory is one fault, whoever met it
 abbrev pub fault_of_file : FileFault → Fault
@@ -28,11 +26,6 @@ fault_of_replay replay.NoMemory = NoMemory
 abbrev pub fault_of_trace : TraceFault → Fault
 fault_of_trace trace.Write = WriteTrace
 fault_of_trace trace.NoMemory = NoMemory
-
--- the fault of a world that gives no outcome
-abbrev pub fault_of_world : WorldFault → Fault
-fault_of_world world.NotClosed = NotClosed
-fault_of_world world.NoMemory = NoMemory
 
 -- the fault of bytes that are no report
 abbrev pub fault_of_report : ReportFault → Fault

@@ -1,7 +1,7 @@
 //! The game that the files of a command mean.
 
 ghost use Rattle.std.specs.Option.{ForSome};
-ghost use Rattle.chip_engine.specs.Inputs.{GivesGame};
+ghost use Rattle.chip_command.specs.Inputs.{GivesGame};
 
 use crate::fault::Fault;
 use chip_file::{read_chips, read_graph};

@@ -9,10 +9,10 @@ use Rattle.chip_file.specs.declared.fault.FileFault.{FileFault}
 use Rattle.chip_file.specs.declared.fault.FileFault.TheVariants as file
 use Rattle.chip_fire.specs.declared.sitting.ResumeFault.{ResumeFault}
 use Rattle.chip_fire.specs.declared.sitting.ResumeFault.TheVariants as resume
-use Rattle.chip_engine.specs.declared.fault.Fault.{Fault}
-use Rattle.chip_engine.specs.declared.fault.Fault.TheVariants as fault
-use Rattle.chip_engine.specs.declared.fault.Location.{Location}
-use Rattle.chip_engine.specs.declared.fault.Location.TheVariants.{Nowhere, At, AtRow}
+use Rattle.chip_command.specs.declared.fault.Fault.{Fault}
+use Rattle.chip_command.specs.declared.fault.Fault.TheVariants as fault
+use Rattle.chip_command.specs.declared.fault.Location.{Location}
+use Rattle.chip_command.specs.declared.fault.Location.TheVariants.{Nowhere, At, AtRow}
 
 -- the number of a fault of a graph
 abbrev pub number_of_graph_fault : GraphFault → ℕ

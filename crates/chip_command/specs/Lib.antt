@@ -1,0 +1,4 @@
+pub mod Faults
+pub mod FaultNumbers
+pub mod Inputs
+pub mod Reports

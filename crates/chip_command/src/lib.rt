@@ -1,0 +1,17 @@
+//! What all commands share: the game that their files mean, what can go wrong, and how they end.
+//!
+//! A `Fault` has a number and a name (`code`), which its line shows with where it is; that it has the number which it
+//! should have is proved (`specs/FaultNumbers.antt`). What a table (`table`) says of each fault is text: it is tested.
+#![tactic(auto)]
+
+pub use code::Code;
+pub use ended::{DONE, Ended, FAILED, HALTED, OPEN, status_of};
+pub use fault::{Fault, FaultLine, Location};
+pub use inputs::read_game;
+pub use table::{Explanation, Place, explanations};
+
+mod code;
+mod ended;
+mod fault;
+mod inputs;
+mod table;

@@ -386,9 +386,3 @@ held_by_replies g game some_ring log xs replies is opening =
     subst (λ (rs : List Reply). IsHeldByReplies g (log_after g log xs) xs rs) (sym is)
     (subst (λ (before : Log). IsHeldByReplies g (log_after g before xs) xs (replies_to g before xs)) (sym opening)
     (held_from_the_opening g game some_ring xs))
-
--- one reply more
-pub answered_more : (old new rest : List Reply) (reply first : Reply) → new ≡ old ++ reply ∷ [] → reply ≡ first
-    → old ++ first ∷ rest ≡ new ++ rest
-answered_more old new rest reply first is same = ap (λ (r : Reply). old ++ r ∷ rest) (sym same)
-    ∙ sym (append_assoc old (reply ∷ []) rest) ∙ ap (λ (l : List Reply). l ++ rest) (sym is)

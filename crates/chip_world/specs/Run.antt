@@ -101,14 +101,6 @@ IsHeldByReplies g after xs replies =
     (e : ℕ) → e < graph_edges g
     → chips_in (sent_in e xs replies) + held g after e ≡ mult_of g e * fired_by g after (tail_of g e)
 
--- the world answered xs: it stands for the log after them, these are the replies, and the core theorem holds of the run
-pub record AnswersAll (g : Setting) (log : Log) (xs : List Event) (new : WorldState)
-    (replies : List Reply) : Type 0 where
-  pub world : StandsForLog g (log_after g log xs) new
-  pub replies_are : replies ≡ replies_to g log xs
-  pub headline : Headline g log xs
-  pub held : log ≡ [] → IsHeldByReplies g (log_after g log xs) xs replies
-
 -- the world ran xs: it stands for the log after them, this is the record, and the core theorem holds of the run
 pub record Runs (g : Setting) (log : Log) (xs : List Event) (new : WorldState) (r : Record) : Type 0 where
   pub world : StandsForLog g (log_after g log xs) new

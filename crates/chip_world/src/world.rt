@@ -109,7 +109,7 @@ impl World {
     }
 
     /// The game in play, of which some log leaves this world.
-    pub(crate) fn game(&self) -> &Game
+    pub fn game(&self) -> &Game
         ensures value { result.now ≡ game_of_setting self.now.setting }
         ensures some_log { SomeLog self.now }
     {

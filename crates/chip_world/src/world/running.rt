@@ -109,7 +109,7 @@ fn count_one(counts: &mut Vec<usize>, edge: u64)
 
 impl World {
     ghost use Rattle.chip_world.specs.World.{SomeLog, WhateverLog};
-    ghost use Rattle.chip_world.specs.Run.{HasRooms, IsNotedUpTo, Runs, AnswersAll};
+    ghost use Rattle.chip_world.specs.Run.{HasRooms, IsNotedUpTo, Runs};
 
     /// An empty record, with room for all that these events may bring.
     fn blank_notes(&self, alloc: Global, events: &[Event]) -> Result<Notes, AllocError>
@@ -146,19 +146,5 @@ impl World {
             notes.add(*event, reply);
         }
         Ok(notes.finish())
-    }
-
-    /// The same for a caller that wants the replies alone: no message is listed.
-    pub fn answer(&mut self, alloc: Global, events: &[Event]) -> Result<Vec<Reply>, AllocError>
-        ensures { MatchResult result
-            (λ replies. WhateverLog self.old (λ g log. AnswersAll g log events.now self.new replies.items))
-            (λ _. self.new ≡ self.old) }
-    {
-        let mut replies = Vec::with_capacity(alloc, events.len())?;
-        for event in events {
-            let reply = self.step(*event);
-            replies.push_reserved(reply);
-        }
-        Ok(replies)
     }
 }

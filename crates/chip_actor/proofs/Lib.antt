@@ -7,4 +7,3 @@ pub mod ActorOpening
 pub mod TurnActor
 pub mod MediumLemmas
 pub mod TurnOver
-pub mod AskLemmas

@@ -2,4 +2,3 @@ pub mod Ends
 pub mod Actor
 pub mod Turning
 pub mod Medium
-pub mod Asking

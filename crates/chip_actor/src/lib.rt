@@ -8,8 +8,6 @@
 mod actor;
 mod ends;
 mod medium;
-#[cfg(test)]
-mod tests;
 
 pub use actor::ActorState;
 pub use medium::Medium;

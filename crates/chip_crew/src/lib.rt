@@ -15,8 +15,6 @@ mod play;
 mod queue;
 mod roll;
 mod staff;
-#[cfg(test)]
-mod tests;
 mod worker;
 
 pub use fault::CrewFault;

@@ -8,5 +8,3 @@ pub use detector::Detect;
 mod detector;
 pub mod laws;
 mod tallies;
-#[cfg(test)]
-mod tests;

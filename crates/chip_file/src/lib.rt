@@ -18,14 +18,8 @@ mod chips;
 mod fault;
 mod graph;
 mod json;
-#[cfg(test)]
-mod largest_tests;
 mod number;
 mod rows;
-#[cfg(test)]
-mod run_tests;
 mod schedule;
-#[cfg(test)]
-mod tests;
 mod trace;
 mod whole;

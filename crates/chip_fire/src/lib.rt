@@ -11,6 +11,4 @@ mod rounds;
 pub mod sitting;
 mod soon;
 mod start;
-#[cfg(test)]
-mod tests;
 mod watch;

@@ -18,5 +18,3 @@ pub mod graph;
 mod index;
 pub mod laws;
 mod packed_lists;
-#[cfg(test)]
-mod tests;

@@ -12,8 +12,6 @@ pub mod laws;
 mod message;
 mod ring;
 mod tail;
-#[cfg(test)]
-mod tests;
 mod trace;
 mod words;
 

@@ -21,8 +21,6 @@ mod rule;
 mod setup;
 mod stopper;
 mod tally;
-#[cfg(test)]
-mod tests;
 mod trace;
 mod views;
 

@@ -9,4 +9,3 @@ pub mod TurnSteps
 pub mod CompletingTurns
 pub mod Resting
 pub mod WorkedTurns
-pub mod AskLemmas

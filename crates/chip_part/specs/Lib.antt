@@ -10,5 +10,4 @@ pub mod Turn
 pub mod Cursor
 pub mod Counting
 pub mod Worked
-pub mod Asking
 pub mod Laws

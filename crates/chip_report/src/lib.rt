@@ -16,8 +16,4 @@ pub mod read;
 pub mod report;
 mod reportable;
 pub mod sitting;
-#[cfg(test)]
-mod sitting_tests;
-#[cfg(test)]
-mod tests;
 pub mod write;

@@ -1,3 +1,2 @@
 pub mod RootLemmas
 pub mod FeedLemmas
-pub mod AskRootLemmas

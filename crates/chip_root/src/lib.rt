@@ -5,7 +5,5 @@
 
 mod feeder;
 mod root;
-#[cfg(test)]
-mod tests;
 
 pub use root::RootState;

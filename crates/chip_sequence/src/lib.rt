@@ -16,5 +16,3 @@ pub mod firing;
 pub mod laws;
 pub mod outcome;
 pub mod resumed;
-#[cfg(test)]
-mod tests;

@@ -15,7 +15,5 @@ mod look;
 mod progress;
 mod replaying;
 mod runner;
-#[cfg(test)]
-mod tests;
 mod verdict;
 mod writing;

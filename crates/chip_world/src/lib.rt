@@ -8,8 +8,6 @@
 mod fault;
 mod lanes;
 pub mod laws;
-#[cfg(test)]
-mod tests;
 mod turn_words;
 mod words;
 mod world;

@@ -1,0 +1,29 @@
+use Rattle.std.proofs.Common.{◌≡◌, ◌∙◌, ◌^◌, ℕ, List, [], ◌∷◌, true, refl}
+use Rattle.chip_part.specs.declared.reply.Reply.TheVariants.{Empty}
+use Rattle.chip_part.specs.Setting.{Setting, setting_with}
+use Rattle.chip_part.specs.Part.{opened}
+use Rattle.chip_part.specs.Rules.{Event, Clear, Put, Settle, Read, Feed, End}
+use Rattle.chip_part.specs.declared.reply.Reply.{Reply}
+use Rattle.chip_core_tests.specs.Asking.{game_on}
+use Rattle.chip_core_tests.specs.RootAsking.{may_play_root}
+use Rattle.chip_core_tests.proofs.root.fed_root.Goals as goal
+
+-- the script, whose replies don't matter here
+abbrev questions : List (Event × ℕ × Reply)
+questions = (Feed 4 3, 0, Empty) ∷ (Clear 4, 0, Empty) ∷ (Feed 4 0, 0, Empty) ∷ (Feed 4 (2 ^ 40), 0, Empty)
+    ∷ (Feed 4 3, 0, Empty) ∷ (Clear 4, 0, Empty) ∷ (Put 4, 0, Empty) ∷ (Put 4, 0, Empty) ∷ (Clear 4, 3, Empty)
+    ∷ (Settle 6, 1, Empty) ∷ (Settle 4, 1, Empty) ∷ (Read 0, 0, Empty) ∷ (End, 1, Empty) ∷ (Clear 4, 0, Empty)
+    ∷ (Feed 4 1, 0, Empty) ∷ (Read 0, 1, Empty) ∷ []
+
+plays : may_play_root (setting_with (game_on 3 ((0, 1) ∷ (0, 2) ∷ (1, 0) ∷ (1, 2) ∷ []) (0 ∷ 0 ∷ 1 ∷ [])) 1 true)
+    (opened (setting_with (game_on 3 ((0, 1) ∷ (0, 2) ∷ (1, 0) ∷ (1, 2) ∷ []) (0 ∷ 0 ∷ 1 ∷ [])) 1 true)) questions ≡ true
+plays = refl
+
+pub play_root-requires : goal.play_root-requires
+play_root-requires g c = (
+  setting_with c.in_ok-game.game c.one.result true,
+  opened (setting_with c.in_ok-game.game c.one.result true),
+  c.in_ok-root.ensures,
+  (λ j. let g : Setting = setting_with (c.in_ok-game.ensures j) (c.one.ensures j) true in
+      may_play_root g (opened g) questions) ∙ plays,
+)

@@ -1,0 +1,14 @@
+-- What an actor answers where it is asked for an event: what the tests go by.
+use Rattle.std.specs.Prelude.{◌≡◌, ℕ, true}
+use Rattle.chip_part.specs.Rules.{Event, unmet}
+use Rattle.chip_part.specs.declared.reply.Reply.{Reply}
+use Rattle.chip_part.specs.Steps.{asked}
+use Rattle.chip_core_tests.specs.Asking.{may_ask}
+use Rattle.chip_actor.specs.Actor.{Actor, WhateverPart, StandsFor}
+
+-- the actor answered so: whatever part it stood for, it stands for that part after the question, at the same vertex
+abbrev pub Answers : Actor → Actor → Event → ℕ → Reply → Type 0
+Answers old new x seen reply =
+    WhateverPart old (λ g s. may_ask g old.vertex s x seen ≡ true
+    → StandsFor g (asked g (record { event = x; seen = seen }) s (unmet g x s)).0 new
+    × (reply ≡ (asked g (record { event = x; seen = seen }) s (unmet g x s)).1) × (new.vertex ≡ old.vertex))

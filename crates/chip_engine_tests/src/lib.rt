@@ -1,0 +1,7 @@
+//! Commands from bytes to bytes: what no contract says of `chip_engine` and `chip_command`.
+#![tactic(auto)]
+
+#[cfg(test)]
+mod engines;
+#[cfg(test)]
+mod faults;

@@ -1,7 +1,0 @@
-use denote.Param.Send.{sendable}
-use Rattle.std.proofs.Crossing.{crosses}
-use Rattle.chip_net.proofs.Crossing.{net_crosses}
-use Rattle.chip_net.proofs.tests.threads.all_play.Goals as goal
-
-pub join-root-requires-send-F : goal.join-root-requires-send-F
-join-root-requires-send-F g c κs within = search (crosses, sendable, net_crosses, c.type_bounds.sync-R) depth 60

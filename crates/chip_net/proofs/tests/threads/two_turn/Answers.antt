@@ -1,7 +1,0 @@
-use denote.Param.Send.{sendable}
-use Rattle.std.proofs.Crossing.{crosses}
-use Rattle.chip_net.proofs.Crossing.{net_crosses}
-use Rattle.chip_net.proofs.tests.threads.two_turn.Goals as goal
-
-pub join-requires-send-F : goal.join-requires-send-F
-join-requires-send-F g c κs within = search (crosses, sendable, net_crosses) depth 60

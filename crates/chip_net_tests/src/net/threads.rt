@@ -1,0 +1,306 @@
+//! Tokens on threads of their own.
+
+ghost use Rattle.std.specs.Prelude.{◌≡◌, ◌<◌, All, IfOk, IfSome};
+
+use super::{LIMIT, TRIANGLE, all_turn, drive, expect_outcome, finished, game};
+use chip_graph::{Edge, Game, Graph};
+use chip_link::Ring;
+use chip_net::{Actor, Net, Root, RootState, Stopper};
+use chip_sequence::Outcome;
+use std::alloc::{AllocError, Global};
+use std::process::Abort;
+use std::sync::atomic::AtomicBool;
+use std::sync::atomic::Ordering::SeqCst;
+use std::test::Fail;
+use std::thread::{self, Threads};
+
+/// How many calls a thread makes at most.
+pub(crate) const MOST: u64 = 10_000_000;
+
+/// Turns of these actors, one after another, until the root is closed.
+pub(crate) fn turn_until(net: &Net, closed: &AtomicBool, mut actors: Vec<Actor>)
+    requires { All (λ a. a.net ≡ net.now) actors.items }
+{
+    for _ in 0..MOST {
+        if closed.load(SeqCst) {
+            break;
+        }
+        all_turn(net, &mut actors);
+        thread::yield_now();
+    }
+}
+
+/// Polls until the root is closed.
+pub(crate) fn poll_until(net: &Net, closed: &AtomicBool, mut root: Root) -> Root
+    requires { root.net ≡ net.now }
+    ensures { result.net ≡ net.now }
+{
+    for _ in 0..MOST {
+        if root.poll(net) == RootState::Closed {
+            break;
+        }
+        thread::yield_now();
+    }
+    closed.store(true, SeqCst);
+    root
+}
+
+/// Seals an edge, where there is a stopper.
+fn seal_once(net: &Net, stopper: Option<Stopper>, edge: u64) -> bool
+    requires { IfSome stopper (λ s. s.net ≡ net.now) }
+{
+    match stopper {
+        Some(mut stopper) => stopper.seal(net, edge).is_ok(),
+        None => false,
+    }
+}
+
+/// Two shares of the actors, each in a thread of its own.
+fn two_turn<R: Threads>(
+    rt: &R,
+    net: &Net,
+    closed: &AtomicBool,
+    first: Vec<Actor>,
+    second: Vec<Actor>,
+)
+    requires first { All (λ a. a.net ≡ net.now) first.items }
+    requires second { All (λ a. a.net ≡ net.now) second.items }
+{
+    thread::join(
+        rt,
+        move ||
+            requires { All (λ a. a.net ≡ net.now) first.items }
+        { turn_until(net, closed, first) },
+        move ||
+            requires { All (λ a. a.net ≡ net.now) second.items }
+        { turn_until(net, closed, second) },
+    );
+}
+
+/// The stopper seals while the root polls.
+fn seal_and_poll<R: Threads>(
+    rt: &R,
+    net: &Net,
+    closed: &AtomicBool,
+    stopper: Option<Stopper>,
+    edge: u64,
+    root: Root,
+) -> Root
+    requires stopper { IfSome stopper (λ s. s.net ≡ net.now) }
+    requires root { root.net ≡ net.now }
+    ensures { result.net ≡ net.now }
+{
+    let (_, root) = thread::join(
+        rt,
+        move || -> bool
+            requires { IfSome stopper (λ s. s.net ≡ net.now) }
+        { seal_once(net, stopper, edge) },
+        move || -> Root
+            requires { root.net ≡ net.now }
+            ensures { result.net ≡ net.entry.now }
+        { poll_until(net, closed, root) },
+    );
+    root
+}
+
+/// A share of the actors turns beside.
+fn turn_and_poll<R: Threads + Sync>(
+    rt: &R,
+    net: &Net,
+    closed: &AtomicBool,
+    third: Vec<Actor>,
+    stopper: Option<Stopper>,
+    edge: u64,
+    root: Root,
+) -> Root
+    requires third { All (λ a. a.net ≡ net.now) third.items }
+    requires stopper { IfSome stopper (λ s. s.net ≡ net.now) }
+    requires root { root.net ≡ net.now }
+    ensures { result.net ≡ net.now }
+{
+    let (root, _) = thread::join(
+        rt,
+        move || -> Root
+            requires { IfSome stopper (λ s. s.net ≡ net.now) × (root.net ≡ net.now) }
+            ensures { result.net ≡ net.entry.now }
+        { seal_and_poll(rt, net, closed, stopper, edge, root) },
+        move ||
+            requires { All (λ a. a.net ≡ net.now) third.items }
+        { turn_until(net, closed, third) },
+    );
+    root
+}
+
+/// Three shares of the actors, the stopper and the root, each in a thread of its own, until the root is closed.
+fn all_play<R: Threads + Sync>(
+    rt: &R,
+    net: &Net,
+    shares: (Vec<Actor>, Vec<Actor>, Vec<Actor>),
+    stopper: Option<Stopper>,
+    edge: u64,
+    root: Root,
+) -> Root
+    requires first { All (λ a. a.net ≡ net.now) shares.0.items }
+    requires second { All (λ a. a.net ≡ net.now) shares.1.items }
+    requires third { All (λ a. a.net ≡ net.now) shares.2.items }
+    requires stopper { IfSome stopper (λ s. s.net ≡ net.now) }
+    requires root { root.net ≡ net.now }
+    ensures { result.net ≡ net.now }
+{
+    let closed = AtomicBool::new(false);
+    let closed = &closed;
+    let (first, second, third) = shares;
+    let (_, root) = thread::join(
+        rt,
+        move ||
+            requires { All (λ a. a.net ≡ net.now) first.items × All (λ a. a.net ≡ net.now) second.items }
+        { two_turn(rt, net, closed, first, second) },
+        move || -> Root
+            requires { All (λ a. a.net ≡ net.now) third.items × IfSome stopper (λ s. s.net ≡ net.now)
+                × (root.net ≡ net.now) }
+            ensures { result.net ≡ net.entry.now }
+        { turn_and_poll(rt, net, closed, third, stopper, edge, root) },
+    );
+    root
+}
+
+/// The actors from this one on, which leave the list.
+fn tail_of(net: &Net, actors: &mut Vec<Actor>, at: usize) -> Result<Vec<Actor>, AllocError>
+    requires { All (λ a. a.net ≡ net.now) actors.old.items }
+    ensures first { All (λ a. a.net ≡ net.now) actors.new.items }
+    ensures tail { IfOk result (λ tail. All (λ a. a.net ≡ net.now) tail.items) }
+{
+    let at = at.min(actors.len());
+    let tail = actors.split_off(at)?;
+    Ok(tail)
+}
+
+/// Plays a game on threads, which share the actors by thirds, and seals an edge of it where it is stoppable.
+fn played_on_threads<R: Threads + Sync + Abort>(
+    rt: &R,
+    alloc: Global,
+    game: &Game,
+    stoppable: bool,
+    edge: u64,
+) -> Result<Outcome, Fail> {
+    let (net, root, mut actors, stopper) = Net::open(alloc, game, Ring::one(), 0, stoppable)?;
+    let third = actors.len() / 3;
+    let last = tail_of(&net, &mut actors, 2 * third)?;
+    let middle = tail_of(&net, &mut actors, third)?;
+    let shares = (actors, middle, last);
+    let root = all_play(rt, &net, shares, stopper, edge, root);
+    Ok(finished(rt, &net, root))
+}
+
+/// A vertex fires again, with a thread for each actor and one that polls.
+#[test]
+fn fires_again(rt: HostRuntime) -> Result<(), Fail> {
+    let alloc = rt.alloc();
+    let game = game(alloc, &TRIANGLE, &[5, 0, 0], LIMIT)?;
+    let outcome = played_on_threads(&rt, alloc, &game, false, 0)?;
+    expect_outcome(&rt, &outcome, &[3, 1, 0], &[0, 1, 4], &[]);
+    Ok(())
+}
+
+/// How wide the grid is.
+const SIDE: u64 = 8;
+
+/// The neighbours of a cell of the grid, and the sink for each that there is not.
+fn neighbours(row: u64, column: u64) -> [u64; 4]
+    requires row { row < 8 }
+    requires column { column < 8 }
+{
+    let sink = SIDE * SIDE;
+    let cell = row * SIDE + column;
+    [
+        if row > 0 { cell - SIDE } else { sink },
+        if row + 1 < SIDE { cell + SIDE } else { sink },
+        if column > 0 { cell - 1 } else { sink },
+        if column + 1 < SIDE { cell + 1 } else { sink },
+    ]
+}
+
+/// The edges of a cell of the grid: one to each neighbour.
+fn add_cell(edges: &mut Vec<Edge>, tail: u64) -> Result<(), AllocError>
+    requires { tail < 64 }
+{
+    for head in neighbours(tail / SIDE, tail % SIDE) {
+        edges.push(Edge {
+            tail,
+            head,
+            mult: 1,
+        })?;
+    }
+    Ok(())
+}
+
+/// The edges of the grid: each cell has one to each of its neighbours, and to the sink those that have no neighbour.
+fn grid(alloc: Global) -> Result<Vec<Edge>, AllocError> {
+    let mut edges = Vec::new(alloc);
+    for tail in 0..SIDE * SIDE {
+        add_cell(&mut edges, tail)?;
+    }
+    Ok(edges)
+}
+
+/// The grid with these chips.
+fn grid_game(alloc: Global, chips: &[u64]) -> Result<Game, Fail> {
+    let graph = Graph::new(alloc, SIDE * SIDE + 1, SIDE * SIDE, grid(alloc)?)?;
+    Ok(Game::new(graph, Vec::from_slice(alloc, chips)?, LIMIT)?)
+}
+
+/// How often each cell and the sink fire where each cell has four chips: what `examples/play.py` says.
+const FIRED: [u64; 65] = [
+    3, 4, 4, 4, 4, 4, 4, 3, 4, 6, 7, 7, 7, 7, 6, 4, 4, 7, 9, 9, 9, 9, 7, 4, 4, 7, 9, 10, 10, 9, 7,
+    4, 4, 7, 9, 10, 10, 9, 7, 4, 4, 7, 9, 9, 9, 9, 7, 4, 4, 6, 7, 7, 7, 7, 6, 4, 3, 4, 4, 4, 4, 4,
+    4, 3, 0,
+];
+
+/// The chips that they end with, by the same.
+const CHIPS: [u64; 65] = [
+    0, 1, 3, 3, 3, 3, 1, 0, 1, 2, 2, 3, 3, 2, 2, 1, 3, 2, 0, 3, 3, 0, 2, 3, 3, 3, 3, 2, 2, 3, 3, 3,
+    3, 3, 3, 2, 2, 3, 3, 3, 3, 2, 0, 3, 3, 0, 2, 3, 1, 2, 2, 3, 3, 2, 2, 1, 0, 1, 3, 3, 3, 3, 1, 0,
+    120,
+];
+
+/// Played on by turns from where it ended, the game with four chips on each cell comes to its end.
+fn expect_plays_on(rt: &impl Abort, alloc: Global, outcome: &Outcome) -> Result<(), Fail> {
+    let game = grid_game(alloc, &outcome.chips)?;
+    let (net, root, mut actors, _stopper) = Net::open(alloc, &game, Ring::one(), 0, false)?;
+    let root = drive(&net, root, &mut actors);
+    let more = finished(rt, &net, root);
+    for ((fired, more), all) in outcome.fired.iter().zip(&more.fired).zip(&FIRED) {
+        assert_eq!(rt; fired.checked_add(*more), Some(*all));
+    }
+    assert_eq!(rt; more.chips.as_slice(), CHIPS.as_slice());
+    Ok(())
+}
+
+/// Threads play the game, and all but each fourth round seal an edge, each time another one.
+fn expect_round<R: Threads + Sync + Abort>(
+    rt: &R,
+    alloc: Global,
+    game: &Game,
+    round: u64,
+) -> Result<(), Fail>
+    requires { round < 100 }
+{
+    let outcome = played_on_threads(rt, alloc, game, round % 4 != 0, round * 2)?;
+    if outcome.sealed.is_empty() {
+        expect_outcome(rt, &outcome, &FIRED, &CHIPS, &[]);
+    }
+    expect_plays_on(rt, alloc, &outcome)
+}
+
+/// Threads that turn, poll and seal at once, a hundred times on the grid, each time with another edge to seal.
+#[test]
+fn grids(rt: HostRuntime) -> Result<(), Fail> {
+    let alloc = rt.alloc();
+    let mut chips = vec![in alloc; 4; (SIDE * SIDE) as usize]?;
+    chips.push(0)?;
+    let game = grid_game(alloc, &chips)?;
+    for round in 0..100 {
+        expect_round(&rt, alloc, &game, round)?;
+    }
+    Ok(())
+}

@@ -1,0 +1,9 @@
+//! Games, sequences and plays worked out by hand: what no contract says of `chip_graph`, `chip_sequence` and `chip_fire`.
+#![tactic(auto)]
+
+#[cfg(test)]
+mod fire;
+#[cfg(test)]
+mod graph;
+#[cfg(test)]
+mod sequence;

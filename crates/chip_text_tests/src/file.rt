@@ -1,0 +1,400 @@
+//! Worked files, with values from outside, and readers that are slow or fail.
+
+use chip_file::{FileFault, MAX_BYTES, read_chips, read_graph, read_whole};
+use chip_graph::{Edge, Graph, GraphFault};
+use std::alloc::{AllocError, Global};
+use std::io;
+use std::io::{ErrorKind, Read};
+
+/// The triangle: its root edges are 4, 5 and 6.
+pub(crate) const TRIANGLE: &str =
+    "{\"edges\":[[0,1,1],[0,2,1],[1,0,1],[1,2,1]],\"sink\":2,\"version\":1,\"vertices\":3}";
+
+/// The graph that the triangle's text means.
+pub(crate) fn triangle(alloc: Global) -> Result<Graph, FileFault> {
+    read_graph(alloc, &mut TRIANGLE.as_bytes())
+}
+
+/// Gives one byte at each read, and may fail at one of them.
+#[derive(Drop)]
+pub(crate) struct Slow<'t> {
+    text: &'t [u8],
+    reads: usize,
+    fails_at: Option<usize>,
+}
+
+impl Slow<'_> {
+    pub(crate) fn new(text: &[u8], fails_at: Option<usize>) -> Slow<'_> {
+        Slow {
+            text,
+            reads: 0,
+            fails_at,
+        }
+    }
+}
+
+impl Read for Slow<'_> {
+    fn read(&mut self, buf: &mut [u8]) -> io::Result<usize> {
+        let read = self.reads;
+        self.reads = read.saturating_add(1);
+        if self.fails_at == Some(read) {
+            return Err(io::Error::from(ErrorKind::Interrupted));
+        }
+        let count = self.text.len().min(buf.len()).min(1);
+        buf[..count].copy_from_slice(&self.text[..count]);
+        self.text = &self.text[count..];
+        Ok(count)
+    }
+}
+
+/// Never ends, and counts its reads, of one byte each.
+#[derive(Drop)]
+struct Endless(u64);
+
+impl Read for Endless {
+    fn read(&mut self, buf: &mut [u8]) -> io::Result<usize> {
+        self.0 = self.0.saturating_add(1);
+        Ok(buf.len().min(1))
+    }
+}
+
+/// A single edge.
+const fn edge(tail: u64, head: u64) -> Edge {
+    Edge {
+        tail,
+        head,
+        mult: 1,
+    }
+}
+
+#[test]
+fn reads_the_triangle(rt: HostRuntime) -> Result<(), FileFault> {
+    let graph = triangle(rt.alloc())?;
+    let edges = [edge(0, 1), edge(0, 2), edge(1, 0), edge(1, 2)];
+    assert!(rt; graph.vertices() == 3 && graph.sink() == 2);
+    assert!(rt; graph.edges() == edges.as_slice());
+    Ok(())
+}
+
+/// Texts of graphs, each with the first thing wrong with it, if something is.
+const GRAPHS: [(&str, Option<FileFault>); 23] = [
+    (TRIANGLE, None),
+    (
+        "{\"edges\":[],\"sink\":0,\"version\":1,\"vertices\":1}",
+        None,
+    ),
+    (
+        " {\"sink\":7, \"vertices\":1,\"edges\":[],\"version\":1,\"sink\":0}\r\n",
+        None,
+    ),
+    (
+        "{\"edges\":[[0,1,1],[1,0,1],[2,3,1]],\"sink\":3,\"version\":1,\"vertices\":4}",
+        Some(FileFault::Graph(GraphFault::Unreached(0))),
+    ),
+    (
+        "{\"edges\":[[1,1,1]],\"sink\":2,\"version\":1,\"vertices\":3}",
+        Some(FileFault::Graph(GraphFault::Loop(0))),
+    ),
+    (
+        "{\"edges\":[[2,2,1]],\"sink\":2,\"version\":1,\"vertices\":3}",
+        Some(FileFault::Graph(GraphFault::Loop(0))),
+    ),
+    (
+        "{\"edges\":[],\"sink\":0,\"version\":1,\"vertices\":0}",
+        Some(FileFault::Graph(GraphFault::Vertices)),
+    ),
+    (
+        "{\"edges\":[],\"sink\":0,\"version\":2,\"vertices\":0}",
+        Some(FileFault::Version),
+    ),
+    (
+        "{\"edges\":[],\"sink\":0,\"version\":1,\"vertices\":1,\"x\":0}",
+        Some(FileFault::Shape),
+    ),
+    (
+        "{\"edges\":[],\"sink\":0,\"version\":1}",
+        Some(FileFault::Shape),
+    ),
+    (
+        "{\"edges\":[[0,1,1.5]],\"sink\":1,\"version\":2,\"vertices\":2}",
+        Some(FileFault::Shape),
+    ),
+    (
+        "{\"edges\":[[0,1]],\"sink\":1,\"version\":1,\"vertices\":2}",
+        Some(FileFault::Shape),
+    ),
+    (
+        "{\"edges\":[[0,1,1,1]],\"sink\":1,\"version\":1,\"vertices\":2}",
+        Some(FileFault::Shape),
+    ),
+    (
+        "{\"edges\":[],\"sink\":-0,\"version\":1,\"vertices\":1}",
+        Some(FileFault::Shape),
+    ),
+    (
+        "{\"edges\":[],\"sink\":0,\"version\":1,\"vertices\":1e0}",
+        Some(FileFault::Shape),
+    ),
+    (
+        "{\"edges\":[],\"sink\":18446744073709551616,\"version\":1,\"vertices\":1}",
+        Some(FileFault::Shape),
+    ),
+    (
+        "{\"edges\":[],\"sink\":18446744073709551615,\"version\":1,\"vertices\":1}",
+        Some(FileFault::Graph(GraphFault::Sink)),
+    ),
+    ("[]", Some(FileFault::Shape)),
+    ("", Some(FileFault::NotJson)),
+    ("{}}", Some(FileFault::NotJson)),
+    ("\u{feff}{}", Some(FileFault::NotJson)),
+    ("1e400", Some(FileFault::NotJson)),
+    ("1e300", Some(FileFault::Shape)),
+];
+
+/// The first thing wrong with a text of a graph, if something is.
+fn fault_of_graph(alloc: Global, mut text: &[u8]) -> Option<FileFault> {
+    read_graph(alloc, &mut text).err()
+}
+
+#[test]
+fn names_the_first_fault_of_a_graph(rt: HostRuntime) {
+    for (text, fault) in &GRAPHS {
+        let found = fault_of_graph(rt.alloc(), text.as_bytes());
+        assert!(rt; found == *fault, "{text}: {found:?}");
+    }
+}
+
+#[test]
+fn bytes_that_are_no_json(rt: HostRuntime) {
+    let no_text = fault_of_graph(rt.alloc(), &[b'[', 0xff, b']']);
+    assert!(rt; no_text == Some(FileFault::NotJson));
+    let too_deep = fault_of_graph(rt.alloc(), &[b'['; 200]);
+    assert!(rt; too_deep == Some(FileFault::NotJson));
+}
+
+#[test]
+fn each_cut_of_the_triangle_is_no_json(rt: HostRuntime) {
+    let text = TRIANGLE.as_bytes();
+    for end in 0..text.len() {
+        let found = fault_of_graph(rt.alloc(), &text[..end]);
+        assert!(rt;
+            found == Some(FileFault::NotJson),
+            "the first {end} bytes: {found:?}"
+        );
+    }
+}
+
+/// Texts of chips on three vertices, each with what it means.
+const CHIPS: [(&str, [u64; 3]); 7] = [
+    ("vertex,chips\n", [0, 0, 0]),
+    ("vertex,chips\n00,04\n", [4, 0, 0]),
+    ("vertex,chips\r\n2,7\r\n\r\n0,4", [4, 0, 7]),
+    ("\"vertex\",\"chips\"\n\"1\",\"5\"\n", [0, 5, 0]),
+    ("\u{feff}vertex,chips\n1,1099511627776\n", [0, 1 << 40, 0]),
+    ("vertex,chips\n1,\"2", [0, 2, 0]),
+    ("vertex,chips\n1,00000000000000000002\n", [0, 2, 0]),
+];
+
+/// The chips on three vertices that a text means.
+fn chips_of(alloc: Global, mut text: &[u8]) -> Result<Vec<u64>, FileFault> {
+    read_chips(alloc, &mut text, 3)
+}
+
+#[test]
+fn reads_chips(rt: HostRuntime) -> Result<(), FileFault> {
+    for (text, chips) in &CHIPS {
+        let read = chips_of(rt.alloc(), text.as_bytes())?;
+        assert!(rt; read.as_slice() == chips.as_slice(), "{text}");
+    }
+    Ok(())
+}
+
+/// Texts that mean no chips on three vertices, each with the first thing wrong with it.
+const WRONG_CHIPS: [(&str, FileFault); 23] = [
+    ("", FileFault::Header),
+    ("0,4\n", FileFault::Header),
+    ("vertex,chips,more\n", FileFault::Header),
+    ("vertex\n", FileFault::Header),
+    ("vertex, chips\n", FileFault::Header),
+    ("chips,vertex\n", FileFault::Header),
+    ("vertex,chips\n0,4\n0,1\n", FileFault::Repeated(1)),
+    ("vertex,chips\n0,-1\n", FileFault::Number(0)),
+    ("vertex,chips\n0,+1\n", FileFault::Number(0)),
+    ("vertex,chips\n0,\n", FileFault::Number(0)),
+    ("vertex,chips\n0, 1\n", FileFault::Number(0)),
+    ("vertex,chips\n0,1e3\n", FileFault::Number(0)),
+    (
+        "vertex,chips\n0,18446744073709551616\n",
+        FileFault::Number(0),
+    ),
+    (
+        "vertex,chips\n0,000000000000000000001\n",
+        FileFault::Number(0),
+    ),
+    ("vertex,chips\n0,4\nvertex,chips\n", FileFault::Number(1)),
+    ("vertex,chips\n3,x\n", FileFault::Number(0)),
+    ("vertex,chips\n3,1\n", FileFault::Vertex(0)),
+    (
+        "vertex,chips\n18446744073709551615,1\n",
+        FileFault::Vertex(0),
+    ),
+    ("vertex,chips\n0\n", FileFault::Row(0)),
+    ("vertex,chips\n1,1\n0,1,1\n", FileFault::Row(1)),
+    ("vertex,chips\n0,1099511627777\n", FileFault::Total),
+    ("vertex,chips\n0,1099511627776\n1,1\n", FileFault::Total),
+    (
+        "vertex,chips\n0,18446744073709551615\n1,1\n5,5\n",
+        FileFault::Vertex(2),
+    ),
+];
+
+#[test]
+fn names_the_first_fault_of_chips(rt: HostRuntime) {
+    for (text, fault) in &WRONG_CHIPS {
+        let found = chips_of(rt.alloc(), text.as_bytes()).err();
+        assert!(rt; found.as_ref() == Some(fault), "{text}: {found:?}");
+    }
+}
+
+#[test]
+fn chips_that_are_no_text(rt: HostRuntime) {
+    let found = chips_of(rt.alloc(), &[0xff, b',']).err();
+    assert!(rt; found == Some(FileFault::Header));
+}
+
+#[test]
+fn a_slow_reader_gives_the_same_graph(rt: HostRuntime) -> Result<(), FileFault> {
+    let graph = read_graph(rt.alloc(), &mut Slow::new(TRIANGLE.as_bytes(), None))?;
+    assert!(rt; graph.vertices() == 3 && graph.edges().len() == 4);
+    Ok(())
+}
+
+#[test]
+fn a_slow_reader_gives_the_same_chips(rt: HostRuntime) -> Result<(), FileFault> {
+    let rows = b"vertex,chips\n2,3\n0,1\n";
+    let chips = read_chips(rt.alloc(), &mut Slow::new(rows, None), 3)?;
+    assert!(rt; chips.as_slice() == [1, 0, 3].as_slice());
+    Ok(())
+}
+
+#[test]
+fn a_slow_reader_is_read_to_its_end(rt: HostRuntime) -> Result<(), FileFault> {
+    let text = TRIANGLE.as_bytes();
+    let mut slow = Slow::new(text, None);
+    let read = read_whole(rt.alloc(), &mut slow)?;
+    assert!(rt; read.as_slice() == text);
+    assert_eq!(rt; slow.reads, text.len().saturating_add(1));
+    Ok(())
+}
+
+#[test]
+fn a_failing_read_of_a_graph_is_told(rt: HostRuntime) {
+    for read in 0..=TRIANGLE.len() {
+        let mut slow = Slow::new(TRIANGLE.as_bytes(), Some(read));
+        let found = read_graph(rt.alloc(), &mut slow).err();
+        assert!(rt; found == Some(FileFault::Read), "{found:?}");
+        assert_eq!(rt; slow.reads, read.saturating_add(1), "no further read");
+    }
+}
+
+#[test]
+fn a_failing_read_of_chips_is_told(rt: HostRuntime) {
+    let rows = b"vertex,chips\n2,3\n";
+    for read in 0..=rows.len() {
+        let mut slow = Slow::new(rows, Some(read));
+        let found = read_chips(rt.alloc(), &mut slow, 3).err();
+        assert!(rt; found == Some(FileFault::Read), "{found:?}");
+    }
+}
+
+/// So many spaces.
+pub(crate) fn spaces(alloc: Global, count: usize) -> Result<Vec<u8>, AllocError> {
+    vec![in alloc; b' '; count]
+}
+
+#[test]
+fn the_longest_input(rt: HostRuntime) -> Result<(), FileFault> {
+    let spaces = spaces(rt.alloc(), MAX_BYTES)?;
+    let found = fault_of_graph(rt.alloc(), spaces.as_slice());
+    assert!(rt; found == Some(FileFault::NotJson));
+    Ok(())
+}
+
+#[test]
+fn a_graph_of_one_byte_too_many(rt: HostRuntime) -> Result<(), FileFault> {
+    let spaces = spaces(rt.alloc(), MAX_BYTES + 1)?;
+    let found = fault_of_graph(rt.alloc(), spaces.as_slice());
+    assert!(rt; found == Some(FileFault::TooLong));
+    Ok(())
+}
+
+#[test]
+fn chips_of_one_byte_too_many(rt: HostRuntime) -> Result<(), FileFault> {
+    let spaces = spaces(rt.alloc(), MAX_BYTES + 1)?;
+    let found = chips_of(rt.alloc(), spaces.as_slice()).err();
+    assert!(rt; found == Some(FileFault::TooLong));
+    Ok(())
+}
+
+#[test]
+fn an_input_that_never_ends(rt: HostRuntime) {
+    let mut endless = Endless(0);
+    let found = read_whole(rt.alloc(), &mut endless).err();
+    assert!(rt; found == Some(FileFault::TooLong));
+    assert_eq!(rt; endless.0, 16_777_217, "one read more than bytes");
+}
+
+/// A file of the largest graph: 4,096 vertices in a row, 16 edges from each to the one before it, and 32 from the last.
+pub(crate) fn largest_graph(alloc: Global) -> Result<String, AllocError> {
+    let mut text = String::new(alloc);
+    text.push_str("{\"version\":1,\"vertices\":4096,\"sink\":0,\"edges\":[[1,0,1]")?;
+    for i in 1..65_536u64 {
+        let head = (i / 16).min(4_094);
+        let tail = head + 1;
+        write!(text, ",[{tail},{head},1]")?;
+    }
+    text.push_str("]}\n")?;
+    Ok(text)
+}
+
+/// What is read of the largest graph: 4,096 vertices and 65,536 edges.
+pub(crate) fn read_largest_graph(alloc: Global) -> Result<Graph, FileFault> {
+    let text = largest_graph(alloc)?;
+    read_graph(alloc, &mut text.as_bytes())
+}
+
+#[test]
+fn reads_the_largest_graph(rt: HostRuntime) -> Result<(), FileFault> {
+    let graph = read_largest_graph(rt.alloc())?;
+    assert!(rt; graph.vertices() == 4_096 && graph.edges().len() == 65_536);
+    assert!(rt; graph.edges().last() == Some(&edge(4_095, 4_094)));
+    Ok(())
+}
+
+/// Chips for each of 4,096 vertices, a total of 2^40.
+pub(crate) fn largest_chips(alloc: Global) -> Result<String, AllocError> {
+    let mut text = String::new(alloc);
+    text.push_str("vertex,chips\n")?;
+    for vertex in 0..4_096u64 {
+        write!(text, "{vertex},268435456\n")?;
+    }
+    Ok(text)
+}
+
+/// What is read of a text of chips for each of 4,096 vertices.
+pub(crate) fn read_largest_chips(alloc: Global, text: &str) -> Result<Vec<u64>, FileFault> {
+    read_chips(alloc, &mut text.as_bytes(), 4_096)
+}
+
+/// Whether each of 4,096 vertices has 2^28 chips.
+pub(crate) fn are_largest_chips(chips: &[u64]) -> bool {
+    chips.len() == 4_096 && chips.iter().all(|count| *count == 1 << 28)
+}
+
+#[test]
+fn reads_chips_of_every_vertex(rt: HostRuntime) -> Result<(), FileFault> {
+    let text = largest_chips(rt.alloc())?;
+    let chips = read_largest_chips(rt.alloc(), &text)?;
+    assert!(rt; are_largest_chips(&chips));
+    Ok(())
+}

@@ -1,0 +1,15 @@
+//! Texts read and written, with values from outside: what no contract says of `chip_file`, `chip_report` and `chip_trace`.
+#![tactic(auto)]
+
+#[cfg(test)]
+mod file;
+#[cfg(test)]
+mod largest;
+#[cfg(test)]
+mod report;
+#[cfg(test)]
+mod runs;
+#[cfg(test)]
+mod sittings;
+#[cfg(test)]
+mod trace;

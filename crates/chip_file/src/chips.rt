@@ -56,7 +56,7 @@ fn chips_named(alloc: Global, text: &[u8], vertices: u64) -> Result<Vec<Option<u
     ensures { Gives (λ named. AreNamed vertices (records_of text.now) named.items)
         (λ f. chips_text_fault vertices text.now ≡ Some f) result }
 {
-    let mut reader = rows::records(alloc, text);
+    let mut reader = rows::records(alloc, text)?;
     let mut row = ByteRecord::new(alloc);
     rows::read_header(&mut reader, &mut row, &HEADER)?;
     let mut named = none_named(alloc, vertices)?;

@@ -9,22 +9,42 @@ ghost use Rattle.chip_file.specs.declared.fault.FileFault.TheVariants as fault;
 use crate::fault::FileFault;
 use csv::{ByteRecord, Reader, ReaderBuilder};
 use std::alloc::{AllocError, Global};
+use std::marker::Model;
 use std::str;
 
+/// A reader of records in a box: csv's own is large, for it has a buffer.
+#[derive(Drop)]
+pub(crate) struct RowReader<'t> {
+    reader: Box<Reader<&'t [u8]>>,
+}
+
+impl<'t> Model for RowReader<'t> {
+    ghost use Rattle.std.specs.Prelude.{ℕ, List};
+    ghost use Rattle.std.specs.Borrow.{Bor};
+    ghost use Rattle.csv.specs.declared.reader.Reader.{Reader};
+
+    ghost Value = { Reader (Bor (List ℕ)) };
+
+    ghost view = { λ a. a.reader.value };
+}
+
 /// A reader of the records of a text, the header among them.
-pub(crate) fn records(alloc: Global, text: &[u8]) -> Reader<&[u8]>
-    ensures reads { IsOpen result }
-    ensures rows { rows_left result ≡ records_of text.now }
+pub(crate) fn records(alloc: Global, text: &[u8]) -> Result<RowReader<'_>, AllocError>
+    ensures reads { IfOk result (λ reader. IsOpen reader) }
+    ensures rows { IfOk result (λ reader. rows_left reader ≡ records_of text.now) }
 {
-    ReaderBuilder::new()
+    let reader = ReaderBuilder::new()
         .has_headers(false)
         .flexible(true)
-        .from_reader(alloc, text)
+        .from_reader(alloc, text);
+    Ok(RowReader {
+        reader: Box::new(alloc, reader)?,
+    })
 }
 
 /// Reads the header, which has exactly these fields.
 pub(crate) fn read_header(
-    reader: &mut Reader<&[u8]>,
+    reader: &mut RowReader<'_>,
     row: &mut ByteRecord,
     header: &[&str],
 ) -> Result<(), FileFault>
@@ -45,12 +65,12 @@ pub(crate) fn read_header(
 /// Reads the next record into `row`, and says whether there was one.
 ///
 /// The text lies in memory, so that nothing is left to fail but an allocation.
-pub(crate) fn read_row(reader: &mut Reader<&[u8]>, row: &mut ByteRecord) -> Result<bool, AllocError>
+pub(crate) fn read_row(reader: &mut RowReader<'_>, row: &mut ByteRecord) -> Result<bool, AllocError>
     requires { IsOpen reader.old }
     ensures { IfOk result (λ found. IsOpen reader.new
         × TakesRow found (fields_of row.new) (rows_left reader.old) (rows_left reader.new)) }
 {
-    let Ok(found) = reader.read_byte_record(row) else {
+    let Ok(found) = reader.reader.read_byte_record(row) else {
         return Err(AllocError);
     };
     Ok(found)

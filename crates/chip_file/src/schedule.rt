@@ -122,7 +122,7 @@ fn events_of_text(alloc: Global, text: &[u8], graph: &Graph) -> Result<Vec<Event
     ensures { Gives (λ events. schedule_of_text graph.now text.now ≡ Some events.items)
         (λ f. schedule_text_fault graph.now text.now ≡ Some f) result }
 {
-    let mut reader = rows::records(alloc, text);
+    let mut reader = rows::records(alloc, text)?;
     let mut row = ByteRecord::new(alloc);
     rows::read_header(&mut reader, &mut row, &HEADER)?;
     let mut events = Vec::new(alloc);

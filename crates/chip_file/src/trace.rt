@@ -90,7 +90,7 @@ fn traces_of_text(
         (λ f. trace_text_fault graph.now text.now ≡ Some f) result }
     ensures each { IfOk result (λ traces. length traces.items ≡ graph.now.vertices) }
 {
-    let mut reader = rows::records(alloc, text);
+    let mut reader = rows::records(alloc, text)?;
     let mut row = ByteRecord::new(alloc);
     rows::read_header(&mut reader, &mut row, &HEADER)?;
     let mut traces = empty_traces(alloc, graph.vertices())?;

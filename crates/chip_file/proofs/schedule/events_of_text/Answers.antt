@@ -10,17 +10,17 @@ use Rattle.chip_file.proofs.schedule.events_of_text.Goals as goal
 
 pub returns-in_err-read_header : goal.returns-in_err-read_header
 returns-in_err-read_header c =
-    let p = err_from_is_err_and c.from_residual.result c.from_residual.ensures.1 in
+    let p = err_from_is_err_and c.from_residual-in_err-read_header.result c.from_residual-in_err-read_header.ensures.1 in
     rw (p.1, p.2) (header_fails schedule_header (by_index (event_fault c.args.graph.now))
-    (records_of c.args.text.now) _ _ c.records-reader.ensures.rows c.in_err-read_header.ensures.err)
+    (records_of c.args.text.now) _ _ c.in_ok-reader.ensures.rows c.in_err-read_header.ensures.err)
 
 pub loop-events-init : goal.loop-events-init
 loop-events-init c =
     let ok = c.in_ok-read_header.ensures.ok in
     record {
       reads = ok.0;
-      headed = rw (← c.records-reader.ensures.rows) ok.1;
-      read = ([], HasRead-none _ _ _ (rw (← c.records-reader.ensures.rows) ok.2), c.new-events.ensures.items);
+      headed = rw (← c.in_ok-reader.ensures.rows) ok.1;
+      read = ([], HasRead-none _ _ _ (rw (← c.in_ok-reader.ensures.rows) ok.2), c.new-events.ensures.items);
     }
 
 pub overflow_add-index : goal.overflow_add-index

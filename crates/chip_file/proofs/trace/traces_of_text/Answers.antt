@@ -10,19 +10,19 @@ use Rattle.chip_file.proofs.trace.traces_of_text.Goals as goal
 
 pub returns-in_err-read_header-clause-means : goal.returns-in_err-read_header-clause-means
 returns-in_err-read_header-clause-means c =
-    let p = err_from_is_err_and c.from_residual.result c.from_residual.ensures.1 in
+    let p = err_from_is_err_and c.from_residual-in_err-read_header.result c.from_residual-in_err-read_header.ensures.1 in
     rw (p.1, p.2) (header_fails trace_header (by_index (trace_row_fault c.args.graph.now))
-    (records_of c.args.text.now) _ _ c.records-reader.ensures.rows c.in_err-read_header.ensures.err)
+    (records_of c.args.text.now) _ _ c.in_ok-reader.ensures.rows c.in_err-read_header.ensures.err)
 
 pub loop-traces-init : goal.loop-traces-init
 loop-traces-init c =
     let ok = c.in_ok-read_header.ensures.ok in
     record {
       reads = ok.0;
-      headed = rw (← c.records-reader.ensures.rows) ok.1;
+      headed = rw (← c.in_ok-reader.ensures.rows) ok.1;
       read = (
         [],
-        HasRead-none _ _ _ (rw (← c.records-reader.ensures.rows) ok.2),
+        HasRead-none _ _ _ (rw (← c.in_ok-reader.ensures.rows) ok.2),
         HaveRecorded-none _ _ (rw (← c.vertices.ensures.value) c.in_ok-traces.ensures),
       );
     }

@@ -1,9 +1,9 @@
 //! The arguments of the program, and what they ask for.
 
 use crate::commands::{
-    BOOKS, CHIPS, COMMANDS, CommandRow, FAULT_NUMBER, FED, FEED, FLAGS, GRAPH, LIMIT, Operand,
-    OperandRow, OptionRow, OptionValue, PROGRESS, REPORT, RING, ROUNDS, SCHEDULE, TRACE,
-    TRACE_FILE, TRACE_ROWS, TURNS, WORKERS,
+    BOOKS, CHIPS, CommandRow, FAULT_NUMBER, FED, FEED, FLAGS, GRAPH, LIMIT, Operand, OperandRow,
+    OptionRow, OptionValue, PROGRESS, REPORT, RING, ROUNDS, SCHEDULE, TRACE, TRACE_FILE,
+    TRACE_ROWS, TURNS, WORKERS, commands,
 };
 use crate::fault::ArgumentsFault;
 use crate::help_texts as texts;
@@ -92,26 +92,33 @@ pub struct SittingArguments<'a> {
     pub limit: u64,
 }
 
+/// A run to replay that the arguments name.
+#[derive(Clone, Copy)]
+pub struct ReplayArguments<'a> {
+    pub game: GameArguments<'a>,
+    /// The file of the traces.
+    pub trace: FileArgument<'a>,
+}
+
 /// What the arguments ask for.
 #[derive(Drop)]
 pub enum Request<'a> {
     /// The help or the version, to be printed.
     Help(String),
     Check(FileArgument<'a>),
-    Plain(PlainArguments<'a>),
-    Simulate(SimulationArguments<'a>),
-    Run(RunArguments<'a>),
-    /// The game, and the file of the traces.
-    Replay(GameArguments<'a>, FileArgument<'a>),
-    Resume(SittingArguments<'a>),
+    Plain(Box<PlainArguments<'a>>),
+    Simulate(Box<SimulationArguments<'a>>),
+    Run(Box<RunArguments<'a>>),
+    Replay(Box<ReplayArguments<'a>>),
+    Resume(Box<SittingArguments<'a>>),
     /// The number of a fault, if one is named.
     Explain(Option<u64>),
 }
 
 /// Reads the arguments, the program's own name first.
 pub fn parse<'a>(alloc: Global, arguments: &'a [String]) -> Result<Request<'a>, ArgumentsFault> {
-    match program(alloc)?.try_get_matches_from(arguments) {
-        Ok(matches) => request_of(&matches, arguments),
+    match matches_of(alloc, arguments) {
+        Ok(matches) => request_of(alloc, &matches, arguments),
         Err(error) => match error.kind() {
             ErrorKind::DisplayHelp | ErrorKind::DisplayVersion => {
                 Ok(Request::Help(error.to_string(alloc)?))
@@ -122,60 +129,116 @@ pub fn parse<'a>(alloc: Global, arguments: &'a [String]) -> Result<Request<'a>, 
     }
 }
 
+/// What the command-line library finds in the arguments.
+fn matches_of<'a>(alloc: Global, arguments: &'a [String]) -> Result<ArgMatches<'a>, clap::Error> {
+    program(alloc)?.try_get_matches_from(arguments)
+}
+
 /// What arguments that the command-line library took ask for.
 fn request_of<'a>(
+    alloc: Global,
     matches: &ArgMatches<'a>,
     arguments: &[String],
 ) -> Result<Request<'a>, ArgumentsFault> {
     let (name, found) = matches.subcommand().ok_or(ArgumentsFault::Usage)?;
     match name {
         "check" => Ok(Request::Check(file_of(found, GRAPH, arguments, 0)?)),
-        "plain" => Ok(Request::Plain(PlainArguments {
-            game: game_of(found, arguments)?,
-            progress: found.get_flag(PROGRESS.name),
-        })),
-        "simulate" => Ok(Request::Simulate(SimulationArguments {
-            game: game_of(found, arguments)?,
-            schedule: file_of(found, SCHEDULE, arguments, 2)?,
-            ring: number_in(found, RING).unwrap_or(USUAL_RING),
-            rounds: number_in(found, ROUNDS).unwrap_or(0),
-            books: found.get_flag(BOOKS.name),
-            fed: found.get_flag(FED.name),
-        })),
-        "run" => run_of(found, arguments),
-        "replay" => Ok(Request::Replay(
-            game_of(found, arguments)?,
-            file_of(found, TRACE_FILE, arguments, 2)?,
-        )),
-        "resume" => Ok(Request::Resume(SittingArguments {
-            graph: file_of(found, GRAPH, arguments, 0)?,
-            report: file_of(found, REPORT, arguments, 1)?,
-            limit: limit_of(found),
-        })),
+        "plain" => plain_of(alloc, found, arguments),
+        "simulate" => simulation_of(alloc, found, arguments),
+        "run" => run_of(alloc, found, arguments),
+        "replay" => replay_of(alloc, found, arguments),
+        "resume" => sitting_of(alloc, found, arguments),
         "explain" => Ok(Request::Explain(found.get_one::<u64>(FAULT_NUMBER.name))),
         _ => Err(ArgumentsFault::Usage),
     }
 }
 
-/// The play on threads that the arguments ask for.
-fn run_of<'a>(found: &ArgMatches<'a>, arguments: &[String]) -> Result<Request<'a>, ArgumentsFault> {
-    Ok(Request::Run(RunArguments {
+/// The play on one thread that the arguments ask for.
+fn plain_of<'a>(
+    alloc: Global,
+    found: &ArgMatches<'a>,
+    arguments: &[String],
+) -> Result<Request<'a>, ArgumentsFault> {
+    let asked = PlainArguments {
         game: game_of(found, arguments)?,
-        ring: number_in(found, RING).unwrap_or(USUAL_RING),
-        workers: number_in(found, WORKERS).unwrap_or(USUAL_WORKERS),
-        turns: number_in(found, TURNS).unwrap_or(USUAL_TURNS),
+        progress: found.get_flag(PROGRESS.name),
+    };
+    Ok(Request::Plain(boxed(alloc, asked)?))
+}
+
+/// The simulation that the arguments ask for.
+fn simulation_of<'a>(
+    alloc: Global,
+    found: &ArgMatches<'a>,
+    arguments: &[String],
+) -> Result<Request<'a>, ArgumentsFault> {
+    let asked = SimulationArguments {
+        game: game_of(found, arguments)?,
+        schedule: file_of(found, SCHEDULE, arguments, 2)?,
+        ring: number_or(found, RING, USUAL_RING),
+        rounds: number_or(found, ROUNDS, 0),
+        books: found.get_flag(BOOKS.name),
+        fed: found.get_flag(FED.name),
+    };
+    Ok(Request::Simulate(boxed(alloc, asked)?))
+}
+
+/// The play on threads that the arguments ask for.
+fn run_of<'a>(
+    alloc: Global,
+    found: &ArgMatches<'a>,
+    arguments: &[String],
+) -> Result<Request<'a>, ArgumentsFault> {
+    let asked = RunArguments {
+        game: game_of(found, arguments)?,
+        ring: number_or(found, RING, USUAL_RING),
+        workers: number_or(found, WORKERS, USUAL_WORKERS),
+        turns: number_or(found, TURNS, USUAL_TURNS),
         feed: file_in(found, FEED, arguments)?,
         trace: file_in(found, TRACE, arguments)?,
         trace_rows: trace_rows_of(found),
         progress: found.get_flag(PROGRESS.name),
-    }))
+    };
+    Ok(Request::Run(boxed(alloc, asked)?))
+}
+
+/// The run to replay that the arguments name.
+fn replay_of<'a>(
+    alloc: Global,
+    found: &ArgMatches<'a>,
+    arguments: &[String],
+) -> Result<Request<'a>, ArgumentsFault> {
+    let asked = ReplayArguments {
+        game: game_of(found, arguments)?,
+        trace: file_of(found, TRACE_FILE, arguments, 2)?,
+    };
+    Ok(Request::Replay(boxed(alloc, asked)?))
+}
+
+/// The play to go on with that the arguments name.
+fn sitting_of<'a>(
+    alloc: Global,
+    found: &ArgMatches<'a>,
+    arguments: &[String],
+) -> Result<Request<'a>, ArgumentsFault> {
+    let asked = SittingArguments {
+        graph: file_of(found, GRAPH, arguments, 0)?,
+        report: file_of(found, REPORT, arguments, 1)?,
+        limit: limit_of(found),
+    };
+    Ok(Request::Resume(boxed(alloc, asked)?))
+}
+
+/// What is asked for, in a box, so that a request of any kind is small.
+fn boxed<T: Drop>(alloc: Global, asked: T) -> Result<Box<T>, AllocError> {
+    Ok(Box::new(alloc, asked)?)
 }
 
 /// For how many rows of each vertex there is room in the trace: none where no trace is asked for and it is not said.
 fn trace_rows_of(found: &ArgMatches<'_>) -> u64 {
     let has_trace = found.get_str(TRACE.name).is_some();
     let usual_rows = if has_trace { USUAL_TRACE_ROWS } else { 0 };
-    number_in(found, TRACE_ROWS).unwrap_or(usual_rows)
+    number_or(found, TRACE_ROWS, usual_rows)
 }
 
 /// The game that a command's arguments name.
@@ -192,18 +255,18 @@ fn game_of<'a>(
 
 /// The limit that is asked for, or the greatest.
 fn limit_of(found: &ArgMatches<'_>) -> u64 {
-    number_in(found, LIMIT).unwrap_or(MAX_LIMIT)
+    number_or(found, LIMIT, MAX_LIMIT)
 }
 
-/// The number of an option, if it is there.
-fn number_in(found: &ArgMatches<'_>, option: OptionRow) -> Option<u64> {
-    found.get_one::<u64>(option.name)
+/// The number of an option, or the usual one where the option is not there.
+fn number_or(found: &ArgMatches<'_>, option: &OptionRow, usual: u64) -> u64 {
+    found.get_one::<u64>(option.name).unwrap_or(usual)
 }
 
 /// The file of an option, if it is there.
 fn file_in<'a>(
     found: &ArgMatches<'a>,
-    option: OptionRow,
+    option: &OptionRow,
     arguments: &[String],
 ) -> Result<Option<FileArgument<'a>>, ArgumentsFault> {
     match found.get_str(option.name) {
@@ -218,7 +281,7 @@ fn file_in<'a>(
 /// The file that is this operand of a command, which has so many operands before it.
 fn file_of<'a>(
     found: &ArgMatches<'a>,
-    operand: OperandRow,
+    operand: &OperandRow,
     arguments: &[String],
     operands_before: u64,
 ) -> Result<FileArgument<'a>, ArgumentsFault> {
@@ -229,7 +292,7 @@ fn file_of<'a>(
 }
 
 /// The number of the argument that has the value of this option, which may stand behind it or in it.
-fn value_number_of(arguments: &[String], option: OptionRow) -> Option<u64> {
+fn value_number_of(arguments: &[String], option: &OptionRow) -> Option<u64> {
     for (index, argument) in arguments.iter().enumerate().skip(2) {
         match after_name(argument.as_str(), option) {
             Some("") => return Some(index as u64),
@@ -241,7 +304,7 @@ fn value_number_of(arguments: &[String], option: OptionRow) -> Option<u64> {
 }
 
 /// What stands in an argument behind the name of this option, where it begins with that.
-fn after_name<'a>(argument: &'a str, option: OptionRow) -> Option<&'a str> {
+fn after_name<'a>(argument: &'a str, option: &OptionRow) -> Option<&'a str> {
     argument.strip_prefix("--")?.strip_prefix(option.name)
 }
 
@@ -276,39 +339,58 @@ fn number_of(arguments: &[String], operands_before: u64) -> Option<u64> {
 fn is_flag(argument: &str) -> bool {
     FLAGS
         .iter()
-        .any(|option| after_name(argument, *option) == Some(""))
+        .any(|option| after_name(argument, option) == Some(""))
 }
 
 /// The program as the command-line library knows it.
 fn program<'a>(alloc: Global) -> Result<Command<'a>, AllocError> {
-    let mut program = Command::new(alloc, "chipfire")
+    let commands = commands_of(alloc, &commands())?;
+    Command::new(alloc, "chipfire")
         .about("A chip-firing machine that is proved right")
         .version(texts::VERSION)
         .after_help(texts::PROGRAM)
         .disable_help_subcommand(true)
-        .subcommand_required(true);
-    for row in COMMANDS {
-        program = program.subcommand(command(alloc, row)?)?;
-    }
-    Ok(program)
+        .subcommand_required(true)
+        .subcommands(commands)
 }
 
-/// A command as the library knows it.
-fn command<'a>(alloc: Global, row: CommandRow) -> Result<Command<'a>, AllocError> {
-    let mut command = Command::new(alloc, row.name)
+/// The commands as the library knows them.
+fn commands_of<'a>(alloc: Global, rows: &[&CommandRow]) -> Result<Vec<Command<'a>>, AllocError> {
+    let mut commands = Vec::new(alloc);
+    for row in rows {
+        push_command(&mut commands, alloc, row)?;
+    }
+    Ok(commands)
+}
+
+/// Adds a command as the library knows it.
+fn push_command<'a>(
+    commands: &mut Vec<Command<'a>>,
+    alloc: Global,
+    row: &CommandRow,
+) -> Result<(), AllocError> {
+    let arguments = arguments_of(alloc, row)?;
+    let command = Command::new(alloc, row.name)
         .about(row.about)
-        .after_help(row.after_help);
+        .after_help(row.after_help)
+        .args(arguments)?;
+    Ok(commands.push(command)?)
+}
+
+/// The operands and the options of a command as the library knows them.
+fn arguments_of<'a>(alloc: Global, row: &CommandRow) -> Result<Vec<Arg<'a>>, AllocError> {
+    let mut arguments = Vec::new(alloc);
     for operand in row.operands {
-        command = command.arg(argument_of_operand(alloc, *operand))?;
+        arguments.push(argument_of_operand(alloc, operand))?;
     }
     for option in row.options {
-        command = command.arg(argument_of_option(alloc, *option))?;
+        arguments.push(argument_of_option(alloc, option))?;
     }
-    Ok(command)
+    Ok(arguments)
 }
 
 /// An operand as the library knows it.
-fn argument_of_operand<'a>(alloc: Global, row: OperandRow) -> Arg<'a> {
+fn argument_of_operand<'a>(alloc: Global, row: &OperandRow) -> Arg<'a> {
     let argument = Arg::new(alloc, row.name).help(row.help);
     match row.is {
         Operand::File => argument.required(true),
@@ -317,7 +399,7 @@ fn argument_of_operand<'a>(alloc: Global, row: OperandRow) -> Arg<'a> {
 }
 
 /// An option as the library knows it.
-fn argument_of_option<'a>(alloc: Global, row: OptionRow) -> Arg<'a> {
+fn argument_of_option<'a>(alloc: Global, row: &OptionRow) -> Arg<'a> {
     let argument = Arg::new(alloc, row.name).long(row.name).help(row.help);
     match row.takes {
         OptionValue::Nothing => argument.action(ArgAction::SetTrue),

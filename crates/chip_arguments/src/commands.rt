@@ -4,7 +4,6 @@ use crate::help_texts as texts;
 use crate::limits::{MAX_LIMIT, MAX_RING, MAX_ROUNDS, MAX_TRACE_ROWS, MAX_TURNS, MAX_WORKERS};
 
 /// A command.
-#[derive(Clone, Copy)]
 pub struct CommandRow {
     pub name: &'static str,
     /// What it does, on one line.
@@ -12,13 +11,12 @@ pub struct CommandRow {
     /// What stands below the lists of its help.
     pub after_help: &'static str,
     /// What belongs to no option, in this order.
-    pub operands: &'static [OperandRow],
+    pub operands: &'static [&'static OperandRow],
     /// Each stands there once at most.
-    pub options: &'static [OptionRow],
+    pub options: &'static [&'static OptionRow],
 }
 
 /// An operand of a command.
-#[derive(Clone, Copy)]
 pub struct OperandRow {
     pub name: &'static str,
     pub help: &'static str,
@@ -26,7 +24,6 @@ pub struct OperandRow {
 }
 
 /// What an operand is.
-#[derive(Clone, Copy)]
 pub enum Operand {
     /// A file, which has to be named.
     File,
@@ -35,7 +32,6 @@ pub enum Operand {
 }
 
 /// An option of a command.
-#[derive(Clone, Copy)]
 pub struct OptionRow {
     /// Its name, without the two hyphens before it.
     pub name: &'static str,
@@ -44,7 +40,6 @@ pub struct OptionRow {
 }
 
 /// What an option takes.
-#[derive(Clone, Copy)]
 pub enum OptionValue {
     /// Nothing: it stands there or not.
     Nothing,
@@ -58,43 +53,43 @@ pub enum OptionValue {
     },
 }
 
-pub const GRAPH: OperandRow = OperandRow {
+pub const GRAPH: &OperandRow = &OperandRow {
     name: "GRAPH",
     help: "The graph, as JSON",
     is: Operand::File,
 };
 
-pub const CHIPS: OperandRow = OperandRow {
+pub const CHIPS: &OperandRow = &OperandRow {
     name: "CHIPS",
     help: "The chips at the start, as rows",
     is: Operand::File,
 };
 
-pub const SCHEDULE: OperandRow = OperandRow {
+pub const SCHEDULE: &OperandRow = &OperandRow {
     name: "SCHEDULE",
     help: "What happens, one event after another, as rows",
     is: Operand::File,
 };
 
-pub const TRACE_FILE: OperandRow = OperandRow {
+pub const TRACE_FILE: &OperandRow = &OperandRow {
     name: "TRACE",
     help: "What each vertex took and fired, as rows",
     is: Operand::File,
 };
 
-pub const REPORT: OperandRow = OperandRow {
+pub const REPORT: &OperandRow = &OperandRow {
     name: "REPORT",
     help: "The report of the play so far, of version 1 or 2",
     is: Operand::File,
 };
 
-pub const FAULT_NUMBER: OperandRow = OperandRow {
+pub const FAULT_NUMBER: &OperandRow = &OperandRow {
     name: "NUMBER",
     help: "The number of a fault, as in `fault 21 Shape`",
     is: Operand::Number,
 };
 
-pub const LIMIT: OptionRow = OptionRow {
+pub const LIMIT: &OptionRow = &OptionRow {
     name: "limit",
     help: "How often each vertex may fire, 0 to 2^40 [default: 2^40]",
     takes: OptionValue::Number {
@@ -104,7 +99,7 @@ pub const LIMIT: OptionRow = OptionRow {
     },
 };
 
-pub const RING: OptionRow = OptionRow {
+pub const RING: &OptionRow = &OptionRow {
     name: "ring",
     help: "How many cells the ring of an edge has, 1 to 64 [default: 1]",
     takes: OptionValue::Number {
@@ -114,7 +109,7 @@ pub const RING: OptionRow = OptionRow {
     },
 };
 
-pub const ROUNDS: OptionRow = OptionRow {
+pub const ROUNDS: &OptionRow = &OptionRow {
     name: "rounds",
     help: "How many rounds of turns follow, until the root closes, 0 to 2^40 [default: 0]",
     takes: OptionValue::Number {
@@ -124,19 +119,19 @@ pub const ROUNDS: OptionRow = OptionRow {
     },
 };
 
-pub const BOOKS: OptionRow = OptionRow {
+pub const BOOKS: &OptionRow = &OptionRow {
     name: "books",
     help: "Writes the books of the detector behind each reply: deficits, parents, what is owed",
     takes: OptionValue::Nothing,
 };
 
-pub const FED: OptionRow = OptionRow {
+pub const FED: &OptionRow = &OptionRow {
     name: "fed",
     help: "Lets the schedule feed chips; the root closes only after its event end",
     takes: OptionValue::Nothing,
 };
 
-pub const WORKERS: OptionRow = OptionRow {
+pub const WORKERS: &OptionRow = &OptionRow {
     name: "workers",
     help: "How many threads share the vertices, 1 to 64 [default: 2]",
     takes: OptionValue::Number {
@@ -146,7 +141,7 @@ pub const WORKERS: OptionRow = OptionRow {
     },
 };
 
-pub const TURNS: OptionRow = OptionRow {
+pub const TURNS: &OptionRow = &OptionRow {
     name: "turns",
     help: "How many turns each thread makes at most, 1 to 2^40 [default: 2^30]",
     takes: OptionValue::Number {
@@ -156,19 +151,19 @@ pub const TURNS: OptionRow = OptionRow {
     },
 };
 
-pub const FEED: OptionRow = OptionRow {
+pub const FEED: &OptionRow = &OptionRow {
     name: "feed",
     help: "Gives the vertices the chips of this file, too, while they play",
     takes: OptionValue::File,
 };
 
-pub const TRACE: OptionRow = OptionRow {
+pub const TRACE: &OptionRow = &OptionRow {
     name: "trace",
     help: "Writes what each vertex took and fired into this file, for `replay`",
     takes: OptionValue::File,
 };
 
-pub const TRACE_ROWS: OptionRow = OptionRow {
+pub const TRACE_ROWS: &OptionRow = &OptionRow {
     name: "trace-rows",
     help: "How many rows of each vertex are recorded, 0 to 2^20 [default: 1024 with --trace]",
     takes: OptionValue::Number {
@@ -178,66 +173,74 @@ pub const TRACE_ROWS: OptionRow = OptionRow {
     },
 };
 
-pub const PROGRESS: OptionRow = OptionRow {
+pub const PROGRESS: &OptionRow = &OptionRow {
     name: "progress",
     help: "Tells on standard error, once a second at most, how the play goes on",
     takes: OptionValue::Nothing,
 };
 
 /// The options that take nothing.
-pub const FLAGS: [OptionRow; 3] = [BOOKS, FED, PROGRESS];
+pub const FLAGS: &[&OptionRow] = &[BOOKS, FED, PROGRESS];
+
+const CHECK: &CommandRow = &CommandRow {
+    name: "check",
+    about: "Shows a graph: each vertex with its out-degree and its distance to the sink",
+    after_help: texts::CHECK,
+    operands: &[GRAPH],
+    options: &[],
+};
+
+const PLAIN: &CommandRow = &CommandRow {
+    name: "plain",
+    about: "Plays a game on one thread and writes its report",
+    after_help: texts::PLAIN,
+    operands: &[GRAPH, CHIPS],
+    options: &[LIMIT, PROGRESS],
+};
+
+const RUN: &CommandRow = &CommandRow {
+    name: "run",
+    about: "Plays a game on threads and writes its report, which is that of plain",
+    after_help: texts::RUN,
+    operands: &[GRAPH, CHIPS],
+    options: &[
+        LIMIT, RING, WORKERS, TURNS, FEED, TRACE, TRACE_ROWS, PROGRESS,
+    ],
+};
+
+const SIMULATE: &CommandRow = &CommandRow {
+    name: "simulate",
+    about: "Runs a schedule on the detector, and writes each reply and the report where the root closes",
+    after_help: texts::SIMULATE,
+    operands: &[GRAPH, CHIPS, SCHEDULE],
+    options: &[LIMIT, RING, ROUNDS, BOOKS, FED],
+};
+
+const REPLAY: &CommandRow = &CommandRow {
+    name: "replay",
+    about: "Replays a recorded run and writes its firings, in an order in which they fit together",
+    after_help: texts::REPLAY,
+    operands: &[GRAPH, CHIPS, TRACE_FILE],
+    options: &[LIMIT],
+};
+
+const RESUME: &CommandRow = &CommandRow {
+    name: "resume",
+    about: "Goes on from where a report says that a play stopped, and writes the report of this sitting",
+    after_help: texts::RESUME,
+    operands: &[GRAPH, REPORT],
+    options: &[LIMIT],
+};
+
+const EXPLAIN: &CommandRow = &CommandRow {
+    name: "explain",
+    about: "Explains the fault with a number, or lists all faults",
+    after_help: texts::EXPLAIN,
+    operands: &[FAULT_NUMBER],
+    options: &[],
+};
 
 /// The commands, in the order in which the help lists them.
-pub const COMMANDS: [CommandRow; 7] = [
-    CommandRow {
-        name: "check",
-        about: "Shows a graph: each vertex with its out-degree and its distance to the sink",
-        after_help: texts::CHECK,
-        operands: &[GRAPH],
-        options: &[],
-    },
-    CommandRow {
-        name: "plain",
-        about: "Plays a game on one thread and writes its report",
-        after_help: texts::PLAIN,
-        operands: &[GRAPH, CHIPS],
-        options: &[LIMIT, PROGRESS],
-    },
-    CommandRow {
-        name: "run",
-        about: "Plays a game on threads and writes its report, which is that of plain",
-        after_help: texts::RUN,
-        operands: &[GRAPH, CHIPS],
-        options: &[
-            LIMIT, RING, WORKERS, TURNS, FEED, TRACE, TRACE_ROWS, PROGRESS,
-        ],
-    },
-    CommandRow {
-        name: "simulate",
-        about: "Runs a schedule on the detector, and writes each reply and the report where the root closes",
-        after_help: texts::SIMULATE,
-        operands: &[GRAPH, CHIPS, SCHEDULE],
-        options: &[LIMIT, RING, ROUNDS, BOOKS, FED],
-    },
-    CommandRow {
-        name: "replay",
-        about: "Replays a recorded run and writes its firings, in an order in which they fit together",
-        after_help: texts::REPLAY,
-        operands: &[GRAPH, CHIPS, TRACE_FILE],
-        options: &[LIMIT],
-    },
-    CommandRow {
-        name: "resume",
-        about: "Goes on from where a report says that a play stopped, and writes the report of this sitting",
-        after_help: texts::RESUME,
-        operands: &[GRAPH, REPORT],
-        options: &[LIMIT],
-    },
-    CommandRow {
-        name: "explain",
-        about: "Explains the fault with a number, or lists all faults",
-        after_help: texts::EXPLAIN,
-        operands: &[FAULT_NUMBER],
-        options: &[],
-    },
-];
+pub fn commands() -> [&'static CommandRow; 7] {
+    [CHECK, PLAIN, RUN, SIMULATE, REPLAY, RESUME, EXPLAIN]
+}

@@ -5,8 +5,8 @@
 #![tactic(auto)]
 
 pub use arguments::{
-    FileArgument, GameArguments, PlainArguments, Request, RunArguments, SimulationArguments,
-    SittingArguments, parse,
+    FileArgument, GameArguments, PlainArguments, ReplayArguments, Request, RunArguments,
+    SimulationArguments, SittingArguments, parse,
 };
 pub use fault::ArgumentsFault;
 

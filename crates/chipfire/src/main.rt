@@ -4,8 +4,10 @@
 //! writes. The program reads the arguments, opens the files that they name and calls the engine.
 #![tactic(auto)]
 
+ghost use Rattle.std.specs.Prelude.{◌≡◌, None};
+
 use chip_arguments::{
-    ArgumentsFault, FileArgument, GameArguments, PlainArguments, Request, RunArguments,
+    ArgumentsFault, FileArgument, PlainArguments, ReplayArguments, Request, RunArguments,
     SimulationArguments, SittingArguments, limits, parse,
 };
 use chip_crew::{MAX_TRACE_ROWS, MAX_TURNS, MAX_WORKERS, Plan};
@@ -59,37 +61,68 @@ fn main(rt: HostRuntime) -> ExitCode {
     }
 }
 
-/// Does what the arguments ask for.
+/// Does what the program's arguments ask for.
 fn run<R: Env + Files + Print + Eprint + Clock + AllocGlobal + Threads + Wait + Sync>(
     rt: &R,
 ) -> Result<Ended, Fault> {
-    let alloc = rt.alloc();
-    let arguments: Vec<String> = env::args(rt).map_err(fault_of_arguments)?.collect(alloc)?;
+    let arguments = arguments_of(rt)?;
     let mut output = io::writer(rt);
     if arguments.len() < 2 {
-        let (mut graph, mut chips) = (TRIANGLE.as_bytes(), FOUR_CHIPS.as_bytes());
-        return plain_engine(alloc, &mut graph, &mut chips, MAX_LIMIT, &mut output);
+        return play_triangle(rt, &mut output);
     }
-    match parse(alloc, &arguments).map_err(fault_of)? {
-        Request::Help(text) => help(text.as_str(), &mut output),
-        Request::Check(graph) => check_engine(alloc, &mut open(rt, graph)?, &mut output),
-        Request::Plain(asked) => play(rt, asked, &mut output),
-        Request::Simulate(asked) => simulate(rt, asked, &mut output),
-        Request::Run(asked) => play_on_threads(rt, asked, &mut output),
-        Request::Replay(game, trace) => replay(rt, game, trace, &mut output),
-        Request::Resume(sitting) => resume(rt, sitting, &mut output),
-        Request::Explain(number) => explain(rt, number, &mut output),
+    match parse(rt.alloc(), &arguments) {
+        Ok(request) => serve(rt, &request, &mut output),
+        Err(fault) => Err(fault_of(fault)),
     }
+}
+
+/// The arguments of the program, its own name first.
+fn arguments_of<R: Env + AllocGlobal>(rt: &R) -> Result<Vec<String>, Fault> {
+    let arguments = env::args(rt).map_err(fault_of_arguments)?;
+    Ok(arguments.collect(rt.alloc())?)
+}
+
+/// Plays the game that is played without arguments.
+fn play_triangle<R: AllocGlobal, W: io::Write>(rt: &R, output: &mut W) -> Result<Ended, Fault> {
+    let (mut graph, mut chips) = (TRIANGLE.as_bytes(), FOUR_CHIPS.as_bytes());
+    plain_engine(rt.alloc(), &mut graph, &mut chips, MAX_LIMIT, output)
+}
+
+/// Does what is asked for.
+fn serve<R: Files + Clock + Eprint + AllocGlobal + Threads + Wait + Sync, W: io::Write>(
+    rt: &R,
+    request: &Request<'_>,
+    output: &mut W,
+) -> Result<Ended, Fault> {
+    match request {
+        Request::Help(text) => help(text, output),
+        Request::Check(graph) => check(rt, graph, output),
+        Request::Plain(asked) => play(rt, asked, output),
+        Request::Simulate(asked) => simulate(rt, asked, output),
+        Request::Run(asked) => play_on_threads(rt, asked, output),
+        Request::Replay(asked) => replay(rt, asked, output),
+        Request::Resume(sitting) => resume(rt, sitting, output),
+        Request::Explain(number) => explain(rt, *number, output),
+    }
+}
+
+/// Shows a graph.
+fn check<R: Files + AllocGlobal, W: io::Write>(
+    rt: &R,
+    graph: &FileArgument<'_>,
+    output: &mut W,
+) -> Result<Ended, Fault> {
+    check_engine(rt.alloc(), &mut open(rt, graph)?, output)
 }
 
 /// Plays a game on one thread.
 fn play<R: Files + Clock + Eprint + AllocGlobal, W: io::Write>(
     rt: &R,
-    asked: PlainArguments<'_>,
+    asked: &PlainArguments<'_>,
     output: &mut W,
 ) -> Result<Ended, Fault> {
-    let mut graph = open(rt, asked.game.graph)?;
-    let mut chips = open(rt, asked.game.chips)?;
+    let mut graph = open(rt, &asked.game.graph)?;
+    let mut chips = open(rt, &asked.game.chips)?;
     plain_engine_watched(
         rt.alloc(),
         &mut graph,
@@ -103,26 +136,13 @@ fn play<R: Files + Clock + Eprint + AllocGlobal, W: io::Write>(
 /// Plays a game on threads.
 fn play_on_threads<R: Files + Clock + Eprint + AllocGlobal + Threads + Wait + Sync, W: io::Write>(
     rt: &R,
-    asked: RunArguments<'_>,
+    asked: &RunArguments<'_>,
     output: &mut W,
 ) -> Result<Ended, Fault> {
-    let mut graph = open(rt, asked.game.graph)?;
-    let mut chips = open(rt, asked.game.chips)?;
-    let mut feed = match asked.feed {
-        Some(file) => Some(open(rt, file)?),
-        None => None,
-    };
-    let mut trace = match asked.trace {
-        Some(file) => Some(create(rt, file)?),
-        None => None,
-    };
-    let plan = Plan {
-        workers: asked.workers,
-        ring: asked.ring,
-        turns: asked.turns,
-        trace_rows: asked.trace_rows,
-        seal: None,
-    };
+    let mut graph = open(rt, &asked.game.graph)?;
+    let mut chips = open(rt, &asked.game.chips)?;
+    let mut feed = open_feed(rt, asked)?;
+    let mut trace = create_trace(rt, asked)?;
     run_engine_gated(
         rt,
         rt.alloc(),
@@ -130,23 +150,52 @@ fn play_on_threads<R: Files + Clock + Eprint + AllocGlobal + Threads + Wait + Sy
         &mut chips,
         feed.as_mut(),
         asked.game.limit,
-        plan,
+        plan_of(asked),
         &TurnProgress::start(rt, asked.progress),
         &mut trace,
         output,
     )
 }
 
+/// Opens the file of the chips that are fed, if there are any.
+fn open_feed<R: Files>(rt: &R, asked: &RunArguments<'_>) -> Result<Option<R::File>, Fault> {
+    match &asked.feed {
+        Some(file) => Ok(Some(open(rt, file)?)),
+        None => Ok(None),
+    }
+}
+
+/// Makes the file of the trace, if one is asked for.
+fn create_trace<R: Files>(rt: &R, asked: &RunArguments<'_>) -> Result<Option<R::File>, Fault> {
+    match &asked.trace {
+        Some(file) => Ok(Some(create(rt, file)?)),
+        None => Ok(None),
+    }
+}
+
+/// The plan for the threads that play, which seals nothing.
+fn plan_of(asked: &RunArguments<'_>) -> Plan
+    ensures { result.seal ≡ None }
+{
+    Plan {
+        workers: asked.workers,
+        ring: asked.ring,
+        turns: asked.turns,
+        trace_rows: asked.trace_rows,
+        seal: None,
+    }
+}
+
 /// Runs a schedule.
 fn simulate<R: Files + AllocGlobal, W: io::Write>(
     rt: &R,
-    asked: SimulationArguments<'_>,
+    asked: &SimulationArguments<'_>,
     output: &mut W,
 ) -> Result<Ended, Fault> {
     let ring = Ring::new(asked.ring).ok_or(Fault::Usage)?;
-    let mut graph = open(rt, asked.game.graph)?;
-    let mut chips = open(rt, asked.game.chips)?;
-    let mut schedule = open(rt, asked.schedule)?;
+    let mut graph = open(rt, &asked.game.graph)?;
+    let mut chips = open(rt, &asked.game.chips)?;
+    let mut schedule = open(rt, &asked.schedule)?;
     simulate_engine(
         rt.alloc(),
         &mut graph,
@@ -164,19 +213,18 @@ fn simulate<R: Files + AllocGlobal, W: io::Write>(
 /// Replays a recorded run.
 fn replay<R: Files + AllocGlobal, W: io::Write>(
     rt: &R,
-    game: GameArguments<'_>,
-    trace: FileArgument<'_>,
+    asked: &ReplayArguments<'_>,
     output: &mut W,
 ) -> Result<Ended, Fault> {
-    let mut graph = open(rt, game.graph)?;
-    let mut chips = open(rt, game.chips)?;
-    let mut trace = open(rt, trace)?;
+    let mut graph = open(rt, &asked.game.graph)?;
+    let mut chips = open(rt, &asked.game.chips)?;
+    let mut trace = open(rt, &asked.trace)?;
     replay_engine(
         rt.alloc(),
         &mut graph,
         &mut chips,
         &mut trace,
-        game.limit,
+        asked.game.limit,
         output,
     )
 }
@@ -184,11 +232,11 @@ fn replay<R: Files + AllocGlobal, W: io::Write>(
 /// Goes on with a play.
 fn resume<R: Files + AllocGlobal, W: io::Write>(
     rt: &R,
-    sitting: SittingArguments<'_>,
+    sitting: &SittingArguments<'_>,
     output: &mut W,
 ) -> Result<Ended, Fault> {
-    let mut graph = open(rt, sitting.graph)?;
-    let mut report = open(rt, sitting.report)?;
+    let mut graph = open(rt, &sitting.graph)?;
+    let mut report = open(rt, &sitting.report)?;
     resume_engine(rt.alloc(), &mut graph, &mut report, sitting.limit, output)
 }
 
@@ -203,7 +251,7 @@ fn explain<R: AllocGlobal, W: io::Write>(
 
 /// Opens the file that an argument names. Nothing is allocated for it, so where the system wants memory the file could
 /// not be opened.
-fn open<R: Files>(rt: &R, file: FileArgument<'_>) -> Result<R::File, Fault> {
+fn open<R: Files>(rt: &R, file: &FileArgument<'_>) -> Result<R::File, Fault> {
     fs::open(rt, file.path).map_err(|_| Fault::Open(file.number))
 }
 
@@ -211,7 +259,7 @@ fn open<R: Files>(rt: &R, file: FileArgument<'_>) -> Result<R::File, Fault> {
 ///
 /// A file gets the first number that is free, which may be that of a standard stream that is closed. Then a fault's
 /// line would go into it, so three other files have those numbers meanwhile.
-fn create<R: Files>(rt: &R, file: FileArgument<'_>) -> Result<R::File, Fault> {
+fn create<R: Files>(rt: &R, file: &FileArgument<'_>) -> Result<R::File, Fault> {
     let _first = no_file(rt, file)?;
     let _second = no_file(rt, file)?;
     let _third = no_file(rt, file)?;
@@ -219,8 +267,12 @@ fn create<R: Files>(rt: &R, file: FileArgument<'_>) -> Result<R::File, Fault> {
 }
 
 /// A file in which there is nothing, in the place of one that an argument names.
-fn no_file<R: Files>(rt: &R, file: FileArgument<'_>) -> Result<R::File, Fault> {
-    fs::open(rt, "/dev/null").map_err(|_| Fault::Open(file.number))
+fn no_file<R: Files>(rt: &R, file: &FileArgument<'_>) -> Result<R::File, Fault> {
+    let nothing = FileArgument {
+        path: "/dev/null",
+        number: file.number,
+    };
+    open(rt, &nothing)
 }
 
 /// Why there are no arguments: there is no memory for them, or one is no UTF-8.

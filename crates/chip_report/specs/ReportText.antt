@@ -40,3 +40,11 @@ report_text outcome =
     ++ codes ",\"over\":" ++ array_text outcome.over.items
     ++ codes ",\"sealed\":" ++ array_text outcome.sealed.items
     ++ codes ",\"version\":1}\n"
+
+-- what the reports of both versions begin with: an outcome as far as the vertices that are over
+abbrev pub start_text : Outcome → List ℕ
+start_text outcome =
+    codes "{\"chips\":" ++ array_text outcome.chips.items
+    ++ codes ",\"closed\":" ++ bool_text (is_closed outcome)
+    ++ codes ",\"fired\":" ++ array_text outcome.fired.items
+    ++ codes ",\"over\":" ++ array_text outcome.over.items

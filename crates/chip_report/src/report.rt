@@ -2,7 +2,7 @@
 
 ghost use Rattle.std.specs.Prelude.{◌≡◌, ◌++◌, IfOk, string_bytes};
 ghost use Rattle.std.specs.Fmt.{decimal};
-ghost use Rattle.chip_report.specs.ReportText.{member_text, array_text, bool_text, is_closed, report_text};
+ghost use Rattle.chip_report.specs.ReportText.{member_text, array_text, bool_text, is_closed, report_text, start_text};
 
 use chip_sequence::Outcome;
 use std::alloc::{AllocError, Global};
@@ -11,19 +11,22 @@ use std::alloc::{AllocError, Global};
 pub fn report(alloc: Global, outcome: &Outcome) -> Result<Vec<u8>, AllocError>
     ensures { IfOk result (λ bytes. bytes.items ≡ report_text outcome.now) }
 {
-    let mut text = String::new(alloc);
-    text.push_str("{\"chips\":")?;
-    push_array(&mut text, &outcome.chips)?;
-    text.push_str(",\"closed\":")?;
-    push_bool(&mut text, is_closed(outcome))?;
-    text.push_str(",\"fired\":")?;
-    push_array(&mut text, &outcome.fired)?;
-    text.push_str(",\"over\":")?;
-    push_array(&mut text, &outcome.over)?;
-    text.push_str(",\"sealed\":")?;
-    push_array(&mut text, &outcome.sealed)?;
+    let mut text = start_of_report(alloc, outcome)?;
+    push_list(&mut text, ",\"sealed\":", &outcome.sealed)?;
     text.push_str(",\"version\":1}\n")?;
     Ok(text.into_bytes())
+}
+
+/// What the reports of both versions begin with: an outcome as far as the vertices that are over.
+pub(crate) fn start_of_report(alloc: Global, outcome: &Outcome) -> Result<String, AllocError>
+    ensures { IfOk result (λ text. string_bytes text ≡ start_text outcome.now) }
+{
+    let mut text = String::new(alloc);
+    push_list(&mut text, "{\"chips\":", &outcome.chips)?;
+    push_bool(&mut text, ",\"closed\":", is_closed(outcome))?;
+    push_list(&mut text, ",\"fired\":", &outcome.fired)?;
+    push_list(&mut text, ",\"over\":", &outcome.over)?;
+    Ok(text)
 }
 
 /// Whether no vertex halted.
@@ -33,15 +36,24 @@ pub fn is_closed(outcome: &Outcome) -> bool
     outcome.over.is_empty() && outcome.sealed.is_empty()
 }
 
-/// Appends a truth value.
-pub(crate) fn push_bool(text: &mut String, value: bool) -> Result<(), AllocError>
-    ensures { IfOk result (λ _. string_bytes text.new ≡ string_bytes text.old ++ bool_text value) }
+/// Appends a truth value behind its key.
+fn push_bool(text: &mut String, key: &str, value: bool) -> Result<(), AllocError>
+    ensures { IfOk result (λ _. string_bytes text.new ≡ string_bytes text.old ++ key.now ++ bool_text value) }
 {
+    text.push_str(key)?;
     text.push_str(if value { "true" } else { "false" })
 }
 
+/// Appends numbers as a JSON array behind their key.
+pub(crate) fn push_list(text: &mut String, key: &str, numbers: &[u64]) -> Result<(), AllocError>
+    ensures { IfOk result (λ _. string_bytes text.new ≡ string_bytes text.old ++ key.now ++ array_text numbers.now) }
+{
+    text.push_str(key)?;
+    push_array(text, numbers)
+}
+
 /// Appends numbers as a JSON array.
-pub(crate) fn push_array(text: &mut String, numbers: &[u64]) -> Result<(), AllocError>
+fn push_array(text: &mut String, numbers: &[u64]) -> Result<(), AllocError>
     ensures { IfOk result (λ _. string_bytes text.new ≡ string_bytes text.old ++ array_text numbers.now) }
 {
     text.push_str("[")?;

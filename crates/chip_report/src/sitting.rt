@@ -10,7 +10,7 @@ ghost use Rattle.chip_report.specs.ReportTwo.{IsReportTwoOf, IsNoReportTwo, IsAn
 use crate::fault::ReportFault;
 use crate::parse::{numbers_under, outcome_of_value, value_of};
 use crate::read::read_report;
-use crate::report::{is_closed, push_array, push_bool};
+use crate::report::{push_list, start_of_report};
 use crate::reportable::is_outcome;
 use chip_sequence::{MAX_PRIOR, Resumed};
 use serde_json::Value;
@@ -21,19 +21,9 @@ pub fn report_two(alloc: Global, resumed: &Resumed) -> Result<Vec<u8>, AllocErro
     ensures { IfOk result (λ bytes. bytes.items ≡ report_two_text resumed.now) }
 {
     let Resumed { outcome, prior } = resumed;
-    let mut text = String::new(alloc);
-    text.push_str("{\"chips\":")?;
-    push_array(&mut text, &outcome.chips)?;
-    text.push_str(",\"closed\":")?;
-    push_bool(&mut text, is_closed(outcome))?;
-    text.push_str(",\"fired\":")?;
-    push_array(&mut text, &outcome.fired)?;
-    text.push_str(",\"over\":")?;
-    push_array(&mut text, &outcome.over)?;
-    text.push_str(",\"prior\":")?;
-    push_array(&mut text, prior)?;
-    text.push_str(",\"sealed\":")?;
-    push_array(&mut text, &outcome.sealed)?;
+    let mut text = start_of_report(alloc, outcome)?;
+    push_list(&mut text, ",\"prior\":", prior)?;
+    push_list(&mut text, ",\"sealed\":", &outcome.sealed)?;
     text.push_str(",\"version\":2}\n")?;
     Ok(text.into_bytes())
 }

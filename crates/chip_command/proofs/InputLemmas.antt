@@ -1,11 +1,11 @@
 -- The game that the files of a command mean, and why they mean none.
-use Rattle.std.proofs.Common.{◌≡◌, ◌⊎◌, ℕ, ◌^◌, ◌==◌, nat_le, Bool, true, false, List, length, sum, Option, Some, None}
+use Rattle.std.proofs.Common.{◌≡◌, ℕ, ◌^◌, ◌==◌, nat_le, Bool, true, false, List, length, sum, Option, Some, None}
 use Rattle.std.proofs.Common.{Result, Ok, Err, refl, subst}
 use Rattle.std.proofs.lemmas.Bool.{eqb-true, leb-true}
 use Rattle.std.specs.Option.{IfSome}
 use Rattle.std.specs.Result.{IsErrAnd}
 use Rattle.std.specs.Io.KnownBytes.{Keeps}
-use Rattle.chip_graph.specs.Multigraph.{Multigraph, IsGraph}
+use Rattle.chip_graph.specs.Multigraph.{IsGraph}
 use Rattle.chip_graph.specs.ChipGame.{ChipGame, IsGame}
 use Rattle.chip_graph.specs.Faults.{first_of_faults, unless, fault_of_game}
 use Rattle.chip_graph.specs.declared.fault.GameFault.TheVariants as game_fault

@@ -12,7 +12,8 @@ use Rattle.chip_link.specs.Link.{claims_of}
 use Rattle.chip_detect.specs.Tally.{message_limit}
 use Rattle.chip_part.specs.Part.{Part}
 use Rattle.chip_part.specs.Rules.{Event, Take, Claim, Settle, unmet}
-use Rattle.chip_part.specs.Steps.{Reply, part_of, does, asked}
+use Rattle.chip_part.specs.declared.reply.Reply.{Reply}
+use Rattle.chip_part.specs.Steps.{part_of, does, asked}
 use Rattle.chip_part.specs.declared.act.Act.{Act}
 use Rattle.chip_part.specs.Acting.{event_of}
 

@@ -70,12 +70,7 @@ impl Rows {
     ghost use Rattle.chip_graph.specs.Faults.{MakesGraph};
 
     /// The rows of these edges, or the first reason why they are no graph.
-    fn new(
-        alloc: Global,
-        vertices: u64,
-        sink: u64,
-        edges: Vec<Edge>,
-    ) -> Result<Rows, GraphFault>
+    fn new(alloc: Global, vertices: u64, sink: u64, edges: Vec<Edge>) -> Result<Rows, GraphFault>
         ensures makes { MakesGraph (record { vertices = vertices; sink = sink; edges = edges.items }) result }
         ensures accepted { IfOk result (λ rows. fault_of_rows rows ≡ None) }
     {

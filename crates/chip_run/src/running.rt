@@ -9,8 +9,8 @@ ghost use Rattle.chip_run.specs.RunCommand.{RunAnswers, Finishes, Plays, StopsCr
 
 use crate::feeding::read_fed;
 use crate::recording::recorded;
-use chip_crew::{CrewFault, Finished, Gate, Plan, run, run_fed};
 use chip_command::{Ended, Fault, read_game, status_of};
+use chip_crew::{CrewFault, Finished, Gate, Plan, run, run_fed};
 use chip_graph::{Game, GameFault};
 use chip_net::Actor;
 use chip_report::report::report;
@@ -103,9 +103,12 @@ pub fn run_engine_gated<
         (record { report = W.contents output.old; trace = option_map T.contents trace.old })
         (record { report = W.contents output.new; trace = option_map T.contents trace.new }) result))) }
 {
-    let game = read_game(alloc, graph, chips, limit)?;
-    let feeds = read_fed(alloc, feed, game.graph().vertices())?;
-    let played = play(rt, alloc, &game, feeds, plan, gate)?;
+    // (the game is not held while the texts go out)
+    let played = {
+        let game = read_game(alloc, graph, chips, limit)?;
+        let feeds = read_fed(alloc, feed, game.graph().vertices())?;
+        play(rt, alloc, &game, feeds, plan, gate)?
+    };
     let cut = recorded(alloc, &played.actors, trace)?;
     write_all_of(output, &played.text)?;
     Ok(Ended {

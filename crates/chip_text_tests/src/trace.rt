@@ -1,8 +1,8 @@
 //! Worked runs of the triangle, with values from outside.
 
-use chip_trace::{ReplayFault, TraceFault, replay, write_trace};
 use chip_graph::{Edge, Game, Graph};
 use chip_link::TraceRow;
+use chip_trace::{ReplayFault, TraceFault, replay, write_trace};
 use std::alloc::Global;
 use std::io;
 use std::test::Fail;

@@ -10,10 +10,11 @@ use chip_arguments::{
     ArgumentsFault, FileArgument, PlainArguments, ReplayArguments, Request, RunArguments,
     SimulationArguments, SittingArguments, limits, parse,
 };
+use chip_command::{DONE, Ended, Fault, explanations};
 use chip_crew::{MAX_TRACE_ROWS, MAX_TURNS, MAX_WORKERS, Plan};
 use chip_engine::{
-    DONE, Ended, Fault, check_engine, explain_engine, explanations, plain_engine,
-    plain_engine_watched, replay_engine, resume_engine, simulate_engine,
+    check_engine, explain_engine, plain_engine, plain_engine_watched, replay_engine, resume_engine,
+    simulate_engine,
 };
 use chip_graph::MAX_LIMIT;
 use chip_link::{MAX_RING, Ring};

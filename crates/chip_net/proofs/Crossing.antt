@@ -12,8 +12,7 @@ use Rattle.chip_actor.proofs.actor.ActorState.TheSendSync as state
 use Rattle.chip_net.proofs.trace.Trace.TheSendSync as trace
 use Rattle.chip_net.proofs.net.Net.TheSendSync as shared
 use Rattle.chip_root.proofs.root.RootState.TheSendSync as root_state
-use Rattle.chip_graph.proofs.game.Game.TheSendSync as game
-use Rattle.chip_net.proofs.tally.Tally.TheSendSync as tally
+use Rattle.chip_net.proofs.reserve.Reserve.TheSendSync as reserve
 use Rattle.chip_net.specs.contracts.root_hand.RootHand as root_hand
 use Rattle.chip_net.specs.contracts.root.Root as root
 use Rattle.chip_net.specs.contracts.hand.Hand as hand
@@ -31,7 +30,7 @@ pub root_hand_send : IsSend root_hand.the_row
 root_hand_send = search (crosses, sendable, seat.the_send, root_state.the_send) depth 60
 
 pub root_send : IsSend root.the_row
-root_send = search (crosses, sendable, root_hand_send, game.the_send, tally.the_send) depth 60
+root_send = search (crosses, sendable, root_hand_send, reserve.the_send) depth 60
 
 pub stopper_send : IsSend stopper.the_row
 stopper_send = search (crosses, sendable, seat.the_send) depth 60

@@ -10,7 +10,7 @@ use Rattle.chip_sequence.specs.Counted.{IsAfter}
 use Rattle.chip_sequence.specs.Sequence.{position_after, counts, IsFiringSequence, HasEnded}
 use Rattle.chip_sequence.specs.Play.{IsPlayed}
 use Rattle.chip_link.specs.Words.{fired_in, halted_in, by_limit_in}
-use Rattle.chip_part.specs.Setting.{Setting, game_of_setting}
+use Rattle.chip_part.specs.Setting.{game_of_setting}
 use Rattle.chip_part.specs.Edges.{root, stopper}
 use Rattle.chip_core.specs.Core.{Log, Step, Read, part_in, word_of_part, IsLegalLog, IsClosed}
 use Rattle.chip_core.specs.Histories.{done_by}
@@ -89,15 +89,12 @@ pub record IsReading (old now : RootKnown) (tally : TallyState) (count : ℕ) : 
   pub tallied : AreRead words tally.fired tally.over tally.sealed
   pub room_is : tally.room ≡ old.net.setting.graph.vertices - count
 
--- what the root keeps for its end: the game that the net was opened for, and room for what was fed to each vertex, for
--- the tally and for the chips
-pub record IsReady (g : Setting) (game : ChipGame) (more : List (ℕ × ℕ)) (room : ℕ) (tally : TallyState)
-    (chips : List ℕ) : Type 0 where
-  pub game_is : game ≡ game_of_setting g
+-- what the root keeps for its end beside the game: room for what was fed to each vertex, for the tally and for the chips
+pub record IsReady (game : ChipGame) (more : List (ℕ × ℕ)) (room : ℕ) (tally : TallyState) (chips : List ℕ) : Type 0 where
   pub none_yet : more ≡ []
-  pub room_each : g.graph.vertices ≤ room
-  pub blank : tally ≡ blank_tally g.graph.vertices
-  pub chips_each : length chips ≡ g.graph.vertices
+  pub room_each : game.graph.vertices ≤ room
+  pub blank : tally ≡ blank_tally game.graph.vertices
+  pub chips_each : length chips ≡ game.graph.vertices
 
 -- ---- the end
 

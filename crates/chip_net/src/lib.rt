@@ -15,6 +15,7 @@ mod net;
 mod net_words;
 mod open;
 mod receipt;
+mod reserve;
 mod root;
 mod root_hand;
 mod rule;

@@ -4,7 +4,7 @@ ghost use Rattle.std.specs.Prelude.{◌≡◌, ℕ, ◌<◌, ◌≤◌, ◌+◌,
 ghost use Rattle.chip_part.specs.Setting.{setting_of, setting_with};
 ghost use Rattle.chip_part.specs.Edges.{graph_edges, all_edges, root, stopper};
 ghost use Rattle.chip_net.specs.Opening.{AreOpening};
-ghost use Rattle.chip_net.specs.Views.{find};
+ghost use Rattle.chip_net.specs.Views.{find, opening_view};
 ghost use Rattle.chip_net.specs.Tokens.{newcomer};
 ghost use Rattle.chip_net.specs.Roots.{new_root, new_stopper};
 
@@ -67,8 +67,8 @@ fn one_actor(
 {
     let own = net.hand_on(seat, vertex);
     let setup = net.setup();
-    let state = ActorState::new(alloc, setup.game(), vertex, setup.ring())?;
     let trace = Trace::new(alloc, trace_rows as usize)?;
+    let state = ActorState::new(alloc, setup.game(), vertex, setup.ring())?;
     Ok(Actor::new(state, Hand::new(Snapshot::of(setup), own, vertex, trace)))
 }
 
@@ -115,6 +115,37 @@ fn stopper_of(net: &Net, seat: &mut PartSeat, stoppable: bool) -> Option<Stopper
     Some(Stopper::new(Snapshot::of(net.setup()), own))
 }
 
+/// A net for this setup, as it opens, and the seat that has every part.
+fn laid_out(alloc: Global, setup: Setup) -> Result<(Net, PartSeat), AllocError>
+    ensures net { IfOk result (λ r. r.0.setting ≡ setup) }
+    ensures seat { IfOk result (λ r. (r.1.table_id ≡ r.0.table) × (r.1.me.0 ≡ opening_view r.0.setting)) }
+{
+    let words = opening_words(alloc, &setup)?;
+    Net::of_words(alloc, setup, &words)
+}
+
+/// The tokens of a net that opens: the root, the actors and the stopper.
+fn tokens(
+    alloc: Global,
+    net: &Net,
+    mut seat: PartSeat,
+    trace_rows: u64,
+    stoppable: bool,
+) -> Result<(Root, Vec<Actor>, Option<Stopper>), AllocError>
+    requires { (seat.table_id ≡ net.now.table) × (seat.me.0 ≡ opening_view net.now.setting) }
+    ensures root { IfOk result (λ r. r.0 ≡ new_root net.now (if stoppable then None else Some [])) }
+    ensures count { IfOk result (λ r. length r.1.items ≡ net.now.setting.graph.vertices) }
+    ensures actors { IfOk result (λ r. (v : ℕ) → v < net.now.setting.graph.vertices
+        → slice_get r.1.items v ≡ Some (newcomer net.now trace_rows v)) }
+    ensures ours { IfOk result (λ r. All (λ a. a.net ≡ net.now) r.1.items) }
+    ensures stopper { IfOk result (λ r. r.2 ≡ (if stoppable then Some (new_stopper net.now) else None)) }
+{
+    let actors = all_actors(alloc, net, &mut seat, trace_rows)?;
+    let stopper = stopper_of(net, &mut seat, stoppable);
+    let root = Root::new(alloc, net.setup(), seat)?;
+    Ok((root, actors, stopper))
+}
+
 /// A net for this game, fed or not, with its tokens.
 fn opened(
     alloc: Global,
@@ -130,11 +161,8 @@ fn opened(
     ensures ours { IfOk result (λ r. All (λ a. a.net ≡ r.0) r.2.items) }
     ensures stopper { IfOk result (λ r. r.3 ≡ (if stoppable then Some (new_stopper r.0) else None)) }
 {
-    let words = opening_words(alloc, &setup)?;
-    let (net, mut seat) = Net::of_words(alloc, setup, &words)?;
-    let actors = all_actors(alloc, &net, &mut seat, trace_rows)?;
-    let stopper = stopper_of(&net, &mut seat, stoppable);
-    let root = Root::new(alloc, net.setup(), seat)?;
+    let (net, seat) = laid_out(alloc, setup)?;
+    let (root, actors, stopper) = tokens(alloc, &net, seat, trace_rows, stoppable)?;
     Ok((net, root, actors, stopper))
 }
 

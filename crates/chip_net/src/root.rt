@@ -1,4 +1,5 @@
 ghost use Rattle.std.specs.Prelude.{◌≡◌, ◌<◌, ◌≤◌, [], Some, IfOk, MatchResult};
+ghost use Rattle.chip_part.specs.Setting.{game_of_setting};
 ghost use Rattle.chip_part.specs.Edges.{root, stopper};
 ghost use Rattle.chip_net.specs.Views.{find};
 ghost use Rattle.chip_net.specs.Roots.{new_root, IsOver, Feeds, RefusesFeed, Polls, Ends};
@@ -6,11 +7,11 @@ ghost use Rattle.chip_net.specs.Finish.{Finishes};
 
 use crate::net::Net;
 use crate::receipt::Receipt;
+use crate::reserve::Reserve;
 use crate::root_hand::RootHand;
 use crate::rule::PartSeat;
 use crate::setup::Setup;
 use crate::tally::Tally;
-use chip_graph::Game;
 use chip_link::Event;
 use chip_part::Reply;
 use chip_sequence::{Outcome, after_into};
@@ -40,25 +41,21 @@ pub enum FeedFault {
 /// The root of a net. Contracts see what it has done.
 #[derive(Drop)]
 pub struct Root {
-    hand: RootHand,
-    // What `finish` makes the outcome of.
-    game: Game,
-    more: Vec<(u64, u64)>,
-    tally: Tally,
-    chips: Vec<u64>,
+    hand: Box<RootHand>,
+    reserve: Box<Reserve>,
 }
 
 impl Model for Root {
-    ghost use Rattle.std.specs.Vec.{vec_capacity};
+    ghost use Rattle.std.specs.Prelude.{◌≡◌};
+    ghost use Rattle.chip_part.specs.Setting.{game_of_setting};
     ghost use Rattle.chip_net.specs.Roots.{RootKnown, HoldsNothing};
-    ghost use Rattle.chip_net.specs.Finish.{IsReady};
 
     ghost Value = { RootKnown };
 
-    ghost view = { λ a. a.hand };
+    ghost view = { λ a. a.hand.value };
 
-    ghost invariant = { λ a. HoldsNothing a.hand
-        × IsReady a.hand.net.setting a.game a.more.items (vec_capacity a.more) a.tally a.chips.items };
+    ghost invariant = { λ a. HoldsNothing a.hand.value
+        × (a.reserve.value ≡ game_of_setting a.hand.value.net.setting) };
 }
 
 impl Root {
@@ -67,13 +64,9 @@ impl Root {
         ensures { IfOk result (λ r. r ≡ new_root (record { table = seat.table_id; setting = setup.now })
             (find (stopper setup.now) seat.me.0.parts)) }
     {
-        let vertices = setup.vertices() as usize;
         Ok(Root {
-            hand: RootHand::new(alloc, setup, seat)?,
-            game: setup.game().copy(alloc)?,
-            more: Vec::with_capacity(alloc, vertices)?,
-            tally: Tally::new(alloc, vertices)?,
-            chips: vec![in alloc; 0; vertices]?,
+            reserve: Box::new(alloc, Reserve::new(alloc, setup)?)?,
+            hand: Box::new(alloc, RootHand::new(alloc, setup, seat)?)?,
         })
     }
 
@@ -88,12 +81,13 @@ impl Root {
         ensures same { self.new.net ≡ self.old.net }
     {
         let edge = net.setup().root_edge(vertex);
-        self.hand.may_feed(vertex, edge, count)?;
-        let Reply::Done(place) = self.hand.make(net, Event::Clear(edge)) else {
+        let hand: &mut RootHand = &mut self.hand;
+        hand.may_feed(vertex, edge, count)?;
+        let Reply::Done(place) = hand.make(net, Event::Clear(edge)) else {
             return Err(FeedFault::Full);
         };
-        self.hand.make(net, Event::Feed { edge, count });
-        self.hand.make(net, Event::Put(edge));
+        hand.make(net, Event::Feed { edge, count });
+        hand.make(net, Event::Put(edge));
         Ok(place)
     }
 
@@ -104,9 +98,10 @@ impl Root {
         ensures ends { Ends self.old self.new result }
         ensures same { self.new.net ≡ self.old.net }
     {
-        self.hand.make(net, Event::End);
-        self.hand.settle_from(net, 1);
-        self.hand.poll_state()
+        let hand: &mut RootHand = &mut self.hand;
+        hand.make(net, Event::End);
+        hand.settle_from(net, 1);
+        hand.poll_state()
     }
 
     /// Settles each root edge once, and tells whether the game is over then.
@@ -115,8 +110,9 @@ impl Root {
         ensures polls { Polls self.old self.new result }
         ensures same { self.new.net ≡ self.old.net }
     {
-        self.hand.settle_from(net, 0);
-        self.hand.poll_state()
+        let hand: &mut RootHand = &mut self.hand;
+        hand.settle_from(net, 0);
+        hand.poll_state()
     }
 
     /// Once the game is over, reads how often each vertex fired and whether it halted, and tells how the game ended,
@@ -130,31 +126,41 @@ impl Root {
         if !self.hand.closed() {
             return Err(self);
         }
-        let Root {
-            hand,
-            game,
-            more,
-            tally,
-            mut chips,
-        } = self;
-        let game = hand.with_fed(net, game, more);
-        let mut receipt = hand.receipt();
-        let Tally {
-            fired,
-            over,
-            sealed,
-            ..
-        } = receipt.read_all(net, tally);
-        match after_into(&game, &fired, &mut chips) {
-            Ok(()) => {}
-            Err(_) => unreachable!(),
-        }
-        let outcome = Outcome {
-            fired,
-            chips,
-            over,
-            sealed,
-        };
-        Ok((outcome, receipt))
+        let Root { hand, reserve } = self;
+        Ok(ended(net, Box::into_inner(hand), Box::into_inner(reserve)))
     }
+}
+
+/// The end of a game that is over: the reads, and what is made of them.
+fn ended(net: &Net, hand: RootHand, reserve: Reserve) -> (Outcome, Receipt)
+    requires net { hand.net ≡ net.now }
+    requires over { IsOver hand }
+    requires reserve { reserve ≡ game_of_setting hand.net.setting }
+    ensures { Finishes hand result.1 result.0 }
+{
+    let Reserve {
+        more,
+        mut chips,
+        game,
+        tally,
+    } = reserve;
+    let game = hand.with_fed(net, game, more);
+    let mut receipt = hand.receipt();
+    let Tally {
+        fired,
+        over,
+        sealed,
+        ..
+    } = receipt.read_all(net, tally);
+    match after_into(&game, &fired, &mut chips) {
+        Ok(()) => {}
+        Err(_) => unreachable!(),
+    }
+    let outcome = Outcome {
+        fired,
+        chips,
+        over,
+        sealed,
+    };
+    (outcome, receipt)
 }

@@ -1,31 +1,30 @@
 use Rattle.std.proofs.Common.{◌≡◌, ◌-◌, sym, ap, ◌∙◌, subst}
-use Rattle.std.specs.Vec.{vec_capacity}
+use Rattle.chip_part.specs.Setting.{game_of_setting}
 use Rattle.chip_core.specs.Core.{End}
 use Rattle.chip_net.specs.Tokens.{NetId}
-use Rattle.chip_net.specs.Roots.{RootKnown, DoesMore, settles_from, Ends}
-use Rattle.chip_net.specs.Finish.{IsReady}
+use Rattle.chip_net.specs.Roots.{RootKnown, HoldsNothing, DoesMore, settles_from, Ends}
 use Rattle.chip_net.proofs.Rooting.{does_after, holds_by, held_end, stays_over, over_by_end}
 use Rattle.chip_net.proofs.root.Root.end.Goals as goal
 
 pub invariant_of-self : goal.invariant_of-self
 invariant_of-self c =
-    let net : c.settle_from.new.self.net ≡ c.self.inside.hand.net =
+    let net : c.settle_from.new.self.net ≡ c.deref_mut-hand.result.now.net =
     ap (λ (r : RootKnown). r.net) c.settle_from.ensures.settles.record_is
     ∙ ap (λ (r : RootKnown). r.net) c.make.ensures.made.record_is in (
-      c.settle_from.ensures.holds (holds_by c.self.inside.hand c.make.new.self End c.make.ensures.seen
-          (held_end c.make.ensures.seen) c.make.ensures.made c.self.invariant.0),
-      subst (λ (n : NetId). IsReady n.setting c.self.inside.game c.self.inside.more.items
-          (vec_capacity c.self.inside.more) c.self.inside.tally c.self.inside.chips.items) (sym net) c.self.invariant.1,
+      c.settle_from.ensures.holds (holds_by c.deref_mut-hand.result.now c.make.new.self End c.make.ensures.seen
+          (held_end c.make.ensures.seen) c.make.ensures.made (subst HoldsNothing (sym c.deref_mut-hand.ensures.value) c.self.invariant.0)),
+      subst (λ (n : NetId). c.self.inside.reserve.value ≡ game_of_setting n.setting) (sym net)
+          (c.self.invariant.1 ∙ ap (λ (r : RootKnown). game_of_setting r.net.setting) (sym c.deref_mut-hand.ensures.value)),
     )
 
 pub returns-clause-ends : goal.returns-clause-ends
 returns-clause-ends c =
-    let hand = c.self.inside.hand in
+    let hand = c.deref_mut-hand.result.now in
     let made = c.make.ensures.made in
     let net = ap (λ (r : RootKnown). r.net) made.record_is in
     let rest = subst (λ (n : NetId). DoesMore c.make.new.self c.settle_from.new.self
     (settles_from n.setting 1 (n.setting.graph.vertices - 1))) net c.settle_from.ensures.settles in
-    subst (λ (r : RootKnown). Ends r c.settle_from.new.self c.poll_state.result) c.self.view_is record {
+    subst (λ (r : RootKnown). Ends r c.settle_from.new.self c.poll_state.result) (c.deref_mut-hand.ensures.value ∙ c.self.view_is) record {
       ending = does_after hand c.make.new.self c.settle_from.new.self End c.make.ensures.seen _ made rest;
       ended = stays_over c.make.new.self c.settle_from.new.self _ c.settle_from.ensures.settles
           (over_by_end hand c.make.new.self c.make.ensures.seen made);

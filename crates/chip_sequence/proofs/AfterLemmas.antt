@@ -3,12 +3,16 @@ use Rattle.std.proofs.Common.{◌≡◌, ℕ, zero, suc, ◌+◌, ◌*◌, ◌^�
 use Rattle.std.proofs.Common.{take, sum, sum_by, get_or, slice_index, sym, ap, ◌∙◌, arith, suc-mul, mul-le-mul}
 use Rattle.std.proofs.Common.{mul-le-mul_right}
 use Rattle.std.proofs.lemmas.List.Sums.{sum_by_more_le}
+use Rattle.chip_graph.specs.Limits.{max_total}
 use Rattle.chip_graph.specs.Sums.{sum_below}
 use Rattle.chip_graph.specs.Multigraph.{Multigraph, IsGraph, edge_at, edges_in}
 use Rattle.chip_graph.specs.ChipGame.{ChipGame, IsGame}
 use Rattle.chip_graph.proofs.SumLemmas.{picked_sum, sum_below_ext, sum_below_term, sum_by_place}
 use Rattle.chip_graph.proofs.PickLemmas.{All-picked}
-use Rattle.chip_sequence.specs.Counted.{inflow, position_by_counts, IsBelowZero, IsAfter}
+use Rattle.chip_sequence.specs.Counted.{inflow, position_by_counts, IsBelowZero, IsAfter, game_from}
+use Rattle.chip_sequence.specs.Faults.{IsNegative}
+use Rattle.chip_sequence.specs.declared.counted.AfterFault.{AfterFault}
+use Rattle.chip_sequence.specs.declared.counted.AfterFault.TheVariants.{Negative, NoMemory}
 use Rattle.chip_sequence.proofs.BoundLemmas.{led_total}
 
 -- terms that count where a test passes, each at most c
@@ -58,6 +62,11 @@ module _ (G : Multigraph) (good : IsGraph G) (fired : List ℕ) (v : ℕ) where
         let c = inflow_small in
         omega arith
 
+pub game_from_is : (G : Multigraph) (start : List ℕ) → IsGraph G → length start ≡ G.vertices → sum start ≤ max_total
+    → IsGame (game_from G start 0)
+game_from_is G start good each few =
+    record { graph_fits = good; start_fits = each; few_chips = few; low_limit = omega arith }
+
 module _ (g : ChipGame) (ok : IsGame g) (fired : List ℕ) (each : length fired ≡ g.graph.vertices) (none_below : (v : ℕ)
     → v < g.graph.vertices → IsBelowZero g.graph (slice_index g.start) (slice_index fired) v → ⊥) where
   -- the chips by the counts
@@ -85,3 +94,9 @@ module _ (g : ChipGame) (ok : IsGame g) (fired : List ℕ) (each : length fired 
     kept = sum_by_place chips ∙ ap (λ (n : ℕ). sum_below n (slice_index chips)) long
         ∙ sum_below_ext g.graph.vertices _ _ by_counts ∙ then_total;
   }
+
+-- no vertex is below 0, so no fault names one
+pub no_fault : (g : ChipGame) (fired : List ℕ) (fault : AfterFault) → IsNegative g fired fault
+    → ((v : ℕ) → IsBelowZero g.graph (λ u. get_or g.start u 0) (λ u. get_or fired u 0) v → ⊥) → ⊥
+no_fault g fired (Negative v) is none = none v is.below
+no_fault g fired NoMemory is none = is

@@ -28,3 +28,7 @@ pub record IsAfter (g : ChipGame) (fired chips : List ℕ) : Type 0 where
   pub by_counts : (v : ℕ) → v < g.graph.vertices
       → slice_index chips v ≡ position_by_counts g.graph (slice_index g.start) (slice_index fired) v
   pub kept : sum chips ≡ sum g.start
+
+-- the game on this graph with these chips at the start, and a firing limit
+abbrev pub game_from : Multigraph → List ℕ → ℕ → ChipGame
+game_from G start limit = record { graph = G; start = start; limit = limit }

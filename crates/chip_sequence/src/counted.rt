@@ -1,10 +1,11 @@
-ghost use Rattle.std.specs.Prelude.{◌≡◌, ℕ, ◌+◌, ◌*◌, ◌<◌, length, slice_index, MatchResult, MatchOption, OnErr};
-ghost use Rattle.chip_graph.specs.Multigraph.{degree};
-ghost use Rattle.chip_graph.specs.ChipGame.{IsGame};
-ghost use Rattle.chip_sequence.specs.Counted.{inflow, IsBelowZero, IsLeastBelowZero, IsAfter};
+ghost use Rattle.std.specs.Prelude.{◌≡◌, ℕ, ◌+◌, ◌*◌, ◌<◌, ◌≤◌, length, sum, slice_index, MatchResult, MatchOption};
+ghost use Rattle.std.specs.Prelude.{OnErr};
+ghost use Rattle.chip_graph.specs.Limits.{max_total};
+ghost use Rattle.chip_graph.specs.Multigraph.{degree, IsGraph};
+ghost use Rattle.chip_sequence.specs.Counted.{inflow, IsBelowZero, IsLeastBelowZero, IsAfter, game_from};
 ghost use Rattle.chip_sequence.specs.Faults.{IsNegative, IsNegativeOrMemory};
 
-use chip_graph::Game;
+use chip_graph::{Game, Graph};
 use std::alloc::{AllocError, Global};
 use thiserror::Error;
 
@@ -51,27 +52,46 @@ pub fn after_into(game: &Game, fired: &[u64], into: &mut [u64]) -> Result<(), Af
     ensures cases { MatchResult result (λ _. IsAfter game.now fired.now into.new) (IsNegative game.now fired.now) }
     ensures unchanged { OnErr result (into.new ≡ into.old) }
 {
-    if let Some(vertex) = first_negative(game, fired) {
+    after_from(game.graph(), game.start(), fired, into)
+}
+
+/// The same of a graph and the chips of each vertex at the start, 2^40 in all at most.
+pub fn after_from(
+    graph: &Graph,
+    start: &[u64],
+    fired: &[u64],
+    into: &mut [u64],
+) -> Result<(), AfterFault>
+    requires start_each { length start.now ≡ graph.now.vertices }
+    requires few_chips { sum start.now ≤ max_total }
+    requires counts_each { length fired.now ≡ graph.now.vertices }
+    requires chips_each { length into.old ≡ graph.now.vertices }
+    ensures cases { (limit : ℕ) → let game = game_from graph.now start.now limit in
+        MatchResult result (λ _. IsAfter game fired.now into.new) (IsNegative game fired.now) }
+    ensures unchanged { OnErr result (into.new ≡ into.old) }
+{
+    if let Some(vertex) = first_negative(graph, start, fired) {
         return Err(AfterFault::Negative(vertex));
     }
     for (vertex, chips) in into.iter_mut().enumerate() {
-        let (had, spent) = had_and_spent(game, fired, vertex as u64);
+        let (had, spent) = had_and_spent(graph, start, fired, vertex as u64);
         *chips = (had - spent) as u64;
     }
     Ok(())
 }
 
 /// The least vertex that would be below 0.
-fn first_negative(game: &Game, fired: &[u64]) -> Option<u64>
-    requires { length fired.now ≡ game.now.graph.vertices }
-    ensures game { IsGame game.now }
+fn first_negative(graph: &Graph, start: &[u64], fired: &[u64]) -> Option<u64>
+    requires start_each { length start.now ≡ graph.now.vertices }
+    requires few_chips { sum start.now ≤ max_total }
+    requires counts_each { length fired.now ≡ graph.now.vertices }
+    ensures graph { IsGraph graph.now }
     ensures least { MatchOption result
-        ((v : ℕ) → v < game.now.graph.vertices
-        → IsBelowZero game.now.graph (slice_index game.now.start) (slice_index fired.now) v → ⊥)
-        (IsLeastBelowZero game.now.graph (slice_index game.now.start) (slice_index fired.now)) }
+        ((v : ℕ) → v < graph.now.vertices → IsBelowZero graph.now (slice_index start.now) (slice_index fired.now) v → ⊥)
+        (IsLeastBelowZero graph.now (slice_index start.now) (slice_index fired.now)) }
 {
-    for vertex in 0..game.graph().vertices() {
-        let (had, spent) = had_and_spent(game, fired, vertex);
+    for vertex in 0..graph.vertices() {
+        let (had, spent) = had_and_spent(graph, start, fired, vertex);
         if had < spent {
             return Some(vertex);
         }
@@ -80,15 +100,16 @@ fn first_negative(game: &Game, fired: &[u64]) -> Option<u64>
 }
 
 /// How many chips a vertex ever has, at the start and along its edges, and how many its firings take away.
-fn had_and_spent(game: &Game, fired: &[u64], vertex: u64) -> (u128, u128)
-    requires is_vertex { vertex < game.now.graph.vertices }
-    requires counts_each { length fired.now ≡ game.now.graph.vertices }
-    ensures had { result.0 ≡ slice_index game.now.start vertex + inflow game.now.graph (slice_index fired.now) vertex }
-    ensures spent { result.1 ≡ degree game.now.graph vertex * slice_index fired.now vertex }
+fn had_and_spent(graph: &Graph, start: &[u64], fired: &[u64], vertex: u64) -> (u128, u128)
+    requires is_vertex { vertex < graph.now.vertices }
+    requires start_each { length start.now ≡ graph.now.vertices }
+    requires few_chips { sum start.now ≤ max_total }
+    requires counts_each { length fired.now ≡ graph.now.vertices }
+    ensures had { result.0 ≡ slice_index start.now vertex + inflow graph.now (slice_index fired.now) vertex }
+    ensures spent { result.1 ≡ degree graph.now vertex * slice_index fired.now vertex }
 {
-    let graph = game.graph();
     let edges = graph.edges();
-    let mut had = u128::from(game.start()[vertex as usize]);
+    let mut had = u128::from(start[vertex as usize]);
     for e in graph.ins(vertex) {
         let edge = edges[*e as usize];
         had += u128::from(edge.mult) * u128::from(fired[edge.tail as usize]);

@@ -5,7 +5,7 @@
 #![tactic(auto)]
 
 pub use bound::enough;
-pub use counted::{AfterFault, after, after_into};
+pub use counted::{AfterFault, after, after_from, after_into};
 pub use firing::{NotLegal, fire, fire_batch};
 pub use outcome::Outcome;
 pub use resumed::{MAX_PRIOR, Resumed};

@@ -1,22 +1,12 @@
-use Rattle.std.proofs.Common.{◌<◌, arith}
-use Rattle.chip_sequence.proofs.AfterLemmas.{then_few, is_after}
+use Rattle.std.proofs.Common.{MatchResult, subst}
+use Rattle.chip_graph.specs.ChipGame.{ChipGame}
+use Rattle.chip_sequence.specs.Counted.{IsAfter, game_from}
+use Rattle.chip_sequence.specs.Faults.{IsNegative}
 use Rattle.chip_sequence.proofs.counted.after_into.Goals as goal
 
-pub overflow_cast-chips : goal.overflow_cast-chips
-overflow_cast-chips c =
-    let inside : c.loop-vertex.vertex < c.args.game.now.graph.vertices =
-    (let a = c.loop-vertex-test.true in let b = c.loop-vertex.auto.into in let d = c.requires.chips_each in
-    omega arith) in
-    let few = then_few c.args.game.now c.first_negative.ensures.game c.args.fired.now c.requires.counts_each
-    c.in_default.ensures.least c.loop-vertex.vertex inside in
-    let had = c.had_and_spent-had.ensures.had in
-    let spent = c.had_and_spent-had.ensures.spent in
-    record { fits = omega arith }
-
 pub returns-clause-cases : goal.returns-clause-cases
-returns-clause-cases c =
-    is_after c.args.game.now c.first_negative.ensures.game c.args.fired.now c.requires.counts_each
-    c.in_default.ensures.least c.loop-vertex.into
-    (let a = c.loop-vertex.auto.into in let b = c.requires.chips_each in omega arith)
-    (λ v l. c.loop-vertex.invariant v (let a = c.loop-vertex-test.false in let d = c.requires.chips_each in
-    omega arith))
+returns-clause-cases c = subst
+    (λ (g : ChipGame). MatchResult c.after_from.result (λ x. IsAfter g c.args.fired.now c.after_from.new.into)
+    (IsNegative g c.args.fired.now))
+    (λ j. game_from (c.graph.ensures.value j) (c.start.ensures.value j) c.args.game.now.limit)
+    (c.after_from.ensures.cases c.args.game.now.limit)

@@ -4,4 +4,4 @@ use Rattle.chip_sequence.proofs.counted.first_negative.Given as goal
 
 abbrev pub invariant-loop-vertex : goal.invariant-loop-vertex
 invariant-loop-vertex l = (v : ℕ) → v < l.vertex
-    → IsBelowZero l.game.graph (slice_index l.game.start) (slice_index l.fired) v → ⊥
+    → IsBelowZero l.graph (slice_index l.start) (slice_index l.fired) v → ⊥

@@ -3,6 +3,6 @@ use Rattle.chip_graph.specs.Multigraph.{edge_at, edges_in}
 use Rattle.chip_sequence.proofs.counted.had_and_spent.Given as goal
 
 abbrev pub invariant-loop-e : goal.invariant-loop-e
-invariant-loop-e l = l.had ≡ slice_index l.game.start l.vertex + sum_by
-    (λ e. (edge_at l.game.graph e).mult * slice_index l.fired (edge_at l.game.graph e).tail)
-    (take l.e-index (edges_in l.game.graph l.vertex))
+invariant-loop-e l = l.had ≡ slice_index l.start l.vertex + sum_by
+    (λ e. (edge_at l.graph e).mult * slice_index l.fired (edge_at l.graph e).tail)
+    (take l.e-index (edges_in l.graph l.vertex))

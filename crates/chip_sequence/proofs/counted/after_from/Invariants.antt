@@ -1,7 +1,7 @@
 use Rattle.std.proofs.Common.{◌≡◌, ℕ, ◌<◌, slice_index}
 use Rattle.chip_sequence.specs.Counted.{position_by_counts}
-use Rattle.chip_sequence.proofs.counted.after_into.Given as goal
+use Rattle.chip_sequence.proofs.counted.after_from.Given as goal
 
 abbrev pub invariant-loop-vertex : goal.invariant-loop-vertex
 invariant-loop-vertex l = (v : ℕ) → v < l.vertex
-    → slice_index l.into v ≡ position_by_counts l.game.graph (slice_index l.game.start) (slice_index l.fired) v
+    → slice_index l.into v ≡ position_by_counts l.graph (slice_index l.start) (slice_index l.fired) v

@@ -34,7 +34,7 @@ class Vertex:
 class Core:
     def __init__(self, graph, chips, limit, ring, fed=False):
         self.sink, self.limit, self.ring = graph["sink"], limit, ring
-        self.fed, self.ended = fed, not fed
+        self.ended = not fed
         self.vertices = [Vertex() for _ in range(graph["vertices"])]
         self.edges = [Edge(*row) for row in graph["edges"]]
         self.graph_edges = len(self.edges)
@@ -91,10 +91,6 @@ class Core:
             if not is_met():
                 return f"not-now {RULES[name]}"
         return None
-
-    def sendable_edges(self):
-        """How many edges a tail may look at and put on: the root's only where chips are fed."""
-        return len(self.edges) if self.fed else self.graph_edges
 
     def of_edge(self, at, bound):
         return ("NoSuch", lambda: at < bound)
@@ -165,7 +161,7 @@ class Core:
             ("Unput", lambda: self.edges[at].put == len(self.edges[at].sent)),
         ]
         unmet = self.first_unmet(
-            self.of_edge(at, self.sendable_edges()), *(of_graph if at < self.graph_edges else of_root)
+            self.of_edge(at, len(self.edges)), *(of_graph if at < self.graph_edges else of_root)
         )
         if unmet:
             return unmet
@@ -190,7 +186,7 @@ class Core:
 
     def put(self, at):
         unmet = self.first_unmet(
-            self.of_edge(at, self.sendable_edges()),
+            self.of_edge(at, len(self.edges)),
             ("NotClaimed", lambda: self.edges[at].put < len(self.edges[at].sent)),
         )
         if unmet:

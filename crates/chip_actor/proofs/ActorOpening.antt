@@ -33,16 +33,16 @@ made_end {T} none f xs e (k, l, at) = by_place xs k l (sym (get_or_default xs k 
         (λ y. cond_yes x e (f x) (on_edge none xs (map f xs) e) y ∙ ap f y)
         (λ n. cond_no x e (f x) (on_edge none xs (map f xs) e) n ∙ by_place xs k (omega arith) at)
 
-module _ (g : Setting) (v : ℕ) (setting : IsSetting g) (vertex : v < g.graph.vertices) (os : OutEnds) (is : InEnds)
+module _ (g : Setting) (v : ℕ) (setting : IsSetting g) (vertex : v < g.game.graph.vertices) (os : OutEnds) (is : InEnds)
     (b : Books)
-    (outs : IsFreshOuts g.graph g.ring v os) (ins : IsFreshIns g.graph g.ring v is)
-    (fresh : IsFresh b is.edges (edges_out g.graph v)) (sound : IsSound b) where
+    (outs : IsFreshOuts g.game.graph g.ring v os) (ins : IsFreshIns g.game.graph g.ring v is)
+    (fresh : IsFresh b is.edges (edges_out g.game.graph v)) (sound : IsSound b) where
   pub opens : (a : Actor) → a
       ≡ (let n : Actor = record {
         vertex = v;
-        is_sink = eqb v g.graph.sink;
-        degree = degree g.graph v;
-        limit = g.limit;
+        is_sink = eqb v g.game.graph.sink;
+        degree = degree g.game.graph v;
+        limit = g.game.limit;
         chips = 0;
         fired = 0;
         halt = None;
@@ -63,9 +63,9 @@ module _ (g : Setting) (v : ℕ) (setting : IsSetting g) (vertex : v < g.graph.v
       limit = refl;
       outs = outs.edges;
       ins = ins.edges;
-      detect_outs = stand_in_order b.outs (edges_out g.graph v) sound.outs fresh.outs (outs_rise g.graph v);
+      detect_outs = stand_in_order b.outs (edges_out g.game.graph v) sound.outs fresh.outs (outs_rise g.game.graph v);
       detect_ins = stand_in_order b.ins is.edges sound.ins fresh.ins
-          (subst IsStrictlyIncreasing (sym ins.edges) (ins_rise g.graph v)) ∙ ins.edges;
+          (subst IsStrictlyIncreasing (sym ins.edges) (ins_rise g.game.graph v)) ∙ ins.edges;
     };
     kept = opening_keeps g setting.game v;
     few_chips = omega arith;
@@ -75,9 +75,9 @@ module _ (g : Setting) (v : ℕ) (setting : IsSetting g) (vertex : v < g.graph.v
     halt = refl;
     outs = λ e at.
         (λ j. on_edge no_out (outs.edges j) (outs.ends j) e)
-        ∙ made_end no_out (fresh_out g.graph g.ring) (edges_out g.graph v) e (among_new_outs g v vertex e at)
+        ∙ made_end no_out (fresh_out g.game.graph g.ring) (edges_out g.game.graph v) e (among_new_outs g v vertex e at)
         ∙ (λ j. let n : OutEnd = record {
-          mult = (fresh_out g.graph g.ring e).mult;
+          mult = (fresh_out g.game.graph g.ring e).mult;
           pending = 0;
           link = record {
             edge = e;
@@ -106,5 +106,5 @@ module _ (g : Setting) (v : ℕ) (setting : IsSetting g) (vertex : v < g.graph.v
     where
       none_claimed : (e : ℕ) → tail_of g e ≡ v → 0 ≡ length (first_put g e) + 0
       none_claimed e at = let few = first_few g e
-          (Rattle.chip_part.proofs.PartLemmas.tail_inside g e (subst (λ (n : ℕ). n < g.graph.vertices) (sym at) vertex))
+          (Rattle.chip_part.proofs.PartLemmas.tail_inside g e (subst (λ (n : ℕ). n < g.game.graph.vertices) (sym at) vertex))
           in omega arith

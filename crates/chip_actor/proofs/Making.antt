@@ -27,7 +27,7 @@ use Rattle.chip_part.specs.declared.cause.Cause.{Cause}
 use Rattle.chip_part.specs.Part.{cause}
 use Rattle.chip_part.specs.Rules.{Take, Ack, Fire, Clear, Claim, Put, Halt, Settle}
 use Rattle.chip_part.specs.declared.reply.Reply.{Reply}
-use Rattle.chip_part.specs.Steps.{message_of, does}
+use Rattle.chip_part.specs.Steps.{message_of, does, saw}
 use Rattle.chip_part.specs.declared.reply.Reply.TheVariants.{Done, Got, Sent, Empty, Full, Sealed}
 use Rattle.chip_actor.specs.declared.ends.outs.OutEnd.{OutEnd}
 use Rattle.chip_actor.specs.Ends.{OutEnds, InEnds, out_on, in_on, ChangesOut, ChangesOuts, ChangesIn}
@@ -35,7 +35,6 @@ use Rattle.chip_actor.specs.Ends.{out_after_clear, out_after_claim, out_after_pu
 use Rattle.chip_actor.specs.Actor.{Actor, StandsFor, SomePart, WhateverPart, is_passive_now}
 use Rattle.chip_part.specs.Acting.{CanDo}
 use Rattle.chip_actor.specs.Actor.{Makes}
-use Rattle.chip_part.proofs.EdgeLemmas.{sendable_inside}
 use Rattle.chip_part.proofs.RuleLemmas.{rules_met}
 use Rattle.chip_actor.proofs.Standing.{among_outs, among_ins, books_in, books_out, out_inside, owed_is, may_ack_is}
 use Rattle.chip_actor.proofs.Standing.{few_got, few_fired}
@@ -280,7 +279,7 @@ claim_made a e seen os b m change message sends sound = λ g s stands can.
     let same : Some m ≡ Some (message_of e n (s.out e).pending) = sent
     ∙ cond_yes seen n (Some (message_of e n (s.out e).pending)) None hit in
     let is_message : m ≡ message_of e n (s.out e).pending = cc in (
-      subst (λ (k : ℕ). StandsFor g (does g (record { event = Claim e; seen = seen }) s)
+      subst (λ (k : ℕ). StandsFor g (does g (saw (Claim e) seen) s)
           (record a { outs = os; detect = b; pending = a.pending - k; unput = a.unput + 1 }))
           (sym (ap (λ (x : Message). x.count) is_message))
           (claims g s a stands e seen can.0 can.1 hit os change b sends sound),
@@ -318,7 +317,7 @@ may_put a e seen (g, s, stands, can) =
     let one : length (option_to_list (s.out e).link.held) ≡ 1 = ap (λ (h : Option ℕ). length (option_to_list h)) met.1.1
     in
     let of-all = tested_term (all_edges g) (λ i. eqb (tail_of g i) a.vertex)
-    (λ i. length (option_to_list (s.out i).link.held)) e (sendable_inside g e met.0) (eq-eqb _ _ can.0) in
+    (λ i. length (option_to_list (s.out i).link.held)) e met.0 (eq-eqb _ _ can.0) in
     let all-is = stands.unput in
     record { among = among_outs g s a stands e can.0; some_unput = omega arith }
 
@@ -353,7 +352,7 @@ fire_fits a k seen (g, s, stands, can) e among =
     let whole = Rattle.chip_part.proofs.EdgeLemmas.over_outs_graph g a.vertex stands.knows.vertex (mult_of g) in
     let few = stands.few_chips in
     let cost = met.7 in
-    let less : (out_on a.outs e).mult ≤ Rattle.chip_graph.specs.Multigraph.degree g.graph a.vertex = omega arith in
+    let less : (out_on a.outs e).mult ≤ Rattle.chip_graph.specs.Multigraph.degree g.game.graph a.vertex = omega arith in
     let most = Rattle.std.proofs.Math.Nat.mul-le-mul_left k less in
     omega arith
 

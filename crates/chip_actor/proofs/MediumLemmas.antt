@@ -9,7 +9,7 @@ use Rattle.chip_part.specs.declared.act.Act.TheVariants as Do
 use Rattle.chip_part.specs.Part.{Part}
 use Rattle.chip_part.specs.Rules.{Event, unmet}
 use Rattle.chip_part.specs.declared.reply.Reply.{Reply}
-use Rattle.chip_part.specs.Steps.{Step, part_of, does, reply_of}
+use Rattle.chip_part.specs.Steps.{Step, part_of, does, reply_of, saw}
 use Rattle.chip_part.specs.Acting.{act_of, event_of, CanDo, FitsSeen}
 use Rattle.chip_actor.specs.Actor.{Makes}
 use Rattle.chip_part.specs.Turn.{turn, ins_of, outs_of}
@@ -129,13 +129,13 @@ moves_one H K a b x y act e seen r n due serves makes is = λ g ds s held stands
     let goes = d.0 in
     let by = due_by g s a stands act e goes.mine goes.met d.1 in
     let longer = serves g a.vertex ds s held by.1 in
-    let made_step : Step = record { event = e; seen = seen } in
+    let made_step : Step = saw e seen in
     let made = makes g s stands (goes.mine, goes.met, subst (λ (z : Event). FitsSeen s z seen) by.0 longer.fits) in (
       made_step ∷ [],
       does g made_step s,
       record {
-        held = subst (λ (z : Event). K g a.vertex (record { event = z; seen = seen } ∷ ds)
-            (does g (record { event = z; seen = seen }) s)) by.0 longer.held;
+        held = subst (λ (z : Event). K g a.vertex (saw z seen ∷ ds)
+            (does g (saw z seen) s)) by.0 longer.held;
         mine = (goes.mine, tt);
         stands = made.0;
         vertex = made.2;
@@ -208,14 +208,14 @@ module _ (a : Actor) (x y : Cursor) (e : Event) (act : Act) (due : DueAt a x (So
       let by = due_by g s a stands act e goes.mine goes.met d.1 in
       let made = makes g ds s held stands by.1 in
       let seen : ℕ = made.0 in
-      let made_step : Step = record { event = e; seen = seen } in (
+      let made_step : Step = saw e seen in (
         made_step ∷ [],
         does g made_step s,
         record {
-          held = subst (λ (z : Event). K g a.vertex (record { event = z; seen = seen } ∷ ds)
-              (does g (record { event = z; seen = seen }) s)) by.0 made.1.held;
+          held = subst (λ (z : Event). K g a.vertex (saw z seen ∷ ds)
+              (does g (saw z seen) s)) by.0 made.1.held;
           mine = (goes.mine, tt);
-          stands = subst (λ (z : Event). StandsFor g (does g (record { event = z; seen = seen }) s) b) by.0
+          stands = subst (λ (z : Event). StandsFor g (does g (saw z seen) s) b) by.0
               made.1.stands;
           vertex = made.1.vertex;
           fits = goes.fits seen;

@@ -33,9 +33,9 @@ module _ (g : Setting) (s : Part) (a : Actor) (stands : StandsFor g s a) where
   -- ---- its edges
 
   pub out_inside : (e : ℕ) → tail_of g e ≡ a.vertex → e < graph_edges g
-  out_inside e at = tail_inside g e (subst (λ (n : ℕ). n < g.graph.vertices) (sym at) stands.knows.vertex)
+  out_inside e at = tail_inside g e (subst (λ (n : ℕ). n < g.game.graph.vertices) (sym at) stands.knows.vertex)
 
-  has_out : (e : ℕ) → tail_of g e ≡ a.vertex → Contains (edges_out g.graph a.vertex) e
+  has_out : (e : ℕ) → tail_of g e ≡ a.vertex → Contains (edges_out g.game.graph a.vertex) e
   has_out = among_new_outs g a.vertex stands.knows.vertex
 
   pub among_outs : (e : ℕ) → tail_of g e ≡ a.vertex → Contains a.outs.edges e
@@ -48,7 +48,7 @@ module _ (g : Setting) (s : Part) (a : Actor) (stands : StandsFor g s a) where
   in_inside e at = dite (dec_lt e (graph_edges g)) (λ l. omega arith) (λ n. let h = head_root g e (omega arith) in
       let v = stands.knows.vertex in omega arith)
 
-  has_in : (e : ℕ) → head_of g e ≡ a.vertex → Contains (edges_in g.graph a.vertex ++ root_edge g a.vertex ∷ []) e
+  has_in : (e : ℕ) → head_of g e ≡ a.vertex → Contains (edges_in g.game.graph a.vertex ++ root_edge g a.vertex ∷ []) e
   has_in = among_new_ins g a.vertex stands.knows.vertex
 
   pub among_ins : (e : ℕ) → head_of g e ≡ a.vertex → Contains a.ins.edges e
@@ -68,8 +68,8 @@ module _ (g : Setting) (s : Part) (a : Actor) (stands : StandsFor g s a) where
   pub deficit_is : books.deficit a.detect ≡ deficit g a.vertex s
   deficit_is =
       ap (sum_by (books.outstanding a.detect)) stands.knows.detect_outs
-      ∙ picked_sum (books.outstanding a.detect) (λ e. eqb (edge_at g.graph e).tail a.vertex) (graph_edges g)
-      ∙ tested_ext (graph_edges g) (λ e. eqb (edge_at g.graph e).tail a.vertex) (books.outstanding a.detect)
+      ∙ picked_sum (books.outstanding a.detect) (λ e. eqb (edge_at g.game.graph e).tail a.vertex) (graph_edges g)
+      ∙ tested_ext (graph_edges g) (λ e. eqb (edge_at g.game.graph e).tail a.vertex) (books.outstanding a.detect)
       (λ e. outstanding (s.out e))
       (λ e l on. outstanding_is e (tail_graph g e l ∙ Rattle.std.proofs.Common.eqb-true _ _ on))
       ∙ sym (over_outs_graph g a.vertex stands.knows.vertex (λ e. outstanding (s.out e)))
@@ -77,12 +77,12 @@ module _ (g : Setting) (s : Part) (a : Actor) (stands : StandsFor g s a) where
   pub all_owed_is : books.all_owed a.detect ≡ all_owed g a.vertex s
   all_owed_is =
       let v = stands.knows.vertex in
-      let split = sum_by-append (books.owed a.detect) (edges_in g.graph a.vertex) (root_edge g a.vertex ∷ []) in
+      let split = sum_by-append (books.owed a.detect) (edges_in g.game.graph a.vertex) (root_edge g a.vertex ∷ []) in
       let all = ap (sum_by (books.owed a.detect)) stands.knows.detect_ins in
-      let own = picked_sum (books.owed a.detect) (λ e. eqb (edge_at g.graph e).head a.vertex) (graph_edges g) in
-      let same : sum_by (books.owed a.detect) (edges_in g.graph a.vertex)
-      ≡ sum_in g.graph a.vertex (λ e. owed (s.into e))
-      = own ∙ tested_ext (graph_edges g) (λ e. eqb (edge_at g.graph e).head a.vertex) (books.owed a.detect)
+      let own = picked_sum (books.owed a.detect) (λ e. eqb (edge_at g.game.graph e).head a.vertex) (graph_edges g) in
+      let same : sum_by (books.owed a.detect) (edges_in g.game.graph a.vertex)
+      ≡ sum_in g.game.graph a.vertex (λ e. owed (s.into e))
+      = own ∙ tested_ext (graph_edges g) (λ e. eqb (edge_at g.game.graph e).head a.vertex) (books.owed a.detect)
       (λ e. owed (s.into e)) (λ e l on. owed_is e (head_graph g e l ∙ Rattle.std.proofs.Common.eqb-true _ _ on)) in
       let last = owed_is (root_edge g a.vertex) (let h = head_root g (root_edge g a.vertex) (omega arith) in
       omega arith) in
@@ -114,9 +114,9 @@ module _ (g : Setting) (s : Part) (a : Actor) (stands : StandsFor g s a) where
   pub is_out : (e : ℕ) → Contains a.outs.edges e → tail_of g e ≡ a.vertex
   is_out e among =
       let there = subst (λ (xs : List ℕ). Contains xs e) stands.knows.outs among in
-      let test : ℕ → Bool = λ i. eqb (edge_at g.graph i).tail a.vertex in
-      let passes = All-contains (λ i. test i ≡ true) (edges_out g.graph a.vertex) e
+      let test : ℕ → Bool = λ i. eqb (edge_at g.game.graph i).tail a.vertex in
+      let passes = All-contains (λ i. test i ≡ true) (edges_out g.game.graph a.vertex) e
       (picked_passes test (graph_edges g)) there in
-      let below = All-contains (λ i. i < graph_edges g) (edges_out g.graph a.vertex) e
+      let below = All-contains (λ i. i < graph_edges g) (edges_out g.game.graph a.vertex) e
       (All-picked test (graph_edges g) (graph_edges g) (omega arith)) there in
       tail_graph g e below ∙ Rattle.std.proofs.Common.eqb-true _ _ passes

@@ -21,7 +21,7 @@ use Rattle.chip_part.specs.Edges.{all_edges, tail_of, head_of, mult_of, over_out
 use Rattle.chip_part.specs.declared.cause.Cause.{Cause}
 use Rattle.chip_part.specs.Part.{Part, Out, may_ack, cause}
 use Rattle.chip_part.specs.Rules.{Event, Take, Ack, Fire, Clear, Claim, Put, Halt, Settle, unmet}
-use Rattle.chip_part.specs.Steps.{part_of, does, link_after, pending_after, got_after}
+use Rattle.chip_part.specs.Steps.{part_of, does, link_after, pending_after, got_after, saw}
 use Rattle.chip_part.specs.Kept.{KeepsPart}
 use Rattle.chip_actor.specs.declared.ends.outs.OutEnd.{OutEnd}
 use Rattle.chip_actor.specs.Ends.{OutEnds, InEnds, out_on, in_on, ChangesOut, ChangesOuts, ChangesIn}
@@ -29,7 +29,7 @@ use Rattle.chip_actor.specs.Ends.{out_after_clear, out_after_claim, out_after_pu
 use Rattle.chip_actor.specs.Actor.{Actor, KnowsGame, StandsFor, out_end}
 use Rattle.chip_part.proofs.RuleLemmas.{rules_met, vertex_clear}
 use Rattle.chip_part.proofs.PartLemmas.{events_keep, idle_take, took_some}
-use Rattle.chip_part.proofs.EdgeLemmas.{over_outs_graph, sendable_inside}
+use Rattle.chip_part.proofs.EdgeLemmas.{over_outs_graph}
 
 module _ (g : Setting) (s : Part) (a : Actor) (stands : StandsFor g s a) where
   -- what it knows of the game is no matter of its numbers
@@ -61,9 +61,9 @@ module _ (g : Setting) (s : Part) (a : Actor) (stands : StandsFor g s a) where
       }
 
   kept_still : (x : Event) (seen : ℕ) → part_of g x ≡ a.vertex → unmet g x s ≡ None
-      → KeepsPart g a.vertex (does g (record { event = x; seen = seen }) s)
-  kept_still x seen at may = subst (λ (p : ℕ). KeepsPart g p (does g (record { event = x; seen = seen }) s)) at
-      (events_keep g (record { event = x; seen = seen }) s may (subst (λ (p : ℕ). KeepsPart g p s) (sym at) stands.kept))
+      → KeepsPart g a.vertex (does g (saw x seen) s)
+  kept_still x seen at may = subst (λ (p : ℕ). KeepsPart g p (does g (saw x seen) s)) at
+      (events_keep g (saw x seen) s may (subst (λ (p : ℕ). KeepsPart g p s) (sym at) stands.kept))
 
   -- ---- a take
 
@@ -78,7 +78,7 @@ module _ (g : Setting) (s : Part) (a : Actor) (stands : StandsFor g s a) where
 
   pub takes : (e seen : ℕ) → head_of g e ≡ a.vertex → unmet g (Take e) s ≡ None → seen ≢ 0 → s.chips + seen ≤ 2 ^ 40
       → (is : InEnds) → ChangesIn a.ins is e (head_after_take seen) → (b : Books) → Gets a.detect b e → IsSound b
-      → StandsFor g (does g (record { event = Take e; seen = seen }) s)
+      → StandsFor g (does g (saw (Take e) seen) s)
       (record a { chips = a.chips + seen; ins = is; detect = b })
   takes e seen at may some few is change b gets sound = record {
     knows = knows_still (a.chips + seen) a.fired a.halt a.outs is b a.pending a.unput a.refused refl change.edges
@@ -112,7 +112,7 @@ module _ (g : Setting) (s : Part) (a : Actor) (stands : StandsFor g s a) where
 
   -- an empty cell changes nothing
   pub takes_none : (e seen : ℕ) → seen ≡ 0 → (is : InEnds) → ChangesIn a.ins is e (head_after_take seen)
-      → StandsFor g (does g (record { event = Take e; seen = seen }) s) (record a { ins = is })
+      → StandsFor g (does g (saw (Take e) seen) s) (record a { ins = is })
   takes_none e seen none is change = subst (λ (t : Part). StandsFor g t (record a { ins = is }))
       (sym (idle_take g e seen s none)) record {
         knows = knows_still a.chips a.fired a.halt a.outs is a.detect a.pending a.unput a.refused refl change.edges refl
@@ -144,7 +144,7 @@ module _ (g : Setting) (s : Part) (a : Actor) (stands : StandsFor g s a) where
 
   pub settles : (e seen : ℕ) → tail_of g e ≡ a.vertex → unmet g (Settle e) s ≡ None → (b : Books)
       → Settles a.detect b e (seen - settled_of a.detect e) → IsSound b
-      → StandsFor g (does g (record { event = Settle e; seen = seen }) s) (record a { detect = b })
+      → StandsFor g (does g (saw (Settle e) seen) s) (record a { detect = b })
   settles e seen at may b change sound = record {
     knows = knows_still a.chips a.fired a.halt a.outs a.ins b a.pending a.unput a.refused refl refl change.outs.edges
         (ap edges_of change.ins);
@@ -180,7 +180,7 @@ module _ (g : Setting) (s : Part) (a : Actor) (stands : StandsFor g s a) where
       → count ≡ may_ack g (head_of g e) s e → (b : Books) → Acknowledges a.detect b e count → IsSound b
       → b.parent ≡ (if is_parent e a.detect.parent && eqb count (Rattle.chip_detect.specs.Books.owed a.detect e)
       then None else a.detect.parent) → (seen : ℕ)
-      → StandsFor g (does g (record { event = Ack e; seen = seen }) s) (record a { detect = b })
+      → StandsFor g (does g (saw (Ack e) seen) s) (record a { detect = b })
   acknowledges e count at may all b change sound parent seen = record {
     knows = knows_still a.chips a.fired a.halt a.outs a.ins b a.pending a.unput a.refused refl refl
         (ap edges_of change.outs) change.ins.edges;
@@ -210,7 +210,7 @@ module _ (g : Setting) (s : Part) (a : Actor) (stands : StandsFor g s a) where
   -- ---- a halt
 
   pub halts : (v seen : ℕ) → v ≡ a.vertex → unmet g (Halt v) s ≡ None → (halt : Option Cause) → halt ≡ cause g v s
-      → StandsFor g (does g (record { event = Halt v; seen = seen }) s) (record a { halt = halt })
+      → StandsFor g (does g (saw (Halt v) seen) s) (record a { halt = halt })
   halts v seen at may halt is = record {
     knows = knows_still a.chips a.fired halt a.outs a.ins a.detect a.pending a.unput a.refused refl refl refl refl;
     kept = kept_still (Halt v) seen at may;
@@ -268,7 +268,7 @@ module _ (g : Setting) (s : Part) (a : Actor) (stands : StandsFor g s a) where
 
   pub clears : (e seen : ℕ) → tail_of g e ≡ a.vertex → unmet g (Clear e) s ≡ None → (os : OutEnds)
       → ChangesOut a.outs os e (out_after_clear seen)
-      → StandsFor g (does g (record { event = Clear e; seen = seen }) s) (record a { outs = os })
+      → StandsFor g (does g (saw (Clear e) seen) s) (record a { outs = os })
   clears e seen at may os change = record {
     knows = knows_still a.chips a.fired a.halt os a.ins a.detect a.pending a.unput a.refused change.edges refl refl
         refl;
@@ -331,7 +331,7 @@ module _ (g : Setting) (s : Part) (a : Actor) (stands : StandsFor g s a) where
   -- a claim that is taken
   pub claims : (e seen : ℕ) → tail_of g e ≡ a.vertex → unmet g (Claim e) s ≡ None → seen ≡ claims_of (s.out e).link
       → (os : OutEnds) → ChangesOut a.outs os e (out_after_claim seen) → (b : Books) → Sends a.detect b e → IsSound b
-      → StandsFor g (does g (record { event = Claim e; seen = seen }) s)
+      → StandsFor g (does g (saw (Claim e) seen) s)
       (record a { outs = os; detect = b; pending = a.pending - (s.out e).pending; unput = a.unput + 1 })
   claims e seen at may hit os change b sends sound =
       let met = rules_met g (Claim e) s may in
@@ -420,7 +420,7 @@ module _ (g : Setting) (s : Part) (a : Actor) (stands : StandsFor g s a) where
   -- a claim that a seal refuses
   pub is_refused : (e seen : ℕ) → tail_of g e ≡ a.vertex → unmet g (Claim e) s ≡ None → seen ≢ claims_of (s.out e).link
       → (os : OutEnds) → ChangesOut a.outs os e (out_after_claim seen)
-      → StandsFor g (does g (record { event = Claim e; seen = seen }) s)
+      → StandsFor g (does g (saw (Claim e) seen) s)
       (record a { outs = os; refused = a.refused + 1 })
   is_refused e seen at may miss os change =
       let met = rules_met g (Claim e) s may in
@@ -508,7 +508,7 @@ module _ (g : Setting) (s : Part) (a : Actor) (stands : StandsFor g s a) where
   -- a put
   pub puts : (e seen : ℕ) → tail_of g e ≡ a.vertex → unmet g (Put e) s ≡ None → (os : OutEnds)
       → ChangesOut a.outs os e out_after_put
-      → StandsFor g (does g (record { event = Put e; seen = seen }) s) (record a { outs = os; unput = a.unput - 1 })
+      → StandsFor g (does g (saw (Put e) seen) s) (record a { outs = os; unput = a.unput - 1 })
   puts e seen at may os change =
       let met = rules_met g (Put e) s may in
       let o : Out = s.out e in
@@ -553,7 +553,7 @@ module _ (g : Setting) (s : Part) (a : Actor) (stands : StandsFor g s a) where
         unput =
             (let move = tested_move (all_edges g) (λ i. eqb (tail_of g i) a.vertex)
             (λ i. length (option_to_list (link_after (Put e) seen i (s.out i)).held))
-            (λ i. length (option_to_list (s.out i).link.held)) e (sendable_inside g e met.0) (eq-eqb _ _ at)
+            (λ i. length (option_to_list (s.out i).link.held)) e met.0 (eq-eqb _ _ at)
             (λ i l ne on. ap (λ (t : Tail). length (option_to_list t.held)) (else' i (λ z. ne (sym z)))) in
             let new = ap (λ (t : Tail). length (option_to_list t.held)) link_is in
             let old : length (option_to_list o.link.held) ≡ 1 = ap (λ (h : Option ℕ). length (option_to_list h)) met.1.1
@@ -575,11 +575,11 @@ module _ (g : Setting) (s : Part) (a : Actor) (stands : StandsFor g s a) where
 
   pub fires : (v k seen : ℕ) → v ≡ a.vertex → unmet g (Fire v k) s ≡ None → (os : OutEnds)
       → ChangesOuts a.outs os (out_after_fire k)
-      → StandsFor g (does g (record { event = Fire v k; seen = seen }) s)
+      → StandsFor g (does g (saw (Fire v k) seen) s)
       (record a { chips = a.chips - k * a.degree; fired = a.fired + k; outs = os; pending = k * a.degree })
   fires v k seen at may os change =
       let met = rules_met g (Fire v k) s may in
-      let cost : k * a.degree ≡ k * degree g.graph v = (λ j. k * (stands.knows.degree ∙ ap (degree g.graph) (sym at)) j)
+      let cost : k * a.degree ≡ k * degree g.game.graph v = (λ j. k * (stands.knows.degree ∙ ap (degree g.game.graph) (sym at)) j)
       in
       record {
         knows = knows_still (a.chips - k * a.degree) (a.fired + k) a.halt os a.ins a.detect

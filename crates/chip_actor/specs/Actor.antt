@@ -12,7 +12,7 @@ use Rattle.chip_part.specs.Part.{Part, Out, pending_of, unput, refusals}
 use Rattle.chip_part.specs.Kept.{KeepsPart}
 use Rattle.chip_part.specs.Rules.{Event}
 use Rattle.chip_part.specs.declared.reply.Reply.{Reply}
-use Rattle.chip_part.specs.Steps.{does, reply_of}
+use Rattle.chip_part.specs.Steps.{does, reply_of, saw}
 use Rattle.chip_part.specs.Acting.{CanDo}
 use Rattle.chip_actor.specs.declared.ends.outs.OutEnd.{OutEnd}
 use Rattle.chip_actor.specs.Ends.{OutEnds, InEnds, out_on, in_on}
@@ -41,14 +41,14 @@ out_end g e o = record { mult = mult_of g e; pending = o.pending; link = tail_st
 -- the actor knows the game of its vertex
 pub record KnowsGame (g : Setting) (a : Actor) : Type 0 where
   pub setting : IsSetting g
-  pub vertex : a.vertex < g.graph.vertices
-  pub is_sink : a.is_sink ≡ (a.vertex == g.graph.sink)
-  pub degree : a.degree ≡ degree g.graph a.vertex
-  pub limit : a.limit ≡ g.limit
-  pub outs : a.outs.edges ≡ edges_out g.graph a.vertex
-  pub ins : a.ins.edges ≡ edges_in g.graph a.vertex ++ root_edge g a.vertex ∷ []
-  pub detect_outs : out_edges a.detect ≡ edges_out g.graph a.vertex
-  pub detect_ins : in_edges a.detect ≡ edges_in g.graph a.vertex ++ root_edge g a.vertex ∷ []
+  pub vertex : a.vertex < g.game.graph.vertices
+  pub is_sink : a.is_sink ≡ (a.vertex == g.game.graph.sink)
+  pub degree : a.degree ≡ degree g.game.graph a.vertex
+  pub limit : a.limit ≡ g.game.limit
+  pub outs : a.outs.edges ≡ edges_out g.game.graph a.vertex
+  pub ins : a.ins.edges ≡ edges_in g.game.graph a.vertex ++ root_edge g a.vertex ∷ []
+  pub detect_outs : out_edges a.detect ≡ edges_out g.game.graph a.vertex
+  pub detect_ins : in_edges a.detect ≡ edges_in g.game.graph a.vertex ++ root_edge g a.vertex ∷ []
 
 -- the actor's books of the detector say what the part says
 pub record KeepsBooks (g : Setting) (s : Part) (v : ℕ) (b : Books) : Type 0 where
@@ -95,5 +95,5 @@ is_passive_now a = a.unput == 0 && (is_some a.halt || (a.pending == 0 && not (is
 abbrev pub Makes : Actor → Actor → Event → ℕ → Reply → Type 0
 Makes old new x seen reply =
     WhateverPart old (λ g s. CanDo g s old.vertex x seen
-    → StandsFor g (does g (record { event = x; seen = seen }) s) new × (reply ≡ reply_of g x seen s)
+    → StandsFor g (does g (saw x seen) s) new × (reply ≡ reply_of g x seen s)
     × (new.vertex ≡ old.vertex))

@@ -6,7 +6,7 @@ use Rattle.chip_part.specs.Setting.{Setting}
 use Rattle.chip_part.specs.declared.act.Act.{Act}
 use Rattle.chip_part.specs.Part.{Part}
 use Rattle.chip_part.specs.Rules.{unmet}
-use Rattle.chip_part.specs.Steps.{Step, part_of, does, reply_of}
+use Rattle.chip_part.specs.Steps.{Step, part_of, does, reply_of, saw}
 use Rattle.chip_part.specs.Acting.{act_of, event_of, FitsSeen}
 use Rattle.chip_part.specs.Turn.{turn}
 use Rattle.chip_part.specs.declared.cursor.Cursor.{Cursor}
@@ -33,8 +33,8 @@ MayServe held act = (g : Setting) × (v : ℕ) × (ds : List Step) × (s : Part)
 pub record IsLonger (now : Holding) (g : Setting) (v : ℕ) (ds : List Step) (s : Part) (act : Act)
     (seen : ℕ) : Type 0 where
   pub fits : FitsSeen s (event_of v act) seen
-  pub held : now g v (record { event = event_of v act; seen = seen } ∷ ds)
-      (does g (record { event = event_of v act; seen = seen }) s)
+  pub held : now g v (saw (event_of v act) seen ∷ ds)
+      (does g (saw (event_of v act) seen) s)
 
 -- whatever record was held after which the operation is due, it is longer by it
 abbrev pub Serves : Holding → Holding → Act → ℕ → Type 0
@@ -96,9 +96,9 @@ MeetsDue held a act = (g : Setting) × (ds : List Step) × (s : Part) × held g 
 -- by the operation the record is longer and the actor stands for the part after it, and this is whether it counts
 pub record IsMade (now : Holding) (g : Setting) (v : ℕ) (ds : List Step) (s : Part) (act : Act) (b : Actor)
     (counts : Bool) (seen : ℕ) : Type 0 where
-  pub held : now g v (record { event = event_of v act; seen = seen } ∷ ds)
-      (does g (record { event = event_of v act; seen = seen }) s)
-  pub stands : StandsFor g (does g (record { event = event_of v act; seen = seen }) s) b
+  pub held : now g v (saw (event_of v act) seen ∷ ds)
+      (does g (saw (event_of v act) seen) s)
+  pub stands : StandsFor g (does g (saw (event_of v act) seen) s) b
   pub vertex : b.vertex ≡ v
   pub counted : counts ≡ is_work act (reply_of g (event_of v act) seen s)
 

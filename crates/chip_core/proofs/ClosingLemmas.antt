@@ -9,7 +9,8 @@ use mathlib.Core.Logic.{dite}
 use native.Mathlib.Decide.{ℕ_discrete, dec_lt}
 use Rattle.chip_graph.specs.Sums.{picked}
 use Rattle.chip_graph.specs.Multigraph.{degree}
-use Rattle.chip_part.specs.Setting.{Setting, HasGame}
+use Rattle.chip_graph.specs.ChipGame.{IsGame}
+use Rattle.chip_part.specs.Setting.{Setting}
 use Rattle.chip_graph.proofs.SumLemmas.{tested_none}
 use Rattle.chip_link.specs.Link.{sent_counts}
 use Rattle.chip_link.proofs.Sounds.{length-sent_counts}
@@ -22,12 +23,12 @@ use Rattle.chip_part.specs.declared.cause.Cause.{Cause}
 use Rattle.chip_part.specs.declared.cause.Cause.TheVariants.{SealedEdge, FiringLimit}
 use Rattle.chip_part.specs.Edges.{over_ins}
 use Rattle.chip_part.specs.Part.{is_legal}
-use Rattle.chip_part.specs.Steps.{settled_after}
+use Rattle.chip_part.specs.Steps.{settled_after, saw}
 use Rattle.chip_part.specs.Kept.{IsNeutral}
 use Rattle.chip_part.proofs.RuleLemmas.{rules_met}
 use Rattle.chip_part.proofs.PartLemmas.{at_edge, idle_take, passive_parts, no_fire, no_pending, no_halt}
 use Rattle.chip_part.proofs.PartLemmas.{out_zero, none_halt}
-use Rattle.chip_part.proofs.EdgeLemmas.{tail_root, sendable_inside}
+use Rattle.chip_part.proofs.EdgeLemmas.{tail_root}
 use Rattle.chip_core.specs.Core.{Log, Step, Event, Take, Ack, Fire, Clear, Claim, Put, Halt, Settle, Seal, Read, Feed}
 use Rattle.chip_core.specs.Core.{End, Rule, Part, unmet, part_of, does, part_in, out_in, into_in, sees, is_by_limit}
 use Rattle.chip_core.specs.Core.{IsLegalLog, answer, step, log_after, IsClosed, outstanding, tail_of, head_of, root}
@@ -46,9 +47,9 @@ cases_halt None = inl refl
 cases_halt (Some FiringLimit) = inr (inl refl)
 cases_halt (Some SealedEdge) = inr (inr refl)
 
-module _ (g : Setting) (game : HasGame g) (some_ring : 0 < g.ring) where
+module _ (g : Setting) (game : IsGame g.game) (some_ring : 0 < g.ring) where
   module _ (log : Log) (legal : IsLegalLog g log) (closed : IsClosed g log) where
-    resting : (v : ℕ) → v < g.graph.vertices → IsNeutral g v (part_in g log v)
+    resting : (v : ℕ) → v < g.game.graph.vertices → IsNeutral g v (part_in g log v)
     resting = all_neutral g game some_ring log legal closed.1
 
     -- ---- no later event changes a part, but the stopper's
@@ -58,8 +59,8 @@ module _ (g : Setting) (game : HasGame g) (some_ring : 0 < g.ring) where
     not_open e past going =
         true≢false (sym closed.0 ∙ ap (λ (p : ℕ). (part_in g log p).ended) (sym (tail_root g e past)) ∙ going)
 
-    still_step : (ev : Event) (seen : ℕ) → IsLegalLog g (record { event = ev; seen = seen } ∷ log)
-        → part_of g ev ≢ stopper g → does g (record { event = ev; seen = seen }) (part_in g log (part_of g ev))
+    still_step : (ev : Event) (seen : ℕ) → IsLegalLog g (saw ev seen ∷ log)
+        → part_of g ev ≢ stopper g → does g (saw ev seen) (part_in g log (part_of g ev))
         ≡ part_in g log (part_of g ev)
     still_step (Take e) seen next ne =
         let l = rules_met g (Take e) (part_in g log (head_of g e)) next.1.0 in
@@ -79,7 +80,7 @@ module _ (g : Setting) (game : HasGame g) (some_ring : 0 < g.ring) where
         (λ v. let l = v.0 in
         no_pending g (tail_of g e) (part_in g log (tail_of g e)) (part_kept g game log legal (tail_of g e)).outs
         (resting (tail_of g e) (tail_inside g game e v.0)) e refl (omega arith) v.1 v.3)
-        (λ r. not_open e r.0 r.3)
+        (λ r. not_open e r.0 r.2)
         (rules_met g (Clear e) (part_in g log (tail_of g e)) next.1.0))
     still_step (Feed e k) seen next ne = let may = rules_met g (Feed e k) (part_in g log (tail_of g e)) next.1.0 in
         absurd (not_open e may.0 may.2)
@@ -91,7 +92,7 @@ module _ (g : Setting) (game : HasGame g) (some_ring : 0 < g.ring) where
         ((outs e refl).clear_pends may.0 may.2))
     still_step (Put e) seen next ne =
         let may = rules_met g (Put e) (part_in g log (tail_of g e)) next.1.0 in
-        let none = (all_counts g game some_ring log legal closed.1 e (sendable_inside g e may.0)).3 in
+        let none = (all_counts g game some_ring log legal closed.1 e may.0).3 in
         let some = ap (λ (h : Option ℕ). length (option_to_list h)) may.1.1 in
         absurd (omega arith)
     still_step (Halt v) seen next ne =
@@ -189,8 +190,8 @@ module _ (g : Setting) (game : HasGame g) (some_ring : 0 < g.ring) where
           (cases_halt (part_in g log (tail_of g e)).halt))
           (tail_cases g game e)
 
-      pub chips_are : (v : ℕ) → v < g.graph.vertices
-          → chips_at g log v ≡ position_after g.graph (started g log) (firings log) v
+      pub chips_are : (v : ℕ) → v < g.game.graph.vertices
+          → chips_at g log v ≡ position_after g.game.graph (started g log) (firings log) v
       chips_are v l =
           let a = (leads_to g game some_ring log legal).position v l in
           let b : over_ins g v (λ e. sum (counts_in_flight g log e)) ≡ 0 = tested_none (all_edges g)
@@ -200,23 +201,23 @@ module _ (g : Setting) (game : HasGame g) (some_ring : 0 < g.ring) where
           omega arith
 
       -- a vertex that may still fire was halted by the limit
-      legal_halted : (v : ℕ) → IsLegal g.graph (position_after g.graph (started g log) (firings log)) v
+      legal_halted : (v : ℕ) → IsLegal g.game.graph (position_after g.game.graph (started g log) (firings log)) v
           → (part_in g log v).halt ≡ Some FiringLimit
       legal_halted v can =
           let same = chips_are v can.is_vertex in
           let chips = can.enough_chips in
           let s = part_in g log v in
           let may : is_legal g v s ≡ true = and_from _ _ (not_from_false _ (ne_eqb _ _ can.not_sink))
-          (le-leb (degree g.graph v) s.chips (omega arith)) in
+          (le-leb (degree g.game.graph v) s.chips (omega arith)) in
           ⊎_elim (λ runs. absurd (true≢false (sym may
           ∙ (passive_parts g v s (resting v can.is_vertex).passive runs).2)))
           (λ h. ⊎_elim (λ z. z) (λ z. absurd (no_seal v can.is_vertex z)) h) (cases_halt s.halt)
 
-      has_ended : HasEndedWithin g.graph (started g log) g.limit (firings log)
+      has_ended : HasEndedWithin g.game.graph (started g log) g.game.limit (firings log)
       has_ended v can = counts_are g log v ∙ ((part_kept g game log legal v).at_limit (legal_halted v can)).0
 
       -- the firings that were made are a whole play
-      pub played : IsWholePlay g.graph (started g log) g.limit (firings log)
+      pub played : IsWholePlay g.game.graph (started g log) g.game.limit (firings log)
       played = record {
         sequence = is_sequence g game some_ring log legal;
         within = is_within g game some_ring log legal;
@@ -224,7 +225,7 @@ module _ (g : Setting) (game : HasGame g) (some_ring : 0 < g.ring) where
       }
 
       -- the vertices halted by the limit are exactly those that may still fire
-      by_limit_is : (v : ℕ) → v < g.graph.vertices → is_by_limit (part_in g log v).halt ≡ is_legal g v (part_in g log v)
+      by_limit_is : (v : ℕ) → v < g.game.graph.vertices → is_by_limit (part_in g log v).halt ≡ is_legal g v (part_in g log v)
       by_limit_is v l =
           let s = part_in g log v in
           ⊎_elim
@@ -233,15 +234,15 @@ module _ (g : Setting) (game : HasGame g) (some_ring : 0 < g.ring) where
           (λ seal. absurd (no_seal v l seal)) h)
           (cases_halt s.halt)
 
-      pub over : picked (λ v. is_by_limit (part_in g log v).halt) g.graph.vertices
-          ≡ legal_vertices g.graph (chips_at g log)
+      pub over : picked (λ v. is_by_limit (part_in g log v).halt) g.game.graph.vertices
+          ≡ legal_vertices g.game.graph (chips_at g log)
       over = picked_ext (λ v. is_by_limit (part_in g log v).halt)
-          (λ v. is_legal g v (part_in g log v)) g.graph.vertices by_limit_is
+          (λ v. is_legal g v (part_in g log v)) g.game.graph.vertices by_limit_is
 
       -- counts and chips are those of every whole play
-      pub agrees_within : (vs : List ℕ) → IsWholePlay g.graph (started g log) g.limit vs → AgreesWith g log vs
+      pub agrees_within : (vs : List ℕ) → IsWholePlay g.game.graph (started g log) g.game.limit vs → AgreesWith g log vs
       agrees_within vs whole =
-          let one = one_end g.graph (started g log) g.limit (firings log) vs played whole in
+          let one = one_end g.game.graph (started g log) g.game.limit (firings log) vs played whole in
           record { counted = λ v. sym (counts_are g log v) ∙ one.0 v; chips = λ v l. chips_are v l ∙ one.1 v }
 
     -- ---- where no vertex halted
@@ -250,15 +251,15 @@ module _ (g : Setting) (game : HasGame g) (some_ring : 0 < g.ring) where
       no_seals : NoneHaltedBySeal g log
       no_seals v l h = none_halt g (part_in g log v).halt SealedEdge (no_halts v l) h
 
-      pub all_ended : HasEnded g.graph (started g log) (firings log)
+      pub all_ended : HasEnded g.game.graph (started g log) (firings log)
       all_ended v can = none_halt g (part_in g log v).halt FiringLimit (no_halts v can.is_vertex)
           (legal_halted no_seals v can)
 
       -- counts and chips are those of every sequence that ends with no vertex legal
-      pub agrees : (vs : List ℕ) → IsFiringSequence g.graph (started g log) vs
-          → HasEnded g.graph (started g log) vs → AgreesWith g log vs
+      pub agrees : (vs : List ℕ) → IsFiringSequence g.game.graph (started g log) vs
+          → HasEnded g.game.graph (started g log) vs → AgreesWith g log vs
       agrees vs ok ended =
-          let one = same_ends g.graph game.graph_fits (started g log) (firings log) vs
+          let one = same_ends g.game.graph game.graph_fits (started g log) (firings log) vs
           (is_sequence g game some_ring log legal) all_ended ok ended in
           record { counted = λ v. sym (counts_are g log v) ∙ one.0 v; chips = λ v l. chips_are no_seals v l ∙ one.1 v }
 
@@ -267,7 +268,7 @@ module _ (g : Setting) (game : HasGame g) (some_ring : 0 < g.ring) where
   still_answer : (log : Log) (x : Event) (o : Option Rule) → unmet g x (part_in g log (part_of g x)) ≡ o
       → IsLegalLog g log → IsClosed g log → IsClosed g (answer g log x o).0
       × ((p : ℕ) → p ≢ stopper g → part_in g (answer g log x o).0 p ≡ part_in g log p)
-  still_answer log x None met legal closed = let next : IsLegalLog g (record { event = x; seen = sees g log x } ∷ log) =
+  still_answer log x None met legal closed = let next : IsLegalLog g (saw x (sees g log x) ∷ log) =
       (legal, (met, refl)) in (still_closed log legal closed _ next, still log legal closed _ next)
   still_answer log x (Some r) met legal closed = (closed, λ p ne. refl)
 

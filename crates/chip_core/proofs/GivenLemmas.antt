@@ -3,7 +3,7 @@ use Rattle.std.proofs.Common.{◌≡◌, ◌≢◌, ℕ, ◌+◌, ◌-◌, ◌<�
 use Rattle.std.proofs.Common.{length, sum, slice_index, get_or, Option, Some, None, option_to_list, refl, sym, ap, ◌∙◌}
 use Rattle.std.proofs.Common.{subst, arith, append-nil, append_assoc, true≢false}
 use Rattle.std.proofs.lemmas.List.{get_or_past, ext_get_or}
-use Rattle.std.proofs.lemmas.List.FromFn.{get_or-map-range_with_len, length-map-range_with_len}
+use Rattle.std.proofs.lemmas.List.FromFn.{fill_by_all, get_or-map-range_with_len, length-map-range_with_len}
 use Rattle.std.proofs.lemmas.List.Sums.{sum_by_push, sum_by-cons, sum_by-append}
 use mathlib.Core.Logic.{dite}
 use native.Mathlib.Decide.{ℕ_discrete, dec_lt}
@@ -15,12 +15,12 @@ use Rattle.chip_graph.proofs.SumLemmas.{cond_yes, cond_no, sum_below_ext, sum_by
 use Rattle.chip_graph.proofs.SumLemmas.{sum_below_one, sum_below_add, sum_below_none}
 use Rattle.chip_link.specs.Words.{edge_word}
 use Rattle.chip_link.specs.Link.{Tail, sent_counts, claims_of, after_clear, after_claim, after_put, after_seal}
-use Rattle.chip_part.specs.Setting.{Setting, HasGame, game_of_setting}
+use Rattle.chip_part.specs.Setting.{Setting}
 use Rattle.chip_part.specs.Edges.{start_of}
-use Rattle.chip_part.specs.Part.{Part, all_fed}
+use Rattle.chip_part.specs.Part.{Part, all_fed, AreGiven}
 use Rattle.chip_part.specs.Steps.{link_after, stop_after}
 use Rattle.chip_part.specs.Kept.{Met, opening_tail}
-use Rattle.chip_part.proofs.EdgeLemmas.{tail_root, sendable_inside}
+use Rattle.chip_part.proofs.EdgeLemmas.{tail_root}
 use Rattle.chip_part.proofs.RuleLemmas.{rules_met}
 use Rattle.chip_part.proofs.PartLemmas.{at_edge}
 use Rattle.chip_part.proofs.Opening.{first_sent, first_fed}
@@ -77,7 +77,7 @@ module _ (g : Setting) where
   outside_step (Claim i) seen e log may past = cond_no i e (after_claim (out_in g log e).pending seen
       (out_in g log e).link) (out_in g log e).link (λ z. (let a : i ≡ e = z in let b = may.0 in absurd (omega arith)))
   outside_step (Put i) seen e log may past = cond_no i e (after_put (out_in g log e).link)
-      (out_in g log e).link (λ z. (let a : i ≡ e = z in let b = sendable_inside g i may.0 in absurd (omega arith)))
+      (out_in g log e).link (λ z. (let a : i ≡ e = z in let b = may.0 in absurd (omega arith)))
   outside_step (Feed i k) seen e log may past = cond_no i e (after_claim k seen (out_in g log e).link)
       (out_in g log e).link (λ z. (let a : i ≡ e = z in let b = may.1 in absurd (omega arith)))
   outside_step (Take i) seen e log may past = refl
@@ -95,13 +95,13 @@ module _ (g : Setting) where
       ∙ outside_step x.event x.seen e log (rules_met g x.event (part_in g log (part_of g x.event)) legal.1.0) past
       ∙ outside_is log legal.0 e past
 
-  module _ (game : HasGame g) (some_ring : 0 < g.ring) where
+  module _ (game : IsGame g.game) (some_ring : 0 < g.ring) where
     -- nothing was given to what isn't a vertex
-    pub started_outside : (log : Log) → IsLegalLog g log → (v : ℕ) → g.graph.vertices ≤ v → started g log v ≡ 0
+    pub started_outside : (log : Log) → IsLegalLog g log → (v : ℕ) → g.game.graph.vertices ≤ v → started g log v ≡ 0
     started_outside log legal v past =
         let each = game.start_fits in
         ap (λ (t : Tail). sum (sent_counts t)) (outside_is log legal (root_edge g v) (omega arith))
-        ∙ first_sent g v ∙ get_or_past g.start v 0 (omega arith)
+        ∙ first_sent g v ∙ get_or_past g.game.start v 0 (omega arith)
 
     -- ---- a feed sends its message
 
@@ -240,17 +240,17 @@ module _ (g : Setting) where
         let d = brought_both (recorded log) (fed_of g x.event) v in
         omega arith
 
-    nothing_fed : sum_below g.graph.vertices (brought_to []) ≡ all_brought []
-    nothing_fed = sum_below_none g.graph.vertices (brought_to []) (λ v l. refl)
+    nothing_fed : sum_below g.game.graph.vertices (brought_to []) ≡ all_brought []
+    nothing_fed = sum_below_none g.game.graph.vertices (brought_to []) (λ v l. refl)
 
     -- a feed is of one vertex
     fed_once : (x : Event) (s : Part) → Met g x s
-        → sum_below g.graph.vertices (brought_to (fed_of g x)) ≡ all_brought (fed_of g x)
+        → sum_below g.game.graph.vertices (brought_to (fed_of g x)) ≡ all_brought (fed_of g x)
     fed_once (Feed e k) s may =
         let past = may.0 in
         let inside = may.1 in
         let v : ℕ = e - graph_edges g in
-        let one = sum_below_one g.graph.vertices (brought_to ((v, k) ∷ [])) v (omega arith)
+        let one = sum_below_one g.game.graph.vertices (brought_to ((v, k) ∷ [])) v (omega arith)
         (λ u l ne. (let b = brought_one v u k in let d = cond_no v u k 0 (λ z. ne (sym z)) in omega arith)) in
         let here = brought_one v v k in
         let yes = cond_yes v v k 0 refl in
@@ -269,17 +269,17 @@ module _ (g : Setting) where
     fed_once End s may = nothing_fed
 
     total_recorded : (log : Log) → IsLegalLog g log
-        → sum_below g.graph.vertices (started g log) ≡ sum g.start + all_brought (recorded log)
+        → sum_below g.game.graph.vertices (started g log) ≡ sum g.game.start + all_brought (recorded log)
     total_recorded [] legal =
         let a = first_fed g game in
-        let b = sum_below_ext g.graph.vertices (started g []) (λ v. sum (sent_counts (opening_tail g (root_edge g v))))
+        let b = sum_below_ext g.game.graph.vertices (started g []) (λ v. sum (sent_counts (opening_tail g (root_edge g v))))
         (λ v l. refl) in
         omega arith
     total_recorded (x ∷ log) legal =
         let may = rules_met g x.event (part_in g log (part_of g x.event)) legal.1.0 in
-        let a = sum_below_ext g.graph.vertices (started g (x ∷ log))
+        let a = sum_below_ext g.game.graph.vertices (started g (x ∷ log))
         (λ v. started g log v + brought_to (fed_of g x.event) v) (λ v l. started_step x log legal v) in
-        let b = sum_below_add g.graph.vertices (started g log) (brought_to (fed_of g x.event)) in
+        let b = sum_below_add g.game.graph.vertices (started g log) (brought_to (fed_of g x.event)) in
         let c = fed_once x.event (part_in g log (part_of g x.event)) may in
         let d = total_recorded log legal.0 in
         let f = ap all_brought (recorded_step x log legal) in
@@ -288,24 +288,24 @@ module _ (g : Setting) where
 
     -- ---- all that was given
 
-    pub given_each : (log : Log) (v : ℕ) → v < g.graph.vertices
+    pub given_each : (log : Log) (v : ℕ) → v < g.game.graph.vertices
         → slice_index (played_game g log).start v ≡ started g log v
-    given_each log v l = get_or-map-range_with_len (started g log) 0 g.graph.vertices v v 0 l (omega arith)
+    given_each log v l = get_or-map-range_with_len (started g log) 0 g.game.graph.vertices v v 0 l (omega arith)
 
     pub given_is : (log : Log) → IsLegalLog g log → slice_index (played_game g log).start ≡ started g log
-    given_is log legal j v = (dite (dec_lt v g.graph.vertices) (λ l. given_each log v l)
-        (λ nl. let n = length-map-range_with_len (started g log) 0 g.graph.vertices in
+    given_is log legal j v = (dite (dec_lt v g.game.graph.vertices) (λ l. given_each log v l)
+        (λ nl. let n = length-map-range_with_len (started g log) 0 g.game.graph.vertices in
         get_or_past (played_game g log).start v 0 (omega arith) ∙ sym (started_outside log legal v (omega arith)))) j
 
-    pub given_sum : (log : Log) → sum (played_game g log).start ≡ sum_below g.graph.vertices (started g log)
+    pub given_sum : (log : Log) → sum (played_game g log).start ≡ sum_below g.game.graph.vertices (started g log)
     given_sum log = sum_by_place (played_game g log).start
         ∙ ap (λ (n : ℕ). sum_below n (slice_index (played_game g log).start))
-        (length-map-range_with_len (started g log) 0 g.graph.vertices)
-        ∙ sum_below_ext g.graph.vertices (slice_index (played_game g log).start) (started g log) (given_each log)
+        (length-map-range_with_len (started g log) 0 g.game.graph.vertices)
+        ∙ sum_below_ext g.game.graph.vertices (slice_index (played_game g log).start) (started g log) (given_each log)
 
     -- it is what the root sent
     pub root_gave : (log : Log) → sum (played_game g log).start ≡ all_fed g (part_in g log (root g))
-    root_gave log = given_sum log ∙ sum_below_ext g.graph.vertices (started g log)
+    root_gave log = given_sum log ∙ sum_below_ext g.game.graph.vertices (started g log)
         (λ v. sum (sent_counts ((part_in g log (root g)).out (root_edge g v)).link))
         (λ v l. ap (λ (p : ℕ). sum (sent_counts ((part_in g log p).out (root_edge g v)).link))
         (tail_root g (root_edge g v) (omega arith)))
@@ -318,17 +318,17 @@ module _ (g : Setting) where
     pub played_is_game : (log : Log) → IsLegalLog g log → IsGame (played_game g log)
     played_is_game log legal = record {
       graph_fits = game.graph_fits;
-      start_fits = length-map-range_with_len (started g log) 0 g.graph.vertices;
+      start_fits = length-map-range_with_len (started g log) 0 g.game.graph.vertices;
       few_chips = given_within log legal;
       low_limit = game.low_limit;
     }
 
     pub played_has_more : (log : Log) → IsLegalLog g log
-        → HasMore (game_of_setting g) (recorded log) (played_game g log)
+        → HasMore g.game (recorded log) (played_game g log)
     played_has_more log legal = record {
       same_graph = refl;
       same_limit = refl;
-      start_each = length-map-range_with_len (started g log) 0 g.graph.vertices ∙ sym game.start_fits;
+      start_each = length-map-range_with_len (started g log) 0 g.game.graph.vertices ∙ sym game.start_fits;
       start = λ v l. given_each log v (let n = game.start_fits in omega arith) ∙ started_recorded log legal v;
       total = given_sum log ∙ total_recorded log legal;
     }
@@ -340,14 +340,14 @@ module _ (g : Setting) where
       unfed_started log legal v = ap (λ (t : Tail). sum (sent_counts t))
           ((out_kept g game log legal (root_edge g v)).root_unfed (omega arith) off) ∙ first_sent g v
 
-      pub unfed_start : (log : Log) → IsLegalLog g log → (played_game g log).start ≡ g.start
+      pub unfed_start : (log : Log) → IsLegalLog g log → (played_game g log).start ≡ g.game.start
       unfed_start log legal =
-          let long = length-map-range_with_len (started g log) 0 g.graph.vertices in
-          ext_get_or 0 (played_game g log).start g.start (long ∙ sym game.start_fits)
+          let long = length-map-range_with_len (started g log) 0 g.game.graph.vertices in
+          ext_get_or 0 (played_game g log).start g.game.start (long ∙ sym game.start_fits)
           (λ v l. given_each log v (omega arith) ∙ unfed_started log legal v)
 
-      pub unfed_played : (log : Log) → IsLegalLog g log → played_game g log ≡ game_of_setting g
-      unfed_played log legal j = record { graph = g.graph; start = unfed_start log legal j; limit = g.limit }
+      pub unfed_played : (log : Log) → IsLegalLog g log → played_game g log ≡ g.game
+      unfed_played log legal j = record { graph = g.game.graph; start = unfed_start log legal j; limit = g.game.limit }
 
       pub unfed_closes : (log : Log) → IsLegalLog g log → (part_in g log (root g)).ended ≡ true
       unfed_closes log legal = (part_kept g game log legal (root g)).unfed_ended off
@@ -378,3 +378,11 @@ given_by_the_record g game some_ring log legal = played_has_more g game some_rin
 
 pub unfed_records_none : UnfedRecordsNone
 unfed_records_none g game some_ring log legal off = unfed_records g game some_ring off log legal
+
+-- what was given to each vertex is the start of the game that is played
+pub given_start : (g : Setting) (log : Log) (given : List ℕ) → AreGiven g (part_in g log (root g)) given
+    → given ≡ (played_game g log).start
+given_start g log given are = fill_by_all (started g log) given g.game.graph.vertices 0 are.0
+    (λ v l. are.1 v l
+    ∙ ap (λ (p : ℕ). sum (sent_counts ((part_in g log p).out (root_edge g v)).link))
+    (sym (tail_root g (root_edge g v) (omega arith))))

@@ -1,6 +1,7 @@
 -- The core theorem.
 use Rattle.std.proofs.Common.{◌≡◌, ℕ, ◌<◌, ◌++◌, List, sym, ap, ◌∙◌, append-nil}
-use Rattle.chip_part.specs.Setting.{Setting, HasGame}
+use Rattle.chip_graph.specs.ChipGame.{IsGame}
+use Rattle.chip_part.specs.Setting.{Setting}
 use Rattle.chip_core.specs.Core.{Log, Event, IsLegalLog, log_after, IsClosed, all_edges}
 use Rattle.chip_core.specs.Messages.{Message, sent_on, delivered_on}
 use Rattle.chip_core.specs.Headline.{Headline, CoreTheorem}
@@ -10,7 +11,7 @@ use Rattle.chip_core.proofs.ReachingLemmas.{run_legal}
 use Rattle.chip_core.proofs.MessageLemmas.{nothing_after_seal, sealed_before, left_is, delivers_prefix, sent_in_order}
 use Rattle.chip_core.proofs.ClosingLemmas.{nothing_in_flight, all_ended, agrees, played, agrees_within, over, still_run}
 
-module _ (g : Setting) (game : HasGame g) (some_ring : 0 < g.ring) (log : Log) (legal : IsLegalLog g log)
+module _ (g : Setting) (game : IsGame g.game) (some_ring : 0 < g.ring) (log : Log) (legal : IsLegalLog g log)
     (xs : List Event) where
   abbrev after : Log
   after = log_after g log xs

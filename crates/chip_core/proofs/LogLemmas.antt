@@ -4,7 +4,8 @@ use Rattle.std.proofs.Common.{Some, None, option_to_list, refl, sym, ap, ◌∙�
 use Rattle.std.proofs.Common.{le-ltb, pos_of_ne-zero}
 use mathlib.Core.Logic.{dite}
 use native.Mathlib.Decide.{ℕ_discrete, dec_lt}
-use Rattle.chip_part.specs.Setting.{Setting, HasGame}
+use Rattle.chip_graph.specs.ChipGame.{IsGame}
+use Rattle.chip_part.specs.Setting.{Setting}
 use Rattle.chip_graph.proofs.SumLemmas.{cond_yes, cond_no, cond_true, cond_false}
 use Rattle.chip_link.specs.Link.{Tail, claims_of, after_clear, after_claim, after_put, after_take, after_seal, Sound}
 use Rattle.chip_link.proofs.Sounds.{clear_sound, claim_sound, put_sound, take_sound, seal_sound, fresh_sound}
@@ -146,22 +147,22 @@ module _ (g : Setting) where
 
   -- ---- whose an edge is
 
-  module _ (game : HasGame g) where
-    pub head_inside : (e : ℕ) → e < all_edges g → head_of g e < g.graph.vertices
-    head_inside e l = dite (dec_lt e (length g.graph.edges))
-        (λ m. subst (λ (n : ℕ). n < g.graph.vertices) (sym (head_graph g e m))
+  module _ (game : IsGame g.game) where
+    pub head_inside : (e : ℕ) → e < all_edges g → head_of g e < g.game.graph.vertices
+    head_inside e l = dite (dec_lt e (length g.game.graph.edges))
+        (λ m. subst (λ (n : ℕ). n < g.game.graph.vertices) (sym (head_graph g e m))
         (game.graph_fits.edges_fit e m).head_is_vertex)
         (λ n. let at = head_root g e (omega arith) in omega arith)
 
-    pub tail_inside : (e : ℕ) → e < graph_edges g → tail_of g e < g.graph.vertices
-    tail_inside e l = subst (λ (n : ℕ). n < g.graph.vertices) (sym (tail_graph g e l))
+    pub tail_inside : (e : ℕ) → e < graph_edges g → tail_of g e < g.game.graph.vertices
+    tail_inside e l = subst (λ (n : ℕ). n < g.game.graph.vertices) (sym (tail_graph g e l))
         (game.graph_fits.edges_fit e l).tail_is_vertex
 
-    pub tail_cases : (e : ℕ) → (tail_of g e ≡ root g) ⊎ (tail_of g e < g.graph.vertices)
-    tail_cases e = dite (dec_lt e (length g.graph.edges)) (λ m. inr (tail_inside e m))
+    pub tail_cases : (e : ℕ) → (tail_of g e ≡ root g) ⊎ (tail_of g e < g.game.graph.vertices)
+    tail_cases e = dite (dec_lt e (length g.game.graph.edges)) (λ m. inr (tail_inside e m))
         (λ n. inl (tail_root g e (omega arith)))
 
-  module _ (game : HasGame g) where
+  module _ (game : IsGame g.game) where
     -- ---- every part
 
     -- what the part that acts keeps, it keeps in every legal log
@@ -188,7 +189,7 @@ module _ (g : Setting) where
       -- nothing is claimed on an edge that may be looked at
       pub empty_hand : (log : Log) → IsLegalLog g log → (e : ℕ) → Met g (Clear e) (part_in g log (tail_of g e))
           → (out_in g log e).link.held ≡ None
-      empty_hand log legal e may = ⊎_elim (λ v. (out_kept log legal e).free_hand v.0 v.3) (λ r. r.4) may
+      empty_hand log legal e may = ⊎_elim (λ v. (out_kept log legal e).free_hand v.0 v.3) (λ r. r.3) may
 
       edge_step : (log : Log) (x : Event) (seen : ℕ) → IsLegalLog g log → Met g x (part_in g log (part_of g x))
           → seen ≡ sees g log x → ((e : ℕ) → SoundAt log e)
@@ -230,16 +231,16 @@ module _ (g : Setting) where
       -- an edge with nothing on it, and a root edge with one message
       first_sound_at : (e : ℕ) → Sound g.ring
           (record { put = first_put g e; held = None; clear = false; refused = false }) [] None
-      first_sound_at e = dite (dec_lt e (length g.graph.edges))
-          (λ l. subst Opens (sym (cond_true _ [] (cond (eqb s 0) [] (s ∷ [])) (lt-ltb e (length g.graph.edges) l)))
+      first_sound_at e = dite (dec_lt e (length g.game.graph.edges))
+          (λ l. subst Opens (sym (cond_true _ [] (cond (eqb s 0) [] (s ∷ [])) (lt-ltb e (length g.game.graph.edges) l)))
           (fresh_sound g.ring some_ring))
           (λ n. subst Opens (sym (cond_false _ [] (cond (eqb s 0) [] (s ∷ []))
-          (le-ltb e (length g.graph.edges) (omega arith)))) (dite (ℕ_discrete s 0)
+          (le-ltb e (length g.game.graph.edges) (omega arith)))) (dite (ℕ_discrete s 0)
           (λ z. subst Opens (sym (cond_yes s 0 [] (s ∷ []) z)) (fresh_sound g.ring some_ring))
           (λ z. subst Opens (sym (cond_no s 0 [] (s ∷ []) z)) (first_sound g.ring s some_ring (pos_of_ne-zero z)))))
         where
           s : ℕ
-          s = start_of g (e - length g.graph.edges)
+          s = start_of g (e - length g.game.graph.edges)
 
           Opens : List ℕ → Type 0
           Opens put = Sound g.ring (record { put = put; held = None; clear = false; refused = false }) [] None

@@ -8,7 +8,8 @@ use Rattle.std.proofs.lemmas.List.Sums.{sum_by-cons, sum_by-append}
 use Rattle.std.specs.List.{slice_get}
 use mathlib.Core.Logic.{dite}
 use native.Mathlib.Decide.{ℕ_discrete}
-use Rattle.chip_part.specs.Setting.{Setting, HasGame}
+use Rattle.chip_graph.specs.ChipGame.{IsGame}
+use Rattle.chip_part.specs.Setting.{Setting}
 use Rattle.chip_graph.proofs.SumLemmas.{cond_yes, cond_no, by_test, cond_true, cond_false}
 use Rattle.chip_link.specs.Words.{edge_word}
 use Rattle.chip_link.specs.Link.{Tail, sent_counts, claims_of, after_clear, after_claim, after_put, after_take}
@@ -18,7 +19,7 @@ use Rattle.chip_link.proofs.Sounds.{length-sent_counts}
 use Rattle.chip_part.specs.declared.reply.Reply.TheVariants.{Got, Sent, Empty, Sealed, NotNow}
 use Rattle.chip_part.specs.Edges.{mult_of, start_of, root_edge}
 use Rattle.chip_part.specs.Part.{first_put}
-use Rattle.chip_part.specs.Steps.{message_of, link_after, got_after}
+use Rattle.chip_part.specs.Steps.{message_of, link_after, got_after, saw}
 use Rattle.chip_part.proofs.RuleLemmas.{rules_met}
 use Rattle.chip_part.proofs.PartLemmas.{at_edge, took_none}
 use Rattle.chip_part.proofs.Opening.{first_few, first_sent}
@@ -259,7 +260,7 @@ module _ (g : Setting) where
 
   got_answer : (log : Log) (x : Event) (o : Option Rule) (e : ℕ)
       → got_at (answer g log x o).0 e ≡ got_at log e ++ delivered_by e x (answer g log x o).1
-  got_answer log x None e = ap (messages_from e 0) (got_step g (record { event = x; seen = sees g log x }) log e)
+  got_answer log x None e = ap (messages_from e 0) (got_step g (saw x (sees g log x)) log e)
       ∙ got_event x log e
   got_answer log x (Some r) e = sym (ap (λ (l : List Message). got_at log e ++ l) (not_delivered e x r)
       ∙ append-nil (got_at log e))
@@ -274,7 +275,7 @@ module _ (g : Setting) where
       (got_answer log x (unmet g x (part_in g log (part_of g x))) e)
       ∙ append_assoc (got_at log e) (delivered_by e x (step g log x).1) (delivered_on g (step g log x).0 xs e)
 
-  module _ (game : HasGame g) (some_ring : 0 < g.ring) where
+  module _ (game : IsGame g.game) (some_ring : 0 < g.ring) where
     -- ---- what was sent
 
     -- all that was ever sent on e
@@ -354,7 +355,7 @@ module _ (g : Setting) where
     sent_answer : (log : Log) (x : Event) (o : Option Rule) (e : ℕ) → unmet g x (part_in g log (part_of g x)) ≡ o
         → IsLegalLog g log → sent_at (answer g log x o).0 e ≡ sent_at log e ++ sent_by e x (answer g log x o).1
     sent_answer log x None e met legal = ap (λ (t : Tail). messages_from e 0 (sent_counts t))
-        (link_step g (record { event = x; seen = sees g log x }) log e) ∙ sent_event x log e legal met
+        (link_step g (saw x (sees g log x)) log e) ∙ sent_event x log e legal met
     sent_answer log x (Some r) e met legal = sym (ap (λ (l : List Message). sent_at log e ++ l) (not_sent e x r)
         ∙ append-nil (sent_at log e))
 

@@ -7,7 +7,8 @@ use Rattle.std.proofs.lemmas.List.Sums.{sum_by-cons, sum_by-append, get_or-le-su
 use mathlib.Core.Logic.{dite}
 use native.Mathlib.Decide.{ℕ_discrete, dec_lt}
 use Rattle.chip_graph.specs.Limits.{max_total}
-use Rattle.chip_part.specs.Setting.{Setting, HasGame}
+use Rattle.chip_graph.specs.ChipGame.{IsGame}
+use Rattle.chip_part.specs.Setting.{Setting}
 use Rattle.chip_graph.proofs.SumLemmas.{cond_yes, cond_no, sum_below_term, tested_term}
 use Rattle.chip_link.specs.Words.{edge_word}
 use Rattle.chip_link.specs.WordLaws.{ReadsAs, ReadsAsFired}
@@ -75,16 +76,16 @@ module _ (g : Setting) where
   seals_stand (x ∷ log) e = ap (λ (b : Bool). is_seal e x.event || b) (seals_stand log e)
       ∙ sym (ap is_some (stop_step g x log e) ∙ seal_step x.event x.seen e (stop_in g log e))
 
-  module _ (game : HasGame g) (some_ring : 0 < g.ring) (log : Log) (legal : IsLegalLog g log) where
+  module _ (game : IsGame g.game) (some_ring : 0 < g.ring) (log : Log) (legal : IsLegalLog g log) where
     -- ---- chips
 
     -- no vertex ever has more chips than were given, those on the way to it among them
-    pub full_position_most : (v : ℕ) → v < g.graph.vertices → full_position g log v ≤ sum (played_game g log).start
+    pub full_position_most : (v : ℕ) → v < g.game.graph.vertices → full_position g log v ≤ sum (played_game g log).start
     full_position_most v l =
         let a = (leads_to g game some_ring log legal).position v l in
-        let b = chips_are_kept g.graph game.graph_fits (started g log) (firings log)
+        let b = chips_are_kept g.game.graph game.graph_fits (started g log) (firings log)
         (is_sequence g game some_ring log legal) in
-        let c = sum_below_term g.graph.vertices (position_after g.graph (started g log) (firings log)) v l in
+        let c = sum_below_term g.game.graph.vertices (position_after g.game.graph (started g log) (firings log)) v l in
         let d = given_sum g game some_ring log in
         omega arith
 
@@ -102,7 +103,7 @@ module _ (g : Setting) where
         (λ i. sum (counts_in_flight g log i)) e l (eq-eqb (head_of g e) (head_of g e) refl) in
         omega arith
 
-    pub few_chips : (v : ℕ) → v < g.graph.vertices → (part_in g log v).chips ≤ 2 ^ 40
+    pub few_chips : (v : ℕ) → v < g.game.graph.vertices → (part_in g log v).chips ≤ 2 ^ 40
     few_chips v l = let a = full_position_most v l in let b = few_given in omega arith
 
     pub few_in_flight : (e : ℕ) → e < all_edges g → sum (counts_in_flight g log e) ≤ 2 ^ 40
@@ -111,7 +112,7 @@ module _ (g : Setting) where
     -- ---- messages
 
     -- of a graph edge: one for each firing at most
-    pub few_claims : (e : ℕ) → e < graph_edges g → claims_of (out_in g log e).link ≤ g.limit
+    pub few_claims : (e : ℕ) → e < graph_edges g → claims_of (out_in g log e).link ≤ g.game.limit
     few_claims e l = let a = (out_kept g game log legal e).fewer l in
         let b = (part_kept g game log legal (tail_of g e)).within in omega arith
 
@@ -129,9 +130,9 @@ module _ (g : Setting) where
         omega arith
 
     given_most : (v : ℕ) → started g log v ≤ sum (played_game g log).start
-    given_most v = dite (dec_lt v g.graph.vertices)
+    given_most v = dite (dec_lt v g.game.graph.vertices)
         (λ l. let a = given_sum g game some_ring log in
-        let b = sum_below_term g.graph.vertices (started g log) v l in omega arith)
+        let b = sum_below_term g.game.graph.vertices (started g log) v l in omega arith)
         (λ n. let a = started_outside g game some_ring log legal v (omega arith) in omega arith)
 
     -- of any edge
@@ -141,7 +142,7 @@ module _ (g : Setting) where
         (λ n. let a = few_root_claims e (omega arith) in let b = given_most (e - graph_edges g) in
         let c = few_given in omega arith)
 
-    pub fired_most : (v : ℕ) → fired_by g log v ≤ g.limit
+    pub fired_most : (v : ℕ) → fired_by g log v ≤ g.game.limit
     fired_most v = (part_kept g game log legal v).within
 
     pub numbers : NumbersOf g log
@@ -251,7 +252,7 @@ module _ (g : Setting) where
         let c0 = c.0 in let c1 = c.1 in let c2 = c.2 in let c3 = c.3 in
         (c0, omega arith)
 
-    pub fits_seen : (x : Event) → part_of g x < g.graph.vertices → unmet g x (part_in g log (part_of g x)) ≡ None
+    pub fits_seen : (x : Event) → part_of g x < g.game.graph.vertices → unmet g x (part_in g log (part_of g x)) ≡ None
         → FitsSeen (part_in g log (part_of g x)) x (sees g log x)
     fits_seen (Take e) at met = take_fits e (rules_met g (Take e) (part_in g log (head_of g e)) met)
     fits_seen (Claim e) at met = (edge_reads e).claims_are
@@ -291,7 +292,7 @@ module _ (g : Setting) where
     root_fits (Seal e) own met = absurd (true≢false (sym own))
 
     -- so an actor may be told of it
-    pub can_do : (x : Event) → part_of g x < g.graph.vertices → unmet g x (part_in g log (part_of g x)) ≡ None
+    pub can_do : (x : Event) → part_of g x < g.game.graph.vertices → unmet g x (part_in g log (part_of g x)) ≡ None
         → CanDo g (part_in g log (part_of g x)) (part_of g x) x (sees g log x)
     can_do x at met = (refl, met, fits_seen x at met)
 

@@ -5,11 +5,12 @@ use Rattle.std.proofs.lemmas.List.{get_or_past}
 use Rattle.std.proofs.lemmas.List.Elements.{Contains-append_right}
 use mathlib.Core.Logic.{dite}
 use native.Mathlib.Decide.{ℕ_discrete, dec_lt}
-use Rattle.chip_part.specs.Setting.{Setting, HasGame}
+use Rattle.chip_graph.specs.ChipGame.{IsGame}
+use Rattle.chip_part.specs.Setting.{Setting}
 use Rattle.chip_graph.proofs.SumLemmas.{cond_yes, cond_no, cond_true, cond_false, by_test}
 use Rattle.chip_detect.specs.Acknowledging.{is_parent, or_else}
 use Rattle.chip_part.specs.Part.{owed, may_ack}
-use Rattle.chip_part.specs.Steps.{parent_after}
+use Rattle.chip_part.specs.Steps.{parent_after, saw}
 use Rattle.chip_part.specs.Kept.{IsNeutral}
 use Rattle.chip_part.proofs.RuleLemmas.{rules_met}
 use Rattle.chip_part.proofs.PartLemmas.{out_zero}
@@ -80,9 +81,9 @@ cases_parent (Some q) = inr (q, refl)
 none_some : (q : ℕ) (o : Option ℕ) → o ≡ None → o ≡ Some q → ⊥
 none_some q o a b = absurd (cc)
 
-module _ (g : Setting) (game : HasGame g) (some_ring : 0 < g.ring) where
+module _ (g : Setting) (game : IsGame g.game) (some_ring : 0 < g.ring) where
   -- the tail of an edge with something outstanding is the root or engaged
-  busy_tail : (log : Log) → IsLegalLog g log → (e h : ℕ) → e < all_edges g → tail_of g e ≡ h → h < g.graph.vertices
+  busy_tail : (log : Log) → IsLegalLog g log → (e h : ℕ) → e < all_edges g → tail_of g e ≡ h → h < g.game.graph.vertices
       → (part_in g log h).parent ≡ None → 0 < outstanding (out_in g log e) → ⊥
   busy_tail log legal e h l at inside none some =
       let rest = (part_kept g game log legal h).neutral inside none in
@@ -110,7 +111,7 @@ module _ (g : Setting) (game : HasGame g) (some_ring : 0 < g.ring) where
       × ((e : ℕ) × (par v ≡ Some e) × ((tail_of g e ≡ root g) ⊎ Contains vs (tail_of g e)))
 
   abbrev Covers : (ℕ → Option ℕ) → List ℕ → Type 0
-  Covers par vs = (v : ℕ) → v < g.graph.vertices → (Contains vs v → ⊥) → par v ≡ None
+  Covers par vs = (v : ℕ) → v < g.game.graph.vertices → (Contains vs v → ⊥) → par v ≡ None
 
   abbrev parents : Log → ℕ → Option ℕ
   parents log v = (part_in g log v).parent
@@ -183,10 +184,10 @@ module _ (g : Setting) (game : HasGame g) (some_ring : 0 < g.ring) where
   all_parents log log' h here rest v = dite (ℕ_discrete v h)
       (λ e. subst (λ (u : ℕ). parents log' u ≡ parents log u) (sym e) here) (λ ne. rest v ne)
 
-  order_step : (log : Log) (ev : Event) (seen : ℕ) → IsLegalLog g (record { event = ev; seen = seen } ∷ log)
-      → Ordered log → Ordered (record { event = ev; seen = seen } ∷ log)
+  order_step : (log : Log) (ev : Event) (seen : ℕ) → IsLegalLog g (saw ev seen ∷ log)
+      → Ordered log → Ordered (saw ev seen ∷ log)
   order_step log (Take e) seen legal o =
-      let x : Step = record { event = Take e; seen = seen } in
+      let x : Step = saw (Take e) seen in
       let h : ℕ = head_of g e in
       let l : e < all_edges g = rules_met g (Take e) (part_in g log h) legal.1.0 in
       let one = one_parent x log h refl in
@@ -222,7 +223,7 @@ module _ (g : Setting) (game : HasGame g) (some_ring : 0 < g.ring) where
       ∙ ap (λ (p : Option ℕ). or_else p e) q.1 ∙ sym q.1) one.1) o)
       (cases_parent (parents log h)))
   order_step log (Ack e) seen legal o =
-      let x : Step = record { event = Ack e; seen = seen } in
+      let x : Step = saw (Ack e) seen in
       let h : ℕ = head_of g e in
       let s : Part = part_in g log h in
       let l : e < all_edges g = (rules_met g (Ack e) s legal.1.0).0 in
@@ -240,16 +241,16 @@ module _ (g : Setting) (game : HasGame g) (some_ring : 0 < g.ring) where
             (λ z. one.1 v z ∙ o.2 v inside (λ m. out (without_contains v h o.0 z m))),
       ))
       (λ n. same_order log (x ∷ log) (all_parents log (x ∷ log) h (one.0 ∙ cond_false _ None s.parent n) one.1) o)
-  order_step log (Fire v k) seen legal o = same_next (record { event = Fire v k; seen = seen }) log (λ s. refl) o
-  order_step log (Clear e) seen legal o = same_next (record { event = Clear e; seen = seen }) log (λ s. refl) o
-  order_step log (Claim e) seen legal o = same_next (record { event = Claim e; seen = seen }) log (λ s. refl) o
-  order_step log (Put e) seen legal o = same_next (record { event = Put e; seen = seen }) log (λ s. refl) o
-  order_step log (Halt v) seen legal o = same_next (record { event = Halt v; seen = seen }) log (λ s. refl) o
-  order_step log (Settle e) seen legal o = same_next (record { event = Settle e; seen = seen }) log (λ s. refl) o
-  order_step log (Seal e) seen legal o = same_next (record { event = Seal e; seen = seen }) log (λ s. refl) o
-  order_step log (Read v) seen legal o = same_next (record { event = Read v; seen = seen }) log (λ s. refl) o
-  order_step log (Feed e k) seen legal o = same_next (record { event = Feed e k; seen = seen }) log (λ s. refl) o
-  order_step log End seen legal o = same_next (record { event = End; seen = seen }) log (λ s. refl) o
+  order_step log (Fire v k) seen legal o = same_next (saw (Fire v k) seen) log (λ s. refl) o
+  order_step log (Clear e) seen legal o = same_next (saw (Clear e) seen) log (λ s. refl) o
+  order_step log (Claim e) seen legal o = same_next (saw (Claim e) seen) log (λ s. refl) o
+  order_step log (Put e) seen legal o = same_next (saw (Put e) seen) log (λ s. refl) o
+  order_step log (Halt v) seen legal o = same_next (saw (Halt v) seen) log (λ s. refl) o
+  order_step log (Settle e) seen legal o = same_next (saw (Settle e) seen) log (λ s. refl) o
+  order_step log (Seal e) seen legal o = same_next (saw (Seal e) seen) log (λ s. refl) o
+  order_step log (Read v) seen legal o = same_next (saw (Read v) seen) log (λ s. refl) o
+  order_step log (Feed e k) seen legal o = same_next (saw (Feed e k) seen) log (λ s. refl) o
+  order_step log End seen legal o = same_next (saw End seen) log (λ s. refl) o
 
   ordered : (log : Log) → IsLegalLog g log → Ordered log
   ordered [] legal = ([], tt, λ v l m. refl)
@@ -288,7 +289,7 @@ module _ (g : Setting) (game : HasGame g) (some_ring : 0 < g.ring) where
         (λ z. absurd (contains_nothing (tail_of g c.2.0)
         (subst (λ (l : List ℕ). Contains l (tail_of g c.2.0)) none z))) c.2.2
 
-    pub all_neutral : (v : ℕ) → v < g.graph.vertices → IsNeutral g v (part_in g log v)
+    pub all_neutral : (v : ℕ) → v < g.game.graph.vertices → IsNeutral g v (part_in g log v)
     all_neutral v l = let o = ordered log legal in
         (part_kept g game log legal v).neutral l
         (o.2 v l (λ m. contains_nothing v (subst (λ (us : List ℕ). Contains us v) (no_engaged o.0 o.1) m)))

@@ -11,7 +11,8 @@ use mathlib.Core.Logic.{dite}
 use native.Mathlib.Decide.{dec_lt}
 use Rattle.chip_graph.specs.Sums.{picked}
 use Rattle.chip_graph.specs.Multigraph.{Multigraph, IsGraph, edge_at, degree}
-use Rattle.chip_part.specs.Setting.{Setting, HasGame}
+use Rattle.chip_graph.specs.ChipGame.{IsGame}
+use Rattle.chip_part.specs.Setting.{Setting}
 use Rattle.chip_graph.proofs.PickLemmas.{All-picked}
 use Rattle.chip_graph.proofs.SumLemmas.{tested_none}
 use Rattle.chip_sequence.specs.declared.outcome.Outcome.{Outcome}
@@ -56,45 +57,45 @@ inflow_outside G good f v past =
     (λ e l on. (let a = (good.edges_fit e l).head_is_vertex in let b = eqb-true (edge_at G e).head v on in
     absurd (omega arith)))
 
-module _ (g : Setting) (game : HasGame g) (some_ring : 0 < g.ring) (log : Log) (legal : IsLegalLog g log) where
+module _ (g : Setting) (game : IsGame g.game) (some_ring : 0 < g.ring) (log : Log) (legal : IsLegalLog g log) where
   -- ---- counts and chips
 
   -- what isn't a vertex never fires
-  fired_outside : (v : ℕ) → g.graph.vertices ≤ v → fired_by g log v ≡ 0
+  fired_outside : (v : ℕ) → g.game.graph.vertices ≤ v → fired_by g log v ≡ 0
   fired_outside v past = sym (counts_are g log v)
-      ∙ counts_outside g.graph (firings log) (started g log) v (is_sequence g game some_ring log legal) past
+      ∙ counts_outside g.game.graph (firings log) (started g log) v (is_sequence g game some_ring log legal) past
 
-  all_fired : (fired : List ℕ) → AreFired g log g.graph.vertices fired → (v : ℕ)
+  all_fired : (fired : List ℕ) → AreFired g log g.game.graph.vertices fired → (v : ℕ)
       → slice_index fired v ≡ fired_by g log v
-  all_fired fired are v = dite (dec_lt v g.graph.vertices)
+  all_fired fired are v = dite (dec_lt v g.game.graph.vertices)
       (are.each v)
       (λ nl. let n = are.count_is in get_or_past fired v 0 (omega arith) ∙ sym (fired_outside v (omega arith)))
 
-  same_fired : (fired : List ℕ) → AreFired g log g.graph.vertices fired → slice_index fired ≡ fired_by g log
+  same_fired : (fired : List ℕ) → AreFired g log g.game.graph.vertices fired → slice_index fired ≡ fired_by g log
   same_fired fired are j v = all_fired fired are v j
 
   -- no vertex has fired more chips than it had
-  pub never_negative : (fired : List ℕ) → AreFired g log g.graph.vertices fired → (v : ℕ)
-      → IsBelowZero g.graph (started g log) (slice_index fired) v → ⊥
+  pub never_negative : (fired : List ℕ) → AreFired g log g.game.graph.vertices fired → (v : ℕ)
+      → IsBelowZero g.game.graph (started g log) (slice_index fired) v → ⊥
   never_negative fired are v low = none_below g game some_ring log legal v
-      (subst (λ (f : ℕ → ℕ). IsBelowZero g.graph (started g log) f v) (same_fired fired are) low)
+      (subst (λ (f : ℕ → ℕ). IsBelowZero g.game.graph (started g log) f v) (same_fired fired are) low)
 
   -- nothing lies where no vertex is
-  chips_outside : (v : ℕ) → g.graph.vertices ≤ v → position_by_counts g.graph (started g log) (fired_by g log) v
+  chips_outside : (v : ℕ) → g.game.graph.vertices ≤ v → position_by_counts g.game.graph (started g log) (fired_by g log) v
       ≡ 0
   chips_outside v past =
       let a = started_outside g game some_ring log legal v past in
-      let b = inflow_outside g.graph game.graph_fits (fired_by g log) v past in
+      let b = inflow_outside g.game.graph game.graph_fits (fired_by g log) v past in
       omega arith
 
   module _ (o : Outcome) (is : IsOutcomeOf g log o) where
-    chips_are : (v : ℕ) → slice_index o.chips.items v ≡ position_after g.graph (started g log) (firings log) v
+    chips_are : (v : ℕ) → slice_index o.chips.items v ≡ position_after g.game.graph (started g log) (firings log) v
     chips_are v =
-        dite (dec_lt v g.graph.vertices)
+        dite (dec_lt v g.game.graph.vertices)
         (λ l. is.chips.by_counts v l
-        ∙ ap (λ (x : ℕ → ℕ). position_by_counts g.graph x (slice_index o.fired.items) v)
+        ∙ ap (λ (x : ℕ → ℕ). position_by_counts g.game.graph x (slice_index o.fired.items) v)
         (given_is g game some_ring log legal)
-        ∙ ap (λ (f : ℕ → ℕ). position_by_counts g.graph (started g log) f v)
+        ∙ ap (λ (f : ℕ → ℕ). position_by_counts g.game.graph (started g log) f v)
         (same_fired o.fired.items is.fired))
         (λ nl. let n = is.chips.chips_each in get_or_past o.chips.items v 0 (omega arith)
         ∙ sym (chips_outside v (omega arith)))
@@ -111,14 +112,14 @@ module _ (g : Setting) (game : HasGame g) (some_ring : 0 < g.ring) (log : Log) (
 
     -- ---- a report takes it
 
-    low_counts : (v : ℕ) → slice_index o.fired.items v ≤ g.limit
+    low_counts : (v : ℕ) → slice_index o.fired.items v ≤ g.game.limit
     low_counts v = let a = comes.counted v in let b = comes.within v in omega arith
 
     apart : (v : ℕ) → Contains o.over.items v → Contains o.sealed.items v → ⊥
     apart v limit seal = one_cause (part_in g log v).halt
-        (Contains-picked (λ u. is_by_limit (part_in g log u).halt) g.graph.vertices v
+        (Contains-picked (λ u. is_by_limit (part_in g log u).halt) g.game.graph.vertices v
         (subst (λ (l : List ℕ). Contains l v) is.over limit)).1
-        (Contains-picked (λ u. is_by_seal (part_in g log u).halt) g.graph.vertices v
+        (Contains-picked (λ u. is_by_seal (part_in g log u).halt) g.game.graph.vertices v
         (subst (λ (l : List ℕ). Contains l v) is.sealed seal)).1
 
     pub in_range : IsOutcome o
@@ -134,32 +135,32 @@ module _ (g : Setting) (game : HasGame g) (some_ring : 0 < g.ring) (log : Log) (
               (λ i l. (let a = get_or-le-sum_by (λ (n : ℕ). n) o.chips.items i 0 l in let b = is.chips.kept in
               let c = given_within g game some_ring log legal in omega arith));
           over_ascends = subst IsStrictlyIncreasing (sym is.over)
-              (picked_ascends (λ u. is_by_limit (part_in g log u).halt) g.graph.vertices);
+              (picked_ascends (λ u. is_by_limit (part_in g log u).halt) g.game.graph.vertices);
           over_vertices = subst (All (λ v. v < length o.fired.items)) (sym is.over)
-              (All-picked (λ u. is_by_limit (part_in g log u).halt) g.graph.vertices (length o.fired.items)
+              (All-picked (λ u. is_by_limit (part_in g log u).halt) g.game.graph.vertices (length o.fired.items)
               (omega arith));
           sealed_ascends = subst IsStrictlyIncreasing (sym is.sealed)
-              (picked_ascends (λ u. is_by_seal (part_in g log u).halt) g.graph.vertices);
+              (picked_ascends (λ u. is_by_seal (part_in g log u).halt) g.game.graph.vertices);
           sealed_vertices = subst (All (λ v. v < length o.fired.items)) (sym is.sealed)
-              (All-picked (λ u. is_by_seal (part_in g log u).halt) g.graph.vertices (length o.fired.items) (omega arith));
+              (All-picked (λ u. is_by_seal (part_in g log u).halt) g.game.graph.vertices (length o.fired.items) (omega arith));
           apart = apart;
         }
 
     -- ---- where no seal halted a vertex
 
     module _ (closed : IsClosed g log) (no_seal : NoneHaltedBySeal g log) where
-      whole : IsWholePlay g.graph (started g log) g.limit (firings log)
+      whole : IsWholePlay g.game.graph (started g log) g.game.limit (firings log)
       whole = played g game some_ring log legal closed no_seal
 
       -- the chips that lie there are those of the outcome
-      chips_lie : (v : ℕ) → v < g.graph.vertices → chips_at g log v ≡ slice_index o.chips.items v
+      chips_lie : (v : ℕ) → v < g.game.graph.vertices → chips_at g log v ≡ slice_index o.chips.items v
       chips_lie v l = (agrees_within g game some_ring log legal closed no_seal (firings log) whole).chips v l
           ∙ sym (chips_are v)
 
-      same_legal : legal_vertices g.graph (chips_at g log) ≡ legal_vertices g.graph (slice_index o.chips.items)
-      same_legal = picked_ext (λ v. not (eqb v g.graph.sink) && leb (degree g.graph v) (chips_at g log v))
-          (λ v. not (eqb v g.graph.sink) && leb (degree g.graph v) (slice_index o.chips.items v)) g.graph.vertices
-          (λ v l. ap (λ (x : ℕ). not (eqb v g.graph.sink) && leb (degree g.graph v) x) (chips_lie v l))
+      same_legal : legal_vertices g.game.graph (chips_at g log) ≡ legal_vertices g.game.graph (slice_index o.chips.items)
+      same_legal = picked_ext (λ v. not (eqb v g.game.graph.sink) && leb (degree g.game.graph v) (chips_at g log v))
+          (λ v. not (eqb v g.game.graph.sink) && leb (degree g.game.graph v) (slice_index o.chips.items v)) g.game.graph.vertices
+          (λ v l. ap (λ (x : ℕ). not (eqb v g.game.graph.sink) && leb (degree g.game.graph v) x) (chips_lie v l))
 
       -- it is every player's, in the game that was played
       pub is_played : IsPlayed (played_game g log) o
@@ -167,25 +168,25 @@ module _ (g : Setting) (game : HasGame g) (some_ring : 0 < g.ring) (log : Log) (
           let from : started g log ≡ slice_index (played_game g log).start =
           sym (given_is g game some_ring log legal) in
           record {
-            ends = (firings log, subst (λ (x : ℕ → ℕ). IsWholePlay g.graph x g.limit (firings log)) from whole);
+            ends = (firings log, subst (λ (x : ℕ → ℕ). IsWholePlay g.game.graph x g.game.limit (firings log)) from whole);
             fired_each = is.fired.count_is;
             chips_each = is.chips.chips_each;
             counted = λ vs play v. comes.counted v ∙ (ends_alike vs play).0 v;
             position = λ vs play v. comes.position v ∙ (ends_alike vs play).1 v
-                ∙ ap (λ (x : ℕ → ℕ). position_after g.graph x vs v) from;
+                ∙ ap (λ (x : ℕ → ℕ). position_after g.game.graph x vs v) from;
             low_counts = low_counts;
             kept = is.chips.kept;
             over = is.over ∙ over g game some_ring log legal closed no_seal ∙ same_legal;
-            sealed = is.sealed ∙ picked_none (λ u. is_by_seal (part_in g log u).halt) g.graph.vertices
+            sealed = is.sealed ∙ picked_none (λ u. is_by_seal (part_in g log u).halt) g.game.graph.vertices
                 (λ u l. no_seal_halts (part_in g log u).halt (no_seal u l));
           }
         where
-          ends_alike : (vs : List ℕ) → IsWholePlay g.graph (slice_index (played_game g log).start) g.limit vs
+          ends_alike : (vs : List ℕ) → IsWholePlay g.game.graph (slice_index (played_game g log).start) g.game.limit vs
               → ((u : ℕ) → counts (firings log) u ≡ counts vs u)
-              × ((u : ℕ) → position_after g.graph (started g log) (firings log) u
-              ≡ position_after g.graph (started g log) vs u)
-          ends_alike vs play = one_end g.graph (started g log) g.limit (firings log) vs whole
-              (subst (λ (x : ℕ → ℕ). IsWholePlay g.graph x g.limit vs) (given_is g game some_ring log legal) play)
+              × ((u : ℕ) → position_after g.game.graph (started g log) (firings log) u
+              ≡ position_after g.game.graph (started g log) vs u)
+          ends_alike vs play = one_end g.game.graph (started g log) g.game.limit (firings log) vs whole
+              (subst (λ (x : ℕ → ℕ). IsWholePlay g.game.graph x g.game.limit vs) (given_is g game some_ring log legal) play)
 
 pub outcomes_tell : OutcomesTell
 outcomes_tell g game some_ring log legal o is = record {

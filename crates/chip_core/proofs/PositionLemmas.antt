@@ -7,7 +7,8 @@ use Rattle.std.proofs.lemmas.List.Sums.{sum_by-append, sum_by-take-drop}
 use mathlib.Core.Logic.{dite}
 use native.Mathlib.Decide.{ℕ_discrete, dec_lt}
 use Rattle.chip_graph.specs.Multigraph.{degree, edge_at}
-use Rattle.chip_part.specs.Setting.{Setting, HasGame}
+use Rattle.chip_graph.specs.ChipGame.{IsGame}
+use Rattle.chip_part.specs.Setting.{Setting}
 use Rattle.chip_graph.proofs.SumLemmas.{cond_yes, cond_no, cond_true, cond_false, tested_ext, tested_add}
 use Rattle.chip_link.specs.Link.{sent_counts}
 use Rattle.chip_sequence.specs.Sequence.{position_after, IsFiringSequence, counts, IsWithin}
@@ -17,6 +18,7 @@ use Rattle.chip_sequence.proofs.FiringLemmas.{batch, position_by_counts_law, mor
 use Rattle.chip_part.specs.Edges.{root_edge, mult_of, over_ins, made}
 use Rattle.chip_part.proofs.EdgeLemmas.{over_ins_graph, tail_graph}
 use Rattle.chip_part.proofs.RuleLemmas.{rules_met}
+use Rattle.chip_part.specs.Steps.{saw}
 use Rattle.chip_core.specs.Core.{Log, Step, Event, Take, Ack, Fire, Clear, Claim, Put, Halt, Settle, Seal, Read, Feed}
 use Rattle.chip_core.specs.Core.{End, Part, part_of, does, part_in, out_in, into_in, fired_by, IsLegalLog, tail_of}
 use Rattle.chip_core.specs.Core.{head_of, all_edges, graph_edges}
@@ -39,10 +41,10 @@ module _ (g : Setting) where
       (λ ne. ap (λ (s : Part). s.fired) (part_else g x log u ne)))
 
   counts_step : (ev : Event) (seen : ℕ) (log : Log) (u : ℕ) → counts (firings log) u ≡ fired_by g log u
-      → counts (firings (record { event = ev; seen = seen } ∷ log)) u
-      ≡ fired_by g (record { event = ev; seen = seen } ∷ log) u
+      → counts (firings (saw ev seen ∷ log)) u
+      ≡ fired_by g (saw ev seen ∷ log) u
   counts_step (Fire v k) seen log u ih =
-      let x : Step = record { event = Fire v k; seen = seen } in
+      let x : Step = saw (Fire v k) seen in
       let both = counts-append (firings log) (replicate k v) u in
       let more = counts-replicate k v u in
       dite (ℕ_discrete v u)
@@ -52,19 +54,19 @@ module _ (g : Setting) where
       (λ ne. let a = cond_no v u k 0 ne in
       let b : fired_by g (x ∷ log) u ≡ fired_by g log u = ap (λ (s : Part). s.fired) (part_else g x log u ne) in
       omega arith)
-  counts_step (Take e) seen log u ih = keeps_fired (record { event = Take e; seen = seen }) log (λ s. refl) refl u ih
-  counts_step (Ack e) seen log u ih = keeps_fired (record { event = Ack e; seen = seen }) log (λ s. refl) refl u ih
-  counts_step (Clear e) seen log u ih = keeps_fired (record { event = Clear e; seen = seen }) log (λ s. refl) refl u ih
-  counts_step (Claim e) seen log u ih = keeps_fired (record { event = Claim e; seen = seen }) log (λ s. refl) refl u ih
-  counts_step (Put e) seen log u ih = keeps_fired (record { event = Put e; seen = seen }) log (λ s. refl) refl u ih
-  counts_step (Halt v) seen log u ih = keeps_fired (record { event = Halt v; seen = seen }) log (λ s. refl) refl u ih
-  counts_step (Settle e) seen log u ih = keeps_fired (record { event = Settle e; seen = seen }) log
+  counts_step (Take e) seen log u ih = keeps_fired (saw (Take e) seen) log (λ s. refl) refl u ih
+  counts_step (Ack e) seen log u ih = keeps_fired (saw (Ack e) seen) log (λ s. refl) refl u ih
+  counts_step (Clear e) seen log u ih = keeps_fired (saw (Clear e) seen) log (λ s. refl) refl u ih
+  counts_step (Claim e) seen log u ih = keeps_fired (saw (Claim e) seen) log (λ s. refl) refl u ih
+  counts_step (Put e) seen log u ih = keeps_fired (saw (Put e) seen) log (λ s. refl) refl u ih
+  counts_step (Halt v) seen log u ih = keeps_fired (saw (Halt v) seen) log (λ s. refl) refl u ih
+  counts_step (Settle e) seen log u ih = keeps_fired (saw (Settle e) seen) log
       (λ s. refl) refl u ih
-  counts_step (Seal e) seen log u ih = keeps_fired (record { event = Seal e; seen = seen }) log (λ s. refl) refl u ih
-  counts_step (Read v) seen log u ih = keeps_fired (record { event = Read v; seen = seen }) log (λ s. refl) refl u ih
-  counts_step (Feed e k) seen log u ih = keeps_fired (record { event = Feed e k; seen = seen }) log
+  counts_step (Seal e) seen log u ih = keeps_fired (saw (Seal e) seen) log (λ s. refl) refl u ih
+  counts_step (Read v) seen log u ih = keeps_fired (saw (Read v) seen) log (λ s. refl) refl u ih
+  counts_step (Feed e k) seen log u ih = keeps_fired (saw (Feed e k) seen) log
       (λ s. refl) refl u ih
-  counts_step End seen log u ih = keeps_fired (record { event = End; seen = seen }) log (λ s. refl) refl u ih
+  counts_step End seen log u ih = keeps_fired (saw End seen) log (λ s. refl) refl u ih
 
   -- the counts of the firings that were made
   pub counts_are : (log : Log) (u : ℕ) → counts (firings log) u ≡ fired_by g log u
@@ -72,28 +74,28 @@ module _ (g : Setting) where
   counts_are (x ∷ log) u = counts_step x.event x.seen log u (counts_are log u)
 
   pub gone_graph : (log : Log) (e : ℕ) → e < graph_edges g → gone_into g log e ≡ made g e (fired_by g log (tail_of g e))
-  gone_graph log e l = cond_true (ltb e (length g.graph.edges)) (made g e (fired_by g log (tail_of g e)))
-      (started g log (e - graph_edges g)) (lt-ltb e (length g.graph.edges) l)
+  gone_graph log e l = cond_true (ltb e (length g.game.graph.edges)) (made g e (fired_by g log (tail_of g e)))
+      (started g log (e - graph_edges g)) (lt-ltb e (length g.game.graph.edges) l)
 
   pub gone_root : (log : Log) (e : ℕ) → graph_edges g ≤ e → gone_into g log e ≡ started g log (e - graph_edges g)
-  gone_root log e l = cond_false (ltb e (length g.graph.edges)) (made g e (fired_by g log (tail_of g e)))
-      (started g log (e - graph_edges g)) (le-ltb e (length g.graph.edges) l)
+  gone_root log e l = cond_false (ltb e (length g.game.graph.edges)) (made g e (fired_by g log (tail_of g e)))
+      (started g log (e - graph_edges g)) (le-ltb e (length g.game.graph.edges) l)
 
   -- what ever went into the edges into v: what it was given, and what its neighbours' firings brought
-  pub gone_inflow : (log : Log) (v : ℕ) → v < g.graph.vertices
-      → over_ins g v (gone_into g log) ≡ started g log v + inflow g.graph (fired_by g log) v
+  pub gone_inflow : (log : Log) (v : ℕ) → v < g.game.graph.vertices
+      → over_ins g v (gone_into g log) ≡ started g log v + inflow g.game.graph (fired_by g log) v
   gone_inflow log v inside =
       let f : ℕ → ℕ = fired_by g log in
       let all = over_ins_graph g v inside (gone_into g log) in
-      let own = tested_ext (length g.graph.edges) (λ e. eqb (edge_at g.graph e).head v)
-      (gone_into g log) (λ e. (edge_at g.graph e).mult * f (edge_at g.graph e).tail)
+      let own = tested_ext (length g.game.graph.edges) (λ e. eqb (edge_at g.game.graph e).head v)
+      (gone_into g log) (λ e. (edge_at g.game.graph e).mult * f (edge_at g.game.graph e).tail)
       (λ e l on. gone_graph log e l ∙ ap (λ (t : ℕ). mult_of g e * f t) (tail_graph g e l)) in
       let at : root_edge g v - graph_edges g ≡ v = omega arith in
       let one : gone_into g log (root_edge g v) ≡ started g log v = gone_root log (root_edge g v) (omega arith)
       ∙ ap (started g log) at in
       omega arith
 
-  module _ (game : HasGame g) (some_ring : 0 < g.ring) where
+  module _ (game : IsGame g.game) (some_ring : 0 < g.ring) where
     -- what is delivered and what is in flight is what was sent
     pub sent_sum : (log : Log) → IsLegalLog g log → (e : ℕ) → sum (into_in g log e).got + sum (counts_in_flight g log e)
         ≡ sum (sent_counts (out_in g log e).link)
@@ -132,9 +134,9 @@ module _ (g : Setting) where
         → sum (into_in g log e).got + (sum (counts_in_flight g log e) + held g log e) ≡ gone_into g log e
     edge_sum log legal e = let a = sent_sum log legal e in let b = gone_sum log legal e in omega arith
 
-    full_sum : (log : Log) → IsLegalLog g log → (v : ℕ) → v < g.graph.vertices
-        → full_position g log v + degree g.graph v * fired_by g log v ≡ started g log v
-        + inflow g.graph (fired_by g log) v
+    full_sum : (log : Log) → IsLegalLog g log → (v : ℕ) → v < g.game.graph.vertices
+        → full_position g log v + degree g.game.graph v * fired_by g log v ≡ started g log v
+        + inflow g.game.graph (fired_by g log) v
     full_sum log legal v inside =
         let n : ℕ = all_edges g in
         let t : ℕ → Bool = (λ e. eqb (head_of g e) v) in
@@ -155,30 +157,30 @@ module _ (g : Setting) where
         let f = gone_inflow log v inside in
         omega arith
 
-    position_from : (log : Log) → IsLegalLog g log → IsFiringSequence g.graph (started g log) (firings log)
-        → (v : ℕ) → v < g.graph.vertices → position_after g.graph (started g log) (firings log) v
+    position_from : (log : Log) → IsLegalLog g log → IsFiringSequence g.game.graph (started g log) (firings log)
+        → (v : ℕ) → v < g.game.graph.vertices → position_after g.game.graph (started g log) (firings log) v
         ≡ full_position g log v
     position_from log legal ok v inside =
         let a = full_sum log legal v inside in
-        let b = position_is g.graph (firings log) (started g log) ok v in
-        let c = ap (λ (n : ℕ). degree g.graph v * n) (counts_are log v) in
-        let d = inflow_ext g.graph (counts (firings log)) (fired_by g log) (counts_are log) v in
+        let b = position_is g.game.graph (firings log) (started g log) ok v in
+        let c = ap (λ (n : ℕ). degree g.game.graph v * n) (counts_are log v) in
+        let d = inflow_ext g.game.graph (counts (firings log)) (fired_by g log) (counts_are log) v in
         omega arith
 
-    same_sequence : (log : Log) (vs : List ℕ) → vs ≡ [] → IsFiringSequence g.graph (started g log) (firings log)
-        → IsFiringSequence g.graph (started g log) (firings log ++ vs)
-    same_sequence log vs none ok = subst (IsFiringSequence g.graph (started g log))
+    same_sequence : (log : Log) (vs : List ℕ) → vs ≡ [] → IsFiringSequence g.game.graph (started g log) (firings log)
+        → IsFiringSequence g.game.graph (started g log) (firings log ++ vs)
+    same_sequence log vs none ok = subst (IsFiringSequence g.game.graph (started g log))
         (sym (ap (λ (l : List ℕ). firings log ++ l) none ∙ append-nil (firings log))) ok
 
-    sequence_step : (ev : Event) (seen : ℕ) (log : Log) → IsLegalLog g (record { event = ev; seen = seen } ∷ log)
-        → IsFiringSequence g.graph (started g log) (firings log)
-        → IsFiringSequence g.graph (started g log) (firings log ++ firings_of ev)
+    sequence_step : (ev : Event) (seen : ℕ) (log : Log) → IsLegalLog g (saw ev seen ∷ log)
+        → IsFiringSequence g.game.graph (started g log) (firings log)
+        → IsFiringSequence g.game.graph (started g log) (firings log ++ firings_of ev)
     sequence_step (Fire v k) seen log legal ok =
         let may = rules_met g (Fire v k) (part_in g log v) legal.1.0 in
         let same = position_from log legal.0 ok v may.0 in
         let chips = may.7 in
-        sequence-append g.graph (firings log) (replicate k v) (started g log) ok
-        (batch g.graph v k (position_after g.graph (started g log) (firings log)) may.0 may.1 (omega arith))
+        sequence-append g.game.graph (firings log) (replicate k v) (started g log) ok
+        (batch g.game.graph v k (position_after g.game.graph (started g log) (firings log)) may.0 may.1 (omega arith))
     sequence_step (Take e) seen log legal ok = same_sequence log [] refl ok
     sequence_step (Ack e) seen log legal ok = same_sequence log [] refl ok
     sequence_step (Clear e) seen log legal ok = same_sequence log [] refl ok
@@ -191,13 +193,13 @@ module _ (g : Setting) where
     sequence_step (Feed e k) seen log legal ok = same_sequence log [] refl ok
     sequence_step End seen log legal ok = same_sequence log [] refl ok
 
-    pub is_sequence : (log : Log) → IsLegalLog g log → IsFiringSequence g.graph (started g log) (firings log)
+    pub is_sequence : (log : Log) → IsLegalLog g log → IsFiringSequence g.game.graph (started g log) (firings log)
     is_sequence [] legal = tt
-    is_sequence (x ∷ log) legal = more_chips g.graph (started g log) (started g (x ∷ log))
+    is_sequence (x ∷ log) legal = more_chips g.game.graph (started g log) (started g (x ∷ log))
         (started_grows g game some_ring x log legal) (firings (x ∷ log))
         (sequence_step x.event x.seen log legal (is_sequence log legal.0))
 
-    pub is_within : (log : Log) → IsLegalLog g log → IsWithin g.limit (firings log)
+    pub is_within : (log : Log) → IsLegalLog g log → IsWithin g.game.limit (firings log)
     is_within log legal u = let a = counts_are log u in let b = (part_kept g game log legal u).within in omega arith
 
     -- the position law
@@ -213,14 +215,14 @@ module _ (g : Setting) where
     same_counts log j u = counts_are log u j
 
     pub none_below : (log : Log) → IsLegalLog g log → (v : ℕ)
-        → IsBelowZero g.graph (started g log) (fired_by g log) v → ⊥
+        → IsBelowZero g.game.graph (started g log) (fired_by g log) v → ⊥
     none_below log legal v low =
-        (position_by_counts_law g.graph (started g log) (firings log) (is_sequence log legal) v).0
-        (subst (λ (f : ℕ → ℕ). IsBelowZero g.graph (started g log) f v) (sym (same_counts log)) low)
+        (position_by_counts_law g.game.graph (started g log) (firings log) (is_sequence log legal) v).0
+        (subst (λ (f : ℕ → ℕ). IsBelowZero g.game.graph (started g log) f v) (sym (same_counts log)) low)
 
     pub by_counts : (log : Log) → IsLegalLog g log → (v : ℕ)
-        → position_after g.graph (started g log) (firings log) v
-        ≡ position_by_counts g.graph (started g log) (fired_by g log) v
-    by_counts log legal v = (position_by_counts_law g.graph (started g log) (firings log)
+        → position_after g.game.graph (started g log) (firings log) v
+        ≡ position_by_counts g.game.graph (started g log) (fired_by g log) v
+    by_counts log legal v = (position_by_counts_law g.game.graph (started g log) (firings log)
         (is_sequence log legal) v).1
-        ∙ ap (λ (f : ℕ → ℕ). position_by_counts g.graph (started g log) f v) (same_counts log)
+        ∙ ap (λ (f : ℕ → ℕ). position_by_counts g.game.graph (started g log) f v) (same_counts log)

@@ -3,6 +3,7 @@ use Rattle.std.proofs.Common.{◌≡◌, ℕ, List, [], ◌∷◌, ◌++◌, Opt
 use mathlib.Core.Logic.{dite}
 use native.Mathlib.Decide.{ℕ_discrete}
 use Rattle.chip_part.specs.Setting.{Setting}
+use Rattle.chip_part.specs.Steps.{saw}
 use Rattle.chip_graph.proofs.SumLemmas.{cond_yes, cond_no}
 use Rattle.chip_core.specs.Core.{Log, Step, Event, Rule, Part, opened, unmet, part_of, does, part_in, IsLegalLog}
 use Rattle.chip_core.specs.Core.{answer, step, log_after}
@@ -52,7 +53,7 @@ module _ (g : Setting) where
   run_of (x ∷ log) legal = run_push [] (asked_in log) x.event
       ∙ ap (λ (l : Log). (step g l x.event).0) (run_of log legal.0)
       ∙ ap (λ (o : Option Rule). (answer g log x.event o).0) legal.1.0
-      ∙ (λ j. record { event = x.event; seen = sym legal.1.1 j } ∷ log)
+      ∙ (λ j. saw x.event (sym legal.1.1 j) ∷ log)
 
 pub parts_by_their_own_events : PartsByTheirOwnEvents
 parts_by_their_own_events = by_history

@@ -1,7 +1,8 @@
 -- Every read that was made saw the fired word that stands at the end, and the root is closed there.
 use Rattle.std.proofs.Common.{◌≡◌, ◌↔◌, ◌⊎◌, ℕ, zero, suc, ◌<◌, [], ◌∷◌, length, get_or, true, None, Contains, sym, ap}
 use Rattle.std.proofs.Common.{◌∙◌, arith, inl, inr, ⊎_elim, eqb, eqb-true}
-use Rattle.chip_part.specs.Setting.{Setting, HasGame}
+use Rattle.chip_graph.specs.ChipGame.{IsGame}
+use Rattle.chip_part.specs.Setting.{Setting}
 use Rattle.chip_graph.proofs.SumLemmas.{tested_none}
 use Rattle.chip_part.specs.Part.{deficit}
 use Rattle.chip_part.proofs.RuleLemmas.{rules_met}
@@ -36,9 +37,9 @@ did_at : (y : Step) (log : Log) (x : Step) (k : ℕ) → k < length (y ∷ log) 
 did_at y log x zero l is = inl is
 did_at y log x (suc k) l is = inr (k, omega arith, is)
 
-module _ (g : Setting) (game : HasGame g) (some_ring : 0 < g.ring) where
+module _ (g : Setting) (game : IsGame g.game) (some_ring : 0 < g.ring) where
   read_here : (log : Log) (y : Step) (v : ℕ) → IsLegalLog g (y ∷ log) → y.event ≡ Read v
-      → (v < g.graph.vertices) × IsClosed g log × (y.seen ≡ word_of_part (part_in g log v))
+      → (v < g.game.graph.vertices) × IsClosed g log × (y.seen ≡ word_of_part (part_in g log v))
   read_here log y v legal is =
       let none : unmet g (Read v) (part_in g log (root g))
       ≡ None = sym (ap (λ (x : Event). unmet g x (part_in g log (part_of g x))) is) ∙ legal.1.0 in
@@ -46,10 +47,10 @@ module _ (g : Setting) (game : HasGame g) (some_ring : 0 < g.ring) where
       (may.0, (closed_is g log).0 (may.2, may.1), legal.1.1 ∙ ap (sees g log) is)
 
   pub all_reads : (log : Log) → IsLegalLog g log → (x : Step) (v : ℕ) → Contains log x → x.event ≡ Read v
-      → (v < g.graph.vertices) × IsClosed g log × (x.seen ≡ word_of_part (part_in g log v))
+      → (v < g.game.graph.vertices) × IsClosed g log × (x.seen ≡ word_of_part (part_in g log v))
   all_reads [] legal x v made is = let a = made.1 in absurd (omega arith)
   all_reads (y ∷ log) legal x v made is =
-      let here : (v < g.graph.vertices) × IsClosed g log × (x.seen ≡ word_of_part (part_in g log v)) = ⊎_elim
+      let here : (v < g.game.graph.vertices) × IsClosed g log × (x.seen ≡ word_of_part (part_in g log v)) = ⊎_elim
       (λ e. (let r = read_here log y v legal (ap (λ (d : Step). d.event) e ∙ is) in
       (r.0, r.1, sym (ap (λ (d : Step). d.seen) e) ∙ r.2)))
       (λ m. all_reads log legal.0 x v m is)

@@ -7,7 +7,7 @@ use Rattle.chip_part.specs.Setting.{Setting}
 use Rattle.chip_graph.proofs.SumLemmas.{cond_yes, cond_no}
 use Rattle.chip_link.specs.Link.{Tail, claims_of, after_clear, after_claim}
 use Rattle.chip_part.specs.declared.reply.Reply.TheVariants.{Got, Sent, Empty, Sealed}
-use Rattle.chip_part.specs.Steps.{message_of}
+use Rattle.chip_part.specs.Steps.{message_of, saw}
 use Rattle.chip_part.proofs.PartLemmas.{at_edge, idle_take}
 use Rattle.chip_core.specs.Core.{Log, Step, Event, Take, Ack, Fire, Clear, Claim, Put, Halt, Settle, Seal, Read, Feed}
 use Rattle.chip_core.specs.Core.{End, Rule, Reply, Part, unmet, part_of, does, reply_of, part_in, sees, answer, step}
@@ -32,7 +32,7 @@ same_part s = record {
 }
 
 module _ (g : Setting) where
-  full_leaves : (e seen : ℕ) (s : Part) → DifferInNotes (does g (record { event = Clear e; seen = seen }) s) s
+  full_leaves : (e seen : ℕ) (s : Part) → DifferInNotes (does g (saw (Clear e) seen) s) s
   full_leaves e seen s = record {
     chips = refl;
     fired = refl;
@@ -52,7 +52,7 @@ module _ (g : Setting) where
 
   -- a claim that is refused
   sealed_leaves : (e seen : ℕ) (s : Part) → seen ≢ claims_of (s.out e).link
-      → DifferInNotes (does g (record { event = Claim e; seen = seen }) s) s
+      → DifferInNotes (does g (saw (Claim e) seen) s) s
   sealed_leaves e seen s miss =
       let is : after_claim (s.out e).pending seen (s.out e).link
       ≡ record (s.out e).link { clear = false; refused = true } =
@@ -81,7 +81,7 @@ module _ (g : Setting) where
 
   -- a feed that is refused
   unfed_leaves : (e k seen : ℕ) (s : Part) → seen ≢ claims_of (s.out e).link
-      → DifferInNotes (does g (record { event = Feed e k; seen = seen }) s) s
+      → DifferInNotes (does g (saw (Feed e k) seen) s) s
   unfed_leaves e k seen s miss =
       let is : after_claim k seen (s.out e).link ≡ record (s.out e).link { clear = false; refused = true } =
       cond_no seen (claims_of (s.out e).link) (record (s.out e).link { held = Some k; clear = false })
@@ -105,7 +105,7 @@ module _ (g : Setting) where
 
   -- the part that acts
   acting_leaves : (x : Event) (seen : ℕ) (s : Part) → is_idle (reply_of g x seen s) ≡ true
-      → DifferInNotes (does g (record { event = x; seen = seen }) s) s
+      → DifferInNotes (does g (saw x seen) s) s
   acting_leaves (Take e) seen s idle = dite (ℕ_discrete seen 0)
       (λ none. subst (λ (t : Part). DifferInNotes t s) (sym (idle_take g e seen s none)) (same_part s))
       (λ some. absurd (true≢false (sym idle
@@ -134,7 +134,7 @@ module _ (g : Setting) where
       → DifferInNotes (part_in g (answer g log x o).0 p) (part_in g log p)
   answer_leaves log x (Some r) idle p = same_part (part_in g log p)
   answer_leaves log x None idle p =
-      let d : Step = record { event = x; seen = sees g log x } in
+      let d : Step = saw x (sees g log x) in
       dite (ℕ_discrete (part_of g x) p)
       (λ same. subst (λ (s : Part). DifferInNotes s (part_in g log p)) (sym (part_here g d log p same))
       (subst (λ (q : ℕ). DifferInNotes (does g d (part_in g log q)) (part_in g log q)) same

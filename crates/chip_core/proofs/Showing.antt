@@ -13,12 +13,13 @@ use Rattle.chip_link.specs.Words.{fired_word}
 use Rattle.chip_link.proofs.Shown.{clear_sees, claim_shows, put_shows, take_sees, take_shows, seal_shows}
 use Rattle.chip_link.proofs.Sounds.{one_held}
 use Rattle.chip_link.proofs.WordLaws.{halts_word, halts_by_limit}
-use Rattle.chip_part.specs.Setting.{Setting, HasGame}
+use Rattle.chip_graph.specs.ChipGame.{IsGame}
+use Rattle.chip_part.specs.Setting.{Setting}
 use Rattle.chip_part.specs.declared.cause.Cause.{Cause}
 use Rattle.chip_part.specs.Part.{may_ack, cause, is_by_limit}
 use Rattle.chip_part.specs.declared.cause.Cause.TheVariants.{SealedEdge, FiringLimit}
 use Rattle.chip_part.specs.Kept.{Met}
-use Rattle.chip_part.specs.Steps.{link_after, got_after, acked_after, stop_after}
+use Rattle.chip_part.specs.Steps.{link_after, got_after, acked_after, stop_after, saw}
 use Rattle.chip_part.proofs.PartLemmas.{may_le}
 use Rattle.chip_part.proofs.RuleLemmas.{rules_met}
 use Rattle.chip_core.specs.Core.{Log, Step, Event, Take, Ack, Fire, Clear, Claim, Put, Halt, Settle, Seal, Read, Feed}
@@ -28,7 +29,6 @@ use Rattle.chip_core.specs.Words.{Word, of_edge, of_acks, of_cell, of_vertex, Is
 use Rattle.chip_core.specs.Words.{noted, IsShown, acting, OperationsFind, IsLeft, WordsGoOn}
 use Rattle.chip_core.proofs.LogLemmas.{part_here, part_else, link_step, got_step, acked_step, stop_step, out_kept}
 use Rattle.chip_core.proofs.LogLemmas.{part_kept, edge_sound, empty_hand}
-use Rattle.chip_part.proofs.EdgeLemmas.{sendable_inside}
 use Rattle.chip_core.proofs.NumberLemmas.{claims_most}
 
 -- what a word is for, its edge or vertex, and its cell
@@ -84,7 +84,7 @@ word_halts FiringLimit n fired few is = ap (λ (k : ℕ). bit_or k (2 ^ 63 + 2 ^
     ∙ halts_by_limit fired false false few
 
 -- the word of an event whose rules are met is there
-pub word_for : (g : Setting) → 0 < g.graph.vertices → 0 < g.ring → (x : Event) (s : Part) → unmet g x s ≡ None
+pub word_for : (g : Setting) → 0 < g.game.graph.vertices → 0 < g.ring → (x : Event) (s : Part) → unmet g x s ≡ None
     → IsWord g (touched g x s)
 word_for g some_vertex some_ring (Take e) s none = (rules_met g (Take e) s none, mod_below _ g.ring some_ring)
 word_for g some_vertex some_ring (Ack e) s none = (rules_met g (Ack e) s none).0
@@ -95,7 +95,7 @@ word_for g some_vertex some_ring (Clear e) s none = (
 )
 word_for g some_vertex some_ring (Claim e) s none = let m = rules_met g (Claim e) s none in omega arith
 word_for g some_vertex some_ring (Put e) s none =
-    (sendable_inside g e (rules_met g (Put e) s none).0, mod_below _ g.ring some_ring)
+    ((rules_met g (Put e) s none).0, mod_below _ g.ring some_ring)
 word_for g some_vertex some_ring (Halt v) s none = (rules_met g (Halt v) s none).0
 word_for g some_vertex some_ring (Settle e) s none = rules_met g (Settle e) s none
 word_for g some_vertex some_ring (Seal e) s none = let m = rules_met g (Seal e) s none in omega arith
@@ -103,7 +103,7 @@ word_for g some_vertex some_ring (Read v) s none = (rules_met g (Read v) s none)
 word_for g some_vertex some_ring (Feed e k) s none = (rules_met g (Feed e k) s none).1
 word_for g some_vertex some_ring End s none = omega arith
 
-module _ (g : Setting) (game : HasGame g) (some_ring : 0 < g.ring) (log : Log) (legal : IsLegalLog g log) (value : Word
+module _ (g : Setting) (game : IsGame g.game) (some_ring : 0 < g.ring) (log : Log) (legal : IsLegalLog g log) (value : Word
     → ℕ) (shown : IsShown g log value) where
   sound : (e : ℕ) → Sound g.ring (out_in g log e).link (into_in g log e).got (stop_in g log e)
   sound e = edge_sound g game some_ring log legal e
@@ -315,13 +315,13 @@ module _ (g : Setting) (game : HasGame g) (some_ring : 0 < g.ring) (log : Log) (
         (λ other. ap word_of_part (part_else g x log v other))
 
     abbrev pub made_by : Event → Step
-    made_by x = record { event = x; seen = seen_by x }
+    made_by x = saw x (seen_by x)
 
     -- the word of the vertex that acts, and of the others
     word_of_one : (x : Event) (a : ℕ) → part_of g x ≡ a → touched g x (acting g log x) ≡ of_vertex a
         → IsLeft g log x value value'
         → value' (of_vertex a) ≡ word_of_part (does g (made_by x) (part_in g log a))
-        → (v : ℕ) → v < g.graph.vertices → value' (of_vertex v) ≡ word_of_part (part_in g (made_by x ∷ log) v)
+        → (v : ℕ) → v < g.game.graph.vertices → value' (of_vertex v) ≡ word_of_part (part_in g (made_by x ∷ log) v)
     word_of_one x a by at w is v l = dite (ℕ_discrete v a)
         (λ same. ap (λ (i : ℕ). value' (of_vertex i)) same ∙ is
         ∙ ap (λ (i : ℕ). word_of_part (does g (made_by x) (part_in g log i))) (sym same)
@@ -330,7 +330,7 @@ module _ (g : Setting) (game : HasGame g) (some_ring : 0 < g.ring) (log : Log) (
         ∙ shown.fired v l ∙ sym (ap word_of_part (part_else g (made_by x) log v (λ z. other (sym z ∙ by)))))
 
     fired_after : (x : Event) → unmet g x (acting g log x) ≡ None → IsLeft g log x value value' → (v : ℕ)
-        → v < g.graph.vertices → value' (of_vertex v) ≡ word_of_part (part_in g (made_by x ∷ log) v)
+        → v < g.game.graph.vertices → value' (of_vertex v) ≡ word_of_part (part_in g (made_by x ∷ log) v)
     fired_after (Fire a k) none w v l =
         let met = met_for (Fire a k) none in
         let s : Part = part_in g log a in

@@ -15,7 +15,7 @@ four_chips = small_triangle (4 ∷ 0 ∷ 0 ∷ [])
 abbrev no_chips : Setting
 no_chips = fed_triangle (0 ∷ 0 ∷ 0 ∷ [])
 
-edges_fit : (e : ℕ) → e < 4 → IsEdge 3 2 (edge_at four_chips.graph e)
+edges_fit : (e : ℕ) → e < 4 → IsEdge 3 2 (edge_at four_chips.game.graph e)
 edges_fit zero l = record {
   tail_is_vertex = omega arith;
   head_is_vertex = omega arith;
@@ -53,13 +53,13 @@ edges_fit (suc (suc (suc zero))) l = record {
 edges_fit (suc (suc (suc (suc e)))) l = absurd (omega arith)
 
 -- each vertex has an edge to the sink
-all_reach : (v : ℕ) → v < 3 → ReachesSink four_chips.graph v
+all_reach : (v : ℕ) → v < 3 → ReachesSink four_chips.game.graph v
 all_reach zero l = (1 ∷ [], (omega arith, refl, refl))
 all_reach (suc zero) l = (3 ∷ [], (omega arith, refl, refl))
 all_reach (suc (suc zero)) l = ([], refl)
 all_reach (suc (suc (suc v))) l = absurd (omega arith)
 
-triangle_is_graph : IsGraph four_chips.graph
+triangle_is_graph : IsGraph four_chips.game.graph
 triangle_is_graph = record {
   some_vertex = omega arith;
   few_vertices = omega arith;

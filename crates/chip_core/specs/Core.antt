@@ -13,6 +13,7 @@ pub use Rattle.chip_link.specs.declared.event.Step.{Step}
 pub use Rattle.chip_part.specs.declared.reply.Reply.{Reply}
 pub use Rattle.chip_part.specs.Steps.{part_of, does, reply_of}
 use Rattle.chip_part.specs.declared.reply.Reply.TheVariants.{NotNow}
+use Rattle.chip_part.specs.Steps.{saw}
 
 -- the events that were made since the opening, each with the word that it saw. The latest stands first, since all
 -- proofs go back from the last event; `asked_in` has them in the order in which they were made
@@ -87,7 +88,7 @@ IsLegalLog g (x ∷ log) = IsLegalLog g log × Fits g log x
 abbrev pub answer : Setting → Log → Event → Option Rule → Log × Reply
 answer g log x (Some rule) = (log, NotNow rule)
 answer g log x None = (
-  record { event = x; seen = sees g log x }
+  saw x (sees g log x)
       ∷ log,
   reply_of g x (sees g log x) (part_in g log (part_of g x)),
 )

@@ -23,4 +23,4 @@ IsTree g log (v ∷ vs) = IsTree g log vs × (Contains vs v → ⊥) × ((e : �
 -- nothing
 pub record IsDetectionOrder (g : Setting) (log : Log) (vs : List ℕ) : Type 0 where
   pub tree : IsTree g log vs
-  pub others : (v : ℕ) → v < g.graph.vertices → (Contains vs v → ⊥) → IsNeutral g v (part_in g log v)
+  pub others : (v : ℕ) → v < g.game.graph.vertices → (Contains vs v → ⊥) → IsNeutral g v (part_in g log v)

@@ -1,6 +1,7 @@
 -- The core theorem, whole.
 use Rattle.std.specs.Prelude.{◌≡◌, ◌≢◌, ℕ, ◌+◌, ◌*◌, ◌<◌, true, List, [], ◌++◌, length, sum, Some, None}
-use Rattle.chip_part.specs.Setting.{Setting, HasGame}
+use Rattle.chip_graph.specs.ChipGame.{IsGame}
+use Rattle.chip_part.specs.Setting.{Setting}
 use Rattle.chip_graph.specs.Sums.{picked}
 use Rattle.chip_link.specs.Link.{sent_counts}
 use Rattle.chip_link.specs.Laws.{IsPrefix}
@@ -17,11 +18,11 @@ use Rattle.chip_core.specs.Detection.{IsDetectionOrder}
 
 -- no vertex halted
 abbrev pub NoneHalted : Setting → Log → Type 0
-NoneHalted g log = (v : ℕ) → v < g.graph.vertices → (part_in g log v).halt ≡ None
+NoneHalted g log = (v : ℕ) → v < g.game.graph.vertices → (part_in g log v).halt ≡ None
 
 -- no vertex halted by a seal: each one that halted was stopped by its limit
 abbrev pub NoneHaltedBySeal : Setting → Log → Type 0
-NoneHaltedBySeal g log = (v : ℕ) → v < g.graph.vertices → (part_in g log v).halt ≢ Some SealedEdge
+NoneHaltedBySeal g log = (v : ℕ) → v < g.game.graph.vertices → (part_in g log v).halt ≢ Some SealedEdge
 
 -- For every list of actor steps, each edge has delivered a prefix of what was sent on it, each message once and in
 -- order, and nothing is sent after its seal; where the root closes, every edge has delivered everything and, unless a
@@ -43,9 +44,9 @@ pub record HeadlineOf (g : Setting) (before : Log) (xs : List Event) (replies : 
   -- the firings that were made, one at a time, are a firing sequence within the limit, and lead to the full position
   pub position : LeadsTo g after (firings after)
   -- by the counts alone no vertex is below 0, and it is the position by the counts
-  pub none_below : (v : ℕ) → IsBelowZero g.graph (started g after) (fired_by g after) v → ⊥
-  pub by_counts : (v : ℕ) → position_after g.graph (started g after) (firings after) v
-      ≡ position_by_counts g.graph (started g after) (fired_by g after) v
+  pub none_below : (v : ℕ) → IsBelowZero g.game.graph (started g after) (fired_by g after) v → ⊥
+  pub by_counts : (v : ℕ) → position_after g.game.graph (started g after) (firings after) v
+      ≡ position_by_counts g.game.graph (started g after) (fired_by g after) v
   -- what was sent on an edge of the graph and what is held on it are what the firings of its tail made
   pub made : (e : ℕ) → e < graph_edges g → sum (sent_counts (out_in g after e).link) + held g after e
       ≡ mult_of g e * fired_by g after (tail_of g e)
@@ -57,17 +58,17 @@ pub record HeadlineOf (g : Setting) (before : Log) (xs : List Event) (replies : 
   -- and, unless a vertex halted, chips and firing counts are those of every firing sequence that ends with no vertex
   -- legal; the firings that were made are one
   pub one_end : IsClosed g after → NoneHalted g after → (vs : List ℕ)
-      → IsFiringSequence g.graph (started g after) vs → HasEnded g.graph (started g after) vs
+      → IsFiringSequence g.game.graph (started g after) vs → HasEnded g.game.graph (started g after) vs
       → AgreesWith g after vs
-  pub ended : IsClosed g after → NoneHalted g after → HasEnded g.graph (started g after) (firings after)
+  pub ended : IsClosed g after → NoneHalted g after → HasEnded g.game.graph (started g after) (firings after)
   -- where the limit alone halted vertices, the same of all that end within the limit, and the vertices that it halted
   -- are the legal ones
   pub one_end_within : IsClosed g after → NoneHaltedBySeal g after → (vs : List ℕ)
-      → IsWholePlay g.graph (started g after) g.limit vs → AgreesWith g after vs
+      → IsWholePlay g.game.graph (started g after) g.game.limit vs → AgreesWith g after vs
   pub ended_within : IsClosed g after → NoneHaltedBySeal g after
-      → IsWholePlay g.graph (started g after) g.limit (firings after)
+      → IsWholePlay g.game.graph (started g after) g.game.limit (firings after)
   pub over : IsClosed g after → NoneHaltedBySeal g after
-      → picked (λ v. is_by_limit (part_in g after v).halt) g.graph.vertices ≡ legal_vertices g.graph (chips_at g after)
+      → picked (λ v. is_by_limit (part_in g after v).halt) g.game.graph.vertices ≡ legal_vertices g.game.graph (chips_at g after)
   -- and whatever is asked for afterwards, the root stays closed and no part changes but the stopper's: no list, no
   -- chip, no count, no halt
   pub still : IsClosed g after → (ys : List Event) → IsClosed g (log_after g after ys)
@@ -80,5 +81,5 @@ Headline g log xs = HeadlineOf g log xs (replies_to g log xs) (log_after g log x
 -- it holds of every game within the limits, every ring with a cell, every legal log before, be it empty or not, and
 -- every list of steps, be they refused or not
 abbrev pub CoreTheorem : Type 0
-CoreTheorem = (g : Setting) → HasGame g → 0 < g.ring → (log : Log) → IsLegalLog g log → (xs : List Event)
+CoreTheorem = (g : Setting) → IsGame g.game → 0 < g.ring → (log : Log) → IsLegalLog g log → (xs : List Event)
     → Headline g log xs

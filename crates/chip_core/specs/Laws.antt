@@ -3,7 +3,7 @@ use Rattle.std.specs.Prelude.{◌≡◌, ◌≢◌, ◌↔◌, ℕ, ◌+◌, ◌
 use Rattle.std.specs.Prelude.{sum, drop, is_some, nat_lt, if◌then◌else◌, Some, None}
 use Rattle.chip_graph.specs.ChipGame.{IsGame}
 use Rattle.chip_graph.specs.More.{HasMore}
-use Rattle.chip_part.specs.Setting.{Setting, HasGame, game_of_setting}
+use Rattle.chip_part.specs.Setting.{Setting}
 use Rattle.chip_link.specs.Link.{sent_counts, claims_of}
 use Rattle.chip_link.specs.Laws.{AreInOrder}
 use Rattle.chip_link.specs.Words.{claims_in, fired_in, halted_in, by_limit_in}
@@ -23,7 +23,7 @@ use Rattle.chip_core.specs.Histories.{done_by, part_by}
 
 -- of every game within the limits, every ring with a cell and every legal log
 abbrev pub ForEveryLog : (Setting → Log → Type 0) → Type 0
-ForEveryLog P = (g : Setting) → HasGame g → 0 < g.ring → (log : Log) → IsLegalLog g log → P g log
+ForEveryLog P = (g : Setting) → IsGame g.game → 0 < g.ring → (log : Log) → IsLegalLog g log → P g log
 
 -- the legal logs are those that a run from the opening leaves
 abbrev pub LegalLogsAreRuns : Type 0
@@ -41,7 +41,7 @@ PartsAreKept = ForEveryLog (λ g log. (p : ℕ) → KeepsPart g p (part_in g log
 
 -- what an event of a vertex sees keeps within the limits
 abbrev pub SeenFits : Type 0
-SeenFits = ForEveryLog (λ g log. (x : Event) → part_of g x < g.graph.vertices
+SeenFits = ForEveryLog (λ g log. (x : Event) → part_of g x < g.game.graph.vertices
     → unmet g x (part_in g log (part_of g x)) ≡ None → FitsSeen (part_in g log (part_of g x)) x (sees g log x))
 
 -- and so does what an event of the root sees
@@ -75,10 +75,10 @@ ChipsOfEdges = ForEveryLog (λ g log. (e : ℕ)
 -- no vertex has more chips than were given, and no edge has more messages than its tail may fire or, on a root edge,
 -- than chips were given, of which there are never more than `max_total`
 pub record NumbersOf (g : Setting) (log : Log) : Type 0 where
-  pub chips : (v : ℕ) → v < g.graph.vertices → full_position g log v ≤ sum (played_game g log).start
+  pub chips : (v : ℕ) → v < g.game.graph.vertices → full_position g log v ≤ sum (played_game g log).start
   pub given : sum (played_game g log).start ≤ max_total
-  pub fired : (v : ℕ) → fired_by g log v ≤ g.limit
-  pub claims : (e : ℕ) → e < graph_edges g → claims_of (out_in g log e).link ≤ g.limit
+  pub fired : (v : ℕ) → fired_by g log v ≤ g.game.limit
+  pub claims : (e : ℕ) → e < graph_edges g → claims_of (out_in g log e).link ≤ g.game.limit
   pub root_claims : (e : ℕ) → graph_edges g ≤ e → claims_of (out_in g log e).link
       ≤ started g log (e - graph_edges g)
 
@@ -128,13 +128,13 @@ OpeningMessages = (g : Setting) (e : ℕ) → in_flight g [] e ≡ messages_from
 
 -- from the opening the places are 0, 1, 2 and so on
 abbrev pub InOrderFromTheOpening : Type 0
-InOrderFromTheOpening = (g : Setting) → HasGame g → 0 < g.ring → (xs : List Event) (e : ℕ)
+InOrderFromTheOpening = (g : Setting) → IsGame g.game → 0 < g.ring → (xs : List Event) (e : ℕ)
     → AreInOrder e (sent_on g [] xs e)
 
 -- from the opening, what is held on an edge of the graph is what the firings of its tail made, less the chips in the
 -- messages that were sent
 abbrev pub HeldFromTheOpening : Type 0
-HeldFromTheOpening = (g : Setting) → HasGame g → 0 < g.ring → (xs : List Event) (e : ℕ) → e < graph_edges g
+HeldFromTheOpening = (g : Setting) → IsGame g.game → 0 < g.ring → (xs : List Event) (e : ℕ) → e < graph_edges g
     → chips_in (sent_in e xs (replies_to g [] xs)) + held g (log_after g [] xs) e
     ≡ mult_of g e * fired_by g (log_after g [] xs) (tail_of g e)
 
@@ -145,16 +145,16 @@ NothingInFlight = ForEveryLog (λ g log. IsClosed g log → (e : ℕ) → e < al
 -- a read that was made saw the fired word that stands at the end, and the root is closed
 abbrev pub ReadsTell : Type 0
 ReadsTell = ForEveryLog (λ g log. (x : Step) (v : ℕ) → Contains log x → x.event ≡ Read v
-    → (v < g.graph.vertices) × IsClosed g log × (x.seen ≡ word_of_part (part_in g log v)))
+    → (v < g.game.graph.vertices) × IsClosed g log × (x.seen ≡ word_of_part (part_in g log v)))
 
 -- what was given to a vertex is what it starts with and, from the opening, what was fed to it
 abbrev pub GivenIsFed : Type 0
-GivenIsFed = (g : Setting) → HasGame g → 0 < g.ring → (xs : List Event) (v : ℕ)
+GivenIsFed = (g : Setting) → IsGame g.game → 0 < g.ring → (xs : List Event) (v : ℕ)
     → started g (log_after g [] xs) v ≡ start_of g v + chips_in (sent_in (root_edge g v) xs (replies_to g [] xs))
 
 -- a game that is not fed has what it starts with
 abbrev pub UnfedIsTheStart : Type 0
-UnfedIsTheStart = ForEveryLog (λ g log. g.fed ≡ false → (played_game g log ≡ game_of_setting g)
+UnfedIsTheStart = ForEveryLog (λ g log. g.fed ≡ false → (played_game g log ≡ g.game)
     × ((v : ℕ) → started g log v ≡ start_of g v) × ((part_in g log (root g)).ended ≡ true))
 
 -- with what was given so far it is a game within the limits
@@ -164,7 +164,7 @@ GivenIsAGame = ForEveryLog (λ g log. IsGame (played_game g log))
 -- it has more than the game at the start: what the root fed, by its own record
 abbrev pub GivenByTheRecord : Type 0
 GivenByTheRecord = ForEveryLog (λ g log.
-    HasMore (game_of_setting g) (fed_in g (done_by g (root g) log)) (played_game g log))
+    HasMore g.game (fed_in g (done_by g (root g) log)) (played_game g log))
 
 -- a game that is not fed has no feed in that record
 abbrev pub UnfedRecordsNone : Type 0

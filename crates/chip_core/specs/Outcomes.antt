@@ -37,18 +37,18 @@ pub record AreFired (g : Setting) (log : Log) (count : ℕ) (fired : List ℕ) :
 -- the outcome of a log: how often each vertex fired, the chips by these counts, and the vertices that halted, each by
 -- its cause
 pub record IsOutcomeOf (g : Setting) (log : Log) (o : Outcome) : Type 0 where
-  pub fired : AreFired g log g.graph.vertices o.fired.items
+  pub fired : AreFired g log g.game.graph.vertices o.fired.items
   pub chips : IsAfter (played_game g log) o.fired.items o.chips.items
-  pub over : o.over.items ≡ picked (λ v. is_by_limit (part_in g log v).halt) g.graph.vertices
-  pub sealed : o.sealed.items ≡ picked (λ v. is_by_seal (part_in g log v).halt) g.graph.vertices
+  pub over : o.over.items ≡ picked (λ v. is_by_limit (part_in g log v).halt) g.game.graph.vertices
+  pub sealed : o.sealed.items ≡ picked (λ v. is_by_seal (part_in g log v).halt) g.game.graph.vertices
 
 -- one thread that fires these vertices in turn from the position x, within the limit, comes to the counts and the chips
 -- of an outcome
 pub record ComesTo (g : Setting) (x : ℕ → ℕ) (vs : List ℕ) (o : Outcome) : Type 0 where
-  pub sequence : IsFiringSequence g.graph x vs
-  pub within : IsWithin g.limit vs
+  pub sequence : IsFiringSequence g.game.graph x vs
+  pub within : IsWithin g.game.limit vs
   pub counted : (v : ℕ) → slice_index o.fired.items v ≡ counts vs v
-  pub position : (v : ℕ) → slice_index o.chips.items v ≡ position_after g.graph x vs v
+  pub position : (v : ℕ) → slice_index o.chips.items v ≡ position_after g.game.graph x vs v
 
 -- the firings that were made come from all that was given to the outcome of a log, a report takes it, and where the
 -- root is closed and no seal halted a vertex it is that of every player who starts with all that was given

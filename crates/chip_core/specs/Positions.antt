@@ -17,9 +17,9 @@ started g log v = sum (sent_counts (out_in g log (root_edge g v)).link)
 abbrev pub played_game : Setting → Log → ChipGame
 played_game g log =
     record {
-      graph = g.graph;
-      start = map (started g log) (range_with_len 0 g.graph.vertices);
-      limit = g.limit;
+      graph = g.game.graph;
+      start = map (started g log) (range_with_len 0 g.game.graph.vertices);
+      limit = g.game.limit;
     }
 
 -- what is held on an edge: the chips of the last batch that are still to be sent
@@ -53,16 +53,16 @@ asked_in (x ∷ log) = asked_in log ++ x.event ∷ []
 -- one thread that fires these vertices in turn from all that was given comes to the full position, within the limit and
 -- with the counts of the log
 pub record LeadsTo (g : Setting) (log : Log) (vs : List ℕ) : Type 0 where
-  pub sequence : IsFiringSequence g.graph (started g log) vs
-  pub within : IsWithin g.limit vs
+  pub sequence : IsFiringSequence g.game.graph (started g log) vs
+  pub within : IsWithin g.game.limit vs
   pub counted : (v : ℕ) → counts vs v ≡ fired_by g log v
-  pub position : (v : ℕ) → v < g.graph.vertices
-      → position_after g.graph (started g log) vs v ≡ full_position g log v
+  pub position : (v : ℕ) → v < g.game.graph.vertices
+      → position_after g.game.graph (started g log) vs v ≡ full_position g log v
 
 -- chips and firing counts of the log are those of one thread that fires these vertices in turn from all that was given
 pub record AgreesWith (g : Setting) (log : Log) (vs : List ℕ) : Type 0 where
   pub counted : (v : ℕ) → fired_by g log v ≡ counts vs v
-  pub chips : (v : ℕ) → v < g.graph.vertices → chips_at g log v ≡ position_after g.graph (started g log) vs v
+  pub chips : (v : ℕ) → v < g.game.graph.vertices → chips_at g log v ≡ position_after g.game.graph (started g log) vs v
 
 -- what an event fed: pairs of a vertex and a count of chips
 abbrev pub fed_of : Setting → Event → List (ℕ × ℕ)

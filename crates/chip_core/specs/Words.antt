@@ -6,6 +6,7 @@ use Rattle.chip_link.specs.Link.{Shows, claims_of}
 use Rattle.chip_link.specs.Words.{exchanged}
 use Rattle.chip_part.specs.Setting.{Setting}
 use Rattle.chip_part.specs.Part.{may_ack, cause, is_by_limit}
+use Rattle.chip_part.specs.Steps.{saw}
 use Rattle.chip_core.specs.Core.{Log, Event, Take, Ack, Fire, Clear, Claim, Put, Halt, Settle, Seal, Read, Feed, End}
 use Rattle.chip_core.specs.Core.{Part, unmet, root_edge, part_of, part_in, out_in, into_in, stop_in, word_of_part, sees}
 use Rattle.chip_core.specs.Core.{all_edges, head_of}
@@ -24,7 +25,7 @@ abbrev pub IsWord : Setting → Word → Type 0
 IsWord g (of_edge e) = e < all_edges g
 IsWord g (of_acks e) = e < all_edges g
 IsWord g (of_cell e i) = (e < all_edges g) × (i < g.ring)
-IsWord g (of_vertex v) = v < g.graph.vertices
+IsWord g (of_vertex v) = v < g.game.graph.vertices
 
 -- what a halt sets in a fired word, by its cause
 abbrev pub halt_bits : Bool → ℕ
@@ -75,7 +76,7 @@ pub record IsShown (g : Setting) (log : Log) (value : Word → ℕ) : Type 0 whe
   -- the word of acknowledgements is what the head acknowledged
   pub acks : (e : ℕ) → e < all_edges g → value (of_acks e) ≡ (into_in g log e).acked
   -- the fired word is the firing count, the halt and its cause
-  pub fired : (v : ℕ) → v < g.graph.vertices → value (of_vertex v) ≡ word_of_part (part_in g log v)
+  pub fired : (v : ℕ) → v < g.game.graph.vertices → value (of_vertex v) ≡ word_of_part (part_in g log v)
 
 -- the part that makes an event, after this log
 abbrev pub acting : Setting → Log → Event → Part
@@ -96,4 +97,4 @@ pub record IsLeft (g : Setting) (log : Log) (x : Event) (old new : Word → ℕ)
 abbrev pub WordsGoOn : Type 0
 WordsGoOn = ForEveryLog (λ g log. (old new : Word → ℕ) → IsShown g log old → (x : Event)
     → unmet g x (acting g log x) ≡ None → IsLeft g log x old new
-    → IsShown g (record { event = x; seen = sees g log x } ∷ log) new)
+    → IsShown g (saw x (sees g log x) ∷ log) new)

@@ -1,12 +1,13 @@
 -- Worked runs of the whole core, as the definitions compute them. The limit is 2 ^ 40 and the ring has one cell where
 -- nothing else is said.
 use Rattle.std.specs.Prelude.{◌≡◌, ℕ, ◌^◌, true, false, List, [], ◌∷◌, ◌++◌, slice_index, Some}
-use Rattle.chip_part.specs.Setting.{Setting, HasGame}
+use Rattle.chip_graph.specs.ChipGame.{IsGame}
+use Rattle.chip_part.specs.Setting.{Setting, setting_of}
 use Rattle.chip_sequence.specs.Firing.{legal_vertices}
 use Rattle.chip_sequence.specs.Counted.{position_by_counts}
 use Rattle.chip_part.specs.declared.cause.Cause.TheVariants.{SealedEdge, FiringLimit}
-use Rattle.chip_part.specs.Worked.{small_triangle, chain, two_edges, saw}
-use Rattle.chip_part.specs.Steps.{message_of}
+use Rattle.chip_part.specs.Worked.{small_triangle, chain, two_edges}
+use Rattle.chip_part.specs.Steps.{message_of, saw}
 use Rattle.chip_part.specs.declared.rule.Rule.TheVariants.{Zero, NotCleared, Engaged, NotClosed, Ended}
 use Rattle.chip_part.specs.declared.rule.Rule.TheVariants.{TooMuch}
 use Rattle.chip_part.specs.declared.reply.Reply.TheVariants.{Done, Got, Sent, Empty, Full, Sealed, NotNow}
@@ -96,13 +97,14 @@ abbrev pub WholeSchedule : Type 0
 WholeSchedule =
     let g : Setting = small_triangle (4 ∷ 0 ∷ 0 ∷ []) in
     let after : Log = log_after g [] whole_schedule in
-    HasGame g × IsClosed g after × (firings after ≡ 0 ∷ 0 ∷ 1 ∷ []) × (on_each (fired_by g after) ≡ 2 ∷ 1 ∷ 0 ∷ [])
+    IsGame g.game × IsClosed g after × (firings after ≡ 0 ∷ 0 ∷ 1 ∷ []) × (on_each (fired_by g after) ≡ 2 ∷ 1 ∷ 0 ∷ [])
     × (on_each (chips_at g after) ≡ 1 ∷ 0 ∷ 3 ∷ [])
 
 -- the same triangle with five chips and a limit of two firings: vertex 0 gets its third pair of chips and halts, and
 -- the root closes
 abbrev pub limit_of_two : Setting
-limit_of_two = record { graph = (small_triangle []).graph; start = 5 ∷ 0 ∷ 0 ∷ []; limit = 2; ring = 1; fed = false }
+limit_of_two =
+    setting_of (record { graph = (small_triangle []).game.graph; start = 5 ∷ 0 ∷ 0 ∷ []; limit = 2 }) 1
 
 abbrev pub stopped_by_limit : List Event
 stopped_by_limit =
@@ -115,9 +117,9 @@ abbrev pub StoppedByLimit : Type 0
 StoppedByLimit =
     let g : Setting = limit_of_two in
     let after : Log = log_after g [] stopped_by_limit in
-    HasGame g × IsClosed g after × ((part_in g after 0).halt ≡ Some FiringLimit)
+    IsGame g.game × IsClosed g after × ((part_in g after 0).halt ≡ Some FiringLimit)
     × (on_each (fired_by g after) ≡ 2 ∷ 1 ∷ 0 ∷ []) × (on_each (chips_at g after) ≡ 2 ∷ 0 ∷ 3 ∷ [])
-    × (legal_vertices g.graph (chips_at g after) ≡ 0 ∷ [])
+    × (legal_vertices g.game.graph (chips_at g after) ≡ 0 ∷ [])
 
 -- the run that was sealed half way, played on until the root closes: two chips are held for ever, and the counts lead
 -- to other chips
@@ -133,7 +135,7 @@ StoppedBySeal =
     let after : Log = log_after g [] played_on in
     IsClosed g after × ((part_in g after 0).halt ≡ Some SealedEdge) × (on_each (fired_by g after) ≡ 2 ∷ 1 ∷ 0 ∷ [])
     × (on_each (chips_at g after) ≡ 1 ∷ 0 ∷ 1 ∷ [])
-    × (held g after 1 ≡ 2) × (on_each (position_by_counts g.graph (slice_index g.start) (fired_by g after))
+    × (held g after 1 ≡ 2) × (on_each (position_by_counts g.game.graph (slice_index g.game.start) (fired_by g after))
     ≡ 1 ∷ 0 ∷ 3 ∷ [])
 
 -- the same triangle, fed while it runs
@@ -173,7 +175,7 @@ ClosedByTheEnd =
     let g : Setting = fed_triangle (0 ∷ 0 ∷ 0 ∷ []) in
     let before : Log = log_after g [] fed_schedule in
     let after : Log = log_after g before (End ∷ []) in
-    HasGame g × IsSettled g before × ((part_in g before (root g)).ended ≡ false)
+    IsGame g.game × IsSettled g before × ((part_in g before (root g)).ended ≡ false)
     × (replies_to g before (Read 0 ∷ End ∷ Read 0 ∷ []) ≡ NotNow NotClosed ∷ Done 0 ∷ Done 2 ∷ []) × IsClosed g after
     × (firings after ≡ 0 ∷ 0 ∷ 1 ∷ []) × (on_each (chips_at g after) ≡ 1 ∷ 0 ∷ 3 ∷ [])
 

@@ -14,7 +14,7 @@ use Rattle.chip_part.specs.Rules.{Event}
 use Rattle.chip_part.specs.Rules.{unmet}
 use Rattle.chip_part.specs.declared.reply.Reply.TheVariants.{NotNow}
 use Rattle.chip_part.specs.declared.reply.Reply.{Reply}
-use Rattle.chip_part.specs.Steps.{Step, part_of, does, asked}
+use Rattle.chip_part.specs.Steps.{Step, part_of, does, asked, saw}
 use Rattle.chip_part.specs.Acting.{act_of, event_of, verdict, FitsSeen, CanDo, IsDue}
 use Rattle.chip_actor.specs.Actor.{Makes}
 use Rattle.chip_actor.specs.Actor.{Actor, StandsFor, SomePart}
@@ -51,20 +51,20 @@ module _ (g : Setting) (s : Part) (a : Actor) (stands : StandsFor g s a) (x : Ev
     )
 
     pub ask_made : (new : Actor) (reply : Reply) → Makes a new (event_of a.vertex act) seen reply
-        → StandsFor g (asked g (record { event = x; seen = seen }) s (unmet g x s)).0 new
-        × (reply ≡ (asked g (record { event = x; seen = seen }) s (unmet g x s)).1) × (new.vertex ≡ a.vertex)
+        → StandsFor g (asked g (saw x seen) s (unmet g x s)).0 new
+        × (reply ≡ (asked g (saw x seen) s (unmet g x s)).1) × (new.vertex ≡ a.vertex)
     ask_made new reply makes =
-        subst (λ (u : Option Rule). StandsFor g (asked g (record { event = x; seen = seen }) s u).0 new
-        × (reply ≡ (asked g (record { event = x; seen = seen }) s u).1) × (new.vertex ≡ a.vertex))
+        subst (λ (u : Option Rule). StandsFor g (asked g (saw x seen) s u).0 new
+        × (reply ≡ (asked g (saw x seen) s u).1) × (new.vertex ≡ a.vertex))
         (sym (verdict_ok _ _ _ given).0)
         (subst (λ (y : Event). Makes a new y seen reply) told makes g s stands (may_do (verdict_ok _ _ _ given).0))
 
   pub ask_refused : (rule : Rule) → verdict (unmet g x s) (act_of g x s) ≡ Err rule
-      → StandsFor g (asked g (record { event = x; seen = seen }) s (unmet g x s)).0 a
-      × (NotNow rule ≡ (asked g (record { event = x; seen = seen }) s (unmet g x s)).1) × (a.vertex ≡ a.vertex)
+      → StandsFor g (asked g (saw x seen) s (unmet g x s)).0 a
+      × (NotNow rule ≡ (asked g (saw x seen) s (unmet g x s)).1) × (a.vertex ≡ a.vertex)
   ask_refused rule given =
-      subst (λ (u : Option Rule). StandsFor g (asked g (record { event = x; seen = seen }) s u).0 a
-      × (NotNow rule ≡ (asked g (record { event = x; seen = seen }) s u).1) × (a.vertex ≡ a.vertex))
+      subst (λ (u : Option Rule). StandsFor g (asked g (saw x seen) s u).0 a
+      × (NotNow rule ≡ (asked g (saw x seen) s u).1) × (a.vertex ≡ a.vertex))
       (sym (verdict_err _ _ _ given))
       (stands, refl, refl)
 
@@ -78,7 +78,7 @@ module _ (xs : List (Event × ℕ × Reply)) (turn : List (Act × ℕ)) where
   play_first : (g : Setting) (v : ℕ) (s : Part) (i : ℕ) (d : Event × ℕ × Reply) → i < length xs
       → may_play g v s (drop i xs) turn ≡ true
       → (may_ask g v s (get_or xs i d).0 (get_or xs i d).1
-      && may_play g v (asked g (record { event = (get_or xs i d).0; seen = (get_or xs i d).1 }) s
+      && may_play g v (asked g (saw ((get_or xs i d).0) ((get_or xs i d).1)) s
       (unmet g (get_or xs i d).0 s)).0 (drop (i + 1) xs) turn) ≡ true
   play_first g v s i d within all = subst (λ (ys : List (Event × ℕ × Reply)). may_play g v s ys turn ≡ true)
       (drop_more xs i d within) all
@@ -91,7 +91,7 @@ module _ (xs : List (Event × ℕ × Reply)) (turn : List (Act × ℕ)) where
       → Answers a new (get_or xs i d).0 (get_or xs i d).1 reply → MayPlay new (i + 1)
   ask_next a new reply i d within (g, s, stands, all) answers =
       let both = and_parts _ _ (play_first g a.vertex s i d within all) in
-      let after : Part = (asked g (record { event = (get_or xs i d).0; seen = (get_or xs i d).1 }) s
+      let after : Part = (asked g (saw ((get_or xs i d).0) ((get_or xs i d).1)) s
       (unmet g (get_or xs i d).0 s)).0 in
       let made = answers g s stands both.0 in
       (g, after, made.0, subst (λ (v : ℕ). may_play g v after (drop (i + 1) xs) turn ≡ true) (sym made.2) both.1)
@@ -165,18 +165,18 @@ module _ (a : Actor) (cursor next : Cursor) (act : Act) (os : List (Act × ℕ))
           ) in
           let made = makes g s stands can in
           let x : Event = event_of a.vertex (get_or os i d).0 in
-          let after : Part = does g (record { event = x; seen = seen }) s in
+          let after : Part = does g (saw x seen) s in
           let way' = subst (λ (y : Act). IsUnderWay g a.vertex first
-          (done ++ record { event = event_of a.vertex y; seen = seen } ∷ []) next
-          (does g (record { event = event_of a.vertex y; seen = seen }) s)) is (step.goes_on seen) in (
+          (done ++ saw (event_of a.vertex y) seen ∷ []) next
+          (does g (saw (event_of a.vertex y) seen) s)) is (step.goes_on seen) in (
             g,
             after,
             made.0,
             (
               first,
-              done ++ record { event = x; seen = seen } ∷ [],
+              done ++ saw x seen ∷ [],
               subst
-                  (λ (v : ℕ). IsUnderWay g v first (done ++ record { event = x; seen = seen } ∷ []) next after)
+                  (λ (v : ℕ). IsUnderWay g v first (done ++ saw x seen ∷ []) next after)
                   (sym made.2) way',
               subst (λ (v : ℕ). may_see_all g v after (drop (i + 1) os) ≡ true) (sym made.2) fits.1,
             ),

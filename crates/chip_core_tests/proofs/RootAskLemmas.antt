@@ -13,7 +13,7 @@ use Rattle.chip_part.specs.Rules.{Event, Take, Ack, Fire, Clear, Claim, Put, Hal
 use Rattle.chip_part.specs.Rules.{unmet}
 use Rattle.chip_part.specs.declared.reply.Reply.TheVariants.{NotNow}
 use Rattle.chip_part.specs.declared.reply.Reply.{Reply}
-use Rattle.chip_part.specs.Steps.{asked}
+use Rattle.chip_part.specs.Steps.{asked, saw}
 use Rattle.chip_part.specs.Acting.{act_of, verdict}
 use Rattle.chip_root.specs.Root.{Root, RootStandsFor, SomeRoot, RootCanDo, RootMakes}
 use Rattle.chip_part.specs.Acting.{is_of_root, FitsRoot}
@@ -52,19 +52,19 @@ module _ (g : Setting) (s : Part) (r : Root) (stands : RootStandsFor g s r) (x :
 
   pub root_made : (act : Act) → verdict (unmet g x s) (act_of g x s) ≡ Ok act → (new : Root) (reply : Reply)
       → RootMakes r new x seen reply
-      → RootStandsFor g (asked g (record { event = x; seen = seen }) s (unmet g x s)).0 new
-      × (reply ≡ (asked g (record { event = x; seen = seen }) s (unmet g x s)).1)
+      → RootStandsFor g (asked g (saw x seen) s (unmet g x s)).0 new
+      × (reply ≡ (asked g (saw x seen) s (unmet g x s)).1)
   root_made act given new reply makes =
-      subst (λ (u : Option Rule). RootStandsFor g (asked g (record { event = x; seen = seen }) s u).0 new
-      × (reply ≡ (asked g (record { event = x; seen = seen }) s u).1))
+      subst (λ (u : Option Rule). RootStandsFor g (asked g (saw x seen) s u).0 new
+      × (reply ≡ (asked g (saw x seen) s u).1))
       (sym (verdict_ok _ _ _ given).0) (makes g s stands (root_may_do act given))
 
   pub root_refused : (rule : Rule) → verdict (unmet g x s) (act_of g x s) ≡ Err rule
-      → RootStandsFor g (asked g (record { event = x; seen = seen }) s (unmet g x s)).0 r
-      × (NotNow rule ≡ (asked g (record { event = x; seen = seen }) s (unmet g x s)).1)
+      → RootStandsFor g (asked g (saw x seen) s (unmet g x s)).0 r
+      × (NotNow rule ≡ (asked g (saw x seen) s (unmet g x s)).1)
   root_refused rule given =
-      subst (λ (u : Option Rule). RootStandsFor g (asked g (record { event = x; seen = seen }) s u).0 r
-      × (NotNow rule ≡ (asked g (record { event = x; seen = seen }) s u).1))
+      subst (λ (u : Option Rule). RootStandsFor g (asked g (saw x seen) s u).0 r
+      × (NotNow rule ≡ (asked g (saw x seen) s u).1))
       (sym (verdict_err _ _ _ given)) (stands, refl)
 
 -- ---- a list of questions
@@ -77,7 +77,7 @@ module _ (xs : List (Event × ℕ × Reply)) where
   play_root_first : (g : Setting) (s : Part) (i : ℕ) (d : Event × ℕ × Reply) → i < length xs
       → may_play_root g s (drop i xs) ≡ true
       → (may_ask_root g s (get_or xs i d).0 (get_or xs i d).1
-      && may_play_root g (asked g (record { event = (get_or xs i d).0; seen = (get_or xs i d).1 }) s
+      && may_play_root g (asked g (saw ((get_or xs i d).0) ((get_or xs i d).1)) s
       (unmet g (get_or xs i d).0 s)).0 (drop (i + 1) xs)) ≡ true
   play_root_first g s i d within all = subst (λ (ys : List (Event × ℕ × Reply)). may_play_root g s ys ≡ true)
       (drop_more xs i d within) all
@@ -91,6 +91,6 @@ module _ (xs : List (Event × ℕ × Reply)) where
       → RootAnswers r new (get_or xs i d).0 (get_or xs i d).1 reply → MayPlayRoot new (i + 1)
   ask_root_next r new reply i d within (g, s, stands, all) answers =
       let both = and_parts _ _ (play_root_first g s i d within all) in
-      let after : Part = (asked g (record { event = (get_or xs i d).0; seen = (get_or xs i d).1 }) s
+      let after : Part = (asked g (saw ((get_or xs i d).0) ((get_or xs i d).1)) s
       (unmet g (get_or xs i d).0 s)).0 in
       (g, after, (answers g s stands both.0).0, both.1)

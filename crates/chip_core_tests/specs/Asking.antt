@@ -13,7 +13,7 @@ use Rattle.chip_detect.specs.Tally.{message_limit}
 use Rattle.chip_part.specs.Part.{Part}
 use Rattle.chip_part.specs.Rules.{Event, Take, Claim, Settle, unmet}
 use Rattle.chip_part.specs.declared.reply.Reply.{Reply}
-use Rattle.chip_part.specs.Steps.{part_of, does, asked}
+use Rattle.chip_part.specs.Steps.{part_of, does, asked, saw}
 use Rattle.chip_part.specs.declared.act.Act.{Act}
 use Rattle.chip_part.specs.Acting.{event_of}
 
@@ -33,14 +33,14 @@ may_ask g v s x seen = part_of g x == v && (is_some (unmet g x s) || fits_seen s
 abbrev pub may_see_all : Setting → ℕ → Part → List (Act × ℕ) → Bool
 may_see_all g v s [] = true
 may_see_all g v s (o ∷ os) = fits_seen s (event_of v o.0) o.1
-    && may_see_all g v (does g (record { event = event_of v o.0; seen = o.1 }) s) os
+    && may_see_all g v (does g (saw (event_of v o.0) o.1) s) os
 
 -- the vertex may be asked for one event after another, and make these operations then. Beside each event stands what it
 -- sees, and the reply that is hoped for
 abbrev pub may_play : Setting → ℕ → Part → List (Event × ℕ × Reply) → List (Act × ℕ) → Bool
 may_play g v s [] turn = may_see_all g v s turn
 may_play g v s (x ∷ xs) turn = may_ask g v s x.0 x.1
-    && may_play g v (asked g (record { event = x.0; seen = x.1 }) s (unmet g x.0 s)).0 xs turn
+    && may_play g v (asked g (saw x.0 x.1) s (unmet g x.0 s)).0 xs turn
 
 -- the game on edges with these ends, which send one chip for each firing. The sink is the last vertex
 abbrev pub edge_of : ℕ × ℕ → Edge

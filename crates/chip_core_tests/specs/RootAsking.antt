@@ -6,7 +6,7 @@ use Rattle.chip_link.specs.Link.{claims_of}
 use Rattle.chip_part.specs.Part.{Part}
 use Rattle.chip_part.specs.Rules.{Event, Settle, Feed, End, unmet}
 use Rattle.chip_part.specs.declared.reply.Reply.{Reply}
-use Rattle.chip_part.specs.Steps.{asked}
+use Rattle.chip_part.specs.Steps.{asked, saw}
 use Rattle.chip_part.specs.Acting.{is_of_root}
 use Rattle.chip_core_tests.specs.Asking.{fits_seen}
 use Rattle.chip_root.specs.Root.{Root, RootStandsFor, WhateverRoot}
@@ -25,11 +25,11 @@ may_ask_root g s x seen = is_of_root g x && (is_some (unmet g x s) || root_fits_
 abbrev pub may_play_root : Setting → Part → List (Event × ℕ × Reply) → Bool
 may_play_root g s [] = true
 may_play_root g s (x ∷ xs) = may_ask_root g s x.0 x.1
-    && may_play_root g (asked g (record { event = x.0; seen = x.1 }) s (unmet g x.0 s)).0 xs
+    && may_play_root g (asked g (saw x.0 x.1) s (unmet g x.0 s)).0 xs
 
 -- the root answered so: whatever part it stood for, it stands for that part after the question
 abbrev pub RootAnswers : Root → Root → Event → ℕ → Reply → Type 0
 RootAnswers old new x seen reply =
     WhateverRoot old (λ g s. may_ask_root g s x seen ≡ true
-    → RootStandsFor g (asked g (record { event = x; seen = seen }) s (unmet g x s)).0 new
-    × (reply ≡ (asked g (record { event = x; seen = seen }) s (unmet g x s)).1))
+    → RootStandsFor g (asked g (saw x seen) s (unmet g x s)).0 new
+    × (reply ≡ (asked g (saw x seen) s (unmet g x s)).1))

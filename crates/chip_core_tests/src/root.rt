@@ -7,7 +7,7 @@ ghost use Rattle.chip_core_tests.specs.RootAsking.{may_ask_root, may_play_root, 
 
 use chip_graph::{Edge, Game, Graph};
 use chip_link::{Event, Message, Ring};
-use chip_part::{Reply, Rule};
+use chip_part::{Reply, Rule, Setting};
 use chip_root::RootState;
 use std::alloc::Global;
 use std::process::Abort;
@@ -70,10 +70,11 @@ fn play_root(rt: &impl Abort, root: &mut RootState, questions: &[(Event, u64, Re
 #[test]
 fn unfed_root(rt: HostRuntime) -> Result<(), Fail> {
     let game = game_of(rt.alloc(), 3, &[(0, 1), (0, 2), (1, 0), (1, 2)], &[4, 0, 0])?;
-    let mut root = RootState::new(rt.alloc(), &game)?;
+    let setting = Setting::new(game, Ring::one(), false);
+    let mut root = RootState::new(rt.alloc(), &setting)?;
     let script = [
-        (Event::Clear(4), 0, Reply::NotNow(Rule::NoSuch)),
-        (Event::Put(4), 0, Reply::NotNow(Rule::NoSuch)),
+        (Event::Clear(4), 0, Reply::NotNow(Rule::Ended)),
+        (Event::Put(4), 0, Reply::NotNow(Rule::NotClaimed)),
         (feed!(4, 1), 0, Reply::NotNow(Rule::Ended)),
         (feed!(0, 1), 0, Reply::NotNow(Rule::NoSuch)),
         (Event::Read(0), 0, Reply::NotNow(Rule::NotClosed)),
@@ -90,7 +91,8 @@ fn unfed_root(rt: HostRuntime) -> Result<(), Fail> {
 #[test]
 fn settled_root(rt: HostRuntime) -> Result<(), Fail> {
     let game = game_of(rt.alloc(), 3, &[(0, 1), (0, 2), (1, 0), (1, 2)], &[4, 0, 0])?;
-    let mut root = RootState::new(rt.alloc(), &game)?;
+    let setting = Setting::new(game, Ring::one(), false);
+    let mut root = RootState::new(rt.alloc(), &setting)?;
     assert_eq!(rt; root.outstanding(), 1);
     let first = root.settle(0, 1);
     assert_eq!(rt; first, 1);
@@ -104,7 +106,8 @@ fn settled_root(rt: HostRuntime) -> Result<(), Fail> {
 #[test]
 fn fed_root(rt: HostRuntime) -> Result<(), Fail> {
     let game = game_of(rt.alloc(), 3, &[(0, 1), (0, 2), (1, 0), (1, 2)], &[0, 0, 1])?;
-    let mut root = RootState::new_fed(rt.alloc(), &game, Ring::one())?;
+    let setting = Setting::new(game, Ring::one(), true);
+    let mut root = RootState::new(rt.alloc(), &setting)?;
     let script = [
         (feed!(4, 3), 0, Reply::NotNow(Rule::NotCleared)),
         (Event::Clear(4), 0, Reply::Done(0)),

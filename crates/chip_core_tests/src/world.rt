@@ -191,7 +191,7 @@ fn ends(
 
 /// Whether these are the chips of all vertices.
 fn holds(world: &World, chips: &[u64]) -> bool {
-    if chips.len() as u64 != world.game().graph().vertices() {
+    if chips.len() as u64 != world.setting().vertices() {
         return false;
     }
     for vertex in 0..chips.len() {
@@ -204,7 +204,7 @@ fn holds(world: &World, chips: &[u64]) -> bool {
 
 /// Whether these are the firings of all vertices.
 fn fired(world: &World, counts: &[u64]) -> bool {
-    if counts.len() as u64 != world.game().graph().vertices() {
+    if counts.len() as u64 != world.setting().vertices() {
         return false;
     }
     for vertex in 0..counts.len() {
@@ -217,8 +217,7 @@ fn fired(world: &World, counts: &[u64]) -> bool {
 
 /// Whether these are the numbers of messages that were delivered, of all edges.
 fn delivered(world: &World, counts: &[u64]) -> bool {
-    let graph = world.game().graph();
-    if counts.len() != graph.edges().len() + graph.vertices() as usize {
+    if counts.len() as u64 != world.setting().all_edges() {
         return false;
     }
     for edge in 0..counts.len() {

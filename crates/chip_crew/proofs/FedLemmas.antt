@@ -6,7 +6,7 @@ use Rattle.std.proofs.lemmas.Bool.{and_parts}
 use Rattle.chip_graph.specs.ChipGame.{ChipGame}
 use Rattle.chip_graph.specs.Limits.{max_total}
 use Rattle.chip_graph.specs.More.{HasMore, all_brought}
-use Rattle.chip_part.specs.Setting.{Setting, game_of_setting, setting_with}
+use Rattle.chip_part.specs.Setting.{Setting, setting_with}
 use Rattle.chip_net.specs.Tokens.{NetId}
 use Rattle.chip_core.specs.Core.{Step}
 use Rattle.chip_net.specs.Roots.{RootKnown, new_root, fed_by}
@@ -38,9 +38,9 @@ pub may_begin : (game : ChipGame) (feeds : List (ℕ × ℕ)) (ring : ℕ) (net 
 may_begin game feeds ring net root stopper_did are within setting is =
     subst (λ (r : RootKnown). MayFeed r feeds) (sym is) (record {
       not_ended = ap (λ (g : Setting). not g.fed) setting;
-      each = subst (λ (g : Setting). All (λ (p : ℕ × ℕ). (p.0 < g.graph.vertices) × (0 < p.1)) feeds) (sym setting)
+      each = subst (λ (g : Setting). All (λ (p : ℕ × ℕ). (p.0 < g.game.graph.vertices) × (0 < p.1)) feeds) (sym setting)
           (each_fits game feeds are);
-      within = subst (λ (g : Setting). sum g.start + all_brought [] + all_brought feeds ≤ max_total) (sym setting)
+      within = subst (λ (g : Setting). sum g.game.start + all_brought [] + all_brought feeds ≤ max_total) (sym setting)
           (omega (arith, within));
     })
 
@@ -55,13 +55,13 @@ fed_all feeds plan crew f finished =
 -- the root that finished is that of a net for this game
 net_is : (game : ChipGame) (feeds : List (ℕ × ℕ)) (plan : Plan) (crew : CrewId) (f : Finished)
     → IsFedCrewFor game feeds plan crew → (finished : HasFinishedFed crew (Some feeds) (root_of crew plan) f)
-    → game_of_setting finished.ends.ends.root.net.setting ≡ game
+    → finished.ends.ends.root.net.setting.game ≡ game
 net_is game feeds plan crew f opened finished =
     let ends = finished.ends in
     let led = led_goes_on ends.polls (Some feeds) None (root_of crew plan) ends.led ends.is_led in
-    ap (λ (n : NetId). game_of_setting n.setting)
+    ap (λ (n : NetId). n.setting.game)
     ((polls_add ends.ends.polls ends.led ends.ends.root ends.ends.polled).net ∙ led.net)
-    ∙ ap game_of_setting opened.setting
+    ∙ ap (λ (s : Setting). s.game) opened.setting
 
 finished_fed : (game : ChipGame) (feeds : List (ℕ × ℕ)) (plan : Plan) (crew : CrewId) (f : Finished)
     → IsFedCrewFor game feeds plan crew → HasFinishedFed crew (Some feeds) (root_of crew plan) f
@@ -101,9 +101,9 @@ stopped_fed_by game feeds plan may_shut crew fault.NoMemory opened why = opened.
 stopped_fed_by game feeds plan may_shut crew fault.Spawn opened why = opened.can
 stopped_fed_by game feeds plan may_shut crew fault.GateShut opened why = (opened.can, why)
 stopped_fed_by game feeds plan may_shut crew (fault.Doubled v) opened why =
-    (opened.can, subst (λ (g : Setting). v < g.graph.vertices) opened.setting why)
+    (opened.can, subst (λ (g : Setting). v < g.game.graph.vertices) opened.setting why)
 stopped_fed_by game feeds plan may_shut crew (fault.Lost v) opened why =
-    (opened.can, subst (λ (g : Setting). v < g.graph.vertices) opened.setting why)
+    (opened.can, subst (λ (g : Setting). v < g.game.graph.vertices) opened.setting why)
 stopped_fed_by game feeds plan may_shut crew (fault.Unfinished deficit root) opened why = (crew, opened, why)
 
 pub stopped_fed_for : (game : ChipGame) (feeds : List (ℕ × ℕ)) (plan : Plan) (may_shut : ℕ → ℕ → Type 0)

@@ -6,7 +6,7 @@ use Rattle.std.proofs.lemmas.List.Elements.{All-tail}
 use Rattle.std.proofs.lemmas.List.Sums.{sum_by-append}
 use Rattle.chip_graph.specs.More.{all_brought}
 use Rattle.chip_part.specs.Setting.{Setting}
-use Rattle.chip_part.specs.Steps.{ended_after, does}
+use Rattle.chip_part.specs.Steps.{ended_after, does, saw}
 use Rattle.chip_core.specs.Core.{Step, Event, Clear, Settle, Part, opened, root_edge, graph_edges}
 use Rattle.chip_core.specs.Histories.{part_by}
 use Rattle.chip_core.specs.Positions.{fed_of, fed_in}
@@ -96,7 +96,7 @@ poll_adds old new n polling = adds_steps old new polling.steps _ [] (has_ended o
 -- nor does a look in vain
 look_adds : (old new : RootKnown) (v : ℕ) → LooksInVain old new v → Adds old new [] (has_ended old)
 look_adds old new v looks =
-    adds_steps old new (record { event = Clear (root_edge old.net.setting v); seen = looks.seen } ∷ []) _ []
+    adds_steps old new (saw (Clear (root_edge old.net.setting v)) looks.seen ∷ []) _ []
     (has_ended old) looks.record_is refl refl refl
 
 -- nor the end
@@ -104,7 +104,7 @@ end_adds : (old new : RootKnown) (answer : RootState) → Ends old new answer �
 end_adds old new answer ends =
     let g : Setting = old.net.setting in
     adds_steps old new ends.ending.steps _ [] true ends.ending.record_is ends.ending.events_are
-    (noted_settles g true 1 (g.graph.vertices - 1)) (fed_settles g 1 (g.graph.vertices - 1))
+    (noted_settles g true 1 (g.game.graph.vertices - 1)) (fed_settles g 1 (g.game.graph.vertices - 1))
 
 -- a feed feeds what it says
 feed_adds : (old new : RootKnown) (v k place : ℕ) → Feeds old new v k place
@@ -121,7 +121,7 @@ polls_add zero old now is = subst (λ (r : RootKnown). Adds old r [] (has_ended 
     (record { net = refl; stopper = refl; fed = sym (append-nil (fed_by old)); ended_is = refl })
 polls_add (suc k) old now more =
     let first = polls_add k old more.0 more.1 in
-    let last = poll_adds more.0 now more.0.net.setting.graph.vertices more.2 in
+    let last = poll_adds more.0 now more.0.net.setting.game.graph.vertices more.2 in
     record {
       net = last.net ∙ first.net;
       stopper = last.stopper ∙ first.stopper;
@@ -142,14 +142,14 @@ may_after : (old new : RootKnown) (more left : List (ℕ × ℕ)) → Adds old n
     → MayFeed old (more ++ left) → MayFeed new left
 may_after old new more left adds may =
     let given : all_given new ≡ all_given old + all_brought more =
-    ap (λ (n : NetId). sum n.setting.start + all_brought (fed_by new)) adds.net
-    ∙ ap (λ (l : List (ℕ × ℕ)). sum old.net.setting.start + all_brought l) adds.fed
-    ∙ ap (λ (n : ℕ). sum old.net.setting.start + n) (all_brought_both (fed_by old) more) ∙ omega arith in
+    ap (λ (n : NetId). sum n.setting.game.start + all_brought (fed_by new)) adds.net
+    ∙ ap (λ (l : List (ℕ × ℕ)). sum old.net.setting.game.start + all_brought l) adds.fed
+    ∙ ap (λ (n : ℕ). sum old.net.setting.game.start + n) (all_brought_both (fed_by old) more) ∙ omega arith in
     let both : all_brought (more ++ left) ≡ all_brought more + all_brought left = all_brought_both more left in
     record {
       not_ended = adds.ended_is ∙ may.not_ended;
-      each = subst (λ (n : NetId). All (λ (p : ℕ × ℕ). (p.0 < n.setting.graph.vertices) × (0 < p.1)) left)
-          (sym adds.net) (all_right (λ (p : ℕ × ℕ). (p.0 < old.net.setting.graph.vertices) × (0 < p.1)) more left may.each);
+      each = subst (λ (n : NetId). All (λ (p : ℕ × ℕ). (p.0 < n.setting.game.graph.vertices) × (0 < p.1)) left)
+          (sym adds.net) (all_right (λ (p : ℕ × ℕ). (p.0 < old.net.setting.game.graph.vertices) × (0 < p.1)) more left may.each);
       within = omega (arith, may.within, given, both);
     }
 
@@ -249,21 +249,21 @@ led_goes_on zero feeds left old now led = stays feeds left old now led.0 led.1
 led_goes_on (suc k) feeds left old now led =
     goes_on feeds led.0 left old led.1 now (led_goes_on k feeds led.0 old led.1 led.3)
     (goes_on led.0 left left led.1 led.2 now (once_goes_on led.0 left led.1 led.2 led.4)
-    (poll_goes_on left led.2 now led.2.net.setting.graph.vertices led.5))
+    (poll_goes_on left led.2 now led.2.net.setting.game.graph.vertices led.5))
 
 -- ---- the root that is led
 
 -- one poll more, and a feed before it
 pub led_more : (k : ℕ) (feeds rest left : Left) (old before fed now : RootKnown) → IsLed k feeds old rest before
-    → FeedsOnce rest left before fed → IsPolling fed now fed.net.setting.graph.vertices
+    → FeedsOnce rest left before fed → IsPolling fed now fed.net.setting.game.graph.vertices
     → IsLed (k + 1) feeds old left now
 led_more k feeds rest left old before fed now led once poll =
     subst (λ (n : ℕ). IsLed n feeds old left now) (sym (add-one k)) (rest, before, fed, led, once, poll)
 
 pub may_more : (rest left : Left) (before fed now : RootKnown) → MayFeedLeft before rest
-    → FeedsOnce rest left before fed → IsPolling fed now fed.net.setting.graph.vertices → MayFeedLeft now left
+    → FeedsOnce rest left before fed → IsPolling fed now fed.net.setting.game.graph.vertices → MayFeedLeft now left
 may_more rest left before fed now may once poll =
-    (poll_goes_on left fed now fed.net.setting.graph.vertices poll).may ((once_goes_on rest left before fed once).may may)
+    (poll_goes_on left fed now fed.net.setting.game.graph.vertices poll).may ((once_goes_on rest left before fed once).may may)
 
 -- after so many polls something is left, which may be fed
 pub record OnTheWay (feeds : Left) (old : RootKnown) (polls : ℕ) (root : RootKnown) : Type 0 where
@@ -289,7 +289,7 @@ led_unfed (suc k) left old now led =
       (
         led.1,
         before.1,
-        subst (λ (r : RootKnown). IsPolling r now r.net.setting.graph.vertices) once.1 led.5,
+        subst (λ (r : RootKnown). IsPolling r now r.net.setting.game.graph.vertices) once.1 led.5,
       ),
     )
 

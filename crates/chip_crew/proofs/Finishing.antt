@@ -5,7 +5,7 @@ use Rattle.std.specs.Result.{IsErrAnd}
 use Rattle.chip_graph.specs.ChipGame.{ChipGame}
 use Rattle.chip_sequence.specs.declared.outcome.Outcome.{Outcome}
 use Rattle.chip_sequence.specs.Play.{IsPlayed}
-use Rattle.chip_part.specs.Setting.{Setting, game_of_setting, setting_of}
+use Rattle.chip_part.specs.Setting.{Setting, setting_of}
 use Rattle.chip_net.specs.Tokens.{NetId}
 use Rattle.chip_net.specs.Roots.{RootKnown, new_root, has_ended}
 use Rattle.chip_crew.specs.Crew.{CrewId, Polled}
@@ -76,7 +76,7 @@ played_by game plan crew f opened finished none =
     ap (λ (n : NetId). n.setting) (polls_add ends.polls (root_of crew plan) ends.root ends.polled).net
     ∙ opened.setting in
     let game_is : ends.finishes.game ≡ game =
-    ends.finishes.unfed (ap (λ (g : Setting). g.fed) setting) ∙ ap game_of_setting setting in
+    ends.finishes.unfed (ap (λ (g : Setting). g.fed) setting) ∙ ap (λ (s : Setting). s.game) setting in
     subst (λ (g : ChipGame). IsPlayed g f.outcome) game_is
     (ends.finishes.played (unsealed_by plan crew (root_of crew plan) refl f.receipt f.outcome ends none))
 
@@ -119,7 +119,7 @@ closing_stops crew feeds old turns joined shut fault.NoMemory passed roll why = 
 closing_stops crew feeds old turns joined shut fault.Spawn passed roll why = absurd why
 closing_stops crew feeds old turns joined shut fault.GateShut passed roll why = passed why
 closing_stops crew feeds old turns joined shut (fault.Doubled v) passed roll why = subst
-    (λ (o : Option ℕ). IfSome o (λ (w : ℕ). w < crew.net.setting.graph.vertices)) why.1 roll.doubled
+    (λ (o : Option ℕ). IfSome o (λ (w : ℕ). w < crew.net.setting.game.graph.vertices)) why.1 roll.doubled
 closing_stops crew feeds old turns joined shut (fault.Lost v) passed roll why =
     subst (λ (n : ℕ). v < n) roll.seats.count (placed joined.roll.seats.items v None why.1.1.free)
 closing_stops crew feeds old turns joined shut (fault.Unfinished deficit root) passed roll why = why.1
@@ -156,9 +156,9 @@ stopped_by game plan may_shut crew fault.NoMemory opened why = opened.within
 stopped_by game plan may_shut crew fault.Spawn opened why = opened.within
 stopped_by game plan may_shut crew fault.GateShut opened why = (opened.within, why)
 stopped_by game plan may_shut crew (fault.Doubled v) opened why =
-    (opened.within, subst (λ (g : Setting). v < g.graph.vertices) opened.setting why)
+    (opened.within, subst (λ (g : Setting). v < g.game.graph.vertices) opened.setting why)
 stopped_by game plan may_shut crew (fault.Lost v) opened why =
-    (opened.within, subst (λ (g : Setting). v < g.graph.vertices) opened.setting why)
+    (opened.within, subst (λ (g : Setting). v < g.game.graph.vertices) opened.setting why)
 stopped_by game plan may_shut crew (fault.Unfinished deficit root) opened why =
     (crew, opened, open_unfed game plan crew root deficit opened why)
 

@@ -13,11 +13,11 @@ pub still_ours : (crew : CrewId) (old new : ActorKnown) → (new.net ≡ old.net
     × (new.room ≡ old.room) → IsOurs crew old → IsOurs crew new
 still_ours crew old new same ours = (
   same.0 ∙ ours.0,
-  subst (λ (v : ℕ). v < crew.net.setting.graph.vertices) (sym same.1) ours.1,
+  subst (λ (v : ℕ). v < crew.net.setting.game.graph.vertices) (sym same.1) ours.1,
   same.2 ∙ ours.2,
 )
 
-pub ours_by : (net : NetId) (room n : ℕ) (actors : List ActorKnown) → net.setting.graph.vertices ≡ n
+pub ours_by : (net : NetId) (room n : ℕ) (actors : List ActorKnown) → net.setting.game.graph.vertices ≡ n
     → length actors ≡ n → ((v : ℕ) → v < n → slice_get actors v ≡ Some (newcomer net room v))
     → All (IsOurs (record { net = net; room = room })) actors
 ours_by net room n actors vertices count each k d less =

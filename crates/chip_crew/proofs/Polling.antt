@@ -15,7 +15,7 @@ polled_same k j old now here count is polled =
 
 -- one poll more
 pub polled_more : (k : ℕ) (old before now : RootKnown) → Polled k old before
-    → IsPolling before now before.net.setting.graph.vertices → Polled (k + 1) old now
+    → IsPolling before now before.net.setting.game.graph.vertices → Polled (k + 1) old now
 polled_more k old before now first poll = subst (λ (n : ℕ). Polled n old now) (sym (add-one k)) (before, first, poll)
 
 -- what the last of some polls answers

@@ -14,17 +14,17 @@ no_crew = record { net = no_actor.net; room = 0 }
 
 -- the net opened this actor
 abbrev pub IsOurs : CrewId → ActorKnown → Type 0
-IsOurs crew a = (a.net ≡ crew.net) × (a.vertex < crew.net.setting.graph.vertices) × (a.room ≡ crew.room)
+IsOurs crew a = (a.net ≡ crew.net) × (a.vertex < crew.net.setting.game.graph.vertices) × (a.room ≡ crew.room)
 
 -- the root was polled so many times more
 abbrev pub Polled : ℕ → RootKnown → RootKnown → Type 0
 Polled zero old now = now ≡ old
 Polled (suc k) old now =
-    (before : RootKnown) × Polled k old before × IsPolling before now before.net.setting.graph.vertices
+    (before : RootKnown) × Polled k old before × IsPolling before now before.net.setting.game.graph.vertices
 
 -- the place of each vertex has its actor, or none yet
 pub record AreSeats (crew : CrewId) (seats : List (Option ActorKnown)) : Type 0 where
-  pub count : length seats ≡ crew.net.setting.graph.vertices
+  pub count : length seats ≡ crew.net.setting.game.graph.vertices
   pub each : (v : ℕ) (a : ActorKnown) → slice_get seats v ≡ Some (Some a) → IsOurs crew a × (a.vertex ≡ v)
 
 -- actors of the first vertices, each once, ascending
@@ -33,5 +33,5 @@ AreInOrder crew actors = (v : ℕ) (a : ActorKnown) → slice_get actors v ≡ S
 
 -- the actors of all vertices, each once, ascending
 pub record AreActors (crew : CrewId) (actors : List ActorKnown) : Type 0 where
-  pub count : length actors ≡ crew.net.setting.graph.vertices
+  pub count : length actors ≡ crew.net.setting.game.graph.vertices
   pub order : AreInOrder crew actors

@@ -13,7 +13,7 @@ Left = Option (List (ℕ × ℕ))
 -- they stay within the total
 pub record MayFeed (root : RootKnown) (left : List (ℕ × ℕ)) : Type 0 where
   pub not_ended : has_ended root ≡ false
-  pub each : All (λ pair. (pair.0 < root.net.setting.graph.vertices) × (0 < pair.1)) left
+  pub each : All (λ pair. (pair.0 < root.net.setting.game.graph.vertices) × (0 < pair.1)) left
   pub within : all_given root + all_brought left ≤ max_total
 
 -- so it may, where the end isn't noted
@@ -43,4 +43,4 @@ abbrev pub IsLed : ℕ → Left → RootKnown → Left → RootKnown → Type 0
 IsLed zero feeds old left now = (left ≡ feeds) × (now ≡ old)
 IsLed (suc k) feeds old left now =
     (rest : Left) × (before : RootKnown) × (fed : RootKnown) × IsLed k feeds old rest before
-    × FeedsOnce rest left before fed × IsPolling fed now fed.net.setting.graph.vertices
+    × FeedsOnce rest left before fed × IsPolling fed now fed.net.setting.game.graph.vertices

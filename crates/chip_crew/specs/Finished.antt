@@ -90,8 +90,8 @@ IsStopped crew feeds old turns shut fault.Total = ⊥
 IsStopped crew feeds old turns shut fault.NoMemory = ⊤
 IsStopped crew feeds old turns shut fault.Spawn = ⊤
 IsStopped crew feeds old turns shut fault.GateShut = shut
-IsStopped crew feeds old turns shut (fault.Doubled v) = v < crew.net.setting.graph.vertices
-IsStopped crew feeds old turns shut (fault.Lost v) = v < crew.net.setting.graph.vertices
+IsStopped crew feeds old turns shut (fault.Doubled v) = v < crew.net.setting.game.graph.vertices
+IsStopped crew feeds old turns shut (fault.Lost v) = v < crew.net.setting.game.graph.vertices
 IsStopped crew feeds old turns shut (fault.Unfinished deficit root) =
     StaysOpenFed turns feeds old root deficit
 

@@ -17,8 +17,8 @@ least (Some w) v = min w v
 pub record IsRoll (crew : CrewId) (roll : Roll) : Type 0 where
   pub seats : AreSeats crew roll.seats.items
   pub none_yet : roll.actors.items ≡ []
-  pub room : crew.net.setting.graph.vertices ≤ vec_capacity roll.actors
-  pub doubled : IfSome roll.doubled (λ v. v < crew.net.setting.graph.vertices)
+  pub room : crew.net.setting.game.graph.vertices ≤ vec_capacity roll.actors
+  pub doubled : IfSome roll.doubled (λ v. v < crew.net.setting.game.graph.vertices)
 
 -- the place of this vertex has an actor
 abbrev pub IsSeated : List (Option ActorKnown) → ℕ → Type 0

@@ -1,5 +1,5 @@
 -- What a worker does with its actors.
-use Rattle.std.specs.Prelude.{◌≡◌, List, [], ◌∷◌, ◌++◌, Option, Some, None}
+use Rattle.std.specs.Prelude.{◌≡◌, [], ◌∷◌, ◌++◌, Option, Some, None}
 use Rattle.chip_net.specs.Tokens.{ActorKnown, MakesTurn}
 use Rattle.chip_net.specs.declared.actor.Turn.{Turn}
 use Rattle.chip_crew.specs.declared.queue.Ledger.{Ledger}

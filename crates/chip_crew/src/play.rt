@@ -123,8 +123,8 @@ fn prepared<B: Room>(
     workers: usize,
 ) -> Result<Ground<B>, AllocError>
     requires actors { All (IsOurs B.crew) actors.items }
-    requires count { length actors.items ≡ B.crew.net.setting.graph.vertices }
-    requires some { 0 < B.crew.net.setting.graph.vertices }
+    requires count { length actors.items ≡ B.crew.net.setting.game.graph.vertices }
+    requires some { 0 < B.crew.net.setting.game.graph.vertices }
     ensures pass { IfOk result (λ k. IsPassOf k.line k.pass) }
     ensures others { IfOk result (λ k. (k.others.items ≡ []) × (workers ≤ vec_capacity k.others)) }
     ensures roll { IfOk result (λ k. IsRoll B.crew k.roll) }
@@ -198,8 +198,8 @@ fn played_on<R: Threads + Wait, B: Room + Send + Sync, G: Gate + Sync>(
     requires actors { All (IsOurs B.crew) opened.2.items }
     requires stopper { IfSome opened.3 (λ s. s.net ≡ B.crew.net) }
     requires feeds { (option_copied feeds ≡ B.feeds) × MayFeedLeft B.root B.feeds }
-    requires count { length opened.2.items ≡ B.crew.net.setting.graph.vertices }
-    requires some { 0 < B.crew.net.setting.graph.vertices }
+    requires count { length opened.2.items ≡ B.crew.net.setting.game.graph.vertices }
+    requires some { 0 < B.crew.net.setting.game.graph.vertices }
     requires turns { plan.now.turns ≡ B.turns }
     requires some_workers { 0 < plan.now.workers }
     requires gate { AllTellShut (G.may_shut gate.now) plan.now.workers plan.now.turns B.shut }

@@ -21,7 +21,7 @@ pub(crate) struct Roll {
 
 /// A roll on which there is no actor yet.
 pub(crate) fn empty_roll<B: Room>(alloc: Global, vertices: usize) -> Result<Roll, AllocError>
-    requires { vertices ≡ B.crew.net.setting.graph.vertices }
+    requires { vertices ≡ B.crew.net.setting.game.graph.vertices }
     ensures { IfOk result (IsRoll B.crew) }
 {
     let mut seats = Vec::with_capacity(alloc, vertices)?;

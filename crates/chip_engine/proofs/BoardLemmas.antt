@@ -21,7 +21,7 @@ four_pieces old a b c d t1 t2 t3 t4 one two three four =
 
 -- the line of an engaged vertex
 pub vertex_line_is : (g : Setting) (log : Log) (v parent owes last : ℕ) (edges old : List ℕ)
-    → Some parent ≡ (part_in g log v).parent → owes ≡ deficit g v (part_in g log v) → edges ≡ edges_in g.graph v
+    → Some parent ≡ (part_in g log v).parent → owes ≡ deficit g v (part_in g log v) → edges ≡ edges_in g.game.graph v
     → last ≡ root_edge g v
     → old ++ (books_text v parent owes ++ lines_text (owed_text g log) edges ++ owed_text g log last ++ codes "\n")
     ≡ old ++ vertex_line g log v (part_in g log v).parent

@@ -80,7 +80,7 @@ plain_tells_play graph_text chips_text limit report ended (h, means', text, repo
 
 pub simulate_tells_play : SimulateTellsPlay
 simulate_tells_play g log end report status ends is =
-    first_tells g.graph (started g log) ends.outcome ends.reportable (
+    first_tells g.game.graph (started g log) ends.outcome ends.reportable (
       _,
       record { sequence = ends.comes.sequence; counted = ends.comes.counted; position = ends.comes.position },
     )

@@ -1,25 +1,19 @@
 -- From the parts of an engine to its whole.
-use Rattle.std.proofs.Common.{◌≡◌, ◌⊎◌, ℕ, ◌^◌, ◌==◌, nat_le, Bool, true, false, List, length, sum, Option, Some, None}
-use Rattle.std.proofs.Common.{Result, Ok, Err, String, Global, refl, subst, inl, inr}
-use Rattle.std.proofs.lemmas.Bool.{eqb-true, leb-true}
-use Rattle.std.specs.Option.{IfSome}
+use Rattle.std.proofs.Common.{◌≡◌, ◌⊎◌, ℕ, Bool, List, Option, Some}
+use Rattle.std.proofs.Common.{Result, Ok, Err, String, Global, subst, inl, inr}
 use Rattle.std.specs.Result.{IsErrAnd}
-use Rattle.std.specs.Io.KnownBytes.{Keeps}
 use Rattle.chip_part.specs.Setting.{setting_with}
 use Rattle.chip_command.proofs.InputLemmas.{Keeps-same}
 use Rattle.chip_graph.specs.Multigraph.{Multigraph}
-use Rattle.chip_graph.specs.ChipGame.{ChipGame, IsGame}
-use Rattle.chip_graph.specs.Faults.{first_of_faults, unless, fault_of_game}
-use Rattle.chip_graph.specs.declared.fault.GameFault.TheVariants as game_fault
+use Rattle.chip_graph.specs.ChipGame.{ChipGame}
 use Rattle.chip_file.specs.GraphText.{MeansGraph, IsGraphTextFault}
-use Rattle.chip_file.specs.ChipsText.{chips_of_text}
 use Rattle.chip_file.specs.TraceText.{traces_of_text}
 use Rattle.chip_file.specs.ScheduleText.{schedule_of_text}
 use Rattle.chip_trace.specs.declared.fault.ReplayFault.{ReplayFault}
 use Rattle.chip_trace.specs.declared.fault.ReplayFault.TheVariants as replay_fault
 use Rattle.chip_trace.specs.Replay.{IsReplayFault}
 use Rattle.chip_command.specs.Faults.{fault_of_replay}
-use Rattle.chip_command.specs.Inputs.{Reads, RefusesText, NamesGame, MeansGame, RefusesInputs, GivesGame}
+use Rattle.chip_command.specs.Inputs.{Reads, RefusesText, MeansGame, RefusesInputs}
 use Rattle.chip_engine.specs.PlainCommand.{PlainAnswers}
 use Rattle.chip_command.specs.Reports.{Reports}
 use Rattle.chip_link.specs.declared.trace.TraceRow.{TraceRow}

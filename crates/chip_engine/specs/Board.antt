@@ -25,7 +25,7 @@ abbrev pub vertex_line : Setting → Log → ℕ → Option ℕ → List ℕ
 vertex_line g log v None = []
 vertex_line g log v (Some parent) =
     books_text v parent (deficit g v (part_in g log v))
-    ++ lines_text (owed_text g log) (edges_in g.graph v) ++ owed_text g log (root_edge g v) ++ codes "\n"
+    ++ lines_text (owed_text g log) (edges_in g.game.graph v) ++ owed_text g log (root_edge g v) ++ codes "\n"
 
 -- the lines of the vertices below n
 abbrev pub vertex_lines : Setting → Log → ℕ → List ℕ
@@ -38,4 +38,4 @@ root_line deficit = codes "  root deficit " ++ decimal deficit ++ codes "\n"
 
 -- the line of the root, and those of the vertices
 abbrev pub board_text : Setting → Log → List ℕ
-board_text g log = root_line (deficit g (root g) (part_in g log (root g))) ++ vertex_lines g log g.graph.vertices
+board_text g log = root_line (deficit g (root g) (part_in g log (root g))) ++ vertex_lines g log g.game.graph.vertices

@@ -41,7 +41,7 @@ PlainTellsPlay =
 abbrev pub SimulateTellsPlay : Type 0
 SimulateTellsPlay =
     (g : Setting) (log : Log) (end report : List ℕ) (status : ℕ) → EndsClosed g log end status
-    → end ≡ codes "root closed\n" ++ report → TellsPlayFrom g.graph (started g log) report
+    → end ≡ codes "root closed\n" ++ report → TellsPlayFrom g.game.graph (started g log) report
 
 -- however often a play was resumed since a report that tells it from x, and once more: the last report leads to the end
 -- of the play that was never stopped

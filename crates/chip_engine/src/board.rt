@@ -8,32 +8,24 @@ ghost use Rattle.chip_world.specs.World.{WhateverLog};
 ghost use Rattle.chip_engine.specs.Lines.{lines_text};
 ghost use Rattle.chip_engine.specs.Board.{board_text, root_line, books_text, vertex_line, owed_text};
 
-use chip_graph::Graph;
 use chip_world::World;
 use std::alloc::AllocError;
 
-/// Appends the board of a world on this graph: the root's deficit, and a line for each engaged vertex.
-pub(crate) fn push_board(lines: &mut String, world: &World, graph: &Graph) -> Result<(), AllocError>
-    requires { world.now.setting.graph ≡ graph.now }
+/// Appends the board of a world: the root's deficit, and a line for each engaged vertex.
+pub(crate) fn push_board(lines: &mut String, world: &World) -> Result<(), AllocError>
     ensures { IfOk result (λ _. WhateverLog world.now
         (λ g log. string_bytes lines.new ≡ string_bytes lines.old ++ board_text g log)) }
 {
     push_root(lines, world.root_deficit())?;
-    for vertex in 0..graph.vertices() {
-        push_vertex(lines, world, graph, vertex)?;
+    for vertex in 0..world.setting().vertices() {
+        push_vertex(lines, world, vertex)?;
     }
     Ok(())
 }
 
 /// Appends the line of a vertex, where it is engaged.
-fn push_vertex(
-    lines: &mut String,
-    world: &World,
-    graph: &Graph,
-    vertex: u64,
-) -> Result<(), AllocError>
-    requires graph { world.now.setting.graph ≡ graph.now }
-    requires vertex { vertex < graph.now.vertices }
+fn push_vertex(lines: &mut String, world: &World, vertex: u64) -> Result<(), AllocError>
+    requires { vertex < world.now.setting.game.graph.vertices }
     ensures { IfOk result (λ _. WhateverLog world.now (λ g log. string_bytes lines.new
         ≡ string_bytes lines.old ++ vertex_line g log vertex (part_in g log vertex).parent)) }
 {
@@ -41,8 +33,9 @@ fn push_vertex(
         return Ok(());
     };
     push_books(lines, vertex, parent, world.deficit(vertex))?;
-    push_all_owed(lines, world, graph.ins(vertex))?;
-    push_owed(lines, world, graph.edges().len() as u64 + vertex)?;
+    let setting = world.setting();
+    push_all_owed(lines, world, setting.game().graph().ins(vertex))?;
+    push_owed(lines, world, setting.root_edge(vertex))?;
     lines.push_str("\n")?;
     Ok(())
 }

@@ -2,7 +2,7 @@
 
 ghost use Rattle.std.specs.Prelude.{◌≡◌, ◌++◌, [], IfOk, IfErr, codes, string_bytes};
 ghost use Rattle.std.specs.Option.{ForSome};
-ghost use Rattle.chip_part.specs.Setting.{Setting, setting_with};
+ghost use Rattle.chip_part.specs.Setting.{Setting};
 ghost use Rattle.chip_core.specs.Core.{Log, IsClosed, log_after};
 ghost use Rattle.chip_world.specs.World.{StandsForLog, WhateverLog};
 ghost use Rattle.chip_world.specs.declared.world.driving.Drive.TheVariants.{Closed};
@@ -13,9 +13,8 @@ ghost use Rattle.chip_engine.specs.SimulateCommand.{message_text, reply_text, an
 use crate::board::push_board;
 use chip_command::{Ended, Fault, OPEN, read_game, status_of};
 use chip_file::read_schedule;
-use chip_graph::{Game, Graph};
 use chip_link::{Event, Message, Ring};
-use chip_part::Reply;
+use chip_part::{Reply, Setting};
 use chip_report::report::report;
 use chip_report::write_all_of;
 use chip_world::{Drive, World, WorldFault};
@@ -46,7 +45,8 @@ pub fn simulate_engine<G: Read, C: Read, S: Read, W: Write>(
 {
     let game = read_game(alloc, graph, chips, limit)?;
     let events = read_schedule(alloc, schedule, game.graph())?;
-    let (text, status) = simulated(alloc, &game, &events, ring, rounds, books, fed)?;
+    let setting = Setting::new(game, ring, fed);
+    let (text, status) = simulated(alloc, setting, &events, rounds, books)?;
     write_all_of(output, &text)?;
     Ok(Ended { status, cut: false })
 }
@@ -54,37 +54,32 @@ pub fn simulate_engine<G: Read, C: Read, S: Read, W: Write>(
 /// The lines of a simulation, and the exit status.
 fn simulated(
     alloc: Global,
-    game: &Game,
+    setting: Setting,
     events: &[Event],
-    ring: Ring,
     rounds: u64,
     books: bool,
-    fed: bool,
 ) -> Result<(Vec<u8>, u8), Fault>
-    ensures ok { IfOk result
-        (λ made. Simulates (setting_with game.now ring fed) rounds books events.now made.0.items made.1) }
+    ensures ok { IfOk result (λ made. Simulates setting rounds books events.now made.0.items made.1) }
     ensures err { IfErr result (λ fault. fault ≡ NoMemory) }
 {
-    let mut world = opened(alloc, game, ring, fed)?;
-    run(alloc, &mut world, game.graph(), events, rounds, books)
+    let mut world = World::of(alloc, setting)?;
+    run(alloc, &mut world, events, rounds, books)
 }
 
 /// Runs a world from its opening, through a schedule and then some rounds: the lines, and the exit status.
 fn run(
     alloc: Global,
     world: &mut World,
-    graph: &Graph,
     events: &[Event],
     rounds: u64,
     books: bool,
 ) -> Result<(Vec<u8>, u8), Fault>
-    requires opening { StandsForLog world.old.setting [] world.old }
-    requires graph { world.old.setting.graph ≡ graph.now }
+    requires { StandsForLog world.old.setting [] world.old }
     ensures ok { IfOk result
         (λ made. Simulates world.old.setting rounds books events.now made.0.items made.1) }
     ensures err { IfErr result (λ fault. fault ≡ NoMemory) }
 {
-    let mut text = scheduled(alloc, world, graph, events, books)?;
+    let mut text = scheduled(alloc, world, events, books)?;
     let drive = world.drive(rounds);
     let (end, status) = end_of(alloc, world, drive)?;
     text.extend_from_slice(&end)?;
@@ -95,12 +90,10 @@ fn run(
 fn scheduled(
     alloc: Global,
     world: &mut World,
-    graph: &Graph,
     events: &[Event],
     books: bool,
 ) -> Result<Vec<u8>, AllocError>
-    requires opening { StandsForLog world.old.setting [] world.old }
-    requires graph { world.old.setting.graph ≡ graph.now }
+    requires { StandsForLog world.old.setting [] world.old }
     ensures world { IfOk result
         (λ _. let g = world.old.setting in StandsForLog g (log_after g [] events.now) world.new) }
     ensures lines { IfOk result (λ lines. lines.items ≡ answers_text books world.old.setting [] events.now) }
@@ -108,20 +101,9 @@ fn scheduled(
     let mut lines = String::new(alloc);
     for event in events {
         let reply = world.step(*event);
-        push_answer(&mut lines, reply, world, graph, books)?;
+        push_answer(&mut lines, reply, world, books)?;
     }
     Ok(lines.into_bytes())
-}
-
-/// The world at its opening, which may be fed or not.
-fn opened(alloc: Global, game: &Game, ring: Ring, fed: bool) -> Result<World, AllocError>
-    ensures { IfOk result (StandsForLog (setting_with game.now ring fed) []) }
-{
-    if fed {
-        World::open_fed(alloc, game, ring)
-    } else {
-        World::open(alloc, game, ring)
-    }
 }
 
 /// The end of a run whose rounds ended so, and the exit status.
@@ -167,16 +149,14 @@ fn push_answer(
     lines: &mut String,
     reply: Reply,
     world: &World,
-    graph: &Graph,
     books: bool,
 ) -> Result<(), AllocError>
-    requires { world.now.setting.graph ≡ graph.now }
     ensures { IfOk result (λ _. WhateverLog world.now (λ g log.
         string_bytes lines.new ≡ string_bytes lines.old ++ answer_text books g log reply)) }
 {
     push_reply(lines, reply)?;
     if books {
-        push_board(lines, world, graph)?;
+        push_board(lines, world)?;
     }
     Ok(())
 }

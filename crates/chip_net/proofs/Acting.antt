@@ -29,10 +29,10 @@ rows_push [] x = append-nil (row_of x.event x.seen)
 rows_push (y ∷ ys) x = ap (λ (rows : List TraceRow). row_of y.event y.seen ++ rows) (rows_push ys x)
     ∙ sym (append_assoc (row_of y.event y.seen) (rows_of ys) (row_of x.event x.seen))
 
-module _ (i : Inside) (hand : IsHand i.setup.value i.vertex i.seat.me.0 i.trace) (own : ActorKnown)
+module _ (i : Inside) (hand : IsHand i.setting.value i.vertex i.seat.me.0 i.trace) (own : ActorKnown)
     (view_is : the_view i ≡ own) (here : NetId) (net_is : own.net ≡ here) (act : Act) (due : IsDueFor own act) where
   abbrev g : Setting
-  g = i.setup.value
+  g = i.setting.value
 
   abbrev v : ℕ
   v = i.vertex
@@ -46,7 +46,7 @@ module _ (i : Inside) (hand : IsHand i.setup.value i.vertex i.seat.me.0 i.trace)
   due' : IsDueBy g v (part_of_view g v view) act
   due' = subst (λ (k : ActorKnown). IsDueFor k act) (sym view_is) due
 
-  here_is : record { table = i.seat.table_id; setting = i.setup.value } ≡ here
+  here_is : record { table = i.seat.table_id; setting = i.setting.value } ≡ here
   here_is = ap (λ (k : ActorKnown). k.net) view_is ∙ net_is
 
   setting_is : (s : Setting) → s ≡ here.setting → g ≡ s
@@ -107,7 +107,7 @@ module _ (i : Inside) (hand : IsHand i.setup.value i.vertex i.seat.me.0 i.trace)
         let log = stepped.log in
         let told' : FitsSeen (part_in g log (part_of g x)) x (sees g log x) =
         fits_seen g hand.setting.game hand.setting.some_ring log stepped.legal.0 x
-        (subst (λ (n : ℕ). n < g.graph.vertices) (sym due'.mine) hand.inside) stepped.legal.1.0 in
+        (subst (λ (n : ℕ). n < g.game.graph.vertices) (sym due'.mine) hand.inside) stepped.legal.1.0 in
         subst (λ (z : Part × ℕ). FitsSeen z.0 x z.1)
         (λ j. ((ap (part_in g log) due'.mine ∙ sym in_log) j, sym stepped.legal.1.1 j)) told'
 

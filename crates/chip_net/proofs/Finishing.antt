@@ -1,41 +1,40 @@
 -- What the root makes of its reads.
-use Rattle.std.proofs.Common.{◌≡◌, ℕ, zero, suc, ◌<◌, ◌||◌, ◌&&◌, Bool, not, true, false, List, [], ◌∷◌, length, map}
+use Rattle.std.proofs.Common.{◌≡◌, ℕ, zero, suc, ◌<◌, ◌≤◌, sum, ◌||◌, ◌&&◌, Bool, not, true, false, List, [], ◌∷◌, length, map}
 use Rattle.std.proofs.Common.{get_or, slice_index, Option, Some, None, is_some, Contains, refl, sym, ap, ◌∙◌, subst}
 use Rattle.std.proofs.Common.{arith}
 use Rattle.std.proofs.lemmas.List.{get_or_past, length-map}
 use Rattle.chip_graph.specs.ChipGame.{ChipGame}
+use Rattle.chip_graph.specs.Limits.{max_total}
 use Rattle.chip_graph.specs.Multigraph.{Multigraph}
 use Rattle.chip_graph.specs.More.{HasMore}
 use Rattle.chip_graph.specs.Sums.{picked}
 use Rattle.chip_sequence.specs.declared.outcome.Outcome.{Outcome}
 use Rattle.chip_sequence.specs.Counted.{IsBelowZero, IsAfter}
-use Rattle.chip_sequence.specs.Faults.{IsNegative}
-use Rattle.chip_sequence.specs.declared.counted.AfterFault.{AfterFault}
-use Rattle.chip_sequence.specs.declared.counted.AfterFault.TheVariants.{Negative, NoMemory}
 use Rattle.chip_sequence.specs.Play.{IsPlayed}
 use Rattle.chip_sequence.specs.Sequence.{HasEnded}
 use Rattle.chip_sequence.proofs.LegalLemmas.{picked_no, picked_ext, picked_has}
 use Rattle.chip_sequence.proofs.BoundLemmas.{same_ends}
 use Rattle.chip_link.specs.Words.{fired_in, halted_in, by_limit_in, is_fired_word}
-use Rattle.chip_part.specs.Setting.{Setting, IsSetting, game_of_setting}
+use Rattle.chip_part.specs.Setting.{Setting, IsSetting}
 use Rattle.chip_part.specs.declared.cause.Cause.{Cause}
 use Rattle.chip_part.specs.declared.cause.Cause.TheVariants.{SealedEdge, FiringLimit}
 use Rattle.chip_part.specs.Edges.{root}
-use Rattle.chip_part.specs.Part.{is_by_limit}
+use Rattle.chip_part.specs.Part.{Part, opened, is_by_limit, AreGiven}
 use Rattle.chip_core.specs.Core.{Log, part_in, word_of_part, IsLegalLog}
 use Rattle.chip_core.specs.Laws.{WordsOf}
 use Rattle.chip_core.specs.Headline.{NoneHalted, NoneHaltedBySeal}
-use Rattle.chip_core.specs.Histories.{done_by}
+use Rattle.chip_core.specs.Histories.{done_by, part_by}
 use Rattle.chip_core.specs.Positions.{started, played_game, firings, fed_in}
 use Rattle.chip_core.specs.Outcomes.{is_by_seal, AreFired, IsOutcomeOf, ComesTo}
 use Rattle.chip_core.proofs.NumberLemmas.{words_tell}
-use Rattle.chip_core.proofs.GivenLemmas.{given_is, played_has_more, unfed_played}
+use Rattle.chip_core.proofs.ReachingLemmas.{by_history}
+use Rattle.chip_core.proofs.GivenLemmas.{given_is, given_start, given_within, played_has_more, unfed_played}
 use Rattle.chip_core.proofs.ClosingLemmas.{all_ended}
 use Rattle.chip_core.proofs.OutcomeLemmas.{never_negative, comes, in_range, is_played}
-use Rattle.chip_net.specs.Roots.{RootKnown, root_after, fed_by}
+use Rattle.chip_net.specs.Roots.{RootKnown, root_part, root_after, fed_by}
 use Rattle.chip_net.specs.Finish.{reads_from, IsReadOut, TallyState, limit_at, seal_at, IsReading, IsOneEnd, Finishes}
-use Rattle.chip_net.proofs.Feeding.{one_more}
-use Rattle.chip_net.proofs.Reading.{reads_feed_none}
+use Rattle.chip_net.proofs.Viewing.{part_append}
+use Rattle.chip_net.proofs.Reading.{reads_feed_none, reads_given}
 use Rattle.chip_net.proofs.Unsealed.{never_sealed}
 
 none_listed : (v : ℕ) → Contains [] v → ⊥
@@ -71,8 +70,8 @@ mapped f zero_is (x ∷ xs) zero = refl
 mapped f zero_is (x ∷ xs) (suc k) = mapped f zero_is xs k
 
 module _ (old now : RootKnown) (setting : IsSetting old.net.setting) (tally : TallyState)
-    (reading : IsReading old now tally old.net.setting.graph.vertices) (game : ChipGame)
-    (more : HasMore (game_of_setting old.net.setting) (fed_by old) game) where
+    (reading : IsReading old now tally old.net.setting.game.graph.vertices) (given : List ℕ)
+    (are : AreGiven old.net.setting (root_part old) given) where
   abbrev h : Setting
   h = old.net.setting
 
@@ -86,10 +85,33 @@ module _ (old now : RootKnown) (setting : IsSetting old.net.setting) (tally : Ta
   recorded : fed_in h (done_by h (root h) out'.log) ≡ fed_by old
   recorded = ap (fed_in h) (sym out'.agrees.root_did) ∙ reads_feed_none h old.did 0 reading.words
 
+  -- what was given is the start of the game that was played
+  root_is : part_in h out'.log (root h) ≡ part_by h (root_part old) (reads_from 0 reading.words)
+  root_is = by_history h out'.log (root h) ∙ ap (part_by h (opened h)) (sym out'.agrees.root_did)
+      ∙ part_append h (opened h) old.did (reads_from 0 reading.words)
+
+  start_is : given ≡ (played_game h out'.log).start
+  start_is = given_start h out'.log given (subst (λ (s : Part). AreGiven h s given) (sym root_is)
+      (reads_given h (root_part old) 0 reading.words given are))
+
+  pub few : sum given ≤ max_total
+  few = subst (λ (xs : List ℕ). sum xs ≤ max_total) (sym start_is)
+      (given_within h setting.game setting.some_ring out'.log out'.legal)
+
+  abbrev pub game : ChipGame
+  game = record { graph = h.game.graph; start = given; limit = h.game.limit }
+
   same_game : played_game h out'.log ≡ game
-  same_game = one_more (game_of_setting h) (played_game h out'.log) game (fed_by old)
-      (subst (λ (fed : List (ℕ × ℕ)). HasMore (game_of_setting h) fed (played_game h out'.log)) recorded
-      (played_has_more h setting.game setting.some_ring out'.log out'.legal)) more
+  same_game = λ j. let k : ChipGame = record {
+    graph = h.game.graph;
+    start = sym start_is j;
+    limit = h.game.limit;
+  } in k
+
+  more : HasMore h.game (fed_by old) game
+  more = subst (HasMore h.game (fed_by old)) same_game
+      (subst (λ (fed : List (ℕ × ℕ)). HasMore h.game fed (played_game h out'.log)) recorded
+      (played_has_more h setting.game setting.some_ring out'.log out'.legal))
 
   from : started h out'.log ≡ slice_index game.start
   from = sym (given_is h setting.game setting.some_ring out'.log out'.legal)
@@ -98,11 +120,11 @@ module _ (old now : RootKnown) (setting : IsSetting old.net.setting) (tally : Ta
   told : WordsOf h out'.log
   told = words_tell h setting.game setting.some_ring out'.log out'.legal
 
-  word_at : (v : ℕ) → v < h.graph.vertices → get_or reading.words v 0 ≡ word_of_part (part_in h out'.log v)
+  word_at : (v : ℕ) → v < h.game.graph.vertices → get_or reading.words v 0 ≡ word_of_part (part_in h out'.log v)
   word_at v l = out'.words_are v (let c = reading.count_is in omega arith)
 
   module _ (fired : List ℕ) (fired_is : fired ≡ tally.fired) where
-    are_fired : AreFired h out'.log h.graph.vertices fired
+    are_fired : AreFired h out'.log h.game.graph.vertices fired
     are_fired = record {
       count_is = ap length (fired_is ∙ reading.tallied.fired) ∙ length-map reading.words fired_in ∙ reading.count_is;
       each = λ v l. ap (λ (xs : List ℕ). get_or xs v 0) (fired_is ∙ reading.tallied.fired)
@@ -121,10 +143,10 @@ module _ (old now : RootKnown) (setting : IsSetting old.net.setting) (tally : Ta
       fired = are_fired o.fired.items fired_is;
       chips = subst (λ (k : ChipGame). IsAfter k o.fired.items o.chips.items) (sym same_game) chips;
       over = over_is ∙ reading.tallied.over ∙ ap (picked (limit_at reading.words)) reading.count_is
-          ∙ picked_ext (limit_at reading.words) (λ v. is_by_limit (part_in h out'.log v).halt) h.graph.vertices
+          ∙ picked_ext (limit_at reading.words) (λ v. is_by_limit (part_in h out'.log v).halt) h.game.graph.vertices
           (λ v l. ap by_limit_in (word_at v l) ∙ told.by_limit v);
       sealed = sealed_is ∙ reading.tallied.sealed ∙ ap (picked (seal_at reading.words)) reading.count_is
-          ∙ picked_ext (seal_at reading.words) (λ v. is_by_seal (part_in h out'.log v).halt) h.graph.vertices
+          ∙ picked_ext (seal_at reading.words) (λ v. is_by_seal (part_in h out'.log v).halt) h.game.graph.vertices
           (λ v l. ap (λ (w : ℕ). halted_in w && not (by_limit_in w)) (word_at v l)
           ∙ (λ i. told.halted v i && not (told.by_limit v i)) ∙ seal_is (part_in h out'.log v).halt);
     }
@@ -133,7 +155,7 @@ module _ (old now : RootKnown) (setting : IsSetting old.net.setting) (tally : Ta
     no_seals : o.sealed.items ≡ [] → NoneHaltedBySeal h out'.log
     no_seals empty v l seal = none_listed v
         (subst (λ (xs : List ℕ). Contains xs v) (sym outcome_is.sealed
-        ∙ empty) (picked_has (λ u. is_by_seal (part_in h out'.log u).halt) h.graph.vertices v l (ap is_by_seal seal)))
+        ∙ empty) (picked_has (λ u. is_by_seal (part_in h out'.log u).halt) h.game.graph.vertices v l (ap is_by_seal seal)))
 
     -- and where the limit's list is empty too, none halted at all
     no_halts : o.over.items ≡ [] → o.sealed.items ≡ [] → NoneHalted h out'.log
@@ -144,7 +166,7 @@ module _ (old now : RootKnown) (setting : IsSetting old.net.setting) (tally : Ta
         by_cause (Some SealedEdge) is = absurd (no_seals sealed v l is)
         by_cause (Some FiringLimit) is = absurd
             (none_listed v (subst (λ (xs : List ℕ). Contains xs v) (sym outcome_is.over
-            ∙ over) (picked_has (λ u. is_by_limit (part_in h out'.log u).halt) h.graph.vertices v l (ap is_by_limit is))))
+            ∙ over) (picked_has (λ u. is_by_limit (part_in h out'.log u).halt) h.game.graph.vertices v l (ap is_by_limit is))))
 
     all_come : ComesTo h (slice_index game.start) (firings out'.log) o
     all_come = subst (λ (x : ℕ → ℕ). ComesTo h x (firings out'.log) o) from
@@ -153,16 +175,16 @@ module _ (old now : RootKnown) (setting : IsSetting old.net.setting) (tally : Ta
     one_end : o.over.items ≡ [] → o.sealed.items ≡ [] → IsOneEnd game o
     one_end over sealed = subst (λ (G : Multigraph). IsOneEnd (record { graph = G; start = game.start; limit = 0 }) o)
         (sym more.same_graph) (λ vs ok ended.
-        let same = same_ends h.graph setting.game.graph_fits (slice_index game.start)
+        let same = same_ends h.game.graph setting.game.graph_fits (slice_index game.start)
         (firings out'.log) vs all_come.sequence
-        (subst (λ (x : ℕ → ℕ). HasEnded h.graph x (firings out'.log)) from
+        (subst (λ (x : ℕ → ℕ). HasEnded h.game.graph x (firings out'.log)) from
         (all_ended h setting.game setting.some_ring out'.log out'.legal out'.closed (no_halts over sealed))) ok ended
         in
         ((λ v. all_come.counted v ∙ same.0 v), (λ v. all_come.position v ∙ same.1 v)))
 
     -- the stopper's part stands in the root's view, and did nothing
     unsealed : old.stopper_did ≡ Some [] → o.sealed.items ≡ []
-    unsealed none = outcome_is.sealed ∙ picked_none (λ v. is_by_seal (part_in h out'.log v).halt) h.graph.vertices
+    unsealed none = outcome_is.sealed ∙ picked_none (λ v. is_by_seal (part_in h out'.log v).halt) h.game.graph.vertices
         (λ v l. never_sealed h out'.log out'.legal (sym (out'.agrees.stopper_did [] none)) v)
 
     pub finishes : Finishes old now o
@@ -189,9 +211,3 @@ module _ (old now : RootKnown) (setting : IsSetting old.net.setting) (tally : Ta
       one_end = one_end;
       unsealed = unsealed;
     }
-
--- no vertex is below 0, so no fault names one
-pub no_fault : (g : ChipGame) (fired : List ℕ) (fault : AfterFault) → IsNegative g fired fault
-    → ((v : ℕ) → IsBelowZero g.graph (λ u. get_or g.start u 0) (λ u. get_or fired u 0) v → ⊥) → ⊥
-no_fault g fired (Negative v) is none = none v is.below
-no_fault g fired NoMemory is none = is

@@ -71,7 +71,7 @@ module _ (g : Setting) where
       each (of_cell e i) l = zeros (word_count g) _ ∙ sym (none_laid e i)
       each (of_vertex v) l = zeros (word_count g) _
 
-  module _ (v : ℕ) (inside : v < g.graph.vertices) (words : List ℕ) (opening : AreOpening g (graph_edges g + v) words)
+  module _ (v : ℕ) (inside : v < g.game.graph.vertices) (words : List ℕ) (opening : AreOpening g (graph_edges g + v) words)
     where
       abbrev edge : ℕ
       edge = graph_edges g + v
@@ -162,7 +162,7 @@ module _ (g : Setting) where
     setting = setting;
     wide = opening.wide;
     each_part = first;
-    there = λ p l. (opening_view g, refl, part_there (g.graph.vertices + 2) p l);
+    there = λ p l. (opening_view g, refl, part_there (g.game.graph.vertices + 2) p l);
     shown = record {
       edges = λ e l. record {
         word_is = opening.each (of_edge e) l ∙ cond_true (ltb e (all_edges g)) _ 0 (lt-ltb e (all_edges g) l)
@@ -182,7 +182,7 @@ module _ (g : Setting) where
           → find p v.parts ≡ Some did → (0 ≡ j) × (did ≡ [])
       first zero v e p did found = (
         refl,
-        part_empty (g.graph.vertices + 2) p did
+        part_empty (g.game.graph.vertices + 2) p did
             (subst (λ (w : View). find p w.parts ≡ Some did) (sym (some-injective _ _ e)) found),
       )
       first (suc j) v e p did found = absurd (some-ne-none v (sym e))

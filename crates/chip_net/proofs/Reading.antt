@@ -11,7 +11,8 @@ use Rattle.chip_sequence.proofs.LegalLemmas.{picked_ext}
 use Rattle.chip_link.specs.Words.{fired_in, halted_in, by_limit_in}
 use Rattle.chip_part.specs.Setting.{Setting, IsSetting}
 use Rattle.chip_part.specs.Edges.{root, stopper}
-use Rattle.chip_part.specs.Part.{deficit}
+use Rattle.chip_part.specs.Part.{deficit, AreGiven}
+use Rattle.chip_part.specs.Steps.{saw}
 use Rattle.chip_core.specs.Core.{Log, Step, Read, Part, opened, part_of, part_in, does, word_of_part, IsClosed}
 use Rattle.chip_core.specs.Histories.{done_by, part_by}
 use Rattle.chip_core.specs.Positions.{fed_of, fed_in}
@@ -24,7 +25,7 @@ use Rattle.chip_net.proofs.Viewing.{part_append}
 
 -- a read that saw this
 abbrev read : ℕ → ℕ → Step
-read v seen = record { event = Read v; seen = seen }
+read v seen = saw (Read v) seen
 
 -- ---- what a record holds, the log holds
 
@@ -70,6 +71,12 @@ reads_leave g s v (w ∷ ws) = reads_leave g (does g (read v w) s) (suc v) ws
 reads_end : (g : Setting) (s : Part) (v : ℕ) (ws : List ℕ) → (part_by g s (reads_from v ws)).ended ≡ s.ended
 reads_end g s v [] = refl
 reads_end g s v (w ∷ ws) = reads_end g (does g (read v w) s) (suc v) ws
+
+-- and what was given
+pub reads_given : (g : Setting) (s : Part) (v : ℕ) (ws given : List ℕ) → AreGiven g s given
+    → AreGiven g (part_by g s (reads_from v ws)) given
+reads_given g s v [] given are = are
+reads_given g s v (w ∷ ws) given are = reads_given g (does g (read v w) s) (suc v) ws given are
 
 -- nor do they feed
 pub reads_feed_none : (g : Setting) (did : List Step) (v : ℕ) (ws : List ℕ)
@@ -140,7 +147,7 @@ module _ (old now then : RootKnown) (tally : TallyState) (v seen : ℕ) (setting
   setting' = subst (λ (n : NetId). IsSetting n.setting) (sym (reading_net old now tally v reading)) setting
 
   tells : (y : Step) (u : ℕ) → Contains (x ∷ reads.log) y → y.event ≡ Read u
-      → (u < g.graph.vertices) × IsClosed g (x ∷ reads.log) × (y.seen ≡ word_of_part (part_in g (x ∷ reads.log) u))
+      → (u < g.game.graph.vertices) × IsClosed g (x ∷ reads.log) × (y.seen ≡ word_of_part (part_in g (x ∷ reads.log) u))
   tells y u at is = reads_tell g setting'.game setting'.some_ring (x ∷ reads.log) reads.legal y u at is
 
   -- an earlier read is in the log

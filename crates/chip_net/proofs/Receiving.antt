@@ -6,6 +6,7 @@ use Rattle.chip_link.specs.Words.{is_fired_word}
 use Rattle.chip_part.specs.Setting.{Setting, IsSetting}
 use Rattle.chip_part.specs.Edges.{root, stopper}
 use Rattle.chip_part.proofs.RuleLemmas.{met_rules}
+use Rattle.chip_part.specs.Steps.{saw}
 use Rattle.chip_core.specs.Core.{Step, Read, unmet}
 use Rattle.chip_core.specs.Words.{of_vertex}
 use Rattle.chip_net.specs.declared.receipt.Receipt.TheInside.{Inside}
@@ -20,10 +21,10 @@ use Rattle.chip_net.proofs.Ruling.{Mine}
 use Rattle.chip_net.proofs.Rooting.{root_rule, root_grown, root_stepped, root_record}
 use Rattle.chip_net.proofs.Finishing.{fired_word_is}
 
-module _ (i : Inside) (keeps : Has (root i.setup.value) i.seat.me.0 × IsSetting i.setup.value) (v : ℕ)
-    (inside : v < i.setup.value.graph.vertices) (over : IsOver (the_view i)) where
+module _ (i : Inside) (keeps : Has (root i.setting.value) i.seat.me.0 × IsSetting i.setting.value) (v : ℕ)
+    (inside : v < i.setting.value.game.graph.vertices) (over : IsOver (the_view i)) where
   abbrev g : Setting
-  g = i.setup.value
+  g = i.setting.value
 
   none : unmet g (Read v) (part_of_view g (root g) i.seat.me.0) ≡ None
   none = met_rules g (Read v) (part_of_view g (root g) i.seat.me.0)
@@ -37,7 +38,7 @@ module _ (i : Inside) (keeps : Has (root i.setup.value) i.seat.me.0 × IsSetting
   module _ (key : Setting) (same : key ≡ g) (seen : ℕ) (after : Mine)
       (told : Grows key (Read v) i.seat.me seen after) where
     abbrev x : Step
-    x = record { event = Read v; seen = seen }
+    x = saw (Read v) seen
 
     abbrev stepped : Stepped g x i.seat.me.0
     stepped = root_stepped g keeps.1 i.seat.me keeps.0 (Read v) refl none key same seen after told

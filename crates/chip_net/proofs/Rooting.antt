@@ -14,7 +14,7 @@ use Rattle.chip_part.specs.Edges.{root, stopper, root_edge, graph_edges}
 use Rattle.chip_part.specs.Acting.{act_of}
 use Rattle.chip_root.specs.Root.{Root, RootStandsFor, SomeRoot, RootCanDo, RootMakes}
 use Rattle.chip_part.specs.Acting.{FitsRoot, is_of_root}
-use Rattle.chip_part.specs.Steps.{link_after}
+use Rattle.chip_part.specs.Steps.{link_after, saw}
 use Rattle.chip_part.proofs.EdgeLemmas.{tail_root}
 use Rattle.chip_part.proofs.RuleLemmas.{met_rules}
 use Rattle.chip_core.specs.Core.{Step, Event, Take, Ack, Fire, Clear, Claim, Put, Halt, Settle, Seal, Read, Feed, End}
@@ -102,11 +102,11 @@ noted_twice End n = refl
 
 -- ---- an event of the root's hand
 
-module _ (i : Inside) (keeps : IsRoot i.setup.value i.seat.me.0 i.state) (x : Event)
-    (mine : part_of i.setup.value x ≡ root i.setup.value) (own : is_of_root i.setup.value x ≡ true)
-    (none : unmet i.setup.value x (part_of_view i.setup.value (root i.setup.value) i.seat.me.0) ≡ None) where
+module _ (i : Inside) (keeps : IsRoot i.setting.value i.seat.me.0 i.state) (x : Event)
+    (mine : part_of i.setting.value x ≡ root i.setting.value) (own : is_of_root i.setting.value x ≡ true)
+    (none : unmet i.setting.value x (part_of_view i.setting.value (root i.setting.value) i.seat.me.0) ≡ None) where
   abbrev g : Setting
-  g = i.setup.value
+  g = i.setting.value
 
   abbrev s : Part
   s = part_of_view g (root g) i.seat.me.0
@@ -191,16 +191,16 @@ module _ (i : Inside) (keeps : IsRoot i.setup.value i.seat.me.0 i.state) (x : Ev
 
 -- ---- a settle of a root edge
 
-module _ (i : Inside) (keeps : IsRoot i.setup.value i.seat.me.0 i.state) (v edge : ℕ)
-    (inside : v < i.setup.value.graph.vertices) (edge_is : edge ≡ root_edge i.setup.value v) where
-  pub settle_mine : part_of i.setup.value (Settle edge) ≡ root i.setup.value
-  settle_mine = ap (tail_of i.setup.value) edge_is ∙ root_tail i.setup.value v
+module _ (i : Inside) (keeps : IsRoot i.setting.value i.seat.me.0 i.state) (v edge : ℕ)
+    (inside : v < i.setting.value.game.graph.vertices) (edge_is : edge ≡ root_edge i.setting.value v) where
+  pub settle_mine : part_of i.setting.value (Settle edge) ≡ root i.setting.value
+  settle_mine = ap (tail_of i.setting.value) edge_is ∙ root_tail i.setting.value v
 
-  pub settle_own : is_of_root i.setup.value (Settle edge) ≡ true
-  settle_own = le-leb (graph_edges i.setup.value) edge (omega arith)
+  pub settle_own : is_of_root i.setting.value (Settle edge) ≡ true
+  settle_own = le-leb (graph_edges i.setting.value) edge (omega arith)
 
-  pub settle_due : unmet i.setup.value (Settle edge) (part_of_view i.setup.value (root i.setup.value) i.seat.me.0) ≡ None
-  settle_due = met_rules i.setup.value (Settle edge) (part_of_view i.setup.value (root i.setup.value) i.seat.me.0)
+  pub settle_due : unmet i.setting.value (Settle edge) (part_of_view i.setting.value (root i.setting.value) i.seat.me.0) ≡ None
+  settle_due = met_rules i.setting.value (Settle edge) (part_of_view i.setting.value (root i.setting.value) i.seat.me.0)
       (omega arith)
 
 -- the same of the edge by another name
@@ -332,7 +332,7 @@ module _ (g : Setting) (me : Mine) (x : Event) (act : operation.Act) (due : IsDu
   store_rule key same slots id word at value zero =
       let told : Grows key x me ≡ (λ n. Grows key x me value) =
       (λ j n after. let step : step_of x n ≡ step_of x value =
-      (λ k. record { event = x; seen = (noted_here n ∙ zero n ∙ sym (noted_here value ∙ zero value)) k }) in
+      (λ k. saw x ((noted_here n ∙ zero n ∙ sym (noted_here value ∙ zero value)) k)) in
       ((after.0 ≡ grown (part_of key x) (step j) me.0) × Stepped key (step j) me.0)) in
       subst (λ (f : ℕ → Mine → Type 0). Allows (Kept key) slots id me word (left_over act) f) told
       (feeding_rule key same slots id word at)
@@ -343,7 +343,7 @@ module _ (g : Setting) (me : Mine) (x : Event) (act : operation.Act) (due : IsDu
 pub does_more : (old now after : RootKnown) (events : List Event) (x : Event) (seen : ℕ) → DoesMore old now events
     → MakesEvent now after x seen → DoesMore old after (events ++ x ∷ [])
 does_more old now after events x seen before made =
-    let y : Step = record { event = x; seen = seen } in record {
+    let y : Step = saw x seen in record {
       steps = before.steps ++ y ∷ [];
       record_is = made.record_is ∙ ap (λ (r : RootKnown). root_after r (y ∷ [])) before.record_is
           ∙ ap (λ (d : List Step). record { net = old.net; did = d; stopper_did = old.stopper_did })
@@ -379,7 +379,7 @@ settles_more old now after first v seen l before made =
 pub does_after : (old now after : RootKnown) (x : Event) (seen : ℕ) (events : List Event) → MakesEvent old now x seen
     → DoesMore now after events → DoesMore old after (x ∷ events)
 does_after old now after x seen events made more =
-    let y : Step = record { event = x; seen = seen } in record {
+    let y : Step = saw x seen in record {
       steps = y ∷ more.steps;
       record_is = more.record_is ∙ ap (λ (r : RootKnown). root_after r more.steps) made.record_is
           ∙ ap (λ (d : List Step). record { net = old.net; did = d; stopper_did = old.stopper_did })
@@ -403,7 +403,7 @@ pub holds_by : (old now : RootKnown) (x : Event) (seen : ℕ)
     → HoldsNothing now
 holds_by old now x seen same made none = subst HoldsNothing (sym made.record_is)
     (λ v l. ap (λ (s : Part). (s.out (root_edge old.net.setting v)).link.held)
-    (root_step old (record { event = x; seen = seen }))
+    (root_step old (saw x seen))
     ∙ same (root_edge old.net.setting v) ((root_part old).out (root_edge old.net.setting v)) ∙ none v l)
 
 pub held_settle : (i seen e : ℕ) (o : Out) → (link_after (Settle i) seen e o).held ≡ o.link.held
@@ -428,4 +428,4 @@ stays_over old now events more on = ap has_ended more.record_is
 
 pub over_by_end : (old now : RootKnown) (seen : ℕ) → MakesEvent old now End seen → has_ended now ≡ true
 over_by_end old now seen made = ap has_ended made.record_is
-    ∙ ap (λ (s : Part). s.ended) (root_step old (record { event = End; seen = seen }))
+    ∙ ap (λ (s : Part). s.ended) (root_step old (saw End seen))

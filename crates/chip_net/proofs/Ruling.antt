@@ -23,6 +23,7 @@ use Rattle.chip_core.specs.Words.{Word, of_edge, of_acks, of_cell, of_vertex, Is
 use Rattle.chip_core.specs.Words.{noted, IsShown, IsLeft, acting}
 use Rattle.chip_part.proofs.EdgeLemmas.{tail_root}
 use Rattle.chip_part.proofs.RuleLemmas.{rules_met}
+use Rattle.chip_part.specs.Steps.{saw}
 use Rattle.chip_core.proofs.ReachingLemmas.{by_history}
 use Rattle.chip_core.proofs.Showing.{word_for, word_there, finds, words_go_on}
 use Rattle.chip_net.specs.Layout.{index_of, word_count, value_in}
@@ -127,14 +128,14 @@ module _ (g : Setting) (slots id : ℕ) (me : Mine) (x : Event) (did : List Step
       let valid : IsWord g q = word_there g game ring log kept.legal value kept.shown x may in
       let n : ℕ = get_or table.words (index_of g q) 0 in
       let new : List ℕ = set table.words (index_of g q) (left_by g x a n) in
-      let saw : noted x n ≡ sees g log x = finds g game ring log kept.legal value kept.shown x may in
+      let found : noted x n ≡ sees g log x = finds g game ring log kept.legal value kept.shown x may in
       let left : IsLeft g log x value (value_in g new) =
       record {
         here = written_here g table.words kept.wide q valid (left_by g x a n);
         others = written_else g table.words kept.wide q valid (left_by g x a n);
       } in
       let shown : IsShown g (step_of x n ∷ log) (value_in g new) =
-      subst (λ (k : ℕ). IsShown g (record { event = x; seen = k } ∷ log) (value_in g new)) (sym saw)
+      subst (λ (k : ℕ). IsShown g (saw x k ∷ log) (value_in g new)) (sym found)
       (words_go_on g game ring log kept.legal value (value_in g new) kept.shown x may left) in
       subst (λ (b : Part). let i : ℕ = index_of g (touched g x b) in (w : View) × (c : Act (Unit {0}))
       × Valid table.homes me.1 c × Kept g (stepped table i (left_by g x b (get_or table.words i 0)) id me.1 w c)
@@ -144,12 +145,12 @@ module _ (g : Setting) (slots id : ℕ) (me : Mine) (x : Event) (did : List Step
         keeps,
         tt,
         stepped_keeps g table kept id p me.0 did (step_of x n) new at has refl
-            (length-set table.words (index_of g q) (left_by g x a n)) shown (may, saw),
+            (length-set table.words (index_of g q) (left_by g x a n)) shown (may, found),
         (
           refl,
           record {
             log = log;
-            legal = (kept.legal, (may, saw));
+            legal = (kept.legal, (may, found));
             agrees = λ r d found. (kept.each_part id me.0 at r d found).1;
           },
         ),
@@ -201,10 +202,10 @@ module _ (g : Setting) (slots id : ℕ) (me : Mine) (v : ℕ) (did : List Step) 
       none
 
   -- no vertex feeds
-  not_fed : (e k : ℕ) → v < g.graph.vertices → part_of g (Feed e k) ≡ v → unmet g (Feed e k) part ≡ None → ⊥
+  not_fed : (e k : ℕ) → v < g.game.graph.vertices → part_of g (Feed e k) ≡ v → unmet g (Feed e k) part ≡ None → ⊥
   not_fed e k l mine none = let at = tail_root g e (rules_met g (Feed e k) part none).0 in absurd (omega arith)
 
-  by_event : (x : Event) → v < g.graph.vertices → part_of g x ≡ v → unmet g x part ≡ None
+  by_event : (x : Event) → v < g.game.graph.vertices → part_of g x ≡ v → unmet g x part ≡ None
       → AllowsAct x (act_of g x part)
   unfolding AllowsAct
   by_event (Take e) l mine none = allowed_for (Take e) mine none
@@ -227,7 +228,7 @@ module _ (g : Setting) (slots id : ℕ) (me : Mine) (v : ℕ) (did : List Step) 
   by_event (Feed e k) l mine none = absurd (not_fed e k l mine none)
   by_event End l mine none = absurd (omega arith)
 
-  word_by_event : IsSetting g → (x : Event) → v < g.graph.vertices → part_of g x ≡ v → unmet g x part ≡ None
+  word_by_event : IsSetting g → (x : Event) → v < g.game.graph.vertices → part_of g x ≡ v → unmet g x part ≡ None
       → IsWord g (word_of v (act_of g x part))
   word_by_event setting (Take e) l mine none = word_for g setting.game.graph_fits.some_vertex setting.some_ring (Take e) part none
   word_by_event setting (Ack e) l mine none = word_for g setting.game.graph_fits.some_vertex setting.some_ring (Ack e) part none
@@ -242,12 +243,12 @@ module _ (g : Setting) (slots id : ℕ) (me : Mine) (v : ℕ) (did : List Step) 
   word_by_event setting (Feed e k) l mine none = absurd (not_fed e k l mine none)
   word_by_event setting End l mine none = absurd (omega arith)
 
-  pub act_word : IsSetting g → v < g.graph.vertices → (act : operation.Act) → IsDueBy g v part act
+  pub act_word : IsSetting g → v < g.game.graph.vertices → (act : operation.Act) → IsDueBy g v part act
       → IsWord g (word_of v act)
   act_word setting l act due = subst (λ (b : operation.Act). IsWord g (word_of v b)) (sym due.needed)
       (word_by_event setting (event_of v act) l due.mine due.met)
 
-  pub act_allowed : v < g.graph.vertices → (act : operation.Act) → IsDueBy g v part act
+  pub act_allowed : v < g.game.graph.vertices → (act : operation.Act) → IsDueBy g v part act
       → Allows (Kept g) slots id me (index_of g (word_of v act)) (left_over act) (Grows g (event_of v act) me)
   unfolding AllowsAct
   act_allowed l act due = subst (AllowsAct (event_of v act)) (sym due.needed)

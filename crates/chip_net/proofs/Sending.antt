@@ -4,19 +4,18 @@ use Rattle.std.proofs.Common.{refl, sym, ap, ◌∙◌, subst, arith, inr, appen
 use mathlib.Core.Logic.{dite}
 use native.Mathlib.Decide.{ℕ_discrete}
 use Rattle.chip_graph.specs.Limits.{max_total}
-use Rattle.chip_graph.proofs.SumLemmas.{cond_yes, cond_no, by_test, sum_below_ext}
+use Rattle.chip_graph.proofs.SumLemmas.{cond_yes, cond_no, sum_below_ext}
 use Rattle.chip_link.specs.Link.{Tail, claims_of, sent_counts, after_clear, after_claim, after_put}
 use Rattle.chip_part.specs.Setting.{Setting}
 use Rattle.chip_part.specs.Edges.{root_edge, graph_edges, all_edges}
 use Rattle.chip_part.specs.Part.{all_fed}
-use Rattle.chip_part.specs.Steps.{link_after}
+use Rattle.chip_part.specs.Steps.{link_after, saw}
 use Rattle.chip_part.specs.declared.reply.Reply.TheVariants.{Done, Full}
-use Rattle.chip_part.proofs.EdgeLemmas.{sendable_fed}
 use Rattle.chip_part.proofs.RuleLemmas.{met_rules}
 use Rattle.chip_core.specs.Core.{Step, Clear, Put, Feed, Part, Out, Reply, opened, does, unmet}
 use Rattle.chip_net.specs.Roots.{RootKnown, root_part, root_after, has_ended, all_given, IsDueForRoot}
 use Rattle.chip_net.specs.Roots.{MakesEvent, HoldsNothing, Feeds, LooksInVain}
-use Rattle.chip_net.proofs.Viewing.{part_append, unfed_ended}
+use Rattle.chip_net.proofs.Viewing.{part_append}
 use Rattle.chip_net.proofs.Rooting.{root_step, holds_by, held_clear}
 
 -- a look leaves what was sent
@@ -52,16 +51,13 @@ steps_more : (r : RootKnown) (xs ys : List Step) → root_after (root_after r xs
 steps_more r xs ys = ap (λ (d : List Step). record { net = r.net; did = d; stopper_did = r.stopper_did })
     (append_assoc r.did xs ys)
 
-module _ (r : RootKnown) (vertex e count : ℕ) (inside : vertex < r.net.setting.graph.vertices)
+module _ (r : RootKnown) (vertex e count : ℕ) (inside : vertex < r.net.setting.game.graph.vertices)
     (edge_is : e ≡ root_edge r.net.setting vertex) (not_ended : has_ended r ≡ false) (free : HoldsNothing r) where
   abbrev g : Setting
   g = r.net.setting
 
   abbrev s : Part
   s = root_part r
-
-  is_fed : g.fed ≡ true
-  is_fed = by_test g.fed (λ on. on) (λ off. absurd (true≢false (sym (unfed_ended g off r.did) ∙ not_ended)))
 
   past : graph_edges g ≤ e
   past = omega arith
@@ -75,21 +71,20 @@ module _ (r : RootKnown) (vertex e count : ℕ) (inside : vertex < r.net.setting
     met_rules g (Clear e) s (inr (
       past,
       below,
-      is_fed,
       not_ended,
       ap (λ (i : ℕ). (s.out i).link.held) edge_is ∙ free vertex inside,
     )),
   )
 
   abbrev look : Step
-  look = record { event = Clear e; seen = 0 }
+  look = saw (Clear e) 0
 
   abbrev s1 : Part
   s1 = does g look s
 
   module _ (some : 1 ≤ count) (few : all_given r + count ≤ max_total) (given : all_fed g s ≡ all_given r) where
     same_fed : all_fed g s1 ≡ all_fed g s
-    same_fed = sum_below_ext g.graph.vertices (λ v. sum (sent_counts (s1.out (root_edge g v)).link))
+    same_fed = sum_below_ext g.game.graph.vertices (λ v. sum (sent_counts (s1.out (root_edge g v)).link))
         (λ v. sum (sent_counts (s.out (root_edge g v)).link))
         (λ v l. ap sum (sent_clear e (root_edge g v) (s.out (root_edge g v))))
 
@@ -108,14 +103,14 @@ module _ (r : RootKnown) (vertex e count : ℕ) (inside : vertex < r.net.setting
 
     module _ (r1 : RootKnown) (seen1 : ℕ) (made1 : MakesEvent r r1 (Clear e) seen1) (zero : seen1 ≡ 0) where
       first : r1 ≡ root_after r (look ∷ [])
-      first = made1.record_is ∙ ap (λ (n : ℕ). root_after r (record { event = Clear e; seen = n } ∷ [])) zero
+      first = made1.record_is ∙ ap (λ (n : ℕ). root_after r (saw (Clear e) n ∷ [])) zero
 
       pub due2 : IsDueForRoot r1 (Feed e count)
       due2 = subst (λ (k : RootKnown). IsDueForRoot k (Feed e count)) (sym first) feed_due
 
       module _ (r2 : RootKnown) (seen2 : ℕ) (made2 : MakesEvent r1 r2 (Feed e count) seen2) where
         abbrev feed : Step
-        feed = record { event = Feed e count; seen = seen2 }
+        feed = saw (Feed e count) seen2
 
         -- it saw how many were sent before
         place2 : seen2 ≡ claims_of (s.out e).link
@@ -141,23 +136,23 @@ module _ (r : RootKnown) (vertex e count : ℕ) (inside : vertex < r.net.setting
         due3 = subst (λ (k : RootKnown). IsDueForRoot k (Put e)) (sym second) (
           past,
           subst (λ (t : Part). unmet g (Put e) t ≡ None) (sym part2)
-              (met_rules g (Put e) s2 ((let a = sendable_fed g is_fed in omega arith), (count, claimed))),
+              (met_rules g (Put e) s2 (below, (count, claimed))),
         )
 
         module _ (r3 : RootKnown) (seen3 : ℕ) (made3 : MakesEvent r2 r3 (Put e) seen3) where
           abbrev put : Step
-          put = record { event = Put e; seen = 0 }
+          put = saw (Put e) 0
 
           third : r3 ≡ root_after r (look ∷ feed ∷ put ∷ [])
           third = made3.record_is
-              ∙ ap (λ (n : ℕ). root_after r2 (record { event = Put e; seen = n } ∷ [])) made3.noted_is
+              ∙ ap (λ (n : ℕ). root_after r2 (saw (Put e) n ∷ [])) made3.noted_is
               ∙ ap (λ (k : RootKnown). root_after k (put ∷ [])) second
               ∙ steps_more r (look ∷ feed ∷ []) (put ∷ [])
 
           abbrev s3 : Part
           s3 = does g put s2
 
-          holds3 : (v : ℕ) → v < g.graph.vertices → (s3.out (root_edge g v)).link.held ≡ None
+          holds3 : (v : ℕ) → v < g.game.graph.vertices → (s3.out (root_edge g v)).link.held ≡ None
           holds3 v l =
               let i : ℕ = root_edge g v in
               dite (ℕ_discrete e i)
@@ -177,9 +172,9 @@ module _ (r : RootKnown) (vertex e count : ℕ) (inside : vertex < r.net.setting
             within = few;
             place_is = place_is ∙ ap (λ (i : ℕ). claims_of (s.out i).link) edge_is;
             record_is = third
-                ∙ (λ j. root_after r (record { event = Clear (edge_is j); seen = 0 }
-                ∷ record { event = Feed (edge_is j) count; seen = (place2 ∙ sym place_is) j }
-                ∷ record { event = Put (edge_is j); seen = 0 } ∷ []));
+                ∙ (λ j. root_after r (saw (Clear (edge_is j)) 0
+                ∷ saw (Feed (edge_is j) count) ((place2 ∙ sym place_is) j)
+                ∷ saw (Put (edge_is j)) 0 ∷ []));
           }
 
   module _ (r1 : RootKnown) (seen1 : ℕ) (made1 : MakesEvent r r1 (Clear e) seen1) where
@@ -191,5 +186,5 @@ module _ (r : RootKnown) (vertex e count : ℕ) (inside : vertex < r.net.setting
       seen = seen1;
       some = some;
       record_is = made1.record_is
-          ∙ ap (λ (i : ℕ). root_after r (record { event = Clear i; seen = seen1 } ∷ [])) edge_is;
+          ∙ ap (λ (i : ℕ). root_after r (saw (Clear i) seen1 ∷ [])) edge_is;
     }

@@ -12,6 +12,7 @@ use Rattle.chip_link.proofs.WordLaws.{read_edge}
 use Rattle.chip_part.specs.Setting.{Setting, IsSetting}
 use Rattle.chip_part.specs.Edges.{stopper, graph_edges}
 use Rattle.chip_part.proofs.RuleLemmas.{met_rules}
+use Rattle.chip_part.specs.Steps.{saw}
 use Rattle.chip_core.specs.Core.{Step, Seal, Part, opened, part_in, out_in, stop_in, does}
 use Rattle.chip_core.specs.Histories.{part_by}
 use Rattle.chip_core.proofs.ReachingLemmas.{by_history}
@@ -36,10 +37,10 @@ first_word : (n word : ℕ) (stop : Option ℕ) → IsSealedAt n stop → word �
 first_word n word None at is claims = ap Some (let z : word ≡ claims_in word = omega arith in z)
 first_word n word (Some first) at is claims = ap Some (at ∙ sym claims)
 
-module _ (i : Inside) (has : Has (stopper i.setup.value) i.seat.me.0) (setting : IsSetting i.setup.value) (edge : ℕ)
-    (inside : edge < graph_edges i.setup.value) where
+module _ (i : Inside) (has : Has (stopper i.setting.value) i.seat.me.0) (setting : IsSetting i.setting.value) (edge : ℕ)
+    (inside : edge < graph_edges i.setting.value) where
   abbrev g : Setting
-  g = i.setup.value
+  g = i.setting.value
 
   abbrev s : Part
   s = part_of_view g (stopper g) i.seat.me.0
@@ -52,7 +53,7 @@ module _ (i : Inside) (has : Has (stopper i.setup.value) i.seat.me.0) (setting :
   module _ (key : Setting) (same : key ≡ g) (seen : ℕ) (after : Mine)
       (told : Grows key (Seal edge) i.seat.me seen after) where
     abbrev x : Step
-    x = record { event = Seal edge; seen = seen }
+    x = saw (Seal edge) seen
 
     abbrev stepped : Stepped g x i.seat.me.0
     stepped = subst (λ (h : Setting). Stepped h x i.seat.me.0) same told.1

@@ -10,6 +10,7 @@ use Rattle.chip_part.specs.Turn.{turn}
 use Rattle.chip_part.specs.Kept.{KeepsPart}
 use Rattle.chip_part.proofs.TurnLemmas.{turns_bounded}
 use Rattle.chip_part.specs.declared.cursor.Cursor.TheVariants as At
+use Rattle.chip_part.specs.Steps.{saw}
 use Rattle.chip_core.specs.Core.{Step, Part, opened, does}
 use Rattle.chip_core.specs.Histories.{part_by}
 use Rattle.chip_net.specs.Tokens.{NetId, ActorKnown, part_known, after_these, MakesStep, Holds, MakesTurnBy}
@@ -28,9 +29,9 @@ serves first here now after act seen makes g v ds s held due =
     in
     let part_same : part_known began ≡ s = ap (λ (h : Setting). part_by h (opened h) (reverse ds)) (sym held.setting_is)
     ∙ sym held.part_is in
-    let step : Step = record { event = event_of v act; seen = seen } in
-    let more : reverse ds ++ record { event = event_of first.vertex act; seen = seen } ∷ [] ≡ reverse (step ∷ ds) =
-    (λ i. reverse ds ++ record { event = event_of (sym held.vertex_is i) act; seen = seen } ∷ [])
+    let step : Step = saw (event_of v act) seen in
+    let more : reverse ds ++ saw (event_of first.vertex act) seen ∷ [] ≡ reverse (step ∷ ds) =
+    (λ i. reverse ds ++ saw (event_of (sym held.vertex_is i) act) seen ∷ [])
     ∙ sym (reverse_more step ds) in
     record {
       fits = subst (λ (z : Part × ℕ). FitsSeen z.0 (event_of z.1 act) seen)
@@ -87,8 +88,8 @@ module _ (first hand : ActorKnown) (first_is : first ≡ hand) (here : NetId) (n
       let is_turn : turn hand.net.setting hand.vertex (part_known hand) more (part_known after) =
       subst (λ (z : ℕ × Part). turn hand.net.setting z.0 (part_known hand) more z.1)
       (λ i. (vertex i, part_is i)) over.is_turn in
-      let inside : hand.vertex < hand.net.setting.graph.vertices =
-      subst (λ (v : ℕ). v < hand.net.setting.graph.vertices) vertex stands.knows.vertex in
+      let inside : hand.vertex < hand.net.setting.game.graph.vertices =
+      subst (λ (v : ℕ). v < hand.net.setting.game.graph.vertices) vertex stands.knows.vertex in
       let kept : KeepsPart hand.net.setting hand.vertex (part_known hand) =
       subst (λ (v : ℕ). KeepsPart hand.net.setting v (part_known hand)) vertex stands.kept in
       record {

@@ -50,12 +50,12 @@ refused_step (Feed i k) seen e o fine fed = dite (ℕ_discrete i e)
 -- without a refusal a seal is no cause
 cause_step : (g : Setting) (v : ℕ) (s : Part) → refusals g v s ≡ 0 → is_by_seal (cause g v s) ≡ false
 cause_step g v s none = ap is_by_seal (cond_yes' (eqb (refusals g v s) 0) (eq-eqb _ _ none))
-    ∙ by_limit (pending_of g v s == 0 && is_legal g v s && s.fired == g.limit)
+    ∙ by_limit (pending_of g v s == 0 && is_legal g v s && s.fired == g.game.limit)
   where
     cond_yes' : (b : Bool) → b ≡ true
         → cond (not b) (Some SealedEdge)
-        (cond (pending_of g v s == 0 && is_legal g v s && s.fired == g.limit) (Some FiringLimit) None)
-        ≡ cond (pending_of g v s == 0 && is_legal g v s && s.fired == g.limit) (Some FiringLimit) None
+        (cond (pending_of g v s == 0 && is_legal g v s && s.fired == g.game.limit) (Some FiringLimit) None)
+        ≡ cond (pending_of g v s == 0 && is_legal g v s && s.fired == g.game.limit) (Some FiringLimit) None
     cond_yes' true is = refl
     cond_yes' false is = absurd (cc)
 
@@ -110,7 +110,7 @@ module _ (g : Setting) where
   unsealed (x ∷ log) legal none =
       let before = did_nothing x log none in
       let old : Unsealed log = unsealed log legal.0 before in
-      let saw : (e : ℕ) → x.event ≡ Claim e → x.seen ≡ claims_of (out_in g log e).link = (λ e is.
+      let claims : (e : ℕ) → x.event ≡ Claim e → x.seen ≡ claims_of (out_in g log e).link = (λ e is.
       legal.1.1 ∙ ap (sees g log) is
       ∙ ap (λ (stop : Option ℕ). word_of (out_in g log e).link stop) (no_stop log before e) ∙ omega arith) in
       let fed : (e k : ℕ) → x.event ≡ Feed e k → x.seen ≡ claims_of (out_in g log e).link = (λ e k is.
@@ -123,7 +123,7 @@ module _ (g : Setting) where
       (λ e l on. ap (λ (b : Bool). cond b 1 0)
       (ap (λ (u : ℕ). ((part_in g log u).out e).link.refused) (sym (eqb-true (tail_of g e) v on)) ∙ old.0 e))) in (
         (λ e. ap (λ (t : Tail). t.refused) (link_step g x log e)
-            ∙ refused_step x.event x.seen e (out_in g log e) (saw e) (fed e) ∙ old.0 e),
+            ∙ refused_step x.event x.seen e (out_in g log e) (claims e) (fed e) ∙ old.0 e),
         (λ v. dite (ℕ_discrete (part_of g x.event) v)
             (λ same. ap (λ (s : Part). is_by_seal s.halt) (part_here g x log v same)
             ∙ halt_step g x (part_in g log v)

@@ -1,5 +1,5 @@
 -- What the root reads once it is closed, and what it makes of it.
-use Rattle.std.specs.Prelude.{◌≡◌, ℕ, suc, ◌<◌, ◌≤◌, ◌-◌, Bool, false, not, ◌&&◌, if◌then◌else◌, List, [], ◌∷◌, ◌++◌, length, map}
+use Rattle.std.specs.Prelude.{◌≡◌, ℕ, suc, ◌<◌, ◌-◌, Bool, false, not, ◌&&◌, if◌then◌else◌, List, [], ◌∷◌, ◌++◌, length, map}
 use Rattle.std.specs.Prelude.{slice_index, Some}
 use Rattle.chip_graph.specs.ChipGame.{ChipGame}
 use Rattle.chip_graph.specs.More.{HasMore}
@@ -10,8 +10,8 @@ use Rattle.chip_sequence.specs.Counted.{IsAfter}
 use Rattle.chip_sequence.specs.Sequence.{position_after, counts, IsFiringSequence, HasEnded}
 use Rattle.chip_sequence.specs.Play.{IsPlayed}
 use Rattle.chip_link.specs.Words.{fired_in, halted_in, by_limit_in}
-use Rattle.chip_part.specs.Setting.{game_of_setting}
 use Rattle.chip_part.specs.Edges.{root, stopper}
+use Rattle.chip_part.specs.Steps.{saw}
 use Rattle.chip_core.specs.Core.{Log, Step, Read, part_in, word_of_part, IsLegalLog, IsClosed}
 use Rattle.chip_core.specs.Histories.{done_by}
 use Rattle.chip_core.specs.Positions.{firings}
@@ -26,15 +26,15 @@ pub record AgreesWith (r : RootKnown) (log : Log) : Type 0 where
 
 -- one read was made, after some legal log with what the root did
 pub record ReadsAt (old new : RootKnown) (v seen : ℕ) : Type 0 where
-  pub record_is : new ≡ root_after old (record { event = Read v; seen = seen } ∷ [])
+  pub record_is : new ≡ root_after old (saw (Read v) seen ∷ [])
   pub log : Log
-  pub legal : IsLegalLog old.net.setting (record { event = Read v; seen = seen } ∷ log)
+  pub legal : IsLegalLog old.net.setting (saw (Read v) seen ∷ log)
   pub agrees : AgreesWith old log
 
 -- reads of the vertices from v on, each with the word that it saw
 abbrev pub reads_from : ℕ → List ℕ → List Step
 reads_from v [] = []
-reads_from v (w ∷ ws) = record { event = Read v; seen = w } ∷ reads_from (suc v) ws
+reads_from v (w ∷ ws) = saw (Read v) w ∷ reads_from (suc v) ws
 
 -- some legal log has what the root did, is closed, and has these fired words
 pub record IsReadOut (r : RootKnown) (words : List ℕ) : Type 0 where
@@ -87,14 +87,7 @@ pub record IsReading (old now : RootKnown) (tally : TallyState) (count : ℕ) : 
   pub record_is : now ≡ root_after old (reads_from 0 words)
   pub told : 0 < length words → IsReadOut now words
   pub tallied : AreRead words tally.fired tally.over tally.sealed
-  pub room_is : tally.room ≡ old.net.setting.graph.vertices - count
-
--- what the root keeps for its end beside the game: room for what was fed to each vertex, for the tally and for the chips
-pub record IsReady (game : ChipGame) (more : List (ℕ × ℕ)) (room : ℕ) (tally : TallyState) (chips : List ℕ) : Type 0 where
-  pub none_yet : more ≡ []
-  pub room_each : game.graph.vertices ≤ room
-  pub blank : tally ≡ blank_tally game.graph.vertices
-  pub chips_each : length chips ≡ game.graph.vertices
+  pub room_is : tally.room ≡ old.net.setting.game.graph.vertices - count
 
 -- ---- the end
 
@@ -109,10 +102,10 @@ IsOneEnd g o = (vs : List ℕ) → IsFiringSequence g.graph (slice_index g.start
 pub record Finishes (old receipt : RootKnown) (o : Outcome) : Type 0 where
   -- the game that was played has what was fed more than the net was opened with; where nothing was, it is the same
   pub game : ChipGame
-  pub more : HasMore (game_of_setting old.net.setting) (fed_by old) game
-  pub unfed : old.net.setting.fed ≡ false → game ≡ game_of_setting old.net.setting
+  pub more : HasMore old.net.setting.game (fed_by old) game
+  pub unfed : old.net.setting.fed ≡ false → game ≡ old.net.setting.game
   pub words : List ℕ
-  pub one_each : length words ≡ old.net.setting.graph.vertices
+  pub one_each : length words ≡ old.net.setting.game.graph.vertices
   pub record_is : receipt ≡ root_after old (reads_from 0 words)
   -- the counts and the halts are those that were read, and the chips are the position by the counts
   pub read : AreRead words o.fired.items o.over.items o.sealed.items

@@ -31,11 +31,11 @@ pub record IsReachedTable (g : Setting) (s : State (Unit {0}) View) : Type 0 whe
   pub owner : ℕ → ℕ
   pub only_there : (j : ℕ) (v : View) → get_elem? s.views j ≡ some v → (p : ℕ) (steps : List Step)
       → find p v.parts ≡ Some steps → (owner p ≡ j) × (steps ≡ did p)
-  pub there : (p : ℕ) → p < g.graph.vertices + 2 → (v : View) × (get_elem? s.views (owner p) ≡ some v)
+  pub there : (p : ℕ) → p < g.game.graph.vertices + 2 → (v : View) × (get_elem? s.views (owner p) ≡ some v)
       × (find p v.parts ≡ Some (did p))
   pub edges : (e : ℕ) → e < all_edges g → EdgeShows g s.words (parts_by g did) e
   -- the fired word of a vertex has its firings, its halt and the cause
-  pub fired : (v : ℕ) → v < g.graph.vertices → value_in g s.words (of_vertex v) ≡ word_of_part (parts_by g did v)
+  pub fired : (v : ℕ) → v < g.game.graph.vertices → value_in g s.words (of_vertex v) ≡ word_of_part (parts_by g did v)
 
 -- so it is at every moment of a net
 abbrev pub EveryMomentIsReached : Type 0

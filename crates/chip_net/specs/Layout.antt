@@ -22,7 +22,7 @@ index_of g (of_vertex v) = first_fired g + v
 
 -- how many words there are
 abbrev pub word_count : Setting → ℕ
-word_count g = first_fired g + g.graph.vertices
+word_count g = first_fired g + g.game.graph.vertices
 
 -- what these words have, by what each is for
 abbrev pub value_in : Setting → List ℕ → Word → ℕ

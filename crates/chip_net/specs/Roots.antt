@@ -2,9 +2,9 @@
 use Rattle.std.specs.Prelude.{◌≡◌, ◌≢◌, ℕ, zero, suc, ◌+◌, ◌-◌, ◌<◌, ◌≤◌, Bool, true, false, List, [], ◌∷◌, ◌++◌, map}
 use Rattle.std.specs.Prelude.{sum, Option, Some, None, is_none, Result, Ok, Err}
 use Rattle.chip_graph.specs.Limits.{max_total}
-use Rattle.chip_graph.specs.More.{AreOfVertices, brought_to, all_brought}
+use Rattle.chip_graph.specs.More.{all_brought}
 use Rattle.chip_link.specs.Link.{claims_of}
-use Rattle.chip_part.specs.Setting.{Setting, IsSetting, game_of_setting}
+use Rattle.chip_part.specs.Setting.{Setting, IsSetting}
 use Rattle.chip_part.specs.Edges.{root, root_edge, graph_edges}
 use Rattle.chip_part.specs.Part.{deficit, all_fed}
 use Rattle.chip_part.specs.declared.act.Act.{Act}
@@ -13,6 +13,7 @@ use Rattle.chip_part.specs.declared.rule.Rule.TheVariants as Not
 use Rattle.chip_part.specs.Acting.{act_of}
 use Rattle.chip_root.specs.Root.{Root, RootStandsFor}
 use Rattle.chip_part.specs.Acting.{FitsRoot}
+use Rattle.chip_part.specs.Steps.{saw}
 use Rattle.chip_core.specs.Core.{Log, Step, Event, Clear, Put, Settle, Seal, Feed, End, Reply, Part, opened, unmet}
 use Rattle.chip_core.specs.Core.{reply_of, IsLegalLog}
 use Rattle.chip_core.specs.Histories.{done_by, part_by}
@@ -54,7 +55,7 @@ fed_by r = fed_in r.net.setting r.did
 
 -- all chips that were given, at the start and by feeds
 abbrev pub all_given : RootKnown → ℕ
-all_given r = sum r.net.setting.start + all_brought (fed_by r)
+all_given r = sum r.net.setting.game.start + all_brought (fed_by r)
 
 -- how many messages were sent on the root edge of a vertex
 abbrev pub sent_to : RootKnown → ℕ → ℕ
@@ -102,7 +103,7 @@ pub record IsDueInView (g : Setting) (view : View) (x : Event) (act : Act) : Typ
 
 -- one event was made and saw this
 pub record MakesEvent (old new : RootKnown) (x : Event) (seen : ℕ) : Type 0 where
-  pub record_is : new ≡ root_after old (record { event = x; seen = seen } ∷ [])
+  pub record_is : new ≡ root_after old (saw x seen ∷ [])
   pub fits : FitsRoot old.net.setting (root_part old) x seen
   -- a store finds nothing
   pub noted_is : seen ≡ noted x seen
@@ -115,7 +116,7 @@ pub record Replies (old new : RootKnown) (x : Event) (reply : Reply) : Type 0 wh
 
 -- nothing is claimed on a root edge that isn't put
 abbrev pub HoldsNothing : RootKnown → Type 0
-HoldsNothing r = (v : ℕ) → v < r.net.setting.graph.vertices
+HoldsNothing r = (v : ℕ) → v < r.net.setting.game.graph.vertices
     → ((root_part r).out (root_edge r.net.setting v)).link.held ≡ None
 
 -- ---- feeding
@@ -124,9 +125,9 @@ HoldsNothing r = (v : ℕ) → v < r.net.setting.graph.vertices
 -- and the put
 abbrev pub feed_steps : Setting → ℕ → ℕ → ℕ → List Step
 feed_steps g vertex count place =
-    record { event = Clear (root_edge g vertex); seen = 0 }
-    ∷ record { event = Feed (root_edge g vertex) count; seen = place }
-    ∷ record { event = Put (root_edge g vertex); seen = 0 }
+    saw (Clear (root_edge g vertex)) 0
+    ∷ saw (Feed (root_edge g vertex) count) place
+    ∷ saw (Put (root_edge g vertex)) 0
     ∷ []
 
 -- the root fed so many chips to a vertex, by a message with this place
@@ -141,7 +142,7 @@ pub record LooksInVain (old new : RootKnown) (vertex : ℕ) : Type 0 where
   pub seen : ℕ
   pub some : seen ≢ 0
   pub record_is : new
-      ≡ root_after old (record { event = Clear (root_edge old.net.setting vertex); seen = seen } ∷ [])
+      ≡ root_after old (saw (Clear (root_edge old.net.setting vertex)) seen ∷ [])
 
 -- why so many chips were not fed to a vertex: nothing more may be fed; else there would be too many; else the ring of
 -- its root edge was full
@@ -165,13 +166,6 @@ AllowsFeed r count (Ok done) = (has_ended r ≡ false) × (all_given r + count �
 AllowsFeed r count (Err Ended) = has_ended r ≡ true
 AllowsFeed r count (Err Total) = (has_ended r ≡ false) × (max_total < all_given r + count)
 AllowsFeed r count (Err Full) = ⊥
-
--- these pairs bring the same chips as the feeds of the root, which are not too many
-pub record BringsFed (r : RootKnown) (pairs : List (ℕ × ℕ)) : Type 0 where
-  pub of_vertices : AreOfVertices (game_of_setting r.net.setting) pairs
-  pub each : (v : ℕ) → v < r.net.setting.graph.vertices → brought_to pairs v ≡ brought_to (fed_by r) v
-  pub all : all_brought pairs ≡ all_brought (fed_by r)
-  pub within : all_given r ≤ max_total
 
 -- ---- settling
 
@@ -201,12 +195,12 @@ AnswersPoll r (Running n) = (n ≡ root_deficit r) × (n ≡ 0 → has_ended r �
 
 -- the root settled each root edge once more, and this is the answer
 pub record Polls (old new : RootKnown) (answer : RootState) : Type 0 where
-  pub polling : IsPolling old new old.net.setting.graph.vertices
+  pub polling : IsPolling old new old.net.setting.game.graph.vertices
   pub answers : AnswersPoll new answer
 
 -- the same, where the first settle noted the end of feeding
 pub record Ends (old new : RootKnown) (answer : RootState) : Type 0 where
-  pub ending : DoesMore old new (End ∷ settles_from old.net.setting 1 (old.net.setting.graph.vertices - 1))
+  pub ending : DoesMore old new (End ∷ settles_from old.net.setting 1 (old.net.setting.game.graph.vertices - 1))
   pub ended : has_ended new ≡ true
   pub answers : AnswersPoll new answer
 
@@ -230,6 +224,6 @@ stopper_part s = part_by s.net.setting (opened s.net.setting) s.did
 pub record Seals (old new : StopperKnown) (edge : ℕ) (answer : SealedAt) : Type 0 where
   pub inside : edge < graph_edges old.net.setting
   pub seen : ℕ
-  pub record_is : new ≡ record { net = old.net; did = old.did ++ record { event = Seal edge; seen = seen } ∷ [] }
+  pub record_is : new ≡ record { net = old.net; did = old.did ++ saw (Seal edge) seen ∷ [] }
   pub first_is : answer.first ≡ is_none ((stopper_part old).stop edge)
   pub count_is : (stopper_part new).stop edge ≡ Some answer.count

@@ -1,10 +1,11 @@
 -- The rule of a net: between any two steps of whatever threads, words and views are what some legal log of the core
 -- leaves.
-use Rattle.std.specs.Prelude.{◌≡◌, ℕ, ◌+◌, ◌<◌, false, List, [], ◌∷◌, length, Some}
+use Rattle.std.specs.Prelude.{◌≡◌, ℕ, ◌+◌, ◌<◌, List, [], ◌∷◌, length, Some}
 use mathlib.Core.Option.{some}
 use lib.ListN.{get_elem?}
 use Rattle.atomic_table.specs.Table.{State, Me}
-use Rattle.chip_part.specs.Setting.{Setting, IsSetting}
+use Rattle.chip_part.specs.Setting.{Setting, IsSetting, setting_of}
+use Rattle.chip_part.specs.Steps.{saw}
 use Rattle.chip_core.specs.Core.{Log, Step, Event, part_of, IsLegalLog}
 use Rattle.chip_core.specs.Histories.{done_by}
 use Rattle.chip_core.specs.Words.{noted, IsShown}
@@ -22,7 +23,7 @@ pub record Kept (g : Setting) (s : State (Unit {0}) View) : Type 0 where
   pub each_part : (j : ℕ) (v : View) → get_elem? s.views j ≡ some v → (p : ℕ) (did : List Step)
       → find p v.parts ≡ Some did → (owner p ≡ j) × (did ≡ done_by g p log)
   -- and it stands there
-  pub there : (p : ℕ) → p < g.graph.vertices + 2 → (v : View) × (get_elem? s.views (owner p) ≡ some v)
+  pub there : (p : ℕ) → p < g.game.graph.vertices + 2 → (v : View) × (get_elem? s.views (owner p) ≡ some v)
       × (find p v.parts ≡ Some (done_by g p log))
   -- the words show the log
   pub shown : IsShown g log (value_in g s.words)
@@ -31,7 +32,7 @@ pub record Kept (g : Setting) (s : State (Unit {0}) View) : Type 0 where
 
 -- an event, with what is noted as seen where its operation found n
 abbrev pub step_of : Event → ℕ → Step
-step_of x n = record { event = x; seen = noted x n }
+step_of x n = saw x (noted x n)
 
 -- each part of the view did what it did in this log
 abbrev pub AgreesWithLog : Setting → Log → View → Type 0
@@ -50,4 +51,4 @@ Grows g x before seen after = (after.0 ≡ grown (part_of g x) (step_of x seen) 
 
 -- what no net is opened for
 abbrev pub no_setting : Setting
-no_setting = record { graph = record { vertices = 0; sink = 0; edges = [] }; start = []; limit = 0; ring = 0; fed = false }
+no_setting = setting_of (record { graph = record { vertices = 0; sink = 0; edges = [] }; start = []; limit = 0 }) 0

@@ -1,5 +1,5 @@
 -- What the clauses of a net's calls know of its actors.
-use Rattle.std.specs.Prelude.{◌≡◌, ◌⊎◌, ℕ, ◌+◌, ◌*◌, ◌<◌, ◌≤◌, true, false, List, [], ◌∷◌, ◌++◌, length, reverse}
+use Rattle.std.specs.Prelude.{◌≡◌, ◌⊎◌, ℕ, ◌<◌, ◌≤◌, true, false, List, [], ◌∷◌, ◌++◌, length, reverse}
 use Rattle.std.specs.Prelude.{Option, Some, None}
 use Rattle.atomic_table.specs.Seated.{TableId}
 use Rattle.chip_part.specs.Setting.{Setting, IsSetting}
@@ -7,8 +7,9 @@ use Rattle.chip_part.specs.declared.act.Act.{Act}
 use Rattle.chip_actor.specs.Actor.{Actor, StandsFor}
 use Rattle.chip_part.specs.Acting.{event_of, FitsSeen}
 use Rattle.chip_part.specs.Part.{is_passive, deficit}
-use Rattle.chip_part.specs.Turn.{turn, ins_of, outs_of}
+use Rattle.chip_part.specs.Turn.{turn, most_steps}
 use Rattle.chip_part.specs.Counting.{work_of}
+use Rattle.chip_part.specs.Steps.{saw}
 use Rattle.chip_actor.specs.Medium.{IsDueBy}
 use Rattle.chip_core.specs.Core.{Step, Part, opened}
 use Rattle.chip_core.specs.Histories.{part_by}
@@ -70,13 +71,13 @@ IsActor a (Some known) = (a.vertex ≡ known.vertex) × StandsFor known.net.sett
 -- the view of a vertex of this game, with a trace of what it did
 pub record IsHand (g : Setting) (v : ℕ) (view : View) (trace : TraceState) : Type 0 where
   pub setting : IsSetting g
-  pub inside : v < g.graph.vertices
+  pub inside : v < g.game.graph.vertices
   pub has : Has v view
   pub traced : Keeps (rows_of (did_in v view)) trace
 
 -- one operation was made and saw this
 pub record MakesStep (old new : ActorKnown) (act : Act) (seen : ℕ) : Type 0 where
-  pub record_is : new ≡ after_these old (record { event = event_of old.vertex act; seen = seen } ∷ [])
+  pub record_is : new ≡ after_these old (saw (event_of old.vertex act) seen ∷ [])
   pub fits : FitsSeen (part_known old) (event_of old.vertex act) seen
 
 -- the operation is due for the actor
@@ -103,10 +104,6 @@ AnswersTurn g v work after (Worked n) = (n ≡ work) × (0 < n)
 AnswersTurn g v work after Waiting = (work ≡ 0) × (is_passive g v after ≡ false)
 AnswersTurn g v work after Idle = (work ≡ 0) × (is_passive g v after ≡ true)
     × ((after.parent ≡ None) ⊎ (0 < deficit g v after))
-
--- no turn of the vertex v has more steps: two for each edge into it, four for each edge out of it, and three more
-abbrev pub most_steps : Setting → ℕ → ℕ
-most_steps g v = (2 * length (ins_of g v) + 4 * length (outs_of g v)) + 3
 
 -- the actor did exactly one turn more, and this is its answer
 pub record MakesTurn (old new : ActorKnown) (answer : Turn) : Type 0 where

@@ -58,4 +58,4 @@ parts_below (suc n) = record { part = n; did = [] } ∷ parts_below n
 
 -- all parts as the game opens: the vertices, the root and the stopper
 abbrev pub opening_view : Setting → View
-opening_view g = record { parts = parts_below (g.graph.vertices + 2) }
+opening_view g = record { parts = parts_below (g.game.graph.vertices + 2) }

@@ -2,7 +2,8 @@
 use Rattle.std.specs.Prelude.{◌≡◌, true, false, [], ◌∷◌, take, Some, None}
 use Rattle.chip_link.specs.declared.trace.TraceRow.TheVariants as Row
 use Rattle.chip_part.specs.Setting.{Setting}
-use Rattle.chip_part.specs.Worked.{small_triangle, saw}
+use Rattle.chip_part.specs.Worked.{small_triangle}
+use Rattle.chip_part.specs.Steps.{saw}
 use Rattle.chip_core.specs.Core.{Take, Ack, Fire, Clear, Put, Settle, Read, Feed}
 use Rattle.chip_core.specs.Positions.{fed_in}
 use Rattle.chip_core.specs.Words.{of_edge, of_acks, of_cell, of_vertex}

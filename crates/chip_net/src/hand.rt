@@ -4,12 +4,12 @@ ghost use Rattle.std.specs.Prelude.{◌≡◌, ◌<◌, [], Some};
 ghost use Rattle.chip_net.specs.Tokens.{IsDueFor, MakesStep, newcomer};
 
 use crate::calls;
+use crate::layout::{acks_word, cell_word, edge_word, fired_word};
 use crate::net::Net;
 use crate::rule::PartSeat;
-use crate::setup::Setup;
 use crate::trace::Trace;
 use chip_link::{Event, FiredWord, TraceRow};
-use chip_part::Act;
+use chip_part::{Act, Setting};
 use std::marker::{Brand, Model};
 use std::snapshot::Snapshot;
 
@@ -18,7 +18,7 @@ use std::snapshot::Snapshot;
 pub(crate) struct Hand {
     vertex: u64,
     seat: PartSeat,
-    setup: Snapshot<Setup>,
+    setting: Snapshot<Setting>,
     trace: Trace,
 }
 
@@ -29,13 +29,13 @@ impl Model for Hand {
     ghost Value = { ActorKnown };
 
     ghost view = { λ a. record {
-      net = record { table = a.seat.table_id; setting = a.setup.value };
+      net = record { table = a.seat.table_id; setting = a.setting.value };
       vertex = a.vertex;
       room = a.trace.room;
       did = did_in a.vertex a.seat.me.0;
     } };
 
-    ghost invariant = { λ a. IsHand a.setup.value a.vertex a.seat.me.0 a.trace };
+    ghost invariant = { λ a. IsHand a.setting.value a.vertex a.seat.me.0 a.trace };
 }
 
 impl Hand {
@@ -45,17 +45,17 @@ impl Hand {
     ghost use Rattle.chip_net.specs.Traces.{Keeps, rows_of};
 
     /// For a vertex that has done nothing.
-    pub(crate) fn new(setup: Snapshot<Setup>, seat: PartSeat, vertex: u64, trace: Trace) -> Hand
-        requires setting { IsSetting setup.value }
-        requires vertex { vertex < setup.value.graph.vertices }
+    pub(crate) fn new(setting: Snapshot<Setting>, seat: PartSeat, vertex: u64, trace: Trace) -> Hand
+        requires setting { IsSetting setting.value }
+        requires vertex { vertex < setting.value.game.graph.vertices }
         requires part { find vertex seat.me.0.parts ≡ Some [] }
         requires trace { Keeps [] trace }
-        ensures { result ≡ newcomer (record { table = seat.table_id; setting = setup.value }) trace.room vertex }
+        ensures { result ≡ newcomer (record { table = seat.table_id; setting = setting.value }) trace.room vertex }
     {
         Hand {
             vertex,
             seat,
-            setup,
+            setting,
             trace,
         }
     }
@@ -81,7 +81,7 @@ impl Hand {
         ensures { MakesStep self.old self.new (Act.Take edge cell) result }
     {
         let seat = &mut self.seat;
-        let word = net.setup().cell_word(edge, cell);
+        let word = cell_word(net.setting(), edge, cell);
         let event = Event::Take(edge);
         let count = calls::swap::<Brand>(net.words(), seat, word, 0, event);
         self.trace.note_take(edge, count);
@@ -95,7 +95,7 @@ impl Hand {
         ensures { MakesStep self.old self.new (Act.Settle edge) result }
     {
         let seat = &mut self.seat;
-        let word = net.setup().acks_word(edge);
+        let word = acks_word(net.setting(), edge);
         let event = Event::Settle(edge);
         calls::load::<Brand>(net.words(), seat, word, event)
     }
@@ -108,7 +108,7 @@ impl Hand {
     {
         let vertex = self.vertex;
         let seat = &mut self.seat;
-        let word = net.setup().fired_word(vertex);
+        let word = fired_word(net.setting(), vertex);
         let event = Event::Fire { vertex, k };
         let before = calls::fetch_add::<Brand>(net.words(), seat, word, k, event);
         self.trace.note(TraceRow::Fire { k });
@@ -122,7 +122,7 @@ impl Hand {
         ensures { MakesStep self.old self.new (Act.Clear edge cell) result }
     {
         let seat = &mut self.seat;
-        let word = net.setup().cell_word(edge, cell);
+        let word = cell_word(net.setting(), edge, cell);
         let event = Event::Clear(edge);
         calls::load::<Brand>(net.words(), seat, word, event)
     }
@@ -134,7 +134,7 @@ impl Hand {
         ensures { MakesStep self.old self.new (Act.Claim edge expected new) result }
     {
         let seat = &mut self.seat;
-        let word = net.setup().edge_word(edge);
+        let word = edge_word(net.setting(), edge);
         let event = Event::Claim(edge);
         calls::exchange::<Brand>(net.words(), seat, word, expected, new, event)
     }
@@ -146,7 +146,7 @@ impl Hand {
         ensures { MakesStep self.old self.new (Act.Put edge cell value) 0 }
     {
         let seat = &mut self.seat;
-        let word = net.setup().cell_word(edge, cell);
+        let word = cell_word(net.setting(), edge, cell);
         let event = Event::Put(edge);
         calls::store::<Brand>(net.words(), seat, word, value, event);
     }
@@ -159,7 +159,7 @@ impl Hand {
     {
         let vertex = self.vertex;
         let seat = &mut self.seat;
-        let word = net.setup().fired_word(vertex);
+        let word = fired_word(net.setting(), vertex);
         let bits = halt_bits(by_limit);
         let event = Event::Halt(vertex);
         calls::fetch_or::<Brand>(net.words(), seat, word, bits, event)
@@ -172,7 +172,7 @@ impl Hand {
         ensures { MakesStep self.old self.new (Act.Ack edge count) result }
     {
         let seat = &mut self.seat;
-        let word = net.setup().acks_word(edge);
+        let word = acks_word(net.setting(), edge);
         let event = Event::Ack(edge);
         calls::fetch_add::<Brand>(net.words(), seat, word, count, event)
     }

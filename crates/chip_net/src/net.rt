@@ -2,7 +2,7 @@ ghost use Rattle.std.specs.Prelude.{◌≡◌, [], Some, IfOk};
 
 use crate::calls;
 use crate::rule::{PartSeat, Words};
-use crate::setup::Setup;
+use chip_part::Setting;
 use std::alloc::{AllocError, Global};
 use std::marker::{Brand, Model};
 use std::snapshot::Snapshot;
@@ -10,7 +10,7 @@ use std::snapshot::Snapshot;
 /// The words that the threads of a net share. A token is used with the net that opened it.
 #[derive(Drop)]
 pub struct Net {
-    setup: Setup,
+    setting: Setting,
     words: Words,
 }
 
@@ -22,10 +22,10 @@ impl Model for Net {
 
     ghost Value = { NetId };
 
-    ghost view = { λ a. record { table = a.words.shared.table_id; setting = a.setup } };
+    ghost view = { λ a. record { table = a.words.shared.table_id; setting = a.setting } };
 
-    ghost invariant = { λ a. (a.words.shared.key.value ≡ a.setup)
-        × (a.words.shared.table_id.words ≡ word_count a.setup) × IsSetting a.setup };
+    ghost invariant = { λ a. (a.words.shared.key.value ≡ a.setting)
+        × (a.words.shared.table_id.words ≡ word_count a.setting) × IsSetting a.setting };
 }
 
 impl Net {
@@ -38,25 +38,25 @@ impl Net {
     /// A net with these words, and the seat that has every part.
     pub(crate) fn of_words(
         alloc: Global,
-        setup: Setup,
+        setting: Setting,
         words: &[u64],
     ) -> Result<(Net, PartSeat), AllocError>
-        requires { AreOpening setup (all_edges setup) words.now }
-        ensures net { IfOk result (λ r. r.0.setting ≡ setup) }
-        ensures seat { IfOk result (λ r. (r.1.table_id ≡ r.0.table) × (r.1.me.0 ≡ opening_view setup)) }
+        requires { AreOpening setting (all_edges setting) words.now }
+        ensures net { IfOk result (λ r. r.0.setting ≡ setting) }
+        ensures seat { IfOk result (λ r. (r.1.table_id ≡ r.0.table) × (r.1.me.0 ≡ opening_view setting)) }
     {
-        let _ring = setup.ring();
-        let key = Snapshot::of(&setup);
+        let _ring = setting.ring();
+        let key = Snapshot::of(&setting);
         let (words, seat) = Words::of_words(alloc, words, &key)?;
-        Ok((Net { setup, words }, seat))
+        Ok((Net { setting, words }, seat))
     }
 
     /// What the net was opened for.
-    pub(crate) fn setup(&self) -> &Setup
+    pub(crate) fn setting(&self) -> &Setting
         ensures value { result.now ≡ self.now.setting }
         ensures setting { IsSetting self.now.setting }
     {
-        &self.setup
+        &self.setting
     }
 
     /// The shared words.

@@ -10,42 +10,43 @@ ghost use Rattle.chip_net.specs.Roots.{new_root, new_stopper};
 
 use crate::actor::Actor;
 use crate::hand::Hand;
+use crate::layout::{cell_word, edge_word, word_count};
 use crate::net::Net;
 use crate::root::Root;
 use crate::rule::PartSeat;
-use crate::setup::Setup;
 use crate::stopper::Stopper;
 use crate::trace::Trace;
 use chip_actor::ActorState;
 use chip_graph::Game;
 use chip_link::Ring;
+use chip_part::Setting;
 use std::alloc::{AllocError, Global};
 use std::snapshot::Snapshot;
 
 /// Lays out the message of one root edge, where its vertex starts with chips.
-fn open_edge(setup: &Setup, words: &mut Vec<u64>, vertex: u64)
-    requires vertex { vertex < setup.now.graph.vertices }
-    requires words { AreOpening setup.now (graph_edges setup.now + vertex) words.old.items }
-    ensures { AreOpening setup.now (graph_edges setup.now + vertex + 1) words.new.items }
+fn open_edge(setting: &Setting, words: &mut Vec<u64>, vertex: u64)
+    requires vertex { vertex < setting.now.game.graph.vertices }
+    requires words { AreOpening setting.now (graph_edges setting.now + vertex) words.old.items }
+    ensures { AreOpening setting.now (graph_edges setting.now + vertex + 1) words.new.items }
 {
-    let chips = setup.game().start()[vertex as usize];
+    let chips = setting.game().start()[vertex as usize];
     if chips > 0 {
-        let edge = setup.root_edge(vertex);
-        let _cells = setup.ring().cells();
-        let word = setup.edge_word(edge);
-        let cell = setup.cell_word(edge, 0);
+        let edge = setting.root_edge(vertex);
+        let _cells = setting.ring().cells();
+        let word = edge_word(setting, edge);
+        let cell = cell_word(setting, edge, 0);
         words[word] = 1;
         words[cell] = chips;
     }
 }
 
 /// The words of a net that opens: the messages of the start lie on the root edges.
-fn opening_words(alloc: Global, setup: &Setup) -> Result<Vec<u64>, AllocError>
-    ensures { IfOk result (λ words. AreOpening setup.now (all_edges setup.now) words.items) }
+fn opening_words(alloc: Global, setting: &Setting) -> Result<Vec<u64>, AllocError>
+    ensures { IfOk result (λ words. AreOpening setting.now (all_edges setting.now) words.items) }
 {
-    let mut words = vec![in alloc; 0; setup.word_count()]?;
-    for vertex in 0..setup.vertices() {
-        open_edge(setup, &mut words, vertex);
+    let mut words = vec![in alloc; 0; word_count(setting)]?;
+    for vertex in 0..setting.vertices() {
+        open_edge(setting, &mut words, vertex);
     }
     Ok(words)
 }
@@ -59,17 +60,17 @@ fn one_actor(
     vertex: u64,
 ) -> Result<Actor, AllocError>
     requires table { seat.old.table_id ≡ net.now.table }
-    requires vertex { vertex < net.now.setting.graph.vertices }
+    requires vertex { vertex < net.now.setting.game.graph.vertices }
     requires part { find vertex seat.old.me.0.parts ≡ Some [] }
     ensures table { seat.new.table_id ≡ seat.old.table_id }
     ensures others { (p : ℕ) → vertex < p → find p seat.new.me.0.parts ≡ find p seat.old.me.0.parts }
     ensures actor { IfOk result (λ a. a ≡ newcomer net.now trace_rows vertex) }
 {
     let own = net.hand_on(seat, vertex);
-    let setup = net.setup();
+    let setting = net.setting();
     let trace = Trace::new(alloc, trace_rows as usize)?;
-    let state = ActorState::new(alloc, setup.game(), vertex, setup.ring())?;
-    Ok(Actor::new(state, Hand::new(Snapshot::of(setup), own, vertex, trace)))
+    let state = ActorState::new(alloc, setting.game(), vertex, setting.ring())?;
+    Ok(Actor::new(state, Hand::new(Snapshot::of(setting), own, vertex, trace)))
 }
 
 /// The actors of all vertices, ascending.
@@ -80,16 +81,16 @@ fn all_actors(
     trace_rows: u64,
 ) -> Result<Vec<Actor>, AllocError>
     requires table { seat.old.table_id ≡ net.now.table }
-    requires parts { (p : ℕ) → p < net.now.setting.graph.vertices + 2 → find p seat.old.me.0.parts ≡ Some [] }
+    requires parts { (p : ℕ) → p < net.now.setting.game.graph.vertices + 2 → find p seat.old.me.0.parts ≡ Some [] }
     ensures table { seat.new.table_id ≡ seat.old.table_id }
-    ensures rest { (p : ℕ) → net.now.setting.graph.vertices ≤ p → p < net.now.setting.graph.vertices + 2
+    ensures rest { (p : ℕ) → net.now.setting.game.graph.vertices ≤ p → p < net.now.setting.game.graph.vertices + 2
         → find p seat.new.me.0.parts ≡ Some [] }
-    ensures count { IfOk result (λ v. length v.items ≡ net.now.setting.graph.vertices) }
-    ensures actors { IfOk result (λ v. (p : ℕ) → p < net.now.setting.graph.vertices
+    ensures count { IfOk result (λ v. length v.items ≡ net.now.setting.game.graph.vertices) }
+    ensures actors { IfOk result (λ v. (p : ℕ) → p < net.now.setting.game.graph.vertices
         → slice_get v.items p ≡ Some (newcomer net.now trace_rows p)) }
     ensures ours { IfOk result (λ v. All (λ a. a.net ≡ net.now) v.items) }
 {
-    let vertices = net.setup().vertices();
+    let vertices = net.setting().vertices();
     let mut actors = Vec::with_capacity(alloc, vertices as usize)?;
     for vertex in 0..vertices {
         actors.push_reserved(one_actor(alloc, net, seat, trace_rows, vertex)?);
@@ -110,18 +111,18 @@ fn stopper_of(net: &Net, seat: &mut PartSeat, stoppable: bool) -> Option<Stopper
     if !stoppable {
         return None;
     }
-    let part = net.setup().vertices() + 1;
+    let part = net.setting().vertices() + 1;
     let own = net.hand_on(seat, part);
-    Some(Stopper::new(Snapshot::of(net.setup()), own))
+    Some(Stopper::new(Snapshot::of(net.setting()), own))
 }
 
-/// A net for this setup, as it opens, and the seat that has every part.
-fn laid_out(alloc: Global, setup: Setup) -> Result<(Net, PartSeat), AllocError>
-    ensures net { IfOk result (λ r. r.0.setting ≡ setup) }
+/// A net for this setting, as it opens, and the seat that has every part.
+fn laid_out(alloc: Global, setting: Setting) -> Result<(Net, PartSeat), AllocError>
+    ensures net { IfOk result (λ r. r.0.setting ≡ setting) }
     ensures seat { IfOk result (λ r. (r.1.table_id ≡ r.0.table) × (r.1.me.0 ≡ opening_view r.0.setting)) }
 {
-    let words = opening_words(alloc, &setup)?;
-    Net::of_words(alloc, setup, &words)
+    let words = opening_words(alloc, &setting)?;
+    Net::of_words(alloc, setting, &words)
 }
 
 /// The tokens of a net that opens: the root, the actors and the stopper.
@@ -134,34 +135,34 @@ fn tokens(
 ) -> Result<(Root, Vec<Actor>, Option<Stopper>), AllocError>
     requires { (seat.table_id ≡ net.now.table) × (seat.me.0 ≡ opening_view net.now.setting) }
     ensures root { IfOk result (λ r. r.0 ≡ new_root net.now (if stoppable then None else Some [])) }
-    ensures count { IfOk result (λ r. length r.1.items ≡ net.now.setting.graph.vertices) }
-    ensures actors { IfOk result (λ r. (v : ℕ) → v < net.now.setting.graph.vertices
+    ensures count { IfOk result (λ r. length r.1.items ≡ net.now.setting.game.graph.vertices) }
+    ensures actors { IfOk result (λ r. (v : ℕ) → v < net.now.setting.game.graph.vertices
         → slice_get r.1.items v ≡ Some (newcomer net.now trace_rows v)) }
     ensures ours { IfOk result (λ r. All (λ a. a.net ≡ net.now) r.1.items) }
     ensures stopper { IfOk result (λ r. r.2 ≡ (if stoppable then Some (new_stopper net.now) else None)) }
 {
     let actors = all_actors(alloc, net, &mut seat, trace_rows)?;
     let stopper = stopper_of(net, &mut seat, stoppable);
-    let root = Root::new(alloc, net.setup(), seat)?;
+    let root = Root::new(alloc, net.setting(), seat)?;
     Ok((root, actors, stopper))
 }
 
 /// A net for this game, fed or not, with its tokens.
 fn opened(
     alloc: Global,
-    setup: Setup,
+    setting: Setting,
     trace_rows: u64,
     stoppable: bool,
 ) -> Result<(Net, Root, Vec<Actor>, Option<Stopper>), AllocError>
-    ensures setting { IfOk result (λ r. r.0.setting ≡ setup) }
+    ensures setting { IfOk result (λ r. r.0.setting ≡ setting) }
     ensures root { IfOk result (λ r. r.1 ≡ new_root r.0 (if stoppable then None else Some [])) }
-    ensures count { IfOk result (λ r. length r.2.items ≡ setup.graph.vertices) }
-    ensures actors { IfOk result (λ r. (v : ℕ) → v < setup.graph.vertices
+    ensures count { IfOk result (λ r. length r.2.items ≡ setting.game.graph.vertices) }
+    ensures actors { IfOk result (λ r. (v : ℕ) → v < setting.game.graph.vertices
         → slice_get r.2.items v ≡ Some (newcomer r.0 trace_rows v)) }
     ensures ours { IfOk result (λ r. All (λ a. a.net ≡ r.0) r.2.items) }
     ensures stopper { IfOk result (λ r. r.3 ≡ (if stoppable then Some (new_stopper r.0) else None)) }
 {
-    let (net, seat) = laid_out(alloc, setup)?;
+    let (net, seat) = laid_out(alloc, setting)?;
     let (root, actors, stopper) = tokens(alloc, &net, seat, trace_rows, stoppable)?;
     Ok((net, root, actors, stopper))
 }
@@ -185,8 +186,8 @@ impl Net {
         ensures ours { IfOk result (λ r. All (λ a. a.net ≡ r.0) r.2.items) }
         ensures stopper { IfOk result (λ r. r.3 ≡ (if stoppable then Some (new_stopper r.0) else None)) }
     {
-        let setup = Setup::new(alloc, game, ring, false)?;
-        opened(alloc, setup, trace_rows, stoppable)
+        let setting = Setting::of_copy(alloc, game, ring, false)?;
+        opened(alloc, setting, trace_rows, stoppable)
     }
 
     /// The same where the root may feed more chips, until it notes the end of feeding: the net can't close before.
@@ -205,7 +206,7 @@ impl Net {
         ensures ours { IfOk result (λ r. All (λ a. a.net ≡ r.0) r.2.items) }
         ensures stopper { IfOk result (λ r. r.3 ≡ (if stoppable then Some (new_stopper r.0) else None)) }
     {
-        let setup = Setup::new(alloc, game, ring, true)?;
-        opened(alloc, setup, trace_rows, stoppable)
+        let setting = Setting::of_copy(alloc, game, ring, true)?;
+        opened(alloc, setting, trace_rows, stoppable)
     }
 }

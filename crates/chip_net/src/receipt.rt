@@ -4,11 +4,12 @@ ghost use Rattle.chip_net.specs.Roots.{IsOver};
 ghost use Rattle.chip_net.specs.Finish.{ReadsAt, IsReading, blank_tally};
 
 use crate::calls;
+use crate::layout::fired_word;
 use crate::net::Net;
 use crate::rule::PartSeat;
-use crate::setup::Setup;
 use crate::tally::Tally;
 use chip_link::{Event, FiredWord};
+use chip_part::Setting;
 use std::marker::{Brand, Model};
 use std::snapshot::Snapshot;
 
@@ -16,7 +17,7 @@ use std::snapshot::Snapshot;
 #[derive(Drop)]
 pub struct Receipt {
     seat: PartSeat,
-    setup: Snapshot<Setup>,
+    setting: Snapshot<Setting>,
 }
 
 impl Model for Receipt {
@@ -28,12 +29,12 @@ impl Model for Receipt {
     ghost Value = { RootKnown };
 
     ghost view = { λ a. record {
-      net = record { table = a.seat.table_id; setting = a.setup.value };
-      did = did_in (root a.setup.value) a.seat.me.0;
-      stopper_did = find (stopper a.setup.value) a.seat.me.0.parts;
+      net = record { table = a.seat.table_id; setting = a.setting.value };
+      did = did_in (root a.setting.value) a.seat.me.0;
+      stopper_did = find (stopper a.setting.value) a.seat.me.0.parts;
     } };
 
-    ghost invariant = { λ a. Has (root a.setup.value) a.seat.me.0 × IsSetting a.setup.value };
+    ghost invariant = { λ a. Has (root a.setting.value) a.seat.me.0 × IsSetting a.setting.value };
 }
 
 impl Receipt {
@@ -41,28 +42,28 @@ impl Receipt {
     ghost use Rattle.chip_part.specs.Setting.{IsSetting};
     ghost use Rattle.chip_net.specs.Views.{find, did_in, Has};
 
-    pub(crate) fn new(seat: PartSeat, setup: Snapshot<Setup>) -> Receipt
-        requires has { Has (root setup.value) seat.me.0 }
-        requires setting { IsSetting setup.value }
+    pub(crate) fn new(seat: PartSeat, setting: Snapshot<Setting>) -> Receipt
+        requires has { Has (root setting.value) seat.me.0 }
+        requires setting { IsSetting setting.value }
         ensures { result ≡ record {
-          net = record { table = seat.table_id; setting = setup.value };
-          did = did_in (root setup.value) seat.me.0;
-          stopper_did = find (stopper setup.value) seat.me.0.parts;
+          net = record { table = seat.table_id; setting = setting.value };
+          did = did_in (root setting.value) seat.me.0;
+          stopper_did = find (stopper setting.value) seat.me.0.parts;
         } }
     {
-        Receipt { seat, setup }
+        Receipt { seat, setting }
     }
 
     /// Reads the fired word of a vertex.
     fn read(&mut self, net: &Net, vertex: u64) -> u64
         requires net { self.old.net ≡ net.now }
-        requires vertex { vertex < self.old.net.setting.graph.vertices }
+        requires vertex { vertex < self.old.net.setting.game.graph.vertices }
         requires over { IsOver self.old }
         ensures reads { ReadsAt self.old self.new vertex result }
         ensures word { is_fired_word result ≡ true }
     {
         let seat = &mut self.seat;
-        let word = net.setup().fired_word(vertex);
+        let word = fired_word(net.setting(), vertex);
         let event = Event::Read(vertex);
         calls::load::<Brand>(net.words(), seat, word, event)
     }
@@ -71,10 +72,10 @@ impl Receipt {
     pub(crate) fn read_all(&mut self, net: &Net, mut tally: Tally) -> Tally
         requires net { self.old.net ≡ net.now }
         requires over { IsOver self.old }
-        requires tally { tally ≡ blank_tally self.old.net.setting.graph.vertices }
-        ensures { IsReading self.old self.new result self.old.net.setting.graph.vertices }
+        requires tally { tally ≡ blank_tally self.old.net.setting.game.graph.vertices }
+        ensures { IsReading self.old self.new result self.old.net.setting.game.graph.vertices }
     {
-        for vertex in 0..net.setup().vertices() {
+        for vertex in 0..net.setting().vertices() {
             let word = FiredWord::from_word(self.read(net, vertex));
             tally.note(word.unwrap());
         }

@@ -1,44 +1,35 @@
 ghost use Rattle.std.specs.Prelude.{◌≡◌, IfOk};
-ghost use Rattle.chip_part.specs.Setting.{game_of_setting};
 
-use crate::setup::Setup;
 use crate::tally::Tally;
-use chip_graph::Game;
 use std::alloc::{AllocError, Global};
 use std::marker::Model;
 
-/// What `finish` makes the outcome of: the game, and room for all that the end writes. All memory is taken at the
-/// beginning. Contracts see it as the game.
+/// Room for all that the end of a game writes. All memory is taken at the beginning. Contracts see for how many vertices
+/// there is room.
 #[derive(Drop)]
 pub(crate) struct Reserve {
-    pub(crate) more: Vec<(u64, u64)>,
     pub(crate) chips: Vec<u64>,
-    pub(crate) game: Game,
     pub(crate) tally: Tally,
 }
 
 impl Model for Reserve {
-    ghost use Rattle.std.specs.Vec.{vec_capacity};
-    ghost use Rattle.chip_graph.specs.ChipGame.{ChipGame};
-    ghost use Rattle.chip_net.specs.Finish.{IsReady};
+    ghost use Rattle.std.specs.Prelude.{◌≡◌, ℕ, length};
+    ghost use Rattle.chip_net.specs.Finish.{blank_tally};
 
-    ghost Value = { ChipGame };
+    ghost Value = { ℕ };
 
-    ghost view = { λ a. a.game };
+    ghost view = { λ a. length a.chips.items };
 
-    ghost invariant = { λ a. IsReady a.game a.more.items (vec_capacity a.more) a.tally a.chips.items };
+    ghost invariant = { λ a. a.tally ≡ blank_tally (length a.chips.items) };
 }
 
 impl Reserve {
-    /// For the game that a net is opened for.
-    pub(crate) fn new(alloc: Global, setup: &Setup) -> Result<Reserve, AllocError>
-        ensures { IfOk result (λ reserve. reserve ≡ game_of_setting setup.now) }
+    /// For so many vertices.
+    pub(crate) fn new(alloc: Global, vertices: usize) -> Result<Reserve, AllocError>
+        ensures { IfOk result (λ reserve. reserve ≡ vertices) }
     {
-        let vertices = setup.vertices() as usize;
         Ok(Reserve {
-            more: Vec::with_capacity(alloc, vertices)?,
             chips: vec![in alloc; 0; vertices]?,
-            game: setup.game().copy(alloc)?,
             tally: Tally::new(alloc, vertices)?,
         })
     }

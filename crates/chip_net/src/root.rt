@@ -1,5 +1,5 @@
 ghost use Rattle.std.specs.Prelude.{◌≡◌, ◌<◌, ◌≤◌, [], Some, IfOk, MatchResult};
-ghost use Rattle.chip_part.specs.Setting.{game_of_setting};
+ghost use Rattle.chip_part.specs.Setting.{IsSetting};
 ghost use Rattle.chip_part.specs.Edges.{root, stopper};
 ghost use Rattle.chip_net.specs.Views.{find};
 ghost use Rattle.chip_net.specs.Roots.{new_root, IsOver, Feeds, RefusesFeed, Polls, Ends};
@@ -10,11 +10,10 @@ use crate::receipt::Receipt;
 use crate::reserve::Reserve;
 use crate::root_hand::RootHand;
 use crate::rule::PartSeat;
-use crate::setup::Setup;
 use crate::tally::Tally;
 use chip_link::Event;
-use chip_part::Reply;
-use chip_sequence::{Outcome, after_into};
+use chip_part::{Reply, Setting};
+use chip_sequence::{Outcome, after_from};
 use std::alloc::{AllocError, Global};
 use std::marker::Model;
 
@@ -47,7 +46,6 @@ pub struct Root {
 
 impl Model for Root {
     ghost use Rattle.std.specs.Prelude.{◌≡◌};
-    ghost use Rattle.chip_part.specs.Setting.{game_of_setting};
     ghost use Rattle.chip_net.specs.Roots.{RootKnown, HoldsNothing};
 
     ghost Value = { RootKnown };
@@ -55,18 +53,19 @@ impl Model for Root {
     ghost view = { λ a. a.hand.value };
 
     ghost invariant = { λ a. HoldsNothing a.hand.value
-        × (a.reserve.value ≡ game_of_setting a.hand.value.net.setting) };
+        × (a.reserve.value ≡ a.hand.value.net.setting.game.graph.vertices) };
 }
 
 impl Root {
-    pub(crate) fn new(alloc: Global, setup: &Setup, seat: PartSeat) -> Result<Root, AllocError>
-        requires { find (root setup.now) seat.me.0.parts ≡ Some [] }
-        ensures { IfOk result (λ r. r ≡ new_root (record { table = seat.table_id; setting = setup.now })
-            (find (stopper setup.now) seat.me.0.parts)) }
+    pub(crate) fn new(alloc: Global, setting: &Setting, seat: PartSeat) -> Result<Root, AllocError>
+        requires setting { IsSetting setting.now }
+        requires part { find (root setting.now) seat.me.0.parts ≡ Some [] }
+        ensures { IfOk result (λ r. r ≡ new_root (record { table = seat.table_id; setting = setting.now })
+            (find (stopper setting.now) seat.me.0.parts)) }
     {
         Ok(Root {
-            reserve: Box::new(alloc, Reserve::new(alloc, setup)?)?,
-            hand: Box::new(alloc, RootHand::new(alloc, setup, seat)?)?,
+            reserve: Box::new(alloc, Reserve::new(alloc, setting.vertices() as usize)?)?,
+            hand: Box::new(alloc, RootHand::new(alloc, setting, seat)?)?,
         })
     }
 
@@ -74,13 +73,13 @@ impl Root {
     /// waits: where the ring to the vertex is full, it says so, and a later try may go through.
     pub fn feed(&mut self, net: &Net, vertex: u64, count: u64) -> Result<u64, FeedFault>
         requires net { self.old.net ≡ net.now }
-        requires vertex { vertex < self.old.net.setting.graph.vertices }
+        requires vertex { vertex < self.old.net.setting.game.graph.vertices }
         requires count { 1 ≤ count }
         ensures cases { MatchResult result (Feeds self.old self.new vertex count)
             (RefusesFeed self.old self.new vertex count) }
         ensures same { self.new.net ≡ self.old.net }
     {
-        let edge = net.setup().root_edge(vertex);
+        let edge = net.setting().root_edge(vertex);
         let hand: &mut RootHand = &mut self.hand;
         hand.may_feed(vertex, edge, count)?;
         let Reply::Done(place) = hand.make(net, Event::Clear(edge)) else {
@@ -135,24 +134,19 @@ impl Root {
 fn ended(net: &Net, hand: RootHand, reserve: Reserve) -> (Outcome, Receipt)
     requires net { hand.net ≡ net.now }
     requires over { IsOver hand }
-    requires reserve { reserve ≡ game_of_setting hand.net.setting }
+    requires reserve { reserve ≡ hand.net.setting.game.graph.vertices }
     ensures { Finishes hand result.1 result.0 }
 {
-    let Reserve {
-        more,
-        mut chips,
-        game,
-        tally,
-    } = reserve;
-    let game = hand.with_fed(net, game, more);
-    let mut receipt = hand.receipt();
+    let Reserve { mut chips, tally } = reserve;
+    let (state, mut receipt) = hand.into_receipt();
     let Tally {
         fired,
         over,
         sealed,
         ..
     } = receipt.read_all(net, tally);
-    match after_into(&game, &fired, &mut chips) {
+    let graph = net.setting().game().graph();
+    match after_from(graph, state.given(), &fired, &mut chips) {
         Ok(()) => {}
         Err(_) => unreachable!(),
     }

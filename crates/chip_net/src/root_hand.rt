@@ -1,30 +1,26 @@
 //! What the root acts with: its seat at the shared words, and what it keeps of its edges.
 
 ghost use Rattle.std.specs.Prelude.{◌≡◌, ℕ, ◌-◌, ◌<◌, ◌≤◌, ◌==◌, ◌&&◌, [], Some, IfOk, MatchResult, true};
-ghost use Rattle.std.specs.Vec.{vec_capacity};
-ghost use Rattle.chip_graph.specs.More.{HasMore};
-ghost use Rattle.chip_part.specs.Setting.{IsSetting, game_of_setting};
+ghost use Rattle.chip_part.specs.Setting.{IsSetting};
 ghost use Rattle.chip_part.specs.Edges.{root, stopper, root_edge};
 ghost use Rattle.chip_root.specs.Root.{RootStandsFor};
-ghost use Rattle.chip_part.specs.Part.{opened};
 ghost use Rattle.chip_core.specs.Core.{End, Settle, part_of, unmet};
 ghost use Rattle.chip_core.specs.Words.{noted, of_acks};
 ghost use Rattle.chip_net.specs.Layout.{index_of};
 ghost use Rattle.chip_net.specs.Rule.{Grows};
 ghost use Rattle.chip_net.specs.Views.{find};
-ghost use Rattle.chip_net.specs.Roots.{new_root, root_deficit, has_ended, fed_by, IsOver};
+ghost use Rattle.chip_net.specs.Roots.{new_root, root_part, root_deficit, has_ended, IsOver};
 ghost use Rattle.chip_net.specs.Roots.{IsDueForRoot, IsDueInView, MakesEvent, Replies, DoesMore, settles_from};
-ghost use Rattle.chip_net.specs.Roots.{HoldsNothing, AnswersPoll, AllowsFeed, BringsFed, feed_fault};
+ghost use Rattle.chip_net.specs.Roots.{HoldsNothing, AnswersPoll, AllowsFeed, feed_fault};
 
 use crate::calls;
+use crate::layout::{acks_word, cell_word, edge_word, root_acks};
 use crate::net::Net;
 use crate::receipt::Receipt;
 use crate::root::{FeedFault, RootState as PollState};
 use crate::rule::PartSeat;
-use crate::setup::Setup;
-use chip_graph::Game;
 use chip_link::Event;
-use chip_part::{Act, Reply, Rule};
+use chip_part::{Act, Reply, Rule, Setting};
 use chip_root::RootState;
 use std::alloc::{AllocError, Global};
 use std::marker::{Brand, Model};
@@ -34,7 +30,7 @@ use std::snapshot::Snapshot;
 #[derive(Drop)]
 pub(crate) struct RootHand {
     seat: PartSeat,
-    setup: Snapshot<Setup>,
+    setting: Snapshot<Setting>,
     state: RootState,
 }
 
@@ -46,38 +42,43 @@ impl Model for RootHand {
     ghost Value = { RootKnown };
 
     ghost view = { λ a. record {
-      net = record { table = a.seat.table_id; setting = a.setup.value };
-      did = did_in (root a.setup.value) a.seat.me.0;
-      stopper_did = find (stopper a.setup.value) a.seat.me.0.parts;
+      net = record { table = a.seat.table_id; setting = a.setting.value };
+      did = did_in (root a.setting.value) a.seat.me.0;
+      stopper_did = find (stopper a.setting.value) a.seat.me.0.parts;
     } };
 
-    ghost invariant = { λ a. IsRoot a.setup.value a.seat.me.0 a.state };
+    ghost invariant = { λ a. IsRoot a.setting.value a.seat.me.0 a.state };
 }
 
 impl RootHand {
     /// For a root that has done nothing.
-    pub(crate) fn new(alloc: Global, setup: &Setup, seat: PartSeat) -> Result<RootHand, AllocError>
-        requires { find (root setup.now) seat.me.0.parts ≡ Some [] }
-        ensures { IfOk result (λ r. r ≡ new_root (record { table = seat.table_id; setting = setup.now })
-            (find (stopper setup.now) seat.me.0.parts)) }
+    pub(crate) fn new(
+        alloc: Global,
+        setting: &Setting,
+        seat: PartSeat,
+    ) -> Result<RootHand, AllocError>
+        requires setting { IsSetting setting.now }
+        requires part { find (root setting.now) seat.me.0.parts ≡ Some [] }
+        ensures { IfOk result (λ r. r ≡ new_root (record { table = seat.table_id; setting = setting.now })
+            (find (stopper setting.now) seat.me.0.parts)) }
     {
         Ok(RootHand {
             seat,
-            setup: Snapshot::of(setup),
-            state: opening_state(alloc, setup)?,
+            setting: Snapshot::of(setting),
+            state: RootState::new(alloc, setting)?,
         })
     }
 
     /// Settles the root edge of a vertex, of which that is the word of acknowledgements.
     fn settle(&mut self, net: &Net, vertex: u64, word: usize)
         requires net { self.old.net ≡ net.now }
-        requires vertex { vertex < self.old.net.setting.graph.vertices }
+        requires vertex { vertex < self.old.net.setting.game.graph.vertices }
         requires word { word ≡ index_of self.old.net.setting (of_acks (root_edge self.old.net.setting vertex)) }
         ensures { (seen : ℕ) × MakesEvent self.old self.new (Settle (root_edge self.old.net.setting vertex)) seen }
     {
         let seat = &mut self.seat;
-        let setup = net.setup();
-        let edge = setup.root_edge(vertex);
+        let setting = net.setting();
+        let edge = setting.root_edge(vertex);
         let event = Event::Settle(edge);
         let seen = calls::load::<Brand>(net.words(), seat, word, event);
         self.state.settle(vertex as usize, seen);
@@ -88,13 +89,13 @@ impl RootHand {
         requires net { self.old.net ≡ net.now }
         requires first { first ≤ 1 }
         ensures settles { DoesMore self.old self.new
-            (settles_from self.old.net.setting first (self.old.net.setting.graph.vertices - first)) }
+            (settles_from self.old.net.setting first (self.old.net.setting.game.graph.vertices - first)) }
         ensures holds { HoldsNothing self.old → HoldsNothing self.new }
     {
-        let setup = net.setup();
+        let setting = net.setting();
         // (once for all: what lies in memory is read again after each load of a shared word)
-        let words = setup.root_acks();
-        for vertex in first..setup.vertices() {
+        let words = root_acks(setting);
+        for vertex in first..setting.vertices() {
             self.settle(net, vertex, words + vertex as usize);
         }
     }
@@ -114,7 +115,7 @@ impl RootHand {
 
     /// Whether so many chips may be fed over a root edge, as far as the root knows.
     pub(crate) fn may_feed(&self, vertex: u64, edge: u64, count: u64) -> Result<(), FeedFault>
-        requires vertex { vertex < self.now.net.setting.graph.vertices }
+        requires vertex { vertex < self.now.net.setting.game.graph.vertices }
         requires edge { edge ≡ root_edge self.now.net.setting vertex }
         requires count { 1 ≤ count }
         ensures { AllowsFeed self.now count result }
@@ -146,65 +147,19 @@ impl RootHand {
         }
     }
 
-    /// The game of the net with all that was fed. The list without an entry has room for one of each vertex.
-    pub(crate) fn with_fed(&self, net: &Net, game: Game, more: Vec<(u64, u64)>) -> Game
-        requires net { self.now.net ≡ net.now }
-        requires game { game ≡ game_of_setting self.now.net.setting }
-        requires none { more.items ≡ [] }
-        requires room { self.now.net.setting.graph.vertices ≤ vec_capacity more }
-        ensures { HasMore (game_of_setting self.now.net.setting) (fed_by self.now) result }
-    {
-        let more = self.fed_pairs(net, &game, more);
-        match game.with_more(&more) {
-            Ok(game) => game,
-            Err(_) => unreachable!(),
-        }
-    }
-
-    /// What each vertex was fed, written into the list.
-    fn fed_pairs(&self, net: &Net, game: &Game, mut more: Vec<(u64, u64)>) -> Vec<(u64, u64)>
-        requires net { self.now.net ≡ net.now }
-        requires game { game.now ≡ game_of_setting self.now.net.setting }
-        requires none { more.items ≡ [] }
-        requires room { self.now.net.setting.graph.vertices ≤ vec_capacity more }
-        ensures { BringsFed self.now result.items }
-    {
-        let state = &self.state;
-        if !net.setup().fed() {
-            return more;
-        }
-        let start = game.start();
-        for (vertex, &given) in state.given().iter().enumerate() {
-            more.push_reserved((vertex as u64, given - start[vertex]));
-        }
-        more
-    }
-
-    /// The root that reads, once it is closed.
-    pub(crate) fn receipt(self) -> Receipt
-        ensures value { result ≡ self }
+    /// The state of the root, and the root that reads, once it is closed.
+    pub(crate) fn into_receipt(self) -> (RootState, Receipt)
+        ensures state { RootStandsFor self.net.setting (root_part self) result.0 }
+        ensures receipt { result.1 ≡ self }
         ensures setting { IsSetting self.net.setting }
     {
         let RootHand {
             seat,
-            setup,
-            state: _,
+            setting,
+            state,
         } = self;
-        Receipt::new(seat, setup)
+        (state, Receipt::new(seat, setting))
     }
-}
-
-/// The root's state at the opening.
-fn opening_state(alloc: Global, setup: &Setup) -> Result<RootState, AllocError>
-    ensures state { IfOk result (RootStandsFor setup.now (opened setup.now)) }
-    ensures setting { IsSetting setup.now }
-{
-    let game = setup.game();
-    if setup.fed() {
-        return RootState::new_fed(alloc, game, setup.ring());
-    }
-    let state = RootState::new(alloc, game)?;
-    Ok(state)
 }
 
 /// The fault that it is where this rule of a feed isn't met; none of a rule that a look at the cell may mend.
@@ -225,15 +180,15 @@ fn operate(net: &Net, seat: &mut PartSeat, act: &Act, event: Event) -> u64
     ensures same { seat.new.table_id ≡ seat.old.table_id }
     ensures told { (n : ℕ) × (result ≡ noted event n) × Grows net.now.setting event seat.old.me n seat.new.me }
 {
-    let setup = net.setup();
+    let setting = net.setting();
     let words = net.words();
     match *act {
         Act::Settle { edge } => {
-            let word = setup.acks_word(edge);
+            let word = acks_word(setting, edge);
             calls::load::<Brand>(words, seat, word, event)
         }
         Act::Clear { edge, cell } => {
-            let word = setup.cell_word(edge, cell);
+            let word = cell_word(setting, edge, cell);
             calls::load::<Brand>(words, seat, word, event)
         }
         Act::Claim {
@@ -241,11 +196,11 @@ fn operate(net: &Net, seat: &mut PartSeat, act: &Act, event: Event) -> u64
             expected,
             new,
         } => {
-            let word = setup.edge_word(edge);
+            let word = edge_word(setting, edge);
             calls::exchange::<Brand>(words, seat, word, expected, new, event)
         }
         Act::Put { edge, cell, value } => {
-            let word = setup.cell_word(edge, cell);
+            let word = cell_word(setting, edge, cell);
             calls::store::<Brand>(words, seat, word, value, event);
             0
         }

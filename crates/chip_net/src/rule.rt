@@ -1,8 +1,8 @@
 //! The rule of the table, and what a step of it tells.
 
-use crate::setup::Setup;
 use crate::views::View;
 use atomic_table::{Play, Seat, Split, Table, TableRule};
+use chip_part::Setting;
 use std::alloc::Global;
 use std::marker::{Brand, PhantomData};
 use std::snapshot::Snapshot;
@@ -10,7 +10,7 @@ use std::snapshot::Snapshot;
 /// Words and views are what some legal log of the core leaves.
 pub struct Rule;
 
-impl TableRule<(), View, Snapshot<Setup>> for Rule {
+impl TableRule<(), View, Snapshot<Setting>> for Rule {
     ghost use Rattle.chip_net.specs.Rule.{Kept};
     ghost use Rattle.chip_net.specs.Views.{opening_view};
 
@@ -20,7 +20,7 @@ impl TableRule<(), View, Snapshot<Setup>> for Rule {
 }
 
 /// The shared words, under the rule.
-pub(crate) type Words = Table<(), View, Snapshot<Setup>, Rule, Global>;
+pub(crate) type Words = Table<(), View, Snapshot<Setting>, Rule, Global>;
 
 /// A seat at them, whose view has the parts that its owner may act for.
 pub(crate) type PartSeat = Seat<(), View>;

@@ -5,10 +5,11 @@ ghost use Rattle.chip_net.specs.Views.{find};
 ghost use Rattle.chip_net.specs.Roots.{StopperKnown, new_stopper, Seals};
 
 use crate::calls;
+use crate::layout::edge_word;
 use crate::net::Net;
 use crate::rule::PartSeat;
-use crate::setup::Setup;
 use chip_link::{EdgeWord, Event};
+use chip_part::Setting;
 use std::marker::{Brand, Model};
 use std::snapshot::Snapshot;
 
@@ -29,7 +30,7 @@ pub struct NoEdge;
 #[derive(Drop)]
 pub struct Stopper {
     seat: PartSeat,
-    setup: Snapshot<Setup>,
+    setting: Snapshot<Setting>,
 }
 
 impl Model for Stopper {
@@ -40,19 +41,19 @@ impl Model for Stopper {
     ghost Value = { StopperKnown };
 
     ghost view = { λ a. record {
-      net = record { table = a.seat.table_id; setting = a.setup.value };
-      did = did_in (stopper a.setup.value) a.seat.me.0;
+      net = record { table = a.seat.table_id; setting = a.setting.value };
+      did = did_in (stopper a.setting.value) a.seat.me.0;
     } };
 
-    ghost invariant = { λ a. Has (stopper a.setup.value) a.seat.me.0 };
+    ghost invariant = { λ a. Has (stopper a.setting.value) a.seat.me.0 };
 }
 
 impl Stopper {
-    pub(crate) fn new(setup: Snapshot<Setup>, seat: PartSeat) -> Stopper
-        requires { find (stopper setup.value) seat.me.0.parts ≡ Some [] }
-        ensures { result ≡ new_stopper (record { table = seat.table_id; setting = setup.value }) }
+    pub(crate) fn new(setting: Snapshot<Setting>, seat: PartSeat) -> Stopper
+        requires { find (stopper setting.value) seat.me.0.parts ≡ Some [] }
+        ensures { result ≡ new_stopper (record { table = seat.table_id; setting = setting.value }) }
     {
-        Stopper { seat, setup }
+        Stopper { seat, setting }
     }
 
     /// Seals an edge of the graph: every further claim of it is refused.
@@ -62,11 +63,11 @@ impl Stopper {
         ensures cases { MatchResult result (Seals self.old self.new edge)
             (λ _. (graph_edges self.old.net.setting ≤ edge) × (self.new ≡ self.old)) }
     {
-        let setup = net.setup();
-        if edge >= setup.graph_edges() {
+        let setting = net.setting();
+        if edge >= setting.graph_edges() {
             return Err(NoEdge);
         }
-        let word = setup.edge_word(edge);
+        let word = edge_word(setting, edge);
         let event = Event::Seal(edge);
         let before = calls::fetch_or::<Brand>(
             net.words(),

@@ -1,16 +1,16 @@
 -- Every turn that is under way can be completed, so the bound of a whole turn holds of it as well.
-use Rattle.std.proofs.Common.{ℕ, ◌+◌, ◌*◌, ◌<◌, ◌≤◌, Bool, true, false, List, [], ◌∷◌, ◌++◌, length, drop, Option, Some}
+use Rattle.std.proofs.Common.{ℕ, ◌+◌, ◌<◌, ◌≤◌, Bool, true, false, List, [], ◌∷◌, ◌++◌, length, drop, Option, Some}
 use Rattle.std.proofs.Common.{None, refl, arith, length-append}
 use Rattle.chip_part.specs.Setting.{Setting}
 use Rattle.chip_part.specs.declared.cursor.Cursor.TheVariants as At
 use Rattle.chip_part.specs.Part.{Part}
 use Rattle.chip_part.specs.Kept.{KeepsPart}
 use Rattle.chip_part.specs.Rules.{Event, Take, Ack, Fire, Clear, Claim, Put, Halt, Settle}
-use Rattle.chip_part.specs.Steps.{Step, does}
+use Rattle.chip_part.specs.Steps.{Step, does, saw}
 use Rattle.chip_part.specs.Turn.{Phase, nothing, either_phase, where_phase, and_then, each_phase, one_step, seeing}
 use Rattle.chip_part.specs.Turn.{ins_of, outs_of, firing, may_fire, batch_of, putting, sending, sending_all}
 use Rattle.chip_part.specs.Turn.{after_clear_phase, after_claim_phase, acknowledging, acknowledging_parent}
-use Rattle.chip_part.specs.Turn.{last_acknowledgement, is_at_limit}
+use Rattle.chip_part.specs.Turn.{last_acknowledgement, is_at_limit, most_steps}
 use Rattle.chip_part.specs.Cursor.{Cursor, left, out_at, claiming, storing, from_acknowledging, from_limit}
 use Rattle.chip_part.specs.Cursor.{from_sending, from_refusal, from_putting, from_firing, from_settling, from_taking}
 use Rattle.chip_part.specs.Cursor.{IsUnderWay}
@@ -44,8 +44,8 @@ module _ (g : Setting) (v : ℕ) where
   -- an operation that saw 0
   total_seeing : (x : Event) (next : ℕ → Part → Phase) → ((s : Part) → Total (next 0 s)) → Total (seeing g v x next)
   total_seeing x next some s =
-      let rest = some s (does g (record { event = x; seen = 0 }) s) in
-      (record { event = x; seen = 0 } ∷ rest.0, rest.1, (0, rest.0, refl, rest.2))
+      let rest = some s (does g (saw x 0) s) in
+      (saw x 0 ∷ rest.0, rest.1, (0, rest.0, refl, rest.2))
 
   total_step : (x : Event) → Total (one_step g v x)
   total_step x = total_seeing x (λ seen before. nothing) (λ s. total_nothing)
@@ -125,9 +125,9 @@ module _ (g : Setting) (v : ℕ) where
   total_left At.Parent = total_last
   total_left At.Over = total_nothing
 
-  pub under_way_bounded : v < g.graph.vertices → (first : Part) → KeepsPart g v first
+  pub under_way_bounded : v < g.game.graph.vertices → (first : Part) → KeepsPart g v first
       → (done : List Step) (cursor : Cursor) (s : Part) → IsUnderWay g v first done cursor s
-      → length done ≤ (2 * length (ins_of g v) + 4 * length (outs_of g v)) + 3
+      → length done ≤ most_steps g v
   under_way_bounded vertex first kept done cursor s way =
       let rest = total_left cursor s in
       let whole = turns_bounded g v vertex first kept (done ++ rest.0) (rest.1, way.rest rest.0 rest.1 rest.2) in

@@ -12,7 +12,7 @@ use Rattle.chip_part.specs.declared.act.Act.{Act}
 use Rattle.chip_part.specs.declared.act.Act.TheVariants as Do
 use Rattle.chip_part.specs.Rules.{Event, Take, Ack, Fire, Clear, Claim, Put, Halt, Settle, Seal, Read, Feed, End}
 use Rattle.chip_part.specs.Rules.{unmet}
-use Rattle.chip_part.specs.Steps.{Step, part_of, does}
+use Rattle.chip_part.specs.Steps.{Step, part_of, does, saw}
 use Rattle.chip_part.specs.Acting.{act_of, event_of}
 use Rattle.chip_part.specs.Turn.{Phase, nothing, either_phase, where_phase, and_then, each_phase, turn}
 use Rattle.chip_part.specs.Cursor.{Cursor, left, fuel, GoesBy, IsDueAt, IsUnderWay, IsNext}
@@ -119,13 +119,13 @@ passes_due g v s cursor next passes (Some due) goes = record {
   met = goes.met;
   fewer = (let a = passes.fewer in let b = goes.fewer in omega arith);
   fits = goes.fits;
-  rest = λ seen ds after h. passes.rest (record { event = due.0; seen = seen } ∷ ds) after (goes.rest seen ds after h);
+  rest = λ seen ds after h. passes.rest (saw due.0 seen ∷ ds) after (goes.rest seen ds after h);
 }
 
 -- ---- operations
 
 -- an operation of a vertex tells its event
-module _ (g : Setting) (v : ℕ) (vertex : v < g.graph.vertices) (s : Part) where
+module _ (g : Setting) (v : ℕ) (vertex : v < g.game.graph.vertices) (s : Part) where
   pub event_of_act : (x : Event) → part_of g x ≡ v → unmet g x s ≡ None → event_of v (act_of g x s) ≡ x
   event_of_act (Take e) mine met = refl
   event_of_act (Ack e) mine met = refl
@@ -157,21 +157,21 @@ module _ (g : Setting) (v : ℕ) (vertex : v < g.graph.vertices) (s : Part) wher
 
   module _ (cursor next : Cursor) (x : Event) (goes : GoesBy g v s cursor x next) (first : Part) (done : List Step)
       (way : IsUnderWay g v first done cursor s) where
-    under_way : (seen : ℕ) → IsUnderWay g v first (done ++ record { event = x; seen = seen } ∷ []) next
-        (does g (record { event = x; seen = seen }) s)
+    under_way : (seen : ℕ) → IsUnderWay g v first (done ++ saw x seen ∷ []) next
+        (does g (saw x seen) s)
     under_way seen = record {
       fits = goes.fits seen;
       rest = λ ds after h. subst (λ (xs : List Step). turn g v first xs after)
-          (sym (append_assoc done (record { event = x; seen = seen } ∷ []) ds))
-          (way.rest (record { event = x; seen = seen } ∷ ds) after (goes.rest seen ds after h));
+          (sym (append_assoc done (saw x seen ∷ []) ds))
+          (way.rest (saw x seen ∷ ds) after (goes.rest seen ds after h));
     }
 
     pub is_next : (act : Act) → act ≡ act_of g x s → IsNext g v first done s cursor act next
     is_next act is =
         let told : event_of v act ≡ x = ap (event_of v) is ∙ event_of_act x goes.mine goes.met in
         let all = subst (λ (y : Event). (part_of g y ≡ v) × (unmet g y s ≡ None) × (act ≡ act_of g y s)
-        × ((seen : ℕ) → IsUnderWay g v first (done ++ record { event = y; seen = seen } ∷ []) next
-        (does g (record { event = y; seen = seen }) s)))
+        × ((seen : ℕ) → IsUnderWay g v first (done ++ saw y seen ∷ []) next
+        (does g (saw y seen) s)))
         (sym told) (goes.mine, goes.met, is, under_way) in
         record { mine = all.0; met = all.1; needed = all.2; fewer = goes.fewer; goes_on = all.3 }
 

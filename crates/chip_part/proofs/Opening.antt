@@ -6,7 +6,8 @@ use Rattle.std.proofs.lemmas.Bool.{and_from, not_from_false, or_right, lt-leb, a
 use mathlib.Core.Logic.{dite}
 use native.Mathlib.Decide.{ℕ_discrete}
 use Rattle.chip_graph.specs.Multigraph.{degree}
-use Rattle.chip_part.specs.Setting.{Setting, HasGame}
+use Rattle.chip_graph.specs.ChipGame.{IsGame}
+use Rattle.chip_part.specs.Setting.{Setting}
 use Rattle.chip_graph.specs.Sums.{sum_below}
 use Rattle.chip_graph.proofs.SumLemmas.{cond_yes, cond_no, cond_true, cond_false, tested_none, sum_below_ext}
 use Rattle.chip_graph.proofs.SumLemmas.{sum_by_place}
@@ -23,7 +24,7 @@ module _ (g : Setting) where
       let l : graph_edges g ≤ root_edge g v = omega arith in
       let s : ℕ = start_of g (root_edge g v - graph_edges g) in
       let a : first_put g (root_edge g v) ≡ cond (eqb s 0) [] (s ∷ []) =
-      cond_false (ltb (root_edge g v) (length g.graph.edges)) [] _ (le-ltb (root_edge g v) (length g.graph.edges) l) in
+      cond_false (ltb (root_edge g v) (length g.game.graph.edges)) [] _ (le-ltb (root_edge g v) (length g.game.graph.edges) l) in
       let d : sum (cond (eqb s 0) [] (s ∷ [])) ≡ s = dite (ℕ_discrete s 0) (λ z. ap sum (cond_yes s 0 [] (s ∷ []) z)
       ∙ sym z) (λ z. ap sum (cond_no s 0 [] (s ∷ []) z) ∙ (let y : 0 + s ≡ s = omega arith in y)) in
       let at : root_edge g v - graph_edges g ≡ v = omega arith in
@@ -34,17 +35,17 @@ module _ (g : Setting) where
   first_sent v = ap sum (append-nil (first_put g (root_edge g v))) ∙ first_sum v
 
   -- the chips of the start are those of the game
-  pub first_fed : HasGame g → all_fed g (opened g) ≡ sum g.start
-  first_fed game = sum_below_ext g.graph.vertices _ (start_of g) (λ v l. first_sent v)
-      ∙ ap (λ (n : ℕ). sum_below n (start_of g)) (sym game.start_fits) ∙ sym (sum_by_place g.start)
+  pub first_fed : IsGame g.game → all_fed g (opened g) ≡ sum g.game.start
+  first_fed game = sum_below_ext g.game.graph.vertices _ (start_of g) (λ v l. first_sent v)
+      ∙ ap (λ (n : ℕ). sum_below n (start_of g)) (sym game.start_fits) ∙ sym (sum_by_place g.game.start)
 
   none_put : (e : ℕ) → e < graph_edges g → first_put g e ≡ []
-  none_put e l = cond_true (ltb e (length g.graph.edges)) [] _ (lt-ltb e (length g.graph.edges) l)
+  none_put e l = cond_true (ltb e (length g.game.graph.edges)) [] _ (lt-ltb e (length g.game.graph.edges) l)
 
   pub first_few : (e : ℕ) → e < graph_edges g → length (first_put g e) ≡ 0
   first_few e l = ap length (none_put e l)
 
-  pub opening_keeps : HasGame g → (p : ℕ) → KeepsPart g p (opened g)
+  pub opening_keeps : IsGame g.game → (p : ℕ) → KeepsPart g p (opened g)
   opening_keeps game p = record {
     outs = λ e at. record {
       all_made = λ l. (let a = ap sum (none_put e l) in let b = mul-zero (mult_of g e) in omega arith);
@@ -58,7 +59,7 @@ module _ (g : Setting) where
       root_unfed = λ l off. refl;
     };
     chips_are = (let a = tested_none (all_edges g) (λ e. eqb (head_of g e) p) (λ e. 0) (λ e l on. refl) in
-        let b = mul-zero (degree g.graph p) in omega arith);
+        let b = mul-zero (degree g.game.graph p) in omega arith);
     within = omega arith;
     acks = λ e. omega arith;
     parents = λ e h. absurd (none_some e h);
@@ -74,7 +75,7 @@ module _ (g : Setting) where
       no_deficit = tested_none (all_edges g) (λ e. eqb (tail_of g e) p)
           (λ e. claims_of (record { put = first_put g e; held = None; clear = false; refused = false }) - 0) (λ e m on.
           (let at = eqb-true _ _ on in
-          let inside = tail_inside g e (subst (λ (n : ℕ). n < g.graph.vertices) (sym at) l) in
+          let inside = tail_inside g e (subst (λ (n : ℕ). n < g.game.graph.vertices) (sym at) l) in
           let a = first_few e inside in omega arith));
     };
     fed_within = λ at. (let a = first_fed game in let b = game.few_chips in omega arith);
@@ -87,9 +88,9 @@ module _ (g : Setting) where
       none_cause : {c : Cause} → ◌≡◌ {A = Option Cause} None (Some c) → ⊥
       none_cause q = absurd (cc)
 
-      illegal : p < g.graph.vertices → is_legal g p (opened g) ≡ false
-      illegal l = dite (ℕ_discrete p g.graph.sink)
-          (λ e. ap (λ (b : Bool). not b && leb (degree g.graph p) 0) (eq-eqb p g.graph.sink e))
-          (λ ne. and_right _ _ (lt-leb (degree g.graph p) 0
-          (degree_positive g.graph p (game.graph_fits.all_reach p l) ne
+      illegal : p < g.game.graph.vertices → is_legal g p (opened g) ≡ false
+      illegal l = dite (ℕ_discrete p g.game.graph.sink)
+          (λ e. ap (λ (b : Bool). not b && leb (degree g.game.graph p) 0) (eq-eqb p g.game.graph.sink e))
+          (λ ne. and_right _ _ (lt-leb (degree g.game.graph p) 0
+          (degree_positive g.game.graph p (game.graph_fits.all_reach p l) ne
           (λ e m. (game.graph_fits.edges_fit e m).some_chips))))

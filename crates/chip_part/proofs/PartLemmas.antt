@@ -23,10 +23,10 @@ use Rattle.chip_part.specs.Part.{Cause, Part, is_running, owed, outstanding, may
 use Rattle.chip_part.specs.Part.{refusals, cause, is_legal, is_passive, deficit, all_fed}
 use Rattle.chip_part.specs.Rules.{Event, Take, Ack, Fire, Clear, Claim, Put, Halt, Settle, Seal, Read}
 use Rattle.chip_part.specs.Rules.{Feed, End, unmet}
-use Rattle.chip_part.specs.Steps.{part_of, settled_after, got_after, acked_after, halt_after, fired_after}
+use Rattle.chip_part.specs.Steps.{part_of, settled_after, got_after, acked_after, halt_after, fired_after, saw}
 use Rattle.chip_part.specs.Steps.{parent_after, link_after, ended_after, does, Step}
 use Rattle.chip_part.proofs.RuleLemmas.{rules_met}
-use Rattle.chip_part.proofs.EdgeLemmas.{tail_root, sendable_inside, root_sendable}
+use Rattle.chip_part.proofs.EdgeLemmas.{tail_root}
 use Rattle.chip_part.specs.Kept.{Met, IsNeutral, KeepsOut, KeepsPart}
 
 -- one edge is changed, the others are as they were
@@ -47,8 +47,8 @@ held_counts None count h = absurd (cc)
 held_counts (Some c) count h = omega arith
 
 module _ (g : Setting) where
-  pub tail_inside : (e : ℕ) → tail_of g e < g.graph.vertices → e < graph_edges g
-  tail_inside e l = dite (dec_lt e (length g.graph.edges)) (λ h. h) (λ n. let a = tail_root g e (omega arith) in
+  pub tail_inside : (e : ℕ) → tail_of g e < g.game.graph.vertices → e < graph_edges g
+  tail_inside e l = dite (dec_lt e (length g.game.graph.edges)) (λ h. h) (λ n. let a = tail_root g e (omega arith) in
       absurd (omega arith))
 
   leaves : ℕ → ℕ → Bool
@@ -89,7 +89,7 @@ module _ (g : Setting) where
   fed_by s unfed going = by_test g.fed (λ on. on) (λ off. absurd (true≢false (sym (unfed off) ∙ going)))
 
   outs_kept : (x : Event) (seen p : ℕ) (s : Part) → p ≡ part_of g x → Met g x s → (g.fed ≡ false → s.ended ≡ true)
-      → Outs p s → Outs p (does g (record { event = x; seen = seen }) s)
+      → Outs p s → Outs p (does g (saw x seen) s)
   outs_kept (Take e) seen p s by may unfed ok = ok
   outs_kept (Ack e) seen p s by may unfed ok = ok
   outs_kept (Halt v) seen p s by may unfed ok = ok
@@ -104,7 +104,7 @@ module _ (g : Setting) where
       let o = s.out i in
       let old = ok i at in
       let mine : tail_of g i ≡ v = at ∙ by in
-      let inside : i < graph_edges g = tail_inside i (subst (λ (n : ℕ). n < g.graph.vertices) (sym mine) may.0) in
+      let inside : i < graph_edges g = tail_inside i (subst (λ (n : ℕ). n < g.game.graph.vertices) (sym mine) may.0) in
       let none : o.pending ≡ 0 = out_zero v (λ e. (s.out e).pending) may.3 i (omega arith) mine in
       let idle : length (option_to_list o.link.held)
       ≡ 0 = out_zero v (λ e. length (option_to_list (s.out e).link.held)) may.4 i (omega arith) mine in
@@ -138,7 +138,7 @@ module _ (g : Setting) where
         root_idle = old.root_idle;
         root_unfed = λ l off. (let inside = v.0 in absurd (omega arith));
       })
-      (λ r. root_kept e _ _ _ r.0 r.2 (old.root_idle r.0)) may) ok
+      (λ r. root_kept e _ _ _ r.0 (fed_by s unfed r.2) (old.root_idle r.0)) may) ok
   outs_kept (Put e) seen p s by may unfed ok = at_edge (λ i (t : Tail). tail_of g i ≡ p
       → KeepsOut g i t (s.out i).pending s.fired) e (λ i. after_put (s.out i).link) (λ i. (s.out i).link)
       (λ at. let old = ok e at in
@@ -154,7 +154,8 @@ module _ (g : Setting) where
         clear_open = old.clear_open;
         free_hand = λ l h. refl;
         root_idle = old.root_idle;
-        root_unfed = λ l off. absurd (true≢false (sym (root_sendable g e l may.0) ∙ off));
+        root_unfed = λ l off. (let none = ap (λ (k : Tail). k.held) (old.root_unfed l off) in
+            let some = may.1.1 in absurd (cc));
       }) ok
   outs_kept (Claim e) seen p s by may unfed ok = λ i at. dite (ℕ_discrete e i)
       (λ same. (subst (λ (k : ℕ). tail_of g k ≡ p
@@ -244,10 +245,10 @@ module _ (g : Setting) where
       (λ n. let a = cond_false _ (owed (s.into e) - 1) (owed (s.into e)) n in omega arith)
 
   chips_kept : (x : Event) (seen p : ℕ) (s : Part) → p ≡ part_of g x → Met g x s
-      → s.chips + degree g.graph p * s.fired ≡ over_ins g p (λ e. sum (s.into e).got)
-      → (does g (record { event = x; seen = seen }) s).chips + degree g.graph p
-      * (does g (record { event = x; seen = seen }) s).fired
-      ≡ over_ins g p (λ e. sum ((does g (record { event = x; seen = seen }) s).into e).got)
+      → s.chips + degree g.game.graph p * s.fired ≡ over_ins g p (λ e. sum (s.into e).got)
+      → (does g (saw x seen) s).chips + degree g.game.graph p
+      * (does g (saw x seen) s).fired
+      ≡ over_ins g p (λ e. sum ((does g (saw x seen) s).into e).got)
   chips_kept (Take e) seen p s by may ok =
       let a = tested_move (all_edges g) (λ i. eqb (head_of g i) p) (λ i. sum (got_after (Take e) seen i (s.into i)))
       (λ i. sum (s.into i).got) e may (eq-eqb _ _ (sym by))
@@ -256,8 +257,8 @@ module _ (g : Setting) where
       let c = took_sum seen (s.into e).got in
       omega arith
   chips_kept (Fire v k) seen p s by may ok =
-      let a = mul-add (degree g.graph p) s.fired k in let b = mul_comm (degree g.graph p) k in
-      let c = ap (λ (w : ℕ). k * degree g.graph w) by in let d = may.7 in omega arith
+      let a = mul-add (degree g.game.graph p) s.fired k in let b = mul_comm (degree g.game.graph p) k in
+      let c = ap (λ (w : ℕ). k * degree g.game.graph w) by in let d = may.7 in omega arith
   chips_kept (Ack e) seen p s by may ok = ok
   chips_kept (Clear e) seen p s by may ok = ok
   chips_kept (Claim e) seen p s by may ok = ok
@@ -269,7 +270,7 @@ module _ (g : Setting) where
   chips_kept (Feed e k) seen p s by may ok = ok
   chips_kept End seen p s by may ok = ok
 
-  within_kept : (x : Event) (s : Part) → Met g x s → s.fired ≤ g.limit → fired_after x s.fired ≤ g.limit
+  within_kept : (x : Event) (s : Part) → Met g x s → s.fired ≤ g.game.limit → fired_after x s.fired ≤ g.game.limit
   within_kept (Fire v k) s may ok = may.6
   within_kept (Take e) s may ok = ok
   within_kept (Ack e) s may ok = ok
@@ -303,7 +304,7 @@ module _ (g : Setting) where
   acks_kept End seen s ok = ok
 
   -- a take that found nothing
-  pub idle_take : (e seen : ℕ) (s : Part) → seen ≡ 0 → does g (record { event = Take e; seen = seen }) s ≡ s
+  pub idle_take : (e seen : ℕ) (s : Part) → seen ≡ 0 → does g (saw (Take e) seen) s ≡ s
   idle_take e seen s none = λ j. record {
     chips = (let z : s.chips + seen ≡ s.chips = omega arith in z) j;
     fired = s.fired;
@@ -353,7 +354,7 @@ module _ (g : Setting) where
 
   parents_kept : (x : Event) (seen p : ℕ) (s : Part) → p ≡ part_of g x → Met g x s
       → ((e : ℕ) → (s.into e).acked ≤ length (s.into e).got) → Parents p s
-      → Parents p (does g (record { event = x; seen = seen }) s)
+      → Parents p (does g (saw x seen) s)
   parents_kept (Take e) seen p s by may acks ok = dite (ℕ_discrete seen 0)
       (λ none. subst (λ (t : Part). (i : ℕ) → t.parent ≡ Some i → (i < all_edges g) × (head_of g i ≡ p)
       × (0 < owed (t.into i))) (sym (idle_take e seen s none)) ok)
@@ -414,16 +415,16 @@ module _ (g : Setting) where
       ⊎_elim (λ z. absurd (true≢false (sym z ∙ not_from_true _ run))) (λ z. let b = and_parts _ _ z in
       (eqb-true _ _ a.0, eqb-true _ _ b.0, not-true _ b.1)) (or_cases _ _ a.1)
 
-  pub no_refusals : (p : ℕ) (s : Part) → p < g.graph.vertices → Outs p s → pending_of g p s ≡ 0 → refusals g p s ≡ 0
+  pub no_refusals : (p : ℕ) (s : Part) → p < g.game.graph.vertices → Outs p s → pending_of g p s ≡ 0 → refusals g p s ≡ 0
   no_refusals p s vertex outs none = tested_none (all_edges g) (λ e. eqb (tail_of g e) p)
       (λ e. cond (s.out e).link.refused 1 0) (λ e l on. by_test (s.out e).link.refused
       (λ y. let at = eqb-true _ _ on in
-      let inside : e < graph_edges g = tail_inside e (subst (λ (n : ℕ). n < g.graph.vertices) (sym at) vertex) in
+      let inside : e < graph_edges g = tail_inside e (subst (λ (n : ℕ). n < g.game.graph.vertices) (sym at) vertex) in
       let a = (outs e at).refused_pends inside y in let b = out_zero p (λ i. (s.out i).pending) none e l at in
       absurd (omega arith))
       (λ n. cond_false _ 1 0 n))
 
-  pub cause_limit : (v : ℕ) (s : Part) → cause g v s ≡ Some FiringLimit → (s.fired ≡ g.limit) × (pending_of g v s ≡ 0)
+  pub cause_limit : (v : ℕ) (s : Part) → cause g v s ≡ Some FiringLimit → (s.fired ≡ g.game.limit) × (pending_of g v s ≡ 0)
       × (is_legal g v s ≡ true)
   cause_limit v s h = by_test (not (eqb (refusals g v s) 0))
       (λ y. absurd (other_cause (sym (cond_true _ (Some SealedEdge) rest y) ∙ h)))
@@ -434,7 +435,7 @@ module _ (g : Setting) where
       (λ n'. absurd (no_cause (sym (cond_false test (Some FiringLimit) None n') ∙ h'))))
     where
       test : Bool
-      test = eqb (pending_of g v s) 0 && is_legal g v s && eqb s.fired g.limit
+      test = eqb (pending_of g v s) 0 && is_legal g v s && eqb s.fired g.game.limit
 
       rest : Option Cause
       rest = cond test (Some FiringLimit) None
@@ -446,15 +447,15 @@ module _ (g : Setting) where
       no_cause q = absurd (cc)
 
   at_limit_kept : (x : Event) (seen p : ℕ) (s : Part) → p ≡ part_of g x → Met g x s
-      → (s.halt ≡ Some FiringLimit → (s.fired ≡ g.limit) × (pending_of g p s ≡ 0) × (is_legal g p s ≡ true))
-      → halt_after g x s ≡ Some FiringLimit → ((does g (record { event = x; seen = seen }) s).fired ≡ g.limit)
-      × (pending_of g p (does g (record { event = x; seen = seen }) s) ≡ 0)
-      × (is_legal g p (does g (record { event = x; seen = seen }) s) ≡ true)
+      → (s.halt ≡ Some FiringLimit → (s.fired ≡ g.game.limit) × (pending_of g p s ≡ 0) × (is_legal g p s ≡ true))
+      → halt_after g x s ≡ Some FiringLimit → ((does g (saw x seen) s).fired ≡ g.game.limit)
+      × (pending_of g p (does g (saw x seen) s) ≡ 0)
+      × (is_legal g p (does g (saw x seen) s) ≡ true)
   at_limit_kept (Take e) seen p s by may ok h = let a = ok h in let b = and_parts _ _ a.2 in let c = leb-true _ _ b.1 in
-      (a.0, a.1, and_from _ _ b.0 (le-leb (degree g.graph p) (s.chips + seen) (omega arith)))
+      (a.0, a.1, and_from _ _ b.0 (le-leb (degree g.game.graph p) (s.chips + seen) (omega arith)))
   at_limit_kept (Fire v k) seen p s by may ok h = absurd (none_halt s.halt FiringLimit may.2 h)
   at_limit_kept (Claim e) seen p s by may ok h = absurd (none_halt s.halt FiringLimit may.1 h)
-  at_limit_kept (Halt v) seen p s by may ok h = subst (λ (w : ℕ). (s.fired ≡ g.limit) × (pending_of g w s ≡ 0)
+  at_limit_kept (Halt v) seen p s by may ok h = subst (λ (w : ℕ). (s.fired ≡ g.game.limit) × (pending_of g w s ≡ 0)
       × (is_legal g w s ≡ true)) (sym by) (cause_limit v s h)
   at_limit_kept (Ack e) seen p s by may ok h = ok h
   at_limit_kept (Clear e) seen p s by may ok h = ok h
@@ -473,10 +474,10 @@ module _ (g : Setting) where
         let idle = passive_parts p s rest.passive may.2 in
         let some_k = may.5 in
         let chips = may.7 in
-        let enough : degree g.graph v ≤ k * degree g.graph v = one_of k (degree g.graph v) some_k in
+        let enough : degree g.game.graph v ≤ k * degree g.game.graph v = one_of k (degree g.game.graph v) some_k in
         let legal : is_legal g v s
         ≡ true = and_from _ _ (Rattle.std.proofs.lemmas.Bool.not_from_false _ (ne_eqb _ _ may.1))
-        (le-leb (degree g.graph v) s.chips (omega arith)) in
+        (le-leb (degree g.game.graph v) s.chips (omega arith)) in
         true≢false (sym (subst (λ (w : ℕ). is_legal g w s ≡ true) (sym by) legal) ∙ idle.2)
       where
         one_of : (k d : ℕ) → 0 < k → d ≤ k * d
@@ -495,10 +496,10 @@ module _ (g : Setting) where
     pub no_halt : (v : ℕ) → p ≡ v → Met g (Halt v) s → ⊥
     no_halt v by may =
         let idle = passive_parts p s rest.passive may.2 in
-        let refused = no_refusals p s (subst (λ (n : ℕ). n < g.graph.vertices) (sym by) may.0) outs idle.1 in
+        let refused = no_refusals p s (subst (λ (n : ℕ). n < g.game.graph.vertices) (sym by) may.0) outs idle.1 in
         let none : cause g p s ≡ None = cond_false _ (Some SealedEdge) _ (not_from_true _ (eq-eqb _ _ refused))
         ∙ cond_false _ (Some FiringLimit) None
-        (illegal (eqb (pending_of g p s) 0) (is_legal g p s) (eqb s.fired g.limit) idle.2) in
+        (illegal (eqb (pending_of g p s) 0) (is_legal g p s) (eqb s.fired g.game.limit) idle.2) in
         none_halt (cause g p s) may.4.0 none (ap (λ (w : ℕ). cause g w s) by ∙ may.4.1)
       where
         illegal : (a b c : Bool) → b ≡ false → ((a && b) && c) ≡ false
@@ -506,12 +507,12 @@ module _ (g : Setting) where
         illegal false b c q = refl
 
   -- a vertex isn't the tail of a root edge
-  not_root : (p e : ℕ) → p < g.graph.vertices → p ≡ tail_of g e → graph_edges g ≤ e → ⊥
+  not_root : (p e : ℕ) → p < g.game.graph.vertices → p ≡ tail_of g e → graph_edges g ≤ e → ⊥
   not_root p e l by past = let at = tail_root g e past in absurd (omega arith)
 
   neutral_kept : (x : Event) (seen p : ℕ) (s : Part) → p ≡ part_of g x → Met g x s → KeepsPart g p s
-      → p < g.graph.vertices → parent_after g x seen s ≡ None
-      → IsNeutral g p (does g (record { event = x; seen = seen }) s)
+      → p < g.game.graph.vertices → parent_after g x seen s ≡ None
+      → IsNeutral g p (does g (saw x seen) s)
   neutral_kept (Take e) seen p s by may ok l h = dite (ℕ_discrete seen 0)
       (λ none. subst (IsNeutral g p) (sym (idle_take e seen s none))
       (ok.neutral l (sym (cond_yes seen 0 s.parent (or_else s.parent e) none) ∙ h)))
@@ -530,7 +531,7 @@ module _ (g : Setting) where
       let one = and_parts _ _ finished in
       let two = and_parts _ _ one.0 in
       let only : all_owed g (head_of g e) s ≡ owed (s.into e) = eqb-true _ _ two.0 in
-      subst (λ (w : ℕ). IsNeutral g w (does g (record { event = Ack e; seen = seen }) s)) (sym by) record {
+      subst (λ (w : ℕ). IsNeutral g w (does g (saw (Ack e) seen) s)) (sym by) record {
         no_parent = cond_true _ None s.parent y;
         passive = two.1;
         nothing_owed =
@@ -557,7 +558,7 @@ module _ (g : Setting) where
       (no_pending p s ok.outs (ok.neutral l h) e by (let a = may.0 in
       omega arith) may.1 ((ok.outs e (sym by)).clear_pends may.0 may.2))
   neutral_kept (Put e) seen p s by may ok l h = absurd
-      (no_put p s ok.outs (ok.neutral l h) e by (sendable_inside g e may.0) may.1.0 may.1.1)
+      (no_put p s ok.outs (ok.neutral l h) e by (may.0) may.1.0 may.1.1)
   neutral_kept (Halt v) seen p s by may ok l h = absurd (no_halt p s ok.outs (ok.neutral l h) v by may)
   neutral_kept (Settle e) seen p s by may ok l h =
       let old = ok.neutral l h in record {
@@ -614,14 +615,14 @@ module _ (g : Setting) where
   sent_after x seen s e = sum (sent_counts (link_after x seen e (s.out e)))
 
   fed_kept : (x : Event) (seen : ℕ) (s : Part) → Met g x s → all_fed g s ≤ max_total
-      → sum_below g.graph.vertices (λ v. sent_after x seen s (root_edge g v)) ≤ max_total
+      → sum_below g.game.graph.vertices (λ v. sent_after x seen s (root_edge g v)) ≤ max_total
   fed_kept (Feed e k) seen s may ok =
       let past = may.0 in
       let inside = may.1 in
       let few = may.4 in
       let v : ℕ = e - graph_edges g in
       let at : root_edge g v ≡ e = omega arith in
-      let m = sum_below_move g.graph.vertices (λ w. sent_after (Feed e k) seen s (root_edge g w))
+      let m = sum_below_move g.game.graph.vertices (λ w. sent_after (Feed e k) seen s (root_edge g w))
       (λ w. sum (sent_counts (s.out (root_edge g w)).link)) v (omega arith)
       (λ w l ne. ap (λ (t : Tail). sum (sent_counts t))
       (cond_no e (root_edge g w) (after_claim k seen (s.out (root_edge g w)).link) (s.out (root_edge g w)).link
@@ -634,19 +635,19 @@ module _ (g : Setting) where
       omega arith
   fed_kept (Claim e) seen s may ok =
       let inside = may.0 in
-      let same = sum_below_ext g.graph.vertices (λ v. sent_after (Claim e) seen s (root_edge g v))
+      let same = sum_below_ext g.game.graph.vertices (λ v. sent_after (Claim e) seen s (root_edge g v))
       (λ v. sum (sent_counts (s.out (root_edge g v)).link)) (λ v l. ap (λ (t : Tail). sum (sent_counts t))
       (cond_no e (root_edge g v) (after_claim (s.out (root_edge g v)).pending seen (s.out (root_edge g v)).link)
       (s.out (root_edge g v)).link (λ z. (let y : e ≡ root_edge g v = z in absurd (omega arith))))) in
       omega arith
   fed_kept (Clear e) seen s may ok =
-      let same = sum_below_ext g.graph.vertices (λ v. sent_after (Clear e) seen s (root_edge g v))
+      let same = sum_below_ext g.game.graph.vertices (λ v. sent_after (Clear e) seen s (root_edge g v))
       (λ v. sum (sent_counts (s.out (root_edge g v)).link)) (λ v l.
       at_edge (λ i (t : Tail). sum (sent_counts t) ≡ sum (sent_counts (s.out i).link)) e
       (λ i. after_clear seen (s.out i).link) (λ i. (s.out i).link) refl (λ i. refl) (root_edge g v)) in
       omega arith
   fed_kept (Put e) seen s may ok =
-      let same = sum_below_ext g.graph.vertices (λ v. sent_after (Put e) seen s (root_edge g v))
+      let same = sum_below_ext g.game.graph.vertices (λ v. sent_after (Put e) seen s (root_edge g v))
       (λ v. sum (sent_counts (s.out (root_edge g v)).link)) (λ v l.
       at_edge (λ i (t : Tail). sum (sent_counts t) ≡ sum (sent_counts (s.out i).link)) e
       (λ i. after_put (s.out i).link) (λ i. (s.out i).link) (ap sum (put_sends (s.out e).link)) (λ i. refl)
@@ -677,7 +678,7 @@ module _ (g : Setting) where
   stays_ended (Feed e k) ended on = on
 
   pub part_kept : (x : Event) (seen p : ℕ) (s : Part) → p ≡ part_of g x → Met g x s → KeepsPart g p s
-      → KeepsPart g p (does g (record { event = x; seen = seen }) s)
+      → KeepsPart g p (does g (saw x seen) s)
   part_kept x seen p s by may ok = record {
     outs = outs_kept x seen p s by may ok.unfed_ended ok.outs;
     chips_are = chips_kept x seen p s by may ok.chips_are;

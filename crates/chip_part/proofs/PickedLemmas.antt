@@ -84,16 +84,16 @@ length-picked test (suc n) =
     let m = length-append (picked test n) [] in omega arith)
 
 -- the edges out of a vertex, and into it with its root edge, are all that have it as their tail or head
-pub among_new_outs : (g : Setting) (v : ℕ) → v < g.graph.vertices → (e : ℕ) → tail_of g e ≡ v
-    → Contains (edges_out g.graph v) e
+pub among_new_outs : (g : Setting) (v : ℕ) → v < g.game.graph.vertices → (e : ℕ) → tail_of g e ≡ v
+    → Contains (edges_out g.game.graph v) e
 among_new_outs g v vertex e at =
-    let l = tail_inside g e (subst (λ (n : ℕ). n < g.graph.vertices) (sym at) vertex) in
-    picked_has (λ i. eqb (edge_at g.graph i).tail v) (graph_edges g) e l (eq-eqb _ _ (sym (tail_graph g e l) ∙ at))
+    let l = tail_inside g e (subst (λ (n : ℕ). n < g.game.graph.vertices) (sym at) vertex) in
+    picked_has (λ i. eqb (edge_at g.game.graph i).tail v) (graph_edges g) e l (eq-eqb _ _ (sym (tail_graph g e l) ∙ at))
 
-pub among_new_ins : (g : Setting) (v : ℕ) → v < g.graph.vertices → (e : ℕ) → head_of g e ≡ v
-    → Contains (edges_in g.graph v ++ root_edge g v ∷ []) e
+pub among_new_ins : (g : Setting) (v : ℕ) → v < g.game.graph.vertices → (e : ℕ) → head_of g e ≡ v
+    → Contains (edges_in g.game.graph v ++ root_edge g v ∷ []) e
 among_new_ins g v vertex e at = dite (dec_lt e (graph_edges g))
-    (λ l. Contains-append_left (edges_in g.graph v) (root_edge g v ∷ []) e
-    (picked_has (λ i. eqb (edge_at g.graph i).head v) (graph_edges g) e l (eq-eqb _ _ (sym (head_graph g e l) ∙ at))))
-    (λ n. Contains-append_right (edges_in g.graph v) (root_edge g v ∷ []) e
+    (λ l. Contains-append_left (edges_in g.game.graph v) (root_edge g v ∷ []) e
+    (picked_has (λ i. eqb (edge_at g.game.graph i).head v) (graph_edges g) e l (eq-eqb _ _ (sym (head_graph g e l) ∙ at))))
+    (λ n. Contains-append_right (edges_in g.game.graph v) (root_edge g v ∷ []) e
     (0, omega arith, (let h = head_root g e (omega arith) in let z : graph_edges g + v ≡ e = omega arith in z)))

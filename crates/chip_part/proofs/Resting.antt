@@ -101,10 +101,10 @@ module _ (g : Setting) (v : ℕ) where
   -- an edge into the vertex is one of those that a turn goes through
   into_turn : (e : ℕ) → e < all_edges g → head_of g e ≡ v → Contains (ins_of g v) e
   into_turn e l at = dite (dec_lt e (graph_edges g))
-      (λ inside. Contains-append_left (edges_in g.graph v) (root_edge g v ∷ []) e
-      (picked_has (λ i. eqb (edge_at g.graph i).head v) (graph_edges g) e inside
+      (λ inside. Contains-append_left (edges_in g.game.graph v) (root_edge g v ∷ []) e
+      (picked_has (λ i. eqb (edge_at g.game.graph i).head v) (graph_edges g) e inside
       (eq-eqb _ _ (sym (head_graph g e inside) ∙ at))))
-      (λ past. Contains-append_right (edges_in g.graph v) (root_edge g v ∷ []) e (let h = head_root g e (omega arith) in
+      (λ past. Contains-append_right (edges_in g.game.graph v) (root_edge g v ∷ []) e (let h = head_root g e (omega arith) in
       (0, omega arith, omega arith)))
 
   -- at the end of a turn without work nothing may be acknowledged

@@ -10,7 +10,7 @@ use mathlib.Core.Logic.{dite}
 use native.Mathlib.Decide.{dec_lt}
 use Rattle.chip_graph.proofs.SumLemmas.{cond_true, cond_false}
 use Rattle.chip_part.specs.Edges.{graph_edges, all_edges}
-use Rattle.chip_part.proofs.EdgeLemmas.{sendable_fed, graph_sendable, sendable_inside, root_sendable}
+use Rattle.chip_part.proofs.EdgeLemmas.{graph_inside}
 use Rattle.chip_part.specs.Rules.{Event, Take, Ack, Fire, Clear, Claim, Put, Halt, Settle, Seal, Read, Rule, need}
 use Rattle.chip_part.specs.Rules.{Feed, End, unmet_by_vertex, unmet_by_root, unmet}
 use Rattle.chip_part.specs.Kept.{Met}
@@ -67,7 +67,7 @@ rules_met g (Fire v k) s h =
     )
 rules_met g (Clear e) s h =
     let a = met _ _ _ h in
-    let sendable = ltb-true _ _ a.0 in
+    let inside = ltb-true _ _ a.0 in
     dite (dec_lt e (graph_edges g))
     (λ l.
     let is : unmet_by_vertex e s ≡ None = sym (cond_true _ _ _ (lt-ltb e (graph_edges g) l)) ∙ a.1 in
@@ -77,7 +77,7 @@ rules_met g (Clear e) s h =
     let past : graph_edges g ≤ e = omega arith in
     let is : unmet_by_root e s ≡ None = sym (cond_false _ _ _ (le-ltb e (graph_edges g) past)) ∙ a.1 in
     let b = met _ _ _ is in let c = met _ _ _ b.1 in
-    inr (past, sendable_inside g e sendable, root_sendable g e past sendable, not-true _ b.0, nothing _ c.0))
+    inr (past, inside, not-true _ b.0, nothing _ c.0))
 rules_met g (Claim e) s h = let a = met _ _ _ h in let b = met _ _ _ a.1 in let c = met _ _ _ b.1 in
     (ltb-true _ _ a.0, running _ b.0, c.0)
 rules_met g (Put e) s h = let a = met _ _ _ h in let b = met _ _ _ a.1 in (ltb-true _ _ a.0, some_of _ b.0)
@@ -106,13 +106,12 @@ met_rules g (Fire v k) s m =
     (passed _ _ _ (ap is_running m.2) (passed _ _ _ (and_from _ _ (eq-eqb _ _ m.3) (eq-eqb _ _ m.4))
     (passed _ _ _ (not_zero _ m.5) (passed _ _ _ (le-leb _ _ m.6) (passed _ _ _ (le-leb _ _ m.7) refl))))))
 met_rules g (Clear e) s m = ⊎_elim
-    (λ v. passed _ _ _ (lt-ltb _ _ (graph_sendable g e v.0))
+    (λ v. passed _ _ _ (lt-ltb _ _ (graph_inside g e v.0))
     (cond_true _ _ _ (lt-ltb e (graph_edges g) v.0)
     ∙ passed _ _ _ (ap is_running v.1) (passed _ _ _ (ap not v.2) (passed _ _ _ (not_zero _ v.3) refl))))
-    (λ r. let all = sendable_fed g r.2 in let inside = r.1 in
-    passed _ _ _ (lt-ltb _ _ (omega arith))
+    (λ r. passed _ _ _ (lt-ltb _ _ r.1)
     (cond_false _ _ _ (le-ltb e (graph_edges g) r.0)
-    ∙ passed _ _ _ (ap not r.3) (passed _ _ _ (ap is_none r.4) refl))) m
+    ∙ passed _ _ _ (ap not r.2) (passed _ _ _ (ap is_none r.3) refl))) m
 met_rules g (Claim e) s m = passed _ _ _ (lt-ltb _ _ m.0) (passed _ _ _ (ap is_running m.1) (passed _ _ _ m.2 refl))
 met_rules g (Put e) s m = passed _ _ _ (lt-ltb _ _ m.0) (passed _ _ _ (is_some_of _ _ m.1.1) refl)
 met_rules g (Halt v) s m = passed _ _ _ (lt-ltb _ _ m.0)
@@ -135,5 +134,5 @@ vertex_clear g e s l may = ⊎_elim (λ v. v) (λ r. (let past = r.0 in absurd (
 
 -- and by the root
 pub root_clear : (g : Setting) (e : ℕ) (s : Part) → graph_edges g ≤ e → unmet g (Clear e) s ≡ None
-    → (graph_edges g ≤ e) × (e < all_edges g) × (g.fed ≡ true) × (s.ended ≡ false) × ((s.out e).link.held ≡ None)
+    → (graph_edges g ≤ e) × (e < all_edges g) × (s.ended ≡ false) × ((s.out e).link.held ≡ None)
 root_clear g e s past may = ⊎_elim (λ v. (let l = v.0 in absurd (omega arith))) (λ r. r) (rules_met g (Clear e) s may)

@@ -15,10 +15,10 @@ use Rattle.chip_part.proofs.PickedLemmas.{picked_passes}
 use Rattle.chip_part.proofs.EdgeLemmas.{tail_graph}
 use Rattle.chip_part.specs.Part.{Part, is_running, unput, refusals, pending_of, is_legal}
 use Rattle.chip_part.specs.Rules.{Event, Take, Ack, Fire, Clear, Claim, Put, Halt, Settle}
-use Rattle.chip_part.specs.Steps.{Step, does}
+use Rattle.chip_part.specs.Steps.{Step, does, saw}
 use Rattle.chip_part.specs.Turn.{Phase, nothing, either_phase, where_phase, each_phase, one_step, seeing, ins_of}
 use Rattle.chip_part.specs.Turn.{outs_of, firing, may_fire, batch_of, putting, sending, after_clear_phase}
-use Rattle.chip_part.specs.Turn.{after_claim_phase, acknowledging, acknowledging_parent, is_at_limit, IsTurn}
+use Rattle.chip_part.specs.Turn.{after_claim_phase, acknowledging, acknowledging_parent, is_at_limit, IsTurn, most_steps}
 use Rattle.chip_part.specs.Kept.{KeepsPart}
 use Rattle.chip_part.proofs.PartLemmas.{out_zero, no_held, tail_inside}
 
@@ -69,7 +69,7 @@ module _ (g : Setting) (v : ℕ) where
   settles_keep (e ∷ es) s ds t (front, m, back, is, (seen, more, now, (none, same)), rest) ok =
       settles_keep es m back t rest (subst IsExclusive (sym same) ok)
 
-  fires_keep : v < g.graph.vertices → (s : Part) (ds : List Step) (t : Part) → firing g v s ds t → IsExclusive s
+  fires_keep : v < g.game.graph.vertices → (s : Part) (ds : List Step) (t : Part) → firing g v s ds t → IsExclusive s
       → IsExclusive t
   fires_keep vertex s ds t ph ok = cases (may_fire g v s) refl ph
     where
@@ -80,7 +80,7 @@ module _ (g : Setting) (v : ℕ) where
           (let a = and_parts _ _ is in let b = and_parts _ _ a.0 in let c = and_parts _ _ b.0 in
           let idle : unput g v s ≡ 0 = eqb-true _ _ c.1 in
           let inside = Rattle.chip_part.proofs.PartLemmas.tail_inside g e
-          (subst (λ (n : ℕ). n < g.graph.vertices) (sym at) vertex) in
+          (subst (λ (n : ℕ). n < g.game.graph.vertices) (sym at) vertex) in
           no_held (s.out e).link.held
           (out_zero g v (λ i. length (option_to_list (s.out i).link.held)) idle e (omega arith) at)))
 
@@ -183,7 +183,7 @@ module _ (g : Setting) (v : ℕ) where
   claim_here : (e : ℕ) (s : Part) (rest : List Step) (m : Part)
       → seeing g v (Claim e) (after_claim_phase g v e) s rest m → SendHere s rest m 2
   claim_here e s rest m (word, more, is, next) =
-      let step = after_claim_few e (does g (record { event = Claim e; seen = word }) s)
+      let step = after_claim_few e (does g (saw (Claim e) word) s)
       (eqb word (claims_of (s.out e).link)) more m next in
       record {
         few = (let a = ap length is in let b = step.0 in omega arith);
@@ -204,7 +204,7 @@ module _ (g : Setting) (v : ℕ) where
       → either_phase b (seeing g v (Clear e) (after_clear_phase g v e)) nothing s front m
       → SendHere s front m (cond (eqb (s.out e).pending 0) 0 1 * 3)
   send_here e s front m true on (seen, rest, is, next) =
-      let sub = clear_few e (does g (record { event = Clear e; seen = seen }) s) (eqb seen 0) rest m next in
+      let sub = clear_few e (does g (saw (Clear e) seen) s) (eqb seen 0) rest m next in
       let busy : ◌≡◌ {A = ℕ} (cond (eqb (s.out e).pending 0) 0 1) 1 =
       cond_false (eqb (s.out e).pending 0) 0 1 (not-true _ (and_parts _ _ on).1) in
       record { few = (let a = ap length is in let b = sub.few in omega arith); sends = sub.sends }
@@ -246,7 +246,7 @@ module _ (g : Setting) (v : ℕ) where
 
   outs_leave : All (λ e. tail_of g e ≡ v) (outs_of g v)
   outs_leave k d l =
-      let test : ℕ → Bool = λ i. eqb (edge_at g.graph i).tail v in
+      let test : ℕ → Bool = λ i. eqb (edge_at g.game.graph i).tail v in
       tail_graph g _ (All-picked test (graph_edges g) (graph_edges g) (omega arith) k d l)
       ∙ eqb-true _ _ (picked_passes test (graph_edges g) k d l)
 
@@ -261,7 +261,7 @@ module _ (g : Setting) (v : ℕ) where
       let halted : is_running t.halt ≡ false = ap (λ (p : Part). is_running p.halt) same
       ∙ ap is_running (cond_true (not (eqb (refusals g v s) 0)) _ _ (ap not refused)) in
       idle (is_at_limit g v t) (λ j. ((halted j && eqb (pending_of g v t) 0) && is_legal g v t)
-      && eqb t.fired g.limit) ph
+      && eqb t.fired g.game.limit) ph
     where
       idle : (b : Bool) → b ≡ false → either_phase b (one_step g v (Halt v)) nothing t fs u → length fs ≤ 0
       idle true off ph = absurd (true≢false off)
@@ -283,8 +283,8 @@ module _ (g : Setting) (v : ℕ) where
   at_most_parent None = at_most_more 0 1 nothing (omega arith) at_most_nothing
   at_most_parent (Some e) = at_most_where 1 _ (one_step g v (Ack e)) (at_most_step (Ack e))
 
-  pub turn_bound : v < g.graph.vertices → (s : Part) (ds : List Step) → IsExclusive s → IsTurn g v s ds
-      → length ds ≤ (2 * length (ins_of g v) + 4 * length (outs_of g v)) + 3
+  pub turn_bound : v < g.game.graph.vertices → (s : Part) (ds : List Step) → IsExclusive s → IsTurn g v s ds
+      → length ds ≤ most_steps g v
   turn_bound vertex s ds ok (
     after,
     (
@@ -339,8 +339,8 @@ module _ (g : Setting) (v : ℕ) where
       let c7 = length-append f7 b7 in
       omega arith
 
-pub turns_bounded : (g : Setting) (v : ℕ) → v < g.graph.vertices → (s : Part) → KeepsPart g v s → (ds : List Step)
-    → IsTurn g v s ds → length ds ≤ (2 * length (ins_of g v) + 4 * length (outs_of g v)) + 3
+pub turns_bounded : (g : Setting) (v : ℕ) → v < g.game.graph.vertices → (s : Part) → KeepsPart g v s → (ds : List Step)
+    → IsTurn g v s ds → length ds ≤ most_steps g v
 turns_bounded g v vertex s kept ds is = turn_bound g v vertex s ds
-    (λ e at some. (kept.outs e at).free_hand (tail_inside g e (subst (λ (n : ℕ). n < g.graph.vertices) (sym at) vertex))
+    (λ e at some. (kept.outs e at).free_hand (tail_inside g e (subst (λ (n : ℕ). n < g.game.graph.vertices) (sym at) vertex))
     some) is

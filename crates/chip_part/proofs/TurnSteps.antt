@@ -11,7 +11,8 @@ use Rattle.std.proofs.lemmas.Bool.{not-true, eqb-false, and_parts, and_from}
 use mathlib.Core.Logic.{dite}
 use native.Mathlib.Decide.{ℕ_discrete, dec_lt}
 use Rattle.chip_graph.specs.Multigraph.{edge_at, edges_in, degree}
-use Rattle.chip_part.specs.Setting.{Setting, HasGame}
+use Rattle.chip_graph.specs.ChipGame.{IsGame}
+use Rattle.chip_part.specs.Setting.{Setting}
 use Rattle.chip_graph.proofs.SumLemmas.{cond_yes, cond_no, cond_true, cond_false, tested_none}
 use Rattle.chip_graph.proofs.PickLemmas.{All-picked}
 use Rattle.chip_graph.proofs.Walks.{degree_positive}
@@ -21,7 +22,7 @@ use Rattle.chip_part.specs.declared.cursor.Cursor.TheVariants as At
 use Rattle.chip_part.specs.Edges.{graph_edges, all_edges, root_edge, tail_of, head_of}
 use Rattle.chip_part.specs.Part.{Part, Cause, is_running, may_ack, pending_of, unput, refusals, cause, is_legal}
 use Rattle.chip_part.specs.Rules.{Event, Take, Ack, Fire, Clear, Claim, Put, Halt, Settle}
-use Rattle.chip_part.specs.Steps.{Step, does}
+use Rattle.chip_part.specs.Steps.{Step, does, saw}
 use Rattle.chip_part.specs.Turn.{nothing, either_phase, where_phase, and_then, each_phase, one_step, seeing, ins_of}
 use Rattle.chip_part.specs.Turn.{outs_of, firing, may_fire, batch_of, putting, sending, sending_all, after_clear_phase}
 use Rattle.chip_part.specs.Turn.{after_claim_phase, acknowledging, acknowledging_parent, last_acknowledgement}
@@ -29,7 +30,7 @@ use Rattle.chip_part.specs.Turn.{is_at_limit}
 use Rattle.chip_part.specs.Cursor.{out_at, left, claiming, storing, from_firing, from_settling, from_putting}
 use Rattle.chip_part.specs.Cursor.{from_refusal, from_sending, from_limit, from_acknowledging, HoldsNothing, IsSending}
 use Rattle.chip_part.specs.Cursor.{IsAt, GoesBy}
-use Rattle.chip_part.proofs.EdgeLemmas.{tail_graph, head_graph, head_root, graph_sendable}
+use Rattle.chip_part.proofs.EdgeLemmas.{tail_graph, head_graph, head_root, graph_inside}
 use Rattle.chip_part.proofs.RuleLemmas.{met_rules, positive, running}
 use Rattle.chip_part.proofs.PartLemmas.{out_zero, tail_inside, may_le}
 use Rattle.chip_part.proofs.PickedLemmas.{picked_passes}
@@ -76,44 +77,44 @@ is_false false z = refl
 
 module _ (g : Setting) (v : ℕ) where
   pub out_inside : (place : ℕ) → place < length (outs_of g v) → out_at g v place < graph_edges g
-  out_inside place within = All-picked (λ i. eqb (edge_at g.graph i).tail v) (graph_edges g) (graph_edges g)
+  out_inside place within = All-picked (λ i. eqb (edge_at g.game.graph i).tail v) (graph_edges g) (graph_edges g)
       (omega arith) place 0 within
 
   pub out_leaves : (place : ℕ) → place < length (outs_of g v) → tail_of g (out_at g v place) ≡ v
   out_leaves place within = tail_graph g _ (out_inside place within)
-      ∙ eqb-true _ _ (picked_passes (λ i. eqb (edge_at g.graph i).tail v) (graph_edges g) place 0 within)
+      ∙ eqb-true _ _ (picked_passes (λ i. eqb (edge_at g.game.graph i).tail v) (graph_edges g) place 0 within)
 
   pub in_enters : (place : ℕ) → place < length (ins_of g v) → head_of g (slice_index (ins_of g v) place) ≡ v
-  in_enters place within = dite (dec_lt place (length (edges_in g.graph v)))
+  in_enters place within = dite (dec_lt place (length (edges_in g.game.graph v)))
       (λ l.
-      let test = λ (i : ℕ). eqb (edge_at g.graph i).head v in
-      let here = get_or_append_left (edges_in g.graph v) (root_edge g v ∷ []) 0 place l in
+      let test = λ (i : ℕ). eqb (edge_at g.game.graph i).head v in
+      let here = get_or_append_left (edges_in g.game.graph v) (root_edge g v ∷ []) 0 place l in
       ap (head_of g) here ∙ head_graph g _ (All-picked test (graph_edges g) (graph_edges g) (omega arith) place 0 l)
       ∙ eqb-true _ _ (picked_passes test (graph_edges g) place 0 l))
       (λ n.
-      let all = Rattle.std.proofs.Common.length-append (edges_in g.graph v) (root_edge g v ∷ []) in
-      let last : place - length (edges_in g.graph v) ≡ 0 = omega arith in
+      let all = Rattle.std.proofs.Common.length-append (edges_in g.game.graph v) (root_edge g v ∷ []) in
+      let last : place - length (edges_in g.game.graph v) ≡ 0 = omega arith in
       let here : slice_index (ins_of g v) place
-      ≡ root_edge g v = get_or-append_right (edges_in g.graph v) (root_edge g v ∷ []) place 0 (omega arith)
+      ≡ root_edge g v = get_or-append_right (edges_in g.game.graph v) (root_edge g v ∷ []) place 0 (omega arith)
       ∙ ap (λ (k : ℕ). get_or (root_edge g v ∷ []) k 0) last in
       let root = head_root g (root_edge g v) (omega arith) in
       ap (head_of g) here ∙ (let a : head_of g (root_edge g v) ≡ v = omega arith in a))
 
-  in_inside : v < g.graph.vertices → (e : ℕ) → head_of g e ≡ v → e < all_edges g
+  in_inside : v < g.game.graph.vertices → (e : ℕ) → head_of g e ≡ v → e < all_edges g
   in_inside vertex e at = dite (dec_lt e (graph_edges g)) (λ l. omega arith) (λ n. let h = head_root g e (omega arith)
       in omega arith)
 
   -- an edge out of the vertex stands at a place
-  out_place : v < g.graph.vertices → (e : ℕ) → tail_of g e ≡ v → (k : ℕ) × (k < length (outs_of g v))
+  out_place : v < g.game.graph.vertices → (e : ℕ) → tail_of g e ≡ v → (k : ℕ) × (k < length (outs_of g v))
       × (out_at g v k ≡ e)
   out_place vertex e at = let c = among_new_outs g v vertex e at in
       (c.0, c.1, sym (get_or_default (outs_of g v) c.0 e 0 c.1) ∙ c.2)
 
 -- ---- the phases
 
-module _ (g : Setting) (v : ℕ) (vertex : v < g.graph.vertices) (s : Part) where
+module _ (g : Setting) (v : ℕ) (vertex : v < g.game.graph.vertices) (s : Part) where
   inside : (e : ℕ) → tail_of g e ≡ v → e < graph_edges g
-  inside e at = tail_inside g e (subst (λ (n : ℕ). n < g.graph.vertices) (sym at) vertex)
+  inside e at = tail_inside g e (subst (λ (n : ℕ). n < g.game.graph.vertices) (sym at) vertex)
 
   no_unput : HoldsNothing g v s → unput g v s ≡ 0
   no_unput none = tested_none (all_edges g) (λ e. eqb (tail_of g e) v)
@@ -133,7 +134,7 @@ module _ (g : Setting) (v : ℕ) (vertex : v < g.graph.vertices) (s : Part) wher
       (λ n. absurd (some (tested_none (all_edges g) (λ e. eqb (tail_of g e) v) (λ e. cond (s.out e).link.refused 1 0)
       (λ e l on. (let p = out_place g v vertex e (eqb-true _ _ on) in let a = p.1 in absurd (omega arith))))))
 
-  not_sink : HasGame g → (e : ℕ) → tail_of g e ≡ v → v ≢ g.graph.sink
+  not_sink : IsGame g.game → (e : ℕ) → tail_of g e ≡ v → v ≢ g.game.graph.sink
   not_sink game e at is = let l = inside e at in
       (game.graph_fits.edges_fit e l).not_from_sink (sym (tail_graph g e l) ∙ at ∙ is)
 
@@ -152,8 +153,8 @@ module _ (g : Setting) (v : ℕ) (vertex : v < g.graph.vertices) (s : Part) wher
         fewer = omega arith;
         fits = λ seen. tt;
         rest = λ seen ds after h. each_more (λ i. one_step g v (Take i)) (ins_of g v)
-            (from_settling g v 0) place within s (does g (record { event = Take e; seen = seen }) s)
-            (record { event = Take e; seen = seen } ∷ []) ds after
+            (from_settling g v 0) place within s (does g (saw (Take e) seen) s)
+            (saw (Take e) seen ∷ []) ds after
             (seen, [], refl, (refl, refl)) h;
       }
 
@@ -176,8 +177,8 @@ module _ (g : Setting) (v : ℕ) (vertex : v < g.graph.vertices) (s : Part) wher
         fewer = omega arith;
         fits = λ seen. tt;
         rest = λ seen ds after h. each_more (λ i. one_step g v (Settle i)) (outs_of g v)
-            (from_firing g v) place within s (does g (record { event = Settle e; seen = seen }) s)
-            (record { event = Settle e; seen = seen } ∷ []) ds after
+            (from_firing g v) place within s (does g (saw (Settle e) seen) s)
+            (saw (Settle e) seen ∷ []) ds after
             (seen, [], refl, (refl, refl)) h;
       }
 
@@ -191,10 +192,10 @@ module _ (g : Setting) (v : ℕ) (vertex : v < g.graph.vertices) (s : Part) wher
 
   -- the firing
 
-  pub may_fire_pays : HasGame g → may_fire g v s ≡ true → 0 < degree g.graph v
+  pub may_fire_pays : IsGame g.game → may_fire g v s ≡ true → 0 < degree g.game.graph v
   may_fire_pays game may =
       let legal = and_parts _ _ (and_parts _ _ (and_parts _ _ may).0).1 in
-      degree_positive g.graph v (game.graph_fits.all_reach v vertex) (eqb-false _ _ (not-true _ legal.0))
+      degree_positive g.game.graph v (game.graph_fits.all_reach v vertex) (eqb-false _ _ (not-true _ legal.0))
       (λ e l. (game.graph_fits.edges_fit e l).some_chips)
 
   -- a batch is one firing at least, and is paid
@@ -207,18 +208,18 @@ module _ (g : Setting) (v : ℕ) (vertex : v < g.graph.vertices) (s : Part) wher
   batch_paid chips cost rest = le_trans (mul-le-mul_right cost (min-le_left (chips / cost) rest))
       (div-mul-le_self chips cost)
 
-  pub fire_due : HasGame g → may_fire g v s ≡ true → GoesBy g v s At.Fire (Fire v (batch_of g v s)) (At.Put 0)
+  pub fire_due : IsGame g.game → may_fire g v s ≡ true → GoesBy g v s At.Fire (Fire v (batch_of g v s)) (At.Put 0)
   fire_due game may =
       let a = and_parts _ _ may in
       let b = and_parts _ _ a.0 in
       let c = and_parts _ _ b.0 in
       let d = and_parts _ _ c.0 in
       let legal = and_parts _ _ b.1 in
-      let other : v ≢ g.graph.sink = eqb-false _ _ (not-true _ legal.0) in
-      let costs : degree g.graph v ≤ s.chips = leb-true _ _ legal.1 in
-      let below : s.fired < g.limit = ltb-true _ _ a.1 in
-      let room = min-le_right (s.chips / degree g.graph v) (g.limit - s.fired) in
-      let within : s.fired + batch_of g v s ≤ g.limit = omega arith in
+      let other : v ≢ g.game.graph.sink = eqb-false _ _ (not-true _ legal.0) in
+      let costs : degree g.game.graph v ≤ s.chips = leb-true _ _ legal.1 in
+      let below : s.fired < g.game.limit = ltb-true _ _ a.1 in
+      let room = min-le_right (s.chips / degree g.game.graph v) (g.game.limit - s.fired) in
+      let within : s.fired + batch_of g v s ≤ g.game.limit = omega arith in
       record {
         mine = refl;
         met = met_rules g (Fire v (batch_of g v s)) s (
@@ -227,16 +228,16 @@ module _ (g : Setting) (v : ℕ) (vertex : v < g.graph.vertices) (s : Part) wher
           running _ d.0,
           eqb-true _ _ d.1,
           eqb-true _ _ c.1,
-          batch_some s.chips (degree g.graph v) (g.limit - s.fired) (may_fire_pays game may) costs
-              (let z : 0 < g.limit - s.fired = omega arith in z),
+          batch_some s.chips (degree g.game.graph v) (g.game.limit - s.fired) (may_fire_pays game may) costs
+              (let z : 0 < g.game.limit - s.fired = omega arith in z),
           within,
-          batch_paid s.chips (degree g.graph v) (g.limit - s.fired),
+          batch_paid s.chips (degree g.game.graph v) (g.game.limit - s.fired),
         );
         fewer = omega arith;
         fits = λ seen k l. absurd (omega arith);
         rest = λ seen ds after h. step (firing g v) (from_putting g v 0) s
-            (does g (record { event = Fire v (batch_of g v s); seen = seen }) s)
-            (record { event = Fire v (batch_of g v s); seen = seen })
+            (does g (saw (Fire v (batch_of g v s)) seen) s)
+            (saw (Fire v (batch_of g v s)) seen)
             (where_yes (may_fire g v) (one_step g v (Fire v (batch_of g v s))) s _ _ may (seen, [], refl, (refl, refl)))
             ds after h;
       }
@@ -258,7 +259,7 @@ module _ (g : Setting) (v : ℕ) (vertex : v < g.graph.vertices) (s : Part) wher
       let e : ℕ = out_at g v next in
       record {
         mine = out_leaves g v next within;
-        met = met_rules g (Put e) s (graph_sendable g e (out_inside g v next within), some_of _ held);
+        met = met_rules g (Put e) s (graph_inside g e (out_inside g v next within), some_of _ held);
         fewer = omega arith;
         fits = λ seen k l. dite (dec_lt k next)
             (λ before. kept_none (eqb e (out_at g v k)) (s.out (out_at g v k)).link
@@ -269,7 +270,7 @@ module _ (g : Setting) (v : ℕ) (vertex : v < g.graph.vertices) (s : Part) wher
             (λ k a b. where_no (λ p. is_some (p.out (out_at g v k)).link.held) (one_step g v (Put (out_at g v k))) s
             (none k a b)) _ after
             (each_more (putting g v) (outs_of g v) (from_refusal g v) next within s
-            (does g (record { event = Put e; seen = seen }) s) (record { event = Put e; seen = seen } ∷ []) ds after
+            (does g (saw (Put e) seen) s) (saw (Put e) seen ∷ []) ds after
             (where_yes (λ p. is_some (p.out e).link.held) (one_step g v (Put e)) s _ _ held
             (seen, [], refl, (refl, refl))) h);
       }
@@ -302,7 +303,7 @@ module _ (g : Setting) (v : ℕ) (vertex : v < g.graph.vertices) (s : Part) wher
 
   -- a refusal that was noted before
 
-  pub refusal_due : HasGame g → HoldsNothing g v s → s.halt ≡ None → refusals g v s ≢ 0
+  pub refusal_due : IsGame g.game → HoldsNothing g v s → s.halt ≡ None → refusals g v s ≢ 0
       → GoesBy g v s At.Refusal (Halt v) At.Limit
   refusal_due game none runs some = record {
     mine = refl;
@@ -316,7 +317,7 @@ module _ (g : Setting) (v : ℕ) (vertex : v < g.graph.vertices) (s : Part) wher
     fewer = (let a = refused_some some in omega arith);
     fits = λ seen. none;
     rest = λ seen ds after h. step (sending_all g v) (from_limit g v) s
-        (does g (record { event = Halt v; seen = seen }) s) (record { event = Halt v; seen = seen })
+        (does g (saw (Halt v) seen) s) (saw (Halt v) seen)
         (either_yes (is_running s.halt) _ nothing s _ _ (ap is_running runs)
         (either_no (eqb (refusals g v s) 0) _ (one_step g v (Halt v)) s _ _ (ne_eqb _ _ some)
         (seen, [], refl, (refl, refl)))) ds after h;
@@ -381,16 +382,16 @@ module _ (g : Setting) (v : ℕ) (vertex : v < g.graph.vertices) (s : Part) wher
             (λ k a b. idle_send (out_at g v k) (none k a b)) _ after
             (subst (λ (xs : List Step). and_then
             (each_phase (sending g v) (Rattle.std.proofs.Common.drop next (outs_of g v))) (from_limit g v) s
-            (record { event = Clear e; seen = seen } ∷ xs) after) (sym is)
+            (saw (Clear e) seen ∷ xs) after) (sym is)
             (each_more (sending g v) (outs_of g v) (from_limit g v) next within s m
-            (record { event = Clear e; seen = seen } ∷ front) back after
+            (saw (Clear e) seen ∷ front) back after
             (where_yes (λ p. is_running p.halt && not (eqb (p.out e).pending 0))
             (seeing g v (Clear e) (after_clear_phase g v e)) s _ m (and_from _ _ (ap is_running at.running) some) (
               seen,
               front,
               refl,
               subst (λ (b : Bool). either_phase b (seeing g v (Claim e) (after_claim_phase g v e)) nothing
-                  (does g (record { event = Clear e; seen = seen }) s) front m)
+                  (does g (saw (Clear e) seen) s) front m)
                   (ap (λ (t : Tail). t.clear) (cond_yes e e (after_clear seen (s.out e).link) (s.out e).link refl))
                   claim,
             )) more));
@@ -444,16 +445,16 @@ module _ (g : Setting) (v : ℕ) (vertex : v < g.graph.vertices) (s : Part) wher
           },
         );
         rest = λ seen ds after (front, m, back, is, store, more). (
-          record { event = Claim e; seen = seen } ∷ front,
+          saw (Claim e) seen ∷ front,
           m,
           back,
-          ap (λ (xs : List Step). record { event = Claim e; seen = seen } ∷ xs) is,
+          ap (λ (xs : List Step). saw (Claim e) seen ∷ xs) is,
           where_yes (λ p. (p.out e).link.clear) (seeing g v (Claim e) (after_claim_phase g v e)) s _ m clear (
             seen,
             front,
             refl,
             subst (λ (b : Bool). either_phase b (one_step g v (Put e)) (one_step g v (Halt v))
-                (does g (record { event = Claim e; seen = seen }) s) front m)
+                (does g (saw (Claim e) seen) s) front m)
                 (ap (λ (u : Tail). is_some u.held) (cond_yes e e (after_claim (s.out e).pending seen t) t refl)
                 ∙ claim_held (eqb seen (claims_of t)) (s.out e).pending t (at.held e out)) store,
           ),
@@ -478,7 +479,7 @@ module _ (g : Setting) (v : ℕ) (vertex : v < g.graph.vertices) (s : Part) wher
       let e : ℕ = out_at g v place in
       record {
         mine = out_leaves g v place within;
-        met = met_rules g (Put e) s (graph_sendable g e (out_inside g v place within), some_of _ held);
+        met = met_rules g (Put e) s (graph_inside g e (out_inside g v place within), some_of _ held);
         fewer = omega arith;
         fits = λ seen. record {
           running = at.running;
@@ -491,7 +492,7 @@ module _ (g : Setting) (v : ℕ) (vertex : v < g.graph.vertices) (s : Part) wher
               ∙ ap not held)) (at.refused i there);
         };
         rest = λ seen ds after h. step (storing g v e) (from_sending g v (place + 1)) s
-            (does g (record { event = Put e; seen = seen }) s) (record { event = Put e; seen = seen })
+            (does g (saw (Put e) seen) s) (saw (Put e) seen)
             (either_yes (is_some (s.out e).link.held) _ (one_step g v (Halt v)) s _ _ held
             (seen, [], refl, (refl, refl))) ds after h;
       }
@@ -500,7 +501,7 @@ module _ (g : Setting) (v : ℕ) (vertex : v < g.graph.vertices) (s : Part) wher
   halted_idle p halted e = where_no (λ q. is_running q.halt && not (eqb (q.out e).pending 0))
       (seeing g v (Clear e) (after_clear_phase g v e)) p (λ j. halted j && not (eqb (p.out e).pending 0))
 
-  pub stop_due : HasGame g → (place : ℕ) → IsAt g v (At.Store place) s
+  pub stop_due : IsGame g.game → (place : ℕ) → IsAt g v (At.Store place) s
       → is_some (s.out (out_at g v place)).link.held ≡ false → GoesBy g v s (At.Store place) (Halt v) At.Limit
   stop_due game place (within, at) none =
       let e : ℕ = out_at g v place in
@@ -515,12 +516,12 @@ module _ (g : Setting) (v : ℕ) (vertex : v < g.graph.vertices) (s : Part) wher
         fewer = omega arith;
         fits = λ seen. holds;
         rest = λ seen ds after h. step (storing g v e) (from_sending g v (place + 1)) s
-            (does g (record { event = Halt v; seen = seen }) s) (record { event = Halt v; seen = seen })
+            (does g (saw (Halt v) seen) s) (saw (Halt v) seen)
             (either_no (is_some (s.out e).link.held) (one_step g v (Put e)) _ s _ _ none (seen, [], refl, (refl, refl)))
             ds after
             (each_none (sending g v) (outs_of g v) (from_limit g v) (place + 1)
-            (does g (record { event = Halt v; seen = seen }) s)
-            (λ k a b. halted_idle (does g (record { event = Halt v; seen = seen }) s) (ap is_running cause'.1)
+            (does g (saw (Halt v) seen) s)
+            (λ k a b. halted_idle (does g (saw (Halt v) seen) s) (ap is_running cause'.1)
             (out_at g v k)) ds after h);
       }
 
@@ -536,7 +537,7 @@ module _ (g : Setting) (v : ℕ) (vertex : v < g.graph.vertices) (s : Part) wher
       (λ none. (
         FiringLimit,
         cond_false (not (eqb (refusals g v s) 0)) _ _ (ap not (eq-eqb _ _ none))
-            ∙ cond_true (eqb (pending_of g v s) 0 && is_legal g v s && eqb s.fired g.limit) _ None
+            ∙ cond_true (eqb (pending_of g v s) 0 && is_legal g v s && eqb s.fired g.game.limit) _ None
             (and_from _ _ (and_from _ _ c.1 b.1) a.1),
       ))
       cause_sealed in
@@ -546,8 +547,8 @@ module _ (g : Setting) (v : ℕ) (vertex : v < g.graph.vertices) (s : Part) wher
         fewer = omega arith;
         fits = λ seen. tt;
         rest = λ seen ds after h. step (where_phase (is_at_limit g v) (one_step g v (Halt v)))
-            (from_acknowledging g v 0) s (does g (record { event = Halt v; seen = seen }) s)
-            (record { event = Halt v; seen = seen })
+            (from_acknowledging g v 0) s (does g (saw (Halt v) seen) s)
+            (saw (Halt v) seen)
             (where_yes (is_at_limit g v) (one_step g v (Halt v)) s _ _ may (seen, [], refl, (refl, refl))) ds after h;
       }
 
@@ -582,7 +583,7 @@ module _ (g : Setting) (v : ℕ) (vertex : v < g.graph.vertices) (s : Part) wher
             (λ p. not (eqb (may_ack g (head_of g (slice_index (ins_of g v) k)) p (slice_index (ins_of g v) k)) 0))
             (one_step g v (Ack (slice_index (ins_of g v) k))) s (none k a b)) _ after
             (each_more (acknowledging g v) (ins_of g v) (last_acknowledgement g v) next within s
-            (does g (record { event = Ack e; seen = seen }) s) (record { event = Ack e; seen = seen } ∷ []) ds after
+            (does g (saw (Ack e) seen) s) (saw (Ack e) seen ∷ []) ds after
             (where_yes (λ p. not (eqb (may_ack g (head_of g e) p e) 0)) (one_step g v (Ack e)) s _ _ some
             (seen, [], refl, (refl, refl))) h);
       }
@@ -619,7 +620,7 @@ module _ (g : Setting) (v : ℕ) (vertex : v < g.graph.vertices) (s : Part) wher
     fewer = omega arith;
     fits = λ seen. tt;
     rest = λ seen ds after h. subst
-        (λ (o : Option ℕ). acknowledging_parent g v o s (record { event = Ack e; seen = seen } ∷ ds) after) (sym is)
+        (λ (o : Option ℕ). acknowledging_parent g v o s (saw (Ack e) seen ∷ ds) after) (sym is)
         (where_yes (λ p. not (eqb (may_ack g (head_of g e) p e) 0)) (one_step g v (Ack e)) s _ after some
         (seen, ds, refl, h));
   }

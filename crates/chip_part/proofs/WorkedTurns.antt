@@ -3,8 +3,8 @@ use Rattle.std.proofs.Common.{List, [], ◌∷◌, refl}
 use Rattle.chip_part.specs.Setting.{Setting}
 use Rattle.chip_part.specs.Part.{Part, opened}
 use Rattle.chip_part.specs.Rules.{Take, Fire, Clear, Claim, Put, Settle}
-use Rattle.chip_part.specs.Steps.{Step, does, part_after}
-use Rattle.chip_part.specs.Worked.{small_triangle, saw, FirstTurn, sent_in_part, TurnBegunInTheMiddle}
+use Rattle.chip_part.specs.Steps.{Step, does, part_after, saw}
+use Rattle.chip_part.specs.Worked.{small_triangle, FirstTurn, sent_in_part, TurnBegunInTheMiddle}
 
 first : FirstTurn
 first =

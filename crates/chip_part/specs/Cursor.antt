@@ -9,12 +9,12 @@ use Rattle.chip_part.specs.Setting.{Setting}
 use Rattle.chip_part.specs.Edges.{tail_of}
 use Rattle.chip_part.specs.Part.{Part}
 use Rattle.chip_part.specs.Rules.{Event, Take, Claim, Put, Halt, Settle, unmet}
-use Rattle.chip_part.specs.Steps.{Step, part_of, does}
+use Rattle.chip_part.specs.Steps.{Step, part_of, does, saw}
 use Rattle.chip_part.specs.Acting.{act_of, event_of}
 use Rattle.chip_part.specs.Kept.{KeepsPart}
 use Rattle.chip_part.specs.Turn.{Phase, nothing, either_phase, where_phase, and_then, each_phase, ins_of, outs_of}
 use Rattle.chip_part.specs.Turn.{seeing, one_step, firing, after_claim_phase, sending, putting, sending_all}
-use Rattle.chip_part.specs.Turn.{is_at_limit, acknowledging, last_acknowledgement, turn}
+use Rattle.chip_part.specs.Turn.{is_at_limit, acknowledging, last_acknowledgement, turn, most_steps}
 
 module _ (g : Setting) (v : ℕ) where
   -- the edge at a place of those out of the vertex
@@ -136,8 +136,8 @@ pub record IsNext (g : Setting) (v : ℕ) (first : Part) (done : List Step) (s :
   pub needed : act ≡ act_of g (event_of v act) s
   pub fewer : fuel g v next < fuel g v cursor
   pub goes_on : (seen : ℕ)
-      → IsUnderWay g v first (done ++ record { event = event_of v act; seen = seen } ∷ []) next
-      (does g (record { event = event_of v act; seen = seen }) s)
+      → IsUnderWay g v first (done ++ saw (event_of v act) seen ∷ []) next
+      (does g (saw (event_of v act) seen) s)
 
 -- the answer at a cursor of a turn that is under way: nothing more where the operations are a turn, else the next
 -- operation of it
@@ -158,10 +158,10 @@ pub record GoesBy (g : Setting) (v : ℕ) (s : Part) (cursor : Cursor) (x : Even
   pub mine : part_of g x ≡ v
   pub met : unmet g x s ≡ None
   pub fewer : fuel g v next < fuel g v cursor
-  pub fits : (seen : ℕ) → IsAt g v next (does g (record { event = x; seen = seen }) s)
+  pub fits : (seen : ℕ) → IsAt g v next (does g (saw x seen) s)
   pub rest : (seen : ℕ) (ds : List Step) (after : Part)
-      → left g v next (does g (record { event = x; seen = seen }) s) ds after
-      → left g v cursor s (record { event = x; seen = seen } ∷ ds) after
+      → left g v next (does g (saw x seen) s) ds after
+      → left g v cursor s (saw x seen ∷ ds) after
 
 -- what is due at a cursor, with the cursor after it: nothing where nothing is left
 abbrev pub IsDueAt : Setting → ℕ → Part → Cursor → Option (Event × Cursor) → Type 0
@@ -171,6 +171,6 @@ IsDueAt g v s cursor (Some due) = GoesBy g v s cursor due.0 due.1
 -- a turn that is under way has made no more operations than a whole turn may have
 abbrev pub UnderWayIsBounded : Type 0
 UnderWayIsBounded =
-    (g : Setting) (v : ℕ) → v < g.graph.vertices → (first : Part) → KeepsPart g v first
+    (g : Setting) (v : ℕ) → v < g.game.graph.vertices → (first : Part) → KeepsPart g v first
     → (done : List Step) (cursor : Cursor) (s : Part) → IsUnderWay g v first done cursor s
-    → length done ≤ (2 * length (ins_of g v) + 4 * length (outs_of g v)) + 3
+    → length done ≤ most_steps g v

@@ -1,6 +1,6 @@
 -- The edges of a running game by their numbers, which are those of its graph and of the root. The stopper is a number
 -- beside the vertices and the root. All functions are total.
-use Rattle.std.specs.Prelude.{ℕ, ◌+◌, ◌*◌, ◌==◌, if◌then◌else◌, slice_index}
+use Rattle.std.specs.Prelude.{ℕ, ◌+◌, ◌*◌, ◌==◌, nat_lt, if◌then◌else◌, slice_index, Option, Some, None}
 use Rattle.chip_graph.specs.Multigraph.{edge_at}
 use Rattle.chip_graph.specs.Edges as edges
 use Rattle.chip_part.specs.Setting.{Setting}
@@ -8,39 +8,47 @@ use Rattle.chip_graph.specs.Sums.{sum_below}
 
 -- how many edges the graph has
 abbrev pub graph_edges : Setting → ℕ
-graph_edges g = edges.graph_edges g.graph
+graph_edges g = edges.graph_edges g.game.graph
 
 -- how many edges there are with the root's
 abbrev pub all_edges : Setting → ℕ
-all_edges g = edges.all_edges g.graph
+all_edges g = edges.all_edges g.game.graph
 
 -- the root, as the tail of the root edges
 abbrev pub root : Setting → ℕ
-root g = edges.root g.graph
+root g = edges.root g.game.graph
 
 -- the stopper, who seals edges
 abbrev pub stopper : Setting → ℕ
-stopper g = g.graph.vertices + 1
+stopper g = g.game.graph.vertices + 1
 
 -- the edge from the root to v
 abbrev pub root_edge : Setting → ℕ → ℕ
-root_edge g v = edges.root_edge g.graph v
+root_edge g v = edges.root_edge g.game.graph v
 
 -- who sends on e
 abbrev pub tail_of : Setting → ℕ → ℕ
-tail_of g e = edges.tail_of g.graph e
+tail_of g e = edges.tail_of g.game.graph e
 
 -- who gets what is sent on e
 abbrev pub head_of : Setting → ℕ → ℕ
-head_of g e = edges.head_of g.graph e
+head_of g e = edges.head_of g.game.graph e
+
+-- the head of an edge, if the edge is there
+abbrev pub head_if : Setting → ℕ → Option ℕ
+head_if g e = if nat_lt e (all_edges g) then Some (head_of g e) else None
+
+-- the tail of an edge of the graph, if it is one
+abbrev pub tail_if : Setting → ℕ → Option ℕ
+tail_if g e = if nat_lt e (graph_edges g) then Some (tail_of g e) else None
 
 -- the chips that one firing of its tail sends along e, 0 for a root edge
 abbrev pub mult_of : Setting → ℕ → ℕ
-mult_of g e = (edge_at g.graph e).mult
+mult_of g e = (edge_at g.game.graph e).mult
 
 -- the chips of v at the start
 abbrev pub start_of : Setting → ℕ → ℕ
-start_of g v = slice_index g.start v
+start_of g v = slice_index g.game.start v
 
 -- the sum of f over all edges out of v
 abbrev pub over_outs : Setting → ℕ → (ℕ → ℕ) → ℕ
@@ -53,7 +61,3 @@ over_ins g v f = sum_below (all_edges g) (λ e. if head_of g e == v then f e els
 -- the chips that the firings of its tail put into e, an edge of the graph, where it fired so often
 abbrev pub made : Setting → ℕ → ℕ → ℕ
 made g e fired = mult_of g e * fired
-
--- the edges that a tail may look at and put on: those of the graph, and the root's where chips are fed
-abbrev pub sendable_edges : Setting → ℕ
-sendable_edges g = if g.fed then all_edges g else graph_edges g

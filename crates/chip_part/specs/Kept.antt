@@ -5,7 +5,7 @@ use Rattle.chip_graph.specs.Multigraph.{degree}
 use Rattle.chip_part.specs.Setting.{Setting}
 use Rattle.chip_link.specs.Link.{Tail, claims_of}
 use Rattle.chip_part.specs.declared.cause.Cause.TheVariants.{FiringLimit}
-use Rattle.chip_part.specs.Edges.{graph_edges, all_edges, sendable_edges, tail_of, head_of, over_ins, made, root}
+use Rattle.chip_part.specs.Edges.{graph_edges, all_edges, tail_of, head_of, over_ins, made, root}
 use Rattle.chip_part.specs.Part.{Part, Cause, owed, may_ack, pending_of, unput, cause, deficit, all_owed, is_passive}
 use Rattle.chip_part.specs.Part.{is_legal, all_fed, first_put}
 use Rattle.chip_part.specs.Rules.{Event, Take, Ack, Fire, Clear, Claim, Put, Halt, Settle, Seal, Read}
@@ -17,18 +17,18 @@ abbrev pub Met : Setting → Event → Part → Type 0
 Met g (Take e) s = e < all_edges g
 Met g (Ack e) s = (e < all_edges g) × (0 < owed (s.into e)) × (0 < may_ack g (head_of g e) s e)
 Met g (Fire v k) s =
-    (v < g.graph.vertices) × (v ≢ g.graph.sink) × (s.halt ≡ None) × (pending_of g v s ≡ 0) × (unput g v s ≡ 0) × (0 < k)
-    × (s.fired + k ≤ g.limit) × (k * degree g.graph v ≤ s.chips)
+    (v < g.game.graph.vertices) × (v ≢ g.game.graph.sink) × (s.halt ≡ None) × (pending_of g v s ≡ 0) × (unput g v s ≡ 0) × (0 < k)
+    × (s.fired + k ≤ g.game.limit) × (k * degree g.game.graph v ≤ s.chips)
 Met g (Clear e) s =
     ((e < graph_edges g) × (s.halt ≡ None) × ((s.out e).link.refused ≡ false) × (0 < (s.out e).pending))
-    ⊎ ((graph_edges g ≤ e) × (e < all_edges g) × (g.fed ≡ true) × (s.ended ≡ false) × ((s.out e).link.held ≡ None))
+    ⊎ ((graph_edges g ≤ e) × (e < all_edges g) × (s.ended ≡ false) × ((s.out e).link.held ≡ None))
 Met g (Claim e) s = (e < graph_edges g) × (s.halt ≡ None) × ((s.out e).link.clear ≡ true)
-Met g (Put e) s = (e < sendable_edges g) × ((count : ℕ) × ((s.out e).link.held ≡ Some count))
-Met g (Halt v) s = (v < g.graph.vertices) × (v ≢ g.graph.sink) × (s.halt ≡ None) × (unput g v s ≡ 0)
+Met g (Put e) s = (e < all_edges g) × ((count : ℕ) × ((s.out e).link.held ≡ Some count))
+Met g (Halt v) s = (v < g.game.graph.vertices) × (v ≢ g.game.graph.sink) × (s.halt ≡ None) × (unput g v s ≡ 0)
     × ((c : Cause) × (cause g v s ≡ Some c))
 Met g (Settle e) s = e < all_edges g
 Met g (Seal e) s = e < graph_edges g
-Met g (Read v) s = (v < g.graph.vertices) × (deficit g (root g) s ≡ 0) × (s.ended ≡ true)
+Met g (Read v) s = (v < g.game.graph.vertices) × (deficit g (root g) s ≡ 0) × (s.ended ≡ true)
 Met g (Feed e k) s = (graph_edges g ≤ e) × (e < all_edges g) × (s.ended ≡ false) × (0 < k)
     × (all_fed g s + k ≤ max_total) × ((s.out e).link.clear ≡ true)
 Met g End s = Unit {0}
@@ -65,15 +65,15 @@ pub record KeepsOut (g : Setting) (e : ℕ) (t : Tail) (pending fired : ℕ) : T
 pub record KeepsPart (g : Setting) (p : ℕ) (s : Part) : Type 0 where
   pub outs : (e : ℕ) → tail_of g e ≡ p → KeepsOut g e (s.out e).link (s.out e).pending s.fired
   -- what it took is what it has and what it fired
-  pub chips_are : s.chips + degree g.graph p * s.fired ≡ over_ins g p (λ e. sum (s.into e).got)
-  pub within : s.fired ≤ g.limit
+  pub chips_are : s.chips + degree g.game.graph p * s.fired ≡ over_ins g p (λ e. sum (s.into e).got)
+  pub within : s.fired ≤ g.game.limit
   pub acks : (e : ℕ) → (s.into e).acked ≤ length (s.into e).got
   -- its parent is an edge into it on which it owes something
   pub parents : (e : ℕ) → s.parent ≡ Some e → (e < all_edges g) × (head_of g e ≡ p) × (0 < owed (s.into e))
   -- halted by the limit it stays legal, with nothing pending
-  pub at_limit : s.halt ≡ Some FiringLimit → (s.fired ≡ g.limit) × (pending_of g p s ≡ 0) × (is_legal g p s ≡ true)
+  pub at_limit : s.halt ≡ Some FiringLimit → (s.fired ≡ g.game.limit) × (pending_of g p s ≡ 0) × (is_legal g p s ≡ true)
   -- a vertex without a parent is done
-  pub neutral : p < g.graph.vertices → s.parent ≡ None → IsNeutral g p s
+  pub neutral : p < g.game.graph.vertices → s.parent ≡ None → IsNeutral g p s
   -- all that was fed is within the range of chips, and where no chips are fed the end is noted
   pub fed_within : p ≡ root g → all_fed g s ≤ max_total
   pub unfed_ended : g.fed ≡ false → s.ended ≡ true

@@ -1,13 +1,14 @@
 -- What holds of every game, every event and every part, as the contracts of `laws` cite it.
-use Rattle.std.specs.Prelude.{◌*◌, ◌≤◌, List, length, ◌≡◌, ℕ, ◌+◌, ◌<◌, ◌↔◌, ◌⊎◌, true, None}
+use Rattle.std.specs.Prelude.{◌≤◌, List, length, ◌≡◌, ℕ, ◌+◌, ◌<◌, ◌↔◌, ◌⊎◌, true, None}
 use Rattle.chip_graph.specs.Multigraph.{IsGraph, sum_out, sum_in, degree}
-use Rattle.chip_part.specs.Setting.{Setting, HasGame}
+use Rattle.chip_graph.specs.ChipGame.{IsGame}
+use Rattle.chip_part.specs.Setting.{Setting}
 use Rattle.chip_part.specs.Edges.{root_edge, over_outs, over_ins, mult_of}
 use Rattle.chip_part.specs.Part.{Part, opened, deficit, is_passive}
 use Rattle.chip_part.specs.Rules.{Event, unmet}
 use Rattle.chip_part.specs.Steps.{Step, part_of, does}
 use Rattle.chip_part.specs.Kept.{Met, KeepsPart}
-use Rattle.chip_part.specs.Turn.{IsTurn, ins_of, outs_of, turn}
+use Rattle.chip_part.specs.Turn.{IsTurn, most_steps, turn}
 use Rattle.chip_part.specs.Counting.{work_of}
 
 -- no rule is unmet exactly where each holds
@@ -16,7 +17,7 @@ RulesMean = (g : Setting) (x : Event) (s : Part) → (unmet g x s ≡ None) ↔ 
 
 -- every part opens with what is kept, and keeps it by each event that it makes and may make, whatever this sees
 abbrev pub OpeningKeeps : Type 0
-OpeningKeeps = (g : Setting) → HasGame g → (p : ℕ) → KeepsPart g p (opened g)
+OpeningKeeps = (g : Setting) → IsGame g.game → (p : ℕ) → KeepsPart g p (opened g)
 
 abbrev pub EventsKeep : Type 0
 EventsKeep = (g : Setting) (x : Step) (s : Part) → unmet g x.event s ≡ None → KeepsPart g (part_of g x.event) s
@@ -25,16 +26,15 @@ EventsKeep = (g : Setting) (x : Step) (s : Part) → unmet g x.event s ≡ None 
 -- sums over the edges out of a vertex are the graph's, and those over the edges into it have the root edge's term more
 abbrev pub SumsAddRootEdges : Type 0
 SumsAddRootEdges =
-    (g : Setting) → IsGraph g.graph → (v : ℕ) → v < g.graph.vertices → (f : ℕ → ℕ)
-    → (over_outs g v f ≡ sum_out g.graph v f) × (over_outs g v (mult_of g) ≡ degree g.graph v)
-    × (over_ins g v f ≡ sum_in g.graph v f + f (root_edge g v))
+    (g : Setting) → IsGraph g.game.graph → (v : ℕ) → v < g.game.graph.vertices → (f : ℕ → ℕ)
+    → (over_outs g v f ≡ sum_out g.game.graph v f) × (over_outs g v (mult_of g) ≡ degree g.game.graph v)
+    × (over_ins g v f ≡ sum_in g.game.graph v f + f (root_edge g v))
 
--- a turn that begins from a part that is kept has at most so many operations: two for each edge into the vertex, four
--- for each edge out of it, and three more
+-- a turn that begins from a part that is kept has at most so many operations
 abbrev pub TurnIsBounded : Type 0
 TurnIsBounded =
-    (g : Setting) (v : ℕ) → v < g.graph.vertices → (s : Part) → KeepsPart g v s → (ds : List Step) → IsTurn g v s ds
-    → length ds ≤ (2 * length (ins_of g v) + 4 * length (outs_of g v)) + 3
+    (g : Setting) (v : ℕ) → v < g.game.graph.vertices → (s : Part) → KeepsPart g v s → (ds : List Step) → IsTurn g v s ds
+    → length ds ≤ most_steps g v
 
 -- a turn of which no step counts leaves a passive vertex neutral, or waiting for acknowledgements
 abbrev pub IdleTurnRests : Type 0

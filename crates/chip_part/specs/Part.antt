@@ -1,8 +1,8 @@
 -- One part of the core: the state that one vertex alone changes, or the root, or the stopper. All three have the same
 -- record, by the numbers of edges: an edge is looked up in the part of its own tail, of its own head and of the
 -- stopper, and nowhere else.
-use Rattle.std.specs.Prelude.{ℕ, ◌-◌, Bool, true, false, not, ◌&&◌, ◌||◌, ◌==◌, nat_lt, nat_le, if◌then◌else◌, List, []}
-use Rattle.std.specs.Prelude.{◌∷◌, length, sum, Option, Some, None, is_none, option_to_list}
+use Rattle.std.specs.Prelude.{◌≡◌, ℕ, ◌-◌, ◌<◌, Bool, true, false, not, ◌&&◌, ◌||◌, ◌==◌, nat_lt, nat_le, if◌then◌else◌, List, []}
+use Rattle.std.specs.Prelude.{◌∷◌, length, sum, slice_index, Option, Some, None, is_none, option_to_list}
 pub use Rattle.chip_part.specs.declared.cause.Cause.{Cause}
 use Rattle.chip_part.specs.declared.cause.Cause.TheVariants.{SealedEdge, FiringLimit}
 use Rattle.chip_graph.specs.Multigraph.{degree}
@@ -78,7 +78,12 @@ deficit g v s = over_outs g v (λ e. outstanding (s.out e))
 
 -- all chips that the root ever sent, on all root edges: those of the start, and those that were fed
 abbrev pub all_fed : Setting → Part → ℕ
-all_fed g s = sum_below g.graph.vertices (λ v. sum (sent_counts (s.out (root_edge g v)).link))
+all_fed g s = sum_below g.game.graph.vertices (λ v. sum (sent_counts (s.out (root_edge g v)).link))
+
+-- each vertex was given so many chips over its root edge, at the start and by feeds
+abbrev pub AreGiven : Setting → Part → List ℕ → Type 0
+AreGiven g s given = (length given ≡ g.game.graph.vertices)
+    × ((v : ℕ) → v < g.game.graph.vertices → slice_index given v ≡ sum (sent_counts (s.out (root_edge g v)).link))
 
 -- all that v owes
 abbrev pub all_owed : Setting → ℕ → Part → ℕ
@@ -98,7 +103,7 @@ refusals g v s = over_outs g v (λ e. if (s.out e).link.refused then 1 else 0)
 
 -- v is legal by its own chips
 abbrev pub is_legal : Setting → ℕ → Part → Bool
-is_legal g v s = not (v == g.graph.sink) && nat_le (degree g.graph v) s.chips
+is_legal g v s = not (v == g.game.graph.sink) && nat_le (degree g.game.graph v) s.chips
 
 -- v has nothing to do unless a message comes
 abbrev pub is_passive : Setting → ℕ → Part → Bool
@@ -112,7 +117,7 @@ may_ack g v s e = acknowledgeable e s.parent (owed (s.into e)) (all_owed g v s) 
 abbrev pub cause : Setting → ℕ → Part → Option Cause
 cause g v s =
     if not (refusals g v s == 0) then Some SealedEdge
-    else if pending_of g v s == 0 && is_legal g v s && s.fired == g.limit then Some FiringLimit
+    else if pending_of g v s == 0 && is_legal g v s && s.fired == g.game.limit then Some FiringLimit
     else None
 
 -- the firing limit is the cause

@@ -12,7 +12,7 @@ use Rattle.chip_part.specs.declared.rule.Rule.TheVariants.{NoCause, NothingOwed,
 use Rattle.chip_graph.specs.Limits.{max_total}
 use Rattle.chip_graph.specs.Multigraph.{degree}
 use Rattle.chip_part.specs.Setting.{Setting}
-use Rattle.chip_part.specs.Edges.{graph_edges, all_edges, sendable_edges, head_of, root}
+use Rattle.chip_part.specs.Edges.{graph_edges, all_edges, head_of, root}
 use Rattle.chip_part.specs.Part.{Part, is_running, owed, may_ack, pending_of, unput, cause, deficit, all_fed}
 
 -- the rule is met, and so on with the rest; else it is the answer
@@ -38,33 +38,33 @@ unmet g (Ack e) s =
     (need (not (owed (s.into e) == 0)) NothingOwed
     (need (not (may_ack g (head_of g e) s e == 0)) Engaged None))
 unmet g (Fire v k) s =
-    need (nat_lt v g.graph.vertices) NoSuch
-    (need (not (v == g.graph.sink)) Sink
+    need (nat_lt v g.game.graph.vertices) NoSuch
+    (need (not (v == g.game.graph.sink)) Sink
     (need (is_running s.halt) Halted
     (need (pending_of g v s == 0 && unput g v s == 0) Pending
     (need (not (k == 0)) Zero
-    (need (nat_le (s.fired + k) g.limit) Limit
-    (need (nat_le (k * degree g.graph v) s.chips) NotLegal None))))))
+    (need (nat_le (s.fired + k) g.game.limit) Limit
+    (need (nat_le (k * degree g.game.graph v) s.chips) NotLegal None))))))
 unmet g (Clear e) s =
-    need (nat_lt e (sendable_edges g)) NoSuch
+    need (nat_lt e (all_edges g)) NoSuch
     (if nat_lt e (graph_edges g) then unmet_by_vertex e s else unmet_by_root e s)
 unmet g (Claim e) s =
     need (nat_lt e (graph_edges g)) NoSuch
     (need (is_running s.halt) Halted
     (need (s.out e).link.clear NotCleared None))
 unmet g (Put e) s =
-    need (nat_lt e (sendable_edges g)) NoSuch
+    need (nat_lt e (all_edges g)) NoSuch
     (need (is_some (s.out e).link.held) NotClaimed None)
 unmet g (Halt v) s =
-    need (nat_lt v g.graph.vertices) NoSuch
-    (need (not (v == g.graph.sink)) Sink
+    need (nat_lt v g.game.graph.vertices) NoSuch
+    (need (not (v == g.game.graph.sink)) Sink
     (need (is_running s.halt) Halted
     (need (unput g v s == 0) Unput
     (need (is_some (cause g v s)) NoCause None))))
 unmet g (Settle e) s = need (nat_lt e (all_edges g)) NoSuch None
 unmet g (Seal e) s = need (nat_lt e (graph_edges g)) NoSuch None
 unmet g (Read v) s =
-    need (nat_lt v g.graph.vertices) NoSuch
+    need (nat_lt v g.game.graph.vertices) NoSuch
     (need (deficit g (root g) s == 0 && s.ended) NotClosed None)
 unmet g (Feed e k) s =
     need (nat_le (graph_edges g) e && nat_lt e (all_edges g)) NoSuch

@@ -1,37 +1,24 @@
 -- How a game is set up: the game, how many cells the ring of each edge has, and whether chips are fed while it runs.
-use Rattle.std.specs.Prelude.{ℕ, ◌<◌, ◌≤◌, Bool, false, List}
-use Rattle.chip_graph.specs.Multigraph.{Multigraph}
+use Rattle.std.specs.Prelude.{ℕ, ◌<◌, ◌≤◌, Bool, false}
 use Rattle.chip_graph.specs.ChipGame.{ChipGame, IsGame}
 use Rattle.chip_link.specs.Rings.{max_ring}
 
--- the graph, the chips of each vertex at the start, how often a vertex may fire, the cells of a ring, and whether the
--- root may feed more chips
+-- the game, the cells of a ring, and whether the root may feed more chips
 pub record Setting : Type 0 where
-  pub graph : Multigraph
-  pub start : List ℕ
-  pub limit : ℕ
+  pub game : ChipGame
   pub ring : ℕ
   pub fed : Bool
 
 -- this game with rings of so many cells, fed or not
 abbrev pub setting_with : ChipGame → ℕ → Bool → Setting
-setting_with game ring fed =
-    record { graph = game.graph; start = game.start; limit = game.limit; ring = ring; fed = fed }
+setting_with game ring fed = record { game = game; ring = ring; fed = fed }
 
 -- this game with rings of so many cells, which has all its chips from the start
 abbrev pub setting_of : ChipGame → ℕ → Setting
 setting_of game ring = setting_with game ring false
 
--- its game alone
-abbrev pub game_of_setting : Setting → ChipGame
-game_of_setting g = record { graph = g.graph; start = g.start; limit = g.limit }
-
--- its game is one within the limits
-abbrev pub HasGame : Setting → Type 0
-HasGame g = IsGame (game_of_setting g)
-
--- so it is, and a ring has 1 to `max_ring` cells
+-- its game is one within the limits, and a ring has 1 to `max_ring` cells
 pub record IsSetting (g : Setting) : Type 0 where
-  pub game : HasGame g
+  pub game : IsGame g.game
   pub some_ring : 0 < g.ring
   pub small_ring : g.ring ≤ max_ring

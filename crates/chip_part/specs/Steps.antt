@@ -17,6 +17,10 @@ use Rattle.chip_part.specs.Part.{Part, Out, Into, Cause, owed, may_ack, cause, r
 use Rattle.chip_part.specs.Rules.{Rule, Event, Take, Ack, Fire, Clear, Claim, Put, Halt, Settle, Seal, Read}
 use Rattle.chip_part.specs.Rules.{Feed, End, unmet}
 
+-- an event, whose operation saw this word
+abbrev pub saw : Event → ℕ → Step
+saw event seen = record { event = event; seen = seen }
+
 -- who makes an event
 abbrev pub part_of : Setting → Event → ℕ
 part_of g (Take e) = head_of g e
@@ -35,7 +39,7 @@ part_of g End = root g
 -- chips come by a take, and go by a firing
 abbrev pub chips_after : Setting → Event → ℕ → ℕ → ℕ
 chips_after g (Take e) seen chips = chips + seen
-chips_after g (Fire v k) seen chips = chips - k * degree g.graph v
+chips_after g (Fire v k) seen chips = chips - k * degree g.game.graph v
 chips_after g _ seen chips = chips
 
 -- a batch counts as so many firings

@@ -1,15 +1,15 @@
 -- One turn of a vertex: which operations it makes, in which order, and what follows from what each of them saw. A turn
 -- is told as phases that come one after another. Where a schedule left the vertex in the middle of a turn, the same
 -- phases go on from there: what was claimed is put, a refusal that is noted is followed by the halt.
-use Rattle.std.specs.Prelude.{◌≡◌, ℕ, ◌-◌, ◌/◌, Bool, true, false, not, ◌&&◌, ◌==◌, nat_lt, min, List, [], ◌∷◌, ◌++◌}
-use Rattle.std.specs.Prelude.{Option, Some, None, is_some}
+use Rattle.std.specs.Prelude.{◌≡◌, ℕ, ◌+◌, ◌*◌, ◌-◌, ◌/◌, Bool, true, false, not, ◌&&◌, ◌==◌, nat_lt, min, List, [], ◌∷◌, ◌++◌}
+use Rattle.std.specs.Prelude.{length, Option, Some, None, is_some}
 use Rattle.chip_graph.specs.Multigraph.{edges_out, edges_in, degree}
 use Rattle.chip_part.specs.Setting.{Setting}
 use Rattle.chip_link.specs.Link.{claims_of}
 use Rattle.chip_part.specs.Edges.{root_edge, head_of}
 use Rattle.chip_part.specs.Part.{Part, is_running, pending_of, unput, refusals, is_legal, may_ack}
 use Rattle.chip_part.specs.Rules.{Event, Take, Ack, Fire, Clear, Claim, Put, Halt, Settle}
-use Rattle.chip_part.specs.Steps.{Step, does}
+use Rattle.chip_part.specs.Steps.{Step, does, saw}
 
 -- a phase of a turn: from a part, by these operations with what each saw, to a part
 abbrev pub Phase : Type 1
@@ -40,17 +40,17 @@ each_phase p (e ∷ es) = and_then (p e) (each_phase p es)
 
 -- the edges into a vertex in the order of a turn: ascending, its root edge last
 abbrev pub ins_of : Setting → ℕ → List ℕ
-ins_of g v = edges_in g.graph v ++ root_edge g v ∷ []
+ins_of g v = edges_in g.game.graph v ++ root_edge g v ∷ []
 
 -- the edges out of it, ascending
 abbrev pub outs_of : Setting → ℕ → List ℕ
-outs_of g v = edges_out g.graph v
+outs_of g v = edges_out g.game.graph v
 
 module _ (g : Setting) (v : ℕ) where
   -- one operation, of which the next phase may depend on what it saw
   abbrev pub seeing : Event → (ℕ → Part → Phase) → Phase
-  seeing x next s ds after = (seen : ℕ) × (rest : List Step) × (ds ≡ record { event = x; seen = seen } ∷ rest)
-      × next seen s (does g (record { event = x; seen = seen }) s) rest after
+  seeing x next s ds after = (seen : ℕ) × (rest : List Step) × (ds ≡ saw x seen ∷ rest)
+      × next seen s (does g (saw x seen) s) rest after
 
   -- one operation alone
   abbrev pub one_step : Event → Phase
@@ -59,11 +59,11 @@ module _ (g : Setting) (v : ℕ) where
   -- it may fire now: not the sink, not halted, nothing pending, nothing claimed and not put, legal, and below its limit
   abbrev pub may_fire : Part → Bool
   may_fire s = is_running s.halt && pending_of g v s == 0 && unput g v s == 0 && is_legal g v s
-      && nat_lt s.fired g.limit
+      && nat_lt s.fired g.game.limit
 
   -- as often as its chips and its limit allow
   abbrev pub batch_of : Part → ℕ
-  batch_of s = min (s.chips / degree g.graph v) (g.limit - s.fired)
+  batch_of s = min (s.chips / degree g.game.graph v) (g.game.limit - s.fired)
 
   abbrev pub firing : Phase
   firing s ds after = where_phase may_fire (one_step (Fire v (batch_of s))) s ds after
@@ -95,7 +95,7 @@ module _ (g : Setting) (v : ℕ) where
 
   -- it halts by the limit: not the sink, not halted, nothing pending, legal, and fired as often as the game allows
   abbrev pub is_at_limit : Part → Bool
-  is_at_limit s = is_running s.halt && pending_of g v s == 0 && is_legal g v s && s.fired == g.limit
+  is_at_limit s = is_running s.halt && pending_of g v s == 0 && is_legal g v s && s.fired == g.game.limit
 
   -- an acknowledgement, where something may be acknowledged
   abbrev pub acknowledging : ℕ → Phase
@@ -119,6 +119,10 @@ module _ (g : Setting) (v : ℕ) where
       (and_then (where_phase is_at_limit (one_step (Halt v)))
       (and_then (each_phase acknowledging (ins_of g v))
       last_acknowledgement))))))
+
+-- no turn of the vertex v has more operations: two for each edge into it, four for each edge out of it, and three more
+abbrev pub most_steps : Setting → ℕ → ℕ
+most_steps g v = 2 * length (ins_of g v) + 4 * length (outs_of g v) + 3
 
 -- these operations are a turn of v from this part
 abbrev pub IsTurn : Setting → ℕ → Part → List Step → Type 0

@@ -1,16 +1,16 @@
 -- Worked runs of one part, as the definitions compute them. A ring has one cell.
-use Rattle.std.specs.Prelude.{◌≡◌, ℕ, ◌^◌, true, false, List, [], ◌∷◌, Some, None}
+use Rattle.std.specs.Prelude.{◌≡◌, ℕ, ◌^◌, true, List, [], ◌∷◌, Some, None}
 use Rattle.chip_graph.specs.Limits.{max_limit}
 use Rattle.chip_graph.specs.declared.edge.Edge.{Edge}
-use Rattle.chip_part.specs.Setting.{Setting}
+use Rattle.chip_part.specs.Setting.{Setting, setting_of}
 use Rattle.chip_part.specs.declared.rule.Rule.TheVariants.{Halted, Engaged, NothingPending}
 use Rattle.chip_part.specs.declared.reply.Reply.TheVariants.{Done, Got, Sent, Full, Sealed, NotNow}
 use Rattle.chip_part.specs.declared.cause.Cause.TheVariants.{SealedEdge}
 use Rattle.chip_part.specs.Part.{Part, opened, is_passive, deficit, all_owed}
-use Rattle.chip_part.specs.Rules.{Event, Take, Ack, Fire, Clear, Claim, Put, Halt, Settle, Seal}
+use Rattle.chip_part.specs.Rules.{Take, Ack, Fire, Clear, Claim, Put, Halt, Settle, Seal}
 use Rattle.chip_part.specs.Turn.{IsTurn}
 use Rattle.chip_part.specs.Counting.{work_of}
-use Rattle.chip_part.specs.Steps.{Step, message_of, replies, part_after}
+use Rattle.chip_part.specs.Steps.{Step, message_of, replies, part_after, saw}
 
 -- an edge with one chip for each firing
 abbrev pub edge : ℕ → ℕ → Edge
@@ -18,7 +18,7 @@ edge tail head = record { tail = tail; head = head; mult = 1 }
 
 -- two vertices that send to each other, and both to the sink 2
 abbrev pub small_triangle : List ℕ → Setting
-small_triangle start = record {
+small_triangle start = setting_of (record {
   graph = record {
     vertices = 3;
     sink = 2;
@@ -27,33 +27,23 @@ small_triangle start = record {
   };
   start = start;
   limit = max_limit;
-  ring = 1;
-  fed = false;
-}
+}) 1
 
 -- a chain of two edges, with three chips in front
 abbrev pub chain : Setting
-chain = record {
+chain = setting_of (record {
   graph = record { vertices = 3; sink = 2; edges = edge 0 1 ∷ edge 1 2 ∷ [] };
   start = 3 ∷ 0 ∷ 0 ∷ [];
   limit = max_limit;
-  ring = 1;
-  fed = false;
-}
+}) 1
 
 -- two edges from vertex 0 to the sink 1
 abbrev pub two_edges : Setting
-two_edges = record {
+two_edges = setting_of (record {
   graph = record { vertices = 2; sink = 1; edges = edge 0 1 ∷ edge 0 1 ∷ [] };
   start = 2 ∷ 0 ∷ [];
   limit = max_limit;
-  ring = 1;
-  fed = false;
-}
-
--- an event that saw this word
-abbrev pub saw : Event → ℕ → Step
-saw event seen = record { event = event; seen = seen }
+}) 1
 
 -- vertex 0 of the chain sends one chip, fires again, and finds the cell full
 abbrev pub SentWithFullRing : Type 0

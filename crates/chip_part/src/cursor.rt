@@ -1,4 +1,4 @@
-ghost use Rattle.std.specs.Prelude.{◌≡◌, ℕ, ◌+◌, ◌*◌};
+ghost use Rattle.std.specs.Prelude.{◌≡◌};
 
 /// Where a turn stands: what it does next. A place is one in the list of the edges that are gone through, from 0.
 #[derive(Clone, Copy)]
@@ -30,13 +30,12 @@ pub enum Cursor {
 }
 
 impl Cursor {
-    ghost use Rattle.chip_part.specs.Cursor.{Begins, most_left};
+    ghost use Rattle.chip_part.specs.Cursor.{Begins};
 
     /// The beginning of a turn.
     pub fn start() -> Cursor
         ensures first { result ≡ Cursor.Take 0 }
         ensures begins { Begins result }
-        ensures most { (i o : ℕ) → most_left i o result ≡ (2 * i + 5 * o) + 3 }
     {
         Cursor::Take(0)
     }

@@ -18,18 +18,19 @@ use Rattle.chip_link.specs.Ends.{tail_after_put}
 use Rattle.chip_link.specs.Link.{Tail, claims_of, sent_counts, tail_state, after_clear, after_claim, after_put}
 use Rattle.chip_link.specs.Words.{claims_in}
 use Rattle.chip_link.proofs.States.{tail_clears, tail_claims, tail_puts}
-use Rattle.chip_part.specs.Setting.{Setting, HasGame, game_of_setting}
+use Rattle.chip_graph.specs.ChipGame.{IsGame}
+use Rattle.chip_part.specs.Setting.{Setting}
 use Rattle.chip_part.specs.Edges.{graph_edges, all_edges, root_edge, tail_of, root, start_of}
 use Rattle.chip_part.specs.Part.{Part, opened, first_put, outstanding, deficit, all_fed}
 use Rattle.chip_part.specs.Rules.{Clear, Put, Settle, Feed, End}
 use Rattle.chip_part.specs.declared.reply.Reply.TheVariants.{Done, Full, Sealed}
 use Rattle.chip_part.specs.declared.reply.Reply.{Reply}
-use Rattle.chip_part.specs.Steps.{does, reply_of}
-use Rattle.chip_root.specs.Root.{Feeder, Feeds, KeepsTail, MayFeed, Root, RootStandsFor, SomeRoot, RootCanDo}
+use Rattle.chip_part.specs.Steps.{does, reply_of, saw}
+use Rattle.chip_root.specs.Root.{Feeder, Feeds, KeepsTail, Root, RootStandsFor, SomeRoot, RootCanDo}
 use Rattle.chip_root.specs.Root.{RootMakes}
 use Rattle.chip_root.specs.Root.{tail_at, with_tail, after_feed, look_reply, feed_reply, IsOpeningFeeder}
-use Rattle.chip_root.specs.Root.{noted_in, ended_root}
-use Rattle.chip_part.proofs.EdgeLemmas.{tail_root, sendable_inside}
+use Rattle.chip_root.specs.Root.{ended_root}
+use Rattle.chip_part.proofs.EdgeLemmas.{tail_root}
 use Rattle.chip_part.proofs.RuleLemmas.{rules_met, met_rules, root_clear}
 use Rattle.chip_part.proofs.Opening.{first_sent, first_fed}
 use Rattle.chip_root.proofs.RootLemmas.{all_outstanding}
@@ -83,7 +84,7 @@ module _ (t : Tail) (count : ℕ) (none : t.held ≡ None) where
 
 -- ---- what is known of it
 
-module _ (g : Setting) (s : Part) (f : Feeder) (feeds : Feeds g s f) (v : ℕ) (l : v < g.graph.vertices) where
+module _ (g : Setting) (s : Part) (f : Feeder) (feeds : Feeds g s f) (v : ℕ) (l : v < g.game.graph.vertices) where
   abbrev link : Tail
   link = (s.out (root_edge g v)).link
 
@@ -92,7 +93,7 @@ module _ (g : Setting) (s : Part) (f : Feeder) (feeds : Feeds g s f) (v : ℕ) (
 
   pub few_given : sum (sent_counts link) ≤ max_total
   few_given =
-      let one = sum_below_term g.graph.vertices (λ u. sum (sent_counts (s.out (root_edge g u)).link)) v l in
+      let one = sum_below_term g.game.graph.vertices (λ u. sum (sent_counts (s.out (root_edge g u)).link)) v l in
       let all = feeds.within in omega arith
 
   pub few_claims : claims_of link ≤ max_total
@@ -100,7 +101,7 @@ module _ (g : Setting) (s : Part) (f : Feeder) (feeds : Feeds g s f) (v : ℕ) (
 
   pub given_low : slice_index f.given v ≤ f.fed
   given_low =
-      let one = sum_below_term g.graph.vertices (λ u. sum (sent_counts (s.out (root_edge g u)).link)) v l in
+      let one = sum_below_term g.game.graph.vertices (λ u. sum (sent_counts (s.out (root_edge g u)).link)) v l in
       let here = feeds.given.1 v l in let all = feeds.fed in omega arith
 
   pub may_look : link.held ≡ None → may_clear (tail_state (root_edge g v) g.ring link) ≡ true
@@ -109,7 +110,7 @@ module _ (g : Setting) (s : Part) (f : Feeder) (feeds : Feeds g s f) (v : ℕ) (
 
 -- ---- one tail changes
 
-module _ (g : Setting) (s s' : Part) (f f' : Feeder) (feeds : Feeds g s f) (v : ℕ) (l : v < g.graph.vertices) (t' : Tail)
+module _ (g : Setting) (s s' : Part) (f f' : Feeder) (feeds : Feeds g s f) (v : ℕ) (l : v < g.game.graph.vertices) (t' : Tail)
     (here : (s'.out (root_edge g v)).link ≡ t')
     (rest : (i : ℕ) → root_edge g v ≢ i → (s'.out i).link ≡ (s.out i).link)
     (settled : (i : ℕ) → (s'.out i).settled ≡ (s.out i).settled) (ended : s'.ended ≡ s.ended)
@@ -124,7 +125,7 @@ module _ (g : Setting) (s s' : Part) (f f' : Feeder) (feeds : Feeds g s f) (v : 
 
   pub all_fed_now : all_fed g s' ≡ all_fed g s + more
   all_fed_now =
-      let moved = sum_below_move g.graph.vertices (λ u. sum (sent_counts (s'.out (root_edge g u)).link))
+      let moved = sum_below_move g.game.graph.vertices (λ u. sum (sent_counts (s'.out (root_edge g u)).link))
       (λ u. sum (sent_counts (s.out (root_edge g u)).link)) v l
       (λ u m other. ap (λ (t : Tail). sum (sent_counts t)) (rest (root_edge g u) (apart u other))) in
       let now = ap (λ (t : Tail). sum (sent_counts t)) here in
@@ -140,11 +141,11 @@ module _ (g : Setting) (s s' : Part) (f f' : Feeder) (feeds : Feeds g s f) (v : 
       omega arith
 
   pub given_now : (given : List ℕ) → length given ≡ length f.given
-      → ((u : ℕ) → u < g.graph.vertices
+      → ((u : ℕ) → u < g.game.graph.vertices
       → slice_index given u ≡ slice_index f.given u + cond (eqb v u) more 0)
-      → (u : ℕ) → u < g.graph.vertices → slice_index given u ≡ sum (sent_counts (s'.out (root_edge g u)).link)
+      → (u : ℕ) → u < g.game.graph.vertices → slice_index given u ≡ sum (sent_counts (s'.out (root_edge g u)).link)
   given_now given long each u m = dite (ℕ_discrete v u)
-      (λ same. subst (λ (w : ℕ). w < g.graph.vertices → slice_index given w
+      (λ same. subst (λ (w : ℕ). w < g.game.graph.vertices → slice_index given w
       ≡ sum (sent_counts (s'.out (root_edge g w)).link)) same
       (λ k.
       let a = each v k in let b = cond_yes v v more 0 refl in let c = feeds.given.1 v k in
@@ -156,14 +157,13 @@ module _ (g : Setting) (s s' : Part) (f f' : Feeder) (feeds : Feeds g s f) (v : 
 
   pub feeds_now : (state : TailState) → state ≡ tail_state (root_edge g v) g.ring t' → f'.tails ≡ set f.tails v state
       → length f'.given ≡ length f.given
-      → ((u : ℕ) → u < g.graph.vertices
+      → ((u : ℕ) → u < g.game.graph.vertices
       → slice_index f'.given u ≡ slice_index f.given u + cond (eqb v u) more 0)
       → f'.fed ≡ f.fed + more → f'.ended ≡ f.ended → KeepsTail t' → all_fed g s + more ≤ max_total → extra ≤ more
       → Feeds g s' f'
   feeds_now state is tails long each all same kept few low =
       let fed = all_fed_now in let owed = deficit_now in
       record {
-        is_fed = feeds.is_fed;
         ended = same ∙ feeds.ended ∙ sym ended;
         fed = (let was = feeds.fed in omega arith);
         within = omega arith;
@@ -198,10 +198,12 @@ nothing_more : (b : Bool) → ◌≡◌ {A = ℕ} (cond b 0 0) 0
 nothing_more true = refl
 nothing_more false = refl
 
-module _ (g : Setting) (s : Part) (r : Root) (f : Feeder) (stands : RootStandsFor g s r) (at : r.feeder ≡ Some f) (v : ℕ)
-    (l : v < g.graph.vertices) where
+module _ (g : Setting) (s : Part) (r : Root) (stands : RootStandsFor g s r) (v : ℕ) (l : v < g.game.graph.vertices) where
+  abbrev f : Feeder
+  f = r.feeder
+
   pub feeds_here : Feeds g s f
-  feeds_here = subst (MayFeed g s) at stands.feeder
+  feeds_here = stands.feeder
 
   abbrev edge : ℕ
   edge = root_edge g v
@@ -211,7 +213,7 @@ module _ (g : Setting) (s : Part) (r : Root) (f : Feeder) (stands : RootStandsFo
 
   -- what is settled stays
   root_now : (s' : Part) → ((i : ℕ) → (s'.out i).settled ≡ (s.out i).settled) → (n : ℕ) → n ≡ deficit g (root g) s'
-      → (f' : Feeder) → Feeds g s' f' → RootStandsFor g s' (record r { outstanding = n; feeder = Some f' })
+      → (f' : Feeder) → Feeds g s' f' → RootStandsFor g s' (record r { outstanding = n; feeder = f' })
   root_now s' settled n counted f' feeds = record {
     game = stands.game;
     edges = stands.edges;
@@ -222,9 +224,9 @@ module _ (g : Setting) (s : Part) (r : Root) (f : Feeder) (stands : RootStandsFo
   }
 
   pub looked : (seen : ℕ) → tail.held ≡ None → (f' : Feeder) → f' ≡ with_tail v (tail_after_clear seen) f
-      → RootStandsFor g (does g (record { event = Clear edge; seen = seen }) s) (record r { feeder = Some f' })
+      → RootStandsFor g (does g (saw (Clear edge) seen) s) (record r { feeder = f' })
   looked seen none f' is =
-      let s' : Part = does g (record { event = Clear edge; seen = seen }) s in
+      let s' : Part = does g (saw (Clear edge) seen) s in
       let here : (s'.out edge).link ≡ after_clear seen tail = cond_yes edge edge _ _ refl in
       let rest : (i : ℕ) → edge ≢ i → (s'.out i).link ≡ (s.out i).link = (λ i n. cond_no edge i _ _ n) in
       let same : claims_of (after_clear seen tail) ≡ claims_of tail + 0 = omega arith in
@@ -255,9 +257,9 @@ module _ (g : Setting) (s : Part) (r : Root) (f : Feeder) (stands : RootStandsFo
       by_cell false n = refl
 
   pub is_put : (f' : Feeder) → f' ≡ with_tail v tail_after_put f → (seen : ℕ)
-      → RootStandsFor g (does g (record { event = Put edge; seen = seen }) s) (record r { feeder = Some f' })
+      → RootStandsFor g (does g (saw (Put edge) seen) s) (record r { feeder = f' })
   is_put f' is seen =
-      let s' : Part = does g (record { event = Put edge; seen = seen }) s in
+      let s' : Part = does g (saw (Put edge) seen) s in
       let here : (s'.out edge).link ≡ after_put tail = cond_yes edge edge _ _ refl in
       let rest : (i : ℕ) → edge ≢ i → (s'.out i).link ≡ (s.out i).link = (λ i n. cond_no edge i _ _ n) in
       let same : claims_of (after_put tail) ≡ claims_of tail + 0 = (let a = put_claims tail in omega arith) in
@@ -276,10 +278,10 @@ module _ (g : Setting) (s : Part) (r : Root) (f : Feeder) (stands : RootStandsFo
 
   pub is_fed : (count : ℕ) → 0 < count → all_fed g s + count ≤ max_total → tail.clear ≡ true → (f' : Feeder)
       → f' ≡ after_feed v count (claims_of tail) f
-      → RootStandsFor g (does g (record { event = Feed edge count; seen = claims_of tail }) s)
-      (record r { outstanding = r.outstanding + 1; feeder = Some f' })
+      → RootStandsFor g (does g (saw (Feed edge count) (claims_of tail)) s)
+      (record r { outstanding = r.outstanding + 1; feeder = f' })
   is_fed count some few clear f' is =
-      let s' : Part = does g (record { event = Feed edge count; seen = claims_of tail }) s in
+      let s' : Part = does g (saw (Feed edge count) (claims_of tail)) s in
       let none = (feeds_here.kept v l).quiet clear in
       let here : (s'.out edge).link ≡ claimed tail count none = cond_yes edge edge _ _ refl ∙ claim_is tail count none in
       let rest : (i : ℕ) → edge ≢ i → (s'.out i).link ≡ (s.out i).link = (λ i n. cond_no edge i _ _ n) in
@@ -310,12 +312,12 @@ module _ (g : Setting) (s : Part) (r : Root) (f : Feeder) (stands : RootStandsFo
 -- ---- by the number of the edge
 
 -- an edge of the root is that of some vertex
-module _ (g : Setting) (s : Part) (r : Root) (f : Feeder) (stands : RootStandsFor g s r) (at : r.feeder ≡ Some f) (e : ℕ)
+module _ (g : Setting) (s : Part) (r : Root) (stands : RootStandsFor g s r) (e : ℕ)
     (past : graph_edges g ≤ e) (inside : e < all_edges g) where
   abbrev pub vertex : ℕ
   vertex = e - graph_edges g
 
-  pub is_vertex : vertex < g.graph.vertices
+  pub is_vertex : vertex < g.game.graph.vertices
   is_vertex = omega arith
 
   pub its_edge : root_edge g vertex ≡ e
@@ -324,86 +326,86 @@ module _ (g : Setting) (s : Part) (r : Root) (f : Feeder) (stands : RootStandsFo
   pub same_vertex : e - r.graph_edges ≡ vertex
   same_vertex = ap (λ (n : ℕ). e - n) stands.edges
 
-pub look_made : (r : Root) (f f' : Feeder) (e seen : ℕ) (reply : Reply) → r.feeder ≡ Some f
-    → reply ≡ look_reply (claim_words (tail_after_clear seen (tail_at f (e - r.graph_edges))))
-    → f' ≡ with_tail (e - r.graph_edges) (tail_after_clear seen) f
-    → RootMakes r (record r { feeder = Some f' }) (Clear e) seen reply
-look_made r f f' e seen reply at replied is = λ g s stands can.
+pub look_made : (r : Root) (f' : Feeder) (e seen : ℕ) (reply : Reply)
+    → reply ≡ look_reply (claim_words (tail_after_clear seen (tail_at r.feeder (e - r.graph_edges))))
+    → f' ≡ with_tail (e - r.graph_edges) (tail_after_clear seen) r.feeder
+    → RootMakes r (record r { feeder = f' }) (Clear e) seen reply
+look_made r f' e seen reply replied is = λ g s stands can.
     let met = root_clear g e s (leb-true _ _ can.0) can.1 in
     let v : ℕ = e - graph_edges g in
-    let l = is_vertex g s r f stands at e met.0 met.1 in
-    let own = its_edge g s r f stands at e met.0 met.1 in
-    let same = same_vertex g s r f stands at e met.0 met.1 in
-    let none = subst (λ (i : ℕ). (s.out i).link.held ≡ None) (sym own) met.4 in
-    subst (λ (i : ℕ). RootStandsFor g (does g (record { event = Clear i; seen = seen }) s) (record r { feeder = Some f' })
+    let l = is_vertex g s r stands e met.0 met.1 in
+    let own = its_edge g s r stands e met.0 met.1 in
+    let same = same_vertex g s r stands e met.0 met.1 in
+    let none = subst (λ (i : ℕ). (s.out i).link.held ≡ None) (sym own) met.3 in
+    subst (λ (i : ℕ). RootStandsFor g (does g (saw (Clear i) seen) s) (record r { feeder = f' })
     × (reply ≡ reply_of g (Clear i) seen s)) own (
-      looked g s r f stands at v l seen none f' (is ∙ ap (λ (n : ℕ). with_tail n (tail_after_clear seen) f) same),
-      replied ∙ ap (λ (n : ℕ). look_reply (claim_words (tail_after_clear seen (tail_at f n)))) same
-          ∙ look_replies g s r f stands at v l seen none,
+      looked g s r stands v l seen none f' (is ∙ ap (λ (n : ℕ). with_tail n (tail_after_clear seen) r.feeder) same),
+      replied ∙ ap (λ (n : ℕ). look_reply (claim_words (tail_after_clear seen (tail_at r.feeder n)))) same
+          ∙ look_replies g s r stands v l seen none,
     )
 
-pub put_made : (r : Root) (f f' : Feeder) (e seen : ℕ) (reply : Reply) → r.feeder ≡ Some f
-    → reply ≡ Done (sum (option_to_list (tail_at f (e - r.graph_edges)).held))
-    → f' ≡ with_tail (e - r.graph_edges) tail_after_put f
-    → RootMakes r (record r { feeder = Some f' }) (Put e) seen reply
-put_made r f f' e seen reply at replied is = λ g s stands can.
+pub put_made : (r : Root) (f' : Feeder) (e seen : ℕ) (reply : Reply)
+    → reply ≡ Done (sum (option_to_list (tail_at r.feeder (e - r.graph_edges)).held))
+    → f' ≡ with_tail (e - r.graph_edges) tail_after_put r.feeder
+    → RootMakes r (record r { feeder = f' }) (Put e) seen reply
+put_made r f' e seen reply replied is = λ g s stands can.
     let past = leb-true (graph_edges g) e can.0 in
     let met = rules_met g (Put e) s can.1 in
-    let inside = sendable_inside g e met.0 in
+    let inside = met.0 in
     let v : ℕ = e - graph_edges g in
-    let l = is_vertex g s r f stands at e past inside in
-    let own = its_edge g s r f stands at e past inside in
-    let same = same_vertex g s r f stands at e past inside in
-    let feeds = feeds_here g s r f stands at v l in
-    subst (λ (i : ℕ). RootStandsFor g (does g (record { event = Put i; seen = seen }) s) (record r { feeder = Some f' })
+    let l = is_vertex g s r stands e past inside in
+    let own = its_edge g s r stands e past inside in
+    let same = same_vertex g s r stands e past inside in
+    let feeds = feeds_here g s r stands v l in
+    subst (λ (i : ℕ). RootStandsFor g (does g (saw (Put i) seen) s) (record r { feeder = f' })
     × (reply ≡ reply_of g (Put i) seen s)) own (
-      is_put g s r f stands at v l f' (is ∙ ap (λ (n : ℕ). with_tail n tail_after_put f) same) seen,
-      replied ∙ ap (λ (n : ℕ). Done (sum (option_to_list (tail_at f n).held))) same
-          ∙ ap (λ (t : TailState). Done (sum (option_to_list t.held))) (tail_is g s f feeds v l),
+      is_put g s r stands v l f' (is ∙ ap (λ (n : ℕ). with_tail n tail_after_put r.feeder) same) seen,
+      replied ∙ ap (λ (n : ℕ). Done (sum (option_to_list (tail_at r.feeder n).held))) same
+          ∙ ap (λ (t : TailState). Done (sum (option_to_list t.held))) (tail_is g s r.feeder feeds v l),
     )
 
-pub feed_made : (r : Root) (f f' : Feeder) (e count seen : ℕ) (reply : Reply) → r.feeder ≡ Some f
-    → reply ≡ feed_reply count (tail_at f (e - r.graph_edges)) → f' ≡ after_feed (e - r.graph_edges) count seen f
-    → RootMakes r (record r { outstanding = r.outstanding + 1; feeder = Some f' }) (Feed e count) seen reply
-feed_made r f f' e count seen reply at replied is = λ g s stands can.
+pub feed_made : (r : Root) (f' : Feeder) (e count seen : ℕ) (reply : Reply)
+    → reply ≡ feed_reply count (tail_at r.feeder (e - r.graph_edges)) → f' ≡ after_feed (e - r.graph_edges) count seen r.feeder
+    → RootMakes r (record r { outstanding = r.outstanding + 1; feeder = f' }) (Feed e count) seen reply
+feed_made r f' e count seen reply replied is = λ g s stands can.
     let met = rules_met g (Feed e count) s can.1 in
     let v : ℕ = e - graph_edges g in
-    let l = is_vertex g s r f stands at e met.0 met.1 in
-    let own = its_edge g s r f stands at e met.0 met.1 in
-    let same = same_vertex g s r f stands at e met.0 met.1 in
-    let feeds = feeds_here g s r f stands at v l in
+    let l = is_vertex g s r stands e met.0 met.1 in
+    let own = its_edge g s r stands e met.0 met.1 in
+    let same = same_vertex g s r stands e met.0 met.1 in
+    let feeds = feeds_here g s r stands v l in
     let n : ℕ = claims_of (s.out (root_edge g v)).link in
-    let saw : seen ≡ n = can.2 ∙ ap (λ (i : ℕ). claims_of (s.out i).link) (sym own) in
+    let sees : seen ≡ n = can.2 ∙ ap (λ (i : ℕ). claims_of (s.out i).link) (sym own) in
     let clear = subst (λ (i : ℕ). (s.out i).link.clear ≡ true) (sym own) met.5 in
-    subst (λ (i : ℕ). RootStandsFor g (does g (record { event = Feed i count; seen = seen }) s)
-    (record r { outstanding = r.outstanding + 1; feeder = Some f' }) × (reply ≡ reply_of g (Feed i count) seen s)) own (
-      subst (λ (w : ℕ). RootStandsFor g (does g (record { event = Feed (root_edge g v) count; seen = w }) s)
-          (record r { outstanding = r.outstanding + 1; feeder = Some f' })) (sym saw)
-          (is_fed g s r f stands at v l count met.3 met.4 clear f' (is ∙ (λ j. after_feed (same j) count (saw j) f))),
-      replied ∙ ap (λ (u : ℕ). feed_reply count (tail_at f u)) same
-          ∙ ap (feed_reply count) (tail_is g s f feeds v l) ∙ sym (cond_yes seen n _ Sealed saw),
+    subst (λ (i : ℕ). RootStandsFor g (does g (saw (Feed i count) seen) s)
+    (record r { outstanding = r.outstanding + 1; feeder = f' }) × (reply ≡ reply_of g (Feed i count) seen s)) own (
+      subst (λ (w : ℕ). RootStandsFor g (does g (saw (Feed (root_edge g v) count) w) s)
+          (record r { outstanding = r.outstanding + 1; feeder = f' })) (sym sees)
+          (is_fed g s r stands v l count met.3 met.4 clear f' (is ∙ (λ j. after_feed (same j) count (sees j) r.feeder))),
+      replied ∙ ap (λ (u : ℕ). feed_reply count (tail_at r.feeder u)) same
+          ∙ ap (feed_reply count) (tail_is g s r.feeder feeds v l) ∙ sym (cond_yes seen n _ Sealed sees),
     )
 
 -- what a feed asks of the feeder
-pub may_feed : (r : Root) (f : Feeder) (e count seen : ℕ) → r.feeder ≡ Some f
+pub may_feed : (r : Root) (e count seen : ℕ)
     → SomeRoot r (λ g s. RootCanDo g s (Feed e count) seen)
-    → (seen ≡ (tail_at f (e - r.graph_edges)).claims) × (claims_in seen ≡ seen)
-    × (slice_index f.given (e - r.graph_edges) ≤ f.fed)
-may_feed r f e count seen at (g, s, stands, can) =
+    → (seen ≡ (tail_at r.feeder (e - r.graph_edges)).claims) × (claims_in seen ≡ seen)
+    × (slice_index r.feeder.given (e - r.graph_edges) ≤ r.feeder.fed)
+may_feed r e count seen (g, s, stands, can) =
     let met = rules_met g (Feed e count) s can.1 in
     let v : ℕ = e - graph_edges g in
-    let l = is_vertex g s r f stands at e met.0 met.1 in
-    let own = its_edge g s r f stands at e met.0 met.1 in
-    let same = same_vertex g s r f stands at e met.0 met.1 in
-    let feeds = feeds_here g s r f stands at v l in
-    let few = few_claims g s f feeds v l in
-    let saw : seen ≡ claims_of (s.out (root_edge g v)).link = can.2 ∙ ap (λ (i : ℕ). claims_of (s.out i).link) (sym own)
+    let l = is_vertex g s r stands e met.0 met.1 in
+    let own = its_edge g s r stands e met.0 met.1 in
+    let same = same_vertex g s r stands e met.0 met.1 in
+    let feeds = feeds_here g s r stands v l in
+    let few = few_claims g s r.feeder feeds v l in
+    let sees : seen ≡ claims_of (s.out (root_edge g v)).link = can.2 ∙ ap (λ (i : ℕ). claims_of (s.out i).link) (sym own)
     in
-    subst (λ (n : ℕ). (seen ≡ (tail_at f n).claims) × (claims_in seen ≡ seen) × (slice_index f.given n ≤ f.fed))
+    subst (λ (n : ℕ). (seen ≡ (tail_at r.feeder n).claims) × (claims_in seen ≡ seen) × (slice_index r.feeder.given n ≤ r.feeder.fed))
     (sym same) (
-      saw ∙ ap (λ (t : TailState). t.claims) (sym (tail_is g s f feeds v l)),
+      sees ∙ ap (λ (t : TailState). t.claims) (sym (tail_is g s r.feeder feeds v l)),
       small_word seen (omega arith),
-      given_low g s f feeds v l,
+      given_low g s r.feeder feeds v l,
     )
   where
     small_word : (n : ℕ) → n < 2 ^ 63 → claims_in n ≡ n
@@ -411,7 +413,7 @@ may_feed r f e count seen at (g, s, stands, can) =
 
 -- ---- the opening
 
-module _ (g : Setting) (game : HasGame g) where
+module _ (g : Setting) (game : IsGame g.game) where
   first_claims : (v : ℕ) → claims_of ((opened g).out (root_edge g v)).link ≡ cond (eqb (start_of g v) 0) 0 1
   first_claims v =
       let past = le-ltb (root_edge g v) (graph_edges g) (omega arith) in
@@ -425,15 +427,14 @@ module _ (g : Setting) (game : HasGame g) where
       by_chips true n = refl
       by_chips false n = refl
 
-  pub feeder_opens : g.fed ≡ true → (f : Feeder) → IsOpeningFeeder (game_of_setting g) g.ring f → Feeds g (opened g) f
-  feeder_opens on f opening = record {
-    is_fed = on;
-    ended = opening.ended ∙ ap not (sym on);
+  pub feeder_opens : (f : Feeder) → IsOpeningFeeder g f → Feeds g (opened g) f
+  feeder_opens f opening = record {
+    ended = opening.ended;
     fed = opening.fed ∙ sym (first_fed g game);
     within = (let all = first_fed g game in let few = game.few_chips in omega arith);
     few_outstanding =
         let owed = all_outstanding g game in
-        let low = sum_below_le g.graph.vertices (λ v. cond (eqb (slice_index g.start v) 0) 0 1)
+        let low = sum_below_le g.game.graph.vertices (λ v. cond (eqb (slice_index g.game.start v) 0) 0 1)
         (λ v. sum (sent_counts ((opened g).out (root_edge g v)).link))
         (λ v l. let sent = first_sent g v in let few = one_at_most (start_of g v) in omega arith) in
         omega arith;
@@ -474,10 +475,8 @@ abbrev ended_part : Part → Part
 ended_part s = record s { ended = true }
 
 module _ (g : Setting) (s : Part) where
-  still_feeds : (m : Option Feeder) → MayFeed g s m → MayFeed g (ended_part s) (noted_in m)
-  still_feeds None unfed = (unfed.0, refl)
-  still_feeds (Some f) feeds = record {
-    is_fed = feeds.is_fed;
+  still_feeds : (f : Feeder) → Feeds g s f → Feeds g (ended_part s) (record f { ended = true })
+  still_feeds f feeds = record {
     ended = refl;
     fed = feeds.fed;
     within = feeds.within;
@@ -516,6 +515,6 @@ pub end_made : (r after : Root) (seen : ℕ) (reply : Reply)
     → RootMakes (ended_root r) after (Settle r.graph_edges) seen reply → RootMakes r after End seen reply
 end_made r after seen reply makes = λ g s stands can.
     let first : r.graph_edges ≡ root_edge g 0 = (let e = stands.edges in omega arith) in
-    subst (λ (e : ℕ). RootStandsFor g (does g (record { event = Settle e; seen = seen }) (ended_part s)) after
+    subst (λ (e : ℕ). RootStandsFor g (does g (saw (Settle e) seen) (ended_part s)) after
     × (reply ≡ reply_of g (Settle e) seen (ended_part s))) first
     (makes g (ended_part s) (end_stands g s r stands) (end_can g s r stands seen can))

@@ -1,6 +1,6 @@
 -- The root: what is outstanding at the opening, and how a settle of a root edge changes it.
 use Rattle.std.proofs.Common.{◌≡◌, ℕ, ◌+◌, ◌-◌, ◌<◌, ◌≤◌, cond, eqb, ltb, List, [], ◌∷◌, length}
-use Rattle.std.proofs.Common.{get_or, set, replicate, slice_index, le-ltb, eq-eqb, Option, Some, None, refl}
+use Rattle.std.proofs.Common.{get_or, set, replicate, slice_index, le-ltb, eq-eqb, refl, None}
 use Rattle.std.proofs.Common.{sym, ap, ◌∙◌}
 use Rattle.std.proofs.Common.{subst, arith, length-set, get_or-set_same, get_or-set_other}
 use Rattle.std.proofs.lemmas.List.{get_or-replicate, length-replicate}
@@ -10,13 +10,14 @@ use native.Mathlib.Decide.{ℕ_discrete}
 use Rattle.chip_graph.proofs.SumLemmas.{tested_term, tested_move, cond_yes, cond_no, cond_false}
 use Rattle.chip_graph.proofs.SumLemmas.{sum_below_ext, sum_below_none, sum_below_split}
 use Rattle.chip_link.specs.Link.{claims_of}
-use Rattle.chip_part.specs.Setting.{Setting, HasGame}
+use Rattle.chip_graph.specs.ChipGame.{IsGame}
+use Rattle.chip_part.specs.Setting.{Setting}
 use Rattle.chip_part.specs.Edges.{graph_edges, all_edges, root_edge, start_of, tail_of, root}
 use Rattle.chip_part.specs.Part.{Part, opened, first_put, outstanding, deficit}
 use Rattle.chip_part.specs.Rules.{Settle, unmet}
-use Rattle.chip_part.specs.Steps.{Step, does, reply_of}
+use Rattle.chip_part.specs.Steps.{Step, does, reply_of, saw}
 use Rattle.chip_part.specs.declared.reply.Reply.TheVariants.{Done}
-use Rattle.chip_root.specs.Root.{Root, Feeder, MayFeed, RootStandsFor, SomeRoot, RootCanDo, RootMakes}
+use Rattle.chip_root.specs.Root.{Root, Feeder, Feeds, RootStandsFor, SomeRoot, RootCanDo, RootMakes}
 use Rattle.chip_root.specs.Root.{RootSettles, with_chips}
 use Rattle.chip_part.proofs.EdgeLemmas.{tail_root, tail_graph}
 use Rattle.chip_part.proofs.RuleLemmas.{rules_met}
@@ -38,29 +39,29 @@ module _ (g : Setting) where
       (λ z. ap (λ (l : List ℕ). (length l + 0) - 0) (cond_no (start_of g v) 0 [] (start_of g v ∷ []) z)
       ∙ sym (cond_no (start_of g v) 0 0 1 z))
 
-  pub all_outstanding : HasGame g → with_chips g.start g.graph.vertices ≡ deficit g (root g) (opened g)
+  pub all_outstanding : IsGame g.game → with_chips g.game.start g.game.graph.vertices ≡ deficit g (root g) (opened g)
   all_outstanding game =
       let f : ℕ → ℕ = λ e. cond (eqb (tail_of g e) (root g)) (outstanding ((opened g).out e)) 0 in
-      let parted = sum_below_split (graph_edges g) g.graph.vertices f in
+      let parted = sum_below_split (graph_edges g) g.game.graph.vertices f in
       let none = sum_below_none (graph_edges g) f
       (λ e l. cond_no (tail_of g e) (root g) _ 0 (λ z. (let inside = edge_inside e l in absurd (omega arith)))) in
-      let each = sum_below_ext g.graph.vertices (λ v. f (graph_edges g + v)) (λ v. cond (eqb (start_of g v) 0) 0 1)
+      let each = sum_below_ext g.game.graph.vertices (λ v. f (graph_edges g + v)) (λ v. cond (eqb (start_of g v) 0) 0 1)
       (λ v l. cond_yes (tail_of g (root_edge g v)) (root g) _ 0 (tail_root g (root_edge g v) (omega arith))
       ∙ one_each v) in
       omega arith
     where
-      edge_inside : (e : ℕ) → e < graph_edges g → tail_of g e < g.graph.vertices
-      edge_inside e l = subst (λ (t : ℕ). t < g.graph.vertices) (sym (tail_graph g e l))
+      edge_inside : (e : ℕ) → e < graph_edges g → tail_of g e < g.game.graph.vertices
+      edge_inside e l = subst (λ (t : ℕ). t < g.game.graph.vertices) (sym (tail_graph g e l))
           (game.graph_fits.edges_fit e l).tail_is_vertex
 
-  pub root_opens : HasGame g → (r : Root) → r.graph_edges ≡ graph_edges g → r.settled ≡ replicate g.graph.vertices 0
-      → r.outstanding ≡ with_chips g.start g.graph.vertices → MayFeed g (opened g) r.feeder
+  pub root_opens : IsGame g.game → (r : Root) → r.graph_edges ≡ graph_edges g → r.settled ≡ replicate g.game.graph.vertices 0
+      → r.outstanding ≡ with_chips g.game.start g.game.graph.vertices → Feeds g (opened g) r.feeder
       → RootStandsFor g (opened g) r
   root_opens game r edges settled counted feeder = record {
     game = game;
     edges = edges;
-    settled_each = ap (λ (l : List ℕ). length l) settled ∙ length-replicate g.graph.vertices 0;
-    settled = λ v l. ap (λ (l : List ℕ). slice_index l v) settled ∙ get_or-replicate g.graph.vertices v 0 0 l;
+    settled_each = ap (λ (l : List ℕ). length l) settled ∙ length-replicate g.game.graph.vertices 0;
+    settled = λ v l. ap (λ (l : List ℕ). slice_index l v) settled ∙ get_or-replicate g.game.graph.vertices v 0 0 l;
     outstanding = counted ∙ all_outstanding game;
     feeder = feeder;
   }
@@ -102,9 +103,9 @@ module _ (g : Setting) (s : Part) (r : Root) (stands : RootStandsFor g s r) (edg
       omega arith
 
   abbrev settling : Step
-  settling = record { event = Settle edge; seen = seen }
+  settling = saw (Settle edge) seen
 
-  settled_now : (u : ℕ) → u < g.graph.vertices
+  settled_now : (u : ℕ) → u < g.game.graph.vertices
       → slice_index (set r.settled (edge - r.graph_edges) seen) u ≡ ((does g settling s).out (root_edge g u)).settled
   settled_now u m = dite (ℕ_discrete u v)
       (λ same.
@@ -137,10 +138,8 @@ module _ (g : Setting) (s : Part) (r : Root) (stands : RootStandsFor g s r) (edg
       let is = was in let all = stands.outstanding in let few = more_low in
       omega arith
 
-  feeds_still : (m : Option Feeder) → MayFeed g s m → MayFeed g (does g settling s) m
-  feeds_still None unfed = unfed
-  feeds_still (Some f) feeds = record {
-    is_fed = feeds.is_fed;
+  feeds_still : (f : Feeder) → Feeds g s f → Feeds g (does g settling s) f
+  feeds_still f feeds = record {
     ended = feeds.ended;
     fed = feeds.fed;
     within = feeds.within;
@@ -170,7 +169,7 @@ module _ (g : Setting) (s : Part) (r : Root) (stands : RootStandsFor g s r) (edg
         ∙ stands.settled_each;
     settled = λ u m. ap (λ (l : List ℕ). slice_index l u) settled ∙ settled_now u m;
     outstanding = counted ∙ outstanding_now;
-    feeder = subst (MayFeed g (does g settling s)) (sym feeder) (feeds_still r.feeder stands.feeder);
+    feeder = subst (Feeds g (does g settling s)) (sym feeder) (feeds_still r.feeder stands.feeder);
   }
 
   pub more_is : seen - slice_index r.settled (edge - r.graph_edges) ≡ seen - (s.out edge).settled
@@ -226,5 +225,5 @@ pub makes_at : (old new : Root) (v e seen more : ℕ) → e ≡ old.graph_edges 
     → RootMakes old new (Settle e) seen (Done more)
 makes_at old new v e seen more at settles = λ g s stands.
     let is : root_edge g v ≡ e = sym (at ∙ ap (λ (n : ℕ). n + v) stands.edges) in
-    subst (λ (f : ℕ). RootCanDo g s (Settle f) seen → RootStandsFor g (does g (record { event = Settle f; seen = seen }) s) new
+    subst (λ (f : ℕ). RootCanDo g s (Settle f) seen → RootStandsFor g (does g (saw (Settle f) seen) s) new
     × (Done more ≡ reply_of g (Settle f) seen s)) is (settles g s stands)

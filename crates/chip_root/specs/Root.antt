@@ -4,19 +4,19 @@ use Rattle.std.specs.Prelude.{if◌then◌else◌, List, length, sum, slice_inde
 use Rattle.std.specs.Prelude.{Some}
 use Rattle.std.specs.Prelude.{None, is_some, is_none}
 use Rattle.chip_graph.specs.Limits.{max_total}
-use Rattle.chip_graph.specs.ChipGame.{ChipGame}
+use Rattle.chip_graph.specs.ChipGame.{IsGame}
 use Rattle.chip_graph.specs.Sums.{sum_below}
 use Rattle.chip_link.specs.Link.{Tail, claims_of, sent_counts, tail_state}
 use Rattle.chip_link.specs.Ends.{TailState, new_tail, tail_after_claim}
-use Rattle.chip_part.specs.Setting.{Setting, HasGame}
-use Rattle.chip_part.specs.Edges.{graph_edges, root_edge, root}
-use Rattle.chip_part.specs.Part.{Part, deficit, all_fed}
+use Rattle.chip_part.specs.Setting.{Setting}
+use Rattle.chip_part.specs.Edges.{graph_edges, root_edge, root, start_of}
+use Rattle.chip_part.specs.Part.{Part, deficit, all_fed, AreGiven}
 use Rattle.chip_part.specs.declared.rule.Rule.{Rule}
 use Rattle.chip_part.specs.Rules.{Event, Settle, need, unmet}
 use Rattle.chip_part.specs.declared.rule.Rule.TheVariants.{Ended, Zero, TooMuch, Unput, NotCleared, NotClaimed}
 use Rattle.chip_part.specs.declared.reply.Reply.TheVariants.{Done, Sent, Full}
 use Rattle.chip_part.specs.declared.reply.Reply.{Reply}
-use Rattle.chip_part.specs.Steps.{does, reply_of}
+use Rattle.chip_part.specs.Steps.{does, reply_of, saw}
 use Rattle.chip_part.specs.Acting.{is_of_root, FitsRoot}
 
 -- what a `FeederState` shows: by vertices, the tail of the root edge and the chips that were given over it; all chips
@@ -28,12 +28,12 @@ pub record Feeder : Type 0 where
   pub ended : Bool
 
 -- what a `RootState` shows: how many edges the graph has; by vertices, how many messages of the root edge are settled;
--- how many are outstanding on all of them; and where chips are fed, the feeder
+-- how many are outstanding on all of them; and the feeder
 pub record Root : Type 0 where
   pub graph_edges : ℕ
   pub settled : List ℕ
   pub outstanding : ℕ
-  pub feeder : Option Feeder
+  pub feeder : Feeder
 
 -- the tail of the root edge of v
 abbrev pub tail_at : Feeder → ℕ → TailState
@@ -78,22 +78,18 @@ feed_rule v count f =
     (need (nat_le (f.fed + count) max_total) TooMuch
     (need (tail_at f v).clear NotCleared None)))
 
--- the feeder of a game that opens, with rings of so many cells
-pub record IsOpeningFeeder (game : ChipGame) (ring : ℕ) (f : Feeder) : Type 0 where
-  pub tails_each : length f.tails ≡ game.graph.vertices
-  pub tails : (v : ℕ) → v < game.graph.vertices → (d : TailState)
-      → slice_index_or f.tails v d ≡ opened_tail (length game.graph.edges + v) ring (slice_index game.start v)
-  pub given : f.given ≡ game.start
-  pub fed : f.fed ≡ sum game.start
-  pub ended : f.ended ≡ false
+-- the feeder of a game that opens: the end of feeding is noted where none is fed
+pub record IsOpeningFeeder (g : Setting) (f : Feeder) : Type 0 where
+  pub tails_each : length f.tails ≡ g.game.graph.vertices
+  pub tails : (v : ℕ) → v < g.game.graph.vertices → (d : TailState)
+      → slice_index_or f.tails v d ≡ opened_tail (root_edge g v) g.ring (start_of g v)
+  pub given : f.given ≡ g.game.start
+  pub fed : f.fed ≡ sum g.game.start
+  pub ended : f.ended ≡ not g.fed
 
 -- the end of feeding is noted
-abbrev pub noted_in : Option Feeder → Option Feeder
-noted_in None = None
-noted_in (Some f) = Some (record f { ended = true })
-
 abbrev pub ended_root : Root → Root
-ended_root r = record r { feeder = noted_in r.feeder }
+ended_root r = record r { feeder = record r.feeder { ended = true } }
 
 -- the vertex of a root edge, if it is one
 abbrev pub root_vertex : Root → ℕ → Option ℕ
@@ -107,39 +103,28 @@ pub record KeepsTail (t : Tail) : Type 0 where
   pub counted : claims_of t ≤ sum (sent_counts t)
   pub quiet : t.clear ≡ true → t.held ≡ None
 
--- each vertex was given so many chips over its root edge
-abbrev pub AreGiven : Setting → Part → List ℕ → Type 0
-AreGiven g s given = (length given ≡ g.graph.vertices)
-    × ((v : ℕ) → v < g.graph.vertices → slice_index given v ≡ sum (sent_counts (s.out (root_edge g v)).link))
-
 -- the feeder keeps what this part says
 pub record Feeds (g : Setting) (s : Part) (f : Feeder) : Type 0 where
-  pub is_fed : g.fed ≡ true
   pub ended : f.ended ≡ s.ended
   pub fed : f.fed ≡ all_fed g s
   pub within : all_fed g s ≤ max_total
   pub few_outstanding : deficit g (root g) s ≤ all_fed g s
-  pub tails_each : length f.tails ≡ g.graph.vertices
-  pub tails : (v : ℕ) → v < g.graph.vertices → (d : TailState)
+  pub tails_each : length f.tails ≡ g.game.graph.vertices
+  pub tails : (v : ℕ) → v < g.game.graph.vertices → (d : TailState)
       → slice_index_or f.tails v d ≡ tail_state (root_edge g v) g.ring (s.out (root_edge g v)).link
   pub given : AreGiven g s f.given
-  pub kept : (v : ℕ) → v < g.graph.vertices → KeepsTail (s.out (root_edge g v)).link
-  pub settled_few : (v : ℕ) → v < g.graph.vertices
+  pub kept : (v : ℕ) → v < g.game.graph.vertices → KeepsTail (s.out (root_edge g v)).link
+  pub settled_few : (v : ℕ) → v < g.game.graph.vertices
       → (s.out (root_edge g v)).settled ≤ claims_of (s.out (root_edge g v)).link
-
--- a root without a feeder has a game that isn't fed
-abbrev pub MayFeed : Setting → Part → Option Feeder → Type 0
-MayFeed g s None = (g.fed ≡ false) × (s.ended ≡ true)
-MayFeed g s (Some f) = Feeds g s f
 
 -- the root keeps what this part says
 pub record RootStandsFor (g : Setting) (s : Part) (r : Root) : Type 0 where
-  pub game : HasGame g
+  pub game : IsGame g.game
   pub edges : r.graph_edges ≡ graph_edges g
-  pub settled_each : length r.settled ≡ g.graph.vertices
-  pub settled : (v : ℕ) → v < g.graph.vertices → slice_index r.settled v ≡ (s.out (root_edge g v)).settled
+  pub settled_each : length r.settled ≡ g.game.graph.vertices
+  pub settled : (v : ℕ) → v < g.game.graph.vertices → slice_index r.settled v ≡ (s.out (root_edge g v)).settled
   pub outstanding : r.outstanding ≡ deficit g (root g) s
-  pub feeder : MayFeed g s r.feeder
+  pub feeder : Feeds g s r.feeder
 
 -- whatever part a root stands for
 abbrev pub WhateverRoot : Root → (Setting → Part → Type 0) → Type 0
@@ -156,13 +141,13 @@ RootCanDo g s x seen = (is_of_root g x ≡ true) × (unmet g x s ≡ None) × Fi
 -- the root made this event and answered this: whatever part it stood for, it stands for that part after the event
 abbrev pub RootMakes : Root → Root → Event → ℕ → Reply → Type 0
 RootMakes old new x seen reply =
-    WhateverRoot old (λ g s. RootCanDo g s x seen → RootStandsFor g (does g (record { event = x; seen = seen }) s) new
+    WhateverRoot old (λ g s. RootCanDo g s x seen → RootStandsFor g (does g (saw x seen) s) new
     × (reply ≡ reply_of g x seen s))
 
 -- the root made a settle of the root edge of a vertex, of which so many acknowledgements were new
 abbrev pub RootSettles : Root → Root → ℕ → ℕ → ℕ → Type 0
 RootSettles old new v seen more = WhateverRoot old (λ g s. let x = Settle (root_edge g v) in RootCanDo g s x seen
-    → RootStandsFor g (does g (record { event = x; seen = seen }) s) new × (Done more ≡ reply_of g x seen s))
+    → RootStandsFor g (does g (saw x seen) s) new × (Done more ≡ reply_of g x seen s))
 
 -- how many of the first vertices start with chips
 abbrev pub with_chips : List ℕ → ℕ → ℕ

@@ -2,9 +2,9 @@ ghost use Rattle.std.specs.Prelude.{◌≡◌, ℕ, ◌+◌, ◌<◌, ◌≤◌,
 ghost use Rattle.std.specs.Prelude.{slice_set, IfOk, IsSome, option_to_list};
 ghost use Rattle.chip_graph.specs.Limits.{max_total};
 
-use chip_graph::{Game, MAX_TOTAL};
+use chip_graph::MAX_TOTAL;
 use chip_link::{Ring, TailLink};
-use chip_part::{Reply, Rule, first_unmet};
+use chip_part::{Reply, Rule, Setting, first_unmet};
 use std::alloc::{AllocError, Global};
 use std::marker::Model;
 
@@ -40,11 +40,14 @@ impl FeederState {
     ghost use Rattle.chip_root.specs.Root.{IsOpeningFeeder, look_reply, feed_reply};
     ghost use Rattle.chip_part.specs.declared.reply.Reply.TheVariants.{Done};
 
-    /// The feeder of a game that opens: what its vertices start with is given already.
-    pub(crate) fn new(alloc: Global, game: &Game, ring: Ring) -> Result<FeederState, AllocError>
-        ensures { IfOk result (IsOpeningFeeder game.now ring) }
+    /// The feeder of a game that opens: what its vertices start with is given already, and where no chips are fed the
+    /// end is noted.
+    pub(crate) fn new(alloc: Global, setting: &Setting) -> Result<FeederState, AllocError>
+        ensures { IfOk result (IsOpeningFeeder setting.now) }
     {
-        let graph_edges = game.graph().edges().len() as u64;
+        let game = setting.game();
+        let ring = setting.ring();
+        let graph_edges = setting.graph_edges();
         let start = game.start();
         let mut tails = Vec::with_capacity(alloc, start.len())?;
         for vertex in 0..start.len() {
@@ -55,7 +58,7 @@ impl FeederState {
             tails,
             given: Vec::from_slice(alloc, start)?,
             fed: game.total(),
-            ended: false,
+            ended: !setting.is_fed(),
         })
     }
 

@@ -2,20 +2,19 @@ ghost use Rattle.std.specs.Prelude.{◌≡◌, ℕ, ◌-◌, ◌<◌, ◌≤◌,
 ghost use Rattle.std.specs.Prelude.{IfOk, None, ⊤};
 
 use crate::feeder::FeederState;
-use chip_graph::Game;
-use chip_link::{Event, Ring, TailLink};
-use chip_part::{Act, Reply, Rule, first_unmet};
+use chip_link::{Event, TailLink};
+use chip_part::{Act, Reply, Rule, Setting, first_unmet};
 use std::alloc::{AllocError, Global};
 use std::marker::Model;
 
 /// The root at run time: of each root edge, by vertices, how many messages are settled, and how many are outstanding on
-/// all of them; and where chips are fed, what it feeds them with.
+/// all of them; and what it feeds chips with.
 #[derive(Drop)]
 pub struct RootState {
     graph_edges: u64,
     settled: Vec<u64>,
     outstanding: u64,
-    feeder: Option<FeederState>,
+    feeder: FeederState,
 }
 
 impl Model for RootState {
@@ -37,61 +36,28 @@ impl Model for RootState {
 }
 
 impl RootState {
-    ghost use Rattle.chip_graph.specs.ChipGame.{IsGame};
     ghost use Rattle.chip_link.specs.Link.{tail_state};
-    ghost use Rattle.chip_part.specs.Setting.{setting_of, setting_with};
     ghost use Rattle.chip_part.specs.Edges.{graph_edges, all_edges, root, root_edge};
     ghost use Rattle.chip_part.specs.Part.{opened, deficit};
     ghost use Rattle.chip_part.specs.Rules.{unmet};
     ghost use Rattle.chip_part.specs.Acting.{act_of, verdict};
     ghost use Rattle.chip_root.specs.Root.{RootStandsFor, WhateverRoot, SomeRoot, RootCanDo, RootMakes, RootSettles};
     ghost use Rattle.chip_part.specs.Acting.{is_of_root};
-    ghost use Rattle.chip_root.specs.Root.{with_chips, root_vertex, ended_root, AreGiven};
+    ghost use Rattle.chip_part.specs.Part.{AreGiven};
+    ghost use Rattle.chip_root.specs.Root.{root_vertex, ended_root};
     ghost use Rattle.chip_link.specs.declared.event.Event.TheVariants.{Clear, Put, Settle, Read, Feed, End};
 
-    /// The root at the opening of a game that has all its chips from the start, with one message outstanding for each
-    /// vertex that starts with chips. The size of the rings is no matter.
-    pub fn new(alloc: Global, game: &Game) -> Result<RootState, AllocError>
-        ensures { IfOk result (λ root. (ring : ℕ) → let g = setting_of game.now ring in
-            RootStandsFor g (opened g) root) }
+    /// The root at the opening, with one message outstanding for each vertex that starts with chips. Where no chips are
+    /// fed, the end of feeding is noted. It takes all the memory that the root ever needs.
+    pub fn new(alloc: Global, setting: &Setting) -> Result<RootState, AllocError>
+        ensures { IfOk result (RootStandsFor setting.now (opened setting.now)) }
     {
-        let root = RootState::unsettled(alloc, game)?;
-        Ok(root)
-    }
-
-    /// The same where chips may be fed while it runs. It takes all the memory that feeding ever needs.
-    pub fn new_fed(alloc: Global, game: &Game, ring: Ring) -> Result<RootState, AllocError>
-        ensures { let g = setting_with game.now ring true in IfOk result (RootStandsFor g (opened g)) }
-    {
-        let root = RootState::unsettled(alloc, game)?;
+        let start = setting.game().start();
         Ok(RootState {
-            feeder: Some(FeederState::new(alloc, game, ring)?),
-            ..root
-        })
-    }
-
-    /// Nothing is settled, and so many messages are outstanding as vertices start with chips.
-    fn unsettled(alloc: Global, game: &Game) -> Result<RootState, AllocError>
-        ensures game { IsGame game.now }
-        ensures edges { IfOk result (λ root. root.graph_edges ≡ length game.now.graph.edges) }
-        ensures settled { IfOk result (λ root. root.settled ≡ replicate game.now.graph.vertices 0) }
-        ensures outstanding { IfOk result
-            (λ root. root.outstanding ≡ with_chips game.now.start game.now.graph.vertices) }
-        ensures unfed { IfOk result (λ root. root.feeder ≡ None) }
-    {
-        let graph_edges = game.graph().edges().len() as u64;
-        let start = game.start();
-        let mut outstanding = 0;
-        for &chips in start {
-            if chips > 0 {
-                outstanding += 1;
-            }
-        }
-        Ok(RootState {
-            graph_edges,
+            graph_edges: setting.graph_edges(),
             settled: vec![in alloc; 0; start.len()]?,
-            outstanding,
-            feeder: None,
+            outstanding: with_chips(start),
+            feeder: FeederState::new(alloc, setting)?,
         })
     }
 
@@ -113,22 +79,14 @@ impl RootState {
     fn ended(&self) -> bool
         ensures { WhateverRoot self.now (λ g s. result ≡ s.ended) }
     {
-        match &self.feeder {
-            Some(feeder) => feeder.ended(),
-            None => true,
-        }
+        self.feeder.ended()
     }
 
-    /// How many chips each vertex was given, at the start and by feeds, of a root that may feed. Of another it is what
-    /// the game starts with.
+    /// How many chips each vertex was given, at the start and by feeds.
     pub fn given(&self) -> &[u64]
-        requires { SomeRoot self.now (λ g s. g.fed ≡ true) }
         ensures { WhateverRoot self.now (λ g s. AreGiven g s result.now) }
     {
-        match &self.feeder {
-            Some(feeder) => feeder.given(),
-            None => unreachable!(),
-        }
+        self.feeder.given()
     }
 
     // The vertex of a root edge, if it is one.
@@ -147,11 +105,8 @@ impl RootState {
         requires { SomeRoot self.now (λ g s. graph_edges g ≤ edge) }
         ensures { WhateverRoot self.now (λ g s. graph_edges g ≤ edge → result ≡ unmet g (Clear edge) s) }
     {
-        let Some(vertex) = self.vertex_of(edge) else {
-            return Some(Rule::NoSuch);
-        };
-        match &self.feeder {
-            Some(feeder) => feeder.look_rule(vertex),
+        match self.vertex_of(edge) {
+            Some(vertex) => self.feeder.look_rule(vertex),
             None => Some(Rule::NoSuch),
         }
     }
@@ -161,11 +116,8 @@ impl RootState {
         requires { SomeRoot self.now (λ g s. graph_edges g ≤ edge) }
         ensures { WhateverRoot self.now (λ g s. graph_edges g ≤ edge → result ≡ unmet g (Put edge) s) }
     {
-        let Some(vertex) = self.vertex_of(edge) else {
-            return Some(Rule::NoSuch);
-        };
-        match &self.feeder {
-            Some(feeder) => feeder.put_rule(vertex),
+        match self.vertex_of(edge) {
+            Some(vertex) => self.feeder.put_rule(vertex),
             None => Some(Rule::NoSuch),
         }
     }
@@ -175,12 +127,9 @@ impl RootState {
         requires { SomeRoot self.now (λ g s. ⊤) }
         ensures { WhateverRoot self.now (λ g s. result ≡ unmet g (Feed edge count) s) }
     {
-        let Some(vertex) = self.vertex_of(edge) else {
-            return Some(Rule::NoSuch);
-        };
-        match &self.feeder {
-            Some(feeder) => feeder.feed_rule(vertex, count),
-            None => Some(Rule::Ended),
+        match self.vertex_of(edge) {
+            Some(vertex) => self.feeder.feed_rule(vertex, count),
+            None => Some(Rule::NoSuch),
         }
     }
 
@@ -206,16 +155,13 @@ impl RootState {
         }
     }
 
-    // The tail of a root edge, where chips are fed.
+    // The tail of a root edge.
     fn tail(&self, edge: u64) -> &TailLink
-        requires { SomeRoot self.now (λ g s. (g.fed ≡ true) × (graph_edges g ≤ edge) × (edge < all_edges g)) }
+        requires { SomeRoot self.now (λ g s. (graph_edges g ≤ edge) × (edge < all_edges g)) }
         ensures { WhateverRoot self.now (λ g s. graph_edges g ≤ edge → edge < all_edges g
             → result.now ≡ tail_state edge g.ring (s.out edge).link) }
     {
-        let Some(feeder) = &self.feeder else {
-            unreachable!();
-        };
-        feeder.tail((edge - self.graph_edges) as usize)
+        self.feeder.tail((edge - self.graph_edges) as usize)
     }
 
     // The operation that an event of the root needs, whose rules are met.
@@ -286,10 +232,7 @@ impl RootState {
         ensures { RootMakes self.old self.new (Clear edge) seen result }
     {
         let vertex = (edge - self.graph_edges) as usize;
-        match &mut self.feeder {
-            Some(feeder) => feeder.look(vertex, seen),
-            None => unreachable!(),
-        }
+        self.feeder.look(vertex, seen)
     }
 
     /// A put on a root edge.
@@ -298,10 +241,7 @@ impl RootState {
         ensures { RootMakes self.old self.new (Put edge) seen result }
     {
         let vertex = (edge - self.graph_edges) as usize;
-        match &mut self.feeder {
-            Some(feeder) => feeder.put(vertex),
-            None => unreachable!(),
-        }
+        self.feeder.put(vertex)
     }
 
     /// A claim of a root edge for so many chips, with its word.
@@ -310,13 +250,8 @@ impl RootState {
         ensures { RootMakes self.old self.new (Feed edge count) seen result }
     {
         let vertex = (edge - self.graph_edges) as usize;
-        match &mut self.feeder {
-            Some(feeder) => {
-                self.outstanding += 1;
-                feeder.feed(vertex, count, seen)
-            }
-            None => unreachable!(),
-        }
+        self.outstanding += 1;
+        self.feeder.feed(vertex, count, seen)
     }
 
     /// The end of feeding, with the word of acknowledgements of the first root edge.
@@ -332,9 +267,7 @@ impl RootState {
     fn note_end(&mut self)
         ensures { self.new ≡ ended_root self.old }
     {
-        if let Some(feeder) = &mut self.feeder {
-            feeder.end();
-        }
+        self.feeder.end();
     }
 
     /// Counts the acknowledgements of a vertex's root edge up to the word that was seen, and gives how many of them are
@@ -374,6 +307,22 @@ impl RootState {
         }
         more
     }
+}
+
+ghost use Rattle.chip_root.specs.Root.{with_chips};
+
+/// How many vertices start with chips.
+fn with_chips(start: &[u64]) -> u64
+    ensures value { result ≡ with_chips start.now (length start.now) }
+    ensures few { result ≤ length start.now }
+{
+    let mut count = 0;
+    for &chips in start {
+        if chips > 0 {
+            count += 1;
+        }
+    }
+    count
 }
 
 ghost use Rattle.chip_link.specs.Words.{fired_in};

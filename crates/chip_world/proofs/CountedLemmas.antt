@@ -10,14 +10,14 @@ use Rattle.chip_actor.specs.Actor.{Actor, StandsFor}
 use Rattle.chip_actor.proofs.Standing.{books_in, owed_is}
 use Rattle.chip_core.specs.Core.{Log, Take, part_in, into_in, head_of}
 use Rattle.chip_core.proofs.LogLemmas.{part_kept}
-use Rattle.chip_world.specs.Makers.{head_if}
+use Rattle.chip_part.specs.Edges.{head_if}
 use Rattle.chip_world.specs.SharedWords.{words_of, no_words}
 use Rattle.chip_world.specs.World.{WorldState, IsActor, StandsForLog}
 use Rattle.chip_world.proofs.VertexLemmas.{found}
 
 module _ (g : Setting) (log : Log) (w : WorldState) (stands : StandsForLog g log w) (e v : ℕ) (a : Actor)
     (found_at : head_if w.setting e ≡ Some v) (actor_is : a ≡ get_or w.actors v a) where
-  at : (head_of g e ≡ v) × (v < g.graph.vertices)
+  at : (head_of g e ≡ v) × (v < g.game.graph.vertices)
   at = found g stands.is_setting.game (Take e) v (sym (ap (λ (h : Setting). head_if h e) stands.setting) ∙ found_at)
 
   actor : IsActor g log v a

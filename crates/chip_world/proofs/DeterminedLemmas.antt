@@ -11,6 +11,7 @@ use Rattle.chip_part.specs.Turn.{Phase, nothing, either_phase, where_phase, and_
 use Rattle.chip_part.specs.Turn.{seeing, one_step, may_fire, batch_of, firing, after_claim_phase, after_clear_phase}
 use Rattle.chip_part.specs.Turn.{sending, putting, sending_all, is_at_limit, acknowledging, acknowledging_parent}
 use Rattle.chip_part.specs.Turn.{last_acknowledgement, turn}
+use Rattle.chip_part.specs.Steps.{saw}
 use Rattle.chip_core.specs.Core.{Log, Step, does, part_in, Fits, IsLegalLog, log_after}
 use Rattle.chip_world.specs.declared.world.driving.Drive.{Drive}
 use Rattle.chip_world.specs.declared.world.driving.Drive.TheVariants.{Closed, Unfinished}
@@ -87,12 +88,12 @@ module _ (g : Setting) where
         let all = subst (Follow log) is f in
         let all' = subst (Follow log) is' f' in
         let same : seen ≡ seen' = all.0.1 ∙ sym all'.0.1 in
-        let b = more seen s (record { event = x; seen = seen } ∷ log)
-        (does g (record { event = x; seen = seen }) s) rest rest' t t' all.1
-        (subst (λ (n : ℕ). Follow (record { event = x; seen = n } ∷ log) rest') (sym same) all'.1) after
-        (subst (λ (n : ℕ). next n s (does g (record { event = x; seen = n }) s) rest' t') (sym same) after') in (
-          is ∙ ap (λ (n : ℕ). (let d : Step = record { event = x; seen = n } in d ∷ rest)) same
-              ∙ ap (λ (r : List Step). (let d : Step = record { event = x; seen = seen' } in d ∷ r)) b.0 ∙ sym is',
+        let b = more seen s (saw x seen ∷ log)
+        (does g (saw x seen) s) rest rest' t t' all.1
+        (subst (λ (n : ℕ). Follow (saw x n ∷ log) rest') (sym same) all'.1) after
+        (subst (λ (n : ℕ). next n s (does g (saw x n) s) rest' t') (sym same) after') in (
+          is ∙ ap (λ (n : ℕ). (let d : Step = saw x n in d ∷ rest)) same
+              ∙ ap (λ (r : List Step). (let d : Step = saw x seen' in d ∷ r)) b.0 ∙ sym is',
           b.1,
         )
 
@@ -163,8 +164,8 @@ module _ (g : Setting) where
 
   round_determined : (before after after' : Log) → IsRound g before after → IsRound g before after' → after ≡ after'
   round_determined before after after' (m, turns, settled) (m', turns', settled') =
-      settled ∙ ap (λ (l : Log). log_after g l (root_settles g g.graph.vertices))
-      (turns_determined g.graph.vertices before m m' turns turns') ∙ sym settled'
+      settled ∙ ap (λ (l : Log). log_after g l (root_settles g g.game.graph.vertices))
+      (turns_determined g.game.graph.vertices before m m' turns turns') ∙ sym settled'
 
   rounds_determined : (n : ℕ) (before after after' : Log) → AreRounds g n before after → AreRounds g n before after'
       → after ≡ after'

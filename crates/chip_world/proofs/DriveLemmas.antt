@@ -29,7 +29,7 @@ parts_stay g v u other (x ∷ xs) mine log =
     ∙ parts_stay g v u other xs mine.1 (x ∷ log) ∙ part_else g x log u (λ z. other (sym z ∙ mine.0))
 
 module _ (g : Setting) (log : Log) (w : WorldState) (stands : StandsForLog g log w) (v : ℕ)
-    (inside : v < g.graph.vertices) (a : Actor) (actor_is : a ≡ get_or w.actors v a) where
+    (inside : v < g.game.graph.vertices) (a : Actor) (actor_is : a ≡ get_or w.actors v a) where
   actor : IsActor g log v a
   actor = subst (IsActor g log v) (sym actor_is) (stands.actors v inside a)
 

@@ -6,12 +6,10 @@ use Rattle.std.proofs.lemmas.List.{get_or_past, get_or_append_left, get_or_push,
 use Rattle.std.proofs.Math.Seq.{take-length}
 use mathlib.Core.Logic.{dite}
 use native.Mathlib.Decide.{dec_lt}
-use Rattle.chip_part.specs.Setting.{Setting, HasGame}
-use Rattle.chip_graph.proofs.SumLemmas.{by_test}
+use Rattle.chip_part.specs.Setting.{Setting}
 use Rattle.chip_link.specs.Link.{Tail, claims_of, sent_counts, Sound, Shows}
 use Rattle.chip_link.proofs.Sounds.{none_held, one_held}
-use Rattle.chip_part.specs.Edges.{sendable_edges}
-use Rattle.chip_part.proofs.EdgeLemmas.{tail_root, sendable_fed}
+use Rattle.chip_part.proofs.EdgeLemmas.{tail_root}
 use Rattle.chip_link.proofs.Sounds.{length-sent_counts}
 use Rattle.chip_part.specs.declared.act.Act.{Act}
 use Rattle.chip_part.specs.declared.rule.Rule.TheVariants.{NotClaimed}
@@ -24,7 +22,6 @@ use Rattle.chip_world.specs.SharedWords.{stored_by}
 use Rattle.chip_world.proofs.VertexLemmas.{passes}
 use Rattle.chip_core.specs.Core.{Rule, unmet, into_in, Log, Put, Part, part_in, out_in, root, IsLegalLog}
 use Rattle.chip_core.specs.Core.{graph_edges, all_edges}
-use Rattle.chip_core.proofs.LogLemmas.{out_kept}
 use Rattle.chip_core.proofs.GivenLemmas.{outside_is}
 
 -- a hand is empty or holds one
@@ -74,11 +71,11 @@ put_stores g e s act is = by_rule (unmet g (Put e) s) is
     by_rule (Some rule) is = absurd (cc)
 
 -- where no put is due the hand is empty
-pub put_refused : (g : Setting) (e : ℕ) (s : Part) (rule : Rule) → e < sendable_edges g
+pub put_refused : (g : Setting) (e : ℕ) (s : Part) (rule : Rule) → e < all_edges g
     → ◌≡◌ {A = Result Act Rule} (Err rule) (verdict (unmet g (Put e) s) (act_of g (Put e) s))
     → (s.out e).link.held ≡ None
 put_refused g e s rule l is = ⊎_elim (λ none. none)
-    (λ some. absurd (by_rule (unmet g (Put e) s) (passes (ltb e (sendable_edges g)) _ _ (lt-ltb e (sendable_edges g) l)
+    (λ some. absurd (by_rule (unmet g (Put e) s) (passes (ltb e (all_edges g)) _ _ (lt-ltb e (all_edges g) l)
     ∙ ap (λ (h : Option ℕ). need (Rattle.std.proofs.Common.is_some h) NotClaimed None) some.1) is))
     (hand (s.out e).link.held)
   where
@@ -87,16 +84,14 @@ put_refused g e s rule l is = ⊎_elim (λ none. none)
     by_rule (Some first) none is = absurd (cc)
 
 -- the same on a root edge, in a log
-pub root_put_refused : (g : Setting) → HasGame g → (log : Log) → IsLegalLog g log → (e : ℕ) (rule : Rule)
+pub root_put_refused : (g : Setting) (log : Log) → IsLegalLog g log → (e : ℕ) (rule : Rule)
     → graph_edges g ≤ e → ◌≡◌ {A = Result Act Rule} (Err rule)
     (verdict (unmet g (Put e) (part_in g log (root g))) (act_of g (Put e) (part_in g log (root g))))
     → (out_in g log e).link.held ≡ None
-root_put_refused g game log legal e rule past is = by_test g.fed
-    (λ on. dite (dec_lt e (all_edges g))
+root_put_refused g log legal e rule past is = dite (dec_lt e (all_edges g))
     (λ l. ap (λ (p : ℕ). ((part_in g log p).out e).link.held) (tail_root g e past)
-    ∙ put_refused g e (part_in g log (root g)) rule (let all = sendable_fed g on in omega arith) is)
-    (λ n. ap (λ (t : Tail). t.held) (outside_is g log legal e (omega arith))))
-    (λ off. ap (λ (t : Tail). t.held) ((out_kept g game log legal e).root_unfed past off))
+    ∙ put_refused g e (part_in g log (root g)) rule l is)
+    (λ n. ap (λ (t : Tail). t.held) (outside_is g log legal e (omega arith)))
 
 -- ---- the messages in flight, one after another
 

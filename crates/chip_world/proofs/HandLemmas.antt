@@ -12,10 +12,10 @@ use Rattle.chip_part.specs.Acting.{act_of, verdict}
 use Rattle.chip_part.specs.declared.act.Act.{Act}
 use Rattle.chip_root.specs.Root.{WhateverRoot}
 use Rattle.chip_part.specs.Acting.{is_of_root}
-use Rattle.chip_part.proofs.EdgeLemmas.{tail_root, graph_sendable}
+use Rattle.chip_part.proofs.EdgeLemmas.{tail_root, graph_inside}
 use Rattle.chip_core.specs.Core.{Log, Put, Rule, part_of, part_in, out_in, unmet}
 use Rattle.chip_world.proofs.FlightLemmas.{put_refused, root_put_refused}
-use Rattle.chip_world.specs.Makers.{tail_if}
+use Rattle.chip_part.specs.Edges.{tail_if}
 use Rattle.chip_world.specs.World.{WorldState, IsActor, StandsForLog}
 use Rattle.chip_world.proofs.VertexLemmas.{found}
 
@@ -76,8 +76,8 @@ module _ (g : Setting) (log : Log) (w : WorldState) (stands : StandsForLog g log
   -- where none is due nothing is held
   pub none_held : (rule : Rule) → due ≡ Err rule → IsDuePut → (out_in g log e).link.held ≡ None
   none_held rule is may = dite (dec_lt e (graph_edges g))
-      (λ l. put_refused g e (part_in g log (tail_of g e)) rule (graph_sendable g e l) (sym is ∙ may))
+      (λ l. put_refused g e (part_in g log (tail_of g e)) rule (graph_inside g e l) (sym is ∙ may))
       (λ n. let past : graph_edges g ≤ e = omega arith in
-      root_put_refused g stands.is_setting.game log stands.legal e rule past
+      root_put_refused g log stands.legal e rule past
       (sym is ∙ subst (λ (p : ℕ). due ≡ verdict (unmet g (Put e) (part_in g log p)) (act_of g (Put e) (part_in g log p)))
       (tail_root g e past) may))

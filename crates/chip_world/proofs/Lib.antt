@@ -3,7 +3,6 @@ pub mod VertexLemmas
 pub mod StepLemmas
 pub mod TurnWordLemmas
 pub mod CountedLemmas
-pub mod GivenGames
 pub mod OpeningLemmas
 pub mod FlightLemmas
 pub mod HandLemmas

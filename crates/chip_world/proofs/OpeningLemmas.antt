@@ -5,7 +5,7 @@ use Rattle.std.proofs.Common.{length-set, false, get_or-set_same, get_or-set_oth
 use Rattle.std.proofs.lemmas.List.{get_or-replicate, get_or_past, get_or_push, get_or_append_left, length-replicate}
 use mathlib.Core.Logic.{dite}
 use native.Mathlib.Decide.{ℕ_discrete, dec_lt}
-use Rattle.chip_part.specs.Setting.{Setting, game_of_setting, IsSetting}
+use Rattle.chip_part.specs.Setting.{Setting, IsSetting}
 use Rattle.chip_graph.proofs.SumLemmas.{cond_yes, cond_no, cond_true, cond_false}
 use Rattle.chip_link.specs.Link.{Shows}
 use Rattle.chip_link.proofs.Shown.{fresh_shows, first_shows}
@@ -66,25 +66,25 @@ ring_shows ring chips some_ring put put_is = dite (ℕ_discrete chips 0)
 
 module _ (g : Setting) (is_setting : IsSetting g) where
   first_put_is : (e : ℕ) → first_put g e
-      ≡ cond (eqb (first_chips (game_of_setting g) e) 0) [] (first_chips (game_of_setting g) e ∷ [])
+      ≡ cond (eqb (first_chips g.game e) 0) [] (first_chips g.game e ∷ [])
   first_put_is e = dite (dec_lt e (graph_edges g))
       (λ l. cond_true (ltb e (graph_edges g)) [] _ (lt-ltb e (graph_edges g) l)
-      ∙ sym (cond_yes (first_chips (game_of_setting g) e) 0 [] (first_chips (game_of_setting g) e ∷ [])
+      ∙ sym (cond_yes (first_chips g.game e) 0 [] (first_chips g.game e ∷ [])
       (cond_true (ltb e (graph_edges g)) 0 (start_of g (e - graph_edges g)) (lt-ltb e (graph_edges g) l))))
       (λ n. let past = le-ltb e (graph_edges g) (omega arith) in
       cond_false (ltb e (graph_edges g)) [] _ past
       ∙ ap (λ (c : ℕ). cond (eqb c 0) [] (c ∷ []))
       (sym (cond_false (ltb e (graph_edges g)) 0 (start_of g (e - graph_edges g)) past)))
 
-  edge_shown : (e : ℕ) → ShowsEdge g [] e (opening_words g.ring (first_chips (game_of_setting g) e))
+  edge_shown : (e : ℕ) → ShowsEdge g [] e (opening_words g.ring (first_chips g.game e))
   edge_shown e = record {
-    cells_each = length-set (replicate g.ring 0) 0 (first_chips (game_of_setting g) e) ∙ length-replicate g.ring 0;
-    shows = ring_shows g.ring (first_chips (game_of_setting g) e) is_setting.some_ring (first_put g e) (first_put_is e);
+    cells_each = length-set (replicate g.ring 0) 0 (first_chips g.game e) ∙ length-replicate g.ring 0;
+    shows = ring_shows g.ring (first_chips g.game e) is_setting.some_ring (first_put g e) (first_put_is e);
     acknowledged = refl;
   }
 
-  pub opens : (w : WorldState) → w.setting ≡ g → AreOpeningActors g g.graph.vertices w.actors
-      → AreOpeningWords (game_of_setting g) g.ring (all_edges g) w.words → RootStandsFor g (opened g) w.root
+  pub opens : (w : WorldState) → w.setting ≡ g → AreOpeningActors g g.game.graph.vertices w.actors
+      → AreOpeningWords g (all_edges g) w.words → RootStandsFor g (opened g) w.root
       → StandsForLog g [] w
   opens w setting actors words root_stands = record {
     setting = setting;

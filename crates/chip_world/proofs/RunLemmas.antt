@@ -8,7 +8,8 @@ use Rattle.std.proofs.lemmas.List.{get_or-map, length-map, take_more, get_or_pus
 use Rattle.std.proofs.lemmas.Bool.{ltb-true, and_parts}
 use mathlib.Core.Logic.{dite}
 use native.Mathlib.Decide.{ℕ_discrete}
-use Rattle.chip_part.specs.Setting.{Setting, HasGame}
+use Rattle.chip_graph.specs.ChipGame.{IsGame}
+use Rattle.chip_part.specs.Setting.{Setting}
 use Rattle.chip_graph.proofs.SumLemmas.{by_test, cond_yes, cond_no}
 use Rattle.chip_part.specs.declared.reply.Reply.TheVariants.{Done, Got, Sent, Empty, Full, Sealed, NotNow}
 use Rattle.chip_part.specs.declared.rule.Rule.TheVariants.{NoSuch}
@@ -380,7 +381,7 @@ all_noted g log xs now n replies sent delivered noted replies_are sent_is delive
 }
 
 -- what is held in a run from the opening, by its replies
-pub held_by_replies : (g : Setting) → HasGame g → 0 < g.ring → (log : Log) (xs : List Event) (replies : List Reply)
+pub held_by_replies : (g : Setting) → IsGame g.game → 0 < g.ring → (log : Log) (xs : List Event) (replies : List Reply)
     → replies ≡ replies_to g log xs → log ≡ [] → IsHeldByReplies g (log_after g log xs) xs replies
 held_by_replies g game some_ring log xs replies is opening =
     subst (λ (rs : List Reply). IsHeldByReplies g (log_after g log xs) xs rs) (sym is)

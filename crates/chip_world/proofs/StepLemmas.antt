@@ -21,6 +21,7 @@ use Rattle.chip_part.specs.Acting.{is_of_root, FitsRoot}
 use Rattle.chip_root.specs.Root.{RootMakes}
 use Rattle.chip_part.proofs.EdgeLemmas.{tail_root}
 use Rattle.chip_part.proofs.RuleLemmas.{rules_met}
+use Rattle.chip_part.specs.Steps.{saw}
 use Rattle.chip_core.specs.Core.{Log, Step, Event, Take, Ack, Fire, Clear, Claim, Put, Halt, Settle, Seal, Read, Feed}
 use Rattle.chip_core.specs.Core.{End, Part, Rule, Reply, unmet, part_of, does, reply_of, part_in, word_of_part, sees}
 use Rattle.chip_core.specs.Core.{answer, step, Fits, tail_of, graph_edges, all_edges, root, stopper}
@@ -76,13 +77,13 @@ by_act g (Feed e k) mine = absurd (true≢false mine)
 by_act g End mine = absurd (true≢false mine)
 
 -- an edge whose tail is a vertex isn't the root's
-not_root_edge : (g : Setting) (v e : ℕ) → v < g.graph.vertices → tail_of g e ≡ v → is_root_edge g e ≡ false
+not_root_edge : (g : Setting) (v e : ℕ) → v < g.game.graph.vertices → tail_of g e ≡ v → is_root_edge g e ≡ false
 not_root_edge g v e l at = dite (dec_lt e (graph_edges g))
     (λ inside. cond_true (ltb e (graph_edges g)) false true (lt-ltb e (graph_edges g) inside))
     (λ past. (let is_root = tail_root g e (omega arith) in absurd (omega arith)))
 
 -- an event that a vertex makes is of no other
-pub not_of_others : (g : Setting) (v : ℕ) (act : Act) → v < g.graph.vertices → part_of g (event_of v act) ≡ v
+pub not_of_others : (g : Setting) (v : ℕ) (act : Act) → v < g.game.graph.vertices → part_of g (event_of v act) ≡ v
     → is_of_others g (event_of v act) ≡ false
 not_of_others g v (Do.Take e cell) l at = refl
 not_of_others g v (Do.Settle e) l at = not_root_edge g v e l at
@@ -106,7 +107,7 @@ module _ (g : Setting) (log : Log) (w : WorldState) (stands : StandsForLog g log
 
   -- the rules are met, and the world is that of the longer log
   pub accepts : (x : Event) (new : WorldState) (reply : Reply) → unmet g x (part_in g log (part_of g x)) ≡ None
-      → StandsForLog g (record { event = x; seen = sees g log x } ∷ log) new
+      → StandsForLog g (saw x (sees g log x) ∷ log) new
       → reply ≡ reply_of g x (sees g log x) (part_in g log (part_of g x))
       → StandsForLog g (step g log x).0 new × (reply ≡ (step g log x).1)
   accepts x new reply is after says = (
@@ -180,7 +181,7 @@ module _ (g : Setting) (log : Log) (w : WorldState) (stands : StandsForLog g log
           due.0,
           subst (Rattle.chip_part.specs.Acting.FitsSeen s x) (sym sees_it)
               (fits_seen g stands.is_setting.game stands.is_setting.some_ring log stands.legal x
-              (subst (λ (n : ℕ). n < g.graph.vertices) (sym is_due.mine) is_due.inside) due.0),
+              (subst (λ (n : ℕ). n < g.game.graph.vertices) (sym is_due.mine) is_due.inside) due.0),
         )
 
         pub vertex_is_due : SomePart a (λ g s. IsDue g s a.vertex (record { act = act; seen = seen }))
@@ -200,7 +201,7 @@ module _ (g : Setting) (log : Log) (w : WorldState) (stands : StandsForLog g log
           makes = subst (λ (y : Event). Makes a new y seen reply) event_here made
 
           did : Step
-          did = record { event = x; seen = sees g log x }
+          did = saw x (sees g log x)
 
           abbrev pub after : WorldState
           after = record w { actors = set w.actors v new; words = words_after act w.words }
@@ -211,7 +212,7 @@ module _ (g : Setting) (log : Log) (w : WorldState) (stands : StandsForLog g log
             vertex_is = (makes g s stands_part can_do).2 ∙ actor.vertex_is;
             stands = subst (λ (p : Part). StandsFor g p new) (sym (part_here g did log v is_due.mine))
                 (subst (λ (u : ℕ). StandsFor g (does g did (part_in g log u)) new) is_due.mine
-                (subst (λ (n : ℕ). StandsFor g (does g (record { event = x; seen = n }) s) new) sees_it
+                (subst (λ (n : ℕ). StandsFor g (does g (saw x n) s) new) sees_it
                 (makes g s stands_part can_do).0));
           }
 
@@ -239,6 +240,15 @@ module _ (g : Setting) (log : Log) (w : WorldState) (stands : StandsForLog g log
             root_stands = root_stays did
                 (λ z. (let at = is_due.mine in let l = is_due.inside in absurd (omega arith)));
           } ((makes g s stands_part can_do).1 ∙ ap (λ (n : ℕ). reply_of g x n s) sees_it)
+
+  -- the actor of the vertex that makes an event stands for its part
+  pub maker_stands : (x : Event) (v : ℕ) (a : Actor) → vertex_of w.setting x ≡ Some v → a ≡ get_or w.actors v a
+      → SomePart a (λ g s. part_of g x ≡ a.vertex)
+  maker_stands x v a found_at actor_is =
+      let maker = found g stands.is_setting.game x v (sym (ap (λ (h : Setting). vertex_of h x) stands.setting)
+      ∙ found_at) in
+      let actor : IsActor g log v a = subst (IsActor g log v) (sym actor_is) (stands.actors v maker.1 a) in
+      (g, part_in g log v, actor.stands, maker.0 ∙ sym actor.vertex_is)
 
   -- an operation that `may` gave is due
   pub given_is_due : (x : Event) (v : ℕ) (a : Actor) (act : Act) → is_of_others w.setting x ≡ false
@@ -280,7 +290,7 @@ module _ (g : Setting) (log : Log) (w : WorldState) (stands : StandsForLog g log
   -- ---- the events of the stopper and of the root
 
   -- an event of no vertex leaves the actors
-  actors_stay : (x : Step) → g.graph.vertices ≤ part_of g x.event → (v : ℕ) → v < g.graph.vertices → (d : Actor)
+  actors_stay : (x : Step) → g.game.graph.vertices ≤ part_of g x.event → (v : ℕ) → v < g.game.graph.vertices → (d : Actor)
       → IsActor g (x ∷ log) v (get_or w.actors v d)
   actors_stay x past v l d = record {
     vertex_is = (stands.actors v l d).vertex_is;
@@ -289,7 +299,7 @@ module _ (g : Setting) (log : Log) (w : WorldState) (stands : StandsForLog g log
   }
 
   -- the same world but for its words and its root
-  others_stay : (x : Step) → g.graph.vertices ≤ part_of g x.event → Fits g log x
+  others_stay : (x : Step) → g.game.graph.vertices ≤ part_of g x.event → Fits g log x
       → (words : List EdgeState) (now : Root) → length words ≡ all_edges g
       → ((e : ℕ) → e < all_edges g → (d : EdgeState) → ShowsEdge g (x ∷ log) e (get_or words e d))
       → RootStandsFor g (part_in g (x ∷ log) (root g)) now
@@ -314,7 +324,7 @@ module _ (g : Setting) (log : Log) (w : WorldState) (stands : StandsForLog g log
       → StandsForLog g (step g log (Seal e)).0 (record w { words = changed e with_seal w.words })
       × (Done claims ≡ (step g log (Seal e)).1)
   seal_makes e l claims told =
-      let x : Step = record { event = Seal e; seen = sees g log (Seal e) } in
+      let x : Step = saw (Seal e) (sees g log (Seal e)) in
       let none : unmet g (Seal e) (part_in g log (stopper g))
       ≡ None = passes (ltb e (graph_edges g)) NoSuch None (lt-ltb e (graph_edges g) l) in
       accepts (Seal e) (record w { words = changed e with_seal w.words }) (Done claims) none
@@ -415,7 +425,7 @@ module _ (g : Setting) (log : Log) (w : WorldState) (stands : StandsForLog g log
             → StandsForLog g (step g log x).0 (record w { words = words_after act w.words; root = new })
             × (reply ≡ (step g log x).1)
         root_makes new reply makes =
-            let did : Step = record { event = x; seen = sees g log x } in
+            let did : Step = saw x (sees g log x) in
             let made = makes g rooted stands.root_stands can in
             accepts x (record w { words = words_after act w.words; root = new }) reply met
             (others_stay did (let at = here in omega arith) (met, refl) (words_after act w.words) new
@@ -424,7 +434,7 @@ module _ (g : Setting) (log : Log) (w : WorldState) (stands : StandsForLog g log
             (words_shown g stands.is_setting.game stands.is_setting.some_ring log stands.legal w.words
             stands.words_each stands.words x operates met e l d))
             (subst (λ (p : Part). RootStandsFor g p new) (sym (part_here g did log (root g) here))
-            (subst (λ (n : ℕ). RootStandsFor g (does g (record { event = x; seen = n }) rooted) new) is_seen made.0)))
+            (subst (λ (n : ℕ). RootStandsFor g (does g (saw x n) rooted) new) is_seen made.0)))
             (made.1 ∙ ap (λ (n : ℕ). reply_of g x n rooted) is_seen
             ∙ ap (λ (p : ℕ). reply_of g x (sees g log x) (part_in g log p)) (sym here))
 
@@ -436,7 +446,7 @@ module _ (g : Setting) (log : Log) (w : WorldState) (stands : StandsForLog g log
     read_met = (given (unmet g (Read v) (part_in g log (root g))) (act_of g (Read v) (part_in g log (root g))) act
         (may g (part_in g log (root g)) stands.root_stands refl)).0
 
-    pub read_inside : v < g.graph.vertices
+    pub read_inside : v < g.game.graph.vertices
     read_inside = (rules_met g (Read v) (part_in g log (root g)) read_met).0
 
     pub read_can : (seen : ℕ) → SomeRoot w.root (λ g s. RootCanDo g s (Read v) seen)
@@ -446,14 +456,14 @@ module _ (g : Setting) (log : Log) (w : WorldState) (stands : StandsForLog g log
         → RootMakes w.root new (Read v) seen reply
         → StandsForLog g (step g log (Read v)).0 (record w { root = new }) × (reply ≡ (step g log (Read v)).1)
     read_makes seen is new reply makes =
-        let did : Step = record { event = Read v; seen = sees g log (Read v) } in
+        let did : Step = saw (Read v) (sees g log (Read v)) in
         let made = makes g (part_in g log (root g)) stands.root_stands (refl, read_met, tt) in
         accepts (Read v) (record w { root = new }) reply read_met
         (others_stay did (omega arith) (read_met, refl) w.words new stands.words_each
         (read_shown g stands.is_setting.game stands.is_setting.some_ring log stands.legal w.words stands.words_each
         stands.words v read_met)
         (subst (λ (p : Part). RootStandsFor g p new) (sym (part_here g did log (root g) refl))
-        (subst (λ (n : ℕ). RootStandsFor g (does g (record { event = Read v; seen = n }) (part_in g log (root g))) new) is
+        (subst (λ (n : ℕ). RootStandsFor g (does g (saw (Read v) n) (part_in g log (root g))) new) is
         made.0)))
         (made.1 ∙ ap (λ (n : ℕ). reply_of g (Read v) n (part_in g log (root g))) is)
 

@@ -14,6 +14,7 @@ use Rattle.chip_part.specs.declared.cause.Cause.TheVariants.{SealedEdge, FiringL
 use Rattle.chip_part.specs.Acting.{act_of, event_of, FitsSeen}
 use Rattle.chip_actor.specs.Medium.{IsDueBy, MayServe, Serves, IsLonger}
 use Rattle.chip_part.proofs.RuleLemmas.{rules_met}
+use Rattle.chip_part.specs.Steps.{saw}
 use Rattle.chip_core.specs.Core.{Log, Step, Event, Fire, Halt, Part, unmet, part_of, does, part_in, word_of_part, sees}
 use Rattle.chip_core.proofs.LogLemmas.{part_here, part_kept}
 use Rattle.chip_core.proofs.NumberLemmas.{fits_seen}
@@ -65,18 +66,18 @@ module _ (w : TurnWords) (g : Setting) (v : ℕ) (log : Log) (s : Part) (held : 
       subst (FitsSeen s x) (sym is)
       (subst (λ (p : Part). FitsSeen p x (sees g log x)) (ap (part_in g log) due.mine ∙ sym held.part_is)
       (fits_seen g held.is_setting.game held.is_setting.some_ring log held.legal x
-      (subst (λ (n : ℕ). n < g.graph.vertices) (sym due.mine) held.inside) met))
+      (subst (λ (n : ℕ). n < g.game.graph.vertices) (sym due.mine) held.inside) met))
 
-  few_fired : s.fired ≤ g.limit
-  few_fired = subst (λ (p : Part). p.fired ≤ g.limit) (sym held.part_is)
+  few_fired : s.fired ≤ g.game.limit
+  few_fired = subst (λ (p : Part). p.fired ≤ g.game.limit) (sym held.part_is)
       (part_kept g held.is_setting.game log held.legal v).within
 
   pub longer : (new : TurnWords) (seen : ℕ) → seen ≡ seen_in act w.fired w.words → new.words ≡ words_after act w.words
-      → new.fired ≡ word_of_part (does g (record { event = x; seen = seen }) s)
+      → new.fired ≡ word_of_part (does g (saw x seen) s)
       → IsLonger (Holds new) g v log s act seen
   longer new seen seen-is words-are fired-is =
       let is : seen ≡ sees g log x = seen-is ∙ sees_it in
-      let step : Step = record { event = x; seen = seen } in
+      let step : Step = saw x seen in
       record {
         fits = fits seen is;
         held = record {
@@ -85,11 +86,11 @@ module _ (w : TurnWords) (g : Setting) (v : ℕ) (log : Log) (s : Part) (held : 
           legal = (held.legal, (met, is));
           part_is = ap (does g step) held.part_is ∙ sym (part_here g step log v due.mine);
           words_each = ap length words-are ∙ length-words_after act w.words ∙ held.words_each;
-          words = λ e l d. subst (λ (n : ℕ). ShowsEdge g (record { event = x; seen = n } ∷ log) e
+          words = λ e l d. subst (λ (n : ℕ). ShowsEdge g (saw x n ∷ log) e
               (get_or new.words e d)) (sym is)
-              (subst (λ (ws : List EdgeState). ShowsEdge g (record { event = x; seen = sees g log x } ∷ log) e
+              (subst (λ (ws : List EdgeState). ShowsEdge g (saw x (sees g log x) ∷ log) e
               (get_or ws e d)) (sym words-are)
-              (subst (λ (b : Act). ShowsEdge g (record { event = x; seen = sees g log x } ∷ log) e
+              (subst (λ (b : Act). ShowsEdge g (saw x (sees g log x) ∷ log) e
               (get_or (words_after b w.words) e d)) needed
               (words_shown g held.is_setting.game held.is_setting.some_ring log held.legal w.words held.words_each
               held.words x own met e l d)));
@@ -105,7 +106,7 @@ finds_some w act (g, v, log, s, held, due) = finds w g v log s held act due
 pub serves : (w new : TurnWords) (act : Act) (seen : ℕ) → seen ≡ seen_in act w.fired w.words
     → new.words ≡ words_after act w.words → new.fired ≡ w.fired
     → ((g : Setting) (v seen : ℕ) (s : Part)
-    → word_of_part s ≡ word_of_part (does g (record { event = event_of v act; seen = seen }) s))
+    → word_of_part s ≡ word_of_part (does g (saw (event_of v act) seen) s))
     → Serves (Holds w) (Holds new) act seen
 serves w new act seen seen-is words-are fired-is keeps = λ g v log s held due. longer w g v log s held act due new seen
     seen-is words-are (fired-is ∙ held.fired_is ∙ keeps g v seen s)

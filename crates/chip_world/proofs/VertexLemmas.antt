@@ -2,7 +2,8 @@
 use Rattle.std.proofs.Common.{◌≡◌, ℕ, ◌<◌, Bool, true, false, cond, ltb, Option, Some, None, refl, sym, ◌∙◌, subst}
 use Rattle.std.proofs.Common.{true≢false}
 use Rattle.std.proofs.lemmas.Bool.{ltb-true}
-use Rattle.chip_part.specs.Setting.{Setting, HasGame}
+use Rattle.chip_graph.specs.ChipGame.{IsGame}
+use Rattle.chip_part.specs.Setting.{Setting}
 use Rattle.chip_graph.proofs.SumLemmas.{by_test, cond_false}
 use Rattle.chip_part.specs.Rules.{need}
 use Rattle.chip_part.specs.declared.rule.Rule.{Rule}
@@ -10,7 +11,8 @@ use Rattle.chip_part.specs.declared.rule.Rule.TheVariants.{NoSuch}
 use Rattle.chip_core.specs.Core.{Event, Take, Ack, Fire, Clear, Claim, Put, Halt, Settle, Seal, Read, Feed}
 use Rattle.chip_core.specs.Core.{End, Part, unmet, part_of, tail_of, head_of, all_edges, graph_edges}
 use Rattle.chip_core.proofs.LogLemmas.{head_inside, tail_inside}
-use Rattle.chip_world.specs.Makers.{head_if, tail_if, vertex_if, vertex_of, is_root_edge, is_of_others}
+use Rattle.chip_part.specs.Edges.{head_if, tail_if}
+use Rattle.chip_world.specs.Makers.{vertex_if, vertex_of, is_root_edge, is_of_others}
 
 -- a value that is given only where a test passes
 given : (b : Bool) (n v : ℕ) → cond b (Some n) None ≡ Some v → (b ≡ true) × (n ≡ v)
@@ -31,23 +33,23 @@ passes false rule rest is = absurd (true≢false (sym is))
 
 module _ (g : Setting) where
   IsMaker : Event → ℕ → Type 0
-  IsMaker x v = (part_of g x ≡ v) × (v < g.graph.vertices)
+  IsMaker x v = (part_of g x ≡ v) × (v < g.game.graph.vertices)
 
-  module _ (game : HasGame g) where
-    by_head : (e v : ℕ) → head_if g e ≡ Some v → (head_of g e ≡ v) × (v < g.graph.vertices)
+  module _ (game : IsGame g.game) where
+    by_head : (e v : ℕ) → head_if g e ≡ Some v → (head_of g e ≡ v) × (v < g.game.graph.vertices)
     by_head e v is = let at = given (ltb e (all_edges g)) (head_of g e) v is in
-        (at.1, subst (λ (n : ℕ). n < g.graph.vertices) at.1 (head_inside g game e (ltb-true e (all_edges g) at.0)))
+        (at.1, subst (λ (n : ℕ). n < g.game.graph.vertices) at.1 (head_inside g game e (ltb-true e (all_edges g) at.0)))
 
-    by_tail : (e v : ℕ) → tail_if g e ≡ Some v → (tail_of g e ≡ v) × (v < g.graph.vertices)
+    by_tail : (e v : ℕ) → tail_if g e ≡ Some v → (tail_of g e ≡ v) × (v < g.game.graph.vertices)
     by_tail e v is = let at = given (ltb e (graph_edges g)) (tail_of g e) v is in
-        (at.1, subst (λ (n : ℕ). n < g.graph.vertices) at.1 (tail_inside g game e (ltb-true e (graph_edges g) at.0)))
+        (at.1, subst (λ (n : ℕ). n < g.game.graph.vertices) at.1 (tail_inside g game e (ltb-true e (graph_edges g) at.0)))
 
-    by_vertex : (u v : ℕ) → vertex_if g u ≡ Some v → (u ≡ v) × (v < g.graph.vertices)
-    by_vertex u v is = let at = given (ltb u g.graph.vertices) u v is in
-        (at.1, subst (λ (n : ℕ). n < g.graph.vertices) at.1 (ltb-true u g.graph.vertices at.0))
+    by_vertex : (u v : ℕ) → vertex_if g u ≡ Some v → (u ≡ v) × (v < g.game.graph.vertices)
+    by_vertex u v is = let at = given (ltb u g.game.graph.vertices) u v is in
+        (at.1, subst (λ (n : ℕ). n < g.game.graph.vertices) at.1 (ltb-true u g.game.graph.vertices at.0))
 
     -- the vertex that was found makes the event
-    pub found : (x : Event) (v : ℕ) → vertex_of g x ≡ Some v → (part_of g x ≡ v) × (v < g.graph.vertices)
+    pub found : (x : Event) (v : ℕ) → vertex_of g x ≡ Some v → (part_of g x ≡ v) × (v < g.game.graph.vertices)
     found (Take e) v is = by_head e v is
     found (Ack e) v is = by_head e v is
     found (Fire u k) v is = by_vertex u v is
@@ -70,13 +72,13 @@ module _ (g : Setting) where
   pub missing : (x : Event) (s : Part) → is_of_others g x ≡ false → vertex_of g x ≡ None → unmet g x s ≡ Some NoSuch
   missing (Take e) s mine is = refused _ NoSuch _ (withheld (ltb e (all_edges g)) (head_of g e) is)
   missing (Ack e) s mine is = refused _ NoSuch _ (withheld (ltb e (all_edges g)) (head_of g e) is)
-  missing (Fire u k) s mine is = refused _ NoSuch _ (withheld (ltb u g.graph.vertices) u is)
+  missing (Fire u k) s mine is = refused _ NoSuch _ (withheld (ltb u g.game.graph.vertices) u is)
   missing (Clear e) s mine is = absurd
       (true≢false (sym (is_graph_edge e mine) ∙ withheld (ltb e (graph_edges g)) (tail_of g e) is))
   missing (Claim e) s mine is = refused _ NoSuch _ (withheld (ltb e (graph_edges g)) (tail_of g e) is)
   missing (Put e) s mine is = absurd
       (true≢false (sym (is_graph_edge e mine) ∙ withheld (ltb e (graph_edges g)) (tail_of g e) is))
-  missing (Halt u) s mine is = refused _ NoSuch _ (withheld (ltb u g.graph.vertices) u is)
+  missing (Halt u) s mine is = refused _ NoSuch _ (withheld (ltb u g.game.graph.vertices) u is)
   missing (Settle e) s mine is = absurd
       (true≢false (sym (is_graph_edge e mine) ∙ withheld (ltb e (graph_edges g)) (tail_of g e) is))
   missing (Seal e) s mine is = absurd (true≢false mine)

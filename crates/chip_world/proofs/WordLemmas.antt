@@ -7,7 +7,8 @@ use Rattle.std.proofs.lemmas.Nat.{mod_below}
 use Rattle.std.proofs.lemmas.List.{get_or_default}
 use mathlib.Core.Logic.{dite}
 use native.Mathlib.Decide.{ℕ_discrete}
-use Rattle.chip_part.specs.Setting.{Setting, HasGame}
+use Rattle.chip_graph.specs.ChipGame.{IsGame}
+use Rattle.chip_part.specs.Setting.{Setting}
 use Rattle.chip_graph.proofs.SumLemmas.{cond_yes, cond_no}
 use Rattle.chip_link.specs.Link.{claims_of, Sound}
 use Rattle.chip_link.specs.Words.{exchanged, claims_in}
@@ -31,8 +32,8 @@ use Rattle.chip_core.proofs.LogLemmas.{part_kept, edge_sound}
 use Rattle.chip_world.specs.SharedWords.{EdgeState, no_words, words_of, with_cell, with_claim, with_acks, with_seal}
 use Rattle.chip_world.specs.SharedWords.{changed, cell_of, seen_in, words_after, HasCell, CanPerform}
 use Rattle.chip_world.specs.Makers.{is_by_act}
-use Rattle.chip_part.proofs.EdgeLemmas.{sendable_inside}
 use Rattle.chip_part.specs.Acting.{is_of_root}
+use Rattle.chip_part.specs.Steps.{saw}
 use Rattle.chip_world.specs.World.{ShowsEdge}
 use Rattle.chip_core.proofs.NumberLemmas.{claims_most}
 use Rattle.chip_core.proofs.NumberLemmas.{words as words_read}
@@ -108,7 +109,7 @@ length-words_after (Do.Halt by_limit) words = refl
 length-words_after (Do.Ack e count) words = length-set words e _
 length-words_after Do.End words = refl
 
-module _ (g : Setting) (game : HasGame g) (some_ring : 0 < g.ring) (log : Log) (legal : IsLegalLog g log) where
+module _ (g : Setting) (game : IsGame g.game) (some_ring : 0 < g.ring) (log : Log) (legal : IsLegalLog g log) where
   sound : (e : ℕ) → Sound g.ring (out_in g log e).link (into_in g log e).got (stop_in g log e)
   sound = edge_sound g game some_ring log legal
 
@@ -152,7 +153,7 @@ module _ (g : Setting) (game : HasGame g) (some_ring : 0 < g.ring) (log : Log) (
         (⊎_elim (λ v. (let l = v.0 in omega arith)) (λ r. r.1) (met_for (Clear e) none))
     can_perform (Claim e) mine none = let met = met_for (Claim e) none in omega arith
     can_perform (Put e) mine none = has_cell e (claims_of (out_in g log e).link - 1)
-        (sendable_inside g e (met_for (Put e) none).0)
+        (met_for (Put e) none).0
     can_perform (Halt v) mine none = tt
     can_perform (Settle e) mine none = let met = met_for (Settle e) none in omega arith
     can_perform (Seal e) mine none = absurd (true≢false (sym mine))
@@ -216,12 +217,12 @@ module _ (g : Setting) (game : HasGame g) (some_ring : 0 < g.ring) (log : Log) (
     -- it shows the longer log
     shows_left : (x : Event) → unmet g x (part_in g log (part_of g x)) ≡ None → (new : List EdgeState) → Leaves x new
         → (e : ℕ) → e < all_edges g → (d : EdgeState)
-        → ShowsEdge g (record { event = x; seen = sees g log x } ∷ log) e (get_or new e d)
+        → ShowsEdge g (saw x (sees g log x) ∷ log) e (get_or new e d)
     shows_left x none new leaves e l d =
         let after = words_go_on g game some_ring log legal (value_of words fired) (value_of new leaves.fired_then)
         all_shown x none leaves.left in
         let same = leaves.words_stay in
-        subst (ShowsEdge g (record { event = x; seen = sees g log x } ∷ log) e)
+        subst (ShowsEdge g (saw x (sees g log x) ∷ log) e)
         (get_or_default new e no_words d (omega arith)) record {
           cells_each = leaves.cells_stay e ∙ (at e l).cells_each;
           shows = after.edges e l;
@@ -287,7 +288,7 @@ module _ (g : Setting) (game : HasGame g) (some_ring : 0 < g.ring) (log : Log) (
               ne;
         }
     leaves (Put e) mine none =
-        let l : e < all_edges g = sendable_inside g e (met_for (Put e) none).0 in
+        let l : e < all_edges g = (met_for (Put e) none).0 in
         let c : ℕ = (claims_of (out_in g log e).link - 1) % g.ring in
         let n : ℕ = sum (option_to_list (out_in g log e).link.held) in
         let inside = has_cell e (claims_of (out_in g log e).link - 1) l in
@@ -319,14 +320,14 @@ module _ (g : Setting) (game : HasGame g) (some_ring : 0 < g.ring) (log : Log) (
     -- what each operation leaves shows the log with its event
     pub words_shown : (x : Event) → is_by_act x ≡ true → unmet g x (part_in g log (part_of g x)) ≡ None
         → (e : ℕ) → e < all_edges g → (d : EdgeState)
-        → ShowsEdge g (record { event = x; seen = sees g log x } ∷ log) e
+        → ShowsEdge g (saw x (sees g log x) ∷ log) e
         (get_or (words_after (act_of g x (part_in g log (part_of g x))) words) e d)
     words_shown x mine none = shows_left x none _ (leaves x mine none)
 
     -- the seal of an edge
     pub seal_shown : (e : ℕ) → unmet g (Seal e) (part_in g log (stopper g)) ≡ None → (i : ℕ) → i < all_edges g
         → (d : EdgeState)
-        → ShowsEdge g (record { event = Seal e; seen = sees g log (Seal e) } ∷ log) i
+        → ShowsEdge g (saw (Seal e) (sees g log (Seal e)) ∷ log) i
         (get_or (changed e with_seal words) i d)
     seal_shown e none =
         let met = met_for (Seal e) none in
@@ -339,7 +340,7 @@ module _ (g : Setting) (game : HasGame g) (some_ring : 0 < g.ring) (log : Log) (
     -- a read leaves the words
     pub read_shown : (v : ℕ) → unmet g (Read v) (part_in g log (part_of g (Read v))) ≡ None → (i : ℕ) → i < all_edges g
         → (d : EdgeState)
-        → ShowsEdge g (record { event = Read v; seen = sees g log (Read v) } ∷ log) i (get_or words i d)
+        → ShowsEdge g (saw (Read v) (sees g log (Read v)) ∷ log) i (get_or words i d)
     read_shown v none = shows_left (Read v) none words
         (no_edge (Read v) fired record { here = refl; others = λ w is ne. refl })
 

@@ -1,8 +1,7 @@
 -- The worked drives, phase by phase.
 use Rattle.std.proofs.Common.{◌≡◌, ℕ, [], ◌∷◌, refl, arith}
 use Rattle.chip_part.specs.Part.{Part, opened}
-use Rattle.chip_part.specs.Steps.{does}
-use Rattle.chip_part.specs.Worked.{saw}
+use Rattle.chip_part.specs.Steps.{does, saw}
 use Rattle.chip_core.specs.Core.{Take, Ack, Settle}
 use Rattle.chip_core.proofs.ReadLemmas.{closed_is}
 use Rattle.chip_world.specs.Rounds.{IsTurnAfter, IsOpen}

@@ -1,20 +1,13 @@
 -- Which vertex makes an event.
 use Rattle.std.specs.Prelude.{ℕ, Bool, true, false, nat_lt, if◌then◌else◌, Option, Some, None}
 use Rattle.chip_part.specs.Setting.{Setting}
-use Rattle.chip_core.specs.Core.{Event, tail_of, head_of, all_edges, graph_edges}
+use Rattle.chip_part.specs.Edges.{graph_edges, head_if, tail_if}
+use Rattle.chip_core.specs.Core.{Event}
 use Rattle.chip_part.specs.Rules.{Take, Ack, Fire, Clear, Claim, Put, Halt, Settle, Seal, Read, Feed, End}
-
--- the head of an edge, if the edge is there
-abbrev pub head_if : Setting → ℕ → Option ℕ
-head_if g e = if nat_lt e (all_edges g) then Some (head_of g e) else None
-
--- the tail of an edge of the graph, if it is one
-abbrev pub tail_if : Setting → ℕ → Option ℕ
-tail_if g e = if nat_lt e (graph_edges g) then Some (tail_of g e) else None
 
 -- a vertex, if it is one
 abbrev pub vertex_if : Setting → ℕ → Option ℕ
-vertex_if g v = if nat_lt v g.graph.vertices then Some v else None
+vertex_if g v = if nat_lt v g.game.graph.vertices then Some v else None
 
 -- an edge behind the graph's
 abbrev pub is_root_edge : Setting → ℕ → Bool

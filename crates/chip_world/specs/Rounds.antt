@@ -27,11 +27,11 @@ root_settles g (suc v) = root_settles g v ++ Settle (root_edge g v) ∷ []
 
 -- a settle of every root edge
 abbrev pub AreRootsSettled : Setting → Log → Log → Type 0
-AreRootsSettled g before after = after ≡ log_after g before (root_settles g g.graph.vertices)
+AreRootsSettled g before after = after ≡ log_after g before (root_settles g g.game.graph.vertices)
 
 -- a round: a turn of each vertex, and then a settle of each root edge
 abbrev pub IsRound : Setting → Log → Log → Type 0
-IsRound g before after = (between : Log) × AreTurns g g.graph.vertices before between × AreRootsSettled g between after
+IsRound g before after = (between : Log) × AreTurns g g.game.graph.vertices before between × AreRootsSettled g between after
 
 -- the root isn't closed
 abbrev pub IsOpen : Setting → Log → Type 0

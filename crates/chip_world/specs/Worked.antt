@@ -1,7 +1,8 @@
 -- A worked drive, as the definitions compute it.
-use Rattle.std.specs.Prelude.{◌≡◌, ◌^◌, false, [], ◌∷◌}
-use Rattle.chip_part.specs.Setting.{Setting}
-use Rattle.chip_part.specs.Worked.{small_triangle, saw}
+use Rattle.std.specs.Prelude.{◌≡◌, ◌^◌, [], ◌∷◌}
+use Rattle.chip_part.specs.Setting.{Setting, setting_of}
+use Rattle.chip_part.specs.Worked.{small_triangle}
+use Rattle.chip_part.specs.Steps.{saw}
 use Rattle.chip_core.specs.Core.{Take, Ack, Settle}
 use Rattle.chip_world.specs.declared.world.driving.Drive.TheVariants.{Closed, Unfinished}
 use Rattle.chip_world.specs.Rounds.{root_settles, IsDrive}
@@ -12,13 +13,8 @@ TriangleRootEdges = root_settles (small_triangle (4 ∷ 0 ∷ 0 ∷ [])) 3 ≡ S
 
 -- the sink alone, with five chips
 abbrev pub sink_alone : Setting
-sink_alone = record {
-  graph = record { vertices = 1; sink = 0; edges = [] };
-  start = 5 ∷ [];
-  limit = 2 ^ 40;
-  ring = 1;
-  fed = false;
-}
+sink_alone =
+    setting_of (record { graph = record { vertices = 1; sink = 0; edges = [] }; start = 5 ∷ []; limit = 2 ^ 40 }) 1
 
 -- it takes its chips and acknowledges them, and the root settles them: one round of ten is enough
 abbrev pub OneRoundCloses : Type 0

@@ -35,8 +35,8 @@ pub record StandsForLog (g : Setting) (log : Log) (w : WorldState) : Type 0 wher
   pub setting : w.setting ≡ g
   pub is_setting : IsSetting g
   pub legal : IsLegalLog g log
-  pub actors_each : length w.actors ≡ g.graph.vertices
-  pub actors : (v : ℕ) → v < g.graph.vertices → (d : vertex.Actor) → IsActor g log v (slice_index_or w.actors v d)
+  pub actors_each : length w.actors ≡ g.game.graph.vertices
+  pub actors : (v : ℕ) → v < g.game.graph.vertices → (d : vertex.Actor) → IsActor g log v (slice_index_or w.actors v d)
   pub words_each : length w.words ≡ all_edges g
   pub words : (e : ℕ) → e < all_edges g → (d : EdgeState) → ShowsEdge g log e (slice_index_or w.words e d)
   pub root_stands : RootStandsFor g (part_in g log (root g)) w.root
@@ -63,7 +63,7 @@ Steps old new x reply = WhateverLog old (λ g log. MakesStep g log x new reply)
 
 -- the operation is the one that an event of the vertex v needs, whose rules are met
 pub record IsDueFor (g : Setting) (log : Log) (v : ℕ) (act : Act) : Type 0 where
-  pub inside : v < g.graph.vertices
+  pub inside : v < g.game.graph.vertices
   pub mine : part_of g (event_of v act) ≡ v
   pub met : unmet g (event_of v act) (part_in g log v) ≡ None
   pub needed : act ≡ act_of g (event_of v act) (part_in g log v)
@@ -73,11 +73,11 @@ abbrev pub first_chips : ChipGame → ℕ → ℕ
 first_chips game e = if nat_lt e (length game.graph.edges) then 0
     else slice_index game.start (e - length game.graph.edges)
 
--- the words of the first edges as the game opens, with rings of so many cells
-pub record AreOpeningWords (game : ChipGame) (ring count : ℕ) (words : List EdgeState) : Type 0 where
+-- the words of the first edges as the game opens
+pub record AreOpeningWords (g : Setting) (count : ℕ) (words : List EdgeState) : Type 0 where
   pub count_is : length words ≡ count
   pub each : (e : ℕ) → e < count → (d : EdgeState)
-      → slice_index_or words e d ≡ opening_words ring (first_chips game e)
+      → slice_index_or words e d ≡ opening_words g.ring (first_chips g.game e)
 
 -- an actor for each of the first vertices as the game opens
 pub record AreOpeningActors (g : Setting) (count : ℕ) (actors : List vertex.Actor) : Type 0 where

@@ -4,7 +4,7 @@ ghost use Rattle.chip_link.specs.Words.{exchanged};
 
 use chip_graph::Game;
 use chip_link::{EdgeWord, Ring};
-use chip_part::Act;
+use chip_part::{Act, Setting};
 use std::alloc::{AllocError, Global};
 use std::marker::Model;
 
@@ -105,14 +105,16 @@ impl Words {
     ghost use Rattle.chip_world.specs.SharedWords.{HasCell, cell_of, words_of, changed, with_cell, with_claim};
     ghost use Rattle.chip_world.specs.SharedWords.{with_acks, with_seal, opening_words, seen_in, words_after};
     ghost use Rattle.chip_world.specs.SharedWords.{CanPerform};
+    ghost use Rattle.chip_part.specs.Edges.{all_edges};
     ghost use Rattle.chip_world.specs.World.{AreOpeningWords};
 
     /// The words of a game that opens.
-    pub(crate) fn new(alloc: Global, game: &Game, ring: Ring) -> Result<Words, AllocError>
-        ensures { IfOk result
-            (AreOpeningWords game.now ring (length game.now.graph.edges + game.now.graph.vertices)) }
+    pub(crate) fn new(alloc: Global, setting: &Setting) -> Result<Words, AllocError>
+        ensures { IfOk result (AreOpeningWords setting.now (all_edges setting.now)) }
     {
-        let all_edges = game.graph().edges().len() + game.start().len();
+        let game = setting.game();
+        let ring = setting.ring();
+        let all_edges = setting.all_edges() as usize;
         let mut edges = Vec::with_capacity(alloc, all_edges)?;
         for edge in 0..all_edges {
             edges.push_reserved(EdgeWords::new(alloc, ring, first_chips(game, edge))?);

@@ -11,7 +11,7 @@ use crate::words::{Words, stored_by};
 use chip_actor::ActorState;
 use chip_graph::Game;
 use chip_link::{EdgeWord, Event, FiredWord, Message, Ring};
-use chip_part::{Act, Cause, Observed, Reply, Rule};
+use chip_part::{Act, Cause, Observed, Reply, Rule, Setting};
 use chip_root::RootState;
 pub use driving::Drive;
 pub use running::Record;
@@ -23,30 +23,26 @@ use std::marker::Model;
 /// Contracts see it as plain data (`specs/World.antt`) and say what it does to the log of the core that it stands for.
 #[derive(Drop)]
 pub struct World {
-    game: Game,
-    ring: Ring,
-    // Whether the root may feed chips.
-    fed: bool,
+    setting: Setting,
     actors: Vec<ActorState>,
     shared: TurnWords,
     root: RootState,
 }
 
 impl Model for World {
-    ghost use Rattle.chip_part.specs.Setting.{setting_with};
     ghost use Rattle.chip_world.specs.World.{WorldState, SomeLog};
 
     ghost Value = { WorldState };
 
     ghost view = { λ a. record {
-      setting = setting_with a.game a.ring a.fed;
+      setting = a.setting;
       actors = a.actors.items;
       words = a.shared.words;
       root = a.root;
     } };
 
     ghost invariant = { λ a. SomeLog (record {
-      setting = setting_with a.game a.ring a.fed;
+      setting = a.setting;
       actors = a.actors.items;
       words = a.shared.words;
       root = a.root;
@@ -58,96 +54,56 @@ impl World {
     ghost use Rattle.chip_link.specs.Link.{claims_of, sent_counts};
     ghost use Rattle.chip_core.specs.Messages.{in_flight};
     ghost use Rattle.std.specs.Vec.{vec_len, vec_capacity};
-    ghost use Rattle.chip_part.specs.Setting.{setting_of, setting_with, game_of_setting};
+    ghost use Rattle.chip_part.specs.Setting.{setting_of, setting_with};
     ghost use Rattle.chip_part.specs.Edges.{graph_edges, all_edges};
-    ghost use Rattle.chip_world.specs.Makers.{head_if, tail_if, vertex_if, vertex_of, is_of_others, is_by_act};
-    ghost use Rattle.chip_part.specs.Part.{opened};
-    ghost use Rattle.chip_root.specs.Root.{RootStandsFor};
+    ghost use Rattle.chip_world.specs.Makers.{vertex_if, vertex_of, is_of_others, is_by_act};
     ghost use Rattle.chip_part.specs.Acting.{is_of_root};
     ghost use Rattle.chip_part.specs.Acting.{event_of};
     ghost use Rattle.chip_world.specs.World.{StandsForLog, SomeLog, WhateverLog, SomeLogWhere, IsDueFor, MakesStep};
     ghost use Rattle.chip_world.specs.World.{Steps};
     ghost use Rattle.chip_link.specs.declared.event.Event.TheVariants.{Seal, Settle, Read};
 
-    /// A game that opens: no vertex has chips yet, and those that it starts with are on its root edge.
+    /// A game that opens: no vertex has chips yet, and those that it starts with are on its root edge. Nothing can be fed.
     pub fn open(alloc: Global, game: &Game, ring: Ring) -> Result<World, AllocError>
         ensures { IfOk result (StandsForLog (setting_of game.now ring) []) }
     {
-        let root = RootState::new(alloc, game)?;
-        World::with_root(alloc, game, ring, false, root)
+        World::of(alloc, Setting::of_copy(alloc, game, ring, false)?)
     }
 
     /// The same where the root may feed more chips, until it notes the end of feeding.
     pub fn open_fed(alloc: Global, game: &Game, ring: Ring) -> Result<World, AllocError>
         ensures { IfOk result (StandsForLog (setting_with game.now ring true) []) }
     {
-        let root = RootState::new_fed(alloc, game, ring)?;
-        World::with_root(alloc, game, ring, true, root)
+        World::of(alloc, Setting::of_copy(alloc, game, ring, true)?)
     }
 
-    // A game that opens with this root, fed or not.
-    fn with_root(
-        alloc: Global,
-        game: &Game,
-        ring: Ring,
-        fed: bool,
-        root: RootState,
-    ) -> Result<World, AllocError>
-        requires { let g = setting_with game.now ring fed in RootStandsFor g (opened g) root }
-        ensures { IfOk result (StandsForLog (setting_with game.now ring fed) []) }
+    /// A game that opens, set up so. Where no chips are fed, the end of feeding is noted from the beginning.
+    pub fn of(alloc: Global, setting: Setting) -> Result<World, AllocError>
+        ensures { IfOk result (StandsForLog setting []) }
     {
-        let actors = opening_actors(alloc, game, ring)?;
-        let words = Words::new(alloc, game, ring)?;
+        let actors = opening_actors(alloc, &setting)?;
+        let words = Words::new(alloc, &setting)?;
+        let root = RootState::new(alloc, &setting)?;
         Ok(World {
-            game: game.copy(alloc)?,
-            ring,
-            fed,
+            setting,
             actors,
             shared: TurnWords { words, fired: 0 },
             root,
         })
     }
 
-    /// The game in play, of which some log leaves this world.
-    pub fn game(&self) -> &Game
-        ensures value { result.now ≡ game_of_setting self.now.setting }
+    /// How the game is set up, of which some log leaves this world.
+    pub fn setting(&self) -> &Setting
+        ensures value { result.now ≡ self.now.setting }
         ensures some_log { SomeLog self.now }
     {
-        &self.game
-    }
-
-    // The head of an edge, if it is one.
-    fn head(&self, edge: u64) -> Option<u64>
-        ensures { result ≡ head_if self.now.setting edge }
-    {
-        let graph = self.game.graph();
-        let edges = graph.edges();
-        let graph_edges = edges.len() as u64;
-        if edge < graph_edges {
-            Some(edges[edge as usize].head)
-        } else if edge - graph_edges < graph.vertices() {
-            Some(edge - graph_edges)
-        } else {
-            None
-        }
-    }
-
-    // The tail of an edge of the graph, if it is one.
-    fn tail(&self, edge: u64) -> Option<u64>
-        ensures { result ≡ tail_if self.now.setting edge }
-    {
-        let edges = self.game.graph().edges();
-        if edge < edges.len() as u64 {
-            Some(edges[edge as usize].tail)
-        } else {
-            None
-        }
+        &self.setting
     }
 
     fn vertex(&self, vertex: u64) -> Option<u64>
         ensures { result ≡ vertex_if self.now.setting vertex }
     {
-        if vertex < self.game.graph().vertices() {
+        if vertex < self.setting.vertices() {
             Some(vertex)
         } else {
             None
@@ -159,23 +115,13 @@ impl World {
         ensures { result ≡ vertex_of self.now.setting event }
     {
         match event {
-            Event::Take(edge) | Event::Ack(edge) => self.head(edge),
+            Event::Take(edge) | Event::Ack(edge) => self.setting.head(edge),
             Event::Clear(edge) | Event::Claim(edge) | Event::Put(edge) | Event::Settle(edge) => {
-                self.tail(edge)
+                self.setting.tail(edge)
             }
             Event::Fire { vertex, .. } | Event::Halt(vertex) => self.vertex(vertex),
             Event::Seal(_) | Event::Read(_) | Event::Feed { .. } | Event::End => None,
         }
-    }
-
-    /// How many edges there are, the root's among them.
-    pub(crate) fn all_edges(&self) -> usize
-        ensures value { result ≡ all_edges self.now.setting }
-        ensures few { result ≤ 69632 }
-        ensures some { SomeLog self.now }
-    {
-        let graph = self.game.graph();
-        graph.edges().len() + graph.vertices() as usize
     }
 
     // The chips of the message that is claimed on an edge and not put, if there is one.
@@ -183,7 +129,7 @@ impl World {
         ensures { WhateverLog self.now (λ g log. result ≡ sum (option_to_list (out_in g log edge).link.held)) }
     {
         let put = Event::Put(edge);
-        let due = match self.tail(edge) {
+        let due = match self.setting.tail(edge) {
             Some(tail) => self.actors[tail as usize].may(&put),
             None => self.root.may(&put),
         };
@@ -200,7 +146,10 @@ impl World {
             → place < claims_of (out_in g log edge).link
             → result ≡ slice_index (sent_counts (out_in g log edge).link) place) }
     {
-        let count = self.shared.words.load(edge, place % self.ring.cells());
+        let count = self
+            .shared
+            .words
+            .load(edge, place % self.setting.ring().cells());
         if count == 0 { self.held(edge) } else { count }
     }
 
@@ -217,7 +166,7 @@ impl World {
         ensures room { IfOk result (λ v. vec_len v + room ≤ vec_capacity v) }
     {
         // With a field read, the proof has the world's invariant: some log leaves it.
-        let _ring = self.ring;
+        let _setting = &self.setting;
         let first = self.delivered(edge);
         let claims = self.sent(edge);
         let mut messages = Vec::with_capacity(alloc, (claims - first) as usize + room)?;
@@ -259,7 +208,7 @@ impl World {
     fn seal(&mut self, edge: u64) -> Reply
         ensures { Steps self.old self.new (Seal edge) result }
     {
-        if edge >= self.game.graph().edges().len() as u64 {
+        if edge >= self.setting.graph_edges() {
             return Reply::NotNow(Rule::NoSuch);
         }
         Reply::Done(EdgeWord::from_word(self.shared.words.seal(edge)).claims)
@@ -297,7 +246,7 @@ impl World {
     pub fn step(&mut self, event: Event) -> Reply
         ensures { Steps self.old self.new event result }
     {
-        let graph_edges = self.game.graph().edges().len() as u64;
+        let graph_edges = self.setting.graph_edges();
         match event {
             Event::Seal(edge) => self.seal(edge),
             Event::Read(vertex) => self.read(vertex),
@@ -329,14 +278,14 @@ impl World {
         requires { edge < all_edges self.now.setting }
         ensures { WhateverLog self.now (λ g log. result ≡ length (into_in g log edge).got) }
     {
-        let head = self.head(edge).unwrap();
+        let head = self.setting.head(edge).unwrap();
         let owed = self.actors[head as usize].detect().owed(edge);
         self.shared.words.acknowledged(edge) + owed
     }
 
     /// How many chips this vertex holds.
     pub fn chips(&self, vertex: u64) -> u64
-        requires { vertex < self.now.setting.graph.vertices }
+        requires { vertex < self.now.setting.game.graph.vertices }
         ensures { WhateverLog self.now (λ g log. result ≡ (part_in g log vertex).chips) }
     {
         self.actors[vertex as usize].chips()
@@ -344,7 +293,7 @@ impl World {
 
     /// How often it fired.
     pub fn fired(&self, vertex: u64) -> u64
-        requires { vertex < self.now.setting.graph.vertices }
+        requires { vertex < self.now.setting.game.graph.vertices }
         ensures { WhateverLog self.now (λ g log. result ≡ fired_by g log vertex) }
     {
         self.actors[vertex as usize].fired()
@@ -352,18 +301,18 @@ impl World {
 
     /// Why it halted, where it did.
     pub fn halted(&self, vertex: u64) -> Option<Cause>
-        requires { vertex < self.now.setting.graph.vertices }
+        requires { vertex < self.now.setting.game.graph.vertices }
         ensures { WhateverLog self.now (λ g log. result ≡ (part_in g log vertex).halt) }
     {
         self.actors[vertex as usize].halted()
     }
 }
 
-ghost use Rattle.chip_part.specs.Setting.{setting_with, IsSetting};
+ghost use Rattle.chip_part.specs.Setting.{IsSetting};
 ghost use Rattle.chip_world.specs.World.{AreOpeningActors};
 ghost use Rattle.chip_actor.specs.Actor.{SomePart, WhateverPart};
 ghost use Rattle.chip_core.specs.Core.{word_of_part};
-ghost use Rattle.std.specs.Prelude.{⊤, Bool};
+ghost use Rattle.std.specs.Prelude.{⊤};
 
 /// The word that stands for the firings and the halt of a vertex.
 fn fired_word(actor: &ActorState) -> u64
@@ -380,14 +329,14 @@ fn fired_word(actor: &ActorState) -> u64
 }
 
 /// An actor for each vertex.
-fn opening_actors(alloc: Global, game: &Game, ring: Ring) -> Result<Vec<ActorState>, AllocError>
-    ensures setting { (fed : Bool) → IsSetting (setting_with game.now ring fed) }
-    ensures actors { IfOk result (λ actors. (fed : Bool) →
-        AreOpeningActors (setting_with game.now ring fed) game.now.graph.vertices actors.items) }
+fn opening_actors(alloc: Global, setting: &Setting) -> Result<Vec<ActorState>, AllocError>
+    ensures setting { IsSetting setting.now }
+    ensures actors { IfOk result
+        (λ actors. AreOpeningActors setting.now setting.now.game.graph.vertices actors.items) }
 {
-    // With the cells read, the proof knows that the ring is in range.
-    let _cells = ring.cells();
-    let vertices = game.graph().vertices();
+    let game = setting.game();
+    let ring = setting.ring();
+    let vertices = setting.vertices();
     let mut actors = Vec::with_capacity(alloc, vertices as usize)?;
     for vertex in 0..vertices {
         actors.push_reserved(ActorState::new(alloc, game, vertex, ring)?);

@@ -92,8 +92,8 @@ fn fed_out_of_turn(rt: HostRuntime) {
 #[test]
 fn unfed(rt: HostRuntime) {
     let steps = [
-        (Event::Clear(4), Reply::NotNow(Rule::NoSuch)),
-        (Event::Put(4), Reply::NotNow(Rule::NoSuch)),
+        (Event::Clear(4), Reply::NotNow(Rule::Ended)),
+        (Event::Put(4), Reply::NotNow(Rule::NotClaimed)),
         (feed!(4, 1), Reply::NotNow(Rule::Ended)),
         (feed!(7, 1), Reply::NotNow(Rule::NoSuch)),
         (Event::End, Reply::Done(0)),

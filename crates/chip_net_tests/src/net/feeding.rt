@@ -22,7 +22,7 @@ fn open_triangle(
 ) -> Result<(Net, Root, Vec<Actor>), Fail>
     ensures root { IfOk result (λ r. r.1.net ≡ r.0) }
     ensures actors { IfOk result (λ r. All (λ a. a.net ≡ r.0) r.2.items) }
-    ensures vertices { IfOk result (λ r. 0 < r.0.setting.graph.vertices) }
+    ensures vertices { IfOk result (λ r. 0 < r.0.setting.game.graph.vertices) }
 {
     let alloc = rt.alloc();
     let game = game(alloc, &TRIANGLE, start, LIMIT)?;
@@ -40,7 +40,7 @@ fn expect_feed(
     answer: Result<u64, FeedFault>,
 )
     requires net { root.old.net ≡ net.now }
-    requires vertices { 0 < net.now.setting.graph.vertices }
+    requires vertices { 0 < net.now.setting.game.graph.vertices }
     requires count { 1 ≤ count }
     ensures { root.new.net ≡ root.old.net }
 {
@@ -67,7 +67,7 @@ fn expect_four_chips(rt: &impl Abort, net: &Net, root: Root)
 /// Feeds four chips at once, and notes the end.
 fn feed_four(rt: &impl Abort, net: &Net, mut root: Root) -> Root
     requires root { root.net ≡ net.now }
-    requires vertices { 0 < net.now.setting.graph.vertices }
+    requires vertices { 0 < net.now.setting.game.graph.vertices }
     ensures { result.net ≡ net.now }
 {
     expect_poll(rt, net, &mut root, RootState::Running(0));
@@ -91,7 +91,7 @@ fn four_fed(rt: HostRuntime) -> Result<(), Fail> {
 fn feed_twice(rt: &impl Abort, net: &Net, mut root: Root, actors: &mut Vec<Actor>) -> Root
     requires root { root.net ≡ net.now }
     requires actors { All (λ a. a.net ≡ net.now) actors.old.items }
-    requires vertices { 0 < net.now.setting.graph.vertices }
+    requires vertices { 0 < net.now.setting.game.graph.vertices }
     ensures root { result.net ≡ net.now }
     ensures actors { All (λ a. a.net ≡ net.now) actors.new.items }
 {
@@ -105,7 +105,7 @@ fn feed_twice(rt: &impl Abort, net: &Net, mut root: Root, actors: &mut Vec<Actor
 /// The end closes a net with nothing outstanding, and nothing is fed after it.
 fn end_twice(rt: &impl Abort, net: &Net, mut root: Root) -> Root
     requires root { root.net ≡ net.now }
-    requires vertices { 0 < net.now.setting.graph.vertices }
+    requires vertices { 0 < net.now.setting.game.graph.vertices }
     ensures { result.net ≡ net.now }
 {
     expect_poll(rt, net, &mut root, RootState::Running(0));
@@ -130,7 +130,7 @@ fn fed_twice(rt: HostRuntime) -> Result<(), Fail> {
 /// A chip for the first vertex is refused.
 fn expect_refused(rt: &impl Abort, net: &Net, mut root: Root, fault: FeedFault)
     requires root { root.net ≡ net.now }
-    requires vertices { 0 < net.now.setting.graph.vertices }
+    requires vertices { 0 < net.now.setting.game.graph.vertices }
 {
     expect_feed(rt, net, &mut root, 1, Err(fault));
 }
@@ -161,7 +161,7 @@ fn not_for_feeding(rt: HostRuntime) -> Result<(), Fail> {
 /// Feeds so many single chips to the first vertex, notes the end, and polls until the root is closed.
 fn feed_until(net: &Net, closed: &AtomicBool, mut root: Root, chips: u64) -> Root
     requires root { root.net ≡ net.now }
-    requires vertices { 0 < net.now.setting.graph.vertices }
+    requires vertices { 0 < net.now.setting.game.graph.vertices }
     ensures { result.net ≡ net.now }
 {
     let mut left = chips;
@@ -182,7 +182,7 @@ fn feed_until(net: &Net, closed: &AtomicBool, mut root: Root, chips: u64) -> Roo
 fn turn_and_feed<R: Threads>(rt: &R, net: &Net, actors: Vec<Actor>, root: Root, chips: u64) -> Root
     requires actors { All (λ a. a.net ≡ net.now) actors.items }
     requires root { root.net ≡ net.now }
-    requires vertices { 0 < net.now.setting.graph.vertices }
+    requires vertices { 0 < net.now.setting.game.graph.vertices }
     ensures { result.net ≡ net.now }
 {
     let closed = AtomicBool::new(false);
@@ -193,7 +193,7 @@ fn turn_and_feed<R: Threads>(rt: &R, net: &Net, actors: Vec<Actor>, root: Root, 
             requires { All (λ a. a.net ≡ net.now) actors.items }
         { turn_until(net, closed, actors) },
         move || -> Root
-            requires { (root.net ≡ net.now) × (0 < net.now.setting.graph.vertices) }
+            requires { (root.net ≡ net.now) × (0 < net.now.setting.game.graph.vertices) }
             ensures { result.net ≡ net.entry.now }
         { feed_until(net, closed, root, chips) },
     );

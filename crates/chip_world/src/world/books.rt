@@ -12,7 +12,7 @@ impl World {
 
     /// The edge of the message that engaged this vertex, where it is engaged.
     pub fn parent(&self, vertex: u64) -> Option<u64>
-        requires { vertex < self.now.setting.graph.vertices }
+        requires { vertex < self.now.setting.game.graph.vertices }
         ensures { WhateverLog self.now (λ g log. result ≡ (part_in g log vertex).parent) }
     {
         self.actors[vertex as usize].detect().parent()
@@ -20,7 +20,7 @@ impl World {
 
     /// How many acknowledgements this vertex waits for, on all edges out of it.
     pub fn deficit(&self, vertex: u64) -> u64
-        requires { vertex < self.now.setting.graph.vertices }
+        requires { vertex < self.now.setting.game.graph.vertices }
         ensures { WhateverLog self.now (λ g log. result ≡ deficit g vertex (part_in g log vertex)) }
     {
         self.actors[vertex as usize].detect().deficit()
@@ -38,7 +38,7 @@ impl World {
         requires { edge < all_edges self.now.setting }
         ensures { WhateverLog self.now (λ g log. result ≡ owed (into_in g log edge)) }
     {
-        let head = self.head(edge).unwrap();
+        let head = self.setting.head(edge).unwrap();
         self.actors[head as usize].detect().owed(edge)
     }
 }

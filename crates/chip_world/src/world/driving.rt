@@ -19,7 +19,7 @@ impl World {
 
     /// One whole turn of a vertex, over the shared words.
     fn turn(&mut self, vertex: u64)
-        requires { SomeLogWhere self.old (λ g log. vertex < g.graph.vertices) }
+        requires { SomeLogWhere self.old (λ g log. vertex < g.game.graph.vertices) }
         ensures { Leads self.old self.new (λ g before after. IsTurnAfter g vertex before after) }
     {
         let actor = &mut self.actors[vertex as usize];
@@ -30,9 +30,9 @@ impl World {
 
     /// A turn of each vertex.
     fn turns(&mut self)
-        ensures { Leads self.old self.new (λ g before after. AreTurns g g.graph.vertices before after) }
+        ensures { Leads self.old self.new (λ g before after. AreTurns g g.game.graph.vertices before after) }
     {
-        for vertex in 0..self.game.graph().vertices() {
+        for vertex in 0..self.setting.vertices() {
             self.turn(vertex);
         }
     }
@@ -41,10 +41,9 @@ impl World {
     fn settle_roots(&mut self)
         ensures { Leads self.old self.new AreRootsSettled }
     {
-        let graph = self.game.graph();
-        let graph_edges = graph.edges().len() as u64;
-        for vertex in 0..graph.vertices() {
-            self.of_root(Event::Settle(graph_edges + vertex));
+        for vertex in 0..self.setting.vertices() {
+            let edge = self.setting.root_edge(vertex);
+            self.of_root(Event::Settle(edge));
         }
     }
 

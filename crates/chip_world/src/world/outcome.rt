@@ -1,14 +1,14 @@
-ghost use Rattle.std.specs.Prelude.{◌≡◌, ◌↔◌, ℕ, length, slice_index, IfOk, IsErrOf};
+ghost use Rattle.std.specs.Prelude.{◌≡◌, ◌↔◌, IfOk, IsErrOf};
 
 use super::World;
 use crate::fault::WorldFault;
-use chip_graph::Game;
 use chip_part::Cause;
-use chip_sequence::{AfterFault, Outcome, after};
+use chip_sequence::{Outcome, after_from};
 use std::alloc::{AllocError, Global};
 
 impl World {
     ghost use Rattle.chip_sequence.specs.Outcomes.{IsOutcome};
+    ghost use Rattle.chip_sequence.specs.Counted.{IsAfter};
     ghost use Rattle.chip_sequence.specs.Play.{IsPlayed};
     ghost use Rattle.chip_core.specs.Core.{IsClosed};
     ghost use Rattle.chip_core.specs.Positions.{started, played_game, firings};
@@ -35,8 +35,7 @@ impl World {
             return Err(WorldFault::NotClosed);
         }
         let fired = self.all_fired(alloc)?;
-        let game = self.played_game(alloc)?;
-        let chips = chips_after(alloc, &game, &fired)?;
+        let chips = self.chips_after(alloc, &fired)?;
         Ok(Outcome {
             fired,
             chips,
@@ -45,27 +44,27 @@ impl World {
         })
     }
 
-    // The game with all that its vertices were given, at the start and by feeds.
-    fn played_game(&self, alloc: Global) -> Result<Game, AllocError>
+    // The chips of each vertex by how often each fired, from what each was given at the start and by feeds.
+    fn chips_after(&self, alloc: Global, fired: &[u64]) -> Result<Vec<u64>, AllocError>
+        requires { WhateverLog self.now (λ g log. AreFired g log g.game.graph.vertices fired.now) }
         ensures some { SomeLog self.now }
-        ensures game { IfOk result (λ game. WhateverLog self.now (λ g log. game ≡ played_game g log)) }
+        ensures chips { IfOk result (λ chips. WhateverLog self.now
+            (λ g log. IsAfter (played_game g log) fired.now chips.items)) }
     {
-        if !self.fed {
-            return self.game().copy(alloc);
-        }
-        let graph = self.game().graph().copy(alloc)?;
-        let start = Vec::from_slice(alloc, self.root.given())?;
-        match Game::new(graph, start, self.game().limit()) {
-            Ok(game) => Ok(game),
+        let graph = self.setting().game().graph();
+        let given = self.root.given();
+        let mut chips = vec![in alloc; 0; fired.len()]?;
+        match after_from(graph, given, fired, &mut chips) {
+            Ok(()) => Ok(chips),
             Err(_) => unreachable!(),
         }
     }
 
     // How often each vertex fired.
     fn all_fired(&self, alloc: Global) -> Result<Vec<u64>, AllocError>
-        ensures { IfOk result (λ fired. WhateverLog self.now (λ g log. AreFired g log g.graph.vertices fired.items)) }
+        ensures { IfOk result (λ fired. WhateverLog self.now (λ g log. AreFired g log g.game.graph.vertices fired.items)) }
     {
-        let vertices = self.game().graph().vertices();
+        let vertices = self.setting().vertices();
         let mut fired = Vec::with_capacity(alloc, vertices as usize)?;
         for vertex in 0..vertices {
             fired.push_reserved(self.fired(vertex));
@@ -76,30 +75,14 @@ impl World {
     // The vertices that halted for this cause, ascending.
     fn halted_by(&self, alloc: Global, cause: Cause) -> Result<Vec<u64>, AllocError>
         ensures { IfOk result (λ halted. WhateverLog self.now
-            (λ g log. halted.items ≡ halted_by g log cause g.graph.vertices)) }
+            (λ g log. halted.items ≡ halted_by g log cause g.game.graph.vertices)) }
     {
         let mut halted = Vec::new(alloc);
-        for vertex in 0..self.game().graph().vertices() {
+        for vertex in 0..self.setting().vertices() {
             if self.halted(vertex) == Some(cause) {
                 halted.push(vertex)?;
             }
         }
         Ok(halted)
-    }
-}
-
-ghost use Rattle.chip_sequence.specs.Counted.{IsBelowZero, IsAfter};
-
-/// The chips of each vertex after firings that were made, so that none is below 0.
-fn chips_after(alloc: Global, game: &Game, fired: &[u64]) -> Result<Vec<u64>, AllocError>
-    requires counts_each { length fired.now ≡ game.now.graph.vertices }
-    requires none_below { (v : ℕ) → IsBelowZero game.now.graph (slice_index game.now.start) (slice_index fired.now) v
-        → ⊥ }
-    ensures { IfOk result (λ chips. IsAfter game.now fired.now chips.items) }
-{
-    match after(alloc, game, fired) {
-        Ok(chips) => Ok(chips),
-        Err(AfterFault::NoMemory) => Err(AllocError),
-        Err(AfterFault::Negative(_)) => unreachable!(),
     }
 }

@@ -118,7 +118,7 @@ impl World {
         ensures begins { IfOk result
             (λ notes. WhateverLog self.now (λ g log. IsNotedUpTo g log events.now log events.now notes)) }
     {
-        let all_edges = self.all_edges();
+        let all_edges = self.setting.all_edges() as usize;
         let tally = Tally::new(alloc, all_edges, events)?;
         let mut sent = Lanes::new(alloc);
         let mut delivered = Lanes::new(alloc);

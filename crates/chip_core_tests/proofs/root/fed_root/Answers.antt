@@ -1,4 +1,4 @@
-use Rattle.std.proofs.Common.{◌≡◌, ◌∙◌, ◌^◌, ℕ, List, [], ◌∷◌, true, refl}
+use Rattle.std.proofs.Common.{◌≡◌, ◌∙◌, ◌^◌, ℕ, List, [], ◌∷◌, true, refl, ap}
 use Rattle.chip_part.specs.declared.reply.Reply.TheVariants.{Empty}
 use Rattle.chip_part.specs.Setting.{Setting, setting_with}
 use Rattle.chip_part.specs.Part.{opened}
@@ -15,15 +15,19 @@ questions = (Feed 4 3, 0, Empty) ∷ (Clear 4, 0, Empty) ∷ (Feed 4 0, 0, Empty
     ∷ (Settle 6, 1, Empty) ∷ (Settle 4, 1, Empty) ∷ (Read 0, 0, Empty) ∷ (End, 1, Empty) ∷ (Clear 4, 0, Empty)
     ∷ (Feed 4 1, 0, Empty) ∷ (Read 0, 1, Empty) ∷ []
 
-plays : may_play_root (setting_with (game_on 3 ((0, 1) ∷ (0, 2) ∷ (1, 0) ∷ (1, 2) ∷ []) (0 ∷ 0 ∷ 1 ∷ [])) 1 true)
-    (opened (setting_with (game_on 3 ((0, 1) ∷ (0, 2) ∷ (1, 0) ∷ (1, 2) ∷ []) (0 ∷ 0 ∷ 1 ∷ [])) 1 true)) questions ≡ true
+-- how the game of the test is set up
+abbrev here : Setting
+here = setting_with (game_on 3 ((0, 1) ∷ (0, 2) ∷ (1, 0) ∷ (1, 2) ∷ []) (0 ∷ 0 ∷ 1 ∷ [])) 1 true
+
+plays : may_play_root here (opened here) questions ≡ true
 plays = refl
 
 pub play_root-requires : goal.play_root-requires
-play_root-requires g c = (
-  setting_with c.in_ok-game.game c.one.result true,
-  opened (setting_with c.in_ok-game.game c.one.result true),
-  c.in_ok-root.ensures,
-  (λ j. let g : Setting = setting_with (c.in_ok-game.ensures j) (c.one.ensures j) true in
-      may_play_root g (opened g) questions) ∙ plays,
-)
+play_root-requires g c =
+    let is : c.new-setting.result ≡ here = c.new-setting.ensures
+    ∙ (λ j. setting_with (c.in_ok-game.ensures j) (c.one.ensures j) true) in (
+      c.new-setting.result,
+      opened c.new-setting.result,
+      c.in_ok-root.ensures,
+      ap (λ (s : Setting). may_play_root s (opened s) questions) is ∙ plays,
+    )

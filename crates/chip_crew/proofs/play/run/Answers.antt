@@ -9,7 +9,7 @@ use Rattle.chip_crew.proofs.play.run.Goals as goal
 pub played_on-requires-clause-actors : goal.played_on-requires-clause-actors
 played_on-requires-clause-actors g c κs within = ours_by c.in_ok-opened.opened.0 c.args.plan.trace_rows
     c.args.game.now.graph.vertices c.in_ok-opened.opened.2.items
-    (ap (λ (s : Setting). s.graph.vertices) c.in_ok-opened.ensures.setting) c.in_ok-opened.ensures.count
+    (ap (λ (s : Setting). s.game.graph.vertices) c.in_ok-opened.ensures.setting) c.in_ok-opened.ensures.count
     c.in_ok-opened.ensures.actors
 
 pub returns-clause-finished : goal.returns-clause-finished

@@ -8,7 +8,7 @@ use Rattle.chip_crew.proofs.roll.gathered.Given as goal
 abbrev pub invariant-loop-vertex : goal.invariant-loop-vertex
 invariant-loop-vertex g l = record {
   seats : AreSeats g.B.Room.crew l.seats.items;
-  room : g.B.Room.crew.net.setting.graph.vertices ≤ vec_capacity l.actors;
+  room : g.B.Room.crew.net.setting.game.graph.vertices ≤ vec_capacity l.actors;
   count : length l.actors.items ≡ l.vertex;
   order : AreInOrder g.B.Room.crew l.actors.items;
   left : (v : ℕ) → l.vertex ≤ v → slice_get l.seats.items v ≡ slice_get l.fn.roll.seats.items v;

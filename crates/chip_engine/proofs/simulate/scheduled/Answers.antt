@@ -1,13 +1,7 @@
-use Rattle.std.proofs.Common.{string_bytes, ap, ◌∙◌}
+use Rattle.std.proofs.Common.{string_bytes}
 use Rattle.chip_link.specs.declared.event.Event.TheVariants.{Take}
-use Rattle.chip_part.specs.Setting.{Setting}
 use Rattle.chip_engine.proofs.AnswerLemmas.{one_answer_more}
 use Rattle.chip_engine.proofs.simulate.scheduled.Goals as goal
-
-pub push_answer-requires : goal.push_answer-requires
-push_answer-requires c =
-    let stepped = c.step-reply.ensures c.args.world.now.setting _ c.loop-event.invariant.0 in
-    ap (λ (g : Setting). g.graph) stepped.0.setting ∙ c.requires.graph
 
 pub loop-event-preserved : goal.loop-event-preserved
 loop-event-preserved c = one_answer_more c.args.books c.args.world.now.setting c.args.events.now

@@ -1,6 +1,6 @@
 use Rattle.std.proofs.Common.{◌≡◌, List, ℕ, inl, inr, refl, Some, Ok, Err, sym, subst, ◌∙◌}
 use Rattle.std.specs.Io.KnownBytes.{Appends}
-use Rattle.chip_part.specs.Setting.{setting_with}
+use Rattle.chip_part.specs.Setting.{Setting, setting_with}
 use Rattle.chip_report.specs.Written.{WritesAll}
 use Rattle.chip_graph.specs.Multigraph.{Multigraph}
 use Rattle.chip_link.specs.declared.event.Event.{Event}
@@ -54,7 +54,9 @@ returns-in_err-write_all_of g c = λ graph_text graph_is chips_text chips_is sch
     means_events graph_text chips_text schedule_text c.args.limit c.in_ok-game.game c.in_ok-events.events.items
     c.graph.result.now c.graph.ensures.value (c.in_ok-game.ensures graph_text graph_is chips_text chips_is) read in
     let simulates = subst (λ (xs : List Event). Simulates (setting_with c.in_ok-game.game c.args.ring c.args.fed) c.args.rounds
-    c.args.books xs c.in_ok-text.text.items c.in_ok-text.status) c.deref.ensures.value c.in_ok-text.ensures.ok in
+    c.args.books xs c.in_ok-text.text.items c.in_ok-text.status) c.deref.ensures.value
+    (subst (λ (s : Setting). Simulates s c.args.rounds c.args.books c.deref.result.now c.in_ok-text.text.items
+    c.in_ok-text.status) c.new-setting.ensures c.in_ok-text.ensures.ok) in
     let wrote = subst (λ (text : List ℕ). WritesAll (g.W.Write.contents c.args.output.now)
     (g.W.Write.contents c.write_all_of.new.writer) text (Err c.in_err-write_all_of.field-0.0)) c.deref-2.ensures.value
     c.in_err-write_all_of.ensures in
@@ -74,7 +76,9 @@ returns g c = λ graph_text graph_is chips_text chips_is schedule_text schedule_
     means_events graph_text chips_text schedule_text c.args.limit c.in_ok-game.game c.in_ok-events.events.items
     c.graph.result.now c.graph.ensures.value (c.in_ok-game.ensures graph_text graph_is chips_text chips_is) read in
     let simulates = subst (λ (xs : List Event). Simulates (setting_with c.in_ok-game.game c.args.ring c.args.fed) c.args.rounds
-    c.args.books xs c.in_ok-text.text.items c.in_ok-text.status) c.deref.ensures.value c.in_ok-text.ensures.ok in
+    c.args.books xs c.in_ok-text.text.items c.in_ok-text.status) c.deref.ensures.value
+    (subst (λ (s : Setting). Simulates s c.args.rounds c.args.books c.deref.result.now c.in_ok-text.text.items
+    c.in_ok-text.status) c.new-setting.ensures c.in_ok-text.ensures.ok) in
     let wrote = subst (λ (text : List ℕ). Appends (g.W.Write.contents c.args.output.now)
     (g.W.Write.contents c.write_all_of.new.writer) text) c.deref-2.ensures.value c.in_ok-write_all_of.ensures in (
       c.in_ok-game.game,

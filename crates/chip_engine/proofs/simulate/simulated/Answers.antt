@@ -1,4 +1,4 @@
-use Rattle.std.proofs.Common.{[], IfOk, sym, ap, ◌∙◌, subst}
+use Rattle.std.proofs.Common.{[], IfOk, sym, subst}
 use Rattle.chip_part.specs.Setting.{Setting}
 use Rattle.chip_world.specs.World.{StandsForLog}
 use Rattle.chip_engine.specs.SimulateCommand.{Simulates}
@@ -7,10 +7,7 @@ use Rattle.chip_engine.proofs.simulate.simulated.Goals as goal
 pub run-requires : goal.run-requires
 run-requires c =
     let opening = c.in_ok-world.ensures in
-    record {
-      opening = subst (λ (g : Setting). StandsForLog g [] c.in_ok-world.world) (sym opening.setting) opening;
-      graph = ap (λ (g : Setting). g.graph) opening.setting ∙ sym c.graph.ensures.value;
-    }
+    subst (λ (g : Setting). StandsForLog g [] c.in_ok-world.world) (sym opening.setting) opening
 
 pub returns-clause-ok : goal.returns-clause-ok
 returns-clause-ok c = subst

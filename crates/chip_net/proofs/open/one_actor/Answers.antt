@@ -26,8 +26,8 @@ returns-clause-others c = others (goal.at.returns-clause-others c).After-hand_on
 pub new-requires-4-clause-state : goal.new-requires-4-clause-state
 new-requires-4-clause-state c =
     let a : Actor = c.in_ok-state.state in
-    let opens : StandsFor c.setup-setup.result.now (opened c.setup-setup.result.now) a =
-    let fed : Bool = c.setup-setup.result.now.fed in
+    let opens : StandsFor c.setting-setting.result.now (opened c.setting-setting.result.now) a =
+    let fed : Bool = c.setting-setting.result.now.fed in
     subst (λ (z : ChipGame × ℕ). StandsFor (setting_with z.0 z.1 fed) (opened (setting_with z.0 z.1 fed)) a)
     (λ i. (c.game.ensures.value i, c.ring.ensures.value i)) (c.in_ok-state.ensures.opened fed) in
     subst (λ (k : ActorKnown). StandsFor k.net.setting (part_known k) a) (sym c.new-3.ensures)

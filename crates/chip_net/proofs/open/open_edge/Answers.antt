@@ -9,7 +9,7 @@ use Rattle.chip_net.proofs.open.open_edge.Goals as goal
 
 pub returns-then-chips-gt0 : goal.returns-then-chips-gt0
 returns-then-chips-gt0 c =
-    let g = c.args.setup.now in
+    let g = c.args.setting.now in
     let v = c.args.vertex in
     let chips : get_or c.start.result.now v 0
     ≡ start_of g v = ap (λ (xs : List ℕ). get_or xs v 0) (c.start.ensures.value

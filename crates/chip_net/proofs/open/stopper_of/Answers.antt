@@ -9,7 +9,7 @@ use Rattle.chip_net.proofs.open.stopper_of.Goals.{After-hand_on-own}
 
 part_is : (c : After-hand_on-own) → c.vertices-part.result + 1 ≡ stopper c.args.net.now.setting
 part_is c = ap (λ (n : ℕ). n + 1) (c.vertices-part.ensures.value
-    ∙ ap (λ (g : Setting). g.graph.vertices) c.setup.ensures.value)
+    ∙ ap (λ (g : Setting). g.game.graph.vertices) c.setting.ensures.value)
 
 left : (c : After-hand_on-own) → (p : ℕ)
     → find p c.hand_on-own.new.seat.me.0.parts

@@ -17,7 +17,7 @@ load-requires-clause-rule c =
     feeding_rule g c.args.seat.now.me c.args.event (Do.Settle c.in-Settle.edge) due
     c.words-words.result.now.shared.key.value c.words-words.ensures.key
     c.words-words.result.now.shared.table_id.slots c.args.seat.now.id c.acks_word-word.result
-    (c.acks_word-word.ensures ∙ ap (λ (h : Setting). index_of h (of_acks c.in-Settle.edge)) c.setup-setup.ensures.value)
+    (c.acks_word-word.ensures ∙ ap (λ (h : Setting). index_of h (of_acks c.in-Settle.edge)) c.setting-setting.ensures.value)
 
 pub load-requires-in-Clear-clause-place : goal.load-requires-in-Clear-clause-place
 load-requires-in-Clear-clause-place c =
@@ -28,7 +28,7 @@ load-requires-in-Clear-clause-place c =
       feeding_room g c.args.seat.now.me c.args.event (Do.Clear c.in-Clear.edge c.in-Clear.cell) due
           c.cell_word-word.result c.words-words.result.now.shared.table_id.words
           (c.cell_word-word.ensures
-          ∙ ap (λ (h : Setting). index_of h (of_cell c.in-Clear.edge c.in-Clear.cell)) c.setup-setup.ensures.value)
+          ∙ ap (λ (h : Setting). index_of h (of_cell c.in-Clear.edge c.in-Clear.cell)) c.setting-setting.ensures.value)
           (ap (λ (t : TableId). t.words) c.words-words.ensures.table ∙ c.words-words.ensures.count),
     )
 
@@ -41,7 +41,7 @@ load-requires-in-Clear-clause-rule c =
     c.words-words.result.now.shared.key.value c.words-words.ensures.key
     c.words-words.result.now.shared.table_id.slots c.args.seat.now.id c.cell_word-word.result
     (c.cell_word-word.ensures
-    ∙ ap (λ (h : Setting). index_of h (of_cell c.in-Clear.edge c.in-Clear.cell)) c.setup-setup.ensures.value)
+    ∙ ap (λ (h : Setting). index_of h (of_cell c.in-Clear.edge c.in-Clear.cell)) c.setting-setting.ensures.value)
 
 pub exchange-requires-clause-rule : goal.exchange-requires-clause-rule
 exchange-requires-clause-rule c =
@@ -52,7 +52,7 @@ exchange-requires-clause-rule c =
     feeding_rule g c.args.seat.now.me c.args.event act due
     c.words-words.result.now.shared.key.value c.words-words.ensures.key
     c.words-words.result.now.shared.table_id.slots c.args.seat.now.id c.edge_word-word.result
-    (c.edge_word-word.ensures ∙ ap (λ (h : Setting). index_of h (of_edge c.in-Claim.edge)) c.setup-setup.ensures.value)
+    (c.edge_word-word.ensures ∙ ap (λ (h : Setting). index_of h (of_edge c.in-Claim.edge)) c.setting-setting.ensures.value)
 
 pub store-requires-clause-place : goal.store-requires-clause-place
 store-requires-clause-place c =
@@ -64,7 +64,7 @@ store-requires-clause-place c =
       feeding_room g c.args.seat.now.me c.args.event act due
           c.cell_word-word-in-Put.result c.words-words.result.now.shared.table_id.words
           (c.cell_word-word-in-Put.ensures
-          ∙ ap (λ (h : Setting). index_of h (of_cell c.in-Put.edge c.in-Put.cell)) c.setup-setup.ensures.value)
+          ∙ ap (λ (h : Setting). index_of h (of_cell c.in-Put.edge c.in-Put.cell)) c.setting-setting.ensures.value)
           (ap (λ (t : TableId). t.words) c.words-words.ensures.table ∙ c.words-words.ensures.count),
     )
 
@@ -78,5 +78,5 @@ store-requires-clause-rule c =
     c.words-words.result.now.shared.key.value c.words-words.ensures.key
     c.words-words.result.now.shared.table_id.slots c.args.seat.now.id c.cell_word-word-in-Put.result
     (c.cell_word-word-in-Put.ensures
-    ∙ ap (λ (h : Setting). index_of h (of_cell c.in-Put.edge c.in-Put.cell)) c.setup-setup.ensures.value)
+    ∙ ap (λ (h : Setting). index_of h (of_cell c.in-Put.edge c.in-Put.cell)) c.setting-setting.ensures.value)
     c.in-Put.value (λ n. refl)

@@ -5,14 +5,14 @@ use Rattle.chip_net.proofs.hand.Hand.ack.Goals as goal
 
 pub acks_word-word-requires : goal.acks_word-word-requires
 acks_word-word-requires c = word_there c.self.inside c.self.invariant c.args.self.now c.self.view_is c.args.net.now
-    c.requires.net (Do.Ack c.args.edge c.args.count) c.requires.due c.setup.result.now c.setup.ensures.value
+    c.requires.net (Do.Ack c.args.edge c.args.count) c.requires.due c.setting.result.now c.setting.ensures.value
 
 pub fetch_add-requires-clause-place : goal.fetch_add-requires-clause-place
 fetch_add-requires-clause-place c = (
   same_table c.self.inside c.self.invariant c.args.self.now c.self.view_is c.args.net.now c.requires.net
       (Do.Ack c.args.edge c.args.count) c.requires.due c.words.result.now.shared.table_id c.words.ensures.table,
   word_room c.self.inside c.self.invariant c.args.self.now c.self.view_is c.args.net.now c.requires.net
-      (Do.Ack c.args.edge c.args.count) c.requires.due c.setup.result.now c.setup.ensures.value
+      (Do.Ack c.args.edge c.args.count) c.requires.due c.setting.result.now c.setting.ensures.value
       c.words.result.now.shared.table_id c.words.ensures.table c.words.ensures.count c.acks_word-word.result
       c.acks_word-word.ensures,
 )
@@ -20,7 +20,7 @@ fetch_add-requires-clause-place c = (
 pub fetch_add-requires-clause-rule : goal.fetch_add-requires-clause-rule
 fetch_add-requires-clause-rule c = act_rule c.self.inside c.self.invariant c.args.self.now c.self.view_is c.args.net.now
     c.requires.net (Do.Ack c.args.edge c.args.count) c.requires.due
-    c.words.result.now.shared.key.value c.words.ensures.key c.setup.result.now c.setup.ensures.value
+    c.words.result.now.shared.key.value c.words.ensures.key c.setting.result.now c.setting.ensures.value
     c.words.result.now.shared.table_id.slots c.acks_word-word.result c.acks_word-word.ensures
 
 pub invariant_of-self : goal.invariant_of-self

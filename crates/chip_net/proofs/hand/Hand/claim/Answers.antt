@@ -5,8 +5,8 @@ use Rattle.chip_net.proofs.hand.Hand.claim.Goals as goal
 
 pub edge_word-word-requires : goal.edge_word-word-requires
 edge_word-word-requires c = word_there c.self.inside c.self.invariant c.args.self.now c.self.view_is c.args.net.now
-    c.requires.net (Do.Claim c.args.edge c.args.expected c.args.new) c.requires.due c.setup.result.now
-    c.setup.ensures.value
+    c.requires.net (Do.Claim c.args.edge c.args.expected c.args.new) c.requires.due c.setting.result.now
+    c.setting.ensures.value
 
 pub exchange-requires-clause-place : goal.exchange-requires-clause-place
 exchange-requires-clause-place c = (
@@ -14,7 +14,7 @@ exchange-requires-clause-place c = (
       (Do.Claim c.args.edge c.args.expected c.args.new) c.requires.due c.words.result.now.shared.table_id
       c.words.ensures.table,
   word_room c.self.inside c.self.invariant c.args.self.now c.self.view_is c.args.net.now c.requires.net
-      (Do.Claim c.args.edge c.args.expected c.args.new) c.requires.due c.setup.result.now c.setup.ensures.value
+      (Do.Claim c.args.edge c.args.expected c.args.new) c.requires.due c.setting.result.now c.setting.ensures.value
       c.words.result.now.shared.table_id c.words.ensures.table c.words.ensures.count c.edge_word-word.result
       c.edge_word-word.ensures,
 )
@@ -22,7 +22,7 @@ exchange-requires-clause-place c = (
 pub exchange-requires-clause-rule : goal.exchange-requires-clause-rule
 exchange-requires-clause-rule c = act_rule c.self.inside c.self.invariant c.args.self.now c.self.view_is c.args.net.now
     c.requires.net (Do.Claim c.args.edge c.args.expected c.args.new) c.requires.due
-    c.words.result.now.shared.key.value c.words.ensures.key c.setup.result.now c.setup.ensures.value
+    c.words.result.now.shared.key.value c.words.ensures.key c.setting.result.now c.setting.ensures.value
     c.words.result.now.shared.table_id.slots c.edge_word-word.result c.edge_word-word.ensures
 
 pub invariant_of-self : goal.invariant_of-self

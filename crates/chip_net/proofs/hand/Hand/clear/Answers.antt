@@ -5,14 +5,14 @@ use Rattle.chip_net.proofs.hand.Hand.clear.Goals as goal
 
 pub cell_word-word-requires : goal.cell_word-word-requires
 cell_word-word-requires c = word_there c.self.inside c.self.invariant c.args.self.now c.self.view_is c.args.net.now
-    c.requires.net (Do.Clear c.args.edge c.args.cell) c.requires.due c.setup.result.now c.setup.ensures.value
+    c.requires.net (Do.Clear c.args.edge c.args.cell) c.requires.due c.setting.result.now c.setting.ensures.value
 
 pub load-requires-clause-place : goal.load-requires-clause-place
 load-requires-clause-place c = (
   same_table c.self.inside c.self.invariant c.args.self.now c.self.view_is c.args.net.now c.requires.net
       (Do.Clear c.args.edge c.args.cell) c.requires.due c.words.result.now.shared.table_id c.words.ensures.table,
   word_room c.self.inside c.self.invariant c.args.self.now c.self.view_is c.args.net.now c.requires.net
-      (Do.Clear c.args.edge c.args.cell) c.requires.due c.setup.result.now c.setup.ensures.value
+      (Do.Clear c.args.edge c.args.cell) c.requires.due c.setting.result.now c.setting.ensures.value
       c.words.result.now.shared.table_id c.words.ensures.table c.words.ensures.count c.cell_word-word.result
       c.cell_word-word.ensures,
 )
@@ -20,7 +20,7 @@ load-requires-clause-place c = (
 pub load-requires-clause-rule : goal.load-requires-clause-rule
 load-requires-clause-rule c = act_rule c.self.inside c.self.invariant c.args.self.now c.self.view_is c.args.net.now
     c.requires.net (Do.Clear c.args.edge c.args.cell) c.requires.due
-    c.words.result.now.shared.key.value c.words.ensures.key c.setup.result.now c.setup.ensures.value
+    c.words.result.now.shared.key.value c.words.ensures.key c.setting.result.now c.setting.ensures.value
     c.words.result.now.shared.table_id.slots c.cell_word-word.result c.cell_word-word.ensures
 
 pub invariant_of-self : goal.invariant_of-self

@@ -8,14 +8,14 @@ use Rattle.chip_net.proofs.hand.Hand.halt.Goals as goal
 
 pub fired_word-word-requires : goal.fired_word-word-requires
 fired_word-word-requires c = word_there c.self.inside c.self.invariant c.args.self.now c.self.view_is c.args.net.now
-    c.requires.net (Do.Halt c.args.by_limit) c.requires.due c.setup.result.now c.setup.ensures.value
+    c.requires.net (Do.Halt c.args.by_limit) c.requires.due c.setting.result.now c.setting.ensures.value
 
 pub fetch_or-requires-clause-place : goal.fetch_or-requires-clause-place
 fetch_or-requires-clause-place c = (
   same_table c.self.inside c.self.invariant c.args.self.now c.self.view_is c.args.net.now c.requires.net
       (Do.Halt c.args.by_limit) c.requires.due c.words.result.now.shared.table_id c.words.ensures.table,
   word_room c.self.inside c.self.invariant c.args.self.now c.self.view_is c.args.net.now c.requires.net
-      (Do.Halt c.args.by_limit) c.requires.due c.setup.result.now c.setup.ensures.value c.words.result.now.shared.table_id
+      (Do.Halt c.args.by_limit) c.requires.due c.setting.result.now c.setting.ensures.value c.words.result.now.shared.table_id
       c.words.ensures.table c.words.ensures.count c.fired_word-word.result c.fired_word-word.ensures,
 )
 
@@ -27,7 +27,7 @@ fetch_or-requires-clause-rule c = subst
     (sym c.halt_bits-bits.ensures)
     (act_rule c.self.inside c.self.invariant c.args.self.now c.self.view_is c.args.net.now c.requires.net
     (Do.Halt c.args.by_limit) c.requires.due
-    c.words.result.now.shared.key.value c.words.ensures.key c.setup.result.now c.setup.ensures.value
+    c.words.result.now.shared.key.value c.words.ensures.key c.setting.result.now c.setting.ensures.value
     c.words.result.now.shared.table_id.slots c.fired_word-word.result c.fired_word-word.ensures)
 
 pub invariant_of-self : goal.invariant_of-self

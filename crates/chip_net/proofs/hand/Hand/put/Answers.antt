@@ -5,7 +5,7 @@ use Rattle.chip_net.proofs.hand.Hand.put.Goals as goal
 
 pub cell_word-word-requires : goal.cell_word-word-requires
 cell_word-word-requires c = word_there c.self.inside c.self.invariant c.args.self.now c.self.view_is c.args.net.now
-    c.requires.net (Do.Put c.args.edge c.args.cell c.args.value) c.requires.due c.setup.result.now c.setup.ensures.value
+    c.requires.net (Do.Put c.args.edge c.args.cell c.args.value) c.requires.due c.setting.result.now c.setting.ensures.value
 
 pub store-requires-clause-place : goal.store-requires-clause-place
 store-requires-clause-place c = (
@@ -13,7 +13,7 @@ store-requires-clause-place c = (
       (Do.Put c.args.edge c.args.cell c.args.value) c.requires.due c.words.result.now.shared.table_id
       c.words.ensures.table,
   word_room c.self.inside c.self.invariant c.args.self.now c.self.view_is c.args.net.now c.requires.net
-      (Do.Put c.args.edge c.args.cell c.args.value) c.requires.due c.setup.result.now c.setup.ensures.value
+      (Do.Put c.args.edge c.args.cell c.args.value) c.requires.due c.setting.result.now c.setting.ensures.value
       c.words.result.now.shared.table_id c.words.ensures.table c.words.ensures.count c.cell_word-word.result
       c.cell_word-word.ensures,
 )
@@ -21,7 +21,7 @@ store-requires-clause-place c = (
 pub store-requires-clause-rule : goal.store-requires-clause-rule
 store-requires-clause-rule c = act_rule c.self.inside c.self.invariant c.args.self.now c.self.view_is c.args.net.now
     c.requires.net (Do.Put c.args.edge c.args.cell c.args.value) c.requires.due
-    c.words.result.now.shared.key.value c.words.ensures.key c.setup.result.now c.setup.ensures.value
+    c.words.result.now.shared.key.value c.words.ensures.key c.setting.result.now c.setting.ensures.value
     c.words.result.now.shared.table_id.slots c.cell_word-word.result c.cell_word-word.ensures
 
 pub invariant_of-self : goal.invariant_of-self

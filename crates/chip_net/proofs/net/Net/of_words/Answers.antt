@@ -8,4 +8,4 @@ use Rattle.chip_net.proofs.net.Net.of_words.Goals as goal
 
 pub of_words-requires : goal.of_words-requires
 of_words-requires c = subst (λ (g : Setting). Kept g (opening c.args.words.now [] (opening_view g)))
-    (sym c.of-key.ensures) (opens c.args.setup c.ring-ring.ensures.setting c.args.words.now c.requires)
+    (sym c.of-key.ensures) (opens c.args.setting c.ring-ring.ensures.setting c.args.words.now c.requires)

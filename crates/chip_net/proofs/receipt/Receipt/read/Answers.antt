@@ -9,13 +9,13 @@ use Rattle.chip_net.proofs.Receiving.{read_rule, still_receipt, reads, word_is}
 use Rattle.chip_net.proofs.receipt.Receipt.read.Goals as goal
 use Rattle.chip_net.proofs.receipt.Receipt.read.Goals.{After-words}
 
-here : (c : After-words) → c.args.net.now.setting ≡ c.self.inside.setup.value
+here : (c : After-words) → c.args.net.now.setting ≡ c.self.inside.setting.value
 here c = sym (ap (λ (n : NetId). n.setting) (ap (λ (r : RootKnown). r.net) c.self.view_is ∙ c.requires.net))
 
-there : (c : After-words) → c.args.vertex < c.self.inside.setup.value.graph.vertices
-there c = subst (λ (r : RootKnown). c.args.vertex < r.net.setting.graph.vertices) (sym c.self.view_is) c.requires.vertex
+there : (c : After-words) → c.args.vertex < c.self.inside.setting.value.game.graph.vertices
+there c = subst (λ (r : RootKnown). c.args.vertex < r.net.setting.game.graph.vertices) (sym c.self.view_is) c.requires.vertex
 
-same : (c : After-words) → c.words.result.now.shared.key.value ≡ c.self.inside.setup.value
+same : (c : After-words) → c.words.result.now.shared.key.value ≡ c.self.inside.setting.value
 same c = c.words.ensures.key ∙ here c
 
 over : (c : After-words) → IsOver (the_view c.self.inside)
@@ -26,7 +26,7 @@ load-requires-clause-rule c =
     let d = (goal.at.load-requires-clause-rule c).After-words in
     read_rule c.self.inside c.self.invariant c.args.vertex (there d) (over d) c.words.result.now.shared.key.value
     (same d) c.words.result.now.shared.table_id.slots c.fired_word-word.result
-    (c.fired_word-word.ensures ∙ ap (λ (g : Setting). index_of g (of_vertex c.args.vertex)) (c.setup.ensures.value ∙ here d))
+    (c.fired_word-word.ensures ∙ ap (λ (g : Setting). index_of g (of_vertex c.args.vertex)) (c.setting.ensures.value ∙ here d))
 
 pub invariant_of-self : goal.invariant_of-self
 invariant_of-self c =

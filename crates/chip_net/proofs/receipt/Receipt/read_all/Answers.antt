@@ -28,4 +28,4 @@ loop-vertex-preserved c =
     subst (λ (u : TallyState). IsReading c.args.self.now c.read.new.self u (c.loop-vertex.vertex + 1))
     (sym (c.note.ensures ∙ (λ i. tally_after (fired i) (halted i) (by_limit i) t)))
     (reads_more c.args.self.now c.loop-vertex.self c.read.new.self t c.loop-vertex.vertex c.read.result
-    (subst (λ (n : NetId). IsSetting n.setting) (sym c.requires.net) c.setup.ensures.setting) c.loop-vertex.invariant c.read.ensures.reads)
+    (subst (λ (n : NetId). IsSetting n.setting) (sym c.requires.net) c.setting.ensures.setting) c.loop-vertex.invariant c.read.ensures.reads)

@@ -1,5 +1,4 @@
 use Rattle.std.proofs.Common.{◌≡◌, ◌-◌, sym, ap, ◌∙◌, subst}
-use Rattle.chip_part.specs.Setting.{game_of_setting}
 use Rattle.chip_core.specs.Core.{End}
 use Rattle.chip_net.specs.Tokens.{NetId}
 use Rattle.chip_net.specs.Roots.{RootKnown, HoldsNothing, DoesMore, settles_from, Ends}
@@ -13,8 +12,8 @@ invariant_of-self c =
     ∙ ap (λ (r : RootKnown). r.net) c.make.ensures.made.record_is in (
       c.settle_from.ensures.holds (holds_by c.deref_mut-hand.result.now c.make.new.self End c.make.ensures.seen
           (held_end c.make.ensures.seen) c.make.ensures.made (subst HoldsNothing (sym c.deref_mut-hand.ensures.value) c.self.invariant.0)),
-      subst (λ (n : NetId). c.self.inside.reserve.value ≡ game_of_setting n.setting) (sym net)
-          (c.self.invariant.1 ∙ ap (λ (r : RootKnown). game_of_setting r.net.setting) (sym c.deref_mut-hand.ensures.value)),
+      subst (λ (n : NetId). c.self.inside.reserve.value ≡ n.setting.game.graph.vertices) (sym net)
+          (c.self.invariant.1 ∙ ap (λ (r : RootKnown). r.net.setting.game.graph.vertices) (sym c.deref_mut-hand.ensures.value)),
     )
 
 pub returns-clause-ends : goal.returns-clause-ends
@@ -23,7 +22,7 @@ returns-clause-ends c =
     let made = c.make.ensures.made in
     let net = ap (λ (r : RootKnown). r.net) made.record_is in
     let rest = subst (λ (n : NetId). DoesMore c.make.new.self c.settle_from.new.self
-    (settles_from n.setting 1 (n.setting.graph.vertices - 1))) net c.settle_from.ensures.settles in
+    (settles_from n.setting 1 (n.setting.game.graph.vertices - 1))) net c.settle_from.ensures.settles in
     subst (λ (r : RootKnown). Ends r c.settle_from.new.self c.poll_state.result) (c.deref_mut-hand.ensures.value ∙ c.self.view_is) record {
       ending = does_after hand c.make.new.self c.settle_from.new.self End c.make.ensures.seen _ made rest;
       ended = stays_over c.make.new.self c.settle_from.new.self _ c.settle_from.ensures.settles

@@ -1,5 +1,5 @@
 use Rattle.std.proofs.Common.{◌≡◌, ◌<◌, sym, ap, ◌∙◌, subst}
-use Rattle.chip_part.specs.Setting.{Setting, game_of_setting}
+use Rattle.chip_part.specs.Setting.{Setting}
 use Rattle.chip_part.specs.Edges.{root_edge}
 use Rattle.chip_net.specs.Tokens.{NetId}
 use Rattle.chip_net.specs.Roots.{RootKnown, HoldsNothing, Feeds}
@@ -13,13 +13,13 @@ view_is c = c.deref_mut-hand.ensures.value ∙ c.self.view_is
 holds : (c : In_ok-may_feed) → HoldsNothing c.deref_mut-hand.result.now
 holds c = subst HoldsNothing (sym c.deref_mut-hand.ensures.value) c.self.invariant.0
 
-below : (c : In_ok-may_feed) → c.args.vertex < c.deref_mut-hand.result.now.net.setting.graph.vertices
-below c = subst (λ (r : RootKnown). c.args.vertex < r.net.setting.graph.vertices) (sym (view_is c)) c.requires.vertex
+below : (c : In_ok-may_feed) → c.args.vertex < c.deref_mut-hand.result.now.net.setting.game.graph.vertices
+below c = subst (λ (r : RootKnown). c.args.vertex < r.net.setting.game.graph.vertices) (sym (view_is c)) c.requires.vertex
 
 edge_is : (c : In_ok-may_feed) → c.root_edge-edge.result ≡ root_edge c.deref_mut-hand.result.now.net.setting c.args.vertex
 edge_is c = c.root_edge-edge.ensures.value
     ∙ ap (λ (g : Setting). root_edge g c.args.vertex)
-    (c.setup.ensures.value
+    (c.setting.ensures.value
     ∙ sym (ap (λ (n : NetId). n.setting) (ap (λ (r : RootKnown). r.net) (view_is c) ∙ c.requires.net)))
 
 pub make-requires-clause-due : goal.make-requires-clause-due
@@ -33,9 +33,9 @@ invariant_of-self-in_default c =
     let d = (goal.at.invariant_of-self-in_default c).In_ok-may_feed in (
       free1 c.deref_mut-hand.result.now c.args.vertex c.root_edge-edge.result c.args.count (below d) (edge_is d)
           c.in_ok-may_feed.ensures.0 (holds d) c.make.new.self c.make.ensures.seen c.make.ensures.made,
-      subst (λ (n : NetId). c.self.inside.reserve.value ≡ game_of_setting n.setting)
+      subst (λ (n : NetId). c.self.inside.reserve.value ≡ n.setting.game.graph.vertices)
           (sym (ap (λ (r : RootKnown). r.net) (c.make.ensures.made.record_is)))
-          (c.self.invariant.1 ∙ ap (λ (r : RootKnown). game_of_setting r.net.setting) (sym c.deref_mut-hand.ensures.value)),
+          (c.self.invariant.1 ∙ ap (λ (r : RootKnown). r.net.setting.game.graph.vertices) (sym c.deref_mut-hand.ensures.value)),
     )
 
 -- the look saw an empty cell, and its answer is the place
@@ -68,8 +68,8 @@ invariant_of-self-2 c =
           c.in_ok-may_feed.ensures.2 c.make.new.self c.make.ensures.seen c.make.ensures.made looked.0
           c.make-2.new.self c.make-2.ensures.seen c.make-2.ensures.made
           c.make-3.new.self c.make-3.ensures.seen c.make-3.ensures.made,
-      subst (λ (n : NetId). c.self.inside.reserve.value ≡ game_of_setting n.setting) (sym net)
-          (c.self.invariant.1 ∙ ap (λ (r : RootKnown). game_of_setting r.net.setting) (sym c.deref_mut-hand.ensures.value)),
+      subst (λ (n : NetId). c.self.inside.reserve.value ≡ n.setting.game.graph.vertices) (sym net)
+          (c.self.invariant.1 ∙ ap (λ (r : RootKnown). r.net.setting.game.graph.vertices) (sym c.deref_mut-hand.ensures.value)),
     )
 
 pub returns-clause-cases : goal.returns-clause-cases

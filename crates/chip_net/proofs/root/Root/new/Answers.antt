@@ -1,5 +1,4 @@
 use Rattle.std.proofs.Common.{sym, ap, ◌∙◌, subst}
-use Rattle.chip_part.specs.Setting.{game_of_setting}
 use Rattle.chip_part.specs.Edges.{stopper}
 use Rattle.chip_net.specs.Views.{find}
 use Rattle.chip_net.specs.Roots.{RootKnown, HoldsNothing}
@@ -10,7 +9,8 @@ pub invariant_of-result : goal.invariant_of-result
 invariant_of-result c =
     let hand = c.in_ok-new-4.ensures.ok ∙ c.in_ok-new-3.ensures in (
       subst HoldsNothing (sym hand) (holds_first
-          (record { table = c.args.seat.table_id; setting = c.args.setup.now })
-          (find (stopper c.args.setup.now) c.args.seat.me.0.parts)),
-      c.in_ok-new-2.ensures.ok ∙ c.in_ok-new.ensures ∙ ap (λ (r : RootKnown). game_of_setting r.net.setting) (sym hand),
+          (record { table = c.args.seat.table_id; setting = c.args.setting.now })
+          (find (stopper c.args.setting.now) c.args.seat.me.0.parts)),
+      c.in_ok-new-2.ensures.ok ∙ c.in_ok-new.ensures ∙ c.vertices.ensures.value
+          ∙ ap (λ (r : RootKnown). r.net.setting.game.graph.vertices) (sym hand),
     )

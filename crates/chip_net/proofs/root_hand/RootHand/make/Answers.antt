@@ -10,13 +10,13 @@ use Rattle.chip_net.proofs.root_hand.RootHand.make.Goals.{After-operate-seen}
 due : (c : After-operate-seen) → IsDueForRoot (the_view c.self.inside) c.args.event
 due c = subst (λ (r : RootKnown). IsDueForRoot r c.args.event) (sym c.self.view_is) c.requires.due
 
-here : (c : After-operate-seen) → c.args.net.now.setting ≡ c.self.inside.setup.value
+here : (c : After-operate-seen) → c.args.net.now.setting ≡ c.self.inside.setting.value
 here c = sym (ap (λ (n : NetId). n.setting) (ap (λ (r : RootKnown). r.net) c.self.view_is ∙ c.requires.net))
 
 pub apply-requires : goal.apply-requires
 apply-requires c =
     let d = (goal.at.apply-requires c).After-operate-seen in
-    let g = c.self.inside.setup.value in
+    let g = c.self.inside.setting.value in
     let mine = feeding_mine g c.args.event (due d).0 in
     let told = c.operate-seen.ensures.told in
     subst (λ seen. SomeRoot c.self.inside.state (λ h t. RootCanDo h t c.args.event seen)) (sym told.1)
@@ -26,7 +26,7 @@ apply-requires c =
 pub invariant_of-self : goal.invariant_of-self
 invariant_of-self c =
     let d = (goal.at.invariant_of-self c).After-operate-seen in
-    let g = c.self.inside.setup.value in
+    let g = c.self.inside.setting.value in
     let mine = feeding_mine g c.args.event (due d).0 in
     let told = c.operate-seen.ensures.told in
     still_root c.self.inside c.self.invariant c.args.event mine.0 mine.1 (due d).1 c.args.net.now.setting (here d)
@@ -37,7 +37,7 @@ invariant_of-self c =
 pub returns : goal.returns
 returns c =
     let d = (goal.at.returns c).After-operate-seen in
-    let g = c.self.inside.setup.value in
+    let g = c.self.inside.setting.value in
     let mine = feeding_mine g c.args.event (due d).0 in
     let told = c.operate-seen.ensures.told in
     replies c.self.inside c.self.invariant c.args.event mine.0 mine.1 (due d).1 c.args.net.now.setting (here d)

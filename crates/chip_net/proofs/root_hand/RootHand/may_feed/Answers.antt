@@ -11,10 +11,10 @@ use Rattle.chip_net.proofs.root_hand.RootHand.may_feed.Goals.{After-may}
 
 allowed : (c : After-may) → AllowsFeed c.args.self.now c.args.count (feed_answer c.may.result)
 allowed c =
-    let own = c.self.inside.setup.value in
+    let own = c.self.inside.setting.value in
     let edge : c.args.edge ≡ root_edge own c.args.vertex = c.requires.edge
     ∙ ap (λ (r : RootKnown). root_edge r.net.setting c.args.vertex) (sym c.self.view_is) in
-    let below = subst (λ (r : RootKnown). c.args.vertex < r.net.setting.graph.vertices) (sym c.self.view_is)
+    let below = subst (λ (r : RootKnown). c.args.vertex < r.net.setting.game.graph.vertices) (sym c.self.view_is)
     c.requires.vertex in
     let some = c.requires.count in
     subst (λ (r : RootKnown). AllowsFeed r c.args.count (feed_answer c.may.result)) c.self.view_is

@@ -9,13 +9,13 @@ use Rattle.chip_net.proofs.root_hand.RootHand.new.Goals as goal
 
 pub invariant_of-result : goal.invariant_of-result
 invariant_of-result c =
-    let none = ap steps_or_none c.requires in
-    let g : Setting = c.args.setup.now in
-    subst (λ (h : Setting). IsRoot h c.args.seat.me.0 c.in_ok-opening_state.field-0) (sym c.of.ensures) record {
-      setting = c.opening_state.ensures.setting;
-      has = c.requires ∙ ap Some (sym none);
-      stands = subst (λ (did : List Step). RootStandsFor g (part_by g (opened g) did) c.in_ok-opening_state.field-0)
-          (sym none) c.in_ok-opening_state.ensures.state;
+    let none = ap steps_or_none c.requires.part in
+    let g : Setting = c.args.setting.now in
+    subst (λ (h : Setting). IsRoot h c.args.seat.me.0 c.in_ok-new.field-0) (sym c.of.ensures) record {
+      setting = c.requires.setting;
+      has = c.requires.part ∙ ap Some (sym none);
+      stands = subst (λ (did : List Step). RootStandsFor g (part_by g (opened g) did) c.in_ok-new.field-0)
+          (sym none) c.in_ok-new.ensures;
       log = [];
       legal = tt;
       in_log = none;

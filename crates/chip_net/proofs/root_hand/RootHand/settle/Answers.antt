@@ -14,27 +14,27 @@ use Rattle.chip_net.proofs.root_hand.RootHand.settle.Goals as goal
 use Rattle.chip_net.proofs.root_hand.RootHand.settle.Goals.{After-words}
 
 -- the root's net is this one
-here : (c : After-words) → c.args.net.now.setting ≡ c.self.inside.setup.value
+here : (c : After-words) → c.args.net.now.setting ≡ c.self.inside.setting.value
 here c = sym (ap (λ (n : NetId). n.setting) (ap (λ (r : RootKnown). r.net) c.self.view_is ∙ c.requires.net))
 
-there : (c : After-words) → c.args.vertex < c.self.inside.setup.value.graph.vertices
-there c = subst (λ (r : RootKnown). c.args.vertex < r.net.setting.graph.vertices) (sym c.self.view_is) c.requires.vertex
+there : (c : After-words) → c.args.vertex < c.self.inside.setting.value.game.graph.vertices
+there c = subst (λ (r : RootKnown). c.args.vertex < r.net.setting.game.graph.vertices) (sym c.self.view_is) c.requires.vertex
 
-same : (c : After-words) → c.words.result.now.shared.key.value ≡ c.self.inside.setup.value
+same : (c : After-words) → c.words.result.now.shared.key.value ≡ c.self.inside.setting.value
 same c = c.words.ensures.key ∙ here c
 
 -- the edge, as the root's setting has it
-edge_is : (c : After-words) → c.root_edge-edge.result ≡ root_edge c.self.inside.setup.value c.args.vertex
+edge_is : (c : After-words) → c.root_edge-edge.result ≡ root_edge c.self.inside.setting.value c.args.vertex
 edge_is c = c.root_edge-edge.ensures.value
-    ∙ ap (λ (g : Setting). root_edge g c.args.vertex) (c.setup-setup.ensures.value ∙ here c)
+    ∙ ap (λ (g : Setting). root_edge g c.args.vertex) (c.setting-setting.ensures.value ∙ here c)
 
 -- the word is that of its acknowledgements
 word_is : (c : After-words)
-    → c.args.word ≡ index_of c.self.inside.setup.value (of_acks c.root_edge-edge.result)
+    → c.args.word ≡ index_of c.self.inside.setting.value (of_acks c.root_edge-edge.result)
 word_is c = subst
     (λ (r : RootKnown). c.args.word ≡ index_of r.net.setting (of_acks (root_edge r.net.setting c.args.vertex)))
     (sym c.self.view_is) c.requires.word
-    ∙ ap (λ (e : ℕ). index_of c.self.inside.setup.value (of_acks e)) (sym (edge_is c))
+    ∙ ap (λ (e : ℕ). index_of c.self.inside.setting.value (of_acks e)) (sym (edge_is c))
 
 -- the edge, as the root's state has it
 edge_at : (c : After-words) → c.root_edge-edge.result ≡ c.self.inside.state.graph_edges + c.args.vertex
@@ -43,7 +43,7 @@ edge_at c = edge_is c ∙ ap (λ (n : ℕ). n + c.args.vertex) (sym c.self.invar
 pub load-seen-requires-clause-rule : goal.load-seen-requires-clause-rule
 load-seen-requires-clause-rule c =
     let d = (goal.at.load-seen-requires-clause-rule c).After-words in
-    root_rule c.self.inside.setup.value c.self.invariant.setting c.self.inside.seat.me c.self.invariant.has
+    root_rule c.self.inside.setting.value c.self.invariant.setting c.self.inside.seat.me c.self.invariant.has
     (Settle c.root_edge-edge.result)
     (settle_mine c.self.inside c.self.invariant c.args.vertex c.root_edge-edge.result (there d) (edge_is d))
     (settle_due c.self.inside c.self.invariant c.args.vertex c.root_edge-edge.result (there d) (edge_is d))

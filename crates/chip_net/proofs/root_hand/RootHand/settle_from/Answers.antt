@@ -13,7 +13,7 @@ loop-vertex-preserved c =
       from = (let l = i.from in omega arith);
       within = (let l = c.loop-vertex-test.true in
           let n = c.vertices-vertex-end.ensures.value
-          ∙ ap (λ (g : Setting). g.graph.vertices) (c.setup-setup.ensures.value ∙ sym (ap (λ (n : NetId). n.setting) c.requires.net))
+          ∙ ap (λ (g : Setting). g.game.graph.vertices) (c.setting-setting.ensures.value ∙ sym (ap (λ (n : NetId). n.setting) c.requires.net))
           in omega arith);
       settles = settles_more c.args.self.now c.loop-vertex.self c.settle.new.self c.args.first c.loop-vertex.vertex
           c.settle.ensures.0 i.from i.settles c.settle.ensures.1;
@@ -25,6 +25,6 @@ pub settle-requires-clause-word : goal.settle-requires-clause-word
 settle-requires-clause-word c =
     let net : c.loop-vertex.self.net ≡ c.args.net.now =
     does_net c.args.self.now c.loop-vertex.self _ c.loop-vertex.invariant.settles ∙ c.requires.net in
-    let setting = c.setup-setup.ensures.value ∙ sym (ap (λ (n : NetId). n.setting) net) in
+    let setting = c.setting-setting.ensures.value ∙ sym (ap (λ (n : NetId). n.setting) net) in
     c.root_acks-words.ensures.words c.loop-vertex.vertex
     ∙ ap (λ (g : Setting). index_of g (of_acks (root_edge g c.loop-vertex.vertex))) setting

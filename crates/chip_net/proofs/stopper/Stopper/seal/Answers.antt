@@ -8,19 +8,19 @@ use Rattle.chip_net.proofs.stopper.Stopper.seal.Goals as goal
 use Rattle.chip_net.proofs.stopper.Stopper.seal.Goals.{After-fetch_or-arg-1}
 
 -- the stopper's net is this one
-here : (c : After-fetch_or-arg-1) → c.args.net.now.setting ≡ c.self.inside.setup.value
+here : (c : After-fetch_or-arg-1) → c.args.net.now.setting ≡ c.self.inside.setting.value
 here c = sym (ap (λ (n : NetId). n.setting) (ap (λ (s : StopperKnown). s.net) c.self.view_is ∙ c.requires.net))
 
-same : (c : After-fetch_or-arg-1) → c.words.result.now.shared.key.value ≡ c.self.inside.setup.value
+same : (c : After-fetch_or-arg-1) → c.words.result.now.shared.key.value ≡ c.self.inside.setting.value
 same c = c.words.ensures.key ∙ here c
 
-setting : (c : After-fetch_or-arg-1) → IsSetting c.self.inside.setup.value
+setting : (c : After-fetch_or-arg-1) → IsSetting c.self.inside.setting.value
 setting c = subst IsSetting (here c) c.words.ensures.setting
 
-there : (c : After-fetch_or-arg-1) → c.args.edge < graph_edges c.self.inside.setup.value
+there : (c : After-fetch_or-arg-1) → c.args.edge < graph_edges c.self.inside.setting.value
 there c =
-    let edges : c.graph_edges.result ≡ graph_edges c.self.inside.setup.value = c.graph_edges.ensures.value
-    ∙ ap graph_edges (c.setup-setup.ensures.value ∙ here c) in
+    let edges : c.graph_edges.result ≡ graph_edges c.self.inside.setting.value = c.graph_edges.ensures.value
+    ∙ ap graph_edges (c.setting-setting.ensures.value ∙ here c) in
     let l = c.if-edge-graph_edges.false in
     omega arith
 

@@ -7,18 +7,18 @@ use Rattle.chip_root.proofs.root.RootState.feed.Goals as goal
 
 pub feed-requires-clause-seen : goal.feed-requires-clause-seen
 feed-requires-clause-seen c =
-    let may = may_feed (the_view c.self.inside) c.in-Some.feeder c.args.edge c.args.count c.args.seen c.in-Some.is
+    let may = may_feed (the_view c.self.inside) c.args.edge c.args.count c.args.seen
     (subst (λ (r : Root). SomeRoot r (λ g s. RootCanDo g s (Feed c.args.edge c.args.count) c.args.seen))
     (sym c.self.view_is) c.requires) in
     (may.0, may.1)
 
 pub feed-requires-clause-given : goal.feed-requires-clause-given
 feed-requires-clause-given c =
-    (may_feed (the_view c.self.inside) c.in-Some.feeder c.args.edge c.args.count c.args.seen c.in-Some.is
+    (may_feed (the_view c.self.inside) c.args.edge c.args.count c.args.seen
     (subst (λ (r : Root). SomeRoot r (λ g s. RootCanDo g s (Feed c.args.edge c.args.count) c.args.seen))
     (sym c.self.view_is) c.requires)).2
 
 pub returns : goal.returns
 returns c = rw (← c.self.view_is)
-    (feed_made (the_view c.self.inside) c.in-Some.feeder c.feed.new.self c.args.edge c.args.count c.args.seen
-    c.feed.result c.in-Some.is c.feed.ensures.reply c.feed.ensures.after)
+    (feed_made (the_view c.self.inside) c.feed.new.self c.args.edge c.args.count c.args.seen c.feed.result
+    c.feed.ensures.reply c.feed.ensures.after)

@@ -4,5 +4,5 @@ use Rattle.chip_root.proofs.root.RootState.look.Goals as goal
 
 pub returns : goal.returns
 returns c = rw (← c.self.view_is)
-    (look_made (the_view c.self.inside) c.in-Some.feeder c.look.new.self c.args.edge c.args.seen c.look.result
-    c.in-Some.is c.look.ensures.reply c.look.ensures.after)
+    (look_made (the_view c.self.inside) c.look.new.self c.args.edge c.args.seen c.look.result c.look.ensures.reply
+    c.look.ensures.after)

@@ -4,5 +4,5 @@ use Rattle.chip_root.proofs.root.RootState.put.Goals as goal
 
 pub returns : goal.returns
 returns c = rw (← c.self.view_is)
-    (put_made (the_view c.self.inside) c.in-Some.feeder c.put.new.self c.args.edge c.args.seen c.put.result c.in-Some.is
-    c.put.ensures.reply c.put.ensures.after)
+    (put_made (the_view c.self.inside) c.put.new.self c.args.edge c.args.seen c.put.result c.put.ensures.reply
+    c.put.ensures.after)

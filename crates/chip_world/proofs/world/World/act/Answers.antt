@@ -4,8 +4,9 @@ use Rattle.chip_part.specs.declared.rule.Rule.TheVariants.{NoSuch}
 use Rattle.chip_core.specs.Core.{Event, part_of, part_in}
 use Rattle.chip_world.specs.World.{WorldState, StandsForLog, MakesStep}
 use Rattle.chip_world.specs.Makers.{vertex_of, is_of_others}
+use Rattle.chip_world.specs.contracts.world.World.{the_view}
 use Rattle.chip_world.proofs.VertexLemmas.{missing}
-use Rattle.chip_world.proofs.StepLemmas.{refuses, given_is_due, vertex_refuses}
+use Rattle.chip_world.proofs.StepLemmas.{refuses, maker_stands, given_is_due, vertex_refuses}
 use Rattle.chip_world.proofs.world.World.act.Goals as goal
 
 pub returns-in_default : goal.returns-in_default
@@ -15,6 +16,13 @@ returns-in_default c = λ g log stands.
     (sym (ap (λ (h : Setting). is_of_others h c.args.event) stands.setting)
     ∙ c.requires) (sym (ap (λ (h : Setting). vertex_of h c.args.event) stands.setting) ∙ sym c.vertex_of.ensures
     ∙ c.in_default.is))
+
+pub may-requires : goal.may-requires
+may-requires c =
+    let some = c.self.invariant in
+    maker_stands some.0 some.1 (the_view c.self.inside) some.2 c.args.event c.in-Some.vertex c.index-actor.result.now
+    (ap (λ (w : WorldState). vertex_of w.setting c.args.event) c.self.view_is ∙ sym c.vertex_of.ensures ∙ c.in-Some.is)
+    c.index-actor.ensures
 
 pub make-requires : goal.make-requires
 make-requires c =

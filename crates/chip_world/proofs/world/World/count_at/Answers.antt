@@ -13,7 +13,7 @@ returns-then-count-eq0 c = λ g log at later before.
     let inside = subst (λ (h : Setting). c.args.edge < all_edges h) at.setting c.requires in
     let cell = c.load-count.ensures
     ∙ ap (λ (n : ℕ). cell_of c.self.inside.shared.words c.args.edge (c.args.place % n)) (c.cells.ensures.number
-    ∙ ap (λ (h : Setting). h.ring) stands.setting) in
+    ∙ c.ring.ensures.value ∙ ap (λ (h : Setting). h.ring) stands.setting) in
     c.held.ensures g log at
     ∙ count_in_hand g.ring _ _ _ _ _
     (edge_sound g stands.is_setting.game stands.is_setting.some_ring log stands.legal c.args.edge)
@@ -25,7 +25,7 @@ returns-else-count-eq0 c = λ g log at later before.
     let inside = subst (λ (h : Setting). c.args.edge < all_edges h) at.setting c.requires in
     let cell = c.load-count.ensures
     ∙ ap (λ (n : ℕ). cell_of c.self.inside.shared.words c.args.edge (c.args.place % n)) (c.cells.ensures.number
-    ∙ ap (λ (h : Setting). h.ring) stands.setting) in
+    ∙ c.ring.ensures.value ∙ ap (λ (h : Setting). h.ring) stands.setting) in
     cell
     ∙ count_in_cell g.ring _ _ _ _ _
     (edge_sound g stands.is_setting.game stands.is_setting.some_ring log stands.legal c.args.edge)

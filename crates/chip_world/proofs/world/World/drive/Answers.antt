@@ -57,3 +57,19 @@ returns-else-closed-2-clause-no_other c = no_other c.args.self.now c.loop.self c
       answers = (refl, all, (λ is_closed. true≢false (sym (closes.1 is_closed) ∙ c.if-closed-2.false)));
     } in
     (here.0, here.1, drive)))
+
+pub returns-else-closed-2-clause-drives : goal.returns-else-closed-2-clause-drives
+returns-else-closed-2-clause-drives c = λ g before stands.
+    let here = c.loop.invariant g before stands in
+    let closes = c.closed-2.ensures g here.0 here.1 in
+    let below = c.loop.auto.counter-end in
+    let above = c.loop-test.false in
+    let all : c.loop.counter ≡ c.args.rounds = omega arith in
+    let drive : IsDrive g c.args.rounds before here.0 (Unfinished c.args.rounds) =
+    record {
+      count = c.loop.counter;
+      within = below;
+      are_rounds = here.2;
+      answers = (refl, all, (λ is_closed. true≢false (sym (closes.1 is_closed) ∙ c.if-closed-2.false)));
+    } in
+    (here.0, here.1, drive)

@@ -1,7 +1,6 @@
 use Rattle.std.proofs.Common.{◌∙◌, ℕ, Option, sum, option_to_list, ap, sym, subst}
 use Rattle.chip_part.specs.Edges.{tail_of}
 use Rattle.chip_core.specs.Core.{part_in}
-use Rattle.chip_world.specs.Makers.{tail_if}
 use Rattle.chip_world.specs.World.{WorldState, StandsForLog}
 use Rattle.chip_world.specs.contracts.world.World.{the_view}
 use Rattle.chip_world.proofs.FlightLemmas.{put_stores}
@@ -13,7 +12,7 @@ pub returns-in-Ok : goal.returns-in-Ok
 returns-in-Ok c = λ g log at.
     let w : WorldState = the_view c.self.inside in
     let stands = subst (StandsForLog g log) (sym c.self.view_is) at in
-    let here = ap (λ (u : WorldState). tail_if u.setting c.args.edge) c.self.view_is ∙ sym c.tail.ensures in
+    let here = sym c.tail.ensures in
     let due : IsDuePut g log w stands c.args.edge c.match-tail.due = elim c.match-tail.branch [
       | in-Some b ↦ b.due-is ∙ put_by_vertex g log w stands c.args.edge b.may-due.result b.in-Some.tail
           b.index.result.now (here ∙ b.in-Some.is) b.index.ensures b.may-due.ensures
@@ -27,7 +26,7 @@ pub returns-in-Err : goal.returns-in-Err
 returns-in-Err c = λ g log at.
     let w : WorldState = the_view c.self.inside in
     let stands = subst (StandsForLog g log) (sym c.self.view_is) at in
-    let here = ap (λ (u : WorldState). tail_if u.setting c.args.edge) c.self.view_is ∙ sym c.tail.ensures in
+    let here = sym c.tail.ensures in
     let due : IsDuePut g log w stands c.args.edge c.match-tail.due = elim c.match-tail.branch [
       | in-Some b ↦ b.due-is ∙ put_by_vertex g log w stands c.args.edge b.may-due.result b.in-Some.tail
           b.index.result.now (here ∙ b.in-Some.is) b.index.ensures b.may-due.ensures

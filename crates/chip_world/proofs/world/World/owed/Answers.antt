@@ -1,8 +1,6 @@
-use Rattle.std.proofs.Common.{◌∙◌, ap, sym, subst}
+use Rattle.std.proofs.Common.{◌∙◌, sym, subst}
 use Rattle.std.specs.List.{Contains}
 use Rattle.chip_detect.specs.Books.{Books, in_edges}
-use Rattle.chip_world.specs.Makers.{head_if}
-use Rattle.chip_world.specs.World.{WorldState}
 use Rattle.chip_world.specs.contracts.world.World.{the_view}
 use Rattle.chip_world.proofs.CountedLemmas.{has_books}
 use Rattle.chip_world.proofs.world.World.owed.Goals as goal
@@ -10,8 +8,7 @@ use Rattle.chip_world.proofs.world.World.owed.Goals as goal
 pub owed-requires : goal.owed-requires
 owed-requires c =
     let some = c.self.invariant in
-    let found = ap (λ (w : WorldState). head_if w.setting c.args.edge) c.self.view_is ∙ sym c.head.ensures
-    ∙ c.unwrap-head.ensures in
+    let found = sym c.head.ensures ∙ c.unwrap-head.ensures in
     subst (λ (b : Books). Contains (in_edges b) c.args.edge) (sym c.detect.ensures)
     (has_books some.0 some.1 (the_view c.self.inside) some.2 c.args.edge c.unwrap-head.result c.index.result.now found
     c.index.ensures)

@@ -1,5 +1,4 @@
-use Rattle.std.proofs.Common.{◌≡◌, ◌∙◌, ◌<◌, ℕ, length, List, ap, sym, subst}
-use Rattle.chip_graph.specs.Multigraph.{Multigraph}
+use Rattle.std.proofs.Common.{◌≡◌, ◌∙◌, ◌<◌, ℕ, List, ap, sym, subst}
 use Rattle.chip_part.specs.Setting.{Setting}
 use Rattle.chip_link.specs.Words.{claims_in}
 use Rattle.chip_part.specs.Edges.{graph_edges}
@@ -18,12 +17,10 @@ made : (c : goal.After-from_word) → (g : Setting) (log : Log) → StandsForLog
     × (Done c.from_word.result.claims ≡ (step g log (Seal c.args.edge)).1)
 made c g log stands =
     let w : WorldState = the_view c.self.inside in
-    let edges : length c.edges.result.now ≡ graph_edges g = ap length c.edges.ensures.value
-    ∙ ap (λ (G : Multigraph). length G.edges) (c.graph.ensures.value ∙ ap (λ (h : Setting). h.graph) stands.setting)
-    in
+    let edges : c.graph_edges.result ≡ graph_edges g = c.graph_edges.ensures.value ∙ ap graph_edges stands.setting in
     subst (λ (words : List EdgeState). StandsForLog g (step g log (Seal c.args.edge)).0 (record w { words = words })
     × (Done c.from_word.result.claims ≡ (step g log (Seal c.args.edge)).1)) (sym c.seal.ensures.after)
-    (seal_makes g log w stands c.args.edge (subst (λ (n : ℕ). c.args.edge < n) edges c.if-edge-edges.false)
+    (seal_makes g log w stands c.args.edge (subst (λ (n : ℕ). c.args.edge < n) edges c.if-edge-graph_edges.false)
     c.from_word.result.claims (c.from_word.ensures.claims ∙ ap claims_in c.seal.ensures.seen))
 
 pub invariant_of-self : goal.invariant_of-self

@@ -1,6 +1,4 @@
-use Rattle.std.proofs.Common.{◌≡◌, ◌+◌, ℕ, suc, List, length, ◌∙◌, ap, subst, arith}
-use Rattle.chip_graph.specs.declared.edge.Edge.{Edge}
-use Rattle.chip_graph.specs.Multigraph.{Multigraph}
+use Rattle.std.proofs.Common.{◌≡◌, ◌+◌, ℕ, suc, ◌∙◌, ap, subst, arith}
 use Rattle.chip_part.specs.Setting.{Setting}
 use Rattle.chip_part.specs.Edges.{root_edge}
 use Rattle.chip_core.specs.Core.{Settle, step, log_after}
@@ -14,16 +12,14 @@ pub loop-vertex-preserved : goal.loop-vertex-preserved
 loop-vertex-preserved c = λ g before stands.
     let v : ℕ = c.loop-vertex.vertex in
     let here = c.loop-vertex.invariant g before stands in
-    let setting : (the_view c.self.inside).setting ≡ g = ap (λ (w : WorldState). w.setting) c.self.view_is
-    ∙ stands.setting in
-    let edges : length c.edges.result.now ≡ length g.graph.edges =
-    ap (λ (es : List Edge). length es) c.edges.ensures.value
-    ∙ ap (λ (G : Multigraph). length G.edges) c.graph-graph.ensures.value
-    ∙ ap (λ (h : Setting). length h.graph.edges) setting in
+    let setting : c.self-in-loop-vertex.inside.setting ≡ g =
+    ap (λ (w : WorldState). w.setting) c.self-in-loop-vertex.view_is ∙ here.1.setting in
+    let edge : c.root_edge-edge.result ≡ root_edge g v =
+    c.root_edge-edge.ensures.value ∙ ap (λ (h : Setting). root_edge h v) setting in
     let made = c.of_root.ensures g here.0 here.1 in
     let more : suc v ≡ v + 1 = omega arith in (
       (step g here.0 (Settle (root_edge g v))).0,
-      subst (λ (n : ℕ). StandsForLog g (step g here.0 (Settle (n + v))).0 c.of_root.new.self) edges made.0,
+      subst (λ (e : ℕ). StandsForLog g (step g here.0 (Settle e)).0 c.of_root.new.self) edge made.0,
       subst (λ (n : ℕ). (step g here.0 (Settle (root_edge g v))).0 ≡ log_after g before (root_settles g n)) more
           (settles_more g before here.0 v here.2),
     )
@@ -33,10 +29,10 @@ returns c = λ g before stands.
     let here = c.loop-vertex.invariant g before stands in
     let setting : (the_view c.self.inside).setting ≡ g = ap (λ (w : WorldState). w.setting) c.self.view_is
     ∙ stands.setting in
-    let last : c.vertices-vertex-end.result ≡ g.graph.vertices = c.vertices-vertex-end.ensures.value
-    ∙ ap (λ (G : Multigraph). G.vertices) c.graph-graph.ensures.value ∙ ap (λ (h : Setting). h.graph.vertices) setting
+    let last : c.vertices-vertex-end.result ≡ g.game.graph.vertices = c.vertices-vertex-end.ensures.value
+    ∙ ap (λ (h : Setting). h.game.graph.vertices) setting
     in
     let below = c.loop-vertex.auto.vertex-end in
     let above = c.loop-vertex-test.false in
-    let all : c.loop-vertex.vertex ≡ g.graph.vertices = omega arith in
+    let all : c.loop-vertex.vertex ≡ g.game.graph.vertices = omega arith in
     (here.0, here.1, here.2 ∙ ap (λ (n : ℕ). log_after g before (root_settles g n)) all)

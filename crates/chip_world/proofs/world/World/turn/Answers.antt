@@ -10,21 +10,21 @@ use Rattle.chip_world.proofs.world.World.turn.Goals.{After-turn}
 
 pub fired_word-fired-requires : goal.fired_word-fired-requires
 fired_word-fired-requires c =
-    let s = subst (λ (w : WorldState). SomeLogWhere w (λ g log. c.args.vertex < g.graph.vertices))
+    let s = subst (λ (w : WorldState). SomeLogWhere w (λ g log. c.args.vertex < g.game.graph.vertices))
     (sym c.self.view_is) c.requires in
     turn_shows_word s.0 s.1 (the_view c.self.inside) s.2 c.args.vertex s.3 c.index_mut-actor.result.now
     c.index_mut-actor.ensures.value
 
 pub turn-requires : goal.turn-requires
 turn-requires c =
-    let s = subst (λ (w : WorldState). SomeLogWhere w (λ g log. c.args.vertex < g.graph.vertices))
+    let s = subst (λ (w : WorldState). SomeLogWhere w (λ g log. c.args.vertex < g.game.graph.vertices))
     (sym c.self.view_is) c.requires in
     turn_meets s.0 s.1 (the_view c.self.inside) s.2 c.args.vertex s.3 c.index_mut-actor.result.now
     c.index_mut-actor.ensures.value c.fired_word-fired.result c.fired_word-fired.ensures
 
 -- whatever log the world stood for, the turn was made after it
 made : (c : After-turn) → (g : Setting) (log : Log) → StandsForLog g log (the_view c.self.inside)
-    → c.args.vertex < g.graph.vertices
+    → c.args.vertex < g.game.graph.vertices
     → (after : Log) × StandsForLog g after
     (record (the_view c.self.inside) {
       actors = set c.self.inside.actors.items c.args.vertex c.turn.new.self;
@@ -37,15 +37,15 @@ made c g log stands inside =
 
 pub invariant_of-self : goal.invariant_of-self
 invariant_of-self c =
-    let s = subst (λ (w : WorldState). SomeLogWhere w (λ g log. c.args.vertex < g.graph.vertices))
+    let s = subst (λ (w : WorldState). SomeLogWhere w (λ g log. c.args.vertex < g.game.graph.vertices))
     (sym c.self.view_is) c.requires in
     let m = made (goal.at.invariant_of-self c).After-turn s.0 s.1 s.2 s.3 in
     (s.0, m.0, m.1)
 
 pub returns : goal.returns
 returns c = λ g log stands.
-    let some = subst (λ (w : WorldState). SomeLogWhere w (λ g log. c.args.vertex < g.graph.vertices))
+    let some = subst (λ (w : WorldState). SomeLogWhere w (λ g log. c.args.vertex < g.game.graph.vertices))
     (sym c.self.view_is) c.requires in
     let here = subst (StandsForLog g log) (sym c.self.view_is) stands in
     made (goal.at.returns c).After-turn g log here
-    (subst (λ (h : Setting). c.args.vertex < h.graph.vertices) (sym some.2.setting ∙ here.setting) some.3)
+    (subst (λ (h : Setting). c.args.vertex < h.game.graph.vertices) (sym some.2.setting ∙ here.setting) some.3)

@@ -1,5 +1,4 @@
 use Rattle.std.proofs.Common.{◌≡◌, ◌<◌, ◌+◌, ℕ, suc, ◌∙◌, ap, subst, arith}
-use Rattle.chip_graph.specs.Multigraph.{Multigraph}
 use Rattle.chip_part.specs.Setting.{Setting}
 use Rattle.chip_world.specs.World.{StandsForLog}
 use Rattle.chip_world.specs.Rounds.{AreTurns}
@@ -9,8 +8,8 @@ pub turn-requires : goal.turn-requires
 turn-requires c =
     let some = c.self.invariant in
     let here = c.loop-vertex.invariant some.0 some.1 (subst (StandsForLog some.0 some.1) c.self.view_is some.2) in
-    let end = c.vertices-vertex-end.ensures.value ∙ ap (λ (G : Multigraph). G.vertices) c.graph.ensures.value
-    ∙ ap (λ (h : Setting). h.graph.vertices) some.2.setting in
+    let end = c.vertices-vertex-end.ensures.value
+    ∙ ap (λ (h : Setting). h.game.graph.vertices) some.2.setting in
     (some.0, here.0, here.1, subst (λ (n : ℕ). c.loop-vertex.vertex < n) end c.loop-vertex-test.true)
 
 pub loop-vertex-preserved : goal.loop-vertex-preserved

@@ -1,0 +1,145 @@
+//! How a game is set up.
+
+ghost use Rattle.std.specs.Prelude.{◌≡◌, ◌<◌, ◌≤◌, IfOk};
+
+use chip_graph::Game;
+use chip_link::Ring;
+use std::alloc::{AllocError, Global};
+use std::marker::Model;
+
+/// How a game is set up: what is played, how many cells the ring of each edge has, and whether chips are fed while the
+/// vertices fire.
+#[derive(Drop)]
+pub struct Setting {
+    game: Game,
+    ring: Ring,
+    fed: bool,
+    // How many edges there are, the root's among them: each operation on a shared word needs it.
+    edges: u64,
+}
+
+impl Model for Setting {
+    ghost use Rattle.std.specs.Prelude.{◌≡◌};
+    ghost use Rattle.chip_part.specs.Setting.{Setting, setting_with, IsSetting};
+    ghost use Rattle.chip_part.specs.Edges.{all_edges};
+
+    ghost Value = { Setting };
+
+    ghost view = { λ a. setting_with a.game a.ring a.fed };
+
+    ghost invariant = { λ a. let g = setting_with a.game a.ring a.fed in IsSetting g × (a.edges ≡ all_edges g) };
+}
+
+impl Setting {
+    ghost use Rattle.chip_part.specs.Setting.{setting_with, IsSetting};
+    ghost use Rattle.chip_part.specs.Edges.{all_edges, graph_edges, root_edge, head_if, tail_if};
+
+    /// This game with such rings, fed or not.
+    pub fn new(game: Game, ring: Ring, fed: bool) -> Setting
+        ensures { result ≡ setting_with game ring fed }
+    {
+        // (with the cells read, the proof knows that the ring is in range)
+        let _cells = ring.cells();
+        let edges = game.graph().all_edges();
+        Setting {
+            game,
+            ring,
+            fed,
+            edges,
+        }
+    }
+
+    /// The same of a copy of the game.
+    pub fn of_copy(alloc: Global, game: &Game, ring: Ring, fed: bool) -> Result<Setting, AllocError>
+        ensures { IfOk result (λ setting. setting ≡ setting_with game.now ring fed) }
+    {
+        Ok(Setting::new(game.copy(alloc)?, ring, fed))
+    }
+
+    /// The game that is played.
+    pub fn game(&self) -> &Game
+        ensures value { result.now ≡ self.now.game }
+        ensures setting { IsSetting self.now }
+    {
+        &self.game
+    }
+
+    /// The rings of the edges.
+    pub fn ring(&self) -> Ring
+        ensures value { result ≡ self.now.ring }
+        ensures setting { IsSetting self.now }
+    {
+        self.ring
+    }
+
+    /// Whether chips are fed while the vertices fire.
+    pub fn is_fed(&self) -> bool
+        ensures { result ≡ self.now.fed }
+    {
+        self.fed
+    }
+
+    /// How many vertices there are, 1 to 4096.
+    pub fn vertices(&self) -> u64
+        ensures value { result ≡ self.now.game.graph.vertices }
+        ensures few { result ≤ 4096 }
+    {
+        self.game.graph().vertices()
+    }
+
+    /// How many edges the graph has, up to 65536.
+    pub fn graph_edges(&self) -> u64
+        ensures value { result ≡ graph_edges self.now }
+        ensures few { result ≤ 65536 }
+    {
+        self.game.graph().edges().len() as u64
+    }
+
+    /// How many edges there are, the root's among them.
+    pub fn all_edges(&self) -> u64
+        ensures value { result ≡ all_edges self.now }
+        ensures few { result ≤ 69632 }
+    {
+        let _edges = self.graph_edges();
+        let _vertices = self.vertices();
+        self.edges
+    }
+
+    /// The edge from the root to a vertex.
+    pub fn root_edge(&self, vertex: u64) -> u64
+        requires { vertex < self.now.game.graph.vertices }
+        ensures value { result ≡ root_edge self.now vertex }
+        ensures inside { result < all_edges self.now }
+    {
+        let _vertices = self.vertices();
+        self.graph_edges() + vertex
+    }
+
+    /// The head of an edge; `None` from `all_edges()` on.
+    pub fn head(&self, edge: u64) -> Option<u64>
+        ensures { result ≡ head_if self.now edge }
+    {
+        let graph = self.game.graph();
+        let edges = graph.edges();
+        let graph_edges = edges.len() as u64;
+        if edge < graph_edges {
+            Some(edges[edge as usize].head)
+        } else if edge - graph_edges < graph.vertices() {
+            Some(edge - graph_edges)
+        } else {
+            None
+        }
+    }
+
+    /// The tail of an edge of the graph; `None` from `graph_edges()` on, where it is the root.
+    pub fn tail(&self, edge: u64) -> Option<u64>
+        ensures { result ≡ tail_if self.now edge }
+    {
+        let edges = self.game.graph().edges();
+        if edge < edges.len() as u64 {
+            Some(edges[edge as usize].tail)
+        } else {
+            None
+        }
+    }
+}

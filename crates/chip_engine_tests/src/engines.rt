@@ -231,7 +231,7 @@ const FED: &str = "event,at,count\nclear,4,0\nfeed,4,4\nput,4,0\nend,0,0\n";
 fn simulates_what_is_fed(rt: HostRuntime) {
     let fed = "done 0\nsent 0 4\ndone 4\ndone 0\nroot closed\n\
         {\"chips\":[1,0,3],\"closed\":true,\"fired\":[2,1,0],\"over\":[],\"sealed\":[],\"version\":1}\n";
-    let not_fed = "not-now 1\nnot-now 17\nnot-now 1\ndone 0\nroot closed\n\
+    let not_fed = "not-now 17\nnot-now 17\nnot-now 12\ndone 0\nroot closed\n\
         {\"chips\":[0,0,0],\"closed\":true,\"fired\":[0,0,0],\"over\":[],\"sealed\":[],\"version\":1}\n";
     let without_end = "event,at,count\n";
     for (schedule, is_fed, wanted, text) in [

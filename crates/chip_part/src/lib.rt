@@ -2,9 +2,10 @@
 //! turn. Neither actors nor memory: what they keep stands in the crates above.
 //!
 //! `docs/CORE.md` has the table of events and the turn in words. The definitions stand in `specs/`: how a game is set up
-//! (`Setting`), the edges with the root's among them (`Edges`), the part of the core that one vertex, the root or the stopper keeps (`Part`), the rules
-//! of an event in their order (`Rules`), what an event does to the part that makes it (`Steps`), the operation that it
-//! needs (`Acting`), the order of a turn (`Turn`), and what is left of a turn at a cursor (`Cursor`).
+//! (`Setting`), the edges with the root's among them (`Edges`), the part of the core that one vertex, the root or the
+//! stopper keeps (`Part`), the rules of an event in their order (`Rules`), what an event does to the part that makes it
+//! (`Steps`), the operation that it needs (`Acting`), the order of a turn (`Turn`), and what is left of a turn at a
+//! cursor (`Cursor`).
 #![tactic(auto)]
 
 mod act;

@@ -100,8 +100,6 @@ impl Setting {
         ensures value { result ≡ all_edges self.now }
         ensures few { result ≤ 69632 }
     {
-        let _edges = self.graph_edges();
-        let _vertices = self.vertices();
         self.edges
     }
 

@@ -5,6 +5,7 @@ pub mod Opening
 pub mod Traces
 pub mod Tokens
 pub mod Roots
+pub mod Opened
 pub mod Finish
 pub mod Laws
 pub mod Worked

@@ -4,6 +4,7 @@ ghost use Rattle.std.specs.Prelude.{◌≡◌, ℕ, ◌<◌, ◌≤◌, ◌+◌,
 ghost use Rattle.chip_part.specs.Setting.{setting_of, setting_with};
 ghost use Rattle.chip_part.specs.Edges.{graph_edges, all_edges, root, stopper};
 ghost use Rattle.chip_net.specs.Opening.{AreOpening};
+ghost use Rattle.chip_net.specs.Opened.{IsOpened};
 ghost use Rattle.chip_net.specs.Views.{find, opening_view};
 ghost use Rattle.chip_net.specs.Tokens.{newcomer};
 ghost use Rattle.chip_net.specs.Roots.{new_root, new_stopper};
@@ -147,30 +148,41 @@ fn tokens(
     Ok((root, actors, stopper))
 }
 
-/// A net for this game, fed or not, with its tokens.
-fn opened(
-    alloc: Global,
-    setting: Setting,
-    trace_rows: u64,
-    stoppable: bool,
-) -> Result<(Net, Root, Vec<Actor>, Option<Stopper>), AllocError>
-    ensures setting { IfOk result (λ r. r.0.setting ≡ setting) }
-    ensures root { IfOk result (λ r. r.1 ≡ new_root r.0 (if stoppable then None else Some [])) }
-    ensures count { IfOk result (λ r. length r.2.items ≡ setting.game.graph.vertices) }
-    ensures actors { IfOk result (λ r. (v : ℕ) → v < setting.game.graph.vertices
-        → slice_get r.2.items v ≡ Some (newcomer r.0 trace_rows v)) }
-    ensures ours { IfOk result (λ r. All (λ a. a.net ≡ r.0) r.2.items) }
-    ensures stopper { IfOk result (λ r. r.3 ≡ (if stoppable then Some (new_stopper r.0) else None)) }
-{
-    let (net, seat) = laid_out(alloc, setting)?;
-    let (root, actors, stopper) = tokens(alloc, &net, seat, trace_rows, stoppable)?;
-    Ok((net, root, actors, stopper))
+/// A net that has just opened, and its tokens.
+#[derive(Drop)]
+pub struct Opened {
+    /// What all threads share.
+    pub net: Net,
+    /// The root.
+    pub root: Root,
+    /// The actor of each vertex, ascending.
+    pub actors: Vec<Actor>,
+    /// The stopper, where the net is stoppable.
+    pub stopper: Option<Stopper>,
 }
 
 impl Net {
-    /// A net for this game, whose edges have such rings, with its tokens: the root, the actors of the vertices in
-    /// ascending order, each with room for so many trace rows, and a stopper where the net is to be stoppable. All
-    /// memory of the net's life is taken here, and for want of it alone it is refused. Nothing can be fed.
+    /// A net of this setting and its tokens. Each actor has room for so many trace rows, and there is a stopper where
+    /// the net is to be stoppable. All memory of the net's life is taken here, and for want of it alone it is refused.
+    pub fn of(
+        alloc: Global,
+        setting: Setting,
+        trace_rows: u64,
+        stoppable: bool,
+    ) -> Result<Opened, AllocError>
+        ensures { IfOk result (IsOpened setting trace_rows stoppable) }
+    {
+        let (net, seat) = laid_out(alloc, setting)?;
+        let (root, actors, stopper) = tokens(alloc, &net, seat, trace_rows, stoppable)?;
+        Ok(Opened {
+            net,
+            root,
+            actors,
+            stopper,
+        })
+    }
+
+    /// The net of a game with such rings, in which the end of feeding is noted from the beginning, and its tokens.
     pub fn open(
         alloc: Global,
         game: &Game,
@@ -178,16 +190,11 @@ impl Net {
         trace_rows: u64,
         stoppable: bool,
     ) -> Result<(Net, Root, Vec<Actor>, Option<Stopper>), AllocError>
-        ensures setting { IfOk result (λ r. r.0.setting ≡ setting_of game.now ring) }
-        ensures root { IfOk result (λ r. r.1 ≡ new_root r.0 (if stoppable then None else Some [])) }
-        ensures count { IfOk result (λ r. length r.2.items ≡ game.now.graph.vertices) }
-        ensures actors { IfOk result (λ r. (v : ℕ) → v < game.now.graph.vertices
-            → slice_get r.2.items v ≡ Some (newcomer r.0 trace_rows v)) }
-        ensures ours { IfOk result (λ r. All (λ a. a.net ≡ r.0) r.2.items) }
-        ensures stopper { IfOk result (λ r. r.3 ≡ (if stoppable then Some (new_stopper r.0) else None)) }
+        ensures { IfOk result (λ r. IsOpened (setting_of game.now ring) trace_rows stoppable
+            (record { net = r.0; root = r.1; actors = r.2; stopper = r.3 })) }
     {
         let setting = Setting::of_copy(alloc, game, ring, false)?;
-        opened(alloc, setting, trace_rows, stoppable)
+        Ok(Net::of(alloc, setting, trace_rows, stoppable)?.into_parts())
     }
 
     /// The same where the root may feed more chips, until it notes the end of feeding: the net can't close before.
@@ -198,15 +205,19 @@ impl Net {
         trace_rows: u64,
         stoppable: bool,
     ) -> Result<(Net, Root, Vec<Actor>, Option<Stopper>), AllocError>
-        ensures setting { IfOk result (λ r. r.0.setting ≡ setting_with game.now ring true) }
-        ensures root { IfOk result (λ r. r.1 ≡ new_root r.0 (if stoppable then None else Some [])) }
-        ensures count { IfOk result (λ r. length r.2.items ≡ game.now.graph.vertices) }
-        ensures actors { IfOk result (λ r. (v : ℕ) → v < game.now.graph.vertices
-            → slice_get r.2.items v ≡ Some (newcomer r.0 trace_rows v)) }
-        ensures ours { IfOk result (λ r. All (λ a. a.net ≡ r.0) r.2.items) }
-        ensures stopper { IfOk result (λ r. r.3 ≡ (if stoppable then Some (new_stopper r.0) else None)) }
+        ensures { IfOk result (λ r. IsOpened (setting_with game.now ring true) trace_rows stoppable
+            (record { net = r.0; root = r.1; actors = r.2; stopper = r.3 })) }
     {
         let setting = Setting::of_copy(alloc, game, ring, true)?;
-        opened(alloc, setting, trace_rows, stoppable)
+        Ok(Net::of(alloc, setting, trace_rows, stoppable)?.into_parts())
+    }
+}
+
+impl Opened {
+    /// The net, the root, the actors and the stopper.
+    fn into_parts(self) -> (Net, Root, Vec<Actor>, Option<Stopper>)
+        ensures { self ≡ record { net = result.0; root = result.1; actors = result.2; stopper = result.3 } }
+    {
+        (self.net, self.root, self.actors, self.stopper)
     }
 }

@@ -17,7 +17,7 @@ use Rattle.chip_net.specs.Roots.{feed_steps, settles_from, IsPolling, Ends}
 use Rattle.chip_net.proofs.Viewing.{part_append}
 use Rattle.chip_crew.specs.Crew.{Polled}
 use Rattle.chip_crew.proofs.Owning.{true_or_false}
-use Rattle.chip_crew.specs.Feeding.{Left, MayFeed, MayFeedLeft, FeedsNext, EndsAfter, FeedsOnce, IsLed}
+use Rattle.chip_crew.specs.Feeding.{Left, pairs, MayFeed, MayFeedLeft, FeedsNext, EndsAfter, FeedsOnce, IsLed}
 
 -- ---- events of the root
 
@@ -153,11 +153,6 @@ may_after old new more left adds may =
       within = omega (arith, may.within, given, both);
     }
 
--- what is left, as a list
-abbrev pub pairs : Left → List (ℕ × ℕ)
-pairs None = []
-pairs (Some left) = left
-
 -- the root went on feeding: of what was left some was fed, in order, and the others are left and may be fed
 pub record GoesOn (feeds left : Left) (old new : RootKnown) : Type 0 where
   pub net : new.net ≡ old.net
@@ -276,22 +271,6 @@ pub still_there : (feeds left : Left) (old here now : RootKnown) (j k : ℕ) →
 still_there feeds left old here now j k led may count is =
     subst (λ (n : ℕ). OnTheWay feeds old n now) (sym count) (subst (λ (r : RootKnown). OnTheWay feeds old j r) (sym is)
     (record { left = left; led = led; may = may }))
-
--- where the end is noted from the beginning these are polls alone
-pub led_unfed : (k : ℕ) (left : Left) (old now : RootKnown) → IsLed k None old left now
-    → (left ≡ None) × Polled k old now
-led_unfed zero left old now led = led
-led_unfed (suc k) left old now led =
-    let before = led_unfed k led.0 old led.1 led.3 in
-    let once : FeedsOnce None left led.1 led.2 =
-    subst (λ (l : Left). FeedsOnce l left led.1 led.2) before.0 led.4 in (
-      once.0,
-      (
-        led.1,
-        before.1,
-        subst (λ (r : RootKnown). IsPolling r now r.net.setting.game.graph.vertices) once.1 led.5,
-      ),
-    )
 
 -- a root that is closed has nothing left to feed
 pub over_has_fed : (left : Left) (root : RootKnown) → MayFeedLeft root left → has_ended root ≡ true → left ≡ None

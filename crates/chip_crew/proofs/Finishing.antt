@@ -1,17 +1,22 @@
 -- What is known of a crew is known of the game that it played.
-use Rattle.std.proofs.Common.{◌≡◌, ◌+◌, ◌-◌, ◌<◌, ℕ, Bool, true, false, not, if◌then◌else◌, [], Option, Some, None}
-use Rattle.std.proofs.Common.{is_some, Result, Ok, Err, IfOk, IfErr, IfSome, refl, sym, ◌∙◌, ap, subst}
+use Rattle.std.proofs.Common.{◌≡◌, ◌+◌, ◌<◌, ◌≤◌, ℕ, zero, suc, Bool, true, false, not, if◌then◌else◌, List, [], ◌∷◌}
+use Rattle.std.proofs.Common.{All, sum, Option, Some, None, is_some, Result, Ok, Err, IfOk, IfErr, IfSome}
+use Rattle.std.proofs.Common.{sym, ◌∙◌, ap, subst, arith, ltb, ltb-true}
+use Rattle.std.proofs.lemmas.Bool.{and_parts}
 use Rattle.std.specs.Result.{IsErrAnd}
 use Rattle.chip_graph.specs.ChipGame.{ChipGame}
+use Rattle.chip_graph.specs.Limits.{max_total}
+use Rattle.chip_graph.specs.More.{HasMore, all_brought}
 use Rattle.chip_sequence.specs.declared.outcome.Outcome.{Outcome}
-use Rattle.chip_sequence.specs.Play.{IsPlayed}
-use Rattle.chip_part.specs.Setting.{Setting, setting_of}
+use Rattle.chip_part.specs.Setting.{Setting, setting_with}
+use Rattle.chip_core.specs.Core.{Step}
 use Rattle.chip_net.specs.Tokens.{NetId}
-use Rattle.chip_net.specs.Roots.{RootKnown, new_root, has_ended}
-use Rattle.chip_crew.specs.Crew.{CrewId, Polled}
-use Rattle.chip_crew.specs.Feeding.{Left, IsLed}
-use Rattle.chip_crew.specs.Ending.{EndsWell, EndsOpen, EndsFed, StaysOpenFed}
-use Rattle.chip_crew.specs.Finished.{root_of, IsCrewFor, HasFinished, HasFinishedFed, IsFinished, IsClosing, IsStopped}
+use Rattle.chip_net.specs.Roots.{RootKnown, new_root, has_ended, fed_by}
+use Rattle.chip_crew.specs.Plans.{is_plan, are_feeds, AreWithinTotal}
+use Rattle.chip_crew.specs.Crew.{CrewId}
+use Rattle.chip_crew.specs.Feeding.{Left, pairs, IsLed, MayFeed, MayFeedLeft}
+use Rattle.chip_crew.specs.Ending.{EndsWell, EndsLed}
+use Rattle.chip_crew.specs.Finished.{root_of, CanPlay, IsCrewFor, HasFinished, IsWhole, IsFinished, IsClosing, IsStopped}
 use Rattle.chip_crew.specs.Finished.{IsFaultOf}
 use Rattle.chip_crew.specs.Gathering.{IsMissing, IsRoll}
 use Rattle.chip_crew.specs.Staff.{HasPolled, SomeShut}
@@ -21,8 +26,7 @@ use Rattle.chip_crew.specs.declared.play.Finished.{Finished}
 use Rattle.chip_crew.specs.declared.fault.CrewFault.{CrewFault}
 use Rattle.chip_crew.specs.declared.fault.CrewFault.TheVariants as fault
 use Rattle.chip_crew.proofs.Gathering.{placed}
-use Rattle.chip_crew.proofs.Polling.{finished_after, open_after}
-use Rattle.chip_crew.proofs.FeedLemmas.{polls_add, led_unfed, over_has_fed}
+use Rattle.chip_crew.proofs.FeedLemmas.{polls_add, led_goes_on, over_has_fed}
 
 -- the root of a net that opens for the plan is the crew's
 pub root_opens : (crew : CrewId) (plan : Plan) (root : RootKnown) (stoppable : Bool)
@@ -31,12 +35,43 @@ pub root_opens : (crew : CrewId) (plan : Plan) (root : RootKnown) (stoppable : B
 root_opens crew plan root stoppable is seal =
     is ∙ ap (λ (b : Bool). new_root crew.net (if b then None else Some [])) seal
 
+-- the root of a net that opens to be fed may feed what the plan says
+each_fits : (game : ChipGame) (feeds : List (ℕ × ℕ)) → are_feeds game feeds ≡ true
+    → All (λ (p : ℕ × ℕ). (p.0 < game.graph.vertices) × (0 < p.1)) feeds
+each_fits game [] are k d less = absurd (omega (arith, less))
+each_fits game (pair ∷ rest) are zero d less =
+    let first = and_parts (ltb pair.0 game.graph.vertices) (ltb 0 pair.1) (and_parts _ (are_feeds game rest) are).0 in
+    (ltb-true _ _ first.0, ltb-true _ _ first.1)
+each_fits game (pair ∷ rest) are (suc k) d less =
+    each_fits game rest (and_parts _ (are_feeds game rest) are).1 k d (omega (arith, less))
+
+may_feed : (game : ChipGame) (feeds : List (ℕ × ℕ)) (ring : ℕ) (net : NetId) (root : RootKnown)
+    (stopper_did : Option (List Step)) → are_feeds game feeds ≡ true → AreWithinTotal game feeds
+    → net.setting ≡ setting_with game ring true → root ≡ new_root net stopper_did → MayFeed root feeds
+may_feed game feeds ring net root stopper_did are within setting is =
+    subst (λ (r : RootKnown). MayFeed r feeds) (sym is) (record {
+      not_ended = ap (λ (g : Setting). not g.fed) setting;
+      each = subst (λ (g : Setting). All (λ (p : ℕ × ℕ). (p.0 < g.game.graph.vertices) × (0 < p.1)) feeds) (sym setting)
+          (each_fits game feeds are);
+      within = subst (λ (g : Setting). sum g.game.start + all_brought [] + all_brought feeds ≤ max_total) (sym setting)
+          (omega (arith, within));
+    })
+
+-- so it may, where it is fed
+pub may_begin : (game : ChipGame) (feeds : Left) (plan : Plan) (net : NetId) (root : RootKnown)
+    (stopper_did : Option (List Step)) → CanPlay game feeds plan
+    → net.setting ≡ setting_with game plan.ring (is_some feeds) → root ≡ new_root net stopper_did
+    → MayFeedLeft root feeds
+may_begin game None plan net root stopper_did can setting is = tt
+may_begin game (Some feeds) plan net root stopper_did can setting is = may_feed game feeds plan.ring net root stopper_did
+    (and_parts (is_plan game plan) (are_feeds game feeds) can.within).1 can.total setting is
+
 -- ---- a crew that finished
 
 -- worker 0 led the root, which closed in the end: all is fed
 pub ends_fed : (crew : CrewId) (feeds : Left) (old : RootKnown) (turns : ℕ) (middle : RootKnown) (polls : ℕ)
     (receipt : RootKnown) (o : Outcome) → HasPolled crew feeds old turns middle polls → EndsWell middle receipt o
-    → EndsFed feeds old receipt o
+    → EndsLed feeds old receipt o
 ends_fed crew feeds old turns middle polls receipt o polled ends =
     let noted : has_ended middle ≡ true =
     sym (polls_add ends.polls middle ends.root ends.polled).ended_is ∙ ends.closed.1 in
@@ -48,17 +83,6 @@ ends_fed crew feeds old turns middle polls receipt o polled ends =
       ends = ends;
     }
 
--- what was led with nothing to feed was polled
-finished_unfed : (crew : CrewId) (old : RootKnown) (f : Finished) → HasFinishedFed crew None old f
-    → HasFinished crew old f
-finished_unfed crew old f finished =
-    let ends = finished.ends in
-    record {
-      ends = finished_after ends.polls old ends.led f.receipt f.outcome
-          (led_unfed ends.polls None old ends.led ends.is_led).1 ends.ends;
-      actors = finished.actors;
-    }
-
 -- without a seal no vertex is sealed
 pub unsealed_by : (plan : Plan) (crew : CrewId) (led : RootKnown)
     → led.stopper_did ≡ (root_of crew plan).stopper_did → (receipt : RootKnown) (o : Outcome)
@@ -67,27 +91,58 @@ unsealed_by plan crew led same receipt o ends none =
     ends.finishes.unsealed ((polls_add ends.polls led ends.root ends.polled).stopper ∙ same
     ∙ ap (λ (seal : Option _). (if is_some seal then None else Some [])) none)
 
--- so the outcome is the plain player's
-played_by : (game : ChipGame) (plan : Plan) (crew : CrewId) (f : Finished) → IsCrewFor game plan crew
-    → HasFinished crew (root_of crew plan) f → plan.seal ≡ None → IsPlayed game f.outcome
-played_by game plan crew f opened finished none =
+-- all was fed, once and in order, as the root finished
+fed_all : (feeds : Left) (plan : Plan) (crew : CrewId) (f : Finished)
+    → (finished : HasFinished crew feeds (root_of crew plan) f) → fed_by finished.ends.ends.root ≡ pairs feeds
+fed_all feeds plan crew f finished =
     let ends = finished.ends in
-    let setting : ends.root.net.setting ≡ setting_of game plan.ring =
-    ap (λ (n : NetId). n.setting) (polls_add ends.polls (root_of crew plan) ends.root ends.polled).net
-    ∙ opened.setting in
-    let game_is : ends.finishes.game ≡ game =
-    ends.finishes.unfed (ap (λ (g : Setting). g.fed) setting) ∙ ap (λ (s : Setting). s.game) setting in
-    subst (λ (g : ChipGame). IsPlayed g f.outcome) game_is
-    (ends.finishes.played (unsealed_by plan crew (root_of crew plan) refl f.receipt f.outcome ends none))
+    let led = led_goes_on ends.polls feeds None (root_of crew plan) ends.led ends.is_led in
+    (polls_add ends.ends.polls ends.led ends.ends.root ends.ends.polled).fed ∙ led.fed
 
-pub finished_for : (game : ChipGame) (plan : Plan) (crew : CrewId) (old : RootKnown) (r : Result Finished CrewFault)
-    → IsCrewFor game plan crew → old ≡ root_of crew plan → IfOk r (HasFinishedFed crew None old)
-    → IfOk r (IsFinished game plan)
-finished_for game plan crew old (Ok f) opened is finished =
-    let all = finished_unfed crew (root_of crew plan) f
-    (subst (λ (o : RootKnown). HasFinishedFed crew None o f) is finished) in
-    record { crew = crew; opened = opened; finished = all; played = played_by game plan crew f opened all }
-finished_for game plan crew old (Err e) opened is finished = tt
+-- the root that finished is that of the crew's net
+net_is : (feeds : Left) (plan : Plan) (crew : CrewId) (f : Finished)
+    → (finished : HasFinished crew feeds (root_of crew plan) f) → finished.ends.ends.root.net ≡ crew.net
+net_is feeds plan crew f finished =
+    let ends = finished.ends in
+    let led = led_goes_on ends.polls feeds None (root_of crew plan) ends.led ends.is_led in
+    (polls_add ends.ends.polls ends.led ends.ends.root ends.ends.polled).net ∙ led.net
+
+-- the game of the outcome is the one that has all chips at the start
+whole_by : (game whole : ChipGame) (feeds : Left) (net : NetId) (fed : List (ℕ × ℕ)) (ring : ℕ)
+    → net.setting ≡ setting_with game ring (is_some feeds) → fed ≡ pairs feeds
+    → (net.setting.fed ≡ false → whole ≡ net.setting.game) → HasMore net.setting.game fed whole
+    → IsWhole game feeds whole
+whole_by game whole None net fed ring setting is unfed more =
+    unfed (ap (λ (g : Setting). g.fed) setting) ∙ ap (λ (g : Setting). g.game) setting
+whole_by game whole (Some feeds) net fed ring setting is unfed more =
+    subst (λ (z : ChipGame × List (ℕ × ℕ)). HasMore z.0 z.1 whole)
+    (λ i. (ap (λ (g : Setting). g.game) setting i, is i)) more
+
+finished_by : (game : ChipGame) (feeds : Left) (plan : Plan) (crew : CrewId) (f : Finished)
+    → IsCrewFor game feeds plan crew → HasFinished crew feeds (root_of crew plan) f → IsFinished game feeds plan f
+finished_by game feeds plan crew f opened finished =
+    let ends = finished.ends in
+    let finishes = ends.ends.finishes in
+    let fed = fed_all feeds plan crew f finished in
+    let led = led_goes_on ends.polls feeds None (root_of crew plan) ends.led ends.is_led in
+    record {
+      crew = crew;
+      opened = opened;
+      finished = finished;
+      fed = fed;
+      whole = finishes.game;
+      whole_is = whole_by game finishes.game feeds ends.ends.root.net (fed_by ends.ends.root) plan.ring
+          (ap (λ (n : NetId). n.setting) (net_is feeds plan crew f finished) ∙ opened.setting) fed finishes.unfed
+          finishes.more;
+      played = λ none. finishes.played (unsealed_by plan crew ends.led led.stopper f.receipt f.outcome ends.ends none);
+    }
+
+pub finished_for : (game : ChipGame) (feeds : Left) (plan : Plan) (crew : CrewId) (old : RootKnown)
+    (r : Result Finished CrewFault) → IsCrewFor game feeds plan crew → old ≡ root_of crew plan
+    → IfOk r (HasFinished crew feeds old) → IfOk r (IsFinished game feeds plan)
+finished_for game feeds plan crew old (Ok f) opened is finished = finished_by game feeds plan crew f opened
+    (subst (λ (o : RootKnown). HasFinished crew feeds o f) is finished)
+finished_for game feeds plan crew old (Err e) opened is finished = tt
 
 -- a missing actor, where no gate was shut
 missing_closes : (crew : CrewId) (feeds : Left) (old : RootKnown) (turns : ℕ) (joined : Joined) (e : CrewFault)
@@ -133,39 +188,26 @@ closing_stopped crew feeds old turns joined shut (Err e) passed roll why =
 
 -- ---- a crew that didn't finish
 
--- the root of a net that isn't fed has noted the end from the beginning
-open_unfed : (game : ChipGame) (plan : Plan) (crew : CrewId) (now : RootKnown) (deficit : ℕ) → IsCrewFor game plan crew
-    → StaysOpenFed plan.turns None (root_of crew plan) now deficit
-    → EndsOpen plan.turns (root_of crew plan) now deficit
-open_unfed game plan crew now deficit opened left =
-    let old : RootKnown = root_of crew plan in
-    let first : Polled left.polls old left.led = (led_unfed left.polls left.left old left.led left.is_led).1 in
-    let ended : has_ended now ≡ true =
-    (polls_add (plan.turns - left.polls + 1) left.led now left.stays.polled).ended_is
-    ∙ (polls_add left.polls old left.led first).ended_is ∙ ap (λ (g : Setting). not g.fed) opened.setting in
-    open_after left.polls plan.turns deficit old left.led now first left.at_most ended left.stays
-
 -- why a crew that was opened for the game didn't finish
-stopped_by : (game : ChipGame) (plan : Plan) (may_shut : ℕ → ℕ → Type 0) (crew : CrewId) (e : CrewFault)
-    → IsCrewFor game plan crew
-    → IsStopped crew None (root_of crew plan) plan.turns (SomeShut may_shut plan.workers plan.turns) e
-    → IsFaultOf game plan may_shut e
-stopped_by game plan may_shut crew fault.Plan opened why = absurd why
-stopped_by game plan may_shut crew fault.Total opened why = absurd why
-stopped_by game plan may_shut crew fault.NoMemory opened why = opened.within
-stopped_by game plan may_shut crew fault.Spawn opened why = opened.within
-stopped_by game plan may_shut crew fault.GateShut opened why = (opened.within, why)
-stopped_by game plan may_shut crew (fault.Doubled v) opened why =
-    (opened.within, subst (λ (g : Setting). v < g.game.graph.vertices) opened.setting why)
-stopped_by game plan may_shut crew (fault.Lost v) opened why =
-    (opened.within, subst (λ (g : Setting). v < g.game.graph.vertices) opened.setting why)
-stopped_by game plan may_shut crew (fault.Unfinished deficit root) opened why =
-    (crew, opened, open_unfed game plan crew root deficit opened why)
+stopped_by : (game : ChipGame) (feeds : Left) (plan : Plan) (may_shut : ℕ → ℕ → Type 0) (crew : CrewId)
+    (e : CrewFault) → IsCrewFor game feeds plan crew
+    → IsStopped crew feeds (root_of crew plan) plan.turns (SomeShut may_shut plan.workers plan.turns) e
+    → IsFaultOf game feeds plan may_shut e
+stopped_by game feeds plan may_shut crew fault.Plan opened why = absurd why
+stopped_by game feeds plan may_shut crew fault.Total opened why = absurd why
+stopped_by game feeds plan may_shut crew fault.NoMemory opened why = opened.can
+stopped_by game feeds plan may_shut crew fault.Spawn opened why = opened.can
+stopped_by game feeds plan may_shut crew fault.GateShut opened why = (opened.can, why)
+stopped_by game feeds plan may_shut crew (fault.Doubled v) opened why =
+    (opened.can, subst (λ (g : Setting). v < g.game.graph.vertices) opened.setting why)
+stopped_by game feeds plan may_shut crew (fault.Lost v) opened why =
+    (opened.can, subst (λ (g : Setting). v < g.game.graph.vertices) opened.setting why)
+stopped_by game feeds plan may_shut crew (fault.Unfinished deficit root) opened why = (crew, opened, why)
 
-pub stopped_for : (game : ChipGame) (plan : Plan) (may_shut : ℕ → ℕ → Type 0) (crew : CrewId) (old : RootKnown)
-    (r : Result Finished CrewFault) → IsCrewFor game plan crew → old ≡ root_of crew plan
-    → IfErr r (IsStopped crew None old plan.turns (SomeShut may_shut plan.workers plan.turns))
-    → IfErr r (IsFaultOf game plan may_shut)
-stopped_for game plan may_shut crew old (Ok f) opened is why = tt
-stopped_for game plan may_shut crew old (Err e) opened is why = stopped_by game plan may_shut crew e opened
-    (subst (λ (o : RootKnown). IsStopped crew None o plan.turns (SomeShut may_shut plan.workers plan.turns) e) is why)
+pub stopped_for : (game : ChipGame) (feeds : Left) (plan : Plan) (may_shut : ℕ → ℕ → Type 0) (crew : CrewId)
+    (old : RootKnown) (r : Result Finished CrewFault) → IsCrewFor game feeds plan crew → old ≡ root_of crew plan
+    → IfErr r (IsStopped crew feeds old plan.turns (SomeShut may_shut plan.workers plan.turns))
+    → IfErr r (IsFaultOf game feeds plan may_shut)
+stopped_for game feeds plan may_shut crew old (Ok f) opened is why = tt
+stopped_for game feeds plan may_shut crew old (Err e) opened is why = stopped_by game feeds plan may_shut crew e opened
+    (subst (λ (o : RootKnown). IsStopped crew feeds o plan.turns (SomeShut may_shut plan.workers plan.turns) e) is why)

@@ -5,4 +5,3 @@ pub mod Polling
 pub mod FeedLemmas
 pub mod Crossing
 pub mod Finishing
-pub mod FedLemmas

@@ -1,5 +1,5 @@
 -- How a crew ends.
-use Rattle.std.specs.Prelude.{◌≡◌, ℕ, ◌+◌, ◌-◌, ◌<◌, ◌≤◌, false, None}
+use Rattle.std.specs.Prelude.{◌≡◌, ℕ, ◌+◌, ◌-◌, ◌≤◌, false, None}
 use Rattle.chip_sequence.specs.declared.outcome.Outcome.{Outcome}
 use Rattle.chip_net.specs.Roots.{RootKnown, root_deficit, has_ended, IsOver}
 use Rattle.chip_net.specs.Finish.{Finishes}
@@ -28,16 +28,8 @@ pub record EndsWell (old receipt : RootKnown) (o : Outcome) : Type 0 where
   pub closed : IsOver root
   pub finishes : Finishes root receipt o
 
--- the same where nothing is fed: some message is left
-pub record EndsOpen (more : ℕ) (old now : RootKnown) (left : ℕ) : Type 0 where
-  pub polled : Polled (more + 1) old now
-  pub deficit : left ≡ root_deficit now
-  pub some : 0 < left
-
--- ---- of a root that is fed
-
 -- worker 0 led it until all was fed and the end noted; then it was polled until it was closed, and it finished
-pub record EndsFed (feeds : Left) (old receipt : RootKnown) (o : Outcome) : Type 0 where
+pub record EndsLed (feeds : Left) (old receipt : RootKnown) (o : Outcome) : Type 0 where
   pub polls : ℕ
   pub led : RootKnown
   pub is_led : IsLed polls feeds old None led
@@ -45,7 +37,7 @@ pub record EndsFed (feeds : Left) (old receipt : RootKnown) (o : Outcome) : Type
 
 -- worker 0 led it for so many polls, which left this to be fed; then it was polled as often as worker 0 had not, and
 -- once more, and it isn't closed
-pub record StaysOpenFed (turns : ℕ) (feeds : Left) (old now : RootKnown) (deficit : ℕ) : Type 0 where
+pub record StaysUnfinished (turns : ℕ) (feeds : Left) (old now : RootKnown) (deficit : ℕ) : Type 0 where
   pub polls : ℕ
   pub at_most : polls ≤ turns
   pub left : Left

@@ -9,6 +9,11 @@ use Rattle.chip_net.specs.declared.root.RootState.{RootState}
 abbrev pub Left : Type 0
 Left = Option (List (ℕ × ℕ))
 
+-- what is left, as a list
+abbrev pub pairs : Left → List (ℕ × ℕ)
+pairs None = []
+pairs (Some left) = left
+
 -- the root may feed all of these: the end isn't noted, each is of one chip or more for a vertex, and with what was given
 -- they stay within the total
 pub record MayFeed (root : RootKnown) (left : List (ℕ × ℕ)) : Type 0 where

@@ -19,4 +19,4 @@ mod worker;
 
 pub use fault::CrewFault;
 pub use plan::{Gate, MAX_TRACE_ROWS, MAX_TURNS, MAX_WORKERS, Plan, SealAt};
-pub use play::{Finished, run, run_fed};
+pub use play::{Finished, run, run_fed, run_with};

@@ -1,5 +1,8 @@
-ghost use Rattle.std.specs.Prelude.{◌≡◌, ◌↔◌, ◌<◌, true, false, IsTrue, MatchResult};
-ghost use Rattle.chip_crew.specs.Plans.{is_plan, AreWithinTotal};
+ghost use Rattle.std.specs.Prelude.{◌≡◌, ◌↔◌, ◌<◌, IsTrue, MatchResult};
+ghost use Rattle.std.specs.Option.{option_copied};
+ghost use Rattle.chip_crew.specs.Plans.{is_plan};
+ghost use Rattle.chip_crew.specs.Feeding.{pairs};
+ghost use Rattle.chip_crew.specs.Finished.{CanPlay, RefusesPlan, StaysWithin};
 
 use crate::fault::CrewFault;
 use chip_graph::{Game, MAX_TOTAL};
@@ -58,15 +61,23 @@ pub struct Plan {
 }
 
 impl Plan {
-    /// The rings of this plan's net, where its numbers are in their ranges for this game.
-    pub(crate) fn ring_for(&self, game: &Game) -> Result<Ring, CrewFault>
-        ensures { MatchResult result (λ ring. (is_plan game.now self.now ≡ true) × (ring ≡ self.now.ring))
-            (λ fault. (is_plan game.now self.now ≡ false) × (fault ≡ CrewFault.Plan)) }
+    /// The rings of this plan's net, where a crew can play this game with these feeds.
+    pub(crate) fn ring_for(
+        &self,
+        game: &Game,
+        feeds: Option<&[(u64, u64)]>,
+    ) -> Result<Ring, CrewFault>
+        ensures { MatchResult result (λ ring. CanPlay game.now (option_copied feeds.entry) self.now × (ring ≡ self.now.ring))
+            (RefusesPlan game.now (option_copied feeds.entry) self.now) }
     {
-        match Ring::new(self.ring) {
-            Some(ring) if self.is_within(game) => Ok(ring),
-            _ => Err(CrewFault::Plan),
+        let ring = match Ring::new(self.ring) {
+            Some(ring) if self.is_within(game) && are_feeds(game, feeds) => ring,
+            _ => return Err(CrewFault::Plan),
+        };
+        if !are_within_total(game, feeds) {
+            return Err(CrewFault::Total);
         }
+        Ok(ring)
     }
 
     /// Whether the numbers are in their ranges for this game.
@@ -92,9 +103,12 @@ fn is_count(most: u64, count: u64) -> bool
 }
 
 /// Whether each feed is of a vertex of the graph and of one chip or more.
-pub(crate) fn are_feeds(game: &Game, feeds: &[(u64, u64)]) -> bool
-    ensures { result ≡ Rattle.chip_crew.specs.Plans.are_feeds game.now feeds.now }
+fn are_feeds(game: &Game, feeds: Option<&[(u64, u64)]>) -> bool
+    ensures { result ≡ Rattle.chip_crew.specs.Plans.are_feeds game.now (pairs (option_copied feeds.entry)) }
 {
+    let Some(feeds) = feeds else {
+        return true;
+    };
     let vertices = game.graph().vertices();
     feeds
         .iter()
@@ -102,9 +116,12 @@ pub(crate) fn are_feeds(game: &Game, feeds: &[(u64, u64)]) -> bool
 }
 
 /// Whether the chips of the start and of all feeds are at most `MAX_TOTAL`.
-pub(crate) fn are_within_total(game: &Game, feeds: &[(u64, u64)]) -> bool
-    ensures { IsTrue result ↔ AreWithinTotal game.now feeds.now }
+fn are_within_total(game: &Game, feeds: Option<&[(u64, u64)]>) -> bool
+    ensures { IsTrue result ↔ StaysWithin game.now (option_copied feeds.entry) }
 {
+    let Some(feeds) = feeds else {
+        return true;
+    };
     let mut room = MAX_TOTAL - game.total();
     for &(_, count) in feeds {
         if count > room {

@@ -1,6 +1,6 @@
 //! A game played by a crew, from its opening to its end.
 
-ghost use Rattle.std.specs.Prelude.{◌≡◌, ◌<◌, ◌≤◌, true, [], All, length, IfOk, IfErr, IfSome};
+ghost use Rattle.std.specs.Prelude.{◌≡◌, ◌<◌, ◌≤◌, true, [], All, length, Some, None, IfOk, IfErr, IfSome};
 ghost use Rattle.std.specs.Vec.{vec_capacity};
 ghost use Rattle.chip_net.specs.Roots.{RootKnown};
 ghost use Rattle.chip_crew.specs.Staff.{HasPolled, IsHelm, AllTellShut};
@@ -9,20 +9,20 @@ ghost use Rattle.std.specs.Option.{option_copied};
 ghost use Rattle.chip_crew.specs.Crew.{IsOurs};
 ghost use Rattle.chip_crew.specs.Feeding.{MayFeedLeft};
 ghost use Rattle.chip_crew.specs.Gathering.{IsRoll};
-ghost use Rattle.chip_crew.specs.Finished.{HasFinishedFed, IsFinished, IsFinishedFed, IsClosing, IsStopped};
-ghost use Rattle.chip_crew.specs.Finished.{IsFaultOf, IsFedFaultOf};
+ghost use Rattle.chip_crew.specs.Finished.{HasFinished, IsFinished, IsClosing, IsStopped, IsFaultOf};
 
 use crate::boxed::BoxedActor;
 use crate::ending::last_poll;
 use crate::fault::CrewFault;
 use crate::lead::Helm;
-use crate::plan::{Gate, Plan, are_feeds, are_within_total};
+use crate::plan::{Gate, Plan};
 use crate::queue::{Line, LinePass, Puts, Room, Takes};
 use crate::roll::{Roll, empty_roll, gathered, note};
 use crate::staff::{Joined, Started, staff};
 use crate::worker::Floor;
 use chip_graph::Game;
-use chip_net::{Actor, Net, Receipt, Root, Stopper};
+use chip_net::{Actor, Net, Opened, Receipt, Root};
+use chip_part::Setting;
 use chip_sequence::Outcome;
 use std::alloc::{AllocError, Global};
 use std::marker::Brand;
@@ -85,7 +85,7 @@ fn closing<B: Room>(net: &Net, joined: Joined, turns: u64) -> Result<Finished, C
     requires root { HasPolled B.crew B.feeds B.root B.turns joined.root joined.polls }
     requires roll { IsRoll B.crew joined.roll }
     ensures passed { IfOk result (λ _. joined.passed ≡ true) }
-    ensures finished { IfOk result (HasFinishedFed B.crew B.feeds B.root) }
+    ensures finished { IfOk result (HasFinished B.crew B.feeds B.root) }
     ensures stopped { IfErr result (IsClosing B.crew B.feeds B.root B.turns joined) }
 {
     let Joined {
@@ -159,7 +159,7 @@ fn worked<R: Threads + Wait, B: Room + Send + Sync, G: Gate + Sync>(
     requires helm { IsHelm B.crew B.feeds B.root helm }
     requires some_workers { 0 < plan.now.workers }
     requires gate { AllTellShut (G.may_shut gate.now) plan.now.workers plan.now.turns B.shut }
-    ensures finished { IfOk result (HasFinishedFed B.crew B.feeds B.root) }
+    ensures finished { IfOk result (HasFinished B.crew B.feeds B.root) }
     ensures stopped { IfErr result (IsStopped B.crew B.feeds B.root B.turns B.shut) }
 {
     let Ground {
@@ -181,9 +181,6 @@ fn worked<R: Threads + Wait, B: Room + Send + Sync, G: Gate + Sync>(
     closing::<B>(net, joined, plan.turns)
 }
 
-/// A net that has just been opened, with its tokens.
-type Opened = (Net, Root, Vec<Actor>, Option<Stopper>);
-
 /// Plays on a net that has just been opened, and feeds it.
 fn played_on<R: Threads + Wait, B: Room + Send + Sync, G: Gate + Sync>(
     rt: &R,
@@ -193,20 +190,25 @@ fn played_on<R: Threads + Wait, B: Room + Send + Sync, G: Gate + Sync>(
     plan: &Plan,
     gate: &G,
 ) -> Result<Finished, CrewFault>
-    requires net { opened.0 ≡ B.crew.net }
-    requires root { (opened.1 ≡ B.root) × (opened.1.net ≡ B.crew.net) }
-    requires actors { All (IsOurs B.crew) opened.2.items }
-    requires stopper { IfSome opened.3 (λ s. s.net ≡ B.crew.net) }
+    requires net { opened.net ≡ B.crew.net }
+    requires root { (opened.root ≡ B.root) × (opened.root.net ≡ B.crew.net) }
+    requires actors { All (IsOurs B.crew) opened.actors.items }
+    requires stopper { IfSome opened.stopper (λ s. s.net ≡ B.crew.net) }
     requires feeds { (option_copied feeds ≡ B.feeds) × MayFeedLeft B.root B.feeds }
-    requires count { length opened.2.items ≡ B.crew.net.setting.game.graph.vertices }
+    requires count { length opened.actors.items ≡ B.crew.net.setting.game.graph.vertices }
     requires some { 0 < B.crew.net.setting.game.graph.vertices }
     requires turns { plan.now.turns ≡ B.turns }
     requires some_workers { 0 < plan.now.workers }
     requires gate { AllTellShut (G.may_shut gate.now) plan.now.workers plan.now.turns B.shut }
-    ensures finished { IfOk result (HasFinishedFed B.crew B.feeds B.root) }
+    ensures finished { IfOk result (HasFinished B.crew B.feeds B.root) }
     ensures stopped { IfErr result (IsStopped B.crew B.feeds B.root B.turns B.shut) }
 {
-    let (net, root, actors, stopper) = opened;
+    let Opened {
+        net,
+        root,
+        actors,
+        stopper,
+    } = opened;
     let helm = Helm {
         root,
         feeds,
@@ -216,9 +218,32 @@ fn played_on<R: Threads + Wait, B: Room + Send + Sync, G: Gate + Sync>(
     worked(rt, &net, ground, helm, plan, gate)
 }
 
-/// Plays a game on a net of its own by as many threads as the plan says. Worker 0 polls the root after each turn of
-/// its own and ends the others' work once it is closed; when all have ended, the calling thread polls once more, or as
-/// often as worker 0 did not, and finishes. All threads are joined, whatever happens.
+/// Plays a game on a net of its own by as many threads as the plan says, and feeds it where there are feeds: a vertex and
+/// a count of chips for it each.
+///
+/// Worker 0 polls the root after each turn of its own and ends the others' work once it is closed; when all have ended,
+/// the calling thread polls once more, or as often as worker 0 did not, and finishes. Before each turn of its own worker
+/// 0 makes the next feed, where the cell for its message is empty, and after the last one it notes that no more come.
+/// Without a seal the game ends as the one that has all these chips at the start. All threads are joined, whatever
+/// happens.
+pub fn run_with<R: Threads + Wait, G: Gate + Sync>(
+    rt: &R,
+    alloc: Global,
+    game: &Game,
+    plan: Plan,
+    feeds: Option<&[(u64, u64)]>,
+    gate: &G,
+) -> Result<Finished, CrewFault>
+    ensures finished { IfOk result (IsFinished game.now (option_copied feeds.entry) plan) }
+    ensures fault { IfErr result (IsFaultOf game.now (option_copied feeds.entry) plan (G.may_shut gate.now)) }
+{
+    let ring = plan.ring_for(game, feeds)?;
+    let setting = Setting::of_copy(alloc, game, ring, feeds.is_some())?;
+    let opened = Net::of(alloc, setting, plan.trace_rows, plan.seal.is_some())?;
+    played_on::<R, Brand, G>(rt, alloc, opened, feeds, &plan, gate)
+}
+
+/// Does what `run_with` does where nothing is fed.
 pub fn run<R: Threads + Wait, G: Gate + Sync>(
     rt: &R,
     alloc: Global,
@@ -226,18 +251,13 @@ pub fn run<R: Threads + Wait, G: Gate + Sync>(
     plan: Plan,
     gate: &G,
 ) -> Result<Finished, CrewFault>
-    ensures finished { IfOk result (IsFinished game.now plan) }
-    ensures fault { IfErr result (IsFaultOf game.now plan (G.may_shut gate.now)) }
+    ensures finished { IfOk result (IsFinished game.now None plan) }
+    ensures fault { IfErr result (IsFaultOf game.now None plan (G.may_shut gate.now)) }
 {
-    let ring = plan.ring_for(game)?;
-    let stoppable = plan.seal.is_some();
-    let opened = Net::open(alloc, game, ring, plan.trace_rows, stoppable)?;
-    played_on::<R, Brand, G>(rt, alloc, opened, None, &plan, gate)
+    run_with(rt, alloc, game, plan, None, gate)
 }
 
-/// As `run`, with chips that are fed while the game runs: each feed is a vertex and a count of chips for it. Before each
-/// turn of its own worker 0 makes the next feed, where the cell for its message is empty, and after the last one it
-/// notes that no more come. Without a seal the game ends as the one that has all these chips at the start.
+/// Does what `run_with` does where there are feeds.
 pub fn run_fed<R: Threads + Wait, G: Gate + Sync>(
     rt: &R,
     alloc: Global,
@@ -246,17 +266,8 @@ pub fn run_fed<R: Threads + Wait, G: Gate + Sync>(
     feeds: &[(u64, u64)],
     gate: &G,
 ) -> Result<Finished, CrewFault>
-    ensures finished { IfOk result (IsFinishedFed game.now feeds.now plan) }
-    ensures fault { IfErr result (IsFedFaultOf game.now feeds.now plan (G.may_shut gate.now)) }
+    ensures finished { IfOk result (IsFinished game.now (Some feeds.now) plan) }
+    ensures fault { IfErr result (IsFaultOf game.now (Some feeds.now) plan (G.may_shut gate.now)) }
 {
-    let ring = plan.ring_for(game)?;
-    if !are_feeds(game, feeds) {
-        return Err(CrewFault::Plan);
-    }
-    if !are_within_total(game, feeds) {
-        return Err(CrewFault::Total);
-    }
-    let stoppable = plan.seal.is_some();
-    let opened = Net::open_fed(alloc, game, ring, plan.trace_rows, stoppable)?;
-    played_on::<R, Brand, G>(rt, alloc, opened, Some(feeds), &plan, gate)
+    run_with(rt, alloc, game, plan, Some(feeds), gate)
 }

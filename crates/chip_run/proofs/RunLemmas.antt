@@ -6,7 +6,6 @@ use Rattle.chip_graph.specs.ChipGame.{ChipGame}
 use Rattle.chip_report.specs.Written.{WritesAll}
 use Rattle.chip_report.specs.declared.write.WriteFault.{WriteFault}
 use Rattle.chip_crew.specs.declared.plan.Plan.{Plan}
-use Rattle.chip_crew.specs.declared.play.Finished.{Finished}
 use Rattle.chip_net.specs.Tokens.{ActorKnown}
 use Rattle.chip_trace.specs.TraceText.{trace_text, WritesText}
 use Rattle.chip_trace.specs.declared.fault.TraceFault.{TraceFault}
@@ -17,13 +16,14 @@ use Rattle.chip_command.specs.declared.ended.Ended.{Ended}
 use Rattle.chip_command.specs.declared.fault.Fault.{Fault}
 use Rattle.chip_command.specs.declared.fault.Fault.TheVariants.{Write}
 use Rattle.chip_command.proofs.InputLemmas.{Keeps-same}
-use Rattle.chip_crew.specs.Finished.{IsFaultOf, IsFedFaultOf}
+use Rattle.chip_crew.specs.Feeding.{Left}
+use Rattle.chip_crew.specs.Finished.{IsFaultOf}
 use Rattle.chip_crew.specs.declared.fault.CrewFault.{CrewFault}
 use Rattle.chip_crew.specs.declared.fault.CrewFault.TheVariants as crew
 use Rattle.chip_run.specs.Feeding.{ForText, MeansFed, MeansFedGame, RefusesFedGame}
 use Rattle.chip_run.specs.Recording.{rows_kept, RecordsIfAsked, FailsToRecord}
-use Rattle.chip_run.specs.RunCommand.{RunAnswers, Outputs, KeepsBoth, IsNotPlayed, Finishes, Plays, PlaysFed}
-use Rattle.chip_run.specs.RunCommand.{never_shut}
+use Rattle.chip_run.specs.RunCommand.{RunAnswers, Outputs, KeepsBoth, IsNotPlayed, Plays}
+use Rattle.chip_run.specs.RunCommand.{never_shut, fault_of_crew}
 
 -- what is known of a text is all that follows of it
 pub for_text : (left : Option (Option (List ℕ))) (P Q : Option (List ℕ) → Type 0)
@@ -100,12 +100,6 @@ plays_as g feeds plan actors seen text told status plays actors_is text_is =
     subst (λ (l : List ActorKnown). Plays g feeds plan l told status) (sym actors_is)
     (subst (λ (t : List ℕ). Plays g feeds plan actors t status) (sym text_is) plays)
 
--- without a seal a crew that finished played as the plain player does
-pub plays_fed : (g : ChipGame) (feeds : Option (List (ℕ × ℕ))) (plan : Plan) (f : Finished) → Finishes g feeds plan f
-    → plan.seal ≡ None → PlaysFed g feeds f.outcome
-plays_fed g None plan f is unsealed = (g, refl, is.played unsealed)
-plays_fed g (Some feeds) plan f is unsealed = (is.more, is.has_more, is.played unsealed)
-
 -- why the rows of these actors did not go out, by the fault of what writes their text
 pub fails_by : (actors : List ActorKnown) (old new : Option (List ℕ)) (text : List ℕ)
     → text ≡ trace_text (map rows_kept actors) → (e : TraceFault) → WritesText old new text (Err e)
@@ -131,35 +125,21 @@ means_fed graph_text chips_text feed_text limit g feeds vertices same game fed =
 }
 
 -- the fault of a crew whose gate may answer false nowhere is that of one whose gate is never shut
-pub of_open_gate : (g : ChipGame) (plan : Plan) (may_shut : ℕ → ℕ → Type 0)
-    → ((worker turn : ℕ) → may_shut worker turn → ⊥) → (e : CrewFault) → IsFaultOf g plan may_shut e
-    → IsFaultOf g plan never_shut e
-of_open_gate g plan may_shut never crew.Plan is = is
-of_open_gate g plan may_shut never crew.Total is = is
-of_open_gate g plan may_shut never crew.NoMemory is = is
-of_open_gate g plan may_shut never crew.Spawn is = is
-of_open_gate g plan may_shut never crew.GateShut (within, (worker, turn, in_crew, in_turns, shut)) =
+of_open_gate : (g : ChipGame) (feeds : Left) (plan : Plan) (may_shut : ℕ → ℕ → Type 0)
+    → ((worker turn : ℕ) → may_shut worker turn → ⊥) → (e : CrewFault) → IsFaultOf g feeds plan may_shut e
+    → IsFaultOf g feeds plan never_shut e
+of_open_gate g feeds plan may_shut never crew.Plan is = is
+of_open_gate g feeds plan may_shut never crew.Total is = is
+of_open_gate g feeds plan may_shut never crew.NoMemory is = is
+of_open_gate g feeds plan may_shut never crew.Spawn is = is
+of_open_gate g feeds plan may_shut never crew.GateShut (can, (worker, turn, in_crew, in_turns, shut)) =
     absurd (never worker turn shut)
-of_open_gate g plan may_shut never (crew.Doubled vertex) is = is
-of_open_gate g plan may_shut never (crew.Lost vertex) is = is
-of_open_gate g plan may_shut never (crew.Unfinished deficit root) is = is
+of_open_gate g feeds plan may_shut never (crew.Doubled vertex) is = is
+of_open_gate g feeds plan may_shut never (crew.Lost vertex) is = is
+of_open_gate g feeds plan may_shut never (crew.Unfinished deficit root) is = is
 
--- what follows of each fault follows of the one that there is
-pub if_err : {T E : Type 0} (result : Result T E) (P Q : E → Type 0) → ((e : E) → P e → Q e) → IfErr result P
-    → IfErr result Q
-if_err (Ok value) P Q then is = is
-if_err (Err e) P Q then is = then e is
-
--- and so with a crew that is fed
-pub of_fed_gate : (g : ChipGame) (feeds : List (ℕ × ℕ)) (plan : Plan) (may_shut : ℕ → ℕ → Type 0)
-    → ((worker turn : ℕ) → may_shut worker turn → ⊥) → (e : CrewFault) → IsFedFaultOf g feeds plan may_shut e
-    → IsFedFaultOf g feeds plan never_shut e
-of_fed_gate g feeds plan may_shut never crew.Plan is = is
-of_fed_gate g feeds plan may_shut never crew.Total is = is
-of_fed_gate g feeds plan may_shut never crew.NoMemory is = is
-of_fed_gate g feeds plan may_shut never crew.Spawn is = is
-of_fed_gate g feeds plan may_shut never crew.GateShut (can, (worker, turn, in_crew, in_turns, shut)) =
-    absurd (never worker turn shut)
-of_fed_gate g feeds plan may_shut never (crew.Doubled vertex) is = is
-of_fed_gate g feeds plan may_shut never (crew.Lost vertex) is = is
-of_fed_gate g feeds plan may_shut never (crew.Unfinished deficit root) is = is
+-- so the game was not played
+pub not_played : (g : ChipGame) (feeds : Left) (plan : Plan) (may_shut : ℕ → ℕ → Type 0)
+    → ((worker turn : ℕ) → may_shut worker turn → ⊥) → (e : CrewFault) (f : Fault) → IsFaultOf g feeds plan may_shut e
+    → f ≡ fault_of_crew e → IsNotPlayed g feeds plan f
+not_played g feeds plan may_shut never e f is same = inl (e, of_open_gate g feeds plan may_shut never e is, same)

@@ -4,7 +4,6 @@ use Rattle.std.specs.Prelude.{◌≡◌, ◌⊎◌, ℕ, Bool, nat_lt, ⊤, List
 use Rattle.std.specs.List.{enumerate_from}
 use Rattle.std.specs.Option.{ForSome}
 use Rattle.chip_graph.specs.ChipGame.{ChipGame}
-use Rattle.chip_graph.specs.More.{HasMore}
 use Rattle.chip_file.specs.ChipsText.{chips_of_text, chips_text_fault}
 use Rattle.chip_command.specs.Inputs.{Reads, MeansGame, RefusesInputs, RefusesText}
 use Rattle.chip_command.specs.declared.fault.Fault.{Fault}
@@ -49,11 +48,6 @@ abbrev pub RefusesFedGame : List ℕ → List ℕ → Option (List ℕ) → ℕ 
 RefusesFedGame graph_text chips_text feed_text limit fault =
     RefusesInputs graph_text chips_text limit fault
     ⊎ ((g : ChipGame) × MeansGame graph_text chips_text limit g × RefusesFed feed_text g.graph.vertices fault)
-
--- the game that has all chips at the start, also those that are fed
-abbrev pub IsWhole : ChipGame → Option (List (ℕ × ℕ)) → ChipGame → Type 0
-IsWhole g None whole = whole ≡ g
-IsWhole g (Some feeds) whole = HasMore g feeds whole
 
 -- a fact of the text that a reader has left, where it is known; of no text where there is no reader
 abbrev pub ForText : Option (Option (List ℕ)) → (Option (List ℕ) → Type 0) → Type 0

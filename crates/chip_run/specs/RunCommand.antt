@@ -1,13 +1,11 @@
 -- From the bytes of a graph file, a chips file and a file of feeds to those of the report of a game that threads play.
-use Rattle.std.specs.Prelude.{◌≡◌, ◌⊎◌, ℕ, Bool, List, Option, None, Some, Result, Ok, Err}
+use Rattle.std.specs.Prelude.{◌≡◌, ◌⊎◌, ℕ, Bool, List, Option, None, Result, Ok, Err}
 use Rattle.std.specs.Io.KnownBytes.{Appends, Keeps}
 use Rattle.chip_graph.specs.ChipGame.{ChipGame}
 use Rattle.chip_graph.specs.declared.fault.GameFault.TheVariants.{Total}
-use Rattle.chip_sequence.specs.Play.{IsPlayed}
-use Rattle.chip_sequence.specs.declared.outcome.Outcome.{Outcome}
 use Rattle.chip_report.specs.Written.{WritesAll}
 use Rattle.chip_report.specs.declared.write.WriteFault.{WriteFault}
-use Rattle.chip_crew.specs.Finished.{IsFinished, IsFinishedFed, IsFaultOf, IsFedFaultOf}
+use Rattle.chip_crew.specs.Finished.{IsWhole, IsFinished, IsFaultOf}
 use Rattle.chip_crew.specs.declared.play.Finished.{Finished}
 use Rattle.chip_net.specs.Tokens.{ActorKnown}
 use Rattle.chip_crew.specs.declared.plan.Plan.{Plan}
@@ -17,7 +15,7 @@ use Rattle.chip_command.specs.Reports.{Reports}
 use Rattle.chip_command.specs.declared.ended.Ended.{Ended}
 use Rattle.chip_command.specs.declared.fault.Fault.{Fault}
 use Rattle.chip_command.specs.declared.fault.Fault.TheVariants as fault
-use Rattle.chip_run.specs.Feeding.{MeansFedGame, RefusesFedGame, IsWhole}
+use Rattle.chip_run.specs.Feeding.{MeansFedGame, RefusesFedGame}
 use Rattle.chip_run.specs.Recording.{RecordsIfAsked, FailsToRecord}
 
 -- the plan by these numbers, which seals nothing
@@ -41,36 +39,22 @@ abbrev pub never_shut : ℕ → ℕ → Type 0
 never_shut worker turn = ⊥
 
 -- why a crew of this game by this plan, which has these feeds and whose gate is never shut, didn't finish
-abbrev pub StopsCrew : ChipGame → Option (List (ℕ × ℕ)) → Plan → CrewFault → Type 0
-StopsCrew g None plan e = IsFaultOf g plan never_shut e
-StopsCrew g (Some feeds) plan e = IsFedFaultOf g feeds plan never_shut e
-
--- such a crew didn't finish, and this is why
 abbrev pub IsCrewFault : ChipGame → Option (List (ℕ × ℕ)) → Plan → Fault → Type 0
-IsCrewFault g feeds plan f = (e : CrewFault) × StopsCrew g feeds plan e × (f ≡ fault_of_crew e)
+IsCrewFault g feeds plan f = (e : CrewFault) × IsFaultOf g feeds plan never_shut e × (f ≡ fault_of_crew e)
 
 -- why a game has no report: its crew didn't finish, or there is no memory for it
 abbrev pub IsNotPlayed : ChipGame → Option (List (ℕ × ℕ)) → Plan → Fault → Type 0
 IsNotPlayed g feeds plan f = IsCrewFault g feeds plan f ⊎ (f ≡ fault.NoMemory)
 
--- an outcome is the plain player's of a game with these feeds
-abbrev pub PlaysFed : ChipGame → Option (List (ℕ × ℕ)) → Outcome → Type 0
-PlaysFed g feeds outcome = (whole : ChipGame) × IsWhole g feeds whole × IsPlayed whole outcome
-
 -- a text and a status are the plain player's report of a game with these feeds, and its status
 abbrev pub ReportsFed : ChipGame → Option (List (ℕ × ℕ)) → List ℕ → ℕ → Type 0
 ReportsFed g feeds text status = (whole : ChipGame) × IsWhole g feeds whole × Reports whole text status
-
--- a crew of this game by this plan, which has these feeds, finished so
-abbrev pub Finishes : ChipGame → Option (List (ℕ × ℕ)) → Plan → Finished → Type 0
-Finishes g None plan f = IsFinished g plan f
-Finishes g (Some feeds) plan f = IsFinishedFed g feeds plan f
 
 -- a crew finished the game with these actors, and text and status are its report and its status
 pub record Plays (g : ChipGame) (feeds : Option (List (ℕ × ℕ))) (plan : Plan) (actors : List ActorKnown) (text : List ℕ)
     (status : ℕ) : Type 0 where
   pub crew : Finished
-  pub finished : Finishes g feeds plan crew
+  pub finished : IsFinished g feeds plan crew
   pub actors_are : actors ≡ crew.actors.items
   pub reports : ReportsFed g feeds text status
 

@@ -5,12 +5,12 @@ ghost use Rattle.std.specs.Option.{ForSome};
 ghost use Rattle.chip_report.specs.ReportText.{report_text};
 ghost use Rattle.chip_command.specs.Reports.{plain_status};
 ghost use Rattle.chip_run.specs.Feeding.{ForText};
-ghost use Rattle.chip_run.specs.RunCommand.{RunAnswers, Finishes, Plays, StopsCrew, IsNotPlayed, plan_of};
+ghost use Rattle.chip_run.specs.RunCommand.{RunAnswers, Plays, IsNotPlayed, plan_of};
 
 use crate::feeding::read_fed;
 use crate::recording::recorded;
 use chip_command::{Ended, Fault, read_game, status_of};
-use chip_crew::{CrewFault, Finished, Gate, Plan, run, run_fed};
+use chip_crew::{CrewFault, Finished, Gate, Plan, run_with};
 use chip_graph::{Game, GameFault};
 use chip_net::Actor;
 use chip_report::report::report;
@@ -143,29 +143,9 @@ fn play<R: Threads + Wait + Sync, K: Gate + Sync>(
         p.text.items p.status) }
     ensures fault { IfErr result (IsNotPlayed game.now (option_map (λ fed. fed.items) feeds) plan) }
 {
-    match crewed(rt, alloc, game, feeds, plan, gate) {
+    match run_with(rt, alloc, game, plan, feeds.as_deref(), gate) {
         Ok(finished) => Ok(reported(alloc, finished)?),
         Err(fault) => Err(fault_of_crew(fault)),
-    }
-}
-
-/// Has a crew play a game, and feed it where there are feeds.
-fn crewed<R: Threads + Wait + Sync, K: Gate + Sync>(
-    rt: &R,
-    alloc: Global,
-    game: &Game,
-    feeds: Option<Vec<(u64, u64)>>,
-    plan: Plan,
-    gate: &K,
-) -> Result<Finished, CrewFault>
-    requires seal { plan.seal ≡ None }
-    requires gate { (worker turn : ℕ) → K.may_shut gate.now worker turn → ⊥ }
-    ensures finished { IfOk result (Finishes game.now (option_map (λ fed. fed.items) feeds) plan) }
-    ensures fault { IfErr result (StopsCrew game.now (option_map (λ fed. fed.items) feeds) plan) }
-{
-    match feeds {
-        Some(feeds) => run_fed(rt, alloc, game, plan, &feeds, gate),
-        None => run(rt, alloc, game, plan, gate),
     }
 }
 

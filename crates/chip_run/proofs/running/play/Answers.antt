@@ -1,16 +1,31 @@
-use Rattle.std.proofs.Common.{ap}
-use Rattle.chip_run.proofs.RunLemmas.{plays_fed}
+use Rattle.std.proofs.Common.{ap, option_map, subst}
+use Rattle.chip_crew.specs.Feeding.{Left}
+use Rattle.chip_crew.specs.Finished.{IsFinished, IsFaultOf}
+use Rattle.chip_run.proofs.RunLemmas.{not_played}
 use Rattle.chip_run.proofs.running.play.Goals as goal
 
-pub returns-in_ok-reported-in-Ok-clause-played : goal.returns-in_ok-reported-in-Ok-clause-played
-returns-in_ok-reported-in-Ok-clause-played g c =
-    let played = plays_fed _ _ c.args.plan c.in-Ok.finished c.in-Ok.ensures.finished c.requires.seal in record {
+pub returns-in-Ok-clause-played : goal.returns-in-Ok-clause-played
+returns-in-Ok-clause-played g c =
+    let finished : IsFinished c.args.game.now (option_map (λ fed. fed.items) c.args.feeds) c.args.plan c.in-Ok.finished =
+    subst (λ (l : Left). IsFinished c.args.game.now l c.args.plan c.in-Ok.finished) c.as_deref.ensures.value
+    c.in-Ok.ensures.finished in record {
       crew = c.in-Ok.finished;
-      finished = c.in-Ok.ensures.finished;
+      finished = finished;
       actors_are = ap (λ a. a.items) c.in_ok-reported-in-Ok.ensures.actors;
       reports = (
-        played.0,
-        played.1,
-        (c.in-Ok.finished.outcome, played.2, c.in_ok-reported-in-Ok.ensures.text, c.in_ok-reported-in-Ok.ensures.status),
+        finished.whole,
+        finished.whole_is,
+        (
+          c.in-Ok.finished.outcome,
+          finished.played c.requires.seal,
+          c.in_ok-reported-in-Ok.ensures.text,
+          c.in_ok-reported-in-Ok.ensures.status,
+        ),
       );
     }
+
+pub returns-clause-fault : goal.returns-clause-fault
+returns-clause-fault g c = not_played c.args.game.now (option_map (λ fed. fed.items) c.args.feeds) c.args.plan
+    (g.K.Gate.may_shut c.args.gate.now) c.requires.gate c.in-Err.fault _
+    (subst (λ (l : Left). IsFaultOf c.args.game.now l c.args.plan (g.K.Gate.may_shut c.args.gate.now) c.in-Err.fault)
+    c.as_deref.ensures.value c.in-Err.ensures.fault) c.fault_of_crew.ensures

@@ -1,12 +1,12 @@
 use Rattle.chip_crew.specs.Staff.{SomeShut}
 use Rattle.std.specs.Option.{option_copied}
-use Rattle.chip_crew.proofs.play.run_fed.Given as goal
+use Rattle.chip_crew.proofs.play.run_with.Given as goal
 
 -- the crew of this net
 abbrev pub ghosts-played_on : goal.ghosts-played_on
 ghosts-played_on g a = record {
-  crew = record { net = a.opened.0; room = a.plan.now.trace_rows };
-  root = a.opened.1;
+  crew = record { net = a.opened.net; room = a.plan.now.trace_rows };
+  root = a.opened.root;
   feeds = option_copied a.feeds;
   turns = a.plan.now.turns;
   shut = SomeShut (g.G.Gate.may_shut a.gate.now) a.plan.now.workers a.plan.now.turns;

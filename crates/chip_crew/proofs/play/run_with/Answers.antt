@@ -1,0 +1,58 @@
+use Rattle.std.proofs.Common.{◌≡◌, ◌∙◌, refl, ap, ℕ, List, Option, Some, None, Bor}
+use Rattle.std.specs.Prelude.{is_some}
+use Rattle.std.specs.Option.{option_copied}
+use Rattle.chip_part.specs.Setting.{Setting, setting_with}
+use Rattle.chip_crew.specs.Crew.{CrewId}
+use Rattle.chip_crew.specs.Finished.{IsCrewFor}
+use Rattle.chip_crew.proofs.Owning.{ours_by}
+use Rattle.chip_crew.proofs.Finishing.{root_opens, may_begin, finished_for, stopped_for}
+use Rattle.chip_crew.proofs.play.run_with.Goals as goal
+
+-- there are feeds where what they are is known
+copied_some : (feeds : Option (Bor (List (ℕ × ℕ)))) → is_some feeds ≡ is_some (option_copied feeds)
+copied_some None = refl
+copied_some (Some feeds) = refl
+
+pub played_on-requires-clause-actors : goal.played_on-requires-clause-actors
+played_on-requires-clause-actors g c κs within = ours_by c.in_ok-opened.opened.net c.args.plan.trace_rows
+    c.in_ok-setting.setting.game.graph.vertices c.in_ok-opened.opened.actors.items
+    (ap (λ (s : Setting). s.game.graph.vertices) c.in_ok-opened.ensures.setting) c.in_ok-opened.ensures.count
+    c.in_ok-opened.ensures.actors
+
+pub played_on-requires-clause-feeds : goal.played_on-requires-clause-feeds
+played_on-requires-clause-feeds g c κs within = (
+  refl,
+  may_begin c.args.game.now (option_copied c.args.feeds) c.args.plan c.in_ok-opened.opened.net
+      c.in_ok-opened.opened.root _ c.in_ok-ring.ensures.0
+      (c.in_ok-opened.ensures.setting ∙ c.in_ok-setting.ensures
+      ∙ (λ i. setting_with c.args.game.now (c.in_ok-ring.ensures.1 i)
+      ((c.is_some.ensures ∙ copied_some c.args.feeds) i))) c.in_ok-opened.ensures.root,
+)
+
+pub returns-clause-finished : goal.returns-clause-finished
+returns-clause-finished g c =
+    let crew : CrewId = record { net = c.in_ok-opened.opened.net; room = c.args.plan.trace_rows } in
+    let opened : IsCrewFor c.args.game.now (option_copied c.args.feeds) c.args.plan crew = record {
+      can = c.in_ok-ring.ensures.0;
+      setting = c.in_ok-opened.ensures.setting ∙ c.in_ok-setting.ensures
+          ∙ (λ i. setting_with c.args.game.now (c.in_ok-ring.ensures.1 i)
+          ((c.is_some.ensures ∙ copied_some c.args.feeds) i));
+      room = refl;
+    } in
+    finished_for c.args.game.now (option_copied c.args.feeds) c.args.plan crew c.in_ok-opened.opened.root
+    c.played_on.result opened (root_opens crew c.args.plan _ _ c.in_ok-opened.ensures.root c.is_some-2.ensures)
+    c.played_on.ensures.finished
+
+pub returns-clause-fault : goal.returns-clause-fault
+returns-clause-fault g c =
+    let crew : CrewId = record { net = c.in_ok-opened.opened.net; room = c.args.plan.trace_rows } in
+    let opened : IsCrewFor c.args.game.now (option_copied c.args.feeds) c.args.plan crew = record {
+      can = c.in_ok-ring.ensures.0;
+      setting = c.in_ok-opened.ensures.setting ∙ c.in_ok-setting.ensures
+          ∙ (λ i. setting_with c.args.game.now (c.in_ok-ring.ensures.1 i)
+          ((c.is_some.ensures ∙ copied_some c.args.feeds) i));
+      room = refl;
+    } in
+    stopped_for c.args.game.now (option_copied c.args.feeds) c.args.plan (g.G.Gate.may_shut c.args.gate.now) crew
+    c.in_ok-opened.opened.root c.played_on.result opened
+    (root_opens crew c.args.plan _ _ c.in_ok-opened.ensures.root c.is_some-2.ensures) c.played_on.ensures.stopped

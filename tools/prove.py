@@ -3,6 +3,7 @@
 
     tools/prove.py NAME ..              the crates of these names, and all that they stand on
     tools/prove.py --above NAME ..      these, all that stand on them, and all below; standard output names the former two
+    tools/prove.py --beside PID NAME .. the crates, beside a process that also works: two processors are left to it
 
 In one folder the kit's command `rt` proves one crate at a time, since it locks all that a crate stands on, and shares the
 crate among the processors by copies of itself, which together do twice the work. Here each crate is proved in a room of
@@ -26,6 +27,9 @@ from concurrent.futures import FIRST_COMPLETED, ThreadPoolExecutor, wait
 ROOT = os.path.dirname(os.path.dirname(os.path.realpath(__file__)))
 CRATES = f"{ROOT}/crates"
 TARGET = f"{ROOT}/target"
+# How many crates are proved at a time at most. The longest chain of crates bounds the time: what goes on beside it ends
+# sooner anyway, and slows it.
+LANES = 3
 # What one check takes at most, in bytes.
 MEMORY = 3 << 30
 # What a crate costs that has no line in tools/costs.txt, in seconds.
@@ -75,12 +79,22 @@ def costs():
     return {name: float(seconds) for name, seconds in pairs}
 
 
-def lanes():
-    """Returns how many crates are proved at a time: one for each processor, as many as memory holds."""
+def is_alive(process):
+    """Returns whether the process with this number is there."""
+    try:
+        os.kill(process, 0)
+    except ProcessLookupError:
+        return False
+    return True
+
+
+def lanes(taken=0):
+    """Returns how many crates are proved at a time, where so many processors are taken: one for each that is left, as many as
+    memory holds."""
     with open("/proc/meminfo", encoding="ascii") as lines:
         sizes = dict(line.split(":") for line in lines)
     free = int(sizes["MemAvailable"].split()[0]) << 10
-    return max(1, min(len(os.sched_getaffinity(0)), free // MEMORY))
+    return max(1, min(LANES, len(os.sched_getaffinity(0)) - taken, free // MEMORY))
 
 
 def bring(part, room, by):
@@ -168,14 +182,20 @@ class Work:
         return max(work, longest) * self.spent / self.planned / 60
 
 
-def prove_all(names, direct):
-    """Proves these crates, each of which comes after those that it stands on. Returns whether all are proved."""
+def prove_all(names, direct, neighbour):
+    """Proves these crates, each of which comes after those that it stands on. Returns whether all are proved.
+
+    Two processors are left to the neighbour, a process that works too, as long as it does: what slows the first crate of
+    the longest chain delays all."""
     work, places, running = Work(names, direct), lanes(), {}
+    few = lanes(taken=2)
     with ThreadPoolExecutor(places) as pool, ended_by_signals():
         while work.left or running:
-            while len(running) < places and (name := work.next()):
+            if neighbour and not is_alive(neighbour):
+                neighbour = None
+            while len(running) < (few if neighbour else places) and (name := work.next()):
                 running[pool.submit(prove, name, below(name, direct))] = name
-            for done in wait(running, return_when=FIRST_COMPLETED).done:
+            for done in wait(running, 1 if neighbour else None, FIRST_COMPLETED).done:
                 name, (status, seconds) = running.pop(done), done.result()
                 if status:
                     tell_failure(name, seconds)
@@ -215,6 +235,9 @@ def lock(names):
 
 def main(words):
     direct = libraries()
+    neighbour = None
+    if words[:1] == ["--beside"]:
+        neighbour, words = int(words[1]), words[2:]
     asked = [it for it in words if it != "--above"]
     unknown = [it for it in asked if it not in direct]
     if unknown:
@@ -228,7 +251,7 @@ def main(words):
         names += [low for low in [*below(it, direct), it] if low not in names]
     os.makedirs(TARGET, exist_ok=True)
     lock(names)
-    return 0 if prove_all(names, direct) else 1
+    return 0 if prove_all(names, direct, neighbour) else 1
 
 
 if __name__ == "__main__":

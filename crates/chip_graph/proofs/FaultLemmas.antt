@@ -1,3 +1,4 @@
+-- Serves Faults.antt, Multigraph.antt, Ends.antt.
 -- What follows where no fault was found in the rows of a graph.
 use Rattle.std.proofs.Common.{◌≡◌, ℕ, zero, suc, ◌^◌, ◌<◌, ◌≤◌, Bool, true, false, ltb, leb, ◌&&◌, List, [], ◌∷◌}
 use Rattle.std.proofs.Common.{length, get_or, Option, Some, None, Ok, refl, sym, ap, ◌∙◌, subst, arith, leb-true, map}

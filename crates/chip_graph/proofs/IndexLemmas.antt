@@ -1,8 +1,10 @@
+-- Serves Multigraph.antt, Faults.antt, Distances.antt.
 -- What a graph keeps beside its edges is what follows from them.
 use Rattle.std.proofs.Common.{◌≡◌, ℕ, zero, suc, ◌<◌, ◌⊎◌, List, [], ◌∷◌, length, map, get_or, Option, Some, None}
 use Rattle.std.proofs.Common.{Result, Ok, Err, slice_get, refl, sym, ap, ◌∙◌, subst, arith, inr}
 use Rattle.std.specs.List.{All}
 use Rattle.std.specs.Result.{IsErrAnd}
+use Rattle.std.specs.Prelude.{IfErr}
 use Rattle.std.proofs.lemmas.List.{length-map, get_or-map}
 use Rattle.std.proofs.lemmas.Option.{slice_get_within, get_or_from_slice_get}
 use Rattle.chip_graph.specs.declared.fault.GraphFault.{GraphFault}
@@ -39,6 +41,11 @@ reaches : (G : Multigraph) (v : ℕ) (found : Option ℕ) (d : ℕ) → found �
     → ReachesSink G v
 reaches G v found d is of = let at : IsDistance G v d = subst (IsDistanceOf G v) is of in (at.reached.0, at.reached.1)
 
+-- where each vertex has a distance, each reaches the sink
+pub all_reach : (G : Multigraph) (distances : List ℕ)
+    → ((v : ℕ) → v < G.vertices → IsDistance G v (get_or distances v 0)) → (v : ℕ) → v < G.vertices → ReachesSink G v
+all_reach G distances are v l = let at = (are v l).reached in (at.0, at.1)
+
 -- all distances are there
 module _ (G : Multigraph) (found : List (Option ℕ)) (are : AreDistances G found) (distances : List ℕ)
     (all : map Some distances ≡ found) where
@@ -51,9 +58,6 @@ module _ (G : Multigraph) (found : List (Option ℕ)) (are : AreDistances G foun
 
   pub distances_are : (v : ℕ) → v < G.vertices → IsDistance G v (get_or distances v 0)
   distances_are v l = subst (IsDistanceOf G v) (found_at v l) (are.each v l)
-
-  pub all_reach : (v : ℕ) → v < G.vertices → ReachesSink G v
-  all_reach v l = reaches G v (get_or found v None) (get_or distances v 0) (found_at v l) (are.each v l)
 
 -- the first distance that is missing names the fault
 pub unreached_fault : (G : Multigraph) (found : List (Option ℕ)) → AreDistances G found → fault_of_rows G ≡ None
@@ -71,6 +75,12 @@ unreached_fault G found are none v fault is l missing before =
             (are.each u (let each = are.one_each in omega arith));
       },
     )
+
+-- what is true of a fault is true of an answer that is this fault
+pub told : {T : Type 0} (P : GraphFault → Type 0) (result : Result T GraphFault) (fault : GraphFault)
+    → IsErrAnd result (λ e. e ≡ fault) → P fault → IfErr result P
+told P (Ok value) fault is why = absurd is
+told P (Err e) fault is why = subst P (sym is) why
 
 -- a refusal for a reason that holds is an answer
 pub refused : (G : Multigraph) (result : Result Multigraph GraphFault) (fault : GraphFault)

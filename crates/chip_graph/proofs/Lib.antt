@@ -4,5 +4,5 @@ pub mod PickLemmas
 pub mod FaultLemmas
 pub mod IndexLemmas
 pub mod AnswerLemmas
-pub mod Walks
-pub mod Spreading
+pub mod WalksLemmas
+pub mod SpreadingLemmas

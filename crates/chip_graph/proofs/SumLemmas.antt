@@ -1,3 +1,4 @@
+-- Serves Sums.antt.
 -- Sums over the numbers below n, the same sums with a test, and sums over lists of the numbers that pass it.
 use Rattle.std.proofs.Common.{◌≡◌, ◌≢◌, ℕ, zero, suc, ◌+◌, ◌-◌, ◌*◌, ◌<◌, ◌≤◌, Bool, true, false, cond, eqb, List, []}
 use Rattle.std.proofs.Common.{◌∷◌, ◌++◌, length, sum, get_or, refl, sym, ap, ◌∙◌, subst, arith, append-nil, eq-eqb}

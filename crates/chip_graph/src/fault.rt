@@ -2,7 +2,7 @@ use std::alloc::{AllocError, AllocFailed};
 use thiserror::Error;
 
 /// Why rows of edges are no graph: the first reason in this order.
-#[derive(Debug, Drop, PartialEq, Eq, Error)]
+#[derive(Clone, Copy, Debug, PartialEq, Eq, Error)]
 pub enum GraphFault {
     /// There are no vertices, or more than 4,096.
     #[error("there must be 1 to 4096 vertices")]

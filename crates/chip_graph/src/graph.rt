@@ -1,5 +1,9 @@
-ghost use Rattle.std.specs.Prelude.{◌≡◌, ◌+◌, ◌<◌, ◌⊎◌, ℕ, map, length, take, IfOk, IfErr, slice_index_or, Some, None};
-ghost use Rattle.chip_graph.specs.Faults.{checked, fault_of_edge, fault_of_rows};
+ghost use Rattle.std.specs.Prelude.{◌≡◌, ◌+◌, ◌<◌, ◌⊎◌, ℕ, [], map, length, take, IfOk, IfErr, Some, None};
+ghost use Rattle.std.specs.Prelude.{slice_index, slice_index_or};
+ghost use Rattle.chip_graph.specs.Multigraph.{IsDistance};
+ghost use Rattle.chip_graph.specs.Ends.{edges_with};
+ghost use Rattle.chip_graph.specs.declared.edge.End.TheVariants.{Head};
+ghost use Rattle.chip_graph.specs.Faults.{checked, fault_of_edge, fault_of_rows, IsGraphFault};
 ghost use Rattle.chip_graph.specs.declared.fault.GraphFault.TheVariants.{NoMemory, Unreached};
 
 use crate::distance::distances;
@@ -76,14 +80,9 @@ impl Rows {
     {
         let rows = edges.as_slice();
         check_rows(vertices, sink, rows)?;
-        let outs = index::edges_by(alloc, vertices, rows, End::Tail)?;
-        let ins = index::edges_by(alloc, vertices, rows, End::Head)?;
-        let found = distances(alloc, sink, rows, &ins)?;
-        let distances = all_reached(alloc, &found)?;
+        let (ins, distances) = ins_and_distances(alloc, vertices, sink, rows)?;
+        let (outs, links) = index::outs_and_links(alloc, vertices, rows)?;
         let degrees = index::degrees(alloc, vertices, rows)?;
-        let links = index::edges_side_by_side(alloc, rows, &outs)?;
-        let outs = index::side_by_side(alloc, &outs)?;
-        let ins = index::side_by_side(alloc, &ins)?;
         Ok(Rows {
             vertices,
             sink,
@@ -301,6 +300,29 @@ fn check_rows(vertices: u64, sink: u64, edges: &[Edge]) -> Result<(), GraphFault
         check_edge(vertices, sink, i as u64, edge)?;
     }
     Ok(())
+}
+
+/// The edges into each vertex and the distances, or the least vertex that has none.
+fn ins_and_distances(
+    alloc: Global,
+    vertices: u64,
+    sink: u64,
+    edges: &[Edge],
+) -> Result<(PackedLists<u64>, Vec<u64>), GraphFault>
+    requires { fault_of_rows (record { vertices = vertices; sink = sink; edges = edges.now }) ≡ None }
+    ensures ins_each { IfOk result (λ r. length r.0 ≡ vertices) }
+    ensures ins { IfOk result (λ r. (v : ℕ) → v < vertices
+        → slice_index_or r.0 v [] ≡ edges_with Head edges.now v (length edges.now)) }
+    ensures distance_each { IfOk result (λ r. length r.1.items ≡ vertices) }
+    ensures distances { IfOk result (λ r. (v : ℕ) → v < vertices
+        → IsDistance (record { vertices = vertices; sink = sink; edges = edges.now }) v (slice_index r.1.items v)) }
+    ensures none { IfErr result (λ fault. (fault ≡ NoMemory)
+        ⊎ IsGraphFault (record { vertices = vertices; sink = sink; edges = edges.now }) fault) }
+{
+    let ins = index::edges_by(alloc, vertices, edges, End::Head)?;
+    let found = distances(alloc, sink, edges, &ins)?;
+    let distances = all_reached(alloc, &found)?;
+    Ok((index::side_by_side(alloc, &ins)?, distances))
 }
 
 /// The distances, or the least vertex that has none.

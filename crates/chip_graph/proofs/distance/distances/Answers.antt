@@ -2,8 +2,8 @@ use Rattle.std.proofs.Common.{◌≡◌, ◌+◌, ◌<◌, length, subst, sym, �
 use Rattle.std.proofs.lemmas.Option.{slice_get_read}
 use Rattle.chip_graph.specs.Multigraph.{Multigraph, edges_in}
 use Rattle.chip_graph.specs.Found.{Found, found}
-use Rattle.chip_graph.proofs.Spreading.{IsSpread, IsReached, begin_spread, turn_reached, turn_kept, edges_in_below}
-use Rattle.chip_graph.proofs.Spreading.{few_reached, all_distances}
+use Rattle.chip_graph.proofs.SpreadingLemmas.{IsSpread, IsReached, begin_spread, turn_reached, turn_kept, edges_in_below}
+use Rattle.chip_graph.proofs.SpreadingLemmas.{few_reached, all_distances}
 use Rattle.chip_graph.proofs.distance.distances.Goals as goal
 use Rattle.chip_graph.proofs.distance.distances.Goals.{After-index, After-deref}
 

@@ -1,6 +1,6 @@
 use Rattle.std.proofs.Common.{length, ◌-◌}
 use Rattle.chip_graph.specs.Found.{found}
-use Rattle.chip_graph.proofs.Spreading.{IsSpread}
+use Rattle.chip_graph.proofs.SpreadingLemmas.{IsSpread}
 use Rattle.chip_graph.proofs.distance.distances.Given as goal
 
 abbrev pub invariant-loop-next : goal.invariant-loop-next

@@ -1,3 +1,4 @@
+-- Serves Multigraph.antt.
 -- Walks to the sink, and their lengths.
 use Rattle.std.proofs.Common.{◌≡◌, ◌≢◌, ℕ, suc, ◌+◌, ◌<◌, ◌≤◌, Bool, true, false, cond, ◌||◌, eqb, List, [], ◌∷◌}
 use Rattle.std.proofs.Common.{length, refl, sym, subst, arith, ne_eqb, eqb-true}

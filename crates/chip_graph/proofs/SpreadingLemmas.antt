@@ -1,3 +1,4 @@
+-- Serves Multigraph.antt, Found.antt, Distances.antt.
 -- The search for distances: what holds of it after each vertex, and what it has found at its end.
 use Rattle.std.proofs.Common.{◌≡◌, ◌≢◌, ℕ, zero, suc, ◌+◌, ◌<◌, ◌≤◌, Bool, true, cond, List, [], ◌∷◌, ◌++◌, length}
 use Rattle.std.proofs.Common.{get_or, set, replicate, Option, Some, None, is_some, count_by, refl, sym, ap, ◌∙◌, subst}

@@ -1,3 +1,4 @@
+-- Serves Core.antt.
 -- Where the root is closed nothing changes any more, everything is delivered, and chips and counts are those of every
 -- end.
 use Rattle.std.proofs.Common.{◌≡◌, ◌≢◌, ◌⊎◌, ℕ, ◌+◌, ◌-◌, ◌<◌, ◌≤◌, true, false, eqb, List, [], ◌∷◌, length, sum}
@@ -13,7 +14,7 @@ use Rattle.chip_graph.specs.ChipGame.{IsGame}
 use Rattle.chip_part.specs.Setting.{Setting}
 use Rattle.chip_graph.proofs.SumLemmas.{tested_none}
 use Rattle.chip_link.specs.Link.{sent_counts}
-use Rattle.chip_link.proofs.Sounds.{length-sent_counts}
+use Rattle.chip_link.proofs.SoundsLemmas.{length-sent_counts}
 use Rattle.chip_sequence.specs.Firing.{IsLegal, legal_vertices}
 use Rattle.chip_sequence.specs.Sequence.{position_after, IsFiringSequence, HasEnded, HasEndedWithin, IsWholePlay}
 use Rattle.chip_sequence.proofs.EndLemmas.{one_end}

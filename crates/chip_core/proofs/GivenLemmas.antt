@@ -1,3 +1,4 @@
+-- Serves Core.antt.
 -- What was given to each vertex: all that was sent on its root edge, at the opening and by feeding.
 use Rattle.std.proofs.Common.{◌≡◌, ◌≢◌, ℕ, ◌+◌, ◌-◌, ◌<◌, ◌≤◌, true, false, cond, eqb, ltb, List, [], ◌∷◌, ◌++◌, map}
 use Rattle.std.proofs.Common.{length, sum, slice_index, get_or, Option, Some, None, option_to_list, refl, sym, ap, ◌∙◌}
@@ -23,7 +24,7 @@ use Rattle.chip_part.specs.Kept.{Met, opening_tail}
 use Rattle.chip_part.proofs.EdgeLemmas.{tail_root}
 use Rattle.chip_part.proofs.RuleLemmas.{rules_met}
 use Rattle.chip_part.proofs.PartLemmas.{at_edge}
-use Rattle.chip_part.proofs.Opening.{first_sent, first_fed}
+use Rattle.chip_part.proofs.OpeningLemmas.{first_sent, first_fed}
 use Rattle.chip_core.specs.Core.{Log, Step, Event, Take, Ack, Fire, Clear, Claim, Put, Halt, Settle, Seal, Read, Feed}
 use Rattle.chip_core.specs.Core.{End, part_of, part_in, out_in, stop_in, sees, IsLegalLog, tail_of, root}
 use Rattle.chip_core.specs.Core.{root_edge, all_edges, graph_edges}

@@ -1,3 +1,4 @@
+-- Serves Core.antt, Messages.antt, Headline.antt.
 -- The core theorem.
 use Rattle.std.proofs.Common.{◌≡◌, ℕ, ◌<◌, ◌++◌, List, sym, ap, ◌∙◌, append-nil}
 use Rattle.chip_graph.specs.ChipGame.{IsGame}

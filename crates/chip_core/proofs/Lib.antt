@@ -12,5 +12,5 @@ pub mod HeadlineLemmas
 pub mod WorkedCloses
 pub mod WorkedOrder
 pub mod OutcomeLemmas
-pub mod Showing
+pub mod ShowingLemmas
 pub mod ReachedLemmas

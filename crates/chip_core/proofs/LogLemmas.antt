@@ -1,3 +1,4 @@
+-- Serves Core.antt.
 -- The parts and the edges in a legal log: what every one of them keeps, whatever was done.
 use Rattle.std.proofs.Common.{◌≡◌, ◌≢◌, ◌⊎◌, ℕ, ◌+◌, ◌-◌, ◌<◌, ◌≤◌, false, cond, eqb, List, [], ◌∷◌, length, Option}
 use Rattle.std.proofs.Common.{Some, None, option_to_list, refl, sym, ap, ◌∙◌, subst, arith, inl, inr, ⊎_elim, lt-ltb}
@@ -8,8 +9,8 @@ use Rattle.chip_graph.specs.ChipGame.{IsGame}
 use Rattle.chip_part.specs.Setting.{Setting}
 use Rattle.chip_graph.proofs.SumLemmas.{cond_yes, cond_no, cond_true, cond_false}
 use Rattle.chip_link.specs.Link.{Tail, claims_of, after_clear, after_claim, after_put, after_take, after_seal, Sound}
-use Rattle.chip_link.proofs.Sounds.{clear_sound, claim_sound, put_sound, take_sound, seal_sound, fresh_sound}
-use Rattle.chip_link.proofs.Sounds.{first_sound}
+use Rattle.chip_link.proofs.SoundsLemmas.{clear_sound, claim_sound, put_sound, take_sound, seal_sound, fresh_sound}
+use Rattle.chip_link.proofs.SoundsLemmas.{first_sound}
 use Rattle.chip_part.specs.Edges.{start_of}
 use Rattle.chip_part.specs.Part.{first_put, may_ack}
 use Rattle.chip_part.specs.Steps.{link_after, settled_after, got_after, acked_after, stop_after}
@@ -18,7 +19,7 @@ use Rattle.chip_part.proofs.EdgeLemmas.{tail_graph, tail_root, head_graph, head_
 use Rattle.chip_part.proofs.RuleLemmas.{rules_met}
 use Rattle.chip_part.proofs.PartLemmas.{at_edge, no_held}
 use Rattle.chip_part.proofs.PartLemmas as part_lemmas
-use Rattle.chip_part.proofs.Opening.{opening_keeps}
+use Rattle.chip_part.proofs.OpeningLemmas.{opening_keeps}
 use Rattle.chip_core.specs.Core.{Log, Step, Event, Take, Ack, Fire, Clear, Claim, Put, Halt, Settle, Seal, Read, Feed}
 use Rattle.chip_core.specs.Core.{End, Part, Out, Into, part_of, does, part_in, out_in, into_in, stop_in, sees}
 use Rattle.chip_core.specs.Core.{IsLegalLog, tail_of, head_of, root, root_edge, stopper, all_edges, graph_edges}

@@ -1,3 +1,4 @@
+-- Serves Core.antt, Messages.antt.
 -- The messages that are read off the replies are those of the parts; nothing is sent on a sealed edge.
 use Rattle.std.proofs.Common.{◌≡◌, ◌≢◌, ℕ, ◌+◌, ◌*◌, ◌<◌, ◌≤◌, ◌||◌, Bool, true, false, cond, eqb, List, [], ◌∷◌, ◌++◌}
 use Rattle.std.proofs.Common.{length, sum, take, drop, option_to_list, Option, Some, None, is_some, refl, sym, ap, ◌∙◌}
@@ -14,15 +15,15 @@ use Rattle.chip_graph.proofs.SumLemmas.{cond_yes, cond_no, by_test, cond_true, c
 use Rattle.chip_link.specs.Words.{edge_word}
 use Rattle.chip_link.specs.Link.{Tail, sent_counts, claims_of, after_clear, after_claim, after_put, after_take}
 use Rattle.chip_link.specs.Laws.{IsPrefix}
-use Rattle.chip_link.proofs.Numbering.{numbered, numbered-append, length-numbered, numbered_at}
-use Rattle.chip_link.proofs.Sounds.{length-sent_counts}
+use Rattle.chip_link.proofs.NumberingLemmas.{numbered, numbered-append, length-numbered, numbered_at}
+use Rattle.chip_link.proofs.SoundsLemmas.{length-sent_counts}
 use Rattle.chip_part.specs.declared.reply.Reply.TheVariants.{Got, Sent, Empty, Sealed, NotNow}
 use Rattle.chip_part.specs.Edges.{mult_of, start_of, root_edge}
 use Rattle.chip_part.specs.Part.{first_put}
 use Rattle.chip_part.specs.Steps.{message_of, link_after, got_after, saw}
 use Rattle.chip_part.proofs.RuleLemmas.{rules_met}
 use Rattle.chip_part.proofs.PartLemmas.{at_edge, took_none}
-use Rattle.chip_part.proofs.Opening.{first_few, first_sent}
+use Rattle.chip_part.proofs.OpeningLemmas.{first_few, first_sent}
 use Rattle.chip_core.specs.Core.{Log, Event, Take, Ack, Fire, Clear, Claim, Put, Halt, Settle, Seal, Read, Feed, End}
 use Rattle.chip_core.specs.Core.{Rule, Out, unmet, part_of, reply_of, part_in, out_in, into_in, stop_in, fired_by, sees}
 use Rattle.chip_core.specs.Core.{IsLegalLog, answer, step, log_after, replies_to, tail_of, head_of, graph_edges}

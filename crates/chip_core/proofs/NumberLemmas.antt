@@ -1,3 +1,4 @@
+-- Serves Core.antt, Laws.antt.
 -- The numbers of a legal log, the cells and words that its events see, and that these keep within the limits.
 use Rattle.std.proofs.Common.{◌≡◌, ◌≢◌, ◌↔◌, ℕ, suc, ◌+◌, ◌-◌, ◌^◌, ◌<◌, ◌≤◌, ◌||◌, Bool, true, false, cond, eqb, List}
 use Rattle.std.proofs.Common.{[], ◌∷◌, length, sum, drop, get_or, Option, Some, None, option_to_list}
@@ -13,8 +14,8 @@ use Rattle.chip_graph.proofs.SumLemmas.{cond_yes, cond_no, sum_below_term, teste
 use Rattle.chip_link.specs.Words.{edge_word}
 use Rattle.chip_link.specs.WordLaws.{ReadsAs, ReadsAsFired}
 use Rattle.chip_link.specs.Link.{claims_of, sent_counts, after_seal, IsSealedAt}
-use Rattle.chip_link.proofs.Sounds.{none_held, length-sent_counts}
-use Rattle.chip_link.proofs.WordLaws.{edge_word_reads, fired_word_reads}
+use Rattle.chip_link.proofs.SoundsLemmas.{none_held, length-sent_counts}
+use Rattle.chip_link.proofs.WordLawsLemmas.{edge_word_reads, fired_word_reads}
 use Rattle.chip_sequence.specs.Sequence.{position_after}
 use Rattle.chip_sequence.proofs.BoundLemmas.{chips_are_kept}
 use Rattle.chip_part.specs.Steps.{stop_after}

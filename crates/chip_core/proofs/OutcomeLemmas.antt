@@ -1,3 +1,4 @@
+-- Serves Core.antt, Outcomes.antt, Positions.antt.
 -- What the outcome of a closed log tells: a report takes it, a firing sequence leads to it, and where no seal halted a
 -- vertex every player comes to it.
 use Rattle.std.proofs.Common.{◌≡◌, ℕ, zero, suc, ◌*◌, ◌^◌, ◌<◌, ◌≤◌, Bool, true, false, not, ◌&&◌, eqb, leb, List, []}

@@ -1,3 +1,4 @@
+-- Serves Core.antt.
 -- The full position is the position after the firings that were made.
 use Rattle.std.proofs.Common.{◌≡◌, ℕ, ◌+◌, ◌-◌, ◌*◌, ◌<◌, ◌≤◌, Bool, eqb, ltb, List, [], ◌∷◌, ◌++◌, length, sum, take}
 use Rattle.std.proofs.Common.{lt-ltb, le-ltb, replicate, option_to_list, refl, sym, ap, ◌∙◌, subst, arith, eqb-true}

@@ -1,3 +1,4 @@
+-- Serves Core.antt, Reached.antt.
 -- The reached worlds are those that the legal logs leave.
 use Rattle.std.proofs.Common.{◌≡◌, ℕ, List, [], ◌∷◌, ◌++◌, None, refl, sym, ap, ◌∙◌, subst}
 use mathlib.Core.Logic.{dite}

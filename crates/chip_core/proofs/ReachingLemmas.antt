@@ -1,3 +1,4 @@
+-- Serves Core.antt.
 -- Every run leaves a legal log, every legal log is that of a run, and a part is what its own events make of it.
 use Rattle.std.proofs.Common.{◌≡◌, ℕ, List, [], ◌∷◌, ◌++◌, Option, Some, None, refl, sym, ap, ◌∙◌}
 use mathlib.Core.Logic.{dite}

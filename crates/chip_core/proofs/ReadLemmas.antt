@@ -1,3 +1,4 @@
+-- Serves Core.antt.
 -- Every read that was made saw the fired word that stands at the end, and the root is closed there.
 use Rattle.std.proofs.Common.{◌≡◌, ◌↔◌, ◌⊎◌, ℕ, zero, suc, ◌<◌, [], ◌∷◌, length, get_or, true, None, Contains, sym, ap}
 use Rattle.std.proofs.Common.{◌∙◌, arith, inl, inr, ⊎_elim, eqb, eqb-true}

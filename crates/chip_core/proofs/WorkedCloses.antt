@@ -1,3 +1,4 @@
+-- Serves Worked.antt.
 -- The premises of the laws can be met: the small triangle is a game within the limits, and whole schedules close its
 -- root.
 use Rattle.std.proofs.Common.{ℕ, zero, suc, ◌<◌, [], ◌∷◌, refl, arith}

@@ -1,3 +1,4 @@
+-- Serves Worked.antt.
 -- The detection order of a small run, member by member.
 use Rattle.std.proofs.Common.{◌≡◌, ℕ, zero, suc, ◌<◌, [], ◌∷◌, get_or, Contains, refl, arith, inl, inr}
 use Rattle.chip_core.specs.Worked.{TwoEngaged}

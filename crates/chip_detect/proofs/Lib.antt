@@ -1,8 +1,8 @@
-pub mod Lookups
-pub mod Totals
-pub mod Changes
-pub mod Writes
-pub mod Fresh
-pub mod Indices
-pub mod Allowed
-pub mod Soundness
+pub mod LookupsLemmas
+pub mod TotalsLemmas
+pub mod ChangesLemmas
+pub mod WritesLemmas
+pub mod FreshLemmas
+pub mod IndicesLemmas
+pub mod AllowedLemmas
+pub mod SoundnessLemmas

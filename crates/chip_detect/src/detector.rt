@@ -4,8 +4,8 @@ use crate::tallies::Tallies;
 use std::alloc::{AllocError, Global};
 use std::marker::Model;
 
-/// What one vertex knows of the detection. The root keeps one too: it has no edges into it, and its
-/// deficit says whether the computation has ended.
+/// What one vertex knows of the detection. The root has none: no edge leads to it, so no message ever
+/// engages it.
 ///
 /// Contracts see it as plain books: for each edge into the vertex how many messages were got and
 /// acknowledged, for each edge out of it how many were sent and settled, and the parent edge.

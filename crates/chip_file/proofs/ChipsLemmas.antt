@@ -1,3 +1,4 @@
+-- Serves ChipsText.antt, Rows.antt.
 -- How noting one row after another gives the chips of a text.
 use Rattle.std.proofs.Common.{◌≡◌, ◌≢◌, ℕ, ◌<◌, Bool, true, false, List, [], ◌∷◌, ◌++◌, length, map, get_or, set}
 use Rattle.std.proofs.Common.{Option, None, Some, refl, ap, sym, ◌∙◌, inl, inr, ◌⊎◌, get_or-set_same, get_or-set_other}

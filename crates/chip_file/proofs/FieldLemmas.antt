@@ -1,3 +1,4 @@
+-- Serves Rows.antt.
 -- A record compared with the fields of a header, one after another.
 use Rattle.std.proofs.Common.{◌≡◌, ℕ, zero, suc, ◌<◌, ◌≤◌, ◌+◌, Bool, true, false, List, [], ◌∷◌, length, map, drop}
 use Rattle.std.proofs.Common.{get_or, Option, None, Some, refl, sym, ◌∙◌, arith, Bor, add-one}

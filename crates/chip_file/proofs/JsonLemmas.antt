@@ -1,3 +1,4 @@
+-- Serves GraphText.antt.
 -- The value of a text, and the rows of numbers in it.
 use Rattle.std.proofs.Common.{◌≡◌, ◌≢◌, ℕ, suc, ◌<◌, ◌+◌, Bool, true, false, List, [], ◌∷◌, ◌++◌, length, drop, get_or}
 use Rattle.std.proofs.Common.{Option, None, Some, refl, ap, sym, ◌∙◌, add-one, drop-cons, append_assoc}

@@ -1,3 +1,4 @@
+-- Serves Kinds.antt, Rows.antt, TraceText.antt.
 -- The names of kinds are text, so a field that is no text is no kind.
 use Rattle.std.proofs.Common.{◌≡◌, ℕ, Bool, true, false, List, [], ◌∷◌, Option, None, Some, Result, Ok, Err, refl, sym}
 use Rattle.std.proofs.Common.{Bor}

@@ -1,3 +1,4 @@
+-- Serves Numbers.antt.
 -- A field as a number.
 use Rattle.std.proofs.Common.{◌≡◌, ℕ, ◌<◌, ◌≤◌, ◌^◌, true, false, List, [], ◌∷◌, length, None, Some, Result, Ok, Err}
 use Rattle.std.proofs.Common.{refl, ap, arith, Bor}

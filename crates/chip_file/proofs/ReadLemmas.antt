@@ -1,3 +1,4 @@
+-- Serves Rows.antt, ChipsText.antt, ScheduleText.antt.
 -- No text is at fault for a failed read.
 use Rattle.std.proofs.Common.{◌≡◌, ℕ, Bool, true, false, List, [], ◌∷◌, ◌++◌, length, Option, None, Some, Result, Ok}
 use Rattle.std.proofs.Common.{Err, refl, inl, inr}

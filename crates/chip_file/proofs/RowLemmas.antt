@@ -1,3 +1,4 @@
+-- Serves Standing.antt, Rows.antt.
 -- How reading one record after another gives the records of a text.
 use Rattle.std.proofs.Common.{◌≡◌, ℕ, zero, suc, ◌<◌, ◌≤◌, ◌+◌, Bool, true, false, List, [], ◌∷◌, ◌++◌, length, Option}
 use Rattle.std.proofs.Common.{None, Some, refl, ap, sym, ◌∙◌, arith, Bor, add-one, inl}

@@ -1,3 +1,4 @@
+-- Serves TraceText.antt, Rows.antt.
 -- How one row after another gives the recorded run of each vertex.
 use Rattle.std.proofs.Common.{◌≡◌, ◌≢◌, ℕ, ◌<◌, Bool, true, false, List, [], ◌∷◌, ◌++◌, length, map, get_or, set, None}
 use Rattle.std.proofs.Common.{Some, refl, ap, sym, ◌∙◌, replicate, get_or-set_same, get_or-set_other}

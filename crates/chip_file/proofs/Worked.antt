@@ -1,3 +1,4 @@
+-- Serves GraphText.antt, ChipsText.antt, ScheduleText.antt.
 -- Worked texts, computed on the definitions.
 use Rattle.std.proofs.Common.{◌≡◌, ℕ, List, [], ◌∷◌, take, codes, None, Some, refl}
 use Rattle.std.specs.Str.{is_utf8, chars}

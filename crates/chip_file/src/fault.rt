@@ -3,7 +3,7 @@ use std::alloc::{AllocError, AllocFailed};
 use std::fmt;
 
 /// Why a file was not read: the first reason in the order of its reader.
-#[derive(Debug, Drop, PartialEq, Eq)]
+#[derive(Clone, Copy, Debug, PartialEq, Eq)]
 pub enum FileFault {
     /// The bytes are no UTF-8, or no JSON.
     NotJson,

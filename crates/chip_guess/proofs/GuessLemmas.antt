@@ -1,3 +1,4 @@
+-- Serves the ranges that the search keeps, in its own clauses.
 -- Lists that stay below others.
 use Rattle.std.proofs.Common.{◌≡◌, ℕ, zero, suc, ◌+◌, ◌≤◌, List, [], ◌∷◌, ◌++◌, length, slice_index, refl, arith}
 

@@ -1,7 +1,7 @@
-pub mod WordLaws
-pub mod Turns
-pub mod Sounds
-pub mod Shown
-pub mod States
-pub mod Numbering
-pub mod LiveEdges
+pub mod WordLawsLemmas
+pub mod TurnsLemmas
+pub mod SoundsLemmas
+pub mod ShownLemmas
+pub mod StatesLemmas
+pub mod NumberingLemmas
+pub mod LiveEdgesLemmas

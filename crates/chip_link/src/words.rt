@@ -81,7 +81,7 @@ impl FiredWord {
     }
 
     /// The value that a word stands for. `None` where it stands for none: a limit that is met, and no halt.
-    #[tactic(auto, using(crate::proofs::WordLaws::limit_stands))]
+    #[tactic(auto, using(crate::proofs::WordLawsLemmas::limit_stands))]
     pub fn from_word(word: u64) -> Option<FiredWord>
         ensures some { is_some result ≡ is_fired_word word }
         ensures fired { IfSome result (λ value. value.fired ≡ fired_in word) }

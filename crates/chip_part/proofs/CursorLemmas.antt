@@ -1,3 +1,4 @@
+-- Serves Rules.antt, Turn.antt, Cursor.antt.
 -- How what is left of a turn at one cursor comes from what is left at another.
 use Rattle.std.proofs.Common.{◌≡◌, ◌≢◌, ℕ, zero, suc, ◌+◌, ◌-◌, ◌<◌, ◌≤◌, Bool, true, false, List, [], ◌∷◌, ◌++◌}
 use Rattle.std.proofs.Common.{length, drop, slice_index, Option, Some, None, refl, sym, ap, ◌∙◌, subst, arith}

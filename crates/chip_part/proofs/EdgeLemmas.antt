@@ -1,3 +1,4 @@
+-- Serves Edges.antt.
 -- The edges by their numbers: whose they are, and how sums over them split into the graph's own edges and the root's.
 use Rattle.std.proofs.Common.{◌≡◌, ℕ, ◌+◌, ◌-◌, ◌<◌, ◌≤◌, cond, eqb, length, ap, arith, lt-ltb, le-ltb}
 use Rattle.chip_graph.specs.Multigraph.{IsGraph, edge_at, sum_out, sum_in, degree}

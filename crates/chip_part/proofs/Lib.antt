@@ -1,11 +1,11 @@
 pub mod EdgeLemmas
 pub mod RuleLemmas
 pub mod PartLemmas
-pub mod Opening
+pub mod OpeningLemmas
 pub mod PickedLemmas
 pub mod TurnLemmas
 pub mod CursorLemmas
-pub mod TurnSteps
-pub mod CompletingTurns
-pub mod Resting
+pub mod TurnStepsLemmas
+pub mod CompletingTurnsLemmas
+pub mod RestingLemmas
 pub mod WorkedTurns

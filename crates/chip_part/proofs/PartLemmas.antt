@@ -1,3 +1,4 @@
+-- Serves Part.antt, Rules.antt, Steps.antt.
 -- What every part keeps by its own events, whatever they see.
 use Rattle.std.proofs.Common.{◌≡◌, ◌≢◌, ◌⊎◌, ℕ, zero, suc, ◌+◌, ◌-◌, ◌*◌, ◌<◌, ◌≤◌, Bool, true, false, not, ◌&&◌, ◌||◌}
 use Rattle.std.proofs.Common.{cond, eqb, ltb, leb, List, [], ◌∷◌, ◌++◌, length, sum, Option, Some, None, option_to_list}

@@ -1,3 +1,4 @@
+-- Serves Edges.antt.
 -- The numbers that pass a test, as a list: they ascend, and each of them is there.
 use Rattle.std.proofs.Common.{◌≡◌, ℕ, zero, suc, ◌+◌, ◌<◌, ◌≤◌, Bool, true, cond, List, [], ◌∷◌, ◌++◌, length, get_or}
 use Rattle.std.proofs.Common.{sym, ap, ◌∙◌, subst, arith, length-append, append-nil}

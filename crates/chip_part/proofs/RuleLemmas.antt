@@ -1,3 +1,4 @@
+-- Serves Rules.antt.
 -- The rules of an event in plain facts: each holds where none is unmet, and the other way round.
 use Rattle.std.proofs.Common.{◌≡◌, ◌≢◌, ℕ, ◌+◌, ◌*◌, ◌<◌, ◌≤◌, Bool, true, false, not, ◌&&◌, eqb, Option, Some, None}
 use Rattle.std.proofs.Common.{is_some, is_none, refl, sym, ap, ◌∙◌, arith, inl, inr, ⊎_elim, le-ltb, eq-eqb, ne_eqb}

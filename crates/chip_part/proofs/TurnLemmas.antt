@@ -1,3 +1,4 @@
+-- Serves Turn.antt, Rules.antt.
 -- How many operations a turn has at most. An edge out of the vertex has either a message to put or something to send,
 -- never both, so three operations for it are enough.
 use Rattle.std.proofs.Common.{◌≡◌, ◌≢◌, ℕ, zero, suc, ◌+◌, ◌-◌, ◌*◌, ◌<◌, ◌≤◌, Bool, true, false, not, ◌&&◌, cond, eqb}

@@ -1,3 +1,4 @@
+-- Serves Rules.antt, Steps.antt, Worked.antt.
 -- The worked turns, phase by phase.
 use Rattle.std.proofs.Common.{List, [], ◌∷◌, refl}
 use Rattle.chip_part.specs.Setting.{Setting}

@@ -4,7 +4,7 @@ use crate::reply::Reply;
 
 /// One atomic operation on one word of the machine, as a vertex makes it. A `cell` is a place within the edge's ring,
 /// from 0.
-#[derive(Clone, Copy, PartialEq, Eq)]
+#[derive(Clone, Copy)]
 pub enum Act {
     /// Swap the cell with 0.
     Take { edge: u64, cell: u64 },

@@ -1,3 +1,4 @@
+-- Serves ReportText.antt.
 -- Pieces joined by a byte: what a further piece adds.
 use Rattle.std.proofs.Common.{◌≡◌, ℕ, zero, suc, ◌+◌, ◌<◌, List, [], ◌∷◌, ◌++◌, length, map, take, get_or, refl, sym}
 use Rattle.std.proofs.Common.{ap, ◌∙◌, arith, append_assoc}

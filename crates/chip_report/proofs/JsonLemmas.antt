@@ -1,3 +1,4 @@
+-- Serves ReportText.antt, ReportJson.antt.
 -- The JSON value of a report, and that `serde_json` reads it from the report's text.
 use Rattle.std.proofs.Common.{◌≡◌, ℕ, ◌^◌, ◌<◌, ◌≤◌, true, false, List, [], ◌∷◌, ◌++◌, map, Some, refl, sym, ap, ◌∙◌}
 use Rattle.std.proofs.Common.{append_assoc, append-nil}

@@ -1,3 +1,4 @@
+-- Serves OutcomeParts.antt.
 -- Ascending lists of numbers: how a program tests them and searches in them.
 use Rattle.std.proofs.Common.{◌≡◌, ℕ, ◌+◌, ◌<◌, ◌≤◌, Bool, true, false, nat_lt, List, length, get_or, Result, Ok, Err}
 use Rattle.std.proofs.Common.{inl, inr, refl, sym, ◌∙◌, subst, arith, lt-ltb, ltb-true}

@@ -1,3 +1,4 @@
+-- Serves ReportTwo.antt, ReportText.antt, Reportable.antt.
 -- What the report of a sitting that went on tells, and which bytes are none.
 use Rattle.std.proofs.Common.{◌≡◌, ◌≢◌, ℕ, ◌^◌, ◌<◌, ◌≤◌, Bool, true, false, List, [], ◌∷◌, ◌++◌, length, codes, None}
 use Rattle.std.proofs.Common.{Some}

@@ -1,3 +1,4 @@
+-- Serves ReportJson.antt.
 -- The value of a text, and the numbers in it.
 use Rattle.std.proofs.Common.{◌≡◌, ℕ, ◌<◌, ◌+◌, Bool, true, false, List, [], ◌∷◌, ◌++◌, length, drop, get_or, Option}
 use Rattle.std.proofs.Common.{None, Some, refl, ap, sym, ◌∙◌, add-one, drop-cons, append_assoc}

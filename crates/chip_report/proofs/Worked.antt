@@ -1,3 +1,4 @@
+-- Serves ReportJson.antt.
 -- Worked texts and lists, computed on the definitions.
 use Rattle.std.proofs.Common.{◌≡◌, [], ◌∷◌, codes, None, Some, refl}
 use Rattle.std.specs.Str.{is_utf8, chars}

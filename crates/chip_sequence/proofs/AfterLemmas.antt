@@ -1,3 +1,4 @@
+-- Serves Counted.antt.
 -- Positions by counts: what flows in along a list of edges, that it fits 128 bits, and that no chip is lost.
 use Rattle.std.proofs.Common.{◌≡◌, ℕ, zero, suc, ◌+◌, ◌*◌, ◌^◌, ◌<◌, ◌≤◌, Bool, true, false, cond, eqb, List, length}
 use Rattle.std.proofs.Common.{take, sum, sum_by, get_or, slice_index, sym, ap, ◌∙◌, arith, suc-mul, mul-le-mul}

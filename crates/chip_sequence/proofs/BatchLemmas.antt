@@ -1,3 +1,4 @@
+-- Serves Sequence.antt.
 -- Several firings of one vertex at once, on lists.
 use Rattle.std.proofs.Common.{◌≡◌, ◌≢◌, ℕ, ◌+◌, ◌-◌, ◌*◌, ◌/◌, ◌<◌, ◌≤◌, Bool, true, false, cond, eqb, List, [], ◌∷◌}
 use Rattle.std.proofs.Common.{length, map, take, sum, sum_by, get_or, set, replicate, All, refl, sym, ap, ◌∙◌, subst, arith}

@@ -1,3 +1,4 @@
+-- Serves Sequence.antt, Bound.antt.
 -- Chips are kept, and no vertex fires more often than the bound of its distance.
 use Rattle.std.proofs.Common.{◌≡◌, ◌≢◌, ℕ, zero, suc, ◌+◌, ◌-◌, ◌*◌, ◌<◌, ◌≤◌, cond, eqb, List, [], ◌∷◌, ◌++◌, length}
 use Rattle.std.proofs.Common.{max, refl, sym, ap, ◌∙◌, subst, arith, eq-eqb, mul-le-mul, mul-le-mul_left, suc-mul}

@@ -1,3 +1,4 @@
+-- Serves Certificate.antt, Sequence.antt.
 -- Counts that are forced because they burn.
 use Rattle.std.proofs.Common.{◌≡◌, ℕ, zero, suc, ◌+◌, ◌-◌, ◌*◌, ◌^◌, ◌<◌, ◌≤◌, Bool, true, false, cond, eqb, leb}
 use Rattle.std.proofs.Common.{length, take, sum_by, get_or, sym, ap, subst, arith, le-leb, mul-add, mul-le-mul_left}

@@ -1,3 +1,4 @@
+-- Serves Sequence.antt, Certificate.antt, Counted.antt.
 -- Counts that are forced: by a certificate, by playing on, and at the end.
 use Rattle.std.proofs.Common.{◌≡◌, ℕ, zero, suc, ◌+◌, ◌-◌, ◌*◌, ◌<◌, ◌≤◌, eqb, List, [], ◌∷◌, length, slice_index, refl}
 use Rattle.std.proofs.Common.{sym, ap, ◌∙◌, subst, arith, eq-eqb, mul-add, mul-zero, mul-le-mul_right}

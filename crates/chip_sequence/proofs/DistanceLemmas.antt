@@ -1,3 +1,4 @@
+-- Serves Bound.antt.
 -- The search for the greatest distance, and the firing bound at it.
 use Rattle.std.proofs.Common.{◌≡◌, ℕ, suc, ◌+◌, ◌*◌, ◌^◌, ◌<◌, ◌≤◌, max, List, [], length, refl, sym, ap, subst, arith}
 use mathlib.Core.Logic.{dite}

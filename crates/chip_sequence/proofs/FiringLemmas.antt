@@ -1,3 +1,4 @@
+-- Serves Sequence.antt, Counted.antt, Firing.antt.
 -- Firings and firing sequences: counts, positions by counts, several firings of one vertex, the diamond.
 use Rattle.std.proofs.Common.{◌≡◌, ◌≢◌, ℕ, zero, suc, ◌+◌, ◌-◌, ◌*◌, ◌<◌, ◌≤◌, cond, eqb, List, [], ◌∷◌, ◌++◌}
 use Rattle.std.proofs.Common.{replicate, refl, sym, ap, ◌∙◌, subst, arith, mul-add, mul-zero, add-zero, suc-mul}

@@ -1,3 +1,4 @@
+-- Serves Sequence.antt, Certificate.antt, Firing.antt.
 -- What a sequence fires burns in the order of the last firings.
 use Rattle.std.proofs.Common.{◌≡◌, ◌≢◌, ℕ, zero, suc, ◌+◌, ◌-◌, ◌*◌, ◌<◌, ◌≤◌, Bool, true, false, cond, eqb, leb, List}
 use Rattle.std.proofs.Common.{[], ◌∷◌, length, refl, sym, ap, subst, arith, mul-add, mul-le-mul_left, eq-eqb, ne_eqb}

@@ -1,3 +1,4 @@
+-- Serves Sequence.antt, Firing.antt, Certificate.antt.
 -- Counts that are forced because a sequence could be played last.
 use Rattle.std.proofs.Common.{◌≡◌, ◌≢◌, ℕ, zero, suc, ◌+◌, ◌*◌, ◌<◌, ◌≤◌, cond, eqb, List, [], ◌∷◌, refl, sym, ap, ◌∙◌}
 use Rattle.std.proofs.Common.{subst, arith, mul-add, mul-zero, mul_comm, mul_assoc, suc-mul, mul-le-mul_left}

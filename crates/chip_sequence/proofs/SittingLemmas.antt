@@ -1,3 +1,4 @@
+-- Serves Sittings.antt, Sequence.antt.
 -- Plays in several sittings: what they lead to, and that they add up.
 use Rattle.std.proofs.Common.{◌≡◌, ℕ, ◌+◌, List, [], ◌∷◌, ◌++◌, slice_index, refl, sym, ap, ◌∙◌, subst, arith}
 use Rattle.chip_graph.specs.Multigraph.{Multigraph, IsGraph}

@@ -1,3 +1,4 @@
+-- Serves Interleaving.antt.
 -- Where no next row is met, each vertex has used as many rows as any partial interleaving lets it use.
 use Rattle.std.proofs.Common.{◌≡◌, ℕ, ◌+◌, ◌<◌, ◌≤◌, true, false, List, [], ◌∷◌, ◌++◌, length, refl, sym, ap, ◌∙◌}
 use Rattle.std.proofs.Common.{subst, arith, append_assoc, append-nil, length-append}

@@ -1,3 +1,4 @@
+-- Serves Interleaving.antt, Kept.antt, Runner.antt.
 -- What a replay keeps: at the start, and as a vertex uses a row that is met.
 use Rattle.std.proofs.Common.{◌≡◌, ◌≢◌, ℕ, zero, suc, ◌+◌, ◌*◌, ◌^◌, ◌<◌, ◌≤◌, Bool, true, false, cond, eqb, List, []}
 use Rattle.std.proofs.Common.{◌∷◌, ◌++◌, length, take, set, get_or, replicate, refl, sym, ap, ◌∙◌, subst, arith}

@@ -1,3 +1,4 @@
+-- Serves Kept.antt, Runner.antt.
 -- How many rows are left.
 use Rattle.std.proofs.Common.{◌≡◌, ℕ, ◌+◌, ◌-◌, ◌<◌, List, length, set, get_or, refl, ap, ◌∙◌, arith}
 use Rattle.std.specs.Prelude.{Some}

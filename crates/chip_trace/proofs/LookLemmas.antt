@@ -1,3 +1,4 @@
+-- Serves Interleaving.antt, Kept.antt.
 -- What a look at a row that is met tells.
 use Rattle.std.proofs.Common.{◌≡◌, ℕ, ◌+◌, ◌-◌, ◌*◌, ◌^◌, ◌<◌, ◌≤◌, Bool, true, false, cond, eqb, List, [], ◌∷◌, length}
 use Rattle.std.proofs.Common.{get_or, map, sum, refl, sym, ap, ◌∙◌, arith, eq-eqb}

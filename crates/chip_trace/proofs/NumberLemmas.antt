@@ -1,3 +1,4 @@
+-- Serves TraceText.antt.
 -- Numbers that fit their types.
 use Rattle.std.proofs.Common.{ℕ, ◌*◌, ◌^◌, ◌<◌, ◌≤◌, arith}
 use Rattle.std.proofs.Math.Nat.{mul-le-mul_left}

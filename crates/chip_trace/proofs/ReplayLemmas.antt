@@ -1,3 +1,4 @@
+-- Serves Kept.antt.
 -- A replay as it goes on.
 use Rattle.std.proofs.Common.{◌≡◌, ℕ, ◌+◌, ◌^◌, ◌<◌, List, ◌∙◌, arith}
 use Rattle.chip_link.specs.declared.trace.TraceRow.{TraceRow}

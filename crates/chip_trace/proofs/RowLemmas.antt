@@ -1,3 +1,4 @@
+-- Serves Interleaving.antt.
 -- What rows come to as they grow, and that a row that is met stays met.
 use Rattle.std.proofs.Common.{◌≡◌, ◌≢◌, ℕ, ◌+◌, ◌-◌, ◌*◌, Bool, true, false, cond, eqb, List, [], ◌∷◌, ◌++◌, length}
 use Rattle.std.proofs.Common.{map, sum, refl, sym, ap, ◌∙◌, subst, arith, append_assoc, append-nil}

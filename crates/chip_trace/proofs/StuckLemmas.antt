@@ -1,3 +1,4 @@
+-- Serves Kept.antt, Progress.antt, Interleaving.antt.
 -- What follows once no next row is met: an interleaving, or a vertex to blame.
 use Rattle.std.proofs.Common.{◌≡◌, ℕ, ◌<◌, ◌≤◌, List, [], ◌++◌, length, drop, sym, ap, ◌∙◌, arith, inl, inr}
 use Rattle.std.specs.Prelude.{slice_get, Some, None, ◌⊎◌}

@@ -1,3 +1,4 @@
+-- Serves Interleaving.antt, Kept.antt, Progress.antt.
 -- What a look at a row says of whether it is wrong.
 use Rattle.std.proofs.Common.{◌≡◌, ℕ, Bool, true, false, List, refl, ap, subst}
 use Rattle.std.specs.Prelude.{Option, Some, None, not, ◌||◌}

@@ -1,4 +1,4 @@
-use Rattle.chip_core.proofs.Showing.{operations_find, words_go_on}
+use Rattle.chip_core.proofs.ShowingLemmas.{operations_find, words_go_on}
 use Rattle.chip_core.proofs.laws.shown_words.Goals as goal
 
 pub returns-clause-find : goal.returns-clause-find

@@ -1,4 +1,4 @@
-use Rattle.chip_detect.proofs.Soundness.{neutral_only_when_done}
+use Rattle.chip_detect.proofs.SoundnessLemmas.{neutral_only_when_done}
 use Rattle.chip_detect.proofs.laws.last_acknowledgement.Goals as goal
 
 pub returns : goal.returns

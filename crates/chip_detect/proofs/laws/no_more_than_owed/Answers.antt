@@ -1,5 +1,5 @@
 use Rattle.chip_detect.specs.Books.{owed, all_owed, deficit}
-use Rattle.chip_detect.proofs.Allowed.{within_owed}
+use Rattle.chip_detect.proofs.AllowedLemmas.{within_owed}
 use Rattle.chip_detect.proofs.laws.no_more_than_owed.Goals as goal
 
 pub returns : goal.returns

@@ -1,4 +1,4 @@
-use Rattle.chip_detect.proofs.Soundness.{parent_goes_with_all}
+use Rattle.chip_detect.proofs.SoundnessLemmas.{parent_goes_with_all}
 use Rattle.chip_detect.proofs.laws.parent_goes_with_all.Goals as goal
 
 pub returns : goal.returns

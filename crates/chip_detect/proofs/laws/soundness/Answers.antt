@@ -1,4 +1,4 @@
-use Rattle.chip_detect.proofs.Soundness.{steps_keep_soundness}
+use Rattle.chip_detect.proofs.SoundnessLemmas.{steps_keep_soundness}
 use Rattle.chip_detect.proofs.laws.soundness.Goals as goal
 
 pub returns : goal.returns

@@ -1,5 +1,5 @@
-use Rattle.chip_link.proofs.WordLaws.{edge_word_reads, edge_word_stands, adds_claims, added_reads, seals_word}
-use Rattle.chip_link.proofs.WordLaws.{sealed_reads, exchanges_word, expects_unsealed}
+use Rattle.chip_link.proofs.WordLawsLemmas.{edge_word_reads, edge_word_stands, adds_claims, added_reads, seals_word}
+use Rattle.chip_link.proofs.WordLawsLemmas.{sealed_reads, exchanges_word, expects_unsealed}
 use Rattle.chip_link.proofs.laws.edge_words.Goals as goal
 
 pub returns-clause-reads : goal.returns-clause-reads

@@ -1,5 +1,5 @@
-use Rattle.chip_link.proofs.WordLaws.{fired_word_reads, fired_word_stands, adds_firings, added_firings_read, halts_word}
-use Rattle.chip_link.proofs.WordLaws.{halt_reads, halts_by_limit, halt_by_limit_reads}
+use Rattle.chip_link.proofs.WordLawsLemmas.{fired_word_reads, fired_word_stands, adds_firings, added_firings_read, halts_word}
+use Rattle.chip_link.proofs.WordLawsLemmas.{halt_reads, halts_by_limit, halt_by_limit_reads}
 use Rattle.chip_link.proofs.laws.fired_words.Goals as goal
 
 pub returns-clause-reads : goal.returns-clause-reads

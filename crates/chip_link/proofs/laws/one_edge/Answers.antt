@@ -1,4 +1,4 @@
-use Rattle.chip_link.proofs.LiveEdges.{takes_prefix, claims_in_order, nothing_after_seal, word_tells, seals_all_claims}
+use Rattle.chip_link.proofs.LiveEdgesLemmas.{takes_prefix, claims_in_order, nothing_after_seal, word_tells, seals_all_claims}
 use Rattle.chip_link.proofs.laws.one_edge.Goals as goal
 
 pub returns-clause-prefix : goal.returns-clause-prefix

@@ -1,4 +1,4 @@
-use Rattle.chip_part.proofs.Resting.{idle_turn_rests}
+use Rattle.chip_part.proofs.RestingLemmas.{idle_turn_rests}
 use Rattle.chip_part.proofs.laws.idle_turns.Goals as goal
 
 pub returns : goal.returns

@@ -1,6 +1,6 @@
 use Rattle.chip_part.proofs.RuleLemmas.{rules_met, met_rules}
 use Rattle.chip_part.proofs.PartLemmas.{events_keep}
-use Rattle.chip_part.proofs.Opening.{opening_keeps}
+use Rattle.chip_part.proofs.OpeningLemmas.{opening_keeps}
 use Rattle.chip_part.proofs.laws.parts.Goals as goal
 
 pub returns-clause-rules : goal.returns-clause-rules

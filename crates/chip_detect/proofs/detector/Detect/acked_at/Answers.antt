@@ -3,8 +3,8 @@ use Rattle.std.specs.Option.{option_eq}
 use Rattle.chip_detect.specs.Tally.{open_on}
 use Rattle.chip_detect.specs.Books.{Books, IsSound, in_edges}
 use Rattle.chip_detect.specs.Acknowledging.{may_ack}
-use Rattle.chip_detect.proofs.Lookups.{stands_among}
-use Rattle.chip_detect.proofs.Soundness.{freed, kept}
+use Rattle.chip_detect.proofs.LookupsLemmas.{stands_among}
+use Rattle.chip_detect.proofs.SoundnessLemmas.{freed, kept}
 use Rattle.chip_detect.proofs.detector.Detect.acked_at.Goals as goal
 use Rattle.chip_detect.proofs.detector.Detect.acked_at.Goals.{After-add_answers_at}
 use Rattle.chip_detect.proofs.detector.Detect.acked_at.Goals.{else-eq-via-then-eq+else-open_at-eq0, else-eq-via-else-eq}

@@ -2,7 +2,7 @@
 use Rattle.std.proofs.Common.{arith, ◌≡◌, ℕ, ◌-◌, ◌^◌, not, eqb, bit_and}
 use Rattle.std.proofs.lemmas.Grind.{common_steps}
 use Rattle.chip_link.specs.Words.{fired_in, halted_in}
-use Rattle.chip_link.proofs.WordLaws.{limit_stands, fired_word_back}
+use Rattle.chip_link.proofs.WordLawsLemmas.{limit_stands, fired_word_back}
 use Rattle.chip_link.proofs.words.FiredWord.from_word.Goals as goal
 
 pub returns-clause-word : goal.returns-clause-word

@@ -1,3 +1,4 @@
+-- Serves Link.antt.
 -- One edge by its lists, with no word: each step that is allowed keeps it sound. What a step sees is taken by an
 -- equation.
 use Rattle.std.proofs.Common.{◌≡◌, ◌≢◌, ℕ, zero, suc, ◌+◌, ◌<◌, Bool, true, cond, eqb, List, [], ◌∷◌, ◌++◌, length}

@@ -1,3 +1,4 @@
+-- Serves Link.antt, Ends.antt.
 -- The numbers that a running tail and head keep follow the lists of their edge: each step on the lists is the same step
 -- on the numbers.
 use Rattle.std.proofs.Common.{◌≡◌, ℕ, ◌+◌, ◌-◌, ◌%◌, Bool, true, false, cond, option_map, List, [], ◌∷◌, length, Option}
@@ -8,7 +9,7 @@ use Rattle.chip_link.specs.Ends.{TailState, HeadState, may_clear, tail_after_cle
 use Rattle.chip_link.specs.Ends.{put_of, head_after_take}
 use Rattle.chip_link.specs.Link.{Tail, sent_counts, claims_of, after_clear, after_claim, after_put, after_take}
 use Rattle.chip_link.specs.Link.{tail_state, head_state}
-use Rattle.chip_link.proofs.Sounds.{cond_yes, cond_no, none_held, one_held, length-sent_counts}
+use Rattle.chip_link.proofs.SoundsLemmas.{cond_yes, cond_no, none_held, one_held, length-sent_counts}
 
 cond_true : {A : Type 0} (b : Bool) (x y : A) → b ≡ true → cond b x y ≡ x
 cond_true b x y e = ap (λ (t : Bool). cond t x y) e

@@ -1,3 +1,4 @@
+-- Serves Books.antt, Steps.antt, Tally.antt.
 -- The steps keep the books sound, and only a last acknowledgement makes an engaged vertex neutral.
 use Rattle.std.proofs.Common.{◌≡◌, ℕ, ◌+◌, ◌<◌, ◌≤◌, ◌≢◌, eqb, if◌then◌else◌, ◌&&◌, true, false, List, nat_eq, Option}
 use Rattle.std.proofs.Common.{Some, None, is_some, refl, sym, ap, ◌∙◌, subst, inl, inr, arith}
@@ -10,9 +11,9 @@ use Rattle.chip_detect.specs.Steps.{Got, Acked, Sent, Settled, Gets, Acknowledge
 use Rattle.chip_detect.specs.Change.{AddsAnswers}
 use Rattle.std.specs.Option.{option_eq}
 use Rattle.chip_detect.specs.Laws.{StepsKeepSoundness, NeutralOnlyWhenDone, ParentGoesWithAll, IsLastAcknowledgement}
-use Rattle.chip_detect.proofs.Changes.{open_within_total, message_opens, message_tallies, answers_close}
-use Rattle.chip_detect.proofs.Changes.{answers_tallies, answers_total}
-use Rattle.chip_detect.proofs.Allowed.{within_owed, all_when_done, active_keeps_one, stays_owed, goes_unowed}
+use Rattle.chip_detect.proofs.ChangesLemmas.{open_within_total, message_opens, message_tallies, answers_close}
+use Rattle.chip_detect.proofs.ChangesLemmas.{answers_tallies, answers_total}
+use Rattle.chip_detect.proofs.AllowedLemmas.{within_owed, all_when_done, active_keeps_one, stays_owed, goes_unowed}
 
 module _ (old new : Books) (e count : ℕ) (sound : IsSound old) (on : Contains (in_edges old) e)
     (allowed : count ≤ may_ack old e true) (change : Acknowledges old new e count) where

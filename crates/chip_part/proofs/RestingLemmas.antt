@@ -1,3 +1,4 @@
+-- Serves Rules.antt, Turn.antt, Part.antt.
 -- A vertex that had nothing to do in a whole turn, and is passive, is neutral or waits for acknowledgements.
 use Rattle.std.proofs.Common.{◌≡◌, ◌≢◌, ◌⊎◌, ℕ, zero, suc, ◌+◌, ◌-◌, ◌<◌, ◌≤◌, Bool, true, false, not, ◌&&◌, cond, eqb}
 use Rattle.std.proofs.Common.{List, [], ◌∷◌, ◌++◌, Option, Some, None, Contains, refl, sym, ap, ◌∙◌, subst, arith, inl}

@@ -1,3 +1,4 @@
+-- Serves Acknowledging.antt.
 -- What the rule of acknowledging says, over plain arguments.
 use Rattle.std.proofs.Common.{◌≡◌, ℕ, ◌-◌, ◌<◌, ◌≤◌, Bool, true, false, Option, Some, None, subst, inl, inr, arith}
 use Rattle.std.proofs.lemmas.Bool.Decides.{nat_tests, eqb_tells}

@@ -1,3 +1,4 @@
+-- Serves Link.antt.
 -- One edge, by what its words show: each step sees what the lists say, and leaves words that show the lists after it.
 -- The edge word and the cells are any number and any function, so that a table of words may stand behind them.
 use Rattle.std.proofs.Common.{◌≡◌, ◌≢◌, ℕ, zero, suc, ◌+◌, ◌%◌, ◌^◌, ◌<◌, true, false, List, [], ◌∷◌, ◌++◌, length}
@@ -11,9 +12,9 @@ use native.Mathlib.Decide.{ℕ_discrete}
 use Rattle.chip_link.specs.Words.{edge_word}
 use Rattle.chip_link.specs.Link.{Tail, fresh_tail, first_tail, sent_counts, claims_of, after_clear, after_claim}
 use Rattle.chip_link.specs.Link.{after_put, after_take, after_seal, cell_at_tail, cell_at_head, Sound, Shows}
-use Rattle.chip_link.proofs.Sounds.{cond_yes, cond_no, none_held, one_held, length-sent_counts, put_at, put_last}
-use Rattle.chip_link.proofs.Turns.{same_place, next_turn}
-use Rattle.chip_link.proofs.WordLaws.{seals_word}
+use Rattle.chip_link.proofs.SoundsLemmas.{cond_yes, cond_no, none_held, one_held, length-sent_counts, put_at, put_last}
+use Rattle.chip_link.proofs.TurnsLemmas.{same_place, next_turn}
+use Rattle.chip_link.proofs.WordLawsLemmas.{seals_word}
 
 -- a seal, whether it is the first or not, leaves the sealed word of these claims
 seal_leaves : (n word : ℕ) (stop : Option ℕ) → n < 2 ^ 63 → word ≡ edge_word n (is_some stop)

@@ -1,3 +1,4 @@
+-- Serves Edges.antt, Part.antt.
 -- Every part opens with what it keeps.
 use Rattle.std.proofs.Common.{◌≡◌, ℕ, ◌+◌, ◌-◌, ◌<◌, ◌≤◌, Bool, true, false, not, ◌&&◌, cond, eqb, ltb, leb, [], ◌∷◌}
 use Rattle.std.proofs.Common.{length, sum, Option, Some, None, refl, sym, ap, ◌∙◌, subst, arith, eq-eqb, eqb-true}
@@ -11,7 +12,7 @@ use Rattle.chip_part.specs.Setting.{Setting}
 use Rattle.chip_graph.specs.Sums.{sum_below}
 use Rattle.chip_graph.proofs.SumLemmas.{cond_yes, cond_no, cond_true, cond_false, tested_none, sum_below_ext}
 use Rattle.chip_graph.proofs.SumLemmas.{sum_by_place}
-use Rattle.chip_graph.proofs.Walks.{degree_positive}
+use Rattle.chip_graph.proofs.WalksLemmas.{degree_positive}
 use Rattle.chip_link.specs.Link.{claims_of, sent_counts}
 use Rattle.chip_part.specs.Edges.{graph_edges, all_edges, root_edge, tail_of, head_of, mult_of, start_of}
 use Rattle.chip_part.specs.Part.{Cause, opened, first_put, is_legal, all_fed}

@@ -1,10 +1,11 @@
+-- Serves Change.antt.
 -- Sums over edges, where one edge changes.
 use Rattle.std.proofs.Common.{◌≡◌, ℕ, zero, suc, ◌+◌, ◌*◌, ◌<◌, ◌≤◌, ◌≢◌, List, [], ◌∷◌, length, get_or, refl, arith}
 use Rattle.std.specs.List.{sum_by}
 use Rattle.std.proofs.lemmas.List.Sums.{sum_by-cons, sum_by-le}
 use Rattle.std.proofs.lemmas.Bool.Decides.{nat_tests}
 use Rattle.chip_detect.specs.Change.{Same, Adds}
-use Rattle.chip_detect.proofs.Lookups.{Ascends, ascends_tail, not_in_front}
+use Rattle.chip_detect.proofs.LookupsLemmas.{Ascends, ascends_tail, not_in_front}
 
 pub sum_same : (f g : ℕ → ℕ) (xs : List ℕ) → Same f g → sum_by g xs ≡ sum_by f xs
 sum_same f g [] same = refl

@@ -1,3 +1,4 @@
+-- Serves Turn.antt, Cursor.antt, Part.antt.
 -- Each phase of a turn: what is due in it, and when the next phase is due.
 use Rattle.std.proofs.Common.{◌≡◌, ◌≢◌, ℕ, zero, suc, ◌+◌, ◌-◌, ◌*◌, ◌/◌, ◌<◌, ◌≤◌, min, Bool, true, false, not, ◌&&◌}
 use Rattle.std.proofs.Common.{cond, eqb, List, [], ◌∷◌, ◌++◌, length, get_or, slice_index, Option, Some, None, is_some}
@@ -15,7 +16,7 @@ use Rattle.chip_graph.specs.ChipGame.{IsGame}
 use Rattle.chip_part.specs.Setting.{Setting}
 use Rattle.chip_graph.proofs.SumLemmas.{cond_yes, cond_no, cond_true, cond_false, tested_none}
 use Rattle.chip_graph.proofs.PickLemmas.{All-picked}
-use Rattle.chip_graph.proofs.Walks.{degree_positive}
+use Rattle.chip_graph.proofs.WalksLemmas.{degree_positive}
 use Rattle.chip_link.specs.Link.{Tail, claims_of, after_clear, after_claim, after_put}
 use Rattle.chip_part.specs.declared.cause.Cause.TheVariants.{SealedEdge, FiringLimit}
 use Rattle.chip_part.specs.declared.cursor.Cursor.TheVariants as At

@@ -1,3 +1,4 @@
+-- Serves Rings.antt.
 -- Places of one ring: less than a turn apart, two places have two cells.
 use Rattle.std.proofs.Common.{◌≡◌, ℕ, suc, ◌+◌, ◌*◌, ◌/◌, ◌%◌, ◌<◌, ◌≤◌, sym, ap, ◌∙◌, arith, mul-le-mul_right, suc-mul}
 use Rattle.std.proofs.Common.{lt_of_not-le, div-add-mod'}

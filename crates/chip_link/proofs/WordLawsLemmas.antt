@@ -1,3 +1,4 @@
+-- Serves WordLaws.antt, Words.antt.
 -- What the words of an edge and of a vertex stand for, and what the operations on them make of that.
 use Rattle.std.proofs.Common.{subst, rules, ◌≡◌, ◌≢◌, ℕ, ◌+◌, ◌*◌, ◌%◌, ◌^◌, ◌<◌, Bool, true, false, eqb, refl, sym, ap}
 use Rattle.std.proofs.Common.{◌∙◌, arith, eq-eqb, ne_eqb, bit_or, bit_and, not, ◌/◌, le-leb}

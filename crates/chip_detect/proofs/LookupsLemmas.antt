@@ -1,3 +1,4 @@
+-- Serves Tally.antt.
 -- Tallies by index, looked up by the number of an edge.
 use Rattle.std.proofs.Common.{◌≡◌, ℕ, zero, suc, ◌<◌, ◌≢◌, eqb, if◌then◌else◌, List, [], ◌∷◌, length, get_or, set, ◌⊎◌}
 use Rattle.std.proofs.Common.{refl, sym, ◌∙◌, inl, inr, arith}

@@ -1,3 +1,4 @@
+-- Serves Turn.antt, Cursor.antt, Rules.antt.
 -- Every turn that is under way can be completed, so the bound of a whole turn holds of it as well.
 use Rattle.std.proofs.Common.{ℕ, ◌+◌, ◌<◌, ◌≤◌, Bool, true, false, List, [], ◌∷◌, ◌++◌, length, drop, Option, Some}
 use Rattle.std.proofs.Common.{None, refl, arith, length-append}

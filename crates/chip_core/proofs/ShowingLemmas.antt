@@ -1,3 +1,4 @@
+-- Serves Core.antt, Words.antt.
 -- What the operation of an event finds in its word is what the core says, and the words that it leaves show the log
 -- with that event.
 use Rattle.std.proofs.Common.{◌≡◌, ◌≢◌, ℕ, ◌+◌, ◌-◌, ◌%◌, ◌^◌, ◌<◌, true, false, cond, eqb, List, ◌∷◌, length, sum}
@@ -10,9 +11,9 @@ use Rattle.chip_graph.proofs.SumLemmas.{cond_yes, cond_no}
 use Rattle.chip_link.specs.Link.{Tail, claims_of, after_clear, after_claim, after_put, after_take, after_seal, Sound}
 use Rattle.chip_link.specs.Link.{Shows}
 use Rattle.chip_link.specs.Words.{fired_word}
-use Rattle.chip_link.proofs.Shown.{clear_sees, claim_shows, put_shows, take_sees, take_shows, seal_shows}
-use Rattle.chip_link.proofs.Sounds.{one_held}
-use Rattle.chip_link.proofs.WordLaws.{halts_word, halts_by_limit}
+use Rattle.chip_link.proofs.ShownLemmas.{clear_sees, claim_shows, put_shows, take_sees, take_shows, seal_shows}
+use Rattle.chip_link.proofs.SoundsLemmas.{one_held}
+use Rattle.chip_link.proofs.WordLawsLemmas.{halts_word, halts_by_limit}
 use Rattle.chip_graph.specs.ChipGame.{IsGame}
 use Rattle.chip_part.specs.Setting.{Setting}
 use Rattle.chip_part.specs.declared.cause.Cause.{Cause}

@@ -1,3 +1,4 @@
+-- Serves Link.antt, Ends.antt, Edge.antt.
 -- One edge end to end: behind every list of steps there are the lists of counts that `Link` speaks of, and so its laws
 -- hold.
 use Rattle.std.proofs.Common.{◌≡◌, ◌≢◌, ◌⊎◌, inl, inr, ⊎_elim, option_map, ℕ, ◌+◌, ◌-◌, ◌%◌, ◌^◌, ◌<◌, ◌≤◌, Bool, true}
@@ -20,12 +21,12 @@ use Rattle.chip_link.specs.Link.{after_take, after_seal, word_of, tail_state, he
 use Rattle.chip_link.specs.Edge.{LiveEdge, EdgeStep, Clear, Claim, Put, Take, Seal, opened, step, steps, stored}
 use Rattle.chip_link.specs.Edge.{claim_on, take_on}
 use Rattle.chip_link.specs.Laws.{AreInOrder, TakesPrefix, ClaimsInOrder, NothingAfterSeal, WordTells, SealsAllClaims}
-use Rattle.chip_link.proofs.Sounds.{cond_yes, cond_no, none_held, length-sent_counts, none-some, clear_sound}
-use Rattle.chip_link.proofs.Sounds.{claim_sound, put_sound, take_sound, seal_sound, fresh_sound}
-use Rattle.chip_link.proofs.Shown.{clear_sees, clear_shows, claim_shows, put_shows, take_sees, take_shows, seal_shows}
-use Rattle.chip_link.proofs.Shown.{fresh_shows}
-use Rattle.chip_link.proofs.States.{tail_clears, tail_claims, tail_puts, puts_at, head_takes}
-use Rattle.chip_link.proofs.Numbering.{numbered, numbered-append, length-numbered, numbered_in_order, numbered_prefix}
+use Rattle.chip_link.proofs.SoundsLemmas.{cond_yes, cond_no, none_held, length-sent_counts, none-some, clear_sound}
+use Rattle.chip_link.proofs.SoundsLemmas.{claim_sound, put_sound, take_sound, seal_sound, fresh_sound}
+use Rattle.chip_link.proofs.ShownLemmas.{clear_sees, clear_shows, claim_shows, put_shows, take_sees, take_shows, seal_shows}
+use Rattle.chip_link.proofs.ShownLemmas.{fresh_shows}
+use Rattle.chip_link.proofs.StatesLemmas.{tail_clears, tail_claims, tail_puts, puts_at, head_takes}
+use Rattle.chip_link.proofs.NumberingLemmas.{numbered, numbered-append, length-numbered, numbered_in_order, numbered_prefix}
 
 -- the running edge s has these lists behind it
 pub record Follows (edge ring : ℕ) (s : LiveEdge) (t : Tail) (got : List ℕ) : Type 0 where

@@ -1,3 +1,4 @@
+-- Serves Asking.antt, ActorAsking.antt.
 -- What the tests ask of an actor, one question after another.
 use Rattle.std.proofs.Common.{◌≡◌, ◌≢◌, ℕ, ◌+◌, ◌<◌, ◌≤◌, true, ◌&&◌, List, [], ◌∷◌, ◌++◌, length, drop, get_or, Option}
 use Rattle.std.proofs.Common.{None, Ok, Err, is_some, refl, sym, ap, ◌∙◌, subst, ⊎_elim, eqb-true}

@@ -1,3 +1,4 @@
+-- Serves Asking.antt.
 -- What a part may be asked for and may see: the tests of it compute.
 use Rattle.std.proofs.Common.{◌≡◌, ℕ, true, Option, Some, None, Ok, Err, refl, ⊎_elim, eqb-true, leb-true, ltb-true}
 use Rattle.std.proofs.lemmas.Bool.{and_parts, or_cases}

@@ -1,3 +1,4 @@
+-- Serves RootAsking.antt.
 -- What the tests ask of a root, one question after another.
 use Rattle.std.proofs.Common.{◌≡◌, ℕ, ◌+◌, ◌<◌, true, ◌&&◌, List, length, drop, get_or, Option, Ok}
 use Rattle.std.proofs.Common.{Err}

@@ -102,7 +102,7 @@ fn make_turn(rt: &impl Abort, actor: &mut ActorState, turn: &[(Act, u64)]) -> us
         cursor = next;
     }
     let (last, _) = actor.next(cursor);
-    assert!(rt; last == Act::End);
+    assert!(rt; matches!(last, Act::End));
     counted
 }
 

@@ -8,7 +8,7 @@ ghost use Rattle.chip_core_tests.specs.RootAsking.{may_ask_root, may_play_root, 
 use chip_graph::{Edge, Game, Graph};
 use chip_link::{Event, Message, Ring};
 use chip_part::{Reply, Rule, Setting};
-use chip_root::RootState;
+use chip_root::RootBooks;
 use std::alloc::Global;
 use std::process::Abort;
 use std::test::Fail;
@@ -46,7 +46,7 @@ fn sent(edge: u64, place: u64, count: u64) -> Reply {
 }
 
 /// Asks the root for an event, which is made where its rules are met.
-fn ask_root(root: &mut RootState, event: Event, seen: u64) -> Reply
+fn ask_root(root: &mut RootBooks, event: Event, seen: u64) -> Reply
     requires { SomeRoot root.old (λ g s. IsTrue (may_ask_root g s event seen)) }
     ensures { RootAnswers root.old root.new event seen result }
 {
@@ -57,7 +57,7 @@ fn ask_root(root: &mut RootState, event: Event, seen: u64) -> Reply
 }
 
 /// Asks the root for one event after another, each with the word that it sees and the reply that is hoped for.
-fn play_root(rt: &impl Abort, root: &mut RootState, questions: &[(Event, u64, Reply)])
+fn play_root(rt: &impl Abort, root: &mut RootBooks, questions: &[(Event, u64, Reply)])
     requires { SomeRoot root.old (λ g s. IsTrue (may_play_root g s questions.now)) }
 {
     for i in 0..questions.len() {
@@ -71,7 +71,7 @@ fn play_root(rt: &impl Abort, root: &mut RootState, questions: &[(Event, u64, Re
 fn unfed_root(rt: HostRuntime) -> Result<(), Fail> {
     let game = game_of(rt.alloc(), 3, &[(0, 1), (0, 2), (1, 0), (1, 2)], &[4, 0, 0])?;
     let setting = Setting::new(game, Ring::one(), false);
-    let mut root = RootState::new(rt.alloc(), &setting)?;
+    let mut root = RootBooks::new(rt.alloc(), &setting)?;
     let script = [
         (Event::Clear(4), 0, Reply::NotNow(Rule::Ended)),
         (Event::Put(4), 0, Reply::NotNow(Rule::NotClaimed)),
@@ -92,7 +92,7 @@ fn unfed_root(rt: HostRuntime) -> Result<(), Fail> {
 fn settled_root(rt: HostRuntime) -> Result<(), Fail> {
     let game = game_of(rt.alloc(), 3, &[(0, 1), (0, 2), (1, 0), (1, 2)], &[4, 0, 0])?;
     let setting = Setting::new(game, Ring::one(), false);
-    let mut root = RootState::new(rt.alloc(), &setting)?;
+    let mut root = RootBooks::new(rt.alloc(), &setting)?;
     assert_eq!(rt; root.outstanding(), 1);
     let first = root.settle(0, 1);
     assert_eq!(rt; first, 1);
@@ -107,7 +107,7 @@ fn settled_root(rt: HostRuntime) -> Result<(), Fail> {
 fn fed_root(rt: HostRuntime) -> Result<(), Fail> {
     let game = game_of(rt.alloc(), 3, &[(0, 1), (0, 2), (1, 0), (1, 2)], &[0, 0, 1])?;
     let setting = Setting::new(game, Ring::one(), true);
-    let mut root = RootState::new(rt.alloc(), &setting)?;
+    let mut root = RootBooks::new(rt.alloc(), &setting)?;
     let script = [
         (feed!(4, 3), 0, Reply::NotNow(Rule::NotCleared)),
         (Event::Clear(4), 0, Reply::Done(0)),

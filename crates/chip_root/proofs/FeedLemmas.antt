@@ -1,3 +1,4 @@
+-- Serves Root.antt.
 -- The root's feeder: what it knows of the root edges, and how a look, a claim and a put there change it.
 use Rattle.std.proofs.Common.{◌≡◌, ◌≢◌, ℕ, zero, suc, ◌+◌, ◌-◌, ◌<◌, ◌≤◌, ◌^◌, Bool, true, false, not}
 use Rattle.std.proofs.Common.{cond, eqb, ltb}
@@ -17,7 +18,7 @@ use Rattle.chip_link.specs.Ends.{TailState, new_tail, may_clear, claim_words, ta
 use Rattle.chip_link.specs.Ends.{tail_after_put}
 use Rattle.chip_link.specs.Link.{Tail, claims_of, sent_counts, tail_state, after_clear, after_claim, after_put}
 use Rattle.chip_link.specs.Words.{claims_in}
-use Rattle.chip_link.proofs.States.{tail_clears, tail_claims, tail_puts}
+use Rattle.chip_link.proofs.StatesLemmas.{tail_clears, tail_claims, tail_puts}
 use Rattle.chip_graph.specs.ChipGame.{IsGame}
 use Rattle.chip_part.specs.Setting.{Setting}
 use Rattle.chip_part.specs.Edges.{graph_edges, all_edges, root_edge, tail_of, root, start_of}
@@ -32,7 +33,7 @@ use Rattle.chip_root.specs.Root.{tail_at, with_tail, after_feed, look_reply, fee
 use Rattle.chip_root.specs.Root.{ended_root}
 use Rattle.chip_part.proofs.EdgeLemmas.{tail_root}
 use Rattle.chip_part.proofs.RuleLemmas.{rules_met, met_rules, root_clear}
-use Rattle.chip_part.proofs.Opening.{first_sent, first_fed}
+use Rattle.chip_part.proofs.OpeningLemmas.{first_sent, first_fed}
 use Rattle.chip_root.proofs.RootLemmas.{all_outstanding}
 
 -- ---- one tail

@@ -1,3 +1,4 @@
+-- Serves Root.antt.
 -- The root: what is outstanding at the opening, and how a settle of a root edge changes it.
 use Rattle.std.proofs.Common.{◌≡◌, ℕ, ◌+◌, ◌-◌, ◌<◌, ◌≤◌, cond, eqb, ltb, List, [], ◌∷◌, length}
 use Rattle.std.proofs.Common.{get_or, set, replicate, slice_index, le-ltb, eq-eqb, refl, None}

@@ -27,7 +27,7 @@ pub record Feeder : Type 0 where
   pub fed : ℕ
   pub ended : Bool
 
--- what a `RootState` shows: how many edges the graph has; by vertices, how many messages of the root edge are settled;
+-- what a `RootBooks` shows: how many edges the graph has; by vertices, how many messages of the root edge are settled;
 -- how many are outstanding on all of them; and the feeder
 pub record Root : Type 0 where
   pub graph_edges : ℕ

@@ -6,4 +6,4 @@
 mod feeder;
 mod root;
 
-pub use root::RootState;
+pub use root::RootBooks;

@@ -10,14 +10,14 @@ use std::marker::Model;
 /// The root at run time: of each root edge, by vertices, how many messages are settled, and how many are outstanding on
 /// all of them; and what it feeds chips with.
 #[derive(Drop)]
-pub struct RootState {
+pub struct RootBooks {
     graph_edges: u64,
     settled: Vec<u64>,
     outstanding: u64,
     feeder: FeederState,
 }
 
-impl Model for RootState {
+impl Model for RootBooks {
     ghost use Rattle.std.specs.Prelude.{◌≤◌};
     ghost use Rattle.std.specs.Vec.{vec_len};
     ghost use Rattle.chip_graph.specs.Limits.{max_edges, max_vertices};
@@ -35,7 +35,7 @@ impl Model for RootState {
     ghost invariant = { λ a. (a.graph_edges ≤ max_edges) × (vec_len a.settled ≤ max_vertices) };
 }
 
-impl RootState {
+impl RootBooks {
     ghost use Rattle.chip_link.specs.Link.{tail_state};
     ghost use Rattle.chip_part.specs.Edges.{graph_edges, all_edges, root, root_edge};
     ghost use Rattle.chip_part.specs.Part.{opened, deficit};
@@ -49,11 +49,11 @@ impl RootState {
 
     /// The root at the opening, with one message outstanding for each vertex that starts with chips. Where no chips are
     /// fed, the end of feeding is noted. It takes all the memory that the root ever needs.
-    pub fn new(alloc: Global, setting: &Setting) -> Result<RootState, AllocError>
+    pub fn new(alloc: Global, setting: &Setting) -> Result<RootBooks, AllocError>
         ensures { IfOk result (RootStandsFor setting.now (opened setting.now)) }
     {
         let start = setting.game().start();
-        Ok(RootState {
+        Ok(RootBooks {
             graph_edges: setting.graph_edges(),
             settled: vec![in alloc; 0; start.len()]?,
             outstanding: with_chips(start),

@@ -1,4 +1,4 @@
-use Rattle.chip_detect.proofs.Fresh.{stand_in_order}
+use Rattle.chip_detect.proofs.FreshLemmas.{stand_in_order}
 use Rattle.chip_core_tests.proofs.detect.neutral.Goals as goal
 
 pub returns-clause-ins : goal.returns-clause-ins

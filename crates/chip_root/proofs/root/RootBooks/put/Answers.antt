@@ -1,6 +1,6 @@
-use Rattle.chip_root.specs.contracts.root.RootState.{the_view}
+use Rattle.chip_root.specs.contracts.root.RootBooks.{the_view}
 use Rattle.chip_root.proofs.FeedLemmas.{put_made}
-use Rattle.chip_root.proofs.root.RootState.put.Goals as goal
+use Rattle.chip_root.proofs.root.RootBooks.put.Goals as goal
 
 pub returns : goal.returns
 returns c = rw (← c.self.view_is)

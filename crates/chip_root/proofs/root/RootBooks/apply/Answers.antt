@@ -2,7 +2,7 @@ use Rattle.std.proofs.Common.{sym, ap, subst}
 use Rattle.chip_part.specs.declared.reply.Reply.TheVariants.{Done}
 use Rattle.chip_part.specs.Rules.{Event}
 use Rattle.chip_root.specs.Root.{SomeRoot, RootCanDo, RootMakes}
-use Rattle.chip_root.proofs.root.RootState.apply.Goals as goal
+use Rattle.chip_root.proofs.root.RootBooks.apply.Goals as goal
 
 pub settle_edge-requires : goal.settle_edge-requires
 settle_edge-requires c = subst (λ (x : Event). SomeRoot c.args.self.now (λ g s. RootCanDo g s x c.args.seen)) c.in-Settle.is

@@ -1,9 +1,9 @@
 use Rattle.std.proofs.Common.{subst, sym}
 use Rattle.chip_part.specs.Rules.{Feed}
 use Rattle.chip_root.specs.Root.{Root, SomeRoot, RootCanDo}
-use Rattle.chip_root.specs.contracts.root.RootState.{the_view}
+use Rattle.chip_root.specs.contracts.root.RootBooks.{the_view}
 use Rattle.chip_root.proofs.FeedLemmas.{may_feed, feed_made}
-use Rattle.chip_root.proofs.root.RootState.feed.Goals as goal
+use Rattle.chip_root.proofs.root.RootBooks.feed.Goals as goal
 
 pub feed-requires-clause-seen : goal.feed-requires-clause-seen
 feed-requires-clause-seen c =

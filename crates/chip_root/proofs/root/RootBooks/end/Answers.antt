@@ -2,7 +2,7 @@ use Rattle.std.proofs.Common.{◌∙◌, ℕ, sym, ap, subst}
 use Rattle.chip_part.specs.Rules.{Settle}
 use Rattle.chip_root.specs.Root.{Root, SomeRoot, RootCanDo, RootMakes, ended_root}
 use Rattle.chip_root.proofs.FeedLemmas.{end_settles, end_made}
-use Rattle.chip_root.proofs.root.RootState.end.Goals as goal
+use Rattle.chip_root.proofs.root.RootBooks.end.Goals as goal
 
 pub settle_edge-requires : goal.settle_edge-requires
 settle_edge-requires c =

@@ -1,5 +1,5 @@
 use Rattle.chip_root.proofs.RootLemmas.{can_settle_at, settle_made_at}
-use Rattle.chip_root.proofs.root.RootState.settle.Goals as goal
+use Rattle.chip_root.proofs.root.RootBooks.settle.Goals as goal
 
 pub count-requires-clause-vertex : goal.count-requires-clause-vertex
 count-requires-clause-vertex c = (can_settle_at c.args.self.now c.args.vertex c.args.seen c.requires).0

@@ -1,7 +1,7 @@
 use Rattle.std.proofs.Common.{◌-◌, ap}
 use Rattle.chip_root.specs.Root.{Root}
 use Rattle.chip_root.proofs.RootLemmas.{can_settle, settle_made}
-use Rattle.chip_root.proofs.root.RootState.settle_edge.Goals as goal
+use Rattle.chip_root.proofs.root.RootBooks.settle_edge.Goals as goal
 
 pub count-requires-clause-vertex : goal.count-requires-clause-vertex
 count-requires-clause-vertex c =

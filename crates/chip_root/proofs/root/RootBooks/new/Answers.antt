@@ -4,7 +4,7 @@ use Rattle.chip_part.specs.Setting.{Setting}
 use Rattle.chip_root.specs.Root.{with_chips}
 use Rattle.chip_root.proofs.RootLemmas.{root_opens}
 use Rattle.chip_root.proofs.FeedLemmas.{feeder_opens}
-use Rattle.chip_root.proofs.root.RootState.new.Goals as goal
+use Rattle.chip_root.proofs.root.RootBooks.new.Goals as goal
 
 pub returns : goal.returns
 returns c =

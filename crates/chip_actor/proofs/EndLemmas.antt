@@ -1,3 +1,4 @@
+-- Serves Ends.antt.
 -- The ends of a vertex's edges: what a search finds there, and what a write at the place that it found changes.
 use Rattle.std.proofs.lemmas.List.{take_more, take_more_set, drop-set-lt, map-append}
 use Rattle.std.proofs.Math.Seq.{drop-cons}
@@ -6,12 +7,12 @@ use Rattle.std.proofs.Common.{map, get_or, set, Some, None, refl, sym, ap, ◌�
 use mathlib.Core.Logic.{dite}
 use native.Mathlib.Decide.{ℕ_discrete, dec_lt}
 use Rattle.chip_graph.proofs.SumLemmas.{cond_yes, cond_no}
-use Rattle.chip_detect.proofs.Lookups.{ascends}
+use Rattle.chip_detect.proofs.LookupsLemmas.{ascends}
 use Rattle.chip_link.specs.declared.message.Message.{Message}
 use Rattle.chip_link.specs.Ends.{HeadState, message_claimed, tail_after_claim, new_head}
 use Rattle.chip_actor.specs.Ends.{on_edge, OutEnd, OutEnds, InEnds, no_out, out_on, in_on, AreApart, ChangesOut}
 use Rattle.chip_actor.specs.Ends.{ChangesIn, out_after_claim}
-use Rattle.chip_actor.proofs.Lookups.{on_edge_at, on_edge_changed}
+use Rattle.chip_actor.proofs.LookupsLemmas.{on_edge_at, on_edge_changed}
 use Rattle.std.specs.List.Sorted.{IsStrictlyIncreasing}
 use Rattle.std.proofs.lemmas.List.{length-map, take_all}
 

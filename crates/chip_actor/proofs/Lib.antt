@@ -1,9 +1,9 @@
-pub mod Lookups
+pub mod LookupsLemmas
 pub mod EndLemmas
-pub mod Standing
-pub mod Stepping
-pub mod Making
-pub mod ActorOpening
-pub mod TurnActor
+pub mod StandingLemmas
+pub mod SteppingLemmas
+pub mod MakingLemmas
+pub mod ActorOpeningLemmas
+pub mod TurnActorLemmas
 pub mod MediumLemmas
-pub mod TurnOver
+pub mod TurnOverLemmas

@@ -1,3 +1,4 @@
+-- Serves Medium.antt, Actor.antt.
 -- How a turn over a medium goes on, step by step.
 use Rattle.std.proofs.Common.{◌≡◌, ◌≢◌, ℕ, ◌+◌, ◌*◌, ◌^◌, ◌<◌, ◌≤◌, Bool, true, false, cond, List, [], ◌∷◌, ◌++◌}
 use Rattle.std.proofs.Common.{reverse, length, Some, None, refl, sym, ap, ◌∙◌, subst, add_assoc, arith}

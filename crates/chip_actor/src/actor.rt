@@ -9,7 +9,7 @@ use chip_part::{Act, Cause, Observed, Reply, Rule, first_unmet, is_by_limit};
 use std::alloc::{AllocError, Global};
 use std::marker::Model;
 
-mod making;
+mod cursor;
 mod turn;
 
 /// The state of one vertex of a running machine.

@@ -1,223 +1,340 @@
-//! The order of a turn. Each function tells what is due in a phase of it, and goes on to the next phase where nothing
-//! is.
+//! A whole turn over a medium: loops over the edges in the order of the turn, and what is rare operation by operation.
 
-ghost use Rattle.std.specs.Prelude.{◌≡◌, ◌==◌, not, true, ⊤};
+ghost use Rattle.std.specs.Prelude.{◌≡◌, ◌≢◌, ◌+◌, ◌*◌, ◌^◌, ◌<◌, ◌≤◌, length, slice_index, ◌==◌, ◌&&◌, is_none};
+ghost use Rattle.std.specs.Prelude.{if◌then◌else◌, MatchOption, IfSome};
 
 use crate::actor::ActorState;
-use chip_link::Event;
-use chip_part::{Act, Cursor};
+use crate::medium::Medium;
+use chip_part::{Act, Cursor, Observed, Reply, is_by_limit};
 
 impl ActorState {
-    ghost use Rattle.chip_actor.specs.Turning.{StandsAt, TurnContinues, DueAt, MayBeAt};
-    ghost use Rattle.chip_actor.specs.Ends.{IsFirstFrom};
-    ghost use Rattle.chip_part.specs.Turn.{may_fire, batch_of, is_at_limit};
-    ghost use Rattle.chip_actor.specs.Actor.{WhateverPart, SomePart, is_passive_now};
-    ghost use Rattle.chip_detect.specs.Acknowledging.{may_ack};
+    ghost use Rattle.chip_actor.specs.Ends.{out_on};
+    ghost use Rattle.chip_actor.specs.Medium.{Meets, Moves, MeetsDue, MakesDue, MakesTurn};
 
-    /// The next operation of a turn, and the cursor after it; `Act::End` at the end. The cursor is `Cursor::start()`,
-    /// or the last one that was given, with its operation applied: see `IsUnderWay`.
-    pub fn next(&self, cursor: Cursor) -> (Act, Cursor)
-        requires { StandsAt self.now cursor }
-        ensures goes { TurnContinues self.now cursor result.0 result.1 }
-        ensures over { result.0 ≡ Act.End → result.1 ≡ Cursor.Over }
+    /// Takes once from the edge at this index of those into the vertex.
+    fn take_here<M: Medium>(&mut self, medium: &mut M, index: usize) -> usize
+        requires within { index < length self.old.ins.edges }
+        requires meets { Meets (M.holds medium.old) self.old (Cursor.Take index) }
+        ensures moves { Moves (M.holds medium.old) self.old (Cursor.Take index) (M.holds medium.new) self.new
+            (Cursor.Take (index + 1)) result }
+        ensures few { result ≤ 1 }
     {
-        match self.due(cursor) {
-            Some((event, next)) => (self.act(&event), next),
-            None => (Act::End, Cursor::Over),
+        let edge = self.ins.edges()[index];
+        let cell = self.ins.cell_at(index, edge);
+        let seen = medium.take(edge, cell);
+        let reply = self.take_at(index, edge, seen);
+        work_of(Act::Take { edge, cell }, seen, &reply)
+    }
+
+    /// Takes once from each edge into the vertex.
+    fn take_all<M: Medium>(&mut self, medium: &mut M) -> usize
+        requires { Meets (M.holds medium.old) self.old (Cursor.Take 0) }
+        ensures moves { Moves (M.holds medium.old) self.old (Cursor.Take 0) (M.holds medium.new) self.new
+            (Cursor.Settle 0) result }
+        ensures few { result < 2 ^ 60 }
+    {
+        let mut work = 0;
+        for index in 0..self.ins.edges().len() {
+            work += self.take_here(medium, index);
         }
+        work
     }
 
-    // What is due at a cursor, with the cursor after it; nothing at the end of the turn.
-    pub(crate) fn due(&self, cursor: Cursor) -> Option<(Event, Cursor)>
-        requires { MayBeAt self.now cursor }
-        ensures { DueAt self.now cursor result }
+    /// Settles the edge at this index of those out of the vertex.
+    fn settle_here<M: Medium>(&mut self, medium: &mut M, index: usize) -> usize
+        requires within { index < length self.old.outs.edges }
+        requires meets { Meets (M.holds medium.old) self.old (Cursor.Settle index) }
+        ensures moves { Moves (M.holds medium.old) self.old (Cursor.Settle index) (M.holds medium.new) self.new
+            (Cursor.Settle (index + 1)) result }
+        ensures few { result ≤ 1 }
     {
-        match cursor {
-            Cursor::Take(place) => self.due_take(place),
-            Cursor::Settle(place) => self.due_settle(place),
-            Cursor::Fire => self.due_fire(),
-            Cursor::Put(place) => self.due_put(place),
-            Cursor::Refusal => self.due_refusal(),
-            Cursor::Send(place) => self.due_send(place),
-            Cursor::Claim(place) => self.due_claim(place),
-            Cursor::Store(place) => self.due_store(place),
-            Cursor::Limit => self.due_limit(),
-            Cursor::Ack(place) => self.due_ack(place),
-            Cursor::Parent => self.due_parent(),
-            Cursor::Over => None,
+        let edge = self.outs.edges()[index];
+        let seen = medium.settle(edge);
+        let reply = self.settle_at(index, edge, seen);
+        work_of(Act::Settle { edge }, seen, &reply)
+    }
+
+    /// Settles each edge out of the vertex.
+    fn settle_all<M: Medium>(&mut self, medium: &mut M) -> usize
+        requires { Meets (M.holds medium.old) self.old (Cursor.Settle 0) }
+        ensures moves { Moves (M.holds medium.old) self.old (Cursor.Settle 0)
+            (M.holds medium.new) self.new Cursor.Fire result }
+        ensures few { result < 2 ^ 60 }
+    {
+        let mut work = 0;
+        for index in 0..self.outs.edges().len() {
+            work += self.settle_here(medium, index);
         }
+        work
     }
 
-    fn due_take(&self, place: usize) -> Option<(Event, Cursor)>
-        requires { MayBeAt self.now (Cursor.Take place) }
-        ensures { DueAt self.now (Cursor.Take place) result }
-    {
-        match self.ins.edges().get(place) {
-            Some(&edge) => Some((Event::Take(edge), Cursor::Take(place + 1))),
-            None => self.due_settle(0),
-        }
-    }
-
-    fn due_settle(&self, place: usize) -> Option<(Event, Cursor)>
-        requires { MayBeAt self.now (Cursor.Settle place) }
-        ensures { DueAt self.now (Cursor.Settle place) result }
-    {
-        match self.outs.edges().get(place) {
-            Some(&edge) => Some((Event::Settle(edge), Cursor::Settle(place + 1))),
-            None => self.due_fire(),
-        }
-    }
-
-    /// It may fire now.
-    pub(crate) fn may_fire(&self) -> bool
-        ensures { WhateverPart self.now (λ g s. result ≡ may_fire g self.now.vertex s) }
-    {
-        let is_free = self.halt.is_none() && self.pending == 0 && self.unput == 0;
-        is_free && self.is_legal() && self.fired < self.limit
-    }
-
-    /// How often it fires where it may: as often as its chips and its limit allow.
-    pub(crate) fn batch(&self) -> u64
-        requires { SomePart self.now (λ g s. may_fire g self.now.vertex s ≡ true) }
-        ensures { WhateverPart self.now (λ g s. result ≡ batch_of g self.now.vertex s) }
-    {
-        (self.chips / self.degree).min(self.limit - self.fired)
-    }
-
-    fn due_fire(&self) -> Option<(Event, Cursor)>
-        requires { MayBeAt self.now Cursor.Fire }
-        ensures { DueAt self.now Cursor.Fire result }
+    /// Fires, where the vertex may: as often as its chips and its limit allow.
+    fn fire_here<M: Medium>(&mut self, medium: &mut M) -> usize
+        requires { Meets (M.holds medium.old) self.old Cursor.Fire }
+        ensures moves { Moves (M.holds medium.old) self.old Cursor.Fire (M.holds medium.new) self.new
+            (Cursor.Put 0) result }
+        ensures few { result ≤ 1 }
     {
         if self.may_fire() {
-            let vertex = self.vertex;
             let k = self.batch();
-            return Some((Event::Fire { vertex, k }, Cursor::Put(0)));
+            let seen = medium.fire(k);
+            let reply = self.fire(k, seen);
+            return work_of(Act::Fire { k }, seen, &reply);
         }
-        self.due_put(0)
+        0
     }
 
-    fn due_put(&self, place: usize) -> Option<(Event, Cursor)>
-        requires { MayBeAt self.now (Cursor.Put place) }
-        ensures { DueAt self.now (Cursor.Put place) result }
+    /// Looks at the cell of the edge at this index of those out of the vertex, on which something is pending.
+    fn clear_here<M: Medium>(&mut self, medium: &mut M, index: usize)
+        requires within { index < length self.old.outs.edges }
+        requires pends { (out_on self.old.outs (slice_index self.old.outs.edges index)).pending ≢ 0 }
+        requires meets { Meets (M.holds medium.old) self.old (Cursor.Send index) }
+        ensures { Moves (M.holds medium.old) self.old (Cursor.Send index) (M.holds medium.new) self.new
+            (Cursor.Claim index) 0 }
     {
-        if self.unput == 0 {
-            return self.due_refusal();
+        let edge = self.outs.edges()[index];
+        let cell = self.outs.at(index).link.cell();
+        let seen = medium.clear(edge, cell);
+        self.clear_at(index, edge, seen);
+    }
+
+    /// Claims the edge at this index of those out of the vertex, unless its cell was seen full.
+    fn claim_here<M: Medium>(&mut self, medium: &mut M, index: usize) -> Option<usize>
+        requires within { index < length self.old.outs.edges }
+        requires meets { Meets (M.holds medium.old) self.old (Cursor.Claim index) }
+        ensures moves { MatchOption result
+            (Moves (M.holds medium.old) self.old (Cursor.Claim index) (M.holds medium.new) self.new
+            (Cursor.Send (index + 1)) 0)
+            (λ work. Moves (M.holds medium.old) self.old (Cursor.Claim index) (M.holds medium.new) self.new
+            (Cursor.Store index) work) }
+        ensures few { IfSome result (λ work. work ≤ 1) }
+    {
+        let edge = self.outs.edges()[index];
+        let Some(words) = self.outs.at(index).link.claim_next() else {
+            return None;
+        };
+        let seen = medium.claim(edge, words.0, words.1);
+        let reply = self.claim_at(index, edge, seen);
+        let act = Act::Claim {
+            edge,
+            expected: words.0,
+            new: words.1,
+        };
+        Some(work_of(act, seen, &reply))
+    }
+
+    /// Puts what was claimed on the edge at this index of those out of the vertex; where the claim was refused, halts.
+    /// Whether the turn goes on with the next edge.
+    fn store_here<M: Medium>(&mut self, medium: &mut M, index: usize) -> bool
+        requires within { index < length self.old.outs.edges }
+        requires meets { Meets (M.holds medium.old) self.old (Cursor.Store index) }
+        ensures { Moves (M.holds medium.old) self.old (Cursor.Store index)
+            (M.holds medium.new) self.new (if result then Cursor.Send (index + 1) else Cursor.Limit) 1 }
+    {
+        let edge = self.outs.edges()[index];
+        let Some(stored) = self.outs.at(index).link.held() else {
+            let seen = medium.halt(is_by_limit(self.cause()));
+            self.stop(seen);
+            return false;
+        };
+        let seen = medium.put(edge, stored.0, stored.1);
+        self.put_at(index, edge, seen);
+        true
+    }
+
+    /// Sends on the edge at this index of those out of the vertex, where something is pending on it: how many steps
+    /// count, and whether the turn goes on with the next edge.
+    fn send_here<M: Medium>(&mut self, medium: &mut M, index: usize) -> (usize, bool)
+        requires within { index < length self.old.outs.edges }
+        requires meets { Meets (M.holds medium.old) self.old (Cursor.Send index) }
+        ensures moves { Moves (M.holds medium.old) self.old (Cursor.Send index)
+            (M.holds medium.new) self.new (if result.1 then Cursor.Send (index + 1) else Cursor.Limit) result.0 }
+        ensures few { result.0 ≤ 2 }
+    {
+        if self.outs.at(index).pending == 0 {
+            return (0, true);
         }
-        match self.outs.next_held(place) {
-            Some(place) => {
-                let edge = self.outs.edges()[place];
-                Some((Event::Put(edge), Cursor::Put(place + 1)))
+        self.clear_here(medium, index);
+        let Some(claimed) = self.claim_here(medium, index) else {
+            return (0, true);
+        };
+        let goes_on = self.store_here(medium, index);
+        (claimed + 1, goes_on)
+    }
+
+    /// Sends on each edge out of the vertex on which something is pending, until a claim is refused.
+    fn send_all<M: Medium>(&mut self, medium: &mut M) -> usize
+        requires { Meets (M.holds medium.old) self.old (Cursor.Send 0) }
+        ensures moves { Moves (M.holds medium.old) self.old (Cursor.Send 0)
+            (M.holds medium.new) self.new Cursor.Limit result }
+        ensures few { result < 2 ^ 61 }
+    {
+        let mut work = 0;
+        for index in 0..self.outs.edges().len() {
+            let (sent, goes_on) = self.send_here(medium, index);
+            work += sent;
+            if !goes_on {
+                return work;
             }
-            None => self.due_refusal(),
         }
+        work
     }
 
-    fn due_refusal(&self) -> Option<(Event, Cursor)>
-        requires { MayBeAt self.now Cursor.Refusal }
-        ensures { DueAt self.now Cursor.Refusal result }
+    /// Acknowledges what may be acknowledged on the edge at this index of those into the vertex.
+    fn ack_here<M: Medium>(&mut self, medium: &mut M, index: usize) -> usize
+        requires within { index < length self.old.ins.edges }
+        requires meets { Meets (M.holds medium.old) self.old (Cursor.Ack index) }
+        ensures moves { Moves (M.holds medium.old) self.old (Cursor.Ack index) (M.holds medium.new) self.new
+            (Cursor.Ack (index + 1)) result }
+        ensures few { result ≤ 1 }
     {
-        if self.halt.is_some() {
-            return self.due_limit();
+        let edge = self.ins.edges()[index];
+        let count = self.detect.may_ack_at(index, edge, self.passive());
+        if count == 0 {
+            return 0;
         }
-        if self.refused > 0 {
-            return Some((Event::Halt(self.vertex), Cursor::Limit));
-        }
-        self.due_send(0)
+        let seen = medium.ack(edge, count);
+        let reply = self.acknowledge_at(index, edge, seen);
+        work_of(Act::Ack { edge, count }, seen, &reply)
     }
 
-    fn due_send(&self, place: usize) -> Option<(Event, Cursor)>
-        requires { MayBeAt self.now (Cursor.Send place) }
-        ensures { DueAt self.now (Cursor.Send place) result }
+    /// Acknowledges on each edge into the vertex.
+    fn ack_all<M: Medium>(&mut self, medium: &mut M) -> usize
+        requires { Meets (M.holds medium.old) self.old (Cursor.Ack 0) }
+        ensures moves { Moves (M.holds medium.old) self.old (Cursor.Ack 0)
+            (M.holds medium.new) self.new Cursor.Parent result }
+        ensures few { result < 2 ^ 60 }
     {
-        if self.pending == 0 {
-            return self.due_limit();
+        let mut work = 0;
+        for index in 0..self.ins.edges().len() {
+            work += self.ack_here(medium, index);
         }
-        match self.outs.next_pending(place) {
-            Some(place) => {
-                let edge = self.outs.edges()[place];
-                Some((Event::Clear(edge), Cursor::Claim(place)))
+        work
+    }
+
+    /// Makes an operation of a turn that is due; whether it counts.
+    fn make<M: Medium>(&mut self, medium: &mut M, act: Act) -> bool
+        requires some { act ≢ Act.End }
+        requires due { MeetsDue (M.holds medium.old) self.old act }
+        ensures { MakesDue (M.holds medium.old) self.old act (M.holds medium.new) self.new result }
+    {
+        let seen = perform(medium, act);
+        let observed = Observed { act, seen };
+        let reply = self.apply(observed);
+        observed.counts(&reply)
+    }
+
+    /// Makes what is left of a turn at a cursor, operation by operation.
+    fn finish<M: Medium>(&mut self, medium: &mut M, from: Cursor) -> usize
+        requires { Meets (M.holds medium.old) self.old from }
+        ensures moves { Moves (M.holds medium.old) self.old from (M.holds medium.new) self.new Cursor.Over result }
+        ensures few { result < 2 ^ 32 }
+    {
+        let mut cursor = from;
+        let mut work = 0;
+        loop {
+            let Some((event, next)) = self.due(cursor) else {
+                return work;
+            };
+            let act = self.act(&event);
+            if self.make(medium, act) {
+                work += 1;
             }
-            None => self.due_limit(),
+            cursor = next;
         }
     }
 
-    fn due_claim(&self, place: usize) -> Option<(Event, Cursor)>
-        requires { MayBeAt self.now (Cursor.Claim place) }
-        ensures { DueAt self.now (Cursor.Claim place) result }
+    /// The last acknowledgements of a turn, where the vertex is engaged: one that isn't owes none.
+    fn acknowledge_all<M: Medium>(&mut self, medium: &mut M) -> usize
+        requires { Meets (M.holds medium.old) self.old (Cursor.Ack 0) }
+        ensures moves { Moves (M.holds medium.old) self.old (Cursor.Ack 0)
+            (M.holds medium.new) self.new Cursor.Over result }
+        ensures few { result < 2 ^ 61 }
     {
-        let edge = self.outs.edges()[place];
-        if self.outs.at(place).link.claim_next().is_some() {
-            return Some((Event::Claim(edge), Cursor::Store(place)));
+        if self.detect.engaged() {
+            let acked = self.ack_all(medium);
+            return acked + self.finish(medium, Cursor::Parent);
         }
-        self.due_send(place + 1)
+        0
     }
 
-    fn due_store(&self, place: usize) -> Option<(Event, Cursor)>
-        requires { MayBeAt self.now (Cursor.Store place) }
-        ensures { DueAt self.now (Cursor.Store place) result }
-    {
-        let edge = self.outs.edges()[place];
-        if self.outs.at(place).link.held().is_some() {
-            return Some((Event::Put(edge), Cursor::Send(place + 1)));
-        }
-        Some((Event::Halt(self.vertex), Cursor::Limit))
-    }
-
-    /// It may halt by the limit now.
-    pub(crate) fn is_at_limit(&self) -> bool
-        ensures { WhateverPart self.now (λ g s. result ≡ is_at_limit g self.now.vertex s) }
-    {
-        let is_free = self.halt.is_none() && self.pending == 0;
-        is_free && self.is_legal() && self.fired == self.limit
-    }
-
-    fn due_limit(&self) -> Option<(Event, Cursor)>
-        requires { MayBeAt self.now Cursor.Limit }
-        ensures { DueAt self.now Cursor.Limit result }
+    /// What is left of a turn behind the sends. A halt by the limit comes once, so that it goes operation by operation.
+    fn halt_and_acknowledge<M: Medium>(&mut self, medium: &mut M) -> usize
+        requires { Meets (M.holds medium.old) self.old Cursor.Limit }
+        ensures moves { Moves (M.holds medium.old) self.old Cursor.Limit
+            (M.holds medium.new) self.new Cursor.Over result }
+        ensures few { result < 2 ^ 61 }
     {
         if self.is_at_limit() {
-            return Some((Event::Halt(self.vertex), Cursor::Ack(0)));
+            return self.finish(medium, Cursor::Limit);
         }
-        self.due_ack(0)
+        self.acknowledge_all(medium)
     }
 
-    fn due_ack(&self, place: usize) -> Option<(Event, Cursor)>
-        requires { MayBeAt self.now (Cursor.Ack place) }
-        ensures { DueAt self.now (Cursor.Ack place) result }
+    /// It runs, and nothing is left from before the turn: no message that is claimed and not put, no refusal.
+    fn may_send(&self) -> bool
+        ensures { result ≡ (is_none self.now.halt && self.now.unput == 0 && self.now.refused == 0) }
     {
-        match self.next_owed(place) {
-            Some(place) => {
-                let edge = self.ins.edges()[place];
-                Some((Event::Ack(edge), Cursor::Ack(place + 1)))
-            }
-            None => self.due_parent(),
-        }
+        self.halt.is_none() && self.unput == 0 && self.refused == 0
     }
 
-    // The first place from this one on with an edge on which something may be acknowledged.
-    fn next_owed(&self, place: usize) -> Option<usize>
-        requires { SomePart self.now (λ g s. ⊤) }
-        ensures { IsFirstFrom (λ e. not (may_ack self.now.detect e (is_passive_now self.now) == 0)) self.now.ins.edges
-            place result }
+    /// What is left of a turn behind the firing. A vertex that is halted, or that a schedule left in the middle of a
+    /// turn, goes operation by operation.
+    fn send_and_acknowledge<M: Medium>(&mut self, medium: &mut M) -> usize
+        requires { Meets (M.holds medium.old) self.old (Cursor.Put 0) }
+        ensures moves { Moves (M.holds medium.old) self.old (Cursor.Put 0)
+            (M.holds medium.new) self.new Cursor.Over result }
+        ensures few { result < 2 ^ 62 }
     {
-        let edges = self.ins.edges();
-        let passive = self.passive();
-        for next in place..edges.len() {
-            if self.detect.may_ack_at(next, edges[next], passive) != 0 {
-                return Some(next);
-            }
+        if self.may_send() {
+            let sent = self.send_all(medium);
+            return sent + self.halt_and_acknowledge(medium);
         }
-        None
+        self.finish(medium, Cursor::Put(0))
     }
 
-    fn due_parent(&self) -> Option<(Event, Cursor)>
-        requires { MayBeAt self.now Cursor.Parent }
-        ensures { DueAt self.now Cursor.Parent result }
+    /// One whole turn over a medium; how many of its steps count as work.
+    pub fn turn<M: Medium>(&mut self, medium: &mut M) -> usize
+        requires { Meets (M.holds medium.old) self.old (Cursor.Take 0) }
+        ensures { MakesTurn (M.holds medium.old) self.old (M.holds medium.new) self.new result }
     {
-        let edge = self.detect.parent()?;
-        if self.detect.may_ack(edge, self.passive()) == 0 {
-            return None;
-        }
-        Some((Event::Ack(edge), Cursor::Over))
+        let taken = self.take_all(medium);
+        let settled = self.settle_all(medium);
+        let fired = self.fire_here(medium);
+        taken + settled + fired + self.send_and_acknowledge(medium)
+    }
+}
+
+ghost use Rattle.chip_part.specs.Counting.{is_work};
+ghost use Rattle.chip_actor.specs.Medium.{MayServe, Serves};
+
+/// How much a step with this reply counts for: 1 where it is work, else 0.
+fn work_of(act: Act, seen: u64, reply: &Reply) -> usize
+    ensures { result ≡ (if is_work act reply.now then 1 else 0) }
+{
+    let observed = Observed { act, seen };
+    if observed.counts(reply) { 1 } else { 0 }
+}
+
+/// Makes an operation on the shared words, and gives the word that it saw.
+fn perform<M: Medium>(medium: &mut M, act: Act) -> u64
+    requires some { act ≢ Act.End }
+    requires may { MayServe (M.holds medium.old) act }
+    ensures { Serves (M.holds medium.old) (M.holds medium.new) act result }
+{
+    match act {
+        Act::Take { edge, cell } => medium.take(edge, cell),
+        Act::Settle { edge } => medium.settle(edge),
+        Act::Fire { k } => medium.fire(k),
+        Act::Clear { edge, cell } => medium.clear(edge, cell),
+        Act::Claim {
+            edge,
+            expected,
+            new,
+        } => medium.claim(edge, expected, new),
+        Act::Put { edge, cell, value } => medium.put(edge, cell, value),
+        Act::Halt { by_limit } => medium.halt(by_limit),
+        Act::Ack { edge, count } => medium.ack(edge, count),
+        Act::End => unreachable!(),
     }
 }

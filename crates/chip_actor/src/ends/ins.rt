@@ -67,7 +67,7 @@ impl Ins {
         end.taken(cell)
     }
 
-    /// The edges into a vertex, the given root edge last, on which nothing was taken.
+    /// The edges into a vertex, its root edge last, on which nothing was taken.
     pub fn new(alloc: Global, graph: &Graph, vertex: u64, ring: Ring) -> Result<Ins, AllocError>
         requires { vertex < graph.now.vertices }
         ensures { IfOk result (λ ins. IsFreshIns graph.now ring vertex ins) }

@@ -5,7 +5,7 @@ use Rattle.chip_part.specs.declared.cursor.Cursor.TheVariants as At
 use Rattle.chip_part.specs.Rules.{Ack}
 use Rattle.chip_actor.specs.Actor.{Actor, is_passive_now}
 use Rattle.chip_actor.proofs.MediumLemmas.{DueBy, may_serve, can_do, moves_one, one_few}
-use Rattle.chip_actor.proofs.TurnOver.{ack_by, ack_none}
+use Rattle.chip_actor.proofs.TurnOverLemmas.{ack_by, ack_none}
 use Rattle.chip_actor.proofs.actor.ActorState.ack_here.Goals as goal
 use Rattle.chip_actor.proofs.actor.ActorState.ack_here.Goals.{After-may_ack_at-count}
 use Rattle.chip_actor.proofs.actor.ActorState.ack_here.Given.{Over}

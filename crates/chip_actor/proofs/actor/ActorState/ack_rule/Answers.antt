@@ -8,7 +8,7 @@ use Rattle.chip_part.specs.Edges.{all_edges, head_of}
 use Rattle.chip_part.specs.Part.{owed, may_ack}
 use Rattle.chip_part.specs.Rules.{need}
 use Rattle.chip_actor.specs.Actor.{Actor}
-use Rattle.chip_actor.proofs.Standing.{books_in, owed_is, may_ack_is, in_inside}
+use Rattle.chip_actor.proofs.StandingLemmas.{books_in, owed_is, may_ack_is, in_inside}
 use Rattle.chip_actor.proofs.actor.ActorState.ack_rule.Goals as goal
 
 -- an edge into the vertex is in its books

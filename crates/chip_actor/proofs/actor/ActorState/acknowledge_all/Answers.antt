@@ -2,7 +2,7 @@ use Rattle.std.proofs.Common.{◌∙◌, is_some, sym, ap}
 use Rattle.chip_part.specs.declared.cursor.Cursor.TheVariants as At
 use Rattle.chip_actor.specs.Actor.{Actor}
 use Rattle.chip_actor.proofs.MediumLemmas.{moves_on, meets_after}
-use Rattle.chip_actor.proofs.TurnOver.{nothing_owed}
+use Rattle.chip_actor.proofs.TurnOverLemmas.{nothing_owed}
 use Rattle.chip_actor.proofs.actor.ActorState.acknowledge_all.Goals as goal
 
 pub finish-requires : goal.finish-requires

@@ -1,7 +1,7 @@
 use Rattle.std.proofs.Common.{◌∙◌, sym, ap}
 use Rattle.chip_actor.specs.Actor.{is_passive_now}
 use Rattle.chip_actor.specs.contracts.actor.ActorState.{the_view}
-use Rattle.chip_actor.proofs.Making.{ack_made}
+use Rattle.chip_actor.proofs.MakingLemmas.{ack_made}
 use Rattle.chip_detect.specs.Acknowledging.{may_ack}
 use Rattle.chip_actor.proofs.actor.ActorState.acknowledge_at.Goals as goal
 

@@ -9,7 +9,7 @@ use Rattle.chip_part.specs.Rules.{Event}
 use Rattle.chip_part.specs.Steps.{part_of}
 use Rattle.chip_part.specs.Acting.{act_of}
 use Rattle.chip_actor.specs.Actor.{Actor}
-use Rattle.chip_actor.proofs.Standing.{among_outs, among_ins, books_in, may_ack_is}
+use Rattle.chip_actor.proofs.StandingLemmas.{among_outs, among_ins, books_in, may_ack_is}
 use Rattle.chip_actor.proofs.actor.ActorState.act.Goals as goal
 
 -- the edge of an event of the vertex is among those that the actor keeps

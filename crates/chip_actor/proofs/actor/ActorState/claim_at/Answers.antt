@@ -4,7 +4,7 @@ use Rattle.chip_actor.specs.Actor.{Actor, SomePart}
 use Rattle.chip_part.specs.Acting.{CanDo}
 use Rattle.chip_actor.specs.contracts.actor.ActorState.{the_view}
 use Rattle.chip_actor.specs.Ends.{out_on}
-use Rattle.chip_actor.proofs.Making.{may_claim, message_count, claim_sealed, claim_made}
+use Rattle.chip_actor.proofs.MakingLemmas.{may_claim, message_count, claim_sealed, claim_made}
 use Rattle.chip_actor.proofs.actor.ActorState.claim_at.Goals as goal
 
 pub claim_at-requires-clause-clear : goal.claim_at-requires-clause-clear

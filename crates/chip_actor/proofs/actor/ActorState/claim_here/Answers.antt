@@ -7,7 +7,7 @@ use Rattle.chip_actor.specs.Actor.{Actor}
 use Rattle.chip_link.specs.Ends.{claim_words}
 use Rattle.chip_part.specs.Rules.{Claim}
 use Rattle.chip_actor.proofs.MediumLemmas.{DueBy, may_serve, can_do, moves_one, one_few}
-use Rattle.chip_actor.proofs.TurnOver.{claim_by, claim_none}
+use Rattle.chip_actor.proofs.TurnOverLemmas.{claim_by, claim_none}
 use Rattle.chip_actor.proofs.actor.ActorState.claim_here.Goals as goal
 use Rattle.chip_actor.proofs.actor.ActorState.claim_here.Goals.{After-claim_next}
 use Rattle.chip_actor.proofs.actor.ActorState.claim_here.Given.{Over}

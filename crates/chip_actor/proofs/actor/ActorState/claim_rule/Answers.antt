@@ -1,7 +1,7 @@
 use Rattle.std.proofs.Common.{subst, sym}
 use Rattle.std.specs.List.{Contains}
 use Rattle.chip_actor.specs.Actor.{Actor}
-use Rattle.chip_actor.proofs.Standing.{among_outs}
+use Rattle.chip_actor.proofs.StandingLemmas.{among_outs}
 use Rattle.chip_actor.proofs.actor.ActorState.claim_rule.Goals as goal
 
 -- an edge out of the vertex is among those that the actor keeps

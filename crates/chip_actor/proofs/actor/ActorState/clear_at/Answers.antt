@@ -2,7 +2,7 @@ use Rattle.std.proofs.Common.{ℕ, subst}
 use Rattle.chip_part.specs.Rules.{Clear}
 use Rattle.chip_actor.specs.Actor.{Makes}
 use Rattle.chip_actor.specs.contracts.actor.ActorState.{the_view}
-use Rattle.chip_actor.proofs.Making.{clear_made, clear_reply}
+use Rattle.chip_actor.proofs.MakingLemmas.{clear_made, clear_reply}
 use Rattle.std.proofs.Common.{Option}
 use Rattle.chip_actor.proofs.actor.ActorState.clear_at.Goals as goal
 

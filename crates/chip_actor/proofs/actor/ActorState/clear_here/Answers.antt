@@ -7,7 +7,7 @@ use Rattle.chip_actor.specs.Actor.{Actor}
 use Rattle.chip_link.specs.Ends.{tail_cell}
 use Rattle.chip_part.specs.Rules.{Clear}
 use Rattle.chip_actor.proofs.MediumLemmas.{DueBy, may_serve, can_do, moves_one}
-use Rattle.chip_actor.proofs.TurnOver.{clear_by}
+use Rattle.chip_actor.proofs.TurnOverLemmas.{clear_by}
 use Rattle.chip_actor.proofs.actor.ActorState.clear_here.Goals as goal
 use Rattle.chip_actor.proofs.actor.ActorState.clear_here.Goals.{After-cell-cell}
 use Rattle.chip_actor.proofs.actor.ActorState.clear_here.Given.{Over}

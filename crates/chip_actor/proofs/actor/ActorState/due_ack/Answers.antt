@@ -3,8 +3,8 @@ use Rattle.chip_part.specs.declared.cursor.Cursor.TheVariants as At
 use Rattle.chip_part.specs.Rules.{Ack}
 use Rattle.chip_actor.specs.Actor.{Actor}
 use Rattle.chip_part.specs.Cursor.{GoesBy}
-use Rattle.chip_part.proofs.TurnSteps.{ack_due, acks_over}
-use Rattle.chip_actor.proofs.TurnActor.{first_owed}
+use Rattle.chip_part.proofs.TurnStepsLemmas.{ack_due, acks_over}
+use Rattle.chip_actor.proofs.TurnActorLemmas.{first_owed}
 use Rattle.chip_part.proofs.CursorLemmas.{passes_due}
 use Rattle.chip_actor.proofs.actor.ActorState.due_ack.Goals as goal
 

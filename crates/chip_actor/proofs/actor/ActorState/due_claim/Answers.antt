@@ -5,8 +5,8 @@ use Rattle.chip_part.specs.Rules.{Claim}
 use Rattle.chip_actor.specs.Actor.{Actor}
 use Rattle.chip_actor.specs.declared.ends.outs.OutEnd.{OutEnd}
 use Rattle.chip_part.specs.Cursor.{GoesBy}
-use Rattle.chip_part.proofs.TurnSteps.{claim_due, claim_over}
-use Rattle.chip_actor.proofs.TurnActor.{clear_at_place}
+use Rattle.chip_part.proofs.TurnStepsLemmas.{claim_due, claim_over}
+use Rattle.chip_actor.proofs.TurnActorLemmas.{clear_at_place}
 use Rattle.chip_part.proofs.CursorLemmas.{passes_due}
 use Rattle.chip_actor.proofs.actor.ActorState.due_claim.Goals as goal
 

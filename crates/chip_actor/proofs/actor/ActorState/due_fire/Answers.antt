@@ -3,7 +3,7 @@ use Rattle.chip_part.specs.declared.cursor.Cursor.TheVariants as At
 use Rattle.chip_part.specs.Rules.{Fire}
 use Rattle.chip_actor.specs.Actor.{Actor}
 use Rattle.chip_part.specs.Cursor.{GoesBy}
-use Rattle.chip_part.proofs.TurnSteps.{fire_due, no_fire_due}
+use Rattle.chip_part.proofs.TurnStepsLemmas.{fire_due, no_fire_due}
 use Rattle.chip_part.proofs.CursorLemmas.{passes_due}
 use Rattle.chip_actor.proofs.actor.ActorState.due_fire.Goals as goal
 

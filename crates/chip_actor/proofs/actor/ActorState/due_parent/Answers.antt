@@ -5,8 +5,8 @@ use Rattle.chip_detect.specs.Books.{in_edges}
 use Rattle.chip_actor.specs.Actor.{Actor}
 use Rattle.chip_part.specs.Edges.{head_of}
 use Rattle.chip_part.specs.Part.{may_ack}
-use Rattle.chip_actor.proofs.Standing.{books_in, may_ack_is}
-use Rattle.chip_part.proofs.TurnSteps.{parent_due, no_parent_due}
+use Rattle.chip_actor.proofs.StandingLemmas.{books_in, may_ack_is}
+use Rattle.chip_part.proofs.TurnStepsLemmas.{parent_due, no_parent_due}
 use Rattle.chip_actor.proofs.actor.ActorState.due_parent.Goals as goal
 
 pub may_ack-requires : goal.may_ack-requires

@@ -3,8 +3,8 @@ use Rattle.chip_part.specs.declared.cursor.Cursor.TheVariants as At
 use Rattle.chip_part.specs.Rules.{Put}
 use Rattle.chip_actor.specs.Actor.{Actor}
 use Rattle.chip_part.specs.Cursor.{GoesBy}
-use Rattle.chip_part.proofs.TurnSteps.{put_due, puts_over, puts_fit}
-use Rattle.chip_actor.proofs.TurnActor.{first_held, none_held}
+use Rattle.chip_part.proofs.TurnStepsLemmas.{put_due, puts_over, puts_fit}
+use Rattle.chip_actor.proofs.TurnActorLemmas.{first_held, none_held}
 use Rattle.chip_part.proofs.CursorLemmas.{passes_due}
 use Rattle.chip_actor.proofs.actor.ActorState.due_put.Goals as goal
 

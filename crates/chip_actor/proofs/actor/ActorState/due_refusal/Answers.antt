@@ -6,7 +6,7 @@ use Rattle.chip_part.specs.Part.{refusals}
 use Rattle.chip_part.specs.Rules.{Halt}
 use Rattle.chip_actor.specs.Actor.{Actor}
 use Rattle.chip_part.specs.Cursor.{GoesBy}
-use Rattle.chip_part.proofs.TurnSteps.{refusal_due, refusal_over, refusal_none, sends_begin}
+use Rattle.chip_part.proofs.TurnStepsLemmas.{refusal_due, refusal_over, refusal_none, sends_begin}
 use Rattle.chip_part.proofs.CursorLemmas.{passes_due}
 use Rattle.chip_actor.proofs.actor.ActorState.due_refusal.Goals as goal
 

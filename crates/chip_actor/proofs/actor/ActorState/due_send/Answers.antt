@@ -3,8 +3,8 @@ use Rattle.chip_part.specs.declared.cursor.Cursor.TheVariants as At
 use Rattle.chip_part.specs.Rules.{Clear}
 use Rattle.chip_actor.specs.Actor.{Actor}
 use Rattle.chip_part.specs.Cursor.{GoesBy}
-use Rattle.chip_part.proofs.TurnSteps.{send_due, sends_over}
-use Rattle.chip_actor.proofs.TurnActor.{first_pending, none_pending}
+use Rattle.chip_part.proofs.TurnStepsLemmas.{send_due, sends_over}
+use Rattle.chip_actor.proofs.TurnActorLemmas.{first_pending, none_pending}
 use Rattle.chip_part.proofs.CursorLemmas.{passes_due}
 use Rattle.chip_actor.proofs.actor.ActorState.due_send.Goals as goal
 

@@ -3,7 +3,7 @@ use Rattle.chip_part.specs.declared.cursor.Cursor.TheVariants as At
 use Rattle.chip_part.specs.Rules.{Settle}
 use Rattle.chip_actor.specs.Actor.{Actor}
 use Rattle.chip_part.specs.Cursor.{GoesBy}
-use Rattle.chip_part.proofs.TurnSteps.{settle_due, settles_over}
+use Rattle.chip_part.proofs.TurnStepsLemmas.{settle_due, settles_over}
 use Rattle.chip_part.proofs.CursorLemmas.{passes_due}
 use Rattle.chip_actor.proofs.actor.ActorState.due_settle.Goals as goal
 

@@ -5,8 +5,8 @@ use Rattle.chip_part.specs.Rules.{Put, Halt}
 use Rattle.chip_actor.specs.Actor.{Actor}
 use Rattle.chip_actor.specs.declared.ends.outs.OutEnd.{OutEnd}
 use Rattle.chip_part.specs.Cursor.{GoesBy}
-use Rattle.chip_part.proofs.TurnSteps.{store_due, stop_due}
-use Rattle.chip_actor.proofs.TurnActor.{held_at_place}
+use Rattle.chip_part.proofs.TurnStepsLemmas.{store_due, stop_due}
+use Rattle.chip_actor.proofs.TurnActorLemmas.{held_at_place}
 use Rattle.chip_actor.proofs.actor.ActorState.due_store.Goals as goal
 
 pub returns-then-is_some : goal.returns-then-is_some

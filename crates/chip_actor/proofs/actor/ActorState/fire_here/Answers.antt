@@ -3,7 +3,7 @@ use Rattle.chip_part.specs.declared.act.Act.TheVariants as Do
 use Rattle.chip_part.specs.declared.cursor.Cursor.TheVariants as At
 use Rattle.chip_part.specs.Rules.{Fire}
 use Rattle.chip_actor.proofs.MediumLemmas.{DueBy, may_serve, can_do, moves_one, one_few}
-use Rattle.chip_actor.proofs.TurnOver.{fire_by, no_fire}
+use Rattle.chip_actor.proofs.TurnOverLemmas.{fire_by, no_fire}
 use Rattle.chip_actor.proofs.actor.ActorState.fire_here.Goals as goal
 use Rattle.chip_actor.proofs.actor.ActorState.fire_here.Goals.{After-batch-k}
 use Rattle.chip_actor.proofs.actor.ActorState.fire_here.Given.{Over}

@@ -1,7 +1,7 @@
 use Rattle.std.proofs.Common.{◌≡◌, ◌∙◌, ◌+◌, sym, arith}
 use Rattle.chip_part.specs.declared.cursor.Cursor.TheVariants as At
 use Rattle.chip_actor.proofs.MediumLemmas.{moves_on, meets_after, counts}
-use Rattle.chip_actor.proofs.TurnOver.{no_limit}
+use Rattle.chip_actor.proofs.TurnOverLemmas.{no_limit}
 use Rattle.chip_actor.proofs.actor.ActorState.halt_and_acknowledge.Goals as goal
 
 pub acknowledge_all-requires : goal.acknowledge_all-requires

@@ -6,7 +6,7 @@ use Rattle.chip_part.specs.Setting.{setting_with}
 use Rattle.chip_actor.specs.Ends.{IsFreshOuts, IsFreshIns}
 use Rattle.chip_actor.specs.Actor.{Actor}
 use Rattle.chip_part.proofs.PickedLemmas.{length-picked}
-use Rattle.chip_actor.proofs.ActorOpening.{opens}
+use Rattle.chip_actor.proofs.ActorOpeningLemmas.{opens}
 use Rattle.chip_actor.proofs.actor.ActorState.new.Goals as goal
 
 pub new-requires-3-clause-few_ins : goal.new-requires-3-clause-few_ins

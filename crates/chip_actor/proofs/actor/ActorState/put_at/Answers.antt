@@ -3,7 +3,7 @@ use Rattle.chip_part.specs.Rules.{Put}
 use Rattle.chip_actor.specs.Actor.{Actor, SomePart}
 use Rattle.chip_part.specs.Acting.{CanDo}
 use Rattle.chip_actor.specs.contracts.actor.ActorState.{the_view}
-use Rattle.chip_actor.proofs.Making.{may_put, put_made}
+use Rattle.chip_actor.proofs.MakingLemmas.{may_put, put_made}
 use Rattle.chip_actor.proofs.actor.ActorState.put_at.Goals as goal
 
 pub overflow_sub-self : goal.overflow_sub-self

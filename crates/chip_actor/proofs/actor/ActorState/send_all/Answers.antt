@@ -3,7 +3,7 @@ use Rattle.chip_part.specs.declared.cursor.Cursor.TheVariants as At
 use Rattle.chip_actor.specs.Actor.{Actor}
 use Rattle.chip_actor.specs.Medium.{Moves}
 use Rattle.chip_actor.proofs.MediumLemmas.{moves_none, moves_on, meets_after, then_over, keeps_outs}
-use Rattle.chip_actor.proofs.TurnOver.{sends_end}
+use Rattle.chip_actor.proofs.TurnOverLemmas.{sends_end}
 use Rattle.chip_actor.proofs.actor.ActorState.send_all.Goals as goal
 use Rattle.chip_actor.proofs.actor.ActorState.send_all.Goals.{At-loop-index}
 use Rattle.chip_actor.proofs.actor.ActorState.send_all.Given.{Over}

@@ -1,7 +1,7 @@
 use Rattle.std.proofs.Common.{◌≡◌, ◌∙◌, ◌+◌, sym, arith}
 use Rattle.chip_part.specs.declared.cursor.Cursor.TheVariants as At
 use Rattle.chip_actor.proofs.MediumLemmas.{moves_on, meets_after, counts}
-use Rattle.chip_actor.proofs.TurnOver.{nothing_before}
+use Rattle.chip_actor.proofs.TurnOverLemmas.{nothing_before}
 use Rattle.chip_actor.proofs.actor.ActorState.send_and_acknowledge.Goals as goal
 
 pub send_all-sent-requires : goal.send_all-sent-requires

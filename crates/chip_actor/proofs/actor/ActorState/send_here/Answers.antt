@@ -4,7 +4,7 @@ use Rattle.chip_actor.specs.declared.ends.outs.OutEnd.{OutEnd}
 use Rattle.chip_actor.specs.Ends.{out_on}
 use Rattle.chip_actor.specs.Actor.{Actor}
 use Rattle.chip_actor.proofs.MediumLemmas.{moves_on, meets_after, counts}
-use Rattle.chip_actor.proofs.TurnOver.{send_none}
+use Rattle.chip_actor.proofs.TurnOverLemmas.{send_none}
 use Rattle.chip_actor.proofs.actor.ActorState.send_here.Goals as goal
 
 pub returns-then-at-eq0-clause-moves : goal.returns-then-at-eq0-clause-moves

@@ -3,7 +3,7 @@ use Rattle.chip_part.specs.Rules.{Settle}
 use Rattle.chip_actor.specs.Actor.{Actor, SomePart}
 use Rattle.chip_part.specs.Acting.{CanDo}
 use Rattle.chip_actor.specs.contracts.actor.ActorState.{the_view}
-use Rattle.chip_actor.proofs.Making.{settle_among}
+use Rattle.chip_actor.proofs.MakingLemmas.{settle_among}
 use Rattle.chip_actor.proofs.actor.ActorState.settle.Goals as goal
 
 -- the edge is one of the vertex's

@@ -1,5 +1,5 @@
 use Rattle.chip_actor.specs.contracts.actor.ActorState.{the_view}
-use Rattle.chip_actor.proofs.Making.{settle_made}
+use Rattle.chip_actor.proofs.MakingLemmas.{settle_made}
 use Rattle.chip_actor.proofs.actor.ActorState.settle_at.Goals as goal
 
 pub returns : goal.returns

@@ -4,7 +4,7 @@ use Rattle.chip_part.specs.declared.cursor.Cursor.TheVariants as At
 use Rattle.chip_part.specs.Rules.{Settle}
 use Rattle.chip_actor.specs.Actor.{Actor}
 use Rattle.chip_actor.proofs.MediumLemmas.{DueBy, may_serve, can_do, moves_one, one_few}
-use Rattle.chip_actor.proofs.TurnOver.{settle_by}
+use Rattle.chip_actor.proofs.TurnOverLemmas.{settle_by}
 use Rattle.chip_actor.proofs.actor.ActorState.settle_here.Goals as goal
 use Rattle.chip_actor.proofs.actor.ActorState.settle_here.Goals.{After-edges}
 use Rattle.chip_actor.proofs.actor.ActorState.settle_here.Given.{Over}

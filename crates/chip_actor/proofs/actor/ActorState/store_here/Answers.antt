@@ -8,7 +8,7 @@ use Rattle.chip_link.specs.Ends.{put_of}
 use Rattle.chip_part.specs.Part.{cause, is_by_limit}
 use Rattle.chip_part.specs.Rules.{Put, Halt}
 use Rattle.chip_actor.proofs.MediumLemmas.{DueBy, may_serve, can_do, moves_one}
-use Rattle.chip_actor.proofs.TurnOver.{store_by, stop_by}
+use Rattle.chip_actor.proofs.TurnOverLemmas.{store_by, stop_by}
 use Rattle.chip_actor.proofs.actor.ActorState.store_here.Goals as goal
 use Rattle.chip_actor.proofs.actor.ActorState.store_here.Goals.{After-held}
 use Rattle.chip_actor.proofs.actor.ActorState.store_here.Given.{Over}

@@ -3,7 +3,7 @@ use Rattle.chip_part.specs.Rules.{Take}
 use Rattle.chip_actor.specs.Actor.{Actor, SomePart}
 use Rattle.chip_part.specs.Acting.{CanDo}
 use Rattle.chip_actor.specs.contracts.actor.ActorState.{the_view}
-use Rattle.chip_actor.proofs.Making.{may_take}
+use Rattle.chip_actor.proofs.MakingLemmas.{may_take}
 use Rattle.chip_actor.proofs.actor.ActorState.take.Goals as goal
 
 -- the edge is one of the vertex's

@@ -2,7 +2,7 @@ use Rattle.std.proofs.Common.{◌≡◌, ◌∙◌, ◌+◌, length, sym, ap, ar
 use Rattle.chip_part.specs.declared.cursor.Cursor.TheVariants as At
 use Rattle.chip_actor.specs.Actor.{Actor}
 use Rattle.chip_actor.proofs.MediumLemmas.{moves_none, moves_on, meets_after, then_over, keeps_ins}
-use Rattle.chip_actor.proofs.TurnOver.{takes_end}
+use Rattle.chip_actor.proofs.TurnOverLemmas.{takes_end}
 use Rattle.chip_actor.proofs.actor.ActorState.take_all.Goals as goal
 use Rattle.chip_actor.proofs.actor.ActorState.take_all.Goals.{At-loop-index}
 use Rattle.chip_actor.proofs.actor.ActorState.take_all.Given.{Over}

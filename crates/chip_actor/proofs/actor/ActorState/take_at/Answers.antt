@@ -1,6 +1,6 @@
 use Rattle.std.proofs.Common.{◌∙◌, sym}
 use Rattle.chip_actor.specs.contracts.actor.ActorState.{the_view}
-use Rattle.chip_actor.proofs.Making.{take_made, take_empty}
+use Rattle.chip_actor.proofs.MakingLemmas.{take_made, take_empty}
 use Rattle.chip_actor.proofs.actor.ActorState.take_at.Goals as goal
 
 pub returns-in_default : goal.returns-in_default

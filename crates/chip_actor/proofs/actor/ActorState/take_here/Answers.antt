@@ -6,7 +6,7 @@ use Rattle.chip_part.specs.Rules.{Take}
 use Rattle.chip_actor.specs.Ends.{in_on}
 use Rattle.chip_actor.specs.Actor.{Actor}
 use Rattle.chip_actor.proofs.MediumLemmas.{DueBy, may_serve, can_do, moves_one, one_few}
-use Rattle.chip_actor.proofs.TurnOver.{take_by}
+use Rattle.chip_actor.proofs.TurnOverLemmas.{take_by}
 use Rattle.chip_actor.proofs.actor.ActorState.take_here.Goals as goal
 use Rattle.chip_actor.proofs.actor.ActorState.take_here.Goals.{After-cell_at-cell}
 use Rattle.chip_actor.proofs.actor.ActorState.take_here.Given.{Over}

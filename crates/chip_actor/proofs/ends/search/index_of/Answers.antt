@@ -1,5 +1,5 @@
 use Rattle.std.proofs.Common.{◌≡◌, ℕ, get_or, Result, IfOk, subst}
-use Rattle.chip_actor.proofs.Lookups.{searched}
+use Rattle.chip_actor.proofs.LookupsLemmas.{searched}
 use Rattle.chip_actor.proofs.ends.search.index_of.Goals as goal
 
 -- the number is there, so the search succeeds

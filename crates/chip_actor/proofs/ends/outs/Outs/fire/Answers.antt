@@ -3,8 +3,8 @@ use Rattle.std.proofs.Common.{get_or, ◌∙◌, subst, List}
 use Rattle.chip_actor.specs.Ends.{OutEnd, OutEnds, on_edge, no_out, out_on, out_after_fire}
 use Rattle.std.specs.List.{Contains}
 use Rattle.std.proofs.lemmas.List.{get_or_default, take_all, take-append-le}
-use Rattle.chip_detect.proofs.Lookups.{ascends}
-use Rattle.chip_actor.proofs.Lookups.{on_edge_at, on_edge_map}
+use Rattle.chip_detect.proofs.LookupsLemmas.{ascends}
+use Rattle.chip_actor.proofs.LookupsLemmas.{on_edge_at, on_edge_map}
 use Rattle.chip_actor.proofs.EndLemmas.{reads_old, done_more, rest_less}
 use Rattle.chip_actor.proofs.ends.outs.Outs.fire.Goals as goal
 

@@ -1,3 +1,4 @@
+-- Serves Actor.antt, Ends.antt, Medium.antt.
 -- Each phase of a turn over a medium: which operation is due, and where the turn passes on without one.
 use Rattle.std.proofs.Common.{◌≡◌, ◌≢◌, ℕ, ◌+◌, ◌-◌, ◌%◌, ◌<◌, ◌≤◌, Bool, true, false, not, ◌&&◌, eqb, List, [], length}
 use Rattle.std.proofs.Common.{sum, slice_index, Option, Some, None, is_some, is_none, option_map, option_to_list, refl}
@@ -21,13 +22,13 @@ use Rattle.chip_part.specs.Turn.{ins_of, outs_of, may_fire, batch_of, is_at_limi
 use Rattle.chip_part.specs.Cursor.{GoesBy, out_at}
 use Rattle.chip_actor.specs.Actor.{Actor, StandsFor, WhateverPart, is_passive_now}
 use Rattle.chip_actor.specs.Medium.{Holding, Moves}
-use Rattle.chip_actor.proofs.Standing.{may_ack_is}
+use Rattle.chip_actor.proofs.StandingLemmas.{may_ack_is}
 use Rattle.chip_part.proofs.PartLemmas.{may_le}
-use Rattle.chip_part.proofs.TurnSteps.{take_due, takes_over, settle_due, settles_over, in_enters, out_leaves, fire_due}
-use Rattle.chip_part.proofs.TurnSteps.{no_fire_due, puts_over, puts_fit, refusal_none, sends_begin, send_due, sends_to}
-use Rattle.chip_part.proofs.TurnSteps.{sends_over, claim_due, claim_over, store_due, stop_due, no_limit_due, ack_due}
-use Rattle.chip_part.proofs.TurnSteps.{acks_to, acks_over, no_parent}
-use Rattle.chip_actor.proofs.TurnActor.{pending_is, held_at_place, clear_at_place, none_held}
+use Rattle.chip_part.proofs.TurnStepsLemmas.{take_due, takes_over, settle_due, settles_over, in_enters, out_leaves, fire_due}
+use Rattle.chip_part.proofs.TurnStepsLemmas.{no_fire_due, puts_over, puts_fit, refusal_none, sends_begin, send_due, sends_to}
+use Rattle.chip_part.proofs.TurnStepsLemmas.{sends_over, claim_due, claim_over, store_due, stop_due, no_limit_due, ack_due}
+use Rattle.chip_part.proofs.TurnStepsLemmas.{acks_to, acks_over, no_parent}
+use Rattle.chip_actor.proofs.TurnActorLemmas.{pending_is, held_at_place, clear_at_place, none_held}
 use Rattle.chip_actor.proofs.MediumLemmas.{DueBy, moves_past, moves_on, turn_ends}
 
 -- the edge at an index of the actor's edges is the vertex's there
@@ -311,6 +312,6 @@ nothing_owed H a off =
         let idle = (stands.kept.neutral stands.knows.vertex none).nothing_owed in
         let one = Rattle.chip_part.proofs.PartLemmas.in_zero g a.vertex
         (λ i. Rattle.chip_part.specs.Part.owed (s.into i)) idle e
-        (Rattle.chip_actor.proofs.Standing.in_inside g s a stands e mine) mine in
+        (Rattle.chip_actor.proofs.StandingLemmas.in_inside g s a stands e mine) mine in
         let most = may_le g (head_of g e) e s in
         omega arith

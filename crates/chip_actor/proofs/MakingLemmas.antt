@@ -1,3 +1,4 @@
+-- Serves Ends.antt, Actor.antt.
 -- Each call that makes an event: what its parts ask, and what it comes to.
 use Rattle.std.proofs.Common.{◌≡◌, ◌≢◌, ℕ, zero, suc, ◌+◌, ◌-◌, ◌*◌, ◌<◌, ◌≤◌, ◌^◌, ◌%◌, Bool, true, false, not, ◌&&◌}
 use Rattle.std.proofs.Common.{cond, if◌then◌else◌, eqb, List, [], ◌∷◌, ◌++◌, length, sum, Option, Some, None, is_some}
@@ -20,8 +21,8 @@ use Rattle.chip_detect.specs.Books as books
 use Rattle.chip_detect.specs.Acknowledging.{acknowledgeable}
 use Rattle.chip_detect.specs.Acknowledging as detector
 use Rattle.chip_detect.specs.Steps.{Gets, Acknowledges, Sends, Settles}
-use Rattle.chip_detect.proofs.Soundness.{parent_goes_with_all}
-use Rattle.chip_detect.proofs.Allowed.{within_owed}
+use Rattle.chip_detect.proofs.SoundnessLemmas.{parent_goes_with_all}
+use Rattle.chip_detect.proofs.AllowedLemmas.{within_owed}
 use Rattle.chip_part.specs.Edges.{all_edges, tail_of, mult_of}
 use Rattle.chip_part.specs.declared.cause.Cause.{Cause}
 use Rattle.chip_part.specs.Part.{cause}
@@ -36,10 +37,10 @@ use Rattle.chip_actor.specs.Actor.{Actor, StandsFor, SomePart, WhateverPart, is_
 use Rattle.chip_part.specs.Acting.{CanDo}
 use Rattle.chip_actor.specs.Actor.{Makes}
 use Rattle.chip_part.proofs.RuleLemmas.{rules_met}
-use Rattle.chip_actor.proofs.Standing.{among_outs, among_ins, books_in, books_out, out_inside, owed_is, may_ack_is}
-use Rattle.chip_actor.proofs.Standing.{few_got, few_fired}
-use Rattle.chip_actor.proofs.Stepping.{takes, takes_none, settles, acknowledges, halts, clears, may_look, claims}
-use Rattle.chip_actor.proofs.Stepping.{is_refused, puts, fires}
+use Rattle.chip_actor.proofs.StandingLemmas.{among_outs, among_ins, books_in, books_out, out_inside, owed_is, may_ack_is}
+use Rattle.chip_actor.proofs.StandingLemmas.{few_got, few_fired}
+use Rattle.chip_actor.proofs.SteppingLemmas.{takes, takes_none, settles, acknowledges, halts, clears, may_look, claims}
+use Rattle.chip_actor.proofs.SteppingLemmas.{is_refused, puts, fires}
 
 -- ---- a take
 
@@ -187,7 +188,7 @@ pub clear_made : (a : Actor) (e seen : ℕ) (os : OutEnds) (words : Option (ℕ 
 clear_made a e seen os words is change = λ g s stands can.
     let link : Tail = (s.out e).link in
     let looked = is ∙ (λ j. claim_words (tail_after_clear seen (stands.outs e can.0 j).link))
-    ∙ ap claim_words (Rattle.chip_link.proofs.States.tail_clears e g.ring link seen
+    ∙ ap claim_words (Rattle.chip_link.proofs.StatesLemmas.tail_clears e g.ring link seen
     (may_look g s a stands e can.0 can.1)) in (
       clears g s a stands e seen can.0 can.1 os change,
       ap clear_reply looked
@@ -345,7 +346,7 @@ pub fire_fits : (a : Actor) (k seen : ℕ) → SomePart a (λ g s. CanDo g s a.v
     → Contains a.outs.edges e → k * (out_on a.outs e).mult < 2 ^ 64
 fire_fits a k seen (g, s, stands, can) e among =
     let met = rules_met g (Fire a.vertex k) s can.1 in
-    let at = Rattle.chip_actor.proofs.Standing.is_out g s a stands e among in
+    let at = Rattle.chip_actor.proofs.StandingLemmas.is_out g s a stands e among in
     let here = ap (λ (o : OutEnd). o.mult) (stands.outs e at) in
     let inside = out_inside g s a stands e at in
     let one = tested_term (all_edges g) (λ i. eqb (tail_of g i) a.vertex) (mult_of g) e (omega arith) (eq-eqb _ _ at) in

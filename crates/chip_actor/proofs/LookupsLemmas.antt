@@ -1,3 +1,4 @@
+-- Serves Ends.antt.
 -- What stands beside the numbers of edges, looked up by a number.
 use Rattle.std.proofs.Common.{◌≡◌, ℕ, zero, suc, ◌<◌, ◌≤◌, cond, eqb, List, [], ◌∷◌, length, map, get_or, set, Result}
 use Rattle.std.proofs.Common.{Ok, Err, IsOk, IfOk, refl, sym, ap, ◌∙◌, inl, inr, arith}
@@ -12,7 +13,7 @@ use Rattle.std.proofs.lemmas.Cmp.{ranked}
 use Rattle.std.proofs.lemmas.List.{get_or_default}
 use Rattle.std.proofs.lemmas.List.Sorted.{IsNonDecreasingBy-from_default}
 use Rattle.chip_graph.proofs.SumLemmas.{cond_yes, cond_no}
-use Rattle.chip_detect.proofs.Lookups.{Ascends, ascends, ascends_tail, not_in_front}
+use Rattle.chip_detect.proofs.LookupsLemmas.{Ascends, ascends, ascends_tail, not_in_front}
 use Rattle.chip_actor.specs.Ends.{on_edge}
 
 -- a search for a number that is there succeeds, at its place

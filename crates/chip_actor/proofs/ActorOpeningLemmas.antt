@@ -1,3 +1,4 @@
+-- Serves Ends.antt.
 -- A new actor stands for the opening of its vertex.
 use Rattle.std.proofs.Common.{◌≡◌, ℕ, zero, suc, get_or, ◌+◌, ◌<◌, false, eqb, List, [], ◌∷◌, length, map, None, refl}
 use Rattle.std.proofs.Common.{sym, ap, ◌∙◌, subst, arith}
@@ -11,13 +12,13 @@ use Rattle.chip_part.specs.Setting.{Setting, IsSetting}
 use Rattle.chip_graph.proofs.SumLemmas.{cond_yes, cond_no, tested_none}
 use Rattle.chip_link.specs.Ends.{HeadState, new_head}
 use Rattle.chip_detect.specs.Books.{Books, IsSound, IsFresh}
-use Rattle.chip_detect.proofs.Fresh.{stand_in_order}
+use Rattle.chip_detect.proofs.FreshLemmas.{stand_in_order}
 use Rattle.chip_part.specs.Edges.{all_edges, tail_of}
 use Rattle.chip_part.specs.Part.{opened, first_put}
 use Rattle.chip_actor.specs.declared.ends.outs.OutEnd.{OutEnd}
 use Rattle.chip_actor.specs.Ends.{OutEnds, InEnds, on_edge, no_out, fresh_out, IsFreshOuts, IsFreshIns}
 use Rattle.chip_actor.specs.Actor.{Actor, StandsFor}
-use Rattle.chip_part.proofs.Opening.{opening_keeps, first_few}
+use Rattle.chip_part.proofs.OpeningLemmas.{opening_keeps, first_few}
 use Rattle.chip_part.proofs.PickedLemmas.{outs_rise, ins_rise}
 use Rattle.chip_part.proofs.PickedLemmas.{among_new_outs, among_new_ins}
 

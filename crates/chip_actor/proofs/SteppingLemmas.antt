@@ -1,3 +1,4 @@
+-- Serves Ends.antt, Actor.antt.
 -- An actor that makes an event stands for the part after it. Each lemma takes what the call changed in the actor's own
 -- numbers.
 use Rattle.std.proofs.Common.{◌≡◌, ◌≢◌, ℕ, zero, suc, ◌+◌, ◌-◌, ◌*◌, ◌<◌, ◌≤◌, ◌^◌, ◌%◌, Bool, true, false, not, ◌&&◌}
@@ -12,7 +13,7 @@ use Rattle.chip_graph.proofs.SumLemmas.{cond_yes, cond_no, tested_ext, tested_sc
 use Rattle.chip_link.specs.Ends.{may_clear, head_after_take}
 use Rattle.chip_link.specs.Link.{Tail, claims_of, after_clear, after_claim, after_put, after_take, tail_state}
 use Rattle.chip_link.specs.Link.{head_state}
-use Rattle.chip_link.proofs.States.{tail_clears, tail_claims, tail_puts, head_takes}
+use Rattle.chip_link.proofs.StatesLemmas.{tail_clears, tail_claims, tail_puts, head_takes}
 use Rattle.chip_detect.specs.Tally.{edges_of, messages_on, answered_on}
 use Rattle.chip_detect.specs.Books.{Books, IsSound, in_edges, out_edges, got_of, acked_of, sent_of, settled_of}
 use Rattle.chip_detect.specs.Acknowledging.{is_parent, or_else}
@@ -195,7 +196,7 @@ module _ (g : Setting) (s : Part) (a : Actor) (stands : StandsFor g s a) where
     books = record {
       sound = sound;
       parent = parent ∙ (λ j. cond (is_parent e (stands.books.parent j)
-          && eqb (all j) (Rattle.chip_actor.proofs.Standing.owed_is g s a stands e at j)) None (stands.books.parent j));
+          && eqb (all j) (Rattle.chip_actor.proofs.StandingLemmas.owed_is g s a stands e at j)) None (stands.books.parent j));
       got = λ i mine. change.ins.messages i ∙ stands.books.got i mine;
       acked = λ i mine. change.ins.answered i
           ∙ (λ j. cond (eqb e i) (stands.books.acked i mine j + all j) (stands.books.acked i mine j));
@@ -257,11 +258,11 @@ module _ (g : Setting) (s : Part) (a : Actor) (stands : StandsFor g s a) where
   pub may_look : (e : ℕ) → tail_of g e ≡ a.vertex → unmet g (Clear e) s ≡ None
       → may_clear (tail_state e g.ring (s.out e).link) ≡ true
   may_look e at may =
-      let met = vertex_clear g e s (Rattle.chip_actor.proofs.Standing.out_inside g s a stands e at) may in
+      let met = vertex_clear g e s (Rattle.chip_actor.proofs.StandingLemmas.out_inside g s a stands e at) may in
       let out = stands.kept.outs e at in
       let hand = out.free_hand met.0 met.3 in
       let fewer = out.fewer_yet met.0 met.3 in
-      let fired = Rattle.chip_actor.proofs.Standing.few_fired g s a stands in
+      let fired = Rattle.chip_actor.proofs.StandingLemmas.few_fired g s a stands in
       Rattle.std.proofs.lemmas.Bool.and_from _ _
       (Rattle.std.proofs.lemmas.Bool.and_from _ _ (ap Rattle.std.proofs.Common.is_none hand) (ap not met.2))
       (Rattle.std.proofs.Common.lt-ltb _ _ (omega arith))
@@ -590,7 +591,7 @@ module _ (g : Setting) (s : Part) (a : Actor) (stands : StandsFor g s a) where
         chips = (λ j. stands.chips j - cost j);
         fired = ap (λ (n : ℕ). n + k) stands.fired;
         halt = stands.halt;
-        outs = λ i mine. change.each i (Rattle.chip_actor.proofs.Standing.among_outs g s a stands i mine)
+        outs = λ i mine. change.each i (Rattle.chip_actor.proofs.StandingLemmas.among_outs g s a stands i mine)
             ∙ ap (out_after_fire k) (stands.outs i mine)
             ∙ (λ j. let n : OutEnd = record {
               mult = mult_of g i;

@@ -1,3 +1,4 @@
+-- Serves Actor.antt, Ends.antt.
 -- What an actor finds in its own lists is what its part says.
 use Rattle.std.proofs.Common.{◌≡◌, ℕ, ◌<◌, Bool, true, false, not, cond, eqb, List, length, slice_index, Option, Some}
 use Rattle.std.proofs.Common.{None, is_some, option_to_list, option_map, refl, sym, ap, ◌∙◌, subst, arith}
@@ -12,8 +13,8 @@ use Rattle.chip_actor.specs.Actor.{Actor, StandsFor, is_passive_now, out_end}
 use Rattle.chip_part.specs.Turn.{ins_of, outs_of}
 use Rattle.chip_actor.specs.Ends.{IsFirstFrom}
 use Rattle.chip_part.specs.Cursor.{out_at}
-use Rattle.chip_actor.proofs.Standing.{may_ack_is}
-use Rattle.chip_part.proofs.TurnSteps.{in_enters, out_leaves}
+use Rattle.chip_actor.proofs.StandingLemmas.{may_ack_is}
+use Rattle.chip_part.proofs.TurnStepsLemmas.{in_enters, out_leaves}
 
 -- by an equal test the first place is the same
 first_same : (t u : ℕ → Bool) (xs : List ℕ) → ((k : ℕ) → k < length xs → t (slice_index xs k) ≡ u (slice_index xs k))
@@ -99,7 +100,7 @@ module _ (g : Setting) (s : Part) (a : Actor) (stands : StandsFor g s a) where
       → is_some (s.out (out_at g a.vertex k)).link.held ≡ false
   none_held none k within =
       let e : ℕ = out_at g a.vertex k in
-      let inside = Rattle.chip_part.proofs.TurnSteps.out_inside g a.vertex k within in
+      let inside = Rattle.chip_part.proofs.TurnStepsLemmas.out_inside g a.vertex k within in
       no_length (s.out e).link.held
       (Rattle.chip_part.proofs.PartLemmas.out_zero g a.vertex (λ i. length (option_to_list (s.out i).link.held))
       (sym stands.unput ∙ none) e (omega arith) (out_leaves g a.vertex k within))
@@ -108,7 +109,7 @@ module _ (g : Setting) (s : Part) (a : Actor) (stands : StandsFor g s a) where
       → not (eqb (s.out (out_at g a.vertex k)).pending 0) ≡ false
   none_pending none k within =
       let e : ℕ = out_at g a.vertex k in
-      let inside = Rattle.chip_part.proofs.TurnSteps.out_inside g a.vertex k within in
+      let inside = Rattle.chip_part.proofs.TurnStepsLemmas.out_inside g a.vertex k within in
       ap (λ (n : ℕ). not (eqb n 0))
       (Rattle.chip_part.proofs.PartLemmas.out_zero g a.vertex (λ i. (s.out i).pending) (sym stands.pending
       ∙ none) e (omega arith) (out_leaves g a.vertex k within))

@@ -1,3 +1,4 @@
+-- Serves Actor.antt.
 -- What an actor that stands for a part knows of it.
 use Rattle.std.proofs.Common.{◌≡◌, ℕ, ◌+◌, ◌-◌, ◌<◌, ◌≤◌, ◌^◌, Bool, true, not, ◌&&◌, ◌||◌, eqb}
 use Rattle.std.proofs.Common.{leb, List, [], ◌∷◌, ◌++◌, length, Option, Some, None, is_some, is_none}

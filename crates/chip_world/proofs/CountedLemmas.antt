@@ -1,3 +1,4 @@
+-- Serves World.antt, SharedWords.antt.
 -- How many messages an edge delivered, by the books of its head.
 use Rattle.std.proofs.Common.{◌≡◌, ℕ, ◌+◌, ◌<◌, length, get_or, Some, sym, ap, ◌∙◌, subst, arith}
 use Rattle.std.specs.List.{Contains}
@@ -7,7 +8,7 @@ use Rattle.chip_detect.specs.Books as books
 use Rattle.chip_part.specs.Edges.{all_edges}
 use Rattle.chip_part.specs.Part.{owed}
 use Rattle.chip_actor.specs.Actor.{Actor, StandsFor}
-use Rattle.chip_actor.proofs.Standing.{books_in, owed_is}
+use Rattle.chip_actor.proofs.StandingLemmas.{books_in, owed_is}
 use Rattle.chip_core.specs.Core.{Log, Take, part_in, into_in, head_of}
 use Rattle.chip_core.proofs.LogLemmas.{part_kept}
 use Rattle.chip_part.specs.Edges.{head_if}

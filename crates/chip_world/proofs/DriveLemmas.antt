@@ -1,3 +1,4 @@
+-- Serves World.antt, TurnWords.antt, Rounds.antt.
 -- Turns, rounds and drives of a world.
 use Rattle.std.proofs.Common.{◌≡◌, ◌≢◌, ℕ, suc, ◌<◌, List, [], ◌∷◌, ◌++◌, reverse, get_or, set, refl}
 use Rattle.std.proofs.Common.{sym, ap, ◌∙◌, subst, arith, length-set, get_or-set_same, get_or-set_other}

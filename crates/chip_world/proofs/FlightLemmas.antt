@@ -1,3 +1,4 @@
+-- Serves SharedWords.antt.
 -- The messages that were sent on an edge and not delivered, by the cells of its ring and the hand of its tail.
 use Rattle.std.proofs.Common.{◌≡◌, ◌≢◌, ℕ, ◌+◌, ◌-◌, ◌%◌, ◌<◌, ◌≤◌, List, [], ◌∷◌, ◌++◌, length, sum, get_or, take}
 use Rattle.std.proofs.Common.{drop, ltb, lt-ltb, Result, Ok, Err, length-drop, length-take-le, Option, Some, None}
@@ -8,9 +9,9 @@ use mathlib.Core.Logic.{dite}
 use native.Mathlib.Decide.{dec_lt}
 use Rattle.chip_part.specs.Setting.{Setting}
 use Rattle.chip_link.specs.Link.{Tail, claims_of, sent_counts, Sound, Shows}
-use Rattle.chip_link.proofs.Sounds.{none_held, one_held}
+use Rattle.chip_link.proofs.SoundsLemmas.{none_held, one_held}
 use Rattle.chip_part.proofs.EdgeLemmas.{tail_root}
-use Rattle.chip_link.proofs.Sounds.{length-sent_counts}
+use Rattle.chip_link.proofs.SoundsLemmas.{length-sent_counts}
 use Rattle.chip_part.specs.declared.act.Act.{Act}
 use Rattle.chip_part.specs.declared.rule.Rule.TheVariants.{NotClaimed}
 use Rattle.chip_part.specs.Rules.{need}

@@ -1,3 +1,4 @@
+-- Serves World.antt.
 -- The actor that has an edge out of it.
 use Rattle.std.proofs.Common.{◌≡◌, ◌∙◌, ◌<◌, ◌≤◌, ℕ, Option, Some, None, get_or, ltb, ap, sym, subst, arith, lt-ltb}
 use Rattle.std.proofs.Common.{true, Result, Err}

@@ -1,3 +1,4 @@
+-- Serves World.antt.
 -- A world that opens.
 use Rattle.std.proofs.Common.{◌≡◌, ◌≢◌, ℕ, ◌+◌, ◌-◌, ◌<◌, ◌≤◌, cond, eqb, ltb, List, [], ◌∷◌, ◌++◌, length, get_or, set}
 use Rattle.std.proofs.Common.{replicate, None, refl, sym, ap, ◌∙◌, subst, arith, lt-ltb, le-ltb}
@@ -8,7 +9,7 @@ use native.Mathlib.Decide.{ℕ_discrete, dec_lt}
 use Rattle.chip_part.specs.Setting.{Setting, IsSetting}
 use Rattle.chip_graph.proofs.SumLemmas.{cond_yes, cond_no, cond_true, cond_false}
 use Rattle.chip_link.specs.Link.{Shows}
-use Rattle.chip_link.proofs.Shown.{fresh_shows, first_shows}
+use Rattle.chip_link.proofs.ShownLemmas.{fresh_shows, first_shows}
 use Rattle.chip_part.specs.Edges.{start_of}
 use Rattle.chip_root.specs.Root.{RootStandsFor}
 use Rattle.chip_part.specs.Part.{first_put, opened}

@@ -1,3 +1,4 @@
+-- Serves SharedWords.antt, World.antt, Makers.antt.
 -- One step of a world.
 use Rattle.std.proofs.Common.{◌≡◌, ◌≢◌, ℕ, ◌<◌, ◌≤◌, Bool, true, false, ◌&&◌, ltb, leb, lt-ltb, le-ltb, leb-true}
 use Rattle.std.proofs.Common.{List, ◌∷◌, length, get_or, set, Option, Some, None, Result, Ok, Err, refl, sym}

@@ -1,10 +1,11 @@
+-- Serves SharedWords.antt, TurnWords.antt.
 -- The words of a turn as a medium: each operation finds its word, sees what the core says, and leaves the words of the
 -- longer log.
 use Rattle.std.proofs.Common.{◌≡◌, ℕ, ◌+◌, ◌^◌, ◌<◌, ◌≤◌, Bool, true, false, List, ◌∷◌, length, get_or, Option, Some}
 use Rattle.std.proofs.Common.{None}
 use Rattle.std.proofs.Common.{is_some, sym, ap, ◌∙◌, subst, arith, bit_or}
 use Rattle.chip_link.specs.Words.{fired_word}
-use Rattle.chip_link.proofs.WordLaws.{adds_firings, halts_word, halts_by_limit}
+use Rattle.chip_link.proofs.WordLawsLemmas.{adds_firings, halts_word, halts_by_limit}
 use Rattle.chip_part.specs.Setting.{Setting}
 use Rattle.chip_part.specs.declared.act.Act.{Act}
 use Rattle.chip_part.specs.declared.act.Act.TheVariants as Do

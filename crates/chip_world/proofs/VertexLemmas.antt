@@ -1,3 +1,4 @@
+-- Serves Makers.antt.
 -- The vertex that makes an event.
 use Rattle.std.proofs.Common.{◌≡◌, ℕ, ◌<◌, Bool, true, false, cond, ltb, Option, Some, None, refl, sym, ◌∙◌, subst}
 use Rattle.std.proofs.Common.{true≢false}

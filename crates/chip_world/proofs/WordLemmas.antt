@@ -1,3 +1,4 @@
+-- Serves SharedWords.antt.
 -- The shared words of a world by its log: what an operation sees in them is what the core says, and what it leaves
 -- shows the longer log.
 use Rattle.std.proofs.Common.{◌≡◌, ◌≢◌, ℕ, ◌+◌, ◌-◌, ◌%◌, ◌^◌, ◌<◌, true, cond, eqb, List, ◌∷◌, length, sum, get_or}
@@ -27,7 +28,7 @@ use Rattle.chip_core.specs.Core.{stopper}
 use Rattle.chip_core.specs.Words.{Word, of_edge, of_acks, of_cell, of_vertex, halt_bits, touched, noted, IsShown}
 use Rattle.chip_core.specs.Words.{acting}
 use Rattle.chip_core.specs.Words.{IsLeft}
-use Rattle.chip_core.proofs.Showing.{operations_find, words_go_on}
+use Rattle.chip_core.proofs.ShowingLemmas.{operations_find, words_go_on}
 use Rattle.chip_core.proofs.LogLemmas.{part_kept, edge_sound}
 use Rattle.chip_world.specs.SharedWords.{EdgeState, no_words, words_of, with_cell, with_claim, with_acks, with_seal}
 use Rattle.chip_world.specs.SharedWords.{changed, cell_of, seen_in, words_after, HasCell, CanPerform}

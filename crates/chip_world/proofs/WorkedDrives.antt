@@ -1,3 +1,4 @@
+-- Serves Worked.antt, Rounds.antt.
 -- The worked drives, phase by phase.
 use Rattle.std.proofs.Common.{◌≡◌, ℕ, [], ◌∷◌, refl, arith}
 use Rattle.chip_part.specs.Part.{Part, opened}

@@ -1,3 +1,4 @@
+-- Serves Core.antt of chip_core.
 -- The lists of an outcome after runs that were played by hand, as the definitions compute them: one with a vertex that
 -- the limit halted, one with a vertex that a seal halted.
 use Rattle.std.proofs.Common.{◌≡◌, ℕ, zero, suc, ◌<◌, [], ◌∷◌, slice_index, refl, arith}

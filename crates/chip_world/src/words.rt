@@ -25,7 +25,7 @@ impl Model for EdgeWords {
 }
 
 impl EdgeWords {
-    ghost use Rattle.chip_world.specs.SharedWords.{with_cell, with_claim, with_acks, with_seal, opening_words};
+    ghost use Rattle.chip_world.specs.SharedWords.{opening_words};
 
     /// The words of an edge that opens with a message of so many chips, or with none where these are 0.
     fn new(alloc: Global, ring: Ring, chips: u64) -> Result<EdgeWords, AllocError>
@@ -38,51 +38,6 @@ impl EdgeWords {
             acknowledged: 0,
             cells,
         })
-    }
-
-    fn load(&self, cell: u64) -> u64
-        requires { cell < length self.now.cells }
-        ensures { result ≡ slice_index self.now.cells cell }
-    {
-        self.cells[cell as usize]
-    }
-
-    fn store(&mut self, cell: u64, value: u64)
-        requires { cell < length self.old.cells }
-        ensures { self.new ≡ with_cell cell value self.old }
-    {
-        self.cells[cell as usize] = value;
-    }
-
-    /// One try to put `new` in the place of `expected`; the word that was there.
-    fn exchange(&mut self, expected: u64, new: u64) -> u64
-        ensures seen { result ≡ self.old.word }
-        ensures after { self.new ≡ with_claim expected new self.old }
-    {
-        let word = self.word;
-        if word == expected {
-            self.word = new;
-        }
-        word
-    }
-
-    fn seal(&mut self) -> u64
-        ensures seen { result ≡ self.old.word }
-        ensures after { self.new ≡ with_seal self.old }
-    {
-        let word = self.word;
-        self.word = word | EdgeWord::SEAL;
-        word
-    }
-
-    fn acknowledge(&mut self, count: u64) -> u64
-        requires { self.old.acknowledged + count < 2 ^ 64 }
-        ensures seen { result ≡ self.old.acknowledged }
-        ensures after { self.new ≡ with_acks count self.old }
-    {
-        let before = self.acknowledged;
-        self.acknowledged = before + count;
-        before
     }
 }
 
@@ -153,9 +108,9 @@ impl Words {
         ensures seen { result ≡ cell_of self.old edge cell }
         ensures after { self.new ≡ changed edge (with_cell cell 0) self.old }
     {
-        let words = &mut self.edges[edge as usize];
-        let count = words.load(cell);
-        words.store(cell, 0);
+        let found = &mut self.edges[edge as usize].cells[cell as usize];
+        let count = *found;
+        *found = 0;
         count
     }
 
@@ -164,8 +119,7 @@ impl Words {
         requires { HasCell self.old edge cell }
         ensures { self.new ≡ changed edge (with_cell cell value) self.old }
     {
-        let words = &mut self.edges[edge as usize];
-        words.store(cell, value);
+        self.edges[edge as usize].cells[cell as usize] = value;
     }
 
     /// One try to put `new` in the place of `expected` in the edge word; the word that was there.
@@ -174,8 +128,12 @@ impl Words {
         ensures seen { result ≡ (words_of self.old edge).word }
         ensures after { self.new ≡ changed edge (with_claim expected new) self.old }
     {
-        let words = &mut self.edges[edge as usize];
-        words.exchange(expected, new)
+        let found = &mut self.edges[edge as usize].word;
+        let word = *found;
+        if word == expected {
+            *found = new;
+        }
+        word
     }
 
     /// Adds to the word of acknowledgements of an edge, and gives the word that was there.
@@ -185,8 +143,10 @@ impl Words {
         ensures seen { result ≡ (words_of self.old edge).acknowledged }
         ensures after { self.new ≡ changed edge (with_acks count) self.old }
     {
-        let words = &mut self.edges[edge as usize];
-        words.acknowledge(count)
+        let found = &mut self.edges[edge as usize].acknowledged;
+        let before = *found;
+        *found = before + count;
+        before
     }
 
     /// Seals an edge, and gives the edge word that was there.
@@ -195,8 +155,10 @@ impl Words {
         ensures seen { result ≡ (words_of self.old edge).word }
         ensures after { self.new ≡ changed edge with_seal self.old }
     {
-        let words = &mut self.edges[edge as usize];
-        words.seal()
+        let found = &mut self.edges[edge as usize].word;
+        let word = *found;
+        *found = word | EdgeWord::SEAL;
+        word
     }
 
     /// A cell of an edge.
@@ -204,8 +166,7 @@ impl Words {
         requires { HasCell self.now edge cell }
         ensures { result ≡ cell_of self.now edge cell }
     {
-        let words = &self.edges[edge as usize];
-        words.load(cell)
+        self.edges[edge as usize].cells[cell as usize]
     }
 
     /// The edge word of an edge.
@@ -213,8 +174,7 @@ impl Words {
         requires { edge < length self.now }
         ensures { result ≡ (words_of self.now edge).word }
     {
-        let words = &self.edges[edge as usize];
-        words.word
+        self.edges[edge as usize].word
     }
 
     /// The word of acknowledgements of an edge.
@@ -222,8 +182,7 @@ impl Words {
         requires { edge < length self.now }
         ensures { result ≡ (words_of self.now edge).acknowledged }
     {
-        let words = &self.edges[edge as usize];
-        words.acknowledged
+        self.edges[edge as usize].acknowledged
     }
 }
 

@@ -12,7 +12,7 @@ use chip_actor::ActorState;
 use chip_graph::Game;
 use chip_link::{EdgeWord, Event, FiredWord, Message, Ring};
 use chip_part::{Act, Cause, Observed, Reply, Rule, Setting};
-use chip_root::RootState;
+use chip_root::RootBooks;
 pub use driving::Drive;
 pub use running::Record;
 use std::alloc::{AllocError, Global};
@@ -26,7 +26,7 @@ pub struct World {
     setting: Setting,
     actors: Vec<ActorState>,
     shared: TurnWords,
-    root: RootState,
+    root: RootBooks,
 }
 
 impl Model for World {
@@ -83,7 +83,7 @@ impl World {
     {
         let actors = opening_actors(alloc, &setting)?;
         let words = Words::new(alloc, &setting)?;
-        let root = RootState::new(alloc, &setting)?;
+        let root = RootBooks::new(alloc, &setting)?;
         Ok(World {
             setting,
             actors,

@@ -1,4 +1,4 @@
-ghost use Rattle.std.specs.Prelude.{◌≡◌, ◌<◌, nat_lt, length, take};
+ghost use Rattle.std.specs.Prelude.{◌≡◌, ◌<◌, nat_lt, length, take, IfOk};
 ghost use Rattle.chip_actor.specs.Actor.{StandsFor};
 ghost use Rattle.chip_part.specs.Part.{opened};
 ghost use Rattle.chip_net.specs.Traces.{rows_of};
@@ -9,6 +9,7 @@ use crate::net::Net;
 use crate::net_words::{NetWords, Turning};
 use chip_actor::ActorState;
 use chip_link::TraceRow;
+use std::alloc::{AllocError, Global};
 use std::marker::{Brand, Model, PhantomData};
 
 /// What a turn came to.
@@ -23,15 +24,15 @@ pub enum Turn {
     Idle,
 }
 
-/// The owner of one vertex of a net. Contracts see what it has done.
+/// What an actor owns: the state of its vertex, and its seat at the words.
 #[derive(Drop)]
-pub struct Actor {
+struct Owned {
     state: ActorState,
     // `None` only during a turn, which takes it by value.
     hand: Option<Hand>,
 }
 
-impl Model for Actor {
+impl Model for Owned {
     ghost use Rattle.chip_net.specs.Tokens.{ActorKnown, known_of, IsActor};
 
     ghost Value = { ActorKnown };
@@ -41,28 +42,8 @@ impl Model for Actor {
     ghost invariant = { λ a. IsActor a.state a.hand };
 }
 
-impl Actor {
-    pub(crate) fn new(state: ActorState, hand: Hand) -> Actor
-        requires vertex { state.vertex ≡ hand.vertex }
-        requires state { StandsFor hand.net.setting (part_known hand) state }
-        ensures { result ≡ hand }
-    {
-        Actor {
-            state,
-            hand: Some(hand),
-        }
-    }
-
-    /// The number of its vertex.
-    pub fn vertex(&self) -> u64
-        ensures { result ≡ self.now.vertex }
-    {
-        self.state.vertex()
-    }
-
-    /// One turn: a look at each edge into the vertex, and then all that the vertex may do. Nothing waits, and nothing
-    /// is locked.
-    pub fn turn(&mut self, net: &Net) -> Turn
+impl Owned {
+    fn turn(&mut self, net: &Net) -> Turn
         requires net { self.old.net ≡ net.now }
         ensures turn { MakesTurn self.old self.new result }
         ensures same { (self.new.net ≡ self.old.net) × (self.new.vertex ≡ self.old.vertex)
@@ -81,6 +62,56 @@ impl Actor {
             Turn::Waiting
         }
     }
+}
+
+/// The owner of one vertex of a net. Contracts see what it has done. What it owns lies in a box, so that it goes from
+/// hand to hand as a pointer.
+#[derive(Drop)]
+pub struct Actor {
+    owned: Box<Owned>,
+}
+
+impl Model for Actor {
+    ghost use Rattle.chip_net.specs.Tokens.{ActorKnown};
+
+    ghost Value = { ActorKnown };
+
+    ghost view = { λ a. a.owned.value };
+}
+
+impl Actor {
+    pub(crate) fn new(alloc: Global, state: ActorState, hand: Hand) -> Result<Actor, AllocError>
+        requires vertex { state.vertex ≡ hand.vertex }
+        requires state { StandsFor hand.net.setting (part_known hand) state }
+        ensures { IfOk result (λ actor. actor ≡ hand) }
+    {
+        let owned = Owned {
+            state,
+            hand: Some(hand),
+        };
+        Ok(Actor {
+            owned: Box::new(alloc, owned)?,
+        })
+    }
+
+    /// The number of its vertex.
+    pub fn vertex(&self) -> u64
+        ensures { result ≡ self.now.vertex }
+    {
+        let owned: &Owned = &self.owned;
+        owned.state.vertex()
+    }
+
+    /// One turn: a look at each edge into the vertex, and then all that the vertex may do. Nothing waits, and nothing
+    /// is locked.
+    pub fn turn(&mut self, net: &Net) -> Turn
+        requires net { self.old.net ≡ net.now }
+        ensures turn { MakesTurn self.old self.new result }
+        ensures same { (self.new.net ≡ self.old.net) × (self.new.vertex ≡ self.old.vertex)
+            × (self.new.room ≡ self.old.room) }
+    {
+        self.owned.turn(net)
+    }
 
     /// The takes of messages and the firings of the vertex, in order, as far as there was room for them; and whether
     /// the trace is cut, since there was no room for one.
@@ -88,7 +119,8 @@ impl Actor {
         ensures rows { result.0.now ≡ take self.now.room (rows_of self.now.did) }
         ensures cut { result.1 ≡ nat_lt self.now.room (length (rows_of self.now.did)) }
     {
-        let Some(hand) = &self.hand else {
+        let owned: &Owned = &self.owned;
+        let Some(hand) = &owned.hand else {
             unreachable!()
         };
         (hand.rows(), hand.is_cut())

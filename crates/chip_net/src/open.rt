@@ -71,7 +71,11 @@ fn one_actor(
     let setting = net.setting();
     let trace = Trace::new(alloc, trace_rows as usize)?;
     let state = ActorState::new(alloc, setting.game(), vertex, setting.ring())?;
-    Ok(Actor::new(state, Hand::new(Snapshot::of(setting), own, vertex, trace)))
+    Actor::new(
+        alloc,
+        state,
+        Hand::new(Snapshot::of(setting), own, vertex, trace),
+    )
 }
 
 /// The actors of all vertices, ascending.
@@ -118,7 +122,7 @@ fn stopper_of(net: &Net, seat: &mut PartSeat, stoppable: bool) -> Option<Stopper
 }
 
 /// A net for this setting, as it opens, and the seat that has every part.
-fn laid_out(alloc: Global, setting: Setting) -> Result<(Net, PartSeat), AllocError>
+fn lay_out(alloc: Global, setting: Setting) -> Result<(Net, PartSeat), AllocError>
     ensures net { IfOk result (λ r. r.0.setting ≡ setting) }
     ensures seat { IfOk result (λ r. (r.1.table_id ≡ r.0.table) × (r.1.me.0 ≡ opening_view r.0.setting)) }
 {
@@ -172,7 +176,7 @@ impl Net {
     ) -> Result<Opened, AllocError>
         ensures { IfOk result (IsOpened setting trace_rows stoppable) }
     {
-        let (net, seat) = laid_out(alloc, setting)?;
+        let (net, seat) = lay_out(alloc, setting)?;
         let (root, actors, stopper) = tokens(alloc, &net, seat, trace_rows, stoppable)?;
         Ok(Opened {
             net,

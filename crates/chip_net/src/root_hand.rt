@@ -17,11 +17,11 @@ use crate::calls;
 use crate::layout::{acks_word, cell_word, edge_word, root_acks};
 use crate::net::Net;
 use crate::receipt::Receipt;
-use crate::root::{FeedFault, RootState as PollState};
+use crate::root::{FeedFault, RootState};
 use crate::rule::PartSeat;
 use chip_link::Event;
 use chip_part::{Act, Reply, Rule, Setting};
-use chip_root::RootState;
+use chip_root::RootBooks;
 use std::alloc::{AllocError, Global};
 use std::marker::{Brand, Model};
 use std::snapshot::Snapshot;
@@ -31,7 +31,7 @@ use std::snapshot::Snapshot;
 pub(crate) struct RootHand {
     seat: PartSeat,
     setting: Snapshot<Setting>,
-    state: RootState,
+    state: RootBooks,
 }
 
 impl Model for RootHand {
@@ -65,7 +65,7 @@ impl RootHand {
         Ok(RootHand {
             seat,
             setting: Snapshot::of(setting),
-            state: RootState::new(alloc, setting)?,
+            state: RootBooks::new(alloc, setting)?,
         })
     }
 
@@ -137,18 +137,18 @@ impl RootHand {
     }
 
     /// Whether that is so, and else how many messages are outstanding.
-    pub(crate) fn poll_state(&self) -> PollState
+    pub(crate) fn poll_state(&self) -> RootState
         ensures { AnswersPoll self.now result }
     {
         if self.closed() {
-            PollState::Closed
+            RootState::Closed
         } else {
-            PollState::Running(self.state.outstanding())
+            RootState::Running(self.state.outstanding())
         }
     }
 
     /// The state of the root, and the root that reads, once it is closed.
-    pub(crate) fn into_receipt(self) -> (RootState, Receipt)
+    pub(crate) fn into_receipt(self) -> (RootBooks, Receipt)
         ensures state { RootStandsFor self.net.setting (root_part self) result.0 }
         ensures receipt { result.1 ≡ self }
         ensures setting { IsSetting self.net.setting }

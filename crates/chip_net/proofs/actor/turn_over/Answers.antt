@@ -1,4 +1,4 @@
-use Rattle.chip_net.proofs.Turning.{may_turn, turned}
+use Rattle.chip_net.proofs.TurningLemmas.{may_turn, turned}
 use Rattle.chip_net.proofs.actor.turn_over.Goals as goal
 
 pub turn-work-requires : goal.turn-work-requires

@@ -1,4 +1,4 @@
-use Rattle.chip_net.proofs.Reaching.{every_moment}
+use Rattle.chip_net.proofs.ReachingLemmas.{every_moment}
 use Rattle.chip_net.proofs.laws.every_moment.Goals as goal
 
 pub returns : goal.returns

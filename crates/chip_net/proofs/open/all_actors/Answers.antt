@@ -3,7 +3,7 @@ use Rattle.std.proofs.Common.{arith}
 use Rattle.std.specs.Prelude.{slice_get}
 use Rattle.std.proofs.lemmas.Option.{get_or_from_slice_get}
 use Rattle.chip_net.specs.Tokens.{ActorKnown, newcomer}
-use Rattle.chip_net.proofs.Viewing.{pushed_each}
+use Rattle.chip_net.proofs.ViewingLemmas.{pushed_each}
 use Rattle.chip_net.proofs.open.all_actors.Goals as goal
 
 pub loop-vertex-preserved : goal.loop-vertex-preserved

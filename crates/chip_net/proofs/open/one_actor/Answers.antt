@@ -5,7 +5,7 @@ use Rattle.chip_part.specs.Part.{opened}
 use Rattle.chip_actor.specs.Actor.{Actor, StandsFor}
 use Rattle.chip_net.specs.Tokens.{ActorKnown, part_known}
 use Rattle.chip_net.specs.Views.{View, find}
-use Rattle.chip_net.proofs.Viewing.{dropped_else}
+use Rattle.chip_net.proofs.ViewingLemmas.{dropped_else}
 use Rattle.chip_net.proofs.open.one_actor.Goals as goal
 use Rattle.chip_net.proofs.open.one_actor.Goals.{After-hand_on-own}
 

@@ -4,7 +4,7 @@ use Rattle.chip_part.specs.Edges.{graph_edges, start_of}
 use Rattle.chip_core.specs.Words.{of_cell}
 use Rattle.chip_net.specs.Layout.{index_of}
 use Rattle.chip_net.specs.Opening.{AreOpening}
-use Rattle.chip_net.proofs.Opening.{opens_message}
+use Rattle.chip_net.proofs.OpeningLemmas.{opens_message}
 use Rattle.chip_net.proofs.open.open_edge.Goals as goal
 
 pub returns-then-chips-gt0 : goal.returns-then-chips-gt0

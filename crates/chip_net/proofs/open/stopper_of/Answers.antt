@@ -3,7 +3,7 @@ use Rattle.chip_graph.proofs.SumLemmas.{cond_true}
 use Rattle.chip_part.specs.Setting.{Setting}
 use Rattle.chip_part.specs.Edges.{root, stopper}
 use Rattle.chip_net.specs.Views.{View, find, drop_part}
-use Rattle.chip_net.proofs.Viewing.{dropped_here, dropped_else}
+use Rattle.chip_net.proofs.ViewingLemmas.{dropped_here, dropped_else}
 use Rattle.chip_net.proofs.open.stopper_of.Goals as goal
 use Rattle.chip_net.proofs.open.stopper_of.Goals.{After-hand_on-own}
 

@@ -1,6 +1,6 @@
 use Rattle.std.proofs.Common.{◌+◌, ap, ◌∙◌}
 use Rattle.chip_net.specs.Views.{View, find}
-use Rattle.chip_net.proofs.Viewing.{part_there}
+use Rattle.chip_net.proofs.ViewingLemmas.{part_there}
 use Rattle.chip_net.proofs.open.tokens.Goals as goal
 
 pub all_actors-requires-clause-parts : goal.all_actors-requires-clause-parts

@@ -11,7 +11,7 @@ use Rattle.chip_part.specs.Part.{AreGiven}
 use Rattle.chip_net.specs.Tokens.{NetId}
 use Rattle.chip_net.specs.Roots.{RootKnown, root_part}
 use Rattle.chip_net.specs.Finish.{TallyState, IsReading}
-use Rattle.chip_net.proofs.Finishing.{few, game, none_negative, finishes}
+use Rattle.chip_net.proofs.FinishingLemmas.{few, game, none_negative, finishes}
 use Rattle.chip_net.proofs.root.ended.Goals as goal
 use Rattle.chip_net.proofs.root.ended.Goals.{After-deref_mut}
 

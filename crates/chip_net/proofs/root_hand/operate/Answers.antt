@@ -6,7 +6,7 @@ use Rattle.chip_part.specs.Setting.{Setting}
 use Rattle.chip_core.specs.Words.{of_edge, of_acks, of_cell}
 use Rattle.chip_net.specs.Layout.{index_of}
 use Rattle.chip_net.specs.Roots.{IsDueInView}
-use Rattle.chip_net.proofs.Rooting.{feeding_room, feeding_rule, store_rule}
+use Rattle.chip_net.proofs.RootingLemmas.{feeding_room, feeding_rule, store_rule}
 use Rattle.chip_net.proofs.root_hand.operate.Goals as goal
 
 pub load-requires-clause-rule : goal.load-requires-clause-rule

@@ -1,6 +1,6 @@
 use denote.Param.Send.{sendable}
 use Rattle.std.proofs.Crossing.{crosses}
-use Rattle.chip_net.proofs.Crossing.{net_crosses}
+use Rattle.chip_net.proofs.CrossingLemmas.{net_crosses}
 use Rattle.net_bench.proofs.play.four_play.Goals as goal
 
 pub join-polled-requires-send-F : goal.join-polled-requires-send-F

@@ -1,6 +1,6 @@
 use Rattle.std.proofs.Common.{refl}
 use Rattle.chip_part.specs.declared.act.Act.TheVariants as Do
-use Rattle.chip_net.proofs.Acting.{same_table, word_room, word_there, act_rule, still_hand, makes, keeps_none}
+use Rattle.chip_net.proofs.ActingLemmas.{same_table, word_room, word_there, act_rule, still_hand, makes, keeps_none}
 use Rattle.chip_net.proofs.hand.Hand.ack.Goals as goal
 
 pub acks_word-word-requires : goal.acks_word-word-requires

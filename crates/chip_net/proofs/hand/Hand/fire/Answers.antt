@@ -1,5 +1,5 @@
 use Rattle.chip_part.specs.declared.act.Act.TheVariants as Do
-use Rattle.chip_net.proofs.Acting.{same_table, word_room, word_there, act_rule, still_hand, makes}
+use Rattle.chip_net.proofs.ActingLemmas.{same_table, word_room, word_there, act_rule, still_hand, makes}
 use Rattle.chip_net.proofs.hand.Hand.fire.Goals as goal
 
 pub fired_word-word-requires : goal.fired_word-word-requires

@@ -3,7 +3,7 @@ use Rattle.atomic_table.specs.Table.{Allows}
 use Rattle.chip_part.specs.declared.act.Act.TheVariants as Do
 use Rattle.chip_core.specs.Core.{Halt}
 use Rattle.chip_net.specs.Rule.{Kept, Grows}
-use Rattle.chip_net.proofs.Acting.{same_table, word_room, word_there, act_rule, still_hand, makes, keeps_none}
+use Rattle.chip_net.proofs.ActingLemmas.{same_table, word_room, word_there, act_rule, still_hand, makes, keeps_none}
 use Rattle.chip_net.proofs.hand.Hand.halt.Goals as goal
 
 pub fired_word-word-requires : goal.fired_word-word-requires

@@ -1,5 +1,5 @@
 use Rattle.std.proofs.Common.{[]}
-use Rattle.chip_net.proofs.Splitting.{hands_on}
+use Rattle.chip_net.proofs.SplittingLemmas.{hands_on}
 use Rattle.chip_net.proofs.net.Net.hand_on.Goals as goal
 
 pub hand_on-requires-clause-rule : goal.hand_on-requires-clause-rule

@@ -3,7 +3,7 @@ use Rattle.atomic_table.specs.Table.{opening}
 use Rattle.chip_part.specs.Setting.{Setting}
 use Rattle.chip_net.specs.Views.{opening_view}
 use Rattle.chip_net.specs.Rule.{Kept}
-use Rattle.chip_net.proofs.Opening.{opens}
+use Rattle.chip_net.proofs.OpeningLemmas.{opens}
 use Rattle.chip_net.proofs.net.Net.of_words.Goals as goal
 
 pub of_words-requires : goal.of_words-requires

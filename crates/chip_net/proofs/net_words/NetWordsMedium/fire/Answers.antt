@@ -1,5 +1,5 @@
 use Rattle.chip_part.specs.declared.act.Act.TheVariants as Do
-use Rattle.chip_net.proofs.Turning.{serves}
+use Rattle.chip_net.proofs.TurningLemmas.{serves}
 use Rattle.chip_net.proofs.net_words.NetWordsMedium.fire.Goals as goal
 
 pub returns : goal.returns

@@ -5,7 +5,7 @@ use Rattle.chip_net.specs.Layout.{index_of}
 use Rattle.chip_net.specs.Tokens.{NetId}
 use Rattle.chip_net.specs.Roots.{RootKnown, IsOver}
 use Rattle.chip_net.specs.contracts.receipt.Receipt.{the_view}
-use Rattle.chip_net.proofs.Receiving.{read_rule, still_receipt, reads, word_is}
+use Rattle.chip_net.proofs.ReceivingLemmas.{read_rule, still_receipt, reads, word_is}
 use Rattle.chip_net.proofs.receipt.Receipt.read.Goals as goal
 use Rattle.chip_net.proofs.receipt.Receipt.read.Goals.{After-words}
 

@@ -5,7 +5,7 @@ use Rattle.chip_link.specs.Words.{fired_in, halted_in, by_limit_in}
 use Rattle.chip_part.specs.Setting.{IsSetting}
 use Rattle.chip_net.specs.Tokens.{NetId}
 use Rattle.chip_net.specs.Finish.{TallyState, tally_after, IsReading}
-use Rattle.chip_net.proofs.Reading.{still_over, reads_more}
+use Rattle.chip_net.proofs.ReadingLemmas.{still_over, reads_more}
 use Rattle.chip_net.proofs.receipt.Receipt.read_all.Goals as goal
 
 pub read-requires-clause-over : goal.read-requires-clause-over

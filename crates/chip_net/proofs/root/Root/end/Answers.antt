@@ -2,7 +2,7 @@ use Rattle.std.proofs.Common.{◌≡◌, ◌-◌, sym, ap, ◌∙◌, subst}
 use Rattle.chip_core.specs.Core.{End}
 use Rattle.chip_net.specs.Tokens.{NetId}
 use Rattle.chip_net.specs.Roots.{RootKnown, HoldsNothing, DoesMore, settles_from, Ends}
-use Rattle.chip_net.proofs.Rooting.{does_after, holds_by, held_end, stays_over, over_by_end}
+use Rattle.chip_net.proofs.RootingLemmas.{does_after, holds_by, held_end, stays_over, over_by_end}
 use Rattle.chip_net.proofs.root.Root.end.Goals as goal
 
 pub invariant_of-self : goal.invariant_of-self

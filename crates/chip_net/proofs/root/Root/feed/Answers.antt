@@ -3,7 +3,7 @@ use Rattle.chip_part.specs.Setting.{Setting}
 use Rattle.chip_part.specs.Edges.{root_edge}
 use Rattle.chip_net.specs.Tokens.{NetId}
 use Rattle.chip_net.specs.Roots.{RootKnown, HoldsNothing, Feeds}
-use Rattle.chip_net.proofs.Sending.{look_due, look_done, due2, due3, free1, free3, feeds}
+use Rattle.chip_net.proofs.SendingLemmas.{look_due, look_done, due2, due3, free1, free3, feeds}
 use Rattle.chip_net.proofs.root.Root.feed.Goals as goal
 use Rattle.chip_net.proofs.root.Root.feed.Goals.{In_ok-may_feed}
 

@@ -2,7 +2,7 @@ use Rattle.std.proofs.Common.{sym, ap, ◌∙◌, subst}
 use Rattle.chip_part.specs.Edges.{stopper}
 use Rattle.chip_net.specs.Views.{find}
 use Rattle.chip_net.specs.Roots.{RootKnown, HoldsNothing}
-use Rattle.chip_net.proofs.Rooting.{holds_first}
+use Rattle.chip_net.proofs.RootingLemmas.{holds_first}
 use Rattle.chip_net.proofs.root.Root.new.Goals as goal
 
 pub invariant_of-result : goal.invariant_of-result

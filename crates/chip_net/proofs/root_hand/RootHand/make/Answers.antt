@@ -3,7 +3,7 @@ use Rattle.chip_root.specs.Root.{SomeRoot, RootCanDo, RootMakes}
 use Rattle.chip_net.specs.Tokens.{NetId}
 use Rattle.chip_net.specs.Roots.{RootKnown, IsDueForRoot}
 use Rattle.chip_net.specs.contracts.root_hand.RootHand.{the_view}
-use Rattle.chip_net.proofs.Rooting.{feeding_mine, may_make, still_root, replies}
+use Rattle.chip_net.proofs.RootingLemmas.{feeding_mine, may_make, still_root, replies}
 use Rattle.chip_net.proofs.root_hand.RootHand.make.Goals as goal
 use Rattle.chip_net.proofs.root_hand.RootHand.make.Goals.{After-operate-seen}
 

@@ -5,7 +5,7 @@ use Rattle.chip_part.specs.declared.rule.Rule.{Rule}
 use Rattle.chip_part.specs.Edges.{root_edge}
 use Rattle.chip_net.specs.Roots.{RootKnown, root_part, AllowsFeed}
 use Rattle.chip_net.specs.contracts.root_hand.RootHand.{the_view}
-use Rattle.chip_net.proofs.Feeding.{feed_answer, answer_some, answer_none, allows_feed, given_is_fed}
+use Rattle.chip_net.proofs.FeedingLemmas.{feed_answer, answer_some, answer_none, allows_feed, given_is_fed}
 use Rattle.chip_net.proofs.root_hand.RootHand.may_feed.Goals as goal
 use Rattle.chip_net.proofs.root_hand.RootHand.may_feed.Goals.{After-may}
 

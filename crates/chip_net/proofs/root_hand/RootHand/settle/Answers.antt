@@ -8,8 +8,8 @@ use Rattle.chip_core.specs.Words.{of_acks}
 use Rattle.chip_net.specs.Layout.{index_of}
 use Rattle.chip_net.specs.Tokens.{NetId}
 use Rattle.chip_net.specs.Roots.{RootKnown}
-use Rattle.chip_net.proofs.Rooting.{root_rule, settle_mine, settle_own, settle_due, may_make, still_root}
-use Rattle.chip_net.proofs.Rooting.{makes_event, settles_at}
+use Rattle.chip_net.proofs.RootingLemmas.{root_rule, settle_mine, settle_own, settle_due, may_make, still_root}
+use Rattle.chip_net.proofs.RootingLemmas.{makes_event, settles_at}
 use Rattle.chip_net.proofs.root_hand.RootHand.settle.Goals as goal
 use Rattle.chip_net.proofs.root_hand.RootHand.settle.Goals.{After-words}
 

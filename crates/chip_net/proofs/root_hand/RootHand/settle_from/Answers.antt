@@ -4,7 +4,7 @@ use Rattle.chip_part.specs.Edges.{root_edge}
 use Rattle.chip_core.specs.Words.{of_acks}
 use Rattle.chip_net.specs.Layout.{index_of}
 use Rattle.chip_net.specs.Tokens.{NetId}
-use Rattle.chip_net.proofs.Rooting.{does_net, settles_more, holds_by, held_settle}
+use Rattle.chip_net.proofs.RootingLemmas.{does_net, settles_more, holds_by, held_settle}
 use Rattle.chip_net.proofs.root_hand.RootHand.settle_from.Goals as goal
 
 pub loop-vertex-preserved : goal.loop-vertex-preserved

@@ -3,7 +3,7 @@ use Rattle.chip_part.specs.Setting.{IsSetting}
 use Rattle.chip_part.specs.Edges.{graph_edges}
 use Rattle.chip_net.specs.Tokens.{NetId}
 use Rattle.chip_net.specs.Roots.{StopperKnown}
-use Rattle.chip_net.proofs.Stopping.{seal_rule, still_stopper, seals}
+use Rattle.chip_net.proofs.StoppingLemmas.{seal_rule, still_stopper, seals}
 use Rattle.chip_net.proofs.stopper.Stopper.seal.Goals as goal
 use Rattle.chip_net.proofs.stopper.Stopper.seal.Goals.{After-fetch_or-arg-1}
 

@@ -1,3 +1,4 @@
+-- Serves Layout.antt, Views.antt, Opening.antt.
 -- The table at the opening meets the rule.
 use Rattle.std.proofs.Common.{◌≡◌, ◌≢◌, ℕ, zero, suc, ◌+◌, ◌-◌, ◌<◌, cond, eqb, ltb, List, [], ◌∷◌, length, get_or, set}
 use Rattle.std.proofs.Common.{length-set, replicate, Some, refl, sym, ap, ◌∙◌, subst, arith, lt-ltb, le-ltb}
@@ -14,13 +15,13 @@ use Rattle.chip_part.specs.Edges.{graph_edges, all_edges, start_of}
 use Rattle.chip_part.specs.Part.{first_put}
 use Rattle.chip_core.specs.Core.{Step}
 use Rattle.chip_core.specs.Words.{Word, of_edge, of_acks, of_cell, of_vertex, IsWord}
-use Rattle.chip_core.proofs.Showing.{other_kind, other_owner, other_cell}
+use Rattle.chip_core.proofs.ShowingLemmas.{other_kind, other_owner, other_cell}
 use Rattle.chip_net.specs.Layout.{index_of, word_count, value_in}
 use Rattle.chip_net.specs.Views.{View, find, opening_view}
 use Rattle.chip_net.specs.Rule.{Kept}
 use Rattle.chip_net.specs.Opening.{first_value, AreOpening}
-use Rattle.chip_net.proofs.Laying.{written_here, written_else}
-use Rattle.chip_net.proofs.Viewing.{part_there, part_empty}
+use Rattle.chip_net.proofs.LayingLemmas.{written_here, written_else}
+use Rattle.chip_net.proofs.ViewingLemmas.{part_there, part_empty}
 
 zeros : (n i : ℕ) → get_or {A = ℕ} (replicate n 0) i 0 ≡ 0
 zeros n i = dite (dec_lt i n) (λ l. get_or-replicate n i 0 0 l)

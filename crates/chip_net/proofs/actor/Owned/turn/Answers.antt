@@ -1,10 +1,10 @@
 use Rattle.std.proofs.Common.{◌≡◌, ◌∙◌, sym, ap, subst, arith}
 use Rattle.chip_net.specs.declared.actor.Turn.{Turn}
 use Rattle.chip_net.specs.Tokens.{MakesTurn, known_of, part_known}
-use Rattle.chip_net.proofs.Answering.{worked, waiting, idle}
-use Rattle.chip_net.proofs.actor.Actor.turn.Goals as goal
-use Rattle.chip_net.proofs.actor.Actor.turn.Goals.{then-work-gt0, else-work-gt0+then-passive}
-use Rattle.chip_net.proofs.actor.Actor.turn.Goals.{else-work-gt0+else-passive}
+use Rattle.chip_net.proofs.AnsweringLemmas.{worked, waiting, idle}
+use Rattle.chip_net.proofs.actor.Owned.turn.Goals as goal
+use Rattle.chip_net.proofs.actor.Owned.turn.Goals.{then-work-gt0, else-work-gt0+then-passive}
+use Rattle.chip_net.proofs.actor.Owned.turn.Goals.{else-work-gt0+else-passive}
 
 pub returns-clause-turn : goal.returns-clause-turn
 returns-clause-turn c =

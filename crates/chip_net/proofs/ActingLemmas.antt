@@ -1,3 +1,4 @@
+-- Serves Views.antt, Tokens.antt, Rule.antt.
 -- One operation of an actor over the net: it may be made, and the actor's hand has it then.
 use Rattle.std.proofs.Common.{◌≡◌, ℕ, ◌<◌, List, [], ◌∷◌, ◌++◌, append_assoc, append-nil, sym, ap, ◌∙◌, subst, arith}
 use Rattle.atomic_table.specs.Seated.{TableId}
@@ -19,9 +20,9 @@ use Rattle.chip_net.specs.Views.{View, grown, did_in, Has, part_of_view}
 use Rattle.chip_net.specs.Rule.{Kept, step_of, Stepped, Grows}
 use Rattle.chip_net.specs.Traces.{TraceState, Keeps, row_of, rows_of}
 use Rattle.chip_net.specs.Tokens.{NetId, ActorKnown, IsHand, IsDueFor, MakesStep}
-use Rattle.chip_net.proofs.Laying.{inside}
-use Rattle.chip_net.proofs.Viewing.{grown_has}
-use Rattle.chip_net.proofs.Ruling.{Mine, word_of, left_over, act_word, act_allowed}
+use Rattle.chip_net.proofs.LayingLemmas.{inside}
+use Rattle.chip_net.proofs.ViewingLemmas.{grown_has}
+use Rattle.chip_net.proofs.RulingLemmas.{Mine, word_of, left_over, act_word, act_allowed}
 
 -- the rows of one step more
 pub rows_push : (xs : List Step) (x : Step) → rows_of (xs ++ x ∷ []) ≡ rows_of xs ++ row_of x.event x.seen

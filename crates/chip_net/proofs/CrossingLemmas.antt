@@ -1,3 +1,4 @@
+-- Serves no definition, but what the kit asks of values that go to other threads.
 -- The tokens of a net may go to other threads, and threads may share the net. Of a struct each of whose fields has it
 -- so this is found by itself; a `Snapshot` has it by a lemma of std's alone, so of what holds one it is said here.
 use mir.Syntax.{Lifetime}
@@ -11,11 +12,12 @@ use Rattle.atomic_table.proofs.shared.Seat.TheSendSync as seat
 use Rattle.chip_actor.proofs.actor.ActorState.TheSendSync as state
 use Rattle.chip_net.proofs.trace.Trace.TheSendSync as trace
 use Rattle.chip_net.proofs.net.Net.TheSendSync as shared
-use Rattle.chip_root.proofs.root.RootState.TheSendSync as root_state
+use Rattle.chip_root.proofs.root.RootBooks.TheSendSync as root_state
 use Rattle.chip_net.proofs.reserve.Reserve.TheSendSync as reserve
 use Rattle.chip_net.specs.contracts.root_hand.RootHand as root_hand
 use Rattle.chip_net.specs.contracts.root.Root as root
 use Rattle.chip_net.specs.contracts.hand.Hand as hand
+use Rattle.chip_net.specs.contracts.actor.Owned as owned
 use Rattle.chip_net.specs.contracts.actor.Actor as actor
 use Rattle.chip_net.specs.contracts.stopper.Stopper as stopper
 use Rattle.chip_net.specs.contracts.net.Net as net
@@ -23,8 +25,11 @@ use Rattle.chip_net.specs.contracts.net.Net as net
 pub hand_send : IsSend hand.the_row
 hand_send = search (crosses, sendable, seat.the_send, trace.the_send) depth 60
 
+pub owned_send : IsSend owned.the_row
+owned_send = search (crosses, sendable, hand_send, state.the_send) depth 60
+
 pub actor_send : IsSend actor.the_row
-actor_send = search (crosses, sendable, hand_send, state.the_send) depth 60
+actor_send = search (crosses, sendable, owned_send) depth 60
 
 pub root_hand_send : IsSend root_hand.the_row
 root_hand_send = search (crosses, sendable, seat.the_send, root_state.the_send) depth 60

@@ -1,3 +1,4 @@
+-- Serves Roots.antt.
 -- Feeding: what the root may feed, and the game with all that it fed.
 use Rattle.std.proofs.Common.{◌≡◌, ℕ, ◌+◌, ◌<◌, ◌≤◌, Bool, true, false, not, List}
 use Rattle.std.proofs.Common.{sum, Option, Some, None, refl, sym, ap, ◌∙◌, subst, arith}

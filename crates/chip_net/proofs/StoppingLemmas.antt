@@ -1,3 +1,4 @@
+-- Serves Views.antt, Rule.antt, Roots.antt.
 -- The stopper: a seal of an edge.
 use Rattle.std.proofs.Common.{◌≡◌, ℕ, ◌<◌, not, [], ◌∷◌, ◌++◌, Option, Some, None, is_some, refl, sym, ap, ◌∙◌, subst}
 use Rattle.std.proofs.Common.{arith, bit_or, ◌^◌}
@@ -8,7 +9,7 @@ use Rattle.chip_graph.proofs.SumLemmas.{cond_yes}
 use Rattle.chip_link.specs.Words.{edge_word, claims_in, sealed_in}
 use Rattle.chip_link.specs.WordLaws.{ReadsAs}
 use Rattle.chip_link.specs.Link.{claims_of, after_seal, IsSealedAt}
-use Rattle.chip_link.proofs.WordLaws.{read_edge}
+use Rattle.chip_link.proofs.WordLawsLemmas.{read_edge}
 use Rattle.chip_part.specs.Setting.{Setting, IsSetting}
 use Rattle.chip_part.specs.Edges.{stopper, graph_edges}
 use Rattle.chip_part.proofs.RuleLemmas.{met_rules}
@@ -24,8 +25,8 @@ use Rattle.chip_net.specs.contracts.stopper.Stopper.{the_view}
 use Rattle.chip_net.specs.Views.{grown, did_in, Has, part_of_view}
 use Rattle.chip_net.specs.Rule.{Kept, Stepped, Grows}
 use Rattle.chip_net.specs.Roots.{StopperKnown, Seals}
-use Rattle.chip_net.proofs.Viewing.{grown_has, grown_part}
-use Rattle.chip_net.proofs.Ruling.{Mine, event_allowed}
+use Rattle.chip_net.proofs.ViewingLemmas.{grown_has, grown_part}
+use Rattle.chip_net.proofs.RulingLemmas.{Mine, event_allowed}
 
 not_some : (o : Option ℕ) → not (is_some o) ≡ is_none o
 not_some None = refl

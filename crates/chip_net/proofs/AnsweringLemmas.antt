@@ -1,10 +1,11 @@
+-- Serves Tokens.antt.
 -- What a turn answers.
 use Rattle.std.proofs.Common.{◌≡◌, ℕ, ◌<◌, Bool, true, false, sym, ap, ◌∙◌, subst}
 use Rattle.chip_actor.specs.Actor.{Actor}
 use Rattle.chip_part.specs.Part.{is_passive}
 use Rattle.chip_part.specs.Kept.{KeepsPart}
 use Rattle.chip_part.specs.Counting.{work_of}
-use Rattle.chip_part.proofs.Resting.{idle_turn_rests}
+use Rattle.chip_part.proofs.RestingLemmas.{idle_turn_rests}
 use Rattle.chip_net.specs.declared.actor.Turn.{Turn}
 use Rattle.chip_net.specs.declared.actor.Turn.TheVariants.{Worked, Waiting, Idle}
 use Rattle.chip_net.specs.Tokens.{ActorKnown, part_known, AnswersTurn, MakesTurn, MakesTurnBy}

@@ -1,3 +1,4 @@
+-- Serves Finish.antt, Roots.antt.
 -- The reads of a closed root: each is in the log, and what they tell.
 use Rattle.std.proofs.Common.{◌≡◌, ℕ, zero, suc, ◌+◌, ◌<◌, ◌&&◌, Bool, not, cond, List, [], ◌∷◌, ◌++◌, length, get_or}
 use Rattle.std.proofs.Common.{Contains, refl, sym, ap, ◌∙◌, subst, arith, ⊎_elim, length-append, append_assoc}
@@ -21,7 +22,7 @@ use Rattle.chip_net.specs.Tokens.{NetId}
 use Rattle.chip_net.specs.Roots.{RootKnown, root_part, root_deficit, root_after, IsOver}
 use Rattle.chip_net.specs.Finish.{ReadsAt, reads_from, IsReadOut, TallyState, tally_after, limit_at, seal_at, AreRead}
 use Rattle.chip_net.specs.Finish.{IsReading}
-use Rattle.chip_net.proofs.Viewing.{part_append}
+use Rattle.chip_net.proofs.ViewingLemmas.{part_append}
 
 -- a read that saw this
 abbrev read : ℕ → ℕ → Step

@@ -1,3 +1,4 @@
+-- Serves Roots.antt, Views.antt.
 -- The root: an event of its own over the net, and a poll of settles.
 use Rattle.std.proofs.Common.{◌≡◌, ℕ, suc, ◌+◌, ◌-◌, ◌<◌, ◌≤◌, Bool, true, false, cond, eqb, List, [], ◌∷◌, ◌++◌, Option, None, refl, sym, ap, ◌∙◌}
 use Rattle.std.proofs.Common.{subst, arith, append_assoc}
@@ -23,7 +24,7 @@ use Rattle.chip_core.specs.Histories.{done_by, part_by}
 use Rattle.chip_core.specs.Words.{IsWord, touched, left_by, noted}
 use Rattle.chip_core.proofs.ReachingLemmas.{by_history}
 use Rattle.chip_core.proofs.NumberLemmas.{root_fits}
-use Rattle.chip_core.proofs.Showing.{word_for}
+use Rattle.chip_core.proofs.ShowingLemmas.{word_for}
 use Rattle.chip_net.specs.declared.root_hand.RootHand.TheInside.{Inside}
 use Rattle.chip_net.specs.contracts.root_hand.RootHand.{the_view}
 use Rattle.chip_net.specs.Layout.{index_of, word_count}
@@ -31,10 +32,10 @@ use Rattle.chip_net.specs.Views.{View, find, grown, did_in, Has, part_of_view}
 use Rattle.chip_net.specs.Rule.{Kept, step_of, Stepped, Grows}
 use Rattle.chip_net.specs.Roots.{RootKnown, root_after, root_part, IsRoot, IsFeeding, IsDueInView, MakesEvent, Replies}
 use Rattle.chip_net.specs.Roots.{settles_from, DoesMore, HoldsNothing, has_ended, new_root}
-use Rattle.chip_net.proofs.Laying.{inside}
+use Rattle.chip_net.proofs.LayingLemmas.{inside}
 use Rattle.chip_net.specs.Tokens.{NetId}
-use Rattle.chip_net.proofs.Viewing.{grown_has, grown_part, find_else, part_push, part_append, ended_by}
-use Rattle.chip_net.proofs.Ruling.{Mine, word_of, left_over, one_exchange, event_room, event_allowed}
+use Rattle.chip_net.proofs.ViewingLemmas.{grown_has, grown_part, find_else, part_push, part_append, ended_by}
+use Rattle.chip_net.proofs.RulingLemmas.{Mine, word_of, left_over, one_exchange, event_room, event_allowed}
 
 -- the root sends on the root edges
 root_tail : (g : Setting) (v : ℕ) → tail_of g (root_edge g v) ≡ root g

@@ -1,3 +1,4 @@
+-- Serves Laws.antt, Layout.antt.
 -- The rule of the table says that the world is reached.
 use Rattle.std.proofs.Common.{◌≡◌, ℕ, List, subst}
 use Rattle.chip_core.specs.Core.{Step, Part, part_in, word_of_part}

@@ -1,3 +1,4 @@
+-- Serves Views.antt, Layout.antt, Rule.antt.
 -- Each event keeps the rule of the table, and tells that its part did it.
 use Rattle.std.proofs.Common.{◌≡◌, ◌≢◌, ℕ, ◌+◌, ◌%◌, ◌^◌, ◌<◌, ◌==◌, List, [], ◌∷◌, ◌++◌, length, get_or, set}
 use Rattle.std.proofs.Common.{length-set, Bool, true, false, cond, Some, None, refl, sym, ap, ◌∙◌, subst, ⊎_elim, arith}
@@ -25,12 +26,12 @@ use Rattle.chip_part.proofs.EdgeLemmas.{tail_root}
 use Rattle.chip_part.proofs.RuleLemmas.{rules_met}
 use Rattle.chip_part.specs.Steps.{saw}
 use Rattle.chip_core.proofs.ReachingLemmas.{by_history}
-use Rattle.chip_core.proofs.Showing.{word_for, word_there, finds, words_go_on}
+use Rattle.chip_core.proofs.ShowingLemmas.{word_for, word_there, finds, words_go_on}
 use Rattle.chip_net.specs.Layout.{index_of, word_count, value_in}
 use Rattle.chip_net.specs.Views.{View, find, grow, grown, did_in, Has, part_of_view}
 use Rattle.chip_net.specs.Rule.{Kept, step_of, Grows}
-use Rattle.chip_net.proofs.Laying.{inside, written_here, written_else}
-use Rattle.chip_net.proofs.Viewing.{some_is, set_there, find_here, find_else}
+use Rattle.chip_net.proofs.LayingLemmas.{inside, written_here, written_else}
+use Rattle.chip_net.proofs.ViewingLemmas.{some_is, set_there, find_here, find_else}
 
 -- a seat's view, and the slots that it holds, of which a net has none
 abbrev pub Mine : Type 0

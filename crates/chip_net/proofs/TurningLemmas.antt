@@ -1,3 +1,4 @@
+-- Serves Tokens.antt.
 -- The net's words as the medium of a turn, and what the turn leaves.
 use Rattle.std.proofs.Common.{◌≡◌, ℕ, ◌<◌, List, [], ◌∷◌, ◌++◌, reverse, sym, ap, ◌∙◌, subst}
 use Rattle.std.proofs.lemmas.List.{reverse-append, reverse-reverse}
@@ -14,7 +15,7 @@ use Rattle.chip_part.specs.Steps.{saw}
 use Rattle.chip_core.specs.Core.{Step, Part, opened, does}
 use Rattle.chip_core.specs.Histories.{part_by}
 use Rattle.chip_net.specs.Tokens.{NetId, ActorKnown, part_known, after_these, MakesStep, Holds, MakesTurnBy}
-use Rattle.chip_net.proofs.Viewing.{part_push}
+use Rattle.chip_net.proofs.ViewingLemmas.{part_push}
 
 -- the latest step first, with one more
 reverse_more : (x : Step) (ds : List Step) → reverse (x ∷ ds) ≡ reverse ds ++ x ∷ []

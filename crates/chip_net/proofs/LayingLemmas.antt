@@ -1,3 +1,4 @@
+-- Serves Layout.antt.
 -- Each word has a number of its own: two words with one number are one word.
 use Rattle.std.proofs.Common.{◌≡◌, ◌≢◌, ℕ, ◌+◌, ◌*◌, ◌<◌, List, length, set, ap, arith, get_or-set_same}
 use Rattle.std.proofs.Common.{get_or-set_other}

@@ -1,3 +1,4 @@
+-- Serves Views.antt, Rule.antt, Roots.antt.
 -- One read of the root over the net.
 use Rattle.std.proofs.Common.{◌≡◌, ℕ, ◌<◌, true, None, refl, subst}
 use Rattle.atomic_table.specs.Seated.{TableId}
@@ -16,10 +17,10 @@ use Rattle.chip_net.specs.Views.{find, grown, did_in, Has, part_of_view}
 use Rattle.chip_net.specs.Rule.{Kept, Stepped, Grows}
 use Rattle.chip_net.specs.Roots.{RootKnown, IsOver}
 use Rattle.chip_net.specs.Finish.{ReadsAt}
-use Rattle.chip_net.proofs.Viewing.{grown_has}
-use Rattle.chip_net.proofs.Ruling.{Mine}
-use Rattle.chip_net.proofs.Rooting.{root_rule, root_grown, root_stepped, root_record}
-use Rattle.chip_net.proofs.Finishing.{fired_word_is}
+use Rattle.chip_net.proofs.ViewingLemmas.{grown_has}
+use Rattle.chip_net.proofs.RulingLemmas.{Mine}
+use Rattle.chip_net.proofs.RootingLemmas.{root_rule, root_grown, root_stepped, root_record}
+use Rattle.chip_net.proofs.FinishingLemmas.{fired_word_is}
 
 module _ (i : Inside) (keeps : Has (root i.setting.value) i.seat.me.0 × IsSetting i.setting.value) (v : ℕ)
     (inside : v < i.setting.value.game.graph.vertices) (over : IsOver (the_view i)) where

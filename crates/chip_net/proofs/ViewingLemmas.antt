@@ -1,3 +1,4 @@
+-- Serves Views.antt.
 -- Views as finite maps: what a step and a split change.
 use Rattle.std.proofs.Common.{◌≡◌, ◌≢◌, ℕ, zero, suc, ◌+◌, ◌<◌, true, false, not, eqb, cond, List, [], ◌∷◌, ◌++◌}
 use Rattle.std.proofs.Common.{length, length-append, set, Option, Some, None, refl, sym, ap, ◌∙◌, arith}

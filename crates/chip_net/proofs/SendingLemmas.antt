@@ -1,3 +1,4 @@
+-- Serves Roots.antt.
 -- A feed of the root: each of its three events is due when it is made, and nothing is held after it.
 use Rattle.std.proofs.Common.{◌≡◌, ◌≢◌, ℕ, ◌+◌, ◌<◌, ◌≤◌, Bool, true, false, cond, eqb, List, [], ◌∷◌, ◌++◌, sum, Some, None}
 use Rattle.std.proofs.Common.{refl, sym, ap, ◌∙◌, subst, arith, inr, append_assoc, true≢false}
@@ -15,8 +16,8 @@ use Rattle.chip_part.proofs.RuleLemmas.{met_rules}
 use Rattle.chip_core.specs.Core.{Step, Clear, Put, Feed, Part, Out, Reply, opened, does, unmet}
 use Rattle.chip_net.specs.Roots.{RootKnown, root_part, root_after, has_ended, all_given, IsDueForRoot}
 use Rattle.chip_net.specs.Roots.{MakesEvent, HoldsNothing, Feeds, LooksInVain}
-use Rattle.chip_net.proofs.Viewing.{part_append}
-use Rattle.chip_net.proofs.Rooting.{root_step, holds_by, held_clear}
+use Rattle.chip_net.proofs.ViewingLemmas.{part_append}
+use Rattle.chip_net.proofs.RootingLemmas.{root_step, holds_by, held_clear}
 
 -- a look leaves what was sent
 sent_clear : (e i : ℕ) (o : Out) → sent_counts (link_after (Clear e) 0 i o) ≡ sent_counts o.link

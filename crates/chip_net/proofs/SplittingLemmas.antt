@@ -1,3 +1,4 @@
+-- Serves Views.antt.
 -- A part that is handed on stands in the new view alone.
 use Rattle.std.proofs.Common.{◌≡◌, ◌≢◌, ◌⊎◌, ℕ, zero, suc, eqb, List, [], ◌∷◌, ◌++◌, length, set, Option, Some, refl}
 use Rattle.std.proofs.Common.{sym, ap, ◌∙◌, subst, ⊎_elim, inl, inr}
@@ -14,7 +15,7 @@ use Rattle.chip_core.specs.Histories.{done_by}
 use Rattle.chip_part.specs.Setting.{Setting}
 use Rattle.chip_net.specs.Views.{View, find, drop_part, only, without, alone}
 use Rattle.chip_net.specs.Rule.{Kept}
-use Rattle.chip_net.proofs.Viewing.{none_some, set_there, dropped_here, dropped_else, only_finds}
+use Rattle.chip_net.proofs.ViewingLemmas.{none_some, set_there, dropped_here, dropped_else, only_finds}
 
 at_end : {A : Type 0} (l : List A) (a b : A) (j : ℕ) → get_elem? (l ++ a ∷ []) j ≡ some b
     → (get_elem? l j ≡ some b) ⊎ ((j ≡ length l) × (a ≡ b))

@@ -1,3 +1,4 @@
+-- Serves Core.antt of chip_core.
 -- Where the stopper did nothing, no claim is refused, and no seal halts a vertex.
 use Rattle.std.proofs.Common.{◌≡◌, ℕ, ◌==◌, ◌&&◌, Bool, true, false, not, cond, eqb, eqb-true, List, [], ◌∷◌, ◌++◌}
 use Rattle.std.proofs.Common.{Option, Some, None, refl, sym, ap, ◌∙◌, arith, eq-eqb}

@@ -1,3 +1,4 @@
+-- Serves Finish.antt, Roots.antt.
 -- What the root makes of its reads.
 use Rattle.std.proofs.Common.{◌≡◌, ℕ, zero, suc, ◌<◌, ◌≤◌, sum, ◌||◌, ◌&&◌, Bool, not, true, false, List, [], ◌∷◌, length, map}
 use Rattle.std.proofs.Common.{get_or, slice_index, Option, Some, None, is_some, Contains, refl, sym, ap, ◌∙◌, subst}
@@ -33,9 +34,9 @@ use Rattle.chip_core.proofs.ClosingLemmas.{all_ended}
 use Rattle.chip_core.proofs.OutcomeLemmas.{never_negative, comes, in_range, is_played}
 use Rattle.chip_net.specs.Roots.{RootKnown, root_part, root_after, fed_by}
 use Rattle.chip_net.specs.Finish.{reads_from, IsReadOut, TallyState, limit_at, seal_at, IsReading, IsOneEnd, Finishes}
-use Rattle.chip_net.proofs.Viewing.{part_append}
-use Rattle.chip_net.proofs.Reading.{reads_feed_none, reads_given}
-use Rattle.chip_net.proofs.Unsealed.{never_sealed}
+use Rattle.chip_net.proofs.ViewingLemmas.{part_append}
+use Rattle.chip_net.proofs.ReadingLemmas.{reads_feed_none, reads_given}
+use Rattle.chip_net.proofs.UnsealedLemmas.{never_sealed}
 
 none_listed : (v : ℕ) → Contains [] v → ⊥
 none_listed v at = let l = at.1 in absurd (omega arith)

@@ -1,3 +1,4 @@
+-- Serves Feeding.antt.
 -- What feeds, polls and the end leave of the root: what was fed, what may be fed still, and whether the end is noted.
 use Rattle.std.proofs.Common.{◌≡◌, ℕ, zero, suc, ◌+◌, ◌-◌, ◌<◌, Bool, true, List, [], ◌∷◌, ◌++◌, map}
 use Rattle.std.proofs.Common.{Some, None, All, sum, refl, sym, ap, ◌∙◌, subst, arith, append-nil, append_assoc, ⊎_elim}
@@ -14,9 +15,9 @@ use Rattle.chip_net.specs.Tokens.{NetId}
 use Rattle.chip_net.specs.declared.root.RootState.{RootState}
 use Rattle.chip_net.specs.Roots.{RootKnown, root_part, root_after, has_ended, fed_by, all_given, Feeds, LooksInVain}
 use Rattle.chip_net.specs.Roots.{feed_steps, settles_from, IsPolling, Ends}
-use Rattle.chip_net.proofs.Viewing.{part_append}
+use Rattle.chip_net.proofs.ViewingLemmas.{part_append}
 use Rattle.chip_crew.specs.Crew.{Polled}
-use Rattle.chip_crew.proofs.Owning.{true_or_false}
+use Rattle.chip_crew.proofs.OwningLemmas.{true_or_false}
 use Rattle.chip_crew.specs.Feeding.{Left, pairs, MayFeed, MayFeedLeft, FeedsNext, EndsAfter, FeedsOnce, IsLed}
 
 -- ---- events of the root

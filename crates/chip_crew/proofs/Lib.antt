@@ -1,7 +1,7 @@
-pub mod Queueing
-pub mod Gathering
-pub mod Owning
-pub mod Polling
+pub mod QueueingLemmas
+pub mod GatheringLemmas
+pub mod OwningLemmas
+pub mod PollingLemmas
 pub mod FeedLemmas
-pub mod Crossing
-pub mod Finishing
+pub mod CrossingLemmas
+pub mod FinishingLemmas

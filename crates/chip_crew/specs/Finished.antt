@@ -11,8 +11,8 @@ use Rattle.chip_crew.specs.Crew.{CrewId, AreActors}
 use Rattle.chip_crew.specs.Feeding.{Left, pairs}
 use Rattle.chip_crew.specs.Ending.{EndsLed, StaysUnfinished}
 use Rattle.chip_crew.specs.Gathering.{IsMissing}
-use Rattle.chip_crew.specs.Staff.{SomeShut}
-use Rattle.chip_crew.specs.declared.staff.Joined.{Joined}
+use Rattle.chip_crew.specs.Handed.{SomeShut}
+use Rattle.chip_crew.specs.declared.joining.Joined.{Joined}
 use Rattle.chip_crew.specs.declared.plan.Plan.{Plan}
 use Rattle.chip_crew.specs.declared.play.Finished.{Finished}
 use Rattle.chip_crew.specs.declared.fault.CrewFault.{CrewFault}
@@ -79,8 +79,8 @@ IsClosing crew feeds old turns joined fault.Total = ⊥
 IsClosing crew feeds old turns joined fault.NoMemory = ⊥
 IsClosing crew feeds old turns joined fault.Spawn = ⊥
 IsClosing crew feeds old turns joined fault.GateShut = joined.passed ≡ false
-IsClosing crew feeds old turns joined (fault.Doubled v) = (joined.passed ≡ true) × IsMissing joined.roll (fault.Doubled v)
-IsClosing crew feeds old turns joined (fault.Lost v) = (joined.passed ≡ true) × IsMissing joined.roll (fault.Lost v)
+IsClosing crew feeds old turns joined (fault.Doubled v) = (joined.passed ≡ true) × IsMissing joined.gathering (fault.Doubled v)
+IsClosing crew feeds old turns joined (fault.Lost v) = (joined.passed ≡ true) × IsMissing joined.gathering (fault.Lost v)
 IsClosing crew feeds old turns joined (fault.Unfinished deficit root) =
     (joined.passed ≡ true) × StaysUnfinished turns feeds old root deficit
 

@@ -4,5 +4,5 @@ pub mod Feeding
 pub mod Ending
 pub mod Ledger
 pub mod Gathering
-pub mod Staff
+pub mod Handed
 pub mod Finished

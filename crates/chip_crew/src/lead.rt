@@ -1,19 +1,19 @@
 //! What worker 0 does beside: it seals, it feeds, and it polls the root.
 
 ghost use Rattle.std.specs.Prelude.{◌≡◌, IfSome};
-ghost use Rattle.chip_crew.specs.Staff.{TellsShut, IsHelm};
+ghost use Rattle.chip_crew.specs.Handed.{TellsShut, IsLead};
 
 use crate::feeding::feed_once;
 use crate::plan::{Gate, SealAt};
-use crate::queue::Room;
-use crate::worker::{Floor, Shift};
+use crate::queue::Crew;
+use crate::worker::{Handed, Shared};
 use chip_net::{Net, Root, RootState, Stopper};
 use std::marker::{Model, PhantomData};
 use std::sync::atomic::Ordering::SeqCst;
 
 /// What worker 0 has beside its actors.
 #[derive(Drop)]
-pub(crate) struct Helm<'a> {
+pub(crate) struct Lead<'a> {
     /// The root, which it polls after each of its turns.
     pub root: Root,
     /// What it feeds, a vertex and its chips each, before it notes the end; `None` where the end is noted.
@@ -24,9 +24,9 @@ pub(crate) struct Helm<'a> {
 
 /// What worker 0 hands back, of which it is known that it polled the root so often.
 #[derive(Drop)]
-pub(crate) struct Led<B: Room> {
+pub(crate) struct LeadHanded<B: Crew> {
     /// As of every worker.
-    pub shift: Shift,
+    pub handed: Handed,
     /// The root.
     pub root: Root,
     /// How often it was polled, up to the number of turns.
@@ -34,15 +34,15 @@ pub(crate) struct Led<B: Room> {
     pub of: PhantomData<B>,
 }
 
-impl<B: Room> Model for Led<B> {
+impl<B: Crew> Model for LeadHanded<B> {
     ghost use Rattle.chip_net.specs.Roots.{RootKnown};
-    ghost use Rattle.chip_crew.specs.Staff.{HasLed};
+    ghost use Rattle.chip_crew.specs.Handed.{HasLed};
 
     ghost Value = { RootKnown };
 
     ghost view = { λ a. a.root };
 
-    ghost invariant = { λ a. HasLed B.crew B.feeds B.root B.turns B.shut a.shift a.root a.polls };
+    ghost invariant = { λ a. HasLed B.crew B.feeds B.root B.turns B.shut a.handed a.root a.polls };
 }
 
 /// Seals, where this is the turn for it.
@@ -58,21 +58,21 @@ fn seal_before(net: &Net, seal: &mut Option<(Stopper, SealAt)>, turn: u64)
     }
 }
 
-impl<'a, B: Room, G: Gate> Floor<'a, B, G> {
+impl<'a, B: Crew, G: Gate> Shared<'a, B, G> {
     /// The turns of worker 0, with a feed before and a poll after each, until the root is closed or it is told to stop,
     /// where it tells the others.
-    pub fn lead(&self, helm: Helm) -> Led<B>
+    pub fn lead(&self, lead: Lead) -> LeadHanded<B>
         requires net { self.now.net.now ≡ B.crew.net }
         requires turns { self.now.turns ≡ B.turns }
-        requires helm { IsHelm B.crew B.feeds B.root helm }
+        requires lead { IsLead B.crew B.feeds B.root lead }
         requires gate { TellsShut (G.may_shut self.now.gate.now 0) self.now.turns B.shut }
     {
-        let Helm {
+        let Lead {
             mut root,
             mut feeds,
             mut seal,
-        } = helm;
-        let mut pass = self.line.pass();
+        } = lead;
+        let mut pass = self.queue.pass();
         let mut kept = None;
         let mut polls = 0;
         let mut passed = true;
@@ -99,8 +99,8 @@ impl<'a, B: Room, G: Gate> Floor<'a, B, G> {
                 }
             }
         }
-        Led {
-            shift: Shift { kept, passed },
+        LeadHanded {
+            handed: Handed { kept, passed },
             root,
             polls,
             of: PhantomData,

@@ -2,19 +2,18 @@
 //!
 //! The rule of the queue (`queue.rt`) is that every actor in it was opened by this net. A worker takes an actor,
 //! gives it a turn and puts it back (`worker.rt`); worker 0 has also the root, which it feeds (`feeding.rt`) and polls,
-//! and the stopper (`lead.rt`). Once all have ended there is a last poll (`ending.rt`), and the actors are gathered (`roll.rt`).
+//! and the stopper (`lead.rt`). Once all have ended there is a last poll (`ending.rt`), and the actors are gathered (`gathering.rt`).
 #![tactic(auto)]
 
-mod boxed;
 mod ending;
 mod fault;
 mod feeding;
+mod gathering;
+mod joining;
 mod lead;
 mod plan;
 mod play;
 mod queue;
-mod roll;
-mod staff;
 mod worker;
 
 pub use fault::CrewFault;

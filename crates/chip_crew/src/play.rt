@@ -3,23 +3,22 @@
 ghost use Rattle.std.specs.Prelude.{◌≡◌, ◌<◌, ◌≤◌, true, [], All, length, Some, None, IfOk, IfErr, IfSome};
 ghost use Rattle.std.specs.Vec.{vec_capacity};
 ghost use Rattle.chip_net.specs.Roots.{RootKnown};
-ghost use Rattle.chip_crew.specs.Staff.{HasPolled, IsHelm, AllTellShut};
+ghost use Rattle.chip_crew.specs.Handed.{HasPolled, IsLead, AllTellShut};
 ghost use Rattle.crossbeam_queue.specs.Passes.{IsPassOf};
 ghost use Rattle.std.specs.Option.{option_copied};
 ghost use Rattle.chip_crew.specs.Crew.{IsOurs};
 ghost use Rattle.chip_crew.specs.Feeding.{MayFeedLeft};
-ghost use Rattle.chip_crew.specs.Gathering.{IsRoll};
+ghost use Rattle.chip_crew.specs.Gathering.{IsGathering};
 ghost use Rattle.chip_crew.specs.Finished.{HasFinished, IsFinished, IsClosing, IsStopped, IsFaultOf};
 
-use crate::boxed::BoxedActor;
 use crate::ending::last_poll;
 use crate::fault::CrewFault;
-use crate::lead::Helm;
+use crate::gathering::{Gathering, gather, new_gathering, note};
+use crate::joining::{Joined, Started, run_workers};
+use crate::lead::Lead;
 use crate::plan::{Gate, Plan};
-use crate::queue::{Line, LinePass, Puts, Room, Takes};
-use crate::roll::{Roll, empty_roll, gathered, note};
-use crate::staff::{Joined, Started, staff};
-use crate::worker::Floor;
+use crate::queue::{Crew, Puts, Queue, QueuePass, Takes};
+use crate::worker::Shared;
 use chip_graph::Game;
 use chip_net::{Actor, Net, Opened, Receipt, Root};
 use chip_part::Setting;
@@ -42,48 +41,45 @@ pub struct Finished {
 }
 
 /// Puts the actors into the queue, in their order. One that finds no place there is noted.
-fn fill<B: Room>(
-    alloc: Global,
-    line: &Line<B>,
-    pass: &mut LinePass,
+fn fill<B: Crew>(
+    queue: &Queue<B>,
+    pass: &mut QueuePass,
     actors: Vec<Actor>,
-    roll: &mut Roll,
-) -> Result<(), AllocError>
-    requires pass { IsPassOf line.now pass.old }
+    gathering: &mut Gathering,
+)
+    requires pass { IsPassOf queue.now pass.old }
     requires actors { All (IsOurs B.crew) actors.items }
-    requires roll { IsRoll B.crew roll.old }
-    ensures pass { IsPassOf line.now pass.new }
-    ensures roll { IsRoll B.crew roll.new }
+    requires gathering { IsGathering B.crew gathering.old }
+    ensures pass { IsPassOf queue.now pass.new }
+    ensures gathering { IsGathering B.crew gathering.new }
 {
     for actor in actors {
-        let boxed = BoxedActor::new(alloc, actor)?;
-        if let Err(actor) = line.try_push_as::<Puts<B>>(pass, boxed) {
-            note::<B>(roll, actor.into_actor());
+        if let Err(actor) = queue.try_push_as::<Puts<B>>(pass, actor) {
+            note::<B>(gathering, actor);
         }
     }
-    Ok(())
 }
 
 /// Notes all actors that are in the queue.
-fn drain<B: Room>(line: &Line<B>, mut pass: LinePass, roll: &mut Roll)
-    requires pass { IsPassOf line.now pass }
-    requires roll { IsRoll B.crew roll.old }
-    ensures roll { IsRoll B.crew roll.new }
+fn drain<B: Crew>(queue: &Queue<B>, mut pass: QueuePass, gathering: &mut Gathering)
+    requires pass { IsPassOf queue.now pass }
+    requires gathering { IsGathering B.crew gathering.old }
+    ensures gathering { IsGathering B.crew gathering.new }
 {
-    for _ in 0..line.capacity() {
-        match line.try_pop_as::<Takes<B>>(&mut pass) {
-            Some(actor) => note::<B>(roll, actor.into_actor()),
+    for _ in 0..queue.capacity() {
+        match queue.try_pop_as::<Takes<B>>(&mut pass) {
+            Some(actor) => note::<B>(gathering, actor),
             None => break,
         }
     }
 }
 
 /// Tells how it ended, once all workers have.
-fn closing<B: Room>(net: &Net, joined: Joined, turns: u64) -> Result<Finished, CrewFault>
+fn end_play<B: Crew>(net: &Net, joined: Joined, turns: u64) -> Result<Finished, CrewFault>
     requires net { net.now ≡ B.crew.net }
     requires turns { turns ≡ B.turns }
     requires root { HasPolled B.crew B.feeds B.root B.turns joined.root joined.polls }
-    requires roll { IsRoll B.crew joined.roll }
+    requires gathering { IsGathering B.crew joined.gathering }
     ensures passed { IfOk result (λ _. joined.passed ≡ true) }
     ensures finished { IfOk result (HasFinished B.crew B.feeds B.root) }
     ensures stopped { IfErr result (IsClosing B.crew B.feeds B.root B.turns joined) }
@@ -91,13 +87,13 @@ fn closing<B: Room>(net: &Net, joined: Joined, turns: u64) -> Result<Finished, C
     let Joined {
         root,
         polls,
-        roll,
+        gathering,
         passed,
     } = joined;
     if !passed {
         return Err(CrewFault::GateShut);
     }
-    let actors = gathered::<B>(roll)?;
+    let actors = gather::<B>(gathering)?;
     match last_poll(net, root, polls, turns) {
         Ok((outcome, receipt)) => Ok(Finished {
             outcome,
@@ -109,80 +105,80 @@ fn closing<B: Room>(net: &Net, joined: Joined, turns: u64) -> Result<Finished, C
 }
 
 /// What a crew needs beside its net. All its memory is taken here, before a worker starts.
-struct Ground<B: Room> {
-    line: Line<B>,
-    pass: LinePass,
+struct Prepared<B: Crew> {
+    queue: Queue<B>,
+    pass: QueuePass,
     others: Vec<Started<B>>,
-    roll: Roll,
+    gathering: Gathering,
 }
 
-/// The ground of a crew of so many workers, with the actors in their queue.
-fn prepared<B: Room>(
+/// What a crew of so many workers begins with: the actors in their queue.
+fn prepare<B: Crew>(
     alloc: Global,
     actors: Vec<Actor>,
     workers: usize,
-) -> Result<Ground<B>, AllocError>
+) -> Result<Prepared<B>, AllocError>
     requires actors { All (IsOurs B.crew) actors.items }
     requires count { length actors.items ≡ B.crew.net.setting.game.graph.vertices }
     requires some { 0 < B.crew.net.setting.game.graph.vertices }
-    ensures pass { IfOk result (λ k. IsPassOf k.line k.pass) }
+    ensures pass { IfOk result (λ k. IsPassOf k.queue k.pass) }
     ensures others { IfOk result (λ k. (k.others.items ≡ []) × (workers ≤ vec_capacity k.others)) }
-    ensures roll { IfOk result (λ k. IsRoll B.crew k.roll) }
+    ensures gathering { IfOk result (λ k. IsGathering B.crew k.gathering) }
 {
     let vertices = actors.len();
-    let mut roll = empty_roll::<B>(alloc, vertices)?;
+    let mut gathering = new_gathering::<B>(alloc, vertices)?;
     let others = Vec::with_capacity(alloc, workers)?;
-    let (line, mut pass) = Line::<B>::ruled(alloc, vertices)?;
-    fill(alloc, &line, &mut pass, actors, &mut roll)?;
-    Ok(Ground {
-        line,
+    let (queue, mut pass) = Queue::<B>::ruled(alloc, vertices)?;
+    fill(&queue, &mut pass, actors, &mut gathering);
+    Ok(Prepared {
+        queue,
         pass,
         others,
-        roll,
+        gathering,
     })
 }
 
 /// All workers work until they have ended, and the actors are gathered.
-fn worked<R: Threads + Wait, B: Room + Send + Sync, G: Gate + Sync>(
+fn work_all<R: Threads + Wait, B: Crew + Send + Sync, G: Gate + Sync>(
     rt: &R,
     net: &Net,
-    ground: Ground<B>,
-    helm: Helm,
+    prepared: Prepared<B>,
+    lead: Lead,
     plan: &Plan,
     gate: &G,
 ) -> Result<Finished, CrewFault>
     requires net { net.now ≡ B.crew.net }
-    requires pass { IsPassOf ground.line ground.pass }
-    requires others { (ground.others.items ≡ []) × (plan.now.workers ≤ vec_capacity ground.others) }
-    requires roll { IsRoll B.crew ground.roll }
+    requires pass { IsPassOf prepared.queue prepared.pass }
+    requires others { (prepared.others.items ≡ []) × (plan.now.workers ≤ vec_capacity prepared.others) }
+    requires gathering { IsGathering B.crew prepared.gathering }
     requires turns { plan.now.turns ≡ B.turns }
-    requires helm { IsHelm B.crew B.feeds B.root helm }
+    requires lead { IsLead B.crew B.feeds B.root lead }
     requires some_workers { 0 < plan.now.workers }
     requires gate { AllTellShut (G.may_shut gate.now) plan.now.workers plan.now.turns B.shut }
     ensures finished { IfOk result (HasFinished B.crew B.feeds B.root) }
     ensures stopped { IfErr result (IsStopped B.crew B.feeds B.root B.turns B.shut) }
 {
-    let Ground {
-        line,
+    let Prepared {
+        queue,
         pass,
         others,
-        roll,
-    } = ground;
+        gathering,
+    } = prepared;
     let stop = AtomicBool::new(false);
-    let floor = Floor {
+    let shared = Shared {
         net,
-        line: &line,
+        queue: &queue,
         stop: &stop,
         gate,
         turns: plan.turns,
     };
-    let mut joined = staff(rt, &floor, helm, plan.workers, others, roll)?;
-    drain(&line, pass, &mut joined.roll);
-    closing::<B>(net, joined, plan.turns)
+    let mut joined = run_workers(rt, &shared, lead, plan.workers, others, gathering)?;
+    drain(&queue, pass, &mut joined.gathering);
+    end_play::<B>(net, joined, plan.turns)
 }
 
 /// Plays on a net that has just been opened, and feeds it.
-fn played_on<R: Threads + Wait, B: Room + Send + Sync, G: Gate + Sync>(
+fn play_on<R: Threads + Wait, B: Crew + Send + Sync, G: Gate + Sync>(
     rt: &R,
     alloc: Global,
     opened: Opened,
@@ -209,13 +205,13 @@ fn played_on<R: Threads + Wait, B: Room + Send + Sync, G: Gate + Sync>(
         actors,
         stopper,
     } = opened;
-    let helm = Helm {
+    let lead = Lead {
         root,
         feeds,
         seal: stopper.zip(plan.seal),
     };
-    let ground = prepared::<B>(alloc, actors, plan.workers as usize)?;
-    worked(rt, &net, ground, helm, plan, gate)
+    let prepared = prepare::<B>(alloc, actors, plan.workers as usize)?;
+    work_all(rt, &net, prepared, lead, plan, gate)
 }
 
 /// Plays a game on a net of its own by as many threads as the plan says, and feeds it where there are feeds: a vertex and
@@ -240,7 +236,7 @@ pub fn run_with<R: Threads + Wait, G: Gate + Sync>(
     let ring = plan.ring_for(game, feeds)?;
     let setting = Setting::of_copy(alloc, game, ring, feeds.is_some())?;
     let opened = Net::of(alloc, setting, plan.trace_rows, plan.seal.is_some())?;
-    played_on::<R, Brand, G>(rt, alloc, opened, feeds, &plan, gate)
+    play_on::<R, Brand, G>(rt, alloc, opened, feeds, &plan, gate)
 }
 
 /// Does what `run_with` does where nothing is fed.

@@ -1,6 +1,6 @@
 //! The queue of the actors, and the rule that it keeps.
 
-use crate::boxed::BoxedActor;
+use chip_net::Actor;
 use crossbeam_queue::protocol::{Outcome, Protocol};
 use crossbeam_queue::{Pass, RuledArrayQueue};
 use std::collections::LinkedList;
@@ -8,7 +8,7 @@ use std::marker::{Brand, PhantomData};
 
 /// Which net's actors a crew shares, the root with which it begins, what it has to feed, how many turns each worker makes
 /// at most, and what is known where a gate was shut. Proofs alone know it.
-pub(crate) trait Room {
+pub(crate) trait Crew {
     ghost use Rattle.std.specs.Prelude.{ℕ};
     ghost use Rattle.chip_crew.specs.Crew.{CrewId};
     ghost use Rattle.chip_crew.specs.Feeding.{Left};
@@ -25,7 +25,7 @@ pub(crate) trait Room {
     ghost shut: { Type 0 };
 }
 
-impl Room for Brand {
+impl Crew for Brand {
     ghost use Rattle.std.specs.Prelude.{None};
     ghost use Rattle.chip_crew.specs.Crew.{no_crew};
     ghost use Rattle.chip_net.specs.Roots.{new_root};
@@ -44,8 +44,8 @@ impl Room for Brand {
 /// What a thread did at the queue: the actors that it took from there, and those that it put there, each in their order.
 /// No value of it is made.
 pub(crate) struct Ledger {
-    pub taken: LinkedList<BoxedActor>,
-    pub put: LinkedList<BoxedActor>,
+    pub taken: LinkedList<Actor>,
+    pub put: LinkedList<Actor>,
 }
 
 /// The rule: every actor in the queue was opened by this net.
@@ -53,7 +53,7 @@ pub(crate) struct Owned<B> {
     of: PhantomData<B>,
 }
 
-impl<B: Room> Protocol<BoxedActor, Ledger> for Owned<B> {
+impl<B: Crew> Protocol<Actor, Ledger> for Owned<B> {
     ghost use Rattle.std.specs.Prelude.{All};
     ghost use Rattle.chip_crew.specs.Crew.{IsOurs};
     ghost use Rattle.chip_crew.specs.Ledger.{new_ledger};
@@ -68,7 +68,7 @@ pub(crate) struct Takes<B> {
     of: PhantomData<B>,
 }
 
-impl<B: Room> Outcome<BoxedActor, Ledger> for Takes<B> {
+impl<B: Crew> Outcome<Actor, Ledger> for Takes<B> {
     ghost use Rattle.std.specs.Prelude.{◌≡◌};
     ghost use Rattle.chip_crew.specs.Crew.{IsOurs};
     ghost use Rattle.chip_crew.specs.Ledger.{with_taken};
@@ -81,7 +81,7 @@ pub(crate) struct Puts<B> {
     of: PhantomData<B>,
 }
 
-impl<B: Room> Outcome<BoxedActor, Ledger> for Puts<B> {
+impl<B: Crew> Outcome<Actor, Ledger> for Puts<B> {
     ghost use Rattle.std.specs.Prelude.{◌≡◌};
     ghost use Rattle.chip_crew.specs.Crew.{IsOurs};
     ghost use Rattle.chip_crew.specs.Ledger.{with_put};
@@ -89,9 +89,8 @@ impl<B: Room> Outcome<BoxedActor, Ledger> for Puts<B> {
     ghost then = { λ old a new. IsOurs B.crew a × (new ≡ with_put old a) };
 }
 
-/// The queue of the actors that no worker has at the moment. It has each in a box, so that going in or out moves a
-/// pointer and not the actor.
-pub(crate) type Line<B> = RuledArrayQueue<BoxedActor, Ledger, Owned<B>>;
+/// The queue of the actors that no worker has at the moment.
+pub(crate) type Queue<B> = RuledArrayQueue<Actor, Ledger, Owned<B>>;
 
 /// A thread's right to use the queue. Proofs alone know its ledger.
-pub(crate) type LinePass = Pass<BoxedActor, Ledger>;
+pub(crate) type QueuePass = Pass<Actor, Ledger>;

@@ -1,4 +1,4 @@
-use Rattle.chip_crew.proofs.Polling.{ends_well}
+use Rattle.chip_crew.proofs.PollingLemmas.{ends_well}
 use Rattle.chip_crew.proofs.ending.last_poll.Goals as goal
 
 pub returns-in-Ok : goal.returns-in-Ok

@@ -4,8 +4,8 @@ use Rattle.std.specs.Option.{option_copied}
 use Rattle.chip_part.specs.Setting.{Setting, setting_with}
 use Rattle.chip_crew.specs.Crew.{CrewId}
 use Rattle.chip_crew.specs.Finished.{IsCrewFor}
-use Rattle.chip_crew.proofs.Owning.{ours_by}
-use Rattle.chip_crew.proofs.Finishing.{root_opens, may_begin, finished_for, stopped_for}
+use Rattle.chip_crew.proofs.OwningLemmas.{ours_by}
+use Rattle.chip_crew.proofs.FinishingLemmas.{root_opens, may_begin, finished_for, stopped_for}
 use Rattle.chip_crew.proofs.play.run_with.Goals as goal
 
 -- there are feeds where what they are is known
@@ -13,14 +13,14 @@ copied_some : (feeds : Option (Bor (List (ℕ × ℕ)))) → is_some feeds ≡ i
 copied_some None = refl
 copied_some (Some feeds) = refl
 
-pub played_on-requires-clause-actors : goal.played_on-requires-clause-actors
-played_on-requires-clause-actors g c κs within = ours_by c.in_ok-opened.opened.net c.args.plan.trace_rows
+pub play_on-requires-clause-actors : goal.play_on-requires-clause-actors
+play_on-requires-clause-actors g c κs within = ours_by c.in_ok-opened.opened.net c.args.plan.trace_rows
     c.in_ok-setting.setting.game.graph.vertices c.in_ok-opened.opened.actors.items
     (ap (λ (s : Setting). s.game.graph.vertices) c.in_ok-opened.ensures.setting) c.in_ok-opened.ensures.count
     c.in_ok-opened.ensures.actors
 
-pub played_on-requires-clause-feeds : goal.played_on-requires-clause-feeds
-played_on-requires-clause-feeds g c κs within = (
+pub play_on-requires-clause-feeds : goal.play_on-requires-clause-feeds
+play_on-requires-clause-feeds g c κs within = (
   refl,
   may_begin c.args.game.now (option_copied c.args.feeds) c.args.plan c.in_ok-opened.opened.net
       c.in_ok-opened.opened.root _ c.in_ok-ring.ensures.0
@@ -40,8 +40,8 @@ returns-clause-finished g c =
       room = refl;
     } in
     finished_for c.args.game.now (option_copied c.args.feeds) c.args.plan crew c.in_ok-opened.opened.root
-    c.played_on.result opened (root_opens crew c.args.plan _ _ c.in_ok-opened.ensures.root c.is_some-2.ensures)
-    c.played_on.ensures.finished
+    c.play_on.result opened (root_opens crew c.args.plan _ _ c.in_ok-opened.ensures.root c.is_some-2.ensures)
+    c.play_on.ensures.finished
 
 pub returns-clause-fault : goal.returns-clause-fault
 returns-clause-fault g c =
@@ -54,5 +54,5 @@ returns-clause-fault g c =
       room = refl;
     } in
     stopped_for c.args.game.now (option_copied c.args.feeds) c.args.plan (g.G.Gate.may_shut c.args.gate.now) crew
-    c.in_ok-opened.opened.root c.played_on.result opened
-    (root_opens crew c.args.plan _ _ c.in_ok-opened.ensures.root c.is_some-2.ensures) c.played_on.ensures.stopped
+    c.in_ok-opened.opened.root c.play_on.result opened
+    (root_opens crew c.args.plan _ _ c.in_ok-opened.ensures.root c.is_some-2.ensures) c.play_on.ensures.stopped

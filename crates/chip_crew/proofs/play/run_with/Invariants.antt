@@ -1,10 +1,10 @@
-use Rattle.chip_crew.specs.Staff.{SomeShut}
+use Rattle.chip_crew.specs.Handed.{SomeShut}
 use Rattle.std.specs.Option.{option_copied}
 use Rattle.chip_crew.proofs.play.run_with.Given as goal
 
 -- the crew of this net
-abbrev pub ghosts-played_on : goal.ghosts-played_on
-ghosts-played_on g a = record {
+abbrev pub ghosts-play_on : goal.ghosts-play_on
+ghosts-play_on g a = record {
   crew = record { net = a.opened.net; room = a.plan.now.trace_rows };
   root = a.opened.root;
   feeds = option_copied a.feeds;

@@ -1,0 +1,34 @@
+-- Serves no definition, but what the kit asks of values that go to other threads.
+-- What the threads of a crew share.
+use mir.Syntax.{Lifetime}
+use base.Fml.{Lft}
+use denote.Ref.{NamedLft, ShrRef}
+use denote.RattleType.{RattleType}
+use denote.Param.Send.{IsSend, IsSync, sendable, shr_send}
+use Rattle.std.proofs.Crossing.{crosses, frees, send, sync}
+use Rattle.std.proofs.sync.atomic.AtomicBool.TheSendSync as flag
+use Rattle.crossbeam_queue.proofs.array_queue.Slotted.TheSendSync as queue
+use Rattle.chip_net.proofs.net.Net.TheSendSync as net
+use Rattle.chip_net.proofs.CrossingLemmas.{actor_send, net_crosses}
+use Rattle.chip_crew.specs.declared.queue.Crew.{Ghosts}
+use Rattle.chip_crew.specs.contracts.worker.Shared as shared
+use Rattle.chip_crew.specs.contracts.lead.LeadHanded as led
+use Rattle.chip_crew.specs.contracts.lead.Lead as lead
+
+-- threads may share it where they may share the gate
+pub shared_sync : (ν : NamedLft) (B G : RattleType) (r : Ghosts B.Denot) → IsSync G → IsSync (shared.the_row ν B G r)
+shared_sync ν B G r gate =
+    search (crosses, sendable, net.the_sync, flag.the_sync, actor_send, queue.the_sync, frees, send, sync) depth 60
+
+-- so a `&` to it may go to a thread
+pub shared_ref_send : (ℓ : Lifetime) (κ : Lft) (ν : NamedLft) (B G : RattleType) (r : Ghosts B.Denot) → IsSync G
+    → IsSend (ShrRef ℓ κ (shared.the_row ν B G r))
+shared_ref_send ℓ κ ν B G r gate = shr_send ℓ κ (shared.the_row ν B G r) (shared_sync ν B G r gate)
+
+-- what worker 0 hands back may go to the thread that joins it
+pub lead_handed_send : (B : RattleType) (r : Ghosts B.Denot) → IsSend (led.the_row B r)
+lead_handed_send B r = search (crosses, sendable, net_crosses) depth 60
+
+-- worker 0 may take what it begins with
+pub lead_send : (ν : NamedLft) → IsSend (lead.the_row ν)
+lead_send ν = search (crosses, sendable, net_crosses) depth 60

@@ -1,0 +1,214 @@
+-- Serves Finished.antt, Feeding.antt, Plans.antt.
+-- What is known of a crew is known of the game that it played.
+use Rattle.std.proofs.Common.{◌≡◌, ◌+◌, ◌<◌, ◌≤◌, ℕ, zero, suc, Bool, true, false, not, if◌then◌else◌, List, [], ◌∷◌}
+use Rattle.std.proofs.Common.{All, sum, Option, Some, None, is_some, Result, Ok, Err, IfOk, IfErr, IfSome}
+use Rattle.std.proofs.Common.{sym, ◌∙◌, ap, subst, arith, ltb, ltb-true}
+use Rattle.std.proofs.lemmas.Bool.{and_parts}
+use Rattle.std.specs.Result.{IsErrAnd}
+use Rattle.chip_graph.specs.ChipGame.{ChipGame}
+use Rattle.chip_graph.specs.Limits.{max_total}
+use Rattle.chip_graph.specs.More.{HasMore, all_brought}
+use Rattle.chip_sequence.specs.declared.outcome.Outcome.{Outcome}
+use Rattle.chip_part.specs.Setting.{Setting, setting_with}
+use Rattle.chip_core.specs.Core.{Step}
+use Rattle.chip_net.specs.Tokens.{NetId}
+use Rattle.chip_net.specs.Roots.{RootKnown, new_root, has_ended, fed_by}
+use Rattle.chip_crew.specs.Plans.{is_plan, are_feeds, AreWithinTotal}
+use Rattle.chip_crew.specs.Crew.{CrewId}
+use Rattle.chip_crew.specs.Feeding.{Left, pairs, IsLed, MayFeed, MayFeedLeft}
+use Rattle.chip_crew.specs.Ending.{EndsWell, EndsLed}
+use Rattle.chip_crew.specs.Finished.{root_of, CanPlay, IsCrewFor, HasFinished, IsWhole, IsFinished, IsClosing, IsStopped}
+use Rattle.chip_crew.specs.Finished.{IsFaultOf}
+use Rattle.chip_crew.specs.Gathering.{IsMissing, IsGathering}
+use Rattle.chip_crew.specs.Handed.{HasPolled, SomeShut}
+use Rattle.chip_crew.specs.declared.joining.Joined.{Joined}
+use Rattle.chip_crew.specs.declared.plan.Plan.{Plan}
+use Rattle.chip_crew.specs.declared.play.Finished.{Finished}
+use Rattle.chip_crew.specs.declared.fault.CrewFault.{CrewFault}
+use Rattle.chip_crew.specs.declared.fault.CrewFault.TheVariants as fault
+use Rattle.chip_crew.proofs.GatheringLemmas.{placed}
+use Rattle.chip_crew.proofs.FeedLemmas.{polls_add, led_goes_on, over_has_fed}
+
+-- the root of a net that opens for the plan is the crew's
+pub root_opens : (crew : CrewId) (plan : Plan) (root : RootKnown) (stoppable : Bool)
+    → root ≡ new_root crew.net (if stoppable then None else Some []) → stoppable ≡ is_some plan.seal
+    → root ≡ root_of crew plan
+root_opens crew plan root stoppable is seal =
+    is ∙ ap (λ (b : Bool). new_root crew.net (if b then None else Some [])) seal
+
+-- the root of a net that opens to be fed may feed what the plan says
+each_fits : (game : ChipGame) (feeds : List (ℕ × ℕ)) → are_feeds game feeds ≡ true
+    → All (λ (p : ℕ × ℕ). (p.0 < game.graph.vertices) × (0 < p.1)) feeds
+each_fits game [] are k d less = absurd (omega (arith, less))
+each_fits game (pair ∷ rest) are zero d less =
+    let first = and_parts (ltb pair.0 game.graph.vertices) (ltb 0 pair.1) (and_parts _ (are_feeds game rest) are).0 in
+    (ltb-true _ _ first.0, ltb-true _ _ first.1)
+each_fits game (pair ∷ rest) are (suc k) d less =
+    each_fits game rest (and_parts _ (are_feeds game rest) are).1 k d (omega (arith, less))
+
+may_feed : (game : ChipGame) (feeds : List (ℕ × ℕ)) (ring : ℕ) (net : NetId) (root : RootKnown)
+    (stopper_did : Option (List Step)) → are_feeds game feeds ≡ true → AreWithinTotal game feeds
+    → net.setting ≡ setting_with game ring true → root ≡ new_root net stopper_did → MayFeed root feeds
+may_feed game feeds ring net root stopper_did are within setting is =
+    subst (λ (r : RootKnown). MayFeed r feeds) (sym is) (record {
+      not_ended = ap (λ (g : Setting). not g.fed) setting;
+      each = subst (λ (g : Setting). All (λ (p : ℕ × ℕ). (p.0 < g.game.graph.vertices) × (0 < p.1)) feeds) (sym setting)
+          (each_fits game feeds are);
+      within = subst (λ (g : Setting). sum g.game.start + all_brought [] + all_brought feeds ≤ max_total) (sym setting)
+          (omega (arith, within));
+    })
+
+-- so it may, where it is fed
+pub may_begin : (game : ChipGame) (feeds : Left) (plan : Plan) (net : NetId) (root : RootKnown)
+    (stopper_did : Option (List Step)) → CanPlay game feeds plan
+    → net.setting ≡ setting_with game plan.ring (is_some feeds) → root ≡ new_root net stopper_did
+    → MayFeedLeft root feeds
+may_begin game None plan net root stopper_did can setting is = tt
+may_begin game (Some feeds) plan net root stopper_did can setting is = may_feed game feeds plan.ring net root stopper_did
+    (and_parts (is_plan game plan) (are_feeds game feeds) can.within).1 can.total setting is
+
+-- ---- a crew that finished
+
+-- worker 0 led the root, which closed in the end: all is fed
+pub ends_fed : (crew : CrewId) (feeds : Left) (old : RootKnown) (turns : ℕ) (middle : RootKnown) (polls : ℕ)
+    (receipt : RootKnown) (o : Outcome) → HasPolled crew feeds old turns middle polls → EndsWell middle receipt o
+    → EndsLed feeds old receipt o
+ends_fed crew feeds old turns middle polls receipt o polled ends =
+    let noted : has_ended middle ≡ true =
+    sym (polls_add ends.polls middle ends.root ends.polled).ended_is ∙ ends.closed.1 in
+    record {
+      polls = polls;
+      led = middle;
+      is_led = subst (λ (l : Left). IsLed polls feeds old l middle)
+          (over_has_fed polled.left middle polled.may noted) polled.led;
+      ends = ends;
+    }
+
+-- without a seal no vertex is sealed
+pub unsealed_by : (plan : Plan) (crew : CrewId) (led : RootKnown)
+    → led.stopper_did ≡ (root_of crew plan).stopper_did → (receipt : RootKnown) (o : Outcome)
+    → EndsWell led receipt o → plan.seal ≡ None → o.sealed.items ≡ []
+unsealed_by plan crew led same receipt o ends none =
+    ends.finishes.unsealed ((polls_add ends.polls led ends.root ends.polled).stopper ∙ same
+    ∙ ap (λ (seal : Option _). (if is_some seal then None else Some [])) none)
+
+-- all was fed, once and in order, as the root finished
+fed_all : (feeds : Left) (plan : Plan) (crew : CrewId) (f : Finished)
+    → (finished : HasFinished crew feeds (root_of crew plan) f) → fed_by finished.ends.ends.root ≡ pairs feeds
+fed_all feeds plan crew f finished =
+    let ends = finished.ends in
+    let led = led_goes_on ends.polls feeds None (root_of crew plan) ends.led ends.is_led in
+    (polls_add ends.ends.polls ends.led ends.ends.root ends.ends.polled).fed ∙ led.fed
+
+-- the root that finished is that of the crew's net
+net_is : (feeds : Left) (plan : Plan) (crew : CrewId) (f : Finished)
+    → (finished : HasFinished crew feeds (root_of crew plan) f) → finished.ends.ends.root.net ≡ crew.net
+net_is feeds plan crew f finished =
+    let ends = finished.ends in
+    let led = led_goes_on ends.polls feeds None (root_of crew plan) ends.led ends.is_led in
+    (polls_add ends.ends.polls ends.led ends.ends.root ends.ends.polled).net ∙ led.net
+
+-- the game of the outcome is the one that has all chips at the start
+whole_by : (game whole : ChipGame) (feeds : Left) (net : NetId) (fed : List (ℕ × ℕ)) (ring : ℕ)
+    → net.setting ≡ setting_with game ring (is_some feeds) → fed ≡ pairs feeds
+    → (net.setting.fed ≡ false → whole ≡ net.setting.game) → HasMore net.setting.game fed whole
+    → IsWhole game feeds whole
+whole_by game whole None net fed ring setting is unfed more =
+    unfed (ap (λ (g : Setting). g.fed) setting) ∙ ap (λ (g : Setting). g.game) setting
+whole_by game whole (Some feeds) net fed ring setting is unfed more =
+    subst (λ (z : ChipGame × List (ℕ × ℕ)). HasMore z.0 z.1 whole)
+    (λ i. (ap (λ (g : Setting). g.game) setting i, is i)) more
+
+finished_by : (game : ChipGame) (feeds : Left) (plan : Plan) (crew : CrewId) (f : Finished)
+    → IsCrewFor game feeds plan crew → HasFinished crew feeds (root_of crew plan) f → IsFinished game feeds plan f
+finished_by game feeds plan crew f opened finished =
+    let ends = finished.ends in
+    let finishes = ends.ends.finishes in
+    let fed = fed_all feeds plan crew f finished in
+    let led = led_goes_on ends.polls feeds None (root_of crew plan) ends.led ends.is_led in
+    record {
+      crew = crew;
+      opened = opened;
+      finished = finished;
+      fed = fed;
+      whole = finishes.game;
+      whole_is = whole_by game finishes.game feeds ends.ends.root.net (fed_by ends.ends.root) plan.ring
+          (ap (λ (n : NetId). n.setting) (net_is feeds plan crew f finished) ∙ opened.setting) fed finishes.unfed
+          finishes.more;
+      played = λ none. finishes.played (unsealed_by plan crew ends.led led.stopper f.receipt f.outcome ends.ends none);
+    }
+
+pub finished_for : (game : ChipGame) (feeds : Left) (plan : Plan) (crew : CrewId) (old : RootKnown)
+    (r : Result Finished CrewFault) → IsCrewFor game feeds plan crew → old ≡ root_of crew plan
+    → IfOk r (HasFinished crew feeds old) → IfOk r (IsFinished game feeds plan)
+finished_for game feeds plan crew old (Ok f) opened is finished = finished_by game feeds plan crew f opened
+    (subst (λ (o : RootKnown). HasFinished crew feeds o f) is finished)
+finished_for game feeds plan crew old (Err e) opened is finished = tt
+
+-- a missing actor, where no gate was shut
+missing_closes : (crew : CrewId) (feeds : Left) (old : RootKnown) (turns : ℕ) (joined : Joined) (e : CrewFault)
+    → joined.passed ≡ true → IsMissing joined.gathering e → IsClosing crew feeds old turns joined e
+missing_closes crew feeds old turns joined fault.Plan passed why = absurd why
+missing_closes crew feeds old turns joined fault.Total passed why = absurd why
+missing_closes crew feeds old turns joined fault.NoMemory passed why = absurd why
+missing_closes crew feeds old turns joined fault.Spawn passed why = absurd why
+missing_closes crew feeds old turns joined fault.GateShut passed why = absurd why
+missing_closes crew feeds old turns joined (fault.Doubled v) passed why = (passed, why)
+missing_closes crew feeds old turns joined (fault.Lost v) passed why = (passed, why)
+missing_closes crew feeds old turns joined (fault.Unfinished deficit root) passed why = absurd why
+
+-- and it is what closing answers
+pub missing_closing : (crew : CrewId) (feeds : Left) (old : RootKnown) (turns : ℕ) (joined : Joined) (e : CrewFault)
+    (r : Result Finished CrewFault) (P : CrewFault → Type 0) → IsErrAnd r P → ((f : CrewFault) → P f → f ≡ e)
+    → joined.passed ≡ true → IsMissing joined.gathering e → IfErr r (IsClosing crew feeds old turns joined)
+missing_closing crew feeds old turns joined e (Ok f) P is same passed why = absurd is
+missing_closing crew feeds old turns joined e (Err f) P is same passed why =
+    subst (IsClosing crew feeds old turns joined) (sym (same f is)) (missing_closes crew feeds old turns joined e passed why)
+
+-- why it did not close is why the crew stopped
+closing_stops : (crew : CrewId) (feeds : Left) (old : RootKnown) (turns : ℕ) (joined : Joined) (shut : Type 0)
+    (e : CrewFault) → (joined.passed ≡ false → shut) → IsGathering crew joined.gathering → IsClosing crew feeds old turns joined e
+    → IsStopped crew feeds old turns shut e
+closing_stops crew feeds old turns joined shut fault.Plan passed gathering why = absurd why
+closing_stops crew feeds old turns joined shut fault.Total passed gathering why = absurd why
+closing_stops crew feeds old turns joined shut fault.NoMemory passed gathering why = absurd why
+closing_stops crew feeds old turns joined shut fault.Spawn passed gathering why = absurd why
+closing_stops crew feeds old turns joined shut fault.GateShut passed gathering why = passed why
+closing_stops crew feeds old turns joined shut (fault.Doubled v) passed gathering why = subst
+    (λ (o : Option ℕ). IfSome o (λ (w : ℕ). w < crew.net.setting.game.graph.vertices)) why.1 gathering.doubled
+closing_stops crew feeds old turns joined shut (fault.Lost v) passed gathering why =
+    subst (λ (n : ℕ). v < n) gathering.seats.count (placed joined.gathering.seats.items v None why.1.1.free)
+closing_stops crew feeds old turns joined shut (fault.Unfinished deficit root) passed gathering why = why.1
+
+pub closing_stopped : (crew : CrewId) (feeds : Left) (old : RootKnown) (turns : ℕ) (joined : Joined) (shut : Type 0)
+    (r : Result Finished CrewFault) → (joined.passed ≡ false → shut) → IsGathering crew joined.gathering
+    → IfErr r (IsClosing crew feeds old turns joined) → IfErr r (IsStopped crew feeds old turns shut)
+closing_stopped crew feeds old turns joined shut (Ok f) passed gathering why = tt
+closing_stopped crew feeds old turns joined shut (Err e) passed gathering why =
+    closing_stops crew feeds old turns joined shut e passed gathering why
+
+-- ---- a crew that didn't finish
+
+-- why a crew that was opened for the game didn't finish
+stopped_by : (game : ChipGame) (feeds : Left) (plan : Plan) (may_shut : ℕ → ℕ → Type 0) (crew : CrewId)
+    (e : CrewFault) → IsCrewFor game feeds plan crew
+    → IsStopped crew feeds (root_of crew plan) plan.turns (SomeShut may_shut plan.workers plan.turns) e
+    → IsFaultOf game feeds plan may_shut e
+stopped_by game feeds plan may_shut crew fault.Plan opened why = absurd why
+stopped_by game feeds plan may_shut crew fault.Total opened why = absurd why
+stopped_by game feeds plan may_shut crew fault.NoMemory opened why = opened.can
+stopped_by game feeds plan may_shut crew fault.Spawn opened why = opened.can
+stopped_by game feeds plan may_shut crew fault.GateShut opened why = (opened.can, why)
+stopped_by game feeds plan may_shut crew (fault.Doubled v) opened why =
+    (opened.can, subst (λ (g : Setting). v < g.game.graph.vertices) opened.setting why)
+stopped_by game feeds plan may_shut crew (fault.Lost v) opened why =
+    (opened.can, subst (λ (g : Setting). v < g.game.graph.vertices) opened.setting why)
+stopped_by game feeds plan may_shut crew (fault.Unfinished deficit root) opened why = (crew, opened, why)
+
+pub stopped_for : (game : ChipGame) (feeds : Left) (plan : Plan) (may_shut : ℕ → ℕ → Type 0) (crew : CrewId)
+    (old : RootKnown) (r : Result Finished CrewFault) → IsCrewFor game feeds plan crew → old ≡ root_of crew plan
+    → IfErr r (IsStopped crew feeds old plan.turns (SomeShut may_shut plan.workers plan.turns))
+    → IfErr r (IsFaultOf game feeds plan may_shut)
+stopped_for game feeds plan may_shut crew old (Ok f) opened is why = tt
+stopped_for game feeds plan may_shut crew old (Err e) opened is why = stopped_by game feeds plan may_shut crew e opened
+    (subst (λ (o : RootKnown). IsStopped crew feeds o plan.turns (SomeShut may_shut plan.workers plan.turns) e) is why)

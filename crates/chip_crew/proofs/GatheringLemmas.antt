@@ -1,0 +1,139 @@
+-- Serves Crew.antt, Gathering.antt.
+-- The places of the actors, one by one.
+use Rattle.std.proofs.Common.{◌≡◌, ℕ, zero, suc, ◌<◌, ◌⊎◌, inl, inr, ⊎_elim, List, [], ◌∷◌, ◌++◌, length, Option, Some}
+use Rattle.std.proofs.Common.{None, is_some, false, refl, sym, ap, ◌∙◌, subst, set, get_or, IfSome, arith}
+use Rattle.std.specs.Prelude.{slice_get}
+use Rattle.std.proofs.lemmas.List.{length-set}
+use Rattle.std.proofs.lemmas.Option.{slice_get_read}
+use Rattle.chip_net.specs.Tokens.{ActorKnown}
+use Rattle.chip_crew.specs.Crew.{CrewId, IsOurs, AreInOrder, AreSeats}
+use Rattle.chip_crew.specs.Gathering.{least, IsSeated}
+
+module _ {X : Type 0} where
+  abbrev value_or : X → Option X → X
+  value_or d None = d
+  value_or d (Some x) = x
+
+  pub same_some : (x y : X) → Some x ≡ Some y → x ≡ y
+  same_some x y e = ap (value_or x) e
+
+  pub none_some : (x : X) → ◌≡◌ {A = Option X} None (Some x) → ⊥
+  none_some x e = absurd (cc)
+
+  -- what stands at j after a write at i
+  at_set : (xs : List X) (i j : ℕ) (a b : X) → slice_get (set xs i a) j ≡ Some b
+      → ((j ≡ i) × (a ≡ b)) ⊎ (slice_get xs j ≡ Some b)
+  at_set [] i j a b e = inr e
+  at_set (x ∷ xs) zero zero a b e = inl (refl, same_some a b e)
+  at_set (x ∷ xs) zero (suc j) a b e = inr e
+  at_set (x ∷ xs) (suc i) zero a b e = inr e
+  at_set (x ∷ xs) (suc i) (suc j) a b e = ⊎_elim (λ (h : (j ≡ i) × (a ≡ b)). inl (ap suc h.0, h.1))
+      (λ (h : slice_get xs j ≡ Some b). inr h) (at_set xs i j a b e)
+
+  -- what stands at j after a push
+  at_push : (xs : List X) (y b : X) (j : ℕ) → slice_get (xs ++ y ∷ []) j ≡ Some b
+      → ((j ≡ length xs) × (y ≡ b)) ⊎ (slice_get xs j ≡ Some b)
+  at_push [] y b zero e = inl (refl, same_some y b e)
+  at_push [] y b (suc j) e = absurd (none_some b e)
+  at_push (x ∷ xs) y b zero e = inr e
+  at_push (x ∷ xs) y b (suc j) e = ⊎_elim (λ (h : (j ≡ length xs) × (y ≡ b)). inl (ap suc h.0, h.1))
+      (λ (h : slice_get xs j ≡ Some b). inr h) (at_push xs y b j e)
+
+  -- a place that is not written has what it had
+  pub elsewhere : (xs : List X) (i j : ℕ) (a : X) → i < j → slice_get (set xs i a) j ≡ slice_get xs j
+  elsewhere [] i j a less = refl
+  elsewhere (x ∷ xs) i zero a less = absurd (omega (arith, less))
+  elsewhere (x ∷ xs) zero (suc j) a less = refl
+  elsewhere (x ∷ xs) (suc i) (suc j) a less = elsewhere xs i j a (omega (arith, less))
+
+  -- something stands at each place of a list
+  pub present : (xs : List X) (i : ℕ) → i < length xs → (x : X) × (slice_get xs i ≡ Some x)
+  present [] i less = absurd (omega (arith, less))
+  present (x ∷ xs) zero less = (x, refl)
+  present (x ∷ xs) (suc i) less = present xs i (omega (arith, less))
+
+-- what stands at a place is read there
+pub read_at : {X : Type 0} (xs : List X) (i : ℕ) (d x : X) → slice_get xs i ≡ Some x → get_or xs i d ≡ x
+read_at [] i d x e = absurd (none_some x e)
+read_at (y ∷ ys) zero d x e = same_some y x e
+read_at (y ∷ ys) (suc i) d x e = read_at ys i d x e
+
+-- and that place is one of the list
+pub placed : {X : Type 0} (xs : List X) (i : ℕ) (x : X) → slice_get xs i ≡ Some x → i < length xs
+placed [] i x e = absurd (none_some x e)
+placed (y ∷ ys) zero x e = omega arith
+placed (y ∷ ys) (suc i) x e = let below = placed ys i x e in omega (arith, below)
+
+pub seats_set : (crew : CrewId) (seats : List (Option ActorKnown)) (i : ℕ) (x : Option ActorKnown)
+    → ((a : ActorKnown) → x ≡ Some a → IsOurs crew a × (a.vertex ≡ i)) → AreSeats crew seats
+    → AreSeats crew (set seats i x)
+seats_set crew seats i x here old = record {
+  count = length-set seats i x ∙ old.count;
+  each = λ v a e. ⊎_elim (λ (h : (v ≡ i) × (x ≡ Some a)). ((here a h.1).0, (here a h.1).1 ∙ sym h.0))
+      (λ (h : slice_get seats v ≡ Some (Some a)). old.each v a h) (at_set seats i v x (Some a) e);
+}
+
+pub order_push : (crew : CrewId) (actors : List ActorKnown) (y : ActorKnown) → IsOurs crew y → y.vertex ≡ length actors
+    → AreInOrder crew actors → AreInOrder crew (actors ++ y ∷ [])
+order_push crew actors y ours here old v a e = ⊎_elim
+    (λ (h : (v ≡ length actors) × (y ≡ a)). (
+      subst (IsOurs crew) h.1 ours,
+      ap (λ (z : ActorKnown). z.vertex) (sym h.1)
+          ∙ here ∙ sym h.0,
+    ))
+    (λ (h : slice_get actors v ≡ Some a). old v a h)
+    (at_push actors y a v e)
+
+-- no place has an actor yet
+abbrev pub AreFree : List (Option ActorKnown) → Type 0
+AreFree seats = (v : ℕ) (a : ActorKnown) → slice_get seats v ≡ Some (Some a) → ⊥
+
+pub free_push : (seats : List (Option ActorKnown)) → AreFree seats → AreFree (seats ++ None ∷ [])
+free_push seats old v a e = ⊎_elim (λ (h : (v ≡ length seats) × (None ≡ Some a)). none_some a h.1)
+    (λ (h : slice_get seats v ≡ Some (Some a)). old v a h) (at_push seats None (Some a) v e)
+
+-- an actor takes its place
+pub seats_put : (crew : CrewId) (seats : List (Option ActorKnown)) (i : ℕ) (y : ActorKnown) → IsOurs crew y
+    → y.vertex ≡ i → AreSeats crew seats → AreSeats crew (set seats i (Some y))
+seats_put crew seats i y ours here old = seats_set crew seats i (Some y)
+    (λ a e. let is : y ≡ a = same_some y a e in
+    (subst (IsOurs crew) is ours, ap (λ (z : ActorKnown). z.vertex) (sym is) ∙ here)) old
+
+-- a place is left
+pub seats_left : (crew : CrewId) (seats : List (Option ActorKnown)) (i : ℕ) (x : Option ActorKnown) → x ≡ None
+    → AreSeats crew seats → AreSeats crew (set seats i x)
+seats_left crew seats i x none old = seats_set crew seats i x (λ a e. absurd (none_some a (sym none ∙ e))) old
+
+pub least_below : (before : Option ℕ) (v n : ℕ) → IfSome before (λ w. w < n) → v < n → least before v < n
+least_below None v n below here = here
+least_below (Some w) v n below here = search (arith)
+
+-- what was read at i stands there
+pub at_place : {X : Type 0} (xs : List (Option X)) (i : ℕ) (x : Option X) (y : X) → i < length xs → x ≡ get_or xs i x
+    → x ≡ Some y → slice_get xs i ≡ Some (Some y)
+at_place xs i x y inside read is = slice_get_read xs (length xs) i x refl inside read ∙ ap Some is
+
+-- in the same way where nothing was read
+pub free_place : {X : Type 0} (xs : List (Option X)) (i : ℕ) (x : Option X) → i < length xs → x ≡ get_or xs i x
+    → x ≡ None → slice_get xs i ≡ Some None
+free_place xs i x inside read is = slice_get_read xs (length xs) i x refl inside read ∙ ap Some is
+
+-- or where what was read tells so
+pub free_where : {X : Type 0} (xs : List (Option X)) (i : ℕ) (x : Option X) → i < length xs → x ≡ get_or xs i x
+    → is_some x ≡ false → slice_get xs i ≡ Some None
+free_where xs i None inside read none = free_place xs i None inside read refl
+free_where xs i (Some y) inside read none = absurd (cc)
+
+-- a place that is free has no actor
+pub free_or_seated : (seats : List (Option ActorKnown)) (v : ℕ) → slice_get seats v ≡ Some None → IsSeated seats v → ⊥
+free_or_seated seats v free seated = absurd (none_some seated.0 (same_some None (Some seated.0) (sym free ∙ seated.1)))
+
+-- an actor that comes out of its place stands behind those of the places before
+pub gathered_push : (seats : List (Option ActorKnown)) (actors : List ActorKnown) (y : ActorKnown)
+    → slice_get seats (length actors) ≡ Some (Some y)
+    → ((v : ℕ) (a : ActorKnown) → slice_get actors v ≡ Some a → slice_get seats v ≡ Some (Some a))
+    → (v : ℕ) (a : ActorKnown) → slice_get (actors ++ y ∷ []) v ≡ Some a → slice_get seats v ≡ Some (Some a)
+gathered_push seats actors y here old v a e = ⊎_elim
+    (λ (h : (v ≡ length actors) × (y ≡ a)).
+    ap (slice_get seats) h.0 ∙ here ∙ ap (λ (z : ActorKnown). Some (Some z)) h.1)
+    (λ (h : slice_get actors v ≡ Some a). old v a h) (at_push actors y a v e)

@@ -122,6 +122,66 @@ impl Gate for Behind {
     }
 }
 
+/// Has worker 1 make three turns before worker 0 makes one, and then nobody but worker 0 until it is asked for its
+/// fourth.
+#[derive(Drop)]
+struct Relay {
+    handed_on: AtomicU64,
+    handed_back: AtomicU64,
+    polls: AtomicU64,
+}
+
+impl Gate for Relay {
+    ghost use Rattle.std.specs.Prelude.{◌<◌};
+
+    ghost may_shut = { λ _ worker _. worker < 2 };
+
+    fn pass(&self, worker: u64, turn: u64) -> bool {
+        match (worker, turn) {
+            (0, 0) => comes_to(&self.handed_on, 1),
+            (0, 3) => {
+                self.handed_back.store(1, SeqCst);
+                true
+            }
+            (1, 3) => {
+                self.handed_on.store(1, SeqCst);
+                comes_to(&self.handed_back, 1)
+            }
+            _ => true,
+        }
+    }
+
+    fn polled(&self, _turn: u64, _deficit: u64) {
+        self.polls.fetch_add(1, SeqCst);
+    }
+}
+
+/// Is shut for one worker at one turn. All other workers are held at their first turn until then.
+#[derive(Drop)]
+struct ShutAt {
+    worker: u64,
+    turn: u64,
+    shut: AtomicU64,
+    others_asked: AtomicU64,
+}
+
+impl Gate for ShutAt {
+    ghost use Rattle.std.specs.Prelude.{⊤};
+
+    ghost may_shut = { λ _ _ _. ⊤ };
+
+    fn pass(&self, worker: u64, turn: u64) -> bool {
+        if worker == self.worker {
+            if turn == self.turn {
+                self.shut.store(1, SeqCst);
+            }
+            return turn != self.turn;
+        }
+        self.others_asked.fetch_add(1, SeqCst);
+        turn > 0 || comes_to(&self.shut, 1)
+    }
+}
+
 /// The triangle with these chips.
 fn triangle(alloc: Global, chips: &[u64]) -> Result<Game, Fail> {
     triangle_within(alloc, chips, LIMIT)
@@ -215,6 +275,22 @@ fn shared_by_one_queue(rt: HostRuntime) -> Result<(), Fail> {
     expect_four(&rt, rt.alloc(), plan, &gate)
 }
 
+/// Worker 1 gives vertex 0, 1 and 2 a turn each, and worker 0 goes on from there. Its fourth turn is the one after which
+/// the root is closed, unless worker 1 makes it at the same time.
+#[test]
+fn turns_of_another_worker(rt: HostRuntime) -> Result<(), Fail> {
+    let gate = Relay {
+        handed_on: AtomicU64::new(0),
+        handed_back: AtomicU64::new(0),
+        polls: AtomicU64::new(0),
+    };
+    let plan = Plan { turns: 4, ..PAIR };
+    expect_four(&rt, rt.alloc(), plan, &gate)?;
+    let polls = gate.polls.load(SeqCst);
+    assert!(&rt; polls == 3 || polls == 4);
+    Ok(())
+}
+
 /// A crew plays four chips on the triangle until a gate answers false.
 fn expect_shut<R: Threads + Wait + Sync + Abort, G: Gate + Sync>(
     rt: &R,
@@ -245,6 +321,49 @@ fn shut_for_another(rt: HostRuntime) -> Result<(), Fail> {
     };
     let plan = Plan { turns: 1, ..PAIR };
     expect_shut(&rt, rt.alloc(), plan, &gate)
+}
+
+/// A game in which two vertices fire a million times in turn, and never twice at once but for the first time: each
+/// firing takes one chip to the sink, and one more than half of the others has to lie in one place.
+fn long_game(alloc: Global) -> Result<Game, Fail> {
+    const HALF: u64 = 1 << 20;
+    let mut edges = Vec::new(alloc);
+    for (tail, head, mult) in [(0, 1, HALF), (0, 2, 1), (1, 0, HALF), (1, 2, 1)] {
+        edges.push(Edge { tail, head, mult })?;
+    }
+    let graph = Graph::new(alloc, 3, 2, edges)?;
+    let start = Vec::from_slice(alloc, &[2 * HALF + 1_000_000, 0, 0])?;
+    Ok(Game::new(graph, start, LIMIT)?)
+}
+
+/// The gate is shut for this worker at this turn, and all others stop long before the play ends.
+fn expect_stopped<R: Threads + Wait + Sync + Abort>(
+    rt: &R,
+    alloc: Global,
+    workers: u64,
+    worker: u64,
+    turn: u64,
+) -> Result<(), Fail> {
+    let gate = ShutAt {
+        worker,
+        turn,
+        shut: AtomicU64::new(0),
+        others_asked: AtomicU64::new(0),
+    };
+    let game = long_game(alloc)?;
+    let answer = run(rt, alloc, &game, Plan { workers, ..PAIR }, &gate);
+    assert!(rt; matches!(answer, Err(CrewFault::GateShut)));
+    assert!(rt; gate.others_asked.load(SeqCst) < 1_000_000);
+    Ok(())
+}
+
+/// A gate that is shut stops all workers: at once or in mid-play, and whoever is asked.
+#[test]
+fn shut_for_all(rt: HostRuntime) -> Result<(), Fail> {
+    for (workers, worker, turn) in [(2, 1, 0), (2, 1, 50), (4, 2, 0), (4, 3, 20), (4, 0, 0)] {
+        expect_stopped(&rt, rt.alloc(), workers, worker, turn)?;
+    }
+    Ok(())
 }
 
 /// One turn of each of two workers is not enough.
@@ -379,6 +498,31 @@ fn sealed_at_once(rt: HostRuntime) -> Result<(), Fail> {
     };
     let ended = finished(&rt, alloc, &game, plan, &Always);
     expect_outcome(&rt, &ended.outcome, &[2, 0, 0], &[0, 2, 2], &[0]);
+    Ok(())
+}
+
+/// One worker gives vertex 0, 1 and 2 a turn, and again. Vertex 0 sends on edges 0 and 1 in turn 0 alone, and vertex 1 on
+/// edge 2 in turn 1 alone. Whoever meets a seal there has fired, and halts.
+#[test]
+fn sealed_before_a_turn(rt: HostRuntime) -> Result<(), Fail> {
+    let alloc = rt.alloc();
+    let game = triangle(alloc, &[4, 0, 0])?;
+    let met: [(u64, u64, &[u64]); 5] = [
+        (1, 0, &[]),
+        (0, 1, &[0]),
+        (0, 2, &[1]),
+        (1, 2, &[1]),
+        (2, 2, &[]),
+    ];
+    for (turn, edge, sealed) in met {
+        let plan = Plan {
+            workers: 1,
+            seal: Some(SealAt { turn, edge }),
+            ..PAIR
+        };
+        let ended = finished(&rt, alloc, &game, plan, &Always);
+        expect_outcome(&rt, &ended.outcome, &[2, 1, 0], &[1, 0, 3], sealed);
+    }
     Ok(())
 }
 

@@ -1,6 +1,6 @@
 use denote.Param.Send.{sendable}
 use Rattle.std.proofs.Crossing.{crosses}
-use Rattle.chip_net.proofs.Crossing.{net_crosses}
+use Rattle.chip_net.proofs.CrossingLemmas.{net_crosses}
 use Rattle.chip_net_tests.proofs.net.feeding.turn_and_feed.Goals as goal
 
 pub join-root-requires-send-F : goal.join-root-requires-send-F

@@ -1,3 +1,4 @@
+-- Serves Inputs.antt.
 -- The game that the files of a command mean, and why they mean none.
 use Rattle.std.proofs.Common.{◌≡◌, ℕ, ◌^◌, ◌==◌, nat_le, Bool, true, false, List, length, sum, Option, Some, None}
 use Rattle.std.proofs.Common.{Result, Ok, Err, refl, subst}

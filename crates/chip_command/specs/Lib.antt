@@ -1,4 +1,5 @@
 pub mod Faults
 pub mod FaultNumbers
 pub mod Inputs
+pub mod PlainCommand
 pub mod Reports

@@ -1,9 +1,15 @@
--- The report of a game played to its end, and the exit status of who wrote it.
-use Rattle.std.specs.Prelude.{◌≡◌, ℕ, List, if◌then◌else◌}
+-- The report of a game played to its end, the exit status of who wrote it, and how a text goes out.
+use Rattle.std.specs.Prelude.{◌≡◌, ℕ, List, Option, Result, Ok, Err, if◌then◌else◌}
+use Rattle.std.specs.Io.KnownBytes.{Appends}
 use Rattle.chip_graph.specs.ChipGame.{ChipGame}
 use Rattle.chip_sequence.specs.Play.{IsPlayed}
 use Rattle.chip_sequence.specs.declared.outcome.Outcome.{Outcome}
 use Rattle.chip_report.specs.ReportText.{is_closed, report_text}
+use Rattle.chip_report.specs.Written.{WritesAll}
+use Rattle.chip_report.specs.declared.write.WriteFault.{WriteFault}
+use Rattle.chip_command.specs.declared.ended.Ended.{Ended}
+use Rattle.chip_command.specs.declared.fault.Fault.{Fault}
+use Rattle.chip_command.specs.declared.fault.Fault.TheVariants.{Write}
 
 -- the exit status: 2 where the limit left a vertex legal
 abbrev pub plain_status : Outcome → ℕ
@@ -13,3 +19,8 @@ plain_status outcome = if is_closed outcome then 0 else 2
 abbrev pub Reports : ChipGame → List ℕ → ℕ → Type 0
 Reports g text status =
     (outcome : Outcome) × IsPlayed g outcome × (text ≡ report_text outcome) × (status ≡ plain_status outcome)
+
+-- a text went out whole and the command ended so, or the output failed
+abbrev pub Delivers : Option (List ℕ) → Option (List ℕ) → List ℕ → Ended → Result Ended Fault → Type 0
+Delivers old new text ended (Ok told) = (told ≡ ended) × Appends old new text
+Delivers old new text ended (Err fault) = (w : WriteFault) × (fault ≡ Write w) × WritesAll old new text (Err w)

@@ -1,10 +1,13 @@
 //! How a command ended that wrote its output.
 
-ghost use Rattle.std.specs.Prelude.{◌≡◌};
-ghost use Rattle.chip_command.specs.Reports.{plain_status};
+ghost use Rattle.std.specs.Prelude.{◌≡◌, false};
+ghost use Rattle.chip_command.specs.Reports.{plain_status, Delivers};
 
+use crate::fault::Fault;
 use chip_report::report::is_closed;
+use chip_report::write_all_of;
 use chip_sequence::Outcome;
+use std::io::Write;
 
 /// The exit status of a command that did all it was to do; of a game, that it closed and no vertex halted.
 pub const DONE: u8 = 0;
@@ -22,6 +25,23 @@ pub struct Ended {
     pub status: u8,
     /// Whether a trace that was asked for was cut.
     pub cut: bool,
+}
+
+impl Ended {
+    /// With this exit status, and no trace.
+    pub fn of(status: u8) -> Ended
+        ensures { result ≡ record { status = status; cut = false } }
+    {
+        Ended { status, cut: false }
+    }
+}
+
+/// Writes all that a command has to say, and tells that it ended so.
+pub fn conclude<W: Write>(output: &mut W, text: &[u8], ended: Ended) -> Result<Ended, Fault>
+    ensures { Delivers (W.contents output.old) (W.contents output.new) text.now ended result }
+{
+    write_all_of(output, text)?;
+    Ok(ended)
 }
 
 /// The exit status that tells whether some vertex halted.

@@ -18,7 +18,7 @@ use std::fmt;
 use thiserror::Error;
 
 /// Why a command failed.
-#[derive(Debug, Drop, PartialEq, Eq)]
+#[derive(Clone, Copy, Debug, PartialEq, Eq)]
 pub enum Fault {
     /// The text of a file, or its bytes.
     File(FileFault),

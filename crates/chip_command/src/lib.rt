@@ -5,7 +5,7 @@
 #![tactic(auto)]
 
 pub use code::Code;
-pub use ended::{DONE, Ended, FAILED, HALTED, OPEN, status_of};
+pub use ended::{DONE, Ended, FAILED, HALTED, OPEN, conclude, status_of};
 pub use fault::{Fault, FaultLine, Location};
 pub use inputs::read_game;
 pub use table::{Explanation, Place, explanations};

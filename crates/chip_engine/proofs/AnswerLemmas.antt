@@ -1,3 +1,4 @@
+-- Serves SimulateCommand.antt.
 -- The lines of a schedule, as far as a loop over its events has come.
 use Rattle.std.proofs.Common.{◌≡◌, ℕ, ◌+◌, ◌<◌, Bool, List, [], ◌∷◌, ◌++◌, length, take, get_or, sym, ap, ◌∙◌, subst}
 use Rattle.std.proofs.Common.{append_assoc, append-nil}

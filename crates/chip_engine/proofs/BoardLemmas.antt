@@ -1,3 +1,4 @@
+-- Serves Board.antt.
 -- The board, put together from its pieces.
 use Rattle.std.proofs.Common.{◌≡◌, ℕ, ◌+◌, List, ◌++◌, Some, codes, sym, ap, ◌∙◌, append_assoc, add-one}
 use Rattle.chip_graph.specs.Multigraph.{edges_in}

@@ -1,3 +1,4 @@
+-- Serves Sittings.antt.
 -- Plays that go on, from text to text.
 use Rattle.std.proofs.Common.{◌≡◌, ℕ, ◌+◌, List, [], ◌∷◌, codes, length, slice_index, true}
 use Rattle.std.proofs.Common.{sym, ap, ◌∙◌, subst, arith, inl, inr}

@@ -1,3 +1,4 @@
+-- Serves CheckCommand.antt.
 -- The lines of a graph, as far as a loop over its vertices has come.
 use Rattle.std.proofs.Common.{◌≡◌, ℕ, zero, suc, ◌+◌, ◌<◌, ◌≤◌, List, [], ◌∷◌, ◌++◌, length, slice_index, refl, sym, ap}
 use Rattle.std.proofs.Common.{◌∙◌, subst, arith, append_assoc, add-one}

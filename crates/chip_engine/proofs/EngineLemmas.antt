@@ -1,6 +1,7 @@
+-- Serves ReplayCommand.antt, SimulateCommand.antt, CheckCommand.antt.
 -- From the parts of an engine to its whole.
 use Rattle.std.proofs.Common.{◌≡◌, ◌⊎◌, ℕ, Bool, List, Option, Some}
-use Rattle.std.proofs.Common.{Result, Ok, Err, String, Global, subst, inl, inr}
+use Rattle.std.proofs.Common.{Result, Ok, Err, String, Global, subst, sym, ap, inl, inr, false}
 use Rattle.std.specs.Result.{IsErrAnd}
 use Rattle.chip_part.specs.Setting.{setting_with}
 use Rattle.chip_command.proofs.InputLemmas.{Keeps-same}
@@ -14,19 +15,21 @@ use Rattle.chip_trace.specs.declared.fault.ReplayFault.TheVariants as replay_fau
 use Rattle.chip_trace.specs.Replay.{IsReplayFault}
 use Rattle.chip_command.specs.Faults.{fault_of_replay}
 use Rattle.chip_command.specs.Inputs.{Reads, RefusesText, MeansGame, RefusesInputs}
-use Rattle.chip_engine.specs.PlainCommand.{PlainAnswers}
-use Rattle.chip_command.specs.Reports.{Reports}
+use Rattle.chip_command.specs.PlainCommand.{PlainAnswers}
+use Rattle.chip_command.specs.Reports.{Reports, Delivers}
 use Rattle.chip_link.specs.declared.trace.TraceRow.{TraceRow}
 use Rattle.chip_engine.specs.ReplayCommand.{MeansTraces, AreReplayed, RefusesReplay, GivesReplay}
 use Rattle.chip_engine.specs.ReplayCommand.{RefusesTraces, ReplayAnswers}
 use Rattle.chip_link.specs.declared.event.Event.{Event}
 use Rattle.chip_engine.specs.SimulateCommand.{MeansEvents, RefusesEvents, Simulates, SimulateAnswers}
 use Rattle.chip_engine.specs.CheckCommand.{IsShown, CheckAnswers}
-use Rattle.chip_report.specs.Written.{WritesAll}
-use Rattle.chip_report.specs.declared.write.WriteFault.{WriteFault}
-use Rattle.chip_command.specs.declared.fault.Fault.TheVariants.{Write, NoMemory}
+use Rattle.chip_command.specs.declared.fault.Fault.TheVariants.{NoMemory}
 use Rattle.chip_command.specs.declared.ended.Ended.{Ended}
 use Rattle.chip_command.specs.declared.fault.Fault.{Fault}
+
+-- a command ended with this status, and there was no trace
+abbrev pub ended_by : ℕ → Ended
+ended_by status = record { status = status; cut = false }
 
 -- inputs that are refused, and nothing is written
 pub refused_plain : (graph_text chips_text : List ℕ) (limit : ℕ) (known : Option (List ℕ)) (result : Result Ended Fault)
@@ -36,15 +39,21 @@ pub refused_plain : (graph_text chips_text : List ℕ) (limit : ℕ) (known : Op
 refused_plain graph_text chips_text limit known (Ok ended) P is why = absurd is
 refused_plain graph_text chips_text limit known (Err fault) P is why = inl (why fault is, Keeps-same known)
 
--- an output that failed
-pub failed_plain : (graph_text chips_text : List ℕ) (limit : ℕ) (old new : Option (List ℕ))
-    (result : Result Ended Fault) (P : Fault → Type 0) → IsErrAnd result P → (g : ChipGame)
-    → MeansGame graph_text chips_text limit g → (text : List ℕ) (status : ℕ) → Reports g text status → (w : WriteFault)
-    → ((fault : Fault) → P fault → fault ≡ Write w) → WritesAll old new text (Err w)
-    → PlainAnswers graph_text chips_text limit old new result
-failed_plain graph_text chips_text limit old new (Ok ended) P is g means text status reports w why wrote = absurd is
-failed_plain graph_text chips_text limit old new (Err fault) P is g means text status reports w why wrote =
-    inr (g, means, text, status, reports, w, why fault is, wrote)
+-- the report went out, or the output failed
+pub delivered_plain : (graph_text chips_text : List ℕ) (limit : ℕ) (old new : Option (List ℕ))
+    (result : Result Ended Fault) (g : ChipGame)
+    → MeansGame graph_text chips_text limit g → (text : List ℕ) (status : ℕ) → Reports g text status
+    → Delivers old new text (ended_by status) result → PlainAnswers graph_text chips_text limit old new result
+delivered_plain graph_text chips_text limit old new (Ok ended) g means text status reports went = (
+  g,
+  means,
+  text,
+  subst (λ (e : Ended). Reports g text e.status) (sym went.0) reports,
+  went.1,
+  ap (λ (e : Ended). e.cut) went.0,
+)
+delivered_plain graph_text chips_text limit old new (Err fault) g means text status reports failed =
+    inr (g, means, text, status, reports, failed.0, failed.1, failed.2)
 
 -- the same of `check`
 pub refused_check : (text : List ℕ) (known : Option (List ℕ)) (result : Result Ended Fault) (P : Fault → Type 0)
@@ -53,13 +62,12 @@ pub refused_check : (text : List ℕ) (known : Option (List ℕ)) (result : Resu
 refused_check text known (Ok ended) P is why = absurd is
 refused_check text known (Err fault) P is why = inl (why fault is, Keeps-same known)
 
-pub failed_check : (text : List ℕ) (old new : Option (List ℕ)) (result : Result Ended Fault) (P : Fault → Type 0)
-    → IsErrAnd result P → (G : Multigraph) → Reads text (MeansGraph text G) → (lines : List ℕ) → IsShown G lines
-    → (w : WriteFault) → ((fault : Fault) → P fault → fault ≡ Write w) → WritesAll old new lines (Err w)
-    → CheckAnswers text old new result
-failed_check text old new (Ok ended) P is G means lines shown w why wrote = absurd is
-failed_check text old new (Err fault) P is G means lines shown w why wrote =
-    inr (G, lines, means, shown, w, why fault is, wrote)
+pub delivered_check : (text : List ℕ) (old new : Option (List ℕ)) (result : Result Ended Fault) (G : Multigraph)
+    → Reads text (MeansGraph text G) → (lines : List ℕ) → IsShown G lines
+    → Delivers old new lines (ended_by 0) result → CheckAnswers text old new result
+delivered_check text old new (Ok ended) G means lines shown went = (G, lines, means, shown, went.1, went.0)
+delivered_check text old new (Err fault) G means lines shown failed =
+    inr (G, lines, means, shown, failed.0, failed.1, failed.2)
 
 -- the same of `replay`
 pub refused_replay : (graph_text chips_text trace_text : List ℕ) (limit : ℕ) (known : Option (List ℕ))
@@ -69,15 +77,14 @@ pub refused_replay : (graph_text chips_text trace_text : List ℕ) (limit : ℕ)
 refused_replay graph_text chips_text trace_text limit known (Ok ended) P is why = absurd is
 refused_replay graph_text chips_text trace_text limit known (Err fault) P is why = inl (why fault is, Keeps-same known)
 
-pub failed_replay : (graph_text chips_text trace_text : List ℕ) (limit : ℕ) (old new : Option (List ℕ))
-    (result : Result Ended Fault) (P : Fault → Type 0) → IsErrAnd result P
-    → (g : ChipGame) (traces : List (List TraceRow)) → MeansTraces graph_text chips_text trace_text limit g traces
-    → (lines : List ℕ) → AreReplayed g traces lines → (w : WriteFault) → ((fault : Fault) → P fault → fault ≡ Write w)
-    → WritesAll old new lines (Err w) → ReplayAnswers graph_text chips_text trace_text limit old new result
-failed_replay graph_text chips_text trace_text limit old new (Ok ended) P is g traces means lines replayed w why wrote =
-    absurd is
-failed_replay graph_text chips_text trace_text limit old new (Err fault) P is g traces means lines replayed w why wrote
-    = inr (g, traces, means, lines, replayed, w, why fault is, wrote)
+pub delivered_replay : (graph_text chips_text trace_text : List ℕ) (limit : ℕ) (old new : Option (List ℕ))
+    (result : Result Ended Fault) (g : ChipGame) (traces : List (List TraceRow))
+    → MeansTraces graph_text chips_text trace_text limit g traces → (lines : List ℕ) → AreReplayed g traces lines
+    → Delivers old new lines (ended_by 0) result → ReplayAnswers graph_text chips_text trace_text limit old new result
+delivered_replay graph_text chips_text trace_text limit old new (Ok ended) g traces means lines replayed went =
+    (g, traces, means, lines, replayed, went.1, went.0)
+delivered_replay graph_text chips_text trace_text limit old new (Err fault) g traces means lines replayed failed =
+    inr (g, traces, means, lines, replayed, failed.0, failed.1, failed.2)
 
 -- what a replay refuses is why the traces are not replayed
 pub refused_stuck : (g : ChipGame) (trace_text : List ℕ) (traces : List (List TraceRow))
@@ -121,18 +128,25 @@ refused_simulate graph_text chips_text schedule_text limit ring rounds books fed
 refused_simulate graph_text chips_text schedule_text limit ring rounds books fed known (Err fault) P is why =
     inl (why fault is, Keeps-same known)
 
-pub failed_simulate : (graph_text chips_text schedule_text : List ℕ) (limit ring rounds : ℕ) (books fed : Bool)
-    (old new : Option (List ℕ)) (result : Result Ended Fault) (P : Fault → Type 0) → IsErrAnd result P → (g : ChipGame)
-    (events : List Event)
+pub delivered_simulate : (graph_text chips_text schedule_text : List ℕ) (limit ring rounds : ℕ) (books fed : Bool)
+    (old new : Option (List ℕ)) (result : Result Ended Fault) (g : ChipGame) (events : List Event)
     → MeansEvents graph_text chips_text schedule_text limit g events → (text : List ℕ) (status : ℕ)
-    → Simulates (setting_with g ring fed) rounds books events text status → (w : WriteFault)
-    → ((fault : Fault) → P fault → fault ≡ Write w) → WritesAll old new text (Err w)
+    → Simulates (setting_with g ring fed) rounds books events text status
+    → Delivers old new text (ended_by status) result
     → SimulateAnswers graph_text chips_text schedule_text limit ring rounds books fed old new result
-failed_simulate graph_text chips_text schedule_text limit ring rounds books fed old new
-    (Ok ended) P is g events means text status simulates w why wrote = absurd is
-failed_simulate graph_text chips_text schedule_text limit ring rounds books fed old new
-    (Err fault) P is g events means text status simulates w why wrote =
-    inr (g, events, means, text, status, simulates, w, why fault is, wrote)
+delivered_simulate graph_text chips_text schedule_text limit ring rounds books fed old new
+    (Ok ended) g events means text status simulates went = (
+      g,
+      events,
+      means,
+      text,
+      subst (λ (e : Ended). Simulates (setting_with g ring fed) rounds books events text e.status) (sym went.0) simulates,
+      went.1,
+      ap (λ (e : Ended). e.cut) went.0,
+    )
+delivered_simulate graph_text chips_text schedule_text limit ring rounds books fed old new
+    (Err fault) g events means text status simulates failed =
+    inr (g, events, means, text, status, simulates, failed.0, failed.1, failed.2)
 
 -- the events for a game that the texts mean
 pub means_events : (graph_text chips_text schedule_text : List ℕ) (limit : ℕ) (g : ChipGame) (events : List Event)

@@ -1,3 +1,4 @@
+-- Serves ExplainCommand.antt, Lines.antt.
 -- The lines of a table, as far as a loop over its rows has come, and the row with a number.
 use Rattle.std.proofs.Common.{◌≡◌, ℕ, ◌+◌, ◌<◌, ◌≤◌, zero, suc, Bool, true, false, cond, Option, Some, None, List, [], ◌∷◌, ◌++◌, length, get_or, take}
 use Rattle.std.proofs.Common.{sym, ap, ◌∙◌, refl, arith}

@@ -1,3 +1,4 @@
+-- Serves Lines.antt.
 -- Text that grows line by line.
 use Rattle.std.proofs.Common.{◌≡◌, ℕ, ◌+◌, ◌<◌, List, [], ◌∷◌, ◌++◌, length, take, get_or, sym, ap, ◌∙◌, append_assoc}
 use Rattle.std.proofs.Common.{append-nil}

@@ -1,5 +1,6 @@
+-- Serves ResumeCommand.antt.
 -- Plays that go on, from the report of one sitting to the report of the next.
-use Rattle.std.proofs.Common.{◌≡◌, ◌⊎◌, ℕ, ◌≤◌, true, List, [], ◌∷◌, Contains, length, slice_index}
+use Rattle.std.proofs.Common.{◌≡◌, ◌⊎◌, ℕ, ◌≤◌, true, false, List, [], ◌∷◌, Contains, length, slice_index}
 use Rattle.std.proofs.Common.{Option, Result, Ok, Err, refl, sym, ap, ◌∙◌, subst, arith, inl, inr}
 use Rattle.std.specs.Prelude.{All}
 use Rattle.std.specs.Result.{IsErrAnd}
@@ -17,10 +18,9 @@ use Rattle.chip_sequence.proofs.LegalLemmas.{legal_vertices_law}
 use Rattle.chip_sequence.proofs.SittingLemmas as sittings
 use Rattle.chip_report.specs.ReportText.{is_empty, is_closed}
 use Rattle.chip_report.specs.ReportTwo.{IsAnyReportOf, IsNoReportAtAll}
-use Rattle.chip_report.specs.Written.{WritesAll}
 use Rattle.chip_report.specs.declared.fault.ReportFault.{ReportFault}
 use Rattle.chip_report.specs.declared.fault.ReportFault.TheVariants as report_fault
-use Rattle.chip_report.specs.declared.write.WriteFault.{WriteFault}
+use Rattle.chip_command.specs.Reports.{Delivers}
 use Rattle.chip_file.specs.Answer.{max_bytes}
 use Rattle.chip_file.specs.declared.fault.FileFault.TheVariants as file_fault
 use Rattle.chip_command.specs.Faults.{fault_of_report}
@@ -28,7 +28,7 @@ use Rattle.chip_engine.specs.ResumeCommand.{MeansSitting, LeadsToTheEnd, Reports
 use Rattle.chip_engine.specs.ResumeCommand.{RefusesReport, RefusesToGoOn, RefusesSitting, ResumeAnswers}
 use Rattle.chip_command.specs.declared.ended.Ended.{Ended}
 use Rattle.chip_command.specs.declared.fault.Fault.{Fault}
-use Rattle.chip_command.specs.declared.fault.Fault.TheVariants.{Write, NoMemory}
+use Rattle.chip_command.specs.declared.fault.Fault.TheVariants.{NoMemory}
 use Rattle.chip_command.proofs.InputLemmas.{Keeps-same}
 
 -- a sitting that some report tells is in range
@@ -103,14 +103,20 @@ pub refused_resume : (graph_text report_text : List ℕ) (limit : ℕ) (known : 
 refused_resume graph_text report_text limit known (Ok ended) P is why = absurd is
 refused_resume graph_text report_text limit known (Err fault) P is why = inl (why fault is, Keeps-same known)
 
--- an output that failed
-pub failed_resume : (graph_text report_text : List ℕ) (limit : ℕ) (old new : Option (List ℕ))
-    (result : Result Ended Fault) (P : Fault → Type 0) → IsErrAnd result P → (G : Multigraph) (earlier : Resumed)
-    → MeansSitting graph_text report_text G earlier
+-- the report went out, or the output failed
+pub delivered_resume : (graph_text report_text : List ℕ) (limit : ℕ) (old new : Option (List ℕ))
+    (result : Result Ended Fault) (G : Multigraph) (earlier : Resumed) → MeansSitting graph_text report_text G earlier
     → (text : List ℕ) (status : ℕ) → ReportsOn G earlier limit text status
-    → (w : WriteFault) → ((fault : Fault) → P fault → fault ≡ Write w) → WritesAll old new text (Err w)
+    → Delivers old new text (record { status = status; cut = false }) result
     → ResumeAnswers graph_text report_text limit old new result
-failed_resume graph_text report_text limit old new (Ok ended) P is G earlier means text status reports w why wrote =
-    absurd is
-failed_resume graph_text report_text limit old new (Err fault) P is G earlier means text status reports w why wrote =
-    inr (G, earlier, means, text, status, reports, w, why fault is, wrote)
+delivered_resume graph_text report_text limit old new (Ok ended) G earlier means text status reports went = (
+  G,
+  earlier,
+  means,
+  text,
+  subst (λ (e : Ended). ReportsOn G earlier limit text e.status) (sym went.0) reports,
+  went.1,
+  ap (λ (e : Ended). e.cut) went.0,
+)
+delivered_resume graph_text report_text limit old new (Err fault) G earlier means text status reports failed =
+    inr (G, earlier, means, text, status, reports, failed.0, failed.1, failed.2)

@@ -1,5 +1,4 @@
 pub mod Lines
-pub mod PlainCommand
 pub mod Board
 pub mod CheckCommand
 pub mod ExplainCommand

@@ -10,7 +10,7 @@ use Rattle.chip_part.specs.Setting.{Setting}
 use Rattle.chip_core.specs.Core.{Log}
 use Rattle.chip_core.specs.Positions.{started}
 use Rattle.chip_command.specs.Inputs.{Reads, MeansGame}
-use Rattle.chip_engine.specs.PlainCommand.{PlainAnswers}
+use Rattle.chip_command.specs.PlainCommand.{PlainAnswers}
 use Rattle.chip_engine.specs.ResumeCommand.{LeadsToTheEnd, ResumeAnswers}
 use Rattle.chip_engine.specs.SimulateCommand.{EndsClosed}
 use Rattle.chip_command.specs.declared.ended.Ended.{Ended}

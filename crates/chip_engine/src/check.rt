@@ -5,10 +5,9 @@ ghost use Rattle.std.specs.Option.{ForSome};
 ghost use Rattle.chip_graph.specs.Multigraph.{IsDistance, degree};
 ghost use Rattle.chip_engine.specs.CheckCommand.{CheckAnswers, IsShown, head_text, vertex_text};
 
-use chip_command::{DONE, Ended, Fault};
+use chip_command::{DONE, Ended, Fault, conclude};
 use chip_file::read_graph;
 use chip_graph::Graph;
-use chip_report::write_all_of;
 use std::alloc::{AllocError, Global};
 use std::io::{Read, Write};
 
@@ -23,16 +22,12 @@ pub fn check_engine<G: Read, W: Write>(
         (λ text. CheckAnswers text (W.contents output.old) (W.contents output.new) result) }
 {
     let graph = read_graph(alloc, graph)?;
-    let text = shown(alloc, &graph)?;
-    write_all_of(output, text.as_bytes())?;
-    Ok(Ended {
-        status: DONE,
-        cut: false,
-    })
+    let text = show(alloc, &graph)?;
+    conclude(output, text.as_bytes(), Ended::of(DONE))
 }
 
 /// The lines of a graph.
-fn shown(alloc: Global, graph: &Graph) -> Result<String, AllocError>
+fn show(alloc: Global, graph: &Graph) -> Result<String, AllocError>
     ensures { IfOk result (λ text. IsShown graph.now (string_bytes text)) }
 {
     let mut text = String::new(alloc);

@@ -4,8 +4,7 @@ ghost use Rattle.std.specs.Prelude.{◌≡◌, ◌++◌, IfOk, MatchResult, opti
 ghost use Rattle.chip_engine.specs.ExplainCommand.{ExplainAnswers, TellsNothing, explanation, line_text, row_text};
 ghost use Rattle.chip_engine.specs.ExplainCommand.{row_with, rows_of, table_text};
 
-use chip_command::{DONE, Ended, Explanation, Fault};
-use chip_report::write_all_of;
+use chip_command::{DONE, Ended, Explanation, Fault, conclude};
 use std::alloc::{AllocError, Global};
 use std::io::Write;
 
@@ -20,24 +19,20 @@ pub fn explain_engine<W: Write>(
 ) -> Result<Ended, Fault>
     ensures { ExplainAnswers (explanation (rows_of table.now) number) (W.contents output.old) (W.contents output.new) result }
 {
-    let text = told(alloc, table, number)?;
-    write_all_of(output, text.as_bytes())?;
-    Ok(Ended {
-        status: DONE,
-        cut: false,
-    })
+    let text = tell(alloc, table, number)?;
+    conclude(output, text.as_bytes(), Ended::of(DONE))
 }
 
 /// What a table says of the fault with this number, or of all its faults.
-fn told(alloc: Global, table: &[&Explanation], number: Option<u64>) -> Result<String, Fault>
+fn tell(alloc: Global, table: &[&Explanation], number: Option<u64>) -> Result<String, Fault>
     ensures { MatchResult result (λ text. explanation (rows_of table.now) number ≡ Some (string_bytes text))
         (TellsNothing (explanation (rows_of table.now) number)) }
 {
     let Some(number) = number else {
-        return Ok(listed(alloc, table)?);
+        return Ok(list_all(alloc, table)?);
     };
     let row = row_of(table, number).ok_or(Fault::Usage)?;
-    Ok(explained(alloc, row)?)
+    Ok(explain(alloc, row)?)
 }
 
 /// The row of a table with this number, where there is one.
@@ -53,7 +48,7 @@ fn row_of<'a>(table: &[&'a Explanation], number: u64) -> Option<&'a Explanation>
 }
 
 /// All that the table says of one fault.
-fn explained(alloc: Global, row: &Explanation) -> Result<String, AllocError>
+fn explain(alloc: Global, row: &Explanation) -> Result<String, AllocError>
     ensures { IfOk result (λ text. string_bytes text ≡ row_text row.now) }
 {
     let mut text = String::new(alloc);
@@ -63,7 +58,7 @@ fn explained(alloc: Global, row: &Explanation) -> Result<String, AllocError>
 }
 
 /// A line for each fault of a table, and where more is said.
-fn listed(alloc: Global, table: &[&Explanation]) -> Result<String, AllocError>
+fn list_all(alloc: Global, table: &[&Explanation]) -> Result<String, AllocError>
     ensures { IfOk result (λ text. string_bytes text ≡ table_text (rows_of table.now)) }
 {
     let mut text = String::new(alloc);

@@ -2,14 +2,14 @@
 
 ghost use Rattle.std.specs.Prelude.{IfOk};
 ghost use Rattle.std.specs.Option.{ForSome};
-ghost use Rattle.chip_engine.specs.PlainCommand.{PlainAnswers};
+ghost use Rattle.chip_command.specs.PlainCommand.{PlainAnswers};
 ghost use Rattle.chip_command.specs.Reports.{Reports};
 
-use chip_command::{Ended, Fault, read_game, status_of};
+use crate::answer::Answer;
+use chip_command::{Ended, Fault, conclude, read_game, status_of};
 use chip_fire::{Unwatched, Watch, plain_watched};
 use chip_graph::Game;
 use chip_report::report::report;
-use chip_report::write_all_of;
 use std::alloc::{AllocError, Global};
 use std::io::{Read, Write};
 
@@ -47,16 +47,17 @@ pub fn plain_engine_watched<G: Read, C: Read, P: Watch, W: Write>(
         (W.contents output.old) (W.contents output.new) result)) }
 {
     let game = read_game(alloc, graph, chips, limit)?;
-    let (text, status) = played(alloc, &game, watch)?;
-    write_all_of(output, &text)?;
-    Ok(Ended { status, cut: false })
+    let answer = play(alloc, &game, watch)?;
+    conclude(output, &answer.text, Ended::of(answer.status))
 }
 
 /// The report of a game played to its end, and the exit status.
-fn played<P: Watch>(alloc: Global, game: &Game, watch: &mut P) -> Result<(Vec<u8>, u8), AllocError>
-    ensures { IfOk result (λ made. Reports game.now made.0.items made.1) }
+fn play<P: Watch>(alloc: Global, game: &Game, watch: &mut P) -> Result<Answer, AllocError>
+    ensures { IfOk result (λ made. Reports game.now made.text.items made.status) }
 {
     let outcome = plain_watched(alloc, game, watch)?;
-    let text = report(alloc, &outcome)?;
-    Ok((text, status_of(&outcome)))
+    Ok(Answer {
+        text: report(alloc, &outcome)?,
+        status: status_of(&outcome),
+    })
 }

@@ -5,10 +5,9 @@ ghost use Rattle.std.specs.Option.{ForSome};
 ghost use Rattle.chip_engine.specs.Lines.{lines_text};
 ghost use Rattle.chip_engine.specs.ReplayCommand.{GivesReplay, ReplayAnswers, firing_text};
 
-use chip_command::{DONE, Ended, Fault, read_game};
+use chip_command::{DONE, Ended, Fault, conclude, read_game};
 use chip_file::read_trace;
 use chip_graph::Game;
-use chip_report::write_all_of;
 use chip_trace::replay;
 use std::alloc::{AllocError, Global};
 use std::io::{Read, Write};
@@ -30,16 +29,12 @@ pub fn replay_engine<G: Read, C: Read, T: Read, W: Write>(
         (W.contents output.old) (W.contents output.new) result))) }
 {
     let game = read_game(alloc, graph, chips, limit)?;
-    let lines = replayed(alloc, &game, trace)?;
-    write_all_of(output, lines.as_bytes())?;
-    Ok(Ended {
-        status: DONE,
-        cut: false,
-    })
+    let lines = replay_traces(alloc, &game, trace)?;
+    conclude(output, lines.as_bytes(), Ended::of(DONE))
 }
 
 /// The lines of the firings that the traces of a file have in a game.
-fn replayed<T: Read>(alloc: Global, game: &Game, trace: &mut T) -> Result<String, Fault>
+fn replay_traces<T: Read>(alloc: Global, game: &Game, trace: &mut T) -> Result<String, Fault>
     ensures { ForSome (T.remaining trace.old) (λ trace_text. GivesReplay game.now trace_text result) }
 {
     let traces = read_trace(alloc, trace, game.graph())?;

@@ -7,11 +7,12 @@ ghost use Rattle.chip_sequence.specs.Sittings.{IsResumed};
 ghost use Rattle.chip_engine.specs.ResumeCommand.{GivesSitting, RefusesToGoOn, ReportsOn, ResumeAnswers};
 ghost use Rattle.chip_command.specs.declared.fault.Fault.TheVariants.{NoMemory};
 
-use chip_command::{Ended, Fault, status_of};
+use crate::answer::Answer;
+use chip_command::{Ended, Fault, conclude, status_of};
 use chip_file::{read_graph, read_whole};
 use chip_fire::resume;
 use chip_graph::Graph;
-use chip_report::{read_any, report_two, write_all_of};
+use chip_report::{read_any, report_two};
 use chip_sequence::Resumed;
 use std::alloc::Global;
 use std::io::{Read, Write};
@@ -34,9 +35,8 @@ pub fn resume_engine<G: Read, R: Read, W: Write>(
 {
     let graph = read_graph(alloc, graph)?;
     let earlier = read_sitting(alloc, report)?;
-    let (text, status) = gone_on(alloc, graph, &earlier, limit)?;
-    write_all_of(output, &text)?;
-    Ok(Ended { status, cut: false })
+    let answer = go_on(alloc, graph, &earlier, limit)?;
+    conclude(output, &answer.text, Ended::of(answer.status))
 }
 
 /// The sitting that a report tells, of either version.
@@ -49,17 +49,15 @@ fn read_sitting<R: Read>(alloc: Global, report: &mut R) -> Result<Resumed, Fault
 }
 
 /// The report of the sitting that goes on from an earlier one, and the exit status.
-fn gone_on(
-    alloc: Global,
-    graph: Graph,
-    earlier: &Resumed,
-    limit: u64,
-) -> Result<(Vec<u8>, u8), Fault>
+fn go_on(alloc: Global, graph: Graph, earlier: &Resumed, limit: u64) -> Result<Answer, Fault>
     requires { IsResumed earlier.now }
-    ensures ok { IfOk result (λ made. IsGraph graph → ReportsOn graph earlier.now limit made.0.items made.1) }
+    ensures ok { IfOk result (λ made. IsGraph graph → ReportsOn graph earlier.now limit made.text.items made.status) }
     ensures err { IfErr result (λ fault. RefusesToGoOn graph earlier.now limit fault ⊎ (fault ≡ NoMemory)) }
 {
     let resumed = resume(alloc, graph, earlier, limit)?;
     let text = report_two(alloc, &resumed)?;
-    Ok((text, status_of(&resumed.outcome)))
+    Ok(Answer {
+        text,
+        status: status_of(&resumed.outcome),
+    })
 }

@@ -10,13 +10,13 @@ ghost use Rattle.chip_command.specs.declared.fault.Fault.TheVariants.{NoMemory};
 ghost use Rattle.chip_engine.specs.SimulateCommand.{SimulateAnswers, Simulates, EndsClosed, EndsBy};
 ghost use Rattle.chip_engine.specs.SimulateCommand.{message_text, reply_text, answer_text, answers_text};
 
+use crate::answer::Answer;
 use crate::board::push_board;
-use chip_command::{Ended, Fault, OPEN, read_game, status_of};
+use chip_command::{Ended, Fault, OPEN, conclude, read_game, status_of};
 use chip_file::read_schedule;
 use chip_link::{Event, Message, Ring};
 use chip_part::{Reply, Setting};
 use chip_report::report::report;
-use chip_report::write_all_of;
 use chip_world::{Drive, World, WorldFault};
 use std::alloc::{AllocError, Global};
 use std::io::{Read, Write};
@@ -46,20 +46,19 @@ pub fn simulate_engine<G: Read, C: Read, S: Read, W: Write>(
     let game = read_game(alloc, graph, chips, limit)?;
     let events = read_schedule(alloc, schedule, game.graph())?;
     let setting = Setting::new(game, ring, fed);
-    let (text, status) = simulated(alloc, setting, &events, rounds, books)?;
-    write_all_of(output, &text)?;
-    Ok(Ended { status, cut: false })
+    let answer = simulate(alloc, setting, &events, rounds, books)?;
+    conclude(output, &answer.text, Ended::of(answer.status))
 }
 
 /// The lines of a simulation, and the exit status.
-fn simulated(
+fn simulate(
     alloc: Global,
     setting: Setting,
     events: &[Event],
     rounds: u64,
     books: bool,
-) -> Result<(Vec<u8>, u8), Fault>
-    ensures ok { IfOk result (λ made. Simulates setting rounds books events.now made.0.items made.1) }
+) -> Result<Answer, Fault>
+    ensures ok { IfOk result (λ made. Simulates setting rounds books events.now made.text.items made.status) }
     ensures err { IfErr result (λ fault. fault ≡ NoMemory) }
 {
     let mut world = World::of(alloc, setting)?;
@@ -73,21 +72,24 @@ fn run(
     events: &[Event],
     rounds: u64,
     books: bool,
-) -> Result<(Vec<u8>, u8), Fault>
+) -> Result<Answer, Fault>
     requires { StandsForLog world.old.setting [] world.old }
     ensures ok { IfOk result
-        (λ made. Simulates world.old.setting rounds books events.now made.0.items made.1) }
+        (λ made. Simulates world.old.setting rounds books events.now made.text.items made.status) }
     ensures err { IfErr result (λ fault. fault ≡ NoMemory) }
 {
-    let mut text = scheduled(alloc, world, events, books)?;
+    let mut text = run_schedule(alloc, world, events, books)?;
     let drive = world.drive(rounds);
-    let (end, status) = end_of(alloc, world, drive)?;
-    text.extend_from_slice(&end)?;
-    Ok((text, status))
+    let end = end_of(alloc, world, drive)?;
+    text.extend_from_slice(&end.text)?;
+    Ok(Answer {
+        text,
+        status: end.status,
+    })
 }
 
 /// Runs a world from its opening through a schedule: the lines of its replies, with or without the books.
-fn scheduled(
+fn run_schedule(
     alloc: Global,
     world: &mut World,
     events: &[Event],
@@ -107,31 +109,37 @@ fn scheduled(
 }
 
 /// The end of a run whose rounds ended so, and the exit status.
-fn end_of(alloc: Global, world: &World, drive: Drive) -> Result<(Vec<u8>, u8), Fault>
+fn end_of(alloc: Global, world: &World, drive: Drive) -> Result<Answer, Fault>
     requires { (g : Setting) × (log : Log) × StandsForLog g log world.now
         × (drive ≡ Closed → IsClosed g log) }
-    ensures ok { IfOk result (λ made. WhateverLog world.now (λ g log. EndsBy g log drive made.0.items made.1)) }
+    ensures ok { IfOk result (λ made. WhateverLog world.now (λ g log. EndsBy g log drive made.text.items made.status)) }
     ensures err { IfErr result (λ fault. fault ≡ NoMemory) }
 {
     match drive {
-        Drive::Closed => closed(alloc, world),
-        Drive::Unfinished(_) => Ok((Vec::from_slice(alloc, b"root open\n")?, OPEN)),
+        Drive::Closed => end_of_closed(alloc, world),
+        Drive::Unfinished(_) => Ok(Answer {
+            text: Vec::from_slice(alloc, b"root open\n")?,
+            status: OPEN,
+        }),
     }
 }
 
 /// The end of a closed run, its report, and the exit status.
-fn closed(alloc: Global, world: &World) -> Result<(Vec<u8>, u8), Fault>
+fn end_of_closed(alloc: Global, world: &World) -> Result<Answer, Fault>
     requires { (g : Setting) × (log : Log) × StandsForLog g log world.now × IsClosed g log }
-    ensures ok { IfOk result (λ made. WhateverLog world.now (λ g log. EndsClosed g log made.0.items made.1)) }
+    ensures ok { IfOk result (λ made. WhateverLog world.now (λ g log. EndsClosed g log made.text.items made.status)) }
     ensures err { IfErr result (λ fault. fault ≡ NoMemory) }
 {
     let outcome = match world.outcome(alloc) {
         Ok(outcome) => outcome,
         Err(fault) => return Err(fault_of_world(fault)),
     };
-    let mut end = Vec::from_slice(alloc, b"root closed\n")?;
-    end.extend_from_slice(&report(alloc, &outcome)?)?;
-    Ok((end, status_of(&outcome)))
+    let mut text = Vec::from_slice(alloc, b"root closed\n")?;
+    text.extend_from_slice(&report(alloc, &outcome)?)?;
+    Ok(Answer {
+        text,
+        status: status_of(&outcome),
+    })
 }
 
 /// The fault of a world that gives no outcome.

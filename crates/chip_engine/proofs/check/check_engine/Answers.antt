@@ -1,10 +1,12 @@
-use Rattle.std.proofs.Common.{inl, inr, refl, Ok, sym, subst}
+use Rattle.std.proofs.Common.{inl, inr, Ok, sym, subst}
 use Rattle.chip_file.specs.Answer.{Answers}
 use Rattle.chip_file.specs.GraphText.{MeansGraph, IsGraphTextFault}
 use Rattle.chip_command.specs.Inputs.{IsRefused}
 use Rattle.chip_engine.specs.CheckCommand.{IsShown}
 use Rattle.chip_command.proofs.InputLemmas.{at_some}
-use Rattle.chip_engine.proofs.EngineLemmas.{refused_check, failed_check}
+use Rattle.chip_command.specs.Reports.{Delivers}
+use Rattle.chip_command.specs.declared.ended.Ended.{Ended}
+use Rattle.chip_engine.proofs.EngineLemmas.{refused_check, delivered_check}
 use Rattle.chip_engine.proofs.check.check_engine.Goals as goal
 
 pub returns-in_err-graph : goal.returns-in_err-graph
@@ -21,24 +23,11 @@ pub returns-in_err-text : goal.returns-in_err-text
 returns-in_err-text g c = λ text is_text.
     refused_check text _ c.from_residual-in_err-text.result _ c.from_residual-in_err-text.ensures.1 (λ fault is. inr is)
 
-pub returns-in_err-write_all_of : goal.returns-in_err-write_all_of
-returns-in_err-write_all_of g c = λ text is_text.
-    let graph = at_some (λ t. Answers t (MeansGraph t) (IsGraphTextFault t) (Ok c.in_ok-graph.graph)) _ text is_text
-    c.in_ok-graph.ensures.means in
-    failed_check text _ _ c.from_residual-in_err-write_all_of.result _ c.from_residual-in_err-write_all_of.ensures.1
-    c.in_ok-graph.graph graph c.as_bytes.result.now
-    (subst (IsShown c.in_ok-graph.graph) (sym c.as_bytes.ensures.value) c.in_ok-text.ensures)
-    c.in_err-write_all_of.field-0.0 (λ fault is. is) c.in_err-write_all_of.ensures
-
 pub returns : goal.returns
 returns g c = λ text is_text.
     let graph = at_some (λ t. Answers t (MeansGraph t) (IsGraphTextFault t) (Ok c.in_ok-graph.graph)) _ text is_text
-    c.in_ok-graph.ensures.means in (
-      c.in_ok-graph.graph,
-      c.as_bytes.result.now,
-      graph,
-      subst (IsShown c.in_ok-graph.graph)
-          (sym c.as_bytes.ensures.value) c.in_ok-text.ensures,
-      c.in_ok-write_all_of.ensures,
-      refl,
-    )
+    c.in_ok-graph.ensures.means in
+    delivered_check text _ _ c.conclude.result c.in_ok-graph.graph graph c.as_bytes.result.now
+    (subst (IsShown c.in_ok-graph.graph) (sym c.as_bytes.ensures.value) c.in_ok-text.ensures)
+    (subst (λ (e : Ended). Delivers (g.W.Write.contents c.args.output.now) (g.W.Write.contents c.conclude.new.output)
+    c.as_bytes.result.now e c.conclude.result) c.of.ensures c.conclude.ensures)

@@ -1,7 +1,8 @@
-use Rattle.std.proofs.Common.{List, ℕ, inl, inr, refl, sym, subst}
+use Rattle.std.proofs.Common.{List, ℕ, inl, inr, sym, subst}
 use Rattle.chip_command.specs.Inputs.{RefusesInputs}
-use Rattle.chip_command.specs.Reports.{Reports}
-use Rattle.chip_engine.proofs.EngineLemmas.{refused_plain, failed_plain}
+use Rattle.chip_command.specs.Reports.{Reports, Delivers}
+use Rattle.chip_command.specs.declared.ended.Ended.{Ended}
+use Rattle.chip_engine.proofs.EngineLemmas.{refused_plain, delivered_plain}
 use Rattle.chip_engine.proofs.plain.plain_engine_watched.Goals as goal
 
 pub returns-in_err-game : goal.returns-in_err-game
@@ -10,28 +11,17 @@ returns-in_err-game g c = λ graph_text graph_is chips_text chips_is.
     (λ fault is. inl (subst (RefusesInputs graph_text chips_text c.args.limit) (sym is)
     (c.in_err-game.ensures graph_text graph_is chips_text chips_is)))
 
-pub returns-in_err-text : goal.returns-in_err-text
-returns-in_err-text g c = λ graph_text graph_is chips_text chips_is.
-    refused_plain graph_text chips_text c.args.limit _ c.from_residual-in_err-text.result _
-    c.from_residual-in_err-text.ensures.1 (λ fault is. inr is)
-
-pub returns-in_err-write_all_of : goal.returns-in_err-write_all_of
-returns-in_err-write_all_of g c = λ graph_text graph_is chips_text chips_is.
-    failed_plain graph_text chips_text c.args.limit _ _ c.from_residual-in_err-write_all_of.result _
-    c.from_residual-in_err-write_all_of.ensures.1
-    c.in_ok-game.game (c.in_ok-game.ensures graph_text graph_is chips_text chips_is)
-    c.deref.result.now c.in_ok-text.status
-    (subst (λ (t : List ℕ). Reports c.in_ok-game.game t c.in_ok-text.status)
-    (sym c.deref.ensures.value) c.in_ok-text.ensures)
-    c.in_err-write_all_of.field-0.0 (λ fault is. is) c.in_err-write_all_of.ensures
+pub returns-in_err-answer : goal.returns-in_err-answer
+returns-in_err-answer g c = λ graph_text graph_is chips_text chips_is.
+    refused_plain graph_text chips_text c.args.limit _ c.from_residual-in_err-answer.result _
+    c.from_residual-in_err-answer.ensures.1 (λ fault is. inr is)
 
 pub returns : goal.returns
-returns g c = λ graph_text graph_is chips_text chips_is. (
-  c.in_ok-game.game,
-  c.in_ok-game.ensures graph_text graph_is chips_text chips_is,
-  c.deref.result.now,
-  subst (λ (t : List ℕ). Reports c.in_ok-game.game t c.in_ok-text.status)
-      (sym c.deref.ensures.value) c.in_ok-text.ensures,
-  c.in_ok-write_all_of.ensures,
-  refl,
-)
+returns g c = λ graph_text graph_is chips_text chips_is.
+    delivered_plain graph_text chips_text c.args.limit _ _ c.conclude.result
+    c.in_ok-game.game (c.in_ok-game.ensures graph_text graph_is chips_text chips_is)
+    c.deref.result.now c.in_ok-answer.answer.status
+    (subst (λ (t : List ℕ). Reports c.in_ok-game.game t c.in_ok-answer.answer.status)
+    (sym c.deref.ensures.value) c.in_ok-answer.ensures)
+    (subst (λ (e : Ended). Delivers (g.W.Write.contents c.args.output.now) (g.W.Write.contents c.conclude.new.output)
+    c.deref.result.now e c.conclude.result) c.of.ensures c.conclude.ensures)

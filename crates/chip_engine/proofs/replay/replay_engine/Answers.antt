@@ -1,9 +1,11 @@
-use Rattle.std.proofs.Common.{◌≡◌, ◌⊎◌, inl, refl, sym, subst}
+use Rattle.std.proofs.Common.{◌≡◌, ◌⊎◌, inl, sym, subst}
 use Rattle.chip_command.specs.Inputs.{RefusesInputs}
 use Rattle.chip_engine.specs.ReplayCommand.{MeansTraces, AreReplayed, RefusesReplay}
 use Rattle.chip_command.specs.declared.fault.Fault.{Fault}
 use Rattle.chip_command.specs.declared.fault.Fault.TheVariants.{NoMemory}
-use Rattle.chip_engine.proofs.EngineLemmas.{refused_replay, refused_traces, failed_replay}
+use Rattle.chip_command.specs.Reports.{Delivers}
+use Rattle.chip_command.specs.declared.ended.Ended.{Ended}
+use Rattle.chip_engine.proofs.EngineLemmas.{refused_replay, refused_traces, delivered_replay}
 use Rattle.chip_engine.proofs.replay.replay_engine.Goals as goal
 
 pub returns-in_err-game : goal.returns-in_err-game
@@ -21,25 +23,13 @@ returns-in_err-lines g c = λ graph_text graph_is chips_text chips_is trace_text
     (subst (λ (f : Fault). RefusesReplay c.in_ok-game.game trace_text f ⊎ (f ≡ NoMemory)) (sym is)
     (c.in_err-lines.ensures trace_text trace_is)))
 
-pub returns-in_err-write_all_of : goal.returns-in_err-write_all_of
-returns-in_err-write_all_of g c = λ graph_text graph_is chips_text chips_is trace_text trace_is.
+pub returns : goal.returns
+returns g c = λ graph_text graph_is chips_text chips_is trace_text trace_is.
     let told = c.in_ok-lines.ensures trace_text trace_is in
     let means : MeansTraces graph_text chips_text trace_text c.args.limit c.in_ok-game.game told.0 =
     record { game = c.in_ok-game.ensures graph_text graph_is chips_text chips_is; each = told.1 } in
-    failed_replay graph_text chips_text trace_text c.args.limit _ _ c.from_residual-in_err-write_all_of.result _
-    c.from_residual-in_err-write_all_of.ensures.1
+    delivered_replay graph_text chips_text trace_text c.args.limit _ _ c.conclude.result
     c.in_ok-game.game told.0 means c.as_bytes.result.now
     (subst (AreReplayed c.in_ok-game.game told.0) (sym c.as_bytes.ensures.value) told.2)
-    c.in_err-write_all_of.field-0.0 (λ fault is. is) c.in_err-write_all_of.ensures
-
-pub returns : goal.returns
-returns g c = λ graph_text graph_is chips_text chips_is trace_text trace_is.
-    let told = c.in_ok-lines.ensures trace_text trace_is in (
-      c.in_ok-game.game,
-      told.0,
-      record { game = c.in_ok-game.ensures graph_text graph_is chips_text chips_is; each = told.1 },
-      c.as_bytes.result.now,
-      subst (AreReplayed c.in_ok-game.game told.0) (sym c.as_bytes.ensures.value) told.2,
-      c.in_ok-write_all_of.ensures,
-      refl,
-    )
+    (subst (λ (e : Ended). Delivers (g.W.Write.contents c.args.output.now) (g.W.Write.contents c.conclude.new.output)
+    c.as_bytes.result.now e c.conclude.result) c.of.ensures c.conclude.ensures)

@@ -1,9 +1,11 @@
-use Rattle.std.proofs.Common.{List, ℕ, Ok, Err, inl, inr, refl, sym, subst}
+use Rattle.std.proofs.Common.{List, ℕ, Ok, Err, inl, inr, sym, subst}
 use Rattle.chip_file.specs.Answer.{Answers}
 use Rattle.chip_file.specs.GraphText.{MeansGraph, IsGraphTextFault}
 use Rattle.chip_engine.specs.ResumeCommand.{MeansSitting, ReportsOn, RefusesReport}
 use Rattle.chip_command.proofs.InputLemmas.{at_some}
-use Rattle.chip_engine.proofs.SittingLemmas.{refused_resume, refused_going, failed_resume}
+use Rattle.chip_command.specs.Reports.{Delivers}
+use Rattle.chip_command.specs.declared.ended.Ended.{Ended}
+use Rattle.chip_engine.proofs.SittingLemmas.{refused_resume, refused_going, delivered_resume}
 use Rattle.chip_engine.proofs.resume.resume_engine.Goals as goal
 
 pub returns-in_err-graph : goal.returns-in_err-graph
@@ -22,40 +24,26 @@ returns-in_err-earlier g c = λ graph_text graph_is report_text report_is.
     c.from_residual-in_err-earlier.ensures.1
     (λ fault is. inl (inr (inl (c.in_ok-graph.graph, graph, subst (RefusesReport report_text) (sym is) why))))
 
-pub returns-in_err-text : goal.returns-in_err-text
-returns-in_err-text g c = λ graph_text graph_is report_text report_is.
+pub returns-in_err-answer : goal.returns-in_err-answer
+returns-in_err-answer g c = λ graph_text graph_is report_text report_is.
     let graph = at_some (λ text. Answers text (MeansGraph text) (IsGraphTextFault text) (Ok c.in_ok-graph.graph)) _
     graph_text graph_is c.in_ok-graph.ensures.means in
     let means : MeansSitting graph_text report_text c.in_ok-graph.graph c.in_ok-earlier.earlier =
     record { graph = graph; report = c.in_ok-earlier.ensures.sitting report_text report_is } in
-    refused_resume graph_text report_text c.args.limit _ c.from_residual-in_err-text.result _
-    c.from_residual-in_err-text.ensures.1
+    refused_resume graph_text report_text c.args.limit _ c.from_residual-in_err-answer.result _
+    c.from_residual-in_err-answer.ensures.1
     (refused_going graph_text report_text c.args.limit c.in_ok-graph.graph c.in_ok-earlier.earlier means
-    c.in_err-text.field-0.0 c.in_err-text.ensures.err)
-
-pub returns-in_err-write_all_of : goal.returns-in_err-write_all_of
-returns-in_err-write_all_of g c = λ graph_text graph_is report_text report_is.
-    let graph = at_some (λ text. Answers text (MeansGraph text) (IsGraphTextFault text) (Ok c.in_ok-graph.graph)) _
-    graph_text graph_is c.in_ok-graph.ensures.means in
-    let means : MeansSitting graph_text report_text c.in_ok-graph.graph c.in_ok-earlier.earlier =
-    record { graph = graph; report = c.in_ok-earlier.ensures.sitting report_text report_is } in
-    failed_resume graph_text report_text c.args.limit _ _ c.from_residual-in_err-write_all_of.result _
-    c.from_residual-in_err-write_all_of.ensures.1
-    c.in_ok-graph.graph c.in_ok-earlier.earlier means c.deref.result.now c.in_ok-text.status
-    (subst (λ (t : List ℕ). ReportsOn c.in_ok-graph.graph c.in_ok-earlier.earlier c.args.limit t c.in_ok-text.status)
-    (sym c.deref.ensures.value) (c.in_ok-text.ensures.ok graph.1.valid))
-    c.in_err-write_all_of.field-0.0 (λ fault is. is) c.in_err-write_all_of.ensures
+    c.in_err-answer.field-0.0 c.in_err-answer.ensures.err)
 
 pub returns : goal.returns
 returns g c = λ graph_text graph_is report_text report_is.
     let graph = at_some (λ text. Answers text (MeansGraph text) (IsGraphTextFault text) (Ok c.in_ok-graph.graph)) _
-    graph_text graph_is c.in_ok-graph.ensures.means in (
-      c.in_ok-graph.graph,
-      c.in_ok-earlier.earlier,
-      record { graph = graph; report = c.in_ok-earlier.ensures.sitting report_text report_is },
-      c.deref.result.now,
-      subst (λ (t : List ℕ). ReportsOn c.in_ok-graph.graph c.in_ok-earlier.earlier c.args.limit t c.in_ok-text.status)
-          (sym c.deref.ensures.value) (c.in_ok-text.ensures.ok graph.1.valid),
-      c.in_ok-write_all_of.ensures,
-      refl,
-    )
+    graph_text graph_is c.in_ok-graph.ensures.means in
+    let means : MeansSitting graph_text report_text c.in_ok-graph.graph c.in_ok-earlier.earlier =
+    record { graph = graph; report = c.in_ok-earlier.ensures.sitting report_text report_is } in
+    delivered_resume graph_text report_text c.args.limit _ _ c.conclude.result
+    c.in_ok-graph.graph c.in_ok-earlier.earlier means c.deref.result.now c.in_ok-answer.answer.status
+    (subst (λ (t : List ℕ). ReportsOn c.in_ok-graph.graph c.in_ok-earlier.earlier c.args.limit t c.in_ok-answer.answer.status)
+    (sym c.deref.ensures.value) (c.in_ok-answer.ensures.ok graph.1.valid))
+    (subst (λ (e : Ended). Delivers (g.W.Write.contents c.args.output.now) (g.W.Write.contents c.conclude.new.output)
+    c.deref.result.now e c.conclude.result) c.of.ensures c.conclude.ensures)

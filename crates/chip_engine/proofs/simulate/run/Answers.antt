@@ -21,10 +21,10 @@ returns-clause-ok c =
       after = driven.0;
       drive = c.drive-drive.result;
       driven = driven.2;
-      end = c.in_ok-end.end.items;
+      end = c.in_ok-end.end.text.items;
       lines =
           c.in_ok-extend_from_slice.ensures.items
           ∙ ap (λ (t : List ℕ). c.in_ok-text.text.items ++ t) c.deref.ensures.value
-          ∙ ap (λ (t : List ℕ). t ++ c.in_ok-end.end.items) c.in_ok-text.ensures.lines;
+          ∙ ap (λ (t : List ℕ). t ++ c.in_ok-end.end.text.items) c.in_ok-text.ensures.lines;
       ends = c.in_ok-end.ensures.ok g driven.0 driven.1;
     }

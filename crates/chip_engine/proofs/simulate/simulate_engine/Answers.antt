@@ -1,7 +1,5 @@
-use Rattle.std.proofs.Common.{◌≡◌, List, ℕ, inl, inr, refl, Some, Ok, Err, sym, subst, ◌∙◌}
-use Rattle.std.specs.Io.KnownBytes.{Appends}
+use Rattle.std.proofs.Common.{◌≡◌, false, List, ℕ, inl, inr, Some, Ok, sym, subst, ◌∙◌}
 use Rattle.chip_part.specs.Setting.{Setting, setting_with}
-use Rattle.chip_report.specs.Written.{WritesAll}
 use Rattle.chip_graph.specs.Multigraph.{Multigraph}
 use Rattle.chip_link.specs.declared.event.Event.{Event}
 use Rattle.chip_file.specs.Answer.{Answers}
@@ -9,7 +7,9 @@ use Rattle.chip_file.specs.ScheduleText.{schedule_of_text, schedule_text_fault}
 use Rattle.chip_command.specs.Inputs.{IsRefused, RefusesInputs}
 use Rattle.chip_engine.specs.SimulateCommand.{MeansEvents, Simulates}
 use Rattle.chip_command.proofs.InputLemmas.{at_some}
-use Rattle.chip_engine.proofs.EngineLemmas.{refused_simulate, failed_simulate, means_events}
+use Rattle.chip_command.specs.Reports.{Delivers}
+use Rattle.chip_command.specs.declared.ended.Ended.{Ended}
+use Rattle.chip_engine.proofs.EngineLemmas.{refused_simulate, delivered_simulate, means_events}
 use Rattle.chip_engine.proofs.simulate.simulate_engine.Goals as goal
 
 pub returns-in_err-game : goal.returns-in_err-game
@@ -38,33 +38,11 @@ returns-in_err-events g c = λ graph_text graph_is chips_text chips_is schedule_
       ),
     )))
 
-pub returns-in_err-text : goal.returns-in_err-text
-returns-in_err-text g c = λ graph_text graph_is chips_text chips_is schedule_text schedule_is.
+pub returns-in_err-answer : goal.returns-in_err-answer
+returns-in_err-answer g c = λ graph_text graph_is chips_text chips_is schedule_text schedule_is.
     refused_simulate graph_text chips_text schedule_text c.args.limit c.args.ring c.args.rounds c.args.books c.args.fed _
-    c.from_residual-in_err-text.result _ c.from_residual-in_err-text.ensures.1
-    (λ fault is. inr (is ∙ c.in_err-text.ensures.err))
-
-pub returns-in_err-write_all_of : goal.returns-in_err-write_all_of
-returns-in_err-write_all_of g c = λ graph_text graph_is chips_text chips_is schedule_text schedule_is.
-    let read = at_some (λ text. Answers text (λ events. schedule_of_text c.graph.result.now text ≡ Some events.items)
-    (λ f. schedule_text_fault c.graph.result.now text ≡ Some f) (Ok c.in_ok-events.events)) _ schedule_text
-    schedule_is c.in_ok-events.ensures.means in
-    let means : MeansEvents graph_text chips_text schedule_text c.args.limit c.in_ok-game.game
-    c.in_ok-events.events.items =
-    means_events graph_text chips_text schedule_text c.args.limit c.in_ok-game.game c.in_ok-events.events.items
-    c.graph.result.now c.graph.ensures.value (c.in_ok-game.ensures graph_text graph_is chips_text chips_is) read in
-    let simulates = subst (λ (xs : List Event). Simulates (setting_with c.in_ok-game.game c.args.ring c.args.fed) c.args.rounds
-    c.args.books xs c.in_ok-text.text.items c.in_ok-text.status) c.deref.ensures.value
-    (subst (λ (s : Setting). Simulates s c.args.rounds c.args.books c.deref.result.now c.in_ok-text.text.items
-    c.in_ok-text.status) c.new-setting.ensures c.in_ok-text.ensures.ok) in
-    let wrote = subst (λ (text : List ℕ). WritesAll (g.W.Write.contents c.args.output.now)
-    (g.W.Write.contents c.write_all_of.new.writer) text (Err c.in_err-write_all_of.field-0.0)) c.deref-2.ensures.value
-    c.in_err-write_all_of.ensures in
-    failed_simulate graph_text chips_text schedule_text c.args.limit c.args.ring c.args.rounds c.args.books c.args.fed _ _
-    c.from_residual-in_err-write_all_of.result _ c.from_residual-in_err-write_all_of.ensures.1
-    c.in_ok-game.game c.in_ok-events.events.items means
-    c.in_ok-text.text.items c.in_ok-text.status simulates
-    c.in_err-write_all_of.field-0.0 (λ fault is. is) wrote
+    c.from_residual-in_err-answer.result _ c.from_residual-in_err-answer.ensures.1
+    (λ fault is. inr (is ∙ c.in_err-answer.ensures.err))
 
 pub returns : goal.returns
 returns g c = λ graph_text graph_is chips_text chips_is schedule_text schedule_is.
@@ -76,16 +54,14 @@ returns g c = λ graph_text graph_is chips_text chips_is schedule_text schedule_
     means_events graph_text chips_text schedule_text c.args.limit c.in_ok-game.game c.in_ok-events.events.items
     c.graph.result.now c.graph.ensures.value (c.in_ok-game.ensures graph_text graph_is chips_text chips_is) read in
     let simulates = subst (λ (xs : List Event). Simulates (setting_with c.in_ok-game.game c.args.ring c.args.fed) c.args.rounds
-    c.args.books xs c.in_ok-text.text.items c.in_ok-text.status) c.deref.ensures.value
-    (subst (λ (s : Setting). Simulates s c.args.rounds c.args.books c.deref.result.now c.in_ok-text.text.items
-    c.in_ok-text.status) c.new-setting.ensures c.in_ok-text.ensures.ok) in
-    let wrote = subst (λ (text : List ℕ). Appends (g.W.Write.contents c.args.output.now)
-    (g.W.Write.contents c.write_all_of.new.writer) text) c.deref-2.ensures.value c.in_ok-write_all_of.ensures in (
-      c.in_ok-game.game,
-      c.in_ok-events.events.items,
-      means,
-      c.in_ok-text.text.items,
-      simulates,
-      wrote,
-      refl,
-    )
+    c.args.books xs c.in_ok-answer.answer.text.items c.in_ok-answer.answer.status) c.deref.ensures.value
+    (subst (λ (s : Setting). Simulates s c.args.rounds c.args.books c.deref.result.now c.in_ok-answer.answer.text.items
+    c.in_ok-answer.answer.status) c.new-setting.ensures c.in_ok-answer.ensures.ok) in
+    let went = subst (λ (e : Ended). Delivers (g.W.Write.contents c.args.output.now)
+    (g.W.Write.contents c.conclude.new.output) c.deref-2.result.now e c.conclude.result) c.of.ensures c.conclude.ensures in
+    delivered_simulate graph_text chips_text schedule_text c.args.limit c.args.ring c.args.rounds c.args.books c.args.fed
+    _ _ c.conclude.result c.in_ok-game.game c.in_ok-events.events.items means
+    c.in_ok-answer.answer.text.items c.in_ok-answer.answer.status simulates
+    (subst (λ (text : List ℕ). Delivers (g.W.Write.contents c.args.output.now)
+    (g.W.Write.contents c.conclude.new.output) text (record { status = c.in_ok-answer.answer.status; cut = false })
+    c.conclude.result) c.deref-2.ensures.value went)

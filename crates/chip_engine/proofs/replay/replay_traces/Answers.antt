@@ -9,7 +9,7 @@ use Rattle.chip_engine.specs.Lines.{lines_text}
 use Rattle.chip_engine.specs.ReplayCommand.{firing_text}
 use Rattle.chip_command.proofs.InputLemmas.{at_some}
 use Rattle.chip_engine.proofs.EngineLemmas.{refused_stuck, refused_lines}
-use Rattle.chip_engine.proofs.replay.replayed.Goals as goal
+use Rattle.chip_engine.proofs.replay.replay_traces.Goals as goal
 
 pub replay-requires : goal.replay-requires
 replay-requires g c =

@@ -3,7 +3,7 @@ use Rattle.std.proofs.lemmas.List.{length-append}
 use Rattle.chip_graph.specs.Multigraph.{IsDistance}
 use Rattle.chip_engine.specs.CheckCommand.{head_text, vertices_text}
 use Rattle.chip_engine.proofs.CheckLemmas.{shown_more, distances_more}
-use Rattle.chip_engine.proofs.check.shown.Goals as goal
+use Rattle.chip_engine.proofs.check.show.Goals as goal
 
 pub loop-vertex-preserved : goal.loop-vertex-preserved
 loop-vertex-preserved c =

@@ -2,7 +2,7 @@ use Rattle.std.proofs.Common.{[], IfOk, sym, subst}
 use Rattle.chip_part.specs.Setting.{Setting}
 use Rattle.chip_world.specs.World.{StandsForLog}
 use Rattle.chip_engine.specs.SimulateCommand.{Simulates}
-use Rattle.chip_engine.proofs.simulate.simulated.Goals as goal
+use Rattle.chip_engine.proofs.simulate.simulate.Goals as goal
 
 pub run-requires : goal.run-requires
 run-requires c =
@@ -12,5 +12,5 @@ run-requires c =
 pub returns-clause-ok : goal.returns-clause-ok
 returns-clause-ok c = subst
     (λ (g : Setting). IfOk c.run.result
-    (λ made. Simulates g c.args.rounds c.args.books c.args.events.now made.0.items made.1))
+    (λ made. Simulates g c.args.rounds c.args.books c.args.events.now made.text.items made.status))
     c.in_ok-world.ensures.setting c.run.ensures.ok

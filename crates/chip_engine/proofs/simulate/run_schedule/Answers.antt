@@ -1,7 +1,7 @@
 use Rattle.std.proofs.Common.{string_bytes}
 use Rattle.chip_link.specs.declared.event.Event.TheVariants.{Take}
 use Rattle.chip_engine.proofs.AnswerLemmas.{one_answer_more}
-use Rattle.chip_engine.proofs.simulate.scheduled.Goals as goal
+use Rattle.chip_engine.proofs.simulate.run_schedule.Goals as goal
 
 pub loop-event-preserved : goal.loop-event-preserved
 loop-event-preserved c = one_answer_more c.args.books c.args.world.now.setting c.args.events.now

@@ -1,5 +1,5 @@
 use Rattle.chip_engine.proofs.SittingLemmas.{leads_on, none_legal}
-use Rattle.chip_engine.proofs.resume.gone_on.Goals as goal
+use Rattle.chip_engine.proofs.resume.go_on.Goals as goal
 
 pub returns-clause-ok : goal.returns-clause-ok
 returns-clause-ok c = λ good. record {

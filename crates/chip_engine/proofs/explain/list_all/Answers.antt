@@ -1,6 +1,6 @@
 use Rattle.std.proofs.Common.{◌≤◌, length, arith}
 use Rattle.chip_engine.proofs.ExplainLemmas.{listed_more, listed_all}
-use Rattle.chip_engine.proofs.explain.listed.Goals as goal
+use Rattle.chip_engine.proofs.explain.list_all.Goals as goal
 
 pub loop-row-preserved : goal.loop-row-preserved
 loop-row-preserved c =

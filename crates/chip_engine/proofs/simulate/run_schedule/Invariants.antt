@@ -2,7 +2,7 @@ use Rattle.std.proofs.Common.{◌≡◌, [], take, string_bytes}
 use Rattle.chip_core.specs.Core.{log_after}
 use Rattle.chip_world.specs.World.{StandsForLog}
 use Rattle.chip_engine.specs.SimulateCommand.{answers_text}
-use Rattle.chip_engine.proofs.simulate.scheduled.Given as goal
+use Rattle.chip_engine.proofs.simulate.run_schedule.Given as goal
 
 abbrev pub invariant-loop-event : goal.invariant-loop-event
 invariant-loop-event l = let g = l.fn.world.setting in

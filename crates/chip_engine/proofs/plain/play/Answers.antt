@@ -1,0 +1,4 @@
+use Rattle.chip_engine.proofs.plain.play.Goals as goal
+
+pub returns : goal.returns
+returns g c = (c.in_ok-outcome.outcome, c.in_ok-outcome.ensures.played, c.in_ok-report.ensures, c.status_of.ensures)

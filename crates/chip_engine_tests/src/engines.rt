@@ -1,10 +1,12 @@
 //! Worked games and graphs through the engines, with answers by hand.
 
 use chip_command::{Ended, Fault};
-use chip_engine::{check_engine, plain_engine, replay_engine, resume_engine, simulate_engine};
+use chip_engine::{
+    check_engine, plain_engine, plain_engine_watched, replay_engine, resume_engine, simulate_engine,
+};
 use chip_file::{FileFault, read_graph, read_trace};
-use chip_fire::ResumeFault;
-use chip_graph::{GameFault, GraphFault};
+use chip_fire::{ResumeFault, Watch};
+use chip_graph::{Game, GameFault, GraphFault};
 use chip_link::{Ring, TraceRow};
 use chip_report::WriteFault;
 use chip_trace::write_trace;
@@ -102,6 +104,36 @@ fn plays_worked_games(rt: HostRuntime) {
         assert!(rt; ended == closed(status), "{name}");
         assert_eq!(rt; output.as_slice(), report.as_bytes(), "{name}");
     }
+}
+
+/// How often the vertices had fired when it was last told of a play.
+#[derive(Drop)]
+struct Heard {
+    fired: [u64; 3],
+}
+
+impl Watch for Heard {
+    fn rounds(&mut self, _more: u64, _game: &Game, _chips: &[u64], fired: &[u64]) {
+        for (vertex, times) in self.fired.iter_mut().enumerate() {
+            *times = fired.get(vertex).copied().unwrap_or(0);
+        }
+    }
+}
+
+#[test]
+fn tells_its_watcher(rt: HostRuntime) {
+    let mut heard = Heard { fired: [0; 3] };
+    let mut output = Vec::new(rt.alloc());
+    let ended = plain_engine_watched(
+        rt.alloc(),
+        &mut TRIANGLE.as_bytes(),
+        &mut "vertex,chips\n0,4\n".as_bytes(),
+        NO_LIMIT,
+        &mut heard,
+        &mut output,
+    );
+    assert!(rt; ended == closed(0));
+    assert_eq!(rt; heard.fired, [2, 1, 0]);
 }
 
 #[test]
@@ -305,6 +337,25 @@ fn goes_on_with_the_triangle(rt: HostRuntime) {
         assert!(rt; ended == wanted);
         assert_eq!(rt; output.as_slice(), text.as_bytes());
     }
+}
+
+/// Where the graph is refused nothing of the report is read.
+#[test]
+fn reads_no_report_of_a_refused_graph(rt: HostRuntime) {
+    let no_edge = "{\"edges\":[],\"sink\":1,\"version\":1,\"vertices\":2}";
+    let mut report = STOPPED.as_bytes();
+    let mut output = Vec::new(rt.alloc());
+    let ended = resume_engine(
+        rt.alloc(),
+        &mut no_edge.as_bytes(),
+        &mut report,
+        NO_LIMIT,
+        &mut output,
+    );
+    let unreached = FileFault::Graph(GraphFault::Unreached(0));
+    assert!(rt; ended == Err(Fault::File(unreached)));
+    assert_eq!(rt; report, STOPPED.as_bytes());
+    assert!(rt; output.is_empty());
 }
 
 #[test]

@@ -208,3 +208,42 @@ fn tells_a_write_that_failed(rt: HostRuntime) -> Result<(), Fail> {
         }
     }
 }
+
+/// A writer that takes one byte at each write, and fails once it has taken so many.
+#[derive(Drop)]
+struct Trickle {
+    taken: u64,
+    room: u64,
+}
+
+impl io::Write for Trickle {
+    fn write(&mut self, bytes: &[u8]) -> io::Result<usize> {
+        if bytes.is_empty() || self.taken >= self.room {
+            return Err(io::Error::from(io::ErrorKind::Other));
+        }
+        self.taken = self.taken.saturating_add(1);
+        Ok(1)
+    }
+
+    fn flush(&mut self) -> io::Result<()> {
+        Ok(())
+    }
+}
+
+/// A text of more than a mebibyte goes out byte by byte, and a failure is told where it comes.
+#[test]
+fn writes_byte_by_byte(rt: HostRuntime) -> Result<(), Fail> {
+    let traces = long_run(rt.alloc())?;
+    assert!(rt; traces.len() == 2);
+    for (room, answer) in [
+        (1_100_038, Ok(())),
+        (1_100_037, Err(TraceFault::Write)),
+        (1, Err(TraceFault::Write)),
+    ] {
+        let mut writer = Trickle { taken: 0, room };
+        let told = write_trace(rt.alloc(), &[&traces[0], &traces[1]], &mut writer);
+        assert_eq!(rt; told, answer);
+        assert_eq!(rt; writer.taken, room);
+    }
+    Ok(())
+}

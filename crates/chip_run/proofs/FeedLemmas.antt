@@ -1,3 +1,4 @@
+-- Serves Feeding.antt.
 -- The feeds of chips, vertex by vertex.
 use Rattle.std.proofs.Common.{◌≡◌, ◌∙◌, ℕ, ◌+◌, ◌<◌, nat_lt, cond, ap, sym, subst, zero-add, List, [], ◌∷◌, ◌++◌, length, take, filter, get_or, Result, Ok, Err, inl, inr, refl}
 use Rattle.std.specs.List.{enumerate_from}

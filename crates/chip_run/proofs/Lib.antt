@@ -1,2 +1,3 @@
 pub mod FeedLemmas
 pub mod RunLemmas
+pub mod SameLemmas

@@ -1,10 +1,8 @@
+-- Serves RunCommand.antt, Feeding.antt, Recording.antt.
 -- From the parts of the engine to its whole.
 use Rattle.std.proofs.Common.{◌≡◌, ℕ, Bool, refl, sym, subst, List, map, Option, Some, None, Result, Ok, Err, inl, inr}
 use Rattle.std.specs.Result.{IsErrAnd, IfErr}
-use Rattle.std.specs.Io.KnownBytes.{Appends}
 use Rattle.chip_graph.specs.ChipGame.{ChipGame}
-use Rattle.chip_report.specs.Written.{WritesAll}
-use Rattle.chip_report.specs.declared.write.WriteFault.{WriteFault}
 use Rattle.chip_crew.specs.declared.plan.Plan.{Plan}
 use Rattle.chip_net.specs.Tokens.{ActorKnown}
 use Rattle.chip_trace.specs.TraceText.{trace_text, WritesText}
@@ -14,7 +12,7 @@ use Rattle.chip_command.specs.Faults.{fault_of_trace}
 use Rattle.chip_command.specs.Inputs.{MeansGame}
 use Rattle.chip_command.specs.declared.ended.Ended.{Ended}
 use Rattle.chip_command.specs.declared.fault.Fault.{Fault}
-use Rattle.chip_command.specs.declared.fault.Fault.TheVariants.{Write}
+use Rattle.chip_command.specs.Reports.{Delivers}
 use Rattle.chip_command.proofs.InputLemmas.{Keeps-same}
 use Rattle.chip_crew.specs.Feeding.{Left}
 use Rattle.chip_crew.specs.Finished.{IsFaultOf}
@@ -76,21 +74,25 @@ module _ (graph_text chips_text : List ℕ) (feed_text : Option (List ℕ)) (lim
     untraced_run status plays (Err f) P is why =
         inr (g, feeds, means, inr (inl (actors, text, status, plays, why f is, Keeps-same report)))
 
-    -- an output that failed
-    pub failed_run : (status : ℕ) → Plays g feeds plan actors text status → (cut : Bool)
-        → RecordsIfAsked actors trace new_trace cut → (result : Result Ended Fault) (P : Fault → Type 0)
-        → IsErrAnd result P → (w : WriteFault) → ((f : Fault) → P f → f ≡ Write w)
-        → WritesAll report new_report text (Err w)
+    -- the report went out, or its output failed
+    pub delivered_run : (status : ℕ) → Plays g feeds plan actors text status → (cut : Bool)
+        → RecordsIfAsked actors trace new_trace cut → (result : Result Ended Fault)
+        → Delivers report new_report text (record { status = status; cut = cut }) result
         → RunAnswers graph_text chips_text feed_text limit plan before after result
-    failed_run status plays cut records (Ok ended) P is w why wrote = absurd is
-    failed_run status plays cut records (Err f) P is w why wrote =
-        inr (g, feeds, means, inr (inr (actors, text, status, plays, cut, records, w, why f is, wrote)))
-
-    -- a report that was written whole
-    pub reported_run : (ended : Ended) → Plays g feeds plan actors text ended.status
-        → RecordsIfAsked actors trace new_trace ended.cut → Appends report new_report text
-        → RunAnswers graph_text chips_text feed_text limit plan before after (Ok ended)
-    reported_run ended plays records appends = inr (g, feeds, means, (actors, text, plays, records, appends))
+    delivered_run status plays cut records (Ok ended) went = inr (
+      g,
+      feeds,
+      means,
+      (
+        actors,
+        text,
+        subst (λ (e : Ended). Plays g feeds plan actors text e.status) (sym went.0) plays,
+        subst (λ (e : Ended). RecordsIfAsked actors trace new_trace e.cut) (sym went.0) records,
+        went.1,
+      ),
+    )
+    delivered_run status plays cut records (Err f) failed =
+        inr (g, feeds, means, inr (inr (actors, text, status, plays, cut, records, failed.0, failed.1, failed.2)))
 
 -- the same actors and the same text by other names
 pub plays_as : (g : ChipGame) (feeds : Option (List (ℕ × ℕ))) (plan : Plan) (actors seen : List ActorKnown)

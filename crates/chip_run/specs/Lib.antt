@@ -1,3 +1,4 @@
 pub mod Feeding
 pub mod Recording
 pub mod RunCommand
+pub mod Laws

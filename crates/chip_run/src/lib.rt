@@ -7,5 +7,6 @@
 pub use running::{run_engine, run_engine_gated};
 
 mod feeding;
+pub mod laws;
 mod recording;
 mod running;

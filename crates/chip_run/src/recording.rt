@@ -10,7 +10,7 @@ use std::alloc::Global;
 use std::io::Write;
 
 /// Writes the traces of all actors, where that is asked for, and tells whether one of them was cut.
-pub(crate) fn recorded<T: Write>(
+pub(crate) fn record_if_asked<T: Write>(
     alloc: Global,
     actors: &[Actor],
     trace: &mut Option<T>,

@@ -8,13 +8,12 @@ ghost use Rattle.chip_run.specs.Feeding.{ForText};
 ghost use Rattle.chip_run.specs.RunCommand.{RunAnswers, Plays, IsNotPlayed, plan_of};
 
 use crate::feeding::read_fed;
-use crate::recording::recorded;
-use chip_command::{Ended, Fault, read_game, status_of};
+use crate::recording::record_if_asked;
+use chip_command::{Ended, Fault, conclude, read_game, status_of};
 use chip_crew::{CrewFault, Finished, Gate, Plan, run_with};
 use chip_graph::{Game, GameFault};
 use chip_net::Actor;
 use chip_report::report::report;
-use chip_report::write_all_of;
 use std::alloc::{AllocError, Global};
 use std::io::{Read, Write};
 use std::sync::Wait;
@@ -109,12 +108,12 @@ pub fn run_engine_gated<
         let feeds = read_fed(alloc, feed, game.graph().vertices())?;
         play(rt, alloc, &game, feeds, plan, gate)?
     };
-    let cut = recorded(alloc, &played.actors, trace)?;
-    write_all_of(output, &played.text)?;
-    Ok(Ended {
+    let cut = record_if_asked(alloc, &played.actors, trace)?;
+    let ended = Ended {
         status: played.status,
         cut,
-    })
+    };
+    conclude(output, &played.text, ended)
 }
 
 /// A game that was played.
@@ -144,13 +143,13 @@ fn play<R: Threads + Wait + Sync, K: Gate + Sync>(
     ensures fault { IfErr result (IsNotPlayed game.now (option_map (λ fed. fed.items) feeds) plan) }
 {
     match run_with(rt, alloc, game, plan, feeds.as_deref(), gate) {
-        Ok(finished) => Ok(reported(alloc, finished)?),
+        Ok(finished) => Ok(report_of(alloc, finished)?),
         Err(fault) => Err(fault_of_crew(fault)),
     }
 }
 
 /// The report of a game that a crew finished.
-fn reported(alloc: Global, finished: Finished) -> Result<Played, AllocError>
+fn report_of(alloc: Global, finished: Finished) -> Result<Played, AllocError>
     ensures text { IfOk result (λ p. p.text.items ≡ report_text finished.outcome) }
     ensures status { IfOk result (λ p. p.status ≡ plain_status finished.outcome) }
     ensures actors { IfOk result (λ p. p.actors ≡ finished.actors) }

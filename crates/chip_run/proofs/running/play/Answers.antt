@@ -11,15 +11,15 @@ returns-in-Ok-clause-played g c =
     c.in-Ok.ensures.finished in record {
       crew = c.in-Ok.finished;
       finished = finished;
-      actors_are = ap (λ a. a.items) c.in_ok-reported-in-Ok.ensures.actors;
+      actors_are = ap (λ a. a.items) c.in_ok-report_of-in-Ok.ensures.actors;
       reports = (
         finished.whole,
         finished.whole_is,
         (
           c.in-Ok.finished.outcome,
           finished.played c.requires.seal,
-          c.in_ok-reported-in-Ok.ensures.text,
-          c.in_ok-reported-in-Ok.ensures.status,
+          c.in_ok-report_of-in-Ok.ensures.text,
+          c.in_ok-report_of-in-Ok.ensures.status,
         ),
       );
     }

@@ -5,8 +5,8 @@ use Rattle.chip_command.specs.Inputs.{RefusesInputs}
 use Rattle.chip_run.specs.Feeding.{RefusesFed}
 use Rattle.chip_run.specs.Recording.{FailsToRecord}
 use Rattle.chip_run.specs.RunCommand.{IsNotPlayed}
-use Rattle.chip_run.proofs.RunLemmas.{for_text, for_each_text, refused_run, unplayed_run, untraced_run, failed_run}
-use Rattle.chip_run.proofs.RunLemmas.{reported_run, means_fed, plays_as}
+use Rattle.chip_run.proofs.RunLemmas.{for_text, for_each_text, refused_run, unplayed_run, untraced_run, delivered_run}
+use Rattle.chip_run.proofs.RunLemmas.{means_fed, plays_as}
 use Rattle.chip_run.proofs.running.run_engine_gated.Goals as goal
 
 pub returns-in_err-game : goal.returns-in_err-game
@@ -53,26 +53,13 @@ returns-in_err-cut g c = λ graph_text graph_is chips_text chips_is. for_text _ 
     c.from_residual-in_err-cut.result _ c.from_residual-in_err-cut.ensures.1
     (λ fault is. subst (FailsToRecord c.deref.result.now _ _) (sym is) c.in_err-cut.ensures)) c.in_ok-feeds.ensures
 
-pub returns-in_err-write_all_of : goal.returns-in_err-write_all_of
-returns-in_err-write_all_of g c = λ graph_text graph_is chips_text chips_is. for_text _ _ _ (λ feed_text fed.
-    let vertices = c.vertices.ensures.value ∙ ap (λ (G : Multigraph). G.vertices) c.graph.ensures.value in
-    let feeds : Option (List (ℕ × ℕ)) = option_map (λ feeds. feeds.items) c.in_ok-feeds.feeds in
-    failed_run graph_text chips_text feed_text c.args.limit c.args.plan c.in_ok-game.game feeds
-    (means_fed graph_text chips_text feed_text c.args.limit c.in_ok-game.game feeds _ vertices
-    (c.in_ok-game.ensures graph_text graph_is chips_text chips_is) fed) _ _ _ _ c.deref.result.now
-    c.deref-2.result.now c.in_ok-played.played.status
-    (plays_as _ _ _ _ _ _ _ _ c.in_ok-played.ensures.played c.deref.ensures.value c.deref-2.ensures.value)
-    c.in_ok-cut.cut c.in_ok-cut.ensures c.from_residual-in_err-write_all_of.result _
-    c.from_residual-in_err-write_all_of.ensures.1 c.in_err-write_all_of.field-0.0 (λ fault is. is)
-    c.in_err-write_all_of.ensures) c.in_ok-feeds.ensures
-
 pub returns : goal.returns
 returns g c = λ graph_text graph_is chips_text chips_is. for_text _ _ _ (λ feed_text fed.
     let vertices = c.vertices.ensures.value ∙ ap (λ (G : Multigraph). G.vertices) c.graph.ensures.value in
     let feeds : Option (List (ℕ × ℕ)) = option_map (λ feeds. feeds.items) c.in_ok-feeds.feeds in
-    reported_run graph_text chips_text feed_text c.args.limit c.args.plan c.in_ok-game.game feeds
+    delivered_run graph_text chips_text feed_text c.args.limit c.args.plan c.in_ok-game.game feeds
     (means_fed graph_text chips_text feed_text c.args.limit c.in_ok-game.game feeds _ vertices
     (c.in_ok-game.ensures graph_text graph_is chips_text chips_is) fed) _ _ _ _ c.deref.result.now
-    c.deref-2.result.now _
+    c.deref-2.result.now c.in_ok-played.played.status
     (plays_as _ _ _ _ _ _ _ _ c.in_ok-played.ensures.played c.deref.ensures.value c.deref-2.ensures.value)
-    c.in_ok-cut.ensures c.in_ok-write_all_of.ensures) c.in_ok-feeds.ensures
+    c.in_ok-cut.cut c.in_ok-cut.ensures c.conclude.result c.conclude.ensures) c.in_ok-feeds.ensures

@@ -1,7 +1,7 @@
 //! The arguments of the program, and what they ask for.
 
 use crate::commands::{
-    BOOKS, CHIPS, CommandRow, FAULT_NUMBER, FED, FEED, FLAGS, GRAPH, LIMIT, Operand, OperandRow,
+    BOOKS, CHIPS, CommandRow, FAULT_NUMBER, FED, FEED, GRAPH, LIMIT, Operand, OperandRow,
     OptionRow, OptionValue, PROGRESS, REPORT, RING, ROUNDS, SCHEDULE, TRACE, TRACE_FILE,
     TRACE_ROWS, TURNS, WORKERS, commands,
 };
@@ -31,11 +31,12 @@ pub struct FileArgument<'a> {
     pub number: u64,
 }
 
-/// A game that the arguments name: its files, and how often each vertex may fire.
+/// What the arguments name of a game: its graph, with what it starts, and how often each vertex may fire.
 #[derive(Clone, Copy)]
 pub struct GameArguments<'a> {
     pub graph: FileArgument<'a>,
-    pub chips: FileArgument<'a>,
+    /// The chips, or the report of the play that goes on.
+    pub start: FileArgument<'a>,
     /// Up to 2^40.
     pub limit: u64,
 }
@@ -83,15 +84,6 @@ pub struct RunArguments<'a> {
     pub progress: bool,
 }
 
-/// A play to go on with that the arguments name: its files, and how often each vertex may fire in this sitting.
-#[derive(Clone, Copy)]
-pub struct SittingArguments<'a> {
-    pub graph: FileArgument<'a>,
-    pub report: FileArgument<'a>,
-    /// Up to 2^40.
-    pub limit: u64,
-}
-
 /// A run to replay that the arguments name.
 #[derive(Clone, Copy)]
 pub struct ReplayArguments<'a> {
@@ -106,19 +98,20 @@ pub enum Request<'a> {
     /// The help or the version, to be printed.
     Help(String),
     Check(FileArgument<'a>),
-    Plain(Box<PlainArguments<'a>>),
-    Simulate(Box<SimulationArguments<'a>>),
-    Run(Box<RunArguments<'a>>),
-    Replay(Box<ReplayArguments<'a>>),
-    Resume(Box<SittingArguments<'a>>),
+    Plain(PlainArguments<'a>),
+    Simulate(SimulationArguments<'a>),
+    Run(RunArguments<'a>),
+    Replay(ReplayArguments<'a>),
+    /// Its start is a report.
+    Resume(GameArguments<'a>),
     /// The number of a fault, if one is named.
     Explain(Option<u64>),
 }
 
 /// Reads the arguments, the program's own name first.
 pub fn parse<'a>(alloc: Global, arguments: &'a [String]) -> Result<Request<'a>, ArgumentsFault> {
-    match matches_of(alloc, arguments) {
-        Ok(matches) => request_of(alloc, &matches, arguments),
+    match program(alloc)?.try_get_matches_from(arguments) {
+        Ok(matches) => request_of(&matches, arguments).ok_or(ArgumentsFault::Usage),
         Err(error) => match error.kind() {
             ErrorKind::DisplayHelp | ErrorKind::DisplayVersion => {
                 Ok(Request::Help(error.to_string(alloc)?))
@@ -129,217 +122,110 @@ pub fn parse<'a>(alloc: Global, arguments: &'a [String]) -> Result<Request<'a>, 
     }
 }
 
-/// What the command-line library finds in the arguments.
-fn matches_of<'a>(alloc: Global, arguments: &'a [String]) -> Result<ArgMatches<'a>, clap::Error> {
-    program(alloc)?.try_get_matches_from(arguments)
-}
-
 /// What arguments that the command-line library took ask for.
-fn request_of<'a>(
-    alloc: Global,
-    matches: &ArgMatches<'a>,
-    arguments: &[String],
-) -> Result<Request<'a>, ArgumentsFault> {
-    let (name, found) = matches.subcommand().ok_or(ArgumentsFault::Usage)?;
+fn request_of<'a>(matches: &ArgMatches<'a>, arguments: &[String]) -> Option<Request<'a>> {
+    let (name, matches) = matches.subcommand()?;
+    let found = Found { matches, arguments };
     match name {
-        "check" => Ok(Request::Check(file_of(found, GRAPH, arguments, 0)?)),
-        "plain" => plain_of(alloc, found, arguments),
-        "simulate" => simulation_of(alloc, found, arguments),
-        "run" => run_of(alloc, found, arguments),
-        "replay" => replay_of(alloc, found, arguments),
-        "resume" => sitting_of(alloc, found, arguments),
-        "explain" => Ok(Request::Explain(found.get_one::<u64>(FAULT_NUMBER.name))),
-        _ => Err(ArgumentsFault::Usage),
-    }
-}
-
-/// The play on one thread that the arguments ask for.
-fn plain_of<'a>(
-    alloc: Global,
-    found: &ArgMatches<'a>,
-    arguments: &[String],
-) -> Result<Request<'a>, ArgumentsFault> {
-    let asked = PlainArguments {
-        game: game_of(found, arguments)?,
-        progress: found.get_flag(PROGRESS.name),
-    };
-    Ok(Request::Plain(boxed(alloc, asked)?))
-}
-
-/// The simulation that the arguments ask for.
-fn simulation_of<'a>(
-    alloc: Global,
-    found: &ArgMatches<'a>,
-    arguments: &[String],
-) -> Result<Request<'a>, ArgumentsFault> {
-    let asked = SimulationArguments {
-        game: game_of(found, arguments)?,
-        schedule: file_of(found, SCHEDULE, arguments, 2)?,
-        ring: number_or(found, RING, USUAL_RING),
-        rounds: number_or(found, ROUNDS, 0),
-        books: found.get_flag(BOOKS.name),
-        fed: found.get_flag(FED.name),
-    };
-    Ok(Request::Simulate(boxed(alloc, asked)?))
-}
-
-/// The play on threads that the arguments ask for.
-fn run_of<'a>(
-    alloc: Global,
-    found: &ArgMatches<'a>,
-    arguments: &[String],
-) -> Result<Request<'a>, ArgumentsFault> {
-    let asked = RunArguments {
-        game: game_of(found, arguments)?,
-        ring: number_or(found, RING, USUAL_RING),
-        workers: number_or(found, WORKERS, USUAL_WORKERS),
-        turns: number_or(found, TURNS, USUAL_TURNS),
-        feed: file_in(found, FEED, arguments)?,
-        trace: file_in(found, TRACE, arguments)?,
-        trace_rows: trace_rows_of(found),
-        progress: found.get_flag(PROGRESS.name),
-    };
-    Ok(Request::Run(boxed(alloc, asked)?))
-}
-
-/// The run to replay that the arguments name.
-fn replay_of<'a>(
-    alloc: Global,
-    found: &ArgMatches<'a>,
-    arguments: &[String],
-) -> Result<Request<'a>, ArgumentsFault> {
-    let asked = ReplayArguments {
-        game: game_of(found, arguments)?,
-        trace: file_of(found, TRACE_FILE, arguments, 2)?,
-    };
-    Ok(Request::Replay(boxed(alloc, asked)?))
-}
-
-/// The play to go on with that the arguments name.
-fn sitting_of<'a>(
-    alloc: Global,
-    found: &ArgMatches<'a>,
-    arguments: &[String],
-) -> Result<Request<'a>, ArgumentsFault> {
-    let asked = SittingArguments {
-        graph: file_of(found, GRAPH, arguments, 0)?,
-        report: file_of(found, REPORT, arguments, 1)?,
-        limit: limit_of(found),
-    };
-    Ok(Request::Resume(boxed(alloc, asked)?))
-}
-
-/// What is asked for, in a box, so that a request of any kind is small.
-fn boxed<T: Drop>(alloc: Global, asked: T) -> Result<Box<T>, AllocError> {
-    Ok(Box::new(alloc, asked)?)
-}
-
-/// For how many rows of each vertex there is room in the trace: none where no trace is asked for and it is not said.
-fn trace_rows_of(found: &ArgMatches<'_>) -> u64 {
-    let has_trace = found.get_str(TRACE.name).is_some();
-    let usual_rows = if has_trace { USUAL_TRACE_ROWS } else { 0 };
-    number_or(found, TRACE_ROWS, usual_rows)
-}
-
-/// The game that a command's arguments name.
-fn game_of<'a>(
-    found: &ArgMatches<'a>,
-    arguments: &[String],
-) -> Result<GameArguments<'a>, ArgumentsFault> {
-    Ok(GameArguments {
-        graph: file_of(found, GRAPH, arguments, 0)?,
-        chips: file_of(found, CHIPS, arguments, 1)?,
-        limit: limit_of(found),
-    })
-}
-
-/// The limit that is asked for, or the greatest.
-fn limit_of(found: &ArgMatches<'_>) -> u64 {
-    number_or(found, LIMIT, MAX_LIMIT)
-}
-
-/// The number of an option, or the usual one where the option is not there.
-fn number_or(found: &ArgMatches<'_>, option: &OptionRow, usual: u64) -> u64 {
-    found.get_one::<u64>(option.name).unwrap_or(usual)
-}
-
-/// The file of an option, if it is there.
-fn file_in<'a>(
-    found: &ArgMatches<'a>,
-    option: &OptionRow,
-    arguments: &[String],
-) -> Result<Option<FileArgument<'a>>, ArgumentsFault> {
-    match found.get_str(option.name) {
-        Some(path) => Ok(Some(FileArgument {
-            path,
-            number: value_number_of(arguments, option).ok_or(ArgumentsFault::Usage)?,
+        "check" => Some(Request::Check(found.file(GRAPH.name)?)),
+        "plain" => Some(Request::Plain(PlainArguments {
+            game: found.game(CHIPS)?,
+            progress: matches.get_flag(PROGRESS.name),
         })),
-        None => Ok(None),
+        "simulate" => Some(Request::Simulate(found.simulation()?)),
+        "run" => Some(Request::Run(found.play_on_threads()?)),
+        "replay" => Some(Request::Replay(ReplayArguments {
+            game: found.game(CHIPS)?,
+            trace: found.file(TRACE_FILE.name)?,
+        })),
+        "resume" => Some(Request::Resume(found.game(REPORT)?)),
+        "explain" => Some(Request::Explain(matches.get_one::<u64>(FAULT_NUMBER.name))),
+        _ => None,
     }
 }
 
-/// The file that is this operand of a command, which has so many operands before it.
-fn file_of<'a>(
-    found: &ArgMatches<'a>,
-    operand: &OperandRow,
-    arguments: &[String],
-    operands_before: u64,
-) -> Result<FileArgument<'a>, ArgumentsFault> {
-    Ok(FileArgument {
-        path: found.get_str(operand.name).ok_or(ArgumentsFault::Usage)?,
-        number: number_of(arguments, operands_before).ok_or(ArgumentsFault::Usage)?,
-    })
+/// What the command-line library found in the arguments of a command.
+#[derive(Clone, Copy)]
+struct Found<'m, 'a> {
+    matches: &'m ArgMatches<'a>,
+    arguments: &'m [String],
 }
 
-/// The number of the argument that has the value of this option, which may stand behind it or in it.
-fn value_number_of(arguments: &[String], option: &OptionRow) -> Option<u64> {
-    for (index, argument) in arguments.iter().enumerate().skip(2) {
-        match after_name(argument.as_str(), option) {
-            Some("") => return Some(index as u64),
-            Some(rest) if rest.starts_with('=') => return Some(index as u64 - 1),
-            _ => {}
-        }
+impl<'m, 'a> Found<'m, 'a> {
+    /// The simulation that is asked for.
+    fn simulation(&self) -> Option<SimulationArguments<'a>> {
+        Some(SimulationArguments {
+            game: self.game(CHIPS)?,
+            schedule: self.file(SCHEDULE.name)?,
+            ring: self.number_or(RING, USUAL_RING),
+            rounds: self.number_or(ROUNDS, 0),
+            books: self.matches.get_flag(BOOKS.name),
+            fed: self.matches.get_flag(FED.name),
+        })
     }
-    None
+
+    /// The play on threads that is asked for. There is room for no row of a trace where none is asked for and it is not
+    /// said.
+    fn play_on_threads(&self) -> Option<RunArguments<'a>> {
+        let game = self.game(CHIPS)?;
+        let trace = self.file(TRACE.name);
+        let usual_rows = if trace.is_some() { USUAL_TRACE_ROWS } else { 0 };
+        Some(RunArguments {
+            game,
+            ring: self.number_or(RING, USUAL_RING),
+            workers: self.number_or(WORKERS, USUAL_WORKERS),
+            turns: self.number_or(TURNS, USUAL_TURNS),
+            feed: self.file(FEED.name),
+            trace,
+            trace_rows: self.number_or(TRACE_ROWS, usual_rows),
+            progress: self.matches.get_flag(PROGRESS.name),
+        })
+    }
+
+    /// The game that is named, which starts with what this operand names.
+    fn game(&self, start: &OperandRow) -> Option<GameArguments<'a>> {
+        Some(GameArguments {
+            graph: self.file(GRAPH.name)?,
+            start: self.file(start.name)?,
+            limit: self.number_or(LIMIT, MAX_LIMIT),
+        })
+    }
+
+    /// The file of an operand or an option, if it is there.
+    fn file(&self, name: &str) -> Option<FileArgument<'a>> {
+        Some(FileArgument {
+            path: self.matches.get_str(name)?,
+            number: number_at(self.arguments, self.matches.index_of(name)?)?,
+        })
+    }
+
+    /// The number of an option, or the usual one where the option is not there.
+    fn number_or(&self, option: &OptionRow, usual: u64) -> u64 {
+        self.matches.get_one::<u64>(option.name).unwrap_or(usual)
+    }
 }
 
-/// What stands in an argument behind the name of this option, where it begins with that.
-fn after_name<'a>(argument: &'a str, option: &OptionRow) -> Option<&'a str> {
-    argument.strip_prefix("--")?.strip_prefix(option.name)
-}
-
-/// The number of the argument that is an operand and has so many operands before it, to be told where its file cannot
-/// be opened.
+/// The number of the argument that has this place, to be told where its file cannot be opened.
 ///
-/// An option is no operand, nor is the argument behind it, where its value stands, unless it takes none; behind `--`
-/// each argument is an operand.
-fn number_of(arguments: &[String], operands_before: u64) -> Option<u64> {
-    let mut operands_left = operands_before;
-    let mut is_value = false;
+/// The command-line library counts places from 1. An argument takes one, but an option with its value behind `=` takes
+/// two, and the first `--`, behind which there are operands alone, takes none.
+fn number_at(arguments: &[String], place: usize) -> Option<u64> {
+    let mut left = place;
     let mut only_operands = false;
     for (index, argument) in arguments.iter().enumerate().skip(2) {
         let argument = argument.as_str();
-        if is_value {
-            is_value = false;
-        } else if only_operands || !argument.starts_with("--") {
-            if operands_left == 0 {
-                return Some(index as u64 - 1);
-            }
-            operands_left -= 1;
-        } else if argument == "--" {
+        if !only_operands && argument == "--" {
             only_operands = true;
-        } else {
-            is_value = !is_flag(argument) && !argument.contains('=');
+            continue;
         }
+        let has_value = !only_operands && argument.starts_with("--") && argument.contains('=');
+        let taken = if has_value { 2 } else { 1 };
+        if left <= taken {
+            return Some(index as u64 - 1);
+        }
+        left -= taken;
     }
     None
-}
-
-/// Whether an argument is an option that takes nothing.
-fn is_flag(argument: &str) -> bool {
-    FLAGS
-        .iter()
-        .any(|option| after_name(argument, option) == Some(""))
 }
 
 /// The program as the command-line library knows it.

@@ -179,9 +179,6 @@ pub const PROGRESS: &OptionRow = &OptionRow {
     takes: OptionValue::Nothing,
 };
 
-/// The options that take nothing.
-pub const FLAGS: &[&OptionRow] = &[BOOKS, FED, PROGRESS];
-
 const CHECK: &CommandRow = &CommandRow {
     name: "check",
     about: "Shows a graph: each vertex with its out-degree and its distance to the sink",

@@ -1,6 +1,6 @@
 //! What stands below the lists of the help: exit statuses, an example for each command, and where to read on.
 
-/// The version that `--version` prints; `python/chipfire.py` has the same.
+/// The version that `--version` prints. Packages, the Python package and the manual page read it here.
 pub const VERSION: &str = "0.1.0";
 
 pub const PROGRAM: &str = "\

@@ -6,7 +6,7 @@
 
 pub use arguments::{
     FileArgument, GameArguments, PlainArguments, ReplayArguments, Request, RunArguments,
-    SimulationArguments, SittingArguments, parse,
+    SimulationArguments, parse,
 };
 pub use fault::ArgumentsFault;
 

@@ -1,16 +1,16 @@
 //! chipfire: a chip-firing machine that is proved right.
 //!
-//! Each command is an engine of `chip_engine`, whose contract goes from the bytes that it reads to the bytes that it
-//! writes. The program reads the arguments, opens the files that they name and calls the engine.
+//! Each command is an engine, of `chip_engine` or of `chip_run`, whose contract goes from the bytes that it reads to the
+//! bytes that it writes. The program reads the arguments, opens the files that they name and calls the engine.
 #![tactic(auto)]
 
 ghost use Rattle.std.specs.Prelude.{◌≡◌, None};
 
 use chip_arguments::{
-    ArgumentsFault, FileArgument, PlainArguments, ReplayArguments, Request, RunArguments,
-    SimulationArguments, SittingArguments, limits, parse,
+    ArgumentsFault, FileArgument, GameArguments, PlainArguments, ReplayArguments, Request,
+    RunArguments, SimulationArguments, limits, parse,
 };
-use chip_command::{DONE, Ended, Fault, explanations};
+use chip_command::{DONE, Ended, Fault, conclude, explanations};
 use chip_crew::{MAX_TRACE_ROWS, MAX_TURNS, MAX_WORKERS, Plan};
 use chip_engine::{
     check_engine, explain_engine, plain_engine, plain_engine_watched, replay_engine, resume_engine,
@@ -18,7 +18,6 @@ use chip_engine::{
 };
 use chip_graph::MAX_LIMIT;
 use chip_link::{MAX_RING, Ring};
-use chip_report::write_all_of;
 use chip_run::run_engine_gated;
 use progress::{RoundProgress, TurnProgress};
 use std::process::ExitCode;
@@ -96,24 +95,15 @@ fn serve<R: Files + Clock + Eprint + AllocGlobal + Threads + Wait + Sync, W: io:
     output: &mut W,
 ) -> Result<Ended, Fault> {
     match request {
-        Request::Help(text) => help(text, output),
-        Request::Check(graph) => check(rt, graph, output),
+        Request::Help(text) => conclude(output, text.as_bytes(), Ended::of(DONE)),
+        Request::Check(graph) => check_engine(rt.alloc(), &mut open(rt, graph)?, output),
         Request::Plain(asked) => play(rt, asked, output),
         Request::Simulate(asked) => simulate(rt, asked, output),
         Request::Run(asked) => play_on_threads(rt, asked, output),
         Request::Replay(asked) => replay(rt, asked, output),
         Request::Resume(sitting) => resume(rt, sitting, output),
-        Request::Explain(number) => explain(rt, *number, output),
+        Request::Explain(number) => explain_engine(rt.alloc(), &explanations(), *number, output),
     }
-}
-
-/// Shows a graph.
-fn check<R: Files + AllocGlobal, W: io::Write>(
-    rt: &R,
-    graph: &FileArgument<'_>,
-    output: &mut W,
-) -> Result<Ended, Fault> {
-    check_engine(rt.alloc(), &mut open(rt, graph)?, output)
 }
 
 /// Plays a game on one thread.
@@ -122,8 +112,7 @@ fn play<R: Files + Clock + Eprint + AllocGlobal, W: io::Write>(
     asked: &PlainArguments<'_>,
     output: &mut W,
 ) -> Result<Ended, Fault> {
-    let mut graph = open(rt, &asked.game.graph)?;
-    let mut chips = open(rt, &asked.game.chips)?;
+    let (mut graph, mut chips) = open_game(rt, &asked.game)?;
     plain_engine_watched(
         rt.alloc(),
         &mut graph,
@@ -140,8 +129,7 @@ fn play_on_threads<R: Files + Clock + Eprint + AllocGlobal + Threads + Wait + Sy
     asked: &RunArguments<'_>,
     output: &mut W,
 ) -> Result<Ended, Fault> {
-    let mut graph = open(rt, &asked.game.graph)?;
-    let mut chips = open(rt, &asked.game.chips)?;
+    let (mut graph, mut chips) = open_game(rt, &asked.game)?;
     let mut feed = open_feed(rt, asked)?;
     let mut trace = create_trace(rt, asked)?;
     run_engine_gated(
@@ -194,8 +182,7 @@ fn simulate<R: Files + AllocGlobal, W: io::Write>(
     output: &mut W,
 ) -> Result<Ended, Fault> {
     let ring = Ring::new(asked.ring).ok_or(Fault::Usage)?;
-    let mut graph = open(rt, &asked.game.graph)?;
-    let mut chips = open(rt, &asked.game.chips)?;
+    let (mut graph, mut chips) = open_game(rt, &asked.game)?;
     let mut schedule = open(rt, &asked.schedule)?;
     simulate_engine(
         rt.alloc(),
@@ -217,8 +204,7 @@ fn replay<R: Files + AllocGlobal, W: io::Write>(
     asked: &ReplayArguments<'_>,
     output: &mut W,
 ) -> Result<Ended, Fault> {
-    let mut graph = open(rt, &asked.game.graph)?;
-    let mut chips = open(rt, &asked.game.chips)?;
+    let (mut graph, mut chips) = open_game(rt, &asked.game)?;
     let mut trace = open(rt, &asked.trace)?;
     replay_engine(
         rt.alloc(),
@@ -233,21 +219,16 @@ fn replay<R: Files + AllocGlobal, W: io::Write>(
 /// Goes on with a play.
 fn resume<R: Files + AllocGlobal, W: io::Write>(
     rt: &R,
-    sitting: &SittingArguments<'_>,
+    sitting: &GameArguments<'_>,
     output: &mut W,
 ) -> Result<Ended, Fault> {
-    let mut graph = open(rt, &sitting.graph)?;
-    let mut report = open(rt, &sitting.report)?;
+    let (mut graph, mut report) = open_game(rt, sitting)?;
     resume_engine(rt.alloc(), &mut graph, &mut report, sitting.limit, output)
 }
 
-/// Explains a fault of the program, or lists them.
-fn explain<R: AllocGlobal, W: io::Write>(
-    rt: &R,
-    number: Option<u64>,
-    output: &mut W,
-) -> Result<Ended, Fault> {
-    explain_engine(rt.alloc(), &explanations(), number, output)
+/// Opens the graph of a game, and then what the game starts with.
+fn open_game<R: Files>(rt: &R, game: &GameArguments<'_>) -> Result<(R::File, R::File), Fault> {
+    Ok((open(rt, &game.graph)?, open(rt, &game.start)?))
 }
 
 /// Opens the file that an argument names. Nothing is allocated for it, so where the system wants memory the file could
@@ -290,13 +271,4 @@ fn fault_of(fault: ArgumentsFault) -> Fault {
         ArgumentsFault::Usage => Fault::Usage,
         ArgumentsFault::NoMemory => Fault::NoMemory,
     }
-}
-
-/// Prints the help or the version.
-fn help<W: io::Write>(text: &str, output: &mut W) -> Result<Ended, Fault> {
-    write_all_of(output, text.as_bytes())?;
-    Ok(Ended {
-        status: DONE,
-        cut: false,
-    })
 }

@@ -1,0 +1,9 @@
+use Rattle.std.proofs.Common.{refl, ℕ, None, Some, option_map, Vec, Global}
+use Rattle.chip_uses.proofs.ReportLemmas.{wrote_report}
+use Rattle.chip_uses.proofs.report_by_threads.Goals as goal
+
+-- src/lib.rt:96:1
+pub returns : goal.returns
+returns g c = wrote_report c.args.graph.now c.args.chips.now c.args.limit _ None
+    (option_map (λ (trace : Vec ℕ Global). Some trace.items) c.run_engine.new.trace) _ c.run_engine.new.output.items
+    c.in_ok-ended.ended c.new-report.ensures.items (c.in_ok-ended.ensures c.args.graph.now refl c.args.chips.now refl)

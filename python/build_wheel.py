@@ -1,6 +1,7 @@
-"""What pip asks to install the package: a wheel with the one file chipfire.py, made by the standard library alone.
+"""What pip asks to install the package: a wheel with the folder chipfire, made by the standard library alone.
 
-So `pip install ./python` needs no network and no other package. The functions are those of Python's PEP 517.
+So `pip install ./python` needs no network and no other package. The functions are those of Python's PEP 517. `./package`
+of the repository makes a wheel that carries the program, too.
 """
 import base64
 import hashlib
@@ -12,6 +13,13 @@ import zipfile
 
 HERE = os.path.dirname(os.path.realpath(__file__))
 SUMMARY = "Graphs, chips and reports of chipfire, a chip-firing machine that is proved right, as Python objects"
+#: Where the version stands: in the program's source, and in an archive of these files alone in its PKG-INFO.
+VERSIONS = {
+    f"{HERE}/../crates/chip_arguments/src/help_texts.rt": r'VERSION: &str = "(.*)"',
+    f"{HERE}/PKG-INFO": r"Version: (.*)",
+}
+#: The command that pip installs where the package carries the program.
+COMMAND = b"[console_scripts]\nchipfire = chipfire:start_program\n"
 
 
 def _read(name):
@@ -19,12 +27,21 @@ def _read(name):
         return file.read()
 
 
-def _version():
-    return re.search(rb'^__version__ = "(.*)"$', _read("chipfire.py"), re.MULTILINE)[1].decode()
+def version():
+    """Returns the version of the program and of the package."""
+    place = next(it for it in VERSIONS if os.path.isfile(it))
+    return re.search(VERSIONS[place], _read(place).decode())[1]
+
+
+def _package():
+    """The names of the package's files, ascending."""
+    folders = os.walk(os.path.join(HERE, "chipfire"))
+    files = [os.path.join(folder, name) for folder, _, names in folders for name in names if not name.endswith(".pyc")]
+    return sorted(os.path.relpath(file, HERE).replace(os.sep, "/") for file in files)
 
 
 def _metadata():
-    lines = ["Metadata-Version: 2.1", "Name: chipfire", f"Version: {_version()}", f"Summary: {SUMMARY}"]
+    lines = ["Metadata-Version: 2.1", "Name: chipfire", f"Version: {version()}", f"Summary: {SUMMARY}"]
     return "".join(f"{line}\n" for line in [*lines, "Requires-Python: >=3.9"]).encode()
 
 
@@ -33,28 +50,47 @@ def _record_line(name, text):
     return f"{name},sha256={digest},{len(text)}\n"
 
 
-def build_wheel(wheel_directory, config_settings=None, metadata_directory=None):
-    """Writes the wheel and returns its name."""
-    version = _version()
-    info = f"chipfire-{version}.dist-info"
+def wheel_name(tag):
+    """Returns the name of the wheel for the machines of a tag."""
+    return f"chipfire-{version()}-{tag}.whl"
+
+
+def wheel_files(tag, carried):
+    """Returns the files of the wheel for the machines of a tag, bytes by names, with what it carries beside the package."""
+    info = f"chipfire-{version()}.dist-info"
+    is_pure = "false" if carried else "true"
     files = {
-        "chipfire.py": _read("chipfire.py"),
+        **{name: _read(name) for name in _package()},
+        **carried,
         f"{info}/METADATA": _metadata(),
-        f"{info}/WHEEL": b"Wheel-Version: 1.0\nGenerator: chipfire\nRoot-Is-Purelib: true\nTag: py3-none-any\n",
+        f"{info}/WHEEL": f"Wheel-Version: 1.0\nGenerator: chipfire\nRoot-Is-Purelib: {is_pure}\nTag: {tag}\n".encode(),
+        **({f"{info}/entry_points.txt": COMMAND} if carried else {}),
     }
     record = "".join(_record_line(name, text) for name, text in files.items()) + f"{info}/RECORD,,\n"
-    files[f"{info}/RECORD"] = record.encode()
-    wheel = f"chipfire-{version}-py3-none-any.whl"
-    with zipfile.ZipFile(os.path.join(wheel_directory, wheel), "w", zipfile.ZIP_DEFLATED) as archive:
+    return {**files, f"{info}/RECORD": record.encode()}
+
+
+def write_wheel(path, files, programs=()):
+    """Writes a wheel of these files, bytes by names; `programs` names those that can be started. All have one date."""
+    with zipfile.ZipFile(path, "w") as archive:
         for name, text in files.items():
-            archive.writestr(name, text)
-    return wheel
+            entry = zipfile.ZipInfo(name)
+            entry.external_attr = (0o100755 if name in programs else 0o100644) << 16
+            entry.compress_type = zipfile.ZIP_DEFLATED
+            archive.writestr(entry, text)
+
+
+def build_wheel(wheel_directory, config_settings=None, metadata_directory=None):
+    """Writes the wheel without the program and returns its name."""
+    tag = "py3-none-any"
+    write_wheel(os.path.join(wheel_directory, wheel_name(tag)), wheel_files(tag, {}))
+    return wheel_name(tag)
 
 
 def build_sdist(sdist_directory, config_settings=None):
     """Writes the archive of these files and returns its name."""
-    top = f"chipfire-{_version()}"
-    files = {name: _read(name) for name in ("build_wheel.py", "chipfire.py", "pyproject.toml")}
+    top = f"chipfire-{version()}"
+    files = {name: _read(name) for name in ("build_wheel.py", "pyproject.toml", *_package())}
     with tarfile.open(os.path.join(sdist_directory, f"{top}.tar.gz"), "w:gz") as archive:
         for name, text in {"PKG-INFO": _metadata(), **files}.items():
             entry = tarfile.TarInfo(f"{top}/{name}")

@@ -1,0 +1,119 @@
+"""The Debian package, which Debian's dpkg-deb builds and unpacks."""
+import email.utils
+import gzip
+import hashlib
+import os
+import subprocess
+import tempfile
+import textwrap
+
+from packing import archive, changes, contents, needs
+from packing.contents import File
+from packing.proved import version
+
+DOCUMENTS = "usr/share/doc/chipfire"
+MAINTAINER = "The authors of chipfire <authors@chipfire.invalid>"
+COPYRIGHT = """\
+Format: https://www.debian.org/doc/packaging-manuals/copyright-format/1.0/
+Upstream-Name: chipfire
+
+Files: *
+Copyright: 2026 the authors of chipfire
+License: none-stated
+ The authors have stated no licence. All rights are theirs.
+"""
+OVERRIDES = """\
+# The program is the one that was proved and built, byte for byte: it keeps its symbols.
+chipfire: unstripped-binary-or-object [usr/bin/chipfire]
+"""
+CONTROL = """\
+Package: chipfire
+Version: {version}
+Architecture: amd64
+Maintainer: {maintainer}
+Installed-Size: {size}
+Depends: libc6 (>= {libc})
+Section: math
+Priority: optional
+Description: distributed chip-firing machine that is proved right
+ It plays a chip-firing game on a directed multigraph with a sink, on any
+ number of threads, and writes how often each vertex fired and the chips
+ at the end. The counts are the same for every schedule, by proof.
+"""
+
+
+def name(build):
+    """Returns the package's file name."""
+    return f"chipfire_{version()}_amd64.deb"
+
+
+def packed(text):
+    """Returns a text as gzip packs it, with no date."""
+    return File(gzip.compress(text, 9, mtime=0))
+
+
+def changelog():
+    """Returns the list of changes as Debian writes it."""
+    points = "\n".join(textwrap.fill(it, 76, initial_indent="  * ", subsequent_indent="    ") for it in changes.entry()[1])
+    day = email.utils.formatdate(changes.seconds())
+    return f"chipfire ({version()}) unstable; urgency=medium\n\n{points}\n\n -- {MAINTAINER}  {day}\n"
+
+
+def control(build, size):
+    """Returns what dpkg reads of a build whose files have so many bytes."""
+    libc = "{}.{}".format(*needs.c_library(build.program))
+    return CONTROL.format(version=version(), maintainer=MAINTAINER, size=(size + 1023) // 1024, libc=libc)
+
+
+def files(build):
+    """Returns the package's files by their names in the root, with those that dpkg reads below DEBIAN."""
+    found = {f"usr/{place}": file for place, file in contents.files(build).items()}
+    found[f"usr/{contents.MANUAL}.gz"] = packed(found.pop(f"usr/{contents.MANUAL}").data)
+    found[f"{DOCUMENTS}/changelog.gz"] = packed(changelog().encode())
+    found[f"{DOCUMENTS}/copyright"] = File(COPYRIGHT.encode())
+    found["usr/share/lintian/overrides/chipfire"] = File(OVERRIDES.encode())
+    sums = [f"{hashlib.md5(file.data).hexdigest()}  {name}\n" for name, file in sorted(found.items())]
+    size = sum(len(file.data) for file in found.values())
+    found["DEBIAN/md5sums"] = File("".join(sums).encode())
+    found["DEBIAN/control"] = File(control(build, size).encode())
+    return found
+
+
+def places():
+    """Returns the names of the program and of PROVED in it."""
+    return f"usr/{contents.PROGRAM}", f"usr/{contents.PROVED}"
+
+
+def documents(found):
+    """Returns the documents among the files of a package, by their places."""
+    page = gzip.decompress(found[f"usr/{contents.MANUAL}.gz"].data)
+    return {contents.MANUAL: page, **{place: found[f"usr/{place}"].data for place in contents.COMPLETIONS}}
+
+
+def lay_out(room, inside):
+    """Writes files by their names below a folder, with their modes."""
+    for name, file in inside.items():
+        os.makedirs(os.path.dirname(f"{room}/{name}"), exist_ok=True)
+        with open(f"{room}/{name}", "wb") as opened:
+            opened.write(file.data)
+        os.chmod(f"{room}/{name}", file.mode)
+    for folder, _, _ in os.walk(room):
+        os.chmod(folder, 0o755)
+
+
+def write(path, build):
+    """Writes the package of a build. All its files are root's, and of the version's day."""
+    with tempfile.TemporaryDirectory(prefix="chipfire-deb-") as room:
+        lay_out(room, files(build))
+        words = ["dpkg-deb", "--root-owner-group", "-Zxz", "--build", room, path]
+        day = {"SOURCE_DATE_EPOCH": str(changes.seconds())}
+        subprocess.run(words, check=True, stdout=subprocess.DEVNULL, env={**os.environ, **day})
+
+
+def read(path):
+    """Returns the files of a package by their names in the root, with those that dpkg reads below DEBIAN."""
+    found = {}
+    for part, folder in (("--fsys-tarfile", ""), ("--ctrl-tarfile", "DEBIAN/")):
+        asked = subprocess.run(["dpkg-deb", part, path], check=True, capture_output=True)
+        found |= {f"{folder}{name}": file for name, file in archive.members(asked.stdout).items()}
+    return found

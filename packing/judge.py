@@ -1,0 +1,116 @@
+"""Whether a program, an archive, a Debian package or a wheel is the one of the sources that are checked out."""
+import lzma
+import os
+import subprocess
+import tarfile
+import tempfile
+import zipfile
+import zlib
+
+from packing import archive, contents, debian, proved, wheel
+from packing.contents import Build
+from packing.repository import ROOT, Refused, sha256
+
+#: How the files of each form begin.
+FORMS = {b"\xfd7zXZ\0": archive, b"!<arch>\n": debian, b"PK\3\4": wheel}
+ELF = b"\x7fELF"
+#: What ./package made last, of these sources or of others.
+RECORD = f"{ROOT}/dist/PROVED"
+#: What comes of a file that was cut off or changed.
+BROKEN = (OSError, tarfile.TarError, zipfile.BadZipFile, lzma.LZMAError, zlib.error, subprocess.CalledProcessError,
+          EOFError, NotImplementedError, RuntimeError, ValueError, LookupError)
+
+
+def built_here():
+    """Returns what is stated of the program that was proved and built here of these sources, or None."""
+    try:
+        with open(RECORD, "rb") as file:
+            stated = proved.read(file.read())
+    except (FileNotFoundError, Refused):
+        return None
+    return stated if stated.sources == proved.sources() else None
+
+
+def judge_program(program, here):
+    """Returns what is stated of the bytes of a program, where it is the one that was built here."""
+    if here is None:
+        raise Refused("no program was packed of these sources here, and a program alone does not state its own: "
+                      "./package makes one to compare with")
+    if sha256(program) != here.program:
+        raise Refused("it is not the program that was proved and built from these sources here")
+    return here
+
+
+def judge_stated(stated, program, here):
+    """Refuses what is stated of the bytes of a program where it is not so."""
+    if stated.version != proved.version():
+        raise Refused(f"its PROVED states version {stated.version}, and these sources have {proved.version()}")
+    if stated.sources != proved.sources():
+        raise Refused("its PROVED states other sources than these")
+    if stated.program != sha256(program):
+        raise Refused("its program is not the one that its PROVED states")
+    if proved.has_other_sources(stated.commit):
+        raise Refused("its PROVED states a commit that has other sources than these")
+    if here is not None and stated.program != here.program:
+        raise Refused("its program is not the one that was proved and built from these sources here")
+    if here is not None and stated.kit != here.kit:
+        raise Refused(f"its PROVED states another kit than proved these sources here: {stated.kit}")
+
+
+def documents_of(program):
+    """Returns the documents of the bytes of a program, which is started for them."""
+    with tempfile.TemporaryDirectory(prefix="chipfire-check-") as room:
+        path = f"{room}/chipfire"
+        with open(path, "wb") as file:
+            file.write(program)
+        os.chmod(path, 0o755)
+        return contents.documents(path)
+
+
+def unpacked(form, path):
+    """Returns the files of a package of this form, and the documents among them."""
+    try:
+        found = form.read(path)
+        return found, form.documents(found)
+    except KeyError as missing:
+        raise Refused(f"there is no {missing.args[0]} in it") from None
+    except BROKEN as error:
+        raise Refused(f"it cannot be unpacked: {error}") from None
+
+
+def judge_package(form, path, here):
+    """Returns what is stated in a package of this form, where all its files are those of these sources.
+
+    Its program is started for its documents only where it is the one that was built here."""
+    found, documents = unpacked(form, path)
+    of_program, of_proved = form.places()
+    for name in (of_program, of_proved):
+        if name not in found:
+            raise Refused(f"there is no {name} in it")
+    program, stated = found[of_program].data, proved.read(found[of_proved].data)
+    judge_stated(stated, program, here)
+    if here is not None:
+        documents = documents_of(program)
+    wanted = form.files(Build(program, stated, documents))
+    differ = sorted(name for name in {*found, *wanted} if found.get(name) != wanted.get(name))
+    if differ:
+        raise Refused(f"these files in it are not those of these sources: {' '.join(differ)}")
+    return stated
+
+
+def judge(path):
+    """Returns what is stated of a file, where it is of these sources, and on what that stands."""
+    with open(path, "rb") as file:
+        data = file.read()
+    here = built_here()
+    compared = "Its program is the one that was proved and built here."
+    if data.startswith(ELF):
+        return judge_program(data, here), compared
+    form = next((form for begin, form in FORMS.items() if data.startswith(begin)), None)
+    if form is None:
+        raise Refused("it is neither a program nor an archive, a Debian package or a wheel")
+    stated = judge_package(form, path, here)
+    if here is None:
+        compared = ("Nothing was proved and built here to compare with: that its program is what the kit made of these "
+                    "sources, and what its manual page and completions say, is taken from the file.")
+    return stated, compared

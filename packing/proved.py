@@ -1,0 +1,67 @@
+"""PROVED: which sources a program was proved and built from, by which kit, and which program it is."""
+import re
+import sys
+from dataclasses import astuple, dataclass
+
+from packing.repository import ROOT, Refused, below, content, git, sha256
+
+sys.path += [f"{ROOT}/tools", f"{ROOT}/python"]
+import build_wheel  # noqa: E402  (where the version stands)
+import prove  # noqa: E402  (which crates the program stands on)
+
+FORM = "chipfire {}\nkit {}\ncommit {}\nsources sha256:{}\nprogram sha256:{}\n"
+
+
+@dataclass(frozen=True)
+class Proved:
+    """What is stated of a program. The commit has `, changed` behind it where its sources were others."""
+
+    version: str
+    kit: str
+    commit: str
+    sources: str
+    program: str
+
+    def text(self):
+        """Returns the file PROVED."""
+        return FORM.format(*astuple(self))
+
+
+def read(data):
+    """Returns what the bytes of a file PROVED state."""
+    fit = re.fullmatch(FORM.replace("{}", "(.+)"), data.decode(errors="replace"))
+    if fit is None:
+        raise Refused("its PROVED has not the lines that it should have")
+    return Proved(*fit.groups())
+
+
+def version():
+    """Returns the version that stands in the sources."""
+    return build_wheel.version()
+
+
+def source_folders():
+    """Returns the folders that the program is proved and built from: those of the crates that it stands on."""
+    names = [*prove.below("chipfire", prove.libraries()), "chipfire"]
+    return [f"crates/{name}/{part}" for name in names for part in ("src", "specs", "proofs")]
+
+
+def sources():
+    """Returns the checksum of the sources: that of the lines of `sha256sum` over them, in the order of their names."""
+    files = sorted(["crates.txt", *(file for folder in source_folders() for file in below(folder))])
+    return sha256("".join(f"{sha256(content(it))}  {it}\n" for it in files).encode())
+
+
+def commit():
+    """Returns the commit that is checked out, and whether the sources differ from it."""
+    head = git("rev-parse", "HEAD")
+    if head is None:
+        return "unknown"
+    changed = git("status", "--porcelain", "--", "crates.txt", *source_folders())
+    return f"{head}, changed" if changed else head
+
+
+def has_other_sources(name):
+    """Returns whether the repository has this commit, and other sources in it than those that are checked out."""
+    is_known = re.fullmatch("[0-9a-f]{40,64}", name) and git("cat-file", "-e", f"{name}^{{commit}}") is not None
+    return bool(is_known) and git("diff", "--quiet", name, "--", "crates.txt", *source_folders()) is None

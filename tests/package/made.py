@@ -1,0 +1,168 @@
+"""The packages that all tests here try: made once, by ./package in a checkout of its own that has the built program.
+
+No command that is run here finds a proof kit.
+"""
+import functools
+import os
+import pty
+import re
+import select
+import shutil
+import subprocess
+import sys
+import tempfile
+import time
+import unittest
+
+ROOT = os.path.dirname(os.path.dirname(os.path.dirname(os.path.realpath(__file__))))
+PROGRAM = os.environ["CHIPFIRE_PACKED"]
+#: Where Debian's own programs lie, and no proof kit.
+PATH = "/usr/sbin:/usr/bin:/sbin:/bin"
+#: What stands for the kit that proved the program: the checkout's stamp says so.
+KIT = "kit of the tests"
+SECONDS = 300
+
+
+def environment(**more):
+    """Returns the environment of the commands: nothing of the caller's but what is said."""
+    return {"PATH": PATH, "LC_ALL": "C.UTF-8", "HOME": rooms(), "TMPDIR": rooms(), "GIT_CONFIG_GLOBAL": "/dev/null",
+            "PYTHONDONTWRITEBYTECODE": "1", **more}
+
+
+def run(*words, check=False, cwd=None, **more):
+    """Runs a command and returns what came of it, with its output as text."""
+    how = {"capture_output": True, "encoding": "utf-8", "errors": "replace", "stdin": subprocess.DEVNULL}
+    ran = subprocess.run(words, cwd=cwd, env=environment(**more), timeout=SECONDS, **how)
+    if check and ran.returncode != 0:
+        raise AssertionError(f"{' '.join(words)} ended with status {ran.returncode}: {ran.stdout}{ran.stderr}")
+    return ran
+
+
+def need(*tools):
+    """Skips a test where a tool of the system is missing."""
+    for tool in tools:
+        if shutil.which(tool, path=PATH) is None:
+            raise unittest.SkipTest(f"there is no {tool}")
+
+
+@functools.cache
+def rooms():
+    """Returns the folder of all that the tests write; it goes when they end."""
+    rooms.kept = tempfile.TemporaryDirectory(prefix="chipfire-package-")
+    return rooms.kept.name
+
+
+def room():
+    """Returns a new folder."""
+    return tempfile.mkdtemp(dir=rooms())
+
+
+def read(path):
+    with open(path, "rb") as file:
+        return file.read()
+
+
+def write(path, data):
+    with open(path, "wb") as file:
+        file.write(data)
+
+
+def repository_files():
+    """Returns the names of the repository's files, those among them that are not committed yet."""
+    need("git")
+    listed = run("git", "-c", f"safe.directory={ROOT}", "ls-files", "-z", "-co", "--exclude-standard", cwd=ROOT, check=True)
+    return [it for it in listed.stdout.split("\0") if os.path.isfile(f"{ROOT}/{it}")]
+
+
+def commit(top):
+    """Commits all that is in a checkout."""
+    run("git", "add", "-A", cwd=top, check=True)
+    who = ["-c", "user.name=tests", "-c", "user.email=tests@chipfire.invalid"]
+    run("git", *who, "commit", "-q", "--allow-empty", "-m", "tests", cwd=top, check=True)
+
+
+def checkout():
+    """Returns a new checkout of the repository as it is here, with nothing built in it."""
+    top = room()
+    for name in repository_files():
+        os.makedirs(os.path.dirname(f"{top}/{name}"), exist_ok=True)
+        shutil.copy(f"{ROOT}/{name}", f"{top}/{name}")
+    run("git", "init", "-q", cwd=top, check=True)
+    commit(top)
+    return top
+
+
+def build(top, program=PROGRAM):
+    """Puts a program into a checkout, as ./chipfire leaves it when all is proved."""
+    os.makedirs(f"{top}/target", exist_ok=True)
+    shutil.copy(program, f"{top}/target/chipfire")
+    write(f"{top}/target/chipfire.stamp", f"{KIT}\n".encode())
+
+
+def package(top, *words):
+    """Runs ./package of a checkout."""
+    return run(sys.executable, f"{top}/package", *words)
+
+
+def built():
+    """Returns a new checkout with the program and its packages."""
+    top = checkout()
+    build(top)
+    made = package(top)
+    if made.returncode != 0:
+        raise AssertionError(made.stderr)
+    return top
+
+
+@functools.cache
+def home():
+    """Returns the checkout whose packages are tried; no test changes it."""
+    need("dpkg-deb")
+    return built()
+
+
+def path_of(end, top=None):
+    """Returns the path of the package whose name ends so."""
+    dist = f"{top or home()}/dist"
+    return next(f"{dist}/{it}" for it in os.listdir(dist) if it.endswith(end))
+
+
+@functools.cache
+def unpacked():
+    """Returns the folder that was in the archive."""
+    need("tar", "xz")
+    inside = room()
+    run("tar", "-xf", path_of(".tar.xz"), "-C", inside, check=True)
+    (name,) = os.listdir(inside)
+    return f"{inside}/{name}"
+
+
+@functools.cache
+def version():
+    """Returns the version that the program tells."""
+    return run(PROGRAM, "--version").stdout.split()[1]
+
+
+def typed(shell, setup, line, wanted):
+    """Returns what a shell shows in a terminal when `line` is typed in it and completed, until that has `wanted`."""
+    ours, theirs = pty.openpty()
+    where = environment(TERM="xterm", COLUMNS="120", PS1="> ")
+    with subprocess.Popen(shell, stdin=theirs, stdout=theirs, stderr=theirs, env=where, start_new_session=True) as running:
+        os.close(theirs)
+        shown(ours, "> ", 30)
+        os.write(ours, f"{setup}; echo is''ready\n".encode())
+        shown(ours, "isready", 30)
+        os.write(ours, f"{line}\t".encode())
+        text = shown(ours, wanted, 30)
+        running.kill()
+    os.close(ours)
+    return text
+
+
+def shown(terminal, wanted, seconds):
+    """Returns what comes from a terminal, without bells and escape sequences, until that has `wanted` or so long."""
+    text, end = "", time.monotonic() + seconds
+    while wanted not in text and select.select([terminal], [], [], max(0, end - time.monotonic()))[0]:
+        text += os.read(terminal, 4096).decode(errors="replace")
+        text = re.sub(r"\a|\x1b(\[[0-9;?]*[A-Za-z]|[=>])", "", text)
+    return text

@@ -1,0 +1,158 @@
+"""The manual page and the completions have each command and option that --help has, and work."""
+import functools
+import re
+import unittest
+
+import made
+
+MANUAL = "share/man/man1/chipfire.1"
+BASH = "share/bash-completion/completions/chipfire"
+ZSH = "share/zsh/vendor-completions/_chipfire"
+FISH = "share/fish/vendor_completions.d/chipfire.fish"
+
+
+@functools.cache
+def helps():
+    """Returns the help of the program, by the name "", and that of each command by the command's."""
+    whole = made.run(made.PROGRAM, "--help").stdout
+    names = re.findall(r"^  ([a-z]+)  ", whole.partition("Commands:")[2].partition("Options:")[0], re.MULTILINE)
+    return {"": whole, **{name: made.run(made.PROGRAM, name, "--help").stdout for name in names}}
+
+
+def commands():
+    """Returns the names of the commands."""
+    return [name for name in helps() if name]
+
+
+def words(name):
+    """Returns the options that the help of a command lists, in all their spellings."""
+    listed = helps()[name].partition("\nOptions:\n")[2].partition("\n\n")[0]
+    heads = [line.strip().partition("  ")[0] for line in listed.split("\n")]
+    return sorted(re.findall(r"(?<!\S)--?[A-Za-z-]+", " ".join(heads)))
+
+
+def spaced(text):
+    """Returns the words of a text, with one space between them."""
+    return " ".join(text.split())
+
+
+class Helps(unittest.TestCase):
+    def test_all_that_the_tests_compare_with_is_found(self):
+        wanted = ["--feed", "--help", "--limit", "--progress", "--ring", "--trace", "--trace-rows", "--turns", "--workers", "-h"]
+        self.assertEqual(words("run"), wanted)
+        self.assertEqual(words(""), ["--help", "--version", "-V", "-h"])
+        self.assertEqual(commands(), ["check", "plain", "run", "simulate", "replay", "resume", "explain"])
+
+
+class Manual(unittest.TestCase):
+    @staticmethod
+    @functools.cache
+    def page():
+        """Returns the page as `man` shows it."""
+        made.need("man")
+        words = ["man", "--nh", "--nj", "--warnings=w", "-l", f"{made.unpacked()}/{MANUAL}"]
+        shown = made.run(*words, MANWIDTH="400")
+        if (shown.returncode, shown.stderr) != (0, ""):
+            raise AssertionError(shown.stderr)
+        return shown.stdout
+
+    def parts(self):
+        """Returns what the page says of each command, by its name."""
+        behind = self.page().partition("\nCOMMANDS\n")[2]
+        split = re.split(r"^   chipfire ([a-z]+).*$", behind, flags=re.MULTILINE)
+        return dict(zip(split[1::2], split[2::2]))
+
+    def test_it_has_a_part_for_each_command(self):
+        self.assertEqual(list(self.parts()), commands())
+
+    def test_each_part_has_each_option(self):
+        parts = {"": self.page().partition("\nOPTIONS\n")[2].partition("\nCOMMANDS\n")[0], **self.parts()}
+        for name, part in parts.items():
+            heads = re.findall(r"^ {7}(-.*?)(?:  .*)?$", part, re.MULTILINE)
+            self.assertEqual(sorted(re.findall(r"(?<!\S)--?[A-Za-z-]+", " ".join(heads))), words(name), name)
+
+    def test_it_says_all_that_the_help_says(self):
+        page = spaced(self.page())
+        for text in helps().values():
+            for line in re.findall(r"^ +\S.*?  +(\S.*)$", text, re.MULTILINE):
+                self.assertIn(spaced(line), page)
+            for block in text.split("\n\n"):
+                if not block.startswith(("Usage: ", "Options:", "Arguments:", "Commands:")):
+                    self.assertIn(spaced(block)[1:], page)
+
+    def test_it_names_the_version(self):
+        self.assertRegex(self.page().splitlines()[-1], rf"^chipfire {re.escape(made.version())} ")
+
+
+class Bash(unittest.TestCase):
+    def offered(self, *typed):
+        """What a real bash offers for the last of these words."""
+        script = ('source "$0"; COMP_WORDS=("$@") COMP_CWORD=$(($# - 1))\n'
+                  '_chipfire && ((${#COMPREPLY[@]} == 0)) || printf "%s\\n" "${COMPREPLY[@]}"')
+        asked = made.run("bash", "-c", script, f"{made.unpacked()}/{BASH}", "chipfire", *typed, cwd=f"{made.home()}/examples")
+        self.assertEqual(asked.stderr, "")
+        return sorted(asked.stdout.split())
+
+    def test_it_completes_in_a_terminal(self):
+        shell = ["bash", "--noprofile", "--norc", "-i"]
+        text = made.typed(shell, f"source {made.unpacked()}/{BASH}", "chipfire run g c --wor", "--workers ")
+        self.assertIn("--workers ", text)
+
+    def test_it_has_each_command_and_option(self):
+        self.assertEqual(self.offered(""), sorted([*commands(), *words("")]))
+        for name in commands():
+            self.assertEqual(self.offered(name, "-"), words(name), name)
+
+    def test_it_completes_what_begins_so(self):
+        self.assertEqual(self.offered("run", "g", "c", "--trace"), ["--trace", "--trace-rows"])
+        self.assertEqual(self.offered("res"), ["resume"])
+
+    def test_it_completes_files_where_one_is_wanted(self):
+        self.assertEqual(self.offered("check", "triangle/gr"), ["triangle/graph.json"])
+        self.assertEqual(self.offered("run", "g", "c", "--feed", "triangle/no"), ["triangle/no-chips.csv"])
+        self.assertEqual(self.offered("run", "g", "c", "--feed", "=", "triangle/no"), ["triangle/no-chips.csv"])
+        for typed in (["run", "g", "c", "--limit", ""], ["run", "--limit", "=", ""], ["explain", "tri"], ["tri"]):
+            self.assertEqual(self.offered(*typed), [], typed)
+
+
+class Fish(unittest.TestCase):
+    def offered(self, line):
+        """What fish offers for the last word of a line."""
+        made.need("fish")
+        file = f"{made.unpacked()}/{FISH}"
+        asked = made.run("fish", "-c", f"source {file}; complete -C '{line}'", cwd=f"{made.home()}/examples")
+        self.assertEqual((asked.returncode, asked.stderr), (0, ""))
+        return sorted({it.split("\t")[0] for it in asked.stdout.splitlines()})
+
+    def test_it_has_each_command_and_option(self):
+        self.assertEqual(self.offered("chipfire "), sorted(commands()))
+        for name in helps():
+            wanted = [it for it in words(name) if it.startswith("--")]
+            self.assertEqual([it.rstrip("=") for it in self.offered(f"chipfire {name} --")], wanted, name)
+
+    def test_it_completes_what_begins_so(self):
+        self.assertEqual(self.offered("chipfire run g c --wor"), ["--workers"])
+        self.assertEqual(self.offered("chipfire check triangle/gr"), ["triangle/graph.json"])
+        self.assertEqual(self.offered("chipfire explain triangle/gr"), [])
+
+
+class Zsh(unittest.TestCase):
+    def test_it_completes_in_a_terminal(self):
+        made.need("zsh")
+        setup = f"fpath=({made.unpacked()}/share/zsh/vendor-completions $fpath); autoload -Uz compinit; compinit -u -D"
+        for line, wanted in (("chipfire run g c --wor", "--workers"), ("chipfire resu", "resume")):
+            self.assertIn(wanted, made.typed(["zsh", "-f", "-i"], setup, line, wanted))
+
+    def test_it_has_each_command_and_option(self):
+        text = made.read(f"{made.unpacked()}/{ZSH}").decode()
+        self.assertEqual(re.findall(r"^    '([a-z]+):", text, re.MULTILINE), commands())
+        parts = dict(re.findall(r"^([a-z]+)\)\n(.*?);;", text, re.MULTILINE | re.DOTALL))
+        parts[""] = text.partition("_arguments")[2].partition("\n")[0]
+        self.assertEqual(sorted(parts), sorted(helps()))
+        for name, part in parts.items():
+            self.assertEqual(sorted(re.findall(r"'(--?[A-Za-z-]+)=?\[", part)), words(name), name)
+
+    def test_it_is_zsh(self):
+        made.need("zsh")
+        asked = made.run("zsh", "-f", "-n", f"{made.unpacked()}/{ZSH}")
+        self.assertEqual((asked.returncode, asked.stderr), (0, ""))

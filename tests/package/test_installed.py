@@ -1,0 +1,168 @@
+"""Each package is installed where there is nothing else, and answers."""
+import functools
+import json
+import os
+import shutil
+import sys
+import unittest
+
+import made
+
+#: The report of the game that is built in; docs/GAME.md plays it by hand.
+BUILT_IN = '{"chips":[1,0,3],"closed":true,"fired":[2,1,0],"over":[],"sealed":[],"version":1}\n'
+SIDE = 64
+#: What is asked of the Python package.
+PLAY = """
+import json, os, sys, chipfire
+graph, chips = sys.argv[1:]
+print(chipfire.plain(chipfire.Graph(3, 2, [(0, 1), (0, 2), (1, 0), (1, 2)]), [4, 0, 0]).text(), end="")
+print(chipfire.plain(graph, chips).text(), end="")
+try:
+    chipfire.check(chips)
+except chipfire.Fault as fault:
+    print(fault.number, fault.name, fault.explanation != "")
+print(chipfire.__version__)
+print(chipfire.find_program())
+"""
+
+
+def grid():
+    """Returns a 64 by 64 grid: one corner is the sink, and takes what falls off the border."""
+    sink, edges = SIDE * SIDE - 1, {}
+    for vertex in range(sink):
+        row, column = divmod(vertex, SIDE)
+        for y, x in ((row - 1, column), (row + 1, column), (row, column - 1), (row, column + 1)):
+            head = SIDE * y + x if 0 <= y < SIDE and 0 <= x < SIDE else sink
+            edges[vertex, head] = edges.get((vertex, head), 0) + 1
+    return {"version": 1, "vertices": sink + 1, "sink": sink, "edges": [[*ends, mult] for ends, mult in edges.items()]}
+
+
+@functools.cache
+def game():
+    """Returns the files of the grid and of 4,000 chips in its middle, and what examples/play.py answers to them."""
+    folder = made.room()
+    graph, chips = f"{folder}/graph.json", f"{folder}/chips.csv"
+    made.write(graph, json.dumps(grid()).encode())
+    made.write(chips, f"vertex,chips\n{SIDE * SIDE // 2 + SIDE // 2},4000\n".encode())
+    played = made.run(sys.executable, f"{made.ROOT}/examples/play.py", graph, chips, check=True)
+    return graph, chips, played.stdout
+
+
+def without_network():
+    """Returns what starts a command where it has no network, as far as this system lets us."""
+    words = ["unshare", "--net"]
+    is_there = shutil.which(words[0], path=made.PATH) is not None
+    return words if is_there and made.run(*words, "true").returncode == 0 else []
+
+
+class Answers(unittest.TestCase):
+    def answers(self, program):
+        """Tries the game that is built in, the grid, and a fault."""
+        graph, chips, report = game()
+        self.assertEqual(made.run(program).stdout, BUILT_IN)
+        for words in (["plain", graph, chips], ["run", graph, chips, "--workers", "2"]):
+            played = made.run(program, *words)
+            self.assertEqual((played.returncode, played.stdout, played.stderr), (0, report, ""))
+        refused = made.run(program, "check", chips)
+        self.assertEqual((refused.returncode, refused.stdout, refused.stderr), (1, "", "chipfire: fault 20 NotJson\n"))
+
+
+class Archive(Answers):
+    def test_it_is_one_folder_and_answers(self):
+        self.assertEqual(os.path.basename(made.unpacked()), f"chipfire-{made.version()}")
+        self.answers(f"{made.unpacked()}/bin/chipfire")
+
+    def test_it_has_the_examples(self):
+        triangle = f"{made.unpacked()}/share/doc/chipfire/examples/triangle"
+        played = made.run(f"{made.unpacked()}/bin/chipfire", "plain", f"{triangle}/graph.json", f"{triangle}/chips.csv")
+        self.assertEqual(played.stdout, BUILT_IN)
+
+
+class DebianPackage(Answers):
+    @staticmethod
+    @functools.cache
+    def root():
+        """Returns a root with nothing but the package, as dpkg installs it."""
+        made.need("dpkg")
+        if os.geteuid() != 0:
+            raise unittest.SkipTest("dpkg installs for root alone")
+        root = made.room()
+        for name in ("info", "updates", "triggers"):
+            os.makedirs(f"{root}/var/lib/dpkg/{name}")
+        made.write(f"{root}/var/lib/dpkg/status", b"")
+        # (there is no C library in this root)
+        words = [f"--root={root}", "--force-depends", "--force-script-chrootless", "-i"]
+        made.run("dpkg", *words, made.path_of(".deb"), check=True)
+        return root
+
+    def test_dpkg_installs_it_and_it_answers(self):
+        told = made.run("dpkg-query", f"--admindir={self.root()}/var/lib/dpkg", "-W", "-f", "${Status} ${Version}", "chipfire")
+        self.assertEqual(told.stdout, f"install ok installed {made.version()}")
+        self.answers(f"{self.root()}/usr/bin/chipfire")
+
+    def test_it_unpacks_and_answers(self):
+        root = made.room()
+        made.run("dpkg-deb", "-x", made.path_of(".deb"), root, check=True)
+        self.answers(f"{root}/usr/bin/chipfire")
+
+    def test_dpkg_finds_each_file_as_it_was(self):
+        told = made.run("dpkg", f"--root={self.root()}", "--verify", "chipfire")
+        self.assertEqual((told.returncode, told.stdout), (0, ""))
+
+    def test_man_finds_its_page(self):
+        made.need("man")
+        shown = made.run("man", "-M", f"{self.root()}/usr/share/man", "chipfire", MANWIDTH="100")
+        self.assertIn("chipfire - a chip-firing machine that is proved right", shown.stdout)
+
+    def test_lintian_says_what_the_page_explains(self):
+        made.need("lintian")
+        said = made.run("lintian", "--display-info", "--show-overrides", "--allow-root", made.path_of(".deb"))
+        lines = [line.split(": ", 2) for line in said.stdout.splitlines() if line[:2] in ("E:", "W:", "I:", "O:")]
+        told = {(kind, rest.split()[0]) for kind, _, rest in lines}
+        page = made.read(f"{made.ROOT}/docs/PACKAGES.md").decode()
+        explained = {tag for _, tag in told if f"| `{tag}` |" in page}
+        self.assertEqual((said.stderr, {tag for _, tag in told}), ("", explained))
+        self.assertFalse([tag for kind, tag in told if kind in "EW"])
+        self.assertIn(("O", "unstripped-binary-or-object"), told)
+
+
+class Wheel(Answers):
+    @staticmethod
+    @functools.cache
+    def room():
+        """Returns an environment of Python with nothing but the wheel in it, which was installed without network."""
+        room = made.room()
+        made.run(sys.executable, "-m", "venv", room, check=True)
+        made.run(*without_network(), f"{room}/bin/pip", "install", "--no-index", made.path_of(".whl"), check=True)
+        return room
+
+    def test_its_command_answers(self):
+        self.answers(f"{self.room()}/bin/chipfire")
+
+    def test_the_package_answers_by_the_program_in_it(self):
+        graph, chips, report = game()
+        asked = made.run(f"{self.room()}/bin/python", "-c", PLAY, graph, chips, cwd=made.room())
+        self.assertEqual(asked.stderr, "")
+        *answers, program = asked.stdout.splitlines(keepends=True)
+        self.assertEqual(answers, [BUILT_IN, report, "20 NotJson True\n", f"{made.version()}\n"])
+        self.assertTrue(program.startswith(os.path.realpath(self.room())), program)
+        self.assertEqual(made.read(program.strip()), made.read(made.PROGRAM))
+
+    def test_pip_finds_nothing_wrong(self):
+        self.assertEqual(made.run(f"{self.room()}/bin/pip", "check").returncode, 0)
+        shown = made.run(f"{self.room()}/bin/pip", "show", "--files", "chipfire").stdout
+        self.assertIn(f"Version: {made.version()}\n", shown)
+        self.assertIn("chipfire/program/PROVED\n", shown)
+
+    def test_without_a_program_inside_it_finds_one_on_the_path(self):
+        room, path = made.room(), made.room()
+        sources = f"{made.room()}/python"
+        shutil.copytree(f"{made.home()}/python", sources)
+        made.write(f"{sources}/PKG-INFO", f"Version: {made.version()}\n".encode())
+        pip = [f"{self.room()}/bin/pip", "install", "--no-index", "--target", room]
+        made.run(*pip, sources, check=True)
+        os.symlink(made.PROGRAM, f"{path}/chipfire")
+        ask = ["-c", "import chipfire; print(chipfire.find_program(), chipfire.__version__)"]
+        asked = made.run(sys.executable, *ask, PYTHONPATH=room, PATH=path)
+        self.assertEqual(asked.stdout, f"{path}/chipfire {made.version()}\n")
+        self.assertIn("ProgramNotFound", made.run(sys.executable, *ask, PYTHONPATH=room, PATH=room).stderr)

@@ -1,0 +1,177 @@
+"""What ./package makes: the same each time, of one version, with what docs/PACKAGES.md says that it needs."""
+import hashlib
+import os
+import re
+import tarfile
+import time
+import unittest
+import zipfile
+
+import made
+
+#: The C library of Debian 12, the oldest release that Debian supports.
+OLDEST = (2, 36)
+
+
+def page():
+    return made.read(f"{made.ROOT}/docs/PACKAGES.md").decode()
+
+
+def readelf(word):
+    """Returns what readelf shows of the program."""
+    made.need("readelf")
+    return made.run("readelf", "-W", word, made.PROGRAM, check=True).stdout
+
+
+def proved_crates():
+    """Returns the crates that the program stands on, and its own, by the lines of crates.txt."""
+    lines = made.read(f"{made.ROOT}/crates.txt").decode().splitlines()
+    direct = {line.partition(":")[0].split()[0]: line.partition(":")[2].split() for line in lines if line[:1] not in ("", "#")}
+    found, open_ones = set(), ["chipfire"]
+    while open_ones:
+        name = open_ones.pop()
+        if name in direct and name not in found:
+            found.add(name)
+            open_ones += direct[name]
+    return found
+
+
+class Made(unittest.TestCase):
+    def test_names(self):
+        version = made.version()
+        wheel = f"chipfire-{version}-py3-none-manylinux_2_34_x86_64.whl"
+        names = {f"chipfire-{version}-x86_64-linux.tar.xz", f"chipfire_{version}_amd64.deb", wheel, "PROVED"}
+        self.assertEqual(set(os.listdir(f"{made.home()}/dist")), names)
+
+    def test_the_same_bytes_each_time(self):
+        top = made.checkout()
+        made.build(top)
+        found = []
+        for _ in range(2):
+            self.assertEqual(made.package(top).returncode, 0)
+            found.append({name: made.read(f"{top}/dist/{name}") for name in os.listdir(f"{top}/dist")})
+            made.write(f"{top}/dist/left over", b"")
+        self.assertTrue(found[0] == found[1])
+
+    def test_the_program_is_the_one_that_was_built(self):
+        program = made.read(made.PROGRAM)
+        self.assertTrue(made.read(f"{made.unpacked()}/bin/chipfire") == program)
+        with zipfile.ZipFile(made.path_of(".whl")) as wheel:
+            self.assertTrue(wheel.read("chipfire/program/chipfire") == program)
+
+    def test_all_is_of_root(self):
+        with tarfile.open(made.path_of(".tar.xz")) as archive:
+            self.assertEqual({(it.uid, it.gid, it.uname, it.gname) for it in archive}, {(0, 0, "root", "root")})
+        listed = made.run("dpkg-deb", "-c", made.path_of(".deb"), check=True).stdout.splitlines()
+        self.assertEqual({line.split()[1] for line in listed}, {"root/root"})
+
+    def test_proved(self):
+        top, text = made.home(), made.read(f"{made.home()}/dist/PROVED").decode()
+        head = made.run("git", "rev-parse", "HEAD", cwd=top).stdout.strip()
+        program = hashlib.sha256(made.read(made.PROGRAM)).hexdigest()
+        self.assertEqual(text.splitlines()[:3], [f"chipfire {made.version()}", f"kit {made.KIT}", f"commit {head}"])
+        self.assertEqual(text.splitlines()[4], f"program sha256:{program}")
+
+    def test_the_checksum_of_the_sources_is_that_of_sha256sum(self):
+        folders = [f"crates/{crate}/{part}" for crate in proved_crates() for part in ("src", "specs", "proofs")]
+        summed = "find crates.txt \"$@\" -type f 2>/dev/null | LC_ALL=C sort | xargs -d '\\n' sha256sum | sha256sum"
+        shown = made.run("bash", "-c", summed, "bash", *folders, cwd=made.home(), check=True).stdout.split()[0]
+        self.assertIn(f"\nsources sha256:{shown}\n", made.read(f"{made.home()}/dist/PROVED").decode())
+
+    def test_sources_that_are_not_committed_are_told(self):
+        top = made.checkout()
+        with open(f"{top}/crates/chip_graph/src/lib.rt", "a", encoding="utf-8") as file:
+            file.write("// one line more\n")
+        made.build(top)
+        self.assertEqual(made.package(top).returncode, 0)
+        self.assertRegex(made.read(f"{top}/dist/PROVED").decode(), "\ncommit [0-9a-f]{40}, changed\n")
+
+
+class NotMade(unittest.TestCase):
+    def refuses(self, top, why):
+        answer = made.package(top)
+        self.assertEqual((answer.returncode, answer.stdout), (1, ""))
+        self.assertIn(why, answer.stderr)
+        self.assertFalse(os.path.exists(f"{top}/dist"))
+
+    def test_where_nothing_is_proved_and_no_kit_is_there(self):
+        self.refuses(made.checkout(), "the program could not be proved and built")
+
+    def test_where_a_source_is_newer_than_the_program(self):
+        top = made.checkout()
+        made.build(top)
+        later = time.time() + 9
+        os.utime(f"{top}/crates/chip_graph/src/lib.rt", (later, later))
+        self.refuses(top, "the program could not be proved and built")
+
+    def test_where_the_program_has_another_version(self):
+        top = made.checkout()
+        for name in ("crates/chip_arguments/src/help_texts.rt", "CHANGELOG.md"):
+            text = made.read(f"{top}/{name}").decode()
+            made.write(f"{top}/{name}", text.replace(made.version(), "77.0", 1).encode())
+        made.build(top)
+        self.refuses(top, f"the program says that it has version {made.version()}, and its sources say 77.0")
+
+    def test_where_the_changelog_begins_with_another_version(self):
+        top = made.checkout()
+        text = made.read(f"{top}/CHANGELOG.md").decode()
+        made.write(f"{top}/CHANGELOG.md", f"# chipfire 77.0, 2026-01-01\n\n- More.\n\n{text}".encode())
+        made.build(top)
+        self.refuses(top, "CHANGELOG.md does not begin with version")
+
+
+class OneVersion(unittest.TestCase):
+    def test_it_is_that_of_each_package(self):
+        version = made.version()
+        with zipfile.ZipFile(made.path_of(".whl")) as wheel:
+            self.assertIn(f"\nVersion: {version}\n", wheel.read(f"chipfire-{version}.dist-info/METADATA").decode())
+        shown = made.run("dpkg-deb", "-f", made.path_of(".deb"), "Version")
+        self.assertEqual(shown.stdout, f"{version}\n")
+        self.assertTrue(made.read(f"{made.ROOT}/CHANGELOG.md").startswith(f"# chipfire {version}, ".encode()))
+
+    def test_it_stands_in_one_place(self):
+        """Beside the source that the program has it from, only the changes and the tests of its answer name it."""
+        having = {name for name in made.repository_files() if made.version().encode() in made.read(f"{made.ROOT}/{name}")}
+        places = {"crates/chip_arguments/src/help_texts.rt", "CHANGELOG.md", "tests/cli/cases/explain.cases"}
+        self.assertEqual(having, places)
+
+
+class Needs(unittest.TestCase):
+    def test_libraries(self):
+        needed = re.findall(r"\(NEEDED\).*\[(.*)\]", readelf("--dynamic"))
+        self.assertEqual(needed, ["libc.so.6"])
+        self.assertIn("one shared library, `libc.so.6`", page())
+
+    def test_c_library(self):
+        asked = re.findall(r"GLIBC_(\d+)\.(\d+)", readelf("--version-info"))
+        newest = max((int(major), int(minor)) for major, minor in asked)
+        self.assertLessEqual(newest, OLDEST)
+        text = "{}.{}".format(*newest)
+        self.assertIn(f"glibc {text} or newer", page())
+        depends = made.run("dpkg-deb", "-f", made.path_of(".deb"), "Depends").stdout
+        self.assertEqual(depends, f"libc6 (>= {text})\n")
+        self.assertIn("manylinux_{}_{}_x86_64".format(*newest), made.path_of(".whl"))
+
+    def test_debian_finds_the_same_dependency(self):
+        made.need("dpkg-shlibdeps")
+        room = made.room()
+        os.mkdir(f"{room}/debian")
+        made.write(f"{room}/debian/control", b"Source: chipfire\n\nPackage: chipfire\nArchitecture: amd64\n")
+        found = made.run("dpkg-shlibdeps", "-O", f"{made.unpacked()}/bin/chipfire", cwd=room, check=True).stdout
+        self.assertEqual(found.strip().removeprefix("shlibs:Depends="),
+                         made.run("dpkg-deb", "-f", made.path_of(".deb"), "Depends").stdout.strip())
+
+    def test_kernel(self):
+        oldest = re.search(r"OS: Linux, ABI: (\d+\.\d+)", readelf("--notes"))[1]
+        self.assertIn(f"Linux {oldest} or newer", page())
+
+    def test_processor(self):
+        """No instruction is one that came after the level x86-64-v2: those begin with v, or are in this list."""
+        made.need("objdump")
+        shown = made.run("objdump", "-d", "--no-show-raw-insn", "-w", made.PROGRAM, check=True).stdout
+        used = set(re.findall(r"^ +[0-9a-f]+:\t(?:(?:lock|rep|repz|repnz|data16|cs|notrack|bnd) )*(\w+)", shown, re.MULTILINE))
+        self.assertIn("mov", used)
+        later = {"andn", "bextr", "blsi", "blsmsk", "blsr", "bzhi", "mulx", "pdep", "pext", "rorx", "sarx", "shlx", "shrx",
+                 "lzcnt", "movbe", "adcx", "adox", "rdrand", "rdseed", "xbegin", "xend", "sha256rnds2", "aesenc", "pclmulqdq"}
+        self.assertEqual({it for it in used if it in later or it.startswith("v") and it not in ("verr", "verw")}, set())
+        self.assertIn("the level `x86-64-v2`", page())

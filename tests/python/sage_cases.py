@@ -3,8 +3,12 @@
     sage -python tests/python/sage_cases.py >tests/python/sage_cases.json
 
 The file that lies here was written by SageMath 9.5 (Debian's package `sagemath`). Each case is a sandpile graph as Sage
-has it, its identity element, and configurations drawn at random (the seed is fixed) with what Sage's `stabilize(True)`
-answers: the stable configuration and the firing vector. Chips and firings leave out the sink, as Sage's do.
+has it, its identity element, the order and the invariant factors of its group, its burning script and configuration,
+and configurations drawn at random (the seed is fixed) with what Sage's `stabilize(True)` answers, the stable
+configuration and the firing vector, and its `equivalent_recurrent`. Chips are then dropped one at a time on the
+identity: `drops` are names, `avalanches` are how many firings each caused and of how many vertices, and `left` is what
+lies there at the end. `stables` are stable configurations, with what Sage's `is_recurrent` and `is_superstable` say.
+Chips and firings leave out the sink, as Sage's do.
 """
 import json
 import random
@@ -12,6 +16,8 @@ import random
 from sage.all import Sandpile, SandpileConfig, graphs, sandpiles, version
 
 PLAYS = 4
+DROPS = 12
+STABLES = 3
 
 
 def from_draw(draw):
@@ -49,28 +55,73 @@ def plain_name(name):
     return [int(it) for it in name] if isinstance(name, tuple) else name if isinstance(name, str) else int(name)
 
 
-def case_of(how, sandpile, most, draw):
+def numbers(configuration):
+    """The chips, or firings, of a configuration in the order of its vertices."""
+    return [int(it) for it in configuration.values()]
+
+
+def play_of(chips):
+    """What Sage says of one configuration."""
+    stable, fired = chips.stabilize(True)
+    return {
+        "chips": numbers(chips),
+        "stable": numbers(stable),
+        "fired": numbers(fired),
+        "representative": numbers(chips.equivalent_recurrent()),
+    }
+
+
+def dropped(sandpile, draw):
+    """Chips dropped one at a time, from the identity on: where, and what each caused."""
+    at, drops, avalanches = sandpile.identity(), [], []
+    for name in draw.choices(sandpile.nonsink_vertices(), k=DROPS):
+        more = SandpileConfig(sandpile, {it: int(it == name) for it in sandpile.nonsink_vertices()})
+        at, fired = (at + more).stabilize(True)
+        drops.append(plain_name(name))
+        avalanches.append([int(sum(fired.values())), sum(1 for count in fired.values() if count)])
+    return {"drops": drops, "avalanches": avalanches, "left": numbers(at)}
+
+
+def stables_of(sandpile, draw):
+    """Stable configurations: some drawn, some recurrent and some superstable, with what Sage says of each."""
+    most = sandpile.max_stable()
+    for _ in range(STABLES):
+        drawn = SandpileConfig(sandpile, {name: draw.randint(0, int(most[name])) for name in most})
+        for found in (drawn, drawn.equivalent_recurrent(), most - drawn.equivalent_recurrent()):
+            # (a configuration that was asked for its representative answers wrongly whether it is recurrent)
+            chips = SandpileConfig(sandpile, dict(found))
+            yield {
+                "chips": numbers(chips),
+                "recurrent": bool(chips.is_recurrent()),
+                "superstable": bool(chips.is_superstable()),
+            }
+
+
+def plays_of(sandpile, most, draw):
     names = sandpile.nonsink_vertices()
+    drawn = ({name: int(draw.randint(0, most)) for name in names} for _ in range(PLAYS))
+    return [play_of(SandpileConfig(sandpile, chips)) for chips in drawn]
 
-    def numbers(configuration):
-        return [int(configuration[name]) for name in names]
 
-    plays = []
-    for _ in range(PLAYS):
-        chips = {name: int(draw.randint(0, most)) for name in names}
-        stable, fired = SandpileConfig(sandpile, chips).stabilize(True)
-        plays.append({"chips": numbers(chips), "stable": numbers(stable), "fired": numbers(fired)})
+def case_of(how, sandpile, most, draw):
     sink = plain_name(sandpile.sink())
     rows = sandpile.edge_iterator(labels=True)
     edges = [[plain_name(tail), plain_name(head), int(mult)] for tail, head, mult in rows]
+    own = random.Random(how)
     return {
         "how": how,
         "sink": sink,
-        "names": [plain_name(name) for name in names],
+        "names": [plain_name(name) for name in sandpile.nonsink_vertices()],
         "edges": [edge for edge in edges if edge[0] != sink],
         "max_stable": numbers(sandpile.max_stable()),
         "identity": numbers(sandpile.identity()),
-        "plays": plays,
+        "order": str(sandpile.group_order()),
+        "factors": [str(factor) for factor in sandpile.invariant_factors()],
+        "burning_script": numbers(sandpile.burning_script()),
+        "burning": numbers(sandpile.burning_config()),
+        "plays": plays_of(sandpile, most, draw),
+        **dropped(sandpile, own),
+        "stables": list(stables_of(sandpile, own)),
     }
 
 

@@ -7,6 +7,7 @@ import contextlib
 import io
 import json
 import os
+import shutil
 import subprocess
 import sys
 import tempfile
@@ -301,9 +302,9 @@ class Finding(WithFolder):
             self.assertEqual(chipfire.Program().path, "/elsewhere")
             self.assertEqual(chipfire.Program(program).path, program)
         ask = "import chipfire; print(chipfire.find_program())"
+        shutil.copytree(f"{ROOT}/python/chipfire", self.file("copy/chipfire"))
         for path, status in [(self.folder, 0), (f"{self.folder}/empty", 1)]:
-            environment = {"PATH": path, "PYTHONPATH": self.folder, "PYTHONDONTWRITEBYTECODE": "1"}
-            self.file("chipfire.py", text_of(f"{ROOT}/python/chipfire.py"))
+            environment = {"PATH": path, "PYTHONPATH": self.file("copy"), "PYTHONDONTWRITEBYTECODE": "1"}
             ran = subprocess.run([sys.executable, "-c", ask], env=environment, capture_output=True, encoding="utf-8")
             self.assertEqual((ran.returncode, ran.stdout), (status, "" if status else f"{self.folder}/chipfire\n"))
 
@@ -313,7 +314,11 @@ class Finding(WithFolder):
         ask = "import chipfire; print(chipfire.__file__, chipfire.plain(chipfire.path(1), [3, 0]).fired)"
         environment = {**os.environ, "PYTHONPATH": self.folder}
         ran = subprocess.run([sys.executable, "-c", ask], env=environment, capture_output=True, encoding="utf-8")
-        self.assertEqual(ran.stdout, f"{self.folder}/chipfire.py (1, 0)\n")
+        self.assertEqual(ran.stdout, f"{self.folder}/chipfire/__init__.py (1, 0)\n")
+        files = [TRIANGLE_FILE, CHIPS_FILE, f"{EXAMPLES}/triangle/trace.csv"]
+        words = [sys.executable, "-m", "chipfire", "page", *files]
+        ran = subprocess.run(words, env=environment, cwd=self.folder, capture_output=True, encoding="utf-8")
+        self.assertEqual((ran.stdout[:15], ran.stderr), ("<!doctype html>", ""))
 
 
 class Running(WithFolder):

@@ -6,10 +6,12 @@
     report = chipfire.plain(grid, {190: 1000})
     print(report.chips, report.fired)
 
-This file stands on the standard library alone. `pip install ./python` installs it, and a copy of it works too. The
-answers are the program's, whose contracts are proved; nothing of this file is. The program is found in this order: the
-`program` that a call or a `Program` names, the environment variable CHIPFIRE, `target/chipfire` of the repository that
-this file lies in, and `chipfire` on the PATH.
+`page` writes a page on which a run of the distributed machine is watched in a browser, event by event.
+
+The package stands on the standard library alone. `pip install ./python` installs it, and a copy of its folder works
+too. The answers are the program's, whose contracts are proved; nothing of the package is. The program is found in this
+order: the `program` that a call or a `Program` names, the environment variable CHIPFIRE, the program that an installed
+package carries, `target/chipfire` of the repository that the package lies in, and `chipfire` on the PATH.
 
 Who comes from sandpiles finds the usual words under these names:
 
@@ -21,6 +23,12 @@ Who comes from sandpiles finds the usual words under these names:
     odometer, firing vector    Report.fired, and without the sink Report.odometer
     maximal stable             Graph.max_stable()
     recurrent identity         identity(graph)
+    stable sum                 add(graph, first, second)
+    recurrent, superstable     is_recurrent(graph, chips), is_superstable(graph, chips)
+    sandpile group             order(graph), invariant_factors(graph), recurrent_representative(graph, chips)
+    avalanche                  avalanche(graph, chips, vertex), avalanches(graph, chips, vertices)
+
+Reports are drawn by `Report.image` and `Report.show`, plays by `frames`.
 
 A vertex has a number from 0 on, and where a graph comes from elsewhere also a name. Tuples go by numbers, dicts by
 names. Numbers of chips and firings go up to 2^40; a graph has up to 4,096 vertices and 65,536 edges.
@@ -31,26 +39,54 @@ from __future__ import annotations
 import contextlib
 import csv
 import functools
+import importlib.metadata
 import json
 import operator
 import os
+import re
 import shutil
 import subprocess
 import sys
 import tempfile
 import warnings
 from collections.abc import Hashable, Iterable, Iterator, Mapping, Sequence
-from dataclasses import dataclass, field
+from dataclasses import dataclass, field, replace
 from typing import Any, NamedTuple, Union
+
+from chipfire.pictures import PALETTES, Drawn, Picture
 
 __all__ = [
     "Board", "Books", "Check", "Event", "Fault", "Firing", "Graph", "Program", "ProgramNotFound", "Reply", "Report",
-    "Schedule", "Simulation", "TraceCut", "TraceRow", "check", "complete", "cycle", "explain", "from_networkx",
-    "from_sage", "grid", "identity", "path", "plain", "read_chips", "read_schedule", "read_trace", "replay", "resume",
-    "run", "simulate", "torus", "write_chips", "write_schedule", "write_trace",
+    "Schedule", "Setting", "Simulation", "TraceCut", "TraceRow", "check", "complete", "cycle", "explain",
+    "from_networkx", "from_sage", "grid", "identity", "page", "path", "plain", "read_chips", "read_schedule",
+    "read_trace", "recorded", "replay", "resume", "run", "simulate", "torus", "write_chips", "write_schedule",
+    "write_trace",
+    # of sandpiles.py
+    "Avalanche", "add", "avalanche", "avalanches", "burning_configuration", "burning_script", "invariant_factors",
+    "is_recurrent", "is_stable", "is_superstable", "order", "recurrent_representative", "stabilize",
+    # of pictures.py and animation.py
+    "Frames", "PALETTES", "Picture", "frames",
 ]
 
-__version__ = "0.1.0"
+_HERE = os.path.dirname(os.path.realpath(__file__))
+#: Where the package carries the program if it does, and the repository that it lies in if it does.
+_CARRIED = os.path.join(_HERE, "program", "chipfire")
+_REPOSITORY = os.path.dirname(os.path.dirname(_HERE))
+
+
+def _version() -> str:
+    """The version: it stands in the program's source, or pip noted it where it installed the package."""
+    source = os.path.join(_REPOSITORY, "crates", "chip_arguments", "src", "help_texts.rt")
+    if os.path.isfile(source):
+        with open(source, encoding="utf-8") as file:
+            return re.search('VERSION: &str = "(.*)"', file.read())[1]
+    try:
+        return importlib.metadata.version("chipfire")
+    except importlib.metadata.PackageNotFoundError:
+        return "unknown"
+
+
+__version__ = _version()
 
 MAX_VERTICES = 4096
 MAX_EDGES = 65_536
@@ -486,7 +522,7 @@ def read_trace(file: FileName) -> list[TraceRow]:
 
 
 @dataclass(frozen=True)
-class Report:
+class Report(Drawn):
     """How a play stands at its end, as `plain`, `run` and `resume` write it, and a simulation whose root closed.
 
     chips   the chips of each vertex, by numbers, the sink's among them
@@ -611,11 +647,27 @@ class Board:
     @classmethod
     def parse(cls, lines: Sequence[str]) -> Board:
         """The board of its lines: that of the root, and one for each engaged vertex."""
-        engaged = {}
-        for words in map(str.split, lines[1:]):
-            owed = dict(tuple(map(int, word.split(":"))) for word in words[7:])
-            engaged[int(words[1])] = Books(int(words[3]), int(words[5]), owed)
-        return cls(int(lines[0].split()[2]), engaged)
+        return cls(int(lines[0].split()[2]), dict(map(_engaged, lines[1:])))
+
+
+@functools.lru_cache(maxsize=MAX_VERTICES)
+def _engaged(line: str) -> tuple[int, Books]:
+    """A vertex and its books, of their line. Most lines of a board are those of the board before it."""
+    words = line.split()
+    owed = dict(tuple(map(int, word.split(":"))) for word in words[7:])
+    return int(words[1]), Books(int(words[3]), int(words[5]), owed)
+
+
+@dataclass(frozen=True)
+class Setting:
+    """How a game is set up that a schedule plays: the graph, the chips of each vertex at the start, how often each may
+    fire, how many cells the ring of each edge has, and whether the schedule may feed chips."""
+
+    graph: Graph
+    chips: tuple[int, ...]
+    limit: int = MAX_LIMIT
+    ring: int = 1
+    fed: bool = False
 
 
 @dataclass(frozen=True)
@@ -624,11 +676,16 @@ class Simulation:
     where the books were asked for.
 
     That the root is closed says that all is over. `report.closed` says besides that no limit and no seal stopped a
-    vertex."""
+    vertex. What was asked stands beside it: the schedule, how many rounds were to follow it, and the setting; and in
+    words what of the schedule nobody wrote, if there is such."""
 
     replies: tuple[Reply, ...]
     report: Report | None
     boards: tuple[Board, ...] = ()
+    schedule: tuple[Event, ...] = field(default=(), compare=False, repr=False)
+    rounds: int = field(default=0, compare=False, repr=False)
+    made_up: str = field(default="", compare=False, repr=False)
+    setting: Setting | None = field(default=None, compare=False, repr=False)
 
     @classmethod
     def parse(cls, text: str, graph: Graph | None = None) -> Simulation:
@@ -730,11 +787,18 @@ class Program:
         """Runs a schedule on the detector: a reply for each event, and the report where the root is closed then, or
         after so many rounds of turns. With `books` there is also what stands in the books after each event; where it
         is `fed`, the schedule may give the vertices more chips, on the edges that come from the root."""
+        if not _is_file(schedule):
+            schedule = Schedule(Event(*event) for event in schedule)
         with _Room() as room:
             files = [*room.game(graph, chips), room.rows("schedule.csv", schedule, _schedule_text)]
             options = {"limit": limit, "ring": ring, "rounds": rounds, "books": books, "fed": fed}
             text = self._ask("simulate", *files, **options)
-            return Simulation.parse(text, room.graph_known())
+            known = room.graph_known()
+        start = read_chips(chips, known) if _is_file(chips) else known.chips(chips)
+        events = read_schedule(schedule) if _is_file(schedule) else schedule
+        given = {name: options[name] for name in ("limit", "ring", "fed") if options[name] is not None}
+        asked = {"schedule": tuple(events), "rounds": rounds or 0, "setting": Setting(known, start, **given)}
+        return replace(Simulation.parse(text, known), **asked)
 
     def replay(
         self,
@@ -825,6 +889,11 @@ class Program:
         return Fault(int(words[2]), words[3], tuple(map(int, words[4:])), explanation, status)
 
 
+def _is_file(given: Any) -> bool:
+    """Whether the name of a file was given in place of what stands in it."""
+    return isinstance(given, (str, os.PathLike))
+
+
 def _file_word(name: str) -> str:
     """A file's name as an argument that is no option."""
     return f"./{name}" if name.startswith("-") else name
@@ -857,12 +926,12 @@ class _Room(contextlib.ExitStack):
 
     def chips(self, name: str, chips: Chips | FileName) -> str:
         """The file of chips on the graph that the call is about."""
-        if isinstance(chips, (str, os.PathLike)):
+        if _is_file(chips):
             return os.fspath(chips)
         return self._file(name, _chips_text(self.graph_known().chips(chips)))
 
     def rows(self, name: str, rows: Iterable[Sequence[Any]] | FileName, text_of: Any) -> str:
-        return os.fspath(rows) if isinstance(rows, (str, os.PathLike)) else self._file(name, text_of(rows))
+        return os.fspath(rows) if _is_file(rows) else self._file(name, text_of(rows))
 
     def earlier(self, report: Report | FileName) -> str:
         return self._file("report.json", report.text()) if isinstance(report, Report) else os.fspath(report)
@@ -881,15 +950,19 @@ def find_program() -> str:
     named = os.environ.get("CHIPFIRE")
     if named:
         return named
-    above = os.path.dirname(os.path.dirname(os.path.realpath(__file__)))
-    built = os.path.join(above, "target", "chipfire")
-    if os.access(built, os.X_OK):
-        return built
+    for place in (_CARRIED, os.path.join(_REPOSITORY, "target", "chipfire")):
+        if os.access(place, os.X_OK):
+            return place
     found = shutil.which("chipfire")
     if found:
         return found
     hint = "./chipfire in the repository builds target/chipfire; name it by the environment variable CHIPFIRE"
     raise ProgramNotFound(2, f"the program is not found ({hint})", "chipfire")
+
+
+def start_program() -> None:
+    """Becomes the program that the package carries, with the words of this process: the command `chipfire` of pip."""
+    os.execv(_CARRIED, [_CARRIED, *sys.argv[1:]])
 
 
 def check(graph: Graph | FileName, *, program: FileName | None = None) -> Check:
@@ -950,3 +1023,12 @@ def explain(number: int | None = None, *, program: FileName | None = None) -> st
 def identity(graph: Graph | FileName, *, program: FileName | None = None) -> dict[Hashable, int]:
     """`Program.identity` of the program that is named, or found: the recurrent identity."""
     return Program(program).identity(graph)
+
+
+# (these modules stand on all that is above)
+from chipfire.animation import Frames, frames  # noqa: E402
+from chipfire.pages import page, recorded  # noqa: E402
+from chipfire.sandpiles import (  # noqa: E402
+    Avalanche, add, avalanche, avalanches, burning_configuration, burning_script, invariant_factors, is_recurrent,
+    is_stable, is_superstable, order, recurrent_representative, stabilize,
+)

@@ -1,0 +1,158 @@
+"""Where the vertices of a graph stand in a drawing. The same graph always comes to the same places."""
+
+from __future__ import annotations
+
+import cmath
+import math
+from collections import deque
+from collections.abc import Hashable, Iterable, Mapping, Sequence
+from dataclasses import dataclass
+
+from chipfire import Graph, grid
+
+Point = tuple[float, float]
+
+#: Up to so many vertices the places come from distances; more are put in rows.
+MOST_BY_DISTANCE = 100
+#: How much work goes into places from distances: pairs of vertices times rounds.
+_WORK = 1_000_000
+
+
+@dataclass(frozen=True)
+class Places:
+    """Where each vertex stands, and the root; a step to the right is 1 in the first number, one down in the second.
+
+    frame  the corners, upper left and lower right, of a frame that stands for the sink; None where the sink has a place
+    """
+
+    vertices: Sequence[Point]
+    root: Point
+    frame: tuple[Point, Point] | None = None
+
+
+def columns_of(graph: Graph) -> int | None:
+    """How many columns a graph has that is a grid as `chipfire.grid` makes it; None where it is none.
+
+    One row of squares and one column of as many are the same graph, which counts as a row.
+    """
+    squares = graph.vertices - 1
+    if graph.sink != squares:
+        return None
+    widths = (width for width in range(squares, 0, -1) if squares % width == 0)
+    rows = sorted(graph.edges)
+    return next((width for width in widths if sorted(grid(width, squares // width).edges) == rows), None)
+
+
+def places_of(graph: Graph, started: Iterable[int], given: Mapping[Hashable, Point] | None = None) -> Places:
+    """The places of a graph of which the root sends chips to the vertices `started`.
+
+    They are those that are given, by names; else those of a grid; else they come from distances along edges.
+    """
+    if given is not None:
+        places = [_point(given, name) for name in graph.names]
+        return Places(places, _above(places))
+    columns = columns_of(graph)
+    if columns:
+        return _grid_places(columns, (graph.vertices - 1) // columns)
+    if graph.vertices > MOST_BY_DISTANCE:
+        places = _in_rows(graph.vertices)
+        return Places(places, _above(places))
+    return _from_distances(graph, sorted(started))
+
+
+def _point(given: Mapping[Hashable, Point], name: Hashable) -> Point:
+    if name not in given:
+        raise ValueError(f"vertex {name!r} has no position")
+    across, down = given[name]
+    if not (math.isfinite(across) and math.isfinite(down)):
+        raise ValueError(f"the position of vertex {name!r} is no point: {given[name]!r}")
+    return float(across), float(down)
+
+
+def _above(places: Sequence[Point]) -> Point:
+    """A point over the middle of others, as far off as they are from each other."""
+    across, down = zip(*places)
+    width, height = max(across) - min(across), max(down) - min(down)
+    apart = max(width, height) / math.sqrt(len(places)) or 1.0
+    return min(across) + width / 2, min(down) - apart
+
+
+def _grid_places(columns: int, rows: int) -> Places:
+    """Squares in rows; the sink is the frame round them, since it takes what falls over the border."""
+    squares = [(float(square % columns), float(square // columns)) for square in range(columns * rows)]
+    frame = ((-0.8, -0.8), (columns - 0.2, rows - 0.2))
+    return Places([*squares, ((columns - 1) / 2, rows - 0.2)], ((columns - 1) / 2, -1.45), frame)
+
+
+def _in_rows(vertices: int) -> list[Point]:
+    """Many vertices, by their numbers in rows."""
+    columns = math.isqrt(vertices - 1) + 1
+    return [(float(vertex % columns), float(vertex // columns)) for vertex in range(vertices)]
+
+
+def _from_distances(graph: Graph, started: Sequence[int]) -> Places:
+    """Places as far from each other as the walks between them are long: who gets the first chips up, and the sink down.
+
+    The root stands above who gets its chips. What would be much higher than wide is laid on its side.
+    """
+    points = _stressed(_distances(graph))
+    first = sum(points[vertex] for vertex in started) / len(started) if started else points[graph.sink]
+    vertices = _upright(points, first, points[graph.sink])
+    across = [vertices[vertex][0] for vertex in started or [graph.sink]]
+    root = (round(sum(across) / len(across), 3), min(down for _, down in vertices) - 1)
+    widths, heights = zip(*vertices, root)
+    if max(heights) - min(heights) > 2 * (max(widths) - min(widths)) + 1:
+        vertices, root = [(down, across) for across, down in vertices], root[::-1]
+    return Places(vertices, root)
+
+
+def _distances(graph: Graph) -> list[list[int]]:
+    """How many edges, in either direction, lie between any two vertices."""
+    beside: list[set[int]] = [set() for _ in range(graph.vertices)]
+    for tail, head, _ in graph.edges:
+        beside[tail].add(head)
+        beside[head].add(tail)
+    return [_spread(beside, vertex) for vertex in range(graph.vertices)]
+
+
+def _spread(beside: Sequence[set[int]], start: int) -> list[int]:
+    found, waiting = {start: 0}, deque([start])
+    while waiting:
+        vertex = waiting.popleft()
+        for other in beside[vertex] - found.keys():
+            found[other] = found[vertex] + 1
+            waiting.append(other)
+    return [found[vertex] for vertex in range(len(beside))]
+
+
+def _stressed(distances: Sequence[Sequence[int]]) -> list[complex]:
+    """Points whose distances come near to those that are wanted, near ones above all: stress majorization.
+
+    It begins on a circle, in the order of numbers, and moves each point to the mean of where the others want it.
+    """
+    size = len(distances)
+    points = [cmath.rect(size / 6, 2 * math.pi * vertex / size) for vertex in range(size)]
+    for _ in range(min(2000, _WORK // size**2 + 1) if size > 1 else 0):
+        for vertex, wanted in enumerate(distances):
+            points[vertex] = _wanted(points, vertex, wanted)
+    return points
+
+
+def _wanted(points: Sequence[complex], vertex: int, distances: Sequence[int]) -> complex:
+    """The mean of where the other points want one, each as much as it is near."""
+    total, weights = 0j, 0.0
+    for other, distance in enumerate(distances):
+        if distance:
+            away = points[vertex] - points[other]
+            weight = 1 / distance**2
+            total += weight * (points[other] + distance * away / (abs(away) or 1))
+            weights += weight
+    return total / weights
+
+
+def _upright(points: Sequence[complex], top: complex, bottom: complex) -> list[Point]:
+    """Points turned such that one place is right above another."""
+    down = bottom - top
+    turn = 1j * abs(down) / down if abs(down) > 1e-9 else 1
+    turned = [point * turn for point in points]
+    return [(round(point.real, 3), round(point.imag, 3)) for point in turned]

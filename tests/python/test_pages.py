@@ -1,0 +1,478 @@
+"""Pages of runs: what stands where after each event, how rounds and traces are spelled out, and the text of a page.
+
+What stands where is held against `examples/simulate.py`, which shares nothing with the package or the program, on the
+schedules of examples/detector and on random ones.
+"""
+import dataclasses
+import html
+import json
+import os
+import random
+import re
+import subprocess
+import sys
+import tempfile
+import unittest
+
+import simulate as plain_rules
+
+import chipfire
+from chipfire import layout, ledger, sentences, spelling
+
+HERE = os.path.dirname(os.path.realpath(__file__))
+ROOT = os.path.dirname(os.path.dirname(HERE))
+EXAMPLES = f"{ROOT}/examples"
+TRIANGLE = chipfire.Graph(3, 2, ((0, 1), (0, 2), (1, 0), (1, 2)))
+
+#: The schedules of examples/detector: their graph, chips and options, as its README has them.
+DETECTOR = {
+    "engaging-message-last": ("detector/two-edges.json", "detector/two-chips.csv", {}),
+    "deficit": ("triangle/graph.json", "triangle/chips.csv", {}),
+    "sealed-half-way": ("triangle/graph.json", "triangle/chips.csv", {"rounds": 10}),
+    "left-open": ("triangle/graph.json", "triangle/chips.csv", {}),
+    "small-run": ("detector/small-run.json", "detector/two-chips.csv", {}),
+    "fed-twice": ("triangle/graph.json", "triangle/no-chips.csv", {"fed": True, "rounds": 10}),
+}
+
+
+def detector(name, **more):
+    """The simulation of a schedule of examples/detector."""
+    graph, chips, options = DETECTOR[name]
+    files = [f"{EXAMPLES}/{graph}", f"{EXAMPLES}/{chips}", f"{EXAMPLES}/detector/{name}.csv"]
+    return chipfire.simulate(*files, **options, **more)
+
+
+def core_of(setting):
+    """The opening by the plain rules."""
+    graph = {"vertices": setting.graph.vertices, "sink": setting.graph.sink, "edges": setting.graph.edges}
+    return plain_rules.Core(graph, setting.chips, setting.limit, setting.ring, setting.fed)
+
+
+def state_by_plain_rules(core):
+    """What stands where by the plain rules, in the words of the ledger."""
+    numbers = {id(edge): number for number, edge in enumerate(core.edges)}
+    root = {
+        "deficit": core.deficit(core.edges[core.graph_edges:]), "ended": core.ended, "closed": core.is_closed()
+    }
+    halts = {None: None, "sealed": "seal", "over": "limit"}
+    vertices = [
+        {
+            "chips": it.chips, "fired": it.fired, "halted": halts[it.halt], "deficit": core.deficit(core.outs(number)),
+            "parent": None if it.parent is None else numbers[id(it.parent)],
+        }
+        for number, it in enumerate(core.vertices)
+    ]
+    return {"root": [root], "vertices": vertices, "edges": [edge_by_plain_rules(edge) for edge in core.edges]}
+
+
+def edge_by_plain_rules(edge):
+    return {
+        "pending": edge.pending,
+        "claimed": sum(edge.sent[edge.put:]),
+        "cells": [(place, edge.sent[place]) for place in range(edge.delivered, edge.put)],
+        "clear": edge.clear, "refused": edge.refused, "sealed": edge.sealed,
+        "sent": len(edge.sent), "taken": edge.delivered, "acknowledged": edge.acked, "settled": edge.settled,
+        "owed": edge.delivered - edge.acked,
+    }
+
+
+class Listening(plain_rules.Core):
+    """The plain rules, with a list of the events that found or changed something."""
+
+    def __init__(self, *words):
+        super().__init__(*words)
+        self.heard = []
+
+
+def _heard(kind):
+    def call(self, at, *count):
+        reply = getattr(plain_rules.Core, kind)(self, at, *count)
+        if reply not in ("empty", "full") and (kind, reply) != ("settle", "done 0"):
+            self.heard.append((kind, at, *(count or (0,))))
+        return reply
+
+    return call
+
+
+for _kind in ("take", "ack", "fire", "clear", "claim", "put", "halt", "settle"):
+    setattr(Listening, _kind, _heard(_kind))
+
+
+def random_graph(numbers):
+    """A graph of a few vertices, each with an edge to a later one, and the last as the sink."""
+    size = numbers.randint(2, 6)
+    edges = [(tail, numbers.randint(tail + 1, size - 1), numbers.randint(1, 2)) for tail in range(size - 1)]
+    for _ in range(numbers.randint(0, 6)):
+        tail, head = numbers.randrange(size - 1), numbers.randrange(size)
+        if tail != head:
+            edges.append((tail, head, numbers.randint(1, 3)))
+    return chipfire.Graph(size, size - 1, edges)
+
+
+def random_game(numbers, fed):
+    """The setting of a small game, which may be limited."""
+    graph = random_graph(numbers)
+    chips = [numbers.randint(0, 9) for _ in range(graph.vertices)]
+    limit = numbers.choice([1, 2, 2**40])
+    return chipfire.Setting(graph, tuple(chips), limit, numbers.randint(1, 3), fed)
+
+
+def random_events(numbers, graph, count):
+    """Events of all kinds, most of them at a vertex that an event before was at, so that many are done."""
+    edges = len(graph.edges) + graph.vertices
+    kinds = ["take", "ack", "fire", "clear", "claim", "put", "settle"] * 6 + ["halt", "seal", "read", "feed", "end"]
+    events, at = [], 0
+    for _ in range(count):
+        kind = numbers.choice(kinds)
+        at = at if numbers.random() < 0.6 else numbers.randrange(edges)
+        place = at % graph.vertices if kind in ("fire", "halt", "read", "end") else at
+        events.append(chipfire.Event(kind, place, numbers.randint(1, 3)))
+    return events
+
+
+def asked(setting, events, **options):
+    """What the program answers to a schedule, with its books."""
+    game = {"limit": setting.limit, "ring": setting.ring, "fed": setting.fed}
+    return chipfire.simulate(setting.graph, setting.chips, events, books=True, **game, **options)
+
+
+def data_of(text):
+    """What a page shows, as it stands in its text."""
+    return json.loads(re.search(r'<script id="run" type="application/json">(.*?)</script>', text, re.DOTALL)[1])
+
+
+class States(unittest.TestCase):
+    """A ledger is told the program's replies, and what it has then is what the plain rules say."""
+
+    def follow(self, simulation):
+        book, core = ledger.Ledger(simulation.setting), core_of(simulation.setting)
+        shown = book.state()
+        self.assertEqual(shown, state_by_plain_rules(core))
+        for event, reply, board in zip(simulation.schedule, simulation.replies, simulation.boards):
+            core.step(*event)
+            for kind, index, name, value in book.note(event, reply):
+                self.assertNotEqual(shown[kind][index][name], value)
+                shown[kind][index][name] = value
+            self.assertEqual(shown, state_by_plain_rules(core))
+            book.compare(board)
+        book.close(simulation.report)
+
+    def test_the_schedules_of_the_examples(self):
+        for name in DETECTOR:
+            with self.subTest(name):
+                simulation = detector(name, books=True)
+                events = spelling.spell_rounds(
+                    simulation.setting, simulation.schedule, simulation.replies, simulation.rounds
+                )
+                self.follow(asked(simulation.setting, events))
+
+    def test_random_schedules(self):
+        done = set()
+        for seed in range(60):
+            numbers = random.Random(seed)
+            setting = random_game(numbers, fed=seed % 2 == 0)
+            events = random_events(numbers, setting.graph, 250)
+            with self.subTest(seed=seed):
+                simulation = asked(setting, events)
+                self.follow(simulation)
+            done |= {(event.kind, reply.kind) for event, reply in zip(events, simulation.replies)}
+        wanted = {("take", "got"), ("take", "empty"), ("clear", "full"), ("claim", "sent"), ("claim", "sealed"),
+                  ("feed", "sent"), ("halt", "done"), ("ack", "done"), ("read", "done"), ("end", "done")}
+        self.assertEqual(wanted - done, set())
+
+
+class Disagreements(unittest.TestCase):
+    """Answers that do not fit together are refused, each for what does not fit."""
+
+    def setUp(self):
+        self.simulation = detector("deficit", books=True)
+
+    def refused(self, what, **changed):
+        with self.assertRaisesRegex(ledger.Disagreement, what):
+            chipfire.pages.page_text(dataclasses.replace(self.simulation, **changed))
+
+    def with_board(self, index, **changed):
+        boards = list(self.simulation.boards)
+        boards[index] = dataclasses.replace(boards[index], **changed)
+        return tuple(boards)
+
+    def with_reply(self, index, kind, *numbers):
+        replies = list(self.simulation.replies)
+        self.assertEqual(replies[index].kind, kind)
+        replies[index] = chipfire.Reply(kind, numbers)
+        return tuple(replies)
+
+    def test_books_that_are_others(self):
+        self.refused("the root's deficit", boards=self.with_board(3, root_deficit=2))
+        self.refused("the books", boards=self.with_board(3, engaged={}))
+        for books in (chipfire.Books(5, 1, {4: 1}), chipfire.Books(4, 2, {4: 1}), chipfire.Books(4, 1, {4: 2})):
+            self.refused("the books", boards=self.with_board(3, engaged={0: books}))
+
+    def test_replies_that_are_others(self):
+        self.refused("taken from edge 4", replies=self.with_reply(0, "got", 0, 3))
+        self.refused("firings of vertex 0", replies=self.with_reply(1, "done", 3))
+        self.refused("sent on edge 0", replies=self.with_reply(3, "sent", 0, 3))
+        self.refused("place of the message on edge 0", replies=self.with_reply(3, "sent", 1, 2))
+        self.refused("put on edge 0", replies=self.with_reply(4, "done", 1))
+
+    def test_a_report_that_is_another(self):
+        report = self.simulation.report
+        self.refused("the chips", report=dataclasses.replace(report, chips=(0, 1, 3)))
+        self.refused("the firings", report=dataclasses.replace(report, fired=(2, 2, 0)))
+        self.refused("a limit halted", report=dataclasses.replace(report, over=(0,)))
+        self.refused("whether the root is closed", report=None)
+
+
+class Spelled(unittest.TestCase):
+    """Rounds and traces become the events that they stand for."""
+
+    def test_rounds_are_those_of_the_plain_rules(self):
+        halted = set()
+        for seed in range(60):
+            numbers = random.Random(seed)
+            setting = random_game(numbers, fed=False)
+            begun = random_events(numbers, setting.graph, seed % 3 * 40)
+            simulation = asked(setting, begun, rounds=seed % 7)
+            core = Listening(*core_words(setting))
+            for event in begun:
+                core.step(*event)
+            core.heard.clear()
+            core.drive(seed % 7)
+            with self.subTest(seed=seed):
+                spelled = spelling.spell_rounds(setting, simulation.schedule, simulation.replies, seed % 7)
+                self.assertEqual([tuple(event) for event in spelled[len(begun):]], core.heard)
+                self.assertEqual(asked(setting, spelled).report, simulation.report)
+            halted |= {vertex.halt for vertex in core.vertices}
+        self.assertEqual(halted, {None, "over", "sealed"})
+
+    def test_a_recorded_run_takes_and_fires_what_was_recorded(self):
+        for seed in range(12):
+            numbers = random.Random(seed)
+            setting = random_game(numbers, fed=False)
+            options = {"limit": setting.limit, "ring": setting.ring, "workers": 2}
+            with self.subTest(seed=seed), tempfile.TemporaryDirectory(prefix="chipfire-python-") as folder:
+                report = chipfire.run(setting.graph, setting.chips, trace=f"{folder}/trace.csv", **options)
+                trace = chipfire.read_trace(f"{folder}/trace.csv")
+                told = chipfire.recorded(setting.graph, setting.chips, f"{folder}/trace.csv", limit=setting.limit)
+            self.assertEqual(told.report, report)
+            self.assertEqual(sorted(rows_of(told), key=lambda row: row.vertex), trace)
+
+    def test_the_ring_of_a_recorded_run(self):
+        # Vertex 0 fires three times, 1 fires when it has all three messages, and 2 takes first what comes from 1.
+        graph = chipfire.Graph(4, 3, [(0, 2), (0, 1), (1, 2, 3), (2, 3, 100)])
+        trace = [(0, "take", 4, 6), *[(0, "fire", 0, 1)] * 3, *[(1, "take", 1, 1)] * 3, (1, "fire", 0, 1),
+                 (2, "take", 2, 3), *[(2, "take", 0, 1)] * 3]
+        self.assertEqual(chipfire.recorded(graph, {0: 6}, trace).setting.ring, 2)
+        self.assertEqual(chipfire.recorded(graph, {0: 6}, trace, ring=3).setting.ring, 3)
+        with self.assertRaisesRegex(ValueError, "rings of 1 cell"):
+            chipfire.recorded(graph, {0: 6}, trace, ring=1)
+
+    def test_a_trace_that_fits_nowhere_is_the_programs_fault(self):
+        with self.assertRaises(chipfire.Fault) as caught:
+            chipfire.recorded(TRIANGLE, {0: 4}, [(0, "take", 4, 4), (0, "fire", 0, 3)])
+        self.assertEqual((caught.exception.number, caught.exception.place), (70, (0, 1)))
+
+    def test_a_trace_that_was_cut_leaves_the_root_open(self):
+        told = chipfire.recorded(TRIANGLE, {0: 4}, [(0, "take", 4, 4), (0, "fire", 0, 2), (1, "take", 0, 2)])
+        self.assertFalse(told.root_closed)
+        self.assertIn("that the root is open", chipfire.pages.page_text(told))
+
+
+def core_words(setting):
+    graph = {"vertices": setting.graph.vertices, "sink": setting.graph.sink, "edges": setting.graph.edges}
+    return graph, setting.chips, setting.limit, setting.ring, setting.fed
+
+
+def rows_of(simulation):
+    """The takes and firings of a simulation, as rows of a trace."""
+    heads = [head for _, head, _ in simulation.setting.graph.edges] + list(range(simulation.setting.graph.vertices))
+    for event, reply in zip(simulation.schedule, simulation.replies):
+        if event.kind == "take":
+            yield chipfire.TraceRow(heads[event.at], "take", event.at, reply.numbers[1])
+        elif event.kind == "fire":
+            yield chipfire.TraceRow(event.at, "fire", 0, event.count)
+
+
+class Words(unittest.TestCase):
+    """Events, replies and changes in sentences."""
+
+    def setUp(self):
+        self.words = sentences.Sentences(chipfire.Graph(3, 2, TRIANGLE.edges, ["a", "b", "out"]))
+
+    def test_events(self):
+        said = {
+            ("take", 4, 0): "Vertex a takes the next message from the root (edge 4).",
+            ("ack", 1, 0): "The sink out acknowledges to vertex a what it may (edge 1).",
+            ("fire", 1, 2): "Vertex b fires twice.",
+            ("fire", 1, 1200): "Vertex b fires 1,200 times.",
+            ("settle", 4, 0): "The root looks how many messages vertex a has acknowledged (edge 4).",
+            ("seal", 0, 0): "The stopper seals the edge from vertex a to vertex b (edge 0).",
+            ("feed", 5, 1): "The root feeds 1 chip to vertex b (edge 5).",
+            ("end", 9, 0): "The root notes that nothing more is fed.",
+            ("halt", 0, 0): "Vertex a halts.",
+        }
+        self.assertEqual({event: self.words.event(chipfire.Event(*event)) for event in said}, said)
+
+    def test_replies(self):
+        said = [
+            ("take", chipfire.Reply("got", (0, 4)), "Got the message with place 0: 4 chips."),
+            ("take", chipfire.Reply("empty"), "The cell is empty: there is no message."),
+            ("claim", chipfire.Reply("sealed"), "The edge is sealed: the claim is refused."),
+            ("halt", chipfire.Reply("done", (0,)), "Done: a claim was refused."),
+            ("halt", chipfire.Reply("done", (1,)), "Done: it fired as often as the limit allows."),
+            ("settle", chipfire.Reply("done", (1,)), "Done: 1 new acknowledgement seen."),
+            ("fire", chipfire.Reply("not-now", (7,)),
+             "Not now, by rule 7: it is not so that the chips are there. Nothing was done."),
+        ]
+        for kind, reply, words in said:
+            self.assertEqual(self.words.reply(chipfire.Event(kind, 0), reply), words)
+
+    def test_changes(self):
+        said = {
+            ("vertices", 0, "parent", 4): "vertex a: engaged by edge 4, by the root",
+            ("vertices", 0, "parent", None): "vertex a: neutral",
+            ("vertices", 2, "chips", 1): "the sink out: 1 chip",
+            ("edges", 3, "cells", ((2, 5),)): "edge 3: 5 chips at place 2 in its cells",
+            ("edges", 3, "sealed", True): "edge 3: sealed",
+            ("root", 0, "closed", True): "the root is closed",
+        }
+        self.assertEqual({change: self.words.change(change) for change in said}, said)
+
+    def test_each_event_and_reply_of_random_schedules_has_words(self):
+        numbers = random.Random(5)
+        setting = random_game(numbers, fed=True)
+        simulation = asked(setting, random_events(numbers, setting.graph, 600))
+        words, book = sentences.Sentences(setting.graph), ledger.Ledger(setting)
+        for event, reply in zip(simulation.schedule, simulation.replies):
+            said = [words.event(event), words.reply(event, reply), *map(words.change, book.note(event, reply))]
+            self.assertFalse([text for text in said if "None" in text or "{" in text or len(text) < 5], event)
+
+
+class Layouts(unittest.TestCase):
+    def test_a_grid_is_drawn_as_one(self):
+        places = layout.places_of(chipfire.grid(3, 2), [0])
+        squares = [(0, 0), (1, 0), (2, 0), (0, 1), (1, 1), (2, 1)]
+        self.assertEqual([(x, y) for x, y in places.vertices[:6]], squares)
+        (left, top), (right, bottom) = places.frame
+        self.assertTrue(left < 0 < 2 < right and top < 0 < 1 < bottom and places.root[1] < top)
+        self.assertEqual([layout.columns_of(chipfire.grid(*size)) for size in [(3, 2), (2, 3), (4, 1)]], [3, 2, 4])
+        self.assertIsNone(layout.columns_of(chipfire.path(4)))
+
+    def test_given_places(self):
+        given = {"a": (0, 0), "b": (2, 0), "out": (1, 2)}
+        graph = chipfire.Graph(3, 2, TRIANGLE.edges, ["a", "b", "out"])
+        self.assertEqual(layout.places_of(graph, [0], given).vertices, [(0, 0), (2, 0), (1, 2)])
+        for wrong in ({"a": (0, 0), "b": (2, 0)}, {**given, "out": (1, float("nan"))}):
+            with self.assertRaisesRegex(ValueError, "vertex 'out'"):
+                layout.places_of(graph, [0], wrong)
+
+    def test_no_two_stand_on_each_other(self):
+        for graph in (chipfire.cycle(12), chipfire.torus(4, 4), chipfire.complete(7), chipfire.torus(12, 12), TRIANGLE,
+                      chipfire.Graph(1, 0, ())):
+            places = layout.places_of(graph, range(graph.vertices))
+            points = [complex(*point) for point in [*places.vertices, places.root]]
+            apart = min(abs(a - b) for i, a in enumerate(points) for b in points[:i])
+            self.assertGreater(apart, 0.3, graph.vertices)
+
+    def test_neighbours_of_a_cycle_stand_nearer_than_others(self):
+        points = [complex(*point) for point in layout.places_of(chipfire.cycle(8), [4]).vertices]
+        for i, point in enumerate(points):
+            nearest = sorted(range(8), key=lambda other: abs(points[other] - point))[1:3]
+            self.assertEqual(set(nearest), {(i + 1) % 8, (i - 1) % 8})
+
+    def test_the_root_is_up_and_the_sink_down(self):
+        places = layout.places_of(TRIANGLE, [0])
+        self.assertLess(places.root[1], min(down for _, down in places.vertices))
+        self.assertEqual(places.vertices[2][1], max(down for _, down in places.vertices))
+
+
+class Pages(unittest.TestCase):
+    def setUp(self):
+        room = tempfile.TemporaryDirectory(prefix="chipfire-python-")
+        self.addCleanup(room.cleanup)
+        self.folder = room.name
+
+    def test_a_page_has_a_step_for_each_event(self):
+        data = data_of(chipfire.pages.page_text(detector("deficit")))
+        self.assertEqual(len(data["steps"]), 32)
+        self.assertEqual(data["words"][data["steps"][1]["event"]], "Vertex 0 fires twice.")
+        changed = [change[:4] for change in data["steps"][0]["changes"]]
+        self.assertEqual(sorted(changed), [
+            ["edges", 4, "cells", []], ["edges", 4, "owed", 1], ["edges", 4, "taken", 1],
+            ["vertices", 0, "chips", 4], ["vertices", 0, "parent", 4],
+        ])
+
+    def test_rounds_are_shown_too(self):
+        data = data_of(chipfire.pages.page_text(detector("sealed-half-way")))
+        self.assertGreater(len(data["steps"]), len(detector("sealed-half-way").schedule))
+        self.assertEqual(data["words"][data["steps"][-1]["changes"][-1][4]], "the root is closed")
+
+    def test_a_page_without_books_asks_for_them(self):
+        self.assertEqual(
+            chipfire.pages.page_text(detector("deficit")), chipfire.pages.page_text(detector("deficit", books=True))
+        )
+        with self.assertRaisesRegex(ValueError, "does not know what was asked"):
+            chipfire.pages.page_text(chipfire.Simulation((), None))
+
+    def test_a_page_stands_alone(self):
+        text = chipfire.pages.page_text(detector("deficit"))
+        self.assertEqual(set(re.findall(r"[a-z]+://[^\s\"']*", text)), {"http://www.w3.org/2000/svg"})
+        self.assertEqual(re.findall(r"\b(?:src|href|url|import)\b\s*[=(]", text), [])
+
+    def test_names_cannot_end_the_script(self):
+        name = '</script><b title="x">&amp;'
+        graph = chipfire.Graph(3, 2, TRIANGLE.edges, [name, "b", "out"])
+        simulation = chipfire.simulate(graph, {name: 4}, [("take", 4)])
+        text = chipfire.pages.page_text(simulation, title=name)
+        self.assertNotIn(name, text)
+        self.assertIn(f"<title>{html.escape(name)}</title>", text)
+        self.assertEqual(data_of(text)["names"][0], name)
+
+    def test_the_same_run_has_the_same_page(self):
+        make = ("import chipfire, sys; g = chipfire.torus(4, 4); s = chipfire.simulate(g, {5: 9}, [], rounds=3); "
+                "chipfire.page(s, sys.argv[1])")
+        pages = []
+        for seed in ("1", "2"):
+            file = f"{self.folder}/{seed}.html"
+            subprocess.run([sys.executable, "-c", make, file], env={**os.environ, "PYTHONHASHSEED": seed}, check=True)
+            with open(file, encoding="utf-8") as text:
+                pages.append(text.read())
+        self.assertEqual(pages[0], pages[1])
+
+    def test_every_page_says_what_is_proved_and_what_is_not(self):
+        text = chipfire.pages.page_text(detector("deficit"))
+        for words in ("What it answers is proved", "tested and not proved", "each of the 32 events"):
+            self.assertIn(words, text)
+
+
+class CommandLine(unittest.TestCase):
+    def ask(self, *words):
+        return subprocess.run([sys.executable, "-m", "chipfire", *words], capture_output=True, encoding="utf-8")
+
+    def test_a_page_of_a_schedule(self):
+        graph, chips = f"{EXAMPLES}/triangle/graph.json", f"{EXAMPLES}/triangle/no-chips.csv"
+        ran = self.ask("page", graph, chips, f"{EXAMPLES}/detector/fed-twice.csv", "--fed", "--rounds", "10")
+        self.assertEqual((ran.returncode, ran.stderr), (0, ""))
+        self.assertEqual(ran.stdout, chipfire.pages.page_text(detector("fed-twice")))
+
+    def test_a_page_of_a_trace(self):
+        files = [f"{EXAMPLES}/triangle/{name}" for name in ("graph.json", "chips.csv", "trace.csv")]
+        ran = self.ask("page", *files, "--title", "Recorded")
+        self.assertEqual((ran.returncode, ran.stderr), (0, ""))
+        self.assertEqual(ran.stdout, chipfire.pages.page_text(chipfire.recorded(*files), title="Recorded"))
+        self.assertEqual(self.ask("page", *files, "--rounds", "3").returncode, 1)
+
+    def test_places_from_a_file(self):
+        files = [f"{EXAMPLES}/triangle/{name}" for name in ("graph.json", "chips.csv", "trace.csv")]
+        with tempfile.NamedTemporaryFile("w", suffix=".csv") as places:
+            places.write("vertex,right,down\n0,0,0\n1,2,0\n2,1,1.5\n")
+            places.flush()
+            ran = self.ask("page", *files, "--positions", places.name)
+        self.assertEqual(data_of(ran.stdout)["places"]["vertices"], [[0, 0], [2, 0], [1, 1.5]])
+
+    def test_what_is_wrong_is_one_line(self):
+        files = [f"{EXAMPLES}/triangle/{name}" for name in ("graph.json", "chips.csv")]
+        for events, line in [("/nowhere.csv", "No such file"), (f"{EXAMPLES}/triangle/chips.csv", "fault 23 Header")]:
+            ran = self.ask("page", *files, events)
+            self.assertEqual((ran.returncode, ran.stdout), (1, ""))
+            self.assertRegex(ran.stderr, f"^chipfire: .*{line}")

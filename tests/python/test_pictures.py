@@ -1,0 +1,521 @@
+"""Pictures and animations: what files, notebooks and pages show, against the slow player of examples/play.py.
+
+The files are read here by decoders of their own. Where Pillow, NumPy, Matplotlib or a browser is installed, they read
+and show them too.
+"""
+import base64
+import contextlib
+import io
+import json
+import os
+import random
+import re
+import tempfile
+import unittest
+import xml.etree.ElementTree
+import zlib
+from unittest import mock
+
+import browser
+import chipfire
+import play
+from chipfire import pictures, rasters
+from test_sandpiles import has
+
+COLOURS = ("#ffffff", "#f0c83c", "#286ebe", "#14141e", "#ec7050")
+GREYS = ("#ffffff", "#c8c8c8", "#8c8c8c", "#505050", "#000000")
+SINK = "#a5d8c2"
+
+
+def slowly(graph, chips, limit=2**40):
+    """The chips that lie there where each vertex may fire so often, and how often each fired, by the slow player."""
+    position = list(graph.chips(chips))
+    of_file = {"vertices": graph.vertices, "sink": graph.sink, "edges": graph.edges}
+    fired = play.play(of_file, position, limit, random.Random(1))
+    return position, fired
+
+
+def rgb(colour):
+    return tuple(int(colour[place : place + 2], 16) for place in (1, 3, 5))
+
+
+def coloured(position, columns, squares, palette=COLOURS):
+    """The colours of the first squares, by rows."""
+    colours = [rgb(palette[min(count, len(palette) - 1)]) for count in position[:squares]]
+    return [colours[start : start + columns] for start in range(0, squares, columns)]
+
+
+def enlarged(rows, scale):
+    return [[it for it in row for _ in range(scale)] for row in rows for _ in range(scale)]
+
+
+def png_points(data):
+    """The colours of the points of a PNG file with a table of colours and a byte for each point, by rows."""
+    chunks, at = {}, 8
+    while at < len(data):
+        size, kind = int.from_bytes(data[at : at + 4], "big"), data[at + 4 : at + 8]
+        body = data[at + 8 : at + 8 + size]
+        assert zlib.crc32(kind + body) == int.from_bytes(data[at + 8 + size : at + 12 + size], "big")
+        chunks[kind] = chunks.get(kind, b"") + body
+        at += 12 + size
+    assert data[:8] == b"\x89PNG\r\n\x1a\n" and chunks[b"IHDR"][8:] == bytes([8, 3, 0, 0, 0]) and at == len(data)
+    width, height = (int.from_bytes(chunks[b"IHDR"][start : start + 4], "big") for start in (0, 4))
+    lines, table = zlib.decompress(chunks[b"IDAT"]), chunks[b"PLTE"]
+    assert len(lines) == height * (width + 1)
+    rows = [lines[start : start + width + 1] for start in range(0, len(lines), width + 1)]
+    assert all(row[0] == 0 for row in rows)
+    return [[tuple(table[3 * point : 3 * point + 3]) for point in row[1:]] for row in rows]
+
+
+def unpacked(data, bits):
+    """The points of data as GIF packs them: each new code is a known one and the first point of the code behind it."""
+    clear, held, points, at = 1 << bits, int.from_bytes(data, "little"), [], 0
+    known, size, before = [], bits + 1, None
+    while True:
+        code, at = held >> at & (1 << size) - 1, at + size
+        if code == clear:
+            known, size, before = [(point,) for point in range(clear)] + [None, None], bits + 1, None
+            continue
+        if code == clear + 1:
+            return points
+        if before is not None and len(known) < 4096:
+            known.append((*before, (known[code] if code < len(known) else before)[0]))
+        points += known[code]
+        before = known[code]
+        size = max(size, min(12, len(known).bit_length()))
+
+
+class Gif:
+    """A GIF file: its size, and the points of each picture and how long it is shown."""
+
+    def __init__(self, data):
+        assert data[:6] == b"GIF89a" and data[10] & 0x80
+        self.width, self.height = (int.from_bytes(data[start : start + 2], "little") for start in (6, 8))
+        colours = 2 << (data[10] & 7)
+        self.table = [tuple(data[13 + 3 * it : 16 + 3 * it]) for it in range(colours)]
+        self.pictures, self.delays, self.loops = [], [], False
+        at = 13 + 3 * colours
+        while data[at : at + 1] != b";":
+            at = self._extension(data, at) if data[at : at + 1] == b"!" else self._picture(data, at)
+        assert at == len(data) - 1
+
+    def _extension(self, data, at):
+        body, after = blocks(data, at + 2)
+        if data[at + 1] == 0xF9:
+            self.delays.append(10 * int.from_bytes(body[1:3], "little"))
+        self.loops |= body.startswith(b"NETSCAPE2.0")
+        return after
+
+    def _picture(self, data, at):
+        size = [int.from_bytes(data[start : start + 2], "little") for start in (at + 5, at + 7)]
+        assert data[at : at + 1] == b"," and size == [self.width, self.height] and data[at + 9] == 0
+        body, after = blocks(data, at + 11)
+        points = [self.table[point] for point in unpacked(body, data[at + 10])]
+        assert len(points) == self.width * self.height
+        self.pictures.append([points[start : start + self.width] for start in range(0, len(points), self.width)])
+        return after
+
+
+def blocks(data, at):
+    """The blocks from a place on as one, and the place behind them."""
+    found = b""
+    while data[at]:
+        found += data[at + 1 : at + 1 + data[at]]
+        at += 1 + data[at]
+    return found, at + 1
+
+
+def svg_squares(text):
+    """The colours of the squares of an SVG picture, by rows."""
+    tree = xml.etree.ElementTree.fromstring(text)
+    _, _, width, height = map(int, tree.get("viewBox").split())
+    rows = [[None] * width for _ in range(height)]
+    for path in tree.iter("{http://www.w3.org/2000/svg}path"):
+        for x, y, length, back in re.findall(r"M(\d+) (\d+)h(\d+)v1h-(\d+)z", path.get("d")):
+            assert length == back
+            for column in range(int(x), int(x) + int(length)):
+                assert rows[int(y)][column] is None
+                rows[int(y)][column] = rgb(path.get("fill"))
+    return rows
+
+
+def without_pillow():
+    """Files are written by the package itself meanwhile."""
+    return mock.patch.object(rasters, "pillow", return_value=None)
+
+
+class WithFolder(unittest.TestCase):
+    """A test that has a folder of its own, and no Pillow."""
+
+    def setUp(self):
+        room = tempfile.TemporaryDirectory(prefix="chipfire-python-")
+        self.addCleanup(room.cleanup)
+        self.folder = room.name
+        without = without_pillow()
+        without.start()
+        self.addCleanup(without.stop)
+
+    def file(self, name):
+        return os.path.join(self.folder, name)
+
+    def bytes_of(self, name):
+        with open(self.file(name), "rb") as file:
+            return file.read()
+
+    def text_of(self, name):
+        return self.bytes_of(name).decode()
+
+
+class Files(WithFolder):
+    def setUp(self):
+        super().setUp()
+        self.grid = chipfire.grid(7, 5)
+        self.chips = {17: 120, 3: 9}
+        self.report = chipfire.plain(self.grid, self.chips)
+        self.position, self.fired = slowly(self.grid, self.chips)
+
+    def test_a_png_file_shows_the_chips(self):
+        for scale in (1, 8):
+            self.report.image(self.file("a.png"), scale=scale)
+            wanted = enlarged(coloured(self.position, 7, 35), scale)
+            self.assertEqual(png_points(self.bytes_of("a.png")), wanted)
+
+    def test_a_gif_file_of_one_picture_shows_the_chips(self):
+        self.report.image(self.file("a.gif"), scale=3)
+        found = Gif(self.bytes_of("a.gif"))
+        self.assertEqual((found.pictures, found.loops), ([enlarged(coloured(self.position, 7, 35), 3)], False))
+
+    def test_an_svg_file_shows_the_chips_and_says_what_it_is(self):
+        self.report.image(self.file("a.svg"))
+        self.assertEqual(svg_squares(self.text_of("a.svg")), coloured(self.position, 7, 35))
+        said = f"<title>{sum(self.fired)} firings, {self.position[35]} chips in the sink</title>"
+        self.assertIn(said, self.text_of("a.svg"))
+
+    def test_palettes_by_name_and_by_colours(self):
+        mine = ["#000000", "#00FF00", "#ff0000"]
+        for palette, colours in [("greys", GREYS), (mine, mine)]:
+            self.report.image(self.file("a.png"), palette=palette, scale=1)
+            self.assertEqual(png_points(self.bytes_of("a.png")), coloured(self.position, 7, 35, colours))
+
+    def test_many_chips_have_the_last_colour(self):
+        report = chipfire.plain(self.grid, self.chips, limit=0)
+        self.assertEqual(svg_squares(report.picture().svg()), coloured(self.grid.chips(self.chips), 7, 35))
+
+    def test_the_words_count_the_firings_of_all_sittings(self):
+        report = chipfire.resume(self.grid, chipfire.plain(self.grid, self.chips, limit=2))
+        said = f"{sum(self.fired)} firings, {self.position[35]} chips in the sink"
+        self.assertEqual(report.picture().title, said)
+
+    def test_the_words_of_a_play_that_was_stopped(self):
+        path = chipfire.path(2)
+        limited = chipfire.plain(path, {0: 2}, limit=0).picture()
+        self.assertEqual(limited.title, "0 firings, 0 chips in the sink, 1 square could fire once more")
+        sealed = chipfire.Report((0, 1, 1), (1, 0, 0), sealed=(0, 1), graph=path).picture()
+        self.assertEqual(sealed.title, "1 firing, 1 chip in the sink, 2 squares stopped by a seal")
+
+    def test_a_report_that_does_not_know_its_graph_wants_columns(self):
+        self.report.write(self.file("report.json"))
+        read = chipfire.Report.read(self.file("report.json"))
+        read.image(self.file("a.png"), columns=7, scale=1)
+        self.assertEqual(png_points(self.bytes_of("a.png")), coloured(self.position, 7, 35))
+        with self.assertRaises(ValueError):
+            read.image(self.file("b.png"))
+
+    def test_a_sink_among_the_squares_has_its_own_colour(self):
+        torus, chips = chipfire.torus(5, 3), {7: 40}
+        position, _ = slowly(torus, chips)
+        wanted = coloured(position, 5, 15)
+        wanted[0][0] = rgb(SINK)
+        picture = chipfire.plain(torus, chips).picture(columns=5)
+        self.assertEqual(svg_squares(picture.svg()), wanted)
+        self.assertIn("the sink", picture.legend())
+
+    def test_what_is_refused(self):
+        torus = chipfire.plain(chipfire.torus(3, 3), {})
+        palettes = ("greens", ["white", "black"], ["#000000"], ["#00000g", "#000000"], ["#000000"] * 40)
+        wrong = [{"columns": 6}, {"columns": 0}, *({"palette": palette} for palette in palettes)]
+        for report, options in [(torus, {}), (torus, {"columns": 4}), *((self.report, it) for it in wrong)]:
+            with self.subTest(options), self.assertRaises(ValueError):
+                report.image(self.file("a.png"), **options)
+        with self.assertRaises(ValueError):
+            self.report.image(self.file("a.bmp"))
+        self.assertEqual(os.listdir(self.folder), [])
+
+    def test_random_points_come_back_from_a_gif(self):
+        draw = random.Random(17)
+        for colours in (2, 3, 4, 5, 9, 200):
+            table = [(it, 255 - it, 7) for it in range(colours)]
+            for width, height in [(1, 1), (2, 1), (5, 60), (250, 130)]:
+                rows = [bytes(draw.choices(range(colours), k=width)) for _ in range(height)]
+                found = Gif(rasters.gif([rows, rows[::-1]], table, 70))
+                wanted = [[table[point] for point in row] for row in rows]
+                self.assertEqual(found.pictures, [wanted, wanted[::-1]])
+                self.assertEqual((found.delays, found.loops), ([70, 70], True))
+
+    def test_a_long_run_of_one_colour_comes_back_from_a_gif(self):
+        for width in range(1, 40):
+            length = 997 * width
+            found = Gif(rasters.gif([[bytes(length)]], [(1, 2, 3), (4, 5, 6)], 0))
+            self.assertEqual(found.pictures, [[[(1, 2, 3)] * length]])
+
+
+class Columns(unittest.TestCase):
+    def test_grids_tell_their_columns(self):
+        for width, height in [(2, 2), (7, 5), (5, 7), (2, 9)]:
+            self.assertEqual(pictures.columns_of(chipfire.grid(width, height)), width)
+
+    def test_a_single_line_is_a_row(self):
+        for graph in (chipfire.path(6), chipfire.grid(6, 1), chipfire.grid(1, 6)):
+            self.assertEqual(pictures.columns_of(graph), 6)
+        self.assertEqual(pictures.columns_of(chipfire.grid(1, 1)), 1)
+
+    def test_what_is_no_grid_tells_none(self):
+        round_the_corner = chipfire.Graph(5, 4, [(0, 1), (0, 2), (1, 2), (2, 3), (3, 4)])
+        across = chipfire.Graph(5, 4, [(0, 1), (0, 2), (1, 4), (2, 4), (3, 0)])
+        others = (chipfire.torus(3, 3), chipfire.cycle(5), chipfire.complete(4), chipfire.Graph(1, 0, ()))
+        for graph in (round_the_corner, across, *others):
+            with self.assertRaises(ValueError):
+                pictures.columns_of(graph)
+
+
+class Notebooks(unittest.TestCase):
+    def setUp(self):
+        self.grid = chipfire.grid(4, 3)
+        self.report = chipfire.plain(self.grid, {5: 30})
+        self.position, _ = slowly(self.grid, {5: 30})
+
+    def test_a_notebook_gets_the_picture_and_what_it_means(self):
+        self.assertEqual(svg_squares(self.report._repr_svg_()), coloured(self.position, 4, 12))
+        said = self.report._repr_html_()
+        self.assertEqual(svg_squares(re.search("<svg.*</svg>", said, re.DOTALL)[0]), coloured(self.position, 4, 12))
+        shown = {int(label) for label in re.findall(r"</span> (\d)", said)}
+        self.assertEqual(shown, set(self.position[:12]))
+
+    def test_a_report_on_another_graph_is_shown_as_its_text(self):
+        report = chipfire.plain(chipfire.complete(4), {1: 9})
+        self.assertEqual((report._repr_html_(), report._repr_svg_()), (None, None))
+
+    def test_elsewhere_the_picture_is_text(self):
+        said = io.StringIO()
+        with contextlib.redirect_stdout(said), mock.patch.dict("sys.modules", {"IPython": None}):
+            self.report.show()
+            chipfire.plain(self.grid, {5: 30, 11: 2}, limit=0).show(palette=COLOURS[:4])
+            chipfire.plain(chipfire.cycle(4), {2: 1}).show(columns=4)
+        rows = ["".join(map(str, self.position[start : start + 4])) for start in (0, 4, 8)]
+        self.assertEqual(said.getvalue().split("\n"), [*rows, "0000", "0300", "0002", " 010", ""])
+
+    def test_in_a_notebook_it_is_displayed(self):
+        notebook = mock.Mock()
+        with mock.patch.dict("sys.modules", {"IPython": notebook}):
+            self.report.show()
+        (shown,), _ = notebook.display.display.call_args
+        self.assertEqual(svg_squares(shown._repr_svg_()), coloured(self.position, 4, 12))
+
+
+class Played(WithFolder):
+    """A test that has a play at all its limits: by the package, and what it has to be by the slow player."""
+
+    def setUp(self):
+        super().setUp()
+        self.grid, self.chips = chipfire.grid(6, 4), {8: 60}
+        self.frames = chipfire.frames(self.grid, self.chips)
+        _, fired = slowly(self.grid, self.chips)
+        self.most = max(fired)
+        self.plays = [slowly(self.grid, self.chips, limit) for limit in range(self.most + 1)]
+        self.wanted = [coloured(position, 6, 24) for position, _ in self.plays]
+        self.captions = [self.caption(limit, *played) for limit, played in enumerate(self.plays)]
+
+    def caption(self, limit, position, fired):
+        legal = sum(position[square] >= 4 for square in range(24))
+        words = [(sum(fired), "firing", ""), (position[24], "chip", " in the sink")]
+        words += [(legal, "square", " could fire once more")] if legal else []
+        said = (f"{count} {word}{'s' if count != 1 else ''}{more}" for count, word, more in words)
+        return f"Limit {limit}: {', '.join(said)}"
+
+
+class Animations(Played):
+
+    def test_limits_grow_from_the_start_to_the_end(self):
+        self.assertLess(self.most, 24)
+        self.assertEqual(self.frames.limits, tuple(range(self.most + 1)))
+        far = chipfire.frames(chipfire.grid(9, 9), {40: 900})
+        steps = {after - before for before, after in zip(far.limits, far.limits[1:])}
+        self.assertEqual((len(far), far.limits[0], far.limits[-1]), (24, 0, max(far.reports[-1].fired)))
+        self.assertLessEqual(max(steps) - min(steps), 1)
+        self.assertTrue(far.reports[-1].closed and not far.reports[-2].closed)
+
+    def test_positions_are_those_of_the_slow_player(self):
+        found = [(list(report.chips), list(report.fired)) for report in self.frames.reports]
+        self.assertEqual(found, self.plays)
+
+    def test_a_gif_shows_each_position(self):
+        self.frames.save(self.file("play.gif"), scale=2, seconds=0.1)
+        found = Gif(self.bytes_of("play.gif"))
+        self.assertEqual(found.pictures, [enlarged(rows, 2) for rows in self.wanted])
+        self.assertEqual((found.delays, found.loops), ([100] * len(self.wanted), True))
+
+    def test_a_page_has_each_position_and_loads_nothing(self):
+        self.frames.save(self.file("play.html"))
+        page = self.text_of("play.html")
+        frames = json.loads(re.search(r"^const frames = (\[.*\]);$", page, re.MULTILINE)[1])
+        self.assertEqual([frame["caption"] for frame in frames], self.captions)
+        self.assertEqual([png_points(self.inside(frame["source"], "png")) for frame in frames], self.wanted)
+        self.assertNotIn("http", page)
+        self.assertNotIn("$", page)
+
+    def inside(self, source, kind):
+        """The file that an address has inside."""
+        head = f"data:image/{kind};base64,"
+        self.assertTrue(source.startswith(head))
+        return base64.b64decode(source[len(head) :])
+
+    def test_limits_palettes_and_columns_that_are_said(self):
+        graph = chipfire.torus(3, 3)
+        found = chipfire.frames(graph, {4: 20}, [3, 1], columns=3, palette="greys")
+        self.assertEqual([list(it.chips) for it in found.reports], [slowly(graph, {4: 20}, it)[0] for it in (3, 1)])
+        wanted = coloured(found.reports[1].chips, 3, 9, GREYS)
+        wanted[0][0] = rgb(SINK)
+        self.assertEqual(svg_squares(found.pictures[1].svg()), wanted)
+
+    def test_a_notebook_gets_the_gif(self):
+        source = re.search('src="(.*)"', self.frames._repr_html_())[1]
+        self.assertEqual(Gif(self.inside(source, "gif")).pictures, [enlarged(rows, 8) for rows in self.wanted])
+
+    def test_what_is_refused(self):
+        with self.assertRaises(ValueError):
+            self.frames.save(self.file("play.mp4"))
+        with self.assertRaises(ValueError):
+            chipfire.frames(self.grid, self.chips, [])
+
+
+#: What the page's picture shows, as the browser paints it: the colour of the middle of each square.
+PAINTED = """(async () => {
+  const picture = document.getElementById("picture");
+  await picture.decode();
+  const canvas = document.createElement("canvas");
+  canvas.width = picture.naturalWidth;
+  canvas.height = picture.naturalHeight;
+  const context = canvas.getContext("2d");
+  context.drawImage(picture, 0, 0);
+  return Array.from(context.getImageData(0, 0, canvas.width, canvas.height).data);
+})()"""
+
+
+@unittest.skipUnless(browser.found(), "no browser is here: Debian's package chromium has one")
+class InABrowser(Played):
+    """The page in a real browser, by its buttons, its keys, its slider and its address."""
+
+    @classmethod
+    def setUpClass(cls):
+        cls.browser = browser.Browser(browser.found())
+        cls.addClassCleanup(cls.browser.close)
+
+    def setUp(self):
+        super().setUp()
+        self.frames.save(self.file("play.html"))
+        self.browser.go(f"file://{self.file('play.html')}")
+
+    def check_shown(self, number):
+        """Whether the page shows this picture with its words, and the slider stands there."""
+        points = self.browser.value(PAINTED)
+        colours = [tuple(points[start : start + 3]) for start in range(0, len(points), 4)]
+        self.assertEqual([colours[start : start + 6] for start in range(0, 24, 6)], self.wanted[number])
+        said = self.browser.value("[at('caption').textContent, at('picture').alt, place.ariaValueText, place.value]")
+        self.assertEqual(said, [self.captions[number]] * 3 + [str(number)])
+
+    def test_forward_and_back_by_buttons(self):
+        for number in range(self.most + 1):
+            self.check_shown(number)
+            self.browser.click("#on")
+        self.check_shown(self.most)
+        self.browser.click("#back")
+        self.check_shown(self.most - 1)
+
+    def test_forward_and_back_by_keys(self):
+        for key, number in [("ArrowRight", 1), ("ArrowRight", 2), ("ArrowLeft", 1), ("End", self.most), ("Home", 0)]:
+            self.browser.press(key)
+            self.check_shown(number)
+
+    def test_the_slider_and_the_address(self):
+        self.browser.click("#place")
+        self.check_shown(int(self.browser.value("place.value")))
+        self.assertGreater(int(self.browser.value("place.value")), 0)
+        self.browser.value("location.hash = '#3'")
+        self.browser.wait("place.value === '3'")
+        self.check_shown(3)
+
+    def test_it_plays_to_the_end_and_stops(self):
+        self.browser.press("End")
+        self.browser.press("ArrowLeft")
+        self.browser.press(" ")
+        self.assertEqual(self.browser.value("play.textContent"), "Pause")
+        self.browser.wait("play.textContent === 'Play'")
+        self.check_shown(self.most)
+        self.browser.click("#play")
+        self.check_shown(0)
+
+    def test_it_loads_nothing_and_complains_of_nothing(self):
+        self.browser.click("#on")
+        told = [event["params"] for event in self.browser.complaints()]
+        own = [it for it in told if it.get("request", {}).get("url", "").startswith("data:")]
+        self.assertEqual(told, own)
+
+
+@unittest.skipUnless(has("PIL"), "Pillow is not here")
+class ByPillow(Played):
+    def points_of(self, name):
+        """The colours of the points of each picture of a file, as Pillow reads it."""
+        from PIL import Image
+
+        with Image.open(self.file(name)) as picture:
+            for number in range(getattr(picture, "n_frames", 1)):
+                picture.seek(number)
+                points, width = list(picture.convert("RGB").getdata()), picture.width
+                yield [points[start : start + width] for start in range(0, len(points), width)]
+
+    def save_all(self, head):
+        self.frames.save(self.file(f"{head}.gif"))
+        self.frames.reports[-1].image(self.file(f"{head}.png"))
+
+    def test_pillow_reads_what_the_package_writes_and_writes_the_same(self):
+        self.save_all("own")
+        mock.patch.stopall()
+        with mock.patch.object(rasters, "png", side_effect=AssertionError), mock.patch.object(rasters, "gif"):
+            self.save_all("pillow")
+        wanted = [enlarged(rows, 8) for rows in self.wanted]
+        for head in ("own", "pillow"):
+            self.assertEqual(list(self.points_of(f"{head}.gif")), wanted)
+            self.assertEqual(list(self.points_of(f"{head}.png")), wanted[-1:])
+
+    def test_pillow_writes_other_forms_too(self):
+        mock.patch.stopall()
+        self.frames.reports[-1].image(self.file("a.bmp"))
+        self.assertEqual(list(self.points_of("a.bmp")), [enlarged(self.wanted[-1], 8)])
+
+
+@unittest.skipUnless(has("numpy"), "NumPy is not here")
+class Arrays(unittest.TestCase):
+    def test_an_array_has_the_chips_by_rows(self):
+        grid = chipfire.grid(5, 3)
+        position, _ = slowly(grid, {7: 40})
+        found = chipfire.plain(grid, {7: 40}).array()
+        self.assertEqual(found.tolist(), [position[start : start + 5] for start in (0, 5, 10)])
+        self.assertEqual(chipfire.plain(grid, {7: 40}).array(columns=15).shape, (1, 15))
+
+
+@unittest.skipUnless(has("matplotlib"), "Matplotlib is not here")
+class Plots(unittest.TestCase):
+    def test_a_plot_has_the_colours_of_the_picture(self):
+        import matplotlib
+
+        matplotlib.use("Agg")
+        grid = chipfire.grid(5, 3)
+        position, _ = slowly(grid, {7: 40})
+        axes = chipfire.plain(grid, {7: 40}).plot()
+        (drawn,) = axes.get_images()
+        points = drawn.to_rgba(drawn.get_array(), bytes=True)[..., :3].tolist()
+        self.assertEqual([[tuple(it) for it in row] for row in points], coloured(position, 5, 15))
+
+
+if __name__ == "__main__":
+    unittest.main()

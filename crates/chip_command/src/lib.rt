@@ -14,4 +14,5 @@ mod code;
 mod ended;
 mod fault;
 mod inputs;
+pub mod laws;
 mod table;

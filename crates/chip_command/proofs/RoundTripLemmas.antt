@@ -1,0 +1,432 @@
+-- Serves Laws.antt.
+-- What is read of the text of traces: the records, line by line, and of them the traces.
+use Rattle.std.proofs.Common.{◌≡◌, ℕ, zero, suc, ◌+◌, ◌^◌, ◌<◌, ◌≤◌, Bool, true, false, List, [], ◌∷◌, ◌++◌, length, map}
+use Rattle.std.proofs.Common.{get_or, codes, Option, None, Some, Result, Ok, Err, refl, sym, ap, ◌∙◌, subst, inl, inr}
+use Rattle.std.proofs.Common.{arith, append_assoc, append-nil, lit≤, length-append}
+use Rattle.std.specs.Prelude.{◌&&◌, ◌==◌, nat_lt, nat_le, is_some, is_none, option_and_then, unwrap_or, if◌then◌else◌, All}
+use Rattle.std.specs.Prelude.{bytes_eq}
+use Rattle.std.specs.Fmt.{decimal}
+use Rattle.std.specs.List.{AllByRecursion, filter, list_any, range_with_len}
+use Rattle.std.specs.Str.{all_ascii_digits}
+use Rattle.std.specs.Str.Parse.{digits_value}
+use Rattle.std.proofs.lemmas.Bool.{cases_Bool, ltb-true, lt-ltb, ne_eqb, eq-eqb, and_parts}
+use Rattle.std.proofs.lemmas.Bool.Decides.{nat_tests}
+use Rattle.std.proofs.lemmas.Fmt.{digits_decimal, digits_value-decimal, decimal_nonempty, length-decimal-le}
+use Rattle.std.proofs.lemmas.List.Elements.{All-head, All-tail, All-map, All-filter, All-from_recursion, recursion_from_All}
+use Rattle.std.proofs.lemmas.List.FromFn.{fill_by_all, length-map-range_with_len}
+use Rattle.std.proofs.lemmas.Str.Parse.{IsNumeralModel, numerals_by_value, tells_all_ascii_digits}
+use Rattle.csv.specs.Machine.{next_record}
+use Rattle.csv.specs.Reading.{default_config, records_from, strip_bom}
+use Rattle.csv.specs.Records.{field_at}
+use Rattle.csv.specs.Writing.{default_writer, needs_byte, fields_text, is_blank, read_back}
+use Rattle.csv.specs.Writing as writer
+use Rattle.csv.specs.declared.parser.State.TheVariants as state
+use Rattle.csv.proofs.RoundTrip.{rows_text, read-write}
+use Rattle.chip_graph.specs.Multigraph.{Multigraph, IsGraph}
+use Rattle.chip_graph.specs.Edges.{all_edges}
+use Rattle.chip_graph.specs.Faults.{first_of_faults, unless}
+use Rattle.chip_link.specs.declared.trace.TraceRow.{TraceRow}
+use Rattle.chip_link.specs.declared.trace.TraceRow.TheVariants.{Take, Fire}
+use Rattle.chip_file.specs.Answer.{Answers, IsOfMachine, max_bytes}
+use Rattle.chip_file.specs.Kinds.{kind_at}
+use Rattle.chip_file.specs.Numbers.{number_of, number_at, number_in}
+use Rattle.chip_file.specs.Rows.{Row, records_of, by_index, first_row_fault, records_fault, rows_under_header, has_header}
+use Rattle.chip_file.specs.TraceText.{trace_header, trace_kinds, row_of_kind, trace_row_in, names_edge, trace_row_fault}
+use Rattle.chip_file.specs.TraceText.{kind_in, trace_in, trace_text_fault, traces_of_text}
+use Rattle.chip_file.specs.declared.fault.FileFault.{FileFault}
+use Rattle.chip_file.specs.declared.fault.FileFault.TheVariants as fault
+use Rattle.chip_trace.specs.Interleaving.{Placed, rows_of}
+use Rattle.chip_trace.specs.TraceText as written
+use Rattle.chip_trace.specs.TraceText.{trace_text, lines_from}
+use Rattle.chip_trace.proofs.RowLemmas.{rows_of-append}
+use Rattle.chip_command.specs.Laws.{IsRowIn, AreTracesIn, WrittenIsRead, ReadIsInGraph, FileIsReadBack}
+use Rattle.chip_command.proofs.InputLemmas.{passed, alone_passed}
+
+-- ---- a number as a field
+
+decimal_numeral : IsNumeralModel (λ field. all_ascii_digits field ≡ true) (digits_value 10)
+decimal_numeral = numerals_by_value _ tells_all_ascii_digits
+
+-- digits that make a number of 64 bits are read as it
+number_by : (field : List ℕ) (n : ℕ) → 0 < length field → length field ≤ 20 → all_ascii_digits field ≡ true
+    → digits_value 10 field ≡ n → n < 2 ^ 64 → number_of field ≡ Some n
+number_by field n some few digits value fits = grind (arith, nat_tests)
+
+-- what is written of a number is read as it
+number_of-decimal : (n : ℕ) → n < 2 ^ 64 → number_of (decimal n) ≡ Some n
+number_of-decimal n fits = number_by (decimal n) n (decimal_nonempty n fits)
+    (length-decimal-le 20 n (omega arith) (omega arith) fits)
+    (digits_decimal decimal_numeral n fits) (digits_value-decimal decimal_numeral n fits) fits
+
+-- and it is written without quotes
+digit-plain : (c : ℕ) (cs : List ℕ) → all_ascii_digits (c ∷ cs) ≡ true
+    → (needs_byte default_writer c ≡ false) × (all_ascii_digits cs ≡ true)
+digit-plain c cs digits = grind (arith, nat_tests)
+
+digits-plain : (field : List ℕ) → all_ascii_digits field ≡ true → list_any (needs_byte default_writer) field ≡ false
+digits-plain [] digits = refl
+digits-plain (c ∷ cs) digits = let first = digit-plain c cs digits in rw first.0 (digits-plain cs first.1)
+
+decimal-plain : (n : ℕ) → n < 2 ^ 64 → list_any (needs_byte default_writer) (decimal n) ≡ false
+decimal-plain n fits = digits-plain (decimal n) (digits_decimal decimal_numeral n fits)
+
+-- ---- the record of a row
+
+-- the fields of the line of a row of v
+abbrev record_of : ℕ → TraceRow → Row
+record_of v (Take edge count) = decimal v ∷ codes "take" ∷ decimal edge ∷ decimal count ∷ []
+record_of v (Fire k) = decimal v ∷ codes "fire" ∷ codes "0" ∷ decimal k ∷ []
+
+take_line : (v edge count : List ℕ) → list_any (needs_byte default_writer) v ≡ false
+    → list_any (needs_byte default_writer) edge ≡ false → list_any (needs_byte default_writer) count ≡ false
+    → writer.row_text default_writer (v ∷ codes "take" ∷ edge ∷ count ∷ [])
+    ≡ v ++ codes ",take," ++ edge ++ codes "," ++ count ++ codes "\n"
+unfolding is_blank fields_text
+take_line v edge count plain_v plain_edge plain_count =
+    rw (plain_v, plain_edge, plain_count) (simp (append_assoc, append-nil))
+
+fire_line : (v k : List ℕ) → list_any (needs_byte default_writer) v ≡ false
+    → list_any (needs_byte default_writer) k ≡ false
+    → writer.row_text default_writer (v ∷ codes "fire" ∷ codes "0" ∷ k ∷ [])
+    ≡ v ++ codes ",fire,0," ++ k ++ codes "\n"
+unfolding is_blank fields_text
+fire_line v k plain_v plain_k = rw (plain_v, plain_k) (simp (append_assoc, append-nil))
+
+-- a row of v whose line is the text of its record, and whose record is read as it
+record IsRead (G : Multigraph) (v : ℕ) (row : TraceRow) : Type 0 where
+  line : writer.row_text default_writer (record_of v row) ≡ written.row_text v row
+  vertex : number_in 0 (record_of v row) ≡ v
+  means : trace_row_in (record_of v row) ≡ row
+  no_fault : (index : ℕ) → trace_row_fault G index (record_of v row) ≡ None
+
+-- numbers of a graph have 64 bits
+pub few_numbers : (G : Multigraph) → IsGraph G → all_edges G ≤ 2 ^ 64
+few_numbers G graph = let vertices = graph.few_vertices in let edges = graph.few_edges in omega arith
+
+is_read : (G : Multigraph) (v : ℕ) (row : TraceRow) → all_edges G ≤ 2 ^ 64 → v < G.vertices → IsRowIn G row
+    → IsRead G v row
+unfolding field_at
+is_read G v (Take edge count) few vertex fits =
+    let v_fits : v < 2 ^ 64 = omega arith in
+    let edge_fits : edge < 2 ^ 64 = omega (arith, fits.0) in
+    let v_read = number_of-decimal v v_fits in
+    let edge_read = number_of-decimal edge edge_fits in
+    let count_read = number_of-decimal count fits.1 in
+    record {
+      line = take_line (decimal v) (decimal edge) (decimal count) (decimal-plain v v_fits)
+          (decimal-plain edge edge_fits) (decimal-plain count fits.1);
+      vertex = rw v_read refl;
+      means = rw (edge_read, count_read) refl;
+      no_fault = λ index.
+          rw (v_read, edge_read, count_read, lt-ltb v G.vertices vertex, lt-ltb edge (all_edges G) fits.0) refl;
+    }
+is_read G v (Fire k) few vertex fits =
+    let v_fits : v < 2 ^ 64 = omega arith in
+    let v_read = number_of-decimal v v_fits in
+    let k_read = number_of-decimal k fits in
+    record {
+      line = fire_line (decimal v) (decimal k) (decimal-plain v v_fits) (decimal-plain k fits);
+      vertex = rw v_read refl;
+      means = rw k_read refl;
+      no_fault = λ index. rw (v_read, k_read, lt-ltb v G.vertices vertex) refl;
+    }
+
+-- ---- the rows of traces in the order of the file
+
+abbrev placed : ℕ → TraceRow → Placed
+placed v row = record { vertex = v; row = row }
+
+-- the rows of traces, those of the vertices from v on
+abbrev placed_from : ℕ → List (List TraceRow) → List Placed
+placed_from v [] = []
+placed_from v (trace ∷ traces) = map (placed v) trace ++ placed_from (suc v) traces
+
+abbrev record_at : Placed → Row
+record_at x = record_of x.vertex x.row
+
+abbrev AreRead : Multigraph → List Placed → Type 0
+AreRead G xs = AllByRecursion (λ x. IsRead G x.vertex x.row) xs
+
+-- all that is said of rows in a file
+AreRead-append : (G : Multigraph) (xs ys : List Placed) → AreRead G xs → AreRead G ys → AreRead G (xs ++ ys)
+AreRead-append G [] ys some more = more
+AreRead-append G (x ∷ xs) ys some more = (some.0, AreRead-append G xs ys some.1 more)
+
+trace_read : (G : Multigraph) (v : ℕ) (trace : List TraceRow) → all_edges G ≤ 2 ^ 64 → v < G.vertices
+    → AllByRecursion (IsRowIn G) trace → AreRead G (map (placed v) trace)
+trace_read G v [] few vertex fits = tt
+trace_read G v (row ∷ rows) few vertex fits =
+    (is_read G v row few vertex fits.0, trace_read G v rows few vertex fits.1)
+
+traces_read : (G : Multigraph) (v : ℕ) (traces : List (List TraceRow)) → all_edges G ≤ 2 ^ 64
+    → v + length traces ≤ G.vertices → All (λ trace. All (IsRowIn G) trace) traces → AreRead G (placed_from v traces)
+traces_read G v [] few within fit = tt
+traces_read G v (trace ∷ traces) few within fit =
+    AreRead-append G (map (placed v) trace) (placed_from (suc v) traces)
+    (trace_read G v trace few (omega arith)
+    (recursion_from_All (IsRowIn G) trace (All-head (λ trace. All (IsRowIn G) trace) trace traces fit)))
+    (traces_read G (suc v) traces few (omega arith) (All-tail (λ trace. All (IsRowIn G) trace) trace traces fit))
+
+-- ---- their text
+
+abbrev text_of : List Placed → List ℕ
+text_of [] = []
+text_of (x ∷ xs) = written.row_text x.vertex x.row ++ text_of xs
+
+text_of-append : (xs ys : List Placed) → text_of (xs ++ ys) ≡ text_of xs ++ text_of ys
+text_of-append [] ys = refl
+text_of-append (x ∷ xs) ys =
+    ap (λ (t : List ℕ). written.row_text x.vertex x.row ++ t) (text_of-append xs ys)
+    ∙ sym (append_assoc (written.row_text x.vertex x.row) (text_of xs) (text_of ys))
+
+text_of-trace : (v : ℕ) (trace : List TraceRow) → text_of (map (placed v) trace) ≡ written.rows_text v trace
+text_of-trace v [] = refl
+text_of-trace v (row ∷ rows) = ap (λ (t : List ℕ). written.row_text v row ++ t) (text_of-trace v rows)
+
+text_of-traces : (v : ℕ) (traces : List (List TraceRow)) → text_of (placed_from v traces) ≡ lines_from v traces
+text_of-traces v [] = refl
+text_of-traces v (trace ∷ traces) =
+    text_of-append (map (placed v) trace) (placed_from (suc v) traces)
+    ∙ (λ i. text_of-trace v trace i ++ text_of-traces (suc v) traces i)
+
+-- it is what the default writer of csv would write of their records
+text_of-records : (G : Multigraph) (xs : List Placed) → AreRead G xs → rows_text (map record_at xs) ≡ text_of xs
+unfolding rows_text
+text_of-records G [] all = refl
+text_of-records G (x ∷ xs) all = λ i. all.0.line i ++ text_of-records G xs all.1 i
+
+-- ---- the records that are read of it
+
+some_byte : (row : Row) → 1 ≤ length (writer.row_text default_writer row)
+some_byte row = simp length-append (omega arith)
+
+fewer_records : (rows : List Row) → length rows ≤ length (rows_text rows)
+unfolding rows_text
+fewer_records [] = omega arith
+fewer_records (row ∷ rows) =
+    let one = some_byte row in
+    let more = fewer_records rows in
+    let both = length-append (writer.row_text default_writer row) (rows_text rows) in
+    omega arith
+
+-- all records that were written, and no more
+all_read : (rows : List Row) (n : ℕ) → length rows ≤ n
+    → records_from default_config n state.StartRecord (rows_text rows) ≡ map read_back rows
+unfolding records_from rows_text next_record
+all_read [] zero enough = refl
+all_read [] (suc n) enough = refl
+all_read (row ∷ rows) zero enough = absurd (omega arith)
+all_read (row ∷ rows) (suc n) enough =
+    rw (read-write row (rows_text rows)) (ap (λ (t : List Row). read_back row ∷ t) (all_read rows n (omega arith)))
+
+read_back-record : (v : ℕ) (row : TraceRow) → read_back (record_of v row) ≡ record_of v row
+read_back-record v (Take edge count) = refl
+read_back-record v (Fire k) = refl
+
+read_back-records : (xs : List Placed) → map read_back (map record_at xs) ≡ map record_at xs
+read_back-records [] = refl
+read_back-records (x ∷ xs) = λ i. read_back-record x.vertex x.row i ∷ read_back-records xs i
+
+-- the lines under the header, as a text without its mark
+header_line : (lines : List ℕ) → strip_bom (written.header ++ lines)
+    ≡ writer.row_text default_writer trace_header ++ lines
+unfolding strip_bom is_blank fields_text
+header_line lines = refl
+
+with_header : (rows : List Row) (lines : List ℕ) → rows_text rows ≡ lines
+    → strip_bom (written.header ++ lines) ≡ rows_text (trace_header ∷ rows)
+unfolding rows_text
+with_header rows lines same = header_line lines
+    ∙ ap (λ (t : List ℕ). writer.row_text default_writer trace_header ++ t) (sym same)
+
+records_of-rows : (rows : List Row) (text : List ℕ) → strip_bom text ≡ rows_text rows
+    → records_of text ≡ map read_back rows
+records_of-rows rows text same =
+    let few = fewer_records rows in
+    rw same (all_read rows (length (rows_text rows) + 1) (omega arith))
+
+records_of-traces : (G : Multigraph) (traces : List (List TraceRow)) → AreRead G (placed_from 0 traces)
+    → records_of (trace_text traces) ≡ trace_header ∷ map record_at (placed_from 0 traces)
+records_of-traces G traces all =
+    let xs = placed_from 0 traces in
+    let lines = text_of-records G xs all ∙ text_of-traces 0 traces in
+    records_of-rows (trace_header ∷ map record_at xs) (trace_text traces)
+    (with_header (map record_at xs) (lines_from 0 traces) lines)
+    ∙ ap (λ (rows : List Row). trace_header ∷ rows) (read_back-records xs)
+
+-- ---- nothing is wrong with them
+
+none_of : {F : Type 0} (first later : Option F) → first ≡ None → later ≡ None → first_of_faults first later ≡ None
+none_of None later e h = h
+none_of (Some f) later e h = cc e
+
+no_fault : (G : Multigraph) (before : List Row) (xs : List Placed) → AreRead G xs
+    → first_row_fault (by_index (trace_row_fault G)) before (map record_at xs) ≡ None
+no_fault G before [] all = refl
+no_fault G before (x ∷ xs) all =
+    none_of (trace_row_fault G (length before) (record_at x))
+    (first_row_fault (by_index (trace_row_fault G)) (before ++ record_at x ∷ []) (map record_at xs))
+    (all.0.no_fault (length before)) (no_fault G (before ++ record_at x ∷ []) xs all.1)
+
+-- ---- what they say of a vertex
+
+said_by : (b : Bool) (fields : Row) (row : TraceRow) (others : List Row) (rows : List TraceRow)
+    → trace_row_in fields ≡ row → map trace_row_in others ≡ rows
+    → map trace_row_in (if b then fields ∷ others else others) ≡ (if b then row ∷ rows else rows)
+said_by true fields row others rows e h = λ i. e i ∷ h i
+said_by false fields row others rows e h = h
+
+said : (G : Multigraph) (v : ℕ) (xs : List Placed) → AreRead G xs → trace_in (map record_at xs) v ≡ rows_of xs v
+said G v [] all = refl
+said G v (x ∷ xs) all =
+    let others = filter (λ row. number_in 0 row == v) (map record_at xs) in
+    ap (λ (u : ℕ). map trace_row_in (if u == v then record_at x ∷ others else others)) all.0.vertex
+    ∙ said_by (x.vertex == v) (record_at x) x.row others (rows_of xs v) all.0.means (said G v xs all.1)
+
+rows_of-own : (v : ℕ) (trace : List TraceRow) → rows_of (map (placed v) trace) v ≡ trace
+rows_of-own v [] = refl
+rows_of-own v (row ∷ rows) = rw (eq-eqb v v refl) (ap (λ (t : List TraceRow). row ∷ t) (rows_of-own v rows))
+
+rows_of-other : (u v : ℕ) (trace : List TraceRow) → (u == v) ≡ false → rows_of (map (placed u) trace) v ≡ []
+rows_of-other u v [] other = refl
+rows_of-other u v (row ∷ rows) other = rw other (rows_of-other u v rows other)
+
+-- of a vertex before those of the traces there is no row
+rows_of-before : (u v : ℕ) (traces : List (List TraceRow)) → v < u → rows_of (placed_from u traces) v ≡ []
+rows_of-before u v [] lower = refl
+rows_of-before u v (trace ∷ traces) lower =
+    let other : (u == v) ≡ false = ne_eqb u v (λ same. absurd (omega arith)) in
+    rows_of-append (map (placed u) trace) (placed_from (suc u) traces) v
+    ∙ (λ i. rows_of-other u v trace other i ++ rows_of-before (suc u) v traces (omega arith) i)
+
+rows_of-at : (u : ℕ) (traces : List (List TraceRow)) (k v : ℕ) → u + k ≡ v
+    → rows_of (placed_from u traces) v ≡ get_or traces k []
+rows_of-at u [] k v e = refl
+rows_of-at u (trace ∷ traces) zero v e =
+    let same : u ≡ v = omega arith in
+    rows_of-append (map (placed u) trace) (placed_from (suc u) traces) v
+    ∙ ap (λ (w : ℕ). rows_of (map (placed u) trace) w ++ rows_of (placed_from (suc u) traces) w) (sym same)
+    ∙ (λ i. rows_of-own u trace i ++ rows_of-before (suc u) u traces (omega arith) i)
+    ∙ append-nil trace
+rows_of-at u (trace ∷ traces) (suc k) v e =
+    let other : (u == v) ≡ false = ne_eqb u v (λ same. absurd (omega arith)) in
+    rows_of-append (map (placed u) trace) (placed_from (suc u) traces) v
+    ∙ (λ i. rows_of-other u v trace other i ++ rows_of-at (suc u) traces k v (omega arith) i)
+
+-- ---- so they are read back
+
+read_by : (G : Multigraph) (text : List ℕ) (rows : List Row) (traces : List (List TraceRow))
+    → records_of text ≡ trace_header ∷ rows → first_row_fault (by_index (trace_row_fault G)) [] rows ≡ None
+    → traces ≡ map (trace_in rows) (range_with_len 0 G.vertices) → traces_of_text G text ≡ Some traces
+read_by G text rows traces records none same = rw (records, none) (ap Some (sym same))
+
+pub written_is_read : WrittenIsRead
+written_is_read G traces graph are =
+    let xs = placed_from 0 traces in
+    let each = are.each in
+    let all = traces_read G 0 traces (few_numbers G graph) (omega arith) are.rows in
+    read_by G (trace_text traces) (map record_at xs) traces (records_of-traces G traces all) (no_fault G [] xs all)
+    (fill_by_all (trace_in (map record_at xs)) traces G.vertices [] are.each
+    (λ v below. sym (said G v xs all ∙ rows_of-at 0 traces v v (omega arith))))
+
+-- ---- nothing else is read
+
+few_by : (test : Bool) (n : ℕ) → (test ≡ true → n < 2 ^ 64) → unwrap_or (if test then Some n else None) 0 < 2 ^ 64
+few_by true n fits = fits refl
+few_by false n fits = omega arith
+
+-- a field gives no number of more than 64 bits
+few_of : (field : Option (List ℕ)) → unwrap_or (option_and_then number_of field) 0 < 2 ^ 64
+few_of None = omega arith
+few_of (Some field) = few_by _ (digits_value 10 field)
+    (λ test. ltb-true (digits_value 10 field) (2 ^ 64) (and_parts _ (nat_lt (digits_value 10 field) (2 ^ 64)) test).1)
+
+named_fits : (G : Multigraph) (edge count : ℕ) → count < 2 ^ 64 → names_edge G (Take edge count) ≡ true
+    → IsRowIn G (Take edge count)
+named_fits G edge count fits named = (ltb-true edge (all_edges G) named, fits)
+
+-- whatever kind the fields name
+kind_fits : (G : Multigraph) (row : Row) (edge count : ℕ) → count < 2 ^ 64
+    → names_edge G (row_of_kind (kind_in row) edge count) ≡ true → IsRowIn G (row_of_kind (kind_in row) edge count)
+unfolding field_at
+kind_fits G [] edge count fits = named_fits G edge count fits
+kind_fits G (vertex ∷ []) edge count fits = named_fits G edge count fits
+kind_fits G (vertex ∷ name ∷ fields) edge count fits =
+    elim (cases_Bool (bytes_eq name (codes "take"))) [
+      | inl take ↦ rw take (named_fits G edge count fits)
+      | inr other ↦
+          elim (cases_Bool (bytes_eq name (codes "fire"))) [
+            | inl fire ↦ rw (other, fire) (λ named. fits)
+            | inr neither ↦ rw (other, neither) (named_fits G edge count fits)
+          ]
+    ]
+
+-- a row with nothing wrong is one of the graph
+row_fits : (G : Multigraph) (index : ℕ) (row : Row) → trace_row_fault G index row ≡ None → IsRowIn G (trace_row_in row)
+row_fits G index row none =
+    let long = passed (length row == 4) (fault.Row index) _ none in
+    let known = passed (is_some (kind_at trace_kinds 1 row)) (fault.Kind index) _ long.1 in
+    let numbers = passed (is_some (number_at 0 row) && is_some (number_at 2 row) && is_some (number_at 3 row))
+    (fault.Number index) _ known.1 in
+    let both = alone_passed (nat_lt (number_in 0 row) G.vertices && names_edge G (trace_row_in row))
+    (fault.Vertex index) numbers.1 in
+    kind_fits G row (number_in 2 row) (number_in 3 row) (few_of (field_at row 3))
+    (and_parts (nat_lt (number_in 0 row) G.vertices) (names_edge G (trace_row_in row)) both).1
+
+none_parts : {F : Type 0} (first later : Option F) → first_of_faults first later ≡ None
+    → (first ≡ None) × (later ≡ None)
+none_parts None later e = (refl, e)
+none_parts (Some f) later e = cc e
+
+rows_fit : (G : Multigraph) (before rows : List Row)
+    → first_row_fault (by_index (trace_row_fault G)) before rows ≡ None
+    → AllByRecursion (λ row. IsRowIn G (trace_row_in row)) rows
+rows_fit G before [] none = tt
+rows_fit G before (row ∷ rows) none =
+    let parts = none_parts (trace_row_fault G (length before) row)
+    (first_row_fault (by_index (trace_row_fault G)) (before ++ row ∷ []) rows) none in
+    (row_fits G (length before) row parts.0, rows_fit G (before ++ row ∷ []) rows parts.1)
+
+trace_fits : (G : Multigraph) (rows : List Row) → All (λ row. IsRowIn G (trace_row_in row)) rows → (v : ℕ)
+    → All (IsRowIn G) (trace_in rows v)
+trace_fits G rows all v = All-map (IsRowIn G) trace_row_in (filter (λ row. number_in 0 row == v) rows)
+    (All-filter (λ row. number_in 0 row == v) (λ row. IsRowIn G (trace_row_in row)) rows all)
+
+given : {A : Type 0} (f : Option FileFault) (x y : A) → (if is_none f then Some x else None) ≡ Some y
+    → (f ≡ None) × (x ≡ y)
+given None x y e = (refl, cc)
+given (Some f) x y e = cc e
+
+pub read_is_in_graph : ReadIsInGraph
+read_is_in_graph G text traces meant =
+    let rows = rows_under_header (records_of text) in
+    let fine = given (trace_text_fault G text) (map (trace_in rows) (range_with_len 0 G.vertices)) traces meant in
+    let none = none_parts (unless (has_header trace_header (records_of text)) fault.Header)
+    (first_row_fault (by_index (trace_row_fault G)) [] rows) fine.0 in
+    let all = All-from_recursion (λ row. IsRowIn G (trace_row_in row)) rows (rows_fit G [] rows none.1) in
+    let are : AreTracesIn G (map (trace_in rows) (range_with_len 0 G.vertices)) = record {
+      each = length-map-range_with_len (trace_in rows) 0 G.vertices;
+      rows = All-map (λ trace. All (IsRowIn G) trace) (trace_in rows) (range_with_len 0 G.vertices)
+          (λ k d below. trace_fits G rows all (get_or (range_with_len 0 G.vertices) k d));
+    } in
+    subst (λ (traces : List (List TraceRow)). AreTracesIn G traces) fine.1 are
+
+-- ---- whatever is answered
+
+answered : (G : Multigraph) (traces : List (List TraceRow)) (file : List ℕ)
+    (answer : Result (List (List TraceRow)) FileFault) → traces_of_text G file ≡ Some traces
+    → Answers file (λ read. traces_of_text G file ≡ Some read) (λ f. trace_text_fault G file ≡ Some f) answer
+    → Answers file (λ read. read ≡ traces) (λ f. ⊥) answer
+answered G traces file (Ok got) meant is = (is.0, cc (is.1, meant))
+answered G traces file (Err f) meant (inl machine) = inl machine
+answered G traces file (Err f) meant (inr (inl long)) = inr (inl long)
+answered G traces file (Err f) meant (inr (inr is)) =
+    let rows = rows_under_header (records_of file) in
+    let fine = given (trace_text_fault G file) (map (trace_in rows) (range_with_len 0 G.vertices)) traces meant in
+    absurd (cc (fine.0, is.1))
+
+pub file_is_read_back : FileIsReadBack
+file_is_read_back G traces graph are file wrote answer answers =
+    let meant : traces_of_text G file ≡ Some traces =
+    rw wrote (written_is_read G traces graph are) in
+    answered G traces file answer meant answers

@@ -1,0 +1,24 @@
+-- Worked traces, as the definitions write and read them.
+use Rattle.std.specs.Prelude.{◌≡◌, ℕ, List, [], ◌∷◌, codes, Some}
+use Rattle.chip_graph.specs.Multigraph.{Multigraph}
+use Rattle.chip_graph.specs.Worked.{single}
+use Rattle.chip_link.specs.declared.trace.TraceRow.{TraceRow}
+use Rattle.chip_link.specs.declared.trace.TraceRow.TheVariants.{Take, Fire}
+use Rattle.chip_file.specs.TraceText.{traces_of_text}
+use Rattle.chip_trace.specs.TraceText.{trace_text}
+
+-- one edge, from vertex 0 to the sink; the root edges are 1 and 2
+abbrev pub one_edge : Multigraph
+one_edge = record { vertices = 2; sink = 1; edges = single 0 1 ∷ [] }
+
+-- vertex 0 takes its twelve chips and fires them, and the sink takes what comes
+abbrev pub two_traces : List (List TraceRow)
+two_traces = (Take 1 12 ∷ Fire 12 ∷ []) ∷ (Take 0 12 ∷ []) ∷ []
+
+abbrev pub two_traces_text : List ℕ
+two_traces_text = codes "vertex,kind,edge,count\n0,take,1,12\n0,fire,0,12\n1,take,0,12\n"
+
+-- they are written so, and read back
+abbrev pub TwoTracesComeBack : Type 0
+TwoTracesComeBack =
+    (trace_text two_traces ≡ two_traces_text) × (traces_of_text one_edge two_traces_text ≡ Some two_traces)

@@ -1,0 +1,16 @@
+//! The laws of traces in files: functions that do nothing, whose contracts are the laws.
+
+ghost use Rattle.chip_command.specs.Laws.{WrittenIsRead, FileIsReadBack, ReadIsInGraph};
+ghost use Rattle.chip_command.specs.Worked.{TwoTracesComeBack};
+
+/// What `write_trace` writes, `read_trace` reads back: all traces in the graph, and nothing else is ever read.
+pub fn written_traces()
+    ensures meaning { WrittenIsRead }
+    ensures answer { FileIsReadBack }
+    ensures only { ReadIsInGraph }
+{}
+
+/// Two traces, as the definitions write and read them.
+pub fn worked_traces()
+    ensures { TwoTracesComeBack }
+{}

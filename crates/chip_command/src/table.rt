@@ -296,8 +296,8 @@ pub static KIND: Explanation = Explanation {
     place: Place::ROW,
     meaning: "row i is of no kind that there is",
     advice: "\
-In a schedule the first field is take, ack, fire, clear, claim, put, halt, settle, seal or
-read; in a trace the second is take or fire. Small letters, and no spaces.
+In a schedule the first field is take, ack, fire, clear, claim, put, halt, settle, seal,
+read, feed or end; in a trace the second is take or fire. Small letters, and no spaces.
 ",
 };
 

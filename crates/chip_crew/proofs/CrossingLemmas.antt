@@ -7,6 +7,7 @@ use denote.RattleType.{RattleType}
 use denote.Param.Send.{IsSend, IsSync, sendable, shr_send}
 use Rattle.std.proofs.Crossing.{crosses, frees, send, sync}
 use Rattle.std.proofs.sync.atomic.AtomicBool.TheSendSync as flag
+use Rattle.atomic_table.proofs.shared.Seat.TheSendSync as seat
 use Rattle.crossbeam_queue.proofs.array_queue.Slotted.TheSendSync as queue
 use Rattle.chip_net.proofs.net.Net.TheSendSync as net
 use Rattle.chip_net.proofs.CrossingLemmas.{actor_send, net_crosses}
@@ -27,7 +28,7 @@ shared_ref_send ℓ κ ν B G r gate = shr_send ℓ κ (shared.the_row ν B G r)
 
 -- what worker 0 hands back may go to the thread that joins it
 pub lead_handed_send : (B : RattleType) (r : Ghosts B.Denot) → IsSend (led.the_row B r)
-lead_handed_send B r = search (crosses, sendable, net_crosses) depth 60
+lead_handed_send B r = search (crosses, sendable, net_crosses, seat.the_send) depth 60
 
 -- worker 0 may take what it begins with
 pub lead_send : (ν : NamedLft) → IsSend (lead.the_row ν)

@@ -12,7 +12,7 @@ use Rattle.chip_core.specs.Core.{Step, Event, Clear, Settle, Part, opened, root_
 use Rattle.chip_core.specs.Histories.{part_by}
 use Rattle.chip_core.specs.Positions.{fed_of, fed_in}
 use Rattle.chip_net.specs.Tokens.{NetId}
-use Rattle.chip_net.specs.declared.root.RootState.{RootState}
+use Rattle.chip_net.specs.declared.poll.RootState.{RootState}
 use Rattle.chip_net.specs.Roots.{RootKnown, root_part, root_after, has_ended, fed_by, all_given, Feeds, LooksInVain}
 use Rattle.chip_net.specs.Roots.{feed_steps, settles_from, IsPolling, Ends}
 use Rattle.chip_net.proofs.ViewingLemmas.{part_append}

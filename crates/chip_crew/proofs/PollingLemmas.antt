@@ -2,8 +2,8 @@
 -- Polls, one after another.
 use Rattle.std.proofs.Common.{◌≡◌, ℕ, ◌+◌, sym, subst, add-one}
 use Rattle.chip_net.specs.Roots.{RootKnown, IsPolling, AnswersPoll, IsOver}
-use Rattle.chip_net.specs.declared.root.RootState.{RootState}
-use Rattle.chip_net.specs.declared.root.RootState.TheVariants.{Closed, Running}
+use Rattle.chip_net.specs.declared.poll.RootState.{RootState}
+use Rattle.chip_net.specs.declared.poll.RootState.TheVariants.{Closed, Running}
 use Rattle.chip_crew.specs.Crew.{Polled}
 use Rattle.chip_crew.specs.Ending.{IsPolledUntil, EndsWell}
 use Rattle.chip_sequence.specs.declared.outcome.Outcome.{Outcome}

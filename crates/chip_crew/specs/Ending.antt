@@ -1,12 +1,14 @@
 -- How a crew ends.
-use Rattle.std.specs.Prelude.{◌≡◌, ℕ, ◌+◌, ◌-◌, ◌≤◌, false, None}
+use Rattle.std.specs.Prelude.{◌≡◌, ℕ, ◌+◌, ◌-◌, ◌≤◌, false, Option, None}
 use Rattle.chip_sequence.specs.declared.outcome.Outcome.{Outcome}
 use Rattle.chip_net.specs.Roots.{RootKnown, root_deficit, has_ended, IsOver}
 use Rattle.chip_net.specs.Finish.{Finishes}
-use Rattle.chip_net.specs.declared.root.RootState.{RootState}
-use Rattle.chip_net.specs.declared.root.RootState.TheVariants.{Closed, Running}
+use Rattle.chip_net.specs.declared.poll.RootState.{RootState}
+use Rattle.chip_net.specs.declared.poll.RootState.TheVariants.{Closed, Running}
 use Rattle.chip_crew.specs.Crew.{Polled}
 use Rattle.chip_crew.specs.Feeding.{Left, IsLed}
+use Rattle.chip_crew.specs.Sealing.{TakesBack}
+use Rattle.chip_crew.specs.declared.plan.SealAt.{SealAt}
 
 -- the root was polled so many times and once more, and so many messages are left, none only where the end of feeding isn't
 -- noted
@@ -28,19 +30,25 @@ pub record EndsWell (old receipt : RootKnown) (o : Outcome) : Type 0 where
   pub closed : IsOver root
   pub finishes : Finishes root receipt o
 
--- worker 0 led it until all was fed and the end noted; then it was polled until it was closed, and it finished
-pub record EndsLed (feeds : Left) (old receipt : RootKnown) (o : Outcome) : Type 0 where
+-- worker 0 led it until all was fed and the end noted; then it took the stopper back, was polled until it was closed, and
+-- finished
+pub record EndsLed (feeds : Left) (seal : Option SealAt) (old receipt : RootKnown) (o : Outcome) : Type 0 where
   pub polls : ℕ
   pub led : RootKnown
   pub is_led : IsLed polls feeds old None led
-  pub ends : EndsWell led receipt o
+  pub back : RootKnown
+  pub is_back : TakesBack seal polls led back
+  pub ends : EndsWell back receipt o
 
--- worker 0 led it for so many polls, which left this to be fed; then it was polled as often as worker 0 had not, and
--- once more, and it isn't closed
-pub record StaysUnfinished (turns : ℕ) (feeds : Left) (old now : RootKnown) (deficit : ℕ) : Type 0 where
+-- worker 0 led it for so many polls, which left this to be fed; then it took the stopper back, was polled as often as
+-- worker 0 had not, and once more, and it isn't closed
+pub record StaysUnfinished (turns : ℕ) (feeds : Left) (seal : Option SealAt) (old now : RootKnown) (deficit : ℕ)
+    : Type 0 where
   pub polls : ℕ
   pub at_most : polls ≤ turns
   pub left : Left
   pub led : RootKnown
   pub is_led : IsLed polls feeds old left led
-  pub stays : StaysOpen (turns - polls) led now deficit
+  pub back : RootKnown
+  pub is_back : TakesBack seal polls led back
+  pub stays : StaysOpen (turns - polls) back now deficit

@@ -3,7 +3,7 @@ use Rattle.std.specs.Prelude.{◌≡◌, ◌⊎◌, ℕ, zero, suc, ◌+◌, ◌
 use Rattle.chip_graph.specs.Limits.{max_total}
 use Rattle.chip_graph.specs.More.{all_brought}
 use Rattle.chip_net.specs.Roots.{RootKnown, has_ended, all_given, Feeds, LooksInVain, Ends, IsPolling}
-use Rattle.chip_net.specs.declared.root.RootState.{RootState}
+use Rattle.chip_net.specs.declared.poll.RootState.{RootState}
 
 -- what is left to feed before the end is noted, a vertex and its chips each; nothing where the end is noted
 abbrev pub Left : Type 0

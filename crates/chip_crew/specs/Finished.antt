@@ -1,19 +1,23 @@
 -- What a run answers.
-use Rattle.std.specs.Prelude.{◌≡◌, ◌⊎◌, ℕ, ◌+◌, ◌<◌, ⊤, true, false, if◌then◌else◌, [], sum, Some, None, is_some}
+use Rattle.std.specs.Prelude.{◌≡◌, ◌⊎◌, ℕ, ◌+◌, ◌<◌, ⊤, Bool, true, false, if◌then◌else◌, [], sum, Option, Some, None}
+use Rattle.std.specs.Prelude.{is_some}
 use Rattle.chip_graph.specs.Limits.{max_total}
 use Rattle.chip_graph.specs.More.{HasMore, all_brought}
 use Rattle.chip_graph.specs.ChipGame.{ChipGame}
 use Rattle.chip_sequence.specs.Play.{IsPlayed}
 use Rattle.chip_part.specs.Setting.{setting_with}
 use Rattle.chip_net.specs.Roots.{RootKnown, new_root, fed_by}
+use Rattle.chip_net.specs.Meeting.{IsRun}
 use Rattle.chip_crew.specs.Plans.{is_fed_plan, AreWithinTotal}
 use Rattle.chip_crew.specs.Crew.{CrewId, AreActors}
 use Rattle.chip_crew.specs.Feeding.{Left, pairs}
 use Rattle.chip_crew.specs.Ending.{EndsLed, StaysUnfinished}
+use Rattle.chip_crew.specs.Sealing.{KnowsSeals}
 use Rattle.chip_crew.specs.Gathering.{IsMissing}
 use Rattle.chip_crew.specs.Handed.{SomeShut}
 use Rattle.chip_crew.specs.declared.joining.Joined.{Joined}
 use Rattle.chip_crew.specs.declared.plan.Plan.{Plan}
+use Rattle.chip_crew.specs.declared.plan.SealAt.{SealAt}
 use Rattle.chip_crew.specs.declared.play.Finished.{Finished}
 use Rattle.chip_crew.specs.declared.fault.CrewFault.{CrewFault}
 use Rattle.chip_crew.specs.declared.fault.CrewFault.TheVariants as fault
@@ -50,21 +54,26 @@ pub record IsCrewFor (game : ChipGame) (feeds : Left) (plan : Plan) (crew : Crew
   pub room : crew.room ≡ plan.trace_rows
 
 -- the crew's root was led until all was fed, polled until it was closed and then finished, and all its actors are there
-pub record HasFinished (crew : CrewId) (feeds : Left) (old : RootKnown) (f : Finished) : Type 0 where
-  pub ends : EndsLed feeds old f.receipt f.outcome
+pub record HasFinished (crew : CrewId) (feeds : Left) (seal : Option SealAt) (old : RootKnown) (f : Finished)
+    : Type 0 where
+  pub ends : EndsLed feeds seal old f.receipt f.outcome
   pub actors : AreActors crew f.actors.items
+  -- what the root, the stopper and the actors did is one run, of which that is the outcome
+  pub run : IsRun f.receipt f.actors.items f.outcome
 
 -- the game that has all chips at the start, also those that are fed
 abbrev pub IsWhole : ChipGame → Left → ChipGame → Type 0
 IsWhole game None whole = whole ≡ game
 IsWhole game (Some feeds) whole = HasMore game feeds whole
 
--- a crew of this game finished after it made exactly these feeds, in order, and without a seal the outcome is the plain
--- player's of the game that has all these chips at the start
+-- a crew of this game finished after it made exactly these feeds, in order, and the seal of the plan where worker 0 made
+-- that turn, and no other; without a seal the outcome is the plain player's of the game that has all these chips at the
+-- start
 pub record IsFinished (game : ChipGame) (feeds : Left) (plan : Plan) (f : Finished) : Type 0 where
   pub crew : CrewId
   pub opened : IsCrewFor game feeds plan crew
-  pub finished : HasFinished crew feeds (root_of crew plan) f
+  pub finished : HasFinished crew feeds plan.seal (root_of crew plan) f
+  pub sealed : KnowsSeals plan.seal finished.ends.polls f.receipt
   pub fed : fed_by finished.ends.ends.root ≡ pairs feeds
   pub whole : ChipGame
   pub whole_is : IsWhole game feeds whole
@@ -73,40 +82,41 @@ pub record IsFinished (game : ChipGame) (feeds : Left) (plan : Plan) (f : Finish
 -- ---- why a crew didn't finish
 
 -- why, where its workers have ended: a gate was shut; else actors are missing; else the root is open
-abbrev pub IsClosing : CrewId → Left → RootKnown → ℕ → Joined → CrewFault → Type 0
-IsClosing crew feeds old turns joined fault.Plan = ⊥
-IsClosing crew feeds old turns joined fault.Total = ⊥
-IsClosing crew feeds old turns joined fault.NoMemory = ⊥
-IsClosing crew feeds old turns joined fault.Spawn = ⊥
-IsClosing crew feeds old turns joined fault.GateShut = joined.passed ≡ false
-IsClosing crew feeds old turns joined (fault.Doubled v) = (joined.passed ≡ true) × IsMissing joined.gathering (fault.Doubled v)
-IsClosing crew feeds old turns joined (fault.Lost v) = (joined.passed ≡ true) × IsMissing joined.gathering (fault.Lost v)
-IsClosing crew feeds old turns joined (fault.Unfinished deficit root) =
-    (joined.passed ≡ true) × StaysUnfinished turns feeds old root deficit
+abbrev pub IsClosing : CrewId → Left → Option SealAt → RootKnown → ℕ → Joined → CrewFault → Type 0
+IsClosing crew feeds seal old turns joined fault.Plan = ⊥
+IsClosing crew feeds seal old turns joined fault.Total = ⊥
+IsClosing crew feeds seal old turns joined fault.NoMemory = ⊥
+IsClosing crew feeds seal old turns joined fault.Spawn = ⊥
+IsClosing crew feeds seal old turns joined fault.GateShut = joined.passed ≡ false
+IsClosing crew feeds seal old turns joined (fault.Doubled v) =
+    (joined.passed ≡ true) × IsMissing joined.gathering (fault.Doubled v)
+IsClosing crew feeds seal old turns joined (fault.Lost v) =
+    (joined.passed ≡ true) × IsMissing joined.gathering (fault.Lost v)
+IsClosing crew feeds seal old turns joined (fault.Unfinished deficit root) =
+    (joined.passed ≡ true) × StaysUnfinished turns feeds seal old root deficit
 
 -- why a crew that was opened didn't finish; `shut` is what is known where a gate was shut
-abbrev pub IsStopped : CrewId → Left → RootKnown → ℕ → Type 0 → CrewFault → Type 0
-IsStopped crew feeds old turns shut fault.Plan = ⊥
-IsStopped crew feeds old turns shut fault.Total = ⊥
-IsStopped crew feeds old turns shut fault.NoMemory = ⊤
-IsStopped crew feeds old turns shut fault.Spawn = ⊤
-IsStopped crew feeds old turns shut fault.GateShut = shut
-IsStopped crew feeds old turns shut (fault.Doubled v) = v < crew.net.setting.game.graph.vertices
-IsStopped crew feeds old turns shut (fault.Lost v) = v < crew.net.setting.game.graph.vertices
-IsStopped crew feeds old turns shut (fault.Unfinished deficit root) =
-    StaysUnfinished turns feeds old root deficit
+abbrev pub IsStopped : CrewId → Left → Option SealAt → RootKnown → ℕ → Type 0 → CrewFault → Type 0
+IsStopped crew feeds seal old turns shut fault.Plan = ⊥
+IsStopped crew feeds seal old turns shut fault.Total = ⊥
+IsStopped crew feeds seal old turns shut fault.NoMemory = ⊤
+IsStopped crew feeds seal old turns shut fault.Spawn = ⊤
+IsStopped crew feeds seal old turns shut fault.GateShut = shut
+IsStopped crew feeds seal old turns shut (fault.Doubled v) = v < crew.net.setting.game.graph.vertices
+IsStopped crew feeds seal old turns shut (fault.Lost v) = v < crew.net.setting.game.graph.vertices
+IsStopped crew feeds seal old turns shut (fault.Unfinished deficit root) =
+    StaysUnfinished turns feeds seal old root deficit
 
--- plan or feeds are at fault; or their total is; or a crew of this game didn't finish, whose gate may answer false at these
--- calls
-abbrev pub IsFaultOf : ChipGame → Left → Plan → (ℕ → ℕ → Type 0) → CrewFault → Type 0
-IsFaultOf game feeds plan may_shut fault.Plan = is_fed_plan game (pairs feeds) plan ≡ false
-IsFaultOf game feeds plan may_shut fault.Total = (is_fed_plan game (pairs feeds) plan ≡ true) × PassesTotal game feeds
-IsFaultOf game feeds plan may_shut fault.NoMemory = CanPlay game feeds plan
-IsFaultOf game feeds plan may_shut fault.Spawn = CanPlay game feeds plan
-IsFaultOf game feeds plan may_shut fault.GateShut =
-    CanPlay game feeds plan × SomeShut may_shut plan.workers plan.turns
-IsFaultOf game feeds plan may_shut (fault.Doubled v) = CanPlay game feeds plan × (v < game.graph.vertices)
-IsFaultOf game feeds plan may_shut (fault.Lost v) = CanPlay game feeds plan × (v < game.graph.vertices)
-IsFaultOf game feeds plan may_shut (fault.Unfinished deficit root) =
+-- plan or feeds are at fault; or their total is; or a crew of this game didn't finish, whose gate may answer so
+abbrev pub IsFaultOf : ChipGame → Left → Plan → (ℕ → ℕ → Bool → Type 0) → CrewFault → Type 0
+IsFaultOf game feeds plan may_answer fault.Plan = is_fed_plan game (pairs feeds) plan ≡ false
+IsFaultOf game feeds plan may_answer fault.Total = (is_fed_plan game (pairs feeds) plan ≡ true) × PassesTotal game feeds
+IsFaultOf game feeds plan may_answer fault.NoMemory = CanPlay game feeds plan
+IsFaultOf game feeds plan may_answer fault.Spawn = CanPlay game feeds plan
+IsFaultOf game feeds plan may_answer fault.GateShut =
+    CanPlay game feeds plan × SomeShut may_answer plan.workers plan.turns
+IsFaultOf game feeds plan may_answer (fault.Doubled v) = CanPlay game feeds plan × (v < game.graph.vertices)
+IsFaultOf game feeds plan may_answer (fault.Lost v) = CanPlay game feeds plan × (v < game.graph.vertices)
+IsFaultOf game feeds plan may_answer (fault.Unfinished deficit root) =
     (crew : CrewId) × IsCrewFor game feeds plan crew
-    × StaysUnfinished plan.turns feeds (root_of crew plan) root deficit
+    × StaysUnfinished plan.turns feeds plan.seal (root_of crew plan) root deficit

@@ -1,5 +1,5 @@
 -- What a worker does with its actors.
-use Rattle.std.specs.Prelude.{◌≡◌, [], ◌∷◌, ◌++◌, Option, Some, None}
+use Rattle.std.specs.Prelude.{◌≡◌, ℕ, zero, suc, [], ◌∷◌, ◌++◌, Option, Some, None}
 use Rattle.chip_net.specs.Tokens.{ActorKnown, MakesTurn}
 use Rattle.chip_net.specs.declared.actor.Turn.{Turn}
 use Rattle.chip_crew.specs.declared.queue.Ledger.{Ledger}
@@ -37,3 +37,9 @@ EndsTurn old new None kept = (new ≡ old) × (kept ≡ None)
 abbrev pub MakesOneTurn : Ledger → Ledger → Option ActorKnown → Option ActorKnown → Type 0
 MakesOneTurn old new kept result = (between : Ledger) × (next : Option ActorKnown) × IsNext old between kept next
     × EndsTurn between new next result
+
+-- so many turns of a worker, one after another from the first, each of which its gate let pass
+abbrev pub TurnsMade : (ℕ → Type 0) → ℕ → Ledger → Option ActorKnown → Type 0
+TurnsMade passes zero ledger kept = (ledger ≡ new_ledger) × (kept ≡ None)
+TurnsMade passes (suc k) ledger kept = (before : Ledger) × (was : Option ActorKnown) × TurnsMade passes k before was
+    × passes k × MakesOneTurn before ledger was kept

@@ -1,6 +1,7 @@
 pub mod Plans
 pub mod Crew
 pub mod Feeding
+pub mod Sealing
 pub mod Ending
 pub mod Ledger
 pub mod Gathering

@@ -4,32 +4,34 @@ ghost use Rattle.std.specs.Prelude.{◌≡◌, ◌<◌, ◌≤◌, [], false, If
 ghost use Rattle.chip_crew.specs.declared.fault.CrewFault.TheVariants.{Spawn};
 ghost use Rattle.std.specs.Vec.{vec_capacity};
 ghost use Rattle.chip_crew.specs.Crew.{IsOurs};
-ghost use Rattle.chip_crew.specs.Handed.{HasPolled, IsLead, TellsShut, AllTellShut, IsHanded};
+ghost use Rattle.chip_crew.specs.Handed.{HasPolled, IsLead, Heeds, AllHeed, IsHanded};
+ghost use Rattle.chip_crew.specs.Sealing.{HasSealed};
 ghost use Rattle.chip_crew.specs.Gathering.{IsGathering};
 
 use crate::fault::CrewFault;
 use crate::gathering::{Gathering, note};
 use crate::lead::{Lead, LeadHanded};
-use crate::plan::Gate;
+use crate::plan::{Gate, SealAt};
 use crate::queue::Crew;
 use crate::worker::{Handed, Shared};
-use chip_net::Root;
+use chip_net::{Root, Stopper};
 use std::marker::PhantomData;
 use std::sync::Wait;
 use std::sync::atomic::Ordering::SeqCst;
 use std::thread::{self, JoinHandle, Promise, PromisedHandle, Scope, Threads};
 
-/// A worker's promise: an actor that it hands back was opened by this net, and its gate answered false only where it
-/// may.
+/// The promise of the worker of this number: an actor that it hands back was opened by this net, each of its turns was
+/// let pass by its gate and gave one actor one turn, and its gate answered false only where it may.
 #[derive(Drop)]
 pub(crate) struct Keeps<B> {
+    worker: u64,
     of: PhantomData<B>,
 }
 
 impl<B: Crew> Promise<Handed> for Keeps<B> {
     ghost use Rattle.chip_crew.specs.Handed.{IsHanded};
 
-    ghost kept_by = { λ _ handed. IsHanded B.crew B.shut handed };
+    ghost kept_by = { λ keeps handed. IsHanded B.crew (B.passes keeps.worker) B.turns B.shut handed };
 }
 
 /// A worker other than worker 0 that has started.
@@ -40,8 +42,10 @@ pub(crate) type Started<B> = PromisedHandle<Handed, Keeps<B>>;
 pub(crate) struct Joined {
     /// The root.
     pub root: Root,
-    /// How often worker 0 polled it, up to the number of turns.
+    /// How often worker 0 polled it: once in each of its turns.
     pub polls: u64,
+    /// The stopper, and what it was to seal.
+    pub seal: Option<(Stopper, SealAt)>,
     /// The actors that workers couldn't put back.
     pub gathering: Gathering,
     /// Whether no gate answered false.
@@ -55,7 +59,7 @@ fn take_handed<B: Crew>(gathering: &mut Gathering, handed: Handed) -> bool
     ensures gathering { IsGathering B.crew gathering.new }
     ensures passed { result ≡ handed.passed }
 {
-    let Handed { kept, passed } = handed;
+    let Handed { kept, passed, .. } = handed;
     if let Some(actor) = kept {
         note::<B>(gathering, actor);
     }
@@ -70,13 +74,13 @@ fn start_lead<'s, E, B: Crew + Send + Sync, G: Gate + Sync>(
 ) -> Result<JoinHandle<LeadHanded<B>>, CrewFault>
     requires net { shared.now.net.now ≡ B.crew.net }
     requires turns { shared.now.turns ≡ B.turns }
-    requires lead { IsLead B.crew B.feeds B.root lead }
-    requires gate { TellsShut (G.may_shut shared.now.gate.now 0) shared.now.turns B.shut }
+    requires lead { IsLead B.crew B.feeds B.seal B.root lead }
+    requires gate { Heeds (G.may_answer shared.now.gate.now 0) shared.now.turns (B.passes 0) B.shut }
     ensures { IfErr result (λ fault. fault ≡ Spawn) }
 {
     let work = move || -> LeadHanded<B>
-        requires { (shared.now.net.now ≡ B.crew.net) × (shared.now.turns ≡ B.turns) × IsLead B.crew B.feeds B.root lead
-            × TellsShut (G.may_shut shared.now.gate.now 0) shared.now.turns B.shut }
+        requires { (shared.now.net.now ≡ B.crew.net) × (shared.now.turns ≡ B.turns) × IsLead B.crew B.feeds B.seal B.root lead
+            × Heeds (G.may_answer shared.now.gate.now 0) shared.now.turns (B.passes 0) B.shut }
     { shared.lead(lead) };
     match scope.spawn(work) {
         Ok(started) => Ok(started),
@@ -91,14 +95,18 @@ fn start_worker<'s, E, B: Crew + Send + Sync, G: Gate + Sync>(
     worker: u64,
 ) -> Result<Started<B>, CrewFault>
     requires net { shared.now.net.now ≡ B.crew.net }
-    requires gate { TellsShut (G.may_shut shared.now.gate.now worker) shared.now.turns B.shut }
+    requires turns { shared.now.turns ≡ B.turns }
+    requires gate { Heeds (G.may_answer shared.now.gate.now worker) shared.now.turns (B.passes worker) B.shut }
     ensures { IfErr result (λ fault. fault ≡ Spawn) }
 {
-    let promise = Keeps { of: PhantomData };
+    let promise = Keeps {
+        worker,
+        of: PhantomData,
+    };
     let work = move || -> Handed
-        requires { (shared.now.net.now ≡ B.crew.net)
-            × TellsShut (G.may_shut shared.now.gate.now worker) shared.now.turns B.shut }
-        ensures { IsHanded B.crew B.shut result }
+        requires { (shared.now.net.now ≡ B.crew.net) × (shared.now.turns ≡ B.turns)
+            × Heeds (G.may_answer shared.now.gate.now worker) shared.now.turns (B.passes worker) B.shut }
+        ensures { IsHanded B.crew (B.passes worker) B.turns B.shut result }
     { shared.work(worker) };
     match scope.spawn_with(promise, work) {
         Ok(started) => Ok(started),
@@ -116,11 +124,11 @@ fn start_all<'s, E, B: Crew + Send + Sync, G: Gate + Sync>(
 ) -> Result<(JoinHandle<LeadHanded<B>>, Vec<Started<B>>), CrewFault>
     requires net { shared.now.net.now ≡ B.crew.net }
     requires turns { shared.now.turns ≡ B.turns }
-    requires lead { IsLead B.crew B.feeds B.root lead }
+    requires lead { IsLead B.crew B.feeds B.seal B.root lead }
     requires none_yet { others.items ≡ [] }
     requires room { workers ≤ vec_capacity others }
     requires some { 0 < workers }
-    requires gate { AllTellShut (G.may_shut shared.now.gate.now) workers shared.now.turns B.shut }
+    requires gate { AllHeed (G.may_answer shared.now.gate.now) workers shared.now.turns B.passes B.shut }
     ensures { IfErr result (λ fault. fault ≡ Spawn) }
 {
     let lead = start_lead(scope, shared, lead)?;
@@ -145,15 +153,17 @@ fn join_all<B: Crew, R: Threads>(
 ) -> Joined
     requires { IsGathering B.crew gathering }
     ensures root { HasPolled B.crew B.feeds B.root B.turns result.root result.polls }
+    ensures seal { HasSealed B.crew B.seal result.polls result.seal }
     ensures gathering { IsGathering B.crew result.gathering }
     ensures passed { result.passed ≡ false → B.shut }
 {
     let LeadHanded {
         handed,
         root,
-        polls,
+        seal,
         of: _,
     } = lead.join(rt);
+    let polls = handed.turns;
     let mut passed = take_handed::<B>(&mut gathering, handed);
     for started in others {
         passed &= take_handed::<B>(&mut gathering, started.join(rt));
@@ -161,6 +171,7 @@ fn join_all<B: Crew, R: Threads>(
     Joined {
         root,
         polls,
+        seal,
         gathering,
         passed,
     }
@@ -177,13 +188,14 @@ pub(crate) fn run_workers<R: Threads + Wait, B: Crew + Send + Sync, G: Gate + Sy
 ) -> Result<Joined, CrewFault>
     requires net { shared.now.net.now ≡ B.crew.net }
     requires turns { shared.now.turns ≡ B.turns }
-    requires lead { IsLead B.crew B.feeds B.root lead }
+    requires lead { IsLead B.crew B.feeds B.seal B.root lead }
     requires none_yet { others.items ≡ [] }
     requires room { workers ≤ vec_capacity others }
     requires gathering { IsGathering B.crew gathering }
     requires some { 0 < workers }
-    requires gate { AllTellShut (G.may_shut shared.now.gate.now) workers shared.now.turns B.shut }
+    requires gate { AllHeed (G.may_answer shared.now.gate.now) workers shared.now.turns B.passes B.shut }
     ensures root { IfOk result (λ j. HasPolled B.crew B.feeds B.root B.turns j.root j.polls) }
+    ensures seal { IfOk result (λ j. HasSealed B.crew B.seal j.polls j.seal) }
     ensures gathering { IfOk result (λ j. IsGathering B.crew j.gathering) }
     ensures passed { IfOk result (λ j. j.passed ≡ false → B.shut) }
     ensures fault { IfErr result (λ fault. fault ≡ Spawn) }
@@ -193,10 +205,10 @@ pub(crate) fn run_workers<R: Threads + Wait, B: Crew + Send + Sync, G: Gate + Sy
         rt,
         |scope| -> Result<Joined, CrewFault>
             requires { (shared.now.net.now ≡ B.crew.net) × (shared.now.turns ≡ B.turns)
-                × IsLead B.crew B.feeds B.root lead × (others.items ≡ []) × (workers ≤ vec_capacity others) × IsGathering B.crew gathering × (0 < workers)
-                × AllTellShut (G.may_shut shared.now.gate.now) workers shared.now.turns B.shut }
+                × IsLead B.crew B.feeds B.seal B.root lead × (others.items ≡ []) × (workers ≤ vec_capacity others) × IsGathering B.crew gathering × (0 < workers)
+                × AllHeed (G.may_answer shared.now.gate.now) workers shared.now.turns B.passes B.shut }
             ensures { IfOk result (λ j. HasPolled B.crew B.feeds B.root B.turns j.root j.polls
-                × IsGathering B.crew j.gathering × (j.passed ≡ false → B.shut)) × IfErr result (λ fault. fault ≡ Spawn) }
+                × HasSealed B.crew B.seal j.polls j.seal × IsGathering B.crew j.gathering × (j.passed ≡ false → B.shut)) × IfErr result (λ fault. fault ≡ Spawn) }
         {
             let (lead, others) = start_all(scope, shared, lead, workers, others)?;
             Ok(join_all(rt, lead, others, gathering))

@@ -1,7 +1,9 @@
 //! What worker 0 does beside: it seals, it feeds, and it polls the root.
 
-ghost use Rattle.std.specs.Prelude.{◌≡◌, IfSome};
-ghost use Rattle.chip_crew.specs.Handed.{TellsShut, IsLead};
+ghost use Rattle.std.specs.Prelude.{◌≡◌, ◌<◌, IfSome};
+ghost use Rattle.chip_part.specs.Edges.{graph_edges};
+ghost use Rattle.chip_crew.specs.Handed.{Heeds, IsLead};
+ghost use Rattle.chip_crew.specs.Sealing.{SealsBefore};
 
 use crate::feeding::feed_once;
 use crate::plan::{Gate, SealAt};
@@ -22,15 +24,15 @@ pub(crate) struct Lead<'a> {
     pub seal: Option<(Stopper, SealAt)>,
 }
 
-/// What worker 0 hands back, of which it is known that it polled the root so often.
+/// What worker 0 hands back, of which it is known that it polled the root once in each of its turns.
 #[derive(Drop)]
 pub(crate) struct LeadHanded<B: Crew> {
     /// As of every worker.
     pub handed: Handed,
     /// The root.
     pub root: Root,
-    /// How often it was polled, up to the number of turns.
-    pub polls: u64,
+    /// The stopper, and what it was to seal.
+    pub seal: Option<(Stopper, SealAt)>,
     pub of: PhantomData<B>,
 }
 
@@ -42,13 +44,13 @@ impl<B: Crew> Model for LeadHanded<B> {
 
     ghost view = { λ a. a.root };
 
-    ghost invariant = { λ a. HasLed B.crew B.feeds B.root B.turns B.shut a.handed a.root a.polls };
+    ghost invariant = { λ a. HasLed B.crew B.feeds B.seal B.root B.turns (B.passes 0) B.shut a.handed a.root a.seal };
 }
 
 /// Seals, where this is the turn for it.
 fn seal_before(net: &Net, seal: &mut Option<(Stopper, SealAt)>, turn: u64)
-    requires { IfSome seal.old (λ s. s.0.net ≡ net.now) }
-    ensures { IfSome seal.new (λ s. s.0.net ≡ net.now) }
+    requires { IfSome seal.old (λ s. (s.0.net ≡ net.now) × (s.1.edge < graph_edges net.now.setting)) }
+    ensures { SealsBefore turn seal.old seal.new }
 {
     if let Some((stopper, at)) = seal {
         if at.turn == turn {
@@ -64,8 +66,8 @@ impl<'a, B: Crew, G: Gate> Shared<'a, B, G> {
     pub fn lead(&self, lead: Lead) -> LeadHanded<B>
         requires net { self.now.net.now ≡ B.crew.net }
         requires turns { self.now.turns ≡ B.turns }
-        requires lead { IsLead B.crew B.feeds B.root lead }
-        requires gate { TellsShut (G.may_shut self.now.gate.now 0) self.now.turns B.shut }
+        requires lead { IsLead B.crew B.feeds B.seal B.root lead }
+        requires gate { Heeds (G.may_answer self.now.gate.now 0) self.now.turns (B.passes 0) B.shut }
     {
         let Lead {
             mut root,
@@ -74,7 +76,7 @@ impl<'a, B: Crew, G: Gate> Shared<'a, B, G> {
         } = lead;
         let mut pass = self.queue.pass();
         let mut kept = None;
-        let mut polls = 0;
+        let mut turns = 0;
         let mut passed = true;
         for turn in 0..self.turns {
             // Whoever told it hands back why.
@@ -88,8 +90,8 @@ impl<'a, B: Crew, G: Gate> Shared<'a, B, G> {
             }
             seal_before(self.net, &mut seal, turn);
             feeds = feed_once(self.net, &mut root, feeds);
-            kept = self.one_turn(&mut pass, kept);
-            polls = turn + 1;
+            kept = self.one_turn(0, turn, &mut pass, kept);
+            turns = turn + 1;
             match root.poll(self.net) {
                 RootState::Running(0) => {}
                 RootState::Running(deficit) => self.gate.polled(turn, deficit),
@@ -100,9 +102,14 @@ impl<'a, B: Crew, G: Gate> Shared<'a, B, G> {
             }
         }
         LeadHanded {
-            handed: Handed { kept, passed },
+            handed: Handed {
+                kept,
+                passed,
+                turns,
+                pass,
+            },
             root,
-            polls,
+            seal,
             of: PhantomData,
         }
     }

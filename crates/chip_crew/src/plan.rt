@@ -19,15 +19,15 @@ pub const MAX_TRACE_ROWS: u64 = 1 << 20;
 
 /// Asked before each turn of each worker, by the worker's own thread, and told of the root's polls. It returns.
 pub trait Gate {
-    ghost use Rattle.std.specs.Prelude.{◌≡◌, ℕ, false};
+    ghost use Rattle.std.specs.Prelude.{ℕ, Bool, ⊤};
 
-    // For which worker and which of its turns it may answer false.
-    ghost may_shut: { Self → ℕ → ℕ → Type 0 };
+    // What is known where it answers so for a worker and one of its turns: nothing, unless the gate says more.
+    ghost may_answer: { Self → ℕ → ℕ → Bool → Type 0 } = { λ _ _ _ _. ⊤ };
 
     /// Whether the worker may begin its turn of this number. Workers and turns are numbered from 0, and each worker
     /// counts its own turns. Where it may not, the whole crew ends.
     fn pass(&self, worker: u64, turn: u64) -> bool
-        ensures { result ≡ false → may_shut self.now worker turn };
+        ensures { may_answer self.now worker turn result };
 
     /// Told by worker 0, after its turn of this number, how many of the root's messages aren't acknowledged, where some
     /// are not. What it does changes nothing of the crew's work.

@@ -3,15 +3,16 @@
 ghost use Rattle.std.specs.Prelude.{◌≡◌, ◌<◌, ◌≤◌, true, [], All, length, Some, None, IfOk, IfErr, IfSome};
 ghost use Rattle.std.specs.Vec.{vec_capacity};
 ghost use Rattle.chip_net.specs.Roots.{RootKnown};
-ghost use Rattle.chip_crew.specs.Handed.{HasPolled, IsLead, AllTellShut};
+ghost use Rattle.chip_crew.specs.Handed.{HasPolled, IsLead, AllHeed};
+ghost use Rattle.chip_crew.specs.Sealing.{HasSealed};
 ghost use Rattle.crossbeam_queue.specs.Passes.{IsPassOf};
-ghost use Rattle.std.specs.Option.{option_copied};
+ghost use Rattle.std.specs.Option.{option_copied, option_zip};
 ghost use Rattle.chip_crew.specs.Crew.{IsOurs};
 ghost use Rattle.chip_crew.specs.Feeding.{MayFeedLeft};
 ghost use Rattle.chip_crew.specs.Gathering.{IsGathering};
 ghost use Rattle.chip_crew.specs.Finished.{HasFinished, IsFinished, IsClosing, IsStopped, IsFaultOf};
 
-use crate::ending::last_poll;
+use crate::ending::{last_poll, take_back};
 use crate::fault::CrewFault;
 use crate::gathering::{Gathering, gather, new_gathering, note};
 use crate::joining::{Joined, Started, run_workers};
@@ -79,27 +80,33 @@ fn end_play<B: Crew>(net: &Net, joined: Joined, turns: u64) -> Result<Finished, 
     requires net { net.now ≡ B.crew.net }
     requires turns { turns ≡ B.turns }
     requires root { HasPolled B.crew B.feeds B.root B.turns joined.root joined.polls }
+    requires seal { HasSealed B.crew B.seal joined.polls joined.seal }
     requires gathering { IsGathering B.crew joined.gathering }
     ensures passed { IfOk result (λ _. joined.passed ≡ true) }
-    ensures finished { IfOk result (HasFinished B.crew B.feeds B.root) }
-    ensures stopped { IfErr result (IsClosing B.crew B.feeds B.root B.turns joined) }
+    ensures finished { IfOk result (HasFinished B.crew B.feeds B.seal B.root) }
+    ensures stopped { IfErr result (IsClosing B.crew B.feeds B.seal B.root B.turns joined) }
 {
     let Joined {
-        root,
+        mut root,
         polls,
+        seal,
         gathering,
         passed,
     } = joined;
     if !passed {
         return Err(CrewFault::GateShut);
     }
-    let actors = gather::<B>(gathering)?;
+    let mut actors = gather::<B>(gathering)?;
+    take_back(net, &mut root, seal);
     match last_poll(net, root, polls, turns) {
-        Ok((outcome, receipt)) => Ok(Finished {
-            outcome,
-            receipt,
-            actors,
-        }),
+        Ok((outcome, mut receipt)) => {
+            receipt.meet(net, &mut actors);
+            Ok(Finished {
+                outcome,
+                receipt,
+                actors,
+            })
+        }
         Err((deficit, root)) => Err(CrewFault::Unfinished { deficit, root }),
     }
 }
@@ -152,11 +159,11 @@ fn work_all<R: Threads + Wait, B: Crew + Send + Sync, G: Gate + Sync>(
     requires others { (prepared.others.items ≡ []) × (plan.now.workers ≤ vec_capacity prepared.others) }
     requires gathering { IsGathering B.crew prepared.gathering }
     requires turns { plan.now.turns ≡ B.turns }
-    requires lead { IsLead B.crew B.feeds B.root lead }
+    requires lead { IsLead B.crew B.feeds B.seal B.root lead }
     requires some_workers { 0 < plan.now.workers }
-    requires gate { AllTellShut (G.may_shut gate.now) plan.now.workers plan.now.turns B.shut }
-    ensures finished { IfOk result (HasFinished B.crew B.feeds B.root) }
-    ensures stopped { IfErr result (IsStopped B.crew B.feeds B.root B.turns B.shut) }
+    requires gate { AllHeed (G.may_answer gate.now) plan.now.workers plan.now.turns B.passes B.shut }
+    ensures finished { IfOk result (HasFinished B.crew B.feeds B.seal B.root) }
+    ensures stopped { IfErr result (IsStopped B.crew B.feeds B.seal B.root B.turns B.shut) }
 {
     let Prepared {
         queue,
@@ -189,15 +196,15 @@ fn play_on<R: Threads + Wait, B: Crew + Send + Sync, G: Gate + Sync>(
     requires net { opened.net ≡ B.crew.net }
     requires root { (opened.root ≡ B.root) × (opened.root.net ≡ B.crew.net) }
     requires actors { All (IsOurs B.crew) opened.actors.items }
-    requires stopper { IfSome opened.stopper (λ s. s.net ≡ B.crew.net) }
+    requires seal { HasSealed B.crew B.seal 0 (option_zip opened.stopper plan.now.seal) }
     requires feeds { (option_copied feeds ≡ B.feeds) × MayFeedLeft B.root B.feeds }
     requires count { length opened.actors.items ≡ B.crew.net.setting.game.graph.vertices }
     requires some { 0 < B.crew.net.setting.game.graph.vertices }
     requires turns { plan.now.turns ≡ B.turns }
     requires some_workers { 0 < plan.now.workers }
-    requires gate { AllTellShut (G.may_shut gate.now) plan.now.workers plan.now.turns B.shut }
-    ensures finished { IfOk result (HasFinished B.crew B.feeds B.root) }
-    ensures stopped { IfErr result (IsStopped B.crew B.feeds B.root B.turns B.shut) }
+    requires gate { AllHeed (G.may_answer gate.now) plan.now.workers plan.now.turns B.passes B.shut }
+    ensures finished { IfOk result (HasFinished B.crew B.feeds B.seal B.root) }
+    ensures stopped { IfErr result (IsStopped B.crew B.feeds B.seal B.root B.turns B.shut) }
 {
     let Opened {
         net,
@@ -231,7 +238,7 @@ pub fn run_with<R: Threads + Wait, G: Gate + Sync>(
     gate: &G,
 ) -> Result<Finished, CrewFault>
     ensures finished { IfOk result (IsFinished game.now (option_copied feeds.entry) plan) }
-    ensures fault { IfErr result (IsFaultOf game.now (option_copied feeds.entry) plan (G.may_shut gate.now)) }
+    ensures fault { IfErr result (IsFaultOf game.now (option_copied feeds.entry) plan (G.may_answer gate.now)) }
 {
     let ring = plan.ring_for(game, feeds)?;
     let setting = Setting::of_copy(alloc, game, ring, feeds.is_some())?;
@@ -248,7 +255,7 @@ pub fn run<R: Threads + Wait, G: Gate + Sync>(
     gate: &G,
 ) -> Result<Finished, CrewFault>
     ensures finished { IfOk result (IsFinished game.now None plan) }
-    ensures fault { IfErr result (IsFaultOf game.now None plan (G.may_shut gate.now)) }
+    ensures fault { IfErr result (IsFaultOf game.now None plan (G.may_answer gate.now)) }
 {
     run_with(rt, alloc, game, plan, None, gate)
 }
@@ -263,7 +270,7 @@ pub fn run_fed<R: Threads + Wait, G: Gate + Sync>(
     gate: &G,
 ) -> Result<Finished, CrewFault>
     ensures finished { IfOk result (IsFinished game.now (Some feeds.now) plan) }
-    ensures fault { IfErr result (IsFaultOf game.now (Some feeds.now) plan (G.may_shut gate.now)) }
+    ensures fault { IfErr result (IsFaultOf game.now (Some feeds.now) plan (G.may_answer gate.now)) }
 {
     run_with(rt, alloc, game, plan, Some(feeds), gate)
 }

@@ -6,12 +6,14 @@ use crossbeam_queue::{Pass, RuledArrayQueue};
 use std::collections::LinkedList;
 use std::marker::{Brand, PhantomData};
 
-/// Which net's actors a crew shares, the root with which it begins, what it has to feed, how many turns each worker makes
-/// at most, and what is known where a gate was shut. Proofs alone know it.
+/// Which net's actors a crew shares, the root with which it begins, what it has to feed and to seal, how many turns each
+/// worker makes at most, what is known of a turn of a worker that its gate let pass, and what is known where a gate was
+/// shut. Proofs alone know it.
 pub(crate) trait Crew {
-    ghost use Rattle.std.specs.Prelude.{ℕ};
+    ghost use Rattle.std.specs.Prelude.{ℕ, Option};
     ghost use Rattle.chip_crew.specs.Crew.{CrewId};
     ghost use Rattle.chip_crew.specs.Feeding.{Left};
+    ghost use Rattle.chip_crew.specs.declared.plan.SealAt.{SealAt};
     ghost use Rattle.chip_net.specs.Roots.{RootKnown};
 
     ghost crew: { CrewId };
@@ -20,7 +22,11 @@ pub(crate) trait Crew {
 
     ghost feeds: { Left };
 
+    ghost seal: { Option SealAt };
+
     ghost turns: { ℕ };
+
+    ghost passes: { ℕ → ℕ → Type 0 };
 
     ghost shut: { Type 0 };
 }
@@ -36,7 +42,11 @@ impl Crew for Brand {
 
     ghost feeds = { None };
 
+    ghost seal = { None };
+
     ghost turns = { 0 };
+
+    ghost passes = { λ _ _. ⊥ };
 
     ghost shut = { ⊥ };
 }

@@ -4,7 +4,7 @@ ghost use Rattle.std.specs.Prelude.{◌≡◌, IfSome};
 ghost use Rattle.crossbeam_queue.specs.Passes.{view, IsPassOf};
 ghost use Rattle.chip_crew.specs.Crew.{IsOurs};
 ghost use Rattle.chip_crew.specs.Ledger.{IsNext, MakesOneTurn};
-ghost use Rattle.chip_crew.specs.Handed.{TellsShut, IsHanded};
+ghost use Rattle.chip_crew.specs.Handed.{Heeds, IsHanded};
 
 use crate::plan::Gate;
 use crate::queue::{Crew, Puts, Queue, QueuePass, Takes};
@@ -35,6 +35,10 @@ pub(crate) struct Handed {
     pub kept: Option<Actor>,
     /// Whether its gate never answered false.
     pub passed: bool,
+    /// How many turns it made.
+    pub turns: u64,
+    /// Its pass of the queue, which has what it took from there and put there.
+    pub pass: QueuePass,
 }
 
 impl<'a, B: Crew, G: Gate> Shared<'a, B, G> {
@@ -53,8 +57,15 @@ impl<'a, B: Crew, G: Gate> Shared<'a, B, G> {
     }
 
     /// Takes an actor, gives it a turn and puts it back. An actor that was kept has its turn in place of one from the
-    /// queue, and one that can't be put back is kept.
-    pub fn one_turn(&self, pass: &mut QueuePass, kept: Option<Actor>) -> Option<Actor>
+    /// queue, and one that can't be put back is kept. The worker's gate let this turn of it pass.
+    pub fn one_turn(
+        &self,
+        _worker: u64,
+        _turn: u64,
+        pass: &mut QueuePass,
+        kept: Option<Actor>,
+    ) -> Option<Actor>
+        requires passes { B.passes _worker _turn }
         requires net { self.now.net.now ≡ B.crew.net }
         requires pass { IsPassOf self.now.queue.now pass.old }
         requires kept { IfSome kept (IsOurs B.crew) }
@@ -77,24 +88,37 @@ impl<'a, B: Crew, G: Gate> Shared<'a, B, G> {
     /// The turns of a worker other than worker 0, until it is told to stop.
     pub fn work(&self, worker: u64) -> Handed
         requires net { self.now.net.now ≡ B.crew.net }
-        requires gate { TellsShut (G.may_shut self.now.gate.now worker) self.now.turns B.shut }
-        ensures { IsHanded B.crew B.shut result }
+        requires turns { self.now.turns ≡ B.turns }
+        requires gate { Heeds (G.may_answer self.now.gate.now worker) self.now.turns (B.passes worker) B.shut }
+        ensures { IsHanded B.crew (B.passes worker) B.turns B.shut result }
     {
         let mut pass = self.queue.pass();
         let mut kept = None;
         for turn in 0..self.turns {
             if self.stop.load(SeqCst) {
-                break;
+                return Handed {
+                    kept,
+                    passed: true,
+                    turns: turn,
+                    pass,
+                };
             }
             if !self.gate.pass(worker, turn) {
                 self.stop.store(true, SeqCst);
                 return Handed {
                     kept,
                     passed: false,
+                    turns: turn,
+                    pass,
                 };
             }
-            kept = self.one_turn(&mut pass, kept);
+            kept = self.one_turn(worker, turn, &mut pass, kept);
         }
-        Handed { kept, passed: true }
+        Handed {
+            kept,
+            passed: true,
+            turns: self.turns,
+            pass,
+        }
     }
 }

@@ -21,7 +21,7 @@ use Rattle.chip_net.specs.Rule.{Kept, step_of, Stepped, Grows}
 use Rattle.chip_net.specs.Traces.{TraceState, Keeps, row_of, rows_of}
 use Rattle.chip_net.specs.Tokens.{NetId, ActorKnown, IsHand, IsDueFor, MakesStep}
 use Rattle.chip_net.proofs.LayingLemmas.{inside}
-use Rattle.chip_net.proofs.ViewingLemmas.{grown_has}
+use Rattle.chip_net.proofs.ViewingLemmas.{grown_has, alone_there, grown_alone}
 use Rattle.chip_net.proofs.RulingLemmas.{Mine, word_of, left_over, act_word, act_allowed}
 
 -- the rows of one step more
@@ -30,7 +30,7 @@ rows_push [] x = append-nil (row_of x.event x.seen)
 rows_push (y ∷ ys) x = ap (λ (rows : List TraceRow). row_of y.event y.seen ++ rows) (rows_push ys x)
     ∙ sym (append_assoc (row_of y.event y.seen) (rows_of ys) (row_of x.event x.seen))
 
-module _ (i : Inside) (hand : IsHand i.setting.value i.vertex i.seat.me.0 i.trace) (own : ActorKnown)
+module _ (i : Inside) (hand : IsHand i.setting.value i.vertex i.seat.me i.trace) (own : ActorKnown)
     (view_is : the_view i ≡ own) (here : NetId) (net_is : own.net ≡ here) (act : Act) (due : IsDueFor own act) where
   abbrev g : Setting
   g = i.setting.value
@@ -44,6 +44,9 @@ module _ (i : Inside) (hand : IsHand i.setting.value i.vertex i.seat.me.0 i.trac
   abbrev x : Event
   x = event_of v act
 
+  has : Has v view
+  has = alone_there v view hand.alone
+
   due' : IsDueBy g v (part_of_view g v view) act
   due' = subst (λ (k : ActorKnown). IsDueFor k act) (sym view_is) due
 
@@ -56,7 +59,7 @@ module _ (i : Inside) (hand : IsHand i.setting.value i.vertex i.seat.me.0 i.trac
   -- its word is there
   pub word_there : (s : Setting) → s ≡ here.setting → IsWord s (word_of v act)
   word_there s same = subst (λ (h : Setting). IsWord h (word_of v act)) (setting_is s same)
-      (act_word g 0 0 i.seat.me v (did_in v view) hand.has hand.setting hand.inside act due')
+      (act_word g 0 0 i.seat.me v (did_in v view) has hand.setting hand.inside act due')
 
   pub same_table : (z : TableId) → z ≡ here.table → i.seat.table_id ≡ z
   same_table z same = ap (λ (n : NetId). n.table) here_is ∙ sym same
@@ -80,7 +83,7 @@ module _ (i : Inside) (hand : IsHand i.setting.value i.vertex i.seat.me.0 i.trac
         (ap (λ (h : Setting). index_of h (word_of v act)) (setting_is s same)
             ∙ sym at) j,
       ))
-      (act_allowed g slots i.seat.id i.seat.me v (did_in v view) hand.has hand.inside act due')
+      (act_allowed g slots i.seat.id i.seat.me v (did_in v view) has hand.inside act due')
 
   -- ---- what it told
 
@@ -97,11 +100,11 @@ module _ (i : Inside) (hand : IsHand i.setting.value i.vertex i.seat.me.0 i.trac
         ∙ due'.mine)
 
     longer : (did_in v me.0 ≡ did_in v view ++ made ∷ []) × Has v me.0
-    longer = grown_has v made view me.0 hand.has after
+    longer = grown_has v made view me.0 has after
 
     -- it is the part in that log
     in_log : part_of_view g v view ≡ part_in g stepped.log v
-    in_log = ap (part_by g (opened g)) (stepped.agrees v (did_in v view) hand.has) ∙ sym (by_history g stepped.log v)
+    in_log = ap (part_by g (opened g)) (stepped.agrees v (did_in v view) has) ∙ sym (by_history g stepped.log v)
 
     fits : FitsSeen (part_of_view g v view) x (noted x seen)
     fits =
@@ -114,11 +117,12 @@ module _ (i : Inside) (hand : IsHand i.setting.value i.vertex i.seat.me.0 i.trac
 
     module _ (trace : TraceState) (keeps : (all : List TraceRow) → Keeps all i.trace
         → Keeps (all ++ row_of x (noted x seen)) trace) where
-      pub still_hand : IsHand g v me.0 trace
+      pub still_hand : IsHand g v me trace
       still_hand = record {
         setting = hand.setting;
         inside = hand.inside;
-        has = longer.1;
+        alone = grown_alone v made view me.0 hand.alone after;
+        slots = told.2 ∙ hand.slots;
         traced = subst (λ (rows : List TraceRow). Keeps rows trace)
             (sym (ap rows_of longer.0 ∙ rows_push (did_in v view) made)) (keeps (rows_of (did_in v view)) hand.traced);
       }

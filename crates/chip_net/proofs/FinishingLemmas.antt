@@ -4,6 +4,7 @@ use Rattle.std.proofs.Common.{◌≡◌, ℕ, zero, suc, ◌<◌, ◌≤◌, sum
 use Rattle.std.proofs.Common.{get_or, slice_index, Option, Some, None, is_some, Contains, refl, sym, ap, ◌∙◌, subst}
 use Rattle.std.proofs.Common.{arith}
 use Rattle.std.proofs.lemmas.List.{get_or_past, length-map}
+use Rattle.std.proofs.lemmas.List.FromFn.{length-map-range_with_len}
 use Rattle.chip_graph.specs.ChipGame.{ChipGame}
 use Rattle.chip_graph.specs.Limits.{max_total}
 use Rattle.chip_graph.specs.Multigraph.{Multigraph}
@@ -21,7 +22,7 @@ use Rattle.chip_part.specs.declared.cause.Cause.{Cause}
 use Rattle.chip_part.specs.declared.cause.Cause.TheVariants.{SealedEdge, FiringLimit}
 use Rattle.chip_part.specs.Edges.{root}
 use Rattle.chip_part.specs.Part.{Part, opened, is_by_limit, AreGiven}
-use Rattle.chip_core.specs.Core.{Log, part_in, word_of_part, IsLegalLog}
+use Rattle.chip_core.specs.Core.{Log, Step, Read, part_in, word_of_part, IsLegalLog, IsClosed}
 use Rattle.chip_core.specs.Laws.{WordsOf}
 use Rattle.chip_core.specs.Headline.{NoneHalted, NoneHaltedBySeal}
 use Rattle.chip_core.specs.Histories.{done_by, part_by}
@@ -33,9 +34,18 @@ use Rattle.chip_core.proofs.GivenLemmas.{given_is, given_start, given_within, pl
 use Rattle.chip_core.proofs.ClosingLemmas.{all_ended}
 use Rattle.chip_core.proofs.OutcomeLemmas.{never_negative, comes, in_range, is_played}
 use Rattle.chip_net.specs.Roots.{RootKnown, root_part, root_after, fed_by}
-use Rattle.chip_net.specs.Finish.{reads_from, IsReadOut, TallyState, limit_at, seal_at, IsReading, IsOneEnd, Finishes}
+use Rattle.chip_net.specs.Finish.{reads_from, IsReadOut, TallyState, limit_at, seal_at, AreRead, IsReading, IsOneEnd}
+use Rattle.chip_net.specs.Finish.{Finishes}
+use Rattle.chip_net.specs.Meeting.{Together, IsRun}
 use Rattle.chip_net.proofs.ViewingLemmas.{part_append}
-use Rattle.chip_net.proofs.ReadingLemmas.{reads_feed_none, reads_given}
+use Rattle.chip_net.proofs.ReadingLemmas.{reads_feed_none, reads_given, reads_at, done_in_log}
+use Rattle.chip_net.specs.Tokens.{NetId, ActorKnown}
+use Rattle.chip_core.proofs.ReadLemmas.{reads_tell}
+use Rattle.chip_part.specs.Steps.{saw}
+use Rattle.chip_part.specs.Edges.{root_edge}
+use Rattle.chip_part.proofs.EdgeLemmas.{tail_root}
+use Rattle.chip_link.specs.Link.{sent_counts}
+use Rattle.std.proofs.lemmas.List.Elements.{Contains-append_right}
 use Rattle.chip_net.proofs.UnsealedLemmas.{never_sealed}
 
 none_listed : (v : ℕ) → Contains [] v → ⊥
@@ -69,6 +79,34 @@ mapped : (f : ℕ → ℕ) → f 0 ≡ 0 → (xs : List ℕ) (k : ℕ) → get_o
 mapped f zero_is [] k = get_or_past [] k 0 (omega arith) ∙ sym (ap f (get_or_past [] k 0 (omega arith)) ∙ zero_is)
 mapped f zero_is (x ∷ xs) zero = refl
 mapped f zero_is (x ∷ xs) (suc k) = mapped f zero_is xs k
+
+-- what the words of all vertices say of a log is its outcome, where the chips are those by the counts
+module _ (g : Setting) (setting : IsSetting g) (log : Log) (legal : IsLegalLog g log) (words : List ℕ)
+    (count_is : length words ≡ g.game.graph.vertices)
+    (word_at : (v : ℕ) → v < g.game.graph.vertices → get_or words v 0 ≡ word_of_part (part_in g log v)) where
+  say : WordsOf g log
+  say = words_tell g setting.game setting.some_ring log legal
+
+  pub fired_by_words : (fired : List ℕ) → fired ≡ map fired_in words → AreFired g log g.game.graph.vertices fired
+  fired_by_words fired is = record {
+    count_is = ap length is ∙ length-map words fired_in ∙ count_is;
+    each = λ v l. ap (λ (xs : List ℕ). get_or xs v 0) is ∙ mapped fired_in refl words v ∙ ap fired_in (word_at v l)
+        ∙ say.fired v;
+  }
+
+  pub outcome_by_words : (o : Outcome) → AreRead words o.fired.items o.over.items o.sealed.items
+      → IsAfter (played_game g log) o.fired.items o.chips.items → IsOutcomeOf g log o
+  outcome_by_words o are chips = record {
+    fired = fired_by_words o.fired.items are.fired;
+    chips = chips;
+    over = are.over ∙ ap (picked (limit_at words)) count_is
+        ∙ picked_ext (limit_at words) (λ v. is_by_limit (part_in g log v).halt) g.game.graph.vertices
+        (λ v l. ap by_limit_in (word_at v l) ∙ say.by_limit v);
+    sealed = are.sealed ∙ ap (picked (seal_at words)) count_is
+        ∙ picked_ext (seal_at words) (λ v. is_by_seal (part_in g log v).halt) g.game.graph.vertices
+        (λ v l. ap (λ (w : ℕ). halted_in w && not (by_limit_in w)) (word_at v l)
+        ∙ (λ i. say.halted v i && not (say.by_limit v i)) ∙ seal_is (part_in g log v).halt);
+  }
 
 module _ (old now : RootKnown) (setting : IsSetting old.net.setting) (tally : TallyState)
     (reading : IsReading old now tally old.net.setting.game.graph.vertices) (given : List ℕ)
@@ -118,19 +156,13 @@ module _ (old now : RootKnown) (setting : IsSetting old.net.setting) (tally : Ta
   from = sym (given_is h setting.game setting.some_ring out'.log out'.legal)
       ∙ ap (λ (k : ChipGame). slice_index k.start) same_game
 
-  told : WordsOf h out'.log
-  told = words_tell h setting.game setting.some_ring out'.log out'.legal
-
   word_at : (v : ℕ) → v < h.game.graph.vertices → get_or reading.words v 0 ≡ word_of_part (part_in h out'.log v)
   word_at v l = out'.words_are v (let c = reading.count_is in omega arith)
 
   module _ (fired : List ℕ) (fired_is : fired ≡ tally.fired) where
     are_fired : AreFired h out'.log h.game.graph.vertices fired
-    are_fired = record {
-      count_is = ap length (fired_is ∙ reading.tallied.fired) ∙ length-map reading.words fired_in ∙ reading.count_is;
-      each = λ v l. ap (λ (xs : List ℕ). get_or xs v 0) (fired_is ∙ reading.tallied.fired)
-          ∙ mapped fired_in refl reading.words v ∙ ap fired_in (word_at v l) ∙ told.fired v;
-    }
+    are_fired = fired_by_words h setting out'.log out'.legal reading.words reading.count_is word_at fired
+        (fired_is ∙ reading.tallied.fired)
 
     pub none_negative : (v : ℕ) → IsBelowZero game.graph (λ u. get_or game.start u 0) (λ u. get_or fired u 0) v → ⊥
     none_negative v low = never_negative h setting.game setting.some_ring out'.log out'.legal fired are_fired v
@@ -139,18 +171,16 @@ module _ (old now : RootKnown) (setting : IsSetting old.net.setting) (tally : Ta
 
   module _ (o : Outcome) (fired_is : o.fired.items ≡ tally.fired) (over_is : o.over.items ≡ tally.over)
       (sealed_is : o.sealed.items ≡ tally.sealed) (chips : IsAfter game o.fired.items o.chips.items) where
-    outcome_is : IsOutcomeOf h out'.log o
-    outcome_is = record {
-      fired = are_fired o.fired.items fired_is;
-      chips = subst (λ (k : ChipGame). IsAfter k o.fired.items o.chips.items) (sym same_game) chips;
-      over = over_is ∙ reading.tallied.over ∙ ap (picked (limit_at reading.words)) reading.count_is
-          ∙ picked_ext (limit_at reading.words) (λ v. is_by_limit (part_in h out'.log v).halt) h.game.graph.vertices
-          (λ v l. ap by_limit_in (word_at v l) ∙ told.by_limit v);
-      sealed = sealed_is ∙ reading.tallied.sealed ∙ ap (picked (seal_at reading.words)) reading.count_is
-          ∙ picked_ext (seal_at reading.words) (λ v. is_by_seal (part_in h out'.log v).halt) h.game.graph.vertices
-          (λ v l. ap (λ (w : ℕ). halted_in w && not (by_limit_in w)) (word_at v l)
-          ∙ (λ i. told.halted v i && not (told.by_limit v i)) ∙ seal_is (part_in h out'.log v).halt);
+    read : AreRead reading.words o.fired.items o.over.items o.sealed.items
+    read = record {
+      fired = fired_is ∙ reading.tallied.fired;
+      over = over_is ∙ reading.tallied.over;
+      sealed = sealed_is ∙ reading.tallied.sealed;
     }
+
+    outcome_is : IsOutcomeOf h out'.log o
+    outcome_is = outcome_by_words h setting out'.log out'.legal reading.words reading.count_is word_at o read
+        (subst (λ (k : ChipGame). IsAfter k o.fired.items o.chips.items) (sym same_game) chips)
 
     -- where no seal is listed, none halted a vertex
     no_seals : o.sealed.items ≡ [] → NoneHaltedBySeal h out'.log
@@ -196,12 +226,7 @@ module _ (old now : RootKnown) (setting : IsSetting old.net.setting) (tally : Ta
       words = reading.words;
       one_each = reading.count_is;
       record_is = refl;
-      read = record {
-        fired = fired_is ∙ reading.tallied.fired;
-        over = over_is
-            ∙ reading.tallied.over;
-        sealed = sealed_is ∙ reading.tallied.sealed;
-      };
+      read = read;
       chips = chips;
       read_out = out';
       of_log = outcome_is;
@@ -212,3 +237,64 @@ module _ (old now : RootKnown) (setting : IsSetting old.net.setting) (tally : Ta
       one_end = one_end;
       unsealed = unsealed;
     }
+
+-- ---- one log of all tokens
+
+-- what the root did says which game was played
+same_played : (g : Setting) (setting : IsSetting g) (log other : Log) → IsLegalLog g other
+    → part_in g log (root g) ≡ part_in g other (root g) → played_game g other ≡ played_game g log
+same_played g setting log other legal same =
+    let start : List ℕ = (played_game g other).start in
+    let each : AreGiven g (part_in g log (root g)) start = (
+      length-map-range_with_len (started g other) 0 g.game.graph.vertices,
+      λ v l. ap (λ (f : ℕ → ℕ). f v) (given_is g setting.game setting.some_ring other legal)
+          ∙ ap (λ (p : ℕ). sum (sent_counts ((part_in g other p).out (root_edge g v)).link))
+          (tail_root g (root_edge g v) (omega arith))
+          ∙ ap (λ (s : Part). sum (sent_counts (s.out (root_edge g v)).link)) (sym same),
+    ) in
+    λ i. let k : ChipGame = record {
+      graph = g.game.graph;
+      start = given_start g log start each i;
+      limit = g.game.limit;
+    } in k
+
+module _ (old receipt : RootKnown) (o : Outcome) (actors : List ActorKnown) (finishes : Finishes old receipt o)
+    (met : Together receipt actors) where
+  abbrev k : Setting
+  k = receipt.net.setting
+
+  net_is : receipt.net ≡ old.net
+  net_is = ap (λ (r : RootKnown). r.net) finishes.record_is
+
+  vertices_is : length finishes.words ≡ k.game.graph.vertices
+  vertices_is = finishes.one_each ∙ ap (λ (n : NetId). n.setting.game.graph.vertices) (sym net_is)
+
+  -- the reads are in the log, and each tells the word of its vertex there
+  tells : (v : ℕ) → v < k.game.graph.vertices → (v < k.game.graph.vertices) × IsClosed k met.log
+      × (get_or finishes.words v 0 ≡ word_of_part (part_in k met.log v))
+  tells v l = reads_tell k met.setting.game met.setting.some_ring met.log met.legal (saw (Read v) (get_or finishes.words v 0)) v
+      (done_in_log k (root k) met.log (saw (Read v) (get_or finishes.words v 0))
+      (subst (λ (d : List Step). Contains d (saw (Read v) (get_or finishes.words v 0)))
+      (sym (ap (λ (r : RootKnown). r.did) finishes.record_is) ∙ met.agrees.root_did)
+      (Contains-append_right old.did (reads_from 0 finishes.words) (saw (Read v) (get_or finishes.words v 0))
+      (reads_at 0 finishes.words v (omega (arith, vertices_is)) v (omega arith))))) refl
+
+  -- in both logs the root is the same
+  root_same : part_in k met.log (root k) ≡ part_in k finishes.read_out.log (root k)
+  root_same = by_history k met.log (root k)
+      ∙ ap (part_by k (opened k)) (sym met.agrees.root_did ∙ finishes.read_out.agrees.root_did)
+      ∙ sym (by_history k finishes.read_out.log (root k))
+
+  pub one_run : IsRun receipt actors o
+  one_run = record {
+    log = met.log;
+    legal = met.legal;
+    agrees = met.agrees;
+    actors_did = met.actors_did;
+    closed = (tells 0 (met.setting.game.graph_fits.some_vertex)).1;
+    outcome = outcome_by_words k met.setting met.log met.legal finishes.words vertices_is (λ v l. (tells v l).2) o
+        finishes.read (subst (λ (game : ChipGame). IsAfter game o.fired.items o.chips.items)
+        (same_played k met.setting met.log finishes.read_out.log finishes.read_out.legal root_same)
+        (subst (λ (n : NetId). IsAfter (played_game n.setting finishes.read_out.log) o.fired.items o.chips.items)
+        (sym net_is) finishes.of_log.chips));
+  }

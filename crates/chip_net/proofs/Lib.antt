@@ -1,6 +1,7 @@
 pub mod LayingLemmas
 pub mod ViewingLemmas
 pub mod SplittingLemmas
+pub mod MeetingLemmas
 pub mod OpeningLemmas
 pub mod RulingLemmas
 pub mod ActingLemmas

@@ -49,7 +49,7 @@ done_in_log g p (y ∷ log) x at = dite (ℕ_discrete (part_of g y.event) p)
     (subst (λ (l : List Step). Contains l x)
     (cond_no (part_of g y.event) p (done_by g p log ++ y ∷ []) (done_by g p log) other) at)))
 
-reads_at : (v : ℕ) (ws : List ℕ) (k : ℕ) → k < length ws → (u : ℕ) → u ≡ v + k
+pub reads_at : (v : ℕ) (ws : List ℕ) (k : ℕ) → k < length ws → (u : ℕ) → u ≡ v + k
     → Contains (reads_from v ws) (read u (get_or ws k 0))
 reads_at v [] k l u is = absurd (omega arith)
 reads_at v (w ∷ ws) zero l u is = here (read v w) (read u w) (reads_from (suc v) ws)

@@ -1,6 +1,7 @@
 -- Serves Roots.antt, Views.antt.
 -- The root: an event of its own over the net, and a poll of settles.
-use Rattle.std.proofs.Common.{◌≡◌, ℕ, suc, ◌+◌, ◌-◌, ◌<◌, ◌≤◌, Bool, true, false, cond, eqb, List, [], ◌∷◌, ◌++◌, Option, None, refl, sym, ap, ◌∙◌}
+use Rattle.std.proofs.Common.{◌≡◌, ◌≢◌, ℕ, suc, ◌+◌, ◌-◌, ◌<◌, ◌≤◌, Bool, true, false, cond, eqb, List, [], ◌∷◌, ◌++◌, Option}
+use Rattle.std.proofs.Common.{Some, None, refl, sym, ap, ◌∙◌}
 use Rattle.std.proofs.Common.{subst, arith, append_assoc}
 use Rattle.std.proofs.lemmas.List.{map-append}
 use Rattle.std.proofs.lemmas.Bool.{le-leb}
@@ -28,13 +29,14 @@ use Rattle.chip_core.proofs.ShowingLemmas.{word_for}
 use Rattle.chip_net.specs.declared.root_hand.RootHand.TheInside.{Inside}
 use Rattle.chip_net.specs.contracts.root_hand.RootHand.{the_view}
 use Rattle.chip_net.specs.Layout.{index_of, word_count}
-use Rattle.chip_net.specs.Views.{View, find, grown, did_in, Has, part_of_view}
+use Rattle.chip_net.specs.Views.{View, find, grown, did_in, Has, part_of_view, IsAlone, joined, steps_or_none}
 use Rattle.chip_net.specs.Rule.{Kept, step_of, Stepped, Grows}
 use Rattle.chip_net.specs.Roots.{RootKnown, root_after, root_part, IsRoot, IsFeeding, IsDueInView, MakesEvent, Replies}
-use Rattle.chip_net.specs.Roots.{settles_from, DoesMore, HoldsNothing, has_ended, new_root}
+use Rattle.chip_net.specs.Roots.{settles_from, DoesMore, HoldsNothing, has_ended, new_root, with_stopper}
 use Rattle.chip_net.proofs.LayingLemmas.{inside}
 use Rattle.chip_net.specs.Tokens.{NetId}
 use Rattle.chip_net.proofs.ViewingLemmas.{grown_has, grown_part, find_else, part_push, part_append, ended_by}
+use Rattle.chip_net.proofs.ViewingLemmas.{joined_here, joined_else}
 use Rattle.chip_net.proofs.RulingLemmas.{Mine, word_of, left_over, one_exchange, event_room, event_allowed}
 
 -- the root sends on the root edges
@@ -334,7 +336,7 @@ module _ (g : Setting) (me : Mine) (x : Event) (act : operation.Act) (due : IsDu
       let told : Grows key x me ≡ (λ n. Grows key x me value) =
       (λ j n after. let step : step_of x n ≡ step_of x value =
       (λ k. saw x ((noted_here n ∙ zero n ∙ sym (noted_here value ∙ zero value)) k)) in
-      ((after.0 ≡ grown (part_of key x) (step j) me.0) × Stepped key (step j) me.0)) in
+      ((after.0 ≡ grown (part_of key x) (step j) me.0) × Stepped key (step j) me.0 × (after.1 ≡ me.1))) in
       subst (λ (f : ℕ → Mine → Type 0). Allows (Kept key) slots id me word (left_over act) f) told
       (feeding_rule key same slots id word at)
 
@@ -430,3 +432,47 @@ stays_over old now events more on = ap has_ended more.record_is
 pub over_by_end : (old now : RootKnown) (seen : ℕ) → MakesEvent old now End seen → has_ended now ≡ true
 over_by_end old now seen made = ap has_ended made.record_is
     ∙ ap (λ (s : Part). s.ended) (root_step old (saw End seen))
+
+-- ---- the stopper's part comes back
+
+module _ (i : Inside) (keeps : IsRoot i.setting.value i.seat.me.0 i.state) (view : View)
+    (alone_is : IsAlone (stopper i.setting.value) view) where
+  own_part : stopper i.setting.value ≢ root i.setting.value
+  own_part e = omega arith
+
+  root_still : find (root i.setting.value) (joined i.seat.me.0 view).parts
+      ≡ find (root i.setting.value) i.seat.me.0.parts
+  root_still = joined_else (stopper i.setting.value) (root i.setting.value) i.seat.me.0 view alone_is own_part
+
+  pub takes_back : IsRoot i.setting.value (joined i.seat.me.0 view) i.state
+  takes_back =
+      let g : Setting = i.setting.value in
+      let same : did_in (root g) i.seat.me.0 ≡ did_in (root g) (joined i.seat.me.0 view) =
+      sym (ap steps_or_none root_still) in record {
+        setting = keeps.setting;
+        has = root_still ∙ keeps.has ∙ ap Some same;
+        stands = subst (λ (did : List Step). RootStandsFor g (part_by g (opened g) did) i.state) same keeps.stands;
+        log = keeps.log;
+        legal = keeps.legal;
+        in_log = sym same ∙ keeps.in_log;
+      }
+
+  pub has_both : (old : RootKnown) → the_view i ≡ old → (table : TableId) → table ≡ i.seat.table_id
+      → (did : List Step) → did ≡ did_in (stopper i.setting.value) view → (after : View)
+      → after ≡ joined i.seat.me.0 view
+      → record {
+        net = record { table = table; setting = i.setting.value };
+        did = did_in (root i.setting.value) after;
+        stopper_did = find (stopper i.setting.value) after.parts;
+      } ≡ with_stopper old did
+  has_both old view_is table table_is did did_is after after_is =
+      let g : Setting = i.setting.value in
+      let first : did_in (root g) after ≡ did_in (root g) i.seat.me.0 = ap (did_in (root g)) after_is
+      ∙ ap steps_or_none root_still in
+      let second : find (stopper g) after.parts ≡ Some did = ap (λ (v : View). find (stopper g) v.parts) after_is
+      ∙ joined_here (stopper g) i.seat.me.0 view alone_is ∙ ap Some (sym did_is) in
+      (λ j. record {
+        net = record { table = table_is j; setting = g };
+        did = first j;
+        stopper_did = second j;
+      }) ∙ ap (λ (r : RootKnown). with_stopper r did) view_is

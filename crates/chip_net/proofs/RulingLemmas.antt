@@ -154,6 +154,7 @@ module _ (g : Setting) (slots id : ℕ) (me : Mine) (x : Event) (did : List Step
             legal = (kept.legal, (may, found));
             agrees = λ r d found. (kept.each_part id me.0 at r d found).1;
           },
+          refl,
         ),
       )
 

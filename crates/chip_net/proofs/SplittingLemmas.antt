@@ -1,5 +1,5 @@
 -- Serves Views.antt.
--- A part that is handed on stands in the new view alone.
+-- A part that is handed on stands in the new view alone, and one that is taken back in the view that took it.
 use Rattle.std.proofs.Common.{◌≡◌, ◌≢◌, ◌⊎◌, ℕ, zero, suc, eqb, List, [], ◌∷◌, ◌++◌, length, set, Option, Some, refl}
 use Rattle.std.proofs.Common.{sym, ap, ◌∙◌, subst, ⊎_elim, inl, inr}
 use mathlib.Core.Logic.{dite}
@@ -7,15 +7,16 @@ use mathlib.Core.Bool.{cond}
 use mathlib.Core.Option.{some, some-injective, some-ne-none}
 use native.Mathlib.Decide.{ℕ_discrete}
 use lib.ListN.{get_elem?}
-use Rattle.atomic_table.specs.Table.{Splits}
+use Rattle.atomic_table.specs.Table.{Splits, Joins}
 use Rattle.atomic_table.proofs.Lists.{at_set, at_longer, at_last, set_else}
 use Rattle.chip_graph.proofs.SumLemmas.{cond_yes, cond_no}
 use Rattle.chip_core.specs.Core.{Step}
 use Rattle.chip_core.specs.Histories.{done_by}
 use Rattle.chip_part.specs.Setting.{Setting}
-use Rattle.chip_net.specs.Views.{View, find, drop_part, only, without, alone}
+use Rattle.chip_net.specs.Views.{View, find, did_in, drop_part, only, without, alone, IsAlone, joined, no_parts}
 use Rattle.chip_net.specs.Rule.{Kept}
-use Rattle.chip_net.proofs.ViewingLemmas.{none_some, set_there, dropped_here, dropped_else, only_finds}
+use Rattle.chip_net.proofs.ViewingLemmas.{none_some, some_is, set_there, dropped_here, dropped_else, only_finds}
+use Rattle.chip_net.proofs.ViewingLemmas.{alone_there, alone_else, joined_here, joined_else}
 
 at_end : {A : Type 0} (l : List A) (a b : A) (j : ℕ) → get_elem? (l ++ a ∷ []) j ≡ some b
     → (get_elem? l j ≡ some b) ⊎ ((j ≡ length l) × (a ≡ b))
@@ -81,3 +82,68 @@ hands_on g id p v did has s kept at = record {
   shown = kept.shown;
   legal = kept.legal;
 }
+
+pub takes_in : (g : Setting) (id other p : ℕ) (v w : View) → IsAlone p w
+    → Joins (Kept g) id v other w (joined v w) no_parts
+takes_in g id other p v w alone_is s kept at apart there =
+    let both : View = joined v w in
+    let between : List View = set s.views id both in
+    let at_other : get_elem? s.views other ≡ some w = sym (set_else s.views id other both apart) ∙ there in
+    let mine = kept.each_part other w at_other p (did_in p w) (alone_there p w alone_is) in
+    record {
+      log = kept.log;
+      owner = λ q. cond (eqb q p) id (kept.owner q);
+      setting = kept.setting;
+      wide = kept.wide;
+      each_part = λ j u here q d found. ⊎_elim
+          (λ (z : (j ≡ other) × (no_parts ≡ u)).
+          absurd (none_some d (subst (λ (x : View). find q x.parts ≡ Some d) (sym z.1) found)))
+          (λ (y : (j ≢ other) × (get_elem? between j ≡ some u)). ⊎_elim
+          (λ (z : (j ≡ id) × (both ≡ u)).
+          let now : find q both.parts ≡ Some d = subst (λ (x : View). find q x.parts ≡ Some d) (sym z.1) found in
+          dite (ℕ_discrete q p)
+          (λ e.
+          let whole : did_in p w ≡ d = some_is (did_in p w) d (sym (joined_here p v w alone_is)
+          ∙ subst (λ (n : ℕ). find n both.parts ≡ Some d) e now) in
+          (cond_yes q p _ _ e ∙ sym z.0, sym whole ∙ mine.1 ∙ ap (λ (n : ℕ). done_by g n kept.log) (sym e)))
+          (λ ne.
+          let was = kept.each_part id v at q d (sym (joined_else p q v w alone_is (λ e. ne (sym e))) ∙ now) in
+          (cond_no q p _ _ ne ∙ was.0 ∙ sym z.0, was.1)))
+          (λ (z : (j ≢ id) × (get_elem? s.views j ≡ some u)).
+          let was = kept.each_part j u z.1 q d found in
+          let ne : q ≢ p = λ e. y.0 (sym was.0 ∙ ap kept.owner e ∙ mine.0) in
+          (cond_no q p _ _ ne ∙ was.0, was.1))
+          (at_set s.views id j both u y.1))
+          (at_set between other j no_parts u here);
+      there = λ q l.
+          let old = kept.there q l in
+          let now : List View = set between other no_parts in
+          let here : get_elem? now id ≡ some both = set_else between other id no_parts (λ e. apart (sym e))
+          ∙ set_there s.views id v both at in
+          dite (ℕ_discrete q p)
+          (λ e. (
+            both,
+            ap (get_elem? now) (cond_yes q p _ _ e) ∙ here,
+            ap (λ (n : ℕ). find n both.parts) e ∙ joined_here p v w alone_is ∙ ap Some mine.1
+                ∙ ap (λ (n : ℕ). Some (done_by g n kept.log)) (sym e),
+          ))
+          (λ ne. dite (ℕ_discrete (kept.owner q) id)
+          (λ own.
+          let same : v ≡ old.0 = some-injective _ _ (sym at ∙ ap (get_elem? s.views) (sym own) ∙ old.1) in (
+            both,
+            ap (get_elem? now) (cond_no q p _ _ ne ∙ own) ∙ here,
+            joined_else p q v w alone_is (λ e. ne (sym e)) ∙ ap (λ (u : View). find q u.parts) same ∙ old.2,
+          ))
+          (λ not_own.
+          let elsewhere : kept.owner q ≢ other = λ e.
+          none_some (done_by g q kept.log) (sym (alone_else p q w alone_is (λ z. ne (sym z)))
+          ∙ ap (λ (u : View). find q u.parts)
+          (some-injective _ _ (sym at_other ∙ ap (get_elem? s.views) (sym e) ∙ old.1)) ∙ old.2) in (
+            old.0,
+            ap (get_elem? now) (cond_no q p _ _ ne) ∙ set_else between other (kept.owner q) no_parts elsewhere
+                ∙ set_else s.views id (kept.owner q) both not_own ∙ old.1,
+            old.2,
+          )));
+      shown = kept.shown;
+      legal = kept.legal;
+    }

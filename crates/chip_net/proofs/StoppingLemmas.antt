@@ -22,10 +22,10 @@ use Rattle.chip_core.proofs.NumberLemmas.{claims_most}
 use Rattle.chip_net.specs.declared.stopper.Stopper.TheInside.{Inside}
 use Rattle.chip_net.specs.declared.stopper.SealedAt.{SealedAt}
 use Rattle.chip_net.specs.contracts.stopper.Stopper.{the_view}
-use Rattle.chip_net.specs.Views.{grown, did_in, Has, part_of_view}
+use Rattle.chip_net.specs.Views.{grown, did_in, Has, part_of_view, IsAlone}
 use Rattle.chip_net.specs.Rule.{Kept, Stepped, Grows}
 use Rattle.chip_net.specs.Roots.{StopperKnown, Seals}
-use Rattle.chip_net.proofs.ViewingLemmas.{grown_has, grown_part}
+use Rattle.chip_net.proofs.ViewingLemmas.{grown_has, grown_part, alone_there, grown_alone}
 use Rattle.chip_net.proofs.RulingLemmas.{Mine, event_allowed}
 
 not_some : (o : Option ℕ) → not (is_some o) ≡ is_none o
@@ -38,13 +38,16 @@ first_word : (n word : ℕ) (stop : Option ℕ) → IsSealedAt n stop → word �
 first_word n word None at is claims = ap Some (let z : word ≡ claims_in word = omega arith in z)
 first_word n word (Some first) at is claims = ap Some (at ∙ sym claims)
 
-module _ (i : Inside) (has : Has (stopper i.setting.value) i.seat.me.0) (setting : IsSetting i.setting.value) (edge : ℕ)
-    (inside : edge < graph_edges i.setting.value) where
+module _ (i : Inside) (keeps : IsAlone (stopper i.setting.value) i.seat.me.0 × (i.seat.me.1 ≡ []))
+    (setting : IsSetting i.setting.value) (edge : ℕ) (inside : edge < graph_edges i.setting.value) where
   abbrev g : Setting
   g = i.setting.value
 
   abbrev s : Part
   s = part_of_view g (stopper g) i.seat.me.0
+
+  has : Has (stopper g) i.seat.me.0
+  has = alone_there (stopper g) i.seat.me.0 keeps.0
 
   pub seal_rule : (key : Setting) → key ≡ g → (slots word : ℕ) → word ≡ edge
       → Allows (Kept key) slots i.seat.id i.seat.me word (λ n. bit_or n (2 ^ 63)) (Grows key (Seal edge) i.seat.me)
@@ -65,8 +68,8 @@ module _ (i : Inside) (has : Has (stopper i.setting.value) i.seat.me.0) (setting
     longer : (did_in (stopper g) after.0 ≡ did_in (stopper g) i.seat.me.0 ++ x ∷ []) × Has (stopper g) after.0
     longer = grown_has (stopper g) x i.seat.me.0 after.0 has grew
 
-    pub still_stopper : Has (stopper g) after.0
-    still_stopper = longer.1
+    pub still_stopper : IsAlone (stopper g) after.0 × (after.1 ≡ [])
+    still_stopper = (grown_alone (stopper g) x i.seat.me.0 after.0 keeps.0 grew, told.2 ∙ keeps.1)
 
     -- it is the part in that log
     in_log : s ≡ part_in g stepped.log (stopper g)

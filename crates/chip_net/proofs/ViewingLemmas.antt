@@ -15,7 +15,7 @@ use Rattle.chip_part.proofs.PartLemmas.{stays_ended}
 use Rattle.chip_core.specs.Core.{Step, Part, opened, does}
 use Rattle.chip_core.specs.Histories.{part_by}
 use Rattle.chip_net.specs.Views.{History, View, find, grow, grown, steps_or_none, did_in, Has, part_of_view, drop_part}
-use Rattle.chip_net.specs.Views.{only, alone, parts_below}
+use Rattle.chip_net.specs.Views.{only, alone, parts_below, IsAlone, joined}
 
 pub some_is : (a b : List Step) → Some a ≡ Some b → a ≡ b
 some_is a b e = cc
@@ -108,6 +108,40 @@ only_finds p q (Some did) d e = dite (ℕ_discrete p q) (λ same. (same, sym (co
 
 pub alone_has : (p : ℕ) (v : View) (did : List Step) → find p v.parts ≡ Some did → find p (alone p v).parts ≡ Some did
 alone_has p v did has = ap (λ (o : Option (List Step)). find p (only p o)) has ∙ cond_yes p p (Some did) None refl
+
+-- ---- a part that stands alone
+
+pub alone_there : (p : ℕ) (v : View) → IsAlone p v → Has p v
+alone_there p v is = ap (find p) is ∙ cond_yes p p (Some (did_in p v)) None refl
+
+pub alone_else : (p q : ℕ) (v : View) → IsAlone p v → p ≢ q → find q v.parts ≡ None
+alone_else p q v is other = ap (find q) is ∙ cond_no p q (Some (did_in p v)) None other
+
+pub alone_by : (p : ℕ) (v : View) (did : List Step) → v.parts ≡ record { part = p; did = did } ∷ [] → IsAlone p v
+alone_by p v did is =
+    let found : find p v.parts ≡ Some did = ap (find p) is ∙ cond_yes p p (Some did) None refl in
+    is ∙ ap (λ (d : List Step). record { part = p; did = d } ∷ []) (sym (ap steps_or_none found))
+
+pub did_alone : (p : ℕ) (v : View) (did : List Step) → v.parts ≡ record { part = p; did = did } ∷ [] → did ≡ did_in p v
+did_alone p v did is = sym (ap steps_or_none (ap (find p) is ∙ cond_yes p p (Some did) None refl))
+
+pub handed_alone : (p : ℕ) (v : View) (did : List Step) → find p v.parts ≡ Some did → IsAlone p (alone p v)
+handed_alone p v did has = alone_by p (alone p v) did (ap (only p) has)
+
+pub grown_alone : (p : ℕ) (x : Step) (v w : View) → IsAlone p v → w ≡ grown p x v → IsAlone p w
+grown_alone p x v w alone is = alone_by p w (did_in p v ++ x ∷ []) (ap (λ (u : View). u.parts) is
+    ∙ ap (grow p x) alone
+    ∙ ap (λ (d : List Step). record { part = p; did = d } ∷ [])
+    (cond_yes p p (did_in p v ++ x ∷ []) (did_in p v) refl))
+
+-- what a view finds that took in such a part
+pub joined_here : (p : ℕ) (v w : View) → IsAlone p w → find p (joined v w).parts ≡ Some (did_in p w)
+joined_here p v w is = ap (λ (l : List History). find p (l ++ v.parts)) is
+    ∙ cond_yes p p (Some (did_in p w)) (find p v.parts) refl
+
+pub joined_else : (p q : ℕ) (v w : View) → IsAlone p w → p ≢ q → find q (joined v w).parts ≡ find q v.parts
+joined_else p q v w is other = ap (λ (l : List History). find q (l ++ v.parts)) is
+    ∙ cond_no p q (Some (did_in p w)) (find q v.parts) other
 
 -- ---- the opening
 

@@ -9,3 +9,4 @@ pub mod Opened
 pub mod Finish
 pub mod Laws
 pub mod Worked
+pub mod Meeting

@@ -21,10 +21,10 @@ use Rattle.chip_core.specs.Positions.{fed_in}
 use Rattle.chip_core.specs.Words.{noted}
 use Rattle.chip_net.specs.Views.{View, Has, did_in, part_of_view}
 use Rattle.chip_net.specs.Tokens.{NetId}
-use Rattle.chip_net.specs.declared.root.FeedFault.{FeedFault}
-use Rattle.chip_net.specs.declared.root.FeedFault.TheVariants.{Ended, Total, Full}
-use Rattle.chip_net.specs.declared.root.RootState.{RootState}
-use Rattle.chip_net.specs.declared.root.RootState.TheVariants.{Closed, Running}
+use Rattle.chip_net.specs.declared.poll.FeedFault.{FeedFault}
+use Rattle.chip_net.specs.declared.poll.FeedFault.TheVariants.{Ended, Total, Full}
+use Rattle.chip_net.specs.declared.poll.RootState.{RootState}
+use Rattle.chip_net.specs.declared.poll.RootState.TheVariants.{Closed, Running}
 use Rattle.chip_net.specs.declared.stopper.SealedAt.{SealedAt}
 
 -- the root: its net, all that it did, and what the stopper did, where the root holds that part too
@@ -64,6 +64,10 @@ sent_to r vertex = claims_of ((root_part r).out (root_edge r.net.setting vertex)
 -- the root of a net that opens
 abbrev pub new_root : NetId → Option (List Step) → RootKnown
 new_root net stopper_did = record { net = net; did = []; stopper_did = stopper_did }
+
+-- it has the stopper's part, which did this
+abbrev pub with_stopper : RootKnown → List Step → RootKnown
+with_stopper r steps = record { net = r.net; did = r.did; stopper_did = Some steps }
 
 -- it did these steps more
 abbrev pub root_after : RootKnown → List Step → RootKnown

@@ -44,10 +44,21 @@ pub record Stepped (g : Setting) (x : Step) (v : View) : Type 0 where
   pub legal : IsLegalLog g (x ∷ log)
   pub agrees : AgreesWithLog g log v
 
--- what a step tells: the part that acts did this more, and the core makes the event there
+-- what a step tells: the part that acts did this more, the core makes the event there, and no slot was taken
 abbrev pub Grows : Setting → Event → Me (Unit {0}) View → ℕ → Me (Unit {0}) View → Type 0
 Grows g x before seen after = (after.0 ≡ grown (part_of g x) (step_of x seen) before.0)
     × Stepped g (step_of x seen) before.0
+    × (after.1 ≡ before.1)
+
+-- in some legal log the parts of the view did what they did
+pub record Looked (g : Setting) (v : View) : Type 0 where
+  pub log : Log
+  pub legal : IsLegalLog g log
+  pub agrees : AgreesWithLog g log v
+
+-- what a look tells, which changes nothing
+abbrev pub Looks : Setting → Me (Unit {0}) View → ℕ → Me (Unit {0}) View → Type 0
+Looks g before seen after = (after ≡ before) × Looked g before.0
 
 -- what no net is opened for
 abbrev pub no_setting : Setting

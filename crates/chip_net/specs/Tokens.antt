@@ -2,6 +2,7 @@
 use Rattle.std.specs.Prelude.{◌≡◌, ◌⊎◌, ℕ, ◌<◌, ◌≤◌, true, false, List, [], ◌∷◌, ◌++◌, length, reverse}
 use Rattle.std.specs.Prelude.{Option, Some, None}
 use Rattle.atomic_table.specs.Seated.{TableId}
+use Rattle.atomic_table.specs.Table.{Me}
 use Rattle.chip_part.specs.Setting.{Setting, IsSetting}
 use Rattle.chip_part.specs.declared.act.Act.{Act}
 use Rattle.chip_actor.specs.Actor.{Actor, StandsFor}
@@ -14,7 +15,7 @@ use Rattle.chip_actor.specs.Medium.{IsDueBy}
 use Rattle.chip_core.specs.Core.{Step, Part, opened}
 use Rattle.chip_core.specs.Histories.{part_by}
 use Rattle.chip_net.specs.Rule.{no_setting}
-use Rattle.chip_net.specs.Views.{View, Has, did_in}
+use Rattle.chip_net.specs.Views.{View, IsAlone, did_in}
 use Rattle.chip_net.specs.Traces.{TraceState, Keeps, rows_of}
 use Rattle.chip_net.specs.declared.actor.Turn.{Turn}
 use Rattle.chip_net.specs.declared.actor.Turn.TheVariants.{Worked, Waiting, Idle}
@@ -68,12 +69,13 @@ abbrev pub IsActor : Actor → Option ActorKnown → Type 0
 IsActor a None = ⊥
 IsActor a (Some known) = (a.vertex ≡ known.vertex) × StandsFor known.net.setting (part_known known) a
 
--- the view of a vertex of this game, with a trace of what it did
-pub record IsHand (g : Setting) (v : ℕ) (view : View) (trace : TraceState) : Type 0 where
+-- what a seat knows that has the part of a vertex of this game and no other, with a trace of what the vertex did
+pub record IsHand (g : Setting) (v : ℕ) (me : Me (Unit {0}) View) (trace : TraceState) : Type 0 where
   pub setting : IsSetting g
   pub inside : v < g.game.graph.vertices
-  pub has : Has v view
-  pub traced : Keeps (rows_of (did_in v view)) trace
+  pub alone : IsAlone v me.0
+  pub slots : me.1 ≡ []
+  pub traced : Keeps (rows_of (did_in v me.0)) trace
 
 -- one operation was made and saw this
 pub record MakesStep (old new : ActorKnown) (act : Act) (seen : ℕ) : Type 0 where

@@ -21,10 +21,6 @@ pub record TraceState : Type 0 where
   pub room : ℕ
   pub cut : Bool
 
--- a trace with nothing in it
-abbrev pub blank_trace : ℕ → TraceState
-blank_trace room = record { rows = []; room = room; cut = nat_lt room 0 }
-
 -- of all these rows the trace has those for which it has room, and it is cut where a row was lost
 pub record Keeps (all : List TraceRow) (t : TraceState) : Type 0 where
   pub rows : t.rows ≡ take t.room all

@@ -51,6 +51,18 @@ only p (Some did) = record { part = p; did = did } ∷ []
 abbrev pub alone : ℕ → View → View
 alone p v = record { parts = only p (find p v.parts) }
 
+-- the part stands there, and no other does
+abbrev pub IsAlone : ℕ → View → Type 0
+IsAlone p v = v.parts ≡ record { part = p; did = did_in p v } ∷ []
+
+-- the parts of another view are taken in
+abbrev pub joined : View → View → View
+joined v w = record { parts = w.parts ++ v.parts }
+
+-- a view without parts
+abbrev pub no_parts : View
+no_parts = record { parts = [] }
+
 -- the parts below n, none of which did anything yet
 abbrev pub parts_below : ℕ → List History
 parts_below zero = []

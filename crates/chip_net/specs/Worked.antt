@@ -8,7 +8,7 @@ use Rattle.chip_core.specs.Core.{Take, Ack, Fire, Clear, Put, Settle, Read, Feed
 use Rattle.chip_core.specs.Positions.{fed_in}
 use Rattle.chip_core.specs.Words.{of_edge, of_acks, of_cell, of_vertex}
 use Rattle.chip_net.specs.Layout.{index_of, word_count}
-use Rattle.chip_net.specs.Views.{View, find, grown, without, alone}
+use Rattle.chip_net.specs.Views.{View, find, grown, without, alone, joined}
 use Rattle.chip_net.specs.Opening.{first_value}
 use Rattle.chip_net.specs.Traces.{rows_of}
 use Rattle.chip_net.specs.Roots.{root_settles, settles_from, feed_steps}
@@ -32,7 +32,7 @@ TriangleOpens =
     × (first_value two_cells 7 (of_cell 4 1) ≡ 0)
     × (first_value two_cells 7 (of_edge 5) ≡ 0) × (first_value two_cells 7 (of_vertex 0) ≡ 0)
 
--- a view of two parts: one of them acts, and is handed on
+-- a view of two parts: one of them acts, is handed on, and comes back
 abbrev pub two_parts : View
 two_parts = record { parts = record { part = 1; did = [] } ∷ record { part = 0; did = saw (Take 4) 4 ∷ [] } ∷ [] }
 
@@ -42,6 +42,8 @@ PartHandedOn =
     × (find 1 (grown 0 (saw (Fire 0 2) 0) two_parts).parts ≡ Some [])
     × (find 0 (without 0 two_parts).parts ≡ None) × (find 1 (without 0 two_parts).parts ≡ Some [])
     × (find 0 (alone 0 two_parts).parts ≡ Some (saw (Take 4) 4 ∷ [])) × (find 1 (alone 0 two_parts).parts ≡ None)
+    × (find 0 (joined (without 0 two_parts) (alone 0 two_parts)).parts ≡ Some (saw (Take 4) 4 ∷ []))
+    × (find 1 (joined (without 0 two_parts) (alone 0 two_parts)).parts ≡ Some [])
 
 -- an empty cell and an acknowledgement make no row
 abbrev pub RowsOfATurn : Type 0

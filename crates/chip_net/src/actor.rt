@@ -1,12 +1,16 @@
-ghost use Rattle.std.specs.Prelude.{◌≡◌, ◌<◌, nat_lt, length, take, IfOk};
+ghost use Rattle.std.specs.Prelude.{◌≡◌, ℕ, ◌<◌, ◌≤◌, nat_lt, length, take, IfOk};
+ghost use Rattle.std.specs.Vec.{vec_capacity};
 ghost use Rattle.chip_actor.specs.Actor.{StandsFor};
 ghost use Rattle.chip_part.specs.Part.{opened};
 ghost use Rattle.chip_net.specs.Traces.{rows_of};
 ghost use Rattle.chip_net.specs.Tokens.{ActorKnown, part_known, MakesTurn, MakesTurnBy};
+ghost use Rattle.chip_net.specs.Views.{find};
+ghost use Rattle.chip_net.specs.Meeting.{AreInPlace, Met};
 
 use crate::hand::Hand;
 use crate::net::Net;
 use crate::net_words::{NetWords, Turning};
+use crate::rule::PartSeat;
 use chip_actor::ActorState;
 use chip_link::TraceRow;
 use std::alloc::{AllocError, Global};
@@ -125,6 +129,33 @@ impl Actor {
         };
         (hand.rows(), hand.is_cut())
     }
+}
+
+/// The seats of all these actors come into one, which then looks at the words, and each gets its own back. So all that
+/// they did, and what the seat did, stands in one log. Nothing is taken from memory: an actor is held while the others meet.
+pub(crate) fn meet(net: &Net, seat: &mut PartSeat, actors: &mut Vec<Actor>)
+    requires seat { seat.old.table_id ≡ net.now.table }
+    requires actors { AreInPlace net.now actors.old.items }
+    ensures seat { seat.new.table_id ≡ seat.old.table_id }
+    ensures others { (p : ℕ) → length actors.old.items ≤ p → find p seat.new.me.0.parts ≡ find p seat.old.me.0.parts }
+    ensures actors { actors.new.items ≡ actors.old.items }
+    ensures capacity { vec_capacity actors.new ≡ vec_capacity actors.old }
+    ensures met { Met net.now.setting seat.old.me.0 actors.old.items }
+{
+    let Some(mut actor) = actors.pop() else {
+        net.look(seat);
+        return;
+    };
+    let owned: &mut Owned = &mut actor.owned;
+    let Some(hand) = owned.hand.take() else {
+        unreachable!()
+    };
+    let (own, rest) = hand.into_seat();
+    net.take_in(seat, own);
+    meet(net, seat, actors);
+    let own = net.take_out(seat, rest.vertex);
+    owned.hand = Some(rest.with_seat(own));
+    actors.push_reserved(actor);
 }
 
 /// A whole turn over the words of the net; how many of its steps count.

@@ -1,11 +1,11 @@
 //! The operations on the shared words, each with the event that it makes, which serves the proofs of the callers alone.
-ghost use Rattle.std.specs.Prelude.{◌≡◌, [], ◌<◌, ◌+◌, ◌%◌, ◌==◌, ◌^◌, bit_or};
+ghost use Rattle.std.specs.Prelude.{◌≡◌, ℕ, [], ◌<◌, ◌+◌, ◌%◌, ◌==◌, ◌^◌, bit_or};
 ghost use prog.Atomic.{either};
-ghost use Rattle.atomic_table.specs.Table.{Allows, Splits};
-ghost use Rattle.chip_net.specs.Rule.{Kept, Grows};
-ghost use Rattle.chip_net.specs.Views.{without, alone};
+ghost use Rattle.atomic_table.specs.Table.{Allows, Splits, Joins};
+ghost use Rattle.chip_net.specs.Rule.{Kept, Grows, Looks};
+ghost use Rattle.chip_net.specs.Views.{without, alone, joined, no_parts};
 
-use crate::rule::{Grow, HandOn, Handing, Making, PartSeat, Words};
+use crate::rule::{Grow, HandOn, Handing, Look, Looking, Making, PartSeat, TakeIn, Words};
 use chip_link::Event;
 
 /// Loads a word.
@@ -113,7 +113,30 @@ pub(crate) fn hand_on<J: Handing>(table: &Words, seat: &mut PartSeat, _part: u64
     requires rule { Splits (Kept table.now.shared.key.value) seat.old.id seat.old.me.0
         (without J.part seat.old.me.0) (alone J.part seat.old.me.0) }
     ensures kept { (seat.new.table_id ≡ seat.old.table_id) × (seat.new.me.0 ≡ without J.part seat.old.me.0) }
-    ensures given { (result.table_id ≡ seat.old.table_id) × (result.me.0 ≡ alone J.part seat.old.me.0) }
+    ensures given { (result.table_id ≡ seat.old.table_id) × (result.me ≡ (alone J.part seat.old.me.0, [])) }
 {
     table.shared.split_seat::<HandOn<J>>(seat)
+}
+
+/// The parts of another seat come to this one.
+pub(crate) fn take_in(table: &Words, seat: &mut PartSeat, other: PartSeat)
+    requires place { (seat.old.table_id ≡ table.now.shared.table_id) × (0 < table.now.shared.table_id.words) }
+    requires other { (other.table_id ≡ table.now.shared.table_id) × (other.me.1 ≡ []) }
+    requires rule { Joins (Kept table.now.shared.key.value) seat.old.id seat.old.me.0 other.id other.me.0
+        (joined seat.old.me.0 other.me.0) no_parts }
+    ensures same { seat.new.table_id ≡ seat.old.table_id }
+    ensures joined { seat.new.me ≡ (joined seat.old.me.0 other.me.0, seat.old.me.1) }
+{
+    table.shared.join_seat::<TakeIn>(seat, other);
+}
+
+/// A look at the first word.
+pub(crate) fn look<J: Looking>(table: &Words, seat: &mut PartSeat)
+    requires place { (seat.old.table_id ≡ table.now.shared.table_id) × (0 < table.now.shared.table_id.words) }
+    requires rule { Allows (Kept table.now.shared.key.value) table.now.shared.table_id.slots seat.old.id seat.old.me
+        0 (λ n. n) (Looks J.setting seat.old.me) }
+    ensures same { seat.new.table_id ≡ seat.old.table_id }
+    ensures told { (n : ℕ) × Looks J.setting seat.old.me n seat.new.me }
+{
+    let _ = table.shared.load::<Look<J>>(seat, 0);
 }

@@ -35,13 +35,53 @@ impl Model for Hand {
       did = did_in a.vertex a.seat.me.0;
     } };
 
-    ghost invariant = { λ a. IsHand a.setting.value a.vertex a.seat.me.0 a.trace };
+    ghost invariant = { λ a. IsHand a.setting.value a.vertex a.seat.me a.trace };
+}
+
+/// A hand without its seat.
+#[derive(Drop)]
+pub(crate) struct Seatless {
+    /// The vertex.
+    pub(crate) vertex: u64,
+    setting: Snapshot<Setting>,
+    trace: Trace,
+}
+
+impl Seatless {
+    ghost use Rattle.chip_part.specs.Setting.{IsSetting};
+    ghost use Rattle.chip_net.specs.Views.{did_in, IsAlone};
+    ghost use Rattle.chip_net.specs.Traces.{Keeps, rows_of};
+
+    /// The hand with this seat.
+    pub(crate) fn with_seat(self, seat: PartSeat) -> Hand
+        requires inside { IsSetting self.setting.value × (self.vertex < self.setting.value.game.graph.vertices) }
+        requires part { IsAlone self.vertex seat.me.0 × (seat.me.1 ≡ []) }
+        requires trace { Keeps (rows_of (did_in self.vertex seat.me.0)) self.trace }
+        ensures { result ≡ record {
+          net = record { table = seat.table_id; setting = self.setting.value };
+          vertex = self.vertex;
+          room = self.trace.room;
+          did = did_in self.vertex seat.me.0;
+        } }
+    {
+        let Seatless {
+            vertex,
+            setting,
+            trace,
+        } = self;
+        Hand {
+            vertex,
+            seat,
+            setting,
+            trace,
+        }
+    }
 }
 
 impl Hand {
     ghost use Rattle.std.specs.Prelude.{◌≡◌, ◌<◌, [], Some, take, nat_lt, length};
     ghost use Rattle.chip_part.specs.Setting.{IsSetting};
-    ghost use Rattle.chip_net.specs.Views.{find};
+    ghost use Rattle.chip_net.specs.Views.{find, did_in, IsAlone};
     ghost use Rattle.chip_net.specs.Traces.{Keeps, rows_of};
 
     /// For a vertex that has done nothing.
@@ -49,6 +89,7 @@ impl Hand {
         requires setting { IsSetting setting.value }
         requires vertex { vertex < setting.value.game.graph.vertices }
         requires part { find vertex seat.me.0.parts ≡ Some [] }
+        requires alone { IsAlone vertex seat.me.0 × (seat.me.1 ≡ []) }
         requires trace { Keeps [] trace }
         ensures { result ≡ newcomer (record { table = seat.table_id; setting = setting.value }) trace.room vertex }
     {
@@ -58,6 +99,29 @@ impl Hand {
             setting,
             trace,
         }
+    }
+
+    /// Its seat, and what is left of it.
+    pub(crate) fn into_seat(self) -> (PartSeat, Seatless)
+        ensures seat { (result.0.table_id ≡ self.net.table) × (result.0.me.1 ≡ []) }
+        ensures part { IsAlone self.vertex result.0.me.0 × (did_in self.vertex result.0.me.0 ≡ self.did) }
+        ensures rest { (result.1.vertex ≡ self.vertex) × (result.1.setting.value ≡ self.net.setting)
+            × (result.1.trace.room ≡ self.room) }
+        ensures trace { Keeps (rows_of self.did) result.1.trace }
+        ensures inside { IsSetting self.net.setting × (self.vertex < self.net.setting.game.graph.vertices) }
+    {
+        let Hand {
+            vertex,
+            seat,
+            setting,
+            trace,
+        } = self;
+        let rest = Seatless {
+            vertex,
+            setting,
+            trace,
+        };
+        (seat, rest)
     }
 
     /// The rows of what the vertex did, as far as there was room for them.

@@ -3,6 +3,7 @@
 ghost use Rattle.chip_net.specs.Worked.{TriangleWords, TriangleOpens, PartHandedOn, RowsOfATurn, RootOfTheTriangle};
 ghost use Rattle.chip_net.specs.Worked.{FeedOfTheTriangle};
 ghost use Rattle.chip_net.specs.Laws.{EveryMomentIsReached};
+ghost use Rattle.chip_net.specs.Meeting.{OneRun};
 
 /// The small triangle as a net, as the definitions compute it.
 pub fn worked_nets()
@@ -19,4 +20,10 @@ pub fn worked_nets()
 /// steps.
 pub fn every_moment()
     ensures { EveryMomentIsReached }
+{}
+
+/// What the root, the stopper and all actors did stands in one legal log, which is closed. The outcome that the root read
+/// is that log's.
+pub fn one_run()
+    ensures { OneRun }
 {}

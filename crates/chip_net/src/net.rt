@@ -1,4 +1,4 @@
-ghost use Rattle.std.specs.Prelude.{◌≡◌, [], Some, IfOk};
+ghost use Rattle.std.specs.Prelude.{◌≡◌, ℕ, [], Some, IfOk};
 
 use crate::calls;
 use crate::rule::{PartSeat, Words};
@@ -33,7 +33,8 @@ impl Net {
     ghost use Rattle.chip_part.specs.Edges.{all_edges};
     ghost use Rattle.chip_net.specs.Layout.{word_count};
     ghost use Rattle.chip_net.specs.Opening.{AreOpening};
-    ghost use Rattle.chip_net.specs.Views.{find, opening_view, without};
+    ghost use Rattle.chip_net.specs.Rule.{Looked};
+    ghost use Rattle.chip_net.specs.Views.{find, did_in, Has, opening_view, without, IsAlone, joined};
 
     /// A net with these words, and the seat that has every part.
     pub(crate) fn of_words(
@@ -75,7 +76,39 @@ impl Net {
         requires part { find part seat.old.me.0.parts ≡ Some [] }
         ensures kept { (seat.new.table_id ≡ seat.old.table_id) × (seat.new.me.0 ≡ without part seat.old.me.0) }
         ensures given { (result.table_id ≡ seat.old.table_id) × (find part result.me.0.parts ≡ Some []) }
+        ensures alone { IsAlone part result.me.0 × (result.me.1 ≡ []) }
     {
         calls::hand_on::<Brand>(&self.words, seat, part)
+    }
+
+    /// A seat of its own for a part, with all that it did.
+    pub(crate) fn take_out(&self, seat: &mut PartSeat, part: u64) -> PartSeat
+        requires seat { seat.old.table_id ≡ self.now.table }
+        requires part { Has part seat.old.me.0 }
+        ensures kept { (seat.new.table_id ≡ seat.old.table_id) × (seat.new.me.0 ≡ without part seat.old.me.0) }
+        ensures given { (result.table_id ≡ seat.old.table_id) × (did_in part result.me.0 ≡ did_in part seat.old.me.0) }
+        ensures alone { IsAlone part result.me.0 × (result.me.1 ≡ []) }
+    {
+        calls::hand_on::<Brand>(&self.words, seat, part)
+    }
+
+    /// A look at the words: what the parts of the seat did stands in one log.
+    pub(crate) fn look(&self, seat: &mut PartSeat)
+        requires seat { seat.old.table_id ≡ self.now.table }
+        ensures same { (seat.new.table_id ≡ seat.old.table_id) × (seat.new.me ≡ seat.old.me) }
+        ensures looked { Looked self.now.setting seat.old.me.0 }
+    {
+        calls::look::<Brand>(&self.words, seat);
+    }
+
+    /// A seat takes in the part of another, which has no other part.
+    pub(crate) fn take_in(&self, seat: &mut PartSeat, other: PartSeat)
+        requires seat { seat.old.table_id ≡ self.now.table }
+        requires other { (other.table_id ≡ self.now.table) × (other.me.1 ≡ []) }
+        requires part { (part : ℕ) × IsAlone part other.me.0 }
+        ensures same { seat.new.table_id ≡ seat.old.table_id }
+        ensures joined { seat.new.me ≡ (joined seat.old.me.0 other.me.0, seat.old.me.1) }
+    {
+        calls::take_in(&self.words, seat, other);
     }
 }

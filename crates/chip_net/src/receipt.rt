@@ -1,8 +1,10 @@
-ghost use Rattle.std.specs.Prelude.{◌≡◌, ◌<◌, true};
+ghost use Rattle.std.specs.Prelude.{◌≡◌, ◌<◌, true, length};
 ghost use Rattle.chip_link.specs.Words.{is_fired_word};
 ghost use Rattle.chip_net.specs.Roots.{IsOver};
 ghost use Rattle.chip_net.specs.Finish.{ReadsAt, IsReading, blank_tally};
+ghost use Rattle.chip_net.specs.Meeting.{AreInPlace, Together};
 
+use crate::actor::{Actor, meet};
 use crate::calls;
 use crate::layout::fired_word;
 use crate::net::Net;
@@ -13,7 +15,7 @@ use chip_part::Setting;
 use std::marker::{Brand, Model};
 use std::snapshot::Snapshot;
 
-/// The root's token once it has read all counts. It has no calls: contracts see what the root has done.
+/// The root's token once it has read all counts. Contracts see what the root has done.
 #[derive(Drop)]
 pub struct Receipt {
     seat: PartSeat,
@@ -52,6 +54,17 @@ impl Receipt {
         } }
     {
         Receipt { seat, setting }
+    }
+
+    /// Meets the actors of all vertices, and leaves all as it was: what all of them did stands in one log.
+    pub fn meet(&mut self, net: &Net, actors: &mut Vec<Actor>)
+        requires net { self.old.net ≡ net.now }
+        requires actors { AreInPlace net.now actors.old.items }
+        requires count { length actors.old.items ≡ net.now.setting.game.graph.vertices }
+        ensures same { (self.new ≡ self.old) × (actors.new.items ≡ actors.old.items) }
+        ensures together { Together self.old actors.old.items }
+    {
+        meet(net, &mut self.seat, actors);
     }
 
     /// Reads the fired word of a vertex.

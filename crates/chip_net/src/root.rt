@@ -2,40 +2,22 @@ ghost use Rattle.std.specs.Prelude.{◌≡◌, ◌<◌, ◌≤◌, [], Some, IfO
 ghost use Rattle.chip_part.specs.Setting.{IsSetting};
 ghost use Rattle.chip_part.specs.Edges.{root, stopper};
 ghost use Rattle.chip_net.specs.Views.{find};
-ghost use Rattle.chip_net.specs.Roots.{new_root, IsOver, Feeds, RefusesFeed, Polls, Ends};
+ghost use Rattle.chip_net.specs.Roots.{new_root, with_stopper, IsOver, Feeds, RefusesFeed, Polls, Ends};
 ghost use Rattle.chip_net.specs.Finish.{Finishes};
 
 use crate::net::Net;
+use crate::poll::{FeedFault, RootState};
 use crate::receipt::Receipt;
 use crate::reserve::Reserve;
 use crate::root_hand::RootHand;
 use crate::rule::PartSeat;
+use crate::stopper::Stopper;
 use crate::tally::Tally;
 use chip_link::Event;
 use chip_part::{Reply, Setting};
 use chip_sequence::{Outcome, after_from};
 use std::alloc::{AllocError, Global};
 use std::marker::Model;
-
-/// What a poll came to.
-#[derive(Clone, Copy, PartialEq, Eq)]
-pub enum RootState {
-    /// Nothing more is fed, and every message of the root is acknowledged: the game is over.
-    Closed,
-    /// So many of them aren't; 0 only where more chips may be fed.
-    Running(u64),
-}
-
-/// Why nothing was fed.
-#[derive(Clone, Copy, PartialEq, Eq)]
-pub enum FeedFault {
-    /// The end of feeding is noted, or the net was opened to be played without feeding.
-    Ended,
-    /// With so many more, more chips than 2^40 would have been given.
-    Total,
-    /// As many messages to the vertex as its ring has cells are not taken yet.
-    Full,
-}
 
 /// The root of a net. Contracts see what it has done.
 #[derive(Drop)]
@@ -112,6 +94,16 @@ impl Root {
         let hand: &mut RootHand = &mut self.hand;
         hand.settle_from(net, 0);
         hand.poll_state()
+    }
+
+    /// Takes back the stopper. From then on nothing is sealed, and what it sealed is among what the root knows.
+    pub fn take_back(&mut self, net: &Net, stopper: Stopper)
+        requires net { self.old.net ≡ net.now }
+        requires stopper { stopper.net ≡ net.now }
+        ensures { self.new ≡ with_stopper self.old stopper.did }
+    {
+        let hand: &mut RootHand = &mut self.hand;
+        hand.take_back(net, stopper);
     }
 
     /// Once the game is over, reads how often each vertex fired and whether it halted, and tells how the game ended,

@@ -9,16 +9,17 @@ ghost use Rattle.chip_core.specs.Words.{noted, of_acks};
 ghost use Rattle.chip_net.specs.Layout.{index_of};
 ghost use Rattle.chip_net.specs.Rule.{Grows};
 ghost use Rattle.chip_net.specs.Views.{find};
-ghost use Rattle.chip_net.specs.Roots.{new_root, root_part, root_deficit, has_ended, IsOver};
+ghost use Rattle.chip_net.specs.Roots.{new_root, root_part, root_deficit, has_ended, IsOver, with_stopper};
 ghost use Rattle.chip_net.specs.Roots.{IsDueForRoot, IsDueInView, MakesEvent, Replies, DoesMore, settles_from};
 ghost use Rattle.chip_net.specs.Roots.{HoldsNothing, AnswersPoll, AllowsFeed, feed_fault};
 
 use crate::calls;
 use crate::layout::{acks_word, cell_word, edge_word, root_acks};
 use crate::net::Net;
+use crate::poll::{FeedFault, RootState};
 use crate::receipt::Receipt;
-use crate::root::{FeedFault, RootState};
 use crate::rule::PartSeat;
+use crate::stopper::Stopper;
 use chip_link::Event;
 use chip_part::{Act, Reply, Rule, Setting};
 use chip_root::RootBooks;
@@ -145,6 +146,15 @@ impl RootHand {
         } else {
             RootState::Running(self.state.outstanding())
         }
+    }
+
+    /// Takes back the stopper, and with it what it did.
+    pub(crate) fn take_back(&mut self, net: &Net, stopper: Stopper)
+        requires net { self.old.net ≡ net.now }
+        requires stopper { stopper.net ≡ net.now }
+        ensures { self.new ≡ with_stopper self.old stopper.did }
+    {
+        net.take_in(&mut self.seat, stopper.into_seat());
     }
 
     /// The state of the root, and the root that reads, once it is closed.

@@ -1,16 +1,16 @@
 //! The rule of the table, and what a step of it tells.
 
 use crate::views::View;
-use atomic_table::{Play, Seat, Split, Table, TableRule};
+use atomic_table::{Join, Play, Seat, Split, Table, TableRule};
 use chip_part::Setting;
 use std::alloc::Global;
 use std::marker::{Brand, PhantomData};
 use std::snapshot::Snapshot;
 
 /// Words and views are what some legal log of the core leaves.
-pub struct Rule;
+pub struct NetRule;
 
-impl TableRule<(), View, Snapshot<Setting>> for Rule {
+impl TableRule<(), View, Snapshot<Setting>> for NetRule {
     ghost use Rattle.chip_net.specs.Rule.{Kept};
     ghost use Rattle.chip_net.specs.Views.{opening_view};
 
@@ -20,7 +20,7 @@ impl TableRule<(), View, Snapshot<Setting>> for Rule {
 }
 
 /// The shared words, under the rule.
-pub(crate) type Words = Table<(), View, Snapshot<Setting>, Rule, Global>;
+pub(crate) type Words = Table<(), View, Snapshot<Setting>, NetRule, Global>;
 
 /// A seat at them, whose view has the parts that its owner may act for.
 pub(crate) type PartSeat = Seat<(), View>;
@@ -77,4 +77,39 @@ impl<J: Handing> Split<View> for HandOn<J> {
     ghost left = { without J.part };
 
     ghost right = { alone J.part };
+}
+
+/// The parts of another seat come to this one.
+pub(crate) struct TakeIn;
+
+impl Join<View> for TakeIn {
+    ghost use Rattle.chip_net.specs.Views.{joined, no_parts};
+
+    ghost both = { joined };
+
+    ghost spent = { no_parts };
+}
+
+/// A net at whose words somebody looks.
+pub(crate) trait Looking {
+    ghost use Rattle.chip_part.specs.Setting.{Setting};
+
+    ghost setting: { Setting };
+}
+
+impl Looking for Brand {
+    ghost use Rattle.chip_net.specs.Rule.{no_setting};
+
+    ghost setting = { no_setting };
+}
+
+/// Nothing changes, and what the parts of the view did stands in one log.
+pub(crate) struct Look<J> {
+    of: PhantomData<J>,
+}
+
+impl<J: Looking> Play<(), View> for Look<J> {
+    ghost use Rattle.chip_net.specs.Rule.{Looks};
+
+    ghost then = { λ _. Looks J.setting };
 }

@@ -1,7 +1,7 @@
-ghost use Rattle.std.specs.Prelude.{◌≡◌, ◌≤◌, [], Some, MatchResult};
+ghost use Rattle.std.specs.Prelude.{◌≡◌, ◌≤◌, [], ◌∷◌, Some, MatchResult};
 ghost use Rattle.chip_part.specs.Setting.{IsSetting};
 ghost use Rattle.chip_part.specs.Edges.{graph_edges, stopper};
-ghost use Rattle.chip_net.specs.Views.{find};
+ghost use Rattle.chip_net.specs.Views.{IsAlone, find};
 ghost use Rattle.chip_net.specs.Roots.{StopperKnown, new_stopper, Seals};
 
 use crate::calls;
@@ -12,6 +12,7 @@ use chip_link::{EdgeWord, Event};
 use chip_part::Setting;
 use std::marker::{Brand, Model};
 use std::snapshot::Snapshot;
+use thiserror::Error;
 
 /// What a seal found.
 #[derive(Clone, Copy, PartialEq, Eq)]
@@ -23,7 +24,8 @@ pub struct SealedAt {
 }
 
 /// No edge of the graph has this number.
-#[derive(Clone, Copy, PartialEq, Eq)]
+#[derive(Clone, Copy, Debug, PartialEq, Eq, Error)]
+#[error("no edge of the graph has this number")]
 pub struct NoEdge;
 
 /// The stopper of a net, who seals edges. Contracts see what it has done.
@@ -35,8 +37,9 @@ pub struct Stopper {
 
 impl Model for Stopper {
     ghost use Rattle.chip_part.specs.Edges.{stopper};
-    ghost use Rattle.chip_net.specs.Views.{Has, did_in};
+    ghost use Rattle.chip_net.specs.Views.{IsAlone, did_in};
     ghost use Rattle.chip_net.specs.Roots.{StopperKnown};
+    ghost use Rattle.std.specs.Prelude.{◌≡◌, []};
 
     ghost Value = { StopperKnown };
 
@@ -45,12 +48,13 @@ impl Model for Stopper {
       did = did_in (stopper a.setting.value) a.seat.me.0;
     } };
 
-    ghost invariant = { λ a. Has (stopper a.setting.value) a.seat.me.0 };
+    ghost invariant = { λ a. IsAlone (stopper a.setting.value) a.seat.me.0 × (a.seat.me.1 ≡ []) };
 }
 
 impl Stopper {
     pub(crate) fn new(setting: Snapshot<Setting>, seat: PartSeat) -> Stopper
-        requires { find (stopper setting.value) seat.me.0.parts ≡ Some [] }
+        requires part { find (stopper setting.value) seat.me.0.parts ≡ Some [] }
+        requires alone { IsAlone (stopper setting.value) seat.me.0 × (seat.me.1 ≡ []) }
         ensures { result ≡ new_stopper (record { table = seat.table_id; setting = setting.value }) }
     {
         Stopper { seat, setting }
@@ -81,5 +85,14 @@ impl Stopper {
             count: before.claims,
             first: !before.sealed,
         })
+    }
+
+    /// Its seat, which has its part alone.
+    pub(crate) fn into_seat(self) -> PartSeat
+        ensures table { result.table_id ≡ self.net.table }
+        ensures part { result.me.0.parts ≡ record { part = stopper self.net.setting; did = self.did } ∷ [] }
+        ensures slots { result.me.1 ≡ [] }
+    {
+        self.seat
     }
 }

@@ -29,8 +29,6 @@ const PAIR: Plan = Plan {
 struct Always;
 
 impl Gate for Always {
-    ghost may_shut = { λ _ _ _. ⊥ };
-
     fn pass(&self, _worker: u64, _turn: u64) -> bool {
         true
     }
@@ -40,10 +38,6 @@ impl Gate for Always {
 struct Never;
 
 impl Gate for Never {
-    ghost use Rattle.std.specs.Prelude.{⊤};
-
-    ghost may_shut = { λ _ _ _. ⊤ };
-
     fn pass(&self, _worker: u64, _turn: u64) -> bool {
         false
     }
@@ -56,10 +50,6 @@ struct ZeroAlone {
 }
 
 impl Gate for ZeroAlone {
-    ghost use Rattle.std.specs.Prelude.{◌<◌};
-
-    ghost may_shut = { λ _ worker _. 0 < worker };
-
     fn pass(&self, worker: u64, _turn: u64) -> bool {
         if worker == 0 {
             self.asked.store(1, SeqCst);
@@ -89,10 +79,6 @@ struct Together {
 }
 
 impl Gate for Together {
-    ghost use Rattle.std.specs.Prelude.{◌≡◌};
-
-    ghost may_shut = { λ _ _ turn. turn ≡ 0 };
-
     fn pass(&self, _worker: u64, turn: u64) -> bool {
         if turn > 0 {
             return true;
@@ -110,10 +96,6 @@ struct Behind {
 }
 
 impl Gate for Behind {
-    ghost use Rattle.std.specs.Prelude.{◌≡◌};
-
-    ghost may_shut = { λ _ worker turn. (worker ≡ 0) × (turn ≡ 0) };
-
     fn pass(&self, worker: u64, turn: u64) -> bool {
         if worker == 1 && turn == self.turn {
             self.asked.store(1, SeqCst);
@@ -132,10 +114,6 @@ struct Relay {
 }
 
 impl Gate for Relay {
-    ghost use Rattle.std.specs.Prelude.{◌<◌};
-
-    ghost may_shut = { λ _ worker _. worker < 2 };
-
     fn pass(&self, worker: u64, turn: u64) -> bool {
         match (worker, turn) {
             (0, 0) => comes_to(&self.handed_on, 1),
@@ -166,10 +144,6 @@ struct ShutAt {
 }
 
 impl Gate for ShutAt {
-    ghost use Rattle.std.specs.Prelude.{⊤};
-
-    ghost may_shut = { λ _ _ _. ⊤ };
-
     fn pass(&self, worker: u64, turn: u64) -> bool {
         if worker == self.worker {
             if turn == self.turn {
@@ -386,8 +360,6 @@ struct Noting {
 }
 
 impl Gate for Noting {
-    ghost may_shut = { λ _ _ _. ⊥ };
-
     fn pass(&self, _worker: u64, _turn: u64) -> bool {
         true
     }

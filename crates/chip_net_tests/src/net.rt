@@ -280,3 +280,38 @@ fn sealed_twice(rt: HostRuntime) -> Result<(), Fail> {
     let game = game(alloc, &TRIANGLE, &[4, 0, 0], LIMIT)?;
     expect_sealed_twice(&rt, alloc, &game)
 }
+
+/// The root takes the stopper back, polls and finishes: nobody had a chip, so nobody noticed the seal.
+fn take_back_and_finish(rt: &impl Abort, net: &Net, mut root: Root, stopper: Option<Stopper>)
+    requires root { root.net ≡ net.now }
+    requires stopper { IfSome stopper (λ s. s.net ≡ net.now) }
+{
+    let Some(mut stopper) = stopper else {
+        panic!(rt; "no stopper");
+    };
+    let first = SealedAt {
+        count: 0,
+        first: true,
+    };
+    expect_seal(rt, net, &mut stopper, 1, first);
+    root.take_back(net, stopper);
+    assert!(rt; root.poll(net) == RootState::Closed);
+    let Ok((outcome, _)) = root.finish(net) else {
+        panic!(rt; "the root is open");
+    };
+    assert!(rt; outcome.sealed.is_empty());
+}
+
+fn expect_taken_back(rt: &impl Abort, alloc: Global, game: &Game) -> Result<(), Fail> {
+    let (net, root, _actors, stopper) = Net::open(alloc, game, Ring::one(), 0, true)?;
+    take_back_and_finish(rt, &net, root, stopper);
+    Ok(())
+}
+
+/// A stopper that is taken back.
+#[test]
+fn stopper_taken_back(rt: HostRuntime) -> Result<(), Fail> {
+    let alloc = rt.alloc();
+    let game = game(alloc, &TRIANGLE, &[0, 0, 0], LIMIT)?;
+    expect_taken_back(&rt, alloc, &game)
+}

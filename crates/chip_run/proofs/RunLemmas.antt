@@ -1,6 +1,6 @@
 -- Serves RunCommand.antt, Feeding.antt, Recording.antt.
 -- From the parts of the engine to its whole.
-use Rattle.std.proofs.Common.{◌≡◌, ℕ, Bool, refl, sym, subst, List, map, Option, Some, None, Result, Ok, Err, inl, inr}
+use Rattle.std.proofs.Common.{◌≡◌, ℕ, Bool, false, refl, sym, subst, List, map, Option, Some, None, Result, Ok, Err, inl, inr}
 use Rattle.std.specs.Result.{IsErrAnd, IfErr}
 use Rattle.chip_graph.specs.ChipGame.{ChipGame}
 use Rattle.chip_crew.specs.declared.plan.Plan.{Plan}
@@ -127,21 +127,21 @@ means_fed graph_text chips_text feed_text limit g feeds vertices same game fed =
 }
 
 -- the fault of a crew whose gate may answer false nowhere is that of one whose gate is never shut
-of_open_gate : (g : ChipGame) (feeds : Left) (plan : Plan) (may_shut : ℕ → ℕ → Type 0)
-    → ((worker turn : ℕ) → may_shut worker turn → ⊥) → (e : CrewFault) → IsFaultOf g feeds plan may_shut e
+of_open_gate : (g : ChipGame) (feeds : Left) (plan : Plan) (may_answer : ℕ → ℕ → Bool → Type 0)
+    → ((worker turn : ℕ) → may_answer worker turn false → ⊥) → (e : CrewFault) → IsFaultOf g feeds plan may_answer e
     → IsFaultOf g feeds plan never_shut e
-of_open_gate g feeds plan may_shut never crew.Plan is = is
-of_open_gate g feeds plan may_shut never crew.Total is = is
-of_open_gate g feeds plan may_shut never crew.NoMemory is = is
-of_open_gate g feeds plan may_shut never crew.Spawn is = is
-of_open_gate g feeds plan may_shut never crew.GateShut (can, (worker, turn, in_crew, in_turns, shut)) =
+of_open_gate g feeds plan may_answer never crew.Plan is = is
+of_open_gate g feeds plan may_answer never crew.Total is = is
+of_open_gate g feeds plan may_answer never crew.NoMemory is = is
+of_open_gate g feeds plan may_answer never crew.Spawn is = is
+of_open_gate g feeds plan may_answer never crew.GateShut (can, (worker, turn, in_crew, in_turns, shut)) =
     absurd (never worker turn shut)
-of_open_gate g feeds plan may_shut never (crew.Doubled vertex) is = is
-of_open_gate g feeds plan may_shut never (crew.Lost vertex) is = is
-of_open_gate g feeds plan may_shut never (crew.Unfinished deficit root) is = is
+of_open_gate g feeds plan may_answer never (crew.Doubled vertex) is = is
+of_open_gate g feeds plan may_answer never (crew.Lost vertex) is = is
+of_open_gate g feeds plan may_answer never (crew.Unfinished deficit root) is = is
 
 -- so the game was not played
-pub not_played : (g : ChipGame) (feeds : Left) (plan : Plan) (may_shut : ℕ → ℕ → Type 0)
-    → ((worker turn : ℕ) → may_shut worker turn → ⊥) → (e : CrewFault) (f : Fault) → IsFaultOf g feeds plan may_shut e
+pub not_played : (g : ChipGame) (feeds : Left) (plan : Plan) (may_answer : ℕ → ℕ → Bool → Type 0)
+    → ((worker turn : ℕ) → may_answer worker turn false → ⊥) → (e : CrewFault) (f : Fault) → IsFaultOf g feeds plan may_answer e
     → f ≡ fault_of_crew e → IsNotPlayed g feeds plan f
-not_played g feeds plan may_shut never e f is same = inl (e, of_open_gate g feeds plan may_shut never e is, same)
+not_played g feeds plan may_answer never e f is same = inl (e, of_open_gate g feeds plan may_answer never e is, same)

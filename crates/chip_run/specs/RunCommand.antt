@@ -1,5 +1,5 @@
 -- From the bytes of a graph file, a chips file and a file of feeds to those of the report of a game that threads play.
-use Rattle.std.specs.Prelude.{◌≡◌, ◌⊎◌, ℕ, Bool, List, Option, None, Result, Ok, Err}
+use Rattle.std.specs.Prelude.{◌≡◌, ◌⊎◌, ℕ, Bool, true, List, Option, None, Result, Ok, Err}
 use Rattle.std.specs.Io.KnownBytes.{Appends, Keeps}
 use Rattle.chip_graph.specs.ChipGame.{ChipGame}
 use Rattle.chip_graph.specs.declared.fault.GameFault.TheVariants.{Total}
@@ -34,9 +34,9 @@ fault_of_crew (crew.Doubled vertex) = fault.Doubled vertex
 fault_of_crew (crew.Lost vertex) = fault.Lost vertex
 fault_of_crew (crew.Unfinished deficit root) = fault.Unfinished deficit
 
--- the calls of a gate that may answer false, where it never does
-abbrev pub never_shut : ℕ → ℕ → Type 0
-never_shut worker turn = ⊥
+-- what is known by an answer of a gate that is never shut
+abbrev pub never_shut : ℕ → ℕ → Bool → Type 0
+never_shut worker turn answer = answer ≡ true
 
 -- why a crew of this game by this plan, which has these feeds and whose gate is never shut, didn't finish
 abbrev pub IsCrewFault : ChipGame → Option (List (ℕ × ℕ)) → Plan → Fault → Type 0

@@ -1,6 +1,6 @@
 //! The engine.
 
-ghost use Rattle.std.specs.Prelude.{◌≡◌, ℕ, None, option_map, IfOk, IfErr};
+ghost use Rattle.std.specs.Prelude.{◌≡◌, ℕ, false, None, option_map, IfOk, IfErr};
 ghost use Rattle.std.specs.Option.{ForSome};
 ghost use Rattle.chip_report.specs.ReportText.{report_text};
 ghost use Rattle.chip_command.specs.Reports.{plain_status};
@@ -23,7 +23,9 @@ use std::thread::Threads;
 struct Always;
 
 impl Gate for Always {
-    ghost may_shut = { λ _ _ _. ⊥ };
+    ghost use Rattle.std.specs.Prelude.{◌≡◌, true};
+
+    ghost may_answer = { λ _ _ _ answer. answer ≡ true };
 
     fn pass(&self, _worker: u64, _turn: u64) -> bool {
         true
@@ -94,7 +96,7 @@ pub fn run_engine_gated<
     output: &mut W,
 ) -> Result<Ended, Fault>
     requires seal { plan.seal ≡ None }
-    requires gate { (worker turn : ℕ) → K.may_shut gate.now worker turn → ⊥ }
+    requires gate { (worker turn : ℕ) → K.may_answer gate.now worker turn false → ⊥ }
     ensures { ForSome (G.remaining graph.old)
         (λ graph_text. ForSome (C.remaining chips.old)
         (λ chips_text. ForText (option_map (λ reader. F.remaining reader.now) feed.entry)
@@ -137,7 +139,7 @@ fn play<R: Threads + Wait + Sync, K: Gate + Sync>(
     gate: &K,
 ) -> Result<Played, Fault>
     requires seal { plan.seal ≡ None }
-    requires gate { (worker turn : ℕ) → K.may_shut gate.now worker turn → ⊥ }
+    requires gate { (worker turn : ℕ) → K.may_answer gate.now worker turn false → ⊥ }
     ensures played { IfOk result (λ p. Plays game.now (option_map (λ fed. fed.items) feeds) plan p.actors.items
         p.text.items p.status) }
     ensures fault { IfErr result (IsNotPlayed game.now (option_map (λ fed. fed.items) feeds) plan) }

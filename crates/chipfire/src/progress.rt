@@ -115,7 +115,9 @@ impl<'a, R: Clock + Eprint> TurnProgress<'a, R> {
 }
 
 impl<R: Clock + Eprint> Gate for TurnProgress<'_, R> {
-    ghost may_shut = { λ _ _ _. ⊥ };
+    ghost use Rattle.std.specs.Prelude.{◌≡◌, true};
+
+    ghost may_answer = { λ _ _ _ answer. answer ≡ true };
 
     fn pass(&self, _worker: u64, _turn: u64) -> bool {
         true

@@ -1,6 +1,6 @@
 use Rattle.std.proofs.Common.{◌+◌, subst, rules, refl}
 use Rattle.chip_net.specs.Roots.{AnswersPoll}
-use Rattle.chip_net.specs.declared.root.RootState.{RootState}
+use Rattle.chip_net.specs.declared.poll.RootState.{RootState}
 use Rattle.chip_crew.proofs.PollingLemmas.{polled_same, polled_more, until_answer}
 use Rattle.chip_crew.proofs.ending.poll_until.Goals as goal
 

@@ -1,13 +1,33 @@
-use Rattle.std.proofs.Common.{rules, ℕ, ◌-◌, subst}
-use Rattle.chip_crew.specs.Ending.{StaysOpen}
+use Rattle.std.proofs.Common.{rules, ℕ, ◌-◌, List, sym, ◌∙◌, subst}
+use Rattle.chip_net.specs.Tokens.{ActorKnown}
+use Rattle.chip_net.specs.Roots.{RootKnown}
+use Rattle.chip_net.proofs.FinishingLemmas.{one_run}
+use Rattle.chip_net.specs.Meeting.{IsRun}
+use Rattle.chip_crew.specs.Crew.{AreActors}
+use Rattle.chip_crew.specs.Ending.{EndsLed, StaysOpen}
 use Rattle.chip_crew.proofs.FinishingLemmas.{ends_fed, missing_closing}
+use Rattle.chip_crew.proofs.SealingLemmas.{stopper_there, takes_back}
 use Rattle.chip_crew.proofs.play.end_play.Goals as goal
 
+pub meet-requires-clause-actors : goal.meet-requires-clause-actors
+meet-requires-clause-actors g c v a at =
+    let ours = c.in_ok-actors.ensures.actors.order v a at in (ours.0.0 ∙ sym c.requires.net, ours.1)
+
 pub returns-in-Ok-clause-finished : goal.returns-in-Ok-clause-finished
-returns-in-Ok-clause-finished g c = record {
-  ends = ends_fed _ _ _ _ _ _ _ _ c.requires.root c.in-Ok.ensures;
-  actors = search rules;
-}
+returns-in-Ok-clause-finished g c =
+    let back = takes_back g.B.Crew.crew g.B.Crew.seal c.args.joined.polls c.args.joined.seal c.args.joined.root
+    c.take_back.new.root c.requires.seal c.take_back.ensures.back in
+    let ends = c.in-Ok.ensures.ends in
+    let same = c.meet.ensures.same in
+    record {
+      ends = subst (λ (r : RootKnown). EndsLed g.B.Crew.feeds g.B.Crew.seal g.B.Crew.root r c.in-Ok.outcome) (sym same.0)
+          (ends_fed _ _ g.B.Crew.seal _ _ _ _ c.take_back.new.root _ _ c.requires.root back ends);
+      actors = subst (AreActors g.B.Crew.crew) (sym same.1) c.in_ok-actors.ensures.actors;
+      run = subst (λ (z : RootKnown × List ActorKnown). IsRun z.0 z.1 c.in-Ok.outcome)
+          (λ i. (sym same.0 i, sym same.1 i))
+          (one_run ends.root c.in-Ok.receipt c.in-Ok.outcome c.in_ok-actors.actors.items ends.finishes
+          c.meet.ensures.together);
+    }
 
 pub returns-in-Err-clause-stopped : goal.returns-in-Err-clause-stopped
 returns-in-Err-clause-stopped g c = (
@@ -18,12 +38,19 @@ returns-in-Err-clause-stopped g c = (
     left = c.requires.root.left;
     led = c.args.joined.root;
     is_led = c.requires.root.led;
-    stays = subst (λ (n : ℕ). StaysOpen (n - c.args.joined.polls) c.args.joined.root c.in-Err.root c.in-Err.deficit)
-        c.requires.turns c.in-Err.ensures;
+    back = c.take_back.new.root;
+    is_back = takes_back g.B.Crew.crew g.B.Crew.seal c.args.joined.polls c.args.joined.seal c.args.joined.root
+        c.take_back.new.root c.requires.seal c.take_back.ensures.back;
+    stays = subst (λ (n : ℕ). StaysOpen (n - c.args.joined.polls) c.take_back.new.root c.in-Err.root c.in-Err.deficit)
+        c.requires.turns c.in-Err.ensures.ends;
   },
 )
 
 pub returns-in_err-actors-clause-stopped : goal.returns-in_err-actors-clause-stopped
-returns-in_err-actors-clause-stopped g c = missing_closing g.B.Crew.crew g.B.Crew.feeds g.B.Crew.root g.B.Crew.turns
+returns-in_err-actors-clause-stopped g c = missing_closing g.B.Crew.crew g.B.Crew.feeds g.B.Crew.seal g.B.Crew.root g.B.Crew.turns
     c.args.joined c.in_err-actors.field-0.0 c.from_residual.result _ c.from_residual.ensures.1 (λ fault is. is)
     (search rules) c.in_err-actors.ensures.fault
+
+pub take_back-requires-clause-stopper : goal.take_back-requires-clause-stopper
+take_back-requires-clause-stopper g c = stopper_there g.B.Crew.crew g.B.Crew.seal c.args.joined.polls c.args.joined.seal
+    c.args.net.now c.requires.net c.requires.seal

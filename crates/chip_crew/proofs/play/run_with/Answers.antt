@@ -5,7 +5,8 @@ use Rattle.chip_part.specs.Setting.{Setting, setting_with}
 use Rattle.chip_crew.specs.Crew.{CrewId}
 use Rattle.chip_crew.specs.Finished.{IsCrewFor}
 use Rattle.chip_crew.proofs.OwningLemmas.{ours_by}
-use Rattle.chip_crew.proofs.FinishingLemmas.{root_opens, may_begin, finished_for, stopped_for}
+use Rattle.chip_crew.proofs.FinishingLemmas.{root_opens, may_begin, plan_names_edge, finished_for, stopped_for}
+use Rattle.chip_crew.proofs.SealingLemmas.{none_sealed}
 use Rattle.chip_crew.proofs.play.run_with.Goals as goal
 
 -- there are feeds where what they are is known
@@ -28,6 +29,17 @@ play_on-requires-clause-feeds g c κs within = (
       ∙ (λ i. setting_with c.args.game.now (c.in_ok-ring.ensures.1 i)
       ((c.is_some.ensures ∙ copied_some c.args.feeds) i))) c.in_ok-opened.ensures.root,
 )
+
+pub play_on-requires-clause-seal : goal.play_on-requires-clause-seal
+play_on-requires-clause-seal g c κs within = none_sealed
+    (record { net = c.in_ok-opened.opened.net; room = c.args.plan.trace_rows }) c.args.game.now c.args.plan.seal
+    c.in_ok-opened.opened.stopper c.is_some-2.result c.in_ok-opened.ensures.stopper c.is_some-2.ensures
+    (plan_names_edge c.args.game.now (option_copied c.args.feeds) c.args.plan c.in_ok-ring.ensures.0)
+    (ap (λ (s : Setting). s.game) (c.in_ok-opened.ensures.setting ∙ c.in_ok-setting.ensures))
+
+pub play_on-requires-clause-gate : goal.play_on-requires-clause-gate
+play_on-requires-clause-gate g c κs within worker in_crew turn in_turns =
+    ((λ told. told), (λ told. (worker, turn, in_crew, in_turns, told)))
 
 pub returns-clause-finished : goal.returns-clause-finished
 returns-clause-finished g c =
@@ -53,6 +65,6 @@ returns-clause-fault g c =
           ((c.is_some.ensures ∙ copied_some c.args.feeds) i));
       room = refl;
     } in
-    stopped_for c.args.game.now (option_copied c.args.feeds) c.args.plan (g.G.Gate.may_shut c.args.gate.now) crew
+    stopped_for c.args.game.now (option_copied c.args.feeds) c.args.plan (g.G.Gate.may_answer c.args.gate.now) crew
     c.in_ok-opened.opened.root c.play_on.result opened
     (root_opens crew c.args.plan _ _ c.in_ok-opened.ensures.root c.is_some-2.ensures) c.play_on.ensures.stopped

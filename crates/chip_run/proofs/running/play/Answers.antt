@@ -26,6 +26,6 @@ returns-in-Ok-clause-played g c =
 
 pub returns-clause-fault : goal.returns-clause-fault
 returns-clause-fault g c = not_played c.args.game.now (option_map (λ fed. fed.items) c.args.feeds) c.args.plan
-    (g.K.Gate.may_shut c.args.gate.now) c.requires.gate c.in-Err.fault _
-    (subst (λ (l : Left). IsFaultOf c.args.game.now l c.args.plan (g.K.Gate.may_shut c.args.gate.now) c.in-Err.fault)
+    (g.K.Gate.may_answer c.args.gate.now) c.requires.gate c.in-Err.fault _
+    (subst (λ (l : Left). IsFaultOf c.args.game.now l c.args.plan (g.K.Gate.may_answer c.args.gate.now) c.in-Err.fault)
     c.as_deref.ensures.value c.in-Err.ensures.fault) c.fault_of_crew.ensures

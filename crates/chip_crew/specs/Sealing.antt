@@ -1,0 +1,46 @@
+-- When worker 0 seals the edge of the plan, and how the root gets the stopper back.
+use Rattle.std.specs.Prelude.{◌≡◌, ℕ, ◌<◌, ◌==◌, nat_lt, if◌then◌else◌, List, [], ◌∷◌, ◌++◌, map, Option, Some, None}
+use Rattle.chip_part.specs.Edges.{graph_edges}
+use Rattle.chip_core.specs.Core.{Step, Event, Seal}
+use Rattle.chip_net.specs.Roots.{RootKnown, StopperKnown, with_stopper}
+use Rattle.chip_crew.specs.Crew.{CrewId}
+use Rattle.chip_crew.specs.declared.plan.SealAt.{SealAt}
+
+-- the events of these steps
+abbrev pub events_of : List Step → List Event
+events_of steps = map (λ x. x.event) steps
+
+-- what is sealed before so many turns of worker 0 are over: the edge of the plan, where its turn is one of them
+abbrev pub seals_by : SealAt → ℕ → List Event
+seals_by at turns = if nat_lt at.turn turns then Seal at.edge ∷ [] else []
+
+-- the stopper sealed the edge once more where this is the turn for it, and else it did nothing
+abbrev pub SealsBefore : ℕ → Option (StopperKnown × SealAt) → Option (StopperKnown × SealAt) → Type 0
+SealsBefore turn None new = new ≡ None
+SealsBefore turn (Some s) new = (did : List Step) × (new ≡ Some (record { net = s.0.net; did = did }, s.1))
+    × (events_of did ≡ events_of s.0.did ++ (if s.1.turn == turn then Seal s.1.edge ∷ [] else []))
+
+-- after so many turns of worker 0 the stopper of the crew has sealed what was due by then, and nothing else; there is none
+-- where nothing is to be sealed
+abbrev pub HasSealed : CrewId → Option SealAt → ℕ → Option (StopperKnown × SealAt) → Type 0
+HasSealed crew None turns seal = seal ≡ None
+HasSealed crew (Some at) turns seal = (did : List Step) × (seal ≡ Some (record { net = crew.net; did = did }, at))
+    × (events_of did ≡ seals_by at turns) × (at.edge < graph_edges crew.net.setting)
+
+-- the root has the stopper back, where there is one
+abbrev pub HasBack : Option (StopperKnown × SealAt) → RootKnown → RootKnown → Type 0
+HasBack None old new = new ≡ old
+HasBack (Some s) old new = new ≡ with_stopper old s.0.did
+
+-- the root has the stopper back, which sealed what was due in so many turns of worker 0; where nothing was to be sealed
+-- the root had it all along
+abbrev pub TakesBack : Option SealAt → ℕ → RootKnown → RootKnown → Type 0
+TakesBack None turns old new = new ≡ old
+TakesBack (Some at) turns old new =
+    (did : List Step) × (new ≡ with_stopper old did) × (events_of did ≡ seals_by at turns)
+
+-- of the stopper the root knows these seals and no others
+abbrev pub KnowsSeals : Option SealAt → ℕ → RootKnown → Type 0
+KnowsSeals None turns root = root.stopper_did ≡ Some []
+KnowsSeals (Some at) turns root =
+    (did : List Step) × (root.stopper_did ≡ Some did) × (events_of did ≡ seals_by at turns)

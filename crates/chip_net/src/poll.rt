@@ -1,0 +1,26 @@
+//! What the root answers: what a poll came to, and why nothing was fed.
+
+use thiserror::Error;
+
+/// What a poll came to.
+#[derive(Clone, Copy, PartialEq, Eq)]
+pub enum RootState {
+    /// Nothing more is fed, and every message of the root is acknowledged: the game is over.
+    Closed,
+    /// So many of them aren't; 0 only where more chips may be fed.
+    Running(u64),
+}
+
+/// Why nothing was fed.
+#[derive(Clone, Copy, Debug, PartialEq, Eq, Error)]
+pub enum FeedFault {
+    /// The end of feeding is noted, or the net was opened to be played without feeding.
+    #[error("the end of feeding is noted")]
+    Ended,
+    /// With so many more, more chips than 2^40 would have been given.
+    #[error("more than 1099511627776 chips would have been given")]
+    Total,
+    /// As many messages to the vertex as its ring has cells are not taken yet.
+    #[error("the next cell of the ring to the vertex is full")]
+    Full,
+}

@@ -46,6 +46,34 @@ fn fed_twice(rt: HostRuntime) {
     ends(&rt, &world, &[2, 1, 0], &[1, 0, 3], &[], &[]);
 }
 
+/// Three chips for vertex 0 and the end, where there is room for more messages.
+const THREE_CHIPS_AND_THE_END: [(Event, Reply); 5] = [
+    (Event::Clear(4), Reply::Done(0)),
+    (feed!(4, 3), sent!(4, 0, 3)),
+    (Event::Put(4), Reply::Done(3)),
+    (Event::Clear(4), Reply::Done(1)),
+    (Event::End, Reply::Done(0)),
+];
+
+/// Feeds a triangle with rings of so many cells, and plays it to the end.
+fn feeds_wide(rt: &(impl AllocGlobal + Abort), cells: u64) {
+    let game = game_of(rt, TRIANGLE, &[0, 0, 0], MOST);
+    let Some(ring) = Ring::new(cells) else {
+        panic!(rt; "no ring of so many cells");
+    };
+    let mut world = World::open_fed(rt.alloc(), &game, ring).expect(rt, "memory");
+    expect(rt, &mut world, &THREE_CHIPS_AND_THE_END);
+    assert!(rt; world.drive(10) == Drive::Closed);
+    ends(rt, &world, &[1, 0, 0], &[1, 1, 1], &[], &[]);
+}
+
+#[test]
+fn fed_in_wide_rings(rt: HostRuntime) {
+    for cells in [2, 63, 64] {
+        feeds_wide(&rt, cells);
+    }
+}
+
 #[test]
 fn fed_past_the_total(rt: HostRuntime) {
     let mut world = fed_triangle(&rt, &[0, 0, 1 << 40]);

@@ -1,4 +1,4 @@
-//! What the numbers of options may be. The engines decide these limits; the program is built only where both agree.
+//! What the numbers of options may be. Where an engine has such a limit, the program is built only if both agree.
 
 /// How often a vertex may fire at most.
 pub const MAX_LIMIT: u64 = 1 << 40;

@@ -1,6 +1,7 @@
 pub mod Lines
 pub mod Board
 pub mod CheckCommand
+pub mod PlainEngine
 pub mod ExplainCommand
 pub mod ReplayCommand
 pub mod SimulateCommand

@@ -1,9 +1,8 @@
 //! `plain`: the report of a game played on one thread.
 
 ghost use Rattle.std.specs.Prelude.{IfOk};
-ghost use Rattle.std.specs.Option.{ForSome};
-ghost use Rattle.chip_command.specs.PlainCommand.{PlainAnswers};
 ghost use Rattle.chip_command.specs.Reports.{Reports};
+ghost use Rattle.chip_engine.specs.PlainEngine.{PlainReads};
 
 use crate::answer::Answer;
 use chip_command::{Ended, Fault, conclude, read_game, status_of};
@@ -23,10 +22,8 @@ pub fn plain_engine<G: Read, C: Read, W: Write>(
     limit: u64,
     output: &mut W,
 ) -> Result<Ended, Fault>
-    ensures { ForSome (G.remaining graph.old)
-        (λ graph_text. ForSome (C.remaining chips.old)
-        (λ chips_text. PlainAnswers graph_text chips_text limit
-        (W.contents output.old) (W.contents output.new) result)) }
+    ensures { PlainReads (G.remaining graph.old) (C.remaining chips.old) limit
+        (W.contents output.old) (W.contents output.new) result }
 {
     plain_engine_watched(alloc, graph, chips, limit, &mut Unwatched, output)
 }
@@ -41,10 +38,8 @@ pub fn plain_engine_watched<G: Read, C: Read, P: Watch, W: Write>(
     watch: &mut P,
     output: &mut W,
 ) -> Result<Ended, Fault>
-    ensures { ForSome (G.remaining graph.old)
-        (λ graph_text. ForSome (C.remaining chips.old)
-        (λ chips_text. PlainAnswers graph_text chips_text limit
-        (W.contents output.old) (W.contents output.new) result)) }
+    ensures { PlainReads (G.remaining graph.old) (C.remaining chips.old) limit
+        (W.contents output.old) (W.contents output.new) result }
 {
     let game = read_game(alloc, graph, chips, limit)?;
     let answer = play(alloc, &game, watch)?;

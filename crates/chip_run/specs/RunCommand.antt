@@ -1,5 +1,6 @@
 -- From the bytes of a graph file, a chips file and a file of feeds to those of the report of a game that threads play.
 use Rattle.std.specs.Prelude.{◌≡◌, ◌⊎◌, ℕ, Bool, true, List, Option, None, Result, Ok, Err}
+use Rattle.std.specs.Option.{ForSome}
 use Rattle.std.specs.Io.KnownBytes.{Appends, Keeps}
 use Rattle.chip_graph.specs.ChipGame.{ChipGame}
 use Rattle.chip_graph.specs.declared.fault.GameFault.TheVariants.{Total}
@@ -15,7 +16,7 @@ use Rattle.chip_command.specs.Reports.{Reports}
 use Rattle.chip_command.specs.declared.ended.Ended.{Ended}
 use Rattle.chip_command.specs.declared.fault.Fault.{Fault}
 use Rattle.chip_command.specs.declared.fault.Fault.TheVariants as fault
-use Rattle.chip_run.specs.Feeding.{MeansFedGame, RefusesFedGame}
+use Rattle.chip_run.specs.Feeding.{ForText, MeansFedGame, RefusesFedGame}
 use Rattle.chip_run.specs.Recording.{RecordsIfAsked, FailsToRecord}
 
 -- the plan by these numbers, which seals nothing
@@ -95,3 +96,9 @@ RunAnswers graph_text chips_text feed_text limit plan old new result =
     IsRefused graph_text chips_text feed_text limit old new result
     ⊎ ((g : ChipGame) × (feeds : Option (List (ℕ × ℕ))) × MeansFedGame graph_text chips_text feed_text limit g feeds
     × RunAnswersFor g feeds plan old new result)
+
+-- the same where what the readers have left may be known
+abbrev pub RunReads : Option (List ℕ) → Option (List ℕ) → Option (Option (List ℕ)) → ℕ → Plan → Outputs → Outputs
+    → Result Ended Fault → Type 0
+RunReads graph chips feed limit plan old new result = ForSome graph (λ graph_text. ForSome chips
+    (λ chips_text. ForText feed (λ feed_text. RunAnswers graph_text chips_text feed_text limit plan old new result)))

@@ -1,11 +1,9 @@
 //! The engine.
 
 ghost use Rattle.std.specs.Prelude.{◌≡◌, ℕ, false, None, option_map, IfOk, IfErr};
-ghost use Rattle.std.specs.Option.{ForSome};
 ghost use Rattle.chip_report.specs.ReportText.{report_text};
 ghost use Rattle.chip_command.specs.Reports.{plain_status};
-ghost use Rattle.chip_run.specs.Feeding.{ForText};
-ghost use Rattle.chip_run.specs.RunCommand.{RunAnswers, Plays, IsNotPlayed, plan_of};
+ghost use Rattle.chip_run.specs.RunCommand.{RunReads, Plays, IsNotPlayed, plan_of};
 
 use crate::feeding::read_fed;
 use crate::recording::record_if_asked;
@@ -54,12 +52,10 @@ pub fn run_engine<R: Threads + Wait + Sync, G: Read, C: Read, F: Read, T: Write,
     trace: &mut Option<T>,
     output: &mut W,
 ) -> Result<Ended, Fault>
-    ensures { ForSome (G.remaining graph.old)
-        (λ graph_text. ForSome (C.remaining chips.old)
-        (λ chips_text. ForText (option_map (λ reader. F.remaining reader.now) feed.entry)
-        (λ feed_text. RunAnswers graph_text chips_text feed_text limit (plan_of ring workers turns trace_rows)
+    ensures { RunReads (G.remaining graph.old) (C.remaining chips.old)
+        (option_map (λ reader. F.remaining reader.now) feed.entry) limit (plan_of ring workers turns trace_rows)
         (record { report = W.contents output.old; trace = option_map T.contents trace.old })
-        (record { report = W.contents output.new; trace = option_map T.contents trace.new }) result))) }
+        (record { report = W.contents output.new; trace = option_map T.contents trace.new }) result }
 {
     let plan = Plan {
         workers,
@@ -97,12 +93,10 @@ pub fn run_engine_gated<
 ) -> Result<Ended, Fault>
     requires seal { plan.seal ≡ None }
     requires gate { (worker turn : ℕ) → K.may_answer gate.now worker turn false → ⊥ }
-    ensures { ForSome (G.remaining graph.old)
-        (λ graph_text. ForSome (C.remaining chips.old)
-        (λ chips_text. ForText (option_map (λ reader. F.remaining reader.now) feed.entry)
-        (λ feed_text. RunAnswers graph_text chips_text feed_text limit plan
+    ensures { RunReads (G.remaining graph.old) (C.remaining chips.old)
+        (option_map (λ reader. F.remaining reader.now) feed.entry) limit plan
         (record { report = W.contents output.old; trace = option_map T.contents trace.old })
-        (record { report = W.contents output.new; trace = option_map T.contents trace.new }) result))) }
+        (record { report = W.contents output.new; trace = option_map T.contents trace.new }) result }
 {
     // (the game is not held while the texts go out)
     let played = {

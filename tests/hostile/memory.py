@@ -1,4 +1,5 @@
-"""Each request for memory refused, alone and with all behind it: the same answer, or a fault and nothing written."""
+"""Each request for memory refused, alone and with all behind it: the same answer, or a fault and nothing written. Inside
+a search of counts it is the same answer."""
 import errno
 
 from machine import LAST
@@ -22,6 +23,26 @@ def of_run(machine, worked):
             yield name, lambda number=number, last=last: refused(machine, worked, number, last)
 
 
+def needs(machine, worked):
+    """How many requests for memory a run makes, and how many of them it cannot do without."""
+    count = machine.calls(worked.words)["alloc"]
+    ran = (machine.run_refusing(worked.words, ("alloc", it, it, errno.ENOMEM))[0] for it in range(1, count + 1))
+    return count, sum(1 for it in ran if worked.differences(it))
+
+
+def of_search(machine, worked):
+    """A refused request ends the search and not the play: the search adds requests, but none that the run needs."""
+
+    def faults():
+        (made, needed), (fewer, needed_too) = needs(machine, worked), needs(machine, worked.unsearched())
+        found = [] if fewer < made else [f"of {made} requests none is the search's"]
+        return found + ([] if needed == needed_too else [f"needs {needed} requests, and {needed_too} without its search"])
+
+    yield f"{worked.name}: its search can do without memory", faults
+
+
 def tests(machine, runs):
     for worked in runs:
         yield from of_run(machine, worked)
+        if worked.near_limit:
+            yield from of_search(machine, worked)

@@ -27,6 +27,13 @@ class Worked:
     # Whether it makes the same calls in every run, and how many threads it starts.
     is_steady: bool = True
     threads: int = 0
+    # Where the play searches counts: a limit in place of its last word that is never reached, and yet so near that none
+    # are searched.
+    near_limit: str = ""
+
+    def unsearched(self):
+        """The same run without its search of counts."""
+        return dataclasses.replace(self, words=[*self.words[:-1], self.near_limit])
 
     def files(self):
         """The files of the run as they are opened, that of feeds last, each with its number among the arguments."""
@@ -127,6 +134,12 @@ def worked_runs(examples):
     return [
         run("small triangle", f"plain {triangle}", "triangle/report.json"),
         run("told of", f"plain {triangle} --progress", "triangle/report.json"),
+        run(
+            "begun near the end",
+            "plain path/graph.json path/chips.csv --limit 1099511627776",
+            "path/report.json",
+            near_limit="1000",
+        ),
         run("no words", "", "triangle/report.json"),
         run("graph of the chain", "check chain/graph.json", "chain/check.txt"),
         run("first sitting", "plain triangle/graph.json sittings/chips.csv --limit 1", "sittings/first.json", status=2),

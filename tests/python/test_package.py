@@ -138,7 +138,7 @@ class Plain(WithFolder):
         self.assertEqual((report.chips, report.fired), ((0, 2**40), (2**40, 0)))
 
     def test_the_reports_of_the_examples(self):
-        for game in ("triangle", "chain", "batch", "grid", "cycle"):
+        for game in ("triangle", "chain", "batch", "grid", "cycle", "path"):
             report = chipfire.plain(f"{EXAMPLES}/{game}/graph.json", f"{EXAMPLES}/{game}/chips.csv")
             self.assertEqual(report.text(), text_of(f"{EXAMPLES}/{game}/report.json"))
 

@@ -1,4 +1,4 @@
-ghost use Rattle.std.specs.Prelude.{◌≡◌, length, IfOk, IfSome, OnOk};
+ghost use Rattle.std.specs.Prelude.{◌≡◌, length, IfOk, IfSome};
 ghost use Rattle.chip_fire.specs.Rounds.{IsBegun};
 
 use crate::certificate::certified;
@@ -20,6 +20,8 @@ const TURNS: u64 = 1 << 20;
 
 /// The chips of each vertex and how often it has fired, with which a play begins: after some rounds,
 /// and where these have not ended it, at counts that are guessed and certified, if there are some.
+///
+/// The memory of these two lists is all that it needs: where there is no more, no counts are searched.
 pub(crate) fn start<W: Watch>(
     alloc: Global,
     game: &Game,
@@ -32,7 +34,7 @@ pub(crate) fn start<W: Watch>(
     if ends_soon(game, &mut chips, &mut fired, watch) {
         return Ok((chips, fired));
     }
-    by_turns(alloc, game, chips, fired, watch)
+    Ok(by_turns(alloc, game, chips, fired, watch))
 }
 
 /// The chips and counts at which a play goes on once counts were searched: those found, or those to which
@@ -43,50 +45,53 @@ fn by_turns<W: Watch>(
     mut chips: Vec<u64>,
     mut fired: Vec<u64>,
     watch: &mut W,
-) -> Result<(Vec<u64>, Vec<u64>), AllocError>
+) -> (Vec<u64>, Vec<u64>)
     requires { IsBegun game.now chips.items fired.items }
-    ensures { IfOk result (λ begun. IsBegun game.now begun.0.items begun.1.items) }
+    ensures { IsBegun game.now result.0.items result.1.items }
 {
-    let before = Vec::from_slice(alloc, &fired)?;
-    let Some(more) = searched(alloc, game, &mut chips, &mut fired, watch)? else {
-        return Ok((chips, fired));
+    let Ok(before) = Vec::from_slice(alloc, &fired) else {
+        return (chips, fired);
+    };
+    let Some(more) = searched(alloc, game, &mut chips, &mut fired, watch) else {
+        return (chips, fired);
     };
     jump(alloc, game, &before, &more, chips, fired)
 }
 
 /// Searches counts for the play from here on, while the play goes on: each has its turns, so that a search
-/// that takes long costs little more than the play. `None` where the play has ended first.
+/// that takes long costs little more than the play. `None` where the play has ended first, or where memory
+/// ran out, which ends the search alone.
 fn searched<W: Watch>(
     alloc: Global,
     game: &Game,
     chips: &mut [u64],
     fired: &mut [u64],
     watch: &mut W,
-) -> Result<Option<GuessedCounts>, AllocError>
+) -> Option<GuessedCounts>
     requires { IsBegun game.now chips.old fired.old }
-    ensures begun { OnOk result (IsBegun game.now chips.new fired.new) }
-    ensures order_each { IfOk result
-        (λ found. IfSome found (λ more. length more.order.items ≡ game.now.graph.vertices)) }
+    ensures begun { IsBegun game.now chips.new fired.new }
+    ensures order_each { IfSome result (λ more. length more.order.items ≡ game.now.graph.vertices) }
 {
     let graph = game.graph();
-    let start = Vec::from_slice(alloc, chips)?;
-    let most = left(alloc, game.limit(), fired)?;
-    let mut search = Search::new(alloc, graph, &start, &most)?;
+    let start = Vec::from_slice(alloc, chips).ok()?;
+    let most = left(alloc, game.limit(), fired).ok()?;
+    let mut search = Search::new(alloc, graph, &start, &most).ok()?;
     let turn = looks_at_all(graph).saturating_mul(TURN);
     let mut work = looks_at_all(graph).saturating_mul(AHEAD);
     'turns: for _ in 0..TURNS {
-        if search.go_on(alloc, work)? {
+        if search.go_on(alloc, work).ok()? {
             break;
         }
         if ends_by(game, turn, chips, fired, watch) {
-            return Ok(None);
+            return None;
         }
         work = turn;
     }
-    Ok(Some(search.found(alloc, &most)?))
+    search.found(alloc, &most).ok()
 }
 
-/// Counts that come near to those of the end, and their position, where they are certified; else those given.
+/// Counts that come near to those of the end, and their position, where they are certified; else those given,
+/// as where memory runs out.
 ///
 /// They are those of `before` and so many `more`, or the given ones where these are greater.
 fn jump(
@@ -96,16 +101,18 @@ fn jump(
     more: &GuessedCounts,
     chips: Vec<u64>,
     fired: Vec<u64>,
-) -> Result<(Vec<u64>, Vec<u64>), AllocError>
+) -> (Vec<u64>, Vec<u64>)
     requires begun { IsBegun game.now chips.items fired.items }
     requires order_each { length more.now.order.items ≡ game.now.graph.vertices }
-    ensures { IfOk result (λ begun. IsBegun game.now begun.0.items begun.1.items) }
+    ensures { IsBegun game.now result.0.items result.1.items }
 {
-    let counts = greater(alloc, &fired, before, &more.counts)?;
-    if let Some(position) = certified(alloc, game, &fired, &counts, &more.order)? {
-        return Ok((position, counts));
+    let Ok(counts) = greater(alloc, &fired, before, &more.counts) else {
+        return (chips, fired);
+    };
+    if let Ok(Some(position)) = certified(alloc, game, &fired, &counts, &more.order) {
+        return (position, counts);
     }
-    Ok((chips, fired))
+    (chips, fired)
 }
 
 /// How often each vertex may still fire.

@@ -208,6 +208,21 @@ fn expect_same(rt: &impl Abort, outcome: &Outcome, other: &Outcome) {
     assert_eq!(rt; outcome.sealed.as_slice(), other.sealed.as_slice());
 }
 
+/// Plays a game as `plain` does, and compares of how many rounds it was told in all, and of how many firings.
+fn expect_rounds(
+    rt: &(impl AllocGlobal + Abort),
+    game: &Game,
+    rounds: u64,
+    firings: u64,
+) -> Result<(), Fail> {
+    let mut told = Told::nothing();
+    let outcome = plain_watched(rt.alloc(), game, &mut told)?;
+    expect_same(rt, &outcome, &plain(rt.alloc(), game)?);
+    assert_eq!(rt; told.rounds, rounds);
+    assert_eq!(rt; told.firings, firings);
+    Ok(())
+}
+
 /// The chips on vertex 0, how many rounds they take, and how many firings.
 const ROUNDS: [(u64, u64, u64); 4] = [(0, 0, 0), (3, 1, 1), (4, 1, 3), (5, 2, 4)];
 
@@ -216,13 +231,43 @@ const ROUNDS: [(u64, u64, u64); 4] = [(0, 0, 0), (3, 1, 1), (4, 1, 3), (5, 2, 4)
 fn watched(rt: HostRuntime) -> Result<(), Fail> {
     for (chips, rounds, firings) in ROUNDS {
         let game = triangle(rt.alloc(), &[chips, 0, 0], 1 << 40)?;
-        let mut told = Told::nothing();
-        let outcome = plain_watched(rt.alloc(), &game, &mut told)?;
-        expect_same(&rt, &outcome, &plain(rt.alloc(), &game)?);
-        assert_eq!(rt; told.rounds, rounds);
-        assert_eq!(rt; told.firings, firings);
+        expect_rounds(&rt, &game, rounds, firings)?;
     }
     Ok(())
+}
+
+/// Vertex 0 sends all its chips to vertex 1, which sends half of them back. So 2^39 chips on vertex 0 take 39 rounds
+/// until one is left, and that one takes a round more. Vertex 0 fires 2^39 + .. + 2 + 1 times, and vertex 1 fires
+/// 2^38 + .. + 2 + 1 times. About half way it is judged whether the play goes on by rounds, and it does.
+#[test]
+fn rounds_before_and_after_a_judgement(rt: HostRuntime) -> Result<(), Fail> {
+    let graph = graph_of(rt.alloc(), 3, 2, &[(0, 1, 1), (1, 0, 1), (1, 2, 1)])?;
+    let start = Vec::from_slice(rt.alloc(), &[1 << 39, 0, 0])?;
+    let game = Game::new(graph, start, 1 << 40)?;
+    let firings = (1 << 40) - 1 + (1 << 39) - 1;
+    expect_rounds(&rt, &game, 40, firings)
+}
+
+/// Vertices 0 and 1 fire by 2^20 chips, and vertex 1 sends one of them to the sink. Vertex 0 has less than twice that, so
+/// in each round both fire once and one chip is lost: after round 2^20 - 1 vertex 0 has a chip too few.
+///
+/// The rounds halve nothing, so counts are searched, but no test is passed by more than the rounds have come to: not the
+/// burning test, since by the edge from vertex 2, which never fires, the in-degree of vertex 0 is above its degree; and
+/// not the other, since vertex 0 would lack two chips or more. So the rounds go on as they were.
+#[test]
+fn rounds_before_and_after_a_search(rt: HostRuntime) -> Result<(), Fail> {
+    let most = 1 << 20;
+    let edges = [
+        (0, 1, most),
+        (1, 0, most - 1),
+        (1, 3, 1),
+        (2, 0, 2),
+        (2, 3, 1),
+    ];
+    let graph = graph_of(rt.alloc(), 4, 3, &edges)?;
+    let start = Vec::from_slice(rt.alloc(), &[2 * most - 2, 0, 0, 0])?;
+    let game = Game::new(graph, start, 1 << 40)?;
+    expect_rounds(&rt, &game, most - 1, 2 * (most - 1))
 }
 
 /// Goes on with a play on the triangle, and compares what the sitting fired, the chips at its end and what was fired

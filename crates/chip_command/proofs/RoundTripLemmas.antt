@@ -2,8 +2,8 @@
 -- What is read of the text of traces: the records, line by line, and of them the traces.
 use Rattle.std.proofs.Common.{◌≡◌, ℕ, zero, suc, ◌+◌, ◌^◌, ◌<◌, ◌≤◌, Bool, true, false, List, [], ◌∷◌, ◌++◌, length, map}
 use Rattle.std.proofs.Common.{get_or, codes, Option, None, Some, Result, Ok, Err, refl, sym, ap, ◌∙◌, subst, inl, inr}
-use Rattle.std.proofs.Common.{arith, append_assoc, append-nil, lit≤, length-append}
-use Rattle.std.specs.Prelude.{◌&&◌, ◌==◌, nat_lt, nat_le, is_some, is_none, option_and_then, unwrap_or, if◌then◌else◌, All}
+use Rattle.std.proofs.Common.{arith, append_assoc, append-nil, length-append}
+use Rattle.std.specs.Prelude.{◌&&◌, ◌==◌, nat_lt, is_some, is_none, option_and_then, unwrap_or, if◌then◌else◌, All}
 use Rattle.std.specs.Prelude.{bytes_eq}
 use Rattle.std.specs.Fmt.{decimal}
 use Rattle.std.specs.List.{AllByRecursion, filter, list_any, range_with_len}
@@ -27,10 +27,10 @@ use Rattle.chip_graph.specs.Edges.{all_edges}
 use Rattle.chip_graph.specs.Faults.{first_of_faults, unless}
 use Rattle.chip_link.specs.declared.trace.TraceRow.{TraceRow}
 use Rattle.chip_link.specs.declared.trace.TraceRow.TheVariants.{Take, Fire}
-use Rattle.chip_file.specs.Answer.{Answers, IsOfMachine, max_bytes}
+use Rattle.chip_file.specs.Answer.{Answers}
 use Rattle.chip_file.specs.Kinds.{kind_at}
 use Rattle.chip_file.specs.Numbers.{number_of, number_at, number_in}
-use Rattle.chip_file.specs.Rows.{Row, records_of, by_index, first_row_fault, records_fault, rows_under_header, has_header}
+use Rattle.chip_file.specs.Rows.{Row, records_of, by_index, first_row_fault, rows_under_header, has_header}
 use Rattle.chip_file.specs.TraceText.{trace_header, trace_kinds, row_of_kind, trace_row_in, names_edge, trace_row_fault}
 use Rattle.chip_file.specs.TraceText.{kind_in, trace_in, trace_text_fault, traces_of_text}
 use Rattle.chip_file.specs.declared.fault.FileFault.{FileFault}

@@ -5,3 +5,4 @@ pub mod Laws
 pub mod PlainCommand
 pub mod Reports
 pub mod Worked
+pub mod Sitting

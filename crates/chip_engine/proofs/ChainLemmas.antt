@@ -1,63 +1,28 @@
 -- Serves Sittings.antt.
 -- Plays that go on, from text to text.
-use Rattle.std.proofs.Common.{◌≡◌, ℕ, ◌+◌, List, [], ◌∷◌, codes, length, slice_index, true}
-use Rattle.std.proofs.Common.{sym, ap, ◌∙◌, subst, arith, inl, inr}
-use Rattle.std.specs.Prelude.{◌&&◌, replicate}
-use Rattle.std.proofs.lemmas.List.{append_cancel_left, get_or-replicate, get_or_past, length-replicate}
-use mathlib.Core.Logic.{dite}
-use native.Mathlib.Decide.{dec_lt}
+use Rattle.std.proofs.Common.{◌≡◌, ℕ, ◌+◌, List, [], ◌∷◌, codes, slice_index, true}
+use Rattle.std.proofs.Common.{sym, ap, ◌∙◌, subst, inl, inr}
+use Rattle.std.specs.Prelude.{◌&&◌}
+use Rattle.std.proofs.lemmas.List.{append_cancel_left}
 use Rattle.chip_graph.specs.Multigraph.{Multigraph}
 use Rattle.chip_graph.specs.ChipGame.{ChipGame}
 use Rattle.chip_file.specs.GraphText.{MeansGraph}
 use Rattle.chip_sequence.specs.Firing.{IsLegal}
-use Rattle.chip_sequence.specs.Outcomes.{IsOutcome}
-use Rattle.chip_sequence.specs.Sittings.{IsResumed, IsPlayFrom, LeadsTo, fired_in_all}
-use Rattle.chip_sequence.specs.declared.outcome.Outcome.{Outcome}
+use Rattle.chip_sequence.specs.Sittings.{IsResumed, IsPlayFrom, LeadsTo}
 use Rattle.chip_sequence.specs.declared.resumed.Resumed.{Resumed}
-use Rattle.chip_fire.proofs.PlayLemmas.{outcome_is}
-use Rattle.chip_sequence.proofs.SittingLemmas.{played_is_sitting}
 use Rattle.chip_report.specs.ReportText.{is_empty, report_text}
-use Rattle.chip_report.specs.Reportable.{Told, told}
 use Rattle.chip_report.specs.ReportTwo.{ToldOfAll, told_of_all, report_two_text, IsAnyReportOf}
-use Rattle.chip_report.proofs.ReportLemmas.{one_outcome}
 use Rattle.chip_report.proofs.ReportTwoLemmas.{one_sitting, not_both}
 use Rattle.chip_command.specs.Inputs.{Reads, MeansGame}
 use Rattle.chip_engine.specs.ResumeCommand.{LeadsToTheEnd}
-use Rattle.chip_engine.specs.Sittings.{TellsPlayFrom, IsResumedTo, AreResumed}
+use Rattle.chip_command.specs.Sitting.{TellsPlayFrom}
+use Rattle.chip_command.proofs.SittingLemmas.{first_tells, report_tells}
+use Rattle.chip_engine.specs.Sittings.{IsResumedTo, AreResumed}
 use Rattle.chip_core.specs.Positions.{started}
 use Rattle.chip_engine.specs.Sittings.{PlainTellsPlay, SimulateTellsPlay, ResumedPlaysAddUp}
 use Rattle.chip_engine.proofs.SittingLemmas.{LeavesNoneLegal, none_legal, leads_on}
 
 -- ---- a first sitting
-
--- no firings before
-none_before : (n v : ℕ) → slice_index (replicate n 0) v ≡ 0
-none_before n v =
-    let none : List ℕ = replicate n 0 in
-    let many : length none ≡ n = length-replicate n 0 in
-    dite (dec_lt v n)
-    (λ l. get_or-replicate n v 0 0 l)
-    (λ nl. get_or_past none v 0 (omega arith))
-
--- what an outcome tells leads from x to its chips
-abbrev Leads : Multigraph → (ℕ → ℕ) → Told → Type 0
-Leads G x t = LeadsTo G x (slice_index t.fired) (slice_index t.chips)
-
--- the report of an outcome whose counts lead to its chips tells a play
-pub first_tells : (G : Multigraph) (x : ℕ → ℕ) (o : Outcome) → IsOutcome o
-    → LeadsTo G x (slice_index o.fired.items) (slice_index o.chips.items)
-    → (report : List ℕ) → report ≡ report_text o → TellsPlayFrom G x report
-first_tells G x o fits leads report spelled r (inl first) =
-    let same : told o ≡ told r.outcome =
-    one_outcome o r.outcome fits first.0.reportable (sym spelled ∙ first.0.spelled) in
-    let of_it : LeadsTo G x (slice_index r.outcome.fired.items) (slice_index r.outcome.chips.items) =
-    subst (Leads G x) same leads in
-    let in_all : (v : ℕ) → slice_index r.outcome.fired.items v ≡ fired_in_all r v =
-    (λ v. let none : slice_index r.prior.items v ≡ 0 = ap (λ (l : List ℕ). slice_index l v) first.1
-    ∙ none_before (length r.outcome.fired.items) v in omega arith) in
-    subst (λ (f : ℕ → ℕ). LeadsTo G x f (slice_index r.outcome.chips.items)) (λ i v. in_all v i) of_it
-first_tells G x o fits leads report spelled r (inr two) =
-    absurd (not_both report o r (record { reportable = fits; spelled = spelled }) two)
 
 -- two texts and a limit mean one game
 same_graph : (graph_text : List ℕ) (G H : Multigraph) → MeansGraph graph_text G → MeansGraph graph_text H → G ≡ H
@@ -76,8 +41,8 @@ plain_tells_play graph_text chips_text limit report ended (h, means', text, repo
     (same_start graph_text chips_text limit h g means' means)
     (subst (λ (G : Multigraph). TellsPlayFrom G (slice_index h.start) report)
     (same_graph graph_text h.graph g.graph means'.named.graph.1 means.named.graph.1)
-    (first_tells h.graph (slice_index h.start) reports.0 (outcome_is h means'.game reports.0 reports.1)
-    (played_is_sitting h reports.0 reports.1) report (wrote ∙ reports.2)))
+    (subst (TellsPlayFrom h.graph (slice_index h.start)) (sym wrote)
+    (report_tells h means'.game text ended.status reports)))
 
 pub simulate_tells_play : SimulateTellsPlay
 simulate_tells_play g log end report status ends is =

@@ -3,7 +3,6 @@ use Rattle.std.specs.Prelude.{◌≡◌, ℕ, List, [], ◌∷◌, ◌++◌, cod
 use Rattle.chip_graph.specs.Multigraph.{Multigraph}
 use Rattle.chip_graph.specs.ChipGame.{ChipGame}
 use Rattle.chip_file.specs.GraphText.{MeansGraph}
-use Rattle.chip_sequence.specs.Sittings.{IsPlayFrom}
 use Rattle.chip_sequence.specs.declared.resumed.Resumed.{Resumed}
 use Rattle.chip_report.specs.ReportTwo.{IsAnyReportOf}
 use Rattle.chip_part.specs.Setting.{Setting}
@@ -11,13 +10,10 @@ use Rattle.chip_core.specs.Core.{Log}
 use Rattle.chip_core.specs.Positions.{started}
 use Rattle.chip_command.specs.Inputs.{Reads, MeansGame}
 use Rattle.chip_command.specs.PlainCommand.{PlainAnswers}
+use Rattle.chip_command.specs.Sitting.{TellsPlayFrom}
 use Rattle.chip_engine.specs.ResumeCommand.{LeadsToTheEnd, ResumeAnswers}
 use Rattle.chip_engine.specs.SimulateCommand.{EndsClosed}
 use Rattle.chip_command.specs.declared.ended.Ended.{Ended}
-
--- whichever sitting is read from a report, what was fired in all leads from the start x to the chips that lie there
-abbrev pub TellsPlayFrom : Multigraph → (ℕ → ℕ) → List ℕ → Type 0
-TellsPlayFrom G x report = (r : Resumed) → IsAnyReportOf report r → IsPlayFrom G x r
 
 -- `resume` wrote this report, given the one before it
 abbrev pub IsResumedTo : (graph_text before report : List ℕ) → Type 0

@@ -1,9 +1,9 @@
 -- Serves Laws.antt: all that is reported of a game is read off the game.
 use Rattle.std.proofs.Common.{◌≡◌, ◌<◌, ℕ, List, length, Option, Some, None, refl, sym, ap, subst, ◌∙◌}
-use Rattle.std.proofs.Common.{slice_index, unwrap_or, ⊎_elim}
+use Rattle.std.proofs.Common.{slice_index, unwrap_or, ⊎_elim, arith}
 use Rattle.std.proofs.lemmas.List.{same_lists, get_or_default}
-use Rattle.chip_graph.specs.Multigraph.{Multigraph}
-use Rattle.chip_graph.specs.ChipGame.{ChipGame}
+use Rattle.chip_graph.specs.Multigraph.{Multigraph, IsGraph}
+use Rattle.chip_graph.specs.ChipGame.{ChipGame, IsGame}
 use Rattle.chip_file.specs.ChipsText.{chips_of_text}
 use Rattle.chip_sequence.specs.Firing.{legal_vertices}
 use Rattle.chip_sequence.specs.Play.{IsPlayed}
@@ -11,9 +11,10 @@ use Rattle.chip_sequence.specs.declared.outcome.Outcome.{Outcome}
 use Rattle.chip_report.specs.ReportText.{report_text}
 use Rattle.chip_command.specs.Inputs.{MeansGame}
 use Rattle.chip_command.specs.Reports.{Reports, plain_status}
-use Rattle.chip_crew.specs.Finished.{IsWhole}
-use Rattle.chip_run.specs.Feeding.{MeansFed, feeds_of}
-use Rattle.chip_run.specs.Laws.{OneReport, SameBytes, SameBytesFed}
+use Rattle.chip_command.proofs.SittingLemmas.{report_tells}
+use Rattle.chip_crew.specs.Finished.{IsWhole, StaysWithin}
+use Rattle.chip_run.specs.Feeding.{MeansFed, MeansFedGame, feeds_of}
+use Rattle.chip_run.specs.Laws.{OneReport, SameBytes, SameBytesFed, RunWrote, RunTellsPlay}
 
 -- numbers that are the same at each place
 same_numbers : (xs ys : List ℕ) → length xs ≡ length ys
@@ -82,11 +83,27 @@ one_whole g (Some feeds) a b p q = same_games a b (p.same_graph ∙ sym q.same_g
     (λ v below. let inside = subst (λ n. v < n) p.start_each below in p.start v inside ∙ sym (q.start v inside)))
     (p.same_limit ∙ sym q.same_limit)
 
+-- with all chips at the start a game is within the limits where what is fed stays within the total
+whole_fits : (g : ChipGame) → IsGame g → (feeds : Option (List (ℕ × ℕ))) → StaysWithin g feeds
+    → (whole : ChipGame) → IsWhole g feeds whole → IsGame whole
+whole_fits g fits None within whole is = subst IsGame (sym is) fits
+whole_fits g fits (Some feeds) within whole is =
+    record {
+      graph_fits = subst IsGraph (sym is.same_graph) fits.graph_fits;
+      start_fits = is.start_each ∙ fits.start_fits ∙ ap (λ (G : Multigraph). G.vertices) (sym is.same_graph);
+      few_chips = (let t = is.total in omega arith);
+      low_limit = (let a = fits.low_limit in let b = is.same_limit in omega arith);
+    }
+
 -- ---- one report for the texts
 
-pub same_bytes_fed : SameBytesFed
-same_bytes_fed graph_text chips_text feed_text limit whole_graph whole_chips (g, feeds, means, whole, whole_means, is_whole)
-    one other s t (plan, old, new, ended, ran, s_is) (done, (h, h_means, text, reports, out, cut), t_is) =
+-- what `run` wrote is the report of the game that has all chips at the start, which is within the limits
+pub run_reports : (graph_text chips_text : List ℕ) (feed_text : Option (List ℕ)) (limit : ℕ) (report : List ℕ) (status : ℕ)
+    → RunWrote graph_text chips_text feed_text limit report status → (g : ChipGame) (feeds : Option (List (ℕ × ℕ)))
+    → MeansFedGame graph_text chips_text feed_text limit g feeds → (whole : ChipGame) → IsWhole g feeds whole
+    → Reports whole report status × IsGame whole
+run_reports graph_text chips_text feed_text limit report status (plan, old, new, ended, ran, s_is) g feeds means whole
+    is_whole =
     ⊎_elim (λ refused. absurd refused)
     (λ (g', feeds', means', answers). let told = answers.1 in let plays = answers.2 in
     let game : g' ≡ g = one_game graph_text chips_text limit g' g means'.game means.game in
@@ -96,12 +113,29 @@ same_bytes_fed graph_text chips_text feed_text limit whole_graph whole_chips (g,
     let same_whole : w ≡ whole = one_whole g feeds w whole
     (subst (λ (k : ChipGame). IsWhole k feeds w) game
     (subst (λ (f : Option (List (ℕ × ℕ))). IsWhole g' f w) fed plays.reports.1)) is_whole in
-    let same_game : h ≡ whole = one_game whole_graph whole_chips limit h whole h_means whole_means in
-    let same = one_report whole told text ended.status done.status
-    (subst (λ (k : ChipGame). Reports k told ended.status) same_whole plays.reports.2)
-    (subst (λ (k : ChipGame). Reports k text done.status) same_game reports) in
-    (answers.4 ∙ same.0 ∙ sym out, s_is ∙ same.1 ∙ sym t_is))
+    let within : StaysWithin g feeds = subst (λ (k : ChipGame). StaysWithin k feeds) game
+    (subst (StaysWithin g') fed plays.finished.opened.can.total) in
+    let reports : Reports whole told ended.status =
+    subst (λ (k : ChipGame). Reports k told ended.status) same_whole plays.reports.2 in (
+      subst (λ (t : List ℕ). Reports whole t status) (sym answers.4)
+          (subst (Reports whole told) (sym s_is) reports),
+      whole_fits g means.game.game feeds within whole is_whole,
+    ))
     ran
+
+pub same_bytes_fed : SameBytesFed
+same_bytes_fed graph_text chips_text feed_text limit whole_graph whole_chips (g, feeds, means, whole, whole_means, is_whole)
+    one other s t ran (done, (h, h_means, text, reports, out, cut), t_is) =
+    let same_game : h ≡ whole = one_game whole_graph whole_chips limit h whole h_means whole_means in
+    let same = one_report whole one text s done.status
+    (run_reports graph_text chips_text feed_text limit one s ran g feeds means whole is_whole).0
+    (subst (λ (k : ChipGame). Reports k text done.status) same_game reports) in
+    (same.0 ∙ sym out, same.1 ∙ sym t_is)
+
+pub run_tells_play : RunTellsPlay
+run_tells_play graph_text chips_text feed_text limit report status ran g feeds means whole is_whole =
+    let of_it = run_reports graph_text chips_text feed_text limit report status ran g feeds means whole is_whole in
+    report_tells whole of_it.1 report status of_it.0
 
 pub same_bytes : SameBytes
 same_bytes graph_text chips_text limit one other s t ran (done, answers, t_is) =

@@ -1,9 +1,10 @@
 -- The laws of `run`, as the functions of `src/laws.rt` state them.
-use Rattle.std.specs.Prelude.{◌≡◌, ℕ, List, [], Option, None, Some, Ok}
+use Rattle.std.specs.Prelude.{◌≡◌, ℕ, List, [], Option, None, Some, Ok, slice_index}
 use Rattle.chip_graph.specs.ChipGame.{ChipGame}
 use Rattle.chip_command.specs.Inputs.{MeansGame}
 use Rattle.chip_command.specs.PlainCommand.{PlainAnswers}
 use Rattle.chip_command.specs.Reports.{Reports}
+use Rattle.chip_command.specs.Sitting.{TellsPlayFrom}
 use Rattle.chip_command.specs.declared.ended.Ended.{Ended}
 use Rattle.chip_crew.specs.Finished.{IsWhole}
 use Rattle.chip_crew.specs.declared.plan.Plan.{Plan}
@@ -48,3 +49,11 @@ SameBytesFed =
     → MeanTheWhole graph_text chips_text feed_text limit whole_graph whole_chips → (one other : List ℕ) (s t : ℕ)
     → RunWrote graph_text chips_text feed_text limit one s → PlainWrote whole_graph whole_chips limit other t
     → (one ≡ other) × (s ≡ t)
+
+-- what `run` writes tells a play from the start of the game that has all chips at the start, also those that were fed
+abbrev pub RunTellsPlay : Type 0
+RunTellsPlay =
+    (graph_text chips_text : List ℕ) (feed_text : Option (List ℕ)) (limit : ℕ) (report : List ℕ) (status : ℕ)
+    → RunWrote graph_text chips_text feed_text limit report status → (g : ChipGame) (feeds : Option (List (ℕ × ℕ)))
+    → MeansFedGame graph_text chips_text feed_text limit g feeds → (whole : ChipGame) → IsWhole g feeds whole
+    → TellsPlayFrom whole.graph (slice_index whole.start) report

@@ -1,6 +1,6 @@
 //! Laws of `run`: functions that do nothing, whose contracts are the laws.
 
-ghost use Rattle.chip_run.specs.Laws.{OneReport, SameBytes, SameBytesFed};
+ghost use Rattle.chip_run.specs.Laws.{OneReport, SameBytes, SameBytesFed, RunTellsPlay};
 
 /// A game has one report, however it is played.
 pub fn one_report()
@@ -12,4 +12,10 @@ pub fn one_report()
 pub fn same_bytes()
     ensures alike { SameBytes }
     ensures fed { SameBytesFed }
+{}
+
+/// The report of a run is that of a first sitting, on which `resume` goes on: its counts lead to its chips, from the start
+/// of the game that has all chips at the start, also those that were fed.
+pub fn first_sitting()
+    ensures { RunTellsPlay }
 {}

@@ -1,0 +1,55 @@
+-- Serves Sitting.antt.
+-- What the report of a first sitting tells.
+use Rattle.std.proofs.Common.{◌≡◌, ℕ, List, length, slice_index, sym, ap, ◌∙◌, subst, arith, inl, inr}
+use Rattle.std.specs.Prelude.{replicate}
+use Rattle.std.proofs.lemmas.List.{get_or-replicate, get_or_past, length-replicate}
+use mathlib.Core.Logic.{dite}
+use native.Mathlib.Decide.{dec_lt}
+use Rattle.chip_graph.specs.Multigraph.{Multigraph}
+use Rattle.chip_graph.specs.ChipGame.{ChipGame, IsGame}
+use Rattle.chip_sequence.specs.Outcomes.{IsOutcome}
+use Rattle.chip_sequence.specs.Sittings.{LeadsTo, fired_in_all}
+use Rattle.chip_sequence.specs.declared.outcome.Outcome.{Outcome}
+use Rattle.chip_sequence.proofs.SittingLemmas.{played_is_sitting}
+use Rattle.chip_fire.proofs.PlayLemmas.{outcome_is}
+use Rattle.chip_report.specs.ReportText.{report_text}
+use Rattle.chip_report.specs.Reportable.{Told, told}
+use Rattle.chip_report.proofs.ReportLemmas.{one_outcome}
+use Rattle.chip_report.proofs.ReportTwoLemmas.{not_both}
+use Rattle.chip_command.specs.Reports.{Reports}
+use Rattle.chip_command.specs.Sitting.{TellsPlayFrom}
+
+-- no firings before
+none_before : (n v : ℕ) → slice_index (replicate n 0) v ≡ 0
+none_before n v =
+    let none : List ℕ = replicate n 0 in
+    let many : length none ≡ n = length-replicate n 0 in
+    dite (dec_lt v n)
+    (λ l. get_or-replicate n v 0 0 l)
+    (λ nl. get_or_past none v 0 (omega arith))
+
+-- what an outcome tells leads from x to its chips
+abbrev Leads : Multigraph → (ℕ → ℕ) → Told → Type 0
+Leads G x t = LeadsTo G x (slice_index t.fired) (slice_index t.chips)
+
+-- the report of an outcome whose counts lead to its chips tells a play
+pub first_tells : (G : Multigraph) (x : ℕ → ℕ) (o : Outcome) → IsOutcome o
+    → LeadsTo G x (slice_index o.fired.items) (slice_index o.chips.items)
+    → (report : List ℕ) → report ≡ report_text o → TellsPlayFrom G x report
+first_tells G x o fits leads report spelled r (inl first) =
+    let same : told o ≡ told r.outcome =
+    one_outcome o r.outcome fits first.0.reportable (sym spelled ∙ first.0.spelled) in
+    let of_it : LeadsTo G x (slice_index r.outcome.fired.items) (slice_index r.outcome.chips.items) =
+    subst (Leads G x) same leads in
+    let in_all : (v : ℕ) → slice_index r.outcome.fired.items v ≡ fired_in_all r v =
+    (λ v. let none : slice_index r.prior.items v ≡ 0 = ap (λ (l : List ℕ). slice_index l v) first.1
+    ∙ none_before (length r.outcome.fired.items) v in omega arith) in
+    subst (λ (f : ℕ → ℕ). LeadsTo G x f (slice_index r.outcome.chips.items)) (λ i v. in_all v i) of_it
+first_tells G x o fits leads report spelled r (inr two) =
+    absurd (not_both report o r (record { reportable = fits; spelled = spelled }) two)
+
+-- the report of a game played to its end tells a play from its start
+pub report_tells : (g : ChipGame) → IsGame g → (text : List ℕ) (status : ℕ) → Reports g text status
+    → TellsPlayFrom g.graph (slice_index g.start) text
+report_tells g fits text status (o, played, spelled, s) =
+    first_tells g.graph (slice_index g.start) o (outcome_is g fits o played) (played_is_sitting g o played) text spelled

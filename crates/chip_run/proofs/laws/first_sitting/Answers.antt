@@ -1,0 +1,5 @@
+use Rattle.chip_run.proofs.SameLemmas as same
+use Rattle.chip_run.proofs.laws.first_sitting.Goals as goal
+
+pub returns : goal.returns
+returns c = same.run_tells_play

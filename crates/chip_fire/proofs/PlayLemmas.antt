@@ -1,4 +1,4 @@
--- Serves Rounds.antt.
+-- Serves Rounds.antt and Player.antt.
 -- The plain player: turns, rounds, and what they come to.
 use Rattle.std.proofs.Common.{◌≡◌, ◌≢◌, ℕ, zero, suc, ◌+◌, ◌-◌, ◌*◌, ◌/◌, ◌<◌, ◌≤◌, Bool, true, false, not, ◌&&◌}
 use Rattle.std.proofs.Common.{eqb, leb, All, Contains, List, [], length, sum, get_or, set, slice_index, replicate, ◌⊎◌}
@@ -8,7 +8,7 @@ use Rattle.std.specs.List.Sorted.{IsStrictlyIncreasing}
 use Rattle.std.proofs.lemmas.List.{length-replicate}
 use Rattle.std.proofs.lemmas.List.Elements.{All-from_get_or}
 use Rattle.std.proofs.lemmas.List.Sums.{get_or-le-sum_by}
-use Rattle.std.specs.Bool.{OnFalse}
+use Rattle.std.specs.Bool.{OnTrue, OnFalse}
 use mathlib.Core.Logic.{dite}
 use native.Mathlib.Decide.{ℕ_discrete, dec_lt}
 use Rattle.chip_graph.specs.Limits.{max_total, max_limit}
@@ -25,7 +25,8 @@ use Rattle.chip_sequence.specs.Counted.{IsAfter}
 use Rattle.chip_sequence.specs.Certificate.{AreForced, IsCertified, AreBurnt, IsOnTheWay}
 use Rattle.chip_sequence.specs.Bound.{firing_bound, greatest_degree}
 use Rattle.chip_sequence.specs.Play.{IsPlayed, IsEnough}
-use Rattle.chip_fire.specs.Rounds.{IsInRange, IsBegun, StaysOnTheWay, firings_left, IsSwept}
+use Rattle.chip_fire.specs.Rounds.{IsInRange, IsBegun, StaysOnTheWay, IsAtRest, GoesRound, firings_left, IsSwept}
+use Rattle.chip_fire.specs.Player.{PlaysOut}
 use Rattle.chip_sequence.proofs.FiringLemmas.{counts-replicate, batch}
 use Rattle.chip_sequence.proofs.EndLemmas.{continued}
 use Rattle.chip_sequence.proofs.CertificateLemmas.{certified_counts, led, on_the_way, start_on_the_way}
@@ -108,6 +109,11 @@ on_false : (b : Bool) {P Q : Type 0} → (P → Q) → OnFalse b P → OnFalse b
 on_false true f p = p
 on_false false f p = f p
 
+-- what follows where a test is passed
+on_true : (b : Bool) {P Q : Type 0} → (P → Q) → OnTrue b P → OnTrue b Q
+on_true true f p = f p
+on_true false f p = p
+
 module _ (G : Multigraph) (limit first : ℕ) (chips fired chips' fired' : List ℕ) (any : Bool) (i : ℕ)
     (so_far : IsSwept G limit first chips fired chips' fired' any (first + 2 * i)) where
   -- a vertex that does not fire
@@ -155,24 +161,54 @@ halves zero = inl (0, refl)
 halves (suc v) = ⊎_elim (λ even. inr (even.0, (let a = even.1 in omega arith)))
     (λ odd. inl (odd.0 + 1, (let a = odd.1 in omega arith))) (halves v)
 
-module _ (G : Multigraph) (limit : ℕ) (chips fired chips' fired' chips'' fired'' : List ℕ) where
-  -- two sweeps in which nothing fired: nothing may fire
-  pub round_rests : (any : Bool) → IsSwept G limit 0 chips fired chips' fired' false G.vertices
-      → IsSwept G limit 1 chips' fired' chips'' fired'' any G.vertices
-      → OnFalse any ((v : ℕ) → IsLegal G (slice_index chips'') v → slice_index fired'' v ≡ limit)
+module _ (g : ChipGame) (chips fired chips' fired' chips'' fired'' : List ℕ) (begun : IsBegun g chips fired) where
+  -- two sweeps, one after the other
+  both : StaysOnTheWay g.graph g.limit chips fired chips' fired'
+      → StaysOnTheWay g.graph g.limit chips' fired' chips'' fired'' → IsInRange g.graph g.limit chips'' fired''
+      → IsBegun g chips'' fired''
+  both even odd in_range = record {
+    in_range = in_range;
+    on_the_way = odd (slice_index g.start) (even (slice_index g.start) begun.on_the_way);
+  }
+
+  -- where nothing fired in the first: nothing may fire if nothing fired in the second either
+  round_rests : (any : Bool) → IsSwept g.graph g.limit 0 chips fired chips' fired' false g.graph.vertices
+      → IsSwept g.graph g.limit 1 chips' fired' chips'' fired'' any g.graph.vertices
+      → OnFalse any (IsAtRest g.graph g.limit chips'' fired'')
   round_rests any even odd = on_false any
       (λ none v can. ⊎_elim
       (λ is.
-      let can' : IsLegal G (slice_index chips') (0 + 2 * is.0) =
-      subst (IsLegal G (slice_index chips')) is.1
-      (subst (λ (l : List ℕ). IsLegal G (slice_index l) v) none.0 can) in
+      let can' : IsLegal g.graph (slice_index chips') (0 + 2 * is.0) =
+      subst (IsLegal g.graph (slice_index chips')) is.1
+      (subst (λ (l : List ℕ). IsLegal g.graph (slice_index l) v) none.0 can) in
       ap (λ (l : List ℕ). slice_index l v) none.1 ∙ ap (slice_index fired') is.1
       ∙ even.none_fired.2 is.0 can'.is_vertex can')
       (λ is.
-      let can' : IsLegal G (slice_index chips'') (1 + 2 * is.0) = subst (IsLegal G (slice_index chips'')) is.1 can in
+      let can' : IsLegal g.graph (slice_index chips'') (1 + 2 * is.0) =
+      subst (IsLegal g.graph (slice_index chips'')) is.1 can in
       ap (slice_index fired'') is.1 ∙ none.2 is.0 can'.is_vertex can')
       (halves v))
       odd.none_fired
+
+  -- a round in whose first sweep some vertex fired
+  pub round_fires : (any : Bool) → IsSwept g.graph g.limit 0 chips fired chips' fired' true g.graph.vertices
+      → IsSwept g.graph g.limit 1 chips' fired' chips'' fired'' any g.graph.vertices
+      → GoesRound g fired chips'' fired'' true
+  round_fires any even odd = record {
+    begun = both even.stays odd.stays odd.in_range;
+    some_fired = (let a = even.some_fired in let b = odd.fewer in omega arith);
+    none_fired = tt;
+  }
+
+  -- a round in whose first sweep none fired
+  pub round_by_odd : (any : Bool) → IsSwept g.graph g.limit 0 chips fired chips' fired' false g.graph.vertices
+      → IsSwept g.graph g.limit 1 chips' fired' chips'' fired'' any g.graph.vertices
+      → GoesRound g fired chips'' fired'' any
+  round_by_odd any even odd = record {
+    begun = both even.stays odd.stays odd.in_range;
+    some_fired = on_true any (λ less. let a = even.fewer in omega arith) odd.some_fired;
+    none_fired = round_rests any even odd;
+  }
 
 -- ---- the whole game
 
@@ -327,3 +363,11 @@ outcome_is g ok o is =
       sealed_vertices = λ k d l. (let b = ap length is.sealed in absurd (omega arith));
       apart = λ v has has'. none v has';
     }
+
+-- all that the plain player answers
+pub plays_out : (g : ChipGame) → IsGame g → (o : Outcome) → IsPlayed g o → PlaysOut g o
+plays_out g ok o is = record {
+  played = is;
+  in_range = outcome_is g ok o is;
+  not_stopped = not_stopped g ok o is;
+}

@@ -1,9 +1,7 @@
-ghost use Rattle.std.specs.Prelude.{◌≡◌, ℕ, ◌<◌, ◌≤◌, IfOk, [], length, slice_index};
-ghost use Rattle.std.specs.Bool.{OnTrue, OnFalse};
-ghost use Rattle.chip_sequence.specs.Firing.{IsLegal, legal_vertices};
-ghost use Rattle.chip_sequence.specs.Outcomes.{IsOutcome};
-ghost use Rattle.chip_sequence.specs.Play.{IsPlayed, IsEnough};
-ghost use Rattle.chip_fire.specs.Rounds.{IsBegun, firings_left};
+ghost use Rattle.std.specs.Prelude.{◌≡◌, ◌<◌, ◌≤◌, IfOk, length, slice_index};
+ghost use Rattle.chip_sequence.specs.Firing.{legal_vertices};
+ghost use Rattle.chip_fire.specs.Rounds.{IsBegun, IsAtRest, GoesRound, firings_left};
+ghost use Rattle.chip_fire.specs.Player.{PlaysOut};
 
 use crate::rounds::{STRETCH, round};
 use crate::start::start;
@@ -18,9 +16,7 @@ use std::alloc::{AllocError, Global};
 /// limit allow, round after round until none fires. The way is this function's own: the outcome is
 /// that of every order.
 pub fn plain(alloc: Global, game: &Game) -> Result<Outcome, AllocError>
-    ensures played { IfOk result (IsPlayed game.now) }
-    ensures in_range { IfOk result IsOutcome }
-    ensures not_stopped { IfOk result (λ outcome. IsEnough game.now → outcome.over.items ≡ []) }
+    ensures { IfOk result (PlaysOut game.now) }
 {
     plain_watched(alloc, game, &mut Unwatched)
 }
@@ -32,9 +28,7 @@ pub fn plain_watched<W: Watch>(
     game: &Game,
     watch: &mut W,
 ) -> Result<Outcome, AllocError>
-    ensures played { IfOk result (IsPlayed game.now) }
-    ensures in_range { IfOk result IsOutcome }
-    ensures not_stopped { IfOk result (λ outcome. IsEnough game.now → outcome.over.items ≡ []) }
+    ensures { IfOk result (PlaysOut game.now) }
 {
     let (mut chips, mut fired) = start(alloc, game, watch)?;
     play(game, &mut chips, &mut fired, watch);
@@ -51,8 +45,7 @@ pub fn plain_watched<W: Watch>(
 fn play<W: Watch>(game: &Game, chips: &mut [u64], fired: &mut [u64], watch: &mut W)
     requires { IsBegun game.now chips.old fired.old }
     ensures begun { IsBegun game.now chips.new fired.new }
-    ensures ended { (v : ℕ) → IsLegal game.now.graph (slice_index chips.new) v
-        → slice_index fired.new v ≡ game.now.limit }
+    ensures ended { IsAtRest game.now.graph game.now.limit chips.new fired.new }
 {
     let most = STRETCH / game.graph().vertices().max(1) + 1;
     'stretches: while told_rounds(game, most, chips, fired, watch) {}
@@ -69,11 +62,7 @@ fn told_rounds<W: Watch>(
 ) -> bool
     requires begun { IsBegun game.now chips.old fired.old }
     requires some { 0 < most }
-    ensures begun { IsBegun game.now chips.new fired.new }
-    ensures some_fired { OnTrue result
-        (firings_left game.now.graph game.now.limit fired.new < firings_left game.now.graph game.now.limit fired.old) }
-    ensures none_fired { OnFalse result ((v : ℕ) → IsLegal game.now.graph (slice_index chips.new) v
-        → slice_index fired.new v ≡ game.now.limit) }
+    ensures { GoesRound game.now fired.old chips.new fired.new result }
 {
     let made = rounds(game, most, chips, fired);
     watch.rounds(made, game, chips, fired);
@@ -90,8 +79,7 @@ fn rounds(game: &Game, most: u64, chips: &mut [u64], fired: &mut [u64]) -> u64
     ensures at_most { result ≤ most }
     ensures some_fired { result ≡ most
         → firings_left game.now.graph game.now.limit fired.new < firings_left game.now.graph game.now.limit fired.old }
-    ensures none_fired { result < most → (v : ℕ) → IsLegal game.now.graph (slice_index chips.new) v
-        → slice_index fired.new v ≡ game.now.limit }
+    ensures none_fired { result < most → IsAtRest game.now.graph game.now.limit chips.new fired.new }
 {
     let mut turns = 0u64;
     for made in 0..most {

@@ -3,7 +3,7 @@
 ghost use Rattle.std.specs.Prelude.{◌≡◌, ℕ, ◌<◌, ◌≤◌, ◌/◌, slice_index};
 ghost use Rattle.std.specs.Bool.{OnTrue, OnFalse};
 ghost use Rattle.chip_sequence.specs.Firing.{IsLegal};
-ghost use Rattle.chip_fire.specs.Rounds.{IsBegun, IsInRange, StaysOnTheWay, firings_left, IsSwept};
+ghost use Rattle.chip_fire.specs.Rounds.{IsBegun, IsInRange, StaysOnTheWay, GoesRound, firings_left, IsSwept};
 
 use chip_graph::{Game, Graph};
 use chip_sequence::fire_batch;
@@ -19,11 +19,7 @@ pub(crate) const STRETCH: u64 = 1 << 20;
 /// reads what it has just written: in ascending order a path takes nearly twice as long.
 pub(crate) fn round(game: &Game, chips: &mut [u64], fired: &mut [u64], turns: &mut u64) -> bool
     requires { IsBegun game.now chips.old fired.old }
-    ensures begun { IsBegun game.now chips.new fired.new }
-    ensures some_fired { OnTrue result
-        (firings_left game.now.graph game.now.limit fired.new < firings_left game.now.graph game.now.limit fired.old) }
-    ensures none_fired { OnFalse result ((v : ℕ) → IsLegal game.now.graph (slice_index chips.new) v
-        → slice_index fired.new v ≡ game.now.limit) }
+    ensures { GoesRound game.now fired.old chips.new fired.new result }
 {
     let graph = game.graph();
     let limit = game.limit();

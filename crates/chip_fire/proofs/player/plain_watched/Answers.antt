@@ -3,11 +3,11 @@ use Rattle.std.proofs.lemmas.List.{with_items_is}
 use Rattle.chip_graph.specs.Multigraph.{Multigraph}
 use Rattle.chip_sequence.specs.Firing.{legal_vertices}
 use Rattle.chip_fire.specs.Rounds.{IsBegun}
-use Rattle.chip_fire.proofs.PlayLemmas.{game_played, outcome_is, not_stopped}
+use Rattle.chip_fire.proofs.PlayLemmas.{game_played, plays_out}
 use Rattle.chip_fire.proofs.player.plain_watched.Goals as goal
 
-pub returns-clause-played : goal.returns-clause-played
-returns-clause-played g c =
+pub returns : goal.returns
+returns g c =
     let first : IsBegun c.args.game.now c.in_ok-chips.chips.items c.in_ok-chips.fired.items = c.in_ok-chips.ensures in
     let last : IsBegun c.args.game.now c.play.new.chips c.play.new.fired = c.play.ensures.begun in
     let chips_is = with_items_is c.in_ok-chips.chips c.play.new.chips (let a = first.in_range.chips_each in
@@ -18,12 +18,7 @@ returns-clause-played g c =
     c.in_ok-over.ensures ∙ ap (λ (G : Multigraph). legal_vertices G (slice_index c.deref.result.now)) c.graph.ensures.value
     ∙ ap (λ (l : List ℕ). legal_vertices c.args.game.now.graph (slice_index l)) (c.deref.ensures.value
     ∙ chips_is) in
-    game_played c.args.game.now.graph c.args.game.now.limit c.args.game.now.start c.play.new.chips c.play.new.fired
+    plays_out c.args.game.now c.graph.ensures.game _
+    (game_played c.args.game.now.graph c.args.game.now.limit c.args.game.now.start c.play.new.chips c.play.new.fired
     last.in_range last.on_the_way c.play.ensures.ended _
-    c.graph.ensures.game.start_fits fired_is chips_is over c.new.ensures.items
-
-pub returns-clause-in_range : goal.returns-clause-in_range
-returns-clause-in_range g c = outcome_is c.args.game.now c.graph.ensures.game _ (returns-clause-played g c)
-
-pub returns-clause-not_stopped : goal.returns-clause-not_stopped
-returns-clause-not_stopped g c = not_stopped c.args.game.now c.graph.ensures.game _ (returns-clause-played g c)
+    c.graph.ensures.game.start_fits fired_is chips_is over c.new.ensures.items)

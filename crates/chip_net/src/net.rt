@@ -1,4 +1,4 @@
-ghost use Rattle.std.specs.Prelude.{◌≡◌, ℕ, [], Some, IfOk};
+ghost use Rattle.std.specs.Prelude.{◌≡◌, ℕ, [], IfOk};
 
 use crate::calls;
 use crate::rule::{PartSeat, Words};
@@ -34,7 +34,7 @@ impl Net {
     ghost use Rattle.chip_net.specs.Layout.{word_count};
     ghost use Rattle.chip_net.specs.Opening.{AreOpening};
     ghost use Rattle.chip_net.specs.Rule.{Looked};
-    ghost use Rattle.chip_net.specs.Views.{find, did_in, Has, opening_view, without, IsAlone, joined};
+    ghost use Rattle.chip_net.specs.Views.{find, Has, opening_view, without, IsAlone, joined};
 
     /// A net with these words, and the seat that has every part.
     pub(crate) fn of_words(
@@ -70,23 +70,13 @@ impl Net {
         &self.words
     }
 
-    /// A seat of its own for a part that has done nothing.
-    pub(crate) fn hand_on(&self, seat: &mut PartSeat, part: u64) -> PartSeat
-        requires seat { seat.old.table_id ≡ self.now.table }
-        requires part { find part seat.old.me.0.parts ≡ Some [] }
-        ensures kept { (seat.new.table_id ≡ seat.old.table_id) × (seat.new.me.0 ≡ without part seat.old.me.0) }
-        ensures given { (result.table_id ≡ seat.old.table_id) × (find part result.me.0.parts ≡ Some []) }
-        ensures alone { IsAlone part result.me.0 × (result.me.1 ≡ []) }
-    {
-        calls::hand_on::<Brand>(&self.words, seat, part)
-    }
-
     /// A seat of its own for a part, with all that it did.
     pub(crate) fn take_out(&self, seat: &mut PartSeat, part: u64) -> PartSeat
         requires seat { seat.old.table_id ≡ self.now.table }
         requires part { Has part seat.old.me.0 }
         ensures kept { (seat.new.table_id ≡ seat.old.table_id) × (seat.new.me.0 ≡ without part seat.old.me.0) }
-        ensures given { (result.table_id ≡ seat.old.table_id) × (did_in part result.me.0 ≡ did_in part seat.old.me.0) }
+        ensures given { (result.table_id ≡ seat.old.table_id)
+            × (find part result.me.0.parts ≡ find part seat.old.me.0.parts) }
         ensures alone { IsAlone part result.me.0 × (result.me.1 ≡ []) }
     {
         calls::hand_on::<Brand>(&self.words, seat, part)

@@ -67,7 +67,7 @@ fn one_actor(
     ensures others { (p : ℕ) → vertex < p → find p seat.new.me.0.parts ≡ find p seat.old.me.0.parts }
     ensures actor { IfOk result (λ a. a ≡ newcomer net.now trace_rows vertex) }
 {
-    let own = net.hand_on(seat, vertex);
+    let own = net.take_out(seat, vertex);
     let setting = net.setting();
     let trace = Trace::new(alloc, trace_rows as usize)?;
     let state = ActorState::new(alloc, setting.game(), vertex, setting.ring())?;
@@ -117,7 +117,7 @@ fn stopper_of(net: &Net, seat: &mut PartSeat, stoppable: bool) -> Option<Stopper
         return None;
     }
     let part = net.setting().vertices() + 1;
-    let own = net.hand_on(seat, part);
+    let own = net.take_out(seat, part);
     Some(Stopper::new(Snapshot::of(net.setting()), own))
 }
 

@@ -2,7 +2,7 @@ use Rattle.std.proofs.Common.{◌≡◌, ℕ, ◌≤◌, List, length, ◌∷◌
 use Rattle.chip_core.specs.Core.{Step}
 use Rattle.chip_net.specs.Tokens.{NetId, ActorKnown, known_of, IsActor}
 use Rattle.chip_net.specs.Traces.{Keeps, rows_of}
-use Rattle.chip_net.specs.Views.{View, find, did_in, IsAlone}
+use Rattle.chip_net.specs.Views.{View, find, did_in, steps_or_none, IsAlone}
 use Rattle.chip_net.specs.Meeting.{AreInPlace, Met}
 use Rattle.chip_net.proofs.RulingLemmas.{Mine}
 use Rattle.chip_net.proofs.MeetingLemmas.{last_in_place, there_again, others_more, met_more, same_known}
@@ -43,7 +43,7 @@ given : (t : _) (c : After-take_out-own t)
     → did_in c.into_seat-own.result.1.vertex c.take_out-own.result.me.0 ≡ c.in-Some-take.hand.did
 given t c =
     let m = (goal.at.After-take_out-own t c).After-meet in
-    c.take_out-own.ensures.given.1
+    ap steps_or_none c.take_out-own.ensures.given.1
     ∙ (there_again c.args.seat.now.me.0 c.into_seat-own.result.0.me.0 c.meet.new.seat.me.0 c.pop.new.self.items
     c.into_seat-own.result.1.vertex (at t m) (alone_is t m) (others t m)).1 ∙ did_is t m
 

@@ -7,21 +7,21 @@ use Rattle.chip_net.specs.Tokens.{ActorKnown, part_known}
 use Rattle.chip_net.specs.Views.{View, find}
 use Rattle.chip_net.proofs.ViewingLemmas.{dropped_else}
 use Rattle.chip_net.proofs.open.one_actor.Goals as goal
-use Rattle.chip_net.proofs.open.one_actor.Goals.{After-hand_on-own}
+use Rattle.chip_net.proofs.open.one_actor.Goals.{After-take_out-own}
 
-others : (c : After-hand_on-own) (p : ℕ) → c.args.vertex < p
-    → find p c.hand_on-own.new.seat.me.0.parts ≡ find p c.args.seat.now.me.0.parts
-others c p l = ap (λ (v : View). find p v.parts) c.hand_on-own.ensures.kept.1
+others : (c : After-take_out-own) (p : ℕ) → c.args.vertex < p
+    → find p c.take_out-own.new.seat.me.0.parts ≡ find p c.args.seat.now.me.0.parts
+others c p l = ap (λ (v : View). find p v.parts) c.take_out-own.ensures.kept.1
     ∙ dropped_else c.args.vertex p c.args.seat.now.me.0.parts (λ e. omega arith)
 
 pub returns-in_err-state-clause-others : goal.returns-in_err-state-clause-others
-returns-in_err-state-clause-others c = others (goal.at.returns-in_err-state-clause-others c).After-hand_on-own
+returns-in_err-state-clause-others c = others (goal.at.returns-in_err-state-clause-others c).After-take_out-own
 
 pub returns-in_err-trace-clause-others : goal.returns-in_err-trace-clause-others
-returns-in_err-trace-clause-others c = others (goal.at.returns-in_err-trace-clause-others c).After-hand_on-own
+returns-in_err-trace-clause-others c = others (goal.at.returns-in_err-trace-clause-others c).After-take_out-own
 
 pub returns-clause-others : goal.returns-clause-others
-returns-clause-others c = others (goal.at.returns-clause-others c).After-hand_on-own
+returns-clause-others c = others (goal.at.returns-clause-others c).After-take_out-own
 
 pub new-requires-4-clause-state : goal.new-requires-4-clause-state
 new-requires-4-clause-state c =

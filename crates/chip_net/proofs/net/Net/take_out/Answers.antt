@@ -1,5 +1,5 @@
 use Rattle.std.proofs.Common.{ap, ◌∙◌, subst, sym}
-use Rattle.chip_net.specs.Views.{did_in, steps_or_none, IsAlone}
+use Rattle.chip_net.specs.Views.{find, did_in, IsAlone}
 use Rattle.chip_net.proofs.SplittingLemmas.{hands_on}
 use Rattle.chip_net.proofs.ViewingLemmas.{handed_alone, alone_has}
 use Rattle.chip_net.proofs.RulingLemmas.{Mine}
@@ -12,9 +12,9 @@ hand_on-requires-clause-rule c = hands_on c.self.inside.words.shared.key.value c
 pub returns-clause-given : goal.returns-clause-given
 returns-clause-given c = (
   c.hand_on.ensures.given.0,
-  ap (λ (m : Mine). did_in c.args.part m.0) c.hand_on.ensures.given.1
-      ∙ ap steps_or_none
-      (alone_has c.args.part c.args.seat.now.me.0 (did_in c.args.part c.args.seat.now.me.0) c.requires.part),
+  ap (λ (m : Mine). find c.args.part m.0.parts) c.hand_on.ensures.given.1
+      ∙ alone_has c.args.part c.args.seat.now.me.0 (did_in c.args.part c.args.seat.now.me.0) c.requires.part
+      ∙ sym c.requires.part,
 )
 
 pub returns-clause-alone : goal.returns-clause-alone

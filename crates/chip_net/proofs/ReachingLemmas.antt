@@ -1,20 +1,33 @@
 -- Serves Laws.antt, Layout.antt.
 -- The rule of the table says that the world is reached.
-use Rattle.std.proofs.Common.{◌≡◌, ℕ, List, subst}
+use Rattle.std.proofs.Common.{◌≡◌, ℕ, ◌++◌, List, length, take, drop, ap, ◌∙◌, subst}
+use Rattle.std.proofs.lemmas.List.{take-append-drop}
+use Rattle.chip_link.specs.Laws.{IsPrefix}
 use Rattle.chip_core.specs.Core.{Step, Part, part_in, word_of_part}
 use Rattle.chip_core.specs.Histories.{done_by}
 use Rattle.chip_core.specs.Words.{of_vertex}
 use Rattle.chip_core.specs.Reached.{parts_by}
+use Rattle.chip_core.proofs.LogLemmas.{edge_sound}
 use Rattle.chip_core.proofs.ReachingLemmas.{by_history}
 use Rattle.chip_core.proofs.ReachedLemmas.{reached_by_legal_logs}
 use Rattle.chip_net.specs.Layout.{value_in}
 use Rattle.chip_net.specs.Laws.{EdgeShows, EveryMomentIsReached}
 
+-- the front of a list is a prefix of it
+front : (got put : List ℕ) → got ≡ take (length got) put → IsPrefix got put
+front got put is = (
+  drop (length got) put,
+  ap (λ (l : List ℕ). l ++ drop (length got) put) is
+      ∙ take-append-drop (length got) put,
+)
+
 pub every_moment : EveryMomentIsReached
 every_moment g s kept =
     let did : ℕ → List Step = λ p. done_by g p kept.log in
     let parts : part_in g kept.log ≡ parts_by g did = (λ i p. by_history g kept.log p i) in
+    let sound = edge_sound g kept.setting.game kept.setting.some_ring kept.log kept.legal in
     record {
+      setting = kept.setting;
       did = did;
       reached = (reached_by_legal_logs g).0 kept.log kept.legal;
       owner = kept.owner;
@@ -25,6 +38,8 @@ every_moment g s kept =
             word = (kept.shown.edges e l).word_is;
             cells = (kept.shown.edges e l).ring_is;
             acks = kept.shown.acks e l;
+            prefix = front _ _ (sound e).prefix;
+            sealed = (sound e).sealed_at;
           };
       fired = λ v l. subst (λ (ps : ℕ → Part). value_in g s.words (of_vertex v) ≡ word_of_part (ps v)) parts
           (kept.shown.fired v l);

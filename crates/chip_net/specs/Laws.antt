@@ -3,8 +3,9 @@ use Rattle.std.specs.Prelude.{◌≡◌, ℕ, ◌+◌, ◌%◌, ◌<◌, ◌≤�
 use mathlib.Core.Option.{some}
 use lib.ListN.{get_elem?}
 use Rattle.atomic_table.specs.Table.{State}
-use Rattle.chip_link.specs.Link.{word_of}
-use Rattle.chip_part.specs.Setting.{Setting}
+use Rattle.chip_link.specs.Link.{word_of, claims_of, IsSealedAt}
+use Rattle.chip_link.specs.Laws.{IsPrefix}
+use Rattle.chip_part.specs.Setting.{Setting, IsSetting}
 use Rattle.chip_core.specs.Core.{Step, Part, all_edges, out_by, into_by, stop_by, word_of_part}
 use Rattle.chip_core.specs.Words.{of_edge, of_acks, of_cell, of_vertex}
 use Rattle.chip_core.specs.Reached.{parts_by, IsReached}
@@ -12,7 +13,7 @@ use Rattle.chip_net.specs.Layout.{value_in}
 use Rattle.chip_net.specs.Views.{View, find}
 use Rattle.chip_net.specs.Rule.{Kept}
 
--- the words of an edge are what the parts have made of them
+-- the words of an edge are what the parts have made of them, and what was sent on it arrives in order
 pub record EdgeShows (g : Setting) (words : List ℕ) (parts : ℕ → Part) (e : ℕ) : Type 0 where
   -- the edge word has the number of claims of its tail, and the seal
   pub word : value_in g words (of_edge e) ≡ word_of (out_by g parts e).link (stop_by g parts e)
@@ -22,10 +23,15 @@ pub record EdgeShows (g : Setting) (words : List ℕ) (parts : ℕ → Part) (e 
       → value_in g words (of_cell e (p % g.ring)) ≡ slice_index (out_by g parts e).link.put p
   -- the word of acknowledgements is what its head acknowledged
   pub acks : value_in g words (of_acks e) ≡ (into_by g parts e).acked
+  -- what its head has got is a prefix of what its tail put, each message once and in order: both lists go by places
+  pub prefix : IsPrefix (into_by g parts e).got (out_by g parts e).link.put
+  -- since its first seal nothing was claimed, so nothing is sent after it
+  pub sealed : IsSealedAt (claims_of (out_by g parts e).link) (stop_by g parts e)
 
 -- words and views are a reached world: what each part did, which stands in exactly one view, and the words that the
 -- parts have made
 pub record IsReachedTable (g : Setting) (s : State (Unit {0}) View) : Type 0 where
+  pub setting : IsSetting g
   pub did : ℕ → List Step
   pub reached : IsReached g did
   pub owner : ℕ → ℕ

@@ -114,16 +114,16 @@ impl Root {
         ensures { MatchResult result (λ r. IsOver self × Finishes self r.1 r.0)
             (λ r. (r ≡ self) × (IsOver self → ⊥)) }
     {
-        if !self.hand.closed() {
+        if !self.hand.is_closed() {
             return Err(self);
         }
         let Root { hand, reserve } = self;
-        Ok(ended(net, Box::into_inner(hand), Box::into_inner(reserve)))
+        Ok(read_outcome(net, Box::into_inner(hand), Box::into_inner(reserve)))
     }
 }
 
 /// The end of a game that is over: the reads, and what is made of them.
-fn ended(net: &Net, hand: RootHand, reserve: Reserve) -> (Outcome, Receipt)
+fn read_outcome(net: &Net, hand: RootHand, reserve: Reserve) -> (Outcome, Receipt)
     requires net { hand.net ≡ net.now }
     requires over { IsOver hand }
     requires reserve { reserve ≡ hand.net.setting.game.graph.vertices }

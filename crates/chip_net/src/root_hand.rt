@@ -131,7 +131,7 @@ impl RootHand {
     }
 
     /// Whether nothing more is fed, and no message is outstanding.
-    pub(crate) fn closed(&self) -> bool
+    pub(crate) fn is_closed(&self) -> bool
         ensures { result ≡ (root_deficit self.now == 0 && has_ended self.now) }
     {
         self.state.closed()
@@ -141,7 +141,7 @@ impl RootHand {
     pub(crate) fn poll_state(&self) -> RootState
         ensures { AnswersPoll self.now result }
     {
-        if self.closed() {
+        if self.is_closed() {
             RootState::Closed
         } else {
             RootState::Running(self.state.outstanding())

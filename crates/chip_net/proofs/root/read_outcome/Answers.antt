@@ -12,8 +12,8 @@ use Rattle.chip_net.specs.Tokens.{NetId}
 use Rattle.chip_net.specs.Roots.{RootKnown, root_part}
 use Rattle.chip_net.specs.Finish.{TallyState, IsReading}
 use Rattle.chip_net.proofs.FinishingLemmas.{few, game, none_negative, finishes}
-use Rattle.chip_net.proofs.root.ended.Goals as goal
-use Rattle.chip_net.proofs.root.ended.Goals.{After-deref_mut}
+use Rattle.chip_net.proofs.root.read_outcome.Goals as goal
+use Rattle.chip_net.proofs.root.read_outcome.Goals.{After-deref_mut}
 
 -- the receipt begins as the root
 reading : (c : After-deref_mut)

@@ -43,11 +43,11 @@ report_members closed t =
     (member (codes "sealed") (array (items_of t.sealed))
     (member (codes "version") (number (unsigned 1)) no_members)))))
 
-abbrev pub report_value : Bool → Told → Data
+abbrev report_value : Bool → Told → Data
 report_value closed t = object (report_members closed t)
 
 -- the text of a report, without its newline
-abbrev pub json_text : Bool → Told → List ℕ
+abbrev json_text : Bool → Told → List ℕ
 json_text closed t =
     codes "{\"chips\":" ++ (array_text t.chips
     ++ (codes ",\"closed\":" ++ (bool_text closed
@@ -70,7 +70,7 @@ newline_last a b c d e f g h i j k = simp append_assoc
 abbrev pub closed_of : Told → Bool
 closed_of t = is_empty t.over && is_empty t.sealed
 
-pub with_newline : (o : Outcome) → json_text (closed_of (told o)) (told o) ++ 10 ∷ [] ≡ report_text o
+with_newline : (o : Outcome) → json_text (closed_of (told o)) (told o) ++ 10 ∷ [] ≡ report_text o
 with_newline o =
     newline_last (codes "{\"chips\":") (array_text o.chips.items) (codes ",\"closed\":") (bool_text (is_closed o))
     (codes ",\"fired\":") (array_text o.fired.items)
@@ -109,12 +109,12 @@ back-value closed t h = rw (
   number_of-decimal 1 (lit< tt),
 ) refl
 
-pub read-value : (closed : Bool) (t : Told) → AreShortLists t → read (json_text closed t) ≡ Some (report_value closed t)
+read-value : (closed : Bool) (t : Told) → AreShortLists t → read (json_text closed t) ≡ Some (report_value closed t)
 read-value closed t h = ap read (sym (text-value closed t))
     ∙ read-compact_text (report_value closed t) (numbers-value closed t h) (depth-value closed t)
     (back-value closed t h)
 
-pub told-value : (closed : Bool) (t : Told) → told_by_value (report_value closed t) ≡ Some t
+told-value : (closed : Bool) (t : Told) → told_by_value (report_value closed t) ≡ Some t
 told-value closed t = rw (
   numbers_of-items_of t.fired,
   numbers_of-items_of t.chips,
@@ -146,7 +146,7 @@ pub utf8-boolean : (b : Bool) → IsUtf8 (bool_text b)
 utf8-boolean true = IsUtf8-are_ascii (codes "true") refl
 utf8-boolean false = IsUtf8-are_ascii (codes "false") refl
 
-pub utf8-text : (closed : Bool) (t : Told) → AreShortLists t → IsUtf8 (json_text closed t)
+utf8-text : (closed : Bool) (t : Told) → AreShortLists t → IsUtf8 (json_text closed t)
 utf8-text closed t h =
     IsUtf8-append (codes "{\"chips\":") _ (IsUtf8-are_ascii _ refl)
     (IsUtf8-append (array_text t.chips) _ (utf8-array t.chips h.chips)

@@ -6,7 +6,7 @@ use Rattle.std.proofs.Common.{Result, Ok, Err, inl, inr, refl, sym, ap, ◌∙�
 use Rattle.std.specs.Prelude.{◌⊎◌, All, option_and_then, IsUtf8}
 use Rattle.std.specs.Fmt.{digits}
 use Rattle.std.specs.Result.{IsErrAnd}
-use Rattle.std.proofs.lemmas.List.{append_cancel_right}
+use Rattle.std.proofs.lemmas.List.{append_cancel_right, same_from_push}
 use Rattle.std.proofs.lemmas.List.Elements.{recursion_from_All}
 use Rattle.std.proofs.lemmas.Str.{IsUtf8-append}
 use Rattle.json.specs.Print.{escape_byte}
@@ -19,8 +19,8 @@ use Rattle.serde_json.specs.Written.{outline, compact_text}
 use Rattle.serde_json.proofs.Numbers.{number_of-decimal}
 use Rattle.chip_sequence.specs.declared.resumed.Resumed.{Resumed}
 use Rattle.chip_sequence.specs.Sittings.{IsResumed, max_prior}
-use Rattle.chip_report.specs.ReportText.{array_text, bool_text, is_closed, report_text}
-use Rattle.chip_report.specs.Reportable.{told, IsReportOf, IsNoReport, Gives}
+use Rattle.chip_report.specs.ReportText.{array_text, bool_text, is_closed, report_text, start_text}
+use Rattle.chip_report.specs.Reportable.{IsReportOf, IsNoReport, Gives}
 use Rattle.chip_report.specs.ReportTwo.{report_two_text, IsReportTwoOf, IsNoReportTwo, IsAnyReportOf, IsNoReportAtAll}
 use Rattle.chip_report.specs.ReportTwo.{ToldOfAll, told_of_all, told_of_all_by_value, told_of_all_by_json}
 use Rattle.chip_report.specs.declared.fault.ReportFault.{ReportFault}
@@ -29,11 +29,9 @@ use Rattle.chip_report.proofs.JsonLemmas.{read-compact_text, items_of, AreShort,
 use Rattle.chip_report.proofs.JsonLemmas.{back-array, numbers_of-items_of}
 use Rattle.chip_report.proofs.ValueLemmas.{value_of-some}
 use Rattle.chip_report.proofs.ReportLemmas.{closed_of, AreShortLists, short_lists, utf8-array, utf8-boolean}
-use Rattle.chip_report.proofs.ReportLemmas.{AreOfOutcome, outcome_then, outcome_if, json_text, read-value, utf8-text}
-use Rattle.chip_report.proofs.ReportLemmas.{told-value, with_newline}
+use Rattle.chip_report.proofs.ReportLemmas.{AreOfOutcome, outcome_then, outcome_if}
 use Rattle.chip_report.specs.Laws.{RoundTripTwo}
 use Rattle.chip_sequence.specs.declared.outcome.Outcome.{Outcome}
-use Rattle.chip_sequence.specs.Outcomes.{IsOutcome}
 
 -- ---- the value of a report
 
@@ -208,6 +206,39 @@ IsReportTwoOf-told bytes r s e is = record {
       ∙ with_newline_two s;
 }
 
+-- ---- by their ends the reports of both versions are told apart
+
+-- what only a report of version 2 ends in
+abbrev pub end_of_two : List ℕ
+end_of_two = codes ",\"version\":2}\n"
+
+ends_in_one : (o : Outcome) → (front : List ℕ) × (report_text o ≡ front ++ codes ",\"version\":1}\n")
+ends_in_one o = (start_text o ++ codes ",\"sealed\":" ++ array_text o.sealed.items, refl)
+
+ends_in_two : (r : Resumed) → (front : List ℕ) × (report_two_text r ≡ front ++ end_of_two)
+ends_in_two r = (
+  start_text r.outcome ++ codes ",\"prior\":" ++ array_text r.prior.items ++ codes ",\"sealed\":"
+      ++ array_text r.outcome.sealed.items,
+  refl,
+)
+
+ends_differ : (one two : List ℕ) → one ++ codes ",\"version\":1}\n" ≢ two ++ end_of_two
+ends_differ one two e =
+    let key : List ℕ = codes ",\"version\":" in
+    let cut : (one ++ key) ++ 49 ∷ [] ≡ (two ++ key) ++ 50 ∷ [] =
+    append_cancel_right _ _ (codes "}\n")
+    (append_assoc (one ++ key) (49 ∷ []) (codes "}\n") ∙ append_assoc one key (codes "1}\n") ∙ e
+    ∙ sym (append_assoc two key (codes "2}\n")) ∙ sym (append_assoc (two ++ key) (50 ∷ []) (codes "}\n"))) in
+    absurd (omega (arith, (same_from_push (one ++ key) (two ++ key) 49 50 cut).1))
+
+pub none_before_end : (bytes front : List ℕ) → bytes ≡ front ++ end_of_two → IsNoReport bytes
+none_before_end bytes front e o r =
+    let one = ends_in_one o in
+    ends_differ one.0 front (sym one.1 ∙ sym r.spelled ∙ e)
+
+pub none_without_end : (bytes : List ℕ) → ((front : List ℕ) → bytes ≢ front ++ end_of_two) → IsNoReportTwo bytes
+none_without_end bytes none r is = let two = ends_in_two r in none two.0 (is.spelled ∙ two.1)
+
 -- ---- bytes that are no report
 
 pub none_without_newline_two : (bytes : List ℕ) → ((front : List ℕ) → bytes ≢ front ++ 10 ∷ []) → IsNoReportTwo bytes
@@ -243,12 +274,22 @@ pub none_at_all : (bytes : List ℕ) → IsNoReport bytes → IsNoReportTwo byte
 none_at_all bytes none none_two r (inl first) = none r.outcome first.0
 none_at_all bytes none none_two r (inr went_on) = none_two r went_on
 
-pub any_or_none : (bytes : List ℕ) → IsNoReport bytes → (result : Result Resumed ReportFault)
+-- what was read as a report of version 2, of bytes that are none of version 1
+pub read_as_two : (bytes : List ℕ) → IsNoReport bytes → (result : Result Resumed ReportFault)
     → Gives (IsReportTwoOf bytes) (IsNoReportTwo bytes) result
     → Gives (IsAnyReportOf bytes) (IsNoReportAtAll bytes) result
-any_or_none bytes none (Ok r) is = inr is
-any_or_none bytes none (Err f) (inl memory) = inl memory
-any_or_none bytes none (Err f) (inr (same, none_two)) = inr (same, none_at_all bytes none none_two)
+read_as_two bytes none (Ok r) is = inr is
+read_as_two bytes none (Err f) (inl memory) = inl memory
+read_as_two bytes none (Err f) (inr (same, none_two)) = inr (same, none_at_all bytes none none_two)
+
+-- what was refused as a report of version 1, of bytes that are none of version 2
+pub refused_as_one : (bytes : List ℕ) → IsNoReportTwo bytes → (result : Result Resumed ReportFault) (f : ReportFault)
+    → IsErrAnd result (λ e. e ≡ f)
+    → (f ≡ fault.NoMemory) ⊎ ((f ≡ fault.NotReport) × IsNoReport bytes)
+    → Gives (IsAnyReportOf bytes) (IsNoReportAtAll bytes) result
+refused_as_one bytes none_two (Ok r) f is why = absurd is
+refused_as_one bytes none_two (Err g) f is (inl memory) = inl (is ∙ memory)
+refused_as_one bytes none_two (Err g) f is (inr none) = inr (is ∙ none.0, none_at_all bytes none.1 none_two)
 
 -- ---- the laws
 
@@ -262,29 +303,9 @@ one_sitting r s h k e =
     let both : Some (told_of_all r) ≡ Some (told_of_all s) = sym one ∙ other in
     cc
 
--- the report of a first sitting tells nothing of what was fired before
-nothing_prior : (o : Outcome) (json : List ℕ) → IsOutcome o → report_text o ≡ json ++ 10 ∷ []
-    → told_of_all_by_json json ≡ None
-nothing_prior o json h e =
-    let short = short_lists o h in
-    let closed : Bool = closed_of (told o) in
-    let same : json_text closed (told o) ≡ json = append_cancel_right _ json (10 ∷ []) (with_newline o ∙ e) in
-    ap told_of_all_by_json (sym same)
-    ∙ ap (option_and_then told_of_all_by_value)
-    (value_of-some (json_text closed (told o)) _ (utf8-text closed (told o) short)
-    (read-value closed (told o) short))
-    ∙ rw (told-value closed (told o)) refl
-
--- so it is the report of no sitting that went on
 pub not_both : (bytes : List ℕ) (o : Outcome) (r : Resumed) → IsReportOf bytes o → IsReportTwoOf bytes r → ⊥
 not_both bytes o r first went_on =
-    let json : List ℕ = json_two (closed_two (told_of_all r)) (told_of_all r) in
-    let split : bytes ≡ json ++ 10 ∷ [] = went_on.spelled ∙ sym (with_newline_two r) in
-    let some : told_of_all_by_json json ≡ Some (told_of_all r) =
-    told-report_two r json went_on.reportable (sym went_on.spelled ∙ split) in
-    let none : told_of_all_by_json json ≡ None = nothing_prior o json first.reportable (sym first.spelled ∙ split) in
-    let both : None ≡ Some (told_of_all r) = sym none ∙ some in
-    cc
+    let two = ends_in_two r in none_before_end bytes two.0 (went_on.spelled ∙ two.1) o first
 
 pub round_trip_two : RoundTripTwo
 round_trip_two r h (Ok read) (inl first) =

@@ -1,14 +1,17 @@
--- Serves Rows.antt, ChipsText.antt, ScheduleText.antt.
--- No text is at fault for a failed read.
+-- Serves Answer.antt, Rows.antt, ChipsText.antt, ScheduleText.antt.
+-- What the reads of an input take of it; and that no text is at fault for a failed read.
 use Rattle.std.proofs.Common.{◌≡◌, ℕ, Bool, true, false, List, [], ◌∷◌, ◌++◌, length, Option, None, Some, Result, Ok}
-use Rattle.std.proofs.Common.{Err, refl, inl, inr}
+use Rattle.std.proofs.Common.{Err, refl, inl, inr, ◌+◌, ◌≤◌, take, arith, length-append}
+use Rattle.std.proofs.KnownBytes.{Consumes-trans, Consumes-kept}
+use Rattle.std.specs.Io.{ReadsAtMost}
+use Rattle.std.specs.Io.KnownBytes.{Consumes, ReadConsumes}
 use Rattle.std.specs.Prelude.{◌==◌, nat_lt, nat_le, ◌&&◌, not, is_some, sum}
 use Rattle.chip_graph.specs.Limits.{max_total}
 use Rattle.chip_graph.specs.Faults.{first_of_faults, unless}
 use Rattle.chip_graph.specs.Multigraph.{Multigraph}
 use Rattle.chip_file.specs.declared.fault.FileFault.{FileFault}
 use Rattle.chip_file.specs.declared.fault.FileFault.TheVariants as fault
-use Rattle.chip_file.specs.Answer.{Gives, FailsInTime}
+use Rattle.chip_file.specs.Answer.{Gives, FailsInTime, TakesAtMost, max_bytes, max_chunk}
 use Rattle.chip_file.specs.Rows.{Row, records_of, has_header, rows_under_header, first_row_fault, records_fault}
 use Rattle.chip_file.specs.Rows.{by_index}
 use Rattle.chip_file.specs.ChipsText.{chips_text_fault, chips_row_fault, chips_of_rows, chips_named, vertex_in}
@@ -17,6 +20,19 @@ use Rattle.chip_file.specs.ScheduleText as schedule
 use Rattle.chip_file.specs.Kinds.{kind_at}
 use Rattle.chip_file.specs.Numbers.{number_at, number_in}
 use Rattle.chip_file.specs.TraceText.{trace_text_fault, trace_row_fault, trace_kinds, trace_row_in, names_edge}
+
+-- a read into a buffer takes no more than the buffer has room for, above what was taken before it
+pub taken_more : {E : Type 0} (a b c : Option (List ℕ)) (done buf : List ℕ) (r : Result ℕ E)
+    → Consumes a b done → ReadConsumes b c r buf → ReadsAtMost r buf → length done ≤ max_bytes
+    → length buf ≤ max_chunk
+    → TakesAtMost (max_bytes + max_chunk) a c
+taken_more a b c done buf (Ok n) before read most few room =
+    let joined = length-append done (take n buf) in
+    let within = most.0 in
+    let whole = most.1 in
+    (done ++ take n buf, Consumes-trans a b c done (take n buf) before read.0, omega arith)
+taken_more a b c done buf (Err e) before kept most few room =
+    (done, Consumes-kept a b c done before kept, omega arith)
 
 -- a fault, if there is one, is not that a read failed
 abbrev IsOfText : Option FileFault → Type 0

@@ -8,6 +8,10 @@ use Rattle.chip_file.specs.declared.fault.FileFault.TheVariants as fault
 abbrev pub max_bytes : ℕ
 max_bytes = 2 ^ 24
 
+-- the most bytes that a read asks for
+abbrev pub max_chunk : ℕ
+max_chunk = 2 ^ 16
+
 -- the machine failed, and not the text: a read failed, or memory ran out
 abbrev pub IsOfMachine : FileFault → Type 0
 IsOfMachine f = (f ≡ fault.Read) ⊎ (f ≡ fault.NoMemory)

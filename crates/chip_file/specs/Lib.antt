@@ -5,6 +5,7 @@ pub mod GraphFaults
 pub mod GraphText
 pub mod Numbers
 pub mod Rows
+pub mod Source
 pub mod Standing
 pub mod ChipsText
 pub mod Kinds

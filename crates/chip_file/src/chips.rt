@@ -1,8 +1,8 @@
 ghost use Rattle.std.specs.Prelude.{◌≡◌, ◌^◌, ◌≤◌, nat_le, Some, None, is_some, unwrap_or, IfSome, IfOk, OnOk, IfErr};
-ghost use Rattle.std.specs.Prelude.{length, map, sum, replicate, slice_index_or, slice_set};
+ghost use Rattle.std.specs.Prelude.{◌+◌, length, map, sum, replicate, slice_index_or, slice_set};
 ghost use Rattle.csv.specs.Records.{fields_of};
 ghost use Rattle.chip_graph.specs.Limits.{max_total};
-ghost use Rattle.chip_file.specs.Answer.{Answers, FailsInTime, Gives, max_bytes};
+ghost use Rattle.chip_file.specs.Answer.{Answers, FailsInTime, Gives, TakesAtMost, max_bytes, max_chunk};
 ghost use Rattle.chip_file.specs.ChipsText.{chips_of_text, chips_text_fault, AreNamed, row_fault, vertex_in, chips_in};
 ghost use Rattle.chip_file.specs.Rows.{records_of};
 
@@ -30,6 +30,7 @@ pub fn read_chips<R: Read>(
         (λ chips. chips_of_text vertices text ≡ Some chips.items)
         (λ f. chips_text_fault vertices text ≡ Some f) result) }
     ensures read { FailsInTime (R.remaining reader.old) (R.remaining reader.new) result }
+    ensures taken { TakesAtMost (max_bytes + max_chunk) (R.remaining reader.old) (R.remaining reader.new) }
 {
     let text = read_whole(alloc, reader)?;
     chips_of_text(alloc, &text, vertices)

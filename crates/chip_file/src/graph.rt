@@ -1,6 +1,6 @@
-ghost use Rattle.std.specs.Prelude.{◌≡◌, Some, None, IfSome};
+ghost use Rattle.std.specs.Prelude.{◌≡◌, ◌+◌, Some, None, IfSome};
 ghost use Rattle.serde_json.specs.View.{view};
-ghost use Rattle.chip_file.specs.Answer.{Answers, FailsInTime, Gives};
+ghost use Rattle.chip_file.specs.Answer.{Answers, FailsInTime, Gives, TakesAtMost, max_bytes, max_chunk};
 ghost use Rattle.chip_file.specs.GraphText.{file_of_value, graph_of_text, MeansGraph, IsGraphTextFault};
 ghost use Rattle.chip_file.specs.declared.fault.FileFault.TheVariants as fault;
 
@@ -22,6 +22,7 @@ pub fn read_graph<R: Read>(alloc: Global, reader: &mut R) -> Result<Graph, FileF
     ensures means { IfSome (R.remaining reader.old)
         (λ text. Answers text (MeansGraph text) (IsGraphTextFault text) result) }
     ensures read { FailsInTime (R.remaining reader.old) (R.remaining reader.new) result }
+    ensures taken { TakesAtMost (max_bytes + max_chunk) (R.remaining reader.old) (R.remaining reader.new) }
 {
     let text = read_whole(alloc, reader)?;
     graph_of_text(alloc, &text)

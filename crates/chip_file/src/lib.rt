@@ -11,8 +11,9 @@ pub use chips::read_chips;
 pub use fault::FileFault;
 pub use graph::read_graph;
 pub use schedule::read_schedule;
+pub use source::{LastRead, Source};
 pub use trace::read_trace;
-pub use whole::{MAX_BYTES, read_whole};
+pub use whole::{MAX_BYTES, read_source, read_whole};
 
 mod chips;
 mod fault;
@@ -21,5 +22,6 @@ mod json;
 mod number;
 mod rows;
 mod schedule;
+mod source;
 mod trace;
 mod whole;

@@ -1,8 +1,8 @@
 //! Schedules as rows of text.
 
-ghost use Rattle.std.specs.Prelude.{◌≡◌, ◌≤◌, length, map, Some, None, IfOk, IfErr, IfSome};
+ghost use Rattle.std.specs.Prelude.{◌≡◌, ◌+◌, ◌≤◌, length, map, Some, None, IfOk, IfErr, IfSome};
 ghost use Rattle.csv.specs.Records.{fields_of};
-ghost use Rattle.chip_file.specs.Answer.{Answers, FailsInTime, Gives, max_bytes};
+ghost use Rattle.chip_file.specs.Answer.{Answers, FailsInTime, Gives, TakesAtMost, max_bytes, max_chunk};
 ghost use Rattle.chip_file.specs.Kinds.{kind_named, kind_at};
 ghost use Rattle.chip_file.specs.ScheduleText.{event_kinds, may_be_at, event_of_kind, event_in};
 ghost use Rattle.chip_file.specs.ScheduleText.{event_fault, schedule_text_fault, schedule_of_text};
@@ -111,6 +111,7 @@ pub fn read_schedule<R: Read>(
         (λ events. schedule_of_text graph.now text ≡ Some events.items)
         (λ f. schedule_text_fault graph.now text ≡ Some f) result) }
     ensures read { FailsInTime (R.remaining reader.old) (R.remaining reader.new) result }
+    ensures taken { TakesAtMost (max_bytes + max_chunk) (R.remaining reader.old) (R.remaining reader.new) }
 {
     let text = read_whole(alloc, reader)?;
     events_of_text(alloc, &text, graph)

@@ -1,8 +1,8 @@
 //! Recorded runs as rows of text.
 
-ghost use Rattle.std.specs.Prelude.{◌≡◌, ◌≤◌, [], length, map, replicate, Some, None, IfOk, IfErr, IfSome};
+ghost use Rattle.std.specs.Prelude.{◌≡◌, ◌+◌, ◌≤◌, [], length, map, replicate, Some, None, IfOk, IfErr, IfSome};
 ghost use Rattle.csv.specs.Records.{fields_of};
-ghost use Rattle.chip_file.specs.Answer.{Answers, FailsInTime, Gives, max_bytes};
+ghost use Rattle.chip_file.specs.Answer.{Answers, FailsInTime, Gives, TakesAtMost, max_bytes, max_chunk};
 ghost use Rattle.chip_file.specs.Kinds.{kind_named, kind_at};
 ghost use Rattle.chip_file.specs.Numbers.{number_in};
 ghost use Rattle.chip_file.specs.TraceText.{trace_kinds, row_of_kind, names_edge, trace_row_in, trace_row_fault};
@@ -73,6 +73,7 @@ pub fn read_trace<R: Read>(
     // At any reader.
     ensures each { IfOk result (λ traces. length traces.items ≡ graph.now.vertices) }
     ensures read { FailsInTime (R.remaining reader.old) (R.remaining reader.new) result }
+    ensures taken { TakesAtMost (max_bytes + max_chunk) (R.remaining reader.old) (R.remaining reader.new) }
 {
     let text = read_whole(alloc, reader)?;
     traces_of_text(alloc, &text, graph)

@@ -1,6 +1,8 @@
 //! Worked files, with values from outside, and readers that are slow or fail.
 
-use chip_file::{FileFault, MAX_BYTES, read_chips, read_graph, read_whole};
+use chip_file::{
+    FileFault, LastRead, MAX_BYTES, Source, read_chips, read_graph, read_source, read_whole,
+};
 use chip_graph::{Edge, Graph, GraphFault};
 use std::alloc::{AllocError, Global};
 use std::io;
@@ -285,6 +287,28 @@ fn a_slow_reader_is_read_to_its_end(rt: HostRuntime) -> Result<(), FileFault> {
     assert!(rt; read.as_slice() == text);
     assert_eq!(rt; slow.reads, text.len().saturating_add(1));
     Ok(())
+}
+
+#[test]
+fn a_source_tells_the_reads_to_the_end(rt: HostRuntime) -> Result<(), FileFault> {
+    let mut slow = Slow::new(b"abc", None);
+    let mut source = Source::new(&mut slow);
+    assert!(rt; source.reads() == 0 && source.last_read() == LastRead::NotYet);
+    let read = read_source(rt.alloc(), &mut source)?;
+    assert!(rt; read.as_slice() == b"abc".as_slice());
+    assert!(rt; source.reads() == 4 && source.last_read() == LastRead::End);
+    assert_eq!(rt; slow.reads, 4);
+    Ok(())
+}
+
+#[test]
+fn a_source_tells_the_reads_to_a_failed_one(rt: HostRuntime) {
+    let mut slow = Slow::new(b"abc", Some(2));
+    let mut source = Source::new(&mut slow);
+    let found = read_source(rt.alloc(), &mut source).err();
+    assert!(rt; found == Some(FileFault::Read));
+    assert!(rt; source.reads() == 3 && source.last_read() == LastRead::Failure);
+    assert_eq!(rt; slow.reads, 3);
 }
 
 #[test]

@@ -1,0 +1,48 @@
+-- What a source tells of the reads that were made of it.
+use Rattle.std.specs.Prelude.{◌≡◌, ℕ, ◌+◌, ◌==◌, Bool, true, false, if◌then◌else◌, List, Option, Result, Ok, Err}
+use Rattle.chip_file.specs.declared.fault.FileFault.{FileFault}
+use Rattle.chip_file.specs.declared.fault.FileFault.TheVariants as fault
+use Rattle.chip_file.specs.declared.source.Source.{Source}
+use Rattle.chip_file.specs.declared.source.LastRead.{LastRead}
+use Rattle.chip_file.specs.declared.source.LastRead.TheVariants as last
+use Rattle.chip_file.specs.Answer.{max_bytes}
+
+-- the most reads that are made of an input: one for each byte, and one that finds the end
+abbrev pub max_reads : ℕ
+max_reads = max_bytes + 1
+
+-- how many reads were made
+abbrev pub reads : {R : Type 0} → Source R → ℕ
+reads source = source.reads
+
+-- how the last read went
+abbrev pub last_read : {R : Type 0} → Source R → LastRead
+last_read source = source.last
+
+-- the bytes that the reader has left, where they are known
+abbrev pub left : {R : Type 0} → (R → Option (List ℕ)) → Source R → Option (List ℕ)
+left remaining source = remaining source.reader.now
+
+-- nothing was read yet
+pub record IsFresh {R : Type 0} (source : Source R) : Type 0 where
+  pub none : reads source ≡ 0
+  pub first : last_read source ≡ last.NotYet
+
+-- a further read may be made: the last one neither failed nor found the end
+abbrev pub goes_on : LastRead → Bool
+goes_on last.NotYet = true
+goes_on last.Bytes = true
+goes_on last.End = false
+goes_on last.Failure = false
+
+-- how a read went that has room for a byte
+abbrev pub last_by : {E : Type 0} → Result ℕ E → LastRead
+last_by (Ok count) = if count == 0 then last.End else last.Bytes
+last_by (Err e) = last.Failure
+
+-- how the last read of an input went, by what reading the whole of it answers: the end was found; a read failed; or
+-- bytes came, and they were too many or found no room
+abbrev pub last_of_whole : {T : Type 0} → Result T FileFault → LastRead
+last_of_whole (Ok value) = last.End
+last_of_whole (Err fault.Read) = last.Failure
+last_of_whole (Err f) = last.Bytes

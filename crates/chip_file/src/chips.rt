@@ -42,7 +42,7 @@ fn chips_of_text(alloc: Global, text: &[u8], vertices: u64) -> Result<Vec<u64>, 
     ensures { Gives (λ chips. chips_of_text vertices text.now ≡ Some chips.items)
         (λ f. chips_text_fault vertices text.now ≡ Some f) result }
 {
-    let named = chips_named(alloc, text, vertices)?;
+    let named = chips_by_vertex(alloc, text, vertices)?;
     let chips = chips_or_none(alloc, &named)?;
     if fits_total(&chips) {
         Ok(chips)
@@ -52,7 +52,7 @@ fn chips_of_text(alloc: Global, text: &[u8], vertices: u64) -> Result<Vec<u64>, 
 }
 
 /// The chips of each vertex that a row names.
-fn chips_named(alloc: Global, text: &[u8], vertices: u64) -> Result<Vec<Option<u64>>, FileFault>
+fn chips_by_vertex(alloc: Global, text: &[u8], vertices: u64) -> Result<Vec<Option<u64>>, FileFault>
     requires { length text.now ≤ max_bytes }
     ensures { Gives (λ named. AreNamed vertices (records_of text.now) named.items)
         (λ f. chips_text_fault vertices text.now ≡ Some f) result }
@@ -60,7 +60,7 @@ fn chips_named(alloc: Global, text: &[u8], vertices: u64) -> Result<Vec<Option<u
     let mut reader = rows::records(alloc, text)?;
     let mut row = ByteRecord::new(alloc);
     rows::read_header(&mut reader, &mut row, &HEADER)?;
-    let mut named = none_named(alloc, vertices)?;
+    let mut named = no_chips(alloc, vertices)?;
     let mut index = 0;
     while rows::read_row(&mut reader, &mut row)? {
         note_row(&mut named, &row, index)?;
@@ -70,7 +70,7 @@ fn chips_named(alloc: Global, text: &[u8], vertices: u64) -> Result<Vec<Option<u
 }
 
 /// No chips yet for any vertex.
-fn none_named(alloc: Global, vertices: u64) -> Result<Vec<Option<u64>>, AllocError>
+fn no_chips(alloc: Global, vertices: u64) -> Result<Vec<Option<u64>>, AllocError>
     ensures { IfOk result (λ named. named.items ≡ replicate vertices None) }
 {
     vec![in alloc; None; vertices as usize]

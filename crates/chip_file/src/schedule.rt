@@ -39,7 +39,7 @@ enum EventKind {
 
 impl EventKind {
     /// The kind of this name.
-    fn named(name: &str) -> Option<EventKind>
+    fn from_name(name: &str) -> Option<EventKind>
         ensures { result ≡ kind_named event_kinds name.now }
     {
         match name {
@@ -63,7 +63,7 @@ impl EventKind {
     fn at(row: &ByteRecord, column: usize) -> Option<EventKind>
         ensures { result ≡ kind_at event_kinds column (fields_of row.now) }
     {
-        EventKind::named(rows::text_at(row, column)?)
+        EventKind::from_name(rows::text_at(row, column)?)
     }
 
     /// Whether an event of this kind may be at this number: a vertex, an edge, or any number for the end of feeding.

@@ -30,7 +30,7 @@ enum TraceKind {
 
 impl TraceKind {
     /// The kind of this name.
-    fn named(name: &str) -> Option<TraceKind>
+    fn from_name(name: &str) -> Option<TraceKind>
         ensures { result ≡ kind_named trace_kinds name.now }
     {
         match name {
@@ -44,7 +44,7 @@ impl TraceKind {
     fn at(row: &ByteRecord, column: usize) -> Option<TraceKind>
         ensures { result ≡ kind_at trace_kinds column (fields_of row.now) }
     {
-        TraceKind::named(rows::text_at(row, column)?)
+        TraceKind::from_name(rows::text_at(row, column)?)
     }
 
     /// The row of this kind; a firing is over no edge.

@@ -11,4 +11,4 @@ returns-in_err-text_at c =
 pub returns : goal.returns
 returns c =
     let same = kind_of_text event_kinds c.args.column (fields_of c.args.row.now) event_kinds_text in
-    rw (← same, ← c.in_ok-text_at.ensures) c.named.ensures
+    rw (← same, ← c.in_ok-text_at.ensures) c.from_name.ensures

@@ -8,7 +8,7 @@ use Rattle.chip_file.proofs.RecordLemmas.{HasRead-none, HasRead-more, HasRead-fa
 use Rattle.chip_file.proofs.RecordLemmas.{index_fits}
 use Rattle.chip_file.proofs.ChipsLemmas.{HaveNoted-none, HaveNoted-more, HaveNoted-all, table_fault, records_fail}
 use Rattle.chip_file.proofs.ChipsLemmas.{header_fails_chips, written_back}
-use Rattle.chip_file.proofs.chips.chips_named.Goals as goal
+use Rattle.chip_file.proofs.chips.chips_by_vertex.Goals as goal
 
 pub returns-in_err-read_header : goal.returns-in_err-read_header
 returns-in_err-read_header c =

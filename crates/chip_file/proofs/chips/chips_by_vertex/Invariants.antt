@@ -4,7 +4,7 @@ use Rattle.chip_file.specs.Rows.{Row, records_of, has_header}
 use Rattle.chip_file.specs.Standing.{IsOpen, rows_left}
 use Rattle.chip_file.proofs.RecordLemmas.{HasRead}
 use Rattle.chip_file.proofs.ChipsLemmas.{HaveNoted}
-use Rattle.chip_file.proofs.chips.chips_named.Given as goal
+use Rattle.chip_file.proofs.chips.chips_by_vertex.Given as goal
 
 abbrev pub invariant-loop-named : goal.invariant-loop-named
 invariant-loop-named l = record {

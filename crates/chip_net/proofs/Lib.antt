@@ -17,3 +17,4 @@ pub mod FinishingLemmas
 pub mod ReceivingLemmas
 pub mod ReachingLemmas
 pub mod CrossingLemmas
+pub mod ClosingLemmas

@@ -63,7 +63,7 @@ get_left [] a i b e = absurd (cc)
 get_left (x ∷ xs) a zero b e = e
 get_left (x ∷ xs) a (suc i) b e = get_left xs a i b e
 
-get_split : (xs : List ActorKnown) (a : ActorKnown) (i : ℕ) (b : ActorKnown) → slice_get (xs ++ a ∷ []) i ≡ Some b
+pub get_split : (xs : List ActorKnown) (a : ActorKnown) (i : ℕ) (b : ActorKnown) → slice_get (xs ++ a ∷ []) i ≡ Some b
     → (slice_get xs i ≡ Some b) ⊎ (a ≡ b)
 get_split [] a zero b e = inr (cc)
 get_split [] a (suc i) b e = absurd (cc)

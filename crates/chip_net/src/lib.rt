@@ -9,6 +9,7 @@
 
 mod actor;
 mod calls;
+mod closing;
 mod hand;
 pub mod laws;
 mod layout;

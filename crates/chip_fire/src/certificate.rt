@@ -17,7 +17,7 @@ use std::alloc::{AllocError, Global};
 /// passed where each vertex that fires beyond these lacks at most one chip then to fire once more; the
 /// other is the burning test, by these ranks, and finds more where no vertex has a greater in-degree
 /// than out-degree.
-pub(crate) fn certified(
+pub(crate) fn certify(
     alloc: Global,
     game: &Game,
     fired: &[u64],
@@ -44,10 +44,10 @@ pub(crate) fn certified(
         Err(AfterFault::Negative(_)) => return Ok(None),
         Err(AfterFault::NoMemory) => return Err(AllocError),
     };
-    if all_earned(game, fired, counts, &chips) {
+    if are_earned(game, fired, counts, &chips) {
         return Ok(Some(chips));
     }
-    if all_burnt(game, fired, counts, order, &chips) {
+    if are_burnt(game, fired, counts, order, &chips) {
         return Ok(Some(chips));
     }
     Ok(None)
@@ -55,7 +55,7 @@ pub(crate) fn certified(
 
 /// Whether each vertex that fires more often by the counts than it has fired lacks at most one chip
 /// then, by the chips that the counts leave.
-fn all_earned(game: &Game, fired: &[u64], counts: &[u64], chips: &[u64]) -> bool
+fn are_earned(game: &Game, fired: &[u64], counts: &[u64], chips: &[u64]) -> bool
     requires fired_each { length fired.now ≡ game.now.graph.vertices }
     requires counts_each { length counts.now ≡ game.now.graph.vertices }
     requires after { IsAfter game.now counts.now chips.now }
@@ -86,7 +86,7 @@ fn is_earned(game: &Game, vertex: u64, times: u64, left: u64) -> bool
 
 /// Whether each vertex that fires more often by the counts than it has fired burns in the order of these
 /// ranks, by the chips that the counts leave.
-fn all_burnt(game: &Game, fired: &[u64], counts: &[u64], order: &[u64], chips: &[u64]) -> bool
+fn are_burnt(game: &Game, fired: &[u64], counts: &[u64], order: &[u64], chips: &[u64]) -> bool
     requires fired_each { length fired.now ≡ game.now.graph.vertices }
     requires counts_each { length counts.now ≡ game.now.graph.vertices }
     requires order_each { length order.now ≡ game.now.graph.vertices }
@@ -115,7 +115,7 @@ fn is_burnt(game: &Game, order: &[u64], vertex: u64, times: u64, left: u64) -> b
         × (late_in_degree game.now.graph (slice_index order.now) vertex ≤ left)) }
 {
     let graph = game.graph();
-    let (all, late) = brought(graph, order, vertex);
+    let (all, late) = in_degrees(graph, order, vertex);
     vertex != graph.sink()
         && times <= game.limit()
         && all <= graph.out_degree(vertex)
@@ -123,7 +123,7 @@ fn is_burnt(game: &Game, order: &[u64], vertex: u64, times: u64, left: u64) -> b
 }
 
 /// What comes into a vertex where each tail fires once: in all, and from the tails that burn no sooner.
-fn brought(graph: &Graph, order: &[u64], vertex: u64) -> (u64, u64)
+fn in_degrees(graph: &Graph, order: &[u64], vertex: u64) -> (u64, u64)
     requires is_vertex { vertex < graph.now.vertices }
     requires order_each { length order.now ≡ graph.now.vertices }
     ensures all { result.0 ≡ in_degree graph.now vertex }

@@ -48,12 +48,12 @@ fn play<W: Watch>(game: &Game, chips: &mut [u64], fired: &mut [u64], watch: &mut
     ensures ended { IsAtRest game.now.graph game.now.limit chips.new fired.new }
 {
     let most = STRETCH / game.graph().vertices().max(1) + 1;
-    'stretches: while told_rounds(game, most, chips, fired, watch) {}
+    'stretches: while play_stretch(game, most, chips, fired, watch) {}
 }
 
 /// Makes so many rounds, or until none fires a vertex, and tells how far the play has come; whether
 /// each of them fired some.
-fn told_rounds<W: Watch>(
+fn play_stretch<W: Watch>(
     game: &Game,
     most: u64,
     chips: &mut [u64],

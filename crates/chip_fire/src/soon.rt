@@ -33,7 +33,7 @@ pub(crate) fn ends_soon<W: Watch>(
     let mut done = 0u64;
     let mut waited = u64::MAX;
     'doublings: for _ in 0..DOUBLINGS {
-        let waits = waiting(graph, limit, chips, fired);
+        let waits = waiting_chips(graph, limit, chips, fired);
         if waits > waited / 2 && !leaves_little(limit, fired, done, few) {
             return false;
         }
@@ -65,7 +65,7 @@ fn leaves_little(limit: u64, fired: &[u64], done: u64, few: u64) -> bool {
 }
 
 /// The chips that legal vertices have above what they may keep, up to 2^64 - 1.
-fn waiting(graph: &Graph, limit: u64, chips: &[u64], fired: &[u64]) -> u64
+fn waiting_chips(graph: &Graph, limit: u64, chips: &[u64], fired: &[u64]) -> u64
     requires { IsInRange graph.now limit chips.now fired.now }
 {
     let mut waits = 0u64;

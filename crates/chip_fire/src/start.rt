@@ -1,7 +1,7 @@
 ghost use Rattle.std.specs.Prelude.{◌≡◌, length, IfOk, IfSome};
 ghost use Rattle.chip_fire.specs.Rounds.{IsBegun};
 
-use crate::certificate::certified;
+use crate::certificate::certify;
 use crate::soon::{ends_by, ends_soon, looks_at_all};
 use crate::watch::Watch;
 use chip_graph::Game;
@@ -52,7 +52,7 @@ fn by_turns<W: Watch>(
     let Ok(before) = Vec::from_slice(alloc, &fired) else {
         return (chips, fired);
     };
-    let Some(more) = searched(alloc, game, &mut chips, &mut fired, watch) else {
+    let Some(more) = search_counts(alloc, game, &mut chips, &mut fired, watch) else {
         return (chips, fired);
     };
     jump(alloc, game, &before, &more, chips, fired)
@@ -61,7 +61,7 @@ fn by_turns<W: Watch>(
 /// Searches counts for the play from here on, while the play goes on: each has its turns, so that a search
 /// that takes long costs little more than the play. `None` where the play has ended first, or where memory
 /// ran out, which ends the search alone.
-fn searched<W: Watch>(
+fn search_counts<W: Watch>(
     alloc: Global,
     game: &Game,
     chips: &mut [u64],
@@ -74,7 +74,7 @@ fn searched<W: Watch>(
 {
     let graph = game.graph();
     let start = Vec::from_slice(alloc, chips).ok()?;
-    let most = left(alloc, game.limit(), fired).ok()?;
+    let most = most_firings(alloc, game.limit(), fired).ok()?;
     let mut search = Search::new(alloc, graph, &start, &most).ok()?;
     let turn = looks_at_all(graph).saturating_mul(TURN);
     let mut work = looks_at_all(graph).saturating_mul(AHEAD);
@@ -106,17 +106,17 @@ fn jump(
     requires order_each { length more.now.order.items ≡ game.now.graph.vertices }
     ensures { IsBegun game.now result.0.items result.1.items }
 {
-    let Ok(counts) = greater(alloc, &fired, before, &more.counts) else {
+    let Ok(counts) = counts_to_try(alloc, &fired, before, &more.counts) else {
         return (chips, fired);
     };
-    if let Ok(Some(position)) = certified(alloc, game, &fired, &counts, &more.order) {
+    if let Ok(Some(position)) = certify(alloc, game, &fired, &counts, &more.order) {
         return (position, counts);
     }
     (chips, fired)
 }
 
 /// How often each vertex may still fire.
-fn left(alloc: Global, limit: u64, fired: &[u64]) -> Result<Vec<u64>, AllocError>
+fn most_firings(alloc: Global, limit: u64, fired: &[u64]) -> Result<Vec<u64>, AllocError>
     ensures { IfOk result (λ most. length most.items ≡ length fired.now) }
 {
     let mut most = Vec::new(alloc);
@@ -128,7 +128,7 @@ fn left(alloc: Global, limit: u64, fired: &[u64]) -> Result<Vec<u64>, AllocError
 
 /// The sums of two lists, up to 2^64 - 1 each, or the numbers of the first list where these are greater;
 /// where the others have no number it counts as 0.
-fn greater(
+fn counts_to_try(
     alloc: Global,
     fired: &[u64],
     before: &[u64],

@@ -1,6 +1,6 @@
 use Rattle.std.proofs.Common.{ℕ, ◌<◌, slice_index}
 use Rattle.chip_sequence.specs.Certificate.{IsEarned}
-use Rattle.chip_fire.proofs.certificate.all_earned.Given as goal
+use Rattle.chip_fire.proofs.certificate.are_earned.Given as goal
 
 abbrev pub invariant-loop-vertex : goal.invariant-loop-vertex
 invariant-loop-vertex l = (v : ℕ) → v < l.vertex → slice_index l.fired v < slice_index l.counts v

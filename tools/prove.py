@@ -4,6 +4,7 @@
     tools/prove.py NAME ..              the crates of these names, and all that they stand on
     tools/prove.py --above NAME ..      these, all that stand on them, and all below; standard output names the former two
     tools/prove.py --beside PID NAME .. the crates, beside a process that also works: two processors are left to it
+    tools/prove.py --lanes              nothing: tells how many crates it would prove at a time
 
 In one folder the kit's command `rt` proves one crate at a time, since it locks all that a crate stands on, and shares the
 crate among the processors by copies of itself, which together do twice the work. Here each crate is proved in a room of
@@ -234,6 +235,9 @@ def lock(names):
 
 
 def main(words):
+    if words == ["--lanes"]:
+        print(lanes())
+        return 0
     direct = libraries()
     neighbour = None
     if words[:1] == ["--beside"]:

@@ -13,6 +13,8 @@ use Rattle.chip_command.specs.declared.fault.Fault.{Fault}
 use Rattle.chip_command.specs.declared.fault.Fault.TheVariants as fault
 use Rattle.chip_command.specs.declared.fault.Location.{Location}
 use Rattle.chip_command.specs.declared.fault.Location.TheVariants.{Nowhere, At, AtRow}
+use Rattle.chip_command.specs.declared.status.Status.{Status}
+use Rattle.chip_command.specs.declared.status.Status.TheVariants.{Failed, Unfinished}
 
 -- the number of a fault of a graph
 abbrev pub number_of_graph_fault : GraphFault → ℕ
@@ -119,7 +121,7 @@ location_text Nowhere = []
 location_text (At number) = codes " " ++ decimal number
 location_text (AtRow vertex row) = codes " " ++ decimal vertex ++ codes " " ++ decimal row
 
--- the exit status of a command that failed: 3 where a crew has no turns left
-abbrev pub status_of_fault : Fault → ℕ
-status_of_fault (fault.Unfinished deficit) = 3
-status_of_fault _ = 1
+-- the exit status of a command that failed: unfinished where a crew has no turns left
+abbrev pub status_of_fault : Fault → Status
+status_of_fault (fault.Unfinished deficit) = Unfinished
+status_of_fault _ = Failed

@@ -4,5 +4,6 @@ pub mod Inputs
 pub mod Laws
 pub mod PlainCommand
 pub mod Reports
+pub mod Statuses
 pub mod Worked
 pub mod Sitting

@@ -7,13 +7,20 @@ use Rattle.chip_sequence.specs.declared.outcome.Outcome.{Outcome}
 use Rattle.chip_report.specs.ReportText.{is_closed, report_text}
 use Rattle.chip_report.specs.Written.{WritesAll}
 use Rattle.chip_report.specs.declared.write.WriteFault.{WriteFault}
+use Rattle.chip_command.specs.Statuses.{number_of_status}
 use Rattle.chip_command.specs.declared.ended.Ended.{Ended}
 use Rattle.chip_command.specs.declared.fault.Fault.{Fault}
 use Rattle.chip_command.specs.declared.fault.Fault.TheVariants.{Write}
+use Rattle.chip_command.specs.declared.status.Status.{Status}
+use Rattle.chip_command.specs.declared.status.Status.TheVariants.{Done, Halted}
 
--- the exit status: 2 where the limit left a vertex legal
+-- how a game ended: halted where a limit or a seal stopped some vertex
+abbrev pub status_of_outcome : Outcome → Status
+status_of_outcome outcome = if is_closed outcome then Done else Halted
+
+-- the number of its exit status: 2 where the limit left a vertex legal
 abbrev pub plain_status : Outcome → ℕ
-plain_status outcome = if is_closed outcome then 0 else 2
+plain_status outcome = number_of_status (status_of_outcome outcome)
 
 -- a text and a status are the report of a game played to its end, and its status
 abbrev pub Reports : ChipGame → List ℕ → ℕ → Type 0

@@ -7,7 +7,7 @@ ghost use Rattle.chip_command.specs.FaultNumbers.{location_of_graph_fault, locat
 ghost use Rattle.chip_command.specs.declared.fault.Location.TheVariants.{Nowhere};
 
 use crate::code::Code;
-use crate::ended::{FAILED, OPEN};
+use crate::status::Status;
 use chip_file::FileFault;
 use chip_fire::ResumeFault;
 use chip_graph::{GameFault, GraphFault};
@@ -318,12 +318,12 @@ impl Fault {
     ghost use Rattle.chip_command.specs.FaultNumbers.{number_of, location_of, status_of_fault};
 
     /// The exit status of a command that failed so: a crew that ran out of turns is no failure of its inputs.
-    pub fn status(&self) -> u8
+    pub fn status(&self) -> Status
         ensures { result ≡ status_of_fault self.now }
     {
         match self {
-            Fault::Unfinished(_) => OPEN,
-            _ => FAILED,
+            Fault::Unfinished(_) => Status::Unfinished,
+            _ => Status::Failed,
         }
     }
 

@@ -1,7 +1,7 @@
-//! The laws of traces in files: functions that do nothing, whose contracts are the laws.
+//! The laws of what commands share: functions that do nothing, whose contracts are the laws.
 
 ghost use Rattle.chip_command.specs.Laws.{WrittenIsRead, FileIsReadBack, ReadIsInGraph};
-ghost use Rattle.chip_command.specs.Worked.{TwoTracesComeBack};
+ghost use Rattle.chip_command.specs.Worked.{TwoTracesComeBack, StatusesAreNumbered};
 
 /// What `write_trace` writes, `read_trace` reads back: all traces in the graph, and nothing else is ever read.
 pub fn written_traces()
@@ -13,4 +13,9 @@ pub fn written_traces()
 /// Two traces, as the definitions write and read them.
 pub fn worked_traces()
     ensures { TwoTracesComeBack }
+{}
+
+/// The exit statuses by their numbers.
+pub fn worked_statuses()
+    ensures { StatusesAreNumbered }
 {}

@@ -5,9 +5,10 @@
 #![tactic(auto)]
 
 pub use code::Code;
-pub use ended::{DONE, Ended, FAILED, HALTED, OPEN, conclude, status_of};
+pub use ended::{Ended, conclude, status_of};
 pub use fault::{Fault, FaultLine, Location};
 pub use inputs::read_game;
+pub use status::Status;
 pub use table::{Explanation, Place, explanations};
 
 mod code;
@@ -15,4 +16,5 @@ mod ended;
 mod fault;
 mod inputs;
 pub mod laws;
+mod status;
 mod table;

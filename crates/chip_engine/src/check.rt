@@ -5,7 +5,7 @@ ghost use Rattle.std.specs.Option.{ForSome};
 ghost use Rattle.chip_graph.specs.Multigraph.{IsDistance, degree};
 ghost use Rattle.chip_engine.specs.CheckCommand.{CheckAnswers, IsShown, head_text, vertex_text};
 
-use chip_command::{DONE, Ended, Fault, conclude};
+use chip_command::{Ended, Fault, Status, conclude};
 use chip_file::read_graph;
 use chip_graph::Graph;
 use std::alloc::{AllocError, Global};
@@ -23,7 +23,7 @@ pub fn check_engine<G: Read, W: Write>(
 {
     let graph = read_graph(alloc, graph)?;
     let text = show(alloc, &graph)?;
-    conclude(output, text.as_bytes(), Ended::of(DONE))
+    conclude(output, text.as_bytes(), Ended::of(Status::Done))
 }
 
 /// The lines of a graph.

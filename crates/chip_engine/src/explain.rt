@@ -4,7 +4,7 @@ ghost use Rattle.std.specs.Prelude.{◌≡◌, ◌++◌, IfOk, MatchResult, opti
 ghost use Rattle.chip_engine.specs.ExplainCommand.{ExplainAnswers, TellsNothing, explanation, line_text, row_text};
 ghost use Rattle.chip_engine.specs.ExplainCommand.{row_with, rows_of, table_text};
 
-use chip_command::{DONE, Ended, Explanation, Fault, conclude};
+use chip_command::{Ended, Explanation, Fault, Status, conclude};
 use std::alloc::{AllocError, Global};
 use std::io::Write;
 
@@ -20,7 +20,7 @@ pub fn explain_engine<W: Write>(
     ensures { ExplainAnswers (explanation (rows_of table.now) number) (W.contents output.old) (W.contents output.new) result }
 {
     let text = tell(alloc, table, number)?;
-    conclude(output, text.as_bytes(), Ended::of(DONE))
+    conclude(output, text.as_bytes(), Ended::of(Status::Done))
 }
 
 /// What a table says of the fault with this number, or of all its faults.

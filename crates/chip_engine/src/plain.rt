@@ -2,6 +2,7 @@
 
 ghost use Rattle.std.specs.Prelude.{IfOk};
 ghost use Rattle.chip_command.specs.Reports.{Reports};
+ghost use Rattle.chip_command.specs.Statuses.{number_of_status};
 ghost use Rattle.chip_engine.specs.PlainEngine.{PlainReads};
 
 use crate::answer::Answer;
@@ -48,7 +49,7 @@ pub fn plain_engine_watched<G: Read, C: Read, P: Watch, W: Write>(
 
 /// The report of a game played to its end, and the exit status.
 fn play<P: Watch>(alloc: Global, game: &Game, watch: &mut P) -> Result<Answer, AllocError>
-    ensures { IfOk result (λ made. Reports game.now made.text.items made.status) }
+    ensures { IfOk result (λ made. Reports game.now made.text.items (number_of_status made.status)) }
 {
     let outcome = plain_watched(alloc, game, watch)?;
     Ok(Answer {

@@ -5,7 +5,7 @@ ghost use Rattle.std.specs.Option.{ForSome};
 ghost use Rattle.chip_engine.specs.Lines.{lines_text};
 ghost use Rattle.chip_engine.specs.ReplayCommand.{GivesReplay, ReplayAnswers, firing_text};
 
-use chip_command::{DONE, Ended, Fault, conclude, read_game};
+use chip_command::{Ended, Fault, Status, conclude, read_game};
 use chip_file::read_trace;
 use chip_graph::Game;
 use chip_trace::replay;
@@ -30,7 +30,7 @@ pub fn replay_engine<G: Read, C: Read, T: Read, W: Write>(
 {
     let game = read_game(alloc, graph, chips, limit)?;
     let lines = replay_traces(alloc, &game, trace)?;
-    conclude(output, lines.as_bytes(), Ended::of(DONE))
+    conclude(output, lines.as_bytes(), Ended::of(Status::Done))
 }
 
 /// The lines of the firings that the traces of a file have in a game.

@@ -5,6 +5,7 @@ ghost use Rattle.std.specs.Option.{ForSome};
 ghost use Rattle.chip_graph.specs.Multigraph.{IsGraph};
 ghost use Rattle.chip_sequence.specs.Sittings.{IsResumed};
 ghost use Rattle.chip_engine.specs.ResumeCommand.{GivesSitting, RefusesToGoOn, ReportsOn, ResumeAnswers};
+ghost use Rattle.chip_command.specs.Statuses.{number_of_status};
 ghost use Rattle.chip_command.specs.declared.fault.Fault.TheVariants.{NoMemory};
 
 use crate::answer::Answer;
@@ -51,7 +52,8 @@ fn read_sitting<R: Read>(alloc: Global, report: &mut R) -> Result<Resumed, Fault
 /// The report of the sitting that goes on from an earlier one, and the exit status.
 fn go_on(alloc: Global, graph: Graph, earlier: &Resumed, limit: u64) -> Result<Answer, Fault>
     requires { IsResumed earlier.now }
-    ensures ok { IfOk result (λ made. IsGraph graph → ReportsOn graph earlier.now limit made.text.items made.status) }
+    ensures ok { IfOk result (λ made. IsGraph graph
+        → ReportsOn graph earlier.now limit made.text.items (number_of_status made.status)) }
     ensures err { IfErr result (λ fault. RefusesToGoOn graph earlier.now limit fault ⊎ (fault ≡ NoMemory)) }
 {
     let resumed = resume(alloc, graph, earlier, limit)?;

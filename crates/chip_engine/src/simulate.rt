@@ -6,13 +6,14 @@ ghost use Rattle.chip_part.specs.Setting.{Setting};
 ghost use Rattle.chip_core.specs.Core.{Log, IsClosed, log_after};
 ghost use Rattle.chip_world.specs.World.{StandsForLog, WhateverLog};
 ghost use Rattle.chip_world.specs.declared.world.driving.Drive.TheVariants.{Closed};
+ghost use Rattle.chip_command.specs.Statuses.{number_of_status};
 ghost use Rattle.chip_command.specs.declared.fault.Fault.TheVariants.{NoMemory};
 ghost use Rattle.chip_engine.specs.SimulateCommand.{SimulateAnswers, Simulates, EndsClosed, EndsBy};
 ghost use Rattle.chip_engine.specs.SimulateCommand.{message_text, reply_text, answer_text, answers_text};
 
 use crate::answer::Answer;
 use crate::board::push_board;
-use chip_command::{Ended, Fault, OPEN, conclude, read_game, status_of};
+use chip_command::{Ended, Fault, Status, conclude, read_game, status_of};
 use chip_file::read_schedule;
 use chip_link::{Event, Message, Ring};
 use chip_part::{Reply, Setting};
@@ -58,7 +59,8 @@ fn simulate(
     rounds: u64,
     books: bool,
 ) -> Result<Answer, Fault>
-    ensures ok { IfOk result (λ made. Simulates setting rounds books events.now made.text.items made.status) }
+    ensures ok { IfOk result
+        (λ made. Simulates setting rounds books events.now made.text.items (number_of_status made.status)) }
     ensures err { IfErr result (λ fault. fault ≡ NoMemory) }
 {
     let mut world = World::of(alloc, setting)?;
@@ -75,7 +77,7 @@ fn run(
 ) -> Result<Answer, Fault>
     requires { StandsForLog world.old.setting [] world.old }
     ensures ok { IfOk result
-        (λ made. Simulates world.old.setting rounds books events.now made.text.items made.status) }
+        (λ made. Simulates world.old.setting rounds books events.now made.text.items (number_of_status made.status)) }
     ensures err { IfErr result (λ fault. fault ≡ NoMemory) }
 {
     let mut text = run_schedule(alloc, world, events, books)?;
@@ -112,14 +114,15 @@ fn run_schedule(
 fn end_of(alloc: Global, world: &World, drive: Drive) -> Result<Answer, Fault>
     requires { (g : Setting) × (log : Log) × StandsForLog g log world.now
         × (drive ≡ Closed → IsClosed g log) }
-    ensures ok { IfOk result (λ made. WhateverLog world.now (λ g log. EndsBy g log drive made.text.items made.status)) }
+    ensures ok { IfOk result (λ made. WhateverLog world.now
+        (λ g log. EndsBy g log drive made.text.items (number_of_status made.status))) }
     ensures err { IfErr result (λ fault. fault ≡ NoMemory) }
 {
     match drive {
         Drive::Closed => end_of_closed(alloc, world),
         Drive::Unfinished(_) => Ok(Answer {
             text: Vec::from_slice(alloc, b"root open\n")?,
-            status: OPEN,
+            status: Status::Unfinished,
         }),
     }
 }
@@ -127,7 +130,8 @@ fn end_of(alloc: Global, world: &World, drive: Drive) -> Result<Answer, Fault>
 /// The end of a closed run, its report, and the exit status.
 fn end_of_closed(alloc: Global, world: &World) -> Result<Answer, Fault>
     requires { (g : Setting) × (log : Log) × StandsForLog g log world.now × IsClosed g log }
-    ensures ok { IfOk result (λ made. WhateverLog world.now (λ g log. EndsClosed g log made.text.items made.status)) }
+    ensures ok { IfOk result (λ made. WhateverLog world.now
+        (λ g log. EndsClosed g log made.text.items (number_of_status made.status))) }
     ensures err { IfErr result (λ fault. fault ≡ NoMemory) }
 {
     let outcome = match world.outcome(alloc) {

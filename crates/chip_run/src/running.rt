@@ -2,12 +2,13 @@
 
 ghost use Rattle.std.specs.Prelude.{◌≡◌, ℕ, false, None, option_map, IfOk, IfErr};
 ghost use Rattle.chip_report.specs.ReportText.{report_text};
-ghost use Rattle.chip_command.specs.Reports.{plain_status};
+ghost use Rattle.chip_command.specs.Reports.{status_of_outcome};
+ghost use Rattle.chip_command.specs.Statuses.{number_of_status};
 ghost use Rattle.chip_run.specs.RunCommand.{RunReads, Plays, IsNotPlayed, plan_of};
 
 use crate::feeding::read_fed;
 use crate::recording::record_if_asked;
-use chip_command::{Ended, Fault, conclude, read_game, status_of};
+use chip_command::{Ended, Fault, Status, conclude, read_game, status_of};
 use chip_crew::{CrewFault, Finished, Gate, Plan, run_with};
 use chip_graph::{Game, GameFault};
 use chip_net::Actor;
@@ -105,11 +106,14 @@ pub fn run_engine_gated<
         play(rt, alloc, &game, feeds, plan, gate)?
     };
     let cut = record_if_asked(alloc, &played.actors, trace)?;
-    let ended = Ended {
-        status: played.status,
-        cut,
-    };
-    conclude(output, &played.text, ended)
+    conclude(
+        output,
+        &played.text,
+        Ended {
+            status: played.status.number(),
+            cut,
+        },
+    )
 }
 
 /// A game that was played.
@@ -118,7 +122,7 @@ struct Played {
     /// Its report.
     text: Vec<u8>,
     /// The exit status.
-    status: u8,
+    status: Status,
     /// Who played it.
     actors: Vec<Actor>,
 }
@@ -135,7 +139,7 @@ fn play<R: Threads + Wait + Sync, K: Gate + Sync>(
     requires seal { plan.seal ≡ None }
     requires gate { (worker turn : ℕ) → K.may_answer gate.now worker turn false → ⊥ }
     ensures played { IfOk result (λ p. Plays game.now (option_map (λ fed. fed.items) feeds) plan p.actors.items
-        p.text.items p.status) }
+        p.text.items (number_of_status p.status)) }
     ensures fault { IfErr result (IsNotPlayed game.now (option_map (λ fed. fed.items) feeds) plan) }
 {
     match run_with(rt, alloc, game, plan, feeds.as_deref(), gate) {
@@ -147,7 +151,7 @@ fn play<R: Threads + Wait + Sync, K: Gate + Sync>(
 /// The report of a game that a crew finished.
 fn report_of(alloc: Global, finished: Finished) -> Result<Played, AllocError>
     ensures text { IfOk result (λ p. p.text.items ≡ report_text finished.outcome) }
-    ensures status { IfOk result (λ p. p.status ≡ plain_status finished.outcome) }
+    ensures status { IfOk result (λ p. p.status ≡ status_of_outcome finished.outcome) }
     ensures actors { IfOk result (λ p. p.actors ≡ finished.actors) }
 {
     let Finished {

@@ -10,7 +10,7 @@ use chip_arguments::{
     ArgumentsFault, FileArgument, GameArguments, PlainArguments, ReplayArguments, Request,
     RunArguments, SimulationArguments, limits, parse,
 };
-use chip_command::{DONE, Ended, Fault, conclude, explanations};
+use chip_command::{Ended, Fault, Status, conclude, explanations};
 use chip_crew::{MAX_TRACE_ROWS, MAX_TURNS, MAX_WORKERS, Plan};
 use chip_engine::{
     check_engine, explain_engine, plain_engine, plain_engine_watched, replay_engine, resume_engine,
@@ -56,7 +56,7 @@ fn main(rt: HostRuntime) -> ExitCode {
         Err(fault) => {
             // Where even this cannot be written, the status still tells.
             let _ = eprintln!(&rt; "chipfire: {fault}");
-            ExitCode::from(fault.status())
+            ExitCode::from(fault.status().number())
         }
     }
 }
@@ -95,7 +95,7 @@ fn serve<R: Files + Clock + Eprint + AllocGlobal + Threads + Wait + Sync, W: io:
     output: &mut W,
 ) -> Result<Ended, Fault> {
     match request {
-        Request::Help(text) => conclude(output, text.as_bytes(), Ended::of(DONE)),
+        Request::Help(text) => conclude(output, text.as_bytes(), Ended::of(Status::Done)),
         Request::Check(graph) => check_engine(rt.alloc(), &mut open(rt, graph)?, output),
         Request::Plain(asked) => play(rt, asked, output),
         Request::Simulate(asked) => simulate(rt, asked, output),

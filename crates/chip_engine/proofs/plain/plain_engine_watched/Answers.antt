@@ -1,6 +1,7 @@
 use Rattle.std.proofs.Common.{List, ℕ, inl, inr, sym, subst}
 use Rattle.chip_command.specs.Inputs.{RefusesInputs}
 use Rattle.chip_command.specs.Reports.{Reports, Delivers}
+use Rattle.chip_command.specs.Statuses.{number_of_status}
 use Rattle.chip_command.specs.declared.ended.Ended.{Ended}
 use Rattle.chip_engine.proofs.EngineLemmas.{refused_plain, delivered_plain}
 use Rattle.chip_engine.proofs.plain.plain_engine_watched.Goals as goal
@@ -18,10 +19,11 @@ returns-in_err-answer g c = λ graph_text graph_is chips_text chips_is.
 
 pub returns : goal.returns
 returns g c = λ graph_text graph_is chips_text chips_is.
+    let status : ℕ = number_of_status c.in_ok-answer.answer.status in
     delivered_plain graph_text chips_text c.args.limit _ _ c.conclude.result
     c.in_ok-game.game (c.in_ok-game.ensures graph_text graph_is chips_text chips_is)
-    c.deref.result.now c.in_ok-answer.answer.status
-    (subst (λ (t : List ℕ). Reports c.in_ok-game.game t c.in_ok-answer.answer.status)
+    c.deref.result.now status
+    (subst (λ (t : List ℕ). Reports c.in_ok-game.game t status)
     (sym c.deref.ensures.value) c.in_ok-answer.ensures)
     (subst (λ (e : Ended). Delivers (g.W.Write.contents c.args.output.now) (g.W.Write.contents c.conclude.new.output)
     c.deref.result.now e c.conclude.result) c.of.ensures c.conclude.ensures)

@@ -1,3 +1,5 @@
+use Rattle.std.proofs.Common.{ap}
+use Rattle.chip_command.specs.Statuses.{number_of_status}
 use Rattle.chip_engine.proofs.SittingLemmas.{leads_on, none_legal}
 use Rattle.chip_engine.proofs.resume.go_on.Goals as goal
 
@@ -9,5 +11,5 @@ returns-clause-ok c = λ good. record {
       leads_on c.args.graph good x c.in_ok-resumed.resumed (c.in_ok-resumed.ensures.goes_on x leads)
       (none_legal _ c.in_ok-resumed.resumed.outcome c.in_ok-resumed.ensures.answer.played);
   reported = c.in_ok-text.ensures;
-  status_is = c.status_of.ensures;
+  status_is = ap number_of_status c.status_of.ensures;
 }

@@ -4,6 +4,7 @@ use Rattle.chip_file.specs.GraphText.{MeansGraph, IsGraphTextFault}
 use Rattle.chip_engine.specs.ResumeCommand.{MeansSitting, ReportsOn, RefusesReport}
 use Rattle.chip_command.proofs.InputLemmas.{at_some}
 use Rattle.chip_command.specs.Reports.{Delivers}
+use Rattle.chip_command.specs.Statuses.{number_of_status}
 use Rattle.chip_command.specs.declared.ended.Ended.{Ended}
 use Rattle.chip_engine.proofs.SittingLemmas.{refused_resume, refused_going, delivered_resume}
 use Rattle.chip_engine.proofs.resume.resume_engine.Goals as goal
@@ -41,9 +42,10 @@ returns g c = λ graph_text graph_is report_text report_is.
     graph_text graph_is c.in_ok-graph.ensures.means in
     let means : MeansSitting graph_text report_text c.in_ok-graph.graph c.in_ok-earlier.earlier =
     record { graph = graph; report = c.in_ok-earlier.ensures.sitting report_text report_is } in
+    let status : ℕ = number_of_status c.in_ok-answer.answer.status in
     delivered_resume graph_text report_text c.args.limit _ _ c.conclude.result
-    c.in_ok-graph.graph c.in_ok-earlier.earlier means c.deref.result.now c.in_ok-answer.answer.status
-    (subst (λ (t : List ℕ). ReportsOn c.in_ok-graph.graph c.in_ok-earlier.earlier c.args.limit t c.in_ok-answer.answer.status)
+    c.in_ok-graph.graph c.in_ok-earlier.earlier means c.deref.result.now status
+    (subst (λ (t : List ℕ). ReportsOn c.in_ok-graph.graph c.in_ok-earlier.earlier c.args.limit t status)
     (sym c.deref.ensures.value) (c.in_ok-answer.ensures.ok graph.1.valid))
     (subst (λ (e : Ended). Delivers (g.W.Write.contents c.args.output.now) (g.W.Write.contents c.conclude.new.output)
     c.deref.result.now e c.conclude.result) c.of.ensures c.conclude.ensures)

@@ -1,5 +1,6 @@
 use Rattle.std.proofs.Common.{List, ℕ, ◌++◌, refl, ap, ◌∙◌}
 use Rattle.chip_report.specs.ReportText.{report_text}
+use Rattle.chip_command.specs.Statuses.{number_of_status}
 use Rattle.chip_engine.proofs.simulate.end_of_closed.Goals as goal
 
 pub returns-clause-ok : goal.returns-clause-ok
@@ -12,11 +13,11 @@ returns-clause-ok c = λ g log stands. record {
       c.in_ok-extend_from_slice.ensures.items
       ∙ ap (λ (t : List ℕ). c.in_ok-text.text.items ++ t) (c.deref.ensures.value ∙ c.in_ok-report.ensures)
       ∙ ap (λ (t : List ℕ). t ++ report_text c.in-Ok.outcome) c.in_ok-text.ensures.items;
-  status_is = c.status_of.ensures;
+  status_is = ap number_of_status c.status_of.ensures;
   plays = λ none. (
     c.in-Ok.outcome,
     c.in-Ok.ensures.played g log stands none,
     refl,
-    c.status_of.ensures,
+    ap number_of_status c.status_of.ensures,
   );
 }

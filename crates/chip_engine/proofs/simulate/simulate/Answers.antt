@@ -1,6 +1,7 @@
 use Rattle.std.proofs.Common.{[], IfOk, sym, subst}
 use Rattle.chip_part.specs.Setting.{Setting}
 use Rattle.chip_world.specs.World.{StandsForLog}
+use Rattle.chip_command.specs.Statuses.{number_of_status}
 use Rattle.chip_engine.specs.SimulateCommand.{Simulates}
 use Rattle.chip_engine.proofs.simulate.simulate.Goals as goal
 
@@ -12,5 +13,5 @@ run-requires c =
 pub returns-clause-ok : goal.returns-clause-ok
 returns-clause-ok c = subst
     (λ (g : Setting). IfOk c.run.result
-    (λ made. Simulates g c.args.rounds c.args.books c.args.events.now made.text.items made.status))
+    (λ made. Simulates g c.args.rounds c.args.books c.args.events.now made.text.items (number_of_status made.status)))
     c.in_ok-world.ensures.setting c.run.ensures.ok

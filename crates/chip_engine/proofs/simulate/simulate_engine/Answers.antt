@@ -8,6 +8,7 @@ use Rattle.chip_command.specs.Inputs.{IsRefused, RefusesInputs}
 use Rattle.chip_engine.specs.SimulateCommand.{MeansEvents, Simulates}
 use Rattle.chip_command.proofs.InputLemmas.{at_some}
 use Rattle.chip_command.specs.Reports.{Delivers}
+use Rattle.chip_command.specs.Statuses.{number_of_status}
 use Rattle.chip_command.specs.declared.ended.Ended.{Ended}
 use Rattle.chip_engine.proofs.EngineLemmas.{refused_simulate, delivered_simulate, means_events}
 use Rattle.chip_engine.proofs.simulate.simulate_engine.Goals as goal
@@ -53,15 +54,16 @@ returns g c = λ graph_text graph_is chips_text chips_is schedule_text schedule_
     c.in_ok-events.events.items =
     means_events graph_text chips_text schedule_text c.args.limit c.in_ok-game.game c.in_ok-events.events.items
     c.graph.result.now c.graph.ensures.value (c.in_ok-game.ensures graph_text graph_is chips_text chips_is) read in
+    let status : ℕ = number_of_status c.in_ok-answer.answer.status in
     let simulates = subst (λ (xs : List Event). Simulates (setting_with c.in_ok-game.game c.args.ring c.args.fed) c.args.rounds
-    c.args.books xs c.in_ok-answer.answer.text.items c.in_ok-answer.answer.status) c.deref.ensures.value
+    c.args.books xs c.in_ok-answer.answer.text.items status) c.deref.ensures.value
     (subst (λ (s : Setting). Simulates s c.args.rounds c.args.books c.deref.result.now c.in_ok-answer.answer.text.items
-    c.in_ok-answer.answer.status) c.new-setting.ensures c.in_ok-answer.ensures.ok) in
+    status) c.new-setting.ensures c.in_ok-answer.ensures.ok) in
     let went = subst (λ (e : Ended). Delivers (g.W.Write.contents c.args.output.now)
     (g.W.Write.contents c.conclude.new.output) c.deref-2.result.now e c.conclude.result) c.of.ensures c.conclude.ensures in
     delivered_simulate graph_text chips_text schedule_text c.args.limit c.args.ring c.args.rounds c.args.books c.args.fed
     _ _ c.conclude.result c.in_ok-game.game c.in_ok-events.events.items means
-    c.in_ok-answer.answer.text.items c.in_ok-answer.answer.status simulates
+    c.in_ok-answer.answer.text.items status simulates
     (subst (λ (text : List ℕ). Delivers (g.W.Write.contents c.args.output.now)
-    (g.W.Write.contents c.conclude.new.output) text (record { status = c.in_ok-answer.answer.status; cut = false })
+    (g.W.Write.contents c.conclude.new.output) text (record { status = status; cut = false })
     c.conclude.result) c.deref-2.ensures.value went)

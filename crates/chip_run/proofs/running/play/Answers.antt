@@ -1,6 +1,7 @@
 use Rattle.std.proofs.Common.{ap, option_map, subst}
 use Rattle.chip_crew.specs.Feeding.{Left}
 use Rattle.chip_crew.specs.Finished.{IsFinished, IsFaultOf}
+use Rattle.chip_command.specs.Statuses.{number_of_status}
 use Rattle.chip_run.proofs.RunLemmas.{not_played}
 use Rattle.chip_run.proofs.running.play.Goals as goal
 
@@ -19,7 +20,7 @@ returns-in-Ok-clause-played g c =
           c.in-Ok.finished.outcome,
           finished.played c.requires.seal,
           c.in_ok-report_of-in-Ok.ensures.text,
-          c.in_ok-report_of-in-Ok.ensures.status,
+          ap number_of_status c.in_ok-report_of-in-Ok.ensures.status,
         ),
       );
     }

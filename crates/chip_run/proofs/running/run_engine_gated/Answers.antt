@@ -2,6 +2,8 @@ use Rattle.std.proofs.Common.{◌∙◌, ℕ, ap, List, Option, option_map, inl,
 use Rattle.chip_graph.specs.Multigraph.{Multigraph}
 use Rattle.chip_crew.specs.declared.plan.Plan.{Plan}
 use Rattle.chip_command.specs.Inputs.{RefusesInputs}
+use Rattle.chip_command.specs.Reports.{Delivers}
+use Rattle.chip_command.specs.Statuses.{number_of_status}
 use Rattle.chip_run.specs.Feeding.{RefusesFed}
 use Rattle.chip_run.specs.Recording.{FailsToRecord}
 use Rattle.chip_run.specs.RunCommand.{IsNotPlayed}
@@ -48,7 +50,7 @@ returns-in_err-cut g c = λ graph_text graph_is chips_text chips_is. for_text _ 
     (means_fed graph_text chips_text feed_text c.args.limit c.in_ok-game.game feeds _ vertices
     (c.in_ok-game.ensures graph_text graph_is chips_text chips_is) fed) _ (g.W.Write.contents c.args.output.now) _ _
     c.deref.result.now
-    c.in_ok-played.played.text.items c.in_ok-played.played.status
+    c.in_ok-played.played.text.items (number_of_status c.in_ok-played.played.status)
     (plays_as _ _ _ _ _ _ _ _ c.in_ok-played.ensures.played c.deref.ensures.value refl)
     c.from_residual-in_err-cut.result _ c.from_residual-in_err-cut.ensures.1
     (λ fault is. subst (FailsToRecord c.deref.result.now _ _) (sym is) c.in_err-cut.ensures)) c.in_ok-feeds.ensures
@@ -60,6 +62,9 @@ returns g c = λ graph_text graph_is chips_text chips_is. for_text _ _ _ (λ fee
     delivered_run graph_text chips_text feed_text c.args.limit c.args.plan c.in_ok-game.game feeds
     (means_fed graph_text chips_text feed_text c.args.limit c.in_ok-game.game feeds _ vertices
     (c.in_ok-game.ensures graph_text graph_is chips_text chips_is) fed) _ _ _ _ c.deref.result.now
-    c.deref-2.result.now c.in_ok-played.played.status
+    c.deref-2.result.now (number_of_status c.in_ok-played.played.status)
     (plays_as _ _ _ _ _ _ _ _ c.in_ok-played.ensures.played c.deref.ensures.value c.deref-2.ensures.value)
-    c.in_ok-cut.cut c.in_ok-cut.ensures c.conclude.result c.conclude.ensures) c.in_ok-feeds.ensures
+    c.in_ok-cut.cut c.in_ok-cut.ensures c.conclude.result
+    (subst (λ (n : ℕ). Delivers (g.W.Write.contents c.args.output.now) (g.W.Write.contents c.conclude.new.output)
+    c.deref-2.result.now (record { status = n; cut = c.in_ok-cut.cut }) c.conclude.result) c.number.ensures
+    c.conclude.ensures)) c.in_ok-feeds.ensures

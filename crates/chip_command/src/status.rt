@@ -1,0 +1,27 @@
+//! The exit statuses of commands.
+
+ghost use Rattle.std.specs.Prelude.{◌≡◌};
+
+/// How a command ended, as whoever started it is told.
+#[derive(Clone, Copy)]
+pub enum Status {
+    /// It did all it was to do; of a game, that no vertex halted.
+    Done = 0,
+    /// It failed.
+    Failed = 1,
+    /// The game closed, and some vertex halted.
+    Halted = 2,
+    /// The root of a simulation, or of a crew that has no turns left, is still open.
+    Unfinished = 3,
+}
+
+impl Status {
+    ghost use Rattle.chip_command.specs.Statuses.{number_of_status};
+
+    /// The number with which the process ends, 0 to 3.
+    pub fn number(self) -> u8
+        ensures { result ≡ number_of_status self }
+    {
+        self as u8
+    }
+}

@@ -4,6 +4,7 @@
 //! should have is proved (`specs/FaultNumbers.antt`). What a table (`table`) says of each fault is text: it is tested.
 #![tactic(auto)]
 
+pub use answer::Answer;
 pub use code::Code;
 pub use ended::{Ended, conclude, status_of};
 pub use fault::{Fault, FaultLine, Location};
@@ -11,6 +12,7 @@ pub use inputs::read_game;
 pub use status::Status;
 pub use table::{Explanation, Place, explanations};
 
+mod answer;
 mod code;
 mod ended;
 mod fault;

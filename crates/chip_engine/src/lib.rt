@@ -11,7 +11,6 @@ pub use replay::replay_engine;
 pub use resume::resume_engine;
 pub use simulate::simulate_engine;
 
-mod answer;
 mod board;
 mod check;
 mod explain;

@@ -5,11 +5,9 @@ ghost use Rattle.chip_command.specs.Reports.{Reports};
 ghost use Rattle.chip_command.specs.Statuses.{number_of_status};
 ghost use Rattle.chip_engine.specs.PlainEngine.{PlainReads};
 
-use crate::answer::Answer;
-use chip_command::{Ended, Fault, conclude, read_game, status_of};
+use chip_command::{Answer, Ended, Fault, conclude, read_game};
 use chip_fire::{Unwatched, Watch, plain_watched};
 use chip_graph::Game;
-use chip_report::report::report;
 use std::alloc::{AllocError, Global};
 use std::io::{Read, Write};
 
@@ -52,8 +50,6 @@ fn play<P: Watch>(alloc: Global, game: &Game, watch: &mut P) -> Result<Answer, A
     ensures { IfOk result (λ made. Reports game.now made.text.items (number_of_status made.status)) }
 {
     let outcome = plain_watched(alloc, game, watch)?;
-    Ok(Answer {
-        text: report(alloc, &outcome)?,
-        status: status_of(&outcome),
-    })
+    let answer = Answer::of_outcome(alloc, &outcome)?;
+    Ok(answer)
 }

@@ -8,8 +8,7 @@ ghost use Rattle.chip_engine.specs.ResumeCommand.{GivesSitting, RefusesToGoOn, R
 ghost use Rattle.chip_command.specs.Statuses.{number_of_status};
 ghost use Rattle.chip_command.specs.declared.fault.Fault.TheVariants.{NoMemory};
 
-use crate::answer::Answer;
-use chip_command::{Ended, Fault, conclude, status_of};
+use chip_command::{Answer, Ended, Fault, conclude, status_of};
 use chip_file::{read_graph, read_whole};
 use chip_fire::resume;
 use chip_graph::Graph;

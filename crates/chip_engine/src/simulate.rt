@@ -11,9 +11,8 @@ ghost use Rattle.chip_command.specs.declared.fault.Fault.TheVariants.{NoMemory};
 ghost use Rattle.chip_engine.specs.SimulateCommand.{SimulateAnswers, Simulates, EndsClosed, EndsBy};
 ghost use Rattle.chip_engine.specs.SimulateCommand.{message_text, reply_text, answer_text, answers_text};
 
-use crate::answer::Answer;
 use crate::board::push_board;
-use chip_command::{Ended, Fault, Status, conclude, read_game, status_of};
+use chip_command::{Answer, Ended, Fault, Status, conclude, read_game, status_of};
 use chip_file::read_schedule;
 use chip_link::{Event, Message, Ring};
 use chip_part::{Reply, Setting};

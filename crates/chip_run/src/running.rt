@@ -8,11 +8,10 @@ ghost use Rattle.chip_run.specs.RunCommand.{RunReads, Plays, IsNotPlayed, plan_o
 
 use crate::feeding::read_fed;
 use crate::recording::record_if_asked;
-use chip_command::{Ended, Fault, Status, conclude, read_game, status_of};
+use chip_command::{Answer, Ended, Fault, conclude, read_game};
 use chip_crew::{CrewFault, Finished, Gate, Plan, run_with};
 use chip_graph::{Game, GameFault};
 use chip_net::Actor;
-use chip_report::report::report;
 use std::alloc::{AllocError, Global};
 use std::io::{Read, Write};
 use std::sync::Wait;
@@ -108,9 +107,9 @@ pub fn run_engine_gated<
     let cut = record_if_asked(alloc, &played.actors, trace)?;
     conclude(
         output,
-        &played.text,
+        &played.answer.text,
         Ended {
-            status: played.status.number(),
+            status: played.answer.status.number(),
             cut,
         },
     )
@@ -119,10 +118,8 @@ pub fn run_engine_gated<
 /// A game that was played.
 #[derive(Drop)]
 struct Played {
-    /// Its report.
-    text: Vec<u8>,
-    /// The exit status.
-    status: Status,
+    /// Its report, and the exit status.
+    answer: Answer,
     /// Who played it.
     actors: Vec<Actor>,
 }
@@ -139,7 +136,7 @@ fn play<R: Threads + Wait + Sync, K: Gate + Sync>(
     requires seal { plan.seal ≡ None }
     requires gate { (worker turn : ℕ) → K.may_answer gate.now worker turn false → ⊥ }
     ensures played { IfOk result (λ p. Plays game.now (option_map (λ fed. fed.items) feeds) plan p.actors.items
-        p.text.items (number_of_status p.status)) }
+        p.answer.text.items (number_of_status p.answer.status)) }
     ensures fault { IfErr result (IsNotPlayed game.now (option_map (λ fed. fed.items) feeds) plan) }
 {
     match run_with(rt, alloc, game, plan, feeds.as_deref(), gate) {
@@ -150,8 +147,8 @@ fn play<R: Threads + Wait + Sync, K: Gate + Sync>(
 
 /// The report of a game that a crew finished.
 fn report_of(alloc: Global, finished: Finished) -> Result<Played, AllocError>
-    ensures text { IfOk result (λ p. p.text.items ≡ report_text finished.outcome) }
-    ensures status { IfOk result (λ p. p.status ≡ status_of_outcome finished.outcome) }
+    ensures text { IfOk result (λ p. p.answer.text.items ≡ report_text finished.outcome) }
+    ensures status { IfOk result (λ p. p.answer.status ≡ status_of_outcome finished.outcome) }
     ensures actors { IfOk result (λ p. p.actors ≡ finished.actors) }
 {
     let Finished {
@@ -159,12 +156,8 @@ fn report_of(alloc: Global, finished: Finished) -> Result<Played, AllocError>
         receipt: _,
         actors,
     } = finished;
-    let text = report(alloc, &outcome)?;
-    Ok(Played {
-        text,
-        status: status_of(&outcome),
-        actors,
-    })
+    let answer = Answer::of_outcome(alloc, &outcome)?;
+    Ok(Played { answer, actors })
 }
 
 /// A crew's fault, without the root.

@@ -6,6 +6,6 @@ pub returns : goal.returns
 returns g c = (
   c.in_ok-outcome.outcome,
   c.in_ok-outcome.ensures.played,
-  c.in_ok-report.ensures,
-  ap number_of_status c.status_of.ensures,
+  c.in_ok-answer.ensures.text,
+  ap number_of_status c.in_ok-answer.ensures.status,
 )

@@ -50,7 +50,7 @@ returns-in_err-cut g c = λ graph_text graph_is chips_text chips_is. for_text _ 
     (means_fed graph_text chips_text feed_text c.args.limit c.in_ok-game.game feeds _ vertices
     (c.in_ok-game.ensures graph_text graph_is chips_text chips_is) fed) _ (g.W.Write.contents c.args.output.now) _ _
     c.deref.result.now
-    c.in_ok-played.played.text.items (number_of_status c.in_ok-played.played.status)
+    c.in_ok-played.played.answer.text.items (number_of_status c.in_ok-played.played.answer.status)
     (plays_as _ _ _ _ _ _ _ _ c.in_ok-played.ensures.played c.deref.ensures.value refl)
     c.from_residual-in_err-cut.result _ c.from_residual-in_err-cut.ensures.1
     (λ fault is. subst (FailsToRecord c.deref.result.now _ _) (sym is) c.in_err-cut.ensures)) c.in_ok-feeds.ensures
@@ -62,7 +62,7 @@ returns g c = λ graph_text graph_is chips_text chips_is. for_text _ _ _ (λ fee
     delivered_run graph_text chips_text feed_text c.args.limit c.args.plan c.in_ok-game.game feeds
     (means_fed graph_text chips_text feed_text c.args.limit c.in_ok-game.game feeds _ vertices
     (c.in_ok-game.ensures graph_text graph_is chips_text chips_is) fed) _ _ _ _ c.deref.result.now
-    c.deref-2.result.now (number_of_status c.in_ok-played.played.status)
+    c.deref-2.result.now (number_of_status c.in_ok-played.played.answer.status)
     (plays_as _ _ _ _ _ _ _ _ c.in_ok-played.ensures.played c.deref.ensures.value c.deref-2.ensures.value)
     c.in_ok-cut.cut c.in_ok-cut.ensures c.conclude.result
     (subst (λ (n : ℕ). Delivers (g.W.Write.contents c.args.output.now) (g.W.Write.contents c.conclude.new.output)

@@ -118,9 +118,34 @@ impl Code {
         name: "TooLong",
     };
 
+    pub const NOT_LEGAL: Code = Code {
+        number: 40,
+        name: "NotLegal",
+    };
+
+    pub const NEGATIVE: Code = Code {
+        number: 41,
+        name: "Negative",
+    };
+
     pub const NOT_CLOSED: Code = Code {
         number: 42,
         name: "NotClosed",
+    };
+
+    pub const NO_EDGE: Code = Code {
+        number: 43,
+        name: "NoEdge",
+    };
+
+    pub const ENDED: Code = Code {
+        number: 44,
+        name: "Ended",
+    };
+
+    pub const FULL: Code = Code {
+        number: 45,
+        name: "Full",
     };
 
     pub const NOT_REPORT: Code = Code {

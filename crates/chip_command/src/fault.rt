@@ -12,6 +12,7 @@ use chip_file::FileFault;
 use chip_fire::ResumeFault;
 use chip_graph::{GameFault, GraphFault};
 use chip_report::{ReportFault, WriteFault};
+use chip_sequence::{AfterFault, NotLegal};
 use chip_trace::{ReplayFault, TraceFault};
 use std::alloc::{AllocError, AllocFailed};
 use std::fmt;
@@ -24,8 +25,18 @@ pub enum Fault {
     File(FileFault),
     /// The numbers of a game.
     Game(GameFault),
+    /// A vertex may not fire so often.
+    NotLegal,
+    /// By some counts of firings this vertex would be left with fewer than no chips.
+    Negative(u64),
     /// The root of a simulated run is not closed, so there is no outcome.
     NotClosed,
+    /// No edge of the graph has the number of the one to be sealed.
+    NoEdge,
+    /// Nothing is fed, since the end of feeding is noted.
+    Ended,
+    /// Nothing is fed, since the next cell of the ring to the vertex is full.
+    Full,
     /// The bytes of a report are none.
     NotReport,
     /// The play that a report tells does not go on.
@@ -86,6 +97,31 @@ impl From<GameFault> for Fault {
 
     fn from(fault: GameFault) -> Fault {
         Fault::Game(fault)
+    }
+}
+
+impl From<NotLegal> for Fault {
+    ghost use Rattle.std.specs.Prelude.{◌≡◌};
+    ghost use Rattle.chip_command.specs.declared.fault.Fault.TheVariants as fault_of_command;
+
+    ghost from_gives = { λ _ fault. fault ≡ fault_of_command.NotLegal };
+
+    fn from(_fault: NotLegal) -> Fault {
+        Fault::NotLegal
+    }
+}
+
+impl From<AfterFault> for Fault {
+    ghost use Rattle.std.specs.Prelude.{◌≡◌};
+    ghost use Rattle.chip_command.specs.Faults.{fault_of_after};
+
+    ghost from_gives = { λ after fault. fault ≡ fault_of_after after };
+
+    fn from(fault: AfterFault) -> Fault {
+        match fault {
+            AfterFault::Negative(vertex) => Fault::Negative(vertex),
+            AfterFault::NoMemory => Fault::NoMemory,
+        }
     }
 }
 
@@ -346,7 +382,12 @@ impl Fault {
         match self {
             Fault::File(fault) => code_of_file(fault),
             Fault::Game(fault) => code_of_game(fault),
+            Fault::NotLegal => Code::NOT_LEGAL,
+            Fault::Negative(_) => Code::NEGATIVE,
             Fault::NotClosed => Code::NOT_CLOSED,
+            Fault::NoEdge => Code::NO_EDGE,
+            Fault::Ended => Code::ENDED,
+            Fault::Full => Code::FULL,
             Fault::NotReport => Code::NOT_REPORT,
             Fault::Resume(fault) => code_of_resume(fault),
             Fault::Plan => Code::PLAN,
@@ -370,6 +411,7 @@ impl Fault {
         match self {
             Fault::File(fault) => location_of_file(fault),
             Fault::Resume(fault) => location_of_resume(fault),
+            Fault::Negative(vertex) => Location::At(*vertex),
             Fault::Unfinished(deficit) => Location::At(*deficit),
             Fault::Lost(vertex) => Location::At(*vertex),
             Fault::Doubled(vertex) => Location::At(*vertex),

@@ -320,12 +320,62 @@ written without spaces.
 ",
 };
 
+pub static NOT_LEGAL: Explanation = Explanation {
+    code: Code::NOT_LEGAL,
+    place: Place::NOWHERE,
+    meaning: "a vertex may not fire so often",
+    advice: "\
+Only callers of the library chip_sequence meet this. The vertex is the sink, or has not
+the chips for so many firings, or is to fire no times.
+",
+};
+
+pub static NEGATIVE: Explanation = Explanation {
+    code: Code::NEGATIVE,
+    place: Place::VERTEX,
+    meaning: "vertex v would be left with fewer than no chips",
+    advice: "\
+Only callers of the library chip_sequence meet this. By the counts of firings that were
+given, v sends more chips than it has and gets, and it is the least such vertex.
+",
+};
+
 pub static NOT_CLOSED: Explanation = Explanation {
     code: Code::NOT_CLOSED,
     place: Place::NOWHERE,
     meaning: "the root is not closed, so there is no outcome",
     advice: "\
 Only callers of the library chip_world meet this. `simulate` says `root open` instead.
+",
+};
+
+pub static NO_EDGE: Explanation = Explanation {
+    code: Code::NO_EDGE,
+    place: Place::NOWHERE,
+    meaning: "the graph has no edge with this number",
+    advice: "\
+Only callers of the library chip_net meet this. Edges of the graph can be sealed, and
+root edges cannot.
+",
+};
+
+pub static ENDED: Explanation = Explanation {
+    code: Code::ENDED,
+    place: Place::NOWHERE,
+    meaning: "chips are fed after the end of feeding",
+    advice: "\
+Only callers of the library chip_net meet this. A net that was opened without feeding
+has its end noted from the beginning.
+",
+};
+
+pub static FULL: Explanation = Explanation {
+    code: Code::FULL,
+    place: Place::NOWHERE,
+    meaning: "chips are fed where the next cell of the ring is full",
+    advice: "\
+Only callers of the library chip_net meet this. Try again once the vertex has made a
+turn. `chipfire run --feed` does so by itself.
 ",
 };
 
@@ -475,7 +525,7 @@ not be written, and nothing of the report was.
 };
 
 /// All rows, by their numbers.
-pub fn explanations() -> [&'static Explanation; 37] {
+pub fn explanations() -> [&'static Explanation; 42] {
     [
         &VERTICES,
         &SINK,
@@ -499,7 +549,12 @@ pub fn explanations() -> [&'static Explanation; 37] {
         &KIND,
         &READ,
         &TOO_LONG,
+        &NOT_LEGAL,
+        &NEGATIVE,
         &NOT_CLOSED,
+        &NO_EDGE,
+        &ENDED,
+        &FULL,
         &NOT_REPORT,
         &PRIOR,
         &MISMATCH,

@@ -1,3 +1,4 @@
+pub mod Faults
 pub mod Feeding
 pub mod Recording
 pub mod RunCommand

@@ -17,7 +17,7 @@ use Rattle.chip_graph.proofs.SumLemmas.{cond_yes, cond_no}
 use Rattle.chip_trace.specs.Interleaving.{fires, chips_taken, takes_of, goes_into, is_met, Placed, rows_of, trace_of}
 use Rattle.chip_trace.specs.Interleaving.{with_firing}
 use Rattle.chip_trace.specs.Runner.{RunnerState, at_start, runner_of}
-use Rattle.chip_trace.specs.declared.progress.Progress.{Progress}
+use Rattle.chip_trace.specs.declared.progress.ReplayProgress.{ReplayProgress}
 use Rattle.chip_trace.specs.Kept.{runner_at, rows_used, row_after, IsReached, IsKept}
 use Rattle.chip_trace.proofs.PrefixLemmas.{take_slice_get}
 use Rattle.chip_trace.proofs.RowLemmas.{fires-append, chips_taken-append, takes_of-append, rows_of-push}
@@ -38,7 +38,7 @@ same_state : (a b : ℕ) (fs gs : List ℕ) (c d : ℕ) → a ≡ b → fs ≡ g
 same_state a b fs gs c d p q r = cc
 
 -- v uses its next row, which is met
-module _ (g : ChipGame) (traces : List (List TraceRow)) (p q : Progress) (v : ℕ) (row : TraceRow)
+module _ (g : ChipGame) (traces : List (List TraceRow)) (p q : ReplayProgress) (v : ℕ) (row : TraceRow)
     (kept : IsKept g traces p) (is_vertex : v < g.graph.vertices)
     (next : row_after traces p v ≡ Some row) (met : is_met g (rows_used traces p) v row ≡ true) (runner : RunnerState)
     (moved : q.runners.items ≡ set p.runners.items v runner)
@@ -84,8 +84,8 @@ module _ (g : ChipGame) (traces : List (List TraceRow)) (p q : Progress) (v : �
       was = kept.reached.1
 
 -- v takes a message
-pub kept_take : (g : ChipGame) (traces : List (List TraceRow)) (p q : Progress) (v edge count : ℕ) → IsKept g traces p
-    → v < g.graph.vertices →
+pub kept_take : (g : ChipGame) (traces : List (List TraceRow)) (p q : ReplayProgress) (v edge count : ℕ)
+    → IsKept g traces p → v < g.graph.vertices →
     row_after traces p v ≡ Some (Take edge count) → is_met g (rows_used traces p) v (Take edge count) ≡ true
     → count < 2 ^ 64 → edge < length g.graph.edges + g.graph.vertices →
     q.runners.items ≡ set p.runners.items v
@@ -183,7 +183,7 @@ kept_take g traces p q v edge count kept is_vertex next met fits is_edge moved t
         (λ other_vertex. ap (takes_of e) (are_there u other_vertex))
 
 -- v fires
-pub kept_fire : (g : ChipGame) (traces : List (List TraceRow)) (p q : Progress) (v k : ℕ) → IsKept g traces p
+pub kept_fire : (g : ChipGame) (traces : List (List TraceRow)) (p q : ReplayProgress) (v k : ℕ) → IsKept g traces p
     → v < g.graph.vertices →
     row_after traces p v ≡ Some (Fire k) → is_met g (rows_used traces p) v (Fire k) ≡ true →
     q.runners.items ≡ set p.runners.items v
@@ -252,7 +252,7 @@ kept_fire g traces p q v k kept is_vertex next met moved took fired =
         (λ other_vertex. ap (takes_of e) (are_there u other_vertex))
 
 -- before the first row
-pub kept_start : (g : ChipGame) (traces : List (List TraceRow)) (p : Progress)
+pub kept_start : (g : ChipGame) (traces : List (List TraceRow)) (p : ReplayProgress)
     → p.runners.items ≡ replicate g.graph.vertices at_start →
     p.taken.items ≡ replicate (length g.graph.edges + g.graph.vertices) 0 → p.firings.items ≡ [] → IsKept g traces p
 kept_start g traces p start none fired =

@@ -11,10 +11,10 @@ use Rattle.chip_graph.specs.Sums.{sum_below}
 use Rattle.chip_graph.proofs.SumLemmas.{sum_below_move}
 use Rattle.chip_trace.specs.Interleaving.{trace_of}
 use Rattle.chip_trace.specs.Runner.{RunnerState, at_start}
-use Rattle.chip_trace.specs.declared.progress.Progress.{Progress}
+use Rattle.chip_trace.specs.declared.progress.ReplayProgress.{ReplayProgress}
 use Rattle.chip_trace.specs.Kept.{runner_at, row_after, UsesRow, rows_left}
 
-fewer : (traces : List (List TraceRow)) (p q : Progress) (v : ℕ) (row : TraceRow) (runner : RunnerState)
+fewer : (traces : List (List TraceRow)) (p q : ReplayProgress) (v : ℕ) (row : TraceRow) (runner : RunnerState)
     → v < length p.runners.items → row_after traces p v ≡ Some row →
     q.runners.items ≡ set p.runners.items v runner → runner.used ≡ (runner_at p v).used + 1
     → rows_left traces q + 1 ≡ rows_left traces p
@@ -36,8 +36,9 @@ fewer traces p q v row runner is_vertex next moved one =
     omega arith
 
 -- one row fewer is left
-pub left_after : (traces : List (List TraceRow)) (p q : Progress) (v : ℕ) (row : TraceRow) → v < length p.runners.items
-    → row_after traces p v ≡ Some row → UsesRow v row p q → rows_left traces q + 1 ≡ rows_left traces p
+pub left_after : (traces : List (List TraceRow)) (p q : ReplayProgress) (v : ℕ) (row : TraceRow)
+    → v < length p.runners.items → row_after traces p v ≡ Some row → UsesRow v row p q
+    → rows_left traces q + 1 ≡ rows_left traces p
 left_after traces p q v (Take edge count) is_vertex next uses =
     fewer traces p q v (Take edge count) _ is_vertex next uses.0 refl
 left_after traces p q v (Fire k) is_vertex next uses = fewer traces p q v (Fire k) _ is_vertex next uses.0 refl

@@ -11,7 +11,7 @@ use Rattle.chip_graph.specs.ChipGame.{ChipGame, IsGame}
 use Rattle.chip_trace.specs.Interleaving.{fires, takes_of, opening, messages, goes_into, next_message, has_count}
 use Rattle.chip_trace.specs.Interleaving.{may_fire}
 use Rattle.chip_trace.specs.Runner.{RunnerState}
-use Rattle.chip_trace.specs.declared.progress.Progress.{Progress}
+use Rattle.chip_trace.specs.declared.progress.ReplayProgress.{ReplayProgress}
 use Rattle.chip_trace.specs.Kept.{runner_at, rows_used, row_after, IsKept, MayUse}
 use Rattle.chip_trace.proofs.RowLemmas.{and_first, and_second, and_both}
 
@@ -35,7 +35,7 @@ takes_of-le e (Take edge count ∷ rows) = let a = takes_of-le e rows in let b =
     one false = omega arith
 takes_of-le e (Fire k ∷ rows) = let a = takes_of-le e rows in omega arith
 
-module _ (g : ChipGame) (traces : List (List TraceRow)) (p : Progress) (v : ℕ) (kept : IsKept g traces p) where
+module _ (g : ChipGame) (traces : List (List TraceRow)) (p : ReplayProgress) (v : ℕ) (kept : IsKept g traces p) where
   -- the messages by what is kept of the tails
   pub kept_messages : (e : ℕ)
       → messages g (λ u. (runner_at p u).fires) e ≡ messages g (λ u. fires (rows_used traces p u)) e

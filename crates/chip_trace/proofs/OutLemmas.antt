@@ -5,7 +5,7 @@ use Rattle.std.proofs.Common.{subst, arith, append_assoc, append-nil}
 use Rattle.std.proofs.Math.Seq.{take-append-add}
 use Rattle.std.proofs.lemmas.List.{take-append-drop, take_rest, length-append}
 use Rattle.std.specs.Io.KnownBytes.{Appends, Keeps}
-use Rattle.std.proofs.KnownBytes.{Appends-nil, Appends-trans}
+use Rattle.std.proofs.KnownBytes.{Appends-trans}
 
 -- all of these bytes are those that went out and those that are left
 pub record GoneOut (all : List ℕ) (old new : Option (List ℕ)) (rest : List ℕ) : Type 0 where

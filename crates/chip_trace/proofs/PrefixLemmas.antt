@@ -1,7 +1,6 @@
 -- Serves TraceText.antt.
 -- Lists and how they begin.
 use Rattle.std.proofs.Common.{◌≡◌, ℕ, zero, suc, ◌≤◌, List, [], ◌∷◌, ◌++◌, length, take, drop, refl, sym, ap, ◌∙◌}
-use Rattle.std.proofs.Common.{arith}
 use Rattle.std.specs.Prelude.{slice_get, Option, Some, None}
 use Rattle.std.proofs.Math.Seq.{take-append_seam}
 use Rattle.std.proofs.lemmas.List.{take-append-le, take-append-drop}
@@ -36,12 +35,6 @@ module _ {A : Type 0} where
   pub slice_get_seam : (xs : List A) (y : A) (ys : List A) → slice_get (xs ++ y ∷ ys) (length xs) ≡ Some y
   slice_get_seam [] y ys = refl
   slice_get_seam (x ∷ xs) y ys = slice_get_seam xs y ys
-
-  -- a place that holds nothing is past the end
-  pub slice_get_none : (xs : List A) (i : ℕ) → slice_get xs i ≡ None → length xs ≤ i
-  slice_get_none [] i is = omega arith
-  slice_get_none (x ∷ xs) zero is = absurd (cc is)
-  slice_get_none (x ∷ xs) (suc i) is = let a = slice_get_none xs i is in omega arith
 
   -- a place that holds something ends the beginning up to it
   pub take_slice_get : (xs : List A) (i : ℕ) (x : A) → slice_get xs i ≡ Some x → take (suc i) xs ≡ take i xs ++ x ∷ []

@@ -12,13 +12,13 @@ use Rattle.chip_trace.specs.Interleaving.{is_met, Placed, rows_of, trace_of, IsP
 use Rattle.chip_trace.specs.Progress.{is_wrong, next_row, HasWrongRow, HasUnusedRow, IsLeast, IsBlamed}
 use Rattle.chip_trace.specs.Progress.{IsGreatestProgress, IsStuck}
 use Rattle.chip_trace.specs.Runner.{RunnerState}
-use Rattle.chip_trace.specs.declared.progress.Progress.{Progress}
+use Rattle.chip_trace.specs.declared.progress.ReplayProgress.{ReplayProgress}
 use Rattle.chip_trace.specs.Replay.{AreFirings}
 use Rattle.chip_trace.specs.Kept.{runner_at, rows_used, row_after, IsReached, IsKept, IsSettled, IsWrongAt, IsUnusedAt}
 use Rattle.chip_trace.specs.Kept.{NoneBelow, IsToBlame}
 use Rattle.chip_trace.proofs.GreatestLemmas.{settled_is_greatest, none_whole}
 
-module _ (g : ChipGame) (traces : List (List TraceRow)) (p : Progress) (kept : IsKept g traces p)
+module _ (g : ChipGame) (traces : List (List TraceRow)) (p : ReplayProgress) (kept : IsKept g traces p)
     (each : length traces ≡ g.graph.vertices) where
   abbrev xs : List Placed
   xs = kept.reached.0

@@ -7,9 +7,9 @@ use Rattle.chip_link.specs.declared.trace.TraceRow.TheVariants.{Take, Fire}
 use Rattle.chip_graph.specs.ChipGame.{ChipGame}
 use Rattle.chip_trace.specs.Interleaving.{goes_into, next_message, has_count, is_met}
 use Rattle.chip_trace.specs.Progress.{has_other_count, is_wrong}
-use Rattle.chip_trace.specs.declared.progress.Progress.{Progress}
-use Rattle.chip_trace.specs.declared.look.Look.{Look}
-use Rattle.chip_trace.specs.declared.look.Look.TheVariants as look
+use Rattle.chip_trace.specs.declared.progress.ReplayProgress.{ReplayProgress}
+use Rattle.chip_trace.specs.declared.look.Finding.{Finding}
+use Rattle.chip_trace.specs.declared.look.Finding.TheVariants as finding
 use Rattle.chip_trace.specs.Kept.{rows_used, Finds, IsWrongAt}
 use Rattle.chip_trace.proofs.RowLemmas.{and_first, and_second}
 
@@ -26,17 +26,17 @@ met_not_wrong g used v (Take edge count) met = tests (goes_into g.graph v edge) 
     tests false o p q = absurd (cc p)
 
 -- where a look does not find the next row wrong, it is not
-pub not_found_wrong : (g : ChipGame) (traces : List (List TraceRow)) (p : Progress) (v : ℕ) (found : Look)
-    → Finds g traces p v found → (found ≡ look.Wrong → ⊥) → IsWrongAt g traces p v → ⊥
-not_found_wrong g traces p v look.Done is other wrong = let a = wrong.1 in let b = is in cc
-not_found_wrong g traces p v (look.Met row) is other wrong =
+pub not_found_wrong : (g : ChipGame) (traces : List (List TraceRow)) (p : ReplayProgress) (v : ℕ) (found : Finding)
+    → Finds g traces p v found → (found ≡ finding.Wrong → ⊥) → IsWrongAt g traces p v → ⊥
+not_found_wrong g traces p v finding.Done is other wrong = let a = wrong.1 in let b = is in cc
+not_found_wrong g traces p v (finding.Met row) is other wrong =
     let a : wrong.0 ≡ row = (let x = wrong.1 in let y = is.next in cc) in
     let b = met_not_wrong g (rows_used traces p) v row is.met in
     let c : is_wrong g (rows_used traces p) v row
     ≡ true = subst (λ (r : TraceRow). is_wrong g (rows_used traces p) v r ≡ true) a wrong.2 in
     cc
-not_found_wrong g traces p v look.Wrong is other wrong = other refl
-not_found_wrong g traces p v (look.Waits edge) is other wrong =
+not_found_wrong g traces p v finding.Wrong is other wrong = other refl
+not_found_wrong g traces p v (finding.Waits edge) is other wrong =
     let a : wrong.0 ≡ is.0 = (let x = wrong.1 in let y = is.1 in cc) in
     let c : is_wrong g (rows_used traces p) v is.0
     ≡ true = subst (λ (r : TraceRow). is_wrong g (rows_used traces p) v r ≡ true) a wrong.2 in

@@ -5,34 +5,35 @@ use Rattle.chip_link.specs.declared.trace.TraceRow.{TraceRow}
 use Rattle.chip_link.specs.declared.trace.TraceRow.TheVariants.{Take, Fire}
 use Rattle.chip_graph.specs.Sums.{sum_below}
 use Rattle.chip_graph.specs.ChipGame.{ChipGame}
-use Rattle.chip_trace.specs.declared.progress.Progress.{Progress}
-use Rattle.chip_trace.specs.declared.look.Look.{Look}
-use Rattle.chip_trace.specs.declared.look.Look.TheVariants as look
+use Rattle.chip_trace.specs.declared.progress.ReplayProgress.{ReplayProgress}
+use Rattle.chip_trace.specs.declared.look.Finding.{Finding}
+use Rattle.chip_trace.specs.declared.look.Finding.TheVariants as finding
 use Rattle.chip_trace.specs.Agenda.{AgendaState}
 use Rattle.chip_trace.specs.Interleaving.{takes_of, goes_into, is_met, Placed, rows_of, AreMet, trace_of, firings}
 use Rattle.chip_trace.specs.Progress.{is_wrong, IsLeast}
 use Rattle.chip_trace.specs.Runner.{RunnerState, at_start, runner_of}
 
 -- how far v has come
-abbrev pub runner_at : Progress → ℕ → RunnerState
+abbrev pub runner_at : ReplayProgress → ℕ → RunnerState
 runner_at p v = slice_index_or p.runners.items v at_start
 
 -- the rows that v has used
-abbrev pub rows_used : List (List TraceRow) → Progress → ℕ → List TraceRow
+abbrev pub rows_used : List (List TraceRow) → ReplayProgress → ℕ → List TraceRow
 rows_used traces p v = take (runner_at p v).used (trace_of traces v)
 
 -- the next unused row of v, if it has one
-abbrev pub row_after : List (List TraceRow) → Progress → ℕ → Option TraceRow
+abbrev pub row_after : List (List TraceRow) → ReplayProgress → ℕ → Option TraceRow
 row_after traces p v = slice_get (trace_of traces v) (runner_at p v).used
 
 -- the rows used so far stand in some list in which each is met, and the firings are those of that list
-pub record IsReached (g : ChipGame) (traces : List (List TraceRow)) (p : Progress) (xs : List Placed) : Type 0 where
+pub record IsReached (g : ChipGame) (traces : List (List TraceRow)) (p : ReplayProgress)
+    (xs : List Placed) : Type 0 where
   pub met : AreMet g [] xs
   pub rows : (v : ℕ) → rows_of xs v ≡ rows_used traces p v
   pub fired : p.firings.items ≡ firings xs
 
 -- what is kept for vertices and edges is what the used rows come to, and these were met one after another
-pub record IsKept (g : ChipGame) (traces : List (List TraceRow)) (p : Progress) : Type 0 where
+pub record IsKept (g : ChipGame) (traces : List (List TraceRow)) (p : ReplayProgress) : Type 0 where
   pub runner_each : length p.runners.items ≡ g.graph.vertices
   pub taken_each : length p.taken.items ≡ length g.graph.edges + g.graph.vertices
   pub runners : (v : ℕ) → runner_at p v ≡ runner_of (rows_used traces p v)
@@ -41,7 +42,7 @@ pub record IsKept (g : ChipGame) (traces : List (List TraceRow)) (p : Progress) 
   pub reached : (xs : List Placed) × IsReached g traces p xs
 
 -- v uses a row: what it took or fired is noted
-abbrev pub UsesRow : ℕ → TraceRow → Progress → Progress → Type 0
+abbrev pub UsesRow : ℕ → TraceRow → ReplayProgress → ReplayProgress → Type 0
 UsesRow v (Take edge count) p q =
     (q.runners.items ≡ slice_set p.runners.items v
     (record {
@@ -63,34 +64,35 @@ UsesRow v (Fire k) p q =
     × (q.firings.items ≡ p.firings.items ++ (v, k) ∷ [])
 
 -- the numbers that note a row fit their types
-abbrev pub FitsRow : ℕ → TraceRow → Progress → Type 0
+abbrev pub FitsRow : ℕ → TraceRow → ReplayProgress → Type 0
 FitsRow v (Take edge count) p = (edge < length p.taken.items) × (slice_index p.taken.items edge + 1 < 2 ^ 64)
     × ((runner_at p v).chips + count < 2 ^ 128) × (count < 2 ^ 64)
 FitsRow v (Fire k) p = sum (runner_at p v).fires + k < 2 ^ 64
 
 -- how many rows are unused
-abbrev pub rows_left : List (List TraceRow) → Progress → ℕ
+abbrev pub rows_left : List (List TraceRow) → ReplayProgress → ℕ
 rows_left traces p = sum_below (length p.runners.items) (λ v. length (trace_of traces v) - (runner_at p v).used)
 
 -- the next row of v is met, and there is room to note that it is used
-pub record MayUse (g : ChipGame) (traces : List (List TraceRow)) (p : Progress) (v : ℕ) (row : TraceRow) : Type 0 where
+pub record MayUse (g : ChipGame) (traces : List (List TraceRow)) (p : ReplayProgress) (v : ℕ)
+    (row : TraceRow) : Type 0 where
   pub next : row_after traces p v ≡ Some row
   pub met : is_met g (rows_used traces p) v row ≡ true
   pub room : (runner_at p v).used + 1 < 2 ^ 64
   pub fits : FitsRow v row p
 
 -- no next row is met
-abbrev pub IsSettled : ChipGame → List (List TraceRow) → Progress → Type 0
+abbrev pub IsSettled : ChipGame → List (List TraceRow) → ReplayProgress → Type 0
 IsSettled g traces p = (v : ℕ) → v < g.graph.vertices → (row : TraceRow) → row_after traces p v ≡ Some row
     → is_met g (rows_used traces p) v row ≡ false
 
 -- v has a next row, and it is wrong
-abbrev pub IsWrongAt : ChipGame → List (List TraceRow) → Progress → ℕ → Type 0
+abbrev pub IsWrongAt : ChipGame → List (List TraceRow) → ReplayProgress → ℕ → Type 0
 IsWrongAt g traces p v = (row : TraceRow) × (row_after traces p v ≡ Some row)
     × (is_wrong g (rows_used traces p) v row ≡ true)
 
 -- v has a next row
-abbrev pub IsUnusedAt : List (List TraceRow) → Progress → ℕ → Type 0
+abbrev pub IsUnusedAt : List (List TraceRow) → ReplayProgress → ℕ → Type 0
 IsUnusedAt traces p v = (runner_at p v).used < length (trace_of traces v)
 
 -- no vertex below n has a property
@@ -103,28 +105,28 @@ IsFirst n P None = NoneBelow n P
 IsFirst n P (Some v) = (v < n) × IsLeast P v
 
 -- the vertex to blame, if rows are left: the least one whose next row is wrong, else the least one with a next row
-abbrev pub IsToBlame : ChipGame → List (List TraceRow) → Progress → Option ℕ → Type 0
+abbrev pub IsToBlame : ChipGame → List (List TraceRow) → ReplayProgress → Option ℕ → Type 0
 IsToBlame g traces p None = NoneBelow g.graph.vertices (IsUnusedAt traces p)
 IsToBlame g traces p (Some v) = (v < g.graph.vertices)
     × (IsLeast (IsWrongAt g traces p) v
     ⊎ (NoneBelow g.graph.vertices (IsWrongAt g traces p) × IsLeast (IsUnusedAt traces p) v))
 
 -- what a look at the next row of v finds
-abbrev pub Finds : ChipGame → List (List TraceRow) → Progress → ℕ → Look → Type 0
-Finds g traces p v look.Done = row_after traces p v ≡ None
-Finds g traces p v (look.Met row) = MayUse g traces p v row
-Finds g traces p v look.Wrong = (row : TraceRow) × (row_after traces p v ≡ Some row)
+abbrev pub Finds : ChipGame → List (List TraceRow) → ReplayProgress → ℕ → Finding → Type 0
+Finds g traces p v finding.Done = row_after traces p v ≡ None
+Finds g traces p v (finding.Met row) = MayUse g traces p v row
+Finds g traces p v finding.Wrong = (row : TraceRow) × (row_after traces p v ≡ Some row)
     × (is_met g (rows_used traces p) v row ≡ false) × (is_wrong g (rows_used traces p) v row ≡ true)
-Finds g traces p v (look.Waits edge) = (row : TraceRow) × (row_after traces p v ≡ Some row)
+Finds g traces p v (finding.Waits edge) = (row : TraceRow) × (row_after traces p v ≡ Some row)
     × (is_met g (rows_used traces p) v row ≡ false) × (is_wrong g (rows_used traces p) v row ≡ false)
 
 -- how much is left to do: rows to use, and behind them vertices to look at
-abbrev pub work_left : List (List TraceRow) → Progress → AgendaState → ℕ
+abbrev pub work_left : List (List TraceRow) → ReplayProgress → AgendaState → ℕ
 work_left traces p a = rows_left traces p * 2 ^ 64 + a.due
 
 -- a replay goes on from p and a to q and b: it keeps what it keeps, and has no more left to do
-pub record GoesOn (g : ChipGame) (traces : List (List TraceRow)) (p : Progress) (a : AgendaState) (q : Progress)
-    (b : AgendaState) : Type 0 where
+pub record GoesOn (g : ChipGame) (traces : List (List TraceRow)) (p : ReplayProgress) (a : AgendaState)
+    (q : ReplayProgress) (b : AgendaState) : Type 0 where
   pub kept : IsKept g traces q
   pub same : b.vertices ≡ a.vertices
   pub work : work_left traces q b ≤ work_left traces p a

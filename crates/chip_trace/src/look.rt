@@ -6,14 +6,14 @@ ghost use Rattle.chip_graph.specs.Edges.{all_edges};
 ghost use Rattle.chip_trace.specs.Interleaving.{messages, goes_into, may_fire};
 ghost use Rattle.chip_trace.specs.Kept.{runner_at, row_after, IsKept, Finds};
 
-use crate::progress::Progress;
+use crate::progress::ReplayProgress;
 use crate::runner::Runner;
 use chip_graph::{AnyEdge, Edge, Game, Graph};
 use chip_link::TraceRow;
 
 /// What a look at the next row of a vertex finds.
 #[derive(Clone, Copy)]
-pub(crate) enum Look {
+pub(crate) enum Finding {
     /// There is none: all its rows are used.
     Done,
     /// It is met: this is the row.
@@ -28,46 +28,48 @@ pub(crate) enum Look {
 pub(crate) fn look_at(
     game: &Game,
     traces: &[Vec<TraceRow>],
-    progress: &Progress,
+    progress: &ReplayProgress,
     vertex: u64,
-) -> Look
+) -> Finding
     requires is_vertex { vertex < game.now.graph.vertices }
     requires trace_each { length traces.now ≡ game.now.graph.vertices }
     requires kept { IsKept game.now (map (λ t. t.items) traces.now) progress.now }
     ensures { Finds game.now (map (λ t. t.items) traces.now) progress.now vertex result }
 {
     match next_row(traces, progress, vertex) {
-        None => Look::Done,
+        None => Finding::Done,
         Some(TraceRow::Take { edge, count }) => {
             if !goes_into(game.graph(), vertex, edge) {
-                return Look::Wrong;
+                return Finding::Wrong;
             }
             match next_message(game, progress, edge) {
-                None => Look::Waits(edge),
+                None => Finding::Waits(edge),
                 Some(message) if message == u128::from(count) => {
-                    Look::Met(TraceRow::Take { edge, count })
+                    Finding::Met(TraceRow::Take { edge, count })
                 }
-                Some(_) => Look::Wrong,
+                Some(_) => Finding::Wrong,
             }
         }
         Some(TraceRow::Fire { k }) => {
             if may_fire(game, &progress.runners[vertex as usize], vertex, k) {
-                Look::Met(TraceRow::Fire { k })
+                Finding::Met(TraceRow::Fire { k })
             } else {
-                Look::Wrong
+                Finding::Wrong
             }
         }
     }
 }
 
 /// The next unused row of this vertex, if it has one.
-fn next_row(traces: &[Vec<TraceRow>], progress: &Progress, vertex: u64) -> Option<TraceRow>
+fn next_row(traces: &[Vec<TraceRow>], progress: &ReplayProgress, vertex: u64) -> Option<TraceRow>
     requires has_trace { vertex < length traces.now }
     requires has_runner { vertex < length progress.now.runners.items }
     ensures row { result ≡ row_after (map (λ t. t.items) traces.now) progress.now vertex }
     ensures room { OnSome result ((runner_at progress.now vertex).used + 1 < 2 ^ 64) }
 {
-    traces[vertex as usize].get(progress.used(vertex)).copied()
+    traces[vertex as usize]
+        .get(progress.used_rows(vertex))
+        .copied()
 }
 
 /// Whether this edge goes into the vertex; its root edge does.
@@ -82,7 +84,7 @@ fn goes_into(graph: &Graph, vertex: u64, edge: u64) -> bool
 }
 
 /// The first message of this edge that was not taken, if there is one.
-fn next_message(game: &Game, progress: &Progress, edge: u64) -> Option<u128>
+fn next_message(game: &Game, progress: &ReplayProgress, edge: u64) -> Option<u128>
     requires runner_each { length progress.now.runners.items ≡ game.now.graph.vertices }
     requires taken_each { length progress.now.taken.items ≡ all_edges game.now.graph }
     requires is_edge { edge < all_edges game.now.graph }

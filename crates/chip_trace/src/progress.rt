@@ -5,7 +5,7 @@ use std::alloc::{AllocError, Global};
 
 /// How far a replay has come.
 #[derive(Drop)]
-pub(crate) struct Progress {
+pub(crate) struct ReplayProgress {
     /// By vertex.
     pub(crate) runners: Vec<Runner>,
     /// How many messages were taken, by edge.
@@ -14,20 +14,20 @@ pub(crate) struct Progress {
     pub(crate) firings: Vec<(u64, u64)>,
 }
 
-impl Progress {
+impl ReplayProgress {
     ghost use Rattle.std.specs.Prelude.{◌≡◌, ◌+◌, ◌^◌, ◌<◌, [], length, replicate, IfOk};
     ghost use Rattle.chip_graph.specs.Edges.{all_edges};
     ghost use Rattle.chip_trace.specs.Runner.{at_start};
     ghost use Rattle.chip_trace.specs.Kept.{runner_at, UsesRow, FitsRow};
 
     /// No row used.
-    pub(crate) fn new(alloc: Global, game: &Game) -> Result<Progress, AllocError>
+    pub(crate) fn new(alloc: Global, game: &Game) -> Result<ReplayProgress, AllocError>
         ensures runners { IfOk result (λ p. p.runners.items ≡ replicate game.now.graph.vertices at_start) }
         ensures taken { IfOk result (λ p. p.taken.items ≡ replicate (all_edges game.now.graph) 0) }
         ensures firings { IfOk result (λ p. p.firings.items ≡ []) }
     {
         let vertices = game.graph().vertices();
-        Ok(Progress {
+        Ok(ReplayProgress {
             runners: runners_at_start(alloc, vertices)?,
             taken: vec![in alloc; 0; game.graph().all_edges() as usize]?,
             firings: Vec::new(alloc),
@@ -35,11 +35,11 @@ impl Progress {
     }
 
     /// How many rows this vertex has used.
-    pub(crate) fn used(&self, vertex: u64) -> usize
+    pub(crate) fn used_rows(&self, vertex: u64) -> usize
         requires { vertex < length self.now.runners.items }
         ensures { result ≡ (runner_at self.now vertex).used }
     {
-        self.runners[vertex as usize].used()
+        self.runners[vertex as usize].used_rows()
     }
 
     /// Notes that this vertex has used this row.

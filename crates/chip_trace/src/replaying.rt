@@ -6,8 +6,8 @@ ghost use Rattle.chip_trace.specs.Replay.{AreFirings, IsReplayFault};
 
 use crate::agenda::Agenda;
 use crate::fault::ReplayFault;
-use crate::look::{Look, look_at};
-use crate::progress::Progress;
+use crate::look::{Finding, look_at};
+use crate::progress::ReplayProgress;
 use crate::verdict::vertex_to_blame;
 use chip_graph::Game;
 use chip_link::TraceRow;
@@ -15,7 +15,7 @@ use std::alloc::{AllocError, Global};
 
 /// Notes that a vertex has used a row that is met, and wakes those that waited for it.
 fn use_met(
-    progress: &mut Progress,
+    progress: &mut ReplayProgress,
     agenda: &mut Agenda,
     vertex: u64,
     row: TraceRow,
@@ -39,7 +39,7 @@ fn use_met(
 fn advance(
     game: &Game,
     traces: &[Vec<TraceRow>],
-    progress: &mut Progress,
+    progress: &mut ReplayProgress,
     agenda: &mut Agenda,
     vertex: u64,
 ) -> Result<(), AllocError>
@@ -52,14 +52,14 @@ fn advance(
 {
     loop {
         match look_at(game, traces, progress, vertex) {
-            Look::Met(row) => use_met(progress, agenda, vertex, row)?,
-            Look::Waits(edge) => {
+            Finding::Met(row) => use_met(progress, agenda, vertex, row)?,
+            Finding::Waits(edge) => {
                 if let Some(edge) = game.graph().edges().get(edge as usize) {
                     agenda.wait_for(vertex, edge.tail)?;
                 }
                 return Ok(());
             }
-            Look::Done | Look::Wrong => return Ok(()),
+            Finding::Done | Finding::Wrong => return Ok(()),
         }
     }
 }
@@ -68,7 +68,7 @@ fn advance(
 fn run_agenda(
     game: &Game,
     traces: &[Vec<TraceRow>],
-    progress: &mut Progress,
+    progress: &mut ReplayProgress,
     agenda: &mut Agenda,
 ) -> Result<(), AllocError>
     requires trace_each { length traces.now ≡ game.now.graph.vertices }
@@ -84,7 +84,11 @@ fn run_agenda(
 }
 
 /// The least vertex whose next row is met, with that row.
-fn first_met(game: &Game, traces: &[Vec<TraceRow>], progress: &Progress) -> Option<(u64, TraceRow)>
+fn first_met(
+    game: &Game,
+    traces: &[Vec<TraceRow>],
+    progress: &ReplayProgress,
+) -> Option<(u64, TraceRow)>
     requires trace_each { length traces.now ≡ game.now.graph.vertices }
     requires kept { IsKept game.now (map (λ t. t.items) traces.now) progress.now }
     ensures { MatchOption result
@@ -93,7 +97,7 @@ fn first_met(game: &Game, traces: &[Vec<TraceRow>], progress: &Progress) -> Opti
         × MayUse game.now (map (λ t. t.items) traces.now) progress.now found.0 found.1) }
 {
     for vertex in 0..game.graph().vertices() {
-        if let Look::Met(row) = look_at(game, traces, progress, vertex) {
+        if let Finding::Met(row) = look_at(game, traces, progress, vertex) {
             return Some((vertex, row));
         }
     }
@@ -106,7 +110,7 @@ fn first_met(game: &Game, traces: &[Vec<TraceRow>], progress: &Progress) -> Opti
 fn settle(
     game: &Game,
     traces: &[Vec<TraceRow>],
-    progress: &mut Progress,
+    progress: &mut ReplayProgress,
     agenda: &mut Agenda,
 ) -> Result<(), AllocError>
     requires trace_each { length traces.now ≡ game.now.graph.vertices }
@@ -137,13 +141,13 @@ pub fn replay(
     ensures { MatchResult result (λ fired. AreFirings game.now (map (λ t. t.items) traces.now) fired.items)
         (IsReplayFault game.now (map (λ t. t.items) traces.now)) }
 {
-    let mut progress = Progress::new(alloc, game)?;
+    let mut progress = ReplayProgress::new(alloc, game)?;
     let mut agenda = Agenda::of_all(alloc, game.graph().vertices())?;
     settle(game, traces, &mut progress, &mut agenda)?;
     match vertex_to_blame(game, traces, &progress) {
         Some(vertex) => Err(ReplayFault::Stuck {
             vertex,
-            row: progress.used(vertex) as u64,
+            row: progress.used_rows(vertex) as u64,
         }),
         None => Ok(progress.firings),
     }

@@ -40,7 +40,7 @@ impl Runner {
     }
 
     /// How many rows it has used.
-    pub(crate) fn used(&self) -> usize
+    pub(crate) fn used_rows(&self) -> usize
         ensures { result ≡ self.now.used }
     {
         self.used

@@ -3,8 +3,8 @@
 ghost use Rattle.std.specs.Prelude.{◌≡◌, ◌<◌, length, map};
 ghost use Rattle.chip_trace.specs.Kept.{IsKept, IsWrongAt, IsUnusedAt, IsFirst, IsToBlame};
 
-use crate::look::{Look, look_at};
-use crate::progress::Progress;
+use crate::look::{Finding, look_at};
+use crate::progress::ReplayProgress;
 use chip_graph::Game;
 use chip_link::TraceRow;
 
@@ -12,7 +12,7 @@ use chip_link::TraceRow;
 pub(crate) fn vertex_to_blame(
     game: &Game,
     traces: &[Vec<TraceRow>],
-    progress: &Progress,
+    progress: &ReplayProgress,
 ) -> Option<u64>
     requires trace_each { length traces.now ≡ game.now.graph.vertices }
     requires kept { IsKept game.now (map (λ t. t.items) traces.now) progress.now }
@@ -25,13 +25,13 @@ pub(crate) fn vertex_to_blame(
 }
 
 /// The least vertex whose next row is wrong.
-fn first_wrong(game: &Game, traces: &[Vec<TraceRow>], progress: &Progress) -> Option<u64>
+fn first_wrong(game: &Game, traces: &[Vec<TraceRow>], progress: &ReplayProgress) -> Option<u64>
     requires trace_each { length traces.now ≡ game.now.graph.vertices }
     requires kept { IsKept game.now (map (λ t. t.items) traces.now) progress.now }
     ensures { IsFirst game.now.graph.vertices (IsWrongAt game.now (map (λ t. t.items) traces.now) progress.now) result }
 {
     for vertex in 0..game.graph().vertices() {
-        if let Look::Wrong = look_at(game, traces, progress, vertex) {
+        if let Finding::Wrong = look_at(game, traces, progress, vertex) {
             return Some(vertex);
         }
     }
@@ -39,12 +39,12 @@ fn first_wrong(game: &Game, traces: &[Vec<TraceRow>], progress: &Progress) -> Op
 }
 
 /// The least vertex with an unused row.
-fn first_unused(traces: &[Vec<TraceRow>], progress: &Progress) -> Option<u64>
+fn first_unused(traces: &[Vec<TraceRow>], progress: &ReplayProgress) -> Option<u64>
     requires { length progress.now.runners.items ≡ length traces.now }
     ensures { IsFirst (length traces.now) (IsUnusedAt (map (λ t. t.items) traces.now) progress.now) result }
 {
     for vertex in 0..traces.len() as u64 {
-        if progress.used(vertex) < traces[vertex as usize].len() {
+        if progress.used_rows(vertex) < traces[vertex as usize].len() {
             return Some(vertex);
         }
     }

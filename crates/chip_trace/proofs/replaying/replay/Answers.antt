@@ -15,7 +15,7 @@ settle-requires-clause-kept c =
 pub returns-in-Some : goal.returns-in-Some
 returns-in-Some c =
     let traces : List (List TraceRow) = map (λ t. t.items) c.args.traces.now in
-    let place : c.used.result ≡ (runner_at c.settle.new.progress c.in-Some.vertex).used = c.used.ensures in
+    let place : c.used_rows.result ≡ (runner_at c.settle.new.progress c.in-Some.vertex).used = c.used_rows.ensures in
     subst (λ (row : ℕ). IsStuck c.args.game.now traces c.in-Some.vertex row) (sym place)
     (stuck c.args.game.now traces c.settle.new.progress c.in_ok-settle.ensures.kept
     (length-map c.args.traces.now (λ t. t.items)

@@ -1,3 +1,6 @@
 pub mod FeedLemmas
 pub mod RunLemmas
 pub mod SameLemmas
+pub mod FitLemmas
+pub mod FitFedLemmas
+pub mod FitRunLemmas

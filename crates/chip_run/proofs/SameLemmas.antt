@@ -75,7 +75,7 @@ one_feed (Some text) vertices (Some feeds) None p q = absurd q
 one_feed (Some text) vertices (Some feeds) (Some others) (chips, reads, is) (chips', reads', is') =
     ap Some (is ∙ ap feeds_of (ap (λ (o : Option (List ℕ)). unwrap_or o chips) (sym reads.1 ∙ reads'.1)) ∙ sym is')
 
-one_whole : (g : ChipGame) (feeds : Option (List (ℕ × ℕ))) (a b : ChipGame) → IsWhole g feeds a → IsWhole g feeds b
+pub one_whole : (g : ChipGame) (feeds : Option (List (ℕ × ℕ))) (a b : ChipGame) → IsWhole g feeds a → IsWhole g feeds b
     → a ≡ b
 one_whole g None a b p q = p ∙ sym q
 one_whole g (Some feeds) a b p q = same_games a b (p.same_graph ∙ sym q.same_graph)

@@ -1,6 +1,11 @@
 -- The laws of `run`, as the functions of `src/laws.rt` state them.
-use Rattle.std.specs.Prelude.{◌≡◌, ℕ, List, [], Option, None, Some, Ok, slice_index}
+use Rattle.std.specs.Prelude.{◌≡◌, ℕ, false, List, [], Option, None, Some, Ok, slice_index}
 use Rattle.chip_graph.specs.ChipGame.{ChipGame}
+use Rattle.chip_graph.specs.More.{HasMore}
+use Rattle.chip_core.specs.Core.{fired_by}
+use Rattle.chip_core.specs.Positions.{played_game}
+use Rattle.chip_core.specs.Laws.{ForEveryLog}
+use Rattle.chip_trace.specs.Interleaving.{IsInterleaving, firings}
 use Rattle.chip_command.specs.Inputs.{MeansGame}
 use Rattle.chip_command.specs.PlainCommand.{PlainAnswers}
 use Rattle.chip_command.specs.Reports.{Reports}
@@ -9,7 +14,8 @@ use Rattle.chip_command.specs.declared.ended.Ended.{Ended}
 use Rattle.chip_crew.specs.Finished.{IsWhole}
 use Rattle.chip_crew.specs.declared.plan.Plan.{Plan}
 use Rattle.chip_run.specs.Feeding.{MeansFedGame}
-use Rattle.chip_run.specs.RunCommand.{RunAnswers}
+use Rattle.chip_run.specs.Replaying.{rows_in, traces_in, times_of, HasOneEach, AreGivenOnce, WritesOneRun, WritesFitting}
+use Rattle.chip_run.specs.RunCommand.{Outputs, RunAnswers}
 
 -- a game has one report and one status
 abbrev pub OneReport : Type 0
@@ -57,3 +63,42 @@ RunTellsPlay =
     → RunWrote graph_text chips_text feed_text limit report status → (g : ChipGame) (feeds : Option (List (ℕ × ℕ)))
     → MeansFedGame graph_text chips_text feed_text limit g feeds → (whole : ChipGame) → IsWhole g feeds whole
     → TellsPlayFrom whole.graph (slice_index whole.start) report
+
+-- of each legal log in which no vertex was given chips more than once, the rows in its order are an interleaving of what
+-- the vertices recorded, in the game that starts with what was given, and each vertex fires in it as often as in the log
+abbrev pub LogsFit : Type 0
+LogsFit = ForEveryLog (λ g log. HasOneEach g log
+    → IsInterleaving (played_game g log) (traces_in g log) (rows_in g log)
+    × ((v : ℕ) → times_of v (firings (rows_in g log)) ≡ fired_by g log v))
+
+-- so it is with each legal log of a game that is not fed
+abbrev pub UnfedLogsFit : Type 0
+UnfedLogsFit = ForEveryLog (λ g log. g.fed ≡ false → IsInterleaving g.game (traces_in g log) (rows_in g log))
+
+-- where `run` is not fed, seals nothing and ends well, the rows of its actors fit together, with the counts of the report
+abbrev pub RowsFit : Type 0
+RowsFit =
+    (graph_text chips_text : List ℕ) (limit : ℕ) (plan : Plan) (old new : Outputs) (ended : Ended) → plan.seal ≡ None
+    → RunAnswers graph_text chips_text None limit plan old new (Ok ended)
+    → (g : ChipGame) × MeansGame graph_text chips_text limit g × WritesOneRun g old new ended.cut
+
+-- and where no trace was cut, so do the rows that it wrote
+abbrev pub UncutTracesFit : Type 0
+UncutTracesFit =
+    (graph_text chips_text : List ℕ) (limit : ℕ) (plan : Plan)
+    (old_report new_report old_trace new_trace : Option (List ℕ)) (ended : Ended) → plan.seal ≡ None
+    → RunAnswers graph_text chips_text None limit plan (record { report = old_report; trace = Some old_trace })
+    (record { report = new_report; trace = Some new_trace }) (Ok ended)
+    → ended.cut ≡ false
+    → (g : ChipGame) × MeansGame graph_text chips_text limit g
+    × WritesFitting g old_report new_report old_trace new_trace
+
+-- where `run` is fed, seals nothing and ends well, and no vertex has chips both at the start and by a feed, they fit
+-- together in the game that has all chips at the start
+abbrev pub FedRowsFit : Type 0
+FedRowsFit =
+    (graph_text chips_text feed_text : List ℕ) (limit : ℕ) (plan : Plan) (old new : Outputs) (ended : Ended)
+    → plan.seal ≡ None → RunAnswers graph_text chips_text (Some feed_text) limit plan old new (Ok ended)
+    → (g : ChipGame) × (feeds : List (ℕ × ℕ))
+    × MeansFedGame graph_text chips_text (Some feed_text) limit g (Some feeds)
+    × (AreGivenOnce g feeds → (whole : ChipGame) × HasMore g feeds whole × WritesOneRun whole old new ended.cut)

@@ -1,6 +1,7 @@
 //! Laws of `run`: functions that do nothing, whose contracts are the laws.
 
-ghost use Rattle.chip_run.specs.Laws.{OneReport, SameBytes, SameBytesFed, RunTellsPlay};
+ghost use Rattle.chip_run.specs.Laws.{OneReport, SameBytes, SameBytesFed, RunTellsPlay, LogsFit, UnfedLogsFit, RowsFit, UncutTracesFit, FedRowsFit};
+ghost use Rattle.chip_run.specs.Worked.{RowsOfFirstSteps};
 
 /// A game has one report, however it is played.
 pub fn one_report()
@@ -18,4 +19,21 @@ pub fn same_bytes()
 /// of the game that has all chips at the start, also those that were fed.
 pub fn first_sitting()
     ensures { RunTellsPlay }
+{}
+
+/// The rows of a log, as the definitions compute them.
+pub fn worked_rows()
+    ensures { RowsOfFirstSteps }
+{}
+
+/// The rows of a run that is not fed have an interleaving, those that were cut too, and its firings are the counts of
+/// the report. So have the rows that were written, if no trace was cut, and those of each legal log, in its order. They
+/// fit as well where chips are fed, in the game that has all of them at the start, if no vertex is given any more than
+/// once.
+pub fn rows_fit()
+    ensures logs { LogsFit }
+    ensures unfed { UnfedLogsFit }
+    ensures runs { RowsFit }
+    ensures uncut { UncutTracesFit }
+    ensures fed { FedRowsFit }
 {}

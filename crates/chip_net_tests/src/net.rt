@@ -2,6 +2,7 @@
 
 ghost use Rattle.std.specs.Prelude.{◌≡◌, All, IfSome};
 
+mod closing;
 mod feeding;
 mod threads;
 

@@ -15,6 +15,8 @@ use Rattle.chip_crew.specs.declared.queue.Crew.{Ghosts}
 use Rattle.chip_crew.specs.contracts.worker.Shared as shared
 use Rattle.chip_crew.specs.contracts.lead.LeadHanded as led
 use Rattle.chip_crew.specs.contracts.lead.Lead as lead
+use Rattle.chip_crew.specs.contracts.worker.Hands as hands
+use Rattle.chip_crew.specs.contracts.worker.Task as task
 
 -- threads may share it where they may share the gate
 pub shared_sync : (ν : NamedLft) (B G : RattleType) (r : Ghosts B.Denot) → IsSync G → IsSync (shared.the_row ν B G r)
@@ -33,3 +35,11 @@ lead_handed_send B r = search (crosses, sendable, net_crosses, seat.the_send) de
 -- worker 0 may take what it begins with
 pub lead_send : (ν : NamedLft) → IsSend (lead.the_row ν)
 lead_send ν = search (crosses, sendable, net_crosses) depth 60
+
+-- each worker may take what it has of the actors
+pub hands_send : IsSend hands.the_row
+hands_send = search (crosses, sendable, net_crosses, seat.the_send) depth 60
+
+-- and a worker other than worker 0 its whole task
+pub task_send : (ν : NamedLft) (B G : RattleType) (r : Ghosts B.Denot) → IsSync G → IsSend (task.the_row ν B G r)
+task_send ν B G r gate = search (crosses, sendable, net_crosses, seat.the_send, shared_ref_send, frees) depth 60

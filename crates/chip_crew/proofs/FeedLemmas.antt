@@ -1,8 +1,8 @@
 -- Serves Feeding.antt.
 -- What feeds, polls and the end leave of the root: what was fed, what may be fed still, and whether the end is noted.
-use Rattle.std.proofs.Common.{◌≡◌, ℕ, zero, suc, ◌+◌, ◌-◌, ◌<◌, Bool, true, List, [], ◌∷◌, ◌++◌, map}
+use Rattle.std.proofs.Common.{◌≡◌, ◌≢◌, ◌==◌, ℕ, zero, suc, ◌+◌, ◌-◌, ◌%◌, ◌<◌, Bool, true, false, List, [], ◌∷◌, ◌++◌, map}
 use Rattle.std.proofs.Common.{Some, None, All, sum, refl, sym, ap, ◌∙◌, subst, arith, append-nil, append_assoc, ⊎_elim}
-use Rattle.std.proofs.Common.{add-one}
+use Rattle.std.proofs.Common.{add-one, eq-eqb, ne_eqb}
 use Rattle.std.proofs.lemmas.List.Elements.{All-tail}
 use Rattle.std.proofs.lemmas.List.Sums.{sum_by-append}
 use Rattle.chip_graph.specs.More.{all_brought}
@@ -18,7 +18,7 @@ use Rattle.chip_net.specs.Roots.{feed_steps, settles_from, IsPolling, Ends}
 use Rattle.chip_net.proofs.ViewingLemmas.{part_append}
 use Rattle.chip_crew.specs.Crew.{Polled}
 use Rattle.chip_crew.proofs.OwningLemmas.{true_or_false}
-use Rattle.chip_crew.specs.Feeding.{Left, pairs, MayFeed, MayFeedLeft, FeedsNext, EndsAfter, FeedsOnce, IsLed}
+use Rattle.chip_crew.specs.Feeding.{Left, pairs, MayFeed, MayFeedLeft, FeedsNext, EndsAfter, FeedsOnce, PollsIf, IsLed}
 
 -- ---- events of the root
 
@@ -238,39 +238,54 @@ once_goes_on None left old new once = stays None left old new once.0 once.1
 once_goes_on (Some feeds) left old new once = goes_on (Some feeds) (Some once.0) left old once.1 new
     (next_goes_on feeds once.0 old once.1 once.2) (end_goes_on once.0 left once.1 new once.3)
 
+-- a poll that is made where it is due leaves what is left
+if_goes_on : (due : Bool) (left : Left) (old new : RootKnown) → PollsIf due old new → GoesOn left left old new
+if_goes_on true left old new polls = poll_goes_on left old new old.net.setting.game.graph.vertices polls
+if_goes_on false left old new same = stays left left old new refl same
+
 -- worker 0 leads the root so
-pub led_goes_on : (k : ℕ) (feeds left : Left) (old now : RootKnown) → IsLed k feeds old left now
+pub led_goes_on : (round k : ℕ) (feeds left : Left) (old now : RootKnown) → IsLed round k feeds old left now
     → GoesOn feeds left old now
-led_goes_on zero feeds left old now led = stays feeds left old now led.0 led.1
-led_goes_on (suc k) feeds left old now led =
-    goes_on feeds led.0 left old led.1 now (led_goes_on k feeds led.0 old led.1 led.3)
+led_goes_on round zero feeds left old now led = stays feeds left old now led.0 led.1
+led_goes_on round (suc k) feeds left old now led =
+    goes_on feeds led.0 left old led.1 now (led_goes_on round k feeds led.0 old led.1 led.3)
     (goes_on led.0 left left led.1 led.2 now (once_goes_on led.0 left led.1 led.2 led.4)
-    (poll_goes_on left led.2 now led.2.net.setting.game.graph.vertices led.5))
+    (if_goes_on (suc k % round == 0) left led.2 now led.5))
 
 -- ---- the root that is led
 
--- one poll more, and a feed before it
-pub led_more : (k : ℕ) (feeds rest left : Left) (old before fed now : RootKnown) → IsLed k feeds old rest before
-    → FeedsOnce rest left before fed → IsPolling fed now fed.net.setting.game.graph.vertices
-    → IsLed (k + 1) feeds old left now
-led_more k feeds rest left old before fed now led once poll =
-    subst (λ (n : ℕ). IsLed n feeds old left now) (sym (add-one k)) (rest, before, fed, led, once, poll)
+-- at the end of a round it was polled
+pub polled_at : (round k : ℕ) (old new : RootKnown) → k % round ≡ 0
+    → IsPolling old new old.net.setting.game.graph.vertices → PollsIf (k % round == 0) old new
+polled_at round k old new over polling =
+    subst (λ (b : Bool). PollsIf b old new) (sym (eq-eqb (k % round) 0 over)) polling
 
-pub may_more : (rest left : Left) (before fed now : RootKnown) → MayFeedLeft before rest
-    → FeedsOnce rest left before fed → IsPolling fed now fed.net.setting.game.graph.vertices → MayFeedLeft now left
-may_more rest left before fed now may once poll =
-    (poll_goes_on left fed now fed.net.setting.game.graph.vertices poll).may ((once_goes_on rest left before fed once).may may)
+-- before it was not
+pub unpolled_at : (round k : ℕ) (root : RootKnown) → k % round ≢ 0 → PollsIf (k % round == 0) root root
+unpolled_at round k root on = subst (λ (b : Bool). PollsIf b root root) (sym (ne_eqb (k % round) 0 on)) refl
 
--- after so many polls something is left, which may be fed
-pub record OnTheWay (feeds : Left) (old : RootKnown) (polls : ℕ) (root : RootKnown) : Type 0 where
+-- one turn more, with a feed before it, and a poll after it if that is due
+pub led_more : (round k : ℕ) (feeds rest left : Left) (old before fed now : RootKnown) → IsLed round k feeds old rest before
+    → FeedsOnce rest left before fed → PollsIf ((k + 1) % round == 0) fed now → IsLed round (k + 1) feeds old left now
+led_more round k feeds rest left old before fed now led once polls =
+    subst (λ (n : ℕ). IsLed round n feeds old left now) (sym (add-one k))
+    (rest, before, fed, led, once, subst (λ (n : ℕ). PollsIf (n % round == 0) fed now) (add-one k) polls)
+
+pub may_more : (due : Bool) (rest left : Left) (before fed now : RootKnown) → MayFeedLeft before rest
+    → FeedsOnce rest left before fed → PollsIf due fed now → MayFeedLeft now left
+may_more due rest left before fed now may once polls =
+    (if_goes_on due left fed now polls).may ((once_goes_on rest left before fed once).may may)
+
+-- after so many turns something is left, which may be fed
+pub record OnTheWay (round : ℕ) (feeds : Left) (old : RootKnown) (turns : ℕ) (root : RootKnown) : Type 0 where
   pub left : Left
-  pub led : IsLed polls feeds old left root
+  pub led : IsLed round turns feeds old left root
   pub may : MayFeedLeft root left
 
-pub still_there : (feeds left : Left) (old here now : RootKnown) (j k : ℕ) → IsLed j feeds old left here
-    → MayFeedLeft here left → k ≡ j → now ≡ here → OnTheWay feeds old k now
-still_there feeds left old here now j k led may count is =
-    subst (λ (n : ℕ). OnTheWay feeds old n now) (sym count) (subst (λ (r : RootKnown). OnTheWay feeds old j r) (sym is)
+pub still_there : (round : ℕ) (feeds left : Left) (old here now : RootKnown) (j k : ℕ) → IsLed round j feeds old left here
+    → MayFeedLeft here left → k ≡ j → now ≡ here → OnTheWay round feeds old k now
+still_there round feeds left old here now j k led may count is =
+    subst (λ (n : ℕ). OnTheWay round feeds old n now) (sym count) (subst (λ (r : RootKnown). OnTheWay round feeds old j r) (sym is)
     (record { left = left; led = led; may = may }))
 
 -- a root that is closed has nothing left to feed

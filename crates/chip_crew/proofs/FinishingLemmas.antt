@@ -2,8 +2,8 @@
 -- What is known of a crew is known of the game that it played.
 use Rattle.std.proofs.Common.{◌≡◌, ◌+◌, ◌<◌, ◌≤◌, ℕ, zero, suc, Bool, true, false, not, if◌then◌else◌, List, [], ◌∷◌}
 use Rattle.std.proofs.Common.{All, sum, Option, Some, None, is_some, Result, Ok, Err, IfOk, IfErr, IfSome}
-use Rattle.std.proofs.Common.{refl, sym, ◌∙◌, ap, subst, arith, ltb, ltb-true, ◌++◌}
-use Rattle.std.proofs.lemmas.Bool.{and_parts}
+use Rattle.std.proofs.Common.{refl, sym, ◌∙◌, ap, subst, arith, ltb, leb, ltb-true, ◌++◌, ◌⊎◌, inl, inr, ⊎_elim}
+use Rattle.std.proofs.lemmas.Bool.{and_parts, leb-true}
 use Rattle.std.specs.Result.{IsErrAnd}
 use Rattle.chip_graph.specs.ChipGame.{ChipGame}
 use Rattle.chip_graph.specs.Limits.{max_total}
@@ -13,7 +13,8 @@ use Rattle.chip_part.specs.Setting.{Setting, setting_with}
 use Rattle.chip_core.specs.Core.{Step}
 use Rattle.chip_net.specs.Tokens.{NetId}
 use Rattle.chip_net.specs.Roots.{RootKnown, new_root, has_ended, fed_by}
-use Rattle.chip_crew.specs.Plans.{is_plan, names_edge, are_feeds, AreWithinTotal}
+use Rattle.chip_crew.specs.Plans.{is_plan, is_count, names_edge, are_feeds, AreWithinTotal, max_workers, max_turns, max_trace_rows}
+use Rattle.chip_link.specs.Rings.{max_ring}
 use Rattle.chip_crew.specs.Sealing.{TakesBack, KnowsSeals}
 use Rattle.chip_crew.specs.declared.plan.SealAt.{SealAt}
 use Rattle.chip_crew.specs.Crew.{CrewId}
@@ -21,7 +22,11 @@ use Rattle.chip_crew.specs.Feeding.{Left, pairs, IsLed, MayFeed, MayFeedLeft}
 use Rattle.chip_crew.specs.Ending.{EndsWell, EndsLed}
 use Rattle.chip_crew.specs.Finished.{root_of, CanPlay, IsCrewFor, HasFinished, IsWhole, IsFinished, IsClosing, IsStopped}
 use Rattle.chip_crew.specs.Finished.{IsFaultOf}
-use Rattle.chip_crew.specs.Gathering.{IsMissing, IsGathering}
+use Rattle.chip_crew.specs.Gathering.{IsMissing, AreBack, Lacks}
+use Rattle.chip_crew.specs.declared.gathering.Back.{Back}
+use Rattle.chip_crew.specs.declared.gathering.Back.TheVariants as back
+use Rattle.chip_crew.specs.declared.plan.Sharing.{Sharing}
+use Rattle.chip_crew.specs.declared.plan.Sharing.TheVariants as sharing
 use Rattle.chip_crew.specs.Handed.{HasPolled, SomeShut}
 use Rattle.chip_crew.specs.declared.joining.Joined.{Joined}
 use Rattle.chip_crew.specs.declared.plan.Plan.{Plan}
@@ -76,19 +81,32 @@ pub plan_names_edge : (game : ChipGame) (feeds : Left) (plan : Plan) → CanPlay
 plan_names_edge game feeds plan can =
     (and_parts _ (names_edge game plan.seal) (and_parts (is_plan game plan) (are_feeds game (pairs feeds)) can.within).0).1
 
+-- it is shared by some workers, and not too many
+pub plan_workers : (game : ChipGame) (feeds : Left) (plan : Plan) → CanPlay game feeds plan
+    → (0 < plan.workers) × (plan.workers ≤ max_workers)
+plan_workers game feeds plan can =
+    let ranges = (and_parts _ (names_edge game plan.seal) (and_parts (is_plan game plan) (are_feeds game (pairs feeds))
+    can.within).0).0 in
+    let counts = (and_parts _ (is_count max_turns plan.turns) (and_parts _ (leb plan.trace_rows max_trace_rows) ranges).0).0 in
+    let workers = and_parts (ltb 0 plan.workers) (leb plan.workers max_workers)
+    (and_parts (is_count max_workers plan.workers) (is_count max_ring plan.ring) counts).0 in
+    (ltb-true 0 plan.workers workers.0, leb-true plan.workers max_workers workers.1)
+
 -- ---- a crew that finished
 
 -- worker 0 led the root, which closed in the end: all is fed
 pub ends_fed : (crew : CrewId) (feeds : Left) (seal : Option SealAt) (old : RootKnown) (turns : ℕ) (middle : RootKnown)
-    (polls : ℕ) (back receipt : RootKnown) (o : Outcome) → HasPolled crew feeds old turns middle polls
-    → TakesBack seal polls middle back → EndsWell back receipt o → EndsLed feeds seal old receipt o
-ends_fed crew feeds seal old turns middle polls back receipt o polled is_back ends =
-    let noted : has_ended middle ≡ true = sym (back_same seal polls middle back is_back).2
+    (round made : ℕ) (back receipt : RootKnown) (o : Outcome) → HasPolled crew feeds old turns middle round made
+    → TakesBack seal made middle back → EndsWell back receipt o → EndsLed crew feeds seal old receipt o
+ends_fed crew feeds seal old turns middle round made back receipt o polled is_back ends =
+    let noted : has_ended middle ≡ true = sym (back_same seal made middle back is_back).2
     ∙ sym (polls_add ends.polls back ends.root ends.polled).ended_is ∙ ends.closed.1 in
     record {
-      polls = polls;
+      round = round;
+      is_round = polled.is_round;
+      turns = made;
       led = middle;
-      is_led = subst (λ (l : Left). IsLed polls feeds old l middle)
+      is_led = subst (λ (l : Left). IsLed round made feeds old l middle)
           (over_has_fed polled.left middle polled.may noted) polled.led;
       back = back;
       is_back = is_back;
@@ -97,17 +115,17 @@ ends_fed crew feeds seal old turns middle polls back receipt o polled is_back en
 
 module _ (feeds : Left) (plan : Plan) (crew : CrewId) (f : Finished)
     (finished : HasFinished crew feeds plan.seal (root_of crew plan) f) where
-  abbrev ends : EndsLed feeds plan.seal (root_of crew plan) f.receipt f.outcome
+  abbrev ends : EndsLed crew feeds plan.seal (root_of crew plan) f.receipt f.outcome
   ends = finished.ends
 
   led : GoesOn feeds None (root_of crew plan) ends.led
-  led = led_goes_on ends.polls feeds None (root_of crew plan) ends.led ends.is_led
+  led = led_goes_on ends.round ends.turns feeds None (root_of crew plan) ends.led ends.is_led
 
   polled : Adds ends.back ends.ends.root [] (has_ended ends.back)
   polled = polls_add ends.ends.polls ends.back ends.ends.root ends.ends.polled
 
   same : (ends.back.net ≡ ends.led.net) × (fed_by ends.back ≡ fed_by ends.led) × (has_ended ends.back ≡ has_ended ends.led)
-  same = back_same plan.seal ends.polls ends.led ends.back ends.is_back
+  same = back_same plan.seal ends.turns ends.led ends.back ends.is_back
 
   -- all was fed, once and in order, as the root finished
   pub fed_all : fed_by ends.ends.root ≡ pairs feeds
@@ -117,18 +135,18 @@ module _ (feeds : Left) (plan : Plan) (crew : CrewId) (f : Finished)
   pub net_is : ends.ends.root.net ≡ crew.net
   net_is = polled.net ∙ same.0 ∙ led.net
 
-  knows : (last : RootKnown) → last.stopper_did ≡ ends.back.stopper_did → KnowsSeals plan.seal ends.polls last
-  knows last kept = knows_seals plan.seal ends.polls (root_of crew plan) ends.led ends.back last refl led.stopper
+  knows : (last : RootKnown) → last.stopper_did ≡ ends.back.stopper_did → KnowsSeals plan.seal ends.turns last
+  knows last kept = knows_seals plan.seal ends.turns (root_of crew plan) ends.led ends.back last refl led.stopper
       ends.is_back kept
 
   -- what was sealed is what the plan says
-  pub sealed_by : KnowsSeals plan.seal ends.polls f.receipt
+  pub sealed_by : KnowsSeals plan.seal ends.turns f.receipt
   sealed_by = knows f.receipt (ap (λ (r : RootKnown). r.stopper_did) ends.ends.finishes.record_is ∙ polled.stopper)
 
   -- without a seal no vertex is sealed
   pub unsealed_by : plan.seal ≡ None → f.outcome.sealed.items ≡ []
   unsealed_by none = ends.ends.finishes.unsealed
-      (subst (λ (seal : Option SealAt). KnowsSeals seal ends.polls ends.ends.root) none
+      (subst (λ (seal : Option SealAt). KnowsSeals seal ends.turns ends.ends.root) none
       (knows ends.ends.root polled.stopper))
 
 -- the game of the outcome is the one that has all chips at the start
@@ -142,10 +160,10 @@ whole_by game whole (Some feeds) net fed ring setting is unfed more =
     subst (λ (z : ChipGame × List (ℕ × ℕ)). HasMore z.0 z.1 whole)
     (λ i. (ap (λ (g : Setting). g.game) setting i, is i)) more
 
-finished_by : (game : ChipGame) (feeds : Left) (plan : Plan) (crew : CrewId) (f : Finished)
-    → IsCrewFor game feeds plan crew → HasFinished crew feeds plan.seal (root_of crew plan) f
-    → IsFinished game feeds plan f
-finished_by game feeds plan crew f opened finished =
+finished_by : (shared : Sharing) (game : ChipGame) (feeds : Left) (plan : Plan) (crew : CrewId) (f : Finished)
+    → IsCrewFor shared game feeds plan crew → HasFinished crew feeds plan.seal (root_of crew plan) f
+    → IsFinished shared game feeds plan f
+finished_by shared game feeds plan crew f opened finished =
     let ends = finished.ends in
     let finishes = ends.ends.finishes in
     let fed = fed_all feeds plan crew f finished in
@@ -162,77 +180,100 @@ finished_by game feeds plan crew f opened finished =
       played = λ none. finishes.played (unsealed_by feeds plan crew f finished none);
     }
 
-pub finished_for : (game : ChipGame) (feeds : Left) (plan : Plan) (crew : CrewId) (old : RootKnown)
-    (r : Result Finished CrewFault) → IsCrewFor game feeds plan crew → old ≡ root_of crew plan
-    → IfOk r (HasFinished crew feeds plan.seal old) → IfOk r (IsFinished game feeds plan)
-finished_for game feeds plan crew old (Ok f) opened is finished = finished_by game feeds plan crew f opened
+pub finished_for : (shared : Sharing) (game : ChipGame) (feeds : Left) (plan : Plan) (crew : CrewId) (old : RootKnown)
+    (r : Result Finished CrewFault) → IsCrewFor shared game feeds plan crew → old ≡ root_of crew plan
+    → IfOk r (HasFinished crew feeds plan.seal old) → IfOk r (IsFinished shared game feeds plan)
+finished_for shared game feeds plan crew old (Ok f) opened is finished = finished_by shared game feeds plan crew f opened
     (subst (λ (o : RootKnown). HasFinished crew feeds plan.seal o f) is finished)
-finished_for game feeds plan crew old (Err e) opened is finished = tt
+finished_for shared game feeds plan crew old (Err e) opened is finished = tt
 
 -- a missing actor, where no gate was shut
 missing_closes : (crew : CrewId) (feeds : Left) (seal : Option SealAt) (old : RootKnown) (turns : ℕ) (joined : Joined) (e : CrewFault)
-    → joined.passed ≡ true → IsMissing joined.gathering e → IsClosing crew feeds seal old turns joined e
-missing_closes crew feeds seal old turns joined fault.Plan passed why = absurd why
-missing_closes crew feeds seal old turns joined fault.Total passed why = absurd why
-missing_closes crew feeds seal old turns joined fault.NoMemory passed why = absurd why
-missing_closes crew feeds seal old turns joined fault.Spawn passed why = absurd why
-missing_closes crew feeds seal old turns joined fault.GateShut passed why = absurd why
-missing_closes crew feeds seal old turns joined (fault.Doubled v) passed why = (passed, why)
-missing_closes crew feeds seal old turns joined (fault.Lost v) passed why = (passed, why)
-missing_closes crew feeds seal old turns joined (fault.Unfinished deficit root) passed why = absurd why
+    (b : Back) → joined.back ≡ b → joined.passed ≡ true → Lacks b e → IsClosing crew feeds seal old turns joined e
+missing_closes crew feeds seal old turns joined e (back.Dealt row) is passed why = absurd why
+missing_closes crew feeds seal old turns joined fault.Plan (back.Queue g) is passed why = absurd why
+missing_closes crew feeds seal old turns joined fault.Total (back.Queue g) is passed why = absurd why
+missing_closes crew feeds seal old turns joined fault.NoMemory (back.Queue g) is passed why = absurd why
+missing_closes crew feeds seal old turns joined fault.Spawn (back.Queue g) is passed why = absurd why
+missing_closes crew feeds seal old turns joined fault.GateShut (back.Queue g) is passed why = absurd why
+missing_closes crew feeds seal old turns joined (fault.Doubled v) (back.Queue g) is passed why =
+    (passed, subst (λ (b : Back). Lacks b (fault.Doubled v)) (sym is) why)
+missing_closes crew feeds seal old turns joined (fault.Lost v) (back.Queue g) is passed why =
+    (passed, subst (λ (b : Back). Lacks b (fault.Lost v)) (sym is) why)
+missing_closes crew feeds seal old turns joined (fault.Unfinished deficit root) (back.Queue g) is passed why = absurd why
 
 -- and it is what closing answers
 pub missing_closing : (crew : CrewId) (feeds : Left) (seal : Option SealAt) (old : RootKnown) (turns : ℕ) (joined : Joined) (e : CrewFault)
     (r : Result Finished CrewFault) (P : CrewFault → Type 0) → IsErrAnd r P → ((f : CrewFault) → P f → f ≡ e)
-    → joined.passed ≡ true → IsMissing joined.gathering e → IfErr r (IsClosing crew feeds seal old turns joined)
+    → joined.passed ≡ true → Lacks joined.back e → IfErr r (IsClosing crew feeds seal old turns joined)
 missing_closing crew feeds seal old turns joined e (Ok f) P is same passed why = absurd is
 missing_closing crew feeds seal old turns joined e (Err f) P is same passed why =
-    subst (IsClosing crew feeds seal old turns joined) (sym (same f is)) (missing_closes crew feeds seal old turns joined e passed why)
+    subst (IsClosing crew feeds seal old turns joined) (sym (same f is)) (missing_closes crew feeds seal old turns joined e joined.back refl passed why)
+
+-- an actor is missing or there twice only where they came through a queue, and its vertex is one of the graph
+lacks_inside : (crew : CrewId) (b : Back) (e : CrewFault) (v : ℕ) → (e ≡ fault.Doubled v) ⊎ (e ≡ fault.Lost v)
+    → AreBack crew crew.workers b → Lacks b e → (crew.sharing ≡ sharing.Queue) × (v < crew.net.setting.game.graph.vertices)
+lacks_inside crew (back.Dealt row) e v which are why = absurd why
+lacks_inside crew (back.Queue g) e v which are why = (
+  are.0,
+  ⊎_elim
+      (λ (is : e ≡ fault.Doubled v). subst (λ (o : Option ℕ). IfSome o (λ (w : ℕ). w < crew.net.setting.game.graph.vertices))
+      (subst (IsMissing g) is why) are.1.doubled)
+      (λ (is : e ≡ fault.Lost v). subst (λ (n : ℕ). v < n) are.1.seats.count
+      (placed g.seats.items v None (subst (IsMissing g) is why).1.free))
+      which,
+)
 
 -- why it did not close is why the crew stopped
 closing_stops : (crew : CrewId) (feeds : Left) (seal : Option SealAt) (old : RootKnown) (turns : ℕ) (joined : Joined) (shut : Type 0)
-    (e : CrewFault) → (joined.passed ≡ false → shut) → IsGathering crew joined.gathering → IsClosing crew feeds seal old turns joined e
-    → IsStopped crew feeds seal old turns shut e
-closing_stops crew feeds seal old turns joined shut fault.Plan passed gathering why = absurd why
-closing_stops crew feeds seal old turns joined shut fault.Total passed gathering why = absurd why
-closing_stops crew feeds seal old turns joined shut fault.NoMemory passed gathering why = absurd why
-closing_stops crew feeds seal old turns joined shut fault.Spawn passed gathering why = absurd why
-closing_stops crew feeds seal old turns joined shut fault.GateShut passed gathering why = passed why
-closing_stops crew feeds seal old turns joined shut (fault.Doubled v) passed gathering why = subst
-    (λ (o : Option ℕ). IfSome o (λ (w : ℕ). w < crew.net.setting.game.graph.vertices)) why.1 gathering.doubled
-closing_stops crew feeds seal old turns joined shut (fault.Lost v) passed gathering why =
-    subst (λ (n : ℕ). v < n) gathering.seats.count (placed joined.gathering.seats.items v None why.1.1.free)
-closing_stops crew feeds seal old turns joined shut (fault.Unfinished deficit root) passed gathering why = why.1
+    (e : CrewFault) → (joined.passed ≡ false → shut) → AreBack crew crew.workers joined.back
+    → IsClosing crew feeds seal old turns joined e → IsStopped crew feeds seal old turns shut e
+closing_stops crew feeds seal old turns joined shut fault.Plan passed are why = absurd why
+closing_stops crew feeds seal old turns joined shut fault.Total passed are why = absurd why
+closing_stops crew feeds seal old turns joined shut fault.NoMemory passed are why = absurd why
+closing_stops crew feeds seal old turns joined shut fault.Spawn passed are why = absurd why
+closing_stops crew feeds seal old turns joined shut fault.GateShut passed are why = passed why
+closing_stops crew feeds seal old turns joined shut (fault.Doubled v) passed are why =
+    lacks_inside crew joined.back (fault.Doubled v) v (inl refl) are why.1
+closing_stops crew feeds seal old turns joined shut (fault.Lost v) passed are why =
+    lacks_inside crew joined.back (fault.Lost v) v (inr refl) are why.1
+closing_stops crew feeds seal old turns joined shut (fault.Unfinished deficit root) passed are why = why.1
 
 pub closing_stopped : (crew : CrewId) (feeds : Left) (seal : Option SealAt) (old : RootKnown) (turns : ℕ) (joined : Joined) (shut : Type 0)
-    (r : Result Finished CrewFault) → (joined.passed ≡ false → shut) → IsGathering crew joined.gathering
+    (r : Result Finished CrewFault) → (joined.passed ≡ false → shut) → AreBack crew crew.workers joined.back
     → IfErr r (IsClosing crew feeds seal old turns joined) → IfErr r (IsStopped crew feeds seal old turns shut)
-closing_stopped crew feeds seal old turns joined shut (Ok f) passed gathering why = tt
-closing_stopped crew feeds seal old turns joined shut (Err e) passed gathering why =
-    closing_stops crew feeds seal old turns joined shut e passed gathering why
+closing_stopped crew feeds seal old turns joined shut (Ok f) passed are why = tt
+closing_stopped crew feeds seal old turns joined shut (Err e) passed are why =
+    closing_stops crew feeds seal old turns joined shut e passed are why
 
 -- ---- a crew that didn't finish
 
 -- why a crew that was opened for the game didn't finish
-stopped_by : (game : ChipGame) (feeds : Left) (plan : Plan) (may_answer : ℕ → ℕ → Bool → Type 0) (crew : CrewId)
-    (e : CrewFault) → IsCrewFor game feeds plan crew
+stopped_by : (shared : Sharing) (game : ChipGame) (feeds : Left) (plan : Plan) (may_answer : ℕ → ℕ → Bool → Type 0) (crew : CrewId)
+    (e : CrewFault) → IsCrewFor shared game feeds plan crew
     → IsStopped crew feeds plan.seal (root_of crew plan) plan.turns (SomeShut may_answer plan.workers plan.turns) e
-    → IsFaultOf game feeds plan may_answer e
-stopped_by game feeds plan may_answer crew fault.Plan opened why = absurd why
-stopped_by game feeds plan may_answer crew fault.Total opened why = absurd why
-stopped_by game feeds plan may_answer crew fault.NoMemory opened why = opened.can
-stopped_by game feeds plan may_answer crew fault.Spawn opened why = opened.can
-stopped_by game feeds plan may_answer crew fault.GateShut opened why = (opened.can, why)
-stopped_by game feeds plan may_answer crew (fault.Doubled v) opened why =
-    (opened.can, subst (λ (g : Setting). v < g.game.graph.vertices) opened.setting why)
-stopped_by game feeds plan may_answer crew (fault.Lost v) opened why =
-    (opened.can, subst (λ (g : Setting). v < g.game.graph.vertices) opened.setting why)
-stopped_by game feeds plan may_answer crew (fault.Unfinished deficit root) opened why = (crew, opened, why)
+    → IsFaultOf shared game feeds plan may_answer e
+stopped_by shared game feeds plan may_answer crew fault.Plan opened why = absurd why
+stopped_by shared game feeds plan may_answer crew fault.Total opened why = absurd why
+stopped_by shared game feeds plan may_answer crew fault.NoMemory opened why = opened.can
+stopped_by shared game feeds plan may_answer crew fault.Spawn opened why = opened.can
+stopped_by shared game feeds plan may_answer crew fault.GateShut opened why = (opened.can, why)
+stopped_by shared game feeds plan may_answer crew (fault.Doubled v) opened why = (
+  opened.can,
+  sym opened.sharing ∙ why.0,
+  subst (λ (g : Setting). v < g.game.graph.vertices) opened.setting why.1,
+)
+stopped_by shared game feeds plan may_answer crew (fault.Lost v) opened why = (
+  opened.can,
+  sym opened.sharing ∙ why.0,
+  subst (λ (g : Setting). v < g.game.graph.vertices) opened.setting why.1,
+)
+stopped_by shared game feeds plan may_answer crew (fault.Unfinished deficit root) opened why = (crew, opened, why)
 
-pub stopped_for : (game : ChipGame) (feeds : Left) (plan : Plan) (may_answer : ℕ → ℕ → Bool → Type 0) (crew : CrewId)
-    (old : RootKnown) (r : Result Finished CrewFault) → IsCrewFor game feeds plan crew → old ≡ root_of crew plan
+pub stopped_for : (shared : Sharing) (game : ChipGame) (feeds : Left) (plan : Plan) (may_answer : ℕ → ℕ → Bool → Type 0) (crew : CrewId)
+    (old : RootKnown) (r : Result Finished CrewFault) → IsCrewFor shared game feeds plan crew → old ≡ root_of crew plan
     → IfErr r (IsStopped crew feeds plan.seal old plan.turns (SomeShut may_answer plan.workers plan.turns))
-    → IfErr r (IsFaultOf game feeds plan may_answer)
-stopped_for game feeds plan may_answer crew old (Ok f) opened is why = tt
-stopped_for game feeds plan may_answer crew old (Err e) opened is why = stopped_by game feeds plan may_answer crew e opened
+    → IfErr r (IsFaultOf shared game feeds plan may_answer)
+stopped_for shared game feeds plan may_answer crew old (Ok f) opened is why = tt
+stopped_for shared game feeds plan may_answer crew old (Err e) opened is why = stopped_by shared game feeds plan may_answer crew e opened
     (subst (λ (o : RootKnown). IsStopped crew feeds plan.seal o plan.turns (SomeShut may_answer plan.workers plan.turns) e) is why)

@@ -1,8 +1,12 @@
 pub mod QueueingLemmas
 pub mod GatheringLemmas
+pub mod RunLemmas
+pub mod DealingLemmas
+pub mod HandsLemmas
 pub mod OwningLemmas
 pub mod PollingLemmas
 pub mod FeedLemmas
 pub mod SealingLemmas
+pub mod BackLemmas
 pub mod CrossingLemmas
 pub mod FinishingLemmas

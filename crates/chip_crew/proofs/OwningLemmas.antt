@@ -1,10 +1,11 @@
 -- Serves Crew.antt.
 -- The actors of a net that opens are the crew's, and stay so.
-use Rattle.std.proofs.Common.{◌≡◌, ◌<◌, ℕ, Bool, true, false, List, length, All, Some, ◌∙◌, refl, sym, subst}
+use Rattle.std.proofs.Common.{◌≡◌, ◌+◌, ◌<◌, ℕ, Bool, true, false, List, length, Some, ◌∙◌, refl, sym, subst, arith}
 use Rattle.std.specs.Prelude.{slice_get}
-use Rattle.chip_net.specs.Tokens.{NetId, ActorKnown, newcomer}
-use Rattle.chip_crew.specs.Crew.{CrewId, IsOurs}
-use Rattle.chip_crew.proofs.GatheringLemmas.{read_at}
+use Rattle.chip_net.specs.Tokens.{ActorKnown, newcomer}
+use Rattle.chip_crew.specs.Crew.{CrewId, IsOurs, IsAt, AreFrom}
+use Rattle.chip_crew.proofs.GatheringLemmas.{placed, same_some}
+use Rattle.chip_crew.proofs.RunLemmas.{from_each}
 
 -- a test is not both
 pub true_or_false : (b : Bool) → b ≡ true → b ≡ false → ⊥
@@ -18,10 +19,11 @@ still_ours crew old new same ours = (
   same.2 ∙ ours.2,
 )
 
-pub ours_by : (net : NetId) (room n : ℕ) (actors : List ActorKnown) → net.setting.game.graph.vertices ≡ n
-    → length actors ≡ n → ((v : ℕ) → v < n → slice_get actors v ≡ Some (newcomer net room v))
-    → All (IsOurs (record { net = net; room = room })) actors
-ours_by net room n actors vertices count each k d less =
-    let inside : k < n = subst (λ (m : ℕ). k < m) count less in
-    subst (IsOurs (record { net = net; room = room })) (sym (read_at actors k d (newcomer net room k) (each k inside)))
-    (refl, subst (λ (m : ℕ). k < m) (sym vertices) inside, refl)
+pub ours_by : (crew : CrewId) (n : ℕ) (actors : List ActorKnown) → crew.net.setting.game.graph.vertices ≡ n
+    → length actors ≡ n → ((v : ℕ) → v < n → slice_get actors v ≡ Some (newcomer crew.net crew.room v))
+    → AreFrom crew 0 actors
+ours_by crew n actors vertices count each = from_each (IsAt crew) 0 actors (λ i a at.
+    let inside : i < n = subst (λ (m : ℕ). i < m) count (placed actors i a at) in
+    let same = same_some (newcomer crew.net crew.room i) a (sym (each i inside) ∙ at) in
+    let here : i ≡ 0 + i = omega arith in
+    subst (IsAt crew (0 + i)) same ((refl, subst (λ (m : ℕ). i < m) (sym vertices) inside, refl), here))

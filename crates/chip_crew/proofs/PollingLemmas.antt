@@ -1,6 +1,7 @@
 -- Serves Ending.antt, Crew.antt.
 -- Polls, one after another.
-use Rattle.std.proofs.Common.{◌≡◌, ℕ, ◌+◌, sym, subst, add-one}
+use Rattle.std.proofs.Common.{◌≡◌, ℕ, ◌+◌, ◌*◌, ◌/◌, ◌<◌, ◌≤◌, sym, subst, add-one, div-mul-le_self, arith}
+use Rattle.std.proofs.lemmas.Nat.{le-div}
 use Rattle.chip_net.specs.Roots.{RootKnown, IsPolling, AnswersPoll, IsOver}
 use Rattle.chip_net.specs.declared.poll.RootState.{RootState}
 use Rattle.chip_net.specs.declared.poll.RootState.TheVariants.{Closed, Running}
@@ -31,3 +32,9 @@ ends_well more old now receipt o Closed until closed finishes =
     record { polls = until.0; root = now; polled = until.1; closed = closed; finishes = finishes }
 ends_well more old now receipt o (Running n) until closed finishes =
     record { polls = more + 1; root = now; polled = until.polled; closed = closed; finishes = finishes }
+
+-- fewer turns are no more rounds
+pub rounds_within : (made turns round : ℕ) → 0 < round → made ≤ turns → made / round ≤ turns / round
+rounds_within made turns round some le =
+    let whole : made / round * round ≤ made = div-mul-le_self made round in
+    le-div (made / round) turns round some (omega (arith, whole, le))

@@ -1,16 +1,20 @@
 -- What a crew keeps of its net.
-use Rattle.std.specs.Prelude.{◌≡◌, ℕ, zero, suc, ◌<◌, List, length, slice_get, Option, Some}
+use Rattle.std.specs.Prelude.{◌≡◌, ℕ, zero, suc, ◌<◌, List, [], ◌∷◌, length, slice_get, Option, Some, ⊤}
 use Rattle.chip_net.specs.Tokens.{NetId, ActorKnown, no_actor}
 use Rattle.chip_net.specs.Roots.{RootKnown, IsPolling}
+use Rattle.chip_crew.specs.declared.plan.Sharing.{Sharing}
+use Rattle.chip_crew.specs.declared.plan.Sharing.TheVariants as sharing
 
--- whose actors these are: the net, and how many trace rows each actor has room for
+-- whose actors these are: the net, how many trace rows each actor has room for, and how many workers share them how
 pub record CrewId : Type 0 where
   pub net : NetId
   pub room : ℕ
+  pub workers : ℕ
+  pub sharing : Sharing
 
 -- the crew of no net
 abbrev pub no_crew : CrewId
-no_crew = record { net = no_actor.net; room = 0 }
+no_crew = record { net = no_actor.net; room = 0; workers = 0; sharing = sharing.Queue }
 
 -- the net opened this actor
 abbrev pub IsOurs : CrewId → ActorKnown → Type 0
@@ -26,6 +30,19 @@ Polled (suc k) old now =
 pub record AreSeats (crew : CrewId) (seats : List (Option ActorKnown)) : Type 0 where
   pub count : length seats ≡ crew.net.setting.game.graph.vertices
   pub each : (v : ℕ) (a : ActorKnown) → slice_get seats v ≡ Some (Some a) → IsOurs crew a × (a.vertex ≡ v)
+
+-- each of these fits its number, which grows by one from the first on
+abbrev pub EachFrom : {X : Type 0} → (ℕ → X → Type 0) → ℕ → List X → Type 0
+EachFrom P n [] = ⊤
+EachFrom P n (x ∷ xs) = P n x × EachFrom P (suc n) xs
+
+-- the crew's actor of this vertex
+abbrev pub IsAt : CrewId → ℕ → ActorKnown → Type 0
+IsAt crew v a = IsOurs crew a × (a.vertex ≡ v)
+
+-- the crew's actors of consecutive vertices, from this one on
+abbrev pub AreFrom : CrewId → ℕ → List ActorKnown → Type 0
+AreFrom crew from actors = EachFrom (IsAt crew) from actors
 
 -- actors of the first vertices, each once, ascending
 abbrev pub AreInOrder : CrewId → List ActorKnown → Type 0

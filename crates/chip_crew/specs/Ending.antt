@@ -1,11 +1,12 @@
 -- How a crew ends.
-use Rattle.std.specs.Prelude.{◌≡◌, ℕ, ◌+◌, ◌-◌, ◌≤◌, false, Option, None}
+use Rattle.std.specs.Prelude.{◌≡◌, ℕ, ◌+◌, ◌-◌, ◌/◌, ◌≤◌, false, Option, None}
 use Rattle.chip_sequence.specs.declared.outcome.Outcome.{Outcome}
 use Rattle.chip_net.specs.Roots.{RootKnown, root_deficit, has_ended, IsOver}
 use Rattle.chip_net.specs.Finish.{Finishes}
 use Rattle.chip_net.specs.declared.poll.RootState.{RootState}
 use Rattle.chip_net.specs.declared.poll.RootState.TheVariants.{Closed, Running}
-use Rattle.chip_crew.specs.Crew.{Polled}
+use Rattle.chip_crew.specs.Crew.{CrewId, Polled}
+use Rattle.chip_crew.specs.Dealing.{IsRound}
 use Rattle.chip_crew.specs.Feeding.{Left, IsLed}
 use Rattle.chip_crew.specs.Sealing.{TakesBack}
 use Rattle.chip_crew.specs.declared.plan.SealAt.{SealAt}
@@ -32,23 +33,28 @@ pub record EndsWell (old receipt : RootKnown) (o : Outcome) : Type 0 where
 
 -- worker 0 led it until all was fed and the end noted; then it took the stopper back, was polled until it was closed, and
 -- finished
-pub record EndsLed (feeds : Left) (seal : Option SealAt) (old receipt : RootKnown) (o : Outcome) : Type 0 where
-  pub polls : ℕ
+pub record EndsLed (crew : CrewId) (feeds : Left) (seal : Option SealAt) (old receipt : RootKnown) (o : Outcome)
+    : Type 0 where
+  pub round : ℕ
+  pub is_round : IsRound crew round
+  pub turns : ℕ
   pub led : RootKnown
-  pub is_led : IsLed polls feeds old None led
+  pub is_led : IsLed round turns feeds old None led
   pub back : RootKnown
-  pub is_back : TakesBack seal polls led back
+  pub is_back : TakesBack seal turns led back
   pub ends : EndsWell back receipt o
 
--- worker 0 led it for so many polls, which left this to be fed; then it took the stopper back, was polled as often as
--- worker 0 had not, and once more, and it isn't closed
-pub record StaysUnfinished (turns : ℕ) (feeds : Left) (seal : Option SealAt) (old now : RootKnown) (deficit : ℕ)
-    : Type 0 where
-  pub polls : ℕ
-  pub at_most : polls ≤ turns
+-- worker 0 led it for so many turns, which left this to be fed; then it took the stopper back, was polled after each round
+-- that worker 0 had not made, and once more, and it isn't closed
+pub record StaysUnfinished (crew : CrewId) (turns : ℕ) (feeds : Left) (seal : Option SealAt) (old now : RootKnown)
+    (deficit : ℕ) : Type 0 where
+  pub round : ℕ
+  pub is_round : IsRound crew round
+  pub made : ℕ
+  pub at_most : made ≤ turns
   pub left : Left
   pub led : RootKnown
-  pub is_led : IsLed polls feeds old left led
+  pub is_led : IsLed round made feeds old left led
   pub back : RootKnown
-  pub is_back : TakesBack seal polls led back
-  pub stays : StaysOpen (turns - polls) back now deficit
+  pub is_back : TakesBack seal made led back
+  pub stays : StaysOpen (turns / round - made / round) back now deficit

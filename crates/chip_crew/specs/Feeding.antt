@@ -1,5 +1,6 @@
 -- How worker 0 feeds a game while it runs.
-use Rattle.std.specs.Prelude.{◌≡◌, ◌⊎◌, ℕ, zero, suc, ◌+◌, ◌<◌, ◌≤◌, false, All, List, [], ◌∷◌, Option, Some, None}
+use Rattle.std.specs.Prelude.{◌≡◌, ◌⊎◌, ℕ, zero, suc, ◌+◌, ◌%◌, ◌<◌, ◌≤◌, ◌==◌, Bool, true, false, All, List, [], ◌∷◌}
+use Rattle.std.specs.Prelude.{Option, Some, None}
 use Rattle.chip_graph.specs.Limits.{max_total}
 use Rattle.chip_graph.specs.More.{all_brought}
 use Rattle.chip_net.specs.Roots.{RootKnown, has_ended, all_given, Feeds, LooksInVain, Ends, IsPolling}
@@ -43,9 +44,15 @@ FeedsOnce None left old new = (left ≡ None) × (new ≡ old)
 FeedsOnce (Some feeds) left old new =
     (rest : List (ℕ × ℕ)) × (middle : RootKnown) × FeedsNext feeds rest old middle × EndsAfter rest left middle new
 
--- the root was polled so many times, and before each poll it fed what it could of these; this is what is left
-abbrev pub IsLed : ℕ → Left → RootKnown → Left → RootKnown → Type 0
-IsLed zero feeds old left now = (left ≡ feeds) × (now ≡ old)
-IsLed (suc k) feeds old left now =
-    (rest : Left) × (before : RootKnown) × (fed : RootKnown) × IsLed k feeds old rest before
-    × FeedsOnce rest left before fed × IsPolling fed now fed.net.setting.game.graph.vertices
+-- the root was polled, or nothing was done with it
+abbrev pub PollsIf : Bool → RootKnown → RootKnown → Type 0
+PollsIf true old new = IsPolling old new old.net.setting.game.graph.vertices
+PollsIf false old new = new ≡ old
+
+-- so many turns of worker 0, of which so many make a round: before each the root fed what it could of these, and after
+-- each round it was polled; this is what is left
+abbrev pub IsLed : ℕ → ℕ → Left → RootKnown → Left → RootKnown → Type 0
+IsLed round zero feeds old left now = (left ≡ feeds) × (now ≡ old)
+IsLed round (suc k) feeds old left now =
+    (rest : Left) × (before : RootKnown) × (fed : RootKnown) × IsLed round k feeds old rest before
+    × FeedsOnce rest left before fed × PollsIf (suc k % round == 0) fed now

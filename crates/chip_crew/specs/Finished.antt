@@ -13,10 +13,12 @@ use Rattle.chip_crew.specs.Crew.{CrewId, AreActors}
 use Rattle.chip_crew.specs.Feeding.{Left, pairs}
 use Rattle.chip_crew.specs.Ending.{EndsLed, StaysUnfinished}
 use Rattle.chip_crew.specs.Sealing.{KnowsSeals}
-use Rattle.chip_crew.specs.Gathering.{IsMissing}
+use Rattle.chip_crew.specs.Gathering.{Lacks}
 use Rattle.chip_crew.specs.Handed.{SomeShut}
 use Rattle.chip_crew.specs.declared.joining.Joined.{Joined}
 use Rattle.chip_crew.specs.declared.plan.Plan.{Plan}
+use Rattle.chip_crew.specs.declared.plan.Sharing.{Sharing}
+use Rattle.chip_crew.specs.declared.plan.Sharing.TheVariants as sharing
 use Rattle.chip_crew.specs.declared.plan.SealAt.{SealAt}
 use Rattle.chip_crew.specs.declared.play.Finished.{Finished}
 use Rattle.chip_crew.specs.declared.fault.CrewFault.{CrewFault}
@@ -47,16 +49,18 @@ RefusesPlan game feeds plan e = ((e ≡ fault.Plan) × (is_fed_plan game (pairs 
     ⊎ ((e ≡ fault.Total) × (is_fed_plan game (pairs feeds) plan ≡ true) × PassesTotal game feeds)
 
 -- the crew's net was opened for this game with these rings, to be fed where there are feeds, and its actors with room for
--- so many trace rows
-pub record IsCrewFor (game : ChipGame) (feeds : Left) (plan : Plan) (crew : CrewId) : Type 0 where
+-- so many trace rows; so many workers share them in this way
+pub record IsCrewFor (shared : Sharing) (game : ChipGame) (feeds : Left) (plan : Plan) (crew : CrewId) : Type 0 where
   pub can : CanPlay game feeds plan
   pub setting : crew.net.setting ≡ setting_with game plan.ring (is_some feeds)
   pub room : crew.room ≡ plan.trace_rows
+  pub workers : crew.workers ≡ plan.workers
+  pub sharing : crew.sharing ≡ shared
 
 -- the crew's root was led until all was fed, polled until it was closed and then finished, and all its actors are there
 pub record HasFinished (crew : CrewId) (feeds : Left) (seal : Option SealAt) (old : RootKnown) (f : Finished)
     : Type 0 where
-  pub ends : EndsLed feeds seal old f.receipt f.outcome
+  pub ends : EndsLed crew feeds seal old f.receipt f.outcome
   pub actors : AreActors crew f.actors.items
   -- what the root, the stopper and the actors did is one run, of which that is the outcome
   pub run : IsRun f.receipt f.actors.items f.outcome
@@ -69,11 +73,11 @@ IsWhole game (Some feeds) whole = HasMore game feeds whole
 -- a crew of this game finished after it made exactly these feeds, in order, and the seal of the plan where worker 0 made
 -- that turn, and no other; without a seal the outcome is the plain player's of the game that has all these chips at the
 -- start
-pub record IsFinished (game : ChipGame) (feeds : Left) (plan : Plan) (f : Finished) : Type 0 where
+pub record IsFinished (shared : Sharing) (game : ChipGame) (feeds : Left) (plan : Plan) (f : Finished) : Type 0 where
   pub crew : CrewId
-  pub opened : IsCrewFor game feeds plan crew
+  pub opened : IsCrewFor shared game feeds plan crew
   pub finished : HasFinished crew feeds plan.seal (root_of crew plan) f
-  pub sealed : KnowsSeals plan.seal finished.ends.polls f.receipt
+  pub sealed : KnowsSeals plan.seal finished.ends.turns f.receipt
   pub fed : fed_by finished.ends.ends.root ≡ pairs feeds
   pub whole : ChipGame
   pub whole_is : IsWhole game feeds whole
@@ -89,34 +93,38 @@ IsClosing crew feeds seal old turns joined fault.NoMemory = ⊥
 IsClosing crew feeds seal old turns joined fault.Spawn = ⊥
 IsClosing crew feeds seal old turns joined fault.GateShut = joined.passed ≡ false
 IsClosing crew feeds seal old turns joined (fault.Doubled v) =
-    (joined.passed ≡ true) × IsMissing joined.gathering (fault.Doubled v)
+    (joined.passed ≡ true) × Lacks joined.back (fault.Doubled v)
 IsClosing crew feeds seal old turns joined (fault.Lost v) =
-    (joined.passed ≡ true) × IsMissing joined.gathering (fault.Lost v)
+    (joined.passed ≡ true) × Lacks joined.back (fault.Lost v)
 IsClosing crew feeds seal old turns joined (fault.Unfinished deficit root) =
-    (joined.passed ≡ true) × StaysUnfinished turns feeds seal old root deficit
+    (joined.passed ≡ true) × StaysUnfinished crew turns feeds seal old root deficit
 
--- why a crew that was opened didn't finish; `shut` is what is known where a gate was shut
+-- why a crew that was opened didn't finish; `shut` is what is known where a gate was shut. No actor is missing or there
+-- twice where they were dealt out
 abbrev pub IsStopped : CrewId → Left → Option SealAt → RootKnown → ℕ → Type 0 → CrewFault → Type 0
 IsStopped crew feeds seal old turns shut fault.Plan = ⊥
 IsStopped crew feeds seal old turns shut fault.Total = ⊥
 IsStopped crew feeds seal old turns shut fault.NoMemory = ⊤
 IsStopped crew feeds seal old turns shut fault.Spawn = ⊤
 IsStopped crew feeds seal old turns shut fault.GateShut = shut
-IsStopped crew feeds seal old turns shut (fault.Doubled v) = v < crew.net.setting.game.graph.vertices
-IsStopped crew feeds seal old turns shut (fault.Lost v) = v < crew.net.setting.game.graph.vertices
+IsStopped crew feeds seal old turns shut (fault.Doubled v) = (crew.sharing ≡ sharing.Queue) × (v < crew.net.setting.game.graph.vertices)
+IsStopped crew feeds seal old turns shut (fault.Lost v) = (crew.sharing ≡ sharing.Queue) × (v < crew.net.setting.game.graph.vertices)
 IsStopped crew feeds seal old turns shut (fault.Unfinished deficit root) =
-    StaysUnfinished turns feeds seal old root deficit
+    StaysUnfinished crew turns feeds seal old root deficit
 
--- plan or feeds are at fault; or their total is; or a crew of this game didn't finish, whose gate may answer so
-abbrev pub IsFaultOf : ChipGame → Left → Plan → (ℕ → ℕ → Bool → Type 0) → CrewFault → Type 0
-IsFaultOf game feeds plan may_answer fault.Plan = is_fed_plan game (pairs feeds) plan ≡ false
-IsFaultOf game feeds plan may_answer fault.Total = (is_fed_plan game (pairs feeds) plan ≡ true) × PassesTotal game feeds
-IsFaultOf game feeds plan may_answer fault.NoMemory = CanPlay game feeds plan
-IsFaultOf game feeds plan may_answer fault.Spawn = CanPlay game feeds plan
-IsFaultOf game feeds plan may_answer fault.GateShut =
+-- plan or feeds are at fault; or their total is; or a crew of this game didn't finish, whose gate may answer so. No actor
+-- is missing or there twice where they are dealt out
+abbrev pub IsFaultOf : Sharing → ChipGame → Left → Plan → (ℕ → ℕ → Bool → Type 0) → CrewFault → Type 0
+IsFaultOf shared game feeds plan may_answer fault.Plan = is_fed_plan game (pairs feeds) plan ≡ false
+IsFaultOf shared game feeds plan may_answer fault.Total = (is_fed_plan game (pairs feeds) plan ≡ true) × PassesTotal game feeds
+IsFaultOf shared game feeds plan may_answer fault.NoMemory = CanPlay game feeds plan
+IsFaultOf shared game feeds plan may_answer fault.Spawn = CanPlay game feeds plan
+IsFaultOf shared game feeds plan may_answer fault.GateShut =
     CanPlay game feeds plan × SomeShut may_answer plan.workers plan.turns
-IsFaultOf game feeds plan may_answer (fault.Doubled v) = CanPlay game feeds plan × (v < game.graph.vertices)
-IsFaultOf game feeds plan may_answer (fault.Lost v) = CanPlay game feeds plan × (v < game.graph.vertices)
-IsFaultOf game feeds plan may_answer (fault.Unfinished deficit root) =
-    (crew : CrewId) × IsCrewFor game feeds plan crew
-    × StaysUnfinished plan.turns feeds plan.seal (root_of crew plan) root deficit
+IsFaultOf shared game feeds plan may_answer (fault.Doubled v) =
+    CanPlay game feeds plan × (shared ≡ sharing.Queue) × (v < game.graph.vertices)
+IsFaultOf shared game feeds plan may_answer (fault.Lost v) =
+    CanPlay game feeds plan × (shared ≡ sharing.Queue) × (v < game.graph.vertices)
+IsFaultOf shared game feeds plan may_answer (fault.Unfinished deficit root) =
+    (crew : CrewId) × IsCrewFor shared game feeds plan crew
+    × StaysUnfinished crew plan.turns feeds plan.seal (root_of crew plan) root deficit

@@ -1,9 +1,13 @@
 -- How the actors are gathered.
-use Rattle.std.specs.Prelude.{◌≡◌, ℕ, ◌<◌, ◌≤◌, List, [], slice_get, slice_set, Option, Some, None, IfSome, min}
+use Rattle.std.specs.Prelude.{◌≡◌, ℕ, ◌<◌, ◌≤◌, List, [], length, slice_get, slice_set, Option, Some, None, IfSome, min}
 use Rattle.std.specs.Vec.{vec_capacity}
 use Rattle.chip_net.specs.Tokens.{ActorKnown}
-use Rattle.chip_crew.specs.Crew.{CrewId, AreSeats}
+use Rattle.chip_crew.specs.Crew.{CrewId, AreSeats, AreFrom}
+use Rattle.chip_crew.specs.Dealing.{IsFirstOf}
+use Rattle.chip_crew.specs.declared.plan.Sharing.TheVariants as sharing
 use Rattle.chip_crew.specs.declared.gathering.Gathering.{Gathering}
+use Rattle.chip_crew.specs.declared.gathering.Back.{Back}
+use Rattle.chip_crew.specs.declared.gathering.Back.TheVariants as back
 use Rattle.chip_crew.specs.declared.fault.CrewFault.{CrewFault}
 use Rattle.chip_crew.specs.declared.fault.CrewFault.TheVariants.{Plan, Total, NoMemory, Spawn, GateShut, Doubled, Lost}
 use Rattle.chip_crew.specs.declared.fault.CrewFault.TheVariants.{Unfinished}
@@ -51,3 +55,19 @@ IsMissing gathering NoMemory = ⊥
 IsMissing gathering Spawn = ⊥
 IsMissing gathering GateShut = ⊥
 IsMissing gathering (Unfinished deficit root) = ⊥
+
+-- the row has the actors of so many workers, one run behind the other, and there is room for all of them
+pub record IsRow (crew : CrewId) (workers : ℕ) (row : List ActorKnown) (room : ℕ) : Type 0 where
+  pub up_to : IsFirstOf crew workers (length row)
+  pub each : AreFrom crew 0 row
+  pub has_room : crew.net.setting.game.graph.vertices ≤ room
+
+-- what is there once so many workers have handed back what they had
+abbrev pub AreBack : CrewId → ℕ → Back → Type 0
+AreBack crew workers (back.Queue gathering) = (crew.sharing ≡ sharing.Queue) × IsGathering crew gathering
+AreBack crew workers (back.Dealt row) = (crew.sharing ≡ sharing.Dealt) × IsRow crew workers row.items (vec_capacity row)
+
+-- an actor is there twice, or missing; this does not come where the actors were dealt out
+abbrev pub Lacks : Back → CrewFault → Type 0
+Lacks (back.Queue gathering) e = IsMissing gathering e
+Lacks (back.Dealt row) e = ⊥

@@ -1,15 +1,24 @@
 -- What the workers hand back.
-use Rattle.std.specs.Prelude.{◌≡◌, ℕ, ◌<◌, ◌≤◌, Bool, true, false, Option, IfSome}
+use Rattle.std.specs.Prelude.{◌≡◌, ℕ, ◌<◌, ◌≤◌, max, Bool, true, false, List, length, Option, Some, None, IfSome, ⊤}
 use Rattle.std.specs.Option.{option_copied}
-use Rattle.crossbeam_queue.specs.Passes.{view}
+use Rattle.crossbeam_queue.specs.Passes.{view, IsPassOf}
+use Rattle.crossbeam_queue.specs.declared.array_queue.Doing.{Doing}
+use Rattle.crossbeam_queue.specs.declared.array_queue.Slotted.{Slotted}
 use Rattle.chip_net.specs.Roots.{RootKnown, StopperKnown}
-use Rattle.chip_crew.specs.Crew.{CrewId, IsOurs}
+use Rattle.chip_net.specs.Tokens.{ActorKnown}
+use Rattle.chip_crew.specs.Crew.{CrewId, IsOurs, EachFrom}
+use Rattle.chip_crew.specs.Dealing.{IsRound, AreOf}
+use Rattle.chip_crew.specs.Rounds.{RoundsMade}
 use Rattle.chip_crew.specs.Feeding.{Left, IsLed, MayFeedLeft}
 use Rattle.chip_crew.specs.Ledger.{TurnsMade}
+use Rattle.chip_crew.specs.declared.queue.Ledger.{Ledger}
 use Rattle.chip_crew.specs.Sealing.{HasSealed}
 use Rattle.chip_crew.specs.declared.lead.Lead.{Lead}
 use Rattle.chip_crew.specs.declared.plan.SealAt.{SealAt}
+use Rattle.chip_crew.specs.declared.plan.Sharing.TheVariants as sharing
 use Rattle.chip_crew.specs.declared.worker.Handed.{Handed}
+use Rattle.chip_crew.specs.declared.worker.Hands.{Hands}
+use Rattle.chip_crew.specs.declared.worker.Hands.TheVariants as hands
 
 -- what worker 0 begins with: the root of the crew, what it may feed, and the stopper, which sealed nothing yet
 pub record IsLead (crew : CrewId) (left : Left) (due : Option SealAt) (old : RootKnown) (lead : Lead) : Type 0 where
@@ -19,14 +28,16 @@ pub record IsLead (crew : CrewId) (left : Left) (due : Option SealAt) (old : Roo
   pub may : MayFeedLeft old left
   pub seal : HasSealed crew due 0 lead.seal
 
--- worker 0 polled the root so often, at most once for each of its turns, and fed it before each poll
-pub record HasPolled (crew : CrewId) (feeds : Left) (old : RootKnown) (turns : ℕ) (root : RootKnown) (polls : ℕ)
+-- worker 0 made so many turns, at most so many as it may, fed the root before each and polled it after each round
+pub record HasPolled (crew : CrewId) (feeds : Left) (old : RootKnown) (turns : ℕ) (root : RootKnown) (round made : ℕ)
     : Type 0 where
   pub net : root.net ≡ crew.net
+  pub is_round : IsRound crew round
+  pub some : 0 < round
   pub left : Left
-  pub led : IsLed polls feeds old left root
+  pub led : IsLed round made feeds old left root
   pub may : MayFeedLeft root left
-  pub at_most : polls ≤ turns
+  pub at_most : made ≤ turns
 
 -- a call of the gate for some worker's turn is one that may answer false
 abbrev pub SomeShut : (ℕ → ℕ → Bool → Type 0) → ℕ → ℕ → Type 0
@@ -43,18 +54,47 @@ abbrev pub AllHeed : (ℕ → ℕ → Bool → Type 0) → ℕ → ℕ → (ℕ 
 AllHeed may_answer workers turns passes shut = (worker : ℕ) → worker < workers
     → Heeds (may_answer worker) turns (passes worker) shut
 
--- what a worker hands back: an actor that it kept is the net's, it made so many turns, each of which its gate let pass,
--- and its gate answered false only where it may
-pub record IsHanded (crew : CrewId) (passes : ℕ → Type 0) (most : ℕ) (shut : Type 0) (handed : Handed) : Type 0 where
-  pub kept : IfSome handed.kept (IsOurs crew)
+-- what a worker has in its hands after so many turns, each of which its gate let pass: where there is a queue, its pass of
+-- it and the net's actor that it kept; else the actors that were dealt to it
+abbrev pub HasMade : CrewId → ℕ → (ℕ → Type 0) → ℕ → Hands → Type 0
+HasMade crew worker passes turns (hands.Queue pass kept) =
+    (crew.sharing ≡ sharing.Queue) × TurnsMade passes turns (view pass) kept × IfSome kept (IsOurs crew)
+HasMade crew worker passes turns (hands.Dealt dealt) = (crew.sharing ≡ sharing.Dealt)
+    × AreOf crew worker dealt.actors.items × ((first : List ActorKnown) × RoundsMade passes turns first dealt.actors.items)
+
+module _ {Q A : Type 0} where
+  -- these hands are for a crew with this queue, or for one without a queue
+  abbrev pub Fits : Option (Slotted (Option ActorKnown) (Doing ActorKnown Ledger) Q A) → Hands → Type 0
+  Fits (Some queue) (hands.Queue pass kept) = IsPassOf queue pass
+  Fits (Some queue) (hands.Dealt dealt) = ⊥
+  Fits None (hands.Queue pass kept) = ⊥
+  Fits None (hands.Dealt dealt) = ⊤
+
+  -- what the workers of a crew with this queue, or without one, begin with, worker 0 first
+  abbrev pub AreReady : CrewId → (ℕ → ℕ → Type 0) → Option (Slotted (Option ActorKnown) (Doing ActorKnown Ledger) Q A)
+      → List Hands → Type 0
+  AreReady crew passes queue all = EachFrom (λ worker h. HasMade crew worker (passes worker) 0 h × Fits queue h) 0 all
+
+-- what the workers of the crew begin with, worker 0 first
+abbrev pub AreHands : CrewId → (ℕ → ℕ → Type 0) → List Hands → Type 0
+AreHands crew passes all = EachFrom (λ worker h. HasMade crew worker (passes worker) 0 h) 0 all
+
+-- how many turns make a round of a worker
+abbrev pub round_of : Hands → ℕ
+round_of (hands.Queue pass kept) = 1
+round_of (hands.Dealt dealt) = max 1 (length dealt.actors.items)
+
+-- what a worker hands back: what it has after so many turns, and its gate answered false only where it may
+pub record IsHanded (crew : CrewId) (worker : ℕ) (passes : ℕ → Type 0) (most : ℕ) (shut : Type 0) (handed : Handed)
+    : Type 0 where
   pub at_most : handed.turns ≤ most
-  pub made : TurnsMade passes handed.turns (view handed.pass) handed.kept
+  pub made : HasMade crew worker passes handed.turns handed.hands
   pub passed : handed.passed ≡ false → shut
 
--- what worker 0 hands back: it polled the root once in each of its turns, and the stopper sealed what was due in them
+-- what worker 0 hands back: it polled the root after each of its rounds, and the stopper sealed what was due in its turns
 pub record HasLed (crew : CrewId) (feeds : Left) (seal : Option SealAt) (old : RootKnown) (turns : ℕ)
-    (passes : ℕ → Type 0) (shut : Type 0) (handed : Handed) (root : RootKnown)
+    (passes : ℕ → Type 0) (shut : Type 0) (handed : Handed) (root : RootKnown) (round : ℕ)
     (stopper : Option (StopperKnown × SealAt)) : Type 0 where
-  pub worker : IsHanded crew passes turns shut handed
-  pub polled : HasPolled crew feeds old turns root handed.turns
+  pub worker : IsHanded crew 0 passes turns shut handed
+  pub polled : HasPolled crew feeds old turns root round handed.turns
   pub sealed : HasSealed crew seal handed.turns stopper

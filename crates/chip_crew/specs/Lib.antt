@@ -1,5 +1,7 @@
 pub mod Plans
 pub mod Crew
+pub mod Dealing
+pub mod Rounds
 pub mod Feeding
 pub mod Sealing
 pub mod Ending

@@ -1,11 +1,14 @@
 //! How the actors are gathered once all workers have ended.
 
-ghost use Rattle.std.specs.Prelude.{◌≡◌, ◌<◌, ◌≤◌, [], length, IfOk, IfErr, IfSome};
+ghost use Rattle.std.specs.Prelude.{◌≡◌, ◌+◌, ◌<◌, ◌≤◌, [], length, IfOk, IfErr, IfSome};
 ghost use Rattle.chip_crew.specs.Crew.{IsOurs, AreActors};
-ghost use Rattle.chip_crew.specs.Gathering.{IsGathering, IsNoted, AreGathered, IsMissing, least};
+ghost use Rattle.chip_crew.specs.Handed.{HasMade};
+ghost use Rattle.chip_crew.specs.Gathering.{IsGathering, IsNoted, AreGathered, IsMissing, AreBack, Lacks, least};
 
+use crate::dealing::Dealt;
 use crate::fault::CrewFault;
 use crate::queue::Crew;
+use crate::worker::Hands;
 use chip_net::Actor;
 use std::alloc::{AllocError, Global};
 
@@ -17,6 +20,15 @@ pub(crate) struct Gathering {
     doubled: Option<u64>,
     // What the actors go to, ascending.
     actors: Vec<Actor>,
+}
+
+/// What the actors come back to, once the workers have ended.
+#[derive(Drop)]
+pub(crate) enum Back {
+    /// Their places, where they came through a queue.
+    Queue(Gathering),
+    /// The runs that were dealt out, one behind the other. It has room for all actors.
+    Dealt(Vec<Actor>),
 }
 
 /// A gathering on which there is no actor yet.
@@ -87,4 +99,45 @@ pub(crate) fn gather<B: Crew>(gathering: Gathering) -> Result<Vec<Actor>, CrewFa
         }
     }
     Ok(actors)
+}
+
+/// Takes back what a worker has. Where the actors were dealt out, those of all lesser workers are back already.
+pub(crate) fn take_hands<B: Crew>(back: &mut Back, hands: Hands, _worker: u64, _turns: u64)
+    requires worker { _worker < B.crew.workers }
+    requires back { AreBack B.crew _worker back.old }
+    requires hands { HasMade B.crew _worker (B.passes _worker) _turns hands }
+    ensures back { AreBack B.crew (_worker + 1) back.new }
+{
+    match hands {
+        Hands::Queue { kept, .. } => {
+            let Back::Queue(gathering) = back else {
+                unreachable!()
+            };
+            if let Some(actor) = kept {
+                note::<B>(gathering, actor);
+            }
+        }
+        Hands::Dealt(dealt) => {
+            let Dealt { actors, .. } = dealt;
+            let Back::Dealt(row) = back else {
+                unreachable!()
+            };
+            for actor in actors {
+                row.push_reserved(actor);
+            }
+        }
+    }
+}
+
+/// The actors of all vertices, ascending, where each came back once.
+pub(crate) fn all_back<B: Crew>(back: Back) -> Result<Vec<Actor>, CrewFault>
+    requires back { AreBack B.crew B.crew.workers back }
+    requires some { 0 < B.crew.workers }
+    ensures actors { IfOk result (λ actors. AreActors B.crew actors.items) }
+    ensures fault { IfErr result (Lacks back) }
+{
+    match back {
+        Back::Queue(gathering) => gather::<B>(gathering),
+        Back::Dealt(row) => Ok(row),
+    }
 }

@@ -1,27 +1,28 @@
 //! Starting the workers and joining them.
 
-ghost use Rattle.std.specs.Prelude.{◌≡◌, ◌<◌, ◌≤◌, [], false, IfOk, IfErr, IfSome};
+ghost use Rattle.std.specs.Prelude.{◌≡◌, ◌+◌, ◌<◌, ◌≤◌, ◌^◌, [], length, false, IfOk, IfErr};
 ghost use Rattle.chip_crew.specs.declared.fault.CrewFault.TheVariants.{Spawn};
+ghost use Rattle.std.specs.Option.{option_copied};
 ghost use Rattle.std.specs.Vec.{vec_capacity};
-ghost use Rattle.chip_crew.specs.Crew.{IsOurs};
-ghost use Rattle.chip_crew.specs.Handed.{HasPolled, IsLead, Heeds, AllHeed, IsHanded};
+ghost use Rattle.chip_crew.specs.Crew.{EachFrom};
+ghost use Rattle.chip_crew.specs.Handed.{HasPolled, IsLead, Heeds, AllHeed, IsHanded, Fits, HasMade, AreReady};
 ghost use Rattle.chip_crew.specs.Sealing.{HasSealed};
-ghost use Rattle.chip_crew.specs.Gathering.{IsGathering};
+ghost use Rattle.chip_crew.specs.Gathering.{AreBack};
 
 use crate::fault::CrewFault;
-use crate::gathering::{Gathering, note};
+use crate::gathering::{Back, take_hands};
 use crate::lead::{Lead, LeadHanded};
 use crate::plan::{Gate, SealAt};
 use crate::queue::Crew;
-use crate::worker::{Handed, Shared};
+use crate::worker::{Handed, Hands, Shared, Task};
 use chip_net::{Root, Stopper};
 use std::marker::PhantomData;
 use std::sync::Wait;
 use std::sync::atomic::Ordering::SeqCst;
 use std::thread::{self, JoinHandle, Promise, PromisedHandle, Scope, Threads};
 
-/// The promise of the worker of this number: an actor that it hands back was opened by this net, each of its turns was
-/// let pass by its gate and gave one actor one turn, and its gate answered false only where it may.
+/// The promise of the worker of this number: what it hands back are actors of this net, each of its turns was let pass by
+/// its gate and gave one actor one turn, and its gate answered false only where it may.
 #[derive(Drop)]
 pub(crate) struct Keeps<B> {
     worker: u64,
@@ -31,7 +32,7 @@ pub(crate) struct Keeps<B> {
 impl<B: Crew> Promise<Handed> for Keeps<B> {
     ghost use Rattle.chip_crew.specs.Handed.{IsHanded};
 
-    ghost kept_by = { λ keeps handed. IsHanded B.crew (B.passes keeps.worker) B.turns B.shut handed };
+    ghost kept_by = { λ keeps handed. IsHanded B.crew keeps.worker (B.passes keeps.worker) B.turns B.shut handed };
 }
 
 /// A worker other than worker 0 that has started.
@@ -42,28 +43,16 @@ pub(crate) type Started<B> = PromisedHandle<Handed, Keeps<B>>;
 pub(crate) struct Joined {
     /// The root.
     pub root: Root,
-    /// How often worker 0 polled it: once in each of its turns.
-    pub polls: u64,
+    /// How many turns worker 0 made.
+    pub turns: u64,
+    /// How many of them make a round, after which it polled the root.
+    pub round: u64,
     /// The stopper, and what it was to seal.
     pub seal: Option<(Stopper, SealAt)>,
-    /// The actors that workers couldn't put back.
-    pub gathering: Gathering,
+    /// The actors that workers had.
+    pub back: Back,
     /// Whether no gate answered false.
     pub passed: bool,
-}
-
-/// Notes the actor that a worker kept, if any, and tells whether its gate never answered false.
-fn take_handed<B: Crew>(gathering: &mut Gathering, handed: Handed) -> bool
-    requires gathering { IsGathering B.crew gathering.old }
-    requires kept { IfSome handed.kept (IsOurs B.crew) }
-    ensures gathering { IsGathering B.crew gathering.new }
-    ensures passed { result ≡ handed.passed }
-{
-    let Handed { kept, passed, .. } = handed;
-    if let Some(actor) = kept {
-        note::<B>(gathering, actor);
-    }
-    passed
 }
 
 /// Starts worker 0.
@@ -71,7 +60,9 @@ fn start_lead<'s, E, B: Crew + Send + Sync, G: Gate + Sync>(
     scope: &Scope<'s, E>,
     shared: &'s Shared<'s, B, G>,
     lead: Lead<'s>,
+    hands: Hands,
 ) -> Result<JoinHandle<LeadHanded<B>>, CrewFault>
+    requires hands { HasMade B.crew 0 (B.passes 0) 0 hands × Fits (option_copied shared.now.queue) hands }
     requires net { shared.now.net.now ≡ B.crew.net }
     requires turns { shared.now.turns ≡ B.turns }
     requires lead { IsLead B.crew B.feeds B.seal B.root lead }
@@ -80,8 +71,9 @@ fn start_lead<'s, E, B: Crew + Send + Sync, G: Gate + Sync>(
 {
     let work = move || -> LeadHanded<B>
         requires { (shared.now.net.now ≡ B.crew.net) × (shared.now.turns ≡ B.turns) × IsLead B.crew B.feeds B.seal B.root lead
-            × Heeds (G.may_answer shared.now.gate.now 0) shared.now.turns (B.passes 0) B.shut }
-    { shared.lead(lead) };
+            × Heeds (G.may_answer shared.now.gate.now 0) shared.now.turns (B.passes 0) B.shut
+            × HasMade B.crew 0 (B.passes 0) 0 hands × Fits (option_copied shared.now.queue) hands }
+    { shared.lead(lead, hands) };
     match scope.spawn(work) {
         Ok(started) => Ok(started),
         Err(_) => Err(CrewFault::Spawn),
@@ -93,22 +85,25 @@ fn start_worker<'s, E, B: Crew + Send + Sync, G: Gate + Sync>(
     scope: &Scope<'s, E>,
     shared: &'s Shared<'s, B, G>,
     worker: u64,
+    hands: Hands,
 ) -> Result<Started<B>, CrewFault>
+    requires hands { HasMade B.crew worker (B.passes worker) 0 hands × Fits (option_copied shared.now.queue) hands }
     requires net { shared.now.net.now ≡ B.crew.net }
     requires turns { shared.now.turns ≡ B.turns }
     requires gate { Heeds (G.may_answer shared.now.gate.now worker) shared.now.turns (B.passes worker) B.shut }
-    ensures { IfErr result (λ fault. fault ≡ Spawn) }
+    ensures fault { IfErr result (λ fault. fault ≡ Spawn) }
+    ensures worker { IfOk result (λ started. started.promise.worker ≡ worker) }
 {
     let promise = Keeps {
         worker,
         of: PhantomData,
     };
-    let work = move || -> Handed
-        requires { (shared.now.net.now ≡ B.crew.net) × (shared.now.turns ≡ B.turns)
-            × Heeds (G.may_answer shared.now.gate.now worker) shared.now.turns (B.passes worker) B.shut }
-        ensures { IsHanded B.crew (B.passes worker) B.turns B.shut result }
-    { shared.work(worker) };
-    match scope.spawn_with(promise, work) {
+    let task = Task {
+        shared,
+        worker,
+        hands,
+    };
+    match scope.spawn_with(promise, move || task.run()) {
         Ok(started) => Ok(started),
         Err(_) => Err(CrewFault::Spawn),
     }
@@ -119,60 +114,83 @@ fn start_all<'s, E, B: Crew + Send + Sync, G: Gate + Sync>(
     scope: &Scope<'s, E>,
     shared: &'s Shared<'s, B, G>,
     lead: Lead<'s>,
-    workers: u64,
+    hands: Vec<Hands>,
     mut others: Vec<Started<B>>,
 ) -> Result<(JoinHandle<LeadHanded<B>>, Vec<Started<B>>), CrewFault>
     requires net { shared.now.net.now ≡ B.crew.net }
     requires turns { shared.now.turns ≡ B.turns }
     requires lead { IsLead B.crew B.feeds B.seal B.root lead }
     requires none_yet { others.items ≡ [] }
-    requires room { workers ≤ vec_capacity others }
-    requires some { 0 < workers }
-    requires gate { AllHeed (G.may_answer shared.now.gate.now) workers shared.now.turns B.passes B.shut }
-    ensures { IfErr result (λ fault. fault ≡ Spawn) }
+    requires room { B.crew.workers ≤ vec_capacity others }
+    requires some { 0 < B.crew.workers }
+    requires count { length hands.items ≡ B.crew.workers }
+    requires hands { AreReady B.crew B.passes (option_copied shared.now.queue) hands.items }
+    requires gate { AllHeed (G.may_answer shared.now.gate.now) B.crew.workers shared.now.turns B.passes B.shut }
+    ensures fault { IfErr result (λ fault. fault ≡ Spawn) }
+    ensures count { IfOk result (λ started. length started.1.items + 1 ≡ B.crew.workers) }
+    ensures workers { IfOk result (λ started. EachFrom (λ worker s. s.promise.worker ≡ worker) 1 started.1.items) }
 {
-    let lead = start_lead(scope, shared, lead)?;
-    for worker in 1..workers {
-        match start_worker(scope, shared, worker) {
+    let mut rest = hands.into_iter();
+    let Some(first) = rest.next() else {
+        unreachable!()
+    };
+    let lead = start_lead(scope, shared, lead, first)?;
+    let mut worker = 1;
+    for hands in rest {
+        match start_worker(scope, shared, worker, hands) {
             Ok(started) => others.push_reserved(started),
             Err(fault) => {
                 shared.stop.store(true, SeqCst);
                 return Err(fault);
             }
         }
+        worker += 1;
     }
     Ok((lead, others))
 }
 
-/// Waits until all workers have ended.
+/// Waits until all workers have ended, and takes back what they have.
 fn join_all<B: Crew, R: Threads>(
     rt: &R,
     lead: JoinHandle<LeadHanded<B>>,
     others: Vec<Started<B>>,
-    mut gathering: Gathering,
+    mut back: Back,
 ) -> Joined
-    requires { IsGathering B.crew gathering }
-    ensures root { HasPolled B.crew B.feeds B.root B.turns result.root result.polls }
-    ensures seal { HasSealed B.crew B.seal result.polls result.seal }
-    ensures gathering { IsGathering B.crew result.gathering }
+    requires back { AreBack B.crew 0 back }
+    requires count { length others.items + 1 ≡ B.crew.workers }
+    requires workers { EachFrom (λ worker s. s.promise.worker ≡ worker) 1 others.items }
+    requires few { B.crew.workers < 2 ^ 64 }
+    ensures root { HasPolled B.crew B.feeds B.root B.turns result.root result.round result.turns }
+    ensures seal { HasSealed B.crew B.seal result.turns result.seal }
+    ensures back { AreBack B.crew B.crew.workers result.back }
     ensures passed { result.passed ≡ false → B.shut }
 {
     let LeadHanded {
         handed,
         root,
+        round,
         seal,
         of: _,
     } = lead.join(rt);
-    let polls = handed.turns;
-    let mut passed = take_handed::<B>(&mut gathering, handed);
+    let Handed {
+        hands,
+        mut passed,
+        turns,
+    } = handed;
+    take_hands::<B>(&mut back, hands, 0, turns);
+    let mut worker = 1;
     for started in others {
-        passed &= take_handed::<B>(&mut gathering, started.join(rt));
+        let handed = started.join(rt);
+        take_hands::<B>(&mut back, handed.hands, worker, handed.turns);
+        passed &= handed.passed;
+        worker += 1;
     }
     Joined {
         root,
-        polls,
+        turns,
+        round,
         seal,
-        gathering,
+        back,
         passed,
     }
 }
@@ -182,21 +200,24 @@ pub(crate) fn run_workers<R: Threads + Wait, B: Crew + Send + Sync, G: Gate + Sy
     rt: &R,
     shared: &Shared<B, G>,
     lead: Lead,
-    workers: u64,
+    hands: Vec<Hands>,
     others: Vec<Started<B>>,
-    gathering: Gathering,
+    back: Back,
 ) -> Result<Joined, CrewFault>
     requires net { shared.now.net.now ≡ B.crew.net }
     requires turns { shared.now.turns ≡ B.turns }
     requires lead { IsLead B.crew B.feeds B.seal B.root lead }
     requires none_yet { others.items ≡ [] }
-    requires room { workers ≤ vec_capacity others }
-    requires gathering { IsGathering B.crew gathering }
-    requires some { 0 < workers }
-    requires gate { AllHeed (G.may_answer shared.now.gate.now) workers shared.now.turns B.passes B.shut }
-    ensures root { IfOk result (λ j. HasPolled B.crew B.feeds B.root B.turns j.root j.polls) }
-    ensures seal { IfOk result (λ j. HasSealed B.crew B.seal j.polls j.seal) }
-    ensures gathering { IfOk result (λ j. IsGathering B.crew j.gathering) }
+    requires room { B.crew.workers ≤ vec_capacity others }
+    requires back { AreBack B.crew 0 back }
+    requires some { 0 < B.crew.workers }
+    requires few { B.crew.workers < 2 ^ 64 }
+    requires count { length hands.items ≡ B.crew.workers }
+    requires hands { AreReady B.crew B.passes (option_copied shared.now.queue) hands.items }
+    requires gate { AllHeed (G.may_answer shared.now.gate.now) B.crew.workers shared.now.turns B.passes B.shut }
+    ensures root { IfOk result (λ j. HasPolled B.crew B.feeds B.root B.turns j.root j.round j.turns) }
+    ensures seal { IfOk result (λ j. HasSealed B.crew B.seal j.turns j.seal) }
+    ensures back { IfOk result (λ j. AreBack B.crew B.crew.workers j.back) }
     ensures passed { IfOk result (λ j. j.passed ≡ false → B.shut) }
     ensures fault { IfErr result (λ fault. fault ≡ Spawn) }
 {
@@ -205,13 +226,15 @@ pub(crate) fn run_workers<R: Threads + Wait, B: Crew + Send + Sync, G: Gate + Sy
         rt,
         |scope| -> Result<Joined, CrewFault>
             requires { (shared.now.net.now ≡ B.crew.net) × (shared.now.turns ≡ B.turns)
-                × IsLead B.crew B.feeds B.seal B.root lead × (others.items ≡ []) × (workers ≤ vec_capacity others) × IsGathering B.crew gathering × (0 < workers)
-                × AllHeed (G.may_answer shared.now.gate.now) workers shared.now.turns B.passes B.shut }
-            ensures { IfOk result (λ j. HasPolled B.crew B.feeds B.root B.turns j.root j.polls
-                × HasSealed B.crew B.seal j.polls j.seal × IsGathering B.crew j.gathering × (j.passed ≡ false → B.shut)) × IfErr result (λ fault. fault ≡ Spawn) }
+                × IsLead B.crew B.feeds B.seal B.root lead × (others.items ≡ []) × (B.crew.workers ≤ vec_capacity others) × AreBack B.crew 0 back
+                × (0 < B.crew.workers) × (B.crew.workers < 2 ^ 64) × (length hands.items ≡ B.crew.workers)
+                × AreReady B.crew B.passes (option_copied shared.now.queue) hands.items
+                × AllHeed (G.may_answer shared.now.gate.now) B.crew.workers shared.now.turns B.passes B.shut }
+            ensures { IfOk result (λ j. HasPolled B.crew B.feeds B.root B.turns j.root j.round j.turns
+                × HasSealed B.crew B.seal j.turns j.seal × AreBack B.crew B.crew.workers j.back × (j.passed ≡ false → B.shut)) × IfErr result (λ fault. fault ≡ Spawn) }
         {
-            let (lead, others) = start_all(scope, shared, lead, workers, others)?;
-            Ok(join_all(rt, lead, others, gathering))
+            let (lead, others) = start_all(scope, shared, lead, hands, others)?;
+            Ok(join_all(rt, lead, others, back))
         },
     )
 }

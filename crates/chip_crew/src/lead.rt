@@ -1,14 +1,15 @@
 //! What worker 0 does beside: it seals, it feeds, and it polls the root.
 
 ghost use Rattle.std.specs.Prelude.{◌≡◌, ◌<◌, IfSome};
+ghost use Rattle.std.specs.Option.{option_copied};
 ghost use Rattle.chip_part.specs.Edges.{graph_edges};
-ghost use Rattle.chip_crew.specs.Handed.{Heeds, IsLead};
+ghost use Rattle.chip_crew.specs.Handed.{Fits, HasMade, Heeds, IsLead};
 ghost use Rattle.chip_crew.specs.Sealing.{SealsBefore};
 
 use crate::feeding::feed_once;
 use crate::plan::{Gate, SealAt};
 use crate::queue::Crew;
-use crate::worker::{Handed, Shared};
+use crate::worker::{Handed, Hands, Shared};
 use chip_net::{Net, Root, RootState, Stopper};
 use std::marker::{Model, PhantomData};
 use std::sync::atomic::Ordering::SeqCst;
@@ -16,7 +17,7 @@ use std::sync::atomic::Ordering::SeqCst;
 /// What worker 0 has beside its actors.
 #[derive(Drop)]
 pub(crate) struct Lead<'a> {
-    /// The root, which it polls after each of its turns.
+    /// The root, which it polls after each of its rounds.
     pub root: Root,
     /// What it feeds, a vertex and its chips each, before it notes the end; `None` where the end is noted.
     pub feeds: Option<&'a [(u64, u64)]>,
@@ -24,13 +25,15 @@ pub(crate) struct Lead<'a> {
     pub seal: Option<(Stopper, SealAt)>,
 }
 
-/// What worker 0 hands back, of which it is known that it polled the root once in each of its turns.
+/// What worker 0 hands back, of which it is known that it polled the root after each of its rounds.
 #[derive(Drop)]
 pub(crate) struct LeadHanded<B: Crew> {
     /// As of every worker.
     pub handed: Handed,
     /// The root.
     pub root: Root,
+    /// How many turns make a round.
+    pub round: u64,
     /// The stopper, and what it was to seal.
     pub seal: Option<(Stopper, SealAt)>,
     pub of: PhantomData<B>,
@@ -44,7 +47,7 @@ impl<B: Crew> Model for LeadHanded<B> {
 
     ghost view = { λ a. a.root };
 
-    ghost invariant = { λ a. HasLed B.crew B.feeds B.seal B.root B.turns (B.passes 0) B.shut a.handed a.root a.seal };
+    ghost invariant = { λ a. HasLed B.crew B.feeds B.seal B.root B.turns (B.passes 0) B.shut a.handed a.root a.round a.seal };
 }
 
 /// Seals, where this is the turn for it.
@@ -61,9 +64,11 @@ fn seal_before(net: &Net, seal: &mut Option<(Stopper, SealAt)>, turn: u64)
 }
 
 impl<'a, B: Crew, G: Gate> Shared<'a, B, G> {
-    /// The turns of worker 0, with a feed before and a poll after each, until the root is closed or it is told to stop,
-    /// where it tells the others.
-    pub fn lead(&self, lead: Lead) -> LeadHanded<B>
+    /// The turns of worker 0, with a feed before each and a poll after each round, until the root is closed or it is told to
+    /// stop, where it tells the others.
+    pub fn lead(&self, lead: Lead, mut hands: Hands) -> LeadHanded<B>
+        requires fits { Fits (option_copied self.now.queue) hands }
+        requires made { HasMade B.crew 0 (B.passes 0) 0 hands }
         requires net { self.now.net.now ≡ B.crew.net }
         requires turns { self.now.turns ≡ B.turns }
         requires lead { IsLead B.crew B.feeds B.seal B.root lead }
@@ -74,8 +79,7 @@ impl<'a, B: Crew, G: Gate> Shared<'a, B, G> {
             mut feeds,
             mut seal,
         } = lead;
-        let mut pass = self.queue.pass();
-        let mut kept = None;
+        let round = hands.round();
         let mut turns = 0;
         let mut passed = true;
         for turn in 0..self.turns {
@@ -90,8 +94,11 @@ impl<'a, B: Crew, G: Gate> Shared<'a, B, G> {
             }
             seal_before(self.net, &mut seal, turn);
             feeds = feed_once(self.net, &mut root, feeds);
-            kept = self.one_turn(0, turn, &mut pass, kept);
+            self.one_turn(0, turn, &mut hands);
             turns = turn + 1;
+            if turns % round != 0 {
+                continue;
+            }
             match root.poll(self.net) {
                 RootState::Running(0) => {}
                 RootState::Running(deficit) => self.gate.polled(turn, deficit),
@@ -103,12 +110,12 @@ impl<'a, B: Crew, G: Gate> Shared<'a, B, G> {
         }
         LeadHanded {
             handed: Handed {
-                kept,
+                hands,
                 passed,
                 turns,
-                pass,
             },
             root,
+            round,
             seal,
             of: PhantomData,
         }

@@ -1,10 +1,12 @@
-//! What each worker of a running net does. Workers share the net's actors by one bounded queue.
+//! What each worker of a running net does. Workers share the net's actors by one bounded queue, or each has its own.
 //!
 //! The rule of the queue (`queue.rt`) is that every actor in it was opened by this net. A worker takes an actor,
-//! gives it a turn and puts it back (`worker.rt`); worker 0 has also the root, which it feeds (`feeding.rt`) and polls,
-//! and the stopper (`lead.rt`). Once all have ended there is a last poll (`ending.rt`), and the actors are gathered (`gathering.rt`).
+//! gives it a turn and puts it back (`worker.rt`); where the actors are dealt out (`dealing.rt`) it gives each of its
+//! own a turn, round by round. Worker 0 has also the root, which it feeds (`feeding.rt`) and polls, and the stopper
+//! (`lead.rt`). Once all have ended there is a last poll (`ending.rt`), and the actors are gathered (`gathering.rt`).
 #![tactic(auto)]
 
+mod dealing;
 mod ending;
 mod fault;
 mod feeding;
@@ -17,5 +19,5 @@ mod queue;
 mod worker;
 
 pub use fault::CrewFault;
-pub use plan::{Gate, MAX_TRACE_ROWS, MAX_TURNS, MAX_WORKERS, Plan, SealAt};
+pub use plan::{Gate, MAX_TRACE_ROWS, MAX_TURNS, MAX_WORKERS, Plan, SealAt, Sharing};
 pub use play::{Finished, run, run_fed, run_with};

@@ -45,6 +45,15 @@ pub struct SealAt {
     pub edge: u64,
 }
 
+/// How the workers of a crew share its actors.
+#[derive(Clone, Copy)]
+pub enum Sharing {
+    /// All actors wait in one queue. Whoever takes one gives it a turn and puts it back.
+    Queue,
+    /// Each worker has the actors of a run of vertices, and nobody else touches them.
+    Dealt,
+}
+
 /// How a crew is to work.
 #[derive(Clone, Copy)]
 pub struct Plan {
@@ -52,7 +61,7 @@ pub struct Plan {
     pub workers: u64,
     /// How many cells the ring of each edge has, 1 to `MAX_RING`.
     pub ring: u64,
-    /// How many turns each worker makes at most, 1 to `MAX_TURNS`.
+    /// How many turns each worker makes at most, 1 to `MAX_TURNS`. In each it gives one actor a turn.
     pub turns: u64,
     /// How many rows of its trace each actor has room for, up to `MAX_TRACE_ROWS`.
     pub trace_rows: u64,

@@ -3,24 +3,27 @@
 ghost use Rattle.std.specs.Prelude.{◌≡◌, ◌<◌, ◌≤◌, true, [], All, length, Some, None, IfOk, IfErr, IfSome};
 ghost use Rattle.std.specs.Vec.{vec_capacity};
 ghost use Rattle.chip_net.specs.Roots.{RootKnown};
-ghost use Rattle.chip_crew.specs.Handed.{HasPolled, IsLead, AllHeed};
+ghost use Rattle.chip_crew.specs.Handed.{HasPolled, IsLead, AllHeed, AreReady};
+ghost use Rattle.chip_crew.specs.Plans.{max_workers};
+ghost use Rattle.chip_crew.specs.declared.plan.Sharing.TheVariants as shares;
 ghost use Rattle.chip_crew.specs.Sealing.{HasSealed};
 ghost use Rattle.crossbeam_queue.specs.Passes.{IsPassOf};
 ghost use Rattle.std.specs.Option.{option_copied, option_zip};
-ghost use Rattle.chip_crew.specs.Crew.{IsOurs};
+ghost use Rattle.chip_crew.specs.Crew.{IsOurs, AreFrom};
 ghost use Rattle.chip_crew.specs.Feeding.{MayFeedLeft};
-ghost use Rattle.chip_crew.specs.Gathering.{IsGathering};
+ghost use Rattle.chip_crew.specs.Gathering.{IsGathering, AreBack};
 ghost use Rattle.chip_crew.specs.Finished.{HasFinished, IsFinished, IsClosing, IsStopped, IsFaultOf};
 
+use crate::dealing::deal;
 use crate::ending::{last_poll, take_back};
 use crate::fault::CrewFault;
-use crate::gathering::{Gathering, gather, new_gathering, note};
+use crate::gathering::{Back, Gathering, all_back, new_gathering, note};
 use crate::joining::{Joined, Started, run_workers};
 use crate::lead::Lead;
-use crate::plan::{Gate, Plan};
+use crate::plan::{Gate, Plan, Sharing};
 use crate::queue::{Crew, Puts, Queue, QueuePass, Takes};
-use crate::worker::Shared;
-use chip_graph::Game;
+use crate::worker::{Hands, Shared};
+use chip_graph::{Game, Graph};
 use chip_net::{Actor, Net, Opened, Receipt, Root};
 use chip_part::Setting;
 use chip_sequence::Outcome;
@@ -62,11 +65,11 @@ fn fill<B: Crew>(
 }
 
 /// Notes all actors that are in the queue.
-fn drain<B: Crew>(queue: &Queue<B>, mut pass: QueuePass, gathering: &mut Gathering)
-    requires pass { IsPassOf queue.now pass }
+fn drain<B: Crew>(queue: &Queue<B>, gathering: &mut Gathering)
     requires gathering { IsGathering B.crew gathering.old }
     ensures gathering { IsGathering B.crew gathering.new }
 {
+    let mut pass = queue.pass();
     for _ in 0..queue.capacity() {
         match queue.try_pop_as::<Takes<B>>(&mut pass) {
             Some(actor) => note::<B>(gathering, actor),
@@ -75,30 +78,45 @@ fn drain<B: Crew>(queue: &Queue<B>, mut pass: QueuePass, gathering: &mut Gatheri
     }
 }
 
+/// Notes the actors that are left in the queue, where there is one.
+fn take_left<B: Crew>(queue: &Option<Queue<B>>, back: &mut Back)
+    requires back { AreBack B.crew B.crew.workers back.old }
+    ensures back { AreBack B.crew B.crew.workers back.new }
+{
+    let Some(queue) = queue else {
+        return;
+    };
+    if let Back::Queue(gathering) = back {
+        drain(queue, gathering);
+    }
+}
+
 /// Tells how it ended, once all workers have.
 fn end_play<B: Crew>(net: &Net, joined: Joined, turns: u64) -> Result<Finished, CrewFault>
     requires net { net.now ≡ B.crew.net }
     requires turns { turns ≡ B.turns }
-    requires root { HasPolled B.crew B.feeds B.root B.turns joined.root joined.polls }
-    requires seal { HasSealed B.crew B.seal joined.polls joined.seal }
-    requires gathering { IsGathering B.crew joined.gathering }
+    requires root { HasPolled B.crew B.feeds B.root B.turns joined.root joined.round joined.turns }
+    requires seal { HasSealed B.crew B.seal joined.turns joined.seal }
+    requires back { AreBack B.crew B.crew.workers joined.back }
+    requires some { 0 < B.crew.workers }
     ensures passed { IfOk result (λ _. joined.passed ≡ true) }
     ensures finished { IfOk result (HasFinished B.crew B.feeds B.seal B.root) }
     ensures stopped { IfErr result (IsClosing B.crew B.feeds B.seal B.root B.turns joined) }
 {
     let Joined {
         mut root,
-        polls,
+        turns: made,
+        round,
         seal,
-        gathering,
+        back,
         passed,
     } = joined;
     if !passed {
         return Err(CrewFault::GateShut);
     }
-    let mut actors = gather::<B>(gathering)?;
+    let mut actors = all_back::<B>(back)?;
     take_back(net, &mut root, seal);
-    match last_poll(net, root, polls, turns) {
+    match last_poll(net, root, made / round, turns / round) {
         Ok((outcome, mut receipt)) => {
             receipt.meet(net, &mut actors);
             Ok(Finished {
@@ -113,36 +131,108 @@ fn end_play<B: Crew>(net: &Net, joined: Joined, turns: u64) -> Result<Finished, 
 
 /// What a crew needs beside its net. All its memory is taken here, before a worker starts.
 struct Prepared<B: Crew> {
-    queue: Queue<B>,
-    pass: QueuePass,
+    queue: Option<Queue<B>>,
+    hands: Vec<Hands>,
     others: Vec<Started<B>>,
-    gathering: Gathering,
+    back: Back,
 }
 
-/// What a crew of so many workers begins with: the actors in their queue.
-fn prepare<B: Crew>(
+/// What so many workers begin with that share a queue.
+fn passes<B: Crew>(alloc: Global, queue: &Queue<B>, workers: u64) -> Result<Vec<Hands>, AllocError>
+    requires sharing { B.crew.sharing ≡ shares.Queue }
+    ensures count { IfOk result (λ hands. length hands.items ≡ workers) }
+    ensures hands { IfOk result (λ hands. AreReady B.crew B.passes (Some queue.now) hands.items) }
+{
+    let mut hands = Vec::with_capacity(alloc, workers as usize)?;
+    for _ in 0..workers {
+        hands.push_reserved(Hands::Queue {
+            pass: queue.pass(),
+            kept: None,
+        });
+    }
+    Ok(hands)
+}
+
+/// What a crew begins with whose actors are in a queue.
+fn prepare_queue<B: Crew>(
     alloc: Global,
     actors: Vec<Actor>,
-    workers: usize,
+    workers: u64,
 ) -> Result<Prepared<B>, AllocError>
-    requires actors { All (IsOurs B.crew) actors.items }
+    requires sharing { B.crew.sharing ≡ shares.Queue }
+    requires actors { AreFrom B.crew 0 actors.items }
     requires count { length actors.items ≡ B.crew.net.setting.game.graph.vertices }
     requires some { 0 < B.crew.net.setting.game.graph.vertices }
-    ensures pass { IfOk result (λ k. IsPassOf k.queue k.pass) }
     ensures others { IfOk result (λ k. (k.others.items ≡ []) × (workers ≤ vec_capacity k.others)) }
-    ensures gathering { IfOk result (λ k. IsGathering B.crew k.gathering) }
+    ensures back { IfOk result (λ k. AreBack B.crew 0 k.back) }
+    ensures count { IfOk result (λ k. length k.hands.items ≡ workers) }
+    ensures hands { IfOk result (λ k. AreReady B.crew B.passes k.queue k.hands.items) }
 {
     let vertices = actors.len();
     let mut gathering = new_gathering::<B>(alloc, vertices)?;
-    let others = Vec::with_capacity(alloc, workers)?;
+    let others = Vec::with_capacity(alloc, workers as usize)?;
     let (queue, mut pass) = Queue::<B>::ruled(alloc, vertices)?;
     fill(&queue, &mut pass, actors, &mut gathering);
+    let hands = passes(alloc, &queue, workers)?;
     Ok(Prepared {
-        queue,
-        pass,
+        queue: Some(queue),
+        hands,
         others,
-        gathering,
+        back: Back::Queue(gathering),
     })
+}
+
+/// What a crew begins with whose actors are dealt out.
+fn prepare_dealt<B: Crew>(
+    alloc: Global,
+    graph: &Graph,
+    actors: Vec<Actor>,
+    workers: u64,
+) -> Result<Prepared<B>, AllocError>
+    requires sharing { B.crew.sharing ≡ shares.Dealt }
+    requires graph { graph.now ≡ B.crew.net.setting.game.graph }
+    requires workers { (0 < workers) × (workers ≤ max_workers) × (workers ≡ B.crew.workers) }
+    requires actors { AreFrom B.crew 0 actors.items }
+    requires count { length actors.items ≡ B.crew.net.setting.game.graph.vertices }
+    ensures others { IfOk result (λ k. (k.others.items ≡ []) × (workers ≤ vec_capacity k.others)) }
+    ensures back { IfOk result (λ k. AreBack B.crew 0 k.back) }
+    ensures count { IfOk result (λ k. length k.hands.items ≡ workers) }
+    ensures hands { IfOk result (λ k. AreReady B.crew B.passes k.queue k.hands.items) }
+{
+    let row = Vec::with_capacity(alloc, actors.len())?;
+    let others = Vec::with_capacity(alloc, workers as usize)?;
+    let hands = deal::<B>(alloc, graph, actors, workers)?;
+    Ok(Prepared {
+        queue: None,
+        hands,
+        others,
+        back: Back::Dealt(row),
+    })
+}
+
+/// What a crew of so many workers begins with that share the actors in this way.
+fn prepare<B: Crew>(
+    alloc: Global,
+    graph: &Graph,
+    actors: Vec<Actor>,
+    workers: u64,
+    sharing: Sharing,
+) -> Result<Prepared<B>, AllocError>
+    requires sharing { sharing ≡ B.crew.sharing }
+    requires graph { graph.now ≡ B.crew.net.setting.game.graph }
+    requires workers { (0 < workers) × (workers ≤ max_workers) × (workers ≡ B.crew.workers) }
+    requires actors { AreFrom B.crew 0 actors.items }
+    requires count { length actors.items ≡ B.crew.net.setting.game.graph.vertices }
+    requires some { 0 < B.crew.net.setting.game.graph.vertices }
+    ensures others { IfOk result (λ k. (k.others.items ≡ []) × (workers ≤ vec_capacity k.others)) }
+    ensures back { IfOk result (λ k. AreBack B.crew 0 k.back) }
+    ensures count { IfOk result (λ k. length k.hands.items ≡ workers) }
+    ensures hands { IfOk result (λ k. AreReady B.crew B.passes k.queue k.hands.items) }
+{
+    match sharing {
+        Sharing::Queue => prepare_queue(alloc, actors, workers),
+        Sharing::Dealt => prepare_dealt(alloc, graph, actors, workers),
+    }
 }
 
 /// All workers work until they have ended, and the actors are gathered.
@@ -155,9 +245,11 @@ fn work_all<R: Threads + Wait, B: Crew + Send + Sync, G: Gate + Sync>(
     gate: &G,
 ) -> Result<Finished, CrewFault>
     requires net { net.now ≡ B.crew.net }
-    requires pass { IsPassOf prepared.queue prepared.pass }
     requires others { (prepared.others.items ≡ []) × (plan.now.workers ≤ vec_capacity prepared.others) }
-    requires gathering { IsGathering B.crew prepared.gathering }
+    requires back { AreBack B.crew 0 prepared.back }
+    requires count { length prepared.hands.items ≡ plan.now.workers }
+    requires hands { AreReady B.crew B.passes prepared.queue prepared.hands.items }
+    requires workers { (plan.now.workers ≡ B.crew.workers) × (B.crew.workers ≤ max_workers) }
     requires turns { plan.now.turns ≡ B.turns }
     requires lead { IsLead B.crew B.feeds B.seal B.root lead }
     requires some_workers { 0 < plan.now.workers }
@@ -167,20 +259,20 @@ fn work_all<R: Threads + Wait, B: Crew + Send + Sync, G: Gate + Sync>(
 {
     let Prepared {
         queue,
-        pass,
+        hands,
         others,
-        gathering,
+        back,
     } = prepared;
     let stop = AtomicBool::new(false);
     let shared = Shared {
         net,
-        queue: &queue,
+        queue: queue.as_ref(),
         stop: &stop,
         gate,
         turns: plan.turns,
     };
-    let mut joined = run_workers(rt, &shared, lead, plan.workers, others, gathering)?;
-    drain(&queue, pass, &mut joined.gathering);
+    let mut joined = run_workers(rt, &shared, lead, hands, others, back)?;
+    take_left(&queue, &mut joined.back);
     end_play::<B>(net, joined, plan.turns)
 }
 
@@ -189,19 +281,23 @@ fn play_on<R: Threads + Wait, B: Crew + Send + Sync, G: Gate + Sync>(
     rt: &R,
     alloc: Global,
     opened: Opened,
+    graph: &Graph,
     feeds: Option<&[(u64, u64)]>,
     plan: &Plan,
+    sharing: Sharing,
     gate: &G,
 ) -> Result<Finished, CrewFault>
     requires net { opened.net ≡ B.crew.net }
+    requires graph { graph.now ≡ B.crew.net.setting.game.graph }
     requires root { (opened.root ≡ B.root) × (opened.root.net ≡ B.crew.net) }
-    requires actors { All (IsOurs B.crew) opened.actors.items }
+    requires actors { AreFrom B.crew 0 opened.actors.items }
     requires seal { HasSealed B.crew B.seal 0 (option_zip opened.stopper plan.now.seal) }
     requires feeds { (option_copied feeds ≡ B.feeds) × MayFeedLeft B.root B.feeds }
     requires count { length opened.actors.items ≡ B.crew.net.setting.game.graph.vertices }
     requires some { 0 < B.crew.net.setting.game.graph.vertices }
     requires turns { plan.now.turns ≡ B.turns }
-    requires some_workers { 0 < plan.now.workers }
+    requires workers { (0 < plan.now.workers) × (plan.now.workers ≤ max_workers) × (plan.now.workers ≡ B.crew.workers) }
+    requires sharing { sharing ≡ B.crew.sharing }
     requires gate { AllHeed (G.may_answer gate.now) plan.now.workers plan.now.turns B.passes B.shut }
     ensures finished { IfOk result (HasFinished B.crew B.feeds B.seal B.root) }
     ensures stopped { IfErr result (IsStopped B.crew B.feeds B.seal B.root B.turns B.shut) }
@@ -217,36 +313,38 @@ fn play_on<R: Threads + Wait, B: Crew + Send + Sync, G: Gate + Sync>(
         feeds,
         seal: stopper.zip(plan.seal),
     };
-    let prepared = prepare::<B>(alloc, actors, plan.workers as usize)?;
+    let prepared = prepare::<B>(alloc, graph, actors, plan.workers, sharing)?;
     work_all(rt, &net, prepared, lead, plan, gate)
 }
 
-/// Plays a game on a net of its own by as many threads as the plan says, and feeds it where there are feeds: a vertex and
-/// a count of chips for it each.
+/// Plays a game on a net of its own by as many threads as the plan says, which share its actors in this way, and feeds it
+/// where there are feeds: a vertex and a count of chips for it each.
 ///
-/// Worker 0 polls the root after each turn of its own and ends the others' work once it is closed; when all have ended,
-/// the calling thread polls once more, or as often as worker 0 did not, and finishes. Before each turn of its own worker
-/// 0 makes the next feed, where the cell for its message is empty, and after the last one it notes that no more come.
-/// Without a seal the game ends as the one that has all these chips at the start. All threads are joined, whatever
-/// happens.
+/// Worker 0 polls the root after each round of its own and ends the others' work once it is closed; when all have ended,
+/// the calling thread polls once more, or as often as worker 0 did not, and finishes. With a queue each turn is a round.
+/// Where the actors are dealt out, a round is one turn of each actor that worker 0 has, and no answer is `Doubled` or
+/// `Lost`. Before each turn of its own worker 0 makes the next feed, where the cell for its message is empty, and after
+/// the last one it notes that no more come. Without a seal the game ends as the one that has all these chips at the
+/// start. All threads are joined, whatever happens.
 pub fn run_with<R: Threads + Wait, G: Gate + Sync>(
     rt: &R,
     alloc: Global,
     game: &Game,
     plan: Plan,
+    sharing: Sharing,
     feeds: Option<&[(u64, u64)]>,
     gate: &G,
 ) -> Result<Finished, CrewFault>
-    ensures finished { IfOk result (IsFinished game.now (option_copied feeds.entry) plan) }
-    ensures fault { IfErr result (IsFaultOf game.now (option_copied feeds.entry) plan (G.may_answer gate.now)) }
+    ensures finished { IfOk result (IsFinished sharing game.now (option_copied feeds.entry) plan) }
+    ensures fault { IfErr result (IsFaultOf sharing game.now (option_copied feeds.entry) plan (G.may_answer gate.now)) }
 {
     let ring = plan.ring_for(game, feeds)?;
     let setting = Setting::of_copy(alloc, game, ring, feeds.is_some())?;
     let opened = Net::of(alloc, setting, plan.trace_rows, plan.seal.is_some())?;
-    play_on::<R, Brand, G>(rt, alloc, opened, feeds, &plan, gate)
+    play_on::<R, Brand, G>(rt, alloc, opened, game.graph(), feeds, &plan, sharing, gate)
 }
 
-/// Does what `run_with` does where nothing is fed.
+/// Does what `run_with` does with a queue where nothing is fed.
 pub fn run<R: Threads + Wait, G: Gate + Sync>(
     rt: &R,
     alloc: Global,
@@ -254,13 +352,13 @@ pub fn run<R: Threads + Wait, G: Gate + Sync>(
     plan: Plan,
     gate: &G,
 ) -> Result<Finished, CrewFault>
-    ensures finished { IfOk result (IsFinished game.now None plan) }
-    ensures fault { IfErr result (IsFaultOf game.now None plan (G.may_answer gate.now)) }
+    ensures finished { IfOk result (IsFinished shares.Queue game.now None plan) }
+    ensures fault { IfErr result (IsFaultOf shares.Queue game.now None plan (G.may_answer gate.now)) }
 {
-    run_with(rt, alloc, game, plan, None, gate)
+    run_with(rt, alloc, game, plan, Sharing::Queue, None, gate)
 }
 
-/// Does what `run_with` does where there are feeds.
+/// Does what `run_with` does with a queue where there are feeds.
 pub fn run_fed<R: Threads + Wait, G: Gate + Sync>(
     rt: &R,
     alloc: Global,
@@ -269,8 +367,8 @@ pub fn run_fed<R: Threads + Wait, G: Gate + Sync>(
     feeds: &[(u64, u64)],
     gate: &G,
 ) -> Result<Finished, CrewFault>
-    ensures finished { IfOk result (IsFinished game.now (Some feeds.now) plan) }
-    ensures fault { IfErr result (IsFaultOf game.now (Some feeds.now) plan (G.may_answer gate.now)) }
+    ensures finished { IfOk result (IsFinished shares.Queue game.now (Some feeds.now) plan) }
+    ensures fault { IfErr result (IsFaultOf shares.Queue game.now (Some feeds.now) plan (G.may_answer gate.now)) }
 {
-    run_with(rt, alloc, game, plan, Some(feeds), gate)
+    run_with(rt, alloc, game, plan, Sharing::Queue, Some(feeds), gate)
 }

@@ -1,11 +1,13 @@
 //! What each worker does.
 
-ghost use Rattle.std.specs.Prelude.{◌≡◌, IfSome};
+ghost use Rattle.std.specs.Prelude.{◌≡◌, ◌+◌, IfSome};
+ghost use Rattle.std.specs.Option.{option_copied};
 ghost use Rattle.crossbeam_queue.specs.Passes.{view, IsPassOf};
 ghost use Rattle.chip_crew.specs.Crew.{IsOurs};
 ghost use Rattle.chip_crew.specs.Ledger.{IsNext, MakesOneTurn};
-ghost use Rattle.chip_crew.specs.Handed.{Heeds, IsHanded};
+ghost use Rattle.chip_crew.specs.Handed.{Fits, HasMade, Heeds, IsHanded, round_of};
 
+use crate::dealing::Dealt;
 use crate::plan::Gate;
 use crate::queue::{Crew, Puts, Queue, QueuePass, Takes};
 use chip_net::{Actor, Net, Turn};
@@ -18,8 +20,8 @@ use std::thread;
 pub(crate) struct Shared<'a, B: Crew, G: Gate> {
     /// The net.
     pub net: &'a Net,
-    /// The queue of its actors.
-    pub queue: &'a Queue<B>,
+    /// The queue of its actors, where they are not dealt out.
+    pub queue: Option<&'a Queue<B>>,
     /// Whether the workers are told to stop.
     pub stop: &'a AtomicBool,
     /// The gate.
@@ -28,97 +30,164 @@ pub(crate) struct Shared<'a, B: Crew, G: Gate> {
     pub turns: u64,
 }
 
+/// What a worker has of the actors.
+#[derive(Drop)]
+pub(crate) enum Hands {
+    /// Those that it takes from the queue.
+    Queue {
+        /// Its pass of the queue, which has what it took from there and put there.
+        pass: QueuePass,
+        /// The actor that it couldn't put back.
+        kept: Option<Actor>,
+    },
+    /// Those that were dealt to it.
+    Dealt(Dealt),
+}
+
+impl Hands {
+    /// How many turns make a round: one, or one for each actor that was dealt to the worker.
+    pub fn round(&self) -> u64
+        ensures { result ≡ round_of self.now }
+    {
+        match self {
+            Hands::Queue { .. } => 1,
+            Hands::Dealt(dealt) => dealt.round(),
+        }
+    }
+}
+
+/// The work of a worker other than worker 0, before it is begun. As one value it goes to the worker's thread.
+#[derive(Drop)]
+pub(crate) struct Task<'a, B: Crew, G: Gate> {
+    pub shared: &'a Shared<'a, B, G>,
+    /// The worker's number.
+    pub worker: u64,
+    pub hands: Hands,
+}
+
 /// What a worker hands back.
 #[derive(Drop)]
 pub(crate) struct Handed {
-    /// The actor that it couldn't put back.
-    pub kept: Option<Actor>,
+    /// The actors that it has, if any.
+    pub hands: Hands,
     /// Whether its gate never answered false.
     pub passed: bool,
     /// How many turns it made.
     pub turns: u64,
-    /// Its pass of the queue, which has what it took from there and put there.
-    pub pass: QueuePass,
+}
+
+/// The actor that was kept, else one from the queue.
+fn next_actor<B: Crew>(queue: &Queue<B>, pass: &mut QueuePass, kept: Option<Actor>) -> Option<Actor>
+    requires pass { IsPassOf queue.now pass.old }
+    requires kept { IfSome kept (IsOurs B.crew) }
+    ensures pass { IsPassOf queue.now pass.new }
+    ensures actor { IfSome result (IsOurs B.crew) }
+    ensures next { IsNext (view pass.old) (view pass.new) kept result }
+{
+    match kept {
+        Some(actor) => Some(actor),
+        None => queue.try_pop_as::<Takes<B>>(pass),
+    }
+}
+
+/// Takes an actor, gives it a turn and puts it back. An actor that was kept has its turn in place of one from the
+/// queue, and one that can't be put back is kept.
+fn turn_by_queue<B: Crew>(
+    net: &Net,
+    queue: &Queue<B>,
+    pass: &mut QueuePass,
+    kept: Option<Actor>,
+) -> Option<Actor>
+    requires net { net.now ≡ B.crew.net }
+    requires pass { IsPassOf queue.now pass.old }
+    requires kept { IfSome kept (IsOurs B.crew) }
+    ensures pass { IsPassOf queue.now pass.new }
+    ensures kept { IfSome result (IsOurs B.crew) }
+    ensures turn { MakesOneTurn (view pass.old) (view pass.new) kept result }
+{
+    let Some(mut actor) = next_actor(queue, pass, kept) else {
+        thread::yield_now();
+        return None;
+    };
+    let turn = actor.turn(net);
+    let back = queue.try_push_as::<Puts<B>>(pass, actor);
+    if matches!(turn, Turn::Waiting | Turn::Idle) {
+        thread::yield_now();
+    }
+    back.err()
 }
 
 impl<'a, B: Crew, G: Gate> Shared<'a, B, G> {
-    /// The actor that was kept, else one from the queue.
-    fn next_actor(&self, pass: &mut QueuePass, kept: Option<Actor>) -> Option<Actor>
-        requires pass { IsPassOf self.now.queue.now pass.old }
-        requires kept { IfSome kept (IsOurs B.crew) }
-        ensures pass { IsPassOf self.now.queue.now pass.new }
-        ensures actor { IfSome result (IsOurs B.crew) }
-        ensures next { IsNext (view pass.old) (view pass.new) kept result }
-    {
-        match kept {
-            Some(actor) => Some(actor),
-            None => self.queue.try_pop_as::<Takes<B>>(pass),
-        }
-    }
-
-    /// Takes an actor, gives it a turn and puts it back. An actor that was kept has its turn in place of one from the
-    /// queue, and one that can't be put back is kept. The worker's gate let this turn of it pass.
-    pub fn one_turn(
-        &self,
-        _worker: u64,
-        _turn: u64,
-        pass: &mut QueuePass,
-        kept: Option<Actor>,
-    ) -> Option<Actor>
-        requires passes { B.passes _worker _turn }
+    /// One turn of a worker, with an actor from the queue or with the next of its own. Its gate let this turn pass.
+    pub fn one_turn(&self, _worker: u64, turn: u64, hands: &mut Hands)
+        requires passes { B.passes _worker turn }
         requires net { self.now.net.now ≡ B.crew.net }
-        requires pass { IsPassOf self.now.queue.now pass.old }
-        requires kept { IfSome kept (IsOurs B.crew) }
-        ensures pass { IsPassOf self.now.queue.now pass.new }
-        ensures kept { IfSome result (IsOurs B.crew) }
-        ensures turn { MakesOneTurn (view pass.old) (view pass.new) kept result }
+        requires fits { Fits (option_copied self.now.queue) hands.old }
+        requires made { HasMade B.crew _worker (B.passes _worker) turn hands.old }
+        ensures fits { Fits (option_copied self.now.queue) hands.new }
+        ensures made { HasMade B.crew _worker (B.passes _worker) (turn + 1) hands.new }
     {
-        let Some(mut actor) = self.next_actor(pass, kept) else {
-            thread::yield_now();
-            return None;
-        };
-        let turn = actor.turn(self.net);
-        let back = self.queue.try_push_as::<Puts<B>>(pass, actor);
-        if matches!(turn, Turn::Waiting | Turn::Idle) {
-            thread::yield_now();
+        match hands {
+            Hands::Queue { pass, kept } => {
+                let Some(queue) = self.queue else {
+                    unreachable!()
+                };
+                *kept = turn_by_queue::<B>(self.net, queue, pass, kept.take());
+            }
+            Hands::Dealt(dealt) => dealt.one_turn(self.net, turn),
         }
-        back.err()
     }
 
     /// The turns of a worker other than worker 0, until it is told to stop.
-    pub fn work(&self, worker: u64) -> Handed
+    pub fn work(&self, worker: u64, mut hands: Hands) -> Handed
+        requires fits { Fits (option_copied self.now.queue) hands }
+        requires made { HasMade B.crew worker (B.passes worker) 0 hands }
         requires net { self.now.net.now ≡ B.crew.net }
         requires turns { self.now.turns ≡ B.turns }
         requires gate { Heeds (G.may_answer self.now.gate.now worker) self.now.turns (B.passes worker) B.shut }
-        ensures { IsHanded B.crew (B.passes worker) B.turns B.shut result }
+        ensures { IsHanded B.crew worker (B.passes worker) B.turns B.shut result }
     {
-        let mut pass = self.queue.pass();
-        let mut kept = None;
         for turn in 0..self.turns {
             if self.stop.load(SeqCst) {
                 return Handed {
-                    kept,
+                    hands,
                     passed: true,
                     turns: turn,
-                    pass,
                 };
             }
             if !self.gate.pass(worker, turn) {
                 self.stop.store(true, SeqCst);
                 return Handed {
-                    kept,
+                    hands,
                     passed: false,
                     turns: turn,
-                    pass,
                 };
             }
-            kept = self.one_turn(worker, turn, &mut pass, kept);
+            self.one_turn(worker, turn, &mut hands);
         }
         Handed {
-            kept,
+            hands,
             passed: true,
             turns: self.turns,
-            pass,
         }
+    }
+}
+
+impl<'a, B: Crew, G: Gate> Task<'a, B, G> {
+    /// Does the work.
+    pub fn run(self) -> Handed
+        requires fits { Fits (option_copied self.shared.now.queue) self.hands }
+        requires made { HasMade B.crew self.worker (B.passes self.worker) 0 self.hands }
+        requires net { self.shared.now.net.now ≡ B.crew.net }
+        requires turns { self.shared.now.turns ≡ B.turns }
+        requires gate { Heeds (G.may_answer self.shared.now.gate.now self.worker) self.shared.now.turns (B.passes self.worker) B.shut }
+        ensures { IsHanded B.crew self.entry.worker (B.passes self.entry.worker) B.turns B.shut result }
+    {
+        let Task {
+            shared,
+            worker,
+            hands,
+        } = self;
+        shared.work(worker, hands)
     }
 }

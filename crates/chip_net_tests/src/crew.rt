@@ -17,7 +17,7 @@ const TRIANGLE: [(u64, u64, u64); 4] = [(0, 1, 1), (0, 2, 1), (1, 0, 1), (1, 2, 
 const LIMIT: u64 = 1 << 40;
 
 /// Two workers, one cell for each edge, no trace and no seal, with turns enough.
-const PAIR: Plan = Plan {
+pub(crate) const PAIR: Plan = Plan {
     workers: 2,
     ring: 1,
     turns: 1 << 30,
@@ -26,7 +26,7 @@ const PAIR: Plan = Plan {
 };
 
 /// Lets every worker pass.
-struct Always;
+pub(crate) struct Always;
 
 impl Gate for Always {
     fn pass(&self, _worker: u64, _turn: u64) -> bool {
@@ -35,7 +35,7 @@ impl Gate for Always {
 }
 
 /// Lets no worker pass.
-struct Never;
+pub(crate) struct Never;
 
 impl Gate for Never {
     fn pass(&self, _worker: u64, _turn: u64) -> bool {
@@ -45,8 +45,8 @@ impl Gate for Never {
 
 /// Lets worker 0 pass. The others are held until it was asked, and then they do not pass.
 #[derive(Drop)]
-struct ZeroAlone {
-    asked: AtomicU64,
+pub(crate) struct ZeroAlone {
+    pub asked: AtomicU64,
 }
 
 impl Gate for ZeroAlone {
@@ -157,7 +157,7 @@ impl Gate for ShutAt {
 }
 
 /// The triangle with these chips.
-fn triangle(alloc: Global, chips: &[u64]) -> Result<Game, Fail> {
+pub(crate) fn triangle(alloc: Global, chips: &[u64]) -> Result<Game, Fail> {
     triangle_within(alloc, chips, LIMIT)
 }
 
@@ -185,7 +185,7 @@ fn finished<R: Threads + Wait + Sync + Abort, G: Gate + Sync>(
     }
 }
 
-fn expect_outcome(
+pub(crate) fn expect_outcome(
     rt: &impl Abort,
     outcome: &Outcome,
     fired: &[u64],
@@ -353,10 +353,10 @@ fn out_of_turns(rt: HostRuntime) -> Result<(), Fail> {
 
 /// Lets every worker pass, and notes what it is told of the polls.
 #[derive(Drop)]
-struct Noting {
-    polls: AtomicU64,
-    last_turn: AtomicU64,
-    most: AtomicU64,
+pub(crate) struct Noting {
+    pub polls: AtomicU64,
+    pub last_turn: AtomicU64,
+    pub most: AtomicU64,
 }
 
 impl Gate for Noting {

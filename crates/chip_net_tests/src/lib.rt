@@ -4,4 +4,6 @@
 #[cfg(test)]
 mod crew;
 #[cfg(test)]
+mod dealt;
+#[cfg(test)]
 mod net;

@@ -1,6 +1,12 @@
-use Rattle.std.proofs.Common.{◌≡◌, false}
-use Rattle.chip_crew.specs.Gathering.{IsGathering}
+use Rattle.std.proofs.Common.{◌≡◌, ◌+◌, false, length}
+use Rattle.chip_crew.specs.Crew.{EachFrom}
+use Rattle.chip_crew.specs.Gathering.{AreBack}
 use Rattle.chip_crew.proofs.joining.join_all.Given as goal
 
 abbrev pub invariant-loop-started : goal.invariant-loop-started
-invariant-loop-started g l = IsGathering g.B.Crew.crew l.gathering × (l.passed ≡ false → g.B.Crew.shut)
+invariant-loop-started g l = record {
+  back : AreBack g.B.Crew.crew l.worker l.back;
+  passed : l.passed ≡ false → g.B.Crew.shut;
+  workers : EachFrom (λ worker s. s.promise.worker ≡ worker) l.worker l.started-iterator.rest.items;
+  left : l.worker + length l.started-iterator.rest.items ≡ g.B.Crew.crew.workers;
+}

@@ -6,7 +6,12 @@ use Rattle.chip_crew.proofs.play.run_with.Given as goal
 -- the crew of this net
 abbrev pub ghosts-play_on : goal.ghosts-play_on
 ghosts-play_on g a = record {
-  crew = record { net = a.opened.net; room = a.plan.now.trace_rows };
+  crew = record {
+    net = a.opened.net;
+    room = a.plan.now.trace_rows;
+    workers = a.plan.now.workers;
+    sharing = a.sharing;
+  };
   root = a.opened.root;
   feeds = option_copied a.feeds;
   seal = a.plan.now.seal;

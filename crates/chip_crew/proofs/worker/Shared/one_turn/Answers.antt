@@ -1,7 +1,22 @@
-use Rattle.std.proofs.Common.{rules}
-use Rattle.chip_crew.proofs.QueueingLemmas.{puts}
-use Rattle.chip_crew.proofs.OwningLemmas.{still_ours}
+use Rattle.std.proofs.Common.{Option, subst}
+use Rattle.crossbeam_queue.specs.Passes.{view}
+use Rattle.chip_net.specs.Tokens.{ActorKnown}
+use Rattle.chip_crew.specs.Ledger.{MakesOneTurn}
+use Rattle.chip_crew.proofs.HandsLemmas.{nets_by, queue_more, dealt_more}
 use Rattle.chip_crew.proofs.worker.Shared.one_turn.Goals as goal
 
-pub try_push_as-back-requires-clause-rule : goal.try_push_as-back-requires-clause-rule
-try_push_as-back-requires-clause-rule g c = puts g.B.Crew.crew _ _ _ _ (search (rules, still_ours))
+pub one_turn-requires : goal.one_turn-requires
+one_turn-requires g c = nets_by g.B.Crew.crew c.args._worker (g.B.Crew.passes c.args._worker) c.args.turn c.args.hands.now
+    c.in-Dealt.dealt _ c.in-Dealt.is c.requires.net c.requires.made
+
+pub returns-in-Some-clause-made : goal.returns-in-Some-clause-made
+returns-in-Some-clause-made g c = queue_more g.B.Crew.crew c.args._worker (g.B.Crew.passes c.args._worker) c.args.turn
+    c.args.hands.now c.in-Queue.pass c.turn_by_queue.new.pass c.in-Queue.kept c.turn_by_queue.result c.in-Queue.is
+    c.requires.made c.requires.passes
+    (subst (λ (k : Option ActorKnown). MakesOneTurn (view c.in-Queue.pass) (view c.turn_by_queue.new.pass) k c.turn_by_queue.result)
+    c.take.ensures.value c.turn_by_queue.ensures.turn) c.turn_by_queue.ensures.kept
+
+pub returns-in-Dealt-clause-made : goal.returns-in-Dealt-clause-made
+returns-in-Dealt-clause-made g c = dealt_more g.B.Crew.crew c.args._worker (g.B.Crew.passes c.args._worker) c.args.turn
+    c.args.hands.now c.in-Dealt.dealt c.one_turn.new.self c.in-Dealt.is c.requires.made c.requires.passes
+    c.one_turn.ensures

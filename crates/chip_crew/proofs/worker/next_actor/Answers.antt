@@ -1,5 +1,5 @@
 use Rattle.chip_crew.proofs.QueueingLemmas.{takes}
-use Rattle.chip_crew.proofs.worker.Shared.next_actor.Goals as goal
+use Rattle.chip_crew.proofs.worker.next_actor.Goals as goal
 
 pub try_pop_as-requires-clause-rule : goal.try_pop_as-requires-clause-rule
 try_pop_as-requires-clause-rule g c = takes g.B.Crew.crew _ _

@@ -1,0 +1,180 @@
+-- Serves Dealing.antt, Rounds.antt.
+-- Where the run of a worker begins and ends, and what its turns leave of it.
+use Rattle.std.proofs.Common.{◌≡◌, ℕ, zero, suc, ◌+◌, ◌%◌, ◌<◌, ◌≤◌, ◌-◌, ◌==◌, max, Bool, true, false, if◌then◌else◌, List, [], ◌∷◌, length}
+use Rattle.std.proofs.Common.{Option, Some, None, take, length-append, length-take}
+use Rattle.std.proofs.Common.{refl, sym, ap, ◌∙◌, subst, arith, add-one, mul-lt-mul_of_pos_right}
+use Rattle.std.proofs.Common.{mul_comm}
+use Rattle.std.specs.Prelude.{slice_get}
+use Rattle.std.proofs.lemmas.Nat.{mul-le}
+use Rattle.std.proofs.lemmas.List.{length-set}
+use mathlib.Core.Logic.{dite}
+use native.Mathlib.Decide.{ℕ_discrete}
+use Rattle.chip_graph.specs.Sums.{picked}
+use Rattle.chip_graph.specs.Multigraph.{Multigraph, edge_at, edges_out, edges_in}
+use Rattle.chip_net.specs.Tokens.{ActorKnown, MakesTurn}
+use Rattle.chip_net.specs.declared.actor.Turn.{Turn}
+use Rattle.chip_crew.specs.Crew.{CrewId, IsAt, AreFrom}
+use Rattle.chip_crew.specs.Dealing.{ends_at, ends_before, IsCut, IsFirstOf, AreOf}
+use Rattle.chip_crew.specs.Rounds.{TurnsThere, TurnsAt, RoundsMade}
+use Rattle.chip_crew.proofs.RunLemmas.{from_at, from_set, from_take}
+
+-- at most so many are picked
+one_at_most : (b : Bool) (n : ℕ) → length (if b then n ∷ [] else []) ≤ 1
+one_at_most true n = omega arith
+one_at_most false n = omega arith
+
+pub few_picked : (test : ℕ → Bool) (n : ℕ) → length (picked test n) ≤ n
+few_picked test zero = omega arith
+few_picked test (suc n) =
+    let both = length-append (picked test n) (if test n then n ∷ [] else []) in
+    let one = one_at_most (test n) n in let before = few_picked test n in omega (arith, both, one, before)
+
+-- few ends of edges are at a vertex
+pub few_ends : (G : Multigraph) (v : ℕ) → length G.edges ≤ 65536 → ends_at G v ≤ 131073
+few_ends G v few =
+    let outs = few_picked (λ e. (edge_at G e).tail == v) (length G.edges) in
+    let ins = few_picked (λ e. (edge_at G e).head == v) (length G.edges) in omega (arith, few, outs, ins)
+
+module _ (G : Multigraph) where
+  -- each vertex has an end of an edge
+  one_more : (n a b : ℕ) → n < n + (a + b + 1)
+  one_more n a b = omega arith
+
+  pub ends_grow : (v w : ℕ) → v < w → ends_before G v < ends_before G w
+  ends_grow v zero less = absurd (omega (arith, less))
+  ends_grow v (suc w) less =
+      let more : ends_before G w < ends_before G (suc w) =
+      one_more (ends_before G w) (length (edges_out G w)) (length (edges_in G w)) in
+      dite (ℕ_discrete v w)
+      (λ same. subst (λ (u : ℕ). ends_before G u < ends_before G (suc w)) (sym same) more)
+      (λ other. let below = ends_grow v w (omega (arith, less, other)) in omega (arith, below, more))
+
+  module _ (workers : ℕ) where
+    -- the first worker begins at vertex 0
+    pub cut_zero : IsCut G workers 0 0
+    cut_zero = record { reached = omega arith; least = λ u less. absurd (omega (arith, less)) }
+
+    pub cut_first : (v : ℕ) → IsCut G workers 0 v → v ≡ 0
+    cut_first zero cut = refl
+    cut_first (suc v) cut = let below = cut.least 0 (omega arith) in absurd (omega (arith, below))
+
+    -- a worker begins at one vertex
+    not_less : (worker v w : ℕ) → IsCut G workers worker v → IsCut G workers worker w → v < w → ⊥
+    not_less worker v w cut other less = let below = other.least v less in let reached = cut.reached in
+        absurd (omega (arith, below, reached))
+
+    pub cut_same : (worker v w : ℕ) → IsCut G workers worker v → IsCut G workers worker w → v ≡ w
+    cut_same worker v w cut other = dite (ℕ_discrete v w) (λ same. same)
+        (λ different. absurd (by_order (λ less. not_less worker v w cut other less)
+        (λ less. not_less worker w v other cut less) different))
+      where
+        by_order : (v < w → ⊥) → (w < v → ⊥) → (v ≡ w → ⊥) → ⊥
+        by_order a b c = absurd (omega (arith, a, b, c))
+
+    -- it is a vertex, or the number of all
+    pub cut_within : (worker v : ℕ) → worker ≤ workers → IsCut G workers worker v → v ≤ G.vertices
+    cut_within worker v few cut = by_order (λ less.
+        let below = cut.least G.vertices less in
+        let share = mul-le worker (ends_before G G.vertices) workers (ends_before G G.vertices) few (omega arith) in
+        absurd (omega (arith, below, share)))
+      where
+        by_order : (G.vertices < v → ⊥) → v ≤ G.vertices
+        by_order a = omega (arith, a)
+
+    -- after the last worker there is no vertex
+    pub cut_last : (v : ℕ) → 0 < workers → IsCut G workers workers v → v ≡ G.vertices
+    cut_last v some cut =
+        let within = cut_within workers v (omega arith) cut in by_order within (λ less.
+        let grown = ends_grow v G.vertices less in
+        let more = mul-lt-mul_of_pos_right grown some in
+        let turned = mul_comm workers (ends_before G v) in
+        let turned_all = mul_comm workers (ends_before G G.vertices) in
+        let reached = cut.reached in
+        absurd (omega (arith, more, turned, turned_all, reached)))
+      where
+        by_order : v ≤ G.vertices → (v < G.vertices → ⊥) → v ≡ G.vertices
+        by_order a b = omega (arith, a, b)
+
+    -- the next worker begins there or behind
+    pub cut_grows : (worker v w : ℕ) → IsCut G workers worker v → IsCut G workers (worker + 1) w → v ≤ w
+    cut_grows worker v w cut next = by_order (λ less.
+        let below = cut.least w less in let reached = next.reached in
+        let share = mul-le worker (ends_before G G.vertices) (worker + 1) (ends_before G G.vertices) (omega arith)
+        (omega arith) in
+        absurd (omega (arith, below, reached, share)))
+      where
+        by_order : (w < v → ⊥) → v ≤ w
+        by_order a = omega (arith, a)
+
+-- ---- turns
+
+-- an actor that made a turn is still the crew's actor of its vertex
+still_at : (crew : CrewId) (v : ℕ) (old new : ActorKnown) (answer : Turn) → MakesTurn old new answer → IsAt crew v old
+    → IsAt crew v new
+still_at crew v old new answer makes here = subst (IsAt crew v) (sym makes.record_is) here
+
+turned : (crew : CrewId) (from place : ℕ) (old new : List ActorKnown) (next : Option ActorKnown)
+    → slice_get old place ≡ next → TurnsThere place next old new → AreFrom crew from old
+    → AreFrom crew from new × (length new ≡ length old)
+turned crew from place old new None at same all =
+    (subst (AreFrom crew from) (sym same) all, ap length same)
+turned crew from place old new (Some next) at turns all = (
+  subst (AreFrom crew from) (sym turns.3) (from_set (IsAt crew) from place old turns.0 all
+      (still_at crew (from + place) next turns.0 turns.1 turns.2 (from_at (IsAt crew) from place old next all at))),
+  ap length turns.3 ∙ length-set old place turns.0,
+)
+
+-- after one turn more they are the worker's still
+pub still_of : (crew : CrewId) (worker place : ℕ) (old new : List ActorKnown) → TurnsAt place old new
+    → AreOf crew worker old → AreOf crew worker new
+still_of crew worker place old new turns are =
+    let after = turned crew are.from place old new (slice_get old place) refl turns are.each in
+    record {
+      from = are.from;
+      is_first = are.is_first;
+      is_next = subst (λ (n : ℕ). IsCut crew.net.setting.game.graph crew.workers (suc worker) (are.from + n))
+          (sym after.1) are.is_next;
+      each = after.0;
+    }
+
+-- one turn more
+pub rounds_more : (passes : ℕ → Type 0) (k : ℕ) (first before now : List ActorKnown) → RoundsMade passes k first before
+    → passes k → TurnsAt (k % max 1 (length before)) before now → RoundsMade passes (k + 1) first now
+rounds_more passes k first before now made pass turns =
+    subst (λ (n : ℕ). RoundsMade passes n first now) (sym (add-one k)) (before, made, pass, turns)
+
+-- ---- dealing
+
+-- where the next worker begins
+pub record Follows (crew : CrewId) (worker first next count : ℕ) : Type 0 where
+  pub behind : first ≤ next
+  pub within : next ≤ crew.net.setting.game.graph.vertices
+  pub some : next - first ≤ count
+  pub is_next : IsFirstOf crew (worker + 1) next
+
+pub follows : (crew : CrewId) (G : Multigraph) (workers worker first next count : ℕ) → G ≡ crew.net.setting.game.graph
+    → workers ≡ crew.workers → worker < workers → IsFirstOf crew worker first
+    → first + count ≡ crew.net.setting.game.graph.vertices → IsCut G workers (worker + 1) next
+    → Follows crew worker first next count
+follows crew G workers worker first next count same few less is_first whole cut =
+    let graph = crew.net.setting.game.graph in
+    let is_next = subst (λ (z : Multigraph × ℕ). IsCut z.0 z.1 (worker + 1) next) (λ i. (same i, few i)) cut in
+    let behind = cut_grows graph crew.workers worker first next is_first is_next in
+    let within = cut_within graph crew.workers (worker + 1) next (omega (arith, less, few)) is_next in
+    record { behind = behind; within = within; some = omega (arith, behind, within, whole); is_next = is_next }
+
+-- the first ones of those that are left are the worker's
+pub are_of : (crew : CrewId) (worker first next : ℕ) (actors own : List ActorKnown) → IsFirstOf crew worker first
+    → Follows crew worker first next (length actors) → AreFrom crew first actors → own ≡ take (next - first) actors
+    → AreOf crew worker own
+are_of crew worker first next actors own is_first step are is =
+    let count : length own ≡ next - first = ap length is ∙ length-take (next - first) actors
+    ∙ (let some = step.some in omega (arith, some)) in
+    let behind = step.behind in
+    let end : next ≡ first + length own = omega (arith, count, behind) in
+    record {
+      from = first;
+      is_first = is_first;
+      is_next = subst (λ (z : ℕ × ℕ). IsFirstOf crew z.0 z.1) (λ i. (add-one worker i, end i)) step.is_next;
+      each = subst (AreFrom crew first) (sym is) (from_take (IsAt crew) first (next - first) actors are);
+    }

@@ -1,0 +1,66 @@
+-- Serves Crew.antt.
+-- Lists whose elements fit numbers that grow by one.
+use Rattle.std.proofs.Common.{◌≡◌, ℕ, zero, suc, ◌+◌, List, [], ◌∷◌, ◌++◌, length, take, drop, set, All, Some}
+use Rattle.std.proofs.Common.{refl, sym, ◌∙◌, subst, arith, add-one}
+use Rattle.std.specs.Prelude.{slice_get}
+use Rattle.chip_net.specs.Tokens.{ActorKnown}
+use Rattle.chip_crew.specs.Crew.{CrewId, IsOurs, IsAt, EachFrom, AreFrom, AreInOrder}
+use Rattle.chip_crew.proofs.GatheringLemmas.{same_some, none_some}
+
+module _ {X : Type 0} (P : ℕ → X → Type 0) where
+  at_number : (n m : ℕ) (x : X) → n ≡ m → P n x → P m x
+  at_number n m x same here = subst (λ (k : ℕ). P k x) same here
+
+  pub from_push : (n : ℕ) (xs : List X) (x : X) → EachFrom P n xs → P (n + length xs) x → EachFrom P n (xs ++ x ∷ [])
+  from_push n [] x all here = (at_number (n + 0) n x (omega arith) here, tt)
+  from_push n (y ∷ ys) x all here =
+      (all.0, from_push (suc n) ys x all.1 (at_number (n + suc (length ys)) (suc n + length ys) x (omega arith) here))
+
+  pub from_take : (n k : ℕ) (xs : List X) → EachFrom P n xs → EachFrom P n (take k xs)
+  from_take n zero xs all = tt
+  from_take n (suc k) [] all = tt
+  from_take n (suc k) (x ∷ xs) all = (all.0, from_take (suc n) k xs all.1)
+
+  pub from_drop : (n k : ℕ) (xs : List X) → EachFrom P n xs → EachFrom P (n + k) (drop k xs)
+  from_drop n zero xs all = let same : n ≡ n + 0 = omega arith in subst (λ (m : ℕ). EachFrom P m xs) same all
+  from_drop n (suc k) [] all = tt
+  from_drop n (suc k) (x ∷ xs) all =
+      let same : suc n + k ≡ n + suc k = omega arith in
+      subst (λ (m : ℕ). EachFrom P m (drop k xs)) same (from_drop (suc n) k xs all.1)
+
+  pub from_at : (n i : ℕ) (xs : List X) (x : X) → EachFrom P n xs → slice_get xs i ≡ Some x → P (n + i) x
+  from_at n i [] x all at = absurd (none_some x at)
+  from_at n zero (y ∷ ys) x all at = at_number n (n + 0) x (omega arith) (subst (P n) (same_some y x at) all.0)
+  from_at n (suc i) (y ∷ ys) x all at = at_number (suc n + i) (n + suc i) x (omega arith) (from_at (suc n) i ys x all.1 at)
+
+  pub from_set : (n i : ℕ) (xs : List X) (x : X) → EachFrom P n xs → P (n + i) x → EachFrom P n (set xs i x)
+  from_set n i [] x all here = tt
+  from_set n zero (y ∷ ys) x all here = (at_number (n + 0) n x (omega arith) here, all.1)
+  from_set n (suc i) (y ∷ ys) x all here =
+      (all.0, from_set (suc n) i ys x all.1 (at_number (n + suc i) (suc n + i) x (omega arith) here))
+
+  pub from_tail : (n : ℕ) (xs rest : List X) (x : X) → xs ≡ x ∷ rest → EachFrom P n xs → EachFrom P (n + 1) rest
+  from_tail n xs rest x is all = subst (λ (m : ℕ). EachFrom P m rest) (sym (add-one n)) (subst (EachFrom P n) is all).1
+
+  pub from_each : (n : ℕ) (xs : List X) → ((i : ℕ) (x : X) → slice_get xs i ≡ Some x → P (n + i) x) → EachFrom P n xs
+  from_each n [] each = tt
+  from_each n (x ∷ xs) each = (
+    at_number (n + 0) n x (omega arith) (each 0 x refl),
+    from_each (suc n) xs (λ i y at. at_number (n + suc i) (suc n + i) y (omega arith) (each (suc i) y at)),
+  )
+
+  pub from_all : (Q : X → Type 0) → ((n : ℕ) (x : X) → P n x → Q x) → (n : ℕ) (xs : List X) → EachFrom P n xs → All Q xs
+  from_all Q each n [] all k d less = absurd (omega (arith, less))
+  from_all Q each n (x ∷ xs) all zero d less = each n x all.0
+  from_all Q each n (x ∷ xs) all (suc k) d less = from_all Q each (suc n) xs all.1 k d (omega (arith, less))
+
+-- actors of consecutive vertices are the crew's
+pub ours_from : (crew : CrewId) (from : ℕ) (actors : List ActorKnown) → AreFrom crew from actors
+    → All (IsOurs crew) actors
+ours_from crew from actors all = from_all (IsAt crew) (IsOurs crew) (λ n a here. here.0) from actors all
+
+-- from vertex 0 on they are in order
+pub in_order : (crew : CrewId) (actors : List ActorKnown) → AreFrom crew 0 actors → AreInOrder crew actors
+in_order crew actors all v a at =
+    let here = from_at (IsAt crew) 0 v actors a all at in
+    let same : 0 + v ≡ v = omega arith in (here.0, here.1 ∙ same)

@@ -1,0 +1,32 @@
+use Rattle.std.proofs.Common.{rules, length, sym, ap, subst, arith}
+use Rattle.std.specs.Vec.{vec_capacity}
+use Rattle.chip_crew.specs.Gathering.{AreBack}
+use Rattle.chip_crew.specs.Handed.{HasMade}
+use Rattle.chip_crew.proofs.BackLemmas.{GoesBehind, goes_behind, behind_more, behind_fits}
+use Rattle.chip_crew.proofs.gathering.take_hands.Goals as goal
+
+pub loop-actor-init : goal.loop-actor-init
+loop-actor-init g c =
+    let row_is = (subst (AreBack g.B.Crew.crew c.args._worker) c.in-Dealt-back.is c.requires.back).1 in
+    let made = subst (HasMade g.B.Crew.crew c.args._worker (g.B.Crew.passes c.args._worker) c.args._turns) c.in-Dealt.is
+    c.requires.hands in
+    record {
+      goes = subst (GoesBehind g.B.Crew.crew c.args._worker c.in-Dealt-back.row.items)
+          (sym c.into_iter-actor-iterator.ensures.into_iter_gives.0)
+          (goes_behind g.B.Crew.crew c.args._worker c.in-Dealt-back.row.items (vec_capacity c.in-Dealt-back.row)
+          c.in-Dealt.dealt.actors.items row_is made.1);
+      room = row_is.has_room;
+    }
+
+pub push_reserved-requires : goal.push_reserved-requires
+push_reserved-requires g c =
+    let fits = behind_fits g.B.Crew.crew c.args._worker c.loop-actor.row.items _ c.requires.worker c.loop-actor.invariant.goes in
+    let one = ap length c.in-Some-actor.ensures.steps.0 in
+    let room = c.loop-actor.invariant.room in omega (arith, fits, one, room)
+
+pub loop-actor-preserved : goal.loop-actor-preserved
+loop-actor-preserved g c = record {
+  goes = behind_more g.B.Crew.crew c.args._worker c.loop-actor.row.items _ _ _ c.in-Some-actor.actor
+      c.push_reserved.ensures.items c.in-Some-actor.ensures.steps.0 c.loop-actor.invariant.goes;
+  room = search rules;
+}

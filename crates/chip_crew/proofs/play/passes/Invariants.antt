@@ -1,0 +1,11 @@
+use Rattle.std.proofs.Common.{◌≡◌, ◌≤◌, Some, length}
+use Rattle.std.specs.Vec.{vec_capacity}
+use Rattle.chip_crew.specs.Handed.{AreReady}
+use Rattle.chip_crew.proofs.play.passes.Given as goal
+
+abbrev pub invariant-loop : goal.invariant-loop
+invariant-loop g l = record {
+  hands : AreReady g.B.Crew.crew g.B.Crew.passes (Some l.queue) l.hands.items;
+  count : length l.hands.items ≡ l.counter;
+  room : l.workers ≤ vec_capacity l.hands;
+}

@@ -34,6 +34,7 @@ use Rattle.chip_crew.specs.Plans.{is_fed_plan}
 use Rattle.chip_crew.specs.Feeding.{pairs}
 use Rattle.chip_crew.specs.Finished.{IsWhole, IsFinished}
 use Rattle.chip_crew.specs.declared.plan.Plan.{Plan}
+use Rattle.chip_crew.specs.declared.plan.Sharing.{Sharing}
 use Rattle.chip_crew.specs.declared.play.Finished.{Finished}
 use Rattle.chip_crew.proofs.FinishingLemmas.{net_is}
 use Rattle.chip_trace.specs.Interleaving.{IsInterleaving}
@@ -97,8 +98,8 @@ ring_is_some g feeds plan is =
     let r = (and_parts (a && b) c (and_parts (a && b && c) d q).0).0 in
     ltb-true 0 plan.ring (and_parts (nat_lt 0 plan.ring) (nat_le plan.ring max_ring) (and_parts a b r).1).0
 
-module _ (g : ChipGame) (feeds : Option (List (ℕ × ℕ))) (plan : Plan) (f : Finished) (game : IsGame g)
-    (is : IsFinished g feeds plan f) where
+module _ (shared : Sharing) (g : ChipGame) (feeds : Option (List (ℕ × ℕ))) (plan : Plan) (f : Finished) (game : IsGame g)
+    (is : IsFinished shared g feeds plan f) where
   abbrev its_setting : Setting
   its_setting = f.receipt.net.setting
 
@@ -139,44 +140,44 @@ module _ (g : ChipGame) (feeds : Option (List (ℕ × ℕ))) (plan : Plan) (f : 
       (is.finished.actors.count ∙ ap (λ (n : NetId). n.setting.game.graph.vertices) (sym net_of))
       (λ v a here. (is.finished.actors.order v a here).1) is.finished.run.actors_did f.outcome is.finished.run.outcome)
 
-unfed_crew_fits : (g : ChipGame) (plan : Plan) → IsGame g → (f : Finished) (is : IsFinished g None plan f)
+unfed_crew_fits : (shared : Sharing) (g : ChipGame) (plan : Plan) → IsGame g → (f : Finished) (is : IsFinished shared g None plan f)
     → FitTogether is.whole (all_rows f.actors.items) f.outcome
-unfed_crew_fits g plan game f is =
-    let t : Setting = its_setting g None plan f game is in
-    let off : t.fed ≡ false = ap (λ (u : Setting). u.fed) (setting_is g None plan f game is) in
-    let safe = its_game g None plan f game is in
-    let ring = its_ring g None plan f game is in
+unfed_crew_fits shared g plan game f is =
+    let t : Setting = its_setting shared g None plan f game is in
+    let off : t.fed ≡ false = ap (λ (u : Setting). u.fed) (setting_is shared g None plan f game is) in
+    let safe = its_game shared g None plan f game is in
+    let ring = its_ring shared g None plan f game is in
     let run = is.finished.run in
-    crew_fits g None plan f game is (unfed_has_one t safe ring run.log run.legal off)
-    ((unfed_is_the_start t safe ring run.log run.legal off).0 ∙ game_is g None plan f game is ∙ sym is.whole_is)
+    crew_fits shared g None plan f game is (unfed_has_one t safe ring run.log run.legal off)
+    ((unfed_is_the_start t safe ring run.log run.legal off).0 ∙ game_is shared g None plan f game is ∙ sym is.whole_is)
 
-fed_crew_fits : (g : ChipGame) (feeds : List (ℕ × ℕ)) (plan : Plan) (chips : List ℕ) → feeds ≡ feeds_of chips → IsGame g
-    → AreGivenOnce g feeds → (f : Finished) (is : IsFinished g (Some feeds) plan f)
+fed_crew_fits : (shared : Sharing) (g : ChipGame) (feeds : List (ℕ × ℕ)) (plan : Plan) (chips : List ℕ) → feeds ≡ feeds_of chips → IsGame g
+    → AreGivenOnce g feeds → (f : Finished) (is : IsFinished shared g (Some feeds) plan f)
     → FitTogether is.whole (all_rows f.actors.items) f.outcome
-fed_crew_fits g feeds plan chips feeds_are game once f is =
-    let t : Setting = its_setting g (Some feeds) plan f game is in
-    let safe = its_game g (Some feeds) plan f game is in
-    let ring = its_ring g (Some feeds) plan f game is in
+fed_crew_fits shared g feeds plan chips feeds_are game once f is =
+    let t : Setting = its_setting shared g (Some feeds) plan f game is in
+    let safe = its_game shared g (Some feeds) plan f game is in
+    let ring = its_ring shared g (Some feeds) plan f game is in
     let run = is.finished.run in
-    let same = game_is g (Some feeds) plan f game is in
-    let fed = fed_is g (Some feeds) plan f game is in
+    let same = game_is shared g (Some feeds) plan f game is in
+    let fed = fed_is shared g (Some feeds) plan f game is in
     let once_there : AreGivenOnce t.game (feeds_of chips) = subst (AreGivenOnce t.game) feeds_are
     (subst (λ (h : ChipGame). AreGivenOnce h feeds) (sym same) once) in
     let more : HasMore g feeds (played_game t run.log) =
     subst (λ (z : ChipGame × List (ℕ × ℕ)). HasMore z.0 z.1 (played_game t run.log)) (λ i. (same i, fed i))
     (given_by_the_record t safe ring run.log run.legal) in
-    crew_fits g (Some feeds) plan f game is
+    crew_fits shared g (Some feeds) plan f game is
     (given_once t safe ring run.log run.legal chips (fed ∙ feeds_are) once_there)
     (one_whole g (Some feeds) (played_game t run.log) is.whole more is.whole_is)
 
 -- ---- what `run` answers
 
-writes_by : (g : ChipGame) (feeds : Option (List (ℕ × ℕ))) (plan : Plan) (old new : Outputs) (ended : Ended)
+writes_by : (shared : Sharing) (g : ChipGame) (feeds : Option (List (ℕ × ℕ))) (plan : Plan) (old new : Outputs) (ended : Ended)
     → plan.seal ≡ None
-    → ((f : Finished) (is : IsFinished g feeds plan f) → FitTogether is.whole (all_rows f.actors.items) f.outcome)
-    → RunAnswersFor g feeds plan old new (Ok ended)
+    → ((f : Finished) (is : IsFinished shared g feeds plan f) → FitTogether is.whole (all_rows f.actors.items) f.outcome)
+    → RunAnswersFor shared g feeds plan old new (Ok ended)
     → (whole : ChipGame) × IsWhole g feeds whole × WritesOneRun whole old new ended.cut
-writes_by g feeds plan old new ended unsealed fits (actors, text, plays, records, out) =
+writes_by shared g feeds plan old new ended unsealed fits (actors, text, plays, records, out) =
     let o : Outcome = plays.crew.outcome in
     let whole : ChipGame = plays.finished.whole in
     let same_whole = one_whole g feeds plays.reports.0 whole plays.reports.1 plays.finished.whole_is in
@@ -195,41 +196,41 @@ writes_by g feeds plan old new ended unsealed fits (actors, text, plays, records
       },
     )
 
-unfed_writes : (g : ChipGame) (feeds : Option (List (ℕ × ℕ))) (plan : Plan) (old new : Outputs) (ended : Ended)
+unfed_writes : (shared : Sharing) (g : ChipGame) (feeds : Option (List (ℕ × ℕ))) (plan : Plan) (old new : Outputs) (ended : Ended)
     → IsGame g → MeansFed None g.graph.vertices feeds → plan.seal ≡ None
-    → RunAnswersFor g feeds plan old new (Ok ended) → WritesOneRun g old new ended.cut
-unfed_writes g (Some feeds) plan old new ended game fed unsealed answers = absurd fed
-unfed_writes g None plan old new ended game fed unsealed answers =
-    let (whole, whole_is, wrote) = writes_by g None plan old new ended unsealed (unfed_crew_fits g plan game) answers in
+    → RunAnswersFor shared g feeds plan old new (Ok ended) → WritesOneRun g old new ended.cut
+unfed_writes shared g (Some feeds) plan old new ended game fed unsealed answers = absurd fed
+unfed_writes shared g None plan old new ended game fed unsealed answers =
+    let (whole, whole_is, wrote) = writes_by shared g None plan old new ended unsealed (unfed_crew_fits shared g plan game) answers in
     subst (λ (h : ChipGame). WritesOneRun h old new ended.cut) whole_is wrote
 
 pub rows_fit : RowsFit
-rows_fit graph_text chips_text limit plan old new ended unsealed answers = ⊎_elim (λ refused. absurd refused)
+rows_fit graph_text chips_text limit shared plan old new ended unsealed answers = ⊎_elim (λ refused. absurd refused)
     (λ (g, feeds, means, run). (
       g,
       means.game,
-      unfed_writes g feeds plan old new ended means.game.game means.fed unsealed
+      unfed_writes shared g feeds plan old new ended means.game.game means.fed unsealed
           run,
     )) answers
 
-fed_writes : (graph_text chips_text feed_text : List ℕ) (limit : ℕ) (g : ChipGame) (feeds : Option (List (ℕ × ℕ)))
+fed_writes : (shared : Sharing) (graph_text chips_text feed_text : List ℕ) (limit : ℕ) (g : ChipGame) (feeds : Option (List (ℕ × ℕ)))
     (plan : Plan) (old new : Outputs) (ended : Ended)
     → MeansFedGame graph_text chips_text (Some feed_text) limit g feeds → plan.seal ≡ None
-    → RunAnswersFor g feeds plan old new (Ok ended)
+    → RunAnswersFor shared g feeds plan old new (Ok ended)
     → (h : ChipGame) × (left : List (ℕ × ℕ)) × MeansFedGame graph_text chips_text (Some feed_text) limit h (Some left)
     × (AreGivenOnce h left → (whole : ChipGame) × HasMore h left whole × WritesOneRun whole old new ended.cut)
-fed_writes graph_text chips_text feed_text limit g None plan old new ended means unsealed answers = absurd means.fed
-fed_writes graph_text chips_text feed_text limit g (Some feeds) plan old new ended means unsealed answers = (
+fed_writes shared graph_text chips_text feed_text limit g None plan old new ended means unsealed answers = absurd means.fed
+fed_writes shared graph_text chips_text feed_text limit g (Some feeds) plan old new ended means unsealed answers = (
   g,
   feeds,
   means,
-  λ once. writes_by g (Some feeds) plan old new ended unsealed
-      (fed_crew_fits g feeds plan means.fed.0 means.fed.2 means.game.game once) answers,
+  λ once. writes_by shared g (Some feeds) plan old new ended unsealed
+      (fed_crew_fits shared g feeds plan means.fed.0 means.fed.2 means.game.game once) answers,
 )
 
 pub fed_rows_fit : FedRowsFit
-fed_rows_fit graph_text chips_text feed_text limit plan old new ended unsealed answers = ⊎_elim (λ refused. absurd refused)
-    (λ (g, feeds, means, run). fed_writes graph_text chips_text feed_text limit g feeds plan old new ended means unsealed run)
+fed_rows_fit graph_text chips_text feed_text limit shared plan old new ended unsealed answers = ⊎_elim (λ refused. absurd refused)
+    (λ (g, feeds, means, run). fed_writes shared graph_text chips_text feed_text limit g feeds plan old new ended means unsealed run)
     answers
 
 -- ---- where no row was cut
@@ -243,8 +244,8 @@ all_kept (a ∷ rest) uncut =
     ∙ ap (λ (traces : List (List TraceRow)). rows_of a.did ∷ traces) (all_kept rest parts.1)
 
 pub uncut_traces_fit : UncutTracesFit
-uncut_traces_fit graph_text chips_text limit plan old_report new_report old_trace new_trace ended unsealed answers uncut =
-    let (g, means, wrote) = rows_fit graph_text chips_text limit plan (record { report = old_report; trace = Some old_trace })
+uncut_traces_fit graph_text chips_text limit shared plan old_report new_report old_trace new_trace ended unsealed answers uncut =
+    let (g, means, wrote) = rows_fit graph_text chips_text limit shared plan (record { report = old_report; trace = Some old_trace })
     (record { report = new_report; trace = Some new_trace }) ended unsealed answers in (
       g,
       means,

@@ -4,6 +4,7 @@ use Rattle.std.proofs.Common.{◌≡◌, ℕ, Bool, false, refl, sym, subst, Lis
 use Rattle.std.specs.Result.{IsErrAnd, IfErr}
 use Rattle.chip_graph.specs.ChipGame.{ChipGame}
 use Rattle.chip_crew.specs.declared.plan.Plan.{Plan}
+use Rattle.chip_crew.specs.declared.plan.Sharing.{Sharing}
 use Rattle.chip_net.specs.Tokens.{ActorKnown}
 use Rattle.chip_trace.specs.TraceText.{trace_text, WritesText}
 use Rattle.chip_trace.specs.declared.fault.TraceFault.{TraceFault}
@@ -40,21 +41,21 @@ keeps_both : (o : Outputs) → KeepsBoth o o
 keeps_both o = record { report = Keeps-same o.report; trace = refl }
 
 -- inputs that are refused, and nothing is written
-pub refused_run : (graph_text chips_text : List ℕ) (feed_text : Option (List ℕ)) (limit : ℕ) (plan : Plan)
-    (known : Outputs) (result : Result Ended Fault) (P : Fault → Type 0) → IsErrAnd result P
+pub refused_run : (shared : Sharing) (graph_text chips_text : List ℕ) (feed_text : Option (List ℕ)) (limit : ℕ)
+    (plan : Plan) (known : Outputs) (result : Result Ended Fault) (P : Fault → Type 0) → IsErrAnd result P
     → ((f : Fault) → P f → RefusesFedGame graph_text chips_text feed_text limit f)
-    → RunAnswers graph_text chips_text feed_text limit plan known known result
-refused_run graph_text chips_text feed_text limit plan known (Ok ended) P is why = absurd is
-refused_run graph_text chips_text feed_text limit plan known (Err f) P is why = inl (why f is, keeps_both known)
+    → RunAnswers shared graph_text chips_text feed_text limit plan known known result
+refused_run shared graph_text chips_text feed_text limit plan known (Ok ended) P is why = absurd is
+refused_run shared graph_text chips_text feed_text limit plan known (Err f) P is why = inl (why f is, keeps_both known)
 
 -- ---- where the inputs mean a game
 
-module _ (graph_text chips_text : List ℕ) (feed_text : Option (List ℕ)) (limit : ℕ) (plan : Plan) (g : ChipGame)
-    (feeds : Option (List (ℕ × ℕ))) (means : MeansFedGame graph_text chips_text feed_text limit g feeds) where
+module _ (shared : Sharing) (graph_text chips_text : List ℕ) (feed_text : Option (List ℕ)) (limit : ℕ) (plan : Plan)
+    (g : ChipGame) (feeds : Option (List (ℕ × ℕ))) (means : MeansFedGame graph_text chips_text feed_text limit g feeds) where
   -- a game that was not played, and nothing is written
   pub unplayed_run : (known : Outputs) (result : Result Ended Fault) (P : Fault → Type 0) → IsErrAnd result P
-      → ((f : Fault) → P f → IsNotPlayed g feeds plan f)
-      → RunAnswers graph_text chips_text feed_text limit plan known known result
+      → ((f : Fault) → P f → IsNotPlayed shared g feeds plan f)
+      → RunAnswers shared graph_text chips_text feed_text limit plan known known result
   unplayed_run known (Ok ended) P is why = absurd is
   unplayed_run known (Err f) P is why = inr (g, feeds, means, inl (why f is, keeps_both known))
 
@@ -67,18 +68,18 @@ module _ (graph_text chips_text : List ℕ) (feed_text : Option (List ℕ)) (lim
     after = record { report = new_report; trace = new_trace }
 
     -- a trace that failed, and nothing is written of the report
-    pub untraced_run : (status : ℕ) → Plays g feeds plan actors text status → (result : Result Ended Fault)
+    pub untraced_run : (status : ℕ) → Plays shared g feeds plan actors text status → (result : Result Ended Fault)
         (P : Fault → Type 0) → IsErrAnd result P → ((f : Fault) → P f → FailsToRecord actors trace new_trace f)
-        → RunAnswers graph_text chips_text feed_text limit plan before (record { report = report; trace = new_trace }) result
+        → RunAnswers shared graph_text chips_text feed_text limit plan before (record { report = report; trace = new_trace }) result
     untraced_run status plays (Ok ended) P is why = absurd is
     untraced_run status plays (Err f) P is why =
         inr (g, feeds, means, inr (inl (actors, text, status, plays, why f is, Keeps-same report)))
 
     -- the report went out, or its output failed
-    pub delivered_run : (status : ℕ) → Plays g feeds plan actors text status → (cut : Bool)
+    pub delivered_run : (status : ℕ) → Plays shared g feeds plan actors text status → (cut : Bool)
         → RecordsIfAsked actors trace new_trace cut → (result : Result Ended Fault)
         → Delivers report new_report text (record { status = status; cut = cut }) result
-        → RunAnswers graph_text chips_text feed_text limit plan before after result
+        → RunAnswers shared graph_text chips_text feed_text limit plan before after result
     delivered_run status plays cut records (Ok ended) went = inr (
       g,
       feeds,
@@ -86,7 +87,7 @@ module _ (graph_text chips_text : List ℕ) (feed_text : Option (List ℕ)) (lim
       (
         actors,
         text,
-        subst (λ (e : Ended). Plays g feeds plan actors text e.status) (sym went.0) plays,
+        subst (λ (e : Ended). Plays shared g feeds plan actors text e.status) (sym went.0) plays,
         subst (λ (e : Ended). RecordsIfAsked actors trace new_trace e.cut) (sym went.0) records,
         went.1,
       ),
@@ -95,12 +96,12 @@ module _ (graph_text chips_text : List ℕ) (feed_text : Option (List ℕ)) (lim
         inr (g, feeds, means, inr (inr (actors, text, status, plays, cut, records, failed.0, failed.1, failed.2)))
 
 -- the same actors and the same text by other names
-pub plays_as : (g : ChipGame) (feeds : Option (List (ℕ × ℕ))) (plan : Plan) (actors seen : List ActorKnown)
-    (text told : List ℕ) (status : ℕ) → Plays g feeds plan actors text status → seen ≡ actors → told ≡ text
-    → Plays g feeds plan seen told status
-plays_as g feeds plan actors seen text told status plays actors_is text_is =
-    subst (λ (l : List ActorKnown). Plays g feeds plan l told status) (sym actors_is)
-    (subst (λ (t : List ℕ). Plays g feeds plan actors t status) (sym text_is) plays)
+pub plays_as : (shared : Sharing) (g : ChipGame) (feeds : Option (List (ℕ × ℕ))) (plan : Plan) (actors seen : List ActorKnown)
+    (text told : List ℕ) (status : ℕ) → Plays shared g feeds plan actors text status → seen ≡ actors → told ≡ text
+    → Plays shared g feeds plan seen told status
+plays_as shared g feeds plan actors seen text told status plays actors_is text_is =
+    subst (λ (l : List ActorKnown). Plays shared g feeds plan l told status) (sym actors_is)
+    (subst (λ (t : List ℕ). Plays shared g feeds plan actors t status) (sym text_is) plays)
 
 -- why the rows of these actors did not go out, by the fault of what writes their text
 pub fails_by : (actors : List ActorKnown) (old new : Option (List ℕ)) (text : List ℕ)
@@ -127,21 +128,21 @@ means_fed graph_text chips_text feed_text limit g feeds vertices same game fed =
 }
 
 -- the fault of a crew whose gate may answer false nowhere is that of one whose gate is never shut
-of_open_gate : (g : ChipGame) (feeds : Left) (plan : Plan) (may_answer : ℕ → ℕ → Bool → Type 0)
-    → ((worker turn : ℕ) → may_answer worker turn false → ⊥) → (e : CrewFault) → IsFaultOf g feeds plan may_answer e
-    → IsFaultOf g feeds plan never_shut e
-of_open_gate g feeds plan may_answer never crew.Plan is = is
-of_open_gate g feeds plan may_answer never crew.Total is = is
-of_open_gate g feeds plan may_answer never crew.NoMemory is = is
-of_open_gate g feeds plan may_answer never crew.Spawn is = is
-of_open_gate g feeds plan may_answer never crew.GateShut (can, (worker, turn, in_crew, in_turns, shut)) =
+of_open_gate : (shared : Sharing) (g : ChipGame) (feeds : Left) (plan : Plan) (may_answer : ℕ → ℕ → Bool → Type 0)
+    → ((worker turn : ℕ) → may_answer worker turn false → ⊥) → (e : CrewFault) → IsFaultOf shared g feeds plan may_answer e
+    → IsFaultOf shared g feeds plan never_shut e
+of_open_gate shared g feeds plan may_answer never crew.Plan is = is
+of_open_gate shared g feeds plan may_answer never crew.Total is = is
+of_open_gate shared g feeds plan may_answer never crew.NoMemory is = is
+of_open_gate shared g feeds plan may_answer never crew.Spawn is = is
+of_open_gate shared g feeds plan may_answer never crew.GateShut (can, (worker, turn, in_crew, in_turns, shut)) =
     absurd (never worker turn shut)
-of_open_gate g feeds plan may_answer never (crew.Doubled vertex) is = is
-of_open_gate g feeds plan may_answer never (crew.Lost vertex) is = is
-of_open_gate g feeds plan may_answer never (crew.Unfinished deficit root) is = is
+of_open_gate shared g feeds plan may_answer never (crew.Doubled vertex) is = is
+of_open_gate shared g feeds plan may_answer never (crew.Lost vertex) is = is
+of_open_gate shared g feeds plan may_answer never (crew.Unfinished deficit root) is = is
 
 -- so the game was not played
-pub not_played : (g : ChipGame) (feeds : Left) (plan : Plan) (may_answer : ℕ → ℕ → Bool → Type 0)
-    → ((worker turn : ℕ) → may_answer worker turn false → ⊥) → (e : CrewFault) (f : Fault) → IsFaultOf g feeds plan may_answer e
-    → f ≡ fault_of_crew e → IsNotPlayed g feeds plan f
-not_played g feeds plan may_answer never e f is same = inl (e, of_open_gate g feeds plan may_answer never e is, same)
+pub not_played : (shared : Sharing) (g : ChipGame) (feeds : Left) (plan : Plan) (may_answer : ℕ → ℕ → Bool → Type 0)
+    → ((worker turn : ℕ) → may_answer worker turn false → ⊥) → (e : CrewFault) (f : Fault) → IsFaultOf shared g feeds plan may_answer e
+    → f ≡ fault_of_crew e → IsNotPlayed shared g feeds plan f
+not_played shared g feeds plan may_answer never e f is same = inl (e, of_open_gate shared g feeds plan may_answer never e is, same)

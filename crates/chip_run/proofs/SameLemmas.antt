@@ -102,7 +102,7 @@ pub run_reports : (graph_text chips_text : List ℕ) (feed_text : Option (List �
     → RunWrote graph_text chips_text feed_text limit report status → (g : ChipGame) (feeds : Option (List (ℕ × ℕ)))
     → MeansFedGame graph_text chips_text feed_text limit g feeds → (whole : ChipGame) → IsWhole g feeds whole
     → Reports whole report status × IsGame whole
-run_reports graph_text chips_text feed_text limit report status (plan, old, new, ended, ran, s_is) g feeds means whole
+run_reports graph_text chips_text feed_text limit report status (shared, plan, old, new, ended, ran, s_is) g feeds means whole
     is_whole =
     ⊎_elim (λ refused. absurd refused)
     (λ (g', feeds', means', answers). let told = answers.1 in let plays = answers.2 in

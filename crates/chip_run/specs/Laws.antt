@@ -13,6 +13,7 @@ use Rattle.chip_command.specs.Sitting.{TellsPlayFrom}
 use Rattle.chip_command.specs.declared.ended.Ended.{Ended}
 use Rattle.chip_crew.specs.Finished.{IsWhole}
 use Rattle.chip_crew.specs.declared.plan.Plan.{Plan}
+use Rattle.chip_crew.specs.declared.plan.Sharing.{Sharing}
 use Rattle.chip_run.specs.Feeding.{MeansFedGame}
 use Rattle.chip_run.specs.Replaying.{rows_in, traces_in, times_of, HasOneEach, AreGivenOnce, WritesOneRun, WritesFitting}
 use Rattle.chip_run.specs.RunCommand.{Outputs, RunAnswers}
@@ -27,11 +28,11 @@ PlainWrote graph_text chips_text limit report status =
     (ended : Ended) × PlainAnswers graph_text chips_text limit (Some []) (Some report) (Ok ended)
     × (status ≡ ended.status)
 
--- `run` did, by some plan, whatever went into a trace
+-- `run` did, by some plan, however its workers shared the actors, whatever went into a trace
 abbrev pub RunWrote : (graph_text chips_text : List ℕ) → Option (List ℕ) → ℕ → List ℕ → ℕ → Type 0
 RunWrote graph_text chips_text feed_text limit report status =
-    (plan : Plan) × (old new : Option (Option (List ℕ))) × (ended : Ended)
-    × RunAnswers graph_text chips_text feed_text limit plan (record { report = Some []; trace = old })
+    (shared : Sharing) × (plan : Plan) × (old new : Option (Option (List ℕ))) × (ended : Ended)
+    × RunAnswers shared graph_text chips_text feed_text limit plan (record { report = Some []; trace = old })
     (record { report = Some report; trace = new }) (Ok ended)
     × (status ≡ ended.status)
 
@@ -78,16 +79,16 @@ UnfedLogsFit = ForEveryLog (λ g log. g.fed ≡ false → IsInterleaving g.game 
 -- where `run` is not fed, seals nothing and ends well, the rows of its actors fit together, with the counts of the report
 abbrev pub RowsFit : Type 0
 RowsFit =
-    (graph_text chips_text : List ℕ) (limit : ℕ) (plan : Plan) (old new : Outputs) (ended : Ended) → plan.seal ≡ None
-    → RunAnswers graph_text chips_text None limit plan old new (Ok ended)
+    (graph_text chips_text : List ℕ) (limit : ℕ) (shared : Sharing) (plan : Plan) (old new : Outputs) (ended : Ended) → plan.seal ≡ None
+    → RunAnswers shared graph_text chips_text None limit plan old new (Ok ended)
     → (g : ChipGame) × MeansGame graph_text chips_text limit g × WritesOneRun g old new ended.cut
 
 -- and where no trace was cut, so do the rows that it wrote
 abbrev pub UncutTracesFit : Type 0
 UncutTracesFit =
-    (graph_text chips_text : List ℕ) (limit : ℕ) (plan : Plan)
+    (graph_text chips_text : List ℕ) (limit : ℕ) (shared : Sharing) (plan : Plan)
     (old_report new_report old_trace new_trace : Option (List ℕ)) (ended : Ended) → plan.seal ≡ None
-    → RunAnswers graph_text chips_text None limit plan (record { report = old_report; trace = Some old_trace })
+    → RunAnswers shared graph_text chips_text None limit plan (record { report = old_report; trace = Some old_trace })
     (record { report = new_report; trace = Some new_trace }) (Ok ended)
     → ended.cut ≡ false
     → (g : ChipGame) × MeansGame graph_text chips_text limit g
@@ -97,8 +98,8 @@ UncutTracesFit =
 -- together in the game that has all chips at the start
 abbrev pub FedRowsFit : Type 0
 FedRowsFit =
-    (graph_text chips_text feed_text : List ℕ) (limit : ℕ) (plan : Plan) (old new : Outputs) (ended : Ended)
-    → plan.seal ≡ None → RunAnswers graph_text chips_text (Some feed_text) limit plan old new (Ok ended)
+    (graph_text chips_text feed_text : List ℕ) (limit : ℕ) (shared : Sharing) (plan : Plan) (old new : Outputs) (ended : Ended)
+    → plan.seal ≡ None → RunAnswers shared graph_text chips_text (Some feed_text) limit plan old new (Ok ended)
     → (g : ChipGame) × (feeds : List (ℕ × ℕ))
     × MeansFedGame graph_text chips_text (Some feed_text) limit g (Some feeds)
     × (AreGivenOnce g feeds → (whole : ChipGame) × HasMore g feeds whole × WritesOneRun whole old new ended.cut)

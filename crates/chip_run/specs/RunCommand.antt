@@ -10,6 +10,7 @@ use Rattle.chip_crew.specs.Finished.{IsWhole, IsFinished, IsFaultOf}
 use Rattle.chip_crew.specs.declared.play.Finished.{Finished}
 use Rattle.chip_net.specs.Tokens.{ActorKnown}
 use Rattle.chip_crew.specs.declared.plan.Plan.{Plan}
+use Rattle.chip_crew.specs.declared.plan.Sharing.{Sharing}
 use Rattle.chip_crew.specs.declared.fault.CrewFault.{CrewFault}
 use Rattle.chip_crew.specs.declared.fault.CrewFault.TheVariants as crew
 use Rattle.chip_command.specs.Reports.{Reports}
@@ -39,23 +40,25 @@ fault_of_crew (crew.Unfinished deficit root) = fault.Unfinished deficit
 abbrev pub never_shut : ℕ → ℕ → Bool → Type 0
 never_shut worker turn answer = answer ≡ true
 
--- why a crew of this game by this plan, which has these feeds and whose gate is never shut, didn't finish
-abbrev pub IsCrewFault : ChipGame → Option (List (ℕ × ℕ)) → Plan → Fault → Type 0
-IsCrewFault g feeds plan f = (e : CrewFault) × IsFaultOf g feeds plan never_shut e × (f ≡ fault_of_crew e)
+-- why a crew of this game by this plan, which shares the actors so, has these feeds and a gate that is never shut, didn't
+-- finish
+abbrev pub IsCrewFault : Sharing → ChipGame → Option (List (ℕ × ℕ)) → Plan → Fault → Type 0
+IsCrewFault shared g feeds plan f =
+    (e : CrewFault) × IsFaultOf shared g feeds plan never_shut e × (f ≡ fault_of_crew e)
 
 -- why a game has no report: its crew didn't finish, or there is no memory for it
-abbrev pub IsNotPlayed : ChipGame → Option (List (ℕ × ℕ)) → Plan → Fault → Type 0
-IsNotPlayed g feeds plan f = IsCrewFault g feeds plan f ⊎ (f ≡ fault.NoMemory)
+abbrev pub IsNotPlayed : Sharing → ChipGame → Option (List (ℕ × ℕ)) → Plan → Fault → Type 0
+IsNotPlayed shared g feeds plan f = IsCrewFault shared g feeds plan f ⊎ (f ≡ fault.NoMemory)
 
 -- a text and a status are the plain player's report of a game with these feeds, and its status
 abbrev pub ReportsFed : ChipGame → Option (List (ℕ × ℕ)) → List ℕ → ℕ → Type 0
 ReportsFed g feeds text status = (whole : ChipGame) × IsWhole g feeds whole × Reports whole text status
 
 -- a crew finished the game with these actors, and text and status are its report and its status
-pub record Plays (g : ChipGame) (feeds : Option (List (ℕ × ℕ))) (plan : Plan) (actors : List ActorKnown) (text : List ℕ)
-    (status : ℕ) : Type 0 where
+pub record Plays (shared : Sharing) (g : ChipGame) (feeds : Option (List (ℕ × ℕ))) (plan : Plan)
+    (actors : List ActorKnown) (text : List ℕ) (status : ℕ) : Type 0 where
   pub crew : Finished
-  pub finished : IsFinished g feeds plan crew
+  pub finished : IsFinished shared g feeds plan crew
   pub actors_are : actors ≡ crew.actors.items
   pub reports : ReportsFed g feeds text status
 
@@ -72,15 +75,15 @@ pub record KeepsBoth (old new : Outputs) : Type 0 where
 -- what `run` answers where the inputs mean this game and these feeds: the trace of a crew that finished the game went
 -- out, and the plain player's report; or nothing did, since the crew didn't finish; or the trace did not go out, and
 -- nothing of the report; or the trace did, and the output of the report failed
-abbrev pub RunAnswersFor : ChipGame → Option (List (ℕ × ℕ)) → Plan → Outputs → Outputs → Result Ended Fault → Type 0
-RunAnswersFor g feeds plan old new (Ok ended) =
-    (actors : List ActorKnown) × (text : List ℕ) × Plays g feeds plan actors text ended.status
+abbrev pub RunAnswersFor : Sharing → ChipGame → Option (List (ℕ × ℕ)) → Plan → Outputs → Outputs → Result Ended Fault → Type 0
+RunAnswersFor shared g feeds plan old new (Ok ended) =
+    (actors : List ActorKnown) × (text : List ℕ) × Plays shared g feeds plan actors text ended.status
     × RecordsIfAsked actors old.trace new.trace ended.cut × Appends old.report new.report text
-RunAnswersFor g feeds plan old new (Err f) =
-    (IsNotPlayed g feeds plan f × KeepsBoth old new)
-    ⊎ ((actors : List ActorKnown) × (text : List ℕ) × (status : ℕ) × Plays g feeds plan actors text status
+RunAnswersFor shared g feeds plan old new (Err f) =
+    (IsNotPlayed shared g feeds plan f × KeepsBoth old new)
+    ⊎ ((actors : List ActorKnown) × (text : List ℕ) × (status : ℕ) × Plays shared g feeds plan actors text status
     × FailsToRecord actors old.trace new.trace f × Keeps old.report new.report)
-    ⊎ ((actors : List ActorKnown) × (text : List ℕ) × (status : ℕ) × Plays g feeds plan actors text status
+    ⊎ ((actors : List ActorKnown) × (text : List ℕ) × (status : ℕ) × Plays shared g feeds plan actors text status
     × (cut : Bool) × RecordsIfAsked actors old.trace new.trace cut
     × (w : WriteFault) × (f ≡ fault.Write w) × WritesAll old.report new.report text (Err w))
 
@@ -91,14 +94,14 @@ IsRefused graph_text chips_text feed_text limit old new (Err f) =
     RefusesFedGame graph_text chips_text feed_text limit f × KeepsBoth old new
 
 -- what `run` answers
-abbrev pub RunAnswers : List ℕ → List ℕ → Option (List ℕ) → ℕ → Plan → Outputs → Outputs → Result Ended Fault → Type 0
-RunAnswers graph_text chips_text feed_text limit plan old new result =
+abbrev pub RunAnswers : Sharing → List ℕ → List ℕ → Option (List ℕ) → ℕ → Plan → Outputs → Outputs → Result Ended Fault → Type 0
+RunAnswers shared graph_text chips_text feed_text limit plan old new result =
     IsRefused graph_text chips_text feed_text limit old new result
     ⊎ ((g : ChipGame) × (feeds : Option (List (ℕ × ℕ))) × MeansFedGame graph_text chips_text feed_text limit g feeds
-    × RunAnswersFor g feeds plan old new result)
+    × RunAnswersFor shared g feeds plan old new result)
 
 -- the same where what the readers have left may be known
-abbrev pub RunReads : Option (List ℕ) → Option (List ℕ) → Option (Option (List ℕ)) → ℕ → Plan → Outputs → Outputs
+abbrev pub RunReads : Sharing → Option (List ℕ) → Option (List ℕ) → Option (Option (List ℕ)) → ℕ → Plan → Outputs → Outputs
     → Result Ended Fault → Type 0
-RunReads graph chips feed limit plan old new result = ForSome graph (λ graph_text. ForSome chips
-    (λ chips_text. ForText feed (λ feed_text. RunAnswers graph_text chips_text feed_text limit plan old new result)))
+RunReads shared graph chips feed limit plan old new result = ForSome graph (λ graph_text. ForSome chips
+    (λ chips_text. ForText feed (λ feed_text. RunAnswers shared graph_text chips_text feed_text limit plan old new result)))

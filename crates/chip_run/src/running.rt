@@ -4,12 +4,13 @@ ghost use Rattle.std.specs.Prelude.{◌≡◌, ℕ, false, None, option_map, IfO
 ghost use Rattle.chip_report.specs.ReportText.{report_text};
 ghost use Rattle.chip_command.specs.Reports.{status_of_outcome};
 ghost use Rattle.chip_command.specs.Statuses.{number_of_status};
+ghost use Rattle.chip_crew.specs.declared.plan.Sharing.TheVariants.{Queue};
 ghost use Rattle.chip_run.specs.RunCommand.{RunReads, Plays, IsNotPlayed, plan_of};
 
 use crate::feeding::read_fed;
 use crate::recording::record_if_asked;
 use chip_command::{Answer, Ended, Fault, conclude, read_game};
-use chip_crew::{CrewFault, Finished, Gate, Plan, run_with};
+use chip_crew::{CrewFault, Finished, Gate, Plan, Sharing, run_with};
 use chip_graph::{Game, GameFault};
 use chip_net::Actor;
 use std::alloc::{AllocError, Global};
@@ -52,7 +53,7 @@ pub fn run_engine<R: Threads + Wait + Sync, G: Read, C: Read, F: Read, T: Write,
     trace: &mut Option<T>,
     output: &mut W,
 ) -> Result<Ended, Fault>
-    ensures { RunReads (G.remaining graph.old) (C.remaining chips.old)
+    ensures { RunReads Queue (G.remaining graph.old) (C.remaining chips.old)
         (option_map (λ reader. F.remaining reader.now) feed.entry) limit (plan_of ring workers turns trace_rows)
         (record { report = W.contents output.old; trace = option_map T.contents trace.old })
         (record { report = W.contents output.new; trace = option_map T.contents trace.new }) result }
@@ -65,12 +66,23 @@ pub fn run_engine<R: Threads + Wait + Sync, G: Read, C: Read, F: Read, T: Write,
         seal: None,
     };
     run_engine_gated(
-        rt, alloc, graph, chips, feed, limit, plan, &Always, trace, output,
+        rt,
+        alloc,
+        graph,
+        chips,
+        feed,
+        limit,
+        plan,
+        Sharing::Queue,
+        &Always,
+        trace,
+        output,
     )
 }
 
-/// Does what `run_engine` does, by a plan that seals nothing. The gate is asked before each turn and always answers
-/// true; it is told of the polls, and changes nothing of the bytes and the status.
+/// Does what `run_engine` does, by a plan that seals nothing, with workers that share the actors in this way; those of
+/// `run_engine` have one queue. The gate is asked before each turn and always answers true. It is told of the polls, and
+/// changes nothing of the bytes and the status.
 pub fn run_engine_gated<
     R: Threads + Wait + Sync,
     G: Read,
@@ -87,13 +99,14 @@ pub fn run_engine_gated<
     feed: Option<&mut F>,
     limit: u64,
     plan: Plan,
+    sharing: Sharing,
     gate: &K,
     trace: &mut Option<T>,
     output: &mut W,
 ) -> Result<Ended, Fault>
     requires seal { plan.seal ≡ None }
     requires gate { (worker turn : ℕ) → K.may_answer gate.now worker turn false → ⊥ }
-    ensures { RunReads (G.remaining graph.old) (C.remaining chips.old)
+    ensures { RunReads sharing (G.remaining graph.old) (C.remaining chips.old)
         (option_map (λ reader. F.remaining reader.now) feed.entry) limit plan
         (record { report = W.contents output.old; trace = option_map T.contents trace.old })
         (record { report = W.contents output.new; trace = option_map T.contents trace.new }) result }
@@ -102,7 +115,7 @@ pub fn run_engine_gated<
     let played = {
         let game = read_game(alloc, graph, chips, limit)?;
         let feeds = read_fed(alloc, feed, game.graph().vertices())?;
-        play(rt, alloc, &game, feeds, plan, gate)?
+        play(rt, alloc, &game, feeds, plan, sharing, gate)?
     };
     let cut = record_if_asked(alloc, &played.actors, trace)?;
     conclude(
@@ -131,15 +144,16 @@ fn play<R: Threads + Wait + Sync, K: Gate + Sync>(
     game: &Game,
     feeds: Option<Vec<(u64, u64)>>,
     plan: Plan,
+    sharing: Sharing,
     gate: &K,
 ) -> Result<Played, Fault>
     requires seal { plan.seal ≡ None }
     requires gate { (worker turn : ℕ) → K.may_answer gate.now worker turn false → ⊥ }
-    ensures played { IfOk result (λ p. Plays game.now (option_map (λ fed. fed.items) feeds) plan p.actors.items
+    ensures played { IfOk result (λ p. Plays sharing game.now (option_map (λ fed. fed.items) feeds) plan p.actors.items
         p.answer.text.items (number_of_status p.answer.status)) }
-    ensures fault { IfErr result (IsNotPlayed game.now (option_map (λ fed. fed.items) feeds) plan) }
+    ensures fault { IfErr result (IsNotPlayed sharing game.now (option_map (λ fed. fed.items) feeds) plan) }
 {
-    match run_with(rt, alloc, game, plan, feeds.as_deref(), gate) {
+    match run_with(rt, alloc, game, plan, sharing, feeds.as_deref(), gate) {
         Ok(finished) => Ok(report_of(alloc, finished)?),
         Err(fault) => Err(fault_of_crew(fault)),
     }

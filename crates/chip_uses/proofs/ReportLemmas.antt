@@ -2,6 +2,7 @@
 use Rattle.std.proofs.Common.{◌≡◌, ℕ, List, [], Option, Some, None, Ok, ◌∙◌, ◌++◌, sym, ap, subst, ⊎_elim}
 use Rattle.chip_graph.specs.ChipGame.{ChipGame}
 use Rattle.chip_crew.specs.declared.plan.Plan.{Plan}
+use Rattle.chip_crew.specs.declared.plan.Sharing.{Sharing}
 use Rattle.chip_command.specs.Inputs.{MeansGame}
 use Rattle.chip_command.specs.Reports.{Reports}
 use Rattle.chip_command.specs.declared.ended.Ended.{Ended}
@@ -13,12 +14,12 @@ reports_unfed : (g : ChipGame) (feeds : Option (List (ℕ × ℕ))) (text : List
 reports_unfed g None text status fed (whole, is, reports) = subst (λ (k : ChipGame). Reports k text status) is reports
 reports_unfed g (Some feeds) text status fed reports = absurd fed
 
-pub wrote_report : (graph_text chips_text : List ℕ) (limit : ℕ) (plan : Plan) (old new : Option (Option (List ℕ)))
+pub wrote_report : (shared : Sharing) (graph_text chips_text : List ℕ) (limit : ℕ) (plan : Plan) (old new : Option (Option (List ℕ)))
     (start report : List ℕ) (ended : Ended) → start ≡ []
-    → RunAnswers graph_text chips_text None limit plan (record { report = Some start; trace = old })
+    → RunAnswers shared graph_text chips_text None limit plan (record { report = Some start; trace = old })
     (record { report = Some report; trace = new }) (Ok ended)
     → (g : ChipGame) × MeansGame graph_text chips_text limit g × Reports g report ended.status
-wrote_report graph_text chips_text limit plan old new start report ended empty ran =
+wrote_report shared graph_text chips_text limit plan old new start report ended empty ran =
     ⊎_elim (λ refused. absurd refused)
     (λ (g, feeds, means, answers). let text = answers.1 in (
       g,

@@ -1,7 +1,7 @@
 //! The arguments of the program, and what they ask for.
 
 use crate::commands::{
-    BOOKS, CHIPS, CommandRow, FAULT_NUMBER, FED, FEED, GRAPH, LIMIT, Operand, OperandRow,
+    BOOKS, CHIPS, CommandRow, DEALT, FAULT_NUMBER, FED, FEED, GRAPH, LIMIT, Operand, OperandRow,
     OptionRow, OptionValue, PROGRESS, REPORT, RING, ROUNDS, SCHEDULE, TRACE, TRACE_FILE,
     TRACE_ROWS, TURNS, WORKERS, commands,
 };
@@ -72,6 +72,8 @@ pub struct RunArguments<'a> {
     pub ring: u64,
     /// How many threads, 1 to 64.
     pub workers: u64,
+    /// Whether the vertices are dealt out to the threads.
+    pub dealt: bool,
     /// How many turns each of them makes at most, 1 to 2^40.
     pub turns: u64,
     /// The file of the chips that are fed, if there are any.
@@ -174,6 +176,7 @@ impl<'m, 'a> Found<'m, 'a> {
             game,
             ring: self.number_or(RING, USUAL_RING),
             workers: self.number_or(WORKERS, USUAL_WORKERS),
+            dealt: self.matches.get_flag(DEALT.name),
             turns: self.number_or(TURNS, USUAL_TURNS),
             feed: self.file(FEED.name),
             trace,

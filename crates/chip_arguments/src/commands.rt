@@ -141,6 +141,12 @@ pub const WORKERS: &OptionRow = &OptionRow {
     },
 };
 
+pub const DEALT: &OptionRow = &OptionRow {
+    name: "dealt",
+    help: "Gives each thread vertices of its own, instead of one queue of all",
+    takes: OptionValue::Nothing,
+};
+
 pub const TURNS: &OptionRow = &OptionRow {
     name: "turns",
     help: "How many turns each thread makes at most, 1 to 2^40 [default: 2^30]",
@@ -201,7 +207,7 @@ const RUN: &CommandRow = &CommandRow {
     after_help: texts::RUN,
     operands: &[GRAPH, CHIPS],
     options: &[
-        LIMIT, RING, WORKERS, TURNS, FEED, TRACE, TRACE_ROWS, PROGRESS,
+        LIMIT, RING, WORKERS, DEALT, TURNS, FEED, TRACE, TRACE_ROWS, PROGRESS,
     ],
 };
 

@@ -24,19 +24,22 @@ report names under \"over\"; 1 a fault, which `chipfire explain N` explains.
 Example: chipfire plain graph.json chips.csv --limit 1000 >report.json";
 
 pub const RUN: &str = "\
-The report is the same to the byte for every number of threads and every ring: they change
-how long it takes and nothing else. Small games are quickest on one thread, large ones on
-as many as the machine has cores; a ring of a few cells lets a vertex send on before its
-last message was taken. With --feed the chips of a second chips file come while the
-vertices fire; the report is that of a game which has all of them from the start. The trace
-is written first; where it was cut, a line on standard error says so, and such a trace need
-not replay.
+The report is the same to the byte for every number of threads, every ring, and with or
+without --dealt: they change how long it takes and nothing else. Small games are quickest on
+one thread. Large ones are quickest with --dealt on as many threads as the machine has
+cores: each thread keeps its own vertices. Without it the threads share one queue of all
+vertices, in which more than two gain little. A ring of a few cells lets a vertex send on
+before its last message was taken.
+
+With --feed the chips of a second chips file come while the vertices fire; the report is
+that of a game which has all of them from the start. The trace is written first; where it
+was cut, a line on standard error says so, and such a trace need not replay.
 
 Exit status: 0 no vertex can fire any more; 2 the limit stopped some vertex, which the
 report names under \"over\"; 3 the turns did not suffice; 1 another fault, which
 `chipfire explain N` explains.
 
-Example: chipfire run graph.json chips.csv --workers 4 --trace trace.csv >report.json";
+Example: chipfire run graph.json chips.csv --dealt --workers 4 >report.json";
 
 pub const SIMULATE: &str = "\
 With --fed the schedule may feed chips while the game runs: clear, feed and put on the

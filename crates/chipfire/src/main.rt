@@ -11,7 +11,7 @@ use chip_arguments::{
     RunArguments, SimulationArguments, limits, parse,
 };
 use chip_command::{Ended, Fault, Status, conclude, explanations};
-use chip_crew::{MAX_TRACE_ROWS, MAX_TURNS, MAX_WORKERS, Plan};
+use chip_crew::{MAX_TRACE_ROWS, MAX_TURNS, MAX_WORKERS, Plan, Sharing};
 use chip_engine::{
     check_engine, explain_engine, plain_engine, plain_engine_watched, replay_engine, resume_engine,
     simulate_engine,
@@ -140,6 +140,7 @@ fn play_on_threads<R: Files + Clock + Eprint + AllocGlobal + Threads + Wait + Sy
         feed.as_mut(),
         asked.game.limit,
         plan_of(asked),
+        sharing_of(asked),
         &TurnProgress::start(rt, asked.progress),
         &mut trace,
         output,
@@ -172,6 +173,15 @@ fn plan_of(asked: &RunArguments<'_>) -> Plan
         turns: asked.turns,
         trace_rows: asked.trace_rows,
         seal: None,
+    }
+}
+
+/// How the threads that play share the vertices.
+fn sharing_of(asked: &RunArguments<'_>) -> Sharing {
+    if asked.dealt {
+        Sharing::Dealt
+    } else {
+        Sharing::Queue
     }
 }
 

@@ -752,6 +752,7 @@ class Program:
         limit: int | None = None,
         ring: int | None = None,
         workers: int | None = None,
+        dealt: bool = False,
         turns: int | None = None,
         feed: Chips | FileName | None = None,
         trace: FileName | None = None,
@@ -760,12 +761,14 @@ class Program:
     ) -> Report:
         """Plays as `plain` does, with an actor for each vertex, on so many threads, by a program that has this command.
 
+        The threads share one queue of all vertices. Where the vertices are `dealt` out, each thread keeps its own: large
+        graphs are then played quicker, by as many threads as there are processors. The report is the same.
         `feed` are chips that the vertices get while they play; the report is that of a game which has all of them from
         the start. `trace` names a file that is written: what each vertex took and fired, up to `trace_rows` rows each.
         Where that was not enough for a vertex, the warning `TraceCut` says so. `progress` is as in `plain`.
         """
-        options: dict[str, Any] = {"limit": limit, "ring": ring, "workers": workers, "turns": turns}
-        options |= {"trace-rows": trace_rows, "progress": progress}
+        options: dict[str, Any] = {"limit": limit, "ring": ring, "workers": workers, "dealt": dealt}
+        options |= {"turns": turns, "trace-rows": trace_rows, "progress": progress}
         with _Room() as room:
             game = room.game(graph, chips)
             options["feed"] = None if feed is None else room.chips("feed.csv", feed)

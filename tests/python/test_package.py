@@ -343,6 +343,16 @@ class Running(WithFolder):
             chipfire.run(TRIANGLE, {0: 4}, workers=2, turns=1)
         self.assertEqual((caught.exception.number, caught.exception.status), (61, 3))
 
+    def test_a_run_that_is_dealt_out(self):
+        for workers in (1, 2, 3, 64):
+            with self.subTest(workers=workers):
+                report = chipfire.run(TRIANGLE, {0: 3}, workers=workers, dealt=True, feed={0: 1})
+                self.assertEqual(report, chipfire.Report((1, 0, 3), (2, 1, 0)))
+        self.assertEqual(chipfire.run(TRIANGLE, {0: 4}, workers=1, dealt=True, turns=7).fired, (2, 1, 0))
+        with self.assertRaises(chipfire.Fault) as caught:
+            chipfire.run(TRIANGLE, {0: 4}, workers=1, dealt=True, turns=6)
+        self.assertEqual((caught.exception.number, caught.exception.status), (61, 3))
+
     def test_a_run_that_is_fed(self):
         for start, feed in [({}, {0: 4}), ({0: 3}, [1, 0, 0]), ([4, 0, 0], {}), ({}, CHIPS_FILE)]:
             with self.subTest(start=start, feed=feed):

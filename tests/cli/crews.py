@@ -1,4 +1,5 @@
-"""Random games on threads: `run` by some number of workers, with some ring, and for some of them the trace.
+"""Random games on threads: `run` by some number of workers, with some ring, and for some of them the trace. Each game
+is played twice: the workers share a queue, and then the vertices are dealt out to them.
 
 What must come is known from examples/play.py, which shares nothing with the program: the report, to the byte, however
 the threads were scheduled. A trace that was not cut must replay, with as many firings of each vertex as the report has.
@@ -16,6 +17,8 @@ from collections import Counter
 import chains
 
 SECONDS = 60
+# By a queue, and dealt out.
+WAYS = [[], ["--dealt"]]
 
 
 def chips_text(chips):
@@ -58,14 +61,18 @@ class Crew:
                     file.write(text)
             game = ["graph.json", "chips.csv", *self.limit]
             wanted = self.call([sys.executable, f"{self.examples}/play.py", *game], folder).stdout
-            trace = ["--trace", "trace.csv", "--trace-rows", "4096"] if self.has_trace else []
-            files = ["graph.json", "start.csv"] if self.feed else game[:2]
-            words = [self.program, "run", *files, *self.limit, *self.options, *self.feed, *trace]
-            ran = self.call(words, folder)
-            found = self.differences(ran, wanted)
-            if self.has_trace and not found:
-                found += self.replayed(game, wanted, folder)
-            return [f"{' '.join(words[1:])}: {it}" for it in found]
+            return [fault for way in WAYS for fault in self.faults_of(way, game, wanted, folder)]
+
+    def faults_of(self, way, game, wanted, folder):
+        """What is not as it must be where the workers share the vertices in this way."""
+        trace = ["--trace", "trace.csv", "--trace-rows", "4096"] if self.has_trace else []
+        files = ["graph.json", "start.csv"] if self.feed else game[:2]
+        words = [self.program, "run", *files, *self.limit, *self.options, *way, *self.feed, *trace]
+        ran = self.call(words, folder)
+        found = self.differences(ran, wanted)
+        if self.has_trace and not found:
+            found += self.replayed(game, wanted, folder)
+        return [f"{' '.join(words[1:])}: {it}" for it in found]
 
     def differences(self, ran, wanted):
         found = []

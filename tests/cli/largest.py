@@ -152,6 +152,7 @@ def play_fan(room, fan):
         "simulate graph.json chips.csv takes.csv --rounds 100 --ring 64": (empty, 0),
         "run graph.json chips.csv": (report(*last), 0),
         "run graph.json chips.csv --ring 64 --workers 64": (report(*last), 0),
+        "run graph.json chips.csv --dealt --workers 64": (report(*last), 0),
         "run graph.json chips.csv --limit 3 --workers 4": (report(*first), 2),
         "run graph.json none.csv --feed chips.csv": (report(*last), 0),
         "run graph.json none.csv --feed chips.csv --ring 64 --workers 64": (report(*last), 0),

@@ -87,6 +87,7 @@ def play_long(program):
     yield "progress.py", "plain tells how it goes on", told(program, "plain")
     yield "progress.py", "run tells how it goes on", told(program, "run")
     yield "progress.py", "run tells how it goes on, one worker", told(program, "run", "--workers", "1")
+    yield "progress.py", "run tells how it goes on, dealt out", told(program, "run", "--dealt")
     yield "progress.py", "a long play answers the same", same(program, "plain")
     yield "progress.py", "a play stopped by its limit answers the same", same(program, "plain", "--limit", "200000000")
     turns = ["--workers", "1", "--turns", "3000000"]

@@ -27,6 +27,7 @@ def options_of(command, draw):
         options.update(fed=draw.random() < 0.5)
     if command == "run":
         options.update(ring=draw.choice([1, 1, 2, 3, 64]), workers=draw.choice([1, 2, 3, 8]))
+        options.update(dealt=draw.random() < 0.5)
     return options
 
 

@@ -168,6 +168,14 @@ def worked_runs(examples):
             is_steady=False,
             threads=2,
         ),
+        run(
+            "dealt out to two threads and fed",
+            f"run --dealt triangle/graph.json triangle/no-chips.csv --feed triangle/chips.csv --trace {TRACE}",
+            "triangle/report.json",
+            also=(NO_MEMORY, "65 Spawn"),
+            is_steady=False,
+            threads=2,
+        ),
         run("chips that are a graph", "plain triangle/graph.json chain/graph.json", fault="23 Header", status=1),
         run(
             "feeds that are a graph",

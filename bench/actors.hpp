@@ -11,6 +11,7 @@
 #include <vector>
 
 #include "game_files.hpp"
+#include "report.hpp"
 
 namespace {
 
@@ -247,5 +248,22 @@ private:
     std::vector<std::uint64_t> settled_;
     std::uint64_t outstanding_;
 };
+
+// The chips that lie on the vertices once they have fired so often.
+std::vector<std::uint64_t> chips_after(const Graph& graph, std::vector<std::uint64_t> chips,
+                                       const std::vector<std::uint64_t>& fired) {
+    for (const Edge& edge : graph.edges) {
+        chips[edge.tail] -= fired[edge.tail] * edge.mult;
+        chips[edge.head] += fired[edge.tail] * edge.mult;
+    }
+    return chips;
+}
+
+// Writes the report of a play that has ended; the status of the program.
+int write_end(const Graph& graph, const std::vector<std::uint64_t>& start, const std::optional<End>& end) {
+    if (!end) stop("the root is not closed");
+    write_all(report(chips_after(graph, start, end->fired), end->fired, end->over));
+    return end->over.empty() ? 0 : 2;
+}
 
 }  // namespace

@@ -14,7 +14,6 @@
 #include <vector>
 
 #include "actors.hpp"
-#include "report.hpp"
 
 namespace {
 
@@ -97,16 +96,6 @@ struct Floor {
     }
 };
 
-// The chips that lie on the vertices once they have fired so often.
-std::vector<std::uint64_t> chips_after(const Graph& graph, std::vector<std::uint64_t> chips,
-                                       const std::vector<std::uint64_t>& fired) {
-    for (const Edge& edge : graph.edges) {
-        chips[edge.tail] -= fired[edge.tail] * edge.mult;
-        chips[edge.head] += fired[edge.tail] * edge.mult;
-    }
-    return chips;
-}
-
 }  // namespace
 
 int main(int count, char** words_given) {
@@ -130,8 +119,5 @@ int main(int count, char** words_given) {
     for (std::size_t i = 1; i < workers; ++i) threads.emplace_back([&] { floor.work(); });
     for (std::thread& thread : threads) thread.join();
 
-    const auto end = root.finish(words);
-    if (!end) stop("the root is not closed");
-    write_all(report(chips_after(graph, start, end->fired), end->fired, end->over));
-    return end->over.empty() ? 0 : 2;
+    return write_end(graph, start, root.finish(words));
 }

@@ -10,16 +10,21 @@ use std::marker::Model;
 #[derive(Drop)]
 pub struct HeadLink {
     edge: u64,
-    ring: Ring,
     taken: u64,
+    ring: Ring,
+    // The cell of the next place: it is counted round, since a division takes long.
+    cell: u8,
 }
 
 impl Model for HeadLink {
+    ghost use Rattle.std.specs.Prelude.{◌≡◌, ◌%◌, ◌<◌};
     ghost use Rattle.chip_link.specs.Ends.{HeadState};
 
     ghost Value = { HeadState };
 
     ghost view = { λ a. record { edge = a.edge; ring = a.ring; taken = a.taken } };
+
+    ghost invariant = { λ a. (a.cell ≡ a.taken % a.ring) × (a.cell < a.ring) };
 }
 
 impl HeadLink {
@@ -27,11 +32,21 @@ impl HeadLink {
     pub fn new(edge: u64, ring: Ring) -> HeadLink
         ensures { result ≡ new_head edge ring }
     {
+        // With the cells read, the proof knows that there is one.
+        let _cells = ring.cells();
         HeadLink {
             edge,
-            ring,
             taken: 0,
+            ring,
+            cell: 0,
         }
+    }
+
+    /// The edge that it is an end of.
+    pub fn edge(&self) -> u64
+        ensures { result ≡ self.now.edge }
+    {
+        self.edge
     }
 
     /// The cell of the next place to take, from 0.
@@ -39,7 +54,7 @@ impl HeadLink {
         ensures cell { result ≡ head_cell self.now }
         ensures inside { result < self.now.ring }
     {
-        self.taken % self.ring.cells()
+        u64::from(self.cell)
     }
 
     /// The message that was found in that cell, or `None` where it was empty. At most 2^62 messages are taken.
@@ -53,6 +68,7 @@ impl HeadLink {
         }
         let place = self.taken;
         self.taken += 1;
+        self.cell = self.ring.after(self.cell);
         Some(Message {
             edge: self.edge,
             place,

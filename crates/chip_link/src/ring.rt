@@ -1,4 +1,4 @@
-ghost use Rattle.std.specs.Prelude.{◌≡◌};
+ghost use Rattle.std.specs.Prelude.{◌≡◌, ℕ, ◌+◌, ◌%◌, ◌<◌};
 
 use std::marker::Model;
 
@@ -8,7 +8,7 @@ pub const MAX_RING: u64 = 64;
 /// How many cells the ring of an edge has, 1 to `MAX_RING`. Contracts see it as that number.
 #[derive(Clone, Copy)]
 pub struct Ring {
-    cells: u64,
+    cells: u8,
 }
 
 impl Model for Ring {
@@ -34,7 +34,7 @@ impl Ring {
         if cells == 0 || cells > MAX_RING {
             return None;
         }
-        Some(Ring { cells })
+        Some(Ring { cells: cells as u8 })
     }
 
     /// The ring of one cell, in which each message waits for the one before it.
@@ -49,6 +49,25 @@ impl Ring {
         ensures number { result ≡ self }
         ensures range { IsRing result }
     {
-        self.cells
+        u64::from(self.cells)
+    }
+
+    /// The cell after this one, round the ring.
+    pub(crate) fn after(self, cell: u8) -> u8
+        requires { cell < self }
+        ensures place { (place : ℕ) → cell ≡ place % self → result ≡ (place + 1) % self }
+        ensures inside { result < self }
+    {
+        let next = cell + 1;
+        if next == self.cells { 0 } else { next }
+    }
+
+    /// The cell before this one, round the ring.
+    pub(crate) fn before(self, cell: u8) -> u8
+        requires { cell < self }
+        ensures place { (place : ℕ) → cell ≡ (place + 1) % self → result ≡ place % self }
+        ensures inside { result < self }
+    {
+        if cell == 0 { self.cells - 1 } else { cell - 1 }
     }
 }

@@ -12,9 +12,11 @@ use std::marker::Model;
 #[derive(Drop)]
 pub struct TailLink {
     edge: u64,
-    ring: Ring,
     claims: u64,
     stage: Stage,
+    ring: Ring,
+    // The cell of the next place, counted round.
+    cell: u8,
 }
 
 /// How far the tail is with the next message.
@@ -34,7 +36,7 @@ enum Stage {
 const MOST_CLAIMS: u64 = 1 << 62;
 
 impl Model for TailLink {
-    ghost use Rattle.std.specs.Prelude.{◌<◌, ◌≤◌};
+    ghost use Rattle.std.specs.Prelude.{◌≡◌, ◌%◌, ◌<◌, ◌≤◌};
     ghost use Rattle.chip_link.specs.Ends.{TailState};
 
     ghost Value = { TailState };
@@ -50,7 +52,7 @@ impl Model for TailLink {
       refused = is_refused a.stage;
     } };
 
-    ghost invariant = { λ a. HasClaims a.stage a.claims };
+    ghost invariant = { λ a. HasClaims a.stage a.claims × (a.cell ≡ a.claims % a.ring) × (a.cell < a.ring) };
 }
 
 impl TailLink {
@@ -58,12 +60,22 @@ impl TailLink {
     pub fn new(edge: u64, ring: Ring) -> TailLink
         ensures { result ≡ new_tail edge ring }
     {
+        // With the cells read, the proof knows that there is one.
+        let _cells = ring.cells();
         TailLink {
             edge,
-            ring,
             claims: 0,
             stage: Stage::Idle,
+            ring,
+            cell: 0,
         }
+    }
+
+    /// The edge that it is an end of.
+    pub fn edge(&self) -> u64
+        ensures { result ≡ self.now.edge }
+    {
+        self.edge
     }
 
     /// The cell of the next place to claim, from 0.
@@ -71,7 +83,7 @@ impl TailLink {
         ensures cell { result ≡ tail_cell self.now }
         ensures inside { result < self.now.ring }
     {
-        self.claims % self.ring.cells()
+        u64::from(self.cell)
     }
 
     /// Notes what was found in that cell, and says whether a claim may follow. It may not, and nothing changes,
@@ -117,6 +129,7 @@ impl TailLink {
         }
         let place = self.claims;
         self.claims += 1;
+        self.cell = self.ring.after(self.cell);
         self.stage = Stage::Held(count);
         Some(Message {
             edge: self.edge,
@@ -131,7 +144,7 @@ impl TailLink {
         ensures inside { IfSome result (λ stored. stored.0 < self.now.ring) }
     {
         match self.stage {
-            Stage::Held(count) => Some(((self.claims - 1) % self.ring.cells(), count)),
+            Stage::Held(count) => Some((u64::from(self.ring.before(self.cell)), count)),
             Stage::Idle | Stage::Clear | Stage::Refused => None,
         }
     }

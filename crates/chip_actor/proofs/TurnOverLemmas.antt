@@ -5,6 +5,7 @@ use Rattle.std.proofs.Common.{sum, slice_index, Option, Some, None, is_some, is_
 use Rattle.std.proofs.Common.{sym, ap, ◌∙◌, subst, arith, eq-eqb, ne_eqb, eqb-true}
 use Rattle.std.proofs.lemmas.Bool.{and_parts}
 use Rattle.std.proofs.lemmas.List.Sums.{sum_by-cons}
+use Rattle.std.specs.List.{Contains}
 use Rattle.chip_graph.proofs.SumLemmas.{cond_true}
 use Rattle.chip_part.specs.Setting.{Setting}
 use Rattle.chip_link.specs.Link.{claims_of}
@@ -21,13 +22,13 @@ use Rattle.chip_part.specs.Rules.{Take, Ack, Fire, Clear, Claim, Put, Halt, Sett
 use Rattle.chip_part.specs.Turn.{ins_of, outs_of, may_fire, batch_of, is_at_limit}
 use Rattle.chip_part.specs.Cursor.{GoesBy, out_at}
 use Rattle.chip_actor.specs.Actor.{Actor, StandsFor, WhateverPart, is_passive_now}
-use Rattle.chip_actor.specs.Medium.{Holding, Moves}
-use Rattle.chip_actor.proofs.StandingLemmas.{may_ack_is}
+use Rattle.chip_actor.specs.Medium.{Holding, Meets, Moves}
+use Rattle.chip_actor.proofs.StandingLemmas.{may_ack_is, books_in}
 use Rattle.chip_part.proofs.PartLemmas.{may_le}
 use Rattle.chip_part.proofs.TurnStepsLemmas.{take_due, takes_over, settle_due, settles_over, in_enters, out_leaves, fire_due}
 use Rattle.chip_part.proofs.TurnStepsLemmas.{no_fire_due, puts_over, puts_fit, refusal_none, sends_begin, send_due, sends_to}
 use Rattle.chip_part.proofs.TurnStepsLemmas.{sends_over, claim_due, claim_over, store_due, stop_due, no_limit_due, ack_due}
-use Rattle.chip_part.proofs.TurnStepsLemmas.{acks_to, acks_over, no_parent}
+use Rattle.chip_part.proofs.TurnStepsLemmas.{acks_to, acks_over, no_parent, parent_due, no_parent_due}
 use Rattle.chip_actor.proofs.TurnActorLemmas.{pending_is, held_at_place, clear_at_place, none_held}
 use Rattle.chip_actor.proofs.MediumLemmas.{DueBy, moves_past, moves_on, turn_ends}
 
@@ -287,6 +288,41 @@ acks_end H a index over = moves_past H a (At.Ack index) At.Parent (λ g s stands
     let past = subst (λ (xs : List ℕ). length xs ≤ index) stands.knows.ins over in
     (tt, acks_over g a.vertex stands.knows.vertex s index (λ k le within. absurd (omega arith))))
 
+-- the edge of the message that engaged the vertex is one into it
+pub parent_among : (H : Holding) (a : Actor) (edge : ℕ) → Meets H a At.Parent → a.detect.parent ≡ Some edge
+    → Contains a.ins.edges edge
+parent_among H a edge (g, ds, s, held, stands, at) parent =
+    let is : s.parent ≡ Some edge = sym stands.books.parent ∙ parent in
+    subst (λ (xs : List ℕ). Contains xs edge) (stands.knows.detect_ins ∙ sym stands.knows.ins)
+    (books_in g s a stands edge (stands.kept.parents edge is).1)
+
+pub no_parent_left : (H : Holding) (a : Actor) → a.detect.parent ≡ None → Moves H a At.Parent H a At.Over 0
+no_parent_left H a none = turn_ends H a At.Parent (λ g s stands at.
+    no_parent g a.vertex stands.knows.vertex s (sym stands.books.parent ∙ none))
+
+module _ (a : Actor) (edge count : ℕ) (parent : a.detect.parent ≡ Some edge)
+    (count-is : count ≡ detector.may_ack a.detect edge (is_passive_now a)) where
+  -- it is the part's parent edge, and the count is the part's
+  is_parent : (g : Setting) (s : Part) (stands : StandsFor g s a) → s.parent ≡ Some edge
+  is_parent g s stands = sym stands.books.parent ∙ parent
+
+  parent_mine : (g : Setting) (s : Part) (stands : StandsFor g s a) → head_of g edge ≡ a.vertex
+  parent_mine g s stands = (stands.kept.parents edge (is_parent g s stands)).1
+
+  parent_count : (g : Setting) (s : Part) (stands : StandsFor g s a) → count ≡ may_ack g (head_of g edge) s edge
+  parent_count g s stands = count-is ∙ may_ack_is g s a stands edge (parent_mine g s stands)
+
+  pub parent_by : count ≢ 0 → DueBy a At.Parent (Do.Ack edge count) (Ack edge) At.Over
+  parent_by some = λ g s stands at. (
+    parent_due g a.vertex stands.knows.vertex s edge (is_parent g s stands) (parent_mine g s stands)
+        (ap not (ne_eqb _ _ (λ z. some (parent_count g s stands ∙ z)))),
+    ap (Do.Ack edge) (parent_count g s stands),
+  )
+
+  pub parent_none : (H : Holding) → count ≡ 0 → Moves H a At.Parent H a At.Over 0
+  parent_none H none = turn_ends H a At.Parent (λ g s stands at.
+      no_parent_due g a.vertex stands.knows.vertex s edge (is_parent g s stands) (sym (parent_count g s stands) ∙ none))
+
 neutral : (p : Option ℕ) → is_some p ≡ false → p ≡ None
 neutral None off = refl
 neutral (Some e) off = absurd (cc)
@@ -303,8 +339,7 @@ nothing_owed H a off =
           (λ k le within. ap not (eq-eqb _ _
           (owes_none g s a stands none (slice_index (ins_of g v) k) (in_enters g v k within)))),
     )))
-    (turn_ends H a At.Parent (λ g s stands at. no_parent g a.vertex stands.knows.vertex s (sym stands.books.parent
-    ∙ neutral a.detect.parent off)))
+    (no_parent_left H a (neutral a.detect.parent off))
   where
     owes_none : (g : Setting) (s : Part) (a : Actor) (stands : StandsFor g s a) → s.parent ≡ None → (e : ℕ)
         → head_of g e ≡ a.vertex → may_ack g (head_of g e) s e ≡ 0

@@ -444,17 +444,19 @@ impl ActorState {
         ensures { Makes self.old self.new (Ack edge) seen result }
     {
         let index = self.ins.index_of(edge);
-        self.acknowledge_at(index, edge, seen)
+        let count = self.detect.may_ack_at(index, edge, self.passive());
+        self.acknowledge_at(index, edge, count, seen)
     }
 
-    /// The same of the edge at this index.
-    fn acknowledge_at(&mut self, index: usize, edge: u64, seen: u64) -> Reply
+    /// The same of the edge at this index, on which so much may be acknowledged.
+    fn acknowledge_at(&mut self, index: usize, edge: u64, count: u64, seen: u64) -> Reply
         requires within { index < length self.old.ins.edges }
         requires edge { slice_index self.old.ins.edges index ≡ edge }
+        requires count { count ≡ may_ack self.old.detect edge (is_passive_now self.old) }
         requires can { SomePart self.old (λ g s. CanDo g s self.old.vertex (Ack edge) seen) }
-        ensures { Makes self.old self.new (Ack edge) seen result }
+        ensures makes { Makes self.old self.new (Ack edge) seen result }
+        ensures passive { is_passive_now self.new ≡ is_passive_now self.old }
     {
-        let count = self.detect.may_ack_at(index, edge, self.passive());
         self.detect.acked_at(index, edge, count);
         Reply::Done(count)
     }

@@ -8,6 +8,7 @@ use crate::medium::Medium;
 use chip_part::{Act, Cursor, Observed, Reply, is_by_limit};
 
 impl ActorState {
+    ghost use Rattle.chip_actor.specs.Actor.{is_passive_now};
     ghost use Rattle.chip_actor.specs.Ends.{out_on};
     ghost use Rattle.chip_actor.specs.Medium.{Meets, Moves, MeetsDue, MakesDue, MakesTurn};
 
@@ -180,36 +181,63 @@ impl ActorState {
         work
     }
 
-    /// Acknowledges what may be acknowledged on the edge at this index of those into the vertex.
-    fn ack_here<M: Medium>(&mut self, medium: &mut M, index: usize) -> usize
+    /// Acknowledges what may be acknowledged on the edge at this index of those into the vertex, which is passive or
+    /// not, and stays so.
+    fn ack_here<M: Medium>(&mut self, medium: &mut M, index: usize, passive: bool) -> usize
         requires within { index < length self.old.ins.edges }
+        requires passive { passive ≡ is_passive_now self.old }
         requires meets { Meets (M.holds medium.old) self.old (Cursor.Ack index) }
         ensures moves { Moves (M.holds medium.old) self.old (Cursor.Ack index) (M.holds medium.new) self.new
             (Cursor.Ack (index + 1)) result }
+        ensures passive { passive ≡ is_passive_now self.new }
         ensures few { result ≤ 1 }
     {
         let edge = self.ins.edges()[index];
-        let count = self.detect.may_ack_at(index, edge, self.passive());
+        let count = self.detect.may_ack_at(index, edge, passive);
         if count == 0 {
             return 0;
         }
         let seen = medium.ack(edge, count);
-        let reply = self.acknowledge_at(index, edge, seen);
+        let reply = self.acknowledge_at(index, edge, count, seen);
         work_of(Act::Ack { edge, count }, seen, &reply)
     }
 
     /// Acknowledges on each edge into the vertex.
-    fn ack_all<M: Medium>(&mut self, medium: &mut M) -> usize
-        requires { Meets (M.holds medium.old) self.old (Cursor.Ack 0) }
+    fn ack_all<M: Medium>(&mut self, medium: &mut M, passive: bool) -> usize
+        requires passive { passive ≡ is_passive_now self.old }
+        requires meets { Meets (M.holds medium.old) self.old (Cursor.Ack 0) }
         ensures moves { Moves (M.holds medium.old) self.old (Cursor.Ack 0)
             (M.holds medium.new) self.new Cursor.Parent result }
+        ensures passive { passive ≡ is_passive_now self.new }
         ensures few { result < 2 ^ 60 }
     {
         let mut work = 0;
         for index in 0..self.ins.edges().len() {
-            work += self.ack_here(medium, index);
+            work += self.ack_here(medium, index, passive);
         }
         work
+    }
+
+    /// Acknowledges once more on the edge of the message that engaged the vertex, where it still does.
+    fn ack_parent<M: Medium>(&mut self, medium: &mut M, passive: bool) -> usize
+        requires passive { passive ≡ is_passive_now self.old }
+        requires meets { Meets (M.holds medium.old) self.old Cursor.Parent }
+        ensures moves { Moves (M.holds medium.old) self.old Cursor.Parent
+            (M.holds medium.new) self.new Cursor.Over result }
+        ensures few { result ≤ 1 }
+    {
+        let Some(edge) = self.detect.parent() else {
+            return 0;
+        };
+        let index = self.ins.index_of(edge);
+        let more = self.detect.may_ack_at(index, edge, passive);
+        if more == 0 {
+            return 0;
+        }
+        let seen = medium.ack(edge, more);
+        let reply = self.acknowledge_at(index, edge, more, seen);
+        let act = Act::Ack { edge, count: more };
+        work_of(act, seen, &reply)
     }
 
     /// Makes an operation of a turn that is due; whether it counts.
@@ -252,8 +280,9 @@ impl ActorState {
         ensures few { result < 2 ^ 61 }
     {
         if self.detect.engaged() {
-            let acked = self.ack_all(medium);
-            return acked + self.finish(medium, Cursor::Parent);
+            let passive = self.passive();
+            let acked = self.ack_all(medium, passive);
+            return acked + self.ack_parent(medium, passive);
         }
         0
     }

@@ -22,7 +22,7 @@ allowed : (g : Over) (c : After-may_ack_at-count g)
     (is_passive_now c.args.self.now)
 allowed g c = c.may_ack_at-count.ensures
     ∙ (λ j. detector.may_ack (c.self.view_is j).detect (slice_index c.edges.result.now c.args.index)
-    (c.passive.ensures.value j))
+    (c.requires.passive j))
 
 due : (g : Over) (c : After-may_ack_at-count g) → c.may_ack_at-count.result ≢ 0
     → DueBy c.args.self.now (At.Ack c.args.index)
@@ -43,6 +43,10 @@ ack-seen-requires g c = may_serve (g.M.Medium.holds c.args.medium.now) c.args.se
     (At.Ack (c.args.index + 1)) _ _ c.requires.meets
     (due g (goal.at.ack-seen-requires g c).After-may_ack_at-count c.if-count-eq0.false)
 
+pub acknowledge_at-reply-requires-clause-count : goal.acknowledge_at-reply-requires-clause-count
+acknowledge_at-reply-requires-clause-count g c =
+    allowed g (goal.at.acknowledge_at-reply-requires-clause-count g c).After-may_ack_at-count
+
 pub acknowledge_at-reply-requires-clause-can : goal.acknowledge_at-reply-requires-clause-can
 acknowledge_at-reply-requires-clause-can g c =
     can_do (g.M.Medium.holds c.args.medium.now) (g.M.Medium.holds c.ack-seen.new.self) c.args.self.now
@@ -56,7 +60,7 @@ returns-clause-moves g c =
     c.acknowledge_at-reply.new.self (At.Ack c.args.index) (At.Ack (c.args.index + 1)) _ _ c.ack-seen.result
     c.acknowledge_at-reply.result c.work_of.result
     (due g (goal.at.returns-clause-moves g c).After-may_ack_at-count c.if-count-eq0.false) c.ack-seen.ensures
-    c.acknowledge_at-reply.ensures c.work_of.ensures
+    c.acknowledge_at-reply.ensures.makes c.work_of.ensures
 
 pub returns-clause-few : goal.returns-clause-few
 returns-clause-few g c = one_few _ true c.work_of.ensures

@@ -5,17 +5,20 @@ use Rattle.chip_actor.proofs.MediumLemmas.{moves_on, meets_after}
 use Rattle.chip_actor.proofs.TurnOverLemmas.{nothing_owed}
 use Rattle.chip_actor.proofs.actor.ActorState.acknowledge_all.Goals as goal
 
-pub finish-requires : goal.finish-requires
-finish-requires g c = meets_after (g.M.Medium.holds c.args.medium.now)
+pub ack_all-acked-requires-clause-passive : goal.ack_all-acked-requires-clause-passive
+ack_all-acked-requires-clause-passive g c = c.passive-passive.ensures.value
+
+pub ack_parent-requires-clause-meets : goal.ack_parent-requires-clause-meets
+ack_parent-requires-clause-meets g c = meets_after (g.M.Medium.holds c.args.medium.now)
     (g.M.Medium.holds c.ack_all-acked.new.medium) c.args.self.now c.ack_all-acked.new.self
     (At.Ack 0) At.Parent c.ack_all-acked.result c.requires c.ack_all-acked.ensures.moves
 
 pub returns-then-engaged-clause-moves : goal.returns-then-engaged-clause-moves
 returns-then-engaged-clause-moves g c =
     moves_on (g.M.Medium.holds c.args.medium.now) (g.M.Medium.holds c.ack_all-acked.new.medium)
-    (g.M.Medium.holds c.finish.new.medium) c.args.self.now c.ack_all-acked.new.self c.finish.new.self
-    (At.Ack 0) At.Parent At.Over c.ack_all-acked.result c.finish.result c.ack_all-acked.ensures.moves
-    c.finish.ensures.moves
+    (g.M.Medium.holds c.ack_parent.new.medium) c.args.self.now c.ack_all-acked.new.self c.ack_parent.new.self
+    (At.Ack 0) At.Parent At.Over c.ack_all-acked.result c.ack_parent.result c.ack_all-acked.ensures.moves
+    c.ack_parent.ensures.moves
 
 pub returns-clause-moves : goal.returns-clause-moves
 returns-clause-moves g c = nothing_owed (g.M.Medium.holds c.args.medium.now) c.args.self.now

@@ -119,6 +119,14 @@ module _ (os now : OutEnds) (same : os ≡ now) (apart : AreApart os.edges os.en
       found_out os apart place (get_or os.edges place 0) inside refl end was
       ∙ ap (λ (o : OutEnds). out_on o (get_or o.edges place 0)) same
 
+module _ (is now : InEnds) (same : is ≡ now) (apart : AreApart is.edges is.ends) (place : ℕ)
+    (within : place < length now.edges) (end : HeadState) (was : end ≡ get_or is.ends place end) where
+  pub in_there : end ≡ in_on now (get_or now.edges place 0)
+  in_there =
+      let inside = subst (λ (i : InEnds). place < length i.edges) (sym same) within in
+      found_in is apart place (get_or is.edges place 0) inside refl end was
+      ∙ ap (λ (i : InEnds). in_on i (get_or i.edges place 0)) same
+
 -- a list that was made from the numbers of edges, one end after another
 pub made_apart : {T : Type 0} (edges : List ℕ) (f : ℕ → T) (ts : List T) (i : ℕ) → IsStrictlyIncreasing edges
     → ts ≡ map f (take i edges) → length edges ≤ i → AreApart edges ts

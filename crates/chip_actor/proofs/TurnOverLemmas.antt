@@ -9,8 +9,9 @@ use Rattle.std.specs.List.{Contains}
 use Rattle.chip_graph.proofs.SumLemmas.{cond_true}
 use Rattle.chip_part.specs.Setting.{Setting}
 use Rattle.chip_link.specs.Link.{claims_of}
-use Rattle.chip_link.specs.Ends.{head_cell, tail_cell, claim_words, put_of}
+use Rattle.chip_link.specs.Ends.{HeadState, head_cell, tail_cell, claim_words, put_of}
 use Rattle.chip_detect.specs.Acknowledging as detector
+use Rattle.chip_detect.specs.Books.{in_edges}
 use Rattle.chip_part.specs.declared.act.Act.TheVariants as Do
 use Rattle.chip_part.specs.declared.cursor.Cursor.TheVariants as At
 use Rattle.chip_part.specs.Edges.{tail_of, head_of}
@@ -20,6 +21,7 @@ use Rattle.chip_part.specs.declared.cause.Cause.{Cause}
 use Rattle.chip_part.specs.Part.{Part, cause, is_by_limit, may_ack, all_owed, refusals}
 use Rattle.chip_part.specs.Rules.{Take, Ack, Fire, Clear, Claim, Put, Halt, Settle}
 use Rattle.chip_part.specs.Turn.{ins_of, outs_of, may_fire, batch_of, is_at_limit}
+use Rattle.chip_part.specs.declared.cursor.Cursor.{Cursor}
 use Rattle.chip_part.specs.Cursor.{GoesBy, out_at}
 use Rattle.chip_actor.specs.Actor.{Actor, StandsFor, WhateverPart, is_passive_now}
 use Rattle.chip_actor.specs.Medium.{Holding, Meets, Moves}
@@ -51,6 +53,25 @@ module _ (g : Setting) (s : Part) (a : Actor) (stands : StandsFor g s a) (index 
 
   out_mine : index < length a.outs.edges → slice_index a.outs.edges index ≡ edge → tail_of g edge ≡ a.vertex
   out_mine within is = ap (tail_of g) (sym (out_there is)) ∙ out_leaves g a.vertex index (out_within within)
+
+-- an end tells the number beside which it stands
+pub in_tells : (H : Holding) (a : Actor) (x : Cursor) (index : ℕ) → Meets H a x → index < length a.ins.edges
+    → (in_on a.ins (slice_index a.ins.edges index)).edge ≡ slice_index a.ins.edges index
+in_tells H a x index (g, ds, s, held, stands, at) within =
+    let edge : ℕ = slice_index a.ins.edges index in
+    ap (λ (h : HeadState). h.edge) (stands.ins edge (in_mine g s a stands index edge within refl))
+
+-- the books have the edges in the same order
+pub books_tell : (H : Holding) (a : Actor) (x : Cursor) (index : ℕ) → Meets H a x
+    → slice_index (in_edges a.detect) index ≡ slice_index a.ins.edges index
+books_tell H a x index (g, ds, s, held, stands, at) =
+    ap (λ (xs : List ℕ). slice_index xs index) (stands.knows.detect_ins ∙ sym stands.knows.ins)
+
+pub out_tells : (H : Holding) (a : Actor) (x : Cursor) (index : ℕ) → Meets H a x → index < length a.outs.edges
+    → (out_on a.outs (slice_index a.outs.edges index)).link.edge ≡ slice_index a.outs.edges index
+out_tells H a x index (g, ds, s, held, stands, at) within =
+    let edge : ℕ = slice_index a.outs.edges index in
+    ap (λ (o : OutEnd). o.link.edge) (stands.outs edge (out_mine g s a stands index edge within refl))
 
 -- ---- takes
 

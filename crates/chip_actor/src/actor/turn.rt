@@ -20,8 +20,9 @@ impl ActorState {
             (Cursor.Take (index + 1)) result }
         ensures few { result ≤ 1 }
     {
-        let edge = self.ins.edges()[index];
-        let cell = self.ins.cell_at(index, edge);
+        let end = self.ins.at(index);
+        let edge = end.edge();
+        let cell = end.cell();
         let seen = medium.take(edge, cell);
         let reply = self.take_at(index, edge, seen);
         work_of(Act::Take { edge, cell }, seen, &reply)
@@ -49,7 +50,7 @@ impl ActorState {
             (Cursor.Settle (index + 1)) result }
         ensures few { result ≤ 1 }
     {
-        let edge = self.outs.edges()[index];
+        let edge = self.outs.at(index).link.edge();
         let seen = medium.settle(edge);
         let reply = self.settle_at(index, edge, seen);
         work_of(Act::Settle { edge }, seen, &reply)
@@ -93,8 +94,9 @@ impl ActorState {
         ensures { Moves (M.holds medium.old) self.old (Cursor.Send index) (M.holds medium.new) self.new
             (Cursor.Claim index) 0 }
     {
-        let edge = self.outs.edges()[index];
-        let cell = self.outs.at(index).link.cell();
+        let out = self.outs.at(index);
+        let edge = out.link.edge();
+        let cell = out.link.cell();
         let seen = medium.clear(edge, cell);
         self.clear_at(index, edge, seen);
     }
@@ -110,8 +112,9 @@ impl ActorState {
             (Cursor.Store index) work) }
         ensures few { IfSome result (λ work. work ≤ 1) }
     {
-        let edge = self.outs.edges()[index];
-        let Some(words) = self.outs.at(index).link.claim_next() else {
+        let out = self.outs.at(index);
+        let edge = out.link.edge();
+        let Some(words) = out.link.claim_next() else {
             return None;
         };
         let seen = medium.claim(edge, words.0, words.1);
@@ -132,8 +135,9 @@ impl ActorState {
         ensures { Moves (M.holds medium.old) self.old (Cursor.Store index)
             (M.holds medium.new) self.new (if result then Cursor.Send (index + 1) else Cursor.Limit) 1 }
     {
-        let edge = self.outs.edges()[index];
-        let Some(stored) = self.outs.at(index).link.held() else {
+        let out = self.outs.at(index);
+        let edge = out.link.edge();
+        let Some(stored) = out.link.held() else {
             let seen = medium.halt(is_by_limit(self.cause()));
             self.stop(seen);
             return false;
@@ -192,7 +196,7 @@ impl ActorState {
         ensures passive { passive ≡ is_passive_now self.new }
         ensures few { result ≤ 1 }
     {
-        let edge = self.ins.edges()[index];
+        let edge = self.ins.at(index).edge();
         let count = self.detect.may_ack_at(index, edge, passive);
         if count == 0 {
             return 0;

@@ -7,7 +7,7 @@ use chip_link::{HeadLink, Message, Ring};
 use std::alloc::{AllocError, Global};
 use std::marker::Model;
 
-/// The edges into a vertex, its root edge last, by ascending numbers. The numbers stand apart, so that a search reads
+/// The edges into a vertex, its root edge last, by ascending numbers. The numbers stand apart too, so that a search reads
 /// nothing else.
 #[derive(Drop)]
 pub struct Ins {
@@ -43,16 +43,15 @@ impl Ins {
         requires { Contains self.now.edges edge }
         ensures { result ≡ head_cell (in_on self.now edge) }
     {
-        self.cell_at(self.index_of(edge), edge)
+        self.at(self.index_of(edge)).cell()
     }
 
-    /// The same of the edge at this index.
-    pub fn cell_at(&self, index: usize, edge: u64) -> u64
-        requires within { index < length self.now.edges }
-        requires edge { slice_index self.now.edges index ≡ edge }
-        ensures { result ≡ head_cell (in_on self.now edge) }
+    /// What is known of the edge at this index.
+    pub fn at(&self, index: usize) -> &HeadLink
+        requires { index < length self.now.edges }
+        ensures { result.now ≡ in_on self.now (slice_index self.now.edges index) }
     {
-        self.ends[index].cell()
+        &self.ends[index]
     }
 
     /// The message that was found in that cell of the edge at this index.

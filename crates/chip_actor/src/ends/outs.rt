@@ -19,7 +19,7 @@ pub struct OutEnd {
     pub link: TailLink,
 }
 
-/// The edges out of a vertex, by ascending numbers. The numbers stand apart, so that a search reads nothing else.
+/// The edges out of a vertex, by ascending numbers. The numbers stand apart too, so that a search reads nothing else.
 #[derive(Drop)]
 pub struct Outs {
     edges: Vec<u64>,

@@ -1,4 +1,4 @@
-use Rattle.std.proofs.Common.{◌≡◌, ◌≢◌, ◌∙◌, ℕ, List, slice_index, refl, sym, ap, subst}
+use Rattle.std.proofs.Common.{◌≡◌, ◌≢◌, ◌∙◌, ℕ, slice_index, refl, sym, ap, subst}
 use Rattle.chip_part.specs.declared.act.Act.TheVariants as Do
 use Rattle.chip_part.specs.declared.cursor.Cursor.TheVariants as At
 use Rattle.chip_actor.specs.declared.ends.outs.OutEnd.{OutEnd}
@@ -7,29 +7,32 @@ use Rattle.chip_actor.specs.Actor.{Actor}
 use Rattle.chip_link.specs.Ends.{tail_cell}
 use Rattle.chip_part.specs.Rules.{Clear}
 use Rattle.chip_actor.proofs.MediumLemmas.{DueBy, may_serve, can_do, moves_one}
-use Rattle.chip_actor.proofs.TurnOverLemmas.{clear_by}
+use Rattle.chip_actor.proofs.TurnOverLemmas.{out_tells, clear_by}
 use Rattle.chip_actor.proofs.actor.ActorState.clear_here.Goals as goal
 use Rattle.chip_actor.proofs.actor.ActorState.clear_here.Goals.{After-cell-cell}
 use Rattle.chip_actor.proofs.actor.ActorState.clear_here.Given.{Over}
 
 -- the edge stands at its index
 is : (g : Over) (c : After-cell-cell g)
-    → slice_index c.args.self.now.outs.edges c.args.index ≡ slice_index c.edges.result.now c.args.index
-is g c = sym (ap (λ (xs : List ℕ). slice_index xs c.args.index) (c.edges.ensures
-    ∙ ap (λ (a : Actor). a.outs.edges) c.self.view_is))
+    → slice_index c.args.self.now.outs.edges c.args.index ≡ c.edge-edge.result
+is g c = sym (c.edge-edge.ensures
+    ∙ ap (λ (o : OutEnd). o.link.edge) (c.at-out.ensures
+    ∙ ap (λ (a : Actor). out_on a.outs (slice_index a.outs.edges c.args.index)) c.self.view_is)
+    ∙ out_tells (g.M.Medium.holds c.args.medium.now) c.args.self.now (At.Send c.args.index) c.args.index c.requires.meets
+    c.requires.within)
 
 -- and what is known of it stands there
 there : (g : Over) (c : After-cell-cell g)
-    → c.at.result.now ≡ out_on c.args.self.now.outs (slice_index c.edges.result.now c.args.index)
-there g c = c.at.ensures ∙ ap (λ (a : Actor). out_on a.outs (slice_index a.outs.edges c.args.index)) c.self.view_is
+    → c.at-out.result.now ≡ out_on c.args.self.now.outs c.edge-edge.result
+there g c = c.at-out.ensures ∙ ap (λ (a : Actor). out_on a.outs (slice_index a.outs.edges c.args.index)) c.self.view_is
     ∙ ap (out_on c.args.self.now.outs) (is g c)
 
 due : (g : Over) (c : After-cell-cell g)
     → DueBy c.args.self.now (At.Send c.args.index)
-    (Do.Clear (slice_index c.edges.result.now c.args.index) c.cell-cell.result)
-    (Clear (slice_index c.edges.result.now c.args.index)) (At.Claim c.args.index)
+    (Do.Clear c.edge-edge.result c.cell-cell.result)
+    (Clear c.edge-edge.result) (At.Claim c.args.index)
 due g c =
-    let edge : ℕ = slice_index c.edges.result.now c.args.index in
+    let edge : ℕ = c.edge-edge.result in
     clear_by c.args.self.now c.args.index edge c.requires.within (is g c) c.cell-cell.result
     (subst (λ (e : ℕ). (out_on c.args.self.now.outs e).pending ≢ 0) (is g c) c.requires.pends)
     (c.cell-cell.ensures.cell ∙ ap (λ (o : OutEnd). tail_cell o.link) (there g c))
@@ -37,6 +40,9 @@ due g c =
 pub clear-seen-requires : goal.clear-seen-requires
 clear-seen-requires g c = may_serve (g.M.Medium.holds c.args.medium.now) c.args.self.now (At.Send c.args.index)
     (At.Claim c.args.index) _ _ c.requires.meets (due g (goal.at.clear-seen-requires g c).After-cell-cell)
+
+pub clear_at-requires-clause-edge : goal.clear_at-requires-clause-edge
+clear_at-requires-clause-edge g c = is g (goal.at.clear_at-requires-clause-edge g c).After-cell-cell
 
 pub clear_at-requires-clause-can : goal.clear_at-requires-clause-can
 clear_at-requires-clause-can g c =

@@ -75,7 +75,9 @@ impl Detect {
         ensures sound { IsSound self.new }
     {
         self.ins.add_message_at(index, edge);
-        self.parent = self.parent.or(Some(edge));
+        if self.parent.is_none() {
+            self.parent = Some(edge);
+        }
     }
 
     /// How many messages of the edge may be acknowledged now; `passive` says whether the vertex is.
@@ -93,12 +95,11 @@ impl Detect {
         ensures { result ≡ may_ack self.now edge passive }
     {
         let owed = self.ins.open_at(index, edge);
-        let is_done = self.ins.all_open() == owed && passive && self.deficit() == 0;
-        if self.parent == Some(edge) && !is_done {
-            owed - 1
-        } else {
-            owed
+        if self.parent != Some(edge) {
+            return owed;
         }
+        let is_done = self.ins.all_open() == owed && passive && self.deficit() == 0;
+        if is_done { owed } else { owed - 1 }
     }
 
     /// Notes that `count` messages of the edge were acknowledged.

@@ -13,6 +13,9 @@ use std::marker::Model;
 pub struct TailLink {
     edge: u64,
     claims: u64,
+    // How many chips the message carries that is claimed and not put, where one is. It stands beside the stage, which is
+    // then a byte.
+    count: u64,
     stage: Stage,
     ring: Ring,
     // The cell of the next place, counted round.
@@ -26,8 +29,8 @@ enum Stage {
     Idle,
     /// The cell of the next place was seen empty.
     Clear,
-    /// A message of so many chips is claimed and not put.
-    Held(u64),
+    /// A message is claimed and not put.
+    Held,
     /// A claim was refused by a seal: nothing is sent any more.
     Refused,
 }
@@ -47,7 +50,7 @@ impl Model for TailLink {
       edge = a.edge;
       ring = a.ring;
       claims = a.claims;
-      held = held_count a.stage;
+      held = held_count a.stage a.count;
       clear = is_clear a.stage;
       refused = is_refused a.stage;
     } };
@@ -65,6 +68,7 @@ impl TailLink {
         TailLink {
             edge,
             claims: 0,
+            count: 0,
             stage: Stage::Idle,
             ring,
             cell: 0,
@@ -98,7 +102,7 @@ impl TailLink {
                 self.stage = if is_clear { Stage::Clear } else { Stage::Idle };
                 is_clear
             }
-            Stage::Held(_) | Stage::Refused => false,
+            Stage::Held | Stage::Refused => false,
         }
     }
 
@@ -109,7 +113,7 @@ impl TailLink {
     {
         match self.stage {
             Stage::Clear => Some((self.claims, self.claims + 1)),
-            Stage::Idle | Stage::Held(_) | Stage::Refused => None,
+            Stage::Idle | Stage::Held | Stage::Refused => None,
         }
     }
 
@@ -130,7 +134,8 @@ impl TailLink {
         let place = self.claims;
         self.claims += 1;
         self.cell = self.ring.after(self.cell);
-        self.stage = Stage::Held(count);
+        self.count = count;
+        self.stage = Stage::Held;
         Some(Message {
             edge: self.edge,
             place,
@@ -144,7 +149,7 @@ impl TailLink {
         ensures inside { IfSome result (λ stored. stored.0 < self.now.ring) }
     {
         match self.stage {
-            Stage::Held(count) => Some((u64::from(self.ring.before(self.cell)), count)),
+            Stage::Held => Some((u64::from(self.ring.before(self.cell)), self.count)),
             Stage::Idle | Stage::Clear | Stage::Refused => None,
         }
     }
@@ -167,7 +172,7 @@ impl TailLink {
     {
         match self.stage {
             Stage::Refused => true,
-            Stage::Idle | Stage::Clear | Stage::Held(_) => false,
+            Stage::Idle | Stage::Clear | Stage::Held => false,
         }
     }
 }

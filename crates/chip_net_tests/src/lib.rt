@@ -4,6 +4,6 @@
 #[cfg(test)]
 mod crew;
 #[cfg(test)]
-mod dealt;
+mod games;
 #[cfg(test)]
 mod net;

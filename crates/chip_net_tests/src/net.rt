@@ -6,27 +6,27 @@ mod closing;
 mod feeding;
 mod threads;
 
-use chip_graph::{Edge, Game, Graph};
+use crate::games::{Edges, Ends, FOUR_CHIPS, LIMIT, TRIANGLE, expect_outcome, game_of};
 use chip_link::{Ring, TraceRow};
 use chip_net::{Actor, Net, NoEdge, Root, RootState, SealedAt, Stopper, Turn};
 use chip_sequence::Outcome;
-use std::alloc::Global;
 use std::process::Abort;
-use std::test::Fail;
 
-const TRIANGLE: [(u64, u64, u64); 4] = [(0, 1, 1), (0, 2, 1), (1, 0, 1), (1, 2, 1)];
-
-const LIMIT: u64 = 1 << 40;
-
-/// The game on these edges, with the last vertex as the sink.
-fn game(alloc: Global, edges: &[(u64, u64, u64)], start: &[u64], limit: u64) -> Result<Game, Fail> {
-    let mut rows = Vec::new(alloc);
-    for &(tail, head, mult) in edges {
-        rows.push(Edge { tail, head, mult })?;
-    }
-    let vertices = start.len() as u64;
-    let graph = Graph::new(alloc, vertices, vertices.saturating_sub(1), rows)?;
-    Ok(Game::new(graph, Vec::from_slice(alloc, start)?, limit)?)
+/// A net of this game with rings of one cell, and its tokens.
+fn open_net(
+    rt: &(impl AllocGlobal + Abort),
+    edges: &[(u64, u64, u64)],
+    start: &[u64],
+    limit: u64,
+    trace_rows: u64,
+    stoppable: bool,
+) -> (Net, Root, Vec<Actor>, Option<Stopper>)
+    ensures root { result.1.net ≡ result.0 }
+    ensures actors { All (λ a. a.net ≡ result.0) result.2.items }
+    ensures stopper { IfSome result.3 (λ s. s.net ≡ result.0) }
+{
+    let game = game_of(rt, edges, start, limit);
+    Net::open(rt.alloc(), &game, Ring::one(), trace_rows, stoppable).expect(rt, "memory")
 }
 
 /// The actor of this vertex makes a turn.
@@ -67,11 +67,12 @@ fn finished(rt: &impl Abort, net: &Net, root: Root) -> Outcome
     outcome
 }
 
-fn expect_outcome(rt: &impl Abort, outcome: &Outcome, fired: &[u64], chips: &[u64], over: &[u64]) {
-    assert_eq!(rt; outcome.fired.as_slice(), fired);
-    assert_eq!(rt; outcome.chips.as_slice(), chips);
-    assert_eq!(rt; outcome.over.as_slice(), over);
-    assert!(rt; outcome.sealed.is_empty());
+/// The root is closed, and the game ended so.
+fn finishes(rt: &impl Abort, net: &Net, root: Root, ends: &Ends, name: &str)
+    requires { root.net ≡ net.now }
+{
+    let outcome = finished(rt, net, root);
+    expect_outcome(rt, &outcome, ends, name);
 }
 
 /// The turns of four chips on the first vertex, and their end.
@@ -90,8 +91,7 @@ fn four_chips_turn(rt: &impl Abort, net: &Net, root: Root, actors: &mut Vec<Acto
     expect_turn(rt, net, actors, 1, Turn::Worked(3));
     expect_turn(rt, net, actors, 0, Turn::Worked(2));
     expect_poll(rt, net, &mut root, RootState::Closed);
-    let outcome = finished(rt, net, root);
-    expect_outcome(rt, &outcome, &[2, 1, 0], &[1, 0, 3], &[]);
+    finishes(rt, net, root, &FOUR_CHIPS, "four chips");
 }
 
 /// Their traces: the first vertex has three rows, for two of which there is room.
@@ -99,7 +99,7 @@ fn four_chips_traced(rt: &impl Abort, actors: &[Actor]) {
     let [zero, one, two] = actors else {
         panic!(rt; "the triangle has three actors");
     };
-    assert_eq!(rt; (zero.vertex(), one.vertex(), two.vertex()), (0, 1, 2));
+    assert!(rt; zero.vertex() == 0 && one.vertex() == 1 && two.vertex() == 2);
     expect_trace(
         rt,
         zero,
@@ -123,22 +123,15 @@ fn four_chips_traced(rt: &impl Abort, actors: &[Actor]) {
 fn expect_trace(rt: &impl Abort, actor: &Actor, rows: &[TraceRow], cut: bool) {
     let (written, was_cut) = actor.trace();
     assert!(rt; written == rows);
-    assert_eq!(rt; was_cut, cut);
-}
-
-fn expect_four_chips(rt: &impl Abort, alloc: Global, game: &Game) -> Result<(), Fail> {
-    let (net, root, mut actors, _stopper) = Net::open(alloc, game, Ring::one(), 2, false)?;
-    four_chips_turn(rt, &net, root, &mut actors);
-    four_chips_traced(rt, &actors);
-    Ok(())
+    assert!(rt; was_cut == cut);
 }
 
 /// Four chips on the triangle, by one thread.
 #[test]
-fn four_chips(rt: HostRuntime) -> Result<(), Fail> {
-    let alloc = rt.alloc();
-    let game = game(alloc, &TRIANGLE, &[4, 0, 0], LIMIT)?;
-    expect_four_chips(&rt, alloc, &game)
+fn four_chips(rt: HostRuntime) {
+    let (net, root, mut actors, _stopper) = open_net(&rt, TRIANGLE, &[4, 0, 0], LIMIT, 2, false);
+    four_chips_turn(&rt, &net, root, &mut actors);
+    four_chips_traced(&rt, &actors);
 }
 
 /// A turn of each actor.
@@ -167,70 +160,134 @@ fn drive(net: &Net, mut root: Root, actors: &mut Vec<Actor>) -> Root
     root
 }
 
-/// Plays a game by turns to its end, without and with a stopper that does nothing.
-fn expect_played(
-    rt: &impl Abort,
-    alloc: Global,
-    game: &Game,
-    fired: &[u64],
-    chips: &[u64],
-    over: &[u64],
-) -> Result<(), Fail> {
-    for stoppable in [false, true] {
-        let (net, root, mut actors, _stopper) = Net::open(alloc, game, Ring::one(), 0, stoppable)?;
-        let root = drive(&net, root, &mut actors);
-        let outcome = finished(rt, &net, root);
-        expect_outcome(rt, &outcome, fired, chips, over);
-    }
-    Ok(())
-}
-
-/// Plays the triangle from these chips.
-fn expect_triangle(
-    rt: &impl Abort,
-    alloc: Global,
-    start: &[u64],
+/// A game, and where it ends.
+struct Played {
+    name: &'static str,
+    edges: Edges,
+    start: &'static [u64],
     limit: u64,
-    fired: &[u64],
-    chips: &[u64],
-    over: &[u64],
-) -> Result<(), Fail> {
-    let game = game(alloc, &TRIANGLE, start, limit)?;
-    expect_played(rt, alloc, &game, fired, chips, over)
+    ends: Ends,
 }
 
-/// The empty game, chips on the sink, one chip short, the small triangle, and a vertex that fires again.
-#[test]
-fn triangles(rt: HostRuntime) -> Result<(), Fail> {
-    let alloc = rt.alloc();
-    expect_triangle(&rt, alloc, &[0, 0, 0], LIMIT, &[0, 0, 0], &[0, 0, 0], &[])?;
-    expect_triangle(&rt, alloc, &[0, 0, 9], LIMIT, &[0, 0, 0], &[0, 0, 9], &[])?;
-    expect_triangle(&rt, alloc, &[3, 0, 0], LIMIT, &[1, 0, 0], &[1, 1, 1], &[])?;
-    expect_triangle(&rt, alloc, &[4, 0, 0], LIMIT, &[2, 1, 0], &[1, 0, 3], &[])?;
-    expect_triangle(&rt, alloc, &[5, 0, 0], LIMIT, &[3, 1, 0], &[0, 1, 4], &[])
+/// Plays a game by turns to its end.
+fn plays(rt: &(impl AllocGlobal + Abort), played: &Played, stoppable: bool) {
+    let (net, root, mut actors, _stopper) = open_net(
+        rt,
+        played.edges,
+        played.start,
+        played.limit,
+        0,
+        stoppable,
+    );
+    let root = drive(&net, root, &mut actors);
+    finishes(rt, &net, root, &played.ends, played.name);
 }
 
-/// A limit of two.
-#[test]
-fn limit_of_two(rt: HostRuntime) -> Result<(), Fail> {
-    let alloc = rt.alloc();
-    expect_triangle(&rt, alloc, &[5, 0, 0], 2, &[2, 1, 0], &[2, 0, 3], &[0])
-}
+/// Games on the triangle, and on two vertices.
+const PLAYED: &[&Played] = &[
+    &Played {
+        name: "empty game",
+        edges: TRIANGLE,
+        start: &[0, 0, 0],
+        limit: LIMIT,
+        ends: Ends {
+            fired: &[0, 0, 0],
+            chips: &[0, 0, 0],
+            over: &[],
+            sealed: &[],
+        },
+    },
+    &Played {
+        name: "chips on the sink",
+        edges: TRIANGLE,
+        start: &[0, 0, 9],
+        limit: LIMIT,
+        ends: Ends {
+            fired: &[0, 0, 0],
+            chips: &[0, 0, 9],
+            over: &[],
+            sealed: &[],
+        },
+    },
+    &Played {
+        name: "one chip short",
+        edges: TRIANGLE,
+        start: &[3, 0, 0],
+        limit: LIMIT,
+        ends: Ends {
+            fired: &[1, 0, 0],
+            chips: &[1, 1, 1],
+            over: &[],
+            sealed: &[],
+        },
+    },
+    &Played {
+        name: "small triangle",
+        edges: TRIANGLE,
+        start: &[4, 0, 0],
+        limit: LIMIT,
+        ends: FOUR_CHIPS,
+    },
+    &Played {
+        name: "fires again",
+        edges: TRIANGLE,
+        start: &[5, 0, 0],
+        limit: LIMIT,
+        ends: FIVE_CHIPS,
+    },
+    &Played {
+        name: "limit of two",
+        edges: TRIANGLE,
+        start: &[5, 0, 0],
+        limit: 2,
+        ends: Ends {
+            fired: &[2, 1, 0],
+            chips: &[2, 0, 3],
+            over: &[0],
+            sealed: &[],
+        },
+    },
+    &Played {
+        name: "batch of two",
+        edges: &[(0, 1, 3)],
+        start: &[7, 0],
+        limit: LIMIT,
+        ends: Ends {
+            fired: &[2, 0],
+            chips: &[1, 6],
+            over: &[],
+            sealed: &[],
+        },
+    },
+    &Played {
+        name: "largest total",
+        edges: &[(0, 1, 1)],
+        start: &[LIMIT, 0],
+        limit: LIMIT,
+        ends: Ends {
+            fired: &[LIMIT, 0],
+            chips: &[0, LIMIT],
+            over: &[],
+            sealed: &[],
+        },
+    },
+];
 
-/// A batch of two.
-#[test]
-fn batch_of_two(rt: HostRuntime) -> Result<(), Fail> {
-    let alloc = rt.alloc();
-    let game = game(alloc, &[(0, 1, 3)], &[7, 0], LIMIT)?;
-    expect_played(&rt, alloc, &game, &[2, 0], &[1, 6], &[])
-}
+/// Where five chips on the first vertex end, which fires again.
+const FIVE_CHIPS: Ends = Ends {
+    fired: &[3, 1, 0],
+    chips: &[0, 1, 4],
+    over: &[],
+    sealed: &[],
+};
 
-/// The largest total.
+/// Each game without a stopper, and with one that does nothing.
 #[test]
-fn largest_total(rt: HostRuntime) -> Result<(), Fail> {
-    let alloc = rt.alloc();
-    let game = game(alloc, &[(0, 1, 1)], &[LIMIT, 0], LIMIT)?;
-    expect_played(&rt, alloc, &game, &[LIMIT, 0], &[0, LIMIT], &[])
+fn triangles(rt: HostRuntime) {
+    for played in PLAYED {
+        plays(&rt, played, false);
+        plays(&rt, played, true);
+    }
 }
 
 fn expect_seal(rt: &impl Abort, net: &Net, stopper: &mut Stopper, edge: u64, at: SealedAt)
@@ -268,18 +325,11 @@ fn seal_twice(rt: &impl Abort, net: &Net, stopper: Option<Stopper>)
     expect_no_edge(rt, net, &mut stopper, 4);
 }
 
-fn expect_sealed_twice(rt: &impl Abort, alloc: Global, game: &Game) -> Result<(), Fail> {
-    let (net, _root, _actors, stopper) = Net::open(alloc, game, Ring::one(), 0, true)?;
-    seal_twice(rt, &net, stopper);
-    Ok(())
-}
-
 /// An edge that is sealed twice, and a root edge.
 #[test]
-fn sealed_twice(rt: HostRuntime) -> Result<(), Fail> {
-    let alloc = rt.alloc();
-    let game = game(alloc, &TRIANGLE, &[4, 0, 0], LIMIT)?;
-    expect_sealed_twice(&rt, alloc, &game)
+fn sealed_twice(rt: HostRuntime) {
+    let (net, _root, _actors, stopper) = open_net(&rt, TRIANGLE, &[4, 0, 0], LIMIT, 0, true);
+    seal_twice(&rt, &net, stopper);
 }
 
 /// The root takes the stopper back, polls and finishes: nobody had a chip, so nobody noticed the seal.
@@ -303,16 +353,9 @@ fn take_back_and_finish(rt: &impl Abort, net: &Net, mut root: Root, stopper: Opt
     assert!(rt; outcome.sealed.is_empty());
 }
 
-fn expect_taken_back(rt: &impl Abort, alloc: Global, game: &Game) -> Result<(), Fail> {
-    let (net, root, _actors, stopper) = Net::open(alloc, game, Ring::one(), 0, true)?;
-    take_back_and_finish(rt, &net, root, stopper);
-    Ok(())
-}
-
 /// A stopper that is taken back.
 #[test]
-fn stopper_taken_back(rt: HostRuntime) -> Result<(), Fail> {
-    let alloc = rt.alloc();
-    let game = game(alloc, &TRIANGLE, &[0, 0, 0], LIMIT)?;
-    expect_taken_back(&rt, alloc, &game)
+fn stopper_taken_back(rt: HostRuntime) {
+    let (net, root, _actors, stopper) = open_net(&rt, TRIANGLE, &[0, 0, 0], LIMIT, 0, true);
+    take_back_and_finish(&rt, &net, root, stopper);
 }

@@ -3,13 +3,12 @@
 ghost use Rattle.std.specs.Prelude.{◌≡◌, length, IfSome};
 ghost use Rattle.chip_net.specs.Meeting.{AreInPlace};
 
-use super::{LIMIT, game};
+use crate::games::{LIMIT, game_of};
 use chip_graph::Game;
 use chip_link::Ring;
 use chip_net::{Actor, Net, Receipt, Root, RootState, Stopper};
-use std::alloc::Global;
+use std::alloc::AllocError;
 use std::process::Abort;
-use std::test::Fail;
 
 /// A turn of each actor, by its place.
 fn turn_in_place(net: &Net, actors: &mut Vec<Actor>)
@@ -54,47 +53,41 @@ fn seal_first(rt: &impl Abort, net: &Net, root: &mut Root, stopper: Option<Stopp
     root.take_back(net, stopper);
 }
 
-/// One chip on vertex 0, from which an edge leads to vertex 1, the sink.
-fn one_chip(alloc: Global) -> Result<Game, Fail> {
-    game(alloc, &[(0, 1, 1)], &[1, 0], LIMIT)
-}
-
-/// The net of that game, played to its end, leaves these words. There are three edges: that of the graph, and the root
-/// edges of both vertices. So the words are three edge words, three of acknowledgements, three cells and two fired
-/// words.
-fn expect_words(
-    rt: &impl Abort,
-    alloc: Global,
+/// The words that the net of this game leaves.
+fn words_left(
+    rt: &(impl AllocGlobal + Abort),
     game: &Game,
     sealed: bool,
-    words: &[u64],
-) -> Result<(), Fail> {
-    let (net, mut root, mut actors, stopper) = Net::open(alloc, game, Ring::one(), 0, sealed)?;
+) -> Result<Vec<u64>, AllocError> {
+    let (net, mut root, mut actors, stopper) = Net::open(rt.alloc(), game, Ring::one(), 0, sealed)?;
     if sealed {
         seal_first(rt, &net, &mut root, stopper);
     }
     let receipt = play_out(rt, &net, root, &mut actors);
-    let left = net.into_words(alloc, receipt, actors)?;
-    assert_eq!(rt; left.as_slice(), words);
-    Ok(())
+    net.into_words(rt.alloc(), receipt, actors)
+}
+
+/// One chip lies on vertex 0, from which an edge leads to vertex 1, the sink. There are three edges: that of the graph,
+/// and the root edges of both vertices. So the words are three edge words, three of acknowledgements, three cells and
+/// two fired words.
+fn expect_words(rt: &(impl AllocGlobal + Abort), sealed: bool, words: &[u64]) {
+    let game = game_of(rt, &[(0, 1, 1)], &[1, 0], LIMIT);
+    let left = words_left(rt, &game, sealed).expect(rt, "memory");
+    assert!(rt; left.as_slice() == words, "{left:?}");
 }
 
 /// One message went over the edge and one over the first root edge, both were taken and acknowledged, and vertex 0
 /// fired once.
 #[test]
-fn words_at_the_end(rt: HostRuntime) -> Result<(), Fail> {
-    let alloc = rt.alloc();
-    let game = one_chip(alloc)?;
-    let words = [1, 1, 0, 1, 1, 0, 0, 0, 0, 1, 0];
-    expect_words(&rt, alloc, &game, false, &words)
+fn words_at_the_end(rt: HostRuntime) {
+    expect_words(&rt, false, &[1, 1, 0, 1, 1, 0, 0, 0, 0, 1, 0]);
 }
+
+/// The seal's bit, of an edge word and of a fired word.
+const SEAL: u64 = 1 << 63;
 
 /// The edge was sealed before the first turn: nothing was sent on it, and vertex 0 fired once and halted by the seal.
 #[test]
-fn words_of_a_sealed_edge(rt: HostRuntime) -> Result<(), Fail> {
-    let alloc = rt.alloc();
-    let game = one_chip(alloc)?;
-    let bit: u64 = 1 << 63;
-    let words = [bit, 1, 0, 0, 1, 0, 0, 0, 0, bit + 1, 0];
-    expect_words(&rt, alloc, &game, true, &words)
+fn words_of_a_sealed_edge(rt: HostRuntime) {
+    expect_words(&rt, true, &[SEAL, 1, 0, 0, 1, 0, 0, 0, 0, SEAL + 1, 0]);
 }

@@ -1,34 +1,32 @@
 //! Nets that are fed while they run.
 
-ghost use Rattle.std.specs.Prelude.{◌≡◌, ◌<◌, ◌≤◌, All, IfOk};
+ghost use Rattle.std.specs.Prelude.{◌≡◌, ◌<◌, ◌≤◌, All};
 
 use super::threads::{poll_until, turn_until};
-use super::{
-    LIMIT, TRIANGLE, all_turn, drive, expect_open, expect_outcome, expect_poll, finished, game,
-};
-use chip_graph::Game;
+use super::{all_turn, drive, expect_open, expect_poll, finishes};
+use crate::games::{Ends, FOUR_CHIPS, LIMIT, TRIANGLE, game_of};
 use chip_link::Ring;
 use chip_net::{Actor, FeedFault, Net, Root, RootState};
-use std::alloc::Global;
 use std::process::Abort;
 use std::sync::atomic::AtomicBool;
-use std::test::Fail;
 use std::thread::{self, Threads};
 
 /// The triangle with these chips as a net that is fed, with rings of one cell.
-fn open_triangle(
-    rt: &(impl AllocGlobal + Abort),
-    start: &[u64],
-) -> Result<(Net, Root, Vec<Actor>), Fail>
-    ensures root { IfOk result (λ r. r.1.net ≡ r.0) }
-    ensures actors { IfOk result (λ r. All (λ a. a.net ≡ r.0) r.2.items) }
-    ensures vertices { IfOk result (λ r. 0 < r.0.setting.game.graph.vertices) }
+fn open_triangle(rt: &(impl AllocGlobal + Abort), start: &[u64]) -> (Net, Root, Vec<Actor>)
+    ensures root { result.1.net ≡ result.0 }
+    ensures actors { All (λ a. a.net ≡ result.0) result.2.items }
+    ensures vertices { 0 < result.0.setting.game.graph.vertices }
 {
-    let alloc = rt.alloc();
-    let game = game(alloc, &TRIANGLE, start, LIMIT)?;
-    let (net, root, actors, _stopper) = Net::open_fed(alloc, &game, Ring::one(), 0, false)?;
+    let game = game_of(rt, TRIANGLE, start, LIMIT);
+    let (net, root, actors, _stopper) = Net::open_fed(
+        rt.alloc(),
+        &game,
+        Ring::one(),
+        0,
+        false,
+    ).expect(rt, "memory");
     assert!(rt; !actors.is_empty());
-    Ok((net, root, actors))
+    (net, root, actors)
 }
 
 /// Feeds so many chips to the first vertex.
@@ -56,14 +54,6 @@ fn expect_end(rt: &impl Abort, net: &Net, root: &mut Root, state: RootState)
     assert!(rt; ended == state);
 }
 
-/// The end of four chips on the first vertex.
-fn expect_four_chips(rt: &impl Abort, net: &Net, root: Root)
-    requires { root.net ≡ net.now }
-{
-    let outcome = finished(rt, net, root);
-    expect_outcome(rt, &outcome, &[2, 1, 0], &[1, 0, 3], &[]);
-}
-
 /// Feeds four chips at once, and notes the end.
 fn feed_four(rt: &impl Abort, net: &Net, mut root: Root) -> Root
     requires root { root.net ≡ net.now }
@@ -79,12 +69,11 @@ fn feed_four(rt: &impl Abort, net: &Net, mut root: Root) -> Root
 
 /// Four chips at once, then the end.
 #[test]
-fn four_fed(rt: HostRuntime) -> Result<(), Fail> {
-    let (net, root, mut actors) = open_triangle(&rt, &[0, 0, 0])?;
+fn four_fed(rt: HostRuntime) {
+    let (net, root, mut actors) = open_triangle(&rt, &[0, 0, 0]);
     let root = feed_four(&rt, &net, root);
     let root = drive(&net, root, &mut actors);
-    expect_four_chips(&rt, &net, root);
-    Ok(())
+    finishes(&rt, &net, root, &FOUR_CHIPS, "four chips");
 }
 
 /// Three chips fill the ring, and one more goes in once the actors have turned.
@@ -118,13 +107,12 @@ fn end_twice(rt: &impl Abort, net: &Net, mut root: Root) -> Root
 
 /// A full ring, which is free again after turns. Without the end the net runs on with nothing outstanding.
 #[test]
-fn fed_twice(rt: HostRuntime) -> Result<(), Fail> {
-    let (net, root, mut actors) = open_triangle(&rt, &[0, 0, 0])?;
+fn fed_twice(rt: HostRuntime) {
+    let (net, root, mut actors) = open_triangle(&rt, &[0, 0, 0]);
     let root = feed_twice(&rt, &net, root, &mut actors);
     let root = drive(&net, root, &mut actors);
     let root = end_twice(&rt, &net, root);
-    expect_four_chips(&rt, &net, root);
-    Ok(())
+    finishes(&rt, &net, root, &FOUR_CHIPS, "four chips");
 }
 
 /// A chip for the first vertex is refused.
@@ -137,25 +125,20 @@ fn expect_refused(rt: &impl Abort, net: &Net, mut root: Root, fault: FeedFault)
 
 /// No chip is fed past the largest total.
 #[test]
-fn largest_total(rt: HostRuntime) -> Result<(), Fail> {
-    let (net, root, _actors) = open_triangle(&rt, &[0, 0, LIMIT])?;
+fn largest_total(rt: HostRuntime) {
+    let (net, root, _actors) = open_triangle(&rt, &[0, 0, LIMIT]);
     expect_refused(&rt, &net, root, FeedFault::Total);
-    Ok(())
-}
-
-fn expect_not_fed(rt: &impl Abort, alloc: Global, game: &Game) -> Result<(), Fail> {
-    let (net, root, actors, _stopper) = Net::open(alloc, game, Ring::one(), 0, false)?;
-    assert!(rt; !actors.is_empty());
-    expect_refused(rt, &net, root, FeedFault::Ended);
-    Ok(())
 }
 
 /// Nothing is fed to a net that isn't opened for it.
 #[test]
-fn not_for_feeding(rt: HostRuntime) -> Result<(), Fail> {
-    let alloc = rt.alloc();
-    let game = game(alloc, &TRIANGLE, &[0, 0, 0], LIMIT)?;
-    expect_not_fed(&rt, alloc, &game)
+fn not_for_feeding(rt: HostRuntime) {
+    let game = game_of(&rt, TRIANGLE, &[0, 0, 0], LIMIT);
+    let (net, root, actors, _stopper) = Net::open(rt.alloc(), &game, Ring::one(), 0, false).expect(
+        &rt, "memory",
+    );
+    assert!(rt; !actors.is_empty());
+    expect_refused(&rt, &net, root, FeedFault::Ended);
 }
 
 /// Feeds so many single chips to the first vertex, notes the end, and polls until the root is closed.
@@ -203,10 +186,15 @@ fn turn_and_feed<R: Threads>(rt: &R, net: &Net, actors: Vec<Actor>, root: Root, 
 /// A thousand chips, fed one by one while another thread turns, end as they do where all lie there from the start:
 /// vertex 0 has 1000 - 2 * 666 + 333 left, vertex 1 has 666 - 2 * 333, and the sink got 666 + 333.
 #[test]
-fn fed_on_threads(rt: HostRuntime) -> Result<(), Fail> {
-    let (net, root, actors) = open_triangle(&rt, &[0, 0, 0])?;
+fn fed_on_threads(rt: HostRuntime) {
+    let (net, root, actors) = open_triangle(&rt, &[0, 0, 0]);
     let root = turn_and_feed(&rt, &net, actors, root, 1000);
-    let outcome = finished(&rt, &net, root);
-    expect_outcome(&rt, &outcome, &[666, 333, 0], &[1, 0, 999], &[]);
-    Ok(())
+    finishes(&rt, &net, root, &THOUSAND, "a thousand chips");
 }
+
+const THOUSAND: Ends = Ends {
+    fired: &[666, 333, 0],
+    chips: &[1, 0, 999],
+    over: &[],
+    sealed: &[],
+};

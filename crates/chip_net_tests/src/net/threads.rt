@@ -2,16 +2,14 @@
 
 ghost use Rattle.std.specs.Prelude.{◌≡◌, ◌<◌, All, IfOk, IfSome};
 
-use super::{LIMIT, TRIANGLE, all_turn, drive, expect_outcome, finished, game};
-use chip_graph::{Edge, Game, Graph};
-use chip_link::Ring;
+use super::{FIVE_CHIPS, all_turn, drive, finished, open_net};
+use crate::games::{Ends, LIMIT, TRIANGLE, adds_up, expect_outcome};
 use chip_net::{Actor, Net, Root, RootState, Stopper};
 use chip_sequence::Outcome;
-use std::alloc::{AllocError, Global};
+use std::alloc::AllocError;
 use std::process::Abort;
 use std::sync::atomic::AtomicBool;
 use std::sync::atomic::Ordering::SeqCst;
-use std::test::Fail;
 use std::thread::{self, Threads};
 
 /// How many calls a thread makes at most.
@@ -176,30 +174,27 @@ fn tail_of(net: &Net, actors: &mut Vec<Actor>, at: usize) -> Result<Vec<Actor>, 
 }
 
 /// Plays a game on threads, which share the actors by thirds, and seals an edge of it where it is stoppable.
-fn played_on_threads<R: Threads + Sync + Abort>(
+fn played_on_threads<R: Threads + Sync + Abort + AllocGlobal>(
     rt: &R,
-    alloc: Global,
-    game: &Game,
+    edges: &[(u64, u64, u64)],
+    start: &[u64],
     stoppable: bool,
     edge: u64,
-) -> Result<Outcome, Fail> {
-    let (net, root, mut actors, stopper) = Net::open(alloc, game, Ring::one(), 0, stoppable)?;
+) -> Outcome {
+    let (net, root, mut actors, stopper) = open_net(rt, edges, start, LIMIT, 0, stoppable);
     let third = actors.len() / 3;
-    let last = tail_of(&net, &mut actors, 2 * third)?;
-    let middle = tail_of(&net, &mut actors, third)?;
+    let last = tail_of(&net, &mut actors, 2 * third).expect(rt, "memory");
+    let middle = tail_of(&net, &mut actors, third).expect(rt, "memory");
     let shares = (actors, middle, last);
     let root = all_play(rt, &net, shares, stopper, edge, root);
-    Ok(finished(rt, &net, root))
+    finished(rt, &net, root)
 }
 
 /// A vertex fires again, with a thread for each actor and one that polls.
 #[test]
-fn fires_again(rt: HostRuntime) -> Result<(), Fail> {
-    let alloc = rt.alloc();
-    let game = game(alloc, &TRIANGLE, &[5, 0, 0], LIMIT)?;
-    let outcome = played_on_threads(&rt, alloc, &game, false, 0)?;
-    expect_outcome(&rt, &outcome, &[3, 1, 0], &[0, 1, 4], &[]);
-    Ok(())
+fn fires_again(rt: HostRuntime) {
+    let outcome = played_on_threads(&rt, TRIANGLE, &[5, 0, 0], false, 0);
+    expect_outcome(&rt, &outcome, &FIVE_CHIPS, "fires again");
 }
 
 /// How wide the grid is.
@@ -220,87 +215,66 @@ fn neighbours(row: u64, column: u64) -> [u64; 4]
     ]
 }
 
-/// The edges of a cell of the grid: one to each neighbour.
-fn add_cell(edges: &mut Vec<Edge>, tail: u64) -> Result<(), AllocError>
-    requires { tail < 64 }
-{
-    for head in neighbours(tail / SIDE, tail % SIDE) {
-        edges.push(Edge {
-            tail,
-            head,
-            mult: 1,
-        })?;
-    }
-    Ok(())
-}
-
 /// The edges of the grid: each cell has one to each of its neighbours, and to the sink those that have no neighbour.
-fn grid(alloc: Global) -> Result<Vec<Edge>, AllocError> {
-    let mut edges = Vec::new(alloc);
+fn grid(rt: &(impl AllocGlobal + Abort)) -> Vec<(u64, u64, u64)> {
+    let mut edges = Vec::new(rt.alloc());
     for tail in 0..SIDE * SIDE {
-        add_cell(&mut edges, tail)?;
+        for head in neighbours(tail / SIDE, tail % SIDE) {
+            edges.push((tail, head, 1)).expect(rt, "memory");
+        }
     }
-    Ok(edges)
+    edges
 }
 
-/// The grid with these chips.
-fn grid_game(alloc: Global, chips: &[u64]) -> Result<Game, Fail> {
-    let graph = Graph::new(alloc, SIDE * SIDE + 1, SIDE * SIDE, grid(alloc)?)?;
-    Ok(Game::new(graph, Vec::from_slice(alloc, chips)?, LIMIT)?)
-}
+/// How often each cell and the sink fire where each cell has four chips, and the chips that they end with: what
+/// `examples/play.py` says.
+const GRID_ENDS: Ends = Ends {
+    fired: &[
+        3, 4, 4, 4, 4, 4, 4, 3, 4, 6, 7, 7, 7, 7, 6, 4, 4, 7, 9, 9, 9, 9, 7, 4, 4, 7, 9, 10, 10, 9,
+        7, 4, 4, 7, 9, 10, 10, 9, 7, 4, 4, 7, 9, 9, 9, 9, 7, 4, 4, 6, 7, 7, 7, 7, 6, 4, 3, 4, 4, 4,
+        4, 4, 4, 3, 0,
+    ],
+    chips: &[
+        0, 1, 3, 3, 3, 3, 1, 0, 1, 2, 2, 3, 3, 2, 2, 1, 3, 2, 0, 3, 3, 0, 2, 3, 3, 3, 3, 2, 2, 3,
+        3, 3, 3, 3, 3, 2, 2, 3, 3, 3, 3, 2, 0, 3, 3, 0, 2, 3, 1, 2, 2, 3, 3, 2, 2, 1, 0, 1, 3, 3,
+        3, 3, 1, 0, 120,
+    ],
+    over: &[],
+    sealed: &[],
+};
 
-/// How often each cell and the sink fire where each cell has four chips: what `examples/play.py` says.
-const FIRED: [u64; 65] = [
-    3, 4, 4, 4, 4, 4, 4, 3, 4, 6, 7, 7, 7, 7, 6, 4, 4, 7, 9, 9, 9, 9, 7, 4, 4, 7, 9, 10, 10, 9, 7,
-    4, 4, 7, 9, 10, 10, 9, 7, 4, 4, 7, 9, 9, 9, 9, 7, 4, 4, 6, 7, 7, 7, 7, 6, 4, 3, 4, 4, 4, 4, 4,
-    4, 3, 0,
-];
-
-/// The chips that they end with, by the same.
-const CHIPS: [u64; 65] = [
-    0, 1, 3, 3, 3, 3, 1, 0, 1, 2, 2, 3, 3, 2, 2, 1, 3, 2, 0, 3, 3, 0, 2, 3, 3, 3, 3, 2, 2, 3, 3, 3,
-    3, 3, 3, 2, 2, 3, 3, 3, 3, 2, 0, 3, 3, 0, 2, 3, 1, 2, 2, 3, 3, 2, 2, 1, 0, 1, 3, 3, 3, 3, 1, 0,
-    120,
-];
-
-/// Played on by turns from where it ended, the game with four chips on each cell comes to its end.
-fn expect_plays_on(rt: &impl Abort, alloc: Global, outcome: &Outcome) -> Result<(), Fail> {
-    let game = grid_game(alloc, &outcome.chips)?;
-    let (net, root, mut actors, _stopper) = Net::open(alloc, &game, Ring::one(), 0, false)?;
+/// Played on by turns from these chips.
+fn played_on(rt: &(impl AllocGlobal + Abort), edges: &[(u64, u64, u64)], chips: &[u64]) -> Outcome {
+    let (net, root, mut actors, _stopper) = open_net(rt, edges, chips, LIMIT, 0, false);
     let root = drive(&net, root, &mut actors);
-    let more = finished(rt, &net, root);
-    for ((fired, more), all) in outcome.fired.iter().zip(&more.fired).zip(&FIRED) {
-        assert_eq!(rt; fired.checked_add(*more), Some(*all));
-    }
-    assert_eq!(rt; more.chips.as_slice(), CHIPS.as_slice());
-    Ok(())
+    finished(rt, &net, root)
 }
 
-/// Threads play the game, and all but each fourth round seal an edge, each time another one.
-fn expect_round<R: Threads + Sync + Abort>(
+/// Threads play the game, and all but each fourth round seal an edge, each time another one. Played on by turns from
+/// where it ended, it comes to its end.
+fn plays_round<R: Threads + Sync + Abort + AllocGlobal>(
     rt: &R,
-    alloc: Global,
-    game: &Game,
+    edges: &[(u64, u64, u64)],
+    start: &[u64],
     round: u64,
-) -> Result<(), Fail>
+)
     requires { round < 100 }
 {
-    let outcome = played_on_threads(rt, alloc, game, round % 4 != 0, round * 2)?;
+    let outcome = played_on_threads(rt, edges, start, round % 4 != 0, round * 2);
     if outcome.sealed.is_empty() {
-        expect_outcome(rt, &outcome, &FIRED, &CHIPS, &[]);
+        expect_outcome(rt, &outcome, &GRID_ENDS, "grid");
     }
-    expect_plays_on(rt, alloc, &outcome)
+    let more = played_on(rt, edges, &outcome.chips);
+    assert!(rt; adds_up(&outcome, &more, &GRID_ENDS), "round {round}");
 }
 
 /// Threads that turn, poll and seal at once, a hundred times on the grid, each time with another edge to seal.
 #[test]
-fn grids(rt: HostRuntime) -> Result<(), Fail> {
-    let alloc = rt.alloc();
-    let mut chips = vec![in alloc; 4; (SIDE * SIDE) as usize]?;
-    chips.push(0)?;
-    let game = grid_game(alloc, &chips)?;
+fn grids(rt: HostRuntime) {
+    let edges = grid(&rt);
+    let mut start = vec![in rt.alloc(); 4; (SIDE * SIDE) as usize].expect(&rt, "memory");
+    start.push(0).expect(&rt, "memory");
     for round in 0..100 {
-        expect_round(&rt, alloc, &game, round)?;
+        plays_round(&rt, &edges, &start, round);
     }
-    Ok(())
 }

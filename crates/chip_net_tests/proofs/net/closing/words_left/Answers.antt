@@ -3,7 +3,7 @@ use Rattle.std.specs.Prelude.{slice_get}
 use Rattle.std.proofs.lemmas.Option.{slice_get_within}
 use Rattle.chip_net.specs.Tokens.{NetId, ActorKnown, newcomer}
 use Rattle.chip_net.specs.Meeting.{AreInPlace}
-use Rattle.chip_net_tests.proofs.net.closing.expect_words.Goals as goal
+use Rattle.chip_net_tests.proofs.net.closing.words_left.Goals as goal
 
 some_is : (a b : ActorKnown) → Some a ≡ Some b → a ≡ b
 some_is a b e = cc

@@ -70,87 +70,86 @@ const fn edge(tail: u64, head: u64) -> Edge {
 }
 
 #[test]
-fn reads_the_triangle(rt: HostRuntime) -> Result<(), FileFault> {
-    let graph = triangle(rt.alloc())?;
+fn reads_the_triangle(rt: HostRuntime) {
+    let graph = triangle(rt.alloc()).expect(&rt, "a graph");
     let edges = [edge(0, 1), edge(0, 2), edge(1, 0), edge(1, 2)];
     assert!(rt; graph.vertices() == 3 && graph.sink() == 2);
     assert!(rt; graph.edges() == edges.as_slice());
-    Ok(())
 }
 
 /// Texts of graphs, each with the first thing wrong with it, if something is.
-const GRAPHS: [(&str, Option<FileFault>); 23] = [
-    (TRIANGLE, None),
-    (
+const GRAPHS: &[&(&str, Option<FileFault>)] = &[
+    &(TRIANGLE, None),
+    &(
         "{\"edges\":[],\"sink\":0,\"version\":1,\"vertices\":1}",
         None,
     ),
-    (
+    &(
         " {\"sink\":7, \"vertices\":1,\"edges\":[],\"version\":1,\"sink\":0}\r\n",
         None,
     ),
-    (
+    &(
         "{\"edges\":[[0,1,1],[1,0,1],[2,3,1]],\"sink\":3,\"version\":1,\"vertices\":4}",
         Some(FileFault::Graph(GraphFault::Unreached(0))),
     ),
-    (
+    &(
         "{\"edges\":[[1,1,1]],\"sink\":2,\"version\":1,\"vertices\":3}",
         Some(FileFault::Graph(GraphFault::Loop(0))),
     ),
-    (
+    &(
         "{\"edges\":[[2,2,1]],\"sink\":2,\"version\":1,\"vertices\":3}",
         Some(FileFault::Graph(GraphFault::Loop(0))),
     ),
-    (
+    &(
         "{\"edges\":[],\"sink\":0,\"version\":1,\"vertices\":0}",
         Some(FileFault::Graph(GraphFault::Vertices)),
     ),
-    (
+    &(
         "{\"edges\":[],\"sink\":0,\"version\":2,\"vertices\":0}",
         Some(FileFault::Version),
     ),
-    (
+    &(
         "{\"edges\":[],\"sink\":0,\"version\":1,\"vertices\":1,\"x\":0}",
         Some(FileFault::Shape),
     ),
-    (
+    &(
         "{\"edges\":[],\"sink\":0,\"version\":1}",
         Some(FileFault::Shape),
     ),
-    (
+    &(
         "{\"edges\":[[0,1,1.5]],\"sink\":1,\"version\":2,\"vertices\":2}",
         Some(FileFault::Shape),
     ),
-    (
+    &(
         "{\"edges\":[[0,1]],\"sink\":1,\"version\":1,\"vertices\":2}",
         Some(FileFault::Shape),
     ),
-    (
+    &(
         "{\"edges\":[[0,1,1,1]],\"sink\":1,\"version\":1,\"vertices\":2}",
         Some(FileFault::Shape),
     ),
-    (
+    &(
         "{\"edges\":[],\"sink\":-0,\"version\":1,\"vertices\":1}",
         Some(FileFault::Shape),
     ),
-    (
+    &(
         "{\"edges\":[],\"sink\":0,\"version\":1,\"vertices\":1e0}",
         Some(FileFault::Shape),
     ),
-    (
+    &(
         "{\"edges\":[],\"sink\":18446744073709551616,\"version\":1,\"vertices\":1}",
         Some(FileFault::Shape),
     ),
-    (
+    &(
         "{\"edges\":[],\"sink\":18446744073709551615,\"version\":1,\"vertices\":1}",
         Some(FileFault::Graph(GraphFault::Sink)),
     ),
-    ("[]", Some(FileFault::Shape)),
-    ("", Some(FileFault::NotJson)),
-    ("{}}", Some(FileFault::NotJson)),
-    ("\u{feff}{}", Some(FileFault::NotJson)),
-    ("1e400", Some(FileFault::NotJson)),
-    ("1e300", Some(FileFault::Shape)),
+    &("[]", Some(FileFault::Shape)),
+    &("", Some(FileFault::NotJson)),
+    &("{}}", Some(FileFault::NotJson)),
+    &("\u{feff}{}", Some(FileFault::NotJson)),
+    &("1e400", Some(FileFault::NotJson)),
+    &("1e300", Some(FileFault::Shape)),
 ];
 
 /// The first thing wrong with a text of a graph, if something is.
@@ -160,7 +159,7 @@ fn fault_of_graph(alloc: Global, mut text: &[u8]) -> Option<FileFault> {
 
 #[test]
 fn names_the_first_fault_of_a_graph(rt: HostRuntime) {
-    for (text, fault) in &GRAPHS {
+    for (text, fault) in GRAPHS {
         let found = fault_of_graph(rt.alloc(), text.as_bytes());
         assert!(rt; found == *fault, "{text}: {found:?}");
     }
@@ -187,14 +186,14 @@ fn each_cut_of_the_triangle_is_no_json(rt: HostRuntime) {
 }
 
 /// Texts of chips on three vertices, each with what it means.
-const CHIPS: [(&str, [u64; 3]); 7] = [
-    ("vertex,chips\n", [0, 0, 0]),
-    ("vertex,chips\n00,04\n", [4, 0, 0]),
-    ("vertex,chips\r\n2,7\r\n\r\n0,4", [4, 0, 7]),
-    ("\"vertex\",\"chips\"\n\"1\",\"5\"\n", [0, 5, 0]),
-    ("\u{feff}vertex,chips\n1,1099511627776\n", [0, 1 << 40, 0]),
-    ("vertex,chips\n1,\"2", [0, 2, 0]),
-    ("vertex,chips\n1,00000000000000000002\n", [0, 2, 0]),
+const CHIPS: &[&(&str, [u64; 3])] = &[
+    &("vertex,chips\n", [0, 0, 0]),
+    &("vertex,chips\n00,04\n", [4, 0, 0]),
+    &("vertex,chips\r\n2,7\r\n\r\n0,4", [4, 0, 7]),
+    &("\"vertex\",\"chips\"\n\"1\",\"5\"\n", [0, 5, 0]),
+    &("\u{feff}vertex,chips\n1,1099511627776\n", [0, 1 << 40, 0]),
+    &("vertex,chips\n1,\"2", [0, 2, 0]),
+    &("vertex,chips\n1,00000000000000000002\n", [0, 2, 0]),
 ];
 
 /// The chips on three vertices that a text means.
@@ -203,48 +202,47 @@ fn chips_of(alloc: Global, mut text: &[u8]) -> Result<Vec<u64>, FileFault> {
 }
 
 #[test]
-fn reads_chips(rt: HostRuntime) -> Result<(), FileFault> {
-    for (text, chips) in &CHIPS {
-        let read = chips_of(rt.alloc(), text.as_bytes())?;
+fn reads_chips(rt: HostRuntime) {
+    for (text, chips) in CHIPS {
+        let read = chips_of(rt.alloc(), text.as_bytes()).expect(&rt, text);
         assert!(rt; read.as_slice() == chips.as_slice(), "{text}");
     }
-    Ok(())
 }
 
 /// Texts that mean no chips on three vertices, each with the first thing wrong with it.
-const WRONG_CHIPS: [(&str, FileFault); 23] = [
-    ("", FileFault::Header),
-    ("0,4\n", FileFault::Header),
-    ("vertex,chips,more\n", FileFault::Header),
-    ("vertex\n", FileFault::Header),
-    ("vertex, chips\n", FileFault::Header),
-    ("chips,vertex\n", FileFault::Header),
-    ("vertex,chips\n0,4\n0,1\n", FileFault::Repeated(1)),
-    ("vertex,chips\n0,-1\n", FileFault::Number(0)),
-    ("vertex,chips\n0,+1\n", FileFault::Number(0)),
-    ("vertex,chips\n0,\n", FileFault::Number(0)),
-    ("vertex,chips\n0, 1\n", FileFault::Number(0)),
-    ("vertex,chips\n0,1e3\n", FileFault::Number(0)),
-    (
+const WRONG_CHIPS: &[&(&str, FileFault)] = &[
+    &("", FileFault::Header),
+    &("0,4\n", FileFault::Header),
+    &("vertex,chips,more\n", FileFault::Header),
+    &("vertex\n", FileFault::Header),
+    &("vertex, chips\n", FileFault::Header),
+    &("chips,vertex\n", FileFault::Header),
+    &("vertex,chips\n0,4\n0,1\n", FileFault::Repeated(1)),
+    &("vertex,chips\n0,-1\n", FileFault::Number(0)),
+    &("vertex,chips\n0,+1\n", FileFault::Number(0)),
+    &("vertex,chips\n0,\n", FileFault::Number(0)),
+    &("vertex,chips\n0, 1\n", FileFault::Number(0)),
+    &("vertex,chips\n0,1e3\n", FileFault::Number(0)),
+    &(
         "vertex,chips\n0,18446744073709551616\n",
         FileFault::Number(0),
     ),
-    (
+    &(
         "vertex,chips\n0,000000000000000000001\n",
         FileFault::Number(0),
     ),
-    ("vertex,chips\n0,4\nvertex,chips\n", FileFault::Number(1)),
-    ("vertex,chips\n3,x\n", FileFault::Number(0)),
-    ("vertex,chips\n3,1\n", FileFault::Vertex(0)),
-    (
+    &("vertex,chips\n0,4\nvertex,chips\n", FileFault::Number(1)),
+    &("vertex,chips\n3,x\n", FileFault::Number(0)),
+    &("vertex,chips\n3,1\n", FileFault::Vertex(0)),
+    &(
         "vertex,chips\n18446744073709551615,1\n",
         FileFault::Vertex(0),
     ),
-    ("vertex,chips\n0\n", FileFault::Row(0)),
-    ("vertex,chips\n1,1\n0,1,1\n", FileFault::Row(1)),
-    ("vertex,chips\n0,1099511627777\n", FileFault::Total),
-    ("vertex,chips\n0,1099511627776\n1,1\n", FileFault::Total),
-    (
+    &("vertex,chips\n0\n", FileFault::Row(0)),
+    &("vertex,chips\n1,1\n0,1,1\n", FileFault::Row(1)),
+    &("vertex,chips\n0,1099511627777\n", FileFault::Total),
+    &("vertex,chips\n0,1099511627776\n1,1\n", FileFault::Total),
+    &(
         "vertex,chips\n0,18446744073709551615\n1,1\n5,5\n",
         FileFault::Vertex(2),
     ),
@@ -252,7 +250,7 @@ const WRONG_CHIPS: [(&str, FileFault); 23] = [
 
 #[test]
 fn names_the_first_fault_of_chips(rt: HostRuntime) {
-    for (text, fault) in &WRONG_CHIPS {
+    for (text, fault) in WRONG_CHIPS {
         let found = chips_of(rt.alloc(), text.as_bytes()).err();
         assert!(rt; found.as_ref() == Some(fault), "{text}: {found:?}");
     }
@@ -265,40 +263,38 @@ fn chips_that_are_no_text(rt: HostRuntime) {
 }
 
 #[test]
-fn a_slow_reader_gives_the_same_graph(rt: HostRuntime) -> Result<(), FileFault> {
-    let graph = read_graph(rt.alloc(), &mut Slow::new(TRIANGLE.as_bytes(), None))?;
+fn a_slow_reader_gives_the_same_graph(rt: HostRuntime) {
+    let graph = read_graph(rt.alloc(), &mut Slow::new(TRIANGLE.as_bytes(), None)).expect(
+        &rt, "a graph",
+    );
     assert!(rt; graph.vertices() == 3 && graph.edges().len() == 4);
-    Ok(())
 }
 
 #[test]
-fn a_slow_reader_gives_the_same_chips(rt: HostRuntime) -> Result<(), FileFault> {
+fn a_slow_reader_gives_the_same_chips(rt: HostRuntime) {
     let rows = b"vertex,chips\n2,3\n0,1\n";
-    let chips = read_chips(rt.alloc(), &mut Slow::new(rows, None), 3)?;
+    let chips = read_chips(rt.alloc(), &mut Slow::new(rows, None), 3).expect(&rt, "chips");
     assert!(rt; chips.as_slice() == [1, 0, 3].as_slice());
-    Ok(())
 }
 
 #[test]
-fn a_slow_reader_is_read_to_its_end(rt: HostRuntime) -> Result<(), FileFault> {
+fn a_slow_reader_is_read_to_its_end(rt: HostRuntime) {
     let text = TRIANGLE.as_bytes();
     let mut slow = Slow::new(text, None);
-    let read = read_whole(rt.alloc(), &mut slow)?;
+    let read = read_whole(rt.alloc(), &mut slow).expect(&rt, "a whole read");
     assert!(rt; read.as_slice() == text);
-    assert_eq!(rt; slow.reads, text.len().saturating_add(1));
-    Ok(())
+    assert!(rt; slow.reads == text.len().saturating_add(1));
 }
 
 #[test]
-fn a_source_tells_the_reads_to_the_end(rt: HostRuntime) -> Result<(), FileFault> {
+fn a_source_tells_the_reads_to_the_end(rt: HostRuntime) {
     let mut slow = Slow::new(b"abc", None);
     let mut source = Source::new(&mut slow);
     assert!(rt; source.reads() == 0 && source.last_read() == LastRead::NotYet);
-    let read = read_source(rt.alloc(), &mut source)?;
+    let read = read_source(rt.alloc(), &mut source).expect(&rt, "a whole read");
     assert!(rt; read.as_slice() == b"abc".as_slice());
     assert!(rt; source.reads() == 4 && source.last_read() == LastRead::End);
-    assert_eq!(rt; slow.reads, 4);
-    Ok(())
+    assert!(rt; slow.reads == 4);
 }
 
 #[test]
@@ -308,7 +304,7 @@ fn a_source_tells_the_reads_to_a_failed_one(rt: HostRuntime) {
     let found = read_source(rt.alloc(), &mut source).err();
     assert!(rt; found == Some(FileFault::Read));
     assert!(rt; source.reads() == 3 && source.last_read() == LastRead::Failure);
-    assert_eq!(rt; slow.reads, 3);
+    assert!(rt; slow.reads == 3);
 }
 
 #[test]
@@ -317,7 +313,7 @@ fn a_failing_read_of_a_graph_is_told(rt: HostRuntime) {
         let mut slow = Slow::new(TRIANGLE.as_bytes(), Some(read));
         let found = read_graph(rt.alloc(), &mut slow).err();
         assert!(rt; found == Some(FileFault::Read), "{found:?}");
-        assert_eq!(rt; slow.reads, read.saturating_add(1), "no further read");
+        assert!(rt; slow.reads == read.saturating_add(1), "no further read");
     }
 }
 
@@ -337,27 +333,24 @@ pub(crate) fn spaces(alloc: Global, count: usize) -> Result<Vec<u8>, AllocError>
 }
 
 #[test]
-fn the_longest_input(rt: HostRuntime) -> Result<(), FileFault> {
-    let spaces = spaces(rt.alloc(), MAX_BYTES)?;
+fn the_longest_input(rt: HostRuntime) {
+    let spaces = spaces(rt.alloc(), MAX_BYTES).expect(&rt, "memory");
     let found = fault_of_graph(rt.alloc(), spaces.as_slice());
     assert!(rt; found == Some(FileFault::NotJson));
-    Ok(())
 }
 
 #[test]
-fn a_graph_of_one_byte_too_many(rt: HostRuntime) -> Result<(), FileFault> {
-    let spaces = spaces(rt.alloc(), MAX_BYTES + 1)?;
+fn a_graph_of_one_byte_too_many(rt: HostRuntime) {
+    let spaces = spaces(rt.alloc(), MAX_BYTES + 1).expect(&rt, "memory");
     let found = fault_of_graph(rt.alloc(), spaces.as_slice());
     assert!(rt; found == Some(FileFault::TooLong));
-    Ok(())
 }
 
 #[test]
-fn chips_of_one_byte_too_many(rt: HostRuntime) -> Result<(), FileFault> {
-    let spaces = spaces(rt.alloc(), MAX_BYTES + 1)?;
+fn chips_of_one_byte_too_many(rt: HostRuntime) {
+    let spaces = spaces(rt.alloc(), MAX_BYTES + 1).expect(&rt, "memory");
     let found = chips_of(rt.alloc(), spaces.as_slice()).err();
     assert!(rt; found == Some(FileFault::TooLong));
-    Ok(())
 }
 
 #[test]
@@ -365,7 +358,7 @@ fn an_input_that_never_ends(rt: HostRuntime) {
     let mut endless = Endless(0);
     let found = read_whole(rt.alloc(), &mut endless).err();
     assert!(rt; found == Some(FileFault::TooLong));
-    assert_eq!(rt; endless.0, 16_777_217, "one read more than bytes");
+    assert!(rt; endless.0 == 16_777_217, "one read more than bytes");
 }
 
 /// A file of the largest graph: 4,096 vertices in a row, 16 edges from each to the one before it, and 32 from the last.
@@ -388,11 +381,10 @@ pub(crate) fn read_largest_graph(alloc: Global) -> Result<Graph, FileFault> {
 }
 
 #[test]
-fn reads_the_largest_graph(rt: HostRuntime) -> Result<(), FileFault> {
-    let graph = read_largest_graph(rt.alloc())?;
+fn reads_the_largest_graph(rt: HostRuntime) {
+    let graph = read_largest_graph(rt.alloc()).expect(&rt, "a graph");
     assert!(rt; graph.vertices() == 4_096 && graph.edges().len() == 65_536);
     assert!(rt; graph.edges().last() == Some(&edge(4_095, 4_094)));
-    Ok(())
 }
 
 /// Chips for each of 4,096 vertices, a total of 2^40.
@@ -416,9 +408,8 @@ pub(crate) fn are_largest_chips(chips: &[u64]) -> bool {
 }
 
 #[test]
-fn reads_chips_of_every_vertex(rt: HostRuntime) -> Result<(), FileFault> {
-    let text = largest_chips(rt.alloc())?;
-    let chips = read_largest_chips(rt.alloc(), &text)?;
+fn reads_chips_of_every_vertex(rt: HostRuntime) {
+    let text = largest_chips(rt.alloc()).expect(&rt, "memory");
+    let chips = read_largest_chips(rt.alloc(), &text).expect(&rt, "chips");
     assert!(rt; are_largest_chips(&chips));
-    Ok(())
 }

@@ -28,15 +28,14 @@ fn read_run_of_every_vertex(alloc: Global) -> Result<Vec<Vec<TraceRow>>, FileFau
 }
 
 #[test]
-fn reads_a_run_of_every_vertex(rt: HostRuntime) -> Result<(), FileFault> {
-    let traces = read_run_of_every_vertex(rt.alloc())?;
-    assert_eq!(rt; traces.len(), 4_096);
+fn reads_a_run_of_every_vertex(rt: HostRuntime) {
+    let traces = read_run_of_every_vertex(rt.alloc()).expect(&rt, "runs");
+    assert!(rt; traces.len() == 4_096);
     for (vertex, trace) in traces.iter().enumerate() {
         let count = vertex as u64;
         let edge = count.saturating_add(65_536);
         assert!(rt; trace.as_slice() == [TraceRow::Take { edge, count }].as_slice());
     }
-    Ok(())
 }
 
 /// An event at each edge of the largest graph, the root's among them.
@@ -57,13 +56,12 @@ fn read_event_at_every_edge(alloc: Global) -> Result<Vec<Event>, FileFault> {
 }
 
 #[test]
-fn reads_an_event_at_every_edge(rt: HostRuntime) -> Result<(), FileFault> {
-    let events = read_event_at_every_edge(rt.alloc())?;
-    assert_eq!(rt; events.len(), 69_632);
+fn reads_an_event_at_every_edge(rt: HostRuntime) {
+    let events = read_event_at_every_edge(rt.alloc()).expect(&rt, "events");
+    assert!(rt; events.len() == 69_632);
     for (edge, event) in events.iter().enumerate() {
         assert!(rt; *event == Event::Settle(edge as u64));
     }
-    Ok(())
 }
 
 /// The text with this byte again and again after it, 16,777,216 bytes in all.
@@ -91,47 +89,45 @@ fn longest_rows(alloc: Global, header: &str, row: &str, count: u64) -> Result<St
 }
 
 #[test]
-fn the_longest_graph(rt: HostRuntime) -> Result<(), FileFault> {
-    let text = filled(largest_graph(rt.alloc())?, ' ')?;
-    let graph = read_graph(rt.alloc(), &mut text.as_bytes())?;
+fn the_longest_graph(rt: HostRuntime) {
+    let text = filled(largest_graph(rt.alloc()).expect(&rt, "memory"), ' ').expect(&rt, "memory");
+    let graph = read_graph(rt.alloc(), &mut text.as_bytes()).expect(&rt, "a graph");
     assert!(rt; text.len() == MAX_BYTES && graph.edges().len() == 65_536);
-    Ok(())
 }
 
 #[test]
-fn the_longest_chips(rt: HostRuntime) -> Result<(), FileFault> {
-    let text = filled(largest_chips(rt.alloc())?, '\n')?;
-    let chips = read_largest_chips(rt.alloc(), &text)?;
+fn the_longest_chips(rt: HostRuntime) {
+    let text = filled(largest_chips(rt.alloc()).expect(&rt, "memory"), '\n').expect(&rt, "memory");
+    let chips = read_largest_chips(rt.alloc(), &text).expect(&rt, "chips");
     assert!(rt; text.len() == MAX_BYTES && are_largest_chips(&chips));
-    Ok(())
 }
 
 #[test]
-fn the_longest_schedule(rt: HostRuntime) -> Result<(), FileFault> {
-    let text = longest_rows(rt.alloc(), "event,at,count\n", "end,0,0\n", 2_097_150)?;
-    let events = events_of(rt.alloc(), text.as_bytes())?;
+fn the_longest_schedule(rt: HostRuntime) {
+    let text = longest_rows(rt.alloc(), "event,at,count\n", "end,0,0\n", 2_097_150).expect(
+        &rt, "memory",
+    );
+    let events = events_of(rt.alloc(), text.as_bytes()).expect(&rt, "events");
     assert!(rt; text.len() == MAX_BYTES && events.len() == 2_097_150);
-    Ok(())
 }
 
 #[test]
-fn the_longest_run(rt: HostRuntime) -> Result<(), FileFault> {
+fn the_longest_run(rt: HostRuntime) {
     let text = longest_rows(
         rt.alloc(),
         "vertex,kind,edge,count\n",
         "1,fire,0,1\n",
         1_525_199,
-    )?;
-    let traces = runs_of(rt.alloc(), text.as_bytes())?;
+    )
+    .expect(&rt, "memory");
+    let traces = runs_of(rt.alloc(), text.as_bytes()).expect(&rt, "runs");
     assert!(rt; text.len() == MAX_BYTES && traces.len() == 3 && traces[1].len() == 1_525_199);
-    Ok(())
 }
 
 #[test]
-fn the_longest_input_byte_by_byte(rt: HostRuntime) -> Result<(), FileFault> {
-    let text = filled(String::new(rt.alloc()), 'x')?;
+fn the_longest_input_byte_by_byte(rt: HostRuntime) {
+    let text = filled(String::new(rt.alloc()), 'x').expect(&rt, "memory");
     let mut slow = Slow::new(text.as_bytes(), None);
-    let bytes = read_whole(rt.alloc(), &mut slow)?;
+    let bytes = read_whole(rt.alloc(), &mut slow).expect(&rt, "a whole read");
     assert!(rt; bytes.len() == MAX_BYTES && bytes.as_slice() == text.as_bytes());
-    Ok(())
 }

@@ -13,3 +13,5 @@ mod runs;
 mod sittings;
 #[cfg(test)]
 mod trace;
+#[cfg(test)]
+mod writers;

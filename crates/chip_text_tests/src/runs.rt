@@ -35,90 +35,88 @@ pub(crate) fn events_of(alloc: Global, mut text: &[u8]) -> Result<Vec<Event>, Fi
 }
 
 #[test]
-fn reads_the_schedule_of_sealed_half_way(rt: HostRuntime) -> Result<(), FileFault> {
-    let events = events_of(rt.alloc(), SEALED_HALF_WAY.as_bytes())?;
+fn reads_the_schedule_of_sealed_half_way(rt: HostRuntime) {
+    let events = events_of(rt.alloc(), SEALED_HALF_WAY.as_bytes()).expect(&rt, "events");
     assert!(rt; events.as_slice() == SEALED_HALF_WAY_EVENTS.as_slice());
-    Ok(())
 }
 
 /// Schedules of the triangle, each with the event that it names, if it names one.
-const SCHEDULES: [(&str, Option<Event>); 14] = [
-    ("event,at,count\ntake,6,0\n", Some(Event::Take(6))),
-    ("event,at,count\nack,06,007\n", Some(Event::Ack(6))),
-    (
+const SCHEDULES: &[&(&str, Option<Event>)] = &[
+    &("event,at,count\ntake,6,0\n", Some(Event::Take(6))),
+    &("event,at,count\nack,06,007\n", Some(Event::Ack(6))),
+    &(
         "event,at,count\nfire,2,18446744073709551615\n",
         Some(Event::Fire {
             vertex: 2,
             k: u64::MAX,
         }),
     ),
-    ("\u{feff}event,at,count\nclear,0,0\n", Some(Event::Clear(0))),
-    ("event,at,count\r\nclaim,3,0", Some(Event::Claim(3))),
-    (
+    &("\u{feff}event,at,count\nclear,0,0\n", Some(Event::Clear(0))),
+    &("event,at,count\r\nclaim,3,0", Some(Event::Claim(3))),
+    &(
         "\"event\",\"at\",\"count\"\n\"put\",\"3\",\"0\"\n",
         Some(Event::Put(3)),
     ),
-    ("event,at,count\n\nhalt,2,1\n\n", Some(Event::Halt(2))),
-    ("event,at,count\nsettle,6,\"0", Some(Event::Settle(6))),
-    ("event,at,count\nseal,5,0\n", Some(Event::Seal(5))),
-    ("event,at,count\nread,2,0\n", Some(Event::Read(2))),
-    (
+    &("event,at,count\n\nhalt,2,1\n\n", Some(Event::Halt(2))),
+    &("event,at,count\nsettle,6,\"0", Some(Event::Settle(6))),
+    &("event,at,count\nseal,5,0\n", Some(Event::Seal(5))),
+    &("event,at,count\nread,2,0\n", Some(Event::Read(2))),
+    &(
         "event,at,count\nfeed,6,1099511627777\n",
         Some(Event::Feed {
             edge: 6,
             count: 1_099_511_627_777,
         }),
     ),
-    ("event,at,count\nend,7,5\n", Some(Event::End)),
-    (
+    &("event,at,count\nend,7,5\n", Some(Event::End)),
+    &(
         "event,at,count\nend,18446744073709551615,0\n",
         Some(Event::End),
     ),
-    ("event,at,count\n", None),
+    &("event,at,count\n", None),
 ];
 
 #[test]
-fn reads_every_kind_of_event(rt: HostRuntime) -> Result<(), FileFault> {
-    for (text, event) in &SCHEDULES {
-        let events = events_of(rt.alloc(), text.as_bytes())?;
+fn reads_every_kind_of_event(rt: HostRuntime) {
+    for (text, event) in SCHEDULES {
+        let events = events_of(rt.alloc(), text.as_bytes()).expect(&rt, text);
         assert!(rt; events.as_slice() == event.as_slice(), "{text}");
     }
-    Ok(())
 }
 
 /// Schedules of the triangle that mean none, each with the first thing wrong with it.
-const WRONG_SCHEDULES: [(&str, FileFault); 23] = [
-    ("", FileFault::Header),
-    ("take,0,0\n", FileFault::Header),
-    ("event,at\n", FileFault::Header),
-    ("Event,at,count\n", FileFault::Header),
-    ("vertex,kind,edge,count\n", FileFault::Header),
-    ("event,at,count\nput,0\n", FileFault::Row(0)),
-    ("event,at,count\nput,0,0\nspin,x,9,9\n", FileFault::Row(1)),
-    ("event,at,count\nspin,x,9\n", FileFault::Kind(0)),
-    ("event,at,count\nTake,0,0\n", FileFault::Kind(0)),
-    ("event,at,count\ntake ,0,0\n", FileFault::Kind(0)),
-    ("event,at,count\ntak,0,0\n", FileFault::Kind(0)),
-    ("event,at,count\n,0,0\n", FileFault::Kind(0)),
-    ("event,at,count\nevent,at,count\n", FileFault::Kind(0)),
-    ("event,at,count\nput,9,-1\n", FileFault::Number(0)),
-    ("event,at,count\nput,,0\n", FileFault::Number(0)),
-    (
+const WRONG_SCHEDULES: &[&(&str, FileFault)] = &[
+    &("", FileFault::Header),
+    &("take,0,0\n", FileFault::Header),
+    &("event,at\n", FileFault::Header),
+    &("Event,at,count\n", FileFault::Header),
+    &("vertex,kind,edge,count\n", FileFault::Header),
+    &("event,at,count\nput,0\n", FileFault::Row(0)),
+    &("event,at,count\nput,0,0\nspin,x,9,9\n", FileFault::Row(1)),
+    &("event,at,count\nspin,x,9\n", FileFault::Kind(0)),
+    &("event,at,count\nTake,0,0\n", FileFault::Kind(0)),
+    &("event,at,count\ntake ,0,0\n", FileFault::Kind(0)),
+    &("event,at,count\ntak,0,0\n", FileFault::Kind(0)),
+    &("event,at,count\n,0,0\n", FileFault::Kind(0)),
+    &("event,at,count\nevent,at,count\n", FileFault::Kind(0)),
+    &("event,at,count\nput,9,-1\n", FileFault::Number(0)),
+    &("event,at,count\nput,,0\n", FileFault::Number(0)),
+    &(
         "event,at,count\nput,0,18446744073709551616\n",
         FileFault::Number(0),
     ),
-    ("event,at,count\nput,0,0\nput,7,0\n", FileFault::Vertex(1)),
-    ("event,at,count\nfire,3,1\n", FileFault::Vertex(0)),
-    ("event,at,count\nhalt,3,0\n", FileFault::Vertex(0)),
-    ("event,at,count\nread,3,0\n", FileFault::Vertex(0)),
-    ("event,at,count\nfeed,7,1\n", FileFault::Vertex(0)),
-    ("event,at,count\nend,0,x\n", FileFault::Number(0)),
-    ("event,at,count\nput,7,0\nspin,0,0\n", FileFault::Vertex(0)),
+    &("event,at,count\nput,0,0\nput,7,0\n", FileFault::Vertex(1)),
+    &("event,at,count\nfire,3,1\n", FileFault::Vertex(0)),
+    &("event,at,count\nhalt,3,0\n", FileFault::Vertex(0)),
+    &("event,at,count\nread,3,0\n", FileFault::Vertex(0)),
+    &("event,at,count\nfeed,7,1\n", FileFault::Vertex(0)),
+    &("event,at,count\nend,0,x\n", FileFault::Number(0)),
+    &("event,at,count\nput,7,0\nspin,0,0\n", FileFault::Vertex(0)),
 ];
 
 #[test]
 fn names_the_first_fault_of_a_schedule(rt: HostRuntime) {
-    for (text, fault) in &WRONG_SCHEDULES {
+    for (text, fault) in WRONG_SCHEDULES {
         let found = events_of(rt.alloc(), text.as_bytes()).err();
         assert!(rt; found.as_ref() == Some(fault), "{text}: {found:?}");
     }
@@ -178,47 +176,45 @@ fn are_runs(traces: &[Vec<TraceRow>], runs: &[&[TraceRow]; 3]) -> bool {
 }
 
 #[test]
-fn reads_recorded_runs(rt: HostRuntime) -> Result<(), FileFault> {
+fn reads_recorded_runs(rt: HostRuntime) {
     for text in [RECORDED, MIXED] {
-        let traces = runs_of(rt.alloc(), text.as_bytes())?;
+        let traces = runs_of(rt.alloc(), text.as_bytes()).expect(&rt, text);
         assert!(rt; are_runs(&traces, &RUNS), "{text}");
     }
-    Ok(())
 }
 
 #[test]
-fn reads_runs_of_no_rows(rt: HostRuntime) -> Result<(), FileFault> {
-    let traces = runs_of(rt.alloc(), b"vertex,kind,edge,count")?;
+fn reads_runs_of_no_rows(rt: HostRuntime) {
+    let traces = runs_of(rt.alloc(), b"vertex,kind,edge,count").expect(&rt, "runs");
     assert!(rt; are_runs(&traces, &[&[], &[], &[]]));
-    Ok(())
 }
 
 /// Recorded runs of the triangle that mean none, each with the first thing wrong with them.
-const WRONG_RUNS: [(&str, FileFault); 15] = [
-    ("", FileFault::Header),
-    ("0,take,4,4\n", FileFault::Header),
-    ("event,at,count\n", FileFault::Header),
-    ("vertex,kind,edge,count,\n", FileFault::Header),
-    ("vertex,kind,edge,count\n0,fire,2\n", FileFault::Row(0)),
-    (
+const WRONG_RUNS: &[&(&str, FileFault)] = &[
+    &("", FileFault::Header),
+    &("0,take,4,4\n", FileFault::Header),
+    &("event,at,count\n", FileFault::Header),
+    &("vertex,kind,edge,count,\n", FileFault::Header),
+    &("vertex,kind,edge,count\n0,fire,2\n", FileFault::Row(0)),
+    &(
         "vertex,kind,edge,count\n0,fire,0,2\nx,spin,0,0,0\n",
         FileFault::Row(1),
     ),
-    ("vertex,kind,edge,count\nx,put,0,0\n", FileFault::Kind(0)),
-    ("vertex,kind,edge,count\n0,Fire,0,1\n", FileFault::Kind(0)),
-    ("vertex,kind,edge,count\nx,fire,0,1\n", FileFault::Number(0)),
-    ("vertex,kind,edge,count\n3,fire,,1\n", FileFault::Number(0)),
-    (
+    &("vertex,kind,edge,count\nx,put,0,0\n", FileFault::Kind(0)),
+    &("vertex,kind,edge,count\n0,Fire,0,1\n", FileFault::Kind(0)),
+    &("vertex,kind,edge,count\nx,fire,0,1\n", FileFault::Number(0)),
+    &("vertex,kind,edge,count\n3,fire,,1\n", FileFault::Number(0)),
+    &(
         "vertex,kind,edge,count\n3,take,7,+1\n",
         FileFault::Number(0),
     ),
-    ("vertex,kind,edge,count\n3,fire,0,1\n", FileFault::Vertex(0)),
-    ("vertex,kind,edge,count\n3,take,0,1\n", FileFault::Vertex(0)),
-    (
+    &("vertex,kind,edge,count\n3,fire,0,1\n", FileFault::Vertex(0)),
+    &("vertex,kind,edge,count\n3,take,0,1\n", FileFault::Vertex(0)),
+    &(
         "vertex,kind,edge,count\n0,take,6,1\n0,take,7,1\n",
         FileFault::Vertex(1),
     ),
-    (
+    &(
         "vertex,kind,edge,count\n0,take,7,1\n0,put,0,0\n",
         FileFault::Vertex(0),
     ),
@@ -226,7 +222,7 @@ const WRONG_RUNS: [(&str, FileFault); 15] = [
 
 #[test]
 fn names_the_first_fault_of_recorded_runs(rt: HostRuntime) {
-    for (text, fault) in &WRONG_RUNS {
+    for (text, fault) in WRONG_RUNS {
         let found = runs_of(rt.alloc(), text.as_bytes()).err();
         assert!(rt; found.as_ref() == Some(fault), "{text}: {found:?}");
     }
@@ -246,17 +242,15 @@ fn runs_read_slowly(
 }
 
 #[test]
-fn a_slow_reader_gives_the_same_schedule(rt: HostRuntime) -> Result<(), FileFault> {
-    let events = events_read_slowly(rt.alloc(), None)?;
+fn a_slow_reader_gives_the_same_schedule(rt: HostRuntime) {
+    let events = events_read_slowly(rt.alloc(), None).expect(&rt, "events");
     assert!(rt; events.as_slice() == SEALED_HALF_WAY_EVENTS.as_slice());
-    Ok(())
 }
 
 #[test]
-fn a_slow_reader_gives_the_same_runs(rt: HostRuntime) -> Result<(), FileFault> {
-    let traces = runs_read_slowly(rt.alloc(), None)?;
+fn a_slow_reader_gives_the_same_runs(rt: HostRuntime) {
+    let traces = runs_read_slowly(rt.alloc(), None).expect(&rt, "runs");
     assert!(rt; are_runs(&traces, &RUNS));
-    Ok(())
 }
 
 #[test]
@@ -276,17 +270,15 @@ fn a_failing_read_of_runs_is_told(rt: HostRuntime) {
 }
 
 #[test]
-fn a_schedule_that_is_too_long(rt: HostRuntime) -> Result<(), FileFault> {
-    let spaces = spaces(rt.alloc(), MAX_BYTES + 1)?;
+fn a_schedule_that_is_too_long(rt: HostRuntime) {
+    let spaces = spaces(rt.alloc(), MAX_BYTES + 1).expect(&rt, "memory");
     let found = events_of(rt.alloc(), spaces.as_slice()).err();
     assert!(rt; found == Some(FileFault::TooLong));
-    Ok(())
 }
 
 #[test]
-fn runs_that_are_too_long(rt: HostRuntime) -> Result<(), FileFault> {
-    let spaces = spaces(rt.alloc(), MAX_BYTES + 1)?;
+fn runs_that_are_too_long(rt: HostRuntime) {
+    let spaces = spaces(rt.alloc(), MAX_BYTES + 1).expect(&rt, "memory");
     let found = runs_of(rt.alloc(), spaces.as_slice()).err();
     assert!(rt; found == Some(FileFault::TooLong));
-    Ok(())
 }

@@ -1,11 +1,13 @@
 //! Worked runs of the triangle, with values from outside.
 
+ghost use Rattle.std.specs.Prelude.{◌<◌};
+
+use crate::writers::Faulty;
 use chip_graph::{Edge, Game, Graph};
 use chip_link::TraceRow;
 use chip_trace::{ReplayFault, TraceFault, replay, write_trace};
-use std::alloc::Global;
-use std::io;
-use std::test::Fail;
+use std::io::Write;
+use std::process::Abort;
 
 const fn take(edge: u64, count: u64) -> TraceRow {
     TraceRow::Take { edge, count }
@@ -15,235 +17,237 @@ const fn fire(k: u64) -> TraceRow {
     TraceRow::Fire { k }
 }
 
-/// The triangle with four chips on vertex 0: its root edges are 4, 5 and 6.
-fn triangle(alloc: Global, limit: u64) -> Result<Game, Fail> {
-    let mut edges = Vec::new(alloc);
-    for (tail, head) in [(0, 1), (0, 2), (1, 0), (1, 2)] {
-        edges.push(Edge {
-            tail,
-            head,
-            mult: 1,
-        })?;
+/// A game on these edges, which send one chip for each firing.
+fn game_of(
+    rt: &(impl AllocGlobal + Abort),
+    ends: &[(u64, u64)],
+    sink: u64,
+    start: Vec<u64>,
+    limit: u64,
+) -> Game {
+    let mut edges = Vec::new(rt.alloc());
+    for &(tail, head) in ends {
+        edges
+            .push(Edge {
+                tail,
+                head,
+                mult: 1,
+            })
+            .expect(rt, "memory");
     }
-    let graph = Graph::new(alloc, 3, 2, edges)?;
-    Ok(Game::new(graph, [4, 0, 0].to_vec(alloc)?, limit)?)
+    let graph = Graph::new(rt.alloc(), start.len() as u64, sink, edges).expect(rt, "a graph");
+    Game::new(graph, start, limit).expect(rt, "a game")
 }
 
-/// What a replay on the triangle answers; want of memory fails the test.
+/// What a replay on the triangle answers, with four chips on vertex 0: its root edges are 4, 5 and 6.
 fn replayed(
-    alloc: Global,
+    rt: &(impl AllocGlobal + Abort),
     limit: u64,
     traces: &[&[TraceRow]],
-) -> Result<Result<Vec<(u64, u64)>, ReplayFault>, Fail> {
-    let game = triangle(alloc, limit)?;
-    let mut copies = Vec::new(alloc);
+) -> Result<Vec<(u64, u64)>, ReplayFault> {
+    let mut copies = Vec::new(rt.alloc());
     for rows in traces {
-        copies.push(rows.to_vec(alloc)?)?;
+        copies
+            .push(rows.to_vec(rt.alloc()).expect(rt, "memory"))
+            .expect(rt, "memory");
     }
-    if copies.len() as u64 != game.graph().vertices() {
-        return Err(Fail::new("one trace for each vertex"));
-    }
-    match replay(alloc, &game, &copies) {
-        Err(ReplayFault::NoMemory) => Err(Fail::new("out of memory")),
-        answer => Ok(answer),
-    }
+    let start = [4, 0, 0].to_vec(rt.alloc()).expect(rt, "memory");
+    let game = game_of(rt, &[(0, 1), (0, 2), (1, 0), (1, 2)], 2, start, limit);
+    assert!(rt; copies.len() as u64 == game.graph().vertices());
+    replay(rt.alloc(), &game, &copies)
+}
+
+/// The runs of the three vertices.
+const FIRST: &[TraceRow] = &[
+    TraceRow::Take { edge: 4, count: 4 },
+    TraceRow::Fire { k: 2 },
+    TraceRow::Take { edge: 2, count: 1 },
+];
+
+const SECOND: &[TraceRow] = &[
+    TraceRow::Take { edge: 0, count: 2 },
+    TraceRow::Fire { k: 1 },
+];
+
+const SINK: &[TraceRow] = &[
+    TraceRow::Take { edge: 1, count: 2 },
+    TraceRow::Take { edge: 3, count: 1 },
+];
+
+/// Vertex 0 fires twice, and then vertex 1.
+fn is_replayed(rt: &(impl AllocGlobal + Abort), traces: &[&[TraceRow]]) {
+    let fired = replayed(rt, 1 << 40, traces).expect(rt, "a replay");
+    assert!(rt; fired.as_slice() == [(0, 2), (1, 1)].as_slice());
 }
 
 #[test]
-fn replays_the_triangle(rt: HostRuntime) -> Result<(), Fail> {
-    let first = [take(4, 4), fire(2), take(2, 1)];
-    let second = [take(0, 2), fire(1)];
-    let sink = [take(1, 2), take(3, 1)];
-    let fired = replayed(rt.alloc(), 1 << 40, &[&first, &second, &sink])??;
-    assert_eq!(rt; fired.as_slice(), [(0, 2), (1, 1)].as_slice());
+fn replays_the_triangle(rt: HostRuntime) {
+    is_replayed(&rt, &[FIRST, SECOND, SINK]);
     // messages that nobody takes are allowed
-    let fired = replayed(rt.alloc(), 1 << 40, &[&first[..2], &second, &[]])??;
-    assert_eq!(rt; fired.as_slice(), [(0, 2), (1, 1)].as_slice());
-    Ok(())
+    is_replayed(&rt, &[&[take(4, 4), fire(2)], SECOND, &[]]);
+}
+
+fn is_stuck(
+    rt: &(impl AllocGlobal + Abort),
+    limit: u64,
+    traces: &[&[TraceRow]],
+    vertex: u64,
+    row: u64,
+) {
+    let stuck = replayed(rt, limit, traces).err();
+    assert!(rt;
+        stuck == Some(ReplayFault::Stuck { vertex, row }),
+        "{stuck:?}, not at {vertex} {row}"
+    );
 }
 
 #[test]
-fn names_where_it_is_stuck(rt: HostRuntime) -> Result<(), Fail> {
-    let first = [take(4, 4), fire(2), take(2, 1)];
-    let sink = [take(1, 2), take(3, 1)];
+fn names_where_it_is_stuck(rt: HostRuntime) {
     // a message of two chips taken as one; vertex 0 waits at its last row
-    let stuck = replayed(
-        rt.alloc(),
-        1 << 40,
-        &[&first, &[take(0, 1), fire(1)], &sink],
-    )?;
-    assert_eq!(rt; stuck.err(), Some(ReplayFault::Stuck { vertex: 1, row: 0 }));
+    is_stuck(&rt, 1 << 40, &[FIRST, &[take(0, 1), fire(1)], SINK], 1, 0);
     // each trace cut behind its first row
-    let stuck = replayed(
-        rt.alloc(),
+    is_stuck(
+        &rt,
         1 << 40,
-        &[&first[..1], &[take(0, 2)], &sink[..1]],
-    )?;
-    assert_eq!(rt; stuck.err(), Some(ReplayFault::Stuck { vertex: 1, row: 0 }));
+        &[&[take(4, 4)], &[take(0, 2)], &[take(1, 2)]],
+        1,
+        0,
+    );
     // a second firing past the limit
-    let stuck = replayed(rt.alloc(), 1, &[&first, &[take(0, 2), fire(1)], &sink])?;
-    assert_eq!(rt; stuck.err(), Some(ReplayFault::Stuck { vertex: 0, row: 1 }));
-    Ok(())
+    is_stuck(&rt, 1, &[FIRST, SECOND, SINK], 0, 1);
 }
 
 #[test]
-fn writes_the_triangle(rt: HostRuntime) -> Result<(), Fail> {
-    let first = [take(4, 4), fire(2), take(2, 1)];
-    let second = [take(0, 2), fire(1)];
-    let sink = [take(1, 2), take(3, 1)];
+fn writes_the_triangle(rt: HostRuntime) {
     let mut written = Vec::new(rt.alloc());
-    write_trace(rt.alloc(), &[&first, &second, &sink], &mut written)?;
+    let told = write_trace(rt.alloc(), &[FIRST, SECOND, SINK], &mut written);
+    assert!(rt; told == Ok(()));
     let lines =
         "vertex,kind,edge,count\n0,take,4,4\n0,fire,0,2\n0,take,2,1\n1,take,0,2\n1,fire,0,1\n2,take,1,2\n2,take,3,1\n";
-    assert_eq!(rt; written.as_slice(), lines.as_bytes());
-    Ok(())
+    assert!(rt; written.as_slice() == lines.as_bytes());
 }
 
 /// As many vertices as there may be, each with a chip and an edge to the one before it; the sink is vertex 0.
-fn row(alloc: Global) -> Result<Game, Fail> {
-    let mut edges = Vec::new(alloc);
+fn row(rt: &(impl AllocGlobal + Abort)) -> Game {
+    let mut ends = Vec::new(rt.alloc());
     for head in 0..4_095u64 {
-        edges.push(Edge {
-            tail: head + 1,
-            head,
-            mult: 1,
-        })?;
+        ends.push((head + 1, head)).expect(rt, "memory");
     }
-    let graph = Graph::new(alloc, 4_096, 0, edges)?;
-    Ok(Game::new(graph, vec![in alloc; 1; 4_096]?, 1 << 40)?)
+    let start = vec![in rt.alloc(); 1; 4_096].expect(rt, "memory");
+    game_of(rt, &ends, 0, start, 1 << 40)
 }
 
-/// A run of it: each vertex takes its chip, and all but the sink fire.
-fn run_of_the_row(alloc: Global) -> Result<Vec<Vec<TraceRow>>, Fail> {
-    let mut traces = Vec::new(alloc);
-    for vertex in 0..4_096u64 {
-        let mut rows = Vec::new(alloc);
-        rows.push(take(4_095 + vertex, 1))?;
-        if vertex > 0 {
-            rows.push(fire(1))?;
-        }
-        traces.push(rows)?;
+/// The run of one of them: it takes its chip, and fires unless it is the sink.
+fn run_in_the_row(rt: &(impl AllocGlobal + Abort), vertex: u64) -> Vec<TraceRow>
+    requires { vertex < 4096 }
+{
+    let mut rows = Vec::new(rt.alloc());
+    rows.push(take(4_095 + vertex, 1)).expect(rt, "memory");
+    if vertex > 0 {
+        rows.push(fire(1)).expect(rt, "memory");
     }
-    Ok(traces)
+    rows
+}
+
+/// A run of all of them.
+fn run_of_the_row(rt: &(impl AllocGlobal + Abort)) -> Vec<Vec<TraceRow>> {
+    let mut traces = Vec::new(rt.alloc());
+    for vertex in 0..4_096u64 {
+        traces.push(run_in_the_row(rt, vertex)).expect(rt, "memory");
+    }
+    traces
+}
+
+/// A replay tells so many firings, each of one.
+fn replays_ones(
+    rt: &(impl AllocGlobal + Abort),
+    game: &Game,
+    traces: &Vec<Vec<TraceRow>>,
+    firings: usize,
+) -> Vec<(u64, u64)> {
+    assert!(rt; traces.len() as u64 == game.graph().vertices());
+    let fired = replay(rt.alloc(), game, traces).expect(rt, "a replay");
+    assert!(rt; fired.len() == firings);
+    assert!(rt; fired.iter().all(|firing| firing.1 == 1));
+    fired
 }
 
 #[test]
-fn replays_a_run_of_every_vertex(rt: HostRuntime) -> Result<(), Fail> {
-    let game = row(rt.alloc())?;
-    let traces = run_of_the_row(rt.alloc())?;
-    assert!(rt; traces.len() as u64 == game.graph().vertices());
-    let fired = replay(rt.alloc(), &game, &traces)?;
-    assert_eq!(rt; fired.len(), 4_095);
-    assert!(rt; fired.iter().all(|firing| firing.1 == 1));
-    Ok(())
+fn replays_a_run_of_every_vertex(rt: HostRuntime) {
+    let traces = run_of_the_row(&rt);
+    let _fired = replays_ones(&rt, &row(&rt), &traces, 4_095);
 }
 
 /// A vertex with one edge to the sink, and 50,000 chips on it; its root edge is 1.
-fn single(alloc: Global) -> Result<Game, Fail> {
-    let mut edges = Vec::new(alloc);
-    edges.push(Edge {
-        tail: 0,
-        head: 1,
-        mult: 1,
-    })?;
-    let graph = Graph::new(alloc, 2, 1, edges)?;
-    Ok(Game::new(graph, [50_000, 0].to_vec(alloc)?, 1 << 40)?)
+fn single(rt: &(impl AllocGlobal + Abort)) -> Game {
+    let start = [50_000, 0].to_vec(rt.alloc()).expect(rt, "memory");
+    game_of(rt, &[(0, 1)], 1, start, 1 << 40)
 }
 
 /// A run of it: 50,000 firings of one, each message taken by itself.
-fn long_run(alloc: Global) -> Result<Vec<Vec<TraceRow>>, Fail> {
-    let mut sender = vec![in alloc; fire(1); 50_000]?;
-    sender.insert(0, take(1, 50_000))?;
-    let mut traces = Vec::new(alloc);
-    traces.push(sender)?;
-    traces.push(vec![in alloc; take(0, 1); 50_000]?)?;
-    Ok(traces)
+fn long_run(rt: &(impl AllocGlobal + Abort)) -> Vec<Vec<TraceRow>> {
+    let mut sender = vec![in rt.alloc(); fire(1); 50_000].expect(rt, "memory");
+    sender.insert(0, take(1, 50_000)).expect(rt, "memory");
+    let taker = vec![in rt.alloc(); take(0, 1); 50_000].expect(rt, "memory");
+    let mut traces = Vec::new(rt.alloc());
+    traces.push(sender).expect(rt, "memory");
+    traces.push(taker).expect(rt, "memory");
+    traces
 }
 
 #[test]
-fn replays_a_long_run(rt: HostRuntime) -> Result<(), Fail> {
-    let game = single(rt.alloc())?;
-    let traces = long_run(rt.alloc())?;
-    assert!(rt; traces.len() as u64 == game.graph().vertices());
-    let fired = replay(rt.alloc(), &game, &traces)?;
-    assert_eq!(rt;
-        (fired.len(), fired.last().copied()),
-        (50_000, Some((0, 1)))
-    );
-    Ok(())
+fn replays_a_long_run(rt: HostRuntime) {
+    let traces = long_run(&rt);
+    let fired = replays_ones(&rt, &single(&rt), &traces, 50_000);
+    assert!(rt; fired.last().copied() == Some((0, 1)));
+}
+
+/// Writes the long run to a writer.
+fn write_long_run<W: Write>(
+    rt: &(impl AllocGlobal + Abort),
+    traces: &[Vec<TraceRow>],
+    writer: &mut W,
+) -> Result<(), TraceFault> {
+    let [sender, taker] = traces else {
+        panic!(rt; "the long run is of two vertices");
+    };
+    write_trace(rt.alloc(), &[sender, taker], writer)
 }
 
 #[test]
-fn writes_a_long_run(rt: HostRuntime) -> Result<(), Fail> {
-    let traces = long_run(rt.alloc())?;
-    assert!(rt; traces.len() == 2);
+fn writes_a_long_run(rt: HostRuntime) {
+    let traces = long_run(&rt);
     let mut written = Vec::new(rt.alloc());
-    write_trace(rt.alloc(), &[&traces[0], &traces[1]], &mut written)?;
-    assert_eq!(rt; written.len(), 1_100_038, "more than a mebibyte");
+    assert!(rt; write_long_run(&rt, &traces, &mut written) == Ok(()));
+    assert!(rt; written.len() == 1_100_038, "more than a mebibyte");
     assert!(rt; written.ends_with(b"1,take,0,1\n1,take,0,1\n"));
-    Ok(())
 }
 
 /// A writer that takes nothing.
-#[derive(Drop)]
-struct Full;
+#[test]
+fn tells_a_write_that_failed(rt: HostRuntime) {
+    let mut full = Faulty::new(&rt, 0, false, true);
+    let told = write_trace(rt.alloc(), &[&[fire(1)]], &mut full);
+    assert!(rt; told == Err(TraceFault::Write));
+}
 
-impl io::Write for Full {
-    fn write(&mut self, _bytes: &[u8]) -> io::Result<usize> {
-        Ok(0)
-    }
-
-    fn flush(&mut self) -> io::Result<()> {
-        Ok(())
-    }
+/// The long run goes out byte by byte, and a failure is told where it comes.
+fn trickles(
+    rt: &(impl AllocGlobal + Abort),
+    traces: &[Vec<TraceRow>],
+    room: usize,
+    answer: Result<(), TraceFault>,
+) {
+    let mut writer = Faulty::new(rt, room, true, true);
+    let told = write_long_run(rt, traces, &mut writer);
+    assert!(rt; told == answer, "room for {room} bytes");
+    assert!(rt; writer.taken.len() == room, "room for {room} bytes");
 }
 
 #[test]
-fn tells_a_write_that_failed(rt: HostRuntime) -> Result<(), Fail> {
-    match write_trace(rt.alloc(), &[&[fire(1)]], &mut Full) {
-        Err(TraceFault::NoMemory) => Err(Fail::new("out of memory")),
-        answer => {
-            assert_eq!(rt; answer, Err(TraceFault::Write));
-            Ok(())
-        }
-    }
-}
-
-/// A writer that takes one byte at each write, and fails once it has taken so many.
-#[derive(Drop)]
-struct Trickle {
-    taken: u64,
-    room: u64,
-}
-
-impl io::Write for Trickle {
-    fn write(&mut self, bytes: &[u8]) -> io::Result<usize> {
-        if bytes.is_empty() || self.taken >= self.room {
-            return Err(io::Error::from(io::ErrorKind::Other));
-        }
-        self.taken = self.taken.saturating_add(1);
-        Ok(1)
-    }
-
-    fn flush(&mut self) -> io::Result<()> {
-        Ok(())
-    }
-}
-
-/// A text of more than a mebibyte goes out byte by byte, and a failure is told where it comes.
-#[test]
-fn writes_byte_by_byte(rt: HostRuntime) -> Result<(), Fail> {
-    let traces = long_run(rt.alloc())?;
-    assert!(rt; traces.len() == 2);
-    for (room, answer) in [
-        (1_100_038, Ok(())),
-        (1_100_037, Err(TraceFault::Write)),
-        (1, Err(TraceFault::Write)),
-    ] {
-        let mut writer = Trickle { taken: 0, room };
-        let told = write_trace(rt.alloc(), &[&traces[0], &traces[1]], &mut writer);
-        assert_eq!(rt; told, answer);
-        assert_eq!(rt; writer.taken, room);
-    }
-    Ok(())
+fn writes_byte_by_byte(rt: HostRuntime) {
+    let traces = long_run(&rt);
+    trickles(&rt, &traces, 1_100_038, Ok(()));
+    trickles(&rt, &traces, 1_100_037, Err(TraceFault::Write));
+    trickles(&rt, &traces, 1, Err(TraceFault::Write));
 }

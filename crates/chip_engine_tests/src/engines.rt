@@ -13,7 +13,7 @@ use chip_trace::write_trace;
 use std::alloc::Global;
 use std::io;
 use std::io::Write;
-use std::test::Fail;
+use std::process::Abort;
 
 const TRIANGLE: &str =
     "{\"edges\":[[0,1,1],[0,2,1],[1,0,1],[1,2,1]],\"sink\":2,\"version\":1,\"vertices\":3}";
@@ -37,72 +37,86 @@ fn closed(status: u8) -> Result<Ended, Fault> {
     Ok(Ended { status, cut: false })
 }
 
+/// A game, and the status and the report that it ends with.
+struct Worked {
+    name: &'static str,
+    graph: &'static str,
+    chips: &'static str,
+    limit: u64,
+    status: u8,
+    report: &'static str,
+}
+
+const WORKED: &[&Worked] = &[
+    &Worked {
+        name: "empty game",
+        graph: TRIANGLE,
+        chips: "vertex,chips\n",
+        limit: NO_LIMIT,
+        status: 0,
+        report: "{\"chips\":[0,0,0],\"closed\":true,\"fired\":[0,0,0],\"over\":[],\"sealed\":[],\"version\":1}\n",
+    },
+    &Worked {
+        name: "one chip short",
+        graph: TRIANGLE,
+        chips: "vertex,chips\n0,3\n",
+        limit: NO_LIMIT,
+        status: 0,
+        report: "{\"chips\":[1,1,1],\"closed\":true,\"fired\":[1,0,0],\"over\":[],\"sealed\":[],\"version\":1}\n",
+    },
+    &Worked {
+        name: "small triangle",
+        graph: TRIANGLE,
+        chips: "vertex,chips\n0,4\n",
+        limit: NO_LIMIT,
+        status: 0,
+        report: "{\"chips\":[1,0,3],\"closed\":true,\"fired\":[2,1,0],\"over\":[],\"sealed\":[],\"version\":1}\n",
+    },
+    &Worked {
+        name: "fires again",
+        graph: TRIANGLE,
+        chips: "vertex,chips\n0,5\n",
+        limit: NO_LIMIT,
+        status: 0,
+        report: "{\"chips\":[0,1,4],\"closed\":true,\"fired\":[3,1,0],\"over\":[],\"sealed\":[],\"version\":1}\n",
+    },
+    &Worked {
+        name: "batch of two",
+        graph: "{\"edges\":[[0,1,3]],\"sink\":1,\"version\":1,\"vertices\":2}",
+        chips: "vertex,chips\n0,7\n",
+        limit: NO_LIMIT,
+        status: 0,
+        report: "{\"chips\":[1,6],\"closed\":true,\"fired\":[2,0],\"over\":[],\"sealed\":[],\"version\":1}\n",
+    },
+    &Worked {
+        name: "limit of two",
+        graph: TRIANGLE,
+        chips: "vertex,chips\n0,5\n",
+        limit: 2,
+        status: 2,
+        report: "{\"chips\":[2,0,3],\"closed\":false,\"fired\":[2,1,0],\"over\":[0],\"sealed\":[],\"version\":1}\n",
+    },
+    &Worked {
+        name: "largest total",
+        graph: "{\"edges\":[[0,1,1]],\"sink\":1,\"version\":1,\"vertices\":2}",
+        chips: "vertex,chips\n0,1099511627776\n",
+        limit: NO_LIMIT,
+        status: 0,
+        report: "{\"chips\":[0,1099511627776],\"closed\":true,\"fired\":[1099511627776,0],\
+            \"over\":[],\"sealed\":[],\"version\":1}\n",
+    },
+];
+
 #[test]
 fn plays_worked_games(rt: HostRuntime) {
-    let batch = "{\"edges\":[[0,1,3]],\"sink\":1,\"version\":1,\"vertices\":2}";
-    let pair = "{\"edges\":[[0,1,1]],\"sink\":1,\"version\":1,\"vertices\":2}";
-    for (name, graph, chips, limit, status, report) in [
-        (
-            "empty game",
-            TRIANGLE,
-            "vertex,chips\n",
-            NO_LIMIT,
-            0,
-            "{\"chips\":[0,0,0],\"closed\":true,\"fired\":[0,0,0],\"over\":[],\"sealed\":[],\"version\":1}\n",
-        ),
-        (
-            "one chip short",
-            TRIANGLE,
-            "vertex,chips\n0,3\n",
-            NO_LIMIT,
-            0,
-            "{\"chips\":[1,1,1],\"closed\":true,\"fired\":[1,0,0],\"over\":[],\"sealed\":[],\"version\":1}\n",
-        ),
-        (
-            "small triangle",
-            TRIANGLE,
-            "vertex,chips\n0,4\n",
-            NO_LIMIT,
-            0,
-            "{\"chips\":[1,0,3],\"closed\":true,\"fired\":[2,1,0],\"over\":[],\"sealed\":[],\"version\":1}\n",
-        ),
-        (
-            "fires again",
-            TRIANGLE,
-            "vertex,chips\n0,5\n",
-            NO_LIMIT,
-            0,
-            "{\"chips\":[0,1,4],\"closed\":true,\"fired\":[3,1,0],\"over\":[],\"sealed\":[],\"version\":1}\n",
-        ),
-        (
-            "batch of two",
-            batch,
-            "vertex,chips\n0,7\n",
-            NO_LIMIT,
-            0,
-            "{\"chips\":[1,6],\"closed\":true,\"fired\":[2,0],\"over\":[],\"sealed\":[],\"version\":1}\n",
-        ),
-        (
-            "limit of two",
-            TRIANGLE,
-            "vertex,chips\n0,5\n",
-            2,
-            2,
-            "{\"chips\":[2,0,3],\"closed\":false,\"fired\":[2,1,0],\"over\":[0],\"sealed\":[],\"version\":1}\n",
-        ),
-        (
-            "largest total",
-            pair,
-            "vertex,chips\n0,1099511627776\n",
-            NO_LIMIT,
-            0,
-            "{\"chips\":[0,1099511627776],\"closed\":true,\"fired\":[1099511627776,0],\
-            \"over\":[],\"sealed\":[],\"version\":1}\n",
-        ),
-    ] {
-        let (ended, output) = play(rt.alloc(), graph, chips, limit);
-        assert!(rt; ended == closed(status), "{name}");
-        assert_eq!(rt; output.as_slice(), report.as_bytes(), "{name}");
+    for worked in WORKED {
+        let (ended, output) = play(rt.alloc(), worked.graph, worked.chips, worked.limit);
+        assert!(rt; ended == closed(worked.status), "{}", worked.name);
+        assert!(rt;
+            output.as_slice() == worked.report.as_bytes(),
+            "{}",
+            worked.name
+        );
     }
 }
 
@@ -133,7 +147,7 @@ fn tells_its_watcher(rt: HostRuntime) {
         &mut output,
     );
     assert!(rt; ended == closed(0));
-    assert_eq!(rt; heard.fired, [2, 1, 0]);
+    assert!(rt; heard.fired == [2, 1, 0]);
 }
 
 #[test]
@@ -141,40 +155,45 @@ fn shows_the_triangle(rt: HostRuntime) {
     let mut output = Vec::new(rt.alloc());
     let ended = check_engine(rt.alloc(), &mut TRIANGLE.as_bytes(), &mut output);
     assert!(rt; ended == closed(0));
-    assert_eq!(rt;
-        output.as_slice(),
-        "vertices 3\nedges 4\nsink 2\nvertex 0 degree 2 distance 1\nvertex 1 degree 2 distance 1\n\
+    assert!(rt;
+        output.as_slice()
+            == "vertices 3\nedges 4\nsink 2\nvertex 0 degree 2 distance 1\nvertex 1 degree 2 distance 1\n\
         vertex 2 degree 0 distance 0\n"
-            .as_bytes()
+                .as_bytes()
     );
 }
 
+/// Inputs that are refused: the graph, the chips, the limit and the fault.
+const REFUSED: &[&(&str, &str, u64, Fault)] = &[
+    &(
+        "{\"edges\":[[0,1,1],[1,0,1],[2,3,1]],\"sink\":3,\"version\":1,\"vertices\":4}",
+        "",
+        NO_LIMIT,
+        Fault::File(FileFault::Graph(GraphFault::Unreached(0))),
+    ),
+    &(TRIANGLE, "", NO_LIMIT, Fault::File(FileFault::Header)),
+    &(
+        TRIANGLE,
+        "vertex,chips\n0,1099511627776\n1,1\n",
+        NO_LIMIT,
+        Fault::File(FileFault::Total),
+    ),
+    &(
+        TRIANGLE,
+        "vertex,chips\n",
+        NO_LIMIT + 1,
+        Fault::Game(GameFault::Limit),
+    ),
+];
+
 #[test]
 fn refuses_inputs(rt: HostRuntime) {
-    let cycle = "{\"edges\":[[0,1,1],[1,0,1],[2,3,1]],\"sink\":3,\"version\":1,\"vertices\":4}";
-    for (graph, chips, limit, fault) in [
-        (
-            cycle,
-            "",
-            NO_LIMIT,
-            Fault::File(FileFault::Graph(GraphFault::Unreached(0))),
-        ),
-        (TRIANGLE, "", NO_LIMIT, Fault::File(FileFault::Header)),
-        (
-            TRIANGLE,
-            "vertex,chips\n0,1099511627776\n1,1\n",
-            NO_LIMIT,
-            Fault::File(FileFault::Total),
-        ),
-        (
-            TRIANGLE,
-            "vertex,chips\n",
-            NO_LIMIT + 1,
-            Fault::Game(GameFault::Limit),
-        ),
-    ] {
-        let (ended, output) = play(rt.alloc(), graph, chips, limit);
-        assert!(rt; ended == Err(fault));
+    for (graph, chips, limit, fault) in REFUSED {
+        let (ended, output) = play(rt.alloc(), graph, chips, *limit);
+        assert!(rt;
+            ended.err().as_ref() == Some(fault),
+            "{graph} {chips:?} {limit}"
+        );
         assert!(rt; output.is_empty());
     }
 }
@@ -183,109 +202,172 @@ fn refuses_inputs(rt: HostRuntime) {
 const RUN: &str =
     "vertex,kind,edge,count\n1,take,0,2\n1,fire,0,1\n0,take,4,4\n0,fire,0,2\n0,take,2,1\n2,take,1,2\n2,take,3,1\n";
 
+/// The same, with one chip taken of a message of two.
+const WRONG_RUN: &str =
+    "vertex,kind,edge,count\n1,take,0,1\n1,fire,0,1\n0,take,4,4\n0,fire,0,2\n0,take,2,1\n2,take,1,2\n2,take,3,1\n";
+
+/// What `replay` answers for a trace with this limit, and what it writes.
+fn replayed(
+    rt: &(impl AllocGlobal + Abort),
+    trace: &str,
+    limit: u64,
+    lines: &str,
+) -> Result<Ended, Fault> {
+    let mut output = Vec::new(rt.alloc());
+    let ended = replay_engine(
+        rt.alloc(),
+        &mut TRIANGLE.as_bytes(),
+        &mut "vertex,chips\n0,4\n".as_bytes(),
+        &mut trace.as_bytes(),
+        limit,
+        &mut output,
+    );
+    assert!(rt; output.as_slice() == lines.as_bytes(), "{trace}");
+    ended
+}
+
 #[test]
 fn replays_the_triangle(rt: HostRuntime) {
-    let wrong =
-        "vertex,kind,edge,count\n1,take,0,1\n1,fire,0,1\n0,take,4,4\n0,fire,0,2\n0,take,2,1\n2,take,1,2\n2,take,3,1\n";
-    for (trace, limit, wanted, lines) in [
-        (RUN, NO_LIMIT, closed(0), "fire 0 2\nfire 1 1\n"),
-        (RUN, 2, closed(0), "fire 0 2\nfire 1 1\n"),
-        (RUN, 1, Err(Fault::Stuck { vertex: 0, row: 1 }), ""),
-        (wrong, NO_LIMIT, Err(Fault::Stuck { vertex: 1, row: 0 }), ""),
-        ("", NO_LIMIT, Err(Fault::File(FileFault::Header)), ""),
-        (
-            "vertex,kind,edge,count\n0,taken,4,4\n",
-            NO_LIMIT,
-            Err(Fault::File(FileFault::Kind(0))),
-            "",
-        ),
-    ] {
-        let mut output = Vec::new(rt.alloc());
-        let ended = replay_engine(
-            rt.alloc(),
-            &mut TRIANGLE.as_bytes(),
-            &mut "vertex,chips\n0,4\n".as_bytes(),
-            &mut trace.as_bytes(),
-            limit,
-            &mut output,
-        );
-        assert!(rt; ended == wanted);
-        assert_eq!(rt; output.as_slice(), lines.as_bytes());
-    }
+    let lines = "fire 0 2\nfire 1 1\n";
+    assert!(rt; replayed(&rt, RUN, NO_LIMIT, lines) == closed(0));
+    assert!(rt; replayed(&rt, RUN, 2, lines) == closed(0));
+    assert!(rt; replayed(&rt, RUN, 1, "") == Err(Fault::Stuck { vertex: 0, row: 1 }));
+    assert!(rt; replayed(&rt, WRONG_RUN, NO_LIMIT, "") == Err(Fault::Stuck { vertex: 1, row: 0 }));
+    assert!(rt; replayed(&rt, "", NO_LIMIT, "") == Err(Fault::File(FileFault::Header)));
+    let no_kind = "vertex,kind,edge,count\n0,taken,4,4\n";
+    assert!(rt; replayed(&rt, no_kind, NO_LIMIT, "") == Err(Fault::File(FileFault::Kind(0))));
 }
 
 /// Edge 1 is sealed before vertex 0 sends on it.
 const HALF: &str =
     "event,at,count\nseal,1,0\ntake,4,0\nfire,0,2\nclear,0,0\nclaim,0,0\nput,0,0\nclear,1,0\nclaim,1,0\nhalt,0,0\n";
 
+/// A schedule on the triangle, and the status and the text that it ends with.
+struct Scheduled {
+    name: &'static str,
+    chips: &'static str,
+    schedule: &'static str,
+    cells: u64,
+    rounds: u64,
+    fed: bool,
+    status: u8,
+    text: &'static str,
+}
+
+/// What `simulate` answers for a schedule.
+fn simulated(rt: &(impl AllocGlobal + Abort), scheduled: &Scheduled) -> Result<Ended, Fault> {
+    let ring = Ring::new(scheduled.cells).expect(rt, "1 to 64 cells");
+    let mut output = Vec::new(rt.alloc());
+    let ended = simulate_engine(
+        rt.alloc(),
+        &mut TRIANGLE.as_bytes(),
+        &mut scheduled.chips.as_bytes(),
+        &mut scheduled.schedule.as_bytes(),
+        NO_LIMIT,
+        ring,
+        scheduled.rounds,
+        false,
+        scheduled.fed,
+        &mut output,
+    );
+    assert!(rt;
+        output.as_slice() == scheduled.text.as_bytes(),
+        "{}",
+        scheduled.name
+    );
+    ended
+}
+
+/// A schedule plays to its end.
+fn simulates(rt: &(impl AllocGlobal + Abort), scheduled: &Scheduled) {
+    let ended = simulated(rt, scheduled);
+    assert!(rt; ended == closed(scheduled.status), "{}", scheduled.name);
+}
+
+const IN_ROUNDS: Scheduled = Scheduled {
+    name: "sealed half way",
+    chips: "vertex,chips\n0,4\n",
+    schedule: HALF,
+    cells: 1,
+    rounds: 10,
+    fed: false,
+    status: 2,
+    text: "done 0\ngot 0 4\ndone 2\ndone 0\nsent 0 2\ndone 2\ndone 0\nsealed\ndone 0\nroot closed\n\
+        {\"chips\":[1,0,3],\"closed\":false,\"fired\":[2,1,0],\"over\":[],\"sealed\":[0],\"version\":1}\n",
+};
+
+const SEALED_HALF_WAY: &[&Scheduled] = &[
+    &IN_ROUNDS,
+    &Scheduled {
+        name: "sealed half way in a wide ring",
+        cells: 64,
+        rounds: 3,
+        ..IN_ROUNDS
+    },
+    &Scheduled {
+        name: "sealed half way, and left open",
+        rounds: 2,
+        status: 3,
+        text: "done 0\ngot 0 4\ndone 2\ndone 0\nsent 0 2\ndone 2\ndone 0\nsealed\ndone 0\nroot open\n",
+        ..IN_ROUNDS
+    },
+];
+
 #[test]
 fn simulates_what_is_sealed_half_way(rt: HostRuntime) {
-    let closed_late =
-        "done 0\ngot 0 4\ndone 2\ndone 0\nsent 0 2\ndone 2\ndone 0\nsealed\ndone 0\nroot closed\n\
-        {\"chips\":[1,0,3],\"closed\":false,\"fired\":[2,1,0],\"over\":[],\"sealed\":[0],\"version\":1}\n";
-    let left_open =
-        "done 0\ngot 0 4\ndone 2\ndone 0\nsent 0 2\ndone 2\ndone 0\nsealed\ndone 0\nroot open\n";
-    for (schedule, cells, rounds, wanted, text) in [
-        (HALF, 1, 10, closed(2), closed_late),
-        (HALF, 64, 3, closed(2), closed_late),
-        (HALF, 1, 2, closed(3), left_open),
-        (
-            "event,at,count\nfires,0,2\n",
-            1,
-            10,
-            Err(Fault::File(FileFault::Kind(0))),
-            "",
-        ),
-    ] {
-        let ring = Ring::new(cells).expect(&rt, "1 to 64 cells");
-        let mut output = Vec::new(rt.alloc());
-        let ended = simulate_engine(
-            rt.alloc(),
-            &mut TRIANGLE.as_bytes(),
-            &mut "vertex,chips\n0,4\n".as_bytes(),
-            &mut schedule.as_bytes(),
-            NO_LIMIT,
-            ring,
-            rounds,
-            false,
-            false,
-            &mut output,
-        );
-        assert!(rt; ended == wanted);
-        assert_eq!(rt; output.as_slice(), text.as_bytes());
+    for scheduled in SEALED_HALF_WAY {
+        simulates(&rt, scheduled);
     }
 }
 
+/// A schedule with an event of no kind.
+const NO_KIND: &Scheduled = &Scheduled {
+    name: "no kind",
+    schedule: "event,at,count\nfires,0,2\n",
+    text: "",
+    ..IN_ROUNDS
+};
+
+#[test]
+fn simulates_no_kind(rt: HostRuntime) {
+    assert!(rt; simulated(&rt, NO_KIND) == Err(Fault::File(FileFault::Kind(0))));
+}
+
 /// Vertex 0 gets four chips while the game runs.
-const FED: &str = "event,at,count\nclear,4,0\nfeed,4,4\nput,4,0\nend,0,0\n";
+const FED_WHILE_IT_RUNS: Scheduled = Scheduled {
+    name: "fed",
+    chips: "vertex,chips\n",
+    schedule: "event,at,count\nclear,4,0\nfeed,4,4\nput,4,0\nend,0,0\n",
+    cells: 1,
+    rounds: 10,
+    fed: true,
+    status: 0,
+    text: "done 0\nsent 0 4\ndone 4\ndone 0\nroot closed\n\
+        {\"chips\":[1,0,3],\"closed\":true,\"fired\":[2,1,0],\"over\":[],\"sealed\":[],\"version\":1}\n",
+};
+
+const FED: &[&Scheduled] = &[
+    &FED_WHILE_IT_RUNS,
+    &Scheduled {
+        name: "not fed",
+        fed: false,
+        text: "not-now 17\nnot-now 17\nnot-now 12\ndone 0\nroot closed\n\
+            {\"chips\":[0,0,0],\"closed\":true,\"fired\":[0,0,0],\"over\":[],\"sealed\":[],\"version\":1}\n",
+        ..FED_WHILE_IT_RUNS
+    },
+    &Scheduled {
+        name: "fed without an end",
+        schedule: "event,at,count\n",
+        status: 3,
+        text: "root open\n",
+        ..FED_WHILE_IT_RUNS
+    },
+];
 
 #[test]
 fn simulates_what_is_fed(rt: HostRuntime) {
-    let fed = "done 0\nsent 0 4\ndone 4\ndone 0\nroot closed\n\
-        {\"chips\":[1,0,3],\"closed\":true,\"fired\":[2,1,0],\"over\":[],\"sealed\":[],\"version\":1}\n";
-    let not_fed = "not-now 17\nnot-now 17\nnot-now 12\ndone 0\nroot closed\n\
-        {\"chips\":[0,0,0],\"closed\":true,\"fired\":[0,0,0],\"over\":[],\"sealed\":[],\"version\":1}\n";
-    let without_end = "event,at,count\n";
-    for (schedule, is_fed, wanted, text) in [
-        (FED, true, closed(0), fed),
-        (FED, false, closed(0), not_fed),
-        (without_end, true, closed(3), "root open\n"),
-    ] {
-        let mut output = Vec::new(rt.alloc());
-        let ended = simulate_engine(
-            rt.alloc(),
-            &mut TRIANGLE.as_bytes(),
-            &mut "vertex,chips\n".as_bytes(),
-            &mut schedule.as_bytes(),
-            NO_LIMIT,
-            Ring::new(1).expect(&rt, "1 to 64 cells"),
-            10,
-            false,
-            is_fed,
-            &mut output,
-        );
-        assert!(rt; ended == wanted);
-        assert_eq!(rt; output.as_slice(), text.as_bytes());
+    for scheduled in FED {
+        simulates(&rt, scheduled);
     }
 }
 
@@ -297,46 +379,52 @@ const STOPPED: &str =
 const WENT_ON: &str =
     "{\"chips\":[0,1,4],\"closed\":true,\"fired\":[1,0,0],\"over\":[],\"prior\":[2,1,0],\"sealed\":[],\"version\":2}\n";
 
+/// And after one with limit 0 in its place.
+const STOOD_STILL: &str = "{\"chips\":[2,0,3],\"closed\":false,\"fired\":[0,0,0],\"over\":[0],\
+    \"prior\":[2,1,0],\"sealed\":[],\"version\":2}\n";
+
+/// Four chips, where edge 0 was sealed.
+const SEALED: &str =
+    "{\"chips\":[0,2,2],\"closed\":false,\"fired\":[2,0,0],\"over\":[],\"sealed\":[0],\"version\":1}\n";
+
+/// And after a sitting without the seal.
+const UNSEALED: &str = "{\"chips\":[1,0,3],\"closed\":true,\"fired\":[0,1,0],\"over\":[],\
+    \"prior\":[2,0,0],\"sealed\":[],\"version\":2}\n";
+
+/// A report of two vertices.
+const OF_TWO: &str =
+    "{\"chips\":[0,0],\"closed\":true,\"fired\":[0,0],\"over\":[],\"sealed\":[],\"version\":1}\n";
+
+/// What `resume` answers for a report with this limit, where it is to write this text.
+fn resumed(
+    rt: &(impl AllocGlobal + Abort),
+    report: &str,
+    limit: u64,
+    text: &str,
+) -> Result<Ended, Fault> {
+    let mut output = Vec::new(rt.alloc());
+    let ended = resume_engine(
+        rt.alloc(),
+        &mut TRIANGLE.as_bytes(),
+        &mut report.as_bytes(),
+        limit,
+        &mut output,
+    );
+    assert!(rt; output.as_slice() == text.as_bytes(), "{report}");
+    ended
+}
+
 #[test]
 fn goes_on_with_the_triangle(rt: HostRuntime) {
-    let stood_still = "{\"chips\":[2,0,3],\"closed\":false,\"fired\":[0,0,0],\"over\":[0],\
-        \"prior\":[2,1,0],\"sealed\":[],\"version\":2}\n";
-    let sealed =
-        "{\"chips\":[0,2,2],\"closed\":false,\"fired\":[2,0,0],\"over\":[],\"sealed\":[0],\"version\":1}\n";
-    let unsealed = "{\"chips\":[1,0,3],\"closed\":true,\"fired\":[0,1,0],\"over\":[],\
-        \"prior\":[2,0,0],\"sealed\":[],\"version\":2}\n";
-    let of_two =
-        "{\"chips\":[0,0],\"closed\":true,\"fired\":[0,0],\"over\":[],\"sealed\":[],\"version\":1}\n";
-    for (report, limit, wanted, text) in [
-        (STOPPED, NO_LIMIT, closed(0), WENT_ON),
-        (STOPPED, 0, closed(2), stood_still),
-        (stood_still, NO_LIMIT, closed(0), WENT_ON),
-        (sealed, NO_LIMIT, closed(0), unsealed),
-        (
-            of_two,
-            NO_LIMIT,
-            Err(Fault::Resume(ResumeFault::Mismatch)),
-            "",
-        ),
-        (
-            STOPPED,
-            NO_LIMIT + 1,
-            Err(Fault::Resume(ResumeFault::Limit)),
-            "",
-        ),
-        ("", NO_LIMIT, Err(Fault::NotReport), ""),
-    ] {
-        let mut output = Vec::new(rt.alloc());
-        let ended = resume_engine(
-            rt.alloc(),
-            &mut TRIANGLE.as_bytes(),
-            &mut report.as_bytes(),
-            limit,
-            &mut output,
-        );
-        assert!(rt; ended == wanted);
-        assert_eq!(rt; output.as_slice(), text.as_bytes());
-    }
+    assert!(rt; resumed(&rt, STOPPED, NO_LIMIT, WENT_ON) == closed(0));
+    assert!(rt; resumed(&rt, STOPPED, 0, STOOD_STILL) == closed(2));
+    assert!(rt; resumed(&rt, STOOD_STILL, NO_LIMIT, WENT_ON) == closed(0));
+    assert!(rt; resumed(&rt, SEALED, NO_LIMIT, UNSEALED) == closed(0));
+    let mismatch = Err(Fault::Resume(ResumeFault::Mismatch));
+    assert!(rt; resumed(&rt, OF_TWO, NO_LIMIT, "") == mismatch);
+    let limit = Err(Fault::Resume(ResumeFault::Limit));
+    assert!(rt; resumed(&rt, STOPPED, NO_LIMIT + 1, "") == limit);
+    assert!(rt; resumed(&rt, "", NO_LIMIT, "") == Err(Fault::NotReport));
 }
 
 /// Where the graph is refused nothing of the report is read.
@@ -354,31 +442,36 @@ fn reads_no_report_of_a_refused_graph(rt: HostRuntime) {
     );
     let unreached = FileFault::Graph(GraphFault::Unreached(0));
     assert!(rt; ended == Err(Fault::File(unreached)));
-    assert_eq!(rt; report, STOPPED.as_bytes());
+    assert!(rt; report == STOPPED.as_bytes());
     assert!(rt; output.is_empty());
 }
 
-#[test]
-fn reads_the_traces_that_were_written(rt: HostRuntime) -> Result<(), Fail> {
-    let alloc = rt.alloc();
-    let graph = read_graph(alloc, &mut TRIANGLE.as_bytes())?;
-    let first = [
+/// What is recorded of each vertex.
+const RECORDED: [&[TraceRow]; 3] = [
+    &[
         TraceRow::Take { edge: 4, count: 4 },
         TraceRow::Fire { k: 2 },
         TraceRow::Take { edge: 2, count: 1 },
-    ];
-    let sink = [TraceRow::Take { edge: 1, count: 2 }];
-    let mut text = Vec::new(alloc);
-    write_trace(alloc, &[&first, &[], &sink], &mut text)?;
-    let read = read_trace(alloc, &mut text.as_slice(), &graph)?;
-    assert_eq!(rt; read.len(), 3);
-    for (trace, written) in read
-        .iter()
-        .zip([first.as_slice(), [].as_slice(), sink.as_slice()])
-    {
-        assert!(rt; trace.as_slice() == written);
+    ],
+    &[],
+    &[TraceRow::Take { edge: 1, count: 2 }],
+];
+
+/// What is read of a text of traces of the triangle.
+fn traces_of(rt: &(impl AllocGlobal + Abort), mut text: &[u8]) -> Vec<Vec<TraceRow>> {
+    let graph = read_graph(rt.alloc(), &mut TRIANGLE.as_bytes()).expect(rt, "a graph");
+    read_trace(rt.alloc(), &mut text, &graph).expect(rt, "traces")
+}
+
+#[test]
+fn reads_the_traces_that_were_written(rt: HostRuntime) {
+    let mut text = Vec::new(rt.alloc());
+    assert!(rt; write_trace(rt.alloc(), &RECORDED, &mut text) == Ok(()));
+    let read = traces_of(&rt, &text);
+    assert!(rt; read.len() == 3);
+    for (trace, written) in read.iter().zip(&RECORDED) {
+        assert!(rt; trace.as_slice() == *written);
     }
-    Ok(())
 }
 
 /// A writer that takes one byte at each write, and fails from some number of bytes on.
@@ -405,7 +498,7 @@ impl Write for Trickle {
 }
 
 #[test]
-fn writes_as_far_as_the_writer_goes(rt: HostRuntime) -> Result<(), Fail> {
+fn writes_as_far_as_the_writer_goes(rt: HostRuntime) {
     let lines = "vertices 3\nedges 4\nsink 2\nvertex 0 degree 2 distance 1\n".as_bytes();
     for room in 0..30 {
         let mut writer = Trickle {
@@ -415,10 +508,9 @@ fn writes_as_far_as_the_writer_goes(rt: HostRuntime) -> Result<(), Fail> {
         let ended = check_engine(rt.alloc(), &mut TRIANGLE.as_bytes(), &mut writer);
         let written = room as u64;
         assert!(rt; ended == Err(Fault::Write(WriteFault { written })));
-        assert_eq!(rt;
-            writer.taken.as_slice(),
-            lines.get(..room).ok_or("no more")?
+        assert!(rt;
+            Some(writer.taken.as_slice()) == lines.get(..room),
+            "room for {room} bytes"
         );
     }
-    Ok(())
 }

@@ -9,183 +9,197 @@ use chip_trace::{ReplayFault, TraceFault};
 use chip_world::WorldFault;
 use std::fmt::Display;
 use std::process::Abort;
-use std::test::Fail;
 
 /// A fault shows this text.
-fn shows<R: Abort + AllocGlobal, F: Display>(rt: &R, fault: &F, text: &str) -> Result<(), Fail> {
-    assert_eq!(rt; fault.to_string(rt.alloc())?.as_str(), text);
-    Ok(())
+fn shows<R: Abort + AllocGlobal, F: Display>(rt: &R, fault: &F, text: &str) {
+    let shown = fault.to_string(rt.alloc()).expect(rt, "memory");
+    assert!(rt; shown.as_str() == text, "{shown} and not {text}");
 }
 
-#[test]
-fn prints_each_line(rt: HostRuntime) -> Result<(), Fail> {
-    for (fault, text) in [
-        (Fault::Game(GameFault::StartLength), "fault 9 StartLength"),
-        (Fault::Game(GameFault::Total), "fault 10 Total"),
-        (Fault::Game(GameFault::Limit), "fault 11 Limit"),
-        (Fault::NotLegal, "fault 40 NotLegal"),
-        (Fault::Negative(3), "fault 41 Negative 3"),
-        (Fault::NotClosed, "fault 42 NotClosed"),
-        (Fault::NoEdge, "fault 43 NoEdge"),
-        (Fault::Ended, "fault 44 Ended"),
-        (Fault::Full, "fault 45 Full"),
-        (Fault::NotReport, "fault 50 NotReport"),
-        (Fault::Resume(ResumeFault::Prior(3)), "fault 51 Prior 3"),
-        (Fault::Resume(ResumeFault::Mismatch), "fault 52 Mismatch"),
-        (Fault::Resume(ResumeFault::Total), "fault 10 Total"),
-        (Fault::Resume(ResumeFault::Limit), "fault 11 Limit"),
-        (Fault::Plan, "fault 60 Plan"),
-        (Fault::Unfinished(1), "fault 61 Unfinished 1"),
-        (Fault::GateShut, "fault 62 GateShut"),
-        (Fault::Lost(5), "fault 63 Lost 5"),
-        (Fault::Doubled(0), "fault 64 Doubled 0"),
-        (Fault::Spawn, "fault 65 Spawn"),
-        (Fault::Stuck { vertex: 1, row: 0 }, "fault 70 Stuck 1 0"),
-        (Fault::NoMemory, "fault 90 NoMemory"),
-        (Fault::Usage, "fault 91 Usage"),
-        (Fault::Open(2), "fault 92 Open 2"),
-        (Fault::Write(WriteFault { written: 7 }), "fault 93 Write 7"),
-        (Fault::WriteTrace, "fault 93 Write"),
-    ] {
-        shows(&rt, &fault, text)?;
-    }
-    Ok(())
-}
+/// The line of each fault that is of no file.
+const LINES: &[&(Fault, &str)] = &[
+    &(Fault::Game(GameFault::StartLength), "fault 9 StartLength"),
+    &(Fault::Game(GameFault::Total), "fault 10 Total"),
+    &(Fault::Game(GameFault::Limit), "fault 11 Limit"),
+    &(Fault::NotLegal, "fault 40 NotLegal"),
+    &(Fault::Negative(3), "fault 41 Negative 3"),
+    &(Fault::NotClosed, "fault 42 NotClosed"),
+    &(Fault::NoEdge, "fault 43 NoEdge"),
+    &(Fault::Ended, "fault 44 Ended"),
+    &(Fault::Full, "fault 45 Full"),
+    &(Fault::NotReport, "fault 50 NotReport"),
+    &(Fault::Resume(ResumeFault::Prior(3)), "fault 51 Prior 3"),
+    &(Fault::Resume(ResumeFault::Mismatch), "fault 52 Mismatch"),
+    &(Fault::Resume(ResumeFault::Total), "fault 10 Total"),
+    &(Fault::Resume(ResumeFault::Limit), "fault 11 Limit"),
+    &(Fault::Plan, "fault 60 Plan"),
+    &(Fault::Unfinished(1), "fault 61 Unfinished 1"),
+    &(Fault::GateShut, "fault 62 GateShut"),
+    &(Fault::Lost(5), "fault 63 Lost 5"),
+    &(Fault::Doubled(0), "fault 64 Doubled 0"),
+    &(Fault::Spawn, "fault 65 Spawn"),
+    &(Fault::Stuck { vertex: 1, row: 0 }, "fault 70 Stuck 1 0"),
+    &(Fault::NoMemory, "fault 90 NoMemory"),
+    &(Fault::Usage, "fault 91 Usage"),
+    &(Fault::Open(2), "fault 92 Open 2"),
+    &(Fault::Write(WriteFault { written: 7 }), "fault 93 Write 7"),
+    &(Fault::WriteTrace, "fault 93 Write"),
+];
 
 #[test]
-fn prints_each_line_of_a_file(rt: HostRuntime) -> Result<(), Fail> {
-    for (fault, text) in [
-        (FileFault::Total, "fault 10 Total"),
-        (FileFault::NotJson, "fault 20 NotJson"),
-        (FileFault::Shape, "fault 21 Shape"),
-        (FileFault::Version, "fault 22 Version"),
-        (FileFault::Header, "fault 23 Header"),
-        (FileFault::Row(1), "fault 24 Row 1"),
-        (FileFault::Number(3), "fault 25 Number 3"),
-        (FileFault::Vertex(0), "fault 26 Vertex 0"),
-        (FileFault::Repeated(2), "fault 27 Repeated 2"),
-        (FileFault::Kind(5), "fault 28 Kind 5"),
-        (FileFault::Read, "fault 29 Read"),
-        (FileFault::TooLong, "fault 30 TooLong"),
-    ] {
-        shows(&rt, &Fault::File(fault), text)?;
+fn prints_each_line(rt: HostRuntime) {
+    for (fault, text) in LINES {
+        shows(&rt, fault, text);
     }
-    Ok(())
 }
 
-#[test]
-fn prints_each_line_of_a_graph(rt: HostRuntime) -> Result<(), Fail> {
-    for (fault, text) in [
-        (GraphFault::Vertices, "fault 1 Vertices"),
-        (GraphFault::Sink, "fault 2 Sink"),
-        (GraphFault::EdgeCount, "fault 3 EdgeCount"),
-        (GraphFault::Endpoint(1), "fault 4 Endpoint 1"),
-        (GraphFault::Mult(2), "fault 5 Mult 2"),
-        (GraphFault::Loop(0), "fault 6 Loop 0"),
-        (GraphFault::FromSink(3), "fault 7 FromSink 3"),
-        (GraphFault::Unreached(4), "fault 8 Unreached 4"),
-    ] {
-        shows(&rt, &Fault::File(FileFault::Graph(fault)), text)?;
-    }
-    Ok(())
-}
+/// The line of each fault of a file that is of no graph.
+const FILE_LINES: &[&(FileFault, &str)] = &[
+    &(FileFault::Total, "fault 10 Total"),
+    &(FileFault::NotJson, "fault 20 NotJson"),
+    &(FileFault::Shape, "fault 21 Shape"),
+    &(FileFault::Version, "fault 22 Version"),
+    &(FileFault::Header, "fault 23 Header"),
+    &(FileFault::Row(1), "fault 24 Row 1"),
+    &(FileFault::Number(3), "fault 25 Number 3"),
+    &(FileFault::Vertex(0), "fault 26 Vertex 0"),
+    &(FileFault::Repeated(2), "fault 27 Repeated 2"),
+    &(FileFault::Kind(5), "fault 28 Kind 5"),
+    &(FileFault::Read, "fault 29 Read"),
+    &(FileFault::TooLong, "fault 30 TooLong"),
+];
 
 #[test]
-fn libraries_say_what_is_wrong(rt: HostRuntime) -> Result<(), Fail> {
-    for (fault, text) in [
-        (GraphFault::Vertices, "there must be 1 to 4096 vertices"),
-        (GraphFault::Sink, "the sink is no vertex"),
-        (GraphFault::EdgeCount, "there are more than 65536 edges"),
-        (
-            GraphFault::Endpoint(1),
-            "edge 1 has an end that is no vertex",
-        ),
-        (GraphFault::Mult(2), "edge 2 must send 1 to 1048576 chips"),
-        (GraphFault::Loop(0), "edge 0 is a loop"),
-        (GraphFault::FromSink(3), "edge 3 leaves the sink"),
-        (
-            GraphFault::Unreached(4),
-            "no walk leads from vertex 4 to the sink",
-        ),
-        (GraphFault::NoMemory, "out of memory"),
-    ] {
-        shows(&rt, &fault, text)?;
-        shows(&rt, &FileFault::Graph(fault), text)?;
+fn prints_each_line_of_a_file(rt: HostRuntime) {
+    for (fault, text) in FILE_LINES {
+        shows(&rt, &Fault::File(*fault), text);
     }
-    for (fault, text) in [
-        (
-            GameFault::StartLength,
-            "the start must have one number for each vertex",
-        ),
-        (GameFault::Total, "there are more than 1099511627776 chips"),
-        (GameFault::Limit, "the firing limit is above 1099511627776"),
-    ] {
-        shows(&rt, &fault, text)?;
-    }
-    Ok(())
 }
 
-#[test]
-fn readers_say_what_is_wrong(rt: HostRuntime) -> Result<(), Fail> {
-    for (fault, text) in [
-        (FileFault::NotJson, "the text is no JSON"),
-        (FileFault::Shape, "the JSON has not the shape of a graph"),
-        (FileFault::Version, "the version is not 1"),
-        (FileFault::Header, "the first record is not the header"),
-        (
-            FileFault::Row(1),
-            "row 1 has another number of fields than the header",
-        ),
-        (FileFault::Number(3), "a field of row 3 is no number"),
-        (FileFault::Vertex(0), "row 0 names no vertex"),
-        (FileFault::Repeated(2), "row 2 names a vertex again"),
-        (FileFault::Kind(5), "row 5 has no such kind"),
-        (FileFault::Total, "there are more than 1099511627776 chips"),
-        (FileFault::Read, "a read failed"),
-        (FileFault::TooLong, "there are more than 16777216 bytes"),
-        (FileFault::NoMemory, "out of memory"),
-    ] {
-        shows(&rt, &fault, text)?;
-    }
-    Ok(())
-}
+/// The line of each fault of a graph.
+const GRAPH_LINES: &[&(GraphFault, &str)] = &[
+    &(GraphFault::Vertices, "fault 1 Vertices"),
+    &(GraphFault::Sink, "fault 2 Sink"),
+    &(GraphFault::EdgeCount, "fault 3 EdgeCount"),
+    &(GraphFault::Endpoint(1), "fault 4 Endpoint 1"),
+    &(GraphFault::Mult(2), "fault 5 Mult 2"),
+    &(GraphFault::Loop(0), "fault 6 Loop 0"),
+    &(GraphFault::FromSink(3), "fault 7 FromSink 3"),
+    &(GraphFault::Unreached(4), "fault 8 Unreached 4"),
+];
 
 #[test]
-fn the_other_libraries_say_what_is_wrong(rt: HostRuntime) -> Result<(), Fail> {
-    shows(&rt, &ReportFault::NotReport, "the bytes are no report")?;
-    shows(&rt, &ReportFault::NoMemory, "out of memory")?;
+fn prints_each_line_of_a_graph(rt: HostRuntime) {
+    for (fault, text) in GRAPH_LINES {
+        shows(&rt, &Fault::File(FileFault::Graph(*fault)), text);
+    }
+}
+
+/// What `chip_graph` says of a graph.
+const GRAPH_TEXTS: &[&(GraphFault, &str)] = &[
+    &(GraphFault::Vertices, "there must be 1 to 4096 vertices"),
+    &(GraphFault::Sink, "the sink is no vertex"),
+    &(GraphFault::EdgeCount, "there are more than 65536 edges"),
+    &(
+        GraphFault::Endpoint(1),
+        "edge 1 has an end that is no vertex",
+    ),
+    &(GraphFault::Mult(2), "edge 2 must send 1 to 1048576 chips"),
+    &(GraphFault::Loop(0), "edge 0 is a loop"),
+    &(GraphFault::FromSink(3), "edge 3 leaves the sink"),
+    &(
+        GraphFault::Unreached(4),
+        "no walk leads from vertex 4 to the sink",
+    ),
+    &(GraphFault::NoMemory, "out of memory"),
+];
+
+/// And of a game.
+const GAME_TEXTS: &[&(GameFault, &str)] = &[
+    &(
+        GameFault::StartLength,
+        "the start must have one number for each vertex",
+    ),
+    &(GameFault::Total, "there are more than 1099511627776 chips"),
+    &(GameFault::Limit, "the firing limit is above 1099511627776"),
+];
+
+#[test]
+fn libraries_say_what_is_wrong(rt: HostRuntime) {
+    for (fault, text) in GRAPH_TEXTS {
+        shows(&rt, fault, text);
+        shows(&rt, &FileFault::Graph(*fault), text);
+    }
+    for (fault, text) in GAME_TEXTS {
+        shows(&rt, fault, text);
+    }
+}
+
+/// What `chip_file` says.
+const FILE_TEXTS: &[&(FileFault, &str)] = &[
+    &(FileFault::NotJson, "the text is no JSON"),
+    &(FileFault::Shape, "the JSON has not the shape of a graph"),
+    &(FileFault::Version, "the version is not 1"),
+    &(FileFault::Header, "the first record is not the header"),
+    &(
+        FileFault::Row(1),
+        "row 1 has another number of fields than the header",
+    ),
+    &(FileFault::Number(3), "a field of row 3 is no number"),
+    &(FileFault::Vertex(0), "row 0 names no vertex"),
+    &(FileFault::Repeated(2), "row 2 names a vertex again"),
+    &(FileFault::Kind(5), "row 5 has no such kind"),
+    &(FileFault::Total, "there are more than 1099511627776 chips"),
+    &(FileFault::Read, "a read failed"),
+    &(FileFault::TooLong, "there are more than 16777216 bytes"),
+    &(FileFault::NoMemory, "out of memory"),
+];
+
+#[test]
+fn readers_say_what_is_wrong(rt: HostRuntime) {
+    for (fault, text) in FILE_TEXTS {
+        shows(&rt, fault, text);
+    }
+}
+
+/// What `chip_fire` says of a play that is to go on.
+const RESUME_TEXTS: &[&(ResumeFault, &str)] = &[
+    &(
+        ResumeFault::Mismatch,
+        "the earlier play has another number of vertices",
+    ),
+    &(
+        ResumeFault::Total,
+        "there are more than 1099511627776 chips",
+    ),
+    &(
+        ResumeFault::Limit,
+        "the firing limit is above 1099511627776",
+    ),
+    &(
+        ResumeFault::Prior(3),
+        "vertex 3 fired more than 1152921504606846976 times before",
+    ),
+    &(ResumeFault::NoMemory, "out of memory"),
+];
+
+#[test]
+fn the_other_libraries_say_what_is_wrong(rt: HostRuntime) {
+    shows(&rt, &ReportFault::NotReport, "the bytes are no report");
+    shows(&rt, &ReportFault::NoMemory, "out of memory");
     shows(
         &rt,
         &WriteFault { written: 7 },
         "a write failed after 7 bytes",
-    )?;
+    );
     let stuck = ReplayFault::Stuck { vertex: 1, row: 0 };
-    shows(&rt, &stuck, "vertex 1 is stuck at its row 0")?;
-    shows(&rt, &ReplayFault::NoMemory, "out of memory")?;
-    shows(&rt, &TraceFault::Write, "a write failed")?;
-    shows(&rt, &TraceFault::NoMemory, "out of memory")?;
-    for (fault, text) in [
-        (
-            ResumeFault::Mismatch,
-            "the earlier play has another number of vertices",
-        ),
-        (
-            ResumeFault::Total,
-            "there are more than 1099511627776 chips",
-        ),
-        (
-            ResumeFault::Limit,
-            "the firing limit is above 1099511627776",
-        ),
-        (
-            ResumeFault::Prior(3),
-            "vertex 3 fired more than 1152921504606846976 times before",
-        ),
-        (ResumeFault::NoMemory, "out of memory"),
-    ] {
-        shows(&rt, &fault, text)?;
+    shows(&rt, &stuck, "vertex 1 is stuck at its row 0");
+    shows(&rt, &ReplayFault::NoMemory, "out of memory");
+    shows(&rt, &TraceFault::Write, "a write failed");
+    shows(&rt, &TraceFault::NoMemory, "out of memory");
+    for (fault, text) in RESUME_TEXTS {
+        shows(&rt, fault, text);
     }
-    shows(&rt, &WorldFault::NotClosed, "the root is not closed")?;
-    shows(&rt, &WorldFault::NoMemory, "out of memory")?;
-    Ok(())
+    shows(&rt, &WorldFault::NotClosed, "the root is not closed");
+    shows(&rt, &WorldFault::NoMemory, "out of memory");
 }

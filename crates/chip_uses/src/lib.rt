@@ -10,19 +10,25 @@ ghost use Rattle.chip_detect.specs.Tally.{message_limit};
 ghost use Rattle.chip_detect.specs.Books.{Books, in_edges, out_edges, got_of, sent_of, settled_of};
 ghost use Rattle.chip_detect.specs.Acknowledging.{may_ack};
 ghost use Rattle.chip_detect.specs.Steps.{Acknowledges};
+ghost use Rattle.chip_part.specs.Edges.{graph_edges};
 ghost use Rattle.chip_actor.specs.Turning.{StandsAt, TurnContinues};
 ghost use Rattle.chip_core.specs.Core.{replies_to};
 ghost use Rattle.chip_world.specs.World.{WhateverLog};
+ghost use Rattle.chip_net.specs.Roots.{Feeds, RefusesFeed, Seals};
+ghost use Rattle.chip_net.specs.declared.poll.FeedFault.{FeedFault};
 ghost use Rattle.chip_command.specs.Inputs.{MeansGame};
 ghost use Rattle.chip_command.specs.Reports.{Reports};
+ghost use Rattle.chip_command.specs.declared.fault.Fault.TheVariants.{NoEdge};
+ghost use Rattle.chip_run.specs.Faults;
 
 use chip_actor::ActorState;
 use chip_command::Fault;
 use chip_detect::Detect;
 use chip_graph::Game;
 use chip_link::Event;
+use chip_net::{Net, Root, SealedAt, Stopper};
 use chip_part::{Act, Cursor, Reply};
-use chip_run::run_engine;
+use chip_run::{fault_of_feed, fault_of_seal, run_engine};
 use chip_sequence::enough;
 use chip_world::World;
 use std::alloc::{AllocError, Global};
@@ -88,6 +94,32 @@ pub fn replies_of(
         (λ _. world.new ≡ world.old) }
 {
     Ok(world.run(alloc, events)?.replies)
+}
+
+/// Feeds so many chips to a vertex of one's own net; a refusal is told as a command tells its faults.
+pub fn feed_vertex(root: &mut Root, net: &Net, vertex: u64, count: u64) -> Result<u64, Fault>
+    requires net { root.old.net ≡ net.now }
+    requires vertex { vertex < root.old.net.setting.game.graph.vertices }
+    requires count { 1 ≤ count }
+    ensures { MatchResult result (Feeds root.old root.new vertex count)
+        (λ fault. (f : FeedFault) × RefusesFeed root.old root.new vertex count f × (fault ≡ Faults.fault_of_feed f)) }
+{
+    match root.feed(net, vertex, count) {
+        Ok(place) => Ok(place),
+        Err(fault) => Err(fault_of_feed(fault)),
+    }
+}
+
+/// Seals an edge of one's own net; a refusal is told as a command tells its faults.
+pub fn seal_edge(stopper: &mut Stopper, net: &Net, edge: u64) -> Result<SealedAt, Fault>
+    requires { stopper.old.net ≡ net.now }
+    ensures { MatchResult result (Seals stopper.old stopper.new edge)
+        (λ fault. (graph_edges stopper.old.net.setting ≤ edge) × (stopper.new ≡ stopper.old) × (fault ≡ NoEdge)) }
+{
+    match stopper.seal(net, edge) {
+        Ok(at) => Ok(at),
+        Err(fault) => Err(fault_of_seal(fault)),
+    }
 }
 
 /// A report with its exit status.

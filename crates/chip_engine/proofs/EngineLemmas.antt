@@ -1,9 +1,8 @@
 -- Serves ReplayCommand.antt, SimulateCommand.antt, CheckCommand.antt.
 -- From the parts of an engine to its whole.
-use Rattle.std.proofs.Common.{◌≡◌, ◌⊎◌, ℕ, Bool, List, Option, Some}
+use Rattle.std.proofs.Common.{◌≡◌, ◌⊎◌, ℕ, List, Option, Some}
 use Rattle.std.proofs.Common.{Result, Ok, Err, String, Global, subst, sym, ap, inl, inr, false}
 use Rattle.std.specs.Result.{IsErrAnd}
-use Rattle.chip_part.specs.Setting.{setting_with}
 use Rattle.chip_command.proofs.InputLemmas.{Keeps-same}
 use Rattle.chip_graph.specs.Multigraph.{Multigraph}
 use Rattle.chip_graph.specs.ChipGame.{ChipGame}
@@ -21,7 +20,8 @@ use Rattle.chip_link.specs.declared.trace.TraceRow.{TraceRow}
 use Rattle.chip_engine.specs.ReplayCommand.{MeansTraces, AreReplayed, RefusesReplay, GivesReplay}
 use Rattle.chip_engine.specs.ReplayCommand.{RefusesTraces, ReplayAnswers}
 use Rattle.chip_link.specs.declared.event.Event.{Event}
-use Rattle.chip_engine.specs.SimulateCommand.{MeansEvents, RefusesEvents, Simulates, SimulateAnswers}
+use Rattle.chip_engine.specs.SimulateCommand.{MeansEvents, RefusesEvents, SimulatesBy, SimulateAnswers}
+use Rattle.chip_engine.specs.declared.simulate.SimulateOptions.{SimulateOptions}
 use Rattle.chip_engine.specs.CheckCommand.{IsShown, CheckAnswers}
 use Rattle.chip_command.specs.declared.fault.Fault.TheVariants.{NoMemory}
 use Rattle.chip_command.specs.declared.ended.Ended.{Ended}
@@ -120,31 +120,31 @@ refused_traces graph_text chips_text trace_text limit g game fault (inl (inr stu
 refused_traces graph_text chips_text trace_text limit g game fault (inr none) = inr none
 
 -- the same of `simulate`
-pub refused_simulate : (graph_text chips_text schedule_text : List ℕ) (limit ring rounds : ℕ) (books fed : Bool)
+pub refused_simulate : (graph_text chips_text schedule_text : List ℕ) (options : SimulateOptions)
     (known : Option (List ℕ)) (result : Result Ended Fault) (P : Fault → Type 0) → IsErrAnd result P
-    → ((fault : Fault) → P fault → RefusesEvents graph_text chips_text schedule_text limit fault ⊎ (fault ≡ NoMemory))
-    → SimulateAnswers graph_text chips_text schedule_text limit ring rounds books fed known known result
-refused_simulate graph_text chips_text schedule_text limit ring rounds books fed known (Ok ended) P is why = absurd is
-refused_simulate graph_text chips_text schedule_text limit ring rounds books fed known (Err fault) P is why =
+    → ((fault : Fault) → P fault → RefusesEvents graph_text chips_text schedule_text options.limit fault
+    ⊎ (fault ≡ NoMemory)) → SimulateAnswers graph_text chips_text schedule_text options known known result
+refused_simulate graph_text chips_text schedule_text options known (Ok ended) P is why = absurd is
+refused_simulate graph_text chips_text schedule_text options known (Err fault) P is why =
     inl (why fault is, Keeps-same known)
 
-pub delivered_simulate : (graph_text chips_text schedule_text : List ℕ) (limit ring rounds : ℕ) (books fed : Bool)
+pub delivered_simulate : (graph_text chips_text schedule_text : List ℕ) (options : SimulateOptions)
     (old new : Option (List ℕ)) (result : Result Ended Fault) (g : ChipGame) (events : List Event)
-    → MeansEvents graph_text chips_text schedule_text limit g events → (text : List ℕ) (status : ℕ)
-    → Simulates (setting_with g ring fed) rounds books events text status
+    → MeansEvents graph_text chips_text schedule_text options.limit g events → (text : List ℕ) (status : ℕ)
+    → SimulatesBy options g events text status
     → Delivers old new text (ended_by status) result
-    → SimulateAnswers graph_text chips_text schedule_text limit ring rounds books fed old new result
-delivered_simulate graph_text chips_text schedule_text limit ring rounds books fed old new
+    → SimulateAnswers graph_text chips_text schedule_text options old new result
+delivered_simulate graph_text chips_text schedule_text options old new
     (Ok ended) g events means text status simulates went = (
       g,
       events,
       means,
       text,
-      subst (λ (e : Ended). Simulates (setting_with g ring fed) rounds books events text e.status) (sym went.0) simulates,
+      subst (λ (e : Ended). SimulatesBy options g events text e.status) (sym went.0) simulates,
       went.1,
       ap (λ (e : Ended). e.cut) went.0,
     )
-delivered_simulate graph_text chips_text schedule_text limit ring rounds books fed old new
+delivered_simulate graph_text chips_text schedule_text options old new
     (Err fault) g events means text status simulates failed =
     inr (g, events, means, text, status, simulates, failed.0, failed.1, failed.2)
 

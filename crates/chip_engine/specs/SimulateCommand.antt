@@ -3,6 +3,7 @@
 use Rattle.std.specs.Prelude.{◌≡◌, ◌⊎◌, ℕ, List, [], ◌∷◌, ◌++◌, codes, Bool, false, if◌then◌else◌, Option, Some}
 use Rattle.std.specs.Prelude.{Result, Ok, Err}
 use Rattle.std.specs.Fmt.{decimal}
+use Rattle.std.specs.Option.{ForSome}
 use Rattle.std.specs.Io.KnownBytes.{Appends, Keeps}
 use Rattle.chip_graph.specs.ChipGame.{ChipGame}
 use Rattle.chip_link.specs.declared.event.Event.{Event}
@@ -26,6 +27,7 @@ use Rattle.chip_report.specs.Written.{WritesAll}
 use Rattle.chip_report.specs.declared.write.WriteFault.{WriteFault}
 use Rattle.chip_command.specs.Inputs.{Reads, MeansGame, RefusesInputs, RefusesText}
 use Rattle.chip_engine.specs.Board.{board_text}
+use Rattle.chip_engine.specs.declared.simulate.SimulateOptions.{SimulateOptions}
 use Rattle.chip_command.specs.Reports.{plain_status, Reports}
 use Rattle.chip_command.specs.declared.ended.Ended.{Ended}
 use Rattle.chip_command.specs.declared.fault.Fault.{Fault}
@@ -90,6 +92,11 @@ pub record Simulates (g : Setting) (rounds : ℕ) (books : Bool) (events : List 
   pub lines : text ≡ answers_text books g [] events ++ end
   pub ends : EndsBy g after drive end status
 
+-- the same of a game by the options
+abbrev pub SimulatesBy : SimulateOptions → ChipGame → List Event → List ℕ → ℕ → Type 0
+SimulatesBy options g events text status =
+    Simulates (setting_with g options.ring options.fed) options.rounds options.books events text status
+
 -- three texts and a limit mean this game and these events for it
 pub record MeansEvents (graph_text chips_text schedule_text : List ℕ) (limit : ℕ) (g : ChipGame)
     (events : List Event) : Type 0 where
@@ -105,14 +112,20 @@ RefusesEvents graph_text chips_text schedule_text limit fault =
 
 -- what `simulate` answers: the text of the simulation; or nothing is written and the inputs are refused; or the output
 -- failed
-abbrev pub SimulateAnswers : List ℕ → List ℕ → List ℕ → ℕ → ℕ → ℕ → Bool → Bool
-    → Option (List ℕ) → Option (List ℕ) → Result Ended Fault → Type 0
-SimulateAnswers graph_text chips_text schedule_text limit ring rounds books fed old new (Ok ended) =
-    (g : ChipGame) × (events : List Event) × MeansEvents graph_text chips_text schedule_text limit g events
-    × (text : List ℕ) × Simulates (setting_with g ring fed) rounds books events text ended.status
-    × Appends old new text × (ended.cut ≡ false)
-SimulateAnswers graph_text chips_text schedule_text limit ring rounds books fed old new (Err fault) =
-    ((RefusesEvents graph_text chips_text schedule_text limit fault ⊎ (fault ≡ NoMemory)) × Keeps old new)
-    ⊎ ((g : ChipGame) × (events : List Event) × MeansEvents graph_text chips_text schedule_text limit g events
-    × (text : List ℕ) × (status : ℕ) × Simulates (setting_with g ring fed) rounds books events text status
+abbrev pub SimulateAnswers : List ℕ → List ℕ → List ℕ → SimulateOptions → Option (List ℕ) → Option (List ℕ)
+    → Result Ended Fault → Type 0
+SimulateAnswers graph_text chips_text schedule_text options old new (Ok ended) =
+    (g : ChipGame) × (events : List Event) × MeansEvents graph_text chips_text schedule_text options.limit g events
+    × (text : List ℕ) × SimulatesBy options g events text ended.status × Appends old new text × (ended.cut ≡ false)
+SimulateAnswers graph_text chips_text schedule_text options old new (Err fault) =
+    ((RefusesEvents graph_text chips_text schedule_text options.limit fault ⊎ (fault ≡ NoMemory)) × Keeps old new)
+    ⊎ ((g : ChipGame) × (events : List Event) × MeansEvents graph_text chips_text schedule_text options.limit g events
+    × (text : List ℕ) × (status : ℕ) × SimulatesBy options g events text status
     × (w : WriteFault) × (fault ≡ Write w) × WritesAll old new text (Err w))
+
+-- the same where what the readers have left may be known
+abbrev pub SimulateReads : Option (List ℕ) → Option (List ℕ) → Option (List ℕ) → SimulateOptions → Option (List ℕ)
+    → Option (List ℕ) → Result Ended Fault → Type 0
+SimulateReads graph chips schedule options old new result = ForSome graph (λ graph_text. ForSome chips
+    (λ chips_text. ForSome schedule
+    (λ schedule_text. SimulateAnswers graph_text chips_text schedule_text options old new result)))

@@ -9,7 +9,7 @@ pub use explain::explain_engine;
 pub use plain::{plain_engine, plain_engine_watched};
 pub use replay::replay_engine;
 pub use resume::resume_engine;
-pub use simulate::simulate_engine;
+pub use simulate::{SimulateOptions, simulate_engine, simulate_engine_with};
 
 mod board;
 mod check;

@@ -1,14 +1,13 @@
 //! `simulate`: the core's replies to a schedule, and the report where the root closes.
 
 ghost use Rattle.std.specs.Prelude.{◌≡◌, ◌++◌, [], IfOk, IfErr, codes, string_bytes};
-ghost use Rattle.std.specs.Option.{ForSome};
 ghost use Rattle.chip_part.specs.Setting.{Setting};
 ghost use Rattle.chip_core.specs.Core.{Log, IsClosed, log_after};
 ghost use Rattle.chip_world.specs.World.{StandsForLog, WhateverLog};
 ghost use Rattle.chip_world.specs.declared.world.driving.Drive.TheVariants.{Closed};
 ghost use Rattle.chip_command.specs.Statuses.{number_of_status};
 ghost use Rattle.chip_command.specs.declared.fault.Fault.TheVariants.{NoMemory};
-ghost use Rattle.chip_engine.specs.SimulateCommand.{SimulateAnswers, Simulates, EndsClosed, EndsBy};
+ghost use Rattle.chip_engine.specs.SimulateCommand.{SimulateReads, Simulates, EndsClosed, EndsBy};
 ghost use Rattle.chip_engine.specs.SimulateCommand.{message_text, reply_text, answer_text, answers_text};
 
 use crate::board::push_board;
@@ -20,6 +19,21 @@ use chip_report::report::report;
 use chip_world::{Drive, World, WorldFault};
 use std::alloc::{AllocError, Global};
 use std::io::{Read, Write};
+
+/// The options of a simulation.
+#[derive(Clone, Copy)]
+pub struct SimulateOptions {
+    /// How often a vertex may fire at most.
+    pub limit: u64,
+    /// The rings of the edges.
+    pub ring: Ring,
+    /// How many rounds of turns are made after the schedule at most.
+    pub rounds: u64,
+    /// Whether the books of the detector stand behind each reply.
+    pub books: bool,
+    /// Whether the schedule brings chips too.
+    pub fed: bool,
+}
 
 /// Runs a schedule on the game of a graph file, a chips file and a firing limit, with rings of so many cells, and then
 /// so many rounds of turns at most; writes a line for each reply of the schedule, with the books of the detector behind
@@ -37,16 +51,36 @@ pub fn simulate_engine<G: Read, C: Read, S: Read, W: Write>(
     fed: bool,
     output: &mut W,
 ) -> Result<Ended, Fault>
-    ensures { ForSome (G.remaining graph.old)
-        (λ graph_text. ForSome (C.remaining chips.old)
-        (λ chips_text. ForSome (S.remaining schedule.old)
-        (λ schedule_text. SimulateAnswers graph_text chips_text schedule_text limit ring rounds books fed
-        (W.contents output.old) (W.contents output.new) result))) }
+    ensures { SimulateReads (G.remaining graph.old) (C.remaining chips.old) (S.remaining schedule.old)
+        (record { limit = limit; ring = ring; rounds = rounds; books = books; fed = fed })
+        (W.contents output.old) (W.contents output.new) result }
 {
-    let game = read_game(alloc, graph, chips, limit)?;
+    let options = SimulateOptions {
+        limit,
+        ring,
+        rounds,
+        books,
+        fed,
+    };
+    simulate_engine_with(alloc, graph, chips, schedule, options, output)
+}
+
+/// Does what `simulate_engine` does, by these options.
+pub fn simulate_engine_with<G: Read, C: Read, S: Read, W: Write>(
+    alloc: Global,
+    graph: &mut G,
+    chips: &mut C,
+    schedule: &mut S,
+    options: SimulateOptions,
+    output: &mut W,
+) -> Result<Ended, Fault>
+    ensures { SimulateReads (G.remaining graph.old) (C.remaining chips.old) (S.remaining schedule.old) options
+        (W.contents output.old) (W.contents output.new) result }
+{
+    let game = read_game(alloc, graph, chips, options.limit)?;
     let events = read_schedule(alloc, schedule, game.graph())?;
-    let setting = Setting::new(game, ring, fed);
-    let answer = simulate(alloc, setting, &events, rounds, books)?;
+    let setting = Setting::new(game, options.ring, options.fed);
+    let answer = simulate(alloc, setting, &events, options.rounds, options.books)?;
     conclude(output, &answer.text, Ended::of(answer.status))
 }
 

@@ -5,7 +5,7 @@
 #![tactic(auto)]
 
 pub use faults::{fault_of_feed, fault_of_seal};
-pub use running::{run_engine, run_engine_gated};
+pub use running::{RunOptions, run_engine, run_engine_gated};
 
 mod faults;
 mod feeding;

@@ -31,6 +31,17 @@ impl Gate for Always {
     }
 }
 
+/// The options of a run.
+#[derive(Clone, Copy)]
+pub struct RunOptions {
+    /// How often a vertex may fire at most.
+    pub limit: u64,
+    /// How the crew works. It seals nothing.
+    pub plan: Plan,
+    /// How its workers share the actors.
+    pub sharing: Sharing,
+}
+
 /// Plays the game of a graph file, a chips file and a firing limit on so many threads, with such rings, each thread for
 /// so many turns at most. The chips of the file of feeds, where there is one, come while the vertices fire. Where a
 /// trace is asked for, the rows that the actors wrote down are written first, at most so many of each vertex, and then
@@ -65,24 +76,18 @@ pub fn run_engine<R: Threads + Wait + Sync, G: Read, C: Read, F: Read, T: Write,
         trace_rows,
         seal: None,
     };
-    run_engine_gated(
-        rt,
-        alloc,
-        graph,
-        chips,
-        feed,
+    let options = RunOptions {
         limit,
         plan,
-        Sharing::Queue,
-        &Always,
-        trace,
-        output,
+        sharing: Sharing::Queue,
+    };
+    run_engine_gated(
+        rt, alloc, graph, chips, feed, options, &Always, trace, output,
     )
 }
 
-/// Does what `run_engine` does, by a plan that seals nothing, with workers that share the actors in this way; those of
-/// `run_engine` have one queue. The gate is asked before each turn and always answers true. It is told of the polls, and
-/// changes nothing of the bytes and the status.
+/// Does what `run_engine` does, by these options; the workers of `run_engine` share one queue. The gate is asked before
+/// each turn and always answers true. It is told of the polls, and changes nothing of the bytes and the status.
 pub fn run_engine_gated<
     R: Threads + Wait + Sync,
     G: Read,
@@ -97,25 +102,23 @@ pub fn run_engine_gated<
     graph: &mut G,
     chips: &mut C,
     feed: Option<&mut F>,
-    limit: u64,
-    plan: Plan,
-    sharing: Sharing,
+    options: RunOptions,
     gate: &K,
     trace: &mut Option<T>,
     output: &mut W,
 ) -> Result<Ended, Fault>
-    requires seal { plan.seal ≡ None }
+    requires seal { options.plan.seal ≡ None }
     requires gate { (worker turn : ℕ) → K.may_answer gate.now worker turn false → ⊥ }
-    ensures { RunReads sharing (G.remaining graph.old) (C.remaining chips.old)
-        (option_map (λ reader. F.remaining reader.now) feed.entry) limit plan
+    ensures { RunReads options.sharing (G.remaining graph.old) (C.remaining chips.old)
+        (option_map (λ reader. F.remaining reader.now) feed.entry) options.limit options.plan
         (record { report = W.contents output.old; trace = option_map T.contents trace.old })
         (record { report = W.contents output.new; trace = option_map T.contents trace.new }) result }
 {
     // (the game is not held while the texts go out)
     let played = {
-        let game = read_game(alloc, graph, chips, limit)?;
+        let game = read_game(alloc, graph, chips, options.limit)?;
         let feeds = read_fed(alloc, feed, game.graph().vertices())?;
-        play(rt, alloc, &game, feeds, plan, sharing, gate)?
+        play(rt, alloc, &game, feeds, options, gate)?
     };
     let cut = record_if_asked(alloc, &played.actors, trace)?;
     conclude(
@@ -143,16 +146,17 @@ fn play<R: Threads + Wait + Sync, K: Gate + Sync>(
     alloc: Global,
     game: &Game,
     feeds: Option<Vec<(u64, u64)>>,
-    plan: Plan,
-    sharing: Sharing,
+    options: RunOptions,
     gate: &K,
 ) -> Result<Played, Fault>
-    requires seal { plan.seal ≡ None }
+    requires seal { options.plan.seal ≡ None }
     requires gate { (worker turn : ℕ) → K.may_answer gate.now worker turn false → ⊥ }
-    ensures played { IfOk result (λ p. Plays sharing game.now (option_map (λ fed. fed.items) feeds) plan p.actors.items
-        p.answer.text.items (number_of_status p.answer.status)) }
-    ensures fault { IfErr result (IsNotPlayed sharing game.now (option_map (λ fed. fed.items) feeds) plan) }
+    ensures played { IfOk result (λ p. Plays options.sharing game.now (option_map (λ fed. fed.items) feeds) options.plan
+        p.actors.items p.answer.text.items (number_of_status p.answer.status)) }
+    ensures fault { IfErr result
+        (IsNotPlayed options.sharing game.now (option_map (λ fed. fed.items) feeds) options.plan) }
 {
+    let RunOptions { plan, sharing, .. } = options;
     match run_with(rt, alloc, game, plan, sharing, feeds.as_deref(), gate) {
         Ok(finished) => Ok(report_of(alloc, finished)?),
         Err(fault) => Err(fault_of_crew(fault)),

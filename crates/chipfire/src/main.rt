@@ -13,12 +13,12 @@ use chip_arguments::{
 use chip_command::{Ended, Fault, Status, conclude, explanations};
 use chip_crew::{MAX_TRACE_ROWS, MAX_TURNS, MAX_WORKERS, Plan, Sharing};
 use chip_engine::{
-    check_engine, explain_engine, plain_engine, plain_engine_watched, replay_engine, resume_engine,
-    simulate_engine,
+    SimulateOptions, check_engine, explain_engine, plain_engine, plain_engine_watched,
+    replay_engine, resume_engine, simulate_engine_with,
 };
 use chip_graph::MAX_LIMIT;
 use chip_link::{MAX_RING, Ring};
-use chip_run::run_engine_gated;
+use chip_run::{RunOptions, run_engine_gated};
 use progress::{RoundProgress, TurnProgress};
 use std::process::ExitCode;
 use std::rt::{Clock, Env, Files};
@@ -138,9 +138,7 @@ fn play_on_threads<R: Files + Clock + Eprint + AllocGlobal + Threads + Wait + Sy
         &mut graph,
         &mut chips,
         feed.as_mut(),
-        asked.game.limit,
-        plan_of(asked),
-        sharing_of(asked),
+        options_of(asked),
         &TurnProgress::start(rt, asked.progress),
         &mut trace,
         output,
@@ -163,25 +161,24 @@ fn create_trace<R: Files>(rt: &R, asked: &RunArguments<'_>) -> Result<Option<R::
     }
 }
 
-/// The plan for the threads that play, which seals nothing.
-fn plan_of(asked: &RunArguments<'_>) -> Plan
-    ensures { result.seal ≡ None }
+/// How the threads play.
+fn options_of(asked: &RunArguments<'_>) -> RunOptions
+    ensures { result.plan.seal ≡ None }
 {
-    Plan {
-        workers: asked.workers,
-        ring: asked.ring,
-        turns: asked.turns,
-        trace_rows: asked.trace_rows,
-        seal: None,
-    }
-}
-
-/// How the threads that play share the vertices.
-fn sharing_of(asked: &RunArguments<'_>) -> Sharing {
-    if asked.dealt {
-        Sharing::Dealt
-    } else {
-        Sharing::Queue
+    RunOptions {
+        limit: asked.game.limit,
+        plan: Plan {
+            workers: asked.workers,
+            ring: asked.ring,
+            turns: asked.turns,
+            trace_rows: asked.trace_rows,
+            seal: None,
+        },
+        sharing: if asked.dealt {
+            Sharing::Dealt
+        } else {
+            Sharing::Queue
+        },
     }
 }
 
@@ -194,16 +191,19 @@ fn simulate<R: Files + AllocGlobal, W: io::Write>(
     let ring = Ring::new(asked.ring).ok_or(Fault::Usage)?;
     let (mut graph, mut chips) = open_game(rt, &asked.game)?;
     let mut schedule = open(rt, &asked.schedule)?;
-    simulate_engine(
+    let options = SimulateOptions {
+        limit: asked.game.limit,
+        ring,
+        rounds: asked.rounds,
+        books: asked.books,
+        fed: asked.fed,
+    };
+    simulate_engine_with(
         rt.alloc(),
         &mut graph,
         &mut chips,
         &mut schedule,
-        asked.game.limit,
-        ring,
-        asked.rounds,
-        asked.books,
-        asked.fed,
+        options,
         output,
     )
 }

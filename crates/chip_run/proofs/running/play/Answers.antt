@@ -7,8 +7,8 @@ use Rattle.chip_run.proofs.running.play.Goals as goal
 
 pub returns-in-Ok-clause-played : goal.returns-in-Ok-clause-played
 returns-in-Ok-clause-played g c =
-    let finished : IsFinished c.args.sharing c.args.game.now (option_map (λ fed. fed.items) c.args.feeds) c.args.plan c.in-Ok.finished =
-    subst (λ (l : Left). IsFinished c.args.sharing c.args.game.now l c.args.plan c.in-Ok.finished) c.as_deref.ensures.value
+    let finished : IsFinished c.args.options.sharing c.args.game.now (option_map (λ fed. fed.items) c.args.feeds) c.args.options.plan c.in-Ok.finished =
+    subst (λ (l : Left). IsFinished c.args.options.sharing c.args.game.now l c.args.options.plan c.in-Ok.finished) c.as_deref.ensures.value
     c.in-Ok.ensures.finished in record {
       crew = c.in-Ok.finished;
       finished = finished;
@@ -26,7 +26,7 @@ returns-in-Ok-clause-played g c =
     }
 
 pub returns-clause-fault : goal.returns-clause-fault
-returns-clause-fault g c = not_played c.args.sharing c.args.game.now (option_map (λ fed. fed.items) c.args.feeds) c.args.plan
+returns-clause-fault g c = not_played c.args.options.sharing c.args.game.now (option_map (λ fed. fed.items) c.args.feeds) c.args.options.plan
     (g.K.Gate.may_answer c.args.gate.now) c.requires.gate c.in-Err.fault _
-    (subst (λ (l : Left). IsFaultOf c.args.sharing c.args.game.now l c.args.plan (g.K.Gate.may_answer c.args.gate.now) c.in-Err.fault)
+    (subst (λ (l : Left). IsFaultOf c.args.options.sharing c.args.game.now l c.args.options.plan (g.K.Gate.may_answer c.args.gate.now) c.in-Err.fault)
     c.as_deref.ensures.value c.in-Err.ensures.fault) c.fault_of_crew.ensures

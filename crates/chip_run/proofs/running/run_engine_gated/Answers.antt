@@ -13,16 +13,16 @@ use Rattle.chip_run.proofs.running.run_engine_gated.Goals as goal
 
 pub returns-in_err-game : goal.returns-in_err-game
 returns-in_err-game g c = λ graph_text graph_is chips_text chips_is. for_each_text _ _ (λ feed_text.
-    refused_run c.args.sharing graph_text chips_text feed_text c.args.limit c.args.plan _ c.from_residual.result _
+    refused_run c.args.options.sharing graph_text chips_text feed_text c.args.options.limit c.args.options.plan _ c.from_residual.result _
     c.from_residual.ensures.1
-    (λ fault is. inl (subst (RefusesInputs graph_text chips_text c.args.limit) (sym is)
+    (λ fault is. inl (subst (RefusesInputs graph_text chips_text c.args.options.limit) (sym is)
     (c.in_err-game.ensures graph_text graph_is chips_text chips_is))))
 
 pub returns-in_err-feeds : goal.returns-in_err-feeds
 returns-in_err-feeds g c = λ graph_text graph_is chips_text chips_is. for_text _ _ _ (λ feed_text refuses.
     let vertices = c.vertices.ensures.value ∙ ap (λ (G : Multigraph). G.vertices) c.graph.ensures.value in
     let why = subst (λ (n : ℕ). RefusesFed feed_text n c.in_err-feeds.field-0.0) vertices refuses in
-    refused_run c.args.sharing graph_text chips_text feed_text c.args.limit c.args.plan _ c.from_residual-in_err-feeds.result _
+    refused_run c.args.options.sharing graph_text chips_text feed_text c.args.options.limit c.args.options.plan _ c.from_residual-in_err-feeds.result _
     c.from_residual-in_err-feeds.ensures.1
     (λ fault is. inr (
       c.in_ok-game.game,
@@ -33,21 +33,21 @@ returns-in_err-feeds g c = λ graph_text graph_is chips_text chips_is. for_text 
 pub returns-in_err-played : goal.returns-in_err-played
 returns-in_err-played g c = λ graph_text graph_is chips_text chips_is. for_text _ _ _ (λ feed_text fed.
     let vertices = c.vertices.ensures.value ∙ ap (λ (G : Multigraph). G.vertices) c.graph.ensures.value in
-    let plan : Plan = c.args.plan in
+    let plan : Plan = c.args.options.plan in
     let feeds : Option (List (ℕ × ℕ)) = option_map (λ feeds. feeds.items) c.in_ok-feeds.feeds in
-    unplayed_run c.args.sharing graph_text chips_text feed_text c.args.limit plan c.in_ok-game.game feeds
-    (means_fed graph_text chips_text feed_text c.args.limit c.in_ok-game.game feeds _ vertices
+    unplayed_run c.args.options.sharing graph_text chips_text feed_text c.args.options.limit plan c.in_ok-game.game feeds
+    (means_fed graph_text chips_text feed_text c.args.options.limit c.in_ok-game.game feeds _ vertices
     (c.in_ok-game.ensures graph_text graph_is chips_text chips_is) fed) _ c.from_residual-in_err-played.result _
     c.from_residual-in_err-played.ensures.1
-    (λ fault is. subst (IsNotPlayed c.args.sharing c.in_ok-game.game feeds plan) (sym is) c.in_err-played.ensures.fault))
+    (λ fault is. subst (IsNotPlayed c.args.options.sharing c.in_ok-game.game feeds plan) (sym is) c.in_err-played.ensures.fault))
     c.in_ok-feeds.ensures
 
 pub returns-in_err-cut : goal.returns-in_err-cut
 returns-in_err-cut g c = λ graph_text graph_is chips_text chips_is. for_text _ _ _ (λ feed_text fed.
     let vertices = c.vertices.ensures.value ∙ ap (λ (G : Multigraph). G.vertices) c.graph.ensures.value in
     let feeds : Option (List (ℕ × ℕ)) = option_map (λ feeds. feeds.items) c.in_ok-feeds.feeds in
-    untraced_run c.args.sharing graph_text chips_text feed_text c.args.limit c.args.plan c.in_ok-game.game feeds
-    (means_fed graph_text chips_text feed_text c.args.limit c.in_ok-game.game feeds _ vertices
+    untraced_run c.args.options.sharing graph_text chips_text feed_text c.args.options.limit c.args.options.plan c.in_ok-game.game feeds
+    (means_fed graph_text chips_text feed_text c.args.options.limit c.in_ok-game.game feeds _ vertices
     (c.in_ok-game.ensures graph_text graph_is chips_text chips_is) fed) _ (g.W.Write.contents c.args.output.now) _ _
     c.deref.result.now
     c.in_ok-played.played.answer.text.items (number_of_status c.in_ok-played.played.answer.status)
@@ -59,8 +59,8 @@ pub returns : goal.returns
 returns g c = λ graph_text graph_is chips_text chips_is. for_text _ _ _ (λ feed_text fed.
     let vertices = c.vertices.ensures.value ∙ ap (λ (G : Multigraph). G.vertices) c.graph.ensures.value in
     let feeds : Option (List (ℕ × ℕ)) = option_map (λ feeds. feeds.items) c.in_ok-feeds.feeds in
-    delivered_run c.args.sharing graph_text chips_text feed_text c.args.limit c.args.plan c.in_ok-game.game feeds
-    (means_fed graph_text chips_text feed_text c.args.limit c.in_ok-game.game feeds _ vertices
+    delivered_run c.args.options.sharing graph_text chips_text feed_text c.args.options.limit c.args.options.plan c.in_ok-game.game feeds
+    (means_fed graph_text chips_text feed_text c.args.options.limit c.in_ok-game.game feeds _ vertices
     (c.in_ok-game.ensures graph_text graph_is chips_text chips_is) fed) _ _ _ _ c.deref.result.now
     c.deref-2.result.now (number_of_status c.in_ok-played.played.answer.status)
     (plays_as _ _ _ _ _ _ _ _ _ c.in_ok-played.ensures.played c.deref.ensures.value c.deref-2.ensures.value)

@@ -2,7 +2,7 @@
 
 ghost use Rattle.std.specs.Prelude.{◌≡◌, ◌<◌, ◌≤◌, IfOk};
 
-use chip_graph::Game;
+use chip_graph::{AnyEdge, Game};
 use chip_link::Ring;
 use std::alloc::{AllocError, Global};
 use std::marker::Model;
@@ -109,23 +109,16 @@ impl Setting {
         ensures value { result ≡ root_edge self.now vertex }
         ensures inside { result < all_edges self.now }
     {
-        let _vertices = self.vertices();
-        self.graph_edges() + vertex
+        self.game.graph().root_edge(vertex)
     }
 
     /// The head of an edge; `None` from `all_edges()` on.
     pub fn head(&self, edge: u64) -> Option<u64>
         ensures { result ≡ head_if self.now edge }
     {
-        let graph = self.game.graph();
-        let edges = graph.edges();
-        let graph_edges = edges.len() as u64;
-        if edge < graph_edges {
-            Some(edges[edge as usize].head)
-        } else if edge - graph_edges < graph.vertices() {
-            Some(edge - graph_edges)
-        } else {
-            None
+        match self.game.graph().edge(edge)? {
+            AnyEdge::Own(edge) => Some(edge.head),
+            AnyEdge::Root { head } => Some(head),
         }
     }
 
@@ -133,11 +126,9 @@ impl Setting {
     pub fn tail(&self, edge: u64) -> Option<u64>
         ensures { result ≡ tail_if self.now edge }
     {
-        let edges = self.game.graph().edges();
-        if edge < edges.len() as u64 {
-            Some(edges[edge as usize].tail)
-        } else {
-            None
+        match self.game.graph().edge(edge)? {
+            AnyEdge::Own(edge) => Some(edge.tail),
+            AnyEdge::Root { .. } => None,
         }
     }
 }

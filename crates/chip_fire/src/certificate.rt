@@ -38,7 +38,6 @@ pub(crate) fn certify(
         (slice_index fired.now) (slice_index counts.now) (slice_index order.now) → ⊥))
         (λ chips. IsBegun game.now chips.items counts.now)) }
 {
-    let _game = game.graph();
     let chips = match after(alloc, game, counts) {
         Ok(chips) => chips,
         Err(AfterFault::Negative(_)) => return Ok(None),
@@ -59,7 +58,8 @@ fn are_earned(game: &Game, fired: &[u64], counts: &[u64], chips: &[u64]) -> bool
     requires fired_each { length fired.now ≡ game.now.graph.vertices }
     requires counts_each { length counts.now ≡ game.now.graph.vertices }
     requires after { IsAfter game.now counts.now chips.now }
-    ensures { IsTrue result
+    ensures game { IsGame game.now }
+    ensures earned { IsTrue result
         ↔ IsCertified game.now.graph (slice_index game.now.start) game.now.limit (slice_index fired.now)
         (slice_index counts.now) }
 {
@@ -91,7 +91,8 @@ fn are_burnt(game: &Game, fired: &[u64], counts: &[u64], order: &[u64], chips: &
     requires counts_each { length counts.now ≡ game.now.graph.vertices }
     requires order_each { length order.now ≡ game.now.graph.vertices }
     requires after { IsAfter game.now counts.now chips.now }
-    ensures { IsTrue result
+    ensures game { IsGame game.now }
+    ensures burnt { IsTrue result
         ↔ AreBurnt game.now.graph (slice_index game.now.start) game.now.limit (slice_index fired.now)
         (slice_index counts.now) (slice_index order.now) }
 {

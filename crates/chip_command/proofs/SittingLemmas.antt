@@ -13,7 +13,7 @@ use Rattle.chip_sequence.specs.declared.outcome.Outcome.{Outcome}
 use Rattle.chip_sequence.proofs.SittingLemmas.{played_is_sitting}
 use Rattle.chip_fire.proofs.PlayLemmas.{outcome_is}
 use Rattle.chip_report.specs.ReportText.{report_text}
-use Rattle.chip_report.specs.Reportable.{Told, told}
+use Rattle.chip_report.specs.Reportable.{Content, content}
 use Rattle.chip_report.proofs.ReportLemmas.{one_outcome}
 use Rattle.chip_report.proofs.ReportTwoLemmas.{not_both}
 use Rattle.chip_command.specs.Reports.{Reports}
@@ -29,7 +29,7 @@ none_before n v =
     (λ nl. get_or_past none v 0 (omega arith))
 
 -- what an outcome tells leads from x to its chips
-abbrev Leads : Multigraph → (ℕ → ℕ) → Told → Type 0
+abbrev Leads : Multigraph → (ℕ → ℕ) → Content → Type 0
 Leads G x t = LeadsTo G x (slice_index t.fired) (slice_index t.chips)
 
 -- the report of an outcome whose counts lead to its chips tells a play
@@ -37,7 +37,7 @@ pub first_tells : (G : Multigraph) (x : ℕ → ℕ) (o : Outcome) → IsOutcome
     → LeadsTo G x (slice_index o.fired.items) (slice_index o.chips.items)
     → (report : List ℕ) → report ≡ report_text o → TellsPlayFrom G x report
 first_tells G x o fits leads report spelled r (inl first) =
-    let same : told o ≡ told r.outcome =
+    let same : content o ≡ content r.outcome =
     one_outcome o r.outcome fits first.0.reportable (sym spelled ∙ first.0.spelled) in
     let of_it : LeadsTo G x (slice_index r.outcome.fired.items) (slice_index r.outcome.chips.items) =
     subst (Leads G x) same leads in

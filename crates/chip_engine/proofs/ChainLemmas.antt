@@ -11,7 +11,7 @@ use Rattle.chip_sequence.specs.Firing.{IsLegal}
 use Rattle.chip_sequence.specs.Sittings.{IsResumed, IsPlayFrom, LeadsTo}
 use Rattle.chip_sequence.specs.declared.resumed.Resumed.{Resumed}
 use Rattle.chip_report.specs.ReportText.{is_empty, report_text}
-use Rattle.chip_report.specs.ReportTwo.{ToldOfAll, told_of_all, report_two_text, IsAnyReportOf}
+use Rattle.chip_report.specs.ReportTwo.{SittingContent, sitting_content, report_two_text, IsAnyReportOf}
 use Rattle.chip_report.proofs.ReportTwoLemmas.{one_sitting, not_both}
 use Rattle.chip_command.specs.Inputs.{Reads, MeansGame}
 use Rattle.chip_engine.specs.ResumeCommand.{LeadsToTheEnd}
@@ -55,17 +55,17 @@ simulate_tells_play g log end report status ends is =
 -- ---- sittings that went on
 
 -- what a sitting tells leads from x to its chips
-abbrev LeadsInAll : Multigraph → (ℕ → ℕ) → ToldOfAll → Type 0
+abbrev LeadsInAll : Multigraph → (ℕ → ℕ) → SittingContent → Type 0
 LeadsInAll G x t = LeadsTo G x (λ v. slice_index t.prior v + slice_index t.last.fired v) (slice_index t.last.chips)
 
 -- where it closed, it left no vertex legal
-abbrev LeavesNone : Multigraph → ToldOfAll → Type 0
+abbrev LeavesNone : Multigraph → SittingContent → Type 0
 LeavesNone G t = (is_empty t.last.over && is_empty t.last.sealed) ≡ true
     → (v : ℕ) → IsLegal G (slice_index t.last.chips) v → ⊥
 
 -- whichever sitting is read from the report of one tells the same
 read_again : (report : List ℕ) (s : Resumed) → IsResumed s → report ≡ report_two_text s
-    → (r : Resumed) → IsAnyReportOf report r → told_of_all s ≡ told_of_all r
+    → (r : Resumed) → IsAnyReportOf report r → sitting_content s ≡ sitting_content r
 read_again report s fits spelled r (inl first) =
     absurd (not_both report r.outcome s first.0 (record { reportable = fits; spelled = spelled }))
 read_again report s fits spelled r (inr two) = one_sitting s r fits two.reportable (sym spelled ∙ two.spelled)

@@ -24,17 +24,17 @@ use Rattle.chip_sequence.specs.Outcomes.{IsOutcome}
 use Rattle.chip_graph.specs.Limits.{max_limit, max_total}
 use Rattle.chip_report.specs.OutcomeParts.{AreCounts, AreHalted}
 use Rattle.chip_report.specs.ReportText.{comma, array_text, bool_text, is_empty, is_closed, report_text}
-use Rattle.chip_report.specs.Reportable.{Told, told, IsReportOf, IsNoReport, GrowsForALine, Gives}
+use Rattle.chip_report.specs.Reportable.{Content, content, IsReportOf, IsNoReport, GrowsForALine, Gives}
 use Rattle.chip_report.specs.declared.fault.ReportFault.{ReportFault}
 use Rattle.chip_report.specs.declared.fault.ReportFault.TheVariants as fault
-use Rattle.chip_report.specs.ReportJson.{told_by_value, told_by_json}
+use Rattle.chip_report.specs.ReportJson.{content_by_value, content_by_json}
 use Rattle.chip_report.proofs.JsonLemmas.{read-compact_text, items_of, AreShort, text-array, numbers-array, depth-array}
 use Rattle.chip_report.proofs.JsonLemmas.{back-array, numbers_of-items_of}
 use Rattle.chip_report.proofs.ValueLemmas.{value_of-some}
 
 -- ---- the value of a report
 
-abbrev report_members : Bool → Told → Members
+abbrev report_members : Bool → Content → Members
 report_members closed t =
     member (codes "chips") (array (items_of t.chips))
     (member (codes "closed") (boolean closed)
@@ -43,11 +43,11 @@ report_members closed t =
     (member (codes "sealed") (array (items_of t.sealed))
     (member (codes "version") (number (unsigned 1)) no_members)))))
 
-abbrev report_value : Bool → Told → Data
+abbrev report_value : Bool → Content → Data
 report_value closed t = object (report_members closed t)
 
 -- the text of a report, without its newline
-abbrev json_text : Bool → Told → List ℕ
+abbrev json_text : Bool → Content → List ℕ
 json_text closed t =
     codes "{\"chips\":" ++ (array_text t.chips
     ++ (codes ",\"closed\":" ++ (bool_text closed
@@ -56,7 +56,7 @@ json_text closed t =
     ++ (codes ",\"sealed\":" ++ (array_text t.sealed
     ++ codes ",\"version\":1}")))))))))
 
-text-value : (closed : Bool) (t : Told) → compact_text (report_value closed t) ≡ json_text closed t
+text-value : (closed : Bool) (t : Content) → compact_text (report_value closed t) ≡ json_text closed t
 unfolding escape_byte digits
 text-value true t = rw (text-array t.chips, text-array t.fired, text-array t.over, text-array t.sealed) refl
 text-value false t = rw (text-array t.chips, text-array t.fired, text-array t.over, text-array t.sealed) refl
@@ -67,10 +67,10 @@ newline_last : (a b c d e f g h i j k : List ℕ)
 newline_last a b c d e f g h i j k = simp append_assoc
 
 -- whether no vertex halted
-abbrev pub closed_of : Told → Bool
+abbrev pub closed_of : Content → Bool
 closed_of t = is_empty t.over && is_empty t.sealed
 
-with_newline : (o : Outcome) → json_text (closed_of (told o)) (told o) ++ 10 ∷ [] ≡ report_text o
+with_newline : (o : Outcome) → json_text (closed_of (content o)) (content o) ++ 10 ∷ [] ≡ report_text o
 with_newline o =
     newline_last (codes "{\"chips\":") (array_text o.chips.items) (codes ",\"closed\":") (bool_text (is_closed o))
     (codes ",\"fired\":") (array_text o.fired.items)
@@ -78,13 +78,13 @@ with_newline o =
     (codes ",\"version\":1}")
 
 -- numbers that fit
-pub record AreShortLists (t : Told) : Type 0 where
+pub record AreShortLists (t : Content) : Type 0 where
   pub fired : AreShort t.fired
   pub chips : AreShort t.chips
   pub over : AreShort t.over
   pub sealed : AreShort t.sealed
 
-numbers-value : (closed : Bool) (t : Told) → AreShortLists t → tree.HasNumbers (outline (report_value closed t))
+numbers-value : (closed : Bool) (t : Content) → AreShortLists t → tree.HasNumbers (outline (report_value closed t))
 numbers-value closed t h = (
   numbers-array t.chips h.chips,
   (
@@ -96,10 +96,10 @@ numbers-value closed t h = (
   ),
 )
 
-depth-value : (closed : Bool) (t : Told) → tree.depth (outline (report_value closed t)) ≤ max_depth
+depth-value : (closed : Bool) (t : Content) → tree.depth (outline (report_value closed t)) ≤ max_depth
 depth-value closed t = rw (depth-array t.chips, depth-array t.fired, depth-array t.over, depth-array t.sealed) (lit≤ tt)
 
-back-value : (closed : Bool) (t : Told) → AreShortLists t
+back-value : (closed : Bool) (t : Content) → AreShortLists t
     → of_json (outline (report_value closed t)) ≡ Some (report_value closed t)
 back-value closed t h = rw (
   back-array t.chips h.chips,
@@ -109,13 +109,13 @@ back-value closed t h = rw (
   number_of-decimal 1 (lit< tt),
 ) refl
 
-read-value : (closed : Bool) (t : Told) → AreShortLists t → read (json_text closed t) ≡ Some (report_value closed t)
+read-value : (closed : Bool) (t : Content) → AreShortLists t → read (json_text closed t) ≡ Some (report_value closed t)
 read-value closed t h = ap read (sym (text-value closed t))
     ∙ read-compact_text (report_value closed t) (numbers-value closed t h) (depth-value closed t)
     (back-value closed t h)
 
-told-value : (closed : Bool) (t : Told) → told_by_value (report_value closed t) ≡ Some t
-told-value closed t = rw (
+content-value : (closed : Bool) (t : Content) → content_by_value (report_value closed t) ≡ Some t
+content-value closed t = rw (
   numbers_of-items_of t.fired,
   numbers_of-items_of t.chips,
   numbers_of-items_of t.over,
@@ -146,7 +146,7 @@ pub utf8-boolean : (b : Bool) → IsUtf8 (bool_text b)
 utf8-boolean true = IsUtf8-are_ascii (codes "true") refl
 utf8-boolean false = IsUtf8-are_ascii (codes "false") refl
 
-utf8-text : (closed : Bool) (t : Told) → AreShortLists t → IsUtf8 (json_text closed t)
+utf8-text : (closed : Bool) (t : Content) → AreShortLists t → IsUtf8 (json_text closed t)
 utf8-text closed t h =
     IsUtf8-append (codes "{\"chips\":") _ (IsUtf8-are_ascii _ refl)
     (IsUtf8-append (array_text t.chips) _ (utf8-array t.chips h.chips)
@@ -162,7 +162,7 @@ utf8-text closed t h =
 
 -- ---- what a report tells
 
-pub short_lists : (o : Outcome) → IsOutcome o → AreShortLists (told o)
+pub short_lists : (o : Outcome) → IsOutcome o → AreShortLists (content o)
 short_lists o h =
     let few = h.few_vertices in
     record {
@@ -175,34 +175,35 @@ short_lists o h =
           omega arith);
     }
 
-told-report : (o : Outcome) (json : List ℕ) → IsOutcome o → report_text o ≡ json ++ 10 ∷ []
-    → told_by_json json ≡ Some (told o)
-told-report o json h e =
+content-report : (o : Outcome) (json : List ℕ) → IsOutcome o → report_text o ≡ json ++ 10 ∷ []
+    → content_by_json json ≡ Some (content o)
+content-report o json h e =
     let short = short_lists o h in
-    let same : json_text (closed_of (told o)) (told o) ≡ json = append_cancel_right _ json (10 ∷ []) (with_newline o
-    ∙ e) in
-    ap told_by_json (sym same)
-    ∙ ap (option_and_then told_by_value)
-    (value_of-some (json_text (closed_of (told o)) (told o)) _ (utf8-text (closed_of (told o)) (told o) short)
-    (read-value (closed_of (told o)) (told o) short))
-    ∙ told-value (closed_of (told o)) (told o)
+    let same : json_text (closed_of (content o)) (content o) ≡ json =
+    append_cancel_right _ json (10 ∷ []) (with_newline o ∙ e) in
+    ap content_by_json (sym same)
+    ∙ ap (option_and_then content_by_value)
+    (value_of-some (json_text (closed_of (content o)) (content o)) _
+    (utf8-text (closed_of (content o)) (content o) short)
+    (read-value (closed_of (content o)) (content o) short))
+    ∙ content-value (closed_of (content o)) (content o)
 
 -- ---- an outcome's numbers are all that its report depends on
 
 -- the numbers are those of an outcome that a game can have
-abbrev pub AreOfOutcome : Told → Type 0
+abbrev pub AreOfOutcome : Content → Type 0
 AreOfOutcome t =
     AreCounts t.fired (length t.fired) max_limit × AreCounts t.chips (length t.fired) max_total
     × AreHalted t.over t.sealed (length t.fired)
 
-pub outcome_then : (o : Outcome) → IsOutcome o → AreOfOutcome (told o)
+pub outcome_then : (o : Outcome) → IsOutcome o → AreOfOutcome (content o)
 outcome_then o h = (
   (refl, h.some_vertex, h.few_vertices, h.few_firings),
   (h.same_length, h.some_vertex, h.few_vertices, h.few_chips),
   ((h.over_ascends, h.over_vertices), (h.sealed_ascends, h.sealed_vertices), h.apart),
 )
 
-pub outcome_if : (o : Outcome) → AreOfOutcome (told o) → IsOutcome o
+pub outcome_if : (o : Outcome) → AreOfOutcome (content o) → IsOutcome o
 outcome_if o h = record {
   same_length = h.1.0;
   some_vertex = h.0.1;
@@ -229,31 +230,32 @@ pub halted_of_outcome : (o : Outcome) (vertices : ℕ) → length o.fired.items 
     → AreHalted o.over.items o.sealed.items vertices
 halted_of_outcome o vertices e h = subst (AreHalted o.over.items o.sealed.items) e (outcome_then o h).2
 
-IsReportOf-told : (bytes : List ℕ) (o p : Outcome) → told o ≡ told p → IsReportOf bytes o → IsReportOf bytes p
-IsReportOf-told bytes o p e r = record {
+IsReportOf-content : (bytes : List ℕ) (o p : Outcome) → content o ≡ content p → IsReportOf bytes o → IsReportOf bytes p
+IsReportOf-content bytes o p e r = record {
   reportable = outcome_if p (subst AreOfOutcome e (outcome_then o r.reportable));
-  spelled = r.spelled ∙ sym (with_newline o) ∙ ap (λ (t : Told). json_text (closed_of t) t ++ 10 ∷ []) e
+  spelled = r.spelled ∙ sym (with_newline o) ∙ ap (λ (t : Content). json_text (closed_of t) t ++ 10 ∷ []) e
       ∙ with_newline p;
 }
 
 -- ---- bytes that are no report
 
 pub none_without_newline : (bytes : List ℕ) → ((front : List ℕ) → bytes ≢ front ++ 10 ∷ []) → IsNoReport bytes
-none_without_newline bytes none o r = none (json_text (closed_of (told o)) (told o)) (r.spelled ∙ sym (with_newline o))
+none_without_newline bytes none o r =
+    none (json_text (closed_of (content o)) (content o)) (r.spelled ∙ sym (with_newline o))
 
-none_told : (bytes json : List ℕ) → bytes ≡ json ++ 10 ∷ [] → told_by_json json ≡ None → IsNoReport bytes
-none_told bytes json e none o r =
-    let some : told_by_json json ≡ Some (told o) = told-report o json r.reportable (sym r.spelled ∙ e) in
-    let both : None ≡ Some (told o) = sym none ∙ some in
+no_content : (bytes json : List ℕ) → bytes ≡ json ++ 10 ∷ [] → content_by_json json ≡ None → IsNoReport bytes
+no_content bytes json e none o r =
+    let some : content_by_json json ≡ Some (content o) = content-report o json r.reportable (sym r.spelled ∙ e) in
+    let both : None ≡ Some (content o) = sym none ∙ some in
     cc
 
 pub refused : (bytes json : List ℕ) → bytes ≡ json ++ 10 ∷ [] → (result : Result Outcome ReportFault) (f : ReportFault)
     → IsErrAnd result (λ e. e ≡ f)
-    → (f ≡ fault.NoMemory) ⊎ ((f ≡ fault.NotReport) × (told_by_json json ≡ None))
+    → (f ≡ fault.NoMemory) ⊎ ((f ≡ fault.NotReport) × (content_by_json json ≡ None))
     → Gives (IsReportOf bytes) (IsNoReport bytes) result
 refused bytes json e (Ok o) f is why = absurd is
 refused bytes json e (Err g) f is (inl memory) = inl (is ∙ memory)
-refused bytes json e (Err g) f is (inr none) = inr (is ∙ none.0, none_told bytes json e none.1)
+refused bytes json e (Err g) f is (inr none) = inr (is ∙ none.0, no_content bytes json e none.1)
 
 -- bytes that end in a newline
 pub of_a_line : {T : Type 0} (bytes json : List ℕ) → bytes ≡ json ++ 10 ∷ [] → (result : Result T ReportFault)
@@ -264,29 +266,29 @@ of_a_line bytes json e (Err f) = λ memory. (json, e)
 pub of_a_report : {T : Type 0} (bytes : List ℕ) (o : Outcome) → bytes ≡ report_text o → (result : Result T ReportFault)
     → GrowsForALine bytes result
 of_a_report bytes o e result =
-    of_a_line bytes (json_text (closed_of (told o)) (told o)) (e ∙ sym (with_newline o)) result
+    of_a_line bytes (json_text (closed_of (content o)) (content o)) (e ∙ sym (with_newline o)) result
 
-pub not_the_one_told : (bytes json : List ℕ) (found : Outcome) → bytes ≡ json ++ 10 ∷ []
-    → told_by_json json ≡ Some (told found) → (IsReportOf bytes found → ⊥) → IsNoReport bytes
-not_the_one_told bytes json found e one none o r =
-    let some : told_by_json json ≡ Some (told o) = told-report o json r.reportable (sym r.spelled ∙ e) in
-    let both : Some (told o) ≡ Some (told found) = sym some ∙ one in
-    let same : told o ≡ told found = cc in
-    none (IsReportOf-told bytes o found same r)
+pub not_that_outcome : (bytes json : List ℕ) (found : Outcome) → bytes ≡ json ++ 10 ∷ []
+    → content_by_json json ≡ Some (content found) → (IsReportOf bytes found → ⊥) → IsNoReport bytes
+not_that_outcome bytes json found e one none o r =
+    let some : content_by_json json ≡ Some (content o) = content-report o json r.reportable (sym r.spelled ∙ e) in
+    let both : Some (content o) ≡ Some (content found) = sym some ∙ one in
+    let same : content o ≡ content found = cc in
+    none (IsReportOf-content bytes o found same r)
 
 -- ---- the laws
 
-pub one_outcome : (o p : Outcome) → IsOutcome o → IsOutcome p → report_text o ≡ report_text p → told o ≡ told p
+pub one_outcome : (o p : Outcome) → IsOutcome o → IsOutcome p → report_text o ≡ report_text p → content o ≡ content p
 one_outcome o p h k e =
-    let json : List ℕ = json_text (closed_of (told p)) (told p) in
-    let one : told_by_json json ≡ Some (told o) = told-report o json h (e ∙ sym (with_newline p)) in
-    let other : told_by_json json ≡ Some (told p) = told-report p json k (sym (with_newline p)) in
-    let both : Some (told o) ≡ Some (told p) = sym one ∙ other in
+    let json : List ℕ = json_text (closed_of (content p)) (content p) in
+    let one : content_by_json json ≡ Some (content o) = content-report o json h (e ∙ sym (with_newline p)) in
+    let other : content_by_json json ≡ Some (content p) = content-report p json k (sym (with_newline p)) in
+    let both : Some (content o) ≡ Some (content p) = sym one ∙ other in
     cc
 
 pub round_trip : (o : Outcome) → IsOutcome o → (answer : Result Outcome ReportFault)
     → Gives (IsReportOf (report_text o)) (IsNoReport (report_text o)) answer
-    → ((read : Outcome) × (answer ≡ Ok read) × (told read ≡ told o)) ⊎ (answer ≡ Err fault.NoMemory)
+    → ((read : Outcome) × (answer ≡ Ok read) × (content read ≡ content o)) ⊎ (answer ≡ Err fault.NoMemory)
 round_trip o h (Ok read) gives = inl (read, refl, sym (one_outcome o read h gives.reportable gives.spelled))
 round_trip o h (Err f) gives = elim gives [
   | inl memory ↦ inr (ap (λ (f : ReportFault). Err f) memory)

@@ -22,7 +22,7 @@ use Rattle.chip_sequence.specs.Sittings.{IsResumed, max_prior}
 use Rattle.chip_report.specs.ReportText.{array_text, bool_text, is_closed, report_text, start_text}
 use Rattle.chip_report.specs.Reportable.{IsReportOf, IsNoReport, Gives}
 use Rattle.chip_report.specs.ReportTwo.{report_two_text, IsReportTwoOf, IsNoReportTwo, IsAnyReportOf, IsNoReportAtAll}
-use Rattle.chip_report.specs.ReportTwo.{ToldOfAll, told_of_all, told_of_all_by_value, told_of_all_by_json}
+use Rattle.chip_report.specs.ReportTwo.{SittingContent, sitting_content, sitting_by_value, sitting_by_json}
 use Rattle.chip_report.specs.declared.fault.ReportFault.{ReportFault}
 use Rattle.chip_report.specs.declared.fault.ReportFault.TheVariants as fault
 use Rattle.chip_report.proofs.JsonLemmas.{read-compact_text, items_of, AreShort, text-array, numbers-array, depth-array}
@@ -35,7 +35,7 @@ use Rattle.chip_sequence.specs.declared.outcome.Outcome.{Outcome}
 
 -- ---- the value of a report
 
-abbrev members_two : Bool → ToldOfAll → Members
+abbrev members_two : Bool → SittingContent → Members
 members_two closed t =
     member (codes "chips") (array (items_of t.last.chips))
     (member (codes "closed") (boolean closed)
@@ -45,11 +45,11 @@ members_two closed t =
     (member (codes "sealed") (array (items_of t.last.sealed))
     (member (codes "version") (number (unsigned 2)) no_members))))))
 
-abbrev value_two : Bool → ToldOfAll → Data
+abbrev value_two : Bool → SittingContent → Data
 value_two closed t = object (members_two closed t)
 
 -- the text of a report, without its newline
-abbrev json_two : Bool → ToldOfAll → List ℕ
+abbrev json_two : Bool → SittingContent → List ℕ
 json_two closed t =
     codes "{\"chips\":" ++ (array_text t.last.chips
     ++ (codes ",\"closed\":" ++ (bool_text closed
@@ -59,7 +59,7 @@ json_two closed t =
     ++ (codes ",\"sealed\":" ++ (array_text t.last.sealed
     ++ codes ",\"version\":2}")))))))))))
 
-text-two : (closed : Bool) (t : ToldOfAll) → compact_text (value_two closed t) ≡ json_two closed t
+text-two : (closed : Bool) (t : SittingContent) → compact_text (value_two closed t) ≡ json_two closed t
 unfolding escape_byte digits
 text-two true t = rw (
   text-array t.last.chips,
@@ -82,10 +82,11 @@ newline_behind : (a b c d e f g h i j k l m : List ℕ)
 newline_behind a b c d e f g h i j k l m = simp append_assoc
 
 -- whether no vertex halted
-abbrev closed_two : ToldOfAll → Bool
+abbrev closed_two : SittingContent → Bool
 closed_two t = closed_of t.last
 
-with_newline_two : (r : Resumed) → json_two (closed_two (told_of_all r)) (told_of_all r) ++ 10 ∷ [] ≡ report_two_text r
+with_newline_two : (r : Resumed)
+    → json_two (closed_two (sitting_content r)) (sitting_content r) ++ 10 ∷ [] ≡ report_two_text r
 with_newline_two r =
     newline_behind (codes "{\"chips\":") (array_text r.outcome.chips.items) (codes ",\"closed\":")
     (bool_text (is_closed r.outcome)) (codes ",\"fired\":") (array_text r.outcome.fired.items)
@@ -93,11 +94,11 @@ with_newline_two r =
     (codes ",\"sealed\":") (array_text r.outcome.sealed.items) (codes ",\"version\":2}")
 
 -- numbers that fit
-record AreShortTwo (t : ToldOfAll) : Type 0 where
+record AreShortTwo (t : SittingContent) : Type 0 where
   pub last : AreShortLists t.last
   pub prior : AreShort t.prior
 
-numbers-two : (closed : Bool) (t : ToldOfAll) → AreShortTwo t → tree.HasNumbers (outline (value_two closed t))
+numbers-two : (closed : Bool) (t : SittingContent) → AreShortTwo t → tree.HasNumbers (outline (value_two closed t))
 numbers-two closed t h = (
   numbers-array t.last.chips h.last.chips,
   (
@@ -115,7 +116,7 @@ numbers-two closed t h = (
   ),
 )
 
-depth-two : (closed : Bool) (t : ToldOfAll) → tree.depth (outline (value_two closed t)) ≤ max_depth
+depth-two : (closed : Bool) (t : SittingContent) → tree.depth (outline (value_two closed t)) ≤ max_depth
 depth-two closed t = rw (
   depth-array t.last.chips,
   depth-array t.last.fired,
@@ -124,7 +125,7 @@ depth-two closed t = rw (
   depth-array t.last.sealed,
 ) (lit≤ tt)
 
-back-two : (closed : Bool) (t : ToldOfAll) → AreShortTwo t
+back-two : (closed : Bool) (t : SittingContent) → AreShortTwo t
     → of_json (outline (value_two closed t)) ≡ Some (value_two closed t)
 back-two closed t h =
     rw (
@@ -136,12 +137,12 @@ back-two closed t h =
       number_of-decimal 2 (lit< tt),
     ) refl
 
-read-two : (closed : Bool) (t : ToldOfAll) → AreShortTwo t → read (json_two closed t) ≡ Some (value_two closed t)
+read-two : (closed : Bool) (t : SittingContent) → AreShortTwo t → read (json_two closed t) ≡ Some (value_two closed t)
 read-two closed t h = ap read (sym (text-two closed t))
     ∙ read-compact_text (value_two closed t) (numbers-two closed t h) (depth-two closed t) (back-two closed t h)
 
-told-two : (closed : Bool) (t : ToldOfAll) → told_of_all_by_value (value_two closed t) ≡ Some t
-told-two closed t = rw (
+sitting-two : (closed : Bool) (t : SittingContent) → sitting_by_value (value_two closed t) ≡ Some t
+sitting-two closed t = rw (
   numbers_of-items_of t.last.fired,
   numbers_of-items_of t.last.chips,
   numbers_of-items_of t.last.over,
@@ -149,7 +150,7 @@ told-two closed t = rw (
   numbers_of-items_of t.prior,
 ) refl
 
-utf8-two : (closed : Bool) (t : ToldOfAll) → AreShortTwo t → IsUtf8 (json_two closed t)
+utf8-two : (closed : Bool) (t : SittingContent) → AreShortTwo t → IsUtf8 (json_two closed t)
 utf8-two closed t h =
     IsUtf8-append (codes "{\"chips\":") _ (IsUtf8-are_ascii _ refl)
     (IsUtf8-append (array_text t.last.chips) _ (utf8-array t.last.chips h.last.chips)
@@ -167,42 +168,42 @@ utf8-two closed t h =
 
 -- ---- what a report tells
 
-short_two : (r : Resumed) → IsResumed r → AreShortTwo (told_of_all r)
+short_two : (r : Resumed) → IsResumed r → AreShortTwo (sitting_content r)
 short_two r h = record {
   last = short_lists r.outcome h.outcome_fits;
   prior = recursion_from_All (λ n. n < 2 ^ 64) r.prior.items (λ k d l. let low = h.few_before k d l in omega arith);
 }
 
-told-report_two : (r : Resumed) (json : List ℕ) → IsResumed r → report_two_text r ≡ json ++ 10 ∷ []
-    → told_of_all_by_json json ≡ Some (told_of_all r)
-told-report_two r json h e =
+sitting-report_two : (r : Resumed) (json : List ℕ) → IsResumed r → report_two_text r ≡ json ++ 10 ∷ []
+    → sitting_by_json json ≡ Some (sitting_content r)
+sitting-report_two r json h e =
     let short = short_two r h in
-    let same : json_two (closed_two (told_of_all r)) (told_of_all r) ≡ json =
+    let same : json_two (closed_two (sitting_content r)) (sitting_content r) ≡ json =
     append_cancel_right _ json (10 ∷ []) (with_newline_two r ∙ e) in
-    ap told_of_all_by_json (sym same)
-    ∙ ap (option_and_then told_of_all_by_value)
-    (value_of-some (json_two (closed_two (told_of_all r)) (told_of_all r)) _
-    (utf8-two (closed_two (told_of_all r)) (told_of_all r) short)
-    (read-two (closed_two (told_of_all r)) (told_of_all r) short))
-    ∙ told-two (closed_two (told_of_all r)) (told_of_all r)
+    ap sitting_by_json (sym same)
+    ∙ ap (option_and_then sitting_by_value)
+    (value_of-some (json_two (closed_two (sitting_content r)) (sitting_content r)) _
+    (utf8-two (closed_two (sitting_content r)) (sitting_content r) short)
+    (read-two (closed_two (sitting_content r)) (sitting_content r) short))
+    ∙ sitting-two (closed_two (sitting_content r)) (sitting_content r)
 
 -- ---- the numbers of a sitting are all that its report depends on
 
 -- the numbers are those of a sitting
-abbrev AreOfSitting : ToldOfAll → Type 0
+abbrev AreOfSitting : SittingContent → Type 0
 AreOfSitting t = AreOfOutcome t.last × (length t.prior ≡ length t.last.fired) × All (λ n. n ≤ max_prior) t.prior
 
-sitting_then : (r : Resumed) → IsResumed r → AreOfSitting (told_of_all r)
+sitting_then : (r : Resumed) → IsResumed r → AreOfSitting (sitting_content r)
 sitting_then r h = (outcome_then r.outcome h.outcome_fits, h.prior_each, h.few_before)
 
-sitting_if : (r : Resumed) → AreOfSitting (told_of_all r) → IsResumed r
+sitting_if : (r : Resumed) → AreOfSitting (sitting_content r) → IsResumed r
 sitting_if r h = record { outcome_fits = outcome_if r.outcome h.0; prior_each = h.1; few_before = h.2 }
 
-IsReportTwoOf-told : (bytes : List ℕ) (r s : Resumed) → told_of_all r ≡ told_of_all s → IsReportTwoOf bytes r
+IsReportTwoOf-content : (bytes : List ℕ) (r s : Resumed) → sitting_content r ≡ sitting_content s → IsReportTwoOf bytes r
     → IsReportTwoOf bytes s
-IsReportTwoOf-told bytes r s e is = record {
+IsReportTwoOf-content bytes r s e is = record {
   reportable = sitting_if s (subst AreOfSitting e (sitting_then r is.reportable));
-  spelled = is.spelled ∙ sym (with_newline_two r) ∙ ap (λ (t : ToldOfAll). json_two (closed_two t) t ++ 10 ∷ []) e
+  spelled = is.spelled ∙ sym (with_newline_two r) ∙ ap (λ (t : SittingContent). json_two (closed_two t) t ++ 10 ∷ []) e
       ∙ with_newline_two s;
 }
 
@@ -243,31 +244,31 @@ none_without_end bytes none r is = let two = ends_in_two r in none two.0 (is.spe
 
 pub none_without_newline_two : (bytes : List ℕ) → ((front : List ℕ) → bytes ≢ front ++ 10 ∷ []) → IsNoReportTwo bytes
 none_without_newline_two bytes none r is =
-    none (json_two (closed_two (told_of_all r)) (told_of_all r)) (is.spelled ∙ sym (with_newline_two r))
+    none (json_two (closed_two (sitting_content r)) (sitting_content r)) (is.spelled ∙ sym (with_newline_two r))
 
-none_told_two : (bytes json : List ℕ) → bytes ≡ json ++ 10 ∷ [] → told_of_all_by_json json ≡ None → IsNoReportTwo bytes
-none_told_two bytes json e none r is =
-    let some : told_of_all_by_json json ≡ Some (told_of_all r) =
-    told-report_two r json is.reportable (sym is.spelled ∙ e) in
-    let both : None ≡ Some (told_of_all r) = sym none ∙ some in
+no_sitting : (bytes json : List ℕ) → bytes ≡ json ++ 10 ∷ [] → sitting_by_json json ≡ None → IsNoReportTwo bytes
+no_sitting bytes json e none r is =
+    let some : sitting_by_json json ≡ Some (sitting_content r) =
+    sitting-report_two r json is.reportable (sym is.spelled ∙ e) in
+    let both : None ≡ Some (sitting_content r) = sym none ∙ some in
     cc
 
 pub refused_two : (bytes json : List ℕ) → bytes ≡ json ++ 10 ∷ []
     → (result : Result Resumed ReportFault) (f : ReportFault) → IsErrAnd result (λ e. e ≡ f)
-    → (f ≡ fault.NoMemory) ⊎ ((f ≡ fault.NotReport) × (told_of_all_by_json json ≡ None))
+    → (f ≡ fault.NoMemory) ⊎ ((f ≡ fault.NotReport) × (sitting_by_json json ≡ None))
     → Gives (IsReportTwoOf bytes) (IsNoReportTwo bytes) result
 refused_two bytes json e (Ok r) f is why = absurd is
 refused_two bytes json e (Err g) f is (inl memory) = inl (is ∙ memory)
-refused_two bytes json e (Err g) f is (inr none) = inr (is ∙ none.0, none_told_two bytes json e none.1)
+refused_two bytes json e (Err g) f is (inr none) = inr (is ∙ none.0, no_sitting bytes json e none.1)
 
-pub not_the_sitting_told : (bytes json : List ℕ) (found : Resumed) → bytes ≡ json ++ 10 ∷ []
-    → told_of_all_by_json json ≡ Some (told_of_all found) → (IsReportTwoOf bytes found → ⊥) → IsNoReportTwo bytes
-not_the_sitting_told bytes json found e one none r is =
-    let some : told_of_all_by_json json ≡ Some (told_of_all r) =
-    told-report_two r json is.reportable (sym is.spelled ∙ e) in
-    let both : Some (told_of_all r) ≡ Some (told_of_all found) = sym some ∙ one in
-    let same : told_of_all r ≡ told_of_all found = cc in
-    none (IsReportTwoOf-told bytes r found same is)
+pub not_that_sitting : (bytes json : List ℕ) (found : Resumed) → bytes ≡ json ++ 10 ∷ []
+    → sitting_by_json json ≡ Some (sitting_content found) → (IsReportTwoOf bytes found → ⊥) → IsNoReportTwo bytes
+not_that_sitting bytes json found e one none r is =
+    let some : sitting_by_json json ≡ Some (sitting_content r) =
+    sitting-report_two r json is.reportable (sym is.spelled ∙ e) in
+    let both : Some (sitting_content r) ≡ Some (sitting_content found) = sym some ∙ one in
+    let same : sitting_content r ≡ sitting_content found = cc in
+    none (IsReportTwoOf-content bytes r found same is)
 
 -- neither the one nor the other
 pub none_at_all : (bytes : List ℕ) → IsNoReport bytes → IsNoReportTwo bytes → IsNoReportAtAll bytes
@@ -294,13 +295,14 @@ refused_as_one bytes none_two (Err g) f is (inr none) = inr (is ∙ none.0, none
 -- ---- the laws
 
 pub one_sitting : (r s : Resumed) → IsResumed r → IsResumed s → report_two_text r ≡ report_two_text s
-    → told_of_all r ≡ told_of_all s
+    → sitting_content r ≡ sitting_content s
 one_sitting r s h k e =
-    let json : List ℕ = json_two (closed_two (told_of_all s)) (told_of_all s) in
-    let one : told_of_all_by_json json ≡ Some (told_of_all r) =
-    told-report_two r json h (e ∙ sym (with_newline_two s)) in
-    let other : told_of_all_by_json json ≡ Some (told_of_all s) = told-report_two s json k (sym (with_newline_two s)) in
-    let both : Some (told_of_all r) ≡ Some (told_of_all s) = sym one ∙ other in
+    let json : List ℕ = json_two (closed_two (sitting_content s)) (sitting_content s) in
+    let one : sitting_by_json json ≡ Some (sitting_content r) =
+    sitting-report_two r json h (e ∙ sym (with_newline_two s)) in
+    let other : sitting_by_json json ≡ Some (sitting_content s) =
+    sitting-report_two s json k (sym (with_newline_two s)) in
+    let both : Some (sitting_content r) ≡ Some (sitting_content s) = sym one ∙ other in
     cc
 
 pub not_both : (bytes : List ℕ) (o : Outcome) (r : Resumed) → IsReportOf bytes o → IsReportTwoOf bytes r → ⊥

@@ -2,37 +2,38 @@
 use Rattle.std.specs.Prelude.{◌≡◌, ◌⊎◌, ℕ, List, Result, Ok, Err}
 use Rattle.chip_sequence.specs.declared.resumed.Resumed.{Resumed}
 use Rattle.chip_sequence.specs.Sittings.{IsResumed}
-use Rattle.chip_report.specs.ReportTwo.{report_two_text, told_of_all, IsReportTwoOf, IsAnyReportOf, IsNoReportAtAll}
+use Rattle.chip_report.specs.ReportTwo.{report_two_text, sitting_content, IsReportTwoOf, IsAnyReportOf, IsNoReportAtAll}
 use Rattle.chip_sequence.specs.declared.outcome.Outcome.{Outcome}
 use Rattle.chip_sequence.specs.Outcomes.{IsOutcome}
 use Rattle.chip_report.specs.ReportText.{report_text}
-use Rattle.chip_report.specs.Reportable.{told, IsReportOf, IsNoReport, Gives}
+use Rattle.chip_report.specs.Reportable.{content, IsReportOf, IsNoReport, Gives}
 use Rattle.chip_report.specs.declared.fault.ReportFault.{ReportFault}
 use Rattle.chip_report.specs.declared.fault.ReportFault.TheVariants as fault
 
 -- outcomes with the same report have the same numbers
 abbrev pub OneOutcome : Type 0
 OneOutcome = (one other : Outcome) → IsOutcome one → IsOutcome other → report_text one ≡ report_text other
-    → told one ≡ told other
+    → content one ≡ content other
 
 -- whatever `read_report` may answer at the report of an outcome: an outcome with the same numbers, or that memory ran
 -- out
 abbrev pub RoundTrip : Type 0
 RoundTrip = (outcome : Outcome) → IsOutcome outcome → (answer : Result Outcome ReportFault)
     → Gives (IsReportOf (report_text outcome)) (IsNoReport (report_text outcome)) answer
-    → ((read : Outcome) × (answer ≡ Ok read) × (told read ≡ told outcome)) ⊎ (answer ≡ Err fault.NoMemory)
+    → ((read : Outcome) × (answer ≡ Ok read) × (content read ≡ content outcome)) ⊎ (answer ≡ Err fault.NoMemory)
 
 -- sittings with the same report have the same numbers
 abbrev pub OneSitting : Type 0
 OneSitting = (one other : Resumed) → IsResumed one → IsResumed other
-    → report_two_text one ≡ report_two_text other → told_of_all one ≡ told_of_all other
+    → report_two_text one ≡ report_two_text other → sitting_content one ≡ sitting_content other
 
 -- whatever `read_any` may answer at the report of a sitting that went on: a sitting with the same numbers, or that
 -- memory ran out
 abbrev pub RoundTripTwo : Type 0
 RoundTripTwo = (r : Resumed) → IsResumed r → (answer : Result Resumed ReportFault)
     → Gives (IsAnyReportOf (report_two_text r)) (IsNoReportAtAll (report_two_text r)) answer
-    → ((read : Resumed) × (answer ≡ Ok read) × (told_of_all read ≡ told_of_all r)) ⊎ (answer ≡ Err fault.NoMemory)
+    → ((read : Resumed) × (answer ≡ Ok read) × (sitting_content read ≡ sitting_content r))
+    ⊎ (answer ≡ Err fault.NoMemory)
 
 -- no text is the report of a first sitting and of one that went on
 abbrev pub NotBoth : Type 0

@@ -9,8 +9,8 @@ AreCounts numbers vertices most =
     (length numbers ≡ vertices) × (0 < vertices) × (vertices ≤ max_vertices) × All (λ n. n ≤ most) numbers
 
 -- an ascending list of vertices
-abbrev pub AscendBelow : List ℕ → ℕ → Type 0
-AscendBelow list vertices = IsStrictlyIncreasing list × All (λ v. v < vertices) list
+abbrev pub IsAscendingBelow : List ℕ → ℕ → Type 0
+IsAscendingBelow list vertices = IsStrictlyIncreasing list × All (λ v. v < vertices) list
 
 -- no vertex in both lists
 abbrev pub AreApart : List ℕ → List ℕ → Type 0
@@ -18,4 +18,5 @@ AreApart over sealed = (v : ℕ) → Contains over v → Contains sealed v → �
 
 -- two such lists, with no vertex in both
 abbrev pub AreHalted : List ℕ → List ℕ → ℕ → Type 0
-AreHalted over sealed vertices = AscendBelow over vertices × AscendBelow sealed vertices × AreApart over sealed
+AreHalted over sealed vertices =
+    IsAscendingBelow over vertices × IsAscendingBelow sealed vertices × AreApart over sealed

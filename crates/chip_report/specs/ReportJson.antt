@@ -4,7 +4,7 @@ use Rattle.std.specs.Str.{is_utf8}
 use Rattle.serde_json.specs.Data.{Data, Items, no_items, item}
 use Rattle.serde_json.specs.Read.{read}
 use Rattle.serde_json.specs.Find.{get, as_number, as_u64, as_array}
-use Rattle.chip_report.specs.Reportable.{Told}
+use Rattle.chip_report.specs.Reportable.{Content}
 
 -- the value of a text: none where it is no UTF-8, or no JSON
 abbrev pub value_of : List ℕ → Option Data
@@ -21,17 +21,17 @@ abbrev pub numbers_under : List ℕ → Data → Option (List ℕ)
 numbers_under name value = option_and_then numbers_of (option_and_then as_array (get name value))
 
 -- the lists, where each is there
-abbrev pub told_by_lists : Option (List ℕ) → Option (List ℕ) → Option (List ℕ) → Option (List ℕ) → Option Told
-told_by_lists (Some fired) (Some chips) (Some over) (Some sealed) =
+abbrev pub content_by_lists : Option (List ℕ) → Option (List ℕ) → Option (List ℕ) → Option (List ℕ) → Option Content
+content_by_lists (Some fired) (Some chips) (Some over) (Some sealed) =
     Some (record { fired = fired; chips = chips; over = over; sealed = sealed })
-told_by_lists _ _ _ _ = None
+content_by_lists _ _ _ _ = None
 
 -- what an object tells
-abbrev pub told_by_value : Data → Option Told
-told_by_value value =
-    told_by_lists (numbers_under (codes "fired") value) (numbers_under (codes "chips") value)
+abbrev pub content_by_value : Data → Option Content
+content_by_value value =
+    content_by_lists (numbers_under (codes "fired") value) (numbers_under (codes "chips") value)
     (numbers_under (codes "over") value) (numbers_under (codes "sealed") value)
 
 -- what a text of JSON tells
-abbrev pub told_by_json : List ℕ → Option Told
-told_by_json json = option_and_then told_by_value (value_of json)
+abbrev pub content_by_json : List ℕ → Option Content
+content_by_json json = option_and_then content_by_value (value_of json)

@@ -6,8 +6,8 @@ use Rattle.chip_sequence.specs.declared.resumed.Resumed.{Resumed}
 use Rattle.chip_sequence.specs.Sittings.{IsResumed}
 use Rattle.serde_json.specs.Data.{Data}
 use Rattle.chip_report.specs.ReportText.{array_text, bool_text, is_closed}
-use Rattle.chip_report.specs.Reportable.{Told, told, IsReportOf}
-use Rattle.chip_report.specs.ReportJson.{value_of, numbers_under, told_by_value}
+use Rattle.chip_report.specs.Reportable.{Content, content, IsReportOf}
+use Rattle.chip_report.specs.ReportJson.{value_of, numbers_under, content_by_value}
 
 -- the report of a sitting that went on
 abbrev pub report_two_text : Resumed → List ℕ
@@ -41,23 +41,23 @@ IsNoReportAtAll bytes = (r : Resumed) → IsAnyReportOf bytes r → ⊥
 -- ---- what a text of JSON tells
 
 -- the numbers of a sitting, without where they lie in memory
-pub record ToldOfAll : Type 0 where
-  pub last : Told
+pub record SittingContent : Type 0 where
+  pub last : Content
   pub prior : List ℕ
 
 -- what a sitting tells
-abbrev pub told_of_all : Resumed → ToldOfAll
-told_of_all r = record { last = told r.outcome; prior = r.prior.items }
+abbrev pub sitting_content : Resumed → SittingContent
+sitting_content r = record { last = content r.outcome; prior = r.prior.items }
 
 -- an outcome and what was fired before it, where both are there
-abbrev pub told_by_both : Option Told → Option (List ℕ) → Option ToldOfAll
-told_by_both (Some last) (Some prior) = Some (record { last = last; prior = prior })
-told_by_both _ _ = None
+abbrev pub sitting_by_both : Option Content → Option (List ℕ) → Option SittingContent
+sitting_by_both (Some last) (Some prior) = Some (record { last = last; prior = prior })
+sitting_by_both _ _ = None
 
 -- what an object tells of a sitting
-abbrev pub told_of_all_by_value : Data → Option ToldOfAll
-told_of_all_by_value value = told_by_both (told_by_value value) (numbers_under (codes "prior") value)
+abbrev pub sitting_by_value : Data → Option SittingContent
+sitting_by_value value = sitting_by_both (content_by_value value) (numbers_under (codes "prior") value)
 
 -- what a text of JSON tells of a sitting
-abbrev pub told_of_all_by_json : List ℕ → Option ToldOfAll
-told_of_all_by_json json = option_and_then told_of_all_by_value (value_of json)
+abbrev pub sitting_by_json : List ℕ → Option SittingContent
+sitting_by_json json = option_and_then sitting_by_value (value_of json)

@@ -7,15 +7,15 @@ use Rattle.chip_report.specs.declared.fault.ReportFault.{ReportFault}
 use Rattle.chip_report.specs.declared.fault.ReportFault.TheVariants as fault
 
 -- the numbers of an outcome, without where they lie in memory
-pub record Told : Type 0 where
+pub record Content : Type 0 where
   pub fired : List ℕ
   pub chips : List ℕ
   pub over : List ℕ
   pub sealed : List ℕ
 
 -- what an outcome tells
-abbrev pub told : Outcome → Told
-told outcome = record {
+abbrev pub content : Outcome → Content
+content outcome = record {
   fired = outcome.fired.items;
   chips = outcome.chips.items;
   over = outcome.over.items;

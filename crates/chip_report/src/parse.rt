@@ -2,8 +2,8 @@
 
 ghost use Rattle.std.specs.Prelude.{◌≡◌, None, Some};
 ghost use Rattle.serde_json.specs.View.{view, items_view};
-ghost use Rattle.chip_report.specs.Reportable.{told, Gives};
-ghost use Rattle.chip_report.specs.ReportJson.{value_of, numbers_of, numbers_under, told_by_value, told_by_json};
+ghost use Rattle.chip_report.specs.Reportable.{content, Gives};
+ghost use Rattle.chip_report.specs.ReportJson.{value_of, numbers_of, numbers_under, content_by_value, content_by_json};
 
 use crate::fault::ReportFault;
 use chip_sequence::Outcome;
@@ -12,8 +12,8 @@ use std::alloc::Global;
 
 /// The outcome that a text of JSON tells.
 pub(crate) fn outcome_of_json(alloc: Global, json: &[u8]) -> Result<Outcome, ReportFault>
-    ensures { Gives (λ outcome. told_by_json json.now ≡ Some (told outcome))
-        (told_by_json json.now ≡ None) result }
+    ensures { Gives (λ outcome. content_by_json json.now ≡ Some (content outcome))
+        (content_by_json json.now ≡ None) result }
 {
     let value = value_of(alloc, json)?;
     outcome_of_value(alloc, &value)
@@ -33,8 +33,8 @@ pub(crate) fn value_of(alloc: Global, json: &[u8]) -> Result<Value, ReportFault>
 
 /// The outcome that an object tells.
 pub(crate) fn outcome_of_value(alloc: Global, value: &Value) -> Result<Outcome, ReportFault>
-    ensures { Gives (λ outcome. told_by_value (view value.now) ≡ Some (told outcome))
-        (told_by_value (view value.now) ≡ None) result }
+    ensures { Gives (λ outcome. content_by_value (view value.now) ≡ Some (content outcome))
+        (content_by_value (view value.now) ≡ None) result }
 {
     Ok(Outcome {
         fired: numbers_under(alloc, value, "fired")?,

@@ -3,7 +3,7 @@
 ghost use Rattle.std.specs.Prelude.{◌≡◌, ◌↔◌, true, Contains};
 ghost use Rattle.std.specs.List.Sorted.{IsStrictlyIncreasing};
 ghost use Rattle.chip_sequence.specs.Outcomes.{IsOutcome};
-ghost use Rattle.chip_report.specs.OutcomeParts.{AreCounts, AscendBelow, AreApart, AreHalted};
+ghost use Rattle.chip_report.specs.OutcomeParts.{AreCounts, IsAscendingBelow, AreApart, AreHalted};
 
 use chip_graph::{MAX_LIMIT, MAX_TOTAL, MAX_VERTICES};
 use chip_sequence::Outcome;
@@ -32,18 +32,20 @@ fn are_counts(numbers: &[u64], vertices: usize, most: u64) -> bool
 fn are_halted(over: &[u64], sealed: &[u64], vertices: u64) -> bool
     ensures { (result ≡ true) ↔ AreHalted over.now sealed.now vertices }
 {
-    ascend_below(over, vertices) && ascend_below(sealed, vertices) && are_apart(over, sealed)
+    is_ascending_below(over, vertices)
+        && is_ascending_below(sealed, vertices)
+        && are_apart(over, sealed)
 }
 
 /// Whether vertices ascend, below their number.
-fn ascend_below(list: &[u64], vertices: u64) -> bool
-    ensures { (result ≡ true) ↔ AscendBelow list.now vertices }
+fn is_ascending_below(list: &[u64], vertices: u64) -> bool
+    ensures { (result ≡ true) ↔ IsAscendingBelow list.now vertices }
 {
-    ascend(list) && list.iter().all(|vertex| *vertex < vertices)
+    is_ascending(list) && list.iter().all(|vertex| *vertex < vertices)
 }
 
 /// Whether each number is below the next.
-fn ascend(list: &[u64]) -> bool
+fn is_ascending(list: &[u64]) -> bool
     ensures { (result ≡ true) ↔ IsStrictlyIncreasing list.now }
 {
     list.is_sorted_by(|one, next| one < next)
@@ -55,7 +57,7 @@ fn are_apart(over: &[u64], sealed: &[u64]) -> bool
     ensures { (result ≡ true) ↔ AreApart over.now sealed.now }
 {
     for vertex in over {
-        if stands_in(sealed, *vertex) {
+        if is_in(sealed, *vertex) {
             return false;
         }
     }
@@ -63,7 +65,7 @@ fn are_apart(over: &[u64], sealed: &[u64]) -> bool
 }
 
 /// Whether a vertex stands in an ascending list.
-fn stands_in(list: &[u64], vertex: u64) -> bool
+fn is_in(list: &[u64], vertex: u64) -> bool
     requires { IsStrictlyIncreasing list.now }
     ensures { (result ≡ true) ↔ Contains list.now vertex }
 {

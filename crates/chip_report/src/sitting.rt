@@ -4,7 +4,7 @@ ghost use Rattle.std.specs.Prelude.{◌≡◌, ◌≤◌, ◌↔◌, true, None,
 ghost use Rattle.chip_sequence.specs.Sittings.{IsResumed, max_prior};
 ghost use Rattle.serde_json.specs.View.{view};
 ghost use Rattle.chip_report.specs.Reportable.{Gives, GrowsForALine};
-ghost use Rattle.chip_report.specs.ReportTwo.{report_two_text, told_of_all, told_of_all_by_value, told_of_all_by_json};
+ghost use Rattle.chip_report.specs.ReportTwo.{report_two_text, sitting_content, sitting_by_value, sitting_by_json};
 ghost use Rattle.chip_report.specs.ReportTwo.{IsReportTwoOf, IsNoReportTwo, IsAnyReportOf, IsNoReportAtAll};
 
 use crate::fault::ReportFault;
@@ -60,8 +60,8 @@ fn read_report_two(alloc: Global, bytes: &[u8]) -> Result<Resumed, ReportFault>
 
 /// The sitting that a text of JSON tells.
 fn resumed_of_json(alloc: Global, json: &[u8]) -> Result<Resumed, ReportFault>
-    ensures { Gives (λ resumed. told_of_all_by_json json.now ≡ Some (told_of_all resumed))
-        (told_of_all_by_json json.now ≡ None) result }
+    ensures { Gives (λ resumed. sitting_by_json json.now ≡ Some (sitting_content resumed))
+        (sitting_by_json json.now ≡ None) result }
 {
     let value = value_of(alloc, json)?;
     resumed_of_value(alloc, &value)
@@ -69,8 +69,8 @@ fn resumed_of_json(alloc: Global, json: &[u8]) -> Result<Resumed, ReportFault>
 
 /// The sitting that an object tells.
 fn resumed_of_value(alloc: Global, value: &Value) -> Result<Resumed, ReportFault>
-    ensures { Gives (λ resumed. told_of_all_by_value (view value.now) ≡ Some (told_of_all resumed))
-        (told_of_all_by_value (view value.now) ≡ None) result }
+    ensures { Gives (λ resumed. sitting_by_value (view value.now) ≡ Some (sitting_content resumed))
+        (sitting_by_value (view value.now) ≡ None) result }
 {
     let outcome = outcome_of_value(alloc, value)?;
     let prior = numbers_under(alloc, value, "prior")?;

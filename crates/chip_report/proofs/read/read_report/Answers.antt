@@ -2,7 +2,7 @@ use Rattle.std.proofs.Common.{[], ◌∷◌, None, Some, inr, refl, sym, ◌∙�
 use Rattle.std.proofs.lemmas.Bool.{false≢true}
 use Rattle.std.proofs.lemmas.Bool.Decides.{Decides-eqb}
 use Rattle.std.proofs.lemmas.Slice.Eq.{strip_suffix_is, bytes_eq-Decides}
-use Rattle.chip_report.proofs.ReportLemmas.{none_without_newline, refused, of_a_line, not_the_one_told}
+use Rattle.chip_report.proofs.ReportLemmas.{none_without_newline, refused, of_a_line, not_that_outcome}
 use Rattle.chip_report.proofs.read.read_report.Goals as goal
 use Rattle.chip_report.proofs.read.read_report.Goals.{else-is_outcome-via-then-is_outcome+in_ok-report+else-eq}
 use Rattle.chip_report.proofs.read.read_report.Goals.{else-is_outcome-via-else-is_outcome}
@@ -25,7 +25,7 @@ returns-else-is_outcome-clause-outcome c =
     let split = strip_suffix_is Decides-eqb c.args.bytes.now (10 ∷ []) (Some c.in-Some.json) c.in-Some.ensures.cases in
     inr (
       refl,
-      not_the_one_told c.args.bytes.now c.in-Some.json.now c.in_ok-outcome.outcome split c.in_ok-outcome.ensures
+      not_that_outcome c.args.bytes.now c.in-Some.json.now c.in_ok-outcome.outcome split c.in_ok-outcome.ensures
           (elim c.else-is_outcome.branch [
             | else-is_outcome-via-then-is_outcome+in_ok-report+else-eq w ↦
                 λ r. false≢true (sym w.if-eq.false

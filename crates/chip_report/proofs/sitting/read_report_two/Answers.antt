@@ -2,7 +2,7 @@ use Rattle.std.proofs.Common.{[], ◌∷◌, None, Some, inr, refl, sym, ◌∙�
 use Rattle.std.proofs.lemmas.Bool.{false≢true}
 use Rattle.std.proofs.lemmas.Bool.Decides.{Decides-eqb}
 use Rattle.std.proofs.lemmas.Slice.Eq.{strip_suffix_is, bytes_eq-Decides}
-use Rattle.chip_report.proofs.ReportTwoLemmas.{none_without_newline_two, refused_two, not_the_sitting_told}
+use Rattle.chip_report.proofs.ReportTwoLemmas.{none_without_newline_two, refused_two, not_that_sitting}
 use Rattle.chip_report.proofs.ReportLemmas.{of_a_line}
 use Rattle.chip_report.proofs.sitting.read_report_two.Goals as goal
 use Rattle.chip_report.proofs.sitting.read_report_two.Goals.{else-is_resumed-via-then-is_resumed+in_ok-report_two+else-eq}
@@ -27,7 +27,7 @@ returns-else-is_resumed-clause-sitting c =
     let split = strip_suffix_is Decides-eqb c.args.bytes.now (10 ∷ []) (Some c.in-Some.json) c.in-Some.ensures.cases in
     inr (
       refl,
-      not_the_sitting_told c.args.bytes.now c.in-Some.json.now c.in_ok-resumed.resumed split c.in_ok-resumed.ensures
+      not_that_sitting c.args.bytes.now c.in-Some.json.now c.in_ok-resumed.resumed split c.in_ok-resumed.ensures
           (elim c.else-is_resumed.branch [
             | else-is_resumed-via-then-is_resumed+in_ok-report_two+else-eq w ↦
                 λ r. false≢true (sym w.if-eq.false

@@ -1,7 +1,7 @@
 use Rattle.std.proofs.Common.{rules, nat_lt}
 use Rattle.std.proofs.lemmas.Fn.{always_returns_same}
 use Rattle.chip_report.proofs.ListLemmas.{ascends_if, ascends_then}
-use Rattle.chip_report.proofs.reportable.ascend.Goals as goal
+use Rattle.chip_report.proofs.reportable.is_ascending.Goals as goal
 
 pub returns : goal.returns
 returns c =

@@ -1,6 +1,6 @@
 use Rattle.std.proofs.Common.{sym, ◌∙◌}
 use Rattle.chip_report.proofs.ListLemmas.{found_if, found_then}
-use Rattle.chip_report.proofs.reportable.stands_in.Goals as goal
+use Rattle.chip_report.proofs.reportable.is_in.Goals as goal
 
 pub returns : goal.returns
 returns c =

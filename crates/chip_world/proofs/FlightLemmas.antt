@@ -19,7 +19,7 @@ use Rattle.chip_part.specs.Steps.{message_of}
 use Rattle.chip_part.specs.Acting.{act_of, verdict}
 use Rattle.chip_core.specs.Messages.{Message, messages_from, counts_in_flight, in_flight}
 use Rattle.chip_core.proofs.MessageLemmas.{messages-append}
-use Rattle.chip_world.specs.SharedWords.{stored_by}
+use Rattle.chip_world.specs.SharedWords.{stored_count}
 use Rattle.chip_world.proofs.VertexLemmas.{passes}
 use Rattle.chip_core.specs.Core.{Rule, unmet, into_in, Log, Put, Part, part_in, out_in, root, IsLegalLog}
 use Rattle.chip_core.specs.Core.{graph_edges, all_edges}
@@ -63,12 +63,12 @@ module _ (ring word : ℕ) (cell : ℕ → ℕ) (t : Tail) (got : List ℕ) (sto
 -- the count that a put would store is the one in the hand
 pub put_stores : (g : Setting) (e : ℕ) (s : Part) (act : Act)
     → ◌≡◌ {A = Result Act Rule} (Ok act) (verdict (unmet g (Put e) s) (act_of g (Put e) s))
-    → stored_by act ≡ sum (option_to_list (s.out e).link.held)
+    → stored_count act ≡ sum (option_to_list (s.out e).link.held)
 put_stores g e s act is = by_rule (unmet g (Put e) s) is
   where
     by_rule : (o : Option Rule) → ◌≡◌ {A = Result Act Rule} (Ok act) (verdict o (act_of g (Put e) s))
-        → stored_by act ≡ sum (option_to_list (s.out e).link.held)
-    by_rule None is = let same : act ≡ act_of g (Put e) s = cc in ap stored_by same
+        → stored_count act ≡ sum (option_to_list (s.out e).link.held)
+    by_rule None is = let same : act ≡ act_of g (Put e) s = cc in ap stored_count same
     by_rule (Some rule) is = absurd (cc)
 
 -- where no put is due the hand is empty

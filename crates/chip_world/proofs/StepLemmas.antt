@@ -27,7 +27,7 @@ use Rattle.chip_core.specs.Core.{Log, Step, Event, Take, Ack, Fire, Clear, Claim
 use Rattle.chip_core.specs.Core.{End, Part, Rule, Reply, unmet, part_of, does, reply_of, part_in, word_of_part, sees}
 use Rattle.chip_core.specs.Core.{answer, step, Fits, tail_of, graph_edges, all_edges, root, stopper}
 use Rattle.chip_core.proofs.LogLemmas.{part_here, part_else}
-use Rattle.chip_world.specs.SharedWords.{EdgeState, words_of, changed, with_seal, seen_in, words_after, CanPerform}
+use Rattle.chip_world.specs.SharedWords.{EdgeState, words_of, with_edge, with_seal, seen_in, words_after, CanPerform}
 use Rattle.chip_world.specs.Makers.{vertex_of, is_root_edge, is_of_others, is_by_act}
 use Rattle.chip_world.specs.World.{WorldState, ShowsEdge, IsActor, StandsForLog, IsDueFor}
 use Rattle.chip_core.proofs.NumberLemmas.{fits_seen, root_fits}
@@ -322,14 +322,14 @@ module _ (g : Setting) (log : Log) (w : WorldState) (stands : StandsForLog g log
       (refused (ltb e (graph_edges g)) NoSuch None (le-ltb e (graph_edges g) past))
 
   pub seal_makes : (e : ℕ) → e < graph_edges g → (claims : ℕ) → claims ≡ claims_in (words_of w.words e).word
-      → StandsForLog g (step g log (Seal e)).0 (record w { words = changed e with_seal w.words })
+      → StandsForLog g (step g log (Seal e)).0 (record w { words = with_edge e with_seal w.words })
       × (Done claims ≡ (step g log (Seal e)).1)
   seal_makes e l claims told =
       let x : Step = saw (Seal e) (sees g log (Seal e)) in
       let none : unmet g (Seal e) (part_in g log (stopper g))
       ≡ None = passes (ltb e (graph_edges g)) NoSuch None (lt-ltb e (graph_edges g) l) in
-      accepts (Seal e) (record w { words = changed e with_seal w.words }) (Done claims) none
-      (others_stay x (omega arith) (none, refl) (changed e with_seal w.words) w.root (length-set w.words e _
+      accepts (Seal e) (record w { words = with_edge e with_seal w.words }) (Done claims) none
+      (others_stay x (omega arith) (none, refl) (with_edge e with_seal w.words) w.root (length-set w.words e _
       ∙ stands.words_each) (seal_shown g stands.is_setting.game stands.is_setting.some_ring log stands.legal w.words
       stands.words_each stands.words e none) (root_stays x (λ z. absurd (omega arith))))
       (ap Done (told ∙ ap claims_in

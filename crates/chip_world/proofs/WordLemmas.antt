@@ -31,7 +31,7 @@ use Rattle.chip_core.specs.Words.{IsLeft}
 use Rattle.chip_core.proofs.ShowingLemmas.{operations_find, words_go_on}
 use Rattle.chip_core.proofs.LogLemmas.{part_kept, edge_sound}
 use Rattle.chip_world.specs.SharedWords.{EdgeState, no_words, words_of, with_cell, with_claim, with_acks, with_seal}
-use Rattle.chip_world.specs.SharedWords.{changed, cell_of, seen_in, words_after, HasCell, CanPerform}
+use Rattle.chip_world.specs.SharedWords.{with_edge, cell_of, seen_in, words_after, HasCell, CanPerform}
 use Rattle.chip_world.specs.Makers.{is_by_act}
 use Rattle.chip_part.specs.Acting.{is_of_root}
 use Rattle.chip_part.specs.Steps.{saw}
@@ -48,24 +48,24 @@ value_of words fired (of_vertex v) = fired v
 
 -- the words of one edge are changed
 module _ (words : List EdgeState) (e : ℕ) (f : EdgeState → EdgeState) where
-  here_changed : e < length words → words_of (changed e f words) e ≡ f (words_of words e)
+  here_changed : e < length words → words_of (with_edge e f words) e ≡ f (words_of words e)
   here_changed l = get_or-set_same words e (f (words_of words e)) no_words l
 
-  others_stay : (i : ℕ) → i ≢ e → words_of (changed e f words) i ≡ words_of words i
+  others_stay : (i : ℕ) → i ≢ e → words_of (with_edge e f words) i ≡ words_of words i
   others_stay i other = get_or-set_other words e i (f (words_of words e)) no_words other
 
   -- what the change leaves is as it was on every edge
   stays : {A : Type 0} (part : EdgeState → A) → e < length words → part (f (words_of words e)) ≡ part (words_of words e)
-      → (i : ℕ) → part (words_of (changed e f words) i) ≡ part (words_of words i)
+      → (i : ℕ) → part (words_of (with_edge e f words) i) ≡ part (words_of words i)
   stays part l same i = dite (ℕ_discrete i e)
-      (λ z. ap (λ (j : ℕ). part (words_of (changed e f words) j)) z ∙ ap part (here_changed l) ∙ same
+      (λ z. ap (λ (j : ℕ). part (words_of (with_edge e f words) j)) z ∙ ap part (here_changed l) ∙ same
       ∙ ap (λ (j : ℕ). part (words_of words j)) (sym z))
       (λ z. ap part (others_stay i z))
 
 -- one word is changed, and every other is as it was
 module _ (words : List EdgeState) (fired : ℕ → ℕ) where
   edge_else : (e n : ℕ) → e < length words → (w : Word) → w ≢ of_edge e
-      → value_of (changed e (λ s. record s { word = n }) words) fired w ≡ value_of words fired w
+      → value_of (with_edge e (λ s. record s { word = n }) words) fired w ≡ value_of words fired w
   edge_else e n l (of_edge i) ne = ap (λ (s : EdgeState). s.word)
       (others_stay words e (λ s. record s { word = n }) i (λ z. ne (ap of_edge z)))
   edge_else e n l (of_acks i) ne = stays words e (λ s. record s { word = n }) (λ s. s.acknowledged) l refl i
@@ -73,7 +73,7 @@ module _ (words : List EdgeState) (fired : ℕ → ℕ) where
   edge_else e n l (of_vertex v) ne = refl
 
   acks_else : (e n : ℕ) → e < length words → (w : Word) → w ≢ of_acks e
-      → value_of (changed e (with_acks n) words) fired w ≡ value_of words fired w
+      → value_of (with_edge e (with_acks n) words) fired w ≡ value_of words fired w
   acks_else e n l (of_edge i) ne = stays words e (with_acks n) (λ s. s.word) l refl i
   acks_else e n l (of_acks i) ne = ap (λ (s : EdgeState). s.acknowledged)
       (others_stay words e (with_acks n) i (λ z. ne (ap of_acks z)))
@@ -81,7 +81,7 @@ module _ (words : List EdgeState) (fired : ℕ → ℕ) where
   acks_else e n l (of_vertex v) ne = refl
 
   cell_else : (e c n : ℕ) → e < length words → (w : Word) → w ≢ of_cell e c
-      → value_of (changed e (with_cell c n) words) fired w ≡ value_of words fired w
+      → value_of (with_edge e (with_cell c n) words) fired w ≡ value_of words fired w
   cell_else e c n l (of_edge i) ne = stays words e (with_cell c n) (λ s. s.word) l refl i
   cell_else e c n l (of_acks i) ne = stays words e (with_cell c n) (λ s. s.acknowledged) l refl i
   cell_else e c n l (of_cell i j) ne = dite (ℕ_discrete j c)
@@ -233,7 +233,7 @@ module _ (g : Setting) (game : IsGame g.game) (some_ring : 0 < g.ring) (log : Lo
     -- the words of one edge are changed
     one_edge : (x : Event) (e : ℕ) (f : EdgeState → EdgeState) → e < all_edges g
         → length (f (words_of words e)).cells ≡ length (words_of words e).cells
-        → IsLeft g log x (value_of words fired) (value_of (changed e f words) fired) → Leaves x (changed e f words)
+        → IsLeft g log x (value_of words fired) (value_of (with_edge e f words) fired) → Leaves x (with_edge e f words)
     one_edge x e f l cells left = record {
       words_stay = length-set words e _;
       cells_stay = stays words e f (λ s. length s.cells) (omega arith) cells;
@@ -329,11 +329,12 @@ module _ (g : Setting) (game : IsGame g.game) (some_ring : 0 < g.ring) (log : Lo
     pub seal_shown : (e : ℕ) → unmet g (Seal e) (part_in g log (stopper g)) ≡ None → (i : ℕ) → i < all_edges g
         → (d : EdgeState)
         → ShowsEdge g (saw (Seal e) (sees g log (Seal e)) ∷ log) i
-        (get_or (changed e with_seal words) i d)
+        (get_or (with_edge e with_seal words) i d)
     seal_shown e none =
         let met = met_for (Seal e) none in
         let inside : e < length words = omega arith in
-        shows_left (Seal e) none (changed e with_seal words) (one_edge (Seal e) e with_seal (omega arith) refl record {
+        shows_left (Seal e) none (with_edge e with_seal words)
+        (one_edge (Seal e) e with_seal (omega arith) refl record {
           here = ap (λ (s : EdgeState). s.word) (here_changed words e with_seal inside);
           others = λ w is ne. edge_else words fired e (bit_or (words_of words e).word (2 ^ 63)) inside w ne;
         })

@@ -40,8 +40,8 @@ abbrev pub with_seal : EdgeState → EdgeState
 with_seal w = record w { word = bit_or w.word (2 ^ 63) }
 
 -- the words of one edge are changed so
-abbrev pub changed : ℕ → (EdgeState → EdgeState) → List EdgeState → List EdgeState
-changed e f words = slice_set words e (f (words_of words e))
+abbrev pub with_edge : ℕ → (EdgeState → EdgeState) → List EdgeState → List EdgeState
+with_edge e f words = slice_set words e (f (words_of words e))
 
 -- the words of an edge that opens with a message of so many chips, or with none where these are 0
 abbrev pub opening_words : ℕ → ℕ → EdgeState
@@ -65,10 +65,10 @@ seen_in Do.End fired words = 0
 
 -- the words after an operation
 abbrev pub words_after : Act → List EdgeState → List EdgeState
-words_after (Do.Take e cell) words = changed e (with_cell cell 0) words
-words_after (Do.Claim e expected new) words = changed e (with_claim expected new) words
-words_after (Do.Put e cell value) words = changed e (with_cell cell value) words
-words_after (Do.Ack e count) words = changed e (with_acks count) words
+words_after (Do.Take e cell) words = with_edge e (with_cell cell 0) words
+words_after (Do.Claim e expected new) words = with_edge e (with_claim expected new) words
+words_after (Do.Put e cell value) words = with_edge e (with_cell cell value) words
+words_after (Do.Ack e count) words = with_edge e (with_acks count) words
 words_after _ words = words
 
 -- an edge is there, and so is a cell of its ring
@@ -86,6 +86,6 @@ CanPerform (Do.Ack e count) words = (e < length words) × ((words_of words e).ac
 CanPerform _ words = Unit {0}
 
 -- what an operation stores into a cell, or 0
-abbrev pub stored_by : Act → ℕ
-stored_by (Do.Put e cell value) = value
-stored_by _ = 0
+abbrev pub stored_count : Act → ℕ
+stored_count (Do.Put e cell value) = value
+stored_count _ = 0

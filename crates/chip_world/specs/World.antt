@@ -1,7 +1,8 @@
 -- A running world, and when it stands for a log of the core.
-use Rattle.std.specs.Prelude.{◌≡◌, ℕ, ◌-◌, ◌<◌, nat_lt, if◌then◌else◌, List, [], length, slice_index}
+use Rattle.std.specs.Prelude.{◌≡◌, ℕ, ◌-◌, ◌<◌, if◌then◌else◌, List, [], length, slice_index}
 use Rattle.std.specs.Prelude.{slice_index_or, None}
 use Rattle.chip_graph.specs.ChipGame.{ChipGame}
+use Rattle.chip_graph.specs.Edges.{is_graph_edge, graph_edges}
 use Rattle.chip_part.specs.Setting.{Setting, IsSetting}
 use Rattle.chip_link.specs.Link.{Shows}
 use Rattle.chip_actor.specs.Actor as vertex
@@ -70,8 +71,8 @@ pub record IsDueFor (g : Setting) (log : Log) (v : ℕ) (act : Act) : Type 0 whe
 
 -- the chips with which an edge opens: on a root edge those that its vertex starts with
 abbrev pub first_chips : ChipGame → ℕ → ℕ
-first_chips game e = if nat_lt e (length game.graph.edges) then 0
-    else slice_index game.start (e - length game.graph.edges)
+first_chips game e =
+    if is_graph_edge game.graph e then 0 else slice_index game.start (e - graph_edges game.graph)
 
 -- the words of the first edges as the game opens
 pub record AreOpeningWords (g : Setting) (count : ℕ) (words : List EdgeState) : Type 0 where

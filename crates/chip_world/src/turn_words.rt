@@ -22,7 +22,7 @@ impl Medium for TurnWords {
     }
 
     fn settle(&mut self, edge: u64) -> u64 {
-        self.words.acknowledged(edge)
+        self.words.acknowledgements(edge)
     }
 
     fn fire(&mut self, k: u64) -> u64 {

@@ -2,7 +2,7 @@ ghost use Rattle.std.specs.Prelude.{◌≡◌, ◌+◌, ◌^◌, ◌<◌, ◌==�
 ghost use Rattle.std.specs.Prelude.{IfOk};
 ghost use Rattle.chip_link.specs.Words.{exchanged};
 
-use chip_graph::Game;
+use chip_graph::{AnyEdge, Game};
 use chip_link::{EdgeWord, Ring};
 use chip_part::{Act, Setting};
 use std::alloc::{AllocError, Global};
@@ -57,7 +57,7 @@ impl Model for Words {
 }
 
 impl Words {
-    ghost use Rattle.chip_world.specs.SharedWords.{HasCell, cell_of, words_of, changed, with_cell, with_claim};
+    ghost use Rattle.chip_world.specs.SharedWords.{HasCell, cell_of, words_of, with_edge, with_cell, with_claim};
     ghost use Rattle.chip_world.specs.SharedWords.{with_acks, with_seal, opening_words, seen_in, words_after};
     ghost use Rattle.chip_world.specs.SharedWords.{CanPerform};
     ghost use Rattle.chip_part.specs.Edges.{all_edges};
@@ -69,8 +69,8 @@ impl Words {
     {
         let game = setting.game();
         let ring = setting.ring();
-        let all_edges = setting.all_edges() as usize;
-        let mut edges = Vec::with_capacity(alloc, all_edges)?;
+        let all_edges = setting.all_edges();
+        let mut edges = Vec::with_capacity(alloc, all_edges as usize)?;
         for edge in 0..all_edges {
             edges.push_reserved(EdgeWords::new(alloc, ring, first_chips(game, edge))?);
         }
@@ -85,7 +85,7 @@ impl Words {
     {
         match act {
             Act::Take { edge, cell } => self.take(edge, cell),
-            Act::Settle { edge } => self.acknowledged(edge),
+            Act::Settle { edge } => self.acknowledgements(edge),
             Act::Clear { edge, cell } => self.load(edge, cell),
             Act::Claim {
                 edge,
@@ -106,7 +106,7 @@ impl Words {
     pub(crate) fn take(&mut self, edge: u64, cell: u64) -> u64
         requires { HasCell self.old edge cell }
         ensures seen { result ≡ cell_of self.old edge cell }
-        ensures after { self.new ≡ changed edge (with_cell cell 0) self.old }
+        ensures after { self.new ≡ with_edge edge (with_cell cell 0) self.old }
     {
         let found = &mut self.edges[edge as usize].cells[cell as usize];
         let count = *found;
@@ -117,7 +117,7 @@ impl Words {
     /// Stores a value into a cell of an edge.
     pub(crate) fn store(&mut self, edge: u64, cell: u64, value: u64)
         requires { HasCell self.old edge cell }
-        ensures { self.new ≡ changed edge (with_cell cell value) self.old }
+        ensures { self.new ≡ with_edge edge (with_cell cell value) self.old }
     {
         self.edges[edge as usize].cells[cell as usize] = value;
     }
@@ -126,7 +126,7 @@ impl Words {
     pub(crate) fn exchange(&mut self, edge: u64, expected: u64, new: u64) -> u64
         requires { edge < length self.old }
         ensures seen { result ≡ (words_of self.old edge).word }
-        ensures after { self.new ≡ changed edge (with_claim expected new) self.old }
+        ensures after { self.new ≡ with_edge edge (with_claim expected new) self.old }
     {
         let found = &mut self.edges[edge as usize].word;
         let word = *found;
@@ -141,7 +141,7 @@ impl Words {
         requires edge { edge < length self.old }
         requires room { (words_of self.old edge).acknowledged + count < 2 ^ 64 }
         ensures seen { result ≡ (words_of self.old edge).acknowledged }
-        ensures after { self.new ≡ changed edge (with_acks count) self.old }
+        ensures after { self.new ≡ with_edge edge (with_acks count) self.old }
     {
         let found = &mut self.edges[edge as usize].acknowledged;
         let before = *found;
@@ -153,7 +153,7 @@ impl Words {
     pub(crate) fn seal(&mut self, edge: u64) -> u64
         requires { edge < length self.old }
         ensures seen { result ≡ (words_of self.old edge).word }
-        ensures after { self.new ≡ changed edge with_seal self.old }
+        ensures after { self.new ≡ with_edge edge with_seal self.old }
     {
         let found = &mut self.edges[edge as usize].word;
         let word = *found;
@@ -178,7 +178,7 @@ impl Words {
     }
 
     /// The word of acknowledgements of an edge.
-    pub(crate) fn acknowledged(&self, edge: u64) -> u64
+    pub(crate) fn acknowledgements(&self, edge: u64) -> u64
         requires { edge < length self.now }
         ensures { result ≡ (words_of self.now edge).acknowledged }
     {
@@ -186,26 +186,25 @@ impl Words {
     }
 }
 
+ghost use Rattle.chip_graph.specs.Edges;
 ghost use Rattle.chip_world.specs.World.{first_chips};
 
 /// The chips with which an edge opens: on a root edge those that its vertex starts with.
-fn first_chips(game: &Game, edge: usize) -> u64
-    requires { edge < length game.now.graph.edges + game.now.graph.vertices }
+fn first_chips(game: &Game, edge: u64) -> u64
+    requires { edge < Edges.all_edges game.now.graph }
     ensures { result ≡ first_chips game.now edge }
 {
-    let graph_edges = game.graph().edges().len();
-    if edge < graph_edges {
-        0
-    } else {
-        game.start()[edge - graph_edges]
+    match game.graph().edge(edge) {
+        Some(AnyEdge::Root { head }) => game.start()[head as usize],
+        _ => 0,
     }
 }
 
-ghost use Rattle.chip_world.specs.SharedWords.{stored_by};
+ghost use Rattle.chip_world.specs.SharedWords.{stored_count};
 
 /// What an operation stores into a cell, or 0 where it stores nothing.
-pub(crate) fn stored_by(act: Act) -> u64
-    ensures { result ≡ stored_by act }
+pub(crate) fn stored_count(act: Act) -> u64
+    ensures { result ≡ stored_count act }
 {
     match act {
         Act::Put { value, .. } => value,

@@ -7,7 +7,7 @@ mod outcome;
 mod running;
 
 use crate::turn_words::TurnWords;
-use crate::words::{Words, stored_by};
+use crate::words::{Words, stored_count};
 use chip_actor::ActorState;
 use chip_graph::Game;
 use chip_link::{EdgeWord, Event, FiredWord, Message, Ring};
@@ -125,7 +125,7 @@ impl World {
     }
 
     // The chips of the message that is claimed on an edge and not put, if there is one.
-    fn held(&self, edge: u64) -> u64
+    fn held_count(&self, edge: u64) -> u64
         ensures { WhateverLog self.now (λ g log. result ≡ sum (option_to_list (out_in g log edge).link.held)) }
     {
         let put = Event::Put(edge);
@@ -134,7 +134,7 @@ impl World {
             None => self.root.may(&put),
         };
         match due {
-            Ok(act) => stored_by(act),
+            Ok(act) => stored_count(act),
             Err(_) => 0,
         }
     }
@@ -150,7 +150,7 @@ impl World {
             .shared
             .words
             .load(edge, place % self.setting.ring().cells());
-        if count == 0 { self.held(edge) } else { count }
+        if count == 0 { self.held_count(edge) } else { count }
     }
 
     /// The messages that were sent on an edge and not delivered, with room for more of them.
@@ -280,7 +280,7 @@ impl World {
     {
         let head = self.setting.head(edge).unwrap();
         let owed = self.actors[head as usize].detect().owed(edge);
-        self.shared.words.acknowledged(edge) + owed
+        self.shared.words.acknowledgements(edge) + owed
     }
 
     /// How many chips this vertex holds.

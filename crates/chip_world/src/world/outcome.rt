@@ -34,7 +34,7 @@ impl World {
         if !self.closed() {
             return Err(WorldFault::NotClosed);
         }
-        let fired = self.all_fired(alloc)?;
+        let fired = self.firing_counts(alloc)?;
         let chips = self.chips_after(alloc, &fired)?;
         Ok(Outcome {
             fired,
@@ -61,7 +61,7 @@ impl World {
     }
 
     // How often each vertex fired.
-    fn all_fired(&self, alloc: Global) -> Result<Vec<u64>, AllocError>
+    fn firing_counts(&self, alloc: Global) -> Result<Vec<u64>, AllocError>
         ensures { IfOk result (λ fired. WhateverLog self.now (λ g log. AreFired g log g.game.graph.vertices fired.items)) }
     {
         let vertices = self.setting().vertices();

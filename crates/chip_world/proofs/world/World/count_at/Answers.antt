@@ -14,7 +14,7 @@ returns-then-count-eq0 c = λ g log at later before.
     let cell = c.load-count.ensures
     ∙ ap (λ (n : ℕ). cell_of c.self.inside.shared.words c.args.edge (c.args.place % n)) (c.cells.ensures.number
     ∙ c.ring.ensures.value ∙ ap (λ (h : Setting). h.ring) stands.setting) in
-    c.held.ensures g log at
+    c.held_count.ensures g log at
     ∙ count_in_hand g.ring _ _ _ _ _
     (edge_sound g stands.is_setting.game stands.is_setting.some_ring log stands.legal c.args.edge)
     (stands.words c.args.edge inside no_words).shows c.args.place later before (sym cell ∙ c.if-count-eq0.true)

@@ -5,8 +5,8 @@ use Rattle.chip_world.specs.World.{WorldState, StandsForLog}
 use Rattle.chip_world.specs.contracts.world.World.{the_view}
 use Rattle.chip_world.proofs.FlightLemmas.{put_stores}
 use Rattle.chip_world.proofs.HandLemmas.{IsDuePut, put_by_vertex, put_by_root, none_held}
-use Rattle.chip_world.proofs.world.World.held.Goals as goal
-use Rattle.chip_world.proofs.world.World.held.Goals.{in-Some, in-None}
+use Rattle.chip_world.proofs.world.World.held_count.Goals as goal
+use Rattle.chip_world.proofs.world.World.held_count.Goals.{in-Some, in-None}
 
 pub returns-in-Ok : goal.returns-in-Ok
 returns-in-Ok c = λ g log at.
@@ -19,7 +19,7 @@ returns-in-Ok c = λ g log at.
       | in-None b ↦ b.due-is ∙ put_by_root g log w stands c.args.edge b.may-due-in-None.result (here ∙ b.in-None.is)
           b.may-due-in-None.ensures
     ] in
-    c.stored_by.ensures ∙ put_stores g c.args.edge (part_in g log (tail_of g c.args.edge)) c.in-Ok.act
+    c.stored_count.ensures ∙ put_stores g c.args.edge (part_in g log (tail_of g c.args.edge)) c.in-Ok.act
     (sym c.in-Ok.is ∙ due)
 
 pub returns-in-Err : goal.returns-in-Err

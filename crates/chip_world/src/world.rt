@@ -150,7 +150,11 @@ impl World {
             .shared
             .words
             .load(edge, place % self.setting.ring().cells());
-        if count == 0 { self.held_count(edge) } else { count }
+        if count == 0 {
+            self.held_count(edge)
+        } else {
+            count
+        }
     }
 
     /// The messages that were sent on an edge and not delivered, with room for more of them.
@@ -165,8 +169,6 @@ impl World {
         ensures messages { IfOk result (λ v. WhateverLog self.now (λ g log. v.items ≡ in_flight g log edge)) }
         ensures room { IfOk result (λ v. vec_len v + room ≤ vec_capacity v) }
     {
-        // With a field read, the proof has the world's invariant: some log leaves it.
-        let _setting = &self.setting;
         let first = self.delivered(edge);
         let claims = self.sent(edge);
         let mut messages = Vec::with_capacity(alloc, (claims - first) as usize + room)?;
@@ -276,7 +278,8 @@ impl World {
     /// How many messages were delivered on this edge.
     pub fn delivered(&self, edge: u64) -> u64
         requires { edge < all_edges self.now.setting }
-        ensures { WhateverLog self.now (λ g log. result ≡ length (into_in g log edge).got) }
+        ensures value { WhateverLog self.now (λ g log. result ≡ length (into_in g log edge).got) }
+        ensures some_log { SomeLog self.now }
     {
         let head = self.setting.head(edge).unwrap();
         let owed = self.actors[head as usize].detect().owed(edge);

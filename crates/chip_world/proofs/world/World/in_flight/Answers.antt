@@ -12,9 +12,9 @@ record InRange (first claims : ℕ) : Type 0 where
 
 in_range : (c : goal.After-sent-claims) → InRange c.delivered-first.result c.sent-claims.result
 in_range c =
-    let some = c.self.invariant in
-    let at = subst (StandsForLog some.0 some.1) c.self.view_is some.2 in
-    let first = c.delivered-first.ensures some.0 some.1 at in
+    let some = c.delivered-first.ensures.some_log in
+    let at : StandsForLog some.0 some.1 c.args.self.now = some.2 in
+    let first = c.delivered-first.ensures.value some.0 some.1 at in
     let claims = c.sent-claims.ensures some.0 some.1 at in
     let counts = edge_counts some.0 at.is_setting.game at.is_setting.some_ring some.1 at.legal c.args.edge in
     let c2 = counts.2 in let c3 = counts.3 in
@@ -32,7 +32,7 @@ loop-place-preserved c =
     let inv = c.loop-place.invariant in let later = c.loop-place.auto.place in let before = c.loop-place-test.true in
     record {
       so_far = λ g log stands.
-          let first = c.delivered-first.ensures g log stands in
+          let first = c.delivered-first.ensures.value g log stands in
           let claims = c.sent-claims.ensures g log stands in
           c.push_reserved.ensures.items
           ∙ flight_more g log c.args.edge c.delivered-first.result c.loop-place.place c.count_at-count.result

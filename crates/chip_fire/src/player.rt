@@ -32,7 +32,7 @@ pub fn plain_watched<W: Watch>(
 {
     let (mut chips, mut fired) = start(alloc, game, watch)?;
     play(game, &mut chips, &mut fired, watch);
-    let over = still_legal(alloc, game.graph(), &chips)?;
+    let over = legal_vertices(alloc, game.graph(), &chips)?;
     Ok(Outcome {
         fired,
         chips,
@@ -91,7 +91,7 @@ fn rounds(game: &Game, most: u64, chips: &mut [u64], fired: &mut [u64]) -> u64
 }
 
 /// The vertices that are legal, ascending.
-fn still_legal(alloc: Global, graph: &Graph, chips: &[u64]) -> Result<Vec<u64>, AllocError>
+fn legal_vertices(alloc: Global, graph: &Graph, chips: &[u64]) -> Result<Vec<u64>, AllocError>
     requires { length chips.now ≡ graph.now.vertices }
     ensures { IfOk result (λ legal. legal.items ≡ legal_vertices graph.now (slice_index chips.now)) }
 {

@@ -78,13 +78,13 @@ pub fn resume(
     }
     let start = Vec::from_slice(alloc, chips)?;
     let game = Game::new(graph, start, limit)?;
-    let prior = fired_so_far(alloc, earlier)?;
+    let prior = counts_so_far(alloc, earlier)?;
     let outcome = plain(alloc, &game)?;
     Ok(Resumed { outcome, prior })
 }
 
 /// How often each vertex fired in all sittings so far, or the least vertex that did so too often.
-fn fired_so_far(alloc: Global, earlier: &Resumed) -> Result<Vec<u64>, ResumeFault>
+fn counts_so_far(alloc: Global, earlier: &Resumed) -> Result<Vec<u64>, ResumeFault>
     requires { IsResumed earlier.now }
     ensures ok { IfOk result (λ sums. (length sums.items ≡ length earlier.now.prior.items)
         × ((v : ℕ) → v < length sums.items → (slice_index sums.items v ≡ fired_in_all earlier.now v)

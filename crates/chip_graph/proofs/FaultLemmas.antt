@@ -13,7 +13,7 @@ use Rattle.chip_graph.specs.declared.edge.End.TheVariants.{Tail, Head}
 use Rattle.chip_graph.specs.declared.fault.GraphFault.TheVariants as graph_fault
 use Rattle.chip_graph.specs.Ends.{end_of, edge_of}
 use Rattle.chip_graph.specs.Multigraph.{Multigraph, IsEdge, IsGraph, ReachesSink, edge_at}
-use Rattle.chip_graph.specs.Faults.{first_of_faults, unless, checked, fault_of_edge, fault_of_edges, fault_of_rows}
+use Rattle.chip_graph.specs.Faults.{first_of_faults, unless, refusal, fault_of_edge, fault_of_edges, fault_of_rows}
 
 module _ {F : Type 0} where
   -- no first fault, no fault
@@ -27,7 +27,7 @@ module _ {F : Type 0} where
   passed false fault is = cc
 
   -- where the test of a fault is passed, there is none
-  pub accepted : (fault : Option F) → Ok tt ≡ checked fault → fault ≡ None
+  pub accepted : (fault : Option F) → Ok tt ≡ refusal fault → fault ≡ None
   accepted None is = refl
   accepted (Some fault) is = cc
 

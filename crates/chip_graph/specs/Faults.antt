@@ -54,9 +54,9 @@ IsGraphFault G fault =
     ⊎ ((fault_of_rows G ≡ None) × (v : ℕ) × (fault ≡ graph_fault.Unreached v) × IsUnreached G v)
 
 -- a test that is passed, or fails by its fault
-abbrev pub checked : {F : Type 0} → Option F → Result (Unit {0}) F
-checked None = Ok tt
-checked (Some fault) = Err fault
+abbrev pub refusal : {F : Type 0} → Option F → Result (Unit {0}) F
+refusal None = Ok tt
+refusal (Some fault) = Err fault
 
 -- what making a graph answers: the graph where it is one, else its first fault; want of memory only where the rows have
 -- no fault, since nothing grows before they are looked at

@@ -3,7 +3,7 @@ ghost use Rattle.std.specs.Prelude.{slice_index, slice_index_or};
 ghost use Rattle.chip_graph.specs.Multigraph.{IsDistance};
 ghost use Rattle.chip_graph.specs.Ends.{edges_with};
 ghost use Rattle.chip_graph.specs.declared.edge.End.TheVariants.{Head};
-ghost use Rattle.chip_graph.specs.Faults.{checked, fault_of_edge, fault_of_rows, IsGraphFault};
+ghost use Rattle.chip_graph.specs.Faults.{refusal, fault_of_edge, fault_of_rows, IsGraphFault};
 ghost use Rattle.chip_graph.specs.declared.fault.GraphFault.TheVariants.{NoMemory, Unreached};
 
 use crate::distance::distances;
@@ -266,7 +266,7 @@ impl Graph {
 
 /// The first thing wrong with edge `i`, if anything is.
 fn check_edge(vertices: u64, sink: u64, i: u64, edge: &Edge) -> Result<(), GraphFault>
-    ensures { result ≡ checked (fault_of_edge vertices sink i edge.now) }
+    ensures { result ≡ refusal (fault_of_edge vertices sink i edge.now) }
 {
     if edge.tail >= vertices || edge.head >= vertices {
         return Err(GraphFault::Endpoint(i));
@@ -285,7 +285,7 @@ fn check_edge(vertices: u64, sink: u64, i: u64, edge: &Edge) -> Result<(), Graph
 
 /// The first thing wrong with these rows, walks aside.
 fn check_rows(vertices: u64, sink: u64, edges: &[Edge]) -> Result<(), GraphFault>
-    ensures { result ≡ checked (fault_of_rows (record { vertices = vertices; sink = sink; edges = edges.now })) }
+    ensures { result ≡ refusal (fault_of_rows (record { vertices = vertices; sink = sink; edges = edges.now })) }
 {
     if vertices == 0 || vertices > MAX_VERTICES {
         return Err(GraphFault::Vertices);

@@ -74,7 +74,7 @@ pub fn after_from(
         return Err(AfterFault::Negative(vertex));
     }
     for (vertex, chips) in into.iter_mut().enumerate() {
-        let (had, spent) = had_and_spent(graph, start, fired, vertex as u64);
+        let (had, spent) = income_and_cost(graph, start, fired, vertex as u64);
         *chips = (had - spent) as u64;
     }
     Ok(())
@@ -91,7 +91,7 @@ fn first_negative(graph: &Graph, start: &[u64], fired: &[u64]) -> Option<u64>
         (IsLeastBelowZero graph.now (slice_index start.now) (slice_index fired.now)) }
 {
     for vertex in 0..graph.vertices() {
-        let (had, spent) = had_and_spent(graph, start, fired, vertex);
+        let (had, spent) = income_and_cost(graph, start, fired, vertex);
         if had < spent {
             return Some(vertex);
         }
@@ -100,7 +100,7 @@ fn first_negative(graph: &Graph, start: &[u64], fired: &[u64]) -> Option<u64>
 }
 
 /// How many chips a vertex ever has, at the start and along its edges, and how many its firings take away.
-fn had_and_spent(graph: &Graph, start: &[u64], fired: &[u64], vertex: u64) -> (u128, u128)
+fn income_and_cost(graph: &Graph, start: &[u64], fired: &[u64], vertex: u64) -> (u128, u128)
     requires is_vertex { vertex < graph.now.vertices }
     requires start_each { length start.now ≡ graph.now.vertices }
     requires few_chips { sum start.now ≤ max_total }

@@ -11,8 +11,8 @@ overflow_cast-chips c =
     let few = then_few (game_from c.args.graph.now c.args.start.now 0)
     (game_from_is c.args.graph.now c.args.start.now c.first_negative.ensures.graph c.requires.start_each
     c.requires.few_chips) c.args.fired.now c.requires.counts_each c.in_default.ensures.least c.loop-vertex.vertex inside in
-    let had = c.had_and_spent-had.ensures.had in
-    let spent = c.had_and_spent-had.ensures.spent in
+    let had = c.income_and_cost-had.ensures.had in
+    let spent = c.income_and_cost-had.ensures.spent in
     record { fits = omega arith }
 
 pub returns-clause-cases : goal.returns-clause-cases

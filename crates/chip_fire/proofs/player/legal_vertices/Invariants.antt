@@ -1,7 +1,7 @@
 use Rattle.std.proofs.Common.{◌≡◌, ◌==◌, nat_le, not, ◌&&◌, slice_index}
 use Rattle.chip_graph.specs.Sums.{picked}
 use Rattle.chip_graph.specs.Multigraph.{degree}
-use Rattle.chip_fire.proofs.player.still_legal.Given as goal
+use Rattle.chip_fire.proofs.player.legal_vertices.Given as goal
 
 abbrev pub invariant-loop-vertex : goal.invariant-loop-vertex
 invariant-loop-vertex l =

@@ -1,6 +1,6 @@
 use Rattle.std.proofs.Common.{◌≡◌, ◌+◌, ◌*◌, take, sum_by, slice_index}
 use Rattle.chip_graph.specs.Multigraph.{edge_at, edges_in}
-use Rattle.chip_sequence.proofs.counted.had_and_spent.Given as goal
+use Rattle.chip_sequence.proofs.counted.income_and_cost.Given as goal
 
 abbrev pub invariant-loop-e : goal.invariant-loop-e
 invariant-loop-e l = l.had ≡ slice_index l.start l.vertex + sum_by

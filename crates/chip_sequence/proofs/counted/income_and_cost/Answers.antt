@@ -3,7 +3,7 @@ use Rattle.std.proofs.Math.Seq.{take-length}
 use Rattle.std.proofs.lemmas.List.Sums.{get_or-le-sum_by}
 use Rattle.chip_graph.specs.Multigraph.{edges_in}
 use Rattle.chip_sequence.proofs.AfterLemmas.{flow, in_edge, flow_sum, flow_fits}
-use Rattle.chip_sequence.proofs.counted.had_and_spent.Goals as goal
+use Rattle.chip_sequence.proofs.counted.income_and_cost.Goals as goal
 
 pub bounds-edges-e : goal.bounds-edges-e
 bounds-edges-e c =

@@ -25,8 +25,8 @@ use Rattle.chip_part.proofs.EdgeLemmas.{tail_root}
 use Rattle.chip_part.proofs.RuleLemmas.{rules_met}
 use Rattle.chip_part.proofs.PartLemmas.{at_edge}
 use Rattle.chip_part.proofs.OpeningLemmas.{first_sent, first_fed}
-use Rattle.chip_core.specs.Core.{Log, Step, Event, Take, Ack, Fire, Clear, Claim, Put, Halt, Settle, Seal, Read, Feed}
-use Rattle.chip_core.specs.Core.{End, part_of, part_in, out_in, stop_in, sees, IsLegalLog, tail_of, root}
+use Rattle.chip_core.specs.Core.{Log, Step, Event, Clear, Claim, Put, Seal, Feed}
+use Rattle.chip_core.specs.Core.{part_of, part_in, out_in, stop_in, sees, IsLegalLog, tail_of, root}
 use Rattle.chip_core.specs.Core.{root_edge, all_edges, graph_edges}
 use Rattle.chip_core.specs.Positions.{started, played_game, fed_of, fed_in}
 use Rattle.chip_core.specs.Histories.{done_by}
@@ -41,17 +41,7 @@ module _ (g : Setting) where
   stop_after_at (Seal i) seen e log may past none =
       cond_no i e (after_seal seen (stop_in g log e)) (stop_in g log e) (λ z. (let a : i ≡ e = z in
       let inside : i < graph_edges g = may in absurd (omega arith))) ∙ none
-  stop_after_at (Take i) seen e log may past none = none
-  stop_after_at (Ack i) seen e log may past none = none
-  stop_after_at (Fire v k) seen e log may past none = none
-  stop_after_at (Clear i) seen e log may past none = none
-  stop_after_at (Claim i) seen e log may past none = none
-  stop_after_at (Put i) seen e log may past none = none
-  stop_after_at (Halt v) seen e log may past none = none
-  stop_after_at (Settle i) seen e log may past none = none
-  stop_after_at (Read v) seen e log may past none = none
-  stop_after_at (Feed i k) seen e log may past none = none
-  stop_after_at End seen e log may past none = none
+  stop_after_at x seen e log may past none = none
 
   pub never_sealed : (log : Log) → IsLegalLog g log → (e : ℕ) → graph_edges g ≤ e → stop_in g log e ≡ None
   never_sealed [] legal e past = refl
@@ -81,14 +71,7 @@ module _ (g : Setting) where
       (out_in g log e).link (λ z. (let a : i ≡ e = z in let b = may.0 in absurd (omega arith)))
   outside_step (Feed i k) seen e log may past = cond_no i e (after_claim k seen (out_in g log e).link)
       (out_in g log e).link (λ z. (let a : i ≡ e = z in let b = may.1 in absurd (omega arith)))
-  outside_step (Take i) seen e log may past = refl
-  outside_step (Ack i) seen e log may past = refl
-  outside_step (Fire v k) seen e log may past = refl
-  outside_step (Halt v) seen e log may past = refl
-  outside_step (Settle i) seen e log may past = refl
-  outside_step (Seal i) seen e log may past = refl
-  outside_step (Read v) seen e log may past = refl
-  outside_step End seen e log may past = refl
+  outside_step x seen e log may past = refl
 
   pub outside_is : (log : Log) → IsLegalLog g log → (e : ℕ) → all_edges g ≤ e → (out_in g log e).link ≡ opening_tail g e
   outside_is [] legal e past = refl
@@ -168,14 +151,7 @@ module _ (g : Setting) where
         (λ j. after_put (out_in g log j).link) (λ j. (out_in g log j).link)
         (let a = ap sum (append-nil (sent_counts (out_in g log i).link)) in omega arith) (λ j. omega arith)
         (root_edge g v)
-    gives (Take i) log legal may v = let b = brought_none v in omega arith
-    gives (Ack i) log legal may v = let b = brought_none v in omega arith
-    gives (Fire u k) log legal may v = let b = brought_none v in omega arith
-    gives (Halt u) log legal may v = let b = brought_none v in omega arith
-    gives (Settle i) log legal may v = let b = brought_none v in omega arith
-    gives (Seal i) log legal may v = let b = brought_none v in omega arith
-    gives (Read u) log legal may v = let b = brought_none v in omega arith
-    gives End log legal may v = let b = brought_none v in omega arith
+    gives x log legal may v = let b = brought_none v in omega arith
 
     pub started_step : (x : Step) (log : Log) → IsLegalLog g (x ∷ log) → (v : ℕ)
         → started g (x ∷ log) v ≡ started g log v + brought_to (fed_of g x.event) v
@@ -205,22 +181,13 @@ module _ (g : Setting) where
     -- nobody feeds but the root
     fed_elsewhere : (x : Event) (s : Part) → Met g x s → part_of g x ≢ root g → fed_of g x ≡ []
     fed_elsewhere (Feed e k) s may other = absurd (other (tail_root g e may.0))
-    fed_elsewhere (Take e) s may other = refl
-    fed_elsewhere (Ack e) s may other = refl
-    fed_elsewhere (Fire v k) s may other = refl
-    fed_elsewhere (Clear e) s may other = refl
-    fed_elsewhere (Claim e) s may other = refl
-    fed_elsewhere (Put e) s may other = refl
-    fed_elsewhere (Halt v) s may other = refl
-    fed_elsewhere (Settle e) s may other = refl
-    fed_elsewhere (Seal e) s may other = refl
-    fed_elsewhere (Read v) s may other = refl
-    fed_elsewhere End s may other = refl
+    fed_elsewhere x s may other = refl
 
     abbrev pub recorded : Log → List (ℕ × ℕ)
     recorded log = fed_in g (done_by g (root g) log)
 
-    recorded_step : (x : Step) (log : Log) → IsLegalLog g (x ∷ log)
+    -- a step adds what it feeds
+    pub recorded_step : (x : Step) (log : Log) → IsLegalLog g (x ∷ log)
         → recorded (x ∷ log) ≡ recorded log ++ fed_of g x.event
     recorded_step x log legal = dite (ℕ_discrete (part_of g x.event) (root g))
         (λ same. ap (fed_in g) (cond_yes (part_of g x.event) (root g) (done_by g (root g) log ++ x ∷ [])
@@ -257,17 +224,7 @@ module _ (g : Setting) where
         let yes = cond_yes v v k 0 refl in
         let all = sum_by-cons (λ (p : ℕ × ℕ). p.1) (v, k) [] in
         omega arith
-    fed_once (Take e) s may = nothing_fed
-    fed_once (Ack e) s may = nothing_fed
-    fed_once (Fire v k) s may = nothing_fed
-    fed_once (Clear e) s may = nothing_fed
-    fed_once (Claim e) s may = nothing_fed
-    fed_once (Put e) s may = nothing_fed
-    fed_once (Halt v) s may = nothing_fed
-    fed_once (Settle e) s may = nothing_fed
-    fed_once (Seal e) s may = nothing_fed
-    fed_once (Read v) s may = nothing_fed
-    fed_once End s may = nothing_fed
+    fed_once x s may = nothing_fed
 
     total_recorded : (log : Log) → IsLegalLog g log
         → sum_below g.game.graph.vertices (started g log) ≡ sum g.game.start + all_brought (recorded log)
@@ -356,17 +313,7 @@ module _ (g : Setting) where
       feeds_none : (x : Event) (log : Log) → IsLegalLog g log → Met g x (part_in g log (part_of g x)) → fed_of g x ≡ []
       feeds_none (Feed e k) log legal may = absurd (true≢false (sym (unfed_closes log legal)
           ∙ ap (λ (p : ℕ). (part_in g log p).ended) (sym (tail_root g e may.0)) ∙ may.2))
-      feeds_none (Take e) log legal may = refl
-      feeds_none (Ack e) log legal may = refl
-      feeds_none (Fire v k) log legal may = refl
-      feeds_none (Clear e) log legal may = refl
-      feeds_none (Claim e) log legal may = refl
-      feeds_none (Put e) log legal may = refl
-      feeds_none (Halt v) log legal may = refl
-      feeds_none (Settle e) log legal may = refl
-      feeds_none (Seal e) log legal may = refl
-      feeds_none (Read v) log legal may = refl
-      feeds_none End log legal may = refl
+      feeds_none x log legal may = refl
 
       pub unfed_records : (log : Log) → IsLegalLog g log → recorded log ≡ []
       unfed_records [] legal = refl

@@ -107,9 +107,6 @@ module _ (g : Setting) where
     pub few_chips : (v : ℕ) → v < g.game.graph.vertices → (part_in g log v).chips ≤ 2 ^ 40
     few_chips v l = let a = full_position_most v l in let b = few_given in omega arith
 
-    pub few_in_flight : (e : ℕ) → e < all_edges g → sum (counts_in_flight g log e) ≤ 2 ^ 40
-    few_in_flight e l = let a = chips_with_flight e l in let b = few_given in omega arith
-
     -- ---- messages
 
     -- of a graph edge: one for each firing at most

@@ -1,7 +1,7 @@
 -- Serves GraphText.antt.
 -- The value of a text, and the rows of numbers in it.
-use Rattle.std.proofs.Common.{◌≡◌, ◌≢◌, ℕ, suc, ◌<◌, ◌+◌, Bool, true, false, List, [], ◌∷◌, ◌++◌, length, drop, get_or}
-use Rattle.std.proofs.Common.{Option, None, Some, refl, ap, sym, ◌∙◌, add-one, drop-cons, append_assoc}
+use Rattle.std.proofs.Common.{◌≡◌, ◌≢◌, ℕ, suc, ◌+◌, Bool, true, false, List, [], ◌∷◌, ◌++◌, length}
+use Rattle.std.proofs.Common.{Option, None, Some, refl, ap, sym, ◌∙◌}
 use Rattle.std.specs.Prelude.{option_map, option_and_then, IsUtf8, String}
 use Rattle.std.specs.declared.alloc.Global.{Global}
 use Rattle.std.specs.Str.{is_utf8}
@@ -9,7 +9,7 @@ use Rattle.std.proofs.lemmas.Str.{IsUtf8-from_is_utf8, is_utf8-from_IsUtf8}
 use Rattle.serde_json.specs.Data.{Data, Items, no_items, item}
 use Rattle.serde_json.specs.Read.{read}
 use Rattle.serde_json.specs.Find.{as_array, as_object}
-use Rattle.serde_json.specs.View.{view, items_view, members_view}
+use Rattle.serde_json.specs.View.{items_view, members_view}
 use Rattle.serde_json.specs.declared.value.Value.{Value}
 use Rattle.chip_graph.specs.declared.edge.Edge.{Edge}
 use Rattle.chip_file.specs.GraphText.{json_of, number_of_value, numbers_of, members_count, member_count}
@@ -73,34 +73,6 @@ edge_of_row-other row vs e ne =
 -- where `before` is what the rows so far gave, and `rest` are those that are left
 abbrev pub EdgesGoOn : Items → List Edge → Items → Type 0
 EdgesGoOn all before rest = edges_of_rows all ≡ option_map (λ more. before ++ more) (edges_of_rows rest)
-
-append_next : (before : List Edge) (edge : Edge) (o : Option (List Edge))
-    → option_map (λ more. before ++ more) (option_map (λ edges. edge ∷ edges) o)
-    ≡ option_map (λ more. (before ++ edge ∷ []) ++ more) o
-append_next before edge None = refl
-append_next before edge (Some more) = ap Some (sym (append_assoc before (edge ∷ []) more))
-
-edges-next : (all : Items) (before : List Edge) (row : Data) (edge : Edge) (rest : Items) → edge_of_row row ≡ Some edge
-    → EdgesGoOn all before (item row rest) → EdgesGoOn all (before ++ edge ∷ []) rest
-edges-next all before row edge rest e h = rw e at h ∙ append_next before edge (edges_of_rows rest)
-
-rest_of : (rows : List Value) (i : ℕ) (row : Value) → i < length rows → row ≡ get_or rows i row
-    → items_view (drop i rows) ≡ item (view row) (items_view (drop (i + 1) rows))
-rest_of rows i row lt e = rw (drop-cons rows i row, add-one, ← e) refl
-
-pub EdgesGoOn-more : (rows : List Value) (before : List Edge) (i : ℕ) (row : Value) (edge : Edge) → i < length rows
-    → row ≡ get_or rows i row
-    → edge_of_row (view row) ≡ Some edge → EdgesGoOn (items_view rows) before (items_view (drop i rows))
-    → EdgesGoOn (items_view rows) (before ++ edge ∷ []) (items_view (drop (i + 1) rows))
-EdgesGoOn-more rows before i row edge lt at_i e h =
-    edges-next (items_view rows) before (view row) edge (items_view (drop (i + 1) rows)) e
-    (rw (rest_of rows i row lt at_i) at h)
-
-pub EdgesGoOn-fails : (rows : List Value) (before : List Edge) (i : ℕ) (row : Value) → i < length rows
-    → row ≡ get_or rows i row
-    → edge_of_row (view row) ≡ None → EdgesGoOn (items_view rows) before (items_view (drop i rows))
-    → edges_of_rows (items_view rows) ≡ None
-EdgesGoOn-fails rows before i row lt at_i e h = rw (rest_of rows i row lt at_i, e) at h
 
 -- ---- the members of an object
 

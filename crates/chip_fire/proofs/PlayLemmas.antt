@@ -2,7 +2,7 @@
 -- The plain player: turns, rounds, and what they come to.
 use Rattle.std.proofs.Common.{◌≡◌, ◌≢◌, ℕ, zero, suc, ◌+◌, ◌-◌, ◌*◌, ◌/◌, ◌<◌, ◌≤◌, Bool, true, false, not, ◌&&◌}
 use Rattle.std.proofs.Common.{eqb, leb, All, Contains, List, [], length, sum, get_or, set, slice_index, replicate, ◌⊎◌}
-use Rattle.std.proofs.Common.{inl, inr, ⊎_elim, refl, sym, ap, ◌∙◌, subst, arith, length-set, get_or-set_same}
+use Rattle.std.proofs.Common.{inl, inr, ⊎_elim, refl, sym, ap, ◌∙◌, subst, arith, get_or-set_same}
 use Rattle.std.proofs.Common.{get_or-set_other, mul_comm, mul-le-mul_left}
 use Rattle.std.specs.List.Sorted.{IsStrictlyIncreasing}
 use Rattle.std.proofs.lemmas.List.{length-replicate}
@@ -61,19 +61,6 @@ module _ (G : Multigraph) (limit : ℕ) (chips fired : List ℕ) (ok : IsInRange
 
   counted_else : (u : ℕ) → v ≢ u → get_or counted u 0 ≡ get_or fired u 0
   counted_else u ne = get_or-set_other fired v u (get_or fired v 0 + k) 0 (λ z. ne (sym z))
-
-  pub turn_in_range : get_or fired v 0 + k ≤ limit → (now : List ℕ) → length now ≡ length chips → sum now ≡ sum chips
-      → IsInRange G limit now counted
-  turn_in_range room now same kept = record {
-    graph_fits = ok.graph_fits;
-    chips_each = same ∙ ok.chips_each;
-    fired_each = length-set fired v (get_or fired v 0 + k) ∙ ok.fired_each;
-    few_chips = (let a = ok.few_chips in omega arith);
-    low_counts = λ u. dite (ℕ_discrete v u)
-        (λ e. subst (λ (w : ℕ). get_or counted w 0 ≤ limit) e (let a = counted_here in omega arith))
-        (λ ne. (let a = counted_else u ne in let b = ok.low_counts u in omega arith));
-    low_limit = ok.low_limit;
-  }
 
   -- the counts are those of k firings more
   counted_more : (u : ℕ) → get_or counted u 0 ≡ get_or fired u 0 + counts (replicate k v) u
@@ -275,15 +262,6 @@ module _ (g : ChipGame) (ok : IsGame g) where
     begun_burnt order burnt = begun_forced (λ v some. (burnt v some).within)
         (burnt_counts g.graph ok.graph_fits (slice_index g.start) g.limit (slice_index fired) (slice_index counts)
         (slice_index order) forced burnt)
-
--- a play that has begun, some rounds on
-pub begun_on : (g : ChipGame) (chips fired chips' fired' now now' : List ℕ) → IsBegun g chips fired
-    → IsInRange g.graph g.limit chips' fired' → StaysOnTheWay g.graph g.limit chips fired chips' fired' → now ≡ chips'
-    → now' ≡ fired' → IsBegun g now now'
-begun_on g chips fired chips' fired' now now' begun in_range stays is_chips is_fired =
-    subst (λ (l : List ℕ). IsBegun g l now') (sym is_chips)
-    (subst (IsBegun g chips') (sym is_fired)
-    (record { in_range = in_range; on_the_way = stays (slice_index g.start) begun.on_the_way }))
 
 -- where a play ends
 

@@ -79,15 +79,6 @@ sum_below_term zero f e l = absurd (omega arith)
 sum_below_term (suc n) f e l = dite (ℕ_discrete e n) (λ same. let b : f e ≡ f n = ap f same in omega arith)
     (λ other. let b = sum_below_term n f e (omega arith) in omega arith)
 
--- two terms are at most the sum
-pub sum_below_terms : (n : ℕ) (f : ℕ → ℕ) (i j : ℕ) → i < n → j < n → i ≢ j → f i + f j ≤ sum_below n f
-sum_below_terms zero f i j l m ne = absurd (omega arith)
-sum_below_terms (suc n) f i j l m ne = dite (ℕ_discrete i n)
-    (λ same. let b : f i ≡ f n = ap f same in let c = sum_below_term n f j (omega arith) in omega arith)
-    (λ other. dite (ℕ_discrete j n)
-    (λ same. let b : f j ≡ f n = ap f same in let c = sum_below_term n f i (omega arith) in omega arith)
-    (λ neither. let b = sum_below_terms n f i j (omega arith) (omega arith) ne in omega arith))
-
 -- sums that differ at one place
 pub sum_below_move : (n : ℕ) (f h : ℕ → ℕ) (j : ℕ) → j < n → ((e : ℕ) → e < n → e ≢ j → f e ≡ h e)
     → sum_below n f + h j ≡ sum_below n h + f j
@@ -111,13 +102,6 @@ sum_below_split m (suc n) f = ap (λ (k : ℕ). sum_below k f) (let z : m + suc 
 pub sum_below_one : (n : ℕ) (f : ℕ → ℕ) (j : ℕ) → j < n → ((e : ℕ) → e < n → e ≢ j → f e ≡ 0) → sum_below n f ≡ f j
 sum_below_one n f j l p = let a = sum_below_move n f (λ e. 0) j l p in let b = sum_below_none n (λ e. 0) (λ e m. refl)
     in omega arith
-
--- what a sum has come to before a term, and this term, are at most the whole
-pub sum_below_front : (n : ℕ) (f : ℕ → ℕ) (i : ℕ) → i < n → sum_below i f + f i ≤ sum_below n f
-sum_below_front zero f i l = absurd (omega arith)
-sum_below_front (suc n) f i l = dite (ℕ_discrete i n)
-    (λ same. subst (λ (k : ℕ). sum_below k f + f k ≤ sum_below n f + f n) (sym same) (omega arith))
-    (λ other. let a = sum_below_front n f i (omega arith) in omega arith)
 
 -- each of m things goes to one place below n, so the sums by place add up to the sum over all
 pub sum_below_by_place : (n m : ℕ) (h : ℕ → ℕ) (place : ℕ → ℕ) → ((e : ℕ) → e < m → place e < n)
@@ -200,13 +184,6 @@ module _ (n : ℕ) (t : ℕ → Bool) where
   pub tested_term : (f : ℕ → ℕ) (e : ℕ) → e < n → t e ≡ true → f e ≤ sum_below n (λ e. cond (t e) (f e) 0)
   tested_term f e l on = subst (λ (x : ℕ). x ≤ sum_below n (λ e. cond (t e) (f e) 0)) (cond_true (t e) (f e) 0 on)
       (sum_below_term n (λ e. cond (t e) (f e) 0) e l)
-
-  -- two terms that pass are at most the sum
-  pub tested_terms : (f : ℕ → ℕ) (i j : ℕ) → i < n → j < n → i ≢ j → t i ≡ true → t j ≡ true
-      → f i + f j ≤ sum_below n (λ e. cond (t e) (f e) 0)
-  tested_terms f i j l m ne on too =
-      let a = sum_below_terms n (λ e. cond (t e) (f e) 0) i j l m ne in
-      let b = cond_true (t i) (f i) 0 on in let c = cond_true (t j) (f j) 0 too in omega arith
 
   -- sums that differ at one place that passes
   pub tested_move : (f h : ℕ → ℕ) (j : ℕ) → j < n → t j ≡ true → ((e : ℕ) → e < n → e ≢ j → t e ≡ true → f e ≡ h e)

@@ -55,9 +55,6 @@ module _ (g : Setting) where
   leaves : ℕ → ℕ → Bool
   leaves v e = eqb (tail_of g e) v
 
-  enters : ℕ → ℕ → Bool
-  enters v e = eqb (head_of g e) v
-
   -- of the edges out of v, each is 0 where their sum is
   pub out_zero : (v : ℕ) (f : ℕ → ℕ) → over_outs g v f ≡ 0 → (e : ℕ) → e < all_edges g → tail_of g e ≡ v → f e ≡ 0
   out_zero v f z e l at = tested_zero (all_edges g) (λ i. eqb (tail_of g i) v) f z e l (eq-eqb (tail_of g e) v at)
@@ -330,10 +327,6 @@ module _ (g : Setting) where
   is_parent_of : (o : Option ℕ) (e : ℕ) → o ≡ Some e → is_parent e o ≡ true
   is_parent_of None e h = absurd (cc)
   is_parent_of (Some p) e h = eq-eqb p e (let z : p ≡ e = cc in z)
-
-  parent_from : (o : Option ℕ) (e : ℕ) → is_parent e o ≡ true → o ≡ Some e
-  parent_from None e h = absurd (true≢false (sym h))
-  parent_from (Some p) e h = ap Some (eqb-true p e h)
 
   abbrev pub Parents : ℕ → Part → Type 0
   Parents p s = (e : ℕ) → s.parent ≡ Some e → (e < all_edges g) × (head_of g e ≡ p) × (0 < owed (s.into e))

@@ -72,9 +72,6 @@ module _ (g : Setting) (v : ℕ) where
   none_here e s ds t true on (seen, rest, is, last) none = absurd (let a = ap acks_in is in omega arith)
   none_here e s ds t false off (empty, same) none = (same, zero_of (may_ack g (head_of g e) s e) off)
 
-  NoneOn : Part → List ℕ → Type 0
-  NoneOn s es = (e : ℕ) → Contains es e → may_ack g (head_of g e) s e ≡ 0
-
   none_on_all : (es : List ℕ) (s : Part) (ds : List Step) (t : Part) → each_phase (acknowledging g v) es s ds t
       → acks_in ds ≡ 0 → (t ≡ s) × ((e : ℕ) → Contains es e → may_ack g (head_of g e) s e ≡ 0)
   none_on_all [] s ds t (empty, same) none = (same, λ e at. (let l = at.1 in absurd (omega arith)))

@@ -1,13 +1,9 @@
 -- Serves Written.antt.
 -- Bytes that go out in parts.
-use Rattle.std.proofs.Common.{◌≡◌, ℕ, ◌+◌, ◌-◌, ◌≤◌, List, [], ◌++◌, length, take, drop, Option, Some, None, sym, ap}
-use Rattle.std.proofs.Common.{◌∙◌, arith, append_assoc, append-nil, take-add}
+use Rattle.std.proofs.Common.{◌≡◌, ℕ, ◌+◌, ◌-◌, ◌≤◌, List, ◌++◌, length, take, drop, Option, Some, None, sym, ap}
+use Rattle.std.proofs.Common.{◌∙◌, arith, append_assoc, take-add}
 use Rattle.std.proofs.lemmas.List.{take_all, length-drop}
-use Rattle.std.specs.Io.KnownBytes.{Appends, Keeps}
-
-pub Appends-none : (known : Option (List ℕ)) → Appends known known []
-Appends-none None = tt
-Appends-none (Some xs) = sym (append-nil xs)
+use Rattle.std.specs.Io.KnownBytes.{Appends}
 
 -- one part after another
 pub Appends-more : (old middle new : Option (List ℕ)) (xs ys zs : List ℕ) → xs ++ ys ≡ zs → Appends old middle xs
@@ -17,14 +13,6 @@ Appends-more (Some bs) None new xs ys zs is first second = absurd first
 Appends-more (Some bs) (Some cs) None xs ys zs is first second = absurd second
 Appends-more (Some bs) (Some cs) (Some ds) xs ys zs is first second = second ∙ ap (λ (l : List ℕ). l ++ ys) first
     ∙ append_assoc bs xs ys ∙ ap (λ (l : List ℕ). bs ++ l) is
-
--- a write that failed leaves what went out before
-pub Appends-kept : (old middle new : Option (List ℕ)) (xs : List ℕ) → Appends old middle xs → Keeps middle new
-    → Appends old new xs
-Appends-kept None middle new xs first kept = tt
-Appends-kept (Some bs) None new xs first kept = absurd first
-Appends-kept (Some bs) (Some cs) None xs first kept = absurd kept
-Appends-kept (Some bs) (Some cs) (Some ds) xs first kept = kept ∙ first
 
 -- the first bytes and some of the rest, as a loop reads them
 pub taken_on : (w n : ℕ) (bytes : List ℕ) → w ≤ length bytes → n ≤ length (take (length bytes - w) (drop w bytes))

@@ -2,7 +2,7 @@
 -- Where no vertex is given chips more than once, a root edge has one message at most.
 use Rattle.std.proofs.Common.{◌≡◌, ◌≢◌, ◌⊎◌, ℕ, ◌+◌, ◌-◌, ◌<◌, ◌≤◌, Bool, true, false, cond, eqb, ltb, List, [], ◌∷◌}
 use Rattle.std.proofs.Common.{◌++◌, length, filter, option_to_list, refl, sym, ap, ◌∙◌, subst, arith, ⊎_elim, le-ltb, ltb-true}
-use Rattle.std.proofs.Common.{append_assoc, append-nil, length-append}
+use Rattle.std.proofs.Common.{length-append}
 use Rattle.std.specs.List.{enumerate_from}
 use Rattle.std.proofs.lemmas.List.{length_push}
 use Rattle.std.proofs.lemmas.List.Sums.{sum_by-cons}
@@ -18,14 +18,13 @@ use Rattle.chip_part.specs.Edges.{start_of}
 use Rattle.chip_part.specs.Part.{first_put}
 use Rattle.chip_part.specs.Kept.{Met}
 use Rattle.chip_part.specs.Steps.{link_after}
-use Rattle.chip_part.proofs.EdgeLemmas.{tail_root}
 use Rattle.chip_part.proofs.RuleLemmas.{rules_met}
 use Rattle.chip_core.specs.Core.{Log, Step, Event, Clear, Claim, Put, Feed}
-use Rattle.chip_core.specs.Core.{Part, part_of, part_in, out_in, sees, IsLegalLog, root, root_edge, graph_edges}
+use Rattle.chip_core.specs.Core.{part_of, part_in, out_in, sees, IsLegalLog, root, root_edge, graph_edges}
 use Rattle.chip_core.specs.Histories.{done_by}
 use Rattle.chip_core.specs.Positions.{fed_of, fed_in}
 use Rattle.chip_core.proofs.LogLemmas.{link_step}
-use Rattle.chip_core.proofs.GivenLemmas.{feed_sends}
+use Rattle.chip_core.proofs.GivenLemmas.{feed_sends, recorded_step}
 use Rattle.chip_run.specs.Feeding.{has_chips, feeds_of}
 use Rattle.chip_run.specs.Replaying.{HasOneEach}
 use Rattle.chip_run.proofs.FitLemmas.{first_one}
@@ -110,29 +109,10 @@ module _ (g : Setting) (game : IsGame g.game) (some_ring : 0 < g.ring) where
   abbrev fed : Log → List (ℕ × ℕ)
   fed log = fed_in g (done_by g (root g) log)
 
-  fed_push : (xs : List Step) (x : Step) → fed_in g (xs ++ x ∷ []) ≡ fed_in g xs ++ fed_of g x.event
-  fed_push [] x = append-nil (fed_of g x.event)
-  fed_push (y ∷ ys) x = ap (λ (l : List (ℕ × ℕ)). fed_of g y.event ++ l) (fed_push ys x)
-      ∙ sym (append_assoc (fed_of g y.event) (fed_in g ys) (fed_of g x.event))
-
-  fed_elsewhere : (x : Event) (s : Part) → Met g x s → part_of g x ≢ root g → fed_of g x ≡ []
-  fed_elsewhere (Feed e k) s may other = absurd (other (tail_root g e may.0))
-  fed_elsewhere x s may other = refl
-
   many_step : (x : Step) (log : Log) → IsLegalLog g (x ∷ log) → (v : ℕ)
       → many_of v (fed (x ∷ log)) ≡ many_of v (fed log) + many_of v (fed_of g x.event)
-  many_step x log legal v =
-      let r : ℕ = root g in
-      let did : List Step = done_by g r log in
-      dite (ℕ_discrete (part_of g x.event) r)
-      (λ same. ap (λ (l : List Step). many_of v (fed_in g l)) (cond_yes (part_of g x.event) r (did ++ x ∷ []) did same)
-      ∙ ap (many_of v) (fed_push did x) ∙ many-append v (fed_in g did) (fed_of g x.event))
-      (λ other.
-      let a = ap (λ (l : List Step). many_of v (fed_in g l))
-      (cond_no (part_of g x.event) r (did ++ x ∷ []) did other) in
-      let b = ap (many_of v) (fed_elsewhere x.event (part_in g log (part_of g x.event))
-      (rules_met g x.event (part_in g log (part_of g x.event)) legal.1.0) other) in
-      omega arith)
+  many_step x log legal v = ap (many_of v) (recorded_step g game some_ring x log legal)
+      ∙ many-append v (fed log) (fed_of g x.event)
 
   claims_more : (x : Event) (log : Log) → IsLegalLog g log → Met g x (part_in g log (part_of g x)) → (v : ℕ)
       → claims_of (link_after x (sees g log x) (root_edge g v) (out_in g log (root_edge g v)))

@@ -88,14 +88,6 @@ module _ (G : Multigraph) (good : IsGraph G) (v : ℕ) where
       (λ k d l. (good.edges_fit (get_or (edges_out G v) k d) (All-picked
       (λ e. eqb (edge_at G e).tail v) (length G.edges) (length G.edges) (omega arith) k d l)).head_is_vertex)
 
-  -- and so are those of a list that is the same, in a list with a number for each vertex
-  pub links_within : (links : List Edge) (xs : List ℕ) → links ≡ links_of → length xs ≡ G.vertices
-      → All (λ (e : Edge). e.head < length xs) links
-  links_within links xs same each =
-      let P : ℕ → Type 0 = λ n. All (λ (e : Edge). e.head < n) links in
-      subst P (sym each) (subst (λ (es : List Edge). All (λ (e : Edge). e.head < G.vertices) es) (sym same)
-      links_inside)
-
   pub links_degree : sum_by (λ (e : Edge). e.mult) links_of ≡ degree G v
   links_degree = sum_by-map (λ (e : Edge). e.mult) (edge_at G) (edges_out G v) ∙ picked_sum (λ e. (edge_at G e).mult)
       (λ e. eqb (edge_at G e).tail v) (length G.edges)

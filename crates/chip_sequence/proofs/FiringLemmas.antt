@@ -175,17 +175,6 @@ module _ (G : Multigraph) where
   sequence-append [] ws x ok ok' = ok'
   sequence-append (v ∷ vs) ws x ok ok' = (ok.0, sequence-append vs ws (fired_once G v x) ok.1 ok')
 
-  -- the front of a sequence is one
-  pub sequence_front : (vs ws : List ℕ) (x : ℕ → ℕ) → IsFiringSequence G x (vs ++ ws) → IsFiringSequence G x vs
-  sequence_front [] ws x ok = tt
-  sequence_front (v ∷ vs) ws x ok = (ok.0, sequence_front vs ws (fired_once G v x) ok.1)
-
-  -- the rest of a sequence is one, from where the front ends
-  pub sequence_rest : (vs ws : List ℕ) (x : ℕ → ℕ) → IsFiringSequence G x (vs ++ ws)
-      → IsFiringSequence G (position_after G x vs) ws
-  sequence_rest [] ws x ok = ok
-  sequence_rest (v ∷ vs) ws x ok = sequence_rest vs ws (fired_once G v x) ok.1
-
   -- who fires is a vertex
   pub counts_outside : (vs : List ℕ) (x : ℕ → ℕ) (u : ℕ) → IsFiringSequence G x vs → G.vertices ≤ u → counts vs u ≡ 0
   counts_outside [] x u ok l = refl

@@ -1,19 +1,18 @@
 -- Serves Interleaving.antt, Kept.antt.
 -- What a look at a row that is met tells.
 use Rattle.std.proofs.Common.{◌≡◌, ℕ, ◌+◌, ◌-◌, ◌*◌, ◌^◌, ◌<◌, ◌≤◌, Bool, true, false, cond, eqb, List, [], ◌∷◌, length}
-use Rattle.std.proofs.Common.{get_or, map, sum, refl, sym, ap, ◌∙◌, arith, eq-eqb}
-use Rattle.std.specs.Prelude.{slice_get, slice_index, Option, Some, nat_lt, nat_le, not, ◌&&◌, ◌==◌}
-use Rattle.std.proofs.lemmas.Bool.{eqb-true, ltb-true, leb-true}
+use Rattle.std.proofs.Common.{get_or, map, refl, sym, ap, ◌∙◌, arith, eq-eqb}
+use Rattle.std.specs.Prelude.{slice_get, slice_index, Option, Some, nat_lt}
+use Rattle.std.proofs.lemmas.Bool.{eqb-true, ltb-true}
 use Rattle.chip_link.specs.declared.trace.TraceRow.{TraceRow}
 use Rattle.chip_link.specs.declared.trace.TraceRow.TheVariants.{Take, Fire}
 use Rattle.chip_graph.specs.Multigraph.{Multigraph, edge_at}
-use Rattle.chip_graph.specs.ChipGame.{ChipGame, IsGame}
+use Rattle.chip_graph.specs.ChipGame.{ChipGame}
 use Rattle.chip_trace.specs.Interleaving.{fires, takes_of, opening, messages, goes_into, next_message, has_count}
-use Rattle.chip_trace.specs.Interleaving.{may_fire}
 use Rattle.chip_trace.specs.Runner.{RunnerState}
 use Rattle.chip_trace.specs.declared.progress.ReplayProgress.{ReplayProgress}
 use Rattle.chip_trace.specs.Kept.{runner_at, rows_used, row_after, IsKept, MayUse}
-use Rattle.chip_trace.proofs.RowLemmas.{and_first, and_second, and_both}
+use Rattle.chip_trace.proofs.RowLemmas.{and_both}
 
 -- an edge into a vertex is an edge
 pub into_is_edge : (G : Multigraph) (v e : ℕ) → v < G.vertices → goes_into G v e ≡ true
@@ -77,19 +76,3 @@ module _ (g : ChipGame) (traces : List (List TraceRow)) (p : ReplayProgress) (v 
 
       chips : (runner_at p v).chips + count < 2 ^ 128
       chips = let a = kept.few_chips v in omega arith
-
-  -- a firing that the vertex may make
-  pub may_fire_next : (k : ℕ) → row_after traces p v ≡ Some (Fire k) → (runner_at p v).used + 1 < 2 ^ 64 → IsGame g →
-      may_fire g v (sum (runner_at p v).fires) (runner_at p v).chips k ≡ true → MayUse g traces p v (Fire k)
-  may_fire_next k next room game may =
-      record {
-        next = next;
-        met = ap (λ (r : RunnerState). may_fire g v (sum r.fires) r.chips k) (sym (kept.runners v)) ∙ may;
-        room = room;
-        fits =
-            let a = leb-true (sum (runner_at p v).fires + k) g.limit
-            (and_first (nat_le (sum (runner_at p v).fires + k) g.limit) _
-            (and_second (not (v == g.graph.sink) && nat_lt 0 k) _ may)) in
-            let b = game.low_limit in
-            omega arith;
-      }

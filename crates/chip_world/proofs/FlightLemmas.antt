@@ -4,7 +4,6 @@ use Rattle.std.proofs.Common.{◌≡◌, ◌≢◌, ℕ, ◌+◌, ◌-◌, ◌%�
 use Rattle.std.proofs.Common.{drop, ltb, lt-ltb, Result, Ok, Err, length-drop, length-take-le, Option, Some, None}
 use Rattle.std.proofs.Common.{option_to_list, refl, sym, ap, ◌∙◌, subst, arith, ⊎_elim, inl, inr}
 use Rattle.std.proofs.lemmas.List.{get_or_past, get_or_append_left, get_or_push, get_or-drop, take_more}
-use Rattle.std.proofs.Math.Seq.{take-length}
 use mathlib.Core.Logic.{dite}
 use native.Mathlib.Decide.{dec_lt}
 use Rattle.chip_part.specs.Setting.{Setting}
@@ -17,7 +16,7 @@ use Rattle.chip_part.specs.declared.rule.Rule.TheVariants.{NotClaimed}
 use Rattle.chip_part.specs.Rules.{need}
 use Rattle.chip_part.specs.Steps.{message_of}
 use Rattle.chip_part.specs.Acting.{act_of, verdict}
-use Rattle.chip_core.specs.Messages.{Message, messages_from, counts_in_flight, in_flight}
+use Rattle.chip_core.specs.Messages.{Message, messages_from, counts_in_flight}
 use Rattle.chip_core.proofs.MessageLemmas.{messages-append}
 use Rattle.chip_world.specs.SharedWords.{stored_count}
 use Rattle.chip_world.proofs.VertexLemmas.{passes}
@@ -124,13 +123,3 @@ module _ (g : Setting) (log : Log) (e : ℕ) where
       ∙ ap (λ (n : ℕ). messages_from e first (take k cs ++ n ∷ [])) (sym here)
       ∙ ap (messages_from e first) (sym (take_more cs k 0 inside))
       ∙ ap (λ (n : ℕ). messages_from e first (take n cs)) (let z : k + 1 ≡ (place + 1) - first = omega arith in z)
-
-  pub flight_all : (first claims : ℕ) (ms : List Message) → first ≡ length (into_in g log e).got
-      → claims ≡ claims_of (out_in g log e).link
-      → ms ≡ messages_from e first (take (claims - first) (counts_in_flight g log e)) → ms ≡ in_flight g log e
-  flight_all first claims ms is all so_far =
-      let long = flight_long first is in
-      so_far ∙ ap (λ (n : ℕ). messages_from e first (take n (counts_in_flight g log e)))
-      (let z : claims - first ≡ length (counts_in_flight g log e) = omega arith in z)
-      ∙ ap (messages_from e first) (take-length (counts_in_flight g log e))
-      ∙ ap (λ (n : ℕ). messages_from e n (counts_in_flight g log e)) is

@@ -309,14 +309,7 @@ got_edges End r lanes = refl
 module _ (x : Event) (rest : List Event) (r : Reply) (n new : Notes) (replies : new.replies.items ≡ n.replies.items
     ++ r ∷ []) (sent : new.sent ≡ sent_after x r n.sent) (delivered : new.delivered ≡ delivered_after x r n.delivered)
   where
-    -- room for it, and for the rest after it
-    pub rooms_one : HasRooms (x ∷ rest) n → HasRooms (x ∷ []) n
-    rooms_one has = record {
-      replies = (let a = has.replies in omega arith);
-      sent = λ e l. (let a = has.sent e l in omega arith);
-      delivered = λ e l. (let a = has.delivered e l in omega arith);
-    }
-
+    -- room for what comes after it
     pub rooms_rest : vec_capacity new.replies ≡ vec_capacity n.replies → HasRooms (x ∷ rest) n → HasRooms rest new
     rooms_rest room has = record {
       replies = (let a = has.replies in let b = ap (λ (l : List Reply). length l) replies in

@@ -1,6 +1,6 @@
 -- Serves SharedWords.antt, World.antt, Makers.antt.
 -- One step of a world.
-use Rattle.std.proofs.Common.{◌≡◌, ◌≢◌, ℕ, ◌<◌, ◌≤◌, Bool, true, false, ◌&&◌, ltb, leb, lt-ltb, le-ltb, leb-true}
+use Rattle.std.proofs.Common.{◌≡◌, ◌≢◌, ℕ, ◌<◌, ◌≤◌, Bool, true, false, ◌&&◌, ltb, leb, lt-ltb, leb-true}
 use Rattle.std.proofs.Common.{List, ◌∷◌, length, get_or, set, Option, Some, None, Result, Ok, Err, refl, sym}
 use Rattle.std.proofs.Common.{ap, ◌∙◌, subst, arith, length-set, get_or-set_same, get_or-set_other, true≢false}
 use Rattle.std.proofs.lemmas.Bool.{lt-leb}
@@ -316,11 +316,6 @@ module _ (g : Setting) (log : Log) (w : WorldState) (stands : StandsForLog g log
     root_stands = keeps;
   }
 
-  pub seal_refuses : (e : ℕ) → graph_edges g ≤ e → StandsForLog g (step g log (Seal e)).0 w
-      × (NotNow NoSuch ≡ (step g log (Seal e)).1)
-  seal_refuses e past = refuses (Seal e) NoSuch
-      (refused (ltb e (graph_edges g)) NoSuch None (le-ltb e (graph_edges g) past))
-
   pub seal_makes : (e : ℕ) → e < graph_edges g → (claims : ℕ) → claims ≡ claims_in (words_of w.words e).word
       → StandsForLog g (step g log (Seal e)).0 (record w { words = with_edge e with_seal w.words })
       × (Done claims ≡ (step g log (Seal e)).1)
@@ -449,9 +444,6 @@ module _ (g : Setting) (log : Log) (w : WorldState) (stands : StandsForLog g log
 
     pub read_inside : v < g.game.graph.vertices
     read_inside = (rules_met g (Read v) (part_in g log (root g)) read_met).0
-
-    pub read_can : (seen : ℕ) → SomeRoot w.root (λ g s. RootCanDo g s (Read v) seen)
-    read_can seen = (g, part_in g log (root g), stands.root_stands, (refl, read_met, tt))
 
     pub read_makes : (seen : ℕ) → seen ≡ word_of_part (part_in g log v) → (new : Root) (reply : Reply)
         → RootMakes w.root new (Read v) seen reply

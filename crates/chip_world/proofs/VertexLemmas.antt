@@ -33,9 +33,6 @@ passes true rule rest is = refl
 passes false rule rest is = absurd (true≢false (sym is))
 
 module _ (g : Setting) where
-  IsMaker : Event → ℕ → Type 0
-  IsMaker x v = (part_of g x ≡ v) × (v < g.game.graph.vertices)
-
   module _ (game : IsGame g.game) where
     by_head : (e v : ℕ) → head_if g e ≡ Some v → (head_of g e ≡ v) × (v < g.game.graph.vertices)
     by_head e v is = let at = given (ltb e (all_edges g)) (head_of g e) v is in

@@ -1,169 +1,185 @@
 //! Games worked out by hand, and each call once. What holds for all inputs stands in the contracts.
 
-ghost use Rattle.std.specs.Prelude.{◌≡◌, IfOk};
 ghost use Rattle.chip_sequence.specs.Sittings.{IsResumed};
 
+use crate::games::{Rows, TRIANGLE, game_of, graph_of, triangle};
 use chip_fire::{ResumeFault, Watch, plain, plain_watched, resume};
-use chip_graph::{Edge, Game, Graph};
+use chip_graph::{Game, Graph};
 use chip_sequence::{Outcome, Resumed};
-use std::alloc::Global;
 use std::process::Abort;
-use std::test::Fail;
 
-/// A graph of these edges: tail, head and chips.
-fn graph_of(
-    alloc: Global,
-    vertices: u64,
-    sink: u64,
-    rows: &[(u64, u64, u64)],
-) -> Result<Graph, Fail>
-    ensures { IfOk result (λ graph. graph.vertices ≡ vertices) }
-{
-    let mut edges = Vec::new(alloc);
-    for (tail, head, mult) in rows {
-        edges.push(Edge {
-            tail: *tail,
-            head: *head,
-            mult: *mult,
-        })?;
-    }
-    Ok(Graph::new(alloc, vertices, sink, edges)?)
-}
-
-/// The edges of the triangle.
-const TRIANGLE: [(u64, u64, u64); 4] = [(0, 1, 1), (0, 2, 1), (1, 0, 1), (1, 2, 1)];
-
-/// The game on the triangle, whose sink is 2.
-fn triangle(alloc: Global, start: &[u64], limit: u64) -> Result<Game, Fail>
-    ensures { IfOk result (λ game. game.graph.vertices ≡ 3) }
-{
-    let graph = graph_of(alloc, 3, 2, &TRIANGLE)?;
-    Ok(Game::new(graph, Vec::from_slice(alloc, start)?, limit)?)
-}
-
-/// The game with one edge, from vertex 0 to the sink.
-fn one_edge(alloc: Global, mult: u64, chips: u64) -> Result<Game, Fail> {
-    let graph = graph_of(alloc, 2, 1, &[(0, 1, mult)])?;
-    Ok(Game::new(graph, Vec::from_slice(alloc, &[chips, 0])?, 1 << 40)?)
+/// A game, and where it ends.
+struct Played {
+    name: &'static str,
+    edges: Rows,
+    start: &'static [u64],
+    limit: u64,
+    fired: &'static [u64],
+    chips: &'static [u64],
+    over: &'static [u64],
 }
 
 /// Plays a game, and compares how often each vertex fired, the chips at the end and the halted vertices.
-fn play(
-    rt: &(impl AllocGlobal + Abort),
-    game: &Game,
-    fired: &[u64],
-    chips: &[u64],
-    over: &[u64],
-) -> Result<(), Fail> {
-    let outcome = plain(rt.alloc(), game)?;
-    assert_eq!(rt; outcome.fired.as_slice(), fired);
-    assert_eq!(rt; outcome.chips.as_slice(), chips);
-    assert_eq!(rt; outcome.over.as_slice(), over);
-    assert!(rt; outcome.sealed.is_empty());
-    Ok(())
+fn plays(rt: &(impl AllocGlobal + Abort), played: &Played) {
+    let game = game_of(rt, played.edges, played.start, played.limit);
+    let outcome = plain(rt.alloc(), &game).expect(rt, "memory");
+    let same = outcome.fired.as_slice() == played.fired
+        && outcome.chips.as_slice() == played.chips
+        && outcome.over.as_slice() == played.over
+        && outcome.sealed.is_empty();
+    assert!(rt;
+        same,
+        "{}: fired {:?}, chips {:?}, over {:?}",
+        played.name, outcome.fired, outcome.chips, outcome.over
+    );
 }
 
-#[test]
-fn one_chip_short(rt: HostRuntime) -> Result<(), Fail> {
-    let game = triangle(rt.alloc(), &[3, 0, 0], 1 << 40)?;
-    play(&rt, &game, &[1, 0, 0], &[1, 1, 1], &[])
-}
+const LARGEST: u64 = 1_099_511_627_776;
+
+const PLAYED: &[&Played] = &[
+    &Played {
+        name: "one chip short",
+        edges: TRIANGLE,
+        start: &[3, 0, 0],
+        limit: 1 << 40,
+        fired: &[1, 0, 0],
+        chips: &[1, 1, 1],
+        over: &[],
+    },
+    &Played {
+        name: "small triangle",
+        edges: TRIANGLE,
+        start: &[4, 0, 0],
+        limit: 1 << 40,
+        fired: &[2, 1, 0],
+        chips: &[1, 0, 3],
+        over: &[],
+    },
+    &Played {
+        name: "fires again",
+        edges: TRIANGLE,
+        start: &[5, 0, 0],
+        limit: 1 << 40,
+        fired: &[3, 1, 0],
+        chips: &[0, 1, 4],
+        over: &[],
+    },
+    &Played {
+        name: "six chips",
+        edges: TRIANGLE,
+        start: &[6, 0, 0],
+        limit: 1 << 40,
+        fired: &[3, 1, 0],
+        chips: &[1, 1, 4],
+        over: &[],
+    },
+    &Played {
+        name: "batch of two",
+        edges: &[(0, 1, 3)],
+        start: &[7, 0],
+        limit: 1 << 40,
+        fired: &[2, 0],
+        chips: &[1, 6],
+        over: &[],
+    },
+    &Played {
+        name: "largest total",
+        edges: &[(0, 1, 1)],
+        start: &[LARGEST, 0],
+        limit: 1 << 40,
+        fired: &[LARGEST, 0],
+        chips: &[0, LARGEST],
+        over: &[],
+    },
+];
 
 #[test]
-fn small_triangle(rt: HostRuntime) -> Result<(), Fail> {
-    let game = triangle(rt.alloc(), &[4, 0, 0], 1 << 40)?;
-    play(&rt, &game, &[2, 1, 0], &[1, 0, 3], &[])
+fn small_games(rt: HostRuntime) {
+    for played in PLAYED {
+        plays(&rt, played);
+    }
 }
 
-#[test]
-fn fires_again(rt: HostRuntime) -> Result<(), Fail> {
-    let game = triangle(rt.alloc(), &[5, 0, 0], 1 << 40)?;
-    play(&rt, &game, &[3, 1, 0], &[0, 1, 4], &[])
-}
+const LIMIT_OF_TWO: &Played = &Played {
+    name: "limit of two",
+    edges: TRIANGLE,
+    start: &[5, 0, 0],
+    limit: 2,
+    fired: &[2, 1, 0],
+    chips: &[2, 0, 3],
+    over: &[0],
+};
 
 #[test]
-fn limit_of_two(rt: HostRuntime) -> Result<(), Fail> {
-    let game = triangle(rt.alloc(), &[5, 0, 0], 2)?;
-    play(&rt, &game, &[2, 1, 0], &[2, 0, 3], &[0])
-}
-
-#[test]
-fn batch_of_two(rt: HostRuntime) -> Result<(), Fail> {
-    let game = one_edge(rt.alloc(), 3, 7)?;
-    play(&rt, &game, &[2, 0], &[1, 6], &[])
-}
-
-#[test]
-fn largest_total(rt: HostRuntime) -> Result<(), Fail> {
-    let largest = 1_099_511_627_776;
-    let game = one_edge(rt.alloc(), 1, largest)?;
-    play(&rt, &game, &[largest, 0], &[0, largest], &[])
-}
-
-#[test]
-fn six_chips(rt: HostRuntime) -> Result<(), Fail> {
-    let game = triangle(rt.alloc(), &[6, 0, 0], 1 << 40)?;
-    play(&rt, &game, &[3, 1, 0], &[1, 1, 4], &[])
+fn limit_of_two(rt: HostRuntime) {
+    plays(&rt, LIMIT_OF_TWO);
 }
 
 /// The last vertex of a long path.
 const END: u64 = 4_095;
 
 /// As many vertices as there may be, on a path whose ends lose chips to its sink, the last vertex.
-fn long_path(alloc: Global) -> Result<Graph, Fail> {
-    let mut rows = Vec::new(alloc);
+fn long_path(rt: &(impl AllocGlobal + Abort)) -> Box<Graph> {
+    let mut rows = Vec::new(rt.alloc());
     for vertex in 0..END {
-        rows.push((vertex, vertex + 1, 1))?;
-        rows.push((vertex, vertex.checked_sub(1).unwrap_or(END), 1))?;
+        rows.push((vertex, vertex + 1, 1)).expect(rt, "memory");
+        rows.push((vertex, vertex.checked_sub(1).unwrap_or(END), 1))
+            .expect(rt, "memory");
     }
-    graph_of(alloc, END + 1, END, &rows)
+    graph_of(rt, END + 1, END, &rows)
 }
 
 /// 2^20 chips in the middle of the path: firing alone would take minutes.
-fn long_game(alloc: Global, limit: u64) -> Result<Game, Fail> {
-    let mut start = vec![in alloc; 0; 4_096]?;
+fn long_game(rt: &(impl AllocGlobal + Abort), limit: u64) -> Box<Game> {
+    let mut start = vec![in rt.alloc(); 0; 4_096].expect(rt, "memory");
     if let Some(chips) = start.get_mut(2_047) {
         *chips = 1 << 20;
     }
-    Ok(Game::new(long_path(alloc)?, start, limit)?)
+    let game = Game::new(Box::into_inner(long_path(rt)), start, limit).expect(rt, "a game");
+    Box::new(rt.alloc(), game).expect(rt, "memory")
 }
 
 /// The chips in the middle, at the first vertex and on the sink, once nothing may fire.
 fn long_path_ends(rt: &impl Abort, outcome: &Outcome) {
-    assert_eq!(rt; outcome.chips.get(2_047).copied(), Some(0));
-    assert_eq!(rt; outcome.chips.get(0).copied(), Some(1));
-    assert_eq!(rt; outcome.chips.get(4_095).copied(), Some(1_044_482));
+    assert!(rt; outcome.chips.get(2_047).copied() == Some(0));
+    assert!(rt; outcome.chips.get(0).copied() == Some(1));
+    assert!(rt; outcome.chips.get(4_095).copied() == Some(1_044_482));
     assert!(rt; outcome.over.is_empty());
 }
 
 #[test]
-fn plays_a_long_path(rt: HostRuntime) -> Result<(), Fail> {
+fn plays_a_long_path(rt: HostRuntime) {
     let mut told = Told::nothing();
-    let game = long_game(rt.alloc(), 1 << 40)?;
-    let outcome = plain_watched(rt.alloc(), &game, &mut told)?;
-    assert_eq!(&rt; outcome.fired.get(2_047).copied(), Some(1_071_645_696));
-    assert_eq!(&rt; outcome.fired.get(0).copied(), Some(522_241));
+    let game = long_game(&rt, 1 << 40);
+    let outcome = plain_watched(rt.alloc(), &game, &mut told).expect(&rt, "memory");
+    assert!(rt; outcome.fired.get(2_047).copied() == Some(1_071_645_696));
+    assert!(rt; outcome.fired.get(0).copied() == Some(522_241));
     long_path_ends(&rt, &outcome);
-    assert!(&rt; told.times > 1, "told on the way, and not at the end alone");
-    assert_eq!(&rt;
-        told.firings,
-        all_firings(&outcome.fired),
+    assert!(rt; told.times > 1, "told on the way, and not at the end alone");
+    assert!(rt;
+        told.firings == all_firings(&outcome.fired),
         "told of the end"
     );
-    Ok(())
+}
+
+/// The first sitting of a play.
+fn first_sitting(rt: &(impl AllocGlobal + Abort), game: &Game) -> Resumed
+    ensures { IsResumed result }
+{
+    let outcome = plain(rt.alloc(), game).expect(rt, "memory");
+    Resumed::first(rt.alloc(), outcome).expect(rt, "memory")
 }
 
 /// At first each vertex may fire once, and then as often as it can: the counts add up to those of one sitting.
 #[test]
-fn a_long_path_in_two_sittings(rt: HostRuntime) -> Result<(), Fail> {
-    let alloc = rt.alloc();
-    let first = Resumed::first(alloc, plain(alloc, &long_game(alloc, 1)?)?)?;
-    assert_eq!(&rt; first.outcome.over.as_slice(), [2_047].as_slice());
-    let last = resume(alloc, long_path(alloc)?, &first, 1 << 40)?;
-    assert_eq!(&rt; last.prior.get(2_047).copied(), Some(1));
-    assert_eq!(&rt; last.outcome.fired.get(2_047).copied(), Some(1_071_645_695));
+fn a_long_path_in_two_sittings(rt: HostRuntime) {
+    let first = first_sitting(&rt, &long_game(&rt, 1));
+    assert!(rt; first.outcome.over.as_slice() == [2_047].as_slice());
+    let path = Box::into_inner(long_path(&rt));
+    let last = resume(rt.alloc(), path, &first, 1 << 40).expect(&rt, "a sitting");
+    assert!(rt; last.prior.get(2_047).copied() == Some(1));
+    assert!(rt; last.outcome.fired.get(2_047).copied() == Some(1_071_645_695));
     long_path_ends(&rt, &last.outcome);
-    Ok(())
 }
 
 /// How often it was told something, of how many rounds in all, and how many firings there were after the last of them.
@@ -201,26 +217,30 @@ fn all_firings(fired: &[u64]) -> u64 {
     all
 }
 
-fn expect_same(rt: &impl Abort, outcome: &Outcome, other: &Outcome) {
-    assert_eq!(rt; outcome.fired.as_slice(), other.fired.as_slice());
-    assert_eq!(rt; outcome.chips.as_slice(), other.chips.as_slice());
-    assert_eq!(rt; outcome.over.as_slice(), other.over.as_slice());
-    assert_eq!(rt; outcome.sealed.as_slice(), other.sealed.as_slice());
+/// Whether two outcomes are the same.
+fn is_same(outcome: &Outcome, other: &Outcome) -> bool {
+    outcome.fired.as_slice() == other.fired.as_slice()
+        && outcome.chips.as_slice() == other.chips.as_slice()
+        && outcome.over.as_slice() == other.over.as_slice()
+        && outcome.sealed.as_slice() == other.sealed.as_slice()
 }
 
 /// Plays a game as `plain` does, and compares of how many rounds it was told in all, and of how many firings.
-fn expect_rounds(
-    rt: &(impl AllocGlobal + Abort),
-    game: &Game,
-    rounds: u64,
-    firings: u64,
-) -> Result<(), Fail> {
+fn expect_rounds(rt: &(impl AllocGlobal + Abort), game: &Game, rounds: u64, firings: u64) {
     let mut told = Told::nothing();
-    let outcome = plain_watched(rt.alloc(), game, &mut told)?;
-    expect_same(rt, &outcome, &plain(rt.alloc(), game)?);
-    assert_eq!(rt; told.rounds, rounds);
-    assert_eq!(rt; told.firings, firings);
-    Ok(())
+    let outcome = plain_watched(rt.alloc(), game, &mut told).expect(rt, "memory");
+    let other = plain(rt.alloc(), game).expect(rt, "memory");
+    assert!(rt; is_same(&outcome, &other));
+    assert!(rt;
+        told.rounds == rounds,
+        "{} rounds, not {rounds}",
+        told.rounds
+    );
+    assert!(rt;
+        told.firings == firings,
+        "{} firings, not {firings}",
+        told.firings
+    );
 }
 
 /// The chips on vertex 0, how many rounds they take, and how many firings.
@@ -228,24 +248,22 @@ const ROUNDS: [(u64, u64, u64); 4] = [(0, 0, 0), (3, 1, 1), (4, 1, 3), (5, 2, 4)
 
 /// In the first round vertex 0 fires as often as it can and then vertex 1; five chips take a second round.
 #[test]
-fn watched(rt: HostRuntime) -> Result<(), Fail> {
+fn watched(rt: HostRuntime) {
     for (chips, rounds, firings) in ROUNDS {
-        let game = triangle(rt.alloc(), &[chips, 0, 0], 1 << 40)?;
-        expect_rounds(&rt, &game, rounds, firings)?;
+        let game = game_of(&rt, TRIANGLE, &[chips, 0, 0], 1 << 40);
+        expect_rounds(&rt, &game, rounds, firings);
     }
-    Ok(())
 }
 
 /// Vertex 0 sends all its chips to vertex 1, which sends half of them back. So 2^39 chips on vertex 0 take 39 rounds
 /// until one is left, and that one takes a round more. Vertex 0 fires 2^39 + .. + 2 + 1 times, and vertex 1 fires
 /// 2^38 + .. + 2 + 1 times. About half way it is judged whether the play goes on by rounds, and it does.
 #[test]
-fn rounds_before_and_after_a_judgement(rt: HostRuntime) -> Result<(), Fail> {
-    let graph = graph_of(rt.alloc(), 3, 2, &[(0, 1, 1), (1, 0, 1), (1, 2, 1)])?;
-    let start = Vec::from_slice(rt.alloc(), &[1 << 39, 0, 0])?;
-    let game = Game::new(graph, start, 1 << 40)?;
+fn rounds_before_and_after_a_judgement(rt: HostRuntime) {
+    let edges = [(0, 1, 1), (1, 0, 1), (1, 2, 1)];
+    let game = game_of(&rt, &edges, &[1 << 39, 0, 0], 1 << 40);
     let firings = (1 << 40) - 1 + (1 << 39) - 1;
-    expect_rounds(&rt, &game, 40, firings)
+    expect_rounds(&rt, &game, 40, firings);
 }
 
 /// Vertices 0 and 1 fire by 2^20 chips, and vertex 1 sends one of them to the sink. Vertex 0 has less than twice that, so
@@ -255,7 +273,7 @@ fn rounds_before_and_after_a_judgement(rt: HostRuntime) -> Result<(), Fail> {
 /// burning test, since by the edge from vertex 2, which never fires, the in-degree of vertex 0 is above its degree; and
 /// not the other, since vertex 0 would lack two chips or more. So the rounds go on as they were.
 #[test]
-fn rounds_before_and_after_a_search(rt: HostRuntime) -> Result<(), Fail> {
+fn rounds_before_and_after_a_search(rt: HostRuntime) {
     let most = 1 << 20;
     let edges = [
         (0, 1, most),
@@ -264,10 +282,8 @@ fn rounds_before_and_after_a_search(rt: HostRuntime) -> Result<(), Fail> {
         (2, 0, 2),
         (2, 3, 1),
     ];
-    let graph = graph_of(rt.alloc(), 4, 3, &edges)?;
-    let start = Vec::from_slice(rt.alloc(), &[2 * most - 2, 0, 0, 0])?;
-    let game = Game::new(graph, start, 1 << 40)?;
-    expect_rounds(&rt, &game, most - 1, 2 * (most - 1))
+    let game = game_of(&rt, &edges, &[2 * most - 2, 0, 0, 0], 1 << 40);
+    expect_rounds(&rt, &game, most - 1, 2 * (most - 1));
 }
 
 /// Goes on with a play on the triangle, and compares what the sitting fired, the chips at its end and what was fired
@@ -279,35 +295,38 @@ fn go_on(
     fired: &[u64],
     chips: &[u64],
     prior: &[u64],
-) -> Result<Resumed, Fail>
+) -> Resumed
     requires { IsResumed earlier.now }
-    ensures { IfOk result IsResumed }
+    ensures { IsResumed result }
 {
-    let graph = graph_of(rt.alloc(), 3, 2, &TRIANGLE)?;
-    let resumed = resume(rt.alloc(), graph, earlier, limit)?;
-    assert_eq!(rt; resumed.outcome.fired.as_slice(), fired);
-    assert_eq!(rt; resumed.outcome.chips.as_slice(), chips);
-    assert_eq!(rt; resumed.prior.as_slice(), prior);
-    Ok(resumed)
+    let graph = Box::into_inner(triangle(rt));
+    let resumed = resume(rt.alloc(), graph, earlier, limit).expect(rt, "a sitting");
+    assert!(rt; resumed.outcome.fired.as_slice() == fired);
+    assert!(rt; resumed.outcome.chips.as_slice() == chips);
+    assert!(rt; resumed.prior.as_slice() == prior);
+    resumed
+}
+
+/// The first sitting of five chips on vertex 0 of the triangle, whose vertices fire up to twice.
+fn five_chips(rt: &(impl AllocGlobal + Abort)) -> Resumed
+    ensures { IsResumed result }
+{
+    first_sitting(rt, &game_of(rt, TRIANGLE, &[5, 0, 0], 2))
 }
 
 #[test]
-fn three_sittings(rt: HostRuntime) -> Result<(), Fail> {
-    let alloc = rt.alloc();
-    let first = Resumed::first(alloc, plain(alloc, &triangle(alloc, &[5, 0, 0], 2)?)?)?;
-    let second = go_on(&rt, &first, 0, &[0, 0, 0], &[2, 0, 3], &[2, 1, 0])?;
-    assert_eq!(&rt; second.outcome.over.as_slice(), [0].as_slice());
-    let third = go_on(&rt, &second, 1 << 40, &[1, 0, 0], &[0, 1, 4], &[2, 1, 0])?;
-    assert!(&rt; third.outcome.over.is_empty());
-    Ok(())
+fn three_sittings(rt: HostRuntime) {
+    let first = five_chips(&rt);
+    let second = go_on(&rt, &first, 0, &[0, 0, 0], &[2, 0, 3], &[2, 1, 0]);
+    assert!(rt; second.outcome.over.as_slice() == [0].as_slice());
+    let third = go_on(&rt, &second, 1 << 40, &[1, 0, 0], &[0, 1, 4], &[2, 1, 0]);
+    assert!(rt; third.outcome.over.is_empty());
 }
 
 #[test]
-fn another_graph(rt: HostRuntime) -> Result<(), Fail> {
-    let alloc = rt.alloc();
-    let first = Resumed::first(alloc, plain(alloc, &triangle(alloc, &[5, 0, 0], 2)?)?)?;
-    let graph = graph_of(alloc, 2, 1, &[(0, 1, 1)])?;
-    let answer = resume(alloc, graph, &first, (1 << 40) + 1);
-    assert!(&rt; matches!(answer, Err(ResumeFault::Mismatch)));
-    Ok(())
+fn another_graph(rt: HostRuntime) {
+    let first = five_chips(&rt);
+    let graph = Box::into_inner(graph_of(&rt, 2, 1, &[(0, 1, 1)]));
+    let answer = resume(rt.alloc(), graph, &first, (1 << 40) + 1);
+    assert!(rt; matches!(answer, Err(ResumeFault::Mismatch)));
 }

@@ -4,6 +4,8 @@
 #[cfg(test)]
 mod fire;
 #[cfg(test)]
+mod games;
+#[cfg(test)]
 mod graph;
 #[cfg(test)]
 mod sequence;

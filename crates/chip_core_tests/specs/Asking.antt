@@ -1,16 +1,16 @@
 -- Lists of events and of operations of one vertex, each with a word that it may see: what the tests give to an actor.
 -- The tests of a list compute.
-use Rattle.std.specs.Prelude.{ℕ, ◌+◌, ◌-◌, Bool, true, ◌&&◌, ◌||◌, ◌==◌, nat_lt, nat_le, List, [], ◌∷◌}
+use Rattle.std.specs.Prelude.{ℕ, ◌+◌, ◌-◌, Bool, true, ◌&&◌, ◌||◌, ◌==◌, nat_lt, nat_le, List, [], ◌∷◌, false}
 use Rattle.std.specs.Prelude.{length, map, is_some}
 use Rattle.chip_graph.specs.Limits.{max_total, max_limit}
 use Rattle.chip_graph.specs.declared.edge.Edge.{Edge}
 use Rattle.chip_graph.specs.ChipGame.{ChipGame}
-use Rattle.chip_part.specs.Setting.{Setting}
+use Rattle.chip_part.specs.Setting.{Setting, setting_with}
 use Rattle.chip_part.specs.Worked.{edge}
 use Rattle.chip_link.specs.Words.{claims_in}
 use Rattle.chip_link.specs.Link.{claims_of}
 use Rattle.chip_detect.specs.Tally.{message_limit}
-use Rattle.chip_part.specs.Part.{Part}
+use Rattle.chip_part.specs.Part.{Part, opened}
 use Rattle.chip_part.specs.Rules.{Event, Take, Claim, Settle, unmet}
 use Rattle.chip_part.specs.declared.reply.Reply.{Reply}
 use Rattle.chip_part.specs.Steps.{part_of, does, asked, saw}
@@ -46,10 +46,19 @@ may_play g v s (x ∷ xs) turn = may_ask g v s x.0 x.1
 abbrev pub edge_of : ℕ × ℕ → Edge
 edge_of ends = edge ends.0 ends.1
 
-abbrev pub game_on : ℕ → List (ℕ × ℕ) → List ℕ → ChipGame
-game_on vertices ends start =
+abbrev pub game_on : List (ℕ × ℕ) → List ℕ → ChipGame
+game_on ends start =
     record {
-      graph = record { vertices = vertices; sink = vertices - 1; edges = map edge_of ends };
+      graph = record { vertices = length start; sink = length start - 1; edges = map edge_of ends };
       start = start;
       limit = max_limit;
     }
+
+-- that game with rings of one cell, and whether it is fed
+abbrev pub setting_on : List (ℕ × ℕ) → List ℕ → Bool → Setting
+setting_on ends start fed = setting_with (game_on ends start) 1 fed
+
+-- the vertex may play so from the opening of that game
+abbrev pub may_play_new : List (ℕ × ℕ) → List ℕ → ℕ → List (Event × ℕ × Reply) → List (Act × ℕ) → Bool
+may_play_new ends start v xs turn =
+    let g = setting_on ends start false in may_play g v (opened g) xs turn

@@ -1,14 +1,14 @@
 -- What the root may be asked for and may see, and what it answers then: what its tests go by.
-use Rattle.std.specs.Prelude.{◌≡◌, ℕ, Bool, true, ◌&&◌, ◌||◌, ◌==◌, List, [], ◌∷◌, is_some}
+use Rattle.std.specs.Prelude.{◌≡◌, ℕ, Bool, true, false, ◌&&◌, ◌||◌, ◌==◌, List, [], ◌∷◌, is_some}
 use Rattle.chip_part.specs.Setting.{Setting}
 use Rattle.chip_part.specs.Edges.{root_edge}
 use Rattle.chip_link.specs.Link.{claims_of}
-use Rattle.chip_part.specs.Part.{Part}
+use Rattle.chip_part.specs.Part.{Part, opened}
 use Rattle.chip_part.specs.Rules.{Event, Settle, Feed, End, unmet}
 use Rattle.chip_part.specs.declared.reply.Reply.{Reply}
 use Rattle.chip_part.specs.Steps.{asked, saw}
 use Rattle.chip_part.specs.Acting.{is_of_root}
-use Rattle.chip_core_tests.specs.Asking.{fits_seen}
+use Rattle.chip_core_tests.specs.Asking.{fits_seen, setting_on}
 use Rattle.chip_root.specs.Root.{Root, RootStandsFor, WhateverRoot}
 
 -- what an event of the root may see
@@ -33,3 +33,11 @@ RootAnswers old new x seen reply =
     WhateverRoot old (λ g s. may_ask_root g s x seen ≡ true
     → RootStandsFor g (asked g (saw x seen) s (unmet g x s)).0 new
     × (reply ≡ (asked g (saw x seen) s (unmet g x s)).1))
+
+-- the root may be asked so from the opening of a game
+abbrev pub may_play_root_new : List (ℕ × ℕ) → List ℕ → Bool → List (Event × ℕ × Reply) → Bool
+may_play_root_new ends start fed xs = let g = setting_on ends start fed in may_play_root g (opened g) xs
+
+-- the triangle with four chips on vertex 0, and rings of one cell
+abbrev pub four_chips : Setting
+four_chips = setting_on ((0, 1) ∷ (0, 2) ∷ (1, 0) ∷ (1, 2) ∷ []) (4 ∷ 0 ∷ 0 ∷ []) false

@@ -1,43 +1,16 @@
 //! The calls on small games, reply for reply and operation for operation.
 
-ghost use Rattle.std.specs.Prelude.{◌≡◌, ◌≢◌, ◌<◌, IsTrue, IfOk};
-ghost use Rattle.chip_actor.specs.Actor.{SomePart};
-ghost use Rattle.chip_core_tests.specs.Asking.{may_ask, may_play, may_see_all, game_on};
+ghost use Rattle.std.specs.Prelude.{◌≡◌, ◌≢◌, ◌<◌, false, IsTrue, length};
+ghost use Rattle.chip_actor.specs.Actor.{SomePart, StandsFor};
 ghost use Rattle.chip_core_tests.specs.ActorAsking.{Answers};
+ghost use Rattle.chip_core_tests.specs.Asking.{may_ask, may_play, may_see_all, may_play_new, setting_on};
+ghost use Rattle.chip_part.specs.Part.{opened};
 
+use crate::games::{TRIANGLE, fire, got, made_game, message, sent};
 use chip_actor::ActorState;
-use chip_graph::{Edge, Game, Graph};
 use chip_link::{Event, Message, Ring};
 use chip_part::{Act, Cause, Cursor, Observed, Reply, Rule};
-use std::alloc::Global;
 use std::process::Abort;
-use std::test::Fail;
-
-/// The game on these edges, which send one chip for each firing. The sink is the last vertex.
-fn game_of(alloc: Global, vertices: u64, ends: &[(u64, u64)], start: &[u64]) -> Result<Game, Fail>
-    requires { 0 < vertices }
-    ensures { IfOk result (λ game. game ≡ game_on vertices ends.now start.now) }
-{
-    let mut rows = Vec::new(alloc);
-    for i in 0..ends.len() {
-        let (tail, head) = ends[i];
-        rows.push(Edge {
-            tail,
-            head,
-            mult: 1,
-        })?;
-    }
-    let graph = Graph::new(alloc, vertices, vertices - 1, rows)?;
-    Ok(Game::new(graph, Vec::from_slice(alloc, start)?, 1 << 40)?)
-}
-
-fn got(edge: u64, place: u64, count: u64) -> Reply {
-    Reply::Got(Message { edge, place, count })
-}
-
-fn sent(edge: u64, place: u64, count: u64) -> Reply {
-    Reply::Sent(Message { edge, place, count })
-}
 
 /// Asks for an event, which is made where its rules are met.
 fn ask(actor: &mut ActorState, event: Event, seen: u64) -> Reply
@@ -127,142 +100,168 @@ fn play(
     make_turn(rt, actor, turn)
 }
 
+/// A vertex of the game on these edges, as it opens with rings of one cell.
+fn new_actor(
+    rt: &(impl AllocGlobal + Abort),
+    ends: &[(u64, u64)],
+    start: &[u64],
+    vertex: u64,
+) -> Box<ActorState>
+    requires { vertex < length start.now }
+    ensures vertex { result.value.vertex ≡ vertex }
+    ensures opened { let g = setting_on ends.now start.now false in StandsFor g (opened g) result.value }
+{
+    let game = made_game(rt, ends, start);
+    let actor = ActorState::new(rt.alloc(), &game, vertex, Ring::one()).expect(rt, "memory");
+    Box::new(rt.alloc(), actor).expect(rt, "memory")
+}
+
+/// Plays a vertex of the game on these edges from its opening on. The answer is the actor then, and how many of the
+/// turn's operations count.
+fn play_new(
+    rt: &(impl AllocGlobal + Abort),
+    ends: &[(u64, u64)],
+    start: &[u64],
+    vertex: u64,
+    questions: &[(Event, u64, Reply)],
+    turn: &[(Act, u64)],
+) -> (Box<ActorState>, usize)
+    requires vertex { vertex < length start.now }
+    requires plays { IsTrue (may_play_new ends.now start.now vertex questions.now turn.now) }
+{
+    let mut actor = new_actor(rt, ends, start, vertex);
+    let counted = play(rt, &mut actor, questions, turn);
+    (actor, counted)
+}
+
+/// A chain of two edges to the sink 2.
+const CHAIN: [(u64, u64); 2] = [(0, 1), (1, 2)];
+
+/// Two edges from vertex 0 to the sink 1.
+const TWICE: [(u64, u64); 2] = [(0, 1), (0, 1)];
+
+/// A ring of one cell that is full.
+const FULL_RING: [(Event, u64, Reply); 7] = [
+    (Event::Take(2), 3, got!(2, 0, 3)),
+    (fire!(0, 1), 0, Reply::Done(1)),
+    (Event::Clear(0), 0, Reply::Done(0)),
+    (Event::Claim(0), 0, sent!(0, 0, 1)),
+    (Event::Put(0), 0, Reply::Done(1)),
+    (fire!(0, 1), 1, Reply::Done(2)),
+    (Event::Clear(0), 1, Reply::Full),
+];
+
 #[test]
-fn full_ring(rt: HostRuntime) -> Result<(), Fail> {
-    let game = game_of(rt.alloc(), 3, &[(0, 1), (1, 2)], &[3, 0, 0])?;
-    let mut actor = ActorState::new(rt.alloc(), &game, 0, Ring::one())?;
-    let script = [
-        (Event::Take(2), 3, got(2, 0, 3)),
-        (Event::Fire { vertex: 0, k: 1 }, 0, Reply::Done(1)),
-        (Event::Clear(0), 0, Reply::Done(0)),
-        (Event::Claim(0), 0, sent(0, 0, 1)),
-        (Event::Put(0), 0, Reply::Done(1)),
-        (Event::Fire { vertex: 0, k: 1 }, 1, Reply::Done(2)),
-        (Event::Clear(0), 1, Reply::Full),
-    ];
-    play(&rt, &mut actor, &script, &[]);
-    assert_eq!(rt; actor.chips(), 1);
-    assert_eq!(rt; actor.fired(), 2);
+fn full_ring(rt: HostRuntime) {
+    let (actor, _) = play_new(&rt, &CHAIN, &[3, 0, 0], 0, &FULL_RING, &[]);
+    assert!(rt; actor.chips() == 1);
+    assert!(rt; actor.fired() == 2);
     assert!(rt; !actor.passive());
-    Ok(())
 }
 
+/// The edge to the sink is sealed before the firing that would go over it.
+const SEALED_HALF_WAY: [(Event, u64, Reply); 8] = [
+    (Event::Take(4), 4, got!(4, 0, 4)),
+    (fire!(0, 2), 0, Reply::Done(2)),
+    (Event::Clear(0), 0, Reply::Done(0)),
+    (Event::Claim(0), 0, sent!(0, 0, 2)),
+    (Event::Put(0), 0, Reply::Done(2)),
+    (Event::Clear(1), 0, Reply::Done(0)),
+    (Event::Claim(1), 1 << 63, Reply::Sealed),
+    (Event::Halt(0), 2, Reply::Done(0)),
+];
+
 #[test]
-fn sealed_half_way(rt: HostRuntime) -> Result<(), Fail> {
-    let game = game_of(rt.alloc(), 3, &[(0, 1), (0, 2), (1, 0), (1, 2)], &[4, 0, 0])?;
-    let mut actor = ActorState::new(rt.alloc(), &game, 0, Ring::one())?;
-    let script = [
-        (Event::Take(4), 4, got(4, 0, 4)),
-        (Event::Fire { vertex: 0, k: 2 }, 0, Reply::Done(2)),
-        (Event::Clear(0), 0, Reply::Done(0)),
-        (Event::Claim(0), 0, sent(0, 0, 2)),
-        (Event::Put(0), 0, Reply::Done(2)),
-        (Event::Clear(1), 0, Reply::Done(0)),
-        (Event::Claim(1), 1 << 63, Reply::Sealed),
-        (Event::Halt(0), 2, Reply::Done(0)),
-    ];
-    play(&rt, &mut actor, &script, &[]);
+fn sealed_half_way(rt: HostRuntime) {
+    let (actor, _) = play_new(&rt, &TRIANGLE, &[4, 0, 0], 0, &SEALED_HALF_WAY, &[]);
     assert!(rt; actor.halted() == Some(Cause::SealedEdge));
-    assert_eq!(rt; actor.fired(), 2);
+    assert!(rt; actor.fired() == 2);
     assert!(rt; actor.passive());
-    assert_eq!(rt; actor.detect().deficit(), 1);
-    Ok(())
+    assert!(rt; actor.detect().deficit() == 1);
 }
 
+/// A vertex that was engaged by the last of two messages.
+const ENGAGING_MESSAGE_LAST: [(Event, u64, Reply); 5] = [
+    (Event::Take(0), 1, got!(0, 0, 1)),
+    (Event::Take(1), 1, got!(1, 0, 1)),
+    (Event::Ack(0), 0, Reply::NotNow(Rule::Engaged)),
+    (Event::Ack(1), 0, Reply::Done(1)),
+    (Event::Ack(0), 0, Reply::Done(1)),
+];
+
 #[test]
-fn engaging_message_last(rt: HostRuntime) -> Result<(), Fail> {
-    let game = game_of(rt.alloc(), 2, &[(0, 1), (0, 1)], &[2, 0])?;
-    let mut actor = ActorState::new(rt.alloc(), &game, 1, Ring::one())?;
-    let script = [
-        (Event::Take(0), 1, got(0, 0, 1)),
-        (Event::Take(1), 1, got(1, 0, 1)),
-        (Event::Ack(0), 0, Reply::NotNow(Rule::Engaged)),
-        (Event::Ack(1), 0, Reply::Done(1)),
-        (Event::Ack(0), 0, Reply::Done(1)),
-    ];
-    play(&rt, &mut actor, &script, &[]);
+fn engaging_message_last(rt: HostRuntime) {
+    let (actor, _) = play_new(&rt, &TWICE, &[2, 0], 1, &ENGAGING_MESSAGE_LAST, &[]);
     assert!(rt; !actor.detect().engaged());
-    assert_eq!(rt; actor.chips(), 2);
-    Ok(())
+    assert!(rt; actor.chips() == 2);
 }
 
-#[test]
-fn first_turn(rt: HostRuntime) -> Result<(), Fail> {
-    let game = game_of(rt.alloc(), 3, &[(0, 1), (0, 2), (1, 0), (1, 2)], &[4, 0, 0])?;
-    let mut actor = ActorState::new(rt.alloc(), &game, 0, Ring::one())?;
-    let script = [
-        (Act::Take { edge: 2, cell: 0 }, 0),
-        (Act::Take { edge: 4, cell: 0 }, 4),
-        (Act::Settle { edge: 0 }, 0),
-        (Act::Settle { edge: 1 }, 0),
-        (Act::Fire { k: 2 }, 0),
-        (Act::Clear { edge: 0, cell: 0 }, 0),
-        (
-            Act::Claim {
-                edge: 0,
-                expected: 0,
-                new: 1,
-            },
-            0,
-        ),
-        (
-            Act::Put {
-                edge: 0,
-                cell: 0,
-                value: 2,
-            },
-            0,
-        ),
-        (Act::Clear { edge: 1, cell: 0 }, 0),
-        (
-            Act::Claim {
-                edge: 1,
-                expected: 0,
-                new: 1,
-            },
-            0,
-        ),
-        (
-            Act::Put {
-                edge: 1,
-                cell: 0,
-                value: 2,
-            },
-            0,
-        ),
-    ];
-    assert_eq!(rt; play(&rt, &mut actor, &[], &script), 6);
-    Ok(())
+/// The operation that claims a message on this edge, the first one.
+macro_rules! claim {
+    ($edge:expr) => {
+        Act::Claim {
+            edge: $edge,
+            expected: 0,
+            new: 1,
+        }
+    };
 }
 
+/// The operation that puts so many chips into the first cell of this edge.
+macro_rules! put {
+    ($edge:expr, $value:expr) => {
+        Act::Put {
+            edge: $edge,
+            cell: 0,
+            value: $value,
+        }
+    };
+}
+
+/// A whole turn of vertex 0 with four chips.
+const FIRST_TURN: [(Act, u64); 11] = [
+    (Act::Take { edge: 2, cell: 0 }, 0),
+    (Act::Take { edge: 4, cell: 0 }, 4),
+    (Act::Settle { edge: 0 }, 0),
+    (Act::Settle { edge: 1 }, 0),
+    (Act::Fire { k: 2 }, 0),
+    (Act::Clear { edge: 0, cell: 0 }, 0),
+    (claim!(0), 0),
+    (put!(0, 2), 0),
+    (Act::Clear { edge: 1, cell: 0 }, 0),
+    (claim!(1), 0),
+    (put!(1, 2), 0),
+];
+
 #[test]
-fn turn_begun_in_the_middle(rt: HostRuntime) -> Result<(), Fail> {
-    let game = game_of(rt.alloc(), 3, &[(0, 1), (0, 2), (1, 0), (1, 2)], &[6, 0, 0])?;
-    let mut actor = ActorState::new(rt.alloc(), &game, 0, Ring::one())?;
-    let before = [
-        (Event::Take(4), 6, got(4, 0, 6)),
-        (Event::Fire { vertex: 0, k: 2 }, 0, Reply::Done(2)),
-        (Event::Clear(0), 0, Reply::Done(0)),
-        (Event::Claim(0), 0, sent(0, 0, 2)),
-        (Event::Put(0), 0, Reply::Done(2)),
-        (Event::Clear(1), 0, Reply::Done(0)),
-        (Event::Claim(1), 0, sent(1, 0, 2)),
-    ];
-    let script = [
-        (Act::Take { edge: 2, cell: 0 }, 0),
-        (Act::Take { edge: 4, cell: 0 }, 0),
-        (Act::Settle { edge: 0 }, 0),
-        (Act::Settle { edge: 1 }, 0),
-        (
-            Act::Put {
-                edge: 1,
-                cell: 0,
-                value: 2,
-            },
-            0,
-        ),
-    ];
-    assert_eq!(rt; play(&rt, &mut actor, &before, &script), 1);
-    assert_eq!(rt; actor.chips(), 2);
-    Ok(())
+fn first_turn(rt: HostRuntime) {
+    let (_, counted) = play_new(&rt, &TRIANGLE, &[4, 0, 0], 0, &[], &FIRST_TURN);
+    assert!(rt; counted == 6);
+}
+
+/// Vertex 0 with six chips, until it has claimed a second message and not put it.
+const CLAIMED: [(Event, u64, Reply); 7] = [
+    (Event::Take(4), 6, got!(4, 0, 6)),
+    (fire!(0, 2), 0, Reply::Done(2)),
+    (Event::Clear(0), 0, Reply::Done(0)),
+    (Event::Claim(0), 0, sent!(0, 0, 2)),
+    (Event::Put(0), 0, Reply::Done(2)),
+    (Event::Clear(1), 0, Reply::Done(0)),
+    (Event::Claim(1), 0, sent!(1, 0, 2)),
+];
+
+/// A turn that begins there.
+const PUTTING_TURN: [(Act, u64); 5] = [
+    (Act::Take { edge: 2, cell: 0 }, 0),
+    (Act::Take { edge: 4, cell: 0 }, 0),
+    (Act::Settle { edge: 0 }, 0),
+    (Act::Settle { edge: 1 }, 0),
+    (put!(1, 2), 0),
+];
+
+#[test]
+fn turn_begun_in_the_middle(rt: HostRuntime) {
+    let (actor, counted) = play_new(&rt, &TRIANGLE, &[6, 0, 0], 0, &CLAIMED, &PUTTING_TURN);
+    assert!(rt; counted == 1);
+    assert!(rt; actor.chips() == 2);
 }

@@ -6,6 +6,8 @@ mod actor;
 #[cfg(test)]
 mod detect;
 #[cfg(test)]
+mod games;
+#[cfg(test)]
 mod link;
 #[cfg(test)]
 mod root;

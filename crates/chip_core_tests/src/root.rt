@@ -1,49 +1,17 @@
 //! The calls of the root on small games, reply for reply.
 
-ghost use Rattle.std.specs.Prelude.{◌≡◌, ◌<◌, IsTrue, IfOk};
-ghost use Rattle.chip_core_tests.specs.Asking.{game_on};
-ghost use Rattle.chip_root.specs.Root.{SomeRoot};
-ghost use Rattle.chip_core_tests.specs.RootAsking.{may_ask_root, may_play_root, RootAnswers};
+ghost use Rattle.std.specs.Prelude.{◌<◌, IsTrue, length};
+ghost use Rattle.chip_core_tests.specs.Asking.{setting_on};
+ghost use Rattle.chip_core_tests.specs.RootAsking.{may_ask_root, may_play_root, may_play_root_new, RootAnswers};
+ghost use Rattle.chip_core_tests.specs.RootAsking.{four_chips};
+ghost use Rattle.chip_part.specs.Part.{opened};
+ghost use Rattle.chip_root.specs.Root.{SomeRoot, RootStandsFor};
 
-use chip_graph::{Edge, Game, Graph};
+use crate::games::{TRIANGLE, feed, made_game, message, sent};
 use chip_link::{Event, Message, Ring};
 use chip_part::{Reply, Rule, Setting};
 use chip_root::RootBooks;
-use std::alloc::Global;
 use std::process::Abort;
-use std::test::Fail;
-
-/// The root feeds so many chips over an edge.
-macro_rules! feed {
-    ($edge:expr, $count:expr) => {
-        Event::Feed {
-            edge: $edge,
-            count: $count,
-        }
-    };
-}
-
-/// The game on these edges, which send one chip for each firing. The sink is the last vertex.
-fn game_of(alloc: Global, vertices: u64, ends: &[(u64, u64)], start: &[u64]) -> Result<Game, Fail>
-    requires { 0 < vertices }
-    ensures { IfOk result (λ game. game ≡ game_on vertices ends.now start.now) }
-{
-    let mut rows = Vec::new(alloc);
-    for i in 0..ends.len() {
-        let (tail, head) = ends[i];
-        rows.push(Edge {
-            tail,
-            head,
-            mult: 1,
-        })?;
-    }
-    let graph = Graph::new(alloc, vertices, vertices - 1, rows)?;
-    Ok(Game::new(graph, Vec::from_slice(alloc, start)?, 1 << 40)?)
-}
-
-fn sent(edge: u64, place: u64, count: u64) -> Reply {
-    Reply::Sent(Message { edge, place, count })
-}
 
 /// Asks the root for an event, which is made where its rules are met.
 fn ask_root(root: &mut RootBooks, event: Event, seen: u64) -> Reply
@@ -67,66 +35,96 @@ fn play_root(rt: &impl Abort, root: &mut RootBooks, questions: &[(Event, u64, Re
     }
 }
 
-#[test]
-fn unfed_root(rt: HostRuntime) -> Result<(), Fail> {
-    let game = game_of(rt.alloc(), 3, &[(0, 1), (0, 2), (1, 0), (1, 2)], &[4, 0, 0])?;
-    let setting = Setting::new(game, Ring::one(), false);
-    let mut root = RootBooks::new(rt.alloc(), &setting)?;
-    let script = [
-        (Event::Clear(4), 0, Reply::NotNow(Rule::Ended)),
-        (Event::Put(4), 0, Reply::NotNow(Rule::NotClaimed)),
-        (feed!(4, 1), 0, Reply::NotNow(Rule::Ended)),
-        (feed!(0, 1), 0, Reply::NotNow(Rule::NoSuch)),
-        (Event::Read(0), 0, Reply::NotNow(Rule::NotClosed)),
-        (Event::End, 0, Reply::Done(0)),
-        (Event::Settle(4), 1, Reply::Done(1)),
-        (Event::Settle(7), 0, Reply::NotNow(Rule::NoSuch)),
-        (Event::Read(0), 2, Reply::Done(2)),
-    ];
-    play_root(&rt, &mut root, &script);
-    assert!(rt; root.closed());
-    Ok(())
+/// The root of the game on these edges, as it opens with rings of one cell.
+fn new_root(
+    rt: &(impl AllocGlobal + Abort),
+    ends: &[(u64, u64)],
+    start: &[u64],
+    fed: bool,
+) -> Box<RootBooks>
+    requires { 0 < length start.now }
+    ensures { let g = setting_on ends.now start.now fed in RootStandsFor g (opened g) result.value }
+{
+    let game = Box::into_inner(made_game(rt, ends, start));
+    let setting = Setting::new(game, Ring::one(), fed);
+    let root = RootBooks::new(rt.alloc(), &setting).expect(rt, "memory");
+    Box::new(rt.alloc(), root).expect(rt, "memory")
 }
 
+/// Asks the root of the game on these edges from its opening on. It is closed then.
+fn closes(
+    rt: &(impl AllocGlobal + Abort),
+    ends: &[(u64, u64)],
+    start: &[u64],
+    fed: bool,
+    questions: &[(Event, u64, Reply)],
+)
+    requires start { 0 < length start.now }
+    requires plays { IsTrue (may_play_root_new ends.now start.now fed questions.now) }
+{
+    let mut root = new_root(rt, ends, start, fed);
+    play_root(rt, &mut root, questions);
+    assert!(rt; root.closed());
+}
+
+/// A root that may not feed.
+const UNFED: [(Event, u64, Reply); 9] = [
+    (Event::Clear(4), 0, Reply::NotNow(Rule::Ended)),
+    (Event::Put(4), 0, Reply::NotNow(Rule::NotClaimed)),
+    (feed!(4, 1), 0, Reply::NotNow(Rule::Ended)),
+    (feed!(0, 1), 0, Reply::NotNow(Rule::NoSuch)),
+    (Event::Read(0), 0, Reply::NotNow(Rule::NotClosed)),
+    (Event::End, 0, Reply::Done(0)),
+    (Event::Settle(4), 1, Reply::Done(1)),
+    (Event::Settle(7), 0, Reply::NotNow(Rule::NoSuch)),
+    (Event::Read(0), 2, Reply::Done(2)),
+];
+
 #[test]
-fn settled_root(rt: HostRuntime) -> Result<(), Fail> {
-    let game = game_of(rt.alloc(), 3, &[(0, 1), (0, 2), (1, 0), (1, 2)], &[4, 0, 0])?;
-    let setting = Setting::new(game, Ring::one(), false);
-    let mut root = RootBooks::new(rt.alloc(), &setting)?;
-    assert_eq!(rt; root.outstanding(), 1);
+fn unfed_root(rt: HostRuntime) {
+    closes(&rt, &TRIANGLE, &[4, 0, 0], false, &UNFED);
+}
+
+/// The message of vertex 0 is acknowledged, and then no more is new.
+fn settles_once(rt: &impl Abort, root: &mut RootBooks)
+    requires { RootStandsFor four_chips (opened four_chips) root.old }
+{
+    assert!(rt; root.outstanding() == 1);
     let first = root.settle(0, 1);
-    assert_eq!(rt; first, 1);
+    assert!(rt; first == 1);
     assert!(rt; root.closed());
     let second = root.settle(0, 1);
-    assert_eq!(rt; second, 0);
+    assert!(rt; second == 0);
     assert!(rt; root.closed());
-    Ok(())
 }
 
 #[test]
-fn fed_root(rt: HostRuntime) -> Result<(), Fail> {
-    let game = game_of(rt.alloc(), 3, &[(0, 1), (0, 2), (1, 0), (1, 2)], &[0, 0, 1])?;
-    let setting = Setting::new(game, Ring::one(), true);
-    let mut root = RootBooks::new(rt.alloc(), &setting)?;
-    let script = [
-        (feed!(4, 3), 0, Reply::NotNow(Rule::NotCleared)),
-        (Event::Clear(4), 0, Reply::Done(0)),
-        (feed!(4, 0), 0, Reply::NotNow(Rule::Zero)),
-        (feed!(4, 1 << 40), 0, Reply::NotNow(Rule::TooMuch)),
-        (feed!(4, 3), 0, sent(4, 0, 3)),
-        (Event::Clear(4), 0, Reply::NotNow(Rule::Unput)),
-        (Event::Put(4), 0, Reply::Done(3)),
-        (Event::Put(4), 0, Reply::NotNow(Rule::NotClaimed)),
-        (Event::Clear(4), 3, Reply::Full),
-        (Event::Settle(6), 1, Reply::Done(1)),
-        (Event::Settle(4), 1, Reply::Done(1)),
-        (Event::Read(0), 0, Reply::NotNow(Rule::NotClosed)),
-        (Event::End, 1, Reply::Done(0)),
-        (Event::Clear(4), 0, Reply::NotNow(Rule::Ended)),
-        (feed!(4, 1), 0, Reply::NotNow(Rule::Ended)),
-        (Event::Read(0), 1, Reply::Done(1)),
-    ];
-    play_root(&rt, &mut root, &script);
-    assert!(rt; root.closed());
-    Ok(())
+fn settled_root(rt: HostRuntime) {
+    let mut root = new_root(&rt, &TRIANGLE, &[4, 0, 0], false);
+    settles_once(&rt, &mut root);
+}
+
+/// A root that feeds vertex 0, and then notes the end.
+const FED: [(Event, u64, Reply); 16] = [
+    (feed!(4, 3), 0, Reply::NotNow(Rule::NotCleared)),
+    (Event::Clear(4), 0, Reply::Done(0)),
+    (feed!(4, 0), 0, Reply::NotNow(Rule::Zero)),
+    (feed!(4, 1 << 40), 0, Reply::NotNow(Rule::TooMuch)),
+    (feed!(4, 3), 0, sent!(4, 0, 3)),
+    (Event::Clear(4), 0, Reply::NotNow(Rule::Unput)),
+    (Event::Put(4), 0, Reply::Done(3)),
+    (Event::Put(4), 0, Reply::NotNow(Rule::NotClaimed)),
+    (Event::Clear(4), 3, Reply::Full),
+    (Event::Settle(6), 1, Reply::Done(1)),
+    (Event::Settle(4), 1, Reply::Done(1)),
+    (Event::Read(0), 0, Reply::NotNow(Rule::NotClosed)),
+    (Event::End, 1, Reply::Done(0)),
+    (Event::Clear(4), 0, Reply::NotNow(Rule::Ended)),
+    (feed!(4, 1), 0, Reply::NotNow(Rule::Ended)),
+    (Event::Read(0), 1, Reply::Done(1)),
+];
+
+#[test]
+fn fed_root(rt: HostRuntime) {
+    closes(&rt, &TRIANGLE, &[0, 0, 1], true, &FED);
 }

@@ -1,5 +1,6 @@
 //! Small games: reply for reply, what a run records, round by round, and until the root closes.
 
+use crate::games::{feed, fire, got, message, sent};
 use chip_graph::{Edge, Game, Graph};
 use chip_link::{Event, Message, Ring};
 use chip_part::{Cause, Reply, Rule};
@@ -13,51 +14,6 @@ macro_rules! edge {
             tail: $tail,
             head: $head,
             mult: $mult,
-        }
-    };
-}
-
-/// A message by edge, place and count.
-macro_rules! message {
-    ($edge:expr, $place:expr, $count:expr) => {
-        Message {
-            edge: $edge,
-            place: $place,
-            count: $count,
-        }
-    };
-}
-
-/// The reply to a take of this message.
-macro_rules! got {
-    ($edge:expr, $place:expr, $count:expr) => {
-        Reply::Got(message!($edge, $place, $count))
-    };
-}
-
-/// The reply to a claim for this message.
-macro_rules! sent {
-    ($edge:expr, $place:expr, $count:expr) => {
-        Reply::Sent(message!($edge, $place, $count))
-    };
-}
-
-/// A firing of a vertex, `k` times in a row.
-macro_rules! fire {
-    ($vertex:expr, $k:expr) => {
-        Event::Fire {
-            vertex: $vertex,
-            k: $k,
-        }
-    };
-}
-
-/// The root feeds so many chips over an edge.
-macro_rules! feed {
-    ($edge:expr, $count:expr) => {
-        Event::Feed {
-            edge: $edge,
-            count: $count,
         }
     };
 }
@@ -101,19 +57,20 @@ fn opened(
     start: &[u64],
     limit: u64,
     ring: Ring,
-) -> World {
+) -> Box<World> {
     let game = game_of(rt, edges, start, limit);
-    World::open(rt.alloc(), &game, ring).expect(rt, "memory")
+    let world = World::open(rt.alloc(), &game, ring).expect(rt, "memory");
+    Box::new(rt.alloc(), world).expect(rt, "memory")
 }
 
 /// The triangle, as it opens with rings of one cell.
-fn triangle(rt: &(impl AllocGlobal + Abort), start: &[u64], limit: u64) -> World {
+fn triangle(rt: &(impl AllocGlobal + Abort), start: &[u64], limit: u64) -> Box<World> {
     opened(rt, TRIANGLE, start, limit, Ring::one())
 }
 
 /// Compares the messages of all edges.
 fn expect_lists(rt: &impl Abort, lists: &[Vec<Message>], wanted: &[&[Message]]) {
-    assert_eq!(rt; lists.len(), wanted.len());
+    assert!(rt; lists.len() == wanted.len());
     for (list, messages) in lists.iter().zip(wanted) {
         assert!(rt; list.as_slice() == *messages);
     }
@@ -135,7 +92,7 @@ fn recorded(
         events.push(step.0).expect(rt, "memory");
     }
     let record = run(rt, world, &events);
-    assert_eq!(rt; record.replies.len(), steps.len());
+    assert!(rt; record.replies.len() == steps.len());
     for (reply, step) in record.replies.iter().zip(steps) {
         assert!(rt; *reply == step.1);
     }
@@ -170,7 +127,7 @@ fn play(rt: &impl Abort, world: &mut World, events: &[Event]) {
 /// No outcome can be had yet.
 fn is_open(rt: &(impl AllocGlobal + Abort), world: &World) {
     let fault = world.outcome(rt.alloc()).err();
-    assert_eq!(rt; fault, Some(WorldFault::NotClosed));
+    assert!(rt; fault == Some(WorldFault::NotClosed));
 }
 
 /// Compares an outcome: how often each vertex fired, the chips, and who halted by the limit and by a seal.
@@ -183,10 +140,15 @@ fn ends(
     sealed: &[u64],
 ) {
     let outcome = world.outcome(rt.alloc()).expect(rt, "an outcome");
-    assert_eq!(rt; outcome.fired.as_slice(), fired);
-    assert_eq!(rt; outcome.chips.as_slice(), chips);
-    assert_eq!(rt; outcome.over.as_slice(), over);
-    assert_eq!(rt; outcome.sealed.as_slice(), sealed);
+    let same = outcome.fired.as_slice() == fired
+        && outcome.chips.as_slice() == chips
+        && outcome.over.as_slice() == over
+        && outcome.sealed.as_slice() == sealed;
+    assert!(rt;
+        same,
+        "fired {:?}, chips {:?}, over {:?}, sealed {:?}",
+        outcome.fired, outcome.chips, outcome.over, outcome.sealed
+    );
 }
 
 /// Whether these are the chips of all vertices.
@@ -321,7 +283,7 @@ fn ring_of_two(rt: HostRuntime) {
 fn takes_nothing(rt: &(impl AllocGlobal + Abort), world: &mut World, edge: u64, count: usize) {
     let events = Vec::from_elem(rt.alloc(), Event::Take(edge), count).expect(rt, "memory");
     let record = run(rt, world, &events);
-    assert_eq!(rt; record.replies.len(), count);
+    assert!(rt; record.replies.len() == count);
     for reply in record.replies.iter() {
         assert!(rt; *reply == Reply::Empty);
     }
@@ -462,7 +424,7 @@ const ROUNDS: [Round; 3] = [
 ];
 
 /// The triangle after `SEALED_HALF_WAY`.
-fn sealed_half_way(rt: &(impl AllocGlobal + Abort)) -> World {
+fn sealed_half_way(rt: &(impl AllocGlobal + Abort)) -> Box<World> {
     let mut world = triangle(rt, &[4, 0, 0], MOST);
     expect(rt, &mut world, &SEALED_HALF_WAY);
     world
@@ -491,6 +453,11 @@ fn drives_round_by_round(rt: HostRuntime) {
     drives_rounds(&rt, &mut world, &ROUNDS);
 }
 
+/// Whether the vertex met a sealed edge and halted.
+fn halted_by_seal(world: &World, vertex: u64) -> bool {
+    vertex < world.setting().vertices() && world.halted(vertex) == Some(Cause::SealedEdge)
+}
+
 #[test]
 fn drives_no_further_than_asked(rt: HostRuntime) {
     let mut world = sealed_half_way(&rt);
@@ -499,7 +466,7 @@ fn drives_no_further_than_asked(rt: HostRuntime) {
     assert!(rt; world.drive(10) == Drive::Closed);
     assert!(rt; holds(&world, &[1, 0, 1]));
     assert!(rt; fired(&world, &[2, 1, 0]));
-    assert!(rt; world.halted(0) == Some(Cause::SealedEdge));
+    assert!(rt; halted_by_seal(&world, 0));
 }
 
 /// Vertex 0 fires twice and sends, and then vertex 1 fires once.

@@ -1,9 +1,9 @@
 -- The head takes at most one message in each turn of a loop, so it stays far below the most that it may take.
 use Rattle.std.proofs.Common.{◌+◌, ◌≤◌}
-use Rattle.chip_core_tests.proofs.link.rings_wrap.Given as goal
+use Rattle.chip_core_tests.proofs.link.wraps.Given as goal
 
 abbrev pub invariant-loop-place : goal.invariant-loop-place
-invariant-loop-place g l = l.head.taken ≤ l.place
+invariant-loop-place g l = l.wire.head.taken ≤ l.place
 
 abbrev pub invariant-loop-left : goal.invariant-loop-left
-invariant-loop-left g l = l.head.taken ≤ 300 + l.left
+invariant-loop-left g l = l.wire.head.taken ≤ 300 + l.left

@@ -13,9 +13,7 @@ use Rattle.chip_net.proofs.net.Net.TheSendSync as net
 use Rattle.chip_net.proofs.CrossingLemmas.{actor_send, net_crosses}
 use Rattle.chip_crew.specs.declared.queue.Crew.{Ghosts}
 use Rattle.chip_crew.specs.contracts.worker.Shared as shared
-use Rattle.chip_crew.specs.contracts.lead.LeadHanded as led
-use Rattle.chip_crew.specs.contracts.lead.Lead as lead
-use Rattle.chip_crew.specs.contracts.worker.Hands as hands
+use Rattle.chip_crew.specs.contracts.lead.LeadTask as lead_task
 use Rattle.chip_crew.specs.contracts.worker.Task as task
 
 -- threads may share it where they may share the gate
@@ -28,18 +26,11 @@ pub shared_ref_send : (ℓ : Lifetime) (κ : Lft) (ν : NamedLft) (B G : RattleT
     → IsSend (ShrRef ℓ κ (shared.the_row ν B G r))
 shared_ref_send ℓ κ ν B G r gate = shr_send ℓ κ (shared.the_row ν B G r) (shared_sync ν B G r gate)
 
--- what worker 0 hands back may go to the thread that joins it
-pub lead_handed_send : (B : RattleType) (r : Ghosts B.Denot) → IsSend (led.the_row B r)
-lead_handed_send B r = search (crosses, sendable, net_crosses, seat.the_send) depth 60
-
--- worker 0 may take what it begins with
-pub lead_send : (ν : NamedLft) → IsSend (lead.the_row ν)
-lead_send ν = search (crosses, sendable, net_crosses) depth 60
-
--- each worker may take what it has of the actors
-pub hands_send : IsSend hands.the_row
-hands_send = search (crosses, sendable, net_crosses, seat.the_send) depth 60
-
--- and a worker other than worker 0 its whole task
+-- a worker other than worker 0 may take its whole task
 pub task_send : (ν : NamedLft) (B G : RattleType) (r : Ghosts B.Denot) → IsSync G → IsSend (task.the_row ν B G r)
 task_send ν B G r gate = search (crosses, sendable, net_crosses, seat.the_send, shared_ref_send, frees) depth 60
+
+-- and worker 0 its own
+pub lead_task_send : (ν : NamedLft) (B G : RattleType) (r : Ghosts B.Denot) → IsSync G → IsSend (lead_task.the_row ν B G r)
+lead_task_send ν B G r gate =
+    search (crosses, sendable, net_crosses, seat.the_send, shared_ref_send, frees) depth 60

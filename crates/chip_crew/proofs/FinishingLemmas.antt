@@ -1,10 +1,9 @@
 -- Serves Finished.antt, Feeding.antt, Plans.antt.
 -- What is known of a crew is known of the game that it played.
 use Rattle.std.proofs.Common.{◌≡◌, ◌+◌, ◌<◌, ◌≤◌, ℕ, zero, suc, Bool, true, false, not, if◌then◌else◌, List, [], ◌∷◌}
-use Rattle.std.proofs.Common.{All, sum, Option, Some, None, is_some, Result, Ok, Err, IfOk, IfErr, IfSome}
-use Rattle.std.proofs.Common.{refl, sym, ◌∙◌, ap, subst, arith, ltb, leb, ltb-true, ◌++◌, ◌⊎◌, inl, inr, ⊎_elim}
+use Rattle.std.proofs.Common.{All, sum, Option, Some, None, is_some, Result, Ok, Err, IfOk, IfErr}
+use Rattle.std.proofs.Common.{refl, sym, ◌∙◌, ap, subst, arith, ltb, leb, ltb-true, ◌++◌}
 use Rattle.std.proofs.lemmas.Bool.{and_parts, leb-true}
-use Rattle.std.specs.Result.{IsErrAnd}
 use Rattle.chip_graph.specs.ChipGame.{ChipGame}
 use Rattle.chip_graph.specs.Limits.{max_total}
 use Rattle.chip_graph.specs.More.{HasMore, all_brought}
@@ -22,18 +21,13 @@ use Rattle.chip_crew.specs.Feeding.{Left, pairs, IsLed, MayFeed, MayFeedLeft}
 use Rattle.chip_crew.specs.Ending.{EndsWell, EndsLed}
 use Rattle.chip_crew.specs.Finished.{root_of, CanPlay, IsCrewFor, HasFinished, IsWhole, IsFinished, IsClosing, IsStopped}
 use Rattle.chip_crew.specs.Finished.{IsFaultOf}
-use Rattle.chip_crew.specs.Gathering.{IsMissing, AreBack, Lacks}
-use Rattle.chip_crew.specs.declared.gathering.Back.{Back}
-use Rattle.chip_crew.specs.declared.gathering.Back.TheVariants as back
 use Rattle.chip_crew.specs.declared.plan.Sharing.{Sharing}
-use Rattle.chip_crew.specs.declared.plan.Sharing.TheVariants as sharing
 use Rattle.chip_crew.specs.Handed.{HasPolled, SomeShut}
 use Rattle.chip_crew.specs.declared.joining.Joined.{Joined}
 use Rattle.chip_crew.specs.declared.plan.Plan.{Plan}
 use Rattle.chip_crew.specs.declared.play.Finished.{Finished}
 use Rattle.chip_crew.specs.declared.fault.CrewFault.{CrewFault}
 use Rattle.chip_crew.specs.declared.fault.CrewFault.TheVariants as fault
-use Rattle.chip_crew.proofs.GatheringLemmas.{placed}
 use Rattle.chip_crew.proofs.FeedLemmas.{Adds, GoesOn, polls_add, led_goes_on, over_has_fed}
 use Rattle.chip_crew.proofs.SealingLemmas.{back_same, knows_seals}
 
@@ -187,64 +181,23 @@ finished_for shared game feeds plan crew old (Ok f) opened is finished = finishe
     (subst (λ (o : RootKnown). HasFinished crew feeds plan.seal o f) is finished)
 finished_for shared game feeds plan crew old (Err e) opened is finished = tt
 
--- a missing actor, where no gate was shut
-missing_closes : (crew : CrewId) (feeds : Left) (seal : Option SealAt) (old : RootKnown) (turns : ℕ) (joined : Joined) (e : CrewFault)
-    (b : Back) → joined.back ≡ b → joined.passed ≡ true → Lacks b e → IsClosing crew feeds seal old turns joined e
-missing_closes crew feeds seal old turns joined e (back.Dealt row) is passed why = absurd why
-missing_closes crew feeds seal old turns joined fault.Plan (back.Queue g) is passed why = absurd why
-missing_closes crew feeds seal old turns joined fault.Total (back.Queue g) is passed why = absurd why
-missing_closes crew feeds seal old turns joined fault.NoMemory (back.Queue g) is passed why = absurd why
-missing_closes crew feeds seal old turns joined fault.Spawn (back.Queue g) is passed why = absurd why
-missing_closes crew feeds seal old turns joined fault.GateShut (back.Queue g) is passed why = absurd why
-missing_closes crew feeds seal old turns joined (fault.Doubled v) (back.Queue g) is passed why =
-    (passed, subst (λ (b : Back). Lacks b (fault.Doubled v)) (sym is) why)
-missing_closes crew feeds seal old turns joined (fault.Lost v) (back.Queue g) is passed why =
-    (passed, subst (λ (b : Back). Lacks b (fault.Lost v)) (sym is) why)
-missing_closes crew feeds seal old turns joined (fault.Unfinished deficit root) (back.Queue g) is passed why = absurd why
-
--- and it is what closing answers
-pub missing_closing : (crew : CrewId) (feeds : Left) (seal : Option SealAt) (old : RootKnown) (turns : ℕ) (joined : Joined) (e : CrewFault)
-    (r : Result Finished CrewFault) (P : CrewFault → Type 0) → IsErrAnd r P → ((f : CrewFault) → P f → f ≡ e)
-    → joined.passed ≡ true → Lacks joined.back e → IfErr r (IsClosing crew feeds seal old turns joined)
-missing_closing crew feeds seal old turns joined e (Ok f) P is same passed why = absurd is
-missing_closing crew feeds seal old turns joined e (Err f) P is same passed why =
-    subst (IsClosing crew feeds seal old turns joined) (sym (same f is)) (missing_closes crew feeds seal old turns joined e joined.back refl passed why)
-
--- an actor is missing or there twice only where they came through a queue, and its vertex is one of the graph
-lacks_inside : (crew : CrewId) (b : Back) (e : CrewFault) (v : ℕ) → (e ≡ fault.Doubled v) ⊎ (e ≡ fault.Lost v)
-    → AreBack crew crew.workers b → Lacks b e → (crew.sharing ≡ sharing.Queue) × (v < crew.net.setting.game.graph.vertices)
-lacks_inside crew (back.Dealt row) e v which are why = absurd why
-lacks_inside crew (back.Queue g) e v which are why = (
-  are.0,
-  ⊎_elim
-      (λ (is : e ≡ fault.Doubled v). subst (λ (o : Option ℕ). IfSome o (λ (w : ℕ). w < crew.net.setting.game.graph.vertices))
-      (subst (IsMissing g) is why) are.1.doubled)
-      (λ (is : e ≡ fault.Lost v). subst (λ (n : ℕ). v < n) are.1.seats.count
-      (placed g.seats.items v None (subst (IsMissing g) is why).1.free))
-      which,
-)
-
 -- why it did not close is why the crew stopped
 closing_stops : (crew : CrewId) (feeds : Left) (seal : Option SealAt) (old : RootKnown) (turns : ℕ) (joined : Joined) (shut : Type 0)
-    (e : CrewFault) → (joined.passed ≡ false → shut) → AreBack crew crew.workers joined.back
-    → IsClosing crew feeds seal old turns joined e → IsStopped crew feeds seal old turns shut e
-closing_stops crew feeds seal old turns joined shut fault.Plan passed are why = absurd why
-closing_stops crew feeds seal old turns joined shut fault.Total passed are why = absurd why
-closing_stops crew feeds seal old turns joined shut fault.NoMemory passed are why = absurd why
-closing_stops crew feeds seal old turns joined shut fault.Spawn passed are why = absurd why
-closing_stops crew feeds seal old turns joined shut fault.GateShut passed are why = passed why
-closing_stops crew feeds seal old turns joined shut (fault.Doubled v) passed are why =
-    lacks_inside crew joined.back (fault.Doubled v) v (inl refl) are why.1
-closing_stops crew feeds seal old turns joined shut (fault.Lost v) passed are why =
-    lacks_inside crew joined.back (fault.Lost v) v (inr refl) are why.1
-closing_stops crew feeds seal old turns joined shut (fault.Unfinished deficit root) passed are why = why.1
+    (e : CrewFault) → (joined.passed ≡ false → shut) → IsClosing crew feeds seal old turns joined e → IsStopped crew feeds seal old turns shut e
+closing_stops crew feeds seal old turns joined shut fault.Plan passed why = absurd why
+closing_stops crew feeds seal old turns joined shut fault.Total passed why = absurd why
+closing_stops crew feeds seal old turns joined shut fault.NoMemory passed why = absurd why
+closing_stops crew feeds seal old turns joined shut fault.Spawn passed why = absurd why
+closing_stops crew feeds seal old turns joined shut fault.GateShut passed why = passed why
+closing_stops crew feeds seal old turns joined shut (fault.Doubled v) passed why = absurd why
+closing_stops crew feeds seal old turns joined shut (fault.Lost v) passed why = absurd why
+closing_stops crew feeds seal old turns joined shut (fault.Unfinished deficit root) passed why = why.1
 
 pub closing_stopped : (crew : CrewId) (feeds : Left) (seal : Option SealAt) (old : RootKnown) (turns : ℕ) (joined : Joined) (shut : Type 0)
-    (r : Result Finished CrewFault) → (joined.passed ≡ false → shut) → AreBack crew crew.workers joined.back
-    → IfErr r (IsClosing crew feeds seal old turns joined) → IfErr r (IsStopped crew feeds seal old turns shut)
-closing_stopped crew feeds seal old turns joined shut (Ok f) passed are why = tt
-closing_stopped crew feeds seal old turns joined shut (Err e) passed are why =
-    closing_stops crew feeds seal old turns joined shut e passed are why
+    (r : Result Finished CrewFault) → (joined.passed ≡ false → shut) → IfErr r (IsClosing crew feeds seal old turns joined) → IfErr r (IsStopped crew feeds seal old turns shut)
+closing_stopped crew feeds seal old turns joined shut (Ok f) passed why = tt
+closing_stopped crew feeds seal old turns joined shut (Err e) passed why =
+    closing_stops crew feeds seal old turns joined shut e passed why
 
 -- ---- a crew that didn't finish
 
@@ -258,16 +211,8 @@ stopped_by shared game feeds plan may_answer crew fault.Total opened why = absur
 stopped_by shared game feeds plan may_answer crew fault.NoMemory opened why = opened.can
 stopped_by shared game feeds plan may_answer crew fault.Spawn opened why = opened.can
 stopped_by shared game feeds plan may_answer crew fault.GateShut opened why = (opened.can, why)
-stopped_by shared game feeds plan may_answer crew (fault.Doubled v) opened why = (
-  opened.can,
-  sym opened.sharing ∙ why.0,
-  subst (λ (g : Setting). v < g.game.graph.vertices) opened.setting why.1,
-)
-stopped_by shared game feeds plan may_answer crew (fault.Lost v) opened why = (
-  opened.can,
-  sym opened.sharing ∙ why.0,
-  subst (λ (g : Setting). v < g.game.graph.vertices) opened.setting why.1,
-)
+stopped_by shared game feeds plan may_answer crew (fault.Doubled v) opened why = absurd why
+stopped_by shared game feeds plan may_answer crew (fault.Lost v) opened why = absurd why
 stopped_by shared game feeds plan may_answer crew (fault.Unfinished deficit root) opened why = (crew, opened, why)
 
 pub stopped_for : (shared : Sharing) (game : ChipGame) (feeds : Left) (plan : Plan) (may_answer : ℕ → ℕ → Bool → Type 0) (crew : CrewId)

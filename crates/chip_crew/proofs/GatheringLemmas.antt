@@ -1,13 +1,16 @@
 -- Serves Crew.antt, Gathering.antt.
 -- The places of the actors, one by one.
-use Rattle.std.proofs.Common.{◌≡◌, ℕ, zero, suc, ◌<◌, ◌⊎◌, inl, inr, ⊎_elim, List, [], ◌∷◌, ◌++◌, length, Option, Some}
-use Rattle.std.proofs.Common.{None, is_some, false, refl, sym, ap, ◌∙◌, subst, set, get_or, IfSome, arith}
+use Rattle.std.proofs.Common.{◌≡◌, ℕ, zero, suc, ◌<◌, ◌≤◌, ◌⊎◌, inl, inr, ⊎_elim, List, [], ◌∷◌, ◌++◌, length, Option, Some}
+use Rattle.std.proofs.Common.{None, Bool, true, false, ◌==◌, ◌+◌, refl, sym, ap, ◌∙◌, subst, set, get_or, arith}
+use Rattle.std.proofs.Common.{eqb-true, false-eqb, append-nil}
 use Rattle.std.specs.Prelude.{slice_get}
 use Rattle.std.proofs.lemmas.List.{length-set}
 use Rattle.std.proofs.lemmas.Option.{slice_get_read}
 use Rattle.chip_net.specs.Tokens.{ActorKnown}
 use Rattle.chip_crew.specs.Crew.{CrewId, IsOurs, AreInOrder, AreSeats}
-use Rattle.chip_crew.specs.Gathering.{least, IsSeated}
+use Rattle.chip_crew.specs.Places.{times}
+use Rattle.chip_crew.specs.Gathering.{IsSeated, AreSeated, AllSeated}
+use Rattle.chip_crew.proofs.PlacesLemmas.{one_where, times_push, times_here, times_else}
 
 module _ {X : Type 0} where
   abbrev value_or : X → Option X → X
@@ -104,10 +107,6 @@ pub seats_left : (crew : CrewId) (seats : List (Option ActorKnown)) (i : ℕ) (x
     → AreSeats crew seats → AreSeats crew (set seats i x)
 seats_left crew seats i x none old = seats_set crew seats i x (λ a e. absurd (none_some a (sym none ∙ e))) old
 
-pub least_below : (before : Option ℕ) (v n : ℕ) → IfSome before (λ w. w < n) → v < n → least before v < n
-least_below None v n below here = here
-least_below (Some w) v n below here = search (arith)
-
 -- what was read at i stands there
 pub at_place : {X : Type 0} (xs : List (Option X)) (i : ℕ) (x : Option X) (y : X) → i < length xs → x ≡ get_or xs i x
     → x ≡ Some y → slice_get xs i ≡ Some (Some y)
@@ -117,12 +116,6 @@ at_place xs i x y inside read is = slice_get_read xs (length xs) i x refl inside
 pub free_place : {X : Type 0} (xs : List (Option X)) (i : ℕ) (x : Option X) → i < length xs → x ≡ get_or xs i x
     → x ≡ None → slice_get xs i ≡ Some None
 free_place xs i x inside read is = slice_get_read xs (length xs) i x refl inside read ∙ ap Some is
-
--- or where what was read tells so
-pub free_where : {X : Type 0} (xs : List (Option X)) (i : ℕ) (x : Option X) → i < length xs → x ≡ get_or xs i x
-    → is_some x ≡ false → slice_get xs i ≡ Some None
-free_where xs i None inside read none = free_place xs i None inside read refl
-free_where xs i (Some y) inside read none = absurd (cc)
 
 -- a place that is free has no actor
 pub free_or_seated : (seats : List (Option ActorKnown)) (v : ℕ) → slice_get seats v ≡ Some None → IsSeated seats v → ⊥
@@ -137,3 +130,79 @@ gathered_push seats actors y here old v a e = ⊎_elim
     (λ (h : (v ≡ length actors) × (y ≡ a)).
     ap (slice_get seats) h.0 ∙ here ∙ ap (λ (z : ActorKnown). Some (Some z)) h.1)
     (λ (h : slice_get actors v ≡ Some a). old v a h) (at_push actors y a v e)
+
+-- ---- which places are taken
+
+-- what is written at a place stands there
+set_here : {X : Type 0} (xs : List X) (i : ℕ) (x : X) → i < length xs → slice_get (set xs i x) i ≡ Some x
+set_here [] i x inside = absurd (omega (arith, inside))
+set_here (y ∷ ys) zero x inside = refl
+set_here (y ∷ ys) (suc i) x inside = set_here ys i x (omega (arith, inside))
+
+-- and another place has what it had
+set_there : {X : Type 0} (xs : List X) (i j : ℕ) (x : X) → (i ≡ j → ⊥) → slice_get (set xs i x) j ≡ slice_get xs j
+set_there [] i j x other = refl
+set_there (y ∷ ys) zero zero x other = absurd (other refl)
+set_there (y ∷ ys) zero (suc j) x other = refl
+set_there (y ∷ ys) (suc i) zero x other = refl
+set_there (y ∷ ys) (suc i) (suc j) x other = set_there ys i j x (λ same. other (ap suc same))
+
+-- all places are free, where no actor has come
+pub none_seated : (seats : List (Option ActorKnown)) → AreFree seats → AreSeated seats []
+none_seated seats free = record {
+  there = λ v inside some. absurd (omega (arith, some));
+  free = λ v inside none. at v (present seats v inside);
+}
+  where
+    at : (v : ℕ) → (x : Option ActorKnown) × (slice_get seats v ≡ Some x) → slice_get seats v ≡ Some None
+    at v (None, is) = is
+    at v (Some a, is) = absurd (free v a is)
+
+-- one more is taken
+pub one_seated : (seats : List (Option ActorKnown)) (has : List ℕ) (a : ActorKnown) → AreSeated seats has
+    → AreSeated (set seats a.vertex (Some a)) (has ++ a.vertex ∷ [])
+one_seated seats has a old = record {
+  there = λ v inside some. there v (length_there v inside) some (a.vertex == v) refl;
+  free = λ v inside none. free v (length_there v inside) none (a.vertex == v) refl;
+}
+  where
+    length_there : (v : ℕ) → v < length (set seats a.vertex (Some a)) → v < length seats
+    length_there v inside = subst (λ (n : ℕ). v < n) (length-set seats a.vertex (Some a)) inside
+
+    there : (v : ℕ) → v < length seats → 0 < times v (has ++ a.vertex ∷ []) → (b : Bool) → (a.vertex == v) ≡ b
+        → IsSeated (set seats a.vertex (Some a)) v
+    there v inside some true is =
+        let same : a.vertex ≡ v = eqb-true a.vertex v is in (
+          a,
+          subst (λ (u : ℕ). slice_get (set seats a.vertex (Some a)) u ≡ Some (Some a)) same
+              (set_here seats a.vertex (Some a) (subst (λ (u : ℕ). u < length seats) (sym same) inside)),
+        )
+    there v inside some false is =
+        let other : a.vertex ≡ v → ⊥ = false-eqb a.vertex v (sym is) in
+        let was = old.there v inside
+        (omega (arith, some, times_push v has a.vertex, times_else a.vertex v other)) in
+        (was.0, set_there seats a.vertex v (Some a) other ∙ was.1)
+
+    free : (v : ℕ) → v < length seats → times v (has ++ a.vertex ∷ []) ≡ 0 → (b : Bool) → (a.vertex == v) ≡ b
+        → slice_get (set seats a.vertex (Some a)) v ≡ Some None
+    free v inside none true is = absurd
+        (let one : one_where (a.vertex == v) ≡ 1 = ap one_where is in omega (arith, none, times_push v has a.vertex, one))
+    free v inside none false is =
+        let other : a.vertex ≡ v → ⊥ = false-eqb a.vertex v (sym is) in
+        set_there seats a.vertex v (Some a) other
+        ∙ old.free v inside (omega (arith, none, times_push v has a.vertex))
+
+-- the place of a vertex that comes for the first time is free
+pub free_for : (seats : List (Option ActorKnown)) (has : List ℕ) (v : ℕ) → AreSeated seats has → v < length seats
+    → times v (has ++ v ∷ []) ≤ 1 → slice_get seats v ≡ Some None
+free_for seats has v old inside once =
+    old.free v inside (omega (arith, once, times_push v has v, times_here v))
+
+-- where each vertex has come, each place is taken
+pub all_seated : (seats : List (Option ActorKnown)) (has : List ℕ) → AreSeated seats has
+    → ((v : ℕ) → v < length seats → times v has ≡ 1) → AllSeated seats
+all_seated seats has old once v inside = old.there v inside (let one = once v inside in omega (arith, one))
+
+-- where no actor comes, nothing changes
+pub same_seated : (seats : List (Option ActorKnown)) (has : List ℕ) → AreSeated seats has → AreSeated seats (has ++ [])
+same_seated seats has old = subst (AreSeated seats) (sym (append-nil has)) old

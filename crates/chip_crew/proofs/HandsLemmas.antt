@@ -1,6 +1,6 @@
 -- Serves Handed.antt.
 -- What a worker has in its hands, from turn to turn.
-use Rattle.std.proofs.Common.{◌≡◌, ℕ, suc, ◌+◌, ◌%◌, ◌<◌, max, List, [], ◌∷◌, length, Option, None, IfSome, All}
+use Rattle.std.proofs.Common.{◌≡◌, ℕ, suc, ◌+◌, ◌%◌, ◌<◌, max, List, [], ◌∷◌, length, Option, Some, None, IfSome, All}
 use Rattle.std.proofs.Common.{sym, ◌∙◌, subst, arith}
 use Rattle.crossbeam_queue.specs.Passes.{Pass, view}
 use Rattle.chip_net.specs.Tokens.{NetId, ActorKnown}
@@ -8,7 +8,9 @@ use Rattle.chip_crew.specs.Crew.{CrewId, IsOurs, IsAt, EachFrom}
 use Rattle.chip_crew.specs.Dealing.{IsRoundBy, IsRound, IsFirstOf}
 use Rattle.chip_crew.specs.Rounds.{TurnsAt}
 use Rattle.chip_crew.specs.Ledger.{MakesOneTurn}
-use Rattle.chip_crew.specs.Handed.{Fits, HasMade, AreHands, AreReady, round_of}
+use Rattle.crossbeam_queue.specs.declared.array_queue.Doing.{Doing}
+use Rattle.crossbeam_queue.specs.declared.array_queue.Slotted.{Slotted}
+use Rattle.chip_crew.specs.Handed.{Fits, GoesOn, HasMade, AreHands, AreReady, round_of}
 use Rattle.chip_crew.specs.declared.queue.Ledger.{Ledger}
 use Rattle.chip_crew.specs.declared.dealing.Dealt.{Dealt}
 use Rattle.chip_crew.specs.declared.plan.Sharing.{Sharing}
@@ -92,3 +94,26 @@ first_round crew passes (hands.Dealt d) round made is =
 pub round_some : (h : Hands) (round : ℕ) → round ≡ round_of h → 0 < round
 round_some (hands.Queue pass kept) round is = omega (arith, is)
 round_some (hands.Dealt d) round is = omega (arith, is)
+
+-- ---- whose queue it is
+
+module _ {Q A : Type 0} where
+  -- a worker that goes on with the same queue
+  pub goes_on : (queue : Option (Slotted (Option ActorKnown) (Doing ActorKnown Ledger) Q A)) (first now : Hands)
+      → Fits queue first → Fits queue now → GoesOn first now
+  goes_on (Some queue) (hands.Queue pass kept) (hands.Queue then next) one two = (two.0 ∙ sym one.0, two.1)
+  goes_on (Some queue) (hands.Queue pass kept) (hands.Dealt d) one two = two
+  goes_on (Some queue) (hands.Dealt d) now one two = absurd one
+  goes_on None (hands.Queue pass kept) now one two = absurd one
+  goes_on None (hands.Dealt d) (hands.Queue then next) one two = two
+  goes_on None (hands.Dealt d) (hands.Dealt e) one two = tt
+
+  -- has its pass of it at the end too
+  pub still_fits : (queue : Option (Slotted (Option ActorKnown) (Doing ActorKnown Ledger) Q A)) (first now : Hands)
+      → Fits queue first → GoesOn first now → Fits queue now
+  still_fits (Some queue) (hands.Queue pass kept) (hands.Queue then next) one goes = (goes.0 ∙ one.0, goes.1)
+  still_fits (Some queue) (hands.Queue pass kept) (hands.Dealt d) one goes = goes
+  still_fits (Some queue) (hands.Dealt d) now one goes = absurd one
+  still_fits None (hands.Queue pass kept) now one goes = absurd one
+  still_fits None (hands.Dealt d) (hands.Queue then next) one goes = goes
+  still_fits None (hands.Dealt d) (hands.Dealt e) one goes = tt

@@ -1,3 +1,4 @@
+pub mod PlacesLemmas
 pub mod QueueingLemmas
 pub mod GatheringLemmas
 pub mod RunLemmas

@@ -1,25 +1,64 @@
--- Serves Crew.antt, Ledger.antt.
--- A push and a pop keep the rule of the queue, and the ledger has them and the turns that they make.
-use Rattle.std.proofs.Common.{◌≡◌, ◌<◌, ◌+◌, ℕ, Bool, true, false, List, All, Option, refl, sym, subst, add-one}
-use Rattle.std.proofs.lemmas.List.Elements.{All-push, All-head, All-tail}
-use Rattle.crossbeam_queue.specs.Fifo.{Pushes, Pops}
+-- Serves Ledger.antt.
+-- The ledger of a worker has its turns, and what it has is what it kept.
+use Rattle.std.proofs.Common.{◌≡◌, ◌<◌, ◌+◌, ◌++◌, ◌∷◌, [], ℕ, zero, suc, Bool, true, false, drop, Option, Some, None}
+use Rattle.std.proofs.Common.{List, refl, sym, ap, ◌∙◌, subst, add-one}
 use Rattle.chip_net.specs.Tokens.{ActorKnown}
 use Rattle.chip_crew.specs.declared.queue.Ledger.{Ledger}
-use Rattle.chip_crew.specs.Crew.{CrewId, IsOurs}
-use Rattle.chip_crew.specs.Ledger.{with_taken, with_put, MakesOneTurn, TurnsMade}
+use Rattle.chip_crew.specs.Ledger.{HasJust, IsNext, IsPutOrKept, EndsTurn, MakesOneTurn, TurnsMade, with_taken, with_put, vertex_of}
 use Rattle.chip_crew.specs.Handed.{Heeds}
 
-module _ (crew : CrewId) where
-  abbrev Holds : List ActorKnown → List Ledger → Type 0
-  Holds items _ = All (IsOurs crew) items
+-- ---- what it has
 
-  pub puts : (n pass : ℕ) (v : Ledger) (x : ActorKnown) → IsOurs crew x
-      → Pushes Holds n pass v x (λ w. IsOurs crew x × (w ≡ with_put v x))
-  puts n pass v x ours items views _ all at = (with_put v x, All-push (IsOurs crew) items x all ours, (ours, refl))
+abbrev has_of : Ledger → List ℕ
+has_of l = l.has
 
-  pub takes : (pass : ℕ) (v : Ledger) → Pops Holds pass v (λ x w. IsOurs crew x × (w ≡ with_taken v x))
-  takes pass v x items views all at =
-      (with_taken v x, All-tail (IsOurs crew) x items all, (All-head (IsOurs crew) x items all, refl))
+-- a worker that takes an actor, where it kept none, has it
+pub has_taken : (old new : Ledger) (a : ActorKnown) → HasJust old None → new ≡ with_taken old a → HasJust new (Some a)
+has_taken old new a has is = (
+  ap (λ (l : Ledger). l.workers) is ∙ has.0,
+  ap has_of is ∙ ap (λ (vs : List ℕ). vs ++ a.vertex ∷ []) has.1,
+)
+
+-- one that puts it has none
+pub has_put : (old new : Ledger) (a : ActorKnown) → HasJust old (Some a) → new ≡ with_put old a → HasJust new None
+has_put old new a has is = (ap (λ (l : Ledger). l.workers) is ∙ has.0, ap has_of is ∙ ap (drop 1) has.1)
+
+-- what has the same vertex is had in the same way
+pub has_same : (old new : Ledger) (one other : Option ActorKnown) → new ≡ old → vertex_of other ≡ vertex_of one
+    → HasJust old one → HasJust new other
+has_same old new one other is same has =
+    (ap (λ (l : Ledger). l.workers) is ∙ has.0, ap has_of is ∙ has.1 ∙ sym same)
+
+has_next : (old new : Ledger) (kept next : Option ActorKnown) → IsNext old new kept next → HasJust old kept
+    → HasJust new next
+has_next old new (Some k) next is has =
+    has_same old new (Some k) next is.1 (ap vertex_of is.0) has
+has_next old new None (Some a) is has = has_taken old new a has is
+has_next old new None None is has = has_same old new None None is refl has
+
+has_ended : (old new : Ledger) (a : ActorKnown) (kept : Option ActorKnown) → IsPutOrKept old new a kept
+    → HasJust old (Some a) → HasJust new kept
+has_ended old new a None is has = has_put old new a has is
+has_ended old new a (Some k) is has =
+    has_same old new (Some a) (Some k) is.1 (ap (λ (b : ActorKnown). b.vertex ∷ []) is.0) has
+
+has_after : (old new : Ledger) (next kept : Option ActorKnown) → EndsTurn old new next kept → HasJust old next
+    → HasJust new kept
+has_after old new (Some a) kept (after, answer, turn, put) has =
+    has_ended old new after kept put
+    (has_same old old (Some a) (Some after) refl (ap (λ (b : ActorKnown). b.vertex ∷ []) turn.record_is) has)
+has_after old new None kept is has = has_same old new None kept is.0 (ap vertex_of is.1) has
+
+-- after its turns a worker has the actor that it kept, and no other
+pub has_kept : (passes : ℕ → Type 0) (k : ℕ) (ledger : Ledger) (kept : Option ActorKnown)
+    → TurnsMade passes k ledger kept → HasJust ledger kept
+has_kept passes zero ledger kept (begins, none) =
+    (ap (λ (l : Ledger). l.workers) begins, ap has_of begins ∙ sym (ap vertex_of none))
+has_kept passes (suc k) ledger kept (before, was, made, lets, (between, next, is_next, ends)) =
+    has_after between ledger next kept ends
+    (has_next before between was next is_next (has_kept passes k before was made))
+
+-- ---- turns
 
 -- one turn more
 pub turn_more : (passes : ℕ → Type 0) (k : ℕ) (before now : Ledger) (was kept : Option ActorKnown)

@@ -13,12 +13,10 @@ use Rattle.chip_crew.specs.Crew.{CrewId, AreActors}
 use Rattle.chip_crew.specs.Feeding.{Left, pairs}
 use Rattle.chip_crew.specs.Ending.{EndsLed, StaysUnfinished}
 use Rattle.chip_crew.specs.Sealing.{KnowsSeals}
-use Rattle.chip_crew.specs.Gathering.{Lacks}
 use Rattle.chip_crew.specs.Handed.{SomeShut}
 use Rattle.chip_crew.specs.declared.joining.Joined.{Joined}
 use Rattle.chip_crew.specs.declared.plan.Plan.{Plan}
 use Rattle.chip_crew.specs.declared.plan.Sharing.{Sharing}
-use Rattle.chip_crew.specs.declared.plan.Sharing.TheVariants as sharing
 use Rattle.chip_crew.specs.declared.plan.SealAt.{SealAt}
 use Rattle.chip_crew.specs.declared.play.Finished.{Finished}
 use Rattle.chip_crew.specs.declared.fault.CrewFault.{CrewFault}
@@ -85,35 +83,33 @@ pub record IsFinished (shared : Sharing) (game : ChipGame) (feeds : Left) (plan 
 
 -- ---- why a crew didn't finish
 
--- why, where its workers have ended: a gate was shut; else actors are missing; else the root is open
+-- why, where its workers have ended: a gate was shut; else the root is open
 abbrev pub IsClosing : CrewId → Left → Option SealAt → RootKnown → ℕ → Joined → CrewFault → Type 0
 IsClosing crew feeds seal old turns joined fault.Plan = ⊥
 IsClosing crew feeds seal old turns joined fault.Total = ⊥
 IsClosing crew feeds seal old turns joined fault.NoMemory = ⊥
 IsClosing crew feeds seal old turns joined fault.Spawn = ⊥
 IsClosing crew feeds seal old turns joined fault.GateShut = joined.passed ≡ false
-IsClosing crew feeds seal old turns joined (fault.Doubled v) =
-    (joined.passed ≡ true) × Lacks joined.back (fault.Doubled v)
-IsClosing crew feeds seal old turns joined (fault.Lost v) =
-    (joined.passed ≡ true) × Lacks joined.back (fault.Lost v)
+IsClosing crew feeds seal old turns joined (fault.Doubled v) = ⊥
+IsClosing crew feeds seal old turns joined (fault.Lost v) = ⊥
 IsClosing crew feeds seal old turns joined (fault.Unfinished deficit root) =
     (joined.passed ≡ true) × StaysUnfinished crew turns feeds seal old root deficit
 
--- why a crew that was opened didn't finish; `shut` is what is known where a gate was shut. No actor is missing or there
--- twice where they were dealt out
+-- why a crew that was opened didn't finish; `shut` is what is known where a gate was shut. No actor is missing, and none is
+-- there twice
 abbrev pub IsStopped : CrewId → Left → Option SealAt → RootKnown → ℕ → Type 0 → CrewFault → Type 0
 IsStopped crew feeds seal old turns shut fault.Plan = ⊥
 IsStopped crew feeds seal old turns shut fault.Total = ⊥
 IsStopped crew feeds seal old turns shut fault.NoMemory = ⊤
 IsStopped crew feeds seal old turns shut fault.Spawn = ⊤
 IsStopped crew feeds seal old turns shut fault.GateShut = shut
-IsStopped crew feeds seal old turns shut (fault.Doubled v) = (crew.sharing ≡ sharing.Queue) × (v < crew.net.setting.game.graph.vertices)
-IsStopped crew feeds seal old turns shut (fault.Lost v) = (crew.sharing ≡ sharing.Queue) × (v < crew.net.setting.game.graph.vertices)
+IsStopped crew feeds seal old turns shut (fault.Doubled v) = ⊥
+IsStopped crew feeds seal old turns shut (fault.Lost v) = ⊥
 IsStopped crew feeds seal old turns shut (fault.Unfinished deficit root) =
     StaysUnfinished crew turns feeds seal old root deficit
 
 -- plan or feeds are at fault; or their total is; or a crew of this game didn't finish, whose gate may answer so. No actor
--- is missing or there twice where they are dealt out
+-- is missing, and none is there twice
 abbrev pub IsFaultOf : Sharing → ChipGame → Left → Plan → (ℕ → ℕ → Bool → Type 0) → CrewFault → Type 0
 IsFaultOf shared game feeds plan may_answer fault.Plan = is_fed_plan game (pairs feeds) plan ≡ false
 IsFaultOf shared game feeds plan may_answer fault.Total = (is_fed_plan game (pairs feeds) plan ≡ true) × PassesTotal game feeds
@@ -121,10 +117,8 @@ IsFaultOf shared game feeds plan may_answer fault.NoMemory = CanPlay game feeds 
 IsFaultOf shared game feeds plan may_answer fault.Spawn = CanPlay game feeds plan
 IsFaultOf shared game feeds plan may_answer fault.GateShut =
     CanPlay game feeds plan × SomeShut may_answer plan.workers plan.turns
-IsFaultOf shared game feeds plan may_answer (fault.Doubled v) =
-    CanPlay game feeds plan × (shared ≡ sharing.Queue) × (v < game.graph.vertices)
-IsFaultOf shared game feeds plan may_answer (fault.Lost v) =
-    CanPlay game feeds plan × (shared ≡ sharing.Queue) × (v < game.graph.vertices)
+IsFaultOf shared game feeds plan may_answer (fault.Doubled v) = ⊥
+IsFaultOf shared game feeds plan may_answer (fault.Lost v) = ⊥
 IsFaultOf shared game feeds plan may_answer (fault.Unfinished deficit root) =
     (crew : CrewId) × IsCrewFor shared game feeds plan crew
     × StaysUnfinished crew plan.turns feeds plan.seal (root_of crew plan) root deficit

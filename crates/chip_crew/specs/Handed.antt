@@ -1,7 +1,7 @@
 -- What the workers hand back.
-use Rattle.std.specs.Prelude.{◌≡◌, ℕ, ◌<◌, ◌≤◌, max, Bool, true, false, List, length, Option, Some, None, IfSome, ⊤}
+use Rattle.std.specs.Prelude.{◌≡◌, ℕ, ◌<◌, ◌≤◌, max, Bool, true, false, List, [], length, Option, Some, None, IfSome, ⊤}
 use Rattle.std.specs.Option.{option_copied}
-use Rattle.crossbeam_queue.specs.Passes.{view, IsPassOf}
+use Rattle.crossbeam_queue.specs.Passes.{Pass, view, IsPassOf}
 use Rattle.crossbeam_queue.specs.declared.array_queue.Doing.{Doing}
 use Rattle.crossbeam_queue.specs.declared.array_queue.Slotted.{Slotted}
 use Rattle.chip_net.specs.Roots.{RootKnown, StopperKnown}
@@ -62,7 +62,19 @@ HasMade crew worker passes turns (hands.Queue pass kept) =
 HasMade crew worker passes turns (hands.Dealt dealt) = (crew.sharing ≡ sharing.Dealt)
     × AreOf crew worker dealt.actors.items × ((first : List ActorKnown) × RoundsMade passes turns first dealt.actors.items)
 
+-- after those hands the worker has these, with the same queue, or without one as before
+abbrev pub GoesOn : Hands → Hands → Type 0
+GoesOn (hands.Queue pass kept) (hands.Queue now then_kept) = (now.table_id ≡ pass.table_id) × (now.me.1 ≡ [])
+GoesOn (hands.Queue pass kept) (hands.Dealt dealt) = ⊥
+GoesOn (hands.Dealt dealt) (hands.Queue now then_kept) = ⊥
+GoesOn (hands.Dealt dealt) (hands.Dealt now) = ⊤
+
 module _ {Q A : Type 0} where
+  -- it is a pass of this queue; without a queue there is none
+  abbrev pub IsPassFor : Option (Slotted (Option ActorKnown) (Doing ActorKnown Ledger) Q A) → Pass ActorKnown Ledger → Type 0
+  IsPassFor (Some queue) pass = IsPassOf queue pass
+  IsPassFor None pass = ⊥
+
   -- these hands are for a crew with this queue, or for one without a queue
   abbrev pub Fits : Option (Slotted (Option ActorKnown) (Doing ActorKnown Ledger) Q A) → Hands → Type 0
   Fits (Some queue) (hands.Queue pass kept) = IsPassOf queue pass

@@ -1,20 +1,66 @@
 -- What a worker does with its actors.
-use Rattle.std.specs.Prelude.{◌≡◌, ℕ, zero, suc, [], ◌∷◌, ◌++◌, Option, Some, None}
+use Rattle.std.specs.Prelude.{◌≡◌, ℕ, zero, suc, ◌+◌, ◌-◌, List, [], ◌∷◌, ◌++◌, drop, Option, Some, None}
 use Rattle.chip_net.specs.Tokens.{ActorKnown, MakesTurn}
 use Rattle.chip_net.specs.declared.actor.Turn.{Turn}
+use Rattle.chip_crew.specs.Crew.{CrewId}
 use Rattle.chip_crew.specs.declared.queue.Ledger.{Ledger}
 
--- nothing was taken from the queue yet, and nothing put there
+-- so many numbers, from this one on
+abbrev pub numbers_from : ℕ → ℕ → List ℕ
+numbers_from from zero = []
+numbers_from from (suc k) = from ∷ numbers_from (suc from) k
+
+-- the calling thread's, before there is a worker: it speaks for all workers, and has all actors
+abbrev pub first_ledger : CrewId → Ledger
+first_ledger crew = record {
+  workers = crew.workers;
+  has = numbers_from 0 crew.net.setting.game.graph.vertices;
+  taken = [];
+  put = [];
+}
+
+-- a worker's: it has no actor, nothing was taken from the queue yet, and nothing put there
 abbrev pub new_ledger : Ledger
-new_ledger = record { taken = []; put = [] }
+new_ledger = record { workers = 1; has = []; taken = []; put = [] }
+
+-- the calling thread's, once it has given a worker one of its own
+abbrev pub with_fewer : Ledger → Ledger
+with_fewer old = record { workers = old.workers - 1; has = old.has; taken = old.taken; put = old.put }
+
+-- the calling thread's, once it has got that of a worker back
+abbrev pub both_ledgers : Ledger → Ledger → Ledger
+both_ledgers one other = record {
+  workers = one.workers + other.workers;
+  has = one.has ++ other.has;
+  taken = one.taken ++ other.taken;
+  put = one.put ++ other.put;
+}
+
+-- a ledger that was handed back
+abbrev pub no_ledger : Ledger
+no_ledger = record { workers = 0; has = []; taken = []; put = [] }
 
 -- this actor was taken
 abbrev pub with_taken : Ledger → ActorKnown → Ledger
-with_taken old a = record { taken = old.taken ++ a ∷ []; put = old.put }
+with_taken old a = record {
+  workers = old.workers;
+  has = old.has ++ a.vertex ∷ [];
+  taken = old.taken ++ a ∷ [];
+  put = old.put;
+}
 
--- this actor was put
+-- this actor was put, the first of those that the thread had
 abbrev pub with_put : Ledger → ActorKnown → Ledger
-with_put old a = record { taken = old.taken; put = old.put ++ a ∷ [] }
+with_put old a = record { workers = old.workers; has = drop 1 old.has; taken = old.taken; put = old.put ++ a ∷ [] }
+
+-- the vertex of this actor, where there is one
+abbrev pub vertex_of : Option ActorKnown → List ℕ
+vertex_of None = []
+vertex_of (Some a) = a.vertex ∷ []
+
+-- who has this ledger speaks for one worker, and has this actor, if one
+abbrev pub HasJust : Ledger → Option ActorKnown → Type 0
+HasJust ledger kept = (ledger.workers ≡ 1) × (ledger.has ≡ vertex_of kept)
 
 -- the actor that was kept is the next, and nothing was taken; else it is one that was taken, where one came
 abbrev pub IsNext : Ledger → Ledger → Option ActorKnown → Option ActorKnown → Type 0

@@ -6,6 +6,7 @@ pub mod Feeding
 pub mod Sealing
 pub mod Ending
 pub mod Ledger
+pub mod Places
 pub mod Gathering
 pub mod Handed
 pub mod Finished

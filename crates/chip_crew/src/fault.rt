@@ -15,9 +15,9 @@ pub enum CrewFault {
     Spawn,
     /// A gate answered false.
     GateShut,
-    /// Two actors of this vertex were gathered, the least such vertex.
+    /// Two actors of this vertex were gathered. It is never answered, since a crew has one actor of each vertex.
     Doubled(u64),
-    /// No actor of this vertex was gathered, the least such vertex.
+    /// No actor of this vertex was gathered. It is never answered, for the same reason.
     Lost(u64),
     /// All turns were made and the root isn't closed. Feeds that weren't made by then are not made.
     Unfinished {

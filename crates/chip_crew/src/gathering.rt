@@ -1,13 +1,15 @@
 //! How the actors are gathered once all workers have ended.
 
-ghost use Rattle.std.specs.Prelude.{◌≡◌, ◌+◌, ◌<◌, ◌≤◌, [], length, IfOk, IfErr, IfSome};
+ghost use Rattle.std.specs.Prelude.{◌≡◌, ◌+◌, ◌<◌, ◌≤◌, [], length, slice_get, slice_set, Some, None, IfOk, IfSome};
+ghost use Rattle.std.specs.Option.{option_copied};
 ghost use Rattle.chip_crew.specs.Crew.{IsOurs, AreActors};
-ghost use Rattle.chip_crew.specs.Handed.{HasMade};
-ghost use Rattle.chip_crew.specs.Gathering.{IsGathering, IsNoted, AreGathered, IsMissing, AreBack, Lacks, least};
+ghost use Rattle.chip_crew.specs.Handed.{Fits, HasMade};
+ghost use Rattle.chip_crew.specs.Gathering.{IsGathering, IsGatheringFor, AreSeated, AllSeated, AreGathered, AreBack, AreAllBack};
+ghost use Rattle.chip_crew.specs.Ledger.{HasJust};
+ghost use Rattle.crossbeam_queue.specs.Passes.{view, IsPassOf};
 
 use crate::dealing::Dealt;
-use crate::fault::CrewFault;
-use crate::queue::Crew;
+use crate::queue::{Crew, Hires, Once, Queue, QueuePass};
 use crate::worker::Hands;
 use chip_net::Actor;
 use std::alloc::{AllocError, Global};
@@ -16,8 +18,6 @@ use std::alloc::{AllocError, Global};
 #[derive(Drop)]
 pub(crate) struct Gathering {
     seats: Vec<Option<Actor>>,
-    // The least vertex of which there were two.
-    doubled: Option<u64>,
     // What the actors go to, ascending.
     actors: Vec<Actor>,
 }
@@ -25,8 +25,13 @@ pub(crate) struct Gathering {
 /// What the actors come back to, once the workers have ended.
 #[derive(Drop)]
 pub(crate) enum Back {
-    /// Their places, where they came through a queue.
-    Queue(Gathering),
+    /// Their places, where they come through a queue.
+    Queue {
+        /// The calling thread's pass of the queue, which joins those of the workers.
+        pass: QueuePass,
+        /// The places. Those of the actors that the calling thread has are taken.
+        gathering: Gathering,
+    },
     /// The runs that were dealt out, one behind the other. It has room for all actors.
     Dealt(Vec<Actor>),
 }
@@ -37,85 +42,94 @@ pub(crate) fn new_gathering<B: Crew>(
     vertices: usize,
 ) -> Result<Gathering, AllocError>
     requires { vertices ≡ B.crew.net.setting.game.graph.vertices }
-    ensures { IfOk result (IsGathering B.crew) }
+    ensures gathering { IfOk result (IsGathering B.crew) }
+    ensures none { IfOk result (λ gathering. AreSeated gathering.seats.items []) }
 {
     let mut seats = Vec::with_capacity(alloc, vertices)?;
     for _ in 0..vertices {
         seats.push_reserved(None);
     }
     let actors = Vec::with_capacity(alloc, vertices)?;
-    Ok(Gathering {
-        seats,
-        doubled: None,
-        actors,
-    })
+    Ok(Gathering { seats, actors })
 }
 
-/// Notes an actor. Where its vertex has one already, it is let go.
+/// Puts an actor at its place, which is free.
 pub(crate) fn note<B: Crew>(gathering: &mut Gathering, actor: Actor)
     requires gathering { IsGathering B.crew gathering.old }
     requires actor { IsOurs B.crew actor }
+    requires free { slice_get gathering.old.seats.items actor.vertex ≡ Some None }
     ensures gathering { IsGathering B.crew gathering.new }
-    ensures noted { IsNoted gathering.old actor gathering.new }
+    ensures noted { gathering.new.seats.items ≡ slice_set gathering.old.seats.items actor.vertex (Some actor) }
 {
-    let vertex = actor.vertex();
-    let place = vertex as usize;
-    if gathering.seats[place].is_none() {
-        gathering.seats[place] = Some(actor);
-    } else {
-        gathering.doubled = Some(least_of(gathering.doubled, vertex));
-    }
+    let place = actor.vertex() as usize;
+    gathering.seats[place] = Some(actor);
 }
 
-/// The lesser of two vertices, where there are two.
-fn least_of(before: Option<u64>, vertex: u64) -> u64
-    ensures { result ≡ least before vertex }
-{
-    match before {
-        Some(before) => before.min(vertex),
-        None => vertex,
-    }
-}
-
-/// The actors of all vertices, ascending, where each was noted once.
-pub(crate) fn gather<B: Crew>(gathering: Gathering) -> Result<Vec<Actor>, CrewFault>
-    requires { IsGathering B.crew gathering }
-    ensures actors { IfOk result (λ actors. AreActors B.crew actors.items) }
-    ensures gathered { IfOk result (λ actors. AreGathered gathering actors.items) }
-    ensures fault { IfErr result (IsMissing gathering) }
+/// The actors of all vertices, ascending, where each has its place.
+fn gather<B: Crew>(gathering: Gathering) -> Vec<Actor>
+    requires gathering { IsGathering B.crew gathering }
+    requires all { AllSeated gathering.seats.items }
+    ensures actors { AreActors B.crew result.items }
+    ensures gathered { AreGathered gathering result.items }
 {
     let Gathering {
         mut seats,
-        doubled,
         mut actors,
     } = gathering;
-    if let Some(vertex) = doubled {
-        return Err(CrewFault::Doubled(vertex));
-    }
     for vertex in 0..seats.len() {
-        match seats[vertex].take() {
-            Some(actor) => actors.push_reserved(actor),
-            None => return Err(CrewFault::Lost(vertex as u64)),
-        }
+        let Some(actor) = seats[vertex].take() else {
+            unreachable!()
+        };
+        actors.push_reserved(actor);
     }
-    Ok(actors)
+    actors
 }
 
-/// Takes back what a worker has. Where the actors were dealt out, those of all lesser workers are back already.
-pub(crate) fn take_hands<B: Crew>(back: &mut Back, hands: Hands, _worker: u64, _turns: u64)
+/// Takes back the pass of a worker, and puts the actor that it kept at its place.
+fn join_pass<B: Crew>(
+    queue: &Queue<B>,
+    pass: &mut QueuePass,
+    gathering: &mut Gathering,
+    theirs: QueuePass,
+    kept: Option<Actor>,
+)
+    requires pass { IsPassOf queue.now pass.old }
+    requires gathering { IsGatheringFor B.crew (view pass.old).workers (view pass.old) gathering.old }
+    requires theirs { IsPassOf queue.now theirs }
+    requires kept { IfSome kept (IsOurs B.crew) }
+    requires has { HasJust (view theirs) kept }
+    ensures pass { IsPassOf queue.now pass.new }
+    ensures gathering { IsGatheringFor B.crew ((view pass.old).workers + 1) (view pass.new) gathering.new }
+{
+    queue.absorb::<Hires>(pass, theirs);
+    // It tells that the place of the actor is free.
+    queue.learn_as::<Once<B>>(pass);
+    if let Some(actor) = kept {
+        note::<B>(gathering, actor);
+    }
+}
+
+/// Takes back what a worker has. What all lesser workers had is back already.
+pub(crate) fn take_hands<B: Crew>(
+    queue: Option<&Queue<B>>,
+    back: &mut Back,
+    hands: Hands,
+    _worker: u64,
+    _turns: u64,
+)
     requires worker { _worker < B.crew.workers }
-    requires back { AreBack B.crew _worker back.old }
+    requires back { AreBack B.crew (option_copied queue) _worker back.old }
+    requires fits { Fits (option_copied queue) hands }
     requires hands { HasMade B.crew _worker (B.passes _worker) _turns hands }
-    ensures back { AreBack B.crew (_worker + 1) back.new }
+    ensures back { AreBack B.crew (option_copied queue.entry) (_worker + 1) back.new }
 {
     match hands {
-        Hands::Queue { kept, .. } => {
-            let Back::Queue(gathering) = back else {
+        Hands::Queue { pass: theirs, kept } => {
+            let Back::Queue { pass, gathering } = back else {
                 unreachable!()
             };
-            if let Some(actor) = kept {
-                note::<B>(gathering, actor);
-            }
+            let Some(queue) = queue else { unreachable!() };
+            join_pass(queue, pass, gathering, theirs, kept);
         }
         Hands::Dealt(dealt) => {
             let Dealt { actors, .. } = dealt;
@@ -129,15 +143,14 @@ pub(crate) fn take_hands<B: Crew>(back: &mut Back, hands: Hands, _worker: u64, _
     }
 }
 
-/// The actors of all vertices, ascending, where each came back once.
-pub(crate) fn all_back<B: Crew>(back: Back) -> Result<Vec<Actor>, CrewFault>
-    requires back { AreBack B.crew B.crew.workers back }
+/// The actors of all vertices, ascending.
+pub(crate) fn all_back<B: Crew>(back: Back) -> Vec<Actor>
+    requires back { AreAllBack B.crew back }
     requires some { 0 < B.crew.workers }
-    ensures actors { IfOk result (λ actors. AreActors B.crew actors.items) }
-    ensures fault { IfErr result (Lacks back) }
+    ensures { AreActors B.crew result.items }
 {
     match back {
-        Back::Queue(gathering) => gather::<B>(gathering),
-        Back::Dealt(row) => Ok(row),
+        Back::Queue { gathering, .. } => gather::<B>(gathering),
+        Back::Dealt(row) => row,
     }
 }

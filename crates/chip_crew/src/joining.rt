@@ -5,35 +5,49 @@ ghost use Rattle.chip_crew.specs.declared.fault.CrewFault.TheVariants.{Spawn};
 ghost use Rattle.std.specs.Option.{option_copied};
 ghost use Rattle.std.specs.Vec.{vec_capacity};
 ghost use Rattle.chip_crew.specs.Crew.{EachFrom};
-ghost use Rattle.chip_crew.specs.Handed.{HasPolled, IsLead, Heeds, AllHeed, IsHanded, Fits, HasMade, AreReady};
+ghost use Rattle.chip_crew.specs.Handed.{HasPolled, HasLed, IsLead, Heeds, AllHeed, IsHanded, Fits, GoesOn, HasMade, AreReady};
 ghost use Rattle.chip_crew.specs.Sealing.{HasSealed};
 ghost use Rattle.chip_crew.specs.Gathering.{AreBack};
 
 use crate::fault::CrewFault;
 use crate::gathering::{Back, take_hands};
-use crate::lead::{Lead, LeadHanded};
+use crate::lead::{Lead, LeadHanded, LeadTask};
 use crate::plan::{Gate, SealAt};
-use crate::queue::Crew;
+use crate::queue::{Crew, Queue};
 use crate::worker::{Handed, Hands, Shared, Task};
 use chip_net::{Root, Stopper};
 use std::marker::PhantomData;
+use std::snapshot::Snapshot;
 use std::sync::Wait;
 use std::sync::atomic::Ordering::SeqCst;
-use std::thread::{self, JoinHandle, Promise, PromisedHandle, Scope, Threads};
+use std::thread::{self, Promise, PromisedHandle, Scope, Threads};
 
-/// The promise of the worker of this number: what it hands back are actors of this net, each of its turns was let pass by
-/// its gate and gave one actor one turn, and its gate answered false only where it may.
+/// The promise of the worker of this number, which begins with these hands: what it hands back are actors of this net,
+/// from the same queue, if there is one; each of its turns was let pass by its gate and gave one actor one turn, and its
+/// gate answered false only where it may. Worker 0 led the root besides.
 #[derive(Drop)]
 pub(crate) struct Keeps<B> {
     worker: u64,
+    hands: Snapshot<Hands>,
     of: PhantomData<B>,
 }
 
 impl<B: Crew> Promise<Handed> for Keeps<B> {
-    ghost use Rattle.chip_crew.specs.Handed.{IsHanded};
+    ghost use Rattle.chip_crew.specs.Handed.{GoesOn, IsHanded};
 
-    ghost kept_by = { λ keeps handed. IsHanded B.crew keeps.worker (B.passes keeps.worker) B.turns B.shut handed };
+    ghost kept_by = { λ keeps handed. IsHanded B.crew keeps.worker (B.passes keeps.worker) B.turns B.shut handed
+        × GoesOn keeps.hands.value handed.hands };
 }
+
+impl<B: Crew> Promise<LeadHanded> for Keeps<B> {
+    ghost use Rattle.chip_crew.specs.Handed.{GoesOn, HasLed};
+
+    ghost kept_by = { λ keeps led. HasLed B.crew B.feeds B.seal B.root B.turns (B.passes 0) B.shut led.handed led.root led.round led.seal
+        × GoesOn keeps.hands.value led.handed.hands };
+}
+
+/// Worker 0, once it has started.
+type StartedLead<B> = PromisedHandle<LeadHanded, Keeps<B>>;
 
 /// A worker other than worker 0 that has started.
 pub(crate) type Started<B> = PromisedHandle<Handed, Keeps<B>>;
@@ -61,20 +75,26 @@ fn start_lead<'s, E, B: Crew + Send + Sync, G: Gate + Sync>(
     shared: &'s Shared<'s, B, G>,
     lead: Lead<'s>,
     hands: Hands,
-) -> Result<JoinHandle<LeadHanded<B>>, CrewFault>
+) -> Result<StartedLead<B>, CrewFault>
     requires hands { HasMade B.crew 0 (B.passes 0) 0 hands × Fits (option_copied shared.now.queue) hands }
     requires net { shared.now.net.now ≡ B.crew.net }
     requires turns { shared.now.turns ≡ B.turns }
     requires lead { IsLead B.crew B.feeds B.seal B.root lead }
     requires gate { Heeds (G.may_answer shared.now.gate.now 0) shared.now.turns (B.passes 0) B.shut }
-    ensures { IfErr result (λ fault. fault ≡ Spawn) }
+    ensures fault { IfErr result (λ fault. fault ≡ Spawn) }
+    ensures fits { IfOk result (λ started. Fits (option_copied shared.now.queue) started.promise.hands.value) }
 {
-    let work = move || -> LeadHanded<B>
-        requires { (shared.now.net.now ≡ B.crew.net) × (shared.now.turns ≡ B.turns) × IsLead B.crew B.feeds B.seal B.root lead
-            × Heeds (G.may_answer shared.now.gate.now 0) shared.now.turns (B.passes 0) B.shut
-            × HasMade B.crew 0 (B.passes 0) 0 hands × Fits (option_copied shared.now.queue) hands }
-    { shared.lead(lead, hands) };
-    match scope.spawn(work) {
+    let promise = Keeps {
+        worker: 0,
+        hands: Snapshot::of(&hands),
+        of: PhantomData,
+    };
+    let task = LeadTask {
+        shared,
+        lead,
+        hands,
+    };
+    match scope.spawn_with(promise, move || task.run()) {
         Ok(started) => Ok(started),
         Err(_) => Err(CrewFault::Spawn),
     }
@@ -93,9 +113,11 @@ fn start_worker<'s, E, B: Crew + Send + Sync, G: Gate + Sync>(
     requires gate { Heeds (G.may_answer shared.now.gate.now worker) shared.now.turns (B.passes worker) B.shut }
     ensures fault { IfErr result (λ fault. fault ≡ Spawn) }
     ensures worker { IfOk result (λ started. started.promise.worker ≡ worker) }
+    ensures fits { IfOk result (λ started. Fits (option_copied shared.now.queue) started.promise.hands.value) }
 {
     let promise = Keeps {
         worker,
+        hands: Snapshot::of(&hands),
         of: PhantomData,
     };
     let task = Task {
@@ -116,7 +138,7 @@ fn start_all<'s, E, B: Crew + Send + Sync, G: Gate + Sync>(
     lead: Lead<'s>,
     hands: Vec<Hands>,
     mut others: Vec<Started<B>>,
-) -> Result<(JoinHandle<LeadHanded<B>>, Vec<Started<B>>), CrewFault>
+) -> Result<(StartedLead<B>, Vec<Started<B>>), CrewFault>
     requires net { shared.now.net.now ≡ B.crew.net }
     requires turns { shared.now.turns ≡ B.turns }
     requires lead { IsLead B.crew B.feeds B.seal B.root lead }
@@ -128,7 +150,8 @@ fn start_all<'s, E, B: Crew + Send + Sync, G: Gate + Sync>(
     requires gate { AllHeed (G.may_answer shared.now.gate.now) B.crew.workers shared.now.turns B.passes B.shut }
     ensures fault { IfErr result (λ fault. fault ≡ Spawn) }
     ensures count { IfOk result (λ started. length started.1.items + 1 ≡ B.crew.workers) }
-    ensures workers { IfOk result (λ started. EachFrom (λ worker s. s.promise.worker ≡ worker) 1 started.1.items) }
+    ensures lead { IfOk result (λ started. Fits (option_copied shared.now.queue) started.0.promise.hands.value) }
+    ensures workers { IfOk result (λ started. EachFrom (λ worker s. (s.promise.worker ≡ worker) × Fits (option_copied shared.now.queue) s.promise.hands.value) 1 started.1.items) }
 {
     let mut rest = hands.into_iter();
     let Some(first) = rest.next() else {
@@ -152,17 +175,19 @@ fn start_all<'s, E, B: Crew + Send + Sync, G: Gate + Sync>(
 /// Waits until all workers have ended, and takes back what they have.
 fn join_all<B: Crew, R: Threads>(
     rt: &R,
-    lead: JoinHandle<LeadHanded<B>>,
+    queue: Option<&Queue<B>>,
+    lead: StartedLead<B>,
     others: Vec<Started<B>>,
     mut back: Back,
 ) -> Joined
-    requires back { AreBack B.crew 0 back }
+    requires back { AreBack B.crew (option_copied queue) 0 back }
+    requires lead { Fits (option_copied queue) lead.promise.hands.value }
     requires count { length others.items + 1 ≡ B.crew.workers }
-    requires workers { EachFrom (λ worker s. s.promise.worker ≡ worker) 1 others.items }
+    requires workers { EachFrom (λ worker s. (s.promise.worker ≡ worker) × Fits (option_copied queue) s.promise.hands.value) 1 others.items }
     requires few { B.crew.workers < 2 ^ 64 }
     ensures root { HasPolled B.crew B.feeds B.root B.turns result.root result.round result.turns }
     ensures seal { HasSealed B.crew B.seal result.turns result.seal }
-    ensures back { AreBack B.crew B.crew.workers result.back }
+    ensures back { AreBack B.crew (option_copied queue.entry) B.crew.workers result.back }
     ensures passed { result.passed ≡ false → B.shut }
 {
     let LeadHanded {
@@ -170,18 +195,17 @@ fn join_all<B: Crew, R: Threads>(
         root,
         round,
         seal,
-        of: _,
     } = lead.join(rt);
     let Handed {
         hands,
         mut passed,
         turns,
     } = handed;
-    take_hands::<B>(&mut back, hands, 0, turns);
+    take_hands::<B>(queue, &mut back, hands, 0, turns);
     let mut worker = 1;
     for started in others {
         let handed = started.join(rt);
-        take_hands::<B>(&mut back, handed.hands, worker, handed.turns);
+        take_hands::<B>(queue, &mut back, handed.hands, worker, handed.turns);
         passed &= handed.passed;
         worker += 1;
     }
@@ -209,7 +233,7 @@ pub(crate) fn run_workers<R: Threads + Wait, B: Crew + Send + Sync, G: Gate + Sy
     requires lead { IsLead B.crew B.feeds B.seal B.root lead }
     requires none_yet { others.items ≡ [] }
     requires room { B.crew.workers ≤ vec_capacity others }
-    requires back { AreBack B.crew 0 back }
+    requires back { AreBack B.crew (option_copied shared.now.queue) 0 back }
     requires some { 0 < B.crew.workers }
     requires few { B.crew.workers < 2 ^ 64 }
     requires count { length hands.items ≡ B.crew.workers }
@@ -217,7 +241,7 @@ pub(crate) fn run_workers<R: Threads + Wait, B: Crew + Send + Sync, G: Gate + Sy
     requires gate { AllHeed (G.may_answer shared.now.gate.now) B.crew.workers shared.now.turns B.passes B.shut }
     ensures root { IfOk result (λ j. HasPolled B.crew B.feeds B.root B.turns j.root j.round j.turns) }
     ensures seal { IfOk result (λ j. HasSealed B.crew B.seal j.turns j.seal) }
-    ensures back { IfOk result (λ j. AreBack B.crew B.crew.workers j.back) }
+    ensures back { IfOk result (λ j. AreBack B.crew (option_copied shared.now.queue) B.crew.workers j.back) }
     ensures passed { IfOk result (λ j. j.passed ≡ false → B.shut) }
     ensures fault { IfErr result (λ fault. fault ≡ Spawn) }
 {
@@ -226,15 +250,15 @@ pub(crate) fn run_workers<R: Threads + Wait, B: Crew + Send + Sync, G: Gate + Sy
         rt,
         |scope| -> Result<Joined, CrewFault>
             requires { (shared.now.net.now ≡ B.crew.net) × (shared.now.turns ≡ B.turns)
-                × IsLead B.crew B.feeds B.seal B.root lead × (others.items ≡ []) × (B.crew.workers ≤ vec_capacity others) × AreBack B.crew 0 back
+                × IsLead B.crew B.feeds B.seal B.root lead × (others.items ≡ []) × (B.crew.workers ≤ vec_capacity others) × AreBack B.crew (option_copied shared.now.queue) 0 back
                 × (0 < B.crew.workers) × (B.crew.workers < 2 ^ 64) × (length hands.items ≡ B.crew.workers)
                 × AreReady B.crew B.passes (option_copied shared.now.queue) hands.items
                 × AllHeed (G.may_answer shared.now.gate.now) B.crew.workers shared.now.turns B.passes B.shut }
             ensures { IfOk result (λ j. HasPolled B.crew B.feeds B.root B.turns j.root j.round j.turns
-                × HasSealed B.crew B.seal j.turns j.seal × AreBack B.crew B.crew.workers j.back × (j.passed ≡ false → B.shut)) × IfErr result (λ fault. fault ≡ Spawn) }
+                × HasSealed B.crew B.seal j.turns j.seal × AreBack B.crew (option_copied shared.entry.now.queue) B.crew.workers j.back × (j.passed ≡ false → B.shut)) × IfErr result (λ fault. fault ≡ Spawn) }
         {
             let (lead, others) = start_all(scope, shared, lead, hands, others)?;
-            Ok(join_all(rt, lead, others, back))
+            Ok(join_all(rt, shared.queue, lead, others, back))
         },
     )
 }

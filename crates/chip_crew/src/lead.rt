@@ -3,7 +3,7 @@
 ghost use Rattle.std.specs.Prelude.{◌≡◌, ◌<◌, IfSome};
 ghost use Rattle.std.specs.Option.{option_copied};
 ghost use Rattle.chip_part.specs.Edges.{graph_edges};
-ghost use Rattle.chip_crew.specs.Handed.{Fits, HasMade, Heeds, IsLead};
+ghost use Rattle.chip_crew.specs.Handed.{Fits, HasLed, HasMade, Heeds, IsLead};
 ghost use Rattle.chip_crew.specs.Sealing.{SealsBefore};
 
 use crate::feeding::feed_once;
@@ -11,7 +11,6 @@ use crate::plan::{Gate, SealAt};
 use crate::queue::Crew;
 use crate::worker::{Handed, Hands, Shared};
 use chip_net::{Net, Root, RootState, Stopper};
-use std::marker::{Model, PhantomData};
 use std::sync::atomic::Ordering::SeqCst;
 
 /// What worker 0 has beside its actors.
@@ -25,9 +24,17 @@ pub(crate) struct Lead<'a> {
     pub seal: Option<(Stopper, SealAt)>,
 }
 
-/// What worker 0 hands back, of which it is known that it polled the root after each of its rounds.
+/// The work of worker 0, before it is begun. As one value it goes to the worker's thread.
 #[derive(Drop)]
-pub(crate) struct LeadHanded<B: Crew> {
+pub(crate) struct LeadTask<'a, B: Crew, G: Gate> {
+    pub shared: &'a Shared<'a, B, G>,
+    pub lead: Lead<'a>,
+    pub hands: Hands,
+}
+
+/// What worker 0 hands back.
+#[derive(Drop)]
+pub(crate) struct LeadHanded {
     /// As of every worker.
     pub handed: Handed,
     /// The root.
@@ -36,18 +43,6 @@ pub(crate) struct LeadHanded<B: Crew> {
     pub round: u64,
     /// The stopper, and what it was to seal.
     pub seal: Option<(Stopper, SealAt)>,
-    pub of: PhantomData<B>,
-}
-
-impl<B: Crew> Model for LeadHanded<B> {
-    ghost use Rattle.chip_net.specs.Roots.{RootKnown};
-    ghost use Rattle.chip_crew.specs.Handed.{HasLed};
-
-    ghost Value = { RootKnown };
-
-    ghost view = { λ a. a.root };
-
-    ghost invariant = { λ a. HasLed B.crew B.feeds B.seal B.root B.turns (B.passes 0) B.shut a.handed a.root a.round a.seal };
 }
 
 /// Seals, where this is the turn for it.
@@ -66,13 +61,15 @@ fn seal_before(net: &Net, seal: &mut Option<(Stopper, SealAt)>, turn: u64)
 impl<'a, B: Crew, G: Gate> Shared<'a, B, G> {
     /// The turns of worker 0, with a feed before each and a poll after each round, until the root is closed or it is told to
     /// stop, where it tells the others.
-    pub fn lead(&self, lead: Lead, mut hands: Hands) -> LeadHanded<B>
+    pub fn lead(&self, lead: Lead, mut hands: Hands) -> LeadHanded
         requires fits { Fits (option_copied self.now.queue) hands }
         requires made { HasMade B.crew 0 (B.passes 0) 0 hands }
         requires net { self.now.net.now ≡ B.crew.net }
         requires turns { self.now.turns ≡ B.turns }
         requires lead { IsLead B.crew B.feeds B.seal B.root lead }
         requires gate { Heeds (G.may_answer self.now.gate.now 0) self.now.turns (B.passes 0) B.shut }
+        ensures led { HasLed B.crew B.feeds B.seal B.root B.turns (B.passes 0) B.shut result.handed result.root result.round result.seal }
+        ensures fits { Fits (option_copied self.now.queue) result.handed.hands }
     {
         let Lead {
             mut root,
@@ -117,7 +114,27 @@ impl<'a, B: Crew, G: Gate> Shared<'a, B, G> {
             root,
             round,
             seal,
-            of: PhantomData,
         }
+    }
+}
+
+impl<'a, B: Crew, G: Gate> LeadTask<'a, B, G> {
+    /// Does the work.
+    pub fn run(self) -> LeadHanded
+        requires fits { Fits (option_copied self.shared.now.queue) self.hands }
+        requires made { HasMade B.crew 0 (B.passes 0) 0 self.hands }
+        requires net { self.shared.now.net.now ≡ B.crew.net }
+        requires turns { self.shared.now.turns ≡ B.turns }
+        requires lead { IsLead B.crew B.feeds B.seal B.root self.lead }
+        requires gate { Heeds (G.may_answer self.shared.now.gate.now 0) self.shared.now.turns (B.passes 0) B.shut }
+        ensures led { HasLed B.crew B.feeds B.seal B.root B.turns (B.passes 0) B.shut result.handed result.root result.round result.seal }
+        ensures fits { Fits (option_copied self.entry.shared.now.queue) result.handed.hands }
+    {
+        let LeadTask {
+            shared,
+            lead,
+            hands,
+        } = self;
+        shared.lead(lead, hands)
     }
 }

@@ -1,17 +1,17 @@
 //! A game played by a crew, from its opening to its end.
 
-ghost use Rattle.std.specs.Prelude.{◌≡◌, ◌<◌, ◌≤◌, true, [], All, length, Some, None, IfOk, IfErr, IfSome};
+ghost use Rattle.std.specs.Prelude.{◌≡◌, ◌<◌, ◌≤◌, true, [], All, map, length, Some, None, IfOk, IfErr, IfSome};
 ghost use Rattle.std.specs.Vec.{vec_capacity};
 ghost use Rattle.chip_net.specs.Roots.{RootKnown};
 ghost use Rattle.chip_crew.specs.Handed.{HasPolled, IsLead, AllHeed, AreReady};
 ghost use Rattle.chip_crew.specs.Plans.{max_workers};
 ghost use Rattle.chip_crew.specs.declared.plan.Sharing.TheVariants as shares;
 ghost use Rattle.chip_crew.specs.Sealing.{HasSealed};
-ghost use Rattle.crossbeam_queue.specs.Passes.{IsPassOf};
+ghost use Rattle.crossbeam_queue.specs.Passes.{view, IsPassOf, ruled_capacity};
 ghost use Rattle.std.specs.Option.{option_copied, option_zip};
 ghost use Rattle.chip_crew.specs.Crew.{IsOurs, AreFrom};
 ghost use Rattle.chip_crew.specs.Feeding.{MayFeedLeft};
-ghost use Rattle.chip_crew.specs.Gathering.{IsGathering, AreBack};
+ghost use Rattle.chip_crew.specs.Gathering.{IsGathering, IsGatheringFor, AllSeated, AreBack, AreAllBack};
 ghost use Rattle.chip_crew.specs.Finished.{HasFinished, IsFinished, IsClosing, IsStopped, IsFaultOf};
 
 use crate::dealing::deal;
@@ -21,7 +21,7 @@ use crate::gathering::{Back, Gathering, all_back, new_gathering, note};
 use crate::joining::{Joined, Started, run_workers};
 use crate::lead::Lead;
 use crate::plan::{Gate, Plan, Sharing};
-use crate::queue::{Crew, Puts, Queue, QueuePass, Takes};
+use crate::queue::{Crew, Hires, Puts, Queue, QueuePass, Takes};
 use crate::worker::{Hands, Shared};
 use chip_graph::{Game, Graph};
 use chip_net::{Actor, Net, Opened, Receipt, Root};
@@ -44,50 +44,53 @@ pub struct Finished {
     pub actors: Vec<Actor>,
 }
 
-/// Puts the actors into the queue, in their order. One that finds no place there is noted.
-fn fill<B: Crew>(
+/// Puts the actors into the queue, in their order. It has room for all of them.
+fn fill<R: Wait, B: Crew>(rt: &R, queue: &Queue<B>, pass: &mut QueuePass, actors: Vec<Actor>)
+    requires pass { IsPassOf queue.now pass.old }
+    requires room { ruled_capacity queue.now ≡ B.crew.net.setting.game.graph.vertices }
+    requires actors { All (IsOurs B.crew) actors.items }
+    requires has { (view pass.old).has ≡ map (λ a. a.vertex) actors.items }
+    ensures pass { IsPassOf queue.now pass.new }
+    ensures has { ((view pass.new).has ≡ []) × ((view pass.new).workers ≡ (view pass.old).workers) }
+{
+    for actor in actors {
+        let Ok(()) = queue.push_as::<Puts<B>, R>(rt, pass, actor) else {
+            unreachable!()
+        };
+    }
+}
+
+/// Takes all actors that are in the queue. All workers have handed back what they had.
+fn drain<R: Wait, B: Crew>(
+    rt: &R,
     queue: &Queue<B>,
     pass: &mut QueuePass,
-    actors: Vec<Actor>,
     gathering: &mut Gathering,
 )
     requires pass { IsPassOf queue.now pass.old }
-    requires actors { All (IsOurs B.crew) actors.items }
-    requires gathering { IsGathering B.crew gathering.old }
-    ensures pass { IsPassOf queue.now pass.new }
+    requires gathering { IsGatheringFor B.crew B.crew.workers (view pass.old) gathering.old }
+    requires some { 0 < B.crew.workers }
     ensures gathering { IsGathering B.crew gathering.new }
+    ensures all { AllSeated gathering.new.seats.items }
 {
-    for actor in actors {
-        if let Err(actor) = queue.try_push_as::<Puts<B>>(pass, actor) {
-            note::<B>(gathering, actor);
-        }
+    for _ in rt.forever() {
+        let Some(actor) = queue.pop_as::<Takes<B>, R>(rt, pass) else {
+            return;
+        };
+        note::<B>(gathering, actor);
     }
+    unreachable!()
 }
 
-/// Notes all actors that are in the queue.
-fn drain<B: Crew>(queue: &Queue<B>, gathering: &mut Gathering)
-    requires gathering { IsGathering B.crew gathering.old }
-    ensures gathering { IsGathering B.crew gathering.new }
+/// Takes the actors that are left in the queue, where there is one.
+fn take_left<R: Wait, B: Crew>(rt: &R, queue: Option<&Queue<B>>, back: &mut Back)
+    requires back { AreBack B.crew (option_copied queue) B.crew.workers back.old }
+    requires some { 0 < B.crew.workers }
+    ensures { AreAllBack B.crew back.new }
 {
-    let mut pass = queue.pass();
-    for _ in 0..queue.capacity() {
-        match queue.try_pop_as::<Takes<B>>(&mut pass) {
-            Some(actor) => note::<B>(gathering, actor),
-            None => break,
-        }
-    }
-}
-
-/// Notes the actors that are left in the queue, where there is one.
-fn take_left<B: Crew>(queue: &Option<Queue<B>>, back: &mut Back)
-    requires back { AreBack B.crew B.crew.workers back.old }
-    ensures back { AreBack B.crew B.crew.workers back.new }
-{
-    let Some(queue) = queue else {
-        return;
-    };
-    if let Back::Queue(gathering) = back {
-        drain(queue, gathering);
+    if let Back::Queue { pass, gathering } = back {
+        let Some(queue) = queue else { unreachable!() };
+        drain(rt, queue, pass, gathering);
     }
 }
 
@@ -97,7 +100,7 @@ fn end_play<B: Crew>(net: &Net, joined: Joined, turns: u64) -> Result<Finished, 
     requires turns { turns ≡ B.turns }
     requires root { HasPolled B.crew B.feeds B.root B.turns joined.root joined.round joined.turns }
     requires seal { HasSealed B.crew B.seal joined.turns joined.seal }
-    requires back { AreBack B.crew B.crew.workers joined.back }
+    requires back { AreAllBack B.crew joined.back }
     requires some { 0 < B.crew.workers }
     ensures passed { IfOk result (λ _. joined.passed ≡ true) }
     ensures finished { IfOk result (HasFinished B.crew B.feeds B.seal B.root) }
@@ -114,7 +117,7 @@ fn end_play<B: Crew>(net: &Net, joined: Joined, turns: u64) -> Result<Finished, 
     if !passed {
         return Err(CrewFault::GateShut);
     }
-    let mut actors = all_back::<B>(back)?;
+    let mut actors = all_back::<B>(back);
     take_back(net, &mut root, seal);
     match last_poll(net, root, made / round, turns / round) {
         Ok((outcome, mut receipt)) => {
@@ -137,16 +140,25 @@ struct Prepared<B: Crew> {
     back: Back,
 }
 
-/// What so many workers begin with that share a queue.
-fn passes<B: Crew>(alloc: Global, queue: &Queue<B>, workers: u64) -> Result<Vec<Hands>, AllocError>
+/// What so many workers begin with that share a queue. Each has a pass of its own.
+fn passes<B: Crew>(
+    alloc: Global,
+    queue: &Queue<B>,
+    pass: &mut QueuePass,
+    workers: u64,
+) -> Result<Vec<Hands>, AllocError>
     requires sharing { B.crew.sharing ≡ shares.Queue }
+    requires pass { IsPassOf queue.now pass.old }
+    requires has { ((view pass.old).has ≡ []) × ((view pass.old).workers ≡ workers) }
+    ensures pass { IsPassOf queue.now pass.new }
+    ensures has { IfOk result (λ _. ((view pass.new).has ≡ []) × ((view pass.new).workers ≡ 0)) }
     ensures count { IfOk result (λ hands. length hands.items ≡ workers) }
     ensures hands { IfOk result (λ hands. AreReady B.crew B.passes (Some queue.now) hands.items) }
 {
     let mut hands = Vec::with_capacity(alloc, workers as usize)?;
     for _ in 0..workers {
         hands.push_reserved(Hands::Queue {
-            pass: queue.pass(),
+            pass: queue.another::<Hires>(pass),
             kept: None,
         });
     }
@@ -154,31 +166,33 @@ fn passes<B: Crew>(alloc: Global, queue: &Queue<B>, workers: u64) -> Result<Vec<
 }
 
 /// What a crew begins with whose actors are in a queue.
-fn prepare_queue<B: Crew>(
+fn prepare_queue<R: Wait, B: Crew>(
+    rt: &R,
     alloc: Global,
     actors: Vec<Actor>,
     workers: u64,
 ) -> Result<Prepared<B>, AllocError>
     requires sharing { B.crew.sharing ≡ shares.Queue }
+    requires workers { (0 < workers) × (workers ≡ B.crew.workers) }
     requires actors { AreFrom B.crew 0 actors.items }
     requires count { length actors.items ≡ B.crew.net.setting.game.graph.vertices }
     requires some { 0 < B.crew.net.setting.game.graph.vertices }
     ensures others { IfOk result (λ k. (k.others.items ≡ []) × (workers ≤ vec_capacity k.others)) }
-    ensures back { IfOk result (λ k. AreBack B.crew 0 k.back) }
+    ensures back { IfOk result (λ k. AreBack B.crew k.queue 0 k.back) }
     ensures count { IfOk result (λ k. length k.hands.items ≡ workers) }
     ensures hands { IfOk result (λ k. AreReady B.crew B.passes k.queue k.hands.items) }
 {
     let vertices = actors.len();
-    let mut gathering = new_gathering::<B>(alloc, vertices)?;
+    let gathering = new_gathering::<B>(alloc, vertices)?;
     let others = Vec::with_capacity(alloc, workers as usize)?;
     let (queue, mut pass) = Queue::<B>::ruled(alloc, vertices)?;
-    fill(&queue, &mut pass, actors, &mut gathering);
-    let hands = passes(alloc, &queue, workers)?;
+    fill(rt, &queue, &mut pass, actors);
+    let hands = passes(alloc, &queue, &mut pass, workers)?;
     Ok(Prepared {
         queue: Some(queue),
         hands,
         others,
-        back: Back::Queue(gathering),
+        back: Back::Queue { pass, gathering },
     })
 }
 
@@ -195,7 +209,7 @@ fn prepare_dealt<B: Crew>(
     requires actors { AreFrom B.crew 0 actors.items }
     requires count { length actors.items ≡ B.crew.net.setting.game.graph.vertices }
     ensures others { IfOk result (λ k. (k.others.items ≡ []) × (workers ≤ vec_capacity k.others)) }
-    ensures back { IfOk result (λ k. AreBack B.crew 0 k.back) }
+    ensures back { IfOk result (λ k. AreBack B.crew k.queue 0 k.back) }
     ensures count { IfOk result (λ k. length k.hands.items ≡ workers) }
     ensures hands { IfOk result (λ k. AreReady B.crew B.passes k.queue k.hands.items) }
 {
@@ -211,7 +225,8 @@ fn prepare_dealt<B: Crew>(
 }
 
 /// What a crew of so many workers begins with that share the actors in this way.
-fn prepare<B: Crew>(
+fn prepare<R: Wait, B: Crew>(
+    rt: &R,
     alloc: Global,
     graph: &Graph,
     actors: Vec<Actor>,
@@ -225,12 +240,12 @@ fn prepare<B: Crew>(
     requires count { length actors.items ≡ B.crew.net.setting.game.graph.vertices }
     requires some { 0 < B.crew.net.setting.game.graph.vertices }
     ensures others { IfOk result (λ k. (k.others.items ≡ []) × (workers ≤ vec_capacity k.others)) }
-    ensures back { IfOk result (λ k. AreBack B.crew 0 k.back) }
+    ensures back { IfOk result (λ k. AreBack B.crew k.queue 0 k.back) }
     ensures count { IfOk result (λ k. length k.hands.items ≡ workers) }
     ensures hands { IfOk result (λ k. AreReady B.crew B.passes k.queue k.hands.items) }
 {
     match sharing {
-        Sharing::Queue => prepare_queue(alloc, actors, workers),
+        Sharing::Queue => prepare_queue(rt, alloc, actors, workers),
         Sharing::Dealt => prepare_dealt(alloc, graph, actors, workers),
     }
 }
@@ -246,7 +261,7 @@ fn work_all<R: Threads + Wait, B: Crew + Send + Sync, G: Gate + Sync>(
 ) -> Result<Finished, CrewFault>
     requires net { net.now ≡ B.crew.net }
     requires others { (prepared.others.items ≡ []) × (plan.now.workers ≤ vec_capacity prepared.others) }
-    requires back { AreBack B.crew 0 prepared.back }
+    requires back { AreBack B.crew prepared.queue 0 prepared.back }
     requires count { length prepared.hands.items ≡ plan.now.workers }
     requires hands { AreReady B.crew B.passes prepared.queue prepared.hands.items }
     requires workers { (plan.now.workers ≡ B.crew.workers) × (B.crew.workers ≤ max_workers) }
@@ -263,16 +278,17 @@ fn work_all<R: Threads + Wait, B: Crew + Send + Sync, G: Gate + Sync>(
         others,
         back,
     } = prepared;
+    let queue = queue.as_ref();
     let stop = AtomicBool::new(false);
     let shared = Shared {
         net,
-        queue: queue.as_ref(),
+        queue,
         stop: &stop,
         gate,
         turns: plan.turns,
     };
     let mut joined = run_workers(rt, &shared, lead, hands, others, back)?;
-    take_left(&queue, &mut joined.back);
+    take_left(rt, queue, &mut joined.back);
     end_play::<B>(net, joined, plan.turns)
 }
 
@@ -313,7 +329,7 @@ fn play_on<R: Threads + Wait, B: Crew + Send + Sync, G: Gate + Sync>(
         feeds,
         seal: stopper.zip(plan.seal),
     };
-    let prepared = prepare::<B>(alloc, graph, actors, plan.workers, sharing)?;
+    let prepared = prepare::<R, B>(rt, alloc, graph, actors, plan.workers, sharing)?;
     work_all(rt, &net, prepared, lead, plan, gate)
 }
 
@@ -322,8 +338,7 @@ fn play_on<R: Threads + Wait, B: Crew + Send + Sync, G: Gate + Sync>(
 ///
 /// Worker 0 polls the root after each round of its own and ends the others' work once it is closed; when all have ended,
 /// the calling thread polls once more, or as often as worker 0 did not, and finishes. With a queue each turn is a round.
-/// Where the actors are dealt out, a round is one turn of each actor that worker 0 has, and no answer is `Doubled` or
-/// `Lost`. Before each turn of its own worker 0 makes the next feed, where the cell for its message is empty, and after
+/// Where the actors are dealt out, a round is one turn of each actor that worker 0 has. Before each turn of its own worker 0 makes the next feed, where the cell for its message is empty, and after
 /// the last one it notes that no more come. Without a seal the game ends as the one that has all these chips at the
 /// start. All threads are joined, whatever happens.
 pub fn run_with<R: Threads + Wait, G: Gate + Sync>(

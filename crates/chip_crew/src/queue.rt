@@ -1,7 +1,7 @@
 //! The queue of the actors, and the rule that it keeps.
 
 use chip_net::Actor;
-use crossbeam_queue::protocol::{Outcome, Protocol};
+use crossbeam_queue::protocol::{Join, Lesson, Outcome, Protocol, Split};
 use crossbeam_queue::{Pass, RuledArrayQueue};
 use std::collections::LinkedList;
 use std::marker::{Brand, PhantomData};
@@ -51,29 +51,35 @@ impl Crew for Brand {
     ghost shut = { ⊥ };
 }
 
-/// What a thread did at the queue: the actors that it took from there, and those that it put there, each in their order.
-/// No value of it is made.
+/// What a thread did at the queue, and what it has. No value of it is made.
 pub(crate) struct Ledger {
+    /// For how many workers it speaks. All of them together speak for the workers of the crew.
+    pub workers: u64,
+    /// The vertices whose actors the thread has.
+    pub has: LinkedList<u64>,
+    /// The actors that it took from the queue, in their order.
     pub taken: LinkedList<Actor>,
+    /// Those that it put there, in their order.
     pub put: LinkedList<Actor>,
 }
 
-/// The rule: every actor in the queue was opened by this net.
+/// The rule: every actor in the queue was opened by this net, and the actor of each vertex is in one place, in the queue
+/// or with one thread.
 pub(crate) struct Owned<B> {
     of: PhantomData<B>,
 }
 
 impl<B: Crew> Protocol<Actor, Ledger> for Owned<B> {
-    ghost use Rattle.std.specs.Prelude.{All};
-    ghost use Rattle.chip_crew.specs.Crew.{IsOurs};
-    ghost use Rattle.chip_crew.specs.Ledger.{new_ledger};
+    ghost use Rattle.chip_crew.specs.Ledger.{first_ledger};
+    ghost use Rattle.chip_crew.specs.Places.{AreShared};
 
-    ghost holds = { λ items _. All (IsOurs B.crew) items };
+    ghost holds = { AreShared B.crew };
 
-    ghost first = { new_ledger };
+    ghost first = { first_ledger B.crew };
 }
 
-/// An actor comes out: it was opened by this net, and the ledger has it as taken.
+/// An actor comes out: it was opened by this net, the thread had none of its vertex, and the ledger has it as taken. Where
+/// none comes, what the thread has is all that there is, if it speaks for all workers.
 pub(crate) struct Takes<B> {
     of: PhantomData<B>,
 }
@@ -82,11 +88,19 @@ impl<B: Crew> Outcome<Actor, Ledger> for Takes<B> {
     ghost use Rattle.std.specs.Prelude.{◌≡◌};
     ghost use Rattle.chip_crew.specs.Crew.{IsOurs};
     ghost use Rattle.chip_crew.specs.Ledger.{with_taken};
+    ghost use Rattle.chip_crew.specs.Places.{times};
 
-    ghost then = { λ old a new. IsOurs B.crew a × (new ≡ with_taken old a) };
+    ghost then = { λ old a new. IsOurs B.crew a × (times a.vertex old.has ≡ 0) × (new ≡ with_taken old a) };
 }
 
-/// An actor goes in: it was opened by this net, and the ledger has it as put.
+impl<B: Crew> Lesson<Actor, Ledger> for Takes<B> {
+    ghost use Rattle.chip_crew.specs.Places.{AreAllThere};
+
+    ghost fact = { AreAllThere B.crew };
+}
+
+/// An actor goes in, the first of those that the thread has: it was opened by this net, and the ledger has it as put. Where
+/// it finds no place, the thread has nothing.
 pub(crate) struct Puts<B> {
     of: PhantomData<B>,
 }
@@ -97,6 +111,43 @@ impl<B: Crew> Outcome<Actor, Ledger> for Puts<B> {
     ghost use Rattle.chip_crew.specs.Ledger.{with_put};
 
     ghost then = { λ old a new. IsOurs B.crew a × (new ≡ with_put old a) };
+}
+
+impl<B: Crew> Lesson<Actor, Ledger> for Puts<B> {
+    ghost use Rattle.chip_crew.specs.Places.{HaveRoom};
+
+    ghost fact = { HaveRoom B.crew };
+}
+
+/// A worker gets a ledger of its own, and the calling thread speaks for one worker less. When the worker has ended, it
+/// hands its ledger back.
+pub(crate) struct Hires;
+
+impl Split<Ledger> for Hires {
+    ghost use Rattle.chip_crew.specs.Ledger.{new_ledger, with_fewer};
+
+    ghost left = { with_fewer };
+
+    ghost right = { λ _. new_ledger };
+}
+
+impl Join<Ledger> for Hires {
+    ghost use Rattle.chip_crew.specs.Ledger.{both_ledgers, no_ledger};
+
+    ghost both = { both_ledgers };
+
+    ghost spent = { no_ledger };
+}
+
+/// No thread has two actors of one vertex.
+pub(crate) struct Once<B> {
+    of: PhantomData<B>,
+}
+
+impl<B: Crew> Lesson<Actor, Ledger> for Once<B> {
+    ghost use Rattle.chip_crew.specs.Places.{HasOnce};
+
+    ghost fact = { HasOnce B.crew };
 }
 
 /// The queue of the actors that no worker has at the moment.

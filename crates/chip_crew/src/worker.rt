@@ -4,7 +4,7 @@ ghost use Rattle.std.specs.Prelude.{◌≡◌, ◌+◌, IfSome};
 ghost use Rattle.std.specs.Option.{option_copied};
 ghost use Rattle.crossbeam_queue.specs.Passes.{view, IsPassOf};
 ghost use Rattle.chip_crew.specs.Crew.{IsOurs};
-ghost use Rattle.chip_crew.specs.Ledger.{IsNext, MakesOneTurn};
+ghost use Rattle.chip_crew.specs.Ledger.{HasJust, IsNext, MakesOneTurn};
 ghost use Rattle.chip_crew.specs.Handed.{Fits, HasMade, Heeds, IsHanded, round_of};
 
 use crate::dealing::Dealt;
@@ -80,8 +80,10 @@ pub(crate) struct Handed {
 fn next_actor<B: Crew>(queue: &Queue<B>, pass: &mut QueuePass, kept: Option<Actor>) -> Option<Actor>
     requires pass { IsPassOf queue.now pass.old }
     requires kept { IfSome kept (IsOurs B.crew) }
+    requires has { HasJust (view pass.old) kept }
     ensures pass { IsPassOf queue.now pass.new }
     ensures actor { IfSome result (IsOurs B.crew) }
+    ensures has { HasJust (view pass.new) result }
     ensures next { IsNext (view pass.old) (view pass.new) kept result }
 {
     match kept {
@@ -101,6 +103,7 @@ fn turn_by_queue<B: Crew>(
     requires net { net.now ≡ B.crew.net }
     requires pass { IsPassOf queue.now pass.old }
     requires kept { IfSome kept (IsOurs B.crew) }
+    requires has { HasJust (view pass.old) kept }
     ensures pass { IsPassOf queue.now pass.new }
     ensures kept { IfSome result (IsOurs B.crew) }
     ensures turn { MakesOneTurn (view pass.old) (view pass.new) kept result }
@@ -145,7 +148,8 @@ impl<'a, B: Crew, G: Gate> Shared<'a, B, G> {
         requires net { self.now.net.now ≡ B.crew.net }
         requires turns { self.now.turns ≡ B.turns }
         requires gate { Heeds (G.may_answer self.now.gate.now worker) self.now.turns (B.passes worker) B.shut }
-        ensures { IsHanded B.crew worker (B.passes worker) B.turns B.shut result }
+        ensures handed { IsHanded B.crew worker (B.passes worker) B.turns B.shut result }
+        ensures fits { Fits (option_copied self.now.queue) result.hands }
     {
         for turn in 0..self.turns {
             if self.stop.load(SeqCst) {
@@ -181,7 +185,8 @@ impl<'a, B: Crew, G: Gate> Task<'a, B, G> {
         requires net { self.shared.now.net.now ≡ B.crew.net }
         requires turns { self.shared.now.turns ≡ B.turns }
         requires gate { Heeds (G.may_answer self.shared.now.gate.now self.worker) self.shared.now.turns (B.passes self.worker) B.shut }
-        ensures { IsHanded B.crew self.entry.worker (B.passes self.entry.worker) B.turns B.shut result }
+        ensures handed { IsHanded B.crew self.entry.worker (B.passes self.entry.worker) B.turns B.shut result }
+        ensures fits { Fits (option_copied self.entry.shared.now.queue) result.hands }
     {
         let Task {
             shared,

@@ -1,13 +1,20 @@
 use Rattle.std.proofs.Common.{rules, length, sym, ap, subst, arith}
+use Rattle.std.specs.Option.{option_copied}
 use Rattle.std.specs.Vec.{vec_capacity}
 use Rattle.chip_crew.specs.Gathering.{AreBack}
 use Rattle.chip_crew.specs.Handed.{HasMade}
 use Rattle.chip_crew.proofs.BackLemmas.{GoesBehind, goes_behind, behind_more, behind_fits}
+use Rattle.crossbeam_queue.specs.Passes.{view}
+use Rattle.chip_crew.proofs.QueueingLemmas.{has_kept}
 use Rattle.chip_crew.proofs.gathering.take_hands.Goals as goal
+
+pub join_pass-requires-clause-has : goal.join_pass-requires-clause-has
+join_pass-requires-clause-has g c = has_kept (g.B.Crew.passes c.args._worker) c.args._turns (view c.in-Queue.theirs) c.in-Queue.kept
+    (subst (HasMade g.B.Crew.crew c.args._worker (g.B.Crew.passes c.args._worker) c.args._turns) c.in-Queue.is c.requires.hands).1
 
 pub loop-actor-init : goal.loop-actor-init
 loop-actor-init g c =
-    let row_is = (subst (AreBack g.B.Crew.crew c.args._worker) c.in-Dealt-back.is c.requires.back).1 in
+    let row_is = (subst (AreBack g.B.Crew.crew (option_copied c.args.queue) c.args._worker) c.in-Dealt-back.is c.requires.back).1 in
     let made = subst (HasMade g.B.Crew.crew c.args._worker (g.B.Crew.passes c.args._worker) c.args._turns) c.in-Dealt.is
     c.requires.hands in
     record {

@@ -28,9 +28,11 @@ loop-hands-preserved g c =
           c.in-Some-hands.ensures.steps.0 i.hands;
       left = search rules;
       count = search rules;
-      started = subst (EachFrom (λ worker s. s.promise.worker ≡ worker) 1) (sym c.push_reserved.ensures.items)
-          (from_push (λ worker s. s.promise.worker ≡ worker) 1 c.loop-hands.others.items c.in-Ok.started i.started
-          (c.in-Ok.ensures.worker ∙ place));
+      started = subst (EachFrom (λ worker s. (s.promise.worker ≡ worker)
+          × Fits (option_copied c.args.shared.now.queue) s.promise.hands.value) 1) (sym c.push_reserved.ensures.items)
+          (from_push (λ worker s. (s.promise.worker ≡ worker)
+          × Fits (option_copied c.args.shared.now.queue) s.promise.hands.value) 1 c.loop-hands.others.items c.in-Ok.started
+          i.started (c.in-Ok.ensures.worker ∙ place, c.in-Ok.ensures.fits));
       room = search rules;
     }
 

@@ -11,6 +11,7 @@ invariant-loop-hands g l = record {
       l.worker l.hands-iterator.rest.items;
   left : l.worker + length l.hands-iterator.rest.items ≡ g.B.Crew.crew.workers;
   count : length l.others.items + 1 ≡ l.worker;
-  started : EachFrom (λ worker s. s.promise.worker ≡ worker) 1 l.others.items;
+  started : EachFrom (λ worker s. (s.promise.worker ≡ worker) × Fits (option_copied l.shared.queue) s.promise.hands.value) 1
+      l.others.items;
   room : g.B.Crew.crew.workers ≤ vec_capacity l.others;
 }

@@ -5,14 +5,14 @@ use Rattle.chip_net.proofs.FinishingLemmas.{one_run}
 use Rattle.chip_net.specs.Meeting.{IsRun}
 use Rattle.chip_crew.specs.Crew.{AreActors}
 use Rattle.chip_crew.specs.Ending.{EndsLed, StaysOpen}
-use Rattle.chip_crew.proofs.FinishingLemmas.{ends_fed, missing_closing}
+use Rattle.chip_crew.proofs.FinishingLemmas.{ends_fed}
 use Rattle.chip_crew.proofs.PollingLemmas.{rounds_within}
 use Rattle.chip_crew.proofs.SealingLemmas.{stopper_there, takes_back}
 use Rattle.chip_crew.proofs.play.end_play.Goals as goal
 
 pub meet-requires-clause-actors : goal.meet-requires-clause-actors
 meet-requires-clause-actors g c v a at =
-    let ours = c.in_ok-actors.ensures.actors.order v a at in (ours.0.0 ∙ sym c.requires.net, ours.1)
+    let ours = c.all_back-actors.ensures.order v a at in (ours.0.0 ∙ sym c.requires.net, ours.1)
 
 pub returns-in-Ok-clause-finished : goal.returns-in-Ok-clause-finished
 returns-in-Ok-clause-finished g c =
@@ -23,10 +23,10 @@ returns-in-Ok-clause-finished g c =
     record {
       ends = subst (λ (r : RootKnown). EndsLed g.B.Crew.crew g.B.Crew.feeds g.B.Crew.seal g.B.Crew.root r c.in-Ok.outcome) (sym same.0)
           (ends_fed _ _ g.B.Crew.seal _ _ _ _ _ c.take_back.new.root _ _ c.requires.root back ends);
-      actors = subst (AreActors g.B.Crew.crew) (sym same.1) c.in_ok-actors.ensures.actors;
+      actors = subst (AreActors g.B.Crew.crew) (sym same.1) c.all_back-actors.ensures;
       run = subst (λ (z : RootKnown × List ActorKnown). IsRun z.0 z.1 c.in-Ok.outcome)
           (λ i. (sym same.0 i, sym same.1 i))
-          (one_run ends.root c.in-Ok.receipt c.in-Ok.outcome c.in_ok-actors.actors.items ends.finishes
+          (one_run ends.root c.in-Ok.receipt c.in-Ok.outcome c.all_back-actors.result.items ends.finishes
           c.meet.ensures.together);
     }
 
@@ -48,11 +48,6 @@ returns-in-Err-clause-stopped g c = (
         c.requires.turns c.in-Err.ensures.ends;
   },
 )
-
-pub returns-in_err-actors-clause-stopped : goal.returns-in_err-actors-clause-stopped
-returns-in_err-actors-clause-stopped g c = missing_closing g.B.Crew.crew g.B.Crew.feeds g.B.Crew.seal g.B.Crew.root g.B.Crew.turns
-    c.args.joined c.in_err-actors.field-0.0 c.from_residual.result _ c.from_residual.ensures.1 (λ fault is. is)
-    (search rules) c.in_err-actors.ensures.fault
 
 pub take_back-requires-clause-stopper : goal.take_back-requires-clause-stopper
 take_back-requires-clause-stopper g c = stopper_there g.B.Crew.crew g.B.Crew.seal c.args.joined.turns c.args.joined.seal

@@ -1,26 +1,31 @@
-use Rattle.std.proofs.Common.{All, subst, rules}
+use Rattle.std.proofs.Common.{◌≡◌, ◌∙◌, All, map, drop, ap, subst, rules}
 use Rattle.std.proofs.lemmas.List.Elements.{All-head, All-tail}
+use Rattle.crossbeam_queue.specs.Passes.{view}
+use Rattle.chip_net.specs.Tokens.{ActorKnown}
+use Rattle.chip_crew.specs.declared.queue.Ledger.{Ledger}
+use Rattle.chip_crew.specs.Ledger.{with_put}
 use Rattle.chip_crew.specs.Crew.{IsOurs}
-use Rattle.chip_crew.proofs.QueueingLemmas.{puts}
+use Rattle.chip_crew.proofs.PlacesLemmas.{puts, have_room}
 use Rattle.chip_crew.proofs.play.fill.Goals as goal
 
-pub try_push_as-requires-clause-rule : goal.try_push_as-requires-clause-rule
-try_push_as-requires-clause-rule g c = puts g.B.Crew.crew _ _ _ c.in-Some.actor
-    (All-head (IsOurs g.B.Crew.crew) c.in-Some.actor _
-    (subst (All (IsOurs g.B.Crew.crew)) c.in-Some.ensures.steps.0 c.loop-actor.invariant.0))
-
-pub loop-actor-preserved-in-Err : goal.loop-actor-preserved-in-Err
-loop-actor-preserved-in-Err g c = (
-  All-tail (IsOurs g.B.Crew.crew) c.in-Some.actor _
-      (subst (All (IsOurs g.B.Crew.crew)) c.in-Some.ensures.steps.0 c.loop-actor.invariant.0),
-  search rules,
-  search rules,
+pub push_as-requires-clause-rule : goal.push_as-requires-clause-rule
+push_as-requires-clause-rule g c = (
+  puts g.B.Crew.crew _ _ _ c.in-Some.actor _
+      (All-head (IsOurs g.B.Crew.crew) c.in-Some.actor _
+      (subst (All (IsOurs g.B.Crew.crew)) c.in-Some.ensures.steps.0 c.loop-actor.invariant.ours))
+      (c.loop-actor.invariant.has ∙ ap (map (λ (a : ActorKnown). a.vertex)) c.in-Some.ensures.steps.0),
+  have_room g.B.Crew.crew _ _,
 )
 
 pub loop-actor-preserved : goal.loop-actor-preserved
-loop-actor-preserved g c = (
-  All-tail (IsOurs g.B.Crew.crew) c.in-Some.actor _
-      (subst (All (IsOurs g.B.Crew.crew)) c.in-Some.ensures.steps.0 c.loop-actor.invariant.0),
-  search rules,
-  search rules,
-)
+loop-actor-preserved g c =
+    let i = c.loop-actor.invariant in
+    let told : view c.push_as.new.pass ≡ with_put (view c.loop-actor.pass) c.in-Some.actor = search rules in
+    record {
+      pass = search rules;
+      ours = All-tail (IsOurs g.B.Crew.crew) c.in-Some.actor _
+          (subst (All (IsOurs g.B.Crew.crew)) c.in-Some.ensures.steps.0 i.ours);
+      has = ap (λ (l : Ledger). l.has) told
+          ∙ ap (drop 1) (i.has ∙ ap (map (λ (a : ActorKnown). a.vertex)) c.in-Some.ensures.steps.0);
+      workers = ap (λ (l : Ledger). l.workers) told ∙ i.workers;
+    }

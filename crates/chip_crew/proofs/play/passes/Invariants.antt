@@ -1,5 +1,6 @@
-use Rattle.std.proofs.Common.{◌≡◌, ◌≤◌, Some, length}
+use Rattle.std.proofs.Common.{◌≡◌, ◌≤◌, ◌+◌, [], Some, length}
 use Rattle.std.specs.Vec.{vec_capacity}
+use Rattle.crossbeam_queue.specs.Passes.{view, IsPassOf}
 use Rattle.chip_crew.specs.Handed.{AreReady}
 use Rattle.chip_crew.proofs.play.passes.Given as goal
 
@@ -8,4 +9,7 @@ invariant-loop g l = record {
   hands : AreReady g.B.Crew.crew g.B.Crew.passes (Some l.queue) l.hands.items;
   count : length l.hands.items ≡ l.counter;
   room : l.workers ≤ vec_capacity l.hands;
+  pass : IsPassOf l.queue l.pass;
+  has : (view l.pass).has ≡ [];
+  left : (view l.pass).workers + l.counter ≡ l.workers;
 }

@@ -34,8 +34,8 @@ one_turn-requires-clause-passes g c = lets_pass (g.G.Gate.may_answer c.args.self
     c.loop-turn.turn c.pass.result c.requires.gate (search rules)
     c.pass.ensures (search rules)
 
-pub invariant_of-result : goal.invariant_of-result
-invariant_of-result g c =
+pub returns-clause-led : goal.returns-clause-led
+returns-clause-led g c =
     let i = c.loop-turn.invariant in
     let way : OnTheWay c.round-round.result g.B.Crew.feeds g.B.Crew.root c.loop-turn-test.turns c.loop-turn-test.root =
     elim c.loop-turn-test.branch [

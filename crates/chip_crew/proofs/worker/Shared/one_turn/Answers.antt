@@ -1,7 +1,9 @@
-use Rattle.std.proofs.Common.{Option, subst}
+use Rattle.std.proofs.Common.{Option, sym, subst}
 use Rattle.crossbeam_queue.specs.Passes.{view}
 use Rattle.chip_net.specs.Tokens.{ActorKnown}
-use Rattle.chip_crew.specs.Ledger.{MakesOneTurn}
+use Rattle.chip_crew.specs.Ledger.{HasJust, MakesOneTurn}
+use Rattle.chip_crew.specs.Handed.{HasMade}
+use Rattle.chip_crew.proofs.QueueingLemmas.{has_kept}
 use Rattle.chip_crew.proofs.HandsLemmas.{nets_by, queue_more, dealt_more}
 use Rattle.chip_crew.proofs.worker.Shared.one_turn.Goals as goal
 
@@ -20,3 +22,10 @@ pub returns-in-Dealt-clause-made : goal.returns-in-Dealt-clause-made
 returns-in-Dealt-clause-made g c = dealt_more g.B.Crew.crew c.args._worker (g.B.Crew.passes c.args._worker) c.args.turn
     c.args.hands.now c.in-Dealt.dealt c.one_turn.new.self c.in-Dealt.is c.requires.made c.requires.passes
     c.one_turn.ensures
+
+pub turn_by_queue-requires-clause-has : goal.turn_by_queue-requires-clause-has
+turn_by_queue-requires-clause-has g c =
+    let was = subst (HasMade g.B.Crew.crew c.args._worker (g.B.Crew.passes c.args._worker) c.args.turn) c.in-Queue.is
+    c.requires.made in
+    subst (HasJust (view c.in-Queue.pass)) (sym c.take.ensures.value)
+    (has_kept (g.B.Crew.passes c.args._worker) c.args.turn (view c.in-Queue.pass) c.in-Queue.kept was.1)

@@ -1,0 +1,36 @@
+-- Where the actors of a crew are that wait in a queue.
+use Rattle.std.specs.Prelude.{◌≡◌, ◌==◌, ℕ, ◌+◌, ◌<◌, ◌≤◌, List, [], length, All, sum_by, count_by}
+use Rattle.chip_net.specs.Tokens.{ActorKnown}
+use Rattle.chip_crew.specs.Crew.{CrewId, IsOurs}
+use Rattle.chip_crew.specs.declared.queue.Ledger.{Ledger}
+
+-- how often this vertex is among these
+abbrev pub times : ℕ → List ℕ → ℕ
+times v vertices = count_by (λ u. u == v) vertices
+
+-- how many of these actors are of this vertex
+abbrev pub actors_of : ℕ → List ActorKnown → ℕ
+actors_of v actors = count_by (λ a. a.vertex == v) actors
+
+-- the rule of the queue, which has these actors, while the threads have these ledgers: the actor of each vertex is in one
+-- place, in the queue or with one thread; and who speaks for no worker has none
+pub record AreShared (crew : CrewId) (queued : List ActorKnown) (ledgers : List Ledger) : Type 0 where
+  pub ours : All (IsOurs crew) queued
+  pub once : (v : ℕ) → v < crew.net.setting.game.graph.vertices
+      → actors_of v queued + sum_by (λ l. times v l.has) ledgers ≡ 1
+  pub count : length queued + sum_by (λ l. length l.has) ledgers ≡ crew.net.setting.game.graph.vertices
+  pub workers : sum_by (λ l. l.workers) ledgers ≡ crew.workers
+  pub spent : All (λ l. l.workers ≡ 0 → l.has ≡ []) ledgers
+
+-- who speaks for all workers has the actor of each vertex that is not in the queue
+abbrev pub AreAllThere : CrewId → Ledger → List ActorKnown → Type 0
+AreAllThere crew ledger queued = ledger.workers ≡ crew.workers → (v : ℕ) → v < crew.net.setting.game.graph.vertices
+    → actors_of v queued + times v ledger.has ≡ 1
+
+-- the queue and the thread have no more actors than there are
+abbrev pub HaveRoom : CrewId → Ledger → List ActorKnown → Type 0
+HaveRoom crew ledger queued = length queued + length ledger.has ≤ crew.net.setting.game.graph.vertices
+
+-- of no vertex the thread has two actors
+abbrev pub HasOnce : CrewId → Ledger → List ActorKnown → Type 0
+HasOnce crew ledger queued = (v : ℕ) → v < crew.net.setting.game.graph.vertices → times v ledger.has ≤ 1

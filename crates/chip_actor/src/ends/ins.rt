@@ -7,8 +7,8 @@ use chip_link::{HeadLink, Message, Ring};
 use std::alloc::{AllocError, Global};
 use std::marker::Model;
 
-/// The edges into a vertex, its root edge last, by ascending numbers. The numbers stand apart too, so that a search reads
-/// nothing else.
+/// The edges into a vertex, its root edge last, by ascending numbers. The numbers stand apart too, so that a search
+/// reads nothing else.
 #[derive(Drop)]
 pub struct Ins {
     edges: Vec<u64>,

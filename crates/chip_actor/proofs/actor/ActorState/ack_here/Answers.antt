@@ -60,7 +60,8 @@ ack-seen-requires g c = may_serve (g.M.Medium.holds c.args.medium.now) c.args.se
     (due g (goal.at.ack-seen-requires g c).After-may_ack_at-count c.if-count-eq0.false)
 
 pub acknowledge_at-reply-requires-clause-edge : goal.acknowledge_at-reply-requires-clause-edge
-acknowledge_at-reply-requires-clause-edge g c = is g (goal.at.acknowledge_at-reply-requires-clause-edge g c).After-may_ack_at-count
+acknowledge_at-reply-requires-clause-edge g c =
+    is g (goal.at.acknowledge_at-reply-requires-clause-edge g c).After-may_ack_at-count
 
 pub acknowledge_at-reply-requires-clause-count : goal.acknowledge_at-reply-requires-clause-count
 acknowledge_at-reply-requires-clause-count g c =

@@ -18,8 +18,8 @@ is : (g : Over) (c : After-claim_next g)
 is g c = sym (c.edge-edge.ensures
     ∙ ap (λ (o : OutEnd). o.link.edge) (c.at-out.ensures
     ∙ ap (λ (a : Actor). out_on a.outs (slice_index a.outs.edges c.args.index)) c.self.view_is)
-    ∙ out_tells (g.M.Medium.holds c.args.medium.now) c.args.self.now (At.Claim c.args.index) c.args.index c.requires.meets
-    c.requires.within)
+    ∙ out_tells (g.M.Medium.holds c.args.medium.now) c.args.self.now (At.Claim c.args.index) c.args.index
+    c.requires.meets c.requires.within)
 
 -- and what is known of it stands there
 there : (g : Over) (c : After-claim_next g)

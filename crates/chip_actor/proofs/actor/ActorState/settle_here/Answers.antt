@@ -16,8 +16,8 @@ is : (g : Over) (c : After-edge-edge g) → slice_index c.args.self.now.outs.edg
 is g c = sym (c.edge-edge.ensures
     ∙ ap (λ (o : OutEnd). o.link.edge) (c.at.ensures
     ∙ ap (λ (a : Actor). out_on a.outs (slice_index a.outs.edges c.args.index)) c.self.view_is)
-    ∙ out_tells (g.M.Medium.holds c.args.medium.now) c.args.self.now (At.Settle c.args.index) c.args.index c.requires.meets
-    c.requires.within)
+    ∙ out_tells (g.M.Medium.holds c.args.medium.now) c.args.self.now (At.Settle c.args.index) c.args.index
+    c.requires.meets c.requires.within)
 
 -- the settle is due
 due : (g : Over) (c : After-edge-edge g)

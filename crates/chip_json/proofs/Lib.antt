@@ -1,0 +1,6 @@
+mod Turns
+mod Known
+mod Shapes
+mod Rowed
+mod Standing
+mod Texts

@@ -1,0 +1,121 @@
+-- Serves Parts.antt.
+-- The parts of a file, member by member.
+use Rattle.std.proofs.Common.{◌≡◌, ℕ, List, true, false, Option, Some, None, refl, sym, ◌∙◌, inl, inr, Vec}
+use Rattle.std.proofs.Common.{Global, true≢false}
+use Rattle.std.specs.Prelude.{codes, ◌⊎◌}
+use Rattle.serde_json.specs.Data.{Data, object, Members}
+use Rattle.serde_json.specs.Find.{as_object}
+use Rattle.chip_json.specs.GraphFile.{number_of_value, file_of_value, file_of_parts, GraphFile}
+use Rattle.chip_json.specs.declared.file.GraphFile.{GraphFile as Kept}
+use Rattle.chip_json.specs.Rows.{KeepsAny, AreRowsUnder}
+use Rattle.chip_json.specs.Parts.{IsOther, Stands, Takes, KeepsFile, kept_of}
+use Rattle.chip_graph.specs.declared.edge.Edge.{Edge}
+use Rattle.chip_json.specs.declared.file.Parts.{Parts}
+use Rattle.chip_json.specs.declared.fault.JsonFault.{JsonFault}
+use Rattle.chip_json.specs.declared.fault.JsonFault.TheVariants.{NotJson, NoMemory}
+use Rattle.chip_json.proofs.Known.{put_edges, put_sink, put_version, put_vertices, crowded_edges, crowded_sink}
+use Rattle.chip_json.proofs.Known.{crowded_version, crowded_vertices, crowded_other, known_crowded, crowded_file}
+use Rattle.chip_json.proofs.Known.{file_of_known, num, rows}
+
+pub take_version : (name : List ℕ) (d : Data) (p : Parts) (n : Option ℕ) → name ≡ codes "version"
+    → number_of_value d ≡ n
+    → Takes name d p (record {
+      version = n;
+      vertices = p.vertices;
+      sink = p.sink;
+      edges = p.edges;
+      others =
+          p.others;
+    })
+take_version name d p n is e found (inl (o, es, s, v, w, f, a, b, c, k)) =
+    inl (o, es, s, Some d, w, rw (is, f) (put_version d es s v w), e, b, c, k)
+take_version name d p n is e found (inr (o, h)) = inr (o, rw is (crowded_version d found h))
+
+pub take_vertices : (name : List ℕ) (d : Data) (p : Parts) (n : Option ℕ) → name ≡ codes "vertices"
+    → number_of_value d ≡ n
+    → Takes name d p (record { version = p.version; vertices = n; sink = p.sink; edges = p.edges; others = p.others })
+take_vertices name d p n is e found (inl (o, es, s, v, w, f, a, b, c, k)) =
+    inl (o, es, s, v, Some d, rw (is, f) (put_vertices d es s v w), a, e, c, k)
+take_vertices name d p n is e found (inr (o, h)) = inr (o, rw is (crowded_vertices d found h))
+
+pub take_sink : (name : List ℕ) (d : Data) (p : Parts) (n : Option ℕ) → name ≡ codes "sink" → number_of_value d ≡ n
+    → Takes name d p (record {
+      version = p.version;
+      vertices = p.vertices;
+      sink = n;
+      edges = p.edges;
+      others =
+          p.others;
+    })
+take_sink name d p n is e found (inl (o, es, s, v, w, f, a, b, c, k)) =
+    inl (o, es, Some d, v, w, rw (is, f) (put_sink d es s v w), a, b, e, k)
+take_sink name d p n is e found (inr (o, h)) = inr (o, rw is (crowded_sink d found h))
+
+pub take_edges : (name : List ℕ) (d : Data) (p : Parts) (n : Option (Vec Edge Global)) → name ≡ codes "edges"
+    → AreRowsUnder d n
+    → Takes name d p (record {
+      version = p.version;
+      vertices = p.vertices;
+      sink = p.sink;
+      edges = n;
+      others =
+          p.others;
+    })
+take_edges name d p n is e found (inl (o, es, s, v, w, f, a, b, c, k)) =
+    inl (o, Some d, s, v, w, rw (is, f) (put_edges d es s v w), a, b, c, e)
+take_edges name d p n is e found (inr (o, h)) = inr (o, rw is (crowded_edges d found h))
+
+pub take_other : (name : List ℕ) (d : Data) (p : Parts) → IsOther name
+    → Takes name d p (record {
+      version = p.version;
+      vertices = p.vertices;
+      sink = p.sink;
+      edges = p.edges;
+      others =
+          true;
+    })
+take_other name d p other found (inl (o, es, s, v, w, f, a, b, c, k)) =
+    inr (refl, rw f (known_crowded name d es s v w other))
+take_other name d p other found (inr (o, h)) = inr (refl, crowded_other name d found other h)
+
+-- ---- a refusal
+
+pub or_refused : {A B : Type 0} {f : JsonFault} → (f ≡ NoMemory) ⊎ ((f ≡ NotJson) × A) → (A → B)
+    → (f ≡ NoMemory) ⊎ ((f ≡ NotJson) × B)
+or_refused (inl e) h = inl e
+or_refused (inr (e, a)) h = inr (e, h a)
+
+-- ---- the file
+
+kept_parts : (v w s : Option ℕ) (es : Option (List Edge)) (kept : Option (Vec Edge Global)) → KeepsAny es kept
+    → KeepsFile (file_of_parts v w s es) (kept_of v w s kept)
+kept_parts (Some v) (Some w) (Some s) (Some es) (Some kept) h = (refl, (refl, refl, h))
+kept_parts (Some v) (Some w) (Some s) None None h = tt
+kept_parts (Some v) (Some w) (Some s) (Some es) None h = absurd h
+kept_parts (Some v) (Some w) (Some s) None (Some kept) h = absurd h
+kept_parts (Some v) (Some w) None es kept h = tt
+kept_parts (Some v) None s es kept h = tt
+kept_parts None w s es kept h = tt
+
+pub file_of_parts_kept : (p : Parts) (found : Members) → p.others ≡ false → Stands found p
+    → KeepsFile (file_of_value (object found)) (kept_of p.version p.vertices p.sink p.edges)
+file_of_parts_kept p found o (inl (same, es, s, v, w, f, a, b, c, k)) =
+    rw (f, file_of_known es s v w, ← a, ← b, ← c) (kept_parts (num v) (num w) (num s) (rows es) p.edges k)
+file_of_parts_kept p found o (inr (other, h)) = let never : true ≡ false = sym other ∙ o in absurd (true≢false never)
+
+pub no_file : (p : Parts) (found : Members) → p.others ≡ true → Stands found p
+    → KeepsFile (file_of_value (object found)) None
+no_file p found o (inl (same, es, s, v, w, f, a, b, c, k)) = let never : true ≡ false = sym o
+    ∙ same in absurd (true≢false never)
+no_file p found o (inr (other, h)) = rw (crowded_file found h) tt
+
+pub no_object_file : (d : Data) → as_object d ≡ None → KeepsFile (file_of_value d) None
+no_object_file d e = rw e tt
+
+shape_by : (o : Option GraphFile) → KeepsFile o None → o ≡ None
+shape_by None h = refl
+shape_by (Some file) h = absurd h
+
+pub shape_of : (d : Data) (kept : Option Kept) → kept ≡ None → KeepsFile (file_of_value d) kept
+    → file_of_value d ≡ None
+shape_of d kept e h = shape_by (file_of_value d) (rw e at h)

@@ -1,0 +1,44 @@
+use Rattle.std.proofs.Common.{◌≡◌, [], ◌∷◌, None, ap, ◌∙◌, sym, arith}
+use Rattle.std.specs.Prelude.{option_and_then}
+use Rattle.json.specs.Reads.{token_of}
+use Rattle.json.specs.Token.{Token}
+use Rattle.serde_json.specs.Data.{number}
+use Rattle.serde_json.specs.Find.{as_u64}
+use Rattle.serde_json.specs.View.{number_view}
+use Rattle.chip_json.specs.Values.{next_value}
+use Rattle.chip_json.proofs.Turns.{nothing_read, number_read, number_refused}
+use Rattle.chip_json.proofs.Shapes.{not_number}
+use Rattle.chip_json.proofs.rows.number.Goals as goal
+
+pub returns-in_err-token-clause-value : goal.returns-in_err-token-clause-value
+returns-in_err-token-clause-value c =
+    let empty : c.args.reader.now ≡ [] = grind arith in
+    let none : next_value c.args.depth c.args.reader.now ≡ None = rw empty (nothing_read c.args.depth) in
+    grind (arith, none)
+
+pub returns-in-Some-clause-value : goal.returns-in-Some-clause-value
+returns-in-Some-clause-value c =
+    let first : c.args.reader.now ≡ token_of c.in_ok-token.token ∷ c.next.new.self = grind arith in
+    let is : c.args.reader.now ≡ Token.number c.in-Number.text.now ∷ c.next.new.self = first
+    ∙ ap (λ k. token_of k ∷ c.next.new.self) c.in-Number.is in (
+      number (number_view c.in-Some.number),
+      rw is (number_read c.args.depth c.next.new.self _ _ c.in-Some.ensures),
+      sym c.as_u64.ensures,
+    )
+
+pub returns-in-None-clause-value : goal.returns-in-None-clause-value
+returns-in-None-clause-value c =
+    let first : c.args.reader.now ≡ token_of c.in_ok-token.token ∷ c.next.new.self = grind arith in
+    let is : c.args.reader.now ≡ Token.number c.in-Number.text.now ∷ c.next.new.self = first
+    ∙ ap (λ k. token_of k ∷ c.next.new.self) c.in-Number.is in
+    rw is (number_refused c.args.depth c.next.new.self _ c.in-None.ensures)
+
+pub returns : goal.returns
+returns c =
+    let first : c.args.reader.now ≡ token_of c.in_ok-token.token ∷ c.next.new.self = grind arith in
+    let read = c.in_ok-pass_rest.ensures.value in
+    let other = not_number c.args.depth c.next.new.self c.pass_rest.new.reader read.0 c.in_ok-token.token
+    c.in_default.not-Number read.1 in record {
+      value = (read.0, rw first read.1, ap (option_and_then as_u64) other);
+      shorter = grind (arith, first);
+    }

@@ -1,0 +1,92 @@
+-- The members of a graph file, as far as they were read.
+use Rattle.std.specs.Prelude.{◌≡◌, ◌⊎◌, ℕ, ◌+◌, ◌<◌, List, true, false, codes, Option, None}
+use Rattle.std.specs.Prelude.{Some, option_and_then, Result, Ok, Err, ⊤, Vec}
+use Rattle.std.specs.declared.alloc.Global.{Global}
+use Rattle.serde_json.specs.Data.{Data, Members, no_members, member}
+use Rattle.serde_json.specs.Find.{get_member, as_array}
+use Rattle.chip_json.specs.GraphFile.{number_of_value, edges_of_rows, members_count}
+use Rattle.chip_graph.specs.declared.edge.Edge.{Edge}
+use Rattle.chip_graph.specs.Multigraph.{Multigraph}
+use Rattle.chip_json.specs.declared.file.Parts.{Parts}
+use Rattle.chip_json.specs.declared.file.GraphFile.{GraphFile as Kept}
+use Rattle.chip_json.specs.declared.fault.JsonFault.{JsonFault}
+use Rattle.chip_json.specs.declared.fault.JsonFault.TheVariants.{NotJson, Shape, NoMemory}
+use Rattle.serde_json.specs.Data.{put}
+use Rattle.chip_json.specs.GraphFile.{GraphFile, file_of_value, json_of}
+use Rattle.chip_json.specs.Rows.{Keeps, KeepsAny}
+
+-- a member, where it is there
+abbrev pub with : List ℕ → Option Data → Members → Members
+with name None ms = ms
+with name (Some d) ms = member name d ms
+
+-- the members of these four names alone, in order
+abbrev pub known : Option Data → Option Data → Option Data → Option Data → Members
+known edges sink version vertices =
+    with (codes "edges") edges (with (codes "sink") sink
+    (with (codes "version") version (with (codes "vertices") vertices no_members)))
+
+abbrev pub there : Option Data → ℕ
+there None = 0
+there (Some d) = 1
+
+-- how many of the four names are there
+abbrev pub known_count : Members → ℕ
+known_count ms =
+    there (get_member (codes "edges") ms) + there (get_member (codes "sink") ms) + there
+    (get_member (codes "version") ms) + there (get_member (codes "vertices") ms)
+
+-- a name is none of the four
+pub record IsOther (name : List ℕ) : Type 0 where
+  pub edges : codes "edges" ≡ name → ⊥
+  pub sink : codes "sink" ≡ name → ⊥
+  pub version : codes "version" ≡ name → ⊥
+  pub vertices : codes "vertices" ≡ name → ⊥
+
+-- a member is there that is none of the four
+abbrev pub IsCrowded : Members → Type 0
+IsCrowded ms = known_count ms < members_count ms
+
+-- the members that were found are those that the parts are of, or there is one that is none of the four
+abbrev pub Stands : Members → Parts → Type 0
+Stands found parts =
+    ((parts.others ≡ false)
+    × (edges : Option Data) × (sink : Option Data) × (version : Option Data) × (vertices : Option Data)
+    × (found ≡ known edges sink version vertices)
+    × (option_and_then number_of_value version ≡ parts.version)
+    × (option_and_then number_of_value vertices ≡ parts.vertices)
+    × (option_and_then number_of_value sink ≡ parts.sink)
+    × KeepsAny (option_and_then edges_of_rows (option_and_then as_array edges)) parts.edges)
+    ⊎ ((parts.others ≡ true) × IsCrowded found)
+
+-- with one more member the parts still stand for what was found
+abbrev pub Takes : List ℕ → Data → Parts → Parts → Type 0
+Takes name d old new = (found : Members) → Stands found old → Stands (put name d found) new
+
+-- the graph of a file of which the edges are kept
+abbrev pub KeepsGraph : Multigraph → Kept → Type 0
+KeepsGraph graph kept =
+    (graph.vertices ≡ kept.vertices) × (graph.sink ≡ kept.sink) × Keeps graph.edges kept.edges.items
+
+-- a file of which the edges are kept
+abbrev pub KeepsFile : Option GraphFile → Option Kept → Type 0
+KeepsFile (Some file) (Some kept) = (file.version ≡ kept.version) × KeepsGraph file.graph kept
+KeepsFile None None = ⊤
+KeepsFile _ _ = ⊥
+
+-- the file of these parts, where each is there
+abbrev pub kept_of : Option ℕ → Option ℕ → Option ℕ → Option (Vec Edge Global) → Option Kept
+kept_of (Some version) (Some vertices) (Some sink) (Some edges) =
+    Some (record { version = version; vertices = vertices; sink = sink; edges = edges })
+kept_of _ _ _ _ = None
+
+-- what a value is as a file
+abbrev pub IsFile : Data → Option Kept → Type 0
+IsFile d kept = KeepsFile (file_of_value d) kept
+
+-- what reading a text answers: the file that its value is
+abbrev pub GivesFile : List ℕ → Result Kept JsonFault → Type 0
+GivesFile text (Ok kept) = (d : Data) × (json_of text ≡ Some d) × IsFile d (Some kept)
+GivesFile text (Err f) =
+    (f ≡ NoMemory) ⊎ ((f ≡ NotJson) × (json_of text ≡ None)) ⊎ ((f ≡ Shape) × (d : Data) × (json_of text ≡ Some d)
+    × (file_of_value d ≡ None))

@@ -1,0 +1,67 @@
+-- What the rows of a text are, as they come.
+use Rattle.std.specs.Prelude.{◌≡◌, ◌⊎◌, ℕ, ◌<◌, List, length, Option, Some, None, option_and_then}
+use Rattle.std.specs.Prelude.{Result, Ok, Err, ⊤, Vec}
+use Rattle.std.specs.declared.alloc.Global.{Global}
+use Rattle.json.specs.Token.{Token}
+use Rattle.serde_json.specs.Data.{Data, Items, no_items, item, Members, no_members}
+use Rattle.serde_json.specs.Find.{as_array}
+use Rattle.chip_json.specs.GraphFile.{number_of_value, edges_of_rows}
+use Rattle.chip_json.specs.Values.{next_value, ItemsAre, MembersAre}
+use Rattle.chip_graph.specs.declared.edge.Edge.{Edge}
+use Rattle.chip_graph.specs.Limits.{max_edges}
+use Rattle.chip_json.specs.declared.rows.Row.{Row}
+use Rattle.chip_json.specs.declared.rows.Row.TheVariants as row
+use Rattle.chip_json.specs.declared.fault.JsonFault.{JsonFault}
+use Rattle.chip_json.specs.declared.fault.JsonFault.TheVariants.{NotJson, NoMemory}
+
+-- a row with one more value, which may be a number
+abbrev pub and_number : Row → Option ℕ → Row
+and_number row.Empty (Some tail) = row.One tail
+and_number (row.One tail) (Some head) = row.Two tail head
+and_number (row.Two tail head) (Some mult) = row.Three (record { tail = tail; head = head; mult = mult })
+and_number _ _ = row.Other
+
+-- the edge that a row is
+abbrev pub edge_in : Row → Option Edge
+edge_in (row.Three edge) = Some edge
+edge_in _ = None
+
+-- a row with these items behind it
+abbrev pub and_items : Row → Items → Row
+and_items r no_items = r
+and_items r (item d ds) = and_items (and_number r (number_of_value d)) ds
+
+-- what is kept of some edges: all, or more than a graph may have
+abbrev pub Keeps : List Edge → List Edge → Type 0
+Keeps all kept = (kept ≡ all) ⊎ ((max_edges < length all) × (max_edges < length kept))
+
+-- what is kept of edges, where there are any
+abbrev pub KeepsAny : Option (List Edge) → Option (Vec Edge Global) → Type 0
+KeepsAny (Some all) (Some kept) = Keeps all kept.items
+KeepsAny None None = ⊤
+KeepsAny _ _ = ⊥
+
+-- the items of an array as rows
+abbrev pub AreRows : Items → Option (Vec Edge Global) → Type 0
+AreRows ds kept = KeepsAny (edges_of_rows ds) kept
+
+-- a value as an array of rows
+abbrev pub AreRowsUnder : Data → Option (Vec Edge Global) → Type 0
+AreRowsUnder d kept = KeepsAny (option_and_then edges_of_rows (as_array d)) kept
+
+-- what reading a value answers where memory may run out
+abbrev pub MayRead : {T : Type 0} → ℕ → List Token → List Token → (Data → T → Type 0) → Result T JsonFault → Type 0
+MayRead depth old new Is (Ok x) = (d : Data) × (next_value depth old ≡ Some (d, new)) × Is d x
+MayRead depth old new Is (Err f) = (f ≡ NoMemory) ⊎ ((f ≡ NotJson) × (next_value depth old ≡ None))
+
+-- the same of the items that are left of an array
+abbrev pub MayReadItems : {T : Type 0} → ℕ → List Token → List Token → (Items → T → Type 0) → Result T JsonFault
+    → Type 0
+MayReadItems depth old new Is (Ok x) = (ds : Items) × ItemsAre depth old (Some (ds, new)) × Is ds x
+MayReadItems depth old new Is (Err f) = (f ≡ NoMemory) ⊎ ((f ≡ NotJson) × ItemsAre depth old None)
+
+-- the same of the members of an object
+abbrev pub MayReadMembers : {T : Type 0} → ℕ → List Token → List Token → (Members → T → Type 0) → Result T JsonFault
+    → Type 0
+MayReadMembers depth old new Is (Ok x) = (ms : Members) × MembersAre depth old no_members (Some (ms, new)) × Is ms x
+MayReadMembers depth old new Is (Err f) = (f ≡ NoMemory) ⊎ ((f ≡ NotJson) × MembersAre depth old no_members None)

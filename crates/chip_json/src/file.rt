@@ -1,0 +1,145 @@
+//! A graph file, read member by member.
+
+ghost use Rattle.std.specs.Prelude.{◌≡◌, ◌<◌, length, OnOk};
+ghost use Rattle.chip_json.specs.Rows.{MayRead, MayReadMembers};
+ghost use Rattle.chip_json.specs.Parts.{Takes, Stands, KeepsFile, IsFile, GivesFile, kept_of};
+ghost use Rattle.serde_json.specs.Data.{Members, object};
+ghost use Rattle.serde_json.specs.Read.{max_depth};
+ghost use Rattle.chip_json.specs.GraphFile.{file_of_value};
+
+use crate::fault::JsonFault;
+use crate::passing::{NotJson, pass, pass_rest};
+use crate::rows::{edges, number};
+use chip_graph::Edge;
+use json::{Reader, Scratch, Token};
+use std::alloc::Global;
+use std::str;
+
+/// How deep arrays and objects nest at most.
+const MAX_DEPTH: usize = 127;
+
+/// What a graph file says. Of too many edges only the first are there.
+#[derive(Drop)]
+pub struct GraphFile {
+    /// The version.
+    pub version: u64,
+    /// How many vertices there are.
+    pub vertices: u64,
+    /// The sink.
+    pub sink: u64,
+    /// The edges.
+    pub edges: Vec<Edge>,
+}
+
+/// The members as far as they were read, and whether there was another.
+#[derive(Drop)]
+pub(crate) struct Parts {
+    version: Option<u64>,
+    vertices: Option<u64>,
+    sink: Option<u64>,
+    edges: Option<Vec<Edge>>,
+    others: bool,
+}
+
+impl Parts {
+    /// Takes the value of the member of this name.
+    fn take(
+        &mut self,
+        alloc: Global,
+        reader: &mut Reader<'_>,
+        depth: usize,
+        name: &str,
+    ) -> Result<(), JsonFault>
+        ensures value { MayRead depth reader.old reader.new (λ d x. Takes name.now d self.old self.new) result }
+        ensures shorter { OnOk result (length reader.new < length reader.old) }
+    {
+        match name {
+            "version" => self.version = number(reader, depth)?,
+            "vertices" => self.vertices = number(reader, depth)?,
+            "sink" => self.sink = number(reader, depth)?,
+            "edges" => self.edges = edges(alloc, reader, depth)?,
+            _ => {
+                self.others = true;
+                pass(reader, depth)?;
+            }
+        }
+        Ok(())
+    }
+
+    /// The file, where each part is there and no other member.
+    fn into_file(self) -> Option<GraphFile>
+        ensures { (found : Members) → Stands found self → KeepsFile (file_of_value (object found)) result }
+    {
+        if self.others {
+            return None;
+        }
+        all_of(self.version, self.vertices, self.sink, self.edges)
+    }
+}
+
+/// The file of these parts, where each is there.
+fn all_of(
+    version: Option<u64>,
+    vertices: Option<u64>,
+    sink: Option<u64>,
+    edges: Option<Vec<Edge>>,
+) -> Option<GraphFile>
+    ensures { result ≡ kept_of version vertices sink edges }
+{
+    Some(GraphFile {
+        version: version?,
+        vertices: vertices?,
+        sink: sink?,
+        edges: edges?,
+    })
+}
+
+/// The graph file that a text is.
+pub fn file_of_text(alloc: Global, text: &[u8]) -> Result<GraphFile, JsonFault>
+    ensures { GivesFile text.now result }
+{
+    let Ok(text) = str::from_utf8(text) else {
+        return Err(JsonFault::NotJson);
+    };
+    let mut scratch = Scratch::new(alloc);
+    let mut reader = Reader::new(text, &mut scratch)?;
+    let file = next_file(alloc, &mut reader)?;
+    if reader.next().is_some() {
+        return Err(JsonFault::NotJson);
+    }
+    match file {
+        Some(file) => Ok(file),
+        None => Err(JsonFault::Shape),
+    }
+}
+
+/// The file that the next value is, if it is one.
+fn next_file(alloc: Global, reader: &mut Reader<'_>) -> Result<Option<GraphFile>, JsonFault>
+    ensures { MayRead max_depth reader.old reader.new IsFile result }
+{
+    let token = reader.next().ok_or(NotJson)?;
+    if let Token::BeginObject = token {
+        let parts = parts_of(alloc, reader, MAX_DEPTH - 1)?;
+        return Ok(parts.into_file());
+    }
+    pass_rest(reader, token, MAX_DEPTH)?;
+    Ok(None)
+}
+
+/// The members of an object.
+fn parts_of(alloc: Global, reader: &mut Reader<'_>, depth: usize) -> Result<Parts, JsonFault>
+    ensures value { MayReadMembers depth reader.old reader.new Stands result }
+    ensures shorter { OnOk result (length reader.new < length reader.old) }
+{
+    let mut parts = Parts {
+        version: None,
+        vertices: None,
+        sink: None,
+        edges: None,
+        others: false,
+    };
+    'members: while let Some(name) = reader.next_key().map_err(|_| NotJson)? {
+        parts.take(alloc, reader, depth, name)?;
+    }
+    Ok(parts)
+}

@@ -1,0 +1,57 @@
+//! The numbers of JSON.
+
+ghost use Rattle.std.specs.Prelude.{◌≡◌, ◌<◌, ◌==◌, IsTrue, length, option_map, slice_index, true, false};
+ghost use Rattle.serde_json.specs.View.{number_view};
+ghost use Rattle.serde_json.specs.Read.{float_of, number_from, number_of};
+
+use fast_float::Numeral;
+use serde_json::Number;
+
+/// The number that a token writes, unless it is too large for a float.
+pub(crate) fn number_of(text: &str) -> Option<Number>
+    ensures { option_map number_view result ≡ number_of text.now }
+{
+    let bytes = text.as_bytes();
+    if has_minus(bytes) {
+        signed(&Numeral::scan(&bytes[1..]))
+    } else {
+        unsigned(&Numeral::scan(bytes))
+    }
+}
+
+/// Whether a sign comes first.
+fn has_minus(bytes: &[u8]) -> bool
+    ensures value { result ≡ (slice_index bytes.now 0 == 45) }
+    ensures len { IsTrue result → 0 < length bytes.now }
+{
+    !bytes.is_empty() && bytes[0] == b'-'
+}
+
+/// The number of a numeral with no sign.
+fn unsigned(numeral: &Numeral<'_>) -> Option<Number>
+    ensures { option_map number_view result ≡ number_from false numeral.now }
+{
+    match numeral.to_u64() {
+        Some(n) => Some(Number::from(n)),
+        None => nearest(false, numeral),
+    }
+}
+
+/// The number of a numeral behind a minus sign.
+fn signed(numeral: &Numeral<'_>) -> Option<Number>
+    ensures { option_map number_view result ≡ number_from true numeral.now }
+{
+    if let Some(n) = numeral.to_i64(true) {
+        if n < 0 {
+            return Some(Number::from(n));
+        }
+    }
+    nearest(true, numeral)
+}
+
+/// The float that is nearest, unless it is infinite.
+fn nearest(negative: bool, numeral: &Numeral<'_>) -> Option<Number>
+    ensures { option_map number_view result ≡ float_of negative numeral.now }
+{
+    Number::from_f64(numeral.to_float::<f64>(negative))
+}

@@ -1,0 +1,149 @@
+//! Numbers, rows of three and lists of rows.
+
+ghost use Rattle.std.specs.Prelude.{◌≡◌, ◌<◌, ◌++◌, ◌∷◌, [], length, List, OnOk, IfOk, IfErr, option_and_then};
+ghost use Rattle.chip_json.specs.Values.{Reads, ReadsItems};
+ghost use Rattle.chip_json.specs.GraphFile.{number_of_value, numbers_of, edge_of_numbers, edge_of_row};
+ghost use Rattle.chip_json.specs.Rows.{and_number, edge_in, Keeps, MayRead, MayReadItems, AreRows, AreRowsUnder};
+ghost use Rattle.chip_json.specs.declared.fault.JsonFault.TheVariants.{NoMemory};
+
+use crate::fault::JsonFault;
+use crate::number::number_of;
+use crate::passing::{NotJson, pass_rest};
+use chip_graph::{Edge, MAX_EDGES};
+use json::{Reader, Token};
+use std::alloc::Global;
+
+/// A row as far as it was read.
+#[derive(Clone, Copy, Drop)]
+pub(crate) enum Row {
+    Empty,
+    One(u64),
+    Two(u64, u64),
+    Three(Edge),
+    Other,
+}
+
+impl Row {
+    /// The row with one more value, which may be a number.
+    fn and(self, number: Option<u64>) -> Row
+        ensures { result ≡ and_number self number }
+    {
+        match (self, number) {
+            (Row::Empty, Some(tail)) => Row::One(tail),
+            (Row::One(tail), Some(head)) => Row::Two(tail, head),
+            (Row::Two(tail, head), Some(mult)) => Row::Three(Edge { tail, head, mult }),
+            _ => Row::Other,
+        }
+    }
+
+    /// The edge that the row is.
+    fn edge(self) -> Option<Edge>
+        ensures { result ≡ edge_in self }
+    {
+        match self {
+            Row::Three(edge) => Some(edge),
+            _ => None,
+        }
+    }
+}
+
+/// The number that the next value is, if it is one.
+pub(crate) fn number(reader: &mut Reader<'_>, depth: usize) -> Result<Option<u64>, NotJson>
+    ensures value { Reads depth reader.old reader.new (λ d n. number_of_value d ≡ n) result }
+    ensures shorter { OnOk result (length reader.new < length reader.old) }
+{
+    let token = reader.next().ok_or(NotJson)?;
+    if let Token::Number(text) = token {
+        return match number_of(text) {
+            Some(number) => Ok(number.as_u64()),
+            None => Err(NotJson),
+        };
+    }
+    pass_rest(reader, token, depth)?;
+    Ok(None)
+}
+
+/// The edge that the next value is, if it is a row of exactly three numbers.
+pub(crate) fn edge(reader: &mut Reader<'_>, depth: usize) -> Result<Option<Edge>, NotJson>
+    ensures value { Reads depth reader.old reader.new (λ d edge. edge_of_row d ≡ edge) result }
+    ensures shorter { OnOk result (length reader.new < length reader.old) }
+{
+    let token = reader.next().ok_or(NotJson)?;
+    if let Token::BeginArray = token {
+        if depth == 0 {
+            return Err(NotJson);
+        }
+        return row_of(reader, depth - 1);
+    }
+    pass_rest(reader, token, depth)?;
+    Ok(None)
+}
+
+/// The edge that the items of an array are.
+fn row_of(reader: &mut Reader<'_>, depth: usize) -> Result<Option<Edge>, NotJson>
+    ensures value { ReadsItems depth reader.old reader.new
+        (λ ds edge. option_and_then edge_of_numbers (numbers_of ds) ≡ edge) result }
+    ensures shorter { OnOk result (length reader.new < length reader.old) }
+{
+    let mut row = Row::Empty;
+    'numbers: while !reader.take_end_array() {
+        row = row.and(number(reader, depth)?);
+    }
+    Ok(row.edge())
+}
+
+/// The edges that the next value means, if it is an array of rows.
+pub(crate) fn edges(
+    alloc: Global,
+    reader: &mut Reader<'_>,
+    depth: usize,
+) -> Result<Option<Vec<Edge>>, JsonFault>
+    ensures value { MayRead depth reader.old reader.new AreRowsUnder result }
+    ensures shorter { OnOk result (length reader.new < length reader.old) }
+{
+    let token = reader.next().ok_or(NotJson)?;
+    if let Token::BeginArray = token {
+        if depth == 0 {
+            return Err(JsonFault::NotJson);
+        }
+        return rows(alloc, reader, depth - 1);
+    }
+    pass_rest(reader, token, depth)?;
+    Ok(None)
+}
+
+/// The edges that the items of an array mean.
+fn rows(
+    alloc: Global,
+    reader: &mut Reader<'_>,
+    depth: usize,
+) -> Result<Option<Vec<Edge>>, JsonFault>
+    ensures value { MayReadItems depth reader.old reader.new AreRows result }
+    ensures shorter { OnOk result (length reader.new < length reader.old) }
+{
+    let mut edges = Vec::new(alloc);
+    let mut are_edges = true;
+    'rows: while !reader.take_end_array() {
+        let Some(edge) = edge(reader, depth)? else {
+            are_edges = false;
+            continue;
+        };
+        keep(&mut edges, edge)?;
+    }
+    if are_edges {
+        return Ok(Some(edges));
+    }
+    Ok(None)
+}
+
+/// Keeps an edge, unless there are too many for a graph.
+fn keep(edges: &mut Vec<Edge>, edge: Edge) -> Result<(), JsonFault>
+    ensures kept { IfOk result (λ _. (all : List Edge) → Keeps all edges.old.items
+        → Keeps (all ++ edge ∷ []) edges.new.items) }
+    ensures memory { IfErr result (λ f. f ≡ NoMemory) }
+{
+    if edges.len() <= MAX_EDGES {
+        edges.push(edge)?;
+    }
+    Ok(())
+}

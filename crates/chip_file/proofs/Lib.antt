@@ -1,5 +1,5 @@
 mod NumberLemmas
-mod JsonLemmas
+mod KeptLemmas
 mod ChipsLemmas
 mod RowLemmas
 mod RecordLemmas

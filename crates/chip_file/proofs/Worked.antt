@@ -10,7 +10,8 @@ use Rattle.chip_graph.specs.Multigraph.{Multigraph}
 use Rattle.chip_link.specs.declared.event.Event.TheVariants as event
 use Rattle.chip_link.specs.declared.trace.TraceRow.TheVariants as row
 use Rattle.chip_file.specs.declared.fault.FileFault.TheVariants as fault
-use Rattle.chip_file.specs.GraphText.{json_of, file_of_text, graph_of_text}
+use Rattle.chip_json.specs.GraphFile.{json_of}
+use Rattle.chip_file.specs.GraphText.{file_of_text, graph_of_text}
 use Rattle.chip_file.specs.ChipsText.{chips_of_text, chips_text_fault}
 use Rattle.chip_file.specs.ScheduleText.{schedule_of_text, schedule_text_fault}
 use Rattle.chip_file.specs.TraceText.{traces_of_text, trace_text_fault}

@@ -1,5 +1,6 @@
 pub use Rattle.chip_graph.specs.Multigraph
 pub use Rattle.chip_graph.specs.Faults
+pub use Rattle.chip_json.specs.GraphFile
 pub mod Answer
 pub mod GraphFaults
 pub mod GraphText

@@ -1,4 +1,5 @@
 use chip_graph::GraphFault;
+use chip_json::JsonFault;
 use std::alloc::{AllocError, AllocFailed};
 use std::fmt;
 
@@ -116,6 +117,21 @@ impl From<GraphFault> for FileFault {
         match fault {
             GraphFault::NoMemory => FileFault::NoMemory,
             fault => FileFault::Graph(fault),
+        }
+    }
+}
+
+impl From<JsonFault> for FileFault {
+    ghost use Rattle.std.specs.Prelude.{◌≡◌};
+    ghost use Rattle.chip_file.specs.GraphFaults.{of_json_fault};
+
+    ghost from_gives = { λ json_fault fault. fault ≡ of_json_fault json_fault };
+
+    fn from(fault: JsonFault) -> FileFault {
+        match fault {
+            JsonFault::NotJson => FileFault::NotJson,
+            JsonFault::Shape => FileFault::Shape,
+            JsonFault::NoMemory => FileFault::NoMemory,
         }
     }
 }

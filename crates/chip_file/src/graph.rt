@@ -1,19 +1,16 @@
-ghost use Rattle.std.specs.Prelude.{◌≡◌, ◌+◌, Some, None, IfSome};
-ghost use Rattle.serde_json.specs.View.{view};
+ghost use Rattle.std.specs.Prelude.{◌≡◌, ◌+◌, Some, IfSome};
+ghost use Rattle.chip_graph.specs.Multigraph.{Multigraph};
+ghost use Rattle.chip_json.specs.Parts.{KeepsGraph};
 ghost use Rattle.chip_file.specs.Answer.{Answers, FailsInTime, Gives, TakesAtMost, max_bytes, max_chunk};
-ghost use Rattle.chip_file.specs.GraphText.{file_of_value, graph_of_text, MeansGraph, IsGraphTextFault};
-ghost use Rattle.chip_file.specs.declared.fault.FileFault.TheVariants as fault;
+ghost use Rattle.chip_file.specs.GraphText.{graph_of_text, MeansGraph, IsGraphTextFault};
 
 use crate::fault::FileFault;
-use crate::json;
 use crate::whole::read_whole;
-use chip_graph::{Edge, Graph};
-use serde_json::Value;
+use chip_graph::Graph;
+use chip_json::GraphFile;
 use std::alloc::Global;
 use std::io::Read;
 
-/// How many members a graph file has.
-const MEMBERS: usize = 4;
 /// The version of graph files.
 const VERSION: u64 = 1;
 
@@ -36,50 +33,14 @@ fn graph_of_text(alloc: Global, text: &[u8]) -> Result<Graph, FileFault>
     Ok(Graph::new(alloc, file.vertices, file.sink, file.edges)?)
 }
 
-/// What a graph file says, whether or not it is a graph.
-#[derive(Drop)]
-struct GraphFile {
-    version: u64,
-    vertices: u64,
-    sink: u64,
-    edges: Vec<Edge>,
-}
-
-/// The graph file of the right version that a text is.
+/// The graph file of the right version that a text is. Of more edges than a graph has only the first are kept.
 fn file_of_text(alloc: Global, text: &[u8]) -> Result<GraphFile, FileFault>
-    ensures { Gives
-        (λ file. graph_of_text text.now
-        ≡ Some (record { vertices = file.vertices; sink = file.sink; edges = file.edges.items }))
+    ensures { Gives (λ file. (graph : Multigraph) × (graph_of_text text.now ≡ Some graph) × KeepsGraph graph file)
         (IsGraphTextFault text.now) result }
 {
-    let value = json::json_of(alloc, text)?;
-    let file = file_of_value(alloc, &value)?;
+    let file = chip_json::file_of_text(alloc, text)?;
     if file.version != VERSION {
         return Err(FileFault::Version);
     }
     Ok(file)
-}
-
-/// The graph file that a value is.
-fn file_of_value(alloc: Global, value: &Value) -> Result<GraphFile, FileFault>
-    ensures { Gives
-        (λ file. file_of_value (view value.now) ≡ Some (record {
-          version = file.version;
-          graph = record { vertices = file.vertices; sink = file.sink; edges = file.edges.items };
-        }))
-        (λ f. (f ≡ fault.Shape) × (file_of_value (view value.now) ≡ None)) result }
-{
-    if json::member_count(value) != MEMBERS {
-        return Err(FileFault::Shape);
-    }
-    let version = json::number_under(value, "version").ok_or(FileFault::Shape)?;
-    let vertices = json::number_under(value, "vertices").ok_or(FileFault::Shape)?;
-    let sink = json::number_under(value, "sink").ok_or(FileFault::Shape)?;
-    let edges = json::edges_under(alloc, value, "edges")?;
-    Ok(GraphFile {
-        version,
-        vertices,
-        sink,
-        edges,
-    })
 }

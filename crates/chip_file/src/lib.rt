@@ -18,7 +18,6 @@ pub use whole::{MAX_BYTES, read_source, read_whole};
 mod chips;
 mod fault;
 mod graph;
-mod json;
 mod number;
 mod rows;
 mod schedule;

@@ -1,8 +1,22 @@
-use Rattle.std.proofs.Common.{inr, ◌∙◌, ap}
+use Rattle.std.proofs.Common.{◌∙◌, inr, sym, ap}
 use Rattle.std.specs.Prelude.{option_and_then}
-use Rattle.chip_file.specs.GraphText.{file_of_value}
+use Rattle.chip_file.specs.GraphText.{graph_of_file}
+use Rattle.chip_file.proofs.KeptLemmas.{refused, json_fault, text_file, first_version}
 use Rattle.chip_file.proofs.graph.file_of_text.Goals as goal
+
+pub returns-in_err-file : goal.returns-in_err-file
+returns-in_err-file c =
+    refused _ _ c.from_residual.result _ c.from_residual.ensures.1 (json_fault c.args.text.now _ c.in_err-file.ensures)
 
 pub returns-then-file-ne-VERSION : goal.returns-then-file-ne-VERSION
 returns-then-file-ne-VERSION c =
-    inr (_, ap (option_and_then file_of_value) c.in_ok-value.ensures ∙ c.in_ok-file.ensures, c.if-file-ne-VERSION.true)
+    let found = text_file c.args.text.now _ c.in_ok-file.ensures in
+    inr (found.0, found.1, λ is. c.if-file-ne-VERSION.true (sym found.2 ∙ is))
+
+pub returns : goal.returns
+returns c =
+    let found = text_file c.args.text.now _ c.in_ok-file.ensures in (
+      found.0.graph,
+      ap (option_and_then graph_of_file) found.1 ∙ first_version found.0 (found.2 ∙ c.if-file-ne-VERSION.false),
+      found.3,
+    )

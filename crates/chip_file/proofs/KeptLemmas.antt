@@ -1,0 +1,140 @@
+-- Serves GraphText.antt.
+-- A text of more edges than a graph has is refused alike, whether all of them are kept or only the first.
+use Rattle.std.proofs.Common.{◌≡◌, ℕ, ◌<◌, ◌≤◌, ◌⊎◌, Bool, true, false, leb, ltb, ◌&&◌, List, length, Option, Some, None}
+use Rattle.std.proofs.Common.{Ok, Err, refl, sym, ap, ◌∙◌, subst, arith, leb-true, inl, inr}
+use Rattle.std.specs.Prelude.{option_and_then, Result}
+use Rattle.std.specs.Result.{IsErrAnd}
+use Rattle.chip_graph.specs.declared.edge.Edge.{Edge}
+use Rattle.chip_graph.specs.declared.fault.GraphFault.{GraphFault}
+use Rattle.chip_graph.specs.declared.fault.GraphFault.TheVariants as graph_fault
+use Rattle.chip_graph.specs.Multigraph.{Multigraph, IsGraph}
+use Rattle.chip_graph.specs.Faults.{first_of_faults, unless, fault_of_edges, fault_of_rows, IsGraphFault, MakesGraph}
+use Rattle.chip_graph.proofs.FaultLemmas.{rows_few}
+use Rattle.chip_json.specs.declared.fault.JsonFault.{JsonFault}
+use Rattle.chip_json.specs.declared.file.GraphFile.{GraphFile as Kept}
+use Rattle.chip_json.specs.GraphFile.{GraphFile, file_of_value}
+use Rattle.chip_json.specs.Rows.{Keeps}
+use Rattle.chip_json.specs.Parts.{KeepsGraph, KeepsFile, GivesFile}
+use Rattle.chip_file.specs.declared.fault.FileFault.{FileFault}
+use Rattle.chip_file.specs.declared.fault.FileFault.TheVariants as fault
+use Rattle.chip_file.specs.Answer.{Gives}
+use Rattle.chip_file.specs.GraphFaults.{of_graph_fault, of_json_fault}
+use Rattle.chip_file.specs.GraphText.{file_of_text, graph_of_file, graph_of_text, MeansGraph, IsGraphTextFault}
+
+-- ---- a refusal
+
+pub refused : {T : Type 0} (IsMeant : T → Type 0) (IsFault : FileFault → Type 0) (result : Result T FileFault)
+    (f : FileFault) → IsErrAnd result (λ e. e ≡ f) → (f ≡ fault.NoMemory) ⊎ IsFault f → Gives IsMeant IsFault result
+refused IsMeant IsFault (Ok value) f is why = absurd is
+refused IsMeant IsFault (Err e) f is why = subst (λ (g : FileFault). (g ≡ fault.NoMemory) ⊎ IsFault g) (sym is) why
+
+-- ---- the file of a text
+
+pub json_fault : (text : List ℕ) (f : JsonFault) → GivesFile text (Err f)
+    → (of_json_fault f ≡ fault.NoMemory) ⊎ IsGraphTextFault text (of_json_fault f)
+json_fault text f (inl e) = inl (ap of_json_fault e)
+json_fault text f (inr (inl (e, none))) = inr (rw e none)
+json_fault text f (inr (inr (e, d, is, none))) = inr (rw e (d, is, none))
+
+kept_file : (o : Option GraphFile) (kept : Kept) → KeepsFile o (Some kept)
+    → (file : GraphFile) × (o ≡ Some file) × (file.version ≡ kept.version) × KeepsGraph file.graph kept
+kept_file (Some file) kept h = (file, refl, h.0, h.1)
+kept_file None kept h = absurd h
+
+pub text_file : (text : List ℕ) (kept : Kept) → GivesFile text (Ok kept)
+    → (file : GraphFile) × (file_of_text text ≡ Some file) × (file.version ≡ kept.version) × KeepsGraph file.graph kept
+text_file text kept (d, is, keeps) =
+    let found = kept_file (file_of_value d) kept keeps in
+    (found.0, ap (option_and_then file_of_value) is ∙ found.1, found.2, found.3)
+
+pub first_version : (file : GraphFile) → file.version ≡ 1 → graph_of_file file ≡ Some file.graph
+first_version file is = rw is refl
+
+-- ---- the graph of the rows that are kept
+
+abbrev pub kept_rows : Kept → Multigraph
+kept_rows kept = record { vertices = kept.vertices; sink = kept.sink; edges = kept.edges.items }
+
+same_rows : (graph : Multigraph) (v s : ℕ) (edges : List Edge) → graph.vertices ≡ v → graph.sink ≡ s
+    → edges ≡ graph.edges → graph ≡ record { vertices = v; sink = s; edges = edges }
+same_rows graph v s edges a b c = rw (← a, ← b, c) refl
+
+-- the first fault where there are too many edges: no edge is looked at
+abbrev crowded_fault : ℕ → ℕ → Option GraphFault
+crowded_fault v s =
+    first_of_faults (unless (ltb 0 v && leb v 4096) graph_fault.Vertices)
+    (first_of_faults (unless (ltb s v) graph_fault.Sink) (Some graph_fault.EdgeCount))
+
+crowded_by : (v s : ℕ) (edges : List Edge) (b : Bool) → leb (length edges) 65536 ≡ b → 65536 < length edges
+    → fault_of_rows (record { vertices = v; sink = s; edges = edges }) ≡ crowded_fault v s
+crowded_by v s edges true is many = let few : length edges ≤ 65536 = leb-true _ _ is in absurd (omega arith)
+crowded_by v s edges false is many =
+    ap (λ (b : Bool). first_of_faults (unless (ltb 0 v && leb v 4096) graph_fault.Vertices)
+    (first_of_faults (unless (ltb s v) graph_fault.Sink)
+    (first_of_faults (unless b graph_fault.EdgeCount) (fault_of_edges v s 0 edges)))) is
+
+crowded : (v s : ℕ) (edges : List Edge) → 65536 < length edges
+    → fault_of_rows (record { vertices = v; sink = s; edges = edges }) ≡ crowded_fault v s
+crowded v s edges many = crowded_by v s edges (leb (length edges) 65536) refl many
+
+fault_of_many : (v s : ℕ) (all kept : List Edge) (f : GraphFault) → 65536 < length all → 65536 < length kept
+    → IsGraphFault (record { vertices = v; sink = s; edges = kept }) f
+    → IsGraphFault (record { vertices = v; sink = s; edges = all }) f
+fault_of_many v s all kept f many more (inl is) = inl (crowded v s all many ∙ sym (crowded v s kept more) ∙ is)
+fault_of_many v s all kept f many more (inr h) =
+    let few : length kept ≤ 65536 = rows_few (record { vertices = v; sink = s; edges = kept }) h.0 in
+    absurd (omega arith)
+
+fault_of_rows_by : (v s : ℕ) (all kept : List Edge) (f : GraphFault) → Keeps all kept
+    → IsGraphFault (record { vertices = v; sink = s; edges = kept }) f
+    → IsGraphFault (record { vertices = v; sink = s; edges = all }) f
+fault_of_rows_by v s all kept f (inl is) h =
+    subst (λ (edges : List Edge). IsGraphFault (record { vertices = v; sink = s; edges = edges }) f) is h
+fault_of_rows_by v s all kept f (inr both) h = fault_of_many v s all kept f both.0 both.1 h
+
+fault_of_all : (graph : Multigraph) (kept : Kept) (f : GraphFault) → KeepsGraph graph kept
+    → IsGraphFault (kept_rows kept) f → IsGraphFault graph f
+fault_of_all graph kept f (a, b, keeps) h =
+    subst (λ (g : Multigraph). IsGraphFault g f)
+    (sym (same_rows graph kept.vertices kept.sink graph.edges a b refl))
+    (fault_of_rows_by kept.vertices kept.sink graph.edges kept.edges.items f keeps h)
+
+all_rows : (graph : Multigraph) (kept : Kept) → KeepsGraph graph kept → IsGraph (kept_rows kept)
+    → graph ≡ kept_rows kept
+all_rows graph kept (a, b, inl is) ok = same_rows graph kept.vertices kept.sink kept.edges.items a b is
+all_rows graph kept (a, b, inr both) ok =
+    let few : length kept.edges.items ≤ 65536 = ok.few_edges in
+    let many : 65536 < length kept.edges.items = both.1 in
+    absurd (omega arith)
+
+-- ---- the graph of a text
+
+-- a text of these rows, of which the edges are kept
+abbrev pub IsKeptText : List ℕ → Kept → Type 0
+IsKeptText text kept = (graph : Multigraph) × (graph_of_text text ≡ Some graph) × KeepsGraph graph kept
+
+pub means_graph : (text : List ℕ) (kept : Kept) (made : Multigraph) → IsKeptText text kept
+    → MakesGraph (kept_rows kept) (Ok made) → MeansGraph text made
+means_graph text kept made (graph, is, keeps) (same, ok) = record {
+  meaning = is ∙ ap Some (all_rows graph kept keeps ok ∙ sym same);
+  valid = subst IsGraph (sym same) ok;
+}
+
+is_text_fault : (text : List ℕ) (graph : Multigraph) (f : GraphFault) → graph_of_text text ≡ Some graph
+    → IsGraphFault graph f → (of_graph_fault f ≡ fault.NoMemory) ⊎ IsGraphTextFault text (of_graph_fault f)
+is_text_fault text graph graph_fault.Vertices is h = inr (graph, is, h)
+is_text_fault text graph graph_fault.Sink is h = inr (graph, is, h)
+is_text_fault text graph graph_fault.EdgeCount is h = inr (graph, is, h)
+is_text_fault text graph (graph_fault.Endpoint e) is h = inr (graph, is, h)
+is_text_fault text graph (graph_fault.Mult e) is h = inr (graph, is, h)
+is_text_fault text graph (graph_fault.Loop e) is h = inr (graph, is, h)
+is_text_fault text graph (graph_fault.FromSink e) is h = inr (graph, is, h)
+is_text_fault text graph (graph_fault.Unreached v) is h = inr (graph, is, h)
+is_text_fault text graph graph_fault.NoMemory is h = inl refl
+
+pub text_fault : (text : List ℕ) (kept : Kept) (f : GraphFault) → IsKeptText text kept
+    → MakesGraph (kept_rows kept) (Err f)
+    → (of_graph_fault f ≡ fault.NoMemory) ⊎ IsGraphTextFault text (of_graph_fault f)
+text_fault text kept f given (inl (e, none)) = inl (ap of_graph_fault e)
+text_fault text kept f (graph, is, keeps) (inr h) =
+    is_text_fault text graph f is (fault_of_all graph kept f keeps h)

@@ -4,3 +4,4 @@ mod Shapes
 mod Rowed
 mod Standing
 mod Texts
+mod Digits

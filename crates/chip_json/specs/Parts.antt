@@ -2,7 +2,7 @@
 use Rattle.std.specs.Prelude.{◌≡◌, ◌⊎◌, ℕ, ◌+◌, ◌<◌, List, true, false, codes, Option, None}
 use Rattle.std.specs.Prelude.{Some, option_and_then, Result, Ok, Err, ⊤, Vec}
 use Rattle.std.specs.declared.alloc.Global.{Global}
-use Rattle.serde_json.specs.Data.{Data, Members, no_members, member}
+use Rattle.serde_json.specs.Data.{Data, Members, no_members, member, put}
 use Rattle.serde_json.specs.Find.{get_member, as_array}
 use Rattle.chip_json.specs.GraphFile.{number_of_value, edges_of_rows, members_count}
 use Rattle.chip_graph.specs.declared.edge.Edge.{Edge}
@@ -11,7 +11,6 @@ use Rattle.chip_json.specs.declared.file.Parts.{Parts}
 use Rattle.chip_json.specs.declared.file.GraphFile.{GraphFile as Kept}
 use Rattle.chip_json.specs.declared.fault.JsonFault.{JsonFault}
 use Rattle.chip_json.specs.declared.fault.JsonFault.TheVariants.{NotJson, Shape, NoMemory}
-use Rattle.serde_json.specs.Data.{put}
 use Rattle.chip_json.specs.GraphFile.{GraphFile, file_of_value, json_of}
 use Rattle.chip_json.specs.Rows.{Keeps, KeepsAny}
 
@@ -26,6 +25,7 @@ known edges sink version vertices =
     with (codes "edges") edges (with (codes "sink") sink
     (with (codes "version") version (with (codes "vertices") vertices no_members)))
 
+-- how many values there are: one or none
 abbrev pub there : Option Data → ℕ
 there None = 0
 there (Some d) = 1
@@ -33,8 +33,8 @@ there (Some d) = 1
 -- how many of the four names are there
 abbrev pub known_count : Members → ℕ
 known_count ms =
-    there (get_member (codes "edges") ms) + there (get_member (codes "sink") ms) + there
-    (get_member (codes "version") ms) + there (get_member (codes "vertices") ms)
+    there (get_member (codes "edges") ms) + there (get_member (codes "sink") ms)
+    + there (get_member (codes "version") ms) + there (get_member (codes "vertices") ms)
 
 -- a name is none of the four
 pub record IsOther (name : List ℕ) : Type 0 where

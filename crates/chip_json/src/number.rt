@@ -1,6 +1,8 @@
 //! The numbers of JSON.
 
-ghost use Rattle.std.specs.Prelude.{◌≡◌, ◌<◌, ◌==◌, IsTrue, length, option_map, slice_index, true, false};
+ghost use Rattle.std.specs.Prelude.{◌≡◌, ◌<◌, ◌==◌, IsTrue, IfSome, Some, length, option_map, slice_index};
+ghost use Rattle.std.specs.Prelude.{true, false};
+ghost use Rattle.serde_json.specs.Data.{unsigned};
 ghost use Rattle.serde_json.specs.View.{number_view};
 ghost use Rattle.serde_json.specs.Read.{float_of, number_from, number_of};
 
@@ -9,6 +11,27 @@ use serde_json::Number;
 
 /// The number that a token writes, unless it is too large for a float.
 pub(crate) fn number_of(text: &str) -> Option<Number>
+    ensures { option_map number_view result ≡ number_of text.now }
+{
+    match integer(text) {
+        Some(n) => Some(Number::from(n)),
+        None => scanned(text),
+    }
+}
+
+/// The integer that digits alone write, where it fits into 64 bits. Nearly all numbers are such, and `parse` is quick.
+fn integer(text: &str) -> Option<u64>
+    ensures { IfSome result (λ n. number_of text.now ≡ Some (unsigned n)) }
+{
+    let bytes = text.as_bytes();
+    if bytes.is_empty() || bytes[0] == b'+' {
+        return None;
+    }
+    text.parse().ok()
+}
+
+/// The number that any token writes.
+fn scanned(text: &str) -> Option<Number>
     ensures { option_map number_view result ≡ number_of text.now }
 {
     let bytes = text.as_bytes();

@@ -22,9 +22,10 @@ reverse_more : (x : Step) (ds : List Step) → reverse (x ∷ ds) ≡ reverse ds
 reverse_more x ds = reverse-append (x ∷ []) ds
 
 -- an operation of the hand is one of the medium
-pub serves : (first : ActorKnown) (here : NetId) (now after : ActorKnown) (act : Act) (seen : ℕ)
-    → MakesStep now after act seen → Serves (Holds first here now) (Holds first here after) act seen
-serves first here now after act seen makes g v ds s held due =
+pub serves : (first : ActorKnown) (borrow : ℕ) (here : NetId) (name : ℕ) (now after : ActorKnown) (act : Act) (seen : ℕ)
+    → MakesStep now after act seen
+    → Serves (Holds first borrow here name now) (Holds first borrow here name after) act seen
+serves first borrow here name now after act seen makes g v ds s held due =
     let began : ActorKnown = record { net = first.net; vertex = first.vertex; room = first.room; did = reverse ds } in
     let made : MakesStep began after act seen = subst (λ (k : ActorKnown). MakesStep k after act seen) held.now_is makes
     in
@@ -39,6 +40,7 @@ serves first here now after act seen makes g v ds s held due =
           (λ i. (part_same i, sym held.vertex_is i)) made.fits;
       held = record {
         here_is = held.here_is;
+        name_is = held.name_is;
         setting_is = held.setting_is;
         vertex_is = held.vertex_is;
         now_is = made.record_is ∙ ap
@@ -49,13 +51,15 @@ serves first here now after act seen makes g v ds s held due =
     }
 
 -- as a turn begins
-module _ (first hand : ActorKnown) (first_is : first ≡ hand) (here : NetId) (net_is : hand.net ≡ here) (a : Actor)
-    (vertex : a.vertex ≡ hand.vertex) where
-  pub begins : Holds first here hand hand.net.setting a.vertex (reverse hand.did) (part_known hand)
+module _ (first hand : ActorKnown) (first_is : first ≡ hand) (borrow name : ℕ) (borrow_is : borrow ≡ name)
+    (here : NetId) (net_is : hand.net ≡ here) (a : Actor) (vertex : a.vertex ≡ hand.vertex)
+    (stands : StandsFor hand.net.setting (part_known hand) a) where
+  pub begins : Holds first borrow here name hand hand.net.setting a.vertex (reverse hand.did) (part_known hand)
   begins =
       let twice : reverse (reverse hand.did) ≡ hand.did = reverse-reverse hand.did in
       record {
         here_is = sym net_is ∙ ap (λ (k : ActorKnown). k.net) (sym first_is);
+        name_is = sym borrow_is;
         setting_is = ap (λ (k : ActorKnown). k.net.setting) (sym first_is);
         vertex_is = vertex ∙ ap (λ (k : ActorKnown). k.vertex) (sym first_is);
         now_is = λ i. record {
@@ -67,14 +71,20 @@ module _ (first hand : ActorKnown) (first_is : first ≡ hand) (here : NetId) (n
         part_is = ap (part_by hand.net.setting (opened hand.net.setting)) (sym twice);
       }
 
-  pub may_turn : StandsFor hand.net.setting (part_known hand) a → Meets (Holds first here hand) a (At.Take 0)
-  may_turn stands = (hand.net.setting, reverse hand.did, part_known hand, begins, stands, tt)
+  pub may_turn : Meets (Holds first borrow here name hand) a (At.Take 0)
+  may_turn = (hand.net.setting, reverse hand.did, part_known hand, begins, stands, tt)
 
-  -- and as it is over
-  pub turned : StandsFor hand.net.setting (part_known hand) a
-      → (there : NetId) (after : ActorKnown) (b : Actor) (work : ℕ)
-      → MakesTurn (Holds first here hand) a (Holds first there after) b work → MakesTurnBy hand after b work
-  turned stands there after b work makes =
+  -- and as it is over: it is the same hand
+  pub same_hand : (there : NetId) (other : ℕ) (after : ActorKnown) (b : Actor) (work : ℕ)
+      → MakesTurn (Holds first borrow here name hand) a (Holds first borrow there other after) b work → other ≡ name
+  same_hand there other after b work makes =
+      (makes hand.net.setting (reverse hand.did) (part_known hand) begins stands).2.held.name_is ∙ borrow_is
+
+  -- which knows of one turn more
+  pub turned : (there : NetId) (other : ℕ) (after : ActorKnown) (b : Actor) (work : ℕ)
+      → MakesTurn (Holds first borrow here name hand) a (Holds first borrow there other after) b work
+      → MakesTurnBy hand after b work
+  turned there other after b work makes =
       let made = makes hand.net.setting (reverse hand.did) (part_known hand) begins stands in
       let more : List Step = made.0 in
       let over = made.2 in

@@ -88,11 +88,12 @@ IsDueFor a act = IsDueBy a.net.setting a.vertex (part_known a) act
 
 -- ---- the net's words as a medium
 
--- the actor that began its turn as `first` has done these steps, the latest first, and this is its part. `here` is the
--- net over which it makes them, `now` what it knows
-pub record Holds (first : ActorKnown) (here : NetId) (now : ActorKnown) (g : Setting) (v : ℕ) (ds : List Step)
-    (s : Part) : Type 0 where
+-- the actor that began its turn as `first`, with its hand lent as `borrow`, has done these steps, the latest first, and
+-- this is its part. `here` is the net over which it makes them, `now` what its hand knows, which is lent as `name`
+pub record Holds (first : ActorKnown) (borrow : ℕ) (here : NetId) (name : ℕ) (now : ActorKnown) (g : Setting) (v : ℕ)
+    (ds : List Step) (s : Part) : Type 0 where
   pub here_is : here ≡ first.net
+  pub name_is : name ≡ borrow
   pub setting_is : g ≡ first.net.setting
   pub vertex_is : v ≡ first.vertex
   pub now_is : now ≡ record { net = first.net; vertex = first.vertex; room = first.room; did = reverse ds }

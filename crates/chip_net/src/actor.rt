@@ -32,7 +32,7 @@ pub enum Turn {
 #[derive(Drop)]
 struct Owned {
     state: ActorState,
-    // `None` only during a turn, which takes it by value.
+    // `None` only while actors meet.
     hand: Option<Hand>,
 }
 
@@ -53,11 +53,10 @@ impl Owned {
         ensures same { (self.new.net ≡ self.old.net) × (self.new.vertex ≡ self.old.vertex)
             × (self.new.room ≡ self.old.room) }
     {
-        let Some(hand) = self.hand.take() else {
+        let Some(hand) = &mut self.hand else {
             unreachable!()
         };
-        let (work, hand) = turn_over::<Brand>(net, &mut self.state, hand);
-        self.hand = Some(hand);
+        let work = turn_over(net, &mut self.state, hand);
         if work > 0 {
             Turn::Worked(work as u64)
         } else if self.state.passive() {
@@ -188,18 +187,29 @@ pub(crate) fn gather(net: &Net, seat: &mut PartSeat, mut actors: Vec<Actor>)
 }
 
 /// A whole turn over the words of the net; how many of its steps count.
-fn turn_over<J: Turning>(net: &Net, state: &mut ActorState, hand: Hand) -> (usize, Hand)
-    requires first { J.first ≡ hand }
-    requires net { hand.net ≡ net.now }
-    requires vertex { state.old.vertex ≡ hand.vertex }
-    requires state { StandsFor hand.net.setting (part_known hand) state.old }
-    ensures { MakesTurnBy hand result.1 state.new result.0 }
+fn turn_over(net: &Net, state: &mut ActorState, hand: &mut Hand) -> usize
+    requires net { hand.old.net ≡ net.now }
+    requires vertex { state.old.vertex ≡ hand.old.vertex }
+    requires state { StandsFor hand.old.net.setting (part_known hand.old) state.old }
+    ensures { MakesTurnBy hand.old hand.new state.new result }
 {
-    let mut words = NetWords::<J> {
+    let mut words = NetWords::<Brand> {
         net,
         hand,
         of: PhantomData,
     };
-    let work = state.turn(&mut words);
-    (work, words.hand)
+    turn_with(state, &mut words)
+}
+
+/// A whole turn over these words, which keep the hand that they borrow.
+fn turn_with<J: Turning>(state: &mut ActorState, words: &mut NetWords<'_, J>) -> usize
+    requires first { J.first ≡ words.old.hand.now }
+    requires borrow { J.borrow ≡ words.old.hand.ghost_name }
+    requires net { words.old.hand.now.net ≡ words.old.net.now }
+    requires vertex { state.old.vertex ≡ words.old.hand.now.vertex }
+    requires state { StandsFor words.old.hand.now.net.setting (part_known words.old.hand.now) state.old }
+    ensures lent { words.new.hand.ghost_name ≡ words.old.hand.ghost_name }
+    ensures turn { MakesTurnBy words.old.hand.now words.new.hand.now state.new result }
+{
+    state.turn(words)
 }

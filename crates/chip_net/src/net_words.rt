@@ -5,29 +5,35 @@ use std::marker::{Brand, PhantomData};
 
 /// The actor whose turn it is, as the turn began.
 pub(crate) trait Turning {
+    ghost use Rattle.std.specs.Prelude.{ℕ};
     ghost use Rattle.chip_net.specs.Tokens.{ActorKnown};
 
     ghost first: { ActorKnown };
+
+    // The name of the borrow of its hand.
+    ghost borrow: { ℕ };
 }
 
 impl Turning for Brand {
     ghost use Rattle.chip_net.specs.Tokens.{no_actor};
 
     ghost first = { no_actor };
+
+    ghost borrow = { 0 };
 }
 
 /// The words of a net as the vertex whose turn it is finds them.
 #[derive(Drop)]
 pub(crate) struct NetWords<'net, J> {
     pub(crate) net: &'net Net,
-    pub(crate) hand: Hand,
+    pub(crate) hand: &'net mut Hand,
     pub(crate) of: PhantomData<J>,
 }
 
 impl<'net, J: Turning> Medium for NetWords<'net, J> {
     ghost use Rattle.chip_net.specs.Tokens.{Holds};
 
-    ghost holds = { λ w. Holds J.first w.net.now w.hand };
+    ghost holds = { λ w. Holds J.first J.borrow w.net.now w.hand.ghost_name w.hand.now };
 
     fn take(&mut self, edge: u64, cell: u64) -> u64 {
         self.hand.take(self.net, edge, cell)

@@ -3,5 +3,6 @@ use Rattle.chip_net.proofs.TurningLemmas.{serves}
 use Rattle.chip_net.proofs.net_words.NetWordsMedium.claim.Goals as goal
 
 pub returns : goal.returns
-returns g c = serves g.J.Turning.first c.args.self.now.net.now c.args.self.now.hand c.claim.new.self
+returns g c = serves g.J.Turning.first g.J.Turning.borrow c.args.self.now.net.now
+    c.args.self.now.hand.ghost_name c.args.self.now.hand.now c.claim.new.self
     (Do.Claim c.args.edge c.args.expected c.args.new) c.claim.result c.claim.ensures

@@ -3,5 +3,6 @@ use Rattle.chip_net.proofs.TurningLemmas.{serves}
 use Rattle.chip_net.proofs.net_words.NetWordsMedium.clear.Goals as goal
 
 pub returns : goal.returns
-returns g c = serves g.J.Turning.first c.args.self.now.net.now c.args.self.now.hand c.clear.new.self
+returns g c = serves g.J.Turning.first g.J.Turning.borrow c.args.self.now.net.now
+    c.args.self.now.hand.ghost_name c.args.self.now.hand.now c.clear.new.self
     (Do.Clear c.args.edge c.args.cell) c.clear.result c.clear.ensures

@@ -3,5 +3,6 @@ use Rattle.chip_net.proofs.TurningLemmas.{serves}
 use Rattle.chip_net.proofs.net_words.NetWordsMedium.settle.Goals as goal
 
 pub returns : goal.returns
-returns g c = serves g.J.Turning.first c.args.self.now.net.now c.args.self.now.hand c.settle.new.self
+returns g c = serves g.J.Turning.first g.J.Turning.borrow c.args.self.now.net.now
+    c.args.self.now.hand.ghost_name c.args.self.now.hand.now c.settle.new.self
     (Do.Settle c.args.edge) c.settle.result c.settle.ensures

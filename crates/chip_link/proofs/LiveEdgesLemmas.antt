@@ -18,7 +18,7 @@ use Rattle.chip_link.specs.Ends.{tail_after_claim, tail_after_put, message_claim
 use Rattle.chip_link.specs.Ends.{message_taken}
 use Rattle.chip_link.specs.Link.{Tail, fresh_tail, sent_counts, claims_of, after_clear, after_claim, after_put}
 use Rattle.chip_link.specs.Link.{after_take, after_seal, word_of, tail_state, head_state, IsSealedAt, Sound, Shows}
-use Rattle.chip_link.specs.Edge.{LiveEdge, EdgeStep, Clear, Claim, Put, Take, Seal, opened, step, steps, stored}
+use Rattle.chip_link.specs.Edge.{LiveEdge, EdgeStep, Clear, Claim, Put, Take, Seal, new_edge, step, steps, stored}
 use Rattle.chip_link.specs.Edge.{claim_on, take_on}
 use Rattle.chip_link.specs.Laws.{AreInOrder, TakesPrefix, ClaimsInOrder, NothingAfterSeal, WordTells, SealsAllClaims}
 use Rattle.chip_link.proofs.SoundsLemmas.{cond_yes, cond_no, none_held, length-sent_counts, none-some, clear_sound}
@@ -319,8 +319,8 @@ get_or-zeros zeros n i is = dite (dec_lt i n) (λ l. ap (λ (zs : List ℕ). get
     in omega arith))
 
 -- a new edge has empty lists behind it
-opened_follows : (edge ring : ℕ) → 0 < ring → Follows edge ring (opened edge ring) fresh_tail []
-opened_follows edge ring some_ring = record {
+new_edge_follows : (edge ring : ℕ) → 0 < ring → Follows edge ring (new_edge edge ring) fresh_tail []
+new_edge_follows edge ring some_ring = record {
   tail_is = refl;
   head_is = refl;
   claimed_is = refl;
@@ -347,9 +347,9 @@ after_steps edge ring some_ring (x ∷ xs) s h = after_steps edge ring some_ring
     (after_step edge ring some_ring s h x)
 
 -- every edge that runs has its lists
-pub has_lists : (edge ring : ℕ) → 0 < ring → (xs : List EdgeStep) → HasLists edge ring (steps xs (opened edge ring))
-has_lists edge ring some_ring xs = after_steps edge ring some_ring xs (opened edge ring)
-    (fresh_tail, [], opened_follows edge ring some_ring)
+pub has_lists : (edge ring : ℕ) → 0 < ring → (xs : List EdgeStep) → HasLists edge ring (steps xs (new_edge edge ring))
+has_lists edge ring some_ring xs = after_steps edge ring some_ring xs (new_edge edge ring)
+    (fresh_tail, [], new_edge_follows edge ring some_ring)
 
 steps-append : (xs ys : List EdgeStep) (s : LiveEdge) → steps (xs ++ ys) s ≡ steps ys (steps xs s)
 steps-append [] ys s = refl
@@ -361,7 +361,7 @@ pub takes_prefix : TakesPrefix
 takes_prefix edge ring some_ring xs =
     let h = has_lists edge ring some_ring xs in
     let f = h.2 in
-    let s : LiveEdge = steps xs (opened edge ring) in
+    let s : LiveEdge = steps xs (new_edge edge ring) in
     let put : List ℕ = h.0.put in let held : List ℕ = option_to_list h.0.held in let got : List ℕ = h.1 in
     let rest : List ℕ = drop (length got) put ++ held in
     let whole : got ++ rest ≡ put ++ held
@@ -386,7 +386,7 @@ pub word_tells : WordTells
 word_tells edge ring some_ring xs =
     let h = has_lists edge ring some_ring xs in
     let f = h.2 in
-    let s : LiveEdge = steps xs (opened edge ring) in
+    let s : LiveEdge = steps xs (new_edge edge ring) in
     let all = claims-claimed edge ring s h.0 h.1 f in (
       f.shows.word_is ∙ ap (λ (n : ℕ). edge_word n (is_some s.stop)) all,
       ap (λ (u : TailState). u.claims) f.tail_is
@@ -398,7 +398,7 @@ seals_all_claims edge ring some_ring xs first stop =
     let h = has_lists edge ring some_ring xs in
     let f = h.2 in
     let at : first ≡ claims_of h.0 = subst (IsSealedAt (claims_of h.0)) stop f.sound.sealed_at in
-    at ∙ claims-claimed edge ring (steps xs (opened edge ring)) h.0 h.1 f
+    at ∙ claims-claimed edge ring (steps xs (new_edge edge ring)) h.0 h.1 f
 
 -- from a sealed edge on
 still_unclaimed : (edge ring : ℕ) → 0 < ring → (first : ℕ) (ys : List EdgeStep) (s : LiveEdge) → HasLists edge ring s
@@ -415,8 +415,8 @@ sealed_first word (Some first) = (first, refl)
 
 pub nothing_after_seal : NothingAfterSeal
 nothing_after_seal edge ring some_ring xs ys =
-    let s : LiveEdge = steps xs (opened edge ring) in
+    let s : LiveEdge = steps xs (new_edge edge ring) in
     let h = after_step edge ring some_ring s (has_lists edge ring some_ring xs) Seal in
     let at = sealed_first s.word s.stop in
-    ap (λ (u : LiveEdge). u.claimed) (steps-append xs (Seal ∷ ys) (opened edge ring))
+    ap (λ (u : LiveEdge). u.claimed) (steps-append xs (Seal ∷ ys) (new_edge edge ring))
     ∙ still_unclaimed edge ring some_ring at.0 ys (step Seal s) h at.1

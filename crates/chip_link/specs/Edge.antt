@@ -21,8 +21,8 @@ pub record LiveEdge : Type 0 where
   pub taken : List Message
 
 -- an edge on which nothing happened
-abbrev pub opened : ℕ → ℕ → LiveEdge
-opened edge ring = record {
+abbrev pub new_edge : ℕ → ℕ → LiveEdge
+new_edge edge ring = record {
   word = 0;
   cells = replicate ring 0;
   tail = new_tail edge ring;

@@ -2,7 +2,7 @@
 use Rattle.std.specs.Prelude.{◌≡◌, ℕ, ◌<◌, List, ◌∷◌, ◌++◌, length, slice_get, Some, is_some}
 use Rattle.chip_link.specs.declared.message.Message.{Message}
 use Rattle.chip_link.specs.Words.{edge_word}
-use Rattle.chip_link.specs.Edge.{LiveEdge, EdgeStep, Seal, opened, steps}
+use Rattle.chip_link.specs.Edge.{LiveEdge, EdgeStep, Seal, new_edge, steps}
 
 -- xs is how ys begins
 abbrev pub IsPrefix : {A : Type 0} → List A → List A → Type 0
@@ -14,7 +14,7 @@ AreInOrder edge ms = (p : ℕ) (m : Message) → slice_get ms p ≡ Some m → (
 
 -- whatever steps are made on a new edge, of any ring
 abbrev pub AfterAllSteps : (ℕ → LiveEdge → Type 0) → Type 0
-AfterAllSteps P = (edge ring : ℕ) → 0 < ring → (xs : List EdgeStep) → P edge (steps xs (opened edge ring))
+AfterAllSteps P = (edge ring : ℕ) → 0 < ring → (xs : List EdgeStep) → P edge (steps xs (new_edge edge ring))
 
 -- what was taken is a prefix of what was claimed, places and counts alike
 abbrev pub TakesPrefix : Type 0
@@ -27,7 +27,7 @@ ClaimsInOrder = AfterAllSteps (λ edge s. AreInOrder edge s.claimed)
 -- after a seal nothing is claimed any more
 abbrev pub NothingAfterSeal : Type 0
 NothingAfterSeal = (edge ring : ℕ) → 0 < ring → (xs ys : List EdgeStep)
-    → (steps (xs ++ Seal ∷ ys) (opened edge ring)).claimed ≡ (steps xs (opened edge ring)).claimed
+    → (steps (xs ++ Seal ∷ ys) (new_edge edge ring)).claimed ≡ (steps xs (new_edge edge ring)).claimed
 
 -- the edge word tells how many messages were claimed, as the tail counts them, and whether there was a seal
 abbrev pub WordTells : Type 0

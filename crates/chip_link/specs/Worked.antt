@@ -4,7 +4,7 @@ use Rattle.chip_link.specs.declared.message.Message.{Message}
 use Rattle.chip_link.specs.Ends.{TailState, new_tail, tail_cell, may_clear, tail_after_clear, claim_words}
 use Rattle.chip_link.specs.Ends.{tail_after_claim, message_claimed, put_of, tail_after_put, HeadState, new_head}
 use Rattle.chip_link.specs.Ends.{head_after_take, message_taken}
-use Rattle.chip_link.specs.Edge.{LiveEdge, EdgeStep, Clear, Claim, Put, Take, Seal, opened, steps}
+use Rattle.chip_link.specs.Edge.{LiveEdge, EdgeStep, Clear, Claim, Put, Take, Seal, new_edge, steps}
 
 -- by edge, place and count
 abbrev pub message_of : ℕ → ℕ → ℕ → Message
@@ -43,7 +43,7 @@ send_one rest = Clear ∷ Claim 1 ∷ Put ∷ rest
 -- take finds nothing
 abbrev pub RingOfTwo : Type 0
 RingOfTwo =
-    let two : LiveEdge = steps (send_one (send_one [])) (opened 0 2) in
+    let two : LiveEdge = steps (send_one (send_one [])) (new_edge 0 2) in
     let full : LiveEdge = steps (Clear ∷ Claim 1 ∷ []) two in
     let three : LiveEdge = steps (Take ∷ send_one []) full in
     let drained : LiveEdge = steps (Take ∷ Take ∷ Take ∷ []) three in
@@ -57,6 +57,6 @@ RingOfTwo =
 abbrev pub SealedBetween : Type 0
 SealedBetween =
     let end : LiveEdge = steps (send_one (Clear ∷ Seal ∷ Claim 3 ∷ Put ∷ Clear ∷ Claim 3 ∷ Take ∷ Take ∷ Seal ∷ []))
-    (opened 7 2) in
+    (new_edge 7 2) in
     (end.word ≡ 2 ^ 63 + 1) × (end.stop ≡ Some 1) × (end.tail.refused ≡ true) × (end.claimed ≡ message_of 7 0 1 ∷ [])
     × (end.taken ≡ message_of 7 0 1 ∷ [])

@@ -32,13 +32,11 @@ impl HeadLink {
     pub fn new(edge: u64, ring: Ring) -> HeadLink
         ensures { result ≡ new_head edge ring }
     {
-        // With the cells read, the proof knows that there is one.
-        let _cells = ring.cells();
         HeadLink {
             edge,
             taken: 0,
             ring,
-            cell: 0,
+            cell: ring.cell_of(0),
         }
     }
 

@@ -52,6 +52,14 @@ impl Ring {
         u64::from(self.cells)
     }
 
+    /// The cell of a place: the places go round the ring.
+    pub(crate) fn cell_of(self, place: u64) -> u8
+        ensures cell { result ≡ place % self }
+        ensures inside { result < self }
+    {
+        (place % self.cells()) as u8
+    }
+
     /// The cell after this one, round the ring.
     pub(crate) fn after(self, cell: u8) -> u8
         requires { cell < self }

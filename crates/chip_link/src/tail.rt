@@ -63,15 +63,13 @@ impl TailLink {
     pub fn new(edge: u64, ring: Ring) -> TailLink
         ensures { result ≡ new_tail edge ring }
     {
-        // With the cells read, the proof knows that there is one.
-        let _cells = ring.cells();
         TailLink {
             edge,
             claims: 0,
             count: 0,
             stage: Stage::Idle,
             ring,
-            cell: 0,
+            cell: ring.cell_of(0),
         }
     }
 

@@ -7,6 +7,7 @@ use Rattle.std.specs.List.Sorted.{IsStrictlyIncreasing}
 use Rattle.std.proofs.lemmas.List.{length-map, get_or_default}
 use Rattle.std.proofs.lemmas.List.Kept.{AllPairs-from_increasing}
 use Rattle.std.proofs.lemmas.Bool.Decides.{nat_tests, eqb_tells}
+use Rattle.chip_detect.specs.Slot.{Slot, IsSlotOf}
 use Rattle.chip_detect.specs.Tally.{Tally, edges_of, look}
 
 -- each number is below all later ones
@@ -23,9 +24,9 @@ ascends_tail x xs up i j lt in_range = up (suc i) (suc j) (omega arith) (omega a
 pub not_in_front : (x : ℕ) (xs : List ℕ) (i : ℕ) → Ascends (x ∷ xs) → i < length xs → get_or xs i 0 ≢ x
 not_in_front x xs i up in_range same = omega (arith, up 0 (suc i) (omega arith) (omega arith))
 
--- what stands at an index is among them
-pub stands_among : (xs : List ℕ) (i e : ℕ) → i < length xs → get_or xs i 0 ≡ e → Contains xs e
-stands_among xs i e in_range at = (i, in_range, sym (get_or_default xs i 0 e in_range) ∙ at)
+-- the edge of a slot is among them
+pub slot_among : (xs : List ℕ) (slot : Slot) → IsSlotOf xs slot → Contains xs slot.edge
+slot_among xs slot is = (slot.index, is.within, sym (get_or_default xs slot.index 0 slot.edge is.within) ∙ is.edge)
 
 -- where an edge stands, its look-up reads the tally there
 pub look_at : (f : Tally → ℕ) (ts : List Tally) (i : ℕ) (d : Tally) → Ascends (edges_of ts) → i < length ts

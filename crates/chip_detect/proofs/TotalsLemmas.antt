@@ -4,12 +4,8 @@ use Rattle.std.proofs.Common.{◌≡◌, ℕ, zero, suc, ◌+◌, ◌*◌, ◌<�
 use Rattle.std.specs.List.{sum_by}
 use Rattle.std.proofs.lemmas.List.Sums.{sum_by-cons, sum_by-le}
 use Rattle.std.proofs.lemmas.Bool.Decides.{nat_tests}
-use Rattle.chip_detect.specs.Change.{Same, Adds}
+use Rattle.chip_detect.specs.Change.{Adds}
 use Rattle.chip_detect.proofs.LookupsLemmas.{Ascends, ascends_tail, not_in_front}
-
-pub sum_same : (f g : ℕ → ℕ) (xs : List ℕ) → Same f g → sum_by g xs ≡ sum_by f xs
-sum_same f g [] same = refl
-sum_same f g (x ∷ xs) same = omega (arith, sum_by-cons f x xs, sum_by-cons g x xs, same x, sum_same f g xs same)
 
 -- an edge that isn't among them changes nothing
 sum_elsewhere : (f g : ℕ → ℕ) (xs : List ℕ) (e more : ℕ) → Adds f g e more

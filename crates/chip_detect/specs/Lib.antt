@@ -1,3 +1,4 @@
+pub mod Slot
 pub mod Tally
 pub mod Books
 pub mod Acknowledging

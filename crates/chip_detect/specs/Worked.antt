@@ -1,7 +1,8 @@
--- Two worked examples: a vertex with the edges 0, 1 and 3 into it and none out of it.
+-- Worked examples: a vertex with the edges 0, 1 and 3 into it and none out of it.
 use Rattle.std.specs.Prelude.{◌≡◌, ℕ, true, false, [], ◌∷◌, Option, Some, None}
+use Rattle.chip_detect.specs.Slot.{IsSlotOf}
 use Rattle.chip_detect.specs.Tally.{Tally}
-use Rattle.chip_detect.specs.Books.{Books, is_engaged}
+use Rattle.chip_detect.specs.Books.{Books, in_edges, is_engaged}
 use Rattle.chip_detect.specs.Acknowledging.{may_ack}
 use Rattle.chip_detect.specs.Steps.{Got, Acked, Makes}
 
@@ -15,6 +16,10 @@ books got0 acked0 got1 acked1 parent = record {
   outs = [];
   parent = parent;
 }
+
+-- edge 3 is the last of the three
+abbrev pub SlotOfTheLast : Type 0
+SlotOfTheLast = IsSlotOf (in_edges (books 0 0 0 0 None)) (record { index = 2; edge = 3 })
 
 -- a message on edge 0 engages the vertex, one on edge 1 follows: the second is acknowledged first
 pub record EngagingMessageLast : Type 0 where

@@ -1,5 +1,6 @@
-ghost use Rattle.std.specs.Prelude.{◌≡◌, ℕ, ◌-◌, ◌<◌, ◌≤◌, true, length, slice_index, Contains, IfOk};
+ghost use Rattle.std.specs.Prelude.{◌≡◌, ◌-◌, ◌<◌, ◌≤◌, true, length, Contains, IfOk};
 
+use crate::slot::Slot;
 use crate::tallies::Tallies;
 use std::alloc::{AllocError, Global};
 use std::marker::Model;
@@ -9,8 +10,8 @@ use std::marker::Model;
 ///
 /// Contracts see it as plain books: for each edge into the vertex how many messages were got and
 /// acknowledged, for each edge out of it how many were sent and settled, and the parent edge.
-/// An edge is found by binary search. Whoever goes through the edges in ascending order knows where
-/// each stands, and gives its index to the calls whose names end in `_at`, which look for nothing.
+/// An edge is found by binary search. Whoever goes through the edges in ascending order knows the
+/// slot of each, and gives it to the calls whose names end in `_at`, which look for nothing.
 /// The deficit is kept, and `new` alone takes memory.
 #[derive(Drop)]
 pub struct Detect {
@@ -38,6 +39,7 @@ impl Detect {
     ghost use Rattle.chip_detect.specs.Books.{got_of, sent_of, settled_of, owed, deficit};
     ghost use Rattle.chip_detect.specs.Acknowledging.{may_ack};
     ghost use Rattle.chip_detect.specs.Steps.{Gets, Acknowledges, Sends, Settles};
+    ghost use Rattle.chip_detect.specs.Slot.{IsSlotOf};
 
     /// The books of a neutral vertex with these edges into it and out of it, on which nothing was
     /// got or sent yet. The lists may be in any order, and name an edge more than once. Refused
@@ -62,21 +64,20 @@ impl Detect {
         ensures gets { Gets self.old self.new edge }
         ensures sound { IsSound self.new }
     {
-        let index = self.ins.index_of(edge);
-        self.got_at(index, edge);
+        let slot = self.ins.slot_of(edge);
+        self.got_at(slot);
     }
 
-    /// Notes a message that came on the edge at this index of those into the vertex.
-    pub fn got_at(&mut self, index: usize, edge: u64)
-        requires within { index < length (in_edges self.old) }
-        requires edge { slice_index (in_edges self.old) index ≡ edge }
-        requires room { got_of self.old edge < message_limit }
-        ensures gets { Gets self.old self.new edge }
+    /// Notes a message that came on the edge at this slot of those into the vertex.
+    pub fn got_at(&mut self, slot: Slot)
+        requires slot { IsSlotOf (in_edges self.old) slot }
+        requires room { got_of self.old slot.edge < message_limit }
+        ensures gets { Gets self.old self.new slot.edge }
         ensures sound { IsSound self.new }
     {
-        self.ins.add_message_at(index, edge);
+        self.ins.add_message_at(slot);
         if self.parent.is_none() {
-            self.parent = Some(edge);
+            self.parent = Some(slot.edge);
         }
     }
 
@@ -85,17 +86,16 @@ impl Detect {
         requires { Contains (in_edges self.now) edge }
         ensures { result ≡ may_ack self.now edge passive }
     {
-        self.may_ack_at(self.ins.index_of(edge), edge, passive)
+        self.may_ack_at(self.ins.slot_of(edge), passive)
     }
 
-    /// How many messages of the edge at this index of those into the vertex may be acknowledged now.
-    pub fn may_ack_at(&self, index: usize, edge: u64, passive: bool) -> u64
-        requires within { index < length (in_edges self.now) }
-        requires edge { slice_index (in_edges self.now) index ≡ edge }
-        ensures { result ≡ may_ack self.now edge passive }
+    /// How many messages of the edge at this slot of those into the vertex may be acknowledged now.
+    pub fn may_ack_at(&self, slot: Slot, passive: bool) -> u64
+        requires { IsSlotOf (in_edges self.now) slot }
+        ensures { result ≡ may_ack self.now slot.edge passive }
     {
-        let owed = self.ins.open_at(index, edge);
-        if self.parent != Some(edge) {
+        let owed = self.ins.open_at(slot);
+        if self.parent != Some(slot.edge) {
             return owed;
         }
         let is_done = self.ins.all_open() == owed && passive && self.deficit() == 0;
@@ -109,20 +109,19 @@ impl Detect {
         ensures acknowledges { Acknowledges self.old self.new edge count }
         ensures sound { IsSound self.new }
     {
-        let index = self.ins.index_of(edge);
-        self.acked_at(index, edge, count);
+        let slot = self.ins.slot_of(edge);
+        self.acked_at(slot, count);
     }
 
-    /// Notes that `count` messages of the edge at this index of those into the vertex were acknowledged.
-    pub fn acked_at(&mut self, index: usize, edge: u64, count: u64)
-        requires within { index < length (in_edges self.old) }
-        requires edge { slice_index (in_edges self.old) index ≡ edge }
-        requires allowed { count ≤ may_ack self.old edge true }
-        ensures acknowledges { Acknowledges self.old self.new edge count }
+    /// Notes that `count` messages of the edge at this slot of those into the vertex were acknowledged.
+    pub fn acked_at(&mut self, slot: Slot, count: u64)
+        requires slot { IsSlotOf (in_edges self.old) slot }
+        requires allowed { count ≤ may_ack self.old slot.edge true }
+        ensures acknowledges { Acknowledges self.old self.new slot.edge count }
         ensures sound { IsSound self.new }
     {
-        self.ins.add_answers_at(index, edge, count);
-        if self.parent == Some(edge) && self.ins.open_at(index, edge) == 0 {
+        self.ins.add_answers_at(slot, count);
+        if self.parent == Some(slot.edge) && self.ins.open_at(slot) == 0 {
             self.parent = None;
         }
     }
@@ -134,19 +133,18 @@ impl Detect {
         ensures sends { Sends self.old self.new edge }
         ensures sound { IsSound self.new }
     {
-        let index = self.outs.index_of(edge);
-        self.sent_at(index, edge);
+        let slot = self.outs.slot_of(edge);
+        self.sent_at(slot);
     }
 
-    /// Notes a message that was sent on the edge at this index of those out of the vertex.
-    pub fn sent_at(&mut self, index: usize, edge: u64)
-        requires within { index < length (out_edges self.old) }
-        requires edge { slice_index (out_edges self.old) index ≡ edge }
-        requires room { sent_of self.old edge < message_limit }
-        ensures sends { Sends self.old self.new edge }
+    /// Notes a message that was sent on the edge at this slot of those out of the vertex.
+    pub fn sent_at(&mut self, slot: Slot)
+        requires slot { IsSlotOf (out_edges self.old) slot }
+        requires room { sent_of self.old slot.edge < message_limit }
+        ensures sends { Sends self.old self.new slot.edge }
         ensures sound { IsSound self.new }
     {
-        self.outs.add_message_at(index, edge);
+        self.outs.add_message_at(slot);
     }
 
     /// Notes that the edge's head has acknowledged `word` of its messages from the beginning on.
@@ -159,22 +157,21 @@ impl Detect {
         ensures settles { Settles self.old self.new edge result }
         ensures sound { IsSound self.new }
     {
-        let index = self.outs.index_of(edge);
-        self.settled_at(index, edge, word)
+        let slot = self.outs.slot_of(edge);
+        self.settled_at(slot, word)
     }
 
-    /// Notes the same of the edge at this index of those out of the vertex.
-    pub fn settled_at(&mut self, index: usize, edge: u64, word: u64) -> u64
-        requires within { index < length (out_edges self.old) }
-        requires edge { slice_index (out_edges self.old) index ≡ edge }
-        requires no_fewer { settled_of self.old edge ≤ word }
-        requires sent { word ≤ sent_of self.old edge }
-        ensures more { result ≡ word - settled_of self.old edge }
-        ensures settles { Settles self.old self.new edge result }
+    /// Notes the same of the edge at this slot of those out of the vertex.
+    pub fn settled_at(&mut self, slot: Slot, word: u64) -> u64
+        requires slot { IsSlotOf (out_edges self.old) slot }
+        requires no_fewer { settled_of self.old slot.edge ≤ word }
+        requires sent { word ≤ sent_of self.old slot.edge }
+        ensures more { result ≡ word - settled_of self.old slot.edge }
+        ensures settles { Settles self.old self.new slot.edge result }
         ensures sound { IsSound self.new }
     {
-        let more = word - self.outs.answered_at(index, edge);
-        self.outs.add_answers_at(index, edge, more);
+        let more = word - self.outs.answered_at(slot);
+        self.outs.add_answers_at(slot, more);
         more
     }
 
@@ -190,7 +187,7 @@ impl Detect {
         requires { Contains (in_edges self.now) edge }
         ensures { result ≡ owed self.now edge }
     {
-        self.ins.open_at(self.ins.index_of(edge), edge)
+        self.ins.open_at(self.ins.slot_of(edge))
     }
 
     /// Whether a message engaged the vertex and isn't acknowledged yet.

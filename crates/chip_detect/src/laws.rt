@@ -1,6 +1,6 @@
 //! What the rules of the books come to, for every vertex and every step.
 ghost use Rattle.chip_detect.specs.Laws.{StepsKeepSoundness, NeutralOnlyWhenDone, NoMoreThanOwed, ParentGoesWithAll};
-ghost use Rattle.chip_detect.specs.Worked.{EngagingMessageLast, TwoOnTheParentEdge};
+ghost use Rattle.chip_detect.specs.Worked.{SlotOfTheLast, EngagingMessageLast, TwoOnTheParentEdge};
 
 /// Every step keeps the books sound: an engaged vertex owes something on its parent edge, and a
 /// neutral one owes nothing.
@@ -24,8 +24,9 @@ pub fn parent_goes_with_all()
     ensures { ParentGoesWithAll }
 {}
 
-/// Two worked examples, computed on the definitions.
+/// Worked examples, computed on the definitions.
 pub fn worked()
+    ensures slot_of_the_last { SlotOfTheLast }
     ensures engaging_message_last { EngagingMessageLast }
     ensures two_on_the_parent_edge { TwoOnTheParentEdge }
 {}

@@ -4,7 +4,9 @@
 #![tactic(auto)]
 
 pub use detector::Detect;
+pub use slot::Slot;
 
 mod detector;
 pub mod laws;
+mod slot;
 mod tallies;

@@ -2,6 +2,9 @@ use Rattle.std.proofs.Common.{refl, arith}
 use Rattle.std.proofs.lemmas.Bool.Decides.{nat_tests}
 use Rattle.chip_detect.proofs.laws.worked.Goals as goal
 
+pub returns-clause-slot_of_the_last : goal.returns-clause-slot_of_the_last
+returns-clause-slot_of_the_last c = record { within = omega arith; edge = refl }
+
 pub returns-clause-engaging_message_last : goal.returns-clause-engaging_message_last
 returns-clause-engaging_message_last c = record {
   got_first = record {

@@ -3,7 +3,7 @@ use Rattle.std.specs.Option.{option_eq}
 use Rattle.chip_detect.specs.Tally.{open_on}
 use Rattle.chip_detect.specs.Books.{Books, IsSound, in_edges}
 use Rattle.chip_detect.specs.Acknowledging.{may_ack}
-use Rattle.chip_detect.proofs.LookupsLemmas.{stands_among}
+use Rattle.chip_detect.proofs.LookupsLemmas.{slot_among}
 use Rattle.chip_detect.proofs.SoundnessLemmas.{freed, kept}
 use Rattle.chip_detect.proofs.detector.Detect.acked_at.Goals as goal
 use Rattle.chip_detect.proofs.detector.Detect.acked_at.Goals.{After-add_answers_at}
@@ -13,25 +13,25 @@ use Rattle.chip_detect.proofs.detector.Detect.acked_at.Goals.{else-eq-via-then-e
 abbrev old : After-add_answers_at → Books
 old c = record { ins = c.self.inside.ins; outs = c.self.inside.outs; parent = c.self.inside.parent }
 
-into : (c : After-add_answers_at) → Contains (in_edges (old c)) c.args.edge
-into c = subst (λ (b : Books). Contains (in_edges b) c.args.edge) (sym c.self.view_is)
-    (stands_among _ c.args.index c.args.edge c.requires.within c.requires.edge)
+into : (c : After-add_answers_at) → Contains (in_edges (old c)) c.args.slot.edge
+into c = subst (λ (b : Books). Contains (in_edges b) c.args.slot.edge) (sym c.self.view_is)
+    (slot_among _ c.args.slot c.requires.slot)
 
-allowed : (c : After-add_answers_at) → c.args.count ≤ may_ack (old c) c.args.edge true
-allowed c = subst (λ (b : Books). c.args.count ≤ may_ack b c.args.edge true) (sym c.self.view_is) c.requires.allowed
+allowed : (c : After-add_answers_at) → c.args.count ≤ may_ack (old c) c.args.slot.edge true
+allowed c = subst (λ (b : Books). c.args.count ≤ may_ack b c.args.slot.edge true) (sym c.self.view_is) c.requires.allowed
 
 -- nothing is owed on the parent edge any more
-free : (c : After-add_answers_at) → option_eq nat_eq c.self.inside.parent (Some c.args.edge) ≡ true
-    → open_on c.add_answers_at.new.self c.args.edge ≡ 0
+free : (c : After-add_answers_at) → option_eq nat_eq c.self.inside.parent (Some c.args.slot.edge) ≡ true
+    → open_on c.add_answers_at.new.self c.args.slot.edge ≡ 0
     → IsSound (record (old c) { ins = c.add_answers_at.new.self; parent = None })
-free c = freed (old c) c.add_answers_at.new.self c.args.edge c.args.count c.self.invariant (into c)
+free c = freed (old c) c.add_answers_at.new.self c.args.slot.edge c.args.count c.self.invariant (into c)
     (allowed c) c.add_answers_at.ensures.adds
 
 -- the parent edge is another, or something is still owed on it
 engaged : (c : After-add_answers_at)
-    → (option_eq nat_eq c.self.inside.parent (Some c.args.edge) ≡ true
-    → open_on c.add_answers_at.new.self c.args.edge ≢ 0) → IsSound (record (old c) { ins = c.add_answers_at.new.self })
-engaged c = kept (old c) c.add_answers_at.new.self c.args.edge c.args.count c.self.invariant (into c)
+    → (option_eq nat_eq c.self.inside.parent (Some c.args.slot.edge) ≡ true
+    → open_on c.add_answers_at.new.self c.args.slot.edge ≢ 0) → IsSound (record (old c) { ins = c.add_answers_at.new.self })
+engaged c = kept (old c) c.add_answers_at.new.self c.args.slot.edge c.args.count c.self.invariant (into c)
     (allowed c) c.add_answers_at.ensures.adds
 
 pub invariant_of-self : goal.invariant_of-self

@@ -3,7 +3,7 @@
 ghost use Rattle.std.specs.Prelude.{◌≡◌, ◌<◌, ◌≤◌, IfOk};
 
 use chip_graph::{AnyEdge, Game};
-use chip_link::Ring;
+use chip_link::{MAX_RING, Ring};
 use std::alloc::{AllocError, Global};
 use std::marker::Model;
 
@@ -38,8 +38,7 @@ impl Setting {
     pub fn new(game: Game, ring: Ring, fed: bool) -> Setting
         ensures { result ≡ setting_with game ring fed }
     {
-        // (with the cells read, the proof knows that the ring is in range)
-        let _cells = ring.cells();
+        prove!(ring.cells() <= MAX_RING);
         let edges = game.graph().all_edges();
         Setting {
             game,

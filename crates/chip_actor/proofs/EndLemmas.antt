@@ -7,6 +7,8 @@ use Rattle.std.proofs.Common.{map, get_or, set, Some, None, refl, sym, ap, ◌�
 use mathlib.Core.Logic.{dite}
 use native.Mathlib.Decide.{ℕ_discrete, dec_lt}
 use Rattle.chip_graph.proofs.SumLemmas.{cond_yes, cond_no}
+use Rattle.chip_detect.specs.declared.slot.Slot.{Slot}
+use Rattle.chip_detect.specs.Slot.{IsSlotOf}
 use Rattle.chip_detect.proofs.LookupsLemmas.{ascends}
 use Rattle.chip_link.specs.declared.message.Message.{Message}
 use Rattle.chip_link.specs.Ends.{HeadState, message_claimed, tail_after_claim, new_head}
@@ -16,40 +18,54 @@ use Rattle.chip_actor.proofs.LookupsLemmas.{on_edge_at, on_edge_changed}
 use Rattle.std.specs.List.Sorted.{IsStrictlyIncreasing}
 use Rattle.std.proofs.lemmas.List.{length-map, take_all}
 
-module _ {T : Type 0} (none : T) (edges : List ℕ) (ends : List T) (apart : AreApart edges ends) (i e : ℕ)
-    (within : i < length edges) (at : get_or edges i 0 ≡ e) (old : T) (was : old ≡ get_or ends i old) where
-  pub found : old ≡ on_edge none edges ends e
-  found = was ∙ sym (on_edge_at none edges ends i old (ascends edges apart.ascending) apart.one_each within)
-      ∙ ap (on_edge none edges ends) at
+module _ {T : Type 0} (none : T) (edges : List ℕ) (ends : List T) (apart : AreApart edges ends) (slot : Slot)
+    (at : IsSlotOf edges slot) (old : T) (was : old ≡ get_or ends slot.index old) where
+  pub found : old ≡ on_edge none edges ends slot.edge
+  found = was
+      ∙ sym (on_edge_at none edges ends slot.index old (ascends edges apart.ascending) apart.one_each at.within)
+      ∙ ap (on_edge none edges ends) at.edge
 
   pub changed : (new : T) (f : T → T) → new ≡ f old → (j : ℕ)
-      → on_edge none edges (set ends i new) j ≡ cond (eqb e j) (f (on_edge none edges ends j)) (on_edge none edges ends j)
-  changed new f is = on_edge_changed none edges ends i e old new f apart.ascending apart.one_each within at (is
-      ∙ ap f was)
+      → on_edge none edges (set ends slot.index new) j
+      ≡ cond (eqb slot.edge j) (f (on_edge none edges ends j)) (on_edge none edges ends j)
+  changed new f is = on_edge_changed none edges ends slot.index slot.edge old new f apart.ascending apart.one_each
+      at.within at.edge (is ∙ ap f was)
 
-module _ (os : OutEnds) (apart : AreApart os.edges os.ends) (i e : ℕ) (within : i < length os.edges)
-    (at : get_or os.edges i 0 ≡ e) (old : OutEnd) (was : old ≡ get_or os.ends i old) where
-  pub found_out : old ≡ out_on os e
-  found_out = found no_out os.edges os.ends apart i e within at old was
+-- the ends of a value that is seen as `now`, at a slot of its edges
+module _ (os now : OutEnds) (same : os ≡ now) (apart : AreApart os.edges os.ends) (slot : Slot)
+    (at : IsSlotOf now.edges slot) (old : OutEnd) (was : old ≡ get_or os.ends slot.index old) where
+  at_out : IsSlotOf os.edges slot
+  at_out = subst (λ (o : OutEnds). IsSlotOf o.edges slot) (sym same) at
+
+  pub found_out : old ≡ out_on now slot.edge
+  found_out = found no_out os.edges os.ends apart slot at_out old was ∙ ap (λ (o : OutEnds). out_on o slot.edge) same
 
   pub changes_out : (new : OutEnd) (f : OutEnd → OutEnd) → new ≡ f old
-      → ChangesOut os (record { edges = os.edges; ends = set os.ends i new }) e f
-  changes_out new f is = record {
-    edges = refl;
-    each = changed no_out os.edges os.ends apart i e within at old was new f is;
-  }
+      → ChangesOut now (record { edges = os.edges; ends = set os.ends slot.index new }) slot.edge f
+  changes_out new f is =
+      let after : OutEnds = record { edges = os.edges; ends = set os.ends slot.index new } in
+      subst (λ (o : OutEnds). ChangesOut o after slot.edge f) same (record {
+        edges = refl;
+        each = changed no_out os.edges os.ends apart slot at_out old was new f is;
+      })
 
-module _ (is : InEnds) (apart : AreApart is.edges is.ends) (i e : ℕ) (within : i < length is.edges)
-    (at : get_or is.edges i 0 ≡ e) (old : HeadState) (was : old ≡ get_or is.ends i old) where
-  pub found_in : old ≡ in_on is e
-  found_in = found (new_head 0 1) is.edges is.ends apart i e within at old was
+module _ (is now : InEnds) (same : is ≡ now) (apart : AreApart is.edges is.ends) (slot : Slot)
+    (at : IsSlotOf now.edges slot) (old : HeadState) (was : old ≡ get_or is.ends slot.index old) where
+  at_in : IsSlotOf is.edges slot
+  at_in = subst (λ (i : InEnds). IsSlotOf i.edges slot) (sym same) at
+
+  pub found_in : old ≡ in_on now slot.edge
+  found_in = found (new_head 0 1) is.edges is.ends apart slot at_in old was
+      ∙ ap (λ (i : InEnds). in_on i slot.edge) same
 
   pub changes_in : (new : HeadState) (f : HeadState → HeadState) → new ≡ f old
-      → ChangesIn is (record { edges = is.edges; ends = set is.ends i new }) e f
-  changes_in new f eq = record {
-    edges = refl;
-    each = changed (new_head 0 1) is.edges is.ends apart i e within at old was new f eq;
-  }
+      → ChangesIn now (record { edges = is.edges; ends = set is.ends slot.index new }) slot.edge f
+  changes_in new f eq =
+      let after : InEnds = record { edges = is.edges; ends = set is.ends slot.index new } in
+      subst (λ (i : InEnds). ChangesIn i after slot.edge f) same (record {
+        edges = refl;
+        each = changed (new_head 0 1) is.edges is.ends apart slot at_in old was new f eq;
+      })
 
 -- an end with a claim, and with so much pending
 abbrev claiming : ℕ → OutEnd → ℕ → OutEnd
@@ -114,18 +130,14 @@ from_more P from i below here k le lt = dite (dec_lt k i) (λ l. below k le l)
 module _ (os now : OutEnds) (same : os ≡ now) (apart : AreApart os.edges os.ends) (place : ℕ)
     (within : place < length now.edges) (end : OutEnd) (was : end ≡ get_or os.ends place end) where
   pub out_there : end ≡ out_on now (get_or now.edges place 0)
-  out_there =
-      let inside = subst (λ (o : OutEnds). place < length o.edges) (sym same) within in
-      found_out os apart place (get_or os.edges place 0) inside refl end was
-      ∙ ap (λ (o : OutEnds). out_on o (get_or o.edges place 0)) same
+  out_there = found_out os now same apart (record { index = place; edge = get_or now.edges place 0 })
+      (record { within = within; edge = refl }) end was
 
 module _ (is now : InEnds) (same : is ≡ now) (apart : AreApart is.edges is.ends) (place : ℕ)
     (within : place < length now.edges) (end : HeadState) (was : end ≡ get_or is.ends place end) where
   pub in_there : end ≡ in_on now (get_or now.edges place 0)
-  in_there =
-      let inside = subst (λ (i : InEnds). place < length i.edges) (sym same) within in
-      found_in is apart place (get_or is.edges place 0) inside refl end was
-      ∙ ap (λ (i : InEnds). in_on i (get_or i.edges place 0)) same
+  in_there = found_in is now same apart (record { index = place; edge = get_or now.edges place 0 })
+      (record { within = within; edge = refl }) end was
 
 -- a list that was made from the numbers of edges, one end after another
 pub made_apart : {T : Type 0} (edges : List ℕ) (f : ℕ → T) (ts : List T) (i : ℕ) → IsStrictlyIncreasing edges

@@ -13,13 +13,14 @@ use Rattle.std.proofs.lemmas.Cmp.{ranked}
 use Rattle.std.proofs.lemmas.List.{get_or_default}
 use Rattle.std.proofs.lemmas.List.Sorted.{IsNonDecreasingBy-from_default}
 use Rattle.chip_graph.proofs.SumLemmas.{cond_yes, cond_no}
+use Rattle.chip_detect.specs.Slot.{IsSlotOf}
 use Rattle.chip_detect.proofs.LookupsLemmas.{Ascends, ascends, ascends_tail, not_in_front}
 use Rattle.chip_actor.specs.Ends.{on_edge}
 
--- a search for a number that is there succeeds, at its place
+-- a search for a number that is there succeeds, at its slot
 pub record FoundAt (xs : List ℕ) (e : ℕ) (r : Result ℕ ℕ) : Type 0 where
   pub ok : IsOk r
-  pub edge : IfOk r (λ i. get_or xs i 0 ≡ e)
+  pub slot : IfOk r (λ i. IsSlotOf xs (record { index = i; edge = e }))
 
 module _ (xs : List ℕ) (rising : IsStrictlyIncreasing xs) (e : ℕ) where
   comparisons_rise : IsNonDecreasingBy (λ (x : ℕ). ordering_index (nat_cmp x e)) xs
@@ -33,7 +34,7 @@ module _ (xs : List ℕ) (rising : IsStrictlyIncreasing xs) (e : ℕ) where
       → IsBinarySearchResult (λ (x : ℕ). nat_cmp x e) xs r → FoundAt xs e r
   searched (Ok i) on in_range equal = record {
     ok = refl;
-    edge = ranked _ e _ (sym (equal 0));
+    slot = record { within = in_range; edge = ranked _ e _ (sym (equal 0)) };
   }
   searched (Err i) (k, there, at) in_range parted =
       let here : get_or xs k 0 ≡ e = sym (get_or_default xs k e 0 there) ∙ at in

@@ -7,7 +7,6 @@ use Rattle.std.proofs.Common.{append-nil}
 use mathlib.Core.Logic.{dite}
 use native.Mathlib.Decide.{ℕ_discrete}
 use Rattle.std.specs.List.{Contains}
-use Rattle.std.proofs.lemmas.Bool.Decides.{nat_tests}
 use Rattle.chip_graph.specs.Sums.{sum_below}
 use Rattle.chip_graph.proofs.SumLemmas.{cond_yes, cond_no, cond_true, cond_false, by_test, tested_term}
 use Rattle.chip_link.specs.declared.message.Message.{Message}
@@ -23,18 +22,21 @@ use Rattle.chip_detect.specs.Acknowledging as detector
 use Rattle.chip_detect.specs.Steps.{Gets, Acknowledges, Sends, Settles}
 use Rattle.chip_detect.proofs.SoundnessLemmas.{parent_goes_with_all}
 use Rattle.chip_detect.proofs.AllowedLemmas.{within_owed}
-use Rattle.chip_part.specs.Edges.{all_edges, tail_of, mult_of}
+use Rattle.chip_part.specs.Edges.{all_edges, tail_of, head_of, mult_of}
 use Rattle.chip_part.specs.declared.cause.Cause.{Cause}
-use Rattle.chip_part.specs.Part.{cause}
-use Rattle.chip_part.specs.Rules.{Take, Ack, Fire, Clear, Claim, Put, Halt, Settle}
+use Rattle.chip_part.specs.Part.{cause, may_ack}
+use Rattle.chip_part.specs.Rules.{Event, Take, Ack, Fire, Clear, Claim, Put, Halt, Settle}
 use Rattle.chip_part.specs.declared.reply.Reply.{Reply}
-use Rattle.chip_part.specs.Steps.{message_of, does, saw}
+use Rattle.chip_part.specs.Steps.{part_of, message_of, does, saw}
 use Rattle.chip_part.specs.declared.reply.Reply.TheVariants.{Done, Got, Sent, Empty, Full, Sealed}
 use Rattle.chip_actor.specs.declared.ends.outs.OutEnd.{OutEnd}
 use Rattle.chip_actor.specs.Ends.{OutEnds, InEnds, out_on, in_on, ChangesOut, ChangesOuts, ChangesIn}
 use Rattle.chip_actor.specs.Ends.{out_after_clear, out_after_claim, out_after_put, out_after_fire}
 use Rattle.chip_actor.specs.Actor.{Actor, StandsFor, SomePart, WhateverPart, is_passive_now}
-use Rattle.chip_part.specs.Acting.{CanDo}
+use Rattle.chip_part.specs.Acting.{act_of, event_of, CanDo, IsDue}
+use Rattle.chip_part.specs.declared.act.Act.TheVariants as Do
+use Rattle.chip_part.specs.declared.act.Observed.{Observed}
+use Rattle.chip_part.specs.Setting.{Setting}
 use Rattle.chip_actor.specs.Actor.{Makes}
 use Rattle.chip_part.proofs.RuleLemmas.{rules_met}
 use Rattle.chip_actor.proofs.StandingLemmas.{among_outs, among_ins, books_in, books_out, out_inside, owed_is, may_ack_is}
@@ -42,23 +44,29 @@ use Rattle.chip_actor.proofs.StandingLemmas.{few_got, few_fired}
 use Rattle.chip_actor.proofs.SteppingLemmas.{takes, takes_none, settles, acknowledges, halts, clears, may_look, claims}
 use Rattle.chip_actor.proofs.SteppingLemmas.{is_refused, puts, fires}
 
+-- ---- an operation that is due
+
+module _ (a : Actor) (o : Observed) (e : ℕ) where
+  -- its edge is one of the actor's, into the vertex or out of it
+  pub due_in : SomePart a (λ g s. IsDue g s a.vertex o)
+      → ((g : Setting) → part_of g (event_of a.vertex o.act) ≡ head_of g e) → Contains a.ins.edges e
+  due_in (g, s, stands, due) into = among_ins g s a stands e (sym (into g) ∙ due.0.0)
+
+  pub due_out : SomePart a (λ g s. IsDue g s a.vertex o)
+      → ((g : Setting) → part_of g (event_of a.vertex o.act) ≡ tail_of g e) → Contains a.outs.edges e
+  due_out (g, s, stands, due) out = among_outs g s a stands e (sym (out g) ∙ due.0.0)
+
+  -- an acknowledgement is of all that may be acknowledged
+  pub due_count : (count : ℕ) → SomePart a (λ g s. IsDue g s a.vertex o) → o.act ≡ Do.Ack e count
+      → count ≡ detector.may_ack a.detect e (is_passive_now a)
+  due_count count (g, s, stands, due) is =
+      let event : event_of a.vertex o.act ≡ Ack e = ap (event_of a.vertex) is in
+      let needed : Do.Ack e count ≡ Do.Ack e (may_ack g (head_of g e) s e)
+      = sym is ∙ due.1 ∙ ap (λ (x : Event). act_of g x s) event in
+      let same : count ≡ may_ack g (head_of g e) s e = cc in
+      same ∙ sym (may_ack_is g s a stands e (sym (ap (part_of g) event) ∙ due.0.0))
+
 -- ---- a take
-
-pub record MayTake (a : Actor) (e seen : ℕ) : Type 0 where
-  pub among : Contains a.ins.edges e
-  pub few : (in_on a.ins e).taken < 2 ^ 62
-  pub into : Contains (in_edges a.detect) e
-  pub room : seen ≢ 0 → (a.chips + seen ≤ 2 ^ 40) × (got_of a.detect e < message_limit)
-
-pub may_take : (a : Actor) (e seen : ℕ) → SomePart a (λ g s. CanDo g s a.vertex (Take e) seen) → MayTake a e seen
-may_take a e seen (g, s, stands, can) = record {
-  among = among_ins g s a stands e can.0;
-  few = (let h = ap (λ (h : HeadState). h.taken) (stands.ins e can.0) in let l = few_got g s a stands e can.0 in
-      omega arith);
-  into = books_in g s a stands e can.0;
-  room = λ some. (let fits = can.2 some in let c = stands.chips in let b = stands.books.got e can.0 in
-      (omega arith, omega arith));
-}
 
 -- a message came out of a cell that wasn't empty
 pub message_seen : (seen : ℕ) (h : HeadState) (m : Message) → Some m ≡ message_taken seen h → seen ≢ 0
@@ -104,20 +112,6 @@ take_empty a e seen is change message = λ g s stands can.
 
 -- ---- a settle
 
-pub record MaySettle (a : Actor) (e seen : ℕ) : Type 0 where
-  pub out : Contains (out_edges a.detect) e
-  pub no_fewer : settled_of a.detect e ≤ seen
-  pub sent : seen ≤ sent_of a.detect e
-
-pub may_settle : (a : Actor) (e seen : ℕ) → SomePart a (λ g s. CanDo g s a.vertex (Settle e) seen) → MaySettle a e seen
-may_settle a e seen (g, s, stands, can) =
-    let x = stands.books.sent e can.0 in let y = stands.books.settled e can.0 in let fits = can.2 in
-    record { out = books_out g s a stands e can.0; no_fewer = omega arith; sent = omega arith }
-
-pub settle_among : (a : Actor) (e seen : ℕ) → SomePart a (λ g s. CanDo g s a.vertex (Settle e) seen)
-    → Contains a.outs.edges e
-settle_among a e seen (g, s, stands, can) = among_outs g s a stands e can.0
-
 pub settle_made : (a : Actor) (e seen more : ℕ) (b : Books) → more ≡ seen - settled_of a.detect e
     → Settles a.detect b e more → IsSound b → Makes a (record a { detect = b }) (Settle e) seen (Done more)
 settle_made a e seen more b is change sound = λ g s stands can. (
@@ -128,25 +122,6 @@ settle_made a e seen more b is change sound = λ g s stands can. (
 )
 
 -- ---- an acknowledgement
-
--- an active vertex may acknowledge no more than a passive one
-no_more_when_active : (e : ℕ) (parent : Option ℕ) (here all waiting : ℕ) (p : Bool)
-    → acknowledgeable e parent here all waiting p ≤ acknowledgeable e parent here all waiting true
-no_more_when_active e parent here all waiting true = omega arith
-no_more_when_active e None here all waiting false = omega arith
-no_more_when_active e (Some q) here all waiting false = grind (arith, nat_tests)
-
-pub acks_allowed : (b : Books) (e : ℕ) (p : Bool) (count : ℕ) → count ≡ detector.may_ack b e p
-    → count ≤ detector.may_ack b e true
-acks_allowed b e p count is = let n = no_more_when_active e b.parent (books.owed b e) (books.all_owed b)
-    (books.deficit b) p in omega arith
-
-pub ack_among : (a : Actor) (e seen : ℕ) → SomePart a (λ g s. CanDo g s a.vertex (Ack e) seen) → Contains a.ins.edges e
-ack_among a e seen (g, s, stands, can) = among_ins g s a stands e can.0
-
-pub ack_into : (a : Actor) (e seen : ℕ) → SomePart a (λ g s. CanDo g s a.vertex (Ack e) seen)
-    → Contains (in_edges a.detect) e
-ack_into a e seen (g, s, stands, can) = books_in g s a stands e can.0
 
 pub ack_made : (a : Actor) (e seen count : ℕ) (b : Books) → count ≡ detector.may_ack a.detect e (is_passive_now a)
     → Acknowledges a.detect b e count → IsSound b → Makes a (record a { detect = b }) (Ack e) seen (Done count)
@@ -173,10 +148,6 @@ halt_made a seen halt n is reply = λ g s stands can. (
 )
 
 -- ---- a look at a cell
-
-pub clear_among : (a : Actor) (e seen : ℕ) → SomePart a (λ g s. CanDo g s a.vertex (Clear e) seen)
-    → Contains a.outs.edges e
-clear_among a e seen (g, s, stands, can) = among_outs g s a stands e can.0
 
 abbrev pub clear_reply : Option (ℕ × ℕ) → Reply
 clear_reply None = Full
@@ -219,7 +190,6 @@ one_or_none true = omega arith
 one_or_none false = omega arith
 
 pub record MayClaim (a : Actor) (e seen : ℕ) : Type 0 where
-  pub among : Contains a.outs.edges e
   pub clear : IsTrue (out_on a.outs e).link.clear
   pub word : claims_in seen ≡ (out_on a.outs e).link.claims
   pub some_chips : 1 ≤ (out_on a.outs e).pending
@@ -227,7 +197,6 @@ pub record MayClaim (a : Actor) (e seen : ℕ) : Type 0 where
   pub pending : (out_on a.outs e).pending ≤ a.pending
   pub few_unput : a.unput < 2 ^ 32
   pub few_refused : a.refused < 2 ^ 32
-  pub out : Contains (out_edges a.detect) e
   pub room : sent_of a.detect e < message_limit
 
 pub may_claim : (a : Actor) (e seen : ℕ) → SomePart a (λ g s. CanDo g s a.vertex (Claim e) seen) → MayClaim a e seen
@@ -255,7 +224,6 @@ may_claim a e seen (g, s, stands, can) =
     let made = out.all_made in
     let sent = stands.books.sent e at in
     record {
-      among = among_outs g s a stands e at;
       clear = ap (λ (o : OutEnd). o.link.clear) here ∙ met.2;
       word = can.2 ∙ sym claims-is;
       some_chips = omega arith;
@@ -263,7 +231,6 @@ may_claim a e seen (g, s, stands, can) =
       pending = omega arith;
       few_unput = omega arith;
       few_refused = omega arith;
-      out = books_out g s a stands e at;
       room = omega arith;
     }
 
@@ -308,19 +275,16 @@ claim_sealed a e seen os change message = λ g s stands can.
 
 -- ---- a put
 
-pub record MayPut (a : Actor) (e : ℕ) : Type 0 where
-  pub among : Contains a.outs.edges e
-  pub some_unput : 1 ≤ a.unput
-
-pub may_put : (a : Actor) (e seen : ℕ) → SomePart a (λ g s. CanDo g s a.vertex (Put e) seen) → MayPut a e
-may_put a e seen (g, s, stands, can) =
+-- there is a message to put
+pub some_unput : (a : Actor) (e seen : ℕ) → SomePart a (λ g s. CanDo g s a.vertex (Put e) seen) → 1 ≤ a.unput
+some_unput a e seen (g, s, stands, can) =
     let met = rules_met g (Put e) s can.1 in
     let one : length (option_to_list (s.out e).link.held) ≡ 1 = ap (λ (h : Option ℕ). length (option_to_list h)) met.1.1
     in
     let of-all = tested_term (all_edges g) (λ i. eqb (tail_of g i) a.vertex)
     (λ i. length (option_to_list (s.out i).link.held)) e met.0 (eq-eqb _ _ can.0) in
     let all-is = stands.unput in
-    record { among = among_outs g s a stands e can.0; some_unput = omega arith }
+    omega arith
 
 pub put_made : (a : Actor) (e seen : ℕ) (os : OutEnds) (held : ℕ × ℕ) → put_of (out_on a.outs e).link ≡ Some held
     → ChangesOut a.outs os e out_after_put

@@ -58,6 +58,13 @@ module _ (g : Setting) (s : Part) (a : Actor) (stands : StandsFor g s a) where
   pub books_in : (e : ℕ) → head_of g e ≡ a.vertex → Contains (in_edges a.detect) e
   books_in e at = subst (λ (xs : List ℕ). Contains xs e) (sym stands.knows.detect_ins) (has_in e at)
 
+  -- its books have the same edges in the same order
+  pub books_ins : in_edges a.detect ≡ a.ins.edges
+  books_ins = stands.knows.detect_ins ∙ sym stands.knows.ins
+
+  pub books_outs : out_edges a.detect ≡ a.outs.edges
+  books_outs = stands.knows.detect_outs ∙ sym stands.knows.outs
+
   -- ---- its sums
 
   pub owed_is : (e : ℕ) → head_of g e ≡ a.vertex → books.owed a.detect e ≡ owed (s.into e)

@@ -12,6 +12,8 @@ use Rattle.chip_link.specs.Link.{claims_of}
 use Rattle.chip_link.specs.Ends.{HeadState, head_cell, tail_cell, claim_words, put_of}
 use Rattle.chip_detect.specs.Acknowledging as detector
 use Rattle.chip_detect.specs.Books.{in_edges}
+use Rattle.chip_detect.specs.declared.slot.Slot.{Slot}
+use Rattle.chip_detect.specs.Slot.{IsSlotOf}
 use Rattle.chip_part.specs.declared.act.Act.TheVariants as Do
 use Rattle.chip_part.specs.declared.cursor.Cursor.TheVariants as At
 use Rattle.chip_part.specs.Edges.{tail_of, head_of}
@@ -25,7 +27,7 @@ use Rattle.chip_part.specs.declared.cursor.Cursor.{Cursor}
 use Rattle.chip_part.specs.Cursor.{GoesBy, out_at}
 use Rattle.chip_actor.specs.Actor.{Actor, StandsFor, WhateverPart, is_passive_now}
 use Rattle.chip_actor.specs.Medium.{Holding, Meets, Moves}
-use Rattle.chip_actor.proofs.StandingLemmas.{may_ack_is, books_in}
+use Rattle.chip_actor.proofs.StandingLemmas.{may_ack_is, books_in, books_ins}
 use Rattle.chip_part.proofs.PartLemmas.{may_le}
 use Rattle.chip_part.proofs.TurnStepsLemmas.{take_due, takes_over, settle_due, settles_over, in_enters, out_leaves, fire_due}
 use Rattle.chip_part.proofs.TurnStepsLemmas.{no_fire_due, puts_over, puts_fit, refusal_none, sends_begin, send_due, sends_to}
@@ -54,24 +56,29 @@ module _ (g : Setting) (s : Part) (a : Actor) (stands : StandsFor g s a) (index 
   out_mine : index < length a.outs.edges → slice_index a.outs.edges index ≡ edge → tail_of g edge ≡ a.vertex
   out_mine within is = ap (tail_of g) (sym (out_there is)) ∙ out_leaves g a.vertex index (out_within within)
 
--- an end tells the number beside which it stands
-pub in_tells : (H : Holding) (a : Actor) (x : Cursor) (index : ℕ) → Meets H a x → index < length a.ins.edges
-    → (in_on a.ins (slice_index a.ins.edges index)).edge ≡ slice_index a.ins.edges index
-in_tells H a x index (g, ds, s, held, stands, at) within =
-    let edge : ℕ = slice_index a.ins.edges index in
-    ap (λ (h : HeadState). h.edge) (stands.ins edge (in_mine g s a stands index edge within refl))
+-- an end at an index, and the number that it tells: with the index this is the edge's slot, and the end is the edge's
+pub in_slot : (H : Holding) (a : Actor) (x : Cursor) (slot : Slot) (end : HeadState) → Meets H a x
+    → slot.index < length a.ins.edges → end ≡ in_on a.ins (slice_index a.ins.edges slot.index) → slot.edge ≡ end.edge
+    → IsSlotOf a.ins.edges slot × (end ≡ in_on a.ins slot.edge)
+in_slot H a x slot end (g, ds, s, held, stands, at) within there tells =
+    let edge : ℕ = slice_index a.ins.edges slot.index in
+    let is : edge ≡ slot.edge = sym (tells ∙ ap (λ (h : HeadState). h.edge)
+    (there ∙ stands.ins edge (in_mine g s a stands slot.index edge within refl))) in
+    (record { within = within; edge = is }, there ∙ ap (in_on a.ins) is)
 
--- the books have the edges in the same order
-pub books_tell : (H : Holding) (a : Actor) (x : Cursor) (index : ℕ) → Meets H a x
-    → slice_index (in_edges a.detect) index ≡ slice_index a.ins.edges index
-books_tell H a x index (g, ds, s, held, stands, at) =
-    ap (λ (xs : List ℕ). slice_index xs index) (stands.knows.detect_ins ∙ sym stands.knows.ins)
+pub out_slot : (H : Holding) (a : Actor) (x : Cursor) (slot : Slot) (end : OutEnd) → Meets H a x
+    → slot.index < length a.outs.edges → end ≡ out_on a.outs (slice_index a.outs.edges slot.index)
+    → slot.edge ≡ end.link.edge → IsSlotOf a.outs.edges slot × (end ≡ out_on a.outs slot.edge)
+out_slot H a x slot end (g, ds, s, held, stands, at) within there tells =
+    let edge : ℕ = slice_index a.outs.edges slot.index in
+    let is : edge ≡ slot.edge = sym (tells ∙ ap (λ (o : OutEnd). o.link.edge)
+    (there ∙ stands.outs edge (out_mine g s a stands slot.index edge within refl))) in
+    (record { within = within; edge = is }, there ∙ ap (out_on a.outs) is)
 
-pub out_tells : (H : Holding) (a : Actor) (x : Cursor) (index : ℕ) → Meets H a x → index < length a.outs.edges
-    → (out_on a.outs (slice_index a.outs.edges index)).link.edge ≡ slice_index a.outs.edges index
-out_tells H a x index (g, ds, s, held, stands, at) within =
-    let edge : ℕ = slice_index a.outs.edges index in
-    ap (λ (o : OutEnd). o.link.edge) (stands.outs edge (out_mine g s a stands index edge within refl))
+pub slot_in_books : (H : Holding) (a : Actor) (x : Cursor) (slot : Slot) → Meets H a x → IsSlotOf a.ins.edges slot
+    → IsSlotOf (in_edges a.detect) slot
+slot_in_books H a x slot (g, ds, s, held, stands, at) is =
+    subst (λ (xs : List ℕ). IsSlotOf xs slot) (sym (books_ins g s a stands)) is
 
 -- ---- takes
 

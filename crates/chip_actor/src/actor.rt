@@ -2,9 +2,9 @@ ghost use Rattle.std.specs.Prelude.{◌≡◌, ◌≢◌, ◌+◌, ◌*◌, ◌<
 ghost use Rattle.std.specs.Prelude.{slice_index, Bool, IfOk, IfSome, None, ⊤};
 
 use crate::ends::{Ins, Outs};
-use chip_detect::Detect;
+use chip_detect::{Detect, Slot};
 use chip_graph::Game;
-use chip_link::{Event, Ring};
+use chip_link::{Event, MAX_RING, Ring};
 use chip_part::{Act, Cause, Observed, Reply, Rule, first_unmet, is_by_limit};
 use std::alloc::{AllocError, Global};
 use std::marker::Model;
@@ -60,6 +60,7 @@ impl Model for ActorState {
 
 impl ActorState {
     ghost use Rattle.chip_detect.specs.Acknowledging.{may_ack};
+    ghost use Rattle.chip_detect.specs.Slot.{IsSlotOf};
     ghost use Rattle.chip_part.specs.Setting.{setting_with};
     ghost use Rattle.chip_part.specs.Part.{opened, is_passive, cause};
     ghost use Rattle.chip_part.specs.Edges.{tail_of, head_of};
@@ -303,47 +304,27 @@ impl ActorState {
         }
     }
 
-    /// A take of an edge, with what stood in its cell.
-    fn take(&mut self, edge: u64, seen: u64) -> Reply
-        requires { SomePart self.old (λ g s. CanDo g s self.old.vertex (Take edge) seen) }
-        ensures { Makes self.old self.new (Take edge) seen result }
+    /// A take of the edge at this slot, with what stood in its cell.
+    fn take(&mut self, slot: Slot, seen: u64) -> Reply
+        requires slot { IsSlotOf self.old.ins.edges slot }
+        requires can { SomePart self.old (λ g s. CanDo g s self.old.vertex (Take slot.edge) seen) }
+        ensures { Makes self.old self.new (Take slot.edge) seen result }
     {
-        let index = self.ins.index_of(edge);
-        self.take_at(index, edge, seen)
-    }
-
-    /// The same of the edge at this index.
-    fn take_at(&mut self, index: usize, edge: u64, seen: u64) -> Reply
-        requires within { index < length self.old.ins.edges }
-        requires edge { slice_index self.old.ins.edges index ≡ edge }
-        requires can { SomePart self.old (λ g s. CanDo g s self.old.vertex (Take edge) seen) }
-        ensures { Makes self.old self.new (Take edge) seen result }
-    {
-        let Some(message) = self.ins.take_at(index, edge, seen) else {
+        let Some(message) = self.ins.take(slot, seen) else {
             return Reply::Empty;
         };
         self.chips += seen;
-        self.detect.got_at(index, edge);
+        self.detect.got_at(slot);
         Reply::Got(message)
     }
 
-    /// A settle of an edge, with its word of acknowledgements.
-    fn settle(&mut self, edge: u64, seen: u64) -> Reply
-        requires { SomePart self.old (λ g s. CanDo g s self.old.vertex (Settle edge) seen) }
-        ensures { Makes self.old self.new (Settle edge) seen result }
+    /// A settle of the edge at this slot, with its word of acknowledgements.
+    fn settle(&mut self, slot: Slot, seen: u64) -> Reply
+        requires slot { IsSlotOf self.old.outs.edges slot }
+        requires can { SomePart self.old (λ g s. CanDo g s self.old.vertex (Settle slot.edge) seen) }
+        ensures { Makes self.old self.new (Settle slot.edge) seen result }
     {
-        let index = self.outs.index_of(edge);
-        self.settle_at(index, edge, seen)
-    }
-
-    /// The same of the edge at this index.
-    fn settle_at(&mut self, index: usize, edge: u64, seen: u64) -> Reply
-        requires within { index < length self.old.outs.edges }
-        requires edge { slice_index self.old.outs.edges index ≡ edge }
-        requires can { SomePart self.old (λ g s. CanDo g s self.old.vertex (Settle edge) seen) }
-        ensures { Makes self.old self.new (Settle edge) seen result }
-    {
-        Reply::Done(self.detect.settled_at(index, edge, seen))
+        Reply::Done(self.detect.settled_at(slot, seen))
     }
 
     fn fire(&mut self, k: u64, seen: u64) -> Reply
@@ -358,71 +339,41 @@ impl ActorState {
         Reply::Done(self.fired)
     }
 
-    /// A look at the cell of an edge, with what stood in it.
-    fn clear(&mut self, edge: u64, seen: u64) -> Reply
-        requires { SomePart self.old (λ g s. CanDo g s self.old.vertex (Clear edge) seen) }
-        ensures { Makes self.old self.new (Clear edge) seen result }
+    /// A look at the cell of the edge at this slot, with what stood in it.
+    fn clear(&mut self, slot: Slot, seen: u64) -> Reply
+        requires slot { IsSlotOf self.old.outs.edges slot }
+        requires can { SomePart self.old (λ g s. CanDo g s self.old.vertex (Clear slot.edge) seen) }
+        ensures { Makes self.old self.new (Clear slot.edge) seen result }
     {
-        let index = self.outs.index_of(edge);
-        self.clear_at(index, edge, seen)
-    }
-
-    /// The same of the edge at this index.
-    fn clear_at(&mut self, index: usize, edge: u64, seen: u64) -> Reply
-        requires within { index < length self.old.outs.edges }
-        requires edge { slice_index self.old.outs.edges index ≡ edge }
-        requires can { SomePart self.old (λ g s. CanDo g s self.old.vertex (Clear edge) seen) }
-        ensures { Makes self.old self.new (Clear edge) seen result }
-    {
-        let Some((place, _)) = self.outs.clear_at(index, edge, seen) else {
+        let Some((place, _)) = self.outs.clear(slot, seen) else {
             return Reply::Full;
         };
         Reply::Done(place)
     }
 
-    /// A claim of an edge, with its word.
-    fn claim(&mut self, edge: u64, seen: u64) -> Reply
-        requires { SomePart self.old (λ g s. CanDo g s self.old.vertex (Claim edge) seen) }
-        ensures { Makes self.old self.new (Claim edge) seen result }
+    /// A claim of the edge at this slot, with its word.
+    fn claim(&mut self, slot: Slot, seen: u64) -> Reply
+        requires slot { IsSlotOf self.old.outs.edges slot }
+        requires can { SomePart self.old (λ g s. CanDo g s self.old.vertex (Claim slot.edge) seen) }
+        ensures { Makes self.old self.new (Claim slot.edge) seen result }
     {
-        let index = self.outs.index_of(edge);
-        self.claim_at(index, edge, seen)
-    }
-
-    /// The same of the edge at this index.
-    fn claim_at(&mut self, index: usize, edge: u64, seen: u64) -> Reply
-        requires within { index < length self.old.outs.edges }
-        requires edge { slice_index self.old.outs.edges index ≡ edge }
-        requires can { SomePart self.old (λ g s. CanDo g s self.old.vertex (Claim edge) seen) }
-        ensures { Makes self.old self.new (Claim edge) seen result }
-    {
-        let Some(message) = self.outs.claim_at(index, edge, seen) else {
+        let Some(message) = self.outs.claim(slot, seen) else {
             self.refused += 1;
             return Reply::Sealed;
         };
         self.pending -= message.count;
         self.unput += 1;
-        self.detect.sent_at(index, edge);
+        self.detect.sent_at(slot);
         Reply::Sent(message)
     }
 
-    /// A put on an edge.
-    fn put(&mut self, edge: u64, seen: u64) -> Reply
-        requires { SomePart self.old (λ g s. CanDo g s self.old.vertex (Put edge) seen) }
-        ensures { Makes self.old self.new (Put edge) seen result }
+    /// A put on the edge at this slot.
+    fn put(&mut self, slot: Slot, seen: u64) -> Reply
+        requires slot { IsSlotOf self.old.outs.edges slot }
+        requires can { SomePart self.old (λ g s. CanDo g s self.old.vertex (Put slot.edge) seen) }
+        ensures { Makes self.old self.new (Put slot.edge) seen result }
     {
-        let index = self.outs.index_of(edge);
-        self.put_at(index, edge, seen)
-    }
-
-    /// The same of the edge at this index.
-    fn put_at(&mut self, index: usize, edge: u64, seen: u64) -> Reply
-        requires within { index < length self.old.outs.edges }
-        requires edge { slice_index self.old.outs.edges index ≡ edge }
-        requires can { SomePart self.old (λ g s. CanDo g s self.old.vertex (Put edge) seen) }
-        ensures { Makes self.old self.new (Put edge) seen result }
-    {
-        let (_, count) = self.outs.put_at(index, edge).unwrap();
+        let (_, count) = self.outs.put(slot).unwrap();
         self.unput -= 1;
         Reply::Done(count)
     }
@@ -438,26 +389,15 @@ impl ActorState {
         Reply::Done(0)
     }
 
-    /// An acknowledgement of an edge.
-    fn acknowledge(&mut self, edge: u64, seen: u64) -> Reply
-        requires { SomePart self.old (λ g s. CanDo g s self.old.vertex (Ack edge) seen) }
-        ensures { Makes self.old self.new (Ack edge) seen result }
-    {
-        let index = self.ins.index_of(edge);
-        let count = self.detect.may_ack_at(index, edge, self.passive());
-        self.acknowledge_at(index, edge, count, seen)
-    }
-
-    /// The same of the edge at this index, on which so much may be acknowledged.
-    fn acknowledge_at(&mut self, index: usize, edge: u64, count: u64, seen: u64) -> Reply
-        requires within { index < length self.old.ins.edges }
-        requires edge { slice_index self.old.ins.edges index ≡ edge }
-        requires count { count ≡ may_ack self.old.detect edge (is_passive_now self.old) }
-        requires can { SomePart self.old (λ g s. CanDo g s self.old.vertex (Ack edge) seen) }
-        ensures makes { Makes self.old self.new (Ack edge) seen result }
+    /// An acknowledgement of so many messages of the edge at this slot, which are all that may be acknowledged there.
+    fn acknowledge(&mut self, slot: Slot, count: u64, seen: u64) -> Reply
+        requires slot { IsSlotOf self.old.ins.edges slot }
+        requires count { count ≡ may_ack self.old.detect slot.edge (is_passive_now self.old) }
+        requires can { SomePart self.old (λ g s. CanDo g s self.old.vertex (Ack slot.edge) seen) }
+        ensures makes { Makes self.old self.new (Ack slot.edge) seen result }
         ensures passive { is_passive_now self.new ≡ is_passive_now self.old }
     {
-        self.detect.acked_at(index, edge, count);
+        self.detect.acked_at(slot, count);
         Reply::Done(count)
     }
 
@@ -469,14 +409,32 @@ impl ActorState {
     {
         let seen = observed.seen;
         match observed.act {
-            Act::Take { edge, .. } => self.take(edge, seen),
-            Act::Settle { edge } => self.settle(edge, seen),
+            Act::Take { edge, .. } => {
+                let slot = self.ins.slot_of(edge);
+                self.take(slot, seen)
+            }
+            Act::Settle { edge } => {
+                let slot = self.outs.slot_of(edge);
+                self.settle(slot, seen)
+            }
             Act::Fire { k } => self.fire(k, seen),
-            Act::Clear { edge, .. } => self.clear(edge, seen),
-            Act::Claim { edge, .. } => self.claim(edge, seen),
-            Act::Put { edge, .. } => self.put(edge, seen),
+            Act::Clear { edge, .. } => {
+                let slot = self.outs.slot_of(edge);
+                self.clear(slot, seen)
+            }
+            Act::Claim { edge, .. } => {
+                let slot = self.outs.slot_of(edge);
+                self.claim(slot, seen)
+            }
+            Act::Put { edge, .. } => {
+                let slot = self.outs.slot_of(edge);
+                self.put(slot, seen)
+            }
             Act::Halt { .. } => self.stop(seen),
-            Act::Ack { edge, .. } => self.acknowledge(edge, seen),
+            Act::Ack { edge, count } => {
+                let slot = self.ins.slot_of(edge);
+                self.acknowledge(slot, count, seen)
+            }
             Act::End => unreachable!(),
         }
     }
@@ -493,8 +451,7 @@ impl ActorState {
         ensures opened { IfOk result (λ actor. (fed : Bool) → let g = setting_with game.now ring fed in
             StandsFor g (opened g) actor) }
     {
-        // With the cells read, the proof knows that the ring is in range.
-        let _cells = ring.cells();
+        prove!(ring.cells() <= MAX_RING);
         let graph = game.graph();
         let outs = Outs::new(alloc, graph, vertex, ring)?;
         let ins = Ins::new(alloc, graph, vertex, ring)?;

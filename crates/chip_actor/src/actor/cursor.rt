@@ -4,6 +4,7 @@
 ghost use Rattle.std.specs.Prelude.{◌≡◌, ◌==◌, not, true, ⊤};
 
 use crate::actor::ActorState;
+use chip_detect::Slot;
 use chip_link::Event;
 use chip_part::{Act, Cursor};
 
@@ -203,7 +204,11 @@ impl ActorState {
         let edges = self.ins.edges();
         let passive = self.passive();
         for next in place..edges.len() {
-            if self.detect.may_ack_at(next, edges[next], passive) != 0 {
+            let slot = Slot {
+                index: next,
+                edge: edges[next],
+            };
+            if self.detect.may_ack_at(slot, passive) != 0 {
                 return Some(next);
             }
         }

@@ -5,6 +5,7 @@ ghost use Rattle.std.specs.Prelude.{if◌then◌else◌, MatchOption, IfSome};
 
 use crate::actor::ActorState;
 use crate::medium::Medium;
+use chip_detect::Slot;
 use chip_part::{Act, Cursor, Observed, Reply, is_by_limit};
 
 impl ActorState {
@@ -24,7 +25,7 @@ impl ActorState {
         let edge = end.edge();
         let cell = end.cell();
         let seen = medium.take(edge, cell);
-        let reply = self.take_at(index, edge, seen);
+        let reply = self.take(Slot { index, edge }, seen);
         work_of(Act::Take { edge, cell }, seen, &reply)
     }
 
@@ -52,7 +53,7 @@ impl ActorState {
     {
         let edge = self.outs.at(index).link.edge();
         let seen = medium.settle(edge);
-        let reply = self.settle_at(index, edge, seen);
+        let reply = self.settle(Slot { index, edge }, seen);
         work_of(Act::Settle { edge }, seen, &reply)
     }
 
@@ -98,7 +99,7 @@ impl ActorState {
         let edge = out.link.edge();
         let cell = out.link.cell();
         let seen = medium.clear(edge, cell);
-        self.clear_at(index, edge, seen);
+        self.clear(Slot { index, edge }, seen);
     }
 
     /// Claims the edge at this index of those out of the vertex, unless its cell was seen full.
@@ -118,7 +119,7 @@ impl ActorState {
             return None;
         };
         let seen = medium.claim(edge, words.0, words.1);
-        let reply = self.claim_at(index, edge, seen);
+        let reply = self.claim(Slot { index, edge }, seen);
         let act = Act::Claim {
             edge,
             expected: words.0,
@@ -143,7 +144,7 @@ impl ActorState {
             return false;
         };
         let seen = medium.put(edge, stored.0, stored.1);
-        self.put_at(index, edge, seen);
+        self.put(Slot { index, edge }, seen);
         true
     }
 
@@ -197,12 +198,13 @@ impl ActorState {
         ensures few { result ≤ 1 }
     {
         let edge = self.ins.at(index).edge();
-        let count = self.detect.may_ack_at(index, edge, passive);
+        let slot = Slot { index, edge };
+        let count = self.detect.may_ack_at(slot, passive);
         if count == 0 {
             return 0;
         }
         let seen = medium.ack(edge, count);
-        let reply = self.acknowledge_at(index, edge, count, seen);
+        let reply = self.acknowledge(slot, count, seen);
         work_of(Act::Ack { edge, count }, seen, &reply)
     }
 
@@ -233,14 +235,17 @@ impl ActorState {
         let Some(edge) = self.detect.parent() else {
             return 0;
         };
-        let index = self.ins.index_of(edge);
-        let more = self.detect.may_ack_at(index, edge, passive);
+        let slot = self.ins.slot_of(edge);
+        let more = self.detect.may_ack_at(slot, passive);
         if more == 0 {
             return 0;
         }
-        let seen = medium.ack(edge, more);
-        let reply = self.acknowledge_at(index, edge, more, seen);
-        let act = Act::Ack { edge, count: more };
+        let seen = medium.ack(slot.edge, more);
+        let reply = self.acknowledge(slot, more, seen);
+        let act = Act::Ack {
+            edge: slot.edge,
+            count: more,
+        };
         work_of(act, seen, &reply)
     }
 

@@ -1,7 +1,8 @@
 ghost use Rattle.std.specs.Prelude.{◌≡◌, ◌^◌, ◌<◌, ◌≤◌, length, slice_index, map, IfOk, Contains};
 ghost use Rattle.std.specs.List.Sorted.{IsStrictlyIncreasing};
 
-use crate::ends::search::index_of;
+use crate::ends::search::slot_of;
+use chip_detect::Slot;
 use chip_graph::Graph;
 use chip_link::{HeadLink, Message, Ring};
 use std::alloc::{AllocError, Global};
@@ -26,16 +27,17 @@ impl Model for Ins {
 }
 
 impl Ins {
+    ghost use Rattle.chip_detect.specs.Slot.{IsSlotOf};
     ghost use Rattle.chip_link.specs.Ends.{head_cell, message_taken, head_after_take};
     ghost use Rattle.chip_actor.specs.Ends.{InEnds, in_on, ChangesIn, IsFreshIns};
 
-    /// The index of an edge.
-    pub fn index_of(&self, edge: u64) -> usize
+    /// The slot of an edge.
+    pub fn slot_of(&self, edge: u64) -> Slot
         requires { Contains self.now.edges edge }
-        ensures within { result < length self.now.edges }
-        ensures edge { slice_index self.now.edges result ≡ edge }
+        ensures slot { IsSlotOf self.now.edges result }
+        ensures edge { result.edge ≡ edge }
     {
-        index_of(&self.edges, edge)
+        slot_of(&self.edges, edge)
     }
 
     /// The cell of the next place to take on an edge.
@@ -43,7 +45,7 @@ impl Ins {
         requires { Contains self.now.edges edge }
         ensures { result ≡ head_cell (in_on self.now edge) }
     {
-        self.at(self.index_of(edge)).cell()
+        self.at(self.slot_of(edge).index).cell()
     }
 
     /// What is known of the edge at this index.
@@ -54,15 +56,14 @@ impl Ins {
         &self.ends[index]
     }
 
-    /// The message that was found in that cell of the edge at this index.
-    pub fn take_at(&mut self, index: usize, edge: u64, cell: u64) -> Option<Message>
-        requires within { index < length self.old.edges }
-        requires edge { slice_index self.old.edges index ≡ edge }
-        requires few { (in_on self.old edge).taken < 2 ^ 62 }
-        ensures message { result ≡ message_taken cell (in_on self.old edge) }
-        ensures after { ChangesIn self.old self.new edge (head_after_take cell) }
+    /// The message that was found in that cell of the edge at this slot.
+    pub fn take(&mut self, slot: Slot, cell: u64) -> Option<Message>
+        requires slot { IsSlotOf self.old.edges slot }
+        requires few { (in_on self.old slot.edge).taken < 2 ^ 62 }
+        ensures message { result ≡ message_taken cell (in_on self.old slot.edge) }
+        ensures after { ChangesIn self.old self.new slot.edge (head_after_take cell) }
     {
-        let end = &mut self.ends[index];
+        let end = &mut self.ends[slot.index];
         end.taken(cell)
     }
 

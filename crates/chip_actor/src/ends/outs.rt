@@ -2,7 +2,8 @@ ghost use Rattle.std.specs.Prelude.{◌≡◌, ℕ, ◌*◌, ◌^◌, ◌<◌, �
 ghost use Rattle.std.specs.Prelude.{slice_index, slice_index_or, not, is_some, ◌==◌};
 ghost use Rattle.chip_graph.specs.Limits.{max_total};
 
-use crate::ends::search::index_of;
+use crate::ends::search::slot_of;
+use chip_detect::Slot;
 use chip_graph::Graph;
 use chip_link::{Message, Ring, TailLink};
 use std::alloc::{AllocError, Global};
@@ -37,19 +38,20 @@ impl Model for Outs {
 }
 
 impl Outs {
+    ghost use Rattle.chip_detect.specs.Slot.{IsSlotOf};
     ghost use Rattle.chip_link.specs.Words.{claims_in};
     ghost use Rattle.chip_actor.specs.Ends.{IsFirstFrom};
     ghost use Rattle.chip_link.specs.Ends.{put_of, message_claimed, may_clear, claim_words, tail_after_clear};
     ghost use Rattle.chip_actor.specs.Ends.{OutEnds, OutEnd, out_on, ChangesOut, ChangesOuts, IsFreshOuts};
     ghost use Rattle.chip_actor.specs.Ends.{out_after_clear, out_after_claim, out_after_put, out_after_fire};
 
-    /// The index of an edge.
-    pub fn index_of(&self, edge: u64) -> usize
+    /// The slot of an edge.
+    pub fn slot_of(&self, edge: u64) -> Slot
         requires { Contains self.now.edges edge }
-        ensures within { result < length self.now.edges }
-        ensures edge { slice_index self.now.edges result ≡ edge }
+        ensures slot { IsSlotOf self.now.edges result }
+        ensures edge { result.edge ≡ edge }
     {
-        index_of(&self.edges, edge)
+        slot_of(&self.edges, edge)
     }
 
     /// What is known of an edge.
@@ -57,7 +59,7 @@ impl Outs {
         requires { Contains self.now.edges edge }
         ensures { result.now ≡ out_on self.now edge }
     {
-        self.at(self.index_of(edge))
+        self.at(self.slot_of(edge).index)
     }
 
     /// The numbers of the edges.
@@ -99,43 +101,40 @@ impl Outs {
         None
     }
 
-    /// Notes what a look at the cell of the edge at this index found, and gives the words of a claim that may follow,
+    /// Notes what a look at the cell of the edge at this slot found, and gives the words of a claim that may follow,
     /// the first of which is its place.
-    pub fn clear_at(&mut self, index: usize, edge: u64, cell: u64) -> Option<(u64, u64)>
-        requires within { index < length self.old.edges }
-        requires edge { slice_index self.old.edges index ≡ edge }
-        ensures words { result ≡ claim_words (tail_after_clear cell (out_on self.old edge).link) }
-        ensures after { ChangesOut self.old self.new edge (out_after_clear cell) }
+    pub fn clear(&mut self, slot: Slot, cell: u64) -> Option<(u64, u64)>
+        requires { IsSlotOf self.old.edges slot }
+        ensures words { result ≡ claim_words (tail_after_clear cell (out_on self.old slot.edge).link) }
+        ensures after { ChangesOut self.old self.new slot.edge (out_after_clear cell) }
     {
-        let out = &mut self.ends[index];
+        let out = &mut self.ends[slot.index];
         let _is_clear = out.link.cleared(cell);
         out.link.claim_next()
     }
 
-    /// Notes the word that a claim for all that is pending on the edge at this index saw.
-    pub fn claim_at(&mut self, index: usize, edge: u64, word: u64) -> Option<Message>
-        requires within { index < length self.old.edges }
-        requires edge { slice_index self.old.edges index ≡ edge }
-        requires clear { IsTrue (out_on self.old edge).link.clear }
-        requires word { claims_in word ≡ (out_on self.old edge).link.claims }
-        requires count { (1 ≤ (out_on self.old edge).pending) × ((out_on self.old edge).pending ≤ max_total) }
-        ensures message { result ≡ message_claimed word (out_on self.old edge).pending (out_on self.old edge).link }
-        ensures after { ChangesOut self.old self.new edge (out_after_claim word) }
+    /// Notes the word that a claim for all that is pending on the edge at this slot saw.
+    pub fn claim(&mut self, slot: Slot, word: u64) -> Option<Message>
+        requires slot { IsSlotOf self.old.edges slot }
+        requires clear { IsTrue (out_on self.old slot.edge).link.clear }
+        requires word { claims_in word ≡ (out_on self.old slot.edge).link.claims }
+        requires count { let out = out_on self.old slot.edge in (1 ≤ out.pending) × (out.pending ≤ max_total) }
+        ensures message { let out = out_on self.old slot.edge in result ≡ message_claimed word out.pending out.link }
+        ensures after { ChangesOut self.old self.new slot.edge (out_after_claim word) }
     {
-        let out = &mut self.ends[index];
+        let out = &mut self.ends[slot.index];
         let message = out.link.claimed(word, out.pending)?;
         out.pending = 0;
         Some(message)
     }
 
-    /// The cell and the value of what is claimed and not put on the edge at this index, and notes that it is stored.
-    pub fn put_at(&mut self, index: usize, edge: u64) -> Option<(u64, u64)>
-        requires within { index < length self.old.edges }
-        requires edge { slice_index self.old.edges index ≡ edge }
-        ensures stored { result ≡ put_of (out_on self.old edge).link }
-        ensures after { ChangesOut self.old self.new edge out_after_put }
+    /// The cell and the value of what is claimed and not put on the edge at this slot, and notes that it is stored.
+    pub fn put(&mut self, slot: Slot) -> Option<(u64, u64)>
+        requires { IsSlotOf self.old.edges slot }
+        ensures stored { result ≡ put_of (out_on self.old slot.edge).link }
+        ensures after { ChangesOut self.old self.new slot.edge out_after_put }
     {
-        let out = &mut self.ends[index];
+        let out = &mut self.ends[slot.index];
         out.link.put_value()
     }
 

@@ -1,12 +1,16 @@
-ghost use Rattle.std.specs.Prelude.{◌≡◌, ◌<◌, length, Contains, slice_index};
+ghost use Rattle.std.specs.Prelude.{◌≡◌, Contains};
 ghost use Rattle.std.specs.List.Sorted.{IsStrictlyIncreasing};
+ghost use Rattle.chip_detect.specs.Slot.{IsSlotOf};
 
-/// The index at which the number of an edge stands.
-pub(crate) fn index_of(edges: &[u64], edge: u64) -> usize
+use chip_detect::Slot;
+
+/// The slot of an edge among these.
+pub(crate) fn slot_of(edges: &[u64], edge: u64) -> Slot
     requires ascending { IsStrictlyIncreasing edges.now }
     requires among { Contains edges.now edge }
-    ensures within { result < length edges.now }
-    ensures edge { slice_index edges.now result ≡ edge }
+    ensures slot { IsSlotOf edges.now result }
+    ensures edge { result.edge ≡ edge }
 {
-    edges.binary_search(&edge).unwrap()
+    let index = edges.binary_search(&edge).unwrap();
+    Slot { index, edge }
 }

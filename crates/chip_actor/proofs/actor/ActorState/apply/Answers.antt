@@ -1,45 +1,60 @@
-use Rattle.std.proofs.Common.{sym, subst}
+use Rattle.std.proofs.Common.{◌∙◌, ap, sym, subst}
+use Rattle.std.specs.List.{Contains}
 use Rattle.chip_part.specs.declared.act.Act.{Act}
-use Rattle.chip_actor.specs.Actor.{Makes}
 use Rattle.chip_part.specs.Acting.{event_of}
+use Rattle.chip_part.specs.Rules.{Event, Clear, Put}
+use Rattle.chip_part.specs.Steps.{part_of}
+use Rattle.chip_actor.specs.Actor.{Actor, Makes}
+use Rattle.chip_actor.proofs.MakingLemmas.{due_in, due_out, due_count}
 use Rattle.chip_actor.proofs.actor.ActorState.apply.Goals as goal
 
--- each arm makes its own event
-pub returns-in-Take : goal.returns-in-Take
-returns-in-Take c = subst
-    (λ (act : Act). Makes c.args.self.now c.take.new.self (event_of c.args.self.now.vertex act) c.args.observed.seen
-    c.take.result) (sym c.in-Take.is) c.take.ensures
+-- the edge of each operation is one of the vertex's
+pub slot_of-slot-requires : goal.slot_of-slot-requires
+slot_of-slot-requires c =
+    subst (λ (a : Actor). Contains a.ins.edges c.in-Take.edge) (sym c.self.view_is)
+    (due_in c.args.self.now c.args.observed c.in-Take.edge c.requires
+    (λ g. ap (λ (x : Act). part_of g (event_of c.args.self.now.vertex x)) c.in-Take.is))
 
-pub returns-in-Settle : goal.returns-in-Settle
-returns-in-Settle c = subst
-    (λ (act : Act). Makes c.args.self.now c.settle.new.self (event_of c.args.self.now.vertex act) c.args.observed.seen
-    c.settle.result) (sym c.in-Settle.is) c.settle.ensures
+pub slot_of-slot-requires-in-Settle : goal.slot_of-slot-requires-in-Settle
+slot_of-slot-requires-in-Settle c =
+    subst (λ (a : Actor). Contains a.outs.edges c.in-Settle.edge) (sym c.self-in-Settle.view_is)
+    (due_out c.args.self.now c.args.observed c.in-Settle.edge c.requires
+    (λ g. ap (λ (x : Act). part_of g (event_of c.args.self.now.vertex x)) c.in-Settle.is))
 
-pub returns-in-Fire : goal.returns-in-Fire
-returns-in-Fire c = subst
-    (λ (act : Act). Makes c.args.self.now c.fire.new.self (event_of c.args.self.now.vertex act) c.args.observed.seen
-    c.fire.result) (sym c.in-Fire.is) c.fire.ensures
+pub slot_of-slot-requires-in-Clear : goal.slot_of-slot-requires-in-Clear
+slot_of-slot-requires-in-Clear c =
+    subst (λ (a : Actor). Contains a.outs.edges c.in-Clear.edge) (sym c.self-in-Clear.view_is)
+    (due_out c.args.self.now c.args.observed c.in-Clear.edge c.requires
+    (λ g. ap (λ (x : Act). part_of g (event_of c.args.self.now.vertex x)) c.in-Clear.is))
+
+pub slot_of-slot-requires-in-Claim : goal.slot_of-slot-requires-in-Claim
+slot_of-slot-requires-in-Claim c =
+    subst (λ (a : Actor). Contains a.outs.edges c.in-Claim.edge) (sym c.self-in-Claim.view_is)
+    (due_out c.args.self.now c.args.observed c.in-Claim.edge c.requires
+    (λ g. ap (λ (x : Act). part_of g (event_of c.args.self.now.vertex x)) c.in-Claim.is))
+
+pub slot_of-slot-requires-in-Put : goal.slot_of-slot-requires-in-Put
+slot_of-slot-requires-in-Put c =
+    subst (λ (a : Actor). Contains a.outs.edges c.in-Put.edge) (sym c.self-in-Put.view_is)
+    (due_out c.args.self.now c.args.observed c.in-Put.edge c.requires
+    (λ g. ap (λ (x : Act). part_of g (event_of c.args.self.now.vertex x)) c.in-Put.is))
+
+pub slot_of-slot-requires-in-Ack : goal.slot_of-slot-requires-in-Ack
+slot_of-slot-requires-in-Ack c =
+    subst (λ (a : Actor). Contains a.ins.edges c.in-Ack.edge) (sym c.self-in-Ack.view_is)
+    (due_in c.args.self.now c.args.observed c.in-Ack.edge c.requires
+    (λ g. ap (λ (x : Act). part_of g (event_of c.args.self.now.vertex x)) c.in-Ack.is))
+
+pub acknowledge-requires-clause-count : goal.acknowledge-requires-clause-count
+acknowledge-requires-clause-count c = rw c.slot_of-slot-in-Ack.ensures.edge
+    (due_count c.args.self.now c.args.observed c.in-Ack.edge c.in-Ack.count c.requires c.in-Ack.is)
 
 pub returns-in-Clear : goal.returns-in-Clear
 returns-in-Clear c = subst
-    (λ (act : Act). Makes c.args.self.now c.clear.new.self (event_of c.args.self.now.vertex act) c.args.observed.seen
-    c.clear.result) (sym c.in-Clear.is) c.clear.ensures
-
-pub returns-in-Claim : goal.returns-in-Claim
-returns-in-Claim c = subst
-    (λ (act : Act). Makes c.args.self.now c.claim.new.self (event_of c.args.self.now.vertex act) c.args.observed.seen
-    c.claim.result) (sym c.in-Claim.is) c.claim.ensures
+    (λ (x : Event). Makes c.args.self.now c.clear.new.self x c.args.observed.seen c.clear.result)
+    (ap Clear c.slot_of-slot-in-Clear.ensures.edge ∙ sym (ap (event_of c.args.self.now.vertex) c.in-Clear.is))
+    c.clear.ensures
 
 pub returns-in-Put : goal.returns-in-Put
-returns-in-Put c = subst (λ (act : Act). Makes c.args.self.now c.put.new.self
-    (event_of c.args.self.now.vertex act) c.args.observed.seen c.put.result) (sym c.in-Put.is) c.put.ensures
-
-pub returns-in-Halt : goal.returns-in-Halt
-returns-in-Halt c = subst
-    (λ (act : Act). Makes c.args.self.now c.stop.new.self (event_of c.args.self.now.vertex act) c.args.observed.seen
-    c.stop.result) (sym c.in-Halt.is) c.stop.ensures
-
-pub returns-in-Ack : goal.returns-in-Ack
-returns-in-Ack c = subst (λ (act : Act). Makes c.args.self.now c.acknowledge.new.self
-    (event_of c.args.self.now.vertex act) c.args.observed.seen c.acknowledge.result)
-    (sym c.in-Ack.is) c.acknowledge.ensures
+returns-in-Put c = subst (λ (x : Event). Makes c.args.self.now c.put.new.self x c.args.observed.seen c.put.result)
+    (ap Put c.slot_of-slot-in-Put.ensures.edge ∙ sym (ap (event_of c.args.self.now.vertex) c.in-Put.is)) c.put.ensures

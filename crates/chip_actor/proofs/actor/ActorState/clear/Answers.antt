@@ -1,13 +1,21 @@
-use Rattle.std.proofs.Common.{sym, subst}
+use Rattle.std.proofs.Common.{ℕ, subst}
 use Rattle.chip_part.specs.Rules.{Clear}
-use Rattle.chip_actor.specs.Actor.{Actor, SomePart}
-use Rattle.chip_part.specs.Acting.{CanDo}
+use Rattle.chip_actor.specs.Actor.{Makes}
 use Rattle.chip_actor.specs.contracts.actor.ActorState.{the_view}
-use Rattle.chip_actor.proofs.MakingLemmas.{clear_among}
+use Rattle.chip_actor.proofs.MakingLemmas.{clear_made, clear_reply}
+use Rattle.std.proofs.Common.{Option}
 use Rattle.chip_actor.proofs.actor.ActorState.clear.Goals as goal
 
--- the edge is one of the vertex's
-pub index_of-index-requires : goal.index_of-index-requires
-index_of-index-requires c = clear_among (the_view c.self.inside) c.args.edge c.args.seen
-    (subst (λ (a : Actor). SomePart a (λ g s. CanDo g s a.vertex (Clear c.args.edge) c.args.seen))
-    (sym c.self.view_is) c.requires)
+pub returns-in_default : goal.returns-in_default
+returns-in_default c = rw (← c.self.view_is)
+    (subst (λ (w : Option (ℕ × ℕ)). Makes (the_view c.self.inside)
+    (record (the_view c.self.inside) { outs = c.clear.new.self }) (Clear c.args.slot.edge) c.args.seen (clear_reply w))
+    c.in_default.is (clear_made (the_view c.self.inside) c.args.slot.edge c.args.seen c.clear.new.self c.clear.result
+    c.clear.ensures.words c.clear.ensures.after))
+
+pub returns : goal.returns
+returns c = rw (← c.self.view_is)
+    (subst (λ (w : Option (ℕ × ℕ)). Makes (the_view c.self.inside)
+    (record (the_view c.self.inside) { outs = c.clear.new.self }) (Clear c.args.slot.edge) c.args.seen (clear_reply w))
+    c.in-Some.is (clear_made (the_view c.self.inside) c.args.slot.edge c.args.seen c.clear.new.self c.clear.result
+    c.clear.ensures.words c.clear.ensures.after))

@@ -36,9 +36,9 @@ returns-clause-opened c =
     let outs = c.outs-2.ensures ∙ ap (λ (G : Multigraph). edges_out G c.args.vertex) same in
     λ fed. opens (setting_with c.args.game.now c.args.ring fed) c.args.vertex record {
       game = c.graph-graph.ensures.game;
-      some_ring = subst (λ (n : ℕ). 0 < n) c.cells-cells.ensures.number c.cells-cells.ensures.range.0;
+      some_ring = subst (λ (n : ℕ). 0 < n) c.cells.ensures.number c.cells.ensures.range.0;
       small_ring =
-          subst (λ (n : ℕ). n ≤ max_ring) c.cells-cells.ensures.number c.cells-cells.ensures.range.1;
+          subst (λ (n : ℕ). n ≤ max_ring) c.cells.ensures.number c.cells.ensures.range.1;
     } c.requires
     c.in_ok-outs.outs c.in_ok-ins.ins c.in_ok-detect.detect
     (subst (λ (G : Multigraph). IsFreshOuts G c.args.ring c.args.vertex c.in_ok-outs.outs) same c.in_ok-outs.ensures)

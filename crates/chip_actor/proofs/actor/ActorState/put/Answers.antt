@@ -1,14 +1,17 @@
-use Rattle.std.proofs.Common.{sym, subst}
+use Rattle.std.proofs.Common.{◌∙◌, sym, subst, arith}
 use Rattle.chip_part.specs.Rules.{Put}
 use Rattle.chip_actor.specs.Actor.{Actor, SomePart}
 use Rattle.chip_part.specs.Acting.{CanDo}
 use Rattle.chip_actor.specs.contracts.actor.ActorState.{the_view}
-use Rattle.chip_actor.proofs.MakingLemmas.{may_put}
+use Rattle.chip_actor.proofs.MakingLemmas.{some_unput, put_made}
 use Rattle.chip_actor.proofs.actor.ActorState.put.Goals as goal
 
--- the edge is one of the vertex's
-pub index_of-index-requires : goal.index_of-index-requires
-index_of-index-requires c =
-    (may_put (the_view c.self.inside) c.args.edge c.args.seen
-    (subst (λ (a : Actor). SomePart a (λ g s. CanDo g s a.vertex (Put c.args.edge) c.args.seen))
-    (sym c.self.view_is) c.requires)).among
+pub overflow_sub-self : goal.overflow_sub-self
+overflow_sub-self c = let some = some_unput (the_view c.self.inside) c.args.slot.edge c.args.seen
+    (subst (λ (a : Actor). SomePart a (λ g s. CanDo g s a.vertex (Put c.args.slot.edge) c.args.seen))
+    (sym c.self.view_is) c.requires.can) in omega arith
+
+pub returns : goal.returns
+returns c = rw (← c.self.view_is)
+    (put_made (the_view c.self.inside) c.args.slot.edge c.args.seen c.put.new.self c.unwrap-count.result
+    (sym c.put.ensures.stored ∙ c.unwrap-count.ensures) c.put.ensures.after)

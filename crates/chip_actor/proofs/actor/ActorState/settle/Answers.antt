@@ -1,13 +1,8 @@
-use Rattle.std.proofs.Common.{sym, subst}
-use Rattle.chip_part.specs.Rules.{Settle}
-use Rattle.chip_actor.specs.Actor.{Actor, SomePart}
-use Rattle.chip_part.specs.Acting.{CanDo}
 use Rattle.chip_actor.specs.contracts.actor.ActorState.{the_view}
-use Rattle.chip_actor.proofs.MakingLemmas.{settle_among}
+use Rattle.chip_actor.proofs.MakingLemmas.{settle_made}
 use Rattle.chip_actor.proofs.actor.ActorState.settle.Goals as goal
 
--- the edge is one of the vertex's
-pub index_of-index-requires : goal.index_of-index-requires
-index_of-index-requires c = settle_among (the_view c.self.inside) c.args.edge c.args.seen
-    (subst (λ (a : Actor). SomePart a (λ g s. CanDo g s a.vertex (Settle c.args.edge) c.args.seen))
-    (sym c.self.view_is) c.requires)
+pub returns : goal.returns
+returns c = rw (← c.self.view_is)
+    (settle_made (the_view c.self.inside) c.args.slot.edge c.args.seen c.settled_at.result c.settled_at.new.self
+    c.settled_at.ensures.more c.settled_at.ensures.settles c.settled_at.ensures.sound)

@@ -1,14 +1,14 @@
-use Rattle.std.proofs.Common.{sym, subst}
-use Rattle.chip_part.specs.Rules.{Take}
-use Rattle.chip_actor.specs.Actor.{Actor, SomePart}
-use Rattle.chip_part.specs.Acting.{CanDo}
+use Rattle.std.proofs.Common.{◌∙◌, sym}
 use Rattle.chip_actor.specs.contracts.actor.ActorState.{the_view}
-use Rattle.chip_actor.proofs.MakingLemmas.{may_take}
+use Rattle.chip_actor.proofs.MakingLemmas.{take_made, take_empty}
 use Rattle.chip_actor.proofs.actor.ActorState.take.Goals as goal
 
--- the edge is one of the vertex's
-pub index_of-index-requires : goal.index_of-index-requires
-index_of-index-requires c =
-    (may_take (the_view c.self.inside) c.args.edge c.args.seen
-    (subst (λ (a : Actor). SomePart a (λ g s. CanDo g s a.vertex (Take c.args.edge) c.args.seen))
-    (sym c.self.view_is) c.requires)).among
+pub returns-in_default : goal.returns-in_default
+returns-in_default c = rw (← c.self.view_is)
+    (take_empty (the_view c.self.inside) c.args.slot.edge c.args.seen c.take.new.self c.take.ensures.after
+    (sym c.in_default.is ∙ c.take.ensures.message))
+
+pub returns : goal.returns
+returns c = rw (← c.self.view_is)
+    (take_made (the_view c.self.inside) c.args.slot.edge c.args.seen c.take.new.self c.got_at.new.self c.in-Some.message
+    c.take.ensures.after (sym c.in-Some.is ∙ c.take.ensures.message) c.got_at.ensures.gets c.got_at.ensures.sound)

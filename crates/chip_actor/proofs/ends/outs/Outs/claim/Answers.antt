@@ -1,20 +1,15 @@
-use Rattle.std.proofs.Common.{◌≡◌, ◌∙◌, ap, sym, subst, ◌^◌, ◌≤◌, IsTrue, set, ◌<◌, length, get_or}
+use Rattle.std.proofs.Common.{◌≡◌, ◌∙◌, ap, sym, subst, ◌^◌, ◌≤◌, IsTrue, set}
 use Rattle.chip_link.specs.Words.{claims_in}
 use Rattle.chip_link.specs.Ends.{TailState, message_claimed}
-use Rattle.chip_actor.specs.Ends.{OutEnds, OutEnd, out_on, out_after_claim, ChangesOut}
+use Rattle.chip_actor.specs.Ends.{OutEnd, out_on, out_after_claim, ChangesOut}
 use Rattle.chip_actor.proofs.EndLemmas.{changes_out, found_out, claim_taken, claim_refused}
-use Rattle.chip_actor.proofs.ends.outs.Outs.claim_at.Goals as goal
-use Rattle.chip_actor.proofs.ends.outs.Outs.claim_at.Goals.{After-index_mut-out}
+use Rattle.chip_actor.proofs.ends.outs.Outs.claim.Goals as goal
+use Rattle.chip_actor.proofs.ends.outs.Outs.claim.Goals.{After-index_mut-out}
 
 -- the end that was found is the edge's
-is : (c : After-index_mut-out) → c.index_mut-out.result.now ≡ out_on c.args.self.now c.args.edge
-is c =
-    found_out (record { edges = c.self.inside.edges.items; ends = c.self.inside.ends.items }) c.self.invariant
-    c.args.index c.args.edge (subst (λ (os : OutEnds). c.args.index < length os.edges)
-    (sym c.self.view_is) c.requires.within)
-    (subst (λ (os : OutEnds). get_or os.edges c.args.index 0 ≡ c.args.edge) (sym c.self.view_is) c.requires.edge)
-    c.index_mut-out.result.now c.index_mut-out.ensures.value
-    ∙ ap (λ (os : OutEnds). out_on os c.args.edge) c.self.view_is
+is : (c : After-index_mut-out) → c.index_mut-out.result.now ≡ out_on c.args.self.now c.args.slot.edge
+is c = found_out (record { edges = c.self.inside.edges.items; ends = c.self.inside.ends.items }) c.args.self.now
+    c.self.view_is c.self.invariant c.args.slot c.requires.slot c.index_mut-out.result.now c.index_mut-out.ensures.value
 
 pub claimed-requires-clause-clear : goal.claimed-requires-clause-clear
 claimed-requires-clause-clear c = subst
@@ -32,15 +27,12 @@ claimed-requires-clause-count c = subst (λ (o : OutEnd). (1 ≤ o.pending) × (
 -- what a claim leaves at the place that was found
 wrote : (c : After-index_mut-out) → (new : OutEnd) → new ≡ out_after_claim c.args.word c.index_mut-out.result.now
     → ChangesOut c.args.self.now
-    (record { edges = c.self.inside.edges.items; ends = set c.self.inside.ends.items c.args.index new }) c.args.edge
-    (out_after_claim c.args.word)
-wrote c new eq = rw (← c.self.view_is)
-    (changes_out (record { edges = c.self.inside.edges.items; ends = c.self.inside.ends.items }) c.self.invariant
-    c.args.index c.args.edge (subst (λ (os : OutEnds). c.args.index < length os.edges)
-    (sym c.self.view_is) c.requires.within)
-    (subst (λ (os : OutEnds). get_or os.edges c.args.index 0 ≡ c.args.edge) (sym c.self.view_is) c.requires.edge)
-    c.index_mut-out.result.now c.index_mut-out.ensures.value
-    new (out_after_claim c.args.word) eq)
+    (record { edges = c.self.inside.edges.items; ends = set c.self.inside.ends.items c.args.slot.index new })
+    c.args.slot.edge (out_after_claim c.args.word)
+wrote c new eq =
+    changes_out (record { edges = c.self.inside.edges.items; ends = c.self.inside.ends.items }) c.args.self.now
+    c.self.view_is c.self.invariant c.args.slot c.requires.slot c.index_mut-out.result.now c.index_mut-out.ensures.value
+    new (out_after_claim c.args.word) eq
 
 pub returns-clause-message : goal.returns-clause-message
 returns-clause-message c =

@@ -1,8 +1,0 @@
-use Rattle.chip_actor.specs.contracts.actor.ActorState.{the_view}
-use Rattle.chip_actor.proofs.MakingLemmas.{settle_made}
-use Rattle.chip_actor.proofs.actor.ActorState.settle_at.Goals as goal
-
-pub returns : goal.returns
-returns c = rw (← c.self.view_is)
-    (settle_made (the_view c.self.inside) c.args.edge c.args.seen c.settled_at.result c.settled_at.new.self
-    c.settled_at.ensures.more c.settled_at.ensures.settles c.settled_at.ensures.sound)

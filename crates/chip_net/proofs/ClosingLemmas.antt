@@ -5,13 +5,9 @@ use Rattle.std.proofs.Common.{sym, ap, ◌∙◌, subst, arith, length-append, �
 use Rattle.std.proofs.Math.Seq.{take-suc}
 use mathlib.Core.Option.{some, some-injective, some-ne-none}
 use lib.ListN.{get_elem?}
-use Rattle.atomic_table.specs.Table.{Final, Seen}
-use Rattle.chip_part.specs.Setting.{Setting}
 use Rattle.chip_part.specs.Edges.{root, stopper}
-use Rattle.chip_core.specs.Words.{IsShown}
-use Rattle.chip_net.specs.Layout.{word_count, value_in}
 use Rattle.chip_net.specs.Views.{View, find, did_in, IsAlone, joined}
-use Rattle.chip_net.specs.Rule.{Kept, Left}
+use Rattle.chip_net.specs.Rule.{Left}
 use Rattle.chip_net.specs.Tokens.{ActorKnown}
 use Rattle.chip_net.specs.Roots.{RootKnown}
 use Rattle.chip_net.specs.Meeting.{HasTheirs, LeavesWords}
@@ -31,19 +27,6 @@ taken_more l i a inside is = ap (λ (n : ℕ). take i l ++ n ∷ []) (sym (elem_
     ∙ sym (take-suc l i 0 inside) ∙ ap (λ (n : ℕ). take n l) (let e : suc i ≡ i + 1 = omega arith in e)
 
 -- ---- the last words
-
-pub left_words : (g : Setting) (id : ℕ) (v : View) (words : List ℕ) (slots : List (Unit {0}))
-    → Final (Seen (Kept g) id v) words slots → Left g v words
-left_words g id v words slots last =
-    let kept : Kept g last.0 = last.1.0 in
-    record {
-      setting = kept.setting;
-      log = kept.log;
-      legal = kept.legal;
-      agrees = λ p did found. (kept.each_part id v last.1.1 p did found).1;
-      wide = subst (λ (l : List ℕ). length l ≡ word_count g) last.2 kept.wide;
-      shown = subst (λ (l : List ℕ). IsShown g kept.log (value_in g l)) last.2 kept.shown;
-    }
 
 pub leaves_words : (r : RootKnown) (actors : List ActorKnown) (view : View) (words : List ℕ)
     → find (root r.net.setting) view.parts ≡ Some r.did → find (stopper r.net.setting) view.parts ≡ r.stopper_did

@@ -1,15 +1,15 @@
 -- Serves Layout.antt, Views.antt, Opening.antt.
 -- The table at the opening meets the rule.
 use Rattle.std.proofs.Common.{◌≡◌, ◌≢◌, ℕ, zero, suc, ◌+◌, ◌-◌, ◌<◌, cond, eqb, ltb, List, [], ◌∷◌, length, get_or, set}
-use Rattle.std.proofs.Common.{length-set, replicate, Some, refl, sym, ap, ◌∙◌, subst, arith, lt-ltb, le-ltb}
-use Rattle.std.proofs.lemmas.List.{length-replicate, get_or-replicate, get_or_past}
+use Rattle.std.proofs.Common.{length-set, Some, refl, sym, ap, ◌∙◌, subst, arith, lt-ltb, le-ltb}
+use Rattle.std.proofs.lemmas.List.{get_or_past}
 use Rattle.std.proofs.Math.Nat.{mod-eq_of_lt}
 use mathlib.Core.Logic.{dite}
 use mathlib.Core.Option.{some, some-injective, some-ne-none}
 use native.Mathlib.Decide.{ℕ_discrete, dec_lt}
 use lib.ListN.{get_elem?}
 use Rattle.atomic_table.specs.Table.{opening}
-use Rattle.chip_graph.proofs.SumLemmas.{cond_yes, cond_no, cond_true, cond_false}
+use Rattle.chip_graph.proofs.SumLemmas.{cond_no, cond_true, cond_false}
 use Rattle.chip_part.specs.Setting.{Setting, IsSetting}
 use Rattle.chip_part.specs.Edges.{graph_edges, all_edges, start_of}
 use Rattle.chip_part.specs.Part.{first_put}
@@ -22,15 +22,6 @@ use Rattle.chip_net.specs.Rule.{Kept}
 use Rattle.chip_net.specs.Opening.{first_value, AreOpening}
 use Rattle.chip_net.proofs.LayingLemmas.{written_here, written_else}
 use Rattle.chip_net.proofs.ViewingLemmas.{part_there, part_empty}
-
-zeros : (n i : ℕ) → get_or {A = ℕ} (replicate n 0) i 0 ≡ 0
-zeros n i = dite (dec_lt i n) (λ l. get_or-replicate n i 0 0 l)
-    (λ past. get_or_past (replicate n 0) i 0 (let z : ℕ = 0 in let e : length (replicate n z) ≡ n = length-replicate n z
-    in omega arith))
-
--- on the graph's edges there is nothing
-first_none : (g : Setting) (e : ℕ) → e < graph_edges g → first_put g e ≡ []
-first_none g e l = cond_true (ltb e (graph_edges g)) _ _ (lt-ltb e (graph_edges g) l)
 
 first_root : (g : Setting) (v : ℕ)
     → first_put g (graph_edges g + v) ≡ cond (eqb (start_of g v) 0) [] (start_of g v ∷ [])
@@ -51,27 +42,6 @@ now_counted : (e n : ℕ) (x : ℕ) → e ≡ n → cond (ltb e (n + 1)) x 0 ≡
 now_counted e n x same = cond_true (ltb e (n + 1)) x 0 (lt-ltb e (n + 1) (omega arith))
 
 module _ (g : Setting) where
-  none_counted : (e : ℕ) → cond (ltb e (graph_edges g)) (length (first_put g e)) 0 ≡ 0
-  none_counted e = dite (dec_lt e (graph_edges g))
-      (λ l. cond_true (ltb e (graph_edges g)) _ 0 (lt-ltb e (graph_edges g) l) ∙ ap length (first_none g e l))
-      (λ past. cond_false (ltb e (graph_edges g)) _ 0 (le-ltb e (graph_edges g) (omega arith)))
-
-  none_laid : (e i : ℕ) → cond (ltb e (graph_edges g)) (get_or (first_put g e) i 0) 0 ≡ 0
-  none_laid e i = dite (dec_lt e (graph_edges g))
-      (λ l. cond_true (ltb e (graph_edges g)) _ 0 (lt-ltb e (graph_edges g) l)
-      ∙ ap (λ (xs : List ℕ). get_or xs i 0) (first_none g e l) ∙ get_or_past [] i 0 (omega arith))
-      (λ past. cond_false (ltb e (graph_edges g)) _ 0 (le-ltb e (graph_edges g) (omega arith)))
-
-  -- before the root edges
-  pub opens_empty : AreOpening g (graph_edges g) (replicate (word_count g) 0)
-  opens_empty = record { wide = length-replicate (word_count g) 0; each = each }
-    where
-      each : (q : Word) → IsWord g q → value_in g (replicate (word_count g) 0) q ≡ first_value g (graph_edges g) q
-      each (of_edge e) l = zeros (word_count g) e ∙ sym (none_counted e)
-      each (of_acks e) l = zeros (word_count g) _
-      each (of_cell e i) l = zeros (word_count g) _ ∙ sym (none_laid e i)
-      each (of_vertex v) l = zeros (word_count g) _
-
   module _ (v : ℕ) (inside : v < g.game.graph.vertices) (words : List ℕ) (opening : AreOpening g (graph_edges g + v) words)
     where
       abbrev edge : ℕ
@@ -79,21 +49,6 @@ module _ (g : Setting) where
 
       abbrev words' : List ℕ
       words' = set words (index_of g (of_edge edge)) 1
-
-      -- a vertex without chips
-      pub opens_nothing : start_of g v ≡ 0 → AreOpening g ((graph_edges g + v) + 1) words
-      opens_nothing none = record { wide = opening.wide; each = each }
-        where
-          nothing : (e : ℕ) → e ≡ edge → first_put g e ≡ []
-          nothing e same = ap (first_put g) same ∙ first_root g v ∙ cond_yes (start_of g v) 0 _ _ none
-
-          each : (q : Word) → IsWord g q → value_in g words q ≡ first_value g ((graph_edges g + v) + 1) q
-          each (of_edge e) l = opening.each (of_edge e) l ∙ counted e edge _ (λ same. ap length (nothing e same))
-          each (of_acks e) l = opening.each (of_acks e) l
-          each (of_cell e i) l = opening.each (of_cell e i) l
-              ∙ counted e edge _ (λ same. ap (λ (xs : List ℕ). get_or xs i 0) (nothing e same)
-              ∙ get_or_past [] i 0 (omega arith))
-          each (of_vertex u) l = opening.each (of_vertex u) l
 
       -- a vertex with chips has a message
       pub opens_message : 0 < g.ring → start_of g v ≢ 0

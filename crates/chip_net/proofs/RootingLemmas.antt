@@ -37,7 +37,7 @@ use Rattle.chip_net.proofs.LayingLemmas.{inside}
 use Rattle.chip_net.specs.Tokens.{NetId}
 use Rattle.chip_net.proofs.ViewingLemmas.{grown_has, grown_part, find_else, part_push, part_append, ended_by}
 use Rattle.chip_net.proofs.ViewingLemmas.{joined_here, joined_else}
-use Rattle.chip_net.proofs.RulingLemmas.{Mine, word_of, left_over, one_exchange, event_room, event_allowed}
+use Rattle.chip_net.proofs.RulingLemmas.{Mine, word_of, left_over, one_exchange, event_allowed}
 
 -- the root sends on the root edges
 root_tail : (g : Setting) (v : ℕ) → tail_of g (root_edge g v) ≡ root g
@@ -63,11 +63,6 @@ module _ (g : Setting) (setting : IsSetting g) (me : Mine) (has : Has (root g) m
   none' : unmet g x (part_of_view g (part_of g x) me.0) ≡ None
   none' = subst (λ (p : ℕ). unmet g x (part_of_view g p me.0) ≡ None) (sym mine) none
 
-  pub root_room : (word words : ℕ) → word ≡ index_of g (touched g x (part_of_view g (root g) me.0))
-      → words ≡ word_count g → word < words
-  root_room word words at all = event_room g setting me x has' none' word words (at
-      ∙ ap (λ (p : ℕ). index_of g (touched g x (part_of_view g p me.0))) (sym mine)) all
-
   pub root_rule : (key : Setting) → key ≡ g → (slots id word : ℕ)
       → word ≡ index_of g (touched g x (part_of_view g (root g) me.0))
       → Allows (Kept key) slots id me word (left_by g x (part_of_view g (root g) me.0)) (Grows key x me)
@@ -82,11 +77,6 @@ module _ (g : Setting) (setting : IsSetting g) (me : Mine) (has : Has (root g) m
 
     pub root_stepped : Stepped g (step_of x seen) me.0
     root_stepped = subst (λ (h : Setting). Stepped h (step_of x seen) me.0) same told.1
-
-    -- it is the part in that log
-    pub root_in_log : part_of_view g (root g) me.0 ≡ part_in g root_stepped.log (root g)
-    root_in_log = ap (part_by g (opened g)) (root_stepped.agrees (root g) (did_in (root g) me.0) has)
-        ∙ sym (by_history g root_stepped.log (root g))
 
 -- what is noted is noted
 noted_twice : (x : Event) (n : ℕ) → noted x n ≡ noted x (noted x n)
@@ -247,34 +237,9 @@ noted_is g s (Settle e) z n = absurd z
 noted_is g s (Seal e) z n = absurd z
 noted_is g s (Read v) z n = absurd z
 
--- the four kinds of such an operation
-abbrev pub IsOneOfFour : operation.Act → Type 0
-IsOneOfFour (Do.Settle e) = Unit {0}
-IsOneOfFour (Do.Clear e cell) = Unit {0}
-IsOneOfFour (Do.Claim e expected new) = Unit {0}
-IsOneOfFour (Do.Put e cell value) = Unit {0}
-IsOneOfFour _ = ⊥
-
-one_of_four : (g : Setting) (s : Part) (x : Event) → IsFeeding g x → IsOneOfFour (act_of g x s)
-one_of_four g s (Clear e) past = tt
-one_of_four g s (Put e) past = tt
-one_of_four g s (Feed e k) past = tt
-one_of_four g s End past = tt
-one_of_four g s (Take e) z = absurd z
-one_of_four g s (Ack e) z = absurd z
-one_of_four g s (Fire v k) z = absurd z
-one_of_four g s (Claim e) z = absurd z
-one_of_four g s (Halt v) z = absurd z
-one_of_four g s (Settle e) z = absurd z
-one_of_four g s (Seal e) z = absurd z
-one_of_four g s (Read v) z = absurd z
-
 module _ (g : Setting) (me : Mine) (x : Event) (act : operation.Act) (due : IsDueInView g me.0 x act) where
   abbrev part : Part
   part = part_of_view g (root g) me.0
-
-  pub kind_is : IsOneOfFour act
-  kind_is = subst IsOneOfFour (sym due.needed) (one_of_four g part x due.feeding)
 
   pub noted_here : (n : ℕ) → noted x n ≡ noted_over act n
   noted_here n = noted_is g part x due.feeding n ∙ ap (λ (a : operation.Act). noted_over a n) (sym due.needed)

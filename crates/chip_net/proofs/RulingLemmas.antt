@@ -27,10 +27,10 @@ use Rattle.chip_part.proofs.RuleLemmas.{rules_met}
 use Rattle.chip_part.specs.Steps.{saw}
 use Rattle.chip_core.proofs.ReachingLemmas.{by_history}
 use Rattle.chip_core.proofs.ShowingLemmas.{word_for, word_there, finds, words_go_on}
-use Rattle.chip_net.specs.Layout.{index_of, word_count, value_in}
+use Rattle.chip_net.specs.Layout.{index_of, value_in}
 use Rattle.chip_net.specs.Views.{View, find, grow, grown, did_in, Has, part_of_view}
 use Rattle.chip_net.specs.Rule.{Kept, step_of, Grows}
-use Rattle.chip_net.proofs.LayingLemmas.{inside, written_here, written_else}
+use Rattle.chip_net.proofs.LayingLemmas.{written_here, written_else}
 use Rattle.chip_net.proofs.ViewingLemmas.{some_is, set_there, find_here, find_else}
 
 -- a seat's view, and the slots that it holds, of which a net has none
@@ -260,11 +260,6 @@ module _ (g : Setting) (slots id : ℕ) (me : Mine) (v : ℕ) (did : List Step) 
 
 module _ (g : Setting) (setting : IsSetting g) (me : Mine) (x : Event) (has : Has (part_of g x) me.0)
     (none : unmet g x (part_of_view g (part_of g x) me.0) ≡ None) where
-  pub event_room : (word words : ℕ) → word ≡ index_of g (touched g x (part_of_view g (part_of g x) me.0))
-      → words ≡ word_count g → word < words
-  event_room word words at all = let l = inside g _
-      (word_for g setting.game.graph_fits.some_vertex setting.some_ring x (part_of_view g (part_of g x) me.0) none) in omega arith
-
   pub event_allowed : (key : Setting) → key ≡ g → (slots id word : ℕ)
       → word ≡ index_of g (touched g x (part_of_view g (part_of g x) me.0))
       → Allows (Kept key) slots id me word (left_by g x (part_of_view g (part_of g x) me.0)) (Grows key x me)

@@ -13,7 +13,7 @@ use Rattle.chip_part.specs.Part.{all_fed}
 use Rattle.chip_part.specs.Steps.{link_after, saw}
 use Rattle.chip_part.specs.declared.reply.Reply.TheVariants.{Done, Full}
 use Rattle.chip_part.proofs.RuleLemmas.{met_rules}
-use Rattle.chip_core.specs.Core.{Step, Clear, Put, Feed, Part, Out, Reply, opened, does, unmet}
+use Rattle.chip_core.specs.Core.{Step, Clear, Put, Feed, Part, Out, opened, does, unmet}
 use Rattle.chip_net.specs.Roots.{RootKnown, root_part, root_after, has_ended, all_given, IsDueForRoot}
 use Rattle.chip_net.specs.Roots.{MakesEvent, HoldsNothing, Feeds, LooksInVain}
 use Rattle.chip_net.proofs.ViewingLemmas.{part_append}
@@ -42,10 +42,6 @@ found_empty false claims place is = absurd (cc)
 pub look_done : (seen claims place : ℕ) → Done place ≡ cond (eqb seen 0) (Done claims) Full → (seen ≡ 0) × (place ≡ claims)
 look_done seen claims place is = let both = found_empty (eqb seen 0) claims place is in
     (Rattle.std.proofs.Common.eqb-true seen 0 both.0, both.1)
-
-pub look_full : (seen claims : ℕ) (reply : Reply) → reply ≡ cond (eqb seen 0) (Done claims) Full
-    → ((n : ℕ) → reply ≡ Done n → ⊥) → seen ≢ 0
-look_full seen claims reply is other = λ zero. other claims (is ∙ cond_yes seen 0 (Done claims) Full zero)
 
 -- steps after steps
 steps_more : (r : RootKnown) (xs ys : List Step) → root_after (root_after r xs) ys ≡ root_after r (xs ++ ys)

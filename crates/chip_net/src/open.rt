@@ -33,7 +33,6 @@ fn open_edge(setting: &Setting, words: &mut Vec<u64>, vertex: u64)
     let chips = setting.game().start()[vertex as usize];
     if chips > 0 {
         let edge = setting.root_edge(vertex);
-        let _cells = setting.ring().cells();
         let word = edge_word(setting, edge);
         let cell = cell_word(setting, edge, 0);
         words[word] = 1;

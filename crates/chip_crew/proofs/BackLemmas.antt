@@ -62,13 +62,6 @@ pub behind_fits : (crew : CrewId) (worker : ℕ) (row rest : List ActorKnown) �
 behind_fits crew worker row rest less goes = cut_within crew.net.setting.game.graph crew.workers (worker + 1)
     (length row + length rest) (omega (arith, less)) goes.up_to
 
--- all of it is there
-pub behind_ends : (crew : CrewId) (worker : ℕ) (row rest : List ActorKnown) (room : ℕ) → length rest ≡ 0
-    → crew.net.setting.game.graph.vertices ≤ room → GoesBehind crew worker row rest → IsRow crew (worker + 1) row room
-behind_ends crew worker row rest room none has_room goes =
-    let whole : length row + length rest ≡ length row = omega (arith, none) in
-    record { up_to = subst (IsFirstOf crew (worker + 1)) whole goes.up_to; each = goes.row_is; has_room = has_room }
-
 -- after the last worker the row has the actors of all vertices
 pub row_whole : (crew : CrewId) (row : List ActorKnown) (room : ℕ) → IsRow crew crew.workers row room → 0 < crew.workers
     → AreActors crew row

@@ -1,7 +1,7 @@
 -- Serves Crew.antt, Gathering.antt.
 -- The places of the actors, one by one.
 use Rattle.std.proofs.Common.{◌≡◌, ℕ, zero, suc, ◌<◌, ◌≤◌, ◌⊎◌, inl, inr, ⊎_elim, List, [], ◌∷◌, ◌++◌, length, Option, Some}
-use Rattle.std.proofs.Common.{None, Bool, true, false, ◌==◌, ◌+◌, refl, sym, ap, ◌∙◌, subst, set, get_or, arith}
+use Rattle.std.proofs.Common.{None, Bool, true, false, ◌==◌, refl, sym, ap, ◌∙◌, subst, set, get_or, arith}
 use Rattle.std.proofs.Common.{eqb-true, false-eqb, append-nil}
 use Rattle.std.specs.Prelude.{slice_get}
 use Rattle.std.proofs.lemmas.List.{length-set}
@@ -55,13 +55,7 @@ module _ {X : Type 0} where
   present (x ∷ xs) zero less = (x, refl)
   present (x ∷ xs) (suc i) less = present xs i (omega (arith, less))
 
--- what stands at a place is read there
-pub read_at : {X : Type 0} (xs : List X) (i : ℕ) (d x : X) → slice_get xs i ≡ Some x → get_or xs i d ≡ x
-read_at [] i d x e = absurd (none_some x e)
-read_at (y ∷ ys) zero d x e = same_some y x e
-read_at (y ∷ ys) (suc i) d x e = read_at ys i d x e
-
--- and that place is one of the list
+-- a place where something stands is one of the list
 pub placed : {X : Type 0} (xs : List X) (i : ℕ) (x : X) → slice_get xs i ≡ Some x → i < length xs
 placed [] i x e = absurd (none_some x e)
 placed (y ∷ ys) zero x e = omega arith
@@ -90,10 +84,6 @@ order_push crew actors y ours here old v a e = ⊎_elim
 -- no place has an actor yet
 abbrev pub AreFree : List (Option ActorKnown) → Type 0
 AreFree seats = (v : ℕ) (a : ActorKnown) → slice_get seats v ≡ Some (Some a) → ⊥
-
-pub free_push : (seats : List (Option ActorKnown)) → AreFree seats → AreFree (seats ++ None ∷ [])
-free_push seats old v a e = ⊎_elim (λ (h : (v ≡ length seats) × (None ≡ Some a)). none_some a h.1)
-    (λ (h : slice_get seats v ≡ Some (Some a)). old v a h) (at_push seats None (Some a) v e)
 
 -- an actor takes its place
 pub seats_put : (crew : CrewId) (seats : List (Option ActorKnown)) (i : ℕ) (y : ActorKnown) → IsOurs crew y

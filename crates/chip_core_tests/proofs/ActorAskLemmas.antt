@@ -20,8 +20,8 @@ use Rattle.chip_part.specs.Acting.{act_of, event_of, verdict, FitsSeen, CanDo, I
 use Rattle.chip_actor.specs.Actor.{Makes}
 use Rattle.chip_actor.specs.Actor.{Actor, StandsFor, SomePart}
 use Rattle.chip_part.specs.declared.cursor.Cursor.{Cursor}
-use Rattle.chip_part.specs.Cursor.{IsUnderWay, Begins}
-use Rattle.chip_actor.specs.Turning.{StandsAt, TurnContinues}
+use Rattle.chip_part.specs.Cursor.{IsUnderWay}
+use Rattle.chip_actor.specs.Turning.{TurnContinues}
 use Rattle.chip_core_tests.specs.Asking.{may_ask, may_play, may_see_all}
 use Rattle.chip_core_tests.specs.ActorAsking.{Answers}
 use Rattle.chip_part.proofs.CursorLemmas.{event_of_act}
@@ -113,13 +113,6 @@ module _ (xs : List (Event × ℕ × Reply)) (turn : List (Act × ℕ)) where
 abbrev pub IsTurning : Actor → Cursor → List (Act × ℕ) → Type 0
 IsTurning a cursor os = SomePart a (λ g s. (first : Part) × (done : List Step)
     × IsUnderWay g a.vertex first done cursor s × (may_see_all g a.vertex s os ≡ true))
-
-pub turn_begins : (a : Actor) (cursor : Cursor) (os : List (Act × ℕ)) → Begins cursor
-    → SomePart a (λ g s. may_see_all g a.vertex s os ≡ true) → IsTurning a cursor os
-turn_begins a cursor os begins (g, s, stands, all) = (g, s, stands, (s, [], begins g a.vertex s, all))
-
-pub turn_stands : (a : Actor) (cursor : Cursor) (os : List (Act × ℕ)) → IsTurning a cursor os → StandsAt a cursor
-turn_stands a cursor os (g, s, stands, (first, done, way, all)) = (g, s, stands, (first, done, way))
 
 module _ (a : Actor) (cursor next : Cursor) (act : Act) (os : List (Act × ℕ)) (i : ℕ) (d : Act × ℕ)
     (within : i < length os) (turning : IsTurning a cursor (drop i os)) (continues : TurnContinues a cursor act next)

@@ -114,27 +114,31 @@ still_at : (crew : CrewId) (v : ℕ) (old new : ActorKnown) (answer : Turn) → 
 still_at crew v old new answer makes here = subst (IsAt crew v) (sym makes.record_is) here
 
 turned : (crew : CrewId) (from place : ℕ) (old new : List ActorKnown) (next : Option ActorKnown)
-    → slice_get old place ≡ next → TurnsThere place next old new → AreFrom crew from old
-    → AreFrom crew from new × (length new ≡ length old)
-turned crew from place old new None at same all =
-    (subst (AreFrom crew from) (sym same) all, ap length same)
-turned crew from place old new (Some next) at turns all = (
-  subst (AreFrom crew from) (sym turns.3) (from_set (IsAt crew) from place old turns.0 all
-      (still_at crew (from + place) next turns.0 turns.1 turns.2 (from_at (IsAt crew) from place old next all at))),
-  ap length turns.3 ∙ length-set old place turns.0,
-)
+    → slice_get old place ≡ next → TurnsThere place next old new → AreFrom crew from old → AreFrom crew from new
+turned crew from place old new None at same all = subst (AreFrom crew from) (sym same) all
+turned crew from place old new (Some next) at turns all =
+    subst (AreFrom crew from) (sym turns.3) (from_set (IsAt crew) from place old turns.0 all
+    (still_at crew (from + place) next turns.0 turns.1 turns.2 (from_at (IsAt crew) from place old next all at)))
+
+as_many_there : (place : ℕ) (next : Option ActorKnown) (old new : List ActorKnown) → TurnsThere place next old new
+    → length new ≡ length old
+as_many_there place None old new same = ap length same
+as_many_there place (Some next) old new turns = ap length turns.3 ∙ length-set old place turns.0
+
+-- a turn leaves as many actors as there were
+pub as_many : (place : ℕ) (old new : List ActorKnown) → TurnsAt place old new → length new ≡ length old
+as_many place old new turns = as_many_there place (slice_get old place) old new turns
 
 -- after one turn more they are the worker's still
 pub still_of : (crew : CrewId) (worker place : ℕ) (old new : List ActorKnown) → TurnsAt place old new
     → AreOf crew worker old → AreOf crew worker new
 still_of crew worker place old new turns are =
-    let after = turned crew are.from place old new (slice_get old place) refl turns are.each in
     record {
       from = are.from;
       is_first = are.is_first;
       is_next = subst (λ (n : ℕ). IsCut crew.net.setting.game.graph crew.workers (suc worker) (are.from + n))
-          (sym after.1) are.is_next;
-      each = after.0;
+          (sym (as_many place old new turns)) are.is_next;
+      each = turned crew are.from place old new (slice_get old place) refl turns are.each;
     }
 
 -- one turn more

@@ -1,8 +1,8 @@
 -- Serves Feeding.antt.
 -- What feeds, polls and the end leave of the root: what was fed, what may be fed still, and whether the end is noted.
-use Rattle.std.proofs.Common.{◌≡◌, ◌≢◌, ◌==◌, ℕ, zero, suc, ◌+◌, ◌-◌, ◌%◌, ◌<◌, Bool, true, false, List, [], ◌∷◌, ◌++◌, map}
+use Rattle.std.proofs.Common.{◌≡◌, ◌==◌, ℕ, zero, suc, ◌+◌, ◌-◌, ◌%◌, ◌<◌, Bool, true, false, List, [], ◌∷◌, ◌++◌, map}
 use Rattle.std.proofs.Common.{Some, None, All, sum, refl, sym, ap, ◌∙◌, subst, arith, append-nil, append_assoc, ⊎_elim}
-use Rattle.std.proofs.Common.{add-one, eq-eqb, ne_eqb}
+use Rattle.std.proofs.Common.{add-one}
 use Rattle.std.proofs.lemmas.List.Elements.{All-tail}
 use Rattle.std.proofs.lemmas.List.Sums.{sum_by-append}
 use Rattle.chip_graph.specs.More.{all_brought}
@@ -255,14 +255,13 @@ led_goes_on round (suc k) feeds left old now led =
 -- ---- the root that is led
 
 -- at the end of a round it was polled
-pub polled_at : (round k : ℕ) (old new : RootKnown) → k % round ≡ 0
+pub polled_at : (round k : ℕ) (old new : RootKnown) → (k % round == 0) ≡ true
     → IsPolling old new old.net.setting.game.graph.vertices → PollsIf (k % round == 0) old new
-polled_at round k old new over polling =
-    subst (λ (b : Bool). PollsIf b old new) (sym (eq-eqb (k % round) 0 over)) polling
+polled_at round k old new over polling = subst (λ (b : Bool). PollsIf b old new) (sym over) polling
 
 -- before it was not
-pub unpolled_at : (round k : ℕ) (root : RootKnown) → k % round ≢ 0 → PollsIf (k % round == 0) root root
-unpolled_at round k root on = subst (λ (b : Bool). PollsIf b root root) (sym (ne_eqb (k % round) 0 on)) refl
+pub unpolled_at : (round k : ℕ) (root : RootKnown) → (k % round == 0) ≡ false → PollsIf (k % round == 0) root root
+unpolled_at round k root on = subst (λ (b : Bool). PollsIf b root root) (sym on) refl
 
 -- one turn more, with a feed before it, and a poll after it if that is due
 pub led_more : (round k : ℕ) (feeds rest left : Left) (old before fed now : RootKnown) → IsLed round k feeds old rest before

@@ -1,7 +1,8 @@
 -- Serves Handed.antt.
 -- What a worker has in its hands, from turn to turn.
 use Rattle.std.proofs.Common.{◌≡◌, ℕ, suc, ◌+◌, ◌%◌, ◌<◌, max, List, [], ◌∷◌, length, Option, Some, None, IfSome, All}
-use Rattle.std.proofs.Common.{sym, ◌∙◌, subst, arith}
+use Rattle.std.proofs.Common.{Bool, sym, ap, ◌∙◌, subst, arith, add-one, ◌==◌, eq-eqb}
+use Rattle.std.proofs.Math.Nat.{suc-mod, mod-lt, mod-one}
 use Rattle.crossbeam_queue.specs.Passes.{Pass, view}
 use Rattle.chip_net.specs.Tokens.{NetId, ActorKnown}
 use Rattle.chip_crew.specs.Crew.{CrewId, IsOurs, IsAt, EachFrom}
@@ -10,7 +11,7 @@ use Rattle.chip_crew.specs.Rounds.{TurnsAt}
 use Rattle.chip_crew.specs.Ledger.{MakesOneTurn}
 use Rattle.crossbeam_queue.specs.declared.array_queue.Doing.{Doing}
 use Rattle.crossbeam_queue.specs.declared.array_queue.Slotted.{Slotted}
-use Rattle.chip_crew.specs.Handed.{Fits, GoesOn, HasMade, AreHands, AreReady, round_of}
+use Rattle.chip_crew.specs.Handed.{Fits, GoesOn, HasMade, AreHands, AreReady, is_round_over, round_of}
 use Rattle.chip_crew.specs.declared.queue.Ledger.{Ledger}
 use Rattle.chip_crew.specs.declared.dealing.Dealt.{Dealt}
 use Rattle.chip_crew.specs.declared.plan.Sharing.{Sharing}
@@ -18,8 +19,14 @@ use Rattle.chip_crew.specs.declared.plan.Sharing.TheVariants as sharing
 use Rattle.chip_crew.specs.declared.worker.Hands.{Hands}
 use Rattle.chip_crew.specs.declared.worker.Hands.TheVariants as hands
 use Rattle.chip_crew.proofs.RunLemmas.{from_all}
-use Rattle.chip_crew.proofs.DealingLemmas.{cut_first, still_of, rounds_more}
+use Rattle.chip_crew.proofs.DealingLemmas.{as_many, cut_first, still_of, rounds_more}
 use Rattle.chip_crew.proofs.QueueingLemmas.{turn_more}
+
+-- the place of a turn, counted round
+next_place : (k place round : ℕ) → place ≡ k % round → (place + 1) % round ≡ (k + 1) % round
+next_place k place round is =
+    ap (λ (n : ℕ). n % round) (add-one place ∙ ap suc is) ∙ sym (suc-mod k round)
+    ∙ ap (λ (n : ℕ). n % round) (sym (add-one k))
 
 -- the actors are not shared in both ways
 pub not_both : (s : Sharing) → s ≡ sharing.Queue → s ≡ sharing.Dealt → ⊥
@@ -45,14 +52,40 @@ module _ (crew : CrewId) (worker : ℕ) (passes : ℕ → Type 0) where
 
   -- one turn more, with actors of its own
   pub dealt_more : (k : ℕ) (h : Hands) (old new : Dealt) → h ≡ hands.Dealt old → HasMade crew worker passes k h → passes k
-      → TurnsAt (k % max 1 (length old.actors.items)) old.actors.items new.actors.items
+      → TurnsAt old.place old.actors.items new.actors.items
+      → new.place ≡ (old.place + 1) % max 1 (length old.actors.items)
       → HasMade crew worker passes (k + 1) (hands.Dealt new)
-  dealt_more k h old new is made lets turns =
-      let was = subst (HasMade crew worker passes k) is made in (
+  dealt_more k h old new is made lets turns place =
+      let was = subst (HasMade crew worker passes k) is made in
+      let many = as_many old.place old.actors.items new.actors.items turns in (
         was.0,
-        still_of crew worker (k % max 1 (length old.actors.items)) old.actors.items new.actors.items turns was.1,
-        (was.2.0, rounds_more passes k was.2.0 old.actors.items new.actors.items was.2.1 lets turns),
+        still_of crew worker old.place old.actors.items new.actors.items turns was.1,
+        (
+          was.2.0,
+          rounds_more passes k was.2.0 old.actors.items new.actors.items was.2.1 lets
+              (subst (λ (n : ℕ). TurnsAt n old.actors.items new.actors.items) was.3 turns),
+        ),
+        place ∙ next_place k old.place (max 1 (length old.actors.items)) was.3
+            ∙ ap (λ (n : ℕ). (k + 1) % max 1 n) (sym many),
       )
+
+  -- the turn that is next stands in the round
+  pub place_within : (k : ℕ) (h : Hands) (d : Dealt) → h ≡ hands.Dealt d → HasMade crew worker passes k h
+      → d.place < max 1 (length d.actors.items)
+  place_within k h d is made =
+      let was = subst (HasMade crew worker passes k) is made in
+      subst (λ (n : ℕ). n < max 1 (length d.actors.items)) (sym was.3) (mod-lt k (omega arith))
+
+  over_is : (k : ℕ) (h : Hands) (round : ℕ) → HasMade crew worker passes k h → round ≡ round_of h
+      → is_round_over h ≡ (k % round == 0)
+  over_is k (hands.Queue pass kept) round made is =
+      sym (eq-eqb (k % round) 0 (ap (λ (n : ℕ). k % n) is ∙ mod-one k))
+  over_is k (hands.Dealt d) round made is = ap (λ (n : ℕ). n == 0) (made.3 ∙ ap (λ (n : ℕ). k % n) (sym is))
+
+  -- whether a round is over after so many turns, the last of which left the hands with as long a round
+  pub over_then : (k : ℕ) (before h : Hands) (round : ℕ) (over : Bool) → HasMade crew worker passes k h
+      → round ≡ round_of before → round_of h ≡ round_of before → over ≡ is_round_over h → (k % round == 0) ≡ over
+  over_then k before h round over made was same is = sym (is ∙ over_is k h round made (was ∙ sym same))
 
   -- the same, by other names
   pub made_there : (k n : ℕ) (old now : Hands) → HasMade crew worker passes k old → n ≡ k → now ≡ old

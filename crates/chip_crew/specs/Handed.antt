@@ -1,5 +1,5 @@
 -- What the workers hand back.
-use Rattle.std.specs.Prelude.{◌≡◌, ℕ, ◌<◌, ◌≤◌, max, Bool, true, false, List, [], length, Option, Some, None, IfSome, ⊤}
+use Rattle.std.specs.Prelude.{◌≡◌, ℕ, ◌%◌, ◌<◌, ◌≤◌, ◌==◌, max, Bool, true, false, List, [], length, Option, Some, None, IfSome, ⊤}
 use Rattle.std.specs.Option.{option_copied}
 use Rattle.crossbeam_queue.specs.Passes.{Pass, view, IsPassOf}
 use Rattle.crossbeam_queue.specs.declared.array_queue.Doing.{Doing}
@@ -61,6 +61,7 @@ HasMade crew worker passes turns (hands.Queue pass kept) =
     (crew.sharing ≡ sharing.Queue) × TurnsMade passes turns (view pass) kept × IfSome kept (IsOurs crew)
 HasMade crew worker passes turns (hands.Dealt dealt) = (crew.sharing ≡ sharing.Dealt)
     × AreOf crew worker dealt.actors.items × ((first : List ActorKnown) × RoundsMade passes turns first dealt.actors.items)
+    × (dealt.place ≡ turns % max 1 (length dealt.actors.items))
 
 -- after those hands the worker has these, with the same queue, or without one as before
 abbrev pub GoesOn : Hands → Hands → Type 0
@@ -95,6 +96,11 @@ AreHands crew passes all = EachFrom (λ worker h. HasMade crew worker (passes wo
 abbrev pub round_of : Hands → ℕ
 round_of (hands.Queue pass kept) = 1
 round_of (hands.Dealt dealt) = max 1 (length dealt.actors.items)
+
+-- the turns that were made are whole rounds
+abbrev pub is_round_over : Hands → Bool
+is_round_over (hands.Queue pass kept) = true
+is_round_over (hands.Dealt dealt) = dealt.place == 0
 
 -- what a worker hands back: what it has after so many turns, and its gate answered false only where it may
 pub record IsHanded (crew : CrewId) (worker : ℕ) (passes : ℕ → Type 0) (most : ℕ) (shut : Type 0) (handed : Handed)

@@ -21,6 +21,8 @@ use std::thread;
 pub(crate) struct Dealt {
     /// Ascending.
     pub actors: Vec<Actor>,
+    /// The turn of the round that comes next, counted round: a division takes long.
+    pub place: u64,
     /// Whether in this round none of them had anything to do, so far.
     pub is_idle: bool,
 }
@@ -35,12 +37,13 @@ impl Dealt {
 
     /// Gives the actor whose turn it is in this round its turn, and yields after a round in which there was nothing
     /// to do.
-    pub fn one_turn(&mut self, net: &Net, turn: u64)
-        requires { All (λ a. a.net ≡ net.now) self.old.actors.items }
-        ensures { TurnsAt (turn % max 1 (length self.old.actors.items)) self.old.actors.items self.new.actors.items }
+    pub fn one_turn(&mut self, net: &Net)
+        requires nets { All (λ a. a.net ≡ net.now) self.old.actors.items }
+        requires place { self.old.place < max 1 (length self.old.actors.items) }
+        ensures turns { TurnsAt self.old.place self.old.actors.items self.new.actors.items }
+        ensures place { self.new.place ≡ (self.old.place + 1) % max 1 (length self.old.actors.items) }
     {
-        let round = self.round();
-        let place = turn % round;
+        let place = self.place;
         if place == 0 {
             self.is_idle = true;
         }
@@ -48,9 +51,19 @@ impl Dealt {
             let answer = self.actors[place as usize].turn(net);
             self.is_idle &= matches!(answer, Turn::Waiting | Turn::Idle);
         }
-        if place + 1 == round && self.is_idle {
+        self.place = self.place_after(place);
+        if self.place == 0 && self.is_idle {
             thread::yield_now();
         }
+    }
+
+    /// The place after this one, round the round.
+    fn place_after(&self, place: u64) -> u64
+        requires { place < max 1 (length self.now.actors.items) }
+        ensures { result ≡ (place + 1) % max 1 (length self.now.actors.items) }
+    {
+        let next = place + 1;
+        if next == self.round() { 0 } else { next }
     }
 }
 
@@ -116,6 +129,7 @@ pub(crate) fn deal<B: Crew>(
         let rest = actors.split_off((next - first) as usize)?;
         hands.push_reserved(Hands::Dealt(Dealt {
             actors,
+            place: 0,
             is_idle: true,
         }));
         actors = rest;

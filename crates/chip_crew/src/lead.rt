@@ -93,7 +93,7 @@ impl<'a, B: Crew, G: Gate> Shared<'a, B, G> {
             feeds = feed_once(self.net, &mut root, feeds);
             self.one_turn(0, turn, &mut hands);
             turns = turn + 1;
-            if turns % round != 0 {
+            if !hands.is_round_over() {
                 continue;
             }
             match root.poll(self.net) {

@@ -5,7 +5,7 @@ ghost use Rattle.std.specs.Option.{option_copied};
 ghost use Rattle.crossbeam_queue.specs.Passes.{view, IsPassOf};
 ghost use Rattle.chip_crew.specs.Crew.{IsOurs};
 ghost use Rattle.chip_crew.specs.Ledger.{HasJust, IsNext, MakesOneTurn};
-ghost use Rattle.chip_crew.specs.Handed.{Fits, HasMade, Heeds, IsHanded, round_of};
+ghost use Rattle.chip_crew.specs.Handed.{Fits, HasMade, Heeds, IsHanded, is_round_over, round_of};
 
 use crate::dealing::Dealt;
 use crate::plan::Gate;
@@ -52,6 +52,16 @@ impl Hands {
         match self {
             Hands::Queue { .. } => 1,
             Hands::Dealt(dealt) => dealt.round(),
+        }
+    }
+
+    /// Whether the turns that were made are whole rounds.
+    pub fn is_round_over(&self) -> bool
+        ensures { result ≡ is_round_over self.now }
+    {
+        match self {
+            Hands::Queue { .. } => true,
+            Hands::Dealt(dealt) => dealt.place == 0,
         }
     }
 }
@@ -122,13 +132,14 @@ fn turn_by_queue<B: Crew>(
 
 impl<'a, B: Crew, G: Gate> Shared<'a, B, G> {
     /// One turn of a worker, with an actor from the queue or with the next of its own. Its gate let this turn pass.
-    pub fn one_turn(&self, _worker: u64, turn: u64, hands: &mut Hands)
-        requires passes { B.passes _worker turn }
+    pub fn one_turn(&self, _worker: u64, _turn: u64, hands: &mut Hands)
+        requires passes { B.passes _worker _turn }
         requires net { self.now.net.now ≡ B.crew.net }
         requires fits { Fits (option_copied self.now.queue) hands.old }
-        requires made { HasMade B.crew _worker (B.passes _worker) turn hands.old }
+        requires made { HasMade B.crew _worker (B.passes _worker) _turn hands.old }
         ensures fits { Fits (option_copied self.now.queue) hands.new }
-        ensures made { HasMade B.crew _worker (B.passes _worker) (turn + 1) hands.new }
+        ensures made { HasMade B.crew _worker (B.passes _worker) (_turn + 1) hands.new }
+        ensures round { round_of hands.new ≡ round_of hands.old }
     {
         match hands {
             Hands::Queue { pass, kept } => {
@@ -137,7 +148,7 @@ impl<'a, B: Crew, G: Gate> Shared<'a, B, G> {
                 };
                 *kept = turn_by_queue::<B>(self.net, queue, pass, kept.take());
             }
-            Hands::Dealt(dealt) => dealt.one_turn(self.net, turn),
+            Hands::Dealt(dealt) => dealt.one_turn(self.net),
         }
     }
 

@@ -1,8 +1,8 @@
 -- Serves OutcomeParts.antt.
 -- Ascending lists of numbers: how a program tests them and searches in them.
-use Rattle.std.proofs.Common.{◌≡◌, ℕ, ◌+◌, ◌<◌, ◌≤◌, Bool, true, false, nat_lt, List, length, get_or, Result, Ok, Err}
-use Rattle.std.proofs.Common.{inl, inr, refl, sym, ◌∙◌, subst, arith, lt-ltb, ltb-true}
-use Rattle.std.specs.Prelude.{Contains, slice_index}
+use Rattle.std.proofs.Common.{◌≡◌, ℕ, zero, suc, ◌+◌, ◌<◌, ◌≤◌, Bool, true, false, nat_lt, List, length, get_or}
+use Rattle.std.proofs.Common.{Result, Ok, Err, inl, inr, refl, sym, ◌∙◌, subst, arith, lt-ltb, ltb-true, add-one}
+use Rattle.std.specs.Prelude.{All, Contains, slice_index}
 use Rattle.std.specs.List.{IsAllAdjacentAnswer}
 use Rattle.std.specs.List.Sorted.{IsStrictlyIncreasing, IsNonDecreasing, IsBinarySearchResult}
 use Rattle.std.specs.Ordering.{nat_cmp}
@@ -31,6 +31,20 @@ does_not_fall xs up = IsNonDecreasingBy-from_all_adjacent (λ x. x) xs (λ k d l
     let next = get_or_default_zero xs (k + 1) d l in
     let rise = up k l in
     omega arith)
+
+-- an ascending list of numbers below n has no more than n
+at_least : (xs : List ℕ) → IsStrictlyIncreasing xs → (k : ℕ) → k < length xs → k ≤ get_or xs k 0
+at_least xs up zero l = omega arith
+at_least xs up (suc k) l =
+    let low : k ≤ get_or xs k 0 = at_least xs up k (omega arith) in
+    let rise = up k (omega arith) in
+    rw (← add-one) (omega arith)
+
+pub few_below : (xs : List ℕ) (n : ℕ) → IsStrictlyIncreasing xs → All (λ x. x < n) xs → length xs ≤ n
+few_below xs n up below = elim (cases_lt n (length xs)) [
+  | inl many ↦ let low = at_least xs up n many in let high = below n 0 many in absurd (omega arith)
+  | inr few ↦ few
+]
 
 -- what `binary_search` finds in an ascending list
 pub found_if : (xs : List ℕ) (x : ℕ) (r : Result ℕ ℕ) → IsBinarySearchResult (λ y. nat_cmp y x) xs r

@@ -1,192 +1,114 @@
--- Serves ReportText.antt, Reportable.antt, OutcomeParts.antt.
+-- Serves ReportText.antt, Reportable.antt, OutcomeParts.antt, ReportLists.antt.
 -- What a report tells, and which bytes are none.
-use Rattle.std.proofs.Common.{◌≡◌, ◌≢◌, ℕ, ◌^◌, ◌<◌, ◌≤◌, Bool, true, false, List, [], ◌∷◌, ◌++◌, length, map, codes}
-use Rattle.std.proofs.Common.{None, Some, Result, Ok, Err, inl, inr, refl, sym, ap, ◌∙◌, subst, arith, append_assoc}
-use Rattle.std.proofs.Common.{lit<, lit≤}
-use Rattle.std.specs.Prelude.{◌⊎◌, ◌&&◌, option_and_then, decimal, IsUtf8}
-use Rattle.std.specs.Fmt.{digits}
+use Rattle.std.proofs.Common.{◌≡◌, ◌≢◌, ℕ, ◌^◌, ◌<◌, ◌≤◌, Bool, true, false, List, [], ◌∷◌, ◌++◌, length, get_or, codes}
+use Rattle.std.proofs.Common.{Result, Ok, Err, inl, inr, refl, sym, ap, ◌∙◌, subst, arith, append_assoc}
+use Rattle.std.specs.Prelude.{◌⊎◌, ◌&&◌, All, IsUtf8}
 use Rattle.std.specs.Result.{IsErrAnd}
-use Rattle.std.specs.List.{join_with_byte}
-use Rattle.std.proofs.lemmas.Fmt.{IsAscii-decimal}
-use Rattle.std.proofs.lemmas.List.{append_cancel_right}
-use Rattle.std.proofs.lemmas.List.Elements.{recursion_from_All}
-use Rattle.std.proofs.lemmas.Str.{IsUtf8-append, IsUtf8-nil, IsUtf8-from_ascii}
-use Rattle.json.specs.Print.{escape_byte}
-use Rattle.json.specs.Tree as tree
-use Rattle.json.proofs.Printed.Decimals.{IsNumber-decimal}
-use Rattle.json.proofs.Printed.Utf8.{IsUtf8-are_ascii}
-use Rattle.serde_json.specs.Data.{Data, boolean, number, unsigned, array, object, Members, no_members, member}
-use Rattle.serde_json.specs.Read.{read, max_depth, of_json}
-use Rattle.serde_json.specs.Written.{outline, compact_text}
-use Rattle.serde_json.proofs.Numbers.{number_of-decimal}
+use Rattle.std.specs.List.{AllByRecursion}
+use Rattle.std.proofs.lemmas.Str.{IsUtf8-from_ascii}
+use Rattle.std.proofs.lemmas.List.Elements.{All-weaker}
 use Rattle.chip_sequence.specs.declared.outcome.Outcome.{Outcome}
 use Rattle.chip_sequence.specs.Outcomes.{IsOutcome}
 use Rattle.chip_graph.specs.Limits.{max_limit, max_total}
 use Rattle.chip_report.specs.OutcomeParts.{AreCounts, AreHalted}
-use Rattle.chip_report.specs.ReportText.{comma, array_text, bool_text, is_empty, is_closed, report_text}
+use Rattle.chip_report.specs.ReportText.{bool_text, array_text, is_empty, is_closed, report_text, start_text}
 use Rattle.chip_report.specs.Reportable.{Content, content, IsReportOf, IsNoReport, GrowsForALine, Gives}
+use Rattle.chip_report.specs.ReportLists.{content_by_text, list_at, behind, AreListed, HasNoList}
 use Rattle.chip_report.specs.declared.fault.ReportFault.{ReportFault}
 use Rattle.chip_report.specs.declared.fault.ReportFault.TheVariants as fault
-use Rattle.chip_report.specs.ReportJson.{content_by_value, content_by_json}
-use Rattle.chip_report.proofs.JsonLemmas.{read-compact_text, items_of, AreShort, text-array, numbers-array, depth-array}
-use Rattle.chip_report.proofs.JsonLemmas.{back-array, numbers_of-items_of}
-use Rattle.chip_report.proofs.ValueLemmas.{value_of-some}
+use Rattle.chip_report.proofs.BracketLemmas.{Part, IsPart, AreShort, text_of, is_plain, list_at-text_of, not_HasNoList}
+use Rattle.chip_report.proofs.BracketLemmas.{ascii_plain, ascii_text_of}
+use Rattle.chip_report.proofs.ListLemmas.{few_below}
 
--- ---- the value of a report
-
-abbrev report_members : Bool → Content → Members
-report_members closed t =
-    member (codes "chips") (array (items_of t.chips))
-    (member (codes "closed") (boolean closed)
-    (member (codes "fired") (array (items_of t.fired))
-    (member (codes "over") (array (items_of t.over))
-    (member (codes "sealed") (array (items_of t.sealed))
-    (member (codes "version") (number (unsigned 1)) no_members)))))
-
-abbrev report_value : Bool → Content → Data
-report_value closed t = object (report_members closed t)
-
--- the text of a report, without its newline
-abbrev json_text : Bool → Content → List ℕ
-json_text closed t =
-    codes "{\"chips\":" ++ (array_text t.chips
-    ++ (codes ",\"closed\":" ++ (bool_text closed
-    ++ (codes ",\"fired\":" ++ (array_text t.fired
-    ++ (codes ",\"over\":" ++ (array_text t.over
-    ++ (codes ",\"sealed\":" ++ (array_text t.sealed
-    ++ codes ",\"version\":1}")))))))))
-
-text-value : (closed : Bool) (t : Content) → compact_text (report_value closed t) ≡ json_text closed t
-unfolding escape_byte digits
-text-value true t = rw (text-array t.chips, text-array t.fired, text-array t.over, text-array t.sealed) refl
-text-value false t = rw (text-array t.chips, text-array t.fired, text-array t.over, text-array t.sealed) refl
-
-newline_last : (a b c d e f g h i j k : List ℕ)
-    → (a ++ (b ++ (c ++ (d ++ (e ++ (f ++ (g ++ (h ++ (i ++ (j ++ k)))))))))) ++ 10 ∷ [] ≡ a ++ b ++ c ++ d ++ e ++ f
-    ++ g ++ h ++ i ++ j ++ (k ++ 10 ∷ [])
-newline_last a b c d e f g h i j k = simp append_assoc
+-- ---- a report in parts
 
 -- whether no vertex halted
 abbrev pub closed_of : Content → Bool
 closed_of t = is_empty t.over && is_empty t.sealed
 
-with_newline : (o : Outcome) → json_text (closed_of (content o)) (content o) ++ 10 ∷ [] ≡ report_text o
-with_newline o =
-    newline_last (codes "{\"chips\":") (array_text o.chips.items) (codes ",\"closed\":") (bool_text (is_closed o))
+abbrev pub closed_front : Bool → List ℕ
+closed_front closed = codes ",\"closed\":" ++ bool_text closed ++ codes ",\"fired\":"
+
+abbrev report_parts : Content → List Part
+report_parts t =
+    (codes "{\"chips\":", t.chips) ∷ (closed_front (closed_of t), t.fired) ∷ (codes ",\"over\":", t.over)
+    ∷ (codes ",\"sealed\":", t.sealed) ∷ []
+
+-- the report of an outcome with these numbers
+abbrev text_by_content : Content → List ℕ
+text_by_content t = text_of (report_parts t) (codes ",\"version\":1}\n")
+
+regroup : (a b c d e f g h i j k : List ℕ)
+    → a ++ b ++ c ++ d ++ e ++ f ++ g ++ h ++ i ++ j ++ k
+    ≡ a ++ (b ++ ((c ++ d ++ e) ++ (f ++ (g ++ (h ++ (i ++ (j ++ k)))))))
+regroup a b c d e f g h i j k = simp append_assoc
+
+in_parts : (o : Outcome) → report_text o ≡ text_by_content (content o)
+in_parts o =
+    regroup (codes "{\"chips\":") (array_text o.chips.items) (codes ",\"closed\":") (bool_text (is_closed o))
     (codes ",\"fired\":") (array_text o.fired.items)
     (codes ",\"over\":") (array_text o.over.items) (codes ",\"sealed\":") (array_text o.sealed.items)
-    (codes ",\"version\":1}")
+    (codes ",\"version\":1}\n")
 
--- numbers that fit
-pub record AreShortLists (t : Content) : Type 0 where
-  pub fired : AreShort t.fired
-  pub chips : AreShort t.chips
-  pub over : AreShort t.over
-  pub sealed : AreShort t.sealed
+pub plain_closed : (closed : Bool) → is_plain (closed_front closed) ≡ true
+plain_closed true = refl
+plain_closed false = refl
 
-numbers-value : (closed : Bool) (t : Content) → AreShortLists t → tree.HasNumbers (outline (report_value closed t))
-numbers-value closed t h = (
-  numbers-array t.chips h.chips,
-  (
-    tt,
-    (
-      numbers-array t.fired h.fired,
-      (numbers-array t.over h.over, (numbers-array t.sealed h.sealed, (IsNumber-decimal 1 (lit< tt), tt))),
-    ),
-  ),
-)
+-- numbers that a report lists
+pub record AreListedAll (t : Content) : Type 0 where
+  pub fired : AreListed t.fired
+  pub chips : AreListed t.chips
+  pub over : AreListed t.over
+  pub sealed : AreListed t.sealed
 
-depth-value : (closed : Bool) (t : Content) → tree.depth (outline (report_value closed t)) ≤ max_depth
-depth-value closed t = rw (depth-array t.chips, depth-array t.fired, depth-array t.over, depth-array t.sealed) (lit≤ tt)
+pub short_within : (most : ℕ) (ns : List ℕ) → most < 2 ^ 64 → All (λ n. n ≤ most) ns → AreShort ns
+short_within most ns fits within = All-weaker (λ n. n ≤ most) (λ n. n < 2 ^ 64) (λ n low. omega arith) ns within
 
-back-value : (closed : Bool) (t : Content) → AreShortLists t
-    → of_json (outline (report_value closed t)) ≡ Some (report_value closed t)
-back-value closed t h = rw (
-  back-array t.chips h.chips,
-  back-array t.fired h.fired,
-  back-array t.over h.over,
-  back-array t.sealed h.sealed,
-  number_of-decimal 1 (lit< tt),
-) refl
+short_below : (most : ℕ) (ns : List ℕ) → most < 2 ^ 64 → All (λ n. n < most) ns → AreShort ns
+short_below most ns fits within = All-weaker (λ n. n < most) (λ n. n < 2 ^ 64) (λ n low. omega arith) ns within
 
-read-value : (closed : Bool) (t : Content) → AreShortLists t → read (json_text closed t) ≡ Some (report_value closed t)
-read-value closed t h = ap read (sym (text-value closed t))
-    ∙ read-compact_text (report_value closed t) (numbers-value closed t h) (depth-value closed t)
-    (back-value closed t h)
+pub listed_of_outcome : (o : Outcome) → IsOutcome o → AreListedAll (content o)
+listed_of_outcome o h =
+    let few = h.few_vertices in
+    let over = few_below o.over.items (length o.fired.items) h.over_ascends h.over_vertices in
+    let sealed = few_below o.sealed.items (length o.fired.items) h.sealed_ascends h.sealed_vertices in
+    record {
+      fired = (few, short_within max_limit o.fired.items (omega arith) h.few_firings);
+      chips = (omega (arith, h.same_length), short_within max_total o.chips.items (omega arith) h.few_chips);
+      over = (omega arith, short_below (length o.fired.items) o.over.items (omega arith) h.over_vertices);
+      sealed = (omega arith, short_below (length o.fired.items) o.sealed.items (omega arith) h.sealed_vertices);
+    }
 
-content-value : (closed : Bool) (t : Content) → content_by_value (report_value closed t) ≡ Some t
-content-value closed t = rw (
-  numbers_of-items_of t.fired,
-  numbers_of-items_of t.chips,
-  numbers_of-items_of t.over,
-  numbers_of-items_of t.sealed,
-) refl
-
--- ---- a report is UTF-8
-
-utf8-joined : (n : ℕ) (ns : List ℕ) → AreShort (n ∷ ns) → IsUtf8 (join_with_byte comma (map decimal (n ∷ ns)))
-utf8-joined n [] h = IsUtf8-from_ascii (decimal n) (IsAscii-decimal n h.0)
-utf8-joined n (m ∷ ms) h =
-    IsUtf8-append (decimal n) (comma ∷ join_with_byte comma (map decimal (m ∷ ms)))
-    (IsUtf8-from_ascii (decimal n) (IsAscii-decimal n h.0))
-    (IsUtf8-append (comma ∷ []) (join_with_byte comma (map decimal (m ∷ ms))) (IsUtf8-are_ascii (comma ∷ []) refl)
-    (utf8-joined m ms h.1))
-
-utf8-members : (ns : List ℕ) → AreShort ns → IsUtf8 (join_with_byte comma (map decimal ns))
-utf8-members [] h = IsUtf8-nil
-utf8-members (n ∷ ns) h = utf8-joined n ns h
-
-pub utf8-array : (ns : List ℕ) → AreShort ns → IsUtf8 (array_text ns)
-utf8-array ns h =
-    IsUtf8-append (codes "[") _ (IsUtf8-are_ascii (codes "[") refl)
-    (IsUtf8-append (join_with_byte comma (map decimal ns)) (codes "]") (utf8-members ns h)
-    (IsUtf8-are_ascii (codes "]") refl))
-
-pub utf8-boolean : (b : Bool) → IsUtf8 (bool_text b)
-utf8-boolean true = IsUtf8-are_ascii (codes "true") refl
-utf8-boolean false = IsUtf8-are_ascii (codes "false") refl
-
-utf8-text : (closed : Bool) (t : Content) → AreShortLists t → IsUtf8 (json_text closed t)
-utf8-text closed t h =
-    IsUtf8-append (codes "{\"chips\":") _ (IsUtf8-are_ascii _ refl)
-    (IsUtf8-append (array_text t.chips) _ (utf8-array t.chips h.chips)
-    (IsUtf8-append (codes ",\"closed\":") _ (IsUtf8-are_ascii _ refl)
-    (IsUtf8-append (bool_text closed) _ (utf8-boolean closed)
-    (IsUtf8-append (codes ",\"fired\":") _ (IsUtf8-are_ascii _ refl)
-    (IsUtf8-append (array_text t.fired) _ (utf8-array t.fired h.fired)
-    (IsUtf8-append (codes ",\"over\":") _ (IsUtf8-are_ascii _ refl)
-    (IsUtf8-append (array_text t.over) _ (utf8-array t.over h.over)
-    (IsUtf8-append (codes ",\"sealed\":") _ (IsUtf8-are_ascii _ refl)
-    (IsUtf8-append (array_text t.sealed) (codes ",\"version\":1}") (utf8-array t.sealed h.sealed)
-    (IsUtf8-are_ascii (codes ",\"version\":1}") refl))))))))))
+are_parts : (o : Outcome) → IsOutcome o → AllByRecursion IsPart (report_parts (content o))
+are_parts o h =
+    let listed = listed_of_outcome o h in (
+      record { plain = refl; listed = listed.chips },
+      (
+        record { plain = plain_closed (is_closed o); listed = listed.fired },
+        (record { plain = refl; listed = listed.over }, (record { plain = refl; listed = listed.sealed }, tt)),
+      ),
+    )
 
 -- ---- what a report tells
 
-pub short_lists : (o : Outcome) → IsOutcome o → AreShortLists (content o)
-short_lists o h =
-    let few = h.few_vertices in
-    record {
-      fired = recursion_from_All (λ n. n < 2 ^ 64) o.fired.items (λ k d l. let low = h.few_firings k d l in
-          omega arith);
-      chips = recursion_from_All (λ n. n < 2 ^ 64) o.chips.items (λ k d l. let low = h.few_chips k d l in omega arith);
-      over = recursion_from_All (λ n. n < 2 ^ 64) o.over.items (λ k d l. let low = h.over_vertices k d l in
-          omega arith);
-      sealed = recursion_from_All (λ n. n < 2 ^ 64) o.sealed.items (λ k d l. let low = h.sealed_vertices k d l in
-          omega arith);
-    }
+utf8_report : (o : Outcome) → IsOutcome o → IsUtf8 (report_text o)
+utf8_report o h =
+    let end : List ℕ = codes ",\"version\":1}\n" in
+    subst IsUtf8 (sym (in_parts o))
+    (IsUtf8-from_ascii (text_by_content (content o))
+    (ascii_text_of (report_parts (content o)) end (are_parts o h) (ascii_plain end refl)))
 
-content-report : (o : Outcome) (json : List ℕ) → IsOutcome o → report_text o ≡ json ++ 10 ∷ []
-    → content_by_json json ≡ Some (content o)
-content-report o json h e =
-    let short = short_lists o h in
-    let same : json_text (closed_of (content o)) (content o) ≡ json =
-    append_cancel_right _ json (10 ∷ []) (with_newline o ∙ e) in
-    ap content_by_json (sym same)
-    ∙ ap (option_and_then content_by_value)
-    (value_of-some (json_text (closed_of (content o)) (content o)) _
-    (utf8-text (closed_of (content o)) (content o) short)
-    (read-value (closed_of (content o)) (content o) short))
-    ∙ content-value (closed_of (content o)) (content o)
+list-report : (o : Outcome) → IsOutcome o → (k : ℕ) → k < 4
+    → list_at k (text_by_content (content o)) ≡ (get_or (report_parts (content o)) k ([], [])).1
+list-report o h = list_at-text_of (report_parts (content o)) (codes ",\"version\":1}\n") (are_parts o h)
+
+content-report : (o : Outcome) → IsOutcome o → content_by_text (report_text o) ≡ content o
+content-report o h =
+    let chips : list_at 0 (text_by_content (content o)) ≡ o.chips.items = list-report o h 0 (omega arith) in
+    let fired : list_at 1 (text_by_content (content o)) ≡ o.fired.items = list-report o h 1 (omega arith) in
+    let over : list_at 2 (text_by_content (content o)) ≡ o.over.items = list-report o h 2 (omega arith) in
+    let sealed : list_at 3 (text_by_content (content o)) ≡ o.sealed.items = list-report o h 3 (omega arith) in
+    ap content_by_text (in_parts o) ∙ cc
 
 -- ---- an outcome's numbers are all that its report depends on
 
@@ -233,29 +155,34 @@ halted_of_outcome o vertices e h = subst (AreHalted o.over.items o.sealed.items)
 IsReportOf-content : (bytes : List ℕ) (o p : Outcome) → content o ≡ content p → IsReportOf bytes o → IsReportOf bytes p
 IsReportOf-content bytes o p e r = record {
   reportable = outcome_if p (subst AreOfOutcome e (outcome_then o r.reportable));
-  spelled = r.spelled ∙ sym (with_newline o) ∙ ap (λ (t : Content). json_text (closed_of t) t ++ 10 ∷ []) e
-      ∙ with_newline p;
+  spelled = r.spelled ∙ in_parts o ∙ ap text_by_content e ∙ sym (in_parts p);
 }
 
 -- ---- bytes that are no report
 
+newline_last : (o : Outcome) → (front : List ℕ) × (report_text o ≡ front ++ 10 ∷ [])
+newline_last o =
+    let front : List ℕ = start_text o ++ codes ",\"sealed\":" ++ array_text o.sealed.items in
+    (front ++ codes ",\"version\":1}", sym (append_assoc front (codes ",\"version\":1}") (10 ∷ [])))
+
 pub none_without_newline : (bytes : List ℕ) → ((front : List ℕ) → bytes ≢ front ++ 10 ∷ []) → IsNoReport bytes
-none_without_newline bytes none o r =
-    none (json_text (closed_of (content o)) (content o)) (r.spelled ∙ sym (with_newline o))
+none_without_newline bytes none o r = let last = newline_last o in none last.0 (r.spelled ∙ last.1)
 
-no_content : (bytes json : List ℕ) → bytes ≡ json ++ 10 ∷ [] → content_by_json json ≡ None → IsNoReport bytes
-no_content bytes json e none o r =
-    let some : content_by_json json ≡ Some (content o) = content-report o json r.reportable (sym r.spelled ∙ e) in
-    let both : None ≡ Some (content o) = sym none ∙ some in
-    cc
+pub none_without_utf8 : (text : List ℕ) → (IsUtf8 text → ⊥) → IsNoReport text
+none_without_utf8 text none o r = none (subst IsUtf8 (sym r.spelled) (utf8_report o r.reportable))
 
-pub refused : (bytes json : List ℕ) → bytes ≡ json ++ 10 ∷ [] → (result : Result Outcome ReportFault) (f : ReportFault)
-    → IsErrAnd result (λ e. e ≡ f)
-    → (f ≡ fault.NoMemory) ⊎ ((f ≡ fault.NotReport) × (content_by_json json ≡ None))
-    → Gives (IsReportOf bytes) (IsNoReport bytes) result
-refused bytes json e (Ok o) f is why = absurd is
-refused bytes json e (Err g) f is (inl memory) = inl (is ∙ memory)
-refused bytes json e (Err g) f is (inr none) = inr (is ∙ none.0, no_content bytes json e none.1)
+pub none_without_list : (k : ℕ) → k < 4 → (text : List ℕ) → HasNoList (behind k text) → IsNoReport text
+none_without_list k l text none o r =
+    not_HasNoList (report_parts (content o)) (codes ",\"version\":1}\n") (are_parts o r.reportable) k l
+    (subst (λ (t : List ℕ). HasNoList (behind k t)) (r.spelled ∙ in_parts o) none)
+
+-- what a call refuses is refused for the same reason
+pub passed_on : {T P Q : Type 0} (IsRight : T → Type 0) (result : Result T ReportFault) (f : ReportFault)
+    → IsErrAnd result (λ e. e ≡ f) → (f ≡ fault.NoMemory) ⊎ ((f ≡ fault.NotReport) × P) → (P → Q)
+    → Gives IsRight Q result
+passed_on IsRight (Ok x) f is why then = absurd is
+passed_on IsRight (Err g) f is (inl memory) then = inl (is ∙ memory)
+passed_on IsRight (Err g) f is (inr none) then = inr (is ∙ none.0, then none.1)
 
 -- bytes that end in a newline
 pub of_a_line : {T : Type 0} (bytes json : List ℕ) → bytes ≡ json ++ 10 ∷ [] → (result : Result T ReportFault)
@@ -265,26 +192,19 @@ of_a_line bytes json e (Err f) = λ memory. (json, e)
 
 pub of_a_report : {T : Type 0} (bytes : List ℕ) (o : Outcome) → bytes ≡ report_text o → (result : Result T ReportFault)
     → GrowsForALine bytes result
-of_a_report bytes o e result =
-    of_a_line bytes (json_text (closed_of (content o)) (content o)) (e ∙ sym (with_newline o)) result
+of_a_report bytes o e result = let last = newline_last o in of_a_line bytes last.0 (e ∙ last.1) result
 
-pub not_that_outcome : (bytes json : List ℕ) (found : Outcome) → bytes ≡ json ++ 10 ∷ []
-    → content_by_json json ≡ Some (content found) → (IsReportOf bytes found → ⊥) → IsNoReport bytes
-not_that_outcome bytes json found e one none o r =
-    let some : content_by_json json ≡ Some (content o) = content-report o json r.reportable (sym r.spelled ∙ e) in
-    let both : Some (content o) ≡ Some (content found) = sym some ∙ one in
-    let same : content o ≡ content found = cc in
+pub not_that_outcome : (bytes : List ℕ) (found : Outcome) → content found ≡ content_by_text bytes
+    → (IsReportOf bytes found → ⊥) → IsNoReport bytes
+not_that_outcome bytes found e none o r =
+    let same : content o ≡ content found =
+    sym (content-report o r.reportable) ∙ ap content_by_text (sym r.spelled) ∙ sym e in
     none (IsReportOf-content bytes o found same r)
 
 -- ---- the laws
 
 pub one_outcome : (o p : Outcome) → IsOutcome o → IsOutcome p → report_text o ≡ report_text p → content o ≡ content p
-one_outcome o p h k e =
-    let json : List ℕ = json_text (closed_of (content p)) (content p) in
-    let one : content_by_json json ≡ Some (content o) = content-report o json h (e ∙ sym (with_newline p)) in
-    let other : content_by_json json ≡ Some (content p) = content-report p json k (sym (with_newline p)) in
-    let both : Some (content o) ≡ Some (content p) = sym one ∙ other in
-    cc
+one_outcome o p h k e = sym (content-report o h) ∙ ap content_by_text e ∙ content-report p k
 
 pub round_trip : (o : Outcome) → IsOutcome o → (answer : Result Outcome ReportFault)
     → Gives (IsReportOf (report_text o)) (IsNoReport (report_text o)) answer

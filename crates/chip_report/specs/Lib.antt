@@ -1,6 +1,6 @@
 pub mod Laws
 pub mod OutcomeParts
-pub mod ReportJson
+pub mod ReportLists
 pub mod ReportText
 pub mod Reportable
 pub mod Written

@@ -1,13 +1,11 @@
 -- The report of a play in several sittings: one line of compact JSON, its members in alphabetical order. It has the
--- report of the last
--- sitting, and under `prior` how often each vertex fired in the sittings before it.
-use Rattle.std.specs.Prelude.{◌≡◌, ◌⊎◌, ℕ, List, ◌++◌, codes, length, replicate, Option, None, Some, option_and_then}
+-- report of the last sitting, and under `prior` how often each vertex fired in the sittings before it.
+use Rattle.std.specs.Prelude.{◌≡◌, ◌⊎◌, ℕ, List, ◌++◌, codes, length, replicate}
 use Rattle.chip_sequence.specs.declared.resumed.Resumed.{Resumed}
 use Rattle.chip_sequence.specs.Sittings.{IsResumed}
-use Rattle.serde_json.specs.Data.{Data}
 use Rattle.chip_report.specs.ReportText.{array_text, bool_text, is_closed}
 use Rattle.chip_report.specs.Reportable.{Content, content, IsReportOf}
-use Rattle.chip_report.specs.ReportJson.{value_of, numbers_under, content_by_value}
+use Rattle.chip_report.specs.ReportLists.{list_at}
 
 -- the report of a sitting that went on
 abbrev pub report_two_text : Resumed → List ℕ
@@ -38,7 +36,7 @@ IsNoReportTwo bytes = (r : Resumed) → IsReportTwoOf bytes r → ⊥
 abbrev pub IsNoReportAtAll : List ℕ → Type 0
 IsNoReportAtAll bytes = (r : Resumed) → IsAnyReportOf bytes r → ⊥
 
--- ---- what a text of JSON tells
+-- ---- what a text tells
 
 -- the numbers of a sitting, without where they lie in memory
 pub record SittingContent : Type 0 where
@@ -49,15 +47,9 @@ pub record SittingContent : Type 0 where
 abbrev pub sitting_content : Resumed → SittingContent
 sitting_content r = record { last = content r.outcome; prior = r.prior.items }
 
--- an outcome and what was fired before it, where both are there
-abbrev pub sitting_by_both : Option Content → Option (List ℕ) → Option SittingContent
-sitting_by_both (Some last) (Some prior) = Some (record { last = last; prior = prior })
-sitting_by_both _ _ = None
-
--- what an object tells of a sitting
-abbrev pub sitting_by_value : Data → Option SittingContent
-sitting_by_value value = sitting_by_both (content_by_value value) (numbers_under (codes "prior") value)
-
--- what a text of JSON tells of a sitting
-abbrev pub sitting_by_json : List ℕ → Option SittingContent
-sitting_by_json json = option_and_then sitting_by_value (value_of json)
+-- what a text tells, if it is the report of a sitting that went on
+abbrev pub sitting_by_text : List ℕ → SittingContent
+sitting_by_text text = record {
+  last = record { fired = list_at 1 text; chips = list_at 0 text; over = list_at 2 text; sealed = list_at 4 text };
+  prior = list_at 3 text;
+}

@@ -11,7 +11,7 @@ pub use write::{WriteFault, write_all_of};
 
 pub mod fault;
 pub mod laws;
-mod parse;
+mod lists;
 pub mod read;
 pub mod report;
 mod reportable;

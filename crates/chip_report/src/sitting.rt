@@ -1,19 +1,17 @@
 //! The report of a play in several sittings, written and read.
 
-ghost use Rattle.std.specs.Prelude.{◌≡◌, ◌≤◌, ◌↔◌, true, None, Some, IfOk, All, length};
+ghost use Rattle.std.specs.Prelude.{◌≡◌, ◌≤◌, ◌↔◌, true, IfOk, All, length};
 ghost use Rattle.chip_sequence.specs.Sittings.{IsResumed, max_prior};
-ghost use Rattle.serde_json.specs.View.{view};
 ghost use Rattle.chip_report.specs.Reportable.{Gives, GrowsForALine};
-ghost use Rattle.chip_report.specs.ReportTwo.{report_two_text, sitting_content, sitting_by_value, sitting_by_json};
+ghost use Rattle.chip_report.specs.ReportTwo.{report_two_text, sitting_content, sitting_by_text};
 ghost use Rattle.chip_report.specs.ReportTwo.{IsReportTwoOf, IsNoReportTwo, IsAnyReportOf, IsNoReportAtAll};
 
 use crate::fault::ReportFault;
-use crate::parse::{numbers_under, outcome_of_value, value_of};
+use crate::lists::Lists;
 use crate::read::read_report;
 use crate::report::{push_list, start_of_report};
 use crate::reportable::is_outcome;
-use chip_sequence::{MAX_PRIOR, Resumed};
-use serde_json::Value;
+use chip_sequence::{MAX_PRIOR, Outcome, Resumed};
 use std::alloc::{AllocError, Global};
 
 /// The report of a sitting with what was fired before it, ending in a newline.
@@ -30,7 +28,7 @@ pub fn report_two(alloc: Global, resumed: &Resumed) -> Result<Vec<u8>, AllocErro
 
 /// The sitting whose report the bytes are: of a first one, before which nothing was fired, or of one that went on.
 ///
-/// Only the report of a sitting that went on ends in version 2, so the bytes are parsed at most once.
+/// Only the report of a sitting that went on ends in version 2, so the bytes are read as one version.
 pub fn read_any(alloc: Global, bytes: &[u8]) -> Result<Resumed, ReportFault>
     ensures sitting { Gives (IsAnyReportOf bytes.now) (IsNoReportAtAll bytes.now) result }
     ensures memory { GrowsForALine bytes.now result }
@@ -47,10 +45,10 @@ fn read_report_two(alloc: Global, bytes: &[u8]) -> Result<Resumed, ReportFault>
     ensures sitting { Gives (IsReportTwoOf bytes.now) (IsNoReportTwo bytes.now) result }
     ensures memory { GrowsForALine bytes.now result }
 {
-    let Some(json) = bytes.strip_suffix(b"\n") else {
+    if !bytes.ends_with(b"\n") {
         return Err(ReportFault::NotReport);
-    };
-    let resumed = resumed_of_json(alloc, json)?;
+    }
+    let resumed = resumed_of_text(alloc, bytes)?;
     if is_resumed(&resumed) && report_two(alloc, &resumed)?.as_slice() == bytes {
         Ok(resumed)
     } else {
@@ -58,22 +56,22 @@ fn read_report_two(alloc: Global, bytes: &[u8]) -> Result<Resumed, ReportFault>
     }
 }
 
-/// The sitting that a text of JSON tells.
-fn resumed_of_json(alloc: Global, json: &[u8]) -> Result<Resumed, ReportFault>
-    ensures { Gives (λ resumed. sitting_by_json json.now ≡ Some (sitting_content resumed))
-        (sitting_by_json json.now ≡ None) result }
+/// The sitting that a text tells, if it is the report of one that went on.
+fn resumed_of_text(alloc: Global, text: &[u8]) -> Result<Resumed, ReportFault>
+    ensures { Gives (λ resumed. sitting_content resumed ≡ sitting_by_text text.now) (IsNoReportTwo text.now) result }
 {
-    let value = value_of(alloc, json)?;
-    resumed_of_value(alloc, &value)
-}
-
-/// The sitting that an object tells.
-fn resumed_of_value(alloc: Global, value: &Value) -> Result<Resumed, ReportFault>
-    ensures { Gives (λ resumed. sitting_by_value (view value.now) ≡ Some (sitting_content resumed))
-        (sitting_by_value (view value.now) ≡ None) result }
-{
-    let outcome = outcome_of_value(alloc, value)?;
-    let prior = numbers_under(alloc, value, "prior")?;
+    let mut lists = Lists::new(text)?;
+    let chips = lists.take(alloc)?;
+    let fired = lists.take(alloc)?;
+    let over = lists.take(alloc)?;
+    let prior = lists.take(alloc)?;
+    let sealed = lists.take(alloc)?;
+    let outcome = Outcome {
+        fired,
+        chips,
+        over,
+        sealed,
+    };
     Ok(Resumed { outcome, prior })
 }
 

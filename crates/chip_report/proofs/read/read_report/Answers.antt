@@ -1,31 +1,31 @@
-use Rattle.std.proofs.Common.{[], ◌∷◌, None, Some, inr, refl, sym, ◌∙◌}
+use Rattle.std.proofs.Common.{[], ◌∷◌, inr, refl, sym, ◌∙◌}
 use Rattle.std.proofs.lemmas.Bool.{false≢true}
 use Rattle.std.proofs.lemmas.Bool.Decides.{Decides-eqb}
-use Rattle.std.proofs.lemmas.Slice.Eq.{strip_suffix_is, bytes_eq-Decides}
-use Rattle.chip_report.proofs.ReportLemmas.{none_without_newline, refused, of_a_line, not_that_outcome}
+use Rattle.std.proofs.lemmas.Slice.Eq.{ends_is, bytes_eq-Decides}
+use Rattle.chip_report.proofs.ReportLemmas.{none_without_newline, passed_on, of_a_line, not_that_outcome}
+use Rattle.chip_report.specs.Reportable.{IsReportOf}
 use Rattle.chip_report.proofs.read.read_report.Goals as goal
 use Rattle.chip_report.proofs.read.read_report.Goals.{else-is_outcome-via-then-is_outcome+in_ok-report+else-eq}
 use Rattle.chip_report.proofs.read.read_report.Goals.{else-is_outcome-via-else-is_outcome}
 
-pub returns-in_default-clause-outcome : goal.returns-in_default-clause-outcome
-returns-in_default-clause-outcome c = inr (
-  refl,
-  none_without_newline c.args.bytes.now
-      (strip_suffix_is Decides-eqb c.args.bytes.now (10 ∷ []) None c.in_default.ensures.cases),
-)
+pub returns-then-not-ends_with-clause-outcome : goal.returns-then-not-ends_with-clause-outcome
+returns-then-not-ends_with-clause-outcome c =
+    let ends = ends_is Decides-eqb c.args.bytes.now (10 ∷ []) c.ends_with.result c.ends_with.ensures.value in
+    inr (
+      refl,
+      none_without_newline c.args.bytes.now (λ front e. false≢true (sym c.if-not-ends_with.true ∙ ends.1 front e)),
+    )
 
 pub returns-in_err-outcome-clause-outcome : goal.returns-in_err-outcome-clause-outcome
 returns-in_err-outcome-clause-outcome c =
-    let split = strip_suffix_is Decides-eqb c.args.bytes.now (10 ∷ []) (Some c.in-Some.json) c.in-Some.ensures.cases in
-    refused c.args.bytes.now c.in-Some.json.now split c.from_residual.result c.in_err-outcome.field-0.0
-    c.from_residual.ensures.1 c.in_err-outcome.ensures
+    passed_on (IsReportOf c.args.bytes.now) c.from_residual.result c.in_err-outcome.field-0.0
+    c.from_residual.ensures.1 c.in_err-outcome.ensures (λ none. none)
 
 pub returns-else-is_outcome-clause-outcome : goal.returns-else-is_outcome-clause-outcome
 returns-else-is_outcome-clause-outcome c =
-    let split = strip_suffix_is Decides-eqb c.args.bytes.now (10 ∷ []) (Some c.in-Some.json) c.in-Some.ensures.cases in
     inr (
       refl,
-      not_that_outcome c.args.bytes.now c.in-Some.json.now c.in_ok-outcome.outcome split c.in_ok-outcome.ensures
+      not_that_outcome c.args.bytes.now c.in_ok-outcome.outcome c.in_ok-outcome.ensures
           (elim c.else-is_outcome.branch [
             | else-is_outcome-via-then-is_outcome+in_ok-report+else-eq w ↦
                 λ r. false≢true (sym w.if-eq.false
@@ -38,12 +38,10 @@ returns-else-is_outcome-clause-outcome c =
 
 pub returns-in_err-outcome-clause-memory : goal.returns-in_err-outcome-clause-memory
 returns-in_err-outcome-clause-memory c =
-    of_a_line c.args.bytes.now c.in-Some.json.now
-    (strip_suffix_is Decides-eqb c.args.bytes.now (10 ∷ []) (Some c.in-Some.json) c.in-Some.ensures.cases)
-    c.from_residual.result
+    let ends = ends_is Decides-eqb c.args.bytes.now (10 ∷ []) c.ends_with.result c.ends_with.ensures.value in
+    of_a_line c.args.bytes.now _ (ends.0 c.if-not-ends_with.false) c.from_residual.result
 
 pub returns-in_err-report-clause-memory : goal.returns-in_err-report-clause-memory
 returns-in_err-report-clause-memory c =
-    of_a_line c.args.bytes.now c.in-Some.json.now
-    (strip_suffix_is Decides-eqb c.args.bytes.now (10 ∷ []) (Some c.in-Some.json) c.in-Some.ensures.cases)
-    c.from_residual-in_err-report.result
+    let ends = ends_is Decides-eqb c.args.bytes.now (10 ∷ []) c.ends_with.result c.ends_with.ensures.value in
+    of_a_line c.args.bytes.now _ (ends.0 c.if-not-ends_with.false) c.from_residual-in_err-report.result

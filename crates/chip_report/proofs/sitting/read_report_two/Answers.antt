@@ -1,33 +1,32 @@
-use Rattle.std.proofs.Common.{[], ◌∷◌, None, Some, inr, refl, sym, ◌∙◌}
+use Rattle.std.proofs.Common.{[], ◌∷◌, inr, refl, sym, ◌∙◌}
 use Rattle.std.proofs.lemmas.Bool.{false≢true}
 use Rattle.std.proofs.lemmas.Bool.Decides.{Decides-eqb}
-use Rattle.std.proofs.lemmas.Slice.Eq.{strip_suffix_is, bytes_eq-Decides}
-use Rattle.chip_report.proofs.ReportTwoLemmas.{none_without_newline_two, refused_two, not_that_sitting}
-use Rattle.chip_report.proofs.ReportLemmas.{of_a_line}
+use Rattle.std.proofs.lemmas.Slice.Eq.{ends_is, bytes_eq-Decides}
+use Rattle.chip_report.specs.ReportTwo.{IsReportTwoOf}
+use Rattle.chip_report.proofs.ReportTwoLemmas.{none_without_newline_two, not_that_sitting}
+use Rattle.chip_report.proofs.ReportLemmas.{passed_on, of_a_line}
 use Rattle.chip_report.proofs.sitting.read_report_two.Goals as goal
 use Rattle.chip_report.proofs.sitting.read_report_two.Goals.{else-is_resumed-via-then-is_resumed+in_ok-report_two+else-eq}
 use Rattle.chip_report.proofs.sitting.read_report_two.Goals.{else-is_resumed-via-else-is_resumed}
 
-pub returns-in_default-clause-sitting : goal.returns-in_default-clause-sitting
-returns-in_default-clause-sitting c =
+pub returns-then-not-ends_with-clause-sitting : goal.returns-then-not-ends_with-clause-sitting
+returns-then-not-ends_with-clause-sitting c =
+    let ends = ends_is Decides-eqb c.args.bytes.now (10 ∷ []) c.ends_with.result c.ends_with.ensures.value in
     inr (
       refl,
-      none_without_newline_two c.args.bytes.now
-          (strip_suffix_is Decides-eqb c.args.bytes.now (10 ∷ []) None c.in_default.ensures.cases),
+      none_without_newline_two c.args.bytes.now (λ front e. false≢true (sym c.if-not-ends_with.true ∙ ends.1 front e)),
     )
 
 pub returns-in_err-resumed-clause-sitting : goal.returns-in_err-resumed-clause-sitting
 returns-in_err-resumed-clause-sitting c =
-    let split = strip_suffix_is Decides-eqb c.args.bytes.now (10 ∷ []) (Some c.in-Some.json) c.in-Some.ensures.cases in
-    refused_two c.args.bytes.now c.in-Some.json.now split c.from_residual.result c.in_err-resumed.field-0.0
-    c.from_residual.ensures.1 c.in_err-resumed.ensures
+    passed_on (IsReportTwoOf c.args.bytes.now) c.from_residual.result c.in_err-resumed.field-0.0
+    c.from_residual.ensures.1 c.in_err-resumed.ensures (λ none. none)
 
 pub returns-else-is_resumed-clause-sitting : goal.returns-else-is_resumed-clause-sitting
 returns-else-is_resumed-clause-sitting c =
-    let split = strip_suffix_is Decides-eqb c.args.bytes.now (10 ∷ []) (Some c.in-Some.json) c.in-Some.ensures.cases in
     inr (
       refl,
-      not_that_sitting c.args.bytes.now c.in-Some.json.now c.in_ok-resumed.resumed split c.in_ok-resumed.ensures
+      not_that_sitting c.args.bytes.now c.in_ok-resumed.resumed c.in_ok-resumed.ensures
           (elim c.else-is_resumed.branch [
             | else-is_resumed-via-then-is_resumed+in_ok-report_two+else-eq w ↦
                 λ r. false≢true (sym w.if-eq.false
@@ -40,12 +39,10 @@ returns-else-is_resumed-clause-sitting c =
 
 pub returns-in_err-resumed-clause-memory : goal.returns-in_err-resumed-clause-memory
 returns-in_err-resumed-clause-memory c =
-    of_a_line c.args.bytes.now c.in-Some.json.now
-    (strip_suffix_is Decides-eqb c.args.bytes.now (10 ∷ []) (Some c.in-Some.json) c.in-Some.ensures.cases)
-    c.from_residual.result
+    let ends = ends_is Decides-eqb c.args.bytes.now (10 ∷ []) c.ends_with.result c.ends_with.ensures.value in
+    of_a_line c.args.bytes.now _ (ends.0 c.if-not-ends_with.false) c.from_residual.result
 
 pub returns-in_err-report_two-clause-memory : goal.returns-in_err-report_two-clause-memory
 returns-in_err-report_two-clause-memory c =
-    of_a_line c.args.bytes.now c.in-Some.json.now
-    (strip_suffix_is Decides-eqb c.args.bytes.now (10 ∷ []) (Some c.in-Some.json) c.in-Some.ensures.cases)
-    c.from_residual-in_err-report_two.result
+    let ends = ends_is Decides-eqb c.args.bytes.now (10 ∷ []) c.ends_with.result c.ends_with.ensures.value in
+    of_a_line c.args.bytes.now _ (ends.0 c.if-not-ends_with.false) c.from_residual-in_err-report_two.result

@@ -1,0 +1,300 @@
+-- Serves ReportLists.antt.
+-- The lists of numbers in a text that is made of parts, each a front and a list in brackets.
+use Rattle.std.proofs.Common.{◌≡◌, ◌≢◌, ℕ, zero, suc, ◌+◌, ◌^◌, ◌<◌, ◌≤◌, Bool, true, false, ◌&&◌, not, nat_lt, eqb}
+use Rattle.std.proofs.Common.{List, [], ◌∷◌, ◌++◌, length, map, take, drop, get_or, codes, Option, None, Some, Vec}
+use Rattle.std.proofs.Common.{Global, Result, Ok, Err, inl, inr, refl, sym, ap, ◌∙◌, subst, arith, append_assoc}
+use Rattle.std.proofs.Common.{length-append}
+use Rattle.std.specs.Prelude.{◌⊎◌, All, IsAscii, MatchOption, ok_or, decimal}
+use Rattle.std.specs.Int.{IsInRange}
+use Rattle.std.specs.List.{AllByRecursion, before_first, after_first, position_or_len, slice_split, join_with_byte}
+use Rattle.std.specs.Result.{result_ok}
+use Rattle.std.specs.Str.Parse.{AllDigits, digits_value, ParsesUnsigned}
+use denote.Ref.{Bor}
+use Rattle.std.proofs.Math.Seq.{drop-append-add}
+use Rattle.std.proofs.lemmas.Bool.{and_parts, not-true, ltb-true, eqb-false, eq-eqb, ne_eqb}
+use Rattle.std.proofs.lemmas.Fmt.{decimal_is_IsNumeral, decimal_nonempty, digits_decimal, parse-decimal}
+use Rattle.std.proofs.lemmas.Fmt.{IsAscii-decimal}
+use Rattle.std.proofs.lemmas.List.{take_at, get_or_at, get_or_append_left, get_or-map, map-append, length-map}
+use Rattle.std.proofs.lemmas.List.Elements.{All-nil, All-cons, All-head, All-tail, All-append, All-from_get_or}
+use Rattle.std.proofs.lemmas.List.Splits.{slice_split_none, slice_split_at}
+use Rattle.std.proofs.lemmas.List.Sums.{position_or_len_is}
+use Rattle.std.proofs.lemmas.Str.{IsAscii-append}
+use Rattle.std.proofs.lemmas.Str.Ascii.{IsAscii-nil, IsAscii-cons}
+use Rattle.std.proofs.lemmas.Str.Parse.{IsNumeralModel, numerals_by_value, tells_digits, not_in_digits}
+use Rattle.std.proofs.lemmas.Str.Parse.{without_leading_plus_none}
+use Rattle.chip_graph.specs.Limits.{max_vertices}
+use Rattle.chip_report.specs.ReportText.{comma, array_text}
+use Rattle.chip_report.specs.Reportable.{Gives}
+use Rattle.chip_report.specs.ReportLists.{opening, closing, first_list, behind_list, behind, number_of, numbers_of}
+use Rattle.chip_report.specs.ReportLists.{list_at, AreListed, IsNoNumber, IsNoList, HasNoList}
+use Rattle.chip_report.specs.declared.fault.ReportFault.{ReportFault}
+use Rattle.chip_report.specs.declared.fault.ReportFault.TheVariants as fault
+
+-- ---- what ends at a byte
+
+position-cut : (c : ℕ) (xs ys : List ℕ) → All (λ b. b ≢ c) xs
+    → position_or_len (λ b. eqb b c) (xs ++ (c ∷ ys)) ≡ length xs
+position-cut c xs ys none =
+    position_or_len_is (λ b. eqb b c) (xs ++ (c ∷ ys)) (length xs) 0
+    (omega (arith, length-append xs (c ∷ ys)))
+    (λ k l. ap (λ b. eqb b c) (get_or_append_left xs (c ∷ ys) 0 k l) ∙ ne_eqb _ _ (none k 0 l))
+    (λ _. ap (λ b. eqb b c) (get_or_at xs c ys 0 (length xs) refl) ∙ eq-eqb c c refl)
+
+before-cut : (c : ℕ) (xs ys : List ℕ) → All (λ b. b ≢ c) xs → before_first (λ b. eqb b c) (xs ++ (c ∷ ys)) ≡ xs
+before-cut c xs ys none = ap (λ n. take n (xs ++ (c ∷ ys))) (position-cut c xs ys none) ∙ take_at xs (c ∷ ys) _ refl
+
+after-cut : (c : ℕ) (xs ys : List ℕ) → All (λ b. b ≢ c) xs → after_first (λ b. eqb b c) (xs ++ (c ∷ ys)) ≡ ys
+after-cut c xs ys none = ap (λ n. drop (n + 1) (xs ++ (c ∷ ys))) (position-cut c xs ys none)
+    ∙ drop-append-add xs (c ∷ ys) 1
+
+-- ---- a number
+
+own : IsNumeralModel (AllDigits 10) (digits_value 10)
+own = numerals_by_value (AllDigits 10) tells_digits
+
+-- what is no digit does not stand in a number
+no_digit : (n c : ℕ) → n < 2 ^ 64 → (IsInRange 48 57 c → ⊥) → (i : ℕ) → i < length (decimal n)
+    → get_or (decimal n) i 0 ≢ c
+no_digit n c fits other = not_in_digits own (decimal n) c (digits_decimal own n fits) other
+
+number_of-decimal : (n : ℕ) → n < 2 ^ 64 → number_of (decimal n) ≡ n
+number_of-decimal n fits =
+    ap (digits_value 10)
+    (without_leading_plus_none (decimal n)
+    (no_digit n 43 fits (λ r. absurd (omega (arith, r))) 0 (decimal_nonempty n fits)))
+    ∙ (decimal_is_IsNumeral n fits).1
+
+-- ---- a list
+
+abbrev Fits : ℕ → Type 0
+Fits n = n < 2 ^ 64
+
+abbrev pub AreShort : List ℕ → Type 0
+AreShort = All (λ n. n < 2 ^ 64)
+
+head_fits : (n : ℕ) (ns : List ℕ) → AreShort (n ∷ ns) → n < 2 ^ 64
+head_fits n ns fit = All-head Fits n ns fit
+
+tail_fits : (n : ℕ) (ns : List ℕ) → AreShort (n ∷ ns) → AreShort ns
+tail_fits n ns fit = All-tail Fits n ns fit
+
+abbrev pub joined : List ℕ → List ℕ
+joined numbers = join_with_byte comma (map decimal numbers)
+
+no_closing_in : (n : ℕ) → n < 2 ^ 64 → All (λ b. b ≢ closing) (decimal n)
+no_closing_in n fits =
+    All-from_get_or (λ b. b ≢ closing) (decimal n) 0 (no_digit n closing fits (λ r. absurd (omega (arith, r))))
+
+no_closing : (ns : List ℕ) → AreShort ns → All (λ b. b ≢ closing) (joined ns)
+no_closing [] fit = All-nil (λ b. b ≢ closing)
+no_closing (n ∷ []) fit = no_closing_in n (head_fits n [] fit)
+no_closing (n ∷ m ∷ ms) fit =
+    All-append (λ b. b ≢ closing) (decimal n) (comma ∷ joined (m ∷ ms)) (no_closing_in n (head_fits n (m ∷ ms) fit))
+    (All-cons (λ b. b ≢ closing) comma (joined (m ∷ ms)) (λ e. absurd (omega (arith, e)))
+    (no_closing (m ∷ ms) (tail_fits n (m ∷ ms) fit)))
+
+no_comma : (n : ℕ) → n < 2 ^ 64 → All (λ b. eqb b comma ≡ false) (decimal n)
+no_comma n fits =
+    All-from_get_or (λ b. eqb b comma ≡ false) (decimal n) 0
+    (λ i l. ne_eqb (get_or (decimal n) i 0) comma (no_digit n comma fits (λ r. absurd (omega (arith, r))) i l))
+
+pieces-joined : (n : ℕ) (ns : List ℕ) → AreShort (n ∷ ns)
+    → slice_split (λ b. eqb b comma) (joined (n ∷ ns)) ≡ map decimal (n ∷ ns)
+pieces-joined n [] fit = slice_split_none (λ b. eqb b comma) (decimal n) (no_comma n (head_fits n [] fit))
+pieces-joined n (m ∷ ms) fit =
+    slice_split_at (λ b. eqb b comma) (decimal n) comma (joined (m ∷ ms)) (no_comma n (head_fits n (m ∷ ms) fit)) refl
+    ∙ ap (λ (more : List (List ℕ)). decimal n ∷ more) (pieces-joined m ms (tail_fits n (m ∷ ms) fit))
+
+numbers-decimals : (ns : List ℕ) → AreShort ns → map number_of (map decimal ns) ≡ ns
+numbers-decimals [] fit = refl
+numbers-decimals (n ∷ ns) fit =
+    ap (λ (m : ℕ). m ∷ map number_of (map decimal ns)) (number_of-decimal n (head_fits n ns fit))
+    ∙ ap (λ (more : List ℕ). n ∷ more) (numbers-decimals ns (tail_fits n ns fit))
+
+numbers_of-some : (list : List ℕ) → 0 < length list
+    → numbers_of list ≡ map number_of (slice_split (λ b. eqb b comma) list)
+numbers_of-some [] some = absurd (omega arith)
+numbers_of-some (b ∷ bs) some = refl
+
+joined-some : (n : ℕ) (ns : List ℕ) → n < 2 ^ 64 → 0 < length (joined (n ∷ ns))
+joined-some n [] fits = decimal_nonempty n fits
+joined-some n (m ∷ ms) fits =
+    let some = decimal_nonempty n fits in omega (arith, length-append (decimal n) (comma ∷ joined (m ∷ ms)))
+
+numbers_of-joined : (ns : List ℕ) → AreShort ns → numbers_of (joined ns) ≡ ns
+numbers_of-joined [] fit = refl
+numbers_of-joined (n ∷ ns) fit =
+    numbers_of-some (joined (n ∷ ns)) (joined-some n ns (head_fits n ns fit))
+    ∙ ap (map number_of) (pieces-joined n ns fit)
+    ∙ numbers-decimals (n ∷ ns) fit
+
+-- ---- the pieces of a list, as a program takes them
+
+abbrev pub pieces : List ℕ → List (List ℕ)
+pieces list = slice_split (λ b. eqb b comma) list
+
+-- the pieces that references show
+abbrev pub shown : List (Bor (List ℕ)) → List (List ℕ)
+shown xs = map (λ (x : Bor (List ℕ)). x.now) xs
+
+pieces_of_some : (list ns : List ℕ) → 0 < length list → AreShort ns → list ≡ joined ns → pieces list ≡ map decimal ns
+pieces_of_some list [] some fit e = absurd (omega (arith, ap length e))
+pieces_of_some list (n ∷ ns) some fit e = ap pieces e ∙ pieces-joined n ns fit
+
+pub none_of_many : (list : List ℕ) (i : ℕ) → 0 < length list → i < length (pieces list) → max_vertices ≤ i
+    → IsNoList list
+none_of_many list i some within high ns listed e =
+    let same = ap length (pieces_of_some list ns some listed.1 e) in
+    absurd (omega (arith, listed.0, length-map ns decimal))
+
+pub none_with : (list piece : List ℕ) (i : ℕ) → 0 < length list → i < length (pieces list)
+    → piece ≡ get_or (pieces list) i piece → IsNoNumber piece → IsNoList list
+none_with list piece i some within at none ns listed e =
+    let same : pieces list ≡ map decimal ns = pieces_of_some list ns some listed.1 e in
+    let below : i < length ns = omega (arith, ap length same, length-map ns decimal) in
+    none (get_or ns i 0) (listed.1 i 0 below)
+    (at ∙ ap (λ (ps : List (List ℕ)). get_or ps i piece) same ∙ get_or-map decimal ns i 0 piece below)
+
+pub number_more : (xs : List (Bor (List ℕ))) (x : Bor (List ℕ)) (numbers : List ℕ) (n : ℕ)
+    → numbers ≡ map number_of (shown xs) → n ≡ number_of x.now
+    → numbers ++ n ∷ [] ≡ map number_of (shown (xs ++ x ∷ []))
+number_more xs x numbers n before is =
+    rw (before, is)
+    (sym (ap (map number_of) (map-append (λ (y : Bor (List ℕ)). y.now) xs (x ∷ []))
+    ∙ map-append number_of (shown xs) (x.now ∷ [])))
+
+pub numbers_of-shown : (list : List ℕ) (xs : List (Bor (List ℕ))) (numbers : List ℕ) → 0 < length list
+    → shown xs ≡ pieces list → numbers ≡ map number_of (shown xs) → numbers ≡ numbers_of list
+numbers_of-shown list xs numbers some all is = is ∙ ap (map number_of) all ∙ sym (numbers_of-some list some)
+
+-- what `parse` reads of digits
+pub read_number : {E : Type 0} (digits : List ℕ) (r : Result ℕ E) → ParsesUnsigned 64 10 digits r
+    → MatchOption (result_ok r) (IsNoNumber digits) (λ n. n ≡ number_of digits)
+read_number digits (Ok n) parsed = parsed.1
+read_number digits (Err e) parsed = λ n fits spelled.
+    let other : Err e ≡ Ok n = parse-decimal 64 n digits (Err e) fits fits spelled parsed in absurd cc
+
+pub no_number : (digits : List ℕ) (read : Option ℕ) (f : ReportFault)
+    → MatchOption read (IsNoNumber digits) (λ n. n ≡ number_of digits) → Err f ≡ ok_or read fault.NotReport
+    → (f ≡ fault.NoMemory) ⊎ ((f ≡ fault.NotReport) × IsNoNumber digits)
+no_number digits None f is e = inr (cc, is)
+no_number digits (Some n) f is e = absurd cc
+
+-- ---- a text in parts
+
+-- a front and the numbers in the brackets behind it
+abbrev pub Part : Type 0
+Part = List ℕ × List ℕ
+
+abbrev pub text_of : List Part → List ℕ → List ℕ
+text_of [] end = end
+text_of (part ∷ parts) end = part.0 ++ (array_text part.1 ++ text_of parts end)
+
+-- ASCII without a bracket before a list
+abbrev pub is_plain : List ℕ → Bool
+is_plain [] = true
+is_plain (b ∷ bs) = (nat_lt b 128 && not (eqb b opening)) && is_plain bs
+
+pub record IsPart (part : Part) : Type 0 where
+  pub plain : is_plain part.0 ≡ true
+  pub listed : AreListed part.1
+
+no_opening : (bs : List ℕ) → is_plain bs ≡ true → All (λ b. b ≢ opening) bs
+no_opening [] e = All-nil (λ b. b ≢ opening)
+no_opening (b ∷ bs) e =
+    let both = and_parts _ _ e in
+    All-cons (λ c. c ≢ opening) b bs (eqb-false b opening (not-true _ (and_parts _ _ both.0).1)) (no_opening bs both.1)
+
+opened : (front ns rest : List ℕ) → All (λ b. b ≢ opening) front
+    → after_first (λ b. eqb b opening) (front ++ (array_text ns ++ rest)) ≡ joined ns ++ (closing ∷ rest)
+opened front ns rest plain =
+    after-cut opening front ((joined ns ++ (closing ∷ [])) ++ rest) plain
+    ∙ append_assoc (joined ns) (closing ∷ []) rest
+
+first_list-part : (front ns rest : List ℕ) → All (λ b. b ≢ opening) front → AreShort ns
+    → first_list (front ++ (array_text ns ++ rest)) ≡ joined ns
+first_list-part front ns rest plain fit = ap (before_first (λ b. eqb b closing)) (opened front ns rest plain)
+    ∙ before-cut closing (joined ns) rest (no_closing ns fit)
+
+behind_list-part : (front ns rest : List ℕ) → All (λ b. b ≢ opening) front → AreShort ns
+    → behind_list (front ++ (array_text ns ++ rest)) ≡ rest
+behind_list-part front ns rest plain fit = ap (after_first (λ b. eqb b closing)) (opened front ns rest plain)
+    ∙ after-cut closing (joined ns) rest (no_closing ns fit)
+
+-- ---- where a program finds no list
+
+pub none_opened : (text : List ℕ) → position_or_len (λ b. eqb b opening) text ≡ length text → HasNoList text
+none_opened text none front ns rest plain listed e =
+    let at = position-cut opening front ((joined ns ++ (closing ∷ [])) ++ rest) plain in
+    let same = ap (position_or_len (λ b. eqb b opening)) e in
+    absurd (omega (arith, ap length e, length-append front (array_text ns ++ rest)))
+
+pub none_closed : (text list : List ℕ) → list ≡ after_first (λ b. eqb b opening) text
+    → position_or_len (λ b. eqb b closing) list ≡ length list → HasNoList text
+none_closed text list begun none front ns rest plain listed e =
+    let is : list ≡ joined ns ++ (closing ∷ rest) =
+    begun ∙ ap (after_first (λ b. eqb b opening)) e ∙ opened front ns rest plain in
+    let at = position-cut closing (joined ns) rest (no_closing ns listed.1) in
+    let same = ap (position_or_len (λ b. eqb b closing)) is in
+    absurd (omega (arith, ap length is, length-append (joined ns) (closing ∷ rest)))
+
+pub none_listed : (text : List ℕ) → IsNoList (first_list text) → HasNoList text
+none_listed text none front ns rest plain listed e =
+    none ns listed (ap first_list e ∙ first_list-part front ns rest plain listed.1)
+
+-- the numbers of the first list, as they are taken
+pub taken : (text rest list : List ℕ) (result : Result (Vec ℕ Global) ReportFault) → list ≡ first_list text
+    → rest ≡ behind_list text → Gives (λ numbers. numbers.items ≡ numbers_of list) (IsNoList list) result
+    → Gives (λ numbers. (numbers.items ≡ numbers_of (first_list text)) × (rest ≡ behind_list text)) (HasNoList text)
+    result
+taken text rest list (Ok numbers) first left is = (is ∙ ap numbers_of first, left)
+taken text rest list (Err f) first left (inl memory) = inl memory
+taken text rest list (Err f) first left (inr none) = inr (none.0, none_listed text (subst IsNoList first none.1))
+
+-- ---- the lists of a text in parts
+
+pub list_at-text_of : (parts : List Part) (end : List ℕ) → AllByRecursion IsPart parts → (k : ℕ) → k < length parts
+    → list_at k (text_of parts end) ≡ (get_or parts k ([], [])).1
+list_at-text_of [] end are k l = absurd (omega arith)
+list_at-text_of (part ∷ parts) end are zero l =
+    ap numbers_of (first_list-part part.0 part.1 (text_of parts end) (no_opening part.0 are.0.plain) are.0.listed.1)
+    ∙ numbers_of-joined part.1 are.0.listed.1
+list_at-text_of (part ∷ parts) end are (suc k) l =
+    ap (list_at k) (behind_list-part part.0 part.1 (text_of parts end) (no_opening part.0 are.0.plain) are.0.listed.1)
+    ∙ list_at-text_of parts end are.1 k (omega arith)
+
+pub not_HasNoList : (parts : List Part) (end : List ℕ) → AllByRecursion IsPart parts → (k : ℕ) → k < length parts
+    → HasNoList (behind k (text_of parts end)) → ⊥
+not_HasNoList [] end are k l none = absurd (omega arith)
+not_HasNoList (part ∷ parts) end are zero l none =
+    none part.0 part.1 (text_of parts end) (no_opening part.0 are.0.plain) are.0.listed refl
+not_HasNoList (part ∷ parts) end are (suc k) l none =
+    not_HasNoList parts end are.1 k (omega arith)
+    (subst (λ (t : List ℕ). HasNoList (behind k t))
+    (behind_list-part part.0 part.1 (text_of parts end) (no_opening part.0 are.0.plain) are.0.listed.1) none)
+
+-- ---- such a text is ASCII
+
+pub ascii_plain : (bs : List ℕ) → is_plain bs ≡ true → IsAscii bs
+ascii_plain [] e = IsAscii-nil
+ascii_plain (b ∷ bs) e =
+    let both = and_parts _ _ e in
+    IsAscii-cons b bs (ltb-true b 128 (and_parts _ _ both.0).0) (ascii_plain bs both.1)
+
+ascii_joined : (ns : List ℕ) → AreShort ns → IsAscii (joined ns)
+ascii_joined [] fit = IsAscii-nil
+ascii_joined (n ∷ []) fit = IsAscii-decimal n (head_fits n [] fit)
+ascii_joined (n ∷ m ∷ ms) fit =
+    IsAscii-append (decimal n) (comma ∷ joined (m ∷ ms)) (IsAscii-decimal n (head_fits n (m ∷ ms) fit))
+    (IsAscii-cons comma (joined (m ∷ ms)) (omega arith) (ascii_joined (m ∷ ms) (tail_fits n (m ∷ ms) fit)))
+
+pub ascii_text_of : (parts : List Part) (end : List ℕ) → AllByRecursion IsPart parts → IsAscii end
+    → IsAscii (text_of parts end)
+ascii_text_of [] end are plain = plain
+ascii_text_of (part ∷ parts) end are plain =
+    IsAscii-append part.0 _ (ascii_plain part.0 are.0.plain)
+    (IsAscii-append (array_text part.1) _
+    (IsAscii-append (codes "[" ++ joined part.1) (closing ∷ [])
+    (IsAscii-cons opening (joined part.1) (omega arith) (ascii_joined part.1 are.0.listed.1))
+    (IsAscii-cons closing [] (omega arith) IsAscii-nil))
+    (ascii_text_of parts end are.1 plain))

@@ -1,0 +1,11 @@
+use Rattle.std.proofs.Common.{◌≡◌, length, map}
+use Rattle.std.specs.Vec.{vec_len}
+use Rattle.chip_report.specs.ReportLists.{number_of}
+use Rattle.chip_report.proofs.BracketLemmas.{shown}
+use Rattle.chip_report.proofs.lists.numbers_of.Given as goal
+
+abbrev pub invariant-loop-digits : goal.invariant-loop-digits
+invariant-loop-digits l = record {
+  read : l.numbers.items ≡ map number_of (shown l.yielded);
+  len : vec_len l.numbers ≡ length l.yielded;
+}

@@ -1,0 +1,66 @@
+-- The lists of numbers in a text, each between the next brackets, whatever else the text has.
+use Rattle.std.specs.Prelude.{◌≢◌, ℕ, zero, suc, ◌^◌, ◌<◌, ◌≤◌, ◌==◌, List, [], ◌∷◌, ◌++◌, length, map, All}
+use Rattle.std.specs.List.{before_first, after_first, slice_split, join_with_byte}
+use Rattle.std.specs.Fmt.{decimal}
+use Rattle.std.specs.Str.Parse.{digits_value, without_leading_plus}
+use Rattle.chip_graph.specs.Limits.{max_vertices}
+use Rattle.chip_report.specs.ReportText.{comma, array_text}
+use Rattle.chip_report.specs.Reportable.{Content}
+
+-- the code of the bracket before a list
+abbrev pub opening : ℕ
+opening = 91
+
+-- the code of the bracket behind it
+abbrev pub closing : ℕ
+closing = 93
+
+-- what stands in the first brackets
+abbrev pub first_list : List ℕ → List ℕ
+first_list text = before_first (λ b. b == closing) (after_first (λ b. b == opening) text)
+
+-- what stands behind them
+abbrev pub behind_list : List ℕ → List ℕ
+behind_list text = after_first (λ b. b == closing) (after_first (λ b. b == opening) text)
+
+-- what stands behind so many lists
+abbrev pub behind : ℕ → List ℕ → List ℕ
+behind zero text = text
+behind (suc lists) text = behind lists (behind_list text)
+
+-- the number that digits spell
+abbrev pub number_of : List ℕ → ℕ
+number_of digits = digits_value 10 (without_leading_plus digits)
+
+-- the numbers that a list spells
+abbrev pub numbers_of : List ℕ → List ℕ
+numbers_of [] = []
+numbers_of (b ∷ bs) = map number_of (slice_split (λ c. c == comma) (b ∷ bs))
+
+-- the numbers of the list behind so many others
+abbrev pub list_at : ℕ → List ℕ → List ℕ
+list_at lists text = numbers_of (first_list (behind lists text))
+
+-- what a text tells, if it is a report
+abbrev pub content_by_text : List ℕ → Content
+content_by_text text =
+    record { fired = list_at 1 text; chips = list_at 0 text; over = list_at 2 text; sealed = list_at 3 text }
+
+-- ---- what no report has
+
+-- numbers that a list of a report may have: each fits, and not more than a graph has vertices
+abbrev pub AreListed : List ℕ → Type 0
+AreListed numbers = (length numbers ≤ max_vertices) × All (λ n. n < 2 ^ 64) numbers
+
+-- no number is written so
+abbrev pub IsNoNumber : List ℕ → Type 0
+IsNoNumber digits = (n : ℕ) → n < 2 ^ 64 → digits ≢ decimal n
+
+-- no such numbers are written so
+abbrev pub IsNoList : List ℕ → Type 0
+IsNoList list = (numbers : List ℕ) → AreListed numbers → list ≢ join_with_byte comma (map decimal numbers)
+
+-- in the first brackets no such numbers are written
+abbrev pub HasNoList : List ℕ → Type 0
+HasNoList text = (front numbers rest : List ℕ) → All (λ b. b ≢ opening) front → AreListed numbers
+    → text ≢ front ++ (array_text numbers ++ rest)

@@ -1,0 +1,69 @@
+//! The lists of numbers in a text, whether or not it is a report.
+
+ghost use Rattle.std.specs.Prelude.{◌≡◌, IsUtf8, MatchOption};
+ghost use Rattle.chip_report.specs.Reportable.{Gives};
+ghost use Rattle.chip_report.specs.ReportLists.{first_list, behind_list, number_of, numbers_of};
+ghost use Rattle.chip_report.specs.ReportLists.{IsNoNumber, IsNoList, HasNoList};
+
+use crate::fault::ReportFault;
+use chip_graph::MAX_VERTICES;
+use std::alloc::Global;
+use std::str;
+
+/// A text whose lists of numbers are taken one after another.
+#[derive(Drop)]
+pub(crate) struct Lists<'t> {
+    /// What is left of the text.
+    rest: &'t str,
+}
+
+impl<'t> Lists<'t> {
+    /// The lists of a text.
+    pub(crate) fn new(text: &'t [u8]) -> Result<Lists<'t>, ReportFault>
+        ensures { Gives (λ lists. lists.rest.now ≡ text.now) (IsUtf8 text.now → ⊥) result }
+    {
+        match str::from_utf8(text) {
+            Ok(rest) => Ok(Lists { rest }),
+            Err(_) => Err(ReportFault::NotReport),
+        }
+    }
+
+    /// Takes the numbers between the next brackets.
+    pub(crate) fn take(&mut self, alloc: Global) -> Result<Vec<u64>, ReportFault>
+        ensures { Gives (λ numbers. (numbers.items ≡ numbers_of (first_list self.old.rest.now))
+            × (self.new.rest.now ≡ behind_list self.old.rest.now)) (HasNoList self.old.rest.now) result }
+    {
+        let Some((_, opened)) = self.rest.split_once('[') else {
+            return Err(ReportFault::NotReport);
+        };
+        let Some((list, rest)) = opened.split_once(']') else {
+            return Err(ReportFault::NotReport);
+        };
+        self.rest = rest;
+        numbers_of(alloc, list)
+    }
+}
+
+/// The numbers of a list, if they are no more than a graph may have vertices.
+fn numbers_of(alloc: Global, list: &str) -> Result<Vec<u64>, ReportFault>
+    ensures { Gives (λ numbers. numbers.items ≡ numbers_of list.now) (IsNoList list.now) result }
+{
+    let mut numbers = Vec::new(alloc);
+    if list.is_empty() {
+        return Ok(numbers);
+    }
+    for digits in list.split(',') {
+        if numbers.len() as u64 >= MAX_VERTICES {
+            return Err(ReportFault::NotReport);
+        }
+        numbers.push(number_of(digits).ok_or(ReportFault::NotReport)?)?;
+    }
+    Ok(numbers)
+}
+
+/// The number that digits spell, if it fits.
+fn number_of(digits: &str) -> Option<u64>
+    ensures { MatchOption result (IsNoNumber digits.now) (λ number. number ≡ number_of digits.now) }
+{
+    digits.parse::<u64>().ok()
+}

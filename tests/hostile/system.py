@@ -302,6 +302,22 @@ def wide_texts(machine):
         yield f"16 MiB of {name} in 256 MiB", faults
 
 
+def wide_reports(machine, runs):
+    """16 MiB that are no report are refused in little more memory than the text takes."""
+    graph = next(word for word in runs[0].words if word.endswith(".json"))
+    end = b'],"closed":true,"fired":[0],"over":[],"sealed":[],"version":1}\n'
+    for name, piece in (("objects", b'{"":0},'), ("lists", b"[],"), ("numbers", b"0,"), ("digits", b"0")):
+
+        def faults(piece=piece):
+            with tempfile.NamedTemporaryFile(prefix="chipfire-hostile-") as file:
+                file.write(b'{"chips":[' + piece * ((16 * MIB - 80) // len(piece)) + b"0" + end)
+                file.flush()
+                ran = machine.run_under(f"AS={64 * MIB}", ["resume", graph, file.name])
+            return fault_differences(ran, "50 NotReport")
+
+        yield f"a report of 16 MiB of {name} in 64 MiB", faults
+
+
 def tests(machine, reference, runs, kills):
     for worked in runs:
         yield from closed_streams(machine, worked)
@@ -319,3 +335,4 @@ def tests(machine, reference, runs, kills):
     yield from leaving_readers(machine, reference)
     yield from many_words(machine)
     yield from wide_texts(machine)
+    yield from wide_reports(machine, runs)

@@ -138,6 +138,15 @@ const NO_REPORTS: &[&str] = &[
     "{\"chips\":[1,0,3],\"closed\":true,\"fired\":[2,1,0],\"over\":[],\"sealed\":[],\"version\":1,\"x\":0}\n",
     "{\"chips\":[1,0,3],\"closed\":true,\"fired\":[2,1,0],\"over\":[],\"version\":1}\n",
     "{\"chips\":[9,0,3],\"chips\":[1,0,3],\"closed\":true,\"fired\":[2,1,0],\"over\":[],\"sealed\":[],\"version\":1}\n",
+    // its lists alone, members of other names, without a bracket, with a list more, without an end
+    "[1,0,3][2,1,0][][]\n",
+    "{\"chips\":[1,0,3],\"closed\":true,\"fired\":[2,1,0],\"over\":[],\"sealed\":[]\n",
+    "{\"chops\":[1,0,3],\"closed\":true,\"fired\":[2,1,0],\"over\":[],\"sealed\":[],\"version\":1}\n",
+    "{\"fired\":[1,0,3],\"closed\":true,\"chips\":[2,1,0],\"over\":[],\"sealed\":[],\"version\":1}\n",
+    "{\"chips\":1,0,3],\"closed\":true,\"fired\":[2,1,0],\"over\":[],\"sealed\":[],\"version\":1}\n",
+    "{\"chips\":[1,0,3,\"closed\":true,\"fired\":[2,1,0],\"over\":[],\"sealed\":[],\"version\":1}\n",
+    "{\"chips\":[[1,0,3]],\"closed\":true,\"fired\":[2,1,0],\"over\":[],\"sealed\":[],\"version\":1}\n",
+    "{\"chips\":[1,0,3],\"closed\":true,\"fired\":[2,1,0],\"more\":[],\"over\":[],\"sealed\":[],\"version\":1}\n",
     // version 2
     "{\"chips\":[1,0,3],\"closed\":true,\"fired\":[2,1,0],\"over\":[],\"sealed\":[],\"version\":2}\n",
     "{\"chips\":[0,1,4],\"closed\":true,\"fired\":[1,0,0],\"over\":[],\"prior\":[2,1,0],\"sealed\":[],\"version\":2}\n",
@@ -146,6 +155,11 @@ const NO_REPORTS: &[&str] = &[
     "{\"chips\":[2,0,3],\"closed\":true,\"fired\":[2,1,0],\"over\":[0],\"sealed\":[],\"version\":1}\n",
     // numbers that are spelled otherwise, or too large
     "{\"chips\":[01,0,3],\"closed\":true,\"fired\":[2,1,0],\"over\":[],\"sealed\":[],\"version\":1}\n",
+    "{\"chips\":[+1,0,3],\"closed\":true,\"fired\":[2,1,0],\"over\":[],\"sealed\":[],\"version\":1}\n",
+    "{\"chips\":[1,,3],\"closed\":true,\"fired\":[2,1,0],\"over\":[],\"sealed\":[],\"version\":1}\n",
+    "{\"chips\":[1,0,3,],\"closed\":true,\"fired\":[2,1,0],\"over\":[],\"sealed\":[],\"version\":1}\n",
+    "{\"chips\":[1,0,3],\"closed\":true,\"fired\":[2,1,0],\"over\":[,],\"sealed\":[],\"version\":1}\n",
+    "{\"chips\":[1,0,18446744073709551616],\"closed\":true,\"fired\":[2,1,0],\"over\":[],\"sealed\":[],\"version\":1}\n",
     "{\"chips\":[1,00,3],\"closed\":true,\"fired\":[2,1,0],\"over\":[],\"sealed\":[],\"version\":1}\n",
     "{\"chips\":[1.0,0,3],\"closed\":true,\"fired\":[2,1,0],\"over\":[],\"sealed\":[],\"version\":1}\n",
     "{\"chips\":[1e0,0,3],\"closed\":true,\"fired\":[2,1,0],\"over\":[],\"sealed\":[],\"version\":1}\n",
@@ -174,6 +188,10 @@ fn refuses_what_is_no_report(rt: HostRuntime) {
         assert!(rt; is_refused(&rt, text.as_bytes()), "{text}");
     }
     assert!(rt; is_refused(&rt, b"\"\xff\"\n"), "no text");
+    assert!(rt;
+        is_refused(&rt, b"{\"chips\":[0],\xff\n"),
+        "no text behind a list"
+    );
     assert!(rt; is_refused(&rt, &[b'['; 200]), "too deep");
 }
 
@@ -182,6 +200,24 @@ fn each_cut_of_a_report_is_none(rt: HostRuntime) {
     let text = TRIANGLE.as_bytes();
     for end in 0..text.len() {
         assert!(rt; is_refused(&rt, &text[..end]), "the first {end} bytes");
+    }
+}
+
+/// Whether a text and a newline are the report of no outcome.
+fn is_refused_as_a_line(rt: &(impl AllocGlobal + Abort), text: &[u8]) -> bool {
+    let mut line = text.to_vec(rt.alloc()).expect(rt, "memory");
+    line.push(b'\n').expect(rt, "memory");
+    is_refused(rt, &line)
+}
+
+#[test]
+fn each_cut_of_a_report_with_a_newline_is_none(rt: HostRuntime) {
+    let text = TRIANGLE.as_bytes();
+    for end in 0..text.len().saturating_sub(1) {
+        assert!(rt;
+            is_refused_as_a_line(&rt, &text[..end]),
+            "the first {end} bytes"
+        );
     }
 }
 

@@ -67,11 +67,16 @@ fn is_refused(rt: &(impl AllocGlobal + Abort), text: &[u8]) -> bool {
     matches!(read_any(rt.alloc(), text), Err(ReportFault::NotReport))
 }
 
-/// Fewer numbers of earlier firings than vertices, one past 2^60, none, and some in a first sitting's report.
+/// Fewer numbers of earlier firings than vertices, one past 2^60, none, some in the wrong place, one with a leading
+/// zero, lists alone, none of them, and some in a first sitting's report.
 const NO_SITTINGS: &[&str] = &[
     "{\"chips\":[0,1,4],\"closed\":true,\"fired\":[1,0,0],\"over\":[],\"prior\":[2,1],\"sealed\":[],\"version\":2}\n",
     "{\"chips\":[0],\"closed\":true,\"fired\":[1],\"over\":[],\"prior\":[1152921504606846977],\"sealed\":[],\"version\":2}\n",
     "{\"chips\":[0],\"closed\":true,\"fired\":[1],\"over\":[],\"sealed\":[],\"version\":2}\n",
+    "{\"chips\":[0],\"closed\":true,\"fired\":[1],\"over\":[],\"sealed\":[],\"prior\":[0],\"version\":2}\n",
+    "{\"chips\":[0],\"closed\":true,\"fired\":[1],\"over\":[],\"prior\":[00],\"sealed\":[],\"version\":2}\n",
+    "[0][1][][0][],\"version\":2}\n",
+    ",\"version\":2}\n",
     "{\"chips\":[0],\"closed\":true,\"fired\":[1],\"over\":[],\"prior\":[0],\"sealed\":[],\"version\":1}\n",
 ];
 

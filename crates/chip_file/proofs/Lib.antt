@@ -2,6 +2,9 @@ mod NumberLemmas
 mod KeptLemmas
 mod ChipsLemmas
 mod RowLemmas
+mod SeamLemmas
+mod PieceLemmas
+mod AheadLemmas
 mod RecordLemmas
 mod ReadLemmas
 mod KindLemmas

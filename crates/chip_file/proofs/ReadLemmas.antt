@@ -1,25 +1,21 @@
--- Serves Answer.antt, Rows.antt, ChipsText.antt, ScheduleText.antt.
--- What the reads of an input take of it; and that no text is at fault for a failed read.
-use Rattle.std.proofs.Common.{◌≡◌, ℕ, Bool, true, false, List, [], ◌∷◌, ◌++◌, length, Option, None, Some, Result, Ok}
-use Rattle.std.proofs.Common.{Err, refl, inl, inr, ◌+◌, ◌≤◌, take, arith, length-append}
+-- Serves Answer.antt, Pieces.antt, Standing.antt.
+-- What the reads of an input take of it, and what reading its rows answers of it.
+use Rattle.std.proofs.Common.{◌≡◌, ◌≢◌, ℕ, ◌<◌, ◌^◌, ◌⊎◌, List, [], ◌++◌, length, Option, None, Some, Result, Ok, Err}
+use Rattle.std.proofs.Common.{refl, ap, inl, inr, ◌+◌, ◌≤◌, take, arith, length-append}
 use Rattle.std.proofs.KnownBytes.{Consumes-trans, Consumes-kept}
 use Rattle.std.specs.Io.{ReadsAtMost}
-use Rattle.std.specs.Io.KnownBytes.{Consumes, ReadConsumes}
-use Rattle.std.specs.Prelude.{◌==◌, nat_lt, nat_le, ◌&&◌, not, is_some, sum}
-use Rattle.chip_graph.specs.Limits.{max_total}
-use Rattle.chip_graph.specs.Faults.{first_of_faults, unless}
-use Rattle.chip_graph.specs.Multigraph.{Multigraph}
+use Rattle.std.specs.Io.KnownBytes.{Consumes, IsAtEnd, ReadConsumes}
+use Rattle.std.specs.Prelude.{IfSome, option_map}
 use Rattle.chip_file.specs.declared.fault.FileFault.{FileFault}
-use Rattle.chip_file.specs.declared.fault.FileFault.TheVariants as fault
-use Rattle.chip_file.specs.Answer.{Gives, FailsInTime, TakesAtMost, max_bytes, max_chunk}
-use Rattle.chip_file.specs.Rows.{Row, records_of, has_header, rows_under_header, first_row_fault, records_fault}
-use Rattle.chip_file.specs.Rows.{by_index}
-use Rattle.chip_file.specs.ChipsText.{chips_text_fault, chips_row_fault, chips_of_rows, chips_named, vertex_in}
-use Rattle.chip_file.specs.ScheduleText.{schedule_text_fault, event_fault, event_kinds, may_be_at}
-use Rattle.chip_file.specs.ScheduleText as schedule
-use Rattle.chip_file.specs.Kinds.{kind_at}
-use Rattle.chip_file.specs.Numbers.{number_at, number_in}
-use Rattle.chip_file.specs.TraceText.{trace_text_fault, trace_row_fault, trace_kinds, trace_row_in, names_edge}
+use Rattle.chip_file.specs.declared.source.LastRead.{LastRead}
+use Rattle.chip_file.specs.declared.source.LastRead.TheVariants as last
+use Rattle.chip_file.specs.Answer.{Answers, FailsInTime, TakesAtMost, max_bytes, max_chunk}
+use Rattle.chip_file.specs.Pieces.{GoesOn, IsSound, IsStopped, Reading}
+use Rattle.chip_file.specs.Rows.{Row, records_of}
+use Rattle.chip_file.specs.Source.{last_read, left}
+use Rattle.chip_file.specs.Standing.{ComesOfRows, Finishes}
+use Rattle.chip_file.proofs.PieceLemmas.{goes_further}
+use Rattle.chip_file.proofs.RowLemmas.{few_records}
 
 -- a read into a buffer takes no more than the buffer has room for, above what was taken before it
 pub taken_more : {E : Type 0} (a b c : Option (List ℕ)) (done buf : List ℕ) (r : Result ℕ E)
@@ -34,84 +30,153 @@ taken_more a b c done buf (Ok n) before read most few room =
 taken_more a b c done buf (Err e) before kept most few room =
     (done, Consumes-kept a b c done before kept, omega arith)
 
--- a fault, if there is one, is not that a read failed
-abbrev IsOfText : Option FileFault → Type 0
-IsOfText f = f ≡ Some fault.Read → ⊥
+-- ---- what comes of rows, once the input was read
 
--- what a text answers is not that a read failed
-pub in_time : {T : Type 0} (IsMeant : T → Type 0) (IsFault : FileFault → Type 0) (old new : Option (List ℕ))
-    (result : Result T FileFault)
-    → Gives IsMeant IsFault result → (IsFault fault.Read → ⊥) → FailsInTime old new result
-in_time IsMeant IsFault old new (Ok value) gives other = tt
-in_time IsMeant IsFault old new (Err f) (inl memory) other = λ read. absurd (cc)
-in_time IsMeant IsFault old new (Err f) (inr bad) other = λ read. absurd (other (rw read at bad))
+-- what comes of rows: a value that known rows mean, or their fault, where the input has ended; or why they stopped
+abbrev AnswersRows : {R T : Type 0} → (List Row → T → Type 0) → (List Row → FileFault → Type 0)
+    → Option (List Row) → Reading R → Result T FileFault → Type 0
+AnswersRows IsMeant IsFault old pieces (Ok value) =
+    (last_read pieces.source ≡ last.End)
+    × ((rows : List Row) → old ≡ Some rows → length rows < 2 ^ 64 → IsMeant rows value)
+AnswersRows IsMeant IsFault old pieces (Err f) =
+    IsStopped f pieces
+    ⊎ ((last_read pieces.source ≡ last.End)
+    × ((rows : List Row) → old ≡ Some rows → length rows < 2 ^ 64 → IsFault rows f))
 
--- is it a fault that a read failed?
-abbrev is_read : FileFault → Bool
-is_read fault.Read = true
-is_read _ = false
+-- an input that is over is short enough
+few_over : {R : Type 0} (remaining : R → Option (List ℕ)) (kind : LastRead) (q : Reading R) → IsSound remaining q
+    → (kind ≡ last.Failure → last_read q.source ≡ last.Failure)
+    → (kind ≢ last.Failure → last_read q.source ≡ last.End)
+    → q.taken ≤ max_bytes
+few_over remaining last.Failure q sound failed ended = sound.failed (failed refl)
+few_over remaining last.NotYet q sound failed ended = (sound.ended (ended (λ e. cc e))).1
+few_over remaining last.Bytes q sound failed ended = (sound.ended (ended (λ e. cc e))).1
+few_over remaining last.End q sound failed ended = (sound.ended (ended (λ e. cc e))).1
 
-unless_of_text : (test : Bool) (f : FileFault) → is_read f ≡ false → IsOfText (unless test f)
-unless_of_text true f other e = cc e
-unless_of_text false f other e = let same : f ≡ fault.Read = cc e in let no = rw same at other in cc no
+finished : {R T : Type 0} (remaining : R → Option (List ℕ)) (IsMeant : List Row → T → Type 0)
+    (IsFault : List Row → FileFault → Type 0) (rows : Option (List Row)) (p q : Reading R)
+    (outcome result : Result T FileFault)
+    → IsSound remaining q → p.taken ≤ q.taken → ComesOfRows IsMeant IsFault rows p outcome
+    → Finishes p q outcome result
+    → AnswersRows IsMeant IsFault rows q result
+finished remaining IsMeant IsFault rows p q (Ok u) (Ok v) sound grows comes ends =
+    let e : u ≡ v = cc ends.0 in
+    (rw ends.1 comes.0, λ all known few. rw (← e) (comes.1 all known few))
+finished remaining IsMeant IsFault rows p q (Err e) (Ok v) sound grows comes ends = cc ends.0
+finished remaining IsMeant IsFault rows p q (Ok u) (Err f) sound grows comes (inl stopped) = inl stopped
+finished remaining IsMeant IsFault rows p q (Ok u) (Err f) sound grows comes (inr over) = cc over.0
+finished remaining IsMeant IsFault rows p q (Err e) (Err f) sound grows comes (inl stopped) = inl stopped
+finished remaining IsMeant IsFault rows p q (Err e) (Err f) sound grows (inl (inl memory)) (inr over) =
+    inl (inl (cc (over.0, memory)))
+finished remaining IsMeant IsFault rows p q (Err e) (Err f) sound grows (inl (inr (inl read))) (inr over) =
+    inl (inr (inl (cc (over.0, read.0), over.1.0 read.1)))
+finished remaining IsMeant IsFault rows p q (Err e) (Err f) sound grows (inl (inr (inr long))) (inr over) =
+    let few = few_over remaining (last_read p.source) q sound over.1.0 over.1.1 in
+    let many = long.1 in
+    absurd (omega arith)
+finished remaining IsMeant IsFault rows p q (Err e) (Err f) sound grows (inr bad) (inr over) =
+    let same : e ≡ f = cc over.0 in
+    inr (over.1.1 bad.0, λ all known few. rw (← same) (bad.1 all known few))
 
-first_of_text : (first later : Option FileFault) → IsOfText first → IsOfText later
-    → IsOfText (first_of_faults first later)
-first_of_text None later no_first no_later = no_later
-first_of_text (Some f) later no_first no_later = no_first
+-- ---- what the answer says of the input
 
--- the same of four tests, one after another
-four_of_text : (a b c d : Bool) (f g h i : FileFault) → is_read f ≡ false → is_read g ≡ false → is_read h ≡ false
-    → is_read i ≡ false
-    → IsOfText (first_of_faults (unless a f) (first_of_faults (unless b g) (first_of_faults (unless c h) (unless d i))))
-four_of_text a b c d f g h i no_f no_g no_h no_i =
-    first_of_text _ _ (unless_of_text a f no_f)
-    (first_of_text _ _ (unless_of_text b g no_g)
-    (first_of_text _ _ (unless_of_text c h no_h) (unless_of_text d i no_i)))
+-- no more bytes were taken than an input may have, and a buffer
+pub taken_in_all : {R : Type 0} (remaining : R → Option (List ℕ)) (a q : Reading R) → GoesOn remaining a q → a.taken ≡ 0
+    → TakesAtMost (max_bytes + max_chunk) (left remaining a.source) (left remaining q.source)
+taken_in_all remaining a q on none =
+    let counted = on.took.2 in
+    let most = on.sound.most in
+    (on.took.0, on.took.1, omega arith)
 
-rows_of_text : (row_fault : List Row → Row → Option FileFault) (before rows : List Row)
-    → ((before : List Row) (row : Row) → IsOfText (row_fault before row))
-    → IsOfText (first_row_fault row_fault before rows)
-rows_of_text row_fault before [] each = λ e. cc e
-rows_of_text row_fault before (row ∷ rows) each =
-    first_of_text _ _ (each before row) (rows_of_text row_fault (before ++ row ∷ []) rows each)
+taken_in_time : {R : Type 0} (remaining : R → Option (List ℕ)) (a q : Reading R) → GoesOn remaining a q → a.taken ≡ 0
+    → q.taken ≤ max_bytes
+    → TakesAtMost max_bytes (left remaining a.source) (left remaining q.source)
+taken_in_time remaining a q on none most =
+    let counted = on.took.2 in
+    (on.took.0, on.took.1, omega arith)
 
-records_of_text : (header : Row) (row_fault : List Row → Row → Option FileFault) (records : List Row)
-    → ((before : List Row) (row : Row) → IsOfText (row_fault before row))
-    → IsOfText (records_fault header row_fault records)
-records_of_text header row_fault records each =
-    first_of_text _ _ (unless_of_text (has_header header records) fault.Header refl)
-    (rows_of_text row_fault [] (rows_under_header records) each)
+in_time_by : {R T : Type 0} (remaining : R → Option (List ℕ)) (IsMeant : List Row → T → Type 0)
+    (IsFault : List Row → FileFault → Type 0) (rows : Option (List Row)) (a q : Reading R) (result : Result T FileFault)
+    → GoesOn remaining a q → a.taken ≡ 0 → AnswersRows IsMeant IsFault rows q result
+    → FailsInTime (left remaining a.source) (left remaining q.source) result
+in_time_by remaining IsMeant IsFault rows a q (Ok value) on none answers = tt
+in_time_by remaining IsMeant IsFault rows a q (Err f) on none (inl (inl memory)) = λ read. absurd (cc)
+in_time_by remaining IsMeant IsFault rows a q (Err f) on none (inl (inr (inl failed))) =
+    λ read. taken_in_time remaining a q on none (on.sound.failed failed.1)
+in_time_by remaining IsMeant IsFault rows a q (Err f) on none (inl (inr (inr long))) =
+    let is = long.0 in λ read. absurd (cc)
+in_time_by remaining IsMeant IsFault rows a q (Err f) on none (inr bad) =
+    λ read. taken_in_time remaining a q on none (on.sound.ended bad.0).1
 
-pub chips_of_text_alone : (vertices : ℕ) (text : List ℕ) → chips_text_fault vertices text ≡ Some fault.Read → ⊥
-chips_of_text_alone vertices text =
-    first_of_text _ _
-    (records_of_text _ (chips_row_fault vertices) (records_of text) (λ before row.
-    four_of_text (length row == 2) (is_some (number_at 0 row) && is_some (number_at 1 row))
-    (nat_lt (vertex_in row) vertices)
-    (not (is_some (chips_named before (vertex_in row))))
-    (fault.Row (length before)) (fault.Number (length before)) (fault.Vertex (length before))
-    (fault.Repeated (length before))
-    refl refl refl refl))
-    (unless_of_text (nat_le (sum (chips_of_rows vertices (rows_under_header (records_of text)))) max_total) fault.Total
-    refl)
+-- the rows of a text that is short enough are fewer than a counter counts
+count_fits : (text : List ℕ) → length text ≤ max_bytes → length (records_of text) < 2 ^ 64
+count_fits text few = let rows = few_records text in omega arith
 
-pub schedule_of_text_alone : (G : Multigraph) (text : List ℕ) → schedule_text_fault G text ≡ Some fault.Read → ⊥
-schedule_of_text_alone G text =
-    records_of_text _ (by_index (event_fault G)) (records_of text) (λ before row.
-    four_of_text (length row == 3) (is_some (kind_at event_kinds 0 row)) (is_some (number_at 1 row)
-    && is_some (number_at 2 row))
-    (may_be_at G (schedule.kind_in row) (number_in 1 row))
-    (fault.Row (length before)) (fault.Kind (length before)) (fault.Number (length before))
-    (fault.Vertex (length before))
-    refl refl refl refl)
+-- a text of which nothing is left was taken whole
+whole_few : (text bytes rest : List ℕ) (taken : ℕ) → text ≡ bytes ++ rest → rest ≡ [] → taken ≡ length bytes
+    → taken ≤ max_bytes
+    → length text ≤ max_bytes
+whole_few text bytes rest taken parts none counted few =
+    let all = ap length parts in
+    let joined = length-append bytes rest in
+    let zero = ap length none in
+    omega arith
 
-pub trace_of_text_alone : (G : Multigraph) (text : List ℕ) → trace_text_fault G text ≡ Some fault.Read → ⊥
-trace_of_text_alone G text =
-    records_of_text _ (by_index (trace_row_fault G)) (records_of text) (λ before row.
-    four_of_text (length row == 4) (is_some (kind_at trace_kinds 1 row))
-    (is_some (number_at 0 row) && is_some (number_at 2 row) && is_some (number_at 3 row))
-    (nat_lt (number_in 0 row) G.vertices && names_edge G (trace_row_in row))
-    (fault.Row (length before)) (fault.Kind (length before)) (fault.Number (length before))
-    (fault.Vertex (length before))
-    refl refl refl refl)
+known_by : {R T : Type 0} (IsMeant : List Row → T → Type 0) (IsFault : List Row → FileFault → Type 0)
+    (input after : Option (List ℕ)) (bytes : List ℕ) (q : Reading R) (result : Result T FileFault)
+    → Consumes input after bytes → q.taken ≡ length bytes
+    → (last_read q.source ≡ last.End → IsAtEnd after × (q.taken ≤ max_bytes))
+    → AnswersRows IsMeant IsFault (option_map records_of input) q result
+    → IfSome input (λ text. Answers text (IsMeant (records_of text)) (IsFault (records_of text)) result)
+known_by IsMeant IsFault None after bytes q result took counted ended answers = tt
+known_by IsMeant IsFault (Some text) None bytes q result took counted ended answers = absurd took
+known_by IsMeant IsFault (Some text) (Some rest) bytes q (Ok value) took counted ended answers =
+    let end = ended answers.0 in
+    let few = whole_few text bytes rest q.taken took end.0 counted end.1 in
+    (few, answers.1 (records_of text) refl (count_fits text few))
+known_by IsMeant IsFault (Some text) (Some rest) bytes q (Err f) took counted ended (inl (inl memory)) =
+    inl (inr memory)
+known_by IsMeant IsFault (Some text) (Some rest) bytes q (Err f) took counted ended (inl (inr (inl failed))) =
+    inl (inl failed.0)
+known_by IsMeant IsFault (Some text) (Some rest) bytes q (Err f) took counted ended (inl (inr (inr long))) =
+    let all = ap length took in
+    let joined = length-append bytes rest in
+    let many = long.1 in
+    inr (inl (omega arith, long.0))
+known_by IsMeant IsFault (Some text) (Some rest) bytes q (Err f) took counted ended (inr bad) =
+    let end = ended bad.0 in
+    let few = whole_few text bytes rest q.taken took end.0 counted end.1 in
+    inr (inr (few, bad.1 (records_of text) refl (count_fits text few)))
+
+-- ---- reading rows, from the first read to the last
+
+grows : {R : Type 0} (remaining : R → Option (List ℕ)) (p q : Reading R) → GoesOn remaining p q → p.taken ≤ q.taken
+grows remaining p q on = let counted = on.took.2 in omega arith
+
+-- a failed read is told before too many bytes were taken
+pub in_time : {R T : Type 0} (remaining : R → Option (List ℕ)) (IsMeant : List Row → T → Type 0)
+    (IsFault : List Row → FileFault → Type 0) (rows : Option (List Row)) (a p q : Reading R)
+    (outcome result : Result T FileFault)
+    → a.taken ≡ 0 → GoesOn remaining a p → GoesOn remaining p q → ComesOfRows IsMeant IsFault rows p outcome
+    → Finishes p q outcome result
+    → FailsInTime (left remaining a.source) (left remaining q.source) result
+in_time remaining IsMeant IsFault rows a p q outcome result none first second comes ends =
+    in_time_by remaining IsMeant IsFault rows a q result (goes_further remaining a p q first second) none
+    (finished remaining IsMeant IsFault rows p q outcome result second.sound (grows remaining p q second) comes ends)
+
+-- the answer is what the text means, or its fault
+pub answers_text : {R T : Type 0} (remaining : R → Option (List ℕ)) (IsMeant : List Row → T → Type 0)
+    (IsFault : List Row → FileFault → Type 0) (rows : Option (List Row)) (a p q : Reading R)
+    (outcome result : Result T FileFault)
+    → rows ≡ option_map records_of (left remaining a.source)
+    → a.taken ≡ 0 → GoesOn remaining a p → GoesOn remaining p q → ComesOfRows IsMeant IsFault rows p outcome
+    → Finishes p q outcome result
+    → IfSome (left remaining a.source)
+    (λ text. Answers text (IsMeant (records_of text)) (IsFault (records_of text)) result)
+answers_text remaining IsMeant IsFault rows a p q outcome result same none first second comes ends =
+    let on = goes_further remaining a p q first second in
+    let counted : q.taken ≡ length on.took.0 = (let all = on.took.2 in omega arith) in
+    known_by IsMeant IsFault (left remaining a.source) (left remaining q.source) on.took.0 q result on.took.1 counted
+    on.sound.ended
+    (rw (← same)
+    (finished remaining IsMeant IsFault rows p q outcome result second.sound (grows remaining p q second) comes ends))

@@ -54,13 +54,21 @@ trace_row_fault G index row =
 abbrev pub trace_in : List Row → ℕ → List TraceRow
 trace_in rows v = map trace_row_in (filter (λ row. number_in 0 row == v) rows)
 
+-- the first thing wrong with the records of recorded runs of a graph, the header among them
+abbrev pub trace_fault : Multigraph → List Row → Option FileFault
+trace_fault G records = records_fault trace_header (by_index (trace_row_fault G)) records
+
+-- the recorded run of each vertex that records mean: none where something is wrong with them
+abbrev pub traces_of_rows : Multigraph → List Row → Option (List (List TraceRow))
+traces_of_rows G records =
+    if is_none (trace_fault G records)
+    then Some (map (trace_in (rows_under_header records)) (range_with_len 0 G.vertices))
+    else None
+
 -- the first thing wrong with a text of recorded runs of a graph
 abbrev pub trace_text_fault : Multigraph → List ℕ → Option FileFault
-trace_text_fault G text = records_fault trace_header (by_index (trace_row_fault G)) (records_of text)
+trace_text_fault G text = trace_fault G (records_of text)
 
 -- the recorded run of each vertex that a text means: none where something is wrong with it
 abbrev pub traces_of_text : Multigraph → List ℕ → Option (List (List TraceRow))
-traces_of_text G text =
-    if is_none (trace_text_fault G text)
-    then Some (map (trace_in (rows_under_header (records_of text))) (range_with_len 0 G.vertices))
-    else None
+traces_of_text G text = traces_of_rows G (records_of text)

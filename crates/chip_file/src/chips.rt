@@ -1,15 +1,17 @@
-ghost use Rattle.std.specs.Prelude.{◌≡◌, ◌^◌, ◌≤◌, nat_le, Some, None, is_some, unwrap_or, IfSome, IfOk, OnOk, IfErr};
+ghost use Rattle.std.specs.Prelude.{◌≡◌, nat_le, Some, None, is_some, unwrap_or, IfSome, IfOk, OnOk, IfErr};
 ghost use Rattle.std.specs.Prelude.{◌+◌, length, map, sum, replicate, slice_index_or, slice_set};
 ghost use Rattle.csv.specs.Records.{fields_of};
 ghost use Rattle.chip_graph.specs.Limits.{max_total};
-ghost use Rattle.chip_file.specs.Answer.{Answers, FailsInTime, Gives, TakesAtMost, max_bytes, max_chunk};
-ghost use Rattle.chip_file.specs.ChipsText.{chips_of_text, chips_text_fault, AreNamed, row_fault, vertex_in, chips_in};
-ghost use Rattle.chip_file.specs.Rows.{records_of};
+ghost use Rattle.chip_file.specs.Answer.{Answers, FailsInTime, TakesAtMost, max_bytes, max_chunk};
+ghost use Rattle.chip_file.specs.ChipsText.{chips_fault, chips_meant, chips_of_text, chips_text_fault, AreNamed};
+ghost use Rattle.chip_file.specs.ChipsText.{row_fault, vertex_in, chips_in};
+ghost use Rattle.chip_file.specs.Pieces.{GoesOn, IsSound, reading};
+ghost use Rattle.chip_file.specs.Standing.{ComesOfRows, IsAtRow, row_reading, rows_ahead};
 
 use crate::fault::FileFault;
 use crate::number::number_at;
-use crate::rows;
-use crate::whole::read_whole;
+use crate::rows::RowReader;
+use crate::source::Source;
 use chip_graph::MAX_TOTAL;
 use csv::ByteRecord;
 use std::alloc::{AllocError, Global};
@@ -32,17 +34,27 @@ pub fn read_chips<R: Read>(
     ensures read { FailsInTime (R.remaining reader.old) (R.remaining reader.new) result }
     ensures taken { TakesAtMost (max_bytes + max_chunk) (R.remaining reader.old) (R.remaining reader.new) }
 {
-    let text = read_whole(alloc, reader)?;
-    chips_of_text(alloc, &text, vertices)
+    let mut rows = RowReader::new(alloc)?;
+    let mut source = Source::new(reader);
+    let chips = chips_of_rows(alloc, &mut source, &mut rows, vertices);
+    rows.finish(&mut source, chips)
 }
 
-/// The chips that a text means.
-fn chips_of_text(alloc: Global, text: &[u8], vertices: u64) -> Result<Vec<u64>, FileFault>
-    requires { length text.now ≤ max_bytes }
-    ensures { Gives (λ chips. chips_of_text vertices text.now ≡ Some chips.items)
-        (λ f. chips_text_fault vertices text.now ≡ Some f) result }
+/// The chips that the rows of an input mean.
+fn chips_of_rows<R: Read>(
+    alloc: Global,
+    source: &mut Source<'_, R>,
+    rows: &mut RowReader,
+    vertices: u64,
+) -> Result<Vec<u64>, FileFault>
+    requires sound { IsSound R.remaining (reading source.old rows.old.pieces) }
+    requires ready { IsAtRow (row_reading source.old rows.old) }
+    ensures on { GoesOn R.remaining (reading source.old rows.old.pieces) (reading source.new rows.new.pieces) }
+    ensures comes { ComesOfRows (λ rows chips. chips_meant vertices rows ≡ Some chips.items)
+        (λ rows f. chips_fault vertices rows ≡ Some f) (rows_ahead R.remaining (row_reading source.old rows.old))
+        (reading source.new rows.new.pieces) result }
 {
-    let named = chips_by_vertex(alloc, text, vertices)?;
+    let named = chips_by_vertex(alloc, source, rows, vertices)?;
     let chips = chips_or_none(alloc, &named)?;
     if fits_total(&chips) {
         Ok(chips)
@@ -52,19 +64,26 @@ fn chips_of_text(alloc: Global, text: &[u8], vertices: u64) -> Result<Vec<u64>, 
 }
 
 /// The chips of each vertex that a row names.
-fn chips_by_vertex(alloc: Global, text: &[u8], vertices: u64) -> Result<Vec<Option<u64>>, FileFault>
-    requires { length text.now ≤ max_bytes }
-    ensures { Gives (λ named. AreNamed vertices (records_of text.now) named.items)
-        (λ f. chips_text_fault vertices text.now ≡ Some f) result }
+fn chips_by_vertex<R: Read>(
+    alloc: Global,
+    source: &mut Source<'_, R>,
+    rows: &mut RowReader,
+    vertices: u64,
+) -> Result<Vec<Option<u64>>, FileFault>
+    requires sound { IsSound R.remaining (reading source.old rows.old.pieces) }
+    requires ready { IsAtRow (row_reading source.old rows.old) }
+    ensures on { GoesOn R.remaining (reading source.old rows.old.pieces) (reading source.new rows.new.pieces) }
+    ensures comes { ComesOfRows (λ rows named. AreNamed vertices rows named.items)
+        (λ rows f. chips_fault vertices rows ≡ Some f) (rows_ahead R.remaining (row_reading source.old rows.old))
+        (reading source.new rows.new.pieces) result }
 {
-    let mut reader = rows::records(alloc, text)?;
     let mut row = ByteRecord::new(alloc);
-    rows::read_header(&mut reader, &mut row, &HEADER)?;
+    rows.read_header(source, &mut row, &HEADER)?;
     let mut named = no_chips(alloc, vertices)?;
-    let mut index = 0;
-    while rows::read_row(&mut reader, &mut row)? {
+    let mut index = 0u64;
+    while rows.read(source, &mut row)? {
         note_row(&mut named, &row, index)?;
-        index += 1;
+        index = index.saturating_add(1);
     }
     Ok(named)
 }

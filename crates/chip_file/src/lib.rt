@@ -1,9 +1,10 @@
 //! Readers of the files that chipfire takes: graphs as JSON; chips, schedules and traces as rows of CSV.
 //!
-//! Every reader takes the whole of its input first (`read_whole`). What a text means is a definition: of a graph over
-//! the value that `serde_json` reads (`specs/GraphText.antt`), of chips, schedules and traces over the records that
-//! `csv` gives (`specs/ChipsText.antt`, `specs/ScheduleText.antt`, `specs/TraceText.antt`). A reader answers that
-//! meaning, or the first thing wrong with the text. Contracts speak of readers that tell their bytes, as a slice does.
+//! A graph is read from the whole of its input (`read_whole`), and rows are read from a piece of it at a time
+//! (`specs/Pieces.antt`). What a text means is a definition: of a graph over the value that `serde_json` reads
+//! (`specs/GraphText.antt`), of chips, schedules and traces over the records that `csv` gives
+//! (`specs/ChipsText.antt`, `specs/ScheduleText.antt`, `specs/TraceText.antt`). A reader answers that meaning, or the
+//! first thing wrong with the text. Contracts speak of readers that tell their bytes, as a slice does.
 //! `docs/FORMATS.md` shows the files.
 #![tactic(auto)]
 
@@ -19,6 +20,7 @@ mod chips;
 mod fault;
 mod graph;
 mod number;
+mod pieces;
 mod rows;
 mod schedule;
 mod source;

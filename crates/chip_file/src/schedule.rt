@@ -1,16 +1,20 @@
 //! Schedules as rows of text.
 
-ghost use Rattle.std.specs.Prelude.{◌≡◌, ◌+◌, ◌≤◌, length, map, Some, None, IfOk, IfErr, IfSome};
+ghost use Rattle.std.specs.Prelude.{◌≡◌, ◌+◌, Some, None, IfOk, IfErr, IfSome};
 ghost use Rattle.csv.specs.Records.{fields_of};
-ghost use Rattle.chip_file.specs.Answer.{Answers, FailsInTime, Gives, TakesAtMost, max_bytes, max_chunk};
+ghost use Rattle.chip_file.specs.Answer.{Answers, FailsInTime, TakesAtMost, max_bytes, max_chunk};
 ghost use Rattle.chip_file.specs.Kinds.{kind_named, kind_at};
 ghost use Rattle.chip_file.specs.ScheduleText.{event_kinds, may_be_at, event_of_kind, event_in};
-ghost use Rattle.chip_file.specs.ScheduleText.{event_fault, schedule_text_fault, schedule_of_text};
+ghost use Rattle.chip_file.specs.Pieces.{GoesOn, IsSound, reading};
+ghost use Rattle.chip_file.specs.ScheduleText.{event_fault, schedule_fault, schedule_of_rows, schedule_text_fault};
+ghost use Rattle.chip_file.specs.ScheduleText.{schedule_of_text};
+ghost use Rattle.chip_file.specs.Standing.{ComesOfRows, IsAtRow, row_reading, rows_ahead};
 
 use crate::fault::FileFault;
 use crate::number::number_at;
 use crate::rows;
-use crate::whole::read_whole;
+use crate::rows::RowReader;
+use crate::source::Source;
 use chip_graph::Graph;
 use chip_link::Event;
 use csv::ByteRecord;
@@ -113,24 +117,33 @@ pub fn read_schedule<R: Read>(
     ensures read { FailsInTime (R.remaining reader.old) (R.remaining reader.new) result }
     ensures taken { TakesAtMost (max_bytes + max_chunk) (R.remaining reader.old) (R.remaining reader.new) }
 {
-    let text = read_whole(alloc, reader)?;
-    events_of_text(alloc, &text, graph)
+    let mut rows = RowReader::new(alloc)?;
+    let mut source = Source::new(reader);
+    let events = events_of_rows(alloc, &mut source, &mut rows, graph);
+    rows.finish(&mut source, events)
 }
 
-/// The events that a text means.
-fn events_of_text(alloc: Global, text: &[u8], graph: &Graph) -> Result<Vec<Event>, FileFault>
-    requires { length text.now ≤ max_bytes }
-    ensures { Gives (λ events. schedule_of_text graph.now text.now ≡ Some events.items)
-        (λ f. schedule_text_fault graph.now text.now ≡ Some f) result }
+/// The events that the rows of an input mean.
+fn events_of_rows<R: Read>(
+    alloc: Global,
+    source: &mut Source<'_, R>,
+    rows: &mut RowReader,
+    graph: &Graph,
+) -> Result<Vec<Event>, FileFault>
+    requires sound { IsSound R.remaining (reading source.old rows.old.pieces) }
+    requires ready { IsAtRow (row_reading source.old rows.old) }
+    ensures on { GoesOn R.remaining (reading source.old rows.old.pieces) (reading source.new rows.new.pieces) }
+    ensures comes { ComesOfRows (λ rows events. schedule_of_rows graph.now rows ≡ Some events.items)
+        (λ rows f. schedule_fault graph.now rows ≡ Some f) (rows_ahead R.remaining (row_reading source.old rows.old))
+        (reading source.new rows.new.pieces) result }
 {
-    let mut reader = rows::records(alloc, text)?;
     let mut row = ByteRecord::new(alloc);
-    rows::read_header(&mut reader, &mut row, &HEADER)?;
+    rows.read_header(source, &mut row, &HEADER)?;
     let mut events = Vec::new(alloc);
-    let mut index = 0;
-    while rows::read_row(&mut reader, &mut row)? {
+    let mut index = 0u64;
+    while rows.read(source, &mut row)? {
         events.push(event_of(graph, &row, index)?)?;
-        index += 1;
+        index = index.saturating_add(1);
     }
     Ok(events)
 }

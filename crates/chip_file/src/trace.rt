@@ -1,17 +1,20 @@
 //! Recorded runs as rows of text.
 
-ghost use Rattle.std.specs.Prelude.{◌≡◌, ◌+◌, ◌≤◌, [], length, map, replicate, Some, None, IfOk, IfErr, IfSome};
+ghost use Rattle.std.specs.Prelude.{◌≡◌, ◌+◌, [], length, map, replicate, Some, None, IfOk, IfErr, IfSome};
 ghost use Rattle.csv.specs.Records.{fields_of};
-ghost use Rattle.chip_file.specs.Answer.{Answers, FailsInTime, Gives, TakesAtMost, max_bytes, max_chunk};
+ghost use Rattle.chip_file.specs.Answer.{Answers, FailsInTime, TakesAtMost, max_bytes, max_chunk};
 ghost use Rattle.chip_file.specs.Kinds.{kind_named, kind_at};
 ghost use Rattle.chip_file.specs.Numbers.{number_in};
 ghost use Rattle.chip_file.specs.TraceText.{trace_kinds, row_of_kind, names_edge, trace_row_in, trace_row_fault};
-ghost use Rattle.chip_file.specs.TraceText.{trace_text_fault, traces_of_text};
+ghost use Rattle.chip_file.specs.Pieces.{GoesOn, IsSound, reading};
+ghost use Rattle.chip_file.specs.Standing.{ComesOfRows, IsAtRow, row_reading, rows_ahead};
+ghost use Rattle.chip_file.specs.TraceText.{trace_fault, trace_text_fault, traces_of_rows, traces_of_text};
 
 use crate::fault::FileFault;
 use crate::number::number_at;
 use crate::rows;
-use crate::whole::read_whole;
+use crate::rows::RowReader;
+use crate::source::Source;
 use chip_graph::Graph;
 use chip_link::TraceRow;
 use csv::ByteRecord;
@@ -75,32 +78,37 @@ pub fn read_trace<R: Read>(
     ensures read { FailsInTime (R.remaining reader.old) (R.remaining reader.new) result }
     ensures taken { TakesAtMost (max_bytes + max_chunk) (R.remaining reader.old) (R.remaining reader.new) }
 {
-    let text = read_whole(alloc, reader)?;
-    traces_of_text(alloc, &text, graph)
+    let mut rows = RowReader::new(alloc)?;
+    let mut source = Source::new(reader);
+    let traces = traces_of_rows(alloc, &mut source, &mut rows, graph);
+    rows.finish(&mut source, traces)
 }
 
-/// The recorded runs that a text means.
-fn traces_of_text(
+/// The recorded runs that the rows of an input mean.
+fn traces_of_rows<R: Read>(
     alloc: Global,
-    text: &[u8],
+    source: &mut Source<'_, R>,
+    rows: &mut RowReader,
     graph: &Graph,
 ) -> Result<Vec<Vec<TraceRow>>, FileFault>
-    requires { length text.now ≤ max_bytes }
-    ensures means { Gives
-        (λ traces. traces_of_text graph.now text.now ≡ Some (map (λ trace. trace.items) traces.items))
-        (λ f. trace_text_fault graph.now text.now ≡ Some f) result }
+    requires sound { IsSound R.remaining (reading source.old rows.old.pieces) }
+    requires ready { IsAtRow (row_reading source.old rows.old) }
+    ensures on { GoesOn R.remaining (reading source.old rows.old.pieces) (reading source.new rows.new.pieces) }
+    ensures comes { ComesOfRows
+        (λ rows traces. traces_of_rows graph.now rows ≡ Some (map (λ trace. trace.items) traces.items))
+        (λ rows f. trace_fault graph.now rows ≡ Some f) (rows_ahead R.remaining (row_reading source.old rows.old))
+        (reading source.new rows.new.pieces) result }
     ensures each { IfOk result (λ traces. length traces.items ≡ graph.now.vertices) }
 {
-    let mut reader = rows::records(alloc, text)?;
     let mut row = ByteRecord::new(alloc);
-    rows::read_header(&mut reader, &mut row, &HEADER)?;
+    rows.read_header(source, &mut row, &HEADER)?;
     let mut traces = empty_traces(alloc, graph.vertices())?;
-    let mut index = 0;
-    while rows::read_row(&mut reader, &mut row)? {
+    let mut index = 0u64;
+    while rows.read(source, &mut row)? {
         let (vertex, recorded) = row_of(graph, &row, index)?;
         let trace = &mut traces[vertex as usize];
         trace.push(recorded)?;
-        index += 1;
+        index = index.saturating_add(1);
     }
     Ok(traces)
 }

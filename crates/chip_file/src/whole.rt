@@ -13,7 +13,7 @@ use std::io::Read;
 pub const MAX_BYTES: usize = 16_777_216;
 
 /// How many bytes are asked for at once.
-const CHUNK: usize = 65_536;
+pub(crate) const CHUNK: usize = 65_536;
 
 /// The whole of an input, and in the source how often it was read.
 ///

@@ -1,5 +1,41 @@
-use Rattle.chip_file.proofs.ReadLemmas.{in_time, trace_of_text_alone}
+use Rattle.std.proofs.Common.{◌≡◌, rules}
+use Rattle.chip_file.specs.Pieces.{reading}
+use Rattle.chip_file.specs.Source.{left}
+use Rattle.chip_file.specs.Standing.{row_reading, rows_ahead}
+use Rattle.chip_file.proofs.AheadLemmas.{fresh_ahead}
+use Rattle.chip_file.proofs.PieceLemmas.{goes_further}
+use Rattle.chip_file.proofs.ReadLemmas.{answers_text, in_time, taken_in_all}
 use Rattle.chip_file.proofs.trace.read_trace.Goals as goal
 
+pub returns-clause-means : goal.returns-clause-means
+returns-clause-means g c =
+    let new = c.in_ok-rows.ensures in
+    let rows = c.traces_of_rows-traces.ensures in
+    rw c.new-source.ensures.same at (answers_text g.R.Read.remaining _ _
+    (rows_ahead g.R.Read.remaining (row_reading c.new-source.result c.in_ok-rows.rows))
+    (reading c.new-source.result c.in_ok-rows.rows.pieces)
+    (reading c.traces_of_rows-traces.new.source c.traces_of_rows-traces.new.rows.pieces)
+    (reading c.finish.new.source c.finish.new.self.pieces) _ _
+    (fresh_ahead (left g.R.Read.remaining c.new-source.result) _ _ new.none new.carry)
+    new.taken rows.on c.finish.ensures.on rows.comes c.finish.ensures.finishes)
+
 pub returns-clause-read : goal.returns-clause-read
-returns-clause-read g c = in_time _ _ _ _ _ c.traces_of_text.ensures.means (trace_of_text_alone c.args.graph.now _)
+returns-clause-read g c =
+    let new = c.in_ok-rows.ensures in
+    let rows = c.traces_of_rows-traces.ensures in
+    let fact = rw c.new-source.ensures.same at (in_time g.R.Read.remaining _ _
+    (rows_ahead g.R.Read.remaining (row_reading c.new-source.result c.in_ok-rows.rows))
+    (reading c.new-source.result c.in_ok-rows.rows.pieces)
+    (reading c.traces_of_rows-traces.new.source c.traces_of_rows-traces.new.rows.pieces)
+    (reading c.finish.new.source c.finish.new.self.pieces) _ _
+    new.taken rows.on c.finish.ensures.on rows.comes c.finish.ensures.finishes) in
+    search rules
+
+pub returns-clause-taken : goal.returns-clause-taken
+returns-clause-taken g c =
+    let new = c.in_ok-rows.ensures in
+    let rows = c.traces_of_rows-traces.ensures in
+    let back : c.reader-1.given.0 ≡ c.finish.new.source.reader.now = search rules in
+    rw back (rw c.new-source.ensures.same at (taken_in_all g.R.Read.remaining
+    (reading c.new-source.result c.in_ok-rows.rows.pieces) (reading c.finish.new.source c.finish.new.self.pieces)
+    (goes_further g.R.Read.remaining _ _ _ rows.on c.finish.ensures.on) new.taken))

@@ -1,0 +1,47 @@
+-- Serves Standing.antt, Pieces.antt.
+-- The rows that are ahead, as one piece follows another.
+use Rattle.std.proofs.Common.{◌≡◌, ℕ, ◌+◌, ◌<◌, List, [], ◌++◌, length, Option, None, Some}
+use Rattle.std.proofs.Common.{refl, ap, arith}
+use Rattle.std.specs.Prelude.{option_map}
+use Rattle.std.specs.Io.KnownBytes.{prepend_known}
+use Rattle.chip_file.specs.Pieces.{SplitsRows}
+use Rattle.chip_file.specs.Rows.{Row, records_of}
+use Rattle.chip_file.proofs.RowLemmas.{few_records}
+
+-- where the piece at hand has no row left, the rows of the next one come
+pub ahead_on : (left now : List Row) (unread after : Option (List Row)) (piece : List ℕ) → left ≡ []
+    → now ≡ records_of piece
+    → SplitsRows unread piece after
+    → (rows : List Row) → option_map (λ rows. left ++ rows) unread ≡ Some rows
+    → option_map (λ rows. now ++ rows) after ≡ Some rows
+ahead_on left now None after piece none is split rows known = cc known
+ahead_on left now (Some xs) after piece none is split rows known =
+    let found = split xs refl in
+    let same : Some xs ≡ Some rows = rw none at known in
+    rw (found.1, is, ← found.2) same
+
+-- where no piece comes, no row is ahead
+pub none_ahead : (left now : List Row) (unread after : Option (List Row)) → left ≡ [] → after ≡ unread
+    → ((rows : List Row) → unread ≡ Some rows → rows ≡ [])
+    → (rows : List Row) → option_map (λ rows. left ++ rows) unread ≡ Some rows
+    → (rest : List Row) × (option_map (λ rows. now ++ rows) after ≡ Some rest) × (rows ≡ [])
+none_ahead left now None after none same end rows known = cc known
+none_ahead left now (Some xs) after none same end rows known =
+    let all : Some xs ≡ Some rows = rw none at known in
+    (now ++ xs, rw same refl, end rows all)
+
+-- the rows of a piece are fewer than its bound
+pub fewer_ahead : (before after : ℕ) (left now : List Row) (piece : List ℕ) → after + length piece + 1 < before
+    → now ≡ records_of piece
+    → after + length now < before + length left
+fewer_ahead before after left now piece due is =
+    let few = few_records piece in
+    let many = ap length is in
+    omega arith
+
+-- of an input of which nothing was read yet, all rows are ahead
+pub fresh_ahead : (input : Option (List ℕ)) (left : List Row) (carry : List ℕ) → left ≡ [] → carry ≡ []
+    → option_map (λ rows. left ++ rows) (option_map records_of (prepend_known carry input))
+    ≡ option_map records_of input
+fresh_ahead None left carry none empty = refl
+fresh_ahead (Some text) left carry none empty = rw (none, empty) refl

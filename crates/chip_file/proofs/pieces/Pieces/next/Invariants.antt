@@ -1,0 +1,18 @@
+use Rattle.std.proofs.Common.{◌≡◌, ◌-◌, ◌+◌, ◌≤◌, ℕ, List, Some, true}
+use Rattle.chip_file.specs.Answer.{max_bytes}
+use Rattle.chip_file.specs.Source.{goes_on, last_read}
+use Rattle.chip_file.specs.Pieces.{GoesOn, IsReady, reading, rows_due, unread}
+use Rattle.chip_file.proofs.pieces.Pieces.next.Given as goal
+
+abbrev pub invariant-loop-self : goal.invariant-loop-self
+invariant-loop-self g l = record {
+  on : GoesOn g.R.Read.remaining (reading l.initial.source l.initial.self) (reading l.source l.self);
+  ready : IsReady (reading l.source l.self);
+  more : goes_on (last_read l.source) ≡ true;
+  kept : (text : List ℕ) → unread g.R.Read.remaining (reading l.initial.source l.initial.self) ≡ Some text
+      → unread g.R.Read.remaining (reading l.source l.self) ≡ Some text;
+  due : rows_due (reading l.source l.self) ≤ rows_due (reading l.initial.source l.initial.self);
+}
+
+abbrev pub decreases-loop-self : goal.decreases-loop-self
+decreases-loop-self g l = max_bytes + 1 - l.self.taken

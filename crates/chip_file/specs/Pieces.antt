@@ -1,0 +1,109 @@
+-- The pieces of a text of rows, and what was read of an input for them.
+use Rattle.std.specs.Prelude.{◌≡◌, ◌≢◌, ◌⊎◌, ℕ, ◌+◌, ◌*◌, ◌-◌, ◌<◌, ◌≤◌, ◌==◌, Bool, true, false, if◌then◌else◌, List}
+use Rattle.std.specs.Prelude.{[], ◌∷◌, ◌++◌, length, take, drop, Option, None, Some, option_map}
+use Rattle.std.specs.Global.{Vec}
+use Rattle.std.specs.List.{list_any}
+use Rattle.std.specs.Io.KnownBytes.{Consumes, IsAtEnd, prepend_known}
+use Rattle.chip_file.specs.declared.fault.FileFault.{FileFault}
+use Rattle.chip_file.specs.declared.fault.FileFault.TheVariants as fault
+use Rattle.chip_file.specs.declared.pieces.Pieces.{Pieces}
+use Rattle.chip_file.specs.declared.source.LastRead.{LastRead}
+use Rattle.chip_file.specs.declared.source.LastRead.TheVariants as last
+use Rattle.chip_file.specs.declared.source.Source.{Source}
+use Rattle.chip_file.specs.Answer.{max_bytes, max_chunk}
+use Rattle.chip_file.specs.Rows.{Row, records_of}
+use Rattle.chip_file.specs.Source.{goes_on, last_read, left, reads}
+
+-- whether one of the bytes is a quote
+abbrev pub has_quote : List ℕ → Bool
+has_quote bytes = list_any (λ byte. byte == 34) bytes
+
+-- a line ends at this place of the bytes
+abbrev pub EndsLine : List ℕ → ℕ → Type 0
+EndsLine bytes end = (end < length bytes) × (bytes ≡ take end bytes ++ 10 ∷ drop (end + 1) bytes)
+
+-- how a read went that gave so many bytes
+abbrev pub kind_of_read : ℕ → LastRead
+kind_of_read count = if count == 0 then last.End else last.Bytes
+
+-- a source and the pieces that are made of it: how many bytes were read, those that no piece has yet, and whether a
+-- quote was read
+pub record Reading (R : Type 0) : Type 0 where
+  pub source : Source R
+  pub taken : ℕ
+  pub carry : Vec ℕ
+  pub quoted : Bool
+
+-- a source, and where its pieces stand
+abbrev pub reading : {R : Type 0} → Source R → Pieces → Reading R
+reading source pieces =
+    record { source = source; taken = pieces.taken; carry = pieces.carry; quoted = pieces.quoted }
+
+-- the bytes that no piece has yet, where they are known
+abbrev pub unread : {R : Type 0} → (R → Option (List ℕ)) → Reading R → Option (List ℕ)
+unread remaining pieces = prepend_known pieces.carry.items (left remaining pieces.source)
+
+-- the rows that no piece has yet, where they are known
+abbrev pub rows_unread : {R : Type 0} → (R → Option (List ℕ)) → Reading R → Option (List Row)
+rows_unread remaining pieces = option_map records_of (unread remaining pieces)
+
+-- the bytes that were read are counted, and they are few
+pub record IsSound {R : Type 0} (remaining : R → Option (List ℕ)) (pieces : Reading R) : Type 0 where
+  pub few : goes_on (last_read pieces.source) ≡ true → reads pieces.source ≤ pieces.taken
+  pub most : pieces.taken ≤ max_bytes + max_chunk
+  pub ended : last_read pieces.source ≡ last.End → IsAtEnd (left remaining pieces.source) × (pieces.taken ≤ max_bytes)
+  pub failed : last_read pieces.source ≡ last.Failure → pieces.taken ≤ max_bytes
+
+-- the next piece may be asked for: no read failed, nothing is carried over the end, and a carried quote is noted
+pub record IsReady {R : Type 0} (pieces : Reading R) : Type 0 where
+  pub alive : last_read pieces.source ≢ last.Failure
+  pub done : last_read pieces.source ≡ last.End → pieces.carry.items ≡ []
+  pub plain : pieces.quoted ≡ false → has_quote pieces.carry.items ≡ false
+
+-- some bytes more were read of the same input, and counted
+pub record GoesOn {R : Type 0} (remaining : R → Option (List ℕ)) (old new : Reading R) : Type 0 where
+  pub lent : new.source.reader.ghost_name ≡ old.source.reader.ghost_name
+  pub sound : IsSound remaining new
+  pub took : (bytes : List ℕ) × Consumes (left remaining old.source) (left remaining new.source) bytes
+      × (new.taken ≡ old.taken + length bytes)
+
+-- why there is no further piece: memory ran out, the last read failed, or too many bytes came
+abbrev pub IsStopped : {R : Type 0} → FileFault → Reading R → Type 0
+IsStopped f pieces =
+    (f ≡ fault.NoMemory)
+    ⊎ ((f ≡ fault.Read) × (last_read pieces.source ≡ last.Failure))
+    ⊎ ((f ≡ fault.TooLong) × (max_bytes < pieces.taken))
+
+-- the input was read to its end, but for one of which a read failed before
+abbrev pub IsOver : {R : Type 0} → Reading R → Reading R → Type 0
+IsOver old new =
+    (last_read old.source ≡ last.Failure → last_read new.source ≡ last.Failure)
+    × (last_read old.source ≢ last.Failure → last_read new.source ≡ last.End)
+
+-- the bytes are carried on, or a piece was cut off them before the end of a line; whether a quote is carried is noted
+abbrev pub CutsInto : List ℕ → Option (List ℕ) → List ℕ → Bool → Type 0
+CutsInto bytes None carry quoted = (carry ≡ bytes) × (quoted ≡ false → has_quote carry ≡ false)
+CutsInto bytes (Some piece) carry quoted =
+    (2 ≤ length piece) × (has_quote piece ≡ false)
+    × (tail : List ℕ) × (carry ≡ 10 ∷ tail) × (bytes ≡ piece ++ 10 ∷ tail)
+    × (quoted ≡ false → has_quote carry ≡ false)
+
+-- a bound on the rows that further pieces have
+abbrev pub rows_due : {R : Type 0} → Reading R → ℕ
+rows_due pieces =
+    2 * (max_bytes + max_chunk - pieces.taken + length pieces.carry.items)
+    + (if goes_on (last_read pieces.source) then 2 else 0)
+
+-- the rows of the text are those of the piece, and those that follow
+abbrev pub SplitsRows : Option (List Row) → List ℕ → Option (List Row) → Type 0
+SplitsRows old piece new =
+    (rows : List Row) → old ≡ Some rows → (rest : List Row) × (new ≡ Some rest) × (rows ≡ records_of piece ++ rest)
+
+-- what asking for a piece gives: none where the input has ended, or the rows that come next
+abbrev pub GivesPiece : {R : Type 0} → (R → Option (List ℕ)) → Reading R → Reading R → Option (List ℕ) → Type 0
+GivesPiece remaining old new None =
+    (new ≡ old) × (last_read new.source ≡ last.End)
+    × ((rows : List Row) → rows_unread remaining old ≡ Some rows → rows ≡ [])
+GivesPiece remaining old new (Some piece) =
+    IsReady new × (rows_due new + length piece + 1 < rows_due old)
+    × SplitsRows (rows_unread remaining old) piece (rows_unread remaining new)

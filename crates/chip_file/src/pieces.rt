@@ -1,0 +1,167 @@
+//! The pieces of a text of rows, as an input gives them.
+
+ghost use Rattle.std.specs.Prelude.{◌≡◌, ◌+◌, ◌<◌, ◌≤◌, [], ⊤, true, false, length, take, option_map, IfOk, IfErr};
+ghost use Rattle.std.specs.Prelude.{OnOk, MatchOption, not, ◌++◌};
+ghost use Rattle.std.specs.Io.KnownBytes.{Consumes};
+ghost use Rattle.chip_file.specs.Answer.{max_bytes, max_chunk};
+ghost use Rattle.chip_file.specs.Pieces.{CutsInto, EndsLine, GivesPiece, GoesOn, IsOver, IsReady, IsSound, IsStopped};
+ghost use Rattle.chip_file.specs.Pieces.{has_quote, kind_of_read, reading};
+ghost use Rattle.chip_file.specs.Source.{goes_on, last_read, left};
+ghost use Rattle.chip_file.specs.declared.source.LastRead.TheVariants as last;
+
+use crate::fault::FileFault;
+use crate::source::{LastRead, Source};
+use crate::whole::{CHUNK, MAX_BYTES};
+use std::alloc::{AllocError, Global};
+use std::io::Read;
+use std::mem;
+
+/// How many bytes a piece has at least, but for the last one.
+const PIECE: usize = 32_768;
+
+/// The text of an input, a piece at a time.
+///
+/// Each piece but the last ends where a line ends. A quote may hide the end of a line, so all that follows a quote is
+/// one piece.
+#[derive(Drop)]
+pub(crate) struct Pieces {
+    alloc: Global,
+    /// How many bytes were read.
+    taken: usize,
+    /// The bytes that were read and that no piece has yet.
+    carry: Vec<u8>,
+    /// Whether a quote was read.
+    quoted: bool,
+}
+
+impl Pieces {
+    /// The pieces of an input of which nothing was read yet.
+    pub(crate) fn new(alloc: Global) -> Pieces
+        ensures none { result.taken ≡ 0 }
+        ensures empty { result.carry.items ≡ [] }
+        ensures plain { result.quoted ≡ false }
+    {
+        Pieces {
+            alloc,
+            taken: 0,
+            carry: Vec::new(alloc),
+            quoted: false,
+        }
+    }
+
+    /// The next piece, if there is one.
+    ///
+    /// After a read that failed, or more bytes than an input has, there is none.
+    pub(crate) fn next<R: Read>(
+        &mut self,
+        source: &mut Source<'_, R>,
+    ) -> Result<Option<Vec<u8>>, FileFault>
+        requires sound { IsSound R.remaining (reading source.old self.old) }
+        requires ready { IsReady (reading source.old self.old) }
+        ensures on { GoesOn R.remaining (reading source.old self.old) (reading source.new self.new) }
+        ensures piece { IfOk result (λ piece.
+            GivesPiece R.remaining (reading source.old self.old) (reading source.new self.new)
+            (option_map (λ bytes. bytes.items) piece)) }
+        ensures stopped { IfErr result (λ f. IsStopped f (reading source.new self.new)) }
+    {
+        if source.last_read() == LastRead::End {
+            return Ok(None);
+        }
+        let mut chunk = [0u8; CHUNK];
+        while self.taken <= MAX_BYTES {
+            let count = self.read(source, &mut chunk)?;
+            if count == 0 {
+                let rest = mem::replace(&mut self.carry, Vec::new(self.alloc));
+                return Ok(Some(rest));
+            }
+            if let Some(piece) = self.cut(&chunk[..count])? {
+                return Ok(Some(piece));
+            }
+        }
+        Err(FileFault::TooLong)
+    }
+
+    /// Reads what is left of the input, and forgets it.
+    pub(crate) fn read_rest<R: Read>(&mut self, source: &mut Source<'_, R>) -> Result<(), FileFault>
+        requires { IsSound R.remaining (reading source.old self.old) }
+        ensures on { GoesOn R.remaining (reading source.old self.old) (reading source.new self.new) }
+        ensures over { OnOk result (IsOver (reading source.old self.old) (reading source.new self.new)) }
+        ensures stopped { IfErr result (λ f. IsStopped f (reading source.new self.new)) }
+    {
+        let mut chunk = [0u8; CHUNK];
+        while self.taken <= MAX_BYTES {
+            if source.last_read().is_over() || self.read(source, &mut chunk)? == 0 {
+                return Ok(());
+            }
+        }
+        Err(FileFault::TooLong)
+    }
+
+    /// Makes one read, and counts its bytes.
+    fn read<R: Read>(
+        &mut self,
+        source: &mut Source<'_, R>,
+        chunk: &mut [u8],
+    ) -> Result<usize, FileFault>
+        requires sound { IsSound R.remaining (reading source.old self.old) }
+        requires more { goes_on (last_read source.old) ≡ true }
+        requires few { self.old.taken ≤ max_bytes }
+        requires room { 0 < length chunk.old }
+        requires within { length chunk.old ≤ max_chunk }
+        ensures on { GoesOn R.remaining (reading source.old self.old) (reading source.new self.new) }
+        ensures count { IfOk result (λ count. count ≤ length chunk.new) }
+        ensures taken { IfOk result (λ count. self.new.taken ≡ self.old.taken + count) }
+        ensures bytes { IfOk result (λ count.
+            Consumes (left R.remaining source.old) (left R.remaining source.new) (take count chunk.new)) }
+        ensures noted { IfOk result (λ count. last_read source.new ≡ kind_of_read count) }
+        ensures carry { self.new.carry ≡ self.old.carry }
+        ensures quoted { self.new.quoted ≡ self.old.quoted }
+        ensures stopped { IfErr result (λ f. IsStopped f (reading source.new self.new)) }
+    {
+        let count = source.read(chunk).map_err(|_| FileFault::Read)?;
+        self.taken += count;
+        Ok(count)
+    }
+
+    /// Takes the bytes that came, and gives a piece if there are enough for one.
+    fn cut(&mut self, came: &[u8]) -> Result<Option<Vec<u8>>, AllocError>
+        requires { self.old.quoted ≡ false → has_quote self.old.carry.items ≡ false }
+        ensures taken { self.new.taken ≡ self.old.taken }
+        ensures cut { IfOk result (λ piece.
+            CutsInto (self.old.carry.items ++ came.now) (option_map (λ bytes. bytes.items) piece)
+            self.new.carry.items self.new.quoted) }
+    {
+        self.quoted |= has_quote(came);
+        match self.line_end(came) {
+            Some(end) => {
+                let (last, next) = came.split_at(end);
+                self.carry.extend_from_slice(last)?;
+                let mut carry = Vec::new(self.alloc);
+                carry.extend_from_slice(next)?;
+                Ok(Some(mem::replace(&mut self.carry, carry)))
+            }
+            None => {
+                self.carry.extend_from_slice(came)?;
+                Ok(None)
+            }
+        }
+    }
+
+    /// Where a piece may end in the bytes that came: before a line feed, if there was no quote and enough came before.
+    fn line_end(&self, came: &[u8]) -> Option<usize>
+        ensures { MatchOption result ⊤ (λ end. (self.now.quoted ≡ false) × (2 ≤ length self.now.carry.items)
+            × EndsLine came.now end) }
+    {
+        if self.quoted || self.carry.len() < PIECE {
+            return None;
+        }
+        came.iter().position(|byte| *byte == b'\n')
+    }
+}
+
+/// Whether one of the bytes is a quote.
+fn has_quote(bytes: &[u8]) -> bool
+    ensures { result ≡ has_quote bytes.now }
+{
+    bytes.contains(&b'"')
+}

@@ -10,6 +10,8 @@ mod report;
 #[cfg(test)]
 mod runs;
 #[cfg(test)]
+mod seams;
+#[cfg(test)]
 mod sittings;
 #[cfg(test)]
 mod trace;

@@ -24,7 +24,7 @@ const SEALED_HALF_WAY_EVENTS: [Event; 9] = [
 ];
 
 /// What is read of a schedule of the triangle.
-fn read_events<R: Read>(alloc: Global, reader: &mut R) -> Result<Vec<Event>, FileFault> {
+pub(crate) fn read_events<R: Read>(alloc: Global, reader: &mut R) -> Result<Vec<Event>, FileFault> {
     let graph = triangle(alloc)?;
     read_schedule(alloc, reader, &graph)
 }

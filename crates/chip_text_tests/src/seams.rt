@@ -1,0 +1,182 @@
+//! Rows that come in pieces: whatever a read gives, and wherever a piece ends, the rows are those of the whole text.
+
+use crate::file::Slow;
+use crate::runs::{events_of, read_events};
+use chip_file::{FileFault, MAX_BYTES};
+use chip_link::Event;
+use std::alloc::{AllocError, Global};
+use std::io;
+use std::io::Read;
+
+/// The header of a schedule.
+const HEADER: &str = "event,at,count";
+
+/// So many rows take several pieces.
+const ROWS: u64 = 9_000;
+
+/// Gives so many bytes at each read.
+#[derive(Drop)]
+struct Steps<'t> {
+    text: &'t [u8],
+    step: usize,
+}
+
+impl Read for Steps<'_> {
+    fn read(&mut self, buf: &mut [u8]) -> io::Result<usize> {
+        let count = self.text.len().min(buf.len()).min(self.step);
+        buf[..count].copy_from_slice(&self.text[..count]);
+        self.text = &self.text[count..];
+        Ok(count)
+    }
+}
+
+/// A header and rows of feeds, the counts from 0 on, with this behind each.
+fn counted_rows(alloc: Global, line_end: &str) -> Result<String, AllocError> {
+    let mut text = String::new(alloc);
+    text.push_str(HEADER)?;
+    text.push_str(line_end)?;
+    for count in 0..ROWS {
+        write!(text, "feed,0,{count}{line_end}")?;
+    }
+    Ok(text)
+}
+
+/// The same, and another text behind it.
+fn counted_rows_and(alloc: Global, rest: &str) -> Result<String, AllocError> {
+    let mut text = counted_rows(alloc, "\n")?;
+    text.push_str(rest)?;
+    Ok(text)
+}
+
+/// What is read of the text, so many bytes at each read.
+fn events_by_steps(alloc: Global, text: &str, step: usize) -> Result<Vec<Event>, FileFault> {
+    let mut steps = Steps {
+        text: text.as_bytes(),
+        step,
+    };
+    read_events(alloc, &mut steps)
+}
+
+/// Whether these are the events of so many counted rows.
+fn are_counted(events: &[Event], rows: u64) -> bool {
+    for (row, event) in events.iter().enumerate() {
+        let count = row as u64;
+        if *event != (Event::Feed { edge: 0, count }) {
+            return false;
+        }
+    }
+    events.len() as u64 == rows
+}
+
+#[test]
+fn a_read_may_end_anywhere_in_a_row(rt: HostRuntime) {
+    let text = counted_rows(rt.alloc(), "\n").expect(&rt, "memory");
+    for step in 32_752..32_784usize {
+        let events = events_by_steps(rt.alloc(), &text, step).expect(&rt, "events");
+        assert!(rt; are_counted(&events, ROWS), "{step}");
+    }
+}
+
+#[test]
+fn rows_come_in_reads_of_all_sizes(rt: HostRuntime) {
+    let text = counted_rows(rt.alloc(), "\n").expect(&rt, "memory");
+    for step in [1, 2, 11, 4_096, 65_535, 65_536, 1_048_576] {
+        let events = events_by_steps(rt.alloc(), &text, step).expect(&rt, "events");
+        assert!(rt; are_counted(&events, ROWS), "{step}");
+    }
+}
+
+#[test]
+fn a_read_may_end_between_carriage_return_and_line_feed(rt: HostRuntime) {
+    let text = counted_rows(rt.alloc(), "\r\n").expect(&rt, "memory");
+    for step in 32_752..32_784usize {
+        let events = events_by_steps(rt.alloc(), &text, step).expect(&rt, "events");
+        assert!(rt; are_counted(&events, ROWS), "{step}");
+    }
+}
+
+#[test]
+fn rows_may_end_in_carriage_returns_alone(rt: HostRuntime) {
+    let text = counted_rows(rt.alloc(), "\r").expect(&rt, "memory");
+    let events = events_by_steps(rt.alloc(), &text, 4_096).expect(&rt, "events");
+    assert!(rt; are_counted(&events, ROWS));
+}
+
+#[test]
+fn the_last_row_needs_no_line_end(rt: HostRuntime) {
+    let text = counted_rows_and(rt.alloc(), "feed,0,9000").expect(&rt, "memory");
+    let events = events_by_steps(rt.alloc(), &text, 4_096).expect(&rt, "events");
+    assert!(rt; are_counted(&events, 9_001));
+}
+
+#[test]
+fn a_quoted_line_feed_ends_no_row(rt: HostRuntime) {
+    let text = counted_rows_and(rt.alloc(), "feed,0,\"1\n2\"\nfeed,0,1,1\n").expect(&rt, "memory");
+    for step in [1, 4_096, 65_536] {
+        let found = events_by_steps(rt.alloc(), &text, step).err();
+        assert!(rt;
+            found == Some(FileFault::Number(9_000)),
+            "{step}: {found:?}"
+        );
+    }
+}
+
+#[test]
+fn rows_after_a_quote_are_read(rt: HostRuntime) {
+    let mut text = counted_rows_and(rt.alloc(), "\"feed\",0,9000\n").expect(&rt, "memory");
+    for count in 9_001..20_000u64 {
+        write!(text, "feed,\"0\",{count}\n").expect(&rt, "memory");
+    }
+    for step in [4_096, 65_536] {
+        let events = events_by_steps(rt.alloc(), &text, step).expect(&rt, "events");
+        assert!(rt; are_counted(&events, 20_000), "{step}");
+    }
+}
+
+#[test]
+fn a_byte_order_mark_is_none_behind_the_start(rt: HostRuntime) {
+    let text = counted_rows_and(rt.alloc(), "\u{feff}feed,0,1\n").expect(&rt, "memory");
+    for step in [1, 11, 4_096, 65_536] {
+        let found = events_by_steps(rt.alloc(), &text, step).err();
+        assert!(rt; found == Some(FileFault::Kind(9_000)), "{step}: {found:?}");
+    }
+}
+
+#[test]
+fn a_byte_order_mark_may_come_in_several_reads(rt: HostRuntime) {
+    for step in [1, 2, 3, 4] {
+        let events = events_by_steps(rt.alloc(), "\u{feff}event,at,count\nend,0,0\n", step).expect(
+            &rt, "events",
+        );
+        assert!(rt; events.as_slice() == [Event::End].as_slice(), "{step}");
+    }
+}
+
+/// A wrong row, and empty lines up to so many bytes.
+fn wrong_row_and_lines(alloc: Global, bytes: usize) -> Result<String, AllocError> {
+    let mut text = String::new(alloc);
+    text.push_str("event,at,count\nfeed,0\n")?;
+    for _ in text.len()..bytes {
+        text.push('\n')?;
+    }
+    Ok(text)
+}
+
+#[test]
+fn a_text_of_the_greatest_length_has_its_fault(rt: HostRuntime) {
+    let text = wrong_row_and_lines(rt.alloc(), MAX_BYTES).expect(&rt, "memory");
+    assert!(rt; events_of(rt.alloc(), text.as_bytes()).err() == Some(FileFault::Row(0)));
+}
+
+#[test]
+fn a_text_that_is_too_long_has_no_other_fault(rt: HostRuntime) {
+    let text = wrong_row_and_lines(rt.alloc(), MAX_BYTES + 1).expect(&rt, "memory");
+    assert!(rt; events_of(rt.alloc(), text.as_bytes()).err() == Some(FileFault::TooLong));
+}
+
+#[test]
+fn a_read_that_fails_behind_a_wrong_row_is_told(rt: HostRuntime) {
+    let text = wrong_row_and_lines(rt.alloc(), 100_000).expect(&rt, "memory");
+    let found = read_events(rt.alloc(), &mut Slow::new(text.as_bytes(), Some(100_000))).err();
+    assert!(rt; found == Some(FileFault::Read), "{found:?}");
+}

@@ -10,7 +10,8 @@ use Rattle.chip_graph.specs.declared.edge.Edge.{Edge}
 use Rattle.chip_graph.specs.declared.fault.GraphFault.{GraphFault}
 use Rattle.chip_graph.specs.declared.fault.GraphFault.TheVariants as graph_fault
 use Rattle.chip_graph.specs.Ends.{edge_of}
-use Rattle.chip_graph.specs.Multigraph.{Multigraph, IsEdge, IsGraph}
+use Rattle.chip_graph.specs.Limits.{SizeLimits}
+use Rattle.chip_graph.specs.Multigraph.{Multigraph, IsEdge, IsGraphWithin}
 use Rattle.chip_graph.specs.Faults.{first_of_faults, unless, fault_of_edge, fault_of_edges, fault_of_rows, IsUnreached}
 use Rattle.chip_graph.specs.Faults.{IsGraphFault}
 
@@ -42,13 +43,13 @@ edges_none vertices sink i (edge ∷ edges) ok =
     (edge_none vertices sink i edge (ok 0 (omega arith)))
     ∙ edges_none vertices sink (suc i) edges (λ e l. ok (suc e) (omega arith))
 
-rows_none : (G : Multigraph) → IsGraph G → fault_of_rows G ≡ None
-rows_none G ok =
-    after (ltb 0 G.vertices && leb G.vertices 4096) graph_fault.Vertices _
-    (and_from _ _ (lt-ltb 0 _ ok.some_vertex) (le-leb _ 4096 ok.few_vertices))
-    ∙ after (ltb G.sink G.vertices) graph_fault.Sink _ (lt-ltb _ _ ok.sink_is_vertex)
-    ∙ after (leb (length G.edges) 65536) graph_fault.EdgeCount _ (le-leb _ 65536 ok.few_edges)
-    ∙ edges_none G.vertices G.sink 0 G.edges ok.edges_fit
+rows_none : (limits : SizeLimits) (G : Multigraph) → IsGraphWithin limits G → fault_of_rows limits G ≡ None
+rows_none limits G ok =
+    after (ltb 0 G.vertices && leb G.vertices limits.vertices) graph_fault.Vertices _
+    (and_from _ _ (lt-ltb 0 _ ok.graph.some_vertex) (le-leb _ limits.vertices ok.within_vertices))
+    ∙ after (ltb G.sink G.vertices) graph_fault.Sink _ (lt-ltb _ _ ok.graph.sink_is_vertex)
+    ∙ after (leb (length G.edges) limits.edges) graph_fault.EdgeCount _ (le-leb _ limits.edges ok.within_edges)
+    ∙ edges_none G.vertices G.sink 0 G.edges ok.graph.edges_fit
 
 -- the least vertex without a walk is one
 same_unreached : (G : Multigraph) (v w : ℕ) → IsUnreached G v → IsUnreached G w → v ≡ w
@@ -59,17 +60,17 @@ same_unreached G v w at_v at_w = dite (dec_lt v w)
 some_none : (o : Option GraphFault) (fault : GraphFault) → o ≡ Some fault → o ≡ None → ⊥
 some_none o fault is none = cc
 
-pub one_answer_lem : (G : Multigraph) (fault : GraphFault) → IsGraphFault G fault
-    → (IsGraph G → ⊥) × ((other : GraphFault) → IsGraphFault G other → other ≡ fault)
-one_answer_lem G fault of = (
-  λ ok. ⊎_elim (λ is. some_none (fault_of_rows G) fault is (rows_none G ok))
-      (λ missing. missing.3.unreached (ok.all_reach missing.1 missing.3.is_vertex)) of,
+pub one_answer_lem : (limits : SizeLimits) (G : Multigraph) (fault : GraphFault) → IsGraphFault limits G fault
+    → (IsGraphWithin limits G → ⊥) × ((other : GraphFault) → IsGraphFault limits G other → other ≡ fault)
+one_answer_lem limits G fault of = (
+  λ ok. ⊎_elim (λ is. some_none (fault_of_rows limits G) fault is (rows_none limits G ok))
+      (λ missing. missing.1.2.unreached (ok.graph.all_reach missing.1.0 missing.1.2.is_vertex)) of,
   λ other also. ⊎_elim
-      (λ is. ⊎_elim (λ is'. cc) (λ missing. absurd (some_none (fault_of_rows G) fault is missing.0)) also)
+      (λ is. ⊎_elim (λ is'. cc) (λ missing. absurd (some_none (fault_of_rows limits G) fault is missing.0)) also)
       (λ missing. ⊎_elim
-      (λ is'. absurd (some_none (fault_of_rows G) other is' missing.0))
-      (λ missing'. missing'.2 ∙ ap graph_fault.Unreached (same_unreached G missing'.1 missing.1 missing'.3 missing.3)
-      ∙ sym missing.2)
+      (λ is'. absurd (some_none (fault_of_rows limits G) other is' missing.0))
+      (λ missing'. missing'.1.1
+      ∙ ap graph_fault.Unreached (same_unreached G missing'.1.0 missing.1.0 missing'.1.2 missing.1.2) ∙ sym missing.1.1)
       also)
       of,
 )

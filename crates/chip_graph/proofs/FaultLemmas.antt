@@ -12,7 +12,8 @@ use Rattle.chip_graph.specs.declared.edge.End.{End}
 use Rattle.chip_graph.specs.declared.edge.End.TheVariants.{Tail, Head}
 use Rattle.chip_graph.specs.declared.fault.GraphFault.TheVariants as graph_fault
 use Rattle.chip_graph.specs.Ends.{end_of, edge_of}
-use Rattle.chip_graph.specs.Multigraph.{Multigraph, IsEdge, IsGraph, ReachesSink, edge_at}
+use Rattle.chip_graph.specs.Limits.{SizeLimits, AreLimits}
+use Rattle.chip_graph.specs.Multigraph.{Multigraph, IsEdge, IsGraphWithin, ReachesSink, edge_at}
 use Rattle.chip_graph.specs.Faults.{first_of_faults, unless, refusal, fault_of_edge, fault_of_edges, fault_of_rows}
 
 module _ {F : Type 0} where
@@ -54,38 +55,43 @@ edges_ok vertices sink i (edge ∷ edges) is zero l = edge_ok vertices sink i ed
 edges_ok vertices sink i (edge ∷ edges) is (suc e) l = edges_ok vertices sink (suc i) edges (none_of _ _ is).1 e
     (omega arith)
 
-module _ (G : Multigraph) (is : fault_of_rows G ≡ None) where
-  pub rows_vertices : (0 < G.vertices) × (G.vertices ≤ 4096)
+module _ (limits : SizeLimits) (G : Multigraph) (is : fault_of_rows limits G ≡ None) where
+  pub rows_vertices : (0 < G.vertices) × (G.vertices ≤ limits.vertices)
   rows_vertices = let both = and_parts _ _ (passed _ _ (none_of _ _ is).0) in (ltb-true _ _ both.0, leb-true _ _ both.1)
 
   pub rows_sink : G.sink < G.vertices
   rows_sink = ltb-true _ _ (passed _ _ (none_of _ _ (none_of _ _ is).1).0)
 
-  pub rows_few : length G.edges ≤ 65536
+  pub rows_few : length G.edges ≤ limits.edges
   rows_few = leb-true _ _ (passed _ _ (none_of _ _ (none_of _ _ (none_of _ _ is).1).1).0)
 
   rows_edges : fault_of_edges G.vertices G.sink 0 G.edges ≡ None
   rows_edges =
-      let sink = (none_of (unless (ltb 0 G.vertices && leb G.vertices 4096) graph_fault.Vertices) _ is).1 in
+      let sink = (none_of (unless (ltb 0 G.vertices && leb G.vertices limits.vertices) graph_fault.Vertices) _ is).1 in
       let count = (none_of (unless (ltb G.sink G.vertices) graph_fault.Sink) _ sink).1 in
-      (none_of (unless (leb (length G.edges) 65536) graph_fault.EdgeCount) _ count).1
+      (none_of (unless (leb (length G.edges) limits.edges) graph_fault.EdgeCount) _ count).1
 
   pub rows_edge : (e : ℕ) → e < length G.edges → IsEdge G.vertices G.sink (edge_at G e)
   rows_edge = edges_ok G.vertices G.sink 0 G.edges rows_edges
 
-  pub rows_end : (end : End) (e : ℕ) → e < length G.edges → end_of end (edge_at G e) < G.vertices
-  rows_end Tail e l = (rows_edge e l).tail_is_vertex
-  rows_end Head e l = (rows_edge e l).head_is_vertex
-
-  pub rows_graph : ((v : ℕ) → v < G.vertices → ReachesSink G v) → IsGraph G
-  rows_graph all = record {
-    some_vertex = rows_vertices.0;
-    few_vertices = rows_vertices.1;
-    sink_is_vertex = rows_sink;
-    few_edges = rows_few;
-    edges_fit = rows_edge;
-    all_reach = all;
-  }
+  pub rows_graph : AreLimits limits → ((v : ℕ) → v < G.vertices → ReachesSink G v) → IsGraphWithin limits G
+  rows_graph few all =
+      let vertices = rows_vertices.1 in
+      let edges = rows_few in
+      let most_vertices = few.few_vertices in
+      let most_edges = few.few_edges in
+      record {
+        graph = record {
+          some_vertex = rows_vertices.0;
+          few_vertices = omega arith;
+          sink_is_vertex = rows_sink;
+          few_edges = omega arith;
+          edges_fit = rows_edge;
+          all_reach = all;
+        };
+        within_vertices = vertices;
+        within_edges = edges;
+      }
 
 -- what stands before a place that all distances fill
 pub some_before : (distances : List ℕ) (found : List (Option ℕ)) (v u : ℕ) → v ≤ length found
@@ -97,11 +103,22 @@ some_before distances found v u le same l =
           ∙ ap (λ (ds : List (Option ℕ)). get_or ds u None) (sym same) ∙ get_or-map Some distances u 0 None (omega arith),
     )
 
+-- each edge is one that a graph may have
+abbrev pub AreEdges : Multigraph → Type 0
+AreEdges G = (e : ℕ) → e < length G.edges → IsEdge G.vertices G.sink (edge_at G e)
+
+-- both ends of an edge are vertices
+pub edges_end : (G : Multigraph) → AreEdges G → (end : End) (e : ℕ) → e < length G.edges
+    → end_of end (edge_at G e) < G.vertices
+edges_end G are Tail e l = (are e l).tail_is_vertex
+edges_end G are Head e l = (are e l).head_is_vertex
+
 -- the tails as a fact on each edge
-pub rows_tails : (G : Multigraph) → fault_of_rows G ≡ None → All (λ (edge : Edge). edge.tail < G.vertices) G.edges
-rows_tails G is e d l = subst (λ (edge : Edge). edge.tail < G.vertices)
-    (get_or_default G.edges e (record { tail = 0; head = 0; mult = 0 }) d l) (rows_end G is Tail e l)
+pub edges_tails : (G : Multigraph) → AreEdges G → All (λ (edge : Edge). edge.tail < G.vertices) G.edges
+edges_tails G are e d l = subst (λ (edge : Edge). edge.tail < G.vertices)
+    (get_or_default G.edges e (record { tail = 0; head = 0; mult = 0 }) d l) (edges_end G are Tail e l)
 
 -- no multiplicity is large
-pub rows_mults : (G : Multigraph) → fault_of_rows G ≡ None → (e : ℕ) → e < length G.edges → (edge_at G e).mult ≤ 2 ^ 20
-rows_mults G is e l = (rows_edge G is e l).few_chips
+pub rows_mults : (limits : SizeLimits) (G : Multigraph) → fault_of_rows limits G ≡ None → (e : ℕ) → e < length G.edges
+    → (edge_at G e).mult ≤ 2 ^ 20
+rows_mults limits G is e l = (rows_edge limits G is e l).few_chips

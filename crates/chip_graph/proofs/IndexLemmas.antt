@@ -1,7 +1,7 @@
 -- Serves Multigraph.antt, Faults.antt, Distances.antt.
 -- What a graph keeps beside its edges is what follows from them.
 use Rattle.std.proofs.Common.{◌≡◌, ℕ, zero, suc, ◌<◌, ◌⊎◌, List, [], ◌∷◌, length, map, get_or, Option, Some, None}
-use Rattle.std.proofs.Common.{Result, Ok, Err, slice_get, refl, sym, ap, ◌∙◌, subst, arith, inr}
+use Rattle.std.proofs.Common.{Result, Ok, Err, slice_get, refl, sym, ap, ◌∙◌, subst, arith}
 use Rattle.std.specs.List.{All}
 use Rattle.std.specs.Result.{IsErrAnd}
 use Rattle.std.specs.Prelude.{IfErr}
@@ -9,10 +9,11 @@ use Rattle.std.proofs.lemmas.List.{length-map, get_or-map}
 use Rattle.std.proofs.lemmas.Option.{slice_get_within, get_or_from_slice_get}
 use Rattle.chip_graph.specs.declared.fault.GraphFault.{GraphFault}
 use Rattle.chip_graph.specs.declared.fault.GraphFault.TheVariants as graph_fault
+use Rattle.chip_graph.specs.Limits.{SizeLimits}
 use Rattle.chip_graph.specs.Multigraph.{Multigraph, IsDistance, ReachesSink}
 use Rattle.chip_graph.specs.declared.edge.Edge.{Edge}
 use Rattle.chip_graph.specs.Index.{IsIndex}
-use Rattle.chip_graph.specs.Faults.{fault_of_rows, IsGraphFault, MakesGraph}
+use Rattle.chip_graph.specs.Faults.{fault_of_rows, IsGraphFault, NamesUnreached, MakesGraph}
 use Rattle.chip_graph.specs.Distances.{IsDistanceOf, AreDistances}
 
 -- W is the type of the lists in the code, of which `items` gives the members
@@ -60,21 +61,19 @@ module _ (G : Multigraph) (found : List (Option ℕ)) (are : AreDistances G foun
   distances_are v l = subst (IsDistanceOf G v) (found_at v l) (are.each v l)
 
 -- the first distance that is missing names the fault
-pub unreached_fault : (G : Multigraph) (found : List (Option ℕ)) → AreDistances G found → fault_of_rows G ≡ None
+pub unreached_fault : (G : Multigraph) (found : List (Option ℕ)) → AreDistances G found
     → (v : ℕ) (fault : GraphFault) → fault ≡ graph_fault.Unreached v → v < length found → get_or found v None ≡ None
-    → ((u : ℕ) → u < v → (d : ℕ) × (get_or found u None ≡ Some d)) → IsGraphFault G fault
-unreached_fault G found are none v fault is l missing before =
-    inr (
-      none,
-      v,
-      is,
-      record {
-        is_vertex = (let each = are.one_each in omega arith);
-        unreached = subst (IsDistanceOf G v) missing (are.each v (let each = are.one_each in omega arith));
-        least = λ u m. reaches G u (get_or found u None) (before u m).0 (before u m).1
-            (are.each u (let each = are.one_each in omega arith));
-      },
-    )
+    → ((u : ℕ) → u < v → (d : ℕ) × (get_or found u None ≡ Some d)) → NamesUnreached G fault
+unreached_fault G found are v fault is l missing before = (
+  v,
+  is,
+  record {
+    is_vertex = (let each = are.one_each in omega arith);
+    unreached = subst (IsDistanceOf G v) missing (are.each v (let each = are.one_each in omega arith));
+    least = λ u m. reaches G u (get_or found u None) (before u m).0 (before u m).1
+        (are.each u (let each = are.one_each in omega arith));
+  },
+)
 
 -- what is true of a fault is true of an answer that is this fault
 pub told : {T : Type 0} (P : GraphFault → Type 0) (result : Result T GraphFault) (fault : GraphFault)
@@ -83,12 +82,14 @@ told P (Ok value) fault is why = absurd is
 told P (Err e) fault is why = subst P (sym is) why
 
 -- a refusal for a reason that holds is an answer
-pub refused : (G : Multigraph) (result : Result Multigraph GraphFault) (fault : GraphFault)
-    → IsErrAnd result (λ e. e ≡ fault) → ((fault ≡ graph_fault.NoMemory) × (fault_of_rows G ≡ None))
-    ⊎ IsGraphFault G fault → MakesGraph G result
-refused G (Ok graph) fault is why = absurd is
-refused G (Err e) fault is why = let P : GraphFault
-    → Type 0 = (λ f. ((f ≡ graph_fault.NoMemory) × (fault_of_rows G ≡ None)) ⊎ IsGraphFault G f) in subst P (sym is) why
+pub refused : (limits : SizeLimits) (G : Multigraph) (result : Result Multigraph GraphFault) (fault : GraphFault)
+    → IsErrAnd result (λ e. e ≡ fault) → ((fault ≡ graph_fault.NoMemory) × (fault_of_rows limits G ≡ None))
+    ⊎ IsGraphFault limits G fault → MakesGraph limits G result
+refused limits G (Ok graph) fault is why = absurd is
+refused limits G (Err e) fault is why =
+    let P : GraphFault → Type 0 =
+    (λ f. ((f ≡ graph_fault.NoMemory) × (fault_of_rows limits G ≡ None)) ⊎ IsGraphFault limits G f) in
+    subst P (sym is) why
 
 -- what stands beside the edges of a graph stands beside the same edges elsewhere
 pub copied : (n s : ℕ) {es es' : List Edge} {ds ds' ts ts' : List ℕ} {os os' is is' : List (List ℕ)}

@@ -6,8 +6,8 @@ use Rattle.chip_graph.specs.declared.fault.GraphFault.{GraphFault}
 use Rattle.chip_graph.specs.declared.fault.GraphFault.TheVariants as graph_fault
 use Rattle.chip_graph.specs.declared.fault.GameFault.{GameFault}
 use Rattle.chip_graph.specs.declared.fault.GameFault.TheVariants as game_fault
-use Rattle.chip_graph.specs.Limits.{max_vertices, max_edges, max_mult, max_total, max_limit}
-use Rattle.chip_graph.specs.Multigraph.{Multigraph, ReachesSink, IsGraph}
+use Rattle.chip_graph.specs.Limits.{SizeLimits, max_mult, max_total, max_limit}
+use Rattle.chip_graph.specs.Multigraph.{Multigraph, ReachesSink, IsGraphWithin}
 use Rattle.chip_graph.specs.ChipGame.{ChipGame}
 
 -- the first of two faults, if there is one
@@ -33,12 +33,12 @@ fault_of_edges vertices sink i [] = None
 fault_of_edges vertices sink i (edge ∷ edges) =
     first_of_faults (fault_of_edge vertices sink i edge) (fault_of_edges vertices sink (suc i) edges)
 
--- the first thing wrong with a graph, walks aside
-abbrev pub fault_of_rows : Multigraph → Option GraphFault
-fault_of_rows G =
-    first_of_faults (unless (nat_lt 0 G.vertices && nat_le G.vertices max_vertices) graph_fault.Vertices)
+-- the first thing wrong with a graph by these limits, walks aside
+abbrev pub fault_of_rows : SizeLimits → Multigraph → Option GraphFault
+fault_of_rows limits G =
+    first_of_faults (unless (nat_lt 0 G.vertices && nat_le G.vertices limits.vertices) graph_fault.Vertices)
     (first_of_faults (unless (nat_lt G.sink G.vertices) graph_fault.Sink)
-    (first_of_faults (unless (nat_le (length G.edges) max_edges) graph_fault.EdgeCount)
+    (first_of_faults (unless (nat_le (length G.edges) limits.edges) graph_fault.EdgeCount)
     (fault_of_edges G.vertices G.sink 0 G.edges)))
 
 -- v is the least vertex from which no walk leads to the sink
@@ -47,22 +47,27 @@ pub record IsUnreached (G : Multigraph) (v : ℕ) : Type 0 where
   pub unreached : ReachesSink G v → ⊥
   pub least : (u : ℕ) → u < v → ReachesSink G u
 
--- the first fault of a graph
-abbrev pub IsGraphFault : Multigraph → GraphFault → Type 0
-IsGraphFault G fault =
-    (fault_of_rows G ≡ Some fault)
-    ⊎ ((fault_of_rows G ≡ None) × (v : ℕ) × (fault ≡ graph_fault.Unreached v) × IsUnreached G v)
+-- the fault names the least vertex from which no walk leads to the sink
+abbrev pub NamesUnreached : Multigraph → GraphFault → Type 0
+NamesUnreached G fault = (v : ℕ) × (fault ≡ graph_fault.Unreached v) × IsUnreached G v
+
+-- the first fault of a graph by these limits
+abbrev pub IsGraphFault : SizeLimits → Multigraph → GraphFault → Type 0
+IsGraphFault limits G fault =
+    (fault_of_rows limits G ≡ Some fault)
+    ⊎ ((fault_of_rows limits G ≡ None) × NamesUnreached G fault)
 
 -- a test that is passed, or fails by its fault
 abbrev pub refusal : {F : Type 0} → Option F → Result (Unit {0}) F
 refusal None = Ok tt
 refusal (Some fault) = Err fault
 
--- what making a graph answers: the graph where it is one, else its first fault; want of memory only where the rows have
--- no fault, since nothing grows before they are looked at
-abbrev pub MakesGraph : Multigraph → Result Multigraph GraphFault → Type 0
-MakesGraph G (Ok graph) = (graph ≡ G) × IsGraph G
-MakesGraph G (Err fault) = ((fault ≡ graph_fault.NoMemory) × (fault_of_rows G ≡ None)) ⊎ IsGraphFault G fault
+-- what making a graph answers: the graph where it is one within the limits, else its first fault; want of memory only
+-- where the rows have no fault, since nothing grows before they are looked at
+abbrev pub MakesGraph : SizeLimits → Multigraph → Result Multigraph GraphFault → Type 0
+MakesGraph limits G (Ok graph) = (graph ≡ G) × IsGraphWithin limits G
+MakesGraph limits G (Err fault) =
+    ((fault ≡ graph_fault.NoMemory) × (fault_of_rows limits G ≡ None)) ⊎ IsGraphFault limits G fault
 
 -- the first fault of a game on a graph
 abbrev pub fault_of_game : ChipGame → Option GameFault

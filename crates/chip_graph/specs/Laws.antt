@@ -1,11 +1,12 @@
 -- What is true of every graph and fault.
 use Rattle.std.specs.Prelude.{◌≡◌}
 use Rattle.chip_graph.specs.declared.fault.GraphFault.{GraphFault}
-use Rattle.chip_graph.specs.Multigraph.{Multigraph, IsGraph}
+use Rattle.chip_graph.specs.Limits.{SizeLimits}
+use Rattle.chip_graph.specs.Multigraph.{Multigraph, IsGraphWithin}
 use Rattle.chip_graph.specs.Faults.{IsGraphFault}
 
--- a graph has no fault, and nothing has two first faults
+-- a graph within the limits has no fault, and nothing has two first faults
 abbrev pub OneAnswer : Type 0
 OneAnswer =
-    (G : Multigraph) (fault : GraphFault) → IsGraphFault G fault
-    → (IsGraph G → ⊥) × ((other : GraphFault) → IsGraphFault G other → other ≡ fault)
+    (limits : SizeLimits) (G : Multigraph) (fault : GraphFault) → IsGraphFault limits G fault
+    → (IsGraphWithin limits G → ⊥) × ((other : GraphFault) → IsGraphFault limits G other → other ≡ fault)

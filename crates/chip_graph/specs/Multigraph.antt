@@ -2,7 +2,7 @@
 -- (Björner and Lovász, Chip-firing games on directed graphs, 1992).
 use Rattle.std.specs.Prelude.{◌≡◌, ◌≢◌, ℕ, ◌<◌, ◌≤◌, ◌==◌, if◌then◌else◌, List, [], ◌∷◌, length, slice_index_or}
 use Rattle.chip_graph.specs.declared.edge.Edge.{Edge}
-use Rattle.chip_graph.specs.Limits.{max_vertices, max_edges, max_mult}
+use Rattle.chip_graph.specs.Limits.{SizeLimits, max_vertices, max_edges, max_mult}
 use Rattle.chip_graph.specs.Sums.{sum_below, picked}
 
 -- what a `Graph` shows: vertices 0 to vertices - 1, the sink, and the edges, named by their numbers
@@ -58,7 +58,7 @@ pub record IsEdge (vertices sink : ℕ) (edge : Edge) : Type 0 where
   pub no_loop : edge.tail ≢ edge.head
   pub not_from_sink : edge.tail ≢ sink
 
--- a graph within the limits, in which every vertex reaches the sink
+-- a graph within the greatest limits, in which every vertex reaches the sink
 pub record IsGraph (G : Multigraph) : Type 0 where
   pub some_vertex : 0 < G.vertices
   pub few_vertices : G.vertices ≤ max_vertices
@@ -66,3 +66,9 @@ pub record IsGraph (G : Multigraph) : Type 0 where
   pub few_edges : length G.edges ≤ max_edges
   pub edges_fit : (e : ℕ) → e < length G.edges → IsEdge G.vertices G.sink (edge_at G e)
   pub all_reach : (v : ℕ) → v < G.vertices → ReachesSink G v
+
+-- a graph within these limits
+pub record IsGraphWithin (limits : SizeLimits) (G : Multigraph) : Type 0 where
+  pub graph : IsGraph G
+  pub within_vertices : G.vertices ≤ limits.vertices
+  pub within_edges : length G.edges ≤ limits.edges

@@ -4,14 +4,14 @@ use thiserror::Error;
 /// Why rows of edges are no graph: the first reason in this order.
 #[derive(Clone, Copy, Debug, PartialEq, Eq, Error)]
 pub enum GraphFault {
-    /// There are no vertices, or more than 4,096.
-    #[error("there must be 1 to 4096 vertices")]
+    /// There are no vertices, or more than the limits allow.
+    #[error("there are no vertices, or too many")]
     Vertices,
     /// The sink is no vertex.
     #[error("the sink is no vertex")]
     Sink,
-    /// There are more than 65,536 edges.
-    #[error("there are more than 65536 edges")]
+    /// There are more edges than the limits allow.
+    #[error("there are too many edges")]
     EdgeCount,
     /// An end of this edge is no vertex.
     #[error("edge {0} has an end that is no vertex")]

@@ -1,23 +1,21 @@
-ghost use Rattle.std.specs.Prelude.{◌≡◌, ◌+◌, ◌<◌, ◌⊎◌, ℕ, [], map, length, take, IfOk, IfErr, Some, None};
+ghost use Rattle.std.specs.Prelude.{◌≡◌, ◌+◌, ◌<◌, ◌≤◌, ◌⊎◌, ℕ, [], map, length, take, IfOk, IfErr, Some, None};
 ghost use Rattle.std.specs.Prelude.{slice_index, slice_index_or};
-ghost use Rattle.chip_graph.specs.Multigraph.{IsDistance};
-ghost use Rattle.chip_graph.specs.Ends.{edges_with};
+ghost use Rattle.chip_graph.specs.Limits.{max_vertices, AreLimits};
+ghost use Rattle.chip_graph.specs.Multigraph.{IsDistance, IsEdge};
+ghost use Rattle.chip_graph.specs.Ends.{edge_of, edges_with};
 ghost use Rattle.chip_graph.specs.declared.edge.End.TheVariants.{Head};
-ghost use Rattle.chip_graph.specs.Faults.{refusal, fault_of_edge, fault_of_rows, IsGraphFault};
+ghost use Rattle.chip_graph.specs.Faults.{refusal, fault_of_edge, fault_of_rows, NamesUnreached};
 ghost use Rattle.chip_graph.specs.declared.fault.GraphFault.TheVariants.{NoMemory, Unreached};
 
 use crate::distance::distances;
 use crate::edge::{AnyEdge, Edge, End};
 use crate::fault::GraphFault;
 use crate::index;
+use crate::limits::Limits;
 use crate::packed_lists::PackedLists;
 use std::alloc::{AllocError, Global};
 use std::marker::Model;
 
-/// The most vertices that a graph has.
-pub const MAX_VERTICES: u64 = 4_096;
-/// The most edges that a graph has.
-pub const MAX_EDGES: usize = 65_536;
 /// The most chips that one firing sends along one edge.
 pub const MAX_MULT: u64 = 1_048_576;
 
@@ -73,13 +71,19 @@ impl Rows {
     ghost use Rattle.std.specs.Prelude.{◌≡◌};
     ghost use Rattle.chip_graph.specs.Faults.{MakesGraph};
 
-    /// The rows of these edges, or the first reason why they are no graph.
-    fn new(alloc: Global, vertices: u64, sink: u64, edges: Vec<Edge>) -> Result<Rows, GraphFault>
-        ensures makes { MakesGraph (record { vertices = vertices; sink = sink; edges = edges.items }) result }
-        ensures accepted { IfOk result (λ rows. fault_of_rows rows ≡ None) }
+    /// The rows of these edges, or the first reason why they are no graph within the limits.
+    fn new(
+        alloc: Global,
+        limits: Limits,
+        vertices: u64,
+        sink: u64,
+        edges: Vec<Edge>,
+    ) -> Result<Rows, GraphFault>
+        ensures makes { MakesGraph limits (record { vertices = vertices; sink = sink; edges = edges.items }) result }
+        ensures accepted { IfOk result (λ rows. fault_of_rows limits rows ≡ None) }
     {
         let rows = edges.as_slice();
-        check_rows(vertices, sink, rows)?;
+        check_rows(limits, vertices, sink, rows)?;
         let (ins, distances) = ins_and_distances(alloc, vertices, sink, rows)?;
         let (outs, links) = index::outs_and_links(alloc, vertices, rows)?;
         let degrees = index::degrees(alloc, vertices, rows)?;
@@ -124,21 +128,37 @@ impl Rows {
 
 impl Graph {
     ghost use Rattle.std.specs.Prelude.{◌≡◌, ◌<◌, map};
+    ghost use Rattle.chip_graph.specs.Limits.{standard};
     ghost use Rattle.chip_graph.specs.Multigraph.{Multigraph, IsGraph, IsDistance};
     ghost use Rattle.chip_graph.specs.Multigraph.{edge_at, edges_out, edges_in, degree};
     ghost use Rattle.chip_graph.specs.Edges.{all_edges, root_edge, IsNumbered};
     ghost use Rattle.chip_graph.specs.Faults.{MakesGraph};
 
-    /// A graph of these edges, or the first reason why it is none; in time linear in vertices and edges.
+    /// A graph of these edges within the standard limits, or the first reason why it is none; in time linear in vertices
+    /// and edges.
     pub fn new(
         alloc: Global,
         vertices: u64,
         sink: u64,
         edges: Vec<Edge>,
     ) -> Result<Graph, GraphFault>
-        ensures { MakesGraph (record { vertices = vertices; sink = sink; edges = edges.items }) result }
+        ensures { MakesGraph standard (record { vertices = vertices; sink = sink; edges = edges.items }) result }
     {
-        let rows = Rows::new(alloc, vertices, sink, edges)?;
+        Graph::within(alloc, Limits::standard(), vertices, sink, edges)
+    }
+
+    /// A graph of these edges within these limits, or the first reason why it is none; in time linear in vertices and
+    /// edges.
+    pub fn within(
+        alloc: Global,
+        limits: Limits,
+        vertices: u64,
+        sink: u64,
+        edges: Vec<Edge>,
+    ) -> Result<Graph, GraphFault>
+        ensures { MakesGraph limits (record { vertices = vertices; sink = sink; edges = edges.items }) result }
+    {
+        let rows = Rows::new(alloc, limits, vertices, sink, edges)?;
         Ok(Graph {
             rows: Box::new(alloc, rows)?,
         })
@@ -154,7 +174,7 @@ impl Graph {
         })
     }
 
-    /// How many vertices there are: 1 to `MAX_VERTICES`.
+    /// How many vertices there are, 1 to 2^20.
     pub fn vertices(&self) -> u64
         ensures value { result ≡ self.now.vertices }
         ensures graph { IsGraph self.now }
@@ -218,7 +238,7 @@ impl Graph {
         }
     }
 
-    /// The sum of `mult` over the edges out of this vertex, below 2^37.
+    /// The sum of `mult` over the edges out of this vertex, up to 2^43.
     pub fn out_degree(&self, vertex: u64) -> u64
         requires { vertex < self.now.vertices }
         ensures { result ≡ degree self.now vertex }
@@ -283,17 +303,19 @@ fn check_edge(vertices: u64, sink: u64, i: u64, edge: &Edge) -> Result<(), Graph
     Ok(())
 }
 
-/// The first thing wrong with these rows, walks aside.
-fn check_rows(vertices: u64, sink: u64, edges: &[Edge]) -> Result<(), GraphFault>
-    ensures { result ≡ refusal (fault_of_rows (record { vertices = vertices; sink = sink; edges = edges.now })) }
+/// The first thing wrong with these rows by these limits, walks aside.
+fn check_rows(limits: Limits, vertices: u64, sink: u64, edges: &[Edge]) -> Result<(), GraphFault>
+    ensures first { result
+        ≡ refusal (fault_of_rows limits (record { vertices = vertices; sink = sink; edges = edges.now })) }
+    ensures limits { IfOk result (λ _. AreLimits limits) }
 {
-    if vertices == 0 || vertices > MAX_VERTICES {
+    if vertices == 0 || vertices > limits.vertices() {
         return Err(GraphFault::Vertices);
     }
     if sink >= vertices {
         return Err(GraphFault::Sink);
     }
-    if edges.len() > MAX_EDGES {
+    if edges.len() as u64 > limits.edges() {
         return Err(GraphFault::EdgeCount);
     }
     for (i, edge) in edges.iter().enumerate() {
@@ -309,7 +331,9 @@ fn ins_and_distances(
     sink: u64,
     edges: &[Edge],
 ) -> Result<(PackedLists<u64>, Vec<u64>), GraphFault>
-    requires { fault_of_rows (record { vertices = vertices; sink = sink; edges = edges.now }) ≡ None }
+    requires few_vertices { vertices ≤ max_vertices }
+    requires sink_is_vertex { sink < vertices }
+    requires edges { (e : ℕ) → e < length edges.now → IsEdge vertices sink (edge_of edges.now e) }
     ensures ins_each { IfOk result (λ r. length r.0 ≡ vertices) }
     ensures ins { IfOk result (λ r. (v : ℕ) → v < vertices
         → slice_index_or r.0 v [] ≡ edges_with Head edges.now v (length edges.now)) }
@@ -317,7 +341,7 @@ fn ins_and_distances(
     ensures distances { IfOk result (λ r. (v : ℕ) → v < vertices
         → IsDistance (record { vertices = vertices; sink = sink; edges = edges.now }) v (slice_index r.1.items v)) }
     ensures none { IfErr result (λ fault. (fault ≡ NoMemory)
-        ⊎ IsGraphFault (record { vertices = vertices; sink = sink; edges = edges.now }) fault) }
+        ⊎ NamesUnreached (record { vertices = vertices; sink = sink; edges = edges.now }) fault) }
 {
     let ins = index::edges_by(alloc, vertices, edges, End::Head)?;
     let found = distances(alloc, sink, edges, &ins)?;

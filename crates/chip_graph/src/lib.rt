@@ -1,6 +1,6 @@
 //! Directed multigraphs with a global sink, and chip-firing games on them.
 //!
-//! A `Graph` is valid by its type: within the limits, without loops, without edges out of the sink,
+//! A `Graph` is valid by its type: within the greatest limits, without loops, without edges out of the sink,
 //! and every vertex reaches the sink. Contracts see it as its vertices, sink and edges
 //! (`specs/Multigraph.antt`), and a `Game` as graph, start and limit (`specs/ChipGame.antt`).
 #![tactic(auto)]
@@ -8,7 +8,8 @@
 pub use edge::{AnyEdge, Edge};
 pub use fault::{GameFault, GraphFault};
 pub use game::{Game, MAX_LIMIT, MAX_TOTAL};
-pub use graph::{Graph, MAX_EDGES, MAX_MULT, MAX_VERTICES};
+pub use graph::{Graph, MAX_MULT};
+pub use limits::{Limits, MAX_EDGES, MAX_TEXT, MAX_VERTICES};
 
 mod distance;
 pub mod edge;
@@ -17,4 +18,5 @@ pub mod game;
 pub mod graph;
 mod index;
 pub mod laws;
+pub mod limits;
 mod packed_lists;

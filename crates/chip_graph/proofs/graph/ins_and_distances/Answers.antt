@@ -2,16 +2,16 @@ use Rattle.std.proofs.Common.{ℕ, [], map, get_or, sym, ap, subst, ◌∙◌, a
 use Rattle.chip_graph.specs.declared.edge.End.TheVariants.{Head}
 use Rattle.chip_graph.specs.Multigraph.{Multigraph}
 use Rattle.chip_graph.specs.Distances.{AreDistances}
-use Rattle.chip_graph.proofs.FaultLemmas.{rows_end, rows_tails}
+use Rattle.chip_graph.proofs.FaultLemmas.{edges_end, edges_tails}
 use Rattle.chip_graph.proofs.IndexLemmas.{listed, distances_are, unreached_fault, told}
 use Rattle.chip_graph.proofs.graph.ins_and_distances.Goals as goal
 
 pub edges_by-requires : goal.edges_by-requires
-edges_by-requires c = rows_end _ c.requires Head
+edges_by-requires c = edges_end _ c.requires.edges Head
 
 pub distances-requires-clause-tails_are_vertices : goal.distances-requires-clause-tails_are_vertices
 distances-requires-clause-tails_are_vertices c =
-    let many = ap length c.deref.ensures.value ∙ c.in_ok-ins.ensures.0 in rw many (rows_tails _ c.requires)
+    let many = ap length c.deref.ensures.value ∙ c.in_ok-ins.ensures.0 in rw many (edges_tails _ c.requires.edges)
 
 pub distances-requires-clause-ins : goal.distances-requires-clause-ins
 distances-requires-clause-ins c = λ v list is.
@@ -30,7 +30,7 @@ returns-in_err-distances-clause-none c =
     told _ c.from_residual-in_err-distances.result c.in_err-distances.field-0.0
     c.from_residual-in_err-distances.ensures.1
     (⊎_elim inl
-    (λ missing. inr (unreached_fault G c.deref-2.result.now there c.requires missing.0
+    (λ missing. inr (unreached_fault G c.deref-2.result.now there missing.0
     c.in_err-distances.field-0.0 missing.1 missing.2 missing.3 missing.4))
     c.in_err-distances.ensures.none)
 

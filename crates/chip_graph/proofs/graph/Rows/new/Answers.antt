@@ -1,8 +1,9 @@
-use Rattle.std.proofs.Common.{inl, inr, refl, ⊎_elim}
+use Rattle.std.proofs.Common.{inl, inr, refl, ⊎_elim, arith}
 use Rattle.chip_graph.specs.declared.edge.End.TheVariants.{Tail}
 use Rattle.chip_graph.specs.declared.fault.GraphFault.TheVariants.{NoMemory}
 use Rattle.chip_graph.specs.Multigraph.{Multigraph}
-use Rattle.chip_graph.proofs.FaultLemmas.{accepted, rows_end, rows_mults, rows_graph}
+use Rattle.chip_graph.proofs.FaultLemmas.{accepted, edges_end, rows_edge, rows_mults, rows_graph, rows_sink}
+use Rattle.chip_graph.proofs.FaultLemmas.{rows_vertices}
 use Rattle.chip_graph.proofs.IndexLemmas.{all_reach, refused}
 use Rattle.chip_graph.proofs.graph.Rows.new.Goals as goal
 
@@ -11,37 +12,56 @@ returns-in_err-ins-clause-makes c =
     let G : Multigraph = record { vertices = c.args.vertices; sink = c.args.sink; edges = c.as_slice-rows.result.now }
     in
     rw (← c.as_slice-rows.ensures.value)
-    (refused G c.from_residual-in_err-ins.result c.in_err-ins.field-0.0 c.from_residual-in_err-ins.ensures.1
-    (⊎_elim (λ memory. inl (memory, accepted _ c.in_ok-check_rows.ensures)) inr c.in_err-ins.ensures.none))
+    (refused c.args.limits G c.from_residual-in_err-ins.result c.in_err-ins.field-0.0 c.from_residual-in_err-ins.ensures.1
+    (⊎_elim (λ memory. inl (memory, accepted _ c.in_ok-check_rows.ensures.first))
+    (λ unreached. inr (inr (accepted _ c.in_ok-check_rows.ensures.first, unreached))) c.in_err-ins.ensures.none))
+
+pub ins_and_distances-requires-clause-few_vertices : goal.ins_and_distances-requires-clause-few_vertices
+ins_and_distances-requires-clause-few_vertices c =
+    let rows = rows_vertices c.args.limits
+    (record { vertices = c.args.vertices; sink = c.args.sink; edges = c.as_slice-rows.result.now })
+    (accepted _ c.in_ok-check_rows.ensures.first) in
+    let most = c.in_ok-check_rows.ensures.limits.few_vertices in
+    omega (arith, rows.1)
+
+pub ins_and_distances-requires-clause-sink_is_vertex : goal.ins_and_distances-requires-clause-sink_is_vertex
+ins_and_distances-requires-clause-sink_is_vertex c = rows_sink c.args.limits
+    (record { vertices = c.args.vertices; sink = c.args.sink; edges = c.as_slice-rows.result.now })
+    (accepted _ c.in_ok-check_rows.ensures.first)
+
+pub ins_and_distances-requires-clause-edges : goal.ins_and_distances-requires-clause-edges
+ins_and_distances-requires-clause-edges c = rows_edge c.args.limits
+    (record { vertices = c.args.vertices; sink = c.args.sink; edges = c.as_slice-rows.result.now })
+    (accepted _ c.in_ok-check_rows.ensures.first)
 
 pub outs_and_links-requires : goal.outs_and_links-requires
-outs_and_links-requires c = rows_end _ (accepted _ c.in_ok-check_rows.ensures) Tail
+outs_and_links-requires c = edges_end _ (rows_edge c.args.limits _ (accepted _ c.in_ok-check_rows.ensures.first)) Tail
 
 pub degrees-requires-clause-tails : goal.degrees-requires-clause-tails
-degrees-requires-clause-tails c = rows_end _ (accepted _ c.in_ok-check_rows.ensures) Tail
+degrees-requires-clause-tails c = edges_end _ (rows_edge c.args.limits _ (accepted _ c.in_ok-check_rows.ensures.first)) Tail
 
 pub degrees-requires-clause-mults : goal.degrees-requires-clause-mults
-degrees-requires-clause-mults c = rows_mults
+degrees-requires-clause-mults c = rows_mults c.args.limits
     (record { vertices = c.args.vertices; sink = c.args.sink; edges = c.as_slice-rows.result.now })
-    (accepted _ c.in_ok-check_rows.ensures)
+    (accepted _ c.in_ok-check_rows.ensures.first)
 
 pub returns-in_err-degrees-clause-makes : goal.returns-in_err-degrees-clause-makes
 returns-in_err-degrees-clause-makes c =
     let G : Multigraph = record { vertices = c.args.vertices; sink = c.args.sink; edges = c.as_slice-rows.result.now }
     in
     rw (← c.as_slice-rows.ensures.value)
-    (refused G c.from_residual-in_err-degrees.result NoMemory c.from_residual-in_err-degrees.ensures.1
-    (inl (refl, accepted _ c.in_ok-check_rows.ensures)))
+    (refused c.args.limits G c.from_residual-in_err-degrees.result NoMemory c.from_residual-in_err-degrees.ensures.1
+    (inl (refl, accepted _ c.in_ok-check_rows.ensures.first)))
 
 pub invariant_of-result : goal.invariant_of-result
 invariant_of-result c =
-    let none = accepted _ c.in_ok-check_rows.ensures in
+    let none = accepted _ c.in_ok-check_rows.ensures.first in
     let G : Multigraph = record { vertices = c.args.vertices; sink = c.args.sink; edges = c.as_slice-rows.result.now }
     in
     let ins = c.in_ok-ins.ensures in
     let outs = c.in_ok-outs.ensures in
     rw (← c.as_slice-rows.ensures.value) (record {
-      graph = rows_graph G none (all_reach G _ ins.distances);
+      graph = (rows_graph c.args.limits G none c.in_ok-check_rows.ensures.limits (all_reach G _ ins.distances)).graph;
       degree_each = c.in_ok-degrees.ensures.0;
       degrees = c.in_ok-degrees.ensures.1;
       distance_each = ins.distance_each;
@@ -56,7 +76,10 @@ invariant_of-result c =
 
 pub returns-clause-makes : goal.returns-clause-makes
 returns-clause-makes c =
-    let none = accepted _ c.in_ok-check_rows.ensures in
+    let none = accepted _ c.in_ok-check_rows.ensures.first in
     let G : Multigraph = record { vertices = c.args.vertices; sink = c.args.sink; edges = c.as_slice-rows.result.now }
-    in
-    (refl, rw (← c.as_slice-rows.ensures.value) (rows_graph G none (all_reach G _ c.in_ok-ins.ensures.distances)))
+    in (
+      refl,
+      rw (← c.as_slice-rows.ensures.value)
+          (rows_graph c.args.limits G none c.in_ok-check_rows.ensures.limits (all_reach G _ c.in_ok-ins.ensures.distances)),
+    )

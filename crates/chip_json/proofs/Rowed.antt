@@ -6,7 +6,6 @@ use Rattle.std.proofs.Common.{length-append, Bool, true, false, Vec, Global}
 use Rattle.serde_json.specs.Data.{Data, Items, no_items, item}
 use Rattle.chip_json.specs.GraphFile.{number_of_value, numbers_of, edge_of_numbers, edges_of_rows, edge_of_row}
 use Rattle.chip_json.specs.Rows.{and_number, and_items, edge_in, Keeps, KeepsAny}
-use Rattle.chip_graph.specs.Limits.{max_edges}
 use Rattle.chip_graph.specs.declared.edge.Edge.{Edge}
 use Rattle.chip_json.specs.declared.fault.JsonFault.{JsonFault}
 use Rattle.std.proofs.Common.{Result, Ok, Err, ◌-◌}
@@ -97,39 +96,41 @@ pub no_more_edges : (before : Items → Items) (all : List Edge) (d : Data) → 
 no_more_edges before all d e h rest = h (item d rest) ∙ rw e refl
 
 -- what is known of the rows so far: their edges, or that one is no edge
-abbrev pub RowsBefore : Bool → (Items → Items) → List Edge → Type 0
-RowsBefore true before kept = (all : List Edge) × Keeps all kept × EdgesBefore before all
-RowsBefore false before kept = NoEdgesBefore before
+abbrev pub RowsBefore : ℕ → Bool → (Items → Items) → List Edge → Type 0
+RowsBefore most true before kept = (all : List Edge) × Keeps most all kept × EdgesBefore before all
+RowsBefore most false before kept = NoEdgesBefore before
 
-pub rows_more : (b : Bool) (before : Items → Items) (kept new : List Edge) (d : Data) (edge : Edge)
-    → edge_of_row d ≡ Some edge → ((all : List Edge) → Keeps all kept → Keeps (all ++ edge ∷ []) new)
-    → RowsBefore b before kept → RowsBefore b (λ ds. before (item d ds)) new
+pub rows_more : {most : ℕ} (b : Bool) (before : Items → Items) (kept new : List Edge) (d : Data) (edge : Edge)
+    → edge_of_row d ≡ Some edge → ((all : List Edge) → Keeps most all kept → Keeps most (all ++ edge ∷ []) new)
+    → RowsBefore most b before kept → RowsBefore most b (λ ds. before (item d ds)) new
 rows_more true before kept new d edge e keeps (all, k, h) =
     (all ++ edge ∷ [], keeps all k, one_more_edge before all d edge e h)
 rows_more false before kept new d edge e keeps h = λ rest. h (item d rest)
 
-pub rows_spoilt : (b : Bool) (before : Items → Items) (kept : List Edge) (d : Data) → edge_of_row d ≡ None
-    → RowsBefore b before kept → NoEdgesBefore (λ ds. before (item d ds))
-rows_spoilt true before kept d e (all, k, h) = no_more_edges before all d e h
-rows_spoilt false before kept d e h = λ rest. h (item d rest)
+pub rows_spoilt : (most : ℕ) (b : Bool) (before : Items → Items) (kept : List Edge) (d : Data) → edge_of_row d ≡ None
+    → RowsBefore most b before kept → NoEdgesBefore (λ ds. before (item d ds))
+rows_spoilt most true before kept d e (all, k, h) = no_more_edges before all d e h
+rows_spoilt most false before kept d e h = λ rest. h (item d rest)
 
-all_read : (all : List Edge) (o : Option (List Edge)) (kept : Vec Edge Global) → o ≡ Some (all ++ [])
-    → Keeps all kept.items → KeepsAny o (Some kept)
+all_read : {most : ℕ} (all : List Edge) (o : Option (List Edge)) (kept : Vec Edge Global) → o ≡ Some (all ++ [])
+    → Keeps most all kept.items → KeepsAny most o (Some kept)
 all_read all o kept e h = rw (e, append-nil all) h
 
-pub rows_over : (before : Items → Items) (kept : Vec Edge Global) → RowsBefore true before kept.items
-    → KeepsAny (edges_of_rows (before no_items)) (Some kept)
+pub rows_over : {most : ℕ} (before : Items → Items) (kept : Vec Edge Global) → RowsBefore most true before kept.items
+    → KeepsAny most (edges_of_rows (before no_items)) (Some kept)
 rows_over before kept (all, k, h) = all_read all (edges_of_rows (before no_items)) kept (h no_items) k
 
-pub no_rows_over : (before : Items → Items) → NoEdgesBefore before → KeepsAny (edges_of_rows (before no_items)) None
-no_rows_over before h = rw (h no_items) tt
+pub no_rows_over : (most : ℕ) (before : Items → Items) → NoEdgesBefore before
+    → KeepsAny most (edges_of_rows (before no_items)) None
+no_rows_over most before h = rw (h no_items) tt
 
-pub keeps_old : (all kept : List Edge) (edge : Edge) → max_edges < length kept → Keeps all kept
-    → Keeps (all ++ edge ∷ []) kept
+pub keeps_old : {most : ℕ} (all kept : List Edge) (edge : Edge) → most < length kept → Keeps most all kept
+    → Keeps most (all ++ edge ∷ []) kept
 keeps_old all kept edge h (inl is) = inr (omega (arith, length-append all (edge ∷ []), ap length is), h)
 keeps_old all kept edge h (inr both) = inr (omega (arith, length-append all (edge ∷ []), both.0), h)
 
-pub keeps_new : (all kept : List Edge) (edge : Edge) → Keeps all kept → Keeps (all ++ edge ∷ []) (kept ++ edge ∷ [])
+pub keeps_new : {most : ℕ} (all kept : List Edge) (edge : Edge) → Keeps most all kept
+    → Keeps most (all ++ edge ∷ []) (kept ++ edge ∷ [])
 keeps_new all kept edge (inl is) = inl (ap (λ es. es ++ edge ∷ []) is)
 keeps_new all kept edge (inr both) = inr (
   omega (arith, length-append all (edge ∷ []), both.0),
@@ -140,15 +141,15 @@ same_edges : (o : Option (List Edge)) → o ≡ option_map (λ more. [] ++ more)
 same_edges None = refl
 same_edges (Some es) = refl
 
-pub no_rows : (kept : List Edge) → kept ≡ [] → RowsBefore true (λ ds. ds) kept
+pub no_rows : {most : ℕ} (kept : List Edge) → kept ≡ [] → RowsBefore most true (λ ds. ds) kept
 no_rows kept e = ([], inl e, (λ rest. same_edges (edges_of_rows rest)))
 
-pub no_array_rows : (d : Data) → as_array d ≡ None → AreRowsUnder d None
-no_array_rows d e = rw e tt
+pub no_array_rows : (most : ℕ) (d : Data) → as_array d ≡ None → AreRowsUnder most d None
+no_array_rows most d e = rw e tt
 
-pub rows_mapped : (depth : ℕ) (ts old new : List Token) (result : Result (Option (Vec Edge Global)) JsonFault)
-    → old ≡ Token.begin_array ∷ ts → 0 < depth → MayReadItems (depth - 1) ts new AreRows result
-    → MayRead depth old new AreRowsUnder result
-rows_mapped depth ts old new (Ok x) is h (ds, e, k) = (array ds, rw is (array_read depth ts _ h e), k)
-rows_mapped depth ts old new (Err x) is h (inl e) = inl e
-rows_mapped depth ts old new (Err x) is h (inr e) = inr (e.0, rw is (array_read depth ts _ h e.1))
+pub rows_mapped : (most : ℕ) (depth : ℕ) (ts old new : List Token) (result : Result (Option (Vec Edge Global)) JsonFault)
+    → old ≡ Token.begin_array ∷ ts → 0 < depth → MayReadItems (depth - 1) ts new (AreRows most) result
+    → MayRead depth old new (AreRowsUnder most) result
+rows_mapped most depth ts old new (Ok x) is h (ds, e, k) = (array ds, rw is (array_read depth ts _ h e), k)
+rows_mapped most depth ts old new (Err x) is h (inl e) = inl e
+rows_mapped most depth ts old new (Err x) is h (inr e) = inr (e.0, rw is (array_read depth ts _ h e.1))

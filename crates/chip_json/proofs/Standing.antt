@@ -17,9 +17,9 @@ use Rattle.chip_json.proofs.Known.{put_edges, put_sink, put_version, put_vertice
 use Rattle.chip_json.proofs.Known.{crowded_version, crowded_vertices, crowded_other, known_crowded, crowded_file}
 use Rattle.chip_json.proofs.Known.{file_of_known, num, rows}
 
-pub take_version : (name : List ℕ) (d : Data) (p : Parts) (n : Option ℕ) → name ≡ codes "version"
+pub take_version : {most : ℕ} (name : List ℕ) (d : Data) (p : Parts) (n : Option ℕ) → name ≡ codes "version"
     → number_of_value d ≡ n
-    → Takes name d p (record {
+    → Takes most name d p (record {
       version = n;
       vertices = p.vertices;
       sink = p.sink;
@@ -31,15 +31,15 @@ take_version name d p n is e found (inl (o, es, s, v, w, f, a, b, c, k)) =
     inl (o, es, s, Some d, w, rw (is, f) (put_version d es s v w), e, b, c, k)
 take_version name d p n is e found (inr (o, h)) = inr (o, rw is (crowded_version d found h))
 
-pub take_vertices : (name : List ℕ) (d : Data) (p : Parts) (n : Option ℕ) → name ≡ codes "vertices"
+pub take_vertices : {most : ℕ} (name : List ℕ) (d : Data) (p : Parts) (n : Option ℕ) → name ≡ codes "vertices"
     → number_of_value d ≡ n
-    → Takes name d p (record { version = p.version; vertices = n; sink = p.sink; edges = p.edges; others = p.others })
+    → Takes most name d p (record { version = p.version; vertices = n; sink = p.sink; edges = p.edges; others = p.others })
 take_vertices name d p n is e found (inl (o, es, s, v, w, f, a, b, c, k)) =
     inl (o, es, s, v, Some d, rw (is, f) (put_vertices d es s v w), a, e, c, k)
 take_vertices name d p n is e found (inr (o, h)) = inr (o, rw is (crowded_vertices d found h))
 
-pub take_sink : (name : List ℕ) (d : Data) (p : Parts) (n : Option ℕ) → name ≡ codes "sink" → number_of_value d ≡ n
-    → Takes name d p (record {
+pub take_sink : {most : ℕ} (name : List ℕ) (d : Data) (p : Parts) (n : Option ℕ) → name ≡ codes "sink" → number_of_value d ≡ n
+    → Takes most name d p (record {
       version = p.version;
       vertices = p.vertices;
       sink = n;
@@ -51,9 +51,9 @@ take_sink name d p n is e found (inl (o, es, s, v, w, f, a, b, c, k)) =
     inl (o, es, Some d, v, w, rw (is, f) (put_sink d es s v w), a, b, e, k)
 take_sink name d p n is e found (inr (o, h)) = inr (o, rw is (crowded_sink d found h))
 
-pub take_edges : (name : List ℕ) (d : Data) (p : Parts) (n : Option (Vec Edge Global)) → name ≡ codes "edges"
-    → AreRowsUnder d n
-    → Takes name d p (record {
+pub take_edges : {most : ℕ} (name : List ℕ) (d : Data) (p : Parts) (n : Option (Vec Edge Global)) → name ≡ codes "edges"
+    → AreRowsUnder most d n
+    → Takes most name d p (record {
       version = p.version;
       vertices = p.vertices;
       sink = p.sink;
@@ -65,8 +65,8 @@ take_edges name d p n is e found (inl (o, es, s, v, w, f, a, b, c, k)) =
     inl (o, Some d, s, v, w, rw (is, f) (put_edges d es s v w), a, b, c, e)
 take_edges name d p n is e found (inr (o, h)) = inr (o, rw is (crowded_edges d found h))
 
-pub take_other : (name : List ℕ) (d : Data) (p : Parts) → IsOther name
-    → Takes name d p (record {
+pub take_other : {most : ℕ} (name : List ℕ) (d : Data) (p : Parts) → IsOther name
+    → Takes most name d p (record {
       version = p.version;
       vertices = p.vertices;
       sink = p.sink;
@@ -87,35 +87,35 @@ or_refused (inr (e, a)) h = inr (e, h a)
 
 -- ---- the file
 
-kept_parts : (v w s : Option ℕ) (es : Option (List Edge)) (kept : Option (Vec Edge Global)) → KeepsAny es kept
-    → KeepsFile (file_of_parts v w s es) (kept_of v w s kept)
-kept_parts (Some v) (Some w) (Some s) (Some es) (Some kept) h = (refl, (refl, refl, h))
-kept_parts (Some v) (Some w) (Some s) None None h = tt
-kept_parts (Some v) (Some w) (Some s) (Some es) None h = absurd h
-kept_parts (Some v) (Some w) (Some s) None (Some kept) h = absurd h
-kept_parts (Some v) (Some w) None es kept h = tt
-kept_parts (Some v) None s es kept h = tt
-kept_parts None w s es kept h = tt
+kept_parts : (most : ℕ) (v w s : Option ℕ) (es : Option (List Edge)) (kept : Option (Vec Edge Global)) → KeepsAny most es kept
+    → KeepsFile most (file_of_parts v w s es) (kept_of v w s kept)
+kept_parts most (Some v) (Some w) (Some s) (Some es) (Some kept) h = (refl, (refl, refl, h))
+kept_parts most (Some v) (Some w) (Some s) None None h = tt
+kept_parts most (Some v) (Some w) (Some s) (Some es) None h = absurd h
+kept_parts most (Some v) (Some w) (Some s) None (Some kept) h = absurd h
+kept_parts most (Some v) (Some w) None es kept h = tt
+kept_parts most (Some v) None s es kept h = tt
+kept_parts most None w s es kept h = tt
 
-pub file_of_parts_kept : (p : Parts) (found : Members) → p.others ≡ false → Stands found p
-    → KeepsFile (file_of_value (object found)) (kept_of p.version p.vertices p.sink p.edges)
+pub file_of_parts_kept : {most : ℕ} (p : Parts) (found : Members) → p.others ≡ false → Stands most found p
+    → KeepsFile most (file_of_value (object found)) (kept_of p.version p.vertices p.sink p.edges)
 file_of_parts_kept p found o (inl (same, es, s, v, w, f, a, b, c, k)) =
-    rw (f, file_of_known es s v w, ← a, ← b, ← c) (kept_parts (num v) (num w) (num s) (rows es) p.edges k)
+    rw (f, file_of_known es s v w, ← a, ← b, ← c) (kept_parts _ (num v) (num w) (num s) (rows es) p.edges k)
 file_of_parts_kept p found o (inr (other, h)) = let never : true ≡ false = sym other ∙ o in absurd (true≢false never)
 
-pub no_file : (p : Parts) (found : Members) → p.others ≡ true → Stands found p
-    → KeepsFile (file_of_value (object found)) None
+pub no_file : {most : ℕ} (p : Parts) (found : Members) → p.others ≡ true → Stands most found p
+    → KeepsFile most (file_of_value (object found)) None
 no_file p found o (inl (same, es, s, v, w, f, a, b, c, k)) = let never : true ≡ false = sym o
     ∙ same in absurd (true≢false never)
 no_file p found o (inr (other, h)) = rw (crowded_file found h) tt
 
-pub no_object_file : (d : Data) → as_object d ≡ None → KeepsFile (file_of_value d) None
-no_object_file d e = rw e tt
+pub no_object_file : (most : ℕ) (d : Data) → as_object d ≡ None → KeepsFile most (file_of_value d) None
+no_object_file most d e = rw e tt
 
-shape_by : (o : Option GraphFile) → KeepsFile o None → o ≡ None
-shape_by None h = refl
-shape_by (Some file) h = absurd h
+shape_by : (most : ℕ) (o : Option GraphFile) → KeepsFile most o None → o ≡ None
+shape_by most None h = refl
+shape_by most (Some file) h = absurd h
 
-pub shape_of : (d : Data) (kept : Option Kept) → kept ≡ None → KeepsFile (file_of_value d) kept
+pub shape_of : (most : ℕ) (d : Data) (kept : Option Kept) → kept ≡ None → KeepsFile most (file_of_value d) kept
     → file_of_value d ≡ None
-shape_of d kept e h = shape_by (file_of_value d) (rw e at h)
+shape_of most d kept e h = shape_by most (file_of_value d) (rw e at h)

@@ -48,31 +48,31 @@ abbrev pub IsCrowded : Members → Type 0
 IsCrowded ms = known_count ms < members_count ms
 
 -- the members that were found are those that the parts are of, or there is one that is none of the four
-abbrev pub Stands : Members → Parts → Type 0
-Stands found parts =
+abbrev pub Stands : ℕ → Members → Parts → Type 0
+Stands most found parts =
     ((parts.others ≡ false)
     × (edges : Option Data) × (sink : Option Data) × (version : Option Data) × (vertices : Option Data)
     × (found ≡ known edges sink version vertices)
     × (option_and_then number_of_value version ≡ parts.version)
     × (option_and_then number_of_value vertices ≡ parts.vertices)
     × (option_and_then number_of_value sink ≡ parts.sink)
-    × KeepsAny (option_and_then edges_of_rows (option_and_then as_array edges)) parts.edges)
+    × KeepsAny most (option_and_then edges_of_rows (option_and_then as_array edges)) parts.edges)
     ⊎ ((parts.others ≡ true) × IsCrowded found)
 
 -- with one more member the parts still stand for what was found
-abbrev pub Takes : List ℕ → Data → Parts → Parts → Type 0
-Takes name d old new = (found : Members) → Stands found old → Stands (put name d found) new
+abbrev pub Takes : ℕ → List ℕ → Data → Parts → Parts → Type 0
+Takes most name d old new = (found : Members) → Stands most found old → Stands most (put name d found) new
 
 -- the graph of a file of which the edges are kept
-abbrev pub KeepsGraph : Multigraph → Kept → Type 0
-KeepsGraph graph kept =
-    (graph.vertices ≡ kept.vertices) × (graph.sink ≡ kept.sink) × Keeps graph.edges kept.edges.items
+abbrev pub KeepsGraph : ℕ → Multigraph → Kept → Type 0
+KeepsGraph most graph kept =
+    (graph.vertices ≡ kept.vertices) × (graph.sink ≡ kept.sink) × Keeps most graph.edges kept.edges.items
 
 -- a file of which the edges are kept
-abbrev pub KeepsFile : Option GraphFile → Option Kept → Type 0
-KeepsFile (Some file) (Some kept) = (file.version ≡ kept.version) × KeepsGraph file.graph kept
-KeepsFile None None = ⊤
-KeepsFile _ _ = ⊥
+abbrev pub KeepsFile : ℕ → Option GraphFile → Option Kept → Type 0
+KeepsFile most (Some file) (Some kept) = (file.version ≡ kept.version) × KeepsGraph most file.graph kept
+KeepsFile most None None = ⊤
+KeepsFile most _ _ = ⊥
 
 -- the file of these parts, where each is there
 abbrev pub kept_of : Option ℕ → Option ℕ → Option ℕ → Option (Vec Edge Global) → Option Kept
@@ -81,12 +81,12 @@ kept_of (Some version) (Some vertices) (Some sink) (Some edges) =
 kept_of _ _ _ _ = None
 
 -- what a value is as a file
-abbrev pub IsFile : Data → Option Kept → Type 0
-IsFile d kept = KeepsFile (file_of_value d) kept
+abbrev pub IsFile : ℕ → Data → Option Kept → Type 0
+IsFile most d kept = KeepsFile most (file_of_value d) kept
 
--- what reading a text answers: the file that its value is
-abbrev pub GivesFile : List ℕ → Result Kept JsonFault → Type 0
-GivesFile text (Ok kept) = (d : Data) × (json_of text ≡ Some d) × IsFile d (Some kept)
-GivesFile text (Err f) =
+-- what reading a text answers: the file that its value is, with at most so many edges asked for
+abbrev pub GivesFile : ℕ → List ℕ → Result Kept JsonFault → Type 0
+GivesFile most text (Ok kept) = (d : Data) × (json_of text ≡ Some d) × IsFile most d (Some kept)
+GivesFile most text (Err f) =
     (f ≡ NoMemory) ⊎ ((f ≡ NotJson) × (json_of text ≡ None)) ⊎ ((f ≡ Shape) × (d : Data) × (json_of text ≡ Some d)
     × (file_of_value d ≡ None))

@@ -8,7 +8,6 @@ use Rattle.serde_json.specs.Find.{as_array}
 use Rattle.chip_json.specs.GraphFile.{number_of_value, edges_of_rows}
 use Rattle.chip_json.specs.Values.{next_value, ItemsAre, MembersAre}
 use Rattle.chip_graph.specs.declared.edge.Edge.{Edge}
-use Rattle.chip_graph.specs.Limits.{max_edges}
 use Rattle.chip_json.specs.declared.rows.Row.{Row}
 use Rattle.chip_json.specs.declared.rows.Row.TheVariants as row
 use Rattle.chip_json.specs.declared.fault.JsonFault.{JsonFault}
@@ -31,23 +30,23 @@ abbrev pub and_items : Row → Items → Row
 and_items r no_items = r
 and_items r (item d ds) = and_items (and_number r (number_of_value d)) ds
 
--- what is kept of some edges: all, or more than a graph may have
-abbrev pub Keeps : List Edge → List Edge → Type 0
-Keeps all kept = (kept ≡ all) ⊎ ((max_edges < length all) × (max_edges < length kept))
+-- what is kept of some edges, of which so many are asked for at most: all, or more than that
+abbrev pub Keeps : ℕ → List Edge → List Edge → Type 0
+Keeps most all kept = (kept ≡ all) ⊎ ((most < length all) × (most < length kept))
 
 -- what is kept of edges, where there are any
-abbrev pub KeepsAny : Option (List Edge) → Option (Vec Edge Global) → Type 0
-KeepsAny (Some all) (Some kept) = Keeps all kept.items
-KeepsAny None None = ⊤
-KeepsAny _ _ = ⊥
+abbrev pub KeepsAny : ℕ → Option (List Edge) → Option (Vec Edge Global) → Type 0
+KeepsAny most (Some all) (Some kept) = Keeps most all kept.items
+KeepsAny most None None = ⊤
+KeepsAny most _ _ = ⊥
 
 -- the items of an array as rows
-abbrev pub AreRows : Items → Option (Vec Edge Global) → Type 0
-AreRows ds kept = KeepsAny (edges_of_rows ds) kept
+abbrev pub AreRows : ℕ → Items → Option (Vec Edge Global) → Type 0
+AreRows most ds kept = KeepsAny most (edges_of_rows ds) kept
 
 -- a value as an array of rows
-abbrev pub AreRowsUnder : Data → Option (Vec Edge Global) → Type 0
-AreRowsUnder d kept = KeepsAny (option_and_then edges_of_rows (as_array d)) kept
+abbrev pub AreRowsUnder : ℕ → Data → Option (Vec Edge Global) → Type 0
+AreRowsUnder most d kept = KeepsAny most (option_and_then edges_of_rows (as_array d)) kept
 
 -- what reading a value answers where memory may run out
 abbrev pub MayRead : {T : Type 0} → ℕ → List Token → List Token → (Data → T → Type 0) → Result T JsonFault → Type 0

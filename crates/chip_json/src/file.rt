@@ -1,6 +1,6 @@
 //! A graph file, read member by member.
 
-ghost use Rattle.std.specs.Prelude.{◌≡◌, ◌<◌, length, OnOk};
+ghost use Rattle.std.specs.Prelude.{◌≡◌, ◌<◌, ℕ, length, OnOk};
 ghost use Rattle.chip_json.specs.Rows.{MayRead, MayReadMembers};
 ghost use Rattle.chip_json.specs.Parts.{Takes, Stands, KeepsFile, IsFile, GivesFile, kept_of};
 ghost use Rattle.serde_json.specs.Data.{Members, object};
@@ -18,7 +18,7 @@ use std::str;
 /// How deep arrays and objects nest at most.
 const MAX_DEPTH: usize = 127;
 
-/// What a graph file says. Of too many edges only the first are there.
+/// What a graph file says. Of more edges than were asked for only the first are there.
 #[derive(Drop)]
 pub struct GraphFile {
     /// The version.
@@ -48,16 +48,17 @@ impl Parts {
         alloc: Global,
         reader: &mut Reader<'_>,
         depth: usize,
+        most: u64,
         name: &str,
     ) -> Result<(), JsonFault>
-        ensures value { MayRead depth reader.old reader.new (λ d x. Takes name.now d self.old self.new) result }
+        ensures value { MayRead depth reader.old reader.new (λ d x. Takes most name.now d self.old self.new) result }
         ensures shorter { OnOk result (length reader.new < length reader.old) }
     {
         match name {
             "version" => self.version = number(reader, depth)?,
             "vertices" => self.vertices = number(reader, depth)?,
             "sink" => self.sink = number(reader, depth)?,
-            "edges" => self.edges = edges(alloc, reader, depth)?,
+            "edges" => self.edges = edges(alloc, reader, depth, most)?,
             _ => {
                 self.others = true;
                 pass(reader, depth)?;
@@ -68,7 +69,8 @@ impl Parts {
 
     /// The file, where each part is there and no other member.
     fn into_file(self) -> Option<GraphFile>
-        ensures { (found : Members) → Stands found self → KeepsFile (file_of_value (object found)) result }
+        ensures { (most : ℕ) (found : Members) → Stands most found self
+            → KeepsFile most (file_of_value (object found)) result }
     {
         if self.others {
             return None;
@@ -94,16 +96,16 @@ fn all_of(
     })
 }
 
-/// The graph file that a text is.
-pub fn file_of_text(alloc: Global, text: &[u8]) -> Result<GraphFile, JsonFault>
-    ensures { GivesFile text.now result }
+/// The graph file that a text is. Of more than `most` edges only the first are kept, one more than that.
+pub fn file_of_text(alloc: Global, text: &[u8], most: u64) -> Result<GraphFile, JsonFault>
+    ensures { GivesFile most text.now result }
 {
     let Ok(text) = str::from_utf8(text) else {
         return Err(JsonFault::NotJson);
     };
     let mut scratch = Scratch::new(alloc);
     let mut reader = Reader::new(text, &mut scratch)?;
-    let file = next_file(alloc, &mut reader)?;
+    let file = next_file(alloc, &mut reader, most)?;
     if reader.next().is_some() {
         return Err(JsonFault::NotJson);
     }
@@ -114,12 +116,16 @@ pub fn file_of_text(alloc: Global, text: &[u8]) -> Result<GraphFile, JsonFault>
 }
 
 /// The file that the next value is, if it is one.
-fn next_file(alloc: Global, reader: &mut Reader<'_>) -> Result<Option<GraphFile>, JsonFault>
-    ensures { MayRead max_depth reader.old reader.new IsFile result }
+fn next_file(
+    alloc: Global,
+    reader: &mut Reader<'_>,
+    most: u64,
+) -> Result<Option<GraphFile>, JsonFault>
+    ensures { MayRead max_depth reader.old reader.new (IsFile most) result }
 {
     let token = reader.next().ok_or(NotJson)?;
     if let Token::BeginObject = token {
-        let parts = parts_of(alloc, reader, MAX_DEPTH - 1)?;
+        let parts = parts_of(alloc, reader, MAX_DEPTH - 1, most)?;
         return Ok(parts.into_file());
     }
     pass_rest(reader, token, MAX_DEPTH)?;
@@ -127,8 +133,13 @@ fn next_file(alloc: Global, reader: &mut Reader<'_>) -> Result<Option<GraphFile>
 }
 
 /// The members of an object.
-fn parts_of(alloc: Global, reader: &mut Reader<'_>, depth: usize) -> Result<Parts, JsonFault>
-    ensures value { MayReadMembers depth reader.old reader.new Stands result }
+fn parts_of(
+    alloc: Global,
+    reader: &mut Reader<'_>,
+    depth: usize,
+    most: u64,
+) -> Result<Parts, JsonFault>
+    ensures value { MayReadMembers depth reader.old reader.new (Stands most) result }
     ensures shorter { OnOk result (length reader.new < length reader.old) }
 {
     let mut parts = Parts {
@@ -139,7 +150,7 @@ fn parts_of(alloc: Global, reader: &mut Reader<'_>, depth: usize) -> Result<Part
         others: false,
     };
     'members: while let Some(name) = reader.next_key().map_err(|_| NotJson)? {
-        parts.take(alloc, reader, depth, name)?;
+        parts.take(alloc, reader, depth, most, name)?;
     }
     Ok(parts)
 }

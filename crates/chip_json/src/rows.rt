@@ -9,7 +9,7 @@ ghost use Rattle.chip_json.specs.declared.fault.JsonFault.TheVariants.{NoMemory}
 use crate::fault::JsonFault;
 use crate::number::number_of;
 use crate::passing::{NotJson, pass_rest};
-use chip_graph::{Edge, MAX_EDGES};
+use chip_graph::Edge;
 use json::{Reader, Token};
 use std::alloc::Global;
 
@@ -92,13 +92,14 @@ fn row_of(reader: &mut Reader<'_>, depth: usize) -> Result<Option<Edge>, NotJson
     Ok(row.edge())
 }
 
-/// The edges that the next value means, if it is an array of rows.
+/// The edges that the next value means, if it is an array of rows. Of more than `most` only the first are kept.
 pub(crate) fn edges(
     alloc: Global,
     reader: &mut Reader<'_>,
     depth: usize,
+    most: u64,
 ) -> Result<Option<Vec<Edge>>, JsonFault>
-    ensures value { MayRead depth reader.old reader.new AreRowsUnder result }
+    ensures value { MayRead depth reader.old reader.new (AreRowsUnder most) result }
     ensures shorter { OnOk result (length reader.new < length reader.old) }
 {
     let token = reader.next().ok_or(NotJson)?;
@@ -106,7 +107,7 @@ pub(crate) fn edges(
         if depth == 0 {
             return Err(JsonFault::NotJson);
         }
-        return rows(alloc, reader, depth - 1);
+        return rows(alloc, reader, depth - 1, most);
     }
     pass_rest(reader, token, depth)?;
     Ok(None)
@@ -117,8 +118,9 @@ fn rows(
     alloc: Global,
     reader: &mut Reader<'_>,
     depth: usize,
+    most: u64,
 ) -> Result<Option<Vec<Edge>>, JsonFault>
-    ensures value { MayReadItems depth reader.old reader.new AreRows result }
+    ensures value { MayReadItems depth reader.old reader.new (AreRows most) result }
     ensures shorter { OnOk result (length reader.new < length reader.old) }
 {
     let mut edges = Vec::new(alloc);
@@ -128,7 +130,7 @@ fn rows(
             are_edges = false;
             continue;
         };
-        keep(&mut edges, edge)?;
+        keep(&mut edges, edge, most)?;
     }
     if are_edges {
         return Ok(Some(edges));
@@ -136,13 +138,13 @@ fn rows(
     Ok(None)
 }
 
-/// Keeps an edge, unless there are too many for a graph.
-fn keep(edges: &mut Vec<Edge>, edge: Edge) -> Result<(), JsonFault>
-    ensures kept { IfOk result (λ _. (all : List Edge) → Keeps all edges.old.items
-        → Keeps (all ++ edge ∷ []) edges.new.items) }
+/// Keeps an edge, unless there are more than `most` already.
+fn keep(edges: &mut Vec<Edge>, edge: Edge, most: u64) -> Result<(), JsonFault>
+    ensures kept { IfOk result (λ _. (all : List Edge) → Keeps most all edges.old.items
+        → Keeps most (all ++ edge ∷ []) edges.new.items) }
     ensures memory { IfErr result (λ f. f ≡ NoMemory) }
 {
-    if edges.len() <= MAX_EDGES {
+    if edges.len() as u64 <= most {
         edges.push(edge)?;
     }
     Ok(())

@@ -27,5 +27,5 @@ returns c =
       refl,
       read.0,
       text_read t read.0 utf8.1 (rw (← all, ← over) read.1),
-      shape_of read.0 _ (c.in-None.is) read.2,
+      shape_of c.args.most read.0 _ (c.in-None.is) read.2,
     ))

@@ -32,7 +32,7 @@ returns-in-BeginObject c =
     let read = c.in_ok-parts.ensures.value in (
       object read.0,
       ap (next_value max_depth) is ∙ object_read max_depth c.next.new.self _ (omega arith) read.1,
-      c.into_file.ensures read.0 read.2,
+      c.into_file.ensures c.args.most read.0 read.2,
     )
 
 pub returns : goal.returns
@@ -41,4 +41,4 @@ returns c =
     let read = c.in_ok-pass_rest.ensures.value in
     let other = not_object max_depth c.next.new.self c.pass_rest.new.reader read.0 c.in_ok-token.token
     c.in_default.not-BeginObject read.1 in
-    (read.0, ap (next_value max_depth) first ∙ read.1, no_object_file read.0 other)
+    (read.0, ap (next_value max_depth) first ∙ read.1, no_object_file c.args.most read.0 other)

@@ -11,7 +11,7 @@ invariant-members l =
     × ((what : Option (Members × List Token)) → MembersAre l.depth l.reader found what
     → MembersAre l.depth l.initial.reader no_members what)
     × (length l.reader ≤ length l.initial.reader)
-    × Stands found l.parts
+    × Stands l.most found l.parts
 
 abbrev pub decreases-members : goal.decreases-members
 decreases-members l = length l.reader

@@ -25,7 +25,7 @@ returns-in-BeginArray-clause-value c =
     let first : c.args.reader.now ≡ token_of c.in_ok-token.token ∷ c.next.new.self = grind arith in
     let is : c.args.reader.now ≡ Token.begin_array ∷ c.next.new.self = first
     ∙ ap (λ k. token_of k ∷ c.next.new.self) c.in-BeginArray.is in
-    rows_mapped c.args.depth c.next.new.self c.args.reader.now _ _ is (omega arith) c.rows.ensures.value
+    rows_mapped c.args.most c.args.depth c.next.new.self c.args.reader.now _ _ is (omega arith) c.rows.ensures.value
 
 pub returns : goal.returns
 returns c =
@@ -33,6 +33,6 @@ returns c =
     let read = c.in_ok-pass_rest.ensures.value in
     let other = not_array c.args.depth c.next.new.self c.pass_rest.new.reader read.0 c.in_ok-token.token
     c.in_default.not-BeginArray read.1 in record {
-      value = (read.0, rw first read.1, no_array_rows read.0 other);
+      value = (read.0, rw first read.1, no_array_rows c.args.most read.0 other);
       shorter = grind (arith, first);
     }

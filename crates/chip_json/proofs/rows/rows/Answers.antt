@@ -36,7 +36,7 @@ rows-preserved-in_default c =
       (λ what later. further c.args.depth c.args.reader.now l.invariant.0 (item d) what
           (l.invariant.1 _ (item_read c.args.depth l.reader r d going.0 read less what later))),
       omega (arith, l.invariant.2),
-      rows_spoilt l.are_edges l.invariant.0 l.edges.items d none l.invariant.3,
+      rows_spoilt c.args.most l.are_edges l.invariant.0 l.edges.items d none l.invariant.3,
     )
 
 pub rows-preserved : goal.rows-preserved
@@ -71,5 +71,5 @@ returns-clause-value c =
     let over : after_end_array l.reader ≡ Some c.take_end_array.new.self = grind arith in (
       l.invariant.0 _,
       l.invariant.1 _ (items_over c.args.depth l.reader c.take_end_array.new.self over),
-      no_rows_over l.invariant.0 (rw c.if-are_edges.false at l.invariant.3),
+      no_rows_over c.args.most l.invariant.0 (rw c.if-are_edges.false at l.invariant.3),
     )

@@ -12,7 +12,7 @@ invariant-rows l =
     × ((what : Option (Items × List Token)) → ItemsAre l.depth l.reader what
     → ItemsAre l.depth l.initial.reader (parse_map before what))
     × (length l.reader ≤ length l.initial.reader)
-    × RowsBefore l.are_edges before l.edges.items
+    × RowsBefore l.most l.are_edges before l.edges.items
 
 abbrev pub decreases-rows : goal.decreases-rows
 decreases-rows l = length l.reader

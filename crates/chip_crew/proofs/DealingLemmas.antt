@@ -1,6 +1,6 @@
 -- Serves Dealing.antt, Rounds.antt.
 -- Where the run of a worker begins and ends, and what its turns leave of it.
-use Rattle.std.proofs.Common.{◌≡◌, ℕ, zero, suc, ◌+◌, ◌%◌, ◌<◌, ◌≤◌, ◌-◌, ◌==◌, max, Bool, true, false, if◌then◌else◌, List, [], ◌∷◌, length}
+use Rattle.std.proofs.Common.{◌^◌, ◌≡◌, ℕ, zero, suc, ◌+◌, ◌%◌, ◌<◌, ◌≤◌, ◌-◌, ◌==◌, max, Bool, true, false, if◌then◌else◌, List, [], ◌∷◌, length}
 use Rattle.std.proofs.Common.{Option, Some, None, take, length-append, length-take}
 use Rattle.std.proofs.Common.{refl, sym, ap, ◌∙◌, subst, arith, add-one, mul-lt-mul_of_pos_right}
 use Rattle.std.proofs.Common.{mul_comm}
@@ -30,7 +30,7 @@ few_picked test (suc n) =
     let one = one_at_most (test n) n in let before = few_picked test n in omega (arith, both, one, before)
 
 -- few ends of edges are at a vertex
-pub few_ends : (G : Multigraph) (v : ℕ) → length G.edges ≤ 65536 → ends_at G v ≤ 131073
+pub few_ends : (G : Multigraph) (v : ℕ) → length G.edges ≤ 2 ^ 23 → ends_at G v ≤ (2 ^ 24 + 1)
 few_ends G v few =
     let outs = few_picked (λ e. (edge_at G e).tail == v) (length G.edges) in
     let ins = few_picked (λ e. (edge_at G e).head == v) (length G.edges) in omega (arith, few, outs, ins)

@@ -72,7 +72,7 @@ fn ends_at(graph: &Graph, vertex: u64) -> u64
     requires vertex { vertex < graph.now.vertices }
     requires few_edges { length graph.now.edges ≤ max_edges }
     ensures value { result ≡ ends_at graph.now vertex }
-    ensures few { result ≤ 2 ^ 17 + 1 }
+    ensures few { result ≤ 2 ^ 24 + 1 }
 {
     graph.outs(vertex).len() as u64 + graph.ins(vertex).len() as u64 + 1
 }
@@ -80,7 +80,7 @@ fn ends_at(graph: &Graph, vertex: u64) -> u64
 /// The ends of edges at all vertices.
 fn all_ends(graph: &Graph) -> u64
     ensures value { result ≡ ends_before graph.now graph.now.vertices }
-    ensures few { result ≤ 2 ^ 30 }
+    ensures few { result ≤ 2 ^ 45 }
 {
     let mut ends = 0;
     for vertex in 0..graph.vertices() {

@@ -12,7 +12,7 @@ message_limit = 2 ^ 40
 
 -- the greatest number of edges on one side of a vertex: all edges of a graph and a root edge
 abbrev pub edge_limit : ℕ
-edge_limit = 2 ^ 16 + 1
+edge_limit = 2 ^ 23 + 1
 
 -- the edges that have a tally, in its order
 abbrev pub edges_of : List Tally → List ℕ

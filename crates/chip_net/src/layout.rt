@@ -27,7 +27,7 @@ pub(crate) fn acks_word(setting: &Setting, edge: u64) -> usize
 /// The number of the word of acknowledgements of the first vertex's root edge; those of the others follow it.
 pub(crate) fn root_acks(setting: &Setting) -> usize
     ensures words { (v : ℕ) → result + v ≡ index_of setting.now (of_acks (root_edge setting.now v)) }
-    ensures few { result < 2 ^ 20 }
+    ensures few { result < 2 ^ 25 }
 {
     (setting.all_edges() + setting.graph_edges()) as usize
 }
@@ -56,7 +56,7 @@ pub(crate) fn fired_word(setting: &Setting, vertex: u64) -> usize
 /// How many words a net has.
 pub(crate) fn word_count(setting: &Setting) -> usize
     ensures value { result ≡ word_count setting.now }
-    ensures few { result < 2 ^ 24 }
+    ensures few { result < 2 ^ 30 }
 {
     let edges = setting.all_edges();
     let ring = setting.ring().cells();

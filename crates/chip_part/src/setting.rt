@@ -1,6 +1,6 @@
 //! How a game is set up.
 
-ghost use Rattle.std.specs.Prelude.{◌≡◌, ◌<◌, ◌≤◌, IfOk};
+ghost use Rattle.std.specs.Prelude.{◌≡◌, ◌+◌, ◌<◌, ◌≤◌, IfOk};
 
 use chip_graph::{AnyEdge, Game};
 use chip_link::{MAX_RING, Ring};
@@ -31,6 +31,7 @@ impl Model for Setting {
 }
 
 impl Setting {
+    ghost use Rattle.chip_graph.specs.Limits.{max_vertices, max_edges};
     ghost use Rattle.chip_part.specs.Setting.{setting_with, IsSetting};
     ghost use Rattle.chip_part.specs.Edges.{all_edges, graph_edges, root_edge, head_if, tail_if};
 
@@ -78,18 +79,18 @@ impl Setting {
         self.fed
     }
 
-    /// How many vertices there are, 1 to 4096.
+    /// How many vertices there are, 1 to 2^20.
     pub fn vertices(&self) -> u64
         ensures value { result ≡ self.now.game.graph.vertices }
-        ensures few { result ≤ 4096 }
+        ensures few { result ≤ max_vertices }
     {
         self.game.graph().vertices()
     }
 
-    /// How many edges the graph has, up to 65536.
+    /// How many edges the graph has, up to 2^23.
     pub fn graph_edges(&self) -> u64
         ensures value { result ≡ graph_edges self.now }
-        ensures few { result ≤ 65536 }
+        ensures few { result ≤ max_edges }
     {
         self.game.graph().edges().len() as u64
     }
@@ -97,7 +98,7 @@ impl Setting {
     /// How many edges there are, the root's among them.
     pub fn all_edges(&self) -> u64
         ensures value { result ≡ all_edges self.now }
-        ensures few { result ≤ 69632 }
+        ensures few { result ≤ max_edges + max_vertices }
     {
         self.edges
     }

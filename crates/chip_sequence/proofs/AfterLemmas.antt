@@ -47,10 +47,10 @@ module _ (G : Multigraph) (good : IsGraph G) (fired : List ℕ) (v : ℕ) where
     flow_small e l = mul-le-mul (good.edges_fit e l).few_chips (let a = fits (edge_at G e).tail in
         let b : slice_index fired (edge_at G e).tail ≤ 2 ^ 64 = omega arith in b)
 
-    inflow_small : inflow G (slice_index fired) v ≤ 2 ^ 100
+    inflow_small : inflow G (slice_index fired) v ≤ 2 ^ 107
     inflow_small =
         let a = sum_small (length G.edges) (2 ^ 20 * 2 ^ 64) (λ e. eqb (edge_at G e).head v) flow flow_small in
-        let b : length G.edges * (2 ^ 20 * 2 ^ 64) ≤ 65536 * (2 ^ 20 * 2 ^ 64) =
+        let b : length G.edges * (2 ^ 20 * 2 ^ 64) ≤ 2 ^ 23 * (2 ^ 20 * 2 ^ 64) =
         mul-le-mul_right (2 ^ 20 * 2 ^ 64) good.few_edges in
         omega arith
 

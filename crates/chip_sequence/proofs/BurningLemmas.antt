@@ -154,7 +154,7 @@ module _ (G : Multigraph) (good : IsGraph G) (v : ℕ) where
       let b = in_sum h in
       let c = sum_small (length G.edges) (2 ^ 20) (λ e. eqb (edge_at G e).head v) h
       (λ e m. (let d = small e in let f = (good.edges_fit e m).few_chips in omega arith)) in
-      let k : length G.edges * 2 ^ 20 ≤ 65536 * 2 ^ 20 = mul-le-mul_right (2 ^ 20) good.few_edges in
+      let k : length G.edges * 2 ^ 20 ≤ 2 ^ 23 * 2 ^ 20 = mul-le-mul_right (2 ^ 20) good.few_edges in
       omega arith
 
 -- what counts at most where a test passes

@@ -1,6 +1,6 @@
-use Rattle.std.proofs.Common.{rules, ◌≤◌, ℕ, subst}
+use Rattle.std.proofs.Common.{◌^◌, ◌+◌, rules, ◌≤◌, ℕ, subst}
 use Rattle.chip_crew.proofs.DealingLemmas.{few_ends}
 use Rattle.chip_crew.proofs.dealing.ends_at.Goals as goal
 
 pub returns-clause-few : goal.returns-clause-few
-returns-clause-few c = subst (λ (n : ℕ). n ≤ 131073) (search rules) (few_ends c.args.graph.now c.args.vertex c.requires.few_edges)
+returns-clause-few c = subst (λ (n : ℕ). n ≤ (2 ^ 24 + 1)) (search rules) (few_ends c.args.graph.now c.args.vertex c.requires.few_edges)

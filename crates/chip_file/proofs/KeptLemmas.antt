@@ -2,12 +2,13 @@
 -- A text of more edges than a graph has is refused alike, whether all of them are kept or only the first.
 use Rattle.std.proofs.Common.{◌≡◌, ℕ, ◌<◌, ◌≤◌, ◌⊎◌, Bool, true, false, leb, ltb, ◌&&◌, List, length, Option, Some, None}
 use Rattle.std.proofs.Common.{Ok, Err, refl, sym, ap, ◌∙◌, subst, arith, leb-true, inl, inr}
-use Rattle.std.specs.Prelude.{option_and_then, Result}
+use Rattle.std.specs.Prelude.{option_and_then, IfSome, Result}
 use Rattle.std.specs.Result.{IsErrAnd}
 use Rattle.chip_graph.specs.declared.edge.Edge.{Edge}
 use Rattle.chip_graph.specs.declared.fault.GraphFault.{GraphFault}
 use Rattle.chip_graph.specs.declared.fault.GraphFault.TheVariants as graph_fault
-use Rattle.chip_graph.specs.Multigraph.{Multigraph, IsGraph}
+use Rattle.chip_graph.specs.Limits.{SizeLimits}
+use Rattle.chip_graph.specs.Multigraph.{Multigraph, IsGraphWithin}
 use Rattle.chip_graph.specs.Faults.{first_of_faults, unless, fault_of_edges, fault_of_rows, IsGraphFault, MakesGraph}
 use Rattle.chip_graph.proofs.FaultLemmas.{rows_few}
 use Rattle.chip_json.specs.declared.fault.JsonFault.{JsonFault}
@@ -17,9 +18,10 @@ use Rattle.chip_json.specs.Rows.{Keeps}
 use Rattle.chip_json.specs.Parts.{KeepsGraph, KeepsFile, GivesFile}
 use Rattle.chip_file.specs.declared.fault.FileFault.{FileFault}
 use Rattle.chip_file.specs.declared.fault.FileFault.TheVariants as fault
-use Rattle.chip_file.specs.Answer.{Gives}
+use Rattle.chip_file.specs.Answer.{Answers, Gives}
 use Rattle.chip_file.specs.GraphFaults.{of_graph_fault, of_json_fault}
-use Rattle.chip_file.specs.GraphText.{file_of_text, graph_of_file, graph_of_text, MeansGraph, IsGraphTextFault}
+use Rattle.chip_file.specs.GraphText.{file_of_text, graph_of_file, graph_of_text, IsKeptText, MeansGraph}
+use Rattle.chip_file.specs.GraphText.{IsGraphTextFault}
 
 -- ---- a refusal
 
@@ -30,21 +32,21 @@ refused IsMeant IsFault (Err e) f is why = subst (λ (g : FileFault). (g ≡ fau
 
 -- ---- the file of a text
 
-pub json_fault : (text : List ℕ) (f : JsonFault) → GivesFile text (Err f)
-    → (of_json_fault f ≡ fault.NoMemory) ⊎ IsGraphTextFault text (of_json_fault f)
-json_fault text f (inl e) = inl (ap of_json_fault e)
-json_fault text f (inr (inl (e, none))) = inr (rw e none)
-json_fault text f (inr (inr (e, d, is, none))) = inr (rw e (d, is, none))
+pub json_fault : (limits : SizeLimits) (most : ℕ) (text : List ℕ) (f : JsonFault) → GivesFile most text (Err f)
+    → (of_json_fault f ≡ fault.NoMemory) ⊎ IsGraphTextFault limits text (of_json_fault f)
+json_fault limits most text f (inl e) = inl (ap of_json_fault e)
+json_fault limits most text f (inr (inl (e, none))) = inr (rw e none)
+json_fault limits most text f (inr (inr (e, d, is, none))) = inr (rw e (d, is, none))
 
-kept_file : (o : Option GraphFile) (kept : Kept) → KeepsFile o (Some kept)
-    → (file : GraphFile) × (o ≡ Some file) × (file.version ≡ kept.version) × KeepsGraph file.graph kept
-kept_file (Some file) kept h = (file, refl, h.0, h.1)
-kept_file None kept h = absurd h
+kept_file : (most : ℕ) (o : Option GraphFile) (kept : Kept) → KeepsFile most o (Some kept)
+    → (file : GraphFile) × (o ≡ Some file) × (file.version ≡ kept.version) × KeepsGraph most file.graph kept
+kept_file most (Some file) kept h = (file, refl, h.0, h.1)
+kept_file most None kept h = absurd h
 
-pub text_file : (text : List ℕ) (kept : Kept) → GivesFile text (Ok kept)
-    → (file : GraphFile) × (file_of_text text ≡ Some file) × (file.version ≡ kept.version) × KeepsGraph file.graph kept
-text_file text kept (d, is, keeps) =
-    let found = kept_file (file_of_value d) kept keeps in
+pub text_file : (most : ℕ) (text : List ℕ) (kept : Kept) → GivesFile most text (Ok kept)
+    → (file : GraphFile) × (file_of_text text ≡ Some file) × (file.version ≡ kept.version) × KeepsGraph most file.graph kept
+text_file most text kept (d, is, keeps) =
+    let found = kept_file most (file_of_value d) kept keeps in
     (found.0, ap (option_and_then file_of_value) is ∙ found.1, found.2, found.3)
 
 pub first_version : (file : GraphFile) → file.version ≡ 1 → graph_of_file file ≡ Some file.graph
@@ -60,81 +62,112 @@ same_rows : (graph : Multigraph) (v s : ℕ) (edges : List Edge) → graph.verti
 same_rows graph v s edges a b c = rw (← a, ← b, c) refl
 
 -- the first fault where there are too many edges: no edge is looked at
-abbrev crowded_fault : ℕ → ℕ → Option GraphFault
-crowded_fault v s =
-    first_of_faults (unless (ltb 0 v && leb v 4096) graph_fault.Vertices)
+abbrev crowded_fault : SizeLimits → ℕ → ℕ → Option GraphFault
+crowded_fault limits v s =
+    first_of_faults (unless (ltb 0 v && leb v limits.vertices) graph_fault.Vertices)
     (first_of_faults (unless (ltb s v) graph_fault.Sink) (Some graph_fault.EdgeCount))
 
-crowded_by : (v s : ℕ) (edges : List Edge) (b : Bool) → leb (length edges) 65536 ≡ b → 65536 < length edges
-    → fault_of_rows (record { vertices = v; sink = s; edges = edges }) ≡ crowded_fault v s
-crowded_by v s edges true is many = let few : length edges ≤ 65536 = leb-true _ _ is in absurd (omega arith)
-crowded_by v s edges false is many =
-    ap (λ (b : Bool). first_of_faults (unless (ltb 0 v && leb v 4096) graph_fault.Vertices)
+crowded_by : (limits : SizeLimits) (v s : ℕ) (edges : List Edge) (b : Bool) → leb (length edges) limits.edges ≡ b
+    → limits.edges < length edges
+    → fault_of_rows limits (record { vertices = v; sink = s; edges = edges }) ≡ crowded_fault limits v s
+crowded_by limits v s edges true is many = let few : length edges ≤ limits.edges = leb-true _ _ is in absurd (omega arith)
+crowded_by limits v s edges false is many =
+    ap (λ (b : Bool). first_of_faults (unless (ltb 0 v && leb v limits.vertices) graph_fault.Vertices)
     (first_of_faults (unless (ltb s v) graph_fault.Sink)
     (first_of_faults (unless b graph_fault.EdgeCount) (fault_of_edges v s 0 edges)))) is
 
-crowded : (v s : ℕ) (edges : List Edge) → 65536 < length edges
-    → fault_of_rows (record { vertices = v; sink = s; edges = edges }) ≡ crowded_fault v s
-crowded v s edges many = crowded_by v s edges (leb (length edges) 65536) refl many
+crowded : (limits : SizeLimits) (v s : ℕ) (edges : List Edge) → limits.edges < length edges
+    → fault_of_rows limits (record { vertices = v; sink = s; edges = edges }) ≡ crowded_fault limits v s
+crowded limits v s edges many = crowded_by limits v s edges (leb (length edges) limits.edges) refl many
 
-fault_of_many : (v s : ℕ) (all kept : List Edge) (f : GraphFault) → 65536 < length all → 65536 < length kept
-    → IsGraphFault (record { vertices = v; sink = s; edges = kept }) f
-    → IsGraphFault (record { vertices = v; sink = s; edges = all }) f
-fault_of_many v s all kept f many more (inl is) = inl (crowded v s all many ∙ sym (crowded v s kept more) ∙ is)
-fault_of_many v s all kept f many more (inr h) =
-    let few : length kept ≤ 65536 = rows_few (record { vertices = v; sink = s; edges = kept }) h.0 in
+fault_of_many : (limits : SizeLimits) (v s : ℕ) (all kept : List Edge) (f : GraphFault) → limits.edges < length all
+    → limits.edges < length kept
+    → IsGraphFault limits (record { vertices = v; sink = s; edges = kept }) f
+    → IsGraphFault limits (record { vertices = v; sink = s; edges = all }) f
+fault_of_many limits v s all kept f many more (inl is) =
+    inl (crowded limits v s all many ∙ sym (crowded limits v s kept more) ∙ is)
+fault_of_many limits v s all kept f many more (inr h) =
+    let few : length kept ≤ limits.edges = rows_few limits (record { vertices = v; sink = s; edges = kept }) h.0 in
     absurd (omega arith)
 
-fault_of_rows_by : (v s : ℕ) (all kept : List Edge) (f : GraphFault) → Keeps all kept
-    → IsGraphFault (record { vertices = v; sink = s; edges = kept }) f
-    → IsGraphFault (record { vertices = v; sink = s; edges = all }) f
-fault_of_rows_by v s all kept f (inl is) h =
-    subst (λ (edges : List Edge). IsGraphFault (record { vertices = v; sink = s; edges = edges }) f) is h
-fault_of_rows_by v s all kept f (inr both) h = fault_of_many v s all kept f both.0 both.1 h
+fault_of_rows_by : (limits : SizeLimits) (v s : ℕ) (all kept : List Edge) (f : GraphFault)
+    → Keeps limits.edges all kept
+    → IsGraphFault limits (record { vertices = v; sink = s; edges = kept }) f
+    → IsGraphFault limits (record { vertices = v; sink = s; edges = all }) f
+fault_of_rows_by limits v s all kept f (inl is) h =
+    subst (λ (edges : List Edge). IsGraphFault limits (record { vertices = v; sink = s; edges = edges }) f) is h
+fault_of_rows_by limits v s all kept f (inr both) h = fault_of_many limits v s all kept f both.0 both.1 h
 
-fault_of_all : (graph : Multigraph) (kept : Kept) (f : GraphFault) → KeepsGraph graph kept
-    → IsGraphFault (kept_rows kept) f → IsGraphFault graph f
-fault_of_all graph kept f (a, b, keeps) h =
-    subst (λ (g : Multigraph). IsGraphFault g f)
+fault_of_all : (limits : SizeLimits) (graph : Multigraph) (kept : Kept) (f : GraphFault)
+    → KeepsGraph limits.edges graph kept → IsGraphFault limits (kept_rows kept) f → IsGraphFault limits graph f
+fault_of_all limits graph kept f (a, b, keeps) h =
+    subst (λ (g : Multigraph). IsGraphFault limits g f)
     (sym (same_rows graph kept.vertices kept.sink graph.edges a b refl))
-    (fault_of_rows_by kept.vertices kept.sink graph.edges kept.edges.items f keeps h)
+    (fault_of_rows_by limits kept.vertices kept.sink graph.edges kept.edges.items f keeps h)
 
-all_rows : (graph : Multigraph) (kept : Kept) → KeepsGraph graph kept → IsGraph (kept_rows kept)
+all_rows : (limits : SizeLimits) (graph : Multigraph) (kept : Kept) → KeepsGraph limits.edges graph kept
+    → IsGraphWithin limits (kept_rows kept)
     → graph ≡ kept_rows kept
-all_rows graph kept (a, b, inl is) ok = same_rows graph kept.vertices kept.sink kept.edges.items a b is
-all_rows graph kept (a, b, inr both) ok =
-    let few : length kept.edges.items ≤ 65536 = ok.few_edges in
-    let many : 65536 < length kept.edges.items = both.1 in
+all_rows limits graph kept (a, b, inl is) ok = same_rows graph kept.vertices kept.sink kept.edges.items a b is
+all_rows limits graph kept (a, b, inr both) ok =
+    let few : length kept.edges.items ≤ limits.edges = ok.within_edges in
+    let many : limits.edges < length kept.edges.items = both.1 in
     absurd (omega arith)
 
 -- ---- the graph of a text
 
--- a text of these rows, of which the edges are kept
-abbrev pub IsKeptText : List ℕ → Kept → Type 0
-IsKeptText text kept = (graph : Multigraph) × (graph_of_text text ≡ Some graph) × KeepsGraph graph kept
-
-pub means_graph : (text : List ℕ) (kept : Kept) (made : Multigraph) → IsKeptText text kept
-    → MakesGraph (kept_rows kept) (Ok made) → MeansGraph text made
-means_graph text kept made (graph, is, keeps) (same, ok) = record {
-  meaning = is ∙ ap Some (all_rows graph kept keeps ok ∙ sym same);
-  valid = subst IsGraph (sym same) ok;
+means_graph : (limits : SizeLimits) (text : List ℕ) (kept : Kept) (made : Multigraph) → IsKeptText limits text kept
+    → MakesGraph limits (kept_rows kept) (Ok made) → MeansGraph limits text made
+means_graph limits text kept made (graph, is, keeps) (same, ok) = record {
+  meaning = is ∙ ap Some (all_rows limits graph kept keeps ok ∙ sym same);
+  valid = subst (IsGraphWithin limits) (sym same) ok;
 }
 
-is_text_fault : (text : List ℕ) (graph : Multigraph) (f : GraphFault) → graph_of_text text ≡ Some graph
-    → IsGraphFault graph f → (of_graph_fault f ≡ fault.NoMemory) ⊎ IsGraphTextFault text (of_graph_fault f)
-is_text_fault text graph graph_fault.Vertices is h = inr (graph, is, h)
-is_text_fault text graph graph_fault.Sink is h = inr (graph, is, h)
-is_text_fault text graph graph_fault.EdgeCount is h = inr (graph, is, h)
-is_text_fault text graph (graph_fault.Endpoint e) is h = inr (graph, is, h)
-is_text_fault text graph (graph_fault.Mult e) is h = inr (graph, is, h)
-is_text_fault text graph (graph_fault.Loop e) is h = inr (graph, is, h)
-is_text_fault text graph (graph_fault.FromSink e) is h = inr (graph, is, h)
-is_text_fault text graph (graph_fault.Unreached v) is h = inr (graph, is, h)
-is_text_fault text graph graph_fault.NoMemory is h = inl refl
+is_text_fault : (limits : SizeLimits) (text : List ℕ) (graph : Multigraph) (f : GraphFault)
+    → graph_of_text text ≡ Some graph
+    → IsGraphFault limits graph f → (of_graph_fault f ≡ fault.NoMemory) ⊎ IsGraphTextFault limits text (of_graph_fault f)
+is_text_fault limits text graph graph_fault.Vertices is h = inr (graph, is, h)
+is_text_fault limits text graph graph_fault.Sink is h = inr (graph, is, h)
+is_text_fault limits text graph graph_fault.EdgeCount is h = inr (graph, is, h)
+is_text_fault limits text graph (graph_fault.Endpoint e) is h = inr (graph, is, h)
+is_text_fault limits text graph (graph_fault.Mult e) is h = inr (graph, is, h)
+is_text_fault limits text graph (graph_fault.Loop e) is h = inr (graph, is, h)
+is_text_fault limits text graph (graph_fault.FromSink e) is h = inr (graph, is, h)
+is_text_fault limits text graph (graph_fault.Unreached v) is h = inr (graph, is, h)
+is_text_fault limits text graph graph_fault.NoMemory is h = inl refl
 
-pub text_fault : (text : List ℕ) (kept : Kept) (f : GraphFault) → IsKeptText text kept
-    → MakesGraph (kept_rows kept) (Err f)
-    → (of_graph_fault f ≡ fault.NoMemory) ⊎ IsGraphTextFault text (of_graph_fault f)
-text_fault text kept f given (inl (e, none)) = inl (ap of_graph_fault e)
-text_fault text kept f (graph, is, keeps) (inr h) =
-    is_text_fault text graph f is (fault_of_all graph kept f keeps h)
+text_fault : (limits : SizeLimits) (text : List ℕ) (kept : Kept) (f : GraphFault) → IsKeptText limits text kept
+    → MakesGraph limits (kept_rows kept) (Err f)
+    → (of_graph_fault f ≡ fault.NoMemory) ⊎ IsGraphTextFault limits text (of_graph_fault f)
+text_fault limits text kept f given (inl (e, none)) = inl (ap of_graph_fault e)
+text_fault limits text kept f (graph, is, keeps) (inr h) =
+    is_text_fault limits text graph f is (fault_of_all limits graph kept f keeps h)
+
+-- ---- the graph of an input, whose text may be known
+
+-- the graph that was made of a kept file is that of the text
+pub graph_answered : (limits : SizeLimits) (input : Option (List ℕ)) (kept : Kept) (made : Multigraph)
+    → IfSome input (λ text. Answers limits text (IsKeptText limits text) (IsGraphTextFault limits text) (Ok kept))
+    → MakesGraph limits (kept_rows kept) (Ok made)
+    → IfSome input (λ text. Answers limits text (MeansGraph limits text) (IsGraphTextFault limits text) (Ok made))
+graph_answered limits None kept made h m = tt
+graph_answered limits (Some text) kept made h m = (h.0, means_graph limits text kept made h.1 m)
+
+refused_by : (limits : SizeLimits) (text : List ℕ) (f : FileFault) → length text ≤ limits.bytes
+    → (f ≡ fault.NoMemory) ⊎ IsGraphTextFault limits text f
+    → (result : Result Multigraph FileFault) → IsErrAnd result (λ e. e ≡ f)
+    → Answers limits text (MeansGraph limits text) (IsGraphTextFault limits text) result
+refused_by limits text f few why (Ok value) is = absurd is
+refused_by limits text f few (inl memory) (Err e) is = inl (inr (is ∙ memory))
+refused_by limits text f few (inr wrong) (Err e) is =
+    inr (inr (few, subst (λ (g : FileFault). IsGraphTextFault limits text g) (sym is) wrong))
+
+-- what is wrong with a kept file is wrong with the text
+pub graph_refused : (limits : SizeLimits) (input : Option (List ℕ)) (kept : Kept) (f : GraphFault)
+    → IfSome input (λ text. Answers limits text (IsKeptText limits text) (IsGraphTextFault limits text) (Ok kept))
+    → MakesGraph limits (kept_rows kept) (Err f)
+    → (result : Result Multigraph FileFault) → IsErrAnd result (λ e. e ≡ of_graph_fault f)
+    → IfSome input (λ text. Answers limits text (MeansGraph limits text) (IsGraphTextFault limits text) result)
+graph_refused limits None kept f h m result is = tt
+graph_refused limits (Some text) kept f h m result is =
+    refused_by limits text (of_graph_fault f) h.0 (text_fault limits text kept f h.1 m) result is

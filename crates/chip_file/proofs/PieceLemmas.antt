@@ -9,7 +9,7 @@ use Rattle.std.proofs.lemmas.Bool.{eqb-true}
 use Rattle.std.proofs.lemmas.List.{length-take-le}
 use Rattle.chip_file.specs.declared.source.LastRead.{LastRead}
 use Rattle.chip_file.specs.declared.source.LastRead.TheVariants as last
-use Rattle.chip_file.specs.Answer.{max_bytes, max_chunk}
+use Rattle.chip_file.specs.Answer.{max_chunk}
 use Rattle.chip_file.specs.Pieces.{CutsInto, GivesPiece, GoesOn, IsSound, SplitsRows, has_quote, kind_of_read}
 use Rattle.chip_file.specs.Pieces.{Reading, rows_due, unread}
 use Rattle.chip_file.specs.Rows.{Row, records_of}
@@ -23,6 +23,7 @@ pub goes_nowhere : {R : Type 0} (remaining : R → Option (List ℕ)) (a : Readi
 goes_nowhere remaining a sound = record {
   lent = refl;
   sound = sound;
+  alike = refl;
   took = ([], Consumes-nil _, omega arith);
 }
 
@@ -36,6 +37,7 @@ goes_further remaining a b c first second =
     record {
       lent = second.lent ∙ first.lent;
       sound = second.sound;
+      alike = second.alike ∙ first.alike;
       took = (
         first.took.0 ++ second.took.0,
         Consumes-trans _ _ _ first.took.0 second.took.0 first.took.1 second.took.1,
@@ -45,16 +47,18 @@ goes_further remaining a b c first second =
 
 -- what is carried does not count
 pub goes_kept : {R : Type 0} (remaining : R → Option (List ℕ)) (a b c : Reading R) → GoesOn remaining a b
-    → c.source ≡ b.source → c.taken ≡ b.taken
+    → c.source ≡ b.source → c.taken ≡ b.taken → c.most ≡ b.most
     → GoesOn remaining a c
-goes_kept remaining a b c on source taken = record {
+goes_kept remaining a b c on source taken most = record {
   lent = rw source on.lent;
   sound = record {
+    low = rw most on.sound.low;
     few = rw (source, taken) on.sound.few;
-    most = rw taken on.sound.most;
-    ended = rw (source, taken) on.sound.ended;
-    failed = rw (source, taken) on.sound.failed;
+    most = rw (taken, most) on.sound.most;
+    ended = rw (source, taken, most) on.sound.ended;
+    failed = rw (source, taken, most) on.sound.failed;
   };
+  alike = most ∙ on.alike;
   took = (on.took.0, rw source on.took.1, rw taken on.took.2);
 }
 
@@ -168,22 +172,22 @@ still_kept remaining a b m new came kept consumes carry source text known =
     (carried (left remaining b.source) (left remaining m.source) b.carry.items came text consumes (kept text known))
 
 due_going : {R : Type 0} (p : Reading R) → goes_on (last_read p.source) ≡ true
-    → rows_due p ≡ 2 * (max_bytes + max_chunk - p.taken + length p.carry.items) + 2
+    → rows_due p ≡ 2 * (p.most + max_chunk - p.taken + length p.carry.items) + 2
 due_going p more = rw more refl
 
 due_ended : {R : Type 0} (p : Reading R) → last_read p.source ≡ last.End
-    → rows_due p ≡ 2 * (max_bytes + max_chunk - p.taken + length p.carry.items) + 0
+    → rows_due p ≡ 2 * (p.most + max_chunk - p.taken + length p.carry.items) + 0
 due_ended p ended = rw ended refl
 
 -- the input has ended, and what was carried is the last piece
 pub last_piece : {R : Type 0} (remaining : R → Option (List ℕ)) (a b new : Reading R) (piece : List ℕ)
     → IsAtEnd (left remaining new.source) → last_read new.source ≡ last.End
-    → new.carry.items ≡ [] → piece ≡ b.carry.items → new.taken ≡ b.taken
+    → new.carry.items ≡ [] → piece ≡ b.carry.items → new.taken ≡ b.taken → new.most ≡ b.most
     → Consumes (left remaining b.source) (left remaining new.source) []
     → ((text : List ℕ) → unread remaining a ≡ Some text → unread remaining b ≡ Some text)
     → goes_on (last_read b.source) ≡ true → rows_due b ≤ rows_due a
     → GivesPiece remaining a new (Some piece)
-last_piece remaining a b new piece end ended empty all taken consumes kept more due =
+last_piece remaining a b new piece end ended empty all taken most consumes kept more due =
     let before = due_going b more in
     let after = due_ended new ended in
     let long = ap length all in
@@ -203,14 +207,15 @@ last_piece remaining a b new piece end ended empty all taken consumes kept more 
 
 -- a piece was cut off the bytes that were carried
 pub cut_piece : {R : Type 0} (remaining : R → Option (List ℕ)) (a b m new : Reading R) (came piece : List ℕ)
-    → m.taken ≡ b.taken + length came → new.taken ≡ m.taken → m.taken ≤ max_bytes + max_chunk
+    → m.taken ≡ b.taken + length came → new.taken ≡ m.taken → m.taken ≤ m.most + max_chunk
+    → m.most ≡ b.most → new.most ≡ m.most
     → new.source ≡ m.source → m.carry ≡ b.carry → last_read m.source ≡ last.Bytes
     → Consumes (left remaining b.source) (left remaining m.source) came
     → ((text : List ℕ) → unread remaining a ≡ Some text → unread remaining b ≡ Some text)
     → goes_on (last_read b.source) ≡ true → rows_due b ≤ rows_due a
     → CutsInto (m.carry.items ++ came) (Some piece) new.carry.items new.quoted
     → GivesPiece remaining a new (Some piece)
-cut_piece remaining a b m new came piece counted taken most source carry bytes consumes kept more due cut =
+cut_piece remaining a b m new came piece counted taken most alike same_most source carry bytes consumes kept more due cut =
     let before = due_going b more in
     let going : goes_on (last_read new.source) ≡ true = rw (source, bytes) refl in
     let after = due_going new going in
@@ -231,12 +236,13 @@ cut_piece remaining a b m new came piece counted taken most source carry bytes c
 
 -- the bound on the rows stays where bytes are carried on
 pub due_kept : {R : Type 0} (b m new : Reading R) (came : List ℕ)
-    → m.taken ≡ b.taken + length came → new.taken ≡ m.taken → m.taken ≤ max_bytes + max_chunk
+    → m.taken ≡ b.taken + length came → new.taken ≡ m.taken → m.taken ≤ m.most + max_chunk
+    → m.most ≡ b.most → new.most ≡ m.most
     → new.source ≡ m.source → m.carry ≡ b.carry → last_read m.source ≡ last.Bytes
     → goes_on (last_read b.source) ≡ true
     → new.carry.items ≡ m.carry.items ++ came
     → rows_due new ≤ rows_due b
-due_kept b m new came counted taken most source carry bytes more all =
+due_kept b m new came counted taken most alike same_most source carry bytes more all =
     let before = due_going b more in
     let going : goes_on (last_read new.source) ≡ true = rw (source, bytes) refl in
     let after = due_going new going in

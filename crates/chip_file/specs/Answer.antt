@@ -1,12 +1,9 @@
 -- What reading a file answers, whatever the file holds.
 use Rattle.std.specs.Prelude.{◌≡◌, ◌⊎◌, ℕ, ◌^◌, ◌<◌, ◌≤◌, List, length, Option, Result, Ok, Err, IfErr}
 use Rattle.std.specs.Io.KnownBytes.{Consumes}
+use Rattle.chip_graph.specs.Limits.{SizeLimits}
 use Rattle.chip_file.specs.declared.fault.FileFault.{FileFault}
 use Rattle.chip_file.specs.declared.fault.FileFault.TheVariants as fault
-
--- the most bytes that a file has
-abbrev pub max_bytes : ℕ
-max_bytes = 2 ^ 24
 
 -- the most bytes that a read asks for
 abbrev pub max_chunk : ℕ
@@ -23,17 +20,18 @@ Gives IsMeant IsFault (Err f) = (f ≡ fault.NoMemory) ⊎ IsFault f
 
 -- what reading an input answers: a value that it means or its fault, where it is short enough, else `TooLong`; the
 -- machine may fail at any input
-abbrev pub Answers : {T : Type 0} → List ℕ → (T → Type 0) → (FileFault → Type 0) → Result T FileFault → Type 0
-Answers input IsMeant IsFault (Ok value) = (length input ≤ max_bytes) × IsMeant value
-Answers input IsMeant IsFault (Err f) =
+abbrev pub Answers : {T : Type 0} → SizeLimits → List ℕ → (T → Type 0) → (FileFault → Type 0) → Result T FileFault
+    → Type 0
+Answers limits input IsMeant IsFault (Ok value) = (length input ≤ limits.bytes) × IsMeant value
+Answers limits input IsMeant IsFault (Err f) =
     IsOfMachine f
-    ⊎ ((max_bytes < length input) × (f ≡ fault.TooLong))
-    ⊎ ((length input ≤ max_bytes) × IsFault f)
+    ⊎ ((limits.bytes < length input) × (f ≡ fault.TooLong))
+    ⊎ ((length input ≤ limits.bytes) × IsFault f)
 
 -- of bytes that were known to be left, at most so many were taken
 abbrev pub TakesAtMost : ℕ → Option (List ℕ) → Option (List ℕ) → Type 0
 TakesAtMost most old new = (bytes : List ℕ) × Consumes old new bytes × (length bytes ≤ most)
 
 -- where a read failed, no more bytes were taken than an input may have
-abbrev pub FailsInTime : {T : Type 0} → Option (List ℕ) → Option (List ℕ) → Result T FileFault → Type 0
-FailsInTime old new result = IfErr result (λ f. f ≡ fault.Read → TakesAtMost max_bytes old new)
+abbrev pub FailsInTime : {T : Type 0} → SizeLimits → Option (List ℕ) → Option (List ℕ) → Result T FileFault → Type 0
+FailsInTime limits old new result = IfErr result (λ f. f ≡ fault.Read → TakesAtMost limits.bytes old new)

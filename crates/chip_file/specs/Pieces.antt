@@ -10,7 +10,8 @@ use Rattle.chip_file.specs.declared.pieces.Pieces.{Pieces}
 use Rattle.chip_file.specs.declared.source.LastRead.{LastRead}
 use Rattle.chip_file.specs.declared.source.LastRead.TheVariants as last
 use Rattle.chip_file.specs.declared.source.Source.{Source}
-use Rattle.chip_file.specs.Answer.{max_bytes, max_chunk}
+use Rattle.chip_graph.specs.Limits.{max_text}
+use Rattle.chip_file.specs.Answer.{max_chunk}
 use Rattle.chip_file.specs.Rows.{Row, records_of}
 use Rattle.chip_file.specs.Source.{goes_on, last_read, left, reads}
 
@@ -26,10 +27,11 @@ EndsLine bytes end = (end < length bytes) × (bytes ≡ take end bytes ++ 10 ∷
 abbrev pub kind_of_read : ℕ → LastRead
 kind_of_read count = if count == 0 then last.End else last.Bytes
 
--- a source and the pieces that are made of it: how many bytes were read, those that no piece has yet, and whether a
--- quote was read
+-- a source and the pieces that are made of it: how many bytes may be read and how many were, those that no piece has
+-- yet, and whether a quote was read
 pub record Reading (R : Type 0) : Type 0 where
   pub source : Source R
+  pub most : ℕ
   pub taken : ℕ
   pub carry : Vec ℕ
   pub quoted : Bool
@@ -37,7 +39,13 @@ pub record Reading (R : Type 0) : Type 0 where
 -- a source, and where its pieces stand
 abbrev pub reading : {R : Type 0} → Source R → Pieces → Reading R
 reading source pieces =
-    record { source = source; taken = pieces.taken; carry = pieces.carry; quoted = pieces.quoted }
+    record {
+      source = source;
+      most = pieces.most;
+      taken = pieces.taken;
+      carry = pieces.carry;
+      quoted = pieces.quoted;
+    }
 
 -- the bytes that no piece has yet, where they are known
 abbrev pub unread : {R : Type 0} → (R → Option (List ℕ)) → Reading R → Option (List ℕ)
@@ -50,9 +58,11 @@ rows_unread remaining pieces = option_map records_of (unread remaining pieces)
 -- the bytes that were read are counted, and they are few
 pub record IsSound {R : Type 0} (remaining : R → Option (List ℕ)) (pieces : Reading R) : Type 0 where
   pub few : goes_on (last_read pieces.source) ≡ true → reads pieces.source ≤ pieces.taken
-  pub most : pieces.taken ≤ max_bytes + max_chunk
-  pub ended : last_read pieces.source ≡ last.End → IsAtEnd (left remaining pieces.source) × (pieces.taken ≤ max_bytes)
-  pub failed : last_read pieces.source ≡ last.Failure → pieces.taken ≤ max_bytes
+  pub low : pieces.most ≤ max_text
+  pub most : pieces.taken ≤ pieces.most + max_chunk
+  pub ended : last_read pieces.source ≡ last.End
+      → IsAtEnd (left remaining pieces.source) × (pieces.taken ≤ pieces.most)
+  pub failed : last_read pieces.source ≡ last.Failure → pieces.taken ≤ pieces.most
 
 -- the next piece may be asked for: no read failed, nothing is carried over the end, and a carried quote is noted
 pub record IsReady {R : Type 0} (pieces : Reading R) : Type 0 where
@@ -60,10 +70,11 @@ pub record IsReady {R : Type 0} (pieces : Reading R) : Type 0 where
   pub done : last_read pieces.source ≡ last.End → pieces.carry.items ≡ []
   pub plain : pieces.quoted ≡ false → has_quote pieces.carry.items ≡ false
 
--- some bytes more were read of the same input, and counted
+-- some bytes more were read of the same input, of which as many may be read as before, and counted
 pub record GoesOn {R : Type 0} (remaining : R → Option (List ℕ)) (old new : Reading R) : Type 0 where
   pub lent : new.source.reader.ghost_name ≡ old.source.reader.ghost_name
   pub sound : IsSound remaining new
+  pub alike : new.most ≡ old.most
   pub took : (bytes : List ℕ) × Consumes (left remaining old.source) (left remaining new.source) bytes
       × (new.taken ≡ old.taken + length bytes)
 
@@ -72,7 +83,7 @@ abbrev pub IsStopped : {R : Type 0} → FileFault → Reading R → Type 0
 IsStopped f pieces =
     (f ≡ fault.NoMemory)
     ⊎ ((f ≡ fault.Read) × (last_read pieces.source ≡ last.Failure))
-    ⊎ ((f ≡ fault.TooLong) × (max_bytes < pieces.taken))
+    ⊎ ((f ≡ fault.TooLong) × (pieces.most < pieces.taken))
 
 -- the input was read to its end, but for one of which a read failed before
 abbrev pub IsOver : {R : Type 0} → Reading R → Reading R → Type 0
@@ -91,7 +102,7 @@ CutsInto bytes (Some piece) carry quoted =
 -- a bound on the rows that further pieces have
 abbrev pub rows_due : {R : Type 0} → Reading R → ℕ
 rows_due pieces =
-    2 * (max_bytes + max_chunk - pieces.taken + length pieces.carry.items)
+    2 * (pieces.most + max_chunk - pieces.taken + length pieces.carry.items)
     + (if goes_on (last_read pieces.source) then 2 else 0)
 
 -- the rows of the text are those of the piece, and those that follow

@@ -5,11 +5,11 @@ use Rattle.chip_file.specs.declared.fault.FileFault.TheVariants as fault
 use Rattle.chip_file.specs.declared.source.Source.{Source}
 use Rattle.chip_file.specs.declared.source.LastRead.{LastRead}
 use Rattle.chip_file.specs.declared.source.LastRead.TheVariants as last
-use Rattle.chip_file.specs.Answer.{max_bytes}
+use Rattle.chip_graph.specs.Limits.{max_text}
 
--- the most reads that are made of an input: one for each byte, and one that finds the end
+-- the most reads that are made of any input: one for each byte, and one that finds the end
 abbrev pub max_reads : ℕ
-max_reads = max_bytes + 1
+max_reads = max_text + 1
 
 -- how many reads were made
 abbrev pub reads : {R : Type 0} → Source R → ℕ

@@ -1,8 +1,8 @@
 ghost use Rattle.std.specs.Prelude.{◌≡◌, nat_le, Some, None, is_some, unwrap_or, IfSome, IfOk, OnOk, IfErr};
 ghost use Rattle.std.specs.Prelude.{◌+◌, length, map, sum, replicate, slice_index_or, slice_set};
 ghost use Rattle.csv.specs.Records.{fields_of};
-ghost use Rattle.chip_graph.specs.Limits.{max_total};
-ghost use Rattle.chip_file.specs.Answer.{Answers, FailsInTime, TakesAtMost, max_bytes, max_chunk};
+ghost use Rattle.chip_graph.specs.Limits.{max_total, standard};
+ghost use Rattle.chip_file.specs.Answer.{Answers, FailsInTime, TakesAtMost, max_chunk};
 ghost use Rattle.chip_file.specs.ChipsText.{chips_fault, chips_meant, chips_of_text, chips_text_fault, AreNamed};
 ghost use Rattle.chip_file.specs.ChipsText.{row_fault, vertex_in, chips_in};
 ghost use Rattle.chip_file.specs.Pieces.{GoesOn, IsSound, reading};
@@ -12,7 +12,7 @@ use crate::fault::FileFault;
 use crate::number::number_at;
 use crate::rows::RowReader;
 use crate::source::Source;
-use chip_graph::MAX_TOTAL;
+use chip_graph::{Limits, MAX_TOTAL};
 use csv::ByteRecord;
 use std::alloc::{AllocError, Global};
 use std::io::Read;
@@ -20,7 +20,8 @@ use std::io::Read;
 /// The header of a file of chips.
 const HEADER: [&str; 2] = ["vertex", "chips"];
 
-/// The chips of each of so many vertices by a file of rows, or the first thing wrong with the file.
+/// The chips of each of so many vertices by a file of rows within the standard limits, or the first thing wrong with the
+/// file.
 ///
 /// A vertex that no row names has 0.
 pub fn read_chips<R: Read>(
@@ -28,13 +29,31 @@ pub fn read_chips<R: Read>(
     reader: &mut R,
     vertices: u64,
 ) -> Result<Vec<u64>, FileFault>
-    ensures means { IfSome (R.remaining reader.old) (λ text. Answers text
+    ensures means { IfSome (R.remaining reader.old) (λ text. Answers standard text
         (λ chips. chips_of_text vertices text ≡ Some chips.items)
         (λ f. chips_text_fault vertices text ≡ Some f) result) }
-    ensures read { FailsInTime (R.remaining reader.old) (R.remaining reader.new) result }
-    ensures taken { TakesAtMost (max_bytes + max_chunk) (R.remaining reader.old) (R.remaining reader.new) }
+    ensures read { FailsInTime standard (R.remaining reader.old) (R.remaining reader.new) result }
+    ensures taken { TakesAtMost (standard.bytes + max_chunk) (R.remaining reader.old) (R.remaining reader.new) }
 {
-    let mut rows = RowReader::new(alloc)?;
+    read_chips_within(alloc, Limits::standard(), reader, vertices)
+}
+
+/// The chips of each of so many vertices by a file of rows within the limits, or the first thing wrong with the file.
+///
+/// A vertex that no row names has 0.
+pub fn read_chips_within<R: Read>(
+    alloc: Global,
+    limits: Limits,
+    reader: &mut R,
+    vertices: u64,
+) -> Result<Vec<u64>, FileFault>
+    ensures means { IfSome (R.remaining reader.old) (λ text. Answers limits text
+        (λ chips. chips_of_text vertices text ≡ Some chips.items)
+        (λ f. chips_text_fault vertices text ≡ Some f) result) }
+    ensures read { FailsInTime limits (R.remaining reader.old) (R.remaining reader.new) result }
+    ensures taken { TakesAtMost (limits.bytes + max_chunk) (R.remaining reader.old) (R.remaining reader.new) }
+{
+    let mut rows = RowReader::new(alloc, limits)?;
     let mut source = Source::new(reader);
     let chips = chips_of_rows(alloc, &mut source, &mut rows, vertices);
     rows.finish(&mut source, chips)

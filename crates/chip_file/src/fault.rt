@@ -30,7 +30,7 @@ pub enum FileFault {
     Total,
     /// A read failed.
     Read,
-    /// The input has more than 16,777,216 bytes.
+    /// The input has more bytes than the limits allow.
     TooLong,
     /// Memory ran out.
     NoMemory,
@@ -64,7 +64,7 @@ impl FileFault {
             FileFault::Kind(_) => ("row ", " has no such kind"),
             FileFault::Total => ("there are more than 1099511627776 chips", ""),
             FileFault::Read => ("a read failed", ""),
-            FileFault::TooLong => ("there are more than 16777216 bytes", ""),
+            FileFault::TooLong => ("there are more bytes than the limits allow", ""),
             FileFault::NoMemory => ("out of memory", ""),
         }
     }

@@ -8,13 +8,13 @@
 //! `docs/FORMATS.md` shows the files.
 #![tactic(auto)]
 
-pub use chips::read_chips;
+pub use chips::{read_chips, read_chips_within};
 pub use fault::FileFault;
-pub use graph::read_graph;
+pub use graph::{read_graph, read_graph_within};
 pub use schedule::read_schedule;
 pub use source::{LastRead, Source};
 pub use trace::read_trace;
-pub use whole::{MAX_BYTES, read_source, read_whole};
+pub use whole::{read_source, read_whole, read_whole_within};
 
 mod chips;
 mod fault;

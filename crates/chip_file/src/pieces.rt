@@ -3,7 +3,7 @@
 ghost use Rattle.std.specs.Prelude.{◌≡◌, ◌+◌, ◌<◌, ◌≤◌, [], ⊤, true, false, length, take, option_map, IfOk, IfErr};
 ghost use Rattle.std.specs.Prelude.{OnOk, MatchOption, not, ◌++◌};
 ghost use Rattle.std.specs.Io.KnownBytes.{Consumes};
-ghost use Rattle.chip_file.specs.Answer.{max_bytes, max_chunk};
+ghost use Rattle.chip_file.specs.Answer.{max_chunk};
 ghost use Rattle.chip_file.specs.Pieces.{CutsInto, EndsLine, GivesPiece, GoesOn, IsOver, IsReady, IsSound, IsStopped};
 ghost use Rattle.chip_file.specs.Pieces.{has_quote, kind_of_read, reading};
 ghost use Rattle.chip_file.specs.Source.{goes_on, last_read, left};
@@ -11,7 +11,7 @@ ghost use Rattle.chip_file.specs.declared.source.LastRead.TheVariants as last;
 
 use crate::fault::FileFault;
 use crate::source::{LastRead, Source};
-use crate::whole::{CHUNK, MAX_BYTES};
+use crate::whole::CHUNK;
 use std::alloc::{AllocError, Global};
 use std::io::Read;
 use std::mem;
@@ -26,8 +26,10 @@ const PIECE: usize = 32_768;
 #[derive(Drop)]
 pub(crate) struct Pieces {
     alloc: Global,
+    /// How many bytes the input may have.
+    most: u64,
     /// How many bytes were read.
-    taken: usize,
+    taken: u64,
     /// The bytes that were read and that no piece has yet.
     carry: Vec<u8>,
     /// Whether a quote was read.
@@ -35,14 +37,16 @@ pub(crate) struct Pieces {
 }
 
 impl Pieces {
-    /// The pieces of an input of which nothing was read yet.
-    pub(crate) fn new(alloc: Global) -> Pieces
+    /// The pieces of an input of at most so many bytes, of which nothing was read yet.
+    pub(crate) fn new(alloc: Global, most: u64) -> Pieces
+        ensures most { result.most ≡ most }
         ensures none { result.taken ≡ 0 }
         ensures empty { result.carry.items ≡ [] }
         ensures plain { result.quoted ≡ false }
     {
         Pieces {
             alloc,
+            most,
             taken: 0,
             carry: Vec::new(alloc),
             quoted: false,
@@ -68,7 +72,7 @@ impl Pieces {
             return Ok(None);
         }
         let mut chunk = [0u8; CHUNK];
-        while self.taken <= MAX_BYTES {
+        while self.taken <= self.most {
             let count = self.read(source, &mut chunk)?;
             if count == 0 {
                 let rest = mem::replace(&mut self.carry, Vec::new(self.alloc));
@@ -89,7 +93,7 @@ impl Pieces {
         ensures stopped { IfErr result (λ f. IsStopped f (reading source.new self.new)) }
     {
         let mut chunk = [0u8; CHUNK];
-        while self.taken <= MAX_BYTES {
+        while self.taken <= self.most {
             if source.last_read().is_over() || self.read(source, &mut chunk)? == 0 {
                 return Ok(());
             }
@@ -105,7 +109,7 @@ impl Pieces {
     ) -> Result<usize, FileFault>
         requires sound { IsSound R.remaining (reading source.old self.old) }
         requires more { goes_on (last_read source.old) ≡ true }
-        requires few { self.old.taken ≤ max_bytes }
+        requires few { self.old.taken ≤ self.old.most }
         requires room { 0 < length chunk.old }
         requires within { length chunk.old ≤ max_chunk }
         ensures on { GoesOn R.remaining (reading source.old self.old) (reading source.new self.new) }
@@ -119,7 +123,7 @@ impl Pieces {
         ensures stopped { IfErr result (λ f. IsStopped f (reading source.new self.new)) }
     {
         let count = source.read(chunk).map_err(|_| FileFault::Read)?;
-        self.taken += count;
+        self.taken += count as u64;
         Ok(count)
     }
 
@@ -127,6 +131,7 @@ impl Pieces {
     fn cut(&mut self, came: &[u8]) -> Result<Option<Vec<u8>>, AllocError>
         requires { self.old.quoted ≡ false → has_quote self.old.carry.items ≡ false }
         ensures taken { self.new.taken ≡ self.old.taken }
+        ensures most { self.new.most ≡ self.old.most }
         ensures cut { IfOk result (λ piece.
             CutsInto (self.old.carry.items ++ came.now) (option_map (λ bytes. bytes.items) piece)
             self.new.carry.items self.new.quoted) }

@@ -2,6 +2,7 @@
 
 ghost use Rattle.std.specs.Prelude.{◌≡◌, ◌⊎◌, ◌<◌, [], true, false, map, option_map, Ok, IfOk, OnOk, IfErr};
 ghost use Rattle.csv.specs.Records.{fields_of};
+ghost use Rattle.chip_graph.specs.Limits.{AreLimits};
 ghost use Rattle.chip_file.specs.Pieces.{GoesOn, IsSound, IsStopped, reading};
 ghost use Rattle.chip_file.specs.Rows.{records_of, has_fields, text_at};
 ghost use Rattle.chip_file.specs.Source.{last_read};
@@ -13,6 +14,7 @@ ghost use Rattle.chip_file.specs.declared.source.LastRead.TheVariants as last;
 use crate::fault::FileFault;
 use crate::pieces::Pieces;
 use crate::source::Source;
+use chip_graph::Limits;
 use csv::{ByteRecord, Reader, ReaderBuilder};
 use std::alloc::{AllocError, Global};
 use std::io::{Cursor, Read};
@@ -33,8 +35,10 @@ pub(crate) struct RowReader {
 }
 
 impl RowReader {
-    /// A reader of an input of which nothing was read yet.
-    pub(crate) fn new(alloc: Global) -> Result<RowReader, AllocError>
+    /// A reader of an input within the limits, of which nothing was read yet.
+    pub(crate) fn new(alloc: Global, limits: Limits) -> Result<RowReader, AllocError>
+        ensures most { IfOk result (λ rows. rows.pieces.most ≡ limits.bytes) }
+        ensures limits { AreLimits limits }
         ensures taken { IfOk result (λ rows. rows.pieces.taken ≡ 0) }
         ensures carry { IfOk result (λ rows. rows.pieces.carry.items ≡ []) }
         ensures quoted { IfOk result (λ rows. rows.pieces.quoted ≡ false) }
@@ -43,7 +47,7 @@ impl RowReader {
     {
         Ok(RowReader {
             alloc,
-            pieces: Pieces::new(alloc),
+            pieces: Pieces::new(alloc, limits.bytes()),
             records: no_records(alloc)?,
         })
     }

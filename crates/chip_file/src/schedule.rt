@@ -2,7 +2,8 @@
 
 ghost use Rattle.std.specs.Prelude.{◌≡◌, ◌+◌, Some, None, IfOk, IfErr, IfSome};
 ghost use Rattle.csv.specs.Records.{fields_of};
-ghost use Rattle.chip_file.specs.Answer.{Answers, FailsInTime, TakesAtMost, max_bytes, max_chunk};
+ghost use Rattle.chip_graph.specs.Limits.{standard};
+ghost use Rattle.chip_file.specs.Answer.{Answers, FailsInTime, TakesAtMost, max_chunk};
 ghost use Rattle.chip_file.specs.Kinds.{kind_named, kind_at};
 ghost use Rattle.chip_file.specs.ScheduleText.{event_kinds, may_be_at, event_of_kind, event_in};
 ghost use Rattle.chip_file.specs.Pieces.{GoesOn, IsSound, reading};
@@ -15,7 +16,7 @@ use crate::number::number_at;
 use crate::rows;
 use crate::rows::RowReader;
 use crate::source::Source;
-use chip_graph::Graph;
+use chip_graph::{Graph, Limits};
 use chip_link::Event;
 use csv::ByteRecord;
 use std::alloc::Global;
@@ -111,13 +112,13 @@ pub fn read_schedule<R: Read>(
     reader: &mut R,
     graph: &Graph,
 ) -> Result<Vec<Event>, FileFault>
-    ensures means { IfSome (R.remaining reader.old) (λ text. Answers text
+    ensures means { IfSome (R.remaining reader.old) (λ text. Answers standard text
         (λ events. schedule_of_text graph.now text ≡ Some events.items)
         (λ f. schedule_text_fault graph.now text ≡ Some f) result) }
-    ensures read { FailsInTime (R.remaining reader.old) (R.remaining reader.new) result }
-    ensures taken { TakesAtMost (max_bytes + max_chunk) (R.remaining reader.old) (R.remaining reader.new) }
+    ensures read { FailsInTime standard (R.remaining reader.old) (R.remaining reader.new) result }
+    ensures taken { TakesAtMost (standard.bytes + max_chunk) (R.remaining reader.old) (R.remaining reader.new) }
 {
-    let mut rows = RowReader::new(alloc)?;
+    let mut rows = RowReader::new(alloc, Limits::standard())?;
     let mut source = Source::new(reader);
     let events = events_of_rows(alloc, &mut source, &mut rows, graph);
     rows.finish(&mut source, events)

@@ -2,7 +2,8 @@
 
 ghost use Rattle.std.specs.Prelude.{◌≡◌, ◌+◌, [], length, map, replicate, Some, None, IfOk, IfErr, IfSome};
 ghost use Rattle.csv.specs.Records.{fields_of};
-ghost use Rattle.chip_file.specs.Answer.{Answers, FailsInTime, TakesAtMost, max_bytes, max_chunk};
+ghost use Rattle.chip_graph.specs.Limits.{standard};
+ghost use Rattle.chip_file.specs.Answer.{Answers, FailsInTime, TakesAtMost, max_chunk};
 ghost use Rattle.chip_file.specs.Kinds.{kind_named, kind_at};
 ghost use Rattle.chip_file.specs.Numbers.{number_in};
 ghost use Rattle.chip_file.specs.TraceText.{trace_kinds, row_of_kind, names_edge, trace_row_in, trace_row_fault};
@@ -15,7 +16,7 @@ use crate::number::number_at;
 use crate::rows;
 use crate::rows::RowReader;
 use crate::source::Source;
-use chip_graph::Graph;
+use chip_graph::{Graph, Limits};
 use chip_link::TraceRow;
 use csv::ByteRecord;
 use std::alloc::{AllocError, Global};
@@ -69,16 +70,16 @@ pub fn read_trace<R: Read>(
     reader: &mut R,
     graph: &Graph,
 ) -> Result<Vec<Vec<TraceRow>>, FileFault>
-    ensures means { IfSome (R.remaining reader.old) (λ text. Answers text
+    ensures means { IfSome (R.remaining reader.old) (λ text. Answers standard text
         (λ traces. traces_of_text graph.now text ≡ Some (map (λ trace. trace.items) traces.items))
         (λ f. trace_text_fault graph.now text ≡ Some f) result) }
 
     // At any reader.
     ensures each { IfOk result (λ traces. length traces.items ≡ graph.now.vertices) }
-    ensures read { FailsInTime (R.remaining reader.old) (R.remaining reader.new) result }
-    ensures taken { TakesAtMost (max_bytes + max_chunk) (R.remaining reader.old) (R.remaining reader.new) }
+    ensures read { FailsInTime standard (R.remaining reader.old) (R.remaining reader.new) result }
+    ensures taken { TakesAtMost (standard.bytes + max_chunk) (R.remaining reader.old) (R.remaining reader.new) }
 {
-    let mut rows = RowReader::new(alloc)?;
+    let mut rows = RowReader::new(alloc, Limits::standard())?;
     let mut source = Source::new(reader);
     let traces = traces_of_rows(alloc, &mut source, &mut rows, graph);
     rows.finish(&mut source, traces)

@@ -1,4 +1,5 @@
-use Rattle.std.proofs.Common.{◌≡◌, rules}
+use Rattle.std.proofs.Common.{◌≡◌, ◌∙◌, ap, rules}
+use Rattle.chip_graph.specs.Limits.{standard}
 use Rattle.chip_file.specs.Pieces.{reading}
 use Rattle.chip_file.specs.Source.{left}
 use Rattle.chip_file.specs.Standing.{row_reading, rows_ahead}
@@ -11,24 +12,24 @@ pub returns-clause-means : goal.returns-clause-means
 returns-clause-means g c =
     let new = c.in_ok-rows.ensures in
     let rows = c.traces_of_rows-traces.ensures in
-    rw c.new-source.ensures.same at (answers_text g.R.Read.remaining _ _
+    rw c.new-source.ensures.same at (answers_text standard g.R.Read.remaining _ _
     (rows_ahead g.R.Read.remaining (row_reading c.new-source.result c.in_ok-rows.rows))
     (reading c.new-source.result c.in_ok-rows.rows.pieces)
     (reading c.traces_of_rows-traces.new.source c.traces_of_rows-traces.new.rows.pieces)
     (reading c.finish.new.source c.finish.new.self.pieces) _ _
     (fresh_ahead (left g.R.Read.remaining c.new-source.result) _ _ new.none new.carry)
-    new.taken rows.on c.finish.ensures.on rows.comes c.finish.ensures.finishes)
+    (new.most ∙ ap (λ l. l.bytes) c.standard.ensures) new.taken rows.on c.finish.ensures.on rows.comes c.finish.ensures.finishes)
 
 pub returns-clause-read : goal.returns-clause-read
 returns-clause-read g c =
     let new = c.in_ok-rows.ensures in
     let rows = c.traces_of_rows-traces.ensures in
-    let fact = rw c.new-source.ensures.same at (in_time g.R.Read.remaining _ _
+    let fact = rw c.new-source.ensures.same at (in_time standard g.R.Read.remaining _ _
     (rows_ahead g.R.Read.remaining (row_reading c.new-source.result c.in_ok-rows.rows))
     (reading c.new-source.result c.in_ok-rows.rows.pieces)
     (reading c.traces_of_rows-traces.new.source c.traces_of_rows-traces.new.rows.pieces)
     (reading c.finish.new.source c.finish.new.self.pieces) _ _
-    new.taken rows.on c.finish.ensures.on rows.comes c.finish.ensures.finishes) in
+    (new.most ∙ ap (λ l. l.bytes) c.standard.ensures) new.taken rows.on c.finish.ensures.on rows.comes c.finish.ensures.finishes) in
     search rules
 
 pub returns-clause-taken : goal.returns-clause-taken
@@ -36,6 +37,6 @@ returns-clause-taken g c =
     let new = c.in_ok-rows.ensures in
     let rows = c.traces_of_rows-traces.ensures in
     let back : c.reader-1.given.0 ≡ c.finish.new.source.reader.now = search rules in
-    rw back (rw c.new-source.ensures.same at (taken_in_all g.R.Read.remaining
+    rw back (rw c.new-source.ensures.same at (rw (new.most ∙ ap (λ l. l.bytes) c.standard.ensures) at (taken_in_all g.R.Read.remaining
     (reading c.new-source.result c.in_ok-rows.rows.pieces) (reading c.finish.new.source c.finish.new.self.pieces)
-    (goes_further g.R.Read.remaining _ _ _ rows.on c.finish.ensures.on) new.taken))
+    (goes_further g.R.Read.remaining _ _ _ rows.on c.finish.ensures.on) new.taken)))

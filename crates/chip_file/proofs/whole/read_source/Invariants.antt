@@ -1,20 +1,23 @@
 use Rattle.std.proofs.Common.{◌≡◌, ◌-◌, ◌+◌, ◌<◌, ◌≤◌, true, vec_len}
 use Rattle.std.specs.Io.KnownBytes.{Consumes}
 use Rattle.chip_file.specs.declared.source.LastRead.TheVariants as last
-use Rattle.chip_file.specs.Answer.{max_bytes, max_chunk}
-use Rattle.chip_file.specs.Source.{goes_on, last_read, left, max_reads, reads}
+use Rattle.chip_graph.specs.Limits.{AreLimits}
+use Rattle.chip_file.specs.Answer.{max_chunk}
+use Rattle.chip_file.specs.Source.{goes_on, last_read, left, reads}
 use Rattle.chip_file.proofs.whole.read_source.Given as goal
 
 abbrev pub invariant-loop-chunk : goal.invariant-loop-chunk
 invariant-loop-chunk g l = record {
   taken : Consumes (left g.R.Read.remaining l.initial.source) (left g.R.Read.remaining l.source) l.bytes.items;
-  within : vec_len l.bytes ≤ max_bytes + max_chunk;
+  within : vec_len l.bytes ≤ l.most + max_chunk;
+  limits : AreLimits l.fn.limits;
+  most : l.most ≡ l.fn.limits.bytes;
   few : reads l.source ≤ vec_len l.bytes;
-  bounded : reads l.source ≤ max_reads;
+  bounded : reads l.source ≤ l.most + 1;
   more : goes_on (last_read l.source) ≡ true;
   came : 0 < vec_len l.bytes → last_read l.source ≡ last.Bytes;
   lent : l.source.reader.ghost_name ≡ l.initial.source.reader.ghost_name;
 }
 
 abbrev pub decreases-loop-chunk : goal.decreases-loop-chunk
-decreases-loop-chunk g l = max_bytes + 1 - vec_len l.bytes
+decreases-loop-chunk g l = l.most + 1 - vec_len l.bytes

@@ -23,7 +23,7 @@ returns-in_err-count-clause-on g c = goes_further _ _ _ _ c.loop-self.invariant.
 
 pub returns-then-count-eq0-clause-on : goal.returns-then-count-eq0-clause-on
 returns-then-count-eq0-clause-on g c =
-    goes_kept _ _ _ _ (goes_further _ _ _ _ c.loop-self.invariant.on c.in_ok-count.ensures.on) refl refl
+    goes_kept _ _ _ _ (goes_further _ _ _ _ c.loop-self.invariant.on c.in_ok-count.ensures.on) refl refl refl
 
 pub returns-then-count-eq0-clause-piece : goal.returns-then-count-eq0-clause-piece
 returns-then-count-eq0-clause-piece g c =
@@ -34,17 +34,17 @@ returns-then-count-eq0-clause-piece g c =
     (reading c.loop-self.source c.loop-self.self) _ _ (read.on.sound.ended ended).0 ended
     (ap (λ bytes. bytes.items) c.replace-rest.ensures.after ∙ c.new.ensures.items)
     (ap (λ bytes. bytes.items) (c.replace-rest.ensures.value ∙ read.carry))
-    (omega (arith, read.taken)) (rw c.if-count-eq0.true at read.bytes) inv.kept inv.more inv.due
+    (omega (arith, read.taken)) read.on.alike (rw c.if-count-eq0.true at read.bytes) inv.kept inv.more inv.due
 
 pub returns-in_err-piece-clause-on : goal.returns-in_err-piece-clause-on
 returns-in_err-piece-clause-on g c =
     goes_kept _ _ _ _ (goes_further _ _ _ _ c.loop-self.invariant.on c.in_ok-count.ensures.on)
-    refl c.cut.ensures.taken
+    refl c.cut.ensures.taken c.cut.ensures.most
 
 pub returns-in-Some-clause-on : goal.returns-in-Some-clause-on
 returns-in-Some-clause-on g c =
     goes_kept _ _ _ _ (goes_further _ _ _ _ c.loop-self.invariant.on c.in_ok-count.ensures.on)
-    refl c.cut.ensures.taken
+    refl c.cut.ensures.taken c.cut.ensures.most
 
 pub returns-in-Some-clause-piece : goal.returns-in-Some-clause-piece
 returns-in-Some-clause-piece g c =
@@ -53,7 +53,8 @@ returns-in-Some-clause-piece g c =
     cut_piece g.R.Read.remaining (reading c.args.source.now c.args.self.now)
     (reading c.loop-self.source c.loop-self.self) (reading c.read.new.source c.read.new.self) _
     (take c.in_ok-count.count c.read.new.chunk) _
-    (front_counts _ _ _ _ read.count read.taken) c.cut.ensures.taken read.on.sound.most refl
+    (front_counts _ _ _ _ read.count read.taken) c.cut.ensures.taken read.on.sound.most read.on.alike
+    c.cut.ensures.most refl
     read.carry (read.noted ∙ gave_bytes _ c.if-count-eq0.false) read.bytes inv.kept inv.more inv.due
     (rw c.in-Some.is at c.in_ok-piece.ensures.cut)
 
@@ -66,10 +67,11 @@ loop-self-preserved g c =
     let came = take c.in_ok-count.count c.read.new.chunk in
     let due = due_kept (reading c.loop-self.source c.loop-self.self) (reading c.read.new.source c.read.new.self)
     (reading c.read.new.source c.cut.new.self) came
-    (front_counts _ _ _ _ read.count read.taken) c.cut.ensures.taken read.on.sound.most refl
+    (front_counts _ _ _ _ read.count read.taken) c.cut.ensures.taken read.on.sound.most read.on.alike
+    c.cut.ensures.most refl
     read.carry bytes inv.more cut.0 in
     record {
-      on = goes_kept _ _ _ _ (goes_further _ _ _ _ inv.on read.on) refl c.cut.ensures.taken;
+      on = goes_kept _ _ _ _ (goes_further _ _ _ _ inv.on read.on) refl c.cut.ensures.taken c.cut.ensures.most;
       ready = record {
         alive = rw bytes (λ failed. cc failed);
         done = rw bytes (λ ended. cc ended);

@@ -1,5 +1,4 @@
 use Rattle.std.proofs.Common.{◌≡◌, ◌-◌, ◌+◌, ◌≤◌, ℕ, List, Some, true}
-use Rattle.chip_file.specs.Answer.{max_bytes}
 use Rattle.chip_file.specs.Source.{goes_on, last_read}
 use Rattle.chip_file.specs.Pieces.{GoesOn, IsReady, reading, rows_due, unread}
 use Rattle.chip_file.proofs.pieces.Pieces.next.Given as goal
@@ -15,4 +14,4 @@ invariant-loop-self g l = record {
 }
 
 abbrev pub decreases-loop-self : goal.decreases-loop-self
-decreases-loop-self g l = max_bytes + 1 - l.self.taken
+decreases-loop-self g l = l.self.most + 1 - l.self.taken

@@ -1,5 +1,4 @@
 use Rattle.std.proofs.Common.{◌≡◌, ◌-◌, ◌+◌}
-use Rattle.chip_file.specs.Answer.{max_bytes}
 use Rattle.chip_file.specs.Source.{last_read}
 use Rattle.chip_file.specs.Pieces.{GoesOn, reading}
 use Rattle.chip_file.specs.declared.source.LastRead.TheVariants as last
@@ -13,4 +12,4 @@ invariant-loop-self g l = record {
 }
 
 abbrev pub decreases-loop-self : goal.decreases-loop-self
-decreases-loop-self g l = max_bytes + 1 - l.self.taken
+decreases-loop-self g l = l.self.most + 1 - l.self.taken

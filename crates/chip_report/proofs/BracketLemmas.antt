@@ -22,7 +22,6 @@ use Rattle.std.proofs.lemmas.Str.{IsAscii-append}
 use Rattle.std.proofs.lemmas.Str.Ascii.{IsAscii-nil, IsAscii-cons}
 use Rattle.std.proofs.lemmas.Str.Parse.{IsNumeralModel, numerals_by_value, tells_digits, not_in_digits}
 use Rattle.std.proofs.lemmas.Str.Parse.{without_leading_plus_none}
-use Rattle.chip_graph.specs.Limits.{max_vertices}
 use Rattle.chip_report.specs.ReportText.{comma, array_text}
 use Rattle.chip_report.specs.Reportable.{Gives}
 use Rattle.chip_report.specs.ReportLists.{opening, closing, first_list, behind_list, behind, number_of, numbers_of}
@@ -141,15 +140,15 @@ pieces_of_some : (list ns : List ℕ) → 0 < length list → AreShort ns → li
 pieces_of_some list [] some fit e = absurd (omega (arith, ap length e))
 pieces_of_some list (n ∷ ns) some fit e = ap pieces e ∙ pieces-joined n ns fit
 
-pub none_of_many : (list : List ℕ) (i : ℕ) → 0 < length list → i < length (pieces list) → max_vertices ≤ i
-    → IsNoList list
-none_of_many list i some within high ns listed e =
+pub none_of_many : (most : ℕ) (list : List ℕ) (i : ℕ) → 0 < length list → i < length (pieces list) → most ≤ i
+    → IsNoList most list
+none_of_many most list i some within high ns listed e =
     let same = ap length (pieces_of_some list ns some listed.1 e) in
     absurd (omega (arith, listed.0, length-map ns decimal))
 
-pub none_with : (list piece : List ℕ) (i : ℕ) → 0 < length list → i < length (pieces list)
-    → piece ≡ get_or (pieces list) i piece → IsNoNumber piece → IsNoList list
-none_with list piece i some within at none ns listed e =
+pub none_with : (most : ℕ) (list piece : List ℕ) (i : ℕ) → 0 < length list → i < length (pieces list)
+    → piece ≡ get_or (pieces list) i piece → IsNoNumber piece → IsNoList most list
+none_with most list piece i some within at none ns listed e =
     let same : pieces list ≡ map decimal ns = pieces_of_some list ns some listed.1 e in
     let below : i < length ns = omega (arith, ap length same, length-map ns decimal) in
     none (get_or ns i 0) (listed.1 i 0 below)
@@ -166,6 +165,12 @@ number_more xs x numbers n before is =
 pub numbers_of-shown : (list : List ℕ) (xs : List (Bor (List ℕ))) (numbers : List ℕ) → 0 < length list
     → shown xs ≡ pieces list → numbers ≡ map number_of (shown xs) → numbers ≡ numbers_of list
 numbers_of-shown list xs numbers some all is = is ∙ ap (map number_of) all ∙ sym (numbers_of-some list some)
+
+-- no more numbers than pieces
+pub few_numbers : (xs : List (Bor (List ℕ))) (numbers : List ℕ) (most : ℕ) → numbers ≡ map number_of (shown xs)
+    → length xs ≤ most → length numbers ≤ most
+few_numbers xs numbers most is few =
+    omega (arith, ap length is, length-map (shown xs) number_of, length-map xs (λ (x : Bor (List ℕ)). x.now))
 
 -- what `parse` reads of digits
 pub read_number : {E : Type 0} (digits : List ℕ) (r : Result ℕ E) → ParsesUnsigned 64 10 digits r
@@ -195,9 +200,10 @@ abbrev pub is_plain : List ℕ → Bool
 is_plain [] = true
 is_plain (b ∷ bs) = (nat_lt b 128 && not (eqb b opening)) && is_plain bs
 
-pub record IsPart (part : Part) : Type 0 where
+-- a part whose list has at most so many numbers
+pub record IsPart (most : ℕ) (part : Part) : Type 0 where
   pub plain : is_plain part.0 ≡ true
-  pub listed : AreListed part.1
+  pub listed : AreListed most part.1
 
 no_opening : (bs : List ℕ) → is_plain bs ≡ true → All (λ b. b ≢ opening) bs
 no_opening [] e = All-nil (λ b. b ≢ opening)
@@ -223,54 +229,57 @@ behind_list-part front ns rest plain fit = ap (after_first (λ b. eqb b closing)
 
 -- ---- where a program finds no list
 
-pub none_opened : (text : List ℕ) → position_or_len (λ b. eqb b opening) text ≡ length text → HasNoList text
-none_opened text none front ns rest plain listed e =
+pub none_opened : (most : ℕ) (text : List ℕ) → position_or_len (λ b. eqb b opening) text ≡ length text
+    → HasNoList most text
+none_opened most text none front ns rest plain listed e =
     let at = position-cut opening front ((joined ns ++ (closing ∷ [])) ++ rest) plain in
     let same = ap (position_or_len (λ b. eqb b opening)) e in
     absurd (omega (arith, ap length e, length-append front (array_text ns ++ rest)))
 
-pub none_closed : (text list : List ℕ) → list ≡ after_first (λ b. eqb b opening) text
-    → position_or_len (λ b. eqb b closing) list ≡ length list → HasNoList text
-none_closed text list begun none front ns rest plain listed e =
+pub none_closed : (most : ℕ) (text list : List ℕ) → list ≡ after_first (λ b. eqb b opening) text
+    → position_or_len (λ b. eqb b closing) list ≡ length list → HasNoList most text
+none_closed most text list begun none front ns rest plain listed e =
     let is : list ≡ joined ns ++ (closing ∷ rest) =
     begun ∙ ap (after_first (λ b. eqb b opening)) e ∙ opened front ns rest plain in
     let at = position-cut closing (joined ns) rest (no_closing ns listed.1) in
     let same = ap (position_or_len (λ b. eqb b closing)) is in
     absurd (omega (arith, ap length is, length-append (joined ns) (closing ∷ rest)))
 
-pub none_listed : (text : List ℕ) → IsNoList (first_list text) → HasNoList text
-none_listed text none front ns rest plain listed e =
+pub none_listed : (most : ℕ) (text : List ℕ) → IsNoList most (first_list text) → HasNoList most text
+none_listed most text none front ns rest plain listed e =
     none ns listed (ap first_list e ∙ first_list-part front ns rest plain listed.1)
 
 -- the numbers of the first list, as they are taken
-pub taken : (text rest list : List ℕ) (result : Result (Vec ℕ Global) ReportFault) → list ≡ first_list text
-    → rest ≡ behind_list text → Gives (λ numbers. numbers.items ≡ numbers_of list) (IsNoList list) result
-    → Gives (λ numbers. (numbers.items ≡ numbers_of (first_list text)) × (rest ≡ behind_list text)) (HasNoList text)
-    result
-taken text rest list (Ok numbers) first left is = (is ∙ ap numbers_of first, left)
-taken text rest list (Err f) first left (inl memory) = inl memory
-taken text rest list (Err f) first left (inr none) = inr (none.0, none_listed text (subst IsNoList first none.1))
+pub taken : (most : ℕ) (text rest list : List ℕ) (result : Result (Vec ℕ Global) ReportFault) → list ≡ first_list text
+    → rest ≡ behind_list text
+    → Gives (λ numbers. (numbers.items ≡ numbers_of list) × (length numbers.items ≤ most)) (IsNoList most list) result
+    → Gives (λ numbers. (numbers.items ≡ numbers_of (first_list text)) × (rest ≡ behind_list text)
+    × (length numbers.items ≤ most)) (HasNoList most text) result
+taken most text rest list (Ok numbers) first left is = (is.0 ∙ ap numbers_of first, left, is.1)
+taken most text rest list (Err f) first left (inl memory) = inl memory
+taken most text rest list (Err f) first left (inr none) =
+    inr (none.0, none_listed most text (subst (IsNoList most) first none.1))
 
 -- ---- the lists of a text in parts
 
-pub list_at-text_of : (parts : List Part) (end : List ℕ) → AllByRecursion IsPart parts → (k : ℕ) → k < length parts
-    → list_at k (text_of parts end) ≡ (get_or parts k ([], [])).1
-list_at-text_of [] end are k l = absurd (omega arith)
-list_at-text_of (part ∷ parts) end are zero l =
+pub list_at-text_of : (most : ℕ) (parts : List Part) (end : List ℕ) → AllByRecursion (IsPart most) parts → (k : ℕ)
+    → k < length parts → list_at k (text_of parts end) ≡ (get_or parts k ([], [])).1
+list_at-text_of most [] end are k l = absurd (omega arith)
+list_at-text_of most (part ∷ parts) end are zero l =
     ap numbers_of (first_list-part part.0 part.1 (text_of parts end) (no_opening part.0 are.0.plain) are.0.listed.1)
     ∙ numbers_of-joined part.1 are.0.listed.1
-list_at-text_of (part ∷ parts) end are (suc k) l =
+list_at-text_of most (part ∷ parts) end are (suc k) l =
     ap (list_at k) (behind_list-part part.0 part.1 (text_of parts end) (no_opening part.0 are.0.plain) are.0.listed.1)
-    ∙ list_at-text_of parts end are.1 k (omega arith)
+    ∙ list_at-text_of most parts end are.1 k (omega arith)
 
-pub not_HasNoList : (parts : List Part) (end : List ℕ) → AllByRecursion IsPart parts → (k : ℕ) → k < length parts
-    → HasNoList (behind k (text_of parts end)) → ⊥
-not_HasNoList [] end are k l none = absurd (omega arith)
-not_HasNoList (part ∷ parts) end are zero l none =
+pub not_HasNoList : (most : ℕ) (parts : List Part) (end : List ℕ) → AllByRecursion (IsPart most) parts → (k : ℕ)
+    → k < length parts → HasNoList most (behind k (text_of parts end)) → ⊥
+not_HasNoList most [] end are k l none = absurd (omega arith)
+not_HasNoList most (part ∷ parts) end are zero l none =
     none part.0 part.1 (text_of parts end) (no_opening part.0 are.0.plain) are.0.listed refl
-not_HasNoList (part ∷ parts) end are (suc k) l none =
-    not_HasNoList parts end are.1 k (omega arith)
-    (subst (λ (t : List ℕ). HasNoList (behind k t))
+not_HasNoList most (part ∷ parts) end are (suc k) l none =
+    not_HasNoList most parts end are.1 k (omega arith)
+    (subst (λ (t : List ℕ). HasNoList most (behind k t))
     (behind_list-part part.0 part.1 (text_of parts end) (no_opening part.0 are.0.plain) are.0.listed.1) none)
 
 -- ---- such a text is ASCII
@@ -288,13 +297,13 @@ ascii_joined (n ∷ m ∷ ms) fit =
     IsAscii-append (decimal n) (comma ∷ joined (m ∷ ms)) (IsAscii-decimal n (head_fits n (m ∷ ms) fit))
     (IsAscii-cons comma (joined (m ∷ ms)) (omega arith) (ascii_joined (m ∷ ms) (tail_fits n (m ∷ ms) fit)))
 
-pub ascii_text_of : (parts : List Part) (end : List ℕ) → AllByRecursion IsPart parts → IsAscii end
+pub ascii_text_of : (most : ℕ) (parts : List Part) (end : List ℕ) → AllByRecursion (IsPart most) parts → IsAscii end
     → IsAscii (text_of parts end)
-ascii_text_of [] end are plain = plain
-ascii_text_of (part ∷ parts) end are plain =
+ascii_text_of most [] end are plain = plain
+ascii_text_of most (part ∷ parts) end are plain =
     IsAscii-append part.0 _ (ascii_plain part.0 are.0.plain)
     (IsAscii-append (array_text part.1) _
     (IsAscii-append (codes "[" ++ joined part.1) (closing ∷ [])
     (IsAscii-cons opening (joined part.1) (omega arith) (ascii_joined part.1 are.0.listed.1))
     (IsAscii-cons closing [] (omega arith) IsAscii-nil))
-    (ascii_text_of parts end are.1 plain))
+    (ascii_text_of most parts end are.1 plain))

@@ -9,10 +9,12 @@ use Rattle.std.proofs.lemmas.Str.{IsUtf8-from_ascii}
 use Rattle.std.proofs.lemmas.List.Elements.{All-weaker}
 use Rattle.chip_sequence.specs.declared.outcome.Outcome.{Outcome}
 use Rattle.chip_sequence.specs.Outcomes.{IsOutcome}
-use Rattle.chip_graph.specs.Limits.{max_limit, max_total}
+use Rattle.chip_graph.specs.Limits.{SizeLimits, max_limit, max_total, max_vertices}
 use Rattle.chip_report.specs.OutcomeParts.{AreCounts, AreHalted}
 use Rattle.chip_report.specs.ReportText.{bool_text, array_text, is_empty, is_closed, report_text, start_text}
-use Rattle.chip_report.specs.Reportable.{Content, content, IsReportOf, IsNoReport, GrowsForALine, Gives}
+use Rattle.chip_report.specs.Laws.{RoundTrip}
+use Rattle.chip_report.specs.Reportable.{Content, content, IsReportOf, IsNoReport, IsNoReportWithin}
+use Rattle.chip_report.specs.Reportable.{GrowsForALine, Gives}
 use Rattle.chip_report.specs.ReportLists.{content_by_text, list_at, behind, AreListed, HasNoList}
 use Rattle.chip_report.specs.declared.fault.ReportFault.{ReportFault}
 use Rattle.chip_report.specs.declared.fault.ReportFault.TheVariants as fault
@@ -54,12 +56,12 @@ pub plain_closed : (closed : Bool) → is_plain (closed_front closed) ≡ true
 plain_closed true = refl
 plain_closed false = refl
 
--- numbers that a report lists
-pub record AreListedAll (t : Content) : Type 0 where
-  pub fired : AreListed t.fired
-  pub chips : AreListed t.chips
-  pub over : AreListed t.over
-  pub sealed : AreListed t.sealed
+-- numbers that a report lists, at most so many of each kind
+pub record AreListedAll (most : ℕ) (t : Content) : Type 0 where
+  pub fired : AreListed most t.fired
+  pub chips : AreListed most t.chips
+  pub over : AreListed most t.over
+  pub sealed : AreListed most t.sealed
 
 pub short_within : (most : ℕ) (ns : List ℕ) → most < 2 ^ 64 → All (λ n. n ≤ most) ns → AreShort ns
 short_within most ns fits within = All-weaker (λ n. n ≤ most) (λ n. n < 2 ^ 64) (λ n low. omega arith) ns within
@@ -67,9 +69,10 @@ short_within most ns fits within = All-weaker (λ n. n ≤ most) (λ n. n < 2 ^ 
 short_below : (most : ℕ) (ns : List ℕ) → most < 2 ^ 64 → All (λ n. n < most) ns → AreShort ns
 short_below most ns fits within = All-weaker (λ n. n < most) (λ n. n < 2 ^ 64) (λ n low. omega arith) ns within
 
-pub listed_of_outcome : (o : Outcome) → IsOutcome o → AreListedAll (content o)
-listed_of_outcome o h =
-    let few = h.few_vertices in
+pub listed_of_outcome : (most : ℕ) (o : Outcome) → IsOutcome o → length o.fired.items ≤ most
+    → AreListedAll most (content o)
+listed_of_outcome most o h few =
+    let below = h.few_vertices in
     let over = few_below o.over.items (length o.fired.items) h.over_ascends h.over_vertices in
     let sealed = few_below o.sealed.items (length o.fired.items) h.sealed_ascends h.sealed_vertices in
     record {
@@ -79,9 +82,10 @@ listed_of_outcome o h =
       sealed = (omega arith, short_below (length o.fired.items) o.sealed.items (omega arith) h.sealed_vertices);
     }
 
-are_parts : (o : Outcome) → IsOutcome o → AllByRecursion IsPart (report_parts (content o))
-are_parts o h =
-    let listed = listed_of_outcome o h in (
+are_parts : (most : ℕ) (o : Outcome) → IsOutcome o → length o.fired.items ≤ most
+    → AllByRecursion (IsPart most) (report_parts (content o))
+are_parts most o h few =
+    let listed = listed_of_outcome most o h few in (
       record { plain = refl; listed = listed.chips },
       (
         record { plain = plain_closed (is_closed o); listed = listed.fired },
@@ -96,11 +100,14 @@ utf8_report o h =
     let end : List ℕ = codes ",\"version\":1}\n" in
     subst IsUtf8 (sym (in_parts o))
     (IsUtf8-from_ascii (text_by_content (content o))
-    (ascii_text_of (report_parts (content o)) end (are_parts o h) (ascii_plain end refl)))
+    (ascii_text_of max_vertices (report_parts (content o)) end (are_parts max_vertices o h h.few_vertices)
+    (ascii_plain end refl)))
 
 list-report : (o : Outcome) → IsOutcome o → (k : ℕ) → k < 4
     → list_at k (text_by_content (content o)) ≡ (get_or (report_parts (content o)) k ([], [])).1
-list-report o h = list_at-text_of (report_parts (content o)) (codes ",\"version\":1}\n") (are_parts o h)
+list-report o h =
+    list_at-text_of max_vertices (report_parts (content o)) (codes ",\"version\":1}\n")
+    (are_parts max_vertices o h h.few_vertices)
 
 content-report : (o : Outcome) → IsOutcome o → content_by_text (report_text o) ≡ content o
 content-report o h =
@@ -160,6 +167,10 @@ IsReportOf-content bytes o p e r = record {
 
 -- ---- bytes that are no report
 
+-- the report of no outcome at all is that of none within limits
+pub none_within : (limits : SizeLimits) (bytes : List ℕ) → IsNoReport bytes → IsNoReportWithin limits bytes
+none_within limits bytes none o r = none o r.0
+
 newline_last : (o : Outcome) → (front : List ℕ) × (report_text o ≡ front ++ 10 ∷ [])
 newline_last o =
     let front : List ℕ = start_text o ++ codes ",\"sealed\":" ++ array_text o.sealed.items in
@@ -171,10 +182,12 @@ none_without_newline bytes none o r = let last = newline_last o in none last.0 (
 pub none_without_utf8 : (text : List ℕ) → (IsUtf8 text → ⊥) → IsNoReport text
 none_without_utf8 text none o r = none (subst IsUtf8 (sym r.spelled) (utf8_report o r.reportable))
 
-pub none_without_list : (k : ℕ) → k < 4 → (text : List ℕ) → HasNoList (behind k text) → IsNoReport text
-none_without_list k l text none o r =
-    not_HasNoList (report_parts (content o)) (codes ",\"version\":1}\n") (are_parts o r.reportable) k l
-    (subst (λ (t : List ℕ). HasNoList (behind k t)) (r.spelled ∙ in_parts o) none)
+pub none_without_list : (limits : SizeLimits) (k : ℕ) → k < 4 → (text : List ℕ) (most : ℕ) → most ≡ limits.vertices
+    → HasNoList most (behind k text) → IsNoReportWithin limits text
+none_without_list limits k l text most is none o r =
+    not_HasNoList most (report_parts (content o)) (codes ",\"version\":1}\n")
+    (are_parts most o r.0.reportable (subst (λ n. length o.fired.items ≤ n) (sym is) r.1)) k l
+    (subst (λ (t : List ℕ). HasNoList most (behind k t)) (r.0.spelled ∙ in_parts o) none)
 
 -- what a call refuses is refused for the same reason
 pub passed_on : {T P Q : Type 0} (IsRight : T → Type 0) (result : Result T ReportFault) (f : ReportFault)
@@ -206,11 +219,10 @@ not_that_outcome bytes found e none o r =
 pub one_outcome : (o p : Outcome) → IsOutcome o → IsOutcome p → report_text o ≡ report_text p → content o ≡ content p
 one_outcome o p h k e = sym (content-report o h) ∙ ap content_by_text e ∙ content-report p k
 
-pub round_trip : (o : Outcome) → IsOutcome o → (answer : Result Outcome ReportFault)
-    → Gives (IsReportOf (report_text o)) (IsNoReport (report_text o)) answer
-    → ((read : Outcome) × (answer ≡ Ok read) × (content read ≡ content o)) ⊎ (answer ≡ Err fault.NoMemory)
-round_trip o h (Ok read) gives = inl (read, refl, sym (one_outcome o read h gives.reportable gives.spelled))
-round_trip o h (Err f) gives = elim gives [
+pub round_trip : RoundTrip
+round_trip limits o h fits (Ok read) gives =
+    inl (read, refl, sym (one_outcome o read h gives.0.reportable gives.0.spelled))
+round_trip limits o h fits (Err f) gives = elim gives [
   | inl memory ↦ inr (ap (λ (f : ReportFault). Err f) memory)
-  | inr none ↦ absurd (none.1 o (record { reportable = h; spelled = refl }))
+  | inr none ↦ absurd (none.1 o (record { reportable = h; spelled = refl }, fits))
 ]

@@ -7,21 +7,23 @@ use Rattle.std.specs.Result.{IsErrAnd}
 use Rattle.std.specs.List.{AllByRecursion}
 use Rattle.std.proofs.lemmas.List.{append_cancel_right, same_from_push}
 use Rattle.std.proofs.lemmas.Str.{IsUtf8-from_ascii}
+use Rattle.chip_graph.specs.Limits.{SizeLimits, max_vertices}
 use Rattle.chip_sequence.specs.declared.outcome.Outcome.{Outcome}
 use Rattle.chip_sequence.specs.declared.resumed.Resumed.{Resumed}
 use Rattle.chip_sequence.specs.Sittings.{IsResumed, max_prior}
 use Rattle.chip_report.specs.Laws.{RoundTripTwo}
 use Rattle.chip_report.specs.ReportLists.{list_at, behind, AreListed, HasNoList}
 use Rattle.chip_report.specs.ReportText.{array_text, bool_text, is_closed, report_text, start_text}
-use Rattle.chip_report.specs.Reportable.{IsReportOf, IsNoReport, Gives}
-use Rattle.chip_report.specs.ReportTwo.{report_two_text, IsReportTwoOf, IsNoReportTwo, IsAnyReportOf, IsNoReportAtAll}
+use Rattle.chip_report.specs.Reportable.{IsReportOf, IsNoReport, IsNoReportWithin, Gives}
+use Rattle.chip_report.specs.ReportTwo.{report_two_text, IsReportTwoOf, IsNoReportTwo, IsReportTwoWithin}
+use Rattle.chip_report.specs.ReportTwo.{IsNoReportTwoWithin, IsAnyReportWithin, IsNoReportAtAllWithin}
 use Rattle.chip_report.specs.ReportTwo.{SittingContent, sitting_content, sitting_by_text}
 use Rattle.chip_report.specs.declared.fault.ReportFault.{ReportFault}
 use Rattle.chip_report.specs.declared.fault.ReportFault.TheVariants as fault
 use Rattle.chip_report.proofs.BracketLemmas.{Part, IsPart, text_of, list_at-text_of, not_HasNoList, ascii_plain}
 use Rattle.chip_report.proofs.BracketLemmas.{ascii_text_of}
 use Rattle.chip_report.proofs.ReportLemmas.{closed_of, closed_front, plain_closed, listed_of_outcome, short_within}
-use Rattle.chip_report.proofs.ReportLemmas.{AreOfOutcome, outcome_then, outcome_if}
+use Rattle.chip_report.proofs.ReportLemmas.{AreOfOutcome, outcome_then, outcome_if, none_within}
 
 -- ---- a report in parts
 
@@ -46,21 +48,22 @@ in_parts_two r =
     (codes ",\"over\":") (array_text r.outcome.over.items) (codes ",\"prior\":") (array_text r.prior.items)
     (codes ",\"sealed\":") (array_text r.outcome.sealed.items) (codes ",\"version\":2}\n")
 
-listed_prior : (r : Resumed) → IsResumed r → AreListed r.prior.items
-listed_prior r h =
-    let few = h.outcome_fits.few_vertices in
+listed_prior : (most : ℕ) (r : Resumed) → IsResumed r → length r.outcome.fired.items ≤ most
+    → AreListed most r.prior.items
+listed_prior most r h few =
     (omega (arith, h.prior_each), short_within max_prior r.prior.items (omega arith) h.few_before)
 
-are_parts_two : (r : Resumed) → IsResumed r → AllByRecursion IsPart (parts_two (sitting_content r))
-are_parts_two r h =
-    let listed = listed_of_outcome r.outcome h.outcome_fits in (
+are_parts_two : (most : ℕ) (r : Resumed) → IsResumed r → length r.outcome.fired.items ≤ most
+    → AllByRecursion (IsPart most) (parts_two (sitting_content r))
+are_parts_two most r h few =
+    let listed = listed_of_outcome most r.outcome h.outcome_fits few in (
       record { plain = refl; listed = listed.chips },
       (
         record { plain = plain_closed (is_closed r.outcome); listed = listed.fired },
         (
           record { plain = refl; listed = listed.over },
           (
-            record { plain = refl; listed = listed_prior r h },
+            record { plain = refl; listed = listed_prior most r h few },
             (record { plain = refl; listed = listed.sealed }, tt),
           ),
         ),
@@ -74,11 +77,14 @@ utf8_two r h =
     let end : List ℕ = codes ",\"version\":2}\n" in
     subst IsUtf8 (sym (in_parts_two r))
     (IsUtf8-from_ascii (text_two (sitting_content r))
-    (ascii_text_of (parts_two (sitting_content r)) end (are_parts_two r h) (ascii_plain end refl)))
+    (ascii_text_of max_vertices (parts_two (sitting_content r)) end
+    (are_parts_two max_vertices r h h.outcome_fits.few_vertices) (ascii_plain end refl)))
 
 list-two : (r : Resumed) → IsResumed r → (k : ℕ) → k < 5
     → list_at k (text_two (sitting_content r)) ≡ (get_or (parts_two (sitting_content r)) k ([], [])).1
-list-two r h = list_at-text_of (parts_two (sitting_content r)) (codes ",\"version\":2}\n") (are_parts_two r h)
+list-two r h =
+    list_at-text_of max_vertices (parts_two (sitting_content r)) (codes ",\"version\":2}\n")
+    (are_parts_two max_vertices r h h.outcome_fits.few_vertices)
 
 sitting-report_two : (r : Resumed) → IsResumed r → sitting_by_text (report_two_text r) ≡ sitting_content r
 sitting-report_two r h =
@@ -143,6 +149,10 @@ none_without_end bytes none r is = let two = ends_in_two r in none two.0 (is.spe
 
 -- ---- bytes that are no report
 
+-- the report of no sitting that went on is that of none within limits
+pub none_within_two : (limits : SizeLimits) (bytes : List ℕ) → IsNoReportTwo bytes → IsNoReportTwoWithin limits bytes
+none_within_two limits bytes none r is = none r is.0
+
 pub none_without_newline_two : (bytes : List ℕ) → ((front : List ℕ) → bytes ≢ front ++ 10 ∷ []) → IsNoReportTwo bytes
 none_without_newline_two bytes none r is =
     let two = ends_in_two r in
@@ -152,10 +162,12 @@ none_without_newline_two bytes none r is =
 pub none_without_utf8_two : (text : List ℕ) → (IsUtf8 text → ⊥) → IsNoReportTwo text
 none_without_utf8_two text none r is = none (subst IsUtf8 (sym is.spelled) (utf8_two r is.reportable))
 
-pub none_without_list_two : (k : ℕ) → k < 5 → (text : List ℕ) → HasNoList (behind k text) → IsNoReportTwo text
-none_without_list_two k l text none r is =
-    not_HasNoList (parts_two (sitting_content r)) (codes ",\"version\":2}\n") (are_parts_two r is.reportable) k l
-    (subst (λ (t : List ℕ). HasNoList (behind k t)) (is.spelled ∙ in_parts_two r) none)
+pub none_without_list_two : (limits : SizeLimits) (k : ℕ) → k < 5 → (text : List ℕ) (most : ℕ) → most ≡ limits.vertices
+    → HasNoList most (behind k text) → IsNoReportTwoWithin limits text
+none_without_list_two limits k l text most same none r is =
+    not_HasNoList most (parts_two (sitting_content r)) (codes ",\"version\":2}\n")
+    (are_parts_two most r is.0.reportable (subst (λ n. length r.outcome.fired.items ≤ n) (sym same) is.1)) k l
+    (subst (λ (t : List ℕ). HasNoList most (behind k t)) (is.0.spelled ∙ in_parts_two r) none)
 
 pub not_that_sitting : (bytes : List ℕ) (found : Resumed) → sitting_content found ≡ sitting_by_text bytes
     → (IsReportTwoOf bytes found → ⊥) → IsNoReportTwo bytes
@@ -165,26 +177,29 @@ not_that_sitting bytes found e none r is =
     none (IsReportTwoOf-content bytes r found same is)
 
 -- neither the one nor the other
-pub none_at_all : (bytes : List ℕ) → IsNoReport bytes → IsNoReportTwo bytes → IsNoReportAtAll bytes
-none_at_all bytes none none_two r (inl first) = none r.outcome first.0
-none_at_all bytes none none_two r (inr went_on) = none_two r went_on
+pub none_at_all : (limits : SizeLimits) (bytes : List ℕ) → IsNoReportWithin limits bytes
+    → IsNoReportTwoWithin limits bytes → IsNoReportAtAllWithin limits bytes
+none_at_all limits bytes none none_two r (inl first, fits) = none r.outcome (first.0, fits)
+none_at_all limits bytes none none_two r (inr went_on, fits) = none_two r (went_on, fits)
 
 -- what was read as a report of version 2, of bytes that are none of version 1
-pub read_as_two : (bytes : List ℕ) → IsNoReport bytes → (result : Result Resumed ReportFault)
-    → Gives (IsReportTwoOf bytes) (IsNoReportTwo bytes) result
-    → Gives (IsAnyReportOf bytes) (IsNoReportAtAll bytes) result
-read_as_two bytes none (Ok r) is = inr is
-read_as_two bytes none (Err f) (inl memory) = inl memory
-read_as_two bytes none (Err f) (inr (same, none_two)) = inr (same, none_at_all bytes none none_two)
+pub read_as_two : (limits : SizeLimits) (bytes : List ℕ) → IsNoReport bytes → (result : Result Resumed ReportFault)
+    → Gives (IsReportTwoWithin limits bytes) (IsNoReportTwoWithin limits bytes) result
+    → Gives (IsAnyReportWithin limits bytes) (IsNoReportAtAllWithin limits bytes) result
+read_as_two limits bytes none (Ok r) is = (inr is.0, is.1)
+read_as_two limits bytes none (Err f) (inl memory) = inl memory
+read_as_two limits bytes none (Err f) (inr (same, none_two)) =
+    inr (same, none_at_all limits bytes (none_within limits bytes none) none_two)
 
 -- what was refused as a report of version 1, of bytes that are none of version 2
-pub refused_as_one : (bytes : List ℕ) → IsNoReportTwo bytes → (result : Result Resumed ReportFault) (f : ReportFault)
-    → IsErrAnd result (λ e. e ≡ f)
-    → (f ≡ fault.NoMemory) ⊎ ((f ≡ fault.NotReport) × IsNoReport bytes)
-    → Gives (IsAnyReportOf bytes) (IsNoReportAtAll bytes) result
-refused_as_one bytes none_two (Ok r) f is why = absurd is
-refused_as_one bytes none_two (Err g) f is (inl memory) = inl (is ∙ memory)
-refused_as_one bytes none_two (Err g) f is (inr none) = inr (is ∙ none.0, none_at_all bytes none.1 none_two)
+pub refused_as_one : (limits : SizeLimits) (bytes : List ℕ) → IsNoReportTwo bytes
+    → (result : Result Resumed ReportFault) (f : ReportFault) → IsErrAnd result (λ e. e ≡ f)
+    → (f ≡ fault.NoMemory) ⊎ ((f ≡ fault.NotReport) × IsNoReportWithin limits bytes)
+    → Gives (IsAnyReportWithin limits bytes) (IsNoReportAtAllWithin limits bytes) result
+refused_as_one limits bytes none_two (Ok r) f is why = absurd is
+refused_as_one limits bytes none_two (Err g) f is (inl memory) = inl (is ∙ memory)
+refused_as_one limits bytes none_two (Err g) f is (inr none) =
+    inr (is ∙ none.0, none_at_all limits bytes none.1 (none_within_two limits bytes none_two))
 
 -- ---- the laws
 
@@ -197,11 +212,11 @@ not_both bytes o r first went_on =
     let two = ends_in_two r in none_before_end bytes two.0 (went_on.spelled ∙ two.1) o first
 
 pub round_trip_two : RoundTripTwo
-round_trip_two r h (Ok read) (inl first) =
+round_trip_two limits r h fits (Ok read) (inl first, few) =
     absurd (not_both (report_two_text r) read.outcome r first.0 (record { reportable = h; spelled = refl }))
-round_trip_two r h (Ok read) (inr went_on) =
+round_trip_two limits r h fits (Ok read) (inr went_on, few) =
     inl (read, refl, sym (one_sitting r read h went_on.reportable went_on.spelled))
-round_trip_two r h (Err f) gives = elim gives [
+round_trip_two limits r h fits (Err f) gives = elim gives [
   | inl memory ↦ inr (ap (λ (f : ReportFault). Err f) memory)
-  | inr none ↦ absurd (none.1 r (inr (record { reportable = h; spelled = refl })))
+  | inr none ↦ absurd (none.1 r (inr (record { reportable = h; spelled = refl }), fits))
 ]

@@ -2,11 +2,13 @@
 use Rattle.std.specs.Prelude.{◌≡◌, ◌⊎◌, ℕ, List, Result, Ok, Err}
 use Rattle.chip_sequence.specs.declared.resumed.Resumed.{Resumed}
 use Rattle.chip_sequence.specs.Sittings.{IsResumed}
-use Rattle.chip_report.specs.ReportTwo.{report_two_text, sitting_content, IsReportTwoOf, IsAnyReportOf, IsNoReportAtAll}
+use Rattle.chip_report.specs.ReportTwo.{report_two_text, sitting_content, IsReportTwoOf}
+use Rattle.chip_report.specs.ReportTwo.{IsAnyReportWithin, IsNoReportAtAllWithin}
+use Rattle.chip_graph.specs.Limits.{SizeLimits}
 use Rattle.chip_sequence.specs.declared.outcome.Outcome.{Outcome}
 use Rattle.chip_sequence.specs.Outcomes.{IsOutcome}
 use Rattle.chip_report.specs.ReportText.{report_text}
-use Rattle.chip_report.specs.Reportable.{content, IsReportOf, IsNoReport, Gives}
+use Rattle.chip_report.specs.Reportable.{content, FitsIn, IsReportOf, IsReportWithin, IsNoReportWithin, Gives}
 use Rattle.chip_report.specs.declared.fault.ReportFault.{ReportFault}
 use Rattle.chip_report.specs.declared.fault.ReportFault.TheVariants as fault
 
@@ -15,11 +17,12 @@ abbrev pub OneOutcome : Type 0
 OneOutcome = (one other : Outcome) → IsOutcome one → IsOutcome other → report_text one ≡ report_text other
     → content one ≡ content other
 
--- whatever `read_report` may answer at the report of an outcome: an outcome with the same numbers, or that memory ran
--- out
+-- whatever `read_report_within` may answer at the report of an outcome that fits in the limits: an outcome with the
+-- same numbers, or that memory ran out
 abbrev pub RoundTrip : Type 0
-RoundTrip = (outcome : Outcome) → IsOutcome outcome → (answer : Result Outcome ReportFault)
-    → Gives (IsReportOf (report_text outcome)) (IsNoReport (report_text outcome)) answer
+RoundTrip = (limits : SizeLimits) (outcome : Outcome) → IsOutcome outcome → FitsIn limits outcome
+    → (answer : Result Outcome ReportFault)
+    → Gives (IsReportWithin limits (report_text outcome)) (IsNoReportWithin limits (report_text outcome)) answer
     → ((read : Outcome) × (answer ≡ Ok read) × (content read ≡ content outcome)) ⊎ (answer ≡ Err fault.NoMemory)
 
 -- sittings with the same report have the same numbers
@@ -27,11 +30,12 @@ abbrev pub OneSitting : Type 0
 OneSitting = (one other : Resumed) → IsResumed one → IsResumed other
     → report_two_text one ≡ report_two_text other → sitting_content one ≡ sitting_content other
 
--- whatever `read_any` may answer at the report of a sitting that went on: a sitting with the same numbers, or that
--- memory ran out
+-- whatever `read_any_within` may answer at the report of a sitting that went on and fits in the limits: a sitting with
+-- the same numbers, or that memory ran out
 abbrev pub RoundTripTwo : Type 0
-RoundTripTwo = (r : Resumed) → IsResumed r → (answer : Result Resumed ReportFault)
-    → Gives (IsAnyReportOf (report_two_text r)) (IsNoReportAtAll (report_two_text r)) answer
+RoundTripTwo = (limits : SizeLimits) (r : Resumed) → IsResumed r → FitsIn limits r.outcome
+    → (answer : Result Resumed ReportFault)
+    → Gives (IsAnyReportWithin limits (report_two_text r)) (IsNoReportAtAllWithin limits (report_two_text r)) answer
     → ((read : Resumed) × (answer ≡ Ok read) × (sitting_content read ≡ sitting_content r))
     ⊎ (answer ≡ Err fault.NoMemory)
 

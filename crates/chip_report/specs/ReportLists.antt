@@ -1,11 +1,12 @@
 -- The lists of numbers in a text, each between the next brackets, whatever else the text has.
-use Rattle.std.specs.Prelude.{◌≢◌, ℕ, zero, suc, ◌^◌, ◌<◌, ◌≤◌, ◌==◌, List, [], ◌∷◌, ◌++◌, length, map, All}
+use Rattle.std.specs.Prelude.{◌≡◌, ◌≢◌, ℕ, zero, suc, ◌^◌, ◌<◌, ◌≤◌, ◌==◌, List, [], ◌∷◌, ◌++◌, length, map, All}
 use Rattle.std.specs.List.{before_first, after_first, slice_split, join_with_byte}
 use Rattle.std.specs.Fmt.{decimal}
 use Rattle.std.specs.Str.Parse.{digits_value, without_leading_plus}
-use Rattle.chip_graph.specs.Limits.{max_vertices}
+use Rattle.chip_graph.specs.Limits.{SizeLimits}
+use Rattle.chip_sequence.specs.declared.outcome.Outcome.{Outcome}
 use Rattle.chip_report.specs.ReportText.{comma, array_text}
-use Rattle.chip_report.specs.Reportable.{Content}
+use Rattle.chip_report.specs.Reportable.{Content, content, FitsIn}
 
 -- the code of the bracket before a list
 abbrev pub opening : ℕ
@@ -46,21 +47,25 @@ abbrev pub content_by_text : List ℕ → Content
 content_by_text text =
     record { fired = list_at 1 text; chips = list_at 0 text; over = list_at 2 text; sealed = list_at 3 text }
 
+-- the outcome has the numbers that a text tells, and fits in the limits
+abbrev pub IsToldBy : SizeLimits → List ℕ → Outcome → Type 0
+IsToldBy limits text outcome = (content outcome ≡ content_by_text text) × FitsIn limits outcome
+
 -- ---- what no report has
 
--- numbers that a list of a report may have: each fits, and not more than a graph has vertices
-abbrev pub AreListed : List ℕ → Type 0
-AreListed numbers = (length numbers ≤ max_vertices) × All (λ n. n < 2 ^ 64) numbers
+-- numbers that a list of a report may have: each fits, and they are at most so many
+abbrev pub AreListed : ℕ → List ℕ → Type 0
+AreListed most numbers = (length numbers ≤ most) × All (λ n. n < 2 ^ 64) numbers
 
 -- no number is written so
 abbrev pub IsNoNumber : List ℕ → Type 0
 IsNoNumber digits = (n : ℕ) → n < 2 ^ 64 → digits ≢ decimal n
 
 -- no such numbers are written so
-abbrev pub IsNoList : List ℕ → Type 0
-IsNoList list = (numbers : List ℕ) → AreListed numbers → list ≢ join_with_byte comma (map decimal numbers)
+abbrev pub IsNoList : ℕ → List ℕ → Type 0
+IsNoList most list = (numbers : List ℕ) → AreListed most numbers → list ≢ join_with_byte comma (map decimal numbers)
 
 -- in the first brackets no such numbers are written
-abbrev pub HasNoList : List ℕ → Type 0
-HasNoList text = (front numbers rest : List ℕ) → All (λ b. b ≢ opening) front → AreListed numbers
+abbrev pub HasNoList : ℕ → List ℕ → Type 0
+HasNoList most text = (front numbers rest : List ℕ) → All (λ b. b ≢ opening) front → AreListed most numbers
     → text ≢ front ++ (array_text numbers ++ rest)

@@ -1,10 +1,11 @@
 -- The report of a play in several sittings: one line of compact JSON, its members in alphabetical order. It has the
 -- report of the last sitting, and under `prior` how often each vertex fired in the sittings before it.
 use Rattle.std.specs.Prelude.{◌≡◌, ◌⊎◌, ℕ, List, ◌++◌, codes, length, replicate}
+use Rattle.chip_graph.specs.Limits.{SizeLimits}
 use Rattle.chip_sequence.specs.declared.resumed.Resumed.{Resumed}
 use Rattle.chip_sequence.specs.Sittings.{IsResumed}
 use Rattle.chip_report.specs.ReportText.{array_text, bool_text, is_closed}
-use Rattle.chip_report.specs.Reportable.{Content, content, IsReportOf}
+use Rattle.chip_report.specs.Reportable.{Content, content, IsReportOf, FitsIn}
 use Rattle.chip_report.specs.ReportLists.{list_at}
 
 -- the report of a sitting that went on
@@ -36,6 +37,24 @@ IsNoReportTwo bytes = (r : Resumed) → IsReportTwoOf bytes r → ⊥
 abbrev pub IsNoReportAtAll : List ℕ → Type 0
 IsNoReportAtAll bytes = (r : Resumed) → IsAnyReportOf bytes r → ⊥
 
+-- ---- the same within limits
+
+-- the bytes are the report of a sitting that went on, and it fits in the limits
+abbrev pub IsReportTwoWithin : SizeLimits → List ℕ → Resumed → Type 0
+IsReportTwoWithin limits bytes r = IsReportTwoOf bytes r × FitsIn limits r.outcome
+
+-- the bytes are the report of no sitting that went on and fits in the limits
+abbrev pub IsNoReportTwoWithin : SizeLimits → List ℕ → Type 0
+IsNoReportTwoWithin limits bytes = (r : Resumed) → IsReportTwoWithin limits bytes r → ⊥
+
+-- the bytes are the report of any sitting, and it fits in the limits
+abbrev pub IsAnyReportWithin : SizeLimits → List ℕ → Resumed → Type 0
+IsAnyReportWithin limits bytes r = IsAnyReportOf bytes r × FitsIn limits r.outcome
+
+-- the bytes are the report of no sitting that fits in the limits
+abbrev pub IsNoReportAtAllWithin : SizeLimits → List ℕ → Type 0
+IsNoReportAtAllWithin limits bytes = (r : Resumed) → IsAnyReportWithin limits bytes r → ⊥
+
 -- ---- what a text tells
 
 -- the numbers of a sitting, without where they lie in memory
@@ -53,3 +72,7 @@ sitting_by_text text = record {
   last = record { fired = list_at 1 text; chips = list_at 0 text; over = list_at 2 text; sealed = list_at 4 text };
   prior = list_at 3 text;
 }
+
+-- the sitting has the numbers that a text tells, and fits in the limits
+abbrev pub IsSittingToldBy : SizeLimits → List ℕ → Resumed → Type 0
+IsSittingToldBy limits text r = (sitting_content r ≡ sitting_by_text text) × FitsIn limits r.outcome

@@ -1,5 +1,6 @@
 -- Which bytes are a report, and of which outcome.
-use Rattle.std.specs.Prelude.{◌≡◌, ◌⊎◌, ℕ, List, [], ◌∷◌, ◌++◌, Result, Ok, Err, IfErr}
+use Rattle.std.specs.Prelude.{◌≡◌, ◌≤◌, ◌⊎◌, ℕ, List, [], ◌∷◌, ◌++◌, length, Result, Ok, Err, IfErr}
+use Rattle.chip_graph.specs.Limits.{SizeLimits}
 use Rattle.chip_sequence.specs.declared.outcome.Outcome.{Outcome}
 use Rattle.chip_sequence.specs.Outcomes.{IsOutcome}
 use Rattle.chip_report.specs.ReportText.{report_text}
@@ -30,6 +31,18 @@ pub record IsReportOf (bytes : List ℕ) (outcome : Outcome) : Type 0 where
 -- the bytes are the report of no outcome
 abbrev pub IsNoReport : List ℕ → Type 0
 IsNoReport bytes = (outcome : Outcome) → IsReportOf bytes outcome → ⊥
+
+-- the outcome has no more vertices than the limits allow
+abbrev pub FitsIn : SizeLimits → Outcome → Type 0
+FitsIn limits outcome = length outcome.fired.items ≤ limits.vertices
+
+-- the bytes are the report of the outcome, and it fits in the limits
+abbrev pub IsReportWithin : SizeLimits → List ℕ → Outcome → Type 0
+IsReportWithin limits bytes outcome = IsReportOf bytes outcome × FitsIn limits outcome
+
+-- the bytes are the report of no outcome that fits in the limits
+abbrev pub IsNoReportWithin : SizeLimits → List ℕ → Type 0
+IsNoReportWithin limits bytes = (outcome : Outcome) → IsReportWithin limits bytes outcome → ⊥
 
 -- want of memory is told only of bytes that end as a report does
 abbrev pub GrowsForALine : {T : Type 0} → List ℕ → Result T ReportFault → Type 0

@@ -5,8 +5,8 @@
 #![tactic(auto)]
 
 pub use fault::ReportFault;
-pub use read::read_report;
-pub use sitting::{read_any, report_two};
+pub use read::{read_report, read_report_within};
+pub use sitting::{read_any, read_any_within, report_two};
 pub use write::{WriteFault, write_all_of};
 
 pub mod fault;

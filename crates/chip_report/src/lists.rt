@@ -1,12 +1,11 @@
 //! The lists of numbers in a text, whether or not it is a report.
 
-ghost use Rattle.std.specs.Prelude.{◌≡◌, IsUtf8, MatchOption};
+ghost use Rattle.std.specs.Prelude.{◌≡◌, ◌≤◌, length, IsUtf8, MatchOption};
 ghost use Rattle.chip_report.specs.Reportable.{Gives};
 ghost use Rattle.chip_report.specs.ReportLists.{first_list, behind_list, number_of, numbers_of};
 ghost use Rattle.chip_report.specs.ReportLists.{IsNoNumber, IsNoList, HasNoList};
 
 use crate::fault::ReportFault;
-use chip_graph::MAX_VERTICES;
 use std::alloc::Global;
 use std::str;
 
@@ -28,10 +27,11 @@ impl<'t> Lists<'t> {
         }
     }
 
-    /// Takes the numbers between the next brackets.
-    pub(crate) fn take(&mut self, alloc: Global) -> Result<Vec<u64>, ReportFault>
+    /// Takes the numbers between the next brackets, if they are at most so many.
+    pub(crate) fn take(&mut self, alloc: Global, most: u64) -> Result<Vec<u64>, ReportFault>
         ensures { Gives (λ numbers. (numbers.items ≡ numbers_of (first_list self.old.rest.now))
-            × (self.new.rest.now ≡ behind_list self.old.rest.now)) (HasNoList self.old.rest.now) result }
+            × (self.new.rest.now ≡ behind_list self.old.rest.now) × (length numbers.items ≤ most))
+            (HasNoList most self.old.rest.now) result }
     {
         let Some((_, opened)) = self.rest.split_once('[') else {
             return Err(ReportFault::NotReport);
@@ -40,20 +40,21 @@ impl<'t> Lists<'t> {
             return Err(ReportFault::NotReport);
         };
         self.rest = rest;
-        numbers_of(alloc, list)
+        numbers_of(alloc, most, list)
     }
 }
 
-/// The numbers of a list, if they are no more than a graph may have vertices.
-fn numbers_of(alloc: Global, list: &str) -> Result<Vec<u64>, ReportFault>
-    ensures { Gives (λ numbers. numbers.items ≡ numbers_of list.now) (IsNoList list.now) result }
+/// The numbers of a list, if they are at most so many.
+fn numbers_of(alloc: Global, most: u64, list: &str) -> Result<Vec<u64>, ReportFault>
+    ensures { Gives (λ numbers. (numbers.items ≡ numbers_of list.now) × (length numbers.items ≤ most))
+        (IsNoList most list.now) result }
 {
     let mut numbers = Vec::new(alloc);
     if list.is_empty() {
         return Ok(numbers);
     }
     for digits in list.split(',') {
-        if numbers.len() as u64 >= MAX_VERTICES {
+        if numbers.len() as u64 >= most {
             return Err(ReportFault::NotReport);
         }
         numbers.push(number_of(digits).ok_or(ReportFault::NotReport)?)?;

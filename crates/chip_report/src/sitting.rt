@@ -1,16 +1,19 @@
 //! The report of a play in several sittings, written and read.
 
 ghost use Rattle.std.specs.Prelude.{◌≡◌, ◌≤◌, ◌↔◌, true, IfOk, All, length};
+ghost use Rattle.chip_graph.specs.Limits.{standard};
 ghost use Rattle.chip_sequence.specs.Sittings.{IsResumed, max_prior};
 ghost use Rattle.chip_report.specs.Reportable.{Gives, GrowsForALine};
-ghost use Rattle.chip_report.specs.ReportTwo.{report_two_text, sitting_content, sitting_by_text};
-ghost use Rattle.chip_report.specs.ReportTwo.{IsReportTwoOf, IsNoReportTwo, IsAnyReportOf, IsNoReportAtAll};
+ghost use Rattle.chip_report.specs.ReportTwo.{report_two_text, IsSittingToldBy};
+ghost use Rattle.chip_report.specs.ReportTwo.{IsReportTwoWithin, IsNoReportTwoWithin};
+ghost use Rattle.chip_report.specs.ReportTwo.{IsAnyReportWithin, IsNoReportAtAllWithin};
 
 use crate::fault::ReportFault;
 use crate::lists::Lists;
-use crate::read::read_report;
+use crate::read::read_report_within;
 use crate::report::{push_list, start_of_report};
 use crate::reportable::is_outcome;
+use chip_graph::Limits;
 use chip_sequence::{MAX_PRIOR, Outcome, Resumed};
 use std::alloc::{AllocError, Global};
 
@@ -26,29 +29,38 @@ pub fn report_two(alloc: Global, resumed: &Resumed) -> Result<Vec<u8>, AllocErro
     Ok(text.into_bytes())
 }
 
-/// The sitting whose report the bytes are: of a first one, before which nothing was fired, or of one that went on.
+/// The sitting whose report the bytes are, within the standard limits.
+pub fn read_any(alloc: Global, bytes: &[u8]) -> Result<Resumed, ReportFault>
+    ensures sitting { Gives (IsAnyReportWithin standard bytes.now) (IsNoReportAtAllWithin standard bytes.now) result }
+    ensures memory { GrowsForALine bytes.now result }
+{
+    read_any_within(alloc, Limits::standard(), bytes)
+}
+
+/// The sitting whose report the bytes are, if it fits in the limits: a first one, before which nothing was fired, or
+/// one that went on.
 ///
 /// Only the report of a sitting that went on ends in version 2, so the bytes are read as one version.
-pub fn read_any(alloc: Global, bytes: &[u8]) -> Result<Resumed, ReportFault>
-    ensures sitting { Gives (IsAnyReportOf bytes.now) (IsNoReportAtAll bytes.now) result }
+pub fn read_any_within(alloc: Global, limits: Limits, bytes: &[u8]) -> Result<Resumed, ReportFault>
+    ensures sitting { Gives (IsAnyReportWithin limits bytes.now) (IsNoReportAtAllWithin limits bytes.now) result }
     ensures memory { GrowsForALine bytes.now result }
 {
     if bytes.ends_with(b",\"version\":2}\n") {
-        return read_report_two(alloc, bytes);
+        return read_report_two(alloc, limits, bytes);
     }
-    let outcome = read_report(alloc, bytes)?;
+    let outcome = read_report_within(alloc, limits, bytes)?;
     Ok(Resumed::first(alloc, outcome)?)
 }
 
 /// The sitting that went on whose report the bytes are, by writing the report anew.
-fn read_report_two(alloc: Global, bytes: &[u8]) -> Result<Resumed, ReportFault>
-    ensures sitting { Gives (IsReportTwoOf bytes.now) (IsNoReportTwo bytes.now) result }
+fn read_report_two(alloc: Global, limits: Limits, bytes: &[u8]) -> Result<Resumed, ReportFault>
+    ensures sitting { Gives (IsReportTwoWithin limits bytes.now) (IsNoReportTwoWithin limits bytes.now) result }
     ensures memory { GrowsForALine bytes.now result }
 {
     if !bytes.ends_with(b"\n") {
         return Err(ReportFault::NotReport);
     }
-    let resumed = resumed_of_text(alloc, bytes)?;
+    let resumed = resumed_of_text(alloc, limits, bytes)?;
     if is_resumed(&resumed) && report_two(alloc, &resumed)?.as_slice() == bytes {
         Ok(resumed)
     } else {
@@ -56,16 +68,17 @@ fn read_report_two(alloc: Global, bytes: &[u8]) -> Result<Resumed, ReportFault>
     }
 }
 
-/// The sitting that a text tells, if it is the report of one that went on.
-fn resumed_of_text(alloc: Global, text: &[u8]) -> Result<Resumed, ReportFault>
-    ensures { Gives (λ resumed. sitting_content resumed ≡ sitting_by_text text.now) (IsNoReportTwo text.now) result }
+/// The sitting that a text tells, if it is the report of one that went on, within the limits.
+fn resumed_of_text(alloc: Global, limits: Limits, text: &[u8]) -> Result<Resumed, ReportFault>
+    ensures { Gives (IsSittingToldBy limits text.now) (IsNoReportTwoWithin limits text.now) result }
 {
+    let most = limits.vertices();
     let mut lists = Lists::new(text)?;
-    let chips = lists.take(alloc)?;
-    let fired = lists.take(alloc)?;
-    let over = lists.take(alloc)?;
-    let prior = lists.take(alloc)?;
-    let sealed = lists.take(alloc)?;
+    let chips = lists.take(alloc, most)?;
+    let fired = lists.take(alloc, most)?;
+    let over = lists.take(alloc, most)?;
+    let prior = lists.take(alloc, most)?;
+    let sealed = lists.take(alloc, most)?;
     let outcome = Outcome {
         fired,
         chips,

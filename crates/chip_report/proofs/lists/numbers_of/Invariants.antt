@@ -1,4 +1,4 @@
-use Rattle.std.proofs.Common.{◌≡◌, length, map}
+use Rattle.std.proofs.Common.{◌≡◌, ◌≤◌, length, map}
 use Rattle.std.specs.Vec.{vec_len}
 use Rattle.chip_report.specs.ReportLists.{number_of}
 use Rattle.chip_report.proofs.BracketLemmas.{shown}
@@ -8,4 +8,5 @@ abbrev pub invariant-loop-digits : goal.invariant-loop-digits
 invariant-loop-digits l = record {
   read : l.numbers.items ≡ map number_of (shown l.yielded);
   len : vec_len l.numbers ≡ length l.yielded;
+  few : vec_len l.numbers ≤ l.most;
 }

@@ -2,8 +2,8 @@ use Rattle.std.proofs.Common.{[], ◌∷◌, inr, refl, sym, ◌∙◌}
 use Rattle.std.proofs.lemmas.Bool.{false≢true}
 use Rattle.std.proofs.lemmas.Bool.Decides.{Decides-eqb}
 use Rattle.std.proofs.lemmas.Slice.Eq.{ends_is, bytes_eq-Decides}
-use Rattle.chip_report.specs.ReportTwo.{IsReportTwoOf}
-use Rattle.chip_report.proofs.ReportTwoLemmas.{none_without_newline_two, not_that_sitting}
+use Rattle.chip_report.specs.ReportTwo.{IsReportTwoWithin}
+use Rattle.chip_report.proofs.ReportTwoLemmas.{none_within_two, none_without_newline_two, not_that_sitting}
 use Rattle.chip_report.proofs.ReportLemmas.{passed_on, of_a_line}
 use Rattle.chip_report.proofs.sitting.read_report_two.Goals as goal
 use Rattle.chip_report.proofs.sitting.read_report_two.Goals.{else-is_resumed-via-then-is_resumed+in_ok-report_two+else-eq}
@@ -14,19 +14,22 @@ returns-then-not-ends_with-clause-sitting c =
     let ends = ends_is Decides-eqb c.args.bytes.now (10 ∷ []) c.ends_with.result c.ends_with.ensures.value in
     inr (
       refl,
-      none_without_newline_two c.args.bytes.now (λ front e. false≢true (sym c.if-not-ends_with.true ∙ ends.1 front e)),
+      none_within_two c.args.limits c.args.bytes.now
+          (none_without_newline_two c.args.bytes.now
+          (λ front e. false≢true (sym c.if-not-ends_with.true ∙ ends.1 front e))),
     )
 
 pub returns-in_err-resumed-clause-sitting : goal.returns-in_err-resumed-clause-sitting
 returns-in_err-resumed-clause-sitting c =
-    passed_on (IsReportTwoOf c.args.bytes.now) c.from_residual.result c.in_err-resumed.field-0.0
+    passed_on (IsReportTwoWithin c.args.limits c.args.bytes.now) c.from_residual.result c.in_err-resumed.field-0.0
     c.from_residual.ensures.1 c.in_err-resumed.ensures (λ none. none)
 
 pub returns-else-is_resumed-clause-sitting : goal.returns-else-is_resumed-clause-sitting
 returns-else-is_resumed-clause-sitting c =
     inr (
       refl,
-      not_that_sitting c.args.bytes.now c.in_ok-resumed.resumed c.in_ok-resumed.ensures
+      none_within_two c.args.limits c.args.bytes.now
+          (not_that_sitting c.args.bytes.now c.in_ok-resumed.resumed c.in_ok-resumed.ensures.0
           (elim c.else-is_resumed.branch [
             | else-is_resumed-via-then-is_resumed+in_ok-report_two+else-eq w ↦
                 λ r. false≢true (sym w.if-eq.false
@@ -34,7 +37,7 @@ returns-else-is_resumed-clause-sitting c =
                 (w.as_slice.ensures.value ∙ (w.in_ok-report_two.ensures ∙ sym r.spelled))))
             | else-is_resumed-via-else-is_resumed w ↦ λ r.
                 false≢true (sym w.if-is_resumed.false ∙ c.is_resumed.ensures.1 r.reportable)
-          ]),
+          ])),
     )
 
 pub returns-in_err-resumed-clause-memory : goal.returns-in_err-resumed-clause-memory

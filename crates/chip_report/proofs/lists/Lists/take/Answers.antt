@@ -10,7 +10,7 @@ pub returns-in_default : goal.returns-in_default
 returns-in_default c =
     let none = rw c.in_default.is at
     (split_once_first opening c.args.self.now.rest.now c.split_once.result c.split_once.ensures.cases (lit< tt)) in
-    inr (refl, none_opened c.args.self.now.rest.now none)
+    inr (refl, none_opened c.args.most c.args.self.now.rest.now none)
 
 pub returns-in_default-split_once : goal.returns-in_default-split_once
 returns-in_default-split_once c =
@@ -18,7 +18,7 @@ returns-in_default-split_once c =
     (split_once_first opening c.args.self.now.rest.now c.split_once.result c.split_once.ensures.cases (lit< tt)) in
     let none = rw c.in_default-split_once.is at
     (split_once_first closing c.in-Some.opened.now c.split_once-2.result c.split_once-2.ensures.cases (lit< tt)) in
-    inr (refl, none_closed c.args.self.now.rest.now c.in-Some.opened.now first.2 none)
+    inr (refl, none_closed c.args.most c.args.self.now.rest.now c.in-Some.opened.now first.2 none)
 
 pub returns : goal.returns
 returns c =
@@ -26,6 +26,7 @@ returns c =
     (split_once_first opening c.args.self.now.rest.now c.split_once.result c.split_once.ensures.cases (lit< tt)) in
     let cut = rw c.in-Some-split_once.is at
     (split_once_first closing c.in-Some.opened.now c.split_once-2.result c.split_once-2.ensures.cases (lit< tt)) in
-    taken c.args.self.now.rest.now c.in-Some-split_once.rest.now c.in-Some-split_once.list.now c.numbers_of.result
+    taken c.args.most c.args.self.now.rest.now c.in-Some-split_once.rest.now c.in-Some-split_once.list.now
+    c.numbers_of.result
     (cut.1 ∙ ap (before_first (λ b. b == closing)) first.2) (cut.2 ∙ ap (after_first (λ b. b == closing)) first.2)
     c.numbers_of.ensures

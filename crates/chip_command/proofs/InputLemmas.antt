@@ -6,6 +6,7 @@ use Rattle.std.proofs.lemmas.Bool.{eqb-true, leb-true}
 use Rattle.std.specs.Option.{IfSome}
 use Rattle.std.specs.Result.{IsErrAnd}
 use Rattle.std.specs.Io.KnownBytes.{Keeps}
+use Rattle.chip_graph.specs.Limits.{SizeLimits}
 use Rattle.chip_graph.specs.Multigraph.{IsGraph}
 use Rattle.chip_graph.specs.ChipGame.{ChipGame, IsGame}
 use Rattle.chip_graph.specs.Faults.{first_of_faults, unless, fault_of_game}
@@ -21,11 +22,11 @@ at_some P None x is known = cc
 at_some P (Some y) x is known = let same : y ≡ x = cc in subst P same known
 
 -- inputs that are refused make no game
-pub refused_game : (graph_text chips_text : List ℕ) (limit : ℕ) (result : Result ChipGame Fault) (P : Fault → Type 0)
-    → IsErrAnd result P → ((fault : Fault) → P fault → RefusesInputs graph_text chips_text limit fault)
-    → GivesGame graph_text chips_text limit result
-refused_game graph_text chips_text limit (Ok g) P is why = absurd is
-refused_game graph_text chips_text limit (Err fault) P is why = why fault is
+pub refused_game : (limits : SizeLimits) (graph_text chips_text : List ℕ) (limit : ℕ) (result : Result ChipGame Fault) (P : Fault → Type 0)
+    → IsErrAnd result P → ((fault : Fault) → P fault → RefusesInputs limits graph_text chips_text limit fault)
+    → GivesGame limits graph_text chips_text limit result
+refused_game limits graph_text chips_text limit (Ok g) P is why = absurd is
+refused_game limits graph_text chips_text limit (Err fault) P is why = why fault is
 
 -- a test that finds no fault is passed, and what comes after it finds none
 pub passed : {F : Type 0} (test : Bool) (fault : F) (later : Option F)
@@ -52,23 +53,23 @@ is_game g graph none =
     }
 
 -- the numbers of a game that a graph, chips and a limit name
-pub named_game : (graph_text chips_text : List ℕ) (limit : ℕ) (g : ChipGame) (vertices : ℕ)
+pub named_game : (limits : SizeLimits) (graph_text chips_text : List ℕ) (limit : ℕ) (g : ChipGame) (vertices : ℕ)
     → vertices ≡ g.graph.vertices
-    → Reads graph_text (MeansGraph graph_text g.graph)
-    → Reads chips_text (chips_of_text vertices chips_text ≡ Some g.start)
-    → g.limit ≡ limit → NamesGame graph_text chips_text limit g
-named_game graph_text chips_text limit g vertices same graph start limited = record {
+    → Reads limits graph_text (MeansGraph limits graph_text g.graph)
+    → Reads limits chips_text (chips_of_text vertices chips_text ≡ Some g.start)
+    → g.limit ≡ limit → NamesGame limits graph_text chips_text limit g
+named_game limits graph_text chips_text limit g vertices same graph start limited = record {
   graph = graph;
-  start = subst (λ (n : ℕ). Reads chips_text (chips_of_text n chips_text ≡ Some g.start)) same start;
+  start = subst (λ (n : ℕ). Reads limits chips_text (chips_of_text n chips_text ≡ Some g.start)) same start;
   limited = limited;
 }
 
 -- and they are a game where nothing is wrong with them
-pub means_game : (graph_text chips_text : List ℕ) (limit : ℕ) (g : ChipGame) → NamesGame graph_text chips_text limit g
-    → fault_of_game g ≡ None → MeansGame graph_text chips_text limit g
-means_game graph_text chips_text limit g named none = record {
+pub means_game : (limits : SizeLimits) (graph_text chips_text : List ℕ) (limit : ℕ) (g : ChipGame) → NamesGame limits graph_text chips_text limit g
+    → fault_of_game g ≡ None → MeansGame limits graph_text chips_text limit g
+means_game limits graph_text chips_text limit g named none = record {
   named = named;
-  game = is_game g named.graph.1.valid none;
+  game = is_game g named.graph.1.valid.graph none;
 }
 
 pub Keeps-same : (known : Option (List ℕ)) → Keeps known known

@@ -22,6 +22,7 @@ use Rattle.csv.specs.Writing.{default_writer, needs_byte, fields_text, is_blank,
 use Rattle.csv.specs.Writing as writer
 use Rattle.csv.specs.declared.parser.State.TheVariants as state
 use Rattle.csv.proofs.RoundTrip.{rows_text, read-write}
+use Rattle.chip_graph.specs.Limits.{standard}
 use Rattle.chip_graph.specs.Multigraph.{Multigraph, IsGraph}
 use Rattle.chip_graph.specs.Edges.{all_edges}
 use Rattle.chip_graph.specs.Faults.{first_of_faults, unless}
@@ -415,8 +416,8 @@ read_is_in_graph G text traces meant =
 
 answered : (G : Multigraph) (traces : List (List TraceRow)) (file : List ℕ)
     (answer : Result (List (List TraceRow)) FileFault) → traces_of_text G file ≡ Some traces
-    → Answers file (λ read. traces_of_text G file ≡ Some read) (λ f. trace_text_fault G file ≡ Some f) answer
-    → Answers file (λ read. read ≡ traces) (λ f. ⊥) answer
+    → Answers standard file (λ read. traces_of_text G file ≡ Some read) (λ f. trace_text_fault G file ≡ Some f) answer
+    → Answers standard file (λ read. read ≡ traces) (λ f. ⊥) answer
 answered G traces file (Ok got) meant is = (is.0, cc (is.1, meant))
 answered G traces file (Err f) meant (inl machine) = inl machine
 answered G traces file (Err f) meant (inr (inl long)) = inr (inl long)

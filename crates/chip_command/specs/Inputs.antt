@@ -1,10 +1,11 @@
 -- The game that the files of a command mean, and why they mean none.
 use Rattle.std.specs.Prelude.{◌≡◌, ◌⊎◌, ℕ, ◌<◌, ◌≤◌, length, List, Some, Result, Ok, Err}
+use Rattle.chip_graph.specs.Limits.{SizeLimits}
 use Rattle.chip_graph.specs.Multigraph.{Multigraph}
 use Rattle.chip_graph.specs.ChipGame.{ChipGame, IsGame}
 use Rattle.chip_graph.specs.Faults.{fault_of_game}
 use Rattle.chip_graph.specs.declared.fault.GameFault.{GameFault}
-use Rattle.chip_file.specs.Answer.{IsOfMachine, max_bytes}
+use Rattle.chip_file.specs.Answer.{IsOfMachine}
 use Rattle.chip_file.specs.GraphText.{MeansGraph, IsGraphTextFault}
 use Rattle.chip_file.specs.ChipsText.{chips_of_text, chips_text_fault}
 use Rattle.chip_file.specs.declared.fault.FileFault.{FileFault}
@@ -13,40 +14,41 @@ use Rattle.chip_command.specs.Faults.{fault_of_file}
 use Rattle.chip_command.specs.declared.fault.Fault.{Fault}
 use Rattle.chip_command.specs.declared.fault.Fault.TheVariants.{Game}
 
--- a text has no more bytes than are read, and this meaning
-abbrev pub Reads : List ℕ → Type 0 → Type 0
-Reads text meaning = (length text ≤ max_bytes) × meaning
+-- a text has no more bytes than the limits allow, and this meaning
+abbrev pub Reads : SizeLimits → List ℕ → Type 0 → Type 0
+Reads limits text meaning = (length text ≤ limits.bytes) × meaning
 
 -- two texts and a limit name these numbers of a game, be it within the limits of a game or not
-pub record NamesGame (graph_text chips_text : List ℕ) (limit : ℕ) (g : ChipGame) : Type 0 where
-  pub graph : Reads graph_text (MeansGraph graph_text g.graph)
-  pub start : Reads chips_text (chips_of_text g.graph.vertices chips_text ≡ Some g.start)
+pub record NamesGame (limits : SizeLimits) (graph_text chips_text : List ℕ) (limit : ℕ) (g : ChipGame) : Type 0 where
+  pub graph : Reads limits graph_text (MeansGraph limits graph_text g.graph)
+  pub start : Reads limits chips_text (chips_of_text g.graph.vertices chips_text ≡ Some g.start)
   pub limited : g.limit ≡ limit
 
 -- two texts and a limit mean this game
-pub record MeansGame (graph_text chips_text : List ℕ) (limit : ℕ) (g : ChipGame) : Type 0 where
-  pub named : NamesGame graph_text chips_text limit g
+pub record MeansGame (limits : SizeLimits) (graph_text chips_text : List ℕ) (limit : ℕ) (g : ChipGame) : Type 0 where
+  pub named : NamesGame limits graph_text chips_text limit g
   pub game : IsGame g
 
 -- the machine failed on a text, or the text is too long, or it has this fault
-abbrev pub IsRefused : List ℕ → (FileFault → Type 0) → FileFault → Type 0
-IsRefused text IsFault f =
-    IsOfMachine f ⊎ ((max_bytes < length text) × (f ≡ file_fault.TooLong)) ⊎ ((length text ≤ max_bytes) × IsFault f)
+abbrev pub IsRefused : SizeLimits → List ℕ → (FileFault → Type 0) → FileFault → Type 0
+IsRefused limits text IsFault f =
+    IsOfMachine f ⊎ ((limits.bytes < length text) × (f ≡ file_fault.TooLong))
+    ⊎ ((length text ≤ limits.bytes) × IsFault f)
 
 -- reading a text failed by this fault
-abbrev pub RefusesText : List ℕ → (FileFault → Type 0) → Fault → Type 0
-RefusesText text IsFault fault = (f : FileFault) × (fault ≡ fault_of_file f) × IsRefused text IsFault f
+abbrev pub RefusesText : SizeLimits → List ℕ → (FileFault → Type 0) → Fault → Type 0
+RefusesText limits text IsFault fault = (f : FileFault) × (fault ≡ fault_of_file f) × IsRefused limits text IsFault f
 
 -- why the inputs are no game: the first fault of the graph, of the chips, or of the game that they make with the limit
-abbrev pub RefusesInputs : List ℕ → List ℕ → ℕ → Fault → Type 0
-RefusesInputs graph_text chips_text limit fault =
-    RefusesText graph_text (IsGraphTextFault graph_text) fault
-    ⊎ ((G : Multigraph) × Reads graph_text (MeansGraph graph_text G)
-    × RefusesText chips_text (λ f. chips_text_fault G.vertices chips_text ≡ Some f) fault)
-    ⊎ ((g : ChipGame) × NamesGame graph_text chips_text limit g
+abbrev pub RefusesInputs : SizeLimits → List ℕ → List ℕ → ℕ → Fault → Type 0
+RefusesInputs limits graph_text chips_text limit fault =
+    RefusesText limits graph_text (IsGraphTextFault limits graph_text) fault
+    ⊎ ((G : Multigraph) × Reads limits graph_text (MeansGraph limits graph_text G)
+    × RefusesText limits chips_text (λ f. chips_text_fault G.vertices chips_text ≡ Some f) fault)
+    ⊎ ((g : ChipGame) × NamesGame limits graph_text chips_text limit g
     × (f : GameFault) × (fault_of_game g ≡ Some f) × (fault ≡ Game f))
 
 -- what reading the inputs answers
-abbrev pub GivesGame : List ℕ → List ℕ → ℕ → Result ChipGame Fault → Type 0
-GivesGame graph_text chips_text limit (Ok g) = MeansGame graph_text chips_text limit g
-GivesGame graph_text chips_text limit (Err fault) = RefusesInputs graph_text chips_text limit fault
+abbrev pub GivesGame : SizeLimits → List ℕ → List ℕ → ℕ → Result ChipGame Fault → Type 0
+GivesGame limits graph_text chips_text limit (Ok g) = MeansGame limits graph_text chips_text limit g
+GivesGame limits graph_text chips_text limit (Err fault) = RefusesInputs limits graph_text chips_text limit fault

@@ -1,5 +1,6 @@
 -- The laws of traces in files, as the functions of `src/laws.rt` state them.
 use Rattle.std.specs.Prelude.{◌≡◌, ℕ, ◌^◌, ◌<◌, List, [], length, Some, Result, Ok, All}
+use Rattle.chip_graph.specs.Limits.{standard}
 use Rattle.chip_graph.specs.Multigraph.{Multigraph, IsGraph}
 use Rattle.chip_graph.specs.Edges.{all_edges}
 use Rattle.chip_link.specs.declared.trace.TraceRow.{TraceRow}
@@ -35,5 +36,5 @@ abbrev pub FileIsReadBack : Type 0
 FileIsReadBack = (G : Multigraph) (traces : List (List TraceRow)) → IsGraph G → AreTracesIn G traces
     → (file : List ℕ) → WritesText (Some []) (Some file) (trace_text traces) (Ok tt)
     → (answer : Result (List (List TraceRow)) FileFault)
-    → Answers file (λ read. traces_of_text G file ≡ Some read) (λ f. trace_text_fault G file ≡ Some f) answer
-    → Answers file (λ read. read ≡ traces) (λ f. ⊥) answer
+    → Answers standard file (λ read. traces_of_text G file ≡ Some read) (λ f. trace_text_fault G file ≡ Some f) answer
+    → Answers standard file (λ read. read ≡ traces) (λ f. ⊥) answer

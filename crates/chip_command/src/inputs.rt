@@ -1,15 +1,16 @@
 //! The game that the files of a command mean.
 
 ghost use Rattle.std.specs.Option.{ForSome};
+ghost use Rattle.chip_graph.specs.Limits.{standard};
 ghost use Rattle.chip_command.specs.Inputs.{GivesGame};
 
 use crate::fault::Fault;
-use chip_file::{read_chips, read_graph};
-use chip_graph::Game;
+use chip_file::{read_chips_within, read_graph_within};
+use chip_graph::{Game, Limits};
 use std::alloc::Global;
 use std::io::Read;
 
-/// The game that two files and a limit mean.
+/// The game within the standard limits that two files and a firing limit mean.
 pub fn read_game<G: Read, C: Read>(
     alloc: Global,
     graph: &mut G,
@@ -18,9 +19,24 @@ pub fn read_game<G: Read, C: Read>(
 ) -> Result<Game, Fault>
     ensures { ForSome (G.remaining graph.old)
         (λ graph_text. ForSome (C.remaining chips.old)
-        (λ chips_text. GivesGame graph_text chips_text limit result)) }
+        (λ chips_text. GivesGame standard graph_text chips_text limit result)) }
 {
-    let graph = read_graph(alloc, graph)?;
-    let start = read_chips(alloc, chips, graph.vertices())?;
+    read_game_within(alloc, Limits::standard(), graph, chips, limit)
+}
+
+/// The game within these limits that two files and a firing limit mean.
+pub fn read_game_within<G: Read, C: Read>(
+    alloc: Global,
+    limits: Limits,
+    graph: &mut G,
+    chips: &mut C,
+    limit: u64,
+) -> Result<Game, Fault>
+    ensures { ForSome (G.remaining graph.old)
+        (λ graph_text. ForSome (C.remaining chips.old)
+        (λ chips_text. GivesGame limits graph_text chips_text limit result)) }
+{
+    let graph = read_graph_within(alloc, limits, graph)?;
+    let start = read_chips_within(alloc, limits, chips, graph.vertices())?;
     Ok(Game::new(graph, start, limit)?)
 }

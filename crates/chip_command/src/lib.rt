@@ -8,7 +8,7 @@ pub use answer::Answer;
 pub use code::Code;
 pub use ended::{Ended, conclude, status_of};
 pub use fault::{Fault, FaultLine, Location};
-pub use inputs::read_game;
+pub use inputs::{read_game, read_game_within};
 pub use status::Status;
 pub use table::{Explanation, Place, explanations};
 

@@ -4,6 +4,7 @@ use Rattle.std.proofs.Common.{◌≡◌, ℕ, ◌+◌, List, [], ◌∷◌, code
 use Rattle.std.proofs.Common.{sym, ap, ◌∙◌, subst, inl, inr}
 use Rattle.std.specs.Prelude.{◌&&◌}
 use Rattle.std.proofs.lemmas.List.{append_cancel_left}
+use Rattle.chip_graph.specs.Limits.{SizeLimits}
 use Rattle.chip_graph.specs.Multigraph.{Multigraph}
 use Rattle.chip_graph.specs.ChipGame.{ChipGame}
 use Rattle.chip_file.specs.GraphText.{MeansGraph}
@@ -24,23 +25,25 @@ use Rattle.chip_engine.proofs.SittingLemmas.{LeavesNoneLegal, none_legal, leads_
 
 -- ---- a first sitting
 
--- two texts and a limit mean one game
-same_graph : (graph_text : List ℕ) (G H : Multigraph) → MeansGraph graph_text G → MeansGraph graph_text H → G ≡ H
-same_graph graph_text G H one other = let a = one.meaning in let b = other.meaning in cc
+-- two texts and a limit mean one game, whatever the limits of its size
+same_graph : (limits others : SizeLimits) (graph_text : List ℕ) (G H : Multigraph) → MeansGraph limits graph_text G
+    → MeansGraph others graph_text H → G ≡ H
+same_graph limits others graph_text G H one other = let a = one.meaning in let b = other.meaning in cc
 
-same_start : (graph_text chips_text : List ℕ) (limit : ℕ) (g h : ChipGame) → MeansGame graph_text chips_text limit g
-    → MeansGame graph_text chips_text limit h → g.start ≡ h.start
-same_start graph_text chips_text limit g h one other =
-    let graphs = same_graph graph_text g.graph h.graph one.named.graph.1 other.named.graph.1 in
+same_start : (limits : SizeLimits) (graph_text chips_text : List ℕ) (limit : ℕ) (g h : ChipGame)
+    → MeansGame limits graph_text chips_text limit g
+    → MeansGame limits graph_text chips_text limit h → g.start ≡ h.start
+same_start limits graph_text chips_text limit g h one other =
+    let graphs = same_graph limits limits graph_text g.graph h.graph one.named.graph.1 other.named.graph.1 in
     let vertices = ap (λ (G : Multigraph). G.vertices) graphs in
     let a = one.named.start.1 in let b = other.named.start.1 in cc
 
 pub plain_tells_play : PlainTellsPlay
-plain_tells_play graph_text chips_text limit report ended (h, means', text, reports, wrote, cut) g means =
+plain_tells_play limits graph_text chips_text limit report ended (h, means', text, reports, wrote, cut) g means =
     subst (λ (start : List ℕ). TellsPlayFrom g.graph (slice_index start) report)
-    (same_start graph_text chips_text limit h g means' means)
+    (same_start limits graph_text chips_text limit h g means' means)
     (subst (λ (G : Multigraph). TellsPlayFrom G (slice_index h.start) report)
-    (same_graph graph_text h.graph g.graph means'.named.graph.1 means.named.graph.1)
+    (same_graph limits limits graph_text h.graph g.graph means'.named.graph.1 means.named.graph.1)
     (subst (TellsPlayFrom h.graph (slice_index h.start)) (sym wrote)
     (report_tells h means'.game text ended.status reports)))
 
@@ -71,30 +74,32 @@ read_again report s fits spelled r (inl first) =
 read_again report s fits spelled r (inr two) = one_sitting s r fits two.reportable (sym spelled ∙ two.spelled)
 
 -- a report that `resume` wrote on one that tells a play tells the play that goes on
-goes_on : (graph_text : List ℕ) (G : Multigraph) → Reads graph_text (MeansGraph graph_text G)
+goes_on : (limits : SizeLimits) (graph_text : List ℕ) (G : Multigraph)
+    → Reads limits graph_text (MeansGraph limits graph_text G)
     → (x : ℕ → ℕ) (before : List ℕ) → TellsPlayFrom G x before
     → (report : List ℕ) → IsResumedTo graph_text before report
     → (r : Resumed) → IsAnyReportOf report r → LeadsToTheEnd G x r
-goes_on graph_text G reads x before tells report (limit, ended, (H, earlier, means, text, on, wrote, cut)) r is =
-    let graphs : H ≡ G = same_graph graph_text H G means.graph.1 reads.1 in
+goes_on limits graph_text G reads x before tells report (others, limit, ended, (H, earlier, means, text, on, wrote, cut)) r is =
+    let graphs : H ≡ G = same_graph others limits graph_text H G means.graph.1 reads.1 in
     let same = read_again report on.resumed on.goes_on.in_range (wrote ∙ on.reported) r is in
     let from : IsPlayFrom H x earlier = subst (λ (K : Multigraph). IsPlayFrom K x earlier) (sym graphs)
-    (tells earlier means.report.1) in
+    (tells earlier means.report.1.0) in
     let leads : IsPlayFrom H x r = subst (LeadsInAll H x) same (on.adds_up x from).leads in
     let none : LeavesNoneLegal H r.outcome =
     subst (LeavesNone H) same (none_legal _ on.resumed.outcome on.goes_on.played) in
-    leads_on G reads.1.valid x r (subst (λ (K : Multigraph). IsPlayFrom K x r) graphs leads)
+    leads_on G reads.1.valid.graph x r (subst (λ (K : Multigraph). IsPlayFrom K x r) graphs leads)
     (subst (λ (K : Multigraph). LeavesNoneLegal K r.outcome) graphs none)
 
 -- and so do all that follow
-all_tell : (graph_text : List ℕ) (G : Multigraph) → Reads graph_text (MeansGraph graph_text G)
+all_tell : (limits : SizeLimits) (graph_text : List ℕ) (G : Multigraph)
+    → Reads limits graph_text (MeansGraph limits graph_text G)
     → (x : ℕ → ℕ) (first : List ℕ) → TellsPlayFrom G x first
     → (reports : List (List ℕ)) (last : List ℕ) → AreResumed graph_text first reports last → TellsPlayFrom G x last
-all_tell graph_text G reads x first tells [] last are = subst (TellsPlayFrom G x) are tells
-all_tell graph_text G reads x first tells (report ∷ reports) last are =
-    all_tell graph_text G reads x report
-    (λ r is. (goes_on graph_text G reads x first tells report are.0 r is).leads) reports last are.1
+all_tell limits graph_text G reads x first tells [] last are = subst (TellsPlayFrom G x) are tells
+all_tell limits graph_text G reads x first tells (report ∷ reports) last are =
+    all_tell limits graph_text G reads x report
+    (λ r is. (goes_on limits graph_text G reads x first tells report are.0 r is).leads) reports last are.1
 
 pub resumed_plays_add_up : ResumedPlaysAddUp
-resumed_plays_add_up graph_text G reads x first tells reports before last are on =
-    goes_on graph_text G reads x before (all_tell graph_text G reads x first tells reports before are) last on
+resumed_plays_add_up limits graph_text G reads x first tells reports before last are on =
+    goes_on limits graph_text G reads x before (all_tell limits graph_text G reads x first tells reports before are) last on

@@ -4,6 +4,7 @@ use Rattle.std.proofs.Common.{◌≡◌, ◌⊎◌, ℕ, List, Option, Some}
 use Rattle.std.proofs.Common.{Result, Ok, Err, String, Global, subst, sym, ap, inl, inr, false}
 use Rattle.std.specs.Result.{IsErrAnd}
 use Rattle.chip_command.proofs.InputLemmas.{Keeps-same}
+use Rattle.chip_graph.specs.Limits.{SizeLimits, standard}
 use Rattle.chip_graph.specs.Multigraph.{Multigraph}
 use Rattle.chip_graph.specs.ChipGame.{ChipGame}
 use Rattle.chip_file.specs.GraphText.{MeansGraph, IsGraphTextFault}
@@ -32,19 +33,19 @@ abbrev pub ended_by : ℕ → Ended
 ended_by status = record { status = status; cut = false }
 
 -- inputs that are refused, and nothing is written
-pub refused_plain : (graph_text chips_text : List ℕ) (limit : ℕ) (known : Option (List ℕ)) (result : Result Ended Fault)
+pub refused_plain : (limits : SizeLimits) (graph_text chips_text : List ℕ) (limit : ℕ) (known : Option (List ℕ)) (result : Result Ended Fault)
     (P : Fault → Type 0) → IsErrAnd result P
-    → ((fault : Fault) → P fault → RefusesInputs graph_text chips_text limit fault ⊎ (fault ≡ NoMemory))
-    → PlainAnswers graph_text chips_text limit known known result
-refused_plain graph_text chips_text limit known (Ok ended) P is why = absurd is
-refused_plain graph_text chips_text limit known (Err fault) P is why = inl (why fault is, Keeps-same known)
+    → ((fault : Fault) → P fault → RefusesInputs limits graph_text chips_text limit fault ⊎ (fault ≡ NoMemory))
+    → PlainAnswers limits graph_text chips_text limit known known result
+refused_plain limits graph_text chips_text limit known (Ok ended) P is why = absurd is
+refused_plain limits graph_text chips_text limit known (Err fault) P is why = inl (why fault is, Keeps-same known)
 
 -- the report went out, or the output failed
-pub delivered_plain : (graph_text chips_text : List ℕ) (limit : ℕ) (old new : Option (List ℕ))
+pub delivered_plain : (limits : SizeLimits) (graph_text chips_text : List ℕ) (limit : ℕ) (old new : Option (List ℕ))
     (result : Result Ended Fault) (g : ChipGame)
-    → MeansGame graph_text chips_text limit g → (text : List ℕ) (status : ℕ) → Reports g text status
-    → Delivers old new text (ended_by status) result → PlainAnswers graph_text chips_text limit old new result
-delivered_plain graph_text chips_text limit old new (Ok ended) g means text status reports went = (
+    → MeansGame limits graph_text chips_text limit g → (text : List ℕ) (status : ℕ) → Reports g text status
+    → Delivers old new text (ended_by status) result → PlainAnswers limits graph_text chips_text limit old new result
+delivered_plain limits graph_text chips_text limit old new (Ok ended) g means text status reports went = (
   g,
   means,
   text,
@@ -52,21 +53,21 @@ delivered_plain graph_text chips_text limit old new (Ok ended) g means text stat
   went.1,
   ap (λ (e : Ended). e.cut) went.0,
 )
-delivered_plain graph_text chips_text limit old new (Err fault) g means text status reports failed =
+delivered_plain limits graph_text chips_text limit old new (Err fault) g means text status reports failed =
     inr (g, means, text, status, reports, failed.0, failed.1, failed.2)
 
 -- the same of `check`
-pub refused_check : (text : List ℕ) (known : Option (List ℕ)) (result : Result Ended Fault) (P : Fault → Type 0)
-    → IsErrAnd result P → ((fault : Fault) → P fault → RefusesText text (IsGraphTextFault text) fault
-    ⊎ (fault ≡ NoMemory)) → CheckAnswers text known known result
-refused_check text known (Ok ended) P is why = absurd is
-refused_check text known (Err fault) P is why = inl (why fault is, Keeps-same known)
+pub refused_check : (limits : SizeLimits) (text : List ℕ) (known : Option (List ℕ)) (result : Result Ended Fault) (P : Fault → Type 0)
+    → IsErrAnd result P → ((fault : Fault) → P fault → RefusesText limits text (IsGraphTextFault limits text) fault
+    ⊎ (fault ≡ NoMemory)) → CheckAnswers limits text known known result
+refused_check limits text known (Ok ended) P is why = absurd is
+refused_check limits text known (Err fault) P is why = inl (why fault is, Keeps-same known)
 
-pub delivered_check : (text : List ℕ) (old new : Option (List ℕ)) (result : Result Ended Fault) (G : Multigraph)
-    → Reads text (MeansGraph text G) → (lines : List ℕ) → IsShown G lines
-    → Delivers old new lines (ended_by 0) result → CheckAnswers text old new result
-delivered_check text old new (Ok ended) G means lines shown went = (G, lines, means, shown, went.1, went.0)
-delivered_check text old new (Err fault) G means lines shown failed =
+pub delivered_check : (limits : SizeLimits) (text : List ℕ) (old new : Option (List ℕ)) (result : Result Ended Fault) (G : Multigraph)
+    → Reads limits text (MeansGraph limits text G) → (lines : List ℕ) → IsShown G lines
+    → Delivers old new lines (ended_by 0) result → CheckAnswers limits text old new result
+delivered_check limits text old new (Ok ended) G means lines shown went = (G, lines, means, shown, went.1, went.0)
+delivered_check limits text old new (Err fault) G means lines shown failed =
     inr (G, lines, means, shown, failed.0, failed.1, failed.2)
 
 -- the same of `replay`
@@ -88,7 +89,7 @@ delivered_replay graph_text chips_text trace_text limit old new (Err fault) g tr
 
 -- what a replay refuses is why the traces are not replayed
 pub refused_stuck : (g : ChipGame) (trace_text : List ℕ) (traces : List (List TraceRow))
-    → Reads trace_text (traces_of_text g.graph trace_text ≡ Some traces) → (f : ReplayFault)
+    → Reads standard trace_text (traces_of_text g.graph trace_text ≡ Some traces) → (f : ReplayFault)
     → IsReplayFault g traces f → (fault : Fault) → fault ≡ fault_of_replay f
     → RefusesReplay g trace_text fault ⊎ (fault ≡ NoMemory)
 refused_stuck g trace_text traces each (replay_fault.Stuck vertex row) stuck fault is =
@@ -104,7 +105,7 @@ refused_lines g trace_text (Err fault) P is why = why fault is
 
 -- and they are why nothing is replayed
 pub refused_traces : (graph_text chips_text trace_text : List ℕ) (limit : ℕ) (g : ChipGame)
-    → MeansGame graph_text chips_text limit g
+    → MeansGame standard graph_text chips_text limit g
     → (fault : Fault) → RefusesReplay g trace_text fault ⊎ (fault ≡ NoMemory)
     → RefusesTraces graph_text chips_text trace_text limit fault ⊎ (fault ≡ NoMemory)
 refused_traces graph_text chips_text trace_text limit g game fault (inl (inl text)) = inl (inr (inl (g, game, text)))
@@ -150,10 +151,10 @@ delivered_simulate graph_text chips_text schedule_text options old new
 
 -- the events for a game that the texts mean
 pub means_events : (graph_text chips_text schedule_text : List ℕ) (limit : ℕ) (g : ChipGame) (events : List Event)
-    (G : Multigraph) → G ≡ g.graph → MeansGame graph_text chips_text limit g
-    → Reads schedule_text (schedule_of_text G schedule_text ≡ Some events)
+    (G : Multigraph) → G ≡ g.graph → MeansGame standard graph_text chips_text limit g
+    → Reads standard schedule_text (schedule_of_text G schedule_text ≡ Some events)
     → MeansEvents graph_text chips_text schedule_text limit g events
 means_events graph_text chips_text schedule_text limit g events G same game each = record {
   game = game;
-  each = subst (λ (G : Multigraph). Reads schedule_text (schedule_of_text G schedule_text ≡ Some events)) same each;
+  each = subst (λ (G : Multigraph). Reads standard schedule_text (schedule_of_text G schedule_text ≡ Some events)) same each;
 }

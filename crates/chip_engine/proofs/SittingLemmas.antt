@@ -7,6 +7,7 @@ use Rattle.std.specs.Result.{IsErrAnd}
 use Rattle.std.proofs.lemmas.Bool.{and_parts}
 use Rattle.std.proofs.lemmas.List.{length-replicate}
 use Rattle.std.proofs.lemmas.List.Elements.{All-replicate}
+use Rattle.chip_graph.specs.Limits.{SizeLimits}
 use Rattle.chip_graph.specs.Multigraph.{Multigraph, IsGraph}
 use Rattle.chip_graph.specs.ChipGame.{ChipGame}
 use Rattle.chip_sequence.specs.Firing.{IsLegal, legal_vertices}
@@ -17,11 +18,10 @@ use Rattle.chip_sequence.specs.declared.resumed.Resumed.{Resumed}
 use Rattle.chip_sequence.proofs.LegalLemmas.{legal_vertices_law}
 use Rattle.chip_sequence.proofs.SittingLemmas as sittings
 use Rattle.chip_report.specs.ReportText.{is_empty, is_closed}
-use Rattle.chip_report.specs.ReportTwo.{IsAnyReportOf, IsNoReportAtAll}
+use Rattle.chip_report.specs.ReportTwo.{IsAnyReportOf, IsNoReportAtAllWithin}
 use Rattle.chip_report.specs.declared.fault.ReportFault.{ReportFault}
 use Rattle.chip_report.specs.declared.fault.ReportFault.TheVariants as report_fault
 use Rattle.chip_command.specs.Reports.{Delivers}
-use Rattle.chip_file.specs.Answer.{max_bytes}
 use Rattle.chip_file.specs.declared.fault.FileFault.TheVariants as file_fault
 use Rattle.chip_command.specs.Faults.{fault_of_report}
 use Rattle.chip_engine.specs.ResumeCommand.{MeansSitting, LeadsToTheEnd, ReportsOn, GivesSitting}
@@ -72,44 +72,44 @@ leads_on G good x r leads none =
     }
 
 -- a text that is refused tells no sitting
-pub refused_sitting : (text : List ℕ) (result : Result Resumed Fault) (P : Fault → Type 0) → IsErrAnd result P
-    → ((fault : Fault) → P fault → RefusesReport text fault) → GivesSitting text result
-refused_sitting text (Ok r) P is why = absurd is
-refused_sitting text (Err fault) P is why = why fault is
+pub refused_sitting : (limits : SizeLimits) (text : List ℕ) (result : Result Resumed Fault) (P : Fault → Type 0) → IsErrAnd result P
+    → ((fault : Fault) → P fault → RefusesReport limits text fault) → GivesSitting limits text result
+refused_sitting limits text (Ok r) P is why = absurd is
+refused_sitting limits text (Err fault) P is why = why fault is
 
 -- bytes that are no report, or want of memory
-pub refused_report : (text : List ℕ) (f : ReportFault) → length text ≤ max_bytes
-    → (f ≡ report_fault.NoMemory) ⊎ ((f ≡ report_fault.NotReport) × IsNoReportAtAll text)
-    → (fault : Fault) → fault ≡ fault_of_report f → RefusesReport text fault
-refused_report text f short (inl none) fault is =
+pub refused_report : (limits : SizeLimits) (text : List ℕ) (f : ReportFault) → length text ≤ limits.bytes
+    → (f ≡ report_fault.NoMemory) ⊎ ((f ≡ report_fault.NotReport) × IsNoReportAtAllWithin limits text)
+    → (fault : Fault) → fault ≡ fault_of_report f → RefusesReport limits text fault
+refused_report limits text f short (inl none) fault is =
     inl (file_fault.NoMemory, is ∙ ap fault_of_report none, inl (inr refl))
-refused_report text f short (inr nothing) fault is =
+refused_report limits text f short (inr nothing) fault is =
     inr ((short, nothing.1), is ∙ ap fault_of_report nothing.0)
 
 -- a sitting that does not go on, or want of memory
-pub refused_going : (graph_text report_text : List ℕ) (limit : ℕ) (G : Multigraph) (earlier : Resumed)
-    → MeansSitting graph_text report_text G earlier
+pub refused_going : (limits : SizeLimits) (graph_text report_text : List ℕ) (limit : ℕ) (G : Multigraph) (earlier : Resumed)
+    → MeansSitting limits graph_text report_text G earlier
     → (f : Fault) → RefusesToGoOn G earlier limit f ⊎ (f ≡ NoMemory)
-    → (fault : Fault) → fault ≡ f → RefusesSitting graph_text report_text limit fault ⊎ (fault ≡ NoMemory)
-refused_going graph_text report_text limit G earlier means f (inl why) fault is =
+    → (fault : Fault) → fault ≡ f → RefusesSitting limits graph_text report_text limit fault ⊎ (fault ≡ NoMemory)
+refused_going limits graph_text report_text limit G earlier means f (inl why) fault is =
     inl (inr (inr (G, earlier, means, subst (RefusesToGoOn G earlier limit) (sym is) why)))
-refused_going graph_text report_text limit G earlier means f (inr none) fault is = inr (is ∙ none)
+refused_going limits graph_text report_text limit G earlier means f (inr none) fault is = inr (is ∙ none)
 
 -- inputs that are refused, and nothing is written
-pub refused_resume : (graph_text report_text : List ℕ) (limit : ℕ) (known : Option (List ℕ))
+pub refused_resume : (limits : SizeLimits) (graph_text report_text : List ℕ) (limit : ℕ) (known : Option (List ℕ))
     (result : Result Ended Fault) (P : Fault → Type 0) → IsErrAnd result P
-    → ((fault : Fault) → P fault → RefusesSitting graph_text report_text limit fault ⊎ (fault ≡ NoMemory))
-    → ResumeAnswers graph_text report_text limit known known result
-refused_resume graph_text report_text limit known (Ok ended) P is why = absurd is
-refused_resume graph_text report_text limit known (Err fault) P is why = inl (why fault is, Keeps-same known)
+    → ((fault : Fault) → P fault → RefusesSitting limits graph_text report_text limit fault ⊎ (fault ≡ NoMemory))
+    → ResumeAnswers limits graph_text report_text limit known known result
+refused_resume limits graph_text report_text limit known (Ok ended) P is why = absurd is
+refused_resume limits graph_text report_text limit known (Err fault) P is why = inl (why fault is, Keeps-same known)
 
 -- the report went out, or the output failed
-pub delivered_resume : (graph_text report_text : List ℕ) (limit : ℕ) (old new : Option (List ℕ))
-    (result : Result Ended Fault) (G : Multigraph) (earlier : Resumed) → MeansSitting graph_text report_text G earlier
+pub delivered_resume : (limits : SizeLimits) (graph_text report_text : List ℕ) (limit : ℕ) (old new : Option (List ℕ))
+    (result : Result Ended Fault) (G : Multigraph) (earlier : Resumed) → MeansSitting limits graph_text report_text G earlier
     → (text : List ℕ) (status : ℕ) → ReportsOn G earlier limit text status
     → Delivers old new text (record { status = status; cut = false }) result
-    → ResumeAnswers graph_text report_text limit old new result
-delivered_resume graph_text report_text limit old new (Ok ended) G earlier means text status reports went = (
+    → ResumeAnswers limits graph_text report_text limit old new result
+delivered_resume limits graph_text report_text limit old new (Ok ended) G earlier means text status reports went = (
   G,
   earlier,
   means,
@@ -118,5 +118,5 @@ delivered_resume graph_text report_text limit old new (Ok ended) G earlier means
   went.1,
   ap (λ (e : Ended). e.cut) went.0,
 )
-delivered_resume graph_text report_text limit old new (Err fault) G earlier means text status reports failed =
+delivered_resume limits graph_text report_text limit old new (Err fault) G earlier means text status reports failed =
     inr (G, earlier, means, text, status, reports, failed.0, failed.1, failed.2)

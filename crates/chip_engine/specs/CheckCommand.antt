@@ -3,6 +3,7 @@ use Rattle.std.specs.Prelude.{◌≡◌, ◌⊎◌, ℕ, zero, suc, ◌<◌, Lis
 use Rattle.std.specs.Prelude.{Result, Ok, Err}
 use Rattle.std.specs.Fmt.{decimal}
 use Rattle.std.specs.Io.KnownBytes.{Appends, Keeps}
+use Rattle.chip_graph.specs.Limits.{SizeLimits}
 use Rattle.chip_graph.specs.Multigraph.{Multigraph, IsDistance, degree}
 use Rattle.chip_file.specs.GraphText.{MeansGraph, IsGraphTextFault}
 use Rattle.chip_command.specs.Inputs.{Reads, RefusesText}
@@ -36,12 +37,12 @@ IsShown G text =
     (distances : List ℕ) × ((v : ℕ) → v < G.vertices → IsDistance G v (slice_index distances v))
     × (text ≡ head_text G ++ vertices_text G distances G.vertices)
 
--- what `check` answers: the lines of the graph; or nothing is written and the file is refused; or the output failed
-abbrev pub CheckAnswers : List ℕ → Option (List ℕ) → Option (List ℕ) → Result Ended Fault → Type 0
-CheckAnswers text old new (Ok ended) =
-    (G : Multigraph) × (lines : List ℕ) × Reads text (MeansGraph text G) × IsShown G lines
+-- what `check` answers by these limits: the lines of the graph; or nothing is written and the file is refused; or the output failed
+abbrev pub CheckAnswers : SizeLimits → List ℕ → Option (List ℕ) → Option (List ℕ) → Result Ended Fault → Type 0
+CheckAnswers limits text old new (Ok ended) =
+    (G : Multigraph) × (lines : List ℕ) × Reads limits text (MeansGraph limits text G) × IsShown G lines
     × Appends old new lines × (ended ≡ record { status = 0; cut = false })
-CheckAnswers text old new (Err fault) =
-    ((RefusesText text (IsGraphTextFault text) fault ⊎ (fault ≡ NoMemory)) × Keeps old new)
-    ⊎ ((G : Multigraph) × (lines : List ℕ) × Reads text (MeansGraph text G) × IsShown G lines
+CheckAnswers limits text old new (Err fault) =
+    ((RefusesText limits text (IsGraphTextFault limits text) fault ⊎ (fault ≡ NoMemory)) × Keeps old new)
+    ⊎ ((G : Multigraph) × (lines : List ℕ) × Reads limits text (MeansGraph limits text G) × IsShown G lines
     × (w : WriteFault) × (fault ≡ Write w) × WritesAll old new lines (Err w))

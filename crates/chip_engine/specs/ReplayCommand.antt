@@ -3,6 +3,7 @@ use Rattle.std.specs.Prelude.{◌≡◌, ◌⊎◌, ℕ, List, ◌++◌, codes, 
 use Rattle.std.specs.Global.{Global}
 use Rattle.std.specs.Fmt.{decimal}
 use Rattle.std.specs.Io.KnownBytes.{Appends, Keeps}
+use Rattle.chip_graph.specs.Limits.{standard}
 use Rattle.chip_graph.specs.ChipGame.{ChipGame}
 use Rattle.chip_link.specs.declared.trace.TraceRow.{TraceRow}
 use Rattle.chip_file.specs.TraceText.{traces_of_text, trace_text_fault}
@@ -23,8 +24,8 @@ firing_text firing = codes "fire " ++ decimal firing.0 ++ codes " " ++ decimal f
 -- three texts and a limit mean this game and these traces of it
 pub record MeansTraces (graph_text chips_text trace_text : List ℕ) (limit : ℕ) (g : ChipGame)
     (traces : List (List TraceRow)) : Type 0 where
-  pub game : MeansGame graph_text chips_text limit g
-  pub each : Reads trace_text (traces_of_text g.graph trace_text ≡ Some traces)
+  pub game : MeansGame standard graph_text chips_text limit g
+  pub each : Reads standard trace_text (traces_of_text g.graph trace_text ≡ Some traces)
 
 -- the lines of the firings of some interleaving of the traces
 abbrev pub AreReplayed : ChipGame → List (List TraceRow) → List ℕ → Type 0
@@ -33,23 +34,23 @@ AreReplayed g traces lines = (fired : List (ℕ × ℕ)) × AreFirings g traces 
 -- why the traces of a game are not replayed: their text has a fault, or they have no interleaving
 abbrev pub RefusesReplay : ChipGame → List ℕ → Fault → Type 0
 RefusesReplay g trace_text fault =
-    RefusesText trace_text (λ f. trace_text_fault g.graph trace_text ≡ Some f) fault
-    ⊎ ((traces : List (List TraceRow)) × Reads trace_text (traces_of_text g.graph trace_text ≡ Some traces)
+    RefusesText standard trace_text (λ f. trace_text_fault g.graph trace_text ≡ Some f) fault
+    ⊎ ((traces : List (List TraceRow)) × Reads standard trace_text (traces_of_text g.graph trace_text ≡ Some traces)
     × (vertex : ℕ) × (row : ℕ) × (fault ≡ Stuck vertex row) × IsStuck g traces vertex row)
 
 -- what replaying the traces of a game answers
 abbrev pub GivesReplay : ChipGame → List ℕ → Result (String Global) Fault → Type 0
 GivesReplay g trace_text (Ok lines) =
-    (traces : List (List TraceRow)) × Reads trace_text (traces_of_text g.graph trace_text ≡ Some traces)
+    (traces : List (List TraceRow)) × Reads standard trace_text (traces_of_text g.graph trace_text ≡ Some traces)
     × AreReplayed g traces (string_bytes lines)
 GivesReplay g trace_text (Err fault) = RefusesReplay g trace_text fault ⊎ (fault ≡ NoMemory)
 
 -- why nothing is replayed: the inputs make no game, or the trace file has a fault, or its traces have no interleaving
 abbrev pub RefusesTraces : List ℕ → List ℕ → List ℕ → ℕ → Fault → Type 0
 RefusesTraces graph_text chips_text trace_text limit fault =
-    RefusesInputs graph_text chips_text limit fault
-    ⊎ ((g : ChipGame) × MeansGame graph_text chips_text limit g
-    × RefusesText trace_text (λ f. trace_text_fault g.graph trace_text ≡ Some f) fault)
+    RefusesInputs standard graph_text chips_text limit fault
+    ⊎ ((g : ChipGame) × MeansGame standard graph_text chips_text limit g
+    × RefusesText standard trace_text (λ f. trace_text_fault g.graph trace_text ≡ Some f) fault)
     ⊎ ((g : ChipGame) × (traces : List (List TraceRow)) × MeansTraces graph_text chips_text trace_text limit g traces
     × (vertex : ℕ) × (row : ℕ) × (fault ≡ Stuck vertex row) × IsStuck g traces vertex row)
 

@@ -1,6 +1,7 @@
 -- From the bytes of a graph file and a report to those of the report of the sitting that goes on.
 use Rattle.std.specs.Prelude.{◌≡◌, ◌⊎◌, ℕ, ◌+◌, List, true, false, slice_index, Option, Result, Ok, Err}
 use Rattle.std.specs.Io.KnownBytes.{Appends, Keeps}
+use Rattle.chip_graph.specs.Limits.{SizeLimits}
 use Rattle.chip_graph.specs.Multigraph.{Multigraph}
 use Rattle.chip_file.specs.GraphText.{MeansGraph, IsGraphTextFault}
 use Rattle.chip_sequence.specs.Sequence.{position_after, IsFiringSequence, counts, HasEnded}
@@ -9,7 +10,7 @@ use Rattle.chip_fire.specs.Resume.{GoesOn, IsResumeFault}
 use Rattle.chip_sequence.specs.declared.resumed.Resumed.{Resumed}
 use Rattle.chip_fire.specs.declared.sitting.ResumeFault.{ResumeFault}
 use Rattle.chip_report.specs.ReportText.{is_closed}
-use Rattle.chip_report.specs.ReportTwo.{report_two_text, IsAnyReportOf, IsNoReportAtAll}
+use Rattle.chip_report.specs.ReportTwo.{report_two_text, IsAnyReportWithin, IsNoReportAtAllWithin}
 use Rattle.chip_report.specs.Written.{WritesAll}
 use Rattle.chip_report.specs.declared.write.WriteFault.{WriteFault}
 use Rattle.chip_command.specs.Faults.{fault_of_resume}
@@ -20,9 +21,9 @@ use Rattle.chip_command.specs.declared.fault.Fault.{Fault}
 use Rattle.chip_command.specs.declared.fault.Fault.TheVariants.{NotReport, Write, NoMemory}
 
 -- two texts mean this graph, and this sitting to go on from: the first of a play, or one that went on itself
-pub record MeansSitting (graph_text report_text : List ℕ) (G : Multigraph) (earlier : Resumed) : Type 0 where
-  pub graph : Reads graph_text (MeansGraph graph_text G)
-  pub report : Reads report_text (IsAnyReportOf report_text earlier)
+pub record MeansSitting (limits : SizeLimits) (graph_text report_text : List ℕ) (G : Multigraph) (earlier : Resumed) : Type 0 where
+  pub graph : Reads limits graph_text (MeansGraph limits graph_text G)
+  pub report : Reads limits report_text (IsAnyReportWithin limits report_text earlier)
 
 -- what was fired in all, and the chips that lie there, are those of every sequence from the start x that ends
 pub record EndsThePlay (G : Multigraph) (x : ℕ → ℕ) (r : Resumed) : Type 0 where
@@ -51,14 +52,14 @@ pub record ReportsOn (G : Multigraph) (earlier : Resumed) (limit : ℕ) (text : 
   pub status_is : status ≡ plain_status resumed.outcome
 
 -- reading a report failed by this fault: the input could not be taken whole, or it is no report of either version
-abbrev pub RefusesReport : List ℕ → Fault → Type 0
-RefusesReport text fault =
-    RefusesText text (λ f. ⊥) fault ⊎ (Reads text (IsNoReportAtAll text) × (fault ≡ NotReport))
+abbrev pub RefusesReport : SizeLimits → List ℕ → Fault → Type 0
+RefusesReport limits text fault =
+    RefusesText limits text (λ f. ⊥) fault ⊎ (Reads limits text (IsNoReportAtAllWithin limits text) × (fault ≡ NotReport))
 
 -- what reading a report answers
-abbrev pub GivesSitting : List ℕ → Result Resumed Fault → Type 0
-GivesSitting text (Ok earlier) = Reads text (IsAnyReportOf text earlier)
-GivesSitting text (Err fault) = RefusesReport text fault
+abbrev pub GivesSitting : SizeLimits → List ℕ → Result Resumed Fault → Type 0
+GivesSitting limits text (Ok earlier) = Reads limits text (IsAnyReportWithin limits text earlier)
+GivesSitting limits text (Err fault) = RefusesReport limits text fault
 
 -- this is the first reason why a sitting does not go on
 abbrev pub RefusesToGoOn : Multigraph → Resumed → ℕ → Fault → Type 0
@@ -66,21 +67,21 @@ RefusesToGoOn G earlier limit fault =
     (f : ResumeFault) × (fault ≡ fault_of_resume f) × IsResumeFault G earlier limit f
 
 -- why nothing is resumed: the first fault of the graph, of the report, or of going on
-abbrev pub RefusesSitting : List ℕ → List ℕ → ℕ → Fault → Type 0
-RefusesSitting graph_text report_text limit fault =
-    RefusesText graph_text (IsGraphTextFault graph_text) fault
-    ⊎ ((G : Multigraph) × Reads graph_text (MeansGraph graph_text G) × RefusesReport report_text fault)
-    ⊎ ((G : Multigraph) × (earlier : Resumed) × MeansSitting graph_text report_text G earlier
+abbrev pub RefusesSitting : SizeLimits → List ℕ → List ℕ → ℕ → Fault → Type 0
+RefusesSitting limits graph_text report_text limit fault =
+    RefusesText limits graph_text (IsGraphTextFault limits graph_text) fault
+    ⊎ ((G : Multigraph) × Reads limits graph_text (MeansGraph limits graph_text G) × RefusesReport limits report_text fault)
+    ⊎ ((G : Multigraph) × (earlier : Resumed) × MeansSitting limits graph_text report_text G earlier
     × RefusesToGoOn G earlier limit fault)
 
--- what `resume` answers: the report of the sitting that goes on from the one that the texts mean; or nothing is written
+-- what `resume` answers by these limits: the report of the sitting that goes on from the one that the texts mean; or nothing is written
 -- and the inputs are refused; or the output failed
-abbrev pub ResumeAnswers : List ℕ → List ℕ → ℕ → Option (List ℕ) → Option (List ℕ) → Result Ended Fault → Type 0
-ResumeAnswers graph_text report_text limit old new (Ok ended) =
-    (G : Multigraph) × (earlier : Resumed) × MeansSitting graph_text report_text G earlier
+abbrev pub ResumeAnswers : SizeLimits → List ℕ → List ℕ → ℕ → Option (List ℕ) → Option (List ℕ) → Result Ended Fault → Type 0
+ResumeAnswers limits graph_text report_text limit old new (Ok ended) =
+    (G : Multigraph) × (earlier : Resumed) × MeansSitting limits graph_text report_text G earlier
     × (text : List ℕ) × ReportsOn G earlier limit text ended.status × Appends old new text × (ended.cut ≡ false)
-ResumeAnswers graph_text report_text limit old new (Err fault) =
-    ((RefusesSitting graph_text report_text limit fault ⊎ (fault ≡ NoMemory)) × Keeps old new)
-    ⊎ ((G : Multigraph) × (earlier : Resumed) × MeansSitting graph_text report_text G earlier
+ResumeAnswers limits graph_text report_text limit old new (Err fault) =
+    ((RefusesSitting limits graph_text report_text limit fault ⊎ (fault ≡ NoMemory)) × Keeps old new)
+    ⊎ ((G : Multigraph) × (earlier : Resumed) × MeansSitting limits graph_text report_text G earlier
     × (text : List ℕ) × (status : ℕ) × ReportsOn G earlier limit text status
     × (w : WriteFault) × (fault ≡ Write w) × WritesAll old new text (Err w))

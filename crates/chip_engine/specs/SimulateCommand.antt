@@ -5,6 +5,7 @@ use Rattle.std.specs.Prelude.{Result, Ok, Err}
 use Rattle.std.specs.Fmt.{decimal}
 use Rattle.std.specs.Option.{ForSome}
 use Rattle.std.specs.Io.KnownBytes.{Appends, Keeps}
+use Rattle.chip_graph.specs.Limits.{standard}
 use Rattle.chip_graph.specs.ChipGame.{ChipGame}
 use Rattle.chip_link.specs.declared.event.Event.{Event}
 use Rattle.chip_link.specs.declared.message.Message.{Message}
@@ -100,15 +101,15 @@ SimulatesBy options g events text status =
 -- three texts and a limit mean this game and these events for it
 pub record MeansEvents (graph_text chips_text schedule_text : List ℕ) (limit : ℕ) (g : ChipGame)
     (events : List Event) : Type 0 where
-  pub game : MeansGame graph_text chips_text limit g
-  pub each : Reads schedule_text (schedule_of_text g.graph schedule_text ≡ Some events)
+  pub game : MeansGame standard graph_text chips_text limit g
+  pub each : Reads standard schedule_text (schedule_of_text g.graph schedule_text ≡ Some events)
 
 -- why nothing is simulated: the inputs make no game, or the schedule has a fault
 abbrev pub RefusesEvents : List ℕ → List ℕ → List ℕ → ℕ → Fault → Type 0
 RefusesEvents graph_text chips_text schedule_text limit fault =
-    RefusesInputs graph_text chips_text limit fault
-    ⊎ ((g : ChipGame) × MeansGame graph_text chips_text limit g
-    × RefusesText schedule_text (λ f. schedule_text_fault g.graph schedule_text ≡ Some f) fault)
+    RefusesInputs standard graph_text chips_text limit fault
+    ⊎ ((g : ChipGame) × MeansGame standard graph_text chips_text limit g
+    × RefusesText standard schedule_text (λ f. schedule_text_fault g.graph schedule_text ≡ Some f) fault)
 
 -- what `simulate` answers: the text of the simulation; or nothing is written and the inputs are refused; or the output
 -- failed

@@ -1,5 +1,6 @@
 -- A play in several sittings, told by the reports that the commands write.
 use Rattle.std.specs.Prelude.{◌≡◌, ℕ, List, [], ◌∷◌, ◌++◌, codes, slice_index, Some, Ok}
+use Rattle.chip_graph.specs.Limits.{SizeLimits}
 use Rattle.chip_graph.specs.Multigraph.{Multigraph}
 use Rattle.chip_graph.specs.ChipGame.{ChipGame}
 use Rattle.chip_file.specs.GraphText.{MeansGraph}
@@ -15,10 +16,10 @@ use Rattle.chip_engine.specs.ResumeCommand.{LeadsToTheEnd, ResumeAnswers}
 use Rattle.chip_engine.specs.SimulateCommand.{EndsClosed}
 use Rattle.chip_command.specs.declared.ended.Ended.{Ended}
 
--- `resume` wrote this report, given the one before it
+-- `resume` wrote this report, by whatever limits, given the one before it
 abbrev pub IsResumedTo : (graph_text before report : List ℕ) → Type 0
 IsResumedTo graph_text before report =
-    (limit : ℕ) × (ended : Ended) × ResumeAnswers graph_text before limit (Some []) (Some report) (Ok ended)
+    (limits : SizeLimits) × (limit : ℕ) × (ended : Ended) × ResumeAnswers limits graph_text before limit (Some []) (Some report) (Ok ended)
 
 -- `resume` wrote these reports, given `first` and then each time the one before; the last of all is `last`
 abbrev pub AreResumed : (graph_text first : List ℕ) → List (List ℕ) → (last : List ℕ) → Type 0
@@ -29,9 +30,9 @@ AreResumed graph_text first (report ∷ reports) last =
 -- what `plain` writes tells a play from the start of its game
 abbrev pub PlainTellsPlay : Type 0
 PlainTellsPlay =
-    (graph_text chips_text : List ℕ) (limit : ℕ) (report : List ℕ) (ended : Ended)
-    → PlainAnswers graph_text chips_text limit (Some []) (Some report) (Ok ended)
-    → (g : ChipGame) → MeansGame graph_text chips_text limit g → TellsPlayFrom g.graph (slice_index g.start) report
+    (limits : SizeLimits) (graph_text chips_text : List ℕ) (limit : ℕ) (report : List ℕ) (ended : Ended)
+    → PlainAnswers limits graph_text chips_text limit (Some []) (Some report) (Ok ended)
+    → (g : ChipGame) → MeansGame limits graph_text chips_text limit g → TellsPlayFrom g.graph (slice_index g.start) report
 
 -- and so does the report of a simulation that closed, from the chips that were given in it, whatever halted its vertices
 abbrev pub SimulateTellsPlay : Type 0
@@ -43,7 +44,7 @@ SimulateTellsPlay =
 -- of the play that was never stopped
 abbrev pub ResumedPlaysAddUp : Type 0
 ResumedPlaysAddUp =
-    (graph_text : List ℕ) (G : Multigraph) → Reads graph_text (MeansGraph graph_text G)
+    (limits : SizeLimits) (graph_text : List ℕ) (G : Multigraph) → Reads limits graph_text (MeansGraph limits graph_text G)
     → (x : ℕ → ℕ) (first : List ℕ) → TellsPlayFrom G x first
     → (reports : List (List ℕ)) (before last : List ℕ) → AreResumed graph_text first reports before
     → IsResumedTo graph_text before last → (r : Resumed) → IsAnyReportOf last r → LeadsToTheEnd G x r

@@ -2,26 +2,40 @@
 
 ghost use Rattle.std.specs.Prelude.{◌≡◌, ◌++◌, ◌<◌, ℕ, IfOk, codes, string_bytes};
 ghost use Rattle.std.specs.Option.{ForSome};
+ghost use Rattle.chip_graph.specs.Limits.{standard};
 ghost use Rattle.chip_graph.specs.Multigraph.{IsDistance, degree};
 ghost use Rattle.chip_engine.specs.CheckCommand.{CheckAnswers, IsShown, head_text, vertex_text};
 
 use chip_command::{Ended, Fault, Status, conclude};
-use chip_file::read_graph;
-use chip_graph::Graph;
+use chip_file::read_graph_within;
+use chip_graph::{Graph, Limits};
 use std::alloc::{AllocError, Global};
 use std::io::{Read, Write};
 
-/// Shows the graph of a file: its numbers of vertices and edges, its sink, and each vertex with its
-/// out-degree and its distance to the sink, a line each.
+/// Shows the graph of a file within the standard limits: its numbers of vertices and edges, its sink, and each vertex with
+/// its out-degree and its distance to the sink, a line each.
 pub fn check_engine<G: Read, W: Write>(
     alloc: Global,
     graph: &mut G,
     output: &mut W,
 ) -> Result<Ended, Fault>
     ensures { ForSome (G.remaining graph.old)
-        (λ text. CheckAnswers text (W.contents output.old) (W.contents output.new) result) }
+        (λ text. CheckAnswers standard text (W.contents output.old) (W.contents output.new) result) }
 {
-    let graph = read_graph(alloc, graph)?;
+    check_engine_within(alloc, Limits::standard(), graph, output)
+}
+
+/// Does what `check_engine` does, for a graph within these limits.
+pub fn check_engine_within<G: Read, W: Write>(
+    alloc: Global,
+    limits: Limits,
+    graph: &mut G,
+    output: &mut W,
+) -> Result<Ended, Fault>
+    ensures { ForSome (G.remaining graph.old)
+        (λ text. CheckAnswers limits text (W.contents output.old) (W.contents output.new) result) }
+{
+    let graph = read_graph_within(alloc, limits, graph)?;
     let text = show(alloc, &graph)?;
     conclude(output, text.as_bytes(), Ended::of(Status::Done))
 }

@@ -4,17 +4,19 @@
 //! (`specs/`). It opens no file and knows no command line. What can go wrong is a `Fault` of `chip_command`.
 #![tactic(auto)]
 
-pub use check::check_engine;
+pub use check::{check_engine, check_engine_within};
 pub use explain::explain_engine;
-pub use plain::{plain_engine, plain_engine_watched};
+pub use options::PlayOptions;
+pub use plain::{plain_engine, plain_engine_with};
 pub use replay::replay_engine;
-pub use resume::resume_engine;
+pub use resume::{resume_engine, resume_engine_with};
 pub use simulate::{SimulateOptions, simulate_engine, simulate_engine_with};
 
 mod board;
 mod check;
 mod explain;
 pub mod laws;
+mod options;
 mod plain;
 mod replay;
 mod resume;

@@ -2,23 +2,25 @@
 
 ghost use Rattle.std.specs.Prelude.{◌≡◌, ◌⊎◌, IfOk, IfErr};
 ghost use Rattle.std.specs.Option.{ForSome};
+ghost use Rattle.chip_graph.specs.Limits.{standard};
 ghost use Rattle.chip_graph.specs.Multigraph.{IsGraph};
 ghost use Rattle.chip_sequence.specs.Sittings.{IsResumed};
 ghost use Rattle.chip_engine.specs.ResumeCommand.{GivesSitting, RefusesToGoOn, ReportsOn, ResumeAnswers};
 ghost use Rattle.chip_command.specs.Statuses.{number_of_status};
 ghost use Rattle.chip_command.specs.declared.fault.Fault.TheVariants.{NoMemory};
 
+use crate::options::PlayOptions;
 use chip_command::{Answer, Ended, Fault, conclude, status_of};
-use chip_file::{read_graph, read_whole};
+use chip_file::{read_graph_within, read_whole_within};
 use chip_fire::resume;
-use chip_graph::Graph;
-use chip_report::{read_any, report_two};
+use chip_graph::{Graph, Limits};
+use chip_report::{read_any_within, report_two};
 use chip_sequence::Resumed;
 use std::alloc::Global;
 use std::io::{Read, Write};
 
-/// Goes on with the play that a report tells, on the graph of a graph file and with a firing limit of this sitting's
-/// own, and writes the report of the sitting with what was fired before it.
+/// Goes on with the play that a report tells, on the graph of a graph file within the standard limits and with a firing
+/// limit of this sitting's own, and writes the report of the sitting with what was fired before it.
 ///
 /// The report is made whole before the first byte is written.
 pub fn resume_engine<G: Read, R: Read, W: Write>(
@@ -30,22 +32,42 @@ pub fn resume_engine<G: Read, R: Read, W: Write>(
 ) -> Result<Ended, Fault>
     ensures { ForSome (G.remaining graph.old)
         (λ graph_text. ForSome (R.remaining report.old)
-        (λ report_text. ResumeAnswers graph_text report_text limit
+        (λ report_text. ResumeAnswers standard graph_text report_text limit
         (W.contents output.old) (W.contents output.new) result)) }
 {
-    let graph = read_graph(alloc, graph)?;
-    let earlier = read_sitting(alloc, report)?;
-    let answer = go_on(alloc, graph, &earlier, limit)?;
+    let options = PlayOptions {
+        limits: Limits::standard(),
+        limit,
+    };
+    resume_engine_with(alloc, graph, report, options, output)
+}
+
+/// Does what `resume_engine` does, by these options.
+pub fn resume_engine_with<G: Read, R: Read, W: Write>(
+    alloc: Global,
+    graph: &mut G,
+    report: &mut R,
+    options: PlayOptions,
+    output: &mut W,
+) -> Result<Ended, Fault>
+    ensures { ForSome (G.remaining graph.old)
+        (λ graph_text. ForSome (R.remaining report.old)
+        (λ report_text. ResumeAnswers options.limits graph_text report_text options.limit
+        (W.contents output.old) (W.contents output.new) result)) }
+{
+    let graph = read_graph_within(alloc, options.limits, graph)?;
+    let earlier = read_sitting(alloc, options.limits, report)?;
+    let answer = go_on(alloc, graph, &earlier, options.limit)?;
     conclude(output, &answer.text, Ended::of(answer.status))
 }
 
-/// The sitting that a report tells, of either version.
-fn read_sitting<R: Read>(alloc: Global, report: &mut R) -> Result<Resumed, Fault>
-    ensures sitting { ForSome (R.remaining report.old) (λ text. GivesSitting text result) }
+/// The sitting that a report of at most so many vertices and bytes tells, of either version.
+fn read_sitting<R: Read>(alloc: Global, limits: Limits, report: &mut R) -> Result<Resumed, Fault>
+    ensures sitting { ForSome (R.remaining report.old) (λ text. GivesSitting limits text result) }
     ensures in_range { IfOk result IsResumed }
 {
-    let text = read_whole(alloc, report)?;
-    Ok(read_any(alloc, &text)?)
+    let text = read_whole_within(alloc, limits, report)?;
+    Ok(read_any_within(alloc, limits, &text)?)
 }
 
 /// The report of the sitting that goes on from an earlier one, and the exit status.

@@ -1,4 +1,5 @@
 use Rattle.std.proofs.Common.{◌≡◌, ◌⊎◌, inl, sym, subst}
+use Rattle.chip_graph.specs.Limits.{standard}
 use Rattle.chip_command.specs.Inputs.{RefusesInputs}
 use Rattle.chip_engine.specs.ReplayCommand.{MeansTraces, AreReplayed, RefusesReplay}
 use Rattle.chip_command.specs.declared.fault.Fault.{Fault}
@@ -11,7 +12,7 @@ use Rattle.chip_engine.proofs.replay.replay_engine.Goals as goal
 pub returns-in_err-game : goal.returns-in_err-game
 returns-in_err-game g c = λ graph_text graph_is chips_text chips_is trace_text trace_is.
     refused_replay graph_text chips_text trace_text c.args.limit _ c.from_residual.result _ c.from_residual.ensures.1
-    (λ fault is. inl (inl (subst (RefusesInputs graph_text chips_text c.args.limit) (sym is)
+    (λ fault is. inl (inl (subst (RefusesInputs standard graph_text chips_text c.args.limit) (sym is)
     (c.in_err-game.ensures graph_text graph_is chips_text chips_is))))
 
 pub returns-in_err-lines : goal.returns-in_err-lines

@@ -4,6 +4,7 @@ use Rattle.chip_link.specs.declared.trace.TraceRow.{TraceRow}
 use Rattle.chip_file.specs.Answer.{Answers}
 use Rattle.chip_file.specs.TraceText.{traces_of_text, trace_text_fault}
 use Rattle.chip_trace.specs.Replay.{AreFirings, IsReplayFault}
+use Rattle.chip_graph.specs.Limits.{standard}
 use Rattle.chip_command.specs.Inputs.{IsRefused, Reads}
 use Rattle.chip_engine.specs.Lines.{lines_text}
 use Rattle.chip_engine.specs.ReplayCommand.{firing_text}
@@ -18,7 +19,7 @@ replay-requires g c =
 
 pub returns-in_err-traces : goal.returns-in_err-traces
 returns-in_err-traces g c = λ trace_text trace_is.
-    let why = at_some (λ text. IsRefused text
+    let why = at_some (λ text. IsRefused standard text
     (λ f. trace_text_fault c.graph.result.now text ≡ Some f) c.in_err-traces.field-0.0) _ trace_text trace_is
     c.in_err-traces.ensures.means in
     refused_lines c.args.game.now trace_text _ _ c.from_residual.ensures.1
@@ -26,18 +27,18 @@ returns-in_err-traces g c = λ trace_text trace_is.
       c.in_err-traces.field-0.0,
       is,
       subst
-          (λ (G : Multigraph). IsRefused trace_text
+          (λ (G : Multigraph). IsRefused standard trace_text
           (λ f. trace_text_fault G trace_text ≡ Some f) c.in_err-traces.field-0.0) c.graph.ensures.value why,
     )))
 
 pub returns-in_err-firings : goal.returns-in_err-firings
 returns-in_err-firings g c = λ trace_text trace_is.
     let traces : List (List TraceRow) = map (λ t. t.items) c.in_ok-traces.traces.items in
-    let read = at_some (λ text. Answers text
+    let read = at_some (λ text. Answers standard text
     (λ ts. traces_of_text c.graph.result.now text ≡ Some (map (λ t. t.items) ts.items))
     (λ f. trace_text_fault c.graph.result.now text ≡ Some f) (Ok c.in_ok-traces.traces)) _ trace_text trace_is
     c.in_ok-traces.ensures.means in
-    let each = subst (λ (G : Multigraph). Reads trace_text (traces_of_text G trace_text ≡ Some traces))
+    let each = subst (λ (G : Multigraph). Reads standard trace_text (traces_of_text G trace_text ≡ Some traces))
     c.graph.ensures.value read in
     let stuck = subst (λ (ts : List (Vec TraceRow Global)). IsReplayFault c.args.game.now
     (map (λ t. t.items) ts) c.in_err-firings.field-0.0) c.deref.ensures.value c.in_err-firings.ensures in
@@ -51,14 +52,14 @@ returns-in_err-lines g c = λ trace_text trace_is.
 pub returns : goal.returns
 returns g c = λ trace_text trace_is.
     let traces : List (List TraceRow) = map (λ t. t.items) c.in_ok-traces.traces.items in
-    let read = at_some (λ text. Answers text
+    let read = at_some (λ text. Answers standard text
     (λ ts. traces_of_text c.graph.result.now text ≡ Some (map (λ t. t.items) ts.items))
     (λ f. trace_text_fault c.graph.result.now text ≡ Some f) (Ok c.in_ok-traces.traces)) _ trace_text trace_is
     c.in_ok-traces.ensures.means in
     let fired = subst (λ (ts : List (Vec TraceRow Global)). AreFirings c.args.game.now
     (map (λ t. t.items) ts) c.in_ok-firings.firings.items) c.deref.ensures.value c.in_ok-firings.ensures in (
       traces,
-      subst (λ (G : Multigraph). Reads trace_text (traces_of_text G trace_text ≡ Some traces))
+      subst (λ (G : Multigraph). Reads standard trace_text (traces_of_text G trace_text ≡ Some traces))
           c.graph.ensures.value read,
       (
         c.in_ok-firings.firings.items,

@@ -4,6 +4,7 @@ use Rattle.chip_graph.specs.Multigraph.{Multigraph}
 use Rattle.chip_link.specs.declared.event.Event.{Event}
 use Rattle.chip_file.specs.Answer.{Answers}
 use Rattle.chip_file.specs.ScheduleText.{schedule_of_text, schedule_text_fault}
+use Rattle.chip_graph.specs.Limits.{standard}
 use Rattle.chip_command.specs.Inputs.{IsRefused, RefusesInputs}
 use Rattle.chip_engine.specs.SimulateCommand.{MeansEvents, Simulates, SimulatesBy}
 use Rattle.chip_command.proofs.InputLemmas.{at_some}
@@ -17,12 +18,12 @@ pub returns-in_err-game : goal.returns-in_err-game
 returns-in_err-game g c = λ graph_text graph_is chips_text chips_is schedule_text schedule_is.
     refused_simulate graph_text chips_text schedule_text c.args.options _
     c.from_residual.result _ c.from_residual.ensures.1
-    (λ fault is. inl (inl (subst (RefusesInputs graph_text chips_text c.args.options.limit) (sym is)
+    (λ fault is. inl (inl (subst (RefusesInputs standard graph_text chips_text c.args.options.limit) (sym is)
     (c.in_err-game.ensures graph_text graph_is chips_text chips_is))))
 
 pub returns-in_err-events : goal.returns-in_err-events
 returns-in_err-events g c = λ graph_text graph_is chips_text chips_is schedule_text schedule_is.
-    let why = at_some (λ text. IsRefused text
+    let why = at_some (λ text. IsRefused standard text
     (λ f. schedule_text_fault c.graph.result.now text ≡ Some f) c.in_err-events.field-0.0) _ schedule_text schedule_is
     c.in_err-events.ensures.means in
     refused_simulate graph_text chips_text schedule_text c.args.options _
@@ -34,7 +35,7 @@ returns-in_err-events g c = λ graph_text graph_is chips_text chips_is schedule_
         c.in_err-events.field-0.0,
         is,
         subst
-            (λ (G : Multigraph). IsRefused schedule_text
+            (λ (G : Multigraph). IsRefused standard schedule_text
             (λ f. schedule_text_fault G schedule_text ≡ Some f) c.in_err-events.field-0.0) c.graph.ensures.value why,
       ),
     )))
@@ -47,7 +48,7 @@ returns-in_err-answer g c = λ graph_text graph_is chips_text chips_is schedule_
 
 pub returns : goal.returns
 returns g c = λ graph_text graph_is chips_text chips_is schedule_text schedule_is.
-    let read = at_some (λ text. Answers text (λ events. schedule_of_text c.graph.result.now text ≡ Some events.items)
+    let read = at_some (λ text. Answers standard text (λ events. schedule_of_text c.graph.result.now text ≡ Some events.items)
     (λ f. schedule_text_fault c.graph.result.now text ≡ Some f) (Ok c.in_ok-events.events)) _ schedule_text
     schedule_is c.in_ok-events.ensures.means in
     let means : MeansEvents graph_text chips_text schedule_text c.args.options.limit c.in_ok-game.game

@@ -5,23 +5,23 @@ use Rattle.chip_file.specs.GraphText.{MeansGraph, IsGraphTextFault}
 use Rattle.chip_file.specs.ChipsText.{chips_of_text, chips_text_fault}
 use Rattle.chip_command.specs.Inputs.{IsRefused, MeansGame}
 use Rattle.chip_command.proofs.InputLemmas.{at_some, refused_game, named_game, means_game}
-use Rattle.chip_command.proofs.inputs.read_game.Goals as goal
+use Rattle.chip_command.proofs.inputs.read_game_within.Goals as goal
 
 pub returns-in_err-graph : goal.returns-in_err-graph
 returns-in_err-graph g c = λ graph_text graph_is chips_text chips_is.
-    let why = at_some (λ text. Answers text (MeansGraph text) (IsGraphTextFault text) (Err c.in_err-graph.field-0.0)) _
+    let why = at_some (λ text. Answers c.args.limits text (MeansGraph c.args.limits text) (IsGraphTextFault c.args.limits text) (Err c.in_err-graph.field-0.0)) _
     graph_text graph_is c.in_err-graph.ensures.means in
-    refused_game graph_text chips_text c.args.limit _ _ c.from_residual.ensures.1
+    refused_game c.args.limits graph_text chips_text c.args.limit _ _ c.from_residual.ensures.1
     (λ fault is. inl (c.in_err-graph.field-0.0, is, why))
 
 pub returns-in_err-start : goal.returns-in_err-start
 returns-in_err-start g c = λ graph_text graph_is chips_text chips_is.
-    let graph = at_some (λ text. Answers text (MeansGraph text) (IsGraphTextFault text) (Ok c.in_ok-graph.graph)) _
+    let graph = at_some (λ text. Answers c.args.limits text (MeansGraph c.args.limits text) (IsGraphTextFault c.args.limits text) (Ok c.in_ok-graph.graph)) _
     graph_text graph_is c.in_ok-graph.ensures.means in
-    let why = at_some (λ text. IsRefused text
+    let why = at_some (λ text. IsRefused c.args.limits text
     (λ f. chips_text_fault c.vertices.result text ≡ Some f) c.in_err-start.field-0.0) _ chips_text chips_is
     c.in_err-start.ensures.means in
-    refused_game graph_text chips_text c.args.limit _ _ c.from_residual-in_err-start.ensures.1
+    refused_game c.args.limits graph_text chips_text c.args.limit _ _ c.from_residual-in_err-start.ensures.1
     (λ fault is. inr (inl (
       c.in_ok-graph.graph,
       graph,
@@ -29,16 +29,16 @@ returns-in_err-start g c = λ graph_text graph_is chips_text chips_is.
         c.in_err-start.field-0.0,
         is,
         subst
-            (λ (n : ℕ). IsRefused chips_text (λ f. chips_text_fault n chips_text ≡ Some f) c.in_err-start.field-0.0)
+            (λ (n : ℕ). IsRefused c.args.limits chips_text (λ f. chips_text_fault n chips_text ≡ Some f) c.in_err-start.field-0.0)
             c.vertices.ensures.value why,
       ),
     )))
 
 pub returns-in_err-new : goal.returns-in_err-new
 returns-in_err-new g c = λ graph_text graph_is chips_text chips_is.
-    let graph = at_some (λ text. Answers text (MeansGraph text) (IsGraphTextFault text) (Ok c.in_ok-graph.graph)) _
+    let graph = at_some (λ text. Answers c.args.limits text (MeansGraph c.args.limits text) (IsGraphTextFault c.args.limits text) (Ok c.in_ok-graph.graph)) _
     graph_text graph_is c.in_ok-graph.ensures.means in
-    let start = at_some (λ text. Answers text (λ chips. chips_of_text c.vertices.result text ≡ Some chips.items)
+    let start = at_some (λ text. Answers c.args.limits text (λ chips. chips_of_text c.vertices.result text ≡ Some chips.items)
     (λ f. chips_text_fault c.vertices.result text ≡ Some f) (Ok c.in_ok-start.start)) _ chips_text chips_is
     c.in_ok-start.ensures.means in
     let game : ChipGame = record {
@@ -46,10 +46,10 @@ returns-in_err-new g c = λ graph_text graph_is chips_text chips_is.
       start = c.in_ok-start.start.items;
       limit = c.args.limit;
     } in
-    refused_game graph_text chips_text c.args.limit _ _ c.from_residual-in_err-new.ensures.1
+    refused_game c.args.limits graph_text chips_text c.args.limit _ _ c.from_residual-in_err-new.ensures.1
     (λ fault is. inr (inr (
       game,
-      named_game graph_text chips_text c.args.limit game c.vertices.result c.vertices.ensures.value graph start refl,
+      named_game c.args.limits graph_text chips_text c.args.limit game c.vertices.result c.vertices.ensures.value graph start refl,
       c.in_err-new.field-0.0,
       c.in_err-new.ensures,
       is,
@@ -57,9 +57,9 @@ returns-in_err-new g c = λ graph_text graph_is chips_text chips_is.
 
 pub returns : goal.returns
 returns g c = λ graph_text graph_is chips_text chips_is.
-    let graph = at_some (λ text. Answers text (MeansGraph text) (IsGraphTextFault text) (Ok c.in_ok-graph.graph)) _
+    let graph = at_some (λ text. Answers c.args.limits text (MeansGraph c.args.limits text) (IsGraphTextFault c.args.limits text) (Ok c.in_ok-graph.graph)) _
     graph_text graph_is c.in_ok-graph.ensures.means in
-    let start = at_some (λ text. Answers text (λ chips. chips_of_text c.vertices.result text ≡ Some chips.items)
+    let start = at_some (λ text. Answers c.args.limits text (λ chips. chips_of_text c.vertices.result text ≡ Some chips.items)
     (λ f. chips_text_fault c.vertices.result text ≡ Some f) (Ok c.in_ok-start.start)) _ chips_text chips_is
     c.in_ok-start.ensures.means in
     let game : ChipGame = record {
@@ -67,7 +67,7 @@ returns g c = λ graph_text graph_is chips_text chips_is.
       start = c.in_ok-start.start.items;
       limit = c.args.limit;
     } in
-    subst (MeansGame graph_text chips_text c.args.limit) (sym c.in_ok-new.ensures.0)
-    (means_game graph_text chips_text c.args.limit game
-    (named_game graph_text chips_text c.args.limit game c.vertices.result c.vertices.ensures.value graph start refl)
+    subst (MeansGame c.args.limits graph_text chips_text c.args.limit) (sym c.in_ok-new.ensures.0)
+    (means_game c.args.limits graph_text chips_text c.args.limit game
+    (named_game c.args.limits graph_text chips_text c.args.limit game c.vertices.result c.vertices.ensures.value graph start refl)
     c.in_ok-new.ensures.1)

@@ -2,6 +2,7 @@
 -- From the parts of the engine to its whole.
 use Rattle.std.proofs.Common.{◌≡◌, ℕ, Bool, false, refl, sym, subst, List, map, Option, Some, None, Result, Ok, Err, inl, inr}
 use Rattle.std.specs.Result.{IsErrAnd, IfErr}
+use Rattle.chip_graph.specs.Limits.{standard}
 use Rattle.chip_graph.specs.ChipGame.{ChipGame}
 use Rattle.chip_crew.specs.declared.plan.Plan.{Plan}
 use Rattle.chip_crew.specs.declared.plan.Sharing.{Sharing}
@@ -120,7 +121,7 @@ err_by (Err x) P f is holds = subst P (sym is) holds
 -- a game and the feeds that a text has for the vertices of its graph
 pub means_fed : (graph_text chips_text : List ℕ) (feed_text : Option (List ℕ)) (limit : ℕ) (g : ChipGame)
     (feeds : Option (List (ℕ × ℕ))) (vertices : ℕ) → vertices ≡ g.graph.vertices
-    → MeansGame graph_text chips_text limit g → MeansFed feed_text vertices feeds
+    → MeansGame standard graph_text chips_text limit g → MeansFed feed_text vertices feeds
     → MeansFedGame graph_text chips_text feed_text limit g feeds
 means_fed graph_text chips_text feed_text limit g feeds vertices same game fed = record {
   game = game;

@@ -2,6 +2,7 @@
 use Rattle.std.proofs.Common.{◌≡◌, ◌<◌, ℕ, List, length, Option, Some, None, refl, sym, ap, subst, ◌∙◌}
 use Rattle.std.proofs.Common.{slice_index, unwrap_or, ⊎_elim, arith}
 use Rattle.std.proofs.lemmas.List.{same_lists, get_or_default}
+use Rattle.chip_graph.specs.Limits.{SizeLimits, standard}
 use Rattle.chip_graph.specs.Multigraph.{Multigraph, IsGraph}
 use Rattle.chip_graph.specs.ChipGame.{ChipGame, IsGame}
 use Rattle.chip_file.specs.ChipsText.{chips_of_text}
@@ -14,7 +15,7 @@ use Rattle.chip_command.specs.Reports.{Reports, plain_status}
 use Rattle.chip_command.proofs.SittingLemmas.{report_tells}
 use Rattle.chip_crew.specs.Finished.{IsWhole, StaysWithin}
 use Rattle.chip_run.specs.Feeding.{MeansFed, MeansFedGame, feeds_of}
-use Rattle.chip_run.specs.Laws.{OneReport, SameBytes, SameBytesFed, RunWrote, RunTellsPlay}
+use Rattle.chip_run.specs.Laws.{OneReport, SameBytes, SameBytesFed, RunWrote, PlainWrote, RunTellsPlay}
 
 -- numbers that are the same at each place
 same_numbers : (xs ys : List ℕ) → length xs ≡ length ys
@@ -55,9 +56,10 @@ one_report g one other s t (o, p, one_is, s_is) (o', p', other_is, t_is) =
 same_games : (a b : ChipGame) → a.graph ≡ b.graph → a.start ≡ b.start → a.limit ≡ b.limit → a ≡ b
 same_games a b graph start limit = rw (graph, start, limit) refl
 
-one_game : (graph_text chips_text : List ℕ) (limit : ℕ) (a b : ChipGame) → MeansGame graph_text chips_text limit a
-    → MeansGame graph_text chips_text limit b → a ≡ b
-one_game graph_text chips_text limit a b p q =
+one_game : (limits others : SizeLimits) (graph_text chips_text : List ℕ) (limit : ℕ) (a b : ChipGame)
+    → MeansGame limits graph_text chips_text limit a
+    → MeansGame others graph_text chips_text limit b → a ≡ b
+one_game limits others graph_text chips_text limit a b p q =
     let x = p.named in let y = q.named in
     let graph : a.graph ≡ b.graph = ap (λ (o : Option Multigraph). unwrap_or o a.graph)
     (sym x.graph.1.meaning ∙ y.graph.1.meaning) in
@@ -106,7 +108,7 @@ run_reports graph_text chips_text feed_text limit report status (shared, plan, o
     is_whole =
     ⊎_elim (λ refused. absurd refused)
     (λ (g', feeds', means', answers). let told = answers.1 in let plays = answers.2 in
-    let game : g' ≡ g = one_game graph_text chips_text limit g' g means'.game means.game in
+    let game : g' ≡ g = one_game standard standard graph_text chips_text limit g' g means'.game means.game in
     let fed : feeds' ≡ feeds = one_feed feed_text g.graph.vertices feeds' feeds
     (subst (λ (k : ChipGame). MeansFed feed_text k.graph.vertices feeds') game means'.fed) means.fed in
     let w = plays.reports.0 in
@@ -124,9 +126,9 @@ run_reports graph_text chips_text feed_text limit report status (shared, plan, o
     ran
 
 pub same_bytes_fed : SameBytesFed
-same_bytes_fed graph_text chips_text feed_text limit whole_graph whole_chips (g, feeds, means, whole, whole_means, is_whole)
-    one other s t ran (done, (h, h_means, text, reports, out, cut), t_is) =
-    let same_game : h ≡ whole = one_game whole_graph whole_chips limit h whole h_means whole_means in
+same_bytes_fed graph_text chips_text feed_text limit whole_graph whole_chips (g, feeds, means, whole, mine, whole_means, is_whole)
+    one other s t ran (limits, done, (h, h_means, text, reports, out, cut), t_is) =
+    let same_game : h ≡ whole = one_game limits mine whole_graph whole_chips limit h whole h_means whole_means in
     let same = one_report whole one text s done.status
     (run_reports graph_text chips_text feed_text limit one s ran g feeds means whole is_whole).0
     (subst (λ (k : ChipGame). Reports k text done.status) same_game reports) in
@@ -137,8 +139,19 @@ run_tells_play graph_text chips_text feed_text limit report status ran g feeds m
     let of_it = run_reports graph_text chips_text feed_text limit report status ran g feeds means whole is_whole in
     report_tells whole of_it.1 report status of_it.0
 
-pub same_bytes : SameBytes
-same_bytes graph_text chips_text limit one other s t ran (done, answers, t_is) =
+-- where nothing is fed, the whole game is the game
+same_bytes_of : (graph_text chips_text : List ℕ) (limit : ℕ) (one other : List ℕ) (s t : ℕ) (g : ChipGame)
+    (feeds : Option (List (ℕ × ℕ))) → MeansFedGame graph_text chips_text None limit g feeds
+    → RunWrote graph_text chips_text None limit one s → PlainWrote graph_text chips_text limit other t
+    → (one ≡ other) × (s ≡ t)
+same_bytes_of graph_text chips_text limit one other s t g None means ran plain =
     same_bytes_fed graph_text chips_text None limit graph_text chips_text
-    (answers.0, None, record { game = answers.1; fed = tt }, answers.0, answers.1, refl) one other s t ran
-    (done, answers, t_is)
+    (g, None, means, g, standard, means.game, refl) one other s t ran plain
+same_bytes_of graph_text chips_text limit one other s t g (Some feeds) means ran plain = absurd means.fed
+
+pub same_bytes : SameBytes
+same_bytes graph_text chips_text limit one other s t (shared, plan, old, new, ended, ran, s_is) plain =
+    ⊎_elim (λ refused. absurd refused)
+    (λ (g, feeds, means, answers). same_bytes_of graph_text chips_text limit one other s t g feeds means
+    (shared, plan, old, new, ended, ran, s_is) plain)
+    ran

@@ -3,6 +3,7 @@
 use Rattle.std.specs.Prelude.{◌≡◌, ◌⊎◌, ℕ, Bool, nat_lt, ⊤, List, filter, Option, Some, None}
 use Rattle.std.specs.List.{enumerate_from}
 use Rattle.std.specs.Option.{ForSome}
+use Rattle.chip_graph.specs.Limits.{standard}
 use Rattle.chip_graph.specs.ChipGame.{ChipGame}
 use Rattle.chip_file.specs.ChipsText.{chips_of_text, chips_text_fault}
 use Rattle.chip_command.specs.Inputs.{Reads, MeansGame, RefusesInputs, RefusesText}
@@ -19,11 +20,11 @@ feeds_of chips = filter has_chips (enumerate_from 0 chips)
 -- a text has these feeds for so many vertices
 abbrev pub MeansFeeds : List ℕ → ℕ → List (ℕ × ℕ) → Type 0
 MeansFeeds text vertices feeds =
-    (chips : List ℕ) × Reads text (chips_of_text vertices text ≡ Some chips) × (feeds ≡ feeds_of chips)
+    (chips : List ℕ) × Reads standard text (chips_of_text vertices text ≡ Some chips) × (feeds ≡ feeds_of chips)
 
 -- why it has none
 abbrev pub RefusesFeeds : List ℕ → ℕ → Fault → Type 0
-RefusesFeeds text vertices fault = RefusesText text (λ f. chips_text_fault vertices text ≡ Some f) fault
+RefusesFeeds text vertices fault = RefusesText standard text (λ f. chips_text_fault vertices text ≡ Some f) fault
 
 -- what is fed where there may be no text
 abbrev pub MeansFed : Option (List ℕ) → ℕ → Option (List (ℕ × ℕ)) → Type 0
@@ -40,14 +41,14 @@ RefusesFed (Some text) vertices fault = RefusesFeeds text vertices fault
 -- the texts and a limit mean this game and these feeds for it
 pub record MeansFedGame (graph_text chips_text : List ℕ) (feed_text : Option (List ℕ)) (limit : ℕ) (g : ChipGame)
     (feeds : Option (List (ℕ × ℕ))) : Type 0 where
-  pub game : MeansGame graph_text chips_text limit g
+  pub game : MeansGame standard graph_text chips_text limit g
   pub fed : MeansFed feed_text g.graph.vertices feeds
 
 -- why they mean none: the inputs make no game, or the text of feeds has a fault
 abbrev pub RefusesFedGame : List ℕ → List ℕ → Option (List ℕ) → ℕ → Fault → Type 0
 RefusesFedGame graph_text chips_text feed_text limit fault =
-    RefusesInputs graph_text chips_text limit fault
-    ⊎ ((g : ChipGame) × MeansGame graph_text chips_text limit g × RefusesFed feed_text g.graph.vertices fault)
+    RefusesInputs standard graph_text chips_text limit fault
+    ⊎ ((g : ChipGame) × MeansGame standard graph_text chips_text limit g × RefusesFed feed_text g.graph.vertices fault)
 
 -- a fact of the text that a reader has left, where it is known; of no text where there is no reader
 abbrev pub ForText : Option (Option (List ℕ)) → (Option (List ℕ) → Type 0) → Type 0

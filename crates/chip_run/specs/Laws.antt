@@ -1,5 +1,6 @@
 -- The laws of `run`, as the functions of `src/laws.rt` state them.
 use Rattle.std.specs.Prelude.{◌≡◌, ℕ, false, List, [], Option, None, Some, Ok, slice_index}
+use Rattle.chip_graph.specs.Limits.{SizeLimits, standard}
 use Rattle.chip_graph.specs.ChipGame.{ChipGame}
 use Rattle.chip_graph.specs.More.{HasMore}
 use Rattle.chip_core.specs.Core.{fired_by}
@@ -22,10 +23,10 @@ use Rattle.chip_run.specs.RunCommand.{Outputs, RunAnswers}
 abbrev pub OneReport : Type 0
 OneReport = (g : ChipGame) (one other : List ℕ) (s t : ℕ) → Reports g one s → Reports g other t → (one ≡ other) × (s ≡ t)
 
--- `plain` wrote this report of the game that the texts mean, and answered this status
+-- `plain` wrote this report of the game that the texts mean, by whatever limits of its size, and answered this status
 abbrev pub PlainWrote : (graph_text chips_text : List ℕ) → ℕ → List ℕ → ℕ → Type 0
 PlainWrote graph_text chips_text limit report status =
-    (ended : Ended) × PlainAnswers graph_text chips_text limit (Some []) (Some report) (Ok ended)
+    (limits : SizeLimits) × (ended : Ended) × PlainAnswers limits graph_text chips_text limit (Some []) (Some report) (Ok ended)
     × (status ≡ ended.status)
 
 -- `run` did, by some plan, however its workers shared the actors, whatever went into a trace
@@ -40,7 +41,8 @@ RunWrote graph_text chips_text feed_text limit report status =
 abbrev pub MeanTheWhole : (graph_text chips_text : List ℕ) → Option (List ℕ) → ℕ → (whole_graph whole_chips : List ℕ) → Type 0
 MeanTheWhole graph_text chips_text feed_text limit whole_graph whole_chips =
     (g : ChipGame) × (feeds : Option (List (ℕ × ℕ))) × MeansFedGame graph_text chips_text feed_text limit g feeds
-    × (whole : ChipGame) × MeansGame whole_graph whole_chips limit whole × IsWhole g feeds whole
+    × (whole : ChipGame) × (limits : SizeLimits) × MeansGame limits whole_graph whole_chips limit whole
+    × IsWhole g feeds whole
 
 -- where `run` and `plain` both wrote a report of the same files, they wrote the same bytes, with the same status
 abbrev pub SameBytes : Type 0
@@ -81,7 +83,7 @@ abbrev pub RowsFit : Type 0
 RowsFit =
     (graph_text chips_text : List ℕ) (limit : ℕ) (shared : Sharing) (plan : Plan) (old new : Outputs) (ended : Ended) → plan.seal ≡ None
     → RunAnswers shared graph_text chips_text None limit plan old new (Ok ended)
-    → (g : ChipGame) × MeansGame graph_text chips_text limit g × WritesOneRun g old new ended.cut
+    → (g : ChipGame) × MeansGame standard graph_text chips_text limit g × WritesOneRun g old new ended.cut
 
 -- and where no trace was cut, so do the rows that it wrote
 abbrev pub UncutTracesFit : Type 0
@@ -91,7 +93,7 @@ UncutTracesFit =
     → RunAnswers shared graph_text chips_text None limit plan (record { report = old_report; trace = Some old_trace })
     (record { report = new_report; trace = Some new_trace }) (Ok ended)
     → ended.cut ≡ false
-    → (g : ChipGame) × MeansGame graph_text chips_text limit g
+    → (g : ChipGame) × MeansGame standard graph_text chips_text limit g
     × WritesFitting g old_report new_report old_trace new_trace
 
 -- where `run` is fed, seals nothing and ends well, and no vertex has chips both at the start and by a feed, they fit

@@ -1,5 +1,6 @@
 -- Serves report_by_threads: what `run` wrote of a game that is not fed.
 use Rattle.std.proofs.Common.{◌≡◌, ℕ, List, [], Option, Some, None, Ok, ◌∙◌, ◌++◌, sym, ap, subst, ⊎_elim}
+use Rattle.chip_graph.specs.Limits.{standard}
 use Rattle.chip_graph.specs.ChipGame.{ChipGame}
 use Rattle.chip_crew.specs.declared.plan.Plan.{Plan}
 use Rattle.chip_crew.specs.declared.plan.Sharing.{Sharing}
@@ -18,7 +19,7 @@ pub wrote_report : (shared : Sharing) (graph_text chips_text : List ℕ) (limit 
     (start report : List ℕ) (ended : Ended) → start ≡ []
     → RunAnswers shared graph_text chips_text None limit plan (record { report = Some start; trace = old })
     (record { report = Some report; trace = new }) (Ok ended)
-    → (g : ChipGame) × MeansGame graph_text chips_text limit g × Reports g report ended.status
+    → (g : ChipGame) × MeansGame standard graph_text chips_text limit g × Reports g report ended.status
 wrote_report shared graph_text chips_text limit plan old new start report ended empty ran =
     ⊎_elim (λ refused. absurd refused)
     (λ (g, feeds, means, answers). let text = answers.1 in (

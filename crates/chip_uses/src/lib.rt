@@ -16,6 +16,7 @@ ghost use Rattle.chip_core.specs.Core.{replies_to};
 ghost use Rattle.chip_world.specs.World.{WhateverLog};
 ghost use Rattle.chip_net.specs.Roots.{Feeds, RefusesFeed, Seals};
 ghost use Rattle.chip_net.specs.declared.poll.FeedFault.{FeedFault};
+ghost use Rattle.chip_graph.specs.Limits.{standard};
 ghost use Rattle.chip_command.specs.Inputs.{MeansGame};
 ghost use Rattle.chip_command.specs.Reports.{Reports};
 ghost use Rattle.chip_command.specs.declared.fault.Fault.TheVariants.{NoEdge};
@@ -139,7 +140,7 @@ pub fn report_by_threads<R: Threads + Wait + Sync>(
     limit: u64,
     workers: u64,
 ) -> Result<Written, Fault>
-    ensures { IfOk result (λ written. (g : ChipGame) × MeansGame graph.now chips.now limit g
+    ensures { IfOk result (λ written. (g : ChipGame) × MeansGame standard graph.now chips.now limit g
         × Reports g written.report.items written.status) }
 {
     let (mut graph, mut chips) = (graph, chips);

@@ -1,4 +1,5 @@
 use Rattle.std.proofs.Common.{◌∙◌, ℕ, ap, List, Option, option_map, inl, inr, refl, sym, subst}
+use Rattle.chip_graph.specs.Limits.{standard}
 use Rattle.chip_graph.specs.Multigraph.{Multigraph}
 use Rattle.chip_crew.specs.declared.plan.Plan.{Plan}
 use Rattle.chip_command.specs.Inputs.{RefusesInputs}
@@ -15,7 +16,7 @@ pub returns-in_err-game : goal.returns-in_err-game
 returns-in_err-game g c = λ graph_text graph_is chips_text chips_is. for_each_text _ _ (λ feed_text.
     refused_run c.args.options.sharing graph_text chips_text feed_text c.args.options.limit c.args.options.plan _ c.from_residual.result _
     c.from_residual.ensures.1
-    (λ fault is. inl (subst (RefusesInputs graph_text chips_text c.args.options.limit) (sym is)
+    (λ fault is. inl (subst (RefusesInputs standard graph_text chips_text c.args.options.limit) (sym is)
     (c.in_err-game.ensures graph_text graph_is chips_text chips_is))))
 
 pub returns-in_err-feeds : goal.returns-in_err-feeds

@@ -1,9 +1,9 @@
 //! The arguments of the program, and what they ask for.
 
 use crate::commands::{
-    BOOKS, CHIPS, CommandRow, DEALT, FAULT_NUMBER, FED, FEED, GRAPH, LIMIT, Operand, OperandRow,
-    OptionRow, OptionValue, PROGRESS, REPORT, RING, ROUNDS, SCHEDULE, TRACE, TRACE_FILE,
-    TRACE_ROWS, TURNS, WORKERS, commands,
+    BOOKS, CHIPS, CommandRow, DEALT, FAULT_NUMBER, FED, FEED, GRAPH, LARGE, LIMIT, Operand,
+    OperandRow, OptionRow, OptionValue, PROGRESS, REPORT, RING, ROUNDS, SCHEDULE, TRACE,
+    TRACE_FILE, TRACE_ROWS, TURNS, WORKERS, commands,
 };
 use crate::fault::ArgumentsFault;
 use crate::help_texts as texts;
@@ -41,10 +41,20 @@ pub struct GameArguments<'a> {
     pub limit: u64,
 }
 
+/// A graph to look at that the arguments name.
+#[derive(Clone, Copy)]
+pub struct CheckArguments<'a> {
+    pub graph: FileArgument<'a>,
+    /// Whether the graph may be a large one.
+    pub large: bool,
+}
+
 /// A play on one thread that the arguments ask for.
 #[derive(Clone, Copy)]
 pub struct PlainArguments<'a> {
     pub game: GameArguments<'a>,
+    /// Whether the graph may be a large one.
+    pub large: bool,
     /// Whether it is told how the play goes on.
     pub progress: bool,
 }
@@ -94,18 +104,26 @@ pub struct ReplayArguments<'a> {
     pub trace: FileArgument<'a>,
 }
 
+/// A play to go on with that the arguments name.
+#[derive(Clone, Copy)]
+pub struct ResumeArguments<'a> {
+    /// Its start is a report.
+    pub game: GameArguments<'a>,
+    /// Whether the graph may be a large one.
+    pub large: bool,
+}
+
 /// What the arguments ask for.
 #[derive(Drop)]
 pub enum Request<'a> {
     /// The help or the version, to be printed.
     Help(String),
-    Check(FileArgument<'a>),
+    Check(CheckArguments<'a>),
     Plain(PlainArguments<'a>),
     Simulate(SimulationArguments<'a>),
     Run(RunArguments<'a>),
     Replay(ReplayArguments<'a>),
-    /// Its start is a report.
-    Resume(GameArguments<'a>),
+    Resume(ResumeArguments<'a>),
     /// The number of a fault, if one is named.
     Explain(Option<u64>),
 }
@@ -129,9 +147,13 @@ fn request_of<'a>(matches: &ArgMatches<'a>, arguments: &[String]) -> Option<Requ
     let (name, matches) = matches.subcommand()?;
     let found = Found { matches, arguments };
     match name {
-        "check" => Some(Request::Check(found.file(GRAPH.name)?)),
+        "check" => Some(Request::Check(CheckArguments {
+            graph: found.file(GRAPH.name)?,
+            large: matches.get_flag(LARGE.name),
+        })),
         "plain" => Some(Request::Plain(PlainArguments {
             game: found.game(CHIPS)?,
+            large: matches.get_flag(LARGE.name),
             progress: matches.get_flag(PROGRESS.name),
         })),
         "simulate" => Some(Request::Simulate(found.simulation()?)),
@@ -140,7 +162,10 @@ fn request_of<'a>(matches: &ArgMatches<'a>, arguments: &[String]) -> Option<Requ
             game: found.game(CHIPS)?,
             trace: found.file(TRACE_FILE.name)?,
         })),
-        "resume" => Some(Request::Resume(found.game(REPORT)?)),
+        "resume" => Some(Request::Resume(ResumeArguments {
+            game: found.game(REPORT)?,
+            large: matches.get_flag(LARGE.name),
+        })),
         "explain" => Some(Request::Explain(matches.get_one::<u64>(FAULT_NUMBER.name))),
         _ => None,
     }

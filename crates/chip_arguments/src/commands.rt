@@ -99,6 +99,12 @@ pub const LIMIT: &OptionRow = &OptionRow {
     },
 };
 
+pub const LARGE: &OptionRow = &OptionRow {
+    name: "large",
+    help: "Takes up to 2^20 vertices, 2^23 edges, and 2^28 bytes of a file",
+    takes: OptionValue::Nothing,
+};
+
 pub const RING: &OptionRow = &OptionRow {
     name: "ring",
     help: "How many cells the ring of an edge has, 1 to 64 [default: 1]",
@@ -190,7 +196,7 @@ const CHECK: &CommandRow = &CommandRow {
     about: "Shows a graph: each vertex with its out-degree and its distance to the sink",
     after_help: texts::CHECK,
     operands: &[GRAPH],
-    options: &[],
+    options: &[LARGE],
 };
 
 const PLAIN: &CommandRow = &CommandRow {
@@ -198,7 +204,7 @@ const PLAIN: &CommandRow = &CommandRow {
     about: "Plays a game on one thread and writes its report",
     after_help: texts::PLAIN,
     operands: &[GRAPH, CHIPS],
-    options: &[LIMIT, PROGRESS],
+    options: &[LIMIT, LARGE, PROGRESS],
 };
 
 const RUN: &CommandRow = &CommandRow {
@@ -232,7 +238,7 @@ const RESUME: &CommandRow = &CommandRow {
     about: "Goes on from where a report says that a play stopped, and writes the report of this sitting",
     after_help: texts::RESUME,
     operands: &[GRAPH, REPORT],
-    options: &[LIMIT],
+    options: &[LIMIT, LARGE],
 };
 
 const EXPLAIN: &CommandRow = &CommandRow {

@@ -5,8 +5,8 @@
 #![tactic(auto)]
 
 pub use arguments::{
-    FileArgument, GameArguments, PlainArguments, ReplayArguments, Request, RunArguments,
-    SimulationArguments, parse,
+    CheckArguments, FileArgument, GameArguments, PlainArguments, ReplayArguments, Request,
+    ResumeArguments, RunArguments, SimulationArguments, parse,
 };
 pub use fault::ArgumentsFault;
 

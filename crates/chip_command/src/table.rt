@@ -96,7 +96,7 @@ pub static VERTICES: Explanation = Explanation {
     meaning: "the graph has no vertices, or more than 4096",
     advice: "\
 \"vertices\" of the graph file says how many there are, 1 to 4096; they are the numbers
-from 0 on.
+from 0 on. With `--large`, `check`, `plain` and `resume` take up to 1048576.
 ",
 };
 
@@ -116,7 +116,8 @@ pub static EDGE_COUNT: Explanation = Explanation {
     meaning: "the graph has more than 65536 edges",
     advice: "\
 Rows that join the same two vertices can be one row, whose third number is the sum of
-theirs: the same game is played on it.
+theirs: the same game is played on it. With `--large`, `check`, `plain` and `resume` take
+up to 8388608 edges.
 ",
 };
 
@@ -316,7 +317,8 @@ pub static TOO_LONG: Explanation = Explanation {
     meaning: "a file has more than 16777216 bytes",
     advice: "\
 That is 16 MiB, for each file. A graph of the greatest size is well below it if it is
-written without spaces.
+written without spaces. With `--large`, `check`, `plain` and `resume` read up to
+268435456 bytes of each file, which is 256 MiB.
 ",
 };
 
@@ -387,7 +389,8 @@ pub static NOT_REPORT: Explanation = Explanation {
 A report is read only as chipfire writes it, to the byte and with the newline at its end:
 no space, no other order, no number changed so that the rest does not fit. Keep what a
 command wrote in a file, and name that file. Of what `simulate` writes the last line
-alone is the report.
+alone is the report. A report of more than 4096 vertices is read only by
+`resume --large`.
 ",
 };
 

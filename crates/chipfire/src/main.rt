@@ -7,16 +7,16 @@
 ghost use Rattle.std.specs.Prelude.{◌≡◌, None};
 
 use chip_arguments::{
-    ArgumentsFault, FileArgument, GameArguments, PlainArguments, ReplayArguments, Request,
-    RunArguments, SimulationArguments, limits, parse,
+    ArgumentsFault, CheckArguments, FileArgument, GameArguments, PlainArguments, ReplayArguments,
+    Request, ResumeArguments, RunArguments, SimulationArguments, limits, parse,
 };
 use chip_command::{Ended, Fault, Status, conclude, explanations};
 use chip_crew::{MAX_TRACE_ROWS, MAX_TURNS, MAX_WORKERS, Plan, Sharing};
 use chip_engine::{
-    SimulateOptions, check_engine, explain_engine, plain_engine, plain_engine_watched,
-    replay_engine, resume_engine, simulate_engine_with,
+    PlayOptions, SimulateOptions, check_engine_within, explain_engine, plain_engine,
+    plain_engine_with, replay_engine, resume_engine_with, simulate_engine_with,
 };
-use chip_graph::MAX_LIMIT;
+use chip_graph::{Limits, MAX_LIMIT};
 use chip_link::{MAX_RING, Ring};
 use chip_run::{RunOptions, run_engine_gated};
 use progress::{RoundProgress, TurnProgress};
@@ -96,14 +96,24 @@ fn serve<R: Files + Clock + Eprint + AllocGlobal + Threads + Wait + Sync, W: io:
 ) -> Result<Ended, Fault> {
     match request {
         Request::Help(text) => conclude(output, text.as_bytes(), Ended::of(Status::Done)),
-        Request::Check(graph) => check_engine(rt.alloc(), &mut open(rt, graph)?, output),
+        Request::Check(asked) => check(rt, asked, output),
         Request::Plain(asked) => play(rt, asked, output),
         Request::Simulate(asked) => simulate(rt, asked, output),
         Request::Run(asked) => play_on_threads(rt, asked, output),
         Request::Replay(asked) => replay(rt, asked, output),
-        Request::Resume(sitting) => resume(rt, sitting, output),
+        Request::Resume(asked) => resume(rt, asked, output),
         Request::Explain(number) => explain_engine(rt.alloc(), &explanations(), *number, output),
     }
+}
+
+/// Looks whether a graph is one.
+fn check<R: Files + AllocGlobal, W: io::Write>(
+    rt: &R,
+    asked: &CheckArguments<'_>,
+    output: &mut W,
+) -> Result<Ended, Fault> {
+    let mut graph = open(rt, &asked.graph)?;
+    check_engine_within(rt.alloc(), limits_of(asked.large), &mut graph, output)
 }
 
 /// Plays a game on one thread.
@@ -113,11 +123,11 @@ fn play<R: Files + Clock + Eprint + AllocGlobal, W: io::Write>(
     output: &mut W,
 ) -> Result<Ended, Fault> {
     let (mut graph, mut chips) = open_game(rt, &asked.game)?;
-    plain_engine_watched(
+    plain_engine_with(
         rt.alloc(),
         &mut graph,
         &mut chips,
-        asked.game.limit,
+        play_options(&asked.game, asked.large),
         &mut RoundProgress::start(rt, asked.progress),
         output,
     )
@@ -229,11 +239,29 @@ fn replay<R: Files + AllocGlobal, W: io::Write>(
 /// Goes on with a play.
 fn resume<R: Files + AllocGlobal, W: io::Write>(
     rt: &R,
-    sitting: &GameArguments<'_>,
+    asked: &ResumeArguments<'_>,
     output: &mut W,
 ) -> Result<Ended, Fault> {
-    let (mut graph, mut report) = open_game(rt, sitting)?;
-    resume_engine(rt.alloc(), &mut graph, &mut report, sitting.limit, output)
+    let (mut graph, mut report) = open_game(rt, &asked.game)?;
+    let options = play_options(&asked.game, asked.large);
+    resume_engine_with(rt.alloc(), &mut graph, &mut report, options, output)
+}
+
+/// How a game is played on one thread.
+fn play_options(game: &GameArguments<'_>, large: bool) -> PlayOptions {
+    PlayOptions {
+        limits: limits_of(large),
+        limit: game.limit,
+    }
+}
+
+/// How large a graph may be, and the files of its game.
+fn limits_of(large: bool) -> Limits {
+    if large {
+        Limits::large()
+    } else {
+        Limits::standard()
+    }
 }
 
 /// Opens the graph of a game, and then what the game starts with.

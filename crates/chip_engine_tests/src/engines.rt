@@ -2,11 +2,12 @@
 
 use chip_command::{Ended, Fault};
 use chip_engine::{
-    check_engine, plain_engine, plain_engine_watched, replay_engine, resume_engine, simulate_engine,
+    PlayOptions, check_engine, check_engine_within, plain_engine, plain_engine_with, replay_engine,
+    resume_engine, resume_engine_with, simulate_engine,
 };
 use chip_file::{FileFault, read_graph, read_trace};
 use chip_fire::{ResumeFault, Watch};
-use chip_graph::{Game, GameFault, GraphFault};
+use chip_graph::{Game, GameFault, GraphFault, Limits};
 use chip_link::{Ring, TraceRow};
 use chip_report::WriteFault;
 use chip_trace::write_trace;
@@ -138,11 +139,15 @@ impl Watch for Heard {
 fn tells_its_watcher(rt: HostRuntime) {
     let mut heard = Heard { fired: [0; 3] };
     let mut output = Vec::new(rt.alloc());
-    let ended = plain_engine_watched(
+    let options = PlayOptions {
+        limits: Limits::large(),
+        limit: NO_LIMIT,
+    };
+    let ended = plain_engine_with(
         rt.alloc(),
         &mut TRIANGLE.as_bytes(),
         &mut "vertex,chips\n0,4\n".as_bytes(),
-        NO_LIMIT,
+        options,
         &mut heard,
         &mut output,
     );
@@ -412,6 +417,27 @@ fn resumed(
     );
     assert!(rt; output.as_slice() == text.as_bytes(), "{report}");
     ended
+}
+
+/// What `check` and `resume` answer at the triangle by limits of so many vertices.
+fn answers_within(rt: &impl AllocGlobal, vertices: u64) -> Option<(Option<Fault>, Option<Fault>)> {
+    let options = PlayOptions {
+        limits: Limits::new(vertices, 4, 1_000)?,
+        limit: NO_LIMIT,
+    };
+    let (mut lines, mut report) = (Vec::new(rt.alloc()), Vec::new(rt.alloc()));
+    let graph = &mut TRIANGLE.as_bytes();
+    let checked = check_engine_within(rt.alloc(), options.limits, graph, &mut lines);
+    let (graph, earlier) = (&mut TRIANGLE.as_bytes(), &mut STOPPED.as_bytes());
+    let resumed = resume_engine_with(rt.alloc(), graph, earlier, options, &mut report);
+    Some((checked.err(), resumed.err()))
+}
+
+#[test]
+fn asks_for_the_limits(rt: HostRuntime) {
+    let vertices = Fault::File(FileFault::Graph(GraphFault::Vertices));
+    assert!(rt; answers_within(&rt, 3) == Some((None, None)));
+    assert!(rt; answers_within(&rt, 2) == Some((Some(vertices), Some(vertices))));
 }
 
 #[test]

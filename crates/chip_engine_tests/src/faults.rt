@@ -97,9 +97,9 @@ fn prints_each_line_of_a_graph(rt: HostRuntime) {
 
 /// What `chip_graph` says of a graph.
 const GRAPH_TEXTS: &[&(GraphFault, &str)] = &[
-    &(GraphFault::Vertices, "there must be 1 to 4096 vertices"),
+    &(GraphFault::Vertices, "there are no vertices, or too many"),
     &(GraphFault::Sink, "the sink is no vertex"),
-    &(GraphFault::EdgeCount, "there are more than 65536 edges"),
+    &(GraphFault::EdgeCount, "there are too many edges"),
     &(
         GraphFault::Endpoint(1),
         "edge 1 has an end that is no vertex",
@@ -151,7 +151,7 @@ const FILE_TEXTS: &[&(FileFault, &str)] = &[
     &(FileFault::Kind(5), "row 5 has no such kind"),
     &(FileFault::Total, "there are more than 1099511627776 chips"),
     &(FileFault::Read, "a read failed"),
-    &(FileFault::TooLong, "there are more than 16777216 bytes"),
+    &(FileFault::TooLong, "there are more bytes than the limits allow"),
     &(FileFault::NoMemory, "out of memory"),
 ];
 

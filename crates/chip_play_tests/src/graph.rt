@@ -1,7 +1,7 @@
 //! Worked refusals and answers, with values from outside.
 
 use crate::games::{Rows, TRIANGLE, edges_of, game_of, triangle};
-use chip_graph::{AnyEdge, Edge, Game, GameFault, Graph, GraphFault};
+use chip_graph::{AnyEdge, Edge, Game, GameFault, Graph, GraphFault, Limits};
 use std::process::Abort;
 
 /// A vertex of the triangle: its number, its degree, its distance, and the edges out of it and into it.
@@ -261,6 +261,34 @@ fn takes_the_largest_graph(rt: HostRuntime) {
 fn refuses_one_edge_more(rt: HostRuntime) {
     let fault = Graph::new(rt.alloc(), 4_096, 0, long_row(&rt, 65_537)).err();
     assert!(rt; fault == Some(GraphFault::EdgeCount));
+}
+
+/// What is wrong with a row of so many vertices and edges by these limits, if something is.
+fn fault_of_row(
+    rt: &(impl AllocGlobal + Abort),
+    limits: Limits,
+    vertices: u64,
+    edges: u64,
+) -> Option<GraphFault> {
+    Graph::within(rt.alloc(), limits, vertices, 0, long_row(rt, edges)).err()
+}
+
+#[test]
+fn takes_a_large_graph(rt: HostRuntime) {
+    let large = Limits::large();
+    assert!(rt; fault_of_row(&rt, large, 4_096, 65_537) == None);
+    assert!(rt; fault_of_row(&rt, large, 4_097, 65_536) == Some(GraphFault::Unreached(4_096)));
+    assert!(rt; fault_of_row(&rt, large, (1 << 20) + 1, 65_536) == Some(GraphFault::Vertices));
+}
+
+#[test]
+fn limits_of_its_own(rt: HostRuntime) {
+    assert!(rt; Limits::new((1 << 20) + 1, 0, 0).is_none());
+    assert!(rt; Limits::new(0, (1 << 23) + 1, 0).is_none());
+    assert!(rt; Limits::new(0, 0, (1 << 28) + 1).is_none());
+    let limits = Limits::new(4_096, 20, 30).expect(&rt, "limits");
+    assert!(rt; limits.vertices() == 4_096 && limits.edges() == 20 && limits.bytes() == 30);
+    assert!(rt; fault_of_row(&rt, limits, 4_096, 21) == Some(GraphFault::EdgeCount));
 }
 
 /// The largest graph with 2^28 chips on each vertex.

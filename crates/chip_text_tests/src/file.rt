@@ -1,12 +1,16 @@
 //! Worked files, with values from outside, and readers that are slow or fail.
 
 use chip_file::{
-    FileFault, LastRead, MAX_BYTES, Source, read_chips, read_graph, read_source, read_whole,
+    FileFault, LastRead, Source, read_chips, read_chips_within, read_graph, read_graph_within,
+    read_source, read_whole, read_whole_within,
 };
-use chip_graph::{Edge, Graph, GraphFault};
+use chip_graph::{Edge, Graph, GraphFault, Limits};
 use std::alloc::{AllocError, Global};
 use std::io;
 use std::io::{ErrorKind, Read};
+
+/// The most bytes of an input by the standard limits.
+pub(crate) const MAX_BYTES: usize = 16_777_216;
 
 /// The triangle: its root edges are 4, 5 and 6.
 pub(crate) const TRIANGLE: &str =
@@ -291,7 +295,7 @@ fn a_source_tells_the_reads_to_the_end(rt: HostRuntime) {
     let mut slow = Slow::new(b"abc", None);
     let mut source = Source::new(&mut slow);
     assert!(rt; source.reads() == 0 && source.last_read() == LastRead::NotYet);
-    let read = read_source(rt.alloc(), &mut source).expect(&rt, "a whole read");
+    let read = read_source(rt.alloc(), Limits::standard(), &mut source).expect(&rt, "a whole read");
     assert!(rt; read.as_slice() == b"abc".as_slice());
     assert!(rt; source.reads() == 4 && source.last_read() == LastRead::End);
     assert!(rt; slow.reads == 4);
@@ -301,7 +305,7 @@ fn a_source_tells_the_reads_to_the_end(rt: HostRuntime) {
 fn a_source_tells_the_reads_to_a_failed_one(rt: HostRuntime) {
     let mut slow = Slow::new(b"abc", Some(2));
     let mut source = Source::new(&mut slow);
-    let found = read_source(rt.alloc(), &mut source).err();
+    let found = read_source(rt.alloc(), Limits::standard(), &mut source).err();
     assert!(rt; found == Some(FileFault::Read));
     assert!(rt; source.reads() == 3 && source.last_read() == LastRead::Failure);
     assert!(rt; slow.reads == 3);
@@ -412,4 +416,51 @@ fn reads_chips_of_every_vertex(rt: HostRuntime) {
     let text = largest_chips(rt.alloc()).expect(&rt, "memory");
     let chips = read_largest_chips(rt.alloc(), &text).expect(&rt, "chips");
     assert!(rt; are_largest_chips(&chips));
+}
+
+/// Limits that the triangle's text just meets, but for as many vertices, edges and bytes fewer.
+fn limits_less(vertices: u64, edges: u64, bytes: u64) -> Option<Limits> {
+    let length = TRIANGLE.len() as u64;
+    Limits::new(
+        3u64.saturating_sub(vertices),
+        4u64.saturating_sub(edges),
+        length.saturating_sub(bytes),
+    )
+}
+
+/// What is wrong with the triangle's text by such limits, if something is.
+fn fault_within(alloc: Global, vertices: u64, edges: u64, bytes: u64) -> Option<FileFault> {
+    let limits = limits_less(vertices, edges, bytes)?;
+    read_graph_within(alloc, limits, &mut TRIANGLE.as_bytes()).err()
+}
+
+#[test]
+fn each_limit_is_met(rt: HostRuntime) {
+    let alloc = rt.alloc();
+    assert!(rt; limits_less(0, 0, 0).is_some() && fault_within(alloc, 0, 0, 0) == None);
+    let vertices = fault_within(alloc, 1, 0, 0);
+    assert!(rt; vertices == Some(FileFault::Graph(GraphFault::Vertices)));
+    let edges = fault_within(alloc, 0, 1, 0);
+    assert!(rt; edges == Some(FileFault::Graph(GraphFault::EdgeCount)));
+    assert!(rt; fault_within(alloc, 0, 0, 1) == Some(FileFault::TooLong));
+}
+
+/// What is wrong with chips within so many bytes, if something is.
+fn fault_of_chips_within(alloc: Global, bytes: u64) -> Option<FileFault> {
+    let limits = Limits::new(3, 4, bytes)?;
+    read_chips_within(alloc, limits, &mut "vertex,chips\n0,4\n".as_bytes(), 3).err()
+}
+
+#[test]
+fn chips_meet_their_limit(rt: HostRuntime) {
+    assert!(rt; fault_of_chips_within(rt.alloc(), 17) == None);
+    assert!(rt; fault_of_chips_within(rt.alloc(), 16) == Some(FileFault::TooLong));
+}
+
+#[test]
+fn an_input_past_the_standard_limit(rt: HostRuntime) {
+    let spaces = spaces(rt.alloc(), MAX_BYTES + 1).expect(&rt, "memory");
+    let read = read_whole_within(rt.alloc(), Limits::large(), &mut spaces.as_slice());
+    let read = read.expect(&rt, "a whole read");
+    assert!(rt; read.len() == MAX_BYTES + 1);
 }

@@ -2,7 +2,10 @@
 
 use crate::writers::Faulty;
 use chip_report::report::report;
-use chip_report::{ReportFault, WriteFault, read_report, write_all_of};
+use chip_graph::Limits;
+use chip_report::{
+    ReportFault, WriteFault, read_any_within, read_report, read_report_within, write_all_of,
+};
 use chip_sequence::Outcome;
 use std::alloc::{AllocError, Global};
 use std::process::Abort;
@@ -275,6 +278,11 @@ fn the_widest_report(rt: HostRuntime) {
 fn a_report_of_one_vertex_too_many(rt: HostRuntime) {
     let wider = wide(rt.alloc(), 4_097, "0").expect(&rt, "memory");
     assert!(rt; is_refused(&rt, wider.as_bytes()));
+    let read = read_report_within(rt.alloc(), Limits::large(), wider.as_bytes());
+    let read = read.expect(&rt, "a report");
+    assert!(rt; read.fired.len() == 4_097);
+    let sitting = read_any_within(rt.alloc(), Limits::large(), wider.as_bytes());
+    assert!(rt; sitting.expect(&rt, "a sitting").prior.len() == 4_097);
 }
 
 /// Writes bytes to a writer that fails at this write, or takes none there, and maybe from there on. What is written

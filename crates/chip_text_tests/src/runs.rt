@@ -1,7 +1,7 @@
 //! Worked schedules and recorded runs of the triangle, with values from outside.
 
-use crate::file::{Slow, spaces, triangle};
-use chip_file::{FileFault, MAX_BYTES, read_schedule, read_trace};
+use crate::file::{MAX_BYTES, Slow, spaces, triangle};
+use chip_file::{FileFault, read_schedule, read_trace};
 use chip_link::{Event, TraceRow};
 use std::alloc::Global;
 use std::io::Read;

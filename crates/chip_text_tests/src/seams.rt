@@ -1,8 +1,8 @@
 //! Rows that come in pieces: whatever a read gives, and wherever a piece ends, the rows are those of the whole text.
 
-use crate::file::Slow;
+use crate::file::{MAX_BYTES, Slow};
 use crate::runs::{events_of, read_events};
-use chip_file::{FileFault, MAX_BYTES};
+use chip_file::FileFault;
 use chip_link::Event;
 use std::alloc::{AllocError, Global};
 use std::io;

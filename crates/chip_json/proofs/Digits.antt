@@ -1,12 +1,14 @@
 -- Serves GraphFile.antt.
 -- A number of digits alone is the integer that they spell.
-use Rattle.std.proofs.Common.{◌≡◌, ℕ, ◌^◌, ◌<◌, List, [], ◌∷◌, ◌++◌, length, get_or, false, Some, Result, Ok, Err}
+use Rattle.std.proofs.Common.{◌≡◌, ℕ, ◌+◌, ◌^◌, ◌<◌, ◌≤◌, List, [], ◌∷◌, ◌++◌, length, take, get_or, false, Some}
 use Rattle.std.proofs.Common.{refl, sym, ap, ◌∙◌, arith, append-nil, lt-ltb, ne_eqb}
+use Rattle.std.proofs.Math.Nat.{pow-le-pow_right}
+use Rattle.std.proofs.lemmas.List.{length-take, take_all}
+use Rattle.std.proofs.lemmas.Int.Digits.{digits_value-lt}
+use Rattle.std.proofs.lemmas.Str.{digit_value_digit}
+use Rattle.std.proofs.lemmas.Str.Parse.{digit_from_value}
 use Rattle.std.specs.Char.{digit_value}
-use Rattle.std.specs.Prelude.{IfSome}
-use Rattle.std.specs.Result.{result_ok}
-use Rattle.std.specs.Str.Parse.{AllDigits, digits_value, without_leading_plus, ParsesUnsigned}
-use Rattle.std.proofs.lemmas.Str.Parse.{without_leading_plus_none}
+use Rattle.std.specs.Str.Parse.{AllDigits, digits_value}
 use Rattle.fast_float.specs.Text.{Parts, digits_of, IsWellFormed}
 use Rattle.fast_float.proofs.Writing.{scan-text_of}
 use Rattle.serde_json.specs.Data.{unsigned}
@@ -48,11 +50,27 @@ number_of-digits ds h some fits =
     let fewer : digits_of (digits ds) < 2 ^ 64 = rw same fits in
     ap number_of (sym (append-nil ds)) ∙ with_nothing ds h some ∙ rw (lt-ltb _ _ some, lt-ltb _ _ fewer, same) refl
 
--- what `parse` gives of a text that does not begin with a plus
-pub integer_read : {E : Type 0} (text : List ℕ) (r : Result ℕ E) → (get_or text 0 0 ≡ 43 → ⊥)
-    → ParsesUnsigned 64 10 text r → IfSome (result_ok r) (λ n. number_of text ≡ Some (unsigned n))
-integer_read text (Err e) other h = tt
-integer_read text (Ok n) other h =
-    let plain : without_leading_plus text ≡ text = without_leading_plus_none text other in
-    let all = rw plain at h in
-    number_of-digits text all.0.0.1 all.0.0.0 all.0.1 ∙ ap (λ m. Some (unsigned m)) (sym all.1)
+-- what up to 18 digits write leaves room for one more
+pub value_fits : (bytes : List ℕ) (i value : ℕ) → AllDigits 10 (take i bytes) → value ≡ digits_value 10 (take i bytes)
+    → i < 19 → value < 10 ^ 18
+value_fits bytes i value digits is few =
+    let below = digits_value-lt 10 (take i bytes) digits in
+    let short = length-take i bytes in
+    let least = pow-le-pow_right {n = 10} (omega arith) {i = length (take i bytes)} {j = 18} (omega arith) in
+    omega arith
+
+-- what a digit writes, by its byte
+pub digit_is : (byte : ℕ) → digit_value byte < 10 → (digit_value byte + 48 ≡ byte) × (digit_value byte < 10)
+digit_is byte small = (digit_value_digit byte (digit_from_value byte small), small)
+
+-- what few digits write, all of them read
+pub integer_read : (text bytes : List ℕ) (i value : ℕ) → bytes ≡ text → 0 < length bytes → length bytes ≤ 19
+    → length bytes ≤ i → AllDigits 10 (take i bytes) → value ≡ digits_value 10 (take i bytes)
+    → number_of text ≡ Some (unsigned value)
+integer_read text bytes i value same some few over digits is =
+    let all : take i bytes ≡ bytes = take_all i bytes over in
+    let written = rw all at digits in
+    let below = digits_value-lt 10 bytes written in
+    let least = pow-le-pow_right {n = 10} (omega arith) {i = length bytes} {j = 19} few in
+    ap number_of (sym same) ∙ number_of-digits bytes written some (omega arith)
+    ∙ ap (λ m. Some (unsigned m)) (sym (is ∙ ap (digits_value 10) all))

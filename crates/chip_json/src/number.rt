@@ -9,6 +9,9 @@ ghost use Rattle.serde_json.specs.Read.{float_of, number_from, number_of};
 use fast_float::Numeral;
 use serde_json::Number;
 
+/// So many digits write a number that fits into 64 bits.
+const FEW_DIGITS: usize = 19;
+
 /// The number that a token writes, unless it is too large for a float.
 pub(crate) fn number_of(text: &str) -> Option<Number>
     ensures { option_map number_view result ≡ number_of text.now }
@@ -19,19 +22,26 @@ pub(crate) fn number_of(text: &str) -> Option<Number>
     }
 }
 
-/// The integer that digits alone write, where it fits into 64 bits. Nearly all numbers are such, and `parse` is quick.
-fn integer(text: &str) -> Option<u64>
+/// The integer that digits alone write, where they are few. Nearly all numbers are such, and this is quick.
+pub(crate) fn integer(text: &str) -> Option<u64>
     ensures { IfSome result (λ n. number_of text.now ≡ Some (unsigned n)) }
 {
     let bytes = text.as_bytes();
-    if bytes.is_empty() || bytes[0] == b'+' {
+    if bytes.is_empty() || bytes.len() > FEW_DIGITS {
         return None;
     }
-    text.parse().ok()
+    let mut value = 0;
+    for byte in bytes {
+        if !byte.is_ascii_digit() {
+            return None;
+        }
+        value = 10 * value + u64::from(*byte - b'0');
+    }
+    Some(value)
 }
 
 /// The number that any token writes.
-fn scanned(text: &str) -> Option<Number>
+pub(crate) fn scanned(text: &str) -> Option<Number>
     ensures { option_map number_view result ≡ number_of text.now }
 {
     let bytes = text.as_bytes();

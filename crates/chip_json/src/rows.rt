@@ -7,7 +7,7 @@ ghost use Rattle.chip_json.specs.Rows.{and_number, edge_in, Keeps, MayRead, MayR
 ghost use Rattle.chip_json.specs.declared.fault.JsonFault.TheVariants.{NoMemory};
 
 use crate::fault::JsonFault;
-use crate::number::number_of;
+use crate::number::{integer, scanned};
 use crate::passing::{NotJson, pass_rest};
 use chip_graph::Edge;
 use json::{Reader, Token};
@@ -54,7 +54,10 @@ pub(crate) fn number(reader: &mut Reader<'_>, depth: usize) -> Result<Option<u64
 {
     let token = reader.next().ok_or(NotJson)?;
     if let Token::Number(text) = token {
-        return match number_of(text) {
+        if let Some(count) = integer(text) {
+            return Ok(Some(count));
+        }
+        return match scanned(text) {
             Some(number) => Ok(number.as_u64()),
             None => Err(NotJson),
         };

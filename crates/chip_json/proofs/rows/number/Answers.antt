@@ -1,8 +1,8 @@
-use Rattle.std.proofs.Common.{◌≡◌, [], ◌∷◌, None, ap, ◌∙◌, sym, arith}
+use Rattle.std.proofs.Common.{◌≡◌, [], ◌∷◌, None, refl, ap, ◌∙◌, sym, arith}
 use Rattle.std.specs.Prelude.{option_and_then}
 use Rattle.json.specs.Reads.{token_of}
 use Rattle.json.specs.Token.{Token}
-use Rattle.serde_json.specs.Data.{number}
+use Rattle.serde_json.specs.Data.{number, unsigned}
 use Rattle.serde_json.specs.Find.{as_u64}
 use Rattle.serde_json.specs.View.{number_view}
 use Rattle.chip_json.specs.Values.{next_value}
@@ -21,8 +21,18 @@ returns-in-Some-clause-value c =
     let first : c.args.reader.now ≡ token_of c.in_ok-token.token ∷ c.next.new.self = grind arith in
     let is : c.args.reader.now ≡ Token.number c.in-Number.text.now ∷ c.next.new.self = first
     ∙ ap (λ k. token_of k ∷ c.next.new.self) c.in-Number.is in (
-      number (number_view c.in-Some.number),
-      rw is (number_read c.args.depth c.next.new.self _ _ c.in-Some.ensures),
+      number (unsigned c.in-Some.count),
+      rw is (number_read c.args.depth c.next.new.self _ _ (sym c.in-Some.ensures)),
+      refl,
+    )
+
+pub returns-in-Some-scanned-clause-value : goal.returns-in-Some-scanned-clause-value
+returns-in-Some-scanned-clause-value c =
+    let first : c.args.reader.now ≡ token_of c.in_ok-token.token ∷ c.next.new.self = grind arith in
+    let is : c.args.reader.now ≡ Token.number c.in-Number.text.now ∷ c.next.new.self = first
+    ∙ ap (λ k. token_of k ∷ c.next.new.self) c.in-Number.is in (
+      number (number_view c.in-Some-scanned.number),
+      rw is (number_read c.args.depth c.next.new.self _ _ c.in-Some-scanned.ensures),
       sym c.as_u64.ensures,
     )
 

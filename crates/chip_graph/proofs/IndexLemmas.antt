@@ -1,12 +1,10 @@
 -- Serves Multigraph.antt, Faults.antt, Distances.antt.
 -- What a graph keeps beside its edges is what follows from them.
-use Rattle.std.proofs.Common.{◌≡◌, ℕ, zero, suc, ◌<◌, ◌⊎◌, List, [], ◌∷◌, length, map, get_or, Option, Some, None}
-use Rattle.std.proofs.Common.{Result, Ok, Err, slice_get, refl, sym, ap, ◌∙◌, subst, arith}
-use Rattle.std.specs.List.{All}
+use Rattle.std.proofs.Common.{◌≡◌, ℕ, ◌<◌, ◌⊎◌, List, length, map, get_or, Option, Some, None}
+use Rattle.std.proofs.Common.{Result, Ok, Err, sym, ap, ◌∙◌, subst, arith}
 use Rattle.std.specs.Result.{IsErrAnd}
 use Rattle.std.specs.Prelude.{IfErr}
 use Rattle.std.proofs.lemmas.List.{length-map, get_or-map}
-use Rattle.std.proofs.lemmas.Option.{slice_get_within, get_or_from_slice_get}
 use Rattle.chip_graph.specs.declared.fault.GraphFault.{GraphFault}
 use Rattle.chip_graph.specs.declared.fault.GraphFault.TheVariants as graph_fault
 use Rattle.chip_graph.specs.Limits.{SizeLimits}
@@ -15,27 +13,6 @@ use Rattle.chip_graph.specs.declared.edge.Edge.{Edge}
 use Rattle.chip_graph.specs.Index.{IsIndex}
 use Rattle.chip_graph.specs.Faults.{fault_of_rows, IsGraphFault, NamesUnreached, MakesGraph}
 use Rattle.chip_graph.specs.Distances.{IsDistanceOf, AreDistances}
-
--- W is the type of the lists in the code, of which `items` gives the members
-module _ {W : Type 0} (items : W → List ℕ) where
-  -- a list that is there, by its place
-  pub listed : (lists : List W) (v : ℕ) (list : W) → slice_get lists v ≡ Some list
-      → (v < length lists) × (get_or (map items lists) v [] ≡ items list)
-  listed lists v list is =
-      let inside = slice_get_within lists v list is in
-      (inside, get_or-map items lists v list [] inside ∙ ap items (get_or_from_slice_get lists v list list is))
-
-  -- what is true of each list, by its members
-  pub all_listed : (P : List ℕ → Type 0) (lists : List W)
-      → ((v : ℕ) → v < length lists → P (get_or (map items lists) v [])) → All (λ list. P (items list)) lists
-  all_listed P lists each v list l = subst P (get_or-map items lists v list [] l) (each v l)
-
-  -- what is made of each list stands where the list stood
-  pub made_listed : {T : Type 0} (make : List ℕ → List T) (lists : List W) (v : ℕ) → v < length lists
-      → get_or (map (λ list. make (items list)) lists) v [] ≡ make (get_or (map items lists) v [])
-  made_listed make [] v l = absurd (omega arith)
-  made_listed make (list ∷ lists) zero l = refl
-  made_listed make (list ∷ lists) (suc v) l = made_listed make lists v (omega arith)
 
 -- a vertex that has a distance reaches the sink
 reaches : (G : Multigraph) (v : ℕ) (found : Option ℕ) (d : ℕ) → found ≡ Some d → IsDistanceOf G v found
@@ -92,8 +69,7 @@ refused limits G (Err e) fault is why =
     subst P (sym is) why
 
 -- what stands beside the edges of a graph stands beside the same edges elsewhere
-pub copied : (n s : ℕ) {es es' : List Edge} {ds ds' ts ts' : List ℕ} {os os' is is' : List (List ℕ)}
-    {ls ls' : List (List Edge)}
+pub copied : (n s : ℕ) {es es' : List Edge} {ds ds' ts ts' : List ℕ} {os os' is is' : List (List ℕ)} {ls ls' : List Edge}
     → es' ≡ es → ds' ≡ ds → ts' ≡ ts → os' ≡ os → is' ≡ is → ls' ≡ ls
     → IsIndex (record { vertices = n; sink = s; edges = es }) ds ts os is ls
     → IsIndex (record { vertices = n; sink = s; edges = es' }) ds' ts' os' is' ls'

@@ -1,6 +1,7 @@
 pub mod SumLemmas
 pub mod PackedListLemmas
 pub mod PickLemmas
+pub mod PlaceLemmas
 pub mod FaultLemmas
 pub mod IndexLemmas
 pub mod AnswerLemmas

@@ -1,11 +1,12 @@
-ghost use Rattle.std.specs.Prelude.{◌≡◌, ℕ, ◌<◌, ◌≤◌, [], length, replicate, IfOk, All, slice_get, vec_len};
-ghost use Rattle.std.specs.Option.{ForSome};
+ghost use Rattle.std.specs.Prelude.{◌≡◌, ℕ, ◌<◌, ◌≤◌, [], length, replicate, IfOk, All, vec_len};
 ghost use Rattle.chip_graph.specs.Limits.{max_vertices};
-ghost use Rattle.chip_graph.specs.Multigraph.{edges_in};
+ghost use Rattle.chip_graph.specs.Ends.{AreEdgesBy};
+ghost use Rattle.chip_graph.specs.declared.edge.End.TheVariants.{Head};
 ghost use Rattle.chip_graph.specs.Distances.{AreDistances};
 ghost use Rattle.chip_graph.specs.Found.{found, with_vertex, with_tails};
 
 use crate::edge::Edge;
+use crate::packed_lists::PackedLists;
 use std::alloc::{AllocError, Global};
 
 /// A vertex that a search has reached, and how far it is from the sink.
@@ -69,23 +70,23 @@ impl Search {
 /// `ins` has the edges into each vertex, ascending, by their numbers.
 pub(crate) fn distances(
     alloc: Global,
+    vertices: u64,
     sink: u64,
     edges: &[Edge],
-    ins: &[Vec<u64>],
+    ins: &PackedLists<u64>,
 ) -> Result<Vec<Option<u64>>, AllocError>
-    requires sink_is_vertex { sink < length ins.now }
-    requires few_vertices { length ins.now ≤ max_vertices }
-    requires tails_are_vertices { All (λ edge. edge.tail < length ins.now) edges.now }
-    requires ins { (v : ℕ) → ForSome (slice_get ins.now v) (λ list.
-        list.items ≡ edges_in (record { vertices = length ins.now; sink = sink; edges = edges.now }) v) }
+    requires sink_is_vertex { sink < vertices }
+    requires few_vertices { vertices ≤ max_vertices }
+    requires tails_are_vertices { All (λ edge. edge.tail < vertices) edges.now }
+    requires ins { AreEdgesBy Head edges.now vertices ins.now }
     ensures { IfOk result (λ distances.
-        AreDistances (record { vertices = length ins.now; sink = sink; edges = edges.now }) distances.items) }
+        AreDistances (record { vertices = vertices; sink = sink; edges = edges.now }) distances.items) }
 {
-    let mut search = Search::begin(alloc, ins.len(), sink)?;
+    let mut search = Search::begin(alloc, vertices as usize, sink)?;
     let mut next = 0;
     while next < search.reached.len() {
         let Reached { vertex, distance } = search.reached[next];
-        search.reach_tails(distance + 1, edges, &ins[vertex as usize])?;
+        search.reach_tails(distance + 1, edges, ins.list(vertex as usize))?;
         next += 1;
     }
     Ok(search.distances)

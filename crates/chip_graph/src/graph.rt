@@ -2,7 +2,7 @@ ghost use Rattle.std.specs.Prelude.{◌≡◌, ◌+◌, ◌<◌, ◌≤◌, ◌�
 ghost use Rattle.std.specs.Prelude.{slice_index, slice_index_or};
 ghost use Rattle.chip_graph.specs.Limits.{max_vertices, AreLimits};
 ghost use Rattle.chip_graph.specs.Multigraph.{IsDistance, IsEdge};
-ghost use Rattle.chip_graph.specs.Ends.{edge_of, edges_with};
+ghost use Rattle.chip_graph.specs.Ends.{edge_of, AreEdgesBy};
 ghost use Rattle.chip_graph.specs.declared.edge.End.TheVariants.{Head};
 ghost use Rattle.chip_graph.specs.Faults.{refusal, fault_of_edge, fault_of_rows, NamesUnreached};
 ghost use Rattle.chip_graph.specs.declared.fault.GraphFault.TheVariants.{NoMemory, Unreached};
@@ -51,8 +51,8 @@ struct Rows {
     outs: PackedLists<u64>,
     /// The edges into each vertex, ascending.
     ins: PackedLists<u64>,
-    /// The edges out of each vertex as they are, in the order of `outs`.
-    links: PackedLists<Edge>,
+    /// The edges as they are in the order of `outs`, unless that is their own.
+    links: Option<Vec<Edge>>,
 }
 
 impl Model for Rows {
@@ -85,7 +85,8 @@ impl Rows {
         let rows = edges.as_slice();
         check_rows(limits, vertices, sink, rows)?;
         let (ins, distances) = ins_and_distances(alloc, vertices, sink, rows)?;
-        let (outs, links) = index::outs_and_links(alloc, vertices, rows)?;
+        let outs = index::edges_by(alloc, vertices, rows, End::Tail)?;
+        let links = index::links_by(alloc, rows, outs.members())?;
         let degrees = index::degrees(alloc, vertices, rows)?;
         Ok(Rows {
             vertices,
@@ -121,7 +122,7 @@ impl Rows {
             distances: Vec::from_slice(alloc, distances)?,
             outs: outs.copy(alloc)?,
             ins: ins.copy(alloc)?,
-            links: links.copy(alloc)?,
+            links: index::copy_links(alloc, links)?,
         })
     }
 }
@@ -271,7 +272,11 @@ impl Graph {
         ensures { result.now ≡ map (edge_at self.now) (edges_out self.now vertex) }
     {
         let rows: &Rows = &self.rows;
-        rows.links.list(vertex as usize)
+        let links: &[Edge] = match &rows.links {
+            Some(links) => links,
+            None => &rows.edges,
+        };
+        rows.outs.beside(vertex as usize, links)
     }
 
     /// The least number of edges from this vertex to the sink; 0 at the sink.
@@ -334,9 +339,7 @@ fn ins_and_distances(
     requires few_vertices { vertices ≤ max_vertices }
     requires sink_is_vertex { sink < vertices }
     requires edges { (e : ℕ) → e < length edges.now → IsEdge vertices sink (edge_of edges.now e) }
-    ensures ins_each { IfOk result (λ r. length r.0 ≡ vertices) }
-    ensures ins { IfOk result (λ r. (v : ℕ) → v < vertices
-        → slice_index_or r.0 v [] ≡ edges_with Head edges.now v (length edges.now)) }
+    ensures ins { IfOk result (λ r. AreEdgesBy Head edges.now vertices r.0) }
     ensures distance_each { IfOk result (λ r. length r.1.items ≡ vertices) }
     ensures distances { IfOk result (λ r. (v : ℕ) → v < vertices
         → IsDistance (record { vertices = vertices; sink = sink; edges = edges.now }) v (slice_index r.1.items v)) }
@@ -344,9 +347,9 @@ fn ins_and_distances(
         ⊎ NamesUnreached (record { vertices = vertices; sink = sink; edges = edges.now }) fault) }
 {
     let ins = index::edges_by(alloc, vertices, edges, End::Head)?;
-    let found = distances(alloc, sink, edges, &ins)?;
+    let found = distances(alloc, vertices, sink, edges, &ins)?;
     let distances = all_reached(alloc, &found)?;
-    Ok((index::side_by_side(alloc, &ins)?, distances))
+    Ok((ins, distances))
 }
 
 /// The distances, or the least vertex that has none.

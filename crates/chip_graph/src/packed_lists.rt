@@ -1,5 +1,5 @@
-ghost use Rattle.std.specs.Prelude.{◌≡◌, ◌∷◌, ◌++◌, [], length, slice_index_or, IfOk, OnErr, ◌<◌, vec_len};
-ghost use Rattle.std.proofs.Common.{List};
+ghost use Rattle.std.specs.Prelude.{◌≡◌, [], length, map, slice_index_or, IfOk, ◌<◌};
+ghost use Rattle.chip_graph.specs.PackedLists.{flat, lists_of, AreStarts};
 
 use std::alloc::{AllocError, Global};
 use std::marker::Model;
@@ -7,6 +7,7 @@ use std::marker::Model;
 /// Lists that lie side by side in one vector, and are told apart by where they start.
 #[derive(Drop)]
 pub(crate) struct PackedLists<T> {
+    /// Where each list begins, and at last where all end.
     starts: Vec<usize>,
     members: Vec<T>,
 }
@@ -24,36 +25,39 @@ impl<T> Model for PackedLists<T> {
 }
 
 impl<T: Copy> PackedLists<T> {
-    /// No list yet.
-    pub(crate) fn new(alloc: Global) -> Result<Self, AllocError>
-        ensures { IfOk result (λ lists. lists ≡ []) }
+    /// The members, cut into lists at these starts.
+    pub(crate) fn new(starts: Vec<usize>, members: Vec<T>) -> Self
+        requires { AreStarts starts.items (length members.items) }
+        ensures { result ≡ lists_of starts.items members.items }
     {
-        let mut starts = Vec::new(alloc);
-        starts.push(0)?;
-        Ok(PackedLists {
-            starts,
-            members: Vec::new(alloc),
-        })
+        PackedLists { starts, members }
     }
 
-    /// One more list, behind the others.
-    pub(crate) fn push(&mut self, list: &[T]) -> Result<(), AllocError>
-        ensures { IfOk result (λ _. self.new ≡ self.old ++ list.now ∷ []) }
+    /// The members of all lists, one list behind the other.
+    pub(crate) fn members(&self) -> &[T]
+        ensures { result.now ≡ flat self.now }
     {
-        self.starts.reserve(1)?;
-        self.members.extend_from_slice(list)?;
-        self.starts.push_reserved(self.members.len());
-        Ok(())
+        &self.members
     }
 
     /// The list with this index.
     pub(crate) fn list(&self, i: usize) -> &[T]
         requires { i < length self.now }
-        ensures { result.now ≡ slice_index_or self.now i result.now }
+        ensures { result.now ≡ slice_index_or self.now i [] }
+    {
+        self.beside(i, self.members())
+    }
+
+    /// What stands beside the list with this index, where one thing stands beside each member.
+    pub(crate) fn beside<'a, U>(&self, i: usize, things: &'a [U]) -> &'a [U]
+        requires inside { i < length self.now }
+        requires one_each { length things.now ≡ length (flat self.now) }
+        ensures { (f : T → U) → things.now ≡ map f (flat self.now)
+            → result.now ≡ map f (slice_index_or self.now i []) }
     {
         let start = self.starts[i];
         let end = self.starts[i + 1];
-        &self.members[start..end]
+        &things[start..end]
     }
 
     /// The same lists once more.

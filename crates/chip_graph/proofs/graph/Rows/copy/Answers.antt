@@ -1,4 +1,5 @@
-use Rattle.std.proofs.Common.{◌∙◌}
+use Rattle.std.proofs.Common.{ap, ◌∙◌}
+use Rattle.chip_graph.specs.Index.{links_of}
 use Rattle.chip_graph.proofs.IndexLemmas.{copied}
 use Rattle.chip_graph.proofs.graph.Rows.copy.Goals as goal
 
@@ -8,4 +9,7 @@ invariant_of-result c =
     (c.in_ok-from_slice.ensures.items ∙ c.deref.ensures.value)
     (c.in_ok-from_slice-2.ensures.items ∙ c.deref-2.ensures.value)
     (c.in_ok-from_slice-3.ensures.items ∙ c.deref-3.ensures.value)
-    c.in_ok-copy.ensures c.in_ok-copy-2.ensures c.in_ok-copy-3.ensures c.self.invariant
+    c.in_ok-copy.ensures c.in_ok-copy-2.ensures
+    (c.in_ok-copy_links.ensures _
+    ∙ ap (links_of c.self.inside.links) (c.in_ok-from_slice.ensures.items ∙ c.deref.ensures.value))
+    c.self.invariant

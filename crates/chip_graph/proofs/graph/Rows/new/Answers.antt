@@ -1,7 +1,9 @@
-use Rattle.std.proofs.Common.{inl, inr, refl, ⊎_elim, arith}
+use Rattle.std.proofs.Common.{length, map, ap, inl, inr, refl, ⊎_elim, ◌∙◌, arith}
 use Rattle.chip_graph.specs.declared.edge.End.TheVariants.{Tail}
 use Rattle.chip_graph.specs.declared.fault.GraphFault.TheVariants.{NoMemory}
 use Rattle.chip_graph.specs.Multigraph.{Multigraph}
+use Rattle.chip_graph.specs.Ends.{edge_of}
+use Rattle.chip_graph.proofs.PickLemmas.{All-edges_by}
 use Rattle.chip_graph.proofs.FaultLemmas.{accepted, edges_end, rows_edge, rows_mults, rows_graph, rows_sink}
 use Rattle.chip_graph.proofs.FaultLemmas.{rows_vertices}
 use Rattle.chip_graph.proofs.IndexLemmas.{all_reach, refused}
@@ -34,8 +36,17 @@ ins_and_distances-requires-clause-edges c = rows_edge c.args.limits
     (record { vertices = c.args.vertices; sink = c.args.sink; edges = c.as_slice-rows.result.now })
     (accepted _ c.in_ok-check_rows.ensures.first)
 
-pub outs_and_links-requires : goal.outs_and_links-requires
-outs_and_links-requires c = edges_end _ (rows_edge c.args.limits _ (accepted _ c.in_ok-check_rows.ensures.first)) Tail
+pub edges_by-requires-clause-ends : goal.edges_by-requires-clause-ends
+edges_by-requires-clause-ends c =
+    edges_end _ (rows_edge c.args.limits _ (accepted _ c.in_ok-check_rows.ensures.first)) Tail
+
+pub links_by-requires-clause-numbers : goal.links_by-requires-clause-numbers
+links_by-requires-clause-numbers c =
+    rw c.members.ensures (All-edges_by Tail c.as_slice-rows.result.now c.args.vertices c.in_ok-outs.outs
+    c.in_ok-outs.ensures)
+
+pub links_by-requires-clause-one_each : goal.links_by-requires-clause-one_each
+links_by-requires-clause-one_each c = ap length c.members.ensures ∙ c.in_ok-outs.ensures.all
 
 pub degrees-requires-clause-tails : goal.degrees-requires-clause-tails
 degrees-requires-clause-tails c = edges_end _ (rows_edge c.args.limits _ (accepted _ c.in_ok-check_rows.ensures.first)) Tail
@@ -66,12 +77,11 @@ invariant_of-result c =
       degrees = c.in_ok-degrees.ensures.1;
       distance_each = ins.distance_each;
       distances = ins.distances;
-      outs_each = outs.outs_each;
-      outs = outs.outs;
-      ins_each = ins.ins_each;
-      ins = ins.ins;
-      links_each = outs.links_each;
-      links = outs.links;
+      outs_each = outs.one_each;
+      outs = outs.each;
+      ins_each = ins.ins.one_each;
+      ins = ins.ins.each;
+      linked = c.in_ok-links.ensures ∙ ap (map (edge_of c.as_slice-rows.result.now)) c.members.ensures;
     })
 
 pub returns-clause-makes : goal.returns-clause-makes

@@ -274,7 +274,7 @@ impl Graph {
         let rows: &Rows = &self.rows;
         let links: &[Edge] = match &rows.links {
             Some(links) => links,
-            None => &rows.edges,
+            None => self.edges(),
         };
         rows.outs.beside(vertex as usize, links)
     }

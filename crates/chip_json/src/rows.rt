@@ -48,6 +48,7 @@ impl Row {
 }
 
 /// The number that the next value is, if it is one.
+#[inline(always)]
 pub(crate) fn number(reader: &mut Reader<'_>, depth: usize) -> Result<Option<u64>, NotJson>
     ensures value { Reads depth reader.old reader.new (λ d n. number_of_value d ≡ n) result }
     ensures shorter { OnOk result (length reader.new < length reader.old) }

@@ -55,13 +55,18 @@ pub(crate) fn looks_at_all(graph: &Graph) -> u64 {
 /// Whether a play in which each vertex fires as often as the limit allows takes no more work than `few`,
 /// where so much was `done` for the firings so far.
 fn leaves_little(limit: u64, fired: &[u64], done: u64, few: u64) -> bool {
+    let mean = firings_of(fired) / (fired.len() as u64).max(1);
+    let product = |a: u64, b: u64| u128::from(a).wrapping_mul(u128::from(b));
+    product(done, limit) <= product(few, mean)
+}
+
+/// How often all vertices have fired, up to 2^64 - 1.
+pub(crate) fn firings_of(fired: &[u64]) -> u64 {
     let mut firings = 0u64;
     for times in fired {
         firings = firings.saturating_add(*times);
     }
-    let mean = firings / (fired.len() as u64).max(1);
-    let product = |a: u64, b: u64| u128::from(a).wrapping_mul(u128::from(b));
-    product(done, limit) <= product(few, mean)
+    firings
 }
 
 /// The chips that legal vertices have above what they may keep, up to 2^64 - 1.

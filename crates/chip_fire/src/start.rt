@@ -2,7 +2,7 @@ ghost use Rattle.std.specs.Prelude.{◌≡◌, length, IfOk, IfSome};
 ghost use Rattle.chip_fire.specs.Rounds.{IsBegun};
 
 use crate::certificate::certify;
-use crate::soon::{ends_by, ends_soon, looks_at_all};
+use crate::soon::{ends_by, ends_soon, firings_of, looks_at_all};
 use crate::watch::Watch;
 use chip_graph::Game;
 use chip_guess::{GuessedCounts, Search};
@@ -11,6 +11,9 @@ use std::alloc::{AllocError, Global};
 /// How far the search of counts may be ahead of the play, in looks at each vertex and each edge out:
 /// about what the reading of the graph took.
 const AHEAD: u64 = 160;
+
+/// The search may also be ahead by the looks that the rest of the play would take, divided by this number.
+const LEAD: u64 = 4;
 
 /// How long the search and the play go on in each of their turns, in such looks.
 const TURN: u64 = 16;
@@ -59,7 +62,8 @@ fn by_turns<W: Watch>(
 }
 
 /// Searches counts for the play from here on, while the play goes on: each has its turns, so that a search
-/// that takes long costs little more than the play. `None` where the play has ended first, or where memory
+/// that takes long costs little more than the play. Once it is known about how often all vertices fire, the
+/// search may be ahead by a part of what the play would take. `None` where the play has ended first, or where memory
 /// ran out, which ends the search alone.
 fn search_counts<W: Watch>(
     alloc: Global,
@@ -76,18 +80,35 @@ fn search_counts<W: Watch>(
     let start = Vec::from_slice(alloc, chips).ok()?;
     let most = most_firings(alloc, game.limit(), fired).ok()?;
     let mut search = Search::new(alloc, graph, &start, &most).ok()?;
+    let begun = firings_of(fired);
     let turn = looks_at_all(graph).saturating_mul(TURN);
-    let mut work = looks_at_all(graph).saturating_mul(AHEAD);
+    let ahead = looks_at_all(graph).saturating_mul(AHEAD);
+    let mut played = 0u64;
+    let mut searched = 0u64;
     'turns: for _ in 0..TURNS {
-        if search.go_on(alloc, work).ok()? {
+        let firings = firings_of(fired).saturating_sub(begun);
+        let lead = looks_of(search.firings(), played, firings) / LEAD;
+        let due = ahead.saturating_add(played).saturating_add(lead);
+        if search.go_on(alloc, due.saturating_sub(searched)).ok()? {
             break;
         }
+        searched = searched.max(due);
         if ends_by(game, turn, chips, fired, watch) {
             return None;
         }
-        work = turn;
+        played = played.saturating_add(turn);
     }
     search.found(alloc, &most).ok()
+}
+
+/// How many looks so many firings take, where others took so many: none while nothing has fired.
+fn looks_of(firings: u64, looks: u64, fired: u64) -> u64 {
+    let all = u128::from(looks).wrapping_mul(u128::from(firings));
+    match all.checked_div(u128::from(fired)) {
+        Some(few) if few <= u128::from(u64::MAX) => few as u64,
+        Some(_) => u64::MAX,
+        None => 0,
+    }
 }
 
 /// Counts that come near to those of the end, and their position, where they are certified; else those given,

@@ -33,14 +33,15 @@ pub(crate) fn cycle(levels: &mut [Level], stretch: Stretch) {
 
 /// Has each group begin with what is left at its members, and with the room that they all have.
 fn descend(fine: &mut Level, coarse: &mut Level) {
-    fine.find_rests();
     coarse.clear();
-    for (node, count) in fine.nodes.iter_mut().zip(&fine.counts) {
+    let counts = fine.counts.as_slice();
+    for (node, count) in fine.nodes.iter_mut().zip(counts) {
+        let rest = node.rest(&fine.links, counts, *count);
         node.count_before = *count;
-        node.rest_before = node.rest;
-        if let Some(group) = coarse.nodes.get_mut(node.group) {
+        node.rest_before = rest;
+        if let Some(group) = coarse.nodes.get_mut(node.group as usize) {
             group.wanted = within(
-                i128::from(group.wanted).wrapping_add(i128::from(node.rest)),
+                i128::from(group.wanted).wrapping_add(i128::from(rest)),
                 -BIG,
                 BIG,
             );
@@ -53,7 +54,7 @@ fn descend(fine: &mut Level, coarse: &mut Level) {
 /// Has each member fire with its group.
 fn ascend(fine: &mut Level, coarse: &Level) {
     for (node, count) in fine.nodes.iter().zip(&mut fine.counts) {
-        if let Some(more) = coarse.counts.get(node.group) {
+        if let Some(more) = coarse.counts.get(node.group as usize) {
             *count = count.wrapping_add(*more).max(node.low).min(node.high);
         }
     }
@@ -73,7 +74,6 @@ impl Level {
 
     /// Makes what the groups have moved greater or smaller by one factor.
     fn stretch(&mut self, stretch: Stretch) {
-        self.find_rests();
         if let Some(factor) = self.factor(stretch) {
             for (node, count) in self.nodes.iter().zip(&mut self.counts) {
                 let before = i128::from(node.count_before);
@@ -87,13 +87,15 @@ impl Level {
     fn factor(&self, stretch: Stretch) -> Option<i64> {
         let mut had = 0i128;
         let mut sent = 0i128;
-        for (node, count) in self.nodes.iter().zip(&self.counts) {
+        let counts = self.counts.as_slice();
+        for (node, count) in self.nodes.iter().zip(counts) {
             let weight = match stretch {
                 Stretch::Energy => i128::from(*count).wrapping_sub(i128::from(node.count_before)),
                 Stretch::Balance => 1 << 16,
             };
             let before = i128::from(node.rest_before);
-            let less = before.wrapping_sub(i128::from(node.rest));
+            let rest = node.rest(&self.links, counts, *count);
+            let less = before.wrapping_sub(i128::from(rest));
             had = had.wrapping_add(weight.wrapping_mul(before) >> 16);
             sent = sent.wrapping_add(weight.wrapping_mul(less) >> 16);
         }
@@ -103,13 +105,14 @@ impl Level {
     /// Makes all counts greater or smaller by one factor, so that what is left at the vertices that can
     /// move sums up to 0. On one-way graphs groups that fire together seldom find that amount.
     pub(crate) fn rescale(&mut self) {
-        self.find_rests();
         let mut wanted = 0i128;
         let mut sent = 0i128;
-        for (node, count) in self.nodes.iter().zip(&self.counts) {
-            if node.moves(*count) {
+        let counts = self.counts.as_slice();
+        for (node, count) in self.nodes.iter().zip(counts) {
+            let rest = node.rest(&self.links, counts, *count);
+            if node.moves(rest, *count) {
                 wanted = wanted.wrapping_add(i128::from(node.wanted));
-                sent = sent.wrapping_add(i128::from(node.wanted.wrapping_sub(node.rest)));
+                sent = sent.wrapping_add(i128::from(node.wanted.wrapping_sub(rest)));
             }
         }
         if let Some(factor) = ratio(wanted, sent) {

@@ -1,41 +1,40 @@
 ghost use Rattle.std.specs.Prelude.{◌≡◌, ◌<◌, length};
 
-use crate::number::{BIG, UNIT, firings, within};
+use crate::number::{BIG, UNIT, firings, narrow, within};
 use chip_graph::Graph;
 use std::alloc::{AllocError, Global};
 
 /// The group of a vertex that is in none, as the sink.
-pub(crate) const NO_GROUP: usize = usize::MAX;
+pub(crate) const NO_GROUP: u32 = u32::MAX;
 
 /// What comes into a vertex, for each firing of another one.
 #[derive(Clone, Copy)]
 pub(crate) struct Link {
-    pub(crate) tail: usize,
-    pub(crate) mult: i64,
+    pub(crate) tail: u32,
+    /// How many chips, up to 2^32 - 1.
+    pub(crate) mult: u32,
 }
 
 /// A vertex of a level.
 #[derive(Clone, Copy)]
 pub(crate) struct Node {
     /// Where its links begin in the level's.
-    pub(crate) first: usize,
+    pub(crate) first: u32,
     /// Where they end.
-    pub(crate) end: usize,
+    pub(crate) end: u32,
+    /// Its group, a vertex of the next level.
+    pub(crate) group: u32,
     /// What one firing sends away; 0 for the sink.
     pub(crate) degree: i64,
     /// `UNIT` by the degree; 0 for the sink.
     pub(crate) weight: i64,
-    /// Its group, a vertex of the next level.
-    pub(crate) group: usize,
     /// What it is to send away more than it gets, by the counts of this level.
     pub(crate) wanted: i64,
     /// The least count that it may have.
     pub(crate) low: i64,
     /// The greatest one.
     pub(crate) high: i64,
-    /// What the counts leave of `wanted`: too much, or too little where it is negative.
-    pub(crate) rest: i64,
-    /// The same before the groups moved.
+    /// What the counts left of `wanted` before the groups moved: too much, or too little where it is negative.
     pub(crate) rest_before: i64,
     /// Its count before the groups moved.
     pub(crate) count_before: i64,
@@ -62,20 +61,27 @@ pub(crate) enum Order {
     Down,
 }
 
+impl Link {
+    /// How many chips come in.
+    #[inline]
+    pub(crate) fn chips(&self) -> i64 {
+        i64::from(self.mult)
+    }
+}
+
 impl Node {
     /// A vertex with the links between these numbers.
-    pub(crate) fn new(first: usize, end: usize, degree: i64) -> Node {
+    pub(crate) fn new(first: u32, end: u32, degree: i64) -> Node {
         let weight = if degree > 0 { UNIT / degree } else { 0 };
         Node {
             first,
             end,
+            group: NO_GROUP,
             degree,
             weight,
-            group: NO_GROUP,
             wanted: 0,
             low: 0,
             high: 0,
-            rest: 0,
             rest_before: 0,
             count_before: 0,
         }
@@ -87,8 +93,8 @@ impl Node {
     }
 
     /// Whether what is left of it can move its count.
-    pub(crate) fn moves(&self, own: i64) -> bool {
-        if self.rest > 0 {
+    pub(crate) fn moves(&self, rest: i64, own: i64) -> bool {
+        if rest > 0 {
             own < self.high
         } else {
             own > self.low
@@ -100,22 +106,34 @@ impl Node {
     fn left(&self, links: &[Link], counts: &[i64], own: i64) -> i64 {
         let mut left = self.wanted.wrapping_sub(self.degree.wrapping_mul(own));
         for link in links_of(self, links) {
-            left = left.wrapping_add(link.mult.wrapping_mul(count_at(counts, link.tail)));
+            left = left.wrapping_add(link.chips().wrapping_mul(count_at(counts, link.tail)));
         }
         left
+    }
+
+    /// The same where it has edges out, too much or, where it is negative, too little.
+    #[inline]
+    pub(crate) fn rest(&self, links: &[Link], counts: &[i64], own: i64) -> i64 {
+        if self.degree > 0 {
+            self.left(links, counts, own)
+        } else {
+            0
+        }
     }
 }
 
 /// The links into a vertex.
 #[inline]
 pub(crate) fn links_of<'a>(node: &Node, links: &'a [Link]) -> &'a [Link] {
-    links.get(node.first..node.end).unwrap_or(&[])
+    links
+        .get(node.first as usize..node.end as usize)
+        .unwrap_or(&[])
 }
 
 /// The count of a vertex.
 #[inline]
-fn count_at(counts: &[i64], vertex: usize) -> i64 {
-    match counts.get(vertex) {
+fn count_at(counts: &[i64], vertex: u32) -> i64 {
+    match counts.get(vertex as usize) {
         Some(count) => *count,
         None => 0,
     }
@@ -178,10 +196,9 @@ impl Level {
         for vertex in 0..graph.vertices() {
             for e in graph.ins(vertex) {
                 if let Some(edge) = edges.get(*e as usize) {
-                    let mult = edge.mult.cast_signed();
                     level.links.push(Link {
-                        tail: edge.tail as usize,
-                        mult,
+                        tail: narrow(edge.tail as usize),
+                        mult: narrow(edge.mult as usize),
                     })?;
                 }
             }
@@ -199,7 +216,8 @@ impl Level {
     /// One more vertex, with the links behind those of the last one.
     pub(crate) fn close_node(&mut self, degree: i64) -> Result<(), AllocError> {
         let first = self.nodes.last().map_or(0, |node| node.end);
-        self.nodes.push(Node::new(first, self.links.len(), degree))?;
+        self.nodes
+            .push(Node::new(first, narrow(self.links.len()), degree))?;
         self.counts.push(0)?;
         Ok(())
     }
@@ -210,7 +228,7 @@ impl Level {
         for node in &self.nodes {
             let mut comes = 0i64;
             for link in links_of(node, &self.links) {
-                comes = comes.wrapping_add(link.mult);
+                comes = comes.wrapping_add(link.chips());
             }
             most = most.max(comes).max(node.degree);
         }
@@ -226,16 +244,15 @@ impl Level {
         }
     }
 
-    /// Finds what the counts leave at each vertex, and the sum of what is not at rest: too much where
-    /// the count may grow, too little where it may fall.
-    pub(crate) fn find_rests(&mut self) -> i128 {
+    /// The sum of what the counts leave and is not at rest: too much where a count may grow, too little where
+    /// it may fall.
+    pub(crate) fn unrest(&self) -> i128 {
         let mut sum = 0i128;
         let counts = self.counts.as_slice();
-        for (node, own) in self.nodes.iter_mut().zip(counts) {
-            let left = node.left(&self.links, counts, *own);
-            node.rest = if node.degree > 0 { left } else { 0 };
-            if node.moves(*own) {
-                sum = sum.wrapping_add(i128::from(node.rest.unsigned_abs()));
+        for (node, own) in self.nodes.iter().zip(counts) {
+            let rest = node.rest(&self.links, counts, *own);
+            if node.moves(rest, *own) {
+                sum = sum.wrapping_add(i128::from(rest.unsigned_abs()));
             }
         }
         sum

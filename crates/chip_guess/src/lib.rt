@@ -8,6 +8,7 @@
 pub use search::{GuessedCounts, Search};
 
 mod cycle;
+mod learn;
 mod level;
 mod merge;
 mod number;

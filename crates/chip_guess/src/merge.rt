@@ -1,15 +1,16 @@
 ghost use Rattle.std.specs.Prelude.{◌≡◌, length, IfOk};
 
-use crate::level::{Level, Link, NO_GROUP, links_of};
+use crate::level::{Level, Link, links_of};
+use crate::number::narrow;
 use std::alloc::{AllocError, Global};
 
-/// No vertex, or no place.
+/// No vertex, no group, or no place.
 const NONE: usize = usize::MAX;
 
 /// The groups of a level.
 #[derive(Drop)]
 struct Groups {
-    /// The group of each vertex; `NO_GROUP` for the sink.
+    /// The group of each vertex; `NONE` for the sink.
     of: Vec<usize>,
     /// How many there are.
     count: usize,
@@ -51,7 +52,7 @@ fn next_level(alloc: Global, fine: &mut Level) -> Result<Option<Level>, AllocErr
     let mut coarse = merged(alloc, fine, &groups)?;
     if groups.count > 1 && coarse.links.len() / 3 >= fine.links.len() / 4 {
         for group in &mut groups.of {
-            if *group != NO_GROUP {
+            if *group != NONE {
                 *group = 0;
             }
         }
@@ -59,7 +60,7 @@ fn next_level(alloc: Global, fine: &mut Level) -> Result<Option<Level>, AllocErr
         coarse = merged(alloc, fine, &groups)?;
     }
     for (node, group) in fine.nodes.iter_mut().zip(&groups.of) {
-        node.group = *group;
+        node.group = narrow(*group);
     }
     Ok(Some(coarse))
 }
@@ -67,15 +68,15 @@ fn next_level(alloc: Global, fine: &mut Level) -> Result<Option<Level>, AllocErr
 /// Groups in which each vertex, in turn, joins the one that sends it most; where that one is still
 /// free, which counts four times, the two make a group.
 fn paired(alloc: Global, level: &Level) -> Result<Groups, AllocError> {
-    let mut of = vec![in alloc; NO_GROUP; level.nodes.len()]?;
+    let mut of = vec![in alloc; NONE; level.nodes.len()]?;
     let mut count = 0usize;
     for (vertex, node) in level.nodes.iter().enumerate() {
-        if node.degree == 0 || group_at(&of, vertex) != NO_GROUP {
+        if node.degree == 0 || group_at(&of, vertex) != NONE {
             continue;
         }
         let best = best_tail(links_of(node, &level.links), &of);
         let mut group = group_at(&of, best);
-        if group == NO_GROUP {
+        if group == NONE {
             group = count;
             count = count.saturating_add(1);
             put(&mut of, best, group);
@@ -90,10 +91,11 @@ fn best_tail(links: &[Link], groups: &[usize]) -> usize {
     let mut best = NONE;
     let mut most = 0i64;
     for link in links {
-        let free = group_at(groups, link.tail) == NO_GROUP;
-        let sends = link.mult.saturating_mul(if free { 4 } else { 1 });
+        let tail = link.tail as usize;
+        let free = group_at(groups, tail) == NONE;
+        let sends = link.chips().saturating_mul(if free { 4 } else { 1 });
         if sends > most {
-            best = link.tail;
+            best = tail;
             most = sends;
         }
     }
@@ -105,7 +107,7 @@ fn best_tail(links: &[Link], groups: &[usize]) -> usize {
 fn group_at(groups: &[usize], vertex: usize) -> usize {
     match groups.get(vertex) {
         Some(group) => *group,
-        None => NO_GROUP,
+        None => NONE,
     }
 }
 
@@ -145,16 +147,16 @@ fn merged(alloc: Global, fine: &Level, groups: &Groups) -> Result<Level, AllocEr
             };
             degree = degree.wrapping_add(node.degree);
             for link in links_of(node, &fine.links) {
-                let tail = group_at(&groups.of, link.tail);
+                let tail = group_at(&groups.of, link.tail as usize);
                 if tail == group {
-                    degree = degree.wrapping_sub(link.mult);
+                    degree = degree.wrapping_sub(link.chips());
                 } else {
                     add_link(
                         &mut coarse.links,
                         &mut places,
                         from,
                         Link {
-                            tail,
+                            tail: narrow(tail),
                             mult: link.mult,
                         },
                     )?;
@@ -175,14 +177,15 @@ fn add_link(
     from: usize,
     link: Link,
 ) -> Result<(), AllocError> {
-    let place = group_at(places, link.tail);
+    let tail = link.tail as usize;
+    let place = group_at(places, tail);
     if place >= from {
         if let Some(same) = links.get_mut(place) {
-            same.mult = same.mult.wrapping_add(link.mult);
+            same.mult = same.mult.saturating_add(link.mult);
             return Ok(());
         }
     }
-    put(places, link.tail, links.len());
+    put(places, tail, links.len());
     links.push(link)?;
     Ok(())
 }

@@ -27,3 +27,13 @@ pub(crate) fn firings(excess: i64, weight: i64) -> i64 {
 pub(crate) fn times(a: i64, b: i64) -> i128 {
     i128::from(a).wrapping_mul(i128::from(b))
 }
+
+/// A number as one of 32 bits, up to the greatest of these.
+#[inline]
+pub(crate) fn narrow(number: usize) -> u32 {
+    if number <= u32::MAX as usize {
+        number as u32
+    } else {
+        u32::MAX
+    }
+}

@@ -1,16 +1,37 @@
 ghost use Rattle.std.specs.Prelude.{◌≡◌, ◌≤◌, ◌<◌, ℕ, length, slice_index, IfOk};
 
 use crate::cycle::Stretch;
+use crate::learn::Groups;
 use crate::level::{Level, links_of};
 use crate::merge::coarser;
 use crate::number::{BIG, times};
-use crate::settle::{Held, Settling};
+use crate::settle::{Passed, Settling};
 use crate::target::{Approach, Density, Precision, Progress, Sought};
 use chip_graph::Graph;
 use std::alloc::{AllocError, Global};
 
 /// How many steps a search makes at a time, at most: more than it has in all.
 const MOST_STEPS: u64 = 4_096;
+
+/// How many vertices a graph has on which it pays to learn what its vertices keep, and to go on from
+/// counts that passed a test.
+const GREAT: usize = 1 << 14;
+
+/// How often counts are lowered before it is learnt what vertices keep.
+const PATIENCE: u64 = 64;
+
+/// Two to this power vertices are in a group from which is learnt first. Each next time there are four
+/// times as many.
+const FIRST_SCALE: u32 = 8;
+
+/// From how few groups nothing is learnt.
+const FEW_GROUPS: usize = 4;
+
+/// How often the counts within groups are lowered at most.
+const LESSONS: u64 = 32;
+
+/// How often more each vertex fires once counts have passed a test. Each next time it is twice as often.
+const FIRST_RAISE: i64 = 16;
 
 /// What the edges of a graph tell about the way to guess.
 #[derive(Clone, Copy)]
@@ -28,9 +49,11 @@ enum Kind {
 enum Stage {
     /// The counts come near to those that leave about a density.
     Nearing,
+    /// They are lowered within groups, which shows what the vertices of a group keep.
+    Learning,
     /// They are lowered until a test is passed.
     Lowering,
-    /// The test is passed.
+    /// The test is passed, and nothing better is sought.
     Found,
     /// Nothing was found, and nothing more is tried.
     GivenUp,
@@ -40,7 +63,8 @@ enum Stage {
 /// a whole play comes to and, mostly, not beyond.
 ///
 /// Counts are sought in games on fewer and fewer vertices, each a group of vertices that fire together,
-/// and then lowered until a test is passed that every play reaches them.
+/// and then lowered until a test is passed that every play reaches them. Where that takes long, what the
+/// vertices keep is learnt from groups, and the counts are sought anew.
 #[derive(Drop)]
 pub struct Search<'a> {
     graph: &'a Graph,
@@ -50,12 +74,26 @@ pub struct Search<'a> {
     levels: Vec<Level>,
     /// The counts so far, in units of 1/65536 of a firing.
     counts: Vec<i64>,
+    /// What each vertex is to keep, in 1/65536 of a chip.
+    keeps: Vec<i64>,
     stage: Stage,
     approach: Approach,
     /// How many densities were tried before this one.
     tried: usize,
+    /// Two to this power vertices are in a group from which is learnt next; `None` where nothing is.
+    scale: Option<u32>,
+    /// Whether something was learnt, or may not be.
+    learnt: bool,
+    /// The groups from which is learnt.
+    groups: Groups,
     /// The counts that are lowered, once there are some.
     settling: Option<Settling<'a>>,
+    /// The last counts that passed a test, or none.
+    passed: Vec<Passed>,
+    /// How often more each vertex fires when counts pass a test.
+    raise: i64,
+    /// How often all vertices fire by the first counts that were near.
+    firings: u64,
 }
 
 /// Counts, and an order of the vertices that may show that every play reaches them.
@@ -101,19 +139,27 @@ impl<'a> Search<'a> {
         most: &'a [u64],
     ) -> Result<Search<'a>, AllocError> {
         let kind = kind_of(graph);
+        let levels = coarser(alloc, Level::of_graph(alloc, graph)?)?;
         let mut search = Search {
             graph,
             chips,
             most,
             kind,
-            levels: coarser(alloc, Level::of_graph(alloc, graph)?)?,
+            levels,
             counts: vec![in alloc; 0; most.len()]?,
+            keeps: vec![in alloc; 0; most.len()]?,
             stage: Stage::Nearing,
             approach: Approach::new(kind.coarse()),
             tried: 0,
+            scale: None,
+            learnt: kind != Kind::BothWays || most.len() < GREAT,
+            groups: Groups::new(alloc, &[], 1)?,
             settling: None,
+            passed: Vec::new(alloc),
+            raise: FIRST_RAISE,
+            firings: 0,
         };
-        search.begin();
+        search.begin_density();
         Ok(search)
     }
 
@@ -128,7 +174,8 @@ impl<'a> Search<'a> {
             done = done.saturating_add(self.work_of_step());
             match self.stage {
                 Stage::Nearing => self.near(alloc)?,
-                Stage::Lowering => self.lower()?,
+                Stage::Learning => self.learn(alloc)?,
+                Stage::Lowering => self.lower(alloc)?,
                 Stage::Found | Stage::GivenUp => break,
             }
         }
@@ -142,16 +189,21 @@ impl<'a> Search<'a> {
         ensures within { IfOk result
             (λ guess. (v : ℕ) → slice_index guess.counts.items v ≤ slice_index most.now v) }
     {
-        match &self.settling {
-            Some(settling) if self.stage == Stage::Found => up_to(alloc, &settling.held, most),
+        match self.stage {
+            Stage::Found => up_to(alloc, &self.passed, most),
             _ => up_to(alloc, &[], most),
         }
+    }
+
+    /// About how often all vertices fire, up to 2^64 - 1; 0 while nothing is known of it.
+    pub fn firings(&self) -> u64 {
+        self.firings
     }
 
     /// What a step costs, in looks of a play: a cycle goes over each level five times, and its looks are
     /// dearer; counts are lowered in two passes.
     fn work_of_step(&self) -> u64 {
-        if self.stage == Stage::Lowering {
+        if self.stage == Stage::Lowering || self.stage == Stage::Learning {
             return self.levels.first().map_or(0, Level::size).saturating_mul(2);
         }
         let mut size = 1u64;
@@ -162,18 +214,32 @@ impl<'a> Search<'a> {
     }
 
     /// Begins to come near to the density that is tried, or gives up where all were tried.
+    fn begin_density(&mut self) {
+        let Some(density) = self.kind.densities().get(self.tried).copied() else {
+            self.stage = Stage::GivenUp;
+            return;
+        };
+        if let Some(game) = self.levels.first() {
+            for (node, keeps) in game.nodes.iter().zip(&mut self.keeps) {
+                *keeps = density.keeps(node.degree);
+            }
+        }
+        self.begin();
+    }
+
+    /// Begins to come near to counts that leave what the vertices are to keep.
     fn begin(&mut self) {
-        let density = self.kind.densities().get(self.tried).copied();
-        let (Some(density), Some(game)) = (density, self.levels.first_mut()) else {
+        let Some(game) = self.levels.first_mut() else {
             self.stage = Stage::GivenUp;
             return;
         };
         let sought = Sought {
             chips: self.chips,
             most: self.most,
+            keeps: &self.keeps,
             counts: &mut self.counts,
         };
-        sought.begin(game, density, self.approach.precision);
+        sought.begin(game, self.approach.precision);
         self.stage = Stage::Nearing;
     }
 
@@ -205,6 +271,7 @@ impl<'a> Search<'a> {
         let mut sought = Sought {
             chips: self.chips,
             most: self.most,
+            keeps: &self.keeps,
             counts: &mut self.counts,
         };
         if let Some(game) = self.levels.first() {
@@ -214,59 +281,142 @@ impl<'a> Search<'a> {
 
     /// Goes on with the next density.
     fn try_next(&mut self) {
-        self.settling = None;
+        self.scale = None;
+        self.learnt = true;
         self.tried = self.tried.saturating_add(1);
-        self.begin();
+        self.begin_density();
     }
 
-    /// Begins to lower the counts, rounded down.
+    /// Begins to lower the counts, rounded down: within groups where something is to be learnt from them.
     fn settle(&mut self, alloc: Global) -> Result<(), AllocError> {
-        let mut whole = Vec::new(alloc);
-        for count in &self.counts {
-            whole.push(*count >> 16)?;
-        }
-        if self.fits(&whole) {
-            self.settling = Some(Settling::new(alloc, self.graph, self.chips, &whole)?);
-            self.stage = Stage::Lowering;
-        } else {
+        if !self.fits() {
             self.try_next();
+            return Ok(());
         }
+        let mut settling = match self.settling.take() {
+            Some(settling) => settling,
+            None => Settling::new(alloc, self.graph)?,
+        };
+        settling.begin(self.chips, &self.counts);
+        if self.firings == 0 {
+            self.firings = firings_of(&self.counts);
+        }
+        self.stage = Stage::Lowering;
+        if let Some(scale) = self.scale {
+            self.groups = Groups::new(alloc, &self.levels, 1usize << scale.min(62))?;
+            settling.freeze(&self.groups.of);
+            self.stage = Stage::Learning;
+        }
+        self.settling = Some(settling);
         Ok(())
     }
 
-    /// Lowers the counts once.
-    fn lower(&mut self) -> Result<(), AllocError> {
-        let one_way = self.kind == Kind::OneWay;
-        let progress = match &mut self.settling {
-            Some(settling) => settling.lower(one_way)?,
-            None => Progress::Far,
+    /// Lowers the counts within groups once, and goes on with what is learnt from that after some times.
+    fn learn(&mut self, alloc: Global) -> Result<(), AllocError> {
+        let Some(settling) = &mut self.settling else {
+            self.try_next();
+            return Ok(());
         };
-        match progress {
-            Progress::Going => {}
-            Progress::Near => self.stage = Stage::Found,
-            Progress::Far => self.try_next(),
+        if settling.lower(false)? == Progress::Going && settling.lowered < LESSONS {
+            return Ok(());
+        }
+        self.groups.learn(alloc, settling, &mut self.keeps)?;
+        self.scale = match self.scale {
+            Some(scale) => self.scale_from(scale.saturating_add(2)),
+            None => None,
+        };
+        self.approach = Approach::new(Precision::new(16, 10));
+        self.begin();
+        Ok(())
+    }
+
+    /// This scale, if it makes groups enough.
+    fn scale_from(&self, scale: u32) -> Option<u32> {
+        if self.most.len() >> scale.min(62) >= FEW_GROUPS {
+            Some(scale)
+        } else {
+            None
+        }
+    }
+
+    /// Lowers the counts once.
+    fn lower(&mut self, alloc: Global) -> Result<(), AllocError> {
+        let one_way = self.kind == Kind::OneWay;
+        let Some(settling) = &mut self.settling else {
+            self.try_next();
+            return Ok(());
+        };
+        match settling.lower(one_way)? {
+            Progress::Near => self.pass(alloc),
+            Progress::Going if !self.learnt && settling.lowered >= PATIENCE => {
+                self.learnt = true;
+                self.scale = self.scale_from(FIRST_SCALE);
+                self.settle(alloc)
+            }
+            // Counts that are greater than some that passed come back to these.
+            Progress::Far if self.passed.is_empty() => {
+                self.try_next();
+                Ok(())
+            }
+            Progress::Going | Progress::Far => Ok(()),
+        }
+    }
+
+    /// Keeps the counts that passed a test, and goes on from greater ones where they may be too low.
+    fn pass(&mut self, alloc: Global) -> Result<(), AllocError> {
+        let Some(settling) = &mut self.settling else {
+            return Ok(());
+        };
+        let passed = settling.passed(alloc)?;
+        let is_same = sum_of(&passed) == sum_of(&self.passed);
+        self.passed = passed;
+        self.learnt = true;
+        let may_rise = self.most.len() >= GREAT && self.kind != Kind::OneWay;
+        if may_rise && !is_same && settling.leaves_some_legal() {
+            settling.raise(self.raise, self.most);
+            self.raise = self.raise.saturating_mul(2);
+        } else {
+            self.stage = Stage::Found;
         }
         Ok(())
     }
 
     /// Whether no number of chips on the way from the start to these counts is beyond 62 bits.
-    fn fits(&self, whole: &[i64]) -> bool {
+    fn fits(&self) -> bool {
         let Some(game) = self.levels.first() else {
             return false;
         };
-        for (node, count) in game.nodes.iter().zip(whole) {
+        for (node, count) in game.nodes.iter().zip(&self.counts) {
             let mut comes = 0i128;
             for link in links_of(node, &game.links) {
-                if let Some(tail) = whole.get(link.tail) {
-                    comes = comes.wrapping_add(times(link.mult, *tail));
+                if let Some(tail) = self.counts.get(link.tail as usize) {
+                    comes = comes.wrapping_add(times(link.chips(), *tail >> 16));
                 }
             }
-            if comes.max(times(node.degree, *count)) > i128::from(BIG) {
+            if comes.max(times(node.degree, *count >> 16)) > i128::from(BIG) {
                 return false;
             }
         }
         true
     }
+}
+
+/// The sum of counts in units of 1/65536 of a firing, in firings and up to 2^64 - 1.
+fn firings_of(counts: &[i64]) -> u64 {
+    let mut firings = 0u64;
+    for count in counts {
+        firings = firings.saturating_add((*count >> 16).max(0).cast_unsigned());
+    }
+    firings
+}
+
+/// The sum of counts that passed a test.
+fn sum_of(passed: &[Passed]) -> i64 {
+    let mut sum = 0i64;
+    for passed in passed {
+        sum = sum.wrapping_add(passed.fired);
+    }
+    sum
 }
 
 /// The kind of a graph. Whether all goes both ways is told by two vectors alone, so that an unlucky
@@ -308,7 +458,7 @@ fn turns(tail: u64, head: u64) -> i64 {
 }
 
 /// These counts, from 0 up to as many as `most` says.
-fn up_to(alloc: Global, held: &[Held], most: &[u64]) -> Result<GuessedCounts, AllocError>
+fn up_to(alloc: Global, passed: &[Passed], most: &[u64]) -> Result<GuessedCounts, AllocError>
     ensures counts_each { IfOk result (λ guess. length guess.counts.items ≡ length most.now) }
     ensures order_each { IfOk result (λ guess. length guess.order.items ≡ length most.now) }
     ensures within { IfOk result (λ guess. (v : ℕ) → slice_index guess.counts.items v ≤ slice_index most.now v) }
@@ -316,8 +466,8 @@ fn up_to(alloc: Global, held: &[Held], most: &[u64]) -> Result<GuessedCounts, Al
     let mut counts = Vec::new(alloc);
     let mut order = Vec::new(alloc);
     for (vertex, limit) in most.iter().enumerate() {
-        let (count, rank) = match held.get(vertex) {
-            Some(held) => (held.fired.max(0).cast_unsigned(), held.rank),
+        let (count, rank) = match passed.get(vertex) {
+            Some(passed) => (passed.fired.max(0).cast_unsigned(), u64::from(passed.rank)),
             None => (0, 0),
         };
         counts.push(count.min(*limit))?;

@@ -1,91 +1,185 @@
+use crate::number::narrow;
 use crate::target::Progress;
 use chip_graph::Graph;
 use std::alloc::{AllocError, Global};
 
-/// How often counts are lowered at most.
-const ROUNDS: u64 = 400;
-
 /// How often in a row no vertex may come back: that leaves nearly everything as it was.
 const BARREN: u64 = 16;
 
+/// An edge out of a vertex.
+#[derive(Clone, Copy)]
+struct Out {
+    head: u32,
+    mult: u32,
+}
+
 /// What is known of a vertex while counts are lowered.
 #[derive(Clone, Copy)]
-pub(crate) struct Held {
+struct Held {
     /// How often it has fired.
-    pub(crate) fired: i64,
-    /// The chips that all counts leave it, which may be below 0.
-    chips: i64,
-    /// Whether it has given a firing back and not fired again.
-    owes: bool,
+    fired: i64,
+    /// What comes in where each vertex that lends fires once.
+    comes: i64,
+    /// Where its edges out begin.
+    first: u32,
+    /// Where they end.
+    end: u32,
     /// When it fired again, from 1 on; 0 where it did not.
-    pub(crate) rank: u64,
+    rank: u32,
+    /// Whether its count stays as it is.
+    frozen: bool,
+}
+
+/// What a vertex has when a test is passed.
+#[derive(Clone, Copy)]
+pub(crate) struct Passed {
+    /// How often it fires.
+    pub(crate) fired: i64,
+    /// When it fires again, from 1 on; 0 where it does not.
+    pub(crate) rank: u32,
 }
 
 /// Counts that are lowered until a test is passed.
+///
+/// Each vertex that fires lends one firing, and those that have the chips for it fire again, one after the
+/// other. Those that do not are lower by one firing from then on.
 #[derive(Drop)]
 pub(crate) struct Settling<'a> {
     graph: &'a Graph,
-    /// Each vertex.
-    pub(crate) held: Vec<Held>,
+    held: Vec<Held>,
+    /// The chips that the counts leave each vertex, less what its neighbours have lent: it fires again
+    /// where this is not below 0.
+    slacks: Vec<i64>,
+    outs: Vec<Out>,
     /// The vertices that may fire again, the last one next.
-    waiting: Vec<u64>,
+    waiting: Vec<u32>,
     /// How often the counts were lowered.
-    rounds: u64,
+    pub(crate) lowered: u64,
     /// How often in a row no vertex came back.
     barren: u64,
 }
 
+impl Held {
+    /// Whether it lends a firing.
+    #[inline]
+    fn lends(&self) -> bool {
+        self.fired > 0 && !self.frozen
+    }
+
+    /// Whether it has lent a firing and did not fire again.
+    #[inline]
+    fn is_behind(&self) -> bool {
+        self.rank == 0 && self.lends()
+    }
+}
+
 impl<'a> Settling<'a> {
-    /// The chips that these counts leave, where a play begins with these.
-    pub(crate) fn new(
-        alloc: Global,
-        graph: &'a Graph,
-        start: &[u64],
-        counts: &[i64],
-    ) -> Result<Settling<'a>, AllocError> {
+    /// No counts yet.
+    pub(crate) fn new(alloc: Global, graph: &'a Graph) -> Result<Settling<'a>, AllocError> {
         let mut held = Vec::new(alloc);
-        for chips in start {
+        let mut slacks = Vec::new(alloc);
+        let mut outs = Vec::new(alloc);
+        for vertex in 0..graph.vertices() {
+            let first = narrow(outs.len());
+            for link in graph.links(vertex) {
+                outs.push(Out {
+                    head: narrow(link.head as usize),
+                    mult: narrow(link.mult as usize),
+                })?;
+            }
+            slacks.push(0)?;
             held.push(Held {
                 fired: 0,
-                chips: chips.cast_signed(),
-                owes: false,
+                comes: 0,
+                first,
+                end: narrow(outs.len()),
                 rank: 0,
+                frozen: false,
             })?;
         }
-        let mut settling = Settling {
+        Ok(Settling {
             graph,
             held,
+            slacks,
+            outs,
             waiting: Vec::new(alloc),
-            rounds: 0,
+            lowered: 0,
             barren: 0,
-        };
-        for (vertex, count) in counts.iter().enumerate() {
-            settling.fire(vertex as u64, *count);
+        })
+    }
+
+    /// Begins with these chips and these counts, in units of 1/65536 of a firing and rounded down.
+    pub(crate) fn begin(&mut self, start: &[u64], counts: &[i64]) {
+        for ((held, slack), chips) in self.held.iter_mut().zip(&mut self.slacks).zip(start) {
+            held.fired = 0;
+            held.frozen = false;
+            *slack = chips.cast_signed();
         }
-        Ok(settling)
+        for (vertex, count) in counts.iter().enumerate() {
+            self.fire(vertex, *count >> 16);
+        }
+        self.lend_anew();
+    }
+
+    /// What one firing of a vertex sends away.
+    #[inline]
+    pub(crate) fn degree(&self, vertex: usize) -> i64 {
+        if (vertex as u64) < self.graph.vertices() {
+            self.graph.out_degree(vertex as u64).cast_signed()
+        } else {
+            0
+        }
     }
 
     /// Fires a vertex so often, or takes so many firings back where the number is negative.
-    fn fire(&mut self, vertex: u64, k: i64) {
-        if vertex >= self.graph.vertices() {
+    fn fire(&mut self, vertex: usize, k: i64) {
+        let sent = self.degree(vertex).wrapping_mul(k);
+        let Some(held) = self.held.get_mut(vertex) else {
             return;
+        };
+        held.fired = held.fired.wrapping_add(k);
+        let edges = held.first as usize..held.end as usize;
+        if let Some(slack) = self.slacks.get_mut(vertex) {
+            *slack = slack.wrapping_sub(sent);
         }
-        let sent = self.graph.out_degree(vertex).cast_signed().wrapping_mul(k);
-        if let Some(held) = self.held.get_mut(vertex as usize) {
-            held.fired = held.fired.wrapping_add(k);
-            held.chips = held.chips.wrapping_sub(sent);
+        for out in self.outs.get(edges).unwrap_or(&[]) {
+            if let Some(slack) = self.slacks.get_mut(out.head as usize) {
+                *slack = slack.wrapping_add(i64::from(out.mult).wrapping_mul(k));
+            }
         }
-        for link in self.graph.links(vertex) {
-            if let Some(held) = self.held.get_mut(link.head as usize) {
-                let comes = link.mult.cast_signed().wrapping_mul(k);
-                held.chips = held.chips.wrapping_add(comes);
+    }
+
+    /// Finds what comes in from all that lend, of which none is behind.
+    fn lend_anew(&mut self) {
+        self.lowered = 0;
+        self.barren = 0;
+        for held in &mut self.held {
+            held.comes = 0;
+            held.rank = 1;
+        }
+        for vertex in 0..self.held.len() {
+            if self.held.get(vertex).is_some_and(|held| held.lends()) {
+                self.change_lent(vertex, 1);
+            }
+        }
+    }
+
+    /// Adds so many times what a vertex sends to what comes into its neighbours from those that lend.
+    fn change_lent(&mut self, vertex: usize, k: i64) {
+        let Some(held) = self.held.get(vertex) else {
+            return;
+        };
+        let edges = held.first as usize..held.end as usize;
+        for out in self.outs.get(edges).unwrap_or(&[]) {
+            if let Some(held) = self.held.get_mut(out.head as usize) {
+                held.comes = held.comes.wrapping_add(i64::from(out.mult).wrapping_mul(k));
             }
         }
     }
 
     /// Lowers the counts once, where they do not pass the test: on one-way graphs, that each vertex that
-    /// fires lacks one chip at most to fire once more; on others, that all of them give one firing back
-    /// and come back, one after the other.
+    /// fires lacks one chip at most to fire once more; on others, that all of them lend a firing and come
+    /// back, one after the other.
     pub(crate) fn lower(&mut self, one_way: bool) -> Result<Progress, AllocError> {
         let (passed, is_barren) = if one_way {
             (!self.earn_all(), false)
@@ -93,7 +187,7 @@ impl<'a> Settling<'a> {
             let (lent, missing) = self.give_back()?;
             (missing == 0, missing == lent)
         };
-        self.rounds = self.rounds.saturating_add(1);
+        self.lowered = self.lowered.saturating_add(1);
         self.barren = if is_barren {
             self.barren.saturating_add(1)
         } else {
@@ -101,79 +195,88 @@ impl<'a> Settling<'a> {
         };
         Ok(if passed {
             Progress::Near
-        } else if self.rounds >= ROUNDS || self.barren >= BARREN {
+        } else if self.barren >= BARREN {
             Progress::Far
         } else {
             Progress::Going
         })
     }
 
-    /// Takes one firing back from each vertex that fires, and lets those fire again that can, once: how
-    /// many gave one back, and how many of them do not fire again.
+    /// Lends a firing of each vertex that fires, and lets those fire again that can, once: how many lent
+    /// one, and how many of them do not fire again.
     fn give_back(&mut self) -> Result<(u64, u64), AllocError> {
-        let vertices = self.graph.vertices();
-        let mut lent = 0u64;
-        for vertex in 0..vertices {
-            if self.lend(vertex) {
-                lent = lent.saturating_add(1);
-            }
-        }
+        self.lose_lent();
+        let lent = self.lend_all()?;
         let mut missing = lent;
-        for vertex in 0..vertices {
-            self.look(vertex)?;
-        }
-        for rank in 1..=vertices {
+        for rank in 1..u32::MAX {
             let Some(vertex) = self.waiting.pop() else {
                 break;
             };
             missing = missing.saturating_sub(1);
-            self.come_back(vertex, rank)?;
+            self.come_back(vertex as usize, rank)?;
         }
         Ok((lent, missing))
     }
 
-    /// Takes a firing back, where the vertex fires; whether it does.
-    fn lend(&mut self, vertex: u64) -> bool {
-        let Some(held) = self.held.get_mut(vertex as usize) else {
-            return false;
-        };
-        held.rank = 0;
-        held.owes = held.fired > 0;
-        let owes = held.owes;
-        if owes {
-            self.fire(vertex, -1);
+    /// Has those that are behind lose the firing that they lent.
+    fn lose_lent(&mut self) {
+        for vertex in 0..self.held.len() {
+            if self.held.get(vertex).is_some_and(|held| held.is_behind()) {
+                self.lose(vertex);
+            }
         }
-        owes
     }
 
-    /// Has a vertex wait for its turn where it owes a firing and has the chips for it.
-    fn look(&mut self, vertex: u64) -> Result<(), AllocError> {
-        if vertex >= self.graph.vertices() {
-            return Ok(());
+    /// Has a vertex lose the firing that it lent.
+    fn lose(&mut self, vertex: usize) {
+        let degree = self.degree(vertex);
+        if let Some(slack) = self.slacks.get_mut(vertex) {
+            *slack = slack.wrapping_add(degree);
         }
-        let degree = self.graph.out_degree(vertex).cast_signed();
-        let Some(held) = self.held.get_mut(vertex as usize) else {
-            return Ok(());
-        };
-        if held.owes && held.chips >= degree {
-            held.owes = false;
-            self.waiting.push(vertex)?;
+        if let Some(held) = self.held.get_mut(vertex) {
+            held.fired = held.fired.wrapping_sub(1);
+            if held.fired == 0 {
+                self.change_lent(vertex, -1);
+            }
         }
-        Ok(())
+    }
+
+    /// Lends a firing of each vertex that fires; how many did.
+    fn lend_all(&mut self) -> Result<u64, AllocError> {
+        let mut lent = 0u64;
+        let rows = self.held.iter_mut().zip(&mut self.slacks);
+        for (vertex, (held, slack)) in rows.enumerate() {
+            *slack = slack.wrapping_sub(held.comes);
+            held.rank = 0;
+            if held.lends() {
+                lent = lent.saturating_add(1);
+                if *slack >= 0 {
+                    self.waiting.push(narrow(vertex))?;
+                }
+            }
+        }
+        Ok(lent)
     }
 
     /// Fires a vertex again, as the one with this rank.
-    fn come_back(&mut self, vertex: u64, rank: u64) -> Result<(), AllocError> {
-        let graph = self.graph;
-        if vertex >= graph.vertices() {
+    fn come_back(&mut self, vertex: usize, rank: u32) -> Result<(), AllocError> {
+        let Some(held) = self.held.get_mut(vertex) else {
             return Ok(());
-        }
-        self.fire(vertex, 1);
-        if let Some(held) = self.held.get_mut(vertex as usize) {
-            held.rank = rank;
-        }
-        for link in graph.links(vertex) {
-            self.look(link.head)?;
+        };
+        held.rank = rank;
+        let edges = held.first as usize..held.end as usize;
+        for out in self.outs.get(edges).unwrap_or(&[]) {
+            let head = out.head as usize;
+            if let Some(slack) = self.slacks.get_mut(head) {
+                let before = *slack;
+                *slack = before.wrapping_add(i64::from(out.mult));
+                if before < 0
+                    && *slack >= 0
+                    && self.held.get(head).is_some_and(|held| held.lends())
+                {
+                    self.waiting.push(out.head)?;
+                }
+            }
         }
         Ok(())
     }
@@ -182,22 +285,19 @@ impl<'a> Settling<'a> {
     /// there was any.
     fn earn_all(&mut self) -> bool {
         let mut any = false;
-        for vertex in 0..self.graph.vertices() {
+        for vertex in 0..self.held.len() {
             any |= self.earn(vertex);
         }
         any
     }
 
     /// Takes firings back from a vertex that fires and lacks more; whether it did.
-    fn earn(&mut self, vertex: u64) -> bool {
-        if vertex >= self.graph.vertices() {
-            return false;
-        }
-        let degree = self.graph.out_degree(vertex).cast_signed();
-        let Some(held) = self.held.get(vertex as usize) else {
+    fn earn(&mut self, vertex: usize) -> bool {
+        let degree = self.degree(vertex);
+        let (Some(held), Some(chips)) = (self.held.get(vertex), self.slacks.get(vertex)) else {
             return false;
         };
-        let lacks = degree.wrapping_sub(1).wrapping_sub(held.chips);
+        let lacks = degree.wrapping_sub(1).wrapping_sub(*chips);
         if held.fired <= 0 || lacks <= 0 || degree <= 0 {
             return false;
         }
@@ -205,5 +305,67 @@ impl<'a> Settling<'a> {
         let back = back.min(held.fired).wrapping_neg();
         self.fire(vertex, back);
         true
+    }
+
+    /// Has the counts of vertices stay as they are from which an edge goes into another group; which group
+    /// each one is in.
+    pub(crate) fn freeze(&mut self, groups: &[u32]) {
+        let sink = self.graph.sink();
+        for (held, group) in self.held.iter_mut().zip(groups) {
+            let edges = held.first as usize..held.end as usize;
+            for out in self.outs.get(edges).unwrap_or(&[]) {
+                if u64::from(out.head) != sink && groups.get(out.head as usize) != Some(group) {
+                    held.frozen = true;
+                }
+            }
+        }
+        self.lend_anew();
+    }
+
+    /// The chips that the counts leave a vertex and what it would keep if it were full, where it may lend a
+    /// firing.
+    pub(crate) fn kept(&self, vertex: usize) -> Option<(i64, i64)> {
+        let held = self.held.get(vertex)?;
+        let slack = self.slacks.get(vertex)?;
+        let degree = self.degree(vertex);
+        if !held.lends() {
+            return None;
+        }
+        let lost = if held.rank == 0 { degree } else { 0 };
+        Some((slack.wrapping_add(lost), degree))
+    }
+
+    /// Whether a vertex is legal, where a test is passed.
+    pub(crate) fn leaves_some_legal(&self) -> bool {
+        for (vertex, chips) in self.slacks.iter().enumerate() {
+            let degree = self.degree(vertex);
+            if degree > 0 && *chips >= degree {
+                return true;
+            }
+        }
+        false
+    }
+
+    /// Fires each vertex so often more, where a test is passed, up to as many firings as `most` says.
+    pub(crate) fn raise(&mut self, k: i64, most: &[u64]) {
+        for (vertex, limit) in most.iter().enumerate() {
+            if self.degree(vertex) > 0 {
+                let fired = self.held.get(vertex).map_or(0, |held| held.fired);
+                self.fire(vertex, k.min(limit.cast_signed().wrapping_sub(fired)));
+            }
+        }
+        self.lend_anew();
+    }
+
+    /// What each vertex has when a test is passed.
+    pub(crate) fn passed(&self, alloc: Global) -> Result<Vec<Passed>, AllocError> {
+        let mut passed = Vec::new(alloc);
+        for held in &self.held {
+            passed.push(Passed {
+                fired: held.fired,
+                rank: held.rank,
+            })?;
+        }
+        Ok(passed)
     }
 }

@@ -18,16 +18,17 @@ pub(crate) enum Density {
 }
 
 impl Density {
-    /// What a vertex of this degree keeps, in 1/16 of a chip.
-    fn keeps(self, degree: i64) -> i64 {
+    /// What a vertex of this degree keeps, in 1/65536 of a chip.
+    pub(crate) fn keeps(self, degree: i64) -> i64 {
         let top = degree.wrapping_sub(1).wrapping_mul(16);
         let low = degree.wrapping_mul(9).wrapping_sub(2).min(top);
-        match self {
+        let keeps = match self {
             Density::Low => low,
             Density::Middle => (low >> 1).wrapping_add(top >> 1),
             Density::High => top,
             Density::Margin => top.wrapping_add(degree.wrapping_mul(8)),
-        }
+        };
+        keeps.wrapping_mul(4096)
     }
 }
 
@@ -74,24 +75,28 @@ pub(crate) struct Sought<'a> {
     pub(crate) chips: &'a [u64],
     /// How often each vertex may fire.
     pub(crate) most: &'a [u64],
+    /// What each vertex may keep, in 1/65536 of a chip.
+    pub(crate) keeps: &'a [i64],
     /// What the counts are so far.
     pub(crate) counts: &'a mut [i64],
 }
 
 impl Sought<'_> {
     /// Has the game begin at these counts, in its own unit.
-    pub(crate) fn begin(&self, game: &mut Level, density: Density, precision: Precision) {
+    pub(crate) fn begin(&self, game: &mut Level, precision: Precision) {
         let fine = precision.finer();
         let cap = game.cap;
-        let rows = self.counts.iter().zip(self.chips.iter().zip(self.most));
-        for ((node, count), (sought, (chips, most))) in game
+        let given = self.chips.iter().zip(self.keeps).zip(self.most);
+        let rows = self.counts.iter().zip(given);
+        for ((node, count), (sought, ((chips, keeps), most))) in game
             .nodes
             .iter_mut()
             .zip(&mut game.counts)
             .zip(rows)
         {
             *count = 0;
-            let wanted = self.excess(node, &game.links, density, chips.cast_signed(), *sought);
+            let above = times(chips.cast_signed(), 65_536).wrapping_sub(i128::from(*keeps));
+            let wanted = self.excess(node, &game.links, above, *sought);
             node.wanted = if node.degree > 0 {
                 within(wanted >> fine, -BIG, BIG)
             } else {
@@ -107,15 +112,12 @@ impl Sought<'_> {
         }
     }
 
-    /// What a vertex is still to send away, in 1/65536 of a chip.
-    fn excess(&self, node: &Node, links: &[Link], density: Density, chips: i64, own: i64) -> i128 {
-        let above = times(chips, 16).wrapping_sub(i128::from(density.keeps(node.degree)));
-        let mut excess = above
-            .wrapping_mul(4096)
-            .wrapping_sub(times(node.degree, own));
+    /// What a vertex with so much above what it keeps is still to send away, in 1/65536 of a chip.
+    fn excess(&self, node: &Node, links: &[Link], above: i128, own: i64) -> i128 {
+        let mut excess = above.wrapping_sub(times(node.degree, own));
         for link in links_of(node, links) {
-            if let Some(count) = self.counts.get(link.tail) {
-                excess = excess.wrapping_add(times(link.mult, *count));
+            if let Some(count) = self.counts.get(link.tail as usize) {
+                excess = excess.wrapping_add(times(link.chips(), *count));
             }
         }
         excess
@@ -165,10 +167,10 @@ impl Approach {
     /// Makes a cycle where more than little is left. The counts will not come near where 8 cycles do not
     /// halve what is left, or 64 do not do.
     pub(crate) fn advance(&mut self, levels: &mut [Level], stretch: Stretch) -> Progress {
-        let Some(game) = levels.first_mut() else {
+        let Some(game) = levels.first() else {
             return Progress::Far;
         };
-        let left = game.find_rests();
+        let left = game.unrest();
         if left <= small(game, self.precision) {
             return Progress::Near;
         }

@@ -37,6 +37,7 @@ impl Dealt {
 
     /// Gives the actor whose turn it is in this round its turn, and yields after a round in which there was nothing
     /// to do.
+    #[inline(always)]
     pub fn one_turn(&mut self, net: &Net)
         requires nets { All (λ a. a.net ≡ net.now) self.old.actors.items }
         requires place { self.old.place < max 1 (length self.old.actors.items) }

@@ -104,6 +104,7 @@ fn next_actor<B: Crew>(queue: &Queue<B>, pass: &mut QueuePass, kept: Option<Acto
 
 /// Takes an actor, gives it a turn and puts it back. An actor that was kept has its turn in place of one from the
 /// queue, and one that can't be put back is kept.
+#[inline(never)]
 fn turn_by_queue<B: Crew>(
     net: &Net,
     queue: &Queue<B>,
@@ -132,6 +133,8 @@ fn turn_by_queue<B: Crew>(
 
 impl<'a, B: Crew, G: Gate> Shared<'a, B, G> {
     /// One turn of a worker, with an actor from the queue or with the next of its own. Its gate let this turn pass.
+    /// It is inlined, so that the worker's loop has the place of the turn in a register.
+    #[inline(always)]
     pub fn one_turn(&self, _worker: u64, _turn: u64, hands: &mut Hands)
         requires passes { B.passes _worker _turn }
         requires net { self.now.net.now ≡ B.crew.net }

@@ -47,6 +47,7 @@ impl Model for Owned {
 }
 
 impl Owned {
+    #[inline(always)]
     fn turn(&mut self, net: &Net) -> Turn
         requires net { self.old.net ≡ net.now }
         ensures turn { MakesTurn self.old self.new result }
@@ -107,6 +108,7 @@ impl Actor {
 
     /// One turn: a look at each edge into the vertex, and then all that the vertex may do. Nothing waits, and nothing
     /// is locked.
+    #[inline(always)]
     pub fn turn(&mut self, net: &Net) -> Turn
         requires net { self.old.net ≡ net.now }
         ensures turn { MakesTurn self.old self.new result }

@@ -14,7 +14,7 @@ use Rattle.chip_link.specs.Ends.{HeadState, new_head}
 use Rattle.chip_detect.specs.Books.{Books, IsSound, IsFresh}
 use Rattle.chip_detect.proofs.FreshLemmas.{stand_in_order}
 use Rattle.chip_part.specs.Edges.{all_edges, tail_of}
-use Rattle.chip_part.specs.Part.{opened, first_put}
+use Rattle.chip_part.specs.Part.{opening_part, first_put}
 use Rattle.chip_actor.specs.declared.ends.outs.OutEnd.{OutEnd}
 use Rattle.chip_actor.specs.Ends.{OutEnds, InEnds, on_edge, no_out, fresh_out, IsFreshOuts, IsFreshIns}
 use Rattle.chip_actor.specs.Actor.{Actor, StandsFor}
@@ -54,8 +54,8 @@ module _ (g : Setting) (v : ℕ) (setting : IsSetting g) (vertex : v < g.game.gr
         unput = 0;
         refused = 0;
       } in n)
-      → StandsFor g (opened g) a
-  opens a eq = subst (StandsFor g (opened g)) (sym eq) record {
+      → StandsFor g (opening_part g) a
+  opens a eq = subst (StandsFor g (opening_part g)) (sym eq) record {
     knows = record {
       setting = setting;
       vertex = vertex;

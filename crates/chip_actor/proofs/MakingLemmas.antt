@@ -17,7 +17,7 @@ use Rattle.chip_link.specs.Link.{Tail, claims_of}
 use Rattle.chip_detect.specs.Tally.{message_limit}
 use Rattle.chip_detect.specs.Books.{Books, IsSound, in_edges, out_edges, got_of, sent_of, settled_of}
 use Rattle.chip_detect.specs.Books as books
-use Rattle.chip_detect.specs.Acknowledging.{acknowledgeable}
+use Rattle.chip_detect.specs.Acknowledging.{acknowledgeable_count}
 use Rattle.chip_detect.specs.Acknowledging as detector
 use Rattle.chip_detect.specs.Steps.{Gets, Acknowledges, Sends, Settles}
 use Rattle.chip_detect.proofs.SoundnessLemmas.{parent_goes_with_all}

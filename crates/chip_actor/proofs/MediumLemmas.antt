@@ -8,14 +8,14 @@ use Rattle.chip_part.specs.declared.act.Act.{Act}
 use Rattle.chip_part.specs.declared.cursor.Cursor.TheVariants as At
 use Rattle.chip_part.specs.declared.act.Act.TheVariants as Do
 use Rattle.chip_part.specs.Part.{Part}
-use Rattle.chip_part.specs.Rules.{Event, unmet}
+use Rattle.chip_part.specs.Rules.{Event, unmet_rule}
 use Rattle.chip_part.specs.declared.reply.Reply.{Reply}
 use Rattle.chip_part.specs.Steps.{Step, part_of, does, reply_of, saw}
 use Rattle.chip_part.specs.Acting.{act_of, event_of, CanDo, FitsSeen}
 use Rattle.chip_actor.specs.Actor.{Makes}
 use Rattle.chip_part.specs.Turn.{turn, ins_of, outs_of}
 use Rattle.chip_part.specs.declared.cursor.Cursor.{Cursor}
-use Rattle.chip_part.specs.Cursor.{left, IsAt, GoesBy, most_left}
+use Rattle.chip_part.specs.Cursor.{rest_of_turn, IsAt, GoesBy, most_left}
 use Rattle.chip_actor.specs.Turning.{DueAt}
 use Rattle.chip_part.specs.Counting.{work_of, is_work}
 use Rattle.chip_actor.specs.Actor.{Actor, StandsFor, SomePart, WhateverPart}
@@ -50,7 +50,8 @@ moves_on H K L a b c x y z n m first second = λ g ds s held stands at.
         stands = two.2.stands;
         vertex = two.2.vertex;
         fits = two.2.fits;
-        rest = λ xs after h. subst (λ (zs : List Step). left g v x s zs after) (sym (append_assoc one.0 two.0 xs))
+        rest = λ xs after h. subst (λ (zs : List Step). rest_of_turn g v x s zs after)
+            (sym (append_assoc one.0 two.0 xs))
             (go.rest (two.0 ++ xs) after (two.2.rest xs after h));
         counted = λ xs. ap (work_of g s) (append_assoc one.0 two.0 xs) ∙ go.counted (two.0 ++ xs)
             ∙ ap (λ (k : ℕ). n + k) (two.2.counted xs) ∙ sym (add_assoc n m (work_of g two.1 xs));
@@ -60,8 +61,8 @@ moves_on H K L a b c x y z n m first second = λ g ds s held stands at.
 -- a move with no step, where a turn that stands at one cursor stands at the other too
 pub moves_over : (H : Holding) (a : Actor) (x y : Cursor)
     → ((g : Setting) (s : Part) → StandsFor g s a → IsAt g a.vertex x s
-    → IsAt g a.vertex y s × ((ds : List Step) (after : Part) → left g a.vertex y s ds after
-    → left g a.vertex x s ds after))
+    → IsAt g a.vertex y s × ((ds : List Step) (after : Part) → rest_of_turn g a.vertex y s ds after
+    → rest_of_turn g a.vertex x s ds after))
     → Moves H a x H a y 0
 moves_over H a x y over = λ g ds s held stands at. (
   [],
@@ -88,14 +89,14 @@ one_if b = cond b 1 0
 
 -- the event that is due may be asked of the medium
 due_by : (g : Setting) (s : Part) (a : Actor) → StandsFor g s a → (act : Act) (e : Event) → part_of g e ≡ a.vertex
-    → unmet g e s ≡ None → act ≡ act_of g e s → (event_of a.vertex act ≡ e) × IsDueBy g a.vertex s act
+    → unmet_rule g e s ≡ None → act ≡ act_of g e s → (event_of a.vertex act ≡ e) × IsDueBy g a.vertex s act
 due_by g s a stands act e mine met is =
     let told : event_of a.vertex act ≡ e = ap (event_of a.vertex) is
     ∙ event_of_act g a.vertex stands.knows.vertex s e mine met in (
       told,
       record {
         mine = ap (part_of g) told ∙ mine;
-        met = ap (λ (y : Event). unmet g y s) told ∙ met;
+        met = ap (λ (y : Event). unmet_rule g y s) told ∙ met;
         needed = is ∙ sym (ap (λ (y : Event). act_of g y s) told);
       },
     )
@@ -194,7 +195,7 @@ then_over first_held H a0 a x0 x y n moved over = subst (λ (k : ℕ). Moves fir
 
 -- what is due at a cursor, made as an operation
 module _ (a : Actor) (x y : Cursor) (e : Event) (act : Act) (due : DueAt a x (Some (e, y)))
-    (needed : WhateverPart a (λ g s. part_of g e ≡ a.vertex → unmet g e s ≡ None → act ≡ act_of g e s)) where
+    (needed : WhateverPart a (λ g s. part_of g e ≡ a.vertex → unmet_rule g e s ≡ None → act ≡ act_of g e s)) where
   pub due_at : DueBy a x act e y
   due_at g s stands at = let goes = due g s stands at in (goes, needed g s stands goes.mine goes.met)
 
@@ -240,8 +241,8 @@ pub turn_ends : (H : Holding) (a : Actor) (x : Cursor) → DueAt a x None → Mo
 turn_ends H a x due = moves_over H a x At.Over (λ g s stands at. (
   tt,
   λ ds after h.
-      subst (λ (t : Part). left g a.vertex x s ds t) (sym h.1)
-      (subst (λ (xs : List Step). left g a.vertex x s xs s) (sym h.0) (due g s stands at)),
+      subst (λ (t : Part). rest_of_turn g a.vertex x s ds t) (sym h.1)
+      (subst (λ (xs : List Step). rest_of_turn g a.vertex x s xs s) (sym h.0) (due g s stands at)),
 ))
 
 -- a whole turn
@@ -276,7 +277,7 @@ fewer_since first_held H a0 a x0 x y n e meets moved due =
 
 -- what is due is an operation
 pub not_end : (a : Actor) (x y : Cursor) (e : Event) (act : Act) → DueAt a x (Some (e, y))
-    → WhateverPart a (λ g s. part_of g e ≡ a.vertex → unmet g e s ≡ None → act ≡ act_of g e s) → (H : Holding)
+    → WhateverPart a (λ g s. part_of g e ≡ a.vertex → unmet_rule g e s ≡ None → act ≡ act_of g e s) → (H : Holding)
     → Meets H a x → act ≢ Do.End
 not_end a x y e act due needed H (g, ds, s, held, stands, at) =
     let d = due_at a x y e act due needed g s stands at in

@@ -12,7 +12,7 @@ use Rattle.chip_part.specs.Setting.{Setting}
 use Rattle.chip_graph.proofs.SumLemmas.{tested_ext, picked_sum}
 use Rattle.chip_detect.specs.Books.{in_edges, out_edges}
 use Rattle.chip_detect.specs.Books as books
-use Rattle.chip_detect.specs.Acknowledging.{acknowledgeable}
+use Rattle.chip_detect.specs.Acknowledging.{acknowledgeable_count}
 use Rattle.chip_detect.specs.Acknowledging as detector
 use Rattle.chip_detect.specs.Tally.{message_limit}
 use Rattle.chip_part.specs.Edges.{graph_edges, all_edges, root_edge, tail_of, head_of}
@@ -107,7 +107,8 @@ module _ (g : Setting) (s : Part) (a : Actor) (stands : StandsFor g s a) where
   pub may_ack_is : (e : ℕ) → head_of g e ≡ a.vertex
       → detector.may_ack a.detect e (is_passive_now a) ≡ may_ack g (head_of g e) s e
   may_ack_is e at =
-      (λ j. acknowledgeable e (stands.books.parent j) (owed_is e at j) (all_owed_is j) (deficit_is j) (passive_is j))
+      (λ j. acknowledgeable_count e (stands.books.parent j) (owed_is e at j) (all_owed_is j) (deficit_is j)
+      (passive_is j))
       ∙ ap (λ (v : ℕ). may_ack g v s e) (sym at)
 
   -- ---- limits

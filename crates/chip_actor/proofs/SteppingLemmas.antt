@@ -21,7 +21,7 @@ use Rattle.chip_detect.specs.Steps.{Gets, Acknowledges, Sends, Settles}
 use Rattle.chip_part.specs.Edges.{all_edges, tail_of, head_of, mult_of, over_outs}
 use Rattle.chip_part.specs.declared.cause.Cause.{Cause}
 use Rattle.chip_part.specs.Part.{Part, Out, may_ack, cause}
-use Rattle.chip_part.specs.Rules.{Event, Take, Ack, Fire, Clear, Claim, Put, Halt, Settle, unmet}
+use Rattle.chip_part.specs.Rules.{Event, Take, Ack, Fire, Clear, Claim, Put, Halt, Settle, unmet_rule}
 use Rattle.chip_part.specs.Steps.{part_of, does, link_after, pending_after, got_after, saw}
 use Rattle.chip_part.specs.Kept.{KeepsPart}
 use Rattle.chip_actor.specs.declared.ends.outs.OutEnd.{OutEnd}
@@ -61,7 +61,7 @@ module _ (g : Setting) (s : Part) (a : Actor) (stands : StandsFor g s a) where
         detect_ins = books_ins ∙ k.detect_ins;
       }
 
-  kept_still : (x : Event) (seen : ℕ) → part_of g x ≡ a.vertex → unmet g x s ≡ None
+  kept_still : (x : Event) (seen : ℕ) → part_of g x ≡ a.vertex → unmet_rule g x s ≡ None
       → KeepsPart g a.vertex (does g (saw x seen) s)
   kept_still x seen at may = subst (λ (p : ℕ). KeepsPart g p (does g (saw x seen) s)) at
       (events_keep g (saw x seen) s may (subst (λ (p : ℕ). KeepsPart g p s) (sym at) stands.kept))
@@ -77,7 +77,8 @@ module _ (g : Setting) (s : Part) (a : Actor) (stands : StandsFor g s a) where
       (λ n. cond_no e i _ _ n ∙ stands.ins i at
       ∙ ap (head_state i g.ring) (sym (cond_no e i (after_take seen (s.into i).got) (s.into i).got n)))
 
-  pub takes : (e seen : ℕ) → head_of g e ≡ a.vertex → unmet g (Take e) s ≡ None → seen ≢ 0 → s.chips + seen ≤ 2 ^ 40
+  pub takes : (e seen : ℕ) → head_of g e ≡ a.vertex → unmet_rule g (Take e) s ≡ None → seen ≢ 0
+      → s.chips + seen ≤ 2 ^ 40
       → (is : InEnds) → ChangesIn a.ins is e (head_after_take seen) → (b : Books) → Gets a.detect b e → IsSound b
       → StandsFor g (does g (saw (Take e) seen) s)
       (record a { chips = a.chips + seen; ins = is; detect = b })
@@ -143,7 +144,7 @@ module _ (g : Setting) (s : Part) (a : Actor) (stands : StandsFor g s a) where
 
   -- ---- a settle
 
-  pub settles : (e seen : ℕ) → tail_of g e ≡ a.vertex → unmet g (Settle e) s ≡ None → (b : Books)
+  pub settles : (e seen : ℕ) → tail_of g e ≡ a.vertex → unmet_rule g (Settle e) s ≡ None → (b : Books)
       → Settles a.detect b e (seen - settled_of a.detect e) → IsSound b
       → StandsFor g (does g (saw (Settle e) seen) s) (record a { detect = b })
   settles e seen at may b change sound = record {
@@ -177,7 +178,7 @@ module _ (g : Setting) (s : Part) (a : Actor) (stands : StandsFor g s a) where
 
   -- ---- an acknowledgement
 
-  pub acknowledges : (e count : ℕ) → head_of g e ≡ a.vertex → unmet g (Ack e) s ≡ None
+  pub acknowledges : (e count : ℕ) → head_of g e ≡ a.vertex → unmet_rule g (Ack e) s ≡ None
       → count ≡ may_ack g (head_of g e) s e → (b : Books) → Acknowledges a.detect b e count → IsSound b
       → b.parent ≡ (if is_parent e a.detect.parent && eqb count (Rattle.chip_detect.specs.Books.owed a.detect e)
       then None else a.detect.parent) → (seen : ℕ)
@@ -210,7 +211,7 @@ module _ (g : Setting) (s : Part) (a : Actor) (stands : StandsFor g s a) where
 
   -- ---- a halt
 
-  pub halts : (v seen : ℕ) → v ≡ a.vertex → unmet g (Halt v) s ≡ None → (halt : Option Cause) → halt ≡ cause g v s
+  pub halts : (v seen : ℕ) → v ≡ a.vertex → unmet_rule g (Halt v) s ≡ None → (halt : Option Cause) → halt ≡ cause g v s
       → StandsFor g (does g (saw (Halt v) seen) s) (record a { halt = halt })
   halts v seen at may halt is = record {
     knows = knows_still a.chips a.fired halt a.outs a.ins a.detect a.pending a.unput a.refused refl refl refl refl;
@@ -255,7 +256,7 @@ module _ (g : Setting) (s : Part) (a : Actor) (stands : StandsFor g s a) where
       record { mult = mult; pending = pending; link = tail_state e g.ring (q j) } in n
 
   -- a vertex looks at a cell only with a place left
-  pub may_look : (e : ℕ) → tail_of g e ≡ a.vertex → unmet g (Clear e) s ≡ None
+  pub may_look : (e : ℕ) → tail_of g e ≡ a.vertex → unmet_rule g (Clear e) s ≡ None
       → may_clear (tail_state e g.ring (s.out e).link) ≡ true
   may_look e at may =
       let met = vertex_clear g e s (Rattle.chip_actor.proofs.StandingLemmas.out_inside g s a stands e at) may in
@@ -267,7 +268,7 @@ module _ (g : Setting) (s : Part) (a : Actor) (stands : StandsFor g s a) where
       (Rattle.std.proofs.lemmas.Bool.and_from _ _ (ap Rattle.std.proofs.Common.is_none hand) (ap not met.2))
       (Rattle.std.proofs.Common.lt-ltb _ _ (omega arith))
 
-  pub clears : (e seen : ℕ) → tail_of g e ≡ a.vertex → unmet g (Clear e) s ≡ None → (os : OutEnds)
+  pub clears : (e seen : ℕ) → tail_of g e ≡ a.vertex → unmet_rule g (Clear e) s ≡ None → (os : OutEnds)
       → ChangesOut a.outs os e (out_after_clear seen)
       → StandsFor g (does g (saw (Clear e) seen) s) (record a { outs = os })
   clears e seen at may os change = record {
@@ -330,7 +331,7 @@ module _ (g : Setting) (s : Part) (a : Actor) (stands : StandsFor g s a) where
       same_refused false t = refl
 
   -- a claim that is taken
-  pub claims : (e seen : ℕ) → tail_of g e ≡ a.vertex → unmet g (Claim e) s ≡ None → seen ≡ claims_of (s.out e).link
+  pub claims : (e seen : ℕ) → tail_of g e ≡ a.vertex → unmet_rule g (Claim e) s ≡ None → seen ≡ claims_of (s.out e).link
       → (os : OutEnds) → ChangesOut a.outs os e (out_after_claim seen) → (b : Books) → Sends a.detect b e → IsSound b
       → StandsFor g (does g (saw (Claim e) seen) s)
       (record a { outs = os; detect = b; pending = a.pending - (s.out e).pending; unput = a.unput + 1 })
@@ -419,7 +420,8 @@ module _ (g : Setting) (s : Part) (a : Actor) (stands : StandsFor g s a) where
       }
 
   -- a claim that a seal refuses
-  pub is_refused : (e seen : ℕ) → tail_of g e ≡ a.vertex → unmet g (Claim e) s ≡ None → seen ≢ claims_of (s.out e).link
+  pub is_refused : (e seen : ℕ) → tail_of g e ≡ a.vertex → unmet_rule g (Claim e) s ≡ None
+      → seen ≢ claims_of (s.out e).link
       → (os : OutEnds) → ChangesOut a.outs os e (out_after_claim seen)
       → StandsFor g (does g (saw (Claim e) seen) s)
       (record a { outs = os; refused = a.refused + 1 })
@@ -507,7 +509,7 @@ module _ (g : Setting) (s : Part) (a : Actor) (stands : StandsFor g s a) where
       }
 
   -- a put
-  pub puts : (e seen : ℕ) → tail_of g e ≡ a.vertex → unmet g (Put e) s ≡ None → (os : OutEnds)
+  pub puts : (e seen : ℕ) → tail_of g e ≡ a.vertex → unmet_rule g (Put e) s ≡ None → (os : OutEnds)
       → ChangesOut a.outs os e out_after_put
       → StandsFor g (does g (saw (Put e) seen) s) (record a { outs = os; unput = a.unput - 1 })
   puts e seen at may os change =
@@ -574,7 +576,7 @@ module _ (g : Setting) (s : Part) (a : Actor) (stands : StandsFor g s a) where
 
   -- ---- a firing
 
-  pub fires : (v k seen : ℕ) → v ≡ a.vertex → unmet g (Fire v k) s ≡ None → (os : OutEnds)
+  pub fires : (v k seen : ℕ) → v ≡ a.vertex → unmet_rule g (Fire v k) s ≡ None → (os : OutEnds)
       → ChangesOuts a.outs os (out_after_fire k)
       → StandsFor g (does g (saw (Fire v k) seen) s)
       (record a { chips = a.chips - k * a.degree; fired = a.fired + k; outs = os; pending = k * a.degree })

@@ -8,7 +8,7 @@ use Rattle.chip_link.specs.Link.{claims_of, tail_state, head_state}
 use Rattle.chip_detect.specs.Books.{Books, IsSound, in_edges, out_edges, got_of, acked_of, sent_of, settled_of}
 use Rattle.chip_part.specs.Edges.{root_edge, tail_of, head_of, mult_of}
 use Rattle.chip_part.specs.declared.cause.Cause.{Cause}
-use Rattle.chip_part.specs.Part.{Part, Out, pending_of, unput, refusals}
+use Rattle.chip_part.specs.Part.{Part, Out, pending_of, unput_count, refusals}
 use Rattle.chip_part.specs.Kept.{KeepsPart}
 use Rattle.chip_part.specs.Rules.{Event}
 use Rattle.chip_part.specs.declared.reply.Reply.{Reply}
@@ -72,7 +72,7 @@ pub record StandsFor (g : Setting) (s : Part) (a : Actor) : Type 0 where
   pub ins : (e : ℕ) → head_of g e ≡ a.vertex → in_on a.ins e ≡ head_state e g.ring (s.into e).got
   pub books : KeepsBooks g s a.vertex a.detect
   pub pending : a.pending ≡ pending_of g a.vertex s
-  pub unput : a.unput ≡ unput g a.vertex s
+  pub unput : a.unput ≡ unput_count g a.vertex s
   pub refused : a.refused ≡ refusals g a.vertex s
 
 -- whatever part an actor stands for

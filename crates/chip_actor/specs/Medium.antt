@@ -5,12 +5,12 @@ use Rattle.std.specs.Prelude.{◌≡◌, ℕ, Bool, ◌+◌, List, [], ◌∷◌
 use Rattle.chip_part.specs.Setting.{Setting}
 use Rattle.chip_part.specs.declared.act.Act.{Act}
 use Rattle.chip_part.specs.Part.{Part}
-use Rattle.chip_part.specs.Rules.{unmet}
+use Rattle.chip_part.specs.Rules.{unmet_rule}
 use Rattle.chip_part.specs.Steps.{Step, part_of, does, reply_of, saw}
 use Rattle.chip_part.specs.Acting.{act_of, event_of, FitsSeen}
 use Rattle.chip_part.specs.Turn.{turn}
 use Rattle.chip_part.specs.declared.cursor.Cursor.{Cursor}
-use Rattle.chip_part.specs.Cursor.{left, IsAt}
+use Rattle.chip_part.specs.Cursor.{rest_of_turn, IsAt}
 use Rattle.chip_part.specs.Counting.{work_of, is_work}
 use Rattle.chip_actor.specs.Actor.{Actor, StandsFor}
 
@@ -22,7 +22,7 @@ Holding = Setting → ℕ → List Step → Part → Type 0
 -- the operation is the one that an event of the vertex v needs, whose rules are met
 pub record IsDueBy (g : Setting) (v : ℕ) (s : Part) (act : Act) : Type 0 where
   pub mine : part_of g (event_of v act) ≡ v
-  pub met : unmet g (event_of v act) s ≡ None
+  pub met : unmet_rule g (event_of v act) s ≡ None
   pub needed : act ≡ act_of g (event_of v act) s
 
 -- some record is held after which the operation is due
@@ -62,7 +62,8 @@ pub record GoesOn (now : Holding) (g : Setting) (v : ℕ) (ds : List Step) (s : 
   pub stands : StandsFor g t b
   pub vertex : b.vertex ≡ v
   pub fits : IsAt g v to t
-  pub rest : (xs : List Step) (after : Part) → left g v to t xs after → left g v from s (more ++ xs) after
+  pub rest : (xs : List Step) (after : Part) → rest_of_turn g v to t xs after
+      → rest_of_turn g v from s (more ++ xs) after
   pub counted : (xs : List Step) → work_of g s (more ++ xs) ≡ count + work_of g t xs
 
 -- whatever record was held, with the part that the actor stood for, a turn that stood at the first cursor went on to

@@ -62,9 +62,9 @@ impl ActorState {
     ghost use Rattle.chip_detect.specs.Acknowledging.{may_ack};
     ghost use Rattle.chip_detect.specs.Slot.{IsSlotOf};
     ghost use Rattle.chip_part.specs.Setting.{setting_with};
-    ghost use Rattle.chip_part.specs.Part.{opened, is_passive, cause};
+    ghost use Rattle.chip_part.specs.Part.{opening_part, is_passive, cause};
     ghost use Rattle.chip_part.specs.Edges.{tail_of, head_of};
-    ghost use Rattle.chip_part.specs.Rules.{unmet};
+    ghost use Rattle.chip_part.specs.Rules.{unmet_rule};
     ghost use Rattle.chip_part.specs.Steps.{part_of};
     ghost use Rattle.chip_part.specs.Acting.{act_of, event_of, verdict, CanDo, IsDue};
     ghost use Rattle.chip_actor.specs.Actor.{Actor, StandsFor, WhateverPart, SomePart, Makes, is_legal_now};
@@ -166,7 +166,7 @@ impl ActorState {
 
     fn ack_rule(&self, edge: u64) -> Option<Rule>
         requires { SomePart self.now (λ g s. head_of g edge ≡ self.now.vertex) }
-        ensures { WhateverPart self.now (λ g s. head_of g edge ≡ self.now.vertex → result ≡ unmet g (Ack edge) s) }
+        ensures { WhateverPart self.now (λ g s. head_of g edge ≡ self.now.vertex → result ≡ unmet_rule g (Ack edge) s) }
     {
         first_unmet(&[
             (self.detect.owed(edge) != 0, Rule::NothingOwed),
@@ -179,7 +179,7 @@ impl ActorState {
 
     fn fire_rule(&self, k: u64) -> Option<Rule>
         requires { SomePart self.now (λ g s. ⊤) }
-        ensures { WhateverPart self.now (λ g s. result ≡ unmet g (Fire self.now.vertex k) s) }
+        ensures { WhateverPart self.now (λ g s. result ≡ unmet_rule g (Fire self.now.vertex k) s) }
     {
         first_unmet(&[
             (!self.is_sink, Rule::Sink),
@@ -193,7 +193,8 @@ impl ActorState {
 
     fn clear_rule(&self, edge: u64) -> Option<Rule>
         requires { SomePart self.now (λ g s. tail_of g edge ≡ self.now.vertex) }
-        ensures { WhateverPart self.now (λ g s. tail_of g edge ≡ self.now.vertex → result ≡ unmet g (Clear edge) s) }
+        ensures { WhateverPart self.now
+            (λ g s. tail_of g edge ≡ self.now.vertex → result ≡ unmet_rule g (Clear edge) s) }
     {
         let out = self.outs.get(edge);
         first_unmet(&[
@@ -205,7 +206,8 @@ impl ActorState {
 
     fn claim_rule(&self, edge: u64) -> Option<Rule>
         requires { SomePart self.now (λ g s. tail_of g edge ≡ self.now.vertex) }
-        ensures { WhateverPart self.now (λ g s. tail_of g edge ≡ self.now.vertex → result ≡ unmet g (Claim edge) s) }
+        ensures { WhateverPart self.now
+            (λ g s. tail_of g edge ≡ self.now.vertex → result ≡ unmet_rule g (Claim edge) s) }
     {
         let is_clear = self.outs.get(edge).link.claim_next().is_some();
         first_unmet(&[
@@ -216,13 +218,13 @@ impl ActorState {
 
     fn put_rule(&self, edge: u64) -> Option<Rule>
         requires { SomePart self.now (λ g s. tail_of g edge ≡ self.now.vertex) }
-        ensures { WhateverPart self.now (λ g s. tail_of g edge ≡ self.now.vertex → result ≡ unmet g (Put edge) s) }
+        ensures { WhateverPart self.now (λ g s. tail_of g edge ≡ self.now.vertex → result ≡ unmet_rule g (Put edge) s) }
     {
         first_unmet(&[(self.outs.get(edge).link.held().is_some(), Rule::NotClaimed)])
     }
 
     fn halt_rule(&self) -> Option<Rule>
-        ensures { WhateverPart self.now (λ g s. result ≡ unmet g (Halt self.now.vertex) s) }
+        ensures { WhateverPart self.now (λ g s. result ≡ unmet_rule g (Halt self.now.vertex) s) }
     {
         first_unmet(&[
             (!self.is_sink, Rule::Sink),
@@ -235,7 +237,8 @@ impl ActorState {
     // The first rule of an event of the vertex that isn't met.
     fn unmet(&self, event: &Event) -> Option<Rule>
         requires { SomePart self.now (λ g s. part_of g event.now ≡ self.now.vertex) }
-        ensures { WhateverPart self.now (λ g s. part_of g event.now ≡ self.now.vertex → result ≡ unmet g event.now s) }
+        ensures { WhateverPart self.now
+            (λ g s. part_of g event.now ≡ self.now.vertex → result ≡ unmet_rule g event.now s) }
     {
         match *event {
             Event::Take(_) | Event::Settle(_) => None,
@@ -252,8 +255,9 @@ impl ActorState {
 
     // The operation that an event of the vertex needs, whose rules are met.
     fn act(&self, event: &Event) -> Act
-        requires { SomePart self.now (λ g s. (part_of g event.now ≡ self.now.vertex) × (unmet g event.now s ≡ None)) }
-        ensures { WhateverPart self.now (λ g s. part_of g event.now ≡ self.now.vertex → unmet g event.now s ≡ None
+        requires { SomePart self.now
+            (λ g s. (part_of g event.now ≡ self.now.vertex) × (unmet_rule g event.now s ≡ None)) }
+        ensures { WhateverPart self.now (λ g s. part_of g event.now ≡ self.now.vertex → unmet_rule g event.now s ≡ None
             → result ≡ act_of g event.now s) }
     {
         match *event {
@@ -296,7 +300,7 @@ impl ActorState {
     pub fn may(&self, event: &Event) -> Result<Act, Rule>
         requires { SomePart self.now (λ g s. part_of g event.now ≡ self.now.vertex) }
         ensures { WhateverPart self.now (λ g s. part_of g event.now ≡ self.now.vertex
-            → result ≡ verdict (unmet g event.now s) (act_of g event.now s)) }
+            → result ≡ verdict (unmet_rule g event.now s) (act_of g event.now s)) }
     {
         match self.unmet(event) {
             Some(rule) => Err(rule),
@@ -449,7 +453,7 @@ impl ActorState {
         requires { vertex < game.now.graph.vertices }
         ensures vertex { IfOk result (λ actor. actor.vertex ≡ vertex) }
         ensures opened { IfOk result (λ actor. (fed : Bool) → let g = setting_with game.now ring fed in
-            StandsFor g (opened g) actor) }
+            StandsFor g (opening_part g) actor) }
     {
         prove!(ring.cells() <= MAX_RING);
         let graph = game.graph();

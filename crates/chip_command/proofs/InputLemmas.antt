@@ -9,7 +9,7 @@ use Rattle.std.specs.Io.KnownBytes.{Keeps}
 use Rattle.chip_graph.specs.Limits.{SizeLimits}
 use Rattle.chip_graph.specs.Multigraph.{IsGraph}
 use Rattle.chip_graph.specs.ChipGame.{ChipGame, IsGame}
-use Rattle.chip_graph.specs.Faults.{first_of_faults, unless, fault_of_game}
+use Rattle.chip_graph.specs.Faults.{first_of_faults, fault_unless, fault_of_game}
 use Rattle.chip_graph.specs.declared.fault.GameFault.TheVariants as game_fault
 use Rattle.chip_file.specs.GraphText.{MeansGraph}
 use Rattle.chip_file.specs.ChipsText.{chips_of_text}
@@ -30,12 +30,12 @@ refused_game limits graph_text chips_text limit (Err fault) P is why = why fault
 
 -- a test that finds no fault is passed, and what comes after it finds none
 pub passed : {F : Type 0} (test : Bool) (fault : F) (later : Option F)
-    → first_of_faults (unless test fault) later ≡ None → (test ≡ true) × (later ≡ None)
+    → first_of_faults (fault_unless test fault) later ≡ None → (test ≡ true) × (later ≡ None)
 passed true fault later none = (refl, none)
 passed false fault later none = cc
 
 -- a test that finds no fault is passed
-pub alone_passed : {F : Type 0} (test : Bool) (fault : F) → unless test fault ≡ None → test ≡ true
+pub alone_passed : {F : Type 0} (test : Bool) (fault : F) → fault_unless test fault ≡ None → test ≡ true
 alone_passed true fault none = refl
 alone_passed false fault none = cc
 

@@ -25,7 +25,7 @@ use Rattle.csv.proofs.RoundTrip.{rows_text, read-write}
 use Rattle.chip_graph.specs.Limits.{standard}
 use Rattle.chip_graph.specs.Multigraph.{Multigraph, IsGraph}
 use Rattle.chip_graph.specs.Edges.{all_edges}
-use Rattle.chip_graph.specs.Faults.{first_of_faults, unless}
+use Rattle.chip_graph.specs.Faults.{first_of_faults, fault_unless}
 use Rattle.chip_link.specs.declared.trace.TraceRow.{TraceRow}
 use Rattle.chip_link.specs.declared.trace.TraceRow.TheVariants.{Take, Fire}
 use Rattle.chip_file.specs.Answer.{Answers}
@@ -402,7 +402,7 @@ pub read_is_in_graph : ReadIsInGraph
 read_is_in_graph G text traces meant =
     let rows = rows_under_header (records_of text) in
     let fine = given (trace_text_fault G text) (map (trace_in rows) (range_with_len 0 G.vertices)) traces meant in
-    let none = none_parts (unless (has_header trace_header (records_of text)) fault.Header)
+    let none = none_parts (fault_unless (has_header trace_header (records_of text)) fault.Header)
     (first_row_fault (by_index (trace_row_fault G)) [] rows) fine.0 in
     let all = All-from_recursion (λ row. IsRowIn G (trace_row_in row)) rows (rows_fit G [] rows none.1) in
     let are : AreTracesIn G (map (trace_in rows) (range_with_len 0 G.vertices)) = record {

@@ -1,7 +1,7 @@
 -- Worked traces, as the definitions write and read them, and exit statuses and faults by their numbers.
 use Rattle.std.specs.Prelude.{◌≡◌, ℕ, List, [], ◌∷◌, codes, Some}
 use Rattle.chip_graph.specs.Multigraph.{Multigraph}
-use Rattle.chip_graph.specs.Worked.{single}
+use Rattle.chip_graph.specs.Worked.{single_edge}
 use Rattle.chip_link.specs.declared.trace.TraceRow.{TraceRow}
 use Rattle.chip_link.specs.declared.trace.TraceRow.TheVariants.{Take, Fire}
 use Rattle.chip_file.specs.TraceText.{traces_of_text}
@@ -14,7 +14,7 @@ use Rattle.chip_command.specs.declared.status.Status.TheVariants.{Done, Failed, 
 
 -- one edge, from vertex 0 to the sink; the root edges are 1 and 2
 abbrev pub one_edge : Multigraph
-one_edge = record { vertices = 2; sink = 1; edges = single 0 1 ∷ [] }
+one_edge = record { vertices = 2; sink = 1; edges = single_edge 0 1 ∷ [] }
 
 -- vertex 0 takes its twelve chips and fires them, and the sink takes what comes
 abbrev pub two_traces : List (List TraceRow)

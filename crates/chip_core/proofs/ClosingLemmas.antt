@@ -8,7 +8,7 @@ use Rattle.std.proofs.lemmas.Bool.{and_from, not_from_false}
 use Rattle.std.proofs.lemmas.List.{get_or_past, drop_all}
 use mathlib.Core.Logic.{dite}
 use native.Mathlib.Decide.{ℕ_discrete, dec_lt}
-use Rattle.chip_graph.specs.Sums.{picked}
+use Rattle.chip_graph.specs.Sums.{filter_below}
 use Rattle.chip_graph.specs.Multigraph.{degree}
 use Rattle.chip_graph.specs.ChipGame.{IsGame}
 use Rattle.chip_part.specs.Setting.{Setting}
@@ -31,11 +31,12 @@ use Rattle.chip_part.proofs.PartLemmas.{at_edge, idle_take, passive_parts, no_fi
 use Rattle.chip_part.proofs.PartLemmas.{out_zero, none_halt}
 use Rattle.chip_part.proofs.EdgeLemmas.{tail_root}
 use Rattle.chip_core.specs.Core.{Log, Step, Event, Take, Ack, Fire, Clear, Claim, Put, Halt, Settle, Seal, Read, Feed}
-use Rattle.chip_core.specs.Core.{End, Rule, Part, unmet, part_of, does, part_in, out_in, into_in, sees, is_by_limit}
+use Rattle.chip_core.specs.Core.{End, Rule, Part, unmet_rule, part_of, does, part_in, out_in, into_in, sees}
+use Rattle.chip_core.specs.Core.{is_by_limit}
 use Rattle.chip_core.specs.Core.{IsLegalLog, answer, step, log_after, IsClosed, outstanding, tail_of, head_of, root}
 use Rattle.chip_core.specs.Core.{stopper, root_edge, all_edges, graph_edges}
 use Rattle.chip_core.specs.Messages.{counts_in_flight, messages_from, in_flight}
-use Rattle.chip_core.specs.Positions.{started, held, chips_at, firings, AgreesWith}
+use Rattle.chip_core.specs.Positions.{chips_given, held, chips_at, firings, AgreesWith}
 use Rattle.chip_core.specs.Headline.{NoneHalted, NoneHaltedBySeal}
 use Rattle.chip_core.specs.Laws.{NothingInFlight}
 use Rattle.chip_core.proofs.LogLemmas.{part_here, part_else, part_kept, tail_inside, tail_cases}
@@ -192,7 +193,7 @@ module _ (g : Setting) (game : IsGame g.game) (some_ring : 0 < g.ring) where
           (tail_cases g game e)
 
       pub chips_are : (v : ℕ) → v < g.game.graph.vertices
-          → chips_at g log v ≡ position_after g.game.graph (started g log) (firings log) v
+          → chips_at g log v ≡ position_after g.game.graph (chips_given g log) (firings log) v
       chips_are v l =
           let a = (leads_to g game some_ring log legal).position v l in
           let b : over_ins g v (λ e. sum (counts_in_flight g log e)) ≡ 0 = tested_none (all_edges g)
@@ -202,7 +203,7 @@ module _ (g : Setting) (game : IsGame g.game) (some_ring : 0 < g.ring) where
           omega arith
 
       -- a vertex that may still fire was halted by the limit
-      legal_halted : (v : ℕ) → IsLegal g.game.graph (position_after g.game.graph (started g log) (firings log)) v
+      legal_halted : (v : ℕ) → IsLegal g.game.graph (position_after g.game.graph (chips_given g log) (firings log)) v
           → (part_in g log v).halt ≡ Some FiringLimit
       legal_halted v can =
           let same = chips_are v can.is_vertex in
@@ -214,11 +215,11 @@ module _ (g : Setting) (game : IsGame g.game) (some_ring : 0 < g.ring) where
           ∙ (passive_parts g v s (resting v can.is_vertex).passive runs).2)))
           (λ h. ⊎_elim (λ z. z) (λ z. absurd (no_seal v can.is_vertex z)) h) (cases_halt s.halt)
 
-      has_ended : HasEndedWithin g.game.graph (started g log) g.game.limit (firings log)
+      has_ended : HasEndedWithin g.game.graph (chips_given g log) g.game.limit (firings log)
       has_ended v can = counts_are g log v ∙ ((part_kept g game log legal v).at_limit (legal_halted v can)).0
 
       -- the firings that were made are a whole play
-      pub played : IsWholePlay g.game.graph (started g log) g.game.limit (firings log)
+      pub played : IsWholePlay g.game.graph (chips_given g log) g.game.limit (firings log)
       played = record {
         sequence = is_sequence g game some_ring log legal;
         within = is_within g game some_ring log legal;
@@ -235,15 +236,16 @@ module _ (g : Setting) (game : IsGame g.game) (some_ring : 0 < g.ring) where
           (λ seal. absurd (no_seal v l seal)) h)
           (cases_halt s.halt)
 
-      pub over : picked (λ v. is_by_limit (part_in g log v).halt) g.game.graph.vertices
+      pub over : filter_below (λ v. is_by_limit (part_in g log v).halt) g.game.graph.vertices
           ≡ legal_vertices g.game.graph (chips_at g log)
       over = picked_ext (λ v. is_by_limit (part_in g log v).halt)
           (λ v. is_legal g v (part_in g log v)) g.game.graph.vertices by_limit_is
 
       -- counts and chips are those of every whole play
-      pub agrees_within : (vs : List ℕ) → IsWholePlay g.game.graph (started g log) g.game.limit vs → AgreesWith g log vs
+      pub agrees_within : (vs : List ℕ) → IsWholePlay g.game.graph (chips_given g log) g.game.limit vs
+          → AgreesWith g log vs
       agrees_within vs whole =
-          let one = one_end g.game.graph (started g log) g.game.limit (firings log) vs played whole in
+          let one = one_end g.game.graph (chips_given g log) g.game.limit (firings log) vs played whole in
           record { counted = λ v. sym (counts_are g log v) ∙ one.0 v; chips = λ v l. chips_are v l ∙ one.1 v }
 
     -- ---- where no vertex halted
@@ -252,21 +254,21 @@ module _ (g : Setting) (game : IsGame g.game) (some_ring : 0 < g.ring) where
       no_seals : NoneHaltedBySeal g log
       no_seals v l h = none_halt g (part_in g log v).halt SealedEdge (no_halts v l) h
 
-      pub all_ended : HasEnded g.game.graph (started g log) (firings log)
+      pub all_ended : HasEnded g.game.graph (chips_given g log) (firings log)
       all_ended v can = none_halt g (part_in g log v).halt FiringLimit (no_halts v can.is_vertex)
           (legal_halted no_seals v can)
 
       -- counts and chips are those of every sequence that ends with no vertex legal
-      pub agrees : (vs : List ℕ) → IsFiringSequence g.game.graph (started g log) vs
-          → HasEnded g.game.graph (started g log) vs → AgreesWith g log vs
+      pub agrees : (vs : List ℕ) → IsFiringSequence g.game.graph (chips_given g log) vs
+          → HasEnded g.game.graph (chips_given g log) vs → AgreesWith g log vs
       agrees vs ok ended =
-          let one = same_ends g.game.graph game.graph_fits (started g log) (firings log) vs
+          let one = same_ends g.game.graph game.graph_fits (chips_given g log) (firings log) vs
           (is_sequence g game some_ring log legal) all_ended ok ended in
           record { counted = λ v. sym (counts_are g log v) ∙ one.0 v; chips = λ v l. chips_are no_seals v l ∙ one.1 v }
 
   -- ---- afterwards
 
-  still_answer : (log : Log) (x : Event) (o : Option Rule) → unmet g x (part_in g log (part_of g x)) ≡ o
+  still_answer : (log : Log) (x : Event) (o : Option Rule) → unmet_rule g x (part_in g log (part_of g x)) ≡ o
       → IsLegalLog g log → IsClosed g log → IsClosed g (answer g log x o).0
       × ((p : ℕ) → p ≢ stopper g → part_in g (answer g log x o).0 p ≡ part_in g log p)
   still_answer log x None met legal closed = let next : IsLegalLog g (saw x (sees g log x) ∷ log) =
@@ -278,7 +280,7 @@ module _ (g : Setting) (game : IsGame g.game) (some_ring : 0 < g.ring) where
       × ((p : ℕ) → p ≢ stopper g → part_in g (log_after g log ys) p ≡ part_in g log p)
   still_run log legal closed [] = (closed, λ p ne. refl)
   still_run log legal closed (y ∷ ys) =
-      let one = still_answer log y (unmet g y (part_in g log (part_of g y))) refl legal closed in
+      let one = still_answer log y (unmet_rule g y (part_in g log (part_of g y))) refl legal closed in
       let rest = still_run (step g log y).0 (step_legal g log y legal) one.0 ys in
       (rest.0, λ p ne. rest.1 p ne ∙ one.1 p ne)
 

@@ -28,7 +28,7 @@ use Rattle.chip_part.proofs.OpeningLemmas.{first_sent, first_fed}
 use Rattle.chip_core.specs.Core.{Log, Step, Event, Clear, Claim, Put, Seal, Feed}
 use Rattle.chip_core.specs.Core.{part_of, part_in, out_in, stop_in, sees, IsLegalLog, tail_of, root}
 use Rattle.chip_core.specs.Core.{root_edge, all_edges, graph_edges}
-use Rattle.chip_core.specs.Positions.{started, played_game, fed_of, fed_in}
+use Rattle.chip_core.specs.Positions.{chips_given, played_game, fed_of, fed_in}
 use Rattle.chip_core.specs.Histories.{done_by}
 use Rattle.chip_core.specs.Laws.{GivenByTheRecord, UnfedRecordsNone}
 use Rattle.chip_core.proofs.LogLemmas.{link_step, stop_step, part_kept, out_kept, edge_sound}
@@ -81,7 +81,7 @@ module _ (g : Setting) where
 
   module _ (game : IsGame g.game) (some_ring : 0 < g.ring) where
     -- nothing was given to what isn't a vertex
-    pub started_outside : (log : Log) → IsLegalLog g log → (v : ℕ) → g.game.graph.vertices ≤ v → started g log v ≡ 0
+    pub started_outside : (log : Log) → IsLegalLog g log → (v : ℕ) → g.game.graph.vertices ≤ v → chips_given g log v ≡ 0
     started_outside log legal v past =
         let each = game.start_fits in
         ap (λ (t : Tail). sum (sent_counts t)) (outside_is log legal (root_edge g v) (omega arith))
@@ -110,7 +110,7 @@ module _ (g : Setting) where
 
     gives : (x : Event) (log : Log) → IsLegalLog g log → Met g x (part_in g log (part_of g x)) → (v : ℕ)
         → sum (sent_counts (link_after x (sees g log x) (root_edge g v) (out_in g log (root_edge g v))))
-        ≡ started g log v + brought_to (fed_of g x) v
+        ≡ chips_given g log v + brought_to (fed_of g x) v
     gives (Feed i k) log legal may v =
         let o = out_in g log (root_edge g v) in
         let past = may.0 in
@@ -154,7 +154,7 @@ module _ (g : Setting) where
     gives x log legal may v = let b = brought_none v in omega arith
 
     pub started_step : (x : Step) (log : Log) → IsLegalLog g (x ∷ log) → (v : ℕ)
-        → started g (x ∷ log) v ≡ started g log v + brought_to (fed_of g x.event) v
+        → chips_given g (x ∷ log) v ≡ chips_given g log v + brought_to (fed_of g x.event) v
     started_step x log legal v =
         let e : ℕ = root_edge g v in
         ap (λ (t : Tail). sum (sent_counts t)) (link_step g x log e
@@ -162,7 +162,7 @@ module _ (g : Setting) where
         ∙ gives x.event log legal.0 (rules_met g x.event (part_in g log (part_of g x.event)) legal.1.0) v
 
     pub started_grows : (x : Step) (log : Log) → IsLegalLog g (x ∷ log) → (v : ℕ)
-        → started g log v ≤ started g (x ∷ log) v
+        → chips_given g log v ≤ chips_given g (x ∷ log) v
     started_grows x log legal v = let a = started_step x log legal v in omega arith
 
     -- ---- by the root's own record
@@ -199,7 +199,7 @@ module _ (g : Setting) where
 
     -- what a vertex was given is its start and what the record fed it
     pub started_recorded : (log : Log) → IsLegalLog g log → (v : ℕ)
-        → started g log v ≡ start_of g v + brought_to (recorded log) v
+        → chips_given g log v ≡ start_of g v + brought_to (recorded log) v
     started_recorded [] legal v = let a = first_sent g v in let b = brought_none v in omega arith
     started_recorded (x ∷ log) legal v =
         let a = started_step x log legal v in
@@ -227,17 +227,17 @@ module _ (g : Setting) where
     fed_once x s may = nothing_fed
 
     total_recorded : (log : Log) → IsLegalLog g log
-        → sum_below g.game.graph.vertices (started g log) ≡ sum g.game.start + all_brought (recorded log)
+        → sum_below g.game.graph.vertices (chips_given g log) ≡ sum g.game.start + all_brought (recorded log)
     total_recorded [] legal =
         let a = first_fed g game in
-        let b = sum_below_ext g.game.graph.vertices (started g []) (λ v. sum (sent_counts (opening_tail g (root_edge g v))))
+        let b = sum_below_ext g.game.graph.vertices (chips_given g []) (λ v. sum (sent_counts (opening_tail g (root_edge g v))))
         (λ v l. refl) in
         omega arith
     total_recorded (x ∷ log) legal =
         let may = rules_met g x.event (part_in g log (part_of g x.event)) legal.1.0 in
-        let a = sum_below_ext g.game.graph.vertices (started g (x ∷ log))
-        (λ v. started g log v + brought_to (fed_of g x.event) v) (λ v l. started_step x log legal v) in
-        let b = sum_below_add g.game.graph.vertices (started g log) (brought_to (fed_of g x.event)) in
+        let a = sum_below_ext g.game.graph.vertices (chips_given g (x ∷ log))
+        (λ v. chips_given g log v + brought_to (fed_of g x.event) v) (λ v l. started_step x log legal v) in
+        let b = sum_below_add g.game.graph.vertices (chips_given g log) (brought_to (fed_of g x.event)) in
         let c = fed_once x.event (part_in g log (part_of g x.event)) may in
         let d = total_recorded log legal.0 in
         let f = ap all_brought (recorded_step x log legal) in
@@ -247,23 +247,24 @@ module _ (g : Setting) where
     -- ---- all that was given
 
     pub given_each : (log : Log) (v : ℕ) → v < g.game.graph.vertices
-        → slice_index (played_game g log).start v ≡ started g log v
-    given_each log v l = get_or-map-range_with_len (started g log) 0 g.game.graph.vertices v v 0 l (omega arith)
+        → slice_index (played_game g log).start v ≡ chips_given g log v
+    given_each log v l = get_or-map-range_with_len (chips_given g log) 0 g.game.graph.vertices v v 0 l (omega arith)
 
-    pub given_is : (log : Log) → IsLegalLog g log → slice_index (played_game g log).start ≡ started g log
+    pub given_is : (log : Log) → IsLegalLog g log → slice_index (played_game g log).start ≡ chips_given g log
     given_is log legal j v = (dite (dec_lt v g.game.graph.vertices) (λ l. given_each log v l)
-        (λ nl. let n = length-map-range_with_len (started g log) 0 g.game.graph.vertices in
+        (λ nl. let n = length-map-range_with_len (chips_given g log) 0 g.game.graph.vertices in
         get_or_past (played_game g log).start v 0 (omega arith) ∙ sym (started_outside log legal v (omega arith)))) j
 
-    pub given_sum : (log : Log) → sum (played_game g log).start ≡ sum_below g.game.graph.vertices (started g log)
+    pub given_sum : (log : Log) → sum (played_game g log).start ≡ sum_below g.game.graph.vertices (chips_given g log)
     given_sum log = sum_by_place (played_game g log).start
         ∙ ap (λ (n : ℕ). sum_below n (slice_index (played_game g log).start))
-        (length-map-range_with_len (started g log) 0 g.game.graph.vertices)
-        ∙ sum_below_ext g.game.graph.vertices (slice_index (played_game g log).start) (started g log) (given_each log)
+        (length-map-range_with_len (chips_given g log) 0 g.game.graph.vertices)
+        ∙ sum_below_ext g.game.graph.vertices (slice_index (played_game g log).start) (chips_given g log)
+        (given_each log)
 
     -- it is what the root sent
     pub root_gave : (log : Log) → sum (played_game g log).start ≡ all_fed g (part_in g log (root g))
-    root_gave log = given_sum log ∙ sum_below_ext g.game.graph.vertices (started g log)
+    root_gave log = given_sum log ∙ sum_below_ext g.game.graph.vertices (chips_given g log)
         (λ v. sum (sent_counts ((part_in g log (root g)).out (root_edge g v)).link))
         (λ v l. ap (λ (p : ℕ). sum (sent_counts ((part_in g log p).out (root_edge g v)).link))
         (tail_root g (root_edge g v) (omega arith)))
@@ -276,7 +277,7 @@ module _ (g : Setting) where
     pub played_is_game : (log : Log) → IsLegalLog g log → IsGame (played_game g log)
     played_is_game log legal = record {
       graph_fits = game.graph_fits;
-      start_fits = length-map-range_with_len (started g log) 0 g.game.graph.vertices;
+      start_fits = length-map-range_with_len (chips_given g log) 0 g.game.graph.vertices;
       few_chips = given_within log legal;
       low_limit = game.low_limit;
     }
@@ -286,7 +287,7 @@ module _ (g : Setting) where
     played_has_more log legal = record {
       same_graph = refl;
       same_limit = refl;
-      start_each = length-map-range_with_len (started g log) 0 g.game.graph.vertices ∙ sym game.start_fits;
+      start_each = length-map-range_with_len (chips_given g log) 0 g.game.graph.vertices ∙ sym game.start_fits;
       start = λ v l. given_each log v (let n = game.start_fits in omega arith) ∙ started_recorded log legal v;
       total = given_sum log ∙ total_recorded log legal;
     }
@@ -294,13 +295,13 @@ module _ (g : Setting) where
     -- ---- where no chips are fed
 
     module _ (off : g.fed ≡ false) where
-      pub unfed_started : (log : Log) → IsLegalLog g log → (v : ℕ) → started g log v ≡ start_of g v
+      pub unfed_started : (log : Log) → IsLegalLog g log → (v : ℕ) → chips_given g log v ≡ start_of g v
       unfed_started log legal v = ap (λ (t : Tail). sum (sent_counts t))
           ((out_kept g game log legal (root_edge g v)).root_unfed (omega arith) off) ∙ first_sent g v
 
       pub unfed_start : (log : Log) → IsLegalLog g log → (played_game g log).start ≡ g.game.start
       unfed_start log legal =
-          let long = length-map-range_with_len (started g log) 0 g.game.graph.vertices in
+          let long = length-map-range_with_len (chips_given g log) 0 g.game.graph.vertices in
           ext_get_or 0 (played_game g log).start g.game.start (long ∙ sym game.start_fits)
           (λ v l. given_each log v (omega arith) ∙ unfed_started log legal v)
 
@@ -330,7 +331,7 @@ unfed_records_none g game some_ring log legal off = unfed_records g game some_ri
 -- what was given to each vertex is the start of the game that is played
 pub given_start : (g : Setting) (log : Log) (given : List ℕ) → AreGiven g (part_in g log (root g)) given
     → given ≡ (played_game g log).start
-given_start g log given are = fill_by_all (started g log) given g.game.graph.vertices 0 are.0
+given_start g log given are = fill_by_all (chips_given g log) given g.game.graph.vertices 0 are.0
     (λ v l. are.1 v l
     ∙ ap (λ (p : ℕ). sum (sent_counts ((part_in g log p).out (root_edge g v)).link))
     (sym (tail_root g (root_edge g v) (omega arith))))

@@ -25,12 +25,13 @@ use Rattle.chip_part.proofs.RuleLemmas.{rules_met}
 use Rattle.chip_part.proofs.PartLemmas.{at_edge, took_none}
 use Rattle.chip_part.proofs.OpeningLemmas.{first_few, first_sent}
 use Rattle.chip_core.specs.Core.{Log, Event, Take, Ack, Fire, Clear, Claim, Put, Halt, Settle, Seal, Read, Feed, End}
-use Rattle.chip_core.specs.Core.{Rule, Out, unmet, part_of, reply_of, part_in, out_in, into_in, stop_in, fired_by, sees}
+use Rattle.chip_core.specs.Core.{Rule, Out, unmet_rule, part_of, reply_of, part_in, out_in, into_in, stop_in, fired_by}
+use Rattle.chip_core.specs.Core.{sees}
 use Rattle.chip_core.specs.Core.{IsLegalLog, answer, step, log_after, replies_to, tail_of, head_of, graph_edges}
 use Rattle.chip_core.specs.Messages.{Message, sent_by, delivered_by, is_seal_of, sent_in, sent_after_seal, is_seal}
 use Rattle.chip_core.specs.Messages.{was_sealed, messages_from, counts_in_flight, in_flight, sent_on, delivered_on}
 use Rattle.chip_core.specs.Messages.{AreInOrderFrom, chips_in}
-use Rattle.chip_core.specs.Positions.{started, held}
+use Rattle.chip_core.specs.Positions.{chips_given, held}
 use Rattle.chip_core.specs.Laws.{SentStands, OpeningMessages, InOrderFromTheOpening, HeldFromTheOpening, GivenIsFed}
 use Rattle.chip_core.proofs.LogLemmas.{edge_sound, link_step, got_step}
 use Rattle.chip_core.proofs.GivenLemmas.{feed_sees, feed_sends}
@@ -184,7 +185,7 @@ module _ (g : Setting) where
       → sent_in e xs (replies_to g log xs) ≡ []
   sealed_before log [] e was = refl
   sealed_before log (x ∷ xs) e was =
-      let o : Option Rule = unmet g x (part_in g log (part_of g x)) in
+      let o : Option Rule = unmet_rule g x (part_in g log (part_of g x)) in
       ap (λ (ms : List Message). ms ++ sent_in e xs (replies_to g (step g log x).0 xs)) (no_send log e was x o)
       ∙ sealed_before (step g log x).0 xs e (stays_sealed log e was x o)
 
@@ -212,7 +213,7 @@ module _ (g : Setting) where
       let here : Bool = is_seal_of e x (step g log x).1 in
       by_test here
       (λ on. cond_true here (sent_in e xs (replies_to g next xs)) (sent_after_seal e xs (replies_to g next xs)) on
-      ∙ sealed_before next xs e (now_sealed log e x (unmet g x (part_in g log (part_of g x))) on))
+      ∙ sealed_before next xs e (now_sealed log e x (unmet_rule g x (part_in g log (part_of g x))) on))
       (λ off. cond_false here (sent_in e xs (replies_to g next xs)) (sent_after_seal e xs (replies_to g next xs)) off
       ∙ nothing_after_seal next xs e)
 
@@ -273,7 +274,7 @@ module _ (g : Setting) where
   delivered_is log (x ∷ xs) e =
       delivered_is (step g log x).0 xs e
       ∙ ap (λ (l : List Message). l ++ delivered_on g (step g log x).0 xs e)
-      (got_answer log x (unmet g x (part_in g log (part_of g x))) e)
+      (got_answer log x (unmet_rule g x (part_in g log (part_of g x))) e)
       ∙ append_assoc (got_at log e) (delivered_by e x (step g log x).1) (delivered_on g (step g log x).0 xs e)
 
   module _ (game : IsGame g.game) (some_ring : 0 < g.ring) where
@@ -283,7 +284,8 @@ module _ (g : Setting) where
     abbrev sent_at : Log → ℕ → List Message
     sent_at log e = messages_from e 0 (sent_counts (out_in g log e).link)
 
-    sent_event : (x : Event) (log : Log) (e : ℕ) → IsLegalLog g log → unmet g x (part_in g log (part_of g x)) ≡ None
+    sent_event : (x : Event) (log : Log) (e : ℕ) → IsLegalLog g log
+        → unmet_rule g x (part_in g log (part_of g x)) ≡ None
         → messages_from e 0 (sent_counts (link_after x (sees g log x) e (out_in g log e))) ≡ sent_at log e
         ++ sent_by e x (reply_of g x (sees g log x) (part_in g log (part_of g x)))
     sent_event (Clear i) log e legal met = ap (messages_from e 0)
@@ -353,7 +355,7 @@ module _ (g : Setting) where
         ∙ append-nil (sent_at log j))) e
         ∙ sym (ap (λ (l : List Message). sent_at log e ++ l) reply)
 
-    sent_answer : (log : Log) (x : Event) (o : Option Rule) (e : ℕ) → unmet g x (part_in g log (part_of g x)) ≡ o
+    sent_answer : (log : Log) (x : Event) (o : Option Rule) (e : ℕ) → unmet_rule g x (part_in g log (part_of g x)) ≡ o
         → IsLegalLog g log → sent_at (answer g log x o).0 e ≡ sent_at log e ++ sent_by e x (answer g log x o).1
     sent_answer log x None e met legal = ap (λ (t : Tail). messages_from e 0 (sent_counts t))
         (link_step g (saw x (sees g log x)) log e) ∙ sent_event x log e legal met
@@ -367,7 +369,7 @@ module _ (g : Setting) where
     sent_is log (x ∷ xs) e legal =
         sent_is (step g log x).0 xs e (step_legal g log x legal)
         ∙ ap (λ (l : List Message). l ++ sent_in e xs (replies_to g (step g log x).0 xs))
-        (sent_answer log x (unmet g x (part_in g log (part_of g x))) e refl legal)
+        (sent_answer log x (unmet_rule g x (part_in g log (part_of g x))) e refl legal)
         ∙ append_assoc (sent_at log e) (sent_by e x (step g log x).1) (sent_in e xs (replies_to g (step g log x).0 xs))
 
     -- ---- what is in flight
@@ -445,7 +447,7 @@ module _ (g : Setting) where
     empty_list (x ∷ xs) z = absurd (omega arith)
 
     -- what was given is the start and what was fed
-    pub given_is_fed_at : (xs : List Event) (v : ℕ) → started g (log_after g [] xs) v
+    pub given_is_fed_at : (xs : List Event) (v : ℕ) → chips_given g (log_after g [] xs) v
         ≡ start_of g v + chips_in (sent_in (root_edge g v) xs (replies_to g [] xs))
     given_is_fed_at xs v =
         let e : ℕ = root_edge g v in

@@ -24,10 +24,11 @@ use Rattle.chip_part.specs.Acting.{is_of_root, FitsRoot}
 use Rattle.chip_part.proofs.EdgeLemmas.{tail_root}
 use Rattle.chip_part.proofs.RuleLemmas.{rules_met}
 use Rattle.chip_core.specs.Core.{root, Log, Event, Take, Ack, Fire, Clear, Claim, Put, Halt, Settle, Seal, Read, Feed}
-use Rattle.chip_core.specs.Core.{End, unmet, part_of, part_in, out_in, into_in, stop_in, fired_by, word_of_part, sees}
+use Rattle.chip_core.specs.Core.{End, unmet_rule, part_of, part_in, out_in, into_in, stop_in, fired_by, word_of_part}
+use Rattle.chip_core.specs.Core.{sees}
 use Rattle.chip_core.specs.Core.{is_by_limit, IsLegalLog, tail_of, head_of, root_edge, all_edges, graph_edges}
 use Rattle.chip_core.specs.Messages.{counts_in_flight, is_seal, was_sealed}
-use Rattle.chip_core.specs.Positions.{started, played_game, full_position, firings}
+use Rattle.chip_core.specs.Positions.{chips_given, played_game, full_position, firings}
 use Rattle.chip_core.specs.Laws.{CountsOf, CountsOfEdges, ChipsOfEdges, NumbersOf, NumbersAreSmall, CellsOf, CellsTell}
 use Rattle.chip_core.specs.Laws.{WordsOf, WordsTell, PartsAreKept, SealsStand, SeenFits, RootSeenFits}
 use Rattle.chip_core.specs.Laws.{UnfedIsTheStart, FeedsAreSent, GivenIsAGame}
@@ -84,9 +85,10 @@ module _ (g : Setting) where
     pub full_position_most : (v : ℕ) → v < g.game.graph.vertices → full_position g log v ≤ sum (played_game g log).start
     full_position_most v l =
         let a = (leads_to g game some_ring log legal).position v l in
-        let b = chips_are_kept g.game.graph game.graph_fits (started g log) (firings log)
+        let b = chips_are_kept g.game.graph game.graph_fits (chips_given g log) (firings log)
         (is_sequence g game some_ring log legal) in
-        let c = sum_below_term g.game.graph.vertices (position_after g.game.graph (started g log) (firings log)) v l in
+        let c = sum_below_term g.game.graph.vertices
+        (position_after g.game.graph (chips_given g log) (firings log)) v l in
         let d = given_sum g game some_ring log in
         omega arith
 
@@ -116,7 +118,7 @@ module _ (g : Setting) where
 
     -- of a root edge: one for each chip that was given at most
     pub few_root_claims : (e : ℕ) → graph_edges g ≤ e
-        → claims_of (out_in g log e).link ≤ started g log (e - graph_edges g)
+        → claims_of (out_in g log e).link ≤ chips_given g log (e - graph_edges g)
     few_root_claims e l =
         let s = edge_sound g game some_ring log legal e in
         let t = (out_in g log e).link in
@@ -127,10 +129,10 @@ module _ (g : Setting) where
         let d = ap (λ (i : ℕ). sum (sent_counts (out_in g log i).link)) at in
         omega arith
 
-    given_most : (v : ℕ) → started g log v ≤ sum (played_game g log).start
+    given_most : (v : ℕ) → chips_given g log v ≤ sum (played_game g log).start
     given_most v = dite (dec_lt v g.game.graph.vertices)
         (λ l. let a = given_sum g game some_ring log in
-        let b = sum_below_term g.game.graph.vertices (started g log) v l in omega arith)
+        let b = sum_below_term g.game.graph.vertices (chips_given g log) v l in omega arith)
         (λ n. let a = started_outside g game some_ring log legal v (omega arith) in omega arith)
 
     -- of any edge
@@ -250,7 +252,8 @@ module _ (g : Setting) where
         let c0 = c.0 in let c1 = c.1 in let c2 = c.2 in let c3 = c.3 in
         (c0, omega arith)
 
-    pub fits_seen : (x : Event) → part_of g x < g.game.graph.vertices → unmet g x (part_in g log (part_of g x)) ≡ None
+    pub fits_seen : (x : Event) → part_of g x < g.game.graph.vertices
+        → unmet_rule g x (part_in g log (part_of g x)) ≡ None
         → FitsSeen (part_in g log (part_of g x)) x (sees g log x)
     fits_seen (Take e) at met = take_fits e (rules_met g (Take e) (part_in g log (head_of g e)) met)
     fits_seen (Claim e) at met = (edge_reads e).claims_are
@@ -271,7 +274,7 @@ module _ (g : Setting) where
     root_settle_fits e past = subst (λ (p : ℕ). FitsSeen (part_in g log p) (Settle e) (sees g log (Settle e)))
         (tail_root g e past) (settle_fits e)
 
-    pub root_fits : (x : Event) → is_of_root g x ≡ true → unmet g x (part_in g log (root g)) ≡ None
+    pub root_fits : (x : Event) → is_of_root g x ≡ true → unmet_rule g x (part_in g log (root g)) ≡ None
         → FitsRoot g (part_in g log (root g)) x (sees g log x)
     root_fits (Settle e) own met = root_settle_fits e (leb-true (graph_edges g) e own)
     root_fits End own met = root_settle_fits (root_edge g 0) (omega arith)
@@ -290,7 +293,7 @@ module _ (g : Setting) where
     root_fits (Seal e) own met = absurd (true≢false (sym own))
 
     -- so an actor may be told of it
-    pub can_do : (x : Event) → part_of g x < g.game.graph.vertices → unmet g x (part_in g log (part_of g x)) ≡ None
+    pub can_do : (x : Event) → part_of g x < g.game.graph.vertices → unmet_rule g x (part_in g log (part_of g x)) ≡ None
         → CanDo g (part_in g log (part_of g x)) (part_of g x) x (sees g log x)
     can_do x at met = (refl, met, fits_seen x at met)
 

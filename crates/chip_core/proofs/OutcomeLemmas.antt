@@ -10,7 +10,7 @@ use Rattle.std.proofs.lemmas.List.Elements.{All-from_get_or}
 use Rattle.std.proofs.lemmas.List.Sums.{get_or-le-sum_by}
 use mathlib.Core.Logic.{dite}
 use native.Mathlib.Decide.{dec_lt}
-use Rattle.chip_graph.specs.Sums.{picked}
+use Rattle.chip_graph.specs.Sums.{filter_below}
 use Rattle.chip_graph.specs.Multigraph.{Multigraph, IsGraph, edge_at, degree}
 use Rattle.chip_graph.specs.ChipGame.{IsGame}
 use Rattle.chip_part.specs.Setting.{Setting}
@@ -28,7 +28,7 @@ use Rattle.chip_sequence.proofs.LegalLemmas.{picked_no, picked_ext, picked_ascen
 use Rattle.chip_part.specs.declared.cause.Cause.{Cause}
 use Rattle.chip_part.specs.declared.cause.Cause.TheVariants.{SealedEdge, FiringLimit}
 use Rattle.chip_core.specs.Core.{Log, part_in, fired_by, is_by_limit, IsLegalLog, IsClosed}
-use Rattle.chip_core.specs.Positions.{started, played_game, chips_at, firings}
+use Rattle.chip_core.specs.Positions.{chips_given, played_game, chips_at, firings}
 use Rattle.chip_core.specs.Headline.{NoneHaltedBySeal}
 use Rattle.chip_core.proofs.GivenLemmas.{started_outside, given_is, given_within}
 use Rattle.chip_core.proofs.PositionLemmas.{counts_are, is_sequence, is_within, none_below, by_counts}
@@ -36,7 +36,7 @@ use Rattle.chip_core.proofs.ClosingLemmas.{played, agrees_within, over}
 use Rattle.chip_core.specs.Outcomes.{is_by_seal, AreFired, IsOutcomeOf, ComesTo, OutcomesTell}
 
 -- nothing passes, and nothing is listed
-picked_none : (test : ℕ → Bool) (n : ℕ) → ((v : ℕ) → v < n → test v ≡ false) → picked test n ≡ []
+picked_none : (test : ℕ → Bool) (n : ℕ) → ((v : ℕ) → v < n → test v ≡ false) → filter_below test n ≡ []
 picked_none test zero off = refl
 picked_none test (suc n) off = picked_no test n (off n (omega arith)) ∙ picked_none test n (λ v l. off v (omega arith))
 
@@ -64,7 +64,7 @@ module _ (g : Setting) (game : IsGame g.game) (some_ring : 0 < g.ring) (log : Lo
   -- what isn't a vertex never fires
   fired_outside : (v : ℕ) → g.game.graph.vertices ≤ v → fired_by g log v ≡ 0
   fired_outside v past = sym (counts_are g log v)
-      ∙ counts_outside g.game.graph (firings log) (started g log) v (is_sequence g game some_ring log legal) past
+      ∙ counts_outside g.game.graph (firings log) (chips_given g log) v (is_sequence g game some_ring log legal) past
 
   all_fired : (fired : List ℕ) → AreFired g log g.game.graph.vertices fired → (v : ℕ)
       → slice_index fired v ≡ fired_by g log v
@@ -77,12 +77,12 @@ module _ (g : Setting) (game : IsGame g.game) (some_ring : 0 < g.ring) (log : Lo
 
   -- no vertex has fired more chips than it had
   pub never_negative : (fired : List ℕ) → AreFired g log g.game.graph.vertices fired → (v : ℕ)
-      → IsBelowZero g.game.graph (started g log) (slice_index fired) v → ⊥
+      → IsBelowZero g.game.graph (chips_given g log) (slice_index fired) v → ⊥
   never_negative fired are v low = none_below g game some_ring log legal v
-      (subst (λ (f : ℕ → ℕ). IsBelowZero g.game.graph (started g log) f v) (same_fired fired are) low)
+      (subst (λ (f : ℕ → ℕ). IsBelowZero g.game.graph (chips_given g log) f v) (same_fired fired are) low)
 
   -- nothing lies where no vertex is
-  chips_outside : (v : ℕ) → g.game.graph.vertices ≤ v → position_by_counts g.game.graph (started g log) (fired_by g log) v
+  chips_outside : (v : ℕ) → g.game.graph.vertices ≤ v → position_by_counts g.game.graph (chips_given g log) (fired_by g log) v
       ≡ 0
   chips_outside v past =
       let a = started_outside g game some_ring log legal v past in
@@ -90,20 +90,20 @@ module _ (g : Setting) (game : IsGame g.game) (some_ring : 0 < g.ring) (log : Lo
       omega arith
 
   module _ (o : Outcome) (is : IsOutcomeOf g log o) where
-    chips_are : (v : ℕ) → slice_index o.chips.items v ≡ position_after g.game.graph (started g log) (firings log) v
+    chips_are : (v : ℕ) → slice_index o.chips.items v ≡ position_after g.game.graph (chips_given g log) (firings log) v
     chips_are v =
         dite (dec_lt v g.game.graph.vertices)
         (λ l. is.chips.by_counts v l
         ∙ ap (λ (x : ℕ → ℕ). position_by_counts g.game.graph x (slice_index o.fired.items) v)
         (given_is g game some_ring log legal)
-        ∙ ap (λ (f : ℕ → ℕ). position_by_counts g.game.graph (started g log) f v)
+        ∙ ap (λ (f : ℕ → ℕ). position_by_counts g.game.graph (chips_given g log) f v)
         (same_fired o.fired.items is.fired))
         (λ nl. let n = is.chips.chips_each in get_or_past o.chips.items v 0 (omega arith)
         ∙ sym (chips_outside v (omega arith)))
         ∙ sym (by_counts g game some_ring log legal v)
 
     -- the firings that were made come to it
-    pub comes : ComesTo g (started g log) (firings log) o
+    pub comes : ComesTo g (chips_given g log) (firings log) o
     comes = record {
       sequence = is_sequence g game some_ring log legal;
       within = is_within g game some_ring log legal;
@@ -150,7 +150,7 @@ module _ (g : Setting) (game : IsGame g.game) (some_ring : 0 < g.ring) (log : Lo
     -- ---- where no seal halted a vertex
 
     module _ (closed : IsClosed g log) (no_seal : NoneHaltedBySeal g log) where
-      whole : IsWholePlay g.game.graph (started g log) g.game.limit (firings log)
+      whole : IsWholePlay g.game.graph (chips_given g log) g.game.limit (firings log)
       whole = played g game some_ring log legal closed no_seal
 
       -- the chips that lie there are those of the outcome
@@ -166,7 +166,7 @@ module _ (g : Setting) (game : IsGame g.game) (some_ring : 0 < g.ring) (log : Lo
       -- it is every player's, in the game that was played
       pub is_played : IsPlayed (played_game g log) o
       is_played =
-          let from : started g log ≡ slice_index (played_game g log).start =
+          let from : chips_given g log ≡ slice_index (played_game g log).start =
           sym (given_is g game some_ring log legal) in
           record {
             ends = (firings log, subst (λ (x : ℕ → ℕ). IsWholePlay g.game.graph x g.game.limit (firings log)) from whole);
@@ -184,9 +184,9 @@ module _ (g : Setting) (game : IsGame g.game) (some_ring : 0 < g.ring) (log : Lo
         where
           ends_alike : (vs : List ℕ) → IsWholePlay g.game.graph (slice_index (played_game g log).start) g.game.limit vs
               → ((u : ℕ) → counts (firings log) u ≡ counts vs u)
-              × ((u : ℕ) → position_after g.game.graph (started g log) (firings log) u
-              ≡ position_after g.game.graph (started g log) vs u)
-          ends_alike vs play = one_end g.game.graph (started g log) g.game.limit (firings log) vs whole
+              × ((u : ℕ) → position_after g.game.graph (chips_given g log) (firings log) u
+              ≡ position_after g.game.graph (chips_given g log) vs u)
+          ends_alike vs play = one_end g.game.graph (chips_given g log) g.game.limit (firings log) vs whole
               (subst (λ (x : ℕ → ℕ). IsWholePlay g.game.graph x g.game.limit vs) (given_is g game some_ring log legal) play)
 
 pub outcomes_tell : OutcomesTell

@@ -16,7 +16,7 @@ use Rattle.chip_sequence.specs.Sequence.{position_after, IsFiringSequence, count
 use Rattle.chip_sequence.specs.Counted.{inflow, position_by_counts, IsBelowZero}
 use Rattle.chip_sequence.proofs.FiringLemmas.{counts-append, counts-replicate, inflow_ext, position_is, sequence-append}
 use Rattle.chip_sequence.proofs.FiringLemmas.{batch, position_by_counts_law, more_chips}
-use Rattle.chip_part.specs.Edges.{root_edge, mult_of, over_ins, made}
+use Rattle.chip_part.specs.Edges.{root_edge, mult_of, over_ins, chips_of_firings}
 use Rattle.chip_part.proofs.EdgeLemmas.{over_ins_graph, tail_graph}
 use Rattle.chip_part.proofs.RuleLemmas.{rules_met}
 use Rattle.chip_part.specs.Steps.{saw}
@@ -24,7 +24,7 @@ use Rattle.chip_core.specs.Core.{Log, Step, Event, Take, Ack, Fire, Clear, Claim
 use Rattle.chip_core.specs.Core.{End, Part, part_of, does, part_in, out_in, into_in, fired_by, IsLegalLog, tail_of}
 use Rattle.chip_core.specs.Core.{head_of, all_edges, graph_edges}
 use Rattle.chip_core.specs.Messages.{counts_in_flight}
-use Rattle.chip_core.specs.Positions.{started, held, full_position, firings, firings_of, LeadsTo}
+use Rattle.chip_core.specs.Positions.{chips_given, held, full_position, firings, firings_of, LeadsTo}
 use Rattle.chip_core.specs.Laws.{gone_into}
 use Rattle.chip_core.proofs.LogLemmas.{part_here, part_else, part_kept, out_kept, edge_sound}
 use Rattle.chip_core.proofs.GivenLemmas.{started_grows}
@@ -74,17 +74,20 @@ module _ (g : Setting) where
   counts_are [] u = refl
   counts_are (x ∷ log) u = counts_step x.event x.seen log u (counts_are log u)
 
-  pub gone_graph : (log : Log) (e : ℕ) → e < graph_edges g → gone_into g log e ≡ made g e (fired_by g log (tail_of g e))
-  gone_graph log e l = cond_true (ltb e (length g.game.graph.edges)) (made g e (fired_by g log (tail_of g e)))
-      (started g log (e - graph_edges g)) (lt-ltb e (length g.game.graph.edges) l)
+  pub gone_graph : (log : Log) (e : ℕ) → e < graph_edges g
+      → gone_into g log e ≡ chips_of_firings g e (fired_by g log (tail_of g e))
+  gone_graph log e l = cond_true (ltb e (length g.game.graph.edges))
+      (chips_of_firings g e (fired_by g log (tail_of g e)))
+      (chips_given g log (e - graph_edges g)) (lt-ltb e (length g.game.graph.edges) l)
 
-  pub gone_root : (log : Log) (e : ℕ) → graph_edges g ≤ e → gone_into g log e ≡ started g log (e - graph_edges g)
-  gone_root log e l = cond_false (ltb e (length g.game.graph.edges)) (made g e (fired_by g log (tail_of g e)))
-      (started g log (e - graph_edges g)) (le-ltb e (length g.game.graph.edges) l)
+  pub gone_root : (log : Log) (e : ℕ) → graph_edges g ≤ e → gone_into g log e ≡ chips_given g log (e - graph_edges g)
+  gone_root log e l = cond_false (ltb e (length g.game.graph.edges))
+      (chips_of_firings g e (fired_by g log (tail_of g e)))
+      (chips_given g log (e - graph_edges g)) (le-ltb e (length g.game.graph.edges) l)
 
   -- what ever went into the edges into v: what it was given, and what its neighbours' firings brought
   pub gone_inflow : (log : Log) (v : ℕ) → v < g.game.graph.vertices
-      → over_ins g v (gone_into g log) ≡ started g log v + inflow g.game.graph (fired_by g log) v
+      → over_ins g v (gone_into g log) ≡ chips_given g log v + inflow g.game.graph (fired_by g log) v
   gone_inflow log v inside =
       let f : ℕ → ℕ = fired_by g log in
       let all = over_ins_graph g v inside (gone_into g log) in
@@ -92,8 +95,8 @@ module _ (g : Setting) where
       (gone_into g log) (λ e. (edge_at g.game.graph e).mult * f (edge_at g.game.graph e).tail)
       (λ e l on. gone_graph log e l ∙ ap (λ (t : ℕ). mult_of g e * f t) (tail_graph g e l)) in
       let at : root_edge g v - graph_edges g ≡ v = omega arith in
-      let one : gone_into g log (root_edge g v) ≡ started g log v = gone_root log (root_edge g v) (omega arith)
-      ∙ ap (started g log) at in
+      let one : gone_into g log (root_edge g v) ≡ chips_given g log v = gone_root log (root_edge g v) (omega arith)
+      ∙ ap (chips_given g log) at in
       omega arith
 
   module _ (game : IsGame g.game) (some_ring : 0 < g.ring) where
@@ -136,7 +139,7 @@ module _ (g : Setting) where
     edge_sum log legal e = let a = sent_sum log legal e in let b = gone_sum log legal e in omega arith
 
     full_sum : (log : Log) → IsLegalLog g log → (v : ℕ) → v < g.game.graph.vertices
-        → full_position g log v + degree g.game.graph v * fired_by g log v ≡ started g log v
+        → full_position g log v + degree g.game.graph v * fired_by g log v ≡ chips_given g log v
         + inflow g.game.graph (fired_by g log) v
     full_sum log legal v inside =
         let n : ℕ = all_edges g in
@@ -158,30 +161,32 @@ module _ (g : Setting) where
         let f = gone_inflow log v inside in
         omega arith
 
-    position_from : (log : Log) → IsLegalLog g log → IsFiringSequence g.game.graph (started g log) (firings log)
-        → (v : ℕ) → v < g.game.graph.vertices → position_after g.game.graph (started g log) (firings log) v
+    position_from : (log : Log) → IsLegalLog g log → IsFiringSequence g.game.graph (chips_given g log) (firings log)
+        → (v : ℕ) → v < g.game.graph.vertices → position_after g.game.graph (chips_given g log) (firings log) v
         ≡ full_position g log v
     position_from log legal ok v inside =
         let a = full_sum log legal v inside in
-        let b = position_is g.game.graph (firings log) (started g log) ok v in
+        let b = position_is g.game.graph (firings log) (chips_given g log) ok v in
         let c = ap (λ (n : ℕ). degree g.game.graph v * n) (counts_are log v) in
         let d = inflow_ext g.game.graph (counts (firings log)) (fired_by g log) (counts_are log) v in
         omega arith
 
-    same_sequence : (log : Log) (vs : List ℕ) → vs ≡ [] → IsFiringSequence g.game.graph (started g log) (firings log)
-        → IsFiringSequence g.game.graph (started g log) (firings log ++ vs)
-    same_sequence log vs none ok = subst (IsFiringSequence g.game.graph (started g log))
+    same_sequence : (log : Log) (vs : List ℕ) → vs ≡ []
+        → IsFiringSequence g.game.graph (chips_given g log) (firings log)
+        → IsFiringSequence g.game.graph (chips_given g log) (firings log ++ vs)
+    same_sequence log vs none ok = subst (IsFiringSequence g.game.graph (chips_given g log))
         (sym (ap (λ (l : List ℕ). firings log ++ l) none ∙ append-nil (firings log))) ok
 
     sequence_step : (ev : Event) (seen : ℕ) (log : Log) → IsLegalLog g (saw ev seen ∷ log)
-        → IsFiringSequence g.game.graph (started g log) (firings log)
-        → IsFiringSequence g.game.graph (started g log) (firings log ++ firings_of ev)
+        → IsFiringSequence g.game.graph (chips_given g log) (firings log)
+        → IsFiringSequence g.game.graph (chips_given g log) (firings log ++ firings_of ev)
     sequence_step (Fire v k) seen log legal ok =
         let may = rules_met g (Fire v k) (part_in g log v) legal.1.0 in
         let same = position_from log legal.0 ok v may.0 in
         let chips = may.7 in
-        sequence-append g.game.graph (firings log) (replicate k v) (started g log) ok
-        (batch g.game.graph v k (position_after g.game.graph (started g log) (firings log)) may.0 may.1 (omega arith))
+        sequence-append g.game.graph (firings log) (replicate k v) (chips_given g log) ok
+        (batch g.game.graph v k (position_after g.game.graph (chips_given g log) (firings log)) may.0 may.1
+        (omega arith))
     sequence_step (Take e) seen log legal ok = same_sequence log [] refl ok
     sequence_step (Ack e) seen log legal ok = same_sequence log [] refl ok
     sequence_step (Clear e) seen log legal ok = same_sequence log [] refl ok
@@ -194,9 +199,9 @@ module _ (g : Setting) where
     sequence_step (Feed e k) seen log legal ok = same_sequence log [] refl ok
     sequence_step End seen log legal ok = same_sequence log [] refl ok
 
-    pub is_sequence : (log : Log) → IsLegalLog g log → IsFiringSequence g.game.graph (started g log) (firings log)
+    pub is_sequence : (log : Log) → IsLegalLog g log → IsFiringSequence g.game.graph (chips_given g log) (firings log)
     is_sequence [] legal = tt
-    is_sequence (x ∷ log) legal = more_chips g.game.graph (started g log) (started g (x ∷ log))
+    is_sequence (x ∷ log) legal = more_chips g.game.graph (chips_given g log) (chips_given g (x ∷ log))
         (started_grows g game some_ring x log legal) (firings (x ∷ log))
         (sequence_step x.event x.seen log legal (is_sequence log legal.0))
 
@@ -216,14 +221,14 @@ module _ (g : Setting) where
     same_counts log j u = counts_are log u j
 
     pub none_below : (log : Log) → IsLegalLog g log → (v : ℕ)
-        → IsBelowZero g.game.graph (started g log) (fired_by g log) v → ⊥
+        → IsBelowZero g.game.graph (chips_given g log) (fired_by g log) v → ⊥
     none_below log legal v low =
-        (position_by_counts_law g.game.graph (started g log) (firings log) (is_sequence log legal) v).0
-        (subst (λ (f : ℕ → ℕ). IsBelowZero g.game.graph (started g log) f v) (sym (same_counts log)) low)
+        (position_by_counts_law g.game.graph (chips_given g log) (firings log) (is_sequence log legal) v).0
+        (subst (λ (f : ℕ → ℕ). IsBelowZero g.game.graph (chips_given g log) f v) (sym (same_counts log)) low)
 
     pub by_counts : (log : Log) → IsLegalLog g log → (v : ℕ)
-        → position_after g.game.graph (started g log) (firings log) v
-        ≡ position_by_counts g.game.graph (started g log) (fired_by g log) v
-    by_counts log legal v = (position_by_counts_law g.game.graph (started g log) (firings log)
+        → position_after g.game.graph (chips_given g log) (firings log) v
+        ≡ position_by_counts g.game.graph (chips_given g log) (fired_by g log) v
+    by_counts log legal v = (position_by_counts_law g.game.graph (chips_given g log) (firings log)
         (is_sequence log legal) v).1
-        ∙ ap (λ (f : ℕ → ℕ). position_by_counts g.game.graph (started g log) f v) (same_counts log)
+        ∙ ap (λ (f : ℕ → ℕ). position_by_counts g.game.graph (chips_given g log) f v) (same_counts log)

@@ -5,7 +5,7 @@ use mathlib.Core.Logic.{dite}
 use native.Mathlib.Decide.{ℕ_discrete}
 use Rattle.chip_graph.proofs.SumLemmas.{cond_yes, cond_no}
 use Rattle.chip_part.specs.Setting.{Setting}
-use Rattle.chip_core.specs.Core.{Log, Step, Part, opened, unmet, part_of, part_in, IsLegalLog, seen_of}
+use Rattle.chip_core.specs.Core.{Log, Step, Part, opening_part, unmet_rule, part_of, part_in, IsLegalLog, seen_of}
 use Rattle.chip_core.specs.Histories.{done_by, part_by}
 use Rattle.chip_core.specs.Reached.{parts_by, IsOneMore, IsReached, at_opening, one_more, ReachedByLegalLogs}
 use Rattle.chip_core.proofs.ReachingLemmas.{by_history}
@@ -14,14 +14,15 @@ module _ (g : Setting) where
   -- by these records the parts are those of the log
   same_parts : (records : ℕ → List Step) (log : Log) → ((p : ℕ) → records p ≡ done_by g p log)
       → parts_by g records ≡ part_in g log
-  same_parts records log same = λ j p. (ap (part_by g (opened g)) (same p) ∙ sym (by_history g log p)) j
+  same_parts records log same = λ j p. (ap (part_by g (opening_part g)) (same p) ∙ sym (by_history g log p)) j
 
   to_reached : (log : Log) → IsLegalLog g log → IsReached g (λ p. done_by g p log)
   to_reached [] legal = at_opening (λ p. done_by g p []) (λ p. refl)
   to_reached (x ∷ log) legal =
       let same = same_parts (λ p. done_by g p log) log (λ p. refl) in
       one_more (λ p. done_by g p log) (λ p. done_by g p (x ∷ log)) x (to_reached log legal.0) record {
-        may = subst (λ (parts : ℕ → Part). unmet g x.event (parts (part_of g x.event)) ≡ None) (sym same) legal.1.0;
+        may = subst (λ (parts : ℕ → Part). unmet_rule g x.event (parts (part_of g x.event)) ≡ None)
+            (sym same) legal.1.0;
         saw = subst (λ (parts : ℕ → Part). x.seen ≡ seen_of g parts x.event) (sym same) legal.1.1;
         mine = cond_yes (part_of g x.event) (part_of g x.event) (done_by g (part_of g x.event) log ++ x ∷ [])
             (done_by g (part_of g x.event) log) refl;
@@ -41,7 +42,7 @@ module _ (g : Setting) where
         (
           legal,
           (
-            subst (λ (parts : ℕ → Part). unmet g x.event (parts (part_of g x.event)) ≡ None) parts more.may,
+            subst (λ (parts : ℕ → Part). unmet_rule g x.event (parts (part_of g x.event)) ≡ None) parts more.may,
             subst
                 (λ (parts : ℕ → Part). x.seen ≡ seen_of g parts x.event) parts more.saw,
           ),

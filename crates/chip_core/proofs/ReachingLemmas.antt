@@ -6,9 +6,10 @@ use native.Mathlib.Decide.{ℕ_discrete}
 use Rattle.chip_part.specs.Setting.{Setting}
 use Rattle.chip_part.specs.Steps.{saw}
 use Rattle.chip_graph.proofs.SumLemmas.{cond_yes, cond_no}
-use Rattle.chip_core.specs.Core.{Log, Step, Event, Rule, Part, opened, unmet, part_of, does, part_in, IsLegalLog}
+use Rattle.chip_core.specs.Core.{Log, Step, Event, Rule, Part, opening_part, unmet_rule, part_of, does, part_in}
+use Rattle.chip_core.specs.Core.{IsLegalLog}
 use Rattle.chip_core.specs.Core.{answer, step, log_after}
-use Rattle.chip_core.specs.Positions.{asked_in}
+use Rattle.chip_core.specs.Positions.{events_in}
 use Rattle.chip_core.specs.Histories.{done_by, part_by}
 use Rattle.chip_core.specs.Laws.{PartsByTheirOwnEvents, LegalLogsAreRuns}
 use Rattle.chip_core.proofs.LogLemmas.{part_here, part_else}
@@ -18,25 +19,25 @@ module _ (g : Setting) where
   part_push s [] x = refl
   part_push s (y ∷ ys) x = part_push (does g y s) ys x
 
-  pub by_history : (log : Log) (p : ℕ) → part_in g log p ≡ part_by g (opened g) (done_by g p log)
+  pub by_history : (log : Log) (p : ℕ) → part_in g log p ≡ part_by g (opening_part g) (done_by g p log)
   by_history [] p = refl
   by_history (x ∷ log) p = dite (ℕ_discrete (part_of g x.event) p)
       (λ same. part_here g x log p same ∙ ap (does g x) (by_history log p)
-      ∙ sym (ap (part_by g (opened g))
+      ∙ sym (ap (part_by g (opening_part g))
       (cond_yes (part_of g x.event) p (done_by g p log ++ x ∷ []) (done_by g p log) same)
-      ∙ part_push (opened g) (done_by g p log) x))
+      ∙ part_push (opening_part g) (done_by g p log) x))
       (λ other. part_else g x log p other ∙ by_history log p
-      ∙ sym (ap (part_by g (opened g))
+      ∙ sym (ap (part_by g (opening_part g))
       (cond_no (part_of g x.event) p (done_by g p log ++ x ∷ []) (done_by g p log) other)))
 
-  pub answer_legal : (log : Log) (x : Event) (o : Option Rule) → unmet g x (part_in g log (part_of g x)) ≡ o
+  pub answer_legal : (log : Log) (x : Event) (o : Option Rule) → unmet_rule g x (part_in g log (part_of g x)) ≡ o
       → IsLegalLog g log → IsLegalLog g (answer g log x o).0
   answer_legal log x None is legal = (legal, (is, refl))
   answer_legal log x (Some r) is legal = legal
 
   -- one step of a legal log leaves one
   pub step_legal : (log : Log) (x : Event) → IsLegalLog g log → IsLegalLog g (step g log x).0
-  step_legal log x legal = answer_legal log x (unmet g x (part_in g log (part_of g x))) refl legal
+  step_legal log x legal = answer_legal log x (unmet_rule g x (part_in g log (part_of g x))) refl legal
 
   -- and so does a run
   pub run_legal : (log : Log) (xs : List Event) → IsLegalLog g log → IsLegalLog g (log_after g log xs)
@@ -49,9 +50,9 @@ module _ (g : Setting) where
   run_push log (y ∷ ys) x = run_push (step g log y).0 ys x
 
   -- a legal log is what the run of its events leaves
-  pub run_of : (log : Log) → IsLegalLog g log → log_after g [] (asked_in log) ≡ log
+  pub run_of : (log : Log) → IsLegalLog g log → log_after g [] (events_in log) ≡ log
   run_of [] legal = refl
-  run_of (x ∷ log) legal = run_push [] (asked_in log) x.event
+  run_of (x ∷ log) legal = run_push [] (events_in log) x.event
       ∙ ap (λ (l : Log). (step g l x.event).0) (run_of log legal.0)
       ∙ ap (λ (o : Option Rule). (answer g log x.event o).0) legal.1.0
       ∙ (λ j. saw x.event (sym legal.1.1 j) ∷ log)

@@ -8,7 +8,7 @@ use Rattle.chip_graph.proofs.SumLemmas.{tested_none}
 use Rattle.chip_part.specs.Part.{deficit}
 use Rattle.chip_part.proofs.RuleLemmas.{rules_met}
 use Rattle.chip_part.proofs.PartLemmas.{out_zero}
-use Rattle.chip_core.specs.Core.{Log, Step, Event, Read, unmet, part_of, part_in, sees, word_of_part, IsLegalLog}
+use Rattle.chip_core.specs.Core.{Log, Step, Event, Read, unmet_rule, part_of, part_in, sees, word_of_part, IsLegalLog}
 use Rattle.chip_core.specs.Core.{IsSettled, IsClosed, outstanding, tail_of, root, all_edges}
 use Rattle.chip_core.specs.Laws.{ReadsTell}
 use Rattle.chip_core.proofs.ClosingLemmas.{still, still_closed}
@@ -42,8 +42,8 @@ module _ (g : Setting) (game : IsGame g.game) (some_ring : 0 < g.ring) where
   read_here : (log : Log) (y : Step) (v : ℕ) → IsLegalLog g (y ∷ log) → y.event ≡ Read v
       → (v < g.game.graph.vertices) × IsClosed g log × (y.seen ≡ word_of_part (part_in g log v))
   read_here log y v legal is =
-      let none : unmet g (Read v) (part_in g log (root g))
-      ≡ None = sym (ap (λ (x : Event). unmet g x (part_in g log (part_of g x))) is) ∙ legal.1.0 in
+      let none : unmet_rule g (Read v) (part_in g log (root g))
+      ≡ None = sym (ap (λ (x : Event). unmet_rule g x (part_in g log (part_of g x))) is) ∙ legal.1.0 in
       let may = rules_met g (Read v) (part_in g log (root g)) none in
       (may.0, (closed_is g log).0 (may.2, may.1), legal.1.1 ∙ ap (sees g log) is)
 

@@ -11,7 +11,8 @@ use Rattle.chip_part.specs.declared.reply.Reply.TheVariants.{Got, Sent, Empty, S
 use Rattle.chip_part.specs.Steps.{message_of, saw}
 use Rattle.chip_part.proofs.PartLemmas.{at_edge, idle_take}
 use Rattle.chip_core.specs.Core.{Log, Step, Event, Take, Ack, Fire, Clear, Claim, Put, Halt, Settle, Seal, Read, Feed}
-use Rattle.chip_core.specs.Core.{End, Rule, Reply, Part, unmet, part_of, does, reply_of, part_in, sees, answer, step}
+use Rattle.chip_core.specs.Core.{End, Rule, Reply, Part, unmet_rule, part_of, does, reply_of, part_in, sees, answer}
+use Rattle.chip_core.specs.Core.{step}
 use Rattle.chip_core.specs.Core.{replies_to, log_after}
 use Rattle.chip_core.specs.Replies.{is_idle, DifferInNotes, IdleStepsLeave, RunsGoOn}
 use Rattle.chip_core.proofs.LogLemmas.{part_here, part_else}
@@ -161,7 +162,7 @@ module _ (g : Setting) where
 -- ---- the laws
 
 pub idle_steps_leave : IdleStepsLeave
-idle_steps_leave g log x idle = answer_leaves g log x (unmet g x (part_in g log (part_of g x))) idle
+idle_steps_leave g log x idle = answer_leaves g log x (unmet_rule g x (part_in g log (part_of g x))) idle
 
 pub runs_go_on : RunsGoOn
 runs_go_on g log xs ys = (length_replies g log xs, replies-append g log xs ys, log_after-append g log xs ys)

@@ -24,10 +24,11 @@ use Rattle.chip_part.specs.Steps.{link_after, got_after, acked_after, stop_after
 use Rattle.chip_part.proofs.PartLemmas.{may_le}
 use Rattle.chip_part.proofs.RuleLemmas.{rules_met}
 use Rattle.chip_core.specs.Core.{Log, Step, Event, Take, Ack, Fire, Clear, Claim, Put, Halt, Settle, Seal, Read, Feed}
-use Rattle.chip_core.specs.Core.{End, Part, Out, unmet, part_of, does, part_in, out_in, into_in, stop_in, word_of_part}
+use Rattle.chip_core.specs.Core.{End, Part, Out, unmet_rule, part_of, does, part_in, out_in, into_in, stop_in}
+use Rattle.chip_core.specs.Core.{word_of_part}
 use Rattle.chip_core.specs.Core.{sees, IsLegalLog, tail_of, head_of, root_edge, all_edges}
-use Rattle.chip_core.specs.Words.{Word, of_edge, of_acks, of_cell, of_vertex, IsWord, halt_bits, touched}
-use Rattle.chip_core.specs.Words.{noted, IsShown, acting, OperationsFind, IsLeft, WordsGoOn}
+use Rattle.chip_core.specs.Words.{Word, of_edge, of_acks, of_cell, of_vertex, IsWord, halt_bits, word_of_event}
+use Rattle.chip_core.specs.Words.{word_to_note, IsShown, acting_part, OperationsFind, IsLeft, WordsGoOn}
 use Rattle.chip_core.proofs.LogLemmas.{part_here, part_else, link_step, got_step, acked_step, stop_step, out_kept}
 use Rattle.chip_core.proofs.LogLemmas.{part_kept, edge_sound, empty_hand}
 use Rattle.chip_core.proofs.NumberLemmas.{claims_most}
@@ -85,8 +86,8 @@ word_halts FiringLimit n fired few is = ap (λ (k : ℕ). bit_or k (2 ^ 63 + 2 ^
     ∙ halts_by_limit fired false false few
 
 -- the word of an event whose rules are met is there
-pub word_for : (g : Setting) → 0 < g.game.graph.vertices → 0 < g.ring → (x : Event) (s : Part) → unmet g x s ≡ None
-    → IsWord g (touched g x s)
+pub word_for : (g : Setting) → 0 < g.game.graph.vertices → 0 < g.ring → (x : Event) (s : Part) → unmet_rule g x s ≡ None
+    → IsWord g (word_of_event g x s)
 word_for g some_vertex some_ring (Take e) s none = (rules_met g (Take e) s none, mod_below _ g.ring some_ring)
 word_for g some_vertex some_ring (Ack e) s none = (rules_met g (Ack e) s none).0
 word_for g some_vertex some_ring (Fire v k) s none = (rules_met g (Fire v k) s none).0
@@ -109,20 +110,21 @@ module _ (g : Setting) (game : IsGame g.game) (some_ring : 0 < g.ring) (log : Lo
   sound : (e : ℕ) → Sound g.ring (out_in g log e).link (into_in g log e).got (stop_in g log e)
   sound e = edge_sound g game some_ring log legal e
 
-  met_for : (x : Event) → unmet g x (acting g log x) ≡ None → Met g x (acting g log x)
-  met_for x none = rules_met g x (acting g log x) none
+  met_for : (x : Event) → unmet_rule g x (acting_part g log x) ≡ None → Met g x (acting_part g log x)
+  met_for x none = rules_met g x (acting_part g log x) none
 
   -- nothing is claimed on an edge that may be looked at
-  idle : (e : ℕ) → unmet g (Clear e) (part_in g log (tail_of g e)) ≡ None → (out_in g log e).link.held ≡ None
+  idle : (e : ℕ) → unmet_rule g (Clear e) (part_in g log (tail_of g e)) ≡ None → (out_in g log e).link.held ≡ None
   idle e none = empty_hand g game some_ring log legal e (met_for (Clear e) none)
 
   -- the word is there
-  pub word_there : (x : Event) → unmet g x (acting g log x) ≡ None → IsWord g (touched g x (acting g log x))
-  word_there x none = word_for g game.graph_fits.some_vertex some_ring x (acting g log x) none
+  pub word_there : (x : Event) → unmet_rule g x (acting_part g log x) ≡ None
+      → IsWord g (word_of_event g x (acting_part g log x))
+  word_there x none = word_for g game.graph_fits.some_vertex some_ring x (acting_part g log x) none
 
   -- what is found there
-  pub finds : (x : Event) → unmet g x (acting g log x) ≡ None
-      → noted x (value (touched g x (acting g log x))) ≡ sees g log x
+  pub finds : (x : Event) → unmet_rule g x (acting_part g log x) ≡ None
+      → word_to_note x (value (word_of_event g x (acting_part g log x))) ≡ sees g log x
   finds (Take e) none = take_sees g.ring some_ring _ _ _ _ _ (sound e) (shown.edges e (word_there (Take e) none).0)
   finds (Ack e) none = shown.acks e (word_there (Ack e) none)
   finds (Fire v k) none = shown.fired v (word_there (Fire v k) none)
@@ -156,13 +158,14 @@ module _ (g : Setting) (game : IsGame g.game) (some_ring : 0 < g.ring) (log : Lo
 
     -- an event on a word of another kind
     other_words : (x : Event) → IsLeft g log x value value' → (e : ℕ) → e < all_edges g
-        → (of_edge e ≢ touched g x (acting g log x)) → ((i : ℕ) → of_cell e i ≢ touched g x (acting g log x))
+        → (of_edge e ≢ word_of_event g x (acting_part g log x))
+        → ((i : ℕ) → of_cell e i ≢ word_of_event g x (acting_part g log x))
         → Shows g.ring (value' (of_edge e)) (λ i. value' (of_cell e i)) (out_in g log e).link (into_in g log e).got
         (stop_in g log e)
     other_words x w e l ne nes = same_edge e l (w.others (of_edge e) l ne)
         (λ i h. w.others (of_cell e i) (l, h) (nes i))
 
-    edges_after : (x : Event) → unmet g x (acting g log x) ≡ None → IsLeft g log x value value' → (e : ℕ)
+    edges_after : (x : Event) → unmet_rule g x (acting_part g log x) ≡ None → IsLeft g log x value value' → (e : ℕ)
         → e < all_edges g → ShowsAfter x e
     unfolding ShowsAfter
     edges_after (Take a) none w e l = one_edge (λ i (got : List ℕ). i < all_edges g
@@ -278,7 +281,7 @@ module _ (g : Setting) (game : IsGame g.game) (some_ring : 0 < g.ring) (log : Lo
         (λ i other l. other_words (Feed a k) w i l (other_owner _ _ other) (λ j. other_kind _ _ (λ z. omega arith)))
         e l
 
-    acks_after : (x : Event) → unmet g x (acting g log x) ≡ None → IsLeft g log x value value' → (e : ℕ)
+    acks_after : (x : Event) → unmet_rule g x (acting_part g log x) ≡ None → IsLeft g log x value value' → (e : ℕ)
         → e < all_edges g → value' (of_acks e) ≡ acked_after g x (part_in g log (head_of g e)) e (into_in g log e)
     acks_after (Ack a) none w e l = one_edge (λ i (n : ℕ). i < all_edges g → value' (of_acks i) ≡ n) a
         (λ i. (into_in g log i).acked + may_ack g (head_of g a) (part_in g log (head_of g i)) a)
@@ -319,7 +322,7 @@ module _ (g : Setting) (game : IsGame g.game) (some_ring : 0 < g.ring) (log : Lo
     made_by x = saw x (seen_by x)
 
     -- the word of the vertex that acts, and of the others
-    word_of_one : (x : Event) (a : ℕ) → part_of g x ≡ a → touched g x (acting g log x) ≡ of_vertex a
+    word_of_one : (x : Event) (a : ℕ) → part_of g x ≡ a → word_of_event g x (acting_part g log x) ≡ of_vertex a
         → IsLeft g log x value value'
         → value' (of_vertex a) ≡ word_of_part (does g (made_by x) (part_in g log a))
         → (v : ℕ) → v < g.game.graph.vertices → value' (of_vertex v) ≡ word_of_part (part_in g (made_by x ∷ log) v)
@@ -330,7 +333,7 @@ module _ (g : Setting) (game : IsGame g.game) (some_ring : 0 < g.ring) (log : Lo
         (λ other. w.others (of_vertex v) l (λ z. other_owner (of_vertex v) (of_vertex a) other (z ∙ at))
         ∙ shown.fired v l ∙ sym (ap word_of_part (part_else g (made_by x) log v (λ z. other (sym z ∙ by)))))
 
-    fired_after : (x : Event) → unmet g x (acting g log x) ≡ None → IsLeft g log x value value' → (v : ℕ)
+    fired_after : (x : Event) → unmet_rule g x (acting_part g log x) ≡ None → IsLeft g log x value value' → (v : ℕ)
         → v < g.game.graph.vertices → value' (of_vertex v) ≡ word_of_part (part_in g (made_by x ∷ log) v)
     fired_after (Fire a k) none w v l =
         let met = met_for (Fire a k) none in
@@ -380,7 +383,7 @@ module _ (g : Setting) (game : IsGame g.game) (some_ring : 0 < g.ring) (log : Lo
         ∙ sym (word_stays (made_by (Seal a)) v (λ s. refl))
 
     -- the words show the longer log
-    pub shows_more : (x : Event) → unmet g x (acting g log x) ≡ None → IsLeft g log x value value'
+    pub shows_more : (x : Event) → unmet_rule g x (acting_part g log x) ≡ None → IsLeft g log x value value'
         → IsShown g (made_by x ∷ log) value'
     unfolding ShowsAfter
     shows_more x none w =

@@ -5,9 +5,9 @@ use Rattle.chip_part.specs.Setting.{Setting}
 use Rattle.chip_link.specs.Words.{fired_word}
 use Rattle.chip_link.specs.Link.{cell_at_tail, cell_at_head, word_of}
 pub use Rattle.chip_part.specs.Edges.{tail_of, head_of, root, root_edge, stopper, all_edges, graph_edges}
-pub use Rattle.chip_part.specs.Part.{Part, Out, Into, opened, is_by_limit, outstanding}
+pub use Rattle.chip_part.specs.Part.{Part, Out, Into, opening_part, is_by_limit, outstanding}
 pub use Rattle.chip_part.specs.Rules.{Event, Take, Ack, Fire, Clear, Claim, Put, Halt, Settle, Seal, Read, Feed, End}
-pub use Rattle.chip_part.specs.Rules.{unmet}
+pub use Rattle.chip_part.specs.Rules.{unmet_rule}
 pub use Rattle.chip_part.specs.declared.rule.Rule.{Rule}
 pub use Rattle.chip_link.specs.declared.event.Step.{Step}
 pub use Rattle.chip_part.specs.declared.reply.Reply.{Reply}
@@ -16,13 +16,13 @@ use Rattle.chip_part.specs.declared.reply.Reply.TheVariants.{NotNow}
 use Rattle.chip_part.specs.Steps.{saw}
 
 -- the events that were made since the opening, each with the word that it saw. The latest stands first, since all
--- proofs go back from the last event; `asked_in` has them in the order in which they were made
+-- proofs go back from the last event; `events_in` has them in the order in which they were made
 abbrev pub Log : Type 0
 Log = List Step
 
 -- the part p after these events: it changes by its own events alone
 abbrev pub part_in : Setting → Log → ℕ → Part
-part_in g [] p = opened g
+part_in g [] p = opening_part g
 part_in g (x ∷ log) p = if part_of g x.event == p then does g x (part_in g log p) else part_in g log p
 
 -- an edge, as its tail has it
@@ -77,7 +77,7 @@ sees g log x = seen_of g (part_in g log) x
 -- the core makes this event after these, and it sees this: each of its rules is met, and the word is what the others
 -- have made of it
 abbrev pub Fits : Setting → Log → Step → Type 0
-Fits g log x = (unmet g x.event (part_in g log (part_of g x.event)) ≡ None) × (x.seen ≡ sees g log x.event)
+Fits g log x = (unmet_rule g x.event (part_in g log (part_of g x.event)) ≡ None) × (x.seen ≡ sees g log x.event)
 
 -- each event is one that the core makes after those before it
 abbrev pub IsLegalLog : Setting → Log → Type 0
@@ -95,7 +95,7 @@ answer g log x None = (
 
 -- one step of the core
 abbrev pub step : Setting → Log → Event → Log × Reply
-step g log x = answer g log x (unmet g x (part_in g log (part_of g x)))
+step g log x = answer g log x (unmet_rule g x (part_in g log (part_of g x)))
 
 -- the log after a list of events, the first one first
 abbrev pub log_after : Setting → Log → List Event → Log

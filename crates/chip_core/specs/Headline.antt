@@ -2,7 +2,7 @@
 use Rattle.std.specs.Prelude.{◌≡◌, ◌≢◌, ℕ, ◌+◌, ◌*◌, ◌<◌, true, List, [], ◌++◌, length, sum, Some, None}
 use Rattle.chip_graph.specs.ChipGame.{IsGame}
 use Rattle.chip_part.specs.Setting.{Setting}
-use Rattle.chip_graph.specs.Sums.{picked}
+use Rattle.chip_graph.specs.Sums.{filter_below}
 use Rattle.chip_link.specs.Link.{sent_counts}
 use Rattle.chip_link.specs.Laws.{IsPrefix}
 use Rattle.chip_sequence.specs.Firing.{legal_vertices}
@@ -13,7 +13,7 @@ use Rattle.chip_part.specs.Edges.{mult_of}
 use Rattle.chip_core.specs.Core.{Log, Event, Reply, part_in, out_in, into_in, fired_by, is_by_limit, replies_to}
 use Rattle.chip_core.specs.Core.{log_after, IsLegalLog, IsClosed, tail_of, all_edges, graph_edges, stopper}
 use Rattle.chip_core.specs.Messages.{sent_in, delivered_in, sent_after_seal, was_sealed, in_flight, AreInOrderFrom}
-use Rattle.chip_core.specs.Positions.{started, held, chips_at, firings, LeadsTo, AgreesWith}
+use Rattle.chip_core.specs.Positions.{chips_given, held, chips_at, firings, LeadsTo, AgreesWith}
 use Rattle.chip_core.specs.Detection.{IsDetectionOrder}
 
 -- no vertex halted
@@ -44,9 +44,9 @@ pub record HeadlineOf (g : Setting) (before : Log) (xs : List Event) (replies : 
   -- the firings that were made, one at a time, are a firing sequence within the limit, and lead to the full position
   pub position : LeadsTo g after (firings after)
   -- by the counts alone no vertex is below 0, and it is the position by the counts
-  pub none_below : (v : ℕ) → IsBelowZero g.game.graph (started g after) (fired_by g after) v → ⊥
-  pub by_counts : (v : ℕ) → position_after g.game.graph (started g after) (firings after) v
-      ≡ position_by_counts g.game.graph (started g after) (fired_by g after) v
+  pub none_below : (v : ℕ) → IsBelowZero g.game.graph (chips_given g after) (fired_by g after) v → ⊥
+  pub by_counts : (v : ℕ) → position_after g.game.graph (chips_given g after) (firings after) v
+      ≡ position_by_counts g.game.graph (chips_given g after) (fired_by g after) v
   -- what was sent on an edge of the graph and what is held on it are what the firings of its tail made
   pub made : (e : ℕ) → e < graph_edges g → sum (sent_counts (out_in g after e).link) + held g after e
       ≡ mult_of g e * fired_by g after (tail_of g e)
@@ -58,17 +58,17 @@ pub record HeadlineOf (g : Setting) (before : Log) (xs : List Event) (replies : 
   -- and, unless a vertex halted, chips and firing counts are those of every firing sequence that ends with no vertex
   -- legal; the firings that were made are one
   pub one_end : IsClosed g after → NoneHalted g after → (vs : List ℕ)
-      → IsFiringSequence g.game.graph (started g after) vs → HasEnded g.game.graph (started g after) vs
+      → IsFiringSequence g.game.graph (chips_given g after) vs → HasEnded g.game.graph (chips_given g after) vs
       → AgreesWith g after vs
-  pub ended : IsClosed g after → NoneHalted g after → HasEnded g.game.graph (started g after) (firings after)
+  pub ended : IsClosed g after → NoneHalted g after → HasEnded g.game.graph (chips_given g after) (firings after)
   -- where the limit alone halted vertices, the same of all that end within the limit, and the vertices that it halted
   -- are the legal ones
   pub one_end_within : IsClosed g after → NoneHaltedBySeal g after → (vs : List ℕ)
-      → IsWholePlay g.game.graph (started g after) g.game.limit vs → AgreesWith g after vs
+      → IsWholePlay g.game.graph (chips_given g after) g.game.limit vs → AgreesWith g after vs
   pub ended_within : IsClosed g after → NoneHaltedBySeal g after
-      → IsWholePlay g.game.graph (started g after) g.game.limit (firings after)
+      → IsWholePlay g.game.graph (chips_given g after) g.game.limit (firings after)
   pub over : IsClosed g after → NoneHaltedBySeal g after
-      → picked (λ v. is_by_limit (part_in g after v).halt) g.game.graph.vertices ≡ legal_vertices g.game.graph (chips_at g after)
+      → filter_below (λ v. is_by_limit (part_in g after v).halt) g.game.graph.vertices ≡ legal_vertices g.game.graph (chips_at g after)
   -- and whatever is asked for afterwards, the root stays closed and no part changes but the stopper's: no list, no
   -- chip, no count, no halt
   pub still : IsClosed g after → (ys : List Event) → IsClosed g (log_after g after ys)

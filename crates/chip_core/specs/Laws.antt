@@ -6,19 +6,20 @@ use Rattle.chip_graph.specs.More.{HasMore}
 use Rattle.chip_part.specs.Setting.{Setting}
 use Rattle.chip_link.specs.Link.{sent_counts, claims_of}
 use Rattle.chip_link.specs.Laws.{AreInOrder}
-use Rattle.chip_link.specs.Words.{claims_in, fired_in, halted_in, by_limit_in}
+use Rattle.chip_link.specs.Words.{claims_in, fired_in, is_halted_in, is_by_limit_in}
 use Rattle.chip_graph.specs.Limits.{max_total}
-use Rattle.chip_part.specs.Edges.{made, mult_of, start_of}
+use Rattle.chip_part.specs.Edges.{chips_of_firings, mult_of, start_of}
 use Rattle.chip_part.specs.Part.{first_put}
 use Rattle.chip_part.specs.Kept.{KeepsPart}
 use Rattle.chip_part.specs.Acting.{FitsSeen}
 use Rattle.chip_part.specs.Acting.{is_of_root, FitsRoot}
-use Rattle.chip_core.specs.Core.{Log, Step, Event, Take, Clear, Claim, Seal, Read, Feed, opened, unmet, part_of}
+use Rattle.chip_core.specs.Core.{Log, Step, Event, Take, Clear, Claim, Seal, Read, Feed, opening_part, unmet_rule}
+use Rattle.chip_core.specs.Core.{part_of}
 use Rattle.chip_core.specs.Core.{part_in, out_in, into_in, stop_in, fired_by, word_of_part, sees, IsLegalLog}
 use Rattle.chip_core.specs.Core.{replies_to, log_after, IsClosed, is_by_limit, tail_of, root, root_edge, graph_edges}
 use Rattle.chip_core.specs.Core.{all_edges}
 use Rattle.chip_core.specs.Messages.{sent_in, was_sealed, messages_from, counts_in_flight, in_flight, sent_on, chips_in}
-use Rattle.chip_core.specs.Positions.{started, played_game, held, full_position, asked_in, fed_in}
+use Rattle.chip_core.specs.Positions.{chips_given, played_game, held, full_position, events_in, fed_in}
 use Rattle.chip_core.specs.Histories.{done_by, part_by}
 
 -- of every game within the limits, every ring with a cell and every legal log
@@ -29,11 +30,12 @@ ForEveryLog P = (g : Setting) → IsGame g.game → 0 < g.ring → (log : Log) �
 abbrev pub LegalLogsAreRuns : Type 0
 LegalLogsAreRuns = (g : Setting)
     → ((log : Log) → IsLegalLog g log → (xs : List Event) → IsLegalLog g (log_after g log xs))
-    × ((log : Log) → IsLegalLog g log → log_after g [] (asked_in log) ≡ log)
+    × ((log : Log) → IsLegalLog g log → log_after g [] (events_in log) ≡ log)
 
 -- each part is what its own events make of the opening
 abbrev pub PartsByTheirOwnEvents : Type 0
-PartsByTheirOwnEvents = (g : Setting) (log : Log) (p : ℕ) → part_in g log p ≡ part_by g (opened g) (done_by g p log)
+PartsByTheirOwnEvents = (g : Setting) (log : Log) (p : ℕ)
+    → part_in g log p ≡ part_by g (opening_part g) (done_by g p log)
 
 -- each part keeps what one part keeps, by its own events alone
 abbrev pub PartsAreKept : Type 0
@@ -42,12 +44,12 @@ PartsAreKept = ForEveryLog (λ g log. (p : ℕ) → KeepsPart g p (part_in g log
 -- what an event of a vertex sees keeps within the limits
 abbrev pub SeenFits : Type 0
 SeenFits = ForEveryLog (λ g log. (x : Event) → part_of g x < g.game.graph.vertices
-    → unmet g x (part_in g log (part_of g x)) ≡ None → FitsSeen (part_in g log (part_of g x)) x (sees g log x))
+    → unmet_rule g x (part_in g log (part_of g x)) ≡ None → FitsSeen (part_in g log (part_of g x)) x (sees g log x))
 
 -- and so does what an event of the root sees
 abbrev pub RootSeenFits : Type 0
 RootSeenFits = ForEveryLog (λ g log. (x : Event) → is_of_root g x ≡ true
-    → unmet g x (part_in g log (root g)) ≡ None → FitsRoot g (part_in g log (root g)) x (sees g log x))
+    → unmet_rule g x (part_in g log (root g)) ≡ None → FitsRoot g (part_in g log (root g)) x (sees g log x))
 
 -- settled, acknowledged, delivered, put and claimed on an edge: each at most the next, and at most one is claimed and
 -- not put
@@ -63,8 +65,8 @@ CountsOfEdges = ForEveryLog (λ g log. (e : ℕ) → CountsOf g log e)
 
 -- the chips that ever went into e: what the firings of its tail made, and on a root edge what was given to its head
 abbrev pub gone_into : Setting → Log → ℕ → ℕ
-gone_into g log e = if nat_lt e (graph_edges g) then made g e (fired_by g log (tail_of g e))
-    else started g log (e - graph_edges g)
+gone_into g log e = if nat_lt e (graph_edges g) then chips_of_firings g e (fired_by g log (tail_of g e))
+    else chips_given g log (e - graph_edges g)
 
 -- no chip is lost on an edge: what was delivered, what is in flight and what is held make up what ever went into it
 abbrev pub ChipsOfEdges : Type 0
@@ -80,7 +82,7 @@ pub record NumbersOf (g : Setting) (log : Log) : Type 0 where
   pub fired : (v : ℕ) → fired_by g log v ≤ g.game.limit
   pub claims : (e : ℕ) → e < graph_edges g → claims_of (out_in g log e).link ≤ g.game.limit
   pub root_claims : (e : ℕ) → graph_edges g ≤ e → claims_of (out_in g log e).link
-      ≤ started g log (e - graph_edges g)
+      ≤ chips_given g log (e - graph_edges g)
 
 abbrev pub NumbersAreSmall : Type 0
 NumbersAreSmall = ForEveryLog (λ g log. NumbersOf g log)
@@ -91,7 +93,7 @@ pub record CellsOf (g : Setting) (log : Log) (e : ℕ) : Type 0 where
   pub empty : (sees g log (Take e) ≡ 0) ↔ (length (into_in g log e).got ≡ length (out_in g log e).link.put)
   -- a clear, its rules met, sees another number than 0 exactly where as many messages as the ring has cells are sent
   -- and not delivered
-  pub full : unmet g (Clear e) (part_in g log (tail_of g e)) ≡ None
+  pub full : unmet_rule g (Clear e) (part_in g log (tail_of g e)) ≡ None
       → (sees g log (Clear e) ≢ 0) ↔ (claims_of (out_in g log e).link ≡ length (into_in g log e).got + g.ring)
 
 abbrev pub CellsTell : Type 0
@@ -104,8 +106,8 @@ pub record WordsOf (g : Setting) (log : Log) : Type 0 where
   pub sealed : (e : ℕ) → was_sealed log e ≡ true → sees g log (Claim e) ≡ claims_of (out_in g log e).link + 2 ^ 63
   pub claims : (e : ℕ) → claims_in (sees g log (Seal e)) ≡ claims_of (out_in g log e).link
   pub fired : (v : ℕ) → fired_in (word_of_part (part_in g log v)) ≡ fired_by g log v
-  pub halted : (v : ℕ) → halted_in (word_of_part (part_in g log v)) ≡ is_some (part_in g log v).halt
-  pub by_limit : (v : ℕ) → by_limit_in (word_of_part (part_in g log v)) ≡ is_by_limit (part_in g log v).halt
+  pub halted : (v : ℕ) → is_halted_in (word_of_part (part_in g log v)) ≡ is_some (part_in g log v).halt
+  pub by_limit : (v : ℕ) → is_by_limit_in (word_of_part (part_in g log v)) ≡ is_by_limit (part_in g log v).halt
 
 abbrev pub WordsTell : Type 0
 WordsTell = ForEveryLog (λ g log. WordsOf g log)
@@ -150,12 +152,12 @@ ReadsTell = ForEveryLog (λ g log. (x : Step) (v : ℕ) → Contains log x → x
 -- what was given to a vertex is what it starts with and, from the opening, what was fed to it
 abbrev pub GivenIsFed : Type 0
 GivenIsFed = (g : Setting) → IsGame g.game → 0 < g.ring → (xs : List Event) (v : ℕ)
-    → started g (log_after g [] xs) v ≡ start_of g v + chips_in (sent_in (root_edge g v) xs (replies_to g [] xs))
+    → chips_given g (log_after g [] xs) v ≡ start_of g v + chips_in (sent_in (root_edge g v) xs (replies_to g [] xs))
 
 -- a game that is not fed has what it starts with
 abbrev pub UnfedIsTheStart : Type 0
 UnfedIsTheStart = ForEveryLog (λ g log. g.fed ≡ false → (played_game g log ≡ g.game)
-    × ((v : ℕ) → started g log v ≡ start_of g v) × ((part_in g log (root g)).ended ≡ true))
+    × ((v : ℕ) → chips_given g log v ≡ start_of g v) × ((part_in g log (root g)).ended ≡ true))
 
 -- with what was given so far it is a game within the limits
 abbrev pub GivenIsAGame : Type 0

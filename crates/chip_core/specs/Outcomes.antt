@@ -1,7 +1,7 @@
 -- What a log comes to once its root is closed.
 use Rattle.std.specs.Prelude.{◌≡◌, ℕ, ◌<◌, Bool, true, false, List, length, slice_index, Option, Some, None}
 use Rattle.chip_part.specs.Setting.{Setting}
-use Rattle.chip_graph.specs.Sums.{picked}
+use Rattle.chip_graph.specs.Sums.{filter_below}
 use Rattle.chip_sequence.specs.declared.outcome.Outcome.{Outcome}
 use Rattle.chip_sequence.specs.Counted.{IsAfter}
 use Rattle.chip_sequence.specs.Outcomes.{IsOutcome}
@@ -10,7 +10,7 @@ use Rattle.chip_sequence.specs.Sequence.{position_after, IsFiringSequence, count
 use Rattle.chip_part.specs.declared.cause.Cause.{Cause}
 use Rattle.chip_part.specs.declared.cause.Cause.TheVariants.{SealedEdge, FiringLimit}
 use Rattle.chip_core.specs.Core.{Log, part_in, fired_by, is_by_limit, IsClosed}
-use Rattle.chip_core.specs.Positions.{started, played_game, firings}
+use Rattle.chip_core.specs.Positions.{chips_given, played_game, firings}
 use Rattle.chip_core.specs.Headline.{NoneHaltedBySeal}
 use Rattle.chip_core.specs.Laws.{ForEveryLog}
 
@@ -27,7 +27,7 @@ is_by FiringLimit h = is_by_limit h
 
 -- which of the first vertices halted for this cause, ascending
 abbrev pub halted_by : Setting → Log → Cause → ℕ → List ℕ
-halted_by g log cause count = picked (λ v. is_by cause (part_in g log v).halt) count
+halted_by g log cause count = filter_below (λ v. is_by cause (part_in g log v).halt) count
 
 -- how often each of the first vertices fired
 pub record AreFired (g : Setting) (log : Log) (count : ℕ) (fired : List ℕ) : Type 0 where
@@ -39,8 +39,8 @@ pub record AreFired (g : Setting) (log : Log) (count : ℕ) (fired : List ℕ) :
 pub record IsOutcomeOf (g : Setting) (log : Log) (o : Outcome) : Type 0 where
   pub fired : AreFired g log g.game.graph.vertices o.fired.items
   pub chips : IsAfter (played_game g log) o.fired.items o.chips.items
-  pub over : o.over.items ≡ picked (λ v. is_by_limit (part_in g log v).halt) g.game.graph.vertices
-  pub sealed : o.sealed.items ≡ picked (λ v. is_by_seal (part_in g log v).halt) g.game.graph.vertices
+  pub over : o.over.items ≡ filter_below (λ v. is_by_limit (part_in g log v).halt) g.game.graph.vertices
+  pub sealed : o.sealed.items ≡ filter_below (λ v. is_by_seal (part_in g log v).halt) g.game.graph.vertices
 
 -- one thread that fires these vertices in turn from the position x, within the limit, comes to the counts and the chips
 -- of an outcome
@@ -53,7 +53,7 @@ pub record ComesTo (g : Setting) (x : ℕ → ℕ) (vs : List ℕ) (o : Outcome)
 -- the firings that were made come from all that was given to the outcome of a log, a report takes it, and where the
 -- root is closed and no seal halted a vertex it is that of every player who starts with all that was given
 pub record OutcomeTells (g : Setting) (log : Log) (o : Outcome) : Type 0 where
-  pub comes : ComesTo g (started g log) (firings log) o
+  pub comes : ComesTo g (chips_given g log) (firings log) o
   pub in_range : IsOutcome o
   pub played : IsClosed g log → NoneHaltedBySeal g log → IsPlayed (played_game g log) o
 

@@ -10,15 +10,15 @@ use Rattle.chip_core.specs.Core.{Log, Step, Event, Fire, Feed, part_in, out_in, 
 use Rattle.chip_core.specs.Messages.{counts_in_flight}
 
 -- the chips that v was given so far, at the opening and by feeding: all that was sent on its root edge
-abbrev pub started : Setting → Log → ℕ → ℕ
-started g log v = sum (sent_counts (out_in g log (root_edge g v)).link)
+abbrev pub chips_given : Setting → Log → ℕ → ℕ
+chips_given g log v = sum (sent_counts (out_in g log (root_edge g v)).link)
 
 -- the game that is played so far: its start is what was given to each vertex
 abbrev pub played_game : Setting → Log → ChipGame
 played_game g log =
     record {
       graph = g.game.graph;
-      start = map (started g log) (range_with_len 0 g.game.graph.vertices);
+      start = map (chips_given g log) (range_with_len 0 g.game.graph.vertices);
       limit = g.game.limit;
     }
 
@@ -46,23 +46,24 @@ firings [] = []
 firings (x ∷ log) = firings log ++ firings_of x.event
 
 -- the events of a run, the first one in front
-abbrev pub asked_in : Log → List Event
-asked_in [] = []
-asked_in (x ∷ log) = asked_in log ++ x.event ∷ []
+abbrev pub events_in : Log → List Event
+events_in [] = []
+events_in (x ∷ log) = events_in log ++ x.event ∷ []
 
 -- one thread that fires these vertices in turn from all that was given comes to the full position, within the limit and
 -- with the counts of the log
 pub record LeadsTo (g : Setting) (log : Log) (vs : List ℕ) : Type 0 where
-  pub sequence : IsFiringSequence g.game.graph (started g log) vs
+  pub sequence : IsFiringSequence g.game.graph (chips_given g log) vs
   pub within : IsWithin g.game.limit vs
   pub counted : (v : ℕ) → counts vs v ≡ fired_by g log v
   pub position : (v : ℕ) → v < g.game.graph.vertices
-      → position_after g.game.graph (started g log) vs v ≡ full_position g log v
+      → position_after g.game.graph (chips_given g log) vs v ≡ full_position g log v
 
 -- chips and firing counts of the log are those of one thread that fires these vertices in turn from all that was given
 pub record AgreesWith (g : Setting) (log : Log) (vs : List ℕ) : Type 0 where
   pub counted : (v : ℕ) → fired_by g log v ≡ counts vs v
-  pub chips : (v : ℕ) → v < g.game.graph.vertices → chips_at g log v ≡ position_after g.game.graph (started g log) vs v
+  pub chips : (v : ℕ) → v < g.game.graph.vertices
+      → chips_at g log v ≡ position_after g.game.graph (chips_given g log) vs v
 
 -- what an event fed: pairs of a vertex and a count of chips
 abbrev pub fed_of : Setting → Event → List (ℕ × ℕ)

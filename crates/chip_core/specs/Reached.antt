@@ -1,17 +1,17 @@
 -- The worlds that a running game can come to, told by what each part did. They grow by one event at a time.
 use Rattle.std.specs.Prelude.{◌≡◌, ◌≢◌, ℕ, List, [], ◌∷◌, ◌++◌, None}
 use Rattle.chip_part.specs.Setting.{Setting}
-use Rattle.chip_core.specs.Core.{Log, Step, Part, opened, unmet, part_of, IsLegalLog, seen_of}
+use Rattle.chip_core.specs.Core.{Log, Step, Part, opening_part, unmet_rule, part_of, IsLegalLog, seen_of}
 use Rattle.chip_core.specs.Histories.{done_by, part_by}
 
 -- the parts by what each of them did, the first step in front
 abbrev pub parts_by : Setting → (ℕ → List Step) → ℕ → Part
-parts_by g records p = part_by g (opened g) (records p)
+parts_by g records p = part_by g (opening_part g) (records p)
 
 -- one part did one step more, whose rules are met and which saw what the parts had made of its word, and every other
 -- did what it had done
 pub record IsOneMore (g : Setting) (old : ℕ → List Step) (x : Step) (new : ℕ → List Step) : Type 0 where
-  pub may : unmet g x.event (parts_by g old (part_of g x.event)) ≡ None
+  pub may : unmet_rule g x.event (parts_by g old (part_of g x.event)) ≡ None
   pub saw : x.seen ≡ seen_of g (parts_by g old) x.event
   pub mine : new (part_of g x.event) ≡ old (part_of g x.event) ++ x ∷ []
   pub others : (p : ℕ) → p ≢ part_of g x.event → new p ≡ old p

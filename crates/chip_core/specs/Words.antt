@@ -3,12 +3,13 @@
 use Rattle.std.specs.Prelude.{◌≡◌, ◌≢◌, ℕ, ◌+◌, ◌-◌, ◌%◌, ◌^◌, ◌<◌, Bool, true, false, ◌∷◌, length, sum, option_to_list}
 use Rattle.std.specs.Prelude.{bit_or, None}
 use Rattle.chip_link.specs.Link.{Shows, claims_of}
-use Rattle.chip_link.specs.Words.{exchanged}
+use Rattle.chip_link.specs.Words.{word_after_exchange}
 use Rattle.chip_part.specs.Setting.{Setting}
 use Rattle.chip_part.specs.Part.{may_ack, cause, is_by_limit}
 use Rattle.chip_part.specs.Steps.{saw}
 use Rattle.chip_core.specs.Core.{Log, Event, Take, Ack, Fire, Clear, Claim, Put, Halt, Settle, Seal, Read, Feed, End}
-use Rattle.chip_core.specs.Core.{Part, unmet, root_edge, part_of, part_in, out_in, into_in, stop_in, word_of_part, sees}
+use Rattle.chip_core.specs.Core.{Part, unmet_rule, root_edge, part_of, part_in, out_in, into_in, stop_in, word_of_part}
+use Rattle.chip_core.specs.Core.{sees}
 use Rattle.chip_core.specs.Core.{all_edges, head_of}
 use Rattle.chip_core.specs.Laws.{ForEveryLog}
 
@@ -33,19 +34,19 @@ halt_bits true = 2 ^ 63 + 2 ^ 62
 halt_bits false = 2 ^ 63
 
 -- the word that an event is on, by the part that makes it
-abbrev pub touched : Setting → Event → Part → Word
-touched g (Take e) s = of_cell e (length (s.into e).got % g.ring)
-touched g (Ack e) s = of_acks e
-touched g (Fire v k) s = of_vertex v
-touched g (Clear e) s = of_cell e (claims_of (s.out e).link % g.ring)
-touched g (Claim e) s = of_edge e
-touched g (Put e) s = of_cell e ((claims_of (s.out e).link - 1) % g.ring)
-touched g (Halt v) s = of_vertex v
-touched g (Settle e) s = of_acks e
-touched g (Seal e) s = of_edge e
-touched g (Read v) s = of_vertex v
-touched g (Feed e k) s = of_edge e
-touched g End s = of_acks (root_edge g 0)
+abbrev pub word_of_event : Setting → Event → Part → Word
+word_of_event g (Take e) s = of_cell e (length (s.into e).got % g.ring)
+word_of_event g (Ack e) s = of_acks e
+word_of_event g (Fire v k) s = of_vertex v
+word_of_event g (Clear e) s = of_cell e (claims_of (s.out e).link % g.ring)
+word_of_event g (Claim e) s = of_edge e
+word_of_event g (Put e) s = of_cell e ((claims_of (s.out e).link - 1) % g.ring)
+word_of_event g (Halt v) s = of_vertex v
+word_of_event g (Settle e) s = of_acks e
+word_of_event g (Seal e) s = of_edge e
+word_of_event g (Read v) s = of_vertex v
+word_of_event g (Feed e k) s = of_edge e
+word_of_event g End s = of_acks (root_edge g 0)
 
 -- what it leaves there, where n was found: what is added goes round at 2 ^ 64
 abbrev pub left_by : Setting → Event → Part → ℕ → ℕ
@@ -53,19 +54,19 @@ left_by g (Take e) s n = 0
 left_by g (Ack e) s n = (n + may_ack g (head_of g e) s e) % 2 ^ 64
 left_by g (Fire v k) s n = (n + k) % 2 ^ 64
 left_by g (Clear e) s n = n
-left_by g (Claim e) s n = exchanged (claims_of (s.out e).link) (claims_of (s.out e).link + 1) n
+left_by g (Claim e) s n = word_after_exchange (claims_of (s.out e).link) (claims_of (s.out e).link + 1) n
 left_by g (Put e) s n = sum (option_to_list (s.out e).link.held)
 left_by g (Halt v) s n = bit_or n (halt_bits (is_by_limit (cause g v s)))
 left_by g (Settle e) s n = n
 left_by g (Seal e) s n = bit_or n (2 ^ 63)
 left_by g (Read v) s n = n
-left_by g (Feed e k) s n = exchanged (claims_of (s.out e).link) (claims_of (s.out e).link + 1) n
+left_by g (Feed e k) s n = word_after_exchange (claims_of (s.out e).link) (claims_of (s.out e).link + 1) n
 left_by g End s n = n
 
 -- what is noted as seen, where n was found: a store finds nothing
-abbrev pub noted : Event → ℕ → ℕ
-noted (Put e) n = 0
-noted _ n = n
+abbrev pub word_to_note : Event → ℕ → ℕ
+word_to_note (Put e) n = 0
+word_to_note _ n = n
 
 -- the words show what this log makes of the edges and the vertices
 pub record IsShown (g : Setting) (log : Log) (value : Word → ℕ) : Type 0 where
@@ -79,22 +80,24 @@ pub record IsShown (g : Setting) (log : Log) (value : Word → ℕ) : Type 0 whe
   pub fired : (v : ℕ) → v < g.game.graph.vertices → value (of_vertex v) ≡ word_of_part (part_in g log v)
 
 -- the part that makes an event, after this log
-abbrev pub acting : Setting → Log → Event → Part
-acting g log x = part_in g log (part_of g x)
+abbrev pub acting_part : Setting → Log → Event → Part
+acting_part g log x = part_in g log (part_of g x)
 
 -- an operation finds in its word, which is there, what its event sees
 abbrev pub OperationsFind : Type 0
 OperationsFind = ForEveryLog (λ g log. (value : Word → ℕ) → IsShown g log value → (x : Event)
-    → unmet g x (acting g log x) ≡ None
-    → IsWord g (touched g x (acting g log x)) × (noted x (value (touched g x (acting g log x))) ≡ sees g log x))
+    → unmet_rule g x (acting_part g log x) ≡ None
+    → IsWord g (word_of_event g x (acting_part g log x))
+    × (word_to_note x (value (word_of_event g x (acting_part g log x))) ≡ sees g log x))
 
 -- one word is changed as the operation of an event leaves it, and every other is as it was
 pub record IsLeft (g : Setting) (log : Log) (x : Event) (old new : Word → ℕ) : Type 0 where
-  pub here : new (touched g x (acting g log x)) ≡ left_by g x (acting g log x) (old (touched g x (acting g log x)))
-  pub others : (w : Word) → IsWord g w → w ≢ touched g x (acting g log x) → new w ≡ old w
+  pub here : new (word_of_event g x (acting_part g log x))
+      ≡ left_by g x (acting_part g log x) (old (word_of_event g x (acting_part g log x)))
+  pub others : (w : Word) → IsWord g w → w ≢ word_of_event g x (acting_part g log x) → new w ≡ old w
 
 -- the words that it leaves show the log that is longer by the event
 abbrev pub WordsGoOn : Type 0
 WordsGoOn = ForEveryLog (λ g log. (old new : Word → ℕ) → IsShown g log old → (x : Event)
-    → unmet g x (acting g log x) ≡ None → IsLeft g log x old new
+    → unmet_rule g x (acting_part g log x) ≡ None → IsLeft g log x old new
     → IsShown g (saw x (sees g log x) ∷ log) new)

@@ -14,7 +14,7 @@ use Rattle.chip_part.specs.declared.reply.Reply.TheVariants.{Done, Got, Sent, Em
 use Rattle.chip_core.specs.Core.{Log, Event, Take, Ack, Fire, Clear, Claim, Put, Halt, Settle, Seal, Read, Feed}
 use Rattle.chip_core.specs.Core.{End, root, part_in, fired_by, replies_to, log_after, IsSettled, IsClosed}
 use Rattle.chip_core.specs.Messages.{sent_in, delivered_in, sent_after_seal, in_flight}
-use Rattle.chip_core.specs.Positions.{started, held, chips_at, full_position, firings}
+use Rattle.chip_core.specs.Positions.{chips_given, held, chips_at, full_position, firings}
 use Rattle.chip_core.specs.Detection.{IsDetectionOrder}
 use Rattle.chip_core.specs.Histories.{done_by}
 
@@ -151,7 +151,7 @@ FedOnce =
     let g : Setting = fed_triangle (0 ∷ 0 ∷ 0 ∷ []) in
     let after : Log = log_after g [] fed_once in
     (replies_to g [] fed_once ≡ Done 0 ∷ Sent (message_of 4 0 3) ∷ Done 3 ∷ Full ∷ [])
-    × (in_flight g after 4 ≡ message_of 4 0 3 ∷ []) × (on_each (started g after) ≡ 3 ∷ 0 ∷ 0 ∷ [])
+    × (in_flight g after 4 ≡ message_of 4 0 3 ∷ []) × (on_each (chips_given g after) ≡ 3 ∷ 0 ∷ 0 ∷ [])
     × (on_each (full_position g after) ≡ 3 ∷ 0 ∷ 0 ∷ [])
 
 -- what is refused: a feed of nothing, one of a cell that was not seen empty, one past the range of chips, and any after

@@ -12,10 +12,10 @@ use Rattle.chip_part.specs.declared.act.Act.TheVariants as Do
 use Rattle.chip_part.specs.Part.{Part}
 use Rattle.chip_part.specs.declared.rule.Rule.{Rule}
 use Rattle.chip_part.specs.Rules.{Event}
-use Rattle.chip_part.specs.Rules.{unmet}
+use Rattle.chip_part.specs.Rules.{unmet_rule}
 use Rattle.chip_part.specs.declared.reply.Reply.TheVariants.{NotNow}
 use Rattle.chip_part.specs.declared.reply.Reply.{Reply}
-use Rattle.chip_part.specs.Steps.{Step, part_of, does, asked, saw}
+use Rattle.chip_part.specs.Steps.{Step, part_of, does, part_and_reply, saw}
 use Rattle.chip_part.specs.Acting.{act_of, event_of, verdict, FitsSeen, CanDo, IsDue}
 use Rattle.chip_actor.specs.Actor.{Makes}
 use Rattle.chip_actor.specs.Actor.{Actor, StandsFor, SomePart}
@@ -32,7 +32,7 @@ module _ (g : Setting) (s : Part) (a : Actor) (stands : StandsFor g s a) (x : Ev
   pub ask_mine : part_of g x ≡ a.vertex
   ask_mine = eqb-true _ _ (and_parts _ _ may).0
 
-  may_do : unmet g x s ≡ None → CanDo g s a.vertex x seen
+  may_do : unmet_rule g x s ≡ None → CanDo g s a.vertex x seen
   may_do met = (
     ask_mine,
     met,
@@ -40,7 +40,7 @@ module _ (g : Setting) (s : Part) (a : Actor) (stands : StandsFor g s a) (x : Ev
         (λ fits. fits) (or_cases _ _ (and_parts _ _ may).1)),
   )
 
-  module _ (act : Act) (given : verdict (unmet g x s) (act_of g x s) ≡ Ok act) where
+  module _ (act : Act) (given : verdict (unmet_rule g x s) (act_of g x s) ≡ Ok act) where
     told : event_of a.vertex act ≡ x
     told = ap (event_of a.vertex) (verdict_ok _ _ _ given).1 ∙ event_of_act g a.vertex stands.knows.vertex s x ask_mine
         (verdict_ok _ _ _ given).0
@@ -52,20 +52,20 @@ module _ (g : Setting) (s : Part) (a : Actor) (stands : StandsFor g s a) (x : Ev
     )
 
     pub ask_made : (new : Actor) (reply : Reply) → Makes a new (event_of a.vertex act) seen reply
-        → StandsFor g (asked g (saw x seen) s (unmet g x s)).0 new
-        × (reply ≡ (asked g (saw x seen) s (unmet g x s)).1) × (new.vertex ≡ a.vertex)
+        → StandsFor g (part_and_reply g (saw x seen) s (unmet_rule g x s)).0 new
+        × (reply ≡ (part_and_reply g (saw x seen) s (unmet_rule g x s)).1) × (new.vertex ≡ a.vertex)
     ask_made new reply makes =
-        subst (λ (u : Option Rule). StandsFor g (asked g (saw x seen) s u).0 new
-        × (reply ≡ (asked g (saw x seen) s u).1) × (new.vertex ≡ a.vertex))
+        subst (λ (u : Option Rule). StandsFor g (part_and_reply g (saw x seen) s u).0 new
+        × (reply ≡ (part_and_reply g (saw x seen) s u).1) × (new.vertex ≡ a.vertex))
         (sym (verdict_ok _ _ _ given).0)
         (subst (λ (y : Event). Makes a new y seen reply) told makes g s stands (may_do (verdict_ok _ _ _ given).0))
 
-  pub ask_refused : (rule : Rule) → verdict (unmet g x s) (act_of g x s) ≡ Err rule
-      → StandsFor g (asked g (saw x seen) s (unmet g x s)).0 a
-      × (NotNow rule ≡ (asked g (saw x seen) s (unmet g x s)).1) × (a.vertex ≡ a.vertex)
+  pub ask_refused : (rule : Rule) → verdict (unmet_rule g x s) (act_of g x s) ≡ Err rule
+      → StandsFor g (part_and_reply g (saw x seen) s (unmet_rule g x s)).0 a
+      × (NotNow rule ≡ (part_and_reply g (saw x seen) s (unmet_rule g x s)).1) × (a.vertex ≡ a.vertex)
   ask_refused rule given =
-      subst (λ (u : Option Rule). StandsFor g (asked g (saw x seen) s u).0 a
-      × (NotNow rule ≡ (asked g (saw x seen) s u).1) × (a.vertex ≡ a.vertex))
+      subst (λ (u : Option Rule). StandsFor g (part_and_reply g (saw x seen) s u).0 a
+      × (NotNow rule ≡ (part_and_reply g (saw x seen) s u).1) × (a.vertex ≡ a.vertex))
       (sym (verdict_err _ _ _ given))
       (stands, refl, refl)
 
@@ -79,8 +79,8 @@ module _ (xs : List (Event × ℕ × Reply)) (turn : List (Act × ℕ)) where
   play_first : (g : Setting) (v : ℕ) (s : Part) (i : ℕ) (d : Event × ℕ × Reply) → i < length xs
       → may_play g v s (drop i xs) turn ≡ true
       → (may_ask g v s (get_or xs i d).0 (get_or xs i d).1
-      && may_play g v (asked g (saw ((get_or xs i d).0) ((get_or xs i d).1)) s
-      (unmet g (get_or xs i d).0 s)).0 (drop (i + 1) xs) turn) ≡ true
+      && may_play g v (part_and_reply g (saw ((get_or xs i d).0) ((get_or xs i d).1)) s
+      (unmet_rule g (get_or xs i d).0 s)).0 (drop (i + 1) xs) turn) ≡ true
   play_first g v s i d within all = subst (λ (ys : List (Event × ℕ × Reply)). may_play g v s ys turn ≡ true)
       (drop_more xs i d within) all
 
@@ -92,8 +92,8 @@ module _ (xs : List (Event × ℕ × Reply)) (turn : List (Act × ℕ)) where
       → Answers a new (get_or xs i d).0 (get_or xs i d).1 reply → MayPlay new (i + 1)
   ask_next a new reply i d within (g, s, stands, all) answers =
       let both = and_parts _ _ (play_first g a.vertex s i d within all) in
-      let after : Part = (asked g (saw ((get_or xs i d).0) ((get_or xs i d).1)) s
-      (unmet g (get_or xs i d).0 s)).0 in
+      let after : Part = (part_and_reply g (saw ((get_or xs i d).0) ((get_or xs i d).1)) s
+      (unmet_rule g (get_or xs i d).0 s)).0 in
       let made = answers g s stands both.0 in
       (g, after, made.0, subst (λ (v : ℕ). may_play g v after (drop (i + 1) xs) turn ≡ true) (sym made.2) both.1)
 

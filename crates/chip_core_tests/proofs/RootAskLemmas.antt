@@ -11,10 +11,10 @@ use Rattle.chip_part.specs.Edges.{root_edge}
 use Rattle.chip_part.specs.Part.{Part}
 use Rattle.chip_part.specs.declared.rule.Rule.{Rule}
 use Rattle.chip_part.specs.Rules.{Event, Take, Ack, Fire, Clear, Claim, Put, Halt, Settle, Seal, Read, Feed, End}
-use Rattle.chip_part.specs.Rules.{unmet}
+use Rattle.chip_part.specs.Rules.{unmet_rule}
 use Rattle.chip_part.specs.declared.reply.Reply.TheVariants.{NotNow}
 use Rattle.chip_part.specs.declared.reply.Reply.{Reply}
-use Rattle.chip_part.specs.Steps.{asked, saw}
+use Rattle.chip_part.specs.Steps.{part_and_reply, saw}
 use Rattle.chip_part.specs.Acting.{act_of, verdict}
 use Rattle.chip_root.specs.Root.{Root, RootStandsFor, SomeRoot, RootCanDo, RootMakes}
 use Rattle.chip_part.specs.Acting.{is_of_root, FitsRoot}
@@ -42,7 +42,7 @@ module _ (g : Setting) (s : Part) (r : Root) (stands : RootStandsFor g s r) (x :
   pub root_mine : is_of_root g x ≡ true
   root_mine = (and_parts _ _ may).0
 
-  pub root_may_do : (act : Act) → verdict (unmet g x s) (act_of g x s) ≡ Ok act → RootCanDo g s x seen
+  pub root_may_do : (act : Act) → verdict (unmet_rule g x s) (act_of g x s) ≡ Ok act → RootCanDo g s x seen
   root_may_do act given =
       let met = (verdict_ok _ _ _ given).0 in (
         root_mine,
@@ -51,21 +51,21 @@ module _ (g : Setting) (s : Part) (r : Root) (stands : RootStandsFor g s r) (x :
             (λ fits. fits) (or_cases _ _ (and_parts _ _ may).1)),
       )
 
-  pub root_made : (act : Act) → verdict (unmet g x s) (act_of g x s) ≡ Ok act → (new : Root) (reply : Reply)
+  pub root_made : (act : Act) → verdict (unmet_rule g x s) (act_of g x s) ≡ Ok act → (new : Root) (reply : Reply)
       → RootMakes r new x seen reply
-      → RootStandsFor g (asked g (saw x seen) s (unmet g x s)).0 new
-      × (reply ≡ (asked g (saw x seen) s (unmet g x s)).1)
+      → RootStandsFor g (part_and_reply g (saw x seen) s (unmet_rule g x s)).0 new
+      × (reply ≡ (part_and_reply g (saw x seen) s (unmet_rule g x s)).1)
   root_made act given new reply makes =
-      subst (λ (u : Option Rule). RootStandsFor g (asked g (saw x seen) s u).0 new
-      × (reply ≡ (asked g (saw x seen) s u).1))
+      subst (λ (u : Option Rule). RootStandsFor g (part_and_reply g (saw x seen) s u).0 new
+      × (reply ≡ (part_and_reply g (saw x seen) s u).1))
       (sym (verdict_ok _ _ _ given).0) (makes g s stands (root_may_do act given))
 
-  pub root_refused : (rule : Rule) → verdict (unmet g x s) (act_of g x s) ≡ Err rule
-      → RootStandsFor g (asked g (saw x seen) s (unmet g x s)).0 r
-      × (NotNow rule ≡ (asked g (saw x seen) s (unmet g x s)).1)
+  pub root_refused : (rule : Rule) → verdict (unmet_rule g x s) (act_of g x s) ≡ Err rule
+      → RootStandsFor g (part_and_reply g (saw x seen) s (unmet_rule g x s)).0 r
+      × (NotNow rule ≡ (part_and_reply g (saw x seen) s (unmet_rule g x s)).1)
   root_refused rule given =
-      subst (λ (u : Option Rule). RootStandsFor g (asked g (saw x seen) s u).0 r
-      × (NotNow rule ≡ (asked g (saw x seen) s u).1))
+      subst (λ (u : Option Rule). RootStandsFor g (part_and_reply g (saw x seen) s u).0 r
+      × (NotNow rule ≡ (part_and_reply g (saw x seen) s u).1))
       (sym (verdict_err _ _ _ given)) (stands, refl)
 
 -- ---- a list of questions
@@ -78,8 +78,8 @@ module _ (xs : List (Event × ℕ × Reply)) where
   play_root_first : (g : Setting) (s : Part) (i : ℕ) (d : Event × ℕ × Reply) → i < length xs
       → may_play_root g s (drop i xs) ≡ true
       → (may_ask_root g s (get_or xs i d).0 (get_or xs i d).1
-      && may_play_root g (asked g (saw ((get_or xs i d).0) ((get_or xs i d).1)) s
-      (unmet g (get_or xs i d).0 s)).0 (drop (i + 1) xs)) ≡ true
+      && may_play_root g (part_and_reply g (saw ((get_or xs i d).0) ((get_or xs i d).1)) s
+      (unmet_rule g (get_or xs i d).0 s)).0 (drop (i + 1) xs)) ≡ true
   play_root_first g s i d within all = subst (λ (ys : List (Event × ℕ × Reply)). may_play_root g s ys ≡ true)
       (drop_more xs i d within) all
 
@@ -92,6 +92,6 @@ module _ (xs : List (Event × ℕ × Reply)) where
       → RootAnswers r new (get_or xs i d).0 (get_or xs i d).1 reply → MayPlayRoot new (i + 1)
   ask_root_next r new reply i d within (g, s, stands, all) answers =
       let both = and_parts _ _ (play_root_first g s i d within all) in
-      let after : Part = (asked g (saw ((get_or xs i d).0) ((get_or xs i d).1)) s
-      (unmet g (get_or xs i d).0 s)).0 in
+      let after : Part = (part_and_reply g (saw ((get_or xs i d).0) ((get_or xs i d).1)) s
+      (unmet_rule g (get_or xs i d).0 s)).0 in
       (g, after, (answers g s stands both.0).0, both.1)

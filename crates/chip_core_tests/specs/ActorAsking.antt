@@ -1,8 +1,8 @@
 -- What an actor answers where it is asked for an event: what the tests go by.
 use Rattle.std.specs.Prelude.{◌≡◌, ℕ, true}
-use Rattle.chip_part.specs.Rules.{Event, unmet}
+use Rattle.chip_part.specs.Rules.{Event, unmet_rule}
 use Rattle.chip_part.specs.declared.reply.Reply.{Reply}
-use Rattle.chip_part.specs.Steps.{asked, saw}
+use Rattle.chip_part.specs.Steps.{part_and_reply, saw}
 use Rattle.chip_core_tests.specs.Asking.{may_ask}
 use Rattle.chip_actor.specs.Actor.{Actor, WhateverPart, StandsFor}
 
@@ -10,5 +10,5 @@ use Rattle.chip_actor.specs.Actor.{Actor, WhateverPart, StandsFor}
 abbrev pub Answers : Actor → Actor → Event → ℕ → Reply → Type 0
 Answers old new x seen reply =
     WhateverPart old (λ g s. may_ask g old.vertex s x seen ≡ true
-    → StandsFor g (asked g (saw x seen) s (unmet g x s)).0 new
-    × (reply ≡ (asked g (saw x seen) s (unmet g x s)).1) × (new.vertex ≡ old.vertex))
+    → StandsFor g (part_and_reply g (saw x seen) s (unmet_rule g x s)).0 new
+    × (reply ≡ (part_and_reply g (saw x seen) s (unmet_rule g x s)).1) × (new.vertex ≡ old.vertex))

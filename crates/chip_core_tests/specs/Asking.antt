@@ -10,10 +10,10 @@ use Rattle.chip_part.specs.Worked.{edge}
 use Rattle.chip_link.specs.Words.{claims_in}
 use Rattle.chip_link.specs.Link.{claims_of}
 use Rattle.chip_detect.specs.Tally.{message_limit}
-use Rattle.chip_part.specs.Part.{Part, opened}
-use Rattle.chip_part.specs.Rules.{Event, Take, Claim, Settle, unmet}
+use Rattle.chip_part.specs.Part.{Part, opening_part}
+use Rattle.chip_part.specs.Rules.{Event, Take, Claim, Settle, unmet_rule}
 use Rattle.chip_part.specs.declared.reply.Reply.{Reply}
-use Rattle.chip_part.specs.Steps.{part_of, does, asked, saw}
+use Rattle.chip_part.specs.Steps.{part_of, does, part_and_reply, saw}
 use Rattle.chip_part.specs.declared.act.Act.{Act}
 use Rattle.chip_part.specs.Acting.{event_of}
 
@@ -27,7 +27,7 @@ fits_seen s _ seen = true
 
 -- the vertex may be asked for this event, and where it makes it, it may see this
 abbrev pub may_ask : Setting → ℕ → Part → Event → ℕ → Bool
-may_ask g v s x seen = part_of g x == v && (is_some (unmet g x s) || fits_seen s x seen)
+may_ask g v s x seen = part_of g x == v && (is_some (unmet_rule g x s) || fits_seen s x seen)
 
 -- these operations may see what stands beside them, one after another
 abbrev pub may_see_all : Setting → ℕ → Part → List (Act × ℕ) → Bool
@@ -40,7 +40,7 @@ may_see_all g v s (o ∷ os) = fits_seen s (event_of v o.0) o.1
 abbrev pub may_play : Setting → ℕ → Part → List (Event × ℕ × Reply) → List (Act × ℕ) → Bool
 may_play g v s [] turn = may_see_all g v s turn
 may_play g v s (x ∷ xs) turn = may_ask g v s x.0 x.1
-    && may_play g v (asked g (saw x.0 x.1) s (unmet g x.0 s)).0 xs turn
+    && may_play g v (part_and_reply g (saw x.0 x.1) s (unmet_rule g x.0 s)).0 xs turn
 
 -- the game on edges with these ends, which send one chip for each firing. The sink is the last vertex
 abbrev pub edge_of : ℕ × ℕ → Edge
@@ -61,4 +61,4 @@ setting_on ends start fed = setting_with (game_on ends start) 1 fed
 -- the vertex may play so from the opening of that game
 abbrev pub may_play_new : List (ℕ × ℕ) → List ℕ → ℕ → List (Event × ℕ × Reply) → List (Act × ℕ) → Bool
 may_play_new ends start v xs turn =
-    let g = setting_on ends start false in may_play g v (opened g) xs turn
+    let g = setting_on ends start false in may_play g v (opening_part g) xs turn

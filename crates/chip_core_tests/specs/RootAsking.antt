@@ -3,10 +3,10 @@ use Rattle.std.specs.Prelude.{◌≡◌, ℕ, Bool, true, false, ◌&&◌, ◌||
 use Rattle.chip_part.specs.Setting.{Setting}
 use Rattle.chip_part.specs.Edges.{root_edge}
 use Rattle.chip_link.specs.Link.{claims_of}
-use Rattle.chip_part.specs.Part.{Part, opened}
-use Rattle.chip_part.specs.Rules.{Event, Settle, Feed, End, unmet}
+use Rattle.chip_part.specs.Part.{Part, opening_part}
+use Rattle.chip_part.specs.Rules.{Event, Settle, Feed, End, unmet_rule}
 use Rattle.chip_part.specs.declared.reply.Reply.{Reply}
-use Rattle.chip_part.specs.Steps.{asked, saw}
+use Rattle.chip_part.specs.Steps.{part_and_reply, saw}
 use Rattle.chip_part.specs.Acting.{is_of_root}
 use Rattle.chip_core_tests.specs.Asking.{fits_seen, setting_on}
 use Rattle.chip_root.specs.Root.{Root, RootStandsFor, WhateverRoot}
@@ -19,24 +19,24 @@ root_fits_seen g s x seen = fits_seen s x seen
 
 -- the root may be asked for this event, and where it makes it, it may see this
 abbrev pub may_ask_root : Setting → Part → Event → ℕ → Bool
-may_ask_root g s x seen = is_of_root g x && (is_some (unmet g x s) || root_fits_seen g s x seen)
+may_ask_root g s x seen = is_of_root g x && (is_some (unmet_rule g x s) || root_fits_seen g s x seen)
 
 -- and for one event after another
 abbrev pub may_play_root : Setting → Part → List (Event × ℕ × Reply) → Bool
 may_play_root g s [] = true
 may_play_root g s (x ∷ xs) = may_ask_root g s x.0 x.1
-    && may_play_root g (asked g (saw x.0 x.1) s (unmet g x.0 s)).0 xs
+    && may_play_root g (part_and_reply g (saw x.0 x.1) s (unmet_rule g x.0 s)).0 xs
 
 -- the root answered so: whatever part it stood for, it stands for that part after the question
 abbrev pub RootAnswers : Root → Root → Event → ℕ → Reply → Type 0
 RootAnswers old new x seen reply =
     WhateverRoot old (λ g s. may_ask_root g s x seen ≡ true
-    → RootStandsFor g (asked g (saw x seen) s (unmet g x s)).0 new
-    × (reply ≡ (asked g (saw x seen) s (unmet g x s)).1))
+    → RootStandsFor g (part_and_reply g (saw x seen) s (unmet_rule g x s)).0 new
+    × (reply ≡ (part_and_reply g (saw x seen) s (unmet_rule g x s)).1))
 
 -- the root may be asked so from the opening of a game
 abbrev pub may_play_root_new : List (ℕ × ℕ) → List ℕ → Bool → List (Event × ℕ × Reply) → Bool
-may_play_root_new ends start fed xs = let g = setting_on ends start fed in may_play_root g (opened g) xs
+may_play_root_new ends start fed xs = let g = setting_on ends start fed in may_play_root g (opening_part g) xs
 
 -- the triangle with four chips on vertex 0, and rings of one cell
 abbrev pub four_chips : Setting

@@ -4,7 +4,7 @@ ghost use Rattle.std.specs.Prelude.{◌≡◌, ◌≢◌, ◌<◌, false, IsTrue
 ghost use Rattle.chip_actor.specs.Actor.{SomePart, StandsFor};
 ghost use Rattle.chip_core_tests.specs.ActorAsking.{Answers};
 ghost use Rattle.chip_core_tests.specs.Asking.{may_ask, may_play, may_see_all, may_play_new, setting_on};
-ghost use Rattle.chip_part.specs.Part.{opened};
+ghost use Rattle.chip_part.specs.Part.{opening_part};
 
 use crate::games::{TRIANGLE, fire, got, made_game, message, sent};
 use chip_actor::ActorState;
@@ -109,7 +109,7 @@ fn new_actor(
 ) -> Box<ActorState>
     requires { vertex < length start.now }
     ensures vertex { result.value.vertex ≡ vertex }
-    ensures opened { let g = setting_on ends.now start.now false in StandsFor g (opened g) result.value }
+    ensures opened { let g = setting_on ends.now start.now false in StandsFor g (opening_part g) result.value }
 {
     let game = made_game(rt, ends, start);
     let actor = ActorState::new(rt.alloc(), &game, vertex, Ring::one()).expect(rt, "memory");

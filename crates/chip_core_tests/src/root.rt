@@ -4,7 +4,7 @@ ghost use Rattle.std.specs.Prelude.{◌<◌, IsTrue, length};
 ghost use Rattle.chip_core_tests.specs.Asking.{setting_on};
 ghost use Rattle.chip_core_tests.specs.RootAsking.{may_ask_root, may_play_root, may_play_root_new, RootAnswers};
 ghost use Rattle.chip_core_tests.specs.RootAsking.{four_chips};
-ghost use Rattle.chip_part.specs.Part.{opened};
+ghost use Rattle.chip_part.specs.Part.{opening_part};
 ghost use Rattle.chip_root.specs.Root.{SomeRoot, RootStandsFor};
 
 use crate::games::{TRIANGLE, feed, made_game, message, sent};
@@ -43,7 +43,7 @@ fn new_root(
     fed: bool,
 ) -> Box<RootBooks>
     requires { 0 < length start.now }
-    ensures { let g = setting_on ends.now start.now fed in RootStandsFor g (opened g) result.value }
+    ensures { let g = setting_on ends.now start.now fed in RootStandsFor g (opening_part g) result.value }
 {
     let game = Box::into_inner(made_game(rt, ends, start));
     let setting = Setting::new(game, Ring::one(), fed);
@@ -87,7 +87,7 @@ fn unfed_root(rt: HostRuntime) {
 
 /// The message of vertex 0 is acknowledged, and then no more is new.
 fn settles_once(rt: &impl Abort, root: &mut RootBooks)
-    requires { RootStandsFor four_chips (opened four_chips) root.old }
+    requires { RootStandsFor four_chips (opening_part four_chips) root.old }
 {
     assert!(rt; root.outstanding() == 1);
     let first = root.settle(0, 1);

@@ -9,7 +9,7 @@ use Rattle.std.proofs.lemmas.Nat.{mul-le}
 use Rattle.std.proofs.lemmas.List.{length-set}
 use mathlib.Core.Logic.{dite}
 use native.Mathlib.Decide.{ℕ_discrete}
-use Rattle.chip_graph.specs.Sums.{picked}
+use Rattle.chip_graph.specs.Sums.{filter_below}
 use Rattle.chip_graph.specs.Multigraph.{Multigraph, edge_at, edges_out, edges_in}
 use Rattle.chip_net.specs.Tokens.{ActorKnown, MakesTurn}
 use Rattle.chip_net.specs.declared.actor.Turn.{Turn}
@@ -23,10 +23,10 @@ one_at_most : (b : Bool) (n : ℕ) → length (if b then n ∷ [] else []) ≤ 1
 one_at_most true n = omega arith
 one_at_most false n = omega arith
 
-pub few_picked : (test : ℕ → Bool) (n : ℕ) → length (picked test n) ≤ n
+pub few_picked : (test : ℕ → Bool) (n : ℕ) → length (filter_below test n) ≤ n
 few_picked test zero = omega arith
 few_picked test (suc n) =
-    let both = length-append (picked test n) (if test n then n ∷ [] else []) in
+    let both = length-append (filter_below test n) (if test n then n ∷ [] else []) in
     let one = one_at_most (test n) n in let before = few_picked test n in omega (arith, both, one, before)
 
 -- few ends of edges are at a vertex

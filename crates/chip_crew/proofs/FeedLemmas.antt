@@ -8,7 +8,7 @@ use Rattle.std.proofs.lemmas.List.Sums.{sum_by-append}
 use Rattle.chip_graph.specs.More.{all_brought}
 use Rattle.chip_part.specs.Setting.{Setting}
 use Rattle.chip_part.specs.Steps.{ended_after, does, saw}
-use Rattle.chip_core.specs.Core.{Step, Event, Clear, Settle, Part, opened, root_edge, graph_edges}
+use Rattle.chip_core.specs.Core.{Step, Event, Clear, Settle, Part, opening_part, root_edge, graph_edges}
 use Rattle.chip_core.specs.Histories.{part_by}
 use Rattle.chip_core.specs.Positions.{fed_of, fed_in}
 use Rattle.chip_net.specs.Tokens.{NetId}
@@ -82,7 +82,7 @@ adds_steps old new steps xs more ended is events_are noted feeds =
     let g : Setting = old.net.setting in
     let after : RootKnown = root_after old steps in
     let ended_is : has_ended after ≡ ended =
-    ap (λ (s : Part). s.ended) (part_append g (opened g) old.did steps) ∙ part_ended g (root_part old) steps
+    ap (λ (s : Part). s.ended) (part_append g (opening_part g) old.did steps) ∙ part_ended g (root_part old) steps
     ∙ ap (noted_after (has_ended old)) events_are ∙ noted in
     let fed : fed_by after ≡ fed_by old ++ more = fed_steps g old.did steps
     ∙ ap (λ (l : List (ℕ × ℕ)). fed_by old ++ l) (fed_is g steps ∙ ap (fed_events g) events_are ∙ feeds) in

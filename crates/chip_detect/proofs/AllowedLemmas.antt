@@ -2,23 +2,23 @@
 -- What the rule of acknowledging says, over plain arguments.
 use Rattle.std.proofs.Common.{◌≡◌, ℕ, ◌-◌, ◌<◌, ◌≤◌, Bool, true, false, Option, Some, None, subst, inl, inr, arith}
 use Rattle.std.proofs.lemmas.Bool.Decides.{nat_tests, eqb_tells}
-use Rattle.chip_detect.specs.Acknowledging.{acknowledgeable, parent_while_owed}
+use Rattle.chip_detect.specs.Acknowledging.{acknowledgeable_count, parent_while_owed}
 
 -- never more than is owed
 pub within_owed : (e : ℕ) (parent : Option ℕ) (here all waiting : ℕ) (passive : Bool)
-    → acknowledgeable e parent here all waiting passive ≤ here
+    → acknowledgeable_count e parent here all waiting passive ≤ here
 within_owed e None here all waiting passive = omega arith
 within_owed e (Some p) here all waiting true = grind (arith, nat_tests)
 within_owed e (Some p) here all waiting false = grind (arith, nat_tests)
 
 -- all that is owed on the parent edge, only where the vertex is done
 pub all_when_done : (e here all waiting : ℕ) (passive : Bool) → 0 < here
-    → here ≤ acknowledgeable e (Some e) here all waiting passive → (all ≡ here) × (passive ≡ true) × (waiting ≡ 0)
+    → here ≤ acknowledgeable_count e (Some e) here all waiting passive → (all ≡ here) × (passive ≡ true) × (waiting ≡ 0)
 all_when_done e here all waiting true owing allowed = grind (arith, nat_tests)
 all_when_done e here all waiting false owing allowed = absurd (grind (arith, nat_tests))
 
 -- an active vertex keeps one
-pub active_keeps_one : (e here all waiting : ℕ) → acknowledgeable e (Some e) here all waiting false ≡ here - 1
+pub active_keeps_one : (e here all waiting : ℕ) → acknowledgeable_count e (Some e) here all waiting false ≡ here - 1
 active_keeps_one e here all waiting = grind (arith, nat_tests)
 
 -- a parent that stays is owed something, and is the one that was there

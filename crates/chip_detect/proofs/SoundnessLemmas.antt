@@ -6,7 +6,7 @@ use Rattle.std.specs.List.{Contains}
 use Rattle.std.proofs.lemmas.Bool.Decides.{nat_tests, eqb_tells}
 use Rattle.chip_detect.specs.Tally.{Tally, AreTallies, open_on, all_open, message_limit}
 use Rattle.chip_detect.specs.Books.{Books, IsSound, in_edges, owed, all_owed, deficit, outstanding, got_of, sent_of}
-use Rattle.chip_detect.specs.Acknowledging.{is_parent, or_else, parent_while_owed, acknowledgeable, may_ack}
+use Rattle.chip_detect.specs.Acknowledging.{is_parent, or_else, parent_while_owed, acknowledgeable_count, may_ack}
 use Rattle.chip_detect.specs.Steps.{Got, Acked, Sent, Settled, Gets, Acknowledges, Sends, Settles}
 use Rattle.chip_detect.specs.Change.{AddsAnswers}
 use Rattle.std.specs.Option.{option_eq}
@@ -36,8 +36,8 @@ module _ (old new : Books) (e count : ℕ) (sound : IsSound old) (on : Contains 
       let here : p ≡ e = grind (arith, nat_tests, less_owed p) in
       let whole : count ≡ owed old e = grind (arith, nat_tests, less_owed e, ap (owed new) here, were_owed) in
       let parent_is : old.parent ≡ Some e = was ∙ ap Some here in
-      let enough : owed old e ≤ acknowledgeable e (Some e) (owed old e) (all_owed old) (deficit old) true =
-      subst (λ (q : Option ℕ). owed old e ≤ acknowledgeable e q (owed old e) (all_owed old) (deficit old) true)
+      let enough : owed old e ≤ acknowledgeable_count e (Some e) (owed old e) (all_owed old) (deficit old) true =
+      subst (λ (q : Option ℕ). owed old e ≤ acknowledgeable_count e q (owed old e) (all_owed old) (deficit old) true)
       parent_is (omega (arith, whole, allowed)) in
       let done = all_when_done e (owed old e) (all_owed old) (deficit old) true
       (omega (arith, owing, ap (owed old) here)) enough in

@@ -27,12 +27,12 @@ is_done owed_here owed_in_all deficit_now passive =
 
 -- how many may be acknowledged on the edge e now: all that is owed there, but on the parent edge
 -- one fewer until the vertex is done
-abbrev pub acknowledgeable : ℕ → Option ℕ → ℕ → ℕ → ℕ → Bool → ℕ
-acknowledgeable e parent owed_here owed_in_all deficit_now passive =
+abbrev pub acknowledgeable_count : ℕ → Option ℕ → ℕ → ℕ → ℕ → Bool → ℕ
+acknowledgeable_count e parent owed_here owed_in_all deficit_now passive =
     if is_parent e parent && not (is_done owed_here owed_in_all deficit_now passive)
     then owed_here - 1
     else owed_here
 
 -- the same, of a vertex's books
 abbrev pub may_ack : Books → ℕ → Bool → ℕ
-may_ack b e passive = acknowledgeable e b.parent (owed b e) (all_owed b) (deficit b) passive
+may_ack b e passive = acknowledgeable_count e b.parent (owed b e) (all_owed b) (deficit b) passive

@@ -19,7 +19,7 @@ use Rattle.chip_engine.specs.ResumeCommand.{LeadsToTheEnd}
 use Rattle.chip_command.specs.Sitting.{TellsPlayFrom}
 use Rattle.chip_command.proofs.SittingLemmas.{first_tells, report_tells}
 use Rattle.chip_engine.specs.Sittings.{IsResumedTo, AreResumed}
-use Rattle.chip_core.specs.Positions.{started}
+use Rattle.chip_core.specs.Positions.{chips_given}
 use Rattle.chip_engine.specs.Sittings.{PlainTellsPlay, SimulateTellsPlay, ResumedPlaysAddUp}
 use Rattle.chip_engine.proofs.SittingLemmas.{LeavesNoneLegal, none_legal, leads_on}
 
@@ -49,7 +49,7 @@ plain_tells_play limits graph_text chips_text limit report ended (h, means', tex
 
 pub simulate_tells_play : SimulateTellsPlay
 simulate_tells_play g log end report status ends is =
-    first_tells g.game.graph (started g log) ends.outcome ends.reportable (
+    first_tells g.game.graph (chips_given g log) ends.outcome ends.reportable (
       _,
       record { sequence = ends.comes.sequence; counted = ends.comes.counted; position = ends.comes.position },
     )

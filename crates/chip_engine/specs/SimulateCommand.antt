@@ -19,7 +19,7 @@ use Rattle.chip_world.specs.declared.world.driving.Drive.{Drive}
 use Rattle.chip_world.specs.declared.world.driving.Drive.TheVariants.{Closed, Unfinished}
 use Rattle.chip_world.specs.Rounds.{IsDrive}
 use Rattle.chip_core.specs.Outcomes.{IsOutcomeOf, ComesTo}
-use Rattle.chip_core.specs.Positions.{firings, started, played_game}
+use Rattle.chip_core.specs.Positions.{firings, chips_given, played_game}
 use Rattle.chip_file.specs.ScheduleText.{schedule_of_text, schedule_text_fault}
 use Rattle.chip_sequence.specs.declared.outcome.Outcome.{Outcome}
 use Rattle.chip_sequence.specs.Outcomes.{IsOutcome}
@@ -72,7 +72,7 @@ pub record EndsClosed (g : Setting) (log : Log) (end : List ℕ) (status : ℕ) 
   pub outcome : Outcome
   pub outcome_is : IsOutcomeOf g log outcome
   pub reportable : IsOutcome outcome
-  pub comes : ComesTo g (started g log) (firings log) outcome
+  pub comes : ComesTo g (chips_given g log) (firings log) outcome
   pub reported : end ≡ codes "root closed\n" ++ report_text outcome
   pub status_is : status ≡ plain_status outcome
   pub plays : NoneHaltedBySeal g log → Reports (played_game g log) (report_text outcome) status

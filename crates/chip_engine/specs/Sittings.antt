@@ -8,7 +8,7 @@ use Rattle.chip_sequence.specs.declared.resumed.Resumed.{Resumed}
 use Rattle.chip_report.specs.ReportTwo.{IsAnyReportOf}
 use Rattle.chip_part.specs.Setting.{Setting}
 use Rattle.chip_core.specs.Core.{Log}
-use Rattle.chip_core.specs.Positions.{started}
+use Rattle.chip_core.specs.Positions.{chips_given}
 use Rattle.chip_command.specs.Inputs.{Reads, MeansGame}
 use Rattle.chip_command.specs.PlainCommand.{PlainAnswers}
 use Rattle.chip_command.specs.Sitting.{TellsPlayFrom}
@@ -38,7 +38,7 @@ PlainTellsPlay =
 abbrev pub SimulateTellsPlay : Type 0
 SimulateTellsPlay =
     (g : Setting) (log : Log) (end report : List ℕ) (status : ℕ) → EndsClosed g log end status
-    → end ≡ codes "root closed\n" ++ report → TellsPlayFrom g.game.graph (started g log) report
+    → end ≡ codes "root closed\n" ++ report → TellsPlayFrom g.game.graph (chips_given g log) report
 
 -- however often a play was resumed since a report that tells it from x, and once more: the last report leads to the end
 -- of the play that was never stopped

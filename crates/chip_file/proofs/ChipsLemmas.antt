@@ -9,7 +9,7 @@ use Rattle.std.specs.Prelude.{is_some, unwrap_or, not, ◌&&◌, ◌==◌, nat_l
 use Rattle.std.proofs.lemmas.List.{get_or-replicate, get_or-map, length-map, length-replicate, length-set}
 use Rattle.std.proofs.lemmas.Bool.{ltb-true, eqb-true, eqb-false, not-true}
 use Rattle.std.proofs.lemmas.List.FromFn.{fill_by_all}
-use Rattle.chip_graph.specs.Faults.{first_of_faults, unless}
+use Rattle.chip_graph.specs.Faults.{first_of_faults, fault_unless}
 use Rattle.chip_file.specs.declared.fault.FileFault.{FileFault}
 use Rattle.chip_file.specs.declared.fault.FileFault.TheVariants as fault
 use Rattle.chip_file.specs.ChipsText.{row_fault, chips_row_fault, chips_named, vertex_in, chips_in, chips_of_rows}
@@ -28,8 +28,8 @@ pub record HaveNoted (vertices : ℕ) (before : List Row) (named : List (Option 
 -- ---- the fault of a row by the table is its fault by the rows before it
 
 named_by : (b : Bool) (vertex index : ℕ) (p q : Bool) → (b ≡ true → p ≡ q)
-    → first_of_faults (unless b (fault.Vertex index)) (unless (not p) (fault.Repeated index))
-    ≡ first_of_faults (unless b (fault.Vertex index)) (unless (not q) (fault.Repeated index))
+    → first_of_faults (fault_unless b (fault.Vertex index)) (fault_unless (not p) (fault.Repeated index))
+    ≡ first_of_faults (fault_unless b (fault.Vertex index)) (fault_unless (not q) (fault.Repeated index))
 named_by true vertex index p q h = rw (h refl) refl
 named_by false vertex index p q h = refl
 
@@ -53,10 +53,11 @@ table_fault vertices before named index row noted counted =
 names_new : (vertices : ℕ) (before : List Row) (row : Row) → chips_row_fault vertices before row ≡ None
     → (vertex_in row < vertices) × (is_some (chips_named before (vertex_in row)) ≡ false)
 names_new vertices before row e =
-    let first = none_first (unless (length row == 2) (fault.Row (length before))) _ e in
-    let second = none_first (unless (is_some (number_at 0 row) && is_some (number_at 1 row))
+    let first = none_first (fault_unless (length row == 2) (fault.Row (length before))) _ e in
+    let second = none_first (fault_unless (is_some (number_at 0 row) && is_some (number_at 1 row))
     (fault.Number (length before))) _ first.1 in
-    let third = none_first (unless (nat_lt (vertex_in row) vertices) (fault.Vertex (length before))) _ second.1 in (
+    let third = none_first
+    (fault_unless (nat_lt (vertex_in row) vertices) (fault.Vertex (length before))) _ second.1 in (
       ltb-true (vertex_in row) vertices
           (passes (nat_lt (vertex_in row) vertices) (fault.Vertex (length before)) third.0),
       not-true (is_some (chips_named before (vertex_in row)))
@@ -151,7 +152,7 @@ HaveNoted-all vertices records before named noted all = record {
 -- nothing is wrong with the rows, so the total decides
 total_decides : (vertices : ℕ) (records : List Row) (named : List (Option ℕ)) → AreNamed vertices records named
     → chips_fault vertices records
-    ≡ unless (nat_le (sum (chips_of_rows vertices (rows_under_header records))) max_total) fault.Total
+    ≡ fault_unless (nat_le (sum (chips_of_rows vertices (rows_under_header records))) max_total) fault.Total
 total_decides vertices records named are = rw are.no_fault refl
 
 filled : (vertices : ℕ) (records : List Row) (named : List (Option ℕ)) → AreNamed vertices records named

@@ -9,7 +9,8 @@ use Rattle.chip_graph.specs.declared.fault.GraphFault.{GraphFault}
 use Rattle.chip_graph.specs.declared.fault.GraphFault.TheVariants as graph_fault
 use Rattle.chip_graph.specs.Limits.{SizeLimits}
 use Rattle.chip_graph.specs.Multigraph.{Multigraph, IsGraphWithin}
-use Rattle.chip_graph.specs.Faults.{first_of_faults, unless, fault_of_edges, fault_of_rows, IsGraphFault, MakesGraph}
+use Rattle.chip_graph.specs.Faults.{first_of_faults, fault_unless, fault_of_edges, fault_of_rows, IsGraphFault}
+use Rattle.chip_graph.specs.Faults.{MakesGraph}
 use Rattle.chip_graph.proofs.FaultLemmas.{rows_few}
 use Rattle.chip_json.specs.declared.fault.JsonFault.{JsonFault}
 use Rattle.chip_json.specs.declared.file.GraphFile.{GraphFile as Kept}
@@ -64,17 +65,17 @@ same_rows graph v s edges a b c = rw (← a, ← b, c) refl
 -- the first fault where there are too many edges: no edge is looked at
 abbrev crowded_fault : SizeLimits → ℕ → ℕ → Option GraphFault
 crowded_fault limits v s =
-    first_of_faults (unless (ltb 0 v && leb v limits.vertices) graph_fault.Vertices)
-    (first_of_faults (unless (ltb s v) graph_fault.Sink) (Some graph_fault.EdgeCount))
+    first_of_faults (fault_unless (ltb 0 v && leb v limits.vertices) graph_fault.Vertices)
+    (first_of_faults (fault_unless (ltb s v) graph_fault.Sink) (Some graph_fault.EdgeCount))
 
 crowded_by : (limits : SizeLimits) (v s : ℕ) (edges : List Edge) (b : Bool) → leb (length edges) limits.edges ≡ b
     → limits.edges < length edges
     → fault_of_rows limits (record { vertices = v; sink = s; edges = edges }) ≡ crowded_fault limits v s
 crowded_by limits v s edges true is many = let few : length edges ≤ limits.edges = leb-true _ _ is in absurd (omega arith)
 crowded_by limits v s edges false is many =
-    ap (λ (b : Bool). first_of_faults (unless (ltb 0 v && leb v limits.vertices) graph_fault.Vertices)
-    (first_of_faults (unless (ltb s v) graph_fault.Sink)
-    (first_of_faults (unless b graph_fault.EdgeCount) (fault_of_edges v s 0 edges)))) is
+    ap (λ (b : Bool). first_of_faults (fault_unless (ltb 0 v && leb v limits.vertices) graph_fault.Vertices)
+    (first_of_faults (fault_unless (ltb s v) graph_fault.Sink)
+    (first_of_faults (fault_unless b graph_fault.EdgeCount) (fault_of_edges v s 0 edges)))) is
 
 crowded : (limits : SizeLimits) (v s : ℕ) (edges : List Edge) → limits.edges < length edges
     → fault_of_rows limits (record { vertices = v; sink = s; edges = edges }) ≡ crowded_fault limits v s

@@ -11,9 +11,9 @@ use Rattle.chip_file.specs.declared.source.LastRead.{LastRead}
 use Rattle.chip_file.specs.declared.source.LastRead.TheVariants as last
 use Rattle.chip_file.specs.Answer.{max_chunk}
 use Rattle.chip_file.specs.Pieces.{CutsInto, GivesPiece, GoesOn, IsSound, SplitsRows, has_quote, kind_of_read}
-use Rattle.chip_file.specs.Pieces.{Reading, rows_due, unread}
+use Rattle.chip_file.specs.Pieces.{Reading, rows_due, bytes_unread}
 use Rattle.chip_file.specs.Rows.{Row, records_of}
-use Rattle.chip_file.specs.Source.{goes_on, last_read, left}
+use Rattle.chip_file.specs.Source.{goes_on, last_read, bytes_left}
 use Rattle.chip_file.proofs.SeamLemmas.{records_cut, records_of_none}
 
 -- ---- what was read of an input
@@ -162,14 +162,15 @@ none_come rest carry rows empty end known =
 
 -- the bytes that came are carried on
 pub still_kept : {R : Type 0} (remaining : R → Option (List ℕ)) (a b m new : Reading R) (came : List ℕ)
-    → ((text : List ℕ) → unread remaining a ≡ Some text → unread remaining b ≡ Some text)
-    → Consumes (left remaining b.source) (left remaining m.source) came
+    → ((text : List ℕ) → bytes_unread remaining a ≡ Some text → bytes_unread remaining b ≡ Some text)
+    → Consumes (bytes_left remaining b.source) (bytes_left remaining m.source) came
     → m.carry ≡ b.carry → new.source ≡ m.source
-    → (text : List ℕ) → unread remaining a ≡ Some text
-    → prepend_known (m.carry.items ++ came) (left remaining new.source) ≡ Some text
+    → (text : List ℕ) → bytes_unread remaining a ≡ Some text
+    → prepend_known (m.carry.items ++ came) (bytes_left remaining new.source) ≡ Some text
 still_kept remaining a b m new came kept consumes carry source text known =
     rw (carry, source)
-    (carried (left remaining b.source) (left remaining m.source) b.carry.items came text consumes (kept text known))
+    (carried (bytes_left remaining b.source) (bytes_left remaining m.source) b.carry.items came text consumes
+    (kept text known))
 
 due_going : {R : Type 0} (p : Reading R) → goes_on (last_read p.source) ≡ true
     → rows_due p ≡ 2 * (p.most + max_chunk - p.taken + length p.carry.items) + 2
@@ -181,10 +182,10 @@ due_ended p ended = rw ended refl
 
 -- the input has ended, and what was carried is the last piece
 pub last_piece : {R : Type 0} (remaining : R → Option (List ℕ)) (a b new : Reading R) (piece : List ℕ)
-    → IsAtEnd (left remaining new.source) → last_read new.source ≡ last.End
+    → IsAtEnd (bytes_left remaining new.source) → last_read new.source ≡ last.End
     → new.carry.items ≡ [] → piece ≡ b.carry.items → new.taken ≡ b.taken → new.most ≡ b.most
-    → Consumes (left remaining b.source) (left remaining new.source) []
-    → ((text : List ℕ) → unread remaining a ≡ Some text → unread remaining b ≡ Some text)
+    → Consumes (bytes_left remaining b.source) (bytes_left remaining new.source) []
+    → ((text : List ℕ) → bytes_unread remaining a ≡ Some text → bytes_unread remaining b ≡ Some text)
     → goes_on (last_read b.source) ≡ true → rows_due b ≤ rows_due a
     → GivesPiece remaining a new (Some piece)
 last_piece remaining a b new piece end ended empty all taken most consumes kept more due =
@@ -198,9 +199,9 @@ last_piece remaining a b new piece end ended empty all taken most consumes kept 
         plain = λ _. rw empty refl;
       },
       omega arith,
-      rw (empty, all) (last_splits (unread remaining a) (left remaining new.source) b.carry.items
+      rw (empty, all) (last_splits (bytes_unread remaining a) (bytes_left remaining new.source) b.carry.items
           (λ text known. rw append-nil at
-          (carried (left remaining b.source) (left remaining new.source) b.carry.items [] text consumes
+          (carried (bytes_left remaining b.source) (bytes_left remaining new.source) b.carry.items [] text consumes
           (kept text known)))
           end),
     )
@@ -210,8 +211,8 @@ pub cut_piece : {R : Type 0} (remaining : R → Option (List ℕ)) (a b m new : 
     → m.taken ≡ b.taken + length came → new.taken ≡ m.taken → m.taken ≤ m.most + max_chunk
     → m.most ≡ b.most → new.most ≡ m.most
     → new.source ≡ m.source → m.carry ≡ b.carry → last_read m.source ≡ last.Bytes
-    → Consumes (left remaining b.source) (left remaining m.source) came
-    → ((text : List ℕ) → unread remaining a ≡ Some text → unread remaining b ≡ Some text)
+    → Consumes (bytes_left remaining b.source) (bytes_left remaining m.source) came
+    → ((text : List ℕ) → bytes_unread remaining a ≡ Some text → bytes_unread remaining b ≡ Some text)
     → goes_on (last_read b.source) ≡ true → rows_due b ≤ rows_due a
     → CutsInto (m.carry.items ++ came) (Some piece) new.carry.items new.quoted
     → GivesPiece remaining a new (Some piece)
@@ -230,7 +231,8 @@ cut_piece remaining a b m new came piece counted taken most alike same_most sour
         plain = cut.5;
       },
       omega arith,
-      cut_splits (unread remaining a) (left remaining new.source) (m.carry.items ++ came) piece cut.2 new.carry.items
+      cut_splits (bytes_unread remaining a) (bytes_left remaining new.source)
+          (m.carry.items ++ came) piece cut.2 new.carry.items
           (still_kept remaining a b m new came kept consumes carry source) cut.1 cut.3 cut.4,
     )
 

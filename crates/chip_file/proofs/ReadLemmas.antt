@@ -13,7 +13,7 @@ use Rattle.chip_graph.specs.Limits.{SizeLimits, max_text}
 use Rattle.chip_file.specs.Answer.{Answers, FailsInTime, TakesAtMost, max_chunk}
 use Rattle.chip_file.specs.Pieces.{GoesOn, IsSound, IsStopped, Reading}
 use Rattle.chip_file.specs.Rows.{Row, records_of}
-use Rattle.chip_file.specs.Source.{last_read, left}
+use Rattle.chip_file.specs.Source.{last_read, bytes_left}
 use Rattle.chip_file.specs.Standing.{ComesOfRows, Finishes}
 use Rattle.chip_file.proofs.PieceLemmas.{goes_further}
 use Rattle.chip_file.proofs.RowLemmas.{few_records}
@@ -83,7 +83,7 @@ finished remaining IsMeant IsFault rows p q (Err e) (Err f) sound alike grows (i
 
 -- no more bytes were taken than an input may have, and a buffer
 pub taken_in_all : {R : Type 0} (remaining : R → Option (List ℕ)) (a q : Reading R) → GoesOn remaining a q → a.taken ≡ 0
-    → TakesAtMost (a.most + max_chunk) (left remaining a.source) (left remaining q.source)
+    → TakesAtMost (a.most + max_chunk) (bytes_left remaining a.source) (bytes_left remaining q.source)
 taken_in_all remaining a q on none =
     let counted = on.took.2 in
     let most = on.sound.most in
@@ -92,7 +92,7 @@ taken_in_all remaining a q on none =
 
 taken_in_time : {R : Type 0} (remaining : R → Option (List ℕ)) (a q : Reading R) → GoesOn remaining a q → a.taken ≡ 0
     → q.taken ≤ q.most
-    → TakesAtMost a.most (left remaining a.source) (left remaining q.source)
+    → TakesAtMost a.most (bytes_left remaining a.source) (bytes_left remaining q.source)
 taken_in_time remaining a q on none most =
     let counted = on.took.2 in
     let alike = on.alike in
@@ -101,7 +101,7 @@ taken_in_time remaining a q on none most =
 in_time_by : {R T : Type 0} (limits : SizeLimits) (remaining : R → Option (List ℕ)) (IsMeant : List Row → T → Type 0)
     (IsFault : List Row → FileFault → Type 0) (rows : Option (List Row)) (a q : Reading R) (result : Result T FileFault)
     → a.most ≡ limits.bytes → GoesOn remaining a q → a.taken ≡ 0 → AnswersRows IsMeant IsFault rows q result
-    → FailsInTime limits (left remaining a.source) (left remaining q.source) result
+    → FailsInTime limits (bytes_left remaining a.source) (bytes_left remaining q.source) result
 in_time_by limits remaining IsMeant IsFault rows a q (Ok value) bound on none answers = tt
 in_time_by limits remaining IsMeant IsFault rows a q (Err f) bound on none (inl (inl memory)) = λ read. absurd (cc)
 in_time_by limits remaining IsMeant IsFault rows a q (Err f) bound on none (inl (inr (inl failed))) =
@@ -164,7 +164,7 @@ pub in_time : {R T : Type 0} (limits : SizeLimits) (remaining : R → Option (Li
     → a.most ≡ limits.bytes → a.taken ≡ 0 → GoesOn remaining a p → GoesOn remaining p q
     → ComesOfRows IsMeant IsFault rows p outcome
     → Finishes p q outcome result
-    → FailsInTime limits (left remaining a.source) (left remaining q.source) result
+    → FailsInTime limits (bytes_left remaining a.source) (bytes_left remaining q.source) result
 in_time limits remaining IsMeant IsFault rows a p q outcome result bound none first second comes ends =
     in_time_by limits remaining IsMeant IsFault rows a q result bound (goes_further remaining a p q first second) none
     (finished remaining IsMeant IsFault rows p q outcome result second.sound second.alike (grows remaining p q second) comes ends)
@@ -173,17 +173,17 @@ in_time limits remaining IsMeant IsFault rows a p q outcome result bound none fi
 pub answers_text : {R T : Type 0} (limits : SizeLimits) (remaining : R → Option (List ℕ)) (IsMeant : List Row → T → Type 0)
     (IsFault : List Row → FileFault → Type 0) (rows : Option (List Row)) (a p q : Reading R)
     (outcome result : Result T FileFault)
-    → rows ≡ option_map records_of (left remaining a.source)
+    → rows ≡ option_map records_of (bytes_left remaining a.source)
     → a.most ≡ limits.bytes → a.taken ≡ 0 → GoesOn remaining a p → GoesOn remaining p q → ComesOfRows IsMeant IsFault rows p outcome
     → Finishes p q outcome result
-    → IfSome (left remaining a.source)
+    → IfSome (bytes_left remaining a.source)
     (λ text. Answers limits text (IsMeant (records_of text)) (IsFault (records_of text)) result)
 answers_text limits remaining IsMeant IsFault rows a p q outcome result same bound none first second comes ends =
     let on = goes_further remaining a p q first second in
     let counted : q.taken ≡ length on.took.0 = (let all = on.took.2 in omega arith) in
     let alike = on.alike in
     let low = on.sound.low in
-    known_by limits IsMeant IsFault (left remaining a.source) (left remaining q.source) on.took.0 q result
+    known_by limits IsMeant IsFault (bytes_left remaining a.source) (bytes_left remaining q.source) on.took.0 q result
     (alike ∙ bound) (omega (arith, alike, bound, low)) on.took.1 counted
     on.sound.ended
     (rw (← same)

@@ -4,7 +4,7 @@ use Rattle.std.proofs.Common.{◌≡◌, ◌≢◌, ℕ, ◌<◌, ◌≤◌, ◌
 use Rattle.std.proofs.Common.{Option, None}
 use Rattle.std.proofs.Common.{Some, refl, ap, sym, ◌∙◌, arith, inl, inr, ◌⊎◌, append_assoc, length-append}
 use Rattle.std.proofs.lemmas.List.{append-nil}
-use Rattle.chip_graph.specs.Faults.{first_of_faults, unless}
+use Rattle.chip_graph.specs.Faults.{first_of_faults, fault_unless}
 use Rattle.chip_file.specs.declared.fault.FileFault.{FileFault}
 use Rattle.chip_file.specs.declared.source.LastRead.TheVariants as last
 use Rattle.chip_file.specs.Pieces.{IsStopped, Reading}
@@ -17,7 +17,7 @@ pub none_first : {F : Type 0} (a b : Option F) → first_of_faults a b ≡ None 
 none_first None b e = (refl, e)
 none_first (Some f) b e = cc e
 
-pub passes : {F : Type 0} (test : Bool) (f : F) → unless test f ≡ None → test ≡ true
+pub passes : {F : Type 0} (test : Bool) (f : F) → fault_unless test f ≡ None → test ≡ true
 passes true f e = refl
 passes false f e = cc e
 

@@ -11,7 +11,7 @@ use Rattle.std.proofs.lemmas.Bool.{ltb-true, eqb-true, eqb-false, and_parts}
 use Rattle.chip_graph.specs.Multigraph.{Multigraph}
 use Rattle.chip_link.specs.declared.trace.TraceRow.{TraceRow}
 use Rattle.chip_file.specs.declared.fault.FileFault.TheVariants as fault
-use Rattle.chip_graph.specs.Faults.{unless}
+use Rattle.chip_graph.specs.Faults.{fault_unless}
 use Rattle.chip_file.specs.Kinds.{kind_at}
 use Rattle.chip_file.specs.Numbers.{number_at, number_in}
 use Rattle.chip_file.specs.Rows.{Row, rows_under_header}
@@ -23,9 +23,10 @@ use Rattle.chip_file.proofs.RecordLemmas.{none_first, passes}
 pub names_vertex : (G : Multigraph) (index : ℕ) (row : Row) → trace_row_fault G index row ≡ None
     → number_in 0 row < G.vertices
 names_vertex G index row e =
-    let first = none_first (unless (length row == 4) (fault.Row index)) _ e in
-    let second = none_first (unless (is_some (kind_at trace_kinds 1 row)) (fault.Kind index)) _ first.1 in
-    let third = none_first (unless (is_some (number_at 0 row) && is_some (number_at 2 row) && is_some (number_at 3 row))
+    let first = none_first (fault_unless (length row == 4) (fault.Row index)) _ e in
+    let second = none_first (fault_unless (is_some (kind_at trace_kinds 1 row)) (fault.Kind index)) _ first.1 in
+    let third = none_first
+    (fault_unless (is_some (number_at 0 row) && is_some (number_at 2 row) && is_some (number_at 3 row))
     (fault.Number index)) _ second.1 in
     let both = passes (nat_lt (number_in 0 row) G.vertices && names_edge G (trace_row_in row))
     (fault.Vertex index) third.1 in

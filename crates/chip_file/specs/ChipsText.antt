@@ -3,7 +3,7 @@ use Rattle.std.specs.Prelude.{◌≡◌, ℕ, Bool, ◌<◌, ◌==◌, nat_lt, n
 use Rattle.std.specs.Prelude.{length, map, slice_index_or, sum, Option, None, Some, is_some, is_none, unwrap_or}
 use Rattle.std.specs.List.{range_with_len}
 use Rattle.chip_graph.specs.Limits.{max_total}
-use Rattle.chip_graph.specs.Faults.{first_of_faults, unless}
+use Rattle.chip_graph.specs.Faults.{first_of_faults, fault_unless}
 use Rattle.chip_file.specs.declared.fault.FileFault.{FileFault}
 use Rattle.chip_file.specs.declared.fault.FileFault.TheVariants as fault
 use Rattle.chip_file.specs.Numbers.{number_at, number_in}
@@ -29,10 +29,10 @@ chips_named (row ∷ rows) vertex = if vertex_in row == vertex then Some (chips_
 -- the first thing wrong with the row at an index, where the test tells the vertices that rows before it named
 abbrev pub row_fault : ℕ → (ℕ → Bool) → ℕ → Row → Option FileFault
 row_fault vertices is_named index row =
-    first_of_faults (unless (length row == 2) (fault.Row index))
-    (first_of_faults (unless (is_some (number_at 0 row) && is_some (number_at 1 row)) (fault.Number index))
-    (first_of_faults (unless (nat_lt (vertex_in row) vertices) (fault.Vertex index))
-    (unless (not (is_named (vertex_in row))) (fault.Repeated index))))
+    first_of_faults (fault_unless (length row == 2) (fault.Row index))
+    (first_of_faults (fault_unless (is_some (number_at 0 row) && is_some (number_at 1 row)) (fault.Number index))
+    (first_of_faults (fault_unless (nat_lt (vertex_in row) vertices) (fault.Vertex index))
+    (fault_unless (not (is_named (vertex_in row))) (fault.Repeated index))))
 
 -- the first thing wrong with a row below those before it
 abbrev pub chips_row_fault : ℕ → List Row → Row → Option FileFault
@@ -46,7 +46,7 @@ chips_of_rows vertices rows = map (λ v. unwrap_or (chips_named rows v) 0) (rang
 abbrev pub chips_fault : ℕ → List Row → Option FileFault
 chips_fault vertices records =
     first_of_faults (records_fault chips_header (chips_row_fault vertices) records)
-    (unless (nat_le (sum (chips_of_rows vertices (rows_under_header records))) max_total) fault.Total)
+    (fault_unless (nat_le (sum (chips_of_rows vertices (rows_under_header records))) max_total) fault.Total)
 
 -- the chips that the records of a file of chips mean: none where something is wrong with them
 abbrev pub chips_meant : ℕ → List Row → Option (List ℕ)

@@ -13,7 +13,7 @@ use Rattle.chip_file.specs.declared.source.Source.{Source}
 use Rattle.chip_graph.specs.Limits.{max_text}
 use Rattle.chip_file.specs.Answer.{max_chunk}
 use Rattle.chip_file.specs.Rows.{Row, records_of}
-use Rattle.chip_file.specs.Source.{goes_on, last_read, left, reads}
+use Rattle.chip_file.specs.Source.{goes_on, last_read, bytes_left, reads}
 
 -- whether one of the bytes is a quote
 abbrev pub has_quote : List ℕ → Bool
@@ -48,12 +48,12 @@ reading source pieces =
     }
 
 -- the bytes that no piece has yet, where they are known
-abbrev pub unread : {R : Type 0} → (R → Option (List ℕ)) → Reading R → Option (List ℕ)
-unread remaining pieces = prepend_known pieces.carry.items (left remaining pieces.source)
+abbrev pub bytes_unread : {R : Type 0} → (R → Option (List ℕ)) → Reading R → Option (List ℕ)
+bytes_unread remaining pieces = prepend_known pieces.carry.items (bytes_left remaining pieces.source)
 
 -- the rows that no piece has yet, where they are known
 abbrev pub rows_unread : {R : Type 0} → (R → Option (List ℕ)) → Reading R → Option (List Row)
-rows_unread remaining pieces = option_map records_of (unread remaining pieces)
+rows_unread remaining pieces = option_map records_of (bytes_unread remaining pieces)
 
 -- the bytes that were read are counted, and they are few
 pub record IsSound {R : Type 0} (remaining : R → Option (List ℕ)) (pieces : Reading R) : Type 0 where
@@ -61,7 +61,7 @@ pub record IsSound {R : Type 0} (remaining : R → Option (List ℕ)) (pieces : 
   pub low : pieces.most ≤ max_text
   pub most : pieces.taken ≤ pieces.most + max_chunk
   pub ended : last_read pieces.source ≡ last.End
-      → IsAtEnd (left remaining pieces.source) × (pieces.taken ≤ pieces.most)
+      → IsAtEnd (bytes_left remaining pieces.source) × (pieces.taken ≤ pieces.most)
   pub failed : last_read pieces.source ≡ last.Failure → pieces.taken ≤ pieces.most
 
 -- the next piece may be asked for: no read failed, nothing is carried over the end, and a carried quote is noted
@@ -75,7 +75,7 @@ pub record GoesOn {R : Type 0} (remaining : R → Option (List ℕ)) (old new : 
   pub lent : new.source.reader.ghost_name ≡ old.source.reader.ghost_name
   pub sound : IsSound remaining new
   pub alike : new.most ≡ old.most
-  pub took : (bytes : List ℕ) × Consumes (left remaining old.source) (left remaining new.source) bytes
+  pub took : (bytes : List ℕ) × Consumes (bytes_left remaining old.source) (bytes_left remaining new.source) bytes
       × (new.taken ≡ old.taken + length bytes)
 
 -- why there is no further piece: memory ran out, the last read failed, or too many bytes came

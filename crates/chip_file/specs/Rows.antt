@@ -5,7 +5,7 @@ use Rattle.std.specs.Cmp.Lexicographic.{pointwise}
 use Rattle.std.specs.Str.{is_utf8}
 use Rattle.csv.specs.Records.{field_at}
 use Rattle.csv.specs.Reading.{records, default_config, strip_bom}
-use Rattle.chip_graph.specs.Faults.{first_of_faults, unless}
+use Rattle.chip_graph.specs.Faults.{first_of_faults, fault_unless}
 use Rattle.chip_file.specs.declared.fault.FileFault.{FileFault}
 use Rattle.chip_file.specs.declared.fault.FileFault.TheVariants as fault
 
@@ -48,5 +48,5 @@ by_index row_fault before row = row_fault (length before) row
 -- the first thing wrong with records that have this header: the header itself, or a row under it
 abbrev pub records_fault : Row → (List Row → Row → Option FileFault) → List Row → Option FileFault
 records_fault header row_fault records =
-    first_of_faults (unless (has_header header records) fault.Header)
+    first_of_faults (fault_unless (has_header header records) fault.Header)
     (first_row_fault row_fault [] (rows_under_header records))

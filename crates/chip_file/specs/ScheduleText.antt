@@ -3,7 +3,7 @@ use Rattle.std.specs.Prelude.{ℕ, Bool, true, ◌==◌, nat_lt, ◌&&◌, if◌
 use Rattle.std.specs.Prelude.{map, Option, None, Some, is_some, is_none, unwrap_or}
 use Rattle.chip_graph.specs.Multigraph.{Multigraph}
 use Rattle.chip_graph.specs.Edges.{all_edges}
-use Rattle.chip_graph.specs.Faults.{first_of_faults, unless}
+use Rattle.chip_graph.specs.Faults.{first_of_faults, fault_unless}
 use Rattle.chip_link.specs.declared.event.Event.{Event}
 use Rattle.chip_link.specs.declared.event.Event.TheVariants as event
 use Rattle.chip_file.specs.declared.schedule.EventKind.{EventKind}
@@ -61,10 +61,10 @@ event_in row = event_of_kind (kind_in row) (number_in 1 row) (number_in 2 row)
 -- the first thing wrong with the row at an index
 abbrev pub event_fault : Multigraph → ℕ → Row → Option FileFault
 event_fault G index row =
-    first_of_faults (unless (length row == 3) (fault.Row index))
-    (first_of_faults (unless (is_some (kind_at event_kinds 0 row)) (fault.Kind index))
-    (first_of_faults (unless (is_some (number_at 1 row) && is_some (number_at 2 row)) (fault.Number index))
-    (unless (may_be_at G (kind_in row) (number_in 1 row)) (fault.Vertex index))))
+    first_of_faults (fault_unless (length row == 3) (fault.Row index))
+    (first_of_faults (fault_unless (is_some (kind_at event_kinds 0 row)) (fault.Kind index))
+    (first_of_faults (fault_unless (is_some (number_at 1 row) && is_some (number_at 2 row)) (fault.Number index))
+    (fault_unless (may_be_at G (kind_in row) (number_in 1 row)) (fault.Vertex index))))
 
 -- the first thing wrong with the records of a schedule for a graph, the header among them
 abbrev pub schedule_fault : Multigraph → List Row → Option FileFault

@@ -20,8 +20,8 @@ abbrev pub last_read : {R : Type 0} → Source R → LastRead
 last_read source = source.last
 
 -- the bytes that the reader has left, where they are known
-abbrev pub left : {R : Type 0} → (R → Option (List ℕ)) → Source R → Option (List ℕ)
-left remaining source = remaining source.reader.now
+abbrev pub bytes_left : {R : Type 0} → (R → Option (List ℕ)) → Source R → Option (List ℕ)
+bytes_left remaining source = remaining source.reader.now
 
 -- nothing was read yet
 pub record IsFresh {R : Type 0} (source : Source R) : Type 0 where

@@ -4,7 +4,7 @@ use Rattle.std.specs.Prelude.{Option, None, Some, is_some, is_none, unwrap_or}
 use Rattle.std.specs.List.{filter, range_with_len}
 use Rattle.chip_graph.specs.Multigraph.{Multigraph}
 use Rattle.chip_graph.specs.Edges.{all_edges}
-use Rattle.chip_graph.specs.Faults.{first_of_faults, unless}
+use Rattle.chip_graph.specs.Faults.{first_of_faults, fault_unless}
 use Rattle.chip_link.specs.declared.trace.TraceRow.{TraceRow}
 use Rattle.chip_link.specs.declared.trace.TraceRow.TheVariants.{Take, Fire}
 use Rattle.chip_file.specs.declared.trace.TraceKind.{TraceKind}
@@ -44,11 +44,11 @@ names_edge G (Fire k) = true
 -- the first thing wrong with the row at an index
 abbrev pub trace_row_fault : Multigraph → ℕ → Row → Option FileFault
 trace_row_fault G index row =
-    first_of_faults (unless (length row == 4) (fault.Row index))
-    (first_of_faults (unless (is_some (kind_at trace_kinds 1 row)) (fault.Kind index))
-    (first_of_faults (unless (is_some (number_at 0 row) && is_some (number_at 2 row) && is_some (number_at 3 row))
+    first_of_faults (fault_unless (length row == 4) (fault.Row index))
+    (first_of_faults (fault_unless (is_some (kind_at trace_kinds 1 row)) (fault.Kind index))
+    (first_of_faults (fault_unless (is_some (number_at 0 row) && is_some (number_at 2 row) && is_some (number_at 3 row))
     (fault.Number index))
-    (unless (nat_lt (number_in 0 row) G.vertices && names_edge G (trace_row_in row)) (fault.Vertex index))))
+    (fault_unless (nat_lt (number_in 0 row) G.vertices && names_edge G (trace_row_in row)) (fault.Vertex index))))
 
 -- what the rows of v say, in the order of the file
 abbrev pub trace_in : List Row → ℕ → List TraceRow

@@ -6,7 +6,7 @@ ghost use Rattle.std.specs.Io.KnownBytes.{Consumes};
 ghost use Rattle.chip_file.specs.Answer.{max_chunk};
 ghost use Rattle.chip_file.specs.Pieces.{CutsInto, EndsLine, GivesPiece, GoesOn, IsOver, IsReady, IsSound, IsStopped};
 ghost use Rattle.chip_file.specs.Pieces.{has_quote, kind_of_read, reading};
-ghost use Rattle.chip_file.specs.Source.{goes_on, last_read, left};
+ghost use Rattle.chip_file.specs.Source.{goes_on, last_read, bytes_left};
 ghost use Rattle.chip_file.specs.declared.source.LastRead.TheVariants as last;
 
 use crate::fault::FileFault;
@@ -116,7 +116,7 @@ impl Pieces {
         ensures count { IfOk result (λ count. count ≤ length chunk.new) }
         ensures taken { IfOk result (λ count. self.new.taken ≡ self.old.taken + count) }
         ensures bytes { IfOk result (λ count.
-            Consumes (left R.remaining source.old) (left R.remaining source.new) (take count chunk.new)) }
+            Consumes (bytes_left R.remaining source.old) (bytes_left R.remaining source.new) (take count chunk.new)) }
         ensures noted { IfOk result (λ count. last_read source.new ≡ kind_of_read count) }
         ensures carry { self.new.carry ≡ self.old.carry }
         ensures quoted { self.new.quoted ≡ self.old.quoted }

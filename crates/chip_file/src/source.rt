@@ -3,7 +3,7 @@
 ghost use Rattle.std.specs.Prelude.{◌≡◌, ◌+◌, ◌<◌, true, not, length};
 ghost use Rattle.std.specs.Io.{ReadsAtMost};
 ghost use Rattle.std.specs.Io.KnownBytes.{ReadConsumes};
-ghost use Rattle.chip_file.specs.Source.{IsFresh, goes_on, last_by, last_read, left, max_reads, reads};
+ghost use Rattle.chip_file.specs.Source.{IsFresh, goes_on, last_by, last_read, bytes_left, max_reads, reads};
 
 use std::io;
 use std::io::Read;
@@ -89,7 +89,8 @@ impl<'r, R: Read> Source<'r, R> {
         ensures counted { reads self.new ≡ reads self.old + 1 }
         ensures noted { last_read self.new ≡ last_by result }
         ensures bound { ReadsAtMost result buf.new }
-        ensures bytes { ReadConsumes (left R.remaining self.old) (left R.remaining self.new) result buf.new }
+        ensures bytes { ReadConsumes (bytes_left R.remaining self.old)
+            (bytes_left R.remaining self.new) result buf.new }
     {
         self.reads += 1;
         let read = self.reader.read(buf);

@@ -2,7 +2,7 @@ ghost use Rattle.std.specs.Prelude.{◌≡◌, ◌⊎◌, ◌+◌, ◌<◌, ◌�
 ghost use Rattle.std.specs.Io.KnownBytes.{IsAtEnd};
 ghost use Rattle.chip_graph.specs.Limits.{standard};
 ghost use Rattle.chip_file.specs.Answer.{Answers, FailsInTime, IsOfMachine, TakesAtMost, max_chunk};
-ghost use Rattle.chip_file.specs.Source.{IsFresh, last_of_whole, last_read, left, reads};
+ghost use Rattle.chip_file.specs.Source.{IsFresh, last_of_whole, last_read, bytes_left, reads};
 ghost use Rattle.chip_file.specs.declared.fault.FileFault.TheVariants as fault;
 
 use crate::fault::FileFault;
@@ -24,13 +24,13 @@ pub fn read_source<R: Read>(
     source: &mut Source<'_, R>,
 ) -> Result<Vec<u8>, FileFault>
     requires { IsFresh source.old }
-    ensures known { IfSome (left R.remaining source.old)
+    ensures known { IfSome (bytes_left R.remaining source.old)
         (λ input. Answers limits input (λ bytes. bytes.items ≡ input) (λ _. ⊥) result) }
-    ensures end { OnOk result (IsAtEnd (left R.remaining source.new)) }
-    ensures read { FailsInTime limits (left R.remaining source.old) (left R.remaining source.new) result }
-    ensures taken { TakesAtMost (limits.bytes + max_chunk) (left R.remaining source.old)
-        (left R.remaining source.new) }
-    ensures memory { IfSome (left R.remaining source.old)
+    ensures end { OnOk result (IsAtEnd (bytes_left R.remaining source.new)) }
+    ensures read { FailsInTime limits (bytes_left R.remaining source.old) (bytes_left R.remaining source.new) result }
+    ensures taken { TakesAtMost (limits.bytes + max_chunk) (bytes_left R.remaining source.old)
+        (bytes_left R.remaining source.new) }
+    ensures memory { IfSome (bytes_left R.remaining source.old)
         (λ input. IfErr result (λ f. f ≡ fault.NoMemory → 0 < length input)) }
 
     // At any reader.

@@ -12,16 +12,18 @@ use Rattle.chip_graph.specs.declared.fault.GraphFault.TheVariants as graph_fault
 use Rattle.chip_graph.specs.Ends.{edge_of}
 use Rattle.chip_graph.specs.Limits.{SizeLimits}
 use Rattle.chip_graph.specs.Multigraph.{Multigraph, IsEdge, IsGraphWithin}
-use Rattle.chip_graph.specs.Faults.{first_of_faults, unless, fault_of_edge, fault_of_edges, fault_of_rows, IsUnreached}
+use Rattle.chip_graph.specs.Faults.{first_of_faults, fault_unless, fault_of_edge, fault_of_edges, fault_of_rows}
+use Rattle.chip_graph.specs.Faults.{IsUnreached}
 use Rattle.chip_graph.specs.Faults.{IsGraphFault}
 
 module _ {F : Type 0} where
   -- a test that is passed leaves the later faults
-  after : (test : Bool) (fault : F) (later : Option F) → test ≡ true → first_of_faults (unless test fault) later ≡ later
+  after : (test : Bool) (fault : F) (later : Option F) → test ≡ true
+      → first_of_faults (fault_unless test fault) later ≡ later
   after true fault later is = refl
   after false fault later is = absurd (Rattle.std.proofs.Common.true≢false (sym is))
 
-  alone : (test : Bool) (fault : F) → test ≡ true → unless test fault ≡ None
+  alone : (test : Bool) (fault : F) → test ≡ true → fault_unless test fault ≡ None
   alone true fault is = refl
   alone false fault is = absurd (Rattle.std.proofs.Common.true≢false (sym is))
 

@@ -14,7 +14,8 @@ use Rattle.chip_graph.specs.declared.fault.GraphFault.TheVariants as graph_fault
 use Rattle.chip_graph.specs.Ends.{end_of, edge_of}
 use Rattle.chip_graph.specs.Limits.{SizeLimits, AreLimits}
 use Rattle.chip_graph.specs.Multigraph.{Multigraph, IsEdge, IsGraphWithin, ReachesSink, edge_at}
-use Rattle.chip_graph.specs.Faults.{first_of_faults, unless, refusal, fault_of_edge, fault_of_edges, fault_of_rows}
+use Rattle.chip_graph.specs.Faults.{first_of_faults, fault_unless, refusal, fault_of_edge, fault_of_edges}
+use Rattle.chip_graph.specs.Faults.{fault_of_rows}
 
 module _ {F : Type 0} where
   -- no first fault, no fault
@@ -23,7 +24,7 @@ module _ {F : Type 0} where
   none_of (Some fault) later is = cc
 
   -- a test without a fault is passed
-  passed : (test : Bool) (fault : F) → unless test fault ≡ None → test ≡ true
+  passed : (test : Bool) (fault : F) → fault_unless test fault ≡ None → test ≡ true
   passed true fault is = refl
   passed false fault is = cc
 
@@ -67,9 +68,10 @@ module _ (limits : SizeLimits) (G : Multigraph) (is : fault_of_rows limits G ≡
 
   rows_edges : fault_of_edges G.vertices G.sink 0 G.edges ≡ None
   rows_edges =
-      let sink = (none_of (unless (ltb 0 G.vertices && leb G.vertices limits.vertices) graph_fault.Vertices) _ is).1 in
-      let count = (none_of (unless (ltb G.sink G.vertices) graph_fault.Sink) _ sink).1 in
-      (none_of (unless (leb (length G.edges) limits.edges) graph_fault.EdgeCount) _ count).1
+      let sink = (none_of
+      (fault_unless (ltb 0 G.vertices && leb G.vertices limits.vertices) graph_fault.Vertices) _ is).1 in
+      let count = (none_of (fault_unless (ltb G.sink G.vertices) graph_fault.Sink) _ sink).1 in
+      (none_of (fault_unless (leb (length G.edges) limits.edges) graph_fault.EdgeCount) _ count).1
 
   pub rows_edge : (e : ℕ) → e < length G.edges → IsEdge G.vertices G.sink (edge_at G e)
   rows_edge = edges_ok G.vertices G.sink 0 G.edges rows_edges

@@ -12,7 +12,7 @@ use Rattle.std.proofs.lemmas.List.Folds.{sum_by-replicate}
 use Rattle.std.proofs.lemmas.Option.{same_Some, none-some}
 use Rattle.chip_graph.specs.declared.distance.Reached.{Reached}
 use Rattle.chip_graph.specs.Multigraph.{Multigraph, edge_at, edges_in, IsWalk}
-use Rattle.chip_graph.specs.Sums.{picked}
+use Rattle.chip_graph.specs.Sums.{filter_below}
 use Rattle.chip_graph.specs.Distances.{IsDistanceOf, AreDistances}
 use Rattle.chip_graph.proofs.SumLemmas.{by_test}
 use Rattle.chip_graph.specs.Found.{Found, with_vertex, with_tails}
@@ -343,20 +343,20 @@ module _ (G : Multigraph) (u : ℕ) where
   goes_in e = eqb (edge_at G e).head u
 
   -- those that do are edges into u
-  picked_into : (n : ℕ) → n ≤ length G.edges → AreInto G u (picked goes_in n)
+  picked_into : (n : ℕ) → n ≤ length G.edges → AreInto G u (filter_below goes_in n)
   picked_into zero l = tt
-  picked_into (suc n) l = AreInto-append G u (picked goes_in n) (cond (goes_in n) (n ∷ []) [])
+  picked_into (suc n) l = AreInto-append G u (filter_below goes_in n) (cond (goes_in n) (n ∷ []) [])
       (picked_into n (omega arith))
       (by_test (goes_in n)
       (λ y. subst (λ (b : Bool). AreInto G u (cond b (n ∷ []) [])) (sym y) (l, eqb-true _ _ y, tt))
       (λ z. subst (λ (b : Bool). AreInto G u (cond b (n ∷ []) [])) (sym z) tt))
 
   -- an edge into u stands among them
-  picked_has : (n e : ℕ) → e < n → (edge_at G e).head ≡ u → (i : ℕ) × (i < length (picked goes_in n))
-      × (get_or (picked goes_in n) i 0 ≡ e)
+  picked_has : (n e : ℕ) → e < n → (edge_at G e).head ≡ u → (i : ℕ) × (i < length (filter_below goes_in n))
+      × (get_or (filter_below goes_in n) i 0 ≡ e)
   picked_has zero e l h = absurd (omega arith)
   picked_has (suc n) e l h =
-      let es : List ℕ = picked goes_in n in
+      let es : List ℕ = filter_below goes_in n in
       dite (ℕ_discrete e n)
       (λ y. let on : goes_in n ≡ true = ap goes_in (sym y) ∙ eq-eqb _ _ h in
       subst (λ (b : Bool). (i : ℕ) × (i < length (es ++ cond b (n ∷ []) []))

@@ -7,7 +7,7 @@ use mathlib.Core.Logic.{dite}
 use native.Mathlib.Decide.{ℕ_discrete}
 use Rattle.std.specs.List.{sum_by}
 use Rattle.std.proofs.lemmas.List.Sums.{sum_by-cons, sum_by_push}
-use Rattle.chip_graph.specs.Sums.{sum_below, picked}
+use Rattle.chip_graph.specs.Sums.{sum_below, filter_below}
 
 -- ---- choices by a test
 
@@ -197,18 +197,18 @@ module _ (n : ℕ) (t : ℕ → Bool) where
 
 -- a sum over the list of those that pass is the sum with the test
 pub picked_sum : (f : ℕ → ℕ) (test : ℕ → Bool) (n : ℕ)
-    → sum_by f (picked test n) ≡ sum_below n (λ e. cond (test e) (f e) 0)
+    → sum_by f (filter_below test n) ≡ sum_below n (λ e. cond (test e) (f e) 0)
 picked_sum f test zero = refl
 picked_sum f test (suc n) = by_test (test n)
     (λ on.
-    let a = ap (sum_by f) (ap (λ (l : List ℕ). picked test n ++ l) (cond_true (test n) (n ∷ []) [] on)) in
-    let b = sum_by_push f (picked test n) n in
+    let a = ap (sum_by f) (ap (λ (l : List ℕ). filter_below test n ++ l) (cond_true (test n) (n ∷ []) [] on)) in
+    let b = sum_by_push f (filter_below test n) n in
     let c = cond_true (test n) (f n) 0 on in
     let d = picked_sum f test n in
     omega arith)
     (λ off.
-    let a = ap (sum_by f) (ap (λ (l : List ℕ). picked test n ++ l) (cond_false (test n) (n ∷ []) [] off)
-    ∙ append-nil (picked test n)) in
+    let a = ap (sum_by f) (ap (λ (l : List ℕ). filter_below test n ++ l) (cond_false (test n) (n ∷ []) [] off)
+    ∙ append-nil (filter_below test n)) in
     let c = cond_false (test n) (f n) 0 off in
     let d = picked_sum f test n in
     omega arith)

@@ -16,16 +16,16 @@ first_of_faults None later = later
 first_of_faults (Some fault) later = Some fault
 
 -- a fault where a test fails
-abbrev pub unless : {F : Type 0} → Bool → F → Option F
-unless test fault = if test then None else Some fault
+abbrev pub fault_unless : {F : Type 0} → Bool → F → Option F
+fault_unless test fault = if test then None else Some fault
 
 -- the first thing wrong with edge i
 abbrev pub fault_of_edge : ℕ → ℕ → ℕ → Edge → Option GraphFault
 fault_of_edge vertices sink i edge =
-    first_of_faults (unless (nat_lt edge.tail vertices && nat_lt edge.head vertices) (graph_fault.Endpoint i))
-    (first_of_faults (unless (nat_lt 0 edge.mult && nat_le edge.mult max_mult) (graph_fault.Mult i))
-    (first_of_faults (unless (not (edge.tail == edge.head)) (graph_fault.Loop i))
-    (unless (not (edge.tail == sink)) (graph_fault.FromSink i))))
+    first_of_faults (fault_unless (nat_lt edge.tail vertices && nat_lt edge.head vertices) (graph_fault.Endpoint i))
+    (first_of_faults (fault_unless (nat_lt 0 edge.mult && nat_le edge.mult max_mult) (graph_fault.Mult i))
+    (first_of_faults (fault_unless (not (edge.tail == edge.head)) (graph_fault.Loop i))
+    (fault_unless (not (edge.tail == sink)) (graph_fault.FromSink i))))
 
 -- the first thing wrong with the edges, of which the first has the number i
 abbrev pub fault_of_edges : ℕ → ℕ → ℕ → List Edge → Option GraphFault
@@ -36,9 +36,9 @@ fault_of_edges vertices sink i (edge ∷ edges) =
 -- the first thing wrong with a graph by these limits, walks aside
 abbrev pub fault_of_rows : SizeLimits → Multigraph → Option GraphFault
 fault_of_rows limits G =
-    first_of_faults (unless (nat_lt 0 G.vertices && nat_le G.vertices limits.vertices) graph_fault.Vertices)
-    (first_of_faults (unless (nat_lt G.sink G.vertices) graph_fault.Sink)
-    (first_of_faults (unless (nat_le (length G.edges) limits.edges) graph_fault.EdgeCount)
+    first_of_faults (fault_unless (nat_lt 0 G.vertices && nat_le G.vertices limits.vertices) graph_fault.Vertices)
+    (first_of_faults (fault_unless (nat_lt G.sink G.vertices) graph_fault.Sink)
+    (first_of_faults (fault_unless (nat_le (length G.edges) limits.edges) graph_fault.EdgeCount)
     (fault_of_edges G.vertices G.sink 0 G.edges)))
 
 -- v is the least vertex from which no walk leads to the sink
@@ -72,9 +72,9 @@ MakesGraph limits G (Err fault) =
 -- the first fault of a game on a graph
 abbrev pub fault_of_game : ChipGame → Option GameFault
 fault_of_game g =
-    first_of_faults (unless (length g.start == g.graph.vertices) game_fault.StartLength)
-    (first_of_faults (unless (nat_le (sum g.start) max_total) game_fault.Total)
-    (unless (nat_le g.limit max_limit) game_fault.Limit))
+    first_of_faults (fault_unless (length g.start == g.graph.vertices) game_fault.StartLength)
+    (first_of_faults (fault_unless (nat_le (sum g.start) max_total) game_fault.Total)
+    (fault_unless (nat_le g.limit max_limit) game_fault.Limit))
 
 -- what making a game answers: the game where it is one, else its first fault
 abbrev pub MakesGame : ChipGame → Result ChipGame GameFault → Type 0

@@ -12,8 +12,8 @@ pub record Found : Type 0 where
   pub reached : List Reached
 
 -- what a `Search` shows
-abbrev pub found : Search → Found
-found s = record { distances = s.distances.items; reached = s.reached.items }
+abbrev pub findings : Search → Found
+findings s = record { distances = s.distances.items; reached = s.reached.items }
 
 -- v is reached at this distance, unless it was reached before
 abbrev pub with_vertex : ℕ → ℕ → Found → Found

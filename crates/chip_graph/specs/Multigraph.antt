@@ -3,7 +3,7 @@
 use Rattle.std.specs.Prelude.{◌≡◌, ◌≢◌, ℕ, ◌<◌, ◌≤◌, ◌==◌, if◌then◌else◌, List, [], ◌∷◌, length, slice_index_or}
 use Rattle.chip_graph.specs.declared.edge.Edge.{Edge}
 use Rattle.chip_graph.specs.Limits.{SizeLimits, max_vertices, max_edges, max_mult}
-use Rattle.chip_graph.specs.Sums.{sum_below, picked}
+use Rattle.chip_graph.specs.Sums.{sum_below, filter_below}
 
 -- what a `Graph` shows: vertices 0 to vertices - 1, the sink, and the edges, named by their numbers
 pub record Multigraph : Type 0 where
@@ -17,11 +17,11 @@ edge_at G e = slice_index_or G.edges e (record { tail = 0; head = 0; mult = 0 })
 
 -- the edges out of v, ascending
 abbrev pub edges_out : Multigraph → ℕ → List ℕ
-edges_out G v = picked (λ e. (edge_at G e).tail == v) (length G.edges)
+edges_out G v = filter_below (λ e. (edge_at G e).tail == v) (length G.edges)
 
 -- the edges into v, ascending
 abbrev pub edges_in : Multigraph → ℕ → List ℕ
-edges_in G v = picked (λ e. (edge_at G e).head == v) (length G.edges)
+edges_in G v = filter_below (λ e. (edge_at G e).head == v) (length G.edges)
 
 -- the sum of f over the edges out of v
 abbrev pub sum_out : Multigraph → ℕ → (ℕ → ℕ) → ℕ

@@ -7,6 +7,6 @@ sum_below zero f = 0
 sum_below (suc n) f = sum_below n f + f n
 
 -- the numbers below n that pass the test, ascending
-abbrev pub picked : (ℕ → Bool) → ℕ → List ℕ
-picked test zero = []
-picked test (suc n) = picked test n ++ (if test n then n ∷ [] else [])
+abbrev pub filter_below : (ℕ → Bool) → ℕ → List ℕ
+filter_below test zero = []
+filter_below test (suc n) = filter_below test n ++ (if test n then n ∷ [] else [])

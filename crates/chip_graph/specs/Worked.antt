@@ -4,9 +4,9 @@ use Rattle.chip_graph.specs.declared.edge.Edge.{Edge}
 use Rattle.chip_graph.specs.Multigraph.{Multigraph}
 
 -- an edge that brings one chip
-abbrev pub single : ℕ → ℕ → Edge
-single tail head = record { tail = tail; head = head; mult = 1 }
+abbrev pub single_edge : ℕ → ℕ → Edge
+single_edge tail head = record { tail = tail; head = head; mult = 1 }
 
 -- the triangle: vertices 0 and 1 send a chip to each other and one to the sink, 2
 abbrev pub triangle : Multigraph
-triangle = record { vertices = 3; sink = 2; edges = single 0 1 ∷ single 0 2 ∷ single 1 0 ∷ single 1 2 ∷ [] }
+triangle = record { vertices = 3; sink = 2; edges = single_edge 0 1 ∷ single_edge 0 2 ∷ single_edge 1 0 ∷ single_edge 1 2 ∷ [] }

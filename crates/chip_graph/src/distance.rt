@@ -3,7 +3,7 @@ ghost use Rattle.chip_graph.specs.Limits.{max_vertices};
 ghost use Rattle.chip_graph.specs.Ends.{AreEdgesBy};
 ghost use Rattle.chip_graph.specs.declared.edge.End.TheVariants.{Head};
 ghost use Rattle.chip_graph.specs.Distances.{AreDistances};
-ghost use Rattle.chip_graph.specs.Found.{found, with_vertex, with_tails};
+ghost use Rattle.chip_graph.specs.Found.{findings, with_vertex, with_tails};
 
 use crate::edge::Edge;
 use crate::packed_lists::PackedLists;
@@ -30,7 +30,7 @@ impl Search {
     fn begin(alloc: Global, vertices: usize, sink: u64) -> Result<Self, AllocError>
         requires { sink < vertices }
         ensures { IfOk result (λ search.
-            found search ≡ with_vertex sink 0 (record { distances = replicate vertices None; reached = [] })) }
+            findings search ≡ with_vertex sink 0 (record { distances = replicate vertices None; reached = [] })) }
     {
         let mut distances = Vec::new(alloc);
         distances.resize(vertices, None)?;
@@ -43,7 +43,7 @@ impl Search {
     /// Notes this distance, unless the vertex was reached before.
     fn reach(&mut self, vertex: u64, distance: u64) -> Result<(), AllocError>
         requires { vertex < vec_len self.old.distances }
-        ensures { IfOk result (λ _. found self.new ≡ with_vertex vertex distance (found self.old)) }
+        ensures { IfOk result (λ _. findings self.new ≡ with_vertex vertex distance (findings self.old)) }
     {
         if self.distances[vertex as usize].is_none() {
             self.reached.push(Reached { vertex, distance })?;
@@ -56,7 +56,7 @@ impl Search {
     fn reach_tails(&mut self, distance: u64, edges: &[Edge], ins: &[u64]) -> Result<(), AllocError>
         requires edges { All (λ e. e < length edges.now) ins.now }
         requires tails { All (λ edge. edge.tail < vec_len self.old.distances) edges.now }
-        ensures { IfOk result (λ _. found self.new ≡ with_tails edges.now distance ins.now (found self.old)) }
+        ensures { IfOk result (λ _. findings self.new ≡ with_tails edges.now distance ins.now (findings self.old)) }
     {
         for edge in ins {
             self.reach(edges[*edge as usize].tail, distance)?;

@@ -10,56 +10,61 @@ use Rattle.serde_json.specs.Find.{get_member, as_array}
 use Rattle.serde_json.proofs.Views.{get_member-put, get_member-put_other}
 use Rattle.chip_json.specs.GraphFile.{number_of_value, edges_of_rows, members_count, file_of_parts, file_of_value}
 use Rattle.chip_json.specs.GraphFile.{GraphFile}
-use Rattle.chip_json.specs.Parts.{known, there, known_count, IsOther, IsCrowded}
+use Rattle.chip_json.specs.Parts.{known_members, value_count, known_count, IsOther, IsCrowded}
 
 -- ---- of two members of one name the last counts
 
-pub put_edges : (d : Data) (e s v w : Option Data) → put (codes "edges") d (known e s v w) ≡ known (Some d) s v w
+pub put_edges : (d : Data) (e s v w : Option Data)
+    → put (codes "edges") d (known_members e s v w) ≡ known_members (Some d) s v w
 put_edges d (Some x) s v w = refl
 put_edges d None (Some x) v w = refl
 put_edges d None None (Some x) w = refl
 put_edges d None None None (Some x) = refl
 put_edges d None None None None = refl
 
-sink_first : (d : Data) (s v w : Option Data) → put (codes "sink") d (known None s v w) ≡ known None (Some d) v w
+sink_first : (d : Data) (s v w : Option Data)
+    → put (codes "sink") d (known_members None s v w) ≡ known_members None (Some d) v w
 sink_first d (Some x) v w = refl
 sink_first d None (Some x) w = refl
 sink_first d None None (Some x) = refl
 sink_first d None None None = refl
 
-pub put_sink : (d : Data) (e s v w : Option Data) → put (codes "sink") d (known e s v w) ≡ known e (Some d) v w
+pub put_sink : (d : Data) (e s v w : Option Data)
+    → put (codes "sink") d (known_members e s v w) ≡ known_members e (Some d) v w
 put_sink d (Some x) s v w = ap (member (codes "edges") x) (sink_first d s v w)
 put_sink d None s v w = sink_first d s v w
 
-version_first : (d : Data) (v w : Option Data) → put (codes "version") d (known None None v w)
-    ≡ known None None (Some d) w
+version_first : (d : Data) (v w : Option Data) → put (codes "version") d (known_members None None v w)
+    ≡ known_members None None (Some d) w
 version_first d (Some x) w = refl
 version_first d None (Some x) = refl
 version_first d None None = refl
 
-version_second : (d : Data) (s v w : Option Data) → put (codes "version") d (known None s v w)
-    ≡ known None s (Some d) w
+version_second : (d : Data) (s v w : Option Data) → put (codes "version") d (known_members None s v w)
+    ≡ known_members None s (Some d) w
 version_second d (Some x) v w = ap (member (codes "sink") x) (version_first d v w)
 version_second d None v w = version_first d v w
 
-pub put_version : (d : Data) (e s v w : Option Data) → put (codes "version") d (known e s v w) ≡ known e s (Some d) w
+pub put_version : (d : Data) (e s v w : Option Data)
+    → put (codes "version") d (known_members e s v w) ≡ known_members e s (Some d) w
 put_version d (Some x) s v w = ap (member (codes "edges") x) (version_second d s v w)
 put_version d None s v w = version_second d s v w
 
-vertices_first : (d : Data) (v w : Option Data) → put (codes "vertices") d (known None None v w) ≡ known None None v
+vertices_first : (d : Data) (v w : Option Data)
+    → put (codes "vertices") d (known_members None None v w) ≡ known_members None None v
     (Some d)
 vertices_first d (Some x) (Some y) = refl
 vertices_first d (Some x) None = refl
 vertices_first d None (Some x) = refl
 vertices_first d None None = refl
 
-vertices_second : (d : Data) (s v w : Option Data) → put (codes "vertices") d (known None s v w)
-    ≡ known None s v (Some d)
+vertices_second : (d : Data) (s v w : Option Data) → put (codes "vertices") d (known_members None s v w)
+    ≡ known_members None s v (Some d)
 vertices_second d (Some x) v w = ap (member (codes "sink") x) (vertices_first d v w)
 vertices_second d None v w = vertices_first d v w
 
-pub put_vertices : (d : Data) (e s v w : Option Data) → put (codes "vertices") d (known e s v w)
-    ≡ known e s v (Some d)
+pub put_vertices : (d : Data) (e s v w : Option Data) → put (codes "vertices") d (known_members e s v w)
+    ≡ known_members e s v (Some d)
 put_vertices d (Some x) s v w = ap (member (codes "edges") x) (vertices_second d s v w)
 put_vertices d None s v w = vertices_second d s v w
 
@@ -86,7 +91,7 @@ no_edges (Some a) (Some b) None = refl
 no_edges (Some a) None c = refl
 no_edges None b c = refl
 
-pub file_of_known : (e s v w : Option Data) → file_of_value (object (known e s v w))
+pub file_of_known : (e s v w : Option Data) → file_of_value (object (known_members e s v w))
     ≡ file_of_parts (option_and_then number_of_value v) (option_and_then number_of_value w)
     (option_and_then number_of_value s) (option_and_then edges_of_rows (option_and_then as_array e))
 file_of_known (Some e) (Some s) (Some v) (Some w) = refl
@@ -135,20 +140,20 @@ put_new k d (member l e ms) h = new_grows (slice_cmp nat_cmp k l) k l d e ms h (
 
 -- a member of this name is there once more, or it was there
 counted_by : (o : Option Data) (k : List ℕ) (d : Data) (ms : Members) → get_member k ms ≡ o
-    → members_count ms + 1 ≤ members_count (put k d ms) + there o
+    → members_count ms + 1 ≤ members_count (put k d ms) + value_count o
 counted_by None k d ms h = omega (arith, put_new k d ms h)
 counted_by (Some e) k d ms h = omega (arith, put_grows k d ms)
 
-counted : (k : List ℕ) (d : Data) (ms : Members) → members_count ms + 1 ≤ members_count (put k d ms) + there
+counted : (k : List ℕ) (d : Data) (ms : Members) → members_count ms + 1 ≤ members_count (put k d ms) + value_count
     (get_member k ms)
 counted k d ms = counted_by (get_member k ms) k d ms refl
 
-there_after : (k : List ℕ) (d : Data) (ms : Members) → there (get_member k (put k d ms)) ≡ 1
-there_after k d ms = ap there (get_member-put k d ms)
+there_after : (k : List ℕ) (d : Data) (ms : Members) → value_count (get_member k (put k d ms)) ≡ 1
+there_after k d ms = ap value_count (get_member-put k d ms)
 
 there_still : (q k : List ℕ) (d : Data) (ms : Members) → (q ≡ k → ⊥)
-    → there (get_member q (put k d ms)) ≡ there (get_member q ms)
-there_still q k d ms other = ap there (get_member-put_other q k d ms other)
+    → value_count (get_member q (put k d ms)) ≡ value_count (get_member q ms)
+there_still q k d ms other = ap value_count (get_member-put_other q k d ms other)
 
 different : (a b : List ℕ) → length a ≢ length b → a ≡ b → ⊥
 different a b h e = h (ap length e)
@@ -217,7 +222,7 @@ neither : (b : Bool) (r : Option GraphFile) → None ≡ r → (if b then r else
 neither true r h = sym h
 neither false r h = refl
 
-crowded_by : (n : ℕ) (e s v w : Option Data) → there e + there s + there v + there w < n
+crowded_by : (n : ℕ) (e s v w : Option Data) → value_count e + value_count s + value_count v + value_count w < n
     → (if n == 4 then file_of_parts (num v) (num w) (num s) (rows e) else None) ≡ None
 crowded_by n (Some e) (Some s) (Some v) (Some w) h = rw (ne_eqb n 4 (λ is. omega arith)) refl
 crowded_by n e s None w h = neither (n == 4) _ refl
@@ -232,27 +237,28 @@ crowded_file ms h = crowded_by (members_count ms) (get_member (codes "edges") ms
 
 -- no other name is among the four
 module _ (k : List ℕ) (other : IsOther k) where
-  no_w : (w : Option Data) → get_member k (known None None None w) ≡ None
+  no_w : (w : Option Data) → get_member k (known_members None None None w) ≡ None
   no_w None = refl
   no_w (Some x) = ap (get_member k) (sym (put_vertices x None None None None))
       ∙ get_member-put_other k (codes "vertices") x no_members (λ e. other.vertices (sym e))
 
-  no_v : (v w : Option Data) → get_member k (known None None v w) ≡ None
+  no_v : (v w : Option Data) → get_member k (known_members None None v w) ≡ None
   no_v None w = no_w w
   no_v (Some x) w = ap (get_member k) (sym (put_version x None None None w))
-      ∙ get_member-put_other k (codes "version") x (known None None None w) (λ e. other.version (sym e)) ∙ no_w w
+      ∙ get_member-put_other k (codes "version") x (known_members None None None w) (λ e. other.version (sym e))
+      ∙ no_w w
 
-  no_s : (s v w : Option Data) → get_member k (known None s v w) ≡ None
+  no_s : (s v w : Option Data) → get_member k (known_members None s v w) ≡ None
   no_s None v w = no_v v w
   no_s (Some x) v w = ap (get_member k) (sym (put_sink x None None v w))
-      ∙ get_member-put_other k (codes "sink") x (known None None v w) (λ e. other.sink (sym e)) ∙ no_v v w
+      ∙ get_member-put_other k (codes "sink") x (known_members None None v w) (λ e. other.sink (sym e)) ∙ no_v v w
 
-  absent : (e s v w : Option Data) → get_member k (known e s v w) ≡ None
+  absent : (e s v w : Option Data) → get_member k (known_members e s v w) ≡ None
   absent None s v w = no_s s v w
   absent (Some x) s v w = ap (get_member k) (sym (put_edges x None s v w))
-      ∙ get_member-put_other k (codes "edges") x (known None s v w) (λ e. other.edges (sym e)) ∙ no_s s v w
+      ∙ get_member-put_other k (codes "edges") x (known_members None s v w) (λ e. other.edges (sym e)) ∙ no_s s v w
 
-none_crowded : (e s v w : Option Data) → known_count (known e s v w) ≡ members_count (known e s v w)
+none_crowded : (e s v w : Option Data) → known_count (known_members e s v w) ≡ members_count (known_members e s v w)
 none_crowded (Some e) (Some s) (Some v) (Some w) = refl
 none_crowded (Some e) (Some s) (Some v) None = refl
 none_crowded (Some e) (Some s) None (Some w) = refl
@@ -270,9 +276,10 @@ none_crowded None None (Some v) None = refl
 none_crowded None None None (Some w) = refl
 none_crowded None None None None = refl
 
-pub known_crowded : (k : List ℕ) (d : Data) (e s v w : Option Data) → IsOther k → IsCrowded (put k d (known e s v w))
+pub known_crowded : (k : List ℕ) (d : Data) (e s v w : Option Data) → IsOther k
+    → IsCrowded (put k d (known_members e s v w))
 known_crowded k d e s v w other =
-    let ms = known e s v w in
+    let ms = known_members e s v w in
     omega (
       arith,
       none_crowded e s v w,

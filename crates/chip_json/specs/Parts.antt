@@ -15,26 +15,26 @@ use Rattle.chip_json.specs.GraphFile.{GraphFile, file_of_value, json_of}
 use Rattle.chip_json.specs.Rows.{Keeps, KeepsAny}
 
 -- a member, where it is there
-abbrev pub with : List ℕ → Option Data → Members → Members
-with name None ms = ms
-with name (Some d) ms = member name d ms
+abbrev pub add_member : List ℕ → Option Data → Members → Members
+add_member name None ms = ms
+add_member name (Some d) ms = member name d ms
 
 -- the members of these four names alone, in order
-abbrev pub known : Option Data → Option Data → Option Data → Option Data → Members
-known edges sink version vertices =
-    with (codes "edges") edges (with (codes "sink") sink
-    (with (codes "version") version (with (codes "vertices") vertices no_members)))
+abbrev pub known_members : Option Data → Option Data → Option Data → Option Data → Members
+known_members edges sink version vertices =
+    add_member (codes "edges") edges (add_member (codes "sink") sink
+    (add_member (codes "version") version (add_member (codes "vertices") vertices no_members)))
 
 -- how many values there are: one or none
-abbrev pub there : Option Data → ℕ
-there None = 0
-there (Some d) = 1
+abbrev pub value_count : Option Data → ℕ
+value_count None = 0
+value_count (Some d) = 1
 
 -- how many of the four names are there
 abbrev pub known_count : Members → ℕ
 known_count ms =
-    there (get_member (codes "edges") ms) + there (get_member (codes "sink") ms)
-    + there (get_member (codes "version") ms) + there (get_member (codes "vertices") ms)
+    value_count (get_member (codes "edges") ms) + value_count (get_member (codes "sink") ms)
+    + value_count (get_member (codes "version") ms) + value_count (get_member (codes "vertices") ms)
 
 -- a name is none of the four
 pub record IsOther (name : List ℕ) : Type 0 where
@@ -52,7 +52,7 @@ abbrev pub Stands : ℕ → Members → Parts → Type 0
 Stands most found parts =
     ((parts.others ≡ false)
     × (edges : Option Data) × (sink : Option Data) × (version : Option Data) × (vertices : Option Data)
-    × (found ≡ known edges sink version vertices)
+    × (found ≡ known_members edges sink version vertices)
     × (option_and_then number_of_value version ≡ parts.version)
     × (option_and_then number_of_value vertices ≡ parts.vertices)
     × (option_and_then number_of_value sink ≡ parts.sink)

@@ -12,13 +12,14 @@ use Rattle.std.proofs.lemmas.Nat.{mod_below}
 use mathlib.Core.Logic.{dite}
 use native.Mathlib.Decide.{ℕ_discrete, dec_lt}
 use Rattle.chip_link.specs.declared.message.Message.{Message}
-use Rattle.chip_link.specs.Words.{exchanged, edge_word}
+use Rattle.chip_link.specs.Words.{word_after_exchange, edge_word}
 use Rattle.chip_link.specs.Ends.{TailState, HeadState, may_clear, tail_cell, head_cell, tail_after_clear}
 use Rattle.chip_link.specs.Ends.{tail_after_claim, tail_after_put, message_claimed, put_of, is_count, head_after_take}
 use Rattle.chip_link.specs.Ends.{message_taken}
 use Rattle.chip_link.specs.Link.{Tail, fresh_tail, sent_counts, claims_of, after_clear, after_claim, after_put}
 use Rattle.chip_link.specs.Link.{after_take, after_seal, word_of, tail_state, head_state, IsSealedAt, Sound, Shows}
-use Rattle.chip_link.specs.Edge.{LiveEdge, EdgeStep, Clear, Claim, Put, Take, Seal, new_edge, step, steps, stored}
+use Rattle.chip_link.specs.Edge.{LiveEdge, EdgeStep, Clear, Claim, Put, Take, Seal, new_edge, step, steps}
+use Rattle.chip_link.specs.Edge.{cells_after_store}
 use Rattle.chip_link.specs.Edge.{claim_on, take_on}
 use Rattle.chip_link.specs.Laws.{AreInOrder, TakesPrefix, ClaimsInOrder, NothingAfterSeal, WordTells, SealsAllClaims}
 use Rattle.chip_link.proofs.SoundsLemmas.{cond_yes, cond_no, none_held, length-sent_counts, none-some, clear_sound}
@@ -110,9 +111,9 @@ module _ (edge ring : ℕ) (some_ring : 0 < ring) (s : LiveEdge) (t : Tail) (got
       let none : t.held ≡ None = f.sound.quiet is_clear in
       let below = f.fewer is_clear in
       let all_put = none_held t none in
-      let word' : ℕ = exchanged s.tail.claims (s.tail.claims + 1) s.word in
-      let word_is : word' ≡ exchanged (claims_of t) (claims_of t + 1) s.word =
-      ap (λ (u : TailState). exchanged u.claims (u.claims + 1) s.word) f.tail_is in
+      let word' : ℕ = word_after_exchange s.tail.claims (s.tail.claims + 1) s.word in
+      let word_is : word' ≡ word_after_exchange (claims_of t) (claims_of t + 1) s.word =
+      ap (λ (u : TailState). word_after_exchange u.claims (u.claims + 1) s.word) f.tail_is in
       let tail_is = ap (tail_after_claim s.word count) f.tail_is ∙ tail_claims edge ring t count s.word none in
       let sound = claim_sound ring some_ring t got s.stop f.sound count s.word some_count is_clear f.shows.word_is in
       let shows = claim_shows ring some_ring s.word _ t got s.stop f.sound f.shows count word' none
@@ -175,7 +176,8 @@ module _ (edge ring : ℕ) (some_ring : 0 < ring) (s : LiveEdge) (t : Tail) (got
       (λ none.
       let nothing : put_of s.tail ≡ None = ap put_of f.tail_is
       ∙ ap (λ (h : Option ℕ). option_map (λ (c : ℕ). ((claims_of t - 1) % ring, c)) h) none in
-      let kept : stored (put_of s.tail) s.cells ≡ s.cells = ap (λ (p : Option (ℕ × ℕ)). stored p s.cells) nothing in (
+      let kept : cells_after_store (put_of s.tail) s.cells
+      ≡ s.cells = ap (λ (p : Option (ℕ × ℕ)). cells_after_store p s.cells) nothing in (
         t,
         got,
         record {
@@ -197,8 +199,8 @@ module _ (edge ring : ℕ) (some_ring : 0 < ring) (s : LiveEdge) (t : Tail) (got
       let inside : at < length s.cells = (let m = mod_below (length t.put) ring some_ring in let l = f.cells_are in
       omega arith) in
       let put : put_of s.tail ≡ Some (at, count) = ap put_of f.tail_is ∙ puts_at edge ring t count one in
-      let cells_are : stored (put_of s.tail) s.cells ≡ set s.cells at count =
-      ap (λ (p : Option (ℕ × ℕ)). stored p s.cells) put in (
+      let cells_are : cells_after_store (put_of s.tail) s.cells ≡ set s.cells at count =
+      ap (λ (p : Option (ℕ × ℕ)). cells_after_store p s.cells) put in (
         after_put t,
         got,
         record {

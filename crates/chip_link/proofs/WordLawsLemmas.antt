@@ -8,7 +8,8 @@ use Rattle.std.proofs.lemmas.Nat.Bits.{and_pow}
 use mathlib.Core.Logic.{dite}
 use native.Mathlib.Decide.{dec_lt}
 use Rattle.std.specs.Int.Bits.{or_zero_r}
-use Rattle.chip_link.specs.Words.{edge_word, claims_in, sealed_in, fired_word, fired_in, halted_in, by_limit_in}
+use Rattle.chip_link.specs.Words.{edge_word, claims_in, is_sealed_in, fired_word, fired_in, is_halted_in}
+use Rattle.chip_link.specs.Words.{is_by_limit_in}
 use Rattle.chip_link.specs.WordLaws.{ReadsAs, ReadsAsFired, EdgeWordReads, EdgeWordStands, AddsClaims, AddedReads}
 use Rattle.chip_link.specs.WordLaws.{SealsWord, SealedReads, ExchangesWord, ExpectsUnsealed, FiredWordReads}
 use Rattle.chip_link.specs.WordLaws.{FiredWordStands, AddsFirings, AddedFiringsRead, HaltsWord, HaltReads, HaltsByLimit}
@@ -23,7 +24,7 @@ or_at : (x y z x' y' z' : ℕ) → bit_or x y ≡ z → x ≡ x' → y ≡ y' �
 or_at x y z x' y' z' e ex ey ez = cc
 
 -- bit 62 of a word, as a mask shows it
-pub limit_stands : (word : ℕ) → not (eqb (bit_and word (2 ^ 62)) 0) ≡ by_limit_in word
+pub limit_stands : (word : ℕ) → not (eqb (bit_and word (2 ^ 62)) 0) ≡ is_by_limit_in word
 limit_stands word =
     let bit : bit_and word (2 ^ 62) ≡ word / 2 ^ 62 % 2 * 2 ^ 62 = and_pow word 62 in
     dite (dec_lt (word % 2 ^ 63) (2 ^ 62))
@@ -33,7 +34,7 @@ limit_stands word =
     ∙ sym (le-leb (2 ^ 62) (word % 2 ^ 63) (omega arith)))
 
 claims_read : (claims : ℕ) (sealed : Bool) → claims < 2 ^ 63 → (edge_word claims sealed < 2 ^ 64)
-    × (claims_in (edge_word claims sealed) ≡ claims) × (sealed_in (edge_word claims sealed) ≡ sealed)
+    × (claims_in (edge_word claims sealed) ≡ claims) × (is_sealed_in (edge_word claims sealed) ≡ sealed)
 claims_read = search rules
 
 pub edge_word_reads : EdgeWordReads
@@ -61,14 +62,14 @@ seals_word claims false l = or_at (0 * 2 ^ 63 + claims) (1 * 2 ^ 63 + 0) (1 * 2 
 pub added_reads : AddedReads
 added_reads word more fits l =
     let made = edge_word_stands word fits in
-    read_edge (word + more) (claims_in word + more) (sealed_in word) l (ap (λ (w : ℕ). w + more) (sym made.1)
-    ∙ adds_claims (claims_in word) more (sealed_in word))
+    read_edge (word + more) (claims_in word + more) (is_sealed_in word) l (ap (λ (w : ℕ). w + more) (sym made.1)
+    ∙ adds_claims (claims_in word) more (is_sealed_in word))
 
 pub sealed_reads : SealedReads
 sealed_reads word fits =
     let made = edge_word_stands word fits in
     read_edge (bit_or word (2 ^ 63)) (claims_in word) true made.0 (ap (λ (w : ℕ). bit_or w (2 ^ 63)) (sym made.1)
-    ∙ seals_word (claims_in word) (sealed_in word) made.0)
+    ∙ seals_word (claims_in word) (is_sealed_in word) made.0)
 
 pub expects_unsealed : ExpectsUnsealed
 expects_unsealed = search rules
@@ -77,8 +78,8 @@ pub exchanges_word : ExchangesWord
 exchanges_word = search rules
 
 fired_read : (fired : ℕ) (halted by_limit : Bool) → fired < 2 ^ 62 → (fired_word fired halted by_limit < 2 ^ 64)
-    × (fired_in (fired_word fired halted by_limit) ≡ fired) × (halted_in (fired_word fired halted by_limit) ≡ halted)
-    × (by_limit_in (fired_word fired halted by_limit) ≡ by_limit)
+    × (fired_in (fired_word fired halted by_limit) ≡ fired) × (is_halted_in (fired_word fired halted by_limit) ≡ halted)
+    × (is_by_limit_in (fired_word fired halted by_limit) ≡ by_limit)
 fired_read = search rules
 
 pub fired_word_reads : FiredWordReads
@@ -96,10 +97,10 @@ fired_word_stands = search rules
 
 -- a word is made of what is read from it, however that was read
 pub fired_word_back : (word fired : ℕ) (halted by_limit : Bool) → word < 2 ^ 64 → fired ≡ fired_in word
-    → halted ≡ halted_in word → by_limit ≡ by_limit_in word → fired_word fired halted by_limit ≡ word
+    → halted ≡ is_halted_in word → by_limit ≡ is_by_limit_in word → fired_word fired halted by_limit ≡ word
 fired_word_back word fired halted by_limit fits f h l =
     ap (λ (n : ℕ). fired_word n halted by_limit) f ∙ ap (λ (b : Bool). fired_word (fired_in word) b by_limit) h
-    ∙ ap (λ (b : Bool). fired_word (fired_in word) (halted_in word) b) l ∙ (fired_word_stands word fits).1
+    ∙ ap (λ (b : Bool). fired_word (fired_in word) (is_halted_in word) b) l ∙ (fired_word_stands word fits).1
 
 pub adds_firings : AddsFirings
 adds_firings fired more halted by_limit = omega arith
@@ -125,19 +126,20 @@ halts_by_limit fired false false l = halt_at 0 3 3 _ refl fired _ l (omega arith
 pub added_firings_read : AddedFiringsRead
 added_firings_read word more fits l =
     let made = fired_word_stands word fits in
-    read_fired (word + more) (fired_in word + more) (halted_in word) (by_limit_in word) l
-    (ap (λ (w : ℕ). w + more) (sym made.1) ∙ adds_firings (fired_in word) more (halted_in word) (by_limit_in word))
+    read_fired (word + more) (fired_in word + more) (is_halted_in word) (is_by_limit_in word) l
+    (ap (λ (w : ℕ). w + more) (sym made.1)
+    ∙ adds_firings (fired_in word) more (is_halted_in word) (is_by_limit_in word))
 
 pub halt_reads : HaltReads
 halt_reads word fits =
     let made = fired_word_stands word fits in
-    read_fired (bit_or word (2 ^ 63)) (fired_in word) true (by_limit_in word) made.0
+    read_fired (bit_or word (2 ^ 63)) (fired_in word) true (is_by_limit_in word) made.0
     (ap (λ (w : ℕ). bit_or w (2 ^ 63)) (sym made.1)
-    ∙ halts_word (fired_in word) (halted_in word) (by_limit_in word) made.0)
+    ∙ halts_word (fired_in word) (is_halted_in word) (is_by_limit_in word) made.0)
 
 pub halt_by_limit_reads : HaltByLimitReads
 halt_by_limit_reads word fits =
     let made = fired_word_stands word fits in
     read_fired (bit_or word (2 ^ 63 + 2 ^ 62)) (fired_in word) true true made.0
     (ap (λ (w : ℕ). bit_or w (2 ^ 63 + 2 ^ 62)) (sym made.1)
-    ∙ halts_by_limit (fired_in word) (halted_in word) (by_limit_in word) made.0)
+    ∙ halts_by_limit (fired_in word) (is_halted_in word) (is_by_limit_in word) made.0)

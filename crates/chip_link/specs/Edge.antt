@@ -3,7 +3,7 @@
 use Rattle.std.specs.Prelude.{ℕ, ◌+◌, ◌^◌, ◌&&◌, List, [], ◌∷◌, ◌++◌, replicate, slice_index, slice_set, if◌then◌else◌}
 use Rattle.std.specs.Prelude.{nat_lt, Option, Some, None, option_to_list, bit_or}
 use Rattle.chip_link.specs.declared.message.Message.{Message}
-use Rattle.chip_link.specs.Words.{exchanged}
+use Rattle.chip_link.specs.Words.{word_after_exchange}
 use Rattle.chip_link.specs.Ends.{TailState, HeadState, new_tail, new_head, tail_cell, head_cell, tail_after_clear}
 use Rattle.chip_link.specs.Ends.{tail_after_claim, tail_after_put, message_claimed, put_of, is_count, head_after_take}
 use Rattle.chip_link.specs.Ends.{message_taken}
@@ -42,14 +42,14 @@ pub data EdgeStep : Type 0 where
   Seal : EdgeStep
 
 -- the ring after a store, if there is one
-abbrev pub stored : Option (ℕ × ℕ) → List ℕ → List ℕ
-stored None cells = cells
-stored (Some at) cells = slice_set cells at.0 at.1
+abbrev pub cells_after_store : Option (ℕ × ℕ) → List ℕ → List ℕ
+cells_after_store None cells = cells
+cells_after_store (Some at) cells = slice_set cells at.0 at.1
 
 -- a claim is one compare-and-exchange of the edge word, and the tail is told the word that it saw
 abbrev pub claim_on : ℕ → LiveEdge → LiveEdge
 claim_on count s = record s {
-  word = exchanged s.tail.claims (s.tail.claims + 1) s.word;
+  word = word_after_exchange s.tail.claims (s.tail.claims + 1) s.word;
   tail = tail_after_claim s.word count s.tail;
   claimed = s.claimed ++ option_to_list (message_claimed s.word count s.tail);
 }
@@ -67,7 +67,7 @@ take_on cell s = record s {
 abbrev pub step : EdgeStep → LiveEdge → LiveEdge
 step Clear s = record s { tail = tail_after_clear (slice_index s.cells (tail_cell s.tail)) s.tail }
 step (Claim count) s = if s.tail.clear && is_count count then claim_on count s else s
-step Put s = record s { cells = stored (put_of s.tail) s.cells; tail = tail_after_put s.tail }
+step Put s = record s { cells = cells_after_store (put_of s.tail) s.cells; tail = tail_after_put s.tail }
 step Take s = if nat_lt s.head.taken (2 ^ 62) then take_on (slice_index s.cells (head_cell s.head)) s else s
 step Seal s = record s { word = bit_or s.word (2 ^ 63); stop = after_seal s.word s.stop }
 

@@ -1,13 +1,14 @@
 -- What atomic operations make of the words of an edge and of a vertex, told by the values that the words stand for.
 -- What is added and what sets bits is said twice: of the word that is made of a value, and of any word that is read.
 use Rattle.std.specs.Prelude.{◌≡◌, ℕ, ◌+◌, ◌^◌, ◌<◌, Bool, true, false, if◌then◌else◌, bit_or, ◌↔◌}
-use Rattle.chip_link.specs.Words.{edge_word, claims_in, sealed_in, fired_word, fired_in, halted_in, by_limit_in}
-use Rattle.chip_link.specs.Words.{exchanged}
+use Rattle.chip_link.specs.Words.{edge_word, claims_in, is_sealed_in, fired_word, fired_in, is_halted_in}
+use Rattle.chip_link.specs.Words.{is_by_limit_in}
+use Rattle.chip_link.specs.Words.{word_after_exchange}
 
 -- the word of an edge is read as these claims and this seal
 pub record ReadsAs (word claims : ℕ) (sealed : Bool) : Type 0 where
   pub claims_are : claims_in word ≡ claims
-  pub seal_is : sealed_in word ≡ sealed
+  pub seal_is : is_sealed_in word ≡ sealed
 
 -- a word is read as what it was made of
 abbrev pub EdgeWordReads : Type 0
@@ -17,7 +18,7 @@ EdgeWordReads = (claims : ℕ) (sealed : Bool) → claims < 2 ^ 63 → (edge_wor
 -- and every word is made of what it is read as
 abbrev pub EdgeWordStands : Type 0
 EdgeWordStands = (word : ℕ) → word < 2 ^ 64
-    → (claims_in word < 2 ^ 63) × (edge_word (claims_in word) (sealed_in word) ≡ word)
+    → (claims_in word < 2 ^ 63) × (edge_word (claims_in word) (is_sealed_in word) ≡ word)
 
 -- a number that is added is added to the claims
 abbrev pub AddsClaims : Type 0
@@ -26,7 +27,7 @@ AddsClaims = (claims more : ℕ) (sealed : Bool) → edge_word claims sealed + m
 -- the same of a word that is read, where no claim is lost into the seal's bit
 abbrev pub AddedReads : Type 0
 AddedReads = (word more : ℕ) → word < 2 ^ 64 → claims_in word + more < 2 ^ 63
-    → ReadsAs (word + more) (claims_in word + more) (sealed_in word)
+    → ReadsAs (word + more) (claims_in word + more) (is_sealed_in word)
 
 -- the bit of the seal, set, seals and leaves the claims
 abbrev pub SealsWord : Type 0
@@ -40,7 +41,8 @@ SealedReads = (word : ℕ) → word < 2 ^ 64 → ReadsAs (bit_or word (2 ^ 63)) 
 -- the exchange of so many claims for one more goes through where the edge isn't sealed, and else leaves the word
 abbrev pub ExchangesWord : Type 0
 ExchangesWord = (claims : ℕ) (sealed : Bool)
-    → exchanged claims (claims + 1) (edge_word claims sealed) ≡ edge_word (if sealed then claims else claims + 1) sealed
+    → word_after_exchange claims (claims + 1) (edge_word claims sealed)
+    ≡ edge_word (if sealed then claims else claims + 1) sealed
 
 -- the word is the expected one exactly where the edge isn't sealed
 abbrev pub ExpectsUnsealed : Type 0
@@ -49,8 +51,8 @@ ExpectsUnsealed = (claims : ℕ) (sealed : Bool) → (edge_word claims sealed �
 -- the word of a vertex is read as these firings and this halt
 pub record ReadsAsFired (word fired : ℕ) (halted by_limit : Bool) : Type 0 where
   pub fired_is : fired_in word ≡ fired
-  pub halt_is : halted_in word ≡ halted
-  pub cause_is : by_limit_in word ≡ by_limit
+  pub halt_is : is_halted_in word ≡ halted
+  pub cause_is : is_by_limit_in word ≡ by_limit
 
 -- a word is read as what it was made of
 abbrev pub FiredWordReads : Type 0
@@ -60,7 +62,7 @@ FiredWordReads = (fired : ℕ) (halted by_limit : Bool) → fired < 2 ^ 62 → (
 -- and every word is made of what it is read as
 abbrev pub FiredWordStands : Type 0
 FiredWordStands = (word : ℕ) → word < 2 ^ 64
-    → (fired_in word < 2 ^ 62) × (fired_word (fired_in word) (halted_in word) (by_limit_in word) ≡ word)
+    → (fired_in word < 2 ^ 62) × (fired_word (fired_in word) (is_halted_in word) (is_by_limit_in word) ≡ word)
 
 -- a number that is added is added to the firings
 abbrev pub AddsFirings : Type 0
@@ -70,7 +72,7 @@ AddsFirings = (fired more : ℕ) (halted by_limit : Bool)
 -- the same of a word that is read, where no firing is lost into the bits above
 abbrev pub AddedFiringsRead : Type 0
 AddedFiringsRead = (word more : ℕ) → word < 2 ^ 64 → fired_in word + more < 2 ^ 62
-    → ReadsAsFired (word + more) (fired_in word + more) (halted_in word) (by_limit_in word)
+    → ReadsAsFired (word + more) (fired_in word + more) (is_halted_in word) (is_by_limit_in word)
 
 -- the bit of the halt, set, halts and leaves the rest
 abbrev pub HaltsWord : Type 0
@@ -79,7 +81,7 @@ HaltsWord = (fired : ℕ) (halted by_limit : Bool) → fired < 2 ^ 62
 
 -- the same of a word that is read
 abbrev pub HaltReads : Type 0
-HaltReads = (word : ℕ) → word < 2 ^ 64 → ReadsAsFired (bit_or word (2 ^ 63)) (fired_in word) true (by_limit_in word)
+HaltReads = (word : ℕ) → word < 2 ^ 64 → ReadsAsFired (bit_or word (2 ^ 63)) (fired_in word) true (is_by_limit_in word)
 
 -- both bits, set, halt by the limit and leave the firings
 abbrev pub HaltsByLimit : Type 0

@@ -20,8 +20,8 @@ abbrev pub claims_in : ℕ → ℕ
 claims_in word = word % 2 ^ 63
 
 -- whether an edge word says that the edge is sealed
-abbrev pub sealed_in : ℕ → Bool
-sealed_in word = nat_le (2 ^ 63) word
+abbrev pub is_sealed_in : ℕ → Bool
+is_sealed_in word = nat_le (2 ^ 63) word
 
 -- the word of a vertex that fired so often, halted or not, by its limit or not
 abbrev pub fired_word : ℕ → Bool → Bool → ℕ
@@ -32,17 +32,17 @@ abbrev pub fired_in : ℕ → ℕ
 fired_in word = word % 2 ^ 62
 
 -- whether a fired word says that the vertex is halted
-abbrev pub halted_in : ℕ → Bool
-halted_in word = nat_le (2 ^ 63) word
+abbrev pub is_halted_in : ℕ → Bool
+is_halted_in word = nat_le (2 ^ 63) word
 
 -- whether bit 62 of a fired word stands: the limit was the cause of the halt
-abbrev pub by_limit_in : ℕ → Bool
-by_limit_in word = nat_le (2 ^ 62) (word % 2 ^ 63)
+abbrev pub is_by_limit_in : ℕ → Bool
+is_by_limit_in word = nat_le (2 ^ 62) (word % 2 ^ 63)
 
 -- the word of some vertex: the limit is a cause only where there is a halt
 abbrev pub is_fired_word : ℕ → Bool
-is_fired_word word = halted_in word || not (by_limit_in word)
+is_fired_word word = is_halted_in word || not (is_by_limit_in word)
 
 -- what a compare-and-exchange leaves in a word
-abbrev pub exchanged : ℕ → ℕ → ℕ → ℕ
-exchanged expected new word = if word == expected then new else word
+abbrev pub word_after_exchange : ℕ → ℕ → ℕ → ℕ
+word_after_exchange expected new word = if word == expected then new else word

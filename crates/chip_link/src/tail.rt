@@ -1,5 +1,5 @@
 ghost use Rattle.std.specs.Prelude.{◌≡◌, ℕ, ◌^◌, ◌<◌, ◌≤◌, ◌&&◌, ◌==◌, ◌↔◌, IsTrue, IsNone, IfSome};
-ghost use Rattle.chip_link.specs.Words.{claims_in, sealed_in};
+ghost use Rattle.chip_link.specs.Words.{claims_in, is_sealed_in};
 ghost use Rattle.chip_link.specs.Ends.{TailState, new_tail, tail_cell, may_clear, tail_after_clear, claim_words};
 ghost use Rattle.chip_link.specs.Ends.{tail_after_claim, message_claimed, put_of, tail_after_put, max_count};
 
@@ -123,7 +123,7 @@ impl TailLink {
         requires count { (1 ≤ count) × (count ≤ max_count) }
         ensures message { result ≡ message_claimed old_word count self.old }
         ensures after { self.new ≡ tail_after_claim old_word count self.old }
-        ensures refused { IsNone result ↔ IsTrue (sealed_in old_word) }
+        ensures refused { IsNone result ↔ IsTrue (is_sealed_in old_word) }
     {
         if old_word != self.claims {
             self.stage = Stage::Refused;

@@ -1,5 +1,6 @@
 ghost use Rattle.std.specs.Prelude.{◌≡◌, ◌^◌, ◌<◌, IsTrue, IfSome, is_some};
-ghost use Rattle.chip_link.specs.Words.{edge_word, claims_in, sealed_in, fired_word, fired_in, halted_in, by_limit_in};
+ghost use Rattle.chip_link.specs.Words.{edge_word, claims_in, is_sealed_in, fired_word, fired_in, is_halted_in};
+ghost use Rattle.chip_link.specs.Words.{is_by_limit_in};
 ghost use Rattle.chip_link.specs.Words.{is_fired_word};
 
 /// What the word of an edge stands for.
@@ -20,7 +21,7 @@ impl EdgeWord {
     pub fn to_word(self) -> u64
         ensures word { result ≡ edge_word self.claims self.sealed }
         ensures claims { claims_in result ≡ self.claims }
-        ensures sealed { sealed_in result ≡ self.sealed }
+        ensures sealed { is_sealed_in result ≡ self.sealed }
     {
         if self.sealed {
             self.claims | Self::SEAL
@@ -32,7 +33,7 @@ impl EdgeWord {
     /// The value that a word stands for: every word is one of some edge.
     pub fn from_word(word: u64) -> EdgeWord
         ensures claims { result.claims ≡ claims_in word }
-        ensures sealed { result.sealed ≡ sealed_in word }
+        ensures sealed { result.sealed ≡ is_sealed_in word }
         ensures word { edge_word result.claims result.sealed ≡ word }
     {
         EdgeWord {
@@ -68,8 +69,8 @@ impl FiredWord {
     pub fn to_word(self) -> u64
         ensures word { result ≡ fired_word self.fired self.halted self.by_limit }
         ensures fired { fired_in result ≡ self.fired }
-        ensures halted { halted_in result ≡ self.halted }
-        ensures by_limit { by_limit_in result ≡ self.by_limit }
+        ensures halted { is_halted_in result ≡ self.halted }
+        ensures by_limit { is_by_limit_in result ≡ self.by_limit }
     {
         if self.by_limit {
             self.fired | Self::HALT_BY_LIMIT
@@ -85,8 +86,8 @@ impl FiredWord {
     pub fn from_word(word: u64) -> Option<FiredWord>
         ensures some { is_some result ≡ is_fired_word word }
         ensures fired { IfSome result (λ value. value.fired ≡ fired_in word) }
-        ensures halted { IfSome result (λ value. value.halted ≡ halted_in word) }
-        ensures by_limit { IfSome result (λ value. value.by_limit ≡ by_limit_in word) }
+        ensures halted { IfSome result (λ value. value.halted ≡ is_halted_in word) }
+        ensures by_limit { IfSome result (λ value. value.by_limit ≡ is_by_limit_in word) }
         ensures word { IfSome result (λ value. fired_word value.fired value.halted value.by_limit ≡ word) }
     {
         let halted = word & Self::HALT != 0;

@@ -8,15 +8,15 @@ use Rattle.chip_part.specs.Setting.{Setting}
 use Rattle.chip_part.specs.declared.act.Act.{Act}
 use Rattle.chip_part.specs.Acting.{event_of, FitsSeen}
 use Rattle.chip_actor.specs.Medium.{IsDueBy}
-use Rattle.chip_core.specs.Core.{Step, Event, Part, opened, part_of, part_in, sees}
+use Rattle.chip_core.specs.Core.{Step, Event, Part, opening_part, part_of, part_in, sees}
 use Rattle.chip_core.specs.Histories.{part_by}
-use Rattle.chip_core.specs.Words.{IsWord, noted}
+use Rattle.chip_core.specs.Words.{IsWord, word_to_note}
 use Rattle.chip_core.proofs.ReachingLemmas.{by_history}
 use Rattle.chip_core.proofs.NumberLemmas.{fits_seen}
 use Rattle.chip_net.specs.declared.hand.Hand.TheInside.{Inside}
 use Rattle.chip_net.specs.contracts.hand.Hand.{the_view}
 use Rattle.chip_net.specs.Layout.{index_of, word_count}
-use Rattle.chip_net.specs.Views.{View, grown, did_in, Has, part_of_view}
+use Rattle.chip_net.specs.Views.{View, grow_view, did_in, Has, part_of_view}
 use Rattle.chip_net.specs.Rule.{Kept, step_of, Stepped, Grows}
 use Rattle.chip_net.specs.Traces.{TraceState, Keeps, row_of, rows_of}
 use Rattle.chip_net.specs.Tokens.{NetId, ActorKnown, IsHand, IsDueFor, MakesStep}
@@ -95,8 +95,9 @@ module _ (i : Inside) (hand : IsHand i.setting.value i.vertex i.seat.me i.trace)
     stepped : Stepped g made view
     stepped = subst (λ (h : Setting). Stepped h made view) (sym (setting_is key key_is)) told.1
 
-    after : me.0 ≡ grown v made view
-    after = told.0 ∙ ap (λ (p : ℕ). grown p made view) (ap (λ (h : Setting). part_of h x) (sym (setting_is key key_is))
+    after : me.0 ≡ grow_view v made view
+    after = told.0
+        ∙ ap (λ (p : ℕ). grow_view p made view) (ap (λ (h : Setting). part_of h x) (sym (setting_is key key_is))
         ∙ due'.mine)
 
     longer : (did_in v me.0 ≡ did_in v view ++ made ∷ []) × Has v me.0
@@ -104,9 +105,9 @@ module _ (i : Inside) (hand : IsHand i.setting.value i.vertex i.seat.me i.trace)
 
     -- it is the part in that log
     in_log : part_of_view g v view ≡ part_in g stepped.log v
-    in_log = ap (part_by g (opened g)) (stepped.agrees v (did_in v view) has) ∙ sym (by_history g stepped.log v)
+    in_log = ap (part_by g (opening_part g)) (stepped.agrees v (did_in v view) has) ∙ sym (by_history g stepped.log v)
 
-    fits : FitsSeen (part_of_view g v view) x (noted x seen)
+    fits : FitsSeen (part_of_view g v view) x (word_to_note x seen)
     fits =
         let log = stepped.log in
         let told' : FitsSeen (part_in g log (part_of g x)) x (sees g log x) =
@@ -116,7 +117,7 @@ module _ (i : Inside) (hand : IsHand i.setting.value i.vertex i.seat.me i.trace)
         (λ j. ((ap (part_in g log) due'.mine ∙ sym in_log) j, sym stepped.legal.1.1 j)) told'
 
     module _ (trace : TraceState) (keeps : (all : List TraceRow) → Keeps all i.trace
-        → Keeps (all ++ row_of x (noted x seen)) trace) where
+        → Keeps (all ++ row_of x (word_to_note x seen)) trace) where
       pub still_hand : IsHand g v me trace
       still_hand = record {
         setting = hand.setting;
@@ -133,11 +134,11 @@ module _ (i : Inside) (hand : IsHand i.setting.value i.vertex i.seat.me i.trace)
           vertex = v;
           room = room;
           did = did_in v me.0;
-        }) act (noted x seen)
+        }) act (word_to_note x seen)
     makes table table_is room room_is =
         subst (λ (k : ActorKnown). MakesStep k
         (record { net = record { table = table; setting = g }; vertex = v; room = room; did = did_in v me.0 }) act
-        (noted x seen)) view_is record {
+        (word_to_note x seen)) view_is record {
           record_is = λ j. record {
             net = record { table = table_is j; setting = g };
             vertex = v;

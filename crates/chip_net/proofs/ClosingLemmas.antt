@@ -6,7 +6,7 @@ use Rattle.std.proofs.Math.Seq.{take-suc}
 use mathlib.Core.Option.{some, some-injective, some-ne-none}
 use lib.ListN.{get_elem?}
 use Rattle.chip_part.specs.Edges.{root, stopper}
-use Rattle.chip_net.specs.Views.{View, find, did_in, IsAlone, joined}
+use Rattle.chip_net.specs.Views.{View, find, did_in, IsAlone, join_views}
 use Rattle.chip_net.specs.Rule.{Left}
 use Rattle.chip_net.specs.Tokens.{ActorKnown}
 use Rattle.chip_net.specs.Roots.{RootKnown}
@@ -50,7 +50,7 @@ leaves_words r actors view words at_root at_stopper theirs left = record {
 
 module _ (view own inner : View) (xs : List ActorKnown) (a : ActorKnown) (at : a.vertex ≡ length xs)
     (alone_is : IsAlone a.vertex own)
-    (others : (p : ℕ) → length xs ≤ p → find p inner.parts ≡ find p (joined view own).parts) where
+    (others : (p : ℕ) → length xs ≤ p → find p inner.parts ≡ find p (join_views view own).parts) where
   -- those behind it are as they were
   pub others_gathered : (p : ℕ) → length (xs ++ a ∷ []) ≤ p → find p inner.parts ≡ find p view.parts
   others_gathered p past =

@@ -11,11 +11,11 @@ use Rattle.chip_part.specs.Setting.{Setting, IsSetting}
 use Rattle.chip_part.specs.Edges.{root, graph_edges, all_edges}
 use Rattle.chip_part.specs.Part.{all_fed}
 use Rattle.chip_part.specs.declared.rule.Rule.{Rule}
-use Rattle.chip_part.specs.Rules.{need, unmet, Feed}
+use Rattle.chip_part.specs.Rules.{need, unmet_rule, Feed}
 use Rattle.chip_part.specs.declared.rule.Rule.TheVariants.{NoSuch, Ended, Zero, TooMuch, NotCleared}
 use Rattle.chip_part.specs.declared.act.Act.{Act}
 use Rattle.chip_part.specs.Acting.{verdict}
-use Rattle.chip_core.specs.Core.{Log, Part, part_in, opened, IsLegalLog}
+use Rattle.chip_core.specs.Core.{Log, Part, part_in, opening_part, IsLegalLog}
 use Rattle.chip_core.specs.Histories.{done_by, part_by}
 use Rattle.chip_core.specs.Positions.{fed_in}
 use Rattle.chip_core.proofs.GivenLemmas.{root_gave, given_within, played_has_more}
@@ -48,7 +48,7 @@ abbrev feed_rules : Bool → Bool → Bool → Option Rule
 feed_rules ended fits clear = need (not ended) Ended (need fits TooMuch (need clear NotCleared None))
 
 rules_are : (g : Setting) (s : Part) (e k : ℕ) → graph_edges g ≤ e → e < all_edges g → 0 < k
-    → unmet g (Feed e k) s ≡ feed_rules s.ended (leb (all_fed g s + k) max_total) (s.out e).link.clear
+    → unmet_rule g (Feed e k) s ≡ feed_rules s.ended (leb (all_fed g s + k) max_total) (s.out e).link.clear
 rules_are g s e k past inside some =
     let rest : Option Rule = feed_rules s.ended (leb (all_fed g s + k) max_total) (s.out e).link.clear in
     let rest' : Option Rule = need (not (eqb k 0)) Zero (need (leb (all_fed g s + k) max_total) TooMuch
@@ -82,7 +82,7 @@ module _ (r : RootKnown) (count : ℕ) (given : all_fed r.net.setting (root_part
   by_rules false true true act e f = (e, (let a = leb-true _ _ f in omega arith), given)
 
   pub allows_feed : (edge : ℕ) → graph_edges r.net.setting ≤ edge → edge < all_edges r.net.setting → 0 < count
-      → (act : Act) → AllowsFeed r count (feed_answer (verdict (unmet r.net.setting (Feed edge count) (root_part r)) act))
+      → (act : Act) → AllowsFeed r count (feed_answer (verdict (unmet_rule r.net.setting (Feed edge count) (root_part r)) act))
   allows_feed edge past inside some act =
       subst (λ (rule : Option Rule). AllowsFeed r count (feed_answer (verdict rule act)))
       (sym (rules_are r.net.setting (root_part r) edge count past inside some))
@@ -96,7 +96,7 @@ module _ (i : Inside) (keeps : IsRoot i.setting.value i.seat.me.0 i.state) where
   own = i.setting.value
 
   part_is : root_part (the_view i) ≡ part_in own keeps.log (root own)
-  part_is = ap (part_by own (opened own)) keeps.in_log ∙ sym (by_history own keeps.log (root own))
+  part_is = ap (part_by own (opening_part own)) keeps.in_log ∙ sym (by_history own keeps.log (root own))
 
   fed_is : fed_in own (done_by own (root own) keeps.log) ≡ fed_by (the_view i)
   fed_is = sym (ap (fed_in own) keeps.in_log)

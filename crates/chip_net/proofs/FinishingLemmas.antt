@@ -9,24 +9,24 @@ use Rattle.chip_graph.specs.ChipGame.{ChipGame}
 use Rattle.chip_graph.specs.Limits.{max_total}
 use Rattle.chip_graph.specs.Multigraph.{Multigraph}
 use Rattle.chip_graph.specs.More.{HasMore}
-use Rattle.chip_graph.specs.Sums.{picked}
+use Rattle.chip_graph.specs.Sums.{filter_below}
 use Rattle.chip_sequence.specs.declared.outcome.Outcome.{Outcome}
 use Rattle.chip_sequence.specs.Counted.{IsBelowZero, IsAfter}
 use Rattle.chip_sequence.specs.Play.{IsPlayed}
 use Rattle.chip_sequence.specs.Sequence.{HasEnded}
 use Rattle.chip_sequence.proofs.LegalLemmas.{picked_no, picked_ext, picked_has}
 use Rattle.chip_sequence.proofs.BoundLemmas.{same_ends}
-use Rattle.chip_link.specs.Words.{fired_in, halted_in, by_limit_in, is_fired_word}
+use Rattle.chip_link.specs.Words.{fired_in, is_halted_in, is_by_limit_in, is_fired_word}
 use Rattle.chip_part.specs.Setting.{Setting, IsSetting}
 use Rattle.chip_part.specs.declared.cause.Cause.{Cause}
 use Rattle.chip_part.specs.declared.cause.Cause.TheVariants.{SealedEdge, FiringLimit}
 use Rattle.chip_part.specs.Edges.{root}
-use Rattle.chip_part.specs.Part.{Part, opened, is_by_limit, AreGiven}
+use Rattle.chip_part.specs.Part.{Part, opening_part, is_by_limit, AreGiven}
 use Rattle.chip_core.specs.Core.{Log, Step, Read, part_in, word_of_part, IsLegalLog, IsClosed}
 use Rattle.chip_core.specs.Laws.{WordsOf}
 use Rattle.chip_core.specs.Headline.{NoneHalted, NoneHaltedBySeal}
 use Rattle.chip_core.specs.Histories.{done_by, part_by}
-use Rattle.chip_core.specs.Positions.{started, played_game, firings, fed_in}
+use Rattle.chip_core.specs.Positions.{chips_given, played_game, firings, fed_in}
 use Rattle.chip_core.specs.Outcomes.{is_by_seal, AreFired, IsOutcomeOf, ComesTo}
 use Rattle.chip_core.proofs.NumberLemmas.{words_tell}
 use Rattle.chip_core.proofs.ReachingLemmas.{by_history}
@@ -34,7 +34,8 @@ use Rattle.chip_core.proofs.GivenLemmas.{given_is, given_start, given_within, pl
 use Rattle.chip_core.proofs.ClosingLemmas.{all_ended}
 use Rattle.chip_core.proofs.OutcomeLemmas.{never_negative, comes, in_range, is_played}
 use Rattle.chip_net.specs.Roots.{RootKnown, root_part, root_after, fed_by}
-use Rattle.chip_net.specs.Finish.{reads_from, IsReadOut, TallyState, limit_at, seal_at, AreRead, IsReading, IsOneEnd}
+use Rattle.chip_net.specs.Finish.{reads_from, IsReadOut, TallyState, is_by_limit_at, is_by_seal_at, AreRead, IsReading}
+use Rattle.chip_net.specs.Finish.{IsOneEnd}
 use Rattle.chip_net.specs.Finish.{Finishes}
 use Rattle.chip_net.specs.Meeting.{Together, IsRun}
 use Rattle.chip_net.proofs.ViewingLemmas.{part_append}
@@ -52,7 +53,7 @@ none_listed : (v : ℕ) → Contains [] v → ⊥
 none_listed v at = let l = at.1 in absurd (omega arith)
 
 -- nothing passes, and nothing is listed
-picked_none : (test : ℕ → Bool) (n : ℕ) → ((v : ℕ) → v < n → test v ≡ false) → picked test n ≡ []
+picked_none : (test : ℕ → Bool) (n : ℕ) → ((v : ℕ) → v < n → test v ≡ false) → filter_below test n ≡ []
 picked_none test zero off = refl
 picked_none test (suc n) off = picked_no test n (off n (omega arith)) ∙ picked_none test n (λ v l. off v (omega arith))
 
@@ -99,12 +100,12 @@ module _ (g : Setting) (setting : IsSetting g) (log : Log) (legal : IsLegalLog g
   outcome_by_words o are chips = record {
     fired = fired_by_words o.fired.items are.fired;
     chips = chips;
-    over = are.over ∙ ap (picked (limit_at words)) count_is
-        ∙ picked_ext (limit_at words) (λ v. is_by_limit (part_in g log v).halt) g.game.graph.vertices
-        (λ v l. ap by_limit_in (word_at v l) ∙ say.by_limit v);
-    sealed = are.sealed ∙ ap (picked (seal_at words)) count_is
-        ∙ picked_ext (seal_at words) (λ v. is_by_seal (part_in g log v).halt) g.game.graph.vertices
-        (λ v l. ap (λ (w : ℕ). halted_in w && not (by_limit_in w)) (word_at v l)
+    over = are.over ∙ ap (filter_below (is_by_limit_at words)) count_is
+        ∙ picked_ext (is_by_limit_at words) (λ v. is_by_limit (part_in g log v).halt) g.game.graph.vertices
+        (λ v l. ap is_by_limit_in (word_at v l) ∙ say.by_limit v);
+    sealed = are.sealed ∙ ap (filter_below (is_by_seal_at words)) count_is
+        ∙ picked_ext (is_by_seal_at words) (λ v. is_by_seal (part_in g log v).halt) g.game.graph.vertices
+        (λ v l. ap (λ (w : ℕ). is_halted_in w && not (is_by_limit_in w)) (word_at v l)
         ∙ (λ i. say.halted v i && not (say.by_limit v i)) ∙ seal_is (part_in g log v).halt);
   }
 
@@ -126,8 +127,8 @@ module _ (old now : RootKnown) (setting : IsSetting old.net.setting) (tally : Ta
 
   -- what was given is the start of the game that was played
   root_is : part_in h out'.log (root h) ≡ part_by h (root_part old) (reads_from 0 reading.words)
-  root_is = by_history h out'.log (root h) ∙ ap (part_by h (opened h)) (sym out'.agrees.root_did)
-      ∙ part_append h (opened h) old.did (reads_from 0 reading.words)
+  root_is = by_history h out'.log (root h) ∙ ap (part_by h (opening_part h)) (sym out'.agrees.root_did)
+      ∙ part_append h (opening_part h) old.did (reads_from 0 reading.words)
 
   start_is : given ≡ (played_game h out'.log).start
   start_is = given_start h out'.log given (subst (λ (s : Part). AreGiven h s given) (sym root_is)
@@ -152,7 +153,7 @@ module _ (old now : RootKnown) (setting : IsSetting old.net.setting) (tally : Ta
       (subst (λ (fed : List (ℕ × ℕ)). HasMore h.game fed (played_game h out'.log)) recorded
       (played_has_more h setting.game setting.some_ring out'.log out'.legal))
 
-  from : started h out'.log ≡ slice_index game.start
+  from : chips_given h out'.log ≡ slice_index game.start
   from = sym (given_is h setting.game setting.some_ring out'.log out'.legal)
       ∙ ap (λ (k : ChipGame). slice_index k.start) same_game
 
@@ -246,7 +247,7 @@ same_played : (g : Setting) (setting : IsSetting g) (log other : Log) → IsLega
 same_played g setting log other legal same =
     let start : List ℕ = (played_game g other).start in
     let each : AreGiven g (part_in g log (root g)) start = (
-      length-map-range_with_len (started g other) 0 g.game.graph.vertices,
+      length-map-range_with_len (chips_given g other) 0 g.game.graph.vertices,
       λ v l. ap (λ (f : ℕ → ℕ). f v) (given_is g setting.game setting.some_ring other legal)
           ∙ ap (λ (p : ℕ). sum (sent_counts ((part_in g other p).out (root_edge g v)).link))
           (tail_root g (root_edge g v) (omega arith))
@@ -282,7 +283,7 @@ module _ (old receipt : RootKnown) (o : Outcome) (actors : List ActorKnown) (fin
   -- in both logs the root is the same
   root_same : part_in k met.log (root k) ≡ part_in k finishes.read_out.log (root k)
   root_same = by_history k met.log (root k)
-      ∙ ap (part_by k (opened k)) (sym met.agrees.root_did ∙ finishes.read_out.agrees.root_did)
+      ∙ ap (part_by k (opening_part k)) (sym met.agrees.root_did ∙ finishes.read_out.agrees.root_did)
       ∙ sym (by_history k finishes.read_out.log (root k))
 
   pub one_run : IsRun receipt actors o

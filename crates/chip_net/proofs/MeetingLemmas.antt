@@ -10,7 +10,7 @@ use Rattle.atomic_table.specs.Table.{State, keeps, Allows}
 use Rattle.chip_part.specs.Setting.{Setting}
 use Rattle.chip_core.specs.Core.{Step}
 use Rattle.chip_core.specs.Histories.{done_by}
-use Rattle.chip_net.specs.Views.{View, find, did_in, steps_or_none, Has, IsAlone, joined, without}
+use Rattle.chip_net.specs.Views.{View, find, did_in, steps_or_none, Has, IsAlone, join_views, view_without}
 use Rattle.chip_net.specs.Rule.{Kept, Looks}
 use Rattle.chip_net.specs.Tokens.{NetId, ActorKnown}
 use Rattle.chip_net.specs.Meeting.{AreInPlace, Met}
@@ -81,7 +81,7 @@ others_in_place net xs a places v b e = places v b (get_left xs a v b e)
 -- ---- one actor more
 
 module _ (view own inner : View) (xs : List ActorKnown) (k : ℕ) (at : k ≡ length xs) (alone_is : IsAlone k own)
-    (others : (p : ℕ) → length xs ≤ p → find p inner.parts ≡ find p (joined view own).parts) where
+    (others : (p : ℕ) → length xs ≤ p → find p inner.parts ≡ find p (join_views view own).parts) where
   -- its part is there again, with all that it did
   pub there_again : Has k inner × (did_in k inner ≡ did_in k own)
   there_again =
@@ -90,7 +90,7 @@ module _ (view own inner : View) (xs : List ActorKnown) (k : ℕ) (at : k ≡ le
       (found ∙ ap Some (sym same), same)
 
   -- and those behind it are as they were
-  pub others_more : (a : ActorKnown) (last : View) → last ≡ without k inner → (p : ℕ) → length (xs ++ a ∷ []) ≤ p
+  pub others_more : (a : ActorKnown) (last : View) → last ≡ view_without k inner → (p : ℕ) → length (xs ++ a ∷ []) ≤ p
       → find p last.parts ≡ find p view.parts
   others_more a last is p past =
       let more = length-append xs (a ∷ []) in
@@ -99,7 +99,7 @@ module _ (view own inner : View) (xs : List ActorKnown) (k : ℕ) (at : k ≡ le
       ∙ joined_else k p view own alone_is other
 
 pub met_more : (g : Setting) (view own : View) (xs : List ActorKnown) (a : ActorKnown) → a.vertex ≡ length xs
-    → IsAlone a.vertex own → did_in a.vertex own ≡ a.did → Met g (joined view own) xs → Met g view (xs ++ a ∷ [])
+    → IsAlone a.vertex own → did_in a.vertex own ≡ a.did → Met g (join_views view own) xs → Met g view (xs ++ a ∷ [])
 met_more g view own xs a at alone_is did_is met = record {
   log = met.log;
   legal = met.legal;

@@ -6,21 +6,22 @@ use Rattle.std.proofs.lemmas.List.{get_or_push, get_or_append_left, map-append, 
 use Rattle.std.proofs.lemmas.List.Elements.{Contains-append_cases, Contains-append_right}
 use mathlib.Core.Logic.{dite}
 use native.Mathlib.Decide.{ℕ_discrete, dec_lt}
-use Rattle.chip_graph.specs.Sums.{picked}
+use Rattle.chip_graph.specs.Sums.{filter_below}
 use Rattle.chip_graph.proofs.SumLemmas.{cond_yes, cond_no}
 use Rattle.chip_sequence.proofs.LegalLemmas.{picked_ext}
-use Rattle.chip_link.specs.Words.{fired_in, halted_in, by_limit_in}
+use Rattle.chip_link.specs.Words.{fired_in, is_halted_in, is_by_limit_in}
 use Rattle.chip_part.specs.Setting.{Setting, IsSetting}
 use Rattle.chip_part.specs.Edges.{root, stopper}
 use Rattle.chip_part.specs.Part.{deficit, AreGiven}
 use Rattle.chip_part.specs.Steps.{saw}
-use Rattle.chip_core.specs.Core.{Log, Step, Read, Part, opened, part_of, part_in, does, word_of_part, IsClosed}
+use Rattle.chip_core.specs.Core.{Log, Step, Read, Part, opening_part, part_of, part_in, does, word_of_part, IsClosed}
 use Rattle.chip_core.specs.Histories.{done_by, part_by}
 use Rattle.chip_core.specs.Positions.{fed_of, fed_in}
 use Rattle.chip_core.proofs.ReadLemmas.{reads_tell}
 use Rattle.chip_net.specs.Tokens.{NetId}
 use Rattle.chip_net.specs.Roots.{RootKnown, root_part, root_deficit, root_after, IsOver}
-use Rattle.chip_net.specs.Finish.{ReadsAt, reads_from, IsReadOut, TallyState, tally_after, limit_at, seal_at, AreRead}
+use Rattle.chip_net.specs.Finish.{ReadsAt, reads_from, IsReadOut, TallyState, tally_after, is_by_limit_at}
+use Rattle.chip_net.specs.Finish.{is_by_seal_at, AreRead}
 use Rattle.chip_net.specs.Finish.{IsReading}
 use Rattle.chip_net.proofs.ViewingLemmas.{part_append}
 
@@ -90,9 +91,9 @@ pub still_over : (old now : RootKnown) (tally : TallyState) (v : ℕ) → IsRead
 still_over old now tally v reading over =
     let g : Setting = old.net.setting in
     let part_is : root_part now ≡ part_by g (root_part old) (reads_from 0 reading.words) = ap root_part reading.record_is
-    ∙ part_append g (opened g) old.did (reads_from 0 reading.words) in (
+    ∙ part_append g (opening_part g) old.did (reads_from 0 reading.words) in (
       ap root_deficit reading.record_is
-          ∙ ap (deficit g (root g)) (part_append g (opened g) old.did (reads_from 0 reading.words))
+          ∙ ap (deficit g (root g)) (part_append g (opening_part g) old.did (reads_from 0 reading.words))
           ∙ reads_leave g (root_part old) 0 reading.words ∙ over.0,
       ap (λ (s : Part). s.ended) part_is ∙ reads_end g (root_part old) 0 reading.words ∙ over.1,
     )
@@ -105,30 +106,31 @@ reading_net old now tally v reading = ap (λ (r : RootKnown). r.net) reading.rec
 module _ (words : List ℕ) (t : TallyState) (is : AreRead words t.fired t.over t.sealed) (w : ℕ) where
   pick_more : (test : List ℕ → ℕ → Bool)
       → ((ws us : List ℕ) (v : ℕ) → get_or ws v 0 ≡ get_or us v 0 → test ws v ≡ test us v) → (b : Bool)
-      → test (w ∷ []) 0 ≡ b → (before : List ℕ) → before ≡ picked (test words) (length words)
+      → test (w ∷ []) 0 ≡ b → (before : List ℕ) → before ≡ filter_below (test words) (length words)
       → ((ws : List ℕ) (v : ℕ) → get_or ws v 0 ≡ w → test ws v ≡ b)
-      → before ++ cond b (length t.fired ∷ []) [] ≡ picked (test (words ++ w ∷ [])) (length (words ++ w ∷ []))
+      → before ++ cond b (length t.fired ∷ []) [] ≡ filter_below (test (words ++ w ∷ [])) (length (words ++ w ∷ []))
   pick_more test same b one before before_is at =
       let test' : ℕ → Bool = test (words ++ w ∷ []) in
       let count : length (words ++ w ∷ []) ≡ suc (length words) = (let a = length-append words (w ∷ []) in omega arith)
       in
-      let front : picked (test words) (length words) ≡ picked test' (length words) =
+      let front : filter_below (test words) (length words) ≡ filter_below test' (length words) =
       picked_ext (test words) test' (length words)
       (λ v l. same words (words ++ w ∷ []) v (sym (get_or_append_left words (w ∷ []) 0 v l))) in
       let here : test' (length words)
       ≡ b = at (words ++ w ∷ []) (length words) (get_or_push words w 0 (length words) refl) in
       let vertex : length t.fired ≡ length words = ap length is.fired ∙ length-map words fired_in in
-      (λ i. (before_is ∙ front) i ++ cond (sym here i) (vertex i ∷ []) []) ∙ sym (ap (picked test') count)
+      (λ i. (before_is ∙ front) i ++ cond (sym here i) (vertex i ∷ []) []) ∙ sym (ap (filter_below test') count)
 
-  pub tally_more : AreRead (words ++ w ∷ []) (tally_after (fired_in w) (halted_in w) (by_limit_in w) t).fired
-      (tally_after (fired_in w) (halted_in w) (by_limit_in w) t).over
-      (tally_after (fired_in w) (halted_in w) (by_limit_in w) t).sealed
+  pub tally_more : AreRead (words ++ w ∷ []) (tally_after (fired_in w) (is_halted_in w) (is_by_limit_in w) t).fired
+      (tally_after (fired_in w) (is_halted_in w) (is_by_limit_in w) t).over
+      (tally_after (fired_in w) (is_halted_in w) (is_by_limit_in w) t).sealed
   tally_more = record {
     fired = ap (λ (l : List ℕ). l ++ fired_in w ∷ []) is.fired ∙ sym (map-append fired_in words (w ∷ []));
-    over = pick_more limit_at (λ ws us v e. ap by_limit_in e) (by_limit_in w) refl t.over is.over
-        (λ ws v e. ap by_limit_in e);
-    sealed = pick_more seal_at (λ ws us v e. ap (λ (x : ℕ). halted_in x && not (by_limit_in x)) e) (halted_in w
-        && not (by_limit_in w)) refl t.sealed is.sealed (λ ws v e. ap (λ (x : ℕ). halted_in x && not (by_limit_in x)) e);
+    over = pick_more is_by_limit_at (λ ws us v e. ap is_by_limit_in e) (is_by_limit_in w) refl t.over is.over
+        (λ ws v e. ap is_by_limit_in e);
+    sealed = pick_more is_by_seal_at (λ ws us v e. ap (λ (x : ℕ). is_halted_in x && not (is_by_limit_in x)) e)
+        (is_halted_in w
+        && not (is_by_limit_in w)) refl t.sealed is.sealed (λ ws v e. ap (λ (x : ℕ). is_halted_in x && not (is_by_limit_in x)) e);
   }
 
 -- ---- one read more
@@ -185,7 +187,8 @@ module _ (old now then : RootKnown) (tally : TallyState) (v seen : ℕ) (setting
     words_are = words_then;
   }
 
-  pub reads_more : IsReading old then (tally_after (fired_in seen) (halted_in seen) (by_limit_in seen) tally) (v + 1)
+  pub reads_more : IsReading old then (tally_after (fired_in seen) (is_halted_in seen) (is_by_limit_in seen) tally)
+      (v + 1)
   reads_more = record {
     words = words ++ seen ∷ [];
     count_is = (let a = length-append words (seen ∷ []) in let c = reading.count_is in omega arith);

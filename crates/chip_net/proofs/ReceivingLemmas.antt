@@ -8,12 +8,12 @@ use Rattle.chip_part.specs.Setting.{Setting, IsSetting}
 use Rattle.chip_part.specs.Edges.{root, stopper}
 use Rattle.chip_part.proofs.RuleLemmas.{met_rules}
 use Rattle.chip_part.specs.Steps.{saw}
-use Rattle.chip_core.specs.Core.{Step, Read, unmet}
+use Rattle.chip_core.specs.Core.{Step, Read, unmet_rule}
 use Rattle.chip_core.specs.Words.{of_vertex}
 use Rattle.chip_net.specs.declared.receipt.Receipt.TheInside.{Inside}
 use Rattle.chip_net.specs.contracts.receipt.Receipt.{the_view}
 use Rattle.chip_net.specs.Layout.{index_of}
-use Rattle.chip_net.specs.Views.{find, grown, did_in, Has, part_of_view}
+use Rattle.chip_net.specs.Views.{find, grow_view, did_in, Has, part_of_view}
 use Rattle.chip_net.specs.Rule.{Kept, Stepped, Grows}
 use Rattle.chip_net.specs.Roots.{RootKnown, IsOver}
 use Rattle.chip_net.specs.Finish.{ReadsAt}
@@ -27,7 +27,7 @@ module _ (i : Inside) (keeps : Has (root i.setting.value) i.seat.me.0 × IsSetti
   abbrev g : Setting
   g = i.setting.value
 
-  none : unmet g (Read v) (part_of_view g (root g) i.seat.me.0) ≡ None
+  none : unmet_rule g (Read v) (part_of_view g (root g) i.seat.me.0) ≡ None
   none = met_rules g (Read v) (part_of_view g (root g) i.seat.me.0)
       (inside, over.0, over.1)
 
@@ -44,7 +44,7 @@ module _ (i : Inside) (keeps : Has (root i.setting.value) i.seat.me.0 × IsSetti
     abbrev stepped : Stepped g x i.seat.me.0
     stepped = root_stepped g keeps.1 i.seat.me keeps.0 (Read v) refl none key same seen after told
 
-    grew : after.0 ≡ grown (root g) x i.seat.me.0
+    grew : after.0 ≡ grow_view (root g) x i.seat.me.0
     grew = root_grown g keeps.1 i.seat.me keeps.0 (Read v) refl none key same seen after told
 
     pub still_receipt : Has (root g) after.0 × IsSetting g

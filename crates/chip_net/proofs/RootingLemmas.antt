@@ -20,16 +20,16 @@ use Rattle.chip_part.specs.Steps.{link_after, saw}
 use Rattle.chip_part.proofs.EdgeLemmas.{tail_root}
 use Rattle.chip_part.proofs.RuleLemmas.{met_rules}
 use Rattle.chip_core.specs.Core.{Step, Event, Take, Ack, Fire, Clear, Claim, Put, Halt, Settle, Seal, Read, Feed, End}
-use Rattle.chip_core.specs.Core.{Part, Out, Reply, opened, does, unmet, part_of, part_in, tail_of, reply_of}
+use Rattle.chip_core.specs.Core.{Part, Out, Reply, opening_part, does, unmet_rule, part_of, part_in, tail_of, reply_of}
 use Rattle.chip_core.specs.Histories.{done_by, part_by}
-use Rattle.chip_core.specs.Words.{IsWord, touched, left_by, noted}
+use Rattle.chip_core.specs.Words.{IsWord, word_of_event, left_by, word_to_note}
 use Rattle.chip_core.proofs.ReachingLemmas.{by_history}
 use Rattle.chip_core.proofs.NumberLemmas.{root_fits}
 use Rattle.chip_core.proofs.ShowingLemmas.{word_for}
 use Rattle.chip_net.specs.declared.root_hand.RootHand.TheInside.{Inside}
 use Rattle.chip_net.specs.contracts.root_hand.RootHand.{the_view}
 use Rattle.chip_net.specs.Layout.{index_of, word_count}
-use Rattle.chip_net.specs.Views.{View, find, grown, did_in, Has, part_of_view, IsAlone, joined, steps_or_none}
+use Rattle.chip_net.specs.Views.{View, find, grow_view, did_in, Has, part_of_view, IsAlone, join_views, steps_or_none}
 use Rattle.chip_net.specs.Rule.{Kept, step_of, Stepped, Grows}
 use Rattle.chip_net.specs.Roots.{RootKnown, root_after, root_part, IsRoot, IsFeeding, IsDueInView, MakesEvent, Replies}
 use Rattle.chip_net.specs.Roots.{settles_from, DoesMore, HoldsNothing, has_ended, new_root, with_stopper}
@@ -44,7 +44,7 @@ root_tail : (g : Setting) (v : ℕ) → tail_of g (root_edge g v) ≡ root g
 root_tail g v = tail_root g (root_edge g v) (omega arith)
 
 -- what the root's view has after an event of its own
-pub root_record : (g : Setting) (x : Step) (view view' : View) → Has (root g) view → view' ≡ grown (root g) x view
+pub root_record : (g : Setting) (x : Step) (view view' : View) → Has (root g) view → view' ≡ grow_view (root g) x view
     → (did_in (root g) view' ≡ did_in (root g) view ++ x ∷ [])
     × (find (stopper g) view'.parts ≡ find (stopper g) view.parts)
 root_record g x view view' has is = (
@@ -56,30 +56,31 @@ root_record g x view view' has is = (
 -- ---- an event of the root
 
 module _ (g : Setting) (setting : IsSetting g) (me : Mine) (has : Has (root g) me.0) (x : Event)
-    (mine : part_of g x ≡ root g) (none : unmet g x (part_of_view g (root g) me.0) ≡ None) where
+    (mine : part_of g x ≡ root g) (none : unmet_rule g x (part_of_view g (root g) me.0) ≡ None) where
   has' : Has (part_of g x) me.0
   has' = subst (λ (p : ℕ). Has p me.0) (sym mine) has
 
-  none' : unmet g x (part_of_view g (part_of g x) me.0) ≡ None
-  none' = subst (λ (p : ℕ). unmet g x (part_of_view g p me.0) ≡ None) (sym mine) none
+  none' : unmet_rule g x (part_of_view g (part_of g x) me.0) ≡ None
+  none' = subst (λ (p : ℕ). unmet_rule g x (part_of_view g p me.0) ≡ None) (sym mine) none
 
   pub root_rule : (key : Setting) → key ≡ g → (slots id word : ℕ)
-      → word ≡ index_of g (touched g x (part_of_view g (root g) me.0))
+      → word ≡ index_of g (word_of_event g x (part_of_view g (root g) me.0))
       → Allows (Kept key) slots id me word (left_by g x (part_of_view g (root g) me.0)) (Grows key x me)
   root_rule key same slots id word at = subst
       (λ (p : ℕ). Allows (Kept key) slots id me word (left_by g x (part_of_view g p me.0)) (Grows key x me)) mine
       (event_allowed g setting me x has' none' key same slots id word (at
-      ∙ ap (λ (p : ℕ). index_of g (touched g x (part_of_view g p me.0))) (sym mine)))
+      ∙ ap (λ (p : ℕ). index_of g (word_of_event g x (part_of_view g p me.0))) (sym mine)))
 
   module _ (key : Setting) (same : key ≡ g) (seen : ℕ) (after : Mine) (told : Grows key x me seen after) where
-    pub root_grown : after.0 ≡ grown (root g) (step_of x seen) me.0
-    root_grown = told.0 ∙ ap (λ (p : ℕ). grown p (step_of x seen) me.0) (ap (λ (h : Setting). part_of h x) same ∙ mine)
+    pub root_grown : after.0 ≡ grow_view (root g) (step_of x seen) me.0
+    root_grown = told.0
+        ∙ ap (λ (p : ℕ). grow_view p (step_of x seen) me.0) (ap (λ (h : Setting). part_of h x) same ∙ mine)
 
     pub root_stepped : Stepped g (step_of x seen) me.0
     root_stepped = subst (λ (h : Setting). Stepped h (step_of x seen) me.0) same told.1
 
 -- what is noted is noted
-noted_twice : (x : Event) (n : ℕ) → noted x n ≡ noted x (noted x n)
+noted_twice : (x : Event) (n : ℕ) → word_to_note x n ≡ word_to_note x (word_to_note x n)
 noted_twice (Put e) n = refl
 noted_twice (Take e) n = refl
 noted_twice (Ack e) n = refl
@@ -97,7 +98,7 @@ noted_twice End n = refl
 
 module _ (i : Inside) (keeps : IsRoot i.setting.value i.seat.me.0 i.state) (x : Event)
     (mine : part_of i.setting.value x ≡ root i.setting.value) (own : is_of_root i.setting.value x ≡ true)
-    (none : unmet i.setting.value x (part_of_view i.setting.value (root i.setting.value) i.seat.me.0) ≡ None) where
+    (none : unmet_rule i.setting.value x (part_of_view i.setting.value (root i.setting.value) i.seat.me.0) ≡ None) where
   abbrev g : Setting
   g = i.setting.value
 
@@ -108,29 +109,30 @@ module _ (i : Inside) (keeps : IsRoot i.setting.value i.seat.me.0 i.state) (x : 
     stepped : Stepped g (step_of x n) i.seat.me.0
     stepped = root_stepped g keeps.setting i.seat.me keeps.has x mine none key same n after told
 
-    grew : after.0 ≡ grown (root g) (step_of x n) i.seat.me.0
+    grew : after.0 ≡ grow_view (root g) (step_of x n) i.seat.me.0
     grew = root_grown g keeps.setting i.seat.me keeps.has x mine none key same n after told
 
     -- it is the part in that log
     in_log : s ≡ part_in g stepped.log (root g)
-    in_log = ap (part_by g (opened g)) (stepped.agrees (root g) (did_in (root g) i.seat.me.0) keeps.has)
+    in_log = ap (part_by g (opening_part g)) (stepped.agrees (root g) (did_in (root g) i.seat.me.0) keeps.has)
         ∙ sym (by_history g stepped.log (root g))
 
-    fits : FitsRoot g s x (noted x n)
+    fits : FitsRoot g s x (word_to_note x n)
     fits =
         let log = stepped.log in
-        let none' : unmet g x (part_in g log (root g)) ≡ None = subst (λ (b : Part). unmet g x b ≡ None) in_log none in
+        let none' : unmet_rule g x (part_in g log (root g))
+        ≡ None = subst (λ (b : Part). unmet_rule g x b ≡ None) in_log none in
         subst (λ (z : Part × ℕ). FitsRoot g z.0 x z.1) (λ j. (sym in_log j, sym stepped.legal.1.1 j))
         (root_fits g keeps.setting.game keeps.setting.some_ring log stepped.legal.0 x own none')
 
-    pub may_make : SomeRoot i.state (λ h t. RootCanDo h t x (noted x n))
+    pub may_make : SomeRoot i.state (λ h t. RootCanDo h t x (word_to_note x n))
     may_make = (g, s, keeps.stands, (own, none, fits))
 
     longer : (did_in (root g) after.0 ≡ did_in (root g) i.seat.me.0 ++ step_of x n ∷ [])
         × (find (stopper g) after.0.parts ≡ find (stopper g) i.seat.me.0.parts)
     longer = root_record g (step_of x n) i.seat.me.0 after.0 keeps.has grew
 
-    module _ (state : Root) (reply : Reply) (makes : RootMakes i.state state x (noted x n) reply) where
+    module _ (state : Root) (reply : Reply) (makes : RootMakes i.state state x (word_to_note x n) reply) where
       pub still_root : IsRoot g after.0 state
       still_root =
           let y : Step = step_of x n in record {
@@ -153,13 +155,13 @@ module _ (i : Inside) (keeps : IsRoot i.setting.value i.seat.me.0 i.state) (x : 
         net = record { table = table; setting = g };
         did = did_in (root g) after.0;
         stopper_did = find (stopper g) after.0.parts;
-      }) x (noted x n)
+      }) x (word_to_note x n)
       makes_event = subst (λ (k : RootKnown). MakesEvent k
           (record {
             net = record { table = table; setting = g };
             did = did_in (root g) after.0;
             stopper_did = find (stopper g) after.0.parts;
-          }) x (noted x n)) view_is record {
+          }) x (word_to_note x n)) view_is record {
             record_is = λ j. record {
               net = record { table = table_is j; setting = g };
               did = longer.0 j;
@@ -169,17 +171,17 @@ module _ (i : Inside) (keeps : IsRoot i.setting.value i.seat.me.0 i.state) (x : 
             noted_is = noted_twice x n;
           }
 
-      pub replies : (state : Root) (reply : Reply) → RootMakes i.state state x (noted x n) reply
+      pub replies : (state : Root) (reply : Reply) → RootMakes i.state state x (word_to_note x n) reply
           → Replies old (record {
             net = record { table = table; setting = g };
             did = did_in (root g) after.0;
             stopper_did = find (stopper g) after.0.parts;
           }) x reply
       replies state reply makes = record {
-        seen = noted x n;
+        seen = word_to_note x n;
         made = makes_event;
         reply_is = (makes g s keeps.stands (own, none, fits)).1
-            ∙ ap (λ (k : RootKnown). reply_of k.net.setting x (noted x n) (root_part k)) view_is;
+            ∙ ap (λ (k : RootKnown). reply_of k.net.setting x (word_to_note x n) (root_part k)) view_is;
       }
 
 -- ---- a settle of a root edge
@@ -192,7 +194,7 @@ module _ (i : Inside) (keeps : IsRoot i.setting.value i.seat.me.0 i.state) (v ed
   pub settle_own : is_of_root i.setting.value (Settle edge) ≡ true
   settle_own = le-leb (graph_edges i.setting.value) edge (omega arith)
 
-  pub settle_due : unmet i.setting.value (Settle edge) (part_of_view i.setting.value (root i.setting.value) i.seat.me.0) ≡ None
+  pub settle_due : unmet_rule i.setting.value (Settle edge) (part_of_view i.setting.value (root i.setting.value) i.seat.me.0) ≡ None
   settle_due = met_rules i.setting.value (Settle edge) (part_of_view i.setting.value (root i.setting.value) i.seat.me.0)
       (omega arith)
 
@@ -223,7 +225,8 @@ abbrev pub noted_over : operation.Act → ℕ → ℕ
 noted_over (Do.Put e cell value) n = 0
 noted_over _ n = n
 
-pub noted_is : (g : Setting) (s : Part) (x : Event) → IsFeeding g x → (n : ℕ) → noted x n ≡ noted_over (act_of g x s) n
+pub noted_is : (g : Setting) (s : Part) (x : Event) → IsFeeding g x → (n : ℕ)
+    → word_to_note x n ≡ noted_over (act_of g x s) n
 noted_is g s (Clear e) past n = refl
 noted_is g s (Put e) past n = refl
 noted_is g s (Feed e k) past n = refl
@@ -241,11 +244,11 @@ module _ (g : Setting) (me : Mine) (x : Event) (act : operation.Act) (due : IsDu
   abbrev part : Part
   part = part_of_view g (root g) me.0
 
-  pub noted_here : (n : ℕ) → noted x n ≡ noted_over act n
+  pub noted_here : (n : ℕ) → word_to_note x n ≡ noted_over act n
   noted_here n = noted_is g part x due.feeding n ∙ ap (λ (a : operation.Act). noted_over a n) (sym due.needed)
 
   -- the word of the operation is that of the event
-  over_word : (y : Event) → IsFeeding g y → word_of 0 (act_of g y part) ≡ touched g y part
+  over_word : (y : Event) → IsFeeding g y → word_of 0 (act_of g y part) ≡ word_of_event g y part
   over_word (Clear e) past = refl
   over_word (Put e) past = refl
   over_word (Feed e k) past = refl
@@ -274,7 +277,7 @@ module _ (g : Setting) (me : Mine) (x : Event) (act : operation.Act) (due : IsDu
   over_left (Seal e) z n = absurd z
   over_left (Read v) z n = absurd z
 
-  word_is : word_of 0 act ≡ touched g x part
+  word_is : word_of 0 act ≡ word_of_event g x part
   word_is = ap (word_of 0) due.needed ∙ over_word x due.feeding
 
   pub feeding_word : IsWord g (word_of 0 act)
@@ -301,7 +304,7 @@ module _ (g : Setting) (me : Mine) (x : Event) (act : operation.Act) (due : IsDu
       let told : Grows key x me ≡ (λ n. Grows key x me value) =
       (λ j n after. let step : step_of x n ≡ step_of x value =
       (λ k. saw x ((noted_here n ∙ zero n ∙ sym (noted_here value ∙ zero value)) k)) in
-      ((after.0 ≡ grown (part_of key x) (step j) me.0) × Stepped key (step j) me.0 × (after.1 ≡ me.1))) in
+      ((after.0 ≡ grow_view (part_of key x) (step j) me.0) × Stepped key (step j) me.0 × (after.1 ≡ me.1))) in
       subst (λ (f : ℕ → Mine → Type 0). Allows (Kept key) slots id me word (left_over act) f) told
       (feeding_rule key same slots id word at)
 
@@ -359,7 +362,7 @@ does_after old now after x seen events made more =
 
 pub root_step : (r : RootKnown) (y : Step)
     → root_part (root_after r (y ∷ [])) ≡ does r.net.setting y (root_part r)
-root_step r y = part_push r.net.setting (opened r.net.setting) r.did y
+root_step r y = part_push r.net.setting (opening_part r.net.setting) r.did y
 
 -- as a net opens nothing is held
 pub holds_first : (net : NetId) (stopper_did : Option (List Step)) → HoldsNothing (new_root net stopper_did)
@@ -391,7 +394,7 @@ held_clear i seen e o = by_test (eqb i e)
 pub stays_over : (old now : RootKnown) (events : List Event) → DoesMore old now events → has_ended old ≡ true
     → has_ended now ≡ true
 stays_over old now events more on = ap has_ended more.record_is
-    ∙ ap (λ (s : Part). s.ended) (part_append old.net.setting (opened old.net.setting) old.did more.steps)
+    ∙ ap (λ (s : Part). s.ended) (part_append old.net.setting (opening_part old.net.setting) old.did more.steps)
     ∙ ended_by old.net.setting more.steps (root_part old) on
 
 pub over_by_end : (old now : RootKnown) (seen : ℕ) → MakesEvent old now End seen → has_ended now ≡ true
@@ -405,18 +408,19 @@ module _ (i : Inside) (keeps : IsRoot i.setting.value i.seat.me.0 i.state) (view
   own_part : stopper i.setting.value ≢ root i.setting.value
   own_part e = omega arith
 
-  root_still : find (root i.setting.value) (joined i.seat.me.0 view).parts
+  root_still : find (root i.setting.value) (join_views i.seat.me.0 view).parts
       ≡ find (root i.setting.value) i.seat.me.0.parts
   root_still = joined_else (stopper i.setting.value) (root i.setting.value) i.seat.me.0 view alone_is own_part
 
-  pub takes_back : IsRoot i.setting.value (joined i.seat.me.0 view) i.state
+  pub takes_back : IsRoot i.setting.value (join_views i.seat.me.0 view) i.state
   takes_back =
       let g : Setting = i.setting.value in
-      let same : did_in (root g) i.seat.me.0 ≡ did_in (root g) (joined i.seat.me.0 view) =
+      let same : did_in (root g) i.seat.me.0 ≡ did_in (root g) (join_views i.seat.me.0 view) =
       sym (ap steps_or_none root_still) in record {
         setting = keeps.setting;
         has = root_still ∙ keeps.has ∙ ap Some same;
-        stands = subst (λ (did : List Step). RootStandsFor g (part_by g (opened g) did) i.state) same keeps.stands;
+        stands = subst
+            (λ (did : List Step). RootStandsFor g (part_by g (opening_part g) did) i.state) same keeps.stands;
         log = keeps.log;
         legal = keeps.legal;
         in_log = sym same ∙ keeps.in_log;
@@ -424,7 +428,7 @@ module _ (i : Inside) (keeps : IsRoot i.setting.value i.seat.me.0 i.state) (view
 
   pub has_both : (old : RootKnown) → the_view i ≡ old → (table : TableId) → table ≡ i.seat.table_id
       → (did : List Step) → did ≡ did_in (stopper i.setting.value) view → (after : View)
-      → after ≡ joined i.seat.me.0 view
+      → after ≡ join_views i.seat.me.0 view
       → record {
         net = record { table = table; setting = i.setting.value };
         did = did_in (root i.setting.value) after;

@@ -11,24 +11,24 @@ use prog.Atomic.{either}
 use Rattle.atomic_table.specs.Table.{State, Me, Act, Valid, keeps, carried_after, stepped, Allows}
 use Rattle.atomic_table.proofs.Lists.{at_set, set_else}
 use Rattle.chip_graph.proofs.SumLemmas.{cond_yes, cond_no}
-use Rattle.chip_link.specs.Words.{exchanged}
+use Rattle.chip_link.specs.Words.{word_after_exchange}
 use Rattle.chip_part.specs.Setting.{Setting, IsSetting}
 use Rattle.chip_part.specs.declared.act.Act as operation
 use Rattle.chip_part.specs.declared.act.Act.TheVariants as Do
 use Rattle.chip_part.specs.Acting.{act_of, event_of}
 use Rattle.chip_actor.specs.Medium.{IsDueBy}
 use Rattle.chip_core.specs.Core.{Log, Step, Event, Take, Ack, Fire, Clear, Claim, Put, Halt, Settle, Seal, Read, Feed}
-use Rattle.chip_core.specs.Core.{End, Part, opened, unmet, part_of, sees, Fits}
+use Rattle.chip_core.specs.Core.{End, Part, opening_part, unmet_rule, part_of, sees, Fits}
 use Rattle.chip_core.specs.Histories.{done_by, part_by}
-use Rattle.chip_core.specs.Words.{Word, of_edge, of_acks, of_cell, of_vertex, IsWord, halt_bits, touched, left_by}
-use Rattle.chip_core.specs.Words.{noted, IsShown, IsLeft, acting}
+use Rattle.chip_core.specs.Words.{Word, of_edge, of_acks, of_cell, of_vertex, IsWord, halt_bits, word_of_event, left_by}
+use Rattle.chip_core.specs.Words.{word_to_note, IsShown, IsLeft, acting_part}
 use Rattle.chip_part.proofs.EdgeLemmas.{tail_root}
 use Rattle.chip_part.proofs.RuleLemmas.{rules_met}
 use Rattle.chip_part.specs.Steps.{saw}
 use Rattle.chip_core.proofs.ReachingLemmas.{by_history}
 use Rattle.chip_core.proofs.ShowingLemmas.{word_for, word_there, finds, words_go_on}
 use Rattle.chip_net.specs.Layout.{index_of, value_in}
-use Rattle.chip_net.specs.Views.{View, find, grow, grown, did_in, Has, part_of_view}
+use Rattle.chip_net.specs.Views.{View, find, grow, grow_view, did_in, Has, part_of_view}
 use Rattle.chip_net.specs.Rule.{Kept, step_of, Grows}
 use Rattle.chip_net.proofs.LayingLemmas.{written_here, written_else}
 use Rattle.chip_net.proofs.ViewingLemmas.{some_is, set_there, find_here, find_else}
@@ -51,14 +51,14 @@ module _ (g : Setting) (s : State (Unit {0}) View) (kept : Kept g s) (id p : ℕ
         (λ z. other (sym mine ∙ z))
 
     pub stepped_keeps : length words ≡ length s.words → IsShown g (x ∷ kept.log) (value_in g words) → Fits g kept.log x
-        → Kept g record { words = words; homes = s.homes; views = set s.views id (grown p x v) }
+        → Kept g record { words = words; homes = s.homes; views = set s.views id (grow_view p x v) }
     stepped_keeps same_length shown fits = record {
       log = x ∷ kept.log;
       owner = kept.owner;
       setting = kept.setting;
       wide = same_length ∙ kept.wide;
       each_part = λ j u there q d found. ⊎_elim
-          (λ (z : (j ≡ id) × (grown p x v ≡ u)).
+          (λ (z : (j ≡ id) × (grow_view p x v ≡ u)).
           let now : find q (grow p x v.parts) ≡ Some d = subst (λ (w : View). find q w.parts ≡ Some d) (sym z.1) found
           in
           dite (ℕ_discrete p q)
@@ -79,16 +79,16 @@ module _ (g : Setting) (s : State (Unit {0}) View) (kept : Kept g s) (id p : ℕ
           let own = kept.each_part id v at p did has in
           let other : p ≢ q = λ e. z.0 (sym old.0 ∙ ap kept.owner (sym e) ∙ own.0) in
           (old.0, old.1 ∙ sym (same_still q other)))
-          (at_set s.views id j (grown p x v) u there);
+          (at_set s.views id j (grow_view p x v) u there);
       there = λ q l.
           let here_of = kept.there q l in
           dite (ℕ_discrete (kept.owner q) id)
           (λ own.
           let same : v ≡ here_of.0 = some-injective _ _ (sym at ∙ ap (get_elem? s.views) (sym own) ∙ here_of.1) in
-          let here : get_elem? (set s.views id (grown p x v)) (kept.owner q) ≡ some (grown p x v) =
-          ap (get_elem? (set s.views id (grown p x v))) own ∙ set_there s.views id v (grown p x v) at in
+          let here : get_elem? (set s.views id (grow_view p x v)) (kept.owner q) ≡ some (grow_view p x v) =
+          ap (get_elem? (set s.views id (grow_view p x v))) own ∙ set_there s.views id v (grow_view p x v) at in
           let was : find q v.parts ≡ Some (done_by g q kept.log) = ap (λ (u : View). find q u.parts) same ∙ here_of.2 in (
-            grown p x v,
+            grow_view p x v,
             here,
             dite (ℕ_discrete p q)
                 (λ e. subst (λ (n : ℕ). find n (grow p x v.parts) ≡ Some (done_by g n (x ∷ kept.log))) e
@@ -99,7 +99,7 @@ module _ (g : Setting) (s : State (Unit {0}) View) (kept : Kept g s) (id p : ℕ
           ))
           (λ other. (
             here_of.0,
-            set_else s.views id (kept.owner q) (grown p x v) other ∙ here_of.1,
+            set_else s.views id (kept.owner q) (grow_view p x v) other ∙ here_of.1,
             here_of.2
                 ∙ sym (ap Some (same_still q
                 (λ e. other (ap kept.owner (sym e) ∙ (kept.each_part id v at p did has).0)))),
@@ -110,26 +110,26 @@ module _ (g : Setting) (s : State (Unit {0}) View) (kept : Kept g s) (id p : ℕ
 
 -- whatever the event, whose rules are met: the rule of the table is kept, and the part did it
 module _ (g : Setting) (slots id : ℕ) (me : Mine) (x : Event) (did : List Step) (has : find (part_of g x) me.0.parts
-    ≡ Some did) (none : unmet g x (part_by g (opened g) did) ≡ None) where
+    ≡ Some did) (none : unmet_rule g x (part_by g (opening_part g) did) ≡ None) where
   abbrev s : Part
-  s = part_by g (opened g) did
+  s = part_by g (opening_part g) did
 
-  pub allowed : Allows (Kept g) slots id me (index_of g (touched g x s)) (left_by g x s) (Grows g x me)
+  pub allowed : Allows (Kept g) slots id me (index_of g (word_of_event g x s)) (left_by g x s) (Grows g x me)
   allowed table kept homes at few =
       let p : ℕ = part_of g x in
       let log : Log = kept.log in
       let is : did ≡ done_by g p log = (kept.each_part id me.0 at p did has).1 in
-      let part_is : s ≡ acting g log x = ap (part_by g (opened g)) is ∙ sym (by_history g log p) in
-      let a : Part = acting g log x in
-      let may : unmet g x a ≡ None = subst (λ (b : Part). unmet g x b ≡ None) part_is none in
+      let part_is : s ≡ acting_part g log x = ap (part_by g (opening_part g)) is ∙ sym (by_history g log p) in
+      let a : Part = acting_part g log x in
+      let may : unmet_rule g x a ≡ None = subst (λ (b : Part). unmet_rule g x b ≡ None) part_is none in
       let game = kept.setting.game in
       let ring = kept.setting.some_ring in
       let value : Word → ℕ = value_in g table.words in
-      let q : Word = touched g x a in
+      let q : Word = word_of_event g x a in
       let valid : IsWord g q = word_there g game ring log kept.legal value kept.shown x may in
       let n : ℕ = get_or table.words (index_of g q) 0 in
       let new : List ℕ = set table.words (index_of g q) (left_by g x a n) in
-      let found : noted x n ≡ sees g log x = finds g game ring log kept.legal value kept.shown x may in
+      let found : word_to_note x n ≡ sees g log x = finds g game ring log kept.legal value kept.shown x may in
       let left : IsLeft g log x value (value_in g new) =
       record {
         here = written_here g table.words kept.wide q valid (left_by g x a n);
@@ -138,11 +138,11 @@ module _ (g : Setting) (slots id : ℕ) (me : Mine) (x : Event) (did : List Step
       let shown : IsShown g (step_of x n ∷ log) (value_in g new) =
       subst (λ (k : ℕ). IsShown g (saw x k ∷ log) (value_in g new)) (sym found)
       (words_go_on g game ring log kept.legal value (value_in g new) kept.shown x may left) in
-      subst (λ (b : Part). let i : ℕ = index_of g (touched g x b) in (w : View) × (c : Act (Unit {0}))
+      subst (λ (b : Part). let i : ℕ = index_of g (word_of_event g x b) in (w : View) × (c : Act (Unit {0}))
       × Valid table.homes me.1 c × Kept g (stepped table i (left_by g x b (get_or table.words i 0)) id me.1 w c)
       × Grows g x me (get_or table.words i 0) (w, carried_after me.1 c))
       (sym part_is) (
-        grown p (step_of x n) me.0,
+        grow_view p (step_of x n) me.0,
         keeps,
         tt,
         stepped_keeps g table kept id p me.0 did (step_of x n) new at has refl
@@ -184,7 +184,7 @@ left_over (Do.Ack e count) n = (n + count) % 2 ^ 64
 left_over Do.End n = n
 
 -- the two ways to say what an exchange leaves
-pub one_exchange : (expected new n : ℕ) → exchanged expected new n ≡ either (n == expected) new n
+pub one_exchange : (expected new n : ℕ) → word_after_exchange expected new n ≡ either (n == expected) new n
 one_exchange expected new n = by_test (n == expected)
   where
     by_test : (b : Bool) → cond b new n ≡ either b new n
@@ -193,21 +193,21 @@ one_exchange expected new n = by_test (n == expected)
 
 module _ (g : Setting) (slots id : ℕ) (me : Mine) (v : ℕ) (did : List Step) (has : find v me.0.parts ≡ Some did) where
   abbrev part : Part
-  part = part_by g (opened g) did
+  part = part_by g (opening_part g) did
 
   AllowsAct : Event → operation.Act → Type 0
   AllowsAct x act = Allows (Kept g) slots id me (index_of g (word_of v act)) (left_over act) (Grows g x me)
 
-  allowed_for : (x : Event) → part_of g x ≡ v → unmet g x part ≡ None
-      → Allows (Kept g) slots id me (index_of g (touched g x part)) (left_by g x part) (Grows g x me)
+  allowed_for : (x : Event) → part_of g x ≡ v → unmet_rule g x part ≡ None
+      → Allows (Kept g) slots id me (index_of g (word_of_event g x part)) (left_by g x part) (Grows g x me)
   allowed_for x mine none = allowed g slots id me x did (subst (λ (p : ℕ). find p me.0.parts ≡ Some did) (sym mine) has)
       none
 
   -- no vertex feeds
-  not_fed : (e k : ℕ) → v < g.game.graph.vertices → part_of g (Feed e k) ≡ v → unmet g (Feed e k) part ≡ None → ⊥
+  not_fed : (e k : ℕ) → v < g.game.graph.vertices → part_of g (Feed e k) ≡ v → unmet_rule g (Feed e k) part ≡ None → ⊥
   not_fed e k l mine none = let at = tail_root g e (rules_met g (Feed e k) part none).0 in absurd (omega arith)
 
-  by_event : (x : Event) → v < g.game.graph.vertices → part_of g x ≡ v → unmet g x part ≡ None
+  by_event : (x : Event) → v < g.game.graph.vertices → part_of g x ≡ v → unmet_rule g x part ≡ None
       → AllowsAct x (act_of g x part)
   unfolding AllowsAct
   by_event (Take e) l mine none = allowed_for (Take e) mine none
@@ -230,7 +230,7 @@ module _ (g : Setting) (slots id : ℕ) (me : Mine) (v : ℕ) (did : List Step) 
   by_event (Feed e k) l mine none = absurd (not_fed e k l mine none)
   by_event End l mine none = absurd (omega arith)
 
-  word_by_event : IsSetting g → (x : Event) → v < g.game.graph.vertices → part_of g x ≡ v → unmet g x part ≡ None
+  word_by_event : IsSetting g → (x : Event) → v < g.game.graph.vertices → part_of g x ≡ v → unmet_rule g x part ≡ None
       → IsWord g (word_of v (act_of g x part))
   word_by_event setting (Take e) l mine none = word_for g setting.game.graph_fits.some_vertex setting.some_ring (Take e) part none
   word_by_event setting (Ack e) l mine none = word_for g setting.game.graph_fits.some_vertex setting.some_ring (Ack e) part none
@@ -259,9 +259,9 @@ module _ (g : Setting) (slots id : ℕ) (me : Mine) (v : ℕ) (did : List Step) 
 -- ---- an event of the root or the stopper, as a call of the table makes it
 
 module _ (g : Setting) (setting : IsSetting g) (me : Mine) (x : Event) (has : Has (part_of g x) me.0)
-    (none : unmet g x (part_of_view g (part_of g x) me.0) ≡ None) where
+    (none : unmet_rule g x (part_of_view g (part_of g x) me.0) ≡ None) where
   pub event_allowed : (key : Setting) → key ≡ g → (slots id word : ℕ)
-      → word ≡ index_of g (touched g x (part_of_view g (part_of g x) me.0))
+      → word ≡ index_of g (word_of_event g x (part_of_view g (part_of g x) me.0))
       → Allows (Kept key) slots id me word (left_by g x (part_of_view g (part_of g x) me.0)) (Grows key x me)
   event_allowed key same slots id word at =
       subst (λ (z : Setting × ℕ). Allows (Kept z.0) slots id me z.1 (left_by g x (part_of_view g (part_of g x) me.0))

@@ -13,7 +13,7 @@ use Rattle.chip_part.specs.Part.{all_fed}
 use Rattle.chip_part.specs.Steps.{link_after, saw}
 use Rattle.chip_part.specs.declared.reply.Reply.TheVariants.{Done, Full}
 use Rattle.chip_part.proofs.RuleLemmas.{met_rules}
-use Rattle.chip_core.specs.Core.{Step, Clear, Put, Feed, Part, Out, opened, does, unmet}
+use Rattle.chip_core.specs.Core.{Step, Clear, Put, Feed, Part, Out, opening_part, does, unmet_rule}
 use Rattle.chip_net.specs.Roots.{RootKnown, root_part, root_after, has_ended, all_given, IsDueForRoot}
 use Rattle.chip_net.specs.Roots.{MakesEvent, HoldsNothing, Feeds, LooksInVain}
 use Rattle.chip_net.proofs.ViewingLemmas.{part_append}
@@ -85,7 +85,7 @@ module _ (r : RootKnown) (vertex e count : ℕ) (inside : vertex < r.net.setting
         (λ v. sum (sent_counts (s.out (root_edge g v)).link))
         (λ v l. ap sum (sent_clear e (root_edge g v) (s.out (root_edge g v))))
 
-    feed_met : unmet g (Feed e count) s1 ≡ None
+    feed_met : unmet_rule g (Feed e count) s1 ≡ None
     feed_met = met_rules g (Feed e count) s1 (
       past,
       below,
@@ -96,7 +96,7 @@ module _ (r : RootKnown) (vertex e count : ℕ) (inside : vertex < r.net.setting
     )
 
     feed_due : IsDueForRoot (root_after r (look ∷ [])) (Feed e count)
-    feed_due = (past, subst (λ (t : Part). unmet g (Feed e count) t ≡ None) (sym (root_step r look)) feed_met)
+    feed_due = (past, subst (λ (t : Part). unmet_rule g (Feed e count) t ≡ None) (sym (root_step r look)) feed_met)
 
     module _ (r1 : RootKnown) (seen1 : ℕ) (made1 : MakesEvent r r1 (Clear e) seen1) (zero : seen1 ≡ 0) where
       first : r1 ≡ root_after r (look ∷ [])
@@ -122,7 +122,7 @@ module _ (r : RootKnown) (vertex e count : ℕ) (inside : vertex < r.net.setting
         s2 = does g feed s1
 
         part2 : root_part (root_after r (look ∷ feed ∷ [])) ≡ s2
-        part2 = part_append g (opened g) r.did (look ∷ feed ∷ [])
+        part2 = part_append g (opening_part g) r.did (look ∷ feed ∷ [])
 
         claimed : (s2.out e).link.held ≡ Some count
         claimed = ap (λ (t : Tail). t.held)
@@ -132,7 +132,7 @@ module _ (r : RootKnown) (vertex e count : ℕ) (inside : vertex < r.net.setting
         pub due3 : IsDueForRoot r2 (Put e)
         due3 = subst (λ (k : RootKnown). IsDueForRoot k (Put e)) (sym second) (
           past,
-          subst (λ (t : Part). unmet g (Put e) t ≡ None) (sym part2)
+          subst (λ (t : Part). unmet_rule g (Put e) t ≡ None) (sym part2)
               (met_rules g (Put e) s2 (below, (count, claimed))),
         )
 
@@ -161,7 +161,7 @@ module _ (r : RootKnown) (vertex e count : ℕ) (inside : vertex < r.net.setting
 
           pub free3 : HoldsNothing r3
           free3 = subst HoldsNothing (sym third) (λ v l. ap (λ (t : Part). (t.out (root_edge g v)).link.held)
-              (part_append g (opened g) r.did (look ∷ feed ∷ put ∷ [])) ∙ holds3 v l)
+              (part_append g (opening_part g) r.did (look ∷ feed ∷ put ∷ [])) ∙ holds3 v l)
 
           pub feeds : (place : ℕ) → place ≡ claims_of (s.out e).link → Feeds r r3 vertex count place
           feeds place place_is = record {

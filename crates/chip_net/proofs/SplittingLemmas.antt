@@ -13,7 +13,8 @@ use Rattle.chip_graph.proofs.SumLemmas.{cond_yes, cond_no}
 use Rattle.chip_core.specs.Core.{Step}
 use Rattle.chip_core.specs.Histories.{done_by}
 use Rattle.chip_part.specs.Setting.{Setting}
-use Rattle.chip_net.specs.Views.{View, find, did_in, drop_part, only, without, alone, IsAlone, joined, no_parts}
+use Rattle.chip_net.specs.Views.{View, find, did_in, drop_part, one_part, view_without, view_of_one, IsAlone}
+use Rattle.chip_net.specs.Views.{join_views, no_parts}
 use Rattle.chip_net.specs.Rule.{Kept}
 use Rattle.chip_net.proofs.ViewingLemmas.{none_some, some_is, set_there, dropped_here, dropped_else, only_finds}
 use Rattle.chip_net.proofs.ViewingLemmas.{alone_there, alone_else, joined_here, joined_else}
@@ -27,15 +28,15 @@ at_end (x ∷ xs) a b (suc j) e = ⊎_elim inl (λ (w : (j ≡ length xs) × (a 
     (at_end xs a b j e)
 
 pub hands_on : (g : Setting) (id p : ℕ) (v : View) (did : List Step) → find p v.parts ≡ Some did
-    → Splits (Kept g) id v (without p v) (alone p v)
+    → Splits (Kept g) id v (view_without p v) (view_of_one p v)
 hands_on g id p v did has s kept at = record {
   log = kept.log;
-  owner = λ q. cond (eqb q p) (length (set s.views id (without p v))) (kept.owner q);
+  owner = λ q. cond (eqb q p) (length (set s.views id (view_without p v))) (kept.owner q);
   setting = kept.setting;
   wide = kept.wide;
   each_part = λ j u there q d found. ⊎_elim
-      (λ (old : get_elem? (set s.views id (without p v)) j ≡ some u). ⊎_elim
-      (λ (z : (j ≡ id) × (without p v ≡ u)).
+      (λ (old : get_elem? (set s.views id (view_without p v)) j ≡ some u). ⊎_elim
+      (λ (z : (j ≡ id) × (view_without p v ≡ u)).
       let mine : find q (drop_part p v.parts) ≡ Some d = subst (λ (w : View). find q w.parts ≡ Some d) (sym z.1) found
       in
       let other : q ≢ p = λ e. none_some d (sym (dropped_here p v.parts)
@@ -47,35 +48,37 @@ hands_on g id p v did has s kept at = record {
       let mine = kept.each_part id v at p did has in
       let other : q ≢ p = λ e. z.0 (sym was.0 ∙ ap kept.owner e ∙ mine.0) in
       (cond_no q p _ _ other ∙ was.0, was.1))
-      (at_set s.views id j (without p v) u old))
-      (λ (new : (j ≡ length (set s.views id (without p v))) × (alone p v ≡ u)).
+      (at_set s.views id j (view_without p v) u old))
+      (λ (new : (j ≡ length (set s.views id (view_without p v))) × (view_of_one p v ≡ u)).
       let is = only_finds p q (find p v.parts) d (subst (λ (w : View). find q w.parts ≡ Some d) (sym new.1) found) in
       let mine = kept.each_part id v at p d is.1 in
       (cond_yes q p _ _ (sym is.0) ∙ sym new.0, mine.1 ∙ ap (λ (n : ℕ). done_by g n kept.log) is.0))
-      (at_end (set s.views id (without p v)) (alone p v) u j there);
+      (at_end (set s.views id (view_without p v)) (view_of_one p v) u j there);
   there = λ q l.
       let old = kept.there q l in
-      let now : List View = set s.views id (without p v) in
+      let now : List View = set s.views id (view_without p v) in
       dite (ℕ_discrete q p)
       (λ e.
       let mine : find p v.parts ≡ Some (done_by g p kept.log) = has ∙ ap Some (kept.each_part id v at p did has).1 in (
-        alone p v,
-        ap (get_elem? (now ++ alone p v ∷ [])) (cond_yes q p _ _ e) ∙ at_last now (alone p v) (length now) refl,
-        ap (λ (n : ℕ). find n (only p (find p v.parts))) e ∙ ap (λ (o : Option (List Step)). find p (only p o)) mine
+        view_of_one p v,
+        ap (get_elem? (now ++ view_of_one p v ∷ [])) (cond_yes q p _ _ e)
+            ∙ at_last now (view_of_one p v) (length now) refl,
+        ap (λ (n : ℕ). find n (one_part p (find p v.parts))) e
+            ∙ ap (λ (o : Option (List Step)). find p (one_part p o)) mine
             ∙ cond_yes p p _ _ refl ∙ ap (λ (n : ℕ). Some (done_by g n kept.log)) (sym e),
       ))
       (λ ne. dite (ℕ_discrete (kept.owner q) id)
       (λ mine.
       let same : v ≡ old.0 = some-injective _ _ (sym at ∙ ap (get_elem? s.views) (sym mine) ∙ old.1) in (
-        without p v,
-        ap (get_elem? (now ++ alone p v ∷ [])) (cond_no q p _ _ ne ∙ mine)
-            ∙ at_longer now (alone p v ∷ []) id (without p v) (set_there s.views id v (without p v) at),
+        view_without p v,
+        ap (get_elem? (now ++ view_of_one p v ∷ [])) (cond_no q p _ _ ne ∙ mine)
+            ∙ at_longer now (view_of_one p v ∷ []) id (view_without p v) (set_there s.views id v (view_without p v) at),
         dropped_else p q v.parts (λ e. ne (sym e)) ∙ ap (λ (u : View). find q u.parts) same ∙ old.2,
       ))
       (λ other. (
         old.0,
-        ap (get_elem? (now ++ alone p v ∷ [])) (cond_no q p _ _ ne)
-            ∙ at_longer now (alone p v ∷ []) (kept.owner q) old.0 (set_else s.views id (kept.owner q) (without p v) other
+        ap (get_elem? (now ++ view_of_one p v ∷ [])) (cond_no q p _ _ ne)
+            ∙ at_longer now (view_of_one p v ∷ []) (kept.owner q) old.0 (set_else s.views id (kept.owner q) (view_without p v) other
             ∙ old.1),
         old.2,
       )));
@@ -84,9 +87,9 @@ hands_on g id p v did has s kept at = record {
 }
 
 pub takes_in : (g : Setting) (id other p : ℕ) (v w : View) → IsAlone p w
-    → Joins (Kept g) id v other w (joined v w) no_parts
+    → Joins (Kept g) id v other w (join_views v w) no_parts
 takes_in g id other p v w alone_is s kept at apart there =
-    let both : View = joined v w in
+    let both : View = join_views v w in
     let between : List View = set s.views id both in
     let at_other : get_elem? s.views other ≡ some w = sym (set_else s.views id other both apart) ∙ there in
     let mine = kept.each_part other w at_other p (did_in p w) (alone_there p w alone_is) in

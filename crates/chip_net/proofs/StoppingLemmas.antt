@@ -6,7 +6,7 @@ use Rattle.std.specs.Prelude.{is_none}
 use Rattle.atomic_table.specs.Seated.{TableId}
 use Rattle.atomic_table.specs.Table.{Allows}
 use Rattle.chip_graph.proofs.SumLemmas.{cond_yes}
-use Rattle.chip_link.specs.Words.{edge_word, claims_in, sealed_in}
+use Rattle.chip_link.specs.Words.{edge_word, claims_in, is_sealed_in}
 use Rattle.chip_link.specs.WordLaws.{ReadsAs}
 use Rattle.chip_link.specs.Link.{claims_of, after_seal, IsSealedAt}
 use Rattle.chip_link.proofs.WordLawsLemmas.{read_edge}
@@ -14,7 +14,7 @@ use Rattle.chip_part.specs.Setting.{Setting, IsSetting}
 use Rattle.chip_part.specs.Edges.{stopper, graph_edges}
 use Rattle.chip_part.proofs.RuleLemmas.{met_rules}
 use Rattle.chip_part.specs.Steps.{saw}
-use Rattle.chip_core.specs.Core.{Step, Seal, Part, opened, part_in, out_in, stop_in, does}
+use Rattle.chip_core.specs.Core.{Step, Seal, Part, opening_part, part_in, out_in, stop_in, does}
 use Rattle.chip_core.specs.Histories.{part_by}
 use Rattle.chip_core.proofs.ReachingLemmas.{by_history}
 use Rattle.chip_core.proofs.LogLemmas.{edge_sound}
@@ -22,7 +22,7 @@ use Rattle.chip_core.proofs.NumberLemmas.{claims_most}
 use Rattle.chip_net.specs.declared.stopper.Stopper.TheInside.{Inside}
 use Rattle.chip_net.specs.declared.stopper.SealedAt.{SealedAt}
 use Rattle.chip_net.specs.contracts.stopper.Stopper.{the_view}
-use Rattle.chip_net.specs.Views.{grown, did_in, Has, part_of_view, IsAlone}
+use Rattle.chip_net.specs.Views.{grow_view, did_in, Has, part_of_view, IsAlone}
 use Rattle.chip_net.specs.Rule.{Kept, Stepped, Grows}
 use Rattle.chip_net.specs.Roots.{StopperKnown, Seals}
 use Rattle.chip_net.proofs.ViewingLemmas.{grown_has, grown_part, alone_there, grown_alone}
@@ -62,8 +62,8 @@ module _ (i : Inside) (keeps : IsAlone (stopper i.setting.value) i.seat.me.0 × 
     abbrev stepped : Stepped g x i.seat.me.0
     stepped = subst (λ (h : Setting). Stepped h x i.seat.me.0) same told.1
 
-    grew : after.0 ≡ grown (stopper g) x i.seat.me.0
-    grew = told.0 ∙ ap (λ (h : Setting). grown (stopper h) x i.seat.me.0) same
+    grew : after.0 ≡ grow_view (stopper g) x i.seat.me.0
+    grew = told.0 ∙ ap (λ (h : Setting). grow_view (stopper h) x i.seat.me.0) same
 
     longer : (did_in (stopper g) after.0 ≡ did_in (stopper g) i.seat.me.0 ++ x ∷ []) × Has (stopper g) after.0
     longer = grown_has (stopper g) x i.seat.me.0 after.0 has grew
@@ -73,7 +73,7 @@ module _ (i : Inside) (keeps : IsAlone (stopper i.setting.value) i.seat.me.0 × 
 
     -- it is the part in that log
     in_log : s ≡ part_in g stepped.log (stopper g)
-    in_log = ap (part_by g (opened g)) (stepped.agrees (stopper g) (did_in (stopper g) i.seat.me.0) has)
+    in_log = ap (part_by g (opening_part g)) (stepped.agrees (stopper g) (did_in (stopper g) i.seat.me.0) has)
         ∙ sym (by_history g stepped.log (stopper g))
 
     stop_is : stop_in g stepped.log edge ≡ s.stop edge
@@ -89,7 +89,7 @@ module _ (i : Inside) (keeps : IsAlone (stopper i.setting.value) i.seat.me.0 × 
     reads = let few = claims_most g setting.game setting.some_ring stepped.log stepped.legal.0 edge in
         read_edge seen claims (is_some (s.stop edge)) (omega arith) word_is
 
-    first_seal : not (sealed_in seen) ≡ is_none (s.stop edge)
+    first_seal : not (is_sealed_in seen) ≡ is_none (s.stop edge)
     first_seal = ap not reads.seal_is ∙ not_some (s.stop edge)
 
     count_seen : (does g x s).stop edge ≡ Some (claims_in seen)
@@ -100,7 +100,7 @@ module _ (i : Inside) (keeps : IsAlone (stopper i.setting.value) i.seat.me.0 × 
         reads.claims_are
 
     pub seals : (own : StopperKnown) → the_view i ≡ own → (table : TableId) → table ≡ i.seat.table_id
-        → (answer : SealedAt) → answer.count ≡ claims_in seen → answer.first ≡ not (sealed_in seen)
+        → (answer : SealedAt) → answer.count ≡ claims_in seen → answer.first ≡ not (is_sealed_in seen)
         → Seals own (record { net = record { table = table; setting = g }; did = did_in (stopper g) after.0 }) edge
         answer
     seals own view_is table table_is answer count first =

@@ -12,7 +12,7 @@ use Rattle.chip_part.specs.Kept.{KeepsPart}
 use Rattle.chip_part.proofs.TurnLemmas.{turns_bounded}
 use Rattle.chip_part.specs.declared.cursor.Cursor.TheVariants as At
 use Rattle.chip_part.specs.Steps.{saw}
-use Rattle.chip_core.specs.Core.{Step, Part, opened, does}
+use Rattle.chip_core.specs.Core.{Step, Part, opening_part, does}
 use Rattle.chip_core.specs.Histories.{part_by}
 use Rattle.chip_net.specs.Tokens.{NetId, ActorKnown, part_known, after_these, MakesStep, Holds, MakesTurnBy}
 use Rattle.chip_net.proofs.ViewingLemmas.{part_push}
@@ -29,7 +29,8 @@ serves first borrow here name now after act seen makes g v ds s held due =
     let began : ActorKnown = record { net = first.net; vertex = first.vertex; room = first.room; did = reverse ds } in
     let made : MakesStep began after act seen = subst (λ (k : ActorKnown). MakesStep k after act seen) held.now_is makes
     in
-    let part_same : part_known began ≡ s = ap (λ (h : Setting). part_by h (opened h) (reverse ds)) (sym held.setting_is)
+    let part_same : part_known began
+    ≡ s = ap (λ (h : Setting). part_by h (opening_part h) (reverse ds)) (sym held.setting_is)
     ∙ sym held.part_is in
     let step : Step = saw (event_of v act) seen in
     let more : reverse ds ++ saw (event_of first.vertex act) seen ∷ [] ≡ reverse (step ∷ ds) =
@@ -45,8 +46,8 @@ serves first borrow here name now after act seen makes g v ds s held due =
         vertex_is = held.vertex_is;
         now_is = made.record_is ∙ ap
             (λ (d : List Step). record { net = first.net; vertex = first.vertex; room = first.room; did = d }) more;
-        part_is = ap (does g step) held.part_is ∙ sym (part_push g (opened g) (reverse ds) step)
-            ∙ ap (part_by g (opened g)) (sym (reverse_more step ds));
+        part_is = ap (does g step) held.part_is ∙ sym (part_push g (opening_part g) (reverse ds) step)
+            ∙ ap (part_by g (opening_part g)) (sym (reverse_more step ds));
       };
     }
 
@@ -68,7 +69,7 @@ module _ (first hand : ActorKnown) (first_is : first ≡ hand) (borrow name : �
           room = (sym first_is i).room;
           did = sym twice i;
         };
-        part_is = ap (part_by hand.net.setting (opened hand.net.setting)) (sym twice);
+        part_is = ap (part_by hand.net.setting (opening_part hand.net.setting)) (sym twice);
       }
 
   pub may_turn : Meets (Holds first borrow here name hand) a (At.Take 0)
@@ -95,7 +96,7 @@ module _ (first hand : ActorKnown) (first_is : first ≡ hand) (borrow name : �
       ∙ (λ i. record { net = (first_is i).net; vertex = (first_is i).vertex; room = (first_is i).room; did = all i })
       in
       let part_is : made.1 ≡ part_known after = over.held.part_is
-      ∙ ap (part_by hand.net.setting (opened hand.net.setting)) all ∙ ap part_known (sym is) in
+      ∙ ap (part_by hand.net.setting (opening_part hand.net.setting)) all ∙ ap part_known (sym is) in
       let is_turn : turn hand.net.setting hand.vertex (part_known hand) more (part_known after) =
       subst (λ (z : ℕ × Part). turn hand.net.setting z.0 (part_known hand) more z.1)
       (λ i. (vertex i, part_is i)) over.is_turn in

@@ -11,7 +11,8 @@ use Rattle.chip_part.specs.declared.cause.Cause.TheVariants.{SealedEdge, FiringL
 use Rattle.chip_part.specs.Part.{refusals, cause, pending_of, is_legal}
 use Rattle.chip_part.specs.Steps.{link_after, halt_after}
 use Rattle.chip_core.specs.Core.{Log, Step, Event, Take, Ack, Fire, Clear, Claim, Put, Halt, Settle, Seal, Read, Feed}
-use Rattle.chip_core.specs.Core.{End, Part, Out, part_of, part_in, out_in, stop_in, opened, sees, IsLegalLog, stopper}
+use Rattle.chip_core.specs.Core.{End, Part, Out, part_of, part_in, out_in, stop_in, opening_part, sees, IsLegalLog}
+use Rattle.chip_core.specs.Core.{stopper}
 use Rattle.chip_core.specs.Core.{tail_of, all_edges}
 use Rattle.chip_core.specs.Histories.{done_by, part_by}
 use Rattle.chip_core.specs.Outcomes.{is_by_seal}
@@ -103,7 +104,7 @@ module _ (g : Setting) where
 
   -- so no edge is sealed
   no_stop : (log : Log) → done_by g (stopper g) log ≡ [] → (e : ℕ) → stop_in g log e ≡ None
-  no_stop log none e = ap (λ (s : Part). s.stop e) (by_history g log (stopper g) ∙ ap (part_by g (opened g)) none)
+  no_stop log none e = ap (λ (s : Part). s.stop e) (by_history g log (stopper g) ∙ ap (part_by g (opening_part g)) none)
 
   unsealed : (log : Log) → IsLegalLog g log → done_by g (stopper g) log ≡ [] → Unsealed log
   unfolding Unsealed

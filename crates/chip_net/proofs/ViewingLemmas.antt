@@ -12,10 +12,11 @@ use lib.ListN.{get_elem?}
 use Rattle.chip_graph.proofs.SumLemmas.{cond_yes, cond_no}
 use Rattle.chip_part.specs.Setting.{Setting}
 use Rattle.chip_part.proofs.PartLemmas.{stays_ended}
-use Rattle.chip_core.specs.Core.{Step, Part, opened, does}
+use Rattle.chip_core.specs.Core.{Step, Part, opening_part, does}
 use Rattle.chip_core.specs.Histories.{part_by}
-use Rattle.chip_net.specs.Views.{History, View, find, grow, grown, steps_or_none, did_in, Has, part_of_view, drop_part}
-use Rattle.chip_net.specs.Views.{only, alone, parts_below, IsAlone, joined}
+use Rattle.chip_net.specs.Views.{History, View, find, grow, grow_view, steps_or_none, did_in, Has, part_of_view}
+use Rattle.chip_net.specs.Views.{drop_part}
+use Rattle.chip_net.specs.Views.{one_part, view_of_one, parts_below, IsAlone, join_views}
 
 pub some_is : (a b : List Step) → Some a ≡ Some b → a ≡ b
 some_is a b e = cc
@@ -50,7 +51,7 @@ find_else p q x (y ∷ ys) ne = dite (ℕ_discrete y.part q)
     ∙ sym (cond_no y.part q (Some y.did) (find q ys) other))
 
 -- what a view has of the part that stepped
-pub grown_has : (p : ℕ) (x : Step) (v w : View) → Has p v → w ≡ grown p x v → (did_in p w ≡ did_in p v ++ x ∷ [])
+pub grown_has : (p : ℕ) (x : Step) (v w : View) → Has p v → w ≡ grow_view p x v → (did_in p w ≡ did_in p v ++ x ∷ [])
     × Has p w
 grown_has p x v w has is =
     let found : find p w.parts ≡ Some (did_in p v ++ x ∷ []) = ap (λ (u : View). find p u.parts) is
@@ -69,18 +70,18 @@ part_append g s [] ys = refl
 part_append g s (x ∷ xs) ys = part_append g (does g x s) xs ys
 
 -- and the state that its record leaves
-pub grown_part : (g : Setting) (p : ℕ) (x : Step) (v w : View) → Has p v → w ≡ grown p x v
+pub grown_part : (g : Setting) (p : ℕ) (x : Step) (v w : View) → Has p v → w ≡ grow_view p x v
     → part_of_view g p w ≡ does g x (part_of_view g p v)
-grown_part g p x v w has is = ap (part_by g (opened g)) (grown_has p x v w has is).0
-    ∙ part_push g (opened g) (did_in p v) x
+grown_part g p x v w has is = ap (part_by g (opening_part g)) (grown_has p x v w has is).0
+    ∙ part_push g (opening_part g) (did_in p v) x
 
 -- where no chips are fed the end of feeding is noted, whatever a part did
 pub ended_by : (g : Setting) (xs : List Step) (s : Part) → s.ended ≡ true → (part_by g s xs).ended ≡ true
 ended_by g [] s on = on
 ended_by g (x ∷ xs) s on = ended_by g xs (does g x s) (stays_ended g x.event s.ended on)
 
-pub unfed_ended : (g : Setting) → g.fed ≡ false → (xs : List Step) → (part_by g (opened g) xs).ended ≡ true
-unfed_ended g off xs = ended_by g xs (opened g) (ap not off)
+pub unfed_ended : (g : Setting) → g.fed ≡ false → (xs : List Step) → (part_by g (opening_part g) xs).ended ≡ true
+unfed_ended g off xs = ended_by g xs (opening_part g) (ap not off)
 
 -- ---- handing on
 
@@ -100,14 +101,15 @@ dropped_else p q (y ∷ ys) ne = dite (ℕ_discrete y.part p)
     ∙ ap (cond (eqb y.part q) (Some y.did)) (dropped_else p q ys ne))
 
 -- what the new view finds is the part that was handed on
-pub only_finds : (p q : ℕ) (found : Option (List Step)) (d : List Step) → find q (only p found) ≡ Some d
+pub only_finds : (p q : ℕ) (found : Option (List Step)) (d : List Step) → find q (one_part p found) ≡ Some d
     → (p ≡ q) × (found ≡ Some d)
 only_finds p q None d e = absurd (none_some d e)
 only_finds p q (Some did) d e = dite (ℕ_discrete p q) (λ same. (same, sym (cond_yes p q (Some did) None same) ∙ e))
     (λ other. absurd (none_some d (sym (cond_no p q (Some did) None other) ∙ e)))
 
-pub alone_has : (p : ℕ) (v : View) (did : List Step) → find p v.parts ≡ Some did → find p (alone p v).parts ≡ Some did
-alone_has p v did has = ap (λ (o : Option (List Step)). find p (only p o)) has ∙ cond_yes p p (Some did) None refl
+pub alone_has : (p : ℕ) (v : View) (did : List Step) → find p v.parts ≡ Some did
+    → find p (view_of_one p v).parts ≡ Some did
+alone_has p v did has = ap (λ (o : Option (List Step)). find p (one_part p o)) has ∙ cond_yes p p (Some did) None refl
 
 -- ---- a part that stands alone
 
@@ -125,21 +127,21 @@ alone_by p v did is =
 pub did_alone : (p : ℕ) (v : View) (did : List Step) → v.parts ≡ record { part = p; did = did } ∷ [] → did ≡ did_in p v
 did_alone p v did is = sym (ap steps_or_none (ap (find p) is ∙ cond_yes p p (Some did) None refl))
 
-pub handed_alone : (p : ℕ) (v : View) (did : List Step) → find p v.parts ≡ Some did → IsAlone p (alone p v)
-handed_alone p v did has = alone_by p (alone p v) did (ap (only p) has)
+pub handed_alone : (p : ℕ) (v : View) (did : List Step) → find p v.parts ≡ Some did → IsAlone p (view_of_one p v)
+handed_alone p v did has = alone_by p (view_of_one p v) did (ap (one_part p) has)
 
-pub grown_alone : (p : ℕ) (x : Step) (v w : View) → IsAlone p v → w ≡ grown p x v → IsAlone p w
+pub grown_alone : (p : ℕ) (x : Step) (v w : View) → IsAlone p v → w ≡ grow_view p x v → IsAlone p w
 grown_alone p x v w alone is = alone_by p w (did_in p v ++ x ∷ []) (ap (λ (u : View). u.parts) is
     ∙ ap (grow p x) alone
     ∙ ap (λ (d : List Step). record { part = p; did = d } ∷ [])
     (cond_yes p p (did_in p v ++ x ∷ []) (did_in p v) refl))
 
 -- what a view finds that took in such a part
-pub joined_here : (p : ℕ) (v w : View) → IsAlone p w → find p (joined v w).parts ≡ Some (did_in p w)
+pub joined_here : (p : ℕ) (v w : View) → IsAlone p w → find p (join_views v w).parts ≡ Some (did_in p w)
 joined_here p v w is = ap (λ (l : List History). find p (l ++ v.parts)) is
     ∙ cond_yes p p (Some (did_in p w)) (find p v.parts) refl
 
-pub joined_else : (p q : ℕ) (v w : View) → IsAlone p w → p ≢ q → find q (joined v w).parts ≡ find q v.parts
+pub joined_else : (p q : ℕ) (v w : View) → IsAlone p w → p ≢ q → find q (join_views v w).parts ≡ find q v.parts
 joined_else p q v w is other = ap (λ (l : List History). find q (l ++ v.parts)) is
     ∙ cond_no p q (Some (did_in p w)) (find q v.parts) other
 

@@ -3,13 +3,13 @@ use Rattle.std.specs.Prelude.{◌≡◌, ℕ, suc, ◌<◌, ◌-◌, Bool, false
 use Rattle.std.specs.Prelude.{slice_index, Some}
 use Rattle.chip_graph.specs.ChipGame.{ChipGame}
 use Rattle.chip_graph.specs.More.{HasMore}
-use Rattle.chip_graph.specs.Sums.{picked}
+use Rattle.chip_graph.specs.Sums.{filter_below}
 use Rattle.chip_sequence.specs.declared.outcome.Outcome.{Outcome}
 use Rattle.chip_sequence.specs.Outcomes.{IsOutcome}
 use Rattle.chip_sequence.specs.Counted.{IsAfter}
 use Rattle.chip_sequence.specs.Sequence.{position_after, counts, IsFiringSequence, HasEnded}
 use Rattle.chip_sequence.specs.Play.{IsPlayed}
-use Rattle.chip_link.specs.Words.{fired_in, halted_in, by_limit_in}
+use Rattle.chip_link.specs.Words.{fired_in, is_halted_in, is_by_limit_in}
 use Rattle.chip_part.specs.Edges.{root, stopper}
 use Rattle.chip_part.specs.Steps.{saw}
 use Rattle.chip_core.specs.Core.{Log, Step, Read, part_in, word_of_part, IsLegalLog, IsClosed}
@@ -67,18 +67,18 @@ tally_after fired halted by_limit t = record {
 }
 
 -- the limit halted the vertex, by its word
-abbrev pub limit_at : List ℕ → ℕ → Bool
-limit_at words v = by_limit_in (slice_index words v)
+abbrev pub is_by_limit_at : List ℕ → ℕ → Bool
+is_by_limit_at words v = is_by_limit_in (slice_index words v)
 
 -- a seal did
-abbrev pub seal_at : List ℕ → ℕ → Bool
-seal_at words v = halted_in (slice_index words v) && not (by_limit_in (slice_index words v))
+abbrev pub is_by_seal_at : List ℕ → ℕ → Bool
+is_by_seal_at words v = is_halted_in (slice_index words v) && not (is_by_limit_in (slice_index words v))
 
 -- what these words say, one for each vertex: the counts, and who halted, each by its cause
 pub record AreRead (words counted limited stopped : List ℕ) : Type 0 where
   pub fired : counted ≡ map fired_in words
-  pub over : limited ≡ picked (limit_at words) (length words)
-  pub sealed : stopped ≡ picked (seal_at words) (length words)
+  pub over : limited ≡ filter_below (is_by_limit_at words) (length words)
+  pub sealed : stopped ≡ filter_below (is_by_seal_at words) (length words)
 
 -- so many reads were made, and this is their tally
 pub record IsReading (old now : RootKnown) (tally : TallyState) (count : ℕ) : Type 0 where

@@ -14,11 +14,12 @@ use Rattle.chip_part.specs.Acting.{act_of}
 use Rattle.chip_root.specs.Root.{Root, RootStandsFor}
 use Rattle.chip_part.specs.Acting.{FitsRoot}
 use Rattle.chip_part.specs.Steps.{saw}
-use Rattle.chip_core.specs.Core.{Log, Step, Event, Clear, Put, Settle, Seal, Feed, End, Reply, Part, opened, unmet}
+use Rattle.chip_core.specs.Core.{Log, Step, Event, Clear, Put, Settle, Seal, Feed, End, Reply, Part, opening_part}
+use Rattle.chip_core.specs.Core.{unmet_rule}
 use Rattle.chip_core.specs.Core.{reply_of, IsLegalLog}
 use Rattle.chip_core.specs.Histories.{done_by, part_by}
 use Rattle.chip_core.specs.Positions.{fed_in}
-use Rattle.chip_core.specs.Words.{noted}
+use Rattle.chip_core.specs.Words.{word_to_note}
 use Rattle.chip_net.specs.Views.{View, Has, did_in, part_of_view}
 use Rattle.chip_net.specs.Tokens.{NetId}
 use Rattle.chip_net.specs.declared.poll.FeedFault.{FeedFault}
@@ -35,7 +36,7 @@ pub record RootKnown : Type 0 where
 
 -- the part of the core that it has
 abbrev pub root_part : RootKnown → Part
-root_part r = part_by r.net.setting (opened r.net.setting) r.did
+root_part r = part_by r.net.setting (opening_part r.net.setting) r.did
 
 -- how many of its messages aren't acknowledged, as far as it settled
 abbrev pub root_deficit : RootKnown → ℕ
@@ -95,14 +96,14 @@ IsFeeding g _ = ⊥
 
 -- such an event, whose rules are met
 abbrev pub IsDueForRoot : RootKnown → Event → Type 0
-IsDueForRoot r x = IsFeeding r.net.setting x × (unmet r.net.setting x (root_part r) ≡ None)
+IsDueForRoot r x = IsFeeding r.net.setting x × (unmet_rule r.net.setting x (root_part r) ≡ None)
 
 -- the same by the root's view, with the operation that the event needs
 pub record IsDueInView (g : Setting) (view : View) (x : Event) (act : Act) : Type 0 where
   pub setting : IsSetting g
   pub has : Has (root g) view
   pub feeding : IsFeeding g x
-  pub met : unmet g x (part_of_view g (root g) view) ≡ None
+  pub met : unmet_rule g x (part_of_view g (root g) view) ≡ None
   pub needed : act ≡ act_of g x (part_of_view g (root g) view)
 
 -- one event was made and saw this
@@ -110,7 +111,7 @@ pub record MakesEvent (old new : RootKnown) (x : Event) (seen : ℕ) : Type 0 wh
   pub record_is : new ≡ root_after old (saw x seen ∷ [])
   pub fits : FitsRoot old.net.setting (root_part old) x seen
   -- a store finds nothing
-  pub noted_is : seen ≡ noted x seen
+  pub noted_is : seen ≡ word_to_note x seen
 
 -- one event was made, and this is the reply to it
 pub record Replies (old new : RootKnown) (x : Event) (reply : Reply) : Type 0 where
@@ -221,7 +222,7 @@ new_stopper net = record { net = net; did = [] }
 
 -- the part of the core that it has
 abbrev pub stopper_part : StopperKnown → Part
-stopper_part s = part_by s.net.setting (opened s.net.setting) s.did
+stopper_part s = part_by s.net.setting (opening_part s.net.setting) s.did
 
 -- the stopper sealed the edge once more: the count is what the first seal of it saw, and this was the first where there
 -- was none

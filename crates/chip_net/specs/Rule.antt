@@ -8,9 +8,9 @@ use Rattle.chip_part.specs.Setting.{Setting, IsSetting, setting_of}
 use Rattle.chip_part.specs.Steps.{saw}
 use Rattle.chip_core.specs.Core.{Log, Step, Event, part_of, IsLegalLog}
 use Rattle.chip_core.specs.Histories.{done_by}
-use Rattle.chip_core.specs.Words.{noted, IsShown}
+use Rattle.chip_core.specs.Words.{word_to_note, IsShown}
 use Rattle.chip_net.specs.Layout.{word_count, value_in}
-use Rattle.chip_net.specs.Views.{View, find, grown}
+use Rattle.chip_net.specs.Views.{View, find, grow_view}
 
 -- the rule
 pub record Kept (g : Setting) (s : State (Unit {0}) View) : Type 0 where
@@ -32,7 +32,7 @@ pub record Kept (g : Setting) (s : State (Unit {0}) View) : Type 0 where
 
 -- an event, with what is noted as seen where its operation found n
 abbrev pub step_of : Event → ℕ → Step
-step_of x n = saw x (noted x n)
+step_of x n = saw x (word_to_note x n)
 
 -- each part of the view did what it did in this log
 abbrev pub AgreesWithLog : Setting → Log → View → Type 0
@@ -46,7 +46,7 @@ pub record Stepped (g : Setting) (x : Step) (v : View) : Type 0 where
 
 -- what a step tells: the part that acts did this more, the core makes the event there, and no slot was taken
 abbrev pub Grows : Setting → Event → Me (Unit {0}) View → ℕ → Me (Unit {0}) View → Type 0
-Grows g x before seen after = (after.0 ≡ grown (part_of g x) (step_of x seen) before.0)
+Grows g x before seen after = (after.0 ≡ grow_view (part_of g x) (step_of x seen) before.0)
     × Stepped g (step_of x seen) before.0
     × (after.1 ≡ before.1)
 

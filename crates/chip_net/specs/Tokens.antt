@@ -12,7 +12,7 @@ use Rattle.chip_part.specs.Turn.{turn, most_steps}
 use Rattle.chip_part.specs.Counting.{work_of}
 use Rattle.chip_part.specs.Steps.{saw}
 use Rattle.chip_actor.specs.Medium.{IsDueBy}
-use Rattle.chip_core.specs.Core.{Step, Part, opened}
+use Rattle.chip_core.specs.Core.{Step, Part, opening_part}
 use Rattle.chip_core.specs.Histories.{part_by}
 use Rattle.chip_net.specs.Rule.{no_setting}
 use Rattle.chip_net.specs.Views.{View, IsAlone, did_in}
@@ -34,7 +34,7 @@ pub record ActorKnown : Type 0 where
 
 -- the part of the core that it has
 abbrev pub part_known : ActorKnown → Part
-part_known a = part_by a.net.setting (opened a.net.setting) a.did
+part_known a = part_by a.net.setting (opening_part a.net.setting) a.did
 
 -- the actor of a vertex that has done nothing yet
 abbrev pub newcomer : NetId → ℕ → ℕ → ActorKnown
@@ -97,7 +97,7 @@ pub record Holds (first : ActorKnown) (borrow : ℕ) (here : NetId) (name : ℕ)
   pub setting_is : g ≡ first.net.setting
   pub vertex_is : v ≡ first.vertex
   pub now_is : now ≡ record { net = first.net; vertex = first.vertex; room = first.room; did = reverse ds }
-  pub part_is : s ≡ part_by g (opened g) (reverse ds)
+  pub part_is : s ≡ part_by g (opening_part g) (reverse ds)
 
 -- ---- a turn
 

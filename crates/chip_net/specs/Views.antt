@@ -1,7 +1,7 @@
 -- What the seats of a net know: a finite map from parts to what each of them did.
 use Rattle.std.specs.Prelude.{◌≡◌, ℕ, zero, suc, ◌+◌, ◌==◌, if◌then◌else◌, List, [], ◌∷◌, ◌++◌, Option, Some, None}
 use Rattle.chip_part.specs.Setting.{Setting}
-use Rattle.chip_core.specs.Core.{Step, Part, opened}
+use Rattle.chip_core.specs.Core.{Step, Part, opening_part}
 use Rattle.chip_core.specs.Histories.{part_by}
 pub use Rattle.chip_net.specs.declared.views.History.{History}
 pub use Rattle.chip_net.specs.declared.views.View.{View}
@@ -16,8 +16,8 @@ abbrev pub grow : ℕ → Step → List History → List History
 grow p x [] = []
 grow p x (y ∷ ys) = record { part = y.part; did = if y.part == p then y.did ++ x ∷ [] else y.did } ∷ grow p x ys
 
-abbrev pub grown : ℕ → Step → View → View
-grown p x v = record { parts = grow p x v.parts }
+abbrev pub grow_view : ℕ → Step → View → View
+grow_view p x v = record { parts = grow p x v.parts }
 
 abbrev pub steps_or_none : Option (List Step) → List Step
 steps_or_none None = []
@@ -33,31 +33,31 @@ Has p v = find p v.parts ≡ Some (did_in p v)
 
 -- the part p of the core, as what it did leaves it
 abbrev pub part_of_view : Setting → ℕ → View → Part
-part_of_view g p v = part_by g (opened g) (did_in p v)
+part_of_view g p v = part_by g (opening_part g) (did_in p v)
 
 -- what is left where the part p is handed on
 abbrev pub drop_part : ℕ → List History → List History
 drop_part p [] = []
 drop_part p (y ∷ ys) = if y.part == p then drop_part p ys else y ∷ drop_part p ys
 
-abbrev pub without : ℕ → View → View
-without p v = record { parts = drop_part p v.parts }
+abbrev pub view_without : ℕ → View → View
+view_without p v = record { parts = drop_part p v.parts }
 
 -- what is handed on
-abbrev pub only : ℕ → Option (List Step) → List History
-only p None = []
-only p (Some did) = record { part = p; did = did } ∷ []
+abbrev pub one_part : ℕ → Option (List Step) → List History
+one_part p None = []
+one_part p (Some did) = record { part = p; did = did } ∷ []
 
-abbrev pub alone : ℕ → View → View
-alone p v = record { parts = only p (find p v.parts) }
+abbrev pub view_of_one : ℕ → View → View
+view_of_one p v = record { parts = one_part p (find p v.parts) }
 
 -- the part stands there, and no other does
 abbrev pub IsAlone : ℕ → View → Type 0
 IsAlone p v = v.parts ≡ record { part = p; did = did_in p v } ∷ []
 
 -- the parts of another view are taken in
-abbrev pub joined : View → View → View
-joined v w = record { parts = w.parts ++ v.parts }
+abbrev pub join_views : View → View → View
+join_views v w = record { parts = w.parts ++ v.parts }
 
 -- a view without parts
 abbrev pub no_parts : View

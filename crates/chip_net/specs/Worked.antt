@@ -8,7 +8,7 @@ use Rattle.chip_core.specs.Core.{Take, Ack, Fire, Clear, Put, Settle, Read, Feed
 use Rattle.chip_core.specs.Positions.{fed_in}
 use Rattle.chip_core.specs.Words.{of_edge, of_acks, of_cell, of_vertex}
 use Rattle.chip_net.specs.Layout.{index_of, word_count}
-use Rattle.chip_net.specs.Views.{View, find, grown, without, alone, joined}
+use Rattle.chip_net.specs.Views.{View, find, grow_view, view_without, view_of_one, join_views}
 use Rattle.chip_net.specs.Opening.{first_value}
 use Rattle.chip_net.specs.Traces.{rows_of}
 use Rattle.chip_net.specs.Roots.{root_settles, settles_from, feed_steps}
@@ -38,12 +38,13 @@ two_parts = record { parts = record { part = 1; did = [] } ∷ record { part = 0
 
 abbrev pub PartHandedOn : Type 0
 PartHandedOn =
-    (find 0 (grown 0 (saw (Fire 0 2) 0) two_parts).parts ≡ Some (saw (Take 4) 4 ∷ saw (Fire 0 2) 0 ∷ []))
-    × (find 1 (grown 0 (saw (Fire 0 2) 0) two_parts).parts ≡ Some [])
-    × (find 0 (without 0 two_parts).parts ≡ None) × (find 1 (without 0 two_parts).parts ≡ Some [])
-    × (find 0 (alone 0 two_parts).parts ≡ Some (saw (Take 4) 4 ∷ [])) × (find 1 (alone 0 two_parts).parts ≡ None)
-    × (find 0 (joined (without 0 two_parts) (alone 0 two_parts)).parts ≡ Some (saw (Take 4) 4 ∷ []))
-    × (find 1 (joined (without 0 two_parts) (alone 0 two_parts)).parts ≡ Some [])
+    (find 0 (grow_view 0 (saw (Fire 0 2) 0) two_parts).parts ≡ Some (saw (Take 4) 4 ∷ saw (Fire 0 2) 0 ∷ []))
+    × (find 1 (grow_view 0 (saw (Fire 0 2) 0) two_parts).parts ≡ Some [])
+    × (find 0 (view_without 0 two_parts).parts ≡ None) × (find 1 (view_without 0 two_parts).parts ≡ Some [])
+    × (find 0 (view_of_one 0 two_parts).parts ≡ Some (saw (Take 4) 4 ∷ []))
+    × (find 1 (view_of_one 0 two_parts).parts ≡ None)
+    × (find 0 (join_views (view_without 0 two_parts) (view_of_one 0 two_parts)).parts ≡ Some (saw (Take 4) 4 ∷ []))
+    × (find 1 (join_views (view_without 0 two_parts) (view_of_one 0 two_parts)).parts ≡ Some [])
 
 -- an empty cell and an acknowledgement make no row
 abbrev pub RowsOfATurn : Type 0

@@ -1,7 +1,7 @@
 ghost use Rattle.std.specs.Prelude.{◌≡◌, ℕ, ◌<◌, ◌≤◌, nat_lt, length, take, IfOk};
 ghost use Rattle.std.specs.Vec.{vec_capacity};
 ghost use Rattle.chip_actor.specs.Actor.{StandsFor};
-ghost use Rattle.chip_part.specs.Part.{opened};
+ghost use Rattle.chip_part.specs.Part.{opening_part};
 ghost use Rattle.chip_net.specs.Traces.{rows_of};
 ghost use Rattle.chip_net.specs.Tokens.{ActorKnown, part_known, MakesTurn, MakesTurnBy};
 ghost use Rattle.chip_net.specs.Views.{find};

@@ -3,7 +3,7 @@ ghost use Rattle.std.specs.Prelude.{◌≡◌, ℕ, [], ◌<◌, ◌+◌, ◌%�
 ghost use prog.Atomic.{either};
 ghost use Rattle.atomic_table.specs.Table.{Allows, Splits, Joins};
 ghost use Rattle.chip_net.specs.Rule.{Kept, Grows, Looks};
-ghost use Rattle.chip_net.specs.Views.{without, alone, joined, no_parts};
+ghost use Rattle.chip_net.specs.Views.{view_without, view_of_one, join_views, no_parts};
 
 use crate::rule::{Grow, HandOn, Handing, Look, Looking, Making, PartSeat, TakeIn, Words};
 use chip_link::Event;
@@ -111,9 +111,9 @@ pub(crate) fn exchange<J: Making>(
 pub(crate) fn hand_on<J: Handing>(table: &Words, seat: &mut PartSeat, _part: u64) -> PartSeat
     requires place { (seat.old.table_id ≡ table.now.shared.table_id) × (0 < table.now.shared.table_id.words) }
     requires rule { Splits (Kept table.now.shared.key.value) seat.old.id seat.old.me.0
-        (without J.part seat.old.me.0) (alone J.part seat.old.me.0) }
-    ensures kept { (seat.new.table_id ≡ seat.old.table_id) × (seat.new.me.0 ≡ without J.part seat.old.me.0) }
-    ensures given { (result.table_id ≡ seat.old.table_id) × (result.me ≡ (alone J.part seat.old.me.0, [])) }
+        (view_without J.part seat.old.me.0) (view_of_one J.part seat.old.me.0) }
+    ensures kept { (seat.new.table_id ≡ seat.old.table_id) × (seat.new.me.0 ≡ view_without J.part seat.old.me.0) }
+    ensures given { (result.table_id ≡ seat.old.table_id) × (result.me ≡ (view_of_one J.part seat.old.me.0, [])) }
 {
     table.shared.split_seat::<HandOn<J>>(seat)
 }
@@ -123,9 +123,9 @@ pub(crate) fn take_in(table: &Words, seat: &mut PartSeat, other: PartSeat)
     requires place { (seat.old.table_id ≡ table.now.shared.table_id) × (0 < table.now.shared.table_id.words) }
     requires other { (other.table_id ≡ table.now.shared.table_id) × (other.me.1 ≡ []) }
     requires rule { Joins (Kept table.now.shared.key.value) seat.old.id seat.old.me.0 other.id other.me.0
-        (joined seat.old.me.0 other.me.0) no_parts }
+        (join_views seat.old.me.0 other.me.0) no_parts }
     ensures same { seat.new.table_id ≡ seat.old.table_id }
-    ensures joined { seat.new.me ≡ (joined seat.old.me.0 other.me.0, seat.old.me.1) }
+    ensures joined { seat.new.me ≡ (join_views seat.old.me.0 other.me.0, seat.old.me.1) }
 {
     table.shared.join_seat::<TakeIn>(seat, other);
 }

@@ -37,7 +37,7 @@ impl Net {
     ghost use Rattle.chip_net.specs.Layout.{word_count};
     ghost use Rattle.chip_net.specs.Opening.{AreOpening};
     ghost use Rattle.chip_net.specs.Rule.{Looked, Left};
-    ghost use Rattle.chip_net.specs.Views.{find, Has, opening_view, without, IsAlone, joined};
+    ghost use Rattle.chip_net.specs.Views.{find, Has, opening_view, view_without, IsAlone, join_views};
 
     /// A net with these words, and the seat that has every part.
     pub(crate) fn of_words(
@@ -77,7 +77,7 @@ impl Net {
     pub(crate) fn take_out(&self, seat: &mut PartSeat, part: u64) -> PartSeat
         requires seat { seat.old.table_id ≡ self.now.table }
         requires part { Has part seat.old.me.0 }
-        ensures kept { (seat.new.table_id ≡ seat.old.table_id) × (seat.new.me.0 ≡ without part seat.old.me.0) }
+        ensures kept { (seat.new.table_id ≡ seat.old.table_id) × (seat.new.me.0 ≡ view_without part seat.old.me.0) }
         ensures given { (result.table_id ≡ seat.old.table_id)
             × (find part result.me.0.parts ≡ find part seat.old.me.0.parts) }
         ensures alone { IsAlone part result.me.0 × (result.me.1 ≡ []) }
@@ -113,7 +113,7 @@ impl Net {
         requires other { (other.table_id ≡ self.now.table) × (other.me.1 ≡ []) }
         requires part { (part : ℕ) × IsAlone part other.me.0 }
         ensures same { seat.new.table_id ≡ seat.old.table_id }
-        ensures joined { seat.new.me ≡ (joined seat.old.me.0 other.me.0, seat.old.me.1) }
+        ensures joined { seat.new.me ≡ (join_views seat.old.me.0 other.me.0, seat.old.me.1) }
     {
         calls::take_in(&self.words, seat, other);
     }

@@ -4,8 +4,8 @@ ghost use Rattle.std.specs.Prelude.{◌≡◌, ℕ, ◌-◌, ◌<◌, ◌≤◌,
 ghost use Rattle.chip_part.specs.Setting.{IsSetting};
 ghost use Rattle.chip_part.specs.Edges.{root, stopper, root_edge};
 ghost use Rattle.chip_root.specs.Root.{RootStandsFor};
-ghost use Rattle.chip_core.specs.Core.{End, Settle, part_of, unmet};
-ghost use Rattle.chip_core.specs.Words.{noted, of_acks};
+ghost use Rattle.chip_core.specs.Core.{End, Settle, part_of, unmet_rule};
+ghost use Rattle.chip_core.specs.Words.{word_to_note, of_acks};
 ghost use Rattle.chip_net.specs.Layout.{index_of};
 ghost use Rattle.chip_net.specs.Rule.{Grows};
 ghost use Rattle.chip_net.specs.Views.{find};
@@ -188,7 +188,7 @@ fn operate(net: &Net, seat: &mut PartSeat, act: &Act, event: Event) -> u64
     requires table { seat.old.table_id ≡ net.now.table }
     requires due { IsDueInView net.now.setting seat.old.me.0 event act.now }
     ensures same { seat.new.table_id ≡ seat.old.table_id }
-    ensures told { (n : ℕ) × (result ≡ noted event n) × Grows net.now.setting event seat.old.me n seat.new.me }
+    ensures told { (n : ℕ) × (result ≡ word_to_note event n) × Grows net.now.setting event seat.old.me n seat.new.me }
 {
     let setting = net.setting();
     let words = net.words();

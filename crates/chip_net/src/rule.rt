@@ -72,20 +72,20 @@ pub(crate) struct HandOn<J> {
 }
 
 impl<J: Handing> Split<View> for HandOn<J> {
-    ghost use Rattle.chip_net.specs.Views.{without, alone};
+    ghost use Rattle.chip_net.specs.Views.{view_without, view_of_one};
 
-    ghost left = { without J.part };
+    ghost left = { view_without J.part };
 
-    ghost right = { alone J.part };
+    ghost right = { view_of_one J.part };
 }
 
 /// The parts of another seat come to this one.
 pub(crate) struct TakeIn;
 
 impl Join<View> for TakeIn {
-    ghost use Rattle.chip_net.specs.Views.{joined, no_parts};
+    ghost use Rattle.chip_net.specs.Views.{join_views, no_parts};
 
-    ghost both = { joined };
+    ghost both = { join_views };
 
     ghost spent = { no_parts };
 }

@@ -12,7 +12,7 @@ use Rattle.chip_part.specs.Turn.{Phase, nothing, either_phase, where_phase, and_
 use Rattle.chip_part.specs.Turn.{ins_of, outs_of, firing, may_fire, batch_of, putting, sending, sending_all}
 use Rattle.chip_part.specs.Turn.{after_clear_phase, after_claim_phase, acknowledging, acknowledging_parent}
 use Rattle.chip_part.specs.Turn.{last_acknowledgement, is_at_limit, most_steps}
-use Rattle.chip_part.specs.Cursor.{Cursor, left, out_at, claiming, storing, from_acknowledging, from_limit}
+use Rattle.chip_part.specs.Cursor.{Cursor, rest_of_turn, out_at, claiming, storing, from_acknowledging, from_limit}
 use Rattle.chip_part.specs.Cursor.{from_sending, from_refusal, from_putting, from_firing, from_settling, from_taking}
 use Rattle.chip_part.specs.Cursor.{IsUnderWay}
 use Rattle.chip_part.proofs.TurnLemmas.{turns_bounded}
@@ -108,7 +108,7 @@ module _ (g : Setting) (v : ℕ) where
       (from_settling g v 0) (total_each (λ e. one_step g v (Take e)) (λ e. total_step (Take e)) (drop place (ins_of g v)))
       (total_settling 0)
 
-  total_left : (cursor : Cursor) → Total (left g v cursor)
+  total_left : (cursor : Cursor) → Total (rest_of_turn g v cursor)
   total_left (At.Take place) = total_taking place
   total_left (At.Settle place) = total_settling place
   total_left At.Fire = total_firing

@@ -12,11 +12,11 @@ use Rattle.chip_part.specs.Part.{Part}
 use Rattle.chip_part.specs.declared.act.Act.{Act}
 use Rattle.chip_part.specs.declared.act.Act.TheVariants as Do
 use Rattle.chip_part.specs.Rules.{Event, Take, Ack, Fire, Clear, Claim, Put, Halt, Settle, Seal, Read, Feed, End}
-use Rattle.chip_part.specs.Rules.{unmet}
+use Rattle.chip_part.specs.Rules.{unmet_rule}
 use Rattle.chip_part.specs.Steps.{Step, part_of, does, saw}
 use Rattle.chip_part.specs.Acting.{act_of, event_of}
 use Rattle.chip_part.specs.Turn.{Phase, nothing, either_phase, where_phase, and_then, each_phase, turn}
-use Rattle.chip_part.specs.Cursor.{Cursor, left, fuel, GoesBy, IsDueAt, IsUnderWay, IsNext}
+use Rattle.chip_part.specs.Cursor.{Cursor, rest_of_turn, fuel, GoesBy, IsDueAt, IsUnderWay, IsNext}
 use Rattle.chip_part.proofs.EdgeLemmas.{tail_root}
 use Rattle.chip_part.proofs.RuleLemmas.{rules_met}
 
@@ -110,7 +110,7 @@ module _ (p : ℕ → Phase) (es : List ℕ) (q : Phase) where
 -- the turn stands at a later cursor as well, with nothing done
 pub record Passes (g : Setting) (v : ℕ) (s : Part) (cursor next : Cursor) : Type 0 where
   pub fewer : fuel g v next ≤ fuel g v cursor
-  pub rest : (ds : List Step) (after : Part) → left g v next s ds after → left g v cursor s ds after
+  pub rest : (ds : List Step) (after : Part) → rest_of_turn g v next s ds after → rest_of_turn g v cursor s ds after
 
 pub passes_due : (g : Setting) (v : ℕ) (s : Part) (cursor next : Cursor) → Passes g v s cursor next
     → (due : Option (Event × Cursor)) → IsDueAt g v s next due → IsDueAt g v s cursor due
@@ -127,7 +127,7 @@ passes_due g v s cursor next passes (Some due) goes = record {
 
 -- an operation of a vertex tells its event
 module _ (g : Setting) (v : ℕ) (vertex : v < g.game.graph.vertices) (s : Part) where
-  pub event_of_act : (x : Event) → part_of g x ≡ v → unmet g x s ≡ None → event_of v (act_of g x s) ≡ x
+  pub event_of_act : (x : Event) → part_of g x ≡ v → unmet_rule g x s ≡ None → event_of v (act_of g x s) ≡ x
   event_of_act (Take e) mine met = refl
   event_of_act (Ack e) mine met = refl
   event_of_act (Fire w k) mine met = ap (λ (n : ℕ). Fire n k) (sym mine)
@@ -170,14 +170,14 @@ module _ (g : Setting) (v : ℕ) (vertex : v < g.game.graph.vertices) (s : Part)
     pub is_next : (act : Act) → act ≡ act_of g x s → IsNext g v first done s cursor act next
     is_next act is =
         let told : event_of v act ≡ x = ap (event_of v) is ∙ event_of_act x goes.mine goes.met in
-        let all = subst (λ (y : Event). (part_of g y ≡ v) × (unmet g y s ≡ None) × (act ≡ act_of g y s)
+        let all = subst (λ (y : Event). (part_of g y ≡ v) × (unmet_rule g y s ≡ None) × (act ≡ act_of g y s)
         × ((seen : ℕ) → IsUnderWay g v first (done ++ saw y seen ∷ []) next
         (does g (saw y seen) s)))
         (sym told) (goes.mine, goes.met, is, under_way) in
         record { mine = all.0; met = all.1; needed = all.2; fewer = goes.fewer; goes_on = all.3 }
 
 -- a turn is over where nothing is left
-pub is_over : (g : Setting) (v : ℕ) (s : Part) (cursor : Cursor) → left g v cursor s [] s
+pub is_over : (g : Setting) (v : ℕ) (s : Part) (cursor : Cursor) → rest_of_turn g v cursor s [] s
     → (first : Part) (done : List Step) → IsUnderWay g v first done cursor s → turn g v first done s
 is_over g v s cursor over first done way = subst (λ (xs : List Step). turn g v first xs s) (append-nil done)
     (way.rest [] s over)

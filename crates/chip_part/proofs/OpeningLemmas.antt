@@ -15,7 +15,7 @@ use Rattle.chip_graph.proofs.SumLemmas.{sum_by_place}
 use Rattle.chip_graph.proofs.WalksLemmas.{degree_positive}
 use Rattle.chip_link.specs.Link.{claims_of, sent_counts}
 use Rattle.chip_part.specs.Edges.{graph_edges, all_edges, root_edge, tail_of, head_of, mult_of, start_of}
-use Rattle.chip_part.specs.Part.{Cause, opened, first_put, is_legal, all_fed}
+use Rattle.chip_part.specs.Part.{Cause, opening_part, first_put, is_legal, all_fed}
 use Rattle.chip_part.specs.Kept.{KeepsPart, opening_tail}
 use Rattle.chip_part.proofs.PartLemmas.{tail_inside}
 
@@ -36,7 +36,7 @@ module _ (g : Setting) where
   first_sent v = ap sum (append-nil (first_put g (root_edge g v))) ∙ first_sum v
 
   -- the chips of the start are those of the game
-  pub first_fed : IsGame g.game → all_fed g (opened g) ≡ sum g.game.start
+  pub first_fed : IsGame g.game → all_fed g (opening_part g) ≡ sum g.game.start
   first_fed game = sum_below_ext g.game.graph.vertices _ (start_of g) (λ v l. first_sent v)
       ∙ ap (λ (n : ℕ). sum_below n (start_of g)) (sym game.start_fits) ∙ sym (sum_by_place g.game.start)
 
@@ -46,7 +46,7 @@ module _ (g : Setting) where
   pub first_few : (e : ℕ) → e < graph_edges g → length (first_put g e) ≡ 0
   first_few e l = ap length (none_put e l)
 
-  pub opening_keeps : IsGame g.game → (p : ℕ) → KeepsPart g p (opened g)
+  pub opening_keeps : IsGame g.game → (p : ℕ) → KeepsPart g p (opening_part g)
   opening_keeps game p = record {
     outs = λ e at. record {
       all_made = λ l. (let a = ap sum (none_put e l) in let b = mul-zero (mult_of g e) in omega arith);
@@ -89,7 +89,7 @@ module _ (g : Setting) where
       none_cause : {c : Cause} → ◌≡◌ {A = Option Cause} None (Some c) → ⊥
       none_cause q = absurd (cc)
 
-      illegal : p < g.game.graph.vertices → is_legal g p (opened g) ≡ false
+      illegal : p < g.game.graph.vertices → is_legal g p (opening_part g) ≡ false
       illegal l = dite (ℕ_discrete p g.game.graph.sink)
           (λ e. ap (λ (b : Bool). not b && leb (degree g.game.graph p) 0) (eq-eqb p g.game.graph.sink e))
           (λ ne. and_right _ _ (lt-leb (degree g.game.graph p) 0

@@ -20,10 +20,10 @@ use Rattle.chip_link.specs.Link.{Tail, claims_of, sent_counts, after_clear, afte
 use Rattle.chip_detect.specs.Acknowledging.{is_parent, or_else}
 use Rattle.chip_part.specs.declared.cause.Cause.TheVariants.{SealedEdge, FiringLimit}
 use Rattle.chip_part.specs.Edges.{graph_edges, all_edges, root_edge, tail_of, head_of, mult_of, over_outs, over_ins}
-use Rattle.chip_part.specs.Part.{Cause, Part, is_running, owed, outstanding, may_ack, all_owed, pending_of, unput}
+use Rattle.chip_part.specs.Part.{Cause, Part, is_running, owed, outstanding, may_ack, all_owed, pending_of, unput_count}
 use Rattle.chip_part.specs.Part.{refusals, cause, is_legal, is_passive, deficit, all_fed}
 use Rattle.chip_part.specs.Rules.{Event, Take, Ack, Fire, Clear, Claim, Put, Halt, Settle, Seal, Read}
-use Rattle.chip_part.specs.Rules.{Feed, End, unmet}
+use Rattle.chip_part.specs.Rules.{Feed, End, unmet_rule}
 use Rattle.chip_part.specs.Steps.{part_of, settled_after, got_after, acked_after, halt_after, fired_after, saw}
 use Rattle.chip_part.specs.Steps.{parent_after, link_after, ended_after, does, Step}
 use Rattle.chip_part.proofs.RuleLemmas.{rules_met}
@@ -402,7 +402,7 @@ module _ (g : Setting) where
 
   -- a running vertex that is passive has nothing to do
   pub passive_parts : (v : ℕ) (s : Part) → is_passive g v s ≡ true → s.halt ≡ None
-      → (unput g v s ≡ 0) × (pending_of g v s ≡ 0) × (is_legal g v s ≡ false)
+      → (unput_count g v s ≡ 0) × (pending_of g v s ≡ 0) × (is_legal g v s ≡ false)
   passive_parts v s h none =
       let a = and_parts _ _ h in
       let run : is_running s.halt ≡ true = ap is_running none in
@@ -686,6 +686,6 @@ module _ (g : Setting) where
   }
 
   -- the part that makes an event keeps it
-  pub events_keep : (x : Step) (s : Part) → unmet g x.event s ≡ None → KeepsPart g (part_of g x.event) s
+  pub events_keep : (x : Step) (s : Part) → unmet_rule g x.event s ≡ None → KeepsPart g (part_of g x.event) s
       → KeepsPart g (part_of g x.event) (does g x s)
   events_keep x s may ok = part_kept x.event x.seen (part_of g x.event) s refl (rules_met g x.event s may) ok

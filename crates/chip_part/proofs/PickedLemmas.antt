@@ -13,7 +13,7 @@ use Rattle.std.proofs.Common.{eqb, eq-eqb}
 use Rattle.chip_graph.specs.Multigraph.{Multigraph, edge_at, edges_out, edges_in}
 use Rattle.chip_part.specs.Setting.{Setting}
 use Rattle.chip_part.specs.Edges.{graph_edges, root_edge, tail_of, head_of}
-use Rattle.chip_graph.specs.Sums.{picked}
+use Rattle.chip_graph.specs.Sums.{filter_below}
 use Rattle.chip_graph.proofs.PickLemmas.{All-picked}
 use Rattle.chip_graph.proofs.SumLemmas.{by_test, cond_true}
 use Rattle.chip_part.proofs.EdgeLemmas.{tail_graph, head_graph, head_root}
@@ -34,22 +34,23 @@ rises_push xs y rising below k l =
     let up = below k 0 (omega arith) in
     omega arith)
 
-pub picked_rises : (test : ℕ → Bool) (n : ℕ) → IsStrictlyIncreasing (picked test n)
+pub picked_rises : (test : ℕ → Bool) (n : ℕ) → IsStrictlyIncreasing (filter_below test n)
 picked_rises test zero = λ k l. absurd (omega arith)
 picked_rises test (suc n) = by_test (test n)
-    (λ is. subst (λ (t : Bool). IsStrictlyIncreasing (picked test n ++ cond t (n ∷ []) [])) (sym is)
-    (rises_push (picked test n) n (picked_rises test n) (All-picked test n n (omega arith))))
-    (λ is. subst (λ (t : Bool). IsStrictlyIncreasing (picked test n ++ cond t (n ∷ []) [])) (sym is)
-    (subst IsStrictlyIncreasing (sym (append-nil (picked test n))) (picked_rises test n)))
+    (λ is. subst (λ (t : Bool). IsStrictlyIncreasing (filter_below test n ++ cond t (n ∷ []) [])) (sym is)
+    (rises_push (filter_below test n) n (picked_rises test n) (All-picked test n n (omega arith))))
+    (λ is. subst (λ (t : Bool). IsStrictlyIncreasing (filter_below test n ++ cond t (n ∷ []) [])) (sym is)
+    (subst IsStrictlyIncreasing (sym (append-nil (filter_below test n))) (picked_rises test n)))
 
 -- a number that passes is there
-pub picked_has : (test : ℕ → Bool) (n e : ℕ) → e < n → test e ≡ true → Contains (picked test n) e
+pub picked_has : (test : ℕ → Bool) (n e : ℕ) → e < n → test e ≡ true → Contains (filter_below test n) e
 picked_has test zero e l on = absurd (omega arith)
 picked_has test (suc n) e l on = dite (ℕ_discrete e n)
-    (λ same. Contains-append_right (picked test n) (cond (test n) (n ∷ []) []) e
+    (λ same. Contains-append_right (filter_below test n) (cond (test n) (n ∷ []) []) e
     (subst (λ (xs : List ℕ). Contains xs e)
     (sym (cond_true (test n) (n ∷ []) [] (subst (λ (k : ℕ). test k ≡ true) same on))) (0, omega arith, sym same)))
-    (λ other. Contains-append_left (picked test n) (cond (test n) (n ∷ []) []) e (picked_has test n e (omega arith) on))
+    (λ other. Contains-append_left (filter_below test n) (cond (test n) (n ∷ []) []) e
+    (picked_has test n e (omega arith) on))
 
 -- the edges out of a vertex and into it
 pub outs_rise : (G : Multigraph) (v : ℕ) → IsStrictlyIncreasing (edges_out G v)
@@ -66,23 +67,23 @@ ins_rise G v =
     (omega arith) k d l in omega arith)
 
 -- what is there passes
-pub picked_passes : (test : ℕ → Bool) (n : ℕ) → All (λ e. test e ≡ true) (picked test n)
+pub picked_passes : (test : ℕ → Bool) (n : ℕ) → All (λ e. test e ≡ true) (filter_below test n)
 picked_passes test zero = All-nil (λ e. test e ≡ true)
 picked_passes test (suc n) = by_test (test n)
-    (λ is. subst (λ (t : Bool). All (λ e. test e ≡ true) (picked test n ++ cond t (n ∷ []) [])) (sym is)
-    (All-push (λ e. test e ≡ true) (picked test n) n (picked_passes test n) is))
-    (λ is. subst (λ (t : Bool). All (λ e. test e ≡ true) (picked test n ++ cond t (n ∷ []) [])) (sym is)
-    (subst (All (λ e. test e ≡ true)) (sym (append-nil (picked test n))) (picked_passes test n)))
+    (λ is. subst (λ (t : Bool). All (λ e. test e ≡ true) (filter_below test n ++ cond t (n ∷ []) [])) (sym is)
+    (All-push (λ e. test e ≡ true) (filter_below test n) n (picked_passes test n) is))
+    (λ is. subst (λ (t : Bool). All (λ e. test e ≡ true) (filter_below test n ++ cond t (n ∷ []) [])) (sym is)
+    (subst (All (λ e. test e ≡ true)) (sym (append-nil (filter_below test n))) (picked_passes test n)))
 
-pub length-picked : (test : ℕ → Bool) (n : ℕ) → length (picked test n) ≤ n
+pub length-picked : (test : ℕ → Bool) (n : ℕ) → length (filter_below test n) ≤ n
 length-picked test zero = omega arith
 length-picked test (suc n) =
     let before = length-picked test n in
     by_test (test n)
-    (λ is. let l = ap length (ap (λ (t : Bool). picked test n ++ cond t (n ∷ []) []) is) in
-    let m = length-append (picked test n) (n ∷ []) in omega arith)
-    (λ is. let l = ap length (ap (λ (t : Bool). picked test n ++ cond t (n ∷ []) []) is) in
-    let m = length-append (picked test n) [] in omega arith)
+    (λ is. let l = ap length (ap (λ (t : Bool). filter_below test n ++ cond t (n ∷ []) []) is) in
+    let m = length-append (filter_below test n) (n ∷ []) in omega arith)
+    (λ is. let l = ap length (ap (λ (t : Bool). filter_below test n ++ cond t (n ∷ []) []) is) in
+    let m = length-append (filter_below test n) [] in omega arith)
 
 -- the edges out of a vertex, and into it with its root edge, are all that have it as their tail or head
 pub among_new_outs : (g : Setting) (v : ℕ) → v < g.game.graph.vertices → (e : ℕ) → tail_of g e ≡ v

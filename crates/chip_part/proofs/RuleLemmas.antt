@@ -13,7 +13,7 @@ use Rattle.chip_graph.proofs.SumLemmas.{cond_true, cond_false}
 use Rattle.chip_part.specs.Edges.{graph_edges, all_edges}
 use Rattle.chip_part.proofs.EdgeLemmas.{graph_inside}
 use Rattle.chip_part.specs.Rules.{Event, Take, Ack, Fire, Clear, Claim, Put, Halt, Settle, Seal, Read, Rule, need}
-use Rattle.chip_part.specs.Rules.{Feed, End, unmet_by_vertex, unmet_by_root, unmet}
+use Rattle.chip_part.specs.Rules.{Feed, End, unmet_by_vertex, unmet_by_root, unmet_rule}
 use Rattle.chip_part.specs.Kept.{Met}
 
 -- the first of some rules, and the rest
@@ -49,7 +49,7 @@ nothing (Some c) h = absurd (true≢false (sym h))
 is_some_of : {A : Type 0} (o : Option A) (c : A) → o ≡ Some c → is_some o ≡ true
 is_some_of o c h = ap is_some h
 
-pub rules_met : (g : Setting) (x : Event) (s : Part) → unmet g x s ≡ None → Met g x s
+pub rules_met : (g : Setting) (x : Event) (s : Part) → unmet_rule g x s ≡ None → Met g x s
 rules_met g (Take e) s h = ltb-true _ _ (met _ _ _ h).0
 rules_met g (Ack e) s h = let a = met _ _ _ h in let b = met _ _ _ a.1 in let c = met _ _ _ b.1 in
     (ltb-true _ _ a.0, positive _ b.0, positive _ c.0)
@@ -97,7 +97,7 @@ rules_met g (Feed e k) s h =
     (leb-true _ _ both.0, ltb-true _ _ both.1, not-true _ b.0, positive _ c.0, leb-true _ _ d.0, f.0)
 rules_met g End s h = tt
 
-pub met_rules : (g : Setting) (x : Event) (s : Part) → Met g x s → unmet g x s ≡ None
+pub met_rules : (g : Setting) (x : Event) (s : Part) → Met g x s → unmet_rule g x s ≡ None
 met_rules g (Take e) s m = passed _ _ _ (lt-ltb _ _ m) refl
 met_rules g (Ack e) s m = passed _ _ _ (lt-ltb _ _ m.0)
     (passed _ _ _ (not_zero _ m.1) (passed _ _ _ (not_zero _ m.2) refl))
@@ -129,11 +129,11 @@ met_rules g (Feed e k) s m =
 met_rules g End s m = refl
 
 -- those of a look by a vertex
-pub vertex_clear : (g : Setting) (e : ℕ) (s : Part) → e < graph_edges g → unmet g (Clear e) s ≡ None
+pub vertex_clear : (g : Setting) (e : ℕ) (s : Part) → e < graph_edges g → unmet_rule g (Clear e) s ≡ None
     → (e < graph_edges g) × (s.halt ≡ None) × ((s.out e).link.refused ≡ false) × (0 < (s.out e).pending)
 vertex_clear g e s l may = ⊎_elim (λ v. v) (λ r. (let past = r.0 in absurd (omega arith))) (rules_met g (Clear e) s may)
 
 -- and by the root
-pub root_clear : (g : Setting) (e : ℕ) (s : Part) → graph_edges g ≤ e → unmet g (Clear e) s ≡ None
+pub root_clear : (g : Setting) (e : ℕ) (s : Part) → graph_edges g ≤ e → unmet_rule g (Clear e) s ≡ None
     → (graph_edges g ≤ e) × (e < all_edges g) × (s.ended ≡ false) × ((s.out e).link.held ≡ None)
 root_clear g e s past may = ⊎_elim (λ v. (let l = v.0 in absurd (omega arith))) (λ r. r) (rules_met g (Clear e) s may)

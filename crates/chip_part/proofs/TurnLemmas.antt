@@ -14,7 +14,7 @@ use Rattle.chip_graph.specs.Multigraph.{edge_at}
 use Rattle.chip_graph.proofs.PickLemmas.{All-picked}
 use Rattle.chip_part.proofs.PickedLemmas.{picked_passes}
 use Rattle.chip_part.proofs.EdgeLemmas.{tail_graph}
-use Rattle.chip_part.specs.Part.{Part, is_running, unput, refusals, pending_of, is_legal}
+use Rattle.chip_part.specs.Part.{Part, is_running, unput_count, refusals, pending_of, is_legal}
 use Rattle.chip_part.specs.Rules.{Event, Take, Ack, Fire, Clear, Claim, Put, Halt, Settle}
 use Rattle.chip_part.specs.Steps.{Step, does, saw}
 use Rattle.chip_part.specs.Turn.{Phase, nothing, either_phase, where_phase, each_phase, one_step, seeing, ins_of}
@@ -79,7 +79,7 @@ module _ (g : Setting) (v : ℕ) where
       cases false is (none, same) = subst IsExclusive (sym same) ok
       cases true is (seen, more, now, (none, same)) = subst IsExclusive (sym same) (λ e at some.
           (let a = and_parts _ _ is in let b = and_parts _ _ a.0 in let c = and_parts _ _ b.0 in
-          let idle : unput g v s ≡ 0 = eqb-true _ _ c.1 in
+          let idle : unput_count g v s ≡ 0 = eqb-true _ _ c.1 in
           let inside = Rattle.chip_part.proofs.PartLemmas.tail_inside g e
           (subst (λ (n : ℕ). n < g.game.graph.vertices) (sym at) vertex) in
           no_held (s.out e).link.held

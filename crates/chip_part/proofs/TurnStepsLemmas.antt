@@ -21,14 +21,14 @@ use Rattle.chip_link.specs.Link.{Tail, claims_of, after_clear, after_claim, afte
 use Rattle.chip_part.specs.declared.cause.Cause.TheVariants.{SealedEdge, FiringLimit}
 use Rattle.chip_part.specs.declared.cursor.Cursor.TheVariants as At
 use Rattle.chip_part.specs.Edges.{graph_edges, all_edges, root_edge, tail_of, head_of}
-use Rattle.chip_part.specs.Part.{Part, Cause, is_running, may_ack, pending_of, unput, refusals, cause, is_legal}
+use Rattle.chip_part.specs.Part.{Part, Cause, is_running, may_ack, pending_of, unput_count, refusals, cause, is_legal}
 use Rattle.chip_part.specs.Rules.{Event, Take, Ack, Fire, Clear, Claim, Put, Halt, Settle}
 use Rattle.chip_part.specs.Steps.{Step, does, saw}
 use Rattle.chip_part.specs.Turn.{nothing, either_phase, where_phase, and_then, each_phase, one_step, seeing, ins_of}
 use Rattle.chip_part.specs.Turn.{outs_of, firing, may_fire, batch_of, putting, sending, sending_all, after_clear_phase}
 use Rattle.chip_part.specs.Turn.{after_claim_phase, acknowledging, acknowledging_parent, last_acknowledgement}
 use Rattle.chip_part.specs.Turn.{is_at_limit}
-use Rattle.chip_part.specs.Cursor.{out_at, left, claiming, storing, from_firing, from_settling, from_putting}
+use Rattle.chip_part.specs.Cursor.{out_at, rest_of_turn, claiming, storing, from_firing, from_settling, from_putting}
 use Rattle.chip_part.specs.Cursor.{from_refusal, from_sending, from_limit, from_acknowledging, HoldsNothing, IsSending}
 use Rattle.chip_part.specs.Cursor.{IsAt, GoesBy}
 use Rattle.chip_part.proofs.EdgeLemmas.{tail_graph, head_graph, head_root, graph_inside}
@@ -117,7 +117,7 @@ module _ (g : Setting) (v : ℕ) (vertex : v < g.game.graph.vertices) (s : Part)
   inside : (e : ℕ) → tail_of g e ≡ v → e < graph_edges g
   inside e at = tail_inside g e (subst (λ (n : ℕ). n < g.game.graph.vertices) (sym at) vertex)
 
-  no_unput : HoldsNothing g v s → unput g v s ≡ 0
+  no_unput : HoldsNothing g v s → unput_count g v s ≡ 0
   no_unput none = tested_none (all_edges g) (λ e. eqb (tail_of g e) v)
       (λ e. length (option_to_list (s.out e).link.held))
       (λ e l on. ap (λ (o : Option ℕ). length (option_to_list o)) (none e (eqb-true _ _ on)))
@@ -563,7 +563,7 @@ module _ (g : Setting) (v : ℕ) (vertex : v < g.game.graph.vertices) (s : Part)
   -- acknowledgements
 
   ack_met : (e : ℕ) → head_of g e ≡ v → not (eqb (may_ack g (head_of g e) s e) 0) ≡ true
-      → Rattle.chip_part.specs.Rules.unmet g (Ack e) s ≡ None
+      → Rattle.chip_part.specs.Rules.unmet_rule g (Ack e) s ≡ None
   ack_met e at some = let a = positive _ some in let b = may_le g (head_of g e) e s in
       met_rules g (Ack e) s (in_inside g v vertex e at, (omega arith), a)
 
@@ -626,9 +626,9 @@ module _ (g : Setting) (v : ℕ) (vertex : v < g.game.graph.vertices) (s : Part)
         (seen, ds, refl, h));
   }
 
-  pub no_parent_due : (e : ℕ) → s.parent ≡ Some e → may_ack g (head_of g e) s e ≡ 0 → left g v At.Parent s [] s
+  pub no_parent_due : (e : ℕ) → s.parent ≡ Some e → may_ack g (head_of g e) s e ≡ 0 → rest_of_turn g v At.Parent s [] s
   no_parent_due e is none = subst (λ (o : Option ℕ). acknowledging_parent g v o s [] s) (sym is)
       (where_no (λ p. not (eqb (may_ack g (head_of g e) p e) 0)) (one_step g v (Ack e)) s (ap not (eq-eqb _ _ none)))
 
-  pub no_parent : s.parent ≡ None → left g v At.Parent s [] s
+  pub no_parent : s.parent ≡ None → rest_of_turn g v At.Parent s [] s
   no_parent is = subst (λ (o : Option ℕ). acknowledging_parent g v o s [] s) (sym is) (refl, refl)

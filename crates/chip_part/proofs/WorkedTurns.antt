@@ -2,7 +2,7 @@
 -- The worked turns, phase by phase.
 use Rattle.std.proofs.Common.{List, [], ◌∷◌, refl}
 use Rattle.chip_part.specs.Setting.{Setting}
-use Rattle.chip_part.specs.Part.{Part, opened}
+use Rattle.chip_part.specs.Part.{Part, opening_part}
 use Rattle.chip_part.specs.Rules.{Take, Fire, Clear, Claim, Put, Settle}
 use Rattle.chip_part.specs.Steps.{Step, does, part_after, saw}
 use Rattle.chip_part.specs.Worked.{small_triangle, FirstTurn, sent_in_part, TurnBegunInTheMiddle}
@@ -10,7 +10,7 @@ use Rattle.chip_part.specs.Worked.{small_triangle, FirstTurn, sent_in_part, Turn
 first : FirstTurn
 first =
     let g : Setting = small_triangle (4 ∷ 0 ∷ 0 ∷ []) in
-    let s0 : Part = opened g in
+    let s0 : Part = opening_part g in
     let s1 : Part = does g (saw (Take 2) 0) s0 in
     let s2 : Part = does g (saw (Take 4) 4) s1 in
     let s3 : Part = does g (saw (Settle 0) 0) s2 in
@@ -134,7 +134,7 @@ first =
 second : TurnBegunInTheMiddle
 second =
     let g : Setting = small_triangle (6 ∷ 0 ∷ 0 ∷ []) in
-    let s0 : Part = part_after g (opened g) sent_in_part in
+    let s0 : Part = part_after g (opening_part g) sent_in_part in
     let s1 : Part = does g (saw (Take 2) 0) s0 in
     let s2 : Part = does g (saw (Take 4) 0) s1 in
     let s3 : Part = does g (saw (Settle 0) 0) s2 in

@@ -12,7 +12,7 @@ use Rattle.chip_detect.specs.Tally.{message_limit}
 use Rattle.chip_part.specs.Edges.{graph_edges, head_of, root_edge}
 use Rattle.chip_part.specs.Part.{Part, may_ack, cause, is_by_limit}
 use Rattle.chip_part.specs.Rules.{Rule, Event, Take, Ack, Fire, Clear, Claim, Put, Halt, Settle, Seal, Read}
-use Rattle.chip_part.specs.Rules.{Feed, End, unmet}
+use Rattle.chip_part.specs.Rules.{Feed, End, unmet_rule}
 use Rattle.chip_part.specs.Steps.{part_of}
 
 -- the operation that an event of a vertex needs, where its rules are met. A message with place p stands in cell p %
@@ -59,7 +59,7 @@ FitsSeen s _ seen = Unit {0}
 
 -- the vertex v may make this event, and may have seen this
 abbrev pub CanDo : Setting → Part → ℕ → Event → ℕ → Type 0
-CanDo g s v x seen = (part_of g x ≡ v) × (unmet g x s ≡ None) × FitsSeen s x seen
+CanDo g s v x seen = (part_of g x ≡ v) × (unmet_rule g x s ≡ None) × FitsSeen s x seen
 
 -- an operation that `may` gave, with a word that it may have seen
 abbrev pub IsDue : Setting → Part → ℕ → Observed → Type 0

@@ -8,7 +8,7 @@ use Rattle.chip_part.specs.declared.act.Act.TheVariants as Do
 use Rattle.chip_part.specs.Setting.{Setting}
 use Rattle.chip_part.specs.Edges.{tail_of}
 use Rattle.chip_part.specs.Part.{Part}
-use Rattle.chip_part.specs.Rules.{Event, Take, Claim, Put, Halt, Settle, unmet}
+use Rattle.chip_part.specs.Rules.{Event, Take, Claim, Put, Halt, Settle, unmet_rule}
 use Rattle.chip_part.specs.Steps.{Step, part_of, does, saw}
 use Rattle.chip_part.specs.Acting.{act_of, event_of}
 use Rattle.chip_part.specs.Kept.{KeepsPart}
@@ -58,19 +58,19 @@ module _ (g : Setting) (v : ℕ) where
       (one_step g v (Halt v)) s ds after
 
   -- what is left of a turn at a cursor
-  abbrev pub left : Cursor → Phase
-  left (At.Take place) = from_taking place
-  left (At.Settle place) = from_settling place
-  left At.Fire = from_firing
-  left (At.Put place) = from_putting place
-  left At.Refusal = from_refusal
-  left (At.Send place) = from_sending place
-  left (At.Claim place) = and_then (claiming (out_at place)) (from_sending (place + 1))
-  left (At.Store place) = and_then (storing (out_at place)) (from_sending (place + 1))
-  left At.Limit = from_limit
-  left (At.Ack place) = from_acknowledging place
-  left At.Parent = last_acknowledgement g v
-  left At.Over = nothing
+  abbrev pub rest_of_turn : Cursor → Phase
+  rest_of_turn (At.Take place) = from_taking place
+  rest_of_turn (At.Settle place) = from_settling place
+  rest_of_turn At.Fire = from_firing
+  rest_of_turn (At.Put place) = from_putting place
+  rest_of_turn At.Refusal = from_refusal
+  rest_of_turn (At.Send place) = from_sending place
+  rest_of_turn (At.Claim place) = and_then (claiming (out_at place)) (from_sending (place + 1))
+  rest_of_turn (At.Store place) = and_then (storing (out_at place)) (from_sending (place + 1))
+  rest_of_turn At.Limit = from_limit
+  rest_of_turn (At.Ack place) = from_acknowledging place
+  rest_of_turn At.Parent = last_acknowledgement g v
+  rest_of_turn At.Over = nothing
 
   -- nothing is claimed and not put
   abbrev pub HoldsNothing : Part → Type 0
@@ -125,14 +125,14 @@ pub record IsUnderWay (g : Setting) (v : ℕ) (first : Part) (done : List Step) 
     (s : Part) : Type 0 where
   pub fits : IsAt g v cursor s
   -- with what is left, they are a turn
-  pub rest : (ds : List Step) (after : Part) → left g v cursor s ds after → turn g v first (done ++ ds) after
+  pub rest : (ds : List Step) (after : Part) → rest_of_turn g v cursor s ds after → turn g v first (done ++ ds) after
 
 -- the operation is the next one of a turn: it is of an event of v whose rules are met, and whatever it sees the turn
 -- goes on at the next cursor, where fewer operations are left
 pub record IsNext (g : Setting) (v : ℕ) (first : Part) (done : List Step) (s : Part) (cursor : Cursor) (act : Act)
     (next : Cursor) : Type 0 where
   pub mine : part_of g (event_of v act) ≡ v
-  pub met : unmet g (event_of v act) s ≡ None
+  pub met : unmet_rule g (event_of v act) s ≡ None
   pub needed : act ≡ act_of g (event_of v act) s
   pub fewer : fuel g v next < fuel g v cursor
   pub goes_on : (seen : ℕ)
@@ -156,16 +156,16 @@ Begins cursor = (g : Setting) (v : ℕ) (s : Part) → IsUnderWay g v s [] curso
 -- an event after which a turn goes on at the next cursor
 pub record GoesBy (g : Setting) (v : ℕ) (s : Part) (cursor : Cursor) (x : Event) (next : Cursor) : Type 0 where
   pub mine : part_of g x ≡ v
-  pub met : unmet g x s ≡ None
+  pub met : unmet_rule g x s ≡ None
   pub fewer : fuel g v next < fuel g v cursor
   pub fits : (seen : ℕ) → IsAt g v next (does g (saw x seen) s)
   pub rest : (seen : ℕ) (ds : List Step) (after : Part)
-      → left g v next (does g (saw x seen) s) ds after
-      → left g v cursor s (saw x seen ∷ ds) after
+      → rest_of_turn g v next (does g (saw x seen) s) ds after
+      → rest_of_turn g v cursor s (saw x seen ∷ ds) after
 
 -- what is due at a cursor, with the cursor after it: nothing where nothing is left
 abbrev pub IsDueAt : Setting → ℕ → Part → Cursor → Option (Event × Cursor) → Type 0
-IsDueAt g v s cursor None = left g v cursor s [] s
+IsDueAt g v s cursor None = rest_of_turn g v cursor s [] s
 IsDueAt g v s cursor (Some due) = GoesBy g v s cursor due.0 due.1
 
 -- a turn that is under way has made no more operations than a whole turn may have

@@ -5,8 +5,9 @@ use Rattle.chip_graph.specs.Multigraph.{degree}
 use Rattle.chip_part.specs.Setting.{Setting}
 use Rattle.chip_link.specs.Link.{Tail, claims_of}
 use Rattle.chip_part.specs.declared.cause.Cause.TheVariants.{FiringLimit}
-use Rattle.chip_part.specs.Edges.{graph_edges, all_edges, tail_of, head_of, over_ins, made, root}
-use Rattle.chip_part.specs.Part.{Part, Cause, owed, may_ack, pending_of, unput, cause, deficit, all_owed, is_passive}
+use Rattle.chip_part.specs.Edges.{graph_edges, all_edges, tail_of, head_of, over_ins, chips_of_firings, root}
+use Rattle.chip_part.specs.Part.{Part, Cause, owed, may_ack, pending_of, unput_count, cause, deficit, all_owed}
+use Rattle.chip_part.specs.Part.{is_passive}
 use Rattle.chip_part.specs.Part.{is_legal, all_fed, first_put}
 use Rattle.chip_part.specs.Rules.{Event, Take, Ack, Fire, Clear, Claim, Put, Halt, Settle, Seal, Read}
 use Rattle.chip_part.specs.Rules.{Feed, End}
@@ -17,14 +18,14 @@ abbrev pub Met : Setting → Event → Part → Type 0
 Met g (Take e) s = e < all_edges g
 Met g (Ack e) s = (e < all_edges g) × (0 < owed (s.into e)) × (0 < may_ack g (head_of g e) s e)
 Met g (Fire v k) s =
-    (v < g.game.graph.vertices) × (v ≢ g.game.graph.sink) × (s.halt ≡ None) × (pending_of g v s ≡ 0) × (unput g v s ≡ 0) × (0 < k)
+    (v < g.game.graph.vertices) × (v ≢ g.game.graph.sink) × (s.halt ≡ None) × (pending_of g v s ≡ 0) × (unput_count g v s ≡ 0) × (0 < k)
     × (s.fired + k ≤ g.game.limit) × (k * degree g.game.graph v ≤ s.chips)
 Met g (Clear e) s =
     ((e < graph_edges g) × (s.halt ≡ None) × ((s.out e).link.refused ≡ false) × (0 < (s.out e).pending))
     ⊎ ((graph_edges g ≤ e) × (e < all_edges g) × (s.ended ≡ false) × ((s.out e).link.held ≡ None))
 Met g (Claim e) s = (e < graph_edges g) × (s.halt ≡ None) × ((s.out e).link.clear ≡ true)
 Met g (Put e) s = (e < all_edges g) × ((count : ℕ) × ((s.out e).link.held ≡ Some count))
-Met g (Halt v) s = (v < g.game.graph.vertices) × (v ≢ g.game.graph.sink) × (s.halt ≡ None) × (unput g v s ≡ 0)
+Met g (Halt v) s = (v < g.game.graph.vertices) × (v ≢ g.game.graph.sink) × (s.halt ≡ None) × (unput_count g v s ≡ 0)
     × ((c : Cause) × (cause g v s ≡ Some c))
 Met g (Settle e) s = e < all_edges g
 Met g (Seal e) s = e < graph_edges g
@@ -47,7 +48,7 @@ opening_tail g e = record { put = first_put g e; held = None; clear = false; ref
 -- what a part keeps of an edge out of it. What is said of notes and of what is pending is said of graph edges alone
 pub record KeepsOut (g : Setting) (e : ℕ) (t : Tail) (pending fired : ℕ) : Type 0 where
   -- what was put, what is claimed and what is pending is what the firings made
-  pub all_made : e < graph_edges g → (sum t.put + sum (option_to_list t.held)) + pending ≡ made g e fired
+  pub all_made : e < graph_edges g → (sum t.put + sum (option_to_list t.held)) + pending ≡ chips_of_firings g e fired
   -- there is a firing for each message, and one more while something is pending
   pub fewer : e < graph_edges g → claims_of t ≤ fired
   pub fewer_yet : e < graph_edges g → 0 < pending → claims_of t < fired

@@ -4,8 +4,8 @@ use Rattle.chip_graph.specs.Multigraph.{IsGraph, sum_out, sum_in, degree}
 use Rattle.chip_graph.specs.ChipGame.{IsGame}
 use Rattle.chip_part.specs.Setting.{Setting}
 use Rattle.chip_part.specs.Edges.{root_edge, over_outs, over_ins, mult_of}
-use Rattle.chip_part.specs.Part.{Part, opened, deficit, is_passive}
-use Rattle.chip_part.specs.Rules.{Event, unmet}
+use Rattle.chip_part.specs.Part.{Part, opening_part, deficit, is_passive}
+use Rattle.chip_part.specs.Rules.{Event, unmet_rule}
 use Rattle.chip_part.specs.Steps.{Step, part_of, does}
 use Rattle.chip_part.specs.Kept.{Met, KeepsPart}
 use Rattle.chip_part.specs.Turn.{IsTurn, most_steps, turn}
@@ -13,14 +13,14 @@ use Rattle.chip_part.specs.Counting.{work_of}
 
 -- no rule is unmet exactly where each holds
 abbrev pub RulesMean : Type 0
-RulesMean = (g : Setting) (x : Event) (s : Part) → (unmet g x s ≡ None) ↔ Met g x s
+RulesMean = (g : Setting) (x : Event) (s : Part) → (unmet_rule g x s ≡ None) ↔ Met g x s
 
 -- every part opens with what is kept, and keeps it by each event that it makes and may make, whatever this sees
 abbrev pub OpeningKeeps : Type 0
-OpeningKeeps = (g : Setting) → IsGame g.game → (p : ℕ) → KeepsPart g p (opened g)
+OpeningKeeps = (g : Setting) → IsGame g.game → (p : ℕ) → KeepsPart g p (opening_part g)
 
 abbrev pub EventsKeep : Type 0
-EventsKeep = (g : Setting) (x : Step) (s : Part) → unmet g x.event s ≡ None → KeepsPart g (part_of g x.event) s
+EventsKeep = (g : Setting) (x : Step) (s : Part) → unmet_rule g x.event s ≡ None → KeepsPart g (part_of g x.event) s
     → KeepsPart g (part_of g x.event) (does g x s)
 
 -- sums over the edges out of a vertex are the graph's, and those over the edges into it have the root edge's term more

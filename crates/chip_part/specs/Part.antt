@@ -8,7 +8,7 @@ use Rattle.chip_part.specs.declared.cause.Cause.TheVariants.{SealedEdge, FiringL
 use Rattle.chip_graph.specs.Multigraph.{degree}
 use Rattle.chip_part.specs.Setting.{Setting}
 use Rattle.chip_link.specs.Link.{Tail, claims_of, sent_counts}
-use Rattle.chip_detect.specs.Acknowledging.{acknowledgeable}
+use Rattle.chip_detect.specs.Acknowledging.{acknowledgeable_count}
 use Rattle.chip_graph.specs.Sums.{sum_below}
 use Rattle.chip_part.specs.Edges.{graph_edges, root_edge, start_of, over_outs, over_ins}
 
@@ -44,8 +44,8 @@ first_put g e = if nat_lt e (graph_edges g) then [] else if start_of g (e - grap
 
 -- every part at the opening. One record serves all, since an edge is looked up in the parts of its own ends alone.
 -- Where no chips are fed the end of feeding is noted from the beginning
-abbrev pub opened : Setting → Part
-opened g = record {
+abbrev pub opening_part : Setting → Part
+opening_part g = record {
   chips = 0;
   fired = 0;
   halt = None;
@@ -90,8 +90,8 @@ abbrev pub all_owed : Setting → ℕ → Part → ℕ
 all_owed g v s = over_ins g v (λ e. owed (s.into e))
 
 -- how many messages v has claimed and not put
-abbrev pub unput : Setting → ℕ → Part → ℕ
-unput g v s = over_outs g v (λ e. length (option_to_list (s.out e).link.held))
+abbrev pub unput_count : Setting → ℕ → Part → ℕ
+unput_count g v s = over_outs g v (λ e. length (option_to_list (s.out e).link.held))
 
 -- all that is pending on the edges out of v
 abbrev pub pending_of : Setting → ℕ → Part → ℕ
@@ -107,11 +107,12 @@ is_legal g v s = not (v == g.game.graph.sink) && nat_le (degree g.game.graph v) 
 
 -- v has nothing to do unless a message comes
 abbrev pub is_passive : Setting → ℕ → Part → Bool
-is_passive g v s = unput g v s == 0 && (not (is_running s.halt) || (pending_of g v s == 0 && not (is_legal g v s)))
+is_passive g v s = unput_count g v s == 0
+    && (not (is_running s.halt) || (pending_of g v s == 0 && not (is_legal g v s)))
 
 -- how many messages v may acknowledge on e
 abbrev pub may_ack : Setting → ℕ → Part → ℕ → ℕ
-may_ack g v s e = acknowledgeable e s.parent (owed (s.into e)) (all_owed g v s) (deficit g v s) (is_passive g v s)
+may_ack g v s e = acknowledgeable_count e s.parent (owed (s.into e)) (all_owed g v s) (deficit g v s) (is_passive g v s)
 
 -- why v may halt, if it may
 abbrev pub cause : Setting → ℕ → Part → Option Cause

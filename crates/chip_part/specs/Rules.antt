@@ -13,7 +13,7 @@ use Rattle.chip_graph.specs.Limits.{max_total}
 use Rattle.chip_graph.specs.Multigraph.{degree}
 use Rattle.chip_part.specs.Setting.{Setting}
 use Rattle.chip_part.specs.Edges.{graph_edges, all_edges, head_of, root}
-use Rattle.chip_part.specs.Part.{Part, is_running, owed, may_ack, pending_of, unput, cause, deficit, all_fed}
+use Rattle.chip_part.specs.Part.{Part, is_running, owed, may_ack, pending_of, unput_count, cause, deficit, all_fed}
 
 -- the rule is met, and so on with the rest; else it is the answer
 abbrev pub need : Bool → Rule → Option Rule → Option Rule
@@ -31,48 +31,48 @@ abbrev pub unmet_by_root : ℕ → Part → Option Rule
 unmet_by_root e s = need (not s.ended) Ended (need (is_none (s.out e).link.held) Unput None)
 
 -- the first rule of an event that isn't met
-abbrev pub unmet : Setting → Event → Part → Option Rule
-unmet g (Take e) s = need (nat_lt e (all_edges g)) NoSuch None
-unmet g (Ack e) s =
+abbrev pub unmet_rule : Setting → Event → Part → Option Rule
+unmet_rule g (Take e) s = need (nat_lt e (all_edges g)) NoSuch None
+unmet_rule g (Ack e) s =
     need (nat_lt e (all_edges g)) NoSuch
     (need (not (owed (s.into e) == 0)) NothingOwed
     (need (not (may_ack g (head_of g e) s e == 0)) Engaged None))
-unmet g (Fire v k) s =
+unmet_rule g (Fire v k) s =
     need (nat_lt v g.game.graph.vertices) NoSuch
     (need (not (v == g.game.graph.sink)) Sink
     (need (is_running s.halt) Halted
-    (need (pending_of g v s == 0 && unput g v s == 0) Pending
+    (need (pending_of g v s == 0 && unput_count g v s == 0) Pending
     (need (not (k == 0)) Zero
     (need (nat_le (s.fired + k) g.game.limit) Limit
     (need (nat_le (k * degree g.game.graph v) s.chips) NotLegal None))))))
-unmet g (Clear e) s =
+unmet_rule g (Clear e) s =
     need (nat_lt e (all_edges g)) NoSuch
     (if nat_lt e (graph_edges g) then unmet_by_vertex e s else unmet_by_root e s)
-unmet g (Claim e) s =
+unmet_rule g (Claim e) s =
     need (nat_lt e (graph_edges g)) NoSuch
     (need (is_running s.halt) Halted
     (need (s.out e).link.clear NotCleared None))
-unmet g (Put e) s =
+unmet_rule g (Put e) s =
     need (nat_lt e (all_edges g)) NoSuch
     (need (is_some (s.out e).link.held) NotClaimed None)
-unmet g (Halt v) s =
+unmet_rule g (Halt v) s =
     need (nat_lt v g.game.graph.vertices) NoSuch
     (need (not (v == g.game.graph.sink)) Sink
     (need (is_running s.halt) Halted
-    (need (unput g v s == 0) Unput
+    (need (unput_count g v s == 0) Unput
     (need (is_some (cause g v s)) NoCause None))))
-unmet g (Settle e) s = need (nat_lt e (all_edges g)) NoSuch None
-unmet g (Seal e) s = need (nat_lt e (graph_edges g)) NoSuch None
-unmet g (Read v) s =
+unmet_rule g (Settle e) s = need (nat_lt e (all_edges g)) NoSuch None
+unmet_rule g (Seal e) s = need (nat_lt e (graph_edges g)) NoSuch None
+unmet_rule g (Read v) s =
     need (nat_lt v g.game.graph.vertices) NoSuch
     (need (deficit g (root g) s == 0 && s.ended) NotClosed None)
-unmet g (Feed e k) s =
+unmet_rule g (Feed e k) s =
     need (nat_le (graph_edges g) e && nat_lt e (all_edges g)) NoSuch
     (need (not s.ended) Ended
     (need (not (k == 0)) Zero
     (need (nat_le (all_fed g s + k) max_total) TooMuch
     (need (s.out e).link.clear NotCleared None))))
-unmet g End s = None
+unmet_rule g End s = None
 
 -- the first of some rules that isn't met
 abbrev pub first_unmet : List (Bool × Rule) → Option Rule

@@ -15,7 +15,7 @@ use Rattle.chip_part.specs.Setting.{Setting}
 use Rattle.chip_part.specs.Edges.{tail_of, head_of, mult_of, root, root_edge, stopper}
 use Rattle.chip_part.specs.Part.{Part, Out, Into, Cause, owed, may_ack, cause, refusals}
 use Rattle.chip_part.specs.Rules.{Rule, Event, Take, Ack, Fire, Clear, Claim, Put, Halt, Settle, Seal, Read}
-use Rattle.chip_part.specs.Rules.{Feed, End, unmet}
+use Rattle.chip_part.specs.Rules.{Feed, End, unmet_rule}
 
 -- an event, whose operation saw this word
 abbrev pub saw : Event → ℕ → Step
@@ -139,20 +139,20 @@ reply_of g (Feed e k) seen s = if seen == claims_of (s.out e).link
 reply_of g End seen s = Done (seen - (s.out (root_edge g 0)).settled)
 
 -- a part and the reply after an event that is asked for: where a rule isn't met nothing is done
-abbrev pub asked : Setting → Step → Part → Option Rule → Part × Reply
-asked g x s (Some rule) = (s, NotNow rule)
-asked g x s None = (does g x s, reply_of g x.event x.seen s)
+abbrev pub part_and_reply : Setting → Step → Part → Option Rule → Part × Reply
+part_and_reply g x s (Some rule) = (s, NotNow rule)
+part_and_reply g x s None = (does g x s, reply_of g x.event x.seen s)
 
 -- the replies to a list of events of one part, each with what its operation sees
 abbrev pub replies : Setting → Part → List Step → List Reply
 replies g s [] = []
 replies g s (x ∷ xs) =
-    let after : Part × Reply = asked g x s (unmet g x.event s) in
+    let after : Part × Reply = part_and_reply g x s (unmet_rule g x.event s) in
     after.1 ∷ replies g after.0 xs
 
 -- the part after them
 abbrev pub part_after : Setting → Part → List Step → Part
 part_after g s [] = s
 part_after g s (x ∷ xs) =
-    let after : Part × Reply = asked g x s (unmet g x.event s) in
+    let after : Part × Reply = part_and_reply g x s (unmet_rule g x.event s) in
     part_after g after.0 xs

@@ -7,7 +7,7 @@ use Rattle.chip_graph.specs.Multigraph.{edges_out, edges_in, degree}
 use Rattle.chip_part.specs.Setting.{Setting}
 use Rattle.chip_link.specs.Link.{claims_of}
 use Rattle.chip_part.specs.Edges.{root_edge, head_of}
-use Rattle.chip_part.specs.Part.{Part, is_running, pending_of, unput, refusals, is_legal, may_ack}
+use Rattle.chip_part.specs.Part.{Part, is_running, pending_of, unput_count, refusals, is_legal, may_ack}
 use Rattle.chip_part.specs.Rules.{Event, Take, Ack, Fire, Clear, Claim, Put, Halt, Settle}
 use Rattle.chip_part.specs.Steps.{Step, does, saw}
 
@@ -58,7 +58,7 @@ module _ (g : Setting) (v : ℕ) where
 
   -- it may fire now: not the sink, not halted, nothing pending, nothing claimed and not put, legal, and below its limit
   abbrev pub may_fire : Part → Bool
-  may_fire s = is_running s.halt && pending_of g v s == 0 && unput g v s == 0 && is_legal g v s
+  may_fire s = is_running s.halt && pending_of g v s == 0 && unput_count g v s == 0 && is_legal g v s
       && nat_lt s.fired g.game.limit
 
   -- as often as its chips and its limit allow

@@ -6,7 +6,7 @@ use Rattle.chip_part.specs.Setting.{Setting, setting_of}
 use Rattle.chip_part.specs.declared.rule.Rule.TheVariants.{Halted, Engaged, NothingPending}
 use Rattle.chip_part.specs.declared.reply.Reply.TheVariants.{Done, Got, Sent, Full, Sealed, NotNow}
 use Rattle.chip_part.specs.declared.cause.Cause.TheVariants.{SealedEdge}
-use Rattle.chip_part.specs.Part.{Part, opened, is_passive, deficit, all_owed}
+use Rattle.chip_part.specs.Part.{Part, opening_part, is_passive, deficit, all_owed}
 use Rattle.chip_part.specs.Rules.{Take, Ack, Fire, Clear, Claim, Put, Halt, Settle, Seal}
 use Rattle.chip_part.specs.Turn.{IsTurn}
 use Rattle.chip_part.specs.Counting.{work_of}
@@ -48,7 +48,8 @@ two_edges = setting_of (record {
 -- vertex 0 of the chain sends one chip, fires again, and finds the cell full
 abbrev pub SentWithFullRing : Type 0
 SentWithFullRing =
-    replies chain (opened chain) (saw (Take 2) 3 ∷ saw (Fire 0 1) 0 ∷ saw (Clear 0) 0 ∷ saw (Claim 0) 0 ∷ saw (Put 0) 0
+    replies chain (opening_part chain)
+    (saw (Take 2) 3 ∷ saw (Fire 0 1) 0 ∷ saw (Clear 0) 0 ∷ saw (Claim 0) 0 ∷ saw (Put 0) 0
     ∷ saw (Clear 0) 0 ∷ saw (Fire 0 1) 1 ∷ saw (Clear 0) 1 ∷ [])
     ≡ Got (message_of 2 0 3) ∷ Done 1 ∷ Done 0 ∷ Sent (message_of 0 0 1) ∷ Done 1 ∷ NotNow NothingPending ∷ Done 2
     ∷ Full ∷ []
@@ -61,9 +62,10 @@ half_sent = saw (Take 4) 4 ∷ saw (Fire 0 2) 0 ∷ saw (Clear 0) 0 ∷ saw (Cla
 abbrev pub SealedHalfWay : Type 0
 SealedHalfWay =
     let g : Setting = small_triangle (4 ∷ 0 ∷ 0 ∷ []) in
-    let after : Part = part_after g (opened g) half_sent in
-    (replies g (opened g) (saw (Seal 1) 0 ∷ []) ≡ Done 0 ∷ [])
-    × (replies g (opened g) half_sent ≡ Got (message_of 4 0 4) ∷ Done 2 ∷ Done 0 ∷ Sent (message_of 0 0 2) ∷ Done 2
+    let after : Part = part_after g (opening_part g) half_sent in
+    (replies g (opening_part g) (saw (Seal 1) 0 ∷ []) ≡ Done 0 ∷ [])
+    × (replies g (opening_part g) half_sent
+    ≡ Got (message_of 4 0 4) ∷ Done 2 ∷ Done 0 ∷ Sent (message_of 0 0 2) ∷ Done 2
     ∷ Done 0 ∷ Sealed ∷ Done 0 ∷ [])
     × (after.halt ≡ Some SealedEdge) × (after.fired ≡ 2) × (after.chips ≡ 0) × ((after.out 1).pending ≡ 2)
     × (is_passive g 0 after ≡ true) × (deficit g 0 after ≡ 1)
@@ -74,8 +76,9 @@ SealedHalfWay =
 abbrev pub EngagingMessageLast : Type 0
 EngagingMessageLast =
     let events : List Step = saw (Take 0) 1 ∷ saw (Take 1) 1 ∷ saw (Ack 0) 0 ∷ saw (Ack 1) 0 ∷ saw (Ack 0) 0 ∷ [] in
-    let after : Part = part_after two_edges (opened two_edges) events in
-    (replies two_edges (opened two_edges) events ≡ Got (message_of 0 0 1) ∷ Got (message_of 1 0 1) ∷ NotNow Engaged
+    let after : Part = part_after two_edges (opening_part two_edges) events in
+    (replies two_edges (opening_part two_edges) events
+    ≡ Got (message_of 0 0 1) ∷ Got (message_of 1 0 1) ∷ NotNow Engaged
     ∷ Done 1 ∷ Done 1 ∷ [])
     × (after.parent ≡ None) × (all_owed two_edges 1 after ≡ 0)
 
@@ -89,7 +92,7 @@ first_turn =
 abbrev pub FirstTurn : Type 0
 FirstTurn =
     let g : Setting = small_triangle (4 ∷ 0 ∷ 0 ∷ []) in
-    IsTurn g 0 (opened g) first_turn × (work_of g (opened g) first_turn ≡ 6)
+    IsTurn g 0 (opening_part g) first_turn × (work_of g (opening_part g) first_turn ≡ 6)
 
 -- a turn that begins in the middle of another, with a message claimed and not put: it is put, and the vertex doesn't
 -- fire though two chips are left
@@ -103,5 +106,5 @@ second_turn = saw (Take 2) 0 ∷ saw (Take 4) 0 ∷ saw (Settle 0) 0 ∷ saw (Se
 abbrev pub TurnBegunInTheMiddle : Type 0
 TurnBegunInTheMiddle =
     let g : Setting = small_triangle (6 ∷ 0 ∷ 0 ∷ []) in
-    let s : Part = part_after g (opened g) sent_in_part in
+    let s : Part = part_after g (opening_part g) sent_in_part in
     (s.chips ≡ 2) × IsTurn g 0 s second_turn

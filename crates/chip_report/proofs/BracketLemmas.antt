@@ -24,7 +24,8 @@ use Rattle.std.proofs.lemmas.Str.Parse.{IsNumeralModel, numerals_by_value, tells
 use Rattle.std.proofs.lemmas.Str.Parse.{without_leading_plus_none}
 use Rattle.chip_report.specs.ReportText.{comma, array_text}
 use Rattle.chip_report.specs.Reportable.{Gives}
-use Rattle.chip_report.specs.ReportLists.{opening, closing, first_list, behind_list, behind, number_of, numbers_of}
+use Rattle.chip_report.specs.ReportLists.{opening_bracket, closing_bracket, first_list, text_behind_list}
+use Rattle.chip_report.specs.ReportLists.{text_behind_lists, number_of, numbers_of}
 use Rattle.chip_report.specs.ReportLists.{list_at, AreListed, IsNoNumber, IsNoList, HasNoList}
 use Rattle.chip_report.specs.declared.fault.ReportFault.{ReportFault}
 use Rattle.chip_report.specs.declared.fault.ReportFault.TheVariants as fault
@@ -80,16 +81,18 @@ tail_fits n ns fit = All-tail Fits n ns fit
 abbrev pub joined : List ℕ → List ℕ
 joined numbers = join_with_byte comma (map decimal numbers)
 
-no_closing_in : (n : ℕ) → n < 2 ^ 64 → All (λ b. b ≢ closing) (decimal n)
+no_closing_in : (n : ℕ) → n < 2 ^ 64 → All (λ b. b ≢ closing_bracket) (decimal n)
 no_closing_in n fits =
-    All-from_get_or (λ b. b ≢ closing) (decimal n) 0 (no_digit n closing fits (λ r. absurd (omega (arith, r))))
+    All-from_get_or (λ b. b ≢ closing_bracket) (decimal n) 0
+    (no_digit n closing_bracket fits (λ r. absurd (omega (arith, r))))
 
-no_closing : (ns : List ℕ) → AreShort ns → All (λ b. b ≢ closing) (joined ns)
-no_closing [] fit = All-nil (λ b. b ≢ closing)
+no_closing : (ns : List ℕ) → AreShort ns → All (λ b. b ≢ closing_bracket) (joined ns)
+no_closing [] fit = All-nil (λ b. b ≢ closing_bracket)
 no_closing (n ∷ []) fit = no_closing_in n (head_fits n [] fit)
 no_closing (n ∷ m ∷ ms) fit =
-    All-append (λ b. b ≢ closing) (decimal n) (comma ∷ joined (m ∷ ms)) (no_closing_in n (head_fits n (m ∷ ms) fit))
-    (All-cons (λ b. b ≢ closing) comma (joined (m ∷ ms)) (λ e. absurd (omega (arith, e)))
+    All-append (λ b. b ≢ closing_bracket) (decimal n) (comma ∷ joined (m ∷ ms))
+    (no_closing_in n (head_fits n (m ∷ ms) fit))
+    (All-cons (λ b. b ≢ closing_bracket) comma (joined (m ∷ ms)) (λ e. absurd (omega (arith, e)))
     (no_closing (m ∷ ms) (tail_fits n (m ∷ ms) fit)))
 
 no_comma : (n : ℕ) → n < 2 ^ 64 → All (λ b. eqb b comma ≡ false) (decimal n)
@@ -198,52 +201,54 @@ text_of (part ∷ parts) end = part.0 ++ (array_text part.1 ++ text_of parts end
 -- ASCII without a bracket before a list
 abbrev pub is_plain : List ℕ → Bool
 is_plain [] = true
-is_plain (b ∷ bs) = (nat_lt b 128 && not (eqb b opening)) && is_plain bs
+is_plain (b ∷ bs) = (nat_lt b 128 && not (eqb b opening_bracket)) && is_plain bs
 
 -- a part whose list has at most so many numbers
 pub record IsPart (most : ℕ) (part : Part) : Type 0 where
   pub plain : is_plain part.0 ≡ true
   pub listed : AreListed most part.1
 
-no_opening : (bs : List ℕ) → is_plain bs ≡ true → All (λ b. b ≢ opening) bs
-no_opening [] e = All-nil (λ b. b ≢ opening)
+no_opening : (bs : List ℕ) → is_plain bs ≡ true → All (λ b. b ≢ opening_bracket) bs
+no_opening [] e = All-nil (λ b. b ≢ opening_bracket)
 no_opening (b ∷ bs) e =
     let both = and_parts _ _ e in
-    All-cons (λ c. c ≢ opening) b bs (eqb-false b opening (not-true _ (and_parts _ _ both.0).1)) (no_opening bs both.1)
+    All-cons (λ c. c ≢ opening_bracket) b bs (eqb-false b opening_bracket (not-true _ (and_parts _ _ both.0).1))
+    (no_opening bs both.1)
 
-opened : (front ns rest : List ℕ) → All (λ b. b ≢ opening) front
-    → after_first (λ b. eqb b opening) (front ++ (array_text ns ++ rest)) ≡ joined ns ++ (closing ∷ rest)
+opened : (front ns rest : List ℕ) → All (λ b. b ≢ opening_bracket) front
+    → after_first (λ b. eqb b opening_bracket) (front ++ (array_text ns ++ rest))
+    ≡ joined ns ++ (closing_bracket ∷ rest)
 opened front ns rest plain =
-    after-cut opening front ((joined ns ++ (closing ∷ [])) ++ rest) plain
-    ∙ append_assoc (joined ns) (closing ∷ []) rest
+    after-cut opening_bracket front ((joined ns ++ (closing_bracket ∷ [])) ++ rest) plain
+    ∙ append_assoc (joined ns) (closing_bracket ∷ []) rest
 
-first_list-part : (front ns rest : List ℕ) → All (λ b. b ≢ opening) front → AreShort ns
+first_list-part : (front ns rest : List ℕ) → All (λ b. b ≢ opening_bracket) front → AreShort ns
     → first_list (front ++ (array_text ns ++ rest)) ≡ joined ns
-first_list-part front ns rest plain fit = ap (before_first (λ b. eqb b closing)) (opened front ns rest plain)
-    ∙ before-cut closing (joined ns) rest (no_closing ns fit)
+first_list-part front ns rest plain fit = ap (before_first (λ b. eqb b closing_bracket)) (opened front ns rest plain)
+    ∙ before-cut closing_bracket (joined ns) rest (no_closing ns fit)
 
-behind_list-part : (front ns rest : List ℕ) → All (λ b. b ≢ opening) front → AreShort ns
-    → behind_list (front ++ (array_text ns ++ rest)) ≡ rest
-behind_list-part front ns rest plain fit = ap (after_first (λ b. eqb b closing)) (opened front ns rest plain)
-    ∙ after-cut closing (joined ns) rest (no_closing ns fit)
+behind_list-part : (front ns rest : List ℕ) → All (λ b. b ≢ opening_bracket) front → AreShort ns
+    → text_behind_list (front ++ (array_text ns ++ rest)) ≡ rest
+behind_list-part front ns rest plain fit = ap (after_first (λ b. eqb b closing_bracket)) (opened front ns rest plain)
+    ∙ after-cut closing_bracket (joined ns) rest (no_closing ns fit)
 
 -- ---- where a program finds no list
 
-pub none_opened : (most : ℕ) (text : List ℕ) → position_or_len (λ b. eqb b opening) text ≡ length text
+pub none_opened : (most : ℕ) (text : List ℕ) → position_or_len (λ b. eqb b opening_bracket) text ≡ length text
     → HasNoList most text
 none_opened most text none front ns rest plain listed e =
-    let at = position-cut opening front ((joined ns ++ (closing ∷ [])) ++ rest) plain in
-    let same = ap (position_or_len (λ b. eqb b opening)) e in
+    let at = position-cut opening_bracket front ((joined ns ++ (closing_bracket ∷ [])) ++ rest) plain in
+    let same = ap (position_or_len (λ b. eqb b opening_bracket)) e in
     absurd (omega (arith, ap length e, length-append front (array_text ns ++ rest)))
 
-pub none_closed : (most : ℕ) (text list : List ℕ) → list ≡ after_first (λ b. eqb b opening) text
-    → position_or_len (λ b. eqb b closing) list ≡ length list → HasNoList most text
+pub none_closed : (most : ℕ) (text list : List ℕ) → list ≡ after_first (λ b. eqb b opening_bracket) text
+    → position_or_len (λ b. eqb b closing_bracket) list ≡ length list → HasNoList most text
 none_closed most text list begun none front ns rest plain listed e =
-    let is : list ≡ joined ns ++ (closing ∷ rest) =
-    begun ∙ ap (after_first (λ b. eqb b opening)) e ∙ opened front ns rest plain in
-    let at = position-cut closing (joined ns) rest (no_closing ns listed.1) in
-    let same = ap (position_or_len (λ b. eqb b closing)) is in
-    absurd (omega (arith, ap length is, length-append (joined ns) (closing ∷ rest)))
+    let is : list ≡ joined ns ++ (closing_bracket ∷ rest) =
+    begun ∙ ap (after_first (λ b. eqb b opening_bracket)) e ∙ opened front ns rest plain in
+    let at = position-cut closing_bracket (joined ns) rest (no_closing ns listed.1) in
+    let same = ap (position_or_len (λ b. eqb b closing_bracket)) is in
+    absurd (omega (arith, ap length is, length-append (joined ns) (closing_bracket ∷ rest)))
 
 pub none_listed : (most : ℕ) (text : List ℕ) → IsNoList most (first_list text) → HasNoList most text
 none_listed most text none front ns rest plain listed e =
@@ -251,9 +256,9 @@ none_listed most text none front ns rest plain listed e =
 
 -- the numbers of the first list, as they are taken
 pub taken : (most : ℕ) (text rest list : List ℕ) (result : Result (Vec ℕ Global) ReportFault) → list ≡ first_list text
-    → rest ≡ behind_list text
+    → rest ≡ text_behind_list text
     → Gives (λ numbers. (numbers.items ≡ numbers_of list) × (length numbers.items ≤ most)) (IsNoList most list) result
-    → Gives (λ numbers. (numbers.items ≡ numbers_of (first_list text)) × (rest ≡ behind_list text)
+    → Gives (λ numbers. (numbers.items ≡ numbers_of (first_list text)) × (rest ≡ text_behind_list text)
     × (length numbers.items ≤ most)) (HasNoList most text) result
 taken most text rest list (Ok numbers) first left is = (is.0 ∙ ap numbers_of first, left, is.1)
 taken most text rest list (Err f) first left (inl memory) = inl memory
@@ -273,13 +278,13 @@ list_at-text_of most (part ∷ parts) end are (suc k) l =
     ∙ list_at-text_of most parts end are.1 k (omega arith)
 
 pub not_HasNoList : (most : ℕ) (parts : List Part) (end : List ℕ) → AllByRecursion (IsPart most) parts → (k : ℕ)
-    → k < length parts → HasNoList most (behind k (text_of parts end)) → ⊥
+    → k < length parts → HasNoList most (text_behind_lists k (text_of parts end)) → ⊥
 not_HasNoList most [] end are k l none = absurd (omega arith)
 not_HasNoList most (part ∷ parts) end are zero l none =
     none part.0 part.1 (text_of parts end) (no_opening part.0 are.0.plain) are.0.listed refl
 not_HasNoList most (part ∷ parts) end are (suc k) l none =
     not_HasNoList most parts end are.1 k (omega arith)
-    (subst (λ (t : List ℕ). HasNoList most (behind k t))
+    (subst (λ (t : List ℕ). HasNoList most (text_behind_lists k t))
     (behind_list-part part.0 part.1 (text_of parts end) (no_opening part.0 are.0.plain) are.0.listed.1) none)
 
 -- ---- such a text is ASCII
@@ -303,7 +308,7 @@ ascii_text_of most [] end are plain = plain
 ascii_text_of most (part ∷ parts) end are plain =
     IsAscii-append part.0 _ (ascii_plain part.0 are.0.plain)
     (IsAscii-append (array_text part.1) _
-    (IsAscii-append (codes "[" ++ joined part.1) (closing ∷ [])
-    (IsAscii-cons opening (joined part.1) (omega arith) (ascii_joined part.1 are.0.listed.1))
-    (IsAscii-cons closing [] (omega arith) IsAscii-nil))
+    (IsAscii-append (codes "[" ++ joined part.1) (closing_bracket ∷ [])
+    (IsAscii-cons opening_bracket (joined part.1) (omega arith) (ascii_joined part.1 are.0.listed.1))
+    (IsAscii-cons closing_bracket [] (omega arith) IsAscii-nil))
     (ascii_text_of most parts end are.1 plain))

@@ -15,7 +15,7 @@ use Rattle.chip_report.specs.ReportText.{bool_text, array_text, is_empty, is_clo
 use Rattle.chip_report.specs.Laws.{RoundTrip}
 use Rattle.chip_report.specs.Reportable.{Content, content, IsReportOf, IsNoReport, IsNoReportWithin}
 use Rattle.chip_report.specs.Reportable.{GrowsForALine, Gives}
-use Rattle.chip_report.specs.ReportLists.{content_by_text, list_at, behind, AreListed, HasNoList}
+use Rattle.chip_report.specs.ReportLists.{content_by_text, list_at, text_behind_lists, AreListed, HasNoList}
 use Rattle.chip_report.specs.declared.fault.ReportFault.{ReportFault}
 use Rattle.chip_report.specs.declared.fault.ReportFault.TheVariants as fault
 use Rattle.chip_report.proofs.BracketLemmas.{Part, IsPart, AreShort, text_of, is_plain, list_at-text_of, not_HasNoList}
@@ -183,11 +183,11 @@ pub none_without_utf8 : (text : List ℕ) → (IsUtf8 text → ⊥) → IsNoRepo
 none_without_utf8 text none o r = none (subst IsUtf8 (sym r.spelled) (utf8_report o r.reportable))
 
 pub none_without_list : (limits : SizeLimits) (k : ℕ) → k < 4 → (text : List ℕ) (most : ℕ) → most ≡ limits.vertices
-    → HasNoList most (behind k text) → IsNoReportWithin limits text
+    → HasNoList most (text_behind_lists k text) → IsNoReportWithin limits text
 none_without_list limits k l text most is none o r =
     not_HasNoList most (report_parts (content o)) (codes ",\"version\":1}\n")
     (are_parts most o r.0.reportable (subst (λ n. length o.fired.items ≤ n) (sym is) r.1)) k l
-    (subst (λ (t : List ℕ). HasNoList most (behind k t)) (r.0.spelled ∙ in_parts o) none)
+    (subst (λ (t : List ℕ). HasNoList most (text_behind_lists k t)) (r.0.spelled ∙ in_parts o) none)
 
 -- what a call refuses is refused for the same reason
 pub passed_on : {T P Q : Type 0} (IsRight : T → Type 0) (result : Result T ReportFault) (f : ReportFault)

@@ -12,7 +12,7 @@ use Rattle.chip_sequence.specs.declared.outcome.Outcome.{Outcome}
 use Rattle.chip_sequence.specs.declared.resumed.Resumed.{Resumed}
 use Rattle.chip_sequence.specs.Sittings.{IsResumed, max_prior}
 use Rattle.chip_report.specs.Laws.{RoundTripTwo}
-use Rattle.chip_report.specs.ReportLists.{list_at, behind, AreListed, HasNoList}
+use Rattle.chip_report.specs.ReportLists.{list_at, text_behind_lists, AreListed, HasNoList}
 use Rattle.chip_report.specs.ReportText.{array_text, bool_text, is_closed, report_text, start_text}
 use Rattle.chip_report.specs.Reportable.{IsReportOf, IsNoReport, IsNoReportWithin, Gives}
 use Rattle.chip_report.specs.ReportTwo.{report_two_text, IsReportTwoOf, IsNoReportTwo, IsReportTwoWithin}
@@ -163,11 +163,11 @@ pub none_without_utf8_two : (text : List ℕ) → (IsUtf8 text → ⊥) → IsNo
 none_without_utf8_two text none r is = none (subst IsUtf8 (sym is.spelled) (utf8_two r is.reportable))
 
 pub none_without_list_two : (limits : SizeLimits) (k : ℕ) → k < 5 → (text : List ℕ) (most : ℕ) → most ≡ limits.vertices
-    → HasNoList most (behind k text) → IsNoReportTwoWithin limits text
+    → HasNoList most (text_behind_lists k text) → IsNoReportTwoWithin limits text
 none_without_list_two limits k l text most same none r is =
     not_HasNoList most (parts_two (sitting_content r)) (codes ",\"version\":2}\n")
     (are_parts_two most r is.0.reportable (subst (λ n. length r.outcome.fired.items ≤ n) (sym same) is.1)) k l
-    (subst (λ (t : List ℕ). HasNoList most (behind k t)) (is.0.spelled ∙ in_parts_two r) none)
+    (subst (λ (t : List ℕ). HasNoList most (text_behind_lists k t)) (is.0.spelled ∙ in_parts_two r) none)
 
 pub not_that_sitting : (bytes : List ℕ) (found : Resumed) → sitting_content found ≡ sitting_by_text bytes
     → (IsReportTwoOf bytes found → ⊥) → IsNoReportTwo bytes

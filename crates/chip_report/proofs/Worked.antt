@@ -1,7 +1,7 @@
 -- Serves ReportLists.antt.
 -- Worked texts and lists, computed on the definitions.
 use Rattle.std.proofs.Common.{◌≡◌, [], ◌∷◌, codes, refl}
-use Rattle.chip_report.specs.ReportLists.{first_list, behind_list, numbers_of, content_by_text}
+use Rattle.chip_report.specs.ReportLists.{first_list, text_behind_list, numbers_of, content_by_text}
 
 -- the small triangle, played to its end
 triangle : content_by_text (codes
@@ -22,7 +22,7 @@ other_fronts = refl
 first : first_list (codes "a[1,2],[3]") ≡ codes "1,2"
 first = refl
 
-rest : behind_list (codes "a[1,2],[3]") ≡ codes ",[3]"
+rest : text_behind_list (codes "a[1,2],[3]") ≡ codes ",[3]"
 rest = refl
 
 -- a list without a number, and one with leading zeros

@@ -9,25 +9,25 @@ use Rattle.chip_report.specs.ReportText.{comma, array_text}
 use Rattle.chip_report.specs.Reportable.{Content, content, FitsIn}
 
 -- the code of the bracket before a list
-abbrev pub opening : ℕ
-opening = 91
+abbrev pub opening_bracket : ℕ
+opening_bracket = 91
 
 -- the code of the bracket behind it
-abbrev pub closing : ℕ
-closing = 93
+abbrev pub closing_bracket : ℕ
+closing_bracket = 93
 
 -- what stands in the first brackets
 abbrev pub first_list : List ℕ → List ℕ
-first_list text = before_first (λ b. b == closing) (after_first (λ b. b == opening) text)
+first_list text = before_first (λ b. b == closing_bracket) (after_first (λ b. b == opening_bracket) text)
 
 -- what stands behind them
-abbrev pub behind_list : List ℕ → List ℕ
-behind_list text = after_first (λ b. b == closing) (after_first (λ b. b == opening) text)
+abbrev pub text_behind_list : List ℕ → List ℕ
+text_behind_list text = after_first (λ b. b == closing_bracket) (after_first (λ b. b == opening_bracket) text)
 
 -- what stands behind so many lists
-abbrev pub behind : ℕ → List ℕ → List ℕ
-behind zero text = text
-behind (suc lists) text = behind lists (behind_list text)
+abbrev pub text_behind_lists : ℕ → List ℕ → List ℕ
+text_behind_lists zero text = text
+text_behind_lists (suc lists) text = text_behind_lists lists (text_behind_list text)
 
 -- the number that digits spell
 abbrev pub number_of : List ℕ → ℕ
@@ -40,7 +40,7 @@ numbers_of (b ∷ bs) = map number_of (slice_split (λ c. c == comma) (b ∷ bs)
 
 -- the numbers of the list behind so many others
 abbrev pub list_at : ℕ → List ℕ → List ℕ
-list_at lists text = numbers_of (first_list (behind lists text))
+list_at lists text = numbers_of (first_list (text_behind_lists lists text))
 
 -- what a text tells, if it is a report
 abbrev pub content_by_text : List ℕ → Content
@@ -67,5 +67,5 @@ IsNoList most list = (numbers : List ℕ) → AreListed most numbers → list �
 
 -- in the first brackets no such numbers are written
 abbrev pub HasNoList : ℕ → List ℕ → Type 0
-HasNoList most text = (front numbers rest : List ℕ) → All (λ b. b ≢ opening) front → AreListed most numbers
+HasNoList most text = (front numbers rest : List ℕ) → All (λ b. b ≢ opening_bracket) front → AreListed most numbers
     → text ≢ front ++ (array_text numbers ++ rest)

@@ -22,7 +22,7 @@ use Rattle.chip_link.proofs.StatesLemmas.{tail_clears, tail_claims, tail_puts}
 use Rattle.chip_graph.specs.ChipGame.{IsGame}
 use Rattle.chip_part.specs.Setting.{Setting}
 use Rattle.chip_part.specs.Edges.{graph_edges, all_edges, root_edge, tail_of, root, start_of}
-use Rattle.chip_part.specs.Part.{Part, opened, first_put, outstanding, deficit, all_fed}
+use Rattle.chip_part.specs.Part.{Part, opening_part, first_put, outstanding, deficit, all_fed}
 use Rattle.chip_part.specs.Rules.{Clear, Put, Settle, Feed, End}
 use Rattle.chip_part.specs.declared.reply.Reply.TheVariants.{Done, Full, Sealed}
 use Rattle.chip_part.specs.declared.reply.Reply.{Reply}
@@ -415,7 +415,7 @@ may_feed r e count seen (g, s, stands, can) =
 -- ---- the opening
 
 module _ (g : Setting) (game : IsGame g.game) where
-  first_claims : (v : ℕ) → claims_of ((opened g).out (root_edge g v)).link ≡ cond (eqb (start_of g v) 0) 0 1
+  first_claims : (v : ℕ) → claims_of ((opening_part g).out (root_edge g v)).link ≡ cond (eqb (start_of g v) 0) 0 1
   first_claims v =
       let past = le-ltb (root_edge g v) (graph_edges g) (omega arith) in
       let at : root_edge g v - graph_edges g ≡ v = omega arith in
@@ -428,7 +428,7 @@ module _ (g : Setting) (game : IsGame g.game) where
       by_chips true n = refl
       by_chips false n = refl
 
-  pub feeder_opens : (f : Feeder) → IsOpeningFeeder g f → Feeds g (opened g) f
+  pub feeder_opens : (f : Feeder) → IsOpeningFeeder g f → Feeds g (opening_part g) f
   feeder_opens f opening = record {
     ended = opening.ended;
     fed = opening.fed ∙ sym (first_fed g game);
@@ -436,7 +436,7 @@ module _ (g : Setting) (game : IsGame g.game) where
     few_outstanding =
         let owed = all_outstanding g game in
         let low = sum_below_le g.game.graph.vertices (λ v. cond (eqb (slice_index g.game.start v) 0) 0 1)
-        (λ v. sum (sent_counts ((opened g).out (root_edge g v)).link))
+        (λ v. sum (sent_counts ((opening_part g).out (root_edge g v)).link))
         (λ v l. let sent = first_sent g v in let few = one_at_most (start_of g v) in omega arith) in
         omega arith;
     tails_each = opening.tails_each;

@@ -14,8 +14,8 @@ use Rattle.chip_link.specs.Link.{claims_of}
 use Rattle.chip_graph.specs.ChipGame.{IsGame}
 use Rattle.chip_part.specs.Setting.{Setting}
 use Rattle.chip_part.specs.Edges.{graph_edges, all_edges, root_edge, start_of, tail_of, root}
-use Rattle.chip_part.specs.Part.{Part, opened, first_put, outstanding, deficit}
-use Rattle.chip_part.specs.Rules.{Settle, unmet}
+use Rattle.chip_part.specs.Part.{Part, opening_part, first_put, outstanding, deficit}
+use Rattle.chip_part.specs.Rules.{Settle, unmet_rule}
 use Rattle.chip_part.specs.Steps.{Step, does, reply_of, saw}
 use Rattle.chip_part.specs.declared.reply.Reply.TheVariants.{Done}
 use Rattle.chip_root.specs.Root.{Root, Feeder, Feeds, RootStandsFor, SomeRoot, RootCanDo, RootMakes}
@@ -27,7 +27,7 @@ use Rattle.chip_part.proofs.RuleLemmas.{rules_met}
 
 module _ (g : Setting) where
   -- one message is outstanding on the root edge of a vertex that starts with chips
-  one_each : (v : ℕ) → outstanding ((opened g).out (root_edge g v)) ≡ cond (eqb (start_of g v) 0) 0 1
+  one_each : (v : ℕ) → outstanding ((opening_part g).out (root_edge g v)) ≡ cond (eqb (start_of g v) 0) 0 1
   one_each v =
       let past = le-ltb (root_edge g v) (graph_edges g) (omega arith) in
       let at : root_edge g v - graph_edges g ≡ v = omega arith in
@@ -40,9 +40,10 @@ module _ (g : Setting) where
       (λ z. ap (λ (l : List ℕ). (length l + 0) - 0) (cond_no (start_of g v) 0 [] (start_of g v ∷ []) z)
       ∙ sym (cond_no (start_of g v) 0 0 1 z))
 
-  pub all_outstanding : IsGame g.game → with_chips g.game.start g.game.graph.vertices ≡ deficit g (root g) (opened g)
+  pub all_outstanding : IsGame g.game
+      → with_chips g.game.start g.game.graph.vertices ≡ deficit g (root g) (opening_part g)
   all_outstanding game =
-      let f : ℕ → ℕ = λ e. cond (eqb (tail_of g e) (root g)) (outstanding ((opened g).out e)) 0 in
+      let f : ℕ → ℕ = λ e. cond (eqb (tail_of g e) (root g)) (outstanding ((opening_part g).out e)) 0 in
       let parted = sum_below_split (graph_edges g) g.game.graph.vertices f in
       let none = sum_below_none (graph_edges g) f
       (λ e l. cond_no (tail_of g e) (root g) _ 0 (λ z. (let inside = edge_inside e l in absurd (omega arith)))) in
@@ -56,8 +57,8 @@ module _ (g : Setting) where
           (game.graph_fits.edges_fit e l).tail_is_vertex
 
   pub root_opens : IsGame g.game → (r : Root) → r.graph_edges ≡ graph_edges g → r.settled ≡ replicate g.game.graph.vertices 0
-      → r.outstanding ≡ with_chips g.game.start g.game.graph.vertices → Feeds g (opened g) r.feeder
-      → RootStandsFor g (opened g) r
+      → r.outstanding ≡ with_chips g.game.start g.game.graph.vertices → Feeds g (opening_part g) r.feeder
+      → RootStandsFor g (opening_part g) r
   root_opens game r edges settled counted feeder = record {
     game = game;
     edges = edges;
@@ -70,7 +71,7 @@ module _ (g : Setting) where
 -- ---- a settle
 
 module _ (g : Setting) (s : Part) (r : Root) (stands : RootStandsFor g s r) (edge seen : ℕ)
-    (past : graph_edges g ≤ edge) (may : unmet g (Settle edge) s ≡ None)
+    (past : graph_edges g ≤ edge) (may : unmet_rule g (Settle edge) s ≡ None)
     (low : (s.out edge).settled ≤ seen) (high : seen ≤ claims_of (s.out edge).link) where
   abbrev v : ℕ
   v = edge - graph_edges g

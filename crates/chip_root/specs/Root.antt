@@ -12,7 +12,7 @@ use Rattle.chip_part.specs.Setting.{Setting}
 use Rattle.chip_part.specs.Edges.{graph_edges, root_edge, root, start_of}
 use Rattle.chip_part.specs.Part.{Part, deficit, all_fed, AreGiven}
 use Rattle.chip_part.specs.declared.rule.Rule.{Rule}
-use Rattle.chip_part.specs.Rules.{Event, Settle, need, unmet}
+use Rattle.chip_part.specs.Rules.{Event, Settle, need, unmet_rule}
 use Rattle.chip_part.specs.declared.rule.Rule.TheVariants.{Ended, Zero, TooMuch, Unput, NotCleared, NotClaimed}
 use Rattle.chip_part.specs.declared.reply.Reply.TheVariants.{Done, Sent, Full}
 use Rattle.chip_part.specs.declared.reply.Reply.{Reply}
@@ -136,7 +136,7 @@ SomeRoot r P = (g : Setting) × (s : Part) × RootStandsFor g s r × P g s
 
 -- the root may make this event, and may have seen this
 abbrev pub RootCanDo : Setting → Part → Event → ℕ → Type 0
-RootCanDo g s x seen = (is_of_root g x ≡ true) × (unmet g x s ≡ None) × FitsRoot g s x seen
+RootCanDo g s x seen = (is_of_root g x ≡ true) × (unmet_rule g x s ≡ None) × FitsRoot g s x seen
 
 -- the root made this event and answered this: whatever part it stood for, it stands for that part after the event
 abbrev pub RootMakes : Root → Root → Event → ℕ → Reply → Type 0

@@ -38,8 +38,8 @@ impl Model for RootBooks {
 impl RootBooks {
     ghost use Rattle.chip_link.specs.Link.{tail_state};
     ghost use Rattle.chip_part.specs.Edges.{graph_edges, all_edges, root, root_edge};
-    ghost use Rattle.chip_part.specs.Part.{opened, deficit};
-    ghost use Rattle.chip_part.specs.Rules.{unmet};
+    ghost use Rattle.chip_part.specs.Part.{opening_part, deficit};
+    ghost use Rattle.chip_part.specs.Rules.{unmet_rule};
     ghost use Rattle.chip_part.specs.Acting.{act_of, verdict};
     ghost use Rattle.chip_root.specs.Root.{RootStandsFor, WhateverRoot, SomeRoot, RootCanDo, RootMakes, RootSettles};
     ghost use Rattle.chip_part.specs.Acting.{is_of_root};
@@ -50,7 +50,7 @@ impl RootBooks {
     /// The root at the opening, with one message outstanding for each vertex that starts with chips. Where no chips are
     /// fed, the end of feeding is noted. It takes all the memory that the root ever needs.
     pub fn new(alloc: Global, setting: &Setting) -> Result<RootBooks, AllocError>
-        ensures { IfOk result (RootStandsFor setting.now (opened setting.now)) }
+        ensures { IfOk result (RootStandsFor setting.now (opening_part setting.now)) }
     {
         let start = setting.game().start();
         Ok(RootBooks {
@@ -103,7 +103,7 @@ impl RootBooks {
     // The first rule that isn't met of a look at the next cell of a root edge.
     fn look_rule(&self, edge: u64) -> Option<Rule>
         requires { SomeRoot self.now (λ g s. graph_edges g ≤ edge) }
-        ensures { WhateverRoot self.now (λ g s. graph_edges g ≤ edge → result ≡ unmet g (Clear edge) s) }
+        ensures { WhateverRoot self.now (λ g s. graph_edges g ≤ edge → result ≡ unmet_rule g (Clear edge) s) }
     {
         match self.vertex_of(edge) {
             Some(vertex) => self.feeder.look_rule(vertex),
@@ -114,7 +114,7 @@ impl RootBooks {
     // The same of a put there.
     fn put_rule(&self, edge: u64) -> Option<Rule>
         requires { SomeRoot self.now (λ g s. graph_edges g ≤ edge) }
-        ensures { WhateverRoot self.now (λ g s. graph_edges g ≤ edge → result ≡ unmet g (Put edge) s) }
+        ensures { WhateverRoot self.now (λ g s. graph_edges g ≤ edge → result ≡ unmet_rule g (Put edge) s) }
     {
         match self.vertex_of(edge) {
             Some(vertex) => self.feeder.put_rule(vertex),
@@ -125,7 +125,7 @@ impl RootBooks {
     // The same of a feed over an edge.
     fn feed_rule(&self, edge: u64, count: u64) -> Option<Rule>
         requires { SomeRoot self.now (λ g s. ⊤) }
-        ensures { WhateverRoot self.now (λ g s. result ≡ unmet g (Feed edge count) s) }
+        ensures { WhateverRoot self.now (λ g s. result ≡ unmet_rule g (Feed edge count) s) }
     {
         match self.vertex_of(edge) {
             Some(vertex) => self.feeder.feed_rule(vertex, count),
@@ -136,7 +136,7 @@ impl RootBooks {
     // The first rule of an event of the root that isn't met.
     fn unmet(&self, event: &Event) -> Option<Rule>
         requires { SomeRoot self.now (λ g s. is_of_root g event.now ≡ true) }
-        ensures { WhateverRoot self.now (λ g s. is_of_root g event.now ≡ true → result ≡ unmet g event.now s) }
+        ensures { WhateverRoot self.now (λ g s. is_of_root g event.now ≡ true → result ≡ unmet_rule g event.now s) }
     {
         let vertices = self.settled.len() as u64;
         match *event {
@@ -166,8 +166,8 @@ impl RootBooks {
 
     // The operation that an event of the root needs, whose rules are met.
     fn act(&self, event: &Event) -> Act
-        requires { SomeRoot self.now (λ g s. (is_of_root g event.now ≡ true) × (unmet g event.now s ≡ None)) }
-        ensures { WhateverRoot self.now (λ g s. is_of_root g event.now ≡ true → unmet g event.now s ≡ None
+        requires { SomeRoot self.now (λ g s. (is_of_root g event.now ≡ true) × (unmet_rule g event.now s ≡ None)) }
+        ensures { WhateverRoot self.now (λ g s. is_of_root g event.now ≡ true → unmet_rule g event.now s ≡ None
             → result ≡ act_of g event.now s) }
     {
         match *event {
@@ -201,7 +201,7 @@ impl RootBooks {
     pub fn may(&self, event: &Event) -> Result<Act, Rule>
         requires { SomeRoot self.now (λ g s. is_of_root g event.now ≡ true) }
         ensures { WhateverRoot self.now (λ g s. is_of_root g event.now ≡ true
-            → result ≡ verdict (unmet g event.now s) (act_of g event.now s)) }
+            → result ≡ verdict (unmet_rule g event.now s) (act_of g event.now s)) }
     {
         match self.unmet(event) {
             Some(rule) => Err(rule),

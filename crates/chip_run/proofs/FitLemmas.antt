@@ -32,7 +32,7 @@ use Rattle.chip_core.specs.Core.{Log, Step, Event, Take, Fire, Clear, Claim, Put
 use Rattle.chip_core.specs.Core.{Part, Out, Into, part_of, part_in, out_in, into_in, fired_by, sees, IsLegalLog}
 use Rattle.chip_core.specs.Core.{tail_of, head_of, root_edge, all_edges, graph_edges}
 use Rattle.chip_core.specs.Histories.{done_by}
-use Rattle.chip_core.specs.Positions.{started, played_game}
+use Rattle.chip_core.specs.Positions.{chips_given, played_game}
 use Rattle.chip_core.proofs.LogLemmas.{part_here, part_else, link_step, head_inside, out_kept, edge_sound}
 use Rattle.chip_core.proofs.GivenLemmas.{given_each}
 use Rattle.chip_core.proofs.NumberLemmas.{take_finds, unfed_is_the_start}
@@ -44,21 +44,21 @@ use Rattle.chip_trace.specs.Interleaving.{has_count, is_met, Placed, rows_of, Ar
 use Rattle.chip_trace.specs.Interleaving.{with_firing, firings}
 use Rattle.chip_trace.proofs.PrefixLemmas.{slice_get_keeps}
 use Rattle.chip_trace.proofs.RowLemmas.{fires-append, chips_taken-append, takes_of-append, rows_of-append, AreMet-push}
-use Rattle.chip_run.specs.Replaying.{placed, rows_in, traces_in, times_of, HasOneEach}
+use Rattle.chip_run.specs.Replaying.{row_at_vertex, rows_in, traces_in, times_of, HasOneEach}
 use Rattle.chip_run.specs.Laws.{LogsFit, UnfedLogsFit}
 
 -- ---- rows of one vertex, placed
 
-placed_here : (v : ℕ) (rows : List TraceRow) → rows_of (map (placed v) rows) v ≡ rows
+placed_here : (v : ℕ) (rows : List TraceRow) → rows_of (map (row_at_vertex v) rows) v ≡ rows
 placed_here v [] = refl
 placed_here v (row ∷ rows) =
-    cond_yes v v (row ∷ rows_of (map (placed v) rows) v) (rows_of (map (placed v) rows) v) refl
+    cond_yes v v (row ∷ rows_of (map (row_at_vertex v) rows) v) (rows_of (map (row_at_vertex v) rows) v) refl
     ∙ ap (λ (l : List TraceRow). row ∷ l) (placed_here v rows)
 
-placed_else : (u v : ℕ) (rows : List TraceRow) → u ≢ v → rows_of (map (placed u) rows) v ≡ []
+placed_else : (u v : ℕ) (rows : List TraceRow) → u ≢ v → rows_of (map (row_at_vertex u) rows) v ≡ []
 placed_else u v [] ne = refl
 placed_else u v (row ∷ rows) ne =
-    cond_no u v (row ∷ rows_of (map (placed u) rows) v) (rows_of (map (placed u) rows) v) ne
+    cond_no u v (row ∷ rows_of (map (row_at_vertex u) rows) v) (rows_of (map (row_at_vertex u) rows) v) ne
     ∙ placed_else u v rows ne
 
 -- ---- how often a vertex fires
@@ -169,9 +169,9 @@ module _ (g : Setting) where
   rows_are (x ∷ log) v =
       let u : ℕ = part_of g x.event in
       let more : List TraceRow = row_of x.event x.seen in
-      rows_of-append (rows_in g log) (map (placed u) more) v
+      rows_of-append (rows_in g log) (map (row_at_vertex u) more) v
       ∙ dite (ℕ_discrete u v)
-      (λ same. ap (λ (w : ℕ). rows_of (rows_in g log) v ++ rows_of (map (placed w) more) v) same
+      (λ same. ap (λ (w : ℕ). rows_of (rows_in g log) v ++ rows_of (map (row_at_vertex w) more) v) same
       ∙ ap (λ (l : List TraceRow). rows_of (rows_in g log) v ++ l) (placed_here v more)
       ∙ ap (λ (l : List TraceRow). l ++ more) (rows_are log v) ∙ sym (recorded_here x log v same))
       (λ other. ap (λ (l : List TraceRow). rows_of (rows_in g log) v ++ l) (placed_else u v more other)
@@ -485,18 +485,20 @@ module _ (g : Setting) where
 
     -- it is met behind the rows of the log
     met_behind : (log : Log) (v : ℕ) (row : TraceRow) → AreMet whole [] (rows_in g log)
-        → is_met whole (recorded log) v row ≡ true → AreMet whole [] (rows_in g log ++ placed v row ∷ [])
-    met_behind log v row all met = AreMet-push whole [] (rows_in g log) (placed v row) all
+        → is_met whole (recorded log) v row ≡ true → AreMet whole [] (rows_in g log ++ row_at_vertex v row ∷ [])
+    met_behind log v row all met = AreMet-push whole [] (rows_in g log) (row_at_vertex v row) all
         (subst (λ (used : ℕ → List TraceRow). is_met whole used v row ≡ true) (λ i u. sym (rows_are log u) i) met)
 
     met_more : (x : Event) (seen : ℕ) (log : Log) → IsLegalLog g log → Opens start log
         → Met g x (part_in g log (part_of g x)) → seen ≡ sees g log x → AreMet whole [] (rows_in g log)
-        → AreMet whole [] (rows_in g log ++ map (placed (part_of g x)) (row_of x seen))
+        → AreMet whole [] (rows_in g log ++ map (row_at_vertex (part_of g x)) (row_of x seen))
     met_more (Take e) seen log legal opens may is all = dite (ℕ_discrete seen 0)
-        (λ none. subst (λ (rows : List TraceRow). AreMet whole [] (rows_in g log ++ map (placed (head_of g e)) rows))
+        (λ none. subst
+        (λ (rows : List TraceRow). AreMet whole [] (rows_in g log ++ map (row_at_vertex (head_of g e)) rows))
         (sym (cond_yes seen 0 [] (Row.Take e seen ∷ []) none))
         (subst (AreMet whole []) (sym (append-nil (rows_in g log))) all))
-        (λ some. subst (λ (rows : List TraceRow). AreMet whole [] (rows_in g log ++ map (placed (head_of g e)) rows))
+        (λ some. subst
+        (λ (rows : List TraceRow). AreMet whole [] (rows_in g log ++ map (row_at_vertex (head_of g e)) rows))
         (sym (cond_no seen 0 [] (Row.Take e seen ∷ []) some))
         (met_behind log (head_of g e) (Row.Take e seen) all (take_met log legal opens e seen may is some)))
     met_more (Fire v k) seen log legal opens may is all = met_behind log v (Row.Fire k) all (fire_met log legal v k may)
@@ -549,7 +551,7 @@ module _ (g : Setting) where
           let long = length-sent_counts t in
           let all : sent_counts t ≡ opening (sum (sent_counts t)) =
           one_message (sent_counts t) (omega arith) (carries t.put t.held s.counted s.held_counted) in
-          let is : started g log v ≡ slice_index (played_game g log).start v = sym (given_each g game some_ring log v l) in
+          let is : chips_given g log v ≡ slice_index (played_game g log).start v = sym (given_each g game some_ring log v l) in
           (option_to_list t.held, all ∙ ap opening is)
 
       pub interleaves : HasOneEach g log → IsInterleaving (played_game g log) (traces_in g log) (rows_in g log)

@@ -42,7 +42,7 @@ use Rattle.chip_trace.specs.TraceText.{trace_text}
 use Rattle.chip_command.specs.Reports.{Reports, plain_status}
 use Rattle.chip_command.specs.declared.ended.Ended.{Ended}
 use Rattle.chip_run.specs.Feeding.{MeansFed, MeansFedGame, feeds_of}
-use Rattle.chip_run.specs.Recording.{rows_kept, is_cut, some_cut}
+use Rattle.chip_run.specs.Recording.{rows_kept, is_cut, is_any_cut}
 use Rattle.chip_run.specs.RunCommand.{Outputs, RunAnswersFor}
 use Rattle.chip_run.specs.Replaying.{rows_in, traces_in, all_rows, HasOneEach, AreGivenOnce, FitTogether, WritesOneRun}
 use Rattle.chip_run.specs.Laws.{RowsFit, UncutTracesFit, FedRowsFit}
@@ -235,10 +235,10 @@ fed_rows_fit graph_text chips_text feed_text limit shared plan old new ended uns
 
 -- ---- where no row was cut
 
-all_kept : (actors : List ActorKnown) → some_cut actors ≡ false → map rows_kept actors ≡ all_rows actors
+all_kept : (actors : List ActorKnown) → is_any_cut actors ≡ false → map rows_kept actors ≡ all_rows actors
 all_kept [] uncut = refl
 all_kept (a ∷ rest) uncut =
-    let parts = or_parts (is_cut a) (some_cut rest) uncut in
+    let parts = or_parts (is_cut a) (is_any_cut rest) uncut in
     ap (λ (rows : List TraceRow). rows ∷ map rows_kept rest)
     (take_all a.room (rows_of a.did) (ltb-false a.room (length (rows_of a.did)) parts.0))
     ∙ ap (λ (traces : List (List TraceRow)). rows_of a.did ∷ traces) (all_kept rest parts.1)

@@ -19,13 +19,13 @@ abbrev pub is_cut : ActorKnown → Bool
 is_cut a = nat_lt a.room (length (rows_of a.did))
 
 -- whether that is so of one of these actors
-abbrev pub some_cut : List ActorKnown → Bool
-some_cut actors = list_any is_cut actors
+abbrev pub is_any_cut : List ActorKnown → Bool
+is_any_cut actors = list_any is_cut actors
 
 -- the rows of these actors went out, and it is told whether one of them was cut
 pub record Records (actors : List ActorKnown) (old new : Option (List ℕ)) (cut : Bool) : Type 0 where
   pub text : Appends old new (trace_text (map rows_kept actors))
-  pub cut_is : cut ≡ some_cut actors
+  pub cut_is : cut ≡ is_any_cut actors
 
 -- the same where there may be no writer: nothing is told of what is not asked for
 abbrev pub RecordsIfAsked : List ActorKnown → Option (Option (List ℕ)) → Option (Option (List ℕ)) → Bool → Type 0

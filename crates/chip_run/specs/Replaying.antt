@@ -19,13 +19,13 @@ use Rattle.chip_run.specs.Recording.{RecordsIfAsked}
 use Rattle.chip_run.specs.RunCommand.{Outputs}
 
 -- a row of v
-abbrev pub placed : ℕ → TraceRow → Placed
-placed v row = record { vertex = v; row = row }
+abbrev pub row_at_vertex : ℕ → TraceRow → Placed
+row_at_vertex v row = record { vertex = v; row = row }
 
 -- all rows of a log in its order, each with the vertex that recorded it
 abbrev pub rows_in : Setting → Log → List Placed
 rows_in g [] = []
-rows_in g (x ∷ log) = rows_in g log ++ map (placed (part_of g x.event)) (row_of x.event x.seen)
+rows_in g (x ∷ log) = rows_in g log ++ map (row_at_vertex (part_of g x.event)) (row_of x.event x.seen)
 
 -- what each vertex recorded in a log
 abbrev pub traces_in : Setting → Log → List (List TraceRow)

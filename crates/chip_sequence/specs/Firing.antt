@@ -1,7 +1,7 @@
 -- Legal vertices and single firings at a position (Björner, Lovász and Shor, Chip-firing games on graphs, 1991;
 -- directed: Björner and Lovász, 1992). A position is a function from vertices to chips.
 use Rattle.std.specs.Prelude.{◌≢◌, ℕ, ◌+◌, ◌-◌, ◌<◌, ◌≤◌, ◌==◌, nat_le, ◌&&◌, not, if◌then◌else◌, List}
-use Rattle.chip_graph.specs.Sums.{picked}
+use Rattle.chip_graph.specs.Sums.{filter_below}
 use Rattle.chip_graph.specs.Multigraph.{Multigraph, edge_at, sum_in, degree}
 
 -- v may fire at the position x
@@ -12,7 +12,7 @@ pub record IsLegal (G : Multigraph) (x : ℕ → ℕ) (v : ℕ) : Type 0 where
 
 -- the vertices that may fire at x, ascending
 abbrev pub legal_vertices : Multigraph → (ℕ → ℕ) → List ℕ
-legal_vertices G x = picked (λ v. not (v == G.sink) && nat_le (degree G v) (x v)) G.vertices
+legal_vertices G x = filter_below (λ v. not (v == G.sink) && nat_le (degree G v) (x v)) G.vertices
 
 -- the position after one firing of v at x: its degree leaves v, and each edge out of v brings its multiplicity to its
 -- head

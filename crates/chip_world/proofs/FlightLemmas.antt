@@ -20,7 +20,7 @@ use Rattle.chip_core.specs.Messages.{Message, messages_from, counts_in_flight}
 use Rattle.chip_core.proofs.MessageLemmas.{messages-append}
 use Rattle.chip_world.specs.SharedWords.{stored_count}
 use Rattle.chip_world.proofs.VertexLemmas.{passes}
-use Rattle.chip_core.specs.Core.{Rule, unmet, into_in, Log, Put, Part, part_in, out_in, root, IsLegalLog}
+use Rattle.chip_core.specs.Core.{Rule, unmet_rule, into_in, Log, Put, Part, part_in, out_in, root, IsLegalLog}
 use Rattle.chip_core.specs.Core.{graph_edges, all_edges}
 use Rattle.chip_core.proofs.GivenLemmas.{outside_is}
 
@@ -61,9 +61,9 @@ module _ (ring word : ℕ) (cell : ℕ → ℕ) (t : Tail) (got : List ℕ) (sto
 
 -- the count that a put would store is the one in the hand
 pub put_stores : (g : Setting) (e : ℕ) (s : Part) (act : Act)
-    → ◌≡◌ {A = Result Act Rule} (Ok act) (verdict (unmet g (Put e) s) (act_of g (Put e) s))
+    → ◌≡◌ {A = Result Act Rule} (Ok act) (verdict (unmet_rule g (Put e) s) (act_of g (Put e) s))
     → stored_count act ≡ sum (option_to_list (s.out e).link.held)
-put_stores g e s act is = by_rule (unmet g (Put e) s) is
+put_stores g e s act is = by_rule (unmet_rule g (Put e) s) is
   where
     by_rule : (o : Option Rule) → ◌≡◌ {A = Result Act Rule} (Ok act) (verdict o (act_of g (Put e) s))
         → stored_count act ≡ sum (option_to_list (s.out e).link.held)
@@ -72,10 +72,10 @@ put_stores g e s act is = by_rule (unmet g (Put e) s) is
 
 -- where no put is due the hand is empty
 pub put_refused : (g : Setting) (e : ℕ) (s : Part) (rule : Rule) → e < all_edges g
-    → ◌≡◌ {A = Result Act Rule} (Err rule) (verdict (unmet g (Put e) s) (act_of g (Put e) s))
+    → ◌≡◌ {A = Result Act Rule} (Err rule) (verdict (unmet_rule g (Put e) s) (act_of g (Put e) s))
     → (s.out e).link.held ≡ None
 put_refused g e s rule l is = ⊎_elim (λ none. none)
-    (λ some. absurd (by_rule (unmet g (Put e) s) (passes (ltb e (all_edges g)) _ _ (lt-ltb e (all_edges g) l)
+    (λ some. absurd (by_rule (unmet_rule g (Put e) s) (passes (ltb e (all_edges g)) _ _ (lt-ltb e (all_edges g) l)
     ∙ ap (λ (h : Option ℕ). need (Rattle.std.proofs.Common.is_some h) NotClaimed None) some.1) is))
     (hand (s.out e).link.held)
   where
@@ -86,7 +86,7 @@ put_refused g e s rule l is = ⊎_elim (λ none. none)
 -- the same on a root edge, in a log
 pub root_put_refused : (g : Setting) (log : Log) → IsLegalLog g log → (e : ℕ) (rule : Rule)
     → graph_edges g ≤ e → ◌≡◌ {A = Result Act Rule} (Err rule)
-    (verdict (unmet g (Put e) (part_in g log (root g))) (act_of g (Put e) (part_in g log (root g))))
+    (verdict (unmet_rule g (Put e) (part_in g log (root g))) (act_of g (Put e) (part_in g log (root g))))
     → (out_in g log e).link.held ≡ None
 root_put_refused g log legal e rule past is = dite (dec_lt e (all_edges g))
     (λ l. ap (λ (p : ℕ). ((part_in g log p).out e).link.held) (tail_root g e past)

@@ -14,7 +14,7 @@ use Rattle.chip_part.specs.declared.act.Act.{Act}
 use Rattle.chip_root.specs.Root.{WhateverRoot}
 use Rattle.chip_part.specs.Acting.{is_of_root}
 use Rattle.chip_part.proofs.EdgeLemmas.{tail_root, graph_inside}
-use Rattle.chip_core.specs.Core.{Log, Put, Rule, part_of, part_in, out_in, unmet}
+use Rattle.chip_core.specs.Core.{Log, Put, Rule, part_of, part_in, out_in, unmet_rule}
 use Rattle.chip_world.proofs.FlightLemmas.{put_refused, root_put_refused}
 use Rattle.chip_part.specs.Edges.{tail_if}
 use Rattle.chip_world.specs.World.{WorldState, IsActor, StandsForLog}
@@ -57,10 +57,11 @@ tail_stands g log w stands e v a found_at actor_is =
 module _ (g : Setting) (log : Log) (w : WorldState) (stands : StandsForLog g log w) (e : ℕ) (due : Result Act Rule) where
   abbrev pub IsDuePut : Type 0
   IsDuePut = due
-      ≡ verdict (unmet g (Put e) (part_in g log (tail_of g e))) (act_of g (Put e) (part_in g log (tail_of g e)))
+      ≡ verdict (unmet_rule g (Put e) (part_in g log (tail_of g e))) (act_of g (Put e) (part_in g log (tail_of g e)))
 
   pub put_by_vertex : (v : ℕ) (a : Actor) → tail_if w.setting e ≡ Some v → a ≡ get_or w.actors v a
-      → WhateverPart a (λ g s. part_of g (Put e) ≡ a.vertex → due ≡ verdict (unmet g (Put e) s) (act_of g (Put e) s))
+      → WhateverPart a
+      (λ g s. part_of g (Put e) ≡ a.vertex → due ≡ verdict (unmet_rule g (Put e) s) (act_of g (Put e) s))
       → IsDuePut
   put_by_vertex v a found_at actor_is may =
       let own = tail_stands g log w stands e v a found_at actor_is in
@@ -68,10 +69,10 @@ module _ (g : Setting) (log : Log) (w : WorldState) (stands : StandsForLog g log
 
   pub put_by_root : tail_if w.setting e ≡ None
       → WhateverRoot w.root (λ g s. is_of_root g (Put e) ≡ true
-      → due ≡ verdict (unmet g (Put e) s) (act_of g (Put e) s)) → IsDuePut
+      → due ≡ verdict (unmet_rule g (Put e) s) (act_of g (Put e) s)) → IsDuePut
   put_by_root none may =
       let past = no_tail g e (ap (λ (h : Setting). tail_if h e) (sym stands.setting) ∙ none) in
-      subst (λ (p : ℕ). due ≡ verdict (unmet g (Put e) (part_in g log p)) (act_of g (Put e) (part_in g log p)))
+      subst (λ (p : ℕ). due ≡ verdict (unmet_rule g (Put e) (part_in g log p)) (act_of g (Put e) (part_in g log p)))
       (sym (tail_root g e past)) (may g (part_in g log (root g)) stands.root_stands (le-leb (graph_edges g) e past))
 
   -- where none is due nothing is held
@@ -80,5 +81,5 @@ module _ (g : Setting) (log : Log) (w : WorldState) (stands : StandsForLog g log
       (λ l. put_refused g e (part_in g log (tail_of g e)) rule (graph_inside g e l) (sym is ∙ may))
       (λ n. let past : graph_edges g ≤ e = omega arith in
       root_put_refused g log stands.legal e rule past
-      (sym is ∙ subst (λ (p : ℕ). due ≡ verdict (unmet g (Put e) (part_in g log p)) (act_of g (Put e) (part_in g log p)))
+      (sym is ∙ subst (λ (p : ℕ). due ≡ verdict (unmet_rule g (Put e) (part_in g log p)) (act_of g (Put e) (part_in g log p)))
       (tail_root g e past) may))

@@ -12,7 +12,7 @@ use Rattle.chip_link.specs.Link.{Shows}
 use Rattle.chip_link.proofs.ShownLemmas.{fresh_shows, first_shows}
 use Rattle.chip_part.specs.Edges.{start_of}
 use Rattle.chip_root.specs.Root.{RootStandsFor}
-use Rattle.chip_part.specs.Part.{first_put, opened}
+use Rattle.chip_part.specs.Part.{first_put, opening_part}
 use Rattle.chip_core.specs.Core.{graph_edges, all_edges}
 use Rattle.chip_world.specs.SharedWords.{opening_words}
 use Rattle.chip_world.specs.World.{WorldState, ShowsEdge, StandsForLog, first_chips, AreOpeningWords}
@@ -85,7 +85,7 @@ module _ (g : Setting) (is_setting : IsSetting g) where
   }
 
   pub opens : (w : WorldState) → w.setting ≡ g → AreOpeningActors g g.game.graph.vertices w.actors
-      → AreOpeningWords g (all_edges g) w.words → RootStandsFor g (opened g) w.root
+      → AreOpeningWords g (all_edges g) w.words → RootStandsFor g (opening_part g) w.root
       → StandsForLog g [] w
   opens w setting actors words root_stands = record {
     setting = setting;

@@ -15,7 +15,7 @@ use Rattle.chip_graph.proofs.SumLemmas.{by_test, cond_yes, cond_no}
 use Rattle.chip_part.specs.declared.reply.Reply.TheVariants.{Done, Got, Sent, Empty, Full, Sealed, NotNow}
 use Rattle.chip_part.specs.declared.rule.Rule.TheVariants.{NoSuch}
 use Rattle.chip_core.specs.Core.{Log, Event, Take, Ack, Fire, Clear, Claim, Put, Halt, Settle, Seal, Read, Feed}
-use Rattle.chip_core.specs.Core.{End, Reply, Rule, unmet, part_of, part_in, answer, step, log_after, replies_to}
+use Rattle.chip_core.specs.Core.{End, Reply, Rule, unmet_rule, part_of, part_in, answer, step, log_after, replies_to}
 use Rattle.chip_core.specs.Core.{all_edges, graph_edges}
 use Rattle.chip_core.specs.Messages.{Message, sent_by, delivered_by, sent_in, delivered_in}
 use Rattle.chip_world.specs.declared.world.running.Notes.{Notes}
@@ -102,7 +102,8 @@ lane_push lanes lane n e count l = dite (ℕ_discrete e n)
 -- ---- a message that an event brings is of an edge
 
 -- the answer to an event whose edge isn't there
-step_refused : (g : Setting) (log : Log) (x : Event) (rule : Rule) → unmet g x (part_in g log (part_of g x)) ≡ Some rule
+step_refused : (g : Setting) (log : Log) (x : Event) (rule : Rule)
+    → unmet_rule g x (part_in g log (part_of g x)) ≡ Some rule
     → (step g log x).1 ≡ NotNow rule
 step_refused g log x rule is = ap (λ (o : Option Rule). (answer g log x o).1) is
 

@@ -24,7 +24,8 @@ use Rattle.chip_part.proofs.EdgeLemmas.{tail_root}
 use Rattle.chip_part.proofs.RuleLemmas.{rules_met}
 use Rattle.chip_part.specs.Steps.{saw}
 use Rattle.chip_core.specs.Core.{Log, Step, Event, Take, Ack, Fire, Clear, Claim, Put, Halt, Settle, Seal, Read, Feed}
-use Rattle.chip_core.specs.Core.{End, Part, Rule, Reply, unmet, part_of, does, reply_of, part_in, word_of_part, sees}
+use Rattle.chip_core.specs.Core.{End, Part, Rule, Reply, unmet_rule, part_of, does, reply_of, part_in, word_of_part}
+use Rattle.chip_core.specs.Core.{sees}
 use Rattle.chip_core.specs.Core.{answer, step, Fits, tail_of, graph_edges, all_edges, root, stopper}
 use Rattle.chip_core.proofs.LogLemmas.{part_here, part_else}
 use Rattle.chip_world.specs.SharedWords.{EdgeState, words_of, with_edge, with_seal, seen_in, words_after, CanPerform}
@@ -98,7 +99,7 @@ not_of_others g v Do.End l at = absurd (omega arith)
 
 module _ (g : Setting) (log : Log) (w : WorldState) (stands : StandsForLog g log w) where
   -- a rule isn't met, and nothing changes
-  pub refuses : (x : Event) (rule : Rule) → unmet g x (part_in g log (part_of g x)) ≡ Some rule
+  pub refuses : (x : Event) (rule : Rule) → unmet_rule g x (part_in g log (part_of g x)) ≡ Some rule
       → StandsForLog g (step g log x).0 w × (NotNow rule ≡ (step g log x).1)
   refuses x rule is = (
     subst (λ (o : Option Rule). StandsForLog g (answer g log x o).0 w) (sym is) stands,
@@ -107,7 +108,7 @@ module _ (g : Setting) (log : Log) (w : WorldState) (stands : StandsForLog g log
   )
 
   -- the rules are met, and the world is that of the longer log
-  pub accepts : (x : Event) (new : WorldState) (reply : Reply) → unmet g x (part_in g log (part_of g x)) ≡ None
+  pub accepts : (x : Event) (new : WorldState) (reply : Reply) → unmet_rule g x (part_in g log (part_of g x)) ≡ None
       → StandsForLog g (saw x (sees g log x) ∷ log) new
       → reply ≡ reply_of g x (sees g log x) (part_in g log (part_of g x))
       → StandsForLog g (step g log x).0 new × (reply ≡ (step g log x).1)
@@ -134,10 +135,10 @@ module _ (g : Setting) (log : Log) (w : WorldState) (stands : StandsForLog g log
     s : Part
     s = part_in g log (part_of g x)
 
-    due : (unmet g x s ≡ None) × (act_of g x s ≡ act)
+    due : (unmet_rule g x s ≡ None) × (act_of g x s ≡ act)
     unfolding s
     due = (
-      subst (λ (u : ℕ). unmet g x (part_in g log u) ≡ None) (sym is_due.mine) is_due.met,
+      subst (λ (u : ℕ). unmet_rule g x (part_in g log u) ≡ None) (sym is_due.mine) is_due.met,
       ap
           (λ (u : ℕ). act_of g x (part_in g log u)) is_due.mine ∙ sym is_due.needed,
     )
@@ -254,20 +255,20 @@ module _ (g : Setting) (log : Log) (w : WorldState) (stands : StandsForLog g log
   -- an operation that `may` gave is due
   pub given_is_due : (x : Event) (v : ℕ) (a : Actor) (act : Act) → is_of_others w.setting x ≡ false
       → vertex_of w.setting x ≡ Some v → a ≡ get_or w.actors v a
-      → WhateverPart a (λ g s. part_of g x ≡ a.vertex → Ok act ≡ verdict (unmet g x s) (act_of g x s))
+      → WhateverPart a (λ g s. part_of g x ≡ a.vertex → Ok act ≡ verdict (unmet_rule g x s) (act_of g x s))
       → IsDueFor g log v act × (event_of v act ≡ x)
   given_is_due x v a act mine found_at actor_is may =
       let maker = found g stands.is_setting.game x v (sym (ap (λ (h : Setting). vertex_of h x) stands.setting)
       ∙ found_at) in
       let actor : IsActor g log v a = subst (IsActor g log v) (sym actor_is) (stands.actors v maker.1 a) in
       let s : Part = part_in g log v in
-      let due = given (unmet g x s) (act_of g x s) act (may g s actor.stands (maker.0 ∙ sym actor.vertex_is)) in
+      let due = given (unmet_rule g x s) (act_of g x s) act (may g s actor.stands (maker.0 ∙ sym actor.vertex_is)) in
       let event : event_of v act ≡ x = ap (event_of v) (sym due.1)
       ∙ event_is g x s v (sym (ap (λ (h : Setting). is_of_others h x) stands.setting) ∙ mine) maker.0 in (
         record {
           inside = maker.1;
           mine = ap (part_of g) event ∙ maker.0;
-          met = ap (λ (y : Event). unmet g y s) event ∙ due.0;
+          met = ap (λ (y : Event). unmet_rule g y s) event ∙ due.0;
           needed = sym due.1 ∙ ap (λ (y : Event). act_of g y s) (sym event);
         },
         event,
@@ -277,7 +278,8 @@ module _ (g : Setting) (log : Log) (w : WorldState) (stands : StandsForLog g log
   pub vertex_refuses : (x : Event) (v : ℕ) (a : Actor) (rule : Rule) → vertex_of w.setting x ≡ Some v
       → a ≡ get_or w.actors v a
       → WhateverPart a (λ g s. part_of g x ≡ a.vertex
-      → ◌≡◌ {A = Result Act Rule} (Err rule) (verdict (unmet g x s) (act_of g x s))) → StandsForLog g (step g log x).0 w
+      → ◌≡◌ {A = Result Act Rule} (Err rule) (verdict (unmet_rule g x s) (act_of g x s)))
+      → StandsForLog g (step g log x).0 w
       × (NotNow rule ≡ (step g log x).1)
   vertex_refuses x v a rule found_at actor_is may =
       let maker = found g stands.is_setting.game x v (sym (ap (λ (h : Setting). vertex_of h x) stands.setting)
@@ -286,7 +288,8 @@ module _ (g : Setting) (log : Log) (w : WorldState) (stands : StandsForLog g log
       let s : Part = part_in g log (part_of g x) in
       let stands_part : StandsFor g s a = subst (λ (u : ℕ). StandsFor g (part_in g log u) a) (sym maker.0) actor.stands
       in
-      refuses x rule (withheld (unmet g x s) (act_of g x s) rule (may g s stands_part (maker.0 ∙ sym actor.vertex_is)))
+      refuses x rule
+      (withheld (unmet_rule g x s) (act_of g x s) rule (may g s stands_part (maker.0 ∙ sym actor.vertex_is)))
 
   -- ---- the events of the stopper and of the root
 
@@ -321,7 +324,7 @@ module _ (g : Setting) (log : Log) (w : WorldState) (stands : StandsForLog g log
       × (Done claims ≡ (step g log (Seal e)).1)
   seal_makes e l claims told =
       let x : Step = saw (Seal e) (sees g log (Seal e)) in
-      let none : unmet g (Seal e) (part_in g log (stopper g))
+      let none : unmet_rule g (Seal e) (part_in g log (stopper g))
       ≡ None = passes (ltb e (graph_edges g)) NoSuch None (lt-ltb e (graph_edges g) l) in
       accepts (Seal e) (record w { words = with_edge e with_seal w.words }) (Done claims) none
       (others_stay x (omega arith) (none, refl) (with_edge e with_seal w.words) w.root (length-set w.words e _
@@ -337,7 +340,7 @@ module _ (g : Setting) (log : Log) (w : WorldState) (stands : StandsForLog g log
     abbrev rooted : Part
     rooted = part_in g log (root g)
 
-    at_root : (y : Event) → is_of_root g y ≡ true → unmet g y rooted ≡ None → part_of g y ≡ root g
+    at_root : (y : Event) → is_of_root g y ≡ true → unmet_rule g y rooted ≡ None → part_of g y ≡ root g
     at_root (Clear e) mine met = tail_root g e (leb-true (graph_edges g) e mine)
     at_root (Put e) mine met = tail_root g e (leb-true (graph_edges g) e mine)
     at_root (Settle e) mine met = tail_root g e (leb-true (graph_edges g) e mine)
@@ -352,18 +355,19 @@ module _ (g : Setting) (log : Log) (w : WorldState) (stands : StandsForLog g log
     at_root (Seal e) mine met = absurd (true≢false (sym mine))
 
     -- its rules are asked of the root's part
-    root_unmet : (y : Event) → is_of_root g y ≡ true → unmet g y (part_in g log (part_of g y)) ≡ unmet g y rooted
-    root_unmet (Clear e) mine = ap (λ (p : ℕ). unmet g (Clear e) (part_in g log p))
+    root_unmet : (y : Event) → is_of_root g y ≡ true
+        → unmet_rule g y (part_in g log (part_of g y)) ≡ unmet_rule g y rooted
+    root_unmet (Clear e) mine = ap (λ (p : ℕ). unmet_rule g (Clear e) (part_in g log p))
         (tail_root g e (leb-true (graph_edges g) e mine))
-    root_unmet (Put e) mine = ap (λ (p : ℕ). unmet g (Put e) (part_in g log p))
+    root_unmet (Put e) mine = ap (λ (p : ℕ). unmet_rule g (Put e) (part_in g log p))
         (tail_root g e (leb-true (graph_edges g) e mine))
-    root_unmet (Settle e) mine = ap (λ (p : ℕ). unmet g (Settle e) (part_in g log p))
+    root_unmet (Settle e) mine = ap (λ (p : ℕ). unmet_rule g (Settle e) (part_in g log p))
         (tail_root g e (leb-true (graph_edges g) e mine))
     root_unmet (Feed e k) mine = dite (dec_lt e (graph_edges g))
         (λ l. let none : (leb (graph_edges g) e && ltb e (all_edges g)) ≡ false =
         ap (λ (b : Bool). b && ltb e (all_edges g)) (lt-leb (graph_edges g) e l) in
         refused _ NoSuch _ none ∙ sym (refused _ NoSuch _ none))
-        (λ n. ap (λ (p : ℕ). unmet g (Feed e k) (part_in g log p)) (tail_root g e (omega arith)))
+        (λ n. ap (λ (p : ℕ). unmet_rule g (Feed e k) (part_in g log p)) (tail_root g e (omega arith)))
     root_unmet (Read v) mine = refl
     root_unmet End mine = refl
     root_unmet (Take e) mine = absurd (true≢false (sym mine))
@@ -375,20 +379,21 @@ module _ (g : Setting) (log : Log) (w : WorldState) (stands : StandsForLog g log
 
     -- the root's rule that isn't met is the core's
     pub root_refuses : (rule : Rule) → WhateverRoot w.root (λ g s. is_of_root g x ≡ true
-        → ◌≡◌ {A = Result Act Rule} (Err rule) (verdict (unmet g x s) (act_of g x s)))
+        → ◌≡◌ {A = Result Act Rule} (Err rule) (verdict (unmet_rule g x s) (act_of g x s)))
         → StandsForLog g (step g log x).0 w × (NotNow rule ≡ (step g log x).1)
     root_refuses rule may = refuses x rule
-        (root_unmet x own ∙ withheld (unmet g x rooted) (act_of g x rooted) rule (may g rooted stands.root_stands own))
+        (root_unmet x own
+        ∙ withheld (unmet_rule g x rooted) (act_of g x rooted) rule (may g rooted stands.root_stands own))
 
     module _ (operates : is_by_act x ≡ true) (act : Act) (may : WhateverRoot w.root (λ g s. is_of_root g x ≡ true
-        → Ok act ≡ verdict (unmet g x s) (act_of g x s))) where
-      root_due : (unmet g x rooted ≡ None) × (act_of g x rooted ≡ act)
-      root_due = given (unmet g x rooted) (act_of g x rooted) act (may g rooted stands.root_stands own)
+        → Ok act ≡ verdict (unmet_rule g x s) (act_of g x s))) where
+      root_due : (unmet_rule g x rooted ≡ None) × (act_of g x rooted ≡ act)
+      root_due = given (unmet_rule g x rooted) (act_of g x rooted) act (may g rooted stands.root_stands own)
 
       here : part_of g x ≡ root g
       here = at_root x own root_due.0
 
-      met : unmet g x (part_in g log (part_of g x)) ≡ None
+      met : unmet_rule g x (part_in g log (part_of g x)) ≡ None
       met = root_unmet x own ∙ root_due.0
 
       needed : act_of g x (part_in g log (part_of g x)) ≡ act
@@ -437,9 +442,9 @@ module _ (g : Setting) (log : Log) (w : WorldState) (stands : StandsForLog g log
   -- ---- a read
 
   module _ (v : ℕ) (act : Act) (may : WhateverRoot w.root (λ g s. is_of_root g (Read v) ≡ true
-      → Ok act ≡ verdict (unmet g (Read v) s) (act_of g (Read v) s))) where
-    read_met : unmet g (Read v) (part_in g log (root g)) ≡ None
-    read_met = (given (unmet g (Read v) (part_in g log (root g))) (act_of g (Read v) (part_in g log (root g))) act
+      → Ok act ≡ verdict (unmet_rule g (Read v) s) (act_of g (Read v) s))) where
+    read_met : unmet_rule g (Read v) (part_in g log (root g)) ≡ None
+    read_met = (given (unmet_rule g (Read v) (part_in g log (root g))) (act_of g (Read v) (part_in g log (root g))) act
         (may g (part_in g log (root g)) stands.root_stands refl)).0
 
     pub read_inside : v < g.game.graph.vertices

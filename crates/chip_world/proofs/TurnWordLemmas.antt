@@ -16,7 +16,8 @@ use Rattle.chip_part.specs.Acting.{act_of, event_of, FitsSeen}
 use Rattle.chip_actor.specs.Medium.{IsDueBy, MayServe, Serves, IsLonger}
 use Rattle.chip_part.proofs.RuleLemmas.{rules_met}
 use Rattle.chip_part.specs.Steps.{saw}
-use Rattle.chip_core.specs.Core.{Log, Step, Event, Fire, Halt, Part, unmet, part_of, does, part_in, word_of_part, sees}
+use Rattle.chip_core.specs.Core.{Log, Step, Event, Fire, Halt, Part, unmet_rule, part_of, does, part_in, word_of_part}
+use Rattle.chip_core.specs.Core.{sees}
 use Rattle.chip_core.proofs.LogLemmas.{part_here, part_kept}
 use Rattle.chip_core.proofs.NumberLemmas.{fits_seen}
 use Rattle.chip_world.specs.SharedWords.{EdgeState, seen_in, words_after, CanPerform}
@@ -42,9 +43,9 @@ module _ (w : TurnWords) (g : Setting) (v : ℕ) (log : Log) (s : Part) (held : 
   own : is_by_act x ≡ true
   own = by_act g x (not_of_others g v act held.inside due.mine)
 
-  met : unmet g x (part_in g log (part_of g x)) ≡ None
-  met = subst (λ (u : ℕ). unmet g x (part_in g log u) ≡ None) (sym due.mine)
-      (subst (λ (p : Part). unmet g x p ≡ None) held.part_is due.met)
+  met : unmet_rule g x (part_in g log (part_of g x)) ≡ None
+  met = subst (λ (u : ℕ). unmet_rule g x (part_in g log u) ≡ None) (sym due.mine)
+      (subst (λ (p : Part). unmet_rule g x p ≡ None) held.part_is due.met)
 
   needed : act_of g x (part_in g log (part_of g x)) ≡ act
   needed = ap (λ (u : ℕ). act_of g x (part_in g log u)) due.mine ∙ ap (act_of g x) (sym held.part_is) ∙ sym due.needed

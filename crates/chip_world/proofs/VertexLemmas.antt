@@ -10,7 +10,7 @@ use Rattle.chip_part.specs.Rules.{need}
 use Rattle.chip_part.specs.declared.rule.Rule.{Rule}
 use Rattle.chip_part.specs.declared.rule.Rule.TheVariants.{NoSuch}
 use Rattle.chip_core.specs.Core.{Event, Take, Ack, Fire, Clear, Claim, Put, Halt, Settle, Seal, Read, Feed}
-use Rattle.chip_core.specs.Core.{End, Part, unmet, part_of, tail_of, head_of, all_edges, graph_edges}
+use Rattle.chip_core.specs.Core.{End, Part, unmet_rule, part_of, tail_of, head_of, all_edges, graph_edges}
 use Rattle.chip_core.proofs.LogLemmas.{head_inside, tail_inside}
 use Rattle.chip_part.specs.Edges.{head_if, tail_if}
 use Rattle.chip_world.specs.Makers.{vertex_if, vertex_of, is_root_edge, is_of_others}
@@ -67,7 +67,8 @@ module _ (g : Setting) where
       (λ no. absurd (true≢false (sym (cond_false (ltb e (graph_edges g)) false true no) ∙ is)))
 
   -- where none was found the event names no edge and no vertex
-  pub missing : (x : Event) (s : Part) → is_of_others g x ≡ false → vertex_of g x ≡ None → unmet g x s ≡ Some NoSuch
+  pub missing : (x : Event) (s : Part) → is_of_others g x ≡ false → vertex_of g x ≡ None
+      → unmet_rule g x s ≡ Some NoSuch
   missing (Take e) s mine is = refused _ NoSuch _ (withheld (ltb e (all_edges g)) (head_of g e) is)
   missing (Ack e) s mine is = refused _ NoSuch _ (withheld (ltb e (all_edges g)) (head_of g e) is)
   missing (Fire u k) s mine is = refused _ NoSuch _ (withheld (ltb u g.game.graph.vertices) u is)

@@ -12,7 +12,7 @@ use Rattle.chip_graph.specs.ChipGame.{IsGame}
 use Rattle.chip_part.specs.Setting.{Setting}
 use Rattle.chip_graph.proofs.SumLemmas.{cond_yes, cond_no}
 use Rattle.chip_link.specs.Link.{claims_of, Sound}
-use Rattle.chip_link.specs.Words.{exchanged, claims_in}
+use Rattle.chip_link.specs.Words.{word_after_exchange, claims_in}
 use Rattle.chip_part.proofs.PartLemmas.{may_le}
 use Rattle.chip_part.specs.declared.act.Act.{Act}
 use Rattle.chip_part.specs.declared.act.Act.TheVariants as Do
@@ -22,11 +22,12 @@ use Rattle.chip_part.specs.Acting.{act_of}
 use Rattle.chip_part.proofs.RuleLemmas.{rules_met}
 use Rattle.chip_core.specs.Core.{Log, Event, Take, Ack, Fire, Clear, Claim, Put, Halt, Settle, Seal, Read}
 use Rattle.chip_core.specs.Core.{Feed, End}
-use Rattle.chip_core.specs.Core.{unmet, part_of, part_in, out_in, into_in, stop_in, word_of_part, sees, IsLegalLog}
+use Rattle.chip_core.specs.Core.{unmet_rule, part_of, part_in, out_in, into_in, stop_in, word_of_part, sees, IsLegalLog}
 use Rattle.chip_core.specs.Core.{head_of, all_edges, graph_edges}
 use Rattle.chip_core.specs.Core.{stopper}
-use Rattle.chip_core.specs.Words.{Word, of_edge, of_acks, of_cell, of_vertex, halt_bits, touched, noted, IsShown}
-use Rattle.chip_core.specs.Words.{acting}
+use Rattle.chip_core.specs.Words.{Word, of_edge, of_acks, of_cell, of_vertex, halt_bits, word_of_event, word_to_note}
+use Rattle.chip_core.specs.Words.{IsShown}
+use Rattle.chip_core.specs.Words.{acting_part}
 use Rattle.chip_core.specs.Words.{IsLeft}
 use Rattle.chip_core.proofs.ShowingLemmas.{operations_find, words_go_on}
 use Rattle.chip_core.proofs.LogLemmas.{part_kept, edge_sound}
@@ -123,7 +124,7 @@ module _ (g : Setting) (game : IsGame g.game) (some_ring : 0 < g.ring) (log : Lo
     has_cell e p l = (omega arith, (let a = (at e l).cells_each in let b = mod_below p g.ring some_ring in omega arith))
 
     -- the rules that are met, in plain facts
-    met_for : (x : Event) → unmet g x (part_in g log (part_of g x)) ≡ None → Met g x (part_in g log (part_of g x))
+    met_for : (x : Event) → unmet_rule g x (part_in g log (part_of g x)) ≡ None → Met g x (part_in g log (part_of g x))
     met_for x none = rules_met g x (part_in g log (part_of g x)) none
 
     -- the words show the log, with the fired words that it makes
@@ -138,7 +139,7 @@ module _ (g : Setting) (game : IsGame g.game) (some_ring : 0 < g.ring) (log : Lo
     }
 
     -- an operation whose rules are met finds its words
-    pub can_perform : (x : Event) → is_by_act x ≡ true → unmet g x (part_in g log (part_of g x)) ≡ None
+    pub can_perform : (x : Event) → is_by_act x ≡ true → unmet_rule g x (part_in g log (part_of g x)) ≡ None
         → CanPerform (act_of g x (part_in g log (part_of g x))) words
     can_perform (Take e) mine none = has_cell e (length (into_in g log e).got) (met_for (Take e) none)
     can_perform (Ack e) mine none =
@@ -164,8 +165,8 @@ module _ (g : Setting) (game : IsGame g.game) (some_ring : 0 < g.ring) (log : Lo
 
     -- an operation of a vertex finds the word of its event
     found_there : (own : ℕ) (x : Event) → own ≡ fired (part_of g x) → is_by_act x ≡ true
-        → seen_in (act_of g x (acting g log x)) own words
-        ≡ noted x (value_of words fired (touched g x (acting g log x)))
+        → seen_in (act_of g x (acting_part g log x)) own words
+        ≡ word_to_note x (value_of words fired (word_of_event g x (acting_part g log x)))
     found_there own (Take e) is mine = refl
     found_there own (Ack e) is mine = refl
     found_there own (Fire v k) is mine = is
@@ -181,14 +182,14 @@ module _ (g : Setting) (game : IsGame g.game) (some_ring : 0 < g.ring) (log : Lo
 
     -- so it sees in them what the parts have made of them
     pub sees_words : (own : ℕ) (x : Event) → own ≡ fired (part_of g x)
-        → is_by_act x ≡ true → unmet g x (part_in g log (part_of g x)) ≡ None
+        → is_by_act x ≡ true → unmet_rule g x (part_in g log (part_of g x)) ≡ None
         → seen_in (act_of g x (part_in g log (part_of g x))) own words ≡ sees g log x
     sees_words own x is mine none = found_there own x is mine
         ∙ (operations_find g game some_ring log legal (value_of words fired) all_shown x none).1
 
     -- an event of the root is on no fired word
     own_unseen : (own other : ℕ) (x : Event) → is_of_root g x ≡ true
-        → seen_in (act_of g x (acting g log x)) own words ≡ seen_in (act_of g x (acting g log x)) other words
+        → seen_in (act_of g x (acting_part g log x)) own words ≡ seen_in (act_of g x (acting_part g log x)) other words
     own_unseen own other (Clear e) mine = refl
     own_unseen own other (Put e) mine = refl
     own_unseen own other (Settle e) mine = refl
@@ -203,7 +204,7 @@ module _ (g : Setting) (game : IsGame g.game) (some_ring : 0 < g.ring) (log : Lo
     own_unseen own other (Seal e) mine = absurd (true≢false (sym mine))
 
     pub root_sees_words : (x : Event) → is_of_root g x ≡ true
-        → is_by_act x ≡ true → unmet g x (part_in g log (part_of g x)) ≡ None
+        → is_by_act x ≡ true → unmet_rule g x (part_in g log (part_of g x)) ≡ None
         → seen_in (act_of g x (part_in g log (part_of g x))) 0 words ≡ sees g log x
     root_sees_words x own mine none = own_unseen 0 (fired (part_of g x)) x own
         ∙ sees_words (fired (part_of g x)) x refl mine none
@@ -216,7 +217,8 @@ module _ (g : Setting) (game : IsGame g.game) (some_ring : 0 < g.ring) (log : Lo
       left : IsLeft g log x (value_of words fired) (value_of new fired_then)
 
     -- it shows the longer log
-    shows_left : (x : Event) → unmet g x (part_in g log (part_of g x)) ≡ None → (new : List EdgeState) → Leaves x new
+    shows_left : (x : Event) → unmet_rule g x (part_in g log (part_of g x)) ≡ None → (new : List EdgeState)
+        → Leaves x new
         → (e : ℕ) → e < all_edges g → (d : EdgeState)
         → ShowsEdge g (saw x (sees g log x) ∷ log) e (get_or new e d)
     shows_left x none new leaves e l d =
@@ -251,7 +253,7 @@ module _ (g : Setting) (game : IsGame g.game) (some_ring : 0 < g.ring) (log : Lo
       left = left;
     }
 
-    leaves : (x : Event) → is_by_act x ≡ true → unmet g x (part_in g log (part_of g x)) ≡ None
+    leaves : (x : Event) → is_by_act x ≡ true → unmet_rule g x (part_in g log (part_of g x)) ≡ None
         → Leaves x (words_after (act_of g x (part_in g log (part_of g x))) words)
     leaves (Take e) mine none =
         let l = met_for (Take e) none in
@@ -285,7 +287,8 @@ module _ (g : Setting) (game : IsGame g.game) (some_ring : 0 < g.ring) (log : Lo
         let inside = can_perform (Claim e) mine none in
         one_edge (Claim e) e (with_claim claims (claims + 1)) (omega arith) refl record {
           here = ap (λ (s : EdgeState). s.word) (here_changed words e (with_claim claims (claims + 1)) inside);
-          others = λ w is ne. edge_else words fired e (exchanged claims (claims + 1) (words_of words e).word) inside w
+          others = λ w is ne. edge_else words fired e
+              (word_after_exchange claims (claims + 1) (words_of words e).word) inside w
               ne;
         }
     leaves (Put e) mine none =
@@ -313,20 +316,21 @@ module _ (g : Setting) (game : IsGame g.game) (some_ring : 0 < g.ring) (log : Lo
         let inside = can_perform (Feed e k) mine none in
         one_edge (Feed e k) e (with_claim claims (claims + 1)) met.1 refl record {
           here = ap (λ (s : EdgeState). s.word) (here_changed words e (with_claim claims (claims + 1)) inside);
-          others = λ w is ne. edge_else words fired e (exchanged claims (claims + 1) (words_of words e).word) inside w
+          others = λ w is ne. edge_else words fired e
+              (word_after_exchange claims (claims + 1) (words_of words e).word) inside w
               ne;
         }
     leaves End mine none = no_edge End fired record { here = refl; others = λ w is ne. refl }
 
     -- what each operation leaves shows the log with its event
-    pub words_shown : (x : Event) → is_by_act x ≡ true → unmet g x (part_in g log (part_of g x)) ≡ None
+    pub words_shown : (x : Event) → is_by_act x ≡ true → unmet_rule g x (part_in g log (part_of g x)) ≡ None
         → (e : ℕ) → e < all_edges g → (d : EdgeState)
         → ShowsEdge g (saw x (sees g log x) ∷ log) e
         (get_or (words_after (act_of g x (part_in g log (part_of g x))) words) e d)
     words_shown x mine none = shows_left x none _ (leaves x mine none)
 
     -- the seal of an edge
-    pub seal_shown : (e : ℕ) → unmet g (Seal e) (part_in g log (stopper g)) ≡ None → (i : ℕ) → i < all_edges g
+    pub seal_shown : (e : ℕ) → unmet_rule g (Seal e) (part_in g log (stopper g)) ≡ None → (i : ℕ) → i < all_edges g
         → (d : EdgeState)
         → ShowsEdge g (saw (Seal e) (sees g log (Seal e)) ∷ log) i
         (get_or (with_edge e with_seal words) i d)
@@ -340,7 +344,8 @@ module _ (g : Setting) (game : IsGame g.game) (some_ring : 0 < g.ring) (log : Lo
         })
 
     -- a read leaves the words
-    pub read_shown : (v : ℕ) → unmet g (Read v) (part_in g log (part_of g (Read v))) ≡ None → (i : ℕ) → i < all_edges g
+    pub read_shown : (v : ℕ) → unmet_rule g (Read v) (part_in g log (part_of g (Read v))) ≡ None → (i : ℕ)
+        → i < all_edges g
         → (d : EdgeState)
         → ShowsEdge g (saw (Read v) (sees g log (Read v)) ∷ log) i (get_or words i d)
     read_shown v none = shows_left (Read v) none words

@@ -1,7 +1,7 @@
 -- Serves Worked.antt, Rounds.antt.
 -- The worked drives, phase by phase.
 use Rattle.std.proofs.Common.{◌≡◌, ℕ, [], ◌∷◌, refl, arith}
-use Rattle.chip_part.specs.Part.{Part, opened}
+use Rattle.chip_part.specs.Part.{Part, opening_part}
 use Rattle.chip_part.specs.Steps.{does, saw}
 use Rattle.chip_core.specs.Core.{Take, Ack, Settle}
 use Rattle.chip_core.proofs.ReadLemmas.{closed_is}
@@ -13,7 +13,7 @@ still_open closed = let none : ◌≡◌ {A = ℕ} 1 0 = closed.1 0 (omega arith
 
 turn_of_sink : IsTurnAfter sink_alone 0 [] (saw (Ack 0) 0 ∷ saw (Take 0) 5 ∷ [])
 turn_of_sink =
-    let s1 : Part = does sink_alone (saw (Take 0) 5) (opened sink_alone) in
+    let s1 : Part = does sink_alone (saw (Take 0) 5) (opening_part sink_alone) in
     let s2 : Part = does sink_alone (saw (Ack 0) 0) s1 in
     record {
       operations = saw (Take 0) 5 ∷ saw (Ack 0) 0 ∷ [];

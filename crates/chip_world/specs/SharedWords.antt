@@ -1,7 +1,7 @@
 -- The words that the ends of an edge share, and what an operation on them sees and leaves.
 use Rattle.std.specs.Prelude.{ℕ, ◌+◌, ◌^◌, ◌<◌, ◌==◌, if◌then◌else◌, List, [], length, replicate, slice_index}
 use Rattle.std.specs.Prelude.{slice_index_or, slice_set, bit_or}
-use Rattle.chip_link.specs.Words.{exchanged}
+use Rattle.chip_link.specs.Words.{word_after_exchange}
 use Rattle.chip_part.specs.declared.act.Act.{Act}
 use Rattle.chip_part.specs.declared.act.Act.TheVariants as Do
 
@@ -29,7 +29,7 @@ with_cell cell value w = record w { cells = slice_set w.cells cell value }
 
 -- the exchange of a claim
 abbrev pub with_claim : ℕ → ℕ → EdgeState → EdgeState
-with_claim expected new w = record w { word = exchanged expected new w.word }
+with_claim expected new w = record w { word = word_after_exchange expected new w.word }
 
 -- so many more messages are acknowledged
 abbrev pub with_acks : ℕ → EdgeState → EdgeState

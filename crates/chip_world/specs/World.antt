@@ -9,7 +9,8 @@ use Rattle.chip_actor.specs.Actor as vertex
 use Rattle.chip_root.specs.Root.{Root, RootStandsFor}
 use Rattle.chip_part.specs.declared.act.Act.{Act}
 use Rattle.chip_part.specs.Acting.{act_of, event_of}
-use Rattle.chip_core.specs.Core.{Log, Event, Reply, unmet, part_of, part_in, out_in, into_in, stop_in, all_edges, root}
+use Rattle.chip_core.specs.Core.{Log, Event, Reply, unmet_rule, part_of, part_in, out_in, into_in, stop_in, all_edges}
+use Rattle.chip_core.specs.Core.{root}
 use Rattle.chip_core.specs.Core.{IsLegalLog, step}
 use Rattle.chip_world.specs.SharedWords.{EdgeState, opening_words}
 
@@ -66,7 +67,7 @@ Steps old new x reply = WhateverLog old (λ g log. MakesStep g log x new reply)
 pub record IsDueFor (g : Setting) (log : Log) (v : ℕ) (act : Act) : Type 0 where
   pub inside : v < g.game.graph.vertices
   pub mine : part_of g (event_of v act) ≡ v
-  pub met : unmet g (event_of v act) (part_in g log v) ≡ None
+  pub met : unmet_rule g (event_of v act) (part_in g log v) ≡ None
   pub needed : act ≡ act_of g (event_of v act) (part_in g log v)
 
 -- the chips with which an edge opens: on a root edge those that its vertex starts with

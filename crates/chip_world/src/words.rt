@@ -1,6 +1,6 @@
 ghost use Rattle.std.specs.Prelude.{◌≡◌, ◌+◌, ◌^◌, ◌<◌, ◌==◌, if◌then◌else◌, length, slice_index, slice_set, replicate};
 ghost use Rattle.std.specs.Prelude.{IfOk};
-ghost use Rattle.chip_link.specs.Words.{exchanged};
+ghost use Rattle.chip_link.specs.Words.{word_after_exchange};
 
 use chip_graph::{AnyEdge, Game};
 use chip_link::{EdgeWord, Ring};

@@ -11,7 +11,7 @@ impl World {
     ghost use Rattle.chip_sequence.specs.Counted.{IsAfter};
     ghost use Rattle.chip_sequence.specs.Play.{IsPlayed};
     ghost use Rattle.chip_core.specs.Core.{IsClosed};
-    ghost use Rattle.chip_core.specs.Positions.{started, played_game, firings};
+    ghost use Rattle.chip_core.specs.Positions.{chips_given, played_game, firings};
     ghost use Rattle.chip_core.specs.Headline.{NoneHaltedBySeal};
     ghost use Rattle.chip_world.specs.World.{SomeLog, WhateverLog};
     ghost use Rattle.chip_core.specs.Outcomes.{halted_by, AreFired, IsOutcomeOf, ComesTo};
@@ -27,7 +27,8 @@ impl World {
         ensures closed { IfOk result (λ o. WhateverLog self.now (λ g log. IsClosed g log)) }
         ensures outcome { IfOk result (λ o. WhateverLog self.now (λ g log. IsOutcomeOf g log o)) }
         ensures in_range { IfOk result IsOutcome }
-        ensures comes { IfOk result (λ o. WhateverLog self.now (λ g log. ComesTo g (started g log) (firings log) o)) }
+        ensures comes { IfOk result
+            (λ o. WhateverLog self.now (λ g log. ComesTo g (chips_given g log) (firings log) o)) }
         ensures played { IfOk result
             (λ o. WhateverLog self.now (λ g log. NoneHaltedBySeal g log → IsPlayed (played_game g log) o)) }
     {

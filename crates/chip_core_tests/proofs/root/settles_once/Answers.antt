@@ -1,6 +1,6 @@
 use Rattle.std.proofs.Common.{refl}
 use Rattle.chip_part.specs.Setting.{Setting}
-use Rattle.chip_part.specs.Part.{Part, opened}
+use Rattle.chip_part.specs.Part.{Part, opening_part}
 use Rattle.chip_part.specs.Edges.{root_edge}
 use Rattle.chip_part.specs.Rules.{Event, Settle}
 use Rattle.chip_part.specs.Steps.{does, saw}
@@ -14,10 +14,10 @@ abbrev first : Event
 first = Settle (root_edge four_chips 0)
 
 abbrev settled : Part
-settled = does four_chips (saw first 1) (opened four_chips)
+settled = does four_chips (saw first 1) (opening_part four_chips)
 
-opens : RootCanDo four_chips (opened four_chips) first 1
-opens = (refl, refl, fits_from_test (opened four_chips) first 1 refl)
+opens : RootCanDo four_chips (opening_part four_chips) first 1
+opens = (refl, refl, fits_from_test (opening_part four_chips) first 1 refl)
 
 again : RootCanDo four_chips settled first 1
 again = (refl, refl, fits_from_test settled first 1 refl)
@@ -26,6 +26,6 @@ pub settle-second-requires : goal.settle-second-requires
 settle-second-requires g c = (
   four_chips,
   settled,
-  (c.settle-first.ensures four_chips (opened four_chips) c.requires opens).0,
+  (c.settle-first.ensures four_chips (opening_part four_chips) c.requires opens).0,
   again,
 )

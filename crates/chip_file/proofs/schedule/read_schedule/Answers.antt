@@ -1,7 +1,7 @@
 use Rattle.std.proofs.Common.{◌≡◌, ◌∙◌, ap, rules}
 use Rattle.chip_graph.specs.Limits.{standard}
 use Rattle.chip_file.specs.Pieces.{reading}
-use Rattle.chip_file.specs.Source.{left}
+use Rattle.chip_file.specs.Source.{bytes_left}
 use Rattle.chip_file.specs.Standing.{row_reading, rows_ahead}
 use Rattle.chip_file.proofs.AheadLemmas.{fresh_ahead}
 use Rattle.chip_file.proofs.PieceLemmas.{goes_further}
@@ -17,7 +17,7 @@ returns-clause-means g c =
     (reading c.new-source.result c.in_ok-rows.rows.pieces)
     (reading c.events_of_rows-events.new.source c.events_of_rows-events.new.rows.pieces)
     (reading c.finish.new.source c.finish.new.self.pieces) _ _
-    (fresh_ahead (left g.R.Read.remaining c.new-source.result) _ _ new.none new.carry)
+    (fresh_ahead (bytes_left g.R.Read.remaining c.new-source.result) _ _ new.none new.carry)
     (new.most ∙ ap (λ l. l.bytes) c.standard.ensures) new.taken rows.on c.finish.ensures.on rows.comes c.finish.ensures.finishes)
 
 pub returns-clause-read : goal.returns-clause-read

@@ -3,12 +3,13 @@ use Rattle.std.specs.Io.KnownBytes.{Consumes}
 use Rattle.chip_file.specs.declared.source.LastRead.TheVariants as last
 use Rattle.chip_graph.specs.Limits.{AreLimits}
 use Rattle.chip_file.specs.Answer.{max_chunk}
-use Rattle.chip_file.specs.Source.{goes_on, last_read, left, reads}
+use Rattle.chip_file.specs.Source.{goes_on, last_read, bytes_left, reads}
 use Rattle.chip_file.proofs.whole.read_source.Given as goal
 
 abbrev pub invariant-loop-chunk : goal.invariant-loop-chunk
 invariant-loop-chunk g l = record {
-  taken : Consumes (left g.R.Read.remaining l.initial.source) (left g.R.Read.remaining l.source) l.bytes.items;
+  taken : Consumes (bytes_left g.R.Read.remaining l.initial.source)
+      (bytes_left g.R.Read.remaining l.source) l.bytes.items;
   within : vec_len l.bytes ≤ l.most + max_chunk;
   limits : AreLimits l.fn.limits;
   most : l.most ≡ l.fn.limits.bytes;

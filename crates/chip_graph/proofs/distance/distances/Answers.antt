@@ -1,6 +1,6 @@
 use Rattle.std.proofs.Common.{◌≡◌, ◌+◌, ◌<◌, length, subst, sym, ◌∙◌, arith}
 use Rattle.chip_graph.specs.Multigraph.{Multigraph, edges_in}
-use Rattle.chip_graph.specs.Found.{Found, found}
+use Rattle.chip_graph.specs.Found.{Found, findings}
 use Rattle.chip_graph.proofs.SpreadingLemmas.{IsSpread, IsReached, begin_spread, turn_reached, turn_kept, edges_in_below}
 use Rattle.chip_graph.proofs.SpreadingLemmas.{few_reached, all_distances}
 use Rattle.chip_graph.proofs.distance.distances.Goals as goal
@@ -14,7 +14,7 @@ some_left c = omega (arith, c.loop-next.search.reached.ok.0)
 turn : (c : After-index) → IsReached
     (record { vertices = c.args.vertices; sink = c.args.sink; edges = c.args.edges.now }) c.loop-next.next
     c.index.result.now
-turn c = turn_reached _ (found c.loop-next.search) c.loop-next.next c.loop-next.invariant c.index.result.now
+turn c = turn_reached _ (findings c.loop-next.search) c.loop-next.next c.loop-next.invariant c.index.result.now
     (some_left c) c.index.ensures
 
 -- what is read are the edges into its vertex
@@ -23,7 +23,7 @@ row_is : (c : After-list)
     (record { vertices = c.args.vertices; sink = c.args.sink; edges = c.args.edges.now })
     c.index.result.now.vertex
 row_is c =
-    let at = turn_reached _ (found c.loop-next.search) c.loop-next.next c.loop-next.invariant c.index.result.now
+    let at = turn_reached _ (findings c.loop-next.search) c.loop-next.next c.loop-next.invariant c.index.result.now
     (omega (arith, c.loop-next.search.reached.ok.0)) c.index.ensures in
     c.list.ensures ∙ c.requires.ins.each c.index.result.now.vertex at.is_vertex
 
@@ -50,11 +50,11 @@ pub loop-next-preserved : goal.loop-next-preserved
 loop-next-preserved c =
     let G : Multigraph = record { vertices = c.args.vertices; sink = c.args.sink; edges = c.args.edges.now } in
     subst (λ (f : Found). IsSpread G f (c.loop-next.next + 1)) (sym c.in_ok-reach_tails.ensures)
-    (turn_kept G (found c.loop-next.search) c.loop-next.next c.loop-next.invariant c.index.result.now
+    (turn_kept G (findings c.loop-next.search) c.loop-next.next c.loop-next.invariant c.index.result.now
     (omega (arith, c.loop-next.search.reached.ok.0)) c.index.ensures
     (λ e l. c.requires.tails_are_vertices e _ l) c.list.result.now
     (row_is (goal.at.loop-next-preserved c).After-list))
 
 pub returns : goal.returns
-returns c = all_distances _ (found c.loop-next.search) c.loop-next.next c.loop-next.invariant
+returns c = all_distances _ (findings c.loop-next.search) c.loop-next.next c.loop-next.invariant
     (omega (arith, c.loop-next.search.reached.ok.0))

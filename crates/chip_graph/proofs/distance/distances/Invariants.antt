@@ -1,11 +1,11 @@
 use Rattle.std.proofs.Common.{◌-◌}
-use Rattle.chip_graph.specs.Found.{found}
+use Rattle.chip_graph.specs.Found.{findings}
 use Rattle.chip_graph.proofs.SpreadingLemmas.{IsSpread}
 use Rattle.chip_graph.proofs.distance.distances.Given as goal
 
 abbrev pub invariant-loop-next : goal.invariant-loop-next
 invariant-loop-next l = IsSpread (record { vertices = l.vertices; sink = l.sink; edges = l.edges })
-    (found l.search) l.next
+    (findings l.search) l.next
 
 abbrev pub decreases-loop-next : goal.decreases-loop-next
 decreases-loop-next l = l.vertices - l.next

@@ -1,6 +1,6 @@
 use Rattle.std.proofs.Common.{◌≡◌, ℕ, ◌≤◌, List, length, rules, sym, ap, ◌∙◌, subst}
 use Rattle.chip_net.specs.Tokens.{ActorKnown}
-use Rattle.chip_net.specs.Views.{find, did_in, IsAlone, joined}
+use Rattle.chip_net.specs.Views.{find, did_in, IsAlone, join_views}
 use Rattle.chip_net.specs.Meeting.{AreInPlace, HasTheirs}
 use Rattle.chip_net.proofs.RulingLemmas.{Mine}
 use Rattle.chip_net.proofs.MeetingLemmas.{last_in_place, others_in_place}
@@ -31,7 +31,7 @@ alone_is t c = subst (λ (a : ActorKnown). IsAlone a.vertex c.into_seat-own.resu
 -- what the others leave of the seat
 others : (t : _) (c : After-gather t) → (p : ℕ) → length c.pop.new.self.items ≤ p
     → find p c.gather.new.seat.me.0.parts
-    ≡ find p (joined c.args.seat.now.me.0 c.into_seat-own.result.0.me.0).parts
+    ≡ find p (join_views c.args.seat.now.me.0 c.into_seat-own.result.0.me.0).parts
 others t c p past = c.gather.ensures.others p past ∙ ap (λ (m : Mine). find p m.0.parts) c.take_in.ensures.joined
 
 pub returns-clause-others : goal.returns-clause-others

@@ -35,7 +35,7 @@ did_is t c = ap (λ (v : ℕ). did_in v c.into_seat-own.result.0.me.0) c.into_se
 
 -- what the others leave of the seat
 others : (t : _) (c : After-meet t) → (p : ℕ) → length c.pop.new.self.items ≤ p → find p c.meet.new.seat.me.0.parts
-    ≡ find p (Rattle.chip_net.specs.Views.joined c.args.seat.now.me.0 c.into_seat-own.result.0.me.0).parts
+    ≡ find p (Rattle.chip_net.specs.Views.join_views c.args.seat.now.me.0 c.into_seat-own.result.0.me.0).parts
 others t c p past = c.meet.ensures.others p past ∙ ap (λ (m : Mine). find p m.0.parts) c.take_in.ensures.joined
 
 -- the part that is taken out has done what the actor did

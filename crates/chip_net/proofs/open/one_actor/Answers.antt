@@ -1,7 +1,7 @@
 use Rattle.std.proofs.Common.{◌≡◌, ℕ, Bool, ◌<◌, sym, ap, ◌∙◌, subst, arith}
 use Rattle.chip_graph.specs.ChipGame.{ChipGame}
 use Rattle.chip_part.specs.Setting.{Setting, setting_with}
-use Rattle.chip_part.specs.Part.{opened}
+use Rattle.chip_part.specs.Part.{opening_part}
 use Rattle.chip_actor.specs.Actor.{Actor, StandsFor}
 use Rattle.chip_net.specs.Tokens.{ActorKnown, part_known}
 use Rattle.chip_net.specs.Views.{View, find}
@@ -26,9 +26,9 @@ returns-clause-others c = others (goal.at.returns-clause-others c).After-take_ou
 pub new-requires-4-clause-state : goal.new-requires-4-clause-state
 new-requires-4-clause-state c =
     let a : Actor = c.in_ok-state.state in
-    let opens : StandsFor c.setting-setting.result.now (opened c.setting-setting.result.now) a =
+    let opens : StandsFor c.setting-setting.result.now (opening_part c.setting-setting.result.now) a =
     let fed : Bool = c.setting-setting.result.now.fed in
-    subst (λ (z : ChipGame × ℕ). StandsFor (setting_with z.0 z.1 fed) (opened (setting_with z.0 z.1 fed)) a)
+    subst (λ (z : ChipGame × ℕ). StandsFor (setting_with z.0 z.1 fed) (opening_part (setting_with z.0 z.1 fed)) a)
     (λ i. (c.game.ensures.value i, c.ring.ensures.value i)) (c.in_ok-state.ensures.opened fed) in
     subst (λ (k : ActorKnown). StandsFor k.net.setting (part_known k) a) (sym c.new-3.ensures)
-    (subst (λ (g : Setting). StandsFor g (opened g) a) (sym c.of.ensures) opens)
+    (subst (λ (g : Setting). StandsFor g (opening_part g) a) (sym c.of.ensures) opens)

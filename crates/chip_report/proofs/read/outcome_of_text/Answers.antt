@@ -1,5 +1,5 @@
 use Rattle.std.proofs.Common.{ap, ◌∙◌, subst, lit<}
-use Rattle.chip_report.specs.ReportLists.{behind_list, IsToldBy, HasNoList}
+use Rattle.chip_report.specs.ReportLists.{text_behind_list, IsToldBy, HasNoList}
 use Rattle.chip_report.proofs.ReportLemmas.{passed_on, none_within, none_without_utf8, none_without_list}
 use Rattle.chip_report.proofs.read.outcome_of_text.Goals as goal
 
@@ -20,7 +20,7 @@ returns-in_err-chips c =
 
 pub returns-in_err-fired : goal.returns-in_err-fired
 returns-in_err-fired c =
-    let past_chips = c.in_ok-chips.ensures.1 ∙ ap behind_list c.in_ok-lists.ensures in
+    let past_chips = c.in_ok-chips.ensures.1 ∙ ap text_behind_list c.in_ok-lists.ensures in
     passed_on (IsToldBy c.args.limits c.args.text.now)
     c.from_residual-in_err-fired.result c.in_err-fired.field-0.0
     c.from_residual-in_err-fired.ensures.1 c.in_err-fired.ensures
@@ -29,8 +29,8 @@ returns-in_err-fired c =
 
 pub returns-in_err-over : goal.returns-in_err-over
 returns-in_err-over c =
-    let past_chips = c.in_ok-chips.ensures.1 ∙ ap behind_list c.in_ok-lists.ensures in
-    let past_fired = c.in_ok-fired.ensures.1 ∙ ap behind_list past_chips in
+    let past_chips = c.in_ok-chips.ensures.1 ∙ ap text_behind_list c.in_ok-lists.ensures in
+    let past_fired = c.in_ok-fired.ensures.1 ∙ ap text_behind_list past_chips in
     passed_on (IsToldBy c.args.limits c.args.text.now)
     c.from_residual-in_err-over.result c.in_err-over.field-0.0
     c.from_residual-in_err-over.ensures.1 c.in_err-over.ensures
@@ -39,9 +39,9 @@ returns-in_err-over c =
 
 pub returns-in_err-sealed : goal.returns-in_err-sealed
 returns-in_err-sealed c =
-    let past_chips = c.in_ok-chips.ensures.1 ∙ ap behind_list c.in_ok-lists.ensures in
-    let past_fired = c.in_ok-fired.ensures.1 ∙ ap behind_list past_chips in
-    let past_over = c.in_ok-over.ensures.1 ∙ ap behind_list past_fired in
+    let past_chips = c.in_ok-chips.ensures.1 ∙ ap text_behind_list c.in_ok-lists.ensures in
+    let past_fired = c.in_ok-fired.ensures.1 ∙ ap text_behind_list past_chips in
+    let past_over = c.in_ok-over.ensures.1 ∙ ap text_behind_list past_fired in
     passed_on (IsToldBy c.args.limits c.args.text.now)
     c.from_residual-in_err-sealed.result c.in_err-sealed.field-0.0
     c.from_residual-in_err-sealed.ensures.1 c.in_err-sealed.ensures

@@ -1,5 +1,5 @@
 use Rattle.std.proofs.Common.{ap, ◌∙◌, subst, lit<}
-use Rattle.chip_report.specs.ReportLists.{behind_list, HasNoList}
+use Rattle.chip_report.specs.ReportLists.{text_behind_list, HasNoList}
 use Rattle.chip_report.specs.ReportTwo.{IsSittingToldBy}
 use Rattle.chip_report.proofs.ReportLemmas.{passed_on}
 use Rattle.chip_report.proofs.ReportTwoLemmas.{none_within_two, none_without_utf8_two, none_without_list_two}
@@ -22,7 +22,7 @@ returns-in_err-chips c =
 
 pub returns-in_err-fired : goal.returns-in_err-fired
 returns-in_err-fired c =
-    let past_chips = c.in_ok-chips.ensures.1 ∙ ap behind_list c.in_ok-lists.ensures in
+    let past_chips = c.in_ok-chips.ensures.1 ∙ ap text_behind_list c.in_ok-lists.ensures in
     passed_on (IsSittingToldBy c.args.limits c.args.text.now)
     c.from_residual-in_err-fired.result c.in_err-fired.field-0.0
     c.from_residual-in_err-fired.ensures.1 c.in_err-fired.ensures
@@ -31,8 +31,8 @@ returns-in_err-fired c =
 
 pub returns-in_err-over : goal.returns-in_err-over
 returns-in_err-over c =
-    let past_chips = c.in_ok-chips.ensures.1 ∙ ap behind_list c.in_ok-lists.ensures in
-    let past_fired = c.in_ok-fired.ensures.1 ∙ ap behind_list past_chips in
+    let past_chips = c.in_ok-chips.ensures.1 ∙ ap text_behind_list c.in_ok-lists.ensures in
+    let past_fired = c.in_ok-fired.ensures.1 ∙ ap text_behind_list past_chips in
     passed_on (IsSittingToldBy c.args.limits c.args.text.now)
     c.from_residual-in_err-over.result c.in_err-over.field-0.0
     c.from_residual-in_err-over.ensures.1 c.in_err-over.ensures
@@ -41,9 +41,9 @@ returns-in_err-over c =
 
 pub returns-in_err-prior : goal.returns-in_err-prior
 returns-in_err-prior c =
-    let past_chips = c.in_ok-chips.ensures.1 ∙ ap behind_list c.in_ok-lists.ensures in
-    let past_fired = c.in_ok-fired.ensures.1 ∙ ap behind_list past_chips in
-    let past_over = c.in_ok-over.ensures.1 ∙ ap behind_list past_fired in
+    let past_chips = c.in_ok-chips.ensures.1 ∙ ap text_behind_list c.in_ok-lists.ensures in
+    let past_fired = c.in_ok-fired.ensures.1 ∙ ap text_behind_list past_chips in
+    let past_over = c.in_ok-over.ensures.1 ∙ ap text_behind_list past_fired in
     passed_on (IsSittingToldBy c.args.limits c.args.text.now)
     c.from_residual-in_err-prior.result c.in_err-prior.field-0.0
     c.from_residual-in_err-prior.ensures.1 c.in_err-prior.ensures
@@ -52,10 +52,10 @@ returns-in_err-prior c =
 
 pub returns-in_err-sealed : goal.returns-in_err-sealed
 returns-in_err-sealed c =
-    let past_chips = c.in_ok-chips.ensures.1 ∙ ap behind_list c.in_ok-lists.ensures in
-    let past_fired = c.in_ok-fired.ensures.1 ∙ ap behind_list past_chips in
-    let past_over = c.in_ok-over.ensures.1 ∙ ap behind_list past_fired in
-    let past_prior = c.in_ok-prior.ensures.1 ∙ ap behind_list past_over in
+    let past_chips = c.in_ok-chips.ensures.1 ∙ ap text_behind_list c.in_ok-lists.ensures in
+    let past_fired = c.in_ok-fired.ensures.1 ∙ ap text_behind_list past_chips in
+    let past_over = c.in_ok-over.ensures.1 ∙ ap text_behind_list past_fired in
+    let past_prior = c.in_ok-prior.ensures.1 ∙ ap text_behind_list past_over in
     passed_on (IsSittingToldBy c.args.limits c.args.text.now)
     c.from_residual-in_err-sealed.result c.in_err-sealed.field-0.0
     c.from_residual-in_err-sealed.ensures.1 c.in_err-sealed.ensures

@@ -4,7 +4,7 @@ use Rattle.std.specs.Io.KnownBytes.{Appends}
 use Rattle.chip_link.specs.declared.trace.TraceRow.{TraceRow}
 use Rattle.chip_net.specs.Tokens.{ActorKnown}
 use Rattle.chip_trace.specs.TraceText.{trace_text}
-use Rattle.chip_run.specs.Recording.{rows_kept, some_cut, FailsToRecord}
+use Rattle.chip_run.specs.Recording.{rows_kept, is_any_cut, FailsToRecord}
 use Rattle.chip_run.proofs.RunLemmas.{fails_by, err_by}
 use Rattle.chip_run.proofs.recording.write_traces.Goals as goal
 
@@ -19,7 +19,7 @@ returns-clause-records g c =
     record {
       text = subst (λ (traces : List (List TraceRow)). Appends (g.T.Write.contents c.args.writer.now)
           (g.T.Write.contents c.write_trace.new.writer) (trace_text traces)) rows c.in_ok-write_trace.ensures;
-      cut_is = i.cut ∙ ap some_cut whole;
+      cut_is = i.cut ∙ ap is_any_cut whole;
     }
 
 pub returns-in_err-write_trace-clause-fault : goal.returns-in_err-write_trace-clause-fault

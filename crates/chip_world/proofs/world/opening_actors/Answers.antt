@@ -1,6 +1,6 @@
 use Rattle.std.proofs.Common.{◌≡◌, ℕ, ◌+◌, [], ◌∷◌, sym, subst, arith, length-append}
 use Rattle.chip_part.specs.Setting.{Setting, setting_with}
-use Rattle.chip_part.specs.Part.{opened}
+use Rattle.chip_part.specs.Part.{opening_part}
 use Rattle.chip_actor.specs.Actor.{StandsFor}
 use Rattle.chip_world.specs.World.{IsActor, AreOpeningActors}
 use Rattle.chip_world.proofs.OpeningLemmas.{pushed}
@@ -18,7 +18,7 @@ loop-vertex-preserved c =
         each = pushed (IsActor g []) c.loop-vertex.actors.items c.in_ok-new.field-0 c.loop-vertex.vertex count
             so_far.each record {
               vertex_is = c.in_ok-new.ensures.vertex;
-              stands = subst (λ (h : Setting). StandsFor h (opened h) c.in_ok-new.field-0) same
+              stands = subst (λ (h : Setting). StandsFor h (opening_part h) c.in_ok-new.field-0) same
                   (c.in_ok-new.ensures.opened g.fed);
             };
       },

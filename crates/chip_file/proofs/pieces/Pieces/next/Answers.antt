@@ -2,7 +2,7 @@ use Rattle.std.proofs.Common.{◌≡◌, ◌∙◌, refl, sym, take, ap, arith, 
 use denote.Enum.Bare.{same_true}
 use Rattle.chip_file.specs.contracts.source.LastRead.{the_type}
 use Rattle.chip_file.specs.Pieces.{reading}
-use Rattle.chip_file.specs.Source.{left}
+use Rattle.chip_file.specs.Source.{bytes_left}
 use Rattle.chip_file.specs.declared.source.LastRead.TheVariants as last
 use Rattle.chip_file.proofs.PieceLemmas.{cut_piece, due_kept, front_counts, gave_bytes, gave_none, goes_further}
 use Rattle.chip_file.proofs.PieceLemmas.{goes_kept, last_piece, none_come, still_kept}
@@ -14,7 +14,7 @@ returns-then-eq-clause-piece g c =
     let ended = sym c.last_read.ensures ∙ is_end in (
       refl,
       ended,
-      λ rows known. none_come (left g.R.Read.remaining c.args.source.now) _ rows (c.requires.ready.done ended)
+      λ rows known. none_come (bytes_left g.R.Read.remaining c.args.source.now) _ rows (c.requires.ready.done ended)
           (c.requires.sound.ended ended).0 known,
     )
 

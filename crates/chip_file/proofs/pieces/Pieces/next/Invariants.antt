@@ -1,6 +1,6 @@
 use Rattle.std.proofs.Common.{◌≡◌, ◌-◌, ◌+◌, ◌≤◌, ℕ, List, Some, true}
 use Rattle.chip_file.specs.Source.{goes_on, last_read}
-use Rattle.chip_file.specs.Pieces.{GoesOn, IsReady, reading, rows_due, unread}
+use Rattle.chip_file.specs.Pieces.{GoesOn, IsReady, reading, rows_due, bytes_unread}
 use Rattle.chip_file.proofs.pieces.Pieces.next.Given as goal
 
 abbrev pub invariant-loop-self : goal.invariant-loop-self
@@ -8,8 +8,8 @@ invariant-loop-self g l = record {
   on : GoesOn g.R.Read.remaining (reading l.initial.source l.initial.self) (reading l.source l.self);
   ready : IsReady (reading l.source l.self);
   more : goes_on (last_read l.source) ≡ true;
-  kept : (text : List ℕ) → unread g.R.Read.remaining (reading l.initial.source l.initial.self) ≡ Some text
-      → unread g.R.Read.remaining (reading l.source l.self) ≡ Some text;
+  kept : (text : List ℕ) → bytes_unread g.R.Read.remaining (reading l.initial.source l.initial.self) ≡ Some text
+      → bytes_unread g.R.Read.remaining (reading l.source l.self) ≡ Some text;
   due : rows_due (reading l.source l.self) ≤ rows_due (reading l.initial.source l.initial.self);
 }
 

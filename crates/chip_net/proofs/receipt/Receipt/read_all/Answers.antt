@@ -1,7 +1,7 @@
 use Rattle.std.proofs.Common.{◌≡◌, ◌+◌, Option, sym, ◌∙◌, subst}
 use Rattle.std.specs.Prelude.{IfSome}
 use Rattle.chip_link.specs.declared.words.FiredWord.{FiredWord}
-use Rattle.chip_link.specs.Words.{fired_in, halted_in, by_limit_in}
+use Rattle.chip_link.specs.Words.{fired_in, is_halted_in, is_by_limit_in}
 use Rattle.chip_part.specs.Setting.{IsSetting}
 use Rattle.chip_net.specs.Tokens.{NetId}
 use Rattle.chip_net.specs.Finish.{TallyState, tally_after, IsReading}
@@ -18,11 +18,11 @@ loop-vertex-preserved c =
     let fired : c.unwrap.result.fired ≡ fired_in c.read.result =
     subst (λ (o : Option FiredWord). IfSome o (λ w. w.fired ≡ fired_in c.read.result)) some
     c.from_word-word.ensures.fired in
-    let halted : c.unwrap.result.halted ≡ halted_in c.read.result =
-    subst (λ (o : Option FiredWord). IfSome o (λ w. w.halted ≡ halted_in c.read.result)) some
+    let halted : c.unwrap.result.halted ≡ is_halted_in c.read.result =
+    subst (λ (o : Option FiredWord). IfSome o (λ w. w.halted ≡ is_halted_in c.read.result)) some
     c.from_word-word.ensures.halted in
-    let by_limit : c.unwrap.result.by_limit ≡ by_limit_in c.read.result =
-    subst (λ (o : Option FiredWord). IfSome o (λ w. w.by_limit ≡ by_limit_in c.read.result)) some
+    let by_limit : c.unwrap.result.by_limit ≡ is_by_limit_in c.read.result =
+    subst (λ (o : Option FiredWord). IfSome o (λ w. w.by_limit ≡ is_by_limit_in c.read.result)) some
     c.from_word-word.ensures.by_limit in
     let t : TallyState = c.loop-vertex.tally in
     subst (λ (u : TallyState). IsReading c.args.self.now c.read.new.self u (c.loop-vertex.vertex + 1))

@@ -1,7 +1,7 @@
 use Rattle.std.proofs.Common.{ap, sym, ◌∙◌, subst, Some, List, []}
 use Rattle.chip_part.specs.Setting.{Setting}
 use Rattle.chip_root.specs.Root.{RootStandsFor}
-use Rattle.chip_core.specs.Core.{Step, opened}
+use Rattle.chip_core.specs.Core.{Step, opening_part}
 use Rattle.chip_core.specs.Histories.{part_by}
 use Rattle.chip_net.specs.Views.{steps_or_none}
 use Rattle.chip_net.specs.Roots.{IsRoot}
@@ -14,7 +14,7 @@ invariant_of-result c =
     subst (λ (h : Setting). IsRoot h c.args.seat.me.0 c.in_ok-new.field-0) (sym c.of.ensures) record {
       setting = c.requires.setting;
       has = c.requires.part ∙ ap Some (sym none);
-      stands = subst (λ (did : List Step). RootStandsFor g (part_by g (opened g) did) c.in_ok-new.field-0)
+      stands = subst (λ (did : List Step). RootStandsFor g (part_by g (opening_part g) did) c.in_ok-new.field-0)
           (sym none) c.in_ok-new.ensures;
       log = [];
       legal = tt;

@@ -47,7 +47,9 @@ pub fn plain_engine_with<G: Read, C: Read, P: Watch, W: Write>(
         (W.contents output.old) (W.contents output.new) result }
 {
     let game = read_game_within(alloc, options.limits, graph, chips, options.limit)?;
+    watch.plays(&game);
     let answer = play(alloc, &game, watch)?;
+    watch.writes(answer.text.len() as u64);
     conclude(output, &answer.text, Ended::of(answer.status))
 }
 

@@ -2,6 +2,7 @@ ghost use Rattle.std.specs.Prelude.{◌≡◌, length, IfOk, IfSome};
 ghost use Rattle.chip_fire.specs.Rounds.{IsBegun};
 
 use crate::certificate::certify;
+use crate::rounds::STRETCH;
 use crate::soon::{ends_by, ends_soon, firings_of, looks_at_all};
 use crate::watch::Watch;
 use chip_graph::Game;
@@ -89,7 +90,7 @@ fn search_counts<W: Watch>(
         let firings = firings_of(fired).saturating_sub(begun);
         let lead = looks_of(search.firings(), played, firings) / LEAD;
         let due = ahead.saturating_add(played).saturating_add(lead);
-        if search.go_on(alloc, due.saturating_sub(searched)).ok()? {
+        if go_on(alloc, &mut search, due.saturating_sub(searched), watch).ok()? {
             break;
         }
         searched = searched.max(due);
@@ -99,6 +100,28 @@ fn search_counts<W: Watch>(
         played = played.saturating_add(turn);
     }
     search.found(alloc, &most).ok()
+}
+
+/// Goes on with a search for so much work, and tells time and again how far it has come; whether it is over.
+fn go_on<W: Watch>(
+    alloc: Global,
+    search: &mut Search<'_>,
+    work: u64,
+    watch: &mut W,
+) -> Result<bool, AllocError> {
+    let mut left = work;
+    'parts: for _ in 0..TURNS {
+        let part = left.min(STRETCH);
+        if search.go_on(alloc, part)? {
+            return Ok(true);
+        }
+        watch.searches(search.steps());
+        left -= part;
+        if left == 0 {
+            break;
+        }
+    }
+    Ok(false)
 }
 
 /// How many looks so many firings take, where others took so many: none while nothing has fired.

@@ -6,6 +6,12 @@ use chip_graph::Game;
 
 /// Told how a play goes on. It returns, and what it does changes nothing of the play.
 pub trait Watch {
+    /// Told once the game is read, before it is played.
+    fn plays(&mut self, _game: &Game) {}
+
+    /// Told how many steps a search for counts has made so far, in which no vertex fires.
+    fn searches(&mut self, _steps: u64) {}
+
     /// Told after so many more rounds, in each of which some vertex fired, the chips that each vertex has then and how
     /// often it has fired.
     ///
@@ -13,6 +19,9 @@ pub trait Watch {
     /// case every whole play of the game fires each vertex at least so often.
     fn rounds(&mut self, more: u64, game: &Game, chips: &[u64], fired: &[u64])
         requires { IsBegun game.now chips.now fired.now };
+
+    /// Told that a report of so many bytes is written next.
+    fn writes(&mut self, _bytes: u64) {}
 }
 
 /// Nobody is told.

@@ -94,6 +94,8 @@ pub struct Search<'a> {
     raise: i64,
     /// How often all vertices fire by the first counts that were near.
     firings: u64,
+    /// How many steps were made.
+    steps: u64,
 }
 
 /// Counts, and an order of the vertices that may show that every play reaches them.
@@ -158,6 +160,7 @@ impl<'a> Search<'a> {
             passed: Vec::new(alloc),
             raise: FIRST_RAISE,
             firings: 0,
+            steps: 0,
         };
         search.begin_density();
         Ok(search)
@@ -172,6 +175,7 @@ impl<'a> Search<'a> {
                 break;
             }
             done = done.saturating_add(self.work_of_step());
+            self.steps = self.steps.saturating_add(1);
             match self.stage {
                 Stage::Nearing => self.near(alloc)?,
                 Stage::Learning => self.learn(alloc)?,
@@ -193,6 +197,11 @@ impl<'a> Search<'a> {
             Stage::Found => up_to(alloc, &self.passed, most),
             _ => up_to(alloc, &[], most),
         }
+    }
+
+    /// How many steps the search has made, up to 2^64 - 1: cycles, and lowerings of the counts.
+    pub fn steps(&self) -> u64 {
+        self.steps
     }
 
     /// About how often all vertices fire, up to 2^64 - 1; 0 while nothing is known of it.

@@ -54,7 +54,7 @@ fn in_milliseconds(time: Duration) -> u64 {
     u64::try_from(time.as_millis()).unwrap_or(u64::MAX)
 }
 
-/// Tells of a play on one thread: how many rounds it has made, and how many firings it has come to.
+/// Tells of a play on one thread: what it is at, how many rounds it has made, and how many firings it has come to.
 #[derive(Drop)]
 pub struct RoundProgress<'a, R: Clock + Eprint> {
     rt: &'a R,
@@ -71,18 +71,45 @@ impl<'a, R: Clock + Eprint> RoundProgress<'a, R> {
             rounds: 0,
         }
     }
+
+    /// Whether a line is to be written now.
+    fn is_due(&self) -> bool {
+        match &self.pace {
+            Some(pace) => pace.is_due(self.rt),
+            None => false,
+        }
+    }
 }
 
 impl<R: Clock + Eprint> Watch for RoundProgress<'_, R> {
+    fn plays(&mut self, game: &Game) {
+        if self.is_due() {
+            let vertices = game.graph().vertices();
+            let edges = game.graph().edges().len();
+            let _ = eprintln!(self.rt;
+                "chipfire: progress: read {vertices} vertices, {edges} edges"
+            );
+        }
+    }
+
+    fn searches(&mut self, steps: u64) {
+        if self.is_due() {
+            let _ = eprintln!(self.rt; "chipfire: progress: guessing, {steps} steps");
+        }
+    }
+
     fn rounds(&mut self, more: u64, _game: &Game, _chips: &[u64], fired: &[u64]) {
         self.rounds = self.rounds.saturating_add(more);
-        let Some(pace) = &self.pace else {
-            return;
-        };
-        if pace.is_due(self.rt) {
+        if self.is_due() {
             let rounds = self.rounds;
             let firings = sum_of(fired);
             let _ = eprintln!(self.rt; "chipfire: progress: {rounds} rounds, {firings} firings");
+        }
+    }
+
+    fn writes(&mut self, bytes: u64) {
+        if self.is_due() {
+            let _ = eprintln!(self.rt; "chipfire: progress: writing {bytes} bytes");
         }
     }
 }

@@ -1,6 +1,7 @@
 -- Serves Acknowledging.antt.
 -- What the rule of acknowledging says, over plain arguments.
-use Rattle.std.proofs.Common.{◌≡◌, ℕ, ◌-◌, ◌<◌, ◌≤◌, Bool, true, false, Option, Some, None, subst, inl, inr, arith}
+use Rattle.std.proofs.Common.{◌≡◌, ◌≢◌, ℕ, ◌-◌, ◌<◌, ◌≤◌, Bool, true, false, Option, Some, None, refl, subst, inl, inr}
+use Rattle.std.proofs.Common.{arith}
 use Rattle.std.proofs.lemmas.Bool.Decides.{nat_tests, eqb_tells}
 use Rattle.chip_detect.specs.Acknowledging.{acknowledgeable_count, parent_while_owed}
 
@@ -20,6 +21,12 @@ all_when_done e here all waiting false owing allowed = absurd (grind (arith, nat
 -- an active vertex keeps one
 pub active_keeps_one : (e here all waiting : ℕ) → acknowledgeable_count e (Some e) here all waiting false ≡ here - 1
 active_keeps_one e here all waiting = grind (arith, nat_tests)
+
+-- one message alone is kept on the parent edge, unless the vertex is done
+pub one_is_kept : (e here all waiting : ℕ) (passive : Bool) → here ≡ 1 → (passive ≡ true → waiting ≢ 0)
+    → acknowledgeable e (Some e) here all waiting passive ≡ 0
+one_is_kept e here all waiting true one undone = grind (arith, nat_tests, undone refl)
+one_is_kept e here all waiting false one undone = grind (arith, nat_tests)
 
 -- a parent that stays is owed something, and is the one that was there
 pub stays_owed : (parent : Option ℕ) (owes : ℕ → ℕ) (p : ℕ) → parent_while_owed parent owes ≡ Some p

@@ -1,6 +1,6 @@
 -- Serves Books.antt, Steps.antt, Tally.antt.
 -- The steps keep the books sound, and only a last acknowledgement makes an engaged vertex neutral.
-use Rattle.std.proofs.Common.{◌≡◌, ℕ, ◌+◌, ◌<◌, ◌≤◌, ◌≢◌, eqb, if◌then◌else◌, ◌&&◌, true, false, List, nat_eq, Option}
+use Rattle.std.proofs.Common.{◌≡◌, ℕ, ◌+◌, ◌<◌, ◌≤◌, ◌≢◌, eqb, if◌then◌else◌, ◌&&◌, Bool, true, false, List, nat_eq, Option}
 use Rattle.std.proofs.Common.{Some, None, is_some, refl, sym, ap, ◌∙◌, subst, inl, inr, arith}
 use Rattle.std.specs.List.{Contains}
 use Rattle.std.proofs.lemmas.Bool.Decides.{nat_tests, eqb_tells}
@@ -13,7 +13,8 @@ use Rattle.std.specs.Option.{option_eq}
 use Rattle.chip_detect.specs.Laws.{StepsKeepSoundness, NeutralOnlyWhenDone, ParentGoesWithAll, IsLastAcknowledgement}
 use Rattle.chip_detect.proofs.ChangesLemmas.{open_within_total, message_opens, message_tallies, answers_close}
 use Rattle.chip_detect.proofs.ChangesLemmas.{answers_tallies, answers_total}
-use Rattle.chip_detect.proofs.AllowedLemmas.{within_owed, all_when_done, active_keeps_one, stays_owed, goes_unowed}
+use Rattle.chip_detect.proofs.AllowedLemmas.{within_owed, all_when_done, active_keeps_one, one_is_kept, stays_owed}
+use Rattle.chip_detect.proofs.AllowedLemmas.{goes_unowed}
 
 module _ (old new : Books) (e count : ℕ) (sound : IsSound old) (on : Contains (in_edges old) e)
     (allowed : count ≤ may_ack old e true) (change : Acknowledges old new e count) where
@@ -209,3 +210,11 @@ parent_goes_with_all old new e count sound were_owed change = change.parent ∙ 
           sound.engaged p was,
           λ (same : p ≡ e). ap (owed old) same,
         )
+
+-- where one message is all that is owed, and the vertex isn't done, nothing may be acknowledged on the parent edge
+pub last_is_kept : (b : Books) (passive : Bool) → IsSound b → all_owed b ≡ 1 → (passive ≡ true → deficit b ≢ 0)
+    → (p : ℕ) → b.parent ≡ Some p → may_ack b p passive ≡ 0
+last_is_kept b passive sound one undone p is =
+    let here : owed b p ≡ 1 = omega (arith, one, sound.engaged p is, open_within_total b.ins p) in
+    ap (λ (q : Option ℕ). acknowledgeable p q (owed b p) (all_owed b) (deficit b) passive) is
+    ∙ one_is_kept p (owed b p) (all_owed b) (deficit b) passive here undone

@@ -36,3 +36,7 @@ acknowledgeable_count e parent owed_here owed_in_all deficit_now passive =
 -- the same, of a vertex's books
 abbrev pub may_ack : Books → ℕ → Bool → ℕ
 may_ack b e passive = acknowledgeable_count e b.parent (owed b e) (all_owed b) (deficit b) passive
+
+-- all that the vertex owes is one message, and it isn't done: an engaged vertex owes it on its parent edge, and keeps it
+abbrev pub keeps_last : Books → Bool → Bool
+keeps_last b passive = all_owed b == 1 && not (passive && deficit b == 0)

@@ -1,4 +1,4 @@
-ghost use Rattle.std.specs.Prelude.{◌≡◌, ◌-◌, ◌<◌, ◌≤◌, true, length, Contains, IfOk};
+ghost use Rattle.std.specs.Prelude.{◌≡◌, ℕ, ◌-◌, ◌<◌, ◌≤◌, true, Some, length, Contains, IfOk, IsTrue};
 
 use crate::slot::Slot;
 use crate::tallies::Tallies;
@@ -37,7 +37,7 @@ impl Detect {
     ghost use Rattle.chip_detect.specs.Tally.{edge_limit, message_limit};
     ghost use Rattle.chip_detect.specs.Books.{Books, IsSound, IsFresh, in_edges, out_edges, is_engaged};
     ghost use Rattle.chip_detect.specs.Books.{got_of, sent_of, settled_of, owed, deficit};
-    ghost use Rattle.chip_detect.specs.Acknowledging.{may_ack};
+    ghost use Rattle.chip_detect.specs.Acknowledging.{may_ack, keeps_last};
     ghost use Rattle.chip_detect.specs.Steps.{Gets, Acknowledges, Sends, Settles};
     ghost use Rattle.chip_detect.specs.Slot.{IsSlotOf};
 
@@ -100,6 +100,15 @@ impl Detect {
         }
         let is_done = self.ins.all_open() == owed && passive && self.deficit() == 0;
         if is_done { owed } else { owed - 1 }
+    }
+
+    /// Whether the message that engaged the vertex is all that it owes, and may not be acknowledged yet; `passive` says
+    /// whether the vertex is.
+    pub fn keeps_last(&self, passive: bool) -> bool
+        ensures value { result ≡ keeps_last self.now passive }
+        ensures none { IsTrue result → (p : ℕ) → self.now.parent ≡ Some p → may_ack self.now p passive ≡ 0 }
+    {
+        self.ins.all_open() == 1 && !(passive && self.deficit() == 0)
     }
 
     /// Notes that `count` messages of the edge were acknowledged.

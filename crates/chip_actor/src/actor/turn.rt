@@ -235,6 +235,10 @@ impl ActorState {
         let Some(edge) = self.detect.parent() else {
             return 0;
         };
+        // So it is after most turns, and nothing is searched for.
+        if self.detect.keeps_last(passive) {
+            return 0;
+        }
         let slot = self.ins.slot_of(edge);
         let more = self.detect.may_ack_at(slot, passive);
         if more == 0 {

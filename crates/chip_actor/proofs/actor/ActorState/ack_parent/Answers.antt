@@ -1,4 +1,4 @@
-use Rattle.std.proofs.Common.{◌≡◌, ◌≢◌, ◌∙◌, Some, true, sym, ap, subst}
+use Rattle.std.proofs.Common.{◌≡◌, ◌≢◌, ◌∙◌, ℕ, Some, true, refl, sym, ap, subst}
 use Rattle.std.specs.List.{Contains}
 use Rattle.chip_detect.specs.Acknowledging as detector
 use Rattle.chip_part.specs.declared.act.Act.TheVariants as Do
@@ -14,6 +14,18 @@ use Rattle.chip_actor.proofs.actor.ActorState.ack_parent.Given.{Over}
 pub returns-in_default-clause-moves : goal.returns-in_default-clause-moves
 returns-in_default-clause-moves g c = no_parent_left (g.M.Medium.holds c.args.medium.now) c.args.self.now
     (sym (ap (λ (a : Actor). a.detect.parent) c.self.view_is) ∙ sym c.in_default.ensures.parent)
+
+pub returns-then-keeps_last-clause-moves : goal.returns-then-keeps_last-clause-moves
+returns-then-keeps_last-clause-moves g c =
+    let edge : ℕ = c.in-Some.edge in
+    let now : Actor = c.args.self.now in
+    let is : now.detect.parent ≡ Some edge = sym (ap (λ (a : Actor). a.detect.parent) c.self.view_is)
+    ∙ sym c.in-Some.ensures.parent in
+    let none : detector.may_ack now.detect edge (is_passive_now now) ≡ 0 =
+    sym (λ j. detector.may_ack (c.self.view_is j).detect edge (c.requires.passive j))
+    ∙ c.keeps_last.ensures.none c.if-keeps_last.true edge (sym c.in-Some.ensures.parent) in
+    parent_none now edge (detector.may_ack now.detect edge (is_passive_now now)) is refl
+    (g.M.Medium.holds c.args.medium.now) none
 
 pub slot_of-slot-requires : goal.slot_of-slot-requires
 slot_of-slot-requires g c = subst (λ (a : Actor). Contains a.ins.edges c.in-Some.edge) (sym c.self.view_is)

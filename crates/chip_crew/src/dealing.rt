@@ -45,17 +45,25 @@ impl Dealt {
         ensures place { self.new.place ≡ (self.old.place + 1) % max 1 (length self.old.actors.items) }
     {
         let place = self.place;
-        if place == 0 {
-            self.is_idle = true;
-        }
         if (place as usize) < self.actors.len() {
             let answer = self.actors[place as usize].turn(net);
             self.is_idle &= matches!(answer, Turn::Waiting | Turn::Idle);
         }
         self.place = self.place_after(place);
-        if self.place == 0 && self.is_idle {
+        if self.place == 0 {
+            self.end_round();
+        }
+    }
+
+    /// Yields after a round in which there was nothing to do.
+    fn end_round(&mut self)
+        ensures actors { self.new.actors.items ≡ self.old.actors.items }
+        ensures place { self.new.place ≡ self.old.place }
+    {
+        if self.is_idle {
             thread::yield_now();
         }
+        self.is_idle = true;
     }
 
     /// The place after this one, round the round.
@@ -64,7 +72,11 @@ impl Dealt {
         ensures { result ≡ (place + 1) % max 1 (length self.now.actors.items) }
     {
         let next = place + 1;
-        if next == self.round() { 0 } else { next }
+        if next < self.actors.len() as u64 {
+            next
+        } else {
+            0
+        }
     }
 }
 

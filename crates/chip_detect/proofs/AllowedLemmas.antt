@@ -24,7 +24,7 @@ active_keeps_one e here all waiting = grind (arith, nat_tests)
 
 -- one message alone is kept on the parent edge, unless the vertex is done
 pub one_is_kept : (e here all waiting : ℕ) (passive : Bool) → here ≡ 1 → (passive ≡ true → waiting ≢ 0)
-    → acknowledgeable e (Some e) here all waiting passive ≡ 0
+    → acknowledgeable_count e (Some e) here all waiting passive ≡ 0
 one_is_kept e here all waiting true one undone = grind (arith, nat_tests, undone refl)
 one_is_kept e here all waiting false one undone = grind (arith, nat_tests)
 

@@ -216,5 +216,5 @@ pub last_is_kept : (b : Books) (passive : Bool) → IsSound b → all_owed b ≡
     → (p : ℕ) → b.parent ≡ Some p → may_ack b p passive ≡ 0
 last_is_kept b passive sound one undone p is =
     let here : owed b p ≡ 1 = omega (arith, one, sound.engaged p is, open_within_total b.ins p) in
-    ap (λ (q : Option ℕ). acknowledgeable p q (owed b p) (all_owed b) (deficit b) passive) is
+    ap (λ (q : Option ℕ). acknowledgeable_count p q (owed b p) (all_owed b) (deficit b) passive) is
     ∙ one_is_kept p (owed b p) (all_owed b) (deficit b) passive here undone

@@ -31,7 +31,8 @@ Who comes from sandpiles finds the usual words under these names:
 Reports are drawn by `Report.image` and `Report.show`, plays by `frames`.
 
 A vertex has a number from 0 on, and where a graph comes from elsewhere also a name. Tuples go by numbers, dicts by
-names. Numbers of chips and firings go up to 2^40; a graph has up to 4,096 vertices and 65,536 edges.
+names. Numbers of chips and firings go up to 2^40; a graph has up to 4,096 vertices and 65,536 edges. Where `large` is
+true, which `check`, `plain`, `resume`, `frames` and the words of sandpiles take, it has up to 1,048,576 and 8,388,608.
 """
 
 from __future__ import annotations
@@ -90,6 +91,9 @@ __version__ = _version()
 
 MAX_VERTICES = 4096
 MAX_EDGES = 65_536
+#: The same of a large graph.
+MAX_LARGE_VERTICES = 2**20
+MAX_LARGE_EDGES = 2**23
 MAX_MULT = 2**20
 #: The most chips of a game, the most firings of a vertex, and the greatest limit.
 MAX_CHIPS = MAX_LIMIT = 2**40
@@ -192,6 +196,9 @@ class Graph:
 
     @staticmethod
     def _row(index: int, row: Sequence[int]) -> tuple[int, int, int]:
+        # (large graphs have millions of rows, which then are made once)
+        if type(row) is tuple and [*map(type, row)] == [int, int, int] and min(row) >= 0:
+            return row
         if len(row) not in (2, 3):
             raise ValueError(f"edge {index} is neither (tail, head) nor (tail, head, mult): {row!r}")
         tail, head, mult = (*row, 1)[:3]
@@ -720,10 +727,13 @@ class Program:
         """The program of this name, or the one that is found; see the head of this module."""
         self.path = find_program() if program is None else os.fspath(program)
 
-    def check(self, graph: Graph | FileName) -> Check:
-        """Looks whether a graph is one: each vertex with its degree and its distance to the sink."""
+    def check(self, graph: Graph | FileName, *, large: bool = False) -> Check:
+        """Looks whether a graph is one: each vertex with its degree and its distance to the sink.
+
+        Where it is `large`, it may have up to 1,048,576 vertices and 8,388,608 edges.
+        """
         with _Room() as room:
-            text = self._ask("check", room.graph(graph))
+            text = self._ask("check", room.graph(graph), large=large)
         lines = [line.split() for line in text.splitlines()]
         vertices, edges, sink = (int(words[1]) for words in lines[:3])
         degrees, distances = (tuple(int(words[place]) for words in lines[3:]) for place in (3, 5))
@@ -735,14 +745,17 @@ class Program:
         chips: Chips | FileName,
         *,
         limit: int | None = None,
+        large: bool = False,
         progress: bool = False,
     ) -> Report:
         """Stabilizes: plays on one thread until no vertex is legal, or all that are have fired `limit` times.
 
-        With `progress` there is a line on `sys.stderr`, once a second at most, that tells how the play goes on.
+        With `progress` there is a line on `sys.stderr`, once a second at most, that tells how the play goes on. `large`
+        is as in `check`.
         """
+        options = {"limit": limit, "large": large, "progress": progress}
         with _Room() as room:
-            return room.report(self._ask("plain", *room.game(graph, chips), limit=limit, progress=progress))
+            return room.report(self._ask("plain", *room.game(graph, chips), **options))
 
     def run(
         self,
@@ -817,24 +830,36 @@ class Program:
             words = (line.split() for line in self._ask("replay", *files, limit=limit).splitlines())
             return [Firing(int(vertex), int(count)) for _, vertex, count in words]
 
-    def resume(self, graph: Graph | FileName, report: Report | FileName, *, limit: int | None = None) -> Report:
-        """Goes on from where a limit or a seal stopped a play; `total` of what comes is what was fired in all."""
+    def resume(
+        self,
+        graph: Graph | FileName,
+        report: Report | FileName,
+        *,
+        limit: int | None = None,
+        large: bool = False,
+    ) -> Report:
+        """Goes on from where a limit or a seal stopped a play; `total` of what comes is what was fired in all.
+
+        `large` is as in `check`.
+        """
         with _Room() as room:
-            return room.report(self._ask("resume", room.graph(graph), room.earlier(report), limit=limit))
+            return room.report(self._ask("resume", room.graph(graph), room.earlier(report), limit=limit, large=large))
 
     def explain(self, number: int | None = None) -> str:
         """What the fault with this number means and what to do; without a number the table of all faults."""
         return self._ask("explain", *([] if number is None else [str(_whole(number, "a fault's number"))]))
 
-    def identity(self, graph: Graph | FileName) -> dict[Hashable, int]:
+    def identity(self, graph: Graph | FileName, *, large: bool = False) -> dict[Hashable, int]:
         """The recurrent identity: of the recurrent configurations, the one that adds nothing to any of them.
 
         With `m` the maximal stable configuration it is the stabilization of `2m` less the stabilization of `2m`.
+        `large` is as in `check`.
         """
         graph = graph if isinstance(graph, Graph) else Graph.read(graph)
         twice = {name: 2 * count for name, count in graph.max_stable().items()}
-        rest = self.plain(graph, twice).configuration
-        return self.plain(graph, {name: count - rest[name] for name, count in twice.items()}).configuration
+        rest = self.plain(graph, twice, large=large).configuration
+        left = {name: count - rest[name] for name, count in twice.items()}
+        return self.plain(graph, left, large=large).configuration
 
     def _ask(self, command: str, *files: str, **options: int | str | bool | None) -> str:
         """Runs a command, and returns what it writes; a fault is raised. An option that is True has no value."""
@@ -968,9 +993,9 @@ def start_program() -> None:
     os.execv(_CARRIED, [_CARRIED, *sys.argv[1:]])
 
 
-def check(graph: Graph | FileName, *, program: FileName | None = None) -> Check:
+def check(graph: Graph | FileName, *, large: bool = False, program: FileName | None = None) -> Check:
     """`Program.check` of the program that is named, or found."""
-    return Program(program).check(graph)
+    return Program(program).check(graph, large=large)
 
 
 def plain(
@@ -1023,9 +1048,11 @@ def explain(number: int | None = None, *, program: FileName | None = None) -> st
     return Program(program).explain(number)
 
 
-def identity(graph: Graph | FileName, *, program: FileName | None = None) -> dict[Hashable, int]:
+def identity(
+    graph: Graph | FileName, *, large: bool = False, program: FileName | None = None
+) -> dict[Hashable, int]:
     """`Program.identity` of the program that is named, or found: the recurrent identity."""
-    return Program(program).identity(graph)
+    return Program(program).identity(graph, large=large)
 
 
 # (these modules stand on all that is above)

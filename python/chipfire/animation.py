@@ -88,21 +88,23 @@ def frames(
     *,
     columns: int | None = None,
     palette: Palette = "colours",
+    large: bool = False,
     program: FileName | None = None,
 ) -> Frames:
     """The play of these chips as it stands at growing limits: where each vertex may fire so often at most.
 
     Where the limits are not said, they are spread evenly from 0, the start, to the end of the play, 24 at most.
-    `columns` and `palette` are those of `Report.image`. Each limit is a play of its own.
+    `columns` and `palette` are those of `Report.image`, and `large` is as in `Program.check`. Each limit is a play of
+    its own.
     Proved: the position at each limit, which no order of the firings changes. Not proved: that the pictures show it.
     """
     player = Program(program)
     if limits is None:
-        limits = _spread(max(player.plain(graph, chips).fired))
+        limits = _spread(max(player.plain(graph, chips, large=large).fired))
     limits = tuple(limits)
     if not limits:
         raise ValueError("there are no limits, and so no pictures")
-    reports = tuple(player.plain(graph, chips, limit=limit) for limit in limits)
+    reports = tuple(player.plain(graph, chips, limit=limit, large=large) for limit in limits)
     return Frames(limits, reports, tuple(report.picture(columns, palette) for report in reports))
 
 

@@ -7,7 +7,8 @@
     chipfire.invariant_factors(grid)
 
 A configuration is a dict of the chips of all vertices but the sink, by names. Where one is wanted, one number for each
-vertex does too, the sink's among them, and it counts for nothing.
+vertex does too, the sink's among them, and it counts for nothing. Where `large` is true, the graph may be a large one,
+of up to 1,048,576 vertices and 8,388,608 edges.
 
 What is proved: wherever chips are stabilized, the program is asked, and its chips and counts are those of every play
 that comes to its end. What is not: all that stands here, which says what to ask and compares what comes.
@@ -34,31 +35,36 @@ def _sum(first: Configuration, second: Configuration) -> Configuration:
     return {name: count + second[name] for name, count in first.items()}
 
 
-def _played(graph: Graph, chips: Chips, program: FileName | None) -> Report:
+def _played(graph: Graph, chips: Chips, large: bool, program: FileName | None) -> Report:
     """The report of a play to its end."""
-    report = Program(program).plain(graph, chips)
+    report = Program(program).plain(graph, chips, large=large)
     if not report.closed:
         raise ValueError("a vertex fired 2^40 times, and the chips are not stable then")
     return report
 
 
-def stabilize(graph: Graph, chips: Chips, *, program: FileName | None = None) -> Configuration:
+def stabilize(
+    graph: Graph, chips: Chips, *, large: bool = False, program: FileName | None = None
+) -> Configuration:
     """The stabilization: what lies there when no vertex can fire any more.
 
     It is `plain(graph, chips).configuration`; `odometer` of that report tells how often each vertex fired.
     Proved: the chips, which are those of every play to the end, whatever its order. Not proved: that Python passes them
     on as they come.
     """
-    return _played(graph, _configuration(graph, chips), program).configuration
+    return _played(graph, _configuration(graph, chips), large, program).configuration
 
 
-def add(graph: Graph, first: Chips, second: Chips, *, program: FileName | None = None) -> Configuration:
+def add(
+    graph: Graph, first: Chips, second: Chips, *, large: bool = False, program: FileName | None = None
+) -> Configuration:
     """The stable sum: both configurations together, stabilized.
 
     Under it the recurrent configurations are a group, the sandpile group.
     Proved: the stabilization. Not proved: that Python adds.
     """
-    return stabilize(graph, _sum(_configuration(graph, first), _configuration(graph, second)), program=program)
+    both = _sum(_configuration(graph, first), _configuration(graph, second))
+    return stabilize(graph, both, large=large, program=program)
 
 
 def is_stable(graph: Graph, chips: Chips) -> bool:
@@ -70,7 +76,7 @@ def is_stable(graph: Graph, chips: Chips) -> bool:
     return all(count <= most[name] for name, count in _configuration(graph, chips).items())
 
 
-def burning_script(graph: Graph, *, program: FileName | None = None) -> Configuration:
+def burning_script(graph: Graph, *, large: bool = False, program: FileName | None = None) -> Configuration:
     """The least burning script, by Speer: how often each vertex fires when a recurrent configuration burns.
 
     It is the least of the scripts that fire each vertex at least once and leave no vertex with more chips than before.
@@ -79,31 +85,31 @@ def burning_script(graph: Graph, *, program: FileName | None = None) -> Configur
     into it; the script is one more than its counts.
     Proved: the counts of that play. Not proved: that they are the script.
     """
-    return _burning(graph, program)[0]
+    return _burning(graph, large, program)[0]
 
 
-def burning_configuration(graph: Graph, *, program: FileName | None = None) -> Configuration:
+def burning_configuration(graph: Graph, *, large: bool = False, program: FileName | None = None) -> Configuration:
     """The chips that set a recurrent configuration on fire: those that `burning_script` takes away, each vertex's.
 
     Whoever adds them to a recurrent configuration and stabilizes gets that configuration back.
     Proved: the chips of the play that `burning_script` tells of. Not proved: that they come to these.
     """
-    return _burning(graph, program)[1]
+    return _burning(graph, large, program)[1]
 
 
-def _burning(graph: Graph, program: FileName | None) -> tuple[Configuration, Configuration]:
+def _burning(graph: Graph, large: bool, program: FileName | None) -> tuple[Configuration, Configuration]:
     """The burning script and the burning configuration."""
     into = [0] * graph.vertices
     for _, head, mult in graph.edges:
         into[head] += mult
     entering, most = graph.without_sink(into), graph.max_stable()
-    report = _played(graph, {name: max(count - 1, 0) for name, count in entering.items()}, program)
+    report = _played(graph, {name: max(count - 1, 0) for name, count in entering.items()}, large, program)
     script = {name: count + 1 for name, count in report.odometer.items()}
     fuel = {name: most[name] - left + (entering[name] == 0) for name, left in report.configuration.items()}
     return script, fuel
 
 
-def is_recurrent(graph: Graph, chips: Chips, *, program: FileName | None = None) -> bool:
+def is_recurrent(graph: Graph, chips: Chips, *, large: bool = False, program: FileName | None = None) -> bool:
     """Whether a configuration is recurrent: stable, and what each can become by more chips and firings.
 
     The method is the burning test, for directed multigraphs too: a configuration is recurrent exactly where it comes
@@ -111,20 +117,23 @@ def is_recurrent(graph: Graph, chips: Chips, *, program: FileName | None = None)
     Proved: the two stabilizations that are asked for. Not proved: the comparison, and that the test is right.
     """
     held = _configuration(graph, chips)
-    return add(graph, held, burning_configuration(graph, program=program), program=program) == held
+    fuel = burning_configuration(graph, large=large, program=program)
+    return add(graph, held, fuel, large=large, program=program) == held
 
 
-def recurrent_representative(graph: Graph, chips: Chips, *, program: FileName | None = None) -> Configuration:
+def recurrent_representative(
+    graph: Graph, chips: Chips, *, large: bool = False, program: FileName | None = None
+) -> Configuration:
     """The one recurrent configuration that is equivalent to this one.
 
     Firings, also backward, lead from one to the other. It is found as the stable sum of the configuration and the
     recurrent identity.
     Proved: the three stabilizations that are asked for. Not proved: the sums between them.
     """
-    return add(graph, chips, Program(program).identity(graph), program=program)
+    return add(graph, chips, Program(program).identity(graph, large=large), large=large, program=program)
 
 
-def is_superstable(graph: Graph, chips: Chips, *, program: FileName | None = None) -> bool:
+def is_superstable(graph: Graph, chips: Chips, *, large: bool = False, program: FileName | None = None) -> bool:
     """Whether a configuration is superstable: no vertices can fire together, not even several times each.
 
     Together they may fire where none is left with fewer than 0 chips, whether or not one of them could fire alone. On
@@ -135,7 +144,8 @@ def is_superstable(graph: Graph, chips: Chips, *, program: FileName | None = Non
     held, most = _configuration(graph, chips), graph.max_stable()
     if not is_stable(graph, held):
         return False
-    return is_recurrent(graph, {name: most[name] - count for name, count in held.items()}, program=program)
+    lacking = {name: most[name] - count for name, count in held.items()}
+    return is_recurrent(graph, lacking, large=large, program=program)
 
 
 def invariant_factors(graph: Graph) -> tuple[int, ...]:
@@ -191,16 +201,23 @@ class Avalanche:
         return len(self.fired)
 
 
-def avalanche(graph: Graph, chips: Chips, vertex: Hashable, *, program: FileName | None = None) -> Avalanche:
+def avalanche(
+    graph: Graph, chips: Chips, vertex: Hashable, *, large: bool = False, program: FileName | None = None
+) -> Avalanche:
     """What happens when one chip is dropped on a vertex of a stable configuration.
 
     Proved: how often each vertex fires, and the chips that are left. Not proved: the sums, `size` and `extent`.
     """
-    return next(avalanches(graph, chips, [vertex], program=program))
+    return next(avalanches(graph, chips, [vertex], large=large, program=program))
 
 
 def avalanches(
-    graph: Graph, chips: Chips, vertices: Iterable[Hashable], *, program: FileName | None = None
+    graph: Graph,
+    chips: Chips,
+    vertices: Iterable[Hashable],
+    *,
+    large: bool = False,
+    program: FileName | None = None,
 ) -> Iterator[Avalanche]:
     """The avalanches of one chip after another: each is dropped on a vertex of what the one before it left.
 
@@ -209,17 +226,17 @@ def avalanches(
     """
     if not is_stable(graph, chips):
         raise ValueError("the chips are not stable: stabilize them first")
-    return _dropped(graph, _configuration(graph, chips), vertices, program)
+    return _dropped(graph, _configuration(graph, chips), vertices, large, program)
 
 
 def _dropped(
-    graph: Graph, held: Configuration, vertices: Iterable[Hashable], program: FileName | None
+    graph: Graph, held: Configuration, vertices: Iterable[Hashable], large: bool, program: FileName | None
 ) -> Iterator[Avalanche]:
     """The avalanches from a stable configuration on."""
     for vertex in vertices:
         chips = list(graph.chips(held))
         chips[graph.number(vertex)] += 1
-        report = _played(graph, chips, program)
+        report = _played(graph, chips, large, program)
         held = report.configuration
         fired = {name: count for name, count in report.odometer.items() if count}
         yield Avalanche(vertex, fired, held, report.chips[graph.sink])

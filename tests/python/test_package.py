@@ -171,6 +171,60 @@ class Sittings(WithFolder):
             chipfire.Report((1,), (0,)).configuration
 
 
+class Large(WithFolder):
+    """Graphs past the standard limits: 5,000 vertices, each with an edge that sends two chips to the sink."""
+
+    FAN = chipfire.Graph(5000, 4999, [(vertex, 4999, 2) for vertex in range(4999)])
+    CHIPS = {0: 5, 1: 1, 4998: 3}
+
+    def fault_of(self, call, *arguments, **options):
+        with self.assertRaises(chipfire.Fault) as caught:
+            call(*arguments, **options)
+        return caught.exception.number, caught.exception.place
+
+    def test_a_large_graph_is_looked_at(self):
+        wanted = chipfire.Check(5000, 4999, 4999, (2,) * 4999 + (0,), (1,) * 4999 + (0,))
+        self.assertEqual(chipfire.check(self.FAN, large=True), wanted)
+
+    def test_a_large_game_in_one_sitting_and_in_two(self):
+        whole = chipfire.plain(self.FAN, self.CHIPS, large=True, progress=True)
+        self.assertEqual(whole, chipfire.Report((1, 1, *[0] * 4996, 1, 6), (2, 0, *[0] * 4996, 1, 0)))
+        self.assertEqual(chipfire.stabilize(self.FAN, self.CHIPS, large=True), whole.configuration)
+        first = chipfire.plain(self.FAN, self.CHIPS, limit=1, large=True)
+        self.assertEqual((first.over, first.chips[4999]), ((0,), 4))
+        second = chipfire.resume(self.FAN, first, large=True)
+        self.assertEqual((second.chips, second.total, second.over), (whole.chips, whole.fired, ()))
+
+    def test_a_large_game_of_files(self):
+        self.FAN.write(self.file("graph.json"))
+        chipfire.write_chips(self.file("chips.csv"), self.FAN, self.CHIPS)
+        report = chipfire.plain(self.file("graph.json"), self.file("chips.csv"), large=True)
+        self.assertEqual((report.fired[0], report.graph, sum(report.odometer.values())), (2, self.FAN, 3))
+        report.write(self.file("report.json"))
+        self.assertEqual(chipfire.resume(self.file("graph.json"), self.file("report.json"), large=True).total[0], 2)
+
+    def test_without_the_word_it_is_refused(self):
+        report = chipfire.Report((0,) * 5000, (0,) * 5000)
+        calls = [(chipfire.check, ()), (chipfire.plain, ({},)), (chipfire.resume, (report,)), (chipfire.identity, ())]
+        for call, arguments in [*calls, (chipfire.is_recurrent, ({},)), (chipfire.run, ({},))]:
+            with self.subTest(call.__name__):
+                self.assertEqual(self.fault_of(call, self.FAN, *arguments), (1, ()))
+
+    def test_the_limits_of_a_large_graph(self):
+        most = chipfire.MAX_LARGE_VERTICES
+        for vertices, fault in [(most, (8, (1,))), (most + 1, (1, ()))]:
+            with self.subTest(vertices=vertices):
+                self.assertEqual(self.fault_of(chipfire.check, chipfire.Graph(vertices, 0, ()), large=True), fault)
+
+    def test_the_identity_of_a_large_grid(self):
+        grid = chipfire.grid(70, 70)
+        identity = chipfire.identity(grid, large=True)
+        self.assertTrue(chipfire.is_recurrent(grid, identity, large=True))
+        self.assertEqual(chipfire.add(grid, identity, identity, large=True), identity)
+        self.assertEqual(identity, {70 * (square % 70) + square // 70: chips for square, chips in identity.items()})
+        self.assertEqual(chipfire.recurrent_representative(grid, {}, large=True), identity)
+
+
 class Detector(WithFolder):
     def test_the_schedules_of_the_examples(self):
         triangle = (TRIANGLE_FILE, CHIPS_FILE)

@@ -12,7 +12,6 @@ SECONDS = 120
 VERTICES = 4096
 EDGES = 65_536
 LAST = VERTICES - 1
-FAN_OUT = 16
 PASSED_ON = 30
 ROWS = 64
 EVENTS = 180_000
@@ -34,29 +33,34 @@ def report(chips, fired, over=(), prior=None):
 
 
 class Fan:
-    """Each vertex has sixteen edges to the sink, the last vertex, and vertex 0 has sixteen more."""
+    """Each vertex has so many edges to the sink, the last vertex, and vertex 0 has as many more."""
 
-    def __init__(self):
-        self.edges = [[tail, LAST, 1] for tail in [*range(LAST), 0] for _ in range(FAN_OUT)]
-        assert len(self.edges) == EDGES
-        self.degrees = [2 * FAN_OUT] + [FAN_OUT] * (LAST - 1)
-        self.chips = [vertex * 7919 % 1000 for vertex in range(LAST)] + [5]
+    def __init__(self, vertices, edges):
+        self.vertices, self.edges, self.last = vertices, edges, vertices - 1
+        self.fan_out = edges // vertices
+        self.degrees = [2 * self.fan_out] + [self.fan_out] * (self.last - 1)
+        self.chips = [vertex * 7919 % 1000 for vertex in range(self.last)] + [5]
+
+    def tail(self, edge):
+        """The vertex that an edge leads from."""
+        return edge // self.fan_out % self.last
 
     def graph(self):
-        return compact({"edges": self.edges, "sink": LAST, "version": 1, "vertices": VERTICES})
+        rows = (",".join([f"[{tail},{self.last},1]"] * self.fan_out) for tail in [*range(self.last), 0])
+        return f'{{"edges":[{",".join(rows)}],"sink":{self.last},"version":1,"vertices":{self.vertices}}}'
 
     def stopped(self, chips, limit):
         """Chips, counts and the vertices that the limit stopped, where a game goes on from these chips."""
         fired = [min(limit, count // degree) for count, degree in zip(chips, self.degrees)] + [0]
         sent = [times * degree for times, degree in zip(fired, self.degrees)]
-        left = [count - gone for count, gone in zip(chips, sent)] + [chips[LAST] + sum(sent)]
-        return left, fired, [vertex for vertex in range(LAST) if left[vertex] >= self.degrees[vertex]]
+        left = [count - gone for count, gone in zip(chips, sent)] + [chips[self.last] + sum(sent)]
+        return left, fired, [vertex for vertex in range(self.last) if left[vertex] >= self.degrees[vertex]]
 
     def shown(self):
         """What `check` writes."""
         lines = [f"vertex {vertex} degree {degree} distance 1" for vertex, degree in enumerate(self.degrees)]
-        head = [f"vertices {VERTICES}", f"edges {EDGES}", f"sink {LAST}"]
-        return "".join(f"{line}\n" for line in [*head, *lines, f"vertex {LAST} degree 0 distance 0"])
+        head = [f"vertices {self.vertices}", f"edges {self.edges}", f"sink {self.last}"]
+        return "".join(f"{line}\n" for line in [*head, *lines, f"vertex {self.last} degree 0 distance 0"])
 
 
 class Path:
@@ -176,7 +180,7 @@ def play_trace(room, fan):
     faults += [] if rows[:-ROWS] == wanted else ["other rows of the vertices that fire"]
     taken = [row.split(",") for row in rows[-ROWS:]]
     own = [f"{EDGES + LAST}", f"{fan.chips[LAST]}"]
-    known = ([edge, f"{fired[fan.edges[int(edge)][0]]}"] if edge != own[0] else own for _, _, edge, _ in taken)
+    known = ([edge, f"{fired[fan.tail(int(edge))]}"] if edge != own[0] else own for _, _, edge, _ in taken)
     is_well = all(row == [f"{LAST}", "take", *edge] for row, edge in zip(taken, known))
     yield arguments, faults if is_well else [*faults, "other rows of the sink"]
 
@@ -194,7 +198,7 @@ def play_path(room, path):
 
 def play_largest(program):
     """Plays the largest games, and returns for each run its place, name and faults."""
-    fan, path = Fan(), Path()
+    fan, path = Fan(VERTICES, EDGES), Path()
     for name, game, play in (("fan", fan, play_fan), ("trace", fan, play_trace), ("path", path, play_path)):
         with tempfile.TemporaryDirectory(prefix="chipfire-largest-") as folder:
             for arguments, faults in play(Room(program, folder, game), game):

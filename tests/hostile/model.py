@@ -7,9 +7,6 @@ import dataclasses
 import json
 import re
 
-MAX_BYTES = 16_777_216
-MAX_VERTICES = 4_096
-MAX_EDGES = 65_536
 MAX_MULT = 1 << 20
 MAX_CHIPS = 1 << 40
 MAX_PRIOR = 1 << 60
@@ -20,6 +17,19 @@ MAX_ROUNDS = 20_000
 EVENTS_OF_VERTICES = {b"fire", b"halt", b"read"}
 EVENTS_OF_EDGES = {b"take", b"ack", b"clear", b"claim", b"put", b"settle", b"seal", b"feed"}
 EVENTS_ANYWHERE = {b"end"}
+
+
+@dataclasses.dataclass(frozen=True)
+class Limits:
+    """How many vertices and edges a graph may have, and how many bytes a file."""
+
+    vertices: int
+    edges: int
+    bytes: int
+
+
+STANDARD = Limits(4_096, 65_536, 16_777_216)
+LARGE = Limits(1_048_576, 8_388_608, 268_435_456)
 
 
 class Fault(Exception):
@@ -57,18 +67,19 @@ class Model:
     def __init__(self, play, simulate):
         self.play, self.simulate_script = play, simulate
 
-    def answer(self, command, files, limit=MAX_CHIPS, ring=1, rounds=0, fed=False, **_):
+    def answer(self, command, files, limit=MAX_CHIPS, large=False, ring=1, rounds=0, fed=False, **_):
         """What the program must answer to a command and its files, each some bytes; threads change nothing.
 
         A third file of `run` is the one of its feeds.
         """
+        limits = LARGE if large else STANDARD
         try:
-            graph = read_graph(files[0])
+            graph = read_graph(files[0], limits)
             if command == "check":
                 return Answer(f"{self.play.check(graph)}\n".encode())
             if command == "resume":
-                return resumed(graph, files[1], limit)
-            chips = read_chips(files[1], graph)
+                return resumed(graph, files[1], limit, limits)
+            chips = read_chips(files[1], graph, limits)
             if command == "run" and len(files) > 2:
                 chips = with_feeds(chips, read_chips(files[2], graph))
             if command in ("plain", "run"):
@@ -91,8 +102,8 @@ class Model:
         return Answer("".join(f"{line}\n" for line in lines).encode(), status=status)
 
 
-def whole(text):
-    if len(text) > MAX_BYTES:
+def whole(text, limits=STANDARD):
+    if len(text) > limits.bytes:
         raise Fault("30 TooLong")
     return text
 
@@ -173,23 +184,23 @@ def has_graph_shape(found):
     return isinstance(found["edges"], list) and all(is_row(row) for row in found["edges"])
 
 
-def read_graph(text):
-    graph = read_json(whole(text))
+def read_graph(text, limits=STANDARD):
+    graph = read_json(whole(text, limits))
     if not has_graph_shape(graph):
         raise Fault("21 Shape")
     if graph["version"] != 1:
         raise Fault("22 Version")
-    check_graph(graph)
+    check_graph(graph, limits)
     return graph
 
 
-def check_graph(graph):
+def check_graph(graph, limits):
     vertices, sink, edges = graph["vertices"], graph["sink"], graph["edges"]
-    if not 1 <= vertices <= MAX_VERTICES:
+    if not 1 <= vertices <= limits.vertices:
         raise Fault("1 Vertices")
     if sink >= vertices:
         raise Fault("2 Sink")
-    if len(edges) > MAX_EDGES:
+    if len(edges) > limits.edges:
         raise Fault("3 EdgeCount")
     for i, (tail, head, mult) in enumerate(edges):
         if tail >= vertices or head >= vertices:
@@ -262,9 +273,9 @@ class Rows:
         return self.records
 
 
-def read_rows(text, header):
+def read_rows(text, header, limits=STANDARD):
     """The rows behind the header, each with as many fields, or a fault that says where that ends."""
-    text = whole(text)
+    text = whole(text, limits)
     records = Rows().read(text[3:] if text.startswith(b"\xef\xbb\xbf") else text)
     if not records or records[0] != header:
         raise Fault("23 Header")
@@ -280,9 +291,9 @@ def numbers(i, *fields):
     return [int(field) for field in fields]
 
 
-def read_chips(text, graph):
+def read_chips(text, graph, limits=STANDARD):
     found = {}
-    for i, row in read_rows(text, [b"vertex", b"chips"]):
+    for i, row in read_rows(text, [b"vertex", b"chips"], limits):
         vertex, chips = numbers(i, *row)
         if vertex >= graph["vertices"]:
             raise Fault(f"26 Vertex {i}")
@@ -377,15 +388,15 @@ REPORT = re.compile(
 )
 
 
-def read_report(text):
+def read_report(text, limits):
     """The chips and firings of a report, and what was fired before."""
-    found = REPORT.fullmatch(whole(text))
+    found = REPORT.fullmatch(whole(text, limits))
     if not found:
         raise Fault("50 NotReport")
     chips, fired, over, prior, sealed = (listed(found[it]) for it in (1, 3, 4, 5, 6))
     is_two = found[7] == b"2"
     is_report = (
-        1 <= len(chips) <= MAX_VERTICES
+        1 <= len(chips) <= limits.vertices
         and len(fired) == len(chips)
         and max(chips + fired) <= MAX_CHIPS
         and is_two == (found[5] is not None)
@@ -403,8 +414,8 @@ def listed(text):
     return [int(it) for it in text.split(b",")] if text else []
 
 
-def resumed(graph, text, limit):
-    chips, fired, prior = read_report(text)
+def resumed(graph, text, limit, limits):
+    chips, fired, prior = read_report(text, limits)
     if len(chips) != graph["vertices"]:
         raise Fault("52 Mismatch")
     if sum(chips) > MAX_CHIPS:

@@ -22,6 +22,8 @@ def options_of(command, draw):
     options = {}
     if command != "check" and draw.random() < 0.5:
         options["limit"] = draw.choice([0, 1, 2, 5, 1 << 40])
+    if command in ("check", "plain", "resume"):
+        options.update(large=draw.random() < 0.5)
     if command == "simulate":
         options.update(ring=draw.choice([1, 1, 2, 3, 64]), rounds=draw.choice([0, 1, 3, 50]))
         options.update(fed=draw.random() < 0.5)

@@ -140,10 +140,13 @@ def worked_runs(examples):
             "path/report.json",
             near_limit="1000",
         ),
+        run("small triangle, large", f"plain {triangle} --large", "triangle/report.json"),
         run("no words", "", "triangle/report.json"),
         run("graph of the chain", "check chain/graph.json", "chain/check.txt"),
+        run("graph of the chain, large", "check --large chain/graph.json", "chain/check.txt"),
         run("first sitting", "plain triangle/graph.json sittings/chips.csv --limit 1", "sittings/first.json", status=2),
         run("last sitting", "resume triangle/graph.json sittings/second.json", "sittings/third.json"),
+        run("large last sitting", "resume --large triangle/graph.json sittings/second.json", "sittings/third.json"),
         run(
             "sealed half way",
             f"simulate {triangle} detector/sealed-half-way.csv --rounds 10",

@@ -1,0 +1,294 @@
+#!/usr/bin/env python3
+"""Large games, which are played by `--large`: random ones of 10,000 to 200,000 vertices, a heap on a grid of 255 by 255
+squares, and the largest that there are, of 1,048,576 vertices and 8,388,608 edges.
+
+    tests/cli/large.py [--program FILE] [--games N] [--anew]
+
+FILE is the program that ./chipfire built, if not said. N random games are played, 200 if not said; tests/cli/run plays
+12. What must come of them is known from player.c, which shares nothing with the program and is built by `cc`. It takes
+half a minute for the heap, so the digest of its report stands here; --anew has it found once more. The answers of the
+largest games are known by arithmetic. The last line is `N passed, N failed`, and the status is 0 only if nothing failed.
+"""
+import argparse
+import hashlib
+import itertools
+import json
+import os
+import random
+import subprocess
+import sys
+import tempfile
+
+sys.dont_write_bytecode = True
+from largest import Fan, Room, report
+
+HERE = os.path.dirname(os.path.realpath(__file__))
+ROOT = os.path.dirname(os.path.dirname(HERE))
+NO_LIMIT = 2**40
+# How long player.c may take.
+SECONDS = 900
+FEW_GAMES, MANY_GAMES = 12, 200
+LEAST, MOST = 10_000, 200_000
+KINDS = ["chain", "star", "scattered", "one_way"]
+MOST_BYTES = 16_777_216
+VERTICES, EDGES = 2**20, 2**23
+PASSED_ON = 30
+SIDE, HEAP = 255, 2**17
+# The SHA-256 of the report of HEAP chips in the middle of a grid of SIDE by SIDE squares, as player.c writes it.
+DIGEST = "ca5f0187d9f6d99870dc255c4a31be8fd5ab855fef8b6e65367e1ad75a870b79"
+
+
+def graph_text(edges, sink, vertices):
+    """The text of a graph. player.c takes its members in this order."""
+    rows = ",".join([f"[{tail},{head},{mult}]" for tail, head, mult in edges])
+    return f'{{"edges":[{rows}],"sink":{sink},"version":1,"vertices":{vertices}}}'
+
+
+def shown(edges, sink, degrees, distances):
+    """What `check` writes."""
+    lines = [f"vertex {v} degree {degree} distance {far}\n" for v, (degree, far) in enumerate(zip(degrees, distances))]
+    return "".join([f"vertices {len(degrees)}\n", f"edges {edges}\n", f"sink {sink}\n", *lines])
+
+
+class RandomGame:
+    """A random game of one of four kinds."""
+
+    def __init__(self, draw, kind):
+        self.draw = draw
+        self.vertices = int(LEAST * (MOST / LEAST) ** draw.random())
+        self.order = list(range(self.vertices))
+        draw.shuffle(self.order)
+        self.sink = self.order[0]
+        self.chips = []
+        self.edges = list(getattr(self, kind)())
+
+    def below(self, count):
+        """A number below this one, drawn in the quickest way."""
+        return int(count * self.draw.random())
+
+    def chain(self):
+        """A walk both ways, in which heaps sink between vertices that mostly have room for more chips."""
+        self.chips = [self.below(2) * self.below(2) for _ in self.order]
+        for _ in range(50):
+            self.chips[self.below(self.vertices)] = self.below(100)
+        for one, other in zip(self.order, self.order[1:]):
+            yield other, one, 1
+            if one != self.sink:
+                yield one, other, 1
+
+    def star(self):
+        """A vertex with edges to all others and back. About half of the others have an edge to the sink, too."""
+        centre, *rays = self.order[1:]
+        self.chips = [self.below(6) for _ in self.order]
+        self.chips[centre] = self.below(20 * self.vertices)
+        yield centre, self.sink, 1 + self.below(3)
+        for ray in rays:
+            yield centre, ray, 1
+            yield ray, centre, 1
+            if self.below(2):
+                yield ray, self.sink, 1 + self.below(3)
+
+    def scattered(self):
+        """Edges from anywhere to anywhere, and a tenth of them to the sink."""
+        self.chips = [self.below(9) for _ in self.order]
+        for place, tail in enumerate(self.order[1:], 1):
+            yield tail, self.order[self.below(place)], 1 + self.below(2)
+            for _ in range(self.below(4)):
+                head = self.order[self.below(self.vertices)] if self.below(10) else self.sink
+                if head != tail:
+                    yield tail, head, 1 + self.below(4)
+
+    def one_way(self):
+        """Edges that lead ever nearer to the sink, by long steps or by short ones, and some very high heaps."""
+        self.chips = [self.below(5) for _ in self.order]
+        for _ in range(20):
+            self.chips[self.below(self.vertices)] = self.below(2**30)
+        reach = self.draw.choice([self.vertices, 5000])
+        for place, tail in enumerate(self.order[1:], 1):
+            for _ in range(1 + self.below(3)):
+                yield tail, self.order[place - 1 - self.below(min(place, reach))], 1 + self.below(5)
+
+    def graph(self):
+        return graph_text(self.edges, self.sink, self.vertices)
+
+    def shown(self):
+        """What `check` writes."""
+        degrees, tails, distances = [0] * self.vertices, [[] for _ in self.order], [None] * self.vertices
+        for tail, head, mult in self.edges:
+            degrees[tail] += mult
+            tails[head].append(tail)
+        reached, distances[self.sink] = [self.sink], 0
+        for head in reached:
+            for tail in tails[head]:
+                if distances[tail] is None:
+                    distances[tail] = distances[head] + 1
+                    reached.append(tail)
+        return shown(len(self.edges), self.sink, degrees, distances)
+
+
+class Heap:
+    """A heap in the middle of a grid, each square of which sends four chips, to the sink where it has no neighbour."""
+
+    def __init__(self):
+        self.sink = SIDE * SIDE
+        self.chips = [0] * (self.sink + 1)
+        self.chips[self.sink // 2] = HEAP
+
+    def edges(self):
+        for row, column in itertools.product(range(SIDE), repeat=2):
+            beside = [(row - 1, column), (row, column - 1), (row, column + 1), (row + 1, column)]
+            inside = [SIDE * a + b for a, b in beside if 0 <= a < SIDE and 0 <= b < SIDE]
+            yield from ((SIDE * row + column, head, 1) for head in inside)
+            if len(inside) < 4:
+                yield SIDE * row + column, self.sink, 4 - len(inside)
+
+    def graph(self):
+        return graph_text(self.edges(), self.sink, self.sink + 1)
+
+
+class Walk:
+    """One edge from each vertex, over all even ones and then over all odd ones, of which the last is the sink."""
+
+    def __init__(self):
+        self.way = [*range(0, VERTICES, 2), *range(1, VERTICES, 2)]
+        self.sink = VERTICES - 1
+        self.chips = [PASSED_ON] + [0] * self.sink
+        self.end = report([0] * self.sink + [PASSED_ON], [PASSED_ON] * self.sink + [0])
+
+    def graph(self):
+        return graph_text(((tail, head, 1) for tail, head in zip(self.way, self.way[1:])), self.sink, VERTICES)
+
+    def shown(self):
+        """What `check` writes."""
+        distances = dict(zip(reversed(self.way), range(VERTICES)))
+        return shown(self.sink, self.sink, [1] * self.sink + [0], map(distances.get, range(VERTICES)))
+
+
+def status_of(text):
+    """The exit status that goes with a report."""
+    return 0 if '"closed":true' in text else 2
+
+
+def built(folder):
+    """The program of player.c, built in this folder."""
+    subprocess.run(["cc", "-O2", "-o", f"{folder}/player", f"{HERE}/player.c"], check=True, timeout=SECONDS)
+    return f"{folder}/player"
+
+
+def played(player, room, limit=NO_LIMIT):
+    """The report that player.c writes of the game in a room."""
+    how = {"cwd": room.folder, "stdout": subprocess.PIPE, "encoding": "ascii", "check": True, "timeout": SECONDS}
+    return subprocess.run([player, "graph.json", "chips.csv", str(limit)], **how).stdout
+
+
+def sittings(player, room, game, whole):
+    """A play in two sittings, the first of which has a limit: arguments and faults."""
+    limit = 1 + game.below(3)
+    first = played(player, room, limit)
+    arguments = f"plain graph.json chips.csv --large --limit {limit}"
+    yield arguments, room.faults_of(arguments, first, status_of(first))
+    room.write("report.json", first)
+    before, end = json.loads(first)["fired"], json.loads(whole)
+    fired = [one - other for one, other in zip(end["fired"], before)]
+    arguments = "resume --large graph.json report.json"
+    yield arguments, room.faults_of(arguments, report(end["chips"], fired, prior=before))
+
+
+def looked_at(room, game):
+    """What `check` writes of a graph: arguments and faults."""
+    yield "check graph.json --large", room.faults_of("check graph.json --large", game.shown())
+
+
+def refused(room, arguments, fault):
+    """A game that is too large: arguments and faults."""
+    ran, wanted = room.ran(arguments), ("", f"chipfire: fault {fault}\n", 1)
+    yield arguments, [] if ran == wanted else [f"expected {wanted}, got {ran}"]
+
+
+def play_random(program, player, number):
+    """A random game and what else is asked of it: arguments and faults."""
+    game = RandomGame(random.Random(f"large {number}"), KINDS[number % len(KINDS)])
+    with tempfile.TemporaryDirectory(prefix="chipfire-large-") as folder:
+        room = Room(program, folder, game)
+        whole = played(player, room)
+        yield "plain --large graph.json chips.csv", room.faults_of("plain --large graph.json chips.csv", whole)
+        turn = number // len(KINDS) % 3
+        if turn == 0:
+            yield from sittings(player, room, game, whole)
+        elif turn == 1:
+            yield from looked_at(room, game)
+        else:
+            is_long = os.path.getsize(f"{folder}/graph.json") > MOST_BYTES
+            yield from refused(room, "plain graph.json chips.csv", "30 TooLong" if is_long else "1 Vertices")
+
+
+def play_heap(program, player, is_anew):
+    """The heap on the grid: arguments and faults."""
+    with tempfile.TemporaryDirectory(prefix="chipfire-large-") as folder:
+        room = Room(program, folder, Heap())
+        if is_anew:
+            found = hashlib.sha256(played(player, room).encode()).hexdigest()
+            yield "the digest", [] if found == DIGEST else [f"player.c says {found}"]
+        written, errors, status = room.ran("plain graph.json chips.csv --large")
+        got = hashlib.sha256(written.encode()).hexdigest(), errors, status
+        yield "plain graph.json chips.csv --large", [] if got == (DIGEST, "", 0) else [f"the report is {got}"]
+        yield from refused(room, "plain graph.json chips.csv", "1 Vertices")
+
+
+def play_widest(program):
+    """As many vertices and edges as there may be, each edge to the sink: arguments and faults."""
+    fan = Fan(VERTICES, EDGES)
+    with tempfile.TemporaryDirectory(prefix="chipfire-large-") as folder:
+        room = Room(program, folder, fan)
+        first, end = fan.stopped(fan.chips, 60), fan.stopped(fan.chips, NO_LIMIT)
+        assert first[2] and not end[2]
+        arguments = "plain graph.json chips.csv --large --limit 60"
+        yield arguments, room.faults_of(arguments, report(*first), 2)
+        room.write("report.json", report(*first))
+        second = fan.stopped(first[0], NO_LIMIT)
+        assert second[0] == end[0]
+        arguments = "resume graph.json report.json --large"
+        yield arguments, room.faults_of(arguments, report(*second, prior=first[1]))
+        yield from refused(room, "plain graph.json chips.csv", "30 TooLong")
+
+
+def play_longest(program):
+    """A walk over as many vertices as there may be: arguments and faults."""
+    walk = Walk()
+    with tempfile.TemporaryDirectory(prefix="chipfire-large-") as folder:
+        room = Room(program, folder, walk)
+        yield from looked_at(room, walk)
+        yield "plain graph.json chips.csv --large", room.faults_of("plain graph.json chips.csv --large", walk.end)
+
+
+def play_large(program, games=FEW_GAMES, is_anew=False):
+    """Plays large games, and returns for each run its place, name and faults."""
+    with tempfile.TemporaryDirectory(prefix="chipfire-player-") as folder:
+        player = built(folder)
+        runs = {f"large {number}": play_random(program, player, number) for number in range(games)}
+        runs |= {"large heap": play_heap(program, player, is_anew)}
+        runs |= {"largest fan": play_widest(program), "largest walk": play_longest(program)}
+        for place, found in runs.items():
+            for arguments, faults in found:
+                yield place, f"chipfire {arguments}", faults
+
+
+def main():
+    parser = argparse.ArgumentParser(description="Plays large games; see the head of this file.")
+    parser.add_argument("--program", default=f"{ROOT}/target/chipfire")
+    parser.add_argument("--games", type=int, default=MANY_GAMES)
+    parser.add_argument("--anew", action="store_true")
+    asked = parser.parse_args()
+    passed = failed = 0
+    for place, name, faults in play_large(os.path.realpath(asked.program), asked.games, asked.anew):
+        if faults:
+            failed += 1
+            print(f"FAILED {place} {name}", *faults, sep="\n    ", flush=True)
+        else:
+            passed += 1
+    print(f"{passed} passed, {failed} failed")
+    return 1 if failed else 0
+
+
+if __name__ == "__main__":
+    sys.exit(main())

@@ -151,7 +151,10 @@ const FILE_TEXTS: &[&(FileFault, &str)] = &[
     &(FileFault::Kind(5), "row 5 has no such kind"),
     &(FileFault::Total, "there are more than 1099511627776 chips"),
     &(FileFault::Read, "a read failed"),
-    &(FileFault::TooLong, "there are more bytes than the limits allow"),
+    &(
+        FileFault::TooLong,
+        "there are more bytes than the limits allow",
+    ),
     &(FileFault::NoMemory, "out of memory"),
 ];
 

@@ -1,7 +1,10 @@
 //! Inputs of the largest graph, and of the greatest length. A reader that gives up with no memory meets its contract,
 //! so that only these tests tell it from one that reads.
 
-use crate::file::{MAX_BYTES, Slow, are_largest_chips, largest_chips, largest_graph, read_largest_chips, read_largest_graph};
+use crate::file::{
+    MAX_BYTES, Slow, are_largest_chips, largest_chips, largest_graph, read_largest_chips,
+    read_largest_graph,
+};
 use crate::runs::{events_of, runs_of};
 use chip_file::{FileFault, read_graph, read_schedule, read_trace, read_whole};
 use chip_link::{Event, TraceRow};

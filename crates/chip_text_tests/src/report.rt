@@ -1,8 +1,8 @@
 //! Reports worked out by hand, and writers that are slow or fail. What holds for all inputs stands in the contracts.
 
 use crate::writers::Faulty;
-use chip_report::report::report;
 use chip_graph::Limits;
+use chip_report::report::report;
 use chip_report::{
     ReportFault, WriteFault, read_any_within, read_report, read_report_within, write_all_of,
 };

@@ -5,6 +5,8 @@ more doubles the firings: no counts are found for it that shorten the play. With
 with 40 nobody waits for its end.
 """
 import json
+import math
+import os
 import re
 import select
 import subprocess
@@ -12,14 +14,21 @@ import tempfile
 import time
 
 SECONDS = 60
-LONG, ENDLESS = 25, 40
+SHORT, LONG, ENDLESS = 5, 25, 40
+# How many bytes the first piece of an input has that is read slowly, and how many seconds later the rest comes.
+FIRST, PAUSE = 7, 1.3
+READ = b"chipfire: progress: reading, %d bytes\n"
 ROUNDS = re.compile(rb"chipfire: progress: ([0-9]+) rounds, ([0-9]+) firings\n")
 TURNS = re.compile(rb"chipfire: progress: ([0-9]+) turns of worker 0, the root's deficit is ([0-9]+)\n")
 LINES = {"plain": ROUNDS, "run": TURNS}
-# What `plain` is at where it makes no rounds.
-OTHERWISE = re.compile(
-    rb"chipfire: progress: (read [0-9]+ vertices, [0-9]+ edges|guessing, [0-9]+ steps|writing [0-9]+ bytes)\n"
-)
+# What a command is at where it makes no rounds or turns.
+OTHERWISE = {
+    "plain": re.compile(
+        rb"chipfire: progress: (reading, [0-9]+ bytes|read [0-9]+ vertices, [0-9]+ edges|guessing, [0-9]+ steps"
+        rb"|writing [0-9]+ bytes)\n"
+    ),
+    "run": re.compile(rb"chipfire: progress: reading, [0-9]+ bytes\n"),
+}
 
 
 def write_uphill(folder, length):
@@ -44,7 +53,7 @@ def line_of(process, until):
 
 def wrong_lines(command, lines, seconds):
     """What is wrong with the lines of a command that has run for so many seconds at most."""
-    rounds = [line for line in lines if command != "plain" or not OTHERWISE.fullmatch(line)]
+    rounds = [line for line in lines if not OTHERWISE[command].fullmatch(line)]
     found = [LINES[command].fullmatch(line) for line in rounds]
     if not all(found):
         return [f"these are no lines of {command}: {lines}"]
@@ -87,8 +96,37 @@ def same(program, *words):
     return wrong_lines(words[1], lines, seconds) + ([] if came == wanted else [f"expected {wanted}, got {came}"])
 
 
+def read_slowly(program, name, *words):
+    """What a command does wrong whose input of this name comes in two pieces, more than a second apart."""
+    with tempfile.TemporaryDirectory(prefix="chipfire-progress-") as room:
+        write_uphill(room, SHORT)
+        with open(f"{room}/{name}", "rb") as file:
+            text = file.read()
+        how = {"stdout": subprocess.PIPE, "stderr": subprocess.PIPE, "cwd": room}
+        words = [program, words[0], "graph.json", "chips.csv", *words[1:]]
+        quiet = subprocess.run(words, timeout=SECONDS, **how)
+        os.remove(f"{room}/{name}")
+        os.mkfifo(f"{room}/{name}")
+        process = subprocess.Popen([*words, "--progress"], **how)
+        with open(f"{room}/{name}", "wb", buffering=0) as pipe:
+            pipe.write(text[:FIRST])
+            time.sleep(PAUSE)
+            pipe.write(text[FIRST:])
+        out, lines = process.communicate(timeout=SECONDS)
+    wrong = [] if (out, process.returncode) == (quiet.stdout, quiet.returncode) else [f"it wrote {out!r}"]
+    # (a slow machine may tell of the first piece alone, and of what comes later)
+    first, *others = lines.splitlines(keepends=True) or [b""]
+    if first not in [READ % FIRST, READ % len(text)]:
+        wrong.append(f"the first line is {first!r}")
+    return wrong + wrong_lines(words[1], others, math.inf)
+
+
 def play_long(program):
     """Plays long games, and yields of each its place, its name and what was not as it must be."""
+    yield "progress.py", "plain tells of a graph that it reads", read_slowly(program, "graph.json", "plain")
+    yield "progress.py", "plain tells of chips that it reads", read_slowly(program, "chips.csv", "plain")
+    yield "progress.py", "run tells of a graph that it reads", read_slowly(program, "graph.json", "run")
+    yield "progress.py", "run tells of chips that it reads", read_slowly(program, "chips.csv", "run")
     yield "progress.py", "plain tells how it goes on", told(program, "plain")
     yield "progress.py", "run tells how it goes on", told(program, "run")
     yield "progress.py", "run tells how it goes on, one worker", told(program, "run", "--workers", "1")

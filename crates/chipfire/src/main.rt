@@ -19,7 +19,7 @@ use chip_engine::{
 use chip_graph::{Limits, MAX_LIMIT};
 use chip_link::{MAX_RING, Ring};
 use chip_run::{RunOptions, run_engine_gated};
-use progress::{RoundProgress, TurnProgress};
+use progress::{ReadProgress, RoundProgress, Teller, TurnProgress};
 use std::process::ExitCode;
 use std::rt::{Clock, Env, Files};
 use std::sync::Wait;
@@ -122,13 +122,14 @@ fn play<R: Files + Clock + Eprint + AllocGlobal, W: io::Write>(
     asked: &PlainArguments<'_>,
     output: &mut W,
 ) -> Result<Ended, Fault> {
-    let (mut graph, mut chips) = open_game(rt, &asked.game)?;
+    let teller = Teller::start(rt, asked.progress);
+    let (graph, chips) = open_game(rt, &asked.game)?;
     plain_engine_with(
         rt.alloc(),
-        &mut graph,
-        &mut chips,
+        &mut ReadProgress::start(&teller, graph),
+        &mut ReadProgress::start(&teller, chips),
         play_options(&asked.game, asked.large),
-        &mut RoundProgress::start(rt, asked.progress),
+        &mut RoundProgress::start(&teller),
         output,
     )
 }
@@ -139,26 +140,31 @@ fn play_on_threads<R: Files + Clock + Eprint + AllocGlobal + Threads + Wait + Sy
     asked: &RunArguments<'_>,
     output: &mut W,
 ) -> Result<Ended, Fault> {
-    let (mut graph, mut chips) = open_game(rt, &asked.game)?;
-    let mut feed = open_feed(rt, asked)?;
+    let teller = Teller::start(rt, asked.progress);
+    let (graph, chips) = open_game(rt, &asked.game)?;
+    let mut feed = open_feed(rt, asked, &teller)?;
     let mut trace = create_trace(rt, asked)?;
     run_engine_gated(
         rt,
         rt.alloc(),
-        &mut graph,
-        &mut chips,
+        &mut ReadProgress::start(&teller, graph),
+        &mut ReadProgress::start(&teller, chips),
         feed.as_mut(),
         options_of(asked),
-        &TurnProgress::start(rt, asked.progress),
+        &TurnProgress::start(&teller),
         &mut trace,
         output,
     )
 }
 
 /// Opens the file of the chips that are fed, if there are any.
-fn open_feed<R: Files>(rt: &R, asked: &RunArguments<'_>) -> Result<Option<R::File>, Fault> {
+fn open_feed<'a, R: Files + Clock + Eprint>(
+    rt: &R,
+    asked: &RunArguments<'_>,
+    teller: &'a Teller<'a, R>,
+) -> Result<Option<ReadProgress<'a, R, R::File>>, Fault> {
     match &asked.feed {
-        Some(file) => Ok(Some(open(rt, file)?)),
+        Some(file) => Ok(Some(ReadProgress::start(teller, open(rt, file)?))),
         None => Ok(None),
     }
 }

@@ -1,11 +1,13 @@
-//! What is told of a long play on standard error, a line once a second at most.
+//! What is told of a long reading and a long play on standard error, a line once a second at most.
 //!
-//! Nothing of it changes the play. Where the clock cannot be read no line is written, and a line that cannot be written
+//! Nothing of it changes what is read or played. Where the clock cannot be read no line is written, and a line that cannot be written
 //! is left out.
 
 use chip_crew::Gate;
 use chip_fire::Watch;
 use chip_graph::Game;
+use std::io;
+use std::io::Read;
 use std::rt::Clock;
 use std::sync::atomic::AtomicU64;
 use std::sync::atomic::Ordering::SeqCst;
@@ -54,21 +56,19 @@ fn in_milliseconds(time: Duration) -> u64 {
     u64::try_from(time.as_millis()).unwrap_or(u64::MAX)
 }
 
-/// Tells of a play on one thread: what it is at, how many rounds it has made, and how many firings it has come to.
+/// Where lines are written, and when.
 #[derive(Drop)]
-pub struct RoundProgress<'a, R: Clock + Eprint> {
+pub struct Teller<'a, R: Clock + Eprint> {
     rt: &'a R,
     pace: Option<Pace>,
-    rounds: u64,
 }
 
-impl<'a, R: Clock + Eprint> RoundProgress<'a, R> {
-    /// For a play that begins now. Where nothing is asked for nothing is told.
-    pub fn start(rt: &'a R, asked: bool) -> RoundProgress<'a, R> {
-        RoundProgress {
+impl<'a, R: Clock + Eprint> Teller<'a, R> {
+    /// From now on. Where nothing is asked for nothing is told.
+    pub fn start(rt: &'a R, asked: bool) -> Teller<'a, R> {
+        Teller {
             rt,
             pace: Pace::start(rt, asked),
-            rounds: 0,
         }
     }
 
@@ -81,35 +81,85 @@ impl<'a, R: Clock + Eprint> RoundProgress<'a, R> {
     }
 }
 
+/// A file, of which is told how many bytes of it were read.
+#[derive(Drop)]
+pub struct ReadProgress<'a, R: Clock + Eprint, F> {
+    teller: &'a Teller<'a, R>,
+    file: F,
+    /// How many bytes were read, up to 2^64 - 1.
+    bytes: u64,
+}
+
+impl<'a, R: Clock + Eprint, F> ReadProgress<'a, R, F> {
+    /// Of a file of which nothing was read yet.
+    pub fn start(teller: &'a Teller<'a, R>, file: F) -> ReadProgress<'a, R, F> {
+        ReadProgress {
+            teller,
+            file,
+            bytes: 0,
+        }
+    }
+}
+
+impl<R: Clock + Eprint, F: Read> Read for ReadProgress<'_, R, F> {
+    ghost remaining = { λ progress. F.remaining progress.file };
+
+    fn read(&mut self, buf: &mut [u8]) -> io::Result<usize> {
+        let count = self.file.read(buf)?;
+        self.bytes = self.bytes.saturating_add(count as u64);
+        if self.teller.is_due() {
+            let bytes = self.bytes;
+            let _ = eprintln!(self.teller.rt; "chipfire: progress: reading, {bytes} bytes");
+        }
+        Ok(count)
+    }
+}
+
+/// Tells of a play on one thread: what it is at, how many rounds it has made, and how many firings it has come to.
+#[derive(Drop)]
+pub struct RoundProgress<'a, R: Clock + Eprint> {
+    teller: &'a Teller<'a, R>,
+    rounds: u64,
+}
+
+impl<'a, R: Clock + Eprint> RoundProgress<'a, R> {
+    /// Of a play of which no round was made yet.
+    pub fn start(teller: &'a Teller<'a, R>) -> RoundProgress<'a, R> {
+        RoundProgress { teller, rounds: 0 }
+    }
+}
+
 impl<R: Clock + Eprint> Watch for RoundProgress<'_, R> {
     fn plays(&mut self, game: &Game) {
-        if self.is_due() {
+        if self.teller.is_due() {
             let vertices = game.graph().vertices();
             let edges = game.graph().edges().len();
-            let _ = eprintln!(self.rt;
+            let _ = eprintln!(self.teller.rt;
                 "chipfire: progress: read {vertices} vertices, {edges} edges"
             );
         }
     }
 
     fn searches(&mut self, steps: u64) {
-        if self.is_due() {
-            let _ = eprintln!(self.rt; "chipfire: progress: guessing, {steps} steps");
+        if self.teller.is_due() {
+            let _ = eprintln!(self.teller.rt; "chipfire: progress: guessing, {steps} steps");
         }
     }
 
     fn rounds(&mut self, more: u64, _game: &Game, _chips: &[u64], fired: &[u64]) {
         self.rounds = self.rounds.saturating_add(more);
-        if self.is_due() {
+        if self.teller.is_due() {
             let rounds = self.rounds;
             let firings = sum_of(fired);
-            let _ = eprintln!(self.rt; "chipfire: progress: {rounds} rounds, {firings} firings");
+            let _ = eprintln!(self.teller.rt;
+                "chipfire: progress: {rounds} rounds, {firings} firings"
+            );
         }
     }
 
     fn writes(&mut self, bytes: u64) {
-        if self.is_due() {
-            let _ = eprintln!(self.rt; "chipfire: progress: writing {bytes} bytes");
+        if self.teller.is_due() {
+            let _ = eprintln!(self.teller.rt; "chipfire: progress: writing {bytes} bytes");
         }
     }
 }
@@ -127,17 +177,13 @@ fn sum_of(numbers: &[u64]) -> u64 {
 /// acknowledged.
 #[derive(Drop)]
 pub struct TurnProgress<'a, R: Clock + Eprint> {
-    rt: &'a R,
-    pace: Option<Pace>,
+    teller: &'a Teller<'a, R>,
 }
 
 impl<'a, R: Clock + Eprint> TurnProgress<'a, R> {
-    /// For a play that begins now. Where nothing is asked for nothing is told.
-    pub fn start(rt: &'a R, asked: bool) -> TurnProgress<'a, R> {
-        TurnProgress {
-            rt,
-            pace: Pace::start(rt, asked),
-        }
+    /// Of a play that begins.
+    pub fn start(teller: &'a Teller<'a, R>) -> TurnProgress<'a, R> {
+        TurnProgress { teller }
     }
 }
 
@@ -151,12 +197,9 @@ impl<R: Clock + Eprint> Gate for TurnProgress<'_, R> {
     }
 
     fn polled(&self, turn: u64, deficit: u64) {
-        let Some(pace) = &self.pace else {
-            return;
-        };
-        if pace.is_due(self.rt) {
+        if self.teller.is_due() {
             let turns = turn.saturating_add(1);
-            let _ = eprintln!(self.rt;
+            let _ = eprintln!(self.teller.rt;
                 "chipfire: progress: {turns} turns of worker 0, the root's deficit is {deficit}"
             );
         }

@@ -37,6 +37,13 @@ SIDE, HEAP = 255, 2**17
 # The SHA-256 of the report of HEAP chips in the middle of a grid of SIDE by SIDE squares, as player.c writes it.
 DIGEST = "ca5f0187d9f6d99870dc255c4a31be8fd5ab855fef8b6e65367e1ad75a870b79"
 
+# That of no bytes.
+EMPTY = hashlib.sha256(b"").hexdigest()
+# Starts a program under limits of the system.
+LIMITED = f"{ROOT}/tests/hostile/limited.py"
+# How many MiB the heap is given: too few to read it, enough to play it, and enough to search its counts too.
+MEMORIES = [8, 12, 16, 32, 48]
+
 
 def graph_text(edges, sink, vertices):
     """The text of a graph. player.c takes its members in this order."""
@@ -235,6 +242,20 @@ def play_heap(program, player, is_anew):
         yield from refused(room, "plain graph.json chips.csv", "1 Vertices")
 
 
+def play_heap_in_little_memory(program):
+    """The heap on the grid in ever more memory, in which it is the same report or fault 90: arguments and faults."""
+    answers = {(DIGEST, "", 0): "a report", (EMPTY, "chipfire: fault 90 NoMemory\n", 1): "no memory"}
+    arguments, got = "plain graph.json chips.csv --large", set()
+    with tempfile.TemporaryDirectory(prefix="chipfire-large-") as folder:
+        room = Room(program, folder, Heap())
+        for size in MEMORIES:
+            written, errors, status = room.ran(arguments, [sys.executable, LIMITED, f"AS={size << 20}"])
+            answer = hashlib.sha256(written.encode()).hexdigest(), errors, status
+            got.add(answers.get(answer))
+            yield f"{arguments} in {size} MiB", [] if answer in answers else [f"the answer is {answer}"]
+    yield "an answer of each kind", [] if got >= set(answers.values()) else [f"there were {got}"]
+
+
 def play_widest(program):
     """As many vertices and edges as there may be, each edge to the sink: arguments and faults."""
     fan = Fan(VERTICES, EDGES)
@@ -267,6 +288,7 @@ def play_large(program, games=FEW_GAMES, is_anew=False):
         player = built(folder)
         runs = {f"large {number}": play_random(program, player, number) for number in range(games)}
         runs |= {"large heap": play_heap(program, player, is_anew)}
+        runs |= {"large heap, little memory": play_heap_in_little_memory(program)}
         runs |= {"largest fan": play_widest(program), "largest walk": play_longest(program)}
         for place, found in runs.items():
             for arguments, faults in found:

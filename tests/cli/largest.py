@@ -119,10 +119,11 @@ class Room:
         with open(f"{self.folder}/{name}", encoding="ascii", newline="") as file:
             return file.read()
 
-    def ran(self, arguments):
-        """Runs the program; what it wrote on standard output and on standard error, and its status."""
+    def ran(self, arguments, under=()):
+        """Runs the program, under another one where that is said; what it wrote on standard output and on standard error,
+        and its status."""
         how = {"stdin": subprocess.DEVNULL, "stdout": subprocess.PIPE, "stderr": subprocess.PIPE, "timeout": SECONDS}
-        done = subprocess.run([self.program, *arguments.split(" ")], cwd=self.folder, **how)
+        done = subprocess.run([*under, self.program, *arguments.split(" ")], cwd=self.folder, **how)
         written, errors = (text.decode(errors="backslashreplace") for text in (done.stdout, done.stderr))
         return written, errors, done.returncode
 

@@ -5,3 +5,5 @@ mod Rowed
 mod Standing
 mod Texts
 mod Digits
+mod Lexemes
+mod Plainly

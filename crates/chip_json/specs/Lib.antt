@@ -3,3 +3,4 @@ pub mod GraphFile
 pub mod Values
 pub mod Rows
 pub mod Parts
+pub mod Plain

@@ -3,7 +3,7 @@ use Rattle.std.specs.Prelude.{◌≡◌, ◌⊎◌, ℕ, ◌<◌, List, length, 
 use Rattle.std.specs.Prelude.{Result, Ok, Err, ⊤, Vec}
 use Rattle.std.specs.declared.alloc.Global.{Global}
 use Rattle.json.specs.Token.{Token}
-use Rattle.serde_json.specs.Data.{Data, Items, no_items, item, Members, no_members}
+use Rattle.serde_json.specs.Data.{Data, Items, no_items, item, Members}
 use Rattle.serde_json.specs.Find.{as_array}
 use Rattle.chip_json.specs.GraphFile.{number_of_value, edges_of_rows}
 use Rattle.chip_json.specs.Values.{next_value, ItemsAre, MembersAre}
@@ -59,8 +59,8 @@ abbrev pub MayReadItems : {T : Type 0} → ℕ → List Token → List Token →
 MayReadItems depth old new Is (Ok x) = (ds : Items) × ItemsAre depth old (Some (ds, new)) × Is ds x
 MayReadItems depth old new Is (Err f) = (f ≡ NoMemory) ⊎ ((f ≡ NotJson) × ItemsAre depth old None)
 
--- the same of the members of an object
-abbrev pub MayReadMembers : {T : Type 0} → ℕ → List Token → List Token → (Members → T → Type 0) → Result T JsonFault
-    → Type 0
-MayReadMembers depth old new Is (Ok x) = (ms : Members) × MembersAre depth old no_members (Some (ms, new)) × Is ms x
-MayReadMembers depth old new Is (Err f) = (f ≡ NoMemory) ⊎ ((f ≡ NotJson) × MembersAre depth old no_members None)
+-- the same of the members that are left of an object, behind those that were found
+abbrev pub MayReadMembers : {T : Type 0} → ℕ → Members → List Token → List Token → (Members → T → Type 0)
+    → Result T JsonFault → Type 0
+MayReadMembers depth found old new Is (Ok x) = (ms : Members) × MembersAre depth old found (Some (ms, new)) × Is ms x
+MayReadMembers depth found old new Is (Err f) = (f ≡ NoMemory) ⊎ ((f ≡ NotJson) × MembersAre depth old found None)

@@ -1,14 +1,18 @@
 //! A graph file, read member by member.
 
-ghost use Rattle.std.specs.Prelude.{◌≡◌, ◌<◌, ℕ, length, OnOk};
-ghost use Rattle.chip_json.specs.Rows.{MayRead, MayReadMembers};
+ghost use Rattle.std.specs.Prelude.{◌≡◌, ◌<◌, ℕ, List, Some, codes, length, IsUtf8, OnOk};
+ghost use Rattle.json.specs.Lex.{tokens};
+ghost use Rattle.chip_json.specs.Rows.{AreRowsUnder, MayRead, MayReadMembers};
 ghost use Rattle.chip_json.specs.Parts.{Takes, Stands, KeepsFile, IsFile, GivesFile, kept_of};
-ghost use Rattle.serde_json.specs.Data.{Members, object};
+ghost use Rattle.chip_json.specs.Plain.{HasEdgesBefore};
+ghost use Rattle.chip_json.specs.Values.{next_value};
+ghost use Rattle.serde_json.specs.Data.{Data, Members, no_members, put, object};
 ghost use Rattle.serde_json.specs.Read.{max_depth};
 ghost use Rattle.chip_json.specs.GraphFile.{file_of_value};
 
 use crate::fault::JsonFault;
 use crate::passing::{NotJson, pass, pass_rest};
+use crate::plain::first_edges;
 use crate::rows::{edges, number};
 use chip_graph::Edge;
 use json::{Reader, Scratch, Token};
@@ -42,6 +46,33 @@ pub(crate) struct Parts {
 }
 
 impl Parts {
+    /// No parts.
+    fn new() -> Parts
+        ensures { (most : ℕ) → Stands most no_members result }
+    {
+        Parts {
+            version: None,
+            vertices: None,
+            sink: None,
+            edges: None,
+            others: false,
+        }
+    }
+
+    /// The edges alone.
+    fn with_edges(edges: Vec<Edge>) -> Parts
+        ensures { (most : ℕ) (d : Data) → AreRowsUnder most d (Some edges)
+            → Stands most (put (codes "edges") d no_members) result }
+    {
+        Parts {
+            version: None,
+            vertices: None,
+            sink: None,
+            edges: Some(edges),
+            others: false,
+        }
+    }
+
     /// Takes the value of the member of this name.
     fn take(
         &mut self,
@@ -103,9 +134,43 @@ pub fn file_of_text(alloc: Global, text: &[u8], most: u64) -> Result<GraphFile, 
     let Ok(text) = str::from_utf8(text) else {
         return Err(JsonFault::NotJson);
     };
+    if let Some(found) = first_edges(alloc, text.as_bytes(), most)? {
+        return file_behind(alloc, found.value, &text[found.next..], most);
+    }
+    file_of_tokens(alloc, text, most)
+}
+
+/// The graph file of an object with these edges, and with what a text says behind them.
+fn file_behind(
+    alloc: Global,
+    edges: Vec<Edge>,
+    rest: &str,
+    most: u64,
+) -> Result<GraphFile, JsonFault>
+    ensures { (text : List ℕ) → IsUtf8 text → HasEdgesBefore most text edges rest.now → GivesFile most text result }
+{
+    let mut scratch = Scratch::new(alloc);
+    let mut reader = Reader::new(rest, &mut scratch)?;
+    let parts = parts_of(alloc, &mut reader, MAX_DEPTH - 1, most, Parts::with_edges(edges))?;
+    file_at_end(&mut reader, parts.into_file())
+}
+
+/// The graph file that the tokens of a text make.
+fn file_of_tokens(alloc: Global, text: &str, most: u64) -> Result<GraphFile, JsonFault>
+    ensures { IsUtf8 text.now → GivesFile most text.now result }
+{
     let mut scratch = Scratch::new(alloc);
     let mut reader = Reader::new(text, &mut scratch)?;
     let file = next_file(alloc, &mut reader, most)?;
+    file_at_end(&mut reader, file)
+}
+
+/// This file, if the text ends here and its value is one.
+fn file_at_end(reader: &mut Reader<'_>, file: Option<GraphFile>) -> Result<GraphFile, JsonFault>
+    ensures { (most : ℕ) (text : List ℕ) (d : Data) → IsUtf8 text
+        → next_value max_depth (tokens text) ≡ Some (d, reader.old) → IsFile most d file
+        → GivesFile most text result }
+{
     if reader.next().is_some() {
         return Err(JsonFault::NotJson);
     }
@@ -125,30 +190,25 @@ fn next_file(
 {
     let token = reader.next().ok_or(NotJson)?;
     if let Token::BeginObject = token {
-        let parts = parts_of(alloc, reader, MAX_DEPTH - 1, most)?;
+        let parts = parts_of(alloc, reader, MAX_DEPTH - 1, most, Parts::new())?;
         return Ok(parts.into_file());
     }
     pass_rest(reader, token, MAX_DEPTH)?;
     Ok(None)
 }
 
-/// The members of an object.
+/// These parts, with the members that are left of an object.
 fn parts_of(
     alloc: Global,
     reader: &mut Reader<'_>,
     depth: usize,
     most: u64,
+    parts: Parts,
 ) -> Result<Parts, JsonFault>
-    ensures value { MayReadMembers depth reader.old reader.new (Stands most) result }
-    ensures shorter { OnOk result (length reader.new < length reader.old) }
+    ensures { (found : Members) → Stands most found parts
+        → MayReadMembers depth found reader.old reader.new (Stands most) result }
 {
-    let mut parts = Parts {
-        version: None,
-        vertices: None,
-        sink: None,
-        edges: None,
-        others: false,
-    };
+    let mut parts = parts;
     'members: while let Some(name) = reader.next_key().map_err(|_| NotJson)? {
         parts.take(alloc, reader, depth, most, name)?;
     }

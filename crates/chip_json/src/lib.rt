@@ -11,4 +11,5 @@ pub mod fault;
 pub mod file;
 mod number;
 mod passing;
+mod plain;
 mod rows;

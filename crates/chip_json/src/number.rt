@@ -10,7 +10,7 @@ use fast_float::Numeral;
 use serde_json::Number;
 
 /// So many digits write a number that fits into 64 bits.
-const FEW_DIGITS: usize = 19;
+pub(crate) const FEW_DIGITS: usize = 19;
 
 /// The number that a token writes, unless it is too large for a float.
 pub(crate) fn number_of(text: &str) -> Option<Number>
@@ -18,7 +18,7 @@ pub(crate) fn number_of(text: &str) -> Option<Number>
 {
     match integer(text) {
         Some(n) => Some(Number::from(n)),
-        None => scanned(text),
+        None => read_numeral(text),
     }
 }
 
@@ -41,14 +41,14 @@ pub(crate) fn integer(text: &str) -> Option<u64>
 }
 
 /// The number that any token writes.
-pub(crate) fn scanned(text: &str) -> Option<Number>
+pub(crate) fn read_numeral(text: &str) -> Option<Number>
     ensures { option_map number_view result ≡ number_of text.now }
 {
     let bytes = text.as_bytes();
     if has_minus(bytes) {
-        signed(&Numeral::scan(&bytes[1..]))
+        negative_number(&Numeral::scan(&bytes[1..]))
     } else {
-        unsigned(&Numeral::scan(bytes))
+        natural_number(&Numeral::scan(bytes))
     }
 }
 
@@ -61,17 +61,17 @@ fn has_minus(bytes: &[u8]) -> bool
 }
 
 /// The number of a numeral with no sign.
-fn unsigned(numeral: &Numeral<'_>) -> Option<Number>
+fn natural_number(numeral: &Numeral<'_>) -> Option<Number>
     ensures { option_map number_view result ≡ number_from false numeral.now }
 {
     match numeral.to_u64() {
         Some(n) => Some(Number::from(n)),
-        None => nearest(false, numeral),
+        None => nearest_float(false, numeral),
     }
 }
 
 /// The number of a numeral behind a minus sign.
-fn signed(numeral: &Numeral<'_>) -> Option<Number>
+fn negative_number(numeral: &Numeral<'_>) -> Option<Number>
     ensures { option_map number_view result ≡ number_from true numeral.now }
 {
     if let Some(n) = numeral.to_i64(true) {
@@ -79,11 +79,11 @@ fn signed(numeral: &Numeral<'_>) -> Option<Number>
             return Some(Number::from(n));
         }
     }
-    nearest(true, numeral)
+    nearest_float(true, numeral)
 }
 
 /// The float that is nearest, unless it is infinite.
-fn nearest(negative: bool, numeral: &Numeral<'_>) -> Option<Number>
+fn nearest_float(negative: bool, numeral: &Numeral<'_>) -> Option<Number>
     ensures { option_map number_view result ≡ float_of negative numeral.now }
 {
     Number::from_f64(numeral.to_float::<f64>(negative))

@@ -7,7 +7,7 @@ ghost use Rattle.chip_json.specs.Rows.{and_number, edge_in, Keeps, MayRead, MayR
 ghost use Rattle.chip_json.specs.declared.fault.JsonFault.TheVariants.{NoMemory};
 
 use crate::fault::JsonFault;
-use crate::number::{integer, scanned};
+use crate::number::{integer, read_numeral};
 use crate::passing::{NotJson, pass_rest};
 use chip_graph::Edge;
 use json::{Reader, Token};
@@ -58,7 +58,7 @@ pub(crate) fn number(reader: &mut Reader<'_>, depth: usize) -> Result<Option<u64
         if let Some(count) = integer(text) {
             return Ok(Some(count));
         }
-        return match scanned(text) {
+        return match read_numeral(text) {
             Some(number) => Ok(number.as_u64()),
             None => Err(NotJson),
         };
@@ -143,7 +143,7 @@ fn rows(
 }
 
 /// Keeps an edge, unless there are more than `most` already.
-fn keep(edges: &mut Vec<Edge>, edge: Edge, most: u64) -> Result<(), JsonFault>
+pub(crate) fn keep(edges: &mut Vec<Edge>, edge: Edge, most: u64) -> Result<(), JsonFault>
     ensures kept { IfOk result (λ _. (all : List Edge) → Keeps most all edges.old.items
         → Keeps most (all ++ edge ∷ []) edges.new.items) }
     ensures memory { IfErr result (λ f. f ≡ NoMemory) }

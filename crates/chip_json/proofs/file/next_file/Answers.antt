@@ -20,7 +20,7 @@ returns-in_err-parts c =
     let first : c.args.reader.now ≡ token_of c.in_ok-token.token ∷ c.next.new.self = grind arith in
     let is : c.args.reader.now ≡ Token.begin_object ∷ c.next.new.self = first
     ∙ ap (λ k. token_of k ∷ c.next.new.self) c.in-BeginObject.is in
-    let stopped = or_refused c.in_err-parts.ensures.value (λ none. ap (next_value max_depth) is
+    let stopped = or_refused (c.in_err-parts.ensures _ (c.new.ensures c.args.most)) (λ none. ap (next_value max_depth) is
     ∙ object_read max_depth c.next.new.self None (omega arith) none) in
     grind (arith, stopped)
 
@@ -29,7 +29,7 @@ returns-in-BeginObject c =
     let first : c.args.reader.now ≡ token_of c.in_ok-token.token ∷ c.next.new.self = grind arith in
     let is : c.args.reader.now ≡ Token.begin_object ∷ c.next.new.self = first
     ∙ ap (λ k. token_of k ∷ c.next.new.self) c.in-BeginObject.is in
-    let read = c.in_ok-parts.ensures.value in (
+    let read = c.in_ok-parts.ensures _ (c.new.ensures c.args.most) in (
       object read.0,
       ap (next_value max_depth) is ∙ object_read max_depth c.next.new.self _ (omega arith) read.1,
       c.into_file.ensures c.args.most read.0 read.2,

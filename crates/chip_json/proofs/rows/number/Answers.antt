@@ -26,13 +26,13 @@ returns-in-Some-clause-value c =
       refl,
     )
 
-pub returns-in-Some-scanned-clause-value : goal.returns-in-Some-scanned-clause-value
-returns-in-Some-scanned-clause-value c =
+pub returns-in-Some-read_numeral-clause-value : goal.returns-in-Some-read_numeral-clause-value
+returns-in-Some-read_numeral-clause-value c =
     let first : c.args.reader.now ≡ token_of c.in_ok-token.token ∷ c.next.new.self = grind arith in
     let is : c.args.reader.now ≡ Token.number c.in-Number.text.now ∷ c.next.new.self = first
     ∙ ap (λ k. token_of k ∷ c.next.new.self) c.in-Number.is in (
-      number (number_view c.in-Some-scanned.number),
-      rw is (number_read c.args.depth c.next.new.self _ _ c.in-Some-scanned.ensures),
+      number (number_view c.in-Some-read_numeral.number),
+      rw is (number_read c.args.depth c.next.new.self _ _ c.in-Some-read_numeral.ensures),
       sym c.as_u64.ensures,
     )
 

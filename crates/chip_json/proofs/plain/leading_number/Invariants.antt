@@ -1,0 +1,14 @@
+use Rattle.std.proofs.Common.{◌-◌, ◌≡◌, ◌≤◌, length, take}
+use Rattle.std.specs.Str.Parse.{AllDigits, digits_value}
+use Rattle.chip_json.proofs.plain.leading_number.Given as goal
+
+abbrev pub invariant-loop-count : goal.invariant-loop-count
+invariant-loop-count l = record {
+  digits : AllDigits 10 (take l.count l.text);
+  so_far : l.value ≡ digits_value 10 (take l.count l.text);
+  few : l.count ≤ 19;
+  inside : l.count ≤ length l.text;
+}
+
+abbrev pub decreases-loop-count : goal.decreases-loop-count
+decreases-loop-count l = 19 - l.count

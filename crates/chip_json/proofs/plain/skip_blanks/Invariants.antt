@@ -1,0 +1,13 @@
+use Rattle.std.proofs.Common.{length, ◌-◌, ◌≡◌, ◌≤◌}
+use Rattle.chip_json.specs.Plain.{lexemes_at}
+use Rattle.chip_json.proofs.plain.skip_blanks.Given as goal
+
+abbrev pub invariant-loop-at : goal.invariant-loop-at
+invariant-loop-at l = record {
+  same : lexemes_at l.text l.at ≡ lexemes_at l.text l.from;
+  from : l.from ≤ l.at;
+  inside : l.at ≤ length l.text;
+}
+
+abbrev pub decreases-loop-at : goal.decreases-loop-at
+decreases-loop-at l = length l.text - l.at

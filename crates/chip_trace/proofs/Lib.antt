@@ -1,4 +1,5 @@
 pub mod PrefixLemmas
+pub mod FiringLemmas
 pub mod RowLemmas
 pub mod GreatestLemmas
 pub mod NumberLemmas

@@ -11,6 +11,7 @@ pub use writing::write_trace;
 
 mod agenda;
 mod fault;
+mod firings;
 mod look;
 mod progress;
 mod replaying;

@@ -1,9 +1,9 @@
 use Rattle.std.proofs.Common.{sym, ◌∙◌}
 use Rattle.chip_file.proofs.NumberLemmas.{number_of-long, number_of-other, number_of-parsed, digits_text, refused_utf8}
 use Rattle.chip_file.proofs.NumberLemmas.{same_utf8}
-use Rattle.chip_file.proofs.number.number_of.Goals as goal
-use Rattle.chip_file.proofs.number.number_of.Goals.{then-field-gt-MAX_DIGITS-via-then-field-gt-MAX_DIGITS}
-use Rattle.chip_file.proofs.number.number_of.Goals.{then-field-gt-MAX_DIGITS-via-else-field-gt-MAX_DIGITS+then-not-is_digits}
+use Rattle.chip_file.proofs.number.long_number.Goals as goal
+use Rattle.chip_file.proofs.number.long_number.Goals.{then-field-gt-MAX_DIGITS-via-then-field-gt-MAX_DIGITS}
+use Rattle.chip_file.proofs.number.long_number.Goals.{then-field-gt-MAX_DIGITS-via-else-field-gt-MAX_DIGITS+then-not-is_digits}
 
 pub returns-then-field-gt-MAX_DIGITS : goal.returns-then-field-gt-MAX_DIGITS
 returns-then-field-gt-MAX_DIGITS c =

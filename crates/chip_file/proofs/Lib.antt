@@ -3,6 +3,7 @@ mod KeptLemmas
 mod ChipsLemmas
 mod RowLemmas
 mod SeamLemmas
+mod WideLemmas
 mod PieceLemmas
 mod AheadLemmas
 mod RecordLemmas

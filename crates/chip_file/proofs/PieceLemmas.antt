@@ -1,7 +1,7 @@
 -- Serves Pieces.antt.
 -- What reads and cuts do to the bytes and the rows that no piece has yet.
 use Rattle.std.proofs.Common.{◌≡◌, ◌≢◌, ℕ, ◌+◌, ◌-◌, ◌*◌, ◌≤◌, Bool, true, false, List, [], ◌∷◌, ◌++◌, length, take}
-use Rattle.std.proofs.Common.{Option, None, Some, refl, ap, sym, ◌∙◌, arith, append_assoc, append-nil, length-append}
+use Rattle.std.proofs.Common.{Option, None, Some, ◌⊎◌, ◌<◌, inl, inr, subst, refl, ap, sym, ◌∙◌, arith, append_assoc, append-nil, length-append}
 use Rattle.std.proofs.KnownBytes.{Consumes-nil, Consumes-trans}
 use Rattle.std.specs.Io.KnownBytes.{Consumes, IsAtEnd, prepend_known}
 use Rattle.std.specs.Prelude.{option_map, ◌==◌, not}
@@ -10,11 +10,13 @@ use Rattle.std.proofs.lemmas.List.{length-take-le}
 use Rattle.chip_file.specs.declared.source.LastRead.{LastRead}
 use Rattle.chip_file.specs.declared.source.LastRead.TheVariants as last
 use Rattle.chip_file.specs.Answer.{max_chunk}
-use Rattle.chip_file.specs.Pieces.{CutsInto, GivesPiece, GoesOn, IsSound, SplitsRows, has_quote, kind_of_read}
+use Rattle.chip_file.specs.Pieces.{CutsInto, GivesPiece, GoesOn, IsReady, IsSound, SplitsRows, has_quote, kind_of_read}
 use Rattle.chip_file.specs.Pieces.{Reading, rows_due, bytes_unread}
 use Rattle.chip_file.specs.Rows.{Row, records_of}
 use Rattle.chip_file.specs.Source.{goes_on, last_read, bytes_left}
+use Rattle.chip_file.specs.Wide.{most_fields, row_commas, StartsWide}
 use Rattle.chip_file.proofs.SeamLemmas.{records_cut, records_of_none}
+use Rattle.chip_file.proofs.WideLemmas.{starts_wide}
 
 -- ---- what was read of an input
 
@@ -120,10 +122,26 @@ pub cut_splits : (unread rest : Option (List ℕ)) (bytes piece tail carry : Lis
     → has_quote piece ≡ false → carry ≡ 10 ∷ tail → bytes ≡ piece ++ 10 ∷ tail
     → SplitsRows (option_map records_of unread) piece (option_map records_of (prepend_known carry rest))
 cut_splits unread rest bytes piece tail carry kept plain carries parts rows known =
-    let text = rows_of_text unread rows known in
+    inl
+    (let text = rows_of_text unread rows known in
     let more = rest_of_text bytes rest text.0 (kept text.0 text.1) in
     let found = cut_known rest bytes piece tail carry text.0 more.0 more.1 more.2 plain carries parts in
-    (found.0, found.1, text.2 ∙ found.2)
+    (found.0, found.1, text.2 ∙ found.2))
+
+-- a piece whose first row has too many fields begins the text
+pub wide_splits : (unread rest : Option (List ℕ)) (bytes piece : List ℕ) (new : Option (List Row))
+    → ((text : List ℕ) → unread ≡ Some text → prepend_known bytes rest ≡ Some text)
+    → bytes ≡ piece → most_fields < row_commas piece
+    → SplitsRows (option_map records_of unread) piece new
+wide_splits unread rest bytes piece new kept is many rows known =
+    let text = rows_of_text unread rows known in
+    let more = rest_of_text bytes rest text.0 (kept text.0 text.1) in
+    let all : rows ≡ records_of (piece ++ more.0) = text.2 ∙ ap records_of more.2
+    ∙ ap (λ (start : List ℕ). records_of (start ++ more.0)) is in
+    inr (
+      subst StartsWide (sym all) (starts_wide piece more.0 many),
+      subst (λ (bytes : List ℕ). StartsWide (records_of bytes)) (append-nil piece) (starts_wide piece [] many),
+    )
 
 last_known : (rest : Option (List ℕ)) (carry text more : List ℕ) → rest ≡ Some more → text ≡ carry ++ more
     → IsAtEnd rest
@@ -143,7 +161,7 @@ last_splits unread rest carry kept end rows known =
     let text = rows_of_text unread rows known in
     let more = rest_of_text carry rest text.0 (kept text.0 text.1) in
     let found = last_known rest carry text.0 more.0 more.1 more.2 end in
-    ([], found.0, text.2 ∙ found.1)
+    inl ([], found.0, text.2 ∙ found.1)
 
 none_known : (rest : Option (List ℕ)) (carry text : List ℕ) → carry ≡ [] → IsAtEnd rest
     → prepend_known carry rest ≡ Some text → records_of text ≡ []
@@ -220,21 +238,47 @@ cut_piece remaining a b m new came piece counted taken most alike same_most sour
     let before = due_going b more in
     let going : goes_on (last_read new.source) ≡ true = rw (source, bytes) refl in
     let after = due_going new going in
-    let long = ap length cut.4 in
     let joined = length-append m.carry.items came in
-    let split = length-append piece (10 ∷ cut.2) in
-    let carried_on = ap length cut.3 in
-    let same = ap (λ v. length v.items) carry in (
-      record {
-        alive = rw (source, bytes) (λ failed. cc failed);
-        done = rw (source, bytes) (λ ended. cc ended);
-        plain = cut.5;
-      },
-      omega arith,
-      cut_splits (bytes_unread remaining a) (bytes_left remaining new.source)
-          (m.carry.items ++ came) piece cut.2 new.carry.items
-          (still_kept remaining a b m new came kept consumes carry source) cut.1 cut.3 cut.4,
-    )
+    let same = ap (λ v. length v.items) carry in
+    let ready : IsReady new = record {
+      alive = rw (source, bytes) (λ failed. cc failed);
+      done = rw (source, bytes) (λ ended. cc ended);
+      plain = cut.1;
+    } in
+    let goes = still_kept remaining a b m new came kept consumes carry source in
+    by before going after joined same ready goes cut.2
+  where
+    by : rows_due b ≡ 2 * (b.most + max_chunk - b.taken + length b.carry.items) + 2
+        → goes_on (last_read new.source) ≡ true
+        → rows_due new ≡ 2 * (new.most + max_chunk - new.taken + length new.carry.items) + 2
+        → length (m.carry.items ++ came) ≡ length m.carry.items + length came
+        → length m.carry.items ≡ length b.carry.items
+        → IsReady new
+        → ((text : List ℕ) → bytes_unread remaining a ≡ Some text
+        → prepend_known (m.carry.items ++ came) (bytes_left remaining new.source) ≡ Some text)
+        → (((has_quote piece ≡ false) × (tail : List ℕ) × (new.carry.items ≡ 10 ∷ tail)
+        × (m.carry.items ++ came ≡ piece ++ 10 ∷ tail))
+        ⊎ ((new.carry.items ≡ []) × (m.carry.items ++ came ≡ piece) × (most_fields < row_commas piece)))
+        → GivesPiece remaining a new (Some piece)
+    by before going after joined same ready goes (inl at) =
+        let long = ap length at.3 in
+        let split = length-append piece (10 ∷ at.1) in
+        let carried_on = ap length at.2 in
+        let some = cut.0 in (
+          ready,
+          omega arith,
+          cut_splits (bytes_unread remaining a) (bytes_left remaining new.source)
+              (m.carry.items ++ came) piece at.1 new.carry.items goes at.0 at.2 at.3,
+        )
+    by before going after joined same ready goes (inr wide) =
+        let long = ap length wide.1 in
+        let none = ap length wide.0 in
+        let some = cut.0 in (
+          ready,
+          omega arith,
+          wide_splits (bytes_unread remaining a) (bytes_left remaining new.source)
+              (m.carry.items ++ came) piece _ goes wide.1 wide.2,
+        )
 
 -- the bound on the rows stays where bytes are carried on
 pub due_kept : {R : Type 0} (b m new : Reading R) (came : List ℕ)

@@ -7,6 +7,7 @@ pub mod GraphText
 pub mod Numbers
 pub mod Rows
 pub mod Source
+pub mod Wide
 pub mod Pieces
 pub mod Standing
 pub mod ChipsText

@@ -14,6 +14,7 @@ use Rattle.chip_graph.specs.Limits.{max_text}
 use Rattle.chip_file.specs.Answer.{max_chunk}
 use Rattle.chip_file.specs.Rows.{Row, records_of}
 use Rattle.chip_file.specs.Source.{goes_on, last_read, bytes_left, reads}
+use Rattle.chip_file.specs.Wide.{most_fields, row_commas, StartsWide}
 
 -- whether one of the bytes is a quote
 abbrev pub has_quote : List ℕ → Bool
@@ -91,13 +92,14 @@ IsOver old new =
     (last_read old.source ≡ last.Failure → last_read new.source ≡ last.Failure)
     × (last_read old.source ≢ last.Failure → last_read new.source ≡ last.End)
 
--- the bytes are carried on, or a piece was cut off them before the end of a line; whether a quote is carried is noted
+-- the bytes are carried on, or a piece was cut off them before the end of a line, or all of them are one whose first row
+-- has too many fields; whether a quote is carried is noted
 abbrev pub CutsInto : List ℕ → Option (List ℕ) → List ℕ → Bool → Type 0
 CutsInto bytes None carry quoted = (carry ≡ bytes) × (quoted ≡ false → has_quote carry ≡ false)
 CutsInto bytes (Some piece) carry quoted =
-    (2 ≤ length piece) × (has_quote piece ≡ false)
-    × (tail : List ℕ) × (carry ≡ 10 ∷ tail) × (bytes ≡ piece ++ 10 ∷ tail)
-    × (quoted ≡ false → has_quote carry ≡ false)
+    (2 ≤ length piece) × (quoted ≡ false → has_quote carry ≡ false)
+    × (((has_quote piece ≡ false) × (tail : List ℕ) × (carry ≡ 10 ∷ tail) × (bytes ≡ piece ++ 10 ∷ tail))
+    ⊎ ((carry ≡ []) × (bytes ≡ piece) × (most_fields < row_commas piece)))
 
 -- a bound on the rows that further pieces have
 abbrev pub rows_due : {R : Type 0} → Reading R → ℕ
@@ -105,10 +107,11 @@ rows_due pieces =
     2 * (pieces.most + max_chunk - pieces.taken + length pieces.carry.items)
     + (if goes_on (last_read pieces.source) then 2 else 0)
 
--- the rows of the text are those of the piece, and those that follow
+-- the rows of the text are those of the piece, and those that follow; or the first row has too many fields in both
 abbrev pub SplitsRows : Option (List Row) → List ℕ → Option (List Row) → Type 0
 SplitsRows old piece new =
-    (rows : List Row) → old ≡ Some rows → (rest : List Row) × (new ≡ Some rest) × (rows ≡ records_of piece ++ rest)
+    (rows : List Row) → old ≡ Some rows → ((rest : List Row) × (new ≡ Some rest) × (rows ≡ records_of piece ++ rest))
+    ⊎ (StartsWide rows × StartsWide (records_of piece))
 
 -- what asking for a piece gives: none where the input has ended, or the rows that come next
 abbrev pub GivesPiece : {R : Type 0} → (R → Option (List ℕ)) → Reading R → Reading R → Option (List ℕ) → Type 0

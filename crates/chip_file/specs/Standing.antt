@@ -17,6 +17,7 @@ use Rattle.chip_file.specs.declared.source.Source.{Source}
 use Rattle.chip_file.specs.Pieces.{IsOver, IsReady, IsStopped, Reading, reading, rows_due, rows_unread}
 use Rattle.chip_file.specs.Rows.{Row, has_header, rows_under_header}
 use Rattle.chip_file.specs.Source.{last_read}
+use Rattle.chip_file.specs.Wide.{IsWide, StartsWide}
 
 -- csv's reader of a piece
 abbrev pub Records : Type 0
@@ -67,10 +68,11 @@ pub record IsAtRow {R : Type 0} (reader : RowReading R) : Type 0 where
   pub pieces : IsReady reader.pieces
   pub records : IsOpen reader.records
 
--- the same of known rows
+-- the same of known rows; or the row that was found has too many fields, and so has the first of those
 abbrev pub TakesNext : Bool → Row → Option (List Row) → Option (List Row) → Type 0
 TakesNext found row old new =
-    (rows : List Row) → old ≡ Some rows → (rest : List Row) × (new ≡ Some rest) × TakesRow found row rows rest
+    (rows : List Row) → old ≡ Some rows → ((rest : List Row) × (new ≡ Some rest) × TakesRow found row rows rest)
+    ⊎ ((found ≡ true) × IsWide row × StartsWide rows)
 
 -- of known rows the first is the header, and those under it are left
 abbrev pub FindsHeader : Row → Option (List Row) → Option (List Row) → Type 0

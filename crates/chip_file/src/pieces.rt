@@ -1,12 +1,14 @@
 //! The pieces of a text of rows, as an input gives them.
 
-ghost use Rattle.std.specs.Prelude.{◌≡◌, ◌+◌, ◌<◌, ◌≤◌, [], ⊤, true, false, length, take, option_map, IfOk, IfErr};
+ghost use Rattle.std.specs.Prelude.{◌≡◌, ◌+◌, ◌<◌, ◌≤◌, [], ⊤, true, false, length, take, option_map, IfOk, IfErr, IfSome};
 ghost use Rattle.std.specs.Prelude.{OnOk, MatchOption, not, ◌++◌};
 ghost use Rattle.std.specs.Io.KnownBytes.{Consumes};
 ghost use Rattle.chip_file.specs.Answer.{max_chunk};
 ghost use Rattle.chip_file.specs.Pieces.{CutsInto, EndsLine, GivesPiece, GoesOn, IsOver, IsReady, IsSound, IsStopped};
 ghost use Rattle.chip_file.specs.Pieces.{has_quote, kind_of_read, reading};
 ghost use Rattle.chip_file.specs.Source.{goes_on, last_read, bytes_left};
+ghost use Rattle.chip_file.specs.Wide.{most_fields, row_commas};
+ghost use Rattle.chip_file.specs.declared.pieces.Width.TheVariants as width;
 ghost use Rattle.chip_file.specs.declared.source.LastRead.TheVariants as last;
 
 use crate::fault::FileFault;
@@ -16,13 +18,17 @@ use std::alloc::{AllocError, Global};
 use std::io::Read;
 use std::mem;
 
-/// How many bytes a piece has at least, but for the last one.
+/// How many bytes must be there before a piece is cut off them.
 const PIECE: usize = 32_768;
+
+/// The most fields that the rows of a file have.
+const MOST_FIELDS: usize = 4;
 
 /// The text of an input, a piece at a time.
 ///
 /// Each piece but the last ends where a line ends. A quote may hide the end of a line, so all that follows a quote is
-/// one piece.
+/// one piece. A row that has more fields than those of any file is not waited for: what came of it is a piece, and the
+/// last one that counts.
 #[derive(Drop)]
 pub(crate) struct Pieces {
     alloc: Global,
@@ -34,6 +40,8 @@ pub(crate) struct Pieces {
     carry: Vec<u8>,
     /// Whether a quote was read.
     quoted: bool,
+    /// Whether the first row that is carried was seen to end in time.
+    narrow: bool,
 }
 
 impl Pieces {
@@ -50,6 +58,7 @@ impl Pieces {
             taken: 0,
             carry: Vec::new(alloc),
             quoted: false,
+            narrow: false,
         }
     }
 
@@ -141,27 +150,97 @@ impl Pieces {
             Some(end) => {
                 let (last, next) = came.split_at(end);
                 self.carry.extend_from_slice(last)?;
+                self.narrow = false;
                 let mut carry = Vec::new(self.alloc);
                 carry.extend_from_slice(next)?;
                 Ok(Some(mem::replace(&mut self.carry, carry)))
             }
             None => {
                 self.carry.extend_from_slice(came)?;
-                Ok(None)
+                if self.is_wide(came) {
+                    Ok(Some(mem::replace(&mut self.carry, Vec::new(self.alloc))))
+                } else {
+                    Ok(None)
+                }
             }
         }
     }
 
-    /// Where a piece may end in the bytes that came: before a line feed, if there was no quote and enough came before.
+    /// Whether the first row that is carried has too many fields for any file, once these bytes came and are carried.
+    ///
+    /// A row that is not wide has few commas, so that it is looked at few times.
+    fn is_wide(&mut self, came: &[u8]) -> bool
+        ensures same { self.new ≡ record self.old { narrow = self.new.narrow } }
+        ensures wide { result ≡ true → most_fields < row_commas self.new.carry.items }
+    {
+        if self.quoted || self.narrow || !came.contains(&b',') {
+            return false;
+        }
+        let width = width_of(&self.carry);
+        self.narrow = width == Width::Narrow;
+        width == Width::Wide
+    }
+
+    /// Where a piece may end in the bytes that came: before the last line feed, if there was no quote and enough came.
     fn line_end(&self, came: &[u8]) -> Option<usize>
-        ensures { MatchOption result ⊤ (λ end. (self.now.quoted ≡ false) × (2 ≤ length self.now.carry.items)
+        ensures { MatchOption result ⊤ (λ end. (self.now.quoted ≡ false) × (2 ≤ length self.now.carry.items + end)
             × EndsLine came.now end) }
     {
-        if self.quoted || self.carry.len() < PIECE {
+        if self.quoted || came.len() < PIECE.saturating_sub(self.carry.len()) {
             return None;
         }
-        came.iter().position(|byte| *byte == b'\n')
+        let end = last_line_feed(came)?;
+        if self.carry.len() + end < 2 {
+            return None;
+        }
+        Some(end)
     }
+}
+
+/// What is known of how many fields a row has.
+#[derive(Clone, Copy, PartialEq, Eq)]
+enum Width {
+    /// More than the rows of any file.
+    Wide,
+    /// It ends before.
+    Narrow,
+    /// It goes on.
+    Open,
+}
+
+/// What is known of the first row of these bytes.
+fn width_of(bytes: &[u8]) -> Width
+    ensures { (result ≡ width.Wide) → most_fields < row_commas bytes.now }
+{
+    let mut begun = false;
+    let mut found = 0usize;
+    for byte in bytes {
+        match byte {
+            b',' => {
+                begun = true;
+                found += 1;
+                if found > MOST_FIELDS {
+                    return Width::Wide;
+                }
+            }
+            b'\r' | b'\n' if !begun => {}
+            b'\r' | b'\n' | b'"' => return Width::Narrow,
+            _ => begun = true,
+        }
+    }
+    Width::Open
+}
+
+/// The place of the last line feed.
+fn last_line_feed(bytes: &[u8]) -> Option<usize>
+    ensures { IfSome result (λ end. EndsLine bytes.now end) }
+{
+    for place in (0..bytes.len()).rev() {
+        if bytes[place] == b'\n' {
+            return Some(place);
+        }
+    }
+    None
 }
 
 /// Whether one of the bytes is a quote.

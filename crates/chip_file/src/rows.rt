@@ -1,6 +1,6 @@
 //! Files of rows: a header, and the rows under it.
 
-ghost use Rattle.std.specs.Prelude.{◌≡◌, ◌⊎◌, ◌<◌, [], true, false, map, option_map, Ok, IfOk, OnOk, IfErr};
+ghost use Rattle.std.specs.Prelude.{◌≡◌, ◌⊎◌, ◌<◌, ◌≤◌, [], length, true, false, map, option_map, Ok, IfOk, OnOk, IfErr};
 ghost use Rattle.csv.specs.Records.{fields_of};
 ghost use Rattle.chip_graph.specs.Limits.{AreLimits};
 ghost use Rattle.chip_file.specs.Pieces.{GoesOn, IsSound, IsStopped, reading};
@@ -9,6 +9,7 @@ ghost use Rattle.chip_file.specs.Source.{last_read};
 ghost use Rattle.chip_file.specs.Standing.{FindsHeader, Finishes, IsAtRow, LacksHeader, IsOpen, TakesNext, TakesRow};
 ghost use Rattle.chip_file.specs.Standing.{rows_left};
 ghost use Rattle.chip_file.specs.Standing.{row_reading, rows_ahead, rows_to_come};
+ghost use Rattle.chip_file.specs.Wide.{most_fields};
 ghost use Rattle.chip_file.specs.declared.source.LastRead.TheVariants as last;
 
 use crate::fault::FileFault;
@@ -53,6 +54,9 @@ impl RowReader {
     }
 
     /// Reads the next row into `row`, the header among them, and says whether there was one.
+    ///
+    /// Of a row with too many fields for any file it may read the first ones alone, and then no row behind it is
+    /// meant.
     pub(crate) fn read<R: Read>(
         &mut self,
         source: &mut Source<'_, R>,
@@ -88,6 +92,7 @@ impl RowReader {
     ) -> Result<(), FileFault>
         requires sound { IsSound R.remaining (reading source.old self.old.pieces) }
         requires ready { IsAtRow (row_reading source.old self.old) }
+        requires few { length header.now ≤ most_fields }
         ensures on { GoesOn R.remaining (reading source.old self.old.pieces) (reading source.new self.new.pieces) }
         ensures ready { OnOk result (IsAtRow (row_reading source.new self.new)) }
         ensures ok { OnOk result (FindsHeader (map (λ name. name.now) header.now)

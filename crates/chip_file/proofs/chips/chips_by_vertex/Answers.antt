@@ -1,5 +1,5 @@
 use Rattle.csv.specs.Records.{fields_of}
-use Rattle.std.proofs.Common.{inr, refl, sym, ◌∙◌, [], ap, length, ◌≡◌, ◌++◌, ◌∷◌}
+use Rattle.std.proofs.Common.{inr, arith, refl, sym, ◌∙◌, [], ap, length, ◌≡◌, ◌++◌, ◌∷◌}
 use Rattle.std.proofs.lemmas.List.{length-set}
 use Rattle.std.proofs.lemmas.Result.{err_from_is_err_and}
 use Rattle.chip_file.specs.ChipsText.{chips_header, chips_row_fault}
@@ -8,6 +8,8 @@ use Rattle.chip_file.specs.Rows.{rows_under_header}
 use Rattle.chip_file.proofs.PieceLemmas.{goes_further}
 use Rattle.chip_file.proofs.RecordLemmas.{HasRead-none, HasRead-more, HasRead-fails, HasRead-all, header_fails}
 use Rattle.chip_file.proofs.RecordLemmas.{index_fits}
+use Rattle.chip_file.proofs.WideLemmas.{fine_is_narrow, next_fails, next_fine, next_none, wide_fault}
+use Rattle.chip_file.specs.declared.fault.FileFault.TheVariants as fault
 use Rattle.chip_file.proofs.ChipsLemmas.{HaveNoted-none, HaveNoted-more, HaveNoted-all, table_fault, records_fail}
 use Rattle.chip_file.proofs.ChipsLemmas.{header_fails_chips, written_back}
 use Rattle.chip_file.proofs.chips.chips_by_vertex.Goals as goal
@@ -51,11 +53,13 @@ returns-in_err-note_row-clause-comes g c =
       c.in_ok-read.ensures.ready.pieces.alive,
       λ rows known few.
           let inv = c.loop-named.invariant.read rows known few in
-          let next = c.in_ok-read.ensures.takes inv.2 inv.3 in
-          let takes = rw c.if-branch.true at next.2 in
+          let takes = rw c.if-branch.true at c.in_ok-read.ensures.takes in
           let same = table_fault c.args.vertices inv.1 _ _ (fields_of c.read.new.row) inv.5 inv.4.counted in
+          let next = next_fails (chips_row_fault c.args.vertices inv.1) (fault.Row (length inv.1)) _
+          (fields_of c.read.new.row) inv.2 _ _ takes inv.3
+          (λ x. wide_fault 2 x (fault.Row (length inv.1)) _ (omega arith)) (sym same ∙ bad) in
           records_fail c.args.vertices rows _
-          (HasRead-fails chips_header _ _ _ _ _ _ _ _ inv.4 takes inv.0 (sym same ∙ bad)),
+          (HasRead-fails chips_header _ _ _ _ _ _ _ _ inv.4 next.2 inv.0 next.3),
     ))
 
 pub loop-named-preserved : goal.loop-named-preserved
@@ -70,15 +74,16 @@ loop-named-preserved g c =
       ready = c.in_ok-read.ensures.ready;
       read = λ rows known few.
           let inv = c.loop-named.invariant.read rows known few in
-          let next = c.in_ok-read.ensures.takes inv.2 inv.3 in
-          let takes = rw c.if-branch.true at next.2 in
+          let takes = rw c.if-branch.true at c.in_ok-read.ensures.takes in
           let fine = sym (table_fault c.args.vertices inv.1 _ _ row inv.5 inv.4.counted) ∙ ok.0 in
-          let fits = index_fits _ rows inv.1 _ _ _ row inv.4 takes few in (
+          let next = next_fine row inv.2 _ _ takes inv.3
+          (fine_is_narrow 2 row (fault.Row (length inv.1)) _ (omega arith) fine) in
+          let fits = index_fits _ rows inv.1 _ _ _ row inv.4 next.2 few in (
             inv.0,
             inv.1 ++ row ∷ [],
             next.0,
             next.1,
-            rw (c.saturating_add-index.ensures, fits) (HasRead-more _ _ _ _ _ _ _ inv.4 takes fine),
+            rw (c.saturating_add-index.ensures, fits) (HasRead-more _ _ _ _ _ _ _ inv.4 next.2 fine),
             rw left (HaveNoted-more c.args.vertices inv.1 _ row inv.5 fine),
           );
     }
@@ -91,7 +96,7 @@ returns-clause-comes g c = (
   c.in_ok-read.ensures.ended c.if-branch.false,
   λ rows known few.
       let inv = c.loop-named.invariant.read rows known few in
-      let next = c.in_ok-read.ensures.takes inv.2 inv.3 in
-      let takes = rw c.if-branch.false at next.2 in
-      HaveNoted-all c.args.vertices rows inv.1 _ inv.5 (HasRead-all chips_header _ _ _ _ _ inv.4 takes inv.0),
+      let takes = rw c.if-branch.false at c.in_ok-read.ensures.takes in
+      let none = next_none (fields_of c.read.new.row) inv.2 _ _ takes inv.3 in
+      HaveNoted-all c.args.vertices rows inv.1 _ inv.5 (HasRead-all chips_header _ _ _ _ _ inv.4 none inv.0),
 )

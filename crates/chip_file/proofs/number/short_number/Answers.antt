@@ -1,4 +1,4 @@
-use Rattle.std.proofs.Common.{◌≡◌, ◌<◌, length, get_or, arith, rules, sym}
+use Rattle.std.proofs.Common.{◌≡◌, length, get_or, arith, rules, sym}
 use Rattle.std.proofs.lemmas.Int.Digits.{digits_value_more, digits_more}
 use Rattle.chip_file.proofs.NumberLemmas.{digit_is, number_of-empty, number_of-few, number_of-odd, value_fits}
 use Rattle.chip_file.proofs.number.short_number.Goals as goal

@@ -8,6 +8,8 @@ use Rattle.chip_file.specs.TraceText.{trace_header, trace_row_fault}
 use Rattle.chip_file.proofs.PieceLemmas.{goes_further}
 use Rattle.chip_file.proofs.RecordLemmas.{HasRead-none, HasRead-more, HasRead-fails, HasRead-all, header_fails}
 use Rattle.chip_file.proofs.RecordLemmas.{index_fits}
+use Rattle.chip_file.proofs.WideLemmas.{fine_is_narrow, next_fails, next_fine, next_none, wide_fault}
+use Rattle.chip_file.specs.declared.fault.FileFault.TheVariants as fault
 use Rattle.chip_file.proofs.TraceLemmas.{names_vertex, HaveRecorded-none, HaveRecorded-more, HaveRecorded-all}
 use Rattle.chip_file.proofs.trace.traces_of_rows.Goals as goal
 
@@ -53,10 +55,10 @@ returns-in_err-vertex-clause-comes g c =
       c.in_ok-read.ensures.ready.pieces.alive,
       λ rows known few.
           let inv = c.loop-traces.invariant.read rows known few in
-          let next = c.in_ok-read.ensures.takes inv.2 inv.3 in
-          let takes = rw c.if-branch.true at next.2 in
-          HasRead-fails trace_header _ _ _ _ _ _ _ _ inv.4 takes inv.0
-          (rw inv.4.counted c.in_err-vertex.ensures.err),
+          let takes = rw c.if-branch.true at c.in_ok-read.ensures.takes in
+          let next = next_fails (trace_row_fault c.args.graph.now c.loop-traces.index) (fault.Row c.loop-traces.index) _ (fields_of c.read.new.row) inv.2
+          _ _ takes inv.3 (λ x. wide_fault 4 x (fault.Row c.loop-traces.index) _ (omega arith)) c.in_err-vertex.ensures.err in
+          HasRead-fails trace_header _ _ _ _ _ _ _ _ inv.4 next.2 inv.0 (rw inv.4.counted next.3),
     ))
 
 pub index_mut-trace-requires : goal.index_mut-trace-requires
@@ -82,15 +84,16 @@ loop-traces-preserved g c =
       each = length-set _ _ _ ∙ c.loop-traces.invariant.each;
       read = λ rows known few.
           let inv = c.loop-traces.invariant.read rows known few in
-          let next = c.in_ok-read.ensures.takes inv.2 inv.3 in
-          let takes = rw c.if-branch.true at next.2 in
-          let fits = index_fits _ rows inv.1 _ _ _ row inv.4 takes few in (
+          let takes = rw c.if-branch.true at c.in_ok-read.ensures.takes in
+          let next = next_fine row inv.2 _ _ takes inv.3
+          (fine_is_narrow 4 row (fault.Row c.loop-traces.index) _ (omega arith) found.0) in
+          let fits = index_fits _ rows inv.1 _ _ _ row inv.4 next.2 few in (
             inv.0,
             inv.1 ++ row ∷ [],
             next.0,
             next.1,
             rw (c.saturating_add-index.ensures, fits)
-                (HasRead-more _ _ _ _ _ _ _ inv.4 takes (rw inv.4.counted found.0)),
+                (HasRead-more _ _ _ _ _ _ _ inv.4 next.2 (rw inv.4.counted found.0)),
             rw (map-set, c.in_ok-push.ensures.items, was, found.1, found.2)
                 (HaveRecorded-more c.args.graph.now inv.1 _ row inv.5 vertex),
           );
@@ -104,8 +107,8 @@ returns-clause-comes g c = (
   c.in_ok-read.ensures.ended c.if-branch.false,
   λ rows known few.
       let inv = c.loop-traces.invariant.read rows known few in
-      let next = c.in_ok-read.ensures.takes inv.2 inv.3 in
-      let takes = rw c.if-branch.false at next.2 in
-      let all = HasRead-all trace_header _ _ _ _ _ inv.4 takes inv.0 in
+      let takes = rw c.if-branch.false at c.in_ok-read.ensures.takes in
+      let none = next_none (fields_of c.read.new.row) inv.2 _ _ takes inv.3 in
+      let all = HasRead-all trace_header _ _ _ _ _ inv.4 none inv.0 in
       HaveRecorded-all c.args.graph.now rows _ _ inv.5 all.1 all.0,
 )

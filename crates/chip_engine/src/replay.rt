@@ -39,6 +39,8 @@ fn replay_traces<T: Read>(alloc: Global, game: &Game, trace: &mut T) -> Result<S
 {
     let traces = read_trace(alloc, trace, game.graph())?;
     let firings = replay(alloc, game, &traces)?;
+    // They take more than the firings, and the lines need room.
+    drop(traces);
     let lines = lines_of(alloc, &firings)?;
     Ok(lines)
 }

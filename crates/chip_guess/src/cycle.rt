@@ -1,5 +1,5 @@
 use crate::level::{Level, Order};
-use crate::number::{BIG, within};
+use crate::number::{BIG, clamp};
 
 /// How the counts of groups are made greater or smaller, all at once.
 #[derive(Clone, Copy)]
@@ -40,7 +40,7 @@ fn descend(fine: &mut Level, coarse: &mut Level) {
         node.count_before = *count;
         node.rest_before = rest;
         if let Some(group) = coarse.nodes.get_mut(node.group as usize) {
-            group.wanted = within(
+            group.wanted = clamp(
                 i128::from(group.wanted).wrapping_add(i128::from(rest)),
                 -BIG,
                 BIG,
@@ -78,7 +78,7 @@ impl Level {
             for (node, count) in self.nodes.iter().zip(&mut self.counts) {
                 let before = i128::from(node.count_before);
                 let moved = i128::from(*count).wrapping_sub(before);
-                *count = node.bounded(before.wrapping_add(scaled(moved, factor)));
+                *count = node.clamp(before.wrapping_add(scale(moved, factor)));
             }
         }
     }
@@ -117,14 +117,14 @@ impl Level {
         }
         if let Some(factor) = ratio(wanted, sent) {
             for (node, count) in self.nodes.iter().zip(&mut self.counts) {
-                *count = node.bounded(scaled(i128::from(*count), factor));
+                *count = node.clamp(scale(i128::from(*count), factor));
             }
         }
     }
 }
 
 /// A number times a factor in units of 1/65536.
-fn scaled(number: i128, factor: i64) -> i128 {
+fn scale(number: i128, factor: i64) -> i128 {
     number.wrapping_mul(i128::from(factor)) >> 16
 }
 
@@ -139,5 +139,5 @@ fn ratio(mut a: i128, mut b: i128) -> Option<i64> {
     if a <= 0 || b <= 0 {
         return None;
     }
-    Some(within(a.wrapping_mul(65_536).checked_div(b)?, 16_384, 524_288))
+    Some(clamp(a.wrapping_mul(65_536).checked_div(b)?, 16_384, 524_288))
 }

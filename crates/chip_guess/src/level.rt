@@ -1,6 +1,6 @@
 ghost use Rattle.std.specs.Prelude.{◌≡◌, ◌<◌, length};
 
-use crate::number::{BIG, UNIT, firings, narrow, within};
+use crate::number::{BIG, UNIT, clamp, firings, narrow};
 use chip_graph::Graph;
 use std::alloc::{AllocError, Global};
 
@@ -88,8 +88,8 @@ impl Node {
     }
 
     /// A number, within the counts that it may have.
-    pub(crate) fn bounded(&self, number: i128) -> i64 {
-        within(number, self.low, self.high)
+    pub(crate) fn clamp(&self, number: i128) -> i64 {
+        clamp(number, self.low, self.high)
     }
 
     /// Whether what is left of it can move its count.
@@ -103,19 +103,19 @@ impl Node {
 
     /// What its count and those of its neighbours leave of what it is to send away.
     #[inline]
-    fn left(&self, links: &[Link], counts: &[i64], own: i64) -> i64 {
-        let mut left = self.wanted.wrapping_sub(self.degree.wrapping_mul(own));
+    fn excess(&self, links: &[Link], counts: &[i64], own: i64) -> i64 {
+        let mut excess = self.wanted.wrapping_sub(self.degree.wrapping_mul(own));
         for link in links_of(self, links) {
-            left = left.wrapping_add(link.chips().wrapping_mul(count_at(counts, link.tail)));
+            excess = excess.wrapping_add(link.chips().wrapping_mul(count_at(counts, link.tail)));
         }
-        left
+        excess
     }
 
     /// The same where it has edges out, too much or, where it is negative, too little.
     #[inline]
     pub(crate) fn rest(&self, links: &[Link], counts: &[i64], own: i64) -> i64 {
         if self.degree > 0 {
-            self.left(links, counts, own)
+            self.excess(links, counts, own)
         } else {
             0
         }
@@ -147,7 +147,7 @@ fn level_out(nodes: &[Node], links: &[Link], counts: &mut [i64], vertex: usize)
 {
     let node = &nodes[vertex];
     let own = counts[vertex];
-    let more = firings(node.left(links, counts, own), node.weight);
+    let more = firings(node.excess(links, counts, own), node.weight);
     counts[vertex] = own.wrapping_add(more).max(node.low).min(node.high);
 }
 

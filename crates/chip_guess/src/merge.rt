@@ -26,7 +26,7 @@ struct Members {
 }
 
 /// A game, the game of its groups, the game of their groups, and so on down to one vertex.
-pub(crate) fn coarser(alloc: Global, finest: Level) -> Result<Vec<Level>, AllocError> {
+pub(crate) fn coarsen(alloc: Global, finest: Level) -> Result<Vec<Level>, AllocError> {
     let mut levels = Vec::new(alloc);
     let mut fine = finest;
     for _ in 0..64 {
@@ -45,11 +45,11 @@ pub(crate) fn coarser(alloc: Global, finest: Level) -> Result<Vec<Level>, AllocE
 
 /// The game of a level's groups. Where groups of two or so do not thin out the links, all are one group.
 fn next_level(alloc: Global, fine: &mut Level) -> Result<Option<Level>, AllocError> {
-    let mut groups = paired(alloc, fine)?;
+    let mut groups = pair_vertices(alloc, fine)?;
     if groups.count == 0 {
         return Ok(None);
     }
-    let mut coarse = merged(alloc, fine, &groups)?;
+    let mut coarse = merge_groups(alloc, fine, &groups)?;
     if groups.count > 1 && coarse.links.len() / 3 >= fine.links.len() / 4 {
         for group in &mut groups.of {
             if *group != NONE {
@@ -57,7 +57,7 @@ fn next_level(alloc: Global, fine: &mut Level) -> Result<Option<Level>, AllocErr
             }
         }
         groups.count = 1;
-        coarse = merged(alloc, fine, &groups)?;
+        coarse = merge_groups(alloc, fine, &groups)?;
     }
     for (node, group) in fine.nodes.iter_mut().zip(&groups.of) {
         node.group = narrow(*group);
@@ -67,7 +67,7 @@ fn next_level(alloc: Global, fine: &mut Level) -> Result<Option<Level>, AllocErr
 
 /// Groups in which each vertex, in turn, joins the one that sends it most; where that one is still
 /// free, which counts four times, the two make a group.
-fn paired(alloc: Global, level: &Level) -> Result<Groups, AllocError> {
+fn pair_vertices(alloc: Global, level: &Level) -> Result<Groups, AllocError> {
     let mut of = vec![in alloc; NONE; level.nodes.len()]?;
     let mut count = 0usize;
     for (vertex, node) in level.nodes.iter().enumerate() {
@@ -133,7 +133,7 @@ fn members_of(alloc: Global, groups: &Groups) -> Result<Members, AllocError> {
 }
 
 /// The game of these groups: links within a group vanish, and those between two groups are one.
-fn merged(alloc: Global, fine: &Level, groups: &Groups) -> Result<Level, AllocError> {
+fn merge_groups(alloc: Global, fine: &Level, groups: &Groups) -> Result<Level, AllocError> {
     let members = members_of(alloc, groups)?;
     let mut places = vec![in alloc; NONE; groups.count]?;
     let mut coarse = Level::new(alloc);

@@ -5,7 +5,7 @@ pub(crate) const BIG: i64 = 1 << 60;
 pub(crate) const UNIT: i64 = 1 << 61;
 
 /// A number, or the bound that it is beyond.
-pub(crate) fn within(number: i128, low: i64, high: i64) -> i64 {
+pub(crate) fn clamp(number: i128, low: i64, high: i64) -> i64 {
     if number <= i128::from(low) {
         low
     } else if number >= i128::from(high) {
@@ -19,7 +19,7 @@ pub(crate) fn within(number: i128, low: i64, high: i64) -> i64 {
 #[inline]
 pub(crate) fn firings(excess: i64, weight: i64) -> i64 {
     let product = i128::from(excess).wrapping_mul(i128::from(weight));
-    within(product >> 61, -BIG, BIG)
+    clamp(product >> 61, -BIG, BIG)
 }
 
 /// The product of a number of 64 bits with another one.

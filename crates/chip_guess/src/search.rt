@@ -1,9 +1,9 @@
 ghost use Rattle.std.specs.Prelude.{◌≡◌, ◌≤◌, ◌<◌, ℕ, length, slice_index, IfOk};
 
 use crate::cycle::Stretch;
-use crate::learn::Groups;
+use crate::learn::{Groups, Lesson};
 use crate::level::{Level, links_of};
-use crate::merge::coarser;
+use crate::merge::coarsen;
 use crate::number::{BIG, times};
 use crate::settle::{Passed, Settling};
 use crate::target::{Approach, Density, Precision, Progress, Sought};
@@ -17,18 +17,18 @@ const MOST_STEPS: u64 = 4_096;
 /// counts that passed a test.
 const GREAT: usize = 1 << 14;
 
-/// How often counts are lowered before it is learnt what vertices keep.
-const PATIENCE: u64 = 64;
+/// How often counts are lowered before it is asked whether to learn what vertices keep.
+const PATIENCE: u64 = 16;
 
-/// Two to this power vertices are in a group from which is learnt first. Each next time there are four
-/// times as many.
-const FIRST_SCALE: u32 = 8;
+/// In each lesson the distances of the walls from the sink leave another one of these rests, so that what
+/// stood still in one lies between walls in the next.
+const RESTS: [u64; 4] = [0, 32, 16, 48];
 
-/// From how few groups nothing is learnt.
-const FEW_GROUPS: usize = 4;
+/// About how many vertices are in a group.
+const GROUP: usize = 256;
 
-/// How often the counts within groups are lowered at most.
-const LESSONS: u64 = 32;
+/// How often the counts between walls are lowered at most.
+const LOWERINGS: u64 = 32;
 
 /// How often more each vertex fires once counts have passed a test. Each next time it is twice as often.
 const FIRST_RAISE: i64 = 16;
@@ -49,7 +49,7 @@ enum Kind {
 enum Stage {
     /// The counts come near to those that leave about a density.
     Nearing,
-    /// They are lowered within groups, which shows what the vertices of a group keep.
+    /// They are lowered between walls, which shows what the vertices of a group keep.
     Learning,
     /// They are lowered until a test is passed.
     Lowering,
@@ -80,9 +80,9 @@ pub struct Search<'a> {
     approach: Approach,
     /// How many densities were tried before this one.
     tried: usize,
-    /// Two to this power vertices are in a group from which is learnt next; `None` where nothing is.
-    scale: Option<u32>,
-    /// Whether something was learnt, or may not be.
+    /// How many lessons there were.
+    lessons: usize,
+    /// Whether nothing more is to be learnt.
     learnt: bool,
     /// The groups from which is learnt.
     groups: Groups,
@@ -141,7 +141,7 @@ impl<'a> Search<'a> {
         most: &'a [u64],
     ) -> Result<Search<'a>, AllocError> {
         let kind = kind_of(graph);
-        let levels = coarser(alloc, Level::of_graph(alloc, graph)?)?;
+        let levels = coarsen(alloc, Level::of_graph(alloc, graph)?)?;
         let mut search = Search {
             graph,
             chips,
@@ -153,7 +153,7 @@ impl<'a> Search<'a> {
             stage: Stage::Nearing,
             approach: Approach::new(kind.coarse()),
             tried: 0,
-            scale: None,
+            lessons: 0,
             learnt: kind != Kind::BothWays || most.len() < GREAT,
             groups: Groups::new(alloc, &[], 1)?,
             settling: None,
@@ -177,7 +177,7 @@ impl<'a> Search<'a> {
             done = done.saturating_add(self.work_of_step());
             self.steps = self.steps.saturating_add(1);
             match self.stage {
-                Stage::Nearing => self.near(alloc)?,
+                Stage::Nearing => self.make_cycle(alloc)?,
                 Stage::Learning => self.learn(alloc)?,
                 Stage::Lowering => self.lower(alloc)?,
                 Stage::Found | Stage::GivenUp => break,
@@ -253,7 +253,7 @@ impl<'a> Search<'a> {
     }
 
     /// Makes a cycle, and goes on to what comes next where the counts are near, or will not come nearer.
-    fn near(&mut self, alloc: Global) -> Result<(), AllocError> {
+    fn make_cycle(&mut self, alloc: Global) -> Result<(), AllocError> {
         let progress = self.approach.advance(&mut self.levels, self.kind.stretch());
         if progress == Progress::Going {
             return Ok(());
@@ -290,13 +290,12 @@ impl<'a> Search<'a> {
 
     /// Goes on with the next density.
     fn try_next(&mut self) {
-        self.scale = None;
         self.learnt = true;
         self.tried = self.tried.saturating_add(1);
         self.begin_density();
     }
 
-    /// Begins to lower the counts, rounded down: within groups where something is to be learnt from them.
+    /// Begins to lower the counts, rounded down.
     fn settle(&mut self, alloc: Global) -> Result<(), AllocError> {
         if !self.fits() {
             self.try_next();
@@ -310,42 +309,41 @@ impl<'a> Search<'a> {
         if self.firings == 0 {
             self.firings = firings_of(&self.counts);
         }
-        self.stage = Stage::Lowering;
-        if let Some(scale) = self.scale {
-            self.groups = Groups::new(alloc, &self.levels, 1usize << scale.min(62))?;
-            settling.freeze(&self.groups.of);
-            self.stage = Stage::Learning;
-        }
         self.settling = Some(settling);
+        self.stage = Stage::Lowering;
         Ok(())
     }
 
-    /// Lowers the counts within groups once, and goes on with what is learnt from that after some times.
+    /// Begins to lower the counts between walls, at whose distances from the sink this rest is left.
+    fn begin_lesson(&mut self, rest: u64) {
+        if let Some(settling) = &mut self.settling {
+            settling.begin(self.chips, &self.counts);
+            settling.freeze(rest);
+            self.stage = Stage::Learning;
+        }
+    }
+
+    /// Lowers the counts between walls once, and goes on with what is learnt from that after some times.
     fn learn(&mut self, alloc: Global) -> Result<(), AllocError> {
         let Some(settling) = &mut self.settling else {
             self.try_next();
             return Ok(());
         };
-        if settling.lower(false)? == Progress::Going && settling.lowered < LESSONS {
+        if settling.lower(false)? == Progress::Going && settling.lowered < LOWERINGS {
             return Ok(());
         }
-        self.groups.learn(alloc, settling, &mut self.keeps)?;
-        self.scale = match self.scale {
-            Some(scale) => self.scale_from(scale.saturating_add(2)),
-            None => None,
+        let lesson = if self.lessons == 0 {
+            self.groups = Groups::new(alloc, &self.levels, GROUP)?;
+            Lesson::First
+        } else {
+            Lesson::Later
         };
+        self.groups
+            .learn(alloc, lesson, settling, &self.counts, &mut self.keeps)?;
+        self.lessons = self.lessons.saturating_add(1);
         self.approach = Approach::new(Precision::new(16, 10));
         self.begin();
         Ok(())
-    }
-
-    /// This scale, if it makes groups enough.
-    fn scale_from(&self, scale: u32) -> Option<u32> {
-        if self.most.len() >> scale.min(62) >= FEW_GROUPS {
-            Some(scale)
-        } else {
-            None
-        }
     }
 
     /// Lowers the counts once.
@@ -358,9 +356,11 @@ impl<'a> Search<'a> {
         match settling.lower(one_way)? {
             Progress::Near => self.pass(alloc),
             Progress::Going if !self.learnt && settling.lowered >= PATIENCE => {
-                self.learnt = true;
-                self.scale = self.scale_from(FIRST_SCALE);
-                self.settle(alloc)
+                match RESTS.get(self.lessons) {
+                    Some(rest) if settling.misses_many() => self.begin_lesson(*rest),
+                    _ => self.learnt = true,
+                }
+                Ok(())
             }
             // Counts that are greater than some that passed come back to these.
             Progress::Far if self.passed.is_empty() => {
@@ -376,7 +376,7 @@ impl<'a> Search<'a> {
         let Some(settling) = &mut self.settling else {
             return Ok(());
         };
-        let passed = settling.passed(alloc)?;
+        let passed = settling.outcome(alloc)?;
         let is_same = sum_of(&passed) == sum_of(&self.passed);
         self.passed = passed;
         self.learnt = true;

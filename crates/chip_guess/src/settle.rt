@@ -6,6 +6,9 @@ use std::alloc::{AllocError, Global};
 /// How often in a row no vertex may come back: that leaves nearly everything as it was.
 const BARREN: u64 = 16;
 
+/// At how many edges' distance from each other walls stand, by their distances from the sink.
+const WALLS: u64 = 64;
+
 /// An edge out of a vertex.
 #[derive(Clone, Copy)]
 struct Out {
@@ -57,6 +60,10 @@ pub(crate) struct Settling<'a> {
     pub(crate) lowered: u64,
     /// How often in a row no vertex came back.
     barren: u64,
+    /// How many vertices lent a firing when the counts were last lowered.
+    lent: u64,
+    /// How many of them did not fire again.
+    missing: u64,
 }
 
 impl Held {
@@ -105,6 +112,8 @@ impl<'a> Settling<'a> {
             waiting: Vec::new(alloc),
             lowered: 0,
             barren: 0,
+            lent: 0,
+            missing: 0,
         })
     }
 
@@ -184,8 +193,8 @@ impl<'a> Settling<'a> {
         let (passed, is_barren) = if one_way {
             (!self.earn_all(), false)
         } else {
-            let (lent, missing) = self.give_back()?;
-            (missing == 0, missing == lent)
+            self.give_back()?;
+            (self.missing == 0, self.missing == self.lent)
         };
         self.lowered = self.lowered.saturating_add(1);
         self.barren = if is_barren {
@@ -202,60 +211,71 @@ impl<'a> Settling<'a> {
         })
     }
 
-    /// Lends a firing of each vertex that fires, and lets those fire again that can, once: how many lent
-    /// one, and how many of them do not fire again.
-    fn give_back(&mut self) -> Result<(u64, u64), AllocError> {
-        self.lose_lent();
-        let lent = self.lend_all()?;
-        let mut missing = lent;
+    /// Has each vertex that fires lend a firing, those that are behind the one before, and lets those fire
+    /// again that can, once.
+    fn give_back(&mut self) -> Result<(), AllocError> {
+        self.lend_all()?;
+        self.missing = self.lent;
         for rank in 1..u32::MAX {
             let Some(vertex) = self.waiting.pop() else {
                 break;
             };
-            missing = missing.saturating_sub(1);
+            self.missing = self.missing.saturating_sub(1);
             self.come_back(vertex as usize, rank)?;
         }
-        Ok((lent, missing))
+        Ok(())
     }
 
-    /// Has those that are behind lose the firing that they lent.
-    fn lose_lent(&mut self) {
+    /// Has each vertex that fires lend a firing. Those that are behind lose the one that they lent before.
+    fn lend_all(&mut self) -> Result<(), AllocError> {
+        self.lent = 0;
         for vertex in 0..self.held.len() {
-            if self.held.get(vertex).is_some_and(|held| held.is_behind()) {
-                self.lose(vertex);
-            }
-        }
-    }
-
-    /// Has a vertex lose the firing that it lent.
-    fn lose(&mut self, vertex: usize) {
-        let degree = self.degree(vertex);
-        if let Some(slack) = self.slacks.get_mut(vertex) {
-            *slack = slack.wrapping_add(degree);
-        }
-        if let Some(held) = self.held.get_mut(vertex) {
-            held.fired = held.fired.wrapping_sub(1);
-            if held.fired == 0 {
-                self.change_lent(vertex, -1);
-            }
-        }
-    }
-
-    /// Lends a firing of each vertex that fires; how many did.
-    fn lend_all(&mut self) -> Result<u64, AllocError> {
-        let mut lent = 0u64;
-        let rows = self.held.iter_mut().zip(&mut self.slacks);
-        for (vertex, (held, slack)) in rows.enumerate() {
-            *slack = slack.wrapping_sub(held.comes);
+            let gained = self.lose(vertex)?;
+            let (Some(held), Some(slack)) = (self.held.get_mut(vertex), self.slacks.get_mut(vertex))
+            else {
+                continue;
+            };
+            *slack = slack.wrapping_add(gained).wrapping_sub(held.comes);
             held.rank = 0;
             if held.lends() {
-                lent = lent.saturating_add(1);
+                self.lent = self.lent.saturating_add(1);
                 if *slack >= 0 {
                     self.waiting.push(narrow(vertex))?;
                 }
             }
         }
-        Ok(lent)
+        Ok(())
+    }
+
+    /// Has a vertex that is behind lose the firing that it lent; the chips that it has more by that.
+    #[inline]
+    fn lose(&mut self, vertex: usize) -> Result<i64, AllocError> {
+        let Some(held) = self.held.get_mut(vertex) else {
+            return Ok(0);
+        };
+        if !held.is_behind() {
+            return Ok(0);
+        }
+        held.fired = held.fired.wrapping_sub(1);
+        if held.fired == 0 {
+            self.stop_lending(vertex)?;
+        }
+        Ok(self.degree(vertex))
+    }
+
+    /// Has a vertex whose firings are used up lend none from now on, where those below it have lent.
+    fn stop_lending(&mut self, vertex: usize) -> Result<(), AllocError> {
+        self.change_lent(vertex, -1);
+        let Some(held) = self.held.get(vertex) else {
+            return Ok(());
+        };
+        let edges = held.first as usize..held.end as usize;
+        for out in self.outs.get(edges).unwrap_or(&[]) {
+            if (out.head as usize) < vertex {
+                get_chips(&self.held, &mut self.slacks, &mut self.waiting, *out)?;
+            }
+        }
+        Ok(())
     }
 
     /// Fires a vertex again, as the one with this rank.
@@ -266,17 +286,7 @@ impl<'a> Settling<'a> {
         held.rank = rank;
         let edges = held.first as usize..held.end as usize;
         for out in self.outs.get(edges).unwrap_or(&[]) {
-            let head = out.head as usize;
-            if let Some(slack) = self.slacks.get_mut(head) {
-                let before = *slack;
-                *slack = before.wrapping_add(i64::from(out.mult));
-                if before < 0
-                    && *slack >= 0
-                    && self.held.get(head).is_some_and(|held| held.lends())
-                {
-                    self.waiting.push(out.head)?;
-                }
-            }
+            get_chips(&self.held, &mut self.slacks, &mut self.waiting, *out)?;
         }
         Ok(())
     }
@@ -307,24 +317,26 @@ impl<'a> Settling<'a> {
         true
     }
 
-    /// Has the counts of vertices stay as they are from which an edge goes into another group; which group
-    /// each one is in.
-    pub(crate) fn freeze(&mut self, groups: &[u32]) {
-        let sink = self.graph.sink();
-        for (held, group) in self.held.iter_mut().zip(groups) {
-            let edges = held.first as usize..held.end as usize;
-            for out in self.outs.get(edges).unwrap_or(&[]) {
-                if u64::from(out.head) != sink && groups.get(out.head as usize) != Some(group) {
-                    held.frozen = true;
-                }
+    /// Has the counts of some vertices stay as they are, the walls: those at whose distance from the sink,
+    /// divided by `WALLS`, this rest is left.
+    pub(crate) fn freeze(&mut self, rest: u64) {
+        for (vertex, held) in self.held.iter_mut().enumerate() {
+            let vertex = vertex as u64;
+            if vertex < self.graph.vertices() {
+                held.frozen = self.graph.distance(vertex) % WALLS == rest;
             }
         }
         self.lend_anew();
     }
 
-    /// The chips that the counts leave a vertex and what it would keep if it were full, where it may lend a
-    /// firing.
-    pub(crate) fn kept(&self, vertex: usize) -> Option<(i64, i64)> {
+    /// Whether more than a quarter of those that lent a firing last did not fire again.
+    pub(crate) fn misses_many(&self) -> bool {
+        self.missing > self.lent / 4
+    }
+
+    /// The chips that the counts leave a vertex, what it would keep if it were full, and how often it fires,
+    /// where it may lend a firing.
+    pub(crate) fn holdings(&self, vertex: usize) -> Option<(i64, i64, i64)> {
         let held = self.held.get(vertex)?;
         let slack = self.slacks.get(vertex)?;
         let degree = self.degree(vertex);
@@ -332,7 +344,7 @@ impl<'a> Settling<'a> {
             return None;
         }
         let lost = if held.rank == 0 { degree } else { 0 };
-        Some((slack.wrapping_add(lost), degree))
+        Some((slack.wrapping_add(lost), degree, held.fired))
     }
 
     /// Whether a vertex is legal, where a test is passed.
@@ -358,7 +370,7 @@ impl<'a> Settling<'a> {
     }
 
     /// What each vertex has when a test is passed.
-    pub(crate) fn passed(&self, alloc: Global) -> Result<Vec<Passed>, AllocError> {
+    pub(crate) fn outcome(&self, alloc: Global) -> Result<Vec<Passed>, AllocError> {
         let mut passed = Vec::new(alloc);
         for held in &self.held {
             passed.push(Passed {
@@ -368,4 +380,23 @@ impl<'a> Settling<'a> {
         }
         Ok(passed)
     }
+}
+
+/// Gives the head of an edge the chips of a firing along it, and notes it where it may fire again by them.
+#[inline]
+fn get_chips(
+    held: &[Held],
+    slacks: &mut [i64],
+    waiting: &mut Vec<u32>,
+    out: Out,
+) -> Result<(), AllocError> {
+    let head = out.head as usize;
+    if let Some(slack) = slacks.get_mut(head) {
+        let before = *slack;
+        *slack = before.wrapping_add(i64::from(out.mult));
+        if before < 0 && *slack >= 0 && held.get(head).is_some_and(|held| held.lends()) {
+            waiting.push(out.head)?;
+        }
+    }
+    Ok(())
 }

@@ -2,7 +2,7 @@ ghost use Rattle.std.specs.Prelude.{◌≤◌};
 
 use crate::cycle::{Stretch, cycle};
 use crate::level::{Level, Link, Node, links_of};
-use crate::number::{BIG, times, within};
+use crate::number::{BIG, clamp, times};
 
 /// How many chips each vertex may keep, from few to many.
 #[derive(Clone, Copy)]
@@ -60,8 +60,8 @@ impl Precision {
         self.shift < 16
     }
 
-    /// How much finer 1/65536 is than the unit: by two to this power.
-    fn finer(self) -> u32
+    /// By what power of two the unit is greater than 1/65536.
+    fn spare_shift(self) -> u32
         ensures { result ≤ 16 }
     {
         16u32.saturating_sub(self.shift)
@@ -84,7 +84,7 @@ pub(crate) struct Sought<'a> {
 impl Sought<'_> {
     /// Has the game begin at these counts, in its own unit.
     pub(crate) fn begin(&self, game: &mut Level, precision: Precision) {
-        let fine = precision.finer();
+        let fine = precision.spare_shift();
         let cap = game.cap;
         let given = self.chips.iter().zip(self.keeps).zip(self.most);
         let rows = self.counts.iter().zip(given);
@@ -98,7 +98,7 @@ impl Sought<'_> {
             let above = times(chips.cast_signed(), 65_536).wrapping_sub(i128::from(*keeps));
             let wanted = self.excess(node, &game.links, above, *sought);
             node.wanted = if node.degree > 0 {
-                within(wanted >> fine, -BIG, BIG)
+                clamp(wanted >> fine, -BIG, BIG)
             } else {
                 0
             };
@@ -128,7 +128,7 @@ impl Sought<'_> {
         let scale = i128::from(65_536 / precision.unit.max(1));
         for ((sought, more), most) in self.counts.iter_mut().zip(&game.counts).zip(self.most) {
             let all = i128::from(*sought).wrapping_add(i128::from(*more).wrapping_mul(scale));
-            *sought = within(all, 0, most.cast_signed().wrapping_mul(65_536));
+            *sought = clamp(all, 0, most.cast_signed().wrapping_mul(65_536));
         }
     }
 }
@@ -171,7 +171,7 @@ impl Approach {
             return Progress::Far;
         };
         let left = game.unrest();
-        if left <= small(game, self.precision) {
+        if left <= tolerance(game, self.precision) {
             return Progress::Near;
         }
         if self.cycles % 8 == 0 {
@@ -191,8 +191,8 @@ impl Approach {
     }
 }
 
-/// What may be left of a game.
-fn small(game: &Level, precision: Precision) -> i128 {
+/// What may be left of a game where counts are near.
+fn tolerance(game: &Level, precision: Precision) -> i128 {
     let mut degrees = 0i128;
     for node in &game.nodes {
         degrees = degrees.wrapping_add(i128::from(node.degree));

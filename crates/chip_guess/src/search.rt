@@ -329,9 +329,12 @@ impl<'a> Search<'a> {
             self.try_next();
             return Ok(());
         };
-        if settling.lower(false)? == Progress::Going && settling.lowered < LOWERINGS {
+        let progress = settling.lower(false)?;
+        if progress == Progress::Going && settling.lowered < LOWERINGS {
             return Ok(());
         }
+        // Counts that pass the test between walls leave little to learn.
+        self.learnt = progress == Progress::Near;
         let lesson = if self.lessons == 0 {
             self.groups = Groups::new(alloc, &self.levels, GROUP)?;
             Lesson::First

@@ -235,7 +235,7 @@ impl ActorState {
     }
 
     // The first rule of an event of the vertex that isn't met.
-    fn unmet(&self, event: &Event) -> Option<Rule>
+    fn broken_rule(&self, event: &Event) -> Option<Rule>
         requires { SomePart self.now (λ g s. part_of g event.now ≡ self.now.vertex) }
         ensures { WhateverPart self.now
             (λ g s. part_of g event.now ≡ self.now.vertex → result ≡ unmet_rule g event.now s) }
@@ -302,7 +302,7 @@ impl ActorState {
         ensures { WhateverPart self.now (λ g s. part_of g event.now ≡ self.now.vertex
             → result ≡ verdict (unmet_rule g event.now s) (act_of g event.now s)) }
     {
-        match self.unmet(event) {
+        match self.broken_rule(event) {
             Some(rule) => Err(rule),
             None => Ok(self.act(event)),
         }

@@ -63,14 +63,14 @@ impl FeederState {
     }
 
     /// How many chips each vertex was given, at the start and by feeds.
-    pub(crate) fn given(&self) -> &[u64]
+    pub(crate) fn chips_given(&self) -> &[u64]
         ensures { result.now ≡ self.now.given }
     {
         &self.given
     }
 
     /// Whether the end of feeding is noted.
-    pub(crate) fn ended(&self) -> bool
+    pub(crate) fn has_ended(&self) -> bool
         ensures { result ≡ self.now.ended }
     {
         self.ended

@@ -72,21 +72,21 @@ impl RootBooks {
     pub fn closed(&self) -> bool
         ensures { WhateverRoot self.now (λ g s. result ≡ (deficit g (root g) s == 0 && s.ended)) }
     {
-        self.outstanding == 0 && self.ended()
+        self.outstanding == 0 && self.has_ended()
     }
 
     // Whether the end of feeding is noted.
-    fn ended(&self) -> bool
+    fn has_ended(&self) -> bool
         ensures { WhateverRoot self.now (λ g s. result ≡ s.ended) }
     {
-        self.feeder.ended()
+        self.feeder.has_ended()
     }
 
     /// How many chips each vertex was given, at the start and by feeds.
     pub fn given(&self) -> &[u64]
         ensures { WhateverRoot self.now (λ g s. AreGiven g s result.now) }
     {
-        self.feeder.given()
+        self.feeder.chips_given()
     }
 
     // The vertex of a root edge, if it is one.
@@ -134,7 +134,7 @@ impl RootBooks {
     }
 
     // The first rule of an event of the root that isn't met.
-    fn unmet(&self, event: &Event) -> Option<Rule>
+    fn broken_rule(&self, event: &Event) -> Option<Rule>
         requires { SomeRoot self.now (λ g s. is_of_root g event.now ≡ true) }
         ensures { WhateverRoot self.now (λ g s. is_of_root g event.now ≡ true → result ≡ unmet_rule g event.now s) }
     {
@@ -203,7 +203,7 @@ impl RootBooks {
         ensures { WhateverRoot self.now (λ g s. is_of_root g event.now ≡ true
             → result ≡ verdict (unmet_rule g event.now s) (act_of g event.now s)) }
     {
-        match self.unmet(event) {
+        match self.broken_rule(event) {
             Some(rule) => Err(rule),
             None => Ok(self.act(event)),
         }

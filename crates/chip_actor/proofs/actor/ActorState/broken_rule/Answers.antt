@@ -1,7 +1,7 @@
 use Rattle.std.proofs.Common.{◌∙◌, sym, ap, ℕ}
 use Rattle.chip_part.specs.Rules.{Event, Fire, Halt, unmet_rule}
 use Rattle.chip_part.specs.Steps.{part_of}
-use Rattle.chip_actor.proofs.actor.ActorState.unmet.Goals as goal
+use Rattle.chip_actor.proofs.actor.ActorState.broken_rule.Goals as goal
 
 -- each arm asks its own event
 pub returns-in-Ack : goal.returns-in-Ack

@@ -95,7 +95,8 @@ impl Detect {
         ensures { result ≡ may_ack self.now slot.edge passive }
     {
         let owed = self.ins.open_at(slot);
-        if self.parent != Some(slot.edge) {
+        // (mostly nothing is owed on an edge, and then no parent is looked at: a turn asks for each edge)
+        if owed == 0 || self.parent != Some(slot.edge) {
             return owed;
         }
         let is_done = self.ins.all_open() == owed && passive && self.deficit() == 0;
@@ -180,7 +181,10 @@ impl Detect {
         ensures sound { IsSound self.new }
     {
         let more = word - self.outs.answered_at(slot);
-        self.outs.add_answers_at(slot, more);
+        // (mostly nothing is new, and then nothing is written: a turn looks at each edge)
+        if more > 0 {
+            self.outs.add_answers_at(slot, more);
+        }
         more
     }
 

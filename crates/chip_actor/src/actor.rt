@@ -20,15 +20,16 @@ mod turn;
 #[derive(Drop)]
 pub struct ActorState {
     vertex: u64,
-    is_sink: bool,
-    degree: u64,
     limit: u64,
-    chips: u64,
-    fired: u64,
-    halt: Option<Cause>,
     outs: Outs,
     ins: Ins,
+    // What a turn reads and writes stands together from here on.
+    is_sink: bool,
+    halt: Option<Cause>,
+    degree: u64,
+    fired: u64,
     detect: Detect,
+    chips: u64,
     // What is pending on all edges out of the vertex, how many messages are claimed and not put, and on how many edges
     // a claim was refused: so that nobody has to add them up.
     pending: u64,

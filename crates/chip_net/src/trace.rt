@@ -49,7 +49,8 @@ impl Trace {
     {
         if self.rows.len() < self.room {
             self.rows.push_reserved(row);
-        } else {
+        } else if !self.cut {
+            // (written once: without a trace there is never room)
             self.cut = true;
         }
     }

@@ -25,21 +25,20 @@ fn feed_next<'a>(net: &Net, root: &mut Root, left: &'a [(u64, u64)]) -> &'a [(u6
 }
 
 /// Feeds the first that is left, and notes the end once nothing is. Where it is noted nothing is done.
-pub(crate) fn feed_once<'a>(
-    net: &Net,
-    root: &mut Root,
-    left: Option<&'a [(u64, u64)]>,
-) -> Option<&'a [(u64, u64)]>
+pub(crate) fn feed_once(net: &Net, root: &mut Root, left: &mut Option<&[(u64, u64)]>)
     requires net { root.old.net ≡ net.now }
-    requires may { MayFeedLeft root.old (option_copied left) }
-    ensures fed { FeedsOnce (option_copied left.entry) (option_copied result) root.old root.new }
+    requires may { MayFeedLeft root.old (option_copied left.old) }
+    ensures fed { FeedsOnce (option_copied left.old) (option_copied left.new) root.old root.new }
     ensures net { root.new.net ≡ net.now }
 {
-    let left = feed_next(net, root, left?);
-    if left.is_empty() {
+    let Some(feeds) = *left else {
+        return;
+    };
+    let rest = feed_next(net, root, feeds);
+    *left = if rest.is_empty() {
         root.end(net);
         None
     } else {
-        Some(left)
-    }
+        Some(rest)
+    };
 }

@@ -90,7 +90,7 @@ impl<'a, B: Crew, G: Gate> Shared<'a, B, G> {
                 break;
             }
             seal_before(self.net, &mut seal, turn);
-            feeds = feed_once(self.net, &mut root, feeds);
+            feed_once(self.net, &mut root, &mut feeds);
             self.one_turn(0, turn, &mut hands);
             turns = turn + 1;
             if !hands.is_round_over() {

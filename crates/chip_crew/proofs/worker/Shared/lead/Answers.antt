@@ -45,13 +45,13 @@ returns-clause-led g c =
       | then-loop-turn-test+else-load+then-not-pass w ↦ still_there _ _ _ _ _ _ _ _ i.led i.may (w.turns-is ∙ i.turns)
           w.root-is
       | then-loop-turn-test+else-load+else-not-pass+else-not-is_round_over+in-Closed w ↦
-          let polls = polled_at c.round-round.result (c.loop-turn.turn + 1) w.feed_once-feeds.new.root w.poll.new.self
+          let polls = polled_at c.round-round.result (c.loop-turn.turn + 1) w.feed_once.new.root w.poll.new.self
           (over_then g.B.Crew.crew 0 (g.B.Crew.passes 0) (c.loop-turn.turn + 1) c.loop-turn.hands w.one_turn.new.hands
           c.round-round.result w.is_round_over.result w.one_turn.ensures.made i.round_of w.one_turn.ensures.round
           w.is_round_over.ensures ∙ (search rules)) w.poll.ensures.polls.polling in
           still_there _ _ _ _ _ _ (c.loop-turn.turn + 1) _
-          (led_more _ _ _ _ _ _ _ _ _ i.led w.feed_once-feeds.ensures.fed polls)
-          (may_more _ _ _ _ _ _ i.may w.feed_once-feeds.ensures.fed polls) w.turns-is w.root-is
+          (led_more _ _ _ _ _ _ _ _ _ i.led w.feed_once.ensures.fed polls)
+          (may_more _ _ _ _ _ _ i.may w.feed_once.ensures.fed polls) w.turns-is w.root-is
     ] in
     record {
       worker = record {
@@ -97,7 +97,7 @@ returns-clause-led g c =
 pub loop-turn-preserved-then-not-is_round_over : goal.loop-turn-preserved-then-not-is_round_over
 loop-turn-preserved-then-not-is_round_over g c =
     let i = c.loop-turn.invariant in
-    let polls = unpolled_at c.round-round.result (c.loop-turn.turn + 1) c.feed_once-feeds.new.root
+    let polls = unpolled_at c.round-round.result (c.loop-turn.turn + 1) c.feed_once.new.root
     (over_then g.B.Crew.crew 0 (g.B.Crew.passes 0) (c.loop-turn.turn + 1) c.loop-turn.hands c.one_turn.new.hands
     c.round-round.result c.is_round_over.result c.one_turn.ensures.made i.round_of c.one_turn.ensures.round
     c.is_round_over.ensures ∙ (search rules)) in
@@ -111,15 +111,15 @@ loop-turn-preserved-then-not-is_round_over g c =
       net = search rules;
       here = search rules;
       turns = search rules;
-      led = led_more _ _ _ _ _ _ _ _ _ i.led c.feed_once-feeds.ensures.fed polls;
-      may = may_more _ _ _ _ _ _ i.may c.feed_once-feeds.ensures.fed polls;
+      led = led_more _ _ _ _ _ _ _ _ _ i.led c.feed_once.ensures.fed polls;
+      may = may_more _ _ _ _ _ _ i.may c.feed_once.ensures.fed polls;
       passed = search rules;
     }
 
 pub loop-turn-preserved : goal.loop-turn-preserved
 loop-turn-preserved g c =
     let i = c.loop-turn.invariant in
-    let polls = polled_at c.round-round.result (c.loop-turn.turn + 1) c.feed_once-feeds.new.root c.poll.new.self
+    let polls = polled_at c.round-round.result (c.loop-turn.turn + 1) c.feed_once.new.root c.poll.new.self
     (over_then g.B.Crew.crew 0 (g.B.Crew.passes 0) (c.loop-turn.turn + 1) c.loop-turn.hands c.one_turn.new.hands
     c.round-round.result c.is_round_over.result c.one_turn.ensures.made i.round_of c.one_turn.ensures.round
     c.is_round_over.ensures ∙ (search rules)) c.poll.ensures.polls.polling in
@@ -133,7 +133,7 @@ loop-turn-preserved g c =
       net = search rules;
       here = search rules;
       turns = search rules;
-      led = led_more _ _ _ _ _ _ _ _ _ i.led c.feed_once-feeds.ensures.fed polls;
-      may = may_more _ _ _ _ _ _ i.may c.feed_once-feeds.ensures.fed polls;
+      led = led_more _ _ _ _ _ _ _ _ _ i.led c.feed_once.ensures.fed polls;
+      may = may_more _ _ _ _ _ _ i.may c.feed_once.ensures.fed polls;
       passed = search rules;
     }

@@ -151,7 +151,13 @@ fn file_behind(
 {
     let mut scratch = Scratch::new(alloc);
     let mut reader = Reader::new(rest, &mut scratch)?;
-    let parts = parts_of(alloc, &mut reader, MAX_DEPTH - 1, most, Parts::with_edges(edges))?;
+    let parts = parts_of(
+        alloc,
+        &mut reader,
+        MAX_DEPTH - 1,
+        most,
+        Parts::with_edges(edges),
+    )?;
     file_at_end(&mut reader, parts.into_file())
 }
 

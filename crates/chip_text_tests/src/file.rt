@@ -148,6 +148,33 @@ const GRAPHS: &[&(&str, Option<FileFault>)] = &[
         "{\"edges\":[],\"sink\":18446744073709551615,\"version\":1,\"vertices\":1}",
         Some(FileFault::Graph(GraphFault::Sink)),
     ),
+    // These have their edges first, and something else in or behind them.
+    &(
+        " { \"edges\": [ [0, 1,\t1],\n[0,1,2] ] , \"sink\":1,\"version\":1,\"vertices\":2 } ",
+        None,
+    ),
+    &(
+        "{\"edges\":[[0,1,1]],\"edges\":[[1,0,1]],\"sink\":0,\"version\":1,\"vertices\":2}",
+        None,
+    ),
+    &(
+        "{\"edges\":[[0,01,1]],\"sink\":1,\"version\":1,\"vertices\":2}",
+        Some(FileFault::NotJson),
+    ),
+    &(
+        "{\"edges\":[[0,1,1],],\"sink\":1,\"version\":1,\"vertices\":2}",
+        Some(FileFault::NotJson),
+    ),
+    &(
+        "{\"edges\":[[0,1,1]],\"sink\":1,\"version\":1,\"vertices\":2}]",
+        Some(FileFault::NotJson),
+    ),
+    &(
+        "{\"edges\":[[0,1,18446744073709551616]],\"sink\":1,\"version\":1,\"vertices\":2}",
+        Some(FileFault::Shape),
+    ),
+    &("{\"edges\":[[0,1,1]],}", Some(FileFault::NotJson)),
+    &("{\"edges\":[[0,1,1]]}", Some(FileFault::Shape)),
     &("[]", Some(FileFault::Shape)),
     &("", Some(FileFault::NotJson)),
     &("{}}", Some(FileFault::NotJson)),

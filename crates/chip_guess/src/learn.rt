@@ -11,7 +11,7 @@ const CLEAR: i64 = 8;
 #[derive(Drop)]
 pub(crate) struct Groups {
     /// The group of each vertex; `NO_GROUP` for the sink.
-    pub(crate) of: Vec<u32>,
+    of: Vec<u32>,
     /// How many there are.
     count: usize,
 }
@@ -114,10 +114,10 @@ impl Groups {
         let mut sums = vec![in alloc; none; self.count]?;
         for (vertex, (group, count)) in self.of.iter().zip(counts).enumerate() {
             if let Some(sum) = sums.get_mut(*group as usize) {
-                if let Some((chips, degree, fired)) = settling.holdings(vertex) {
-                    sum.chips = sum.chips.wrapping_add(chips);
-                    sum.degrees = sum.degrees.wrapping_add(degree);
-                    sum.lost = sum.lost.wrapping_add(*count >> 16).wrapping_sub(fired);
+                if let Some(has) = settling.holdings(vertex) {
+                    sum.chips = sum.chips.wrapping_add(has.chips);
+                    sum.degrees = sum.degrees.wrapping_add(has.degree);
+                    sum.lost = sum.lost.wrapping_add(*count >> 16).wrapping_sub(has.fired);
                     sum.vertices = sum.vertices.saturating_add(1);
                 }
             }

@@ -33,6 +33,17 @@ struct Held {
     frozen: bool,
 }
 
+/// What a vertex has while counts are lowered.
+#[derive(Clone, Copy)]
+pub(crate) struct Holdings {
+    /// The chips that the counts leave it.
+    pub(crate) chips: i64,
+    /// What one firing sends away.
+    pub(crate) degree: i64,
+    /// How often it fires.
+    pub(crate) fired: i64,
+}
+
 /// What a vertex has when a test is passed.
 #[derive(Clone, Copy)]
 pub(crate) struct Passed {
@@ -334,9 +345,8 @@ impl<'a> Settling<'a> {
         self.missing > self.lent / 4
     }
 
-    /// The chips that the counts leave a vertex, what it would keep if it were full, and how often it fires,
-    /// where it may lend a firing.
-    pub(crate) fn holdings(&self, vertex: usize) -> Option<(i64, i64, i64)> {
+    /// What a vertex has, where it may lend a firing.
+    pub(crate) fn holdings(&self, vertex: usize) -> Option<Holdings> {
         let held = self.held.get(vertex)?;
         let slack = self.slacks.get(vertex)?;
         let degree = self.degree(vertex);
@@ -344,7 +354,11 @@ impl<'a> Settling<'a> {
             return None;
         }
         let lost = if held.rank == 0 { degree } else { 0 };
-        Some((slack.wrapping_add(lost), degree, held.fired))
+        Some(Holdings {
+            chips: slack.wrapping_add(lost),
+            degree,
+            fired: held.fired,
+        })
     }
 
     /// Whether a vertex is legal, where a test is passed.

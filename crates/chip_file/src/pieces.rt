@@ -151,7 +151,7 @@ impl Pieces {
                 let (last, next) = came.split_at(end);
                 self.carry.extend_from_slice(last)?;
                 self.narrow = false;
-                let mut carry = Vec::new(self.alloc);
+                let mut carry = Vec::with_capacity(self.alloc, CHUNK)?;
                 carry.extend_from_slice(next)?;
                 Ok(Some(mem::replace(&mut self.carry, carry)))
             }

@@ -37,14 +37,15 @@ still_ahead rows left (inl ahead) none = ahead
 still_ahead rows left (inr wide) none = absurd (subst StartsWide none wide.1)
 
 -- where no piece comes, no row is ahead
-pub none_ahead : (left now : List Row) (unread after : Option (List Row)) → left ≡ [] → after ≡ unread
-    → ((rows : List Row) → unread ≡ Some rows → rows ≡ [])
+pub none_ahead : (left now : List Row) (unread after : Option (List Row)) → left ≡ []
+    → ((rows : List Row) → unread ≡ Some rows → (rows ≡ []) × (after ≡ Some []))
     → (rows : List Row) → option_map (λ rows. left ++ rows) unread ≡ Some rows
     → (rest : List Row) × (option_map (λ rows. now ++ rows) after ≡ Some rest) × (rows ≡ [])
-none_ahead left now None after none same end rows known = cc known
-none_ahead left now (Some xs) after none same end rows known =
+none_ahead left now None after none end rows known = cc known
+none_ahead left now (Some xs) after none end rows known =
     let all : Some xs ≡ Some rows = rw none at known in
-    (now ++ xs, rw same refl, end rows all)
+    let over = end rows all in
+    (now ++ [], rw over.1 refl, over.0)
 
 -- the rows of a piece are fewer than its bound
 pub fewer_ahead : (before after : ℕ) (left now : List Row) (piece : List ℕ) → after + length piece + 1 < before

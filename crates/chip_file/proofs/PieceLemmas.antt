@@ -4,19 +4,17 @@ use Rattle.std.proofs.Common.{◌≡◌, ◌≢◌, ℕ, ◌+◌, ◌-◌, ◌*�
 use Rattle.std.proofs.Common.{Option, None, Some, ◌⊎◌, ◌<◌, inl, inr, subst, refl, ap, sym, ◌∙◌, arith, append_assoc, append-nil, length-append}
 use Rattle.std.proofs.KnownBytes.{Consumes-nil, Consumes-trans}
 use Rattle.std.specs.Io.KnownBytes.{Consumes, IsAtEnd, prepend_known}
-use Rattle.std.specs.Prelude.{option_map, ◌==◌, not}
+use Rattle.std.specs.Prelude.{option_map, ◌==◌, not, if◌then◌else◌}
 use Rattle.std.proofs.lemmas.Bool.{eqb-true}
 use Rattle.std.proofs.lemmas.List.{length-take-le}
 use Rattle.chip_file.specs.declared.source.LastRead.{LastRead}
 use Rattle.chip_file.specs.declared.source.LastRead.TheVariants as last
 use Rattle.chip_file.specs.Answer.{max_chunk}
-use Rattle.chip_file.specs.Pieces.{CutsInto, GivesPiece, GoesOn, IsReady, IsSound, SplitsRows, has_quote, kind_of_read}
+use Rattle.chip_file.specs.Pieces.{CutsOff, GivesPiece, GoesOn, IsReady, IsSound, LeavesLast, SplitsRows, kind_of_read}
 use Rattle.chip_file.specs.Pieces.{Reading, rows_due, bytes_unread}
 use Rattle.chip_file.specs.Rows.{Row, records_of}
 use Rattle.chip_file.specs.Source.{goes_on, last_read, bytes_left}
-use Rattle.chip_file.specs.Wide.{most_fields, row_commas, StartsWide}
-use Rattle.chip_file.proofs.SeamLemmas.{records_cut, records_of_none}
-use Rattle.chip_file.proofs.WideLemmas.{starts_wide}
+use Rattle.chip_file.proofs.SeamLemmas.{records_of_none}
 
 -- ---- what was read of an input
 
@@ -72,9 +70,13 @@ bytes_by false count e some = rw e refl
 pub gave_bytes : (count : ℕ) → count ≢ 0 → kind_of_read count ≡ last.Bytes
 gave_bytes count some = bytes_by (count == 0) count refl some
 
--- a read that gave no byte is noted as the end
-pub gave_none : (count : ℕ) → count ≡ 0 → kind_of_read count ≡ last.End
-gave_none count none = rw none refl
+alive_by : (none : Bool) → (if none then last.End else last.Bytes) ≢ last.Failure
+alive_by true e = cc e
+alive_by false e = cc e
+
+-- a read that gave bytes or found the end is noted as no failure
+pub read_alive : (kind : LastRead) (count : ℕ) → kind ≡ kind_of_read count → kind ≢ last.Failure
+read_alive kind count noted = rw noted (alive_by (count == 0))
 
 -- a source that goes on has not failed
 pub still_going : (kind : LastRead) (b : Bool) → b ≡ not (goes_on kind) → b ≡ false → kind ≢ last.Failure
@@ -105,76 +107,62 @@ rest_of_text : (bytes : List ℕ) (rest : Option (List ℕ)) (text : List ℕ) �
 rest_of_text bytes None text e = cc e
 rest_of_text bytes (Some more) text e = (more, refl, cc e)
 
-cut_known : (rest : Option (List ℕ)) (bytes piece tail carry text more : List ℕ) → rest ≡ Some more
-    → text ≡ bytes ++ more
-    → has_quote piece ≡ false → carry ≡ 10 ∷ tail → bytes ≡ piece ++ 10 ∷ tail
-    → (rows : List Row) × (option_map records_of (prepend_known carry rest) ≡ Some rows)
-    × (records_of text ≡ records_of piece ++ rows)
-cut_known rest bytes piece tail carry text more left all plain carries parts = (
-  records_of (10 ∷ (tail ++ more)),
-  rw (left, carries) refl,
-  ap records_of (all ∙ rw (parts, append_assoc) refl) ∙ records_cut piece (tail ++ more) plain,
-)
-
--- a piece that was cut off before a line feed has the next rows
-pub cut_splits : (unread rest : Option (List ℕ)) (bytes piece tail carry : List ℕ)
+-- a piece that is cut off the bytes, whatever follows them, has the next rows of the text
+splits : (unread rest : Option (List ℕ)) (bytes piece carry : List ℕ)
     → ((text : List ℕ) → unread ≡ Some text → prepend_known bytes rest ≡ Some text)
-    → has_quote piece ≡ false → carry ≡ 10 ∷ tail → bytes ≡ piece ++ 10 ∷ tail
+    → ((more : List ℕ) → rest ≡ Some more → CutsOff more bytes piece carry)
     → SplitsRows (option_map records_of unread) piece (option_map records_of (prepend_known carry rest))
-cut_splits unread rest bytes piece tail carry kept plain carries parts rows known =
-    inl
-    (let text = rows_of_text unread rows known in
-    let more = rest_of_text bytes rest text.0 (kept text.0 text.1) in
-    let found = cut_known rest bytes piece tail carry text.0 more.0 more.1 more.2 plain carries parts in
-    (found.0, found.1, text.2 ∙ found.2))
-
--- a piece whose first row has too many fields begins the text
-pub wide_splits : (unread rest : Option (List ℕ)) (bytes piece : List ℕ) (new : Option (List Row))
-    → ((text : List ℕ) → unread ≡ Some text → prepend_known bytes rest ≡ Some text)
-    → bytes ≡ piece → most_fields < row_commas piece
-    → SplitsRows (option_map records_of unread) piece new
-wide_splits unread rest bytes piece new kept is many rows known =
+splits unread rest bytes piece carry kept cut rows known =
     let text = rows_of_text unread rows known in
     let more = rest_of_text bytes rest text.0 (kept text.0 text.1) in
-    let all : rows ≡ records_of (piece ++ more.0) = text.2 ∙ ap records_of more.2
-    ∙ ap (λ (start : List ℕ). records_of (start ++ more.0)) is in
-    inr (
-      subst StartsWide (sym all) (starts_wide piece more.0 many),
-      subst (λ (bytes : List ℕ). StartsWide (records_of bytes)) (append-nil piece) (starts_wide piece [] many),
-    )
+    rw more.1 ((cut more.0 more.1).2 rows (ap (λ (all : List ℕ). Some (records_of all)) (sym more.2) ∙ ap Some (sym text.2)))
 
-last_known : (rest : Option (List ℕ)) (carry text more : List ℕ) → rest ≡ Some more → text ≡ carry ++ more
-    → IsAtEnd rest
-    → (option_map records_of (prepend_known [] rest) ≡ Some []) × (records_of text ≡ records_of carry ++ [])
-last_known None carry text more left all end = cc left
-last_known (Some xs) carry text more left all end =
-    let none : more ≡ [] = cc in (
-      rw end (ap Some records_of_none),
-      ap records_of (all ∙ rw none (append-nil carry)) ∙ sym (append-nil (records_of carry)),
-    )
+-- nothing is behind the end
+nothing_more : (rest : Option (List ℕ)) (more : List ℕ) → IsAtEnd rest → rest ≡ Some more → more ≡ []
+nothing_more None more end known = cc known
+nothing_more (Some xs) more end known = cc
 
--- the last piece has all rows that come
-pub last_splits : (unread rest : Option (List ℕ)) (carry : List ℕ)
-    → ((text : List ℕ) → unread ≡ Some text → prepend_known carry rest ≡ Some text) → IsAtEnd rest
-    → SplitsRows (option_map records_of unread) carry (option_map records_of (prepend_known [] rest))
-last_splits unread rest carry kept end rows known =
-    let text = rows_of_text unread rows known in
-    let more = rest_of_text carry rest text.0 (kept text.0 text.1) in
-    let found = last_known rest carry text.0 more.0 more.1 more.2 end in
-    inl ([], found.0, text.2 ∙ found.1)
+-- a cut that is known where nothing follows is one at the end
+pub cut_last : (rest : Option (List ℕ)) (bytes piece carry : List ℕ) → IsAtEnd rest → CutsOff [] bytes piece carry
+    → (more : List ℕ) → rest ≡ Some more → CutsOff more bytes piece carry
+cut_last rest bytes piece carry end cut more known = rw (nothing_more rest more end known) cut
+
+-- all bytes are the last piece
+pub cut_all : (bytes carry : List ℕ) → 0 < length bytes → carry ≡ [] → CutsOff [] bytes bytes carry
+cut_all bytes carry some none =
+    let left = ap length none in (
+      some,
+      omega arith,
+      λ rows known.
+          let all : records_of (bytes ++ []) ≡ rows = cc known in
+          inl (
+            [],
+            rw none (ap Some records_of_none),
+            sym all ∙ ap records_of (append-nil bytes)
+                ∙ sym (append-nil (records_of bytes)),
+          ),
+    )
 
 none_known : (rest : Option (List ℕ)) (carry text : List ℕ) → carry ≡ [] → IsAtEnd rest
-    → prepend_known carry rest ≡ Some text → records_of text ≡ []
+    → prepend_known carry rest ≡ Some text
+    → (records_of text ≡ []) × (option_map records_of (prepend_known carry rest) ≡ Some [])
 none_known None carry text empty end known = cc known
 none_known (Some xs) carry text empty end known =
-    let none : text ≡ [] = cc in rw none records_of_none
+    let none : text ≡ [] = cc in
+    let all : carry ++ xs ≡ text = cc known in (
+      rw none records_of_none,
+      ap (λ (bytes : List ℕ). Some (records_of bytes)) (all ∙ none) ∙ ap Some records_of_none,
+    )
 
 -- where nothing is carried over the end, no row comes
-pub none_come : (rest : Option (List ℕ)) (carry : List ℕ) (rows : List Row) → carry ≡ [] → IsAtEnd rest
-    → option_map records_of (prepend_known carry rest) ≡ Some rows → rows ≡ []
-none_come rest carry rows empty end known =
-    let text = rows_of_text (prepend_known carry rest) rows known in
-    text.2 ∙ none_known rest carry text.0 empty end text.1
+pub none_come : (unread rest : Option (List ℕ)) (carry : List ℕ) (rows : List Row) → carry ≡ [] → IsAtEnd rest
+    → ((text : List ℕ) → unread ≡ Some text → prepend_known carry rest ≡ Some text)
+    → option_map records_of unread ≡ Some rows
+    → (rows ≡ []) × (option_map records_of (prepend_known carry rest) ≡ Some [])
+none_come unread rest carry rows empty end kept known =
+    let text = rows_of_text unread rows known in
+    let none = none_known rest carry text.0 empty end (kept text.0 text.1) in
+    (text.2 ∙ none.0, none.1)
 
 -- ---- what a read, and what comes of it, do to the pieces
 
@@ -190,109 +178,47 @@ still_kept remaining a b m new came kept consumes carry source text known =
     (carried (bytes_left remaining b.source) (bytes_left remaining m.source) b.carry.items came text consumes
     (kept text known))
 
-due_going : {R : Type 0} (p : Reading R) → goes_on (last_read p.source) ≡ true
-    → rows_due p ≡ 2 * (p.most + max_chunk - p.taken + length p.carry.items) + 2
-due_going p more = rw more refl
-
-due_ended : {R : Type 0} (p : Reading R) → last_read p.source ≡ last.End
-    → rows_due p ≡ 2 * (p.most + max_chunk - p.taken + length p.carry.items) + 0
-due_ended p ended = rw ended refl
-
--- the input has ended, and what was carried is the last piece
-pub last_piece : {R : Type 0} (remaining : R → Option (List ℕ)) (a b new : Reading R) (piece : List ℕ)
-    → IsAtEnd (bytes_left remaining new.source) → last_read new.source ≡ last.End
-    → new.carry.items ≡ [] → piece ≡ b.carry.items → new.taken ≡ b.taken → new.most ≡ b.most
-    → Consumes (bytes_left remaining b.source) (bytes_left remaining new.source) []
-    → ((text : List ℕ) → bytes_unread remaining a ≡ Some text → bytes_unread remaining b ≡ Some text)
-    → goes_on (last_read b.source) ≡ true → rows_due b ≤ rows_due a
-    → GivesPiece remaining a new (Some piece)
-last_piece remaining a b new piece end ended empty all taken most consumes kept more due =
-    let before = due_going b more in
-    let after = due_ended new ended in
-    let long = ap length all in
-    let none = ap length empty in (
-      record {
-        alive = λ failed. cc;
-        done = λ _. empty;
-        plain = λ _. rw empty refl;
-      },
-      omega arith,
-      rw (empty, all) (last_splits (bytes_unread remaining a) (bytes_left remaining new.source) b.carry.items
-          (λ text known. rw append-nil at
-          (carried (bytes_left remaining b.source) (bytes_left remaining new.source) b.carry.items [] text consumes
-          (kept text known)))
-          end),
-    )
-
--- a piece was cut off the bytes that were carried
-pub cut_piece : {R : Type 0} (remaining : R → Option (List ℕ)) (a b m new : Reading R) (came piece : List ℕ)
-    → m.taken ≡ b.taken + length came → new.taken ≡ m.taken → m.taken ≤ m.most + max_chunk
-    → m.most ≡ b.most → new.most ≡ m.most
-    → new.source ≡ m.source → m.carry ≡ b.carry → last_read m.source ≡ last.Bytes
-    → Consumes (bytes_left remaining b.source) (bytes_left remaining m.source) came
-    → ((text : List ℕ) → bytes_unread remaining a ≡ Some text → bytes_unread remaining b ≡ Some text)
-    → goes_on (last_read b.source) ≡ true → rows_due b ≤ rows_due a
-    → CutsInto (m.carry.items ++ came) (Some piece) new.carry.items new.quoted
-    → GivesPiece remaining a new (Some piece)
-cut_piece remaining a b m new came piece counted taken most alike same_most source carry bytes consumes kept more due cut =
-    let before = due_going b more in
-    let going : goes_on (last_read new.source) ≡ true = rw (source, bytes) refl in
-    let after = due_going new going in
-    let joined = length-append m.carry.items came in
-    let same = ap (λ v. length v.items) carry in
-    let ready : IsReady new = record {
-      alive = rw (source, bytes) (λ failed. cc failed);
-      done = rw (source, bytes) (λ ended. cc ended);
-      plain = cut.1;
-    } in
-    let goes = still_kept remaining a b m new came kept consumes carry source in
-    by before going after joined same ready goes cut.2
-  where
-    by : rows_due b ≡ 2 * (b.most + max_chunk - b.taken + length b.carry.items) + 2
-        → goes_on (last_read new.source) ≡ true
-        → rows_due new ≡ 2 * (new.most + max_chunk - new.taken + length new.carry.items) + 2
-        → length (m.carry.items ++ came) ≡ length m.carry.items + length came
-        → length m.carry.items ≡ length b.carry.items
-        → IsReady new
-        → ((text : List ℕ) → bytes_unread remaining a ≡ Some text
-        → prepend_known (m.carry.items ++ came) (bytes_left remaining new.source) ≡ Some text)
-        → (((has_quote piece ≡ false) × (tail : List ℕ) × (new.carry.items ≡ 10 ∷ tail)
-        × (m.carry.items ++ came ≡ piece ++ 10 ∷ tail))
-        ⊎ ((new.carry.items ≡ []) × (m.carry.items ++ came ≡ piece) × (most_fields < row_commas piece)))
-        → GivesPiece remaining a new (Some piece)
-    by before going after joined same ready goes (inl at) =
-        let long = ap length at.3 in
-        let split = length-append piece (10 ∷ at.1) in
-        let carried_on = ap length at.2 in
-        let some = cut.0 in (
-          ready,
-          omega arith,
-          cut_splits (bytes_unread remaining a) (bytes_left remaining new.source)
-              (m.carry.items ++ came) piece at.1 new.carry.items goes at.0 at.2 at.3,
-        )
-    by before going after joined same ready goes (inr wide) =
-        let long = ap length wide.1 in
-        let none = ap length wide.0 in
-        let some = cut.0 in (
-          ready,
-          omega arith,
-          wide_splits (bytes_unread remaining a) (bytes_left remaining new.source)
-              (m.carry.items ++ came) piece _ goes wide.1 wide.2,
-        )
-
--- the bound on the rows stays where bytes are carried on
+-- bytes that were read are due as they were before
 pub due_kept : {R : Type 0} (b m new : Reading R) (came : List ℕ)
     → m.taken ≡ b.taken + length came → new.taken ≡ m.taken → m.taken ≤ m.most + max_chunk
-    → m.most ≡ b.most → new.most ≡ m.most
-    → new.source ≡ m.source → m.carry ≡ b.carry → last_read m.source ≡ last.Bytes
-    → goes_on (last_read b.source) ≡ true
-    → new.carry.items ≡ m.carry.items ++ came
-    → rows_due new ≤ rows_due b
-due_kept b m new came counted taken most alike same_most source carry bytes more all =
-    let before = due_going b more in
-    let going : goes_on (last_read new.source) ≡ true = rw (source, bytes) refl in
-    let after = due_going new going in
-    let long = ap length all in
+    → m.most ≡ b.most → new.most ≡ m.most → m.carry ≡ b.carry
+    → 3 * (new.most + max_chunk - new.taken + length (m.carry.items ++ came)) ≤ rows_due b
+due_kept b m new came counted taken room alike most carry =
     let joined = length-append m.carry.items came in
     let same = ap (λ v. length v.items) carry in
     omega arith
+
+-- a piece was cut off the bytes, of which as many are due
+pub gives_piece : {R : Type 0} (remaining : R → Option (List ℕ)) (a new : Reading R) (bytes piece : List ℕ)
+    → IsReady new → new.taken ≤ new.most + max_chunk
+    → 3 * (new.most + max_chunk - new.taken + length bytes) ≤ rows_due a
+    → ((text : List ℕ) → bytes_unread remaining a ≡ Some text
+    → prepend_known bytes (bytes_left remaining new.source) ≡ Some text)
+    → 0 < length piece → length piece + length new.carry.items ≤ length bytes
+    → ((more : List ℕ) → bytes_left remaining new.source ≡ Some more → CutsOff more bytes piece new.carry.items)
+    → GivesPiece remaining a new (Some piece)
+gives_piece remaining a new bytes piece ready room due kept some fits cut = (
+  ready,
+  omega arith,
+  splits (bytes_unread remaining a) (bytes_left remaining new.source) bytes piece new.carry.items kept cut,
+)
+
+-- the input has ended
+pub gives_last : {R : Type 0} (remaining : R → Option (List ℕ)) (a new : Reading R) (bytes : List ℕ)
+    (piece : Option (List ℕ))
+    → last_read new.source ≡ last.End → IsAtEnd (bytes_left remaining new.source)
+    → new.taken ≤ new.most + max_chunk
+    → 3 * (new.most + max_chunk - new.taken + length bytes) ≤ rows_due a
+    → ((text : List ℕ) → bytes_unread remaining a ≡ Some text
+    → prepend_known bytes (bytes_left remaining new.source) ≡ Some text)
+    → LeavesLast bytes piece new.carry.items
+    → GivesPiece remaining a new piece
+gives_last remaining a new bytes None ended end room due kept left = (
+  rw ended (λ e. cc e),
+  ended,
+  λ rows known. none_come (bytes_unread remaining a) (bytes_left remaining new.source) new.carry.items rows left.1 end
+      (λ text known. rw left.1 (rw left.0 at (kept text known))) known,
+)
+gives_last remaining a new bytes (Some piece) ended end room due kept left =
+    gives_piece remaining a new bytes piece (rw ended (λ e. cc e)) room due kept left.0 left.1
+    (cut_last (bytes_left remaining new.source) bytes piece new.carry.items end left)

@@ -1,8 +1,7 @@
 -- The pieces of a text of rows, and what was read of an input for them.
-use Rattle.std.specs.Prelude.{◌≡◌, ◌≢◌, ◌⊎◌, ℕ, ◌+◌, ◌*◌, ◌-◌, ◌<◌, ◌≤◌, ◌==◌, Bool, true, false, if◌then◌else◌, List}
-use Rattle.std.specs.Prelude.{[], ◌∷◌, ◌++◌, length, take, drop, Option, None, Some, option_map}
+use Rattle.std.specs.Prelude.{◌≡◌, ◌≢◌, ◌⊎◌, ℕ, ◌+◌, ◌*◌, ◌-◌, ◌<◌, ◌≤◌, ◌==◌, true, if◌then◌else◌, List}
+use Rattle.std.specs.Prelude.{[], ◌++◌, length, Option, None, Some, option_map}
 use Rattle.std.specs.Global.{Vec}
-use Rattle.std.specs.List.{list_any}
 use Rattle.std.specs.Io.KnownBytes.{Consumes, IsAtEnd, prepend_known}
 use Rattle.chip_file.specs.declared.fault.FileFault.{FileFault}
 use Rattle.chip_file.specs.declared.fault.FileFault.TheVariants as fault
@@ -14,28 +13,19 @@ use Rattle.chip_graph.specs.Limits.{max_text}
 use Rattle.chip_file.specs.Answer.{max_chunk}
 use Rattle.chip_file.specs.Rows.{Row, records_of}
 use Rattle.chip_file.specs.Source.{goes_on, last_read, bytes_left, reads}
-use Rattle.chip_file.specs.Wide.{most_fields, row_commas, StartsWide}
-
--- whether one of the bytes is a quote
-abbrev pub has_quote : List ℕ → Bool
-has_quote bytes = list_any (λ byte. byte == 34) bytes
-
--- a line ends at this place of the bytes
-abbrev pub EndsLine : List ℕ → ℕ → Type 0
-EndsLine bytes end = (end < length bytes) × (bytes ≡ take end bytes ++ 10 ∷ drop (end + 1) bytes)
+use Rattle.chip_file.specs.Wide.{StartsWide}
 
 -- how a read went that gave so many bytes
 abbrev pub kind_of_read : ℕ → LastRead
 kind_of_read count = if count == 0 then last.End else last.Bytes
 
--- a source and the pieces that are made of it: how many bytes may be read and how many were, those that no piece has
--- yet, and whether a quote was read
+-- a source and the pieces that are made of it: how many bytes may be read and how many were, and those that no piece has
+-- yet
 pub record Reading (R : Type 0) : Type 0 where
   pub source : Source R
   pub most : ℕ
   pub taken : ℕ
   pub carry : Vec ℕ
-  pub quoted : Bool
 
 -- a source, and where its pieces stand
 abbrev pub reading : {R : Type 0} → Source R → Pieces → Reading R
@@ -45,7 +35,6 @@ reading source pieces =
       most = pieces.most;
       taken = pieces.taken;
       carry = pieces.carry;
-      quoted = pieces.quoted;
     }
 
 -- the bytes that no piece has yet, where they are known
@@ -65,11 +54,9 @@ pub record IsSound {R : Type 0} (remaining : R → Option (List ℕ)) (pieces : 
       → IsAtEnd (bytes_left remaining pieces.source) × (pieces.taken ≤ pieces.most)
   pub failed : last_read pieces.source ≡ last.Failure → pieces.taken ≤ pieces.most
 
--- the next piece may be asked for: no read failed, nothing is carried over the end, and a carried quote is noted
-pub record IsReady {R : Type 0} (pieces : Reading R) : Type 0 where
-  pub alive : last_read pieces.source ≢ last.Failure
-  pub done : last_read pieces.source ≡ last.End → pieces.carry.items ≡ []
-  pub plain : pieces.quoted ≡ false → has_quote pieces.carry.items ≡ false
+-- the next piece may be asked for: no read failed
+abbrev pub IsReady : {R : Type 0} → Reading R → Type 0
+IsReady pieces = last_read pieces.source ≢ last.Failure
 
 -- some bytes more were read of the same input, of which as many may be read as before, and counted
 pub record GoesOn {R : Type 0} (remaining : R → Option (List ℕ)) (old new : Reading R) : Type 0 where
@@ -92,20 +79,9 @@ IsOver old new =
     (last_read old.source ≡ last.Failure → last_read new.source ≡ last.Failure)
     × (last_read old.source ≢ last.Failure → last_read new.source ≡ last.End)
 
--- the bytes are carried on, or a piece was cut off them before the end of a line, or all of them are one whose first row
--- has too many fields; whether a quote is carried is noted
-abbrev pub CutsInto : List ℕ → Option (List ℕ) → List ℕ → Bool → Type 0
-CutsInto bytes None carry quoted = (carry ≡ bytes) × (quoted ≡ false → has_quote carry ≡ false)
-CutsInto bytes (Some piece) carry quoted =
-    (2 ≤ length piece) × (quoted ≡ false → has_quote carry ≡ false)
-    × (((has_quote piece ≡ false) × (tail : List ℕ) × (carry ≡ 10 ∷ tail) × (bytes ≡ piece ++ 10 ∷ tail))
-    ⊎ ((carry ≡ []) × (bytes ≡ piece) × (most_fields < row_commas piece)))
-
 -- a bound on the rows that further pieces have
 abbrev pub rows_due : {R : Type 0} → Reading R → ℕ
-rows_due pieces =
-    2 * (pieces.most + max_chunk - pieces.taken + length pieces.carry.items)
-    + (if goes_on (last_read pieces.source) then 2 else 0)
+rows_due pieces = 3 * (pieces.most + max_chunk - pieces.taken + length pieces.carry.items)
 
 -- the rows of the text are those of the piece, and those that follow; or the first row has too many fields in both
 abbrev pub SplitsRows : Option (List Row) → List ℕ → Option (List Row) → Type 0
@@ -113,11 +89,28 @@ SplitsRows old piece new =
     (rows : List Row) → old ≡ Some rows → ((rest : List Row) × (new ≡ Some rest) × (rows ≡ records_of piece ++ rest))
     ⊎ (StartsWide rows × StartsWide (records_of piece))
 
--- what asking for a piece gives: none where the input has ended, or the rows that come next
+-- a piece is cut off the bytes, with the rows that come next if these bytes follow
+abbrev pub CutsOff : List ℕ → List ℕ → List ℕ → List ℕ → Type 0
+CutsOff more bytes piece carry =
+    (0 < length piece) × (length piece + length carry ≤ length bytes)
+    × SplitsRows (Some (records_of (bytes ++ more))) piece (Some (records_of (carry ++ more)))
+
+-- the bytes are carried on, or a piece is cut off them, whatever follows
+abbrev pub CutsInto : List ℕ → Option (List ℕ) → List ℕ → Type 0
+CutsInto bytes None carry = carry ≡ bytes
+CutsInto bytes (Some piece) carry = (more : List ℕ) → CutsOff more bytes piece carry
+
+-- there are no bytes, or a piece is cut off them, where nothing follows
+abbrev pub LeavesLast : List ℕ → Option (List ℕ) → List ℕ → Type 0
+LeavesLast bytes None carry = (bytes ≡ []) × (carry ≡ [])
+LeavesLast bytes (Some piece) carry = CutsOff [] bytes piece carry
+
+-- what asking for a piece gives: none where the input has ended and no row is left, or the rows that come next
 abbrev pub GivesPiece : {R : Type 0} → (R → Option (List ℕ)) → Reading R → Reading R → Option (List ℕ) → Type 0
 GivesPiece remaining old new None =
-    (new ≡ old) × (last_read new.source ≡ last.End)
-    × ((rows : List Row) → rows_unread remaining old ≡ Some rows → rows ≡ [])
+    IsReady new × (last_read new.source ≡ last.End)
+    × ((rows : List Row) → rows_unread remaining old ≡ Some rows
+    → (rows ≡ []) × (rows_unread remaining new ≡ Some []))
 GivesPiece remaining old new (Some piece) =
     IsReady new × (rows_due new + length piece + 1 < rows_due old)
     × SplitsRows (rows_unread remaining old) piece (rows_unread remaining new)

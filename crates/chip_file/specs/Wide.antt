@@ -1,5 +1,8 @@
 -- Rows with more fields than the rows of any file.
-use Rattle.std.specs.Prelude.{ℕ, Bool, ◌+◌, ◌<◌, ◌==◌, ◌||◌, if◌then◌else◌, List, [], ◌∷◌, length}
+use Rattle.std.specs.Prelude.{ℕ, ◌+◌, ◌<◌, List, [], ◌∷◌, length}
+use Rattle.chip_file.specs.declared.place.Place.{Place}
+use Rattle.chip_file.specs.declared.place.Place.TheVariants as place
+use Rattle.chip_file.specs.Place.{place_after}
 
 -- the most fields that the rows of a file have
 abbrev pub most_fields : ℕ
@@ -14,17 +17,16 @@ abbrev pub StartsWide : List (List (List ℕ)) → Type 0
 StartsWide [] = ⊥
 StartsWide (row ∷ rows) = IsWide row
 
--- whether a byte ends a line
-abbrev pub ends_line : ℕ → Bool
-ends_line byte = (byte == 13) || (byte == 10)
+-- the commas of a row from a byte on, by the places behind and before it, and by those that the row has behind it: a
+-- comma leads to a field, and the end of a line to a row
+abbrev pub commas_by : Place → Place → ℕ → ℕ
+commas_by place.Field before more = 1 + more
+commas_by place.Row place.Row more = more
+commas_by place.Row before more = 0
+commas_by after before more = more
 
--- how many commas come before the end of a line, and before a quote
-abbrev pub commas : List ℕ → ℕ
-commas [] = 0
-commas (byte ∷ bytes) =
-    if byte == 44 then 1 + commas bytes else if ends_line byte || (byte == 34) then 0 else commas bytes
-
--- the same of the first line that has a byte
-abbrev pub row_commas : List ℕ → ℕ
-row_commas [] = 0
-row_commas (byte ∷ bytes) = if ends_line byte then row_commas bytes else commas (byte ∷ bytes)
+-- how many commas outside quotes a row has from a place on, or the next row where none has begun
+abbrev pub commas : Place → List ℕ → ℕ
+commas before [] = 0
+commas before (byte ∷ bytes) =
+    commas_by (place_after before byte) before (commas (place_after before byte) bytes)

@@ -42,7 +42,6 @@ impl RowReader {
         ensures limits { AreLimits limits }
         ensures taken { IfOk result (λ rows. rows.pieces.taken ≡ 0) }
         ensures carry { IfOk result (λ rows. rows.pieces.carry.items ≡ []) }
-        ensures quoted { IfOk result (λ rows. rows.pieces.quoted ≡ false) }
         ensures ready { IfOk result (λ rows. IsOpen rows.records.value) }
         ensures none { IfOk result (λ rows. rows_left rows.records.value ≡ []) }
     {

@@ -50,7 +50,7 @@ returns-in_err-note_row-clause-comes g c =
     let p = err_from_is_err_and c.from_residual-in_err-note_row.result c.from_residual-in_err-note_row.ensures.1 in
     let bad = rw c.deref_mut.ensures.value at c.in_err-note_row.ensures.err in
     rw (p.1, p.2) (inr (
-      c.in_ok-read.ensures.ready.pieces.alive,
+      c.in_ok-read.ensures.ready.pieces,
       λ rows known few.
           let inv = c.loop-named.invariant.read rows known few in
           let takes = rw c.if-branch.true at c.in_ok-read.ensures.takes in

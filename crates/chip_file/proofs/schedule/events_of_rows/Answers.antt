@@ -49,7 +49,7 @@ pub returns-in_err-event_of-clause-comes : goal.returns-in_err-event_of-clause-c
 returns-in_err-event_of-clause-comes g c =
     let p = err_from_is_err_and c.from_residual-in_err-event_of.result c.from_residual-in_err-event_of.ensures.1 in
     rw (p.1, p.2) (inr (
-      c.in_ok-read.ensures.ready.pieces.alive,
+      c.in_ok-read.ensures.ready.pieces,
       λ rows known few.
           let inv = c.loop-events.invariant.read rows known few in
           let takes = rw c.if-branch.true at c.in_ok-read.ensures.takes in

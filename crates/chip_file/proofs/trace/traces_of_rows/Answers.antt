@@ -52,7 +52,7 @@ pub returns-in_err-vertex-clause-comes : goal.returns-in_err-vertex-clause-comes
 returns-in_err-vertex-clause-comes g c =
     let p = err_from_is_err_and c.from_residual-in_err-vertex.result c.from_residual-in_err-vertex.ensures.1 in
     rw (p.1, p.2) (inr (
-      c.in_ok-read.ensures.ready.pieces.alive,
+      c.in_ok-read.ensures.ready.pieces,
       λ rows known few.
           let inv = c.loop-traces.invariant.read rows known few in
           let takes = rw c.if-branch.true at c.in_ok-read.ensures.takes in

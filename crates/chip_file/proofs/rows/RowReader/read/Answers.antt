@@ -1,4 +1,4 @@
-use Rattle.std.proofs.Common.{ap, arith, inl}
+use Rattle.std.proofs.Common.{arith, inl}
 use Rattle.chip_file.specs.Pieces.{reading, rows_due, rows_unread}
 use Rattle.chip_file.specs.Standing.{rows_left}
 use Rattle.chip_file.proofs.AheadLemmas.{ahead_on, fewer_ahead, none_ahead, still_ahead}
@@ -20,7 +20,7 @@ returns-in-None-clause-takes g c =
     λ rows known. inl
     (none_ahead (rows_left c.loop-self.self.records.value) (rows_left c.read_record.new.records)
     (rows_unread g.R.Read.remaining (reading c.loop-self.source c.loop-self.self.pieces)) _ empty
-    (ap (rows_unread g.R.Read.remaining) gives.0) gives.2 rows
+    gives.2 rows
     (still_ahead rows (rows_left c.loop-self.self.records.value) (inv.same rows known) empty))
 
 pub loop-self-smaller : goal.loop-self-smaller

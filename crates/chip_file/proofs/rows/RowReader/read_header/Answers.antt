@@ -27,7 +27,7 @@ returns-else-branch-clause-err g c =
           search rules in
           inr (
             refl,
-            c.in_ok-read.ensures.ready.pieces.alive,
+            c.in_ok-read.ensures.ready.pieces,
             λ rows known. header_lacks (map (λ name. name.now) c.args.header.now) (fields_of c.read.new.row) rows _ _
                 (omega arith) has takes known,
           )
@@ -35,7 +35,7 @@ returns-else-branch-clause-err g c =
           let takes = rw w.if-branch.false at c.in_ok-read.ensures.takes in
           inr (
             refl,
-            c.in_ok-read.ensures.ready.pieces.alive,
+            c.in_ok-read.ensures.ready.pieces,
             λ rows known. header_none (map (λ name. name.now) c.args.header.now) (fields_of c.read.new.row) rows _ _
                 takes known,
           )

@@ -75,7 +75,7 @@ impl RowReader {
     {
         while !read_record(&mut self.records, row)? {
             match self.pieces.next(source)? {
-                Some(piece) => go_to(&mut self.records, self.alloc, piece),
+                Some(piece) => go_to(&mut self.records, self.alloc, piece)?,
                 None => return Ok(false),
             }
         }
@@ -135,26 +135,33 @@ fn no_records(alloc: Global) -> Result<Box<Records>, AllocError>
     ensures ready { IfOk result (λ records. IsOpen records.value) }
     ensures none { IfOk result (λ records. rows_left records.value ≡ []) }
 {
-    Ok(Box::new(alloc, records_of(alloc, Vec::new(alloc)))?)
+    Ok(Box::new(alloc, records_of(alloc, Vec::new(alloc))?)?)
 }
 
 /// The records of a piece.
-fn records_of(alloc: Global, piece: Vec<u8>) -> Records
-    ensures ready { IsOpen result }
-    ensures rows { rows_left result ≡ records_of piece.items }
+///
+/// `csv` keeps two copies of a header, or of the first record where there is none. So it is given one that is empty.
+fn records_of(alloc: Global, piece: Vec<u8>) -> Result<Records, AllocError>
+    ensures ready { IfOk result IsOpen }
+    ensures rows { IfOk result (λ records. rows_left records ≡ records_of piece.items) }
 {
-    ReaderBuilder::new()
-        .has_headers(false)
+    let mut records = ReaderBuilder::new()
+        .has_headers(true)
         .flexible(true)
-        .from_reader(alloc, Cursor::new(piece))
+        .from_reader(alloc, Cursor::new(piece));
+    if records.set_byte_headers(ByteRecord::new(alloc)).is_err() {
+        return Err(AllocError);
+    }
+    Ok(records)
 }
 
 /// Goes on to the records of another piece.
-fn go_to(records: &mut Records, alloc: Global, piece: Vec<u8>)
-    ensures ready { IsOpen records.new }
-    ensures rows { rows_left records.new ≡ records_of piece.items }
+fn go_to(records: &mut Records, alloc: Global, piece: Vec<u8>) -> Result<(), AllocError>
+    ensures ready { OnOk result (IsOpen records.new) }
+    ensures rows { OnOk result (rows_left records.new ≡ records_of piece.items) }
 {
-    *records = records_of(alloc, piece);
+    *records = records_of(alloc, piece)?;
+    Ok(())
 }
 
 /// Reads the next record of a piece into `row`, and says whether there was one.

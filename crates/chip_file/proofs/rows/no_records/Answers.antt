@@ -6,5 +6,5 @@ use Rattle.chip_file.proofs.rows.no_records.Goals as goal
 
 pub returns-clause-none : goal.returns-clause-none
 returns-clause-none c =
-    ap rows_left c.in_ok-new.ensures.ok ∙ c.records_of.ensures.rows ∙ ap records_of c.new.ensures.items
+    ap rows_left c.in_ok-new.ensures.ok ∙ c.in_ok-records_of.ensures.rows ∙ ap records_of c.new.ensures.items
     ∙ records_of_none

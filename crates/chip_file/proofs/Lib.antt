@@ -10,7 +10,6 @@ mod PieceLemmas
 mod AheadLemmas
 mod RecordLemmas
 mod ReadLemmas
-mod KindLemmas
 mod TraceLemmas
 mod FieldLemmas
 mod Worked

@@ -1,9 +1,6 @@
 -- Files of rows: a header, and the rows under it.
-use Rattle.std.specs.Prelude.{ℕ, Bool, false, if◌then◌else◌, List, [], ◌∷◌, ◌++◌, length, Option, None, Some}
-use Rattle.std.specs.Prelude.{option_and_then, bytes_eq}
+use Rattle.std.specs.Prelude.{ℕ, Bool, false, if◌then◌else◌, List, [], ◌∷◌, ◌++◌, length, Option, None, bytes_eq}
 use Rattle.std.specs.Cmp.Lexicographic.{pointwise}
-use Rattle.std.specs.Str.{is_utf8}
-use Rattle.csv.specs.Records.{field_at}
 use Rattle.csv.specs.Reading.{records, default_config, strip_bom}
 use Rattle.chip_graph.specs.Faults.{first_of_faults, fault_unless}
 use Rattle.chip_file.specs.declared.fault.FileFault.{FileFault}
@@ -16,10 +13,6 @@ Row = List (List ℕ)
 -- the records that csv reads in a text: with commas, without trimming, the header among them
 abbrev pub records_of : List ℕ → List Row
 records_of text = records default_config (strip_bom text)
-
--- the text in the field at a column of a row: none where the row is too short, or the field is no UTF-8
-abbrev pub text_at : ℕ → Row → Option (List ℕ)
-text_at column row = option_and_then (λ field. if is_utf8 field then Some field else None) (field_at row column)
 
 -- a record has exactly these fields
 abbrev pub has_fields : Row → Row → Bool

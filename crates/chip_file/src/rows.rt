@@ -1,10 +1,10 @@
 //! Files of rows: a header, and the rows under it.
 
-ghost use Rattle.std.specs.Prelude.{◌≡◌, ◌⊎◌, ◌<◌, ◌≤◌, [], length, true, false, map, option_map, Ok, IfOk, OnOk, IfErr};
+ghost use Rattle.std.specs.Prelude.{◌≡◌, ◌⊎◌, ◌<◌, ◌≤◌, [], length, true, false, map, Ok, IfOk, OnOk, IfErr};
 ghost use Rattle.csv.specs.Records.{fields_of};
 ghost use Rattle.chip_graph.specs.Limits.{AreLimits};
 ghost use Rattle.chip_file.specs.Pieces.{GoesOn, IsSound, IsStopped, reading};
-ghost use Rattle.chip_file.specs.Rows.{records_of, has_fields, text_at};
+ghost use Rattle.chip_file.specs.Rows.{records_of, has_fields};
 ghost use Rattle.chip_file.specs.Source.{last_read};
 ghost use Rattle.chip_file.specs.Standing.{FindsHeader, Finishes, IsAtRow, LacksHeader, IsOpen, TakesNext, TakesRow};
 ghost use Rattle.chip_file.specs.Standing.{rows_left};
@@ -19,7 +19,6 @@ use chip_graph::Limits;
 use csv::{ByteRecord, Reader, ReaderBuilder};
 use std::alloc::{AllocError, Global};
 use std::io::{Cursor, Read};
-use std::str;
 
 /// The records of one piece of a text.
 type Records = Reader<Cursor<Vec<u8>>>;
@@ -176,13 +175,6 @@ fn read_record(records: &mut Records, row: &mut ByteRecord) -> Result<bool, Allo
         return Err(AllocError);
     };
     Ok(found)
-}
-
-/// The text in a row's field at a column: none where the row is too short, or the field is no UTF-8.
-pub(crate) fn text_at(row: &ByteRecord, column: usize) -> Option<&str>
-    ensures { option_map (λ text. text.now) result ≡ text_at column (fields_of row.now) }
-{
-    str::from_utf8(row.get(column)?).ok()
 }
 
 /// Whether a record has exactly these fields.

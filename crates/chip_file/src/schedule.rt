@@ -13,7 +13,6 @@ ghost use Rattle.chip_file.specs.Standing.{ComesOfRows, IsAtRow, row_reading, ro
 
 use crate::fault::FileFault;
 use crate::number::number_at;
-use crate::rows;
 use crate::rows::RowReader;
 use crate::source::Source;
 use chip_graph::{Graph, Limits};
@@ -44,22 +43,22 @@ enum EventKind {
 
 impl EventKind {
     /// The kind of this name.
-    fn from_name(name: &str) -> Option<EventKind>
+    fn from_name(name: &[u8]) -> Option<EventKind>
         ensures { result ≡ kind_named event_kinds name.now }
     {
         match name {
-            "take" => Some(EventKind::Take),
-            "ack" => Some(EventKind::Ack),
-            "fire" => Some(EventKind::Fire),
-            "clear" => Some(EventKind::Clear),
-            "claim" => Some(EventKind::Claim),
-            "put" => Some(EventKind::Put),
-            "halt" => Some(EventKind::Halt),
-            "settle" => Some(EventKind::Settle),
-            "seal" => Some(EventKind::Seal),
-            "read" => Some(EventKind::Read),
-            "feed" => Some(EventKind::Feed),
-            "end" => Some(EventKind::End),
+            b"take" => Some(EventKind::Take),
+            b"ack" => Some(EventKind::Ack),
+            b"fire" => Some(EventKind::Fire),
+            b"clear" => Some(EventKind::Clear),
+            b"claim" => Some(EventKind::Claim),
+            b"put" => Some(EventKind::Put),
+            b"halt" => Some(EventKind::Halt),
+            b"settle" => Some(EventKind::Settle),
+            b"seal" => Some(EventKind::Seal),
+            b"read" => Some(EventKind::Read),
+            b"feed" => Some(EventKind::Feed),
+            b"end" => Some(EventKind::End),
             _ => None,
         }
     }
@@ -68,7 +67,7 @@ impl EventKind {
     fn at(row: &ByteRecord, column: usize) -> Option<EventKind>
         ensures { result ≡ kind_at event_kinds column (fields_of row.now) }
     {
-        EventKind::from_name(rows::text_at(row, column)?)
+        EventKind::from_name(row.get(column)?)
     }
 
     /// Whether an event of this kind may be at this number: a vertex, an edge, or any number for the end of feeding.

@@ -13,7 +13,6 @@ ghost use Rattle.chip_file.specs.TraceText.{trace_fault, trace_text_fault, trace
 
 use crate::fault::FileFault;
 use crate::number::number_at;
-use crate::rows;
 use crate::rows::RowReader;
 use crate::source::Source;
 use chip_graph::{Graph, Limits};
@@ -34,12 +33,12 @@ enum TraceKind {
 
 impl TraceKind {
     /// The kind of this name.
-    fn from_name(name: &str) -> Option<TraceKind>
+    fn from_name(name: &[u8]) -> Option<TraceKind>
         ensures { result ≡ kind_named trace_kinds name.now }
     {
         match name {
-            "take" => Some(TraceKind::Take),
-            "fire" => Some(TraceKind::Fire),
+            b"take" => Some(TraceKind::Take),
+            b"fire" => Some(TraceKind::Fire),
             _ => None,
         }
     }
@@ -48,7 +47,7 @@ impl TraceKind {
     fn at(row: &ByteRecord, column: usize) -> Option<TraceKind>
         ensures { result ≡ kind_at trace_kinds column (fields_of row.now) }
     {
-        TraceKind::from_name(rows::text_at(row, column)?)
+        TraceKind::from_name(row.get(column)?)
     }
 
     /// The row of this kind; a firing is over no edge.

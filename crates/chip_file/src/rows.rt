@@ -148,10 +148,10 @@ fn records_of(alloc: Global, piece: Vec<u8>) -> Result<Records, AllocError>
         .has_headers(true)
         .flexible(true)
         .from_reader(alloc, Cursor::new(piece));
-    if records.set_byte_headers(ByteRecord::new(alloc)).is_err() {
-        return Err(AllocError);
+    match records.set_byte_headers(ByteRecord::new(alloc)) {
+        Ok(()) => Ok(records),
+        Err(_) => Err(AllocError),
     }
-    Ok(records)
 }
 
 /// Goes on to the records of another piece.

@@ -11,6 +11,9 @@ use std::io::Read;
 /// The header of a schedule.
 const HEADER: &str = "event,at,count";
 
+/// The same behind a byte order mark, with quotes.
+const MARKED_HEADER: &str = "\u{feff}\"event\",at,count";
+
 /// So many rows take several pieces.
 const ROWS: u64 = 9_000;
 
@@ -30,15 +33,20 @@ impl Read for Steps<'_> {
     }
 }
 
-/// A header and rows of feeds, the counts from 0 on, with this behind each.
-fn counted_rows(alloc: Global, line_end: &str) -> Result<String, AllocError> {
+/// A header and rows of feeds, the counts from 0 on: this is before each count, and this behind it.
+fn rows_of(alloc: Global, header: &str, before: &str, behind: &str) -> Result<String, AllocError> {
     let mut text = String::new(alloc);
-    text.push_str(HEADER)?;
-    text.push_str(line_end)?;
+    text.push_str(header)?;
+    text.push_str(behind)?;
     for count in 0..ROWS {
-        write!(text, "feed,0,{count}{line_end}")?;
+        write!(text, "{before}{count}{behind}")?;
     }
     Ok(text)
+}
+
+/// The same, in the shortest form.
+fn counted_rows(alloc: Global, line_end: &str) -> Result<String, AllocError> {
+    rows_of(alloc, HEADER, "feed,0,", line_end)
 }
 
 /// The same, and another text behind it.
@@ -130,6 +138,99 @@ fn rows_after_a_quote_are_read(rt: HostRuntime) {
     for step in [4_096, 65_536] {
         let events = events_by_steps(rt.alloc(), &text, step).expect(&rt, "events");
         assert!(rt; are_counted(&events, 20_000), "{step}");
+    }
+}
+
+/// Feeds of edge 0 with quotes: around a field, around a part of one, and around nothing.
+const QUOTED_FEEDS: [&str; 3] = ["\"feed\",\"0\",", "\"fe\"ed,0,", "\"\"feed,0,\"\""];
+
+#[test]
+fn rows_with_quotes_come_in_reads_of_all_sizes(rt: HostRuntime) {
+    for before in QUOTED_FEEDS {
+        let text = rows_of(rt.alloc(), HEADER, before, "\n").expect(&rt, "memory");
+        for step in [1, 11, 4_096, 32_767, 65_536] {
+            let events = events_by_steps(rt.alloc(), &text, step).expect(&rt, "events");
+            assert!(rt; are_counted(&events, ROWS), "{before}: {step}");
+        }
+    }
+}
+
+#[test]
+fn rows_with_quotes_may_end_in_carriage_returns(rt: HostRuntime) {
+    for line_end in ["\r", "\r\n", "\n\r"] {
+        let text = rows_of(rt.alloc(), HEADER, "\"feed\",0,", line_end).expect(&rt, "memory");
+        for step in [1, 4_096, 32_767, 65_536] {
+            let events = events_by_steps(rt.alloc(), &text, step).expect(&rt, "events");
+            assert!(rt; are_counted(&events, ROWS), "{line_end:?}: {step}");
+        }
+    }
+}
+
+#[test]
+fn a_byte_order_mark_may_stand_before_a_quote(rt: HostRuntime) {
+    let text = rows_of(rt.alloc(), MARKED_HEADER, "feed,\"0\",", "\n").expect(&rt, "memory");
+    for step in [1, 4_096, 65_536] {
+        let events = events_by_steps(rt.alloc(), &text, step).expect(&rt, "events");
+        assert!(rt; are_counted(&events, ROWS), "{step}");
+    }
+}
+
+/// Rows under the header, with a part that is repeated in the middle, and the first thing wrong with them.
+const LONG_ROWS: &[&(&str, &str, &str, FileFault)] = &[
+    // Ends of lines in quotes end no row.
+    &("feed,0,\"", "\n", "\"\nend,0,0\n", FileFault::Number(0)),
+    &("feed,0,\"", "\r", "\"\nend,0,0\n", FileFault::Number(0)),
+    &("end,0,0\rfeed,0,\"1", "\n", "", FileFault::Number(1)),
+    // Two quotes are one within quotes, which go on behind them.
+    &("\"", "\"\"\n", "\",0,1\nend,0,0\n", FileFault::Kind(0)),
+    &("\"", "\n\"\"", "\",0,1\nend,0,0\n", FileFault::Kind(0)),
+    // A quote in a field that has no quotes around it opens none.
+    &("end,0,0\nfeed\"", "\nend,0,0", "\n", FileFault::Row(1)),
+    &("\"fe\"ed\",0,1", "\nend,0,0", "\n", FileFault::Kind(0)),
+    // Commas in quotes part no fields.
+    &("feed,0,\"", ",", "\"\nend,0,0\n", FileFault::Number(0)),
+    // A byte order mark is none behind the start, wherever the text is cut before it.
+    &("end,0,0\n\u{feff}feed,0,", "1", "\n", FileFault::Kind(1)),
+    &("\"end\",0,0\r\u{feff}feed,0,", "1", "", FileFault::Kind(1)),
+    // Rows with too many fields.
+    &("end,0,0\nfeed,0,1", ",", "\n", FileFault::Row(1)),
+    &("\"end\",0,0\nfeed,0", ",", "\nend,0,0\n", FileFault::Row(1)),
+    &("\"end\",0,0\rfeed,0", ",\"\n\"", "\r", FileFault::Row(1)),
+    &("end,0,0\r\n", ",", "\"", FileFault::Row(1)),
+];
+
+/// So often is the part in the middle repeated.
+const TIMES: usize = 40_000;
+
+/// The rows of such a text, under the header.
+fn long_row(
+    alloc: Global,
+    before: &str,
+    repeated: &str,
+    behind: &str,
+) -> Result<String, AllocError> {
+    let mut text = String::new(alloc);
+    text.push_str(HEADER)?;
+    text.push('\n')?;
+    text.push_str(before)?;
+    for _ in 0..TIMES {
+        text.push_str(repeated)?;
+    }
+    text.push_str(behind)?;
+    Ok(text)
+}
+
+#[test]
+fn a_long_row_has_its_fault(rt: HostRuntime) {
+    for (before, repeated, behind, fault) in LONG_ROWS {
+        let text = long_row(rt.alloc(), before, repeated, behind).expect(&rt, "memory");
+        for step in [1, 4_096, 32_768, 65_536] {
+            let found = events_by_steps(rt.alloc(), &text, step).err();
+            assert!(rt;
+                found.as_ref() == Some(fault),
+                "{before:?}: {step}: {found:?}"
+            );
+        }
     }
 }
 

@@ -1,7 +1,7 @@
 -- Serves Pieces.antt.
 -- What reads and cuts do to the bytes and the rows that no piece has yet.
-use Rattle.std.proofs.Common.{◌≡◌, ◌≢◌, ℕ, ◌+◌, ◌-◌, ◌*◌, ◌≤◌, Bool, true, false, List, [], ◌∷◌, ◌++◌, length, take}
-use Rattle.std.proofs.Common.{Option, None, Some, ◌⊎◌, ◌<◌, inl, inr, subst, refl, ap, sym, ◌∙◌, arith, append_assoc, append-nil, length-append}
+use Rattle.std.proofs.Common.{◌≡◌, ◌≢◌, ℕ, ◌+◌, ◌-◌, ◌*◌, ◌≤◌, Bool, true, false, List, [], ◌++◌, length, take}
+use Rattle.std.proofs.Common.{Option, None, Some, ◌<◌, inl, refl, ap, sym, ◌∙◌, arith, append_assoc, append-nil, length-append}
 use Rattle.std.proofs.KnownBytes.{Consumes-nil, Consumes-trans}
 use Rattle.std.specs.Io.KnownBytes.{Consumes, IsAtEnd, prepend_known}
 use Rattle.std.specs.Prelude.{option_map, ◌==◌, not, if◌then◌else◌}

@@ -1,6 +1,6 @@
 -- Serves Place.antt, Seam.antt, Wide.antt.
 -- csv's machine stands where the places say.
-use Rattle.std.proofs.Common.{◌≡◌, ◌≢◌, ℕ, Bool, true, false, List, [], ◌∷◌, refl}
+use Rattle.std.proofs.Common.{◌≡◌, ℕ, Bool, true, false, List, [], refl}
 use Rattle.std.specs.Prelude.{if◌then◌else◌, ◌==◌, ◌||◌}
 use Rattle.std.specs.Bool.{MatchBool}
 use Rattle.std.proofs.lemmas.Bool.{eqb-true}
@@ -8,7 +8,7 @@ use Rattle.csv.specs.declared.parser.Action.{Action}
 use Rattle.csv.specs.declared.parser.Action.TheVariants as act
 use Rattle.csv.specs.declared.parser.State.{State}
 use Rattle.csv.specs.declared.parser.State.TheVariants as st
-use Rattle.csv.specs.Machine.{step, is_end, fields_after, field_after, in_field, start_field, start_record}
+use Rattle.csv.specs.Machine.{step, is_end, fields_after, field_after, in_field, start_record}
 use Rattle.csv.specs.Reading.{default_config}
 use Rattle.chip_file.specs.declared.place.Place.{Place}
 use Rattle.chip_file.specs.declared.place.Place.TheVariants as place

@@ -1,6 +1,6 @@
 -- Serves Seam.antt, Place.antt, Wide.antt.
 -- What a pass over a text has seen, one byte after another; and the cuts that come of it.
-use Rattle.std.proofs.Common.{◌≡◌, ◌≢◌, ◌⊎◌, ℕ, zero, suc, ◌+◌, ◌-◌, ◌<◌, ◌≤◌, Bool, true, false, List, [], ◌∷◌, ◌++◌, length}
+use Rattle.std.proofs.Common.{◌≡◌, ◌≢◌, ℕ, zero, suc, ◌+◌, ◌-◌, ◌<◌, ◌≤◌, Bool, true, false, List, [], ◌∷◌, ◌++◌, length}
 use Rattle.std.proofs.Common.{Some, refl, ap, sym, ◌∙◌, arith, inl, inr, take, drop, get_or, append_assoc, append-nil, subst}
 use Rattle.std.proofs.lemmas.Bool.{eqb-true, ne_eqb}
 use Rattle.std.proofs.lemmas.List.{drop_more, get_or-drop, length-drop, length-take-le, take-append-drop, take_more}
@@ -15,7 +15,7 @@ use Rattle.chip_file.specs.Pieces.{CutsOff}
 use Rattle.chip_file.specs.Place.{ends_line, place_after, place_behind}
 use Rattle.chip_file.specs.Rows.{Row, records_of}
 use Rattle.chip_file.specs.Seam.{EndsLine, IsSeam, IsSeen, SkipsMark, has_quote}
-use Rattle.chip_file.specs.Wide.{StartsWide, commas, commas_by, most_fields}
+use Rattle.chip_file.specs.Wide.{StartsWide, commas, commas_by}
 use Rattle.chip_file.proofs.SeamLemmas.{plain_text, records_cut}
 use Rattle.chip_file.proofs.WideLemmas.{few_commas, starts_wide}
 

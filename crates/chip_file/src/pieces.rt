@@ -22,8 +22,8 @@ const PIECE: usize = 32_768;
 
 /// The text of an input, a piece at a time.
 ///
-/// Each piece but the last ends where a row ends. A row that has more fields than those of any file is not waited for:
-/// its beginning is a piece, and the last one that counts.
+/// Each piece but the last ends where a row ends. Quotes may hide the end of a line, which then ends no row. A row that
+/// has more fields than those of any file is not waited for: its beginning is a piece, and the last one that counts.
 #[derive(Drop)]
 pub(crate) struct Pieces {
     alloc: Global,
@@ -33,8 +33,8 @@ pub(crate) struct Pieces {
     taken: u64,
     /// The bytes that were read and that no piece has yet.
     carry: Vec<u8>,
-    /// How many bytes are carried before a seam is looked for. It doubles where there was none, so that all looks take
-    /// about as long as a few over the whole text.
+    /// How many bytes are carried before a seam is looked for: twice as many as there were where none was found, so that
+    /// all looks together go over each byte a few times.
     due: usize,
 }
 

@@ -1,18 +1,17 @@
 //! Where a text of rows may be cut.
 
-ghost use Rattle.std.specs.Prelude.{◌≡◌, ℕ, ◌+◌, ◌<◌, ◌≤◌, length, take, drop, IfSome};
-ghost use Rattle.std.specs.Prelude.{false};
+ghost use Rattle.std.specs.Prelude.{◌≡◌, IfSome};
 ghost use Rattle.chip_file.specs.Seam.{EndsLine, IsSeam, IsSeen, SkipsMark, has_quote};
 
 use crate::place::{Place, ends_line};
 
-/// So few bytes may have many fields.
+/// A text of fewer bytes may be cut behind rows with any number of fields.
 const SHORT: usize = 131_072;
 
 /// The most fields that the rows of a file have.
 const MOST_FIELDS: usize = 4;
 
-/// The bytes that a text may begin with, and that are none of its own.
+/// How many bytes a byte order mark has.
 const MARK: usize = 3;
 
 /// Where a text may be cut.
@@ -24,7 +23,7 @@ pub(crate) enum Seam {
     Wide(usize),
 }
 
-/// A seam of the text: the last one, but for rows that are wide.
+/// A seam of the text. Most texts have no quote, and then it is found from the end.
 pub(crate) fn seam_of(text: &[u8]) -> Option<Seam>
     ensures { IfSome result (IsSeam text.now) }
 {
@@ -41,7 +40,8 @@ pub(crate) fn seam_of(text: &[u8]) -> Option<Seam>
     })
 }
 
-/// The last seam of a text that has no byte order mark, but for what comes behind a wide row.
+/// A seam of a text that has no byte order mark: before the last end of a row that is followed by no row with too many
+/// fields, or within the first row if it is such a one.
 fn seam_behind_mark(text: &[u8]) -> Option<Seam>
     ensures { IfSome result (IsSeen text.now) }
 {
@@ -65,10 +65,7 @@ fn seam_behind_mark(text: &[u8]) -> Option<Seam>
         }
         place = place.after(byte);
     }
-    match row_end {
-        Some(end) => Some(Seam::Row(end)),
-        None => None,
-    }
+    Some(Seam::Row(row_end?))
 }
 
 /// The place of the last line feed, but for one at the start.
@@ -83,7 +80,7 @@ fn last_line_feed(text: &[u8]) -> Option<usize>
     None
 }
 
-/// How many bytes the byte order mark takes that the text begins with.
+/// How many bytes of the text are a byte order mark at its start.
 fn mark_of(text: &[u8]) -> usize
     ensures { SkipsMark text.now result }
 {

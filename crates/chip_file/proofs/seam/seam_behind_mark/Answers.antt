@@ -1,4 +1,4 @@
-use Rattle.std.proofs.Common.{◌≡◌, ◌≢◌, ◌∙◌, ◌+◌, ◌<◌, ◌≤◌, ap, arith, get_or, length, refl, rules, sym, take, true}
+use Rattle.std.proofs.Common.{◌≡◌, ◌≢◌, ◌∙◌, ◌+◌, ◌<◌, ap, arith, get_or, length, rules, sym, take, true}
 use Rattle.chip_file.specs.declared.place.Place.TheVariants as place
 use Rattle.chip_file.specs.Place.{ends_line, place_behind}
 use Rattle.chip_file.proofs.SeenLemmas.{adds_comma, adds_first, adds_none, adds_quoted, counted_more}

@@ -1,4 +1,4 @@
-use Rattle.std.proofs.Common.{◌≡◌, List, ℕ, [], ◌∷◌, arith, refl, rules}
+use Rattle.std.proofs.Common.{◌≡◌, arith, refl, rules}
 use Rattle.std.specs.Prelude.{codes}
 use Rattle.std.proofs.lemmas.Slice.Eq.{text_from_reads}
 use Rattle.chip_file.proofs.schedule.EventKind.from_name.Goals as goal

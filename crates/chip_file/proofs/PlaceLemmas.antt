@@ -24,7 +24,7 @@ place_at st.InField = place.Plain
 place_at st.InQuoted = place.Quoted
 place_at st.AfterQuote = place.Closed
 place_at st.InEscape = place.Quoted
-place_at st.InComment = place.Row
+place_at st.InComment = place.Plain
 
 -- the machine may stand so: between rows it holds nothing of a row
 abbrev pub Stands : State → Row → List ℕ → Type 0

@@ -8,7 +8,7 @@ use Rattle.std.proofs.lemmas.Bool.{eqb-true}
 use Rattle.csv.specs.declared.parser.Action.TheVariants as act
 use Rattle.csv.specs.declared.parser.State.{State}
 use Rattle.csv.specs.declared.parser.State.TheVariants as st
-use Rattle.csv.specs.Machine.{next_record, step, is_end, fields_after, field_after}
+use Rattle.csv.specs.Machine.{next_record, step, in_field, is_end, fields_after, field_after}
 use Rattle.csv.specs.Reading.{records_next, default_config, is_bom, strip_bom}
 use Rattle.chip_file.specs.declared.place.Place.{Place}
 use Rattle.chip_file.specs.declared.place.Place.TheVariants as place
@@ -66,36 +66,30 @@ ends_alike : (s t : State) (f : Row) (g : List ℕ) (b : ℕ) (rest : List ℕ)
 unfolding next_record
 ends_alike s t f g b rest is last more = rw (last, is, more, no_rows default_config) refl
 
-at_feed : (s : State) (f : Row) (g rest : List ℕ) → Stands s f g → place_at s ≢ place.Quoted
-    → rows_from s f g (10 ∷ rest) ≡ rows_from s f g [] ++ rows_in (10 ∷ rest)
+at_byte : (b : ℕ) (t : State) (rest : List ℕ) → in_field default_config b ≡ (t, act.EndRecord) → (b == 34) ≡ false
+    → all_rows default_config t rest ≡ rows_in (b ∷ rest)
+    → (s : State) (f : Row) (g : List ℕ) → Stands s f g → place_at s ≢ place.Quoted
+    → rows_from s f g (b ∷ rest) ≡ rows_from s f g [] ++ rows_in (b ∷ rest)
 unfolding next_record
-at_feed st.StartRecord f g rest h out = rw (h.0, h.1) (sym (first_then_all default_config st.StartRecord (10 ∷ rest)))
-at_feed st.AfterCr f g rest h out = rw (h.0, h.1) (sym (first_then_all default_config st.StartRecord (10 ∷ rest)))
-at_feed st.StartField f g rest h out = ends_alike st.StartField st.StartRecord f g 10 rest refl refl (behind_feed rest)
-at_feed st.InField f g rest h out = ends_alike st.InField st.StartRecord f g 10 rest refl refl (behind_feed rest)
-at_feed st.AfterQuote f g rest h out = ends_alike st.AfterQuote st.StartRecord f g 10 rest refl refl (behind_feed rest)
-at_feed st.InQuoted f g rest h out = absurd (out refl)
-at_feed st.InEscape f g rest h out = absurd h
-at_feed st.InComment f g rest h out = absurd h
-
-at_return : (s : State) (f : Row) (g rest : List ℕ) → Stands s f g → place_at s ≢ place.Quoted
-    → rows_from s f g (13 ∷ rest) ≡ rows_from s f g [] ++ rows_in (13 ∷ rest)
-unfolding next_record
-at_return st.StartRecord f g rest h out =
-    rw (h.0, h.1) (sym (first_then_all default_config st.StartRecord (13 ∷ rest)))
-at_return st.AfterCr f g rest h out = rw (h.0, h.1) (sym (first_then_all default_config st.StartRecord (13 ∷ rest)))
-at_return st.StartField f g rest h out = ends_alike st.StartField st.AfterCr f g 13 rest refl refl (behind_return rest)
-at_return st.InField f g rest h out = ends_alike st.InField st.AfterCr f g 13 rest refl refl (behind_return rest)
-at_return st.AfterQuote f g rest h out = ends_alike st.AfterQuote st.AfterCr f g 13 rest refl refl (behind_return rest)
-at_return st.InQuoted f g rest h out = absurd (out refl)
-at_return st.InEscape f g rest h out = absurd h
-at_return st.InComment f g rest h out = absurd h
+at_byte b t rest is plain more st.StartRecord f g h out =
+    rw (h.0, h.1) (sym (first_then_all default_config st.StartRecord (b ∷ rest)))
+at_byte b t rest is plain more st.AfterCr f g h out =
+    rw (h.0, h.1) (ap (records_next (all_rows default_config)) (same_next (b ∷ rest))
+    ∙ sym (first_then_all default_config st.StartRecord (b ∷ rest)))
+at_byte b t rest is plain more st.StartField f g h out =
+    ends_alike st.StartField t f g b rest (rw plain is) refl more
+at_byte b t rest is plain more st.InField f g h out = ends_alike st.InField t f g b rest is refl more
+at_byte b t rest is plain more st.AfterQuote f g h out =
+    ends_alike st.AfterQuote t f g b rest (rw plain is) refl more
+at_byte b t rest is plain more st.InQuoted f g h out = absurd (out refl)
+at_byte b t rest is plain more st.InEscape f g h out = absurd h
+at_byte b t rest is plain more st.InComment f g h out = absurd h
 
 at_end : (s : State) (f : Row) (g : List ℕ) (b : ℕ) (rest : List ℕ) → (b ≡ 13) ⊎ (b ≡ 10) → Stands s f g
     → place_at s ≢ place.Quoted
     → rows_from s f g (b ∷ rest) ≡ rows_from s f g [] ++ rows_in (b ∷ rest)
-at_end s f g b rest (inl is) h out = rw is (at_return s f g rest h out)
-at_end s f g b rest (inr is) h out = rw is (at_feed s f g rest h out)
+at_end s f g b rest (inl is) h out = rw is (at_byte 13 st.AfterCr rest refl refl (behind_return rest) s f g h out)
+at_end s f g b rest (inr is) h out = rw is (at_byte 10 st.StartRecord rest refl refl (behind_feed rest) s f g h out)
 
 seam_by : (ends : Bool) (row f : Row) (s : State) (g part behind : List ℕ)
     → MatchBool ends (Stands s [] []) (Stands s f g)
@@ -137,24 +131,27 @@ mark_before : (m : Bool) (xs ys rest : List ℕ) → (if m then xs ++ rest else 
 mark_before true xs ys rest = refl
 mark_before false xs ys rest = refl
 
+-- the end of a line is no byte of a mark
+ends_no_mark : (b : ℕ) → (b ≡ 13) ⊎ (b ≡ 10)
+    → ((b == 0xEF) ≡ false) × ((b == 0xBB) ≡ false) × ((b == 0xBF) ≡ false)
+ends_no_mark b (inl is) = rw is (refl, refl, refl)
+ends_no_mark b (inr is) = rw is (refl, refl, refl)
+
 no_mark : (b : ℕ) (rest : List ℕ) → (b ≡ 13) ⊎ (b ≡ 10) → strip_bom (b ∷ rest) ≡ b ∷ rest
 unfolding strip_bom
 no_mark b [] ends = refl
 no_mark b (x ∷ []) ends = refl
-no_mark b (x ∷ y ∷ rest) (inl is) = rw is refl
-no_mark b (x ∷ y ∷ rest) (inr is) = rw is refl
+no_mark b (x ∷ y ∷ rest) ends = rw (ends_no_mark b ends).0 refl
 
 strip_before : (part : List ℕ) (b : ℕ) (rest : List ℕ) → (b ≡ 13) ⊎ (b ≡ 10)
     → strip_bom (part ++ b ∷ rest) ≡ strip_bom part ++ b ∷ rest
 unfolding strip_bom
 strip_before [] b rest ends = no_mark b rest ends
 strip_before (a ∷ []) b [] ends = refl
-strip_before (a ∷ []) b (x ∷ rest) (inl is) =
-    rw is (mark_second (a == 0xEF) (x == 0xBF) rest (a ∷ 13 ∷ x ∷ rest))
-strip_before (a ∷ []) b (x ∷ rest) (inr is) =
-    rw is (mark_second (a == 0xEF) (x == 0xBF) rest (a ∷ 10 ∷ x ∷ rest))
-strip_before (a ∷ x ∷ []) b rest (inl is) = rw is (mark_third (a == 0xEF) (x == 0xBB) rest (a ∷ x ∷ 13 ∷ rest))
-strip_before (a ∷ x ∷ []) b rest (inr is) = rw is (mark_third (a == 0xEF) (x == 0xBB) rest (a ∷ x ∷ 10 ∷ rest))
+strip_before (a ∷ []) b (x ∷ rest) ends =
+    rw (ends_no_mark b ends).1 (mark_second (a == 0xEF) (x == 0xBF) rest (a ∷ b ∷ x ∷ rest))
+strip_before (a ∷ x ∷ []) b rest ends =
+    rw (ends_no_mark b ends).2 (mark_third (a == 0xEF) (x == 0xBB) rest (a ∷ x ∷ b ∷ rest))
 strip_before (a ∷ x ∷ c ∷ part) b rest ends = mark_before (is_bom a x c) part (a ∷ x ∷ c ∷ part) (b ∷ rest)
 
 -- ---- the rows of a text that is cut before the end of a row

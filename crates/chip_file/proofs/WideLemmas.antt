@@ -1,6 +1,6 @@
 -- Serves Wide.antt, Place.antt, Seam.antt, Standing.antt.
 -- A row of which many commas were seen has many fields, whatever follows; and what reading such a row tells.
-use Rattle.std.proofs.Common.{◌≡◌, ℕ, ◌+◌, ◌<◌, ◌≤◌, ◌⊎◌, Bool, true, false, List, [], ◌∷◌, ◌++◌, length}
+use Rattle.std.proofs.Common.{◌≡◌, ◌≢◌, ℕ, ◌+◌, ◌<◌, ◌≤◌, ◌⊎◌, Bool, true, false, List, [], ◌∷◌, ◌++◌, length}
 use Rattle.std.proofs.Common.{Option, None, Some, refl, sym, ◌∙◌, arith, subst, inl, inr, length-append}
 use Rattle.std.specs.Prelude.{if◌then◌else◌, ◌==◌}
 use Rattle.std.specs.Cmp.Lexicographic.{unequal}
@@ -19,7 +19,7 @@ use Rattle.chip_file.specs.Place.{place_after}
 use Rattle.chip_file.specs.Rows.{Row, records_of, has_fields, has_header, rows_under_header}
 use Rattle.chip_file.specs.Standing.{TakesNext, TakesRow}
 use Rattle.chip_file.specs.Wide.{most_fields, IsWide, StartsWide, commas, commas_by}
-use Rattle.chip_file.proofs.PlaceLemmas.{Acts, Stands, StandsAfter, place_at, step_leads}
+use Rattle.chip_file.proofs.PlaceLemmas.{Acts, Joins, Stands, StandsAfter, place_at, step_leads}
 use Rattle.chip_file.proofs.RowLemmas.{all_rows, first_then_all}
 
 -- ---- each comma ends a field
@@ -84,6 +84,18 @@ row_by before t a f g c xs at_row (inl skips) stands more sure =
 row_by before t a f g c xs at_row (inr ends) stands more sure =
     rw (ends.0, at_row, ends.1) ((f ++ g ∷ [], t, xs), refl, longer f g)
 
+-- a byte joins the field at hand
+joined : (before : Place) (t : State) (a : Action) (f : Row) (g : List ℕ) (c : ℕ) (xs : List ℕ) → Joins a
+    → StandsAfter f g c (t, a) → ComesFrom t xs → place_at t ≢ place.Row
+    → ((n : ℕ) → commas_by (place_at t) before n ≡ n)
+    → ComesAfter before t a f g c xs
+joined before t act.Skip f g c xs joins stands more within same =
+    rw same (more f g stands (λ row. absurd (within row)))
+joined before t act.Copy f g c xs joins stands more within same =
+    rw same (more f (g ++ c ∷ []) stands (λ row. absurd (within row)))
+joined before t act.EndField f g c xs joins stands more within same = absurd joins
+joined before t act.EndRecord f g c xs joins stands more within same = absurd joins
+
 comes_after : (before : Place) (t : State) (a : Action) (f : Row) (g : List ℕ) (c : ℕ) (xs : List ℕ)
     → Acts (place_at t) before a → StandsAfter f g c (t, a) → ComesFrom t xs
     → (before ≡ place.Row → 0 < commas_by (place_at t) before (commas (place_at t) xs))
@@ -92,33 +104,21 @@ comes_after before st.StartRecord a f g c xs acts stands more sure =
     row_by before st.StartRecord a f g c xs refl (row_acts before a _ acts) stands more sure
 comes_after before st.AfterCr a f g c xs acts stands more sure =
     row_by before st.AfterCr a f g c xs refl (row_acts before a _ acts) stands more sure
-comes_after before st.StartField act.EndField f g c xs acts stands more sure =
+comes_after before st.StartField a f g c xs acts stands more sure =
     let one = length-append f (g ∷ []) in
-    fewer (length f + (1 + commas place.Field xs)) (length (f ++ g ∷ []) + commas place.Field xs) _ (omega arith)
-    (more (f ++ g ∷ []) [] tt (λ e. cc e))
-comes_after before st.StartField act.Skip f g c xs acts stands more sure = cc acts
-comes_after before st.StartField act.Copy f g c xs acts stands more sure = cc acts
-comes_after before st.StartField act.EndRecord f g c xs acts stands more sure = cc acts
-comes_after before st.InField act.Skip f g c xs acts stands more sure = more f g tt (λ e. cc e)
-comes_after before st.InField act.Copy f g c xs acts stands more sure = more f (g ++ c ∷ []) tt (λ e. cc e)
-comes_after before st.InField act.EndField f g c xs acts stands more sure = absurd acts
-comes_after before st.InField act.EndRecord f g c xs acts stands more sure = absurd acts
-comes_after before st.InQuoted act.Skip f g c xs acts stands more sure = more f g tt (λ e. cc e)
-comes_after before st.InQuoted act.Copy f g c xs acts stands more sure = more f (g ++ c ∷ []) tt (λ e. cc e)
-comes_after before st.InQuoted act.EndField f g c xs acts stands more sure = absurd acts
-comes_after before st.InQuoted act.EndRecord f g c xs acts stands more sure = absurd acts
-comes_after before st.AfterQuote act.Skip f g c xs acts stands more sure = more f g tt (λ e. cc e)
-comes_after before st.AfterQuote act.Copy f g c xs acts stands more sure = more f (g ++ c ∷ []) tt (λ e. cc e)
-comes_after before st.AfterQuote act.EndField f g c xs acts stands more sure = absurd acts
-comes_after before st.AfterQuote act.EndRecord f g c xs acts stands more sure = absurd acts
-comes_after before st.InEscape act.Skip f g c xs acts stands more sure = absurd stands
-comes_after before st.InEscape act.Copy f g c xs acts stands more sure = absurd stands
-comes_after before st.InEscape act.EndField f g c xs acts stands more sure = absurd stands
-comes_after before st.InEscape act.EndRecord f g c xs acts stands more sure = absurd stands
-comes_after before st.InComment act.Skip f g c xs acts stands more sure = absurd stands
-comes_after before st.InComment act.Copy f g c xs acts stands more sure = absurd stands
-comes_after before st.InComment act.EndField f g c xs acts stands more sure = absurd stands
-comes_after before st.InComment act.EndRecord f g c xs acts stands more sure = absurd stands
+    rw acts
+    (fewer (length f + (1 + commas place.Field xs)) (length (f ++ g ∷ []) + commas place.Field xs) _ (omega arith)
+    (more (f ++ g ∷ []) [] tt (λ e. cc e)))
+comes_after before st.InField a f g c xs acts stands more sure =
+    joined before st.InField a f g c xs acts stands more (λ e. cc e) (λ n. refl)
+comes_after before st.InQuoted a f g c xs acts stands more sure =
+    joined before st.InQuoted a f g c xs acts stands more (λ e. cc e) (λ n. refl)
+comes_after before st.AfterQuote a f g c xs acts stands more sure =
+    joined before st.AfterQuote a f g c xs acts stands more (λ e. cc e) (λ n. refl)
+comes_after before st.InEscape a f g c xs acts stands more sure =
+    joined before st.InEscape a f g c xs acts stands more (λ e. cc e) (λ n. refl)
+comes_after before st.InComment a f g c xs acts stands more sure =
+    joined before st.InComment a f g c xs acts stands more (λ e. cc e) (λ n. refl)
 
 all_come : (s : State) (f : Row) (g xs : List ℕ) → Stands s f g → IsSure (place_at s) xs
     → Comes (length f + commas (place_at s) xs) (next_record default_config s f g xs)

@@ -19,8 +19,8 @@ use Rattle.chip_file.specs.Wide.{StartsWide}
 abbrev pub kind_of_read : ℕ → LastRead
 kind_of_read count = if count == 0 then last.End else last.Bytes
 
--- a source and the pieces that are made of it: how many bytes may be read and how many were, and those that no piece has
--- yet
+-- a source and the pieces that are made of it: how many bytes may be read and how many were, and those that no piece
+-- has yet
 pub record Reading (R : Type 0) : Type 0 where
   pub source : Source R
   pub most : ℕ

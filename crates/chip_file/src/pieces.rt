@@ -33,8 +33,8 @@ pub(crate) struct Pieces {
     taken: u64,
     /// The bytes that were read and that no piece has yet.
     carry: Vec<u8>,
-    /// How many bytes are carried before a seam is looked for: twice as many as there were where none was found, so that
-    /// all looks together go over each byte a few times.
+    /// How many bytes are carried before a seam is looked for. Where none was found, it is twice as many as there were:
+    /// so all looks together go over each byte a few times.
     due: usize,
 }
 

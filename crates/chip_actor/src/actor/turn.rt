@@ -254,6 +254,7 @@ impl ActorState {
     }
 
     /// Makes an operation of a turn that is due; whether it counts.
+    #[inline(always)]
     fn make<M: Medium>(&mut self, medium: &mut M, act: Act) -> bool
         requires some { act ≢ Act.End }
         requires due { MeetsDue (M.holds medium.old) self.old act }
@@ -266,6 +267,7 @@ impl ActorState {
     }
 
     /// Makes what is left of a turn at a cursor, operation by operation.
+    #[inline(always)]
     fn finish<M: Medium>(&mut self, medium: &mut M, from: Cursor) -> usize
         requires { Meets (M.holds medium.old) self.old from }
         ensures moves { Moves (M.holds medium.old) self.old from (M.holds medium.new) self.new Cursor.Over result }
@@ -359,6 +361,7 @@ fn work_of(act: Act, seen: u64, reply: &Reply) -> usize
 }
 
 /// Makes an operation on the shared words, and gives the word that it saw.
+#[inline(always)]
 fn perform<M: Medium>(medium: &mut M, act: Act) -> u64
     requires some { act ≢ Act.End }
     requires may { MayServe (M.holds medium.old) act }

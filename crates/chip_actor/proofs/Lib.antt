@@ -7,3 +7,4 @@ pub mod ActorOpeningLemmas
 pub mod TurnActorLemmas
 pub mod MediumLemmas
 pub mod TurnOverLemmas
+pub mod LoopLemmas

@@ -43,20 +43,6 @@ impl ActorState {
         work
     }
 
-    /// Settles the edge at this index of those out of the vertex.
-    fn settle_here<M: Medium>(&mut self, medium: &mut M, index: usize) -> usize
-        requires within { index < length self.old.outs.edges }
-        requires meets { Meets (M.holds medium.old) self.old (Cursor.Settle index) }
-        ensures moves { Moves (M.holds medium.old) self.old (Cursor.Settle index) (M.holds medium.new) self.new
-            (Cursor.Settle (index + 1)) result }
-        ensures few { result ≤ 1 }
-    {
-        let edge = self.outs.at(index).link.edge();
-        let seen = medium.settle(edge);
-        let reply = self.settle(Slot { index, edge }, seen);
-        work_of(Act::Settle { edge }, seen, &reply)
-    }
-
     /// Settles each edge out of the vertex.
     fn settle_all<M: Medium>(&mut self, medium: &mut M) -> usize
         requires { Meets (M.holds medium.old) self.old (Cursor.Settle 0) }
@@ -64,9 +50,14 @@ impl ActorState {
             (M.holds medium.new) self.new Cursor.Fire result }
         ensures few { result < 2 ^ 60 }
     {
+        let detect = &mut self.detect;
         let mut work = 0;
-        for index in 0..self.outs.edges().len() {
-            work += self.settle_here(medium, index);
+        for (index, out) in self.outs.ends().iter().enumerate() {
+            let edge = out.link.edge();
+            let seen = medium.settle(edge);
+            if detect.settled_at(Slot { index, edge }, seen) > 0 {
+                work += 1;
+            }
         }
         work
     }
@@ -186,28 +177,6 @@ impl ActorState {
         work
     }
 
-    /// Acknowledges what may be acknowledged on the edge at this index of those into the vertex, which is passive or
-    /// not, and stays so.
-    fn ack_here<M: Medium>(&mut self, medium: &mut M, index: usize, passive: bool) -> usize
-        requires within { index < length self.old.ins.edges }
-        requires passive { passive ≡ is_passive_now self.old }
-        requires meets { Meets (M.holds medium.old) self.old (Cursor.Ack index) }
-        ensures moves { Moves (M.holds medium.old) self.old (Cursor.Ack index) (M.holds medium.new) self.new
-            (Cursor.Ack (index + 1)) result }
-        ensures passive { passive ≡ is_passive_now self.new }
-        ensures few { result ≤ 1 }
-    {
-        let edge = self.ins.at(index).edge();
-        let slot = Slot { index, edge };
-        let count = self.detect.may_ack_at(slot, passive);
-        if count == 0 {
-            return 0;
-        }
-        let seen = medium.ack(edge, count);
-        let reply = self.acknowledge(slot, count, seen);
-        work_of(Act::Ack { edge, count }, seen, &reply)
-    }
-
     /// Acknowledges on each edge into the vertex.
     fn ack_all<M: Medium>(&mut self, medium: &mut M, passive: bool) -> usize
         requires passive { passive ≡ is_passive_now self.old }
@@ -217,9 +186,18 @@ impl ActorState {
         ensures passive { passive ≡ is_passive_now self.new }
         ensures few { result < 2 ^ 60 }
     {
+        let detect = &mut self.detect;
         let mut work = 0;
-        for index in 0..self.ins.edges().len() {
-            work += self.ack_here(medium, index, passive);
+        for (index, end) in self.ins.ends().iter().enumerate() {
+            let edge = end.edge();
+            let slot = Slot { index, edge };
+            let count = detect.may_ack_at(slot, passive);
+            if count == 0 {
+                continue;
+            }
+            let _seen = medium.ack(edge, count);
+            detect.acked_at(slot, count);
+            work += 1;
         }
         work
     }

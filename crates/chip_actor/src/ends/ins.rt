@@ -29,7 +29,7 @@ impl Model for Ins {
 impl Ins {
     ghost use Rattle.chip_detect.specs.Slot.{IsSlotOf};
     ghost use Rattle.chip_link.specs.Ends.{head_cell, message_taken, head_after_take};
-    ghost use Rattle.chip_actor.specs.Ends.{InEnds, in_on, ChangesIn, IsFreshIns};
+    ghost use Rattle.chip_actor.specs.Ends.{InEnds, in_on, AreApart, ChangesIn, IsFreshIns};
 
     /// The slot of an edge.
     pub fn slot_of(&self, edge: u64) -> Slot
@@ -46,6 +46,14 @@ impl Ins {
         ensures { result ≡ head_cell (in_on self.now edge) }
     {
         self.at(self.slot_of(edge).index).cell()
+    }
+
+    /// What is known of the edges, in their order.
+    pub fn ends(&self) -> &[HeadLink]
+        ensures ends { result.now ≡ self.now.ends }
+        ensures apart { AreApart self.now.edges result.now }
+    {
+        self.ends.as_slice()
     }
 
     /// What is known of the edge at this index.

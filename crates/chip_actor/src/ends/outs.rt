@@ -40,7 +40,7 @@ impl Model for Outs {
 impl Outs {
     ghost use Rattle.chip_detect.specs.Slot.{IsSlotOf};
     ghost use Rattle.chip_link.specs.Words.{claims_in};
-    ghost use Rattle.chip_actor.specs.Ends.{IsFirstFrom};
+    ghost use Rattle.chip_actor.specs.Ends.{AreApart, IsFirstFrom};
     ghost use Rattle.chip_link.specs.Ends.{put_of, message_claimed, may_clear, claim_words, tail_after_clear};
     ghost use Rattle.chip_actor.specs.Ends.{OutEnds, OutEnd, out_on, ChangesOut, ChangesOuts, IsFreshOuts};
     ghost use Rattle.chip_actor.specs.Ends.{out_after_clear, out_after_claim, out_after_put, out_after_fire};
@@ -67,6 +67,14 @@ impl Outs {
         ensures { result.now ≡ self.now.edges }
     {
         &self.edges
+    }
+
+    /// What is known of the edges, in their order.
+    pub fn ends(&self) -> &[OutEnd]
+        ensures ends { result.now ≡ self.now.ends }
+        ensures apart { AreApart self.now.edges result.now }
+    {
+        self.ends.as_slice()
     }
 
     /// What is known of the edge at this index.

@@ -1,13 +1,11 @@
-use Rattle.std.proofs.Common.{◌≡◌, ◌≤◌}
+use Rattle.std.proofs.Common.{◌≤◌}
 use Rattle.chip_part.specs.declared.cursor.Cursor.TheVariants as At
-use Rattle.chip_actor.specs.Actor.{is_passive_now}
 use Rattle.chip_actor.specs.Medium.{Moves}
 use Rattle.chip_actor.proofs.actor.ActorState.ack_all.Given as goal
 
 abbrev pub invariant-loop-index : goal.invariant-loop-index
 invariant-loop-index g l = record {
   few : l.work ≤ l.index;
-  passive : l.passive ≡ is_passive_now l.self;
-  moved : Moves (g.M.Medium.holds l.fn.medium) l.fn.self (At.Ack 0) (g.M.Medium.holds l.medium) l.self
-      (At.Ack l.index) l.work;
+  moved : Moves (g.M.Medium.holds l.fn.medium) l.fn.self (At.Ack 0) (g.M.Medium.holds l.medium)
+      (record l.fn.self { detect = l.detect }) (At.Ack l.index) l.work;
 }

@@ -1,50 +1,110 @@
-use Rattle.std.proofs.Common.{◌≡◌, ◌∙◌, ◌+◌, length, sym, ap, arith}
+use Rattle.std.proofs.Common.{◌≡◌, ◌∙◌, ◌+◌, ◌≤◌, ℕ, List, length, ltb, refl, sym, ap, subst, arith}
 use Rattle.chip_part.specs.declared.cursor.Cursor.TheVariants as At
+use Rattle.chip_detect.specs.Books.{Books}
+use Rattle.chip_actor.specs.declared.ends.outs.OutEnd.{OutEnd}
+use Rattle.chip_actor.specs.Ends.{OutEnds}
 use Rattle.chip_actor.specs.Actor.{Actor}
-use Rattle.chip_actor.proofs.MediumLemmas.{moves_none, moves_on, meets_after, then_over, keeps_outs}
+use Rattle.chip_actor.specs.Medium.{Meets, Moves}
+use Rattle.chip_actor.proofs.MediumLemmas.{moves_none, moves_on, meets_after, then_over, one_if, one_few}
 use Rattle.chip_actor.proofs.TurnOverLemmas.{settles_end}
+use Rattle.chip_actor.proofs.LoopLemmas.{settle_asks, settle_in_books, settle_fits, settle_moves}
+use Rattle.chip_actor.proofs.LoopLemmas.{counts_more, counts_none}
 use Rattle.chip_actor.proofs.actor.ActorState.settle_all.Goals as goal
-use Rattle.chip_actor.proofs.actor.ActorState.settle_all.Goals.{At-loop-index}
+use Rattle.chip_actor.proofs.actor.ActorState.settle_all.Goals.{At-loop-index, then-settled_at-gt0, else-settled_at-gt0}
 use Rattle.chip_actor.proofs.actor.ActorState.settle_all.Given.{Over}
 
 pub loop-index-init : goal.loop-index-init
 loop-index-init g c = record {
   few = omega arith;
-  moved = moves_none (g.M.Medium.holds c.args.medium.now) c.args.self.now (At.Settle 0);
+  moved = subst
+      (λ (b : Books). Moves (g.M.Medium.holds c.args.medium.now) c.args.self.now (At.Settle 0)
+      (g.M.Medium.holds c.args.medium.now) (record c.args.self.now { detect = b }) (At.Settle 0) 0)
+      (sym (ap (λ (a : Actor). a.detect) c.self.view_is))
+      (moves_none (g.M.Medium.holds c.args.medium.now) c.args.self.now (At.Settle 0));
 }
 
--- the edges are the same still
-same : (g : Over) (c : At-loop-index g) → length c.loop-index.self.outs.edges ≡ length c.edges-index-end.result.now
-same g c =
-    ap length (keeps_outs (g.M.Medium.holds c.args.medium.now) (g.M.Medium.holds c.loop-index.medium) c.args.self.now
-    c.loop-index.self (At.Settle 0) (At.Settle c.loop-index.index) c.loop-index.work c.requires
-    c.loop-index.invariant.moved)
-    ∙ sym (ap length c.edges-index-end.ensures ∙ ap (λ (a : Actor). length a.outs.edges) c.self.view_is)
+-- the actor as the loop has it, and its ends
+abbrev now : (g : Over) (c : At-loop-index g) → Actor
+now g c = record c.args.self.now { detect = c.loop-index.detect }
 
-pub settle_here-work-requires-clause-within : goal.settle_here-work-requires-clause-within
-settle_here-work-requires-clause-within g c = let e = same g
-    (goal.at.settle_here-work-requires-clause-within g c).At-loop-index in omega arith
+abbrev ends : (g : Over) (c : At-loop-index g) → OutEnds
+ends g c = record { edges = c.self.inside.outs.edges; ends = c.ends-out-items.result.now }
 
-pub settle_here-work-requires-clause-meets : goal.settle_here-work-requires-clause-meets
-settle_here-work-requires-clause-meets g c =
-    meets_after (g.M.Medium.holds c.args.medium.now) (g.M.Medium.holds c.loop-index.medium) c.args.self.now
-    c.loop-index.self (At.Settle 0) (At.Settle c.loop-index.index) c.loop-index.work c.requires
-    c.loop-index.invariant.moved
+same : (g : Over) (c : At-loop-index g) → ends g c ≡ (now g c).outs
+same g c = ap (λ (xs : List OutEnd). let os : OutEnds = record { edges = c.self.inside.outs.edges; ends = xs } in os)
+    c.ends-out-items.ensures.ends ∙ ap (λ (a : Actor). a.outs) c.self.view_is
+
+meets : (g : Over) (c : At-loop-index g) → Meets (g.M.Medium.holds c.loop-index.medium) (now g c)
+    (At.Settle c.loop-index.index)
+meets g c = meets_after (g.M.Medium.holds c.args.medium.now) (g.M.Medium.holds c.loop-index.medium) c.args.self.now
+    (now g c) (At.Settle 0) (At.Settle c.loop-index.index) c.loop-index.work c.requires c.loop-index.invariant.moved
+
+pub settle-seen-requires : goal.settle-seen-requires
+settle-seen-requires g c =
+    let d = (goal.at.settle-seen-requires g c).At-loop-index in
+    settle_asks (g.M.Medium.holds c.loop-index.medium) (now g d) c.loop-index.index c.edge-edge.result
+    c.out-item.result (meets g d) (ends g d) (same g d) c.ends-out-items.ensures.apart c.loop-index-test.true
+    c.out-item.is c.edge-edge.ensures
+
+pub settled_at-requires-clause-slot : goal.settled_at-requires-clause-slot
+settled_at-requires-clause-slot g c =
+    let d = (goal.at.settled_at-requires-clause-slot g c).At-loop-index in
+    settle_in_books (g.M.Medium.holds c.loop-index.medium) (now g d) c.loop-index.index c.edge-edge.result
+    c.out-item.result (meets g d) (ends g d) (same g d) c.ends-out-items.ensures.apart c.loop-index-test.true
+    c.out-item.is c.edge-edge.ensures
+
+pub settled_at-requires-clause-no_fewer : goal.settled_at-requires-clause-no_fewer
+settled_at-requires-clause-no_fewer g c =
+    let d = (goal.at.settled_at-requires-clause-no_fewer g c).At-loop-index in
+    (settle_fits (g.M.Medium.holds c.loop-index.medium) (now g d) c.loop-index.index c.edge-edge.result
+    c.out-item.result (meets g d) (ends g d) (same g d) c.ends-out-items.ensures.apart c.loop-index-test.true
+    c.out-item.is c.edge-edge.ensures (g.M.Medium.holds c.settle-seen.new.self) c.settle-seen.result
+    c.settle-seen.ensures).0
+
+pub settled_at-requires-clause-sent : goal.settled_at-requires-clause-sent
+settled_at-requires-clause-sent g c =
+    let d = (goal.at.settled_at-requires-clause-sent g c).At-loop-index in
+    (settle_fits (g.M.Medium.holds c.loop-index.medium) (now g d) c.loop-index.index c.edge-edge.result
+    c.out-item.result (meets g d) (ends g d) (same g d) c.ends-out-items.ensures.apart c.loop-index-test.true
+    c.out-item.is c.edge-edge.ensures (g.M.Medium.holds c.settle-seen.new.self) c.settle-seen.result
+    c.settle-seen.ensures).1
 
 pub loop-index-preserved : goal.loop-index-preserved
-loop-index-preserved g c = record {
-  few = (let f = c.settle_here-work.ensures.few in omega arith);
-  moved = moves_on (g.M.Medium.holds c.args.medium.now) (g.M.Medium.holds c.loop-index.medium)
-      (g.M.Medium.holds c.settle_here-work.new.medium) c.args.self.now c.loop-index.self c.settle_here-work.new.self
-      (At.Settle 0) (At.Settle c.loop-index.index) (At.Settle (c.loop-index.index + 1)) c.loop-index.work
-      c.settle_here-work.result
-      c.loop-index.invariant.moved c.settle_here-work.ensures.moves;
-}
+loop-index-preserved g c =
+    let d = (goal.at.loop-index-preserved g c).At-loop-index in
+    let after : Actor = record c.args.self.now { detect = c.settled_at.new.self } in
+    let counted : c.if-settled_at-gt0.work ≡ c.loop-index.work + one_if (ltb 0 c.settled_at.result)
+    = elim c.if-settled_at-gt0.branch [
+      | then-settled_at-gt0 w ↦ w.work-is ∙ counts_more c.settled_at.result c.loop-index.work w.if-settled_at-gt0.true
+      | else-settled_at-gt0 w ↦ w.work-is ∙ counts_none c.settled_at.result c.loop-index.work w.if-settled_at-gt0.false
+    ] in
+    let few = one_few (one_if (ltb 0 c.settled_at.result)) (ltb 0 c.settled_at.result) refl in
+    record {
+      few = (let f = c.loop-index.invariant.few in omega arith);
+      moved = subst
+          (λ (n : ℕ). Moves (g.M.Medium.holds c.args.medium.now) c.args.self.now (At.Settle 0)
+          (g.M.Medium.holds c.settle-seen.new.self) after (At.Settle (c.loop-index.index + 1)) n) (sym counted)
+          (moves_on (g.M.Medium.holds c.args.medium.now) (g.M.Medium.holds c.loop-index.medium)
+          (g.M.Medium.holds c.settle-seen.new.self) c.args.self.now (now g d) after (At.Settle 0)
+          (At.Settle c.loop-index.index) (At.Settle (c.loop-index.index + 1)) c.loop-index.work _
+          c.loop-index.invariant.moved
+          (settle_moves (g.M.Medium.holds c.loop-index.medium) (now g d) c.loop-index.index c.edge-edge.result
+          c.out-item.result (meets g d) (ends g d) (same g d) c.ends-out-items.ensures.apart c.loop-index-test.true
+          c.out-item.is c.edge-edge.ensures (g.M.Medium.holds c.settle-seen.new.self) c.settle-seen.result
+          c.settle-seen.ensures c.settled_at.result c.settled_at.new.self c.settled_at.ensures.more
+          c.settled_at.ensures.settles c.settled_at.ensures.sound));
+    }
 
 pub returns-clause-moves : goal.returns-clause-moves
 returns-clause-moves g c =
-    let e = same g (goal.at.returns-clause-moves g c).At-loop-index in
-    then_over (g.M.Medium.holds c.args.medium.now) (g.M.Medium.holds c.loop-index.medium) c.args.self.now
-    c.loop-index.self (At.Settle 0) (At.Settle c.loop-index.index) At.Fire c.loop-index.work
-    c.loop-index.invariant.moved
-    (settles_end (g.M.Medium.holds c.loop-index.medium) c.loop-index.self c.loop-index.index (omega arith))
+    let d = (goal.at.returns-clause-moves g c).At-loop-index in
+    let over : length (now g d).outs.edges ≤ c.loop-index.index =
+    (let one = c.ends-out-items.ensures.apart.one_each in
+    let all = ap (λ (o : OutEnds). length o.edges) (same g d) in let end = c.loop-index-test.false in omega arith) in
+    subst
+    (λ (a : Actor). Moves (g.M.Medium.holds c.args.medium.now) c.args.self.now (At.Settle 0)
+    (g.M.Medium.holds c.loop-index.medium) a At.Fire c.loop-index.work)
+    (sym (ap (λ (a : Actor). let b : Actor = record a { detect = c.loop-index.detect } in b) c.self.view_is))
+    (then_over (g.M.Medium.holds c.args.medium.now) (g.M.Medium.holds c.loop-index.medium) c.args.self.now (now g d)
+    (At.Settle 0) (At.Settle c.loop-index.index) At.Fire c.loop-index.work c.loop-index.invariant.moved
+    (settles_end (g.M.Medium.holds c.loop-index.medium) (now g d) c.loop-index.index over))

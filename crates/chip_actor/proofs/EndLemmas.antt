@@ -16,7 +16,7 @@ use Rattle.chip_actor.specs.Ends.{on_edge, OutEnd, OutEnds, InEnds, no_out, out_
 use Rattle.chip_actor.specs.Ends.{ChangesIn, out_after_claim}
 use Rattle.chip_actor.proofs.LookupsLemmas.{on_edge_at, on_edge_changed}
 use Rattle.std.specs.List.Sorted.{IsStrictlyIncreasing}
-use Rattle.std.proofs.lemmas.List.{length-map, take_all}
+use Rattle.std.proofs.lemmas.List.{length-map, take_all, take-append-le}
 
 module _ {T : Type 0} (none : T) (edges : List ℕ) (ends : List T) (apart : AreApart edges ends) (slot : Slot)
     (at : IsSlotOf edges slot) (old : T) (was : old ≡ get_or ends slot.index old) where
@@ -147,3 +147,7 @@ made_apart edges f ts i rising is all = record {
   one_each = ap length is
       ∙ length-map (take i edges) f ∙ ap length (take_all i edges all);
 }
+
+-- a list of the right length fills the vector
+pub filled : {T : Type 0} (n : ℕ) (ws rest : List T) → length ws ≡ n → take n (ws ++ rest) ≡ ws
+filled n ws rest same = let h : n ≤ length ws = omega arith in rw take-append-le (take_all n ws (omega arith))

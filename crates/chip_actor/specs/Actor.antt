@@ -34,6 +34,10 @@ pub record Actor : Type 0 where
   pub unput : ℕ
   pub refused : ℕ
 
+-- the actor with these edges into its vertex, so many chips and these books: what takes change of it
+abbrev pub with_taken : Actor → InEnds → ℕ → Books → Actor
+with_taken a ins chips detect = record a { ins = ins; chips = chips; detect = detect }
+
 -- the edge e as its tail keeps it at run time
 abbrev pub out_end : Setting → ℕ → Out → OutEnd
 out_end g e o = record { mult = mult_of g e; pending = o.pending; link = tail_state e g.ring o.link }

@@ -13,22 +13,6 @@ impl ActorState {
     ghost use Rattle.chip_actor.specs.Ends.{out_on};
     ghost use Rattle.chip_actor.specs.Medium.{Meets, Moves, MeetsDue, MakesDue, MakesTurn};
 
-    /// Takes once from the edge at this index of those into the vertex.
-    fn take_here<M: Medium>(&mut self, medium: &mut M, index: usize) -> usize
-        requires within { index < length self.old.ins.edges }
-        requires meets { Meets (M.holds medium.old) self.old (Cursor.Take index) }
-        ensures moves { Moves (M.holds medium.old) self.old (Cursor.Take index) (M.holds medium.new) self.new
-            (Cursor.Take (index + 1)) result }
-        ensures few { result ≤ 1 }
-    {
-        let end = self.ins.at(index);
-        let edge = end.edge();
-        let cell = end.cell();
-        let seen = medium.take(edge, cell);
-        let reply = self.take(Slot { index, edge }, seen);
-        work_of(Act::Take { edge, cell }, seen, &reply)
-    }
-
     /// Takes once from each edge into the vertex.
     fn take_all<M: Medium>(&mut self, medium: &mut M) -> usize
         requires { Meets (M.holds medium.old) self.old (Cursor.Take 0) }
@@ -36,11 +20,7 @@ impl ActorState {
             (Cursor.Settle 0) result }
         ensures few { result < 2 ^ 60 }
     {
-        let mut work = 0;
-        for index in 0..self.ins.edges().len() {
-            work += self.take_here(medium, index);
-        }
-        work
+        self.ins.take_all(&mut self.chips, &mut self.detect, medium)
     }
 
     /// Settles each edge out of the vertex.

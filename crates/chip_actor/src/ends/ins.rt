@@ -2,9 +2,11 @@ ghost use Rattle.std.specs.Prelude.{◌≡◌, ◌^◌, ◌<◌, ◌≤◌, leng
 ghost use Rattle.std.specs.List.Sorted.{IsStrictlyIncreasing};
 
 use crate::ends::search::slot_of;
-use chip_detect::Slot;
+use crate::medium::Medium;
+use chip_detect::{Detect, Slot};
 use chip_graph::Graph;
 use chip_link::{HeadLink, Message, Ring};
+use chip_part::Cursor;
 use std::alloc::{AllocError, Global};
 use std::marker::Model;
 
@@ -30,6 +32,8 @@ impl Ins {
     ghost use Rattle.chip_detect.specs.Slot.{IsSlotOf};
     ghost use Rattle.chip_link.specs.Ends.{head_cell, message_taken, head_after_take};
     ghost use Rattle.chip_actor.specs.Ends.{InEnds, in_on, AreApart, ChangesIn, IsFreshIns};
+    ghost use Rattle.chip_actor.specs.Actor.{Actor, with_taken};
+    ghost use Rattle.chip_actor.specs.Medium.{Meets, Moves};
 
     /// The slot of an edge.
     pub fn slot_of(&self, edge: u64) -> Slot
@@ -73,6 +77,36 @@ impl Ins {
     {
         let end = &mut self.ends[slot.index];
         end.taken(cell)
+    }
+
+    /// Takes once from each edge over a medium, and gives the chips to the vertex, which has so many and these books; how
+    /// many takes count.
+    pub fn take_all<M: Medium>(
+        &mut self,
+        chips: &mut u64,
+        detect: &mut Detect,
+        medium: &mut M,
+    ) -> usize
+        requires { (a : Actor) × Meets (M.holds medium.old) (with_taken a self.old chips.old detect.old) (Cursor.Take 0) }
+        ensures moves { (a : Actor)
+            → Meets (M.holds medium.old) (with_taken a self.old chips.old detect.old) (Cursor.Take 0)
+            → Moves (M.holds medium.old) (with_taken a self.old chips.old detect.old) (Cursor.Take 0)
+            (M.holds medium.new) (with_taken a self.new chips.new detect.new) (Cursor.Settle 0) result }
+        ensures few { result < 2 ^ 60 }
+    {
+        let mut work = 0;
+        for (index, end) in self.ends.iter_mut().enumerate() {
+            let edge = end.edge();
+            let cell = end.cell();
+            let seen = medium.take(edge, cell);
+            let Some(_message) = end.taken(seen) else {
+                continue;
+            };
+            *chips += seen;
+            detect.got_at(Slot { index, edge });
+            work += 1;
+        }
+        work
     }
 
     /// The edges into a vertex, its root edge last, on which nothing was taken.

@@ -1,4 +1,4 @@
-use Rattle.std.proofs.Common.{◌≡◌, ◌∙◌, ◌+◌, ◌≤◌, List, length, sym, ap, subst, arith}
+use Rattle.std.proofs.Common.{◌≡◌, ◌∙◌, ◌+◌, ◌≤◌, ◌<◌, ℕ, get_or, List, length, sym, ap, subst, arith}
 use Rattle.chip_link.specs.Ends.{HeadState}
 use Rattle.chip_detect.specs.Acknowledging as detector
 use Rattle.chip_part.specs.declared.cursor.Cursor.TheVariants as At
@@ -8,7 +8,7 @@ use Rattle.chip_actor.specs.Actor.{Actor, is_passive_now}
 use Rattle.chip_actor.specs.Medium.{Meets, Moves}
 use Rattle.chip_actor.proofs.MediumLemmas.{moves_none, moves_on, meets_after, then_over}
 use Rattle.chip_actor.proofs.TurnOverLemmas.{acks_end}
-use Rattle.chip_actor.proofs.LoopLemmas.{ack_asks, ack_in_books, ack_past, ack_moves}
+use Rattle.chip_actor.proofs.LoopLemmas.{FoundIn, ack_asks, ack_in_books, ack_past, ack_moves}
 use Rattle.chip_actor.proofs.actor.ActorState.ack_all.Goals as goal
 use Rattle.chip_actor.proofs.actor.ActorState.ack_all.Goals.{At-loop-index, After-may_ack_at-count}
 use Rattle.chip_actor.proofs.actor.ActorState.ack_all.Given.{Over}
@@ -39,12 +39,22 @@ meets : (g : Over) (c : At-loop-index g) → Meets (g.M.Medium.holds c.loop-inde
 meets g c = meets_after (g.M.Medium.holds c.args.medium.now) (g.M.Medium.holds c.loop-index.medium) c.args.self.now
     (now g c) (At.Ack 0) (At.Ack c.loop-index.index) c.loop-index.work c.requires.meets c.loop-index.invariant.moved
 
+-- the end that the loop found
+here : (g : Over) (c : At-loop-index g) (edge : ℕ) (end : HeadState) → c.loop-index.index < length c.ends-end-items.result.now
+    → end ≡ get_or c.ends-end-items.result.now c.loop-index.index end → edge ≡ end.edge
+    → FoundIn (now g c) (ends g c) c.loop-index.index edge end
+here g c edge end below was tells = record {
+  same = same g c;
+  apart = c.ends-end-items.ensures.apart;
+  below = below;
+  was = was;
+  tells = tells;
+}
+
 pub may_ack_at-count-requires : goal.may_ack_at-count-requires
 may_ack_at-count-requires g c =
     let d = (goal.at.may_ack_at-count-requires g c).At-loop-index in
-    ack_in_books (g.M.Medium.holds c.loop-index.medium) (now g d) c.loop-index.index c.edge-edge.result
-    c.end-item.result (meets g d) (ends g d) (same g d) c.ends-end-items.ensures.apart c.loop-index-test.true
-    c.end-item.is c.edge-edge.ensures
+    ack_in_books (g.M.Medium.holds c.loop-index.medium) (now g d) (ends g d) c.loop-index.index c.edge-edge.result c.end-item.result (meets g d) (here g d c.edge-edge.result c.end-item.result c.loop-index-test.true c.end-item.is c.edge-edge.ensures)
 
 -- the count is what the books allow there
 allowed : (g : Over) (c : After-may_ack_at-count g)
@@ -61,26 +71,20 @@ loop-index-preserved-then-count-eq0 g c =
       moved = then_over (g.M.Medium.holds c.args.medium.now) (g.M.Medium.holds c.loop-index.medium) c.args.self.now
           (now g d) (At.Ack 0) (At.Ack c.loop-index.index) (At.Ack (c.loop-index.index + 1)) c.loop-index.work
           c.loop-index.invariant.moved
-          (ack_past (g.M.Medium.holds c.loop-index.medium) (now g d) c.loop-index.index c.edge-edge.result
-          c.end-item.result (meets g d) (ends g d) (same g d) c.ends-end-items.ensures.apart c.loop-index-test.true
-          c.end-item.is c.edge-edge.ensures c.may_ack_at-count.result
+          (ack_past (g.M.Medium.holds c.loop-index.medium) (now g d) (ends g d) c.loop-index.index c.edge-edge.result c.end-item.result (meets g d) (here g d c.edge-edge.result c.end-item.result c.loop-index-test.true c.end-item.is c.edge-edge.ensures) c.may_ack_at-count.result
           (allowed g (goal.at.loop-index-preserved-then-count-eq0 g c).After-may_ack_at-count) c.if-count-eq0.true);
     }
 
 pub ack-seen-requires : goal.ack-seen-requires
 ack-seen-requires g c =
     let d = (goal.at.ack-seen-requires g c).At-loop-index in
-    ack_asks (g.M.Medium.holds c.loop-index.medium) (now g d) c.loop-index.index c.edge-edge.result
-    c.end-item.result (meets g d) (ends g d) (same g d) c.ends-end-items.ensures.apart c.loop-index-test.true
-    c.end-item.is c.edge-edge.ensures c.may_ack_at-count.result
+    ack_asks (g.M.Medium.holds c.loop-index.medium) (now g d) (ends g d) c.loop-index.index c.edge-edge.result c.end-item.result (meets g d) (here g d c.edge-edge.result c.end-item.result c.loop-index-test.true c.end-item.is c.edge-edge.ensures) c.may_ack_at-count.result
     (allowed g (goal.at.ack-seen-requires g c).After-may_ack_at-count) c.if-count-eq0.false
 
 pub acked_at-requires-clause-slot : goal.acked_at-requires-clause-slot
 acked_at-requires-clause-slot g c =
     let d = (goal.at.acked_at-requires-clause-slot g c).At-loop-index in
-    ack_in_books (g.M.Medium.holds c.loop-index.medium) (now g d) c.loop-index.index c.edge-edge.result
-    c.end-item.result (meets g d) (ends g d) (same g d) c.ends-end-items.ensures.apart c.loop-index-test.true
-    c.end-item.is c.edge-edge.ensures
+    ack_in_books (g.M.Medium.holds c.loop-index.medium) (now g d) (ends g d) c.loop-index.index c.edge-edge.result c.end-item.result (meets g d) (here g d c.edge-edge.result c.end-item.result c.loop-index-test.true c.end-item.is c.edge-edge.ensures)
 
 pub loop-index-preserved : goal.loop-index-preserved
 loop-index-preserved g c =
@@ -92,9 +96,7 @@ loop-index-preserved g c =
           (g.M.Medium.holds c.ack-seen.new.self) c.args.self.now (now g d) after (At.Ack 0)
           (At.Ack c.loop-index.index) (At.Ack (c.loop-index.index + 1)) c.loop-index.work 1
           c.loop-index.invariant.moved
-          (ack_moves (g.M.Medium.holds c.loop-index.medium) (now g d) c.loop-index.index c.edge-edge.result
-          c.end-item.result (meets g d) (ends g d) (same g d) c.ends-end-items.ensures.apart c.loop-index-test.true
-          c.end-item.is c.edge-edge.ensures c.may_ack_at-count.result
+          (ack_moves (g.M.Medium.holds c.loop-index.medium) (now g d) (ends g d) c.loop-index.index c.edge-edge.result c.end-item.result (meets g d) (here g d c.edge-edge.result c.end-item.result c.loop-index-test.true c.end-item.is c.edge-edge.ensures) c.may_ack_at-count.result
           (allowed g (goal.at.loop-index-preserved g c).After-may_ack_at-count) c.if-count-eq0.false
           (g.M.Medium.holds c.ack-seen.new.self) c.ack-seen.result c.acked_at.new.self c.ack-seen.ensures
           c.acked_at.ensures.acknowledges c.acked_at.ensures.sound);

@@ -1,4 +1,4 @@
-use Rattle.std.proofs.Common.{◌≡◌, ◌∙◌, ◌+◌, ◌≤◌, ℕ, List, length, ltb, refl, sym, ap, subst, arith}
+use Rattle.std.proofs.Common.{◌≡◌, ◌∙◌, ◌+◌, ◌≤◌, ◌<◌, ℕ, get_or, List, length, ltb, refl, sym, ap, subst, arith}
 use Rattle.chip_part.specs.declared.cursor.Cursor.TheVariants as At
 use Rattle.chip_detect.specs.Books.{Books}
 use Rattle.chip_actor.specs.declared.ends.outs.OutEnd.{OutEnd}
@@ -7,7 +7,7 @@ use Rattle.chip_actor.specs.Actor.{Actor}
 use Rattle.chip_actor.specs.Medium.{Meets, Moves}
 use Rattle.chip_actor.proofs.MediumLemmas.{moves_none, moves_on, meets_after, then_over, one_if, one_few}
 use Rattle.chip_actor.proofs.TurnOverLemmas.{settles_end}
-use Rattle.chip_actor.proofs.LoopLemmas.{settle_asks, settle_in_books, settle_fits, settle_moves}
+use Rattle.chip_actor.proofs.LoopLemmas.{FoundOut, settle_asks, settle_in_books, settle_fits, settle_moves}
 use Rattle.chip_actor.proofs.LoopLemmas.{counts_more, counts_none}
 use Rattle.chip_actor.proofs.actor.ActorState.settle_all.Goals as goal
 use Rattle.chip_actor.proofs.actor.ActorState.settle_all.Goals.{At-loop-index, then-settled_at-gt0, else-settled_at-gt0}
@@ -39,34 +39,38 @@ meets : (g : Over) (c : At-loop-index g) → Meets (g.M.Medium.holds c.loop-inde
 meets g c = meets_after (g.M.Medium.holds c.args.medium.now) (g.M.Medium.holds c.loop-index.medium) c.args.self.now
     (now g c) (At.Settle 0) (At.Settle c.loop-index.index) c.loop-index.work c.requires c.loop-index.invariant.moved
 
+-- the end that the loop found
+here : (g : Over) (c : At-loop-index g) (edge : ℕ) (end : OutEnd) → c.loop-index.index < length c.ends-out-items.result.now
+    → end ≡ get_or c.ends-out-items.result.now c.loop-index.index end → edge ≡ end.link.edge
+    → FoundOut (now g c) (ends g c) c.loop-index.index edge end
+here g c edge end below was tells = record {
+  same = same g c;
+  apart = c.ends-out-items.ensures.apart;
+  below = below;
+  was = was;
+  tells = tells;
+}
+
 pub settle-seen-requires : goal.settle-seen-requires
 settle-seen-requires g c =
     let d = (goal.at.settle-seen-requires g c).At-loop-index in
-    settle_asks (g.M.Medium.holds c.loop-index.medium) (now g d) c.loop-index.index c.edge-edge.result
-    c.out-item.result (meets g d) (ends g d) (same g d) c.ends-out-items.ensures.apart c.loop-index-test.true
-    c.out-item.is c.edge-edge.ensures
+    settle_asks (g.M.Medium.holds c.loop-index.medium) (now g d) (ends g d) c.loop-index.index c.edge-edge.result c.out-item.result (meets g d) (here g d c.edge-edge.result c.out-item.result c.loop-index-test.true c.out-item.is c.edge-edge.ensures)
 
 pub settled_at-requires-clause-slot : goal.settled_at-requires-clause-slot
 settled_at-requires-clause-slot g c =
     let d = (goal.at.settled_at-requires-clause-slot g c).At-loop-index in
-    settle_in_books (g.M.Medium.holds c.loop-index.medium) (now g d) c.loop-index.index c.edge-edge.result
-    c.out-item.result (meets g d) (ends g d) (same g d) c.ends-out-items.ensures.apart c.loop-index-test.true
-    c.out-item.is c.edge-edge.ensures
+    settle_in_books (g.M.Medium.holds c.loop-index.medium) (now g d) (ends g d) c.loop-index.index c.edge-edge.result c.out-item.result (meets g d) (here g d c.edge-edge.result c.out-item.result c.loop-index-test.true c.out-item.is c.edge-edge.ensures)
 
 pub settled_at-requires-clause-no_fewer : goal.settled_at-requires-clause-no_fewer
 settled_at-requires-clause-no_fewer g c =
     let d = (goal.at.settled_at-requires-clause-no_fewer g c).At-loop-index in
-    (settle_fits (g.M.Medium.holds c.loop-index.medium) (now g d) c.loop-index.index c.edge-edge.result
-    c.out-item.result (meets g d) (ends g d) (same g d) c.ends-out-items.ensures.apart c.loop-index-test.true
-    c.out-item.is c.edge-edge.ensures (g.M.Medium.holds c.settle-seen.new.self) c.settle-seen.result
+    (settle_fits (g.M.Medium.holds c.loop-index.medium) (now g d) (ends g d) c.loop-index.index c.edge-edge.result c.out-item.result (meets g d) (here g d c.edge-edge.result c.out-item.result c.loop-index-test.true c.out-item.is c.edge-edge.ensures) (g.M.Medium.holds c.settle-seen.new.self) c.settle-seen.result
     c.settle-seen.ensures).0
 
 pub settled_at-requires-clause-sent : goal.settled_at-requires-clause-sent
 settled_at-requires-clause-sent g c =
     let d = (goal.at.settled_at-requires-clause-sent g c).At-loop-index in
-    (settle_fits (g.M.Medium.holds c.loop-index.medium) (now g d) c.loop-index.index c.edge-edge.result
-    c.out-item.result (meets g d) (ends g d) (same g d) c.ends-out-items.ensures.apart c.loop-index-test.true
-    c.out-item.is c.edge-edge.ensures (g.M.Medium.holds c.settle-seen.new.self) c.settle-seen.result
+    (settle_fits (g.M.Medium.holds c.loop-index.medium) (now g d) (ends g d) c.loop-index.index c.edge-edge.result c.out-item.result (meets g d) (here g d c.edge-edge.result c.out-item.result c.loop-index-test.true c.out-item.is c.edge-edge.ensures) (g.M.Medium.holds c.settle-seen.new.self) c.settle-seen.result
     c.settle-seen.ensures).1
 
 pub loop-index-preserved : goal.loop-index-preserved
@@ -88,9 +92,7 @@ loop-index-preserved g c =
           (g.M.Medium.holds c.settle-seen.new.self) c.args.self.now (now g d) after (At.Settle 0)
           (At.Settle c.loop-index.index) (At.Settle (c.loop-index.index + 1)) c.loop-index.work _
           c.loop-index.invariant.moved
-          (settle_moves (g.M.Medium.holds c.loop-index.medium) (now g d) c.loop-index.index c.edge-edge.result
-          c.out-item.result (meets g d) (ends g d) (same g d) c.ends-out-items.ensures.apart c.loop-index-test.true
-          c.out-item.is c.edge-edge.ensures (g.M.Medium.holds c.settle-seen.new.self) c.settle-seen.result
+          (settle_moves (g.M.Medium.holds c.loop-index.medium) (now g d) (ends g d) c.loop-index.index c.edge-edge.result c.out-item.result (meets g d) (here g d c.edge-edge.result c.out-item.result c.loop-index-test.true c.out-item.is c.edge-edge.ensures) (g.M.Medium.holds c.settle-seen.new.self) c.settle-seen.result
           c.settle-seen.ensures c.settled_at.result c.settled_at.new.self c.settled_at.ensures.more
           c.settled_at.ensures.settles c.settled_at.ensures.sound));
     }

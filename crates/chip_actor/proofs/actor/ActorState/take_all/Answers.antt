@@ -1,50 +1,19 @@
-use Rattle.std.proofs.Common.{◌≡◌, ◌∙◌, ◌+◌, length, sym, ap, arith}
+use Rattle.std.proofs.Common.{sym, subst}
 use Rattle.chip_part.specs.declared.cursor.Cursor.TheVariants as At
 use Rattle.chip_actor.specs.Actor.{Actor}
-use Rattle.chip_actor.proofs.MediumLemmas.{moves_none, moves_on, meets_after, then_over, keeps_ins}
-use Rattle.chip_actor.proofs.TurnOverLemmas.{takes_end}
+use Rattle.chip_actor.specs.Medium.{Meets, Moves}
+use Rattle.chip_actor.specs.contracts.actor.ActorState.{the_view}
 use Rattle.chip_actor.proofs.actor.ActorState.take_all.Goals as goal
-use Rattle.chip_actor.proofs.actor.ActorState.take_all.Goals.{At-loop-index}
-use Rattle.chip_actor.proofs.actor.ActorState.take_all.Given.{Over}
 
-pub loop-index-init : goal.loop-index-init
-loop-index-init g c = record {
-  few = omega arith;
-  moved = moves_none (g.M.Medium.holds c.args.medium.now) c.args.self.now (At.Take 0);
-}
-
--- the edges are the same still
-same : (g : Over) (c : At-loop-index g) → length c.loop-index.self.ins.edges ≡ length c.edges-index-end.result.now
-same g c =
-    ap length (keeps_ins (g.M.Medium.holds c.args.medium.now) (g.M.Medium.holds c.loop-index.medium) c.args.self.now
-    c.loop-index.self (At.Take 0) (At.Take c.loop-index.index) c.loop-index.work c.requires
-    c.loop-index.invariant.moved)
-    ∙ sym (ap length c.edges-index-end.ensures.edges ∙ ap (λ (a : Actor). length a.ins.edges) c.self.view_is)
-
-pub take_here-work-requires-clause-within : goal.take_here-work-requires-clause-within
-take_here-work-requires-clause-within g c = let e = same g
-    (goal.at.take_here-work-requires-clause-within g c).At-loop-index in omega arith
-
-pub take_here-work-requires-clause-meets : goal.take_here-work-requires-clause-meets
-take_here-work-requires-clause-meets g c =
-    meets_after (g.M.Medium.holds c.args.medium.now) (g.M.Medium.holds c.loop-index.medium) c.args.self.now
-    c.loop-index.self (At.Take 0) (At.Take c.loop-index.index) c.loop-index.work c.requires
-    c.loop-index.invariant.moved
-
-pub loop-index-preserved : goal.loop-index-preserved
-loop-index-preserved g c = record {
-  few = (let f = c.take_here-work.ensures.few in omega arith);
-  moved = moves_on (g.M.Medium.holds c.args.medium.now) (g.M.Medium.holds c.loop-index.medium)
-      (g.M.Medium.holds c.take_here-work.new.medium) c.args.self.now c.loop-index.self c.take_here-work.new.self
-      (At.Take 0) (At.Take c.loop-index.index) (At.Take (c.loop-index.index + 1)) c.loop-index.work
-      c.take_here-work.result
-      c.loop-index.invariant.moved c.take_here-work.ensures.moves;
-}
+pub take_all-requires : goal.take_all-requires
+take_all-requires g c = (
+  the_view c.self.inside,
+  subst (λ (a : Actor). Meets (g.M.Medium.holds c.args.medium.now) a (At.Take 0)) (sym c.self.view_is) c.requires,
+)
 
 pub returns-clause-moves : goal.returns-clause-moves
-returns-clause-moves g c =
-    let e = same g (goal.at.returns-clause-moves g c).At-loop-index in
-    then_over (g.M.Medium.holds c.args.medium.now) (g.M.Medium.holds c.loop-index.medium) c.args.self.now
-    c.loop-index.self (At.Take 0) (At.Take c.loop-index.index)
-    (At.Settle 0) c.loop-index.work c.loop-index.invariant.moved
-    (takes_end (g.M.Medium.holds c.loop-index.medium) c.loop-index.self c.loop-index.index (omega arith))
+returns-clause-moves g c = subst
+    (λ (a : Actor). Moves (g.M.Medium.holds c.args.medium.now) a (At.Take 0)
+    (g.M.Medium.holds c.take_all.new.medium) (the_view (record c.self.inside { ins = c.take_all.new.self; chips = c.take_all.new.chips; detect = c.take_all.new.detect })) (At.Settle 0) c.take_all.result) c.self.view_is
+    (c.take_all.ensures.moves (the_view c.self.inside)
+    (subst (λ (a : Actor). Meets (g.M.Medium.holds c.args.medium.now) a (At.Take 0)) (sym c.self.view_is) c.requires))

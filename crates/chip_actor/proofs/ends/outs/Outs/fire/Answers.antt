@@ -1,11 +1,11 @@
-use Rattle.std.proofs.Common.{◌≡◌, ℕ, ◌*◌, ◌<◌, ◌≤◌, map, refl, take, ◌++◌, ◌^◌, arith, ap, sym, length, length-set}
+use Rattle.std.proofs.Common.{◌≡◌, ℕ, ◌*◌, ◌<◌, ◌≤◌, map, refl, ◌^◌, arith, ap, sym, length, length-set}
 use Rattle.std.proofs.Common.{get_or, ◌∙◌, subst, List}
 use Rattle.chip_actor.specs.Ends.{OutEnd, OutEnds, on_edge, no_out, out_on, out_after_fire}
 use Rattle.std.specs.List.{Contains}
-use Rattle.std.proofs.lemmas.List.{get_or_default, take_all, take-append-le}
+use Rattle.std.proofs.lemmas.List.{get_or_default, take_all}
 use Rattle.chip_detect.proofs.LookupsLemmas.{ascends}
 use Rattle.chip_actor.proofs.LookupsLemmas.{on_edge_at, on_edge_map}
-use Rattle.chip_actor.proofs.EndLemmas.{reads_old, done_more, rest_less}
+use Rattle.chip_actor.proofs.EndLemmas.{reads_old, done_more, rest_less, filled}
 use Rattle.chip_actor.proofs.ends.outs.Outs.fire.Goals as goal
 
 -- what stands there is what stood there before the loop
@@ -39,10 +39,6 @@ loop-out-preserved c = record {
   rest = rest_less (out_after_fire c.args.k) c.deref_mut-out-items.result.now c.loop-out.out-items c.loop-out.out-index
       c.out-item.result c.loop-out.invariant.lengths c.loop-out.invariant.done c.loop-out.invariant.rest (omega arith);
 }
-
--- a list of the right length fills the vector
-filled : (n : ℕ) (ws rest : List OutEnd) → length ws ≡ n → take n (ws ++ rest) ≡ ws
-filled n ws rest same = let h : n ≤ length ws = omega arith in rw take-append-le (take_all n ws (omega arith))
 
 pub returns : goal.returns
 returns c =

@@ -8,3 +8,4 @@ pub mod TurnActorLemmas
 pub mod MediumLemmas
 pub mod TurnOverLemmas
 pub mod LoopLemmas
+pub mod SendLemmas

@@ -26,7 +26,7 @@ use Rattle.chip_actor.proofs.MediumLemmas.{DueBy, may_serve, can_do, moves_one, 
 use Rattle.chip_actor.proofs.TurnOverLemmas.{in_slot, out_slot, slot_in_books, settle_by, ack_by, ack_none, take_by}
 
 -- a slot of its edges is one of its books
-out_in_books : (H : Holding) (a : Actor) (x : Cursor) (slot : Slot) → Meets H a x → IsSlotOf a.outs.edges slot
+pub out_in_books : (H : Holding) (a : Actor) (x : Cursor) (slot : Slot) → Meets H a x → IsSlotOf a.outs.edges slot
     → IsSlotOf (out_edges a.detect) slot
 out_in_books H a x slot (g, ds, s, held, stands, at) is =
     subst (λ (xs : List ℕ). IsSlotOf xs slot) (sym (books_outs g s a stands)) is
@@ -48,7 +48,7 @@ pub record FoundIn (a : Actor) (is : InEnds) (index edge : ℕ) (end : HeadState
   pub tells : edge ≡ end.edge
 
 -- it is the edge's
-out_at_index : (H : Holding) (a : Actor) (x : Cursor) (os : OutEnds) (index edge : ℕ) (end : OutEnd) → Meets H a x
+pub out_at_index : (H : Holding) (a : Actor) (x : Cursor) (os : OutEnds) (index edge : ℕ) (end : OutEnd) → Meets H a x
     → FoundOut a os index edge end
     → IsSlotOf a.outs.edges (record { index = index; edge = edge }) × (end ≡ out_on a.outs edge)
 out_at_index H a x os index edge end meets here =

@@ -38,6 +38,11 @@ pub record Actor : Type 0 where
 abbrev pub with_taken : Actor → InEnds → ℕ → Books → Actor
 with_taken a ins chips detect = record a { ins = ins; chips = chips; detect = detect }
 
+-- the actor with these edges out of it, so much pending on them, so many refusals and these books: what sends change of it
+abbrev pub with_sent : Actor → OutEnds → ℕ → ℕ → Books → Actor
+with_sent a outs pending refused detect =
+    record a { outs = outs; detect = detect; pending = pending; refused = refused }
+
 -- the edge e as its tail keeps it at run time
 abbrev pub out_end : Setting → ℕ → Out → OutEnd
 out_end g e o = record { mult = mult_of g e; pending = o.pending; link = tail_state e g.ring o.link }

@@ -1,7 +1,7 @@
 -- The ends of a vertex's edges as its actor keeps them: the numbers of the edges, ascending, and beside each what
 -- stands at that place.
 use Rattle.std.specs.Prelude.{◌≡◌, ℕ, ◌+◌, ◌*◌, ◌<◌, ◌≤◌, ◌==◌, if◌then◌else◌, Bool, true, false, List, [], ◌∷◌, ◌++◌}
-use Rattle.std.specs.Prelude.{length, map, slice_index, Option, Some, None}
+use Rattle.std.specs.Prelude.{length, map, slice_index, slice_set, Option, Some, None}
 use Rattle.std.specs.List.{Contains}
 use Rattle.std.specs.List.Sorted.{IsStrictlyIncreasing}
 use Rattle.chip_link.specs.Ends.{HeadState, new_tail, new_head, tail_after_clear, tail_after_claim, tail_after_put}
@@ -23,6 +23,10 @@ pub record OutEnds : Type 0 where
 pub record InEnds : Type 0 where
   pub edges : List ℕ
   pub ends : List HeadState
+
+-- the edges with this end at an index
+abbrev pub with_end : OutEnds → ℕ → OutEnd → OutEnds
+with_end os index end = record os { ends = slice_set os.ends index end }
 
 -- nothing is known of an edge that isn't there
 abbrev pub no_out : OutEnd

@@ -3,6 +3,7 @@
 mod ins;
 mod outs;
 mod search;
+mod sending;
 
 pub use ins::Ins;
 pub use outs::{OutEnd, Outs};

@@ -58,103 +58,25 @@ impl ActorState {
         0
     }
 
-    /// Looks at the cell of the edge at this index of those out of the vertex, on which something is pending.
-    fn clear_here<M: Medium>(&mut self, medium: &mut M, index: usize)
-        requires within { index < length self.old.outs.edges }
-        requires pends { (out_on self.old.outs (slice_index self.old.outs.edges index)).pending ≢ 0 }
-        requires meets { Meets (M.holds medium.old) self.old (Cursor.Send index) }
-        ensures { Moves (M.holds medium.old) self.old (Cursor.Send index) (M.holds medium.new) self.new
-            (Cursor.Claim index) 0 }
-    {
-        let out = self.outs.at(index);
-        let edge = out.link.edge();
-        let cell = out.link.cell();
-        let seen = medium.clear(edge, cell);
-        self.clear(Slot { index, edge }, seen);
-    }
-
-    /// Claims the edge at this index of those out of the vertex, unless its cell was seen full.
-    fn claim_here<M: Medium>(&mut self, medium: &mut M, index: usize) -> Option<usize>
-        requires within { index < length self.old.outs.edges }
-        requires meets { Meets (M.holds medium.old) self.old (Cursor.Claim index) }
-        ensures moves { MatchOption result
-            (Moves (M.holds medium.old) self.old (Cursor.Claim index) (M.holds medium.new) self.new
-            (Cursor.Send (index + 1)) 0)
-            (λ work. Moves (M.holds medium.old) self.old (Cursor.Claim index) (M.holds medium.new) self.new
-            (Cursor.Store index) work) }
-        ensures few { IfSome result (λ work. work ≤ 1) }
-    {
-        let out = self.outs.at(index);
-        let edge = out.link.edge();
-        let Some(words) = out.link.claim_next() else {
-            return None;
-        };
-        let seen = medium.claim(edge, words.0, words.1);
-        let reply = self.claim(Slot { index, edge }, seen);
-        let act = Act::Claim {
-            edge,
-            expected: words.0,
-            new: words.1,
-        };
-        Some(work_of(act, seen, &reply))
-    }
-
-    /// Puts what was claimed on the edge at this index of those out of the vertex; where the claim was refused, halts.
-    /// Whether the turn goes on with the next edge.
-    fn store_here<M: Medium>(&mut self, medium: &mut M, index: usize) -> bool
-        requires within { index < length self.old.outs.edges }
-        requires meets { Meets (M.holds medium.old) self.old (Cursor.Store index) }
-        ensures { Moves (M.holds medium.old) self.old (Cursor.Store index)
-            (M.holds medium.new) self.new (if result then Cursor.Send (index + 1) else Cursor.Limit) 1 }
-    {
-        let out = self.outs.at(index);
-        let edge = out.link.edge();
-        let Some(stored) = out.link.held() else {
-            let seen = medium.halt(is_by_limit(self.cause()));
-            self.stop(seen);
-            return false;
-        };
-        let seen = medium.put(edge, stored.0, stored.1);
-        self.put(Slot { index, edge }, seen);
-        true
-    }
-
-    /// Sends on the edge at this index of those out of the vertex, where something is pending on it: how many steps
-    /// count, and whether the turn goes on with the next edge.
-    fn send_here<M: Medium>(&mut self, medium: &mut M, index: usize) -> (usize, bool)
-        requires within { index < length self.old.outs.edges }
-        requires meets { Meets (M.holds medium.old) self.old (Cursor.Send index) }
-        ensures moves { Moves (M.holds medium.old) self.old (Cursor.Send index)
-            (M.holds medium.new) self.new (if result.1 then Cursor.Send (index + 1) else Cursor.Limit) result.0 }
-        ensures few { result.0 ≤ 2 }
-    {
-        if self.outs.at(index).pending == 0 {
-            return (0, true);
-        }
-        self.clear_here(medium, index);
-        let Some(claimed) = self.claim_here(medium, index) else {
-            return (0, true);
-        };
-        let goes_on = self.store_here(medium, index);
-        (claimed + 1, goes_on)
-    }
-
-    /// Sends on each edge out of the vertex on which something is pending, until a claim is refused.
+    /// Sends on each edge out of the vertex on which something is pending, until a claim is refused: then it halts.
     fn send_all<M: Medium>(&mut self, medium: &mut M) -> usize
         requires { Meets (M.holds medium.old) self.old (Cursor.Send 0) }
         ensures moves { Moves (M.holds medium.old) self.old (Cursor.Send 0)
             (M.holds medium.new) self.new Cursor.Limit result }
         ensures few { result < 2 ^ 61 }
     {
-        let mut work = 0;
-        for index in 0..self.outs.edges().len() {
-            let (sent, goes_on) = self.send_here(medium, index);
-            work += sent;
-            if !goes_on {
-                return work;
-            }
-        }
-        work
+        let (sent, refusal) = self.outs.send_all(
+            &mut self.pending,
+            &mut self.refused,
+            &mut self.detect,
+            medium,
+        );
+        let Some(_index) = refusal else {
+            return sent;
+        };
+        let seen = medium.halt(is_by_limit(self.cause()));
+        self.stop(seen);
+        sent + 1
     }
 
     /// Acknowledges on each edge into the vertex.

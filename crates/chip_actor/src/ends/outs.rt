@@ -1,11 +1,13 @@
 ghost use Rattle.std.specs.Prelude.{◌≡◌, ℕ, ◌*◌, ◌^◌, ◌<◌, ◌≤◌, length, map, IfOk, Contains, IsTrue, Option};
-ghost use Rattle.std.specs.Prelude.{slice_index, slice_index_or, not, is_some, ◌==◌};
+ghost use Rattle.std.specs.Prelude.{slice_index, slice_index_or, not, is_some, ◌==◌, MatchOption, IfSome, None};
 ghost use Rattle.chip_graph.specs.Limits.{max_total};
 
 use crate::ends::search::slot_of;
-use chip_detect::Slot;
+use crate::medium::Medium;
+use chip_detect::{Detect, Slot};
 use chip_graph::Graph;
 use chip_link::{Message, Ring, TailLink};
+use chip_part::Cursor;
 use std::alloc::{AllocError, Global};
 use std::marker::Model;
 
@@ -44,6 +46,8 @@ impl Outs {
     ghost use Rattle.chip_link.specs.Ends.{put_of, message_claimed, may_clear, claim_words, tail_after_clear};
     ghost use Rattle.chip_actor.specs.Ends.{OutEnds, OutEnd, out_on, ChangesOut, ChangesOuts, IsFreshOuts};
     ghost use Rattle.chip_actor.specs.Ends.{out_after_clear, out_after_claim, out_after_put, out_after_fire};
+    ghost use Rattle.chip_actor.specs.Actor.{Actor, with_sent};
+    ghost use Rattle.chip_actor.specs.Medium.{Meets, Moves};
 
     /// The slot of an edge.
     pub fn slot_of(&self, edge: u64) -> Slot
@@ -154,6 +158,38 @@ impl Outs {
         for out in self.ends.iter_mut() {
             out.pending = k * out.mult;
         }
+    }
+
+    /// Sends over a medium on each edge on which something is pending, for the vertex with so much pending, so many
+    /// refusals and these books, until a claim is refused: how many steps count, and the index of the refusal.
+    pub fn send_all<M: Medium>(
+        &mut self,
+        pending: &mut u64,
+        refused: &mut u64,
+        detect: &mut Detect,
+        medium: &mut M,
+    ) -> (usize, Option<usize>)
+        requires { (a : Actor)
+            × Meets (M.holds medium.old) (with_sent a self.old pending.old refused.old detect.old) (Cursor.Send 0) }
+        ensures moves { (a : Actor) → let old = with_sent a self.old pending.old refused.old detect.old in
+            let new = with_sent a self.new pending.new refused.new detect.new in
+            Meets (M.holds medium.old) old (Cursor.Send 0)
+            → MatchOption result.1
+            (Moves (M.holds medium.old) old (Cursor.Send 0) (M.holds medium.new) new Cursor.Limit result.0)
+            (λ index. Moves (M.holds medium.old) old (Cursor.Send 0) (M.holds medium.new) new (Cursor.Store index)
+            result.0) }
+        ensures refusal { IfSome result.1 (λ index. (index < length self.new.edges)
+            × (put_of (out_on self.new (slice_index self.new.edges index)).link ≡ None)) }
+        ensures few { result.0 < 2 ^ 60 }
+    {
+        let mut work = 0;
+        for (index, out) in self.ends.iter_mut().enumerate() {
+            let Some(sent) = out.send(index, pending, refused, detect, medium) else {
+                return (work, Some(index));
+            };
+            work += sent;
+        }
+        (work, None)
     }
 
     /// The edges out of a vertex, on which nothing was sent.

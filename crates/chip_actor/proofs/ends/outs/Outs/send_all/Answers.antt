@@ -1,0 +1,178 @@
+use Rattle.std.proofs.Common.{◌≡◌, ◌∙◌, ◌+◌, ◌≤◌, ◌<◌, ℕ, List, length, get_or, set, slice_index, None, refl, sym, ap}
+use Rattle.std.proofs.Common.{subst, arith, length-set}
+use Rattle.std.proofs.lemmas.List.{get_or-set_same, set-get_or}
+use Rattle.std.specs.Vec.{with_items}
+use Rattle.chip_link.specs.Ends.{put_of}
+use Rattle.chip_part.specs.declared.cursor.Cursor.{Cursor}
+use Rattle.chip_part.specs.declared.cursor.Cursor.TheVariants as At
+use Rattle.chip_actor.specs.Ends.{OutEnd, OutEnds, AreApart, out_on, with_end}
+use Rattle.chip_actor.specs.Actor.{Actor, with_sent}
+use Rattle.chip_actor.specs.Medium.{Holding, Meets, Moves}
+use Rattle.chip_actor.proofs.EndLemmas.{filled, out_there}
+use Rattle.chip_actor.proofs.MediumLemmas.{moves_none, moves_on, meets_after, then_over}
+use Rattle.chip_actor.proofs.TurnOverLemmas.{sends_end}
+use Rattle.chip_actor.proofs.ends.outs.Outs.send_all.Goals as goal
+use Rattle.chip_actor.proofs.ends.outs.Outs.send_all.Goals.{At-loop-index}
+use Rattle.chip_actor.proofs.ends.outs.Outs.send_all.Given.{Over}
+
+pub loop-index-init : goal.loop-index-init
+loop-index-init g c = record {
+  few = omega arith;
+  moved = λ a h. subst
+      (λ (os : OutEnds). Moves (g.M.Medium.holds c.args.medium.now)
+      (with_sent a c.args.self.now c.args.pending.now c.args.refused.now c.args.detect.now) (At.Send 0)
+      (g.M.Medium.holds c.args.medium.now)
+      (with_sent a os c.args.pending.now c.args.refused.now c.args.detect.now) (At.Send 0) 0)
+      (λ j. record {
+        edges = c.args.self.now.edges;
+        ends = (sym (c.deref_mut-out-items.ensures.value ∙ ap (λ (os : OutEnds). os.ends) c.self.view_is)) j;
+      })
+      (moves_none (g.M.Medium.holds c.args.medium.now)
+      (with_sent a c.args.self.now c.args.pending.now c.args.refused.now c.args.detect.now) (At.Send 0));
+}
+
+-- an actor as it was, and as the loop has it
+abbrev old : (g : Over) (c : At-loop-index g) → Actor → Actor
+old g c a = with_sent a c.args.self.now c.args.pending.now c.args.refused.now c.args.detect.now
+
+abbrev ends : (g : Over) (c : At-loop-index g) → OutEnds
+ends g c = record { edges = c.args.self.now.edges; ends = c.loop-index.out-items }
+
+abbrev having : (g : Over) (c : At-loop-index g) → Actor → OutEnds → Actor
+having g c a os = with_sent a os c.loop-index.pending c.loop-index.refused c.loop-index.detect
+
+edges_are : (g : Over) (c : At-loop-index g) → c.self.inside.edges.items ≡ c.args.self.now.edges
+edges_are g c = ap (λ (os : OutEnds). os.edges) c.self.view_is
+
+apart_inside : (g : Over) (c : At-loop-index g) → AreApart c.self.inside.edges.items c.loop-index.out-items
+apart_inside g c = record {
+  ascending = c.self.invariant.ascending;
+  one_each = c.loop-index.auto.out-items ∙ ap length c.deref_mut-out-items.ensures.value ∙ c.self.invariant.one_each;
+}
+
+apart : (g : Over) (c : At-loop-index g) → AreApart (ends g c).edges (ends g c).ends
+apart g c = subst (λ (es : List ℕ). AreApart es c.loop-index.out-items) (edges_are g c) (apart_inside g c)
+
+within : (g : Over) (c : At-loop-index g) → c.loop-index.index < length c.deref_mut-out-items.result.now
+    → c.loop-index.index < length (ends g c).edges
+within g c below = let one = (apart g c).one_each in let e = c.loop-index.auto.out-items in omega arith
+
+-- an end that is written back as it is changes nothing
+same : (g : Over) (c : At-loop-index g) (end : OutEnd)
+    → with_end (ends g c) c.loop-index.index (get_or c.loop-index.out-items c.loop-index.index end) ≡ ends g c
+same g c end = ap (λ (ts : List OutEnd). let os : OutEnds = record { edges = c.args.self.now.edges; ends = ts } in os)
+    (set-get_or c.loop-index.out-items c.loop-index.index end)
+
+meets : (g : Over) (c : At-loop-index g) (a : Actor) (end : OutEnd)
+    → Meets (g.M.Medium.holds c.args.medium.now) (old g c a) (At.Send 0)
+    → Meets (g.M.Medium.holds c.loop-index.medium)
+    (having g c a (with_end (ends g c) c.loop-index.index (get_or c.loop-index.out-items c.loop-index.index end)))
+    (At.Send c.loop-index.index)
+meets g c a end h = subst
+    (λ (os : OutEnds). Meets (g.M.Medium.holds c.loop-index.medium) (having g c a os) (At.Send c.loop-index.index))
+    (sym (same g c end))
+    (meets_after (g.M.Medium.holds c.args.medium.now) (g.M.Medium.holds c.loop-index.medium) (old g c a)
+    (having g c a (ends g c)) (At.Send 0) (At.Send c.loop-index.index) c.loop-index.work h
+    (c.loop-index.invariant.moved a h))
+
+-- a move from there follows those before
+then_moves : (g : Over) (c : At-loop-index g) (a : Actor) (end : OutEnd) (K : Holding) (b : Actor) (to : Cursor) (n : ℕ)
+    → Meets (g.M.Medium.holds c.args.medium.now) (old g c a) (At.Send 0)
+    → Moves (g.M.Medium.holds c.loop-index.medium)
+    (having g c a (with_end (ends g c) c.loop-index.index (get_or c.loop-index.out-items c.loop-index.index end)))
+    (At.Send c.loop-index.index) K b to n
+    → Moves (g.M.Medium.holds c.args.medium.now) (old g c a) (At.Send 0) K b to (c.loop-index.work + n)
+then_moves g c a end K b to n h moves = moves_on (g.M.Medium.holds c.args.medium.now)
+    (g.M.Medium.holds c.loop-index.medium) K (old g c a) (having g c a (ends g c)) b (At.Send 0)
+    (At.Send c.loop-index.index) to c.loop-index.work n (c.loop-index.invariant.moved a h)
+    (subst (λ (os : OutEnds). Moves (g.M.Medium.holds c.loop-index.medium) (having g c a os)
+    (At.Send c.loop-index.index) K b to n) (same g c end) moves)
+
+-- the ends as they are written back
+items_are : (g : Over) (c : At-loop-index g) (ts : List OutEnd) → length ts ≡ length c.loop-index.out-items
+    → (with_items c.self.inside.ends ts).items ≡ ts
+items_are g c ts same-length = filled c.self.inside.ends.len ts _ (let e = c.loop-index.auto.out-items in
+    let m = ap length c.deref_mut-out-items.ensures.value in let n = c.self.inside.ends.ok.0 in omega arith)
+
+written : (g : Over) (c : At-loop-index g) (ts : List OutEnd) → length ts ≡ length c.loop-index.out-items
+    → (let os : OutEnds = record { edges = c.args.self.now.edges; ends = ts } in os)
+    ≡ record { edges = c.self.inside.edges.items; ends = (with_items c.self.inside.ends ts).items }
+written g c ts same-length = λ j. record {
+  edges = (sym (edges_are g c)) j;
+  ends = (sym (items_are g c ts same-length)) j;
+}
+
+pub send-requires : goal.send-requires
+send-requires g c =
+    let d = (goal.at.send-requires g c).At-loop-index in (
+      having g d c.requires.0 (ends g d),
+      apart g d,
+      within g d c.loop-index-test.true,
+      meets g d c.requires.0 c.out-item.result c.requires.1,
+    )
+
+pub returns-in_default-clause-moves : goal.returns-in_default-clause-moves
+returns-in_default-clause-moves g c =
+    let d = (goal.at.returns-in_default-clause-moves g c).At-loop-index in
+    let ts : List OutEnd = set c.loop-index.out-items c.loop-index.index c.send.new.self in
+    λ a h. subst
+    (λ (os : OutEnds). Moves (g.M.Medium.holds c.args.medium.now) (old g d a) (At.Send 0)
+    (g.M.Medium.holds c.send.new.medium) (with_sent a os c.send.new.pending c.send.new.refused c.send.new.detect)
+    (At.Store c.loop-index.index) c.loop-index.work)
+    (written g d ts (length-set c.loop-index.out-items c.loop-index.index c.send.new.self))
+    (subst (λ (n : ℕ). Moves (g.M.Medium.holds c.args.medium.now) (old g d a) (At.Send 0)
+    (g.M.Medium.holds c.send.new.medium) (with_sent a (record { edges = c.args.self.now.edges; ends = ts })
+    c.send.new.pending c.send.new.refused c.send.new.detect) (At.Store c.loop-index.index) n)
+    (let z : c.loop-index.work + 0 ≡ c.loop-index.work = omega arith in z)
+    (then_moves g d a c.out-item.result (g.M.Medium.holds c.send.new.medium) _ (At.Store c.loop-index.index) 0 h
+    (c.in_default.ensures.moves (having g d a (ends g d)) (apart g d) (within g d c.loop-index-test.true)
+    (meets g d a c.out-item.result h))))
+
+pub returns-in_default-clause-refusal : goal.returns-in_default-clause-refusal
+returns-in_default-clause-refusal g c =
+    let d = (goal.at.returns-in_default-clause-refusal g c).At-loop-index in
+    let ts : List OutEnd = set c.loop-index.out-items c.loop-index.index c.send.new.self in
+    let long : length ts ≡ length c.loop-index.out-items
+    = length-set c.loop-index.out-items c.loop-index.index c.send.new.self in
+    let os : OutEnds = record { edges = c.self.inside.edges.items; ends = ts } in
+    let below : c.loop-index.index < length c.self.inside.edges.items =
+    (let one = (apart_inside g d).one_each in let e = c.loop-index.auto.out-items in let l = c.loop-index-test.true in
+    omega arith) in
+    let there = out_there os os refl (record {
+      ascending = c.self.invariant.ascending;
+      one_each = long ∙ (apart_inside g d).one_each;
+    }) c.loop-index.index below c.send.new.self (sym (get_or-set_same c.loop-index.out-items c.loop-index.index
+    c.send.new.self c.send.new.self (let e = c.loop-index.auto.out-items in let l = c.loop-index-test.true in
+    omega arith))) in (
+      below,
+      subst (λ (ws : List OutEnd). put_of (out_on (record { edges = c.self.inside.edges.items; ends = ws })
+          (slice_index c.self.inside.edges.items c.loop-index.index)).link ≡ None)
+          (sym (items_are g d ts long))
+          (sym (ap (λ (o : OutEnd). put_of o.link) there) ∙ c.send.ensures.refused c.in_default.is),
+    )
+
+pub loop-index-preserved : goal.loop-index-preserved
+loop-index-preserved g c =
+    let d = (goal.at.loop-index-preserved g c).At-loop-index in
+    record {
+      few = (let f = c.loop-index.invariant.few in let two = c.in-Some.ensures.few in omega arith);
+      moved = λ a h. then_moves g d a c.out-item.result (g.M.Medium.holds c.send.new.medium) _
+          (At.Send (c.loop-index.index + 1)) c.in-Some.sent h
+          (c.in-Some.ensures.moves (having g d a (ends g d)) (apart g d) (within g d c.loop-index-test.true)
+          (meets g d a c.out-item.result h));
+    }
+
+pub returns-clause-moves : goal.returns-clause-moves
+returns-clause-moves g c =
+    let d = (goal.at.returns-clause-moves g c).At-loop-index in
+    let over : length c.args.self.now.edges ≤ c.loop-index.index =
+    (let one = (apart g d).one_each in let e = c.loop-index.auto.out-items in let l = c.loop-index-test.false in
+    omega arith) in
+    λ a h. subst
+    (λ (os : OutEnds). Moves (g.M.Medium.holds c.args.medium.now) (old g d a) (At.Send 0)
+    (g.M.Medium.holds c.loop-index.medium) (having g d a os) At.Limit c.loop-index.work)
+    (written g d c.loop-index.out-items refl)
+    (then_over (g.M.Medium.holds c.args.medium.now) (g.M.Medium.holds c.loop-index.medium) (old g d a)
+    (having g d a (ends g d)) (At.Send 0) (At.Send c.loop-index.index) At.Limit c.loop-index.work
+    (c.loop-index.invariant.moved a h)
+    (sends_end (g.M.Medium.holds c.loop-index.medium) (having g d a (ends g d)) c.loop-index.index over))

@@ -1,0 +1,16 @@
+use Rattle.std.proofs.Common.{◌*◌, ◌≤◌}
+use Rattle.chip_part.specs.declared.cursor.Cursor.TheVariants as At
+use Rattle.chip_actor.specs.Actor.{Actor, with_sent}
+use Rattle.chip_actor.specs.Medium.{Meets, Moves}
+use Rattle.chip_actor.proofs.ends.outs.Outs.send_all.Given as goal
+
+abbrev pub invariant-loop-index : goal.invariant-loop-index
+invariant-loop-index g l = record {
+  few : l.work ≤ 2 * l.index;
+  moved : (a : Actor)
+      → Meets (g.M.Medium.holds l.fn.medium) (with_sent a l.fn.self l.fn.pending l.fn.refused l.fn.detect) (At.Send 0)
+      → Moves (g.M.Medium.holds l.fn.medium) (with_sent a l.fn.self l.fn.pending l.fn.refused l.fn.detect) (At.Send 0)
+      (g.M.Medium.holds l.medium)
+      (with_sent a (record { edges = l.fn.self.edges; ends = l.out-items }) l.pending l.refused l.detect)
+      (At.Send l.index) l.work;
+}

@@ -1,0 +1,62 @@
+ghost use Rattle.std.specs.Prelude.{◌≡◌, ◌+◌, ◌<◌, ◌≤◌, length, MatchOption, IfSome, None};
+
+use crate::ends::outs::OutEnd;
+use crate::medium::Medium;
+use chip_detect::{Detect, Slot};
+use chip_part::Cursor;
+
+impl OutEnd {
+    ghost use Rattle.chip_link.specs.Ends.{put_of};
+    ghost use Rattle.chip_actor.specs.Ends.{AreApart, with_end};
+    ghost use Rattle.chip_actor.specs.Actor.{Actor, with_sent};
+    ghost use Rattle.chip_actor.specs.Medium.{Meets, Moves};
+
+    /// Sends over a medium all that is pending on the edge at this index, where there is something and its cell is
+    /// empty, for the vertex with so much pending on all edges, so many refusals and these books: how many steps count.
+    /// `None` where the claim was refused.
+    pub(crate) fn send<M: Medium>(
+        &mut self,
+        index: usize,
+        pending: &mut u64,
+        refused: &mut u64,
+        detect: &mut Detect,
+        medium: &mut M,
+    ) -> Option<usize>
+        requires { (a : Actor) × AreApart a.outs.edges a.outs.ends × (index < length a.outs.edges)
+            × Meets (M.holds medium.old)
+            (with_sent a (with_end a.outs index self.old) pending.old refused.old detect.old) (Cursor.Send index) }
+        ensures moves { (a : Actor) → AreApart a.outs.edges a.outs.ends → index < length a.outs.edges
+            → let old = with_sent a (with_end a.outs index self.old) pending.old refused.old detect.old in
+            let new = with_sent a (with_end a.outs index self.new) pending.new refused.new detect.new in
+            Meets (M.holds medium.old) old (Cursor.Send index)
+            → MatchOption result
+            (Moves (M.holds medium.old) old (Cursor.Send index) (M.holds medium.new) new (Cursor.Store index) 0)
+            (λ work. Moves (M.holds medium.old) old (Cursor.Send index) (M.holds medium.new) new
+            (Cursor.Send (index + 1)) work) }
+        ensures few { IfSome result (λ work. work ≤ 2) }
+        ensures refused { result ≡ None → put_of self.new.link ≡ None }
+    {
+        if self.pending == 0 {
+            return Some(0);
+        }
+        let edge = self.link.edge();
+        let cell = self.link.cell();
+        let looked = medium.clear(edge, cell);
+        if !self.link.cleared(looked) {
+            return Some(0);
+        }
+        let words = self.link.claim_next().unwrap();
+        let seen = medium.claim(edge, words.0, words.1);
+        let count = self.pending;
+        let Some(_message) = self.link.claimed(seen, count) else {
+            *refused += 1;
+            return None;
+        };
+        self.pending = 0;
+        *pending -= count;
+        detect.sent_at(Slot { index, edge });
+        let _stored = medium.put(edge, cell, count);
+        let _held = self.link.put_value();
+        Some(2)
+    }
+}

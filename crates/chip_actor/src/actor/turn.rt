@@ -1,7 +1,6 @@
 //! A whole turn over a medium: loops over the edges in the order of the turn, and what is rare operation by operation.
 
-ghost use Rattle.std.specs.Prelude.{◌≡◌, ◌≢◌, ◌+◌, ◌*◌, ◌^◌, ◌<◌, ◌≤◌, length, slice_index, ◌==◌, ◌&&◌, is_none};
-ghost use Rattle.std.specs.Prelude.{if◌then◌else◌, MatchOption, IfSome};
+ghost use Rattle.std.specs.Prelude.{◌≡◌, ◌≢◌, ◌^◌, ◌<◌, ◌≤◌, ◌==◌, ◌&&◌, is_none, if◌then◌else◌};
 
 use crate::actor::ActorState;
 use crate::medium::Medium;
@@ -10,7 +9,6 @@ use chip_part::{Act, Cursor, Observed, Reply, is_by_limit};
 
 impl ActorState {
     ghost use Rattle.chip_actor.specs.Actor.{is_passive_now};
-    ghost use Rattle.chip_actor.specs.Ends.{out_on};
     ghost use Rattle.chip_actor.specs.Medium.{Meets, Moves, MeetsDue, MakesDue, MakesTurn};
 
     /// Takes once from each edge into the vertex.

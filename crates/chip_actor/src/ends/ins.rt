@@ -81,6 +81,7 @@ impl Ins {
 
     /// Takes once from each edge over a medium, and gives the chips to the vertex, which has so many and these books; how
     /// many takes count.
+    #[inline(always)]
     pub fn take_all<M: Medium>(
         &mut self,
         chips: &mut u64,

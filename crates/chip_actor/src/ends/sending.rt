@@ -14,6 +14,7 @@ impl OutEnd {
     /// Sends over a medium all that is pending on the edge at this index, where there is something and its cell is
     /// empty, for the vertex with so much pending on all edges, so many refusals and these books: how many steps count.
     /// `None` where the claim was refused.
+    #[inline(always)]
     pub(crate) fn send<M: Medium>(
         &mut self,
         index: usize,

@@ -30,7 +30,7 @@ pub enum Turn {
 
 /// What an actor owns: the state of its vertex, and its seat at the words.
 #[derive(Drop)]
-struct Owned {
+pub(crate) struct Owned {
     state: ActorState,
     // `None` only while actors meet.
     hand: Option<Hand>,
@@ -47,6 +47,18 @@ impl Model for Owned {
 }
 
 impl Owned {
+    /// This state and this hand.
+    pub(crate) fn new(state: ActorState, hand: Hand) -> Owned
+        requires vertex { state.vertex ≡ hand.vertex }
+        requires state { StandsFor hand.net.setting (part_known hand) state }
+        ensures { result ≡ hand }
+    {
+        Owned {
+            state,
+            hand: Some(hand),
+        }
+    }
+
     #[inline(always)]
     fn turn(&mut self, net: &Net) -> Turn
         requires net { self.old.net ≡ net.now }
@@ -84,15 +96,10 @@ impl Model for Actor {
 }
 
 impl Actor {
-    pub(crate) fn new(alloc: Global, state: ActorState, hand: Hand) -> Result<Actor, AllocError>
-        requires vertex { state.vertex ≡ hand.vertex }
-        requires state { StandsFor hand.net.setting (part_known hand) state }
-        ensures { IfOk result (λ actor. actor ≡ hand) }
+    /// The actor that owns this.
+    pub(crate) fn new(alloc: Global, owned: Owned) -> Result<Actor, AllocError>
+        ensures { IfOk result (λ actor. actor ≡ owned) }
     {
-        let owned = Owned {
-            state,
-            hand: Some(hand),
-        };
         Ok(Actor {
             owned: Box::new(alloc, owned)?,
         })
@@ -188,7 +195,9 @@ pub(crate) fn gather(net: &Net, seat: &mut PartSeat, mut actors: Vec<Actor>)
     gather(net, seat, actors);
 }
 
-/// A whole turn over the words of the net; how many of its steps count.
+/// A whole turn over the words of the net; how many of its steps count. It is inlined, as is all of a turn: the words
+/// are then nowhere in memory, and a worker reads no address again after each of its operations.
+#[inline(always)]
 fn turn_over(net: &Net, state: &mut ActorState, hand: &mut Hand) -> usize
     requires net { hand.old.net ≡ net.now }
     requires vertex { state.old.vertex ≡ hand.old.vertex }
@@ -204,6 +213,7 @@ fn turn_over(net: &Net, state: &mut ActorState, hand: &mut Hand) -> usize
 }
 
 /// A whole turn over these words, which keep the hand that they borrow.
+#[inline(always)]
 fn turn_with<J: Turning>(state: &mut ActorState, words: &mut NetWords<'_, J>) -> usize
     requires first { J.first ≡ words.old.hand.now }
     requires borrow { J.borrow ≡ words.old.hand.ghost_name }

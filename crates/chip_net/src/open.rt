@@ -9,7 +9,7 @@ ghost use Rattle.chip_net.specs.Views.{find, opening_view};
 ghost use Rattle.chip_net.specs.Tokens.{newcomer};
 ghost use Rattle.chip_net.specs.Roots.{new_root, new_stopper};
 
-use crate::actor::Actor;
+use crate::actor::{Actor, Owned};
 use crate::hand::Hand;
 use crate::layout::{cell_word, edge_word, word_count};
 use crate::net::Net;
@@ -51,14 +51,14 @@ fn opening_words(alloc: Global, setting: &Setting) -> Result<Vec<u64>, AllocErro
     Ok(words)
 }
 
-/// The actor of one vertex, whose part the seat hands on.
-fn one_actor(
+/// What the actor of one vertex owns. The seat hands its part on.
+fn one_owned(
     alloc: Global,
     net: &Net,
     seat: &mut PartSeat,
     trace_rows: u64,
     vertex: u64,
-) -> Result<Actor, AllocError>
+) -> Result<Owned, AllocError>
     requires table { seat.old.table_id ≡ net.now.table }
     requires vertex { vertex < net.now.setting.game.graph.vertices }
     requires part { find vertex seat.old.me.0.parts ≡ Some [] }
@@ -70,11 +70,44 @@ fn one_actor(
     let setting = net.setting();
     let trace = Trace::new(alloc, trace_rows as usize)?;
     let state = ActorState::new(alloc, setting.game(), vertex, setting.ring())?;
-    Actor::new(
-        alloc,
-        state,
-        Hand::new(Snapshot::of(setting), own, vertex, trace),
-    )
+    let hand = Hand::new(Snapshot::of(setting), own, vertex, trace);
+    Ok(Owned::new(state, hand))
+}
+
+/// What the actors of all vertices own, ascending.
+fn all_owned(
+    alloc: Global,
+    net: &Net,
+    seat: &mut PartSeat,
+    trace_rows: u64,
+) -> Result<Vec<Owned>, AllocError>
+    requires table { seat.old.table_id ≡ net.now.table }
+    requires parts { (p : ℕ) → p < net.now.setting.game.graph.vertices + 2 → find p seat.old.me.0.parts ≡ Some [] }
+    ensures table { seat.new.table_id ≡ seat.old.table_id }
+    ensures rest { (p : ℕ) → net.now.setting.game.graph.vertices ≤ p → p < net.now.setting.game.graph.vertices + 2
+        → find p seat.new.me.0.parts ≡ Some [] }
+    ensures count { IfOk result (λ v. length v.items ≡ net.now.setting.game.graph.vertices) }
+    ensures actors { IfOk result (λ v. (p : ℕ) → p < net.now.setting.game.graph.vertices
+        → slice_get v.items p ≡ Some (newcomer net.now trace_rows p)) }
+{
+    let vertices = net.setting().vertices();
+    let mut all = Vec::with_capacity(alloc, vertices as usize)?;
+    for vertex in 0..vertices {
+        all.push_reserved(one_owned(alloc, net, seat, trace_rows, vertex)?);
+    }
+    Ok(all)
+}
+
+/// The actors that own these. Their boxes are taken one behind the other, so that what consecutive actors own lies side
+/// by side: whoever gives them turns in order waits less for memory.
+fn boxed(alloc: Global, all: Vec<Owned>) -> Result<Vec<Actor>, AllocError>
+    ensures { IfOk result (λ actors. actors.items ≡ all.items) }
+{
+    let mut actors = Vec::with_capacity(alloc, all.len())?;
+    for owned in all {
+        actors.push_reserved(Actor::new(alloc, owned)?);
+    }
+    Ok(actors)
 }
 
 /// The actors of all vertices, ascending.
@@ -94,12 +127,8 @@ fn all_actors(
         → slice_get v.items p ≡ Some (newcomer net.now trace_rows p)) }
     ensures ours { IfOk result (λ v. All (λ a. a.net ≡ net.now) v.items) }
 {
-    let vertices = net.setting().vertices();
-    let mut actors = Vec::with_capacity(alloc, vertices as usize)?;
-    for vertex in 0..vertices {
-        actors.push_reserved(one_actor(alloc, net, seat, trace_rows, vertex)?);
-    }
-    Ok(actors)
+    let all = all_owned(alloc, net, seat, trace_rows)?;
+    boxed(alloc, all)
 }
 
 /// The stopper, where there is to be one: its part then leaves the seat.

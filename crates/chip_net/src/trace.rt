@@ -47,10 +47,13 @@ impl Trace {
         ensures room { self.new.room ≡ self.old.room }
         ensures keeps { (all : List TraceRow) → Keeps all self.old → Keeps (all ++ row ∷ []) self.new }
     {
+        // (looked at first: without a trace nothing else is read)
+        if self.cut {
+            return;
+        }
         if self.rows.len() < self.room {
             self.rows.push_reserved(row);
-        } else if !self.cut {
-            // (written once: without a trace there is never room)
+        } else {
             self.cut = true;
         }
     }

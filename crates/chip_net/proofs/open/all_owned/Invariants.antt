@@ -3,13 +3,13 @@ use Rattle.std.specs.Prelude.{slice_get}
 use Rattle.std.specs.Vec.{vec_capacity}
 use Rattle.chip_net.specs.Views.{find}
 use Rattle.chip_net.specs.Tokens.{newcomer}
-use Rattle.chip_net.proofs.open.all_actors.Given as goal
+use Rattle.chip_net.proofs.open.all_owned.Given as goal
 
 abbrev pub invariant-loop-vertex : goal.invariant-loop-vertex
 invariant-loop-vertex l = record {
   table : l.seat.table_id ≡ l.initial.seat.table_id;
   parts : (p : ℕ) → l.vertex ≤ p → p < l.net.setting.game.graph.vertices + 2 → find p l.seat.me.0.parts ≡ Some [];
-  count : length l.actors.items ≡ l.vertex;
-  room : l.net.setting.game.graph.vertices ≤ vec_capacity l.actors;
-  actors : (p : ℕ) → p < l.vertex → slice_get l.actors.items p ≡ Some (newcomer l.net l.trace_rows p);
+  count : length l.all.items ≡ l.vertex;
+  room : l.net.setting.game.graph.vertices ≤ vec_capacity l.all;
+  actors : (p : ℕ) → p < l.vertex → slice_get l.all.items p ≡ Some (newcomer l.net l.trace_rows p);
 }

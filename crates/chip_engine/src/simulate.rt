@@ -80,7 +80,7 @@ pub fn simulate_engine_with<G: Read, C: Read, S: Read, W: Write>(
     let game = read_game(alloc, graph, chips, options.limit)?;
     let events = read_schedule(alloc, schedule, game.graph())?;
     let setting = Setting::new(game, options.ring, options.fed);
-    let answer = simulate(alloc, setting, &events, options.rounds, options.books)?;
+    let answer = simulate(alloc, setting, events, options.rounds, options.books)?;
     conclude(output, &answer.text, Ended::of(answer.status))
 }
 
@@ -88,12 +88,12 @@ pub fn simulate_engine_with<G: Read, C: Read, S: Read, W: Write>(
 fn simulate(
     alloc: Global,
     setting: Setting,
-    events: &[Event],
+    events: Vec<Event>,
     rounds: u64,
     books: bool,
 ) -> Result<Answer, Fault>
     ensures ok { IfOk result
-        (λ made. Simulates setting rounds books events.now made.text.items (number_of_status made.status)) }
+        (λ made. Simulates setting rounds books events.items made.text.items (number_of_status made.status)) }
     ensures err { IfErr result (λ fault. fault ≡ NoMemory) }
 {
     let mut world = World::of(alloc, setting)?;
@@ -104,13 +104,13 @@ fn simulate(
 fn run(
     alloc: Global,
     world: &mut World,
-    events: &[Event],
+    events: Vec<Event>,
     rounds: u64,
     books: bool,
 ) -> Result<Answer, Fault>
     requires { StandsForLog world.old.setting [] world.old }
     ensures ok { IfOk result
-        (λ made. Simulates world.old.setting rounds books events.now made.text.items (number_of_status made.status)) }
+        (λ made. Simulates world.old.setting rounds books events.items made.text.items (number_of_status made.status)) }
     ensures err { IfErr result (λ fault. fault ≡ NoMemory) }
 {
     let mut text = run_schedule(alloc, world, events, books)?;
@@ -127,20 +127,31 @@ fn run(
 fn run_schedule(
     alloc: Global,
     world: &mut World,
-    events: &[Event],
+    mut events: Vec<Event>,
     books: bool,
 ) -> Result<Vec<u8>, AllocError>
     requires { StandsForLog world.old.setting [] world.old }
     ensures world { IfOk result
-        (λ _. let g = world.old.setting in StandsForLog g (log_after g [] events.now) world.new) }
-    ensures lines { IfOk result (λ lines. lines.items ≡ answers_text books world.old.setting [] events.now) }
+        (λ _. let g = world.old.setting in StandsForLog g (log_after g [] events.items) world.new) }
+    ensures lines { IfOk result (λ lines. lines.items ≡ answers_text books world.old.setting [] events.items) }
 {
+    events.reverse();
     let mut lines = String::new(alloc);
-    for event in events {
-        let reply = world.step(*event);
+    while let Some(event) = events.pop() {
+        let reply = world.step(event);
         push_answer(&mut lines, reply, world, books)?;
+        give_back(&mut events);
     }
     Ok(lines.into_bytes())
+}
+
+/// Gives back the memory of events that are done, once they were half of it: the lines want room, too.
+fn give_back(events: &mut Vec<Event>)
+    ensures { events.new.items ≡ events.old.items }
+{
+    if events.len() <= events.capacity() / 2 {
+        events.shrink_to_fit();
+    }
 }
 
 /// The end of a run whose rounds ended so, and the exit status.

@@ -13,5 +13,5 @@ run-requires c =
 pub returns-clause-ok : goal.returns-clause-ok
 returns-clause-ok c = subst
     (λ (g : Setting). IfOk c.run.result
-    (λ made. Simulates g c.args.rounds c.args.books c.args.events.now made.text.items (number_of_status made.status)))
+    (λ made. Simulates g c.args.rounds c.args.books c.args.events.items made.text.items (number_of_status made.status)))
     c.in_ok-world.ensures.setting c.run.ensures.ok

@@ -1,7 +1,6 @@
 use Rattle.std.proofs.Common.{◌≡◌, false, List, ℕ, inl, inr, Some, Ok, sym, subst, ◌∙◌}
 use Rattle.chip_part.specs.Setting.{Setting}
 use Rattle.chip_graph.specs.Multigraph.{Multigraph}
-use Rattle.chip_link.specs.declared.event.Event.{Event}
 use Rattle.chip_file.specs.Answer.{Answers}
 use Rattle.chip_file.specs.ScheduleText.{schedule_of_text, schedule_text_fault}
 use Rattle.chip_graph.specs.Limits.{standard}
@@ -56,15 +55,15 @@ returns g c = λ graph_text graph_is chips_text chips_is schedule_text schedule_
     means_events graph_text chips_text schedule_text c.args.options.limit c.in_ok-game.game c.in_ok-events.events.items
     c.graph.result.now c.graph.ensures.value (c.in_ok-game.ensures graph_text graph_is chips_text chips_is) read in
     let status : ℕ = number_of_status c.in_ok-answer.answer.status in
-    let simulates = subst (λ (xs : List Event). SimulatesBy c.args.options c.in_ok-game.game xs
-    c.in_ok-answer.answer.text.items status) c.deref.ensures.value
-    (subst (λ (s : Setting). Simulates s c.args.options.rounds c.args.options.books c.deref.result.now
-    c.in_ok-answer.answer.text.items status) c.new-setting.ensures c.in_ok-answer.ensures.ok) in
+    let simulates : SimulatesBy c.args.options c.in_ok-game.game c.in_ok-events.events.items
+    c.in_ok-answer.answer.text.items status =
+    subst (λ (s : Setting). Simulates s c.args.options.rounds c.args.options.books c.in_ok-events.events.items
+    c.in_ok-answer.answer.text.items status) c.new-setting.ensures c.in_ok-answer.ensures.ok in
     let went = subst (λ (e : Ended). Delivers (g.W.Write.contents c.args.output.now)
-    (g.W.Write.contents c.conclude.new.output) c.deref-2.result.now e c.conclude.result) c.of.ensures c.conclude.ensures in
+    (g.W.Write.contents c.conclude.new.output) c.deref.result.now e c.conclude.result) c.of.ensures c.conclude.ensures in
     delivered_simulate graph_text chips_text schedule_text c.args.options
     _ _ c.conclude.result c.in_ok-game.game c.in_ok-events.events.items means
     c.in_ok-answer.answer.text.items status simulates
     (subst (λ (text : List ℕ). Delivers (g.W.Write.contents c.args.output.now)
     (g.W.Write.contents c.conclude.new.output) text (record { status = status; cut = false })
-    c.conclude.result) c.deref-2.ensures.value went)
+    c.conclude.result) c.deref.ensures.value went)

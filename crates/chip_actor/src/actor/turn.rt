@@ -1,4 +1,7 @@
 //! A whole turn over a medium: loops over the edges in the order of the turn, and what is rare operation by operation.
+//!
+//! All that has the medium is inlined. No function then asks for its address, so that what it holds stays in registers,
+//! and nothing of it is read again behind an atomic operation.
 
 ghost use Rattle.std.specs.Prelude.{◌≡◌, ◌≢◌, ◌^◌, ◌<◌, ◌≤◌, ◌==◌, ◌&&◌, is_none, if◌then◌else◌};
 
@@ -12,6 +15,7 @@ impl ActorState {
     ghost use Rattle.chip_actor.specs.Medium.{Meets, Moves, MeetsDue, MakesDue, MakesTurn};
 
     /// Takes once from each edge into the vertex.
+    #[inline(always)]
     fn take_all<M: Medium>(&mut self, medium: &mut M) -> usize
         requires { Meets (M.holds medium.old) self.old (Cursor.Take 0) }
         ensures moves { Moves (M.holds medium.old) self.old (Cursor.Take 0) (M.holds medium.new) self.new
@@ -22,6 +26,7 @@ impl ActorState {
     }
 
     /// Settles each edge out of the vertex.
+    #[inline(always)]
     fn settle_all<M: Medium>(&mut self, medium: &mut M) -> usize
         requires { Meets (M.holds medium.old) self.old (Cursor.Settle 0) }
         ensures moves { Moves (M.holds medium.old) self.old (Cursor.Settle 0)
@@ -41,6 +46,7 @@ impl ActorState {
     }
 
     /// Fires, where the vertex may: as often as its chips and its limit allow.
+    #[inline(always)]
     fn fire_here<M: Medium>(&mut self, medium: &mut M) -> usize
         requires { Meets (M.holds medium.old) self.old Cursor.Fire }
         ensures moves { Moves (M.holds medium.old) self.old Cursor.Fire (M.holds medium.new) self.new
@@ -57,6 +63,7 @@ impl ActorState {
     }
 
     /// Sends on each edge out of the vertex on which something is pending, until a claim is refused: then it halts.
+    #[inline(always)]
     fn send_all<M: Medium>(&mut self, medium: &mut M) -> usize
         requires { Meets (M.holds medium.old) self.old (Cursor.Send 0) }
         ensures moves { Moves (M.holds medium.old) self.old (Cursor.Send 0)
@@ -78,6 +85,7 @@ impl ActorState {
     }
 
     /// Acknowledges on each edge into the vertex.
+    #[inline(always)]
     fn ack_all<M: Medium>(&mut self, medium: &mut M, passive: bool) -> usize
         requires passive { passive ≡ is_passive_now self.old }
         requires meets { Meets (M.holds medium.old) self.old (Cursor.Ack 0) }
@@ -103,6 +111,7 @@ impl ActorState {
     }
 
     /// Acknowledges once more on the edge of the message that engaged the vertex, where it still does.
+    #[inline(always)]
     fn ack_parent<M: Medium>(&mut self, medium: &mut M, passive: bool) -> usize
         requires passive { passive ≡ is_passive_now self.old }
         requires meets { Meets (M.holds medium.old) self.old Cursor.Parent }
@@ -166,6 +175,7 @@ impl ActorState {
     }
 
     /// The last acknowledgements of a turn, where the vertex is engaged: one that isn't owes none.
+    #[inline(always)]
     fn acknowledge_all<M: Medium>(&mut self, medium: &mut M) -> usize
         requires { Meets (M.holds medium.old) self.old (Cursor.Ack 0) }
         ensures moves { Moves (M.holds medium.old) self.old (Cursor.Ack 0)
@@ -181,6 +191,7 @@ impl ActorState {
     }
 
     /// What is left of a turn behind the sends. A halt by the limit comes once, so that it goes operation by operation.
+    #[inline(always)]
     fn halt_and_acknowledge<M: Medium>(&mut self, medium: &mut M) -> usize
         requires { Meets (M.holds medium.old) self.old Cursor.Limit }
         ensures moves { Moves (M.holds medium.old) self.old Cursor.Limit
@@ -202,6 +213,7 @@ impl ActorState {
 
     /// What is left of a turn behind the firing. A vertex that is halted, or that a schedule left in the middle of a
     /// turn, goes operation by operation.
+    #[inline(always)]
     fn send_and_acknowledge<M: Medium>(&mut self, medium: &mut M) -> usize
         requires { Meets (M.holds medium.old) self.old (Cursor.Put 0) }
         ensures moves { Moves (M.holds medium.old) self.old (Cursor.Put 0)
@@ -216,6 +228,7 @@ impl ActorState {
     }
 
     /// One whole turn over a medium; how many of its steps count as work.
+    #[inline(always)]
     pub fn turn<M: Medium>(&mut self, medium: &mut M) -> usize
         requires { Meets (M.holds medium.old) self.old (Cursor.Take 0) }
         ensures { MakesTurn (M.holds medium.old) self.old (M.holds medium.new) self.new result }

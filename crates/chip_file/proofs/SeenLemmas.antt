@@ -160,7 +160,7 @@ none_before : (a b : Bool) → (a || b) ≡ false → a ≡ false
 none_before true b e = cc e
 none_before false b e = refl
 
--- before a line feed, where no quote is
+-- before the end of a line, where no quote is
 pub plain_seam : (text : List ℕ) (end : ℕ) → has_quote text ≡ false → EndsLine text end → IsSeam text (seam.Row end)
 plain_seam text end plain ends =
     let all = ap has_quote (take-append-drop end text) ∙ plain in
@@ -168,19 +168,19 @@ plain_seam text end plain ends =
     (sym (list_any-append (λ byte. byte == 34) (take end text) (drop end text)) ∙ all) in
     let low = ends.0 in
     let within = ends.1 in
-    (low, omega arith, cut_at_end text end within (rw ends.2 refl) (plain_text (take end text) none))
+    (low, omega arith, cut_at_end text end within ends.2 (plain_text (take end text) none))
 
 -- behind a byte order mark, or where there is none
 pub row_seam : (text : List ℕ) (mark end : ℕ) → SkipsMark text mark → IsSeen (drop mark text) (seam.Row end)
     → IsSeam text (seam.Row (mark + end))
 row_seam text mark end skips seen =
-    let low = seen.0 in
-    let within = seen.1 in
+    let low = seen.0.0 in
+    let within = seen.0.1 in
     let room = skips.0 in
     let long = length-drop mark text in (
       omega arith,
       omega arith,
-      cut_at_end text (mark + end) (omega arith) (rw get_or-drop at seen.2) (rw (skips.1 end) seen.3),
+      cut_at_end text (mark + end) (omega arith) (rw get_or-drop at seen.0.2) (rw (skips.1 end) seen.1),
     )
 
 pub wide_seam : (text : List ℕ) (mark end : ℕ) → SkipsMark text mark → IsSeen (drop mark text) (seam.Wide end)

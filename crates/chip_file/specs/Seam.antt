@@ -13,9 +13,9 @@ use Rattle.chip_file.specs.Wide.{StartsWide, commas, most_fields}
 abbrev pub has_quote : List ℕ → Bool
 has_quote text = list_any (λ byte. byte == 34) text
 
--- a line feed is at this place of the text, and not at its start
+-- a line ends at this place of the text, and not at its start
 abbrev pub EndsLine : List ℕ → ℕ → Type 0
-EndsLine text end = (0 < end) × (end < length text) × (get_or text end 0 ≡ 10)
+EndsLine text end = (0 < end) × (end < length text) × (ends_line (get_or text end 0) ≡ true)
 
 -- a byte order mark takes so many bytes of the start of the text
 abbrev pub SkipsMark : List ℕ → ℕ → Type 0
@@ -25,9 +25,7 @@ SkipsMark text mark =
 -- a seam of a text that has no byte order mark: an end of a line that no quotes hold, or a place behind more commas of
 -- the first row than a row of a file has
 abbrev pub IsSeen : List ℕ → Seam → Type 0
-IsSeen text (seam.Row end) =
-    (0 < end) × (end < length text) × (ends_line (get_or text end 0) ≡ true)
-    × (place_behind place.Row (take end text) ≢ place.Quoted)
+IsSeen text (seam.Row end) = EndsLine text end × (place_behind place.Row (take end text) ≢ place.Quoted)
 IsSeen text (seam.Wide end) = (end ≤ length text) × (most_fields < commas place.Row (take end text))
 
 -- whatever follows, the rows are those of the two parts of the text; or the first row has too many fields

@@ -28,7 +28,7 @@ pub(crate) fn seam_of(text: &[u8]) -> Option<Seam>
     ensures { IfSome result (IsSeam text.now) }
 {
     if text.len() < SHORT && !has_quote(text) {
-        if let Some(end) = last_line_feed(text) {
+        if let Some(end) = last_line_end(text) {
             return Some(Seam::Row(end));
         }
     }
@@ -68,12 +68,12 @@ fn seam_behind_mark(text: &[u8]) -> Option<Seam>
     Some(Seam::Row(row_end?))
 }
 
-/// The place of the last line feed, but for one at the start.
-fn last_line_feed(text: &[u8]) -> Option<usize>
+/// The place of the last end of a line, but for one at the start.
+fn last_line_end(text: &[u8]) -> Option<usize>
     ensures { IfSome result (EndsLine text.now) }
 {
     for place in (1..text.len()).rev() {
-        if text[place] == b'\n' {
+        if ends_line(text[place]) {
             return Some(place);
         }
     }

@@ -30,7 +30,7 @@ loop-i-preserved c =
         | then-ne+else-byte-eq44+then-i-gt0+then-ends_line w ↦
             let out : now ≢ place.Quoted = search rules in
             let ends : ends_line (get_or text i 0) ≡ true = search rules in
-            rw w.row_end-is (omega arith, within, ends, λ e. out (inv.placed ∙ e))
+            rw w.row_end-is ((omega arith, within, ends), λ e. out (inv.placed ∙ e))
         | then-ne+else-byte-eq44+else-i-gt0 w ↦ rw w.row_end-is inv.found
         | else-ne w ↦ rw w.row_end-is inv.found
       ];

@@ -1,8 +1,7 @@
 -- Serves Medium.antt, Actor.antt, Ends.antt.
 -- A send over a medium at one edge: what its calls ask, and how the turn goes on from each to the next.
-use Rattle.std.proofs.Common.{◌≡◌, ◌≢◌, ℕ, ◌+◌, ◌-◌, ◌^◌, ◌%◌, ◌<◌, ◌≤◌, Bool, true, false, ◌&&◌, cond, eqb, List, length}
-use Rattle.std.proofs.Common.{slice_index}
-use Rattle.std.proofs.Common.{Option}
+use Rattle.std.proofs.Common.{◌≡◌, ◌≢◌, ℕ, ◌+◌, ◌-◌, ◌^◌, ◌%◌, ◌<◌, ◌≤◌, Bool, true, false, ◌&&◌, cond, eqb, List}
+use Rattle.std.proofs.Common.{Option, length, slice_index}
 use mathlib.Core.Logic.{dite}
 use native.Mathlib.Decide.{ℕ_discrete}
 use Rattle.chip_graph.proofs.SumLemmas.{cond_yes, cond_no, cond_false}
@@ -52,7 +51,8 @@ module _ (a : Actor) (os : OutEnds) (index edge : ℕ) (end : OutEnd) (here : Se
       ascending = here.apart.ascending;
       one_each = length-set os.ends index end ∙ here.apart.one_each;
     };
-    below = (let l = here.below in let one = here.apart.one_each in let n = length-set os.ends index end in omega arith);
+    below = (let l = here.below in let one = here.apart.one_each in let n = length-set os.ends index end in omega
+        arith);
     was = sym (get_or-set_same os.ends index end end (let l = here.below in let one = here.apart.one_each in
         omega arith));
     tells = here.tells;
@@ -230,8 +230,11 @@ stored_where_looked t t1 t2 seen word count m looked claimed told =
     let hit : word ≡ t1.claims = dite (ℕ_discrete word t1.claims) (λ z. z)
     (λ z. absurd (differ (told ∙ cond_no word t1.claims
     (Some (record { edge = t1.edge; place = t1.claims; count = count })) None z))) in
-    ap put_of (claimed ∙ cond_yes word t1.claims (record t1 { claims = t1.claims + 1; held = Some count; clear = false })
-    (record t1 { clear = false; refused = true }) hit)
+    ap put_of (claimed ∙ cond_yes word t1.claims (record t1 {
+      claims = t1.claims + 1;
+      held = Some count;
+      clear = false;
+    }) (record t1 { clear = false; refused = true }) hit)
     ∙ (let z : (t1.claims + 1) - 1 ≡ t1.claims = omega arith in
     ap (λ (n : ℕ). let o : Option (ℕ × ℕ) = Some (n % t1.ring, count) in o) z)
     ∙ ap (λ (u : TailState). let o : Option (ℕ × ℕ) = Some (tail_cell u, count) in o) looked
@@ -262,7 +265,8 @@ module _ (a : Actor) (index : ℕ) (apart : AreApart a.outs.edges a.outs.ends) (
     sends_nothing none = send_past first a.outs index end.link.edge end
         (record { same = refl; apart = apart; below = below; tells = refl }) H meets none
 
-    module _ (pends : end.pending ≢ 0) (edge cell : ℕ) (tells : edge ≡ end.link.edge) (at-cell : cell ≡ tail_cell end.link)
+    module _ (pends : end.pending ≢ 0) (edge cell : ℕ) (tells : edge ≡ end.link.edge)
+        (at-cell : cell ≡ tail_cell end.link)
       where
         here : SendsOn first a.outs index edge end
         here = record { same = refl; apart = apart; below = below; tells = tells }
@@ -309,22 +313,23 @@ module _ (a : Actor) (index : ℕ) (apart : AreApart a.outs.edges a.outs.ends) (
 
           module _ (w : ℕ × ℕ) (words : Some w ≡ claim_words t) where
             pub asks_claim : MayServe K (Do.Claim edge w.0 w.1)
-            asks_claim = claim_asks second a.outs index edge (record end { link = t }) here_looked K meets_looked w words
+            asks_claim = claim_asks second a.outs index edge (record end { link = t }) here_looked K meets_looked w
+                words
 
             pub slot_in_books : IsSlotOf (out_edges b) (record { index = index; edge = edge })
-            slot_in_books = claim_in_books second a.outs index edge (record end { link = t }) here_looked K meets_looked w
-                words
+            slot_in_books = claim_in_books second a.outs index edge (record end { link = t }) here_looked K
+                meets_looked w words
 
             module _ (L : Holding) (seen : ℕ) (claims : Serves K L (Do.Claim edge w.0 w.1) seen) where
               pub fits_claim : IsTrue t.clear × (claims_in seen ≡ t.claims) × (1 ≤ end.pending)
                   × (end.pending ≤ 2 ^ 40) × (end.pending ≤ pending)
-              fits_claim = claim_fits second a.outs index edge (record end { link = t }) here_looked K meets_looked w words
-                  L seen claims
+              fits_claim = claim_fits second a.outs index edge (record end { link = t }) here_looked K meets_looked w
+                  words L seen claims
 
               pub has_room : (refused < 2 ^ 32) × (sent_of b edge < message_limit)
               has_room =
-                  let may = claim_may second a.outs index edge (record end { link = t }) here_looked K meets_looked w words
-                  L seen claims in (may.few_refused, may.room)
+                  let may = claim_may second a.outs index edge (record end { link = t }) here_looked K meets_looked w
+                  words L seen claims in (may.few_refused, may.room)
 
               module _ (u : TailState) (claimed : u ≡ tail_after_claim seen end.pending t) where
                 pub is_refused : None ≡ message_claimed seen end.pending t
@@ -333,8 +338,8 @@ module _ (a : Actor) (index : ℕ) (apart : AreApart a.outs.edges a.outs.ends) (
                 is_refused none = moves_on H K L first second
                     (sending (record end { link = u }) pending (refused + 1) b) (At.Send index) (At.Claim index)
                     (At.Store index) 0 0 looks_on
-                    (claim_refuses second a.outs index edge (record end { link = t }) here_looked K meets_looked w words L
-                    seen claims none (record end { link = u })
+                    (claim_refuses second a.outs index edge (record end { link = t }) here_looked K meets_looked w
+                    words L seen claims none (record end { link = u })
                     (ap (λ (v : TailState). let n : OutEnd = record end { link = v } in n) claimed))
 
                 module _ (m : Message) (some : Some m ≡ message_claimed seen end.pending t) (books : Books)
@@ -348,13 +353,14 @@ module _ (a : Actor) (index : ℕ) (apart : AreApart a.outs.edges a.outs.ends) (
                   claims_on : Moves H first (At.Send index) L third (At.Store index) 1
                   claims_on = moves_on H K L first second third (At.Send index) (At.Claim index) (At.Store index) 0 1
                       looks_on
-                      (claim_takes second a.outs index edge (record end { link = t }) here_looked K meets_looked w words L
-                      seen claims m some left
+                      (claim_takes second a.outs index edge (record end { link = t }) here_looked K meets_looked w
+                      words L seen claims m some left
                       (ap (λ (v : TailState). let n : OutEnd = record end { pending = 0; link = v } in n) claimed) books
                       sends sound)
 
                   edge_claimed : edge ≡ u.edge
-                  edge_claimed = same_edge ∙ keeps_edge (eqb seen t.claims) ∙ sym (ap (λ (v : TailState). v.edge) claimed)
+                  edge_claimed = same_edge ∙ keeps_edge (eqb seen t.claims) ∙ sym (ap (λ (v : TailState). v.edge)
+                      claimed)
                     where
                       keeps_edge : (h : Bool) → t.edge
                           ≡ (let v : TailState = cond h
@@ -374,9 +380,11 @@ module _ (a : Actor) (index : ℕ) (apart : AreApart a.outs.edges a.outs.ends) (
                       ∙ ap (λ (n : ℕ). let o : Option (ℕ × ℕ) = Some (n, end.pending) in o) (sym at-cell)
 
                   pub asks_put : MayServe L (Do.Put edge cell end.pending)
-                  asks_put = put_asks third a.outs index edge left here_claimed L meets_claimed (cell, end.pending) stored
+                  asks_put = put_asks third a.outs index edge left here_claimed L meets_claimed
+                      (cell, end.pending) stored
 
-                  pub is_sent : (N : Holding) (word : ℕ) (v : TailState) → Serves L N (Do.Put edge cell end.pending) word
+                  pub is_sent : (N : Holding) (word : ℕ) (v : TailState) → Serves L N (Do.Put edge cell end.pending)
+                      word
                       → v ≡ tail_after_put u
                       → Moves H first (At.Send index) N
                       (sending (record end { pending = 0; link = v }) (pending - end.pending) refused books)
@@ -384,11 +392,14 @@ module _ (a : Actor) (index : ℕ) (apart : AreApart a.outs.edges a.outs.ends) (
                   is_sent N word v puts put =
                       let new : OutEnd = record end { pending = 0; link = v } in
                       let last : Actor = sending new (pending - end.pending) refused books in
-                      moves_on H L N first third last (At.Send index) (At.Store index) (At.Send (index + 1)) 1 1 claims_on
-                      (subst (λ (n : ℕ). Moves L third (At.Store index) N (record last { unput = n })
-                      (At.Send (index + 1)) 1) (let z : (a.unput + 1) - 1 ≡ a.unput = omega arith in z)
-                      (put_moves third a.outs index edge left here_claimed L meets_claimed (cell, end.pending) stored N
-                      word new puts (ap (λ (x : TailState). let n : OutEnd = record end { pending = 0; link = x } in n) put)))
+                      moves_on H L N first third last (At.Send index) (At.Store index) (At.Send
+                      (index + 1)) 1 1 claims_on (subst (λ (n : ℕ). Moves L third (At.Store index) N
+                      (record last { unput = n }) (At.Send (index + 1)) 1) (let z : (a.unput + 1) - 1 ≡ a.unput = omega
+                      arith in z) (put_moves third a.outs index edge left here_claimed L meets_claimed
+                      (cell, end.pending) stored N word new puts (ap (λ (x : TailState). let n : OutEnd = record end {
+                        pending = 0;
+                        link = x;
+                      } in n) put)))
 
 -- ---- the halt behind a refusal
 

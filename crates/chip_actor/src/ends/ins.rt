@@ -79,8 +79,7 @@ impl Ins {
         end.taken(cell)
     }
 
-    /// Takes once from each edge over a medium, and gives the chips to the vertex, which has so many and these books; how
-    /// many takes count.
+    /// Takes once from each edge over a medium, for the vertex with so many chips and these books: how many takes count.
     #[inline(always)]
     pub fn take_all<M: Medium>(
         &mut self,
@@ -88,7 +87,8 @@ impl Ins {
         detect: &mut Detect,
         medium: &mut M,
     ) -> usize
-        requires { (a : Actor) × Meets (M.holds medium.old) (with_taken a self.old chips.old detect.old) (Cursor.Take 0) }
+        requires { (a : Actor)
+            × Meets (M.holds medium.old) (with_taken a self.old chips.old detect.old) (Cursor.Take 0) }
         ensures moves { (a : Actor)
             → Meets (M.holds medium.old) (with_taken a self.old chips.old detect.old) (Cursor.Take 0)
             → Moves (M.holds medium.old) (with_taken a self.old chips.old detect.old) (Cursor.Take 0)

@@ -40,7 +40,8 @@ meets g c = meets_after (g.M.Medium.holds c.args.medium.now) (g.M.Medium.holds c
     (now g c) (At.Ack 0) (At.Ack c.loop-index.index) c.loop-index.work c.requires.meets c.loop-index.invariant.moved
 
 -- the end that the loop found
-here : (g : Over) (c : At-loop-index g) (edge : ℕ) (end : HeadState) → c.loop-index.index < length c.ends-end-items.result.now
+here : (g : Over) (c : At-loop-index g) (edge : ℕ) (end : HeadState) → c.loop-index.index < length
+    c.ends-end-items.result.now
     → end ≡ get_or c.ends-end-items.result.now c.loop-index.index end → edge ≡ end.edge
     → FoundIn (now g c) (ends g c) c.loop-index.index edge end
 here g c edge end below was tells = record {
@@ -54,7 +55,9 @@ here g c edge end below was tells = record {
 pub may_ack_at-count-requires : goal.may_ack_at-count-requires
 may_ack_at-count-requires g c =
     let d = (goal.at.may_ack_at-count-requires g c).At-loop-index in
-    ack_in_books (g.M.Medium.holds c.loop-index.medium) (now g d) (ends g d) c.loop-index.index c.edge-edge.result c.end-item.result (meets g d) (here g d c.edge-edge.result c.end-item.result c.loop-index-test.true c.end-item.is c.edge-edge.ensures)
+    ack_in_books (g.M.Medium.holds c.loop-index.medium) (now g d) (ends g d) c.loop-index.index c.edge-edge.result
+    c.end-item.result (meets g d) (here g d c.edge-edge.result c.end-item.result c.loop-index-test.true c.end-item.is
+    c.edge-edge.ensures)
 
 -- the count is what the books allow there
 allowed : (g : Over) (c : After-may_ack_at-count g)
@@ -71,20 +74,26 @@ loop-index-preserved-then-count-eq0 g c =
       moved = then_over (g.M.Medium.holds c.args.medium.now) (g.M.Medium.holds c.loop-index.medium) c.args.self.now
           (now g d) (At.Ack 0) (At.Ack c.loop-index.index) (At.Ack (c.loop-index.index + 1)) c.loop-index.work
           c.loop-index.invariant.moved
-          (ack_past (g.M.Medium.holds c.loop-index.medium) (now g d) (ends g d) c.loop-index.index c.edge-edge.result c.end-item.result (meets g d) (here g d c.edge-edge.result c.end-item.result c.loop-index-test.true c.end-item.is c.edge-edge.ensures) c.may_ack_at-count.result
-          (allowed g (goal.at.loop-index-preserved-then-count-eq0 g c).After-may_ack_at-count) c.if-count-eq0.true);
+          (ack_past (g.M.Medium.holds c.loop-index.medium) (now g d) (ends g d) c.loop-index.index c.edge-edge.result
+          c.end-item.result (meets g d) (here g d c.edge-edge.result c.end-item.result c.loop-index-test.true
+          c.end-item.is c.edge-edge.ensures) c.may_ack_at-count.result (allowed g
+          (goal.at.loop-index-preserved-then-count-eq0 g c).After-may_ack_at-count) c.if-count-eq0.true);
     }
 
 pub ack-seen-requires : goal.ack-seen-requires
 ack-seen-requires g c =
     let d = (goal.at.ack-seen-requires g c).At-loop-index in
-    ack_asks (g.M.Medium.holds c.loop-index.medium) (now g d) (ends g d) c.loop-index.index c.edge-edge.result c.end-item.result (meets g d) (here g d c.edge-edge.result c.end-item.result c.loop-index-test.true c.end-item.is c.edge-edge.ensures) c.may_ack_at-count.result
-    (allowed g (goal.at.ack-seen-requires g c).After-may_ack_at-count) c.if-count-eq0.false
+    ack_asks (g.M.Medium.holds c.loop-index.medium) (now g d) (ends g d) c.loop-index.index c.edge-edge.result
+    c.end-item.result (meets g d) (here g d c.edge-edge.result c.end-item.result c.loop-index-test.true c.end-item.is
+    c.edge-edge.ensures) c.may_ack_at-count.result (allowed g (goal.at.ack-seen-requires g c).After-may_ack_at-count)
+    c.if-count-eq0.false
 
 pub acked_at-requires-clause-slot : goal.acked_at-requires-clause-slot
 acked_at-requires-clause-slot g c =
     let d = (goal.at.acked_at-requires-clause-slot g c).At-loop-index in
-    ack_in_books (g.M.Medium.holds c.loop-index.medium) (now g d) (ends g d) c.loop-index.index c.edge-edge.result c.end-item.result (meets g d) (here g d c.edge-edge.result c.end-item.result c.loop-index-test.true c.end-item.is c.edge-edge.ensures)
+    ack_in_books (g.M.Medium.holds c.loop-index.medium) (now g d) (ends g d) c.loop-index.index c.edge-edge.result
+    c.end-item.result (meets g d) (here g d c.edge-edge.result c.end-item.result c.loop-index-test.true c.end-item.is
+    c.edge-edge.ensures)
 
 pub loop-index-preserved : goal.loop-index-preserved
 loop-index-preserved g c =
@@ -96,10 +105,11 @@ loop-index-preserved g c =
           (g.M.Medium.holds c.ack-seen.new.self) c.args.self.now (now g d) after (At.Ack 0)
           (At.Ack c.loop-index.index) (At.Ack (c.loop-index.index + 1)) c.loop-index.work 1
           c.loop-index.invariant.moved
-          (ack_moves (g.M.Medium.holds c.loop-index.medium) (now g d) (ends g d) c.loop-index.index c.edge-edge.result c.end-item.result (meets g d) (here g d c.edge-edge.result c.end-item.result c.loop-index-test.true c.end-item.is c.edge-edge.ensures) c.may_ack_at-count.result
-          (allowed g (goal.at.loop-index-preserved g c).After-may_ack_at-count) c.if-count-eq0.false
-          (g.M.Medium.holds c.ack-seen.new.self) c.ack-seen.result c.acked_at.new.self c.ack-seen.ensures
-          c.acked_at.ensures.acknowledges c.acked_at.ensures.sound);
+          (ack_moves (g.M.Medium.holds c.loop-index.medium) (now g d) (ends g d) c.loop-index.index c.edge-edge.result
+          c.end-item.result (meets g d) (here g d c.edge-edge.result c.end-item.result c.loop-index-test.true
+          c.end-item.is c.edge-edge.ensures) c.may_ack_at-count.result (allowed g (goal.at.loop-index-preserved g
+          c).After-may_ack_at-count) c.if-count-eq0.false (g.M.Medium.holds c.ack-seen.new.self) c.ack-seen.result
+          c.acked_at.new.self c.ack-seen.ensures c.acked_at.ensures.acknowledges c.acked_at.ensures.sound);
     }
 
 pub returns-clause-moves : goal.returns-clause-moves

@@ -40,7 +40,8 @@ meets g c = meets_after (g.M.Medium.holds c.args.medium.now) (g.M.Medium.holds c
     (now g c) (At.Settle 0) (At.Settle c.loop-index.index) c.loop-index.work c.requires c.loop-index.invariant.moved
 
 -- the end that the loop found
-here : (g : Over) (c : At-loop-index g) (edge : ℕ) (end : OutEnd) → c.loop-index.index < length c.ends-out-items.result.now
+here : (g : Over) (c : At-loop-index g) (edge : ℕ) (end : OutEnd) → c.loop-index.index < length
+    c.ends-out-items.result.now
     → end ≡ get_or c.ends-out-items.result.now c.loop-index.index end → edge ≡ end.link.edge
     → FoundOut (now g c) (ends g c) c.loop-index.index edge end
 here g c edge end below was tells = record {
@@ -54,24 +55,30 @@ here g c edge end below was tells = record {
 pub settle-seen-requires : goal.settle-seen-requires
 settle-seen-requires g c =
     let d = (goal.at.settle-seen-requires g c).At-loop-index in
-    settle_asks (g.M.Medium.holds c.loop-index.medium) (now g d) (ends g d) c.loop-index.index c.edge-edge.result c.out-item.result (meets g d) (here g d c.edge-edge.result c.out-item.result c.loop-index-test.true c.out-item.is c.edge-edge.ensures)
+    settle_asks (g.M.Medium.holds c.loop-index.medium) (now g d) (ends g d) c.loop-index.index c.edge-edge.result
+    c.out-item.result (meets g d) (here g d c.edge-edge.result c.out-item.result c.loop-index-test.true c.out-item.is
+    c.edge-edge.ensures)
 
 pub settled_at-requires-clause-slot : goal.settled_at-requires-clause-slot
 settled_at-requires-clause-slot g c =
     let d = (goal.at.settled_at-requires-clause-slot g c).At-loop-index in
-    settle_in_books (g.M.Medium.holds c.loop-index.medium) (now g d) (ends g d) c.loop-index.index c.edge-edge.result c.out-item.result (meets g d) (here g d c.edge-edge.result c.out-item.result c.loop-index-test.true c.out-item.is c.edge-edge.ensures)
+    settle_in_books (g.M.Medium.holds c.loop-index.medium) (now g d) (ends g d) c.loop-index.index c.edge-edge.result
+    c.out-item.result (meets g d) (here g d c.edge-edge.result c.out-item.result c.loop-index-test.true c.out-item.is
+    c.edge-edge.ensures)
 
 pub settled_at-requires-clause-no_fewer : goal.settled_at-requires-clause-no_fewer
 settled_at-requires-clause-no_fewer g c =
     let d = (goal.at.settled_at-requires-clause-no_fewer g c).At-loop-index in
-    (settle_fits (g.M.Medium.holds c.loop-index.medium) (now g d) (ends g d) c.loop-index.index c.edge-edge.result c.out-item.result (meets g d) (here g d c.edge-edge.result c.out-item.result c.loop-index-test.true c.out-item.is c.edge-edge.ensures) (g.M.Medium.holds c.settle-seen.new.self) c.settle-seen.result
-    c.settle-seen.ensures).0
+    (settle_fits (g.M.Medium.holds c.loop-index.medium) (now g d) (ends g d) c.loop-index.index c.edge-edge.result
+    c.out-item.result (meets g d) (here g d c.edge-edge.result c.out-item.result c.loop-index-test.true c.out-item.is
+    c.edge-edge.ensures) (g.M.Medium.holds c.settle-seen.new.self) c.settle-seen.result c.settle-seen.ensures).0
 
 pub settled_at-requires-clause-sent : goal.settled_at-requires-clause-sent
 settled_at-requires-clause-sent g c =
     let d = (goal.at.settled_at-requires-clause-sent g c).At-loop-index in
-    (settle_fits (g.M.Medium.holds c.loop-index.medium) (now g d) (ends g d) c.loop-index.index c.edge-edge.result c.out-item.result (meets g d) (here g d c.edge-edge.result c.out-item.result c.loop-index-test.true c.out-item.is c.edge-edge.ensures) (g.M.Medium.holds c.settle-seen.new.self) c.settle-seen.result
-    c.settle-seen.ensures).1
+    (settle_fits (g.M.Medium.holds c.loop-index.medium) (now g d) (ends g d) c.loop-index.index c.edge-edge.result
+    c.out-item.result (meets g d) (here g d c.edge-edge.result c.out-item.result c.loop-index-test.true c.out-item.is
+    c.edge-edge.ensures) (g.M.Medium.holds c.settle-seen.new.self) c.settle-seen.result c.settle-seen.ensures).1
 
 pub loop-index-preserved : goal.loop-index-preserved
 loop-index-preserved g c =
@@ -92,9 +99,11 @@ loop-index-preserved g c =
           (g.M.Medium.holds c.settle-seen.new.self) c.args.self.now (now g d) after (At.Settle 0)
           (At.Settle c.loop-index.index) (At.Settle (c.loop-index.index + 1)) c.loop-index.work _
           c.loop-index.invariant.moved
-          (settle_moves (g.M.Medium.holds c.loop-index.medium) (now g d) (ends g d) c.loop-index.index c.edge-edge.result c.out-item.result (meets g d) (here g d c.edge-edge.result c.out-item.result c.loop-index-test.true c.out-item.is c.edge-edge.ensures) (g.M.Medium.holds c.settle-seen.new.self) c.settle-seen.result
-          c.settle-seen.ensures c.settled_at.result c.settled_at.new.self c.settled_at.ensures.more
-          c.settled_at.ensures.settles c.settled_at.ensures.sound));
+          (settle_moves (g.M.Medium.holds c.loop-index.medium) (now g d) (ends g d) c.loop-index.index
+          c.edge-edge.result c.out-item.result (meets g d) (here g d c.edge-edge.result c.out-item.result
+          c.loop-index-test.true c.out-item.is c.edge-edge.ensures) (g.M.Medium.holds c.settle-seen.new.self)
+          c.settle-seen.result c.settle-seen.ensures c.settled_at.result c.settled_at.new.self
+          c.settled_at.ensures.more c.settled_at.ensures.settles c.settled_at.ensures.sound));
     }
 
 pub returns-clause-moves : goal.returns-clause-moves

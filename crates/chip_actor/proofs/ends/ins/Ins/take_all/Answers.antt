@@ -8,7 +8,8 @@ use Rattle.chip_actor.specs.Medium.{Meets, Moves}
 use Rattle.chip_actor.proofs.EndLemmas.{filled}
 use Rattle.chip_actor.proofs.MediumLemmas.{moves_none, moves_on, meets_after, then_over}
 use Rattle.chip_actor.proofs.TurnOverLemmas.{takes_end}
-use Rattle.chip_actor.proofs.LoopLemmas.{FoundIn, take_asks, take_in_books, take_few, take_nothing, take_fits, take_moves}
+use Rattle.chip_actor.proofs.LoopLemmas.{FoundIn, take_asks, take_in_books, take_few, take_nothing, take_fits}
+use Rattle.chip_actor.proofs.LoopLemmas.{take_moves}
 use Rattle.chip_actor.proofs.ends.ins.Ins.take_all.Goals as goal
 use Rattle.chip_actor.proofs.ends.ins.Ins.take_all.Goals.{At-loop-index}
 use Rattle.chip_actor.proofs.ends.ins.Ins.take_all.Given.{Over}
@@ -37,7 +38,8 @@ apart g c = record {
   one_each = c.loop-index.auto.end-items ∙ ap length c.deref_mut-end-items.ensures.value ∙ c.self.invariant.one_each;
 }
 
-meets : (g : Over) (c : At-loop-index g) (a : Actor) → Meets (g.M.Medium.holds c.args.medium.now) (old g c a) (At.Take 0)
+meets : (g : Over) (c : At-loop-index g) (a : Actor) → Meets (g.M.Medium.holds c.args.medium.now) (old g c a)
+    (At.Take 0)
     → Meets (g.M.Medium.holds c.loop-index.medium) (now g c a) (At.Take c.loop-index.index)
 meets g c a h = meets_after (g.M.Medium.holds c.args.medium.now) (g.M.Medium.holds c.loop-index.medium) (old g c a)
     (now g c a) (At.Take 0) (At.Take c.loop-index.index) c.loop-index.work h (c.loop-index.invariant.moved a h)

@@ -5,27 +5,27 @@ use Rattle.chip_actor.proofs.ends.outs.OutEnd.send.Goals as goal
 
 pub returns-then-self-eq0-clause-moves : goal.returns-then-self-eq0-clause-moves
 returns-then-self-eq0-clause-moves g c =
-    λ a apart below meets. sends_nothing a c.args.index apart below c.args.self.now c.args.pending.now c.args.refused.now c.args.detect.now
-    (g.M.Medium.holds c.args.medium.now) meets c.if-self-eq0.true
+    λ a apart below meets. sends_nothing a c.args.index apart below c.args.self.now c.args.pending.now
+    c.args.refused.now c.args.detect.now (g.M.Medium.holds c.args.medium.now) meets c.if-self-eq0.true
 
 pub clear-looked-requires : goal.clear-looked-requires
 clear-looked-requires g c =
-    asks_clear c.requires.0 c.args.index c.requires.1 c.requires.2 c.args.self.now c.args.pending.now c.args.refused.now c.args.detect.now
-    (g.M.Medium.holds c.args.medium.now) c.requires.3 c.if-self-eq0.false
+    asks_clear c.requires.0 c.args.index c.requires.1 c.requires.2 c.args.self.now c.args.pending.now
+    c.args.refused.now c.args.detect.now (g.M.Medium.holds c.args.medium.now) c.requires.3 c.if-self-eq0.false
     c.edge-edge.result c.cell-cell.result c.edge-edge.ensures c.cell-cell.ensures.cell
 
 pub returns-then-not-cleared-clause-moves : goal.returns-then-not-cleared-clause-moves
 returns-then-not-cleared-clause-moves g c =
-    λ a apart below meets. sees_full a c.args.index apart below c.args.self.now c.args.pending.now c.args.refused.now c.args.detect.now
-    (g.M.Medium.holds c.args.medium.now) meets c.if-self-eq0.false
+    λ a apart below meets. sees_full a c.args.index apart below c.args.self.now c.args.pending.now c.args.refused.now
+    c.args.detect.now (g.M.Medium.holds c.args.medium.now) meets c.if-self-eq0.false
     c.edge-edge.result c.cell-cell.result c.edge-edge.ensures c.cell-cell.ensures.cell
     (g.M.Medium.holds c.clear-looked.new.self) c.clear-looked.result c.clear-looked.ensures c.cleared.new.self
     c.cleared.ensures.after c.cleared.result c.cleared.ensures.answer c.if-not-cleared.true
 
 pub claim-seen-requires : goal.claim-seen-requires
 claim-seen-requires g c =
-    asks_claim c.requires.0 c.args.index c.requires.1 c.requires.2 c.args.self.now c.args.pending.now c.args.refused.now c.args.detect.now
-    (g.M.Medium.holds c.args.medium.now) c.requires.3 c.if-self-eq0.false
+    asks_claim c.requires.0 c.args.index c.requires.1 c.requires.2 c.args.self.now c.args.pending.now
+    c.args.refused.now c.args.detect.now (g.M.Medium.holds c.args.medium.now) c.requires.3 c.if-self-eq0.false
     c.edge-edge.result c.cell-cell.result c.edge-edge.ensures c.cell-cell.ensures.cell
     (g.M.Medium.holds c.clear-looked.new.self) c.clear-looked.result c.clear-looked.ensures c.cleared.new.self
     c.cleared.ensures.after c.cleared.result c.cleared.ensures.answer c.unwrap-words.result
@@ -33,8 +33,8 @@ claim-seen-requires g c =
 
 pub claimed-requires-clause-word : goal.claimed-requires-clause-word
 claimed-requires-clause-word g c =
-    (fits_claim c.requires.0 c.args.index c.requires.1 c.requires.2 c.args.self.now c.args.pending.now c.args.refused.now c.args.detect.now
-    (g.M.Medium.holds c.args.medium.now) c.requires.3 c.if-self-eq0.false
+    (fits_claim c.requires.0 c.args.index c.requires.1 c.requires.2 c.args.self.now c.args.pending.now
+    c.args.refused.now c.args.detect.now (g.M.Medium.holds c.args.medium.now) c.requires.3 c.if-self-eq0.false
     c.edge-edge.result c.cell-cell.result c.edge-edge.ensures c.cell-cell.ensures.cell
     (g.M.Medium.holds c.clear-looked.new.self) c.clear-looked.result c.clear-looked.ensures c.cleared.new.self
     c.cleared.ensures.after c.cleared.result c.cleared.ensures.answer c.unwrap-words.result
@@ -43,8 +43,8 @@ claimed-requires-clause-word g c =
 
 pub claimed-requires-clause-count : goal.claimed-requires-clause-count
 claimed-requires-clause-count g c =
-    let fits = fits_claim c.requires.0 c.args.index c.requires.1 c.requires.2 c.args.self.now c.args.pending.now c.args.refused.now c.args.detect.now
-    (g.M.Medium.holds c.args.medium.now) c.requires.3 c.if-self-eq0.false
+    let fits = fits_claim c.requires.0 c.args.index c.requires.1 c.requires.2 c.args.self.now c.args.pending.now
+    c.args.refused.now c.args.detect.now (g.M.Medium.holds c.args.medium.now) c.requires.3 c.if-self-eq0.false
     c.edge-edge.result c.cell-cell.result c.edge-edge.ensures c.cell-cell.ensures.cell
     (g.M.Medium.holds c.clear-looked.new.self) c.clear-looked.result c.clear-looked.ensures c.cleared.new.self
     c.cleared.ensures.after c.cleared.result c.cleared.ensures.answer c.unwrap-words.result
@@ -54,8 +54,8 @@ claimed-requires-clause-count g c =
 
 pub overflow_add-refused : goal.overflow_add-refused
 overflow_add-refused g c =
-    let few = (has_room c.requires.0 c.args.index c.requires.1 c.requires.2 c.args.self.now c.args.pending.now c.args.refused.now c.args.detect.now
-    (g.M.Medium.holds c.args.medium.now) c.requires.3 c.if-self-eq0.false
+    let few = (has_room c.requires.0 c.args.index c.requires.1 c.requires.2 c.args.self.now c.args.pending.now
+    c.args.refused.now c.args.detect.now (g.M.Medium.holds c.args.medium.now) c.requires.3 c.if-self-eq0.false
     c.edge-edge.result c.cell-cell.result c.edge-edge.ensures c.cell-cell.ensures.cell
     (g.M.Medium.holds c.clear-looked.new.self) c.clear-looked.result c.clear-looked.ensures c.cleared.new.self
     c.cleared.ensures.after c.cleared.result c.cleared.ensures.answer c.unwrap-words.result
@@ -64,8 +64,8 @@ overflow_add-refused g c =
 
 pub returns-in_default-clause-moves : goal.returns-in_default-clause-moves
 returns-in_default-clause-moves g c =
-    λ a apart below meets. is_refused a c.args.index apart below c.args.self.now c.args.pending.now c.args.refused.now c.args.detect.now
-    (g.M.Medium.holds c.args.medium.now) meets c.if-self-eq0.false
+    λ a apart below meets. is_refused a c.args.index apart below c.args.self.now c.args.pending.now c.args.refused.now
+    c.args.detect.now (g.M.Medium.holds c.args.medium.now) meets c.if-self-eq0.false
     c.edge-edge.result c.cell-cell.result c.edge-edge.ensures c.cell-cell.ensures.cell
     (g.M.Medium.holds c.clear-looked.new.self) c.clear-looked.result c.clear-looked.ensures c.cleared.new.self
     c.cleared.ensures.after c.cleared.result c.cleared.ensures.answer c.unwrap-words.result
@@ -75,8 +75,8 @@ returns-in_default-clause-moves g c =
 
 pub overflow_sub-pending : goal.overflow_sub-pending
 overflow_sub-pending g c =
-    let enough = (fits_claim c.requires.0 c.args.index c.requires.1 c.requires.2 c.args.self.now c.args.pending.now c.args.refused.now c.args.detect.now
-    (g.M.Medium.holds c.args.medium.now) c.requires.3 c.if-self-eq0.false
+    let enough = (fits_claim c.requires.0 c.args.index c.requires.1 c.requires.2 c.args.self.now c.args.pending.now
+    c.args.refused.now c.args.detect.now (g.M.Medium.holds c.args.medium.now) c.requires.3 c.if-self-eq0.false
     c.edge-edge.result c.cell-cell.result c.edge-edge.ensures c.cell-cell.ensures.cell
     (g.M.Medium.holds c.clear-looked.new.self) c.clear-looked.result c.clear-looked.ensures c.cleared.new.self
     c.cleared.ensures.after c.cleared.result c.cleared.ensures.answer c.unwrap-words.result
@@ -85,8 +85,8 @@ overflow_sub-pending g c =
 
 pub sent_at-requires-clause-slot : goal.sent_at-requires-clause-slot
 sent_at-requires-clause-slot g c =
-    slot_in_books c.requires.0 c.args.index c.requires.1 c.requires.2 c.args.self.now c.args.pending.now c.args.refused.now c.args.detect.now
-    (g.M.Medium.holds c.args.medium.now) c.requires.3 c.if-self-eq0.false
+    slot_in_books c.requires.0 c.args.index c.requires.1 c.requires.2 c.args.self.now c.args.pending.now
+    c.args.refused.now c.args.detect.now (g.M.Medium.holds c.args.medium.now) c.requires.3 c.if-self-eq0.false
     c.edge-edge.result c.cell-cell.result c.edge-edge.ensures c.cell-cell.ensures.cell
     (g.M.Medium.holds c.clear-looked.new.self) c.clear-looked.result c.clear-looked.ensures c.cleared.new.self
     c.cleared.ensures.after c.cleared.result c.cleared.ensures.answer c.unwrap-words.result
@@ -94,8 +94,8 @@ sent_at-requires-clause-slot g c =
 
 pub sent_at-requires-clause-room : goal.sent_at-requires-clause-room
 sent_at-requires-clause-room g c =
-    (has_room c.requires.0 c.args.index c.requires.1 c.requires.2 c.args.self.now c.args.pending.now c.args.refused.now c.args.detect.now
-    (g.M.Medium.holds c.args.medium.now) c.requires.3 c.if-self-eq0.false
+    (has_room c.requires.0 c.args.index c.requires.1 c.requires.2 c.args.self.now c.args.pending.now c.args.refused.now
+    c.args.detect.now (g.M.Medium.holds c.args.medium.now) c.requires.3 c.if-self-eq0.false
     c.edge-edge.result c.cell-cell.result c.edge-edge.ensures c.cell-cell.ensures.cell
     (g.M.Medium.holds c.clear-looked.new.self) c.clear-looked.result c.clear-looked.ensures c.cleared.new.self
     c.cleared.ensures.after c.cleared.result c.cleared.ensures.answer c.unwrap-words.result
@@ -104,8 +104,8 @@ sent_at-requires-clause-room g c =
 
 pub put-stored-requires : goal.put-stored-requires
 put-stored-requires g c =
-    asks_put c.requires.0 c.args.index c.requires.1 c.requires.2 c.args.self.now c.args.pending.now c.args.refused.now c.args.detect.now
-    (g.M.Medium.holds c.args.medium.now) c.requires.3 c.if-self-eq0.false
+    asks_put c.requires.0 c.args.index c.requires.1 c.requires.2 c.args.self.now c.args.pending.now c.args.refused.now
+    c.args.detect.now (g.M.Medium.holds c.args.medium.now) c.requires.3 c.if-self-eq0.false
     c.edge-edge.result c.cell-cell.result c.edge-edge.ensures c.cell-cell.ensures.cell
     (g.M.Medium.holds c.clear-looked.new.self) c.clear-looked.result c.clear-looked.ensures c.cleared.new.self
     c.cleared.ensures.after c.cleared.result c.cleared.ensures.answer c.unwrap-words.result
@@ -116,8 +116,8 @@ put-stored-requires g c =
 
 pub returns-clause-moves : goal.returns-clause-moves
 returns-clause-moves g c =
-    λ a apart below meets. is_sent a c.args.index apart below c.args.self.now c.args.pending.now c.args.refused.now c.args.detect.now
-    (g.M.Medium.holds c.args.medium.now) meets c.if-self-eq0.false
+    λ a apart below meets. is_sent a c.args.index apart below c.args.self.now c.args.pending.now c.args.refused.now
+    c.args.detect.now (g.M.Medium.holds c.args.medium.now) meets c.if-self-eq0.false
     c.edge-edge.result c.cell-cell.result c.edge-edge.ensures c.cell-cell.ensures.cell
     (g.M.Medium.holds c.clear-looked.new.self) c.clear-looked.result c.clear-looked.ensures c.cleared.new.self
     c.cleared.ensures.after c.cleared.result c.cleared.ensures.answer c.unwrap-words.result

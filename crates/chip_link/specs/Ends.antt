@@ -31,6 +31,10 @@ may_clear t = (is_none t.held && not t.refused) && nat_lt t.claims (2 ^ 62)
 abbrev pub tail_after_clear : ℕ → TailState → TailState
 tail_after_clear cell t = if may_clear t then record t { clear = cell == 0 } else t
 
+-- the place that may be claimed next where this is in its cell
+abbrev pub place_for : ℕ → TailState → Option ℕ
+place_for cell t = if may_clear t && cell == 0 then Some t.claims else None
+
 -- the word that a claim expects and the word that it leaves, once the cell was seen empty
 abbrev pub claim_words : TailState → Option (ℕ × ℕ)
 claim_words t = if t.clear then Some (t.claims, t.claims + 1) else None

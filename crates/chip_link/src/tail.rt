@@ -1,7 +1,7 @@
-ghost use Rattle.std.specs.Prelude.{◌≡◌, ℕ, ◌^◌, ◌<◌, ◌≤◌, ◌&&◌, ◌==◌, ◌↔◌, IsTrue, IsNone, IfSome};
+ghost use Rattle.std.specs.Prelude.{◌≡◌, ℕ, ◌^◌, ◌<◌, ◌≤◌, ◌&&◌, ◌==◌, ◌↔◌, IsTrue, IsNone, IsSome, IfSome};
 ghost use Rattle.chip_link.specs.Words.{claims_in, is_sealed_in};
 ghost use Rattle.chip_link.specs.Ends.{TailState, new_tail, tail_cell, may_clear, tail_after_clear, claim_words};
-ghost use Rattle.chip_link.specs.Ends.{tail_after_claim, message_claimed, put_of, tail_after_put, max_count};
+ghost use Rattle.chip_link.specs.Ends.{tail_after_claim, message_claimed, put_of, tail_after_put, max_count, place_for};
 
 use crate::message::Message;
 use crate::ring::Ring;
@@ -130,7 +130,7 @@ impl TailLink {
             return None;
         }
         let place = self.claims;
-        self.claims += 1;
+        self.claims = place + 1;
         self.cell = self.ring.after(self.cell);
         self.count = count;
         self.stage = Stage::Held;
@@ -139,6 +139,32 @@ impl TailLink {
             place,
             count,
         })
+    }
+
+    /// The place that may be claimed next where this is in the cell of that place. `None` where no claim may follow.
+    /// Nothing is noted.
+    pub fn place_for(&self, old_cell: u64) -> Option<u64>
+        ensures place { result ≡ place_for old_cell self.now }
+        ensures small { IfSome result (λ place. place < 2 ^ 62) }
+    {
+        match self.stage {
+            Stage::Idle | Stage::Clear if old_cell == 0 && self.claims < MOST_CLAIMS => {
+                Some(self.claims)
+            }
+            _ => None,
+        }
+    }
+
+    /// Notes a whole send at once: the cell of the next place was seen empty, the place is claimed, and the message is
+    /// put into the cell.
+    pub fn sent(&mut self)
+        requires { IsSome (place_for 0 self.old) }
+        ensures { (count : ℕ)
+            → self.new ≡ tail_after_put (tail_after_claim self.old.claims count (tail_after_clear 0 self.old)) }
+    {
+        self.claims += 1;
+        self.cell = self.ring.after(self.cell);
+        self.stage = Stage::Idle;
     }
 
     /// The cell and the value of the message that is claimed and not put. `None` where there is none.

@@ -188,6 +188,15 @@ impl Detect {
         more
     }
 
+    /// How many acknowledgements of the edge at this slot of those out of the vertex are settled so far.
+    pub fn settled_so_far(&self, slot: Slot) -> u64
+        requires { IsSlotOf (out_edges self.now) slot }
+        ensures count { result ≡ settled_of self.now slot.edge }
+        ensures sound { IsSound self.now }
+    {
+        self.outs.answered_at(slot)
+    }
+
     /// How many acknowledgements the vertex waits for, in constant time.
     pub fn deficit(&self) -> u64
         ensures { result ≡ deficit self.now }

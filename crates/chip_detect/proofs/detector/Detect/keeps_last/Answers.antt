@@ -1,6 +1,6 @@
 use Rattle.std.proofs.Common.{◌≡◌, ◌∙◌, sym, ap, subst, arith}
 use Rattle.std.proofs.lemmas.Bool.Decides.{nat_tests}
-use Rattle.chip_detect.specs.Books.{Books, IsSound, all_owed, deficit}
+use Rattle.chip_detect.specs.Books.{Books, IsSound, all_owed}
 use Rattle.chip_detect.proofs.SoundnessLemmas.{last_is_kept}
 use Rattle.chip_detect.proofs.detector.Detect.keeps_last.Goals as goal
 use Rattle.chip_detect.proofs.detector.Detect.keeps_last.Goals.{then-passive, else-passive}

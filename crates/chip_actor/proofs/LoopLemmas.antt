@@ -1,7 +1,7 @@
 -- Serves Medium.antt, Actor.antt, Ends.antt.
 -- What the loops of a turn do at one edge: what the calls there ask, and how the turn goes on.
-use Rattle.std.proofs.Common.{◌≡◌, ◌≢◌, ℕ, ◌+◌, ◌-◌, ◌^◌, ◌<◌, ◌≤◌, Bool, ltb, List, length, get_or, set}
-use Rattle.std.proofs.Common.{Some, None, refl, sym, ap, ◌∙◌, subst, arith, lt-ltb, le-ltb}
+use Rattle.std.proofs.Common.{◌≡◌, ◌≢◌, ℕ, ◌+◌, ◌-◌, ◌^◌, ◌<◌, ◌≤◌, Bool, true, false, cond, eqb, ltb, List, length, get_or, set}
+use Rattle.std.proofs.Common.{Some, None, refl, sym, ap, ◌∙◌, subst, arith, lt-ltb}
 use Rattle.chip_link.specs.declared.message.Message.{Message}
 use Rattle.chip_link.specs.Ends.{HeadState, head_cell, head_after_take, message_taken}
 use Rattle.chip_detect.specs.Tally.{message_limit}
@@ -70,6 +70,18 @@ in_at_index H a x is index edge end meets here =
 
 -- ---- settles
 
+-- where nothing is new the books are as they were
+settles_none : (b : Books) (e : ℕ) → Settles b b e 0
+settles_none b e = record {
+  ins = refl;
+  outs = record { edges = refl; messages = λ i. refl; answered = λ i. none (settled_of b i) (eqb e i) };
+  parent = refl;
+}
+  where
+    none : (n : ℕ) (here : Bool) → n ≡ cond here (n + 0) n
+    none n true = omega arith
+    none n false = refl
+
 -- acknowledgements never outnumber messages, as the actor's books have them
 settle_within : (a : Actor) (e seen : ℕ) → SomePart a (λ g s. CanDo g s a.vertex (Settle e) seen)
     → (settled_of a.detect e ≤ seen) × (seen ≤ sent_of a.detect e)
@@ -99,6 +111,13 @@ module _ (H : Holding) (a : Actor) (os : OutEnds) (index edge : ℕ) (end : OutE
         (can_do H K a (At.Settle index) (At.Settle (index + 1)) (Do.Settle edge) (Settle edge) seen meets settle_due
         serves)
 
+    pub settle_past : seen ≡ settled_of a.detect edge → IsSound a.detect
+        → Moves H a (At.Settle index) K a (At.Settle (index + 1)) 0
+    settle_past same sound = moves_one H K a a (At.Settle index) (At.Settle (index + 1)) (Do.Settle edge) (Settle edge)
+        seen _ 0 settle_due serves
+        (settle_made a edge seen 0 a.detect (let z : 0 ≡ seen - settled_of a.detect edge = omega arith in z)
+        (settles_none a.detect edge) sound) refl
+
     pub settle_moves : (more : ℕ) (b : Books) → more ≡ seen - settled_of a.detect edge
         → Settles a.detect b edge more → IsSound b
         → Moves H a (At.Settle index) K (record a { detect = b }) (At.Settle (index + 1)) (one_if (ltb 0 more))
@@ -109,10 +128,6 @@ module _ (H : Holding) (a : Actor) (os : OutEnds) (index edge : ℕ) (end : OutE
 -- what is settled counts where it is something new
 pub counts_more : (n work : ℕ) → 0 < n → work + 1 ≡ work + one_if (ltb 0 n)
 counts_more n work some = ap (λ (b : Bool). work + one_if b) (sym (lt-ltb 0 n some))
-
-pub counts_none : (n work : ℕ) → n ≤ 0 → work ≡ work + one_if (ltb 0 n)
-counts_none n work none = (let z : work ≡ work + 0 = omega arith in z)
-    ∙ ap (λ (b : Bool). work + one_if b) (sym (le-ltb 0 n none))
 
 -- ---- acknowledgements
 

@@ -6,11 +6,12 @@ use mathlib.Core.Logic.{dite}
 use native.Mathlib.Decide.{ℕ_discrete}
 use Rattle.chip_graph.proofs.SumLemmas.{cond_yes, cond_no, cond_false}
 use Rattle.std.proofs.Common.{Some, None, IsTrue, refl, sym, ap, ◌∙◌, subst, arith, length-set}
+use Rattle.std.proofs.lemmas.Bool.{false≢true, eqb-true}
 use Rattle.std.proofs.lemmas.List.{get_or-set_same, set-set}
 use Rattle.chip_link.specs.declared.message.Message.{Message}
 use Rattle.chip_link.specs.Words.{claims_in}
 use Rattle.chip_link.specs.Ends.{TailState, tail_cell, may_clear, tail_after_clear, claim_words, tail_after_claim}
-use Rattle.chip_link.specs.Ends.{message_claimed, put_of, tail_after_put}
+use Rattle.chip_link.specs.Ends.{message_claimed, put_of, tail_after_put, place_for}
 use Rattle.chip_detect.specs.Tally.{message_limit}
 use Rattle.chip_detect.specs.Books.{Books, IsSound, out_edges, sent_of}
 use Rattle.chip_detect.specs.Steps.{Sends}
@@ -248,6 +249,74 @@ stored_where_looked t t1 t2 seen word count m looked claimed told =
         let o : Option (ℕ × ℕ) = Some (tail_cell u, count) in o) ≡ Some (tail_cell t, count)
     by_look true = refl
     by_look false = refl
+
+-- a place that may be claimed: the look counts, and found the cell empty
+place_told : (t : TailState) (looked place : ℕ) → Some place ≡ place_for looked t
+    → ((may_clear t && eqb looked 0) ≡ true) × (place ≡ t.claims)
+place_told t looked place is-place = by_test (may_clear t && eqb looked 0) is-place
+  where
+    by_test : (b : Bool) → Some place ≡ (let o : Option ℕ = cond b (Some t.claims) None in o)
+        → (b ≡ true) × (place ≡ t.claims)
+    by_test true is = (refl, cc)
+    by_test false is = absurd (cc)
+
+-- without one the look doesn't count, or found the cell full
+pub no_place : (t : TailState) (looked : ℕ) → None ≡ place_for looked t → (may_clear t && eqb looked 0) ≡ false
+no_place t looked is-place = by_test (may_clear t && eqb looked 0) is-place
+  where
+    by_test : (b : Bool) → None ≡ (let o : Option ℕ = cond b (Some t.claims) None in o) → b ≡ false
+    by_test true is = absurd (cc)
+    by_test false is = refl
+
+-- the look, by its two tests
+abbrev looked_by : Bool → Bool → TailState → TailState
+looked_by may empty t = cond may (record t { clear = empty }) t
+
+both_true : (m e : Bool) → (m && e) ≡ true → (m ≡ true) × (e ≡ true)
+both_true true e is = (refl, is)
+both_true false e is = absurd (false≢true is)
+
+-- after such a look it is clear
+place_clear : (t : TailState) (looked place : ℕ) → Some place ≡ place_for looked t
+    → tail_after_clear looked t ≡ record t { clear = true }
+place_clear t looked place is-place =
+    let both = both_true (may_clear t) (eqb looked 0) (place_told t looked place is-place).0 in
+    λ i. looked_by (both.0 i) (both.1 i) t
+
+-- then the words of a claim follow
+pub place_words : (t : TailState) (looked place : ℕ) → Some place ≡ place_for looked t
+    → Some (place, place + 1) ≡ claim_words (tail_after_clear looked t)
+place_words t looked place is-place =
+    ap (λ (n : ℕ). let o : Option (ℕ × ℕ) = Some (n, n + 1) in o) (place_told t looked place is-place).1
+    ∙ sym (ap claim_words (place_clear t looked place is-place))
+
+-- a claim that saw this place sends a message
+pub place_message : (t : TailState) (looked place word count : ℕ) → Some place ≡ place_for looked t → word ≡ place
+    → (m : Message) × (Some m ≡ message_claimed word count (tail_after_clear looked t))
+place_message t looked place word count is-place same =
+    let m : Message = record { edge = t.edge; place = t.claims; count = count } in (
+      m,
+      sym (ap (message_claimed word count) (place_clear t looked place is-place)
+          ∙ cond_yes word t.claims (Some m) None (same ∙ (place_told t looked place is-place).1)),
+    )
+
+-- and one that saw another word is refused
+pub place_refused : (t : TailState) (looked place word count : ℕ) → Some place ≡ place_for looked t → word ≢ place
+    → None ≡ message_claimed word count (tail_after_clear looked t)
+place_refused t looked place word count is-place other =
+    let m : Message = record { edge = t.edge; place = t.claims; count = count } in
+    sym (ap (message_claimed word count) (place_clear t looked place is-place)
+    ∙ cond_no word t.claims (Some m) None (λ z. other (z ∙ sym (place_told t looked place is-place).1)))
+
+-- a whole send at once is what its three steps come to
+pub sent_is : (t v : TailState) (looked place word count : ℕ) → Some place ≡ place_for looked t → word ≡ place
+    → ((k : ℕ) → v ≡ tail_after_put (tail_after_claim t.claims k (tail_after_clear 0 t)))
+    → v ≡ tail_after_put (tail_after_claim word count (tail_after_clear looked t))
+sent_is t v looked place word count is-place same after =
+    let is = place_told t looked place is-place in
+    let empty : looked ≡ 0 = eqb-true looked 0 (both_true (may_clear t) (eqb looked 0) is.0).1 in
+    let here : word ≡ t.claims = same ∙ is.1 in
+    after count ∙ (λ i. tail_after_put (tail_after_claim (sym here i) count (tail_after_clear (sym empty i) t)))
 
 -- ---- a whole send
 

@@ -28,7 +28,9 @@ impl ActorState {
         }
     }
 
-    // What is due at a cursor, with the cursor after it; nothing at the end of the turn.
+    // What is due at a cursor, with the cursor after it; nothing at the end of the turn. A turn over a medium seldom comes
+    // here, so that its loops have the registers.
+    #[cold]
     pub(crate) fn due(&self, cursor: Cursor) -> Option<(Event, Cursor)>
         requires { MayBeAt self.now cursor }
         ensures { DueAt self.now cursor result }

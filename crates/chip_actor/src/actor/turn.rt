@@ -37,10 +37,14 @@ impl ActorState {
         let mut work = 0;
         for (index, out) in self.outs.ends().iter().enumerate() {
             let edge = out.link.edge();
+            let slot = Slot { index, edge };
             let seen = medium.settle(edge);
-            if detect.settled_at(Slot { index, edge }, seen) > 0 {
-                work += 1;
+            // (mostly nothing is new)
+            if seen == detect.settled_so_far(slot) {
+                continue;
             }
+            let _more = detect.settled_at(slot, seen);
+            work += 1;
         }
         work
     }

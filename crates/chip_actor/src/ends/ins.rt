@@ -116,7 +116,8 @@ impl Ins {
         ensures { IfOk result (λ ins. IsFreshIns graph.now ring vertex ins) }
     {
         let numbers = graph.ins(vertex);
-        let mut edges = Vec::from_slice(alloc, numbers)?;
+        let mut edges = Vec::with_capacity(alloc, numbers.len() + 1)?;
+        edges.extend_from_slice(numbers)?;
         edges.push(graph.edges().len() as u64 + vertex)?;
         let mut ends = Vec::with_capacity(alloc, edges.len())?;
         for &edge in &edges {

@@ -43,21 +43,23 @@ impl OutEnd {
         let edge = self.link.edge();
         let cell = self.link.cell();
         let looked = medium.clear(edge, cell);
-        if !self.link.cleared(looked) {
+        let Some(place) = self.link.place_for(looked) else {
+            let _is_clear = self.link.cleared(looked);
             return Some(0);
-        }
-        let words = self.link.claim_next().unwrap();
-        let seen = medium.claim(edge, words.0, words.1);
+        };
+        let seen = medium.claim(edge, place, place + 1);
         let count = self.pending;
-        let Some(_message) = self.link.claimed(seen, count) else {
+        if seen != place {
+            let _is_clear = self.link.cleared(looked);
+            let _message = self.link.claimed(seen, count);
             *refused += 1;
             return None;
-        };
+        }
+        self.link.sent();
         self.pending = 0;
         *pending -= count;
         detect.sent_at(Slot { index, edge });
         let _stored = medium.put(edge, cell, count);
-        let _held = self.link.put_value();
         Some(2)
     }
 }

@@ -8,9 +8,9 @@ use Rattle.chip_actor.specs.Medium.{Meets, Moves}
 use Rattle.chip_actor.proofs.MediumLemmas.{moves_none, moves_on, meets_after, then_over, one_if, one_few}
 use Rattle.chip_actor.proofs.TurnOverLemmas.{settles_end}
 use Rattle.chip_actor.proofs.LoopLemmas.{FoundOut, settle_asks, settle_in_books, settle_fits, settle_moves}
-use Rattle.chip_actor.proofs.LoopLemmas.{counts_more, counts_none}
+use Rattle.chip_actor.proofs.LoopLemmas.{settle_past, counts_more}
 use Rattle.chip_actor.proofs.actor.ActorState.settle_all.Goals as goal
-use Rattle.chip_actor.proofs.actor.ActorState.settle_all.Goals.{At-loop-index, then-settled_at-gt0, else-settled_at-gt0}
+use Rattle.chip_actor.proofs.actor.ActorState.settle_all.Goals.{At-loop-index}
 use Rattle.chip_actor.proofs.actor.ActorState.settle_all.Given.{Over}
 
 pub loop-index-init : goal.loop-index-init
@@ -59,42 +59,72 @@ settle-seen-requires g c =
     c.out-item.result (meets g d) (here g d c.edge-edge.result c.out-item.result c.loop-index-test.true c.out-item.is
     c.edge-edge.ensures)
 
-pub settled_at-requires-clause-slot : goal.settled_at-requires-clause-slot
-settled_at-requires-clause-slot g c =
-    let d = (goal.at.settled_at-requires-clause-slot g c).At-loop-index in
+pub settled_at-more-requires-clause-slot : goal.settled_at-more-requires-clause-slot
+settled_at-more-requires-clause-slot g c =
+    let d = (goal.at.settled_at-more-requires-clause-slot g c).At-loop-index in
     settle_in_books (g.M.Medium.holds c.loop-index.medium) (now g d) (ends g d) c.loop-index.index c.edge-edge.result
     c.out-item.result (meets g d) (here g d c.edge-edge.result c.out-item.result c.loop-index-test.true c.out-item.is
     c.edge-edge.ensures)
 
-pub settled_at-requires-clause-no_fewer : goal.settled_at-requires-clause-no_fewer
-settled_at-requires-clause-no_fewer g c =
-    let d = (goal.at.settled_at-requires-clause-no_fewer g c).At-loop-index in
+pub settled_at-more-requires-clause-no_fewer : goal.settled_at-more-requires-clause-no_fewer
+settled_at-more-requires-clause-no_fewer g c =
+    let d = (goal.at.settled_at-more-requires-clause-no_fewer g c).At-loop-index in
     (settle_fits (g.M.Medium.holds c.loop-index.medium) (now g d) (ends g d) c.loop-index.index c.edge-edge.result
     c.out-item.result (meets g d) (here g d c.edge-edge.result c.out-item.result c.loop-index-test.true c.out-item.is
     c.edge-edge.ensures) (g.M.Medium.holds c.settle-seen.new.self) c.settle-seen.result c.settle-seen.ensures).0
 
-pub settled_at-requires-clause-sent : goal.settled_at-requires-clause-sent
-settled_at-requires-clause-sent g c =
-    let d = (goal.at.settled_at-requires-clause-sent g c).At-loop-index in
+pub settled_at-more-requires-clause-sent : goal.settled_at-more-requires-clause-sent
+settled_at-more-requires-clause-sent g c =
+    let d = (goal.at.settled_at-more-requires-clause-sent g c).At-loop-index in
     (settle_fits (g.M.Medium.holds c.loop-index.medium) (now g d) (ends g d) c.loop-index.index c.edge-edge.result
     c.out-item.result (meets g d) (here g d c.edge-edge.result c.out-item.result c.loop-index-test.true c.out-item.is
     c.edge-edge.ensures) (g.M.Medium.holds c.settle-seen.new.self) c.settle-seen.result c.settle-seen.ensures).1
 
-pub loop-index-preserved : goal.loop-index-preserved
-loop-index-preserved g c =
-    let d = (goal.at.loop-index-preserved g c).At-loop-index in
-    let after : Actor = record c.args.self.now { detect = c.settled_at.new.self } in
-    let counted : c.if-settled_at-gt0.work ≡ c.loop-index.work + one_if (ltb 0 c.settled_at.result)
-    = elim c.if-settled_at-gt0.branch [
-      | then-settled_at-gt0 w ↦ w.work-is ∙ counts_more c.settled_at.result c.loop-index.work w.if-settled_at-gt0.true
-      | else-settled_at-gt0 w ↦ w.work-is ∙ counts_none c.settled_at.result c.loop-index.work w.if-settled_at-gt0.false
-    ] in
-    let few = one_few (one_if (ltb 0 c.settled_at.result)) (ltb 0 c.settled_at.result) refl in
+pub settled_so_far-requires : goal.settled_so_far-requires
+settled_so_far-requires g c =
+    let d = (goal.at.settled_so_far-requires g c).At-loop-index in
+    settle_in_books (g.M.Medium.holds c.loop-index.medium) (now g d) (ends g d) c.loop-index.index c.edge-edge.result
+    c.out-item.result (meets g d) (here g d c.edge-edge.result c.out-item.result c.loop-index-test.true c.out-item.is
+    c.edge-edge.ensures)
+
+pub loop-index-preserved-then-seen-settled_so_far : goal.loop-index-preserved-then-seen-settled_so_far
+loop-index-preserved-then-seen-settled_so_far g c =
+    let d = (goal.at.loop-index-preserved-then-seen-settled_so_far g c).At-loop-index in
     record {
       few = (let f = c.loop-index.invariant.few in omega arith);
       moved = subst
           (λ (n : ℕ). Moves (g.M.Medium.holds c.args.medium.now) c.args.self.now (At.Settle 0)
-          (g.M.Medium.holds c.settle-seen.new.self) after (At.Settle (c.loop-index.index + 1)) n) (sym counted)
+          (g.M.Medium.holds c.settle-seen.new.self) (now g d) (At.Settle (c.loop-index.index + 1)) n)
+          (let z : c.loop-index.work + 0 ≡ c.loop-index.work = omega arith in z)
+          (moves_on (g.M.Medium.holds c.args.medium.now) (g.M.Medium.holds c.loop-index.medium)
+          (g.M.Medium.holds c.settle-seen.new.self) c.args.self.now (now g d) (now g d) (At.Settle 0)
+          (At.Settle c.loop-index.index) (At.Settle (c.loop-index.index + 1)) c.loop-index.work 0
+          c.loop-index.invariant.moved
+          (settle_past (g.M.Medium.holds c.loop-index.medium) (now g d) (ends g d) c.loop-index.index
+          c.edge-edge.result c.out-item.result (meets g d) (here g d c.edge-edge.result c.out-item.result
+          c.loop-index-test.true c.out-item.is c.edge-edge.ensures) (g.M.Medium.holds c.settle-seen.new.self)
+          c.settle-seen.result c.settle-seen.ensures
+          (c.if-seen-settled_so_far.true ∙ c.settled_so_far.ensures.count) c.settled_so_far.ensures.sound));
+    }
+
+pub loop-index-preserved : goal.loop-index-preserved
+loop-index-preserved g c =
+    let d = (goal.at.loop-index-preserved g c).At-loop-index in
+    let after : Actor = record c.args.self.now { detect = c.settled_at-more.new.self } in
+    let fits = settle_fits (g.M.Medium.holds c.loop-index.medium) (now g d) (ends g d) c.loop-index.index
+    c.edge-edge.result c.out-item.result (meets g d) (here g d c.edge-edge.result c.out-item.result
+    c.loop-index-test.true c.out-item.is c.edge-edge.ensures) (g.M.Medium.holds c.settle-seen.new.self)
+    c.settle-seen.result c.settle-seen.ensures in
+    let new : 0 < c.settled_at-more.result = (let more = c.settled_at-more.ensures.more in
+    let other = c.if-seen-settled_so_far.false in let so_far = c.settled_so_far.ensures.count in let le = fits.0 in
+    omega arith) in
+    let few = one_few (one_if (ltb 0 c.settled_at-more.result)) (ltb 0 c.settled_at-more.result) refl in
+    record {
+      few = (let f = c.loop-index.invariant.few in omega arith);
+      moved = subst
+          (λ (n : ℕ). Moves (g.M.Medium.holds c.args.medium.now) c.args.self.now (At.Settle 0)
+          (g.M.Medium.holds c.settle-seen.new.self) after (At.Settle (c.loop-index.index + 1)) n)
+          (sym (counts_more c.settled_at-more.result c.loop-index.work new))
           (moves_on (g.M.Medium.holds c.args.medium.now) (g.M.Medium.holds c.loop-index.medium)
           (g.M.Medium.holds c.settle-seen.new.self) c.args.self.now (now g d) after (At.Settle 0)
           (At.Settle c.loop-index.index) (At.Settle (c.loop-index.index + 1)) c.loop-index.work _
@@ -102,8 +132,8 @@ loop-index-preserved g c =
           (settle_moves (g.M.Medium.holds c.loop-index.medium) (now g d) (ends g d) c.loop-index.index
           c.edge-edge.result c.out-item.result (meets g d) (here g d c.edge-edge.result c.out-item.result
           c.loop-index-test.true c.out-item.is c.edge-edge.ensures) (g.M.Medium.holds c.settle-seen.new.self)
-          c.settle-seen.result c.settle-seen.ensures c.settled_at.result c.settled_at.new.self
-          c.settled_at.ensures.more c.settled_at.ensures.settles c.settled_at.ensures.sound));
+          c.settle-seen.result c.settle-seen.ensures c.settled_at-more.result c.settled_at-more.new.self
+          c.settled_at-more.ensures.more c.settled_at-more.ensures.settles c.settled_at-more.ensures.sound));
     }
 
 pub returns-clause-moves : goal.returns-clause-moves

@@ -53,6 +53,7 @@ impl Root {
 
     /// Feeds so many chips, 1 or more, to a vertex, and tells how many messages the root sent there before. Nothing
     /// waits: where the ring to the vertex is full, it says so, and a later try may go through.
+    #[cold]
     pub fn feed(&mut self, net: &Net, vertex: u64, count: u64) -> Result<u64, FeedFault>
         requires net { self.old.net ≡ net.now }
         requires vertex { vertex < self.old.net.setting.game.graph.vertices }
@@ -74,6 +75,7 @@ impl Root {
 
     /// Notes that nothing more is fed, and polls. Only then can the net close; where it was noted before, this is a
     /// poll.
+    #[cold]
     pub fn end(&mut self, net: &Net) -> RootState
         requires net { self.old.net ≡ net.now }
         ensures ends { Ends self.old self.new result }

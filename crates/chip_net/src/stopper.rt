@@ -61,6 +61,7 @@ impl Stopper {
     }
 
     /// Seals an edge of the graph: every further claim of it is refused.
+    #[cold]
     pub fn seal(&mut self, net: &Net, edge: u64) -> Result<SealedAt, NoEdge>
         requires net { self.old.net ≡ net.now }
         ensures same { self.new.net ≡ self.old.net }

@@ -2,20 +2,22 @@
 -- Where the run of a worker begins and ends, and what its turns leave of it.
 use Rattle.std.proofs.Common.{◌^◌, ◌≡◌, ℕ, zero, suc, ◌+◌, ◌%◌, ◌<◌, ◌≤◌, ◌-◌, ◌==◌, max, Bool, true, false, if◌then◌else◌, List, [], ◌∷◌, length}
 use Rattle.std.proofs.Common.{Option, Some, None, take, length-append, length-take}
-use Rattle.std.proofs.Common.{refl, sym, ap, ◌∙◌, subst, arith, add-one, mul-lt-mul_of_pos_right}
+use Rattle.std.proofs.Common.{◌++◌, get_or, set, refl, sym, ap, ◌∙◌, subst, arith, add-one, zero-add, mul-lt-mul_of_pos_right}
 use Rattle.std.proofs.Common.{mul_comm}
 use Rattle.std.specs.Prelude.{slice_get}
 use Rattle.std.proofs.lemmas.Nat.{mul-le}
-use Rattle.std.proofs.lemmas.List.{length-set}
+use Rattle.std.proofs.Math.Nat.{mod-add-mod, mod-eq_of_lt}
+use Rattle.std.proofs.lemmas.List.{length-set, set-append_left}
 use mathlib.Core.Logic.{dite}
 use native.Mathlib.Decide.{ℕ_discrete}
+use Rattle.std.proofs.lemmas.Option.{slice_get-get_or}
 use Rattle.chip_graph.specs.Sums.{filter_below}
 use Rattle.chip_graph.specs.Multigraph.{Multigraph, edge_at, edges_out, edges_in}
 use Rattle.chip_net.specs.Tokens.{ActorKnown, MakesTurn}
 use Rattle.chip_net.specs.declared.actor.Turn.{Turn}
 use Rattle.chip_crew.specs.Crew.{CrewId, IsAt, AreFrom}
 use Rattle.chip_crew.specs.Dealing.{ends_at, ends_before, IsCut, IsFirstOf, AreOf}
-use Rattle.chip_crew.specs.Rounds.{TurnsThere, TurnsAt, RoundsMade}
+use Rattle.chip_crew.specs.Rounds.{TurnsThere, TurnsAt, RoundsMade, TurnsInRow}
 use Rattle.chip_crew.proofs.RunLemmas.{from_at, from_set, from_take}
 
 -- at most so many are picked
@@ -141,11 +143,88 @@ still_of crew worker place old new turns are =
       each = turned crew are.from place old new (slice_get old place) refl turns are.each;
     }
 
--- one turn more
-pub rounds_more : (passes : ℕ → Type 0) (k : ℕ) (first before now : List ActorKnown) → RoundsMade passes k first before
-    → passes k → TurnsAt (k % max 1 (length before)) before now → RoundsMade passes (k + 1) first now
-rounds_more passes k first before now made pass turns =
-    subst (λ (n : ℕ). RoundsMade passes n first now) (sym (add-one k)) (before, made, pass, turns)
+-- ---- turns in a row
+
+-- the actor that stands there made its turn
+pub turn_at : (k i : ℕ) (actors : List ActorKnown) (d new : ActorKnown) (answer : Turn) → k ≡ i → i < length actors
+    → MakesTurn (get_or actors i d) new answer → TurnsAt k actors (set actors i new)
+turn_at k i actors d new answer same less turn =
+    subst (λ (o : Option ActorKnown). TurnsThere k o actors (set actors i new))
+    (sym (ap (slice_get actors) same ∙ slice_get-get_or actors i d less))
+    (new, answer, turn, ap (λ (j : ℕ). set actors j new) (sym same))
+
+-- where a round begins, the turns of it stand at their places
+pub place_is : (m k round : ℕ) → m % round ≡ 0 → k < round → (m + k) % round ≡ k
+place_is m k round begins less =
+    sym (mod-add-mod m round k) ∙ ap (λ (n : ℕ). (n + k) % round) begins
+    ∙ ap (λ (n : ℕ). n % round) (zero-add k) ∙ mod-eq_of_lt less
+
+get_first : (xs ys : List ActorKnown) (i : ℕ) → i < length xs → slice_get (xs ++ ys) i ≡ slice_get xs i
+get_first [] ys i less = absurd (omega (arith, less))
+get_first (x ∷ xs) ys zero less = refl
+get_first (x ∷ xs) ys (suc i) less = get_first xs ys i (omega (arith, less))
+
+turn_there : (place : ℕ) (next : Option ActorKnown) (old new rest : List ActorKnown) → place < length old
+    → TurnsThere place next old new → TurnsThere place next (old ++ rest) (new ++ rest)
+turn_there place None old new rest less same = ap (λ (l : List ActorKnown). l ++ rest) same
+turn_there place (Some next) old new rest less turn = (
+  turn.0,
+  turn.1,
+  turn.2,
+  ap (λ (l : List ActorKnown). l ++ rest) turn.3 ∙ sym (set-append_left old rest place turn.0 less),
+)
+
+-- a turn of one of the first actors is one of all
+turn_first : (place : ℕ) (old new rest : List ActorKnown) → place < length old → TurnsAt place old new
+    → TurnsAt place (old ++ rest) (new ++ rest)
+turn_first place old new rest less turn =
+    subst (λ (o : Option ActorKnown). TurnsThere place o (old ++ rest) (new ++ rest)) (sym (get_first old rest place less))
+    (turn_there place (slice_get old place) old new rest less turn)
+
+module _ (passes : ℕ → Type 0) (from : ℕ) where
+  pub row_many : (k : ℕ) (old now : List ActorKnown) → TurnsInRow passes from k old now → length now ≡ length old
+  row_many zero old now same = ap length same
+  row_many (suc k) old now row = as_many k row.0 now row.3 ∙ row_many k old row.0 row.1
+
+  -- one turn more
+  pub row_more : (k : ℕ) (old before now : List ActorKnown) → TurnsInRow passes from k old before → passes (from + k)
+      → TurnsAt k before now → TurnsInRow passes from (k + 1) old now
+  row_more k old before now row pass turn =
+      subst (λ (n : ℕ). TurnsInRow passes from n old now) (sym (add-one k)) (before, row, pass, turn)
+
+  -- turns of the first actors are turns of all
+  pub row_first : (k : ℕ) (old now rest : List ActorKnown) → k ≤ length old → TurnsInRow passes from k old now
+      → TurnsInRow passes from k (old ++ rest) (now ++ rest)
+  row_first zero old now rest few same = ap (λ (l : List ActorKnown). l ++ rest) same
+  row_first (suc k) old now rest few row =
+      let many = row_many k old row.0 row.1 in (
+        row.0 ++ rest,
+        row_first k old row.0 rest (omega (arith, few)) row.1,
+        row.2,
+        turn_first k row.0 now rest (omega (arith, few, many)) row.3,
+      )
+
+  -- after them the actors are the worker's still
+  pub row_of : (crew : CrewId) (worker k : ℕ) (old now : List ActorKnown) → TurnsInRow passes from k old now
+      → AreOf crew worker old → AreOf crew worker now
+  row_of crew worker zero old now same are = subst (AreOf crew worker) (sym same) are
+  row_of crew worker (suc k) old now row are = still_of crew worker k row.0 now row.3 (row_of crew worker k old row.0 row.1 are)
+
+  -- turns of a round that begins with them
+  pub round_more : (k : ℕ) (first old now : List ActorKnown) → RoundsMade passes from first old
+      → from % max 1 (length old) ≡ 0 → k ≤ max 1 (length old) → TurnsInRow passes from k old now
+      → RoundsMade passes (from + k) first now
+  round_more zero first old now made begins few same =
+      let here : from ≡ from + 0 = omega arith in
+      subst (λ (z : ℕ × List ActorKnown). RoundsMade passes z.0 first z.1) (λ i. (here i, sym same i)) made
+  round_more (suc k) first old now made begins few row =
+      let was = round_more k first old row.0 made begins (omega (arith, few)) row.1 in
+      let place : (from + k) % max 1 (length row.0) ≡ k =
+      ap (λ (n : ℕ). (from + k) % max 1 n) (row_many k old row.0 row.1)
+      ∙ place_is from k (max 1 (length old)) begins (omega (arith, few)) in
+      let next : suc (from + k) ≡ from + suc k = omega arith in
+      subst (λ (n : ℕ). RoundsMade passes n first now) next
+      (row.0, was, row.2, subst (λ (n : ℕ). TurnsAt n row.0 now) (sym place) row.3)
 
 -- ---- dealing
 

@@ -2,7 +2,6 @@
 -- What feeds, polls and the end leave of the root: what was fed, what may be fed still, and whether the end is noted.
 use Rattle.std.proofs.Common.{◌≡◌, ◌==◌, ℕ, zero, suc, ◌+◌, ◌-◌, ◌%◌, ◌<◌, Bool, true, false, List, [], ◌∷◌, ◌++◌, map}
 use Rattle.std.proofs.Common.{Some, None, All, sum, refl, sym, ap, ◌∙◌, subst, arith, append-nil, append_assoc, ⊎_elim}
-use Rattle.std.proofs.Common.{add-one}
 use Rattle.std.proofs.lemmas.List.Elements.{All-tail}
 use Rattle.std.proofs.lemmas.List.Sums.{sum_by-append}
 use Rattle.chip_graph.specs.More.{all_brought}
@@ -251,41 +250,6 @@ led_goes_on round (suc k) feeds left old now led =
     goes_on feeds led.0 left old led.1 now (led_goes_on round k feeds led.0 old led.1 led.3)
     (goes_on led.0 left left led.1 led.2 now (once_goes_on led.0 left led.1 led.2 led.4)
     (if_goes_on (suc k % round == 0) left led.2 now led.5))
-
--- ---- the root that is led
-
--- at the end of a round it was polled
-pub polled_at : (round k : ℕ) (old new : RootKnown) → (k % round == 0) ≡ true
-    → IsPolling old new old.net.setting.game.graph.vertices → PollsIf (k % round == 0) old new
-polled_at round k old new over polling = subst (λ (b : Bool). PollsIf b old new) (sym over) polling
-
--- before it was not
-pub unpolled_at : (round k : ℕ) (root : RootKnown) → (k % round == 0) ≡ false → PollsIf (k % round == 0) root root
-unpolled_at round k root on = subst (λ (b : Bool). PollsIf b root root) (sym on) refl
-
--- one turn more, with a feed before it, and a poll after it if that is due
-pub led_more : (round k : ℕ) (feeds rest left : Left) (old before fed now : RootKnown) → IsLed round k feeds old rest before
-    → FeedsOnce rest left before fed → PollsIf ((k + 1) % round == 0) fed now → IsLed round (k + 1) feeds old left now
-led_more round k feeds rest left old before fed now led once polls =
-    subst (λ (n : ℕ). IsLed round n feeds old left now) (sym (add-one k))
-    (rest, before, fed, led, once, subst (λ (n : ℕ). PollsIf (n % round == 0) fed now) (add-one k) polls)
-
-pub may_more : (due : Bool) (rest left : Left) (before fed now : RootKnown) → MayFeedLeft before rest
-    → FeedsOnce rest left before fed → PollsIf due fed now → MayFeedLeft now left
-may_more due rest left before fed now may once polls =
-    (if_goes_on due left fed now polls).may ((once_goes_on rest left before fed once).may may)
-
--- after so many turns something is left, which may be fed
-pub record OnTheWay (round : ℕ) (feeds : Left) (old : RootKnown) (turns : ℕ) (root : RootKnown) : Type 0 where
-  pub left : Left
-  pub led : IsLed round turns feeds old left root
-  pub may : MayFeedLeft root left
-
-pub still_there : (round : ℕ) (feeds left : Left) (old here now : RootKnown) (j k : ℕ) → IsLed round j feeds old left here
-    → MayFeedLeft here left → k ≡ j → now ≡ here → OnTheWay round feeds old k now
-still_there round feeds left old here now j k led may count is =
-    subst (λ (n : ℕ). OnTheWay round feeds old n now) (sym count) (subst (λ (r : RootKnown). OnTheWay round feeds old j r) (sym is)
-    (record { left = left; led = led; may = may }))
 
 -- a root that is closed has nothing left to feed
 pub over_has_fed : (left : Left) (root : RootKnown) → MayFeedLeft root left → has_ended root ≡ true → left ≡ None

@@ -1,32 +1,27 @@
 -- Serves Handed.antt.
 -- What a worker has in its hands, from turn to turn.
-use Rattle.std.proofs.Common.{◌≡◌, ℕ, suc, ◌+◌, ◌%◌, ◌<◌, max, List, [], ◌∷◌, length, Option, Some, None, IfSome, All}
-use Rattle.std.proofs.Common.{Bool, sym, ap, ◌∙◌, subst, arith, add-one, ◌==◌, eq-eqb}
-use Rattle.std.proofs.Math.Nat.{suc-mod, mod-lt, mod-one}
+use Rattle.std.proofs.Common.{◌≡◌, ℕ, suc, ◌+◌, ◌%◌, ◌<◌, ◌≤◌, List, [], ◌∷◌, ◌++◌, length, take, drop, Option, Some, None, IfSome, All}
+use Rattle.std.proofs.Common.{sym, ap, ◌∙◌, subst, arith}
+use Rattle.std.proofs.lemmas.List.{take_at}
+use Rattle.std.proofs.lemmas.List.Elements.{All-take}
+use Rattle.std.specs.Global.{Vec}
 use Rattle.crossbeam_queue.specs.Passes.{Pass, view}
 use Rattle.chip_net.specs.Tokens.{NetId, ActorKnown}
 use Rattle.chip_crew.specs.Crew.{CrewId, IsOurs, IsAt, EachFrom}
-use Rattle.chip_crew.specs.Dealing.{IsRoundBy, IsRound, IsFirstOf}
-use Rattle.chip_crew.specs.Rounds.{TurnsAt}
+use Rattle.chip_crew.specs.Dealing.{IsRoundBy, IsRound, IsFirstOf, AreOf}
+use Rattle.chip_crew.specs.Rounds.{RoundsMade, TurnsInRow}
 use Rattle.chip_crew.specs.Ledger.{MakesOneTurn}
 use Rattle.crossbeam_queue.specs.declared.array_queue.Doing.{Doing}
 use Rattle.crossbeam_queue.specs.declared.array_queue.Slotted.{Slotted}
-use Rattle.chip_crew.specs.Handed.{Fits, GoesOn, HasMade, AreHands, AreReady, is_round_over, round_of}
+use Rattle.chip_crew.specs.Handed.{Fits, GoesOn, HasMade, AreHands, AreReady, round_of}
 use Rattle.chip_crew.specs.declared.queue.Ledger.{Ledger}
-use Rattle.chip_crew.specs.declared.dealing.Dealt.{Dealt}
 use Rattle.chip_crew.specs.declared.plan.Sharing.{Sharing}
 use Rattle.chip_crew.specs.declared.plan.Sharing.TheVariants as sharing
 use Rattle.chip_crew.specs.declared.worker.Hands.{Hands}
 use Rattle.chip_crew.specs.declared.worker.Hands.TheVariants as hands
 use Rattle.chip_crew.proofs.RunLemmas.{from_all}
-use Rattle.chip_crew.proofs.DealingLemmas.{as_many, cut_first, still_of, rounds_more}
+use Rattle.chip_crew.proofs.DealingLemmas.{cut_first, row_many, row_first, row_of, round_more}
 use Rattle.chip_crew.proofs.QueueingLemmas.{turn_more}
-
--- the place of a turn, counted round
-next_place : (k place round : ℕ) → place ≡ k % round → (place + 1) % round ≡ (k + 1) % round
-next_place k place round is =
-    ap (λ (n : ℕ). n % round) (add-one place ∙ ap suc is) ∙ sym (suc-mod k round)
-    ∙ ap (λ (n : ℕ). n % round) (sym (add-one k))
 
 -- the actors are not shared in both ways
 pub not_both : (s : Sharing) → s ≡ sharing.Queue → s ≡ sharing.Dealt → ⊥
@@ -34,12 +29,21 @@ not_both s one other = absurd (cc)
 
 module _ (crew : CrewId) (worker : ℕ) (passes : ℕ → Type 0) where
   -- the actors that were dealt out are the net's
-  pub nets_by : (k : ℕ) (h : Hands) (d : Dealt) (net : NetId) → h ≡ hands.Dealt d → net ≡ crew.net
-      → HasMade crew worker passes k h → All (λ (a : ActorKnown). a.net ≡ net) d.actors.items
-  nets_by k h d net is same made =
+  nets_by : (k : ℕ) (h : Hands) (actors : Vec ActorKnown) (net : NetId) → h ≡ hands.Dealt actors → net ≡ crew.net
+      → HasMade crew worker passes k h → All (λ (a : ActorKnown). a.net ≡ net) actors.items
+  nets_by k h actors net is same made =
       let dealt = subst (HasMade crew worker passes k) is made in
-      from_all (IsAt crew) (λ (a : ActorKnown). a.net ≡ net) (λ n a here. here.0.0 ∙ sym same) dealt.1.from d.actors.items
+      from_all (IsAt crew) (λ (a : ActorKnown). a.net ≡ net) (λ n a here. here.0.0 ∙ sym same) dealt.1.from actors.items
       dealt.1.each
+
+  -- and so are the first of them
+  pub nets_first : (k most : ℕ) (h : Hands) (actors : Vec ActorKnown) (lent next : List ActorKnown) (net : NetId)
+      → h ≡ hands.Dealt actors → net ≡ crew.net → HasMade crew worker passes k h → lent ≡ actors.items
+      → next ≡ take most lent → All (λ (a : ActorKnown). a.net ≡ net) next
+  nets_first k most h actors lent next net is same made all first =
+      let of : ActorKnown → Type 0 = λ a. a.net ≡ net in
+      subst (All of) (sym (first ∙ ap (take most) all))
+      (All-take of most actors.items (nets_by k h actors net is same made))
 
   -- one turn more, with a queue
   pub queue_more : (k : ℕ) (h : Hands) (pass now : Pass ActorKnown Ledger) (kept result : Option ActorKnown)
@@ -50,48 +54,49 @@ module _ (crew : CrewId) (worker : ℕ) (passes : ℕ → Type 0) where
       let was = subst (HasMade crew worker passes k) is made in
       (was.0, turn_more passes k (view pass) (view now) kept result was.1 lets turn, ours)
 
-  -- one turn more, with actors of its own
-  pub dealt_more : (k : ℕ) (h : Hands) (old new : Dealt) → h ≡ hands.Dealt old → HasMade crew worker passes k h → passes k
-      → TurnsAt old.place old.actors.items new.actors.items
-      → new.place ≡ (old.place + 1) % max 1 (length old.actors.items)
-      → HasMade crew worker passes (k + 1) (hands.Dealt new)
-  dealt_more k h old new is made lets turns place =
-      let was = subst (HasMade crew worker passes k) is made in
-      let many = as_many old.place old.actors.items new.actors.items turns in (
+  -- what a worker has made with actors of its own
+  abbrev HasDealt : ℕ → List ActorKnown → Type 0
+  HasDealt turns actors = (crew.sharing ≡ sharing.Dealt) × AreOf crew worker actors
+      × ((first : List ActorKnown) × RoundsMade passes turns first actors)
+
+  -- more turns of a round that begins, with actors of its own
+  dealt_more : (m k : ℕ) (h : Hands) (old : Vec ActorKnown) (now : List ActorKnown) → h ≡ hands.Dealt old
+      → HasMade crew worker passes m h → m % round_of h ≡ 0 → k ≤ round_of h → TurnsInRow passes m k old.items now
+      → HasDealt (m + k) now
+  dealt_more m k h old now is made begins few row =
+      let was = subst (HasMade crew worker passes m) is made in
+      let begin = subst (λ (x : Hands). m % round_of x ≡ 0) is begins in
+      let within = subst (λ (x : Hands). k ≤ round_of x) is few in (
         was.0,
-        still_of crew worker old.place old.actors.items new.actors.items turns was.1,
-        (
-          was.2.0,
-          rounds_more passes k was.2.0 old.actors.items new.actors.items was.2.1 lets
-              (subst (λ (n : ℕ). TurnsAt n old.actors.items new.actors.items) was.3 turns),
-        ),
-        place ∙ next_place k old.place (max 1 (length old.actors.items)) was.3
-            ∙ ap (λ (n : ℕ). (k + 1) % max 1 n) (sym many),
+        row_of passes m crew worker k old.items now row was.1,
+        (was.2.0, round_more passes m k was.2.0 old.items now was.2.1 begin within row),
       )
 
-  -- the turn that is next stands in the round
-  pub place_within : (k : ℕ) (h : Hands) (d : Dealt) → h ≡ hands.Dealt d → HasMade crew worker passes k h
-      → d.place < max 1 (length d.actors.items)
-  place_within k h d is made =
-      let was = subst (HasMade crew worker passes k) is made in
-      subst (λ (n : ℕ). n < max 1 (length d.actors.items)) (sym was.3) (mod-lt k (omega arith))
+  -- the same, where only the first of them made turns
+  pub first_more : (m k : ℕ) (h : Hands) (old : Vec ActorKnown) (lent next rest now : List ActorKnown)
+      → h ≡ hands.Dealt old → HasMade crew worker passes m h → m % round_of h ≡ 0 → k ≤ round_of h → lent ≡ old.items
+      → lent ≡ next ++ rest → k ≤ length next → TurnsInRow passes m k next now
+      → HasDealt (m + k) (take old.len ((now ++ rest) ++ drop (length (now ++ rest)) old.items))
+  first_more m k h old lent next rest now is made begins within same parts few row =
+      let all : TurnsInRow passes m k old.items (now ++ rest) =
+      subst (λ (l : List ActorKnown). TurnsInRow passes m k l (now ++ rest)) (sym parts ∙ same)
+      (row_first passes m k next now rest few row) in
+      let many : length (now ++ rest) ≡ old.len =
+      (let n = row_many passes m k old.items (now ++ rest) all in let ok = old.ok.0 in omega (arith, n, ok)) in
+      subst (HasDealt (m + k)) (sym (take_at (now ++ rest) (drop (length (now ++ rest)) old.items) old.len many))
+      (dealt_more m k h old (now ++ rest) is made begins within all)
 
-  over_is : (k : ℕ) (h : Hands) (round : ℕ) → HasMade crew worker passes k h → round ≡ round_of h
-      → is_round_over h ≡ (k % round == 0)
-  over_is k (hands.Queue pass kept) round made is =
-      sym (eq-eqb (k % round) 0 (ap (λ (n : ℕ). k % n) is ∙ mod-one k))
-  over_is k (hands.Dealt d) round made is = ap (λ (n : ℕ). n == 0) (made.3 ∙ ap (λ (n : ℕ). k % n) (sym is))
-
-  -- whether a round is over after so many turns, the last of which left the hands with as long a round
-  pub over_then : (k : ℕ) (before h : Hands) (round : ℕ) (over : Bool) → HasMade crew worker passes k h
-      → round ≡ round_of before → round_of h ≡ round_of before → over ≡ is_round_over h → (k % round == 0) ≡ over
-  over_then k before h round over made was same is = sym (is ∙ over_is k h round made (was ∙ sym same))
-
-  -- the same, by other names
-  pub made_there : (k n : ℕ) (old now : Hands) → HasMade crew worker passes k old → n ≡ k → now ≡ old
-      → HasMade crew worker passes n now
-  made_there k n old now made count same =
-      subst (λ (z : ℕ × Hands). HasMade crew worker passes z.0 z.1) (λ i. (sym count i, sym same i)) made
+  -- and where there is none of them
+  pub none_more : (m k : ℕ) (h : Hands) (old : Vec ActorKnown) → h ≡ hands.Dealt old → HasMade crew worker passes m h
+      → m % round_of h ≡ 0 → k ≤ 1 → length old.items ≡ 0 → TurnsInRow passes m k [] [] → HasDealt (m + k) old.items
+  none_more m k h old is made begins few none row =
+      let some : k ≤ round_of h =
+      subst (λ (x : Hands). k ≤ round_of x) (sym is) (omega (arith, few)) in
+      dealt_more m k h old old.items is made begins some (of_none old.items none row)
+    where
+      of_none : (items : List ActorKnown) → length items ≡ 0 → TurnsInRow passes m k [] [] → TurnsInRow passes m k items items
+      of_none [] none row = row
+      of_none (x ∷ xs) none row = absurd (omega (arith, none))
 
 -- ---- how the workers begin
 
@@ -117,9 +122,9 @@ first_round crew passes (hands.Queue pass kept) round made is =
     subst (λ (s : Sharing). IsRoundBy crew s round) (sym made.0) is
 first_round crew passes (hands.Dealt d) round made is =
     let zero_is = cut_first crew.net.setting.game.graph crew.workers made.1.from made.1.is_first in
-    let from_zero : made.1.from + length d.actors.items ≡ length d.actors.items = omega (arith, zero_is) in
+    let from_zero : made.1.from + length d.items ≡ length d.items = omega (arith, zero_is) in
     subst (λ (s : Sharing). IsRoundBy crew s round) (sym made.0) (
-      length d.actors.items,
+      length d.items,
       subst (IsFirstOf crew 1) from_zero made.1.is_next,
       is,
     )

@@ -11,3 +11,5 @@ pub mod SealingLemmas
 pub mod BackLemmas
 pub mod CrossingLemmas
 pub mod FinishingLemmas
+pub mod DutiesLemmas
+pub mod LeadingLemmas

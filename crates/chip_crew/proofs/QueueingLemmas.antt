@@ -1,11 +1,10 @@
 -- Serves Ledger.antt.
 -- The ledger of a worker has its turns, and what it has is what it kept.
-use Rattle.std.proofs.Common.{◌≡◌, ◌<◌, ◌+◌, ◌++◌, ◌∷◌, [], ℕ, zero, suc, Bool, true, false, drop, Option, Some, None}
+use Rattle.std.proofs.Common.{◌≡◌, ◌+◌, ◌++◌, ◌∷◌, [], ℕ, zero, suc, drop, Option, Some, None}
 use Rattle.std.proofs.Common.{List, refl, sym, ap, ◌∙◌, subst, add-one}
 use Rattle.chip_net.specs.Tokens.{ActorKnown}
 use Rattle.chip_crew.specs.declared.queue.Ledger.{Ledger}
 use Rattle.chip_crew.specs.Ledger.{HasJust, IsNext, IsPutOrKept, EndsTurn, MakesOneTurn, TurnsMade, with_taken, with_put, vertex_of}
-use Rattle.chip_crew.specs.Handed.{Heeds}
 
 -- ---- what it has
 
@@ -65,22 +64,3 @@ pub turn_more : (passes : ℕ → Type 0) (k : ℕ) (before now : Ledger) (was k
     → TurnsMade passes k before was → passes k → MakesOneTurn before now was kept → TurnsMade passes (k + 1) now kept
 turn_more passes k before now was kept made pass turn = subst (λ (n : ℕ). TurnsMade passes n now kept) (sym (add-one k))
     (before, was, made, pass, turn)
-
--- the same turns, by other names
-pub made_there : (passes : ℕ → Type 0) (k n : ℕ) (old now : Ledger) (was kept : Option ActorKnown)
-    → TurnsMade passes k old was → n ≡ k → now ≡ old → kept ≡ was → TurnsMade passes n now kept
-made_there passes k n old now was kept made count same kept_is =
-    subst (λ (z : ℕ × Ledger × Option ActorKnown). TurnsMade passes z.0 z.1 z.2)
-    (λ i. (sym count i, sym same i, sym kept_is i)) made
-
--- ---- what a gate answers
-
-module _ (may_answer : ℕ → Bool → Type 0) (turns : ℕ) (passes : ℕ → Type 0) (shut : Type 0) (turn : ℕ) (answer : Bool)
-    (heeds : Heeds may_answer turns passes shut) (less : turn < turns) (told : may_answer turn answer) where
-  -- the turn may be made
-  pub lets_pass : answer ≡ true → passes turn
-  lets_pass is = (heeds turn less).0 (subst (may_answer turn) is told)
-
-  -- the crew was shut
-  pub is_shut : answer ≡ false → shut
-  is_shut is = (heeds turn less).1 (subst (may_answer turn) is told)

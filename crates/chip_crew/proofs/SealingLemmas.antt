@@ -86,12 +86,6 @@ sealed_next crew (Some at) turn old new has seals =
       has.3,
     )
 
--- the same, by other names
-pub sealed_there : (crew : CrewId) (plan : Option SealAt) (k n : ℕ) (old now : Option (StopperKnown × SealAt))
-    → HasSealed crew plan k old → n ≡ k → now ≡ old → HasSealed crew plan n now
-sealed_there crew plan k n old now has count same =
-    subst (λ (z : ℕ × Option (StopperKnown × SealAt)). HasSealed crew plan z.0 z.1) (λ i. (sym count i, sym same i)) has
-
 -- a stopper that opens with its net has sealed nothing
 pub none_sealed : (crew : CrewId) (game : ChipGame) (plan : Option SealAt) (stopper : Option StopperKnown)
     (stoppable : Bool) → stopper ≡ (if stoppable then Some (new_stopper crew.net) else None) → stoppable ≡ is_some plan

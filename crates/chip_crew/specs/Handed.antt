@@ -1,5 +1,5 @@
 -- What the workers hand back.
-use Rattle.std.specs.Prelude.{◌≡◌, ℕ, ◌%◌, ◌<◌, ◌≤◌, ◌==◌, max, Bool, true, false, List, [], length, Option, Some, None, IfSome, ⊤}
+use Rattle.std.specs.Prelude.{◌≡◌, ℕ, ◌<◌, ◌≤◌, max, Bool, true, false, List, [], length, Option, Some, None, IfSome, ⊤}
 use Rattle.std.specs.Option.{option_copied}
 use Rattle.crossbeam_queue.specs.Passes.{Pass, view, IsPassOf}
 use Rattle.crossbeam_queue.specs.declared.array_queue.Doing.{Doing}
@@ -59,16 +59,15 @@ AllHeed may_answer workers turns passes shut = (worker : ℕ) → worker < worke
 abbrev pub HasMade : CrewId → ℕ → (ℕ → Type 0) → ℕ → Hands → Type 0
 HasMade crew worker passes turns (hands.Queue pass kept) =
     (crew.sharing ≡ sharing.Queue) × TurnsMade passes turns (view pass) kept × IfSome kept (IsOurs crew)
-HasMade crew worker passes turns (hands.Dealt dealt) = (crew.sharing ≡ sharing.Dealt)
-    × AreOf crew worker dealt.actors.items × ((first : List ActorKnown) × RoundsMade passes turns first dealt.actors.items)
-    × (dealt.place ≡ turns % max 1 (length dealt.actors.items))
+HasMade crew worker passes turns (hands.Dealt actors) = (crew.sharing ≡ sharing.Dealt) × AreOf crew worker actors.items
+    × ((first : List ActorKnown) × RoundsMade passes turns first actors.items)
 
 -- after those hands the worker has these, with the same queue, or without one as before
 abbrev pub GoesOn : Hands → Hands → Type 0
 GoesOn (hands.Queue pass kept) (hands.Queue now then_kept) = (now.table_id ≡ pass.table_id) × (now.me.1 ≡ [])
-GoesOn (hands.Queue pass kept) (hands.Dealt dealt) = ⊥
-GoesOn (hands.Dealt dealt) (hands.Queue now then_kept) = ⊥
-GoesOn (hands.Dealt dealt) (hands.Dealt now) = ⊤
+GoesOn (hands.Queue pass kept) (hands.Dealt actors) = ⊥
+GoesOn (hands.Dealt actors) (hands.Queue now then_kept) = ⊥
+GoesOn (hands.Dealt actors) (hands.Dealt now) = ⊤
 
 module _ {Q A : Type 0} where
   -- it is a pass of this queue; without a queue there is none
@@ -79,9 +78,9 @@ module _ {Q A : Type 0} where
   -- these hands are for a crew with this queue, or for one without a queue
   abbrev pub Fits : Option (Slotted (Option ActorKnown) (Doing ActorKnown Ledger) Q A) → Hands → Type 0
   Fits (Some queue) (hands.Queue pass kept) = IsPassOf queue pass
-  Fits (Some queue) (hands.Dealt dealt) = ⊥
+  Fits (Some queue) (hands.Dealt actors) = ⊥
   Fits None (hands.Queue pass kept) = ⊥
-  Fits None (hands.Dealt dealt) = ⊤
+  Fits None (hands.Dealt actors) = ⊤
 
   -- what the workers of a crew with this queue, or without one, begin with, worker 0 first
   abbrev pub AreReady : CrewId → (ℕ → ℕ → Type 0) → Option (Slotted (Option ActorKnown) (Doing ActorKnown Ledger) Q A)
@@ -95,12 +94,7 @@ AreHands crew passes all = EachFrom (λ worker h. HasMade crew worker (passes wo
 -- how many turns make a round of a worker
 abbrev pub round_of : Hands → ℕ
 round_of (hands.Queue pass kept) = 1
-round_of (hands.Dealt dealt) = max 1 (length dealt.actors.items)
-
--- the turns that were made are whole rounds
-abbrev pub is_round_over : Hands → Bool
-is_round_over (hands.Queue pass kept) = true
-is_round_over (hands.Dealt dealt) = dealt.place == 0
+round_of (hands.Dealt actors) = max 1 (length actors.items)
 
 -- what a worker hands back: what it has after so many turns, and its gate answered false only where it may
 pub record IsHanded (crew : CrewId) (worker : ℕ) (passes : ℕ → Type 0) (most : ℕ) (shut : Type 0) (handed : Handed)

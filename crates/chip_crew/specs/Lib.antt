@@ -4,6 +4,8 @@ pub mod Dealing
 pub mod Rounds
 pub mod Feeding
 pub mod Sealing
+pub mod Duties
+pub mod Leading
 pub mod Ending
 pub mod Ledger
 pub mod Places

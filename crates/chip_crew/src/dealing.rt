@@ -1,84 +1,18 @@
-//! How the actors are dealt out to the workers, and what a worker does with its own.
+//! How the actors are dealt out to the workers.
 
-ghost use Rattle.std.specs.Prelude.{◌≡◌, ◌+◌, ◌%◌, ◌≤◌, ◌<◌, ◌^◌, max, All, IfOk, length};
+ghost use Rattle.std.specs.Prelude.{◌≡◌, ◌+◌, ◌≤◌, ◌<◌, ◌^◌, IfOk, length};
 ghost use Rattle.chip_graph.specs.Limits.{max_edges};
 ghost use Rattle.chip_crew.specs.declared.plan.Sharing.TheVariants as shares;
 ghost use Rattle.chip_crew.specs.Plans.{max_workers};
 ghost use Rattle.chip_crew.specs.Dealing.{ends_at, ends_before, IsCut};
 ghost use Rattle.chip_crew.specs.Handed.{AreHands};
-ghost use Rattle.chip_crew.specs.Rounds.{TurnsAt};
 ghost use Rattle.chip_crew.specs.Crew.{AreFrom};
 
 use crate::queue::Crew;
 use crate::worker::Hands;
 use chip_graph::Graph;
-use chip_net::{Actor, Net, Turn};
+use chip_net::Actor;
 use std::alloc::{AllocError, Global};
-use std::thread;
-
-/// The actors of a worker, of which nobody else has one.
-#[derive(Drop)]
-pub(crate) struct Dealt {
-    /// Ascending.
-    pub actors: Vec<Actor>,
-    /// The turn of the round that comes next, counted round: a division takes long.
-    pub place: u64,
-    /// Whether in this round none of them had anything to do, so far.
-    pub is_idle: bool,
-}
-
-impl Dealt {
-    /// How many turns make a round: one for each actor, and one where there is no actor.
-    pub fn round(&self) -> u64
-        ensures { result ≡ max 1 (length self.now.actors.items) }
-    {
-        (self.actors.len() as u64).max(1)
-    }
-
-    /// Gives the actor whose turn it is in this round its turn, and yields after a round in which there was nothing
-    /// to do.
-    #[inline(always)]
-    pub fn one_turn(&mut self, net: &Net)
-        requires nets { All (λ a. a.net ≡ net.now) self.old.actors.items }
-        requires place { self.old.place < max 1 (length self.old.actors.items) }
-        ensures turns { TurnsAt self.old.place self.old.actors.items self.new.actors.items }
-        ensures place { self.new.place ≡ (self.old.place + 1) % max 1 (length self.old.actors.items) }
-    {
-        let place = self.place;
-        if (place as usize) < self.actors.len() {
-            let answer = self.actors[place as usize].turn(net);
-            self.is_idle &= matches!(answer, Turn::Waiting | Turn::Idle);
-        }
-        self.place = self.place_after(place);
-        if self.place == 0 {
-            self.end_round();
-        }
-    }
-
-    /// Yields after a round in which there was nothing to do.
-    fn end_round(&mut self)
-        ensures actors { self.new.actors.items ≡ self.old.actors.items }
-        ensures place { self.new.place ≡ self.old.place }
-    {
-        if self.is_idle {
-            thread::yield_now();
-        }
-        self.is_idle = true;
-    }
-
-    /// The place after this one, round the round.
-    fn place_after(&self, place: u64) -> u64
-        requires { place < max 1 (length self.now.actors.items) }
-        ensures { result ≡ (place + 1) % max 1 (length self.now.actors.items) }
-    {
-        let next = place + 1;
-        if next < self.actors.len() as u64 {
-            next
-        } else {
-            0
-        }
-    }
-}
 
 /// The ends of edges at a vertex, with that of its root edge: what a turn of its actor looks at.
 fn ends_at(graph: &Graph, vertex: u64) -> u64
@@ -140,11 +74,7 @@ pub(crate) fn deal<B: Crew>(
     for worker in 0..workers {
         let next = cut(graph, workers, worker + 1);
         let rest = actors.split_off((next - first) as usize)?;
-        hands.push_reserved(Hands::Dealt(Dealt {
-            actors,
-            place: 0,
-            is_idle: true,
-        }));
+        hands.push_reserved(Hands::Dealt(actors));
         actors = rest;
         first = next;
     }

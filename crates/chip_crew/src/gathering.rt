@@ -8,7 +8,6 @@ ghost use Rattle.chip_crew.specs.Gathering.{IsGathering, IsGatheringFor, AreSeat
 ghost use Rattle.chip_crew.specs.Ledger.{HasJust};
 ghost use Rattle.crossbeam_queue.specs.Passes.{view, IsPassOf};
 
-use crate::dealing::Dealt;
 use crate::queue::{Crew, Hires, Once, Queue, QueuePass};
 use crate::worker::Hands;
 use chip_net::Actor;
@@ -131,8 +130,7 @@ pub(crate) fn take_hands<B: Crew>(
             let Some(queue) = queue else { unreachable!() };
             join_pass(queue, pass, gathering, theirs, kept);
         }
-        Hands::Dealt(dealt) => {
-            let Dealt { actors, .. } = dealt;
+        Hands::Dealt(actors) => {
             let Back::Dealt(row) = back else {
                 unreachable!()
             };

@@ -6,12 +6,12 @@ ghost use Rattle.chip_part.specs.Edges.{graph_edges};
 ghost use Rattle.chip_crew.specs.Handed.{Fits, HasLed, HasMade, Heeds, IsLead};
 ghost use Rattle.chip_crew.specs.Sealing.{SealsBefore};
 
+use crate::duties::Duties;
 use crate::feeding::feed_once;
 use crate::plan::{Gate, SealAt};
 use crate::queue::Crew;
 use crate::worker::{Handed, Hands, Shared};
 use chip_net::{Net, Root, RootState, Stopper};
-use std::sync::atomic::Ordering::SeqCst;
 
 /// What worker 0 has beside its actors.
 #[derive(Drop)]
@@ -58,62 +58,32 @@ fn seal_before(net: &Net, seal: &mut Option<(Stopper, SealAt)>, turn: u64)
     }
 }
 
-impl<'a, B: Crew, G: Gate> Shared<'a, B, G> {
-    /// The turns of worker 0, with a feed before each and a poll after each round, until the root is closed or it is told to
-    /// stop, where it tells the others.
-    pub fn lead(&self, lead: Lead, mut hands: Hands) -> LeadHanded
-        requires fits { Fits (option_copied self.now.queue) hands }
-        requires made { HasMade B.crew 0 (B.passes 0) 0 hands }
-        requires net { self.now.net.now ≡ B.crew.net }
-        requires turns { self.now.turns ≡ B.turns }
-        requires lead { IsLead B.crew B.feeds B.seal B.root lead }
-        requires gate { Heeds (G.may_answer self.now.gate.now 0) self.now.turns (B.passes 0) B.shut }
-        ensures led { HasLed B.crew B.feeds B.seal B.root B.turns (B.passes 0) B.shut result.handed result.root result.round result.seal }
-        ensures fits { Fits (option_copied self.now.queue) result.handed.hands }
-    {
-        let Lead {
-            mut root,
-            mut feeds,
-            mut seal,
-        } = lead;
-        let round = hands.round();
-        let mut turns = 0;
-        let mut passed = true;
-        for turn in 0..self.turns {
-            // Whoever told it hands back why.
-            if self.stop.load(SeqCst) {
-                break;
+impl<'a, G: Gate> Duties<G> for Lead<'a> {
+    ghost use Rattle.chip_crew.specs.Leading.{CanLead, LeadsTurn, LeadsRound};
+
+    ghost can = { CanLead };
+
+    ghost before = { LeadsTurn };
+
+    ghost after = { LeadsRound };
+
+    /// Seals and feeds.
+    #[inline(always)]
+    fn begin_turn(&mut self, net: &Net, turn: u64) {
+        seal_before(net, &mut self.seal, turn);
+        feed_once(net, &mut self.root, &mut self.feeds);
+    }
+
+    /// Polls the root, and tells the gate what is not acknowledged. The crew is to stop once the root is closed.
+    #[inline(always)]
+    fn end_round(&mut self, net: &Net, gate: &G, turn: u64) -> bool {
+        match self.root.poll(net) {
+            RootState::Running(0) => false,
+            RootState::Running(deficit) => {
+                gate.polled(turn, deficit);
+                false
             }
-            if !self.gate.pass(0, turn) {
-                passed = false;
-                self.stop.store(true, SeqCst);
-                break;
-            }
-            seal_before(self.net, &mut seal, turn);
-            feed_once(self.net, &mut root, &mut feeds);
-            self.one_turn(0, turn, &mut hands);
-            turns = turn + 1;
-            if !hands.is_round_over() {
-                continue;
-            }
-            match root.poll(self.net) {
-                RootState::Running(0) => {}
-                RootState::Running(deficit) => self.gate.polled(turn, deficit),
-                RootState::Closed => {
-                    self.stop.store(true, SeqCst);
-                    break;
-                }
-            }
-        }
-        LeadHanded {
-            handed: Handed {
-                hands,
-                passed,
-                turns,
-            },
-            root,
-            round,
-            seal,
+            RootState::Closed => true,
         }
     }
 }
@@ -132,9 +102,17 @@ impl<'a, B: Crew, G: Gate> LeadTask<'a, B, G> {
     {
         let LeadTask {
             shared,
-            lead,
+            mut lead,
             hands,
         } = self;
-        shared.lead(lead, hands)
+        let round = hands.round();
+        let handed = shared.work(0, hands, &mut lead);
+        let Lead { root, seal, .. } = lead;
+        LeadHanded {
+            handed,
+            root,
+            round,
+            seal,
+        }
     }
 }

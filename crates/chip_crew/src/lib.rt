@@ -2,11 +2,13 @@
 //!
 //! The rule of the queue (`queue.rt`) is that every actor in it was opened by this net. A worker takes an actor,
 //! gives it a turn and puts it back (`worker.rt`); where the actors are dealt out (`dealing.rt`) it gives each of its
-//! own a turn, round by round. Worker 0 has also the root, which it feeds (`feeding.rt`) and polls, and the stopper
-//! (`lead.rt`). Once all have ended there is a last poll (`ending.rt`), and the actors are gathered (`gathering.rt`).
+//! own a turn, round by round. What it does beside (`duties.rt`) comes before each turn and after each round: worker 0
+//! has the root, which it feeds (`feeding.rt`) and polls, and the stopper (`lead.rt`). Once all have ended there is a
+//! last poll (`ending.rt`), and the actors are gathered (`gathering.rt`).
 #![tactic(auto)]
 
 mod dealing;
+mod duties;
 mod ending;
 mod fault;
 mod feeding;

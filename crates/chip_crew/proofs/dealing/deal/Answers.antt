@@ -1,5 +1,4 @@
-use Rattle.std.proofs.Common.{rules, ◌≡◌, ◌+◌, ◌-◌, ℕ, List, length, length-drop, drop, true, refl, sym, subst, arith, max}
-use Rattle.std.proofs.Math.Nat.{zero-mod}
+use Rattle.std.proofs.Common.{rules, ◌≡◌, ◌+◌, ◌-◌, ℕ, List, length, length-drop, drop, refl, sym, subst, arith}
 use Rattle.chip_net.specs.Tokens.{ActorKnown}
 use Rattle.chip_crew.specs.Crew.{IsAt, AreFrom}
 use Rattle.chip_crew.specs.Handed.{HasMade, AreHands}
@@ -19,7 +18,7 @@ loop-worker-preserved g c =
     follows g.B.Crew.crew c.args.graph.now c.args.workers c.loop-worker.worker first next (length actors)
     c.requires.graph c.requires.workers.2 (search rules) i.first_is i.whole c.cut-next.ensures in
     let end : first + (next - first) ≡ next = (let behind = step.behind in omega (arith, behind)) in
-    let own : Hands = hands.Dealt (record { actors = c.split_off.new.self; place = 0; is_idle = true }) in
+    let own : Hands = hands.Dealt c.split_off.new.self in
     let place : c.loop-worker.worker ≡ 0 + length c.loop-worker.hands.items = (let count = i.count in omega (arith, count)) in
     record {
       first_is = step.is_next;
@@ -37,7 +36,6 @@ loop-worker-preserved g c =
             are_of g.B.Crew.crew c.loop-worker.worker first next actors c.split_off.new.self.items i.first_is step i.actors
                 c.in_ok-rest.ensures.items,
             (c.split_off.new.self.items, refl),
-            sym (zero-mod (max 1 (length c.split_off.new.self.items))),
           )));
       count = search rules;
       room = search rules;

@@ -21,7 +21,7 @@ loop-actor-init g c =
       goes = subst (GoesBehind g.B.Crew.crew c.args._worker c.in-Dealt-back.row.items)
           (sym c.into_iter-actor-iterator.ensures.into_iter_gives.0)
           (goes_behind g.B.Crew.crew c.args._worker c.in-Dealt-back.row.items (vec_capacity c.in-Dealt-back.row)
-          c.in-Dealt.dealt.actors.items row_is made.1);
+          c.in-Dealt.actors.items row_is made.1);
       room = row_is.has_room;
     }
 

@@ -1,0 +1,53 @@
+//! What a worker does beside the turns of its actors.
+
+use crate::plan::Gate;
+use chip_net::Net;
+
+/// Done by a worker beside the turns of its actors, by its own thread.
+pub(crate) trait Duties<G: Gate> {
+    ghost use Rattle.std.specs.Prelude.{ℕ};
+    ghost use Rattle.chip_net.specs.Tokens.{NetId};
+
+    // Whether they can be done at this net.
+    ghost can: { NetId → Self → Type 0 };
+
+    // What was done before the turn of this number.
+    ghost before: { ℕ → Self → Self → Type 0 };
+
+    // What was done after a round.
+    ghost after: { Self → Self → Type 0 };
+
+    /// Done before each turn.
+    fn begin_turn(&mut self, net: &Net, turn: u64)
+        requires { can net.now self.old }
+        ensures can { can net.now self.new }
+        ensures done { before turn self.old self.new };
+
+    /// Done after each whole round, of which this was the last turn: whether the crew is to stop.
+    fn end_round(&mut self, net: &Net, gate: &G, turn: u64) -> bool
+        requires { can net.now self.old }
+        ensures can { can net.now self.new }
+        ensures done { after self.old self.new };
+}
+
+/// Those of every worker but worker 0: none.
+#[derive(Drop)]
+pub(crate) struct NoDuties;
+
+impl<G: Gate> Duties<G> for NoDuties {
+    ghost use Rattle.std.specs.Prelude.{◌≡◌, ⊤};
+
+    ghost can = { λ _ _. ⊤ };
+
+    ghost before = { λ _ old new. new ≡ old };
+
+    ghost after = { λ old new. new ≡ old };
+
+    #[inline(always)]
+    fn begin_turn(&mut self, _net: &Net, _turn: u64) {}
+
+    #[inline(always)]
+    fn end_round(&mut self, _net: &Net, _gate: &G, _turn: u64) -> bool {
+        false
+    }
+}

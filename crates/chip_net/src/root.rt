@@ -88,6 +88,7 @@ impl Root {
     }
 
     /// Settles each root edge once, and tells whether the game is over then.
+    #[inline(never)]
     pub fn poll(&mut self, net: &Net) -> RootState
         requires net { self.old.net ≡ net.now }
         ensures polls { Polls self.old self.new result }

@@ -2,7 +2,7 @@
 -- The ends of a vertex's edges: what a search finds there, and what a write at the place that it found changes.
 use Rattle.std.proofs.lemmas.List.{take_more, take_more_set, drop-set-lt, map-append}
 use Rattle.std.proofs.Math.Seq.{drop-cons}
-use Rattle.std.proofs.Common.{◌≡◌, ℕ, suc, ◌+◌, ◌<◌, ◌≤◌, subst, cond, eqb, List, [], ◌∷◌, ◌++◌, length, take, drop}
+use Rattle.std.proofs.Common.{◌≡◌, ℕ, suc, ◌+◌, ◌<◌, ◌≤◌, Bool, true, false, subst, cond, eqb, List, [], ◌∷◌, ◌++◌, length, take, drop}
 use Rattle.std.proofs.Common.{map, get_or, set, Some, None, refl, sym, ap, ◌∙◌, arith}
 use mathlib.Core.Logic.{dite}
 use native.Mathlib.Decide.{ℕ_discrete, dec_lt}
@@ -11,12 +11,13 @@ use Rattle.chip_detect.specs.declared.slot.Slot.{Slot}
 use Rattle.chip_detect.specs.Slot.{IsSlotOf}
 use Rattle.chip_detect.proofs.LookupsLemmas.{ascends}
 use Rattle.chip_link.specs.declared.message.Message.{Message}
-use Rattle.chip_link.specs.Ends.{HeadState, message_claimed, tail_after_claim, new_head}
+use Rattle.chip_link.specs.Ends.{HeadState, TailState, may_clear, message_claimed, tail_after_claim, tail_after_clear}
+use Rattle.chip_link.specs.Ends.{head_after_take, new_head}
 use Rattle.chip_actor.specs.Ends.{on_edge, OutEnd, OutEnds, InEnds, no_out, out_on, in_on, AreApart, ChangesOut}
-use Rattle.chip_actor.specs.Ends.{ChangesIn, out_after_claim}
+use Rattle.chip_actor.specs.Ends.{ChangesIn, outs_of, ins_of, out_after_claim}
 use Rattle.chip_actor.proofs.LookupsLemmas.{on_edge_at, on_edge_changed}
 use Rattle.std.specs.List.Sorted.{IsStrictlyIncreasing}
-use Rattle.std.proofs.lemmas.List.{length-map, take_all, take-append-le}
+use Rattle.std.proofs.lemmas.List.{length-map, get_or-map, map-set, set-get_or, take_all, take-append-le}
 
 module _ {T : Type 0} (none : T) (edges : List ℕ) (ends : List T) (apart : AreApart edges ends) (slot : Slot)
     (at : IsSlotOf edges slot) (old : T) (was : old ≡ get_or ends slot.index old) where
@@ -66,6 +67,77 @@ module _ (is now : InEnds) (same : is ≡ now) (apart : AreApart is.edges is.end
         edges = refl;
         each = changed (new_head 0 1) is.edges is.ends apart slot at_in old was new f eq;
       })
+
+-- ends whose numbers ascend
+pub named_apart : {T : Type 0} (number : T → ℕ) (ts : List T) (edges : List ℕ) → map number ts ≡ edges
+    → IsStrictlyIncreasing edges → AreApart (map number ts) ts
+named_apart number ts edges are rising = record {
+  ascending = subst IsStrictlyIncreasing (sym are) rising;
+  one_each = sym (length-map ts number);
+}
+
+-- what is written in the place of an element has its number, so that all numbers are as they were
+pub same_numbers : {T : Type 0} (number : T → ℕ) (ts : List T) (i : ℕ) (old new : T) → i < length ts → old ≡ get_or ts i old
+    → number new ≡ number old → map number (set ts i new) ≡ map number ts
+same_numbers number ts i old new within was same = map-set number ts i new
+    ∙ ap (set (map number ts) i) (same ∙ ap number was ∙ sym (get_or-map number ts i old 0 within))
+    ∙ set-get_or (map number ts) i 0
+
+-- an end that is written at a slot
+module _ (ends : List OutEnd) (now : OutEnds) (same : outs_of ends ≡ now) (apart : AreApart (outs_of ends).edges ends)
+    (slot : Slot) (at : IsSlotOf now.edges slot) (old : OutEnd) (was : old ≡ get_or ends slot.index old) (new : OutEnd)
+    (keeps : new.link.edge ≡ old.link.edge) where
+  there_out : slot.index < length ends
+  there_out = let l = (at_out (outs_of ends) now same apart slot at old was).within in let one = apart.one_each in
+      omega arith
+
+  pub written_out : (f : OutEnd → OutEnd) → new ≡ f old
+      → ChangesOut now (outs_of (set ends slot.index new)) slot.edge f
+  written_out f is = subst
+      (λ (es : List ℕ). ChangesOut now (record { edges = es; ends = set ends slot.index new }) slot.edge f)
+      (sym (same_numbers (λ (o : OutEnd). o.link.edge) ends slot.index old new there_out was keeps))
+      (changes_out (outs_of ends) now same apart slot at old was new f is)
+
+  pub apart_out : AreApart (outs_of (set ends slot.index new)).edges (set ends slot.index new)
+  apart_out = named_apart (λ (o : OutEnd). o.link.edge) (set ends slot.index new) (outs_of ends).edges
+      (same_numbers (λ (o : OutEnd). o.link.edge) ends slot.index old new there_out was keeps) apart.ascending
+
+module _ (ends : List HeadState) (now : InEnds) (same : ins_of ends ≡ now) (apart : AreApart (ins_of ends).edges ends)
+    (slot : Slot) (at : IsSlotOf now.edges slot) (old : HeadState) (was : old ≡ get_or ends slot.index old)
+    (new : HeadState) (keeps : new.edge ≡ old.edge) where
+  there_in : slot.index < length ends
+  there_in = let l = (at_in (ins_of ends) now same apart slot at old was).within in let one = apart.one_each in
+      omega arith
+
+  pub written_in : (f : HeadState → HeadState) → new ≡ f old
+      → ChangesIn now (ins_of (set ends slot.index new)) slot.edge f
+  written_in f is = subst
+      (λ (es : List ℕ). ChangesIn now (record { edges = es; ends = set ends slot.index new }) slot.edge f)
+      (sym (same_numbers (λ (h : HeadState). h.edge) ends slot.index old new there_in was keeps))
+      (changes_in (ins_of ends) now same apart slot at old was new f is)
+
+  pub apart_in : AreApart (ins_of (set ends slot.index new)).edges (set ends slot.index new)
+  apart_in = named_apart (λ (h : HeadState). h.edge) (set ends slot.index new) (ins_of ends).edges
+      (same_numbers (λ (h : HeadState). h.edge) ends slot.index old new there_in was keeps) apart.ascending
+
+-- no step of a tail changes which edge it is an end of
+either_edge : (b : Bool) (t u : TailState) (e : ℕ) → t.edge ≡ e → u.edge ≡ e → (cond b t u).edge ≡ e
+either_edge true t u e here there = here
+either_edge false t u e here there = there
+
+pub clear_keeps : (cell : ℕ) (t : TailState) → (tail_after_clear cell t).edge ≡ t.edge
+clear_keeps cell t = either_edge (may_clear t) _ t t.edge refl refl
+
+pub claim_keeps : (word count : ℕ) (t : TailState) → (tail_after_claim word count t).edge ≡ t.edge
+claim_keeps word count t = either_edge (eqb word t.claims) _ _ t.edge refl refl
+
+-- nor does a take
+pub take_keeps : (cell : ℕ) (h : HeadState) → (head_after_take cell h).edge ≡ h.edge
+take_keeps cell h = either (eqb cell 0)
+  where
+    either : (b : Bool) → (cond b h (record h { taken = h.taken + 1 })).edge ≡ h.edge
+    either true = refl
+    either false = refl
 
 -- an end with a claim, and with so much pending
 abbrev claiming : ℕ → OutEnd → ℕ → OutEnd
@@ -139,14 +211,11 @@ module _ (is now : InEnds) (same : is ≡ now) (apart : AreApart is.edges is.end
   in_there = found_in is now same apart (record { index = place; edge = get_or now.edges place 0 })
       (record { within = within; edge = refl }) end was
 
--- a list that was made from the numbers of edges, one end after another
-pub made_apart : {T : Type 0} (edges : List ℕ) (f : ℕ → T) (ts : List T) (i : ℕ) → IsStrictlyIncreasing edges
-    → ts ≡ map f (take i edges) → length edges ≤ i → AreApart edges ts
-made_apart edges f ts i rising is all = record {
-  ascending = rising;
-  one_each = ap length is
-      ∙ length-map (take i edges) f ∙ ap length (take_all i edges all);
-}
+-- a list that is made from the numbers of edges has these numbers
+pub made_numbers : {T : Type 0} (number : T → ℕ) (f : ℕ → T) → ((e : ℕ) → number (f e) ≡ e) → (edges : List ℕ)
+    → map number (map f edges) ≡ edges
+made_numbers number f keeps [] = refl
+made_numbers number f keeps (e ∷ es) = λ j. keeps e j ∷ made_numbers number f keeps es j
 
 -- a list of the right length fills the vector
 pub filled : {T : Type 0} (n : ℕ) (ws rest : List T) → length ws ≡ n → take n (ws ++ rest) ≡ ws

@@ -1,49 +1,15 @@
 -- Serves Ends.antt.
 -- What stands beside the numbers of edges, looked up by a number.
-use Rattle.std.proofs.Common.{◌≡◌, ℕ, zero, suc, ◌<◌, ◌≤◌, cond, eqb, List, [], ◌∷◌, length, map, get_or, set, Result}
-use Rattle.std.proofs.Common.{Ok, Err, IsOk, IfOk, refl, sym, ap, ◌∙◌, inl, inr, arith}
+use Rattle.std.proofs.Common.{◌≡◌, ℕ, zero, suc, ◌<◌, cond, eqb, List, [], ◌∷◌, length, map, get_or, set}
+use Rattle.std.proofs.Common.{refl, sym, ap, ◌∙◌, arith}
 use mathlib.Core.Logic.{dite}
 use native.Mathlib.Decide.{ℕ_discrete}
 use Rattle.std.specs.List.{Contains}
-use Rattle.std.specs.List.Sorted.{IsStrictlyIncreasing, IsSearchInRange, IsBinarySearchResult, IsNonDecreasingBy}
-use Rattle.std.specs.Ordering.{nat_cmp, ordering_index}
-use Rattle.std.proofs.lemmas.Bool.{cases_lt}
-use Rattle.std.proofs.lemmas.Bool.Decides.{nat_tests}
-use Rattle.std.proofs.lemmas.Cmp.{ranked}
+use Rattle.std.specs.List.Sorted.{IsStrictlyIncreasing}
 use Rattle.std.proofs.lemmas.List.{get_or_default}
-use Rattle.std.proofs.lemmas.List.Sorted.{IsNonDecreasingBy-from_default}
 use Rattle.chip_graph.proofs.SumLemmas.{cond_yes, cond_no}
-use Rattle.chip_detect.specs.Slot.{IsSlotOf}
 use Rattle.chip_detect.proofs.LookupsLemmas.{Ascends, ascends, ascends_tail, not_in_front}
 use Rattle.chip_actor.specs.Ends.{on_edge}
-
--- a search for a number that is there succeeds, at its slot
-pub record FoundAt (xs : List ℕ) (e : ℕ) (r : Result ℕ ℕ) : Type 0 where
-  pub ok : IsOk r
-  pub slot : IfOk r (λ i. IsSlotOf xs (record { index = i; edge = e }))
-
-module _ (xs : List ℕ) (rising : IsStrictlyIncreasing xs) (e : ℕ) where
-  comparisons_rise : IsNonDecreasingBy (λ (x : ℕ). ordering_index (nat_cmp x e)) xs
-  comparisons_rise = IsNonDecreasingBy-from_default (λ (x : ℕ). ordering_index (nat_cmp x e)) xs 0 (λ i j le in_range.
-      let up = ascends xs rising in
-      let rise : get_or xs i 0 ≤ get_or xs j 0 = grind
-      (arith, up i j, λ (same : i ≡ j). ap (λ (k : ℕ). get_or xs k 0) same) in
-      grind (arith, nat_tests))
-
-  pub searched : (r : Result ℕ ℕ) → Contains xs e → IsSearchInRange r (length xs)
-      → IsBinarySearchResult (λ (x : ℕ). nat_cmp x e) xs r → FoundAt xs e r
-  searched (Ok i) on in_range equal = record {
-    ok = refl;
-    slot = record { within = in_range; edge = ranked _ e _ (sym (equal 0)) };
-  }
-  searched (Err i) (k, there, at) in_range parted =
-      let here : get_or xs k 0 ≡ e = sym (get_or_default xs k e 0 there) ∙ at in
-      elim (cases_lt k i) [
-        | inl before ↦ absurd (omega
-            (arith, here, ranked _ e _ (sym ((parted comparisons_rise).0 k 0 (omega arith) before))))
-        | inr after ↦ absurd (omega
-            (arith, here, ranked _ e _ (sym ((parted comparisons_rise).1 k 0 after (omega arith)))))
-      ]
 
 -- the end at a place
 pub on_edge_at : {T : Type 0} (none : T) (xs : List ℕ) (ts : List T) (i : ℕ) (d : T) → Ascends xs

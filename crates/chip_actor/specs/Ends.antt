@@ -24,6 +24,14 @@ pub record InEnds : Type 0 where
   pub edges : List ℕ
   pub ends : List HeadState
 
+-- the edges of these ends out of a vertex
+abbrev pub outs_of : List OutEnd → OutEnds
+outs_of ends = record { edges = map (λ (o : OutEnd). o.link.edge) ends; ends = ends }
+
+-- the edges of these ends into a vertex
+abbrev pub ins_of : List HeadState → InEnds
+ins_of ends = record { edges = map (λ (h : HeadState). h.edge) ends; ends = ends }
+
 -- the edges with this end at an index
 abbrev pub with_end : OutEnds → ℕ → OutEnd → OutEnds
 with_end os index end = record os { ends = slice_set os.ends index end }

@@ -460,7 +460,7 @@ impl ActorState {
         let graph = game.graph();
         let outs = Outs::new(alloc, graph, vertex, ring)?;
         let ins = Ins::new(alloc, graph, vertex, ring)?;
-        let detect = Detect::new(alloc, ins.edges(), graph.outs(vertex))?;
+        let detect = new_books(alloc, &ins, graph.outs(vertex))?;
         Ok(ActorState {
             vertex,
             is_sink: vertex == graph.sink(),
@@ -477,4 +477,18 @@ impl ActorState {
             refused: 0,
         })
     }
+}
+
+ghost use Rattle.chip_detect.specs.Tally.{edge_limit};
+ghost use Rattle.chip_detect.specs.Books.{IsFresh, IsSound};
+
+/// The books of a neutral vertex with these edges into it and out of it.
+fn new_books(alloc: Global, ins: &Ins, outs: &[u64]) -> Result<Detect, AllocError>
+    requires few_ins { length ins.now.edges ≤ edge_limit }
+    requires few_outs { length outs.now ≤ edge_limit }
+    ensures fresh { IfOk result (λ books. IsFresh books ins.now.edges outs.now) }
+    ensures sound { IfOk result IsSound }
+{
+    let numbers = ins.numbers(alloc)?;
+    Detect::new(alloc, &numbers, outs)
 }

@@ -2,7 +2,6 @@
 
 mod ins;
 mod outs;
-mod search;
 mod sending;
 
 pub use ins::Ins;

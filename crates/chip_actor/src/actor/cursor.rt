@@ -55,8 +55,8 @@ impl ActorState {
         requires { MayBeAt self.now (Cursor.Take place) }
         ensures { DueAt self.now (Cursor.Take place) result }
     {
-        match self.ins.edges().get(place) {
-            Some(&edge) => Some((Event::Take(edge), Cursor::Take(place + 1))),
+        match self.ins.ends().get(place) {
+            Some(end) => Some((Event::Take(end.edge()), Cursor::Take(place + 1))),
             None => self.due_settle(0),
         }
     }
@@ -65,8 +65,8 @@ impl ActorState {
         requires { MayBeAt self.now (Cursor.Settle place) }
         ensures { DueAt self.now (Cursor.Settle place) result }
     {
-        match self.outs.edges().get(place) {
-            Some(&edge) => Some((Event::Settle(edge), Cursor::Settle(place + 1))),
+        match self.outs.ends().get(place) {
+            Some(end) => Some((Event::Settle(end.link.edge()), Cursor::Settle(place + 1))),
             None => self.due_fire(),
         }
     }
@@ -108,7 +108,7 @@ impl ActorState {
         }
         match self.outs.next_held(place) {
             Some(place) => {
-                let edge = self.outs.edges()[place];
+                let edge = self.outs.at(place).link.edge();
                 Some((Event::Put(edge), Cursor::Put(place + 1)))
             }
             None => self.due_refusal(),
@@ -137,7 +137,7 @@ impl ActorState {
         }
         match self.outs.next_pending(place) {
             Some(place) => {
-                let edge = self.outs.edges()[place];
+                let edge = self.outs.at(place).link.edge();
                 Some((Event::Clear(edge), Cursor::Claim(place)))
             }
             None => self.due_limit(),
@@ -148,7 +148,7 @@ impl ActorState {
         requires { MayBeAt self.now (Cursor.Claim place) }
         ensures { DueAt self.now (Cursor.Claim place) result }
     {
-        let edge = self.outs.edges()[place];
+        let edge = self.outs.at(place).link.edge();
         if self.outs.at(place).link.claim_next().is_some() {
             return Some((Event::Claim(edge), Cursor::Store(place)));
         }
@@ -159,7 +159,7 @@ impl ActorState {
         requires { MayBeAt self.now (Cursor.Store place) }
         ensures { DueAt self.now (Cursor.Store place) result }
     {
-        let edge = self.outs.edges()[place];
+        let edge = self.outs.at(place).link.edge();
         if self.outs.at(place).link.held().is_some() {
             return Some((Event::Put(edge), Cursor::Send(place + 1)));
         }
@@ -190,7 +190,7 @@ impl ActorState {
     {
         match self.next_owed(place) {
             Some(place) => {
-                let edge = self.ins.edges()[place];
+                let edge = self.ins.at(place).edge();
                 Some((Event::Ack(edge), Cursor::Ack(place + 1)))
             }
             None => self.due_parent(),
@@ -203,12 +203,12 @@ impl ActorState {
         ensures { IsFirstFrom (λ e. not (may_ack self.now.detect e (is_passive_now self.now) == 0)) self.now.ins.edges
             place result }
     {
-        let edges = self.ins.edges();
+        let ends = self.ins.ends();
         let passive = self.passive();
-        for next in place..edges.len() {
+        for next in place..ends.len() {
             let slot = Slot {
                 index: next,
-                edge: edges[next],
+                edge: ends[next].edge(),
             };
             if self.detect.may_ack_at(slot, passive) != 0 {
                 return Some(next);

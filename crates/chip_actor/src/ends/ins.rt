@@ -1,7 +1,6 @@
 ghost use Rattle.std.specs.Prelude.{◌≡◌, ◌^◌, ◌<◌, ◌≤◌, length, slice_index, map, IfOk, Contains};
 ghost use Rattle.std.specs.List.Sorted.{IsStrictlyIncreasing};
 
-use crate::ends::search::slot_of;
 use crate::medium::Medium;
 use chip_detect::{Detect, Slot};
 use chip_graph::Graph;
@@ -10,28 +9,26 @@ use chip_part::Cursor;
 use std::alloc::{AllocError, Global};
 use std::marker::Model;
 
-/// The edges into a vertex, its root edge last, by ascending numbers. The numbers stand apart too, so that a search
-/// reads nothing else.
+/// The edges into a vertex, its root edge last, by ascending numbers.
 #[derive(Drop)]
 pub struct Ins {
-    edges: Vec<u64>,
     ends: Vec<HeadLink>,
 }
 
 impl Model for Ins {
-    ghost use Rattle.chip_actor.specs.Ends.{InEnds, AreApart};
+    ghost use Rattle.chip_actor.specs.Ends.{InEnds, ins_of, AreApart};
 
     ghost Value = { InEnds };
 
-    ghost view = { λ a. record { edges = a.edges.items; ends = a.ends.items } };
+    ghost view = { λ a. ins_of a.ends.items };
 
-    ghost invariant = { λ a. AreApart a.edges.items a.ends.items };
+    ghost invariant = { λ a. AreApart (ins_of a.ends.items).edges a.ends.items };
 }
 
 impl Ins {
     ghost use Rattle.chip_detect.specs.Slot.{IsSlotOf};
     ghost use Rattle.chip_link.specs.Ends.{head_cell, message_taken, head_after_take};
-    ghost use Rattle.chip_actor.specs.Ends.{InEnds, in_on, AreApart, ChangesIn, IsFreshIns};
+    ghost use Rattle.chip_actor.specs.Ends.{InEnds, ins_of, in_on, AreApart, ChangesIn, IsFreshIns};
     ghost use Rattle.chip_actor.specs.Actor.{Actor, with_taken};
     ghost use Rattle.chip_actor.specs.Medium.{Meets, Moves};
 
@@ -41,7 +38,11 @@ impl Ins {
         ensures slot { IsSlotOf self.now.edges result }
         ensures edge { result.edge ≡ edge }
     {
-        slot_of(&self.edges, edge)
+        let index = self
+            .ends
+            .binary_search_by_key(&edge, |end| end.edge())
+            .unwrap();
+        Slot { index, edge }
     }
 
     /// The cell of the next place to take on an edge.
@@ -55,6 +56,7 @@ impl Ins {
     /// What is known of the edges, in their order.
     pub fn ends(&self) -> &[HeadLink]
         ensures ends { result.now ≡ self.now.ends }
+        ensures edges { (ins_of result.now).edges ≡ self.now.edges }
         ensures apart { AreApart self.now.edges result.now }
     {
         self.ends.as_slice()
@@ -63,7 +65,8 @@ impl Ins {
     /// What is known of the edge at this index.
     pub fn at(&self, index: usize) -> &HeadLink
         requires { index < length self.now.edges }
-        ensures { result.now ≡ in_on self.now (slice_index self.now.edges index) }
+        ensures end { result.now ≡ in_on self.now (slice_index self.now.edges index) }
+        ensures edge { result.now.edge ≡ slice_index self.now.edges index }
     {
         &self.ends[index]
     }
@@ -116,21 +119,23 @@ impl Ins {
         ensures { IfOk result (λ ins. IsFreshIns graph.now ring vertex ins) }
     {
         let numbers = graph.ins(vertex);
-        let mut edges = Vec::with_capacity(alloc, numbers.len() + 1)?;
-        edges.extend_from_slice(numbers)?;
-        edges.push(graph.edges().len() as u64 + vertex)?;
-        let mut ends = Vec::with_capacity(alloc, edges.len())?;
-        for &edge in &edges {
+        let mut ends = Vec::with_capacity(alloc, numbers.len() + 1)?;
+        for &edge in numbers {
             ends.push_reserved(HeadLink::new(edge, ring));
         }
-        Ok(Ins { edges, ends })
+        let root_edge = graph.edges().len() as u64 + vertex;
+        ends.push_reserved(HeadLink::new(root_edge, ring));
+        Ok(Ins { ends })
     }
 
-    /// The numbers of the edges.
-    pub fn edges(&self) -> &[u64]
-        ensures edges { result.now ≡ self.now.edges }
-        ensures ascending { IsStrictlyIncreasing result.now }
+    /// A list of the numbers of the edges.
+    pub fn numbers(&self, alloc: Global) -> Result<Vec<u64>, AllocError>
+        ensures { IfOk result (λ numbers. numbers.items ≡ self.now.edges) }
     {
-        &self.edges
+        let mut numbers = Vec::with_capacity(alloc, self.ends.len())?;
+        for end in &self.ends {
+            numbers.push_reserved(end.edge());
+        }
+        Ok(numbers)
     }
 }

@@ -2,7 +2,6 @@ ghost use Rattle.std.specs.Prelude.{◌≡◌, ℕ, ◌*◌, ◌^◌, ◌<◌, �
 ghost use Rattle.std.specs.Prelude.{slice_index, slice_index_or, not, is_some, ◌==◌, MatchOption, IfSome, None};
 ghost use Rattle.chip_graph.specs.Limits.{max_total};
 
-use crate::ends::search::slot_of;
 use crate::medium::Medium;
 use chip_detect::{Detect, Slot};
 use chip_graph::Graph;
@@ -22,21 +21,20 @@ pub struct OutEnd {
     pub link: TailLink,
 }
 
-/// The edges out of a vertex, by ascending numbers. The numbers stand apart too, so that a search reads nothing else.
+/// The edges out of a vertex, by ascending numbers.
 #[derive(Drop)]
 pub struct Outs {
-    edges: Vec<u64>,
     ends: Vec<OutEnd>,
 }
 
 impl Model for Outs {
-    ghost use Rattle.chip_actor.specs.Ends.{OutEnds, AreApart};
+    ghost use Rattle.chip_actor.specs.Ends.{OutEnds, outs_of, AreApart};
 
     ghost Value = { OutEnds };
 
-    ghost view = { λ a. record { edges = a.edges.items; ends = a.ends.items } };
+    ghost view = { λ a. outs_of a.ends.items };
 
-    ghost invariant = { λ a. AreApart a.edges.items a.ends.items };
+    ghost invariant = { λ a. AreApart (outs_of a.ends.items).edges a.ends.items };
 }
 
 impl Outs {
@@ -44,7 +42,7 @@ impl Outs {
     ghost use Rattle.chip_link.specs.Words.{claims_in};
     ghost use Rattle.chip_actor.specs.Ends.{AreApart, IsFirstFrom};
     ghost use Rattle.chip_link.specs.Ends.{put_of, message_claimed, may_clear, claim_words, tail_after_clear};
-    ghost use Rattle.chip_actor.specs.Ends.{OutEnds, OutEnd, out_on, ChangesOut, ChangesOuts, IsFreshOuts};
+    ghost use Rattle.chip_actor.specs.Ends.{OutEnds, OutEnd, outs_of, out_on, ChangesOut, ChangesOuts, IsFreshOuts};
     ghost use Rattle.chip_actor.specs.Ends.{out_after_clear, out_after_claim, out_after_put, out_after_fire};
     ghost use Rattle.chip_actor.specs.Actor.{Actor, with_sent};
     ghost use Rattle.chip_actor.specs.Medium.{Meets, Moves};
@@ -55,7 +53,11 @@ impl Outs {
         ensures slot { IsSlotOf self.now.edges result }
         ensures edge { result.edge ≡ edge }
     {
-        slot_of(&self.edges, edge)
+        let index = self
+            .ends
+            .binary_search_by_key(&edge, |end| end.link.edge())
+            .unwrap();
+        Slot { index, edge }
     }
 
     /// What is known of an edge.
@@ -66,16 +68,10 @@ impl Outs {
         self.at(self.slot_of(edge).index)
     }
 
-    /// The numbers of the edges.
-    pub fn edges(&self) -> &[u64]
-        ensures { result.now ≡ self.now.edges }
-    {
-        &self.edges
-    }
-
     /// What is known of the edges, in their order.
     pub fn ends(&self) -> &[OutEnd]
         ensures ends { result.now ≡ self.now.ends }
+        ensures edges { (outs_of result.now).edges ≡ self.now.edges }
         ensures apart { AreApart self.now.edges result.now }
     {
         self.ends.as_slice()
@@ -84,7 +80,8 @@ impl Outs {
     /// What is known of the edge at this index.
     pub fn at(&self, index: usize) -> &OutEnd
         requires { index < length self.now.edges }
-        ensures { result.now ≡ out_on self.now (slice_index self.now.edges index) }
+        ensures end { result.now ≡ out_on self.now (slice_index self.now.edges index) }
+        ensures edge { result.now.link.edge ≡ slice_index self.now.edges index }
     {
         &self.ends[index]
     }
@@ -199,7 +196,6 @@ impl Outs {
         ensures { IfOk result (λ outs. IsFreshOuts graph.now ring vertex outs) }
     {
         let numbers = graph.outs(vertex);
-        let edges = Vec::from_slice(alloc, numbers)?;
         let mut ends = Vec::with_capacity(alloc, numbers.len())?;
         let rows = graph.edges();
         for &edge in numbers {
@@ -209,6 +205,6 @@ impl Outs {
                 link: TailLink::new(edge, ring),
             });
         }
-        Ok(Outs { edges, ends })
+        Ok(Outs { ends })
     }
 }

@@ -36,6 +36,7 @@ impl OutEnd {
             (Cursor.Send (index + 1)) work) }
         ensures few { IfSome result (λ work. work ≤ 2) }
         ensures refused { result ≡ None → put_of self.new.link ≡ None }
+        ensures edge { self.new.link.edge ≡ self.old.link.edge }
     {
         if self.pending == 0 {
             return Some(0);

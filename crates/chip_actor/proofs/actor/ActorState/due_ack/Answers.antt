@@ -13,8 +13,9 @@ returns-in-Some c = λ g s stands at.
     let v : ℕ = c.args.self.now.vertex in
     let n : ℕ = c.in-Some.place in
     let first = first_owed g s c.args.self.now stands c.args.place (Some n) c.in-Some.ensures in
-    let edges = c.edges.ensures.edges ∙ ap (λ (a : Actor). a.ins.edges) c.self.view_is ∙ stands.knows.ins in
-    subst (λ (xs : List ℕ). GoesBy g v s (At.Ack c.args.place) (Ack (get_or xs n 0)) (At.Ack (n + 1))) (sym edges)
+    let edge = c.edge-edge.ensures ∙ c.at.ensures.edge ∙ ap (λ (a : Actor). get_or a.ins.edges n 0) c.self.view_is
+    ∙ ap (λ (xs : List ℕ). get_or xs n 0) stands.knows.ins in
+    subst (λ (e : ℕ). GoesBy g v s (At.Ack c.args.place) (Ack e) (At.Ack (n + 1))) (sym edge)
     (ack_due g v stands.knows.vertex s c.args.place n first.0 first.1 first.2 first.3)
 
 pub returns-in-None : goal.returns-in-None

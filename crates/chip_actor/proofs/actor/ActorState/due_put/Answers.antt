@@ -23,8 +23,9 @@ returns-in-Some c = λ g s stands at.
     let v : ℕ = c.args.self.now.vertex in
     let n : ℕ = c.in-Some.place in
     let first = first_held g s c.args.self.now stands _ c.self.view_is c.args.place (Some n) c.in-Some.ensures in
-    let edges = c.edges.ensures ∙ ap (λ (a : Actor). a.outs.edges) c.self.view_is ∙ stands.knows.outs in
-    subst (λ (xs : List ℕ). GoesBy g v s (At.Put c.args.place) (Put (get_or xs n 0)) (At.Put (n + 1))) (sym edges)
+    let edge = c.edge-edge.ensures ∙ c.at.ensures.edge ∙ ap (λ (a : Actor). get_or a.outs.edges n 0) c.self.view_is
+    ∙ ap (λ (xs : List ℕ). get_or xs n 0) stands.knows.outs in
+    subst (λ (e : ℕ). GoesBy g v s (At.Put c.args.place) (Put e) (At.Put (n + 1))) (sym edge)
     (put_due g v stands.knows.vertex s c.args.place n at first.0 first.1 first.2 first.3)
 
 pub returns-in-None : goal.returns-in-None

@@ -13,11 +13,12 @@ pub returns-then-is_some : goal.returns-then-is_some
 returns-then-is_some c = λ g s stands at.
     let v : ℕ = c.args.self.now.vertex in
     let n : ℕ = c.args.place in
-    let edges = c.edges.ensures ∙ ap (λ (a : Actor). a.outs.edges) c.self.view_is ∙ stands.knows.outs in
+    let edge = c.edge-edge.ensures ∙ c.at.ensures.edge ∙ ap (λ (a : Actor). get_or a.outs.edges n 0) c.self.view_is
+    ∙ ap (λ (xs : List ℕ). get_or xs n 0) stands.knows.outs in
     let held = sym (held_at_place g s c.args.self.now stands _ c.self.view_is n at.0)
-    ∙ sym (ap (λ (o : OutEnd). is_some (put_of o.link)) c.at.ensures) ∙ sym (ap is_some c.held.ensures.value)
+    ∙ sym (ap (λ (o : OutEnd). is_some (put_of o.link)) c.at-2.ensures.end) ∙ sym (ap is_some c.held.ensures.value)
     ∙ sym c.is_some.ensures ∙ c.if-is_some.true in
-    subst (λ (xs : List ℕ). GoesBy g v s (At.Store n) (Put (get_or xs n 0)) (At.Send (n + 1))) (sym edges)
+    subst (λ (e : ℕ). GoesBy g v s (At.Store n) (Put e) (At.Send (n + 1))) (sym edge)
     (store_due g v stands.knows.vertex s n at held)
 
 pub returns : goal.returns
@@ -25,7 +26,7 @@ returns c = λ g s stands at.
     let v : ℕ = c.args.self.now.vertex in
     let n : ℕ = c.args.place in
     let none = sym (held_at_place g s c.args.self.now stands _ c.self.view_is n at.0)
-    ∙ sym (ap (λ (o : OutEnd). is_some (put_of o.link)) c.at.ensures) ∙ sym (ap is_some c.held.ensures.value)
+    ∙ sym (ap (λ (o : OutEnd). is_some (put_of o.link)) c.at-2.ensures.end) ∙ sym (ap is_some c.held.ensures.value)
     ∙ sym c.is_some.ensures ∙ c.if-is_some.false in
     subst (λ (a : Actor). GoesBy g v s (At.Store n) (Halt a.vertex) At.Limit) (sym c.self.view_is)
     (stop_due g v stands.knows.vertex s stands.knows.setting.game n at none)

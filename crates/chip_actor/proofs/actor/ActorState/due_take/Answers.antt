@@ -1,6 +1,8 @@
-use Rattle.std.proofs.Common.{◌∙◌, ℕ, ◌+◌, ◌<◌, ◌≤◌, List, sym, ap, subst, length, get_or}
+use Rattle.std.proofs.Common.{◌∙◌, ℕ, ◌+◌, ◌<◌, ◌≤◌, List, sym, ap, subst, length, get_or, arith}
+use Rattle.std.proofs.lemmas.List.{get_or-map, length-map}
 use Rattle.chip_part.specs.declared.cursor.Cursor.TheVariants as At
 use Rattle.chip_part.specs.Rules.{Take}
+use Rattle.chip_link.specs.Ends.{HeadState, new_head}
 use Rattle.chip_actor.specs.Actor.{Actor}
 use Rattle.chip_part.specs.Cursor.{GoesBy}
 use Rattle.chip_part.proofs.TurnStepsLemmas.{take_due, takes_over}
@@ -12,9 +14,12 @@ returns-in-Some c = λ g s stands at.
     let v : ℕ = c.args.self.now.vertex in
     let n : ℕ = c.args.place in
     let found = c.in-Some.ensures.lookup.3 in
-    let edges = c.edges.ensures.edges ∙ ap (λ (a : Actor). a.ins.edges) c.self.view_is ∙ stands.knows.ins in
-    let within = subst (λ (xs : List ℕ). n < length xs) edges found.0 in
-    let edge = found.1 0 ∙ ap (λ (xs : List ℕ). get_or xs n 0) edges in
+    let edges = c.ends.ensures.edges ∙ ap (λ (a : Actor). a.ins.edges) c.self.view_is ∙ stands.knows.ins in
+    let within = subst (λ (xs : List ℕ). n < length xs) edges
+    (let l = found.0 in let m = length-map c.ends.result.now (λ (h : HeadState). h.edge) in omega arith) in
+    let edge = c.edge.ensures ∙ ap (λ (h : HeadState). h.edge) (found.1 (new_head 0 1))
+    ∙ sym (get_or-map (λ (h : HeadState). h.edge) c.ends.result.now n (new_head 0 1) 0 found.0)
+    ∙ ap (λ (xs : List ℕ). get_or xs n 0) edges in
     subst (λ (e : ℕ). GoesBy g v s (At.Take n) (Take e) (At.Take (n + 1))) (sym edge)
     (take_due g v stands.knows.vertex s n within)
 
@@ -22,7 +27,8 @@ pub returns-in-None : goal.returns-in-None
 returns-in-None c = λ g s stands at.
     let v : ℕ = c.args.self.now.vertex in
     let n : ℕ = c.args.place in
-    let edges = c.edges.ensures.edges ∙ ap (λ (a : Actor). a.ins.edges) c.self.view_is ∙ stands.knows.ins in
-    let over = subst (λ (xs : List ℕ). length xs ≤ n) edges c.in-None.ensures.lookup.3 in
+    let edges = c.ends.ensures.edges ∙ ap (λ (a : Actor). a.ins.edges) c.self.view_is ∙ stands.knows.ins in
+    let over = subst (λ (xs : List ℕ). length xs ≤ n) edges
+    (let l = c.in-None.ensures.lookup.3 in let m = length-map c.ends.result.now (λ (h : HeadState). h.edge) in omega arith) in
     passes_due g v s (At.Take n) (At.Settle 0) (takes_over g v stands.knows.vertex s n over) c.due_settle.result
     (c.due_settle.ensures g s stands tt)

@@ -9,18 +9,18 @@ use Rattle.chip_part.proofs.PickedLemmas.{length-picked}
 use Rattle.chip_actor.proofs.ActorOpeningLemmas.{opens}
 use Rattle.chip_actor.proofs.actor.ActorState.new.Goals as goal
 
-pub new-requires-3-clause-few_ins : goal.new-requires-3-clause-few_ins
-new-requires-3-clause-few_ins c =
+pub new_books-requires-clause-few_ins : goal.new_books-requires-clause-few_ins
+new_books-requires-clause-few_ins c =
     let graph : Multigraph = c.graph-graph.result.now in
     let edges = ap (λ (G : Multigraph). length G.edges) c.graph-graph.ensures.value in
     let few = c.graph-graph.ensures.game.graph_fits.few_edges in
-    let all = ap length (c.edges.ensures.edges ∙ c.in_ok-ins.ensures.edges) in
+    let all = ap length c.in_ok-ins.ensures.edges in
     let long = length-append (edges_in graph c.args.vertex) ((length graph.edges + c.args.vertex) ∷ []) in
     let own = length-picked (λ e. eqb (edge_at graph e).head c.args.vertex) (length graph.edges) in
     omega arith
 
-pub new-requires-3-clause-few_outs : goal.new-requires-3-clause-few_outs
-new-requires-3-clause-few_outs c =
+pub new_books-requires-clause-few_outs : goal.new_books-requires-clause-few_outs
+new_books-requires-clause-few_outs c =
     let graph : Multigraph = c.graph-graph.result.now in
     let edges = ap (λ (G : Multigraph). length G.edges) c.graph-graph.ensures.value in
     let few = c.graph-graph.ensures.game.graph_fits.few_edges in
@@ -44,8 +44,7 @@ returns-clause-opened c =
     (subst (λ (G : Multigraph). IsFreshOuts G c.args.ring c.args.vertex c.in_ok-outs.outs) same c.in_ok-outs.ensures)
     (subst (λ (G : Multigraph). IsFreshIns G c.args.ring c.args.vertex c.in_ok-ins.ins) same c.in_ok-ins.ensures)
     (subst (λ (xs : List ℕ). IsFresh c.in_ok-detect.detect c.in_ok-ins.ins.edges xs) outs
-    (subst (λ (xs : List ℕ). IsFresh c.in_ok-detect.detect xs c.outs-2.result.now) c.edges.ensures.edges
-    c.in_ok-detect.ensures.fresh))
+    c.in_ok-detect.ensures.fresh)
     c.in_ok-detect.ensures.sound
     _
     (λ j. let a : Actor = record {

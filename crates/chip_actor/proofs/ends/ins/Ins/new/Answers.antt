@@ -1,18 +1,39 @@
-use Rattle.std.proofs.Common.{◌≡◌, ℕ, List, [], ◌∷◌, ◌++◌, ◌+◌, length, rules, sym, subst, ◌∙◌}
-use Rattle.std.specs.List.Sorted.{IsStrictlyIncreasing}
-use Rattle.chip_link.specs.Ends.{new_head}
+use Rattle.std.proofs.Common.{◌≡◌, ◌∙◌, ◌++◌, ◌+◌, [], ◌∷◌, ℕ, List, length, map, refl, sym, ap}
+use Rattle.std.proofs.lemmas.List.{take_all, map-append}
 use Rattle.chip_graph.specs.Multigraph.{edges_in}
-use Rattle.chip_actor.specs.Ends.{AreApart}
+use Rattle.chip_link.specs.Ends.{HeadState, new_head}
 use Rattle.chip_part.proofs.PickedLemmas.{ins_rise}
-use Rattle.chip_actor.proofs.EndLemmas.{made_apart}
+use Rattle.chip_actor.proofs.EndLemmas.{made_numbers, named_apart}
 use Rattle.chip_actor.proofs.ends.ins.Ins.new.Goals as goal
+use Rattle.chip_actor.proofs.ends.ins.Ins.new.Goals.{After-push_reserved-2}
+
+-- the edges into the vertex, its root edge last
+abbrev into : (c : After-push_reserved-2) → List ℕ
+into c = edges_in c.args.graph.now c.args.vertex ++ (length c.args.graph.now.edges + c.args.vertex) ∷ []
+
+-- each has its end
+made : (c : After-push_reserved-2) → c.push_reserved-2.new.self.items ≡ map (λ e. new_head e c.args.ring) (into c)
+made c = c.push_reserved-2.ensures.items
+    ∙ (λ j. (c.loop-edge.invariant.0
+    ∙ ap (map (λ e. new_head e c.args.ring))
+    (take_all c.loop-edge.edge-index c.ins-numbers.result.now c.loop-edge-test.false ∙ c.ins-numbers.ensures)) j
+    ++ (c.new-2.ensures
+    ∙ ap (λ (n : ℕ). new_head (n + c.args.vertex) c.args.ring) (ap length c.edges.ensures.value)) j ∷ [])
+    ∙ sym (map-append (λ e. new_head e c.args.ring) (edges_in c.args.graph.now c.args.vertex)
+    ((length c.args.graph.now.edges + c.args.vertex) ∷ []))
+
+-- and its number
+numbers : (c : After-push_reserved-2) → map (λ (h : HeadState). h.edge) c.push_reserved-2.new.self.items ≡ into c
+numbers c = ap (map (λ (h : HeadState). h.edge)) (made c)
+    ∙ made_numbers (λ (h : HeadState). h.edge) (λ e. new_head e c.args.ring) (λ e. refl) (into c)
 
 pub invariant_of-result : goal.invariant_of-result
 invariant_of-result c =
-    let are : c.push.new.self.items ≡ edges_in c.args.graph.now c.args.vertex
-    ++ (length c.args.graph.now.edges + c.args.vertex) ∷ [] = search rules in
-    subst (λ (xs : List ℕ). AreApart xs c.loop-edge.ends.items) c.deref-edge-items.ensures.value
-    (made_apart c.deref-edge-items.result.now
-    (λ e. new_head e c.args.ring) c.loop-edge.ends.items c.loop-edge.edge-index
-    (subst IsStrictlyIncreasing (sym (c.deref-edge-items.ensures.value ∙ are))
-    (ins_rise c.args.graph.now c.args.vertex)) c.loop-edge.invariant.0 c.loop-edge-test.false)
+    let d = (goal.at.invariant_of-result c).After-push_reserved-2 in
+    named_apart (λ (h : HeadState). h.edge) c.push_reserved-2.new.self.items (into d) (numbers d)
+    (ins_rise c.args.graph.now c.args.vertex)
+
+pub returns : goal.returns
+returns c =
+    let d = (goal.at.returns c).After-push_reserved-2 in
+    record { edges = numbers d; ends = made d ∙ ap (map (λ e. new_head e c.args.ring)) (sym (numbers d)) }

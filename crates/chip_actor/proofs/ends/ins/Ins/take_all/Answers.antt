@@ -2,10 +2,11 @@ use Rattle.std.proofs.Common.{◌≡◌, ◌∙◌, ◌+◌, ◌≤◌, ◌<◌,
 use Rattle.chip_link.specs.declared.message.Message.{Message}
 use Rattle.chip_link.specs.Ends.{HeadState, head_cell, head_after_take, message_taken}
 use Rattle.chip_part.specs.declared.cursor.Cursor.TheVariants as At
-use Rattle.chip_actor.specs.Ends.{InEnds, AreApart}
+use Rattle.std.specs.Vec.{with_items}
+use Rattle.chip_actor.specs.Ends.{InEnds, AreApart, ins_of}
 use Rattle.chip_actor.specs.Actor.{Actor, with_taken}
 use Rattle.chip_actor.specs.Medium.{Meets, Moves}
-use Rattle.chip_actor.proofs.EndLemmas.{filled}
+use Rattle.chip_actor.proofs.EndLemmas.{filled, named_apart, same_numbers, take_keeps}
 use Rattle.chip_actor.proofs.MediumLemmas.{moves_none, moves_on, meets_after, then_over}
 use Rattle.chip_actor.proofs.TurnOverLemmas.{takes_end}
 use Rattle.chip_actor.proofs.LoopLemmas.{FoundIn, take_asks, take_in_books, take_few, take_nothing, take_fits}
@@ -23,9 +24,9 @@ now g c a = with_taken a (record { edges = c.args.self.now.edges; ends = c.loop-
     c.loop-index.detect
 
 abbrev ends : (g : Over) (c : At-loop-index g) → InEnds
-ends g c = record { edges = c.self.inside.edges.items; ends = c.loop-index.end-items }
+ends g c = record { edges = (ins_of c.self.inside.ends.items).edges; ends = c.loop-index.end-items }
 
-edges_are : (g : Over) (c : At-loop-index g) → c.self.inside.edges.items ≡ c.args.self.now.edges
+edges_are : (g : Over) (c : At-loop-index g) → (ins_of c.self.inside.ends.items).edges ≡ c.args.self.now.edges
 edges_are g c = ap (λ (is : InEnds). is.edges) c.self.view_is
 
 same : (g : Over) (c : At-loop-index g) (a : Actor) → ends g c ≡ (now g c a).ins
@@ -47,6 +48,8 @@ meets g c a h = meets_after (g.M.Medium.holds c.args.medium.now) (g.M.Medium.hol
 pub loop-index-init : goal.loop-index-init
 loop-index-init g c = record {
   few = omega arith;
+  numbers = ap (λ (ts : List HeadState). (ins_of ts).edges) c.deref_mut-end-items.ensures.value
+      ∙ ap (λ (is : InEnds). is.edges) c.self.view_is;
   moved = λ a h. subst
       (λ (is : InEnds). Moves (g.M.Medium.holds c.args.medium.now)
       (with_taken a c.args.self.now c.args.chips.now c.args.detect.now) (At.Take 0)
@@ -83,6 +86,17 @@ left : (seen : ℕ) (end there new : HeadState) → end ≡ there → new ≡ he
     → new ≡ head_after_take seen end
 left seen end there new same after = after ∙ ap (head_after_take seen) (sym same)
 
+-- a take writes an end that has the number of the one that stood there
+kept : (g : Over) (c : At-loop-index g) (seen : ℕ) (end new : HeadState)
+    → c.loop-index.index < length c.deref_mut-end-items.result.now
+    → end ≡ get_or c.loop-index.end-items c.loop-index.index end → new ≡ head_after_take seen end
+    → (ins_of (set c.loop-index.end-items c.loop-index.index new)).edges ≡ c.args.self.now.edges
+kept g c seen end new below was after =
+    same_numbers (λ (h : HeadState). h.edge) c.loop-index.end-items c.loop-index.index end new
+    (let e = c.loop-index.auto.end-items in omega arith) was
+    (ap (λ (h : HeadState). h.edge) after ∙ take_keeps seen end)
+    ∙ c.loop-index.invariant.numbers
+
 pub take-seen-requires : goal.take-seen-requires
 take-seen-requires g c =
     let d = (goal.at.take-seen-requires g c).At-loop-index in
@@ -108,6 +122,8 @@ loop-index-preserved-in_default g c =
     let d = (goal.at.loop-index-preserved-in_default g c).At-loop-index in
     record {
       few = (let f = c.loop-index.invariant.few in omega arith);
+      numbers = kept g d c.take-seen.result c.end-item.result c.taken.new.self c.loop-index-test.true c.end-item.is
+          (left c.take-seen.result _ _ _ c.end-item.is c.taken.ensures.after);
       moved = λ a h.
           let after : Actor = record (now g d a) {
             ins = record {
@@ -168,6 +184,8 @@ loop-index-preserved g c =
     let d = (goal.at.loop-index-preserved g c).At-loop-index in
     record {
       few = (let f = c.loop-index.invariant.few in omega arith);
+      numbers = kept g d c.take-seen.result c.end-item.result c.taken.new.self c.loop-index-test.true c.end-item.is
+          (left c.take-seen.result _ _ _ c.end-item.is c.taken.ensures.after);
       moved = λ a h.
           moves_on (g.M.Medium.holds c.args.medium.now) (g.M.Medium.holds c.loop-index.medium)
           (g.M.Medium.holds c.take-seen.new.self) (old g d a) (now g d a) _ (At.Take 0)
@@ -184,6 +202,19 @@ loop-index-preserved g c =
           c.got_at.ensures.sound);
     }
 
+-- the ends as they are written back
+items_are : (g : Over) (c : At-loop-index g) → (with_items c.self.inside.ends c.loop-index.end-items).items
+    ≡ c.loop-index.end-items
+items_are g c = filled c.self.inside.ends.len c.loop-index.end-items _ (let e = c.loop-index.auto.end-items in
+    let m = ap length c.deref_mut-end-items.ensures.value in let n = c.self.inside.ends.ok.0 in omega arith)
+
+pub invariant_of-self : goal.invariant_of-self
+invariant_of-self g c =
+    let d = (goal.at.invariant_of-self g c).At-loop-index in
+    named_apart (λ (h : HeadState). h.edge) _ (ins_of c.self.inside.ends.items).edges
+    (ap (λ (ts : List HeadState). (ins_of ts).edges) (items_are g d) ∙ c.loop-index.invariant.numbers
+    ∙ sym (edges_are g d)) c.self.invariant.ascending
+
 pub returns-clause-moves : goal.returns-clause-moves
 returns-clause-moves g c =
     let d = (goal.at.returns-clause-moves g c).At-loop-index in
@@ -191,13 +222,15 @@ returns-clause-moves g c =
     let over : length c.args.self.now.edges ≤ c.loop-index.index =
     (let all = ap length (edges_are g d) in let e = c.loop-index.auto.end-items in let end = c.loop-index-test.false in
     omega arith) in
-    let ends_are = filled c.self.inside.ends.len c.loop-index.end-items _ (let e = c.loop-index.auto.end-items in
-    let m = ap length c.deref_mut-end-items.ensures.value in let n = c.self.inside.ends.ok.0 in omega arith) in
+    let ends_are = items_are g d in
     λ a h. subst
     (λ (is : InEnds). Moves (g.M.Medium.holds c.args.medium.now) (old g d a) (At.Take 0)
     (g.M.Medium.holds c.loop-index.medium) (with_taken a is c.loop-index.chips c.loop-index.detect) (At.Settle 0)
     c.loop-index.work)
-    (λ j. record { edges = (sym (edges_are g d)) j; ends = (sym ends_are) j })
+    (λ j. record {
+      edges = (sym c.loop-index.invariant.numbers ∙ ap (λ (ts : List HeadState). (ins_of ts).edges) (sym ends_are)) j;
+      ends = (sym ends_are) j;
+    })
     (then_over (g.M.Medium.holds c.args.medium.now) (g.M.Medium.holds c.loop-index.medium) (old g d a) (now g d a)
     (At.Take 0) (At.Take c.loop-index.index) (At.Settle 0) c.loop-index.work (c.loop-index.invariant.moved a h)
     (takes_end (g.M.Medium.holds c.loop-index.medium) (now g d a) c.loop-index.index over))

@@ -1,8 +1,9 @@
 use Rattle.std.proofs.Common.{◌+◌, ◌∙◌, ◌&&◌, eqb, refl, sym, ap, arith}
-use Rattle.chip_link.specs.Ends.{may_clear, tail_after_clear, claim_words, tail_after_claim, message_claimed}
+use Rattle.chip_link.specs.Ends.{TailState, may_clear, tail_after_clear, claim_words, tail_after_claim, message_claimed}
 use Rattle.chip_actor.proofs.SendLemmas.{sends_nothing, asks_clear, sees_full, asks_claim, slot_in_books, fits_claim}
 use Rattle.chip_actor.proofs.SendLemmas.{has_room, is_refused, asks_put, is_sent, no_place, place_words}
 use Rattle.chip_actor.proofs.SendLemmas.{place_message, place_refused, sent_is}
+use Rattle.chip_actor.proofs.EndLemmas.{clear_keeps, claim_keeps}
 use Rattle.chip_actor.proofs.ends.outs.OutEnd.send.Goals as goal
 
 pub returns-then-self-eq0-clause-moves : goal.returns-then-self-eq0-clause-moves
@@ -156,3 +157,9 @@ returns-clause-moves g c =
     (g.M.Medium.holds c.put-stored.new.self) c.put-stored.result c.sent.new.self c.put-stored.ensures
     (sent_is c.args.self.now.link c.sent.new.self c.clear-looked.result c.in-Some.place c.claim-seen.result
     c.args.self.now.pending (sym c.in-Some.is ∙ c.place_for.ensures.place) c.if-seen-place.false c.sent.ensures)
+
+pub returns-clause-edge : goal.returns-clause-edge
+returns-clause-edge g c =
+    let link : TailState = c.args.self.now.link in
+    ap (λ (t : TailState). t.edge) (c.sent.ensures 0) ∙ claim_keeps link.claims 0 (tail_after_clear 0 link)
+    ∙ clear_keeps 0 link

@@ -1,6 +1,17 @@
+use Rattle.std.proofs.Common.{◌∙◌, sym, ap, get_or, length, arith}
+use Rattle.std.proofs.lemmas.List.{get_or-map}
+use Rattle.chip_actor.specs.Ends.{OutEnd, OutEnds, outs_of}
 use Rattle.chip_actor.proofs.EndLemmas.{out_there}
 use Rattle.chip_actor.proofs.ends.outs.Outs.at.Goals as goal
 
-pub returns : goal.returns
-returns c = out_there (record { edges = c.self.inside.edges.items; ends = c.self.inside.ends.items }) c.args.self.now
-    c.self.view_is c.self.invariant c.args.index c.requires c.index.result.now c.index.ensures
+pub returns-clause-end : goal.returns-clause-end
+returns-clause-end c = out_there (outs_of c.self.inside.ends.items) c.args.self.now c.self.view_is c.self.invariant
+    c.args.index c.requires c.index.result.now c.index.ensures
+
+pub returns-clause-edge : goal.returns-clause-edge
+returns-clause-edge c =
+    let all = ap (λ (os : OutEnds). length os.edges) c.self.view_is in let one = c.self.invariant.one_each in
+    ap (λ (o : OutEnd). o.link.edge) c.index.ensures
+    ∙ sym (get_or-map (λ (o : OutEnd). o.link.edge) c.self.inside.ends.items c.args.index c.index.result.now 0
+    (let l = c.requires in omega arith))
+    ∙ ap (λ (os : OutEnds). get_or os.edges c.args.index 0) c.self.view_is

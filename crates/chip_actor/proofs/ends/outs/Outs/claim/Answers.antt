@@ -1,14 +1,14 @@
 use Rattle.std.proofs.Common.{◌≡◌, ◌∙◌, ap, sym, subst, ◌^◌, ◌≤◌, IsTrue, set}
 use Rattle.chip_link.specs.Words.{claims_in}
 use Rattle.chip_link.specs.Ends.{TailState, message_claimed}
-use Rattle.chip_actor.specs.Ends.{OutEnd, out_on, out_after_claim, ChangesOut}
-use Rattle.chip_actor.proofs.EndLemmas.{changes_out, found_out, claim_taken, claim_refused}
+use Rattle.chip_actor.specs.Ends.{OutEnd, outs_of, out_on, out_after_claim, ChangesOut}
+use Rattle.chip_actor.proofs.EndLemmas.{written_out, apart_out, found_out, claim_keeps, claim_taken, claim_refused}
 use Rattle.chip_actor.proofs.ends.outs.Outs.claim.Goals as goal
 use Rattle.chip_actor.proofs.ends.outs.Outs.claim.Goals.{After-index_mut-out}
 
 -- the end that was found is the edge's
 is : (c : After-index_mut-out) → c.index_mut-out.result.now ≡ out_on c.args.self.now c.args.slot.edge
-is c = found_out (record { edges = c.self.inside.edges.items; ends = c.self.inside.ends.items }) c.args.self.now
+is c = found_out (outs_of c.self.inside.ends.items) c.args.self.now
     c.self.view_is c.self.invariant c.args.slot c.requires.slot c.index_mut-out.result.now c.index_mut-out.ensures.value
 
 pub claimed-requires-clause-clear : goal.claimed-requires-clause-clear
@@ -26,13 +26,13 @@ claimed-requires-clause-count c = subst (λ (o : OutEnd). (1 ≤ o.pending) × (
 
 -- what a claim leaves at the place that was found
 wrote : (c : After-index_mut-out) → (new : OutEnd) → new ≡ out_after_claim c.args.word c.index_mut-out.result.now
-    → ChangesOut c.args.self.now
-    (record { edges = c.self.inside.edges.items; ends = set c.self.inside.ends.items c.args.slot.index new })
-    c.args.slot.edge (out_after_claim c.args.word)
+    → ChangesOut c.args.self.now (outs_of (set c.self.inside.ends.items c.args.slot.index new)) c.args.slot.edge
+    (out_after_claim c.args.word)
 wrote c new eq =
-    changes_out (record { edges = c.self.inside.edges.items; ends = c.self.inside.ends.items }) c.args.self.now
-    c.self.view_is c.self.invariant c.args.slot c.requires.slot c.index_mut-out.result.now c.index_mut-out.ensures.value
-    new (out_after_claim c.args.word) eq
+    let old : OutEnd = c.index_mut-out.result.now in
+    written_out c.self.inside.ends.items c.args.self.now c.self.view_is c.self.invariant c.args.slot c.requires.slot old
+    c.index_mut-out.ensures.value new
+    (ap (λ (o : OutEnd). o.link.edge) eq ∙ claim_keeps c.args.word old.pending old.link) (out_after_claim c.args.word) eq
 
 pub returns-clause-message : goal.returns-clause-message
 returns-clause-message c =
@@ -58,3 +58,17 @@ returns-in_err-message-clause-after c =
     wrote (goal.at.returns-in_err-message-clause-after c).After-index_mut-out _
     (ap (λ (t : TailState). let n : OutEnd = record o { link = t } in n) c.claimed.ensures.after
     ∙ claim_refused c.args.word o c.in_err-message.ensures.message)
+
+pub invariant_of-self : goal.invariant_of-self
+invariant_of-self c =
+    let old : OutEnd = c.index_mut-out.result.now in
+    apart_out c.self.inside.ends.items c.args.self.now c.self.view_is c.self.invariant c.args.slot c.requires.slot old
+    c.index_mut-out.ensures.value (record old { link = c.claimed.new.self })
+    (ap (λ (t : TailState). t.edge) c.claimed.ensures.after ∙ claim_keeps c.args.word old.pending old.link)
+
+pub invariant_of-self-2 : goal.invariant_of-self-2
+invariant_of-self-2 c =
+    let old : OutEnd = c.index_mut-out.result.now in
+    apart_out c.self.inside.ends.items c.args.self.now c.self.view_is c.self.invariant c.args.slot c.requires.slot old
+    c.index_mut-out.ensures.value (record old { pending = 0; link = c.claimed.new.self })
+    (ap (λ (t : TailState). t.edge) c.claimed.ensures.after ∙ claim_keeps c.args.word old.pending old.link)

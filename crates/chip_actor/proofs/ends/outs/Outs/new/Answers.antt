@@ -1,10 +1,12 @@
-use Rattle.std.proofs.Common.{◌<◌, ℕ, List, length, arith, sym, ap, subst}
+use Rattle.std.proofs.Common.{◌≡◌, ◌∙◌, ◌<◌, ℕ, List, length, map, arith, refl, sym, ap, subst}
+use Rattle.std.proofs.lemmas.List.{take_all}
 use Rattle.std.specs.List.{All}
-use Rattle.std.specs.List.Sorted.{IsStrictlyIncreasing}
-use Rattle.chip_actor.specs.Ends.{AreApart, fresh_out}
+use Rattle.chip_actor.specs.Ends.{OutEnd, fresh_out}
 use Rattle.chip_part.proofs.PickedLemmas.{outs_rise, outs_below}
-use Rattle.chip_actor.proofs.EndLemmas.{made_apart}
+use Rattle.chip_graph.specs.Multigraph.{edges_out}
+use Rattle.chip_actor.proofs.EndLemmas.{made_numbers, named_apart}
 use Rattle.chip_actor.proofs.ends.outs.Outs.new.Goals as goal
+use Rattle.chip_actor.proofs.ends.outs.Outs.new.Goals.{After-loop-edge}
 
 pub offset_bounds-rows-edge : goal.offset_bounds-rows-edge
 offset_bounds-rows-edge c =
@@ -18,9 +20,27 @@ bounds-rows-edge c =
     (outs_below c.args.graph.now c.args.vertex) c.loop-edge.edge-index 0 c.loop-edge-test.true in
     omega (arith, ap length c.edges-rows.ensures.value)
 
+-- each edge out of the vertex has its end
+made : (c : After-loop-edge) → c.loop-edge.ends.items
+    ≡ map (fresh_out c.args.graph.now c.args.ring) (edges_out c.args.graph.now c.args.vertex)
+made c = c.loop-edge.invariant.0
+    ∙ ap (map (fresh_out c.args.graph.now c.args.ring))
+    (take_all c.loop-edge.edge-index c.outs-numbers.result.now c.loop-edge-test.false ∙ c.outs-numbers.ensures)
+
+-- and its number
+numbers : (c : After-loop-edge) → map (λ (o : OutEnd). o.link.edge) c.loop-edge.ends.items
+    ≡ edges_out c.args.graph.now c.args.vertex
+numbers c = ap (map (λ (o : OutEnd). o.link.edge)) (made c)
+    ∙ made_numbers (λ (o : OutEnd). o.link.edge) (fresh_out c.args.graph.now c.args.ring) (λ e. refl)
+    (edges_out c.args.graph.now c.args.vertex)
+
 pub invariant_of-result : goal.invariant_of-result
-invariant_of-result c =
-    subst (λ (xs : List ℕ). AreApart xs c.loop-edge.ends.items) (sym c.in_ok-edges.ensures.items)
-    (made_apart c.outs-numbers.result.now (fresh_out c.args.graph.now c.args.ring) c.loop-edge.ends.items
-    c.loop-edge.edge-index (subst IsStrictlyIncreasing (sym c.outs-numbers.ensures)
-    (outs_rise c.args.graph.now c.args.vertex)) c.loop-edge.invariant.0 c.loop-edge-test.false)
+invariant_of-result c = named_apart (λ (o : OutEnd). o.link.edge) c.loop-edge.ends.items
+    (edges_out c.args.graph.now c.args.vertex) (numbers (goal.at.invariant_of-result c).After-loop-edge)
+    (outs_rise c.args.graph.now c.args.vertex)
+
+pub returns : goal.returns
+returns c = record {
+  edges = numbers (goal.at.returns c).After-loop-edge;
+  ends = made (goal.at.returns c).After-loop-edge;
+}

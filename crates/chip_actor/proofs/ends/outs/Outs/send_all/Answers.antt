@@ -5,10 +5,10 @@ use Rattle.std.specs.Vec.{with_items}
 use Rattle.chip_link.specs.Ends.{put_of}
 use Rattle.chip_part.specs.declared.cursor.Cursor.{Cursor}
 use Rattle.chip_part.specs.declared.cursor.Cursor.TheVariants as At
-use Rattle.chip_actor.specs.Ends.{OutEnd, OutEnds, AreApart, out_on, with_end}
+use Rattle.chip_actor.specs.Ends.{OutEnd, OutEnds, AreApart, outs_of, out_on, with_end}
 use Rattle.chip_actor.specs.Actor.{Actor, with_sent}
 use Rattle.chip_actor.specs.Medium.{Holding, Meets, Moves}
-use Rattle.chip_actor.proofs.EndLemmas.{filled, out_there}
+use Rattle.chip_actor.proofs.EndLemmas.{filled, named_apart, out_there, same_numbers}
 use Rattle.chip_actor.proofs.MediumLemmas.{moves_none, moves_on, meets_after, then_over}
 use Rattle.chip_actor.proofs.TurnOverLemmas.{sends_end}
 use Rattle.chip_actor.proofs.ends.outs.Outs.send_all.Goals as goal
@@ -18,6 +18,8 @@ use Rattle.chip_actor.proofs.ends.outs.Outs.send_all.Given.{Over}
 pub loop-index-init : goal.loop-index-init
 loop-index-init g c = record {
   few = omega arith;
+  numbers = ap (λ (ts : List OutEnd). (outs_of ts).edges) c.deref_mut-out-items.ensures.value
+      ∙ ap (λ (os : OutEnds). os.edges) c.self.view_is;
   moved = λ a h. subst
       (λ (os : OutEnds). Moves (g.M.Medium.holds c.args.medium.now)
       (with_sent a c.args.self.now c.args.pending.now c.args.refused.now c.args.detect.now) (At.Send 0)
@@ -41,10 +43,10 @@ ends g c = record { edges = c.args.self.now.edges; ends = c.loop-index.out-items
 abbrev having : (g : Over) (c : At-loop-index g) → Actor → OutEnds → Actor
 having g c a os = with_sent a os c.loop-index.pending c.loop-index.refused c.loop-index.detect
 
-edges_are : (g : Over) (c : At-loop-index g) → c.self.inside.edges.items ≡ c.args.self.now.edges
+edges_are : (g : Over) (c : At-loop-index g) → (outs_of c.self.inside.ends.items).edges ≡ c.args.self.now.edges
 edges_are g c = ap (λ (os : OutEnds). os.edges) c.self.view_is
 
-apart_inside : (g : Over) (c : At-loop-index g) → AreApart c.self.inside.edges.items c.loop-index.out-items
+apart_inside : (g : Over) (c : At-loop-index g) → AreApart (outs_of c.self.inside.ends.items).edges c.loop-index.out-items
 apart_inside g c = record {
   ascending = c.self.invariant.ascending;
   one_each = c.loop-index.auto.out-items ∙ ap length c.deref_mut-out-items.ensures.value ∙ c.self.invariant.one_each;
@@ -95,12 +97,29 @@ items_are g c ts same-length = filled c.self.inside.ends.len ts _ (let e = c.loo
     let m = ap length c.deref_mut-out-items.ensures.value in let n = c.self.inside.ends.ok.0 in omega arith)
 
 written : (g : Over) (c : At-loop-index g) (ts : List OutEnd) → length ts ≡ length c.loop-index.out-items
+    → (outs_of ts).edges ≡ c.args.self.now.edges
     → (let os : OutEnds = record { edges = c.args.self.now.edges; ends = ts } in os)
-    ≡ record { edges = c.self.inside.edges.items; ends = (with_items c.self.inside.ends ts).items }
-written g c ts same-length = λ j. record {
-  edges = (sym (edges_are g c)) j;
+    ≡ outs_of (with_items c.self.inside.ends ts).items
+written g c ts same-length named = λ j. record {
+  edges = (sym named ∙ ap (λ (us : List OutEnd). (outs_of us).edges) (sym (items_are g c ts same-length))) j;
   ends = (sym (items_are g c ts same-length)) j;
 }
+
+-- a send writes an end that has the number of the one that stood there
+kept : (g : Over) (c : At-loop-index g) (end new : OutEnd)
+    → c.loop-index.index < length c.deref_mut-out-items.result.now
+    → end ≡ get_or c.loop-index.out-items c.loop-index.index end → new.link.edge ≡ end.link.edge
+    → (outs_of (set c.loop-index.out-items c.loop-index.index new)).edges ≡ c.args.self.now.edges
+kept g c end new below was keeps =
+    same_numbers (λ (o : OutEnd). o.link.edge) c.loop-index.out-items c.loop-index.index end new
+    (let e = c.loop-index.auto.out-items in omega arith) was keeps
+    ∙ c.loop-index.invariant.numbers
+
+-- ends with these numbers are apart
+apart_with : (g : Over) (c : At-loop-index g) (ts : List OutEnd) → (outs_of ts).edges ≡ c.args.self.now.edges
+    → AreApart (outs_of ts).edges ts
+apart_with g c ts named = named_apart (λ (o : OutEnd). o.link.edge) ts (outs_of c.self.inside.ends.items).edges
+    (named ∙ sym (edges_are g c)) c.self.invariant.ascending
 
 pub send-requires : goal.send-requires
 send-requires g c =
@@ -119,7 +138,8 @@ returns-in_default-clause-moves g c =
     (λ (os : OutEnds). Moves (g.M.Medium.holds c.args.medium.now) (old g d a) (At.Send 0)
     (g.M.Medium.holds c.send.new.medium) (with_sent a os c.send.new.pending c.send.new.refused c.send.new.detect)
     (At.Store c.loop-index.index) c.loop-index.work)
-    (written g d ts (length-set c.loop-index.out-items c.loop-index.index c.send.new.self))
+    (written g d ts (length-set c.loop-index.out-items c.loop-index.index c.send.new.self)
+    (kept g d c.out-item.result c.send.new.self c.loop-index-test.true c.out-item.is (c.send.ensures.edge ∙ ap (λ (o : OutEnd). o.link.edge) (sym c.out-item.is))))
     (subst (λ (n : ℕ). Moves (g.M.Medium.holds c.args.medium.now) (old g d a) (At.Send 0)
     (g.M.Medium.holds c.send.new.medium) (with_sent a (record { edges = c.args.self.now.edges; ends = ts })
     c.send.new.pending c.send.new.refused c.send.new.detect) (At.Store c.loop-index.index) n)
@@ -134,21 +154,19 @@ returns-in_default-clause-refusal g c =
     let ts : List OutEnd = set c.loop-index.out-items c.loop-index.index c.send.new.self in
     let long : length ts ≡ length c.loop-index.out-items
     = length-set c.loop-index.out-items c.loop-index.index c.send.new.self in
-    let os : OutEnds = record { edges = c.self.inside.edges.items; ends = ts } in
-    let below : c.loop-index.index < length c.self.inside.edges.items =
-    (let one = (apart_inside g d).one_each in let e = c.loop-index.auto.out-items in let l = c.loop-index-test.true in
-    omega arith) in
-    let there = out_there os os refl (record {
-      ascending = c.self.invariant.ascending;
-      one_each = long ∙ (apart_inside g d).one_each;
-    }) c.loop-index.index below c.send.new.self (sym (get_or-set_same c.loop-index.out-items c.loop-index.index
+    let named = kept g d c.out-item.result c.send.new.self c.loop-index-test.true c.out-item.is (c.send.ensures.edge ∙ ap (λ (o : OutEnd). o.link.edge) (sym c.out-item.is)) in
+    let below : c.loop-index.index < length (outs_of ts).edges =
+    (let one = (apart_with g d ts named).one_each in let e = c.loop-index.auto.out-items in
+    let l = c.loop-index-test.true in omega arith) in
+    let there = out_there (outs_of ts) (outs_of ts) refl (apart_with g d ts named) c.loop-index.index below
+    c.send.new.self (sym (get_or-set_same c.loop-index.out-items c.loop-index.index
     c.send.new.self c.send.new.self (let e = c.loop-index.auto.out-items in let l = c.loop-index-test.true in
-    omega arith))) in (
+    omega arith))) in
+    subst (λ (us : List OutEnd). (c.loop-index.index < length (outs_of us).edges)
+    × (put_of (out_on (outs_of us) (slice_index (outs_of us).edges c.loop-index.index)).link ≡ None))
+    (sym (items_are g d ts long)) (
       below,
-      subst (λ (ws : List OutEnd). put_of (out_on (record { edges = c.self.inside.edges.items; ends = ws })
-          (slice_index c.self.inside.edges.items c.loop-index.index)).link ≡ None)
-          (sym (items_are g d ts long))
-          (sym (ap (λ (o : OutEnd). put_of o.link) there) ∙ c.send.ensures.refused c.in_default.is),
+      sym (ap (λ (o : OutEnd). put_of o.link) there) ∙ c.send.ensures.refused c.in_default.is,
     )
 
 pub loop-index-preserved : goal.loop-index-preserved
@@ -156,6 +174,7 @@ loop-index-preserved g c =
     let d = (goal.at.loop-index-preserved g c).At-loop-index in
     record {
       few = (let f = c.loop-index.invariant.few in let two = c.in-Some.ensures.few in omega arith);
+      numbers = kept g d c.out-item.result c.send.new.self c.loop-index-test.true c.out-item.is (c.send.ensures.edge ∙ ap (λ (o : OutEnd). o.link.edge) (sym c.out-item.is));
       moved = λ a h. then_moves g d a c.out-item.result (g.M.Medium.holds c.send.new.medium) _
           (At.Send (c.loop-index.index + 1)) c.in-Some.sent h
           (c.in-Some.ensures.moves (having g d a (ends g d)) (apart g d) (within g d c.loop-index-test.true)
@@ -171,8 +190,23 @@ returns-clause-moves g c =
     λ a h. subst
     (λ (os : OutEnds). Moves (g.M.Medium.holds c.args.medium.now) (old g d a) (At.Send 0)
     (g.M.Medium.holds c.loop-index.medium) (having g d a os) At.Limit c.loop-index.work)
-    (written g d c.loop-index.out-items refl)
+    (written g d c.loop-index.out-items refl c.loop-index.invariant.numbers)
     (then_over (g.M.Medium.holds c.args.medium.now) (g.M.Medium.holds c.loop-index.medium) (old g d a)
     (having g d a (ends g d)) (At.Send 0) (At.Send c.loop-index.index) At.Limit c.loop-index.work
     (c.loop-index.invariant.moved a h)
     (sends_end (g.M.Medium.holds c.loop-index.medium) (having g d a (ends g d)) c.loop-index.index over))
+
+pub invariant_of-self-in_default : goal.invariant_of-self-in_default
+invariant_of-self-in_default g c =
+    let d = (goal.at.invariant_of-self-in_default g c).At-loop-index in
+    let ts : List OutEnd = set c.loop-index.out-items c.loop-index.index c.send.new.self in
+    apart_with g d _ (ap (λ (us : List OutEnd). (outs_of us).edges)
+    (items_are g d ts (length-set c.loop-index.out-items c.loop-index.index c.send.new.self))
+    ∙ kept g d c.out-item.result c.send.new.self c.loop-index-test.true c.out-item.is
+    (c.send.ensures.edge ∙ ap (λ (o : OutEnd). o.link.edge) (sym c.out-item.is)))
+
+pub invariant_of-self : goal.invariant_of-self
+invariant_of-self g c =
+    let d = (goal.at.invariant_of-self g c).At-loop-index in
+    apart_with g d _ (ap (λ (us : List OutEnd). (outs_of us).edges) (items_are g d c.loop-index.out-items refl)
+    ∙ c.loop-index.invariant.numbers)

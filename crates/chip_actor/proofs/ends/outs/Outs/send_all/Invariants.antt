@@ -1,5 +1,6 @@
-use Rattle.std.proofs.Common.{◌*◌, ◌≤◌}
+use Rattle.std.proofs.Common.{◌≡◌, ◌*◌, ◌≤◌}
 use Rattle.chip_part.specs.declared.cursor.Cursor.TheVariants as At
+use Rattle.chip_actor.specs.Ends.{outs_of}
 use Rattle.chip_actor.specs.Actor.{Actor, with_sent}
 use Rattle.chip_actor.specs.Medium.{Meets, Moves}
 use Rattle.chip_actor.proofs.ends.outs.Outs.send_all.Given as goal
@@ -7,6 +8,7 @@ use Rattle.chip_actor.proofs.ends.outs.Outs.send_all.Given as goal
 abbrev pub invariant-loop-index : goal.invariant-loop-index
 invariant-loop-index g l = record {
   few : l.work ≤ 2 * l.index;
+  numbers : (outs_of l.out-items).edges ≡ l.fn.self.edges;
   moved : (a : Actor)
       → Meets (g.M.Medium.holds l.fn.medium) (with_sent a l.fn.self l.fn.pending l.fn.refused l.fn.detect) (At.Send 0)
       → Moves (g.M.Medium.holds l.fn.medium) (with_sent a l.fn.self l.fn.pending l.fn.refused l.fn.detect) (At.Send 0)

@@ -1,0 +1,29 @@
+use Rattle.std.proofs.Common.{ℕ, List, Result, IfOk, sym, subst, rules}
+use Rattle.std.specs.List.{Contains}
+use Rattle.std.proofs.lemmas.List.Sorted.{answers_always}
+use Rattle.chip_detect.specs.Slot.{IsSlotOf}
+use Rattle.chip_detect.proofs.IndicesLemmas.{FoundAt, searched}
+use Rattle.chip_actor.specs.Ends.{OutEnd, OutEnds, AreApart, no_out, outs_of}
+use Rattle.chip_actor.proofs.ends.outs.Outs.slot_of.Goals as goal
+use Rattle.chip_actor.proofs.ends.outs.Outs.slot_of.Goals.{After-binary_search_by_key}
+
+-- the edge has an end, so the search succeeds, at its slot
+found : (c : After-binary_search_by_key) → FoundAt (outs_of c.deref.result.now).edges c.args.edge c.binary_search_by_key.result
+found c =
+    let facts = c.binary_search_by_key.ensures in
+    let apart : AreApart (outs_of c.deref.result.now).edges c.deref.result.now = rw c.deref.ensures.value c.self.invariant in
+    let among : Contains (outs_of c.deref.result.now).edges c.args.edge =
+    subst (λ (ts : List OutEnd). Contains (outs_of ts).edges c.args.edge) (sym c.deref.ensures.value)
+    (subst (λ (os : OutEnds). Contains os.edges c.args.edge) (sym c.self.view_is) c.requires) in
+    let by_key = facts.position (λ o. o.link.edge) (answers_always _ _ _ (λ f a r g called. search rules)) in
+    searched (λ (o : OutEnd). o.link.edge) no_out c.deref.result.now apart.ascending c.args.edge c.binary_search_by_key.result
+    among facts.bound by_key
+
+pub unwrap-index-requires : goal.unwrap-index-requires
+unwrap-index-requires c = (found (goal.at.unwrap-index-requires c).After-binary_search_by_key).ok
+
+pub returns-clause-slot : goal.returns-clause-slot
+returns-clause-slot c = rw (← c.self.view_is, ← c.deref.ensures.value)
+    (subst
+    (λ (r : Result ℕ ℕ). IfOk r (λ i. IsSlotOf (outs_of c.deref.result.now).edges (record { index = i; edge = c.args.edge })))
+    c.unwrap-index.ensures (found (goal.at.returns-clause-slot c).After-binary_search_by_key).slot)

@@ -1,11 +1,11 @@
 //! The books of one vertex, call for call.
 
-ghost use Rattle.std.specs.Prelude.{◌≡◌, ◌≤◌, length};
+ghost use Rattle.std.specs.Prelude.{◌≡◌, ◌≤◌, [], ◌∷◌, length};
 ghost use Rattle.std.specs.List.Sorted.{IsStrictlyIncreasing};
 ghost use Rattle.chip_detect.specs.Tally.{edge_limit};
 ghost use Rattle.chip_detect.specs.Books.{IsSound, IsFresh, in_edges, out_edges};
 
-use chip_detect::Detect;
+use chip_detect::{Detect, Slot};
 use std::process::Abort;
 
 /// The books of a neutral vertex with these edges, each list ascending.
@@ -62,6 +62,23 @@ fn deficit_of_two_edges(rt: HostRuntime) {
     assert!(rt; detect.deficit() == 1);
     assert!(rt; detect.settled(2, 1) == 1);
     assert!(rt; detect.may_ack(7, true) == 1);
+}
+
+/// What is settled so far on the second of these edges out of the vertex.
+fn settled_on_the_second(detect: &Detect) -> u64
+    requires { out_edges detect.now ≡ 2 ∷ 5 ∷ [] }
+{
+    detect.settled_so_far(Slot { index: 1, edge: 5 })
+}
+
+#[test]
+fn settled_so_far(rt: HostRuntime) {
+    let mut detect = neutral(&rt, &[7], &[2, 5]);
+    assert!(rt; settled_on_the_second(&detect) == 0);
+    detect.sent(5);
+    detect.sent(5);
+    assert!(rt; detect.settled(5, 2) == 2);
+    assert!(rt; settled_on_the_second(&detect) == 2);
 }
 
 #[test]

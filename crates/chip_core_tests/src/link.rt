@@ -138,6 +138,42 @@ fn tail_of_one_cell(rt: &impl Abort, tail: &mut TailLink) {
     assert!(rt; !tail.cleared(0));
 }
 
+/// The tail of an edge with two cells: two messages are sent as a whole, and the cell of a third is full at first.
+fn whole_sends(rt: &impl Abort, tail: &mut TailLink) {
+    assert!(rt; tail.place_for(0) == Some(0));
+    assert!(rt; tail.place_for(7) == None);
+    assert!(rt; tail.cell() == 0);
+    send_whole(rt, tail, 0);
+    assert!(rt; tail.cell() == 1);
+    send_whole(rt, tail, 1);
+    assert!(rt; tail.cell() == 0);
+    assert!(rt; tail.place_for(3) == None);
+    assert!(rt; tail.place_for(0) == Some(2));
+    assert!(rt; tail.held() == None);
+    assert!(rt; tail.claim_next() == None);
+}
+
+/// Sends at this place, as a whole.
+fn send_whole(rt: &impl Abort, tail: &mut TailLink, place: u64) {
+    match tail.place_for(0) {
+        Some(next) => {
+            assert!(rt; next == place);
+            tail.sent();
+        }
+        None => panic!(rt; "no place for message {place}"),
+    }
+}
+
+#[test]
+fn sent_as_a_whole(rt: HostRuntime) {
+    let mut wire = new_wire(&rt, 4, 2);
+    whole_sends(&rt, &mut wire.tail);
+    assert!(rt; wire.tail.cleared(0));
+    assert!(rt; wire.tail.claim_next() == Some((2, 3)));
+    assert!(rt; wire.tail.claimed(2, 9) == Some(message!(4, 2, 9)));
+    assert!(rt; wire.tail.place_for(0) == None);
+}
+
 /// The head of that edge: it takes two chips, and five more from the next place.
 fn head_of_one_cell(rt: &impl Abort, head: &mut HeadLink)
     requires { head.old.taken ≡ 0 }

@@ -1,5 +1,4 @@
 use Rattle.std.proofs.Common.{refl}
-use Rattle.chip_part.specs.Setting.{Setting}
 use Rattle.chip_part.specs.Part.{Part, opening_part}
 use Rattle.chip_part.specs.Edges.{root_edge}
 use Rattle.chip_part.specs.Rules.{Event, Settle}

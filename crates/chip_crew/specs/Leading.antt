@@ -1,9 +1,9 @@
 -- What worker 0 does beside its turns.
-use Rattle.std.specs.Prelude.{◌≡◌, ℕ, ◌<◌, IfSome}
+use Rattle.std.specs.Prelude.{◌≡◌, ℕ, ◌<◌, Bool, true, false, IfSome}
 use Rattle.std.specs.Option.{option_copied}
 use Rattle.chip_part.specs.Edges.{graph_edges}
 use Rattle.chip_net.specs.Tokens.{NetId}
-use Rattle.chip_net.specs.Roots.{IsPolling}
+use Rattle.chip_net.specs.Roots.{IsPolling, IsOver}
 use Rattle.chip_crew.specs.Feeding.{MayFeedLeft, FeedsOnce}
 use Rattle.chip_crew.specs.Sealing.{SealsBefore}
 use Rattle.chip_crew.specs.declared.lead.Lead.{Lead}
@@ -24,3 +24,8 @@ pub record LeadsRound (old new : Lead) : Type 0 where
   pub polls : IsPolling old.root new.root old.root.net.setting.game.graph.vertices
   pub feeds : new.feeds ≡ old.feeds
   pub seal : new.seal ≡ old.seal
+
+-- the crew is to stop exactly where the root is closed
+abbrev pub Stops : Bool → Lead → Type 0
+Stops true lead = IsOver lead.root
+Stops false lead = IsOver lead.root → ⊥

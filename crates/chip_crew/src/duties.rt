@@ -5,7 +5,7 @@ use chip_net::Net;
 
 /// Done by a worker beside the turns of its actors, by its own thread.
 pub(crate) trait Duties<G: Gate> {
-    ghost use Rattle.std.specs.Prelude.{ℕ};
+    ghost use Rattle.std.specs.Prelude.{ℕ, Bool};
     ghost use Rattle.chip_net.specs.Tokens.{NetId};
 
     // Whether they can be done at this net.
@@ -17,6 +17,9 @@ pub(crate) trait Duties<G: Gate> {
     // What was done after a round.
     ghost after: { Self → Self → Type 0 };
 
+    // What holds then where the crew is to stop, and where it is not.
+    ghost stops: { Bool → Self → Type 0 };
+
     /// Done before each turn.
     fn begin_turn(&mut self, net: &Net, turn: u64)
         requires { can net.now self.old }
@@ -27,7 +30,8 @@ pub(crate) trait Duties<G: Gate> {
     fn end_round(&mut self, net: &Net, gate: &G, turn: u64) -> bool
         requires { can net.now self.old }
         ensures can { can net.now self.new }
-        ensures done { after self.old self.new };
+        ensures done { after self.old self.new }
+        ensures stops { stops result self.new };
 }
 
 /// Those of every worker but worker 0: none.
@@ -35,13 +39,15 @@ pub(crate) trait Duties<G: Gate> {
 pub(crate) struct NoDuties;
 
 impl<G: Gate> Duties<G> for NoDuties {
-    ghost use Rattle.std.specs.Prelude.{◌≡◌, ⊤};
+    ghost use Rattle.std.specs.Prelude.{◌≡◌, false, ⊤};
 
     ghost can = { λ _ _. ⊤ };
 
     ghost before = { λ _ old new. new ≡ old };
 
     ghost after = { λ old new. new ≡ old };
+
+    ghost stops = { λ answer _. answer ≡ false };
 
     #[inline(always)]
     fn begin_turn(&mut self, _net: &Net, _turn: u64) {}

@@ -59,13 +59,15 @@ fn seal_before(net: &Net, seal: &mut Option<(Stopper, SealAt)>, turn: u64)
 }
 
 impl<'a, G: Gate> Duties<G> for Lead<'a> {
-    ghost use Rattle.chip_crew.specs.Leading.{CanLead, LeadsTurn, LeadsRound};
+    ghost use Rattle.chip_crew.specs.Leading.{CanLead, LeadsTurn, LeadsRound, Stops};
 
     ghost can = { CanLead };
 
     ghost before = { LeadsTurn };
 
     ghost after = { LeadsRound };
+
+    ghost stops = { Stops };
 
     /// Seals and feeds.
     #[inline(always)]

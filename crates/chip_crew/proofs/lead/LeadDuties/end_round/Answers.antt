@@ -1,3 +1,4 @@
+use Rattle.std.proofs.Common.{◌≡◌, ◌∙◌, true, false, sym}
 use Rattle.chip_crew.proofs.LeadingLemmas.{can_still}
 use Rattle.chip_crew.proofs.lead.LeadDuties.end_round.Goals as goal
 
@@ -12,3 +13,16 @@ returns-in-Running-clause-can g c = can_still c.args.net.now c.args.self.now _ c
 pub returns-in-Closed-clause-can : goal.returns-in-Closed-clause-can
 returns-in-Closed-clause-can g c = can_still c.args.net.now c.args.self.now _ c.poll.ensures.polls.polling
     c.poll.ensures.same c.requires
+
+-- nothing is outstanding, but the end of feeding is not noted
+apart : true ≡ false → ⊥
+apart same = cc
+
+pub returns-in-Running-eq0-clause-stops : goal.returns-in-Running-eq0-clause-stops
+returns-in-Running-eq0-clause-stops g c = λ over.
+    apart (sym over.1 ∙ c.in-Running-eq0.ensures.polls.answers.1 c.in-Running-eq0.field-0-test)
+
+-- something is outstanding
+pub returns-in-Running-clause-stops : goal.returns-in-Running-clause-stops
+returns-in-Running-clause-stops g c = λ over.
+    c.in-Running.deficit-test.1 (c.in-Running.ensures.polls.answers.0 ∙ over.0)

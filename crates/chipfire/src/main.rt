@@ -293,6 +293,7 @@ fn create<R: Files>(rt: &R, file: &FileArgument<'_>) -> Result<R::File, Fault> {
 }
 
 /// A file in which there is nothing, in the place of one that an argument names.
+#[cold]
 fn no_file<R: Files>(rt: &R, file: &FileArgument<'_>) -> Result<R::File, Fault> {
     let nothing = FileArgument {
         path: "/dev/null",
@@ -302,6 +303,7 @@ fn no_file<R: Files>(rt: &R, file: &FileArgument<'_>) -> Result<R::File, Fault> 
 }
 
 /// Why there are no arguments: there is no memory for them, or one is no UTF-8.
+#[cold]
 fn fault_of_arguments(error: io::Error) -> Fault {
     match error.kind() {
         io::ErrorKind::OutOfMemory => Fault::NoMemory,
@@ -310,6 +312,7 @@ fn fault_of_arguments(error: io::Error) -> Fault {
 }
 
 /// The fault of arguments that are refused.
+#[cold]
 fn fault_of(fault: ArgumentsFault) -> Fault {
     match fault {
         ArgumentsFault::Usage => Fault::Usage,

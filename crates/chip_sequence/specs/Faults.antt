@@ -14,3 +14,8 @@ IsNegative g fired NoMemory = ⊥
 abbrev pub IsNegativeOrMemory : ChipGame → List ℕ → AfterFault → Type 0
 IsNegativeOrMemory g fired (Negative v) = IsLeastBelowZero g.graph (slice_index g.start) (slice_index fired) v
 IsNegativeOrMemory g fired NoMemory = Unit {0}
+
+-- the number of a refusal of a position by counts
+abbrev pub number_of_after_fault : AfterFault → ℕ
+number_of_after_fault (Negative v) = 41
+number_of_after_fault NoMemory = 90

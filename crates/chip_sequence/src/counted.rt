@@ -20,6 +20,20 @@ pub enum AfterFault {
     NoMemory,
 }
 
+impl AfterFault {
+    ghost use Rattle.chip_sequence.specs.Faults.{number_of_after_fault};
+
+    /// The number of this fault in the table of faults.
+    pub fn number(&self) -> u64
+        ensures { result ≡ number_of_after_fault self.now }
+    {
+        match self {
+            AfterFault::Negative(_) => 41,
+            AfterFault::NoMemory => 90,
+        }
+    }
+}
+
 impl From<AllocError> for AfterFault {
     ghost use Rattle.std.specs.Prelude.{◌≡◌};
     ghost use Rattle.chip_sequence.specs.declared.counted.AfterFault.TheVariants.{NoMemory};

@@ -12,6 +12,15 @@ use thiserror::Error;
 #[error("the vertex is not legal")]
 pub struct NotLegal;
 
+impl NotLegal {
+    /// The number of this fault in the table of faults.
+    pub fn number(&self) -> u64
+        ensures { result ≡ 40 }
+    {
+        40
+    }
+}
+
 /// Fires a vertex `k` times in a row, where it may; else the position stays.
 pub fn fire(position: &mut [u64], graph: &Graph, vertex: u64, k: u64) -> Result<(), NotLegal>
     requires is_vertex { vertex < graph.now.vertices }

@@ -1,9 +1,8 @@
 -- Serves Faults.antt, Multigraph.antt, Ends.antt.
 -- What follows where no fault was found in the rows of a graph.
 use Rattle.std.proofs.Common.{◌≡◌, ℕ, zero, suc, ◌^◌, ◌<◌, ◌≤◌, Bool, true, false, ltb, leb, ◌&&◌, List, [], ◌∷◌}
-use Rattle.std.proofs.Common.{length, get_or, Option, Some, None, Ok, refl, sym, ap, ◌∙◌, subst, arith, leb-true, map}
-use Rattle.std.proofs.Common.{take}
-use Rattle.std.proofs.lemmas.List.{length-map, length-take-le, get_or-map, get_or-take, get_or_default}
+use Rattle.std.proofs.Common.{length, Option, Some, None, Ok, refl, subst, arith, leb-true}
+use Rattle.std.proofs.lemmas.List.{get_or_default}
 use Rattle.std.proofs.lemmas.Bool.{and_parts, not-true, eqb-false}
 use borrow.Author.Tests.{ltb-true}
 use Rattle.std.specs.List.{All}
@@ -94,16 +93,6 @@ module _ (limits : SizeLimits) (G : Multigraph) (is : fault_of_rows limits G ≡
         within_vertices = vertices;
         within_edges = edges;
       }
-
--- what stands before a place that all distances fill
-pub some_before : (distances : List ℕ) (found : List (Option ℕ)) (v u : ℕ) → v ≤ length found
-    → map Some distances ≡ take v found → u < v → (d : ℕ) × (get_or found u None ≡ Some d)
-some_before distances found v u le same l =
-    let many : length distances ≡ v = sym (length-map distances Some) ∙ ap length same ∙ length-take-le v found le in (
-      get_or distances u 0,
-      sym (get_or-take v found u None l)
-          ∙ ap (λ (ds : List (Option ℕ)). get_or ds u None) (sym same) ∙ get_or-map Some distances u 0 None (omega arith),
-    )
 
 -- each edge is one that a graph may have
 abbrev pub AreEdges : Multigraph → Type 0

@@ -1,10 +1,9 @@
 -- Serves Multigraph.antt, Faults.antt, Distances.antt.
 -- What a graph keeps beside its edges is what follows from them.
-use Rattle.std.proofs.Common.{◌≡◌, ℕ, ◌<◌, ◌⊎◌, List, length, map, get_or, Option, Some, None}
-use Rattle.std.proofs.Common.{Result, Ok, Err, sym, ap, ◌∙◌, subst, arith}
+use Rattle.std.proofs.Common.{◌≡◌, ℕ, ◌<◌, ◌⊎◌, List, length, get_or, Option, Some, None}
+use Rattle.std.proofs.Common.{Result, Ok, Err, sym, subst, arith}
 use Rattle.std.specs.Result.{IsErrAnd}
 use Rattle.std.specs.Prelude.{IfErr}
-use Rattle.std.proofs.lemmas.List.{length-map, get_or-map}
 use Rattle.chip_graph.specs.declared.fault.GraphFault.{GraphFault}
 use Rattle.chip_graph.specs.declared.fault.GraphFault.TheVariants as graph_fault
 use Rattle.chip_graph.specs.Limits.{SizeLimits}
@@ -20,22 +19,12 @@ reaches : (G : Multigraph) (v : ℕ) (found : Option ℕ) (d : ℕ) → found �
 reaches G v found d is of = let at : IsDistance G v d = subst (IsDistanceOf G v) is of in (at.reached.0, at.reached.1)
 
 -- where each vertex has a distance, each reaches the sink
-pub all_reach : (G : Multigraph) (distances : List ℕ)
-    → ((v : ℕ) → v < G.vertices → IsDistance G v (get_or distances v 0)) → (v : ℕ) → v < G.vertices → ReachesSink G v
-all_reach G distances are v l = let at = (are v l).reached in (at.0, at.1)
-
--- all distances are there
-module _ (G : Multigraph) (found : List (Option ℕ)) (are : AreDistances G found) (distances : List ℕ)
-    (all : map Some distances ≡ found) where
-  pub distances_each : length distances ≡ G.vertices
-  distances_each = sym (length-map distances Some) ∙ ap length all ∙ are.one_each
-
-  found_at : (v : ℕ) → v < G.vertices → get_or found v None ≡ Some (get_or distances v 0)
-  found_at v l = ap (λ (ds : List (Option ℕ)). get_or ds v None) (sym all)
-      ∙ get_or-map Some distances v 0 None (let each = distances_each in omega arith)
-
-  pub distances_are : (v : ℕ) → v < G.vertices → IsDistance G v (get_or distances v 0)
-  distances_are v l = subst (IsDistanceOf G v) (found_at v l) (are.each v l)
+pub all_reach : (G : Multigraph) (distances : List (Option ℕ)) → AreDistances G distances
+    → ((v : ℕ) → v < length distances → (d : ℕ) × (get_or distances v None ≡ Some d)) → (v : ℕ) → v < G.vertices
+    → ReachesSink G v
+all_reach G distances are all v l =
+    let there = all v (let each = are.one_each in omega arith) in
+    reaches G v (get_or distances v None) there.0 there.1 (are.each v l)
 
 -- the first distance that is missing names the fault
 pub unreached_fault : (G : Multigraph) (found : List (Option ℕ)) → AreDistances G found
@@ -69,7 +58,8 @@ refused limits G (Err e) fault is why =
     subst P (sym is) why
 
 -- what stands beside the edges of a graph stands beside the same edges elsewhere
-pub copied : (n s : ℕ) {es es' : List Edge} {ds ds' ts ts' : List ℕ} {os os' is is' : List (List ℕ)} {ls ls' : List Edge}
+pub copied : (n s : ℕ) {es es' : List Edge} {ds ds' : List ℕ} {ts ts' : List (Option ℕ)}
+    {os os' is is' : List (List ℕ)} {ls ls' : List Edge}
     → es' ≡ es → ds' ≡ ds → ts' ≡ ts → os' ≡ os → is' ≡ is → ls' ≡ ls
     → IsIndex (record { vertices = n; sink = s; edges = es }) ds ts os is ls
     → IsIndex (record { vertices = n; sink = s; edges = es' }) ds' ts' os' is' ls'

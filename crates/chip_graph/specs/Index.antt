@@ -4,7 +4,8 @@ use Rattle.std.specs.declared.alloc.Global.{Global}
 use Rattle.chip_graph.specs.declared.graph.Rows.TheInside.{Inside}
 use Rattle.chip_graph.specs.declared.edge.Edge.{Edge}
 use Rattle.chip_graph.specs.PackedLists.{flat}
-use Rattle.chip_graph.specs.Multigraph.{Multigraph, IsGraph, IsDistance, edge_at, edges_out, edges_in, degree}
+use Rattle.chip_graph.specs.Multigraph.{Multigraph, IsGraph, edge_at, edges_out, edges_in, degree}
+use Rattle.chip_graph.specs.Distances.{AreDistances}
 
 -- the graph without what follows from its edges
 abbrev pub graph_of : Inside → Multigraph
@@ -16,13 +17,12 @@ links_of None edges = edges
 links_of (Some links) edges = links.items
 
 -- degrees, distances and lists are those of the graph, and the links are the edges out of each vertex in turn
-pub record IsIndex (G : Multigraph) (degree_of distance_of : List ℕ) (outs_of ins_of : List (List ℕ))
+pub record IsIndex (G : Multigraph) (degree_of : List ℕ) (distance_of : List (Option ℕ)) (outs_of ins_of : List (List ℕ))
     (links : List Edge) : Type 0 where
   pub graph : IsGraph G
   pub degree_each : length degree_of ≡ G.vertices
   pub degrees : (v : ℕ) → v < G.vertices → slice_index degree_of v ≡ degree G v
-  pub distance_each : length distance_of ≡ G.vertices
-  pub distances : (v : ℕ) → v < G.vertices → IsDistance G v (slice_index distance_of v)
+  pub distances : AreDistances G distance_of
   pub outs_each : length outs_of ≡ G.vertices
   pub outs : (v : ℕ) → v < G.vertices → slice_index_or outs_of v [] ≡ edges_out G v
   pub ins_each : length ins_of ≡ G.vertices

@@ -1,7 +1,8 @@
 ghost use Rattle.std.specs.Prelude.{◌≡◌, ◌+◌, ◌<◌, ◌≤◌, ◌⊎◌, ℕ, [], map, length, take, IfOk, IfErr, Some, None};
 ghost use Rattle.std.specs.Prelude.{slice_index, slice_index_or};
 ghost use Rattle.chip_graph.specs.Limits.{max_vertices, AreLimits};
-ghost use Rattle.chip_graph.specs.Multigraph.{IsDistance, IsEdge};
+ghost use Rattle.chip_graph.specs.Multigraph.{IsEdge, ReachesSink};
+ghost use Rattle.chip_graph.specs.Distances.{AreDistances};
 ghost use Rattle.chip_graph.specs.Ends.{edge_of, AreEdgesBy};
 ghost use Rattle.chip_graph.specs.declared.edge.End.TheVariants.{Head};
 ghost use Rattle.chip_graph.specs.Faults.{refusal, fault_of_edge, fault_of_rows, NamesUnreached};
@@ -45,8 +46,8 @@ struct Rows {
     edges: Vec<Edge>,
     /// The out-degrees, by vertex.
     degrees: Vec<u64>,
-    /// How far each vertex is from the sink, by vertex.
-    distances: Vec<u64>,
+    /// How far each vertex is from the sink, by vertex: each reaches it.
+    distances: Vec<Option<u64>>,
     /// The edges out of each vertex, ascending.
     outs: PackedLists<u64>,
     /// The edges into each vertex, ascending.
@@ -285,7 +286,10 @@ impl Graph {
         ensures { IsDistance self.now vertex result }
     {
         let rows: &Rows = &self.rows;
-        rows.distances[vertex as usize]
+        match rows.distances[vertex as usize] {
+            Some(distance) => distance,
+            None => unreachable!(),
+        }
     }
 }
 
@@ -329,44 +333,44 @@ fn check_rows(limits: Limits, vertices: u64, sink: u64, edges: &[Edge]) -> Resul
     Ok(())
 }
 
-/// The edges into each vertex and the distances, or the least vertex that has none.
+/// The edges into each vertex and the distances, or the least vertex that is not reached.
 fn ins_and_distances(
     alloc: Global,
     vertices: u64,
     sink: u64,
     edges: &[Edge],
-) -> Result<(PackedLists<u64>, Vec<u64>), GraphFault>
+) -> Result<(PackedLists<u64>, Vec<Option<u64>>), GraphFault>
     requires few_vertices { vertices ≤ max_vertices }
     requires sink_is_vertex { sink < vertices }
     requires edges { (e : ℕ) → e < length edges.now → IsEdge vertices sink (edge_of edges.now e) }
     ensures ins { IfOk result (λ r. AreEdgesBy Head edges.now vertices r.0) }
-    ensures distance_each { IfOk result (λ r. length r.1.items ≡ vertices) }
-    ensures distances { IfOk result (λ r. (v : ℕ) → v < vertices
-        → IsDistance (record { vertices = vertices; sink = sink; edges = edges.now }) v (slice_index r.1.items v)) }
+    ensures distances { IfOk result
+        (λ r. AreDistances (record { vertices = vertices; sink = sink; edges = edges.now }) r.1.items) }
+    ensures reached { IfOk result (λ r. (v : ℕ) → v < vertices
+        → ReachesSink (record { vertices = vertices; sink = sink; edges = edges.now }) v) }
     ensures none { IfErr result (λ fault. (fault ≡ NoMemory)
         ⊎ NamesUnreached (record { vertices = vertices; sink = sink; edges = edges.now }) fault) }
 {
     let ins = index::edges_by(alloc, vertices, edges, End::Head)?;
-    let found = distances(alloc, vertices, sink, edges, &ins)?;
-    let distances = all_reached(alloc, &found)?;
+    let distances = distances(alloc, vertices, sink, edges, &ins)?;
+    check_reached(&distances)?;
     Ok((ins, distances))
 }
 
-/// The distances, or the least vertex that has none.
-fn all_reached(alloc: Global, found: &[Option<u64>]) -> Result<Vec<u64>, GraphFault>
-    ensures all { IfOk result (λ distances. map Some distances.items ≡ found.now) }
-    ensures none { IfErr result
-        (λ fault. (fault ≡ NoMemory) ⊎ ((v : ℕ) × (fault ≡ Unreached v)
-        × (v < length found.now)
-        × (slice_index_or found.now v None ≡ None)
-        × ((u : ℕ) → u < v → (d : ℕ) × (slice_index_or found.now u None ≡ Some d)))) }
+/// Whether each vertex has a distance; if not, the least that has none is the fault.
+fn check_reached(distances: &[Option<u64>]) -> Result<(), GraphFault>
+    ensures all { IfOk result
+        (λ _. (v : ℕ) → v < length distances.now → (d : ℕ) × (slice_index_or distances.now v None ≡ Some d)) }
+    ensures least { IfErr result (λ fault. (v : ℕ) × (fault ≡ Unreached v)
+        × (v < length distances.now)
+        × (slice_index_or distances.now v None ≡ None)
+        × ((u : ℕ) → u < v → (d : ℕ) × (slice_index_or distances.now u None ≡ Some d))) }
 {
-    let mut distances = Vec::new(alloc);
-    for (v, distance) in found.iter().enumerate() {
+    for (v, distance) in distances.iter().enumerate() {
         match distance {
-            Some(distance) => distances.push(*distance)?,
+            Some(_) => {}
             None => return Err(GraphFault::Unreached(v as u64)),
         }
     }
-    Ok(distances)
+    Ok(())
 }

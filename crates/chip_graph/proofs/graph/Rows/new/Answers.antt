@@ -6,7 +6,7 @@ use Rattle.chip_graph.specs.Ends.{edge_of}
 use Rattle.chip_graph.proofs.PickLemmas.{All-edges_by}
 use Rattle.chip_graph.proofs.FaultLemmas.{accepted, edges_end, rows_edge, rows_mults, rows_graph, rows_sink}
 use Rattle.chip_graph.proofs.FaultLemmas.{rows_vertices}
-use Rattle.chip_graph.proofs.IndexLemmas.{all_reach, refused}
+use Rattle.chip_graph.proofs.IndexLemmas.{refused}
 use Rattle.chip_graph.proofs.graph.Rows.new.Goals as goal
 
 pub returns-in_err-ins-clause-makes : goal.returns-in_err-ins-clause-makes
@@ -72,10 +72,9 @@ invariant_of-result c =
     let ins = c.in_ok-ins.ensures in
     let outs = c.in_ok-outs.ensures in
     rw (← c.as_slice-rows.ensures.value) (record {
-      graph = (rows_graph c.args.limits G none c.in_ok-check_rows.ensures.limits (all_reach G _ ins.distances)).graph;
+      graph = (rows_graph c.args.limits G none c.in_ok-check_rows.ensures.limits ins.reached).graph;
       degree_each = c.in_ok-degrees.ensures.0;
       degrees = c.in_ok-degrees.ensures.1;
-      distance_each = ins.distance_each;
       distances = ins.distances;
       outs_each = outs.one_each;
       outs = outs.each;
@@ -91,5 +90,5 @@ returns-clause-makes c =
     in (
       refl,
       rw (← c.as_slice-rows.ensures.value)
-          (rows_graph c.args.limits G none c.in_ok-check_rows.ensures.limits (all_reach G _ c.in_ok-ins.ensures.distances)),
+          (rows_graph c.args.limits G none c.in_ok-check_rows.ensures.limits c.in_ok-ins.ensures.reached),
     )

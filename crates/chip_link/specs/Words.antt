@@ -43,6 +43,11 @@ is_by_limit_in word = nat_le (2 ^ 62) (word % 2 ^ 63)
 abbrev pub is_fired_word : ℕ → Bool
 is_fired_word word = is_halted_in word || not (is_by_limit_in word)
 
+-- what a halt sets in a fired word, by its cause
+abbrev pub halt_bits : Bool → ℕ
+halt_bits true = 2 ^ 63 + 2 ^ 62
+halt_bits false = 2 ^ 63
+
 -- what a compare-and-exchange leaves in a word
 abbrev pub word_after_exchange : ℕ → ℕ → ℕ → ℕ
 word_after_exchange expected new word = if word == expected then new else word

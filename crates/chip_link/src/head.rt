@@ -1,5 +1,6 @@
 ghost use Rattle.std.specs.Prelude.{◌≡◌, ◌^◌, ◌<◌};
 ghost use Rattle.chip_link.specs.Ends.{new_head, head_cell, head_after_take, message_taken};
+ghost use Rattle.chip_link.specs.Rings.{IsRing};
 
 use crate::message::Message;
 use crate::ring::Ring;
@@ -28,15 +29,16 @@ impl Model for HeadLink {
 }
 
 impl HeadLink {
-    /// The head of an edge from which nothing was taken, with such a ring.
-    pub fn new(edge: u64, ring: Ring) -> HeadLink
+    /// The head of an edge from which nothing was taken, with a ring of so many cells.
+    pub fn new(edge: u64, ring: u64) -> HeadLink
+        requires { IsRing ring }
         ensures { result ≡ new_head edge ring }
     {
         HeadLink {
             edge,
             taken: 0,
-            ring,
-            cell: ring.cell_of(0),
+            ring: Ring::of(ring),
+            cell: 0,
         }
     }
 

@@ -1,7 +1,6 @@
 /// A message that was claimed or taken.
 #[derive(Clone, Copy, PartialEq, Eq)]
 pub struct Message {
-    /// The edge that it goes over.
     pub edge: u64,
     /// How many messages were sent on this edge before it.
     pub place: u64,

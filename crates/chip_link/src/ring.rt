@@ -34,14 +34,15 @@ impl Ring {
         if cells == 0 || cells > MAX_RING {
             return None;
         }
-        Some(Ring { cells: cells as u8 })
+        Some(Ring::of(cells))
     }
 
-    /// The ring of one cell, in which each message waits for the one before it.
-    pub fn one() -> Ring
-        ensures { result ≡ 1 }
+    /// The ring of so many cells, a number in range.
+    pub fn of(cells: u64) -> Ring
+        requires { IsRing cells }
+        ensures { result ≡ cells }
     {
-        Ring { cells: 1 }
+        Ring { cells: cells as u8 }
     }
 
     /// How many cells it has.
@@ -50,14 +51,6 @@ impl Ring {
         ensures range { IsRing result }
     {
         u64::from(self.cells)
-    }
-
-    /// The cell of a place: the places go round the ring.
-    pub(crate) fn cell_of(self, place: u64) -> u8
-        ensures cell { result ≡ place % self }
-        ensures inside { result < self }
-    {
-        (place % self.cells()) as u8
     }
 
     /// The cell after this one, round the ring.

@@ -1,4 +1,5 @@
 ghost use Rattle.std.specs.Prelude.{◌≡◌, ℕ, ◌^◌, ◌<◌, ◌≤◌, ◌&&◌, ◌==◌, ◌↔◌, IsTrue, IsNone, IsSome, IfSome};
+ghost use Rattle.chip_link.specs.Rings.{IsRing};
 ghost use Rattle.chip_link.specs.Words.{claims_in, is_sealed_in};
 ghost use Rattle.chip_link.specs.Ends.{TailState, new_tail, tail_cell, may_clear, tail_after_clear, claim_words};
 ghost use Rattle.chip_link.specs.Ends.{tail_after_claim, message_claimed, put_of, tail_after_put, max_count, place_for};
@@ -59,8 +60,9 @@ impl Model for TailLink {
 }
 
 impl TailLink {
-    /// The tail of an edge on which nothing was sent, with such a ring.
-    pub fn new(edge: u64, ring: Ring) -> TailLink
+    /// The tail of an edge on which nothing was sent, with a ring of so many cells.
+    pub fn new(edge: u64, ring: u64) -> TailLink
+        requires { IsRing ring }
         ensures { result ≡ new_tail edge ring }
     {
         TailLink {
@@ -68,8 +70,8 @@ impl TailLink {
             claims: 0,
             count: 0,
             stage: Stage::Idle,
-            ring,
-            cell: ring.cell_of(0),
+            ring: Ring::of(ring),
+            cell: 0,
         }
     }
 

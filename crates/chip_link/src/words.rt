@@ -1,7 +1,6 @@
 ghost use Rattle.std.specs.Prelude.{◌≡◌, ◌^◌, ◌<◌, IsTrue, IfSome, is_some};
 ghost use Rattle.chip_link.specs.Words.{edge_word, claims_in, is_sealed_in, fired_word, fired_in, is_halted_in};
-ghost use Rattle.chip_link.specs.Words.{is_by_limit_in};
-ghost use Rattle.chip_link.specs.Words.{is_fired_word};
+ghost use Rattle.chip_link.specs.Words.{is_by_limit_in, is_fired_word, halt_bits};
 
 /// What the word of an edge stands for.
 #[derive(Clone, Copy)]
@@ -64,6 +63,17 @@ impl FiredWord {
     pub const HALT_BY_LIMIT: u64 = Self::HALT | Self::LIMIT;
 
     const LIMIT: u64 = 1 << 62;
+
+    /// What a halt sets in the word, by a `fetch_or`: more bits where the limit is its cause.
+    pub fn halt_bits(by_limit: bool) -> u64
+        ensures { result ≡ halt_bits by_limit }
+    {
+        if by_limit {
+            Self::HALT_BY_LIMIT
+        } else {
+            Self::HALT
+        }
+    }
 
     /// The word that stands for this value.
     pub fn to_word(self) -> u64

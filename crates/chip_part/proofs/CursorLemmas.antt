@@ -128,33 +128,19 @@ passes_due g v s cursor next passes (Some due) goes = record {
 -- an operation of a vertex tells its event
 module _ (g : Setting) (v : ℕ) (vertex : v < g.game.graph.vertices) (s : Part) where
   pub event_of_act : (x : Event) → part_of g x ≡ v → unmet_rule g x s ≡ None → event_of v (act_of g x s) ≡ x
-  event_of_act (Take e) mine met = refl
-  event_of_act (Ack e) mine met = refl
   event_of_act (Fire w k) mine met = ap (λ (n : ℕ). Fire n k) (sym mine)
-  event_of_act (Clear e) mine met = refl
-  event_of_act (Claim e) mine met = refl
-  event_of_act (Put e) mine met = refl
   event_of_act (Halt w) mine met = ap Halt (sym mine)
-  event_of_act (Settle e) mine met = refl
   event_of_act (Seal e) mine met = absurd (omega arith)
   event_of_act (Read w) mine met = absurd (omega arith)
   event_of_act (Feed e k) mine met = let past = rules_met g (Feed e k) s met in let at = tail_root g e past.0 in
       absurd (omega arith)
   event_of_act End mine met = absurd (omega arith)
+  event_of_act _ mine met = refl
 
   pub act_is_some : (x : Event) → part_of g x ≡ v → act_of g x s ≢ Do.End
-  act_is_some (Take e) mine = λ is. absurd (cc)
-  act_is_some (Ack e) mine = λ is. absurd (cc)
-  act_is_some (Fire w k) mine = λ is. absurd (cc)
-  act_is_some (Clear e) mine = λ is. absurd (cc)
-  act_is_some (Claim e) mine = λ is. absurd (cc)
-  act_is_some (Put e) mine = λ is. absurd (cc)
-  act_is_some (Halt w) mine = λ is. absurd (cc)
-  act_is_some (Settle e) mine = λ is. absurd (cc)
   act_is_some (Seal e) mine = λ is. absurd (omega arith)
   act_is_some (Read w) mine = λ is. absurd (omega arith)
-  act_is_some (Feed e k) mine = λ is. absurd (cc)
-  act_is_some End mine = λ is. absurd (cc)
+  act_is_some _ mine = λ is. absurd (cc)
 
   module _ (cursor next : Cursor) (x : Event) (goes : GoesBy g v s cursor x next) (first : Part) (done : List Step)
       (way : IsUnderWay g v first done cursor s) where

@@ -52,9 +52,6 @@ module _ (g : Setting) where
   tail_inside e l = dite (dec_lt e (length g.game.graph.edges)) (λ h. h) (λ n. let a = tail_root g e (omega arith) in
       absurd (omega arith))
 
-  leaves : ℕ → ℕ → Bool
-  leaves v e = eqb (tail_of g e) v
-
   -- of the edges out of v, each is 0 where their sum is
   pub out_zero : (v : ℕ) (f : ℕ → ℕ) → over_outs g v f ≡ 0 → (e : ℕ) → e < all_edges g → tail_of g e ≡ v → f e ≡ 0
   out_zero v f z e l at = tested_zero (all_edges g) (λ i. eqb (tail_of g i) v) f z e l (eq-eqb (tail_of g e) v at)
@@ -88,13 +85,6 @@ module _ (g : Setting) where
 
   outs_kept : (x : Event) (seen p : ℕ) (s : Part) → p ≡ part_of g x → Met g x s → (g.fed ≡ false → s.ended ≡ true)
       → Outs p s → Outs p (does g (saw x seen) s)
-  outs_kept (Take e) seen p s by may unfed ok = ok
-  outs_kept (Ack e) seen p s by may unfed ok = ok
-  outs_kept (Halt v) seen p s by may unfed ok = ok
-  outs_kept (Settle e) seen p s by may unfed ok = ok
-  outs_kept (Seal e) seen p s by may unfed ok = ok
-  outs_kept (Read v) seen p s by may unfed ok = ok
-  outs_kept End seen p s by may unfed ok = ok
   outs_kept (Feed e k) seen p s by may unfed ok = at_edge (λ i (t : Tail). tail_of g i ≡ p
       → KeepsOut g i t (s.out i).pending s.fired) e (λ i. after_claim k seen (s.out i).link) (λ i. (s.out i).link)
       (λ at. root_kept e _ _ _ may.0 (fed_by s unfed may.2) ((ok e at).root_idle may.0)) ok
@@ -216,6 +206,7 @@ module _ (g : Setting) where
         sym (cond_no e i (cond (eqb seen (claims_of (s.out i).link)) 0 (s.out i).pending) (s.out i).pending other) j,
       ))
       (ok i at))
+  outs_kept _ seen p s by may unfed ok = ok
 
   -- ---- the edges into the part
 
@@ -257,30 +248,11 @@ module _ (g : Setting) where
   chips_kept (Fire v k) seen p s by may ok =
       let a = mul-add (degree g.game.graph p) s.fired k in let b = mul_comm (degree g.game.graph p) k in
       let c = ap (λ (w : ℕ). k * degree g.game.graph w) by in let d = may.7 in omega arith
-  chips_kept (Ack e) seen p s by may ok = ok
-  chips_kept (Clear e) seen p s by may ok = ok
-  chips_kept (Claim e) seen p s by may ok = ok
-  chips_kept (Put e) seen p s by may ok = ok
-  chips_kept (Halt v) seen p s by may ok = ok
-  chips_kept (Settle e) seen p s by may ok = ok
-  chips_kept (Seal e) seen p s by may ok = ok
-  chips_kept (Read v) seen p s by may ok = ok
-  chips_kept (Feed e k) seen p s by may ok = ok
-  chips_kept End seen p s by may ok = ok
+  chips_kept _ seen p s by may ok = ok
 
   within_kept : (x : Event) (s : Part) → Met g x s → s.fired ≤ g.game.limit → fired_after x s.fired ≤ g.game.limit
   within_kept (Fire v k) s may ok = may.6
-  within_kept (Take e) s may ok = ok
-  within_kept (Ack e) s may ok = ok
-  within_kept (Clear e) s may ok = ok
-  within_kept (Claim e) s may ok = ok
-  within_kept (Put e) s may ok = ok
-  within_kept (Halt v) s may ok = ok
-  within_kept (Settle e) s may ok = ok
-  within_kept (Seal e) s may ok = ok
-  within_kept (Read v) s may ok = ok
-  within_kept (Feed e k) s may ok = ok
-  within_kept End s may ok = ok
+  within_kept _ s may ok = ok
 
   acks_kept : (x : Event) (seen : ℕ) (s : Part) → ((e : ℕ) → (s.into e).acked ≤ length (s.into e).got) → (e : ℕ)
       → acked_after g x s e (s.into e) ≤ length (got_after x seen e (s.into e))
@@ -290,16 +262,7 @@ module _ (g : Setting) where
   acks_kept (Ack e) seen s ok = at_edge (λ i (n : ℕ). n ≤ length (s.into i).got) e
       (λ i. (s.into i).acked + may_ack g (head_of g e) s e) (λ i. (s.into i).acked) (let a = ok e in
       let b = may_le (head_of g e) e s in omega arith) ok
-  acks_kept (Fire v k) seen s ok = ok
-  acks_kept (Clear e) seen s ok = ok
-  acks_kept (Claim e) seen s ok = ok
-  acks_kept (Put e) seen s ok = ok
-  acks_kept (Halt v) seen s ok = ok
-  acks_kept (Settle e) seen s ok = ok
-  acks_kept (Seal e) seen s ok = ok
-  acks_kept (Read v) seen s ok = ok
-  acks_kept (Feed e k) seen s ok = ok
-  acks_kept End seen s ok = ok
+  acks_kept _ seen s ok = ok
 
   -- a take that found nothing
   pub idle_take : (e seen : ℕ) (s : Part) → seen ≡ 0 → does g (saw (Take e) seen) s ≡ s
@@ -385,15 +348,7 @@ module _ (g : Setting) where
       none_some : (i : ℕ) → ◌≡◌ {A = Option ℕ} None (Some i) → ⊥
       none_some i q = absurd (cc)
   parents_kept (Fire v k) seen p s by may acks ok = ok
-  parents_kept (Clear e) seen p s by may acks ok = ok
-  parents_kept (Claim e) seen p s by may acks ok = ok
-  parents_kept (Put e) seen p s by may acks ok = ok
-  parents_kept (Halt v) seen p s by may acks ok = ok
-  parents_kept (Settle e) seen p s by may acks ok = ok
-  parents_kept (Seal e) seen p s by may acks ok = ok
-  parents_kept (Read v) seen p s by may acks ok = ok
-  parents_kept (Feed e k) seen p s by may acks ok = ok
-  parents_kept End seen p s by may acks ok = ok
+  parents_kept _ seen p s by may acks ok = ok
 
   -- ---- halts
 
@@ -451,14 +406,7 @@ module _ (g : Setting) where
   at_limit_kept (Claim e) seen p s by may ok h = absurd (none_halt s.halt FiringLimit may.1 h)
   at_limit_kept (Halt v) seen p s by may ok h = subst (λ (w : ℕ). (s.fired ≡ g.game.limit) × (pending_of g w s ≡ 0)
       × (is_legal g w s ≡ true)) (sym by) (cause_limit v s h)
-  at_limit_kept (Ack e) seen p s by may ok h = ok h
-  at_limit_kept (Clear e) seen p s by may ok h = ok h
-  at_limit_kept (Put e) seen p s by may ok h = ok h
-  at_limit_kept (Settle e) seen p s by may ok h = ok h
-  at_limit_kept (Seal e) seen p s by may ok h = ok h
-  at_limit_kept (Read v) seen p s by may ok h = ok h
-  at_limit_kept (Feed e k) seen p s by may ok h = ok h
-  at_limit_kept End seen p s by may ok h = ok h
+  at_limit_kept _ seen p s by may ok h = ok h
 
   -- ---- a neutral vertex: it makes none of the events that would end its rest
 
@@ -647,29 +595,12 @@ module _ (g : Setting) where
       (λ i. after_put (s.out i).link) (λ i. (s.out i).link) (ap sum (put_sends (s.out e).link)) (λ i. refl)
       (root_edge g v)) in
       omega arith
-  fed_kept (Take e) seen s may ok = ok
-  fed_kept (Ack e) seen s may ok = ok
-  fed_kept (Fire v k) seen s may ok = ok
-  fed_kept (Halt v) seen s may ok = ok
-  fed_kept (Settle e) seen s may ok = ok
-  fed_kept (Seal e) seen s may ok = ok
-  fed_kept (Read v) seen s may ok = ok
-  fed_kept End seen s may ok = ok
+  fed_kept _ seen s may ok = ok
 
   -- what is noted stays noted
   pub stays_ended : (x : Event) (ended : Bool) → ended ≡ true → ended_after x ended ≡ true
   stays_ended End ended on = refl
-  stays_ended (Take e) ended on = on
-  stays_ended (Ack e) ended on = on
-  stays_ended (Fire v k) ended on = on
-  stays_ended (Clear e) ended on = on
-  stays_ended (Claim e) ended on = on
-  stays_ended (Put e) ended on = on
-  stays_ended (Halt v) ended on = on
-  stays_ended (Settle e) ended on = on
-  stays_ended (Seal e) ended on = on
-  stays_ended (Read v) ended on = on
-  stays_ended (Feed e k) ended on = on
+  stays_ended _ ended on = on
 
   pub part_kept : (x : Event) (seen p : ℕ) (s : Part) → p ≡ part_of g x → Met g x s → KeepsPart g p s
       → KeepsPart g p (does g (saw x seen) s)

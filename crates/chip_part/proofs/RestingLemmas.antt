@@ -41,17 +41,7 @@ acks_append (x ∷ xs) ys = let a = acks_append xs ys in omega arith
 ack_is_work : (g : Setting) (s : Part) (x : Event) (seen : ℕ)
     → ack_count x ≤ cond (is_work (act_of g x s) (reply_of g x seen s)) 1 0
 ack_is_work g s (Ack e) seen = omega arith
-ack_is_work g s (Take e) seen = omega arith
-ack_is_work g s (Fire v k) seen = omega arith
-ack_is_work g s (Clear e) seen = omega arith
-ack_is_work g s (Claim e) seen = omega arith
-ack_is_work g s (Put e) seen = omega arith
-ack_is_work g s (Halt v) seen = omega arith
-ack_is_work g s (Settle e) seen = omega arith
-ack_is_work g s (Seal e) seen = omega arith
-ack_is_work g s (Read v) seen = omega arith
-ack_is_work g s (Feed e k) seen = omega arith
-ack_is_work g s End seen = omega arith
+ack_is_work g s _ seen = omega arith
 
 acks_below : (g : Setting) (s : Part) (xs : List Step) → acks_in xs ≤ work_of g s xs
 acks_below g s [] = omega arith

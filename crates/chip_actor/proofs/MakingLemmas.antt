@@ -39,7 +39,7 @@ use Rattle.chip_part.specs.declared.act.Observed.{Observed}
 use Rattle.chip_part.specs.Setting.{Setting}
 use Rattle.chip_actor.specs.Actor.{Makes}
 use Rattle.chip_part.proofs.RuleLemmas.{rules_met}
-use Rattle.chip_actor.proofs.StandingLemmas.{among_outs, among_ins, books_in, books_out, out_inside, owed_is, may_ack_is}
+use Rattle.chip_actor.proofs.StandingLemmas.{among_outs, among_ins, books_in, out_inside, owed_is, may_ack_is}
 use Rattle.chip_actor.proofs.StandingLemmas.{few_got, few_fired}
 use Rattle.chip_actor.proofs.SteppingLemmas.{takes, takes_none, settles, acknowledges, halts, clears, may_look, claims}
 use Rattle.chip_actor.proofs.SteppingLemmas.{is_refused, puts, fires}

@@ -286,17 +286,7 @@ not_end a x y e act due needed H (g, ds, s, held, stands, at) =
 -- no more operations are left than this
 most_bound : (i o : ℕ) (x : Cursor) → most_left i o x ≤ (2 * i + 5 * o) + 6
 most_bound i o (At.Take place) = omega arith
-most_bound i o (At.Settle place) = omega arith
-most_bound i o At.Fire = omega arith
-most_bound i o (At.Put place) = omega arith
-most_bound i o At.Refusal = omega arith
-most_bound i o (At.Send place) = omega arith
-most_bound i o (At.Claim place) = omega arith
-most_bound i o (At.Store place) = omega arith
-most_bound i o At.Limit = omega arith
-most_bound i o (At.Ack place) = omega arith
-most_bound i o At.Parent = omega arith
-most_bound i o At.Over = omega arith
+most_bound i o _ = omega arith
 
 pub few_left : (H : Holding) (a : Actor) (x z : Cursor) → Meets H a x
     → most_left (length a.ins.edges) (length a.outs.edges) z < 2 ^ 32

@@ -42,9 +42,6 @@ module _ (g : Setting) (s : Part) (a : Actor) (stands : StandsFor g s a) where
   pub among_outs : (e : ℕ) → tail_of g e ≡ a.vertex → Contains a.outs.edges e
   among_outs e at = subst (λ (xs : List ℕ). Contains xs e) (sym stands.knows.outs) (has_out e at)
 
-  pub books_out : (e : ℕ) → tail_of g e ≡ a.vertex → Contains (out_edges a.detect) e
-  books_out e at = subst (λ (xs : List ℕ). Contains xs e) (sym stands.knows.detect_outs) (has_out e at)
-
   pub in_inside : (e : ℕ) → head_of g e ≡ a.vertex → e < all_edges g
   in_inside e at = dite (dec_lt e (graph_edges g)) (λ l. omega arith) (λ n. let h = head_root g e (omega arith) in
       let v = stands.knows.vertex in omega arith)

@@ -2,3 +2,13 @@ pub mod Ends
 pub mod Actor
 pub mod Turning
 pub mod Medium
+pub use Rattle.chip_part.specs.Acting
+pub use Rattle.chip_part.specs.Counting
+pub use Rattle.chip_part.specs.Cursor
+pub use Rattle.chip_part.specs.Edges
+pub use Rattle.chip_part.specs.Numbers
+pub use Rattle.chip_part.specs.Part
+pub use Rattle.chip_part.specs.Rules
+pub use Rattle.chip_part.specs.Setting
+pub use Rattle.chip_part.specs.Steps
+pub use Rattle.chip_part.specs.Turn

@@ -1,10 +1,10 @@
 ghost use Rattle.std.specs.Prelude.{◌≡◌, ◌≢◌, ◌+◌, ◌*◌, ◌<◌, ◌≤◌, ◌==◌, not, ◌&&◌, ◌||◌, nat_le, is_none, length};
 ghost use Rattle.std.specs.Prelude.{slice_index, Bool, IfOk, IfSome, None, ⊤};
 
-use crate::ends::{Ins, Outs};
+use crate::ends::{Ins, OutEnd, Outs};
 use chip_detect::{Detect, Slot};
 use chip_graph::Game;
-use chip_link::{Event, MAX_RING, Ring};
+use chip_link::{Event, Ring};
 use chip_part::{Act, Cause, Observed, Reply, Rule, first_unmet, is_by_limit};
 use std::alloc::{AllocError, Global};
 use std::marker::Model;
@@ -62,6 +62,7 @@ impl Model for ActorState {
 impl ActorState {
     ghost use Rattle.chip_detect.specs.Acknowledging.{may_ack};
     ghost use Rattle.chip_detect.specs.Slot.{IsSlotOf};
+    ghost use Rattle.chip_link.specs.Rings.{IsRing};
     ghost use Rattle.chip_part.specs.Setting.{setting_with};
     ghost use Rattle.chip_part.specs.Part.{opening_part, is_passive, cause};
     ghost use Rattle.chip_part.specs.Edges.{tail_of, head_of};
@@ -70,6 +71,7 @@ impl ActorState {
     ghost use Rattle.chip_part.specs.Acting.{act_of, event_of, verdict, CanDo, IsDue};
     ghost use Rattle.chip_actor.specs.Actor.{Actor, StandsFor, WhateverPart, SomePart, Makes, is_legal_now};
     ghost use Rattle.chip_actor.specs.Actor.{is_passive_now};
+    ghost use Rattle.chip_actor.specs.Ends.{out_on};
     ghost use Rattle.chip_link.specs.declared.event.Event.TheVariants.{Take, Ack, Fire, Clear, Claim, Put, Halt};
     ghost use Rattle.chip_link.specs.declared.event.Event.TheVariants.{Settle};
 
@@ -116,7 +118,16 @@ impl ActorState {
         requires { SomePart self.now (λ g s. tail_of g edge ≡ self.now.vertex) }
         ensures { WhateverPart self.now (λ g s. tail_of g edge ≡ self.now.vertex → result ≡ (s.out edge).pending) }
     {
-        self.outs.get(edge).pending
+        self.out(edge).pending
+    }
+
+    /// The chips of the message that is claimed on an edge out of the vertex and not put, if there is one.
+    pub fn held(&self, edge: u64) -> Option<u64>
+        requires { SomePart self.now (λ g s. tail_of g edge ≡ self.now.vertex) }
+        ensures { WhateverPart self.now (λ g s. tail_of g edge ≡ self.now.vertex → result ≡ (s.out edge).link.held) }
+    {
+        let (_, count) = self.out(edge).link.held()?;
+        Some(count)
     }
 
     /// Whether the vertex has nothing to do unless a message comes.
@@ -125,6 +136,14 @@ impl ActorState {
         ensures part { WhateverPart self.now (λ g s. result ≡ is_passive g self.now.vertex s) }
     {
         self.unput == 0 && (self.halt.is_some() || self.pending == 0 && !self.is_legal())
+    }
+
+    // What is known of an edge out of the vertex.
+    fn out(&self, edge: u64) -> &OutEnd
+        requires { SomePart self.now (λ g s. tail_of g edge ≡ self.now.vertex) }
+        ensures { result.now ≡ out_on self.now.outs edge }
+    {
+        self.outs.get(edge)
     }
 
     // It isn't the sink, and it has the chips for one firing.
@@ -197,7 +216,7 @@ impl ActorState {
         ensures { WhateverPart self.now
             (λ g s. tail_of g edge ≡ self.now.vertex → result ≡ unmet_rule g (Clear edge) s) }
     {
-        let out = self.outs.get(edge);
+        let out = self.out(edge);
         first_unmet(&[
             (self.halt.is_none(), Rule::Halted),
             (!out.link.refused(), Rule::Refused),
@@ -210,7 +229,7 @@ impl ActorState {
         ensures { WhateverPart self.now
             (λ g s. tail_of g edge ≡ self.now.vertex → result ≡ unmet_rule g (Claim edge) s) }
     {
-        let is_clear = self.outs.get(edge).link.claim_next().is_some();
+        let is_clear = self.out(edge).link.claim_next().is_some();
         first_unmet(&[
             (self.halt.is_none(), Rule::Halted),
             (is_clear, Rule::NotCleared),
@@ -221,7 +240,7 @@ impl ActorState {
         requires { SomePart self.now (λ g s. tail_of g edge ≡ self.now.vertex) }
         ensures { WhateverPart self.now (λ g s. tail_of g edge ≡ self.now.vertex → result ≡ unmet_rule g (Put edge) s) }
     {
-        first_unmet(&[(self.outs.get(edge).link.held().is_some(), Rule::NotClaimed)])
+        first_unmet(&[(self.out(edge).link.held().is_some(), Rule::NotClaimed)])
     }
 
     fn halt_rule(&self) -> Option<Rule>
@@ -274,10 +293,10 @@ impl ActorState {
             Event::Fire { k, .. } => Act::Fire { k },
             Event::Clear(edge) => Act::Clear {
                 edge,
-                cell: self.outs.get(edge).link.cell(),
+                cell: self.out(edge).link.cell(),
             },
             Event::Claim(edge) => {
-                let (expected, new) = self.outs.get(edge).link.claim_next().unwrap();
+                let (expected, new) = self.out(edge).link.claim_next().unwrap();
                 Act::Claim {
                     edge,
                     expected,
@@ -285,7 +304,7 @@ impl ActorState {
                 }
             }
             Event::Put(edge) => {
-                let (cell, value) = self.outs.get(edge).link.held().unwrap();
+                let (cell, value) = self.out(edge).link.held().unwrap();
                 Act::Put { edge, cell, value }
             }
             Event::Halt(_) => Act::Halt {
@@ -444,22 +463,19 @@ impl ActorState {
         }
     }
 
-    /// The state of a vertex at the opening. It takes all the memory that the vertex ever needs.
-    pub fn new(
-        alloc: Global,
-        game: &Game,
-        vertex: u64,
-        ring: Ring,
-    ) -> Result<ActorState, AllocError>
-        requires { vertex < game.now.graph.vertices }
+    /// The state of a vertex at the opening, with rings of so many cells. It takes all the memory that the vertex ever
+    /// needs.
+    pub fn new(alloc: Global, game: &Game, vertex: u64, ring: u64) -> Result<ActorState, AllocError>
+        requires vertex { vertex < game.now.graph.vertices }
+        requires ring { IsRing ring }
         ensures vertex { IfOk result (λ actor. actor.vertex ≡ vertex) }
         ensures opened { IfOk result (λ actor. (fed : Bool) → let g = setting_with game.now ring fed in
             StandsFor g (opening_part g) actor) }
     {
-        prove!(ring.cells() <= MAX_RING);
         let graph = game.graph();
-        let outs = Outs::new(alloc, graph, vertex, ring)?;
-        let ins = Ins::new(alloc, graph, vertex, ring)?;
+        let cells = Ring::of(ring);
+        let outs = Outs::new(alloc, graph, vertex, cells)?;
+        let ins = Ins::new(alloc, graph, vertex, cells)?;
         let detect = new_books(alloc, &ins, graph.outs(vertex))?;
         Ok(ActorState {
             vertex,

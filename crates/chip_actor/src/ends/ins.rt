@@ -121,10 +121,10 @@ impl Ins {
         let numbers = graph.ins(vertex);
         let mut ends = Vec::with_capacity(alloc, numbers.len() + 1)?;
         for &edge in numbers {
-            ends.push_reserved(HeadLink::new(edge, ring));
+            ends.push_reserved(HeadLink::new(edge, ring.cells()));
         }
         let root_edge = graph.edges().len() as u64 + vertex;
-        ends.push_reserved(HeadLink::new(root_edge, ring));
+        ends.push_reserved(HeadLink::new(root_edge, ring.cells()));
         Ok(Ins { ends })
     }
 

@@ -202,7 +202,7 @@ impl Outs {
             ends.push_reserved(OutEnd {
                 mult: rows[edge as usize].mult,
                 pending: 0,
-                link: TailLink::new(edge, ring),
+                link: TailLink::new(edge, ring.cells()),
             });
         }
         Ok(Outs { ends })

@@ -9,7 +9,7 @@ use Rattle.chip_part.specs.Rules.{Event}
 use Rattle.chip_part.specs.Steps.{part_of}
 use Rattle.chip_part.specs.Acting.{act_of}
 use Rattle.chip_actor.specs.Actor.{Actor}
-use Rattle.chip_actor.proofs.StandingLemmas.{among_outs, among_ins, books_in, may_ack_is}
+use Rattle.chip_actor.proofs.StandingLemmas.{among_ins, books_in, may_ack_is}
 use Rattle.chip_actor.proofs.actor.ActorState.act.Goals as goal
 
 -- the edge of an event of the vertex is among those that the actor keeps
@@ -23,20 +23,14 @@ may_ack-requires c = let r = c.requires in
     subst (λ (a : Actor). Contains (in_edges a.detect) c.in-Ack.edge) (sym c.self.view_is)
     (books_in r.0 r.1 c.args.self.now r.2 c.in-Ack.edge (sym (ap (part_of r.0) c.in-Ack.is) ∙ r.3.0))
 
-pub get-requires : goal.get-requires
-get-requires c = let r = c.requires in
-    subst (λ (a : Actor). Contains a.outs.edges c.in-Clear.edge) (sym c.self.view_is)
-    (among_outs r.0 r.1 c.args.self.now r.2 c.in-Clear.edge (sym (ap (part_of r.0) c.in-Clear.is) ∙ r.3.0))
+pub out-requires : goal.out-requires
+out-requires c = let r = c.requires in (r.0, r.1, r.2, sym (ap (part_of r.0) c.in-Clear.is) ∙ r.3.0)
 
-pub get-requires-in-Claim : goal.get-requires-in-Claim
-get-requires-in-Claim c = let r = c.requires in
-    subst (λ (a : Actor). Contains a.outs.edges c.in-Claim.edge) (sym c.self.view_is)
-    (among_outs r.0 r.1 c.args.self.now r.2 c.in-Claim.edge (sym (ap (part_of r.0) c.in-Claim.is) ∙ r.3.0))
+pub out-requires-in-Claim : goal.out-requires-in-Claim
+out-requires-in-Claim c = let r = c.requires in (r.0, r.1, r.2, sym (ap (part_of r.0) c.in-Claim.is) ∙ r.3.0)
 
-pub get-requires-in-Put : goal.get-requires-in-Put
-get-requires-in-Put c = let r = c.requires in
-    subst (λ (a : Actor). Contains a.outs.edges c.in-Put.edge) (sym c.self.view_is)
-    (among_outs r.0 r.1 c.args.self.now r.2 c.in-Put.edge (sym (ap (part_of r.0) c.in-Put.is) ∙ r.3.0))
+pub out-requires-in-Put : goal.out-requires-in-Put
+out-requires-in-Put c = let r = c.requires in (r.0, r.1, r.2, sym (ap (part_of r.0) c.in-Put.is) ∙ r.3.0)
 
 pub returns-in-Ack : goal.returns-in-Ack
 returns-in-Ack c = λ g s stands at may.

@@ -1,7 +1,6 @@
-use Rattle.std.proofs.Common.{◌∙◌, ◌+◌, ◌<◌, ◌≤◌, ℕ, List, [], ◌∷◌, length, ap, subst, arith, eqb, None, length-append}
+use Rattle.std.proofs.Common.{◌∙◌, ◌+◌, ℕ, List, [], ◌∷◌, length, ap, subst, arith, eqb, None, length-append}
 use Rattle.chip_graph.specs.Multigraph.{Multigraph, edge_at, edges_out, edges_in, degree}
 use Rattle.chip_detect.specs.Books.{IsFresh}
-use Rattle.chip_link.specs.Rings.{max_ring}
 use Rattle.chip_part.specs.Setting.{setting_with}
 use Rattle.chip_actor.specs.Ends.{IsFreshOuts, IsFreshIns}
 use Rattle.chip_actor.specs.Actor.{Actor}
@@ -36,13 +35,16 @@ returns-clause-opened c =
     let outs = c.outs-2.ensures ∙ ap (λ (G : Multigraph). edges_out G c.args.vertex) same in
     λ fed. opens (setting_with c.args.game.now c.args.ring fed) c.args.vertex record {
       game = c.graph-graph.ensures.game;
-      some_ring = subst (λ (n : ℕ). 0 < n) c.cells.ensures.number c.cells.ensures.range.0;
-      small_ring =
-          subst (λ (n : ℕ). n ≤ max_ring) c.cells.ensures.number c.cells.ensures.range.1;
-    } c.requires
+      some_ring = c.requires.ring.0;
+      small_ring = c.requires.ring.1;
+    } c.requires.vertex
     c.in_ok-outs.outs c.in_ok-ins.ins c.in_ok-detect.detect
-    (subst (λ (G : Multigraph). IsFreshOuts G c.args.ring c.args.vertex c.in_ok-outs.outs) same c.in_ok-outs.ensures)
-    (subst (λ (G : Multigraph). IsFreshIns G c.args.ring c.args.vertex c.in_ok-ins.ins) same c.in_ok-ins.ensures)
+    (subst (λ (G : Multigraph). IsFreshOuts G c.args.ring c.args.vertex c.in_ok-outs.outs) same
+    (subst (λ (n : ℕ). IsFreshOuts c.graph-graph.result.now n c.args.vertex c.in_ok-outs.outs) c.of-cells.ensures
+    c.in_ok-outs.ensures))
+    (subst (λ (G : Multigraph). IsFreshIns G c.args.ring c.args.vertex c.in_ok-ins.ins) same
+    (subst (λ (n : ℕ). IsFreshIns c.graph-graph.result.now n c.args.vertex c.in_ok-ins.ins) c.of-cells.ensures
+    c.in_ok-ins.ensures))
     (subst (λ (xs : List ℕ). IsFresh c.in_ok-detect.detect c.in_ok-ins.ins.edges xs) outs
     c.in_ok-detect.ensures.fresh)
     c.in_ok-detect.ensures.sound

@@ -18,7 +18,7 @@ made c = c.push_reserved-2.ensures.items
     ∙ ap (map (λ e. new_head e c.args.ring))
     (take_all c.loop-edge.edge-index c.ins-numbers.result.now c.loop-edge-test.false ∙ c.ins-numbers.ensures)) j
     ++ (c.new-2.ensures
-    ∙ ap (λ (n : ℕ). new_head (n + c.args.vertex) c.args.ring) (ap length c.edges.ensures.value)) j ∷ [])
+    ∙ (λ k. new_head (length (c.edges.ensures.value k) + c.args.vertex) (c.cells-2.ensures.number k))) j ∷ [])
     ∙ sym (map-append (λ e. new_head e c.args.ring) (edges_in c.args.graph.now c.args.vertex)
     ((length c.args.graph.now.edges + c.args.vertex) ∷ []))
 

@@ -175,7 +175,7 @@ fn opened_tail(edge: u64, ring: Ring, chips: u64) -> TailLink
     requires { chips ≤ max_total }
     ensures { result ≡ opened_tail edge ring chips }
 {
-    let mut tail = TailLink::new(edge, ring);
+    let mut tail = TailLink::new(edge, ring.cells());
     if chips > 0 {
         let _is_clear = tail.cleared(0);
         let _message = tail.claimed(0, chips);

@@ -164,6 +164,16 @@ impl RootBooks {
         self.feeder.tail((edge - self.graph_edges) as usize)
     }
 
+    /// The chips of the message that is claimed on a root edge and not put, if there is one.
+    pub fn held(&self, edge: u64) -> Option<u64>
+        requires { SomeRoot self.now (λ g s. (graph_edges g ≤ edge) × (edge < all_edges g)) }
+        ensures { WhateverRoot self.now (λ g s. graph_edges g ≤ edge → edge < all_edges g
+            → result ≡ (s.out edge).link.held) }
+    {
+        let (_, count) = self.tail(edge).held()?;
+        Some(count)
+    }
+
     // The operation that an event of the root needs, whose rules are met.
     fn act(&self, event: &Event) -> Act
         requires { SomeRoot self.now (λ g s. (is_of_root g event.now ≡ true) × (unmet_rule g event.now s ≡ None)) }

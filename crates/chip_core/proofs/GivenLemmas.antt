@@ -1,8 +1,8 @@
 -- Serves Core.antt.
 -- What was given to each vertex: all that was sent on its root edge, at the opening and by feeding.
-use Rattle.std.proofs.Common.{◌≡◌, ◌≢◌, ℕ, ◌+◌, ◌-◌, ◌<◌, ◌≤◌, true, false, cond, eqb, ltb, List, [], ◌∷◌, ◌++◌, map}
-use Rattle.std.proofs.Common.{length, sum, slice_index, get_or, Option, Some, None, option_to_list, refl, sym, ap, ◌∙◌}
-use Rattle.std.proofs.Common.{subst, arith, append-nil, append_assoc, true≢false}
+use Rattle.std.proofs.Common.{◌≡◌, ◌≢◌, ℕ, ◌+◌, ◌-◌, ◌<◌, ◌≤◌, true, false, cond, eqb, List, [], ◌∷◌, ◌++◌}
+use Rattle.std.proofs.Common.{sum, slice_index, Option, Some, None, option_to_list, refl, sym, ap, ◌∙◌}
+use Rattle.std.proofs.Common.{arith, append-nil, append_assoc, true≢false}
 use Rattle.std.proofs.lemmas.List.{get_or_past, ext_get_or}
 use Rattle.std.proofs.lemmas.List.FromFn.{fill_by_all, get_or-map-range_with_len, length-map-range_with_len}
 use Rattle.std.proofs.lemmas.List.Sums.{sum_by_push, sum_by-cons, sum_by-append}

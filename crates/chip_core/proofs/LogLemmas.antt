@@ -17,10 +17,10 @@ use Rattle.chip_part.specs.Steps.{link_after, settled_after, got_after, acked_af
 use Rattle.chip_part.specs.Kept.{Met, KeepsOut, KeepsPart}
 use Rattle.chip_part.proofs.EdgeLemmas.{tail_graph, tail_root, head_graph, head_root}
 use Rattle.chip_part.proofs.RuleLemmas.{rules_met}
-use Rattle.chip_part.proofs.PartLemmas.{at_edge, no_held}
+use Rattle.chip_part.proofs.PartLemmas.{at_edge}
 use Rattle.chip_part.proofs.PartLemmas as part_lemmas
 use Rattle.chip_part.proofs.OpeningLemmas.{opening_keeps}
-use Rattle.chip_core.specs.Core.{Log, Step, Event, Take, Ack, Fire, Clear, Claim, Put, Halt, Settle, Seal, Read, Feed}
+use Rattle.chip_core.specs.Core.{Log, Step, Event, Take, Ack, Clear, Claim, Put, Settle, Seal, Feed}
 use Rattle.chip_core.specs.Core.{End, Part, Out, Into, part_of, does, part_in, out_in, into_in, stop_in, sees}
 use Rattle.chip_core.specs.Core.{IsLegalLog, tail_of, head_of, root, root_edge, stopper, all_edges, graph_edges}
 
@@ -40,74 +40,28 @@ module _ (g : Setting) where
   link_idle (Clear i) seen e o ne = cond_no i e (after_clear seen o.link) o.link (λ z. ne (ap (tail_of g) z))
   link_idle (Claim i) seen e o ne = cond_no i e (after_claim o.pending seen o.link) o.link (λ z. ne (ap (tail_of g) z))
   link_idle (Put i) seen e o ne = cond_no i e (after_put o.link) o.link (λ z. ne (ap (tail_of g) z))
-  link_idle (Take i) seen e o ne = refl
-  link_idle (Ack i) seen e o ne = refl
-  link_idle (Fire v k) seen e o ne = refl
-  link_idle (Halt v) seen e o ne = refl
-  link_idle (Settle i) seen e o ne = refl
-  link_idle (Seal i) seen e o ne = refl
-  link_idle (Read v) seen e o ne = refl
   link_idle (Feed i k) seen e o ne = cond_no i e (after_claim k seen o.link) o.link (λ z. ne (ap (tail_of g) z))
-  link_idle End seen e o ne = refl
+  link_idle _ seen e o ne = refl
 
   settled_idle : (x : Event) (seen e : ℕ) (o : Out) → part_of g x ≢ tail_of g e
       → settled_after g x seen e o ≡ o.settled
   settled_idle (Settle i) seen e o ne = cond_no i e (o.settled + (seen - o.settled)) o.settled
       (λ z. ne (ap (tail_of g) z))
-  settled_idle (Clear i) seen e o ne = refl
-  settled_idle (Claim i) seen e o ne = refl
-  settled_idle (Put i) seen e o ne = refl
-  settled_idle (Take i) seen e o ne = refl
-  settled_idle (Ack i) seen e o ne = refl
-  settled_idle (Fire v k) seen e o ne = refl
-  settled_idle (Halt v) seen e o ne = refl
-  settled_idle (Seal i) seen e o ne = refl
-  settled_idle (Read v) seen e o ne = refl
-  settled_idle (Feed i k) seen e o ne = refl
   settled_idle End seen e o ne = cond_no (root_edge g 0) e (o.settled + (seen - o.settled)) o.settled
       (λ z. ne (sym (tail_root g e (let a : root_edge g 0 ≡ e = z in omega arith))))
+  settled_idle _ seen e o ne = refl
 
   got_idle : (x : Event) (seen e : ℕ) (i : Into) → part_of g x ≢ head_of g e → got_after x seen e i ≡ i.got
   got_idle (Take j) seen e i ne = cond_no j e (after_take seen i.got) i.got (λ z. ne (ap (head_of g) z))
-  got_idle (Clear j) seen e i ne = refl
-  got_idle (Claim j) seen e i ne = refl
-  got_idle (Put j) seen e i ne = refl
-  got_idle (Ack j) seen e i ne = refl
-  got_idle (Fire v k) seen e i ne = refl
-  got_idle (Halt v) seen e i ne = refl
-  got_idle (Settle j) seen e i ne = refl
-  got_idle (Seal j) seen e i ne = refl
-  got_idle (Read v) seen e i ne = refl
-  got_idle (Feed j k) seen e i ne = refl
-  got_idle End seen e i ne = refl
+  got_idle _ seen e i ne = refl
 
   acked_idle : (x : Event) (s : Part) (e : ℕ) (i : Into) → part_of g x ≢ head_of g e → acked_after g x s e i ≡ i.acked
   acked_idle (Ack j) s e i ne = cond_no j e (i.acked + may_ack g (head_of g j) s j) i.acked (λ z. ne (ap (head_of g) z))
-  acked_idle (Take j) s e i ne = refl
-  acked_idle (Clear j) s e i ne = refl
-  acked_idle (Claim j) s e i ne = refl
-  acked_idle (Put j) s e i ne = refl
-  acked_idle (Fire v k) s e i ne = refl
-  acked_idle (Halt v) s e i ne = refl
-  acked_idle (Settle j) s e i ne = refl
-  acked_idle (Seal j) s e i ne = refl
-  acked_idle (Read v) s e i ne = refl
-  acked_idle (Feed j k) s e i ne = refl
-  acked_idle End s e i ne = refl
+  acked_idle _ s e i ne = refl
 
   stop_idle : (x : Event) (seen e : ℕ) (stop : Option ℕ) → part_of g x ≢ stopper g → stop_after x seen e stop ≡ stop
   stop_idle (Seal j) seen e stop ne = absurd (ne refl)
-  stop_idle (Take j) seen e stop ne = refl
-  stop_idle (Ack j) seen e stop ne = refl
-  stop_idle (Clear j) seen e stop ne = refl
-  stop_idle (Claim j) seen e stop ne = refl
-  stop_idle (Put j) seen e stop ne = refl
-  stop_idle (Fire v k) seen e stop ne = refl
-  stop_idle (Halt v) seen e stop ne = refl
-  stop_idle (Settle j) seen e stop ne = refl
-  stop_idle (Read v) seen e stop ne = refl
-  stop_idle (Feed j k) seen e stop ne = refl
-  stop_idle End seen e stop ne = refl
+  stop_idle _ seen e stop ne = refl
 
   -- whichever part made it: a field of the part p is what the event makes of it
   field_step : {A : Type 0} (field : Part → A) (after : Part → A) (x : Step) (log : Log) (p : ℕ)
@@ -218,16 +172,11 @@ module _ (g : Setting) where
           (λ i (stop : Option ℕ). Sound g.ring (out_in g log i).link (into_in g log i).got stop) e
           (λ i. after_seal seen (stop_in g log i)) (λ i. stop_in g log i)
           (seal_sound g.ring _ _ _ seen is (ok e)) ok
-      edge_step log (Ack e) seen legal may is ok = ok
-      edge_step log (Fire v k) seen legal may is ok = ok
-      edge_step log (Halt v) seen legal may is ok = ok
-      edge_step log (Settle e) seen legal may is ok = ok
-      edge_step log (Read v) seen legal may is ok = ok
       edge_step log (Feed e k) seen legal may is ok = at_edge
           (λ i (t : Tail). Sound g.ring t (into_in g log i).got (stop_in g log i)) e
           (λ i. after_claim k seen (out_in g log i).link) (λ i. (out_in g log i).link)
           (claim_sound g.ring some_ring _ _ _ (ok e) k seen may.3 may.5 is) ok
-      edge_step log End seen legal may is ok = ok
+      edge_step log _ seen legal may is ok = ok
 
       -- an edge with nothing on it, and a root edge with one message
       first_sound_at : (e : ℕ) → Sound g.ring
@@ -267,18 +216,10 @@ module _ (g : Setting) where
     settle_step log (Ack e) seen is ok = at_edge (λ i (n : ℕ). (out_in g log i).settled ≤ n) e
         (λ i. (into_in g log i).acked + may_ack g (head_of g e) (part_in g log (head_of g i)) e)
         (λ i. (into_in g log i).acked) (let a = ok e in omega arith) ok
-    settle_step log (Take e) seen is ok = ok
-    settle_step log (Fire v k) seen is ok = ok
-    settle_step log (Clear e) seen is ok = ok
-    settle_step log (Claim e) seen is ok = ok
-    settle_step log (Put e) seen is ok = ok
-    settle_step log (Halt v) seen is ok = ok
-    settle_step log (Seal e) seen is ok = ok
-    settle_step log (Read v) seen is ok = ok
-    settle_step log (Feed e k) seen is ok = ok
     settle_step log End seen is ok = at_edge (λ i (n : ℕ). n ≤ (into_in g log i).acked) (root_edge g 0)
         (λ i. (out_in g log i).settled + (seen - (out_in g log i).settled)) (λ i. (out_in g log i).settled)
         (let a = ok (root_edge g 0) in omega arith) ok
+    settle_step log _ seen is ok = ok
 
     -- what the tail settled, the head acknowledged
     pub settled_behind : (log : Log) → IsLegalLog g log → (e : ℕ) → (out_in g log e).settled ≤ (into_in g log e).acked

@@ -24,7 +24,7 @@ use Rattle.chip_part.specs.Steps.{message_of, link_after, got_after, saw}
 use Rattle.chip_part.proofs.RuleLemmas.{rules_met}
 use Rattle.chip_part.proofs.PartLemmas.{at_edge, took_none}
 use Rattle.chip_part.proofs.OpeningLemmas.{first_few, first_sent}
-use Rattle.chip_core.specs.Core.{Log, Event, Take, Ack, Fire, Clear, Claim, Put, Halt, Settle, Seal, Read, Feed, End}
+use Rattle.chip_core.specs.Core.{Log, Event, Take, Clear, Claim, Put, Seal, Feed}
 use Rattle.chip_core.specs.Core.{Rule, Out, unmet_rule, part_of, reply_of, part_in, out_in, into_in, stop_in, fired_by}
 use Rattle.chip_core.specs.Core.{sees}
 use Rattle.chip_core.specs.Core.{IsLegalLog, answer, step, log_after, replies_to, tail_of, head_of, graph_edges}
@@ -76,45 +76,15 @@ push e xs n c is = messages-append e 0 xs (c ∷ [])
 
 not_sent : (e : ℕ) (x : Event) (r : Rule) → sent_by e x (NotNow r) ≡ []
 not_sent e (Claim i) r = refl
-not_sent e (Take i) r = refl
-not_sent e (Ack i) r = refl
-not_sent e (Fire v k) r = refl
-not_sent e (Clear i) r = refl
-not_sent e (Put i) r = refl
-not_sent e (Halt v) r = refl
-not_sent e (Settle i) r = refl
-not_sent e (Seal i) r = refl
-not_sent e (Read v) r = refl
-not_sent e (Feed i k) r = refl
-not_sent e End r = refl
+not_sent e _ r = refl
 
 not_delivered : (e : ℕ) (x : Event) (r : Rule) → delivered_by e x (NotNow r) ≡ []
 not_delivered e (Take i) r = refl
-not_delivered e (Claim i) r = refl
-not_delivered e (Ack i) r = refl
-not_delivered e (Fire v k) r = refl
-not_delivered e (Clear i) r = refl
-not_delivered e (Put i) r = refl
-not_delivered e (Halt v) r = refl
-not_delivered e (Settle i) r = refl
-not_delivered e (Seal i) r = refl
-not_delivered e (Read v) r = refl
-not_delivered e (Feed i k) r = refl
-not_delivered e End r = refl
+not_delivered e _ r = refl
 
 not_seal : (e : ℕ) (x : Event) (r : Rule) → is_seal_of e x (NotNow r) ≡ false
 not_seal e (Seal i) r = refl
-not_seal e (Take i) r = refl
-not_seal e (Claim i) r = refl
-not_seal e (Ack i) r = refl
-not_seal e (Fire v k) r = refl
-not_seal e (Clear i) r = refl
-not_seal e (Put i) r = refl
-not_seal e (Halt v) r = refl
-not_seal e (Settle i) r = refl
-not_seal e (Read v) r = refl
-not_seal e (Feed i k) r = refl
-not_seal e End r = refl
+not_seal e _ r = refl
 
 -- as at_edge, where the claim on the others needs that they are others
 at_other : {A : Type 0} (P : ℕ → A → Type 0) (e : ℕ) (new old : ℕ → A) → P e (new e) → ((i : ℕ) → e ≢ i → P i (old i))
@@ -163,17 +133,8 @@ module _ (g : Setting) where
       → sent_by e x (answer g log x o).1 ≡ []
   no_send log e was x (Some r) = not_sent e x r
   no_send log e was (Claim i) None = refused_claim log e was i
-  no_send log e was (Take i) None = refl
-  no_send log e was (Ack i) None = refl
-  no_send log e was (Fire v k) None = refl
-  no_send log e was (Clear i) None = refl
-  no_send log e was (Put i) None = refl
-  no_send log e was (Halt v) None = refl
-  no_send log e was (Settle i) None = refl
-  no_send log e was (Seal i) None = refl
-  no_send log e was (Read v) None = refl
   no_send log e was (Feed i k) None = refused_feed log e was i k
-  no_send log e was End None = refl
+  no_send log e was _ _ = refl
 
   stays_sealed : (log : Log) (e : ℕ) → was_sealed log e ≡ true → (x : Event) (o : Option Rule)
       → was_sealed (answer g log x o).0 e ≡ true
@@ -193,17 +154,7 @@ module _ (g : Setting) where
       → was_sealed (answer g log x o).0 e ≡ true
   now_sealed log e x (Some r) is = absurd (true≢false (sym is ∙ not_seal e x r))
   now_sealed log e (Seal i) None is = ap (λ (b : Bool). b || was_sealed log e) is
-  now_sealed log e (Take i) None is = absurd (true≢false (sym is))
-  now_sealed log e (Claim i) None is = absurd (true≢false (sym is))
-  now_sealed log e (Ack i) None is = absurd (true≢false (sym is))
-  now_sealed log e (Fire v k) None is = absurd (true≢false (sym is))
-  now_sealed log e (Clear i) None is = absurd (true≢false (sym is))
-  now_sealed log e (Put i) None is = absurd (true≢false (sym is))
-  now_sealed log e (Halt v) None is = absurd (true≢false (sym is))
-  now_sealed log e (Settle i) None is = absurd (true≢false (sym is))
-  now_sealed log e (Read v) None is = absurd (true≢false (sym is))
-  now_sealed log e (Feed i k) None is = absurd (true≢false (sym is))
-  now_sealed log e End None is = absurd (true≢false (sym is))
+  now_sealed log e _ _ is = absurd (true≢false (sym is))
 
   -- nothing is sent after a seal
   pub nothing_after_seal : (log : Log) (xs : List Event) (e : ℕ) → sent_after_seal e xs (replies_to g log xs) ≡ []
@@ -248,17 +199,7 @@ module _ (g : Setting) where
       (λ j n. sym (ap (λ (l : List Message). got_at log j ++ l) (cond_no i j (m ∷ []) [] n)
       ∙ append-nil (got_at log j))) e
       ∙ sym (ap (λ (l : List Message). got_at log e ++ l) reply))
-  got_event (Claim i) log e = sym (append-nil (got_at log e))
-  got_event (Clear i) log e = sym (append-nil (got_at log e))
-  got_event (Put i) log e = sym (append-nil (got_at log e))
-  got_event (Ack i) log e = sym (append-nil (got_at log e))
-  got_event (Fire v k) log e = sym (append-nil (got_at log e))
-  got_event (Halt v) log e = sym (append-nil (got_at log e))
-  got_event (Settle i) log e = sym (append-nil (got_at log e))
-  got_event (Seal i) log e = sym (append-nil (got_at log e))
-  got_event (Read v) log e = sym (append-nil (got_at log e))
-  got_event (Feed i k) log e = sym (append-nil (got_at log e))
-  got_event End log e = sym (append-nil (got_at log e))
+  got_event _ log e = sym (append-nil (got_at log e))
 
   got_answer : (log : Log) (x : Event) (o : Option Rule) (e : ℕ)
       → got_at (answer g log x o).0 e ≡ got_at log e ++ delivered_by e x (answer g log x o).1
@@ -330,14 +271,6 @@ module _ (g : Setting) where
         (λ j. after_claim (out_in g log j).pending seen (out_in g log j).link) (λ j. (out_in g log j).link) is
         (λ j. refl) e)
         ∙ sym (append-nil (sent_at log e)) ∙ sym (ap (λ (l : List Message). sent_at log e ++ l) reply))
-    sent_event (Take i) log e legal met = sym (append-nil (sent_at log e))
-    sent_event (Ack i) log e legal met = sym (append-nil (sent_at log e))
-    sent_event (Fire v k) log e legal met = sym (append-nil (sent_at log e))
-    sent_event (Halt v) log e legal met = sym (append-nil (sent_at log e))
-    sent_event (Settle i) log e legal met = sym (append-nil (sent_at log e))
-    sent_event (Seal i) log e legal met = sym (append-nil (sent_at log e))
-    sent_event (Read v) log e legal met = sym (append-nil (sent_at log e))
-    sent_event End log e legal met = sym (append-nil (sent_at log e))
     sent_event (Feed i k) log e legal met =
         let seen : ℕ = sees g log (Feed i k) in
         let t : Tail = (out_in g log i).link in
@@ -354,6 +287,7 @@ module _ (g : Setting) where
         (λ j n. sym (ap (λ (l : List Message). sent_at log j ++ l) (cond_no i j (m ∷ []) [] n)
         ∙ append-nil (sent_at log j))) e
         ∙ sym (ap (λ (l : List Message). sent_at log e ++ l) reply)
+    sent_event _ log e legal met = sym (append-nil (sent_at log e))
 
     sent_answer : (log : Log) (x : Event) (o : Option Rule) (e : ℕ) → unmet_rule g x (part_in g log (part_of g x)) ≡ o
         → IsLegalLog g log → sent_at (answer g log x o).0 e ≡ sent_at log e ++ sent_by e x (answer g log x o).1

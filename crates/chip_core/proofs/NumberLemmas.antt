@@ -19,11 +19,11 @@ use Rattle.chip_link.proofs.WordLawsLemmas.{edge_word_reads, fired_word_reads}
 use Rattle.chip_sequence.specs.Sequence.{position_after}
 use Rattle.chip_sequence.proofs.BoundLemmas.{chips_are_kept}
 use Rattle.chip_part.specs.Steps.{stop_after}
-use Rattle.chip_part.specs.Acting.{FitsSeen, CanDo}
+use Rattle.chip_part.specs.Acting.{FitsSeen}
 use Rattle.chip_part.specs.Acting.{is_of_root, FitsRoot}
 use Rattle.chip_part.proofs.EdgeLemmas.{tail_root}
 use Rattle.chip_part.proofs.RuleLemmas.{rules_met}
-use Rattle.chip_core.specs.Core.{root, Log, Event, Take, Ack, Fire, Clear, Claim, Put, Halt, Settle, Seal, Read, Feed}
+use Rattle.chip_core.specs.Core.{root, Log, Event, Take, Clear, Claim, Put, Settle, Seal, Read, Feed}
 use Rattle.chip_core.specs.Core.{End, unmet_rule, part_of, part_in, out_in, into_in, stop_in, fired_by, word_of_part}
 use Rattle.chip_core.specs.Core.{sees}
 use Rattle.chip_core.specs.Core.{is_by_limit, IsLegalLog, tail_of, head_of, root_edge, all_edges, graph_edges}
@@ -61,16 +61,7 @@ module _ (g : Setting) where
       both true (Some first) = refl
       both false stop = refl
   seal_step (Take i) seen e stop = refl
-  seal_step (Ack i) seen e stop = refl
-  seal_step (Fire v k) seen e stop = refl
-  seal_step (Clear i) seen e stop = refl
-  seal_step (Claim i) seen e stop = refl
-  seal_step (Put i) seen e stop = refl
-  seal_step (Halt v) seen e stop = refl
-  seal_step (Settle i) seen e stop = refl
-  seal_step (Read v) seen e stop = refl
-  seal_step (Feed i k) seen e stop = refl
-  seal_step End seen e stop = refl
+  seal_step _ seen e stop = refl
 
   -- the stopper's part has a word exactly where a seal was made
   pub seals_stand : (log : Log) (e : ℕ) → was_sealed log e ≡ is_some (stop_in g log e)
@@ -105,9 +96,6 @@ module _ (g : Setting) where
         let b = tested_term (all_edges g) (λ i. eqb (head_of g i) (head_of g e))
         (λ i. sum (counts_in_flight g log i)) e l (eq-eqb (head_of g e) (head_of g e) refl) in
         omega arith
-
-    pub few_chips : (v : ℕ) → v < g.game.graph.vertices → (part_in g log v).chips ≤ 2 ^ 40
-    few_chips v l = let a = full_position_most v l in let b = few_given in omega arith
 
     -- ---- messages
 
@@ -258,15 +246,7 @@ module _ (g : Setting) where
     fits_seen (Take e) at met = take_fits e (rules_met g (Take e) (part_in g log (head_of g e)) met)
     fits_seen (Claim e) at met = (edge_reads e).claims_are
     fits_seen (Settle e) at met = settle_fits e
-    fits_seen (Ack e) at met = tt
-    fits_seen (Fire v k) at met = tt
-    fits_seen (Clear e) at met = tt
-    fits_seen (Put e) at met = tt
-    fits_seen (Halt v) at met = tt
-    fits_seen (Seal e) at met = tt
-    fits_seen (Read v) at met = tt
-    fits_seen (Feed e k) at met = tt
-    fits_seen End at met = tt
+    fits_seen _ at met = tt
 
     -- the same of a settle of a root edge, by the root's part
     root_settle_fits : (e : ℕ) → graph_edges g ≤ e
@@ -285,17 +265,7 @@ module _ (g : Setting) where
     root_fits (Clear e) own met = tt
     root_fits (Put e) own met = tt
     root_fits (Read v) own met = tt
-    root_fits (Take e) own met = absurd (true≢false (sym own))
-    root_fits (Ack e) own met = absurd (true≢false (sym own))
-    root_fits (Fire v k) own met = absurd (true≢false (sym own))
-    root_fits (Claim e) own met = absurd (true≢false (sym own))
-    root_fits (Halt v) own met = absurd (true≢false (sym own))
-    root_fits (Seal e) own met = absurd (true≢false (sym own))
-
-    -- so an actor may be told of it
-    pub can_do : (x : Event) → part_of g x < g.game.graph.vertices → unmet_rule g x (part_in g log (part_of g x)) ≡ None
-        → CanDo g (part_in g log (part_of g x)) (part_of g x) x (sees g log x)
-    can_do x at met = (refl, met, fits_seen x at met)
+    root_fits _ own met = absurd (true≢false (sym own))
 
     pub counts_of : (e : ℕ) → CountsOf g log e
     counts_of e = let c = edge_counts g game some_ring log legal e in

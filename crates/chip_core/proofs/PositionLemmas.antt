@@ -187,17 +187,7 @@ module _ (g : Setting) where
         sequence-append g.game.graph (firings log) (replicate k v) (chips_given g log) ok
         (batch g.game.graph v k (position_after g.game.graph (chips_given g log) (firings log)) may.0 may.1
         (omega arith))
-    sequence_step (Take e) seen log legal ok = same_sequence log [] refl ok
-    sequence_step (Ack e) seen log legal ok = same_sequence log [] refl ok
-    sequence_step (Clear e) seen log legal ok = same_sequence log [] refl ok
-    sequence_step (Claim e) seen log legal ok = same_sequence log [] refl ok
-    sequence_step (Put e) seen log legal ok = same_sequence log [] refl ok
-    sequence_step (Halt v) seen log legal ok = same_sequence log [] refl ok
-    sequence_step (Settle e) seen log legal ok = same_sequence log [] refl ok
-    sequence_step (Seal e) seen log legal ok = same_sequence log [] refl ok
-    sequence_step (Read v) seen log legal ok = same_sequence log [] refl ok
-    sequence_step (Feed e k) seen log legal ok = same_sequence log [] refl ok
-    sequence_step End seen log legal ok = same_sequence log [] refl ok
+    sequence_step _ seen log legal ok = same_sequence log [] refl ok
 
     pub is_sequence : (log : Log) → IsLegalLog g log → IsFiringSequence g.game.graph (chips_given g log) (firings log)
     is_sequence [] legal = tt

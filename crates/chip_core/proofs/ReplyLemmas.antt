@@ -10,8 +10,8 @@ use Rattle.chip_link.specs.Link.{Tail, claims_of, after_clear, after_claim}
 use Rattle.chip_part.specs.declared.reply.Reply.TheVariants.{Got, Sent, Empty, Sealed}
 use Rattle.chip_part.specs.Steps.{message_of, saw}
 use Rattle.chip_part.proofs.PartLemmas.{at_edge, idle_take}
-use Rattle.chip_core.specs.Core.{Log, Step, Event, Take, Ack, Fire, Clear, Claim, Put, Halt, Settle, Seal, Read, Feed}
-use Rattle.chip_core.specs.Core.{End, Rule, Reply, Part, unmet_rule, part_of, does, reply_of, part_in, sees, answer}
+use Rattle.chip_core.specs.Core.{Log, Step, Event, Take, Clear, Claim, Feed}
+use Rattle.chip_core.specs.Core.{Rule, Reply, Part, unmet_rule, part_of, does, reply_of, part_in, sees, answer}
 use Rattle.chip_core.specs.Core.{step}
 use Rattle.chip_core.specs.Core.{replies_to, log_after}
 use Rattle.chip_core.specs.Replies.{is_idle, DifferInNotes, IdleStepsLeave, RunsGoOn}
@@ -118,19 +118,12 @@ module _ (g : Setting) where
       ∙ ap is_idle (cond_yes seen (claims_of (s.out e).link)
       (Sent (message_of e (claims_of (s.out e).link) (s.out e).pending)) Sealed hit))))
       (λ miss. sealed_leaves e seen s miss)
-  acting_leaves (Ack e) seen s idle = absurd (true≢false (sym idle))
-  acting_leaves (Fire v k) seen s idle = absurd (true≢false (sym idle))
-  acting_leaves (Put e) seen s idle = absurd (true≢false (sym idle))
-  acting_leaves (Halt v) seen s idle = absurd (true≢false (sym idle))
-  acting_leaves (Settle e) seen s idle = absurd (true≢false (sym idle))
-  acting_leaves (Seal e) seen s idle = absurd (true≢false (sym idle))
-  acting_leaves (Read v) seen s idle = absurd (true≢false (sym idle))
   acting_leaves (Feed e k) seen s idle = dite (ℕ_discrete seen (claims_of (s.out e).link))
       (λ hit. absurd (true≢false (sym idle
       ∙ ap is_idle (cond_yes seen (claims_of (s.out e).link)
       (Sent (message_of e (claims_of (s.out e).link) k)) Sealed hit))))
       (λ miss. unfed_leaves e k seen s miss)
-  acting_leaves End seen s idle = absurd (true≢false (sym idle))
+  acting_leaves _ seen s idle = absurd (true≢false (sym idle))
 
   answer_leaves : (log : Log) (x : Event) (o : Option Rule) → is_idle (answer g log x o).1 ≡ true → (p : ℕ)
       → DifferInNotes (part_in g (answer g log x o).0 p) (part_in g log p)

@@ -47,10 +47,8 @@ owner (of_cell e i) = e
 owner (of_vertex v) = v
 
 abbrev cell : Word → ℕ
-cell (of_edge e) = 0
-cell (of_acks e) = 0
 cell (of_cell e i) = i
-cell (of_vertex v) = 0
+cell _ = 0
 
 -- two words that differ in one of these are two
 pub other_kind : (p q : Word) → kind p ≢ kind q → p ≢ q
@@ -301,15 +299,7 @@ module _ (g : Setting) (game : IsGame g.game) (some_ring : 0 < g.ring) (log : Lo
     acks_after End none w e l = dite (ℕ_discrete e (root_edge g 0))
         (λ same. ap (λ (i : ℕ). value' (of_acks i)) same ∙ w.here ∙ ap (λ (i : ℕ). value (of_acks i)) (sym same))
         (λ other. w.others (of_acks e) l (other_owner _ _ other)) ∙ shown.acks e l
-    acks_after (Feed a k) none w e l = w.others (of_acks e) l (other_kind _ _ (λ z. omega arith)) ∙ shown.acks e l
-    acks_after (Take a) none w e l = w.others (of_acks e) l (other_kind _ _ (λ z. omega arith)) ∙ shown.acks e l
-    acks_after (Fire v k) none w e l = w.others (of_acks e) l (other_kind _ _ (λ z. omega arith)) ∙ shown.acks e l
-    acks_after (Clear a) none w e l = w.others (of_acks e) l (other_kind _ _ (λ z. omega arith)) ∙ shown.acks e l
-    acks_after (Claim a) none w e l = w.others (of_acks e) l (other_kind _ _ (λ z. omega arith)) ∙ shown.acks e l
-    acks_after (Put a) none w e l = w.others (of_acks e) l (other_kind _ _ (λ z. omega arith)) ∙ shown.acks e l
-    acks_after (Halt v) none w e l = w.others (of_acks e) l (other_kind _ _ (λ z. omega arith)) ∙ shown.acks e l
-    acks_after (Seal a) none w e l = w.others (of_acks e) l (other_kind _ _ (λ z. omega arith)) ∙ shown.acks e l
-    acks_after (Read v) none w e l = w.others (of_acks e) l (other_kind _ _ (λ z. omega arith)) ∙ shown.acks e l
+    acks_after _ none w e l = w.others (of_acks e) l (other_kind _ _ (λ z. omega arith)) ∙ shown.acks e l
 
     -- an event that leaves firings and halts
     word_stays : (x : Step) (v : ℕ) → ((s : Part) → word_of_part (does g x s) ≡ word_of_part s)

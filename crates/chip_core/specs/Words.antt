@@ -4,6 +4,7 @@ use Rattle.std.specs.Prelude.{◌≡◌, ◌≢◌, ℕ, ◌+◌, ◌-◌, ◌%�
 use Rattle.std.specs.Prelude.{bit_or, None}
 use Rattle.chip_link.specs.Link.{Shows, claims_of}
 use Rattle.chip_link.specs.Words.{word_after_exchange}
+pub use Rattle.chip_link.specs.Words.{halt_bits}
 use Rattle.chip_part.specs.Setting.{Setting}
 use Rattle.chip_part.specs.Part.{may_ack, cause, is_by_limit}
 use Rattle.chip_part.specs.Steps.{saw}
@@ -27,11 +28,6 @@ IsWord g (of_edge e) = e < all_edges g
 IsWord g (of_acks e) = e < all_edges g
 IsWord g (of_cell e i) = (e < all_edges g) × (i < g.ring)
 IsWord g (of_vertex v) = v < g.game.graph.vertices
-
--- what a halt sets in a fired word, by its cause
-abbrev pub halt_bits : Bool → ℕ
-halt_bits true = 2 ^ 63 + 2 ^ 62
-halt_bits false = 2 ^ 63
 
 -- the word that an event is on, by the part that makes it
 abbrev pub word_of_event : Setting → Event → Part → Word

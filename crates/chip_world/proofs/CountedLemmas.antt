@@ -1,18 +1,14 @@
 -- Serves World.antt, SharedWords.antt.
 -- How many messages an edge delivered, by the books of its head.
-use Rattle.std.proofs.Common.{◌≡◌, ℕ, ◌+◌, ◌<◌, length, get_or, Some, sym, ap, ◌∙◌, subst, arith}
+use Rattle.std.proofs.Common.{◌≡◌, ℕ, ◌<◌, get_or, Some, sym, ap, ◌∙◌, subst}
 use Rattle.std.specs.List.{Contains}
 use Rattle.chip_part.specs.Setting.{Setting}
 use Rattle.chip_detect.specs.Books.{in_edges}
 use Rattle.chip_detect.specs.Books as books
-use Rattle.chip_part.specs.Edges.{all_edges}
-use Rattle.chip_part.specs.Part.{owed}
 use Rattle.chip_actor.specs.Actor.{Actor, StandsFor}
-use Rattle.chip_actor.proofs.StandingLemmas.{books_in, owed_is}
-use Rattle.chip_core.specs.Core.{Log, Take, part_in, into_in, head_of}
-use Rattle.chip_core.proofs.LogLemmas.{part_kept}
+use Rattle.chip_actor.proofs.StandingLemmas.{books_in}
+use Rattle.chip_core.specs.Core.{Log, Take, part_in, head_of}
 use Rattle.chip_part.specs.Edges.{head_if}
-use Rattle.chip_world.specs.SharedWords.{words_of, no_words}
 use Rattle.chip_world.specs.World.{WorldState, IsActor, StandsForLog}
 use Rattle.chip_world.proofs.VertexLemmas.{found}
 
@@ -33,13 +29,3 @@ module _ (g : Setting) (log : Log) (w : WorldState) (stands : StandsForLog g log
   -- the head keeps books of the edge
   pub has_books : Contains (in_edges a.detect) e
   has_books = books_in g (part_in g log (head_of g e)) a stands_part e head_is
-
-  -- what is acknowledged and what is owed make up what was delivered
-  pub all_delivered : e < all_edges g → (acknowledged owes : ℕ) → acknowledged ≡ (words_of w.words e).acknowledged
-      → owes ≡ books.owed a.detect e → acknowledged + owes ≡ length (into_in g log e).got
-  all_delivered l acknowledged owes acknowledged_is owes_is =
-      let word = acknowledged_is ∙ (stands.words e l no_words).acknowledged in
-      let own : owes ≡ owed (into_in g log e) = owes_is
-      ∙ owed_is g (part_in g log (head_of g e)) a stands_part e head_is in
-      let acks = (part_kept g stands.is_setting.game log stands.legal (head_of g e)).acks e in
-      omega arith

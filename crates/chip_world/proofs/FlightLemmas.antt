@@ -1,28 +1,19 @@
 -- Serves SharedWords.antt.
 -- The messages that were sent on an edge and not delivered, by the cells of its ring and the hand of its tail.
 use Rattle.std.proofs.Common.{◌≡◌, ◌≢◌, ℕ, ◌+◌, ◌-◌, ◌%◌, ◌<◌, ◌≤◌, List, [], ◌∷◌, ◌++◌, length, sum, get_or, take}
-use Rattle.std.proofs.Common.{drop, ltb, lt-ltb, Result, Ok, Err, length-drop, length-take-le, Option, Some, None}
-use Rattle.std.proofs.Common.{option_to_list, refl, sym, ap, ◌∙◌, subst, arith, ⊎_elim, inl, inr}
+use Rattle.std.proofs.Common.{length-drop, length-take-le, Option, Some, None}
+use Rattle.std.proofs.Common.{option_to_list, refl, sym, ap, ◌∙◌, arith, ⊎_elim, inl, inr}
 use Rattle.std.proofs.lemmas.List.{get_or_past, get_or_append_left, get_or_push, get_or-drop, take_more}
 use mathlib.Core.Logic.{dite}
 use native.Mathlib.Decide.{dec_lt}
 use Rattle.chip_part.specs.Setting.{Setting}
 use Rattle.chip_link.specs.Link.{Tail, claims_of, sent_counts, Sound, Shows}
 use Rattle.chip_link.proofs.SoundsLemmas.{none_held, one_held}
-use Rattle.chip_part.proofs.EdgeLemmas.{tail_root}
 use Rattle.chip_link.proofs.SoundsLemmas.{length-sent_counts}
-use Rattle.chip_part.specs.declared.act.Act.{Act}
-use Rattle.chip_part.specs.declared.rule.Rule.TheVariants.{NotClaimed}
-use Rattle.chip_part.specs.Rules.{need}
 use Rattle.chip_part.specs.Steps.{message_of}
-use Rattle.chip_part.specs.Acting.{act_of, verdict}
 use Rattle.chip_core.specs.Messages.{Message, messages_from, counts_in_flight}
 use Rattle.chip_core.proofs.MessageLemmas.{messages-append}
-use Rattle.chip_world.specs.SharedWords.{stored_count}
-use Rattle.chip_world.proofs.VertexLemmas.{passes}
-use Rattle.chip_core.specs.Core.{Rule, unmet_rule, into_in, Log, Put, Part, part_in, out_in, root, IsLegalLog}
-use Rattle.chip_core.specs.Core.{graph_edges, all_edges}
-use Rattle.chip_core.proofs.GivenLemmas.{outside_is}
+use Rattle.chip_core.specs.Core.{into_in, Log, out_in}
 
 -- a hand is empty or holds one
 hand : (held : Option ℕ) → Rattle.std.proofs.Common.◌⊎◌ (held ≡ None) ((count : ℕ) × (held ≡ Some count))
@@ -58,40 +49,6 @@ module _ (ring word : ℕ) (cell : ℕ → ℕ) (t : Tail) (got : List ℕ) (sto
       one ∙ sym (ap (λ (h : Option ℕ). get_or (t.put ++ option_to_list h) place 0) some.1
       ∙ get_or_push t.put some.0 0 place (omega arith)))
       (hand t.held))
-
--- the count that a put would store is the one in the hand
-pub put_stores : (g : Setting) (e : ℕ) (s : Part) (act : Act)
-    → ◌≡◌ {A = Result Act Rule} (Ok act) (verdict (unmet_rule g (Put e) s) (act_of g (Put e) s))
-    → stored_count act ≡ sum (option_to_list (s.out e).link.held)
-put_stores g e s act is = by_rule (unmet_rule g (Put e) s) is
-  where
-    by_rule : (o : Option Rule) → ◌≡◌ {A = Result Act Rule} (Ok act) (verdict o (act_of g (Put e) s))
-        → stored_count act ≡ sum (option_to_list (s.out e).link.held)
-    by_rule None is = let same : act ≡ act_of g (Put e) s = cc in ap stored_count same
-    by_rule (Some rule) is = absurd (cc)
-
--- where no put is due the hand is empty
-pub put_refused : (g : Setting) (e : ℕ) (s : Part) (rule : Rule) → e < all_edges g
-    → ◌≡◌ {A = Result Act Rule} (Err rule) (verdict (unmet_rule g (Put e) s) (act_of g (Put e) s))
-    → (s.out e).link.held ≡ None
-put_refused g e s rule l is = ⊎_elim (λ none. none)
-    (λ some. absurd (by_rule (unmet_rule g (Put e) s) (passes (ltb e (all_edges g)) _ _ (lt-ltb e (all_edges g) l)
-    ∙ ap (λ (h : Option ℕ). need (Rattle.std.proofs.Common.is_some h) NotClaimed None) some.1) is))
-    (hand (s.out e).link.held)
-  where
-    by_rule : (o : Option Rule) → o ≡ None → ◌≡◌ {A = Result Act Rule} (Err rule) (verdict o (act_of g (Put e) s)) → ⊥
-    by_rule None none is = absurd (cc)
-    by_rule (Some first) none is = absurd (cc)
-
--- the same on a root edge, in a log
-pub root_put_refused : (g : Setting) (log : Log) → IsLegalLog g log → (e : ℕ) (rule : Rule)
-    → graph_edges g ≤ e → ◌≡◌ {A = Result Act Rule} (Err rule)
-    (verdict (unmet_rule g (Put e) (part_in g log (root g))) (act_of g (Put e) (part_in g log (root g))))
-    → (out_in g log e).link.held ≡ None
-root_put_refused g log legal e rule past is = dite (dec_lt e (all_edges g))
-    (λ l. ap (λ (p : ℕ). ((part_in g log p).out e).link.held) (tail_root g e past)
-    ∙ put_refused g e (part_in g log (root g)) rule l is)
-    (λ n. ap (λ (t : Tail). t.held) (outside_is g log legal e (omega arith)))
 
 -- ---- the messages in flight, one after another
 

@@ -7,7 +7,6 @@ pub mod OpeningLemmas
 pub mod FlightLemmas
 pub mod HandLemmas
 pub mod RunLemmas
-pub mod WorkedOutcomes
 pub mod DriveLemmas
 pub mod DeterminedLemmas
 pub mod WorkedDrives

@@ -12,10 +12,10 @@ use native.Mathlib.Decide.{ℕ_discrete}
 use Rattle.chip_graph.specs.ChipGame.{IsGame}
 use Rattle.chip_part.specs.Setting.{Setting}
 use Rattle.chip_graph.proofs.SumLemmas.{by_test, cond_yes, cond_no}
-use Rattle.chip_part.specs.declared.reply.Reply.TheVariants.{Done, Got, Sent, Empty, Full, Sealed, NotNow}
+use Rattle.chip_part.specs.declared.reply.Reply.TheVariants.{Got, Sent, NotNow}
 use Rattle.chip_part.specs.declared.rule.Rule.TheVariants.{NoSuch}
-use Rattle.chip_core.specs.Core.{Log, Event, Take, Ack, Fire, Clear, Claim, Put, Halt, Settle, Seal, Read, Feed}
-use Rattle.chip_core.specs.Core.{End, Reply, Rule, unmet_rule, part_of, part_in, answer, step, log_after, replies_to}
+use Rattle.chip_core.specs.Core.{Log, Event, Take, Claim, Feed}
+use Rattle.chip_core.specs.Core.{Reply, Rule, unmet_rule, part_of, part_in, answer, step, log_after, replies_to}
 use Rattle.chip_core.specs.Core.{all_edges, graph_edges}
 use Rattle.chip_core.specs.Messages.{Message, sent_by, delivered_by, sent_in, delivered_in}
 use Rattle.chip_world.specs.declared.world.running.Notes.{Notes}
@@ -65,31 +65,12 @@ not_counted test edges xs i d counts l so_far none = counted test edges xs i d c
 pub no_claim : (x : Event) → ((i : ℕ) → x ≡ Claim i → ⊥) → ((i k : ℕ) → x ≡ Feed i k → ⊥) → (e : ℕ)
     → is_claim_of e x ≡ false
 no_claim (Claim i) other fed e = absurd (other i refl)
-no_claim (Take i) other fed e = refl
-no_claim (Ack i) other fed e = refl
-no_claim (Fire v k) other fed e = refl
-no_claim (Clear i) other fed e = refl
-no_claim (Put i) other fed e = refl
-no_claim (Halt v) other fed e = refl
-no_claim (Settle i) other fed e = refl
-no_claim (Seal i) other fed e = refl
-no_claim (Read v) other fed e = refl
 no_claim (Feed i k) other fed e = absurd (fed i k refl)
-no_claim End other fed e = refl
+no_claim _ other fed e = refl
 
 pub no_take : (x : Event) → ((i : ℕ) → x ≡ Take i → ⊥) → (e : ℕ) → is_take_of e x ≡ false
 no_take (Take i) other e = absurd (other i refl)
-no_take (Claim i) other e = refl
-no_take (Ack i) other e = refl
-no_take (Fire v k) other e = refl
-no_take (Clear i) other e = refl
-no_take (Put i) other e = refl
-no_take (Halt v) other e = refl
-no_take (Settle i) other e = refl
-no_take (Seal i) other e = refl
-no_take (Read v) other e = refl
-no_take (Feed i k) other e = refl
-no_take End other e = refl
+no_take _ other e = refl
 
 -- one more list
 pub lane_push : (lanes : List Lane) (lane : Lane) (n e : ℕ) → length lanes ≡ n → e < n + 1
@@ -115,22 +96,6 @@ sent_on_edge g log (Claim e) (Sent m) is = by_test (ltb e (graph_edges g))
   where
     clash : (m : Message) → Sent m ≡ NotNow NoSuch → ⊥
     clash m q = absurd (cc)
-sent_on_edge g log (Claim e) (Done n) is = tt
-sent_on_edge g log (Claim e) (Got m) is = tt
-sent_on_edge g log (Claim e) Empty is = tt
-sent_on_edge g log (Claim e) Full is = tt
-sent_on_edge g log (Claim e) Sealed is = tt
-sent_on_edge g log (Claim e) (NotNow rule) is = tt
-sent_on_edge g log (Take e) r is = tt
-sent_on_edge g log (Ack e) r is = tt
-sent_on_edge g log (Fire v k) r is = tt
-sent_on_edge g log (Clear e) r is = tt
-sent_on_edge g log (Put e) r is = tt
-sent_on_edge g log (Halt v) r is = tt
-sent_on_edge g log (Settle e) r is = tt
-sent_on_edge g log (Seal e) r is = tt
-sent_on_edge g log (Read v) r is = tt
-sent_on_edge g log End r is = tt
 sent_on_edge g log (Feed e k) (Sent m) is = by_test (leb (graph_edges g) e && ltb e (all_edges g))
     (λ yes. ltb-true e (all_edges g) (and_parts _ _ yes).1)
     (λ no. absurd (clash m (is ∙ step_refused g log (Feed e k) NoSuch
@@ -138,12 +103,7 @@ sent_on_edge g log (Feed e k) (Sent m) is = by_test (leb (graph_edges g) e && lt
   where
     clash : (m : Message) → Sent m ≡ NotNow NoSuch → ⊥
     clash m q = absurd (cc)
-sent_on_edge g log (Feed e k) (Done n) is = tt
-sent_on_edge g log (Feed e k) (Got m) is = tt
-sent_on_edge g log (Feed e k) Empty is = tt
-sent_on_edge g log (Feed e k) Full is = tt
-sent_on_edge g log (Feed e k) Sealed is = tt
-sent_on_edge g log (Feed e k) (NotNow rule) is = tt
+sent_on_edge g log _ _ is = tt
 
 pub got_on_edge : (g : Setting) (log : Log) (x : Event) (r : Reply) → r ≡ (step g log x).1 → GotOnEdge x r (all_edges g)
 got_on_edge g log (Take e) (Got m) is = by_test (ltb e (all_edges g)) (λ yes. ltb-true e (all_edges g) yes)
@@ -151,23 +111,7 @@ got_on_edge g log (Take e) (Got m) is = by_test (ltb e (all_edges g)) (λ yes. l
   where
     clash : (m : Message) → Got m ≡ NotNow NoSuch → ⊥
     clash m q = absurd (cc)
-got_on_edge g log (Take e) (Done n) is = tt
-got_on_edge g log (Take e) (Sent m) is = tt
-got_on_edge g log (Take e) Empty is = tt
-got_on_edge g log (Take e) Full is = tt
-got_on_edge g log (Take e) Sealed is = tt
-got_on_edge g log (Take e) (NotNow rule) is = tt
-got_on_edge g log (Claim e) r is = tt
-got_on_edge g log (Ack e) r is = tt
-got_on_edge g log (Fire v k) r is = tt
-got_on_edge g log (Clear e) r is = tt
-got_on_edge g log (Put e) r is = tt
-got_on_edge g log (Halt v) r is = tt
-got_on_edge g log (Settle e) r is = tt
-got_on_edge g log (Seal e) r is = tt
-got_on_edge g log (Read v) r is = tt
-got_on_edge g log (Feed e k) r is = tt
-got_on_edge g log End r is = tt
+got_on_edge g log _ _ is = tt
 
 -- ---- the list of an edge after an event
 
@@ -176,14 +120,12 @@ record IsLonger (lanes new : List Lane) (e : ℕ) (more : List Message) (most : 
   messages : (lane_at new e).messages ≡ (lane_at lanes e).messages ++ more
   capacity : (lane_at new e).capacity ≡ (lane_at lanes e).capacity
   few : length more ≤ most
-  edges : length new ≡ length lanes
 
 same_lane : (lanes : List Lane) (e most : ℕ) → IsLonger lanes lanes e [] most
 same_lane lanes e most = record {
   messages = sym (append-nil (lane_at lanes e).messages);
   capacity = refl;
   few = omega arith;
-  edges = refl;
 }
 
 one_message : (lanes : List Lane) (e i : ℕ) (m : Message) → e < length lanes
@@ -199,7 +141,6 @@ one_message lanes e i m l = dite (ℕ_discrete i e)
       capacity = ap (λ (n : Lane). n.capacity) at ∙ ap (λ (k : ℕ). (lane_at lanes k).capacity) same;
       few = (let a = ap (λ (ms : List Message). length ms) (cond_yes i e (m ∷ []) [] same) in
           let b : ◌≡◌ {A = ℕ} (cond (eqb i e) 1 0) 1 = cond_yes i e 1 0 same in omega arith);
-      edges = length-set lanes i _;
     })
     (λ other. let at : get_or (with_message i m lanes) e no_lane
     ≡ lane_at lanes e = get_or-set_other lanes i e _ no_lane (λ z. other (sym z)) in
@@ -208,102 +149,27 @@ one_message lanes e i m l = dite (ℕ_discrete i e)
           ∙ ap (λ (more : List Message). (lane_at lanes e).messages ++ more) (sym (cond_no i e (m ∷ []) [] other));
       capacity = ap (λ (n : Lane). n.capacity) at;
       few = (let a = ap (λ (ms : List Message). length ms) (cond_no i e (m ∷ []) [] other) in omega arith);
-      edges = length-set lanes i _;
     })
 
 sent_longer : (x : Event) (r : Reply) (lanes : List Lane) (e : ℕ) → e < length lanes
     → IsLonger lanes (sent_after x r lanes) e (sent_by e x r) (cond (is_claim_of e x) 1 0)
 sent_longer (Claim i) (Sent m) lanes e l = one_message lanes e i m l
-sent_longer (Claim i) (Done n) lanes e l = same_lane lanes e _
-sent_longer (Claim i) (Got m) lanes e l = same_lane lanes e _
-sent_longer (Claim i) Empty lanes e l = same_lane lanes e _
-sent_longer (Claim i) Full lanes e l = same_lane lanes e _
-sent_longer (Claim i) Sealed lanes e l = same_lane lanes e _
-sent_longer (Claim i) (NotNow rule) lanes e l = same_lane lanes e _
-sent_longer (Take i) r lanes e l = same_lane lanes e _
-sent_longer (Ack i) r lanes e l = same_lane lanes e _
-sent_longer (Fire v k) r lanes e l = same_lane lanes e _
-sent_longer (Clear i) r lanes e l = same_lane lanes e _
-sent_longer (Put i) r lanes e l = same_lane lanes e _
-sent_longer (Halt v) r lanes e l = same_lane lanes e _
-sent_longer (Settle i) r lanes e l = same_lane lanes e _
-sent_longer (Seal i) r lanes e l = same_lane lanes e _
-sent_longer (Read v) r lanes e l = same_lane lanes e _
-sent_longer End r lanes e l = same_lane lanes e _
 sent_longer (Feed i k) (Sent m) lanes e l = one_message lanes e i m l
-sent_longer (Feed i k) (Done n) lanes e l = same_lane lanes e _
-sent_longer (Feed i k) (Got m) lanes e l = same_lane lanes e _
-sent_longer (Feed i k) Empty lanes e l = same_lane lanes e _
-sent_longer (Feed i k) Full lanes e l = same_lane lanes e _
-sent_longer (Feed i k) Sealed lanes e l = same_lane lanes e _
-sent_longer (Feed i k) (NotNow rule) lanes e l = same_lane lanes e _
+sent_longer _ _ lanes e l = same_lane lanes e _
 
 got_longer : (x : Event) (r : Reply) (lanes : List Lane) (e : ℕ) → e < length lanes
     → IsLonger lanes (delivered_after x r lanes) e (delivered_by e x r) (cond (is_take_of e x) 1 0)
 got_longer (Take i) (Got m) lanes e l = one_message lanes e i m l
-got_longer (Take i) (Done n) lanes e l = same_lane lanes e _
-got_longer (Take i) (Sent m) lanes e l = same_lane lanes e _
-got_longer (Take i) Empty lanes e l = same_lane lanes e _
-got_longer (Take i) Full lanes e l = same_lane lanes e _
-got_longer (Take i) Sealed lanes e l = same_lane lanes e _
-got_longer (Take i) (NotNow rule) lanes e l = same_lane lanes e _
-got_longer (Claim i) r lanes e l = same_lane lanes e _
-got_longer (Ack i) r lanes e l = same_lane lanes e _
-got_longer (Fire v k) r lanes e l = same_lane lanes e _
-got_longer (Clear i) r lanes e l = same_lane lanes e _
-got_longer (Put i) r lanes e l = same_lane lanes e _
-got_longer (Halt v) r lanes e l = same_lane lanes e _
-got_longer (Settle i) r lanes e l = same_lane lanes e _
-got_longer (Seal i) r lanes e l = same_lane lanes e _
-got_longer (Read v) r lanes e l = same_lane lanes e _
-got_longer (Feed i k) r lanes e l = same_lane lanes e _
-got_longer End r lanes e l = same_lane lanes e _
+got_longer _ _ lanes e l = same_lane lanes e _
 
 sent_edges : (x : Event) (r : Reply) (lanes : List Lane) → length (sent_after x r lanes) ≡ length lanes
 sent_edges (Claim i) (Sent m) lanes = length-set lanes i _
-sent_edges (Claim i) (Done n) lanes = refl
-sent_edges (Claim i) (Got m) lanes = refl
-sent_edges (Claim i) Empty lanes = refl
-sent_edges (Claim i) Full lanes = refl
-sent_edges (Claim i) Sealed lanes = refl
-sent_edges (Claim i) (NotNow rule) lanes = refl
-sent_edges (Take i) r lanes = refl
-sent_edges (Ack i) r lanes = refl
-sent_edges (Fire v k) r lanes = refl
-sent_edges (Clear i) r lanes = refl
-sent_edges (Put i) r lanes = refl
-sent_edges (Halt v) r lanes = refl
-sent_edges (Settle i) r lanes = refl
-sent_edges (Seal i) r lanes = refl
-sent_edges (Read v) r lanes = refl
-sent_edges End r lanes = refl
 sent_edges (Feed i k) (Sent m) lanes = length-set lanes i _
-sent_edges (Feed i k) (Done n) lanes = refl
-sent_edges (Feed i k) (Got m) lanes = refl
-sent_edges (Feed i k) Empty lanes = refl
-sent_edges (Feed i k) Full lanes = refl
-sent_edges (Feed i k) Sealed lanes = refl
-sent_edges (Feed i k) (NotNow rule) lanes = refl
+sent_edges _ _ lanes = refl
 
 got_edges : (x : Event) (r : Reply) (lanes : List Lane) → length (delivered_after x r lanes) ≡ length lanes
 got_edges (Take i) (Got m) lanes = length-set lanes i _
-got_edges (Take i) (Done n) lanes = refl
-got_edges (Take i) (Sent m) lanes = refl
-got_edges (Take i) Empty lanes = refl
-got_edges (Take i) Full lanes = refl
-got_edges (Take i) Sealed lanes = refl
-got_edges (Take i) (NotNow rule) lanes = refl
-got_edges (Claim i) r lanes = refl
-got_edges (Ack i) r lanes = refl
-got_edges (Fire v k) r lanes = refl
-got_edges (Clear i) r lanes = refl
-got_edges (Put i) r lanes = refl
-got_edges (Halt v) r lanes = refl
-got_edges (Settle i) r lanes = refl
-got_edges (Seal i) r lanes = refl
-got_edges (Read v) r lanes = refl
-got_edges (Feed i k) r lanes = refl
-got_edges End r lanes = refl
+got_edges _ _ lanes = refl
 
 -- ---- one event of a run
 

@@ -23,7 +23,7 @@ use Rattle.chip_root.specs.Root.{RootMakes}
 use Rattle.chip_part.proofs.EdgeLemmas.{tail_root}
 use Rattle.chip_part.proofs.RuleLemmas.{rules_met}
 use Rattle.chip_part.specs.Steps.{saw}
-use Rattle.chip_core.specs.Core.{Log, Step, Event, Take, Ack, Fire, Clear, Claim, Put, Halt, Settle, Seal, Read, Feed}
+use Rattle.chip_core.specs.Core.{Log, Step, Event, Fire, Clear, Put, Halt, Settle, Seal, Read, Feed}
 use Rattle.chip_core.specs.Core.{End, Part, Rule, Reply, unmet_rule, part_of, does, reply_of, part_in, word_of_part}
 use Rattle.chip_core.specs.Core.{sees}
 use Rattle.chip_core.specs.Core.{answer, step, Fits, tail_of, graph_edges, all_edges, root, stopper}
@@ -50,33 +50,21 @@ withheld (Some first) needed rule is = cc
 -- an operation is of the event that needs it
 event_is : (g : Setting) (x : Event) (s : Part) (v : ℕ) → is_of_others g x ≡ false → part_of g x ≡ v
     → event_of v (act_of g x s) ≡ x
-event_is g (Take e) s v mine at = refl
-event_is g (Ack e) s v mine at = refl
 event_is g (Fire u k) s v mine at = ap (λ (n : ℕ). Fire n k) (sym at)
-event_is g (Clear e) s v mine at = refl
-event_is g (Claim e) s v mine at = refl
-event_is g (Put e) s v mine at = refl
 event_is g (Halt u) s v mine at = ap Halt (sym at)
-event_is g (Settle e) s v mine at = refl
 event_is g (Seal e) s v mine at = absurd (true≢false mine)
 event_is g (Read u) s v mine at = absurd (true≢false mine)
 event_is g (Feed e k) s v mine at = absurd (true≢false mine)
 event_is g End s v mine at = absurd (true≢false mine)
+event_is g _ s v mine at = refl
 
 -- an event that a vertex makes is by an operation
 pub by_act : (g : Setting) (x : Event) → is_of_others g x ≡ false → is_by_act x ≡ true
-by_act g (Take e) mine = refl
-by_act g (Ack e) mine = refl
-by_act g (Fire u k) mine = refl
-by_act g (Clear e) mine = refl
-by_act g (Claim e) mine = refl
-by_act g (Put e) mine = refl
-by_act g (Halt u) mine = refl
-by_act g (Settle e) mine = refl
 by_act g (Seal e) mine = absurd (true≢false mine)
 by_act g (Read u) mine = absurd (true≢false mine)
 by_act g (Feed e k) mine = absurd (true≢false mine)
 by_act g End mine = absurd (true≢false mine)
+by_act g _ mine = refl
 
 -- an edge whose tail is a vertex isn't the root's
 not_root_edge : (g : Setting) (v e : ℕ) → v < g.game.graph.vertices → tail_of g e ≡ v → is_root_edge g e ≡ false
@@ -87,15 +75,11 @@ not_root_edge g v e l at = dite (dec_lt e (graph_edges g))
 -- an event that a vertex makes is of no other
 pub not_of_others : (g : Setting) (v : ℕ) (act : Act) → v < g.game.graph.vertices → part_of g (event_of v act) ≡ v
     → is_of_others g (event_of v act) ≡ false
-not_of_others g v (Do.Take e cell) l at = refl
 not_of_others g v (Do.Settle e) l at = not_root_edge g v e l at
-not_of_others g v (Do.Fire k) l at = refl
 not_of_others g v (Do.Clear e cell) l at = not_root_edge g v e l at
-not_of_others g v (Do.Claim e expected new) l at = refl
 not_of_others g v (Do.Put e cell value) l at = not_root_edge g v e l at
-not_of_others g v (Do.Halt by_limit) l at = refl
-not_of_others g v (Do.Ack e count) l at = refl
 not_of_others g v Do.End l at = absurd (omega arith)
+not_of_others g v _ l at = refl
 
 module _ (g : Setting) (log : Log) (w : WorldState) (stands : StandsForLog g log w) where
   -- a rule isn't met, and nothing changes
@@ -347,12 +331,7 @@ module _ (g : Setting) (log : Log) (w : WorldState) (stands : StandsForLog g log
     at_root (Feed e k) mine met = tail_root g e (rules_met g (Feed e k) rooted met).0
     at_root (Read v) mine met = refl
     at_root End mine met = refl
-    at_root (Take e) mine met = absurd (true≢false (sym mine))
-    at_root (Ack e) mine met = absurd (true≢false (sym mine))
-    at_root (Fire v k) mine met = absurd (true≢false (sym mine))
-    at_root (Claim e) mine met = absurd (true≢false (sym mine))
-    at_root (Halt v) mine met = absurd (true≢false (sym mine))
-    at_root (Seal e) mine met = absurd (true≢false (sym mine))
+    at_root _ mine met = absurd (true≢false (sym mine))
 
     -- its rules are asked of the root's part
     root_unmet : (y : Event) → is_of_root g y ≡ true
@@ -370,12 +349,7 @@ module _ (g : Setting) (log : Log) (w : WorldState) (stands : StandsForLog g log
         (λ n. ap (λ (p : ℕ). unmet_rule g (Feed e k) (part_in g log p)) (tail_root g e (omega arith)))
     root_unmet (Read v) mine = refl
     root_unmet End mine = refl
-    root_unmet (Take e) mine = absurd (true≢false (sym mine))
-    root_unmet (Ack e) mine = absurd (true≢false (sym mine))
-    root_unmet (Fire v k) mine = absurd (true≢false (sym mine))
-    root_unmet (Claim e) mine = absurd (true≢false (sym mine))
-    root_unmet (Halt v) mine = absurd (true≢false (sym mine))
-    root_unmet (Seal e) mine = absurd (true≢false (sym mine))
+    root_unmet _ mine = absurd (true≢false (sym mine))
 
     -- the root's rule that isn't met is the core's
     pub root_refuses : (rule : Rule) → WhateverRoot w.root (λ g s. is_of_root g x ≡ true

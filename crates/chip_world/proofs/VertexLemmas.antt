@@ -9,8 +9,8 @@ use Rattle.chip_graph.proofs.SumLemmas.{by_test, cond_false}
 use Rattle.chip_part.specs.Rules.{need}
 use Rattle.chip_part.specs.declared.rule.Rule.{Rule}
 use Rattle.chip_part.specs.declared.rule.Rule.TheVariants.{NoSuch}
-use Rattle.chip_core.specs.Core.{Event, Take, Ack, Fire, Clear, Claim, Put, Halt, Settle, Seal, Read, Feed}
-use Rattle.chip_core.specs.Core.{End, Part, unmet_rule, part_of, tail_of, head_of, all_edges, graph_edges}
+use Rattle.chip_core.specs.Core.{Event, Take, Ack, Fire, Clear, Claim, Put, Halt, Settle}
+use Rattle.chip_core.specs.Core.{Part, unmet_rule, part_of, tail_of, head_of, all_edges, graph_edges}
 use Rattle.chip_core.proofs.LogLemmas.{head_inside, tail_inside}
 use Rattle.chip_part.specs.Edges.{head_if, tail_if}
 use Rattle.chip_world.specs.Makers.{vertex_if, vertex_of, is_root_edge, is_of_others}
@@ -20,7 +20,7 @@ given : (b : Bool) (n v : ℕ) → cond b (Some n) None ≡ Some v → (b ≡ tr
 given true n v is = (refl, cc)
 given false n v is = absurd (cc)
 
-withheld : (b : Bool) (n : ℕ) → cond b (Some n) None ≡ None → b ≡ false
+pub withheld : (b : Bool) (n : ℕ) → cond b (Some n) None ≡ None → b ≡ false
 withheld true n is = absurd (cc)
 withheld false n is = refl
 
@@ -56,10 +56,7 @@ module _ (g : Setting) where
     found (Put e) v is = by_tail e v is
     found (Halt u) v is = by_vertex u v is
     found (Settle e) v is = by_tail e v is
-    found (Seal e) v is = absurd (cc)
-    found (Read u) v is = absurd (cc)
-    found (Feed e k) v is = absurd (cc)
-    found End v is = absurd (cc)
+    found _ v is = absurd (cc)
 
   -- an edge that isn't the root's is the graph's
   pub is_graph_edge : (e : ℕ) → is_root_edge g e ≡ false → ltb e (graph_edges g) ≡ true
@@ -80,7 +77,4 @@ module _ (g : Setting) where
   missing (Halt u) s mine is = refused _ NoSuch _ (withheld (ltb u g.game.graph.vertices) u is)
   missing (Settle e) s mine is = absurd
       (true≢false (sym (is_graph_edge e mine) ∙ withheld (ltb e (graph_edges g)) (tail_of g e) is))
-  missing (Seal e) s mine is = absurd (true≢false mine)
-  missing (Read u) s mine is = absurd (true≢false mine)
-  missing (Feed e k) s mine is = absurd (true≢false mine)
-  missing End s mine is = absurd (true≢false mine)
+  missing _ s mine is = absurd (true≢false mine)

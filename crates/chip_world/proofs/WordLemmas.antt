@@ -94,22 +94,16 @@ module _ (words : List EdgeState) (fired : ℕ → ℕ) where
 
   vertex_else : (v n : ℕ) (w : Word) → w ≢ of_vertex v
       → value_of words (λ u. cond (eqb v u) n (fired u)) w ≡ value_of words fired w
-  vertex_else v n (of_edge i) ne = refl
-  vertex_else v n (of_acks i) ne = refl
-  vertex_else v n (of_cell i j) ne = refl
   vertex_else v n (of_vertex u) ne = cond_no v u n (fired u) (λ z. ne (ap of_vertex (sym z)))
+  vertex_else v n _ ne = refl
 
 -- an operation adds no edge
 pub length-words_after : (act : Act) (words : List EdgeState) → length (words_after act words) ≡ length words
 length-words_after (Do.Take e cell) words = length-set words e _
-length-words_after (Do.Settle e) words = refl
-length-words_after (Do.Fire k) words = refl
-length-words_after (Do.Clear e cell) words = refl
 length-words_after (Do.Claim e expected new) words = length-set words e _
 length-words_after (Do.Put e cell value) words = length-set words e _
-length-words_after (Do.Halt by_limit) words = refl
 length-words_after (Do.Ack e count) words = length-set words e _
-length-words_after Do.End words = refl
+length-words_after _ words = refl
 
 module _ (g : Setting) (game : IsGame g.game) (some_ring : 0 < g.ring) (log : Log) (legal : IsLegalLog g log) where
   sound : (e : ℕ) → Sound g.ring (out_in g log e).link (into_in g log e).got (stop_in g log e)
@@ -167,18 +161,11 @@ module _ (g : Setting) (game : IsGame g.game) (some_ring : 0 < g.ring) (log : Lo
     found_there : (own : ℕ) (x : Event) → own ≡ fired (part_of g x) → is_by_act x ≡ true
         → seen_in (act_of g x (acting_part g log x)) own words
         ≡ word_to_note x (value_of words fired (word_of_event g x (acting_part g log x)))
-    found_there own (Take e) is mine = refl
-    found_there own (Ack e) is mine = refl
     found_there own (Fire v k) is mine = is
-    found_there own (Clear e) is mine = refl
-    found_there own (Claim e) is mine = refl
-    found_there own (Put e) is mine = refl
     found_there own (Halt v) is mine = is
-    found_there own (Settle e) is mine = refl
     found_there own (Seal e) is mine = absurd (true≢false (sym mine))
     found_there own (Read v) is mine = absurd (true≢false (sym mine))
-    found_there own (Feed e k) is mine = refl
-    found_there own End is mine = refl
+    found_there own _ is mine = refl
 
     -- so it sees in them what the parts have made of them
     pub sees_words : (own : ℕ) (x : Event) → own ≡ fired (part_of g x)
@@ -190,18 +177,13 @@ module _ (g : Setting) (game : IsGame g.game) (some_ring : 0 < g.ring) (log : Lo
     -- an event of the root is on no fired word
     own_unseen : (own other : ℕ) (x : Event) → is_of_root g x ≡ true
         → seen_in (act_of g x (acting_part g log x)) own words ≡ seen_in (act_of g x (acting_part g log x)) other words
-    own_unseen own other (Clear e) mine = refl
-    own_unseen own other (Put e) mine = refl
-    own_unseen own other (Settle e) mine = refl
-    own_unseen own other (Read v) mine = refl
-    own_unseen own other (Feed e k) mine = refl
-    own_unseen own other End mine = refl
     own_unseen own other (Take e) mine = absurd (true≢false (sym mine))
     own_unseen own other (Ack e) mine = absurd (true≢false (sym mine))
     own_unseen own other (Fire v k) mine = absurd (true≢false (sym mine))
     own_unseen own other (Claim e) mine = absurd (true≢false (sym mine))
     own_unseen own other (Halt v) mine = absurd (true≢false (sym mine))
     own_unseen own other (Seal e) mine = absurd (true≢false (sym mine))
+    own_unseen own other _ mine = refl
 
     pub root_sees_words : (x : Event) → is_of_root g x ≡ true
         → is_by_act x ≡ true → unmet_rule g x (part_in g log (part_of g x)) ≡ None

@@ -84,8 +84,3 @@ CanPerform (Do.Claim e expected new) words = e < length words
 CanPerform (Do.Put e cell value) words = HasCell words e cell
 CanPerform (Do.Ack e count) words = (e < length words) × ((words_of words e).acknowledged + count < 2 ^ 64)
 CanPerform _ words = Unit {0}
-
--- what an operation stores into a cell, or 0
-abbrev pub stored_count : Act → ℕ
-stored_count (Do.Put e cell value) = value
-stored_count _ = 0

@@ -6,10 +6,21 @@ use thiserror::Error;
 pub enum WorldFault {
     /// The root is not closed: something may still happen.
     #[error("the root is not closed")]
-    NotClosed,
-    /// Memory ran out.
+    NotClosed = 42,
     #[error("out of memory")]
-    NoMemory,
+    NoMemory = 90,
+}
+
+impl WorldFault {
+    ghost use Rattle.std.specs.Prelude.{◌≡◌};
+
+    /// The fault's number, as the program's table of faults has it.
+    pub fn number(&self) -> u64
+        ensures not_closed { self.now ≡ WorldFault.NotClosed → result ≡ 42 }
+        ensures no_memory { self.now ≡ WorldFault.NoMemory → result ≡ 90 }
+    {
+        *self as u64
+    }
 }
 
 impl From<AllocError> for WorldFault {

@@ -1,5 +1,3 @@
-ghost use Rattle.std.specs.Prelude.{◌≡◌, ◌+◌, if◌then◌else◌};
-
 use crate::words::Words;
 use chip_actor::Medium;
 use chip_link::FiredWord;
@@ -46,24 +44,11 @@ impl Medium for TurnWords {
 
     fn halt(&mut self, by_limit: bool) -> u64 {
         let before = self.fired;
-        self.fired = before | halt_bits(by_limit);
+        self.fired = before | FiredWord::halt_bits(by_limit);
         before
     }
 
     fn ack(&mut self, edge: u64, count: u64) -> u64 {
         self.words.acknowledge(edge, count)
-    }
-}
-
-ghost use Rattle.chip_core.specs.Words.{halt_bits};
-
-/// What a halt sets in the fired word, by its cause.
-fn halt_bits(by_limit: bool) -> u64
-    ensures { result ≡ halt_bits by_limit }
-{
-    if by_limit {
-        FiredWord::HALT_BY_LIMIT
-    } else {
-        FiredWord::HALT
     }
 }

@@ -199,22 +199,3 @@ fn first_chips(game: &Game, edge: u64) -> u64
         _ => 0,
     }
 }
-
-ghost use Rattle.chip_world.specs.SharedWords.{stored_count};
-
-/// What an operation stores into a cell, or 0 where it stores nothing.
-pub(crate) fn stored_count(act: Act) -> u64
-    ensures { result ≡ stored_count act }
-{
-    match act {
-        Act::Put { value, .. } => value,
-        Act::Take { .. }
-        | Act::Settle { .. }
-        | Act::Fire { .. }
-        | Act::Clear { .. }
-        | Act::Claim { .. }
-        | Act::Halt { .. }
-        | Act::Ack { .. }
-        | Act::End => 0,
-    }
-}

@@ -7,7 +7,7 @@ mod outcome;
 mod running;
 
 use crate::turn_words::TurnWords;
-use crate::words::{Words, stored_count};
+use crate::words::Words;
 use chip_actor::ActorState;
 use chip_graph::Game;
 use chip_link::{EdgeWord, Event, FiredWord, Message, Ring};
@@ -52,11 +52,12 @@ impl Model for World {
 impl World {
     ghost use Rattle.chip_core.specs.Core.{part_in, out_in, into_in, fired_by, IsClosed};
     ghost use Rattle.chip_link.specs.Link.{claims_of, sent_counts};
+    ghost use Rattle.chip_link.specs.Rings.{IsRing};
     ghost use Rattle.chip_core.specs.Messages.{in_flight};
     ghost use Rattle.std.specs.Vec.{vec_len, vec_capacity};
     ghost use Rattle.chip_part.specs.Setting.{setting_of, setting_with};
     ghost use Rattle.chip_part.specs.Edges.{graph_edges, all_edges};
-    ghost use Rattle.chip_world.specs.Makers.{vertex_if, vertex_of, is_of_others, is_by_act};
+    ghost use Rattle.chip_world.specs.Makers.{vertex_of, is_of_others, is_by_act};
     ghost use Rattle.chip_part.specs.Acting.{is_of_root};
     ghost use Rattle.chip_part.specs.Acting.{event_of};
     ghost use Rattle.chip_world.specs.World.{StandsForLog, SomeLog, WhateverLog, SomeLogWhere, IsDueFor, MakesStep};
@@ -64,17 +65,19 @@ impl World {
     ghost use Rattle.chip_link.specs.declared.event.Event.TheVariants.{Seal, Settle, Read};
 
     /// A game that opens: no vertex has chips yet, and those that it starts with are on its root edge. Nothing can be fed.
-    pub fn open(alloc: Global, game: &Game, ring: Ring) -> Result<World, AllocError>
+    pub fn open(alloc: Global, game: &Game, ring: u64) -> Result<World, AllocError>
+        requires { IsRing ring }
         ensures { IfOk result (StandsForLog (setting_of game.now ring) []) }
     {
-        World::of(alloc, Setting::of_copy(alloc, game, ring, false)?)
+        World::of(alloc, Setting::of_copy(alloc, game, Ring::of(ring), false)?)
     }
 
     /// The same where the root may feed more chips, until it notes the end of feeding.
-    pub fn open_fed(alloc: Global, game: &Game, ring: Ring) -> Result<World, AllocError>
+    pub fn open_fed(alloc: Global, game: &Game, ring: u64) -> Result<World, AllocError>
+        requires { IsRing ring }
         ensures { IfOk result (StandsForLog (setting_with game.now ring true) []) }
     {
-        World::of(alloc, Setting::of_copy(alloc, game, ring, true)?)
+        World::of(alloc, Setting::of_copy(alloc, game, Ring::of(ring), true)?)
     }
 
     /// A game that opens, set up so. Where no chips are fed, the end of feeding is noted from the beginning.
@@ -100,16 +103,6 @@ impl World {
         &self.setting
     }
 
-    fn vertex(&self, vertex: u64) -> Option<u64>
-        ensures { result ≡ vertex_if self.now.setting vertex }
-    {
-        if vertex < self.setting.vertices() {
-            Some(vertex)
-        } else {
-            None
-        }
-    }
-
     // The vertex that makes an event, if there is one.
     fn vertex_of(&self, event: Event) -> Option<u64>
         ensures { result ≡ vertex_of self.now.setting event }
@@ -119,24 +112,27 @@ impl World {
             Event::Clear(edge) | Event::Claim(edge) | Event::Put(edge) | Event::Settle(edge) => {
                 self.setting.tail(edge)
             }
-            Event::Fire { vertex, .. } | Event::Halt(vertex) => self.vertex(vertex),
+            Event::Fire { vertex, .. } | Event::Halt(vertex) => {
+                if vertex < self.setting.vertices() {
+                    Some(vertex)
+                } else {
+                    None
+                }
+            }
             Event::Seal(_) | Event::Read(_) | Event::Feed { .. } | Event::End => None,
         }
     }
 
-    // The chips of the message that is claimed on an edge and not put, if there is one.
+    // The chips of the message that is claimed on an edge and not put, or 0.
     fn held_count(&self, edge: u64) -> u64
+        requires { edge < all_edges self.now.setting }
         ensures { WhateverLog self.now (λ g log. result ≡ sum (option_to_list (out_in g log edge).link.held)) }
     {
-        let put = Event::Put(edge);
-        let due = match self.setting.tail(edge) {
-            Some(tail) => self.actors[tail as usize].may(&put),
-            None => self.root.may(&put),
+        let held = match self.setting.tail(edge) {
+            Some(tail) => self.actors[tail as usize].held(edge),
+            None => self.root.held(edge),
         };
-        match due {
-            Ok(act) => stored_count(act),
-            Err(_) => 0,
-        }
+        held.unwrap_or(0)
     }
 
     // The chips of a message that was sent and not delivered.
@@ -338,7 +334,7 @@ fn opening_actors(alloc: Global, setting: &Setting) -> Result<Vec<ActorState>, A
         (λ actors. AreOpeningActors setting.now setting.now.game.graph.vertices actors.items) }
 {
     let game = setting.game();
-    let ring = setting.ring();
+    let ring = setting.ring().cells();
     let vertices = setting.vertices();
     let mut actors = Vec::with_capacity(alloc, vertices as usize)?;
     for vertex in 0..vertices {

@@ -1,4 +1,4 @@
-use Rattle.std.proofs.Common.{◌≡◌, ℕ, ◌+◌, [], ◌∷◌, sym, subst, arith, length-append}
+use Rattle.std.proofs.Common.{◌≡◌, ◌∙◌, ℕ, ◌+◌, [], ◌∷◌, sym, subst, arith, length-append}
 use Rattle.chip_part.specs.Setting.{Setting, setting_with}
 use Rattle.chip_part.specs.Part.{opening_part}
 use Rattle.chip_actor.specs.Actor.{StandsFor}
@@ -9,8 +9,8 @@ use Rattle.chip_world.proofs.world.opening_actors.Goals as goal
 pub loop-vertex-preserved : goal.loop-vertex-preserved
 loop-vertex-preserved c =
     let g : Setting = c.args.setting.now in
-    let same : setting_with c.game-game.result.now c.ring-ring.result g.fed ≡ g =
-    (λ j. setting_with (c.game-game.ensures.value j) (c.ring-ring.ensures.value j) g.fed) in
+    let same : setting_with c.game-game.result.now c.cells-ring.result g.fed ≡ g =
+    (λ j. setting_with (c.game-game.ensures.value j) ((c.cells-ring.ensures.number ∙ c.ring.ensures.value) j) g.fed) in
     let long = length-append c.loop-vertex.actors.items (c.in_ok-new.field-0 ∷ []) in
     let so_far = c.loop-vertex.invariant.0 in let count = so_far.count_is in (
       subst (AreOpeningActors g (c.loop-vertex.vertex + 1)) (sym c.push_reserved.ensures.items) record {

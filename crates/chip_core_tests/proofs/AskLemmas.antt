@@ -21,14 +21,6 @@ verdict_err (Some r) a rule is = cc
 pub fits_from_test : (s : Part) (x : Event) (seen : ℕ) → fits_seen s x seen ≡ true → FitsSeen s x seen
 fits_from_test s (Take e) seen is = λ some. ⊎_elim (λ none. absurd (some (eqb-true _ _ none)))
     (λ few. let both = and_parts _ _ few in (leb-true _ _ both.0, ltb-true _ _ both.1)) (or_cases _ _ is)
-fits_from_test s (Ack e) seen is = tt
-fits_from_test s (Fire v k) seen is = tt
-fits_from_test s (Clear e) seen is = tt
 fits_from_test s (Claim e) seen is = eqb-true _ _ is
-fits_from_test s (Put e) seen is = tt
-fits_from_test s (Halt v) seen is = tt
 fits_from_test s (Settle e) seen is = let both = and_parts _ _ is in (leb-true _ _ both.0, leb-true _ _ both.1)
-fits_from_test s (Seal e) seen is = tt
-fits_from_test s (Read v) seen is = tt
-fits_from_test s (Feed e k) seen is = tt
-fits_from_test s End seen is = tt
+fits_from_test s _ seen is = tt

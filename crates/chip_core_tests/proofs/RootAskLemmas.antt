@@ -25,17 +25,11 @@ use Rattle.chip_core_tests.proofs.AskLemmas.{verdict_ok, verdict_err, fits_from_
 root_fits_from_test : (g : Setting) (s : Part) (x : Event) (seen : ℕ) → root_fits_seen g s x seen ≡ true
     → FitsRoot g s x seen
 root_fits_from_test g s (Take e) seen is = fits_from_test s (Take e) seen is
-root_fits_from_test g s (Ack e) seen is = tt
-root_fits_from_test g s (Fire v k) seen is = tt
-root_fits_from_test g s (Clear e) seen is = tt
 root_fits_from_test g s (Claim e) seen is = fits_from_test s (Claim e) seen is
-root_fits_from_test g s (Put e) seen is = tt
-root_fits_from_test g s (Halt v) seen is = tt
 root_fits_from_test g s (Settle e) seen is = fits_from_test s (Settle e) seen is
-root_fits_from_test g s (Seal e) seen is = tt
-root_fits_from_test g s (Read v) seen is = tt
 root_fits_from_test g s (Feed e k) seen is = eqb-true _ _ is
 root_fits_from_test g s End seen is = fits_from_test s (Settle (root_edge g 0)) seen is
+root_fits_from_test g s _ seen is = tt
 
 module _ (g : Setting) (s : Part) (r : Root) (stands : RootStandsFor g s r) (x : Event) (seen : ℕ)
     (may : may_ask_root g s x seen ≡ true) where

@@ -8,7 +8,7 @@ ghost use Rattle.chip_part.specs.Part.{opening_part};
 
 use crate::games::{TRIANGLE, fire, got, made_game, message, sent};
 use chip_actor::ActorState;
-use chip_link::{Event, Message, Ring};
+use chip_link::{Event, Message};
 use chip_part::{Act, Cause, Cursor, Observed, Reply, Rule};
 use std::process::Abort;
 
@@ -112,7 +112,7 @@ fn new_actor(
     ensures opened { let g = setting_on ends.now start.now false in StandsFor g (opening_part g) result.value }
 {
     let game = made_game(rt, ends, start);
-    let actor = ActorState::new(rt.alloc(), &game, vertex, Ring::one()).expect(rt, "memory");
+    let actor = ActorState::new(rt.alloc(), &game, vertex, 1).expect(rt, "memory");
     Box::new(rt.alloc(), actor).expect(rt, "memory")
 }
 

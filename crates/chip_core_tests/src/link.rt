@@ -23,8 +23,8 @@ fn new_wire(rt: &(impl AllocGlobal + Abort), edge: u64, size: u64) -> Box<Wire>
     let ring = Ring::new(size).expect(rt, "1 to 64 cells");
     assert!(rt; ring.cells() == size);
     let wire = Wire {
-        tail: TailLink::new(edge, ring),
-        head: HeadLink::new(edge, ring),
+        tail: TailLink::new(edge, ring.cells()),
+        head: HeadLink::new(edge, ring.cells()),
         word: 0,
         cells: vec![in rt.alloc(); 0; size as usize].expect(rt, "memory"),
     };
@@ -233,7 +233,7 @@ fn rings_wrap(rt: HostRuntime) {
     }
     assert!(rt; Ring::new(0).is_none());
     assert!(rt; Ring::new(MAX_RING + 1).is_none());
-    assert!(rt; Ring::one().cells() == 1);
+    assert!(rt; Ring::of(1).cells() == 1);
 }
 
 /// The word of a vertex that has halted.

@@ -46,7 +46,7 @@ fn new_root(
     ensures { let g = setting_on ends.now start.now fed in RootStandsFor g (opening_part g) result.value }
 {
     let game = Box::into_inner(made_game(rt, ends, start));
-    let setting = Setting::new(game, Ring::one(), fed);
+    let setting = Setting::new(game, Ring::of(1), fed);
     let root = RootBooks::new(rt.alloc(), &setting).expect(rt, "memory");
     Box::new(rt.alloc(), root).expect(rt, "memory")
 }

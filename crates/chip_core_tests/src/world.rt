@@ -59,13 +59,13 @@ fn opened(
     ring: Ring,
 ) -> Box<World> {
     let game = game_of(rt, edges, start, limit);
-    let world = World::open(rt.alloc(), &game, ring).expect(rt, "memory");
+    let world = World::open(rt.alloc(), &game, ring.cells()).expect(rt, "memory");
     Box::new(rt.alloc(), world).expect(rt, "memory")
 }
 
 /// The triangle, as it opens with rings of one cell.
 fn triangle(rt: &(impl AllocGlobal + Abort), start: &[u64], limit: u64) -> Box<World> {
-    opened(rt, TRIANGLE, start, limit, Ring::one())
+    opened(rt, TRIANGLE, start, limit, Ring::of(1))
 }
 
 /// Compares the messages of all edges.
@@ -209,7 +209,7 @@ const FULL_RING_DELIVERED: [&[Message]; 5] = [&[], &[], &[message!(2, 0, 3)], &[
 
 #[test]
 fn full_ring(rt: HostRuntime) {
-    let mut world = opened(&rt, CHAIN, &[3, 0, 0], MOST, Ring::one());
+    let mut world = opened(&rt, CHAIN, &[3, 0, 0], MOST, Ring::of(1));
     let record = recorded(&rt, &mut world, &FULL_RING);
     expect_lists(&rt, &record.sent, &FULL_RING_SENT);
     expect_lists(&rt, &record.delivered, &FULL_RING_DELIVERED);
@@ -248,7 +248,7 @@ const ENGAGING_MESSAGE_LAST: [(Event, Reply); 13] = [
 #[test]
 fn engaging_message_last(rt: HostRuntime) {
     let twice = &[edge!(0, 1, 1), edge!(0, 1, 1)];
-    plays(&rt, twice, &[2, 0], Ring::one(), &ENGAGING_MESSAGE_LAST);
+    plays(&rt, twice, &[2, 0], Ring::of(1), &ENGAGING_MESSAGE_LAST);
 }
 
 /// A ring of two cells, which holds a second message while the first is not taken.
@@ -275,8 +275,7 @@ const RING_OF_TWO: [(Event, Reply); 18] = [
 
 #[test]
 fn ring_of_two(rt: HostRuntime) {
-    let ring = Ring::new(2).expect(&rt, "two cells");
-    plays(&rt, CHAIN, &[3, 0, 0], ring, &RING_OF_TWO);
+    plays(&rt, CHAIN, &[3, 0, 0], Ring::of(2), &RING_OF_TWO);
 }
 
 /// So many takes of an edge on which nothing was sent.
@@ -291,8 +290,7 @@ fn takes_nothing(rt: &(impl AllocGlobal + Abort), world: &mut World, edge: u64, 
 
 #[test]
 fn long_schedule(rt: HostRuntime) {
-    let ring = Ring::new(64).expect(&rt, "64 cells");
-    let mut world = opened(&rt, CHAIN, &[3, 0, 0], MOST, ring);
+    let mut world = opened(&rt, CHAIN, &[3, 0, 0], MOST, Ring::of(64));
     takes_nothing(&rt, &mut world, 0, 100_000);
 }
 
@@ -367,7 +365,7 @@ const ENDINGS: [Ending; 7] = [
 
 /// Drives a game from its opening until the root closes.
 fn drives_to(rt: &(impl AllocGlobal + Abort), ending: &Ending) {
-    let mut world = opened(rt, ending.edges, ending.start, ending.limit, Ring::one());
+    let mut world = opened(rt, ending.edges, ending.start, ending.limit, Ring::of(1));
     assert!(rt; world.drive(10) == Drive::Closed);
     ends(rt, &world, ending.fired, ending.chips, ending.over, &[]);
 }

@@ -5,7 +5,7 @@ use super::*;
 /// The triangle where chips may be fed, as it opens with such rings.
 fn fed_triangle(rt: &(impl AllocGlobal + Abort), start: &[u64], ring: Ring) -> Box<World> {
     let game = game_of(rt, TRIANGLE, start, MOST);
-    let world = World::open_fed(rt.alloc(), &game, ring).expect(rt, "memory");
+    let world = World::open_fed(rt.alloc(), &game, ring.cells()).expect(rt, "memory");
     Box::new(rt.alloc(), world).expect(rt, "memory")
 }
 
@@ -37,7 +37,7 @@ fn feeds_three(rt: &(impl AllocGlobal + Abort), world: &mut World) {
 
 #[test]
 fn fed_twice(rt: HostRuntime) {
-    let mut world = fed_triangle(&rt, &[0, 0, 0], Ring::one());
+    let mut world = fed_triangle(&rt, &[0, 0, 0], Ring::of(1));
     feeds_three(&rt, &mut world);
     assert!(rt; world.drive(10) == Drive::Unfinished(10));
     assert!(rt; fired(&world, &[1, 0, 0]));
@@ -81,7 +81,7 @@ const TOO_MANY: [(Event, Reply); 3] = [
 
 #[test]
 fn fed_past_the_total(rt: HostRuntime) {
-    let mut world = fed_triangle(&rt, &[0, 0, 1 << 40], Ring::one());
+    let mut world = fed_triangle(&rt, &[0, 0, 1 << 40], Ring::of(1));
     expect(&rt, &mut world, &TOO_MANY);
 }
 
@@ -111,7 +111,7 @@ const OUT_OF_TURN: [(Event, Reply); 20] = [
 
 #[test]
 fn fed_out_of_turn(rt: HostRuntime) {
-    let mut world = fed_triangle(&rt, &[1, 0, 0], Ring::one());
+    let mut world = fed_triangle(&rt, &[1, 0, 0], Ring::of(1));
     expect(&rt, &mut world, &OUT_OF_TURN);
     assert!(rt; world.drive(10) == Drive::Closed);
     ends(&rt, &world, &[1, 1, 0], &[0, 1, 2], &[], &[]);

@@ -1,7 +1,7 @@
 -- Serves Core.antt.
 -- Where the root is closed nothing changes any more, everything is delivered, and chips and counts are those of every
 -- end.
-use Rattle.std.proofs.Common.{◌≡◌, ◌≢◌, ◌⊎◌, ℕ, ◌+◌, ◌-◌, ◌<◌, ◌≤◌, true, false, eqb, List, [], ◌∷◌, length, sum}
+use Rattle.std.proofs.Common.{◌≡◌, ◌≢◌, ◌⊎◌, ℕ, ◌+◌, ◌-◌, ◌<◌, ◌≤◌, Bool, true, false, cond, eqb, List, [], ◌∷◌, length, sum}
 use Rattle.std.proofs.Common.{get_or, option_to_list, Option, Some, None, refl, sym, ap, ◌∙◌, subst, arith, inl, inr}
 use Rattle.std.proofs.Common.{⊎_elim, ne_eqb, le-leb, true≢false}
 use Rattle.std.proofs.lemmas.Bool.{and_from, not_from_false}
@@ -24,7 +24,7 @@ use Rattle.chip_part.specs.declared.cause.Cause.{Cause}
 use Rattle.chip_part.specs.declared.cause.Cause.TheVariants.{SealedEdge, FiringLimit}
 use Rattle.chip_part.specs.Edges.{over_ins}
 use Rattle.chip_part.specs.Part.{is_legal}
-use Rattle.chip_part.specs.Steps.{settled_after, saw}
+use Rattle.chip_part.specs.Steps.{saw}
 use Rattle.chip_part.specs.Kept.{IsNeutral}
 use Rattle.chip_part.proofs.RuleLemmas.{rules_met}
 use Rattle.chip_part.proofs.PartLemmas.{at_edge, idle_take, passive_parts, no_fire, no_pending, no_halt}
@@ -60,6 +60,21 @@ module _ (g : Setting) (game : IsGame g.game) (some_ring : 0 < g.ring) where
     not_open : (e : ℕ) → graph_edges g ≤ e → (part_in g log (tail_of g e)).ended ≡ false → ⊥
     not_open e past going =
         true≢false (sym closed.0 ∙ ap (λ (p : ℕ). (part_in g log p).ended) (sym (tail_root g e past)) ∙ going)
+
+    -- a settle of nothing new leaves the part
+    settled_still : (s : Part) (e seen : ℕ) → (s.out e).settled + (seen - (s.out e).settled) ≡ (s.out e).settled
+        → (ended : Bool) → ended ≡ s.ended
+        → (let t : Part = record s {
+          out = λ i. record (s.out i) {
+            settled = cond (eqb e i) ((s.out i).settled + (seen - (s.out i).settled)) (s.out i).settled;
+          };
+          ended = ended;
+        } in t) ≡ s
+    settled_still s e seen none ended on =
+        let same : (i : ℕ) → cond (eqb e i) ((s.out i).settled + (seen - (s.out i).settled)) (s.out i).settled
+        ≡ (s.out i).settled = at_edge (λ i (n : ℕ). n ≡ (s.out i).settled) e
+        (λ i. (s.out i).settled + (seen - (s.out i).settled)) (λ i. (s.out i).settled) none (λ i. refl) in
+        λ j. record s { out = λ i. record (s.out i) { settled = same i j }; ended = on j }
 
     still_step : (ev : Event) (seen : ℕ) → IsLegalLog g (saw ev seen ∷ log)
         → part_of g ev ≢ stopper g → does g (saw ev seen) (part_in g log (part_of g ev))
@@ -106,19 +121,7 @@ module _ (g : Setting) (game : IsGame g.game) (some_ring : 0 < g.ring) where
         let c = all_counts g game some_ring log legal closed.1 e l in
         let c0 = c.0 in
         let is : seen ≡ (into_in g log e).acked = next.1.1 in
-        let same : (i : ℕ) → settled_after g (Settle e) seen i (s.out i) ≡ (s.out i).settled =
-        at_edge (λ i (n : ℕ). n ≡ (s.out i).settled) e (λ i. (s.out i).settled + (seen - (s.out i).settled))
-        (λ i. (s.out i).settled) (omega arith) (λ i. refl) in
-        λ j. record {
-          chips = s.chips;
-          fired = s.fired;
-          halt = s.halt;
-          parent = s.parent;
-          out = λ i. record { link = (s.out i).link; pending = (s.out i).pending; settled = same i j };
-          into = s.into;
-          stop = s.stop;
-          ended = s.ended;
-        }
+        settled_still s e seen (omega arith) s.ended refl
     still_step End seen next ne =
         let s : Part = part_in g log (root g) in
         let e : ℕ = root_edge g 0 in
@@ -129,19 +132,7 @@ module _ (g : Setting) (game : IsGame g.game) (some_ring : 0 < g.ring) where
         let mine : (out_in g log e).settled ≡ (s.out e).settled =
         ap (λ (p : ℕ). ((part_in g log p).out e).settled) at in
         let is : seen ≡ (into_in g log e).acked = next.1.1 in
-        let same : (i : ℕ) → settled_after g End seen i (s.out i) ≡ (s.out i).settled =
-        at_edge (λ i (n : ℕ). n ≡ (s.out i).settled) e (λ i. (s.out i).settled + (seen - (s.out i).settled))
-        (λ i. (s.out i).settled) (omega arith) (λ i. refl) in
-        λ j. record {
-          chips = s.chips;
-          fired = s.fired;
-          halt = s.halt;
-          parent = s.parent;
-          out = λ i. record { link = (s.out i).link; pending = (s.out i).pending; settled = same i j };
-          into = s.into;
-          stop = s.stop;
-          ended = sym closed.0 j;
-        }
+        settled_still s e seen (omega arith) true (sym closed.0)
     still_step (Seal e) seen next ne = absurd (ne refl)
     still_step (Read v) seen next ne = refl
 

@@ -25,7 +25,7 @@ use Rattle.chip_part.proofs.RuleLemmas.{rules_met}
 use Rattle.chip_part.proofs.PartLemmas.{at_edge, took_none}
 use Rattle.chip_part.proofs.OpeningLemmas.{first_few, first_sent}
 use Rattle.chip_core.specs.Core.{Log, Event, Take, Clear, Claim, Put, Seal, Feed}
-use Rattle.chip_core.specs.Core.{Rule, Out, unmet_rule, part_of, reply_of, part_in, out_in, into_in, stop_in, fired_by}
+use Rattle.chip_core.specs.Core.{Rule, Reply, Out, unmet_rule, part_of, reply_of, part_in, out_in, into_in, stop_in, fired_by}
 use Rattle.chip_core.specs.Core.{sees}
 use Rattle.chip_core.specs.Core.{IsLegalLog, answer, step, log_after, replies_to, tail_of, head_of, graph_edges}
 use Rattle.chip_core.specs.Messages.{Message, sent_by, delivered_by, is_seal_of, sent_in, sent_after_seal, is_seal}
@@ -97,43 +97,30 @@ at_other P e new old here rest i = dite (ℕ_discrete e i)
 module _ (g : Setting) where
   -- ---- seals
 
-  -- a claim of a sealed edge isn't answered by a message
-  refused_claim : (log : Log) (e : ℕ) → was_sealed log e ≡ true → (i : ℕ)
-      → sent_by e (Claim i) (reply_of g (Claim i) (sees g log (Claim i)) (part_in g log (tail_of g i))) ≡ []
-  refused_claim log e was i =
-      let seen : ℕ = sees g log (Claim i) in
-      let t : Tail = (out_in g log i).link in
-      let m : Message = message_of i (claims_of t) (out_in g log i).pending in
+  -- a claim or a feed of a sealed edge isn't answered by a message, whatever is told of one
+  refused : (log : Log) (e : ℕ) → was_sealed log e ≡ true → (i count : ℕ) (told : Reply → List Message)
+      → (let m : Message = message_of i (claims_of (out_in g log i).link) count in
+      told (Sent m) ≡ cond (eqb i e) (m ∷ []) []) → told Sealed ≡ []
+      → told (cond (eqb (edge_word (claims_of (out_in g log i).link) (is_some (stop_in g log i)))
+      (claims_of (out_in g log i).link)) (Sent (message_of i (claims_of (out_in g log i).link) count)) Sealed) ≡ []
+  refused log e was i count told sent sealed =
+      let n : ℕ = claims_of (out_in g log i).link in
+      let seen : ℕ = edge_word n (is_some (stop_in g log i)) in
+      let m : Message = message_of i n count in
       dite (ℕ_discrete i e)
       (λ same.
       let bit : is_some (stop_in g log i) ≡ true = sym (seals_stand g log i) ∙ ap (was_sealed log) same ∙ was in
-      let more : seen ≡ edge_word (claims_of t) true = ap (edge_word (claims_of t)) bit in
-      ap (sent_by e (Claim i)) (cond_no seen (claims_of t) (Sent m) Sealed (λ z. (absurd (omega arith)))))
-      (λ other. by_test (eqb seen (claims_of t))
-      (λ hit. ap (sent_by e (Claim i)) (cond_true _ (Sent m) Sealed hit) ∙ cond_no i e (m ∷ []) [] other)
-      (λ miss. ap (sent_by e (Claim i)) (cond_false _ (Sent m) Sealed miss)))
-
-  -- nor a feed
-  refused_feed : (log : Log) (e : ℕ) → was_sealed log e ≡ true → (i k : ℕ)
-      → sent_by e (Feed i k) (reply_of g (Feed i k) (sees g log (Feed i k)) (part_in g log (tail_of g i))) ≡ []
-  refused_feed log e was i k =
-      let seen : ℕ = sees g log (Feed i k) in
-      let t : Tail = (out_in g log i).link in
-      let m : Message = message_of i (claims_of t) k in
-      dite (ℕ_discrete i e)
-      (λ same.
-      let bit : is_some (stop_in g log i) ≡ true = sym (seals_stand g log i) ∙ ap (was_sealed log) same ∙ was in
-      let more : seen ≡ edge_word (claims_of t) true = ap (edge_word (claims_of t)) bit in
-      ap (sent_by e (Feed i k)) (cond_no seen (claims_of t) (Sent m) Sealed (λ z. (absurd (omega arith)))))
-      (λ other. by_test (eqb seen (claims_of t))
-      (λ hit. ap (sent_by e (Feed i k)) (cond_true _ (Sent m) Sealed hit) ∙ cond_no i e (m ∷ []) [] other)
-      (λ miss. ap (sent_by e (Feed i k)) (cond_false _ (Sent m) Sealed miss)))
+      let more : seen ≡ edge_word n true = ap (edge_word n) bit in
+      ap told (cond_no seen n (Sent m) Sealed (λ z. (absurd (omega arith)))) ∙ sealed)
+      (λ other. by_test (eqb seen n)
+      (λ hit. ap told (cond_true _ (Sent m) Sealed hit) ∙ sent ∙ cond_no i e (m ∷ []) [] other)
+      (λ miss. ap told (cond_false _ (Sent m) Sealed miss) ∙ sealed))
 
   no_send : (log : Log) (e : ℕ) → was_sealed log e ≡ true → (x : Event) (o : Option Rule)
       → sent_by e x (answer g log x o).1 ≡ []
   no_send log e was x (Some r) = not_sent e x r
-  no_send log e was (Claim i) None = refused_claim log e was i
-  no_send log e was (Feed i k) None = refused_feed log e was i k
+  no_send log e was (Claim i) None = refused log e was i (out_in g log i).pending (sent_by e (Claim i)) refl refl
+  no_send log e was (Feed i k) None = refused log e was i k (sent_by e (Feed i k)) refl refl
   no_send log e was _ _ = refl
 
   stays_sealed : (log : Log) (e : ℕ) → was_sealed log e ≡ true → (x : Event) (o : Option Rule)
@@ -225,6 +212,21 @@ module _ (g : Setting) where
     abbrev sent_at : Log → ℕ → List Message
     sent_at log e = messages_from e 0 (sent_counts (out_in g log e).link)
 
+    -- one message more on the edge i
+    one_more : (log : Log) (e i count : ℕ) (new : ℕ → Tail)
+        → sent_counts (new i) ≡ sent_counts (out_in g log i).link ++ count ∷ []
+        → messages_from e 0 (sent_counts (cond (eqb i e) (new e) (out_in g log e).link)) ≡ sent_at log e
+        ++ cond (eqb i e) (message_of i (claims_of (out_in g log i).link) count ∷ []) []
+    one_more log e i count new is =
+        let t : Tail = (out_in g log i).link in
+        let ms : List Message = message_of i (claims_of t) count ∷ [] in
+        at_other (λ j (u : Tail). messages_from j 0 (sent_counts u) ≡ sent_at log j ++ cond (eqb i j) ms []) i
+        new (λ j. (out_in g log j).link)
+        (ap (messages_from i 0) is ∙ push i (sent_counts t) (claims_of t) count (sym (length-sent_counts t))
+        ∙ sym (ap (λ (l : List Message). sent_at log i ++ l) (cond_yes i i ms [] refl)))
+        (λ j n. sym (ap (λ (l : List Message). sent_at log j ++ l) (cond_no i j ms [] n)
+        ∙ append-nil (sent_at log j))) e
+
     sent_event : (x : Event) (log : Log) (e : ℕ) → IsLegalLog g log
         → unmet_rule g x (part_in g log (part_of g x)) ≡ None
         → messages_from e 0 (sent_counts (link_after x (sees g log x) e (out_in g log e))) ≡ sent_at log e
@@ -253,12 +255,7 @@ module _ (g : Setting) where
         (record t { clear = false; refused = true }) hit) ∙ ap (λ (l : List ℕ). l ++ o.pending ∷ []) (sym all) in
         let reply : sent_by e (Claim i) (reply_of g (Claim i) seen (part_in g log (tail_of g i)))
         ≡ cond (eqb i e) (m ∷ []) [] = ap (sent_by e (Claim i)) (cond_yes seen (claims_of t) (Sent m) Sealed hit) in
-        at_other (λ j (u : Tail). messages_from j 0 (sent_counts u) ≡ sent_at log j ++ cond (eqb i j) (m ∷ []) []) i
-        (λ j. after_claim (out_in g log j).pending seen (out_in g log j).link) (λ j. (out_in g log j).link)
-        (ap (messages_from i 0) is ∙ push i (sent_counts t) (claims_of t) o.pending (sym (length-sent_counts t))
-        ∙ sym (ap (λ (l : List Message). sent_at log i ++ l) (cond_yes i i (m ∷ []) [] refl)))
-        (λ j n. sym (ap (λ (l : List Message). sent_at log j ++ l) (cond_no i j (m ∷ []) [] n)
-        ∙ append-nil (sent_at log j))) e
+        one_more log e i o.pending (λ j. after_claim (out_in g log j).pending seen (out_in g log j).link) is
         ∙ sym (ap (λ (l : List Message). sent_at log e ++ l) reply))
         (λ miss.
         let is : sent_counts (after_claim o.pending seen t)
@@ -279,13 +276,8 @@ module _ (g : Setting) where
         let hit : seen ≡ claims_of t = feed_sees g log legal i k may.0 in
         let reply : sent_by e (Feed i k) (reply_of g (Feed i k) seen (part_in g log (tail_of g i)))
         ≡ cond (eqb i e) (m ∷ []) [] = ap (sent_by e (Feed i k)) (cond_yes seen (claims_of t) (Sent m) Sealed hit) in
-        at_other (λ j (u : Tail). messages_from j 0 (sent_counts u) ≡ sent_at log j ++ cond (eqb i j) (m ∷ []) []) i
-        (λ j. after_claim k seen (out_in g log j).link) (λ j. (out_in g log j).link)
-        (ap (messages_from i 0) (feed_sends g game some_ring log legal i k may)
-        ∙ push i (sent_counts t) (claims_of t) k (sym (length-sent_counts t))
-        ∙ sym (ap (λ (l : List Message). sent_at log i ++ l) (cond_yes i i (m ∷ []) [] refl)))
-        (λ j n. sym (ap (λ (l : List Message). sent_at log j ++ l) (cond_no i j (m ∷ []) [] n)
-        ∙ append-nil (sent_at log j))) e
+        one_more log e i k (λ j. after_claim k seen (out_in g log j).link)
+        (feed_sends g game some_ring log legal i k may)
         ∙ sym (ap (λ (l : List Message). sent_at log e ++ l) reply)
     sent_event _ log e legal met = sym (append-nil (sent_at log e))
 

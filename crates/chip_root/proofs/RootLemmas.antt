@@ -177,44 +177,33 @@ module _ (g : Setting) (s : Part) (r : Root) (stands : RootStandsFor g s r) (edg
   pub more_is : seen - slice_index r.settled (edge - r.graph_edges) ≡ seen - (s.out edge).settled
   more_is = ap (λ (n : ℕ). seen - n) was
 
--- a root that stands for some part may count what such a settle saw, at the place of the vertex
-pub can_settle : (r : Root) (edge seen i : ℕ) → i ≡ edge - r.graph_edges
-    → SomeRoot r (λ g s. RootCanDo g s (Settle edge) seen)
-    → (i < length r.settled) × (slice_index r.settled i ≤ seen) × (seen - slice_index r.settled i ≤ r.outstanding)
-can_settle r edge seen i at (g, s, stands, can) =
+-- a root that stands for some part may count what a settle of the root edge of a vertex saw
+pub can_settle_at : (r : Root) (v seen : ℕ) → SomeRoot r (λ g s. RootCanDo g s (Settle (root_edge g v)) seen)
+    → (v < length r.settled) × (slice_index r.settled v ≤ seen) × (seen - slice_index r.settled v ≤ r.outstanding)
+can_settle_at r v seen (g, s, stands, can) =
+    let edge : ℕ = root_edge g v in
     let past = leb-true (graph_edges g) edge can.0 in
+    let at : edge - r.graph_edges ≡ v = (let edges = stands.edges in omega arith) in
     subst (λ (n : ℕ). (n < length r.settled) × (slice_index r.settled n ≤ seen)
-    × (seen - slice_index r.settled n ≤ r.outstanding)) (sym at) (
+    × (seen - slice_index r.settled n ≤ r.outstanding)) at (
       vertex_within g s r stands edge seen past can.1 can.2.0 can.2.1,
       settled_low g s r stands edge seen past can.1 can.2.0 can.2.1,
       more_low g s r stands edge seen past can.1 can.2.0 can.2.1,
     )
 
-pub settle_made : (r : Root) (edge seen i : ℕ) → i ≡ edge - r.graph_edges → (after : Root) (more : ℕ)
-    → more ≡ seen - slice_index r.settled i → after.graph_edges ≡ r.graph_edges
-    → after.settled ≡ set r.settled i seen → after.outstanding ≡ r.outstanding - more → after.feeder ≡ r.feeder
-    → RootMakes r after (Settle edge) seen (Done more)
-settle_made r edge seen i at after more more_at edges settled counted feeder = λ g s stands can.
+pub settle_made_at : (r : Root) (v seen : ℕ) (after : Root) (more : ℕ) → more ≡ seen - slice_index r.settled v
+    → after.graph_edges ≡ r.graph_edges → after.settled ≡ set r.settled v seen
+    → after.outstanding ≡ r.outstanding - more → after.feeder ≡ r.feeder → RootSettles r after v seen more
+settle_made_at r v seen after more more_at edges settled counted feeder = λ g s stands can.
+    let edge : ℕ = root_edge g v in
     let past = leb-true (graph_edges g) edge can.0 in
+    let at : v ≡ edge - r.graph_edges = (let is = stands.edges in omega arith) in
     let is : more ≡ seen - slice_index r.settled (edge - r.graph_edges) = more_at
     ∙ ap (λ (n : ℕ). seen - slice_index r.settled n) at in (
       settles g s r stands edge seen past can.1 can.2.0 can.2.1 after edges (settled
           ∙ ap (λ (n : ℕ). set r.settled n seen) at) (counted ∙ ap (λ (n : ℕ). r.outstanding - n) is) feeder,
       ap Done (is ∙ more_is g s r stands edge seen past can.1 can.2.0 can.2.1),
     )
-
--- the same of the root edge of a vertex
-pub can_settle_at : (r : Root) (v seen : ℕ) → SomeRoot r (λ g s. RootCanDo g s (Settle (root_edge g v)) seen)
-    → (v < length r.settled) × (slice_index r.settled v ≤ seen) × (seen - slice_index r.settled v ≤ r.outstanding)
-can_settle_at r v seen (g, s, stands, can) =
-    can_settle r (root_edge g v) seen v (let edges = stands.edges in omega arith) (g, s, stands, can)
-
-pub settle_made_at : (r : Root) (v seen : ℕ) (after : Root) (more : ℕ) → more ≡ seen - slice_index r.settled v
-    → after.graph_edges ≡ r.graph_edges → after.settled ≡ set r.settled v seen
-    → after.outstanding ≡ r.outstanding - more → after.feeder ≡ r.feeder → RootSettles r after v seen more
-settle_made_at r v seen after more more_at edges settled counted feeder = λ g s stands can.
-    settle_made r (root_edge g v) seen v (let is = stands.edges in omega arith) after more more_at edges settled counted
-    feeder g s stands can
 
 -- such a settle, by the number of the edge
 pub asks_at : (r : Root) (v e seen : ℕ) → e ≡ r.graph_edges + v → SomeRoot r (λ g s. RootCanDo g s (Settle e) seen)

@@ -72,14 +72,7 @@ impl RootBooks {
     pub fn closed(&self) -> bool
         ensures { WhateverRoot self.now (λ g s. result ≡ (deficit g (root g) s == 0 && s.ended)) }
     {
-        self.outstanding == 0 && self.has_ended()
-    }
-
-    // Whether the end of feeding is noted.
-    fn has_ended(&self) -> bool
-        ensures { WhateverRoot self.now (λ g s. result ≡ s.ended) }
-    {
-        self.feeder.has_ended()
+        self.outstanding == 0 && self.feeder.has_ended()
     }
 
     /// How many chips each vertex was given, at the start and by feeds.
@@ -231,7 +224,7 @@ impl RootBooks {
             Event::Put(edge) => self.put(edge, seen),
             Event::Feed { edge, count } => self.feed(edge, count, seen),
             Event::End => self.end(seen),
-            Event::Read(_) => Reply::Done(fired_in(seen)),
+            Event::Read(_) => Reply::Done(seen % (1 << 62)),
             _ => unreachable!(),
         }
     }
@@ -295,7 +288,7 @@ impl RootBooks {
         ensures { RootMakes self.old self.new (Settle edge) seen result }
     {
         let vertex = (edge - self.graph_edges) as usize;
-        Reply::Done(self.count(vertex, seen))
+        Reply::Done(self.settle(vertex, seen))
     }
 
     /// Notes how many messages of a vertex's root edge are settled, and gives how many of them are new.
@@ -333,13 +326,4 @@ fn with_chips(start: &[u64]) -> u64
         }
     }
     count
-}
-
-ghost use Rattle.chip_link.specs.Words.{fired_in};
-
-/// How often a fired word says that its vertex fired.
-fn fired_in(word: u64) -> u64
-    ensures { result ≡ fired_in word }
-{
-    word % (1 << 62)
 }

@@ -1,4 +1,5 @@
-use Rattle.std.proofs.Common.{sym, ap, subst}
+use Rattle.std.proofs.Common.{refl, sym, subst}
+use Rattle.chip_link.specs.Words.{fired_in}
 use Rattle.chip_part.specs.declared.reply.Reply.TheVariants.{Done}
 use Rattle.chip_part.specs.Rules.{Event}
 use Rattle.chip_root.specs.Root.{SomeRoot, RootCanDo, RootMakes}
@@ -14,5 +15,5 @@ returns-in-Settle c = subst (λ (x : Event). RootMakes c.args.self.now c.settle_
 
 pub returns-in-Read : goal.returns-in-Read
 returns-in-Read c = subst
-    (λ (x : Event). RootMakes c.args.self.now c.args.self.now x c.args.seen (Done c.fired_in.result)) (sym c.in-Read.is)
-    (λ g s stands can. (stands, ap Done c.fired_in.ensures))
+    (λ (x : Event). RootMakes c.args.self.now c.args.self.now x c.args.seen (Done (fired_in c.args.seen)))
+    (sym c.in-Read.is) (λ g s stands can. (stands, refl))

@@ -17,4 +17,3 @@ pub mod FinishingLemmas
 pub mod ReceivingLemmas
 pub mod ReachingLemmas
 pub mod CrossingLemmas
-pub mod ClosingLemmas

@@ -57,13 +57,7 @@ get_last : (xs : List ActorKnown) (a : ActorKnown) → slice_get (xs ++ a ∷ []
 get_last [] a = refl
 get_last (x ∷ xs) a = get_last xs a
 
-get_left : (xs : List ActorKnown) (a : ActorKnown) (i : ℕ) (b : ActorKnown) → slice_get xs i ≡ Some b
-    → slice_get (xs ++ a ∷ []) i ≡ Some b
-get_left [] a i b e = absurd (cc)
-get_left (x ∷ xs) a zero b e = e
-get_left (x ∷ xs) a (suc i) b e = get_left xs a i b e
-
-pub get_split : (xs : List ActorKnown) (a : ActorKnown) (i : ℕ) (b : ActorKnown) → slice_get (xs ++ a ∷ []) i ≡ Some b
+get_split : (xs : List ActorKnown) (a : ActorKnown) (i : ℕ) (b : ActorKnown) → slice_get (xs ++ a ∷ []) i ≡ Some b
     → (slice_get xs i ≡ Some b) ⊎ (a ≡ b)
 get_split [] a zero b e = inr (cc)
 get_split [] a (suc i) b e = absurd (cc)
@@ -73,10 +67,6 @@ get_split (x ∷ xs) a (suc i) b e = get_split xs a i b e
 pub last_in_place : (net : NetId) (xs : List ActorKnown) (a : ActorKnown) → AreInPlace net (xs ++ a ∷ [])
     → (a.net ≡ net) × (a.vertex ≡ length xs)
 last_in_place net xs a places = places (length xs) a (get_last xs a)
-
-pub others_in_place : (net : NetId) (xs : List ActorKnown) (a : ActorKnown) → AreInPlace net (xs ++ a ∷ [])
-    → AreInPlace net xs
-others_in_place net xs a places v b e = places v b (get_left xs a v b e)
 
 -- ---- one actor more
 

@@ -5,8 +5,6 @@ use Rattle.chip_part.specs.Setting.{Setting, IsSetting}
 use Rattle.chip_core.specs.Core.{Log, Step, IsLegalLog, IsClosed}
 use Rattle.chip_core.specs.Outcomes.{IsOutcomeOf}
 use Rattle.chip_core.specs.Histories.{done_by}
-use Rattle.chip_core.specs.Words.{IsShown}
-use Rattle.chip_net.specs.Layout.{word_count, value_in}
 use Rattle.chip_net.specs.Views.{View, find}
 use Rattle.chip_net.specs.Tokens.{NetId, ActorKnown}
 use Rattle.chip_net.specs.Roots.{RootKnown}
@@ -38,18 +36,6 @@ pub record IsRun (receipt : RootKnown) (actors : List ActorKnown) (o : Outcome) 
   pub actors_did : DidTheirs receipt.net.setting log actors
   pub closed : IsClosed receipt.net.setting log
   pub outcome : IsOutcomeOf receipt.net.setting log o
-
--- the words show a legal log in which the root did what it did, the stopper, where the root has that part, and each of
--- these actors
-pub record LeavesWords (root : RootKnown) (actors : List ActorKnown) (words : List ℕ) : Type 0 where
-  pub together : Together root actors
-  pub wide : length words ≡ word_count root.net.setting
-  pub shown : IsShown root.net.setting together.log (value_in root.net.setting words)
-
--- the view has the parts of these actors, each with all that it did
-abbrev pub HasTheirs : View → List ActorKnown → Type 0
-HasTheirs view actors =
-    (v : ℕ) (a : ActorKnown) → slice_get actors v ≡ Some a → find a.vertex view.parts ≡ Some a.did
 
 -- in one legal log these actors did what they did, and so did the parts of the view that come behind them
 pub record Met (g : Setting) (view : View) (actors : List ActorKnown) : Type 0 where

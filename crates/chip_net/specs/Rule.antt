@@ -56,15 +56,6 @@ pub record Looked (g : Setting) (v : View) : Type 0 where
   pub legal : IsLegalLog g log
   pub agrees : AgreesWithLog g log v
 
--- in some legal log the parts of the view did what they did, and these words show it
-pub record Left (g : Setting) (v : View) (words : List ℕ) : Type 0 where
-  pub setting : IsSetting g
-  pub log : Log
-  pub legal : IsLegalLog g log
-  pub agrees : AgreesWithLog g log v
-  pub wide : length words ≡ word_count g
-  pub shown : IsShown g log (value_in g words)
-
 -- what a look tells, which changes nothing
 abbrev pub Looks : Setting → Me (Unit {0}) View → ℕ → Me (Unit {0}) View → Type 0
 Looks g before seen after = (after ≡ before) × Looked g before.0

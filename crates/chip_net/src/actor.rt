@@ -5,7 +5,7 @@ ghost use Rattle.chip_part.specs.Part.{opening_part};
 ghost use Rattle.chip_net.specs.Traces.{rows_of};
 ghost use Rattle.chip_net.specs.Tokens.{ActorKnown, part_known, MakesTurn, MakesTurnBy};
 ghost use Rattle.chip_net.specs.Views.{find};
-ghost use Rattle.chip_net.specs.Meeting.{AreInPlace, Met, HasTheirs};
+ghost use Rattle.chip_net.specs.Meeting.{AreInPlace, Met};
 
 use crate::hand::Hand;
 use crate::net::Net;
@@ -125,19 +125,6 @@ impl Actor {
         self.owned.turn(net)
     }
 
-    /// Its hand, without the state of its vertex.
-    fn into_hand(self) -> Hand
-        ensures { result ≡ self }
-    {
-        let Actor { owned } = self;
-        let Owned {
-            state: _state,
-            hand,
-        } = Box::into_inner(owned);
-        let Some(hand) = hand else { unreachable!() };
-        hand
-    }
-
     /// The takes of messages and the firings of the vertex, in order, as far as there was room for them; and whether
     /// the trace is cut, since there was no room for one.
     pub fn trace(&self) -> (&[TraceRow], bool)
@@ -177,22 +164,6 @@ pub(crate) fn meet(net: &Net, seat: &mut PartSeat, actors: &mut Vec<Actor>)
     let own = net.take_out(seat, rest.vertex);
     owned.hand = Some(rest.with_seat(own));
     actors.push_reserved(actor);
-}
-
-/// The seats of all these actors come into one for good, and with them all that they did.
-pub(crate) fn gather(net: &Net, seat: &mut PartSeat, mut actors: Vec<Actor>)
-    requires seat { seat.old.table_id ≡ net.now.table }
-    requires actors { AreInPlace net.now actors.items }
-    ensures seat { seat.new.table_id ≡ seat.old.table_id }
-    ensures others { (p : ℕ) → length actors.items ≤ p → find p seat.new.me.0.parts ≡ find p seat.old.me.0.parts }
-    ensures theirs { HasTheirs seat.new.me.0 actors.items }
-{
-    let Some(actor) = actors.pop() else {
-        return;
-    };
-    let (own, _rest) = actor.into_hand().into_seat();
-    net.take_in(seat, own);
-    gather(net, seat, actors);
 }
 
 /// A whole turn over the words of the net; how many of its steps count. It is inlined, as is all of a turn: the words

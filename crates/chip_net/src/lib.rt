@@ -9,7 +9,6 @@
 
 mod actor;
 mod calls;
-mod closing;
 mod hand;
 pub mod laws;
 mod layout;

@@ -1,9 +1,7 @@
 ghost use Rattle.std.specs.Prelude.{◌≡◌, ℕ, [], IfOk};
-ghost use Rattle.std.specs.Mem.Slots.{slots_items, IsFull};
 
 use crate::calls;
 use crate::rule::{PartSeat, Words};
-use atomic_table::Closed;
 use chip_part::Setting;
 use std::alloc::{AllocError, Global};
 use std::marker::{Brand, Model};
@@ -36,7 +34,7 @@ impl Net {
     ghost use Rattle.chip_part.specs.Edges.{all_edges};
     ghost use Rattle.chip_net.specs.Layout.{word_count};
     ghost use Rattle.chip_net.specs.Opening.{AreOpening};
-    ghost use Rattle.chip_net.specs.Rule.{Looked, Left};
+    ghost use Rattle.chip_net.specs.Rule.{Looked};
     ghost use Rattle.chip_net.specs.Views.{find, Has, opening_view, view_without, IsAlone, join_views};
 
     /// A net with these words, and the seat that has every part.
@@ -94,19 +92,6 @@ impl Net {
         calls::look::<Brand>(&self.words, seat);
     }
 
-    /// Ends the net, and gives its words as the last step left them. What the parts of the seat did stands in a log that
-    /// they show.
-    pub(crate) fn close(self, alloc: Global, seat: PartSeat) -> Result<Vec<u64>, AllocError>
-        requires seat { seat.table_id ≡ self.table }
-        ensures left { IfOk result (λ words. Left self.setting seat.me.0 words.items) }
-    {
-        let Net { words, .. } = self;
-        let closed = words.close_with(seat);
-        let words = copy_words(alloc, &closed);
-        closed.free();
-        words
-    }
-
     /// A seat takes in the part of another, which has no other part.
     pub(crate) fn take_in(&self, seat: &mut PartSeat, other: PartSeat)
         requires seat { seat.old.table_id ≡ self.now.table }
@@ -117,17 +102,4 @@ impl Net {
     {
         calls::take_in(&self.words, seat, other);
     }
-}
-
-/// The words of a table that no thread shares any more.
-fn copy_words(alloc: Global, closed: &Closed<(), Global>) -> Result<Vec<u64>, AllocError>
-    requires { IsFull closed.now.words }
-    ensures { IfOk result (λ words. words.items ≡ slots_items closed.now.words) }
-{
-    let count = closed.words.len();
-    let mut words = Vec::with_capacity(alloc, count)?;
-    for index in 0..count {
-        words.push_reserved(closed.word(index));
-    }
-    Ok(words)
 }

@@ -1,4 +1,4 @@
-ghost use Rattle.std.specs.Prelude.{◌≡◌, ◌<◌, true, length, Some};
+ghost use Rattle.std.specs.Prelude.{◌≡◌, ◌<◌, true, length};
 ghost use Rattle.chip_link.specs.Words.{is_fired_word};
 ghost use Rattle.chip_net.specs.Roots.{IsOver};
 ghost use Rattle.chip_net.specs.Finish.{ReadsAt, IsReading, blank_tally};
@@ -54,15 +54,6 @@ impl Receipt {
         } }
     {
         Receipt { seat, setting }
-    }
-
-    /// Its seat, which has the part of the root, and the stopper's where the receipt has what the stopper did.
-    pub(crate) fn into_seat(self) -> PartSeat
-        ensures table { result.table_id ≡ self.net.table }
-        ensures root { find (root self.net.setting) result.me.0.parts ≡ Some self.did }
-        ensures stopper { find (stopper self.net.setting) result.me.0.parts ≡ self.stopper_did }
-    {
-        self.seat
     }
 
     /// Meets the actors of all vertices, and leaves all as it was: what all of them did stands in one log.

@@ -40,21 +40,11 @@ fn open_edge(setting: &Setting, words: &mut Vec<u64>, vertex: u64)
     }
 }
 
-/// Takes memory for so many words, and gives it back untouched. A C library that maps large blocks one by one, as glibc
-/// does, then keeps blocks of this size when they are given back. So what the opening words took is there for the actors,
-/// and the system need not clear it once more.
-fn keep_room(alloc: Global, count: usize) -> Result<(), AllocError> {
-    let _room: Vec<u64> = Vec::with_capacity(alloc, count)?;
-    Ok(())
-}
-
 /// The words of a net that opens: the messages of the start lie on the root edges.
 fn opening_words(alloc: Global, setting: &Setting) -> Result<Vec<u64>, AllocError>
     ensures { IfOk result (λ words. AreOpening setting.now (all_edges setting.now) words.items) }
 {
-    let count = word_count(setting);
-    keep_room(alloc, count)?;
-    let mut words = vec![in alloc; 0; count]?;
+    let mut words = vec![in alloc; 0; word_count(setting)]?;
     for vertex in 0..setting.vertices() {
         open_edge(setting, &mut words, vertex);
     }

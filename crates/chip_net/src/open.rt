@@ -1,6 +1,7 @@
 //! How a net is opened.
 
 ghost use Rattle.std.specs.Prelude.{◌≡◌, ℕ, ◌<◌, ◌≤◌, ◌+◌, [], length, IfOk, Some, None, All, slice_get, if◌then◌else◌, true};
+ghost use Rattle.chip_link.specs.Rings.{IsRing};
 ghost use Rattle.chip_part.specs.Setting.{setting_of, setting_with};
 ghost use Rattle.chip_part.specs.Edges.{graph_edges, all_edges, root, stopper};
 ghost use Rattle.chip_net.specs.Opening.{AreOpening};
@@ -214,18 +215,19 @@ impl Net {
         })
     }
 
-    /// The net of a game with such rings, in which the end of feeding is noted from the beginning, and its tokens.
+    /// The net of a game, with rings of so many cells, and its tokens. The end of feeding is noted from the start.
     pub fn open(
         alloc: Global,
         game: &Game,
-        ring: Ring,
+        ring: u64,
         trace_rows: u64,
         stoppable: bool,
     ) -> Result<(Net, Root, Vec<Actor>, Option<Stopper>), AllocError>
+        requires ring { IsRing ring }
         ensures { IfOk result (λ r. IsOpened (setting_of game.now ring) trace_rows stoppable
             (record { net = r.0; root = r.1; actors = r.2; stopper = r.3 })) }
     {
-        let setting = Setting::of_copy(alloc, game, ring, false)?;
+        let setting = Setting::of_copy(alloc, game, Ring::of(ring), false)?;
         Ok(Net::of(alloc, setting, trace_rows, stoppable)?.into_parts())
     }
 
@@ -233,14 +235,15 @@ impl Net {
     pub fn open_fed(
         alloc: Global,
         game: &Game,
-        ring: Ring,
+        ring: u64,
         trace_rows: u64,
         stoppable: bool,
     ) -> Result<(Net, Root, Vec<Actor>, Option<Stopper>), AllocError>
+        requires ring { IsRing ring }
         ensures { IfOk result (λ r. IsOpened (setting_with game.now ring true) trace_rows stoppable
             (record { net = r.0; root = r.1; actors = r.2; stopper = r.3 })) }
     {
-        let setting = Setting::of_copy(alloc, game, ring, true)?;
+        let setting = Setting::of_copy(alloc, game, Ring::of(ring), true)?;
         Ok(Net::of(alloc, setting, trace_rows, stoppable)?.into_parts())
     }
 }

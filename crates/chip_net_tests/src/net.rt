@@ -6,7 +6,7 @@ mod feeding;
 mod threads;
 
 use crate::games::{Edges, Ends, FOUR_CHIPS, LIMIT, TRIANGLE, expect_outcome, game_of};
-use chip_link::{Ring, TraceRow};
+use chip_link::TraceRow;
 use chip_net::{Actor, Net, NoEdge, Root, RootState, SealedAt, Stopper, Turn};
 use chip_sequence::Outcome;
 use std::process::Abort;
@@ -25,7 +25,7 @@ fn open_net(
     ensures stopper { IfSome result.3 (λ s. s.net ≡ result.0) }
 {
     let game = game_of(rt, edges, start, limit);
-    Net::open(rt.alloc(), &game, Ring::one(), trace_rows, stoppable).expect(rt, "memory")
+    Net::open(rt.alloc(), &game, 1, trace_rows, stoppable).expect(rt, "memory")
 }
 
 /// The actor of this vertex makes a turn.

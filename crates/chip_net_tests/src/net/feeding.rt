@@ -5,7 +5,6 @@ ghost use Rattle.std.specs.Prelude.{◌≡◌, ◌<◌, ◌≤◌, All};
 use super::threads::{poll_until, turn_until};
 use super::{all_turn, drive, expect_open, expect_poll, finishes};
 use crate::games::{Ends, FOUR_CHIPS, LIMIT, TRIANGLE, game_of};
-use chip_link::Ring;
 use chip_net::{Actor, FeedFault, Net, Root, RootState};
 use std::process::Abort;
 use std::sync::atomic::AtomicBool;
@@ -18,13 +17,9 @@ fn open_triangle(rt: &(impl AllocGlobal + Abort), start: &[u64]) -> (Net, Root, 
     ensures vertices { 0 < result.0.setting.game.graph.vertices }
 {
     let game = game_of(rt, TRIANGLE, start, LIMIT);
-    let (net, root, actors, _stopper) = Net::open_fed(
-        rt.alloc(),
-        &game,
-        Ring::one(),
-        0,
-        false,
-    ).expect(rt, "memory");
+    let (net, root, actors, _stopper) = Net::open_fed(rt.alloc(), &game, 1, 0, false).expect(
+        rt, "memory",
+    );
     assert!(rt; !actors.is_empty());
     (net, root, actors)
 }
@@ -134,7 +129,7 @@ fn largest_total(rt: HostRuntime) {
 #[test]
 fn not_for_feeding(rt: HostRuntime) {
     let game = game_of(&rt, TRIANGLE, &[0, 0, 0], LIMIT);
-    let (net, root, actors, _stopper) = Net::open(rt.alloc(), &game, Ring::one(), 0, false).expect(
+    let (net, root, actors, _stopper) = Net::open(rt.alloc(), &game, 1, 0, false).expect(
         &rt, "memory",
     );
     assert!(rt; !actors.is_empty());

@@ -224,7 +224,7 @@ impl Hand {
         let vertex = self.vertex;
         let seat = &mut self.seat;
         let word = fired_word(net.setting(), vertex);
-        let bits = halt_bits(by_limit);
+        let bits = FiredWord::halt_bits(by_limit);
         let event = Event::Halt(vertex);
         calls::fetch_or::<Brand>(net.words(), seat, word, bits, event)
     }
@@ -239,18 +239,5 @@ impl Hand {
         let word = acks_word(net.setting(), edge);
         let event = Event::Ack(edge);
         calls::fetch_add::<Brand>(net.words(), seat, word, count, event)
-    }
-}
-
-ghost use Rattle.chip_core.specs.Words.{halt_bits};
-
-/// What a halt sets in the fired word, by its cause.
-fn halt_bits(by_limit: bool) -> u64
-    ensures { result ≡ halt_bits by_limit }
-{
-    if by_limit {
-        FiredWord::HALT_BY_LIMIT
-    } else {
-        FiredWord::HALT
     }
 }

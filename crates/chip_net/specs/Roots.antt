@@ -158,6 +158,12 @@ RefusesFeed old new vertex count Total =
 RefusesFeed old new vertex count Full =
     (has_ended old ≡ false) × (all_given old + count ≤ max_total) × LooksInVain old new vertex
 
+-- the number of each among all faults
+abbrev pub feed_number : FeedFault → ℕ
+feed_number Ended = 44
+feed_number Total = 10
+feed_number Full = 45
+
 -- the fault that it is where this rule of a feed isn't met
 abbrev pub feed_fault : Rule → Option FeedFault
 feed_fault Not.Ended = Some Ended

@@ -24,3 +24,19 @@ pub enum FeedFault {
     #[error("the next cell of the ring to the vertex is full")]
     Full,
 }
+
+impl FeedFault {
+    ghost use Rattle.std.specs.Prelude.{◌≡◌};
+    ghost use Rattle.chip_net.specs.Roots.{feed_number};
+
+    /// Its number among all faults.
+    pub fn number(&self) -> u64
+        ensures { result ≡ feed_number self.now }
+    {
+        match self {
+            FeedFault::Ended => 44,
+            FeedFault::Total => 10,
+            FeedFault::Full => 45,
+        }
+    }
+}

@@ -28,6 +28,15 @@ pub struct SealedAt {
 #[error("no edge of the graph has this number")]
 pub struct NoEdge;
 
+impl NoEdge {
+    /// Its number among all faults.
+    pub fn number(&self) -> u64
+        ensures { result ≡ 43 }
+    {
+        43
+    }
+}
+
 /// The stopper of a net, who seals edges. Contracts see what it has done.
 #[derive(Drop)]
 pub struct Stopper {

@@ -1,7 +1,6 @@
 ghost use Rattle.std.specs.Prelude.{◌≡◌, ℕ, ◌<◌, ◌≤◌, nat_lt, length, take, IfOk};
 ghost use Rattle.std.specs.Vec.{vec_capacity};
 ghost use Rattle.chip_actor.specs.Actor.{StandsFor};
-ghost use Rattle.chip_part.specs.Part.{opening_part};
 ghost use Rattle.chip_net.specs.Traces.{rows_of};
 ghost use Rattle.chip_net.specs.Tokens.{ActorKnown, part_known, MakesTurn, MakesTurnBy};
 ghost use Rattle.chip_net.specs.Views.{find};
@@ -135,7 +134,8 @@ impl Actor {
         let Some(hand) = &owned.hand else {
             unreachable!()
         };
-        (hand.rows(), hand.is_cut())
+        let trace = hand.trace();
+        (trace.rows(), trace.is_cut())
     }
 }
 

@@ -41,7 +41,6 @@ impl Model for Hand {
 /// A hand without its seat.
 #[derive(Drop)]
 pub(crate) struct Seatless {
-    /// The vertex.
     pub(crate) vertex: u64,
     setting: Snapshot<Setting>,
     trace: Trace,
@@ -79,7 +78,7 @@ impl Seatless {
 }
 
 impl Hand {
-    ghost use Rattle.std.specs.Prelude.{◌≡◌, ◌<◌, [], Some, take, nat_lt, length};
+    ghost use Rattle.std.specs.Prelude.{◌≡◌, ◌<◌, [], Some};
     ghost use Rattle.chip_part.specs.Setting.{IsSetting};
     ghost use Rattle.chip_net.specs.Views.{find, did_in, IsAlone};
     ghost use Rattle.chip_net.specs.Traces.{Keeps, rows_of};
@@ -124,18 +123,12 @@ impl Hand {
         (seat, rest)
     }
 
-    /// The rows of what the vertex did, as far as there was room for them.
-    pub(crate) fn rows(&self) -> &[TraceRow]
-        ensures { result.now ≡ take self.now.room (rows_of self.now.did) }
+    /// The trace of what the vertex did.
+    pub(crate) fn trace(&self) -> &Trace
+        ensures keeps { Keeps (rows_of self.now.did) result.now }
+        ensures room { result.now.room ≡ self.now.room }
     {
-        self.trace.rows()
-    }
-
-    /// Whether a row was lost.
-    pub(crate) fn is_cut(&self) -> bool
-        ensures { result ≡ nat_lt self.now.room (length (rows_of self.now.did)) }
-    {
-        self.trace.is_cut()
+        &self.trace
     }
 
     /// Swaps a cell of an edge with 0, and gives what was there.

@@ -1,6 +1,7 @@
 ghost use Rattle.std.specs.Prelude.{◌≡◌, ℕ, [], IfOk};
 
 use crate::calls;
+use crate::open::opening_words;
 use crate::rule::{PartSeat, Words};
 use chip_part::Setting;
 use std::alloc::{AllocError, Global};
@@ -31,25 +32,19 @@ impl Model for Net {
 
 impl Net {
     ghost use Rattle.chip_part.specs.Setting.{IsSetting};
-    ghost use Rattle.chip_part.specs.Edges.{all_edges};
     ghost use Rattle.chip_net.specs.Layout.{word_count};
-    ghost use Rattle.chip_net.specs.Opening.{AreOpening};
     ghost use Rattle.chip_net.specs.Rule.{Looked};
     ghost use Rattle.chip_net.specs.Views.{find, Has, opening_view, view_without, IsAlone, join_views};
 
-    /// A net with these words, and the seat that has every part.
-    pub(crate) fn of_words(
-        alloc: Global,
-        setting: Setting,
-        words: &[u64],
-    ) -> Result<(Net, PartSeat), AllocError>
-        requires { AreOpening setting (all_edges setting) words.now }
+    /// A net for this setting, as it opens, and the seat that has every part.
+    pub(crate) fn lay_out(alloc: Global, setting: Setting) -> Result<(Net, PartSeat), AllocError>
         ensures net { IfOk result (λ r. r.0.setting ≡ setting) }
-        ensures seat { IfOk result (λ r. (r.1.table_id ≡ r.0.table) × (r.1.me.0 ≡ opening_view setting)) }
+        ensures seat { IfOk result (λ r. (r.1.table_id ≡ r.0.table) × (r.1.me.0 ≡ opening_view r.0.setting)) }
     {
+        let opening = opening_words(alloc, &setting)?;
         let _ring = setting.ring();
         let key = Snapshot::of(&setting);
-        let (words, seat) = Words::of_words(alloc, words, &key)?;
+        let (words, seat) = Words::of_words(alloc, &opening, &key)?;
         Ok((Net { setting, words }, seat))
     }
 

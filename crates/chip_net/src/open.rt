@@ -42,7 +42,7 @@ fn open_edge(setting: &Setting, words: &mut Vec<u64>, vertex: u64)
 }
 
 /// The words of a net that opens: the messages of the start lie on the root edges.
-fn opening_words(alloc: Global, setting: &Setting) -> Result<Vec<u64>, AllocError>
+pub(crate) fn opening_words(alloc: Global, setting: &Setting) -> Result<Vec<u64>, AllocError>
     ensures { IfOk result (λ words. AreOpening setting.now (all_edges setting.now) words.items) }
 {
     let mut words = vec![in alloc; 0; word_count(setting)]?;
@@ -111,27 +111,6 @@ fn boxed(alloc: Global, all: Vec<Owned>) -> Result<Vec<Actor>, AllocError>
     Ok(actors)
 }
 
-/// The actors of all vertices, ascending.
-fn all_actors(
-    alloc: Global,
-    net: &Net,
-    seat: &mut PartSeat,
-    trace_rows: u64,
-) -> Result<Vec<Actor>, AllocError>
-    requires table { seat.old.table_id ≡ net.now.table }
-    requires parts { (p : ℕ) → p < net.now.setting.game.graph.vertices + 2 → find p seat.old.me.0.parts ≡ Some [] }
-    ensures table { seat.new.table_id ≡ seat.old.table_id }
-    ensures rest { (p : ℕ) → net.now.setting.game.graph.vertices ≤ p → p < net.now.setting.game.graph.vertices + 2
-        → find p seat.new.me.0.parts ≡ Some [] }
-    ensures count { IfOk result (λ v. length v.items ≡ net.now.setting.game.graph.vertices) }
-    ensures actors { IfOk result (λ v. (p : ℕ) → p < net.now.setting.game.graph.vertices
-        → slice_get v.items p ≡ Some (newcomer net.now trace_rows p)) }
-    ensures ours { IfOk result (λ v. All (λ a. a.net ≡ net.now) v.items) }
-{
-    let all = all_owned(alloc, net, seat, trace_rows)?;
-    boxed(alloc, all)
-}
-
 /// The stopper, where there is to be one: its part then leaves the seat.
 fn stopper_of(net: &Net, seat: &mut PartSeat, stoppable: bool) -> Option<Stopper>
     requires table { seat.old.table_id ≡ net.now.table }
@@ -150,15 +129,6 @@ fn stopper_of(net: &Net, seat: &mut PartSeat, stoppable: bool) -> Option<Stopper
     Some(Stopper::new(Snapshot::of(net.setting()), own))
 }
 
-/// A net for this setting, as it opens, and the seat that has every part.
-fn lay_out(alloc: Global, setting: Setting) -> Result<(Net, PartSeat), AllocError>
-    ensures net { IfOk result (λ r. r.0.setting ≡ setting) }
-    ensures seat { IfOk result (λ r. (r.1.table_id ≡ r.0.table) × (r.1.me.0 ≡ opening_view r.0.setting)) }
-{
-    let words = opening_words(alloc, &setting)?;
-    Net::of_words(alloc, setting, &words)
-}
-
 /// The tokens of a net that opens: the root, the actors and the stopper.
 fn tokens(
     alloc: Global,
@@ -175,7 +145,8 @@ fn tokens(
     ensures ours { IfOk result (λ r. All (λ a. a.net ≡ net.now) r.1.items) }
     ensures stopper { IfOk result (λ r. r.2 ≡ (if stoppable then Some (new_stopper net.now) else None)) }
 {
-    let actors = all_actors(alloc, net, &mut seat, trace_rows)?;
+    let owned = all_owned(alloc, net, &mut seat, trace_rows)?;
+    let actors = boxed(alloc, owned)?;
     let stopper = stopper_of(net, &mut seat, stoppable);
     let root = Root::new(alloc, net.setting(), seat)?;
     Ok((root, actors, stopper))
@@ -186,7 +157,6 @@ fn tokens(
 pub struct Opened {
     /// What all threads share.
     pub net: Net,
-    /// The root.
     pub root: Root,
     /// The actor of each vertex, ascending.
     pub actors: Vec<Actor>,
@@ -205,7 +175,7 @@ impl Net {
     ) -> Result<Opened, AllocError>
         ensures { IfOk result (IsOpened setting trace_rows stoppable) }
     {
-        let (net, seat) = lay_out(alloc, setting)?;
+        let (net, seat) = Net::lay_out(alloc, setting)?;
         let (root, actors, stopper) = tokens(alloc, &net, seat, trace_rows, stoppable)?;
         Ok(Opened {
             net,

@@ -1,5 +1,4 @@
 ghost use Rattle.std.specs.Prelude.{◌≡◌, ◌≤◌, [], ◌∷◌, Some, MatchResult};
-ghost use Rattle.chip_part.specs.Setting.{IsSetting};
 ghost use Rattle.chip_part.specs.Edges.{graph_edges, stopper};
 ghost use Rattle.chip_net.specs.Views.{IsAlone, find};
 ghost use Rattle.chip_net.specs.Roots.{StopperKnown, new_stopper, Seals};

@@ -68,7 +68,6 @@ impl Trace {
         }
     }
 
-    /// The rows.
     pub(crate) fn rows(&self) -> &[TraceRow]
         ensures { result.now ≡ self.now.rows }
     {

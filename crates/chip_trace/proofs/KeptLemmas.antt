@@ -2,7 +2,7 @@
 -- What a replay keeps: at the start, and as a vertex uses a row that is met.
 use Rattle.std.proofs.Common.{◌≡◌, ◌≢◌, ℕ, zero, suc, ◌+◌, ◌*◌, ◌^◌, ◌<◌, ◌≤◌, Bool, true, false, cond, eqb, List, []}
 use Rattle.std.proofs.Common.{◌∷◌, ◌++◌, length, take, set, get_or, replicate, refl, sym, ap, ◌∙◌, subst, arith}
-use Rattle.std.proofs.Common.{append-nil, add-one, length-append, sum}
+use Rattle.std.proofs.Common.{append-nil, add-one, length-append}
 use Rattle.std.specs.Prelude.{Some, nat_lt}
 use mathlib.Core.Logic.{dite}
 use native.Mathlib.Decide.{ℕ_discrete}
@@ -16,14 +16,11 @@ use Rattle.chip_graph.specs.ChipGame.{ChipGame}
 use Rattle.chip_graph.proofs.SumLemmas.{cond_yes, cond_no}
 use Rattle.chip_trace.specs.Interleaving.{fires, chips_taken, takes_of, goes_into, is_met, Placed, rows_of, trace_of}
 use Rattle.chip_trace.specs.Interleaving.{with_firing}
-use Rattle.chip_trace.specs.declared.runner.Runner.{Runner}
-use Rattle.chip_trace.specs.Runner.{at_start, runner_of}
+use Rattle.chip_trace.specs.Runner.{RunnerState, at_start, runner_of}
 use Rattle.chip_trace.specs.declared.progress.ReplayProgress.{ReplayProgress}
-use Rattle.chip_trace.specs.declared.firings.Firings.{Firings}
-use Rattle.chip_trace.specs.Firings.{AreFound}
 use Rattle.chip_trace.specs.Kept.{runner_at, rows_used, row_after, IsReached, IsKept}
 use Rattle.chip_trace.proofs.PrefixLemmas.{take_slice_get}
-use Rattle.chip_trace.proofs.RowLemmas.{sum_push, fires-append, chips_taken-append, takes_of-append, rows_of-push}
+use Rattle.chip_trace.proofs.RowLemmas.{fires-append, chips_taken-append, takes_of-append, rows_of-push}
 use Rattle.chip_trace.proofs.RowLemmas.{rows_of-push_other, firings-append, met_stays, AreMet-push, and_first}
 
 -- an edge goes into one vertex
@@ -36,34 +33,34 @@ one_head G e u v = by_side (nat_lt e (length G.edges))
     by_side false p q = let a = eqb-true e (length G.edges + u) p in let b = eqb-true e (length G.edges + v) q in
         omega arith
 
-same_state : (a b f h c d : ℕ) → a ≡ b → f ≡ h → c ≡ d
-    → ◌≡◌ {A = Runner} (record { used = a; fired = f; chips = c }) (record { used = b; fired = h; chips = d })
-same_state a b f h c d p q r = cc
+same_state : (a b : ℕ) (fs gs : List ℕ) (c d : ℕ) → a ≡ b → fs ≡ gs → c ≡ d
+    → ◌≡◌ {A = RunnerState} (record { used = a; fires = fs; chips = c }) (record { used = b; fires = gs; chips = d })
+same_state a b fs gs c d p q r = cc
 
 -- v uses its next row, which is met
 module _ (g : ChipGame) (traces : List (List TraceRow)) (p q : ReplayProgress) (v : ℕ) (row : TraceRow)
     (kept : IsKept g traces p) (is_vertex : v < g.graph.vertices)
-    (next : row_after traces p v ≡ Some row) (met : is_met g (rows_used traces p) v row ≡ true) (runner : Runner)
+    (next : row_after traces p v ≡ Some row) (met : is_met g (rows_used traces p) v row ≡ true) (runner : RunnerState)
     (moved : q.runners.items ≡ set p.runners.items v runner)
     (one : runner.used ≡ (runner_at p v).used + 1) where
   here : runner_at q v ≡ runner
-  here = ap (λ (rs : List Runner). get_or rs v at_start) moved
+  here = ap (λ (rs : List RunnerState). get_or rs v at_start) moved
       ∙ get_or-set_same p.runners.items v runner at_start (let e = kept.runner_each in omega arith)
 
   there : (u : ℕ) → u ≢ v → runner_at q u ≡ runner_at p u
-  there u other = ap (λ (rs : List Runner). get_or rs u at_start) moved
+  there u other = ap (λ (rs : List RunnerState). get_or rs u at_start) moved
       ∙ get_or-set_other p.runners.items v u runner at_start other
 
   rows_here : rows_used traces q v ≡ rows_used traces p v ++ row ∷ []
-  rows_here = ap (λ (r : Runner). take r.used (trace_of traces v)) here
+  rows_here = ap (λ (r : RunnerState). take r.used (trace_of traces v)) here
       ∙ ap (λ (n : ℕ). take n (trace_of traces v)) (one ∙ add-one (runner_at p v).used)
       ∙ take_slice_get (trace_of traces v) (runner_at p v).used row next
 
   rows_there : (u : ℕ) → u ≢ v → rows_used traces q u ≡ rows_used traces p u
-  rows_there u other = ap (λ (r : Runner). take r.used (trace_of traces u)) (there u other)
+  rows_there u other = ap (λ (r : RunnerState). take r.used (trace_of traces u)) (there u other)
 
   -- a list in which each row is met, with this one
-  reached_more : q.firings.list.items ≡ p.firings.list.items ++ with_firing v row []
+  reached_more : q.firings.items ≡ p.firings.items ++ with_firing v row []
       → (xs : List Placed) × IsReached g traces q xs
   reached_more fired = (
     xs ++ record { vertex = v; row = row } ∷ [],
@@ -92,25 +89,23 @@ pub kept_take : (g : ChipGame) (traces : List (List TraceRow)) (p q : ReplayProg
     row_after traces p v ≡ Some (Take edge count) → is_met g (rows_used traces p) v (Take edge count) ≡ true
     → count < 2 ^ 64 → edge < length g.graph.edges + g.graph.vertices →
     q.runners.items ≡ set p.runners.items v
-    (record { used = (runner_at p v).used + 1; fired = (runner_at p v).fired; chips = (runner_at p v).chips + count })
+    (record { used = (runner_at p v).used + 1; fires = (runner_at p v).fires; chips = (runner_at p v).chips + count })
     →
-    q.taken.items ≡ set p.taken.items edge (get_or p.taken.items edge 0 + 1) → q.firings ≡ p.firings
+    q.taken.items ≡ set p.taken.items edge (get_or p.taken.items edge 0 + 1) → q.firings.items ≡ p.firings.items
     → IsKept g traces q
 kept_take g traces p q v edge count kept is_vertex next met fits is_edge moved took fired =
     record {
       runner_each = ap length moved ∙ length-set p.runners.items v taker ∙ kept.runner_each;
       taken_each = ap length took ∙ length-set p.taken.items edge (get_or p.taken.items edge 0 + 1) ∙ kept.taken_each;
-      bursts_each = ap (λ (f : Firings). length f.bursts.items) fired ∙ kept.bursts_each;
-      found = subst AreFound (sym fired) kept.found;
       runners = λ u. dite (ℕ_discrete u v)
           (λ same. subst (λ (w : ℕ). runner_at q w ≡ runner_of (rows_used traces q w)) (sym same) (is_here ∙ taker_is
           ∙ ap runner_of (sym are_here)))
           (λ other. are_there_runner u other ∙ kept.runners u ∙ ap runner_of (sym (are_there u other)));
       few_chips = λ u. dite (ℕ_discrete u v)
           (λ same. subst (λ (w : ℕ). (runner_at q w).chips ≤ (runner_at q w).used * 2 ^ 64) (sym same)
-          (subst (λ (r : Runner). r.chips ≤ r.used * 2 ^ 64) (sym is_here) (let a = kept.few_chips v in
+          (subst (λ (r : RunnerState). r.chips ≤ r.used * 2 ^ 64) (sym is_here) (let a = kept.few_chips v in
           omega arith)))
-          (λ other. subst (λ (r : Runner). r.chips ≤ r.used * 2 ^ 64) (sym (are_there_runner u other))
+          (λ other. subst (λ (r : RunnerState). r.chips ≤ r.used * 2 ^ 64) (sym (are_there_runner u other))
           (kept.few_chips u));
       taken = λ u e into. dite (ℕ_discrete e edge)
           (λ same.
@@ -121,14 +116,14 @@ kept_take g traces p q v edge count kept is_vertex next met fits is_edge moved t
           (λ other. ap (λ (ts : List ℕ). get_or ts e 0) took
           ∙ get_or-set_other p.taken.items edge e (get_or p.taken.items edge 0 + 1) 0 other ∙ kept.taken u e into
           ∙ sym (takes_same u e other));
-      reached = reached_more g traces p q v (Take edge count) kept is_vertex next met taker moved refl
-          (ap (λ (f : Firings). f.list.items) fired ∙ sym (append-nil p.firings.list.items));
+      reached = reached_more g traces p q v (Take edge count) kept is_vertex next met taker moved refl (fired
+          ∙ sym (append-nil p.firings.items));
     }
   where
-    taker : Runner
+    taker : RunnerState
     taker = record {
       used = (runner_at p v).used + 1;
-      fired = (runner_at p v).fired;
+      fires = (runner_at p v).fires;
       chips = (runner_at p v).chips
           + count;
     }
@@ -152,14 +147,14 @@ kept_take g traces p q v edge count kept is_vertex next met fits is_edge moved t
     taker_is =
         let was = kept.runners v in
         let a : (runner_at p v).used + 1 ≡ length (rows_used traces p v ++ Take edge count ∷ []) =
-        ap (λ (r : Runner). r.used + 1) was ∙ sym (length-append (rows_used traces p v) (Take edge count ∷ []))
+        ap (λ (r : RunnerState). r.used + 1) was ∙ sym (length-append (rows_used traces p v) (Take edge count ∷ []))
         in
-        let b : (runner_at p v).fired ≡ sum (fires (rows_used traces p v ++ Take edge count ∷ [])) =
-        ap (λ (r : Runner). r.fired) was ∙ ap sum (sym (append-nil (fires (rows_used traces p v)))
-        ∙ sym (fires-append (rows_used traces p v) (Take edge count ∷ []))) in
+        let b : (runner_at p v).fires ≡ fires (rows_used traces p v ++ Take edge count ∷ []) =
+        ap (λ (r : RunnerState). r.fires) was ∙ sym (append-nil (fires (rows_used traces p v)))
+        ∙ sym (fires-append (rows_used traces p v) (Take edge count ∷ [])) in
         let c : (runner_at p v).chips + count ≡ chips_taken (rows_used traces p v ++ Take edge count ∷ []) =
         (let d = chips_taken-append (rows_used traces p v) (Take edge count ∷ []) in
-        let e = ap (λ (r : Runner). r.chips) was in omega arith) in
+        let e = ap (λ (r : RunnerState). r.chips) was in omega arith) in
         same_state _ _ _ _ _ _ a b c
 
     taken_here : get_or q.taken.items edge 0 ≡ takes_of edge (rows_used traces q v)
@@ -194,35 +189,32 @@ pub kept_fire : (g : ChipGame) (traces : List (List TraceRow)) (p q : ReplayProg
     q.runners.items ≡ set p.runners.items v
     (record {
       used = (runner_at p v).used + 1;
-      fired = (runner_at p v).fired + k;
+      fires = (runner_at p v).fires ++ k ∷ [];
       chips = (runner_at p v).chips;
     }) →
-    q.taken.items ≡ p.taken.items → q.firings.list.items ≡ p.firings.list.items ++ (v, k) ∷ []
-    → length q.firings.bursts.items ≡ length p.firings.bursts.items → AreFound q.firings → IsKept g traces q
-kept_fire g traces p q v k kept is_vertex next met moved took fired each found =
+    q.taken.items ≡ p.taken.items → q.firings.items ≡ p.firings.items ++ (v, k) ∷ [] → IsKept g traces q
+kept_fire g traces p q v k kept is_vertex next met moved took fired =
     record {
       runner_each = ap length moved ∙ length-set p.runners.items v firer ∙ kept.runner_each;
       taken_each = ap length took ∙ kept.taken_each;
-      bursts_each = each ∙ kept.bursts_each;
-      found = found;
       runners = λ u. dite (ℕ_discrete u v)
           (λ same. subst (λ (w : ℕ). runner_at q w ≡ runner_of (rows_used traces q w)) (sym same) (is_here ∙ firer_is
           ∙ ap runner_of (sym are_here)))
           (λ other. are_there_runner u other ∙ kept.runners u ∙ ap runner_of (sym (are_there u other)));
       few_chips = λ u. dite (ℕ_discrete u v)
           (λ same. subst (λ (w : ℕ). (runner_at q w).chips ≤ (runner_at q w).used * 2 ^ 64) (sym same)
-          (subst (λ (r : Runner). r.chips ≤ r.used * 2 ^ 64) (sym is_here) (let a = kept.few_chips v in
+          (subst (λ (r : RunnerState). r.chips ≤ r.used * 2 ^ 64) (sym is_here) (let a = kept.few_chips v in
           omega arith)))
-          (λ other. subst (λ (r : Runner). r.chips ≤ r.used * 2 ^ 64) (sym (are_there_runner u other))
+          (λ other. subst (λ (r : RunnerState). r.chips ≤ r.used * 2 ^ 64) (sym (are_there_runner u other))
           (kept.few_chips u));
       taken = λ u e into. ap (λ (ts : List ℕ). get_or ts e 0) took ∙ kept.taken u e into ∙ sym (takes_same u e);
       reached = reached_more g traces p q v (Fire k) kept is_vertex next met firer moved refl fired;
     }
   where
-    firer : Runner
+    firer : RunnerState
     firer = record {
       used = (runner_at p v).used + 1;
-      fired = (runner_at p v).fired + k;
+      fires = (runner_at p v).fires ++ k ∷ [];
       chips = (runner_at p v).chips;
     }
 
@@ -242,14 +234,12 @@ kept_fire g traces p q v k kept is_vertex next met moved took fired each found =
     firer_is =
         let was = kept.runners v in
         let a : (runner_at p v).used + 1 ≡ length (rows_used traces p v ++ Fire k ∷ []) =
-        ap (λ (r : Runner). r.used + 1) was ∙ sym (length-append (rows_used traces p v) (Fire k ∷ [])) in
-        let b : (runner_at p v).fired + k ≡ sum (fires (rows_used traces p v ++ Fire k ∷ [])) =
-        (let d = ap sum (fires-append (rows_used traces p v) (Fire k ∷ [])) in
-        let e = sum_push (fires (rows_used traces p v)) k in
-        let f = ap (λ (r : Runner). r.fired) was in omega arith) in
+        ap (λ (r : RunnerState). r.used + 1) was ∙ sym (length-append (rows_used traces p v) (Fire k ∷ [])) in
+        let b : (runner_at p v).fires ++ k ∷ [] ≡ fires (rows_used traces p v ++ Fire k ∷ []) =
+        ap (λ (r : RunnerState). r.fires ++ k ∷ []) was ∙ sym (fires-append (rows_used traces p v) (Fire k ∷ [])) in
         let c : (runner_at p v).chips ≡ chips_taken (rows_used traces p v ++ Fire k ∷ []) =
         (let d = chips_taken-append (rows_used traces p v) (Fire k ∷ []) in
-        let e = ap (λ (r : Runner). r.chips) was in omega arith) in
+        let e = ap (λ (r : RunnerState). r.chips) was in omega arith) in
         same_state _ _ _ _ _ _ a b c
 
     takes_same : (u e : ℕ) → takes_of e (rows_used traces q u) ≡ takes_of e (rows_used traces p u)
@@ -264,16 +254,13 @@ kept_fire g traces p q v k kept is_vertex next met moved took fired each found =
 -- before the first row
 pub kept_start : (g : ChipGame) (traces : List (List TraceRow)) (p : ReplayProgress)
     → p.runners.items ≡ replicate g.graph.vertices at_start →
-    p.taken.items ≡ replicate (length g.graph.edges + g.graph.vertices) 0 → p.firings.list.items ≡ []
-    → length p.firings.bursts.items ≡ g.graph.vertices → AreFound p.firings → IsKept g traces p
-kept_start g traces p start none fired each found =
+    p.taken.items ≡ replicate (length g.graph.edges + g.graph.vertices) 0 → p.firings.items ≡ [] → IsKept g traces p
+kept_start g traces p start none fired =
     record {
       runner_each = ap length start ∙ length-replicate g.graph.vertices at_start;
       taken_each = ap length none ∙ length-replicate (length g.graph.edges + g.graph.vertices) 0;
-      bursts_each = each;
-      found = found;
       runners = λ v. is_start v ∙ sym (ap runner_of (no_rows v));
-      few_chips = λ v. subst (λ (r : Runner). r.chips ≤ r.used * 2 ^ 64) (sym (is_start v)) (omega arith);
+      few_chips = λ v. subst (λ (r : RunnerState). r.chips ≤ r.used * 2 ^ 64) (sym (is_start v)) (omega arith);
       taken = λ v e into. ap (λ (ts : List ℕ). get_or ts e 0) none
           ∙ get_or_same (length g.graph.edges + g.graph.vertices) 0 e ∙ sym (ap (takes_of e) (no_rows v));
       reached = ([], record { met = tt; rows = λ v. sym (no_rows v); fired = fired });
@@ -285,7 +272,7 @@ kept_start g traces p start none fired each found =
     get_or_same (suc n) x (suc i) = get_or_same n x i
 
     is_start : (v : ℕ) → runner_at p v ≡ at_start
-    is_start v = ap (λ (rs : List Runner). get_or rs v at_start) start ∙ get_or_same g.graph.vertices at_start v
+    is_start v = ap (λ (rs : List RunnerState). get_or rs v at_start) start ∙ get_or_same g.graph.vertices at_start v
 
     no_rows : (v : ℕ) → rows_used traces p v ≡ []
-    no_rows v = ap (λ (r : Runner). take r.used (trace_of traces v)) (is_start v)
+    no_rows v = ap (λ (r : RunnerState). take r.used (trace_of traces v)) (is_start v)

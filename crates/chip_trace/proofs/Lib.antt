@@ -1,5 +1,4 @@
 pub mod PrefixLemmas
-pub mod FiringLemmas
 pub mod RowLemmas
 pub mod GreatestLemmas
 pub mod NumberLemmas

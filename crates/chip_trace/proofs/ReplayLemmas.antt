@@ -17,7 +17,7 @@ kept_after g traces p q v (Take edge count) is_vertex kept may uses =
     kept_take g traces p q v edge count kept is_vertex may.next may.met may.fits.3 (let a = may.fits.0 in
     let b = kept.taken_each in omega arith) uses.0 uses.1 uses.2
 kept_after g traces p q v (Fire k) is_vertex kept may uses =
-    kept_fire g traces p q v k kept is_vertex may.next may.met uses.0 uses.1 uses.2 uses.3 uses.4
+    kept_fire g traces p q v k kept is_vertex may.next may.met uses.0 uses.1 uses.2
 
 -- using it goes on, and leaves less to do
 pub use_goes_on : (g : ChipGame) (traces : List (List TraceRow)) (p : ReplayProgress) (a : AgendaState)

@@ -4,7 +4,6 @@ use Rattle.std.proofs.Common.{◌≡◌, ◌≢◌, ℕ, ◌+◌, ◌-◌, ◌*�
 use Rattle.std.proofs.Common.{map, sum, refl, sym, ap, ◌∙◌, subst, arith, append_assoc, append-nil}
 use Rattle.std.specs.Prelude.{slice_get, slice_index, Option, Some, None, ◌&&◌, nat_lt}
 use Rattle.std.proofs.lemmas.List.{map-append}
-use Rattle.std.proofs.lemmas.List.Sums.{sum_by-append}
 use Rattle.chip_link.specs.declared.trace.TraceRow.{TraceRow}
 use Rattle.chip_link.specs.declared.trace.TraceRow.TheVariants.{Take, Fire}
 use Rattle.chip_graph.specs.Multigraph.{edge_at}
@@ -20,12 +19,6 @@ pub fires-append : (xs ys : List TraceRow) → fires (xs ++ ys) ≡ fires xs ++ 
 fires-append [] ys = refl
 fires-append (Take edge count ∷ xs) ys = fires-append xs ys
 fires-append (Fire k ∷ xs) ys = ap (λ (ks : List ℕ). k ∷ ks) (fires-append xs ys)
-
-pub sum_push : (xs : List ℕ) (k : ℕ) → sum (xs ++ k ∷ []) ≡ sum xs + k
-sum_push xs k =
-    let all : sum (xs ++ k ∷ []) ≡ sum xs + sum (k ∷ []) = sum_by-append (λ x. x) xs (k ∷ []) in
-    let last : sum (k ∷ []) ≡ k = let e : 0 + k ≡ k = omega arith in e in
-    omega arith
 
 pub chips_taken-append : (xs ys : List TraceRow) → chips_taken (xs ++ ys) ≡ chips_taken xs + chips_taken ys
 chips_taken-append [] ys = omega arith

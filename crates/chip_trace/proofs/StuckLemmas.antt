@@ -11,7 +11,7 @@ use Rattle.chip_graph.specs.ChipGame.{ChipGame}
 use Rattle.chip_trace.specs.Interleaving.{is_met, Placed, rows_of, trace_of, IsPartial}
 use Rattle.chip_trace.specs.Progress.{is_wrong, next_row, HasWrongRow, HasUnusedRow, IsLeast, IsBlamed}
 use Rattle.chip_trace.specs.Progress.{IsGreatestProgress, IsStuck}
-use Rattle.chip_trace.specs.declared.runner.Runner.{Runner}
+use Rattle.chip_trace.specs.Runner.{RunnerState}
 use Rattle.chip_trace.specs.declared.progress.ReplayProgress.{ReplayProgress}
 use Rattle.chip_trace.specs.Replay.{AreFirings}
 use Rattle.chip_trace.specs.Kept.{runner_at, rows_used, row_after, IsReached, IsKept, IsSettled, IsWrongAt, IsUnusedAt}
@@ -30,7 +30,7 @@ module _ (g : ChipGame) (traces : List (List TraceRow)) (p : ReplayProgress) (ke
   same_rows = λ i v. was.rows v i
 
   same_length : (v : ℕ) → length (rows_of xs v) ≡ (runner_at p v).used
-  same_length v = ap length (was.rows v) ∙ sym (ap (λ (r : Runner). r.used) (kept.runners v))
+  same_length v = ap length (was.rows v) ∙ sym (ap (λ (r : RunnerState). r.used) (kept.runners v))
 
   same_next : (v : ℕ) → next_row traces xs v ≡ row_after traces p v
   same_next v = ap (slice_get (trace_of traces v)) (same_length v)
@@ -80,7 +80,7 @@ module _ (g : ChipGame) (traces : List (List TraceRow)) (p : ReplayProgress) (ke
   unused_there v some = let e = same_length v in omega arith
 
   -- all rows are used
-  pub whole : IsToBlame g traces p None → AreFirings g traces p.firings.list.items
+  pub whole : IsToBlame g traces p None → AreFirings g traces p.firings.items
   whole none = (
     xs,
     record {

@@ -1,5 +1,5 @@
 -- What a replay keeps on its way.
-use Rattle.std.specs.Prelude.{◌≡◌, ℕ, ◌+◌, ◌-◌, ◌*◌, ◌^◌, ◌<◌, ◌≤◌, true, false, List, [], ◌∷◌, ◌++◌, length, take}
+use Rattle.std.specs.Prelude.{◌≡◌, ℕ, ◌+◌, ◌-◌, ◌*◌, ◌^◌, ◌<◌, ◌≤◌, true, false, List, [], ◌∷◌, ◌++◌, length, sum, take}
 use Rattle.std.specs.Prelude.{slice_get, slice_set, slice_index, slice_index_or, Option, Some, None, ◌⊎◌}
 use Rattle.chip_link.specs.declared.trace.TraceRow.{TraceRow}
 use Rattle.chip_link.specs.declared.trace.TraceRow.TheVariants.{Take, Fire}
@@ -11,12 +11,10 @@ use Rattle.chip_trace.specs.declared.look.Finding.TheVariants as finding
 use Rattle.chip_trace.specs.Agenda.{AgendaState}
 use Rattle.chip_trace.specs.Interleaving.{takes_of, goes_into, is_met, Placed, rows_of, AreMet, trace_of, firings}
 use Rattle.chip_trace.specs.Progress.{is_wrong, IsLeast}
-use Rattle.chip_trace.specs.declared.runner.Runner.{Runner}
-use Rattle.chip_trace.specs.Firings.{AreFound}
-use Rattle.chip_trace.specs.Runner.{at_start, runner_of}
+use Rattle.chip_trace.specs.Runner.{RunnerState, at_start, runner_of}
 
 -- how far v has come
-abbrev pub runner_at : ReplayProgress → ℕ → Runner
+abbrev pub runner_at : ReplayProgress → ℕ → RunnerState
 runner_at p v = slice_index_or p.runners.items v at_start
 
 -- the rows that v has used
@@ -32,14 +30,12 @@ pub record IsReached (g : ChipGame) (traces : List (List TraceRow)) (p : ReplayP
     (xs : List Placed) : Type 0 where
   pub met : AreMet g [] xs
   pub rows : (v : ℕ) → rows_of xs v ≡ rows_used traces p v
-  pub fired : p.firings.list.items ≡ firings xs
+  pub fired : p.firings.items ≡ firings xs
 
 -- what is kept for vertices and edges is what the used rows come to, and these were met one after another
 pub record IsKept (g : ChipGame) (traces : List (List TraceRow)) (p : ReplayProgress) : Type 0 where
   pub runner_each : length p.runners.items ≡ g.graph.vertices
   pub taken_each : length p.taken.items ≡ length g.graph.edges + g.graph.vertices
-  pub bursts_each : length p.firings.bursts.items ≡ g.graph.vertices
-  pub found : AreFound p.firings
   pub runners : (v : ℕ) → runner_at p v ≡ runner_of (rows_used traces p v)
   pub few_chips : (v : ℕ) → (runner_at p v).chips ≤ (runner_at p v).used * 2 ^ 64
   pub taken : (v e : ℕ) → goes_into g.graph v e ≡ true → slice_index p.taken.items e ≡ takes_of e (rows_used traces p v)
@@ -51,30 +47,27 @@ UsesRow v (Take edge count) p q =
     (q.runners.items ≡ slice_set p.runners.items v
     (record {
       used = (runner_at p v).used + 1;
-      fired = (runner_at p v).fired;
+      fires = (runner_at p v).fires;
       chips = (runner_at p v).chips
           + count;
     }))
     × (q.taken.items ≡ slice_set p.taken.items edge (slice_index p.taken.items edge + 1))
-    × (q.firings ≡ p.firings)
+    × (q.firings.items ≡ p.firings.items)
 UsesRow v (Fire k) p q =
     (q.runners.items ≡ slice_set p.runners.items v
     (record {
       used = (runner_at p v).used + 1;
-      fired = (runner_at p v).fired + k;
+      fires = (runner_at p v).fires ++ k ∷ [];
       chips = (runner_at p v).chips;
     }))
     × (q.taken.items ≡ p.taken.items)
-    × (q.firings.list.items ≡ p.firings.list.items ++ (v, k) ∷ [])
-    × (length q.firings.bursts.items ≡ length p.firings.bursts.items)
-    × AreFound q.firings
+    × (q.firings.items ≡ p.firings.items ++ (v, k) ∷ [])
 
--- a row can be noted: its numbers fit their types, and its firing is found later
+-- the numbers that note a row fit their types
 abbrev pub FitsRow : ℕ → TraceRow → ReplayProgress → Type 0
 FitsRow v (Take edge count) p = (edge < length p.taken.items) × (slice_index p.taken.items edge + 1 < 2 ^ 64)
     × ((runner_at p v).chips + count < 2 ^ 128) × (count < 2 ^ 64)
-FitsRow v (Fire k) p = ((runner_at p v).fired + k < 2 ^ 64) × (v < length p.firings.bursts.items)
-    × AreFound p.firings
+FitsRow v (Fire k) p = sum (runner_at p v).fires + k < 2 ^ 64
 
 -- how many rows are unused
 abbrev pub rows_left : List (List TraceRow) → ReplayProgress → ℕ

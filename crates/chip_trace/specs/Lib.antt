@@ -1,7 +1,6 @@
 pub mod Interleaving
 pub mod Progress
 pub mod Worked
-pub mod Firings
 pub mod Runner
 pub mod Agenda
 pub mod Kept

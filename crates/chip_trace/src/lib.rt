@@ -11,7 +11,6 @@ pub use writing::write_trace;
 
 mod agenda;
 mod fault;
-mod firings;
 mod look;
 mod progress;
 mod replaying;

@@ -1,9 +1,8 @@
 //! A look at the next row of a vertex: is it met?
 
-ghost use Rattle.std.specs.Prelude.{◌≡◌, ◌+◌, ◌^◌, ◌<◌, length, map, slice_get, slice_index, OnSome};
+ghost use Rattle.std.specs.Prelude.{◌≡◌, ◌+◌, ◌^◌, ◌<◌, length, map, sum, slice_get, slice_index, OnSome};
 ghost use Rattle.chip_graph.specs.ChipGame.{IsGame};
 ghost use Rattle.chip_graph.specs.Edges.{all_edges};
-ghost use Rattle.chip_trace.specs.Firings.{AreFound, counts_of};
 ghost use Rattle.chip_trace.specs.Interleaving.{messages, goes_into, may_fire};
 ghost use Rattle.chip_trace.specs.Kept.{runner_at, row_after, IsKept, Finds};
 
@@ -86,18 +85,17 @@ fn goes_into(graph: &Graph, vertex: u64, edge: u64) -> bool
 
 /// The first message of this edge that was not taken, if there is one.
 fn next_message(game: &Game, progress: &ReplayProgress, edge: u64) -> Option<u128>
+    requires runner_each { length progress.now.runners.items ≡ game.now.graph.vertices }
     requires taken_each { length progress.now.taken.items ≡ all_edges game.now.graph }
     requires is_edge { edge < all_edges game.now.graph }
-    requires bursts_each { length progress.now.firings.bursts.items ≡ game.now.graph.vertices }
-    requires found { AreFound progress.now.firings }
     ensures { result
-        ≡ slice_get (messages game.now (λ u. counts_of u progress.now.firings.list.items) edge)
+        ≡ slice_get (messages game.now (λ u. (runner_at progress.now u).fires) edge)
         (slice_index progress.now.taken.items edge) }
 {
     let taken = progress.taken[edge as usize];
     match game.graph().edge(edge)? {
         AnyEdge::Own(Edge { tail, mult, .. }) => {
-            let k = progress.firings.get(tail, taken, edge)?;
+            let k = progress.runners[tail as usize].firing(taken)?;
             Some(u128::from(k) * u128::from(mult))
         }
         AnyEdge::Root { head } => {
@@ -110,7 +108,7 @@ fn next_message(game: &Game, progress: &ReplayProgress, edge: u64) -> Option<u12
 /// Whether the vertex may fire `k` times.
 fn may_fire(game: &Game, runner: &Runner, vertex: u64, k: u64) -> bool
     requires { vertex < game.now.graph.vertices }
-    ensures value { result ≡ may_fire game.now vertex runner.now.fired runner.now.chips k }
+    ensures value { result ≡ may_fire game.now vertex (sum runner.now.fires) runner.now.chips k }
     ensures game { IsGame game.now }
 {
     let graph = game.graph();

@@ -1,4 +1,3 @@
-use crate::firings::Firings;
 use crate::runner::Runner;
 use chip_graph::Game;
 use chip_link::TraceRow;
@@ -11,31 +10,27 @@ pub(crate) struct ReplayProgress {
     pub(crate) runners: Vec<Runner>,
     /// How many messages were taken, by edge.
     pub(crate) taken: Vec<usize>,
-    /// All of them in their order.
-    pub(crate) firings: Firings,
+    /// The vertex of each firing, and how often it fired.
+    pub(crate) firings: Vec<(u64, u64)>,
 }
 
 impl ReplayProgress {
     ghost use Rattle.std.specs.Prelude.{◌≡◌, ◌+◌, ◌^◌, ◌<◌, [], length, replicate, IfOk};
     ghost use Rattle.chip_graph.specs.Edges.{all_edges};
     ghost use Rattle.chip_trace.specs.Runner.{at_start};
-    ghost use Rattle.chip_trace.specs.Firings.{AreFound};
     ghost use Rattle.chip_trace.specs.Kept.{runner_at, UsesRow, FitsRow};
 
     /// No row used.
     pub(crate) fn new(alloc: Global, game: &Game) -> Result<ReplayProgress, AllocError>
         ensures runners { IfOk result (λ p. p.runners.items ≡ replicate game.now.graph.vertices at_start) }
         ensures taken { IfOk result (λ p. p.taken.items ≡ replicate (all_edges game.now.graph) 0) }
-        ensures firings { IfOk result (λ p. p.firings.list.items ≡ []) }
-        ensures each { IfOk result (λ p. length p.firings.bursts.items ≡ game.now.graph.vertices) }
-        ensures found { IfOk result (λ p. AreFound p.firings) }
+        ensures firings { IfOk result (λ p. p.firings.items ≡ []) }
     {
         let vertices = game.graph().vertices();
-        let edges = game.graph().all_edges();
         Ok(ReplayProgress {
-            runners: vec![in alloc; Runner::new(); vertices as usize]?,
-            taken: vec![in alloc; 0; edges as usize]?,
-            firings: Firings::new(alloc, vertices, edges)?,
+            runners: runners_at_start(alloc, vertices)?,
+            taken: vec![in alloc; 0; game.graph().all_edges() as usize]?,
+            firings: Vec::new(alloc),
         })
     }
 
@@ -60,10 +55,24 @@ impl ReplayProgress {
                 self.taken[edge as usize] += 1;
             }
             TraceRow::Fire { k } => {
-                self.firings.push(vertex, k)?;
-                self.runners[vertex as usize].fire(k);
+                self.firings.push((vertex, k))?;
+                self.runners[vertex as usize].fire(k)?;
             }
         }
         Ok(())
     }
+}
+
+ghost use Rattle.std.specs.Prelude.{◌≡◌, replicate, IfOk};
+ghost use Rattle.chip_trace.specs.Runner.{at_start};
+
+/// So many vertices that have used no row.
+fn runners_at_start(alloc: Global, count: u64) -> Result<Vec<Runner>, AllocError>
+    ensures { IfOk result (λ runners. runners.items ≡ replicate count at_start) }
+{
+    let mut runners = Vec::new(alloc);
+    for _ in 0..count {
+        runners.push(Runner::new(alloc))?;
+    }
+    Ok(runners)
 }

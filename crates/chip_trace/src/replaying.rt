@@ -149,6 +149,6 @@ pub fn replay(
             vertex,
             row: progress.used_rows(vertex) as u64,
         }),
-        None => Ok(progress.firings.into_list()),
+        None => Ok(progress.firings),
     }
 }

@@ -1,26 +1,39 @@
-//! How far one vertex has come.
-
-ghost use Rattle.std.specs.Prelude.{◌≡◌, ◌+◌, ◌*◌, ◌^◌, ◌<◌, ◌&&◌, nat_le};
-ghost use Rattle.chip_trace.specs.Runner.{at_start};
+use std::alloc::{AllocError, Global};
+use std::marker::Model;
 
 /// How far one vertex has come.
-#[derive(Clone, Copy)]
+#[derive(Drop)]
 pub(crate) struct Runner {
-    /// How many rows it has used.
     used: usize,
-    /// How often it fired.
+    fires: Vec<u64>,
     fired: u64,
-    /// The chips that it took.
     chips: u128,
 }
 
+impl Model for Runner {
+    ghost use Rattle.chip_trace.specs.Runner.{RunnerState};
+
+    ghost Value = { RunnerState };
+
+    ghost use Rattle.chip_trace.specs.Runner.{state_of, IsCounted};
+
+    ghost view = { state_of };
+
+    ghost invariant = { IsCounted };
+}
+
 impl Runner {
+    ghost use Rattle.std.specs.Prelude.{◌≡◌, ◌+◌, ◌*◌, ◌^◌, ◌<◌, ◌≤◌, ◌++◌, ◌∷◌, [], ◌&&◌, nat_lt, nat_le, sum};
+    ghost use Rattle.std.specs.Prelude.{slice_get, IfOk, true};
+    ghost use Rattle.chip_trace.specs.Runner.{at_start};
+
     /// A vertex that has used no row.
-    pub(crate) fn new() -> Runner
+    pub(crate) fn new(alloc: Global) -> Runner
         ensures { result ≡ at_start }
     {
         Runner {
             used: 0,
+            fires: Vec::new(alloc),
             fired: 0,
             chips: 0,
         }
@@ -33,10 +46,17 @@ impl Runner {
         self.used
     }
 
+    /// Its firing with this number, if it has made so many.
+    pub(crate) fn firing(&self, i: usize) -> Option<u64>
+        ensures { result ≡ slice_get self.now.fires i }
+    {
+        self.fires.get(i).copied()
+    }
+
     /// Whether with `k` more its firings stay within the limit, and it took the chips for them, so many each.
     pub(crate) fn can_pay(&self, k: u64, degree: u64, limit: u64) -> bool
-        ensures { result ≡ (nat_le (self.now.fired + k) limit
-            && nat_le ((self.now.fired + k) * degree) self.now.chips) }
+        ensures { result ≡ (nat_le (sum self.now.fires + k) limit
+            && nat_le ((sum self.now.fires + k) * degree) self.now.chips) }
     {
         let firings = u128::from(self.fired) + u128::from(k);
         firings <= u128::from(limit) && firings * u128::from(degree) <= self.chips
@@ -53,12 +73,15 @@ impl Runner {
     }
 
     /// It fires `k` times.
-    pub(crate) fn fire(&mut self, k: u64)
+    pub(crate) fn fire(&mut self, k: u64) -> Result<(), AllocError>
         requires room { self.old.used + 1 < 2 ^ 64 }
-        requires fits { self.old.fired + k < 2 ^ 64 }
-        ensures { self.new ≡ record self.old { used = self.old.used + 1; fired = self.old.fired + k } }
+        requires fits { sum self.old.fires + k < 2 ^ 64 }
+        ensures { IfOk result (λ _. self.new
+            ≡ record self.old { used = self.old.used + 1; fires = self.old.fires ++ k ∷ [] }) }
     {
+        self.fires.push(k)?;
         self.fired += k;
         self.used += 1;
+        Ok(())
     }
 }

@@ -1,11 +1,10 @@
-use Rattle.std.proofs.Common.{◌≡◌, ◌≢◌, List, map, sym, ◌∙◌, rules, true}
+use Rattle.std.proofs.Common.{◌≡◌, List, map, sym, ◌∙◌, rules, true}
 use Rattle.std.specs.Prelude.{◌+◌, ◌^◌, ◌<◌, Some, slice_get, slice_index}
 use Rattle.chip_link.specs.declared.trace.TraceRow.{TraceRow}
 use Rattle.chip_link.specs.declared.trace.TraceRow.TheVariants.{Take}
-use Rattle.chip_trace.specs.Firings.{counts_of}
 use Rattle.chip_trace.specs.Kept.{row_after, runner_at}
 use Rattle.chip_trace.specs.Interleaving.{goes_into, messages}
-use Rattle.chip_trace.proofs.LookLemmas.{differs, may_take, waits}
+use Rattle.chip_trace.proofs.LookLemmas.{may_take}
 use Rattle.chip_trace.proofs.look.look_at.Goals as goal
 
 pub returns-in-Some : goal.returns-in-Some
@@ -17,30 +16,9 @@ returns-in-Some c =
     let room : (runner_at c.args.progress.now c.args.vertex).used + 1 < 2 ^ 64 = c.in-Some-Take.ensures.room in
     let fits : c.in-Some-Take.count < 2 ^ 64 = search rules in
     let into : goes_into c.args.game.now.graph c.args.vertex c.in-Some-Take.edge ≡ true = search rules in
-    let found : slice_get (messages c.args.game.now (λ u. counts_of u c.args.progress.now.firings.list.items) c.in-Some-Take.edge)
+    let found : slice_get (messages c.args.game.now (λ u. (runner_at c.args.progress.now u).fires) c.in-Some-Take.edge)
     (slice_index c.args.progress.now.taken.items c.in-Some-Take.edge) ≡ Some c.in-Some.message =
     sym c.next_message.ensures ∙ c.in-Some.is in
     may_take c.args.game.now traces c.args.progress.now c.args.vertex c.requires.kept c.in-Some-Take.edge
     c.in-Some-Take.count c.in-Some.message
     c.requires.is_vertex next room fits into found (c.if-message-from.true ∙ c.from.ensures)
-
-pub returns-in-None-next_message : goal.returns-in-None-next_message
-returns-in-None-next_message c =
-    let traces : List (List TraceRow) = map (λ t. t.items) c.args.traces.now in
-    let next : row_after traces c.args.progress.now c.args.vertex
-    ≡ Some (Take c.in-Some-Take.edge c.in-Some-Take.count) =
-    sym (rw c.in-Some-Take.field-0-is at c.in-Some-Take.ensures.row) in
-    let into : goes_into c.args.game.now.graph c.args.vertex c.in-Some-Take.edge ≡ true = search rules in
-    waits c.args.game.now traces c.args.progress.now c.args.vertex c.requires.kept c.in-Some-Take.edge
-    c.in-Some-Take.count next into (sym c.next_message.ensures ∙ c.in-None-next_message.is)
-
-pub returns-in-Some-2 : goal.returns-in-Some-2
-returns-in-Some-2 c =
-    let traces : List (List TraceRow) = map (λ t. t.items) c.args.traces.now in
-    let next : row_after traces c.args.progress.now c.args.vertex
-    ≡ Some (Take c.in-Some-Take.edge c.in-Some-Take.count) =
-    sym (rw c.in-Some-Take.field-0-is at c.in-Some-Take.ensures.row) in
-    let into : goes_into c.args.game.now.graph c.args.vertex c.in-Some-Take.edge ≡ true = search rules in
-    let other : c.in-Some.message ≢ c.in-Some-Take.count = search rules in
-    differs c.args.game.now traces c.args.progress.now c.args.vertex c.requires.kept c.in-Some-Take.edge
-    c.in-Some-Take.count c.in-Some.message next into (sym c.next_message.ensures ∙ c.in-Some.is) other

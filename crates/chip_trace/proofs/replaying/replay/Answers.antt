@@ -11,7 +11,6 @@ pub settle-requires-clause-kept : goal.settle-requires-clause-kept
 settle-requires-clause-kept c =
     kept_start c.args.game.now (map (λ t. t.items) c.args.traces.now) c.in_ok-progress.progress
     c.in_ok-progress.ensures.runners c.in_ok-progress.ensures.taken c.in_ok-progress.ensures.firings
-    c.in_ok-progress.ensures.each c.in_ok-progress.ensures.found
 
 pub returns-in-Some : goal.returns-in-Some
 returns-in-Some c =
@@ -24,7 +23,5 @@ returns-in-Some c =
 
 pub returns-in-None : goal.returns-in-None
 returns-in-None c =
-    let traces : List (List TraceRow) = map (λ t. t.items) c.args.traces.now in
-    rw c.into_list.ensures
-    (whole c.args.game.now traces c.settle.new.progress c.in_ok-settle.ensures.kept
-    (length-map c.args.traces.now (λ t. t.items) ∙ c.requires) c.in-None.ensures)
+    whole c.args.game.now (map (λ t. t.items) c.args.traces.now) c.settle.new.progress c.in_ok-settle.ensures.kept
+    (length-map c.args.traces.now (λ t. t.items) ∙ c.requires) c.in-None.ensures

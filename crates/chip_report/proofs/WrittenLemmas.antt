@@ -1,18 +1,7 @@
 -- Serves Written.antt.
 -- Bytes that go out in parts.
-use Rattle.std.proofs.Common.{◌≡◌, ℕ, ◌+◌, ◌-◌, ◌≤◌, List, ◌++◌, length, take, drop, Option, Some, None, sym, ap}
-use Rattle.std.proofs.Common.{◌∙◌, arith, append_assoc, take-add}
+use Rattle.std.proofs.Common.{◌≡◌, ℕ, ◌+◌, ◌-◌, ◌≤◌, List, ◌++◌, length, take, drop, sym, ap, ◌∙◌, arith, take-add}
 use Rattle.std.proofs.lemmas.List.{take_all, length-drop}
-use Rattle.std.specs.Io.KnownBytes.{Appends}
-
--- one part after another
-pub Appends-more : (old middle new : Option (List ℕ)) (xs ys zs : List ℕ) → xs ++ ys ≡ zs → Appends old middle xs
-    → Appends middle new ys → Appends old new zs
-Appends-more None middle new xs ys zs is first second = tt
-Appends-more (Some bs) None new xs ys zs is first second = absurd first
-Appends-more (Some bs) (Some cs) None xs ys zs is first second = absurd second
-Appends-more (Some bs) (Some cs) (Some ds) xs ys zs is first second = second ∙ ap (λ (l : List ℕ). l ++ ys) first
-    ∙ append_assoc bs xs ys ∙ ap (λ (l : List ℕ). bs ++ l) is
 
 -- the first bytes and some of the rest, as a loop reads them
 pub taken_on : (w n : ℕ) (bytes : List ℕ) → w ≤ length bytes → n ≤ length (take (length bytes - w) (drop w bytes))

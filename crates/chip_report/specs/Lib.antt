@@ -5,3 +5,4 @@ pub mod ReportText
 pub mod Reportable
 pub mod Written
 pub mod ReportTwo
+pub mod Sink

@@ -6,8 +6,9 @@
 
 pub use fault::ReportFault;
 pub use read::{read_report, read_report_within};
+pub use sink::{LastWrite, Sink};
 pub use sitting::{read_any, read_any_within, report_two};
-pub use write::{WriteFault, write_all_of};
+pub use write::{WriteFault, write_all_of, write_all_to};
 
 pub mod fault;
 pub mod laws;
@@ -15,5 +16,6 @@ mod lists;
 pub mod read;
 pub mod report;
 mod reportable;
+mod sink;
 pub mod sitting;
 pub mod write;

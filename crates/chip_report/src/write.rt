@@ -1,7 +1,10 @@
 //! Exact writing: all the bytes, or a fault that says how many went out.
 
+ghost use Rattle.std.specs.Prelude.{◌≡◌, ◌≤◌, length, is_ok};
+ghost use Rattle.chip_report.specs.Sink.{IsFresh, bytes_out, goes_on, last_write, writes};
 ghost use Rattle.chip_report.specs.Written.{WritesAll};
 
+use crate::sink::Sink;
 use std::io::Write;
 use thiserror::Error;
 
@@ -13,13 +16,22 @@ pub struct WriteFault {
     pub written: u64,
 }
 
-/// Writes all the bytes, by as many writes as the writer needs; an interruption counts as failure.
-pub fn write_all_of<W: Write>(writer: &mut W, bytes: &[u8]) -> Result<(), WriteFault>
-    ensures { WritesAll (W.contents writer.old) (W.contents writer.new) bytes.now result }
+/// Writes all the bytes, by as many writes as the writer needs, and in the sink how many these were.
+///
+/// A write that fails for whatever reason, an interruption among them, is a fault, and so is one that takes no byte. No
+/// write is made after either.
+pub fn write_all_to<W: Write>(sink: &mut Sink<'_, W>, bytes: &[u8]) -> Result<(), WriteFault>
+    requires { IsFresh sink.old }
+    ensures bytes { WritesAll (bytes_out W.contents sink.old) (bytes_out W.contents sink.new) bytes.now result }
+
+    // At any writer.
+    ensures lent { sink.new.writer.ghost_name ≡ sink.old.writer.ghost_name }
+    ensures few_writes { writes sink.new ≤ length bytes.now }
+    ensures told { goes_on (last_write sink.new) ≡ is_ok result }
 {
     let mut written = 0;
     while written < bytes.len() {
-        match writer.write(&bytes[written..]) {
+        match sink.write(&bytes[written..]) {
             Ok(count) if count > 0 => written += count,
             _ => {
                 return Err(WriteFault {
@@ -29,4 +41,12 @@ pub fn write_all_of<W: Write>(writer: &mut W, bytes: &[u8]) -> Result<(), WriteF
         }
     }
     Ok(())
+}
+
+/// Writes all the bytes, as `write_all_to` writes them.
+pub fn write_all_of<W: Write>(writer: &mut W, bytes: &[u8]) -> Result<(), WriteFault>
+    ensures { WritesAll (W.contents writer.old) (W.contents writer.new) bytes.now result }
+{
+    let mut sink = Sink::new(writer);
+    write_all_to(&mut sink, bytes)
 }

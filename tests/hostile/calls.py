@@ -116,18 +116,17 @@ def failing_faults(machine, worked):
 
 
 def failing_traces(machine, worked):
-    """Where the file of traces cannot be written, that is told, and the output stays empty."""
+    """A write of the file of traces that fails is told, there is none behind it, and the output stays empty."""
     slow = ("file", 1, LAST, ONE_BYTE)
     whole = lambda: worked.differences(machine.run_refusing(worked.words, slow)[0])
     yield f"{worked.name}: its traces by one byte", whole
-    again = lambda: worked.differences(machine.run_refusing(worked.words, ("file", 1, 1, errno.EINTR))[0])
-    yield f"{worked.name}: an interrupted write of its traces is made again", again
     for written in range(len(machine.run_refusing(worked.words)[0].trace or b"")):
-        for how in (errno.EIO, NOTHING):
+        for how in (errno.EINTR, NOTHING):
 
             def faults(written=written, how=how):
-                ran, _ = machine.run_refusing(worked.words, ("file", written + 1, written + 1, how), slow)
-                return worked.faulted(ran, "93 Write")
+                ran, tally = machine.run_refusing(worked.words, ("file", written + 1, written + 1, how), slow)
+                found = worked.faulted(ran, "93 Write")
+                return found + ([] if tally["file"][0] == written + 1 else ["it wrote once more"])
 
             yield f"{worked.name}: its traces {'fail' if how else 'go nowhere'} after {written} bytes", faults
 

@@ -231,17 +231,19 @@ fn tells_a_write_that_failed(rt: HostRuntime) {
     assert!(rt; told == Err(TraceFault::Write));
 }
 
-/// The long run goes out byte by byte, and a failure is told where it comes.
+/// The long run goes out byte by byte, and a failure is told where it comes, an interruption among them.
 fn trickles(
     rt: &(impl AllocGlobal + Abort),
     traces: &[Vec<TraceRow>],
     room: usize,
     answer: Result<(), TraceFault>,
 ) {
-    let mut writer = Faulty::new(rt, room, true, true);
-    let told = write_long_run(rt, traces, &mut writer);
-    assert!(rt; told == answer, "room for {room} bytes");
-    assert!(rt; writer.taken.len() == room, "room for {room} bytes");
+    for stays in [true, false] {
+        let mut writer = Faulty::new(rt, room, true, stays);
+        let told = write_long_run(rt, traces, &mut writer);
+        assert!(rt; told == answer, "room for {room} bytes");
+        assert!(rt; writer.taken.len() == room, "room for {room} bytes");
+    }
 }
 
 #[test]

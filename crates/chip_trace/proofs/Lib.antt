@@ -9,4 +9,4 @@ pub mod ReplayLemmas
 pub mod VerdictLemmas
 pub mod StuckLemmas
 pub mod TextLemmas
-pub mod OutLemmas
+mod Worked

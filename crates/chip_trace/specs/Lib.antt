@@ -1,6 +1,5 @@
 pub mod Interleaving
 pub mod Progress
-pub mod Worked
 pub mod Runner
 pub mod Agenda
 pub mod Kept

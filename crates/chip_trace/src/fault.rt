@@ -7,12 +7,10 @@ pub enum ReplayFault {
     /// At greatest progress the next row of this vertex is wrong, or it waits where none is wrong.
     #[error("vertex {vertex} is stuck at its row {row}")]
     Stuck {
-        /// The vertex.
         vertex: u64,
         /// The place of the row in its trace, from 0.
         row: u64,
     },
-    /// Memory ran out.
     #[error("out of memory")]
     NoMemory,
 }
@@ -45,7 +43,6 @@ pub enum TraceFault {
     /// A write failed; the first bytes of the text may have gone out before, and not all of them.
     #[error("a write failed")]
     Write,
-    /// Memory ran out.
     #[error("out of memory")]
     NoMemory,
 }

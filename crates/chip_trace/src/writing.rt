@@ -1,16 +1,42 @@
 //! Recorded runs as text.
 
-ghost use Rattle.std.specs.Prelude.{◌≡◌, ◌++◌, map, IfOk, string_bytes};
+ghost use Rattle.std.specs.Prelude.{◌≡◌, ◌≤◌, ◌↔◌, ◌++◌, false, length, map, Err, IfOk, string_bytes};
+ghost use Rattle.chip_report.specs.Sink.{IsFresh, bytes_out, goes_on, last_write, writes};
 ghost use Rattle.chip_trace.specs.TraceText.{row_text, rows_text, trace_text, WritesText};
+ghost use Rattle.chip_trace.specs.declared.fault.TraceFault.TheVariants as fault;
 
 use crate::fault::TraceFault;
 use chip_link::TraceRow;
+use chip_report::{Sink, write_all_to};
 use std::alloc::{AllocError, Global};
-use std::io::{ErrorKind, Write};
+use std::io::Write;
 
-/// Writes recorded runs as rows of text, the vertices ascending.
+/// Writes recorded runs as rows of text, the vertices ascending, and in the sink how many writes that took.
 ///
-/// `traces` has the rows of each vertex. The text is made whole before anything of it is written.
+/// `traces` has the rows of each vertex. The text is made whole before anything of it is written, and then goes out as
+/// `write_all_to` writes it.
+pub fn write_trace_to<W: Write>(
+    alloc: Global,
+    traces: &[&[TraceRow]],
+    sink: &mut Sink<'_, W>,
+) -> Result<(), TraceFault>
+    requires { IsFresh sink.old }
+    ensures text { WritesText (bytes_out W.contents sink.old) (bytes_out W.contents sink.new)
+        (trace_text (map (λ t. t.now) traces.now)) result }
+
+    // At any writer.
+    ensures lent { sink.new.writer.ghost_name ≡ sink.old.writer.ghost_name }
+    ensures few_writes { writes sink.new ≤ length (trace_text (map (λ t. t.now) traces.now)) }
+    ensures told { (goes_on (last_write sink.new) ≡ false) ↔ (result ≡ Err fault.Write) }
+{
+    let text = text_of(alloc, traces)?;
+    match write_all_to(sink, text.as_bytes()) {
+        Ok(()) => Ok(()),
+        Err(_) => Err(TraceFault::Write),
+    }
+}
+
+/// Writes recorded runs, as `write_trace_to` writes them.
 pub fn write_trace<W: Write>(
     alloc: Global,
     traces: &[&[TraceRow]],
@@ -19,30 +45,8 @@ pub fn write_trace<W: Write>(
     ensures { WritesText (W.contents writer.old) (W.contents writer.new)
         (trace_text (map (λ t. t.now) traces.now)) result }
 {
-    let text = text_of(alloc, traces)?;
-    write_bytes(writer, text.as_bytes())
-}
-
-/// Writes bytes, by as many writes as the writer needs; one that was interrupted is made again.
-fn write_bytes<W: Write>(writer: &mut W, bytes: &[u8]) -> Result<(), TraceFault>
-    ensures { WritesText (W.contents writer.old) (W.contents writer.new) bytes.now result }
-{
-    let mut rest = bytes;
-    for _ in 0..u64::MAX {
-        if rest.is_empty() {
-            return Ok(());
-        }
-        match writer.write(rest) {
-            Ok(count) if count > 0 => rest = &rest[count..],
-            Err(error) if error.kind() == ErrorKind::Interrupted => {}
-            Ok(_) | Err(_) => return Err(TraceFault::Write),
-        }
-    }
-    if rest.is_empty() {
-        Ok(())
-    } else {
-        Err(TraceFault::Write)
-    }
+    let mut sink = Sink::new(writer);
+    write_trace_to(alloc, traces, &mut sink)
 }
 
 /// The text of recorded runs.

@@ -1,21 +1,26 @@
--- Serves ReportText.antt, Reportable.antt, OutcomeParts.antt, ReportLists.antt.
--- What a report tells, and which bytes are none.
+-- Serves ReportText.antt, Reportable.antt, OutcomeParts.antt, ReportLists.antt, ReportTwo.antt, Versions.antt.
+-- What the reports of both versions tell, and which bytes are none.
 use Rattle.std.proofs.Common.{◌≡◌, ◌≢◌, ℕ, ◌^◌, ◌<◌, ◌≤◌, Bool, true, false, List, [], ◌∷◌, ◌++◌, length, get_or, codes}
-use Rattle.std.proofs.Common.{Result, Ok, Err, inl, inr, refl, sym, ap, ◌∙◌, subst, arith, append_assoc}
+use Rattle.std.proofs.Common.{Result, Ok, Err, inl, inr, refl, sym, ap, ◌∙◌, subst, arith, append_assoc, replicate}
 use Rattle.std.specs.Prelude.{◌⊎◌, ◌&&◌, All, IsUtf8}
 use Rattle.std.specs.Result.{IsErrAnd}
 use Rattle.std.specs.List.{AllByRecursion}
+use Rattle.std.proofs.lemmas.Bool.{false≢true}
 use Rattle.std.proofs.lemmas.Str.{IsUtf8-from_ascii}
-use Rattle.std.proofs.lemmas.List.Elements.{All-weaker}
+use Rattle.std.proofs.lemmas.List.{length-replicate}
+use Rattle.std.proofs.lemmas.List.Elements.{All-weaker, All-replicate}
 use Rattle.chip_sequence.specs.declared.outcome.Outcome.{Outcome}
+use Rattle.chip_sequence.specs.declared.resumed.Resumed.{Resumed}
 use Rattle.chip_sequence.specs.Outcomes.{IsOutcome}
+use Rattle.chip_sequence.specs.Sittings.{IsResumed, max_prior}
 use Rattle.chip_graph.specs.Limits.{SizeLimits, max_limit, max_total, max_vertices}
 use Rattle.chip_report.specs.OutcomeParts.{AreCounts, AreHalted}
-use Rattle.chip_report.specs.ReportText.{bool_text, array_text, is_empty, is_closed, report_text, start_text}
+use Rattle.chip_report.specs.ReportText.{bool_text, array_text, is_empty, is_closed, report_text}
 use Rattle.chip_report.specs.Laws.{RoundTrip}
-use Rattle.chip_report.specs.Reportable.{Content, content, IsReportOf, IsNoReport, IsNoReportWithin}
-use Rattle.chip_report.specs.Reportable.{GrowsForALine, Gives}
-use Rattle.chip_report.specs.ReportLists.{content_by_text, list_at, text_behind_lists, AreListed, HasNoList}
+use Rattle.chip_report.specs.Reportable.{Content, content, IsReportOf, GrowsForALine, Gives}
+use Rattle.chip_report.specs.ReportLists.{list_at, text_behind_lists, AreListed, HasNoList}
+use Rattle.chip_report.specs.ReportTwo.{IsReportTwoOf, SittingContent, sitting_content}
+use Rattle.chip_report.specs.Versions.{IsReportIn, IsNoReportIn, IsToldBy, content_by_text, text_in}
 use Rattle.chip_report.specs.declared.fault.ReportFault.{ReportFault}
 use Rattle.chip_report.specs.declared.fault.ReportFault.TheVariants as fault
 use Rattle.chip_report.proofs.BracketLemmas.{Part, IsPart, AreShort, text_of, is_plain, list_at-text_of, not_HasNoList}
@@ -25,114 +30,80 @@ use Rattle.chip_report.proofs.ListLemmas.{few_below}
 -- ---- a report in parts
 
 -- whether no vertex halted
-abbrev pub closed_of : Content → Bool
+abbrev closed_of : Content → Bool
 closed_of t = is_empty t.over && is_empty t.sealed
 
-abbrev pub closed_front : Bool → List ℕ
+abbrev closed_front : Bool → List ℕ
 closed_front closed = codes ",\"closed\":" ++ bool_text closed ++ codes ",\"fired\":"
 
-abbrev report_parts : Content → List Part
-report_parts t =
-    (codes "{\"chips\":", t.chips) ∷ (closed_front (closed_of t), t.fired) ∷ (codes ",\"over\":", t.over)
-    ∷ (codes ",\"sealed\":", t.sealed) ∷ []
+-- the lists behind the vertices that are over
+abbrev last_parts : Bool → SittingContent → List Part
+last_parts true t = (codes ",\"prior\":", t.prior) ∷ (codes ",\"sealed\":", t.last.sealed) ∷ []
+last_parts false t = (codes ",\"sealed\":", t.last.sealed) ∷ []
 
--- the report of an outcome with these numbers
-abbrev text_by_content : Content → List ℕ
-text_by_content t = text_of (report_parts t) (codes ",\"version\":1}\n")
+abbrev parts : Bool → SittingContent → List Part
+parts went_on t =
+    (codes "{\"chips\":", t.last.chips) ∷ (closed_front (closed_of t.last), t.last.fired)
+    ∷ (codes ",\"over\":", t.last.over) ∷ last_parts went_on t
+
+-- what a report ends in
+abbrev pub version : Bool → List ℕ
+version true = codes ",\"version\":2}\n"
+version false = codes ",\"version\":1}\n"
+
+-- the report of a sitting with these numbers
+abbrev text_by_content : Bool → SittingContent → List ℕ
+text_by_content went_on t = text_of (parts went_on t) (version went_on)
 
 regroup : (a b c d e f g h i j k : List ℕ)
     → a ++ b ++ c ++ d ++ e ++ f ++ g ++ h ++ i ++ j ++ k
     ≡ a ++ (b ++ ((c ++ d ++ e) ++ (f ++ (g ++ (h ++ (i ++ (j ++ k)))))))
 regroup a b c d e f g h i j k = simp append_assoc
 
-in_parts : (o : Outcome) → report_text o ≡ text_by_content (content o)
-in_parts o =
+regroup_two : (a b c d e f g h i j k l m : List ℕ)
+    → a ++ b ++ c ++ d ++ e ++ f ++ g ++ h ++ i ++ j ++ k ++ l ++ m
+    ≡ a ++ (b ++ ((c ++ d ++ e) ++ (f ++ (g ++ (h ++ (i ++ (j ++ (k ++ (l ++ m)))))))))
+regroup_two a b c d e f g h i j k l m = simp append_assoc
+
+-- the numbers of a first sitting, whose report tells nothing of those before
+abbrev pub first_content : Outcome → SittingContent
+first_content o = record { last = content o; prior = replicate (length o.fired.items) 0 }
+
+in_parts_one : (o : Outcome) → report_text o ≡ text_by_content false (first_content o)
+in_parts_one o =
     regroup (codes "{\"chips\":") (array_text o.chips.items) (codes ",\"closed\":") (bool_text (is_closed o))
     (codes ",\"fired\":") (array_text o.fired.items)
     (codes ",\"over\":") (array_text o.over.items) (codes ",\"sealed\":") (array_text o.sealed.items)
     (codes ",\"version\":1}\n")
 
-pub plain_closed : (closed : Bool) → is_plain (closed_front closed) ≡ true
-plain_closed true = refl
-plain_closed false = refl
+in_parts : (went_on : Bool) (r : Resumed) → text_in went_on r ≡ text_by_content went_on (sitting_content r)
+in_parts true r =
+    regroup_two (codes "{\"chips\":") (array_text r.outcome.chips.items) (codes ",\"closed\":")
+    (bool_text (is_closed r.outcome)) (codes ",\"fired\":") (array_text r.outcome.fired.items)
+    (codes ",\"over\":") (array_text r.outcome.over.items) (codes ",\"prior\":") (array_text r.prior.items)
+    (codes ",\"sealed\":") (array_text r.outcome.sealed.items) (codes ",\"version\":2}\n")
+in_parts false r = in_parts_one r.outcome
 
--- numbers that a report lists, at most so many of each kind
-pub record AreListedAll (most : ℕ) (t : Content) : Type 0 where
-  pub fired : AreListed most t.fired
-  pub chips : AreListed most t.chips
-  pub over : AreListed most t.over
-  pub sealed : AreListed most t.sealed
-
-pub short_within : (most : ℕ) (ns : List ℕ) → most < 2 ^ 64 → All (λ n. n ≤ most) ns → AreShort ns
-short_within most ns fits within = All-weaker (λ n. n ≤ most) (λ n. n < 2 ^ 64) (λ n low. omega arith) ns within
-
-short_below : (most : ℕ) (ns : List ℕ) → most < 2 ^ 64 → All (λ n. n < most) ns → AreShort ns
-short_below most ns fits within = All-weaker (λ n. n < most) (λ n. n < 2 ^ 64) (λ n low. omega arith) ns within
-
-pub listed_of_outcome : (most : ℕ) (o : Outcome) → IsOutcome o → length o.fired.items ≤ most
-    → AreListedAll most (content o)
-listed_of_outcome most o h few =
-    let below = h.few_vertices in
-    let over = few_below o.over.items (length o.fired.items) h.over_ascends h.over_vertices in
-    let sealed = few_below o.sealed.items (length o.fired.items) h.sealed_ascends h.sealed_vertices in
-    record {
-      fired = (few, short_within max_limit o.fired.items (omega arith) h.few_firings);
-      chips = (omega (arith, h.same_length), short_within max_total o.chips.items (omega arith) h.few_chips);
-      over = (omega arith, short_below (length o.fired.items) o.over.items (omega arith) h.over_vertices);
-      sealed = (omega arith, short_below (length o.fired.items) o.sealed.items (omega arith) h.sealed_vertices);
-    }
-
-are_parts : (most : ℕ) (o : Outcome) → IsOutcome o → length o.fired.items ≤ most
-    → AllByRecursion (IsPart most) (report_parts (content o))
-are_parts most o h few =
-    let listed = listed_of_outcome most o h few in (
-      record { plain = refl; listed = listed.chips },
-      (
-        record { plain = plain_closed (is_closed o); listed = listed.fired },
-        (record { plain = refl; listed = listed.over }, (record { plain = refl; listed = listed.sealed }, tt)),
-      ),
-    )
-
--- ---- what a report tells
-
-utf8_report : (o : Outcome) → IsOutcome o → IsUtf8 (report_text o)
-utf8_report o h =
-    let end : List ℕ = codes ",\"version\":1}\n" in
-    subst IsUtf8 (sym (in_parts o))
-    (IsUtf8-from_ascii (text_by_content (content o))
-    (ascii_text_of max_vertices (report_parts (content o)) end (are_parts max_vertices o h h.few_vertices)
-    (ascii_plain end refl)))
-
-list-report : (o : Outcome) → IsOutcome o → (k : ℕ) → k < 4
-    → list_at k (text_by_content (content o)) ≡ (get_or (report_parts (content o)) k ([], [])).1
-list-report o h =
-    list_at-text_of max_vertices (report_parts (content o)) (codes ",\"version\":1}\n")
-    (are_parts max_vertices o h h.few_vertices)
-
-content-report : (o : Outcome) → IsOutcome o → content_by_text (report_text o) ≡ content o
-content-report o h =
-    let chips : list_at 0 (text_by_content (content o)) ≡ o.chips.items = list-report o h 0 (omega arith) in
-    let fired : list_at 1 (text_by_content (content o)) ≡ o.fired.items = list-report o h 1 (omega arith) in
-    let over : list_at 2 (text_by_content (content o)) ≡ o.over.items = list-report o h 2 (omega arith) in
-    let sealed : list_at 3 (text_by_content (content o)) ≡ o.sealed.items = list-report o h 3 (omega arith) in
-    ap content_by_text (in_parts o) ∙ cc
-
--- ---- an outcome's numbers are all that its report depends on
+-- ---- numbers in range
 
 -- the numbers are those of an outcome that a game can have
-abbrev pub AreOfOutcome : Content → Type 0
+abbrev AreOfOutcome : Content → Type 0
 AreOfOutcome t =
     AreCounts t.fired (length t.fired) max_limit × AreCounts t.chips (length t.fired) max_total
     × AreHalted t.over t.sealed (length t.fired)
 
-pub outcome_then : (o : Outcome) → IsOutcome o → AreOfOutcome (content o)
+-- the numbers are those of a sitting
+abbrev AreOfSitting : SittingContent → Type 0
+AreOfSitting t = AreOfOutcome t.last × (length t.prior ≡ length t.last.fired) × All (λ n. n ≤ max_prior) t.prior
+
+outcome_then : (o : Outcome) → IsOutcome o → AreOfOutcome (content o)
 outcome_then o h = (
   (refl, h.some_vertex, h.few_vertices, h.few_firings),
   (h.same_length, h.some_vertex, h.few_vertices, h.few_chips),
   ((h.over_ascends, h.over_vertices), (h.sealed_ascends, h.sealed_vertices), h.apart),
 )
 
-pub outcome_if : (o : Outcome) → AreOfOutcome (content o) → IsOutcome o
+outcome_if : (o : Outcome) → AreOfOutcome (content o) → IsOutcome o
 outcome_if o h = record {
   same_length = h.1.0;
   some_vertex = h.0.1;
@@ -159,35 +130,207 @@ pub halted_of_outcome : (o : Outcome) (vertices : ℕ) → length o.fired.items 
     → AreHalted o.over.items o.sealed.items vertices
 halted_of_outcome o vertices e h = subst (AreHalted o.over.items o.sealed.items) e (outcome_then o h).2
 
-IsReportOf-content : (bytes : List ℕ) (o p : Outcome) → content o ≡ content p → IsReportOf bytes o → IsReportOf bytes p
-IsReportOf-content bytes o p e r = record {
-  reportable = outcome_if p (subst AreOfOutcome e (outcome_then o r.reportable));
-  spelled = r.spelled ∙ in_parts o ∙ ap text_by_content e ∙ sym (in_parts p);
+sitting_then : (r : Resumed) → IsResumed r → AreOfSitting (sitting_content r)
+sitting_then r h = (outcome_then r.outcome h.outcome_fits, h.prior_each, h.few_before)
+
+sitting_if : (r : Resumed) → AreOfSitting (sitting_content r) → IsResumed r
+sitting_if r h = record { outcome_fits = outcome_if r.outcome h.0; prior_each = h.1; few_before = h.2 }
+
+-- ---- the lists that such numbers make
+
+-- numbers that a report lists, at most so many of each kind
+pub record AreListedAll (most : ℕ) (t : SittingContent) : Type 0 where
+  pub fired : AreListed most t.last.fired
+  pub chips : AreListed most t.last.chips
+  pub over : AreListed most t.last.over
+  pub prior : AreListed most t.prior
+  pub sealed : AreListed most t.last.sealed
+
+short_within : (most : ℕ) (ns : List ℕ) → most < 2 ^ 64 → All (λ n. n ≤ most) ns → AreShort ns
+short_within most ns fits within = All-weaker (λ n. n ≤ most) (λ n. n < 2 ^ 64) (λ n low. omega arith) ns within
+
+short_below : (most : ℕ) (ns : List ℕ) → most < 2 ^ 64 → All (λ n. n < most) ns → AreShort ns
+short_below most ns fits within = All-weaker (λ n. n < most) (λ n. n < 2 ^ 64) (λ n low. omega arith) ns within
+
+listed : (most : ℕ) (t : SittingContent) → AreOfSitting t → length t.last.fired ≤ most → AreListedAll most t
+listed most t h few =
+    let below : length t.last.fired ≤ max_vertices = h.0.0.2 in
+    let over = few_below t.last.over (length t.last.fired) h.0.2.0.0 h.0.2.0.1 in
+    let sealed = few_below t.last.sealed (length t.last.fired) h.0.2.1.0 h.0.2.1.1 in
+    record {
+      fired = (few, short_within max_limit t.last.fired (omega arith) h.0.0.3);
+      chips = (omega (arith, h.0.1.0), short_within max_total t.last.chips (omega arith) h.0.1.3);
+      over = (omega arith, short_below (length t.last.fired) t.last.over (omega arith) h.0.2.0.1);
+      prior = (omega (arith, h.1), short_within max_prior t.prior (omega arith) h.2);
+      sealed = (omega arith, short_below (length t.last.fired) t.last.sealed (omega arith) h.0.2.1.1);
+    }
+
+plain_closed : (closed : Bool) → is_plain (closed_front closed) ≡ true
+plain_closed true = refl
+plain_closed false = refl
+
+plain_version : (went_on : Bool) → is_plain (version went_on) ≡ true
+plain_version true = refl
+plain_version false = refl
+
+last_are_parts : (went_on : Bool) (most : ℕ) (t : SittingContent) → AreListedAll most t
+    → AllByRecursion (IsPart most) (last_parts went_on t)
+last_are_parts true most t h =
+    (record { plain = refl; listed = h.prior }, (record { plain = refl; listed = h.sealed }, tt))
+last_are_parts false most t h = (record { plain = refl; listed = h.sealed }, tt)
+
+are_parts : (went_on : Bool) (most : ℕ) (t : SittingContent) → AreOfSitting t → length t.last.fired ≤ most
+    → AllByRecursion (IsPart most) (parts went_on t)
+are_parts went_on most t h few =
+    let are = listed most t h few in (
+      record { plain = refl; listed = are.chips },
+      (
+        record { plain = plain_closed (closed_of t.last); listed = are.fired },
+        (record { plain = refl; listed = are.over }, last_are_parts went_on most t are),
+      ),
+    )
+
+-- ---- what a report tells
+
+-- the bytes are the report of these numbers
+pub record IsReportBy (went_on : Bool) (bytes : List ℕ) (t : SittingContent) : Type 0 where
+  pub in_range : AreOfSitting t
+  pub spelled : bytes ≡ text_by_content went_on t
+  pub first : went_on ≡ false → t.prior ≡ replicate (length t.last.fired) 0
+
+pub by_outcome : (bytes : List ℕ) (o : Outcome) → IsReportOf bytes o → IsReportBy false bytes (first_content o)
+by_outcome bytes o is = record {
+  in_range = (outcome_then o is.reportable, length-replicate (length o.fired.items) 0, All-replicate (λ n. n ≤ max_prior) (length o.fired.items) 0 (omega arith));
+  spelled = is.spelled ∙ in_parts_one o;
+  first = λ _. refl;
 }
+
+pub by_sitting : (bytes : List ℕ) (r : Resumed) → IsReportTwoOf bytes r → IsReportBy true bytes (sitting_content r)
+by_sitting bytes r is = record {
+  in_range = sitting_then r is.reportable;
+  spelled = is.spelled ∙ in_parts true r;
+  first = λ e. absurd (false≢true (sym e));
+}
+
+list_in : (went_on : Bool) (bytes : List ℕ) (t : SittingContent) → IsReportBy went_on bytes t → (k : ℕ)
+    → k < length (parts went_on t) → list_at k bytes ≡ (get_or (parts went_on t) k ([], [])).1
+list_in went_on bytes t is k l =
+    ap (list_at k) is.spelled
+    ∙ list_at-text_of max_vertices (parts went_on t) (version went_on)
+    (are_parts went_on max_vertices t is.in_range is.in_range.0.0.2) k l
+
+-- a sitting by its lists
+made_of : (t : SittingContent) (fired chips over sealed prior : List ℕ) → fired ≡ t.last.fired → chips ≡ t.last.chips
+    → over ≡ t.last.over → sealed ≡ t.last.sealed → prior ≡ t.prior → record {
+      last = record { fired = fired; chips = chips; over = over; sealed = sealed };
+      prior = prior;
+    } ≡ t
+made_of t fired chips over sealed prior f c o s p = rw (f, c, o, s, p) refl
+
+tells : (went_on : Bool) (bytes : List ℕ) (t : SittingContent) → IsReportBy went_on bytes t
+    → content_by_text went_on bytes ≡ t
+tells true bytes t is =
+    made_of t (list_at 1 bytes) (list_at 0 bytes) (list_at 2 bytes) (list_at 4 bytes) (list_at 3 bytes)
+    (list_in true bytes t is 1 (omega arith)) (list_in true bytes t is 0 (omega arith))
+    (list_in true bytes t is 2 (omega arith)) (list_in true bytes t is 4 (omega arith))
+    (list_in true bytes t is 3 (omega arith))
+tells false bytes t is =
+    let fired : list_at 1 bytes ≡ t.last.fired = list_in false bytes t is 1 (omega arith) in
+    made_of t (list_at 1 bytes) (list_at 0 bytes) (list_at 2 bytes) (list_at 3 bytes)
+    (replicate (length (list_at 1 bytes)) 0) fired (list_in false bytes t is 0 (omega arith))
+    (list_in false bytes t is 2 (omega arith)) (list_in false bytes t is 3 (omega arith))
+    (ap (λ (ns : List ℕ). replicate (length ns) 0) fired ∙ sym (is.first refl))
+
+pub that_sitting : (went_on : Bool) (limits : SizeLimits) (bytes : List ℕ) (r : Resumed)
+    → IsToldBy went_on limits bytes r → IsResumed r → bytes ≡ text_in went_on r → IsReportIn went_on limits bytes r
+that_sitting true limits bytes r told h e = (record { reportable = h; spelled = e }, told.1)
+that_sitting false limits bytes r told h e = (
+  (record { reportable = h.outcome_fits; spelled = e }, told.1),
+  ap (λ (t : SittingContent). t.prior) told.0
+      ∙ ap (λ (t : SittingContent). replicate (length t.last.fired) 0) (sym told.0),
+)
 
 -- ---- bytes that are no report
 
--- the report of no outcome at all is that of none within limits
-pub none_within : (limits : SizeLimits) (bytes : List ℕ) → IsNoReport bytes → IsNoReportWithin limits bytes
-none_within limits bytes none o r = none o r.0
+none_in : (went_on : Bool) (limits : SizeLimits) (bytes : List ℕ)
+    → ((t : SittingContent) → IsReportBy went_on bytes t → length t.last.fired ≤ limits.vertices → ⊥)
+    → IsNoReportIn went_on limits bytes
+none_in true limits bytes none = λ r is. none (sitting_content r) (by_sitting bytes r is.0) is.1
+none_in false limits bytes none = λ o is. none (first_content o) (by_outcome bytes o is.0) is.1
 
-newline_last : (o : Outcome) → (front : List ℕ) × (report_text o ≡ front ++ 10 ∷ [])
-newline_last o =
-    let front : List ℕ = start_text o ++ codes ",\"sealed\":" ++ array_text o.sealed.items in
-    (front ++ codes ",\"version\":1}", sym (append_assoc front (codes ",\"version\":1}") (10 ∷ [])))
+text_ends : (ps : List Part) (end : List ℕ) → (front : List ℕ) × (text_of ps end ≡ front ++ end)
+text_ends [] end = ([], refl)
+text_ends (part ∷ ps) end =
+    let rest = text_ends ps end in
+    let array : List ℕ = array_text part.1 in (
+      part.0 ++ (array ++ rest.0),
+      ap (λ (t : List ℕ). part.0 ++ (array ++ t)) rest.1
+          ∙ ap (λ (t : List ℕ). part.0 ++ t) (sym (append_assoc array rest.0 end))
+          ∙ sym (append_assoc part.0 (array ++ rest.0) end),
+    )
 
-pub none_without_newline : (bytes : List ℕ) → ((front : List ℕ) → bytes ≢ front ++ 10 ∷ []) → IsNoReport bytes
-none_without_newline bytes none o r = let last = newline_last o in none last.0 (r.spelled ∙ last.1)
+pub report_ends : (went_on : Bool) (bytes : List ℕ) (t : SittingContent) → IsReportBy went_on bytes t
+    → (front : List ℕ) × (bytes ≡ front ++ version went_on)
+report_ends went_on bytes t is =
+    let end = text_ends (parts went_on t) (version went_on) in (end.0, is.spelled ∙ end.1)
 
-pub none_without_utf8 : (text : List ℕ) → (IsUtf8 text → ⊥) → IsNoReport text
-none_without_utf8 text none o r = none (subst IsUtf8 (sym r.spelled) (utf8_report o r.reportable))
+version_ends : (went_on : Bool) → (front : List ℕ) × (version went_on ≡ front ++ 10 ∷ [])
+version_ends true = (codes ",\"version\":2}", refl)
+version_ends false = (codes ",\"version\":1}", refl)
 
-pub none_without_list : (limits : SizeLimits) (k : ℕ) → k < 4 → (text : List ℕ) (most : ℕ) → most ≡ limits.vertices
-    → HasNoList most (text_behind_lists k text) → IsNoReportWithin limits text
-none_without_list limits k l text most is none o r =
-    not_HasNoList most (report_parts (content o)) (codes ",\"version\":1}\n")
-    (are_parts most o r.0.reportable (subst (λ n. length o.fired.items ≤ n) (sym is) r.1)) k l
-    (subst (λ (t : List ℕ). HasNoList most (text_behind_lists k t)) (r.0.spelled ∙ in_parts o) none)
+pub none_without_newline : (went_on : Bool) (limits : SizeLimits) (bytes : List ℕ)
+    → ((front : List ℕ) → bytes ≢ front ++ 10 ∷ []) → IsNoReportIn went_on limits bytes
+none_without_newline went_on limits bytes none = none_in went_on limits bytes (λ t is fits.
+    let end = report_ends went_on bytes t is in
+    let last = version_ends went_on in
+    none (end.0 ++ last.0) (end.1 ∙ ap (λ (v : List ℕ). end.0 ++ v) last.1 ∙ sym (append_assoc end.0 last.0 (10 ∷ []))))
+
+pub none_without_utf8 : (went_on : Bool) (limits : SizeLimits) (bytes : List ℕ) → (IsUtf8 bytes → ⊥)
+    → IsNoReportIn went_on limits bytes
+none_without_utf8 went_on limits bytes none = none_in went_on limits bytes (λ t is fits.
+    none (subst IsUtf8 (sym is.spelled)
+    (IsUtf8-from_ascii (text_by_content went_on t)
+    (ascii_text_of max_vertices (parts went_on t) (version went_on)
+    (are_parts went_on max_vertices t is.in_range is.in_range.0.0.2)
+    (ascii_plain (version went_on) (plain_version went_on))))))
+
+-- how many lists a report has
+abbrev lists_in : Bool → ℕ
+lists_in true = 5
+lists_in false = 4
+
+as_many : (went_on : Bool) (t : SittingContent) → length (parts went_on t) ≡ lists_in went_on
+as_many true t = refl
+as_many false t = refl
+
+none_without_list : (went_on : Bool) (limits : SizeLimits) (bytes : List ℕ) (k : ℕ) → k < lists_in went_on
+    → HasNoList limits.vertices (text_behind_lists k bytes) → IsNoReportIn went_on limits bytes
+none_without_list went_on limits bytes k l none = none_in went_on limits bytes (λ t is fits.
+    not_HasNoList limits.vertices (parts went_on t) (version went_on)
+    (are_parts went_on limits.vertices t is.in_range fits) k (subst (λ (n : ℕ). k < n) (sym (as_many went_on t)) l)
+    (subst (λ (text : List ℕ). HasNoList limits.vertices (text_behind_lists k text)) is.spelled none))
+
+-- a report of either version has four lists
+pub none_without_four : (went_on : Bool) (limits : SizeLimits) (bytes : List ℕ) (k : ℕ) → k < 4
+    → HasNoList limits.vertices (text_behind_lists k bytes) → IsNoReportIn went_on limits bytes
+none_without_four true limits bytes k l none = none_without_list true limits bytes k (omega arith) none
+none_without_four false limits bytes k l none = none_without_list false limits bytes k l none
+
+-- and that of a sitting that went on has a fifth
+pub none_without_fifth : (went_on : Bool) (limits : SizeLimits) (bytes : List ℕ) → went_on ≡ true
+    → HasNoList limits.vertices (text_behind_lists 4 bytes) → IsNoReportIn went_on limits bytes
+none_without_fifth true limits bytes is none = none_without_list true limits bytes 4 (omega arith) none
+none_without_fifth false limits bytes is none = absurd (false≢true is)
+
+pub not_that_sitting : (went_on : Bool) (limits : SizeLimits) (bytes : List ℕ) (found : Resumed)
+    → sitting_content found ≡ content_by_text went_on bytes → (IsResumed found → bytes ≡ text_in went_on found → ⊥)
+    → IsNoReportIn went_on limits bytes
+not_that_sitting went_on limits bytes found e none = none_in went_on limits bytes (λ t is fits.
+    let same : t ≡ sitting_content found = sym (tells went_on bytes t is) ∙ sym e in
+    none (sitting_if found (subst AreOfSitting same is.in_range))
+    (is.spelled ∙ ap (text_by_content went_on) same ∙ sym (in_parts went_on found)))
+
+-- ---- answers that are passed on
 
 -- what a call refuses is refused for the same reason
 pub passed_on : {T P Q : Type 0} (IsRight : T → Type 0) (result : Result T ReportFault) (f : ReportFault)
@@ -197,27 +340,40 @@ passed_on IsRight (Ok x) f is why then = absurd is
 passed_on IsRight (Err g) f is (inl memory) then = inl (is ∙ memory)
 passed_on IsRight (Err g) f is (inr none) then = inr (is ∙ none.0, then none.1)
 
+-- a text has no such list as is taken of it
+pub no_list_in : {T : Type 0} (IsRight : T → Type 0) (limits : SizeLimits) (most : ℕ) → most ≡ limits.vertices
+    → (rest behind : List ℕ) → rest ≡ behind → (P : Type 0) → (HasNoList limits.vertices behind → P)
+    → (result : Result T ReportFault) (f : ReportFault) → IsErrAnd result (λ e. e ≡ f)
+    → (f ≡ fault.NoMemory) ⊎ ((f ≡ fault.NotReport) × HasNoList most rest) → Gives IsRight P result
+no_list_in IsRight limits most same rest behind at P then result f is why =
+    passed_on IsRight result f is why (λ none. then (subst (λ (m : ℕ). HasNoList m behind) same
+    (subst (HasNoList most) at none)))
+
 -- bytes that end in a newline
 pub of_a_line : {T : Type 0} (bytes json : List ℕ) → bytes ≡ json ++ 10 ∷ [] → (result : Result T ReportFault)
     → GrowsForALine bytes result
 of_a_line bytes json e (Ok o) = tt
 of_a_line bytes json e (Err f) = λ memory. (json, e)
 
-pub of_a_report : {T : Type 0} (bytes : List ℕ) (o : Outcome) → bytes ≡ report_text o → (result : Result T ReportFault)
+pub grows_on : {T : Type 0} (bytes : List ℕ) (result : Result T ReportFault) (f : ReportFault)
+    → IsErrAnd result (λ e. e ≡ f) → (f ≡ fault.NoMemory → (json : List ℕ) × (bytes ≡ json ++ 10 ∷ []))
     → GrowsForALine bytes result
-of_a_report bytes o e result = let last = newline_last o in of_a_line bytes last.0 (e ∙ last.1) result
-
-pub not_that_outcome : (bytes : List ℕ) (found : Outcome) → content found ≡ content_by_text bytes
-    → (IsReportOf bytes found → ⊥) → IsNoReport bytes
-not_that_outcome bytes found e none o r =
-    let same : content o ≡ content found =
-    sym (content-report o r.reportable) ∙ ap content_by_text (sym r.spelled) ∙ sym e in
-    none (IsReportOf-content bytes o found same r)
+grows_on bytes (Ok x) f is grows = tt
+grows_on bytes (Err g) f is grows = λ memory. grows (sym is ∙ memory)
 
 -- ---- the laws
 
+-- reports of the same bytes in one version have the same numbers
+pub one_content : (went_on : Bool) (bytes : List ℕ) (t u : SittingContent) → IsReportBy went_on bytes t
+    → IsReportBy went_on bytes u → t ≡ u
+one_content went_on bytes t u is also = sym (tells went_on bytes t is) ∙ tells went_on bytes u also
+
 pub one_outcome : (o p : Outcome) → IsOutcome o → IsOutcome p → report_text o ≡ report_text p → content o ≡ content p
-one_outcome o p h k e = sym (content-report o h) ∙ ap content_by_text e ∙ content-report p k
+one_outcome o p h k e =
+    ap (λ (t : SittingContent). t.last)
+    (one_content false (report_text o) (first_content o) (first_content p)
+    (by_outcome _ o (record { reportable = h; spelled = refl }))
+    (by_outcome _ p (record { reportable = k; spelled = e })))
 
 pub round_trip : RoundTrip
 round_trip limits o h fits (Ok read) gives =

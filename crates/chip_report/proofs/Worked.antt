@@ -1,20 +1,21 @@
--- Serves ReportLists.antt.
+-- Serves ReportLists.antt, Versions.antt.
 -- Worked texts and lists, computed on the definitions.
-use Rattle.std.proofs.Common.{◌≡◌, [], ◌∷◌, codes, refl}
-use Rattle.chip_report.specs.ReportLists.{first_list, text_behind_list, numbers_of, content_by_text}
+use Rattle.std.proofs.Common.{◌≡◌, true, false, [], ◌∷◌, codes, refl}
+use Rattle.chip_report.specs.ReportLists.{first_list, text_behind_list, numbers_of}
+use Rattle.chip_report.specs.Versions.{content_by_text}
 
 -- the small triangle, played to its end
-triangle : content_by_text (codes
-    "{\"chips\":[1,0,3],\"closed\":true,\"fired\":[2,1,0],\"over\":[],\"sealed\":[],\"version\":1}\n")
-    ≡ record { fired = 2 ∷ 1 ∷ 0 ∷ []; chips = 1 ∷ 0 ∷ 3 ∷ []; over = []; sealed = [] }
+triangle : content_by_text false (codes
+    "{\"chips\":[1,0,3],\"closed\":true,\"fired\":[2,1,0],\"over\":[],\"sealed\":[],\"version\":1}\n") ≡ record {
+      last = record { fired = 2 ∷ 1 ∷ 0 ∷ []; chips = 1 ∷ 0 ∷ 3 ∷ []; over = []; sealed = [] };
+      prior = 0 ∷ 0 ∷ 0 ∷ [];
+    }
 triangle = refl
 
 -- it is no matter what stands before the brackets
-other_fronts : content_by_text (codes "[5] and [2], [], [0]") ≡ record {
-  fired = 2 ∷ [];
-  chips = 5 ∷ [];
-  over = [];
-  sealed = 0 ∷ [];
+other_fronts : content_by_text true (codes "[5] and [2], [], [7],[0]") ≡ record {
+  last = record { fired = 2 ∷ []; chips = 5 ∷ []; over = []; sealed = 0 ∷ [] };
+  prior = 7 ∷ [];
 }
 other_fronts = refl
 

@@ -5,4 +5,5 @@ pub mod ReportText
 pub mod Reportable
 pub mod Written
 pub mod ReportTwo
+pub mod Versions
 pub mod Sink

@@ -1,12 +1,9 @@
 -- The lists of numbers in a text, each between the next brackets, whatever else the text has.
-use Rattle.std.specs.Prelude.{◌≡◌, ◌≢◌, ℕ, zero, suc, ◌^◌, ◌<◌, ◌≤◌, ◌==◌, List, [], ◌∷◌, ◌++◌, length, map, All}
+use Rattle.std.specs.Prelude.{◌≢◌, ℕ, zero, suc, ◌^◌, ◌<◌, ◌≤◌, ◌==◌, List, [], ◌∷◌, ◌++◌, length, map, All}
 use Rattle.std.specs.List.{before_first, after_first, slice_split, join_with_byte}
 use Rattle.std.specs.Fmt.{decimal}
 use Rattle.std.specs.Str.Parse.{digits_value, without_leading_plus}
-use Rattle.chip_graph.specs.Limits.{SizeLimits}
-use Rattle.chip_sequence.specs.declared.outcome.Outcome.{Outcome}
 use Rattle.chip_report.specs.ReportText.{comma, array_text}
-use Rattle.chip_report.specs.Reportable.{Content, content, FitsIn}
 
 -- the code of the bracket before a list
 abbrev pub opening_bracket : ℕ
@@ -41,15 +38,6 @@ numbers_of (b ∷ bs) = map number_of (slice_split (λ c. c == comma) (b ∷ bs)
 -- the numbers of the list behind so many others
 abbrev pub list_at : ℕ → List ℕ → List ℕ
 list_at lists text = numbers_of (first_list (text_behind_lists lists text))
-
--- what a text tells, if it is a report
-abbrev pub content_by_text : List ℕ → Content
-content_by_text text =
-    record { fired = list_at 1 text; chips = list_at 0 text; over = list_at 2 text; sealed = list_at 3 text }
-
--- the outcome has the numbers that a text tells, and fits in the limits
-abbrev pub IsToldBy : SizeLimits → List ℕ → Outcome → Type 0
-IsToldBy limits text outcome = (content outcome ≡ content_by_text text) × FitsIn limits outcome
 
 -- ---- what no report has
 

@@ -6,7 +6,6 @@ use Rattle.chip_sequence.specs.declared.resumed.Resumed.{Resumed}
 use Rattle.chip_sequence.specs.Sittings.{IsResumed}
 use Rattle.chip_report.specs.ReportText.{array_text, bool_text, is_closed}
 use Rattle.chip_report.specs.Reportable.{Content, content, IsReportOf, FitsIn}
-use Rattle.chip_report.specs.ReportLists.{list_at}
 
 -- the report of a sitting that went on
 abbrev pub report_two_text : Resumed → List ℕ
@@ -29,14 +28,6 @@ abbrev pub IsAnyReportOf : List ℕ → Resumed → Type 0
 IsAnyReportOf bytes r =
     (IsReportOf bytes r.outcome × (r.prior.items ≡ replicate (length r.outcome.fired.items) 0)) ⊎ IsReportTwoOf bytes r
 
--- the bytes are the report of no sitting that went on
-abbrev pub IsNoReportTwo : List ℕ → Type 0
-IsNoReportTwo bytes = (r : Resumed) → IsReportTwoOf bytes r → ⊥
-
--- the bytes are the report of no sitting at all
-abbrev pub IsNoReportAtAll : List ℕ → Type 0
-IsNoReportAtAll bytes = (r : Resumed) → IsAnyReportOf bytes r → ⊥
-
 -- ---- the same within limits
 
 -- the bytes are the report of a sitting that went on, and it fits in the limits
@@ -55,7 +46,7 @@ IsAnyReportWithin limits bytes r = IsAnyReportOf bytes r × FitsIn limits r.outc
 abbrev pub IsNoReportAtAllWithin : SizeLimits → List ℕ → Type 0
 IsNoReportAtAllWithin limits bytes = (r : Resumed) → IsAnyReportWithin limits bytes r → ⊥
 
--- ---- what a text tells
+-- ---- the numbers of a sitting
 
 -- the numbers of a sitting, without where they lie in memory
 pub record SittingContent : Type 0 where
@@ -65,14 +56,3 @@ pub record SittingContent : Type 0 where
 -- what a sitting tells
 abbrev pub sitting_content : Resumed → SittingContent
 sitting_content r = record { last = content r.outcome; prior = r.prior.items }
-
--- what a text tells, if it is the report of a sitting that went on
-abbrev pub sitting_by_text : List ℕ → SittingContent
-sitting_by_text text = record {
-  last = record { fired = list_at 1 text; chips = list_at 0 text; over = list_at 2 text; sealed = list_at 4 text };
-  prior = list_at 3 text;
-}
-
--- the sitting has the numbers that a text tells, and fits in the limits
-abbrev pub IsSittingToldBy : SizeLimits → List ℕ → Resumed → Type 0
-IsSittingToldBy limits text r = (sitting_content r ≡ sitting_by_text text) × FitsIn limits r.outcome

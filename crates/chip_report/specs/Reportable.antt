@@ -28,10 +28,6 @@ pub record IsReportOf (bytes : List ℕ) (outcome : Outcome) : Type 0 where
   pub reportable : IsOutcome outcome
   pub spelled : bytes ≡ report_text outcome
 
--- the bytes are the report of no outcome
-abbrev pub IsNoReport : List ℕ → Type 0
-IsNoReport bytes = (outcome : Outcome) → IsReportOf bytes outcome → ⊥
-
 -- the outcome has no more vertices than the limits allow
 abbrev pub FitsIn : SizeLimits → Outcome → Type 0
 FitsIn limits outcome = length outcome.fired.items ≤ limits.vertices

@@ -7,7 +7,6 @@ pub enum ReportFault {
     /// The bytes are the report of no outcome.
     #[error("the bytes are no report")]
     NotReport,
-    /// Memory ran out.
     #[error("out of memory")]
     NoMemory,
 }

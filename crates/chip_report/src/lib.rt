@@ -5,17 +5,16 @@
 #![tactic(auto)]
 
 pub use fault::ReportFault;
-pub use read::{read_report, read_report_within};
+pub use read::{read_any, read_any_within, read_report, read_report_within};
 pub use sink::{LastWrite, Sink};
-pub use sitting::{read_any, read_any_within, report_two};
+pub use text::{is_closed, report, report_two};
 pub use write::{WriteFault, write_all_of, write_all_to};
 
-pub mod fault;
+mod fault;
 pub mod laws;
 mod lists;
-pub mod read;
-pub mod report;
+mod read;
 mod reportable;
 mod sink;
-pub mod sitting;
-pub mod write;
+mod text;
+mod write;

@@ -1,16 +1,18 @@
-//! Reading a report: exactly what `report` writes, and nothing else.
+//! Reading a report: exactly what is written as one, and nothing else.
 
+ghost use Rattle.std.specs.Prelude.{◌≡◌, IfOk};
 ghost use Rattle.chip_graph.specs.Limits.{standard};
 ghost use Rattle.chip_report.specs.Reportable.{IsReportWithin, IsNoReportWithin, Gives, GrowsForALine};
-ghost use Rattle.chip_report.specs.ReportLists.{IsToldBy};
+ghost use Rattle.chip_report.specs.ReportTwo.{IsAnyReportWithin, IsNoReportAtAllWithin};
+ghost use Rattle.chip_report.specs.Versions.{IsReportIn, IsNoReportIn, IsToldBy, text_in};
 
 use crate::fault::ReportFault;
 use crate::lists::Lists;
-use crate::report::report;
-use crate::reportable::is_outcome;
+use crate::reportable::is_resumed;
+use crate::text::{report, report_two};
 use chip_graph::Limits;
-use chip_sequence::Outcome;
-use std::alloc::Global;
+use chip_sequence::{Outcome, Resumed};
+use std::alloc::{AllocError, Global};
 
 /// The outcome whose report the bytes are, within the standard limits.
 pub fn read_report(alloc: Global, bytes: &[u8]) -> Result<Outcome, ReportFault>
@@ -21,9 +23,6 @@ pub fn read_report(alloc: Global, bytes: &[u8]) -> Result<Outcome, ReportFault>
 }
 
 /// The outcome whose report the bytes are, if it fits in the limits.
-///
-/// The numbers are those in the brackets, whatever else the bytes have; writing their report anew shows whether the
-/// bytes are it.
 pub fn read_report_within(
     alloc: Global,
     limits: Limits,
@@ -32,31 +31,91 @@ pub fn read_report_within(
     ensures outcome { Gives (IsReportWithin limits bytes.now) (IsNoReportWithin limits bytes.now) result }
     ensures memory { GrowsForALine bytes.now result }
 {
+    let resumed = read_version(alloc, limits, false, bytes)?;
+    Ok(resumed.outcome)
+}
+
+/// The sitting whose report the bytes are, within the standard limits.
+pub fn read_any(alloc: Global, bytes: &[u8]) -> Result<Resumed, ReportFault>
+    ensures sitting { Gives (IsAnyReportWithin standard bytes.now) (IsNoReportAtAllWithin standard bytes.now) result }
+    ensures memory { GrowsForALine bytes.now result }
+{
+    read_any_within(alloc, Limits::standard(), bytes)
+}
+
+/// The sitting whose report the bytes are, if it fits in the limits: a first one, before which nothing was fired, or
+/// one that went on.
+///
+/// Only the report of a sitting that went on ends in version 2, so the bytes are read as one version.
+pub fn read_any_within(alloc: Global, limits: Limits, bytes: &[u8]) -> Result<Resumed, ReportFault>
+    ensures sitting { Gives (IsAnyReportWithin limits bytes.now) (IsNoReportAtAllWithin limits bytes.now) result }
+    ensures memory { GrowsForALine bytes.now result }
+{
+    let went_on = bytes.ends_with(b",\"version\":2}\n");
+    read_version(alloc, limits, went_on, bytes)
+}
+
+/// The sitting whose report the bytes are, as one that went on or as a first one.
+///
+/// The numbers are those in the brackets, whatever else the bytes have; writing their report anew shows whether the
+/// bytes are it.
+fn read_version(
+    alloc: Global,
+    limits: Limits,
+    went_on: bool,
+    bytes: &[u8],
+) -> Result<Resumed, ReportFault>
+    ensures sitting { Gives (IsReportIn went_on limits bytes.now) (IsNoReportIn went_on limits bytes.now) result }
+    ensures memory { GrowsForALine bytes.now result }
+{
     if !bytes.ends_with(b"\n") {
         return Err(ReportFault::NotReport);
     }
-    let outcome = outcome_of_text(alloc, limits, bytes)?;
-    if is_outcome(&outcome) && report(alloc, &outcome)?.as_slice() == bytes {
-        Ok(outcome)
+    let resumed = sitting_of_text(alloc, limits, went_on, bytes)?;
+    if is_resumed(&resumed) && text_of(alloc, went_on, &resumed)?.as_slice() == bytes {
+        Ok(resumed)
     } else {
         Err(ReportFault::NotReport)
     }
 }
 
-/// The outcome that a text tells, if it is a report within the limits.
-fn outcome_of_text(alloc: Global, limits: Limits, text: &[u8]) -> Result<Outcome, ReportFault>
-    ensures { Gives (IsToldBy limits text.now) (IsNoReportWithin limits text.now) result }
+/// The report of a sitting, as one that went on or as a first one.
+fn text_of(alloc: Global, went_on: bool, resumed: &Resumed) -> Result<Vec<u8>, AllocError>
+    ensures { IfOk result (λ bytes. bytes.items ≡ text_in went_on resumed.now) }
+{
+    if went_on {
+        report_two(alloc, resumed)
+    } else {
+        report(alloc, &resumed.outcome)
+    }
+}
+
+/// The sitting that a text tells, if it is a report within the limits. What was fired before a first one is in no
+/// list.
+fn sitting_of_text(
+    alloc: Global,
+    limits: Limits,
+    went_on: bool,
+    text: &[u8],
+) -> Result<Resumed, ReportFault>
+    ensures { Gives (IsToldBy went_on limits text.now) (IsNoReportIn went_on limits text.now) result }
 {
     let most = limits.vertices();
     let mut lists = Lists::new(text)?;
     let chips = lists.take(alloc, most)?;
     let fired = lists.take(alloc, most)?;
     let over = lists.take(alloc, most)?;
-    let sealed = lists.take(alloc, most)?;
-    Ok(Outcome {
+    let fourth = lists.take(alloc, most)?;
+    let (prior, sealed) = if went_on {
+        (fourth, lists.take(alloc, most)?)
+    } else {
+        (vec![in alloc; 0; fired.len()]?, fourth)
+    };
+    let outcome = Outcome {
         fired,
         chips,
         over,
         sealed,
-    })
+    };
+    Ok(Resumed { outcome, prior })
 }

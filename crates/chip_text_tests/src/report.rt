@@ -2,9 +2,9 @@
 
 use crate::writers::Faulty;
 use chip_graph::Limits;
-use chip_report::report::report;
 use chip_report::{
-    ReportFault, WriteFault, read_any_within, read_report, read_report_within, write_all_of,
+    LastWrite, ReportFault, Sink, WriteFault, read_any_within, read_report, read_report_within,
+    report, write_all_of, write_all_to,
 };
 use chip_sequence::Outcome;
 use std::alloc::{AllocError, Global};
@@ -295,26 +295,24 @@ fn writes_up_to(
     stays: bool,
 ) {
     let mut writer = Faulty::new(rt, index, fails, stays);
-    let result = write_all_of(&mut writer, bytes);
-    let ends = index < bytes.len();
-    let wanted = if ends {
-        Err(WriteFault {
-            written: index as u64,
-        })
+    let mut sink = Sink::new(&mut writer);
+    let result = write_all_to(&mut sink, bytes);
+    let (wanted, last) = if index >= bytes.len() {
+        (Ok(()), LastWrite::Bytes)
     } else {
-        Ok(())
+        let written = index as u64;
+        let last = if fails { LastWrite::Failure } else { LastWrite::Nothing };
+        (Err(WriteFault { written }), last)
     };
     assert!(rt; result == wanted, "write {index}");
+    assert!(rt; sink.last_write() == last, "write {index}");
+    let writes = bytes.len().min(index.saturating_add(1));
+    assert!(rt; sink.writes() == writes as u64, "write {index}");
+    assert!(rt; writer.writes == writes, "write {index}: no further write");
     assert!(rt;
         Some(writer.taken.as_slice()) == bytes.get(..index),
         "write {index}"
     );
-    let writes = if ends {
-        index.saturating_add(1)
-    } else {
-        bytes.len()
-    };
-    assert!(rt; writer.writes == writes, "write {index}: no further write");
 }
 
 #[test]
@@ -336,6 +334,11 @@ fn writes_nothing_where_there_is_nothing(rt: HostRuntime) {
 #[test]
 fn writes_an_output_above_one_mebibyte(rt: HostRuntime) {
     let bytes = vec![in rt.alloc(); b'7'; 1_048_577].expect(&rt, "memory");
+    let mut taken = Vec::new(rt.alloc());
+    let mut sink = Sink::new(&mut taken);
+    assert!(rt; write_all_to(&mut sink, &bytes) == Ok(()));
+    assert!(rt; sink.writes() == 1 && sink.last_write() == LastWrite::Bytes);
+    assert!(rt; taken == bytes, "all of it");
     let mut taken = Vec::new(rt.alloc());
     assert!(rt; write_all_of(&mut taken, &bytes) == Ok(()));
     assert!(rt; taken == bytes, "all of it");

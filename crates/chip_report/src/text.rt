@@ -1,10 +1,10 @@
-//! The report of an outcome: one line of compact JSON.
+//! The report of an outcome, or of a play in several sittings: one line of compact JSON.
 
 ghost use Rattle.std.specs.Prelude.{◌≡◌, ◌++◌, IfOk, string_bytes};
-ghost use Rattle.std.specs.Fmt.{decimal};
 ghost use Rattle.chip_report.specs.ReportText.{member_text, array_text, bool_text, is_closed, report_text, start_text};
+ghost use Rattle.chip_report.specs.ReportTwo.{report_two_text};
 
-use chip_sequence::Outcome;
+use chip_sequence::{Outcome, Resumed};
 use std::alloc::{AllocError, Global};
 
 /// The report of an outcome, ending in a newline.
@@ -17,8 +17,20 @@ pub fn report(alloc: Global, outcome: &Outcome) -> Result<Vec<u8>, AllocError>
     Ok(text.into_bytes())
 }
 
+/// The report of a sitting with what was fired before it, ending in a newline.
+pub fn report_two(alloc: Global, resumed: &Resumed) -> Result<Vec<u8>, AllocError>
+    ensures { IfOk result (λ bytes. bytes.items ≡ report_two_text resumed.now) }
+{
+    let Resumed { outcome, prior } = resumed;
+    let mut text = start_of_report(alloc, outcome)?;
+    push_list(&mut text, ",\"prior\":", prior)?;
+    push_list(&mut text, ",\"sealed\":", &outcome.sealed)?;
+    text.push_str(",\"version\":2}\n")?;
+    Ok(text.into_bytes())
+}
+
 /// What the reports of both versions begin with: an outcome as far as the vertices that are over.
-pub(crate) fn start_of_report(alloc: Global, outcome: &Outcome) -> Result<String, AllocError>
+fn start_of_report(alloc: Global, outcome: &Outcome) -> Result<String, AllocError>
     ensures { IfOk result (λ text. string_bytes text ≡ start_text outcome.now) }
 {
     let mut text = String::new(alloc);
@@ -45,7 +57,7 @@ fn push_bool(text: &mut String, key: &str, value: bool) -> Result<(), AllocError
 }
 
 /// Appends numbers as a JSON array behind their key.
-pub(crate) fn push_list(text: &mut String, key: &str, numbers: &[u64]) -> Result<(), AllocError>
+fn push_list(text: &mut String, key: &str, numbers: &[u64]) -> Result<(), AllocError>
     ensures { IfOk result (λ _. string_bytes text.new ≡ string_bytes text.old ++ key.now ++ array_text numbers.now) }
 {
     text.push_str(key)?;
@@ -70,12 +82,5 @@ fn push_member(text: &mut String, before: usize, number: u64) -> Result<(), Allo
     if before > 0 {
         text.push_str(",")?;
     }
-    push_number(text, number)
-}
-
-/// Appends a number in decimal.
-fn push_number(text: &mut String, number: u64) -> Result<(), AllocError>
-    ensures { IfOk result (λ _. string_bytes text.new ≡ string_bytes text.old ++ decimal number) }
-{
     write!(text, "{number}")
 }

@@ -1,4 +1,4 @@
-use Rattle.chip_report.proofs.report.report.Goals as goal
+use Rattle.chip_report.proofs.text.report.Goals as goal
 
 pub returns : goal.returns
 returns c = rw (

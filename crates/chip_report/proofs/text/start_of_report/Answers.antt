@@ -1,4 +1,4 @@
-use Rattle.chip_report.proofs.report.start_of_report.Goals as goal
+use Rattle.chip_report.proofs.text.start_of_report.Goals as goal
 
 pub returns : goal.returns
 returns c = rw (

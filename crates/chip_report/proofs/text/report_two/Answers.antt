@@ -1,4 +1,4 @@
-use Rattle.chip_report.proofs.sitting.report_two.Goals as goal
+use Rattle.chip_report.proofs.text.report_two.Goals as goal
 
 pub returns : goal.returns
 returns c = rw (

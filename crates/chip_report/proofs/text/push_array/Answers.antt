@@ -3,7 +3,7 @@ use Rattle.std.specs.List.{join_with_byte}
 use Rattle.std.specs.Fmt.{decimal}
 use Rattle.chip_report.specs.ReportText.{comma, member_text}
 use Rattle.chip_report.proofs.JoinLemmas.{array-more}
-use Rattle.chip_report.proofs.report.push_array.Goals as goal
+use Rattle.chip_report.proofs.text.push_array.Goals as goal
 
 pub loop-i-preserved : goal.loop-i-preserved
 loop-i-preserved c =

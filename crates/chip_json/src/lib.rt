@@ -6,6 +6,7 @@
 
 pub use fault::JsonFault;
 pub use file::{GraphFile, file_of_text};
+pub use number::leading_number;
 
 pub mod fault;
 pub mod file;

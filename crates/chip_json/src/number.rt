@@ -1,7 +1,9 @@
 //! The numbers of JSON.
 
-ghost use Rattle.std.specs.Prelude.{◌≡◌, ◌<◌, ◌==◌, IsTrue, IfSome, Some, length, option_map, slice_index};
+ghost use Rattle.std.specs.Prelude.{◌≡◌, ◌<◌, ◌≤◌, ◌==◌, IsTrue, IfSome, Some, length, option_map, slice_index, take};
 ghost use Rattle.std.specs.Prelude.{true, false};
+ghost use Rattle.std.specs.Char.{is_ascii_digit};
+ghost use Rattle.std.specs.Str.Parse.{AllDigits, digits_value};
 ghost use Rattle.serde_json.specs.Data.{unsigned};
 ghost use Rattle.serde_json.specs.View.{number_view};
 ghost use Rattle.serde_json.specs.Read.{float_of, number_from, number_of};
@@ -10,7 +12,25 @@ use fast_float::Numeral;
 use serde_json::Number;
 
 /// So many digits write a number that fits into 64 bits.
-pub(crate) const FEW_DIGITS: usize = 19;
+const FEW_DIGITS: usize = 19;
+
+/// The number that the first digits of a text write, up to so many as fit, and how many they are.
+#[inline(always)]
+pub fn leading_number(text: &[u8]) -> (u64, usize)
+    ensures digits { AllDigits 10 (take result.1 text.now) }
+    ensures value { result.0 ≡ digits_value 10 (take result.1 text.now) }
+    ensures few { (result.1 ≤ 19) × (result.1 ≤ length text.now) }
+    ensures most { result.1 < 19 → result.1 < length text.now
+        → is_ascii_digit (slice_index text.now result.1) ≡ false }
+{
+    let mut value = 0;
+    let mut count = 0;
+    while count < FEW_DIGITS && count < text.len() && text[count].is_ascii_digit() {
+        value = 10 * value + u64::from(text[count] - b'0');
+        count += 1;
+    }
+    (value, count)
+}
 
 /// The number that a token writes, unless it is too large for a float.
 pub(crate) fn number_of(text: &str) -> Option<Number>
@@ -27,17 +47,12 @@ pub(crate) fn integer(text: &str) -> Option<u64>
     ensures { IfSome result (λ n. number_of text.now ≡ Some (unsigned n)) }
 {
     let bytes = text.as_bytes();
-    if bytes.is_empty() || bytes.len() > FEW_DIGITS {
-        return None;
+    let (value, count) = leading_number(bytes);
+    if count > 0 && count == bytes.len() {
+        Some(value)
+    } else {
+        None
     }
-    let mut value = 0;
-    for byte in bytes {
-        if !byte.is_ascii_digit() {
-            return None;
-        }
-        value = 10 * value + u64::from(*byte - b'0');
-    }
-    Some(value)
 }
 
 /// The number that any token writes.

@@ -3,15 +3,14 @@
 //! What is found here is what the tokens of the text would give. Where a text is written otherwise, nothing is found, and
 //! the tokens are to say what it is.
 
-ghost use Rattle.std.specs.Prelude.{◌≡◌, ◌<◌, ◌≤◌, length, take, drop, codes, IfSome, IfOk, IfErr};
-ghost use Rattle.std.specs.Str.Parse.{AllDigits, digits_value};
+ghost use Rattle.std.specs.Prelude.{◌≡◌, ◌<◌, ◌≤◌, length, drop, codes, IfSome, IfOk, IfErr};
 ghost use Rattle.json.specs.Word.{is_space};
 ghost use Rattle.chip_json.specs.Plain.{lexemes_at, IsOperator, IsBehind, IsBehindName, IsNumberAt, IsRowAt};
 ghost use Rattle.chip_json.specs.Plain.{AreRowsAt, BeginsEdges, GoesOnAs, HasEdgesFirst};
 ghost use Rattle.chip_json.specs.declared.fault.JsonFault.TheVariants.{NoMemory};
 
 use crate::fault::JsonFault;
-use crate::number::FEW_DIGITS;
+use crate::number::leading_number;
 use crate::rows::keep;
 use chip_graph::Edge;
 use std::alloc::Global;
@@ -62,22 +61,6 @@ fn skip(text: &[u8], from: usize, byte: u8) -> Option<usize>
     None
 }
 
-/// The number that the first digits write, up to so many as fit, and where they end.
-#[inline(always)]
-fn leading_number(text: &[u8]) -> Found<u64>
-    ensures digits { AllDigits 10 (take result.next text.now) }
-    ensures value { result.value ≡ digits_value 10 (take result.next text.now) }
-    ensures few { (result.next ≤ 19) × (result.next ≤ length text.now) }
-{
-    let mut count = 0;
-    let mut value = 0;
-    while count < FEW_DIGITS && count < text.len() && text[count].is_ascii_digit() {
-        value = 10 * value + u64::from(text[count] - b'0');
-        count += 1;
-    }
-    Found { value, next: count }
-}
-
 /// The number that is next, if few digits write it and this byte ends it.
 #[inline(always)]
 fn number(text: &[u8], from: usize, end: u8) -> Option<Found<u64>>
@@ -87,7 +70,7 @@ fn number(text: &[u8], from: usize, end: u8) -> Option<Found<u64>>
 {
     let start = skip_blanks(text, from);
     let rest = &text[start..];
-    let Found { value, next: count } = leading_number(rest);
+    let (value, count) = leading_number(rest);
     if count == 0 || count == rest.len() || rest[count] != end {
         return None;
     }

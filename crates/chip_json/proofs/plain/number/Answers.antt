@@ -9,7 +9,7 @@ returns c =
     let text = c.args.text.now in
     let start = c.skip_blanks-start.result in
     let rest = take (length text - start) (drop start text) in
-    let count = c.leading_number-value.result.next in
+    let count = c.leading_number-value.result.1 in
     let digits = c.leading_number-value.ensures in
     let blanks = c.skip_blanks-start.ensures in
     let same : rest ≡ drop start text = take_all _ _ (omega (arith, length-drop start text)) in
@@ -17,7 +17,7 @@ returns c =
       | else-count-gt1-via-then-count-gt1+else-rest-eq48 w ↦ λ h. w.if-rest-eq48.false
       | else-count-gt1-via-else-count-gt1 w ↦ λ h. let never : ⊥ = omega (arith, w.if-count-gt1.false) in absurd never
     ] in
-    number_at text rest c.args.from start count c.leading_number-value.result.value c.args.end same
+    number_at text rest c.args.from start count c.leading_number-value.result.0 c.args.end same
     blanks.same blanks.bounds.0 blanks.bounds.1 digits.digits digits.value
     (omega (arith, c.if-count-eq0.false)) digits.few.0
     (omega (arith, digits.few.1, c.if-count-rest.false)) c.if-rest-count.false c.requires.operator first

@@ -1,7 +1,7 @@
 use Rattle.std.proofs.Common.{get_or, arith}
 use Rattle.std.proofs.lemmas.Int.Digits.{digits_value_more, digits_more}
 use Rattle.chip_json.proofs.Digits.{value_fits, digit_is}
-use Rattle.chip_json.proofs.plain.leading_number.Goals as goal
+use Rattle.chip_json.proofs.number.leading_number.Goals as goal
 
 pub overflow_mul-value : goal.overflow_mul-value
 overflow_mul-value c =

@@ -2,15 +2,19 @@
 
 use crate::passing::NotJson;
 use std::alloc::{AllocError, AllocFailed};
+use thiserror::Error;
 
 /// Why a text gives no graph file.
-#[derive(Clone, Copy)]
+#[derive(Clone, Copy, Debug, Error)]
 pub enum JsonFault {
     /// It is no JSON.
+    #[error("the text is no JSON")]
     NotJson,
     /// It is not an object of the four members.
+    #[error("the JSON has not the shape of a graph")]
     Shape,
     /// Memory ran out.
+    #[error("out of memory")]
     NoMemory,
 }
 

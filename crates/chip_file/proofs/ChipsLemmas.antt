@@ -1,6 +1,6 @@
 -- Serves ChipsText.antt, Rows.antt.
 -- How noting one row after another gives the chips of a text.
-use Rattle.std.proofs.Common.{◌≡◌, ◌≢◌, ℕ, ◌<◌, ◌^◌, Bool, true, false, List, [], ◌∷◌, ◌++◌, length, map, get_or, set}
+use Rattle.std.proofs.Common.{◌≡◌, ◌≢◌, ℕ, ◌<◌, Bool, true, false, List, [], ◌∷◌, ◌++◌, length, map, get_or, set}
 use Rattle.std.proofs.Common.{Option, None, Some, refl, ap, sym, ◌∙◌, inl, inr, ◌⊎◌, get_or-set_same, get_or-set_other}
 use Rattle.std.proofs.Common.{replicate, take, drop, sum}
 use Rattle.std.proofs.Math.Seq.{take-append_seam}
@@ -13,10 +13,10 @@ use Rattle.chip_graph.specs.Faults.{first_of_faults, fault_unless}
 use Rattle.chip_file.specs.declared.fault.FileFault.{FileFault}
 use Rattle.chip_file.specs.declared.fault.FileFault.TheVariants as fault
 use Rattle.chip_file.specs.ChipsText.{row_fault, chips_row_fault, chips_named, vertex_in, chips_in, chips_of_rows}
-use Rattle.chip_file.specs.ChipsText.{chips_header, chips_fault, chips_meant, AreNamed}
+use Rattle.chip_file.specs.ChipsText.{chips_header, chips_fault, chips_of_text, chips_text_fault, AreNamed}
 use Rattle.chip_file.proofs.RecordLemmas.{none_first, passes}
 use Rattle.chip_file.specs.Numbers.{number_at}
-use Rattle.chip_file.specs.Rows.{Row, rows_under_header, records_fault}
+use Rattle.chip_file.specs.Rows.{Row, rows_under_header, records_of, records_fault}
 
 -- ---- what is kept from row to row
 
@@ -56,8 +56,7 @@ names_new vertices before row e =
     let first = none_first (fault_unless (length row == 2) (fault.Row (length before))) _ e in
     let second = none_first (fault_unless (is_some (number_at 0 row) && is_some (number_at 1 row))
     (fault.Number (length before))) _ first.1 in
-    let third = none_first
-    (fault_unless (nat_lt (vertex_in row) vertices) (fault.Vertex (length before))) _ second.1 in (
+    let third = none_first (fault_unless (nat_lt (vertex_in row) vertices) (fault.Vertex (length before))) _ second.1 in (
       ltb-true (vertex_in row) vertices
           (passes (nat_lt (vertex_in row) vertices) (fault.Vertex (length before)) third.0),
       not-true (is_some (chips_named before (vertex_in row)))
@@ -128,13 +127,11 @@ pub records_fail : (vertices : ℕ) (records : List Row) (f : FileFault)
     → records_fault chips_header (chips_row_fault vertices) records ≡ Some f → chips_fault vertices records ≡ Some f
 records_fail vertices records f e = rw e refl
 
-pub header_fails_chips : {P Q : Type 0} (vertices : ℕ) (old : Option (List Row)) (f : FileFault)
-    → P ⊎ (Q × ((rows : List Row) → old ≡ Some rows → length rows < 2 ^ 64
-    → records_fault chips_header (chips_row_fault vertices) rows ≡ Some f))
-    → P ⊎ (Q × ((rows : List Row) → old ≡ Some rows → length rows < 2 ^ 64 → chips_fault vertices rows ≡ Some f))
-header_fails_chips vertices old f (inl stopped) = inl stopped
-header_fails_chips vertices old f (inr lacks) =
-    inr (lacks.0, λ rows known few. records_fail vertices rows f (lacks.1 rows known few))
+pub header_fails_chips : (vertices : ℕ) (records : List Row) (f : FileFault)
+    → (f ≡ fault.NoMemory) ⊎ (records_fault chips_header (chips_row_fault vertices) records ≡ Some f)
+    → (f ≡ fault.NoMemory) ⊎ (chips_fault vertices records ≡ Some f)
+header_fails_chips vertices records f (inl memory) = inl memory
+header_fails_chips vertices records f (inr e) = inr (records_fail vertices records f e)
 
 -- all rows were noted
 pub HaveNoted-all : (vertices : ℕ) (records before : List Row) (named : List (Option ℕ))
@@ -165,20 +162,22 @@ filled vertices records named are =
     let within : v < length named = rw are.as_many h in
     get_or-map (λ chips. unwrap_or chips 0) named v None 0 within ∙ ap (λ chips. unwrap_or chips 0) (are.each v h))
 
-pub chips_fit : (vertices : ℕ) (records : List Row) (named : List (Option ℕ)) (chips : List ℕ)
-    → AreNamed vertices records named
+pub chips_fit : (vertices : ℕ) (text : List ℕ) (named : List (Option ℕ)) (chips : List ℕ)
+    → AreNamed vertices (records_of text) named
     → chips ≡ map (λ chips. unwrap_or chips 0) named → true ≡ nat_le (sum chips) max_total
-    → chips_meant vertices records ≡ Some chips
-chips_fit vertices records named chips are e fits =
-    let given : chips ≡ chips_of_rows vertices (rows_under_header records) = e ∙ filled vertices records named are in
-    let none : chips_fault vertices records ≡ None = total_decides vertices records named are
+    → chips_of_text vertices text ≡ Some chips
+chips_fit vertices text named chips are e fits =
+    let given : chips ≡ chips_of_rows vertices (rows_under_header (records_of text)) = e
+    ∙ filled vertices (records_of text) named are in
+    let none : chips_text_fault vertices text ≡ None = total_decides vertices (records_of text) named are
     ∙ rw (← given, ← fits) refl in
     rw none (ap Some (sym given))
 
-pub chips_exceed : (vertices : ℕ) (records : List Row) (named : List (Option ℕ)) (chips : List ℕ)
-    → AreNamed vertices records named
+pub chips_exceed : (vertices : ℕ) (text : List ℕ) (named : List (Option ℕ)) (chips : List ℕ)
+    → AreNamed vertices (records_of text) named
     → chips ≡ map (λ chips. unwrap_or chips 0) named → false ≡ nat_le (sum chips) max_total
-    → chips_fault vertices records ≡ Some fault.Total
-chips_exceed vertices records named chips are e exceeds =
-    let given : chips ≡ chips_of_rows vertices (rows_under_header records) = e ∙ filled vertices records named are in
-    total_decides vertices records named are ∙ rw (← given, ← exceeds) refl
+    → chips_text_fault vertices text ≡ Some fault.Total
+chips_exceed vertices text named chips are e exceeds =
+    let given : chips ≡ chips_of_rows vertices (rows_under_header (records_of text)) = e
+    ∙ filled vertices (records_of text) named are in
+    total_decides vertices (records_of text) named are ∙ rw (← given, ← exceeds) refl

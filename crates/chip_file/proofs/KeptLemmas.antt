@@ -2,7 +2,7 @@
 -- A text of more edges than a graph has is refused alike, whether all of them are kept or only the first.
 use Rattle.std.proofs.Common.{◌≡◌, ℕ, ◌<◌, ◌≤◌, ◌⊎◌, Bool, true, false, leb, ltb, ◌&&◌, List, length, Option, Some, None}
 use Rattle.std.proofs.Common.{Ok, Err, refl, sym, ap, ◌∙◌, subst, arith, leb-true, inl, inr}
-use Rattle.std.specs.Prelude.{option_and_then, IfSome, Result}
+use Rattle.std.specs.Prelude.{option_and_then, Result}
 use Rattle.std.specs.Result.{IsErrAnd}
 use Rattle.chip_graph.specs.declared.edge.Edge.{Edge}
 use Rattle.chip_graph.specs.declared.fault.GraphFault.{GraphFault}
@@ -19,7 +19,7 @@ use Rattle.chip_json.specs.Rows.{Keeps}
 use Rattle.chip_json.specs.Parts.{KeepsGraph, KeepsFile, GivesFile}
 use Rattle.chip_file.specs.declared.fault.FileFault.{FileFault}
 use Rattle.chip_file.specs.declared.fault.FileFault.TheVariants as fault
-use Rattle.chip_file.specs.Answer.{Answers, Gives}
+use Rattle.chip_file.specs.Answer.{Gives}
 use Rattle.chip_file.specs.GraphFaults.{of_graph_fault, of_json_fault}
 use Rattle.chip_file.specs.GraphText.{file_of_text, graph_of_file, graph_of_text, IsKeptText, MeansGraph}
 use Rattle.chip_file.specs.GraphText.{IsGraphTextFault}
@@ -117,7 +117,7 @@ all_rows limits graph kept (a, b, inr both) ok =
 
 -- ---- the graph of a text
 
-means_graph : (limits : SizeLimits) (text : List ℕ) (kept : Kept) (made : Multigraph) → IsKeptText limits text kept
+pub means_graph : (limits : SizeLimits) (text : List ℕ) (kept : Kept) (made : Multigraph) → IsKeptText limits text kept
     → MakesGraph limits (kept_rows kept) (Ok made) → MeansGraph limits text made
 means_graph limits text kept made (graph, is, keeps) (same, ok) = record {
   meaning = is ∙ ap Some (all_rows limits graph kept keeps ok ∙ sym same);
@@ -137,38 +137,9 @@ is_text_fault limits text graph (graph_fault.FromSink e) is h = inr (graph, is, 
 is_text_fault limits text graph (graph_fault.Unreached v) is h = inr (graph, is, h)
 is_text_fault limits text graph graph_fault.NoMemory is h = inl refl
 
-text_fault : (limits : SizeLimits) (text : List ℕ) (kept : Kept) (f : GraphFault) → IsKeptText limits text kept
+pub text_fault : (limits : SizeLimits) (text : List ℕ) (kept : Kept) (f : GraphFault) → IsKeptText limits text kept
     → MakesGraph limits (kept_rows kept) (Err f)
     → (of_graph_fault f ≡ fault.NoMemory) ⊎ IsGraphTextFault limits text (of_graph_fault f)
 text_fault limits text kept f given (inl (e, none)) = inl (ap of_graph_fault e)
 text_fault limits text kept f (graph, is, keeps) (inr h) =
     is_text_fault limits text graph f is (fault_of_all limits graph kept f keeps h)
-
--- ---- the graph of an input, whose text may be known
-
--- the graph that was made of a kept file is that of the text
-pub graph_answered : (limits : SizeLimits) (input : Option (List ℕ)) (kept : Kept) (made : Multigraph)
-    → IfSome input (λ text. Answers limits text (IsKeptText limits text) (IsGraphTextFault limits text) (Ok kept))
-    → MakesGraph limits (kept_rows kept) (Ok made)
-    → IfSome input (λ text. Answers limits text (MeansGraph limits text) (IsGraphTextFault limits text) (Ok made))
-graph_answered limits None kept made h m = tt
-graph_answered limits (Some text) kept made h m = (h.0, means_graph limits text kept made h.1 m)
-
-refused_by : (limits : SizeLimits) (text : List ℕ) (f : FileFault) → length text ≤ limits.bytes
-    → (f ≡ fault.NoMemory) ⊎ IsGraphTextFault limits text f
-    → (result : Result Multigraph FileFault) → IsErrAnd result (λ e. e ≡ f)
-    → Answers limits text (MeansGraph limits text) (IsGraphTextFault limits text) result
-refused_by limits text f few why (Ok value) is = absurd is
-refused_by limits text f few (inl memory) (Err e) is = inl (inr (is ∙ memory))
-refused_by limits text f few (inr wrong) (Err e) is =
-    inr (inr (few, subst (λ (g : FileFault). IsGraphTextFault limits text g) (sym is) wrong))
-
--- what is wrong with a kept file is wrong with the text
-pub graph_refused : (limits : SizeLimits) (input : Option (List ℕ)) (kept : Kept) (f : GraphFault)
-    → IfSome input (λ text. Answers limits text (IsKeptText limits text) (IsGraphTextFault limits text) (Ok kept))
-    → MakesGraph limits (kept_rows kept) (Err f)
-    → (result : Result Multigraph FileFault) → IsErrAnd result (λ e. e ≡ of_graph_fault f)
-    → IfSome input (λ text. Answers limits text (MeansGraph limits text) (IsGraphTextFault limits text) result)
-graph_refused limits None kept f h m result is = tt
-graph_refused limits (Some text) kept f h m result is =
-    refused_by limits text (of_graph_fault f) h.0 (text_fault limits text kept f h.1 m) result is

@@ -2,12 +2,6 @@ mod NumberLemmas
 mod KeptLemmas
 mod ChipsLemmas
 mod RowLemmas
-mod PlaceLemmas
-mod SeamLemmas
-mod WideLemmas
-mod SeenLemmas
-mod PieceLemmas
-mod AheadLemmas
 mod RecordLemmas
 mod ReadLemmas
 mod TraceLemmas

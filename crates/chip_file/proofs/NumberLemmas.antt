@@ -1,17 +1,15 @@
 -- Serves Numbers.antt.
 -- A field as a number.
 use Rattle.std.proofs.Common.{◌≡◌, ℕ, ◌<◌, ◌≤◌, ◌^◌, true, false, List, [], ◌∷◌, length, None, Some, Result, Ok, Err}
-use Rattle.std.proofs.Common.{refl, ap, ◌∙◌, ◌+◌, arith, Bor, Bool, zero, suc, take, get_or}
+use Rattle.std.proofs.Common.{refl, ap, ◌∙◌, arith, Bor, take}
 use Rattle.std.specs.Prelude.{◌&&◌}
-use Rattle.std.specs.Char.{digit_value, is_ascii_digit}
+use Rattle.std.specs.Char.{is_ascii_digit}
 use Rattle.std.specs.List.{list_all}
 use Rattle.std.specs.Result.{result_ok, is_ok, OkIff, MatchResult}
 use Rattle.std.specs.Str.{all_ascii_digits, IsUtf8}
 use Rattle.std.specs.Str.Parse.{AllDigits, ParsesUnsigned, digits_value}
 use Rattle.std.proofs.Math.Nat.{pow-le-pow_right}
-use Rattle.std.proofs.lemmas.List.{length-take, take_all}
-use Rattle.std.proofs.lemmas.Str.{digit_value_digit}
-use Rattle.std.proofs.lemmas.Str.Parse.{digit_from_value}
+use Rattle.std.proofs.lemmas.List.{take_all}
 use Rattle.std.proofs.lemmas.Int.Digits.{digits_value-lt}
 use Rattle.std.proofs.lemmas.Fmt.{IsAscii-from_digits}
 use Rattle.std.proofs.lemmas.Str.{IsUtf8-from_ascii}
@@ -67,39 +65,6 @@ same_utf8 Y (Ok t) Q bytes s e h = let same : s ≡ t = cc e in rw same h.0
 same_utf8 Y (Err x) Q bytes s e h = cc e
 
 -- ---- few digits
-
--- what up to 18 digits are leaves room for one more
-pub value_fits : (bytes : List ℕ) (i value : ℕ) → AllDigits 10 (take i bytes) → value ≡ digits_value 10 (take i bytes)
-    → i < 19 → value < 10 ^ 18
-value_fits bytes i value digits is few =
-    let below = digits_value-lt 10 (take i bytes) digits in
-    let short = length-take i bytes in
-    let least = pow-le-pow_right {n = 10} (omega arith) {i = length (take i bytes)} {j = 18} (omega arith) in
-    omega arith
-
--- what a digit is, by its byte
-pub digit_is : (byte : ℕ) → digit_value byte < 10 → (digit_value byte + 48 ≡ byte) × (digit_value byte < 10)
-digit_is byte small = (digit_value_digit byte (digit_from_value byte small), small)
-
--- no digits
-pub number_of-empty : (field : List ℕ) → length field ≡ 0 → number_of field ≡ None
-number_of-empty field h = grind (arith, nat_tests)
-
-odd_among : (field : List ℕ) (i : ℕ) → i < length field → is_ascii_digit (get_or field i 0) ≡ false
-    → all_ascii_digits field ≡ false
-odd_among [] i within odd = absurd (omega arith)
-odd_among (c ∷ cs) zero within odd = rw odd refl
-odd_among (c ∷ cs) (suc i) within odd = ap (λ (b : Bool). is_ascii_digit c && b) (odd_among cs i (omega arith) odd)
-    ∙ and_no (is_ascii_digit c)
-  where
-    and_no : (b : Bool) → (b && false) ≡ false
-    and_no true = refl
-    and_no false = refl
-
--- a byte that is no digit
-pub number_of-odd : (field : List ℕ) (i : ℕ) → i < length field → is_ascii_digit (get_or field i 0) ≡ false
-    → number_of field ≡ None
-number_of-odd field i within odd = number_of-other field (odd_among field i within odd)
 
 number_of-fits : (field : List ℕ) → 0 < length field → length field ≤ 20 → all_ascii_digits field ≡ true
     → digits_value 10 field < 2 ^ 64 → Some (digits_value 10 field) ≡ number_of field

@@ -1,22 +1,32 @@
--- Serves Answer.antt, Pieces.antt, Standing.antt.
--- What the reads of an input take of it, and what reading its rows answers of it.
-use Rattle.std.proofs.Common.{◌≡◌, ◌≢◌, ℕ, ◌<◌, ◌^◌, ◌⊎◌, List, [], ◌++◌, length, Option, None, Some, Result, Ok, Err}
-use Rattle.std.proofs.Common.{refl, ap, ◌∙◌, inl, inr, ◌+◌, ◌≤◌, take, arith, length-append}
+-- Serves Answer.antt, Source.antt, GraphText.antt, ChipsText.antt, ScheduleText.antt, TraceText.antt.
+-- What the reads of an input take of it; and that no text is at fault for its source.
+use Rattle.std.proofs.Common.{◌≡◌, ℕ, ◌⊎◌, Bool, true, false, List, [], ◌∷◌, ◌++◌, length, Option, None, Some, Result, Ok}
+use Rattle.std.proofs.Common.{Err, refl, sym, subst, inl, inr, ◌+◌, ◌≤◌, take, arith, length-append}
 use Rattle.std.proofs.KnownBytes.{Consumes-trans, Consumes-kept}
 use Rattle.std.specs.Io.{ReadsAtMost}
-use Rattle.std.specs.Io.KnownBytes.{Consumes, IsAtEnd, ReadConsumes}
-use Rattle.std.specs.Prelude.{IfSome, option_map}
+use Rattle.std.specs.Io.KnownBytes.{Consumes, ReadConsumes}
+use Rattle.std.specs.Prelude.{◌==◌, nat_lt, nat_le, ◌&&◌, not, is_some, sum, IfSome}
+use Rattle.std.specs.Global.{Vec}
+use Rattle.std.specs.Result.{IsErrAnd}
+use Rattle.chip_graph.specs.Limits.{SizeLimits, max_total}
+use Rattle.chip_graph.specs.Faults.{first_of_faults, fault_unless}
+use Rattle.chip_graph.specs.Multigraph.{Multigraph}
 use Rattle.chip_file.specs.declared.fault.FileFault.{FileFault}
+use Rattle.chip_file.specs.declared.fault.FileFault.TheVariants as fault
 use Rattle.chip_file.specs.declared.source.LastRead.{LastRead}
 use Rattle.chip_file.specs.declared.source.LastRead.TheVariants as last
-use Rattle.chip_graph.specs.Limits.{SizeLimits, max_text}
-use Rattle.chip_file.specs.Answer.{Answers, FailsInTime, TakesAtMost, max_chunk}
-use Rattle.chip_file.specs.Pieces.{GoesOn, IsSound, IsStopped, Reading}
-use Rattle.chip_file.specs.Rows.{Row, records_of}
-use Rattle.chip_file.specs.Source.{last_read, bytes_left}
-use Rattle.chip_file.specs.Standing.{ComesOfRows, Finishes}
-use Rattle.chip_file.proofs.PieceLemmas.{goes_further}
-use Rattle.chip_file.proofs.RowLemmas.{few_records}
+use Rattle.chip_file.specs.declared.source.Source.{Source}
+use Rattle.chip_file.specs.Answer.{Answers, FailsInTime, Gives, IsOfMachine, ReadsText, ReadsWhole, TakesAtMost, max_chunk}
+use Rattle.chip_file.specs.Source.{ReadsSource, Tells, bytes_left, last_of_whole, last_read, reads}
+use Rattle.chip_file.specs.Rows.{Row, records_of, has_header, rows_under_header, first_row_fault, records_fault}
+use Rattle.chip_file.specs.Rows.{by_index}
+use Rattle.chip_file.specs.ChipsText.{chips_text_fault, chips_row_fault, chips_of_rows, chips_named, vertex_in}
+use Rattle.chip_file.specs.ScheduleText.{schedule_text_fault, event_fault, event_kinds, may_be_at}
+use Rattle.chip_file.specs.ScheduleText as schedule
+use Rattle.chip_file.specs.GraphText.{IsGraphTextFault}
+use Rattle.chip_file.specs.Kinds.{kind_at}
+use Rattle.chip_file.specs.Numbers.{number_at, number_in}
+use Rattle.chip_file.specs.TraceText.{trace_text_fault, trace_row_fault, trace_kinds, trace_row_in, names_edge}
 
 -- a read into a buffer takes no more than the buffer has room for, above what was taken before it
 pub taken_more : {E : Type 0} (most : ℕ) (a b c : Option (List ℕ)) (done buf : List ℕ) (r : Result ℕ E)
@@ -31,160 +41,174 @@ taken_more most a b c done buf (Ok n) before read within few room =
 taken_more most a b c done buf (Err e) before kept within few room =
     (done, Consumes-kept a b c done before kept, omega arith)
 
--- ---- what comes of rows, once the input was read
+-- ---- faults of a text
 
--- what comes of rows: a value that known rows mean, or their fault, where the input has ended; or why they stopped
-abbrev AnswersRows : {R T : Type 0} → (List Row → T → Type 0) → (List Row → FileFault → Type 0)
-    → Option (List Row) → Reading R → Result T FileFault → Type 0
-AnswersRows IsMeant IsFault old pieces (Ok value) =
-    (last_read pieces.source ≡ last.End)
-    × ((rows : List Row) → old ≡ Some rows → length rows < 2 ^ 64 → IsMeant rows value)
-AnswersRows IsMeant IsFault old pieces (Err f) =
-    IsStopped f pieces
-    ⊎ ((last_read pieces.source ≡ last.End)
-    × ((rows : List Row) → old ≡ Some rows → length rows < 2 ^ 64 → IsFault rows f))
+-- is it a fault that its source alone has?
+abbrev is_of_source : FileFault → Bool
+is_of_source fault.Read = true
+is_of_source fault.TooLong = true
+is_of_source _ = false
 
--- an input that is over is short enough
-few_over : {R : Type 0} (remaining : R → Option (List ℕ)) (kind : LastRead) (q : Reading R) → IsSound remaining q
-    → (kind ≡ last.Failure → last_read q.source ≡ last.Failure)
-    → (kind ≢ last.Failure → last_read q.source ≡ last.End)
-    → q.taken ≤ q.most
-few_over remaining last.Failure q sound failed ended = sound.failed (failed refl)
-few_over remaining last.NotYet q sound failed ended = (sound.ended (ended (λ e. cc e))).1
-few_over remaining last.Bytes q sound failed ended = (sound.ended (ended (λ e. cc e))).1
-few_over remaining last.End q sound failed ended = (sound.ended (ended (λ e. cc e))).1
+-- a fault, if there is one, is not its source's
+abbrev IsOfText : Option FileFault → Type 0
+IsOfText o = (f : FileFault) → o ≡ Some f → is_of_source f ≡ false
 
-finished : {R T : Type 0} (remaining : R → Option (List ℕ)) (IsMeant : List Row → T → Type 0)
-    (IsFault : List Row → FileFault → Type 0) (rows : Option (List Row)) (p q : Reading R)
-    (outcome result : Result T FileFault)
-    → IsSound remaining q → q.most ≡ p.most → p.taken ≤ q.taken → ComesOfRows IsMeant IsFault rows p outcome
-    → Finishes p q outcome result
-    → AnswersRows IsMeant IsFault rows q result
-finished remaining IsMeant IsFault rows p q (Ok u) (Ok v) sound alike grows comes ends =
-    let e : u ≡ v = cc ends.0 in
-    (rw ends.1 comes.0, λ all known few. rw (← e) (comes.1 all known few))
-finished remaining IsMeant IsFault rows p q (Err e) (Ok v) sound alike grows comes ends = cc ends.0
-finished remaining IsMeant IsFault rows p q (Ok u) (Err f) sound alike grows comes (inl stopped) = inl stopped
-finished remaining IsMeant IsFault rows p q (Ok u) (Err f) sound alike grows comes (inr over) = cc over.0
-finished remaining IsMeant IsFault rows p q (Err e) (Err f) sound alike grows comes (inl stopped) = inl stopped
-finished remaining IsMeant IsFault rows p q (Err e) (Err f) sound alike grows (inl (inl memory)) (inr over) =
-    inl (inl (cc (over.0, memory)))
-finished remaining IsMeant IsFault rows p q (Err e) (Err f) sound alike grows (inl (inr (inl read))) (inr over) =
-    inl (inr (inl (cc (over.0, read.0), over.1.0 read.1)))
-finished remaining IsMeant IsFault rows p q (Err e) (Err f) sound alike grows (inl (inr (inr long))) (inr over) =
-    let few = few_over remaining (last_read p.source) q sound over.1.0 over.1.1 in
-    let many = long.1 in
-    absurd (omega arith)
-finished remaining IsMeant IsFault rows p q (Err e) (Err f) sound alike grows (inr bad) (inr over) =
-    let same : e ≡ f = cc over.0 in
-    inr (over.1.1 bad.0, λ all known few. rw (← same) (bad.1 all known few))
+unless_of_text : (test : Bool) (f : FileFault) → is_of_source f ≡ false → IsOfText (fault_unless test f)
+unless_of_text true f other g e = cc e
+unless_of_text false f other g e = let same : f ≡ g = cc e in rw same at other
 
--- ---- what the answer says of the input
+first_of_text : (first later : Option FileFault) → IsOfText first → IsOfText later
+    → IsOfText (first_of_faults first later)
+first_of_text None later no_first no_later = no_later
+first_of_text (Some f) later no_first no_later = no_first
 
--- no more bytes were taken than an input may have, and a buffer
-pub taken_in_all : {R : Type 0} (remaining : R → Option (List ℕ)) (a q : Reading R) → GoesOn remaining a q → a.taken ≡ 0
-    → TakesAtMost (a.most + max_chunk) (bytes_left remaining a.source) (bytes_left remaining q.source)
-taken_in_all remaining a q on none =
-    let counted = on.took.2 in
-    let most = on.sound.most in
-    let alike = on.alike in
-    (on.took.0, on.took.1, omega arith)
+-- the same of four tests, one after another
+four_of_text : (a b c d : Bool) (f g h i : FileFault) → is_of_source f ≡ false → is_of_source g ≡ false
+    → is_of_source h ≡ false → is_of_source i ≡ false
+    → IsOfText (first_of_faults (fault_unless a f)
+    (first_of_faults (fault_unless b g) (first_of_faults (fault_unless c h) (fault_unless d i))))
+four_of_text a b c d f g h i no_f no_g no_h no_i =
+    first_of_text _ _ (unless_of_text a f no_f)
+    (first_of_text _ _ (unless_of_text b g no_g)
+    (first_of_text _ _ (unless_of_text c h no_h) (unless_of_text d i no_i)))
 
-taken_in_time : {R : Type 0} (remaining : R → Option (List ℕ)) (a q : Reading R) → GoesOn remaining a q → a.taken ≡ 0
-    → q.taken ≤ q.most
-    → TakesAtMost a.most (bytes_left remaining a.source) (bytes_left remaining q.source)
-taken_in_time remaining a q on none most =
-    let counted = on.took.2 in
-    let alike = on.alike in
-    (on.took.0, on.took.1, omega arith)
+rows_of_text : (row_fault : List Row → Row → Option FileFault) (before rows : List Row)
+    → ((before : List Row) (row : Row) → IsOfText (row_fault before row))
+    → IsOfText (first_row_fault row_fault before rows)
+rows_of_text row_fault before [] each = λ f e. cc e
+rows_of_text row_fault before (row ∷ rows) each =
+    first_of_text _ _ (each before row) (rows_of_text row_fault (before ++ row ∷ []) rows each)
 
-in_time_by : {R T : Type 0} (limits : SizeLimits) (remaining : R → Option (List ℕ)) (IsMeant : List Row → T → Type 0)
-    (IsFault : List Row → FileFault → Type 0) (rows : Option (List Row)) (a q : Reading R) (result : Result T FileFault)
-    → a.most ≡ limits.bytes → GoesOn remaining a q → a.taken ≡ 0 → AnswersRows IsMeant IsFault rows q result
-    → FailsInTime limits (bytes_left remaining a.source) (bytes_left remaining q.source) result
-in_time_by limits remaining IsMeant IsFault rows a q (Ok value) bound on none answers = tt
-in_time_by limits remaining IsMeant IsFault rows a q (Err f) bound on none (inl (inl memory)) = λ read. absurd (cc)
-in_time_by limits remaining IsMeant IsFault rows a q (Err f) bound on none (inl (inr (inl failed))) =
-    λ read. rw (← bound) (taken_in_time remaining a q on none (on.sound.failed failed.1))
-in_time_by limits remaining IsMeant IsFault rows a q (Err f) bound on none (inl (inr (inr long))) =
-    let is = long.0 in λ read. absurd (cc)
-in_time_by limits remaining IsMeant IsFault rows a q (Err f) bound on none (inr bad) =
-    λ read. rw (← bound) (taken_in_time remaining a q on none (on.sound.ended bad.0).1)
+records_of_text : (header : Row) (row_fault : List Row → Row → Option FileFault) (records : List Row)
+    → ((before : List Row) (row : Row) → IsOfText (row_fault before row))
+    → IsOfText (records_fault header row_fault records)
+records_of_text header row_fault records each =
+    first_of_text _ _ (unless_of_text (has_header header records) fault.Header refl)
+    (rows_of_text row_fault [] (rows_under_header records) each)
 
--- the rows of a text that is short enough are fewer than a counter counts
-count_fits : (text : List ℕ) → length text ≤ max_text → length (records_of text) < 2 ^ 64
-count_fits text few = let rows = few_records text in omega arith
+pub chips_of_text_alone : (vertices : ℕ) (text : List ℕ) → IsOfText (chips_text_fault vertices text)
+chips_of_text_alone vertices text =
+    first_of_text _ _
+    (records_of_text _ (chips_row_fault vertices) (records_of text) (λ before row.
+    four_of_text (length row == 2) (is_some (number_at 0 row) && is_some (number_at 1 row))
+    (nat_lt (vertex_in row) vertices)
+    (not (is_some (chips_named before (vertex_in row))))
+    (fault.Row (length before)) (fault.Number (length before)) (fault.Vertex (length before))
+    (fault.Repeated (length before))
+    refl refl refl refl))
+    (unless_of_text (nat_le (sum (chips_of_rows vertices (rows_under_header (records_of text)))) max_total) fault.Total
+    refl)
 
--- a text of which nothing is left was taken whole
-whole_few : (text bytes rest : List ℕ) (taken most : ℕ) → text ≡ bytes ++ rest → rest ≡ [] → taken ≡ length bytes
-    → taken ≤ most
-    → length text ≤ most
-whole_few text bytes rest taken most parts none counted few =
-    let all = ap length parts in
-    let joined = length-append bytes rest in
-    let zero = ap length none in
-    omega arith
+pub schedule_of_text_alone : (G : Multigraph) (text : List ℕ) → IsOfText (schedule_text_fault G text)
+schedule_of_text_alone G text =
+    records_of_text _ (by_index (event_fault G)) (records_of text) (λ before row.
+    four_of_text (length row == 3) (is_some (kind_at event_kinds 0 row)) (is_some (number_at 1 row)
+    && is_some (number_at 2 row))
+    (may_be_at G (schedule.kind_in row) (number_in 1 row))
+    (fault.Row (length before)) (fault.Kind (length before)) (fault.Number (length before))
+    (fault.Vertex (length before))
+    refl refl refl refl)
 
-known_by : {R T : Type 0} (limits : SizeLimits) (IsMeant : List Row → T → Type 0) (IsFault : List Row → FileFault → Type 0)
-    (input after : Option (List ℕ)) (bytes : List ℕ) (q : Reading R) (result : Result T FileFault)
-    → q.most ≡ limits.bytes → limits.bytes ≤ max_text
-    → Consumes input after bytes → q.taken ≡ length bytes
-    → (last_read q.source ≡ last.End → IsAtEnd after × (q.taken ≤ q.most))
-    → AnswersRows IsMeant IsFault (option_map records_of input) q result
-    → IfSome input (λ text. Answers limits text (IsMeant (records_of text)) (IsFault (records_of text)) result)
-known_by limits IsMeant IsFault None after bytes q result bound low took counted ended answers = tt
-known_by limits IsMeant IsFault (Some text) None bytes q result bound low took counted ended answers = absurd took
-known_by limits IsMeant IsFault (Some text) (Some rest) bytes q (Ok value) bound low took counted ended answers =
-    let end = ended answers.0 in
-    let few : length text ≤ limits.bytes = rw bound at (whole_few text bytes rest q.taken q.most took end.0 counted end.1) in
-    (few, answers.1 (records_of text) refl (count_fits text (omega (arith, few, low))))
-known_by limits IsMeant IsFault (Some text) (Some rest) bytes q (Err f) bound low took counted ended (inl (inl memory)) =
-    inl (inr memory)
-known_by limits IsMeant IsFault (Some text) (Some rest) bytes q (Err f) bound low took counted ended (inl (inr (inl failed))) =
-    inl (inl failed.0)
-known_by limits IsMeant IsFault (Some text) (Some rest) bytes q (Err f) bound low took counted ended (inl (inr (inr long))) =
-    let all = ap length took in
-    let joined = length-append bytes rest in
-    let many = long.1 in
-    inr (inl (omega arith, long.0))
-known_by limits IsMeant IsFault (Some text) (Some rest) bytes q (Err f) bound low took counted ended (inr bad) =
-    let end = ended bad.0 in
-    let few : length text ≤ limits.bytes = rw bound at (whole_few text bytes rest q.taken q.most took end.0 counted end.1) in
-    inr (inr (few, bad.1 (records_of text) refl (count_fits text (omega (arith, few, low)))))
+pub trace_of_text_alone : (G : Multigraph) (text : List ℕ) → IsOfText (trace_text_fault G text)
+trace_of_text_alone G text =
+    records_of_text _ (by_index (trace_row_fault G)) (records_of text) (λ before row.
+    four_of_text (length row == 4) (is_some (kind_at trace_kinds 1 row))
+    (is_some (number_at 0 row) && is_some (number_at 2 row) && is_some (number_at 3 row))
+    (nat_lt (number_in 0 row) G.vertices && names_edge G (trace_row_in row))
+    (fault.Row (length before)) (fault.Kind (length before)) (fault.Number (length before))
+    (fault.Vertex (length before))
+    refl refl refl refl)
 
--- ---- reading rows, from the first read to the last
+pub graph_of_text_alone : (limits : SizeLimits) (text : List ℕ) (f : FileFault) → IsGraphTextFault limits text f
+    → is_of_source f ≡ false
+graph_of_text_alone limits text fault.Read wrong = absurd wrong
+graph_of_text_alone limits text fault.TooLong wrong = absurd wrong
+graph_of_text_alone limits text f wrong = refl
 
-grows : {R : Type 0} (remaining : R → Option (List ℕ)) (p q : Reading R) → GoesOn remaining p q → p.taken ≤ q.taken
-grows remaining p q on = let counted = on.took.2 in omega arith
+-- ---- what a text answers, once its bytes were read
 
--- a failed read is told before too many bytes were taken
-pub in_time : {R T : Type 0} (limits : SizeLimits) (remaining : R → Option (List ℕ)) (IsMeant : List Row → T → Type 0)
-    (IsFault : List Row → FileFault → Type 0) (rows : Option (List Row)) (a p q : Reading R)
-    (outcome result : Result T FileFault)
-    → a.most ≡ limits.bytes → a.taken ≡ 0 → GoesOn remaining a p → GoesOn remaining p q
-    → ComesOfRows IsMeant IsFault rows p outcome
-    → Finishes p q outcome result
-    → FailsInTime limits (bytes_left remaining a.source) (bytes_left remaining q.source) result
-in_time limits remaining IsMeant IsFault rows a p q outcome result bound none first second comes ends =
-    in_time_by limits remaining IsMeant IsFault rows a q result bound (goes_further remaining a p q first second) none
-    (finished remaining IsMeant IsFault rows p q outcome result second.sound second.alike (grows remaining p q second) comes ends)
+tells_end : (T : Type 0) (f : FileFault) → is_of_source f ≡ false → Tells {T = T} (Err f) last.End
+tells_end T fault.Read other = cc other
+tells_end T fault.TooLong other = cc other
+tells_end T fault.NoMemory other = inr refl
+tells_end T f other = refl
 
--- the answer is what the text means, or its fault
-pub answers_text : {R T : Type 0} (limits : SizeLimits) (remaining : R → Option (List ℕ)) (IsMeant : List Row → T → Type 0)
-    (IsFault : List Row → FileFault → Type 0) (rows : Option (List Row)) (a p q : Reading R)
-    (outcome result : Result T FileFault)
-    → rows ≡ option_map records_of (bytes_left remaining a.source)
-    → a.most ≡ limits.bytes → a.taken ≡ 0 → GoesOn remaining a p → GoesOn remaining p q → ComesOfRows IsMeant IsFault rows p outcome
-    → Finishes p q outcome result
-    → IfSome (bytes_left remaining a.source)
-    (λ text. Answers limits text (IsMeant (records_of text)) (IsFault (records_of text)) result)
-answers_text limits remaining IsMeant IsFault rows a p q outcome result same bound none first second comes ends =
-    let on = goes_further remaining a p q first second in
-    let counted : q.taken ≡ length on.took.0 = (let all = on.took.2 in omega arith) in
-    let alike = on.alike in
-    let low = on.sound.low in
-    known_by limits IsMeant IsFault (bytes_left remaining a.source) (bytes_left remaining q.source) on.took.0 q result
-    (alike ∙ bound) (omega (arith, alike, bound, low)) on.took.1 counted
-    on.sound.ended
-    (rw (← same)
-    (finished remaining IsMeant IsFault rows p q outcome result second.sound second.alike (grows remaining p q second) comes ends))
+tells_failed : (T : Type 0) (f : FileFault) (kind : LastRead) → IsOfMachine f ⊎ (f ≡ fault.TooLong)
+    → kind ≡ last_of_whole {T = Vec ℕ} (Err f) → Tells {T = T} (Err f) kind
+tells_failed T f kind (inl (inl e)) =
+    subst (λ (g : FileFault). kind ≡ last_of_whole {T = Vec ℕ} (Err g) → Tells {T = T} (Err g) kind) (sym e) (λ is. is)
+tells_failed T f kind (inl (inr e)) =
+    subst (λ (g : FileFault). kind ≡ last_of_whole {T = Vec ℕ} (Err g) → Tells {T = T} (Err g) kind) (sym e) (λ is. inl is)
+tells_failed T f kind (inr e) =
+    subst (λ (g : FileFault). kind ≡ last_of_whole {T = Vec ℕ} (Err g) → Tells {T = T} (Err g) kind) (sym e) (λ is. is)
+
+means_failed : {T : Type 0} (limits : SizeLimits) (IsMeant : List ℕ → T → Type 0) (IsFault : List ℕ → FileFault → Type 0)
+    (input : Option (List ℕ)) (f : FileFault)
+    → IfSome input (λ text. Answers limits text (λ (bytes : Vec ℕ). bytes.items ≡ text) (λ _. ⊥) (Err f))
+    → IfSome input (λ text. Answers limits text (IsMeant text) (IsFault text) (Err f))
+means_failed limits IsMeant IsFault None f h = tt
+means_failed limits IsMeant IsFault (Some text) f (inl machine) = inl machine
+means_failed limits IsMeant IsFault (Some text) f (inr (inl long)) = inr (inl long)
+means_failed limits IsMeant IsFault (Some text) f (inr (inr never)) = absurd never.1
+
+-- the bytes could not be read
+pub read_failed : {R T : Type 0} (remaining : R → Option (List ℕ)) (limits : SizeLimits) (IsMeant : List ℕ → T → Type 0)
+    (IsFault : List ℕ → FileFault → Type 0) (old new : Source R) (f : FileFault) (result : Result T FileFault)
+    → IsErrAnd result (λ e. e ≡ f) → ReadsWhole limits (bytes_left remaining old) (bytes_left remaining new) (Err f)
+    → reads new ≤ limits.bytes + 1 → last_read new ≡ last_of_whole {T = Vec ℕ} (Err f)
+    → ReadsSource remaining limits IsMeant IsFault old new result
+read_failed remaining limits IsMeant IsFault old new f (Ok value) is whole few told = absurd is
+read_failed {T = T} remaining limits IsMeant IsFault old new f (Err e) is whole few told =
+    subst (λ (g : FileFault). ReadsSource remaining limits IsMeant IsFault old new (Err g)) (sym is) (record {
+      text = record {
+        means = means_failed limits IsMeant IsFault (bytes_left remaining old) f whole.known;
+        read = whole.read;
+        taken = whole.taken;
+      };
+      few_reads = few;
+      told = tells_failed T f (last_read new) whole.faults told;
+    })
+
+means_text : {T : Type 0} (limits : SizeLimits) (IsMeant : List ℕ → T → Type 0) (IsFault : List ℕ → FileFault → Type 0)
+    (input : Option (List ℕ)) (bytes : Vec ℕ) (result : Result T FileFault)
+    → IfSome input (λ text. Answers limits text (λ (bytes : Vec ℕ). bytes.items ≡ text) (λ _. ⊥) (Ok bytes))
+    → Gives (IsMeant bytes.items) (IsFault bytes.items) result
+    → IfSome input (λ text. Answers limits text (IsMeant text) (IsFault text) result)
+means_text limits IsMeant IsFault None bytes result h gives = tt
+means_text limits IsMeant IsFault (Some text) bytes (Ok value) h gives = (h.0, rw h.1 at gives)
+means_text limits IsMeant IsFault (Some text) bytes (Err f) h (inl memory) = inl (inr memory)
+means_text limits IsMeant IsFault (Some text) bytes (Err f) h (inr bad) = inr (inr (h.0, rw h.1 at bad))
+
+-- a fault that a text gives is none of its source
+other_fault : (IsFault : FileFault → Type 0) (f : FileFault) → (f ≡ fault.NoMemory) ⊎ IsFault f
+    → ((g : FileFault) → IsFault g → is_of_source g ≡ false) → is_of_source f ≡ false
+other_fault IsFault f (inl memory) alone = rw memory refl
+other_fault IsFault f (inr bad) alone = alone f bad
+
+-- the bytes were read, and this is what they mean
+pub text_read : {R T : Type 0} (remaining : R → Option (List ℕ)) (limits : SizeLimits) (IsMeant : List ℕ → T → Type 0)
+    (IsFault : List ℕ → FileFault → Type 0) (old new : Source R) (bytes : Vec ℕ) (result : Result T FileFault)
+    → ReadsWhole limits (bytes_left remaining old) (bytes_left remaining new) (Ok bytes)
+    → reads new ≤ limits.bytes + 1 → last_read new ≡ last.End
+    → Gives (IsMeant bytes.items) (IsFault bytes.items) result
+    → ((f : FileFault) → IsFault bytes.items f → is_of_source f ≡ false)
+    → ReadsSource remaining limits IsMeant IsFault old new result
+text_read remaining limits IsMeant IsFault old new bytes (Ok value) whole few told gives alone = record {
+  text = record {
+    means = means_text limits IsMeant IsFault (bytes_left remaining old) bytes (Ok value) whole.known gives;
+    read = tt;
+    taken = whole.taken;
+  };
+  few_reads = few;
+  told = told;
+}
+text_read {T = T} remaining limits IsMeant IsFault old new bytes (Err f) whole few told gives alone =
+    let other = other_fault (IsFault bytes.items) f gives alone in record {
+      text = record {
+        means = means_text limits IsMeant IsFault (bytes_left remaining old) bytes (Err f) whole.known gives;
+        read = λ is. let never = rw is at other in absurd (cc never);
+        taken = whole.taken;
+      };
+      few_reads = few;
+      told = subst (λ (kind : LastRead). Tells {T = T} (Err f) kind) (sym told) (tells_end T f other);
+    }

@@ -1,16 +1,13 @@
 -- Serves Rows.antt.
 -- How reading the rows under a header, one after another, gives the first fault of the records.
-use Rattle.std.proofs.Common.{◌≡◌, ◌≢◌, ℕ, ◌<◌, ◌≤◌, ◌+◌, ◌-◌, ◌^◌, min, Bool, true, false, List, [], ◌∷◌, ◌++◌, length}
-use Rattle.std.proofs.Common.{Option, None}
+use Rattle.std.proofs.Common.{◌≡◌, ℕ, ◌<◌, ◌≤◌, ◌+◌, ◌-◌, ◌^◌, Bool, true, false, List, [], ◌∷◌, ◌++◌, length, Option, None}
 use Rattle.std.proofs.Common.{Some, refl, ap, sym, ◌∙◌, arith, inl, inr, ◌⊎◌, append_assoc, length-append}
 use Rattle.std.proofs.lemmas.List.{append-nil}
 use Rattle.chip_graph.specs.Faults.{first_of_faults, fault_unless}
 use Rattle.chip_file.specs.declared.fault.FileFault.{FileFault}
-use Rattle.chip_file.specs.declared.source.LastRead.TheVariants as last
-use Rattle.chip_file.specs.Pieces.{IsStopped, Reading}
-use Rattle.chip_file.specs.Rows.{Row, has_header, rows_under_header, first_row_fault, records_fault}
-use Rattle.chip_file.specs.Source.{last_read}
-use Rattle.chip_file.specs.Standing.{LacksHeader}
+use Rattle.chip_file.specs.declared.fault.FileFault.TheVariants as fault
+use Rattle.chip_file.specs.Rows.{Row, records_of, has_header, rows_under_header, first_row_fault, records_fault}
+use Rattle.chip_file.proofs.RowLemmas.{few_records}
 
 -- the parts of a chain of faults that has none
 pub none_first : {F : Type 0} (a b : Option F) → first_of_faults a b ≡ None → (a ≡ None) × (b ≡ None)
@@ -61,29 +58,27 @@ HasRead-all header row_fault records before left index read e headed =
     let none : first_row_fault row_fault [] (rows_under_header records) ≡ None = read.no_fault ∙ rw e refl in
     (rw (headed, none) refl, read.parts ∙ rw e (append-nil before))
 
--- the rows stopped, or the first record is not the header
-pub header_fails : {R : Type 0} (header : Row) (row_fault : List Row → Row → Option FileFault) (old : Option (List Row))
-    (pieces : Reading R) (f : FileFault)
-    → IsStopped f pieces ⊎ LacksHeader header old pieces f
-    → IsStopped f pieces
-    ⊎ ((last_read pieces.source ≢ last.Failure)
-    × ((rows : List Row) → old ≡ Some rows → length rows < 2 ^ 64 → records_fault header row_fault rows ≡ Some f))
-header_fails header row_fault old pieces f (inl stopped) = inl stopped
-header_fails header row_fault old pieces f (inr lacks) =
-    inr (lacks.1, λ rows known few. rw (lacks.2 rows known, lacks.0) refl)
+-- the first record is not the header, or memory ran out
+pub header_fails : (header : Row) (row_fault : List Row → Row → Option FileFault) (records left : List Row)
+    (f : FileFault) → left ≡ records
+    → (f ≡ fault.NoMemory) ⊎ ((f ≡ fault.Header) × (has_header header left ≡ false))
+    → (f ≡ fault.NoMemory) ⊎ (records_fault header row_fault records ≡ Some f)
+header_fails header row_fault records left f e (inl memory) = inl memory
+header_fails header row_fault records left f e (inr other) = inr (rw (← e, other.1, other.0) refl)
 
-length-under : (records : List Row) → length (rows_under_header records) ≤ length records
+length-under : (records : List Row) → length (rows_under_header records) ≤ length records - 1
 length-under [] = omega arith
 length-under (row ∷ rows) = omega arith
 
--- where a counter counts all records, it counts the rows under the header
-pub index_fits : (row_fault : List Row → Row → Option FileFault) (records before rest left : List Row) (index : ℕ)
-    (row : Row)
-    → HasRead row_fault records before left index → left ≡ row ∷ rest → length records < 2 ^ 64
-    → min (index + 1) (2 ^ 64 - 1) ≡ index + 1
-index_fits row_fault records before rest left index row read e few =
+-- there are fewer rows than a counter counts
+pub index_fits : (row_fault : List Row → Row → Option FileFault) (text : List ℕ) (before rest left : List Row)
+    (index : ℕ) (row : Row)
+    → HasRead row_fault (records_of text) before left index → left ≡ row ∷ rest → length text < 2 ^ 64
+    → index + 1 < 2 ^ 64
+index_fits row_fault text before rest left index row read e few =
     let all = ap length read.parts ∙ length-append before left in
     let one = ap length e in
-    let under = length-under records in
+    let under = length-under (records_of text) in
+    let records = few_records text in
     let counted = read.counted in
     omega arith

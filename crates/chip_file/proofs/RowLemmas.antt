@@ -3,7 +3,6 @@
 use Rattle.std.proofs.Common.{◌≡◌, ℕ, zero, suc, ◌<◌, ◌≤◌, ◌+◌, Bool, true, false, List, [], ◌∷◌, ◌++◌, length, Option}
 use Rattle.std.proofs.Common.{None, Some, refl, ap, sym, ◌∙◌, arith, add-one, inl}
 use Rattle.std.specs.Prelude.{IsSome, unwrap_or, if◌then◌else◌}
-use Rattle.std.specs.Io.Cursor.{cursor_remaining}
 use Rattle.csv.specs.declared.parser.Config.{Config}
 use Rattle.csv.specs.declared.parser.State.{State}
 use Rattle.csv.specs.declared.parser.State.TheVariants as st
@@ -95,24 +94,6 @@ none_left : (cfg : Config) (s : State) (xs : List ℕ) → next_record cfg s [] 
 unfolding records_from
 none_left cfg s xs e = rw (add-one, e) refl
 
--- all rows of a text, from a state between rows
-abbrev pub all_rows : Config → State → List ℕ → List Row
-all_rows cfg s xs = records_from cfg (length xs + 1) s xs
-
-first_by : (cfg : Config) (s : State) (xs : List ℕ) (o : Option Read) → next_record cfg s [] [] xs ≡ o
-    → all_rows cfg s xs ≡ records_next (all_rows cfg) o
-first_by cfg s xs None e = none_left cfg s xs e
-first_by cfg s xs (Some p) e = after_first cfg s xs p e
-
--- the first row, and then all rows after it
-pub first_then_all : (cfg : Config) (s : State) (xs : List ℕ)
-    → all_rows cfg s xs ≡ records_next (all_rows cfg) (next_record cfg s [] [] xs)
-first_then_all cfg s xs = first_by cfg s xs (next_record cfg s [] [] xs) refl
-
--- a text of no bytes has no rows
-pub no_rows : (cfg : Config) → all_rows cfg st.StartRecord [] ≡ []
-no_rows cfg = no_more cfg 1
-
 takes_by : (cfg : Config) (s s2 : State) (xs ys : List ℕ) (found : Bool) (fields : Row) (o : Option Read)
     → next_record cfg s [] [] xs ≡ o → NextIs o found fields s2 ys
     → TakesRow found fields (records_from cfg (length xs + 1) s xs) (records_from cfg (length ys + 1) s2 ys)
@@ -140,7 +121,7 @@ takes_some cfg s s2 (Some xs) after found fields some h = takes_from cfg s s2 xs
 
 -- what a read of an open reader does to the rows that are left
 pub takes : (old new : Records) (found : Bool) (fields : Row) → IsOpen old
-    → ReadRecord (cursor_remaining (λ bytes. Some bytes.items)) old new found fields
+    → ReadRecord (λ s. Some s.now) old new found fields
     → took_first new ≡ true → is_flexible new ≡ is_flexible old
     → IsOpen new × TakesRow found fields (rows_left old) (rows_left new)
 takes old new found fields was r first flexible =

@@ -14,9 +14,9 @@ use Rattle.chip_file.specs.declared.fault.FileFault.TheVariants as fault
 use Rattle.chip_graph.specs.Faults.{fault_unless}
 use Rattle.chip_file.specs.Kinds.{kind_at}
 use Rattle.chip_file.specs.Numbers.{number_at, number_in}
-use Rattle.chip_file.specs.Rows.{Row, rows_under_header}
+use Rattle.chip_file.specs.Rows.{Row, records_of, rows_under_header}
 use Rattle.chip_file.specs.TraceText.{trace_kinds, trace_row_in, names_edge, trace_row_fault, trace_in}
-use Rattle.chip_file.specs.TraceText.{trace_fault, traces_of_rows}
+use Rattle.chip_file.specs.TraceText.{trace_text_fault, traces_of_text}
 use Rattle.chip_file.proofs.RecordLemmas.{none_first, passes}
 
 -- a row with no fault names a vertex
@@ -25,8 +25,7 @@ pub names_vertex : (G : Multigraph) (index : ℕ) (row : Row) → trace_row_faul
 names_vertex G index row e =
     let first = none_first (fault_unless (length row == 4) (fault.Row index)) _ e in
     let second = none_first (fault_unless (is_some (kind_at trace_kinds 1 row)) (fault.Kind index)) _ first.1 in
-    let third = none_first
-    (fault_unless (is_some (number_at 0 row) && is_some (number_at 2 row) && is_some (number_at 3 row))
+    let third = none_first (fault_unless (is_some (number_at 0 row) && is_some (number_at 2 row) && is_some (number_at 3 row))
     (fault.Number index)) _ second.1 in
     let both = passes (nat_lt (number_in 0 row) G.vertices && names_edge G (trace_row_in row))
     (fault.Vertex index) third.1 in
@@ -84,11 +83,11 @@ HaveRecorded-more G before traces row have vertex =
 
 -- ---- all rows
 
-pub HaveRecorded-all : (G : Multigraph) (records before : List Row) (traces : List (List TraceRow))
+pub HaveRecorded-all : (G : Multigraph) (text : List ℕ) (before : List Row) (traces : List (List TraceRow))
     → HaveRecorded G before traces
-    → rows_under_header records ≡ before → trace_fault G records ≡ None
-    → traces_of_rows G records ≡ Some traces
-HaveRecorded-all G records before traces have all none =
-    let filled = fill_by_all (trace_in (rows_under_header records)) traces G.vertices [] have.each
+    → rows_under_header (records_of text) ≡ before → trace_text_fault G text ≡ None
+    → traces_of_text G text ≡ Some traces
+HaveRecorded-all G text before traces have all none =
+    let filled = fill_by_all (trace_in (rows_under_header (records_of text))) traces G.vertices [] have.each
     (λ v h. have.so_far v h ∙ ap (λ (rows : List Row). trace_in rows v) (sym all)) in
     rw none (ap Some (sym filled))

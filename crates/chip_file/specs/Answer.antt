@@ -1,13 +1,15 @@
 -- What reading a file answers, whatever the file holds.
-use Rattle.std.specs.Prelude.{◌≡◌, ◌⊎◌, ℕ, ◌^◌, ◌<◌, ◌≤◌, List, length, Option, Result, Ok, Err, IfErr}
-use Rattle.std.specs.Io.KnownBytes.{Consumes}
+use Rattle.std.specs.Prelude.{◌≡◌, ◌⊎◌, ℕ, ◌+◌, ◌^◌, ◌<◌, ◌≤◌, List, length, Option, Result, Ok, Err}
+use Rattle.std.specs.Prelude.{IfOk, IfErr, IfSome, OnOk}
+use Rattle.std.specs.Global.{Vec}
+use Rattle.std.specs.Io.KnownBytes.{Consumes, IsAtEnd}
 use Rattle.chip_graph.specs.Limits.{SizeLimits}
 use Rattle.chip_file.specs.declared.fault.FileFault.{FileFault}
 use Rattle.chip_file.specs.declared.fault.FileFault.TheVariants as fault
 
 -- the most bytes that a read asks for
 abbrev pub max_chunk : ℕ
-max_chunk = 2 ^ 16
+max_chunk = 2 ^ 14
 
 -- the machine failed, and not the text: a read failed, or memory ran out
 abbrev pub IsOfMachine : FileFault → Type 0
@@ -35,3 +37,20 @@ TakesAtMost most old new = (bytes : List ℕ) × Consumes old new bytes × (leng
 -- where a read failed, no more bytes were taken than an input may have
 abbrev pub FailsInTime : {T : Type 0} → SizeLimits → Option (List ℕ) → Option (List ℕ) → Result T FileFault → Type 0
 FailsInTime limits old new result = IfErr result (λ f. f ≡ fault.Read → TakesAtMost limits.bytes old new)
+
+-- what reading an input answers, by what its text means and by the faults of a text, and what it takes of it
+pub record ReadsText {T : Type 0} (limits : SizeLimits) (IsMeant : List ℕ → T → Type 0)
+    (IsFault : List ℕ → FileFault → Type 0) (old new : Option (List ℕ)) (result : Result T FileFault) : Type 0 where
+  pub means : IfSome old (λ text. Answers limits text (IsMeant text) (IsFault text) result)
+  pub read : FailsInTime limits old new result
+  pub taken : TakesAtMost (limits.bytes + max_chunk) old new
+
+-- what reading the bytes of an input answers, and what it takes of it; memory runs out only for bytes that came
+pub record ReadsWhole (limits : SizeLimits) (old new : Option (List ℕ)) (result : Result (Vec ℕ) FileFault) : Type 0 where
+  pub known : IfSome old (λ input. Answers limits input (λ bytes. bytes.items ≡ input) (λ _. ⊥) result)
+  pub end : OnOk result (IsAtEnd new)
+  pub read : FailsInTime limits old new result
+  pub taken : TakesAtMost (limits.bytes + max_chunk) old new
+  pub memory : IfSome old (λ input. IfErr result (λ f. f ≡ fault.NoMemory → 0 < length input))
+  pub few : IfOk result (λ bytes. length bytes.items ≤ limits.bytes)
+  pub faults : IfErr result (λ f. IsOfMachine f ⊎ (f ≡ fault.TooLong))

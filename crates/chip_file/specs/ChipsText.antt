@@ -48,18 +48,15 @@ chips_fault vertices records =
     first_of_faults (records_fault chips_header (chips_row_fault vertices) records)
     (fault_unless (nat_le (sum (chips_of_rows vertices (rows_under_header records))) max_total) fault.Total)
 
--- the chips that the records of a file of chips mean: none where something is wrong with them
-abbrev pub chips_meant : ℕ → List Row → Option (List ℕ)
-chips_meant vertices records =
-    if is_none (chips_fault vertices records) then Some (chips_of_rows vertices (rows_under_header records)) else None
-
 -- the first thing wrong with a text of chips
 abbrev pub chips_text_fault : ℕ → List ℕ → Option FileFault
 chips_text_fault vertices text = chips_fault vertices (records_of text)
 
 -- the chips that a text means: none where something is wrong with it
 abbrev pub chips_of_text : ℕ → List ℕ → Option (List ℕ)
-chips_of_text vertices text = chips_meant vertices (records_of text)
+chips_of_text vertices text =
+    if is_none (chips_text_fault vertices text) then Some (chips_of_rows vertices (rows_under_header (records_of text)))
+    else None
 
 -- nothing is wrong with the header and the rows, and these are the chips of each vertex that a row names
 pub record AreNamed (vertices : ℕ) (records : List Row) (named : List (Option ℕ)) : Type 0 where

@@ -7,10 +7,6 @@ pub mod GraphText
 pub mod Numbers
 pub mod Rows
 pub mod Source
-pub mod Place
-pub mod Wide
-pub mod Seam
-pub mod Pieces
 pub mod Standing
 pub mod ChipsText
 pub mod Kinds

@@ -66,19 +66,11 @@ event_fault G index row =
     (first_of_faults (fault_unless (is_some (number_at 1 row) && is_some (number_at 2 row)) (fault.Number index))
     (fault_unless (may_be_at G (kind_in row) (number_in 1 row)) (fault.Vertex index))))
 
--- the first thing wrong with the records of a schedule for a graph, the header among them
-abbrev pub schedule_fault : Multigraph → List Row → Option FileFault
-schedule_fault G records = records_fault schedule_header (by_index (event_fault G)) records
-
--- the events that records mean, in order: none where something is wrong with them
-abbrev pub schedule_of_rows : Multigraph → List Row → Option (List Event)
-schedule_of_rows G records =
-    if is_none (schedule_fault G records) then Some (map event_in (rows_under_header records)) else None
-
 -- the first thing wrong with a text of a schedule for a graph
 abbrev pub schedule_text_fault : Multigraph → List ℕ → Option FileFault
-schedule_text_fault G text = schedule_fault G (records_of text)
+schedule_text_fault G text = records_fault schedule_header (by_index (event_fault G)) (records_of text)
 
 -- the events that a text means, in order: none where something is wrong with it
 abbrev pub schedule_of_text : Multigraph → List ℕ → Option (List Event)
-schedule_of_text G text = schedule_of_rows G (records_of text)
+schedule_of_text G text =
+    if is_none (schedule_text_fault G text) then Some (map event_in (rows_under_header (records_of text))) else None

@@ -1,11 +1,13 @@
 -- What a source tells of the reads that were made of it.
-use Rattle.std.specs.Prelude.{◌≡◌, ℕ, ◌+◌, ◌==◌, Bool, true, false, if◌then◌else◌, List, Option, Result, Ok, Err}
+use Rattle.std.specs.Prelude.{◌≡◌, ◌⊎◌, ℕ, ◌+◌, ◌≤◌, ◌==◌, Bool, true, false, if◌then◌else◌, List, Option}
+use Rattle.std.specs.Prelude.{Result, Ok, Err}
 use Rattle.chip_file.specs.declared.fault.FileFault.{FileFault}
 use Rattle.chip_file.specs.declared.fault.FileFault.TheVariants as fault
 use Rattle.chip_file.specs.declared.source.Source.{Source}
 use Rattle.chip_file.specs.declared.source.LastRead.{LastRead}
 use Rattle.chip_file.specs.declared.source.LastRead.TheVariants as last
-use Rattle.chip_graph.specs.Limits.{max_text}
+use Rattle.chip_file.specs.Answer.{ReadsText}
+use Rattle.chip_graph.specs.Limits.{SizeLimits, max_text}
 
 -- the most reads that are made of any input: one for each byte, and one that finds the end
 abbrev pub max_reads : ℕ
@@ -46,3 +48,19 @@ abbrev pub last_of_whole : {T : Type 0} → Result T FileFault → LastRead
 last_of_whole (Ok value) = last.End
 last_of_whole (Err fault.Read) = last.Failure
 last_of_whole (Err f) = last.Bytes
+
+-- how the last read went, by what reading a text of an input answers; where memory ran out the end may have been found
+abbrev pub Tells : {T : Type 0} → Result T FileFault → LastRead → Type 0
+Tells (Ok value) read = read ≡ last.End
+Tells (Err fault.Read) read = read ≡ last.Failure
+Tells (Err fault.TooLong) read = read ≡ last.Bytes
+Tells (Err fault.NoMemory) read = (read ≡ last.Bytes) ⊎ (read ≡ last.End)
+Tells (Err f) read = read ≡ last.End
+
+-- what reading a text from a source answers, how few reads were made, and how the last one went
+pub record ReadsSource {R T : Type 0} (remaining : R → Option (List ℕ)) (limits : SizeLimits)
+    (IsMeant : List ℕ → T → Type 0) (IsFault : List ℕ → FileFault → Type 0) (old new : Source R)
+    (result : Result T FileFault) : Type 0 where
+  pub text : ReadsText limits IsMeant IsFault (bytes_left remaining old) (bytes_left remaining new) result
+  pub few_reads : reads new ≤ limits.bytes + 1
+  pub told : Tells result (last_read new)

@@ -1,9 +1,11 @@
 -- The recorded runs that a text of rows means, and what is wrong with a text that means none.
-use Rattle.std.specs.Prelude.{ℕ, Bool, true, ◌==◌, nat_lt, ◌&&◌, if◌then◌else◌, List, [], ◌∷◌, codes, length, map}
-use Rattle.std.specs.Prelude.{Option, None, Some, is_some, is_none, unwrap_or}
+use Rattle.std.specs.Prelude.{◌≡◌, ℕ, ◌+◌, Bool, true, ◌==◌, nat_lt, ◌&&◌, if◌then◌else◌, List, [], ◌∷◌, codes, length}
+use Rattle.std.specs.Prelude.{map, Option, None, Some, is_some, is_none, unwrap_or, Result, IfOk, IfSome}
+use Rattle.std.specs.Global.{Vec}
 use Rattle.std.specs.List.{filter, range_with_len}
 use Rattle.chip_graph.specs.Multigraph.{Multigraph}
 use Rattle.chip_graph.specs.Edges.{all_edges}
+use Rattle.chip_graph.specs.Limits.{SizeLimits}
 use Rattle.chip_graph.specs.Faults.{first_of_faults, fault_unless}
 use Rattle.chip_link.specs.declared.trace.TraceRow.{TraceRow}
 use Rattle.chip_link.specs.declared.trace.TraceRow.TheVariants.{Take, Fire}
@@ -11,6 +13,7 @@ use Rattle.chip_file.specs.declared.trace.TraceKind.{TraceKind}
 use Rattle.chip_file.specs.declared.trace.TraceKind.TheVariants as kind
 use Rattle.chip_file.specs.declared.fault.FileFault.{FileFault}
 use Rattle.chip_file.specs.declared.fault.FileFault.TheVariants as fault
+use Rattle.chip_file.specs.Answer.{Answers, FailsInTime, TakesAtMost, max_chunk}
 use Rattle.chip_file.specs.Kinds.{kind_at}
 use Rattle.chip_file.specs.Numbers.{number_at, number_in}
 use Rattle.chip_file.specs.Rows.{Row, records_of, rows_under_header, by_index, records_fault}
@@ -54,21 +57,23 @@ trace_row_fault G index row =
 abbrev pub trace_in : List Row → ℕ → List TraceRow
 trace_in rows v = map trace_row_in (filter (λ row. number_in 0 row == v) rows)
 
--- the first thing wrong with the records of recorded runs of a graph, the header among them
-abbrev pub trace_fault : Multigraph → List Row → Option FileFault
-trace_fault G records = records_fault trace_header (by_index (trace_row_fault G)) records
-
--- the recorded run of each vertex that records mean: none where something is wrong with them
-abbrev pub traces_of_rows : Multigraph → List Row → Option (List (List TraceRow))
-traces_of_rows G records =
-    if is_none (trace_fault G records)
-    then Some (map (trace_in (rows_under_header records)) (range_with_len 0 G.vertices))
-    else None
-
 -- the first thing wrong with a text of recorded runs of a graph
 abbrev pub trace_text_fault : Multigraph → List ℕ → Option FileFault
-trace_text_fault G text = trace_fault G (records_of text)
+trace_text_fault G text = records_fault trace_header (by_index (trace_row_fault G)) (records_of text)
 
 -- the recorded run of each vertex that a text means: none where something is wrong with it
 abbrev pub traces_of_text : Multigraph → List ℕ → Option (List (List TraceRow))
-traces_of_text G text = traces_of_rows G (records_of text)
+traces_of_text G text =
+    if is_none (trace_text_fault G text)
+    then Some (map (trace_in (rows_under_header (records_of text))) (range_with_len 0 G.vertices))
+    else None
+
+-- what reading recorded runs of a graph answers, and what it takes of the input; of any reader come as many as vertices
+pub record ReadsTraces (limits : SizeLimits) (G : Multigraph) (old new : Option (List ℕ))
+    (result : Result (Vec (Vec TraceRow)) FileFault) : Type 0 where
+  pub means : IfSome old (λ text. Answers limits text
+      (λ traces. traces_of_text G text ≡ Some (map (λ trace. trace.items) traces.items))
+      (λ f. trace_text_fault G text ≡ Some f) result)
+  pub each : IfOk result (λ traces. length traces.items ≡ G.vertices)
+  pub read : FailsInTime limits old new result
+  pub taken : TakesAtMost (limits.bytes + max_chunk) old new

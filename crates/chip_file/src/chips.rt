@@ -1,17 +1,17 @@
-ghost use Rattle.std.specs.Prelude.{◌≡◌, nat_le, Some, None, is_some, unwrap_or, IfSome, IfOk, OnOk, IfErr};
-ghost use Rattle.std.specs.Prelude.{◌+◌, length, map, sum, replicate, slice_index_or, slice_set};
+ghost use Rattle.std.specs.Prelude.{◌≡◌, nat_le, Some, None, is_some, unwrap_or, IfOk, OnOk, IfErr};
+ghost use Rattle.std.specs.Prelude.{length, map, sum, replicate, slice_index_or, slice_set};
 ghost use Rattle.csv.specs.Records.{fields_of};
-ghost use Rattle.chip_graph.specs.Limits.{max_total, standard};
-ghost use Rattle.chip_file.specs.Answer.{Answers, FailsInTime, TakesAtMost, max_chunk};
-ghost use Rattle.chip_file.specs.ChipsText.{chips_fault, chips_meant, chips_of_text, chips_text_fault, AreNamed};
-ghost use Rattle.chip_file.specs.ChipsText.{row_fault, vertex_in, chips_in};
-ghost use Rattle.chip_file.specs.Pieces.{GoesOn, IsSound, reading};
-ghost use Rattle.chip_file.specs.Standing.{ComesOfRows, IsAtRow, row_reading, rows_ahead};
+ghost use Rattle.chip_graph.specs.Limits.{max_total};
+ghost use Rattle.chip_file.specs.Answer.{Gives, ReadsText};
+ghost use Rattle.chip_file.specs.ChipsText.{chips_of_text, chips_text_fault, AreNamed, row_fault, vertex_in, chips_in};
+ghost use Rattle.chip_file.specs.Rows.{records_of};
+ghost use Rattle.chip_file.specs.Source.{IsFresh, ReadsSource};
 
 use crate::fault::FileFault;
 use crate::number::number_at;
-use crate::rows::RowReader;
+use crate::rows::{read_header, read_record, records_of};
 use crate::source::Source;
+use crate::whole::read_source;
 use chip_graph::{Limits, MAX_TOTAL};
 use csv::ByteRecord;
 use std::alloc::{AllocError, Global};
@@ -19,24 +19,6 @@ use std::io::Read;
 
 /// The header of a file of chips.
 const HEADER: [&str; 2] = ["vertex", "chips"];
-
-/// The chips of each of so many vertices by a file of rows within the standard limits, or the first thing wrong with the
-/// file.
-///
-/// A vertex that no row names has 0.
-pub fn read_chips<R: Read>(
-    alloc: Global,
-    reader: &mut R,
-    vertices: u64,
-) -> Result<Vec<u64>, FileFault>
-    ensures means { IfSome (R.remaining reader.old) (λ text. Answers standard text
-        (λ chips. chips_of_text vertices text ≡ Some chips.items)
-        (λ f. chips_text_fault vertices text ≡ Some f) result) }
-    ensures read { FailsInTime standard (R.remaining reader.old) (R.remaining reader.new) result }
-    ensures taken { TakesAtMost (standard.bytes + max_chunk) (R.remaining reader.old) (R.remaining reader.new) }
-{
-    read_chips_within(alloc, Limits::standard(), reader, vertices)
-}
 
 /// The chips of each of so many vertices by a file of rows within the limits, or the first thing wrong with the file.
 ///
@@ -47,33 +29,34 @@ pub fn read_chips_within<R: Read>(
     reader: &mut R,
     vertices: u64,
 ) -> Result<Vec<u64>, FileFault>
-    ensures means { IfSome (R.remaining reader.old) (λ text. Answers limits text
-        (λ chips. chips_of_text vertices text ≡ Some chips.items)
-        (λ f. chips_text_fault vertices text ≡ Some f) result) }
-    ensures read { FailsInTime limits (R.remaining reader.old) (R.remaining reader.new) result }
-    ensures taken { TakesAtMost (limits.bytes + max_chunk) (R.remaining reader.old) (R.remaining reader.new) }
+    ensures { ReadsText limits (λ text chips. chips_of_text vertices text ≡ Some chips.items)
+        (λ text f. chips_text_fault vertices text ≡ Some f) (R.remaining reader.old) (R.remaining reader.new) result }
 {
-    let mut rows = RowReader::new(alloc, limits)?;
-    let mut source = Source::new(reader);
-    let chips = chips_of_rows(alloc, &mut source, &mut rows, vertices);
-    rows.finish(&mut source, chips)
+    chips_of_source(alloc, limits, &mut Source::new(reader), vertices)
 }
 
-/// The chips that the rows of an input mean.
-fn chips_of_rows<R: Read>(
+/// The same of a source, in which the reads are counted.
+pub fn chips_of_source<R: Read>(
     alloc: Global,
+    limits: Limits,
     source: &mut Source<'_, R>,
-    rows: &mut RowReader,
     vertices: u64,
 ) -> Result<Vec<u64>, FileFault>
-    requires sound { IsSound R.remaining (reading source.old rows.old.pieces) }
-    requires ready { IsAtRow (row_reading source.old rows.old) }
-    ensures on { GoesOn R.remaining (reading source.old rows.old.pieces) (reading source.new rows.new.pieces) }
-    ensures comes { ComesOfRows (λ rows chips. chips_meant vertices rows ≡ Some chips.items)
-        (λ rows f. chips_fault vertices rows ≡ Some f) (rows_ahead R.remaining (row_reading source.old rows.old))
-        (reading source.new rows.new.pieces) result }
+    requires { IsFresh source.old }
+    ensures lent { source.new.reader.ghost_name ≡ source.old.reader.ghost_name }
+    ensures reads { ReadsSource R.remaining limits (λ text chips. chips_of_text vertices text ≡ Some chips.items)
+        (λ text f. chips_text_fault vertices text ≡ Some f) source.old source.new result }
 {
-    let named = chips_by_vertex(alloc, source, rows, vertices)?;
+    let text = read_source(alloc, limits, source)?;
+    chips_of_text(alloc, &text, vertices)
+}
+
+/// The chips of each of so many vertices that a text means, or its first fault.
+pub fn chips_of_text(alloc: Global, text: &[u8], vertices: u64) -> Result<Vec<u64>, FileFault>
+    ensures { Gives (λ chips. chips_of_text vertices text.now ≡ Some chips.items)
+        (λ f. chips_text_fault vertices text.now ≡ Some f) result }
+{
+    let named = chips_by_vertex(alloc, text, vertices)?;
     let chips = chips_or_none(alloc, &named)?;
     if fits_total(&chips) {
         Ok(chips)
@@ -83,26 +66,18 @@ fn chips_of_rows<R: Read>(
 }
 
 /// The chips of each vertex that a row names.
-fn chips_by_vertex<R: Read>(
-    alloc: Global,
-    source: &mut Source<'_, R>,
-    rows: &mut RowReader,
-    vertices: u64,
-) -> Result<Vec<Option<u64>>, FileFault>
-    requires sound { IsSound R.remaining (reading source.old rows.old.pieces) }
-    requires ready { IsAtRow (row_reading source.old rows.old) }
-    ensures on { GoesOn R.remaining (reading source.old rows.old.pieces) (reading source.new rows.new.pieces) }
-    ensures comes { ComesOfRows (λ rows named. AreNamed vertices rows named.items)
-        (λ rows f. chips_fault vertices rows ≡ Some f) (rows_ahead R.remaining (row_reading source.old rows.old))
-        (reading source.new rows.new.pieces) result }
+fn chips_by_vertex(alloc: Global, text: &[u8], vertices: u64) -> Result<Vec<Option<u64>>, FileFault>
+    ensures { Gives (λ named. AreNamed vertices (records_of text.now) named.items)
+        (λ f. chips_text_fault vertices text.now ≡ Some f) result }
 {
+    let mut records = records_of(alloc, text)?;
     let mut row = ByteRecord::new(alloc);
-    rows.read_header(source, &mut row, &HEADER)?;
+    read_header(&mut records, &mut row, &HEADER)?;
     let mut named = no_chips(alloc, vertices)?;
-    let mut index = 0u64;
-    while rows.read(source, &mut row)? {
+    let mut index = 0;
+    while read_record(&mut records, &mut row)? {
         note_row(&mut named, &row, index)?;
-        index = index.saturating_add(1);
+        index += 1;
     }
     Ok(named)
 }

@@ -1,10 +1,11 @@
-ghost use Rattle.std.specs.Prelude.{◌+◌, IfSome};
-ghost use Rattle.chip_graph.specs.Limits.{standard};
-ghost use Rattle.chip_file.specs.Answer.{Answers, FailsInTime, Gives, TakesAtMost, max_chunk};
+ghost use Rattle.std.specs.Prelude.{◌≡◌, ℕ, List};
+ghost use Rattle.chip_file.specs.Answer.{Gives, ReadsText};
 ghost use Rattle.chip_file.specs.GraphText.{IsKeptText, MeansGraph, IsGraphTextFault};
+ghost use Rattle.chip_file.specs.Source.{IsFresh, ReadsSource};
 
 use crate::fault::FileFault;
-use crate::whole::read_whole_within;
+use crate::source::Source;
+use crate::whole::read_source;
 use chip_graph::{Graph, Limits};
 use chip_json::GraphFile;
 use std::alloc::Global;
@@ -13,40 +14,41 @@ use std::io::Read;
 /// The version of graph files.
 const VERSION: u64 = 1;
 
-/// The graph of a file of JSON within the standard limits, or the first thing wrong with the file.
-pub fn read_graph<R: Read>(alloc: Global, reader: &mut R) -> Result<Graph, FileFault>
-    ensures means { IfSome (R.remaining reader.old)
-        (λ text. Answers standard text (MeansGraph standard text) (IsGraphTextFault standard text) result) }
-    ensures read { FailsInTime standard (R.remaining reader.old) (R.remaining reader.new) result }
-    ensures taken { TakesAtMost (standard.bytes + max_chunk) (R.remaining reader.old) (R.remaining reader.new) }
-{
-    read_graph_within(alloc, Limits::standard(), reader)
-}
-
 /// The graph of a file of JSON within the limits, or the first thing wrong with the file.
 pub fn read_graph_within<R: Read>(
     alloc: Global,
     limits: Limits,
     reader: &mut R,
 ) -> Result<Graph, FileFault>
-    ensures means { IfSome (R.remaining reader.old)
-        (λ text. Answers limits text (MeansGraph limits text) (IsGraphTextFault limits text) result) }
-    ensures read { FailsInTime limits (R.remaining reader.old) (R.remaining reader.new) result }
-    ensures taken { TakesAtMost (limits.bytes + max_chunk) (R.remaining reader.old) (R.remaining reader.new) }
+    ensures { ReadsText limits (MeansGraph limits) (IsGraphTextFault limits) (R.remaining reader.old)
+        (R.remaining reader.new) result }
 {
-    let file = read_file(alloc, limits, reader)?;
-    Ok(Graph::within(alloc, limits, file.vertices, file.sink, file.edges)?)
+    graph_of_source(alloc, limits, &mut Source::new(reader))
 }
 
-/// The graph file that an input is. The text is let go before the graph is made.
-fn read_file<R: Read>(alloc: Global, limits: Limits, reader: &mut R) -> Result<GraphFile, FileFault>
-    ensures means { IfSome (R.remaining reader.old)
-        (λ text. Answers limits text (IsKeptText limits text) (IsGraphTextFault limits text) result) }
-    ensures read { FailsInTime limits (R.remaining reader.old) (R.remaining reader.new) result }
-    ensures taken { TakesAtMost (limits.bytes + max_chunk) (R.remaining reader.old) (R.remaining reader.new) }
+/// The same of a source, in which the reads are counted. The text is let go before the graph is made.
+pub fn graph_of_source<R: Read>(
+    alloc: Global,
+    limits: Limits,
+    source: &mut Source<'_, R>,
+) -> Result<Graph, FileFault>
+    requires { IsFresh source.old }
+    ensures lent { source.new.reader.ghost_name ≡ source.old.reader.ghost_name }
+    ensures reads { ReadsSource R.remaining limits (MeansGraph limits) (IsGraphTextFault limits) source.old source.new
+        result }
 {
-    let text = read_whole_within(alloc, limits, reader)?;
-    file_of_text(alloc, limits, &text)
+    let text = read_source(alloc, limits, source)?;
+    let file = file_of_text(alloc, limits, &text)?;
+    drop(text);
+    graph_of_file(alloc, limits, file)
+}
+
+/// The graph within the limits that a text of JSON means, or its first fault.
+pub fn graph_of_text(alloc: Global, limits: Limits, text: &[u8]) -> Result<Graph, FileFault>
+    ensures { Gives (MeansGraph limits text.now) (IsGraphTextFault limits text.now) result }
+{
+    let file = file_of_text(alloc, limits, text)?;
+    graph_of_file(alloc, limits, file)
 }
 
 /// The graph file of the right version that a text is. Of more edges than the limits allow only the first are kept.
@@ -58,4 +60,12 @@ fn file_of_text(alloc: Global, limits: Limits, text: &[u8]) -> Result<GraphFile,
         return Err(FileFault::Version);
     }
     Ok(file)
+}
+
+/// The graph of a kept file, whatever its text is.
+fn graph_of_file(alloc: Global, limits: Limits, file: GraphFile) -> Result<Graph, FileFault>
+    ensures { (text : List ℕ) → IsKeptText limits text file
+        → Gives (MeansGraph limits text) (IsGraphTextFault limits text) result }
+{
+    Ok(Graph::within(alloc, limits, file.vertices, file.sink, file.edges)?)
 }

@@ -1,18 +1,16 @@
 //! Numbers in the rows of a file.
 
-ghost use Rattle.std.specs.Prelude.{◌≡◌, ◌≤◌, length};
+ghost use Rattle.std.specs.Prelude.{◌≡◌};
 ghost use Rattle.std.specs.Str.{all_ascii_digits};
 ghost use Rattle.csv.specs.Records.{fields_of};
 ghost use Rattle.chip_file.specs.Numbers.{number_at, number_of};
 
+use chip_json::leading_number;
 use csv::ByteRecord;
 use std::str;
 
 /// The most digits that a number has, leading zeros among them.
 const MAX_DIGITS: usize = 20;
-
-/// So many digits are a number that fits into 64 bits.
-const FEW_DIGITS: usize = 19;
 
 /// The number in a row's field at a column, if it is one.
 pub(crate) fn number_at(row: &ByteRecord, column: usize) -> Option<u64>
@@ -21,35 +19,17 @@ pub(crate) fn number_at(row: &ByteRecord, column: usize) -> Option<u64>
     number_of(row.get(column)?)
 }
 
-/// The number that a field is, if it is one.
+/// The number that a field is, if it is one. Nearly all numbers have few digits, and those are quick.
 #[inline]
 fn number_of(field: &[u8]) -> Option<u64>
     ensures { result ≡ number_of field.now }
 {
-    if field.len() <= FEW_DIGITS {
-        short_number(field)
+    let (value, count) = leading_number(field);
+    if count > 0 && count == field.len() {
+        Some(value)
     } else {
         long_number(field)
     }
-}
-
-/// The number that few digits are. Nearly all numbers are such, and this is quick.
-#[inline]
-fn short_number(field: &[u8]) -> Option<u64>
-    requires { length field.now ≤ 19 }
-    ensures { result ≡ number_of field.now }
-{
-    if field.is_empty() {
-        return None;
-    }
-    let mut value = 0;
-    for byte in field {
-        if !byte.is_ascii_digit() {
-            return None;
-        }
-        value = 10 * value + u64::from(*byte - b'0');
-    }
-    Some(value)
 }
 
 /// The number that any digits are.

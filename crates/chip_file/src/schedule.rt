@@ -1,20 +1,18 @@
 //! Schedules as rows of text.
 
-ghost use Rattle.std.specs.Prelude.{◌≡◌, ◌+◌, Some, None, IfOk, IfErr, IfSome};
+ghost use Rattle.std.specs.Prelude.{◌≡◌, Some, None, IfOk, IfErr};
 ghost use Rattle.csv.specs.Records.{fields_of};
-ghost use Rattle.chip_graph.specs.Limits.{standard};
-ghost use Rattle.chip_file.specs.Answer.{Answers, FailsInTime, TakesAtMost, max_chunk};
+ghost use Rattle.chip_file.specs.Answer.{Gives, ReadsText};
 ghost use Rattle.chip_file.specs.Kinds.{kind_named, kind_at};
 ghost use Rattle.chip_file.specs.ScheduleText.{event_kinds, may_be_at, event_of_kind, event_in};
-ghost use Rattle.chip_file.specs.Pieces.{GoesOn, IsSound, reading};
-ghost use Rattle.chip_file.specs.ScheduleText.{event_fault, schedule_fault, schedule_of_rows, schedule_text_fault};
-ghost use Rattle.chip_file.specs.ScheduleText.{schedule_of_text};
-ghost use Rattle.chip_file.specs.Standing.{ComesOfRows, IsAtRow, row_reading, rows_ahead};
+ghost use Rattle.chip_file.specs.ScheduleText.{event_fault, schedule_text_fault, schedule_of_text};
+ghost use Rattle.chip_file.specs.Source.{IsFresh, ReadsSource};
 
 use crate::fault::FileFault;
 use crate::number::number_at;
-use crate::rows::RowReader;
+use crate::rows::{read_header, read_record, records_of};
 use crate::source::Source;
+use crate::whole::read_source;
 use chip_graph::{Graph, Limits};
 use chip_link::Event;
 use csv::ByteRecord;
@@ -105,45 +103,49 @@ impl EventKind {
     }
 }
 
-/// The events of a schedule by a file of rows, in order, or the first thing wrong with the file.
-pub fn read_schedule<R: Read>(
+/// The events of a schedule by a file of rows within the limits, in order, or the first thing wrong with the file.
+pub fn read_schedule_within<R: Read>(
     alloc: Global,
+    limits: Limits,
     reader: &mut R,
     graph: &Graph,
 ) -> Result<Vec<Event>, FileFault>
-    ensures means { IfSome (R.remaining reader.old) (λ text. Answers standard text
-        (λ events. schedule_of_text graph.now text ≡ Some events.items)
-        (λ f. schedule_text_fault graph.now text ≡ Some f) result) }
-    ensures read { FailsInTime standard (R.remaining reader.old) (R.remaining reader.new) result }
-    ensures taken { TakesAtMost (standard.bytes + max_chunk) (R.remaining reader.old) (R.remaining reader.new) }
+    ensures { ReadsText limits (λ text events. schedule_of_text graph.now text ≡ Some events.items)
+        (λ text f. schedule_text_fault graph.now text ≡ Some f) (R.remaining reader.old) (R.remaining reader.new) result }
 {
-    let mut rows = RowReader::new(alloc, Limits::standard())?;
-    let mut source = Source::new(reader);
-    let events = events_of_rows(alloc, &mut source, &mut rows, graph);
-    rows.finish(&mut source, events)
+    schedule_of_source(alloc, limits, &mut Source::new(reader), graph)
 }
 
-/// The events that the rows of an input mean.
-fn events_of_rows<R: Read>(
+/// The same of a source, in which the reads are counted.
+pub fn schedule_of_source<R: Read>(
     alloc: Global,
+    limits: Limits,
     source: &mut Source<'_, R>,
-    rows: &mut RowReader,
     graph: &Graph,
 ) -> Result<Vec<Event>, FileFault>
-    requires sound { IsSound R.remaining (reading source.old rows.old.pieces) }
-    requires ready { IsAtRow (row_reading source.old rows.old) }
-    ensures on { GoesOn R.remaining (reading source.old rows.old.pieces) (reading source.new rows.new.pieces) }
-    ensures comes { ComesOfRows (λ rows events. schedule_of_rows graph.now rows ≡ Some events.items)
-        (λ rows f. schedule_fault graph.now rows ≡ Some f) (rows_ahead R.remaining (row_reading source.old rows.old))
-        (reading source.new rows.new.pieces) result }
+    requires { IsFresh source.old }
+    ensures lent { source.new.reader.ghost_name ≡ source.old.reader.ghost_name }
+    ensures reads { ReadsSource R.remaining limits
+        (λ text events. schedule_of_text graph.now text ≡ Some events.items)
+        (λ text f. schedule_text_fault graph.now text ≡ Some f) source.old source.new result }
 {
+    let text = read_source(alloc, limits, source)?;
+    schedule_of_text(alloc, &text, graph)
+}
+
+/// The events that a text means, in order, or its first fault.
+pub fn schedule_of_text(alloc: Global, text: &[u8], graph: &Graph) -> Result<Vec<Event>, FileFault>
+    ensures { Gives (λ events. schedule_of_text graph.now text.now ≡ Some events.items)
+        (λ f. schedule_text_fault graph.now text.now ≡ Some f) result }
+{
+    let mut records = records_of(alloc, text)?;
     let mut row = ByteRecord::new(alloc);
-    rows.read_header(source, &mut row, &HEADER)?;
+    read_header(&mut records, &mut row, &HEADER)?;
     let mut events = Vec::new(alloc);
-    let mut index = 0u64;
-    while rows.read(source, &mut row)? {
+    let mut index = 0;
+    while read_record(&mut records, &mut row)? {
         events.push(event_of(graph, &row, index)?)?;
-        index = index.saturating_add(1);
+        index += 1;
     }
     Ok(events)
 }

@@ -1,6 +1,6 @@
 //! A reader of one input, that counts what is asked of it.
 
-ghost use Rattle.std.specs.Prelude.{◌≡◌, ◌+◌, ◌<◌, true, not, length};
+ghost use Rattle.std.specs.Prelude.{◌≡◌, ◌+◌, ◌<◌, true, length};
 ghost use Rattle.std.specs.Io.{ReadsAtMost};
 ghost use Rattle.std.specs.Io.KnownBytes.{ReadConsumes};
 ghost use Rattle.chip_file.specs.Source.{IsFresh, goes_on, last_by, last_read, bytes_left, max_reads, reads};
@@ -30,16 +30,6 @@ impl LastRead {
             Ok(0) => LastRead::End,
             Ok(_) => LastRead::Bytes,
             Err(_) => LastRead::Failure,
-        }
-    }
-
-    /// Whether no further read may be made: it found the end, or failed.
-    pub(crate) fn is_over(self) -> bool
-        ensures { result ≡ not (goes_on self) }
-    {
-        match self {
-            LastRead::NotYet | LastRead::Bytes => false,
-            LastRead::End | LastRead::Failure => true,
         }
     }
 }

@@ -1,20 +1,19 @@
 //! Recorded runs as rows of text.
 
-ghost use Rattle.std.specs.Prelude.{◌≡◌, ◌+◌, [], length, map, replicate, Some, None, IfOk, IfErr, IfSome};
+ghost use Rattle.std.specs.Prelude.{◌≡◌, [], length, map, replicate, Some, None, IfOk, IfErr};
 ghost use Rattle.csv.specs.Records.{fields_of};
-ghost use Rattle.chip_graph.specs.Limits.{standard};
-ghost use Rattle.chip_file.specs.Answer.{Answers, FailsInTime, TakesAtMost, max_chunk};
+ghost use Rattle.chip_file.specs.Answer.{Gives};
 ghost use Rattle.chip_file.specs.Kinds.{kind_named, kind_at};
 ghost use Rattle.chip_file.specs.Numbers.{number_in};
+ghost use Rattle.chip_file.specs.Source.{IsFresh, ReadsSource};
 ghost use Rattle.chip_file.specs.TraceText.{trace_kinds, row_of_kind, names_edge, trace_row_in, trace_row_fault};
-ghost use Rattle.chip_file.specs.Pieces.{GoesOn, IsSound, reading};
-ghost use Rattle.chip_file.specs.Standing.{ComesOfRows, IsAtRow, row_reading, rows_ahead};
-ghost use Rattle.chip_file.specs.TraceText.{trace_fault, trace_text_fault, traces_of_rows, traces_of_text};
+ghost use Rattle.chip_file.specs.TraceText.{trace_text_fault, traces_of_text, ReadsTraces};
 
 use crate::fault::FileFault;
 use crate::number::number_at;
-use crate::rows::RowReader;
+use crate::rows::{read_header, read_record, records_of};
 use crate::source::Source;
+use crate::whole::read_source;
 use chip_graph::{Graph, Limits};
 use chip_link::TraceRow;
 use csv::ByteRecord;
@@ -61,54 +60,59 @@ impl TraceKind {
     }
 }
 
-/// The recorded run of each vertex by a file of rows, or the first thing wrong with the file.
+/// The recorded run of each vertex by a file of rows within the limits, or the first thing wrong with the file.
 ///
 /// The rows of one vertex keep the order of the file.
-pub fn read_trace<R: Read>(
+pub fn read_trace_within<R: Read>(
     alloc: Global,
+    limits: Limits,
     reader: &mut R,
     graph: &Graph,
 ) -> Result<Vec<Vec<TraceRow>>, FileFault>
-    ensures means { IfSome (R.remaining reader.old) (λ text. Answers standard text
-        (λ traces. traces_of_text graph.now text ≡ Some (map (λ trace. trace.items) traces.items))
-        (λ f. trace_text_fault graph.now text ≡ Some f) result) }
-
-    // At any reader.
-    ensures each { IfOk result (λ traces. length traces.items ≡ graph.now.vertices) }
-    ensures read { FailsInTime standard (R.remaining reader.old) (R.remaining reader.new) result }
-    ensures taken { TakesAtMost (standard.bytes + max_chunk) (R.remaining reader.old) (R.remaining reader.new) }
+    ensures { ReadsTraces limits graph.now (R.remaining reader.old) (R.remaining reader.new) result }
 {
-    let mut rows = RowReader::new(alloc, Limits::standard())?;
-    let mut source = Source::new(reader);
-    let traces = traces_of_rows(alloc, &mut source, &mut rows, graph);
-    rows.finish(&mut source, traces)
+    trace_of_source(alloc, limits, &mut Source::new(reader), graph)
 }
 
-/// The recorded runs that the rows of an input mean.
-fn traces_of_rows<R: Read>(
+/// The same of a source, in which the reads are counted.
+pub fn trace_of_source<R: Read>(
     alloc: Global,
+    limits: Limits,
     source: &mut Source<'_, R>,
-    rows: &mut RowReader,
     graph: &Graph,
 ) -> Result<Vec<Vec<TraceRow>>, FileFault>
-    requires sound { IsSound R.remaining (reading source.old rows.old.pieces) }
-    requires ready { IsAtRow (row_reading source.old rows.old) }
-    ensures on { GoesOn R.remaining (reading source.old rows.old.pieces) (reading source.new rows.new.pieces) }
-    ensures comes { ComesOfRows
-        (λ rows traces. traces_of_rows graph.now rows ≡ Some (map (λ trace. trace.items) traces.items))
-        (λ rows f. trace_fault graph.now rows ≡ Some f) (rows_ahead R.remaining (row_reading source.old rows.old))
-        (reading source.new rows.new.pieces) result }
+    requires { IsFresh source.old }
+    ensures lent { source.new.reader.ghost_name ≡ source.old.reader.ghost_name }
+    ensures reads { ReadsSource R.remaining limits
+        (λ text traces. traces_of_text graph.now text ≡ Some (map (λ trace. trace.items) traces.items))
+        (λ text f. trace_text_fault graph.now text ≡ Some f) source.old source.new result }
     ensures each { IfOk result (λ traces. length traces.items ≡ graph.now.vertices) }
 {
+    let text = read_source(alloc, limits, source)?;
+    trace_of_text(alloc, &text, graph)
+}
+
+/// The recorded run of each vertex that a text means, or its first fault.
+pub fn trace_of_text(
+    alloc: Global,
+    text: &[u8],
+    graph: &Graph,
+) -> Result<Vec<Vec<TraceRow>>, FileFault>
+    ensures means { Gives
+        (λ traces. traces_of_text graph.now text.now ≡ Some (map (λ trace. trace.items) traces.items))
+        (λ f. trace_text_fault graph.now text.now ≡ Some f) result }
+    ensures each { IfOk result (λ traces. length traces.items ≡ graph.now.vertices) }
+{
+    let mut records = records_of(alloc, text)?;
     let mut row = ByteRecord::new(alloc);
-    rows.read_header(source, &mut row, &HEADER)?;
+    read_header(&mut records, &mut row, &HEADER)?;
     let mut traces = empty_traces(alloc, graph.vertices())?;
-    let mut index = 0u64;
-    while rows.read(source, &mut row)? {
+    let mut index = 0;
+    while read_record(&mut records, &mut row)? {
         let (vertex, recorded) = row_of(graph, &row, index)?;
         let trace = &mut traces[vertex as usize];
         trace.push(recorded)?;
-        index = index.saturating_add(1);
+        index += 1;
     }
     Ok(traces)
 }

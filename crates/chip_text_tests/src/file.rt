@@ -1,8 +1,12 @@
 //! Worked files, with values from outside, and readers that are slow or fail.
 
+ghost use Rattle.chip_file.specs.Source.{IsFresh};
+
 use chip_file::{
-    FileFault, LastRead, Source, read_chips, read_chips_within, read_graph, read_graph_within,
-    read_source, read_whole, read_whole_within,
+    FileFault, LastRead, Source, chips_of_source, chips_of_text, graph_of_source, graph_of_text,
+    read_chips, read_chips_within, read_graph, read_graph_within, read_schedule_within, read_source,
+    read_trace_within, read_whole, read_whole_within, schedule_of_source, schedule_of_text,
+    trace_of_source, trace_of_text,
 };
 use chip_graph::{Edge, Graph, GraphFault, Limits};
 use std::alloc::{AllocError, Global};
@@ -184,8 +188,8 @@ const GRAPHS: &[&(&str, Option<FileFault>)] = &[
 ];
 
 /// The first thing wrong with a text of a graph, if something is.
-fn fault_of_graph(alloc: Global, mut text: &[u8]) -> Option<FileFault> {
-    read_graph(alloc, &mut text).err()
+fn fault_of_graph(alloc: Global, text: &[u8]) -> Option<FileFault> {
+    graph_of_text(alloc, Limits::standard(), text).err()
 }
 
 #[test]
@@ -224,12 +228,16 @@ const CHIPS: &[&(&str, [u64; 3])] = &[
     &("\"vertex\",\"chips\"\n\"1\",\"5\"\n", [0, 5, 0]),
     &("\u{feff}vertex,chips\n1,1099511627776\n", [0, 1 << 40, 0]),
     &("vertex,chips\n1,\"2", [0, 2, 0]),
+    // Quotes round a part of a field, and round nothing; lines that end in carriage returns.
+    &("vertex,chips\r\"0\"2,3\r0,4\r", [4, 0, 3]),
+    &("vertex,chips\n\"\"1,\"\"4\n", [0, 4, 0]),
+    &("\u{feff}\"vertex\",chips\r\n\"0\",4\n\r1,2\n\r", [4, 2, 0]),
     &("vertex,chips\n1,00000000000000000002\n", [0, 2, 0]),
 ];
 
 /// The chips on three vertices that a text means.
-fn chips_of(alloc: Global, mut text: &[u8]) -> Result<Vec<u64>, FileFault> {
-    read_chips(alloc, &mut text, 3)
+fn chips_of(alloc: Global, text: &[u8]) -> Result<Vec<u64>, FileFault> {
+    chips_of_text(alloc, text, 3)
 }
 
 #[test]
@@ -271,6 +279,17 @@ const WRONG_CHIPS: &[&(&str, FileFault)] = &[
     ),
     &("vertex,chips\n0\n", FileFault::Row(0)),
     &("vertex,chips\n1,1\n0,1,1\n", FileFault::Row(1)),
+    // The end of a line in quotes ends no row, and a comma there parts no fields.
+    &("vertex,chips\n0,\"1\n2\"\n1,1\n", FileFault::Number(0)),
+    &("vertex,chips\n0,1\r1,\"1\r", FileFault::Number(1)),
+    &("vertex,chips\n0,\",\"\n", FileFault::Number(0)),
+    // Two quotes are one within quotes, which go on behind them.
+    &("vertex,chips\n\"0\"\"\n\",1\n", FileFault::Number(0)),
+    // A quote in a field that has none before it opens none.
+    &("vertex,chips\n0\"\n1,1\n\"", FileFault::Row(0)),
+    // A byte order mark is none behind the start.
+    &("vertex,chips\n0,1\n\u{feff}1,1\n", FileFault::Number(1)),
+    &("vertex,chips\n0,1\r\n,,,,,\"", FileFault::Row(1)),
     &("vertex,chips\n0,1099511627777\n", FileFault::Total),
     &("vertex,chips\n0,1099511627776\n1,1\n", FileFault::Total),
     &(
@@ -338,6 +357,68 @@ fn a_source_tells_the_reads_to_a_failed_one(rt: HostRuntime) {
     assert!(rt; slow.reads == 3);
 }
 
+/// Whether a source of so many bytes tells one read for each, and that the last one went so.
+fn tells(source: &Source<'_, Slow<'_>>, bytes: usize, last: LastRead) -> bool {
+    source.reads() == (bytes as u64).saturating_add(1) && source.last_read() == last
+}
+
+/// A text of each kind, for the triangle.
+const TEXTS: [&str; 4] = [
+    TRIANGLE,
+    "vertex,chips\n2,3\n",
+    "event,at,count\nend,0,0\n",
+    "vertex,kind,edge,count\n0,fire,0,1\n",
+];
+
+/// What reading a source as this kind of text answers: none, or its fault.
+fn fault_of_source(
+    alloc: Global,
+    source: &mut Source<'_, Slow<'_>>,
+    kind: usize,
+) -> Option<FileFault>
+    requires { IsFresh source.old }
+{
+    let limits = Limits::standard();
+    let graph = match triangle(alloc) {
+        Ok(graph) => graph,
+        Err(fault) => return Some(fault),
+    };
+    match kind {
+        0 => graph_of_source(alloc, limits, source).err(),
+        1 => chips_of_source(alloc, limits, source, 3).err(),
+        2 => schedule_of_source(alloc, limits, source, &graph).err(),
+        _ => trace_of_source(alloc, limits, source, &graph).err(),
+    }
+}
+
+#[test]
+fn a_source_tells_the_reads_of_each_kind_of_text(rt: HostRuntime) {
+    for (kind, text) in TEXTS.iter().enumerate() {
+        let mut slow = Slow::new(text.as_bytes(), None);
+        let mut source = Source::new(&mut slow);
+        let found = fault_of_source(rt.alloc(), &mut source, kind);
+        assert!(rt; found == None && tells(&source, text.len(), LastRead::End), "{text}");
+    }
+}
+
+#[test]
+fn a_source_tells_a_failed_read_of_each_kind_of_text(rt: HostRuntime) {
+    for (kind, text) in TEXTS.iter().enumerate() {
+        let mut slow = Slow::new(text.as_bytes(), Some(9));
+        let mut source = Source::new(&mut slow);
+        let found = fault_of_source(rt.alloc(), &mut source, kind);
+        assert!(rt; found == Some(FileFault::Read) && tells(&source, 9, LastRead::Failure), "{text}");
+    }
+}
+
+#[test]
+fn texts_of_events_and_runs(rt: HostRuntime) {
+    let graph = triangle(rt.alloc()).expect(&rt, "a graph");
+    let events = schedule_of_text(rt.alloc(), TEXTS[2].as_bytes(), &graph).expect(&rt, "events");
+    let runs = trace_of_text(rt.alloc(), TEXTS[3].as_bytes(), &graph).expect(&rt, "runs");
+    assert!(rt; events.len() == 1 && runs.len() == 3 && runs[0].len() == 1);
+}
+
 #[test]
 fn a_failing_read_of_a_graph_is_told(rt: HostRuntime) {
     for read in 0..=TRIANGLE.len() {
@@ -350,11 +431,12 @@ fn a_failing_read_of_a_graph_is_told(rt: HostRuntime) {
 
 #[test]
 fn a_failing_read_of_chips_is_told(rt: HostRuntime) {
-    let rows = b"vertex,chips\n2,3\n";
+    let rows = b"vertex,chips\n2\n3,3\n";
     for read in 0..=rows.len() {
         let mut slow = Slow::new(rows, Some(read));
         let found = read_chips(rt.alloc(), &mut slow, 3).err();
         assert!(rt; found == Some(FileFault::Read), "{found:?}");
+        assert!(rt; slow.reads == read.saturating_add(1), "no further read");
     }
 }
 
@@ -373,14 +455,14 @@ fn the_longest_input(rt: HostRuntime) {
 #[test]
 fn a_graph_of_one_byte_too_many(rt: HostRuntime) {
     let spaces = spaces(rt.alloc(), MAX_BYTES + 1).expect(&rt, "memory");
-    let found = fault_of_graph(rt.alloc(), spaces.as_slice());
+    let found = read_graph(rt.alloc(), &mut spaces.as_slice()).err();
     assert!(rt; found == Some(FileFault::TooLong));
 }
 
 #[test]
 fn chips_of_one_byte_too_many(rt: HostRuntime) {
     let spaces = spaces(rt.alloc(), MAX_BYTES + 1).expect(&rt, "memory");
-    let found = chips_of(rt.alloc(), spaces.as_slice()).err();
+    let found = read_chips(rt.alloc(), &mut spaces.as_slice(), 3).err();
     assert!(rt; found == Some(FileFault::TooLong));
 }
 
@@ -482,6 +564,28 @@ fn fault_of_chips_within(alloc: Global, bytes: u64) -> Option<FileFault> {
 fn chips_meet_their_limit(rt: HostRuntime) {
     assert!(rt; fault_of_chips_within(rt.alloc(), 17) == None);
     assert!(rt; fault_of_chips_within(rt.alloc(), 16) == Some(FileFault::TooLong));
+}
+
+/// What is wrong with a schedule and with a run of the triangle within so many bytes, if something is.
+fn faults_of_rows_within(
+    alloc: Global,
+    graph: &Graph,
+    bytes: u64,
+) -> Option<[Option<FileFault>; 2]> {
+    let limits = Limits::new(3, 4, bytes)?;
+    Some([
+        read_schedule_within(alloc, limits, &mut TEXTS[2].as_bytes(), graph).err(),
+        read_trace_within(alloc, limits, &mut TEXTS[3].as_bytes(), graph).err(),
+    ])
+}
+
+#[test]
+fn schedules_and_runs_meet_their_limit(rt: HostRuntime) {
+    let graph = triangle(rt.alloc()).expect(&rt, "a graph");
+    let long = Some(FileFault::TooLong);
+    assert!(rt; faults_of_rows_within(rt.alloc(), &graph, 34) == Some([None, None]));
+    assert!(rt; faults_of_rows_within(rt.alloc(), &graph, 33) == Some([None, long]));
+    assert!(rt; faults_of_rows_within(rt.alloc(), &graph, 22) == Some([long, long]));
 }
 
 #[test]

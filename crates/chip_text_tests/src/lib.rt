@@ -10,8 +10,6 @@ mod report;
 #[cfg(test)]
 mod runs;
 #[cfg(test)]
-mod seams;
-#[cfg(test)]
 mod sittings;
 #[cfg(test)]
 mod trace;

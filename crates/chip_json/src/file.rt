@@ -25,13 +25,9 @@ const MAX_DEPTH: usize = 127;
 /// What a graph file says. Of more edges than were asked for only the first are there.
 #[derive(Drop)]
 pub struct GraphFile {
-    /// The version.
     pub version: u64,
-    /// How many vertices there are.
     pub vertices: u64,
-    /// The sink.
     pub sink: u64,
-    /// The edges.
     pub edges: Vec<Edge>,
 }
 

@@ -16,7 +16,7 @@ use Rattle.chip_file.specs.declared.fault.FileFault.TheVariants as fault
 use Rattle.chip_file.specs.declared.source.LastRead.{LastRead}
 use Rattle.chip_file.specs.declared.source.LastRead.TheVariants as last
 use Rattle.chip_file.specs.declared.source.Source.{Source}
-use Rattle.chip_file.specs.Answer.{Answers, FailsInTime, Gives, IsOfMachine, ReadsText, ReadsWhole, TakesAtMost, max_chunk}
+use Rattle.chip_file.specs.Answer.{Answers, Gives, IsOfMachine, ReadsWhole, TakesAtMost, max_chunk}
 use Rattle.chip_file.specs.Source.{ReadsSource, Tells, bytes_left, last_of_whole, last_read, reads}
 use Rattle.chip_file.specs.Rows.{Row, records_of, has_header, rows_under_header, first_row_fault, records_fault}
 use Rattle.chip_file.specs.Rows.{by_index}

@@ -499,12 +499,10 @@ def write_chips(file: FileName, graph: Graph, chips: Chips) -> None:
     _write(file, _chips_text(graph.chips(chips)))
 
 
-def read_chips(file: FileName, graph: Graph) -> tuple[int, ...]:
-    """The chips of a chips file, one number for each vertex of the graph."""
-    found = [0] * graph.vertices
-    for vertex, count in _read_rows(file, CHIPS_HEADER):
-        found[int(vertex)] = int(count)
-    return tuple(found)
+def read_chips(file: FileName, graph: Graph, *, program: FileName | None = None) -> tuple[int, ...]:
+    """The chips of a chips file, one number for each vertex of the graph. The program reads them, and refuses what is
+    wrong with the file."""
+    return Program(program).plain(graph, file, limit=0, large=True).chips
 
 
 def write_schedule(file: FileName, schedule: Iterable[Sequence[Any]]) -> None:
@@ -810,7 +808,7 @@ class Program:
             options = {"limit": limit, "ring": ring, "rounds": rounds, "books": books, "fed": fed}
             text = self._ask("simulate", *files, **options)
             known = room.graph_known()
-        start = read_chips(chips, known) if _is_file(chips) else known.chips(chips)
+        start = read_chips(chips, known, program=self.path) if _is_file(chips) else known.chips(chips)
         events = read_schedule(schedule) if _is_file(schedule) else schedule
         given = {name: options[name] for name in ("limit", "ring", "fed") if options[name] is not None}
         asked = {"schedule": tuple(events), "rounds": rounds or 0, "setting": Setting(known, start, **given)}

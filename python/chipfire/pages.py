@@ -91,7 +91,7 @@ def recorded(
     rows = chipfire.read_trace(trace) if chipfire._is_file(trace) else [TraceRow(*row) for row in trace]
     asked.replay(graph, chips, rows, limit=limit)
     known = graph if isinstance(graph, Graph) else Graph.read(graph)
-    start = chipfire.read_chips(chips, known) if chipfire._is_file(chips) else known.chips(chips)
+    start = chipfire.read_chips(chips, known, program=program) if chipfire._is_file(chips) else known.chips(chips)
     setting = Setting(known, start, chipfire.MAX_LIMIT if limit is None else limit)
     for cells in RINGS if ring is None else [ring]:
         events = spell_trace(replace(setting, ring=cells), rows)

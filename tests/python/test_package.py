@@ -295,6 +295,23 @@ class Traces(WithFolder):
         self.assertEqual(text_of(self.file("trace.csv")), text_of(trace))
 
 
+class Rows(WithFolder):
+    def test_a_mark_of_the_byte_order_is_no_part_of_the_header(self):
+        chips = self.file("chips.csv", f"\ufeff{text_of(CHIPS_FILE)}")
+        self.assertEqual(chipfire.read_chips(chips, TRIANGLE), (4, 0, 0))
+        schedule = self.file("schedule.csv", "\ufeffevent,at,count\nfire,0,2\n")
+        self.assertEqual(chipfire.read_schedule(schedule), [("fire", 0, 2)])
+        trace = self.file("trace.csv", "\ufeffvertex,kind,edge,count\n0,fire,0,2\n")
+        self.assertEqual(chipfire.read_trace(trace), [(0, "fire", 0, 2)])
+
+    def test_chips_that_the_program_refuses(self):
+        rows = {"0,1\n-1,5": (25, 1), "0,-7": (25, 0), "1,2\n0,1\n1,2": (27, 2), "9,1": (26, 0), "0": (24, 0)}
+        for text, (number, row) in rows.items():
+            with self.subTest(text), self.assertRaises(chipfire.Fault) as caught:
+                chipfire.read_chips(self.file("chips.csv", f"vertex,chips\n{text}\n"), TRIANGLE)
+            self.assertEqual((caught.exception.number, caught.exception.place), (number, (row,)))
+
+
 class Refusals(WithFolder):
     def refused(self, call, *arguments, **options):
         with self.assertRaises(chipfire.Fault) as caught:

@@ -30,9 +30,10 @@ Who comes from sandpiles finds the usual words under these names:
 
 Reports are drawn by `Report.image` and `Report.show`, plays by `frames`.
 
-A vertex has a number from 0 on, and where a graph comes from elsewhere also a name. Tuples go by numbers, dicts by
-names. Numbers of chips and firings go up to 2^40; a graph has up to 4,096 vertices and 65,536 edges. Where `large` is
-true, which `check`, `plain`, `resume`, `frames` and the words of sandpiles take, it has up to 1,048,576 and 8,388,608.
+A vertex has a number from 0 on, and where a graph comes from elsewhere also a name. Tuples go by numbers, dicts and
+Series of pandas by names. Numbers of chips and firings go up to 2^40; a graph has up to 4,096 vertices and 65,536
+edges. Where `large` is true, which `check`, `plain`, `resume`, `frames` and the words of sandpiles take, it has up to
+1,048,576 and 8,388,608.
 """
 
 from __future__ import annotations
@@ -99,7 +100,8 @@ MAX_MULT = 2**20
 MAX_CHIPS = MAX_LIMIT = 2**40
 
 FileName = Union[str, "os.PathLike[str]"]
-#: One number for each vertex, or the numbers of some vertices by their names; a vertex that is not named has 0.
+#: One number for each vertex, or the numbers of some vertices by their names, as a dict or a Series of pandas; a vertex
+#: that is not named has 0.
 Chips = Union[Sequence[int], Mapping[Hashable, int]]
 
 #: How a line begins that tells of a long play.
@@ -263,12 +265,15 @@ class Graph:
         return {name: values[vertex] for vertex, name in enumerate(self.names) if vertex != self.sink}
 
     def chips(self, chips: Chips) -> tuple[int, ...]:
-        """Chips as one number for each vertex, from a sequence with one for each or a dict by names."""
-        if isinstance(chips, Mapping):
-            found = [0] * self.vertices
+        """Chips as one number for each vertex, from a sequence with one for each, or by names from what has items."""
+        if hasattr(chips, "items"):
+            found: dict[int, int] = {}
             for name, count in chips.items():
-                found[self.number(name)] = _whole(count, f"the chips of vertex {name!r}")
-            return tuple(found)
+                vertex = self.number(name)
+                if vertex in found:
+                    raise ValueError(f"vertex {name!r} is named twice")
+                found[vertex] = _whole(count, f"the chips of vertex {name!r}")
+            return tuple(found.get(vertex, 0) for vertex in range(self.vertices))
         if len(chips) != self.vertices:
             raise ValueError(f"there are chips for {len(chips)} vertices, and the graph has {self.vertices}")
         return tuple(_whole(count, f"the chips of vertex {vertex}") for vertex, count in enumerate(chips))

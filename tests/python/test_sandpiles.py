@@ -79,6 +79,34 @@ class Sage(unittest.TestCase):
         self.assertEqual(families, {})
 
 
+class Series:
+    """What a Series of pandas has: values and their labels, in an order of its own."""
+
+    def __init__(self, values, index):
+        self.values, self.index = values, index
+
+    def items(self):
+        return zip(self.index, self.values)
+
+    def __len__(self):
+        return len(self.values)
+
+    def __iter__(self):
+        return iter(self.values)
+
+
+class Pandas(unittest.TestCase):
+    def test_a_series_goes_by_its_labels(self):
+        graph = chipfire.Graph(3, 0, [(1, 0), (2, 0)], ["out", 1, "b"])
+        for series in [Series, importlib.import_module("pandas").Series] if has("pandas") else [Series]:
+            self.assertEqual(graph.chips(series([7, 0, 5], index=["b", "out", 1])), (0, 5, 7))
+            self.assertEqual(graph.chips(series([7], index=["b"])), (0, 0, 7))
+            self.assertEqual(chipfire.plain(graph, series([7, 0, 5], index=["b", "out", 1])).fired, (0, 5, 7))
+            for labels, refusal in [([0, 1], KeyError), ([float("nan"), 1], KeyError), ([1, 1], ValueError)]:
+                with self.subTest(labels=labels), self.assertRaises(refusal):
+                    graph.chips(series([7, 5], index=labels))
+
+
 @unittest.skipUnless(has("networkx"), "NetworkX is not here")
 class NetworkX(unittest.TestCase):
     def test_an_undirected_graph_has_an_edge_each_way(self):

@@ -158,14 +158,14 @@ class Fault(Exception):
         return f"{line}\n{self.explanation}" if self.explanation else line
 
 
-def _whole(value: Any, what: str) -> int:
-    """A whole number from 0 on: an int, or what stands for one, as the numbers of NumPy and Sage do."""
+def _whole(value: Any, what: str, least: int = 0) -> int:
+    """A whole number, `least` or more: an int, or what stands for one, as the numbers of NumPy and Sage do."""
     try:
         number = operator.index(value)
     except TypeError:
         raise TypeError(f"{what} is no whole number: {value!r}") from None
-    if number < 0:
-        raise ValueError(f"{what} is below 0: {number}")
+    if number < least:
+        raise ValueError(f"{what} is below {least}: {number}")
     return number
 
 
@@ -343,17 +343,22 @@ def _named(names: Iterable[Hashable], sink: Hashable, edges: Iterable[tuple[Hash
     numbers = {name: vertex for vertex, name in enumerate(names)}
     if sink not in numbers:
         raise KeyError(f"the graph has no vertex {sink!r}")
-    rows = [(numbers[tail], numbers[head], mult) for tail, head, mult in edges if tail != sink]
+    rows = [
+        (numbers[tail], numbers[head], _whole(mult, f"the multiplicity of the edge from {tail!r} to {head!r}", 1))
+        for tail, head, mult in edges
+        if tail != sink
+    ]
     return Graph(len(names), numbers[sink], tuple(rows), names)
 
 
-def from_networkx(graph: Any, sink: Hashable, mult: str = "mult") -> Graph:
+def from_networkx(graph: Any, sink: Hashable, weight: str | None = "weight") -> Graph:
     """A graph of NetworkX, of any of its four kinds, with one of its vertices as the sink.
 
-    An edge sends as many chips as its attribute `mult` says, or one. An undirected edge is one edge each way. Edges
-    out of the sink are left out. The vertices keep their names.
+    An edge sends as many chips as its attribute of the name `weight` says, a whole number above 0, or one where it has
+    none; where `weight` is None each sends one. An undirected edge is one edge each way. Edges out of the sink are left
+    out. The vertices keep their names.
     """
-    edges = [(tail, head, data.get(mult, 1)) for tail, head, data in graph.edges(data=True)]
+    edges = list(graph.edges(data=weight, default=1))
     if not graph.is_directed():
         edges += [(head, tail, count) for tail, head, count in edges]
     return _named(graph.nodes(), sink, edges)

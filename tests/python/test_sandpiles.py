@@ -121,13 +121,32 @@ class NetworkX(unittest.TestCase):
         import networkx
 
         drawn = networkx.MultiDiGraph()
-        drawn.add_edge("a", "b", mult=3)
+        drawn.add_edge("a", "b", weight=3)
         drawn.add_edge("a", "b")
         drawn.add_edge("b", "a")
         graph = chipfire.from_networkx(drawn, "b")
         self.assertEqual((graph.names, graph.sink, graph.edges), (("a", "b"), 1, ((0, 1, 3), (0, 1, 1))))
         # four chips cross at each firing, so of nine two firings' worth do
         self.assertEqual(chipfire.plain(graph, {"a": 9}).chips, (1, 8))
+
+    def test_the_weight_of_an_edge_is_the_attribute_that_is_named(self):
+        import networkx
+
+        drawn = networkx.cycle_graph(3)
+        networkx.set_edge_attributes(drawn, {edge: {"weight": 5, "capacity": 2} for edge in [(0, 1), (1, 2)]})
+        for weight, mults in [("weight", [5, 1]), ("capacity", [2, 1]), ("none", [1]), (None, [1])]:
+            graph = chipfire.from_networkx(drawn, 0, weight=weight)
+            self.assertEqual({mult for _, _, mult in graph.edges}, set(mults))
+        self.assertEqual(chipfire.order(chipfire.from_networkx(drawn, 0)), 5 * 5 + 5 * 1 + 5 * 1)
+
+    def test_a_weight_is_a_whole_number_above_0(self):
+        import networkx
+
+        for weight, refusal in [(0, ValueError), (-1, ValueError), (2.5, TypeError), (None, TypeError)]:
+            drawn = networkx.Graph()
+            drawn.add_edge("a", "b", weight=weight)
+            with self.assertRaisesRegex(refusal, "from 'b' to 'a'"):
+                chipfire.from_networkx(drawn, "a")
 
     def test_a_sink_that_is_no_vertex(self):
         import networkx

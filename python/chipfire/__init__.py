@@ -258,7 +258,8 @@ class Graph:
 
     def max_stable(self) -> dict[Hashable, int]:
         """The maximal stable configuration: each vertex but the sink has one chip less than it needs to fire."""
-        return self.without_sink([degree - 1 for degree in self.degrees()])
+        degrees = self.without_sink(self.degrees()).items()
+        return {name: _whole(degree - 1, f"the most stable chips of vertex {name!r}") for name, degree in degrees}
 
     def without_sink(self, values: Sequence[int]) -> dict[Hashable, int]:
         """Numbers of all vertices as a dict by name, without that of the sink: a configuration."""

@@ -35,6 +35,27 @@ def _sum(first: Configuration, second: Configuration) -> Configuration:
     return {name: count + second[name] for name, count in first.items()}
 
 
+def _require_global_sink(graph: Graph) -> None:
+    """Refuses what is no graph with a global sink, by the names of its vertices, where the program is not asked."""
+    into: dict[int, list[int]] = {vertex: [] for vertex in range(graph.vertices)}
+    for vertex in (graph.sink, *(end for tail, head, _ in graph.edges for end in (tail, head))):
+        if vertex not in into:
+            raise ValueError(f"the sink or an end of an edge is {vertex}, and there are {graph.vertices} vertices")
+    for tail, head, mult in graph.edges:
+        if mult == 0 or tail in (head, graph.sink):
+            ends = f"from {graph.names[tail]!r} to {graph.names[head]!r}"
+            raise ValueError(f"the edge {ends} sends no chip, is a loop or leaves the sink")
+        into[head].append(tail)
+    lost, reached = {*into} - {graph.sink}, [graph.sink]
+    for vertex in reached:
+        found = lost.intersection(into[vertex])
+        lost -= found
+        reached += found
+    if lost:
+        names = ", ".join(repr(graph.names[vertex]) for vertex in sorted(lost)[:5])
+        raise ValueError(f"no walk leads to the sink from {len(lost)} of the vertices: {names}")
+
+
 def _played(graph: Graph, chips: Chips, large: bool, program: FileName | None) -> Report:
     """The report of a play to its end."""
     report = Program(program).plain(graph, chips, large=large)
@@ -72,6 +93,7 @@ def is_stable(graph: Graph, chips: Chips) -> bool:
 
     Nothing of this is proved: Python compares each number with the vertex's degree.
     """
+    _require_global_sink(graph)
     most = graph.max_stable()
     return all(count <= most[name] for name, count in _configuration(graph, chips).items())
 
@@ -156,6 +178,7 @@ def invariant_factors(graph: Graph) -> tuple[int, ...]:
     one of 50 by 50 a minute.
     Nothing of this is proved, and the program is not asked.
     """
+    _require_global_sink(graph)
     rows: list[dict[int, int]] = [{} for _ in range(graph.vertices)]
     for tail, head, mult in graph.edges:
         rows[tail][tail] = rows[tail].get(tail, 0) + mult

@@ -256,6 +256,11 @@ class Graph:
         """The number of the edge over which a vertex gets the chips that it starts with, in schedules and traces."""
         return len(self.edges) + vertex
 
+    def _is_like(self, other: Graph) -> bool:
+        """Whether another graph is the same but for the order of its edges and the names of its vertices."""
+        is_same = (self.vertices, self.sink) == (other.vertices, other.sink)
+        return is_same and (self.edges == other.edges or sorted(self.edges) == sorted(other.edges))
+
     def max_stable(self) -> dict[Hashable, int]:
         """The maximal stable configuration: each vertex but the sink has one chip less than it needs to fire."""
         degrees = self.without_sink(self.degrees()).items()
@@ -556,6 +561,15 @@ class Report(Drawn):
     prior: tuple[int, ...] | None = None
     graph: Graph | None = field(default=None, compare=False, repr=False)
 
+    def __post_init__(self) -> None:
+        counts = [self.chips, self.fired, *([] if self.prior is None else [self.prior])]
+        vertices = len(self.chips) if self.graph is None else self.graph.vertices
+        is_known = all(0 <= vertex < vertices for vertex in (*self.over, *self.sealed))
+        if not is_known or any(len(numbers) != vertices for numbers in counts):
+            raise ValueError(f"the lists of the report do not fit a graph of {vertices} vertices")
+        if self.graph is not None and self.total[self.graph.sink]:
+            raise ValueError("the sink of the graph fired in the report")
+
     @property
     def closed(self) -> bool:
         """Whether the play came to its end: no vertex was stopped by a limit or a seal."""
@@ -852,7 +866,11 @@ class Program:
         `large` is as in `check`.
         """
         with _Room() as room:
-            return room.report(self._ask("resume", room.graph(graph), room.earlier(report), limit=limit, large=large))
+            files = [room.graph(graph), room.earlier(report)]
+            found = room.report(self._ask("resume", *files, limit=limit, large=large))
+        if isinstance(report, Report) and report.graph is not None and not report.graph._is_like(found.graph):
+            raise ValueError("the report is one of another graph")
+        return found
 
     def explain(self, number: int | None = None) -> str:
         """What the fault with this number means and what to do; without a number the table of all faults."""

@@ -166,6 +166,25 @@ class Sittings(WithFolder):
         self.assertEqual((first.over, first.configuration), ((0,), {0: 3, 1: 1}))
         self.assertEqual(chipfire.resume(TRIANGLE_FILE, self.file("first.json")).total, (3, 1, 0))
 
+    def test_a_report_of_another_graph(self):
+        report = chipfire.plain(chipfire.grid(4, 3), {5: 9}, limit=1)
+        report.write(self.file("report.json"))
+        for graph in (TRIANGLE, chipfire.grid(3, 3), chipfire.grid(5, 3), chipfire.torus(4, 4)):
+            with self.assertRaises(ValueError):
+                chipfire.Report.read(self.file("report.json"), graph)
+        with self.assertRaisesRegex(ValueError, "another graph"):
+            chipfire.resume(chipfire.grid(3, 4), report)
+        edges = tuple(reversed(TRIANGLE.edges))
+        named = chipfire.plain(chipfire.Graph(3, 2, edges, ["a", "b", "out"]), {"a": 5}, limit=1)
+        self.assertEqual(chipfire.resume(TRIANGLE_FILE, named).total, (3, 1, 0))
+
+    def test_a_report_whose_lists_do_not_fit(self):
+        start = {"graph": TRIANGLE, "chips": (3, 1, 1), "fired": (1, 0, 0), "over": (0,)}
+        wrong = [{"chips": (3, 1)}, {"fired": (1, 0, 0, 0)}, {"prior": (1, 0)}, {"over": (3,)}, {"sealed": (-1,)}]
+        for changed in [*wrong, {"fired": (1, 0, 1)}, {"graph": None, "fired": ()}]:
+            with self.subTest(changed), self.assertRaises(ValueError):
+                chipfire.Report(**{**start, **changed})
+
     def test_a_report_without_its_graph_has_no_names(self):
         with self.assertRaises(ValueError):
             chipfire.Report((1,), (0,)).configuration

@@ -12,12 +12,16 @@ import tarfile
 import zipfile
 
 HERE = os.path.dirname(os.path.realpath(__file__))
+REPOSITORY = os.path.dirname(HERE)
+SOURCE = f"{REPOSITORY}/crates/chip_arguments/src/help_texts.rt"
 SUMMARY = "Graphs, chips and reports of chipfire, a chip-firing machine that is proved right, as Python objects"
 #: Where the version stands: in the program's source, and in an archive of these files alone in its PKG-INFO.
 VERSIONS = {
-    f"{HERE}/../crates/chip_arguments/src/help_texts.rt": r'VERSION: &str = "(.*)"',
+    SOURCE: r'VERSION: &str = "(.*)"',
     f"{HERE}/PKG-INFO": r"Version: (.*)",
 }
+#: The wheel without the program is for every machine.
+PURE = "py3-none-any"
 #: The command that pip installs where the package carries the program.
 COMMAND = b"[console_scripts]\nchipfire = chipfire:start_program\n"
 
@@ -58,13 +62,13 @@ def wheel_name(tag):
 def wheel_files(tag, carried):
     """Returns the files of the wheel for the machines of a tag, bytes by names, with what it carries beside the package."""
     info = f"chipfire-{version()}.dist-info"
-    is_pure = "false" if carried else "true"
+    is_pure = str(tag == PURE).lower()
     files = {
         **{name: _read(name) for name in _package()},
         **carried,
         f"{info}/METADATA": _metadata(),
         f"{info}/WHEEL": f"Wheel-Version: 1.0\nGenerator: chipfire\nRoot-Is-Purelib: {is_pure}\nTag: {tag}\n".encode(),
-        **({f"{info}/entry_points.txt": COMMAND} if carried else {}),
+        **({} if tag == PURE else {f"{info}/entry_points.txt": COMMAND}),
     }
     record = "".join(_record_line(name, text) for name, text in files.items()) + f"{info}/RECORD,,\n"
     return {**files, f"{info}/RECORD": record.encode()}
@@ -81,10 +85,10 @@ def write_wheel(path, files, programs=()):
 
 
 def build_wheel(wheel_directory, config_settings=None, metadata_directory=None):
-    """Writes the wheel without the program and returns its name."""
-    tag = "py3-none-any"
-    write_wheel(os.path.join(wheel_directory, wheel_name(tag)), wheel_files(tag, {}))
-    return wheel_name(tag)
+    """Writes the wheel without the program and returns its name. It notes the repository that will have the program."""
+    noted = {"chipfire/repository": os.fsencode(REPOSITORY)} if os.path.isfile(SOURCE) else {}
+    write_wheel(os.path.join(wheel_directory, wheel_name(PURE)), wheel_files(PURE, noted))
+    return wheel_name(PURE)
 
 
 def build_sdist(sdist_directory, config_settings=None):

@@ -11,7 +11,8 @@
 The package stands on the standard library alone. `pip install ./python` installs it, and a copy of its folder works
 too. The answers are the program's, whose contracts are proved; nothing of the package is. The program is found in this
 order: the `program` that a call or a `Program` names, the environment variable CHIPFIRE, the program that an installed
-package carries, `target/chipfire` of the repository that the package lies in, and `chipfire` on the PATH.
+package carries, `target/chipfire` of the repository that the package lies in or was installed from, and `chipfire` on
+the PATH.
 
 Who comes from sandpiles finds the usual words under these names:
 
@@ -1000,12 +1001,21 @@ class _Room(contextlib.ExitStack):
         return Report.parse(text, self.graph_known())
 
 
+def _repository() -> str:
+    """The repository that the package was installed from, as `build_wheel.py` noted, or else that it may lie in."""
+    try:
+        with open(os.path.join(_HERE, "repository"), "rb") as noted:
+            return os.fsdecode(noted.read())
+    except FileNotFoundError:
+        return _REPOSITORY
+
+
 def find_program() -> str:
     """The program's file; the head of this module says where it is looked for."""
     named = os.environ.get("CHIPFIRE")
     if named:
         return named
-    for place in (_CARRIED, os.path.join(_REPOSITORY, "target", "chipfire")):
+    for place in (_CARRIED, os.path.join(_repository(), "target", "chipfire")):
         if os.access(place, os.X_OK):
             return place
     found = shutil.which("chipfire")

@@ -398,11 +398,16 @@ class Finding(WithFolder):
             ran = subprocess.run([sys.executable, "-c", ask], env=environment, capture_output=True, encoding="utf-8")
             self.assertEqual((ran.returncode, ran.stdout), (status, "" if status else f"{self.folder}/chipfire\n"))
 
-    def test_pip_installs_the_package(self):
+    def test_pip_installs_the_package_and_it_finds_the_program_that_is_built_later(self):
+        clone, source = self.file("clone"), "crates/chip_arguments/src"
+        for folder in ("python", source):
+            shutil.copytree(f"{ROOT}/{folder}", f"{clone}/{folder}")
         words = [sys.executable, "-m", "pip", "install", "--quiet", "--no-index", "--disable-pip-version-check"]
-        subprocess.run([*words, "--target", self.folder, f"{ROOT}/python"], check=True, stderr=subprocess.DEVNULL)
+        subprocess.run([*words, "--target", self.folder, f"{clone}/python"], check=True, stderr=subprocess.DEVNULL)
+        os.mkdir(f"{clone}/target")
+        os.symlink(os.environ["CHIPFIRE"], f"{clone}/target/chipfire")
         ask = "import chipfire; print(chipfire.__file__, chipfire.plain(chipfire.path(1), [3, 0]).fired)"
-        environment = {**os.environ, "PYTHONPATH": self.folder}
+        environment = {"PATH": "", "PYTHONPATH": self.folder, "PYTHONDONTWRITEBYTECODE": "1"}
         ran = subprocess.run([sys.executable, "-c", ask], env=environment, capture_output=True, encoding="utf-8")
         self.assertEqual(ran.stdout, f"{self.folder}/chipfire/__init__.py (1, 0)\n")
         files = [TRIANGLE_FILE, CHIPS_FILE, f"{EXAMPLES}/triangle/trace.csv"]

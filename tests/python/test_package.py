@@ -44,6 +44,12 @@ class WithFolder(unittest.TestCase):
                 file.write(text)
         return path
 
+    def program(self, line):
+        """A program that does what a line for a shell says, and answers with the report of the triangle."""
+        path = self.file("program", f"#!/bin/sh\n{line}\ncat {EXAMPLES}/triangle/report.json\n")
+        os.chmod(path, 0o755)
+        return path
+
 
 class Graphs(WithFolder):
     def test_an_edge_without_a_multiplicity_sends_one_chip(self):
@@ -125,13 +131,18 @@ class Plain(WithFolder):
 
     def test_what_is_told_of_a_play_goes_to_standard_error(self):
         lines = ["chipfire: progress: 1 rounds, 3 firings", "chipfire: progress: 2 rounds, 4 firings"]
-        says = "".join(f"echo '{line}' >&2\n" for line in lines)
-        text = '{"chips":[1,0,3],"closed":true,"fired":[2,1,0],"over":[],"sealed":[],"version":1}'
-        program = self.file("chipfire", f"#!/bin/sh\n{says}echo '{text}'\n")
-        os.chmod(program, 0o755)
+        program = self.program("; ".join(f"echo '{line}' >&2" for line in lines))
         with contextlib.redirect_stderr(io.StringIO()) as told:
             report = chipfire.plain(TRIANGLE, [4, 0, 0], program=program, progress=True)
         self.assertEqual((report.fired, told.getvalue().splitlines()), ((2, 1, 0), lines))
+
+    def test_each_option_is_handed_on(self):
+        options = {"limit": 1, "ring": 2, "workers": 3, "dealt": True, "turns": 4, "trace_rows": 5, "progress": True}
+        program = self.program(f'echo "$@" >{self.file("words")}')
+        chipfire.run(TRIANGLE, {0: 4}, trace="/trace", feed=CHIPS_FILE, program=program, **options)
+        words = "--limit=1 --ring=2 --workers=3 --dealt --turns=4 --trace-rows=5 --progress --trace=/trace"
+        handed = text_of(self.file("words")).split()
+        self.assertEqual(set(handed[3:]), {*words.split(), f"--feed={CHIPS_FILE}"})
 
     def test_the_largest_numbers(self):
         report = chipfire.plain(chipfire.Graph(2, 1, [(0, 1)]), [2**40, 0])

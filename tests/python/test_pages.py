@@ -258,14 +258,16 @@ class Spelled(unittest.TestCase):
             self.assertEqual(sorted(rows_of(told), key=lambda row: row.vertex), trace)
 
     def test_the_ring_of_a_recorded_run(self):
-        # Vertex 0 fires three times, 1 fires when it has all three messages, and 2 takes first what comes from 1.
-        graph = chipfire.Graph(4, 3, [(0, 2), (0, 1), (1, 2, 3), (2, 3, 100)])
-        trace = [(0, "take", 4, 6), *[(0, "fire", 0, 1)] * 3, *[(1, "take", 1, 1)] * 3, (1, "fire", 0, 1),
-                 (2, "take", 2, 3), *[(2, "take", 0, 1)] * 3]
-        self.assertEqual(chipfire.recorded(graph, {0: 6}, trace).setting.ring, 2)
-        self.assertEqual(chipfire.recorded(graph, {0: 6}, trace, ring=3).setting.ring, 3)
-        with self.assertRaisesRegex(ValueError, "rings of 1 cell"):
-            chipfire.recorded(graph, {0: 6}, trace, ring=1)
+        # Vertex 0 fires so many times, 1 fires when it has all these messages, and 2 takes first what comes from 1.
+        for count, ring in [(3, 2), (65, 64)]:
+            graph = chipfire.Graph(4, 3, [(0, 2), (0, 1), (1, 2, count), (2, 3, 1000)])
+            trace = [(0, "take", 4, 2 * count), *[(0, "fire", 0, 1)] * count, *[(1, "take", 1, 1)] * count,
+                     (1, "fire", 0, 1), (2, "take", 2, count), *[(2, "take", 0, 1)] * count]
+            game = (graph, {0: 2 * count}, trace)
+            self.assertEqual(chipfire.recorded(*game).setting.ring, ring)
+            self.assertEqual(chipfire.recorded(*game, ring=ring + 1).setting.ring, ring + 1)
+            with self.assertRaisesRegex(ValueError, f"rings of {ring - 1} cell"):
+                chipfire.recorded(*game, ring=ring - 1)
 
     def test_a_trace_that_fits_nowhere_is_the_programs_fault(self):
         with self.assertRaises(chipfire.Fault) as caught:
@@ -406,6 +408,11 @@ class Pages(unittest.TestCase):
         data = data_of(chipfire.pages.page_text(detector("sealed-half-way")))
         self.assertGreater(len(data["steps"]), len(detector("sealed-half-way").schedule))
         self.assertEqual(data["words"][data["steps"][-1]["changes"][-1][4]], "the root is closed")
+
+    def test_a_root_edge_is_drawn_where_chips_were_fed(self):
+        for fed, edges in [(False, [4]), (True, [4, 5])]:
+            told = chipfire.simulate(TRIANGLE, {0: 4}, chipfire.Schedule().feed(5, 1), fed=fed)
+            self.assertEqual(data_of(chipfire.pages.page_text(told))["rootEdges"], edges)
 
     def test_a_page_without_books_asks_for_them(self):
         self.assertEqual(

@@ -32,14 +32,7 @@ use Rattle.chip_engine.specs.declared.simulate.SimulateOptions.{SimulateOptions}
 use Rattle.chip_command.specs.Reports.{plain_status, Reports}
 use Rattle.chip_command.specs.declared.ended.Ended.{Ended}
 use Rattle.chip_command.specs.declared.fault.Fault.{Fault}
-use Rattle.chip_command.specs.declared.fault.Fault.TheVariants.{Write, NotClosed, NoMemory}
-use Rattle.chip_world.specs.declared.fault.WorldFault.{WorldFault}
-use Rattle.chip_world.specs.declared.fault.WorldFault.TheVariants as world
-
--- the fault of a world that gives no outcome
-abbrev pub fault_of_world : WorldFault → Fault
-fault_of_world world.NotClosed = NotClosed
-fault_of_world world.NoMemory = NoMemory
+use Rattle.chip_command.specs.declared.fault.Fault.TheVariants.{Write, NoMemory}
 
 -- a message's place and count
 abbrev pub message_text : Message → List ℕ

@@ -1,12 +1,11 @@
 //! `simulate`: the core's replies to a schedule, and the report where the root closes.
 
-ghost use Rattle.std.specs.Prelude.{◌≡◌, ◌++◌, [], IfOk, IfErr, codes, string_bytes};
+ghost use Rattle.std.specs.Prelude.{◌≡◌, ◌++◌, [], false, IfOk, codes, string_bytes};
 ghost use Rattle.chip_part.specs.Setting.{Setting};
 ghost use Rattle.chip_core.specs.Core.{Log, IsClosed, log_after};
 ghost use Rattle.chip_world.specs.World.{StandsForLog, WhateverLog};
 ghost use Rattle.chip_world.specs.declared.world.driving.Drive.TheVariants.{Closed};
 ghost use Rattle.chip_command.specs.Statuses.{number_of_status};
-ghost use Rattle.chip_command.specs.declared.fault.Fault.TheVariants.{NoMemory};
 ghost use Rattle.chip_engine.specs.SimulateCommand.{SimulateReads, Simulates, EndsClosed, EndsBy};
 ghost use Rattle.chip_engine.specs.SimulateCommand.{message_text, reply_text, answer_text, answers_text};
 
@@ -25,20 +24,18 @@ use std::io::{Read, Write};
 pub struct SimulateOptions {
     /// How often a vertex may fire at most.
     pub limit: u64,
-    /// The rings of the edges.
     pub ring: Ring,
     /// How many rounds of turns are made after the schedule at most.
     pub rounds: u64,
-    /// Whether the books of the detector stand behind each reply.
+    /// Whether the books of the detector follow each reply.
     pub books: bool,
     /// Whether the schedule brings chips too.
     pub fed: bool,
 }
 
 /// Runs a schedule on the game of a graph file, a chips file and a firing limit, with rings of so many cells, and then
-/// so many rounds of turns at most; writes a line for each reply of the schedule, with the books of the detector behind
-/// it where they are asked for, and the report where the root closes. A game that is `fed` gets chips by its schedule
-/// too, and closes only after that has noted the end.
+/// so many rounds of turns at most; writes a line for each reply of the schedule, and the report where the root closes.
+/// A game that is `fed` gets chips by its schedule too, and closes only after that has noted the end.
 pub fn simulate_engine<G: Read, C: Read, S: Read, W: Write>(
     alloc: Global,
     graph: &mut G,
@@ -47,25 +44,25 @@ pub fn simulate_engine<G: Read, C: Read, S: Read, W: Write>(
     limit: u64,
     ring: Ring,
     rounds: u64,
-    books: bool,
     fed: bool,
     output: &mut W,
 ) -> Result<Ended, Fault>
     ensures { SimulateReads (G.remaining graph.old) (C.remaining chips.old) (S.remaining schedule.old)
-        (record { limit = limit; ring = ring; rounds = rounds; books = books; fed = fed })
+        (record { limit = limit; ring = ring; rounds = rounds; books = false; fed = fed })
         (W.contents output.old) (W.contents output.new) result }
 {
     let options = SimulateOptions {
         limit,
         ring,
         rounds,
-        books,
+        books: false,
         fed,
     };
     simulate_engine_with(alloc, graph, chips, schedule, options, output)
 }
 
-/// Does what `simulate_engine` does, by these options.
+/// Does what `simulate_engine` does, by these options: with the books of the detector behind each reply where they are
+/// asked for.
 pub fn simulate_engine_with<G: Read, C: Read, S: Read, W: Write>(
     alloc: Global,
     graph: &mut G,
@@ -80,7 +77,7 @@ pub fn simulate_engine_with<G: Read, C: Read, S: Read, W: Write>(
     let game = read_game(alloc, graph, chips, options.limit)?;
     let events = read_schedule(alloc, schedule, game.graph())?;
     let setting = Setting::new(game, options.ring, options.fed);
-    let answer = simulate(alloc, setting, events, options.rounds, options.books)?;
+    let answer = simulate(alloc, setting, &events, options.rounds, options.books)?;
     conclude(output, &answer.text, Ended::of(answer.status))
 }
 
@@ -88,13 +85,12 @@ pub fn simulate_engine_with<G: Read, C: Read, S: Read, W: Write>(
 fn simulate(
     alloc: Global,
     setting: Setting,
-    events: Vec<Event>,
+    events: &[Event],
     rounds: u64,
     books: bool,
-) -> Result<Answer, Fault>
-    ensures ok { IfOk result
-        (λ made. Simulates setting rounds books events.items made.text.items (number_of_status made.status)) }
-    ensures err { IfErr result (λ fault. fault ≡ NoMemory) }
+) -> Result<Answer, AllocError>
+    ensures { IfOk result
+        (λ made. Simulates setting rounds books events.now made.text.items (number_of_status made.status)) }
 {
     let mut world = World::of(alloc, setting)?;
     run(alloc, &mut world, events, rounds, books)
@@ -104,14 +100,13 @@ fn simulate(
 fn run(
     alloc: Global,
     world: &mut World,
-    events: Vec<Event>,
+    events: &[Event],
     rounds: u64,
     books: bool,
-) -> Result<Answer, Fault>
+) -> Result<Answer, AllocError>
     requires { StandsForLog world.old.setting [] world.old }
-    ensures ok { IfOk result
-        (λ made. Simulates world.old.setting rounds books events.items made.text.items (number_of_status made.status)) }
-    ensures err { IfErr result (λ fault. fault ≡ NoMemory) }
+    ensures { IfOk result
+        (λ made. Simulates world.old.setting rounds books events.now made.text.items (number_of_status made.status)) }
 {
     let mut text = run_schedule(alloc, world, events, books)?;
     let drive = world.drive(rounds);
@@ -127,40 +122,28 @@ fn run(
 fn run_schedule(
     alloc: Global,
     world: &mut World,
-    mut events: Vec<Event>,
+    events: &[Event],
     books: bool,
 ) -> Result<Vec<u8>, AllocError>
     requires { StandsForLog world.old.setting [] world.old }
     ensures world { IfOk result
-        (λ _. let g = world.old.setting in StandsForLog g (log_after g [] events.items) world.new) }
-    ensures lines { IfOk result (λ lines. lines.items ≡ answers_text books world.old.setting [] events.items) }
+        (λ _. let g = world.old.setting in StandsForLog g (log_after g [] events.now) world.new) }
+    ensures lines { IfOk result (λ lines. lines.items ≡ answers_text books world.old.setting [] events.now) }
 {
-    events.reverse();
     let mut lines = String::new(alloc);
-    while let Some(event) = events.pop() {
-        let reply = world.step(event);
+    for event in events {
+        let reply = world.step(*event);
         push_answer(&mut lines, reply, world, books)?;
-        give_back(&mut events);
     }
     Ok(lines.into_bytes())
 }
 
-/// Gives back the memory of events that are done, once they were half of it: the lines want room, too.
-fn give_back(events: &mut Vec<Event>)
-    ensures { events.new.items ≡ events.old.items }
-{
-    if events.len() <= events.capacity() / 2 {
-        events.shrink_to_fit();
-    }
-}
-
 /// The end of a run whose rounds ended so, and the exit status.
-fn end_of(alloc: Global, world: &World, drive: Drive) -> Result<Answer, Fault>
+fn end_of(alloc: Global, world: &World, drive: Drive) -> Result<Answer, AllocError>
     requires { (g : Setting) × (log : Log) × StandsForLog g log world.now
         × (drive ≡ Closed → IsClosed g log) }
-    ensures ok { IfOk result (λ made. WhateverLog world.now
+    ensures { IfOk result (λ made. WhateverLog world.now
         (λ g log. EndsBy g log drive made.text.items (number_of_status made.status))) }
-    ensures err { IfErr result (λ fault. fault ≡ NoMemory) }
 {
     match drive {
         Drive::Closed => end_of_closed(alloc, world),
@@ -172,15 +155,15 @@ fn end_of(alloc: Global, world: &World, drive: Drive) -> Result<Answer, Fault>
 }
 
 /// The end of a closed run, its report, and the exit status.
-fn end_of_closed(alloc: Global, world: &World) -> Result<Answer, Fault>
+fn end_of_closed(alloc: Global, world: &World) -> Result<Answer, AllocError>
     requires { (g : Setting) × (log : Log) × StandsForLog g log world.now × IsClosed g log }
-    ensures ok { IfOk result (λ made. WhateverLog world.now
+    ensures { IfOk result (λ made. WhateverLog world.now
         (λ g log. EndsClosed g log made.text.items (number_of_status made.status))) }
-    ensures err { IfErr result (λ fault. fault ≡ NoMemory) }
 {
     let outcome = match world.outcome(alloc) {
         Ok(outcome) => outcome,
-        Err(fault) => return Err(fault_of_world(fault)),
+        Err(WorldFault::NotClosed) => unreachable!(),
+        Err(WorldFault::NoMemory) => return Err(AllocError),
     };
     let mut text = Vec::from_slice(alloc, b"root closed\n")?;
     text.extend_from_slice(&report(alloc, &outcome)?)?;
@@ -188,16 +171,6 @@ fn end_of_closed(alloc: Global, world: &World) -> Result<Answer, Fault>
         text,
         status: status_of(&outcome),
     })
-}
-
-/// The fault of a world that gives no outcome.
-fn fault_of_world(fault: WorldFault) -> Fault
-    ensures { result ≡ Rattle.chip_engine.specs.SimulateCommand.fault_of_world fault }
-{
-    match fault {
-        WorldFault::NotClosed => Fault::NotClosed,
-        WorldFault::NoMemory => Fault::NoMemory,
-    }
 }
 
 /// Appends the line of a reply, and the books after it where they are asked for.

@@ -271,7 +271,6 @@ fn simulated(rt: &(impl AllocGlobal + Abort), scheduled: &Scheduled) -> Result<E
         NO_LIMIT,
         ring,
         scheduled.rounds,
-        false,
         scheduled.fed,
         &mut output,
     );

@@ -3,8 +3,8 @@ use Rattle.chip_report.specs.ReportText.{report_text}
 use Rattle.chip_command.specs.Statuses.{number_of_status}
 use Rattle.chip_engine.proofs.simulate.end_of_closed.Goals as goal
 
-pub returns-clause-ok : goal.returns-clause-ok
-returns-clause-ok c = λ g log stands. record {
+pub returns : goal.returns
+returns c = λ g log stands. record {
   outcome = c.in-Ok.outcome;
   outcome_is = c.in-Ok.ensures.outcome g log stands;
   reportable = c.in-Ok.ensures.in_range;

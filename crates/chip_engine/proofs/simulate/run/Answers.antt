@@ -13,8 +13,8 @@ end_of-requires c =
       (λ is. subst (λ (d : Drive). AnswersDrive g c.args.rounds driven.2.count driven.0 d) is driven.2.answers),
     )
 
-pub returns-clause-ok : goal.returns-clause-ok
-returns-clause-ok c =
+pub returns : goal.returns
+returns c =
     let g = c.args.world.now.setting in
     let driven = c.drive-drive.ensures.drives g _ c.in_ok-text.ensures.world in
     record {
@@ -26,5 +26,5 @@ returns-clause-ok c =
           c.in_ok-extend_from_slice.ensures.items
           ∙ ap (λ (t : List ℕ). c.in_ok-text.text.items ++ t) c.deref.ensures.value
           ∙ ap (λ (t : List ℕ). t ++ c.in_ok-end.end.text.items) c.in_ok-text.ensures.lines;
-      ends = c.in_ok-end.ensures.ok g driven.0 driven.1;
+      ends = c.in_ok-end.ensures g driven.0 driven.1;
     }

@@ -10,8 +10,8 @@ run-requires c =
     let opening = c.in_ok-world.ensures in
     subst (λ (g : Setting). StandsForLog g [] c.in_ok-world.world) (sym opening.setting) opening
 
-pub returns-clause-ok : goal.returns-clause-ok
-returns-clause-ok c = subst
+pub returns : goal.returns
+returns c = subst
     (λ (g : Setting). IfOk c.run.result
-    (λ made. Simulates g c.args.rounds c.args.books c.args.events.items made.text.items (number_of_status made.status)))
-    c.in_ok-world.ensures.setting c.run.ensures.ok
+    (λ made. Simulates g c.args.rounds c.args.books c.args.events.now made.text.items (number_of_status made.status)))
+    c.in_ok-world.ensures.setting c.run.ensures

@@ -1,4 +1,4 @@
-use Rattle.std.proofs.Common.{◌≡◌, false, List, ℕ, inl, inr, Some, Ok, sym, subst, ◌∙◌}
+use Rattle.std.proofs.Common.{◌≡◌, false, List, ℕ, inl, inr, Some, Ok, sym, subst}
 use Rattle.chip_part.specs.Setting.{Setting}
 use Rattle.chip_graph.specs.Multigraph.{Multigraph}
 use Rattle.chip_file.specs.Answer.{Answers}
@@ -43,7 +43,7 @@ pub returns-in_err-answer : goal.returns-in_err-answer
 returns-in_err-answer g c = λ graph_text graph_is chips_text chips_is schedule_text schedule_is.
     refused_simulate graph_text chips_text schedule_text c.args.options _
     c.from_residual-in_err-answer.result _ c.from_residual-in_err-answer.ensures.1
-    (λ fault is. inr (is ∙ c.in_err-answer.ensures.err))
+    (λ fault is. inr is)
 
 pub returns : goal.returns
 returns g c = λ graph_text graph_is chips_text chips_is schedule_text schedule_is.
@@ -58,7 +58,7 @@ returns g c = λ graph_text graph_is chips_text chips_is schedule_text schedule_
     let simulates : SimulatesBy c.args.options c.in_ok-game.game c.in_ok-events.events.items
     c.in_ok-answer.answer.text.items status =
     subst (λ (s : Setting). Simulates s c.args.options.rounds c.args.options.books c.in_ok-events.events.items
-    c.in_ok-answer.answer.text.items status) c.new-setting.ensures c.in_ok-answer.ensures.ok in
+    c.in_ok-answer.answer.text.items status) c.new-setting.ensures c.in_ok-answer.ensures in
     let went = subst (λ (e : Ended). Delivers (g.W.Write.contents c.args.output.now)
     (g.W.Write.contents c.conclude.new.output) c.deref.result.now e c.conclude.result) c.of.ensures c.conclude.ensures in
     delivered_simulate graph_text chips_text schedule_text c.args.options

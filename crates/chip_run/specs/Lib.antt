@@ -1,4 +1,3 @@
-pub mod Faults
 pub mod Feeding
 pub mod Recording
 pub mod RunCommand

@@ -4,10 +4,8 @@
 //! those need not read the running net.
 #![tactic(auto)]
 
-pub use faults::{fault_of_feed, fault_of_seal};
 pub use running::{RunOptions, run_engine, run_engine_gated};
 
-mod faults;
 mod feeding;
 pub mod laws;
 mod recording;

@@ -63,12 +63,6 @@ number_of_resume_fault resume.NoMemory = 90
 abbrev pub number_of : Fault → ℕ
 number_of (fault.File f) = number_of_file_fault f
 number_of (fault.Game f) = number_of_game_fault f
-number_of fault.NotLegal = 40
-number_of (fault.Negative vertex) = 41
-number_of fault.NotClosed = 42
-number_of fault.NoEdge = 43
-number_of fault.Ended = 44
-number_of fault.Full = 45
 number_of fault.NotReport = 50
 number_of (fault.Resume f) = number_of_resume_fault f
 number_of fault.Plan = 60
@@ -112,7 +106,6 @@ location_of_resume_fault _ = Nowhere
 abbrev pub location_of : Fault → Location
 location_of (fault.File f) = location_of_file_fault f
 location_of (fault.Resume f) = location_of_resume_fault f
-location_of (fault.Negative vertex) = At vertex
 location_of (fault.Unfinished deficit) = At deficit
 location_of (fault.Lost vertex) = At vertex
 location_of (fault.Doubled vertex) = At vertex

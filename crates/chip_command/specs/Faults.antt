@@ -3,8 +3,6 @@ use Rattle.chip_file.specs.declared.fault.FileFault.{FileFault}
 use Rattle.chip_file.specs.declared.fault.FileFault.TheVariants as file
 use Rattle.chip_fire.specs.declared.sitting.ResumeFault.{ResumeFault}
 use Rattle.chip_fire.specs.declared.sitting.ResumeFault.TheVariants as resume
-use Rattle.chip_sequence.specs.declared.counted.AfterFault.{AfterFault}
-use Rattle.chip_sequence.specs.declared.counted.AfterFault.TheVariants as after
 use Rattle.chip_report.specs.declared.fault.ReportFault.{ReportFault}
 use Rattle.chip_report.specs.declared.fault.ReportFault.TheVariants as report
 use Rattle.chip_trace.specs.declared.fault.ReplayFault.{ReplayFault}
@@ -12,17 +10,12 @@ use Rattle.chip_trace.specs.declared.fault.ReplayFault.TheVariants as replay
 use Rattle.chip_trace.specs.declared.fault.TraceFault.{TraceFault}
 use Rattle.chip_trace.specs.declared.fault.TraceFault.TheVariants as trace
 use Rattle.chip_command.specs.declared.fault.Fault.{Fault}
-use Rattle.chip_command.specs.declared.fault.Fault.TheVariants.{File, Negative, Stuck, WriteTrace, NotReport, Resume, NoMemory}
+use Rattle.chip_command.specs.declared.fault.Fault.TheVariants.{File, Stuck, WriteTrace, NotReport, Resume, NoMemory}
 
 -- want of memory is one fault, whoever met it
 abbrev pub fault_of_file : FileFault → Fault
 fault_of_file file.NoMemory = NoMemory
 fault_of_file fault = File fault
-
--- the fault of counts that lead to no position
-abbrev pub fault_of_after : AfterFault → Fault
-fault_of_after (after.Negative vertex) = Negative vertex
-fault_of_after after.NoMemory = NoMemory
 
 -- the fault of recorded runs that do not fit together
 abbrev pub fault_of_replay : ReplayFault → Fault

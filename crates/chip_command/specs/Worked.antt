@@ -1,4 +1,4 @@
--- Worked traces, as the definitions write and read them, and exit statuses and faults by their numbers.
+-- Worked traces, as the definitions write and read them, and exit statuses by their numbers.
 use Rattle.std.specs.Prelude.{◌≡◌, ℕ, List, [], ◌∷◌, codes, Some}
 use Rattle.chip_graph.specs.Multigraph.{Multigraph}
 use Rattle.chip_graph.specs.Worked.{single_edge}
@@ -6,10 +6,9 @@ use Rattle.chip_link.specs.declared.trace.TraceRow.{TraceRow}
 use Rattle.chip_link.specs.declared.trace.TraceRow.TheVariants.{Take, Fire}
 use Rattle.chip_file.specs.TraceText.{traces_of_text}
 use Rattle.chip_trace.specs.TraceText.{trace_text}
-use Rattle.chip_command.specs.FaultNumbers.{number_of, location_of, status_of_fault}
+use Rattle.chip_command.specs.FaultNumbers.{status_of_fault}
 use Rattle.chip_command.specs.Statuses.{number_of_status}
 use Rattle.chip_command.specs.declared.fault.Fault.TheVariants as fault
-use Rattle.chip_command.specs.declared.fault.Location.TheVariants.{Nowhere, At}
 use Rattle.chip_command.specs.declared.status.Status.TheVariants.{Done, Failed, Halted, Unfinished}
 
 -- one edge, from vertex 0 to the sink; the root edges are 1 and 2
@@ -35,10 +34,3 @@ StatusesAreNumbered =
     × (number_of_status Unfinished ≡ 3)
     × (number_of_status (status_of_fault (fault.Unfinished 1)) ≡ 3)
     × (number_of_status (status_of_fault fault.Usage) ≡ 1)
-
--- the faults of a firing, of counts, of a seal and of a feed, by their numbers and where they are
-abbrev pub FaultsAreNumbered : Type 0
-FaultsAreNumbered =
-    (number_of fault.NotLegal ≡ 40) × (location_of fault.NotLegal ≡ Nowhere)
-    × (number_of (fault.Negative 3) ≡ 41) × (location_of (fault.Negative 3) ≡ At 3)
-    × (number_of fault.NoEdge ≡ 43) × (number_of fault.Ended ≡ 44) × (number_of fault.Full ≡ 45)

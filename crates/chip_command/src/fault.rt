@@ -6,37 +6,25 @@ ghost use Rattle.chip_command.specs.FaultNumbers.{number_of_resume_fault, locati
 ghost use Rattle.chip_command.specs.FaultNumbers.{location_of_graph_fault, location_of_file_fault};
 ghost use Rattle.chip_command.specs.declared.fault.Location.TheVariants.{Nowhere};
 
-use crate::code::Code;
 use crate::status::Status;
+use crate::table::name_of;
 use chip_file::FileFault;
 use chip_fire::ResumeFault;
 use chip_graph::{GameFault, GraphFault};
 use chip_report::{ReportFault, WriteFault};
-use chip_sequence::{AfterFault, NotLegal};
 use chip_trace::{ReplayFault, TraceFault};
 use std::alloc::{AllocError, AllocFailed};
 use std::fmt;
 use thiserror::Error;
 
 /// Why a command failed.
-#[derive(Clone, Copy, Debug, PartialEq, Eq)]
+#[derive(Clone, Copy, Debug, PartialEq, Eq, Error)]
+#[error("{}", self.line())]
 pub enum Fault {
     /// The text of a file, or its bytes.
     File(FileFault),
     /// The numbers of a game.
     Game(GameFault),
-    /// A vertex may not fire so often.
-    NotLegal,
-    /// By some counts of firings this vertex would be left with fewer than no chips.
-    Negative(u64),
-    /// The root of a simulated run is not closed, so there is no outcome.
-    NotClosed,
-    /// No edge of the graph has the number of the one to be sealed.
-    NoEdge,
-    /// Nothing is fed, since the end of feeding is noted.
-    Ended,
-    /// Nothing is fed, since the next cell of the ring to the vertex is full.
-    Full,
     /// The bytes of a report are none.
     NotReport,
     /// The play that a report tells does not go on.
@@ -67,14 +55,6 @@ pub enum Fault {
     NoMemory,
 }
 
-impl fmt::Display for Fault {
-    fn fmt<W: fmt::Write>(&self, f: &mut fmt::Formatter<W>) -> fmt::Result {
-        write!(f, "{}", self.line())
-    }
-}
-
-impl std::error::Error for Fault {}
-
 impl From<FileFault> for Fault {
     ghost use Rattle.std.specs.Prelude.{◌≡◌};
     ghost use Rattle.chip_command.specs.Faults.{fault_of_file};
@@ -97,31 +77,6 @@ impl From<GameFault> for Fault {
 
     fn from(fault: GameFault) -> Fault {
         Fault::Game(fault)
-    }
-}
-
-impl From<NotLegal> for Fault {
-    ghost use Rattle.std.specs.Prelude.{◌≡◌};
-    ghost use Rattle.chip_command.specs.declared.fault.Fault.TheVariants as fault_of_command;
-
-    ghost from_gives = { λ _ fault. fault ≡ fault_of_command.NotLegal };
-
-    fn from(_fault: NotLegal) -> Fault {
-        Fault::NotLegal
-    }
-}
-
-impl From<AfterFault> for Fault {
-    ghost use Rattle.std.specs.Prelude.{◌≡◌};
-    ghost use Rattle.chip_command.specs.Faults.{fault_of_after};
-
-    ghost from_gives = { λ after fault. fault ≡ fault_of_after after };
-
-    fn from(fault: AfterFault) -> Fault {
-        match fault {
-            AfterFault::Negative(vertex) => Fault::Negative(vertex),
-            AfterFault::NoMemory => Fault::NoMemory,
-        }
     }
 }
 
@@ -247,66 +202,66 @@ pub struct FaultLine {
     pub location: Location,
 }
 
-/// The code of a fault of a graph.
-fn code_of_graph(fault: &GraphFault) -> Code
-    ensures { result.number ≡ number_of_graph_fault fault.now }
+/// The number of a fault of a graph.
+fn number_of_graph(fault: &GraphFault) -> u64
+    ensures { result ≡ number_of_graph_fault fault.now }
 {
     match fault {
-        GraphFault::Vertices => Code::VERTICES,
-        GraphFault::Sink => Code::SINK,
-        GraphFault::EdgeCount => Code::EDGE_COUNT,
-        GraphFault::Endpoint(_) => Code::ENDPOINT,
-        GraphFault::Mult(_) => Code::MULT,
-        GraphFault::Loop(_) => Code::LOOP,
-        GraphFault::FromSink(_) => Code::FROM_SINK,
-        GraphFault::Unreached(_) => Code::UNREACHED,
-        GraphFault::NoMemory => Code::NO_MEMORY,
+        GraphFault::Vertices => 1,
+        GraphFault::Sink => 2,
+        GraphFault::EdgeCount => 3,
+        GraphFault::Endpoint(_) => 4,
+        GraphFault::Mult(_) => 5,
+        GraphFault::Loop(_) => 6,
+        GraphFault::FromSink(_) => 7,
+        GraphFault::Unreached(_) => 8,
+        GraphFault::NoMemory => 90,
     }
 }
 
-/// The code of a fault of a game.
-fn code_of_game(fault: &GameFault) -> Code
-    ensures { result.number ≡ number_of_game_fault fault.now }
+/// The number of a fault of a game.
+fn number_of_game(fault: &GameFault) -> u64
+    ensures { result ≡ number_of_game_fault fault.now }
 {
     match fault {
-        GameFault::StartLength => Code::START_LENGTH,
-        GameFault::Total => Code::TOTAL,
-        GameFault::Limit => Code::LIMIT,
+        GameFault::StartLength => 9,
+        GameFault::Total => 10,
+        GameFault::Limit => 11,
     }
 }
 
-/// The code of a fault of a file.
-fn code_of_file(fault: &FileFault) -> Code
-    ensures { result.number ≡ number_of_file_fault fault.now }
+/// The number of a fault of a file.
+fn number_of_file(fault: &FileFault) -> u64
+    ensures { result ≡ number_of_file_fault fault.now }
 {
     match fault {
-        FileFault::Graph(fault) => code_of_graph(fault),
-        FileFault::Total => Code::TOTAL,
-        FileFault::NotJson => Code::NOT_JSON,
-        FileFault::Shape => Code::SHAPE,
-        FileFault::Version => Code::VERSION,
-        FileFault::Header => Code::HEADER,
-        FileFault::Row(_) => Code::ROW,
-        FileFault::Number(_) => Code::NUMBER,
-        FileFault::Vertex(_) => Code::VERTEX,
-        FileFault::Repeated(_) => Code::REPEATED,
-        FileFault::Kind(_) => Code::KIND,
-        FileFault::Read => Code::READ,
-        FileFault::TooLong => Code::TOO_LONG,
-        FileFault::NoMemory => Code::NO_MEMORY,
+        FileFault::Graph(fault) => number_of_graph(fault),
+        FileFault::Total => 10,
+        FileFault::NotJson => 20,
+        FileFault::Shape => 21,
+        FileFault::Version => 22,
+        FileFault::Header => 23,
+        FileFault::Row(_) => 24,
+        FileFault::Number(_) => 25,
+        FileFault::Vertex(_) => 26,
+        FileFault::Repeated(_) => 27,
+        FileFault::Kind(_) => 28,
+        FileFault::Read => 29,
+        FileFault::TooLong => 30,
+        FileFault::NoMemory => 90,
     }
 }
 
-/// The code of a fault of resuming.
-fn code_of_resume(fault: &ResumeFault) -> Code
-    ensures { result.number ≡ number_of_resume_fault fault.now }
+/// The number of a fault of resuming.
+fn number_of_resume(fault: &ResumeFault) -> u64
+    ensures { result ≡ number_of_resume_fault fault.now }
 {
     match fault {
-        ResumeFault::Total => Code::TOTAL,
-        ResumeFault::Limit => Code::LIMIT,
-        ResumeFault::Prior(_) => Code::PRIOR,
-        ResumeFault::Mismatch => Code::MISMATCH,
-        ResumeFault::NoMemory => Code::NO_MEMORY,
+        ResumeFault::Total => 10,
+        ResumeFault::Limit => 11,
+        ResumeFault::Prior(_) => 51,
+        ResumeFault::Mismatch => 52,
+        ResumeFault::NoMemory => 90,
     }
 }
 
@@ -368,40 +323,34 @@ impl Fault {
         ensures number { result.number ≡ number_of self.now }
         ensures location { result.location ≡ location_of self.now }
     {
-        let Code { number, name } = self.code();
+        let number = self.number();
         FaultLine {
             number,
-            name,
+            name: name_of(number),
             location: self.location(),
         }
     }
 
-    fn code(&self) -> Code
-        ensures { result.number ≡ number_of self.now }
+    fn number(&self) -> u64
+        ensures { result ≡ number_of self.now }
     {
         match self {
-            Fault::File(fault) => code_of_file(fault),
-            Fault::Game(fault) => code_of_game(fault),
-            Fault::NotLegal => Code::NOT_LEGAL,
-            Fault::Negative(_) => Code::NEGATIVE,
-            Fault::NotClosed => Code::NOT_CLOSED,
-            Fault::NoEdge => Code::NO_EDGE,
-            Fault::Ended => Code::ENDED,
-            Fault::Full => Code::FULL,
-            Fault::NotReport => Code::NOT_REPORT,
-            Fault::Resume(fault) => code_of_resume(fault),
-            Fault::Plan => Code::PLAN,
-            Fault::Unfinished(_) => Code::UNFINISHED,
-            Fault::GateShut => Code::GATE_SHUT,
-            Fault::Lost(_) => Code::LOST,
-            Fault::Doubled(_) => Code::DOUBLED,
-            Fault::Spawn => Code::SPAWN,
-            Fault::Stuck { .. } => Code::STUCK,
-            Fault::NoMemory => Code::NO_MEMORY,
-            Fault::Usage => Code::USAGE,
-            Fault::Open(_) => Code::OPEN,
-            Fault::Write(_) => Code::WRITE,
-            Fault::WriteTrace => Code::WRITE,
+            Fault::File(fault) => number_of_file(fault),
+            Fault::Game(fault) => number_of_game(fault),
+            Fault::NotReport => 50,
+            Fault::Resume(fault) => number_of_resume(fault),
+            Fault::Plan => 60,
+            Fault::Unfinished(_) => 61,
+            Fault::GateShut => 62,
+            Fault::Lost(_) => 63,
+            Fault::Doubled(_) => 64,
+            Fault::Spawn => 65,
+            Fault::Stuck { .. } => 70,
+            Fault::NoMemory => 90,
+            Fault::Usage => 91,
+            Fault::Open(_) => 92,
+            Fault::Write(_) => 93,
+            Fault::WriteTrace => 93,
         }
     }
 
@@ -411,7 +360,6 @@ impl Fault {
         match self {
             Fault::File(fault) => location_of_file(fault),
             Fault::Resume(fault) => location_of_resume(fault),
-            Fault::Negative(vertex) => Location::At(*vertex),
             Fault::Unfinished(deficit) => Location::At(*deficit),
             Fault::Lost(vertex) => Location::At(*vertex),
             Fault::Doubled(vertex) => Location::At(*vertex),

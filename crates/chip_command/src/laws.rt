@@ -1,7 +1,7 @@
 //! The laws of what commands share: functions that do nothing, whose contracts are the laws.
 
 ghost use Rattle.chip_command.specs.Laws.{WrittenIsRead, FileIsReadBack, ReadIsInGraph};
-ghost use Rattle.chip_command.specs.Worked.{TwoTracesComeBack, StatusesAreNumbered, FaultsAreNumbered};
+ghost use Rattle.chip_command.specs.Worked.{TwoTracesComeBack, StatusesAreNumbered};
 
 /// What `write_trace` writes, `read_trace` reads back: all traces in the graph, and nothing else is ever read.
 pub fn written_traces()
@@ -18,9 +18,4 @@ pub fn worked_traces()
 /// The exit statuses by their numbers.
 pub fn worked_statuses()
     ensures { StatusesAreNumbered }
-{}
-
-/// Faults that only callers of the libraries meet, by their numbers.
-pub fn worked_faults()
-    ensures { FaultsAreNumbered }
 {}

@@ -1,11 +1,10 @@
 //! What all commands share: the game that their files mean, what can go wrong, and how they end.
 //!
-//! A `Fault` has a number and a name (`code`), which its line shows with where it is; that it has the number which it
-//! should have is proved (`specs/FaultNumbers.antt`). What a table (`table`) says of each fault is text: it is tested.
+//! A `Fault` has a number, which its line shows with its name and where it is; that it has the number which it should
+//! have is proved (`specs/FaultNumbers.antt`). What a table (`table`) says of each number is text: it is tested.
 #![tactic(auto)]
 
 pub use answer::Answer;
-pub use code::Code;
 pub use ended::{Ended, conclude, status_of};
 pub use fault::{Fault, FaultLine, Location};
 pub use inputs::{read_game, read_game_within};
@@ -13,7 +12,6 @@ pub use status::Status;
 pub use table::{Explanation, Place, explanations};
 
 mod answer;
-mod code;
 mod ended;
 mod fault;
 mod inputs;

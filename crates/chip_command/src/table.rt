@@ -1,7 +1,5 @@
 //! The table of faults: what each means, and what to do.
 
-use crate::code::Code;
-
 /// What the numbers behind a fault's name are.
 #[derive(Clone, Copy)]
 pub struct Place {
@@ -81,7 +79,8 @@ n is how many messages of the root were not acknowledged yet.
 /// A row of the table.
 #[derive(Clone, Copy)]
 pub struct Explanation {
-    pub code: Code,
+    pub number: u64,
+    pub name: &'static str,
     /// What the numbers behind the name are.
     pub place: Place,
     /// What is wrong, on one line.
@@ -90,8 +89,9 @@ pub struct Explanation {
     pub advice: &'static str,
 }
 
-pub static VERTICES: Explanation = Explanation {
-    code: Code::VERTICES,
+static VERTICES: Explanation = Explanation {
+    number: 1,
+    name: "Vertices",
     place: Place::NOWHERE,
     meaning: "the graph has no vertices, or more than 4096",
     advice: "\
@@ -100,8 +100,9 @@ from 0 on. With `--large`, `check`, `plain` and `resume` take up to 1048576.
 ",
 };
 
-pub static SINK: Explanation = Explanation {
-    code: Code::SINK,
+static SINK: Explanation = Explanation {
+    number: 2,
+    name: "Sink",
     place: Place::NOWHERE,
     meaning: "the sink is no vertex",
     advice: "\
@@ -110,8 +111,9 @@ than \"vertices\".
 ",
 };
 
-pub static EDGE_COUNT: Explanation = Explanation {
-    code: Code::EDGE_COUNT,
+static EDGE_COUNT: Explanation = Explanation {
+    number: 3,
+    name: "EdgeCount",
     place: Place::NOWHERE,
     meaning: "the graph has more than 65536 edges",
     advice: "\
@@ -121,8 +123,9 @@ up to 8388608 edges.
 ",
 };
 
-pub static ENDPOINT: Explanation = Explanation {
-    code: Code::ENDPOINT,
+static ENDPOINT: Explanation = Explanation {
+    number: 4,
+    name: "Endpoint",
     place: Place::EDGE,
     meaning: "an end of edge i is no vertex",
     advice: "\
@@ -131,8 +134,9 @@ A row is [tail, head, mult]; tail and head are numbers from 0 to one less than
 ",
 };
 
-pub static MULT: Explanation = Explanation {
-    code: Code::MULT,
+static MULT: Explanation = Explanation {
+    number: 5,
+    name: "Mult",
     place: Place::EDGE,
     meaning: "edge i sends no chips, or more than 1048576",
     advice: "\
@@ -141,8 +145,9 @@ head, 1 to 1048576. Leave out an edge that sends none.
 ",
 };
 
-pub static LOOP: Explanation = Explanation {
-    code: Code::LOOP,
+static LOOP: Explanation = Explanation {
+    number: 6,
+    name: "Loop",
     place: Place::EDGE,
     meaning: "edge i goes back into its own tail",
     advice: "\
@@ -151,8 +156,9 @@ played here.
 ",
 };
 
-pub static FROM_SINK: Explanation = Explanation {
-    code: Code::FROM_SINK,
+static FROM_SINK: Explanation = Explanation {
+    number: 7,
+    name: "FromSink",
     place: Place::EDGE,
     meaning: "edge i leaves the sink",
     advice: "\
@@ -161,8 +167,9 @@ directions has an edge each way between two vertices, but none out of its sink.
 ",
 };
 
-pub static UNREACHED: Explanation = Explanation {
-    code: Code::UNREACHED,
+static UNREACHED: Explanation = Explanation {
+    number: 8,
+    name: "Unreached",
     place: Place::VERTEX,
     meaning: "no walk leads from vertex v to the sink",
     advice: "\
@@ -172,8 +179,9 @@ sink: add an edge, or leave the vertex out.
 ",
 };
 
-pub static START_LENGTH: Explanation = Explanation {
-    code: Code::START_LENGTH,
+static START_LENGTH: Explanation = Explanation {
+    number: 9,
+    name: "StartLength",
     place: Place::NOWHERE,
     meaning: "the chips are not one number for each vertex",
     advice: "\
@@ -182,8 +190,9 @@ that name their vertices.
 ",
 };
 
-pub static TOTAL: Explanation = Explanation {
-    code: Code::TOTAL,
+static TOTAL: Explanation = Explanation {
+    number: 10,
+    name: "Total",
     place: Place::NOWHERE,
     meaning: "there are more than 1099511627776 chips in all",
     advice: "\
@@ -192,8 +201,9 @@ those of the file of `--feed`.
 ",
 };
 
-pub static LIMIT: Explanation = Explanation {
-    code: Code::LIMIT,
+static LIMIT: Explanation = Explanation {
+    number: 11,
+    name: "Limit",
     place: Place::NOWHERE,
     meaning: "the firing limit is above 1099511627776",
     advice: "\
@@ -202,8 +212,9 @@ is fault 91.
 ",
 };
 
-pub static NOT_JSON: Explanation = Explanation {
-    code: Code::NOT_JSON,
+static NOT_JSON: Explanation = Explanation {
+    number: 20,
+    name: "NotJson",
     place: Place::NOWHERE,
     meaning: "the graph file is no JSON",
     advice: "\
@@ -214,8 +225,9 @@ graph is refused so too: the graph comes first.
 ",
 };
 
-pub static SHAPE: Explanation = Explanation {
-    code: Code::SHAPE,
+static SHAPE: Explanation = Explanation {
+    number: 21,
+    name: "Shape",
     place: Place::NOWHERE,
     meaning: "the JSON is no graph",
     advice: "\
@@ -227,8 +239,9 @@ writes one, but has a sign, a point, an exponent or quotes (-1, 1.0, 1e3, \"2\")
 ",
 };
 
-pub static VERSION: Explanation = Explanation {
-    code: Code::VERSION,
+static VERSION: Explanation = Explanation {
+    number: 22,
+    name: "Version",
     place: Place::NOWHERE,
     meaning: "the version of the graph file is not 1",
     advice: "\
@@ -236,8 +249,9 @@ pub static VERSION: Explanation = Explanation {
 ",
 };
 
-pub static HEADER: Explanation = Explanation {
-    code: Code::HEADER,
+static HEADER: Explanation = Explanation {
+    number: 23,
+    name: "Header",
     place: Place::NOWHERE,
     meaning: "a file of rows does not begin with its header",
     advice: "\
@@ -250,8 +264,9 @@ command tells the order.
 ",
 };
 
-pub static ROW: Explanation = Explanation {
-    code: Code::ROW,
+static ROW: Explanation = Explanation {
+    number: 24,
+    name: "Row",
     place: Place::ROW,
     meaning: "row i has not as many fields as the header",
     advice: "\
@@ -260,8 +275,9 @@ commas between them and none at the end.
 ",
 };
 
-pub static NUMBER: Explanation = Explanation {
-    code: Code::NUMBER,
+static NUMBER: Explanation = Explanation {
+    number: 25,
+    name: "Number",
     place: Place::ROW,
     meaning: "a field of row i is no number",
     advice: "\
@@ -271,8 +287,9 @@ looks at has to be one, as the count of a take.
 ",
 };
 
-pub static VERTEX: Explanation = Explanation {
-    code: Code::VERTEX,
+static VERTEX: Explanation = Explanation {
+    number: 26,
+    name: "Vertex",
     place: Place::ROW,
     meaning: "row i names a vertex or an edge that is not there",
     advice: "\
@@ -282,8 +299,9 @@ for each vertex: with m edges, m + v brings vertex v its first chips.
 ",
 };
 
-pub static REPEATED: Explanation = Explanation {
-    code: Code::REPEATED,
+static REPEATED: Explanation = Explanation {
+    number: 27,
+    name: "Repeated",
     place: Place::ROW,
     meaning: "row i names a vertex that an earlier row named",
     advice: "\
@@ -292,8 +310,9 @@ names has none.
 ",
 };
 
-pub static KIND: Explanation = Explanation {
-    code: Code::KIND,
+static KIND: Explanation = Explanation {
+    number: 28,
+    name: "Kind",
     place: Place::ROW,
     meaning: "row i is of no kind that there is",
     advice: "\
@@ -302,8 +321,9 @@ read, feed or end; in a trace the second is take or fire. Small letters, and no 
 ",
 };
 
-pub static READ: Explanation = Explanation {
-    code: Code::READ,
+static READ: Explanation = Explanation {
+    number: 29,
+    name: "Read",
     place: Place::NOWHERE,
     meaning: "a file could be opened and not read",
     advice: "\
@@ -311,8 +331,9 @@ That is so of a folder. Else the system refused a read: try again, or copy the f
 ",
 };
 
-pub static TOO_LONG: Explanation = Explanation {
-    code: Code::TOO_LONG,
+static TOO_LONG: Explanation = Explanation {
+    number: 30,
+    name: "TooLong",
     place: Place::NOWHERE,
     meaning: "a file has more than 16777216 bytes",
     advice: "\
@@ -322,8 +343,9 @@ written without spaces. With `--large`, `check`, `plain` and `resume` read up to
 ",
 };
 
-pub static NOT_LEGAL: Explanation = Explanation {
-    code: Code::NOT_LEGAL,
+static NOT_LEGAL: Explanation = Explanation {
+    number: 40,
+    name: "NotLegal",
     place: Place::NOWHERE,
     meaning: "a vertex may not fire so often",
     advice: "\
@@ -332,8 +354,9 @@ the chips for so many firings, or is to fire no times.
 ",
 };
 
-pub static NEGATIVE: Explanation = Explanation {
-    code: Code::NEGATIVE,
+static NEGATIVE: Explanation = Explanation {
+    number: 41,
+    name: "Negative",
     place: Place::VERTEX,
     meaning: "vertex v would be left with fewer than no chips",
     advice: "\
@@ -342,8 +365,9 @@ given, v sends more chips than it has and gets, and it is the least such vertex.
 ",
 };
 
-pub static NOT_CLOSED: Explanation = Explanation {
-    code: Code::NOT_CLOSED,
+static NOT_CLOSED: Explanation = Explanation {
+    number: 42,
+    name: "NotClosed",
     place: Place::NOWHERE,
     meaning: "the root is not closed, so there is no outcome",
     advice: "\
@@ -351,8 +375,9 @@ Only callers of the library chip_world meet this. `simulate` says `root open` in
 ",
 };
 
-pub static NO_EDGE: Explanation = Explanation {
-    code: Code::NO_EDGE,
+static NO_EDGE: Explanation = Explanation {
+    number: 43,
+    name: "NoEdge",
     place: Place::NOWHERE,
     meaning: "the graph has no edge with this number",
     advice: "\
@@ -361,8 +386,9 @@ root edges cannot.
 ",
 };
 
-pub static ENDED: Explanation = Explanation {
-    code: Code::ENDED,
+static ENDED: Explanation = Explanation {
+    number: 44,
+    name: "Ended",
     place: Place::NOWHERE,
     meaning: "chips are fed after the end of feeding",
     advice: "\
@@ -371,8 +397,9 @@ has its end noted from the beginning.
 ",
 };
 
-pub static FULL: Explanation = Explanation {
-    code: Code::FULL,
+static FULL: Explanation = Explanation {
+    number: 45,
+    name: "Full",
     place: Place::NOWHERE,
     meaning: "chips are fed where the next cell of the ring is full",
     advice: "\
@@ -381,8 +408,9 @@ turn. `chipfire run --feed` does so by itself.
 ",
 };
 
-pub static NOT_REPORT: Explanation = Explanation {
-    code: Code::NOT_REPORT,
+static NOT_REPORT: Explanation = Explanation {
+    number: 50,
+    name: "NotReport",
     place: Place::NOWHERE,
     meaning: "the file is no report",
     advice: "\
@@ -394,8 +422,9 @@ alone is the report. A report of more than 4096 vertices is read only by
 ",
 };
 
-pub static PRIOR: Explanation = Explanation {
-    code: Code::PRIOR,
+static PRIOR: Explanation = Explanation {
+    number: 51,
+    name: "Prior",
     place: Place::VERTEX,
     meaning: "vertex v fired more than 1152921504606846976 times in all sittings",
     advice: "\
@@ -404,8 +433,9 @@ chips is the same position.
 ",
 };
 
-pub static MISMATCH: Explanation = Explanation {
-    code: Code::MISMATCH,
+static MISMATCH: Explanation = Explanation {
+    number: 52,
+    name: "Mismatch",
     place: Place::NOWHERE,
     meaning: "the report has another number of vertices than the graph",
     advice: "\
@@ -414,8 +444,9 @@ so name the graph file that the earlier command had.
 ",
 };
 
-pub static PLAN: Explanation = Explanation {
-    code: Code::PLAN,
+static PLAN: Explanation = Explanation {
+    number: 60,
+    name: "Plan",
     place: Place::NOWHERE,
     meaning: "a number of the plan for the threads is out of its range",
     advice: "\
@@ -425,8 +456,9 @@ tests its options itself, so this comes from programs that call the engine.
 ",
 };
 
-pub static UNFINISHED: Explanation = Explanation {
-    code: Code::UNFINISHED,
+static UNFINISHED: Explanation = Explanation {
+    number: 61,
+    name: "Unfinished",
     place: Place::MESSAGES,
     meaning: "the threads made all their turns before the game was over",
     advice: "\
@@ -436,8 +468,9 @@ Allow more turns by `--turns`, or leave the option away.
 ",
 };
 
-pub static GATE_SHUT: Explanation = Explanation {
-    code: Code::GATE_SHUT,
+static GATE_SHUT: Explanation = Explanation {
+    number: 62,
+    name: "GateShut",
     place: Place::NOWHERE,
     meaning: "a worker was not let into its next turn",
     advice: "\
@@ -446,8 +479,9 @@ does.
 ",
 };
 
-pub static LOST: Explanation = Explanation {
-    code: Code::LOST,
+static LOST: Explanation = Explanation {
+    number: 63,
+    name: "Lost",
     place: Place::VERTEX,
     meaning: "the actor of a vertex was not there when the threads had ended",
     advice: "\
@@ -455,8 +489,9 @@ This should not happen: it is a mistake of the program. Please report it, with t
 ",
 };
 
-pub static DOUBLED: Explanation = Explanation {
-    code: Code::DOUBLED,
+static DOUBLED: Explanation = Explanation {
+    number: 64,
+    name: "Doubled",
     place: Place::VERTEX,
     meaning: "there were two actors of a vertex when the threads had ended",
     advice: "\
@@ -464,8 +499,9 @@ This should not happen: it is a mistake of the program. Please report it, with t
 ",
 };
 
-pub static SPAWN: Explanation = Explanation {
-    code: Code::SPAWN,
+static SPAWN: Explanation = Explanation {
+    number: 65,
+    name: "Spawn",
     place: Place::NOWHERE,
     meaning: "a thread could not be started",
     advice: "\
@@ -474,8 +510,9 @@ The system allows no more threads, or has no memory for another. Try fewer by
 ",
 };
 
-pub static STUCK: Explanation = Explanation {
-    code: Code::STUCK,
+static STUCK: Explanation = Explanation {
+    number: 70,
+    name: "Stuck",
     place: Place::TRACE_ROW,
     meaning: "the rows of a trace fit together in no order",
     advice: "\
@@ -486,8 +523,9 @@ trace of other chips, of another graph or limit, or one that was cut is refused 
 ",
 };
 
-pub static NO_MEMORY: Explanation = Explanation {
-    code: Code::NO_MEMORY,
+static NO_MEMORY: Explanation = Explanation {
+    number: 90,
+    name: "NoMemory",
     place: Place::NOWHERE,
     meaning: "memory ran out",
     advice: "\
@@ -495,8 +533,9 @@ Nothing was written. Let the process have more memory, or give it smaller files.
 ",
 };
 
-pub static USAGE: Explanation = Explanation {
-    code: Code::USAGE,
+static USAGE: Explanation = Explanation {
+    number: 91,
+    name: "Usage",
     place: Place::NOWHERE,
     meaning: "the arguments are no command",
     advice: "\
@@ -506,18 +545,20 @@ has not, an option given twice, a number out of its range, a name that is no UTF
 ",
 };
 
-pub static OPEN: Explanation = Explanation {
-    code: Code::OPEN,
+static OPEN: Explanation = Explanation {
+    number: 92,
+    name: "Open",
     place: Place::ARGUMENT,
     meaning: "the file that argument n names could not be opened",
     advice: "\
 There is no such file, or it may not be read. Names go from the folder in which the
-program was started.
+program was started. The file of `--trace` may be none of the inputs, which it would empty.
 ",
 };
 
-pub static WRITE: Explanation = Explanation {
-    code: Code::WRITE,
+static WRITE: Explanation = Explanation {
+    number: 93,
+    name: "Write",
     place: Place::BYTES,
     meaning: "the output could not be written to its end",
     advice: "\
@@ -573,4 +614,14 @@ pub fn explanations() -> [&'static Explanation; 42] {
         &OPEN,
         &WRITE,
     ]
+}
+
+/// The name of the fault with this number.
+pub(crate) fn name_of(number: u64) -> &'static str {
+    for row in &explanations() {
+        if row.number == number {
+            return row.name;
+        }
+    }
+    ""
 }

@@ -47,26 +47,26 @@ passed_over row later is fails = ap (λ (b : Bool). cond b (Some row) later) fai
 
 -- nothing among the first rows, and the next one is not it either
 pub none_more : (table : List (Bor Explanation)) (i number : ℕ) (none : Bor Explanation) → i < length table
-    → row_with (take i (rows_of table)) number ≡ None → ((get_or table i none).now.code.number ≡ number → ⊥)
+    → row_with (take i (rows_of table)) number ≡ None → ((get_or table i none).now.number ≡ number → ⊥)
     → row_with (take (suc i) (rows_of table)) number ≡ None
 none_more [] i number none l so_far other = absurd (omega arith)
 none_more (row ∷ table) zero number none l so_far other =
-    passed_over row.now None (row.now.code.number == number) (ne_eqb row.now.code.number number other)
+    passed_over row.now None (row.now.number == number) (ne_eqb row.now.number number other)
 none_more (row ∷ table) (suc i) number none l so_far other =
     let first = not_here _ _ _ so_far in
-    passed_over row.now _ (row.now.code.number == number) first.0 ∙ none_more table i number none (omega arith) first.1 other
+    passed_over row.now _ (row.now.number == number) first.0 ∙ none_more table i number none (omega arith) first.1 other
 
 -- nothing among the first rows, and the next one is it
 pub found_next : (table : List (Bor Explanation)) (i number : ℕ) (none : Bor Explanation) → i < length table
-    → row_with (take i (rows_of table)) number ≡ None → (get_or table i none).now.code.number ≡ number
+    → row_with (take i (rows_of table)) number ≡ None → (get_or table i none).now.number ≡ number
     → Some (get_or table i none).now ≡ row_with (rows_of table) number
 found_next [] i number none l so_far is = absurd (omega arith)
 found_next (row ∷ table) zero number none l so_far is =
-    sym (ap (λ (b : Bool). cond b (Some row.now) (row_with (rows_of table) number)) (eq-eqb row.now.code.number number is))
+    sym (ap (λ (b : Bool). cond b (Some row.now) (row_with (rows_of table) number)) (eq-eqb row.now.number number is))
 found_next (row ∷ table) (suc i) number none l so_far is =
     let first = not_here _ _ _ so_far in
     found_next table i number none (omega arith) first.1 is
-    ∙ sym (passed_over row.now _ (row.now.code.number == number) first.0)
+    ∙ sym (passed_over row.now _ (row.now.number == number) first.0)
 
 -- nothing among the first rows, and no more rows
 pub none_at_all : (table : List (Bor Explanation)) (i number : ℕ) → length table ≤ i

@@ -15,7 +15,7 @@ use Rattle.chip_command.specs.declared.fault.Fault.TheVariants.{Write, NoMemory,
 -- a fault and what it means, on one line
 abbrev pub line_text : Explanation → List ℕ
 line_text row =
-    codes "fault " ++ decimal row.code.number ++ codes " " ++ row.code.name.now ++ row.place.letters.now ++ codes ": "
+    codes "fault " ++ decimal row.number ++ codes " " ++ row.name.now ++ row.place.letters.now ++ codes ": "
     ++ row.meaning.now ++ codes "\n"
 
 -- all that is said of one fault: its line, an empty line, how to read its numbers, and what to do
@@ -34,7 +34,7 @@ rows_of table = map (λ row. row.now) table
 
 -- the row of a table with this number, where there is one
 abbrev pub row_with : List Explanation → ℕ → Option Explanation
-row_with table number = find (λ row. row.code.number == number) table
+row_with table number = find (λ row. row.number == number) table
 
 -- what a table has to say: of the fault with a number, where a row has it; of all faults where no number is given
 abbrev pub explanation : List Explanation → Option ℕ → Option (List ℕ)

@@ -53,8 +53,8 @@ RefusalsAreNumbered =
 
 -- a row that says what fault 6 is, and what to do
 pub record SaysLoop (row : Explanation) : Type 0 where
-  pub number : row.code.number ≡ 6
-  pub name : row.code.name.now ≡ codes "Loop"
+  pub number : row.number ≡ 6
+  pub name : row.name.now ≡ codes "Loop"
   pub letters : row.place.letters.now ≡ codes " i"
   pub reading : row.place.reading.now ≡ codes "i is an edge.\n"
   pub meaning : row.meaning.now ≡ codes "edge i is a loop"

@@ -40,7 +40,7 @@ fn row_of<'a>(table: &[&'a Explanation], number: u64) -> Option<&'a Explanation>
     ensures { option_map (λ row. row.now) result ≡ row_with (rows_of table.now) number }
 {
     for row in table {
-        if row.code.number == number {
+        if row.number == number {
             return Some(row);
         }
     }
@@ -78,6 +78,6 @@ fn push_line(text: &mut String, row: &Explanation) -> Result<(), AllocError>
     write!(
         text,
         "fault {} {}{}: {}\n",
-        row.code.number, row.code.name, row.place.letters, row.meaning
+        row.number, row.name, row.place.letters, row.meaning
     )
 }

@@ -16,8 +16,7 @@ def seen_calls(machine, worked):
 
     def faults():
         seen, files, opens = machine.calls(worked.words), len(worked.files()), len(worked.opens())
-        # (the file of traces is made while three others are open, which have nothing in them)
-        is_read = seen["open"] == opens + (3 if opens > files else 0) and seen["read"] >= 2 * files
+        is_read = seen["open"] == opens and seen["read"] >= 2 * files
         is_written = seen["err" if worked.fault else "out"] == 1 and (seen["file"] > 0) == (opens > files)
         is_well = is_read and is_written and seen["thread"] == worked.threads
         return [] if is_well else [f"of {files} files and {worked.threads} threads these calls were seen: {seen}"]

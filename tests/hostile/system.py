@@ -2,18 +2,20 @@
 import concurrent.futures
 import contextlib
 import dataclasses
+import filecmp
 import itertools
 import json
 import os
 import random
 import re
+import shutil
 import signal
 import tempfile
 import threading
 import time
 
 import launch
-from worked import NO_MEMORY, differences, fault_differences
+from worked import NO_MEMORY, TRACE, differences, fault_differences
 
 KIB, MIB = 1 << 10, 1 << 20
 # Sizes of all memory and of the stack, in KiB: too little for the loader, just about enough, plenty.
@@ -129,7 +131,8 @@ def size_limits(machine, worked):
 
 
 def odd_files(machine, worked, room):
-    """A folder cannot be read, and a device without an end is too long; of files too many one cannot be opened."""
+    """A folder cannot be read, and a device without an end is too long; of files too many one cannot be opened, and no
+    further file is needed than the arguments name."""
     for place, path in worked.files():
         for odd, fault in ((room, "29 Read"), ("/dev/zero", "30 TooLong"), ("/proc/self/mem", "29 Read")):
 
@@ -138,12 +141,33 @@ def odd_files(machine, worked, room):
                 return worked.faulted(machine.run(words), fault)
 
             yield f"{worked.name}: {odd} in place of {os.path.basename(path)}", faults
-    for number, (place, _) in enumerate(worked.files()[1:], 1):
+    opens = worked.opens()
+    for number in range(1, len(opens) + 1):
 
-        def faults(number=number, place=place):
-            return worked.faulted(machine.run_under(f"NOFILE={3 + number}", worked.words), f"92 Open {place}")
+        def faults(number=number):
+            ran = machine.run_under(f"NOFILE={3 + number}", worked.words)
+            return worked.faulted(ran, f"92 Open {opens[number]}") if number < len(opens) else worked.differences(ran)
 
-        yield f"{worked.name}: {number} files may be open", faults
+        yield f"{worked.name}: {number} files may be open beside the standard streams", faults
+
+
+def traces_over_inputs(machine, worked):
+    """A trace that is an input under another name is refused, and the input stays as it was."""
+    for place, path in worked.files():
+        for how, link in (("a hard link", os.link), ("a symbolic link", os.symlink)):
+
+            def faults(place=place, path=path, link=link):
+                with tempfile.TemporaryDirectory(prefix="chipfire-hostile-") as room:
+                    text, name = shutil.copy(path, f"{room}/input"), f"{room}/trace"
+                    link(text, name)
+                    words = [name if word == TRACE else word for word in worked.words]
+                    words[place] = text
+                    ran = machine.run(words)
+                    is_kept = filecmp.cmp(path, text, shallow=False)
+                found = fault_differences(ran, f"92 Open {worked.words.index(TRACE)}")
+                return found if is_kept else [*found, "the input was changed"]
+
+            yield f"{worked.name}: its trace is {how} of {os.path.basename(path)}", faults
 
 
 def is_unstarted(ran):
@@ -324,6 +348,7 @@ def tests(machine, reference, runs, kills):
         yield from useless_streams(machine, worked)
         yield from size_limits(machine, worked) if not worked.fault else ()
         yield from odd_files(machine, worked, machine.room)
+        yield from traces_over_inputs(machine, worked) if TRACE in worked.words else ()
         yield from small_spaces(machine, worked)
         yield from several_at_once(machine, worked)
         yield from slow_pipes(machine, worked)

@@ -20,6 +20,9 @@ use chip_graph::{Limits, MAX_LIMIT};
 use chip_link::{MAX_RING, Ring};
 use chip_run::{RunOptions, run_engine_gated};
 use progress::{ReadProgress, RoundProgress, Teller, TurnProgress};
+use std::fs::{File, Metadata};
+use std::os::fd::AsRawFd;
+use std::os::unix::fs::MetadataExt;
 use std::process::ExitCode;
 use std::rt::{Clock, Env, Files};
 use std::sync::Wait;
@@ -62,13 +65,16 @@ fn main(rt: HostRuntime) -> ExitCode {
 }
 
 /// Does what the program's arguments ask for.
-fn run<R: Env + Files + Print + Eprint + Clock + AllocGlobal + Threads + Wait + Sync>(
+fn run<R: Env + Files<File = File> + Print + Eprint + Clock + AllocGlobal + Threads + Wait + Sync>(
     rt: &R,
 ) -> Result<Ended, Fault> {
-    let arguments = arguments_of(rt)?;
+    let arguments: Vec<String> = env::args(rt)
+        .map_err(fault_of_arguments)?
+        .collect(rt.alloc())?;
     let mut output = io::writer(rt);
     if arguments.len() < 2 {
-        return play_triangle(rt, &mut output);
+        let (mut graph, mut chips) = (TRIANGLE.as_bytes(), FOUR_CHIPS.as_bytes());
+        return plain_engine(rt.alloc(), &mut graph, &mut chips, MAX_LIMIT, &mut output);
     }
     match parse(rt.alloc(), &arguments) {
         Ok(request) => serve(rt, &request, &mut output),
@@ -76,24 +82,11 @@ fn run<R: Env + Files + Print + Eprint + Clock + AllocGlobal + Threads + Wait + 
     }
 }
 
-/// The arguments of the program, its own name first.
-fn arguments_of<R: Env + AllocGlobal>(rt: &R) -> Result<Vec<String>, Fault> {
-    let arguments = env::args(rt).map_err(fault_of_arguments)?;
-    Ok(arguments.collect(rt.alloc())?)
-}
-
-/// Plays the game that is played without arguments.
-fn play_triangle<R: AllocGlobal, W: io::Write>(rt: &R, output: &mut W) -> Result<Ended, Fault> {
-    let (mut graph, mut chips) = (TRIANGLE.as_bytes(), FOUR_CHIPS.as_bytes());
-    plain_engine(rt.alloc(), &mut graph, &mut chips, MAX_LIMIT, output)
-}
-
 /// Does what is asked for.
-fn serve<R: Files + Clock + Eprint + AllocGlobal + Threads + Wait + Sync, W: io::Write>(
-    rt: &R,
-    request: &Request<'_>,
-    output: &mut W,
-) -> Result<Ended, Fault> {
+fn serve<
+    R: Files<File = File> + Clock + Eprint + AllocGlobal + Threads + Wait + Sync,
+    W: io::Write,
+>(rt: &R, request: &Request<'_>, output: &mut W) -> Result<Ended, Fault> {
     match request {
         Request::Help(text) => conclude(output, text.as_bytes(), Ended::of(Status::Done)),
         Request::Check(asked) => check(rt, asked, output),
@@ -135,46 +128,31 @@ fn play<R: Files + Clock + Eprint + AllocGlobal, W: io::Write>(
 }
 
 /// Plays a game on threads.
-fn play_on_threads<R: Files + Clock + Eprint + AllocGlobal + Threads + Wait + Sync, W: io::Write>(
-    rt: &R,
-    asked: &RunArguments<'_>,
-    output: &mut W,
-) -> Result<Ended, Fault> {
+fn play_on_threads<
+    R: Files<File = File> + Clock + Eprint + AllocGlobal + Threads + Wait + Sync,
+    W: io::Write,
+>(rt: &R, asked: &RunArguments<'_>, output: &mut W) -> Result<Ended, Fault> {
     let teller = Teller::start(rt, asked.progress);
     let (graph, chips) = open_game(rt, &asked.game)?;
-    let mut feed = open_feed(rt, asked, &teller)?;
-    let mut trace = create_trace(rt, asked)?;
+    let feed = match &asked.feed {
+        Some(file) => Some(open(rt, file)?),
+        None => None,
+    };
+    let mut trace = match &asked.trace {
+        Some(file) => Some(create(rt, file, &[Some(&graph), Some(&chips), feed.as_ref()])?),
+        None => None,
+    };
     run_engine_gated(
         rt,
         rt.alloc(),
         &mut ReadProgress::start(&teller, graph),
         &mut ReadProgress::start(&teller, chips),
-        feed.as_mut(),
+        feed.map(|file| ReadProgress::start(&teller, file)).as_mut(),
         options_of(asked),
         &TurnProgress::start(&teller),
         &mut trace,
         output,
     )
-}
-
-/// Opens the file of the chips that are fed, if there are any.
-fn open_feed<'a, R: Files + Clock + Eprint>(
-    rt: &R,
-    asked: &RunArguments<'_>,
-    teller: &'a Teller<'a, R>,
-) -> Result<Option<ReadProgress<'a, R, R::File>>, Fault> {
-    match &asked.feed {
-        Some(file) => Ok(Some(ReadProgress::start(teller, open(rt, file)?))),
-        None => Ok(None),
-    }
-}
-
-/// Makes the file of the trace, if one is asked for.
-fn create_trace<R: Files>(rt: &R, asked: &RunArguments<'_>) -> Result<Option<R::File>, Fault> {
-    match &asked.trace {
-        Some(file) => Ok(Some(create(rt, file)?)),
-        None => Ok(None),
-    }
 }
 
 /// How the threads play.
@@ -281,25 +259,37 @@ fn open<R: Files>(rt: &R, file: &FileArgument<'_>) -> Result<R::File, Fault> {
     fs::open(rt, file.path).map_err(|_| Fault::Open(file.number))
 }
 
-/// Makes the file that an argument names anew.
-///
-/// A file gets the first number that is free, which may be that of a standard stream that is closed. Then a fault's
-/// line would go into it, so three other files have those numbers meanwhile.
-fn create<R: Files>(rt: &R, file: &FileArgument<'_>) -> Result<R::File, Fault> {
-    let _first = no_file(rt, file)?;
-    let _second = no_file(rt, file)?;
-    let _third = no_file(rt, file)?;
-    fs::create(rt, file.path).map_err(|_| Fault::Open(file.number))
+/// Makes the file that an argument names anew, unless it is one of these inputs.
+fn create<R: Files<File = File>>(
+    rt: &R,
+    file: &FileArgument<'_>,
+    inputs: &[Option<&File>],
+) -> Result<File, Fault> {
+    let fault = Fault::Open(file.number);
+    if let Ok(old) = fs::metadata(rt, file.path) {
+        for input in inputs {
+            if let Some(open) = input {
+                if is_file(open, &old) {
+                    return Err(fault);
+                }
+            }
+        }
+    }
+    let made = fs::create(rt, file.path).map_err(|_| fault)?;
+    // A file may get the number of a standard stream that is closed, and then a fault's line would go into it. A copy
+    // has none of the first three numbers.
+    if made.as_raw_fd() > 2 {
+        return Ok(made);
+    }
+    made.try_clone().map_err(|_| fault)
 }
 
-/// A file in which there is nothing, in the place of one that an argument names.
-#[cold]
-fn no_file<R: Files>(rt: &R, file: &FileArgument<'_>) -> Result<R::File, Fault> {
-    let nothing = FileArgument {
-        path: "/dev/null",
-        number: file.number,
-    };
-    open(rt, &nothing)
+/// Whether an open file is the one that was found so.
+fn is_file(open: &File, found: &Metadata) -> bool {
+    match open.metadata() {
+        Ok(now) => now.dev() == found.dev() && now.ino() == found.ino(),
+        Err(_) => false,
+    }
 }
 
 /// Why there are no arguments: there is no memory for them, or one is no UTF-8.

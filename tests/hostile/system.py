@@ -21,6 +21,7 @@ KIB, MIB = 1 << 10, 1 << 20
 # Sizes of all memory and of the stack, in KiB: too little for the loader, just about enough, plenty.
 SPACES = [1024, 2048, *range(2688, 3328, 64), 4096, 8192, 65536]
 STACKS = [16, 32, *range(64, 136, 8), 192, 256, 1024, 8192]
+LEAST_STACK = 192
 CLOSE, DUP2, OPEN = os.POSIX_SPAWN_CLOSE, os.POSIX_SPAWN_DUP2, os.POSIX_SPAWN_OPEN
 
 
@@ -178,7 +179,7 @@ def is_unstarted(ran):
 
 def small_spaces(machine, worked):
     """In little memory or on a small stack it answers, says that memory ran out, or is ended with nothing written."""
-    for limit, sizes, enough in (("AS", SPACES, 65536), ("STACK", STACKS, 1024)):
+    for limit, sizes, enough in (("AS", SPACES, 65536), ("STACK", STACKS, LEAST_STACK)):
         for size in sizes:
 
             def faults(limit=limit, size=size, enough=enough):
@@ -188,6 +189,17 @@ def small_spaces(machine, worked):
                 return [] if is_unstarted(ran) else worked.differences_or_fault(ran)
 
             yield f"{worked.name}: {limit} of {size} KiB", faults
+
+
+def small_stacks(machine):
+    """What reads no file does with the least stack, too."""
+    for words in (["--help"], ["run", "--help"], ["explain"], ["explain", "21"]):
+
+        def faults(words=words):
+            ran = machine.run_under(f"STACK={LEAST_STACK * KIB}", words)
+            return differences(ran, machine.run(words).out, b"", 0)
+
+        yield f"{' '.join(words)}: STACK of {LEAST_STACK} KiB", faults
 
 
 def several_at_once(machine, worked):
@@ -358,6 +370,7 @@ def tests(machine, reference, runs, kills):
     yield from unheard_progress(machine, "plain")
     yield from unheard_progress(machine, "run", "--workers", "1", "--turns", "3000000")
     yield from leaving_readers(machine, reference)
+    yield from small_stacks(machine)
     yield from many_words(machine)
     yield from wide_texts(machine)
     yield from wide_reports(machine, runs)

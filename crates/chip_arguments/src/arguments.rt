@@ -25,7 +25,6 @@ const USUAL_TRACE_ROWS: u64 = 1024;
 /// A file that an argument names.
 #[derive(Clone, Copy)]
 pub struct FileArgument<'a> {
-    /// Its name.
     pub path: &'a str,
     /// The number of the argument, from 1 for the first behind the command.
     pub number: u64,
@@ -45,7 +44,6 @@ pub struct GameArguments<'a> {
 #[derive(Clone, Copy)]
 pub struct CheckArguments<'a> {
     pub graph: FileArgument<'a>,
-    /// Whether the graph may be a large one.
     pub large: bool,
 }
 
@@ -53,9 +51,7 @@ pub struct CheckArguments<'a> {
 #[derive(Clone, Copy)]
 pub struct PlainArguments<'a> {
     pub game: GameArguments<'a>,
-    /// Whether the graph may be a large one.
     pub large: bool,
-    /// Whether it is told how the play goes on.
     pub progress: bool,
 }
 
@@ -68,9 +64,7 @@ pub struct SimulationArguments<'a> {
     pub ring: u64,
     /// Up to 2^40.
     pub rounds: u64,
-    /// Whether the books of the detector follow each reply.
     pub books: bool,
-    /// Whether the schedule may feed chips.
     pub fed: bool,
 }
 
@@ -82,17 +76,13 @@ pub struct RunArguments<'a> {
     pub ring: u64,
     /// How many threads, 1 to 64.
     pub workers: u64,
-    /// Whether the vertices are dealt out to the threads.
     pub dealt: bool,
     /// How many turns each of them makes at most, 1 to 2^40.
     pub turns: u64,
-    /// The file of the chips that are fed, if there are any.
     pub feed: Option<FileArgument<'a>>,
-    /// The file of the trace, if one is asked for.
     pub trace: Option<FileArgument<'a>>,
     /// For how many rows of each vertex there is room in it, up to 2^20.
     pub trace_rows: u64,
-    /// Whether it is told how the play goes on.
     pub progress: bool,
 }
 
@@ -100,7 +90,6 @@ pub struct RunArguments<'a> {
 #[derive(Clone, Copy)]
 pub struct ReplayArguments<'a> {
     pub game: GameArguments<'a>,
-    /// The file of the traces.
     pub trace: FileArgument<'a>,
 }
 
@@ -109,7 +98,6 @@ pub struct ReplayArguments<'a> {
 pub struct ResumeArguments<'a> {
     /// Its start is a report.
     pub game: GameArguments<'a>,
-    /// Whether the graph may be a large one.
     pub large: bool,
 }
 

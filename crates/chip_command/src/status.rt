@@ -7,7 +7,6 @@ ghost use Rattle.std.specs.Prelude.{◌≡◌};
 pub enum Status {
     /// It did all it was to do; of a game, that no vertex halted.
     Done = 0,
-    /// It failed.
     Failed = 1,
     /// The game closed, and some vertex halted.
     Halted = 2,

@@ -5,7 +5,6 @@ use chip_graph::Limits;
 /// How large a game may be, and how often a vertex may fire.
 #[derive(Clone, Copy)]
 pub struct PlayOptions {
-    /// The limits of the graph and of each text.
     pub limits: Limits,
     /// How often a vertex may fire at most.
     pub limit: u64,

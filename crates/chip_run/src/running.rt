@@ -36,9 +36,8 @@ impl Gate for Always {
 pub struct RunOptions {
     /// How often a vertex may fire at most.
     pub limit: u64,
-    /// How the crew works. It seals nothing.
+    /// It seals nothing.
     pub plan: Plan,
-    /// How its workers share the actors.
     pub sharing: Sharing,
 }
 

@@ -1,7 +1,7 @@
 //! What is told of a long reading and a long play on standard error, a line once a second at most.
 //!
-//! Nothing of it changes what is read or played. Where the clock cannot be read no line is written, and a line that cannot be written
-//! is left out.
+//! Nothing of it changes what is read or played. Where the clock cannot be read no line is written, and a line that
+//! cannot be written is left out.
 
 use chip_crew::Gate;
 use chip_fire::Watch;
@@ -11,7 +11,7 @@ use std::io::Read;
 use std::rt::Clock;
 use std::sync::atomic::AtomicU64;
 use std::sync::atomic::Ordering::SeqCst;
-use std::time::{Duration, Instant};
+use std::time::Instant;
 
 /// How many milliseconds lie between two lines at least, and before the first.
 const PAUSE: u64 = 1000;
@@ -41,7 +41,7 @@ impl Pace {
         let Ok(passed) = self.start.elapsed(clock) else {
             return false;
         };
-        let now = in_milliseconds(passed);
+        let now = u64::try_from(passed.as_millis()).unwrap_or(u64::MAX);
         let last = self.last.load(SeqCst);
         now.saturating_sub(last) >= PAUSE
             && self
@@ -49,11 +49,6 @@ impl Pace {
                 .compare_exchange(last, now, SeqCst, SeqCst)
                 .is_ok()
     }
-}
-
-/// A time in milliseconds, up to 2^64 - 1.
-fn in_milliseconds(time: Duration) -> u64 {
-    u64::try_from(time.as_millis()).unwrap_or(u64::MAX)
 }
 
 /// Where lines are written, and when.

@@ -1,6 +1,6 @@
 -- The words that a running game shares: which word the operation of an event is on, what it leaves there, and what all
 -- words show of a log.
-use Rattle.std.specs.Prelude.{◌≡◌, ◌≢◌, ℕ, ◌+◌, ◌-◌, ◌%◌, ◌^◌, ◌<◌, Bool, true, false, ◌∷◌, length, sum, option_to_list}
+use Rattle.std.specs.Prelude.{◌≡◌, ◌≢◌, ℕ, ◌+◌, ◌-◌, ◌%◌, ◌^◌, ◌<◌, ◌∷◌, length, sum, option_to_list}
 use Rattle.std.specs.Prelude.{bit_or, None}
 use Rattle.chip_link.specs.Link.{Shows, claims_of}
 use Rattle.chip_link.specs.Words.{word_after_exchange}

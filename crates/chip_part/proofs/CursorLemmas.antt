@@ -11,7 +11,7 @@ use Rattle.chip_part.specs.Setting.{Setting}
 use Rattle.chip_part.specs.Part.{Part}
 use Rattle.chip_part.specs.declared.act.Act.{Act}
 use Rattle.chip_part.specs.declared.act.Act.TheVariants as Do
-use Rattle.chip_part.specs.Rules.{Event, Take, Ack, Fire, Clear, Claim, Put, Halt, Settle, Seal, Read, Feed, End}
+use Rattle.chip_part.specs.Rules.{Event, Fire, Halt, Seal, Read, Feed, End}
 use Rattle.chip_part.specs.Rules.{unmet_rule}
 use Rattle.chip_part.specs.Steps.{Step, part_of, does, saw}
 use Rattle.chip_part.specs.Acting.{act_of, event_of}

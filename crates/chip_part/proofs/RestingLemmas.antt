@@ -15,7 +15,7 @@ use Rattle.chip_part.specs.Edges.{graph_edges, all_edges, root_edge, head_of}
 use Rattle.chip_part.specs.Part.{Part, owed, may_ack, all_owed, deficit, is_passive}
 use Rattle.chip_part.proofs.PickedLemmas.{picked_has}
 use Rattle.chip_part.proofs.EdgeLemmas.{head_graph, head_root}
-use Rattle.chip_part.specs.Rules.{Event, Take, Ack, Fire, Clear, Claim, Put, Halt, Settle, Seal, Read, Feed, End}
+use Rattle.chip_part.specs.Rules.{Event, Ack}
 use Rattle.chip_part.specs.Steps.{Step, does, reply_of}
 use Rattle.chip_part.specs.Kept.{KeepsPart}
 use Rattle.chip_part.specs.Acting.{act_of}

@@ -295,9 +295,13 @@ none_without_utf8 went_on limits bytes none = none_in went_on limits bytes (λ t
     (ascii_plain (version went_on) (plain_version went_on))))))
 
 -- how many lists a report has
-abbrev lists_in : Bool → ℕ
+abbrev pub lists_in : Bool → ℕ
 lists_in true = 5
 lists_in false = 4
+
+pub has_four : (went_on : Bool) (k : ℕ) → k < 4 → k < lists_in went_on
+has_four true k l = omega arith
+has_four false k l = l
 
 as_many : (went_on : Bool) (t : SittingContent) → length (parts went_on t) ≡ lists_in went_on
 as_many true t = refl
@@ -309,18 +313,6 @@ none_without_list went_on limits bytes k l none = none_in went_on limits bytes (
     not_HasNoList limits.vertices (parts went_on t) (version went_on)
     (are_parts went_on limits.vertices t is.in_range fits) k (subst (λ (n : ℕ). k < n) (sym (as_many went_on t)) l)
     (subst (λ (text : List ℕ). HasNoList limits.vertices (text_behind_lists k text)) is.spelled none))
-
--- a report of either version has four lists
-pub none_without_four : (went_on : Bool) (limits : SizeLimits) (bytes : List ℕ) (k : ℕ) → k < 4
-    → HasNoList limits.vertices (text_behind_lists k bytes) → IsNoReportIn went_on limits bytes
-none_without_four true limits bytes k l none = none_without_list true limits bytes k (omega arith) none
-none_without_four false limits bytes k l none = none_without_list false limits bytes k l none
-
--- and that of a sitting that went on has a fifth
-pub none_without_fifth : (went_on : Bool) (limits : SizeLimits) (bytes : List ℕ) → went_on ≡ true
-    → HasNoList limits.vertices (text_behind_lists 4 bytes) → IsNoReportIn went_on limits bytes
-none_without_fifth true limits bytes is none = none_without_list true limits bytes 4 (omega arith) none
-none_without_fifth false limits bytes is none = absurd (false≢true is)
 
 pub not_that_sitting : (went_on : Bool) (limits : SizeLimits) (bytes : List ℕ) (found : Resumed)
     → sitting_content found ≡ content_by_text went_on bytes → (IsResumed found → bytes ≡ text_in went_on found → ⊥)
@@ -340,14 +332,16 @@ passed_on IsRight (Ok x) f is why then = absurd is
 passed_on IsRight (Err g) f is (inl memory) then = inl (is ∙ memory)
 passed_on IsRight (Err g) f is (inr none) then = inr (is ∙ none.0, then none.1)
 
--- a text has no such list as is taken of it
-pub no_list_in : {T : Type 0} (IsRight : T → Type 0) (limits : SizeLimits) (most : ℕ) → most ≡ limits.vertices
-    → (rest behind : List ℕ) → rest ≡ behind → (P : Type 0) → (HasNoList limits.vertices behind → P)
-    → (result : Result T ReportFault) (f : ReportFault) → IsErrAnd result (λ e. e ≡ f)
-    → (f ≡ fault.NoMemory) ⊎ ((f ≡ fault.NotReport) × HasNoList most rest) → Gives IsRight P result
-no_list_in IsRight limits most same rest behind at P then result f is why =
-    passed_on IsRight result f is why (λ none. then (subst (λ (m : ℕ). HasNoList m behind) same
-    (subst (HasNoList most) at none)))
+-- a list that is not taken of a text, at the place of one of a report
+pub none_taken : (went_on : Bool) (limits : SizeLimits) (text : List ℕ) (most k : ℕ) → most ≡ limits.vertices
+    → k < lists_in went_on → (rest : List ℕ) → rest ≡ text_behind_lists k text
+    → (result : Result Resumed ReportFault) (f : ReportFault) → IsErrAnd result (λ e. e ≡ f)
+    → (f ≡ fault.NoMemory) ⊎ ((f ≡ fault.NotReport) × HasNoList most rest)
+    → Gives (IsToldBy went_on limits text) (IsNoReportIn went_on limits text) result
+none_taken went_on limits text most k same l rest at result f is why =
+    passed_on (IsToldBy went_on limits text) result f is why (λ none.
+    none_without_list went_on limits text k l
+    (subst (λ (m : ℕ). HasNoList m (text_behind_lists k text)) same (subst (HasNoList most) at none)))
 
 -- bytes that end in a newline
 pub of_a_line : {T : Type 0} (bytes json : List ℕ) → bytes ≡ json ++ 10 ∷ [] → (result : Result T ReportFault)

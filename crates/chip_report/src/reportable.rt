@@ -1,9 +1,9 @@
 //! Which sittings a report takes.
 
-ghost use Rattle.std.specs.Prelude.{◌≡◌, ◌≤◌, ◌↔◌, true, All, Contains, length};
+ghost use Rattle.std.specs.Prelude.{◌≡◌, ◌↔◌, true, Contains};
 ghost use Rattle.std.specs.List.Sorted.{IsStrictlyIncreasing};
 ghost use Rattle.chip_sequence.specs.Outcomes.{IsOutcome};
-ghost use Rattle.chip_sequence.specs.Sittings.{IsResumed, max_prior};
+ghost use Rattle.chip_sequence.specs.Sittings.{IsResumed};
 ghost use Rattle.chip_report.specs.OutcomeParts.{AreCounts, IsAscendingBelow, AreApart, AreHalted};
 
 use chip_graph::{MAX_LIMIT, MAX_TOTAL, MAX_VERTICES};
@@ -14,14 +14,9 @@ pub(crate) fn is_resumed(resumed: &Resumed) -> bool
     ensures { (result ≡ true) ↔ IsResumed resumed.now }
 {
     let Resumed { outcome, prior } = resumed;
-    is_outcome(outcome) && are_priors(prior, outcome.fired.len())
-}
-
-/// Whether the numbers are one for each vertex, each at most 2^60.
-fn are_priors(prior: &[u64], vertices: usize) -> bool
-    ensures { (result ≡ true) ↔ ((length prior.now ≡ vertices) × All (λ n. n ≤ max_prior) prior.now) }
-{
-    prior.len() == vertices && prior.iter().all(|number| *number <= MAX_PRIOR)
+    is_outcome(outcome)
+        && prior.len() == outcome.fired.len()
+        && prior.iter().all(|number| *number <= MAX_PRIOR)
 }
 
 /// Whether the numbers are in range, and the halted vertices two ascending lists with none in both.

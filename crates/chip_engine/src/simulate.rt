@@ -77,7 +77,7 @@ pub fn simulate_engine_with<G: Read, C: Read, S: Read, W: Write>(
     let game = read_game(alloc, graph, chips, options.limit)?;
     let events = read_schedule(alloc, schedule, game.graph())?;
     let setting = Setting::new(game, options.ring, options.fed);
-    let answer = simulate(alloc, setting, &events, options.rounds, options.books)?;
+    let answer = simulate(alloc, setting, events, options.rounds, options.books)?;
     conclude(output, &answer.text, Ended::of(answer.status))
 }
 
@@ -85,15 +85,15 @@ pub fn simulate_engine_with<G: Read, C: Read, S: Read, W: Write>(
 fn simulate(
     alloc: Global,
     setting: Setting,
-    events: &[Event],
+    events: Vec<Event>,
     rounds: u64,
     books: bool,
 ) -> Result<Answer, AllocError>
     ensures { IfOk result
-        (λ made. Simulates setting rounds books events.now made.text.items (number_of_status made.status)) }
+        (λ made. Simulates setting rounds books events.items made.text.items (number_of_status made.status)) }
 {
     let mut world = World::of(alloc, setting)?;
-    run(alloc, &mut world, events, rounds, books)
+    run(alloc, &mut world, &events, rounds, books)
 }
 
 /// Runs a world from its opening, through a schedule and then some rounds: the lines, and the exit status.

@@ -354,6 +354,28 @@ def wide_reports(machine, runs):
         yield f"a report of 16 MiB of {name} in 64 MiB", faults
 
 
+def wide_rows(machine, runs):
+    """16 MiB of commas are refused in no more than 160 MB, be they a header, a row, or a row behind a quote."""
+    replay = next(it for it in runs if it.words[0] == "replay")
+    graph, chips, _ = (path for _, path in replay.files())
+    commands = {
+        b"vertex,chips\n": ["plain", graph],
+        b"event,at,count\n": ["simulate", graph, chips],
+        b"vertex,kind,edge,count\n": ["replay", graph, chips],
+    }
+    for (header, words), begin in itertools.product(commands.items(), (b"", b"HEADER", b'HEADER"')):
+
+        def faults(header=header, words=words, begin=begin):
+            with tempfile.NamedTemporaryFile(prefix="chipfire-hostile-") as file:
+                file.write(begin.replace(b"HEADER", header).ljust(16 * MIB, b","))
+                file.flush()
+                ran = machine.run([*words, file.name])
+            wanted = {b"": "23 Header", b"HEADER": "24 Row 0", b'HEADER"': "24 Row 0"}[begin]
+            return fault_differences(ran, wanted) + ([f"{ran.memory} KiB"] if ran.memory > 160 * 1000**2 // KIB else [])
+
+        yield f"{words[0]}: 16 MiB of commas behind {begin!r}", faults
+
+
 def tests(machine, reference, runs, kills):
     for worked in runs:
         yield from closed_streams(machine, worked)
@@ -374,3 +396,4 @@ def tests(machine, reference, runs, kills):
     yield from many_words(machine)
     yield from wide_texts(machine)
     yield from wide_reports(machine, runs)
+    yield from wide_rows(machine, runs)

@@ -70,7 +70,7 @@ fn one_owned(
     let own = net.take_out(seat, vertex);
     let setting = net.setting();
     let trace = Trace::new(alloc, trace_rows as usize)?;
-    let state = ActorState::new(alloc, setting.game(), vertex, setting.ring())?;
+    let state = ActorState::new(alloc, setting.game(), vertex, setting.ring().cells())?;
     let hand = Hand::new(Snapshot::of(setting), own, vertex, trace);
     Ok(Owned::new(state, hand))
 }

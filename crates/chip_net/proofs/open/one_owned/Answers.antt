@@ -29,6 +29,6 @@ new-requires-3-clause-state c =
     let opens : StandsFor c.setting-setting.result.now (opening_part c.setting-setting.result.now) a =
     let fed : Bool = c.setting-setting.result.now.fed in
     subst (λ (z : ChipGame × ℕ). StandsFor (setting_with z.0 z.1 fed) (opening_part (setting_with z.0 z.1 fed)) a)
-    (λ i. (c.game.ensures.value i, c.ring.ensures.value i)) (c.in_ok-state.ensures.opened fed) in
+    (λ i. (c.game.ensures.value i, (c.cells.ensures.number ∙ c.ring.ensures.value) i)) (c.in_ok-state.ensures.opened fed) in
     subst (λ (k : ActorKnown). StandsFor k.net.setting (part_known k) a) (sym c.new-hand.ensures)
     (subst (λ (g : Setting). StandsFor g (opening_part g) a) (sym c.of.ensures) opens)

@@ -4,7 +4,7 @@ ghost use Rattle.std.specs.Prelude.{◌≡◌, IfOk};
 
 use crate::ended::status_of;
 use crate::status::Status;
-use chip_report::report::report;
+use chip_report::report;
 use chip_sequence::Outcome;
 use std::alloc::{AllocError, Global};
 

@@ -6,8 +6,7 @@ ghost use Rattle.chip_command.specs.Statuses.{number_of_status};
 
 use crate::fault::Fault;
 use crate::status::Status;
-use chip_report::report::is_closed;
-use chip_report::write_all_of;
+use chip_report::{is_closed, write_all_of};
 use chip_sequence::Outcome;
 use std::io::Write;
 

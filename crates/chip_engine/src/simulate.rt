@@ -1,6 +1,7 @@
 //! `simulate`: the core's replies to a schedule, and the report where the root closes.
 
 ghost use Rattle.std.specs.Prelude.{◌≡◌, ◌++◌, [], false, IfOk, codes, string_bytes};
+ghost use Rattle.chip_link.specs.Rings.{IsRing};
 ghost use Rattle.chip_part.specs.Setting.{Setting};
 ghost use Rattle.chip_core.specs.Core.{Log, IsClosed, log_after};
 ghost use Rattle.chip_world.specs.World.{StandsForLog, WhateverLog};
@@ -14,7 +15,7 @@ use chip_command::{Answer, Ended, Fault, Status, conclude, read_game, status_of}
 use chip_file::read_schedule;
 use chip_link::{Event, Message, Ring};
 use chip_part::{Reply, Setting};
-use chip_report::report::report;
+use chip_report::report;
 use chip_world::{Drive, World, WorldFault};
 use std::alloc::{AllocError, Global};
 use std::io::{Read, Write};
@@ -42,18 +43,19 @@ pub fn simulate_engine<G: Read, C: Read, S: Read, W: Write>(
     chips: &mut C,
     schedule: &mut S,
     limit: u64,
-    ring: Ring,
+    ring: u64,
     rounds: u64,
     fed: bool,
     output: &mut W,
 ) -> Result<Ended, Fault>
+    requires { IsRing ring }
     ensures { SimulateReads (G.remaining graph.old) (C.remaining chips.old) (S.remaining schedule.old)
         (record { limit = limit; ring = ring; rounds = rounds; books = false; fed = fed })
         (W.contents output.old) (W.contents output.new) result }
 {
     let options = SimulateOptions {
         limit,
-        ring,
+        ring: Ring::of(ring),
         rounds,
         books: false,
         fed,

@@ -200,7 +200,7 @@ fn simulated(rt: &(impl AllocGlobal + Abort), scheduled: &Scheduled) -> Result<E
         &mut scheduled.chips.as_bytes(),
         &mut scheduled.schedule.as_bytes(),
         NO_LIMIT,
-        ring,
+        ring.cells(),
         scheduled.rounds,
         scheduled.fed,
         &mut output,

@@ -1,8 +1,8 @@
 use Rattle.std.proofs.Common.{refl, ℕ, None, Some, option_map, Vec, Global}
 use Rattle.chip_uses.proofs.ReportLemmas.{wrote_report}
-use Rattle.chip_uses.proofs.report_by_threads.Goals as goal
+use Rattle.chip_uses.proofs.commands.report_by_threads.Goals as goal
 
--- src/lib.rt:96:1
+-- src/commands.rt:81:1
 pub returns : goal.returns
 returns g c = wrote_report _ c.args.graph.now c.args.chips.now c.args.limit _ None
     (option_map (λ (trace : Vec ℕ Global). Some trace.items) c.run_engine.new.trace) _ c.run_engine.new.output.items

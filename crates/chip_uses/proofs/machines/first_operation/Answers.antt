@@ -1,9 +1,9 @@
 use Rattle.std.proofs.Common.{subst}
 use Rattle.chip_part.specs.declared.cursor.Cursor.{Cursor}
 use Rattle.chip_actor.specs.Turning.{TurnContinues}
-use Rattle.chip_uses.proofs.first_operation.Goals as goal
+use Rattle.chip_uses.proofs.machines.first_operation.Goals as goal
 
--- src/lib.rt:60:1
+-- src/machines.rt:33:1
 pub returns : goal.returns
 returns c = (
   c.next-act.result.1,

@@ -1,9 +1,10 @@
 //! The texts of faults: the line that the program prints, and what each library says of its own.
 
-use chip_command::Fault;
+use chip_command::{Fault, explanations};
 use chip_file::FileFault;
-use chip_fire::ResumeFault;
+use chip_fire::{AfterFault, NotLegal, ResumeFault};
 use chip_graph::{GameFault, GraphFault};
+use chip_net::{FeedFault, NoEdge};
 use chip_report::{ReportFault, WriteFault};
 use chip_trace::{ReplayFault, TraceFault};
 use chip_world::WorldFault;
@@ -199,4 +200,23 @@ fn the_other_libraries_say_what_is_wrong(rt: HostRuntime) {
     }
     shows(&rt, &WorldFault::NotClosed, "the root is not closed");
     shows(&rt, &WorldFault::NoMemory, "out of memory");
+}
+
+/// The faults that only callers of the libraries meet have rows of the table, by their numbers.
+#[test]
+fn explains_faults_of_libraries(rt: HostRuntime) {
+    let rows = explanations();
+    for (number, name) in [
+        (NotLegal.number(), "NotLegal"),
+        (AfterFault::Negative(0).number(), "Negative"),
+        (WorldFault::NotClosed.number(), "NotClosed"),
+        (NoEdge.number(), "NoEdge"),
+        (FeedFault::Ended.number(), "Ended"),
+        (FeedFault::Full.number(), "Full"),
+    ] {
+        let is_there = rows
+            .iter()
+            .any(|row| row.number == number && row.name == name);
+        assert!(rt; is_there, "{name}");
+    }
 }

@@ -131,7 +131,8 @@ class OneVersion(unittest.TestCase):
 
     def test_it_stands_in_one_place(self):
         """Beside the source that the program has it from, only the changes and the tests of its answer name it."""
-        having = {name for name in made.repository_files() if made.version().encode() in made.read(f"{made.ROOT}/{name}")}
+        version = re.compile(rb"(?<![\w.])%b(?![\w.])" % re.escape(made.version().encode()))
+        having = {name for name in made.repository_files() if version.search(made.read(f"{made.ROOT}/{name}"))}
         places = {"crates/chip_arguments/src/help_texts.rt", "CHANGELOG.md", "tests/cli/cases/explain.cases"}
         self.assertEqual(having, places)
 

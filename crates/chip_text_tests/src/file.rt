@@ -4,9 +4,9 @@ ghost use Rattle.chip_file.specs.Source.{IsFresh};
 
 use chip_file::{
     FileFault, LastRead, Source, chips_of_source, chips_of_text, graph_of_source, graph_of_text,
-    read_chips, read_chips_within, read_graph, read_graph_within, read_schedule_within, read_source,
-    read_trace_within, read_whole, read_whole_within, schedule_of_source, schedule_of_text,
-    trace_of_source, trace_of_text,
+    read_chips, read_chips_within, read_graph, read_graph_within, read_schedule_within,
+    read_source, read_trace_within, read_whole, read_whole_within, schedule_of_source,
+    schedule_of_text, trace_of_source, trace_of_text,
 };
 use chip_graph::{Edge, Graph, GraphFault, Limits};
 use std::alloc::{AllocError, Global};
@@ -397,7 +397,10 @@ fn a_source_tells_the_reads_of_each_kind_of_text(rt: HostRuntime) {
         let mut slow = Slow::new(text.as_bytes(), None);
         let mut source = Source::new(&mut slow);
         let found = fault_of_source(rt.alloc(), &mut source, kind);
-        assert!(rt; found == None && tells(&source, text.len(), LastRead::End), "{text}");
+        assert!(rt;
+            found == None && tells(&source, text.len(), LastRead::End),
+            "{text}"
+        );
     }
 }
 
@@ -407,7 +410,10 @@ fn a_source_tells_a_failed_read_of_each_kind_of_text(rt: HostRuntime) {
         let mut slow = Slow::new(text.as_bytes(), Some(9));
         let mut source = Source::new(&mut slow);
         let found = fault_of_source(rt.alloc(), &mut source, kind);
-        assert!(rt; found == Some(FileFault::Read) && tells(&source, 9, LastRead::Failure), "{text}");
+        assert!(rt;
+            found == Some(FileFault::Read) && tells(&source, 9, LastRead::Failure),
+            "{text}"
+        );
     }
 }
 

@@ -301,7 +301,11 @@ fn writes_up_to(
         (Ok(()), LastWrite::Bytes)
     } else {
         let written = index as u64;
-        let last = if fails { LastWrite::Failure } else { LastWrite::Nothing };
+        let last = if fails {
+            LastWrite::Failure
+        } else {
+            LastWrite::Nothing
+        };
         (Err(WriteFault { written }), last)
     };
     assert!(rt; result == wanted, "write {index}");

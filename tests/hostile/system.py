@@ -356,7 +356,7 @@ def wide_reports(machine, runs):
 
 def wide_rows(machine, runs):
     """16 MiB of commas are refused in no more than 160 MB, be they a header, a row, or a row behind a quote."""
-    replay = next(it for it in runs if it.words[0] == "replay")
+    replay = next(it for it in runs if it.words[:1] == ["replay"])
     graph, chips, _ = (path for _, path in replay.files())
     commands = {
         b"vertex,chips\n": ["plain", graph],

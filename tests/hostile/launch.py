@@ -10,13 +10,11 @@ SECONDS = 60
 @dataclasses.dataclass
 class Ran:
     """A finished run. `status` is the exit status, or below 0 the signal that ended it, or `None` where it went on too
-    long; `memory` is how many KiB it took; `trace` is what stands in the file of traces that it was to write, if there
-    is one."""
+    long; `trace` is what stands in the file of traces that it was to write, if there is one."""
 
     out: bytes
     err: bytes
     status: object
-    memory: int = 0
     trace: object = None
 
 
@@ -28,7 +26,7 @@ def taken(file):
 
 
 def end_of(process):
-    """The status of a process, which is ended where it takes too long, and how many KiB it took."""
+    """The status of a process, which is ended where it takes too long."""
     watched = os.pidfd_open(process)
     try:
         is_over = select.select([watched], [], [], SECONDS)[0]
@@ -36,8 +34,8 @@ def end_of(process):
         os.close(watched)
     if not is_over:
         os.kill(process, signal.SIGKILL)
-    _, status, used = os.wait4(process, 0)
-    return os.waitstatus_to_exitcode(status) if is_over else None, used.ru_maxrss
+    _, status = os.waitpid(process, 0)
+    return os.waitstatus_to_exitcode(status) if is_over else None
 
 
 class Begun:
@@ -48,7 +46,7 @@ class Begun:
 
     def end(self):
         """The run, once it has ended."""
-        ran = Ran(b"", b"", *end_of(self.process))
+        ran = Ran(b"", b"", end_of(self.process))
         ran.out, ran.err = taken(self.out), taken(self.err)
         if self.trace and os.path.exists(self.trace):
             with open(self.trace, "rb") as file:

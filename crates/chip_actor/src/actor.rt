@@ -118,7 +118,7 @@ impl ActorState {
         requires { SomePart self.now (λ g s. tail_of g edge ≡ self.now.vertex) }
         ensures { WhateverPart self.now (λ g s. tail_of g edge ≡ self.now.vertex → result ≡ (s.out edge).pending) }
     {
-        self.out(edge).pending
+        self.out_end(edge).pending
     }
 
     /// The chips of the message that is claimed on an edge out of the vertex and not put, if there is one.
@@ -126,7 +126,7 @@ impl ActorState {
         requires { SomePart self.now (λ g s. tail_of g edge ≡ self.now.vertex) }
         ensures { WhateverPart self.now (λ g s. tail_of g edge ≡ self.now.vertex → result ≡ (s.out edge).link.held) }
     {
-        let (_, count) = self.out(edge).link.held()?;
+        let (_, count) = self.out_end(edge).link.held()?;
         Some(count)
     }
 
@@ -139,7 +139,7 @@ impl ActorState {
     }
 
     // What is known of an edge out of the vertex.
-    fn out(&self, edge: u64) -> &OutEnd
+    fn out_end(&self, edge: u64) -> &OutEnd
         requires { SomePart self.now (λ g s. tail_of g edge ≡ self.now.vertex) }
         ensures { result.now ≡ out_on self.now.outs edge }
     {
@@ -216,7 +216,7 @@ impl ActorState {
         ensures { WhateverPart self.now
             (λ g s. tail_of g edge ≡ self.now.vertex → result ≡ unmet_rule g (Clear edge) s) }
     {
-        let out = self.out(edge);
+        let out = self.out_end(edge);
         first_unmet(&[
             (self.halt.is_none(), Rule::Halted),
             (!out.link.refused(), Rule::Refused),
@@ -229,7 +229,7 @@ impl ActorState {
         ensures { WhateverPart self.now
             (λ g s. tail_of g edge ≡ self.now.vertex → result ≡ unmet_rule g (Claim edge) s) }
     {
-        let is_clear = self.out(edge).link.claim_next().is_some();
+        let is_clear = self.out_end(edge).link.claim_next().is_some();
         first_unmet(&[
             (self.halt.is_none(), Rule::Halted),
             (is_clear, Rule::NotCleared),
@@ -240,7 +240,7 @@ impl ActorState {
         requires { SomePart self.now (λ g s. tail_of g edge ≡ self.now.vertex) }
         ensures { WhateverPart self.now (λ g s. tail_of g edge ≡ self.now.vertex → result ≡ unmet_rule g (Put edge) s) }
     {
-        first_unmet(&[(self.out(edge).link.held().is_some(), Rule::NotClaimed)])
+        first_unmet(&[(self.out_end(edge).link.held().is_some(), Rule::NotClaimed)])
     }
 
     fn halt_rule(&self) -> Option<Rule>
@@ -293,10 +293,10 @@ impl ActorState {
             Event::Fire { k, .. } => Act::Fire { k },
             Event::Clear(edge) => Act::Clear {
                 edge,
-                cell: self.out(edge).link.cell(),
+                cell: self.out_end(edge).link.cell(),
             },
             Event::Claim(edge) => {
-                let (expected, new) = self.out(edge).link.claim_next().unwrap();
+                let (expected, new) = self.out_end(edge).link.claim_next().unwrap();
                 Act::Claim {
                     edge,
                     expected,
@@ -304,7 +304,7 @@ impl ActorState {
                 }
             }
             Event::Put(edge) => {
-                let (cell, value) = self.out(edge).link.held().unwrap();
+                let (cell, value) = self.out_end(edge).link.held().unwrap();
                 Act::Put { edge, cell, value }
             }
             Event::Halt(_) => Act::Halt {

@@ -23,14 +23,14 @@ may_ack-requires c = let r = c.requires in
     subst (λ (a : Actor). Contains (in_edges a.detect) c.in-Ack.edge) (sym c.self.view_is)
     (books_in r.0 r.1 c.args.self.now r.2 c.in-Ack.edge (sym (ap (part_of r.0) c.in-Ack.is) ∙ r.3.0))
 
-pub out-requires : goal.out-requires
-out-requires c = let r = c.requires in (r.0, r.1, r.2, sym (ap (part_of r.0) c.in-Clear.is) ∙ r.3.0)
+pub out_end-requires : goal.out_end-requires
+out_end-requires c = let r = c.requires in (r.0, r.1, r.2, sym (ap (part_of r.0) c.in-Clear.is) ∙ r.3.0)
 
-pub out-requires-in-Claim : goal.out-requires-in-Claim
-out-requires-in-Claim c = let r = c.requires in (r.0, r.1, r.2, sym (ap (part_of r.0) c.in-Claim.is) ∙ r.3.0)
+pub out_end-requires-in-Claim : goal.out_end-requires-in-Claim
+out_end-requires-in-Claim c = let r = c.requires in (r.0, r.1, r.2, sym (ap (part_of r.0) c.in-Claim.is) ∙ r.3.0)
 
-pub out-requires-in-Put : goal.out-requires-in-Put
-out-requires-in-Put c = let r = c.requires in (r.0, r.1, r.2, sym (ap (part_of r.0) c.in-Put.is) ∙ r.3.0)
+pub out_end-requires-in-Put : goal.out_end-requires-in-Put
+out_end-requires-in-Put c = let r = c.requires in (r.0, r.1, r.2, sym (ap (part_of r.0) c.in-Put.is) ∙ r.3.0)
 
 pub returns-in-Ack : goal.returns-in-Ack
 returns-in-Ack c = λ g s stands at may.

@@ -2,7 +2,7 @@ use Rattle.std.proofs.Common.{subst, sym}
 use Rattle.std.specs.List.{Contains}
 use Rattle.chip_actor.specs.Actor.{Actor}
 use Rattle.chip_actor.proofs.StandingLemmas.{among_outs}
-use Rattle.chip_actor.proofs.actor.ActorState.out.Goals as goal
+use Rattle.chip_actor.proofs.actor.ActorState.out_end.Goals as goal
 
 -- an edge out of the vertex is among those that the actor keeps
 pub get-requires : goal.get-requires

@@ -46,5 +46,5 @@ fn long_number(field: &[u8]) -> Option<u64>
 fn is_digits(field: &[u8]) -> bool
     ensures { result ≡ all_ascii_digits field.now }
 {
-    field.iter().all(u8::is_ascii_digit)
+    field.iter().all(|byte| byte.is_ascii_digit())
 }

@@ -23,10 +23,7 @@ pub(crate) fn records_of(alloc: Global, text: &[u8]) -> Result<Records<'_>, Allo
 {
     // (Any length is below 2^64.)
     let _length = text.len();
-    let mut records = ReaderBuilder::new()
-        .has_headers(true)
-        .flexible(true)
-        .from_reader(alloc, text);
+    let mut records = ReaderBuilder::new().flexible(true).from_reader(alloc, text);
     match records.set_byte_headers(ByteRecord::new(alloc)) {
         Ok(()) => Ok(records),
         Err(_) => Err(AllocError),

@@ -44,20 +44,32 @@ impl EventKind {
     fn from_name(name: &[u8]) -> Option<EventKind>
         ensures { result ≡ kind_named event_kinds name.now }
     {
-        match name {
-            b"take" => Some(EventKind::Take),
-            b"ack" => Some(EventKind::Ack),
-            b"fire" => Some(EventKind::Fire),
-            b"clear" => Some(EventKind::Clear),
-            b"claim" => Some(EventKind::Claim),
-            b"put" => Some(EventKind::Put),
-            b"halt" => Some(EventKind::Halt),
-            b"settle" => Some(EventKind::Settle),
-            b"seal" => Some(EventKind::Seal),
-            b"read" => Some(EventKind::Read),
-            b"feed" => Some(EventKind::Feed),
-            b"end" => Some(EventKind::End),
-            _ => None,
+        if name == "take".as_bytes() {
+            Some(EventKind::Take)
+        } else if name == "ack".as_bytes() {
+            Some(EventKind::Ack)
+        } else if name == "fire".as_bytes() {
+            Some(EventKind::Fire)
+        } else if name == "clear".as_bytes() {
+            Some(EventKind::Clear)
+        } else if name == "claim".as_bytes() {
+            Some(EventKind::Claim)
+        } else if name == "put".as_bytes() {
+            Some(EventKind::Put)
+        } else if name == "halt".as_bytes() {
+            Some(EventKind::Halt)
+        } else if name == "settle".as_bytes() {
+            Some(EventKind::Settle)
+        } else if name == "seal".as_bytes() {
+            Some(EventKind::Seal)
+        } else if name == "read".as_bytes() {
+            Some(EventKind::Read)
+        } else if name == "feed".as_bytes() {
+            Some(EventKind::Feed)
+        } else if name == "end".as_bytes() {
+            Some(EventKind::End)
+        } else {
+            None
         }
     }
 

@@ -38,6 +38,7 @@ pub struct GameArguments<'a> {
     pub start: FileArgument<'a>,
     /// Up to 2^40.
     pub limit: u64,
+    pub large: bool,
 }
 
 /// A graph to look at that the arguments name.
@@ -51,7 +52,6 @@ pub struct CheckArguments<'a> {
 #[derive(Clone, Copy)]
 pub struct PlainArguments<'a> {
     pub game: GameArguments<'a>,
-    pub large: bool,
     pub progress: bool,
 }
 
@@ -93,14 +93,6 @@ pub struct ReplayArguments<'a> {
     pub trace: FileArgument<'a>,
 }
 
-/// A play to go on with that the arguments name.
-#[derive(Clone, Copy)]
-pub struct ResumeArguments<'a> {
-    /// Its start is a report.
-    pub game: GameArguments<'a>,
-    pub large: bool,
-}
-
 /// What the arguments ask for.
 #[derive(Drop)]
 pub enum Request<'a> {
@@ -111,7 +103,8 @@ pub enum Request<'a> {
     Simulate(SimulationArguments<'a>),
     Run(RunArguments<'a>),
     Replay(ReplayArguments<'a>),
-    Resume(ResumeArguments<'a>),
+    /// Its start is a report.
+    Resume(GameArguments<'a>),
     /// The number of a fault, if one is named.
     Explain(Option<u64>),
 }
@@ -141,7 +134,6 @@ fn request_of<'a>(matches: &ArgMatches<'a>, arguments: &[String]) -> Option<Requ
         })),
         "plain" => Some(Request::Plain(PlainArguments {
             game: found.game(CHIPS)?,
-            large: matches.get_flag(LARGE.name),
             progress: matches.get_flag(PROGRESS.name),
         })),
         "simulate" => Some(Request::Simulate(found.simulation()?)),
@@ -150,10 +142,7 @@ fn request_of<'a>(matches: &ArgMatches<'a>, arguments: &[String]) -> Option<Requ
             game: found.game(CHIPS)?,
             trace: found.file(TRACE_FILE.name)?,
         })),
-        "resume" => Some(Request::Resume(ResumeArguments {
-            game: found.game(REPORT)?,
-            large: matches.get_flag(LARGE.name),
-        })),
+        "resume" => Some(Request::Resume(found.game(REPORT)?)),
         "explain" => Some(Request::Explain(matches.get_one::<u64>(FAULT_NUMBER.name))),
         _ => None,
     }
@@ -204,6 +193,7 @@ impl<'m, 'a> Found<'m, 'a> {
             graph: self.file(GRAPH.name)?,
             start: self.file(start.name)?,
             limit: self.number_or(LIMIT, MAX_LIMIT),
+            large: self.matches.get_flag(LARGE.name),
         })
     }
 

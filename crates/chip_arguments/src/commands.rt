@@ -177,7 +177,7 @@ pub const TRACE: &OptionRow = &OptionRow {
 
 pub const TRACE_ROWS: &OptionRow = &OptionRow {
     name: "trace-rows",
-    help: "How many rows of each vertex are recorded, 0 to 2^20 [default: 1024 with --trace]",
+    help: "How many rows of each vertex room is taken for at the start, 0 to 2^20 [default: 1024 with --trace]",
     takes: OptionValue::Number {
         letter: "K",
         least: 0,
@@ -213,7 +213,7 @@ const RUN: &CommandRow = &CommandRow {
     after_help: texts::RUN,
     operands: &[GRAPH, CHIPS],
     options: &[
-        LIMIT, RING, WORKERS, DEALT, TURNS, FEED, TRACE, TRACE_ROWS, PROGRESS,
+        LIMIT, LARGE, RING, WORKERS, DEALT, TURNS, FEED, TRACE, TRACE_ROWS, PROGRESS,
     ],
 };
 
@@ -222,7 +222,7 @@ const SIMULATE: &CommandRow = &CommandRow {
     about: "Runs a schedule on the detector, and writes each reply and the report where the root closes",
     after_help: texts::SIMULATE,
     operands: &[GRAPH, CHIPS, SCHEDULE],
-    options: &[LIMIT, RING, ROUNDS, BOOKS, FED],
+    options: &[LIMIT, LARGE, RING, ROUNDS, BOOKS, FED],
 };
 
 const REPLAY: &CommandRow = &CommandRow {
@@ -230,7 +230,7 @@ const REPLAY: &CommandRow = &CommandRow {
     about: "Replays a recorded run and writes its firings, in an order in which they fit together",
     after_help: texts::REPLAY,
     operands: &[GRAPH, CHIPS, TRACE_FILE],
-    options: &[LIMIT],
+    options: &[LIMIT, LARGE],
 };
 
 const RESUME: &CommandRow = &CommandRow {

@@ -10,9 +10,8 @@ standard error; 2 closed with some vertex halted; 3 the root is open.
 `chipfire explain N` says what fault N means and what to do; `chipfire COMMAND --help`
 has the options, the statuses and an example of a command.
 
-A graph has at most 4096 vertices and 65536 edges, and a file 16777216 bytes. With --large
-`check`, `plain` and `resume` take up to 1048576, 8388608 and 268435456; `run`, `simulate`
-and `replay` have no such option.
+A graph has at most 4096 vertices and 65536 edges, and a file 16777216 bytes. --large lifts
+the limits of every command: to 1048576, 8388608 and 268435456.
 
 Without arguments the report of a small game that is built in is written.";
 
@@ -41,7 +40,8 @@ cores: each thread keeps its own vertices. Without it the threads share one queu
 vertices, in which more than two gain little. A ring of a few cells lets a vertex send on
 before its last message was taken.
 
-A graph has at most 4096 vertices and 65536 edges. `plain --large` takes larger ones.
+Without --large a graph has at most 4096 vertices and 65536 edges, and each file 16777216
+bytes.
 
 With --feed the chips of a second chips file come while the vertices fire; the report is
 that of a game which has all of them from the start. The trace is written first; where it
@@ -57,7 +57,8 @@ pub const SIMULATE: &str = "\
 With --fed the schedule may feed chips while the game runs: clear, feed and put on the
 edges that come from the root, and then end, before which the root never closes.
 
-A graph has at most 4096 vertices and 65536 edges. `plain --large` takes larger ones.
+Without --large a graph has at most 4096 vertices and 65536 edges, and each file 16777216
+bytes.
 
 Exit status: 0 the root closed and no vertex halted; 2 the root closed and some vertex
 halted, which the report names; 3 the root is open; 1 a fault, which `chipfire explain N`
@@ -66,7 +67,8 @@ explains.
 Example: chipfire simulate graph.json chips.csv schedule.csv --rounds 10";
 
 pub const REPLAY: &str = "\
-A graph has at most 4096 vertices and 65536 edges.
+Without --large a graph has at most 4096 vertices and 65536 edges, and each file 16777216
+bytes.
 
 Exit status: 0 the rows fit together; 1 a fault, which `chipfire explain N` explains: 70
 where they do not.

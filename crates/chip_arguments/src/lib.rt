@@ -6,7 +6,7 @@
 
 pub use arguments::{
     CheckArguments, FileArgument, GameArguments, PlainArguments, ReplayArguments, Request,
-    ResumeArguments, RunArguments, SimulationArguments, parse,
+    RunArguments, SimulationArguments, parse,
 };
 pub use fault::ArgumentsFault;
 

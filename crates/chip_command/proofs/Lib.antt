@@ -1,3 +1,5 @@
+pub mod CommandLemmas
 pub mod InputLemmas
+pub mod OneReportLemmas
 pub mod RoundTripLemmas
 pub mod SittingLemmas

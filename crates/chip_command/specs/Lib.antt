@@ -1,8 +1,10 @@
 pub mod Faults
 pub mod FaultNumbers
+pub mod CommandAnswers
 pub mod Inputs
 pub mod Laws
 pub mod PlainCommand
+pub mod OneReport
 pub mod Reports
 pub mod Statuses
 pub mod Worked

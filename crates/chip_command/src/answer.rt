@@ -1,12 +1,15 @@
 //! What a command has to say.
 
-ghost use Rattle.std.specs.Prelude.{◌≡◌, IfOk};
+ghost use Rattle.std.specs.Prelude.{◌≡◌, IfOk, string_bytes};
+ghost use Rattle.chip_command.specs.CommandAnswers.{DeliversGiven};
 
-use crate::ended::status_of;
+use crate::ended::{Ended, conclude, status_of};
+use crate::fault::Fault;
 use crate::status::Status;
 use chip_report::report;
 use chip_sequence::Outcome;
 use std::alloc::{AllocError, Global};
+use std::io::Write;
 
 /// The text that a command writes, and its exit status.
 #[derive(Drop)]
@@ -18,6 +21,18 @@ pub struct Answer {
 impl Answer {
     ghost use Rattle.chip_report.specs.ReportText.{report_text};
     ghost use Rattle.chip_command.specs.Reports.{status_of_outcome};
+    ghost use Rattle.chip_command.specs.declared.status.Status.TheVariants.{Done};
+
+    /// These lines, of a command that did what it should.
+    pub fn of_lines(lines: String) -> Answer
+        ensures text { result.text.items ≡ string_bytes lines }
+        ensures status { result.status ≡ Done }
+    {
+        Answer {
+            text: lines.into_bytes(),
+            status: Status::Done,
+        }
+    }
 
     /// The report of a game that ended so, and whether some vertex halted.
     ///
@@ -30,5 +45,15 @@ impl Answer {
             text: report(alloc, outcome)?,
             status: status_of(outcome),
         })
+    }
+}
+
+/// Writes what a command has to say, or hands on why it has nothing to say.
+pub fn deliver<W: Write>(output: &mut W, given: Result<Answer, Fault>) -> Result<Ended, Fault>
+    ensures { DeliversGiven (W.contents output.old) (W.contents output.new) given result }
+{
+    match given {
+        Ok(answer) => conclude(output, &answer.text, Ended::of(answer.status)),
+        Err(fault) => Err(fault),
     }
 }

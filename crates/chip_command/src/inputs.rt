@@ -1,7 +1,8 @@
 //! The game that the files of a command mean.
 
+ghost use Rattle.std.specs.Prelude.{IfOk};
 ghost use Rattle.std.specs.Option.{ForSome};
-ghost use Rattle.chip_graph.specs.Limits.{standard};
+ghost use Rattle.chip_graph.specs.ChipGame.{IsGame};
 ghost use Rattle.chip_command.specs.Inputs.{GivesGame};
 
 use crate::fault::Fault;
@@ -10,31 +11,18 @@ use chip_graph::{Game, Limits};
 use std::alloc::Global;
 use std::io::Read;
 
-/// The game within the standard limits that two files and a firing limit mean.
-pub fn read_game<G: Read, C: Read>(
-    alloc: Global,
-    graph: &mut G,
-    chips: &mut C,
-    limit: u64,
-) -> Result<Game, Fault>
-    ensures { ForSome (G.remaining graph.old)
-        (λ graph_text. ForSome (C.remaining chips.old)
-        (λ chips_text. GivesGame standard graph_text chips_text limit result)) }
-{
-    read_game_within(alloc, Limits::standard(), graph, chips, limit)
-}
-
 /// The game within these limits that two files and a firing limit mean.
-pub fn read_game_within<G: Read, C: Read>(
+pub fn read_game<G: Read, C: Read>(
     alloc: Global,
     limits: Limits,
     graph: &mut G,
     chips: &mut C,
     limit: u64,
 ) -> Result<Game, Fault>
-    ensures { ForSome (G.remaining graph.old)
+    ensures known { ForSome (G.remaining graph.old)
         (λ graph_text. ForSome (C.remaining chips.old)
         (λ chips_text. GivesGame limits graph_text chips_text limit result)) }
+    ensures game { IfOk result (λ game. IsGame game) }
 {
     let graph = read_graph_within(alloc, limits, graph)?;
     let start = read_chips_within(alloc, limits, chips, graph.vertices())?;

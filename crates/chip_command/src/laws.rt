@@ -1,6 +1,7 @@
 //! The laws of what commands share: functions that do nothing, whose contracts are the laws.
 
 ghost use Rattle.chip_command.specs.Laws.{WrittenIsRead, FileIsReadBack, ReadIsInGraph};
+ghost use Rattle.chip_command.specs.OneReport.{OneReport};
 ghost use Rattle.chip_command.specs.Worked.{TwoTracesComeBack, StatusesAreNumbered};
 
 /// What `write_trace` writes, `read_trace` reads back: all traces in the graph, and nothing else is ever read.
@@ -8,6 +9,11 @@ pub fn written_traces()
     ensures meaning { WrittenIsRead }
     ensures answer { FileIsReadBack }
     ensures only { ReadIsInGraph }
+{}
+
+/// A game has one report, however it is played.
+pub fn one_report()
+    ensures { OneReport }
 {}
 
 /// Two traces, as the definitions write and read them.

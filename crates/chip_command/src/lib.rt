@@ -4,10 +4,10 @@
 //! have is proved (`specs/FaultNumbers.antt`). What a table (`table`) says of each number is text: it is tested.
 #![tactic(auto)]
 
-pub use answer::Answer;
+pub use answer::{Answer, deliver};
 pub use ended::{Ended, conclude, status_of};
 pub use fault::{Fault, FaultLine, Location};
-pub use inputs::{read_game, read_game_within};
+pub use inputs::read_game;
 pub use status::Status;
 pub use table::{Explanation, Place, explanations};
 

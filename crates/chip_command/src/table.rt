@@ -96,7 +96,7 @@ static VERTICES: Explanation = Explanation {
     meaning: "the graph has no vertices, or more than 4096",
     advice: "\
 \"vertices\" of the graph file says how many there are, 1 to 4096; they are the numbers
-from 0 on. With `--large`, `check`, `plain` and `resume` take up to 1048576.
+from 0 on. With `--large` each command takes up to 1048576.
 ",
 };
 
@@ -118,8 +118,8 @@ static EDGE_COUNT: Explanation = Explanation {
     meaning: "the graph has more than 65536 edges",
     advice: "\
 Rows that join the same two vertices can be one row, whose third number is the sum of
-theirs: the same game is played on it. With `--large`, `check`, `plain` and `resume` take
-up to 8388608 edges.
+theirs: the same game is played on it. With `--large` each command takes up to 8388608
+edges.
 ",
 };
 
@@ -338,8 +338,8 @@ static TOO_LONG: Explanation = Explanation {
     meaning: "a file has more than 16777216 bytes",
     advice: "\
 That is 16 MiB, for each file. A graph of the greatest size is well below it if it is
-written without spaces. With `--large`, `check`, `plain` and `resume` read up to
-268435456 bytes of each file, which is 256 MiB.
+written without spaces. With `--large` each command reads up to 268435456 bytes of each
+file, which is 256 MiB.
 ",
 };
 

@@ -39,7 +39,7 @@ same_start limits graph_text chips_text limit g h one other =
     let a = one.named.start.1 in let b = other.named.start.1 in cc
 
 pub plain_tells_play : PlainTellsPlay
-plain_tells_play limits graph_text chips_text limit report ended (h, means', text, reports, wrote, cut) g means =
+plain_tells_play limits graph_text chips_text limit report ended (text, (h, means', reports), wrote, cut) g means =
     subst (λ (start : List ℕ). TellsPlayFrom g.graph (slice_index start) report)
     (same_start limits graph_text chips_text limit h g means' means)
     (subst (λ (G : Multigraph). TellsPlayFrom G (slice_index h.start) report)
@@ -79,7 +79,7 @@ goes_on : (limits : SizeLimits) (graph_text : List ℕ) (G : Multigraph)
     → (x : ℕ → ℕ) (before : List ℕ) → TellsPlayFrom G x before
     → (report : List ℕ) → IsResumedTo graph_text before report
     → (r : Resumed) → IsAnyReportOf report r → LeadsToTheEnd G x r
-goes_on limits graph_text G reads x before tells report (others, limit, ended, (H, earlier, means, text, on, wrote, cut)) r is =
+goes_on limits graph_text G reads x before tells report (others, limit, ended, (text, (H, earlier, means, on), wrote, cut)) r is =
     let graphs : H ≡ G = same_graph others limits graph_text H G means.graph.1 reads.1 in
     let same = read_again report on.resumed on.goes_on.in_range (wrote ∙ on.reported) r is in
     let from : IsPlayFrom H x earlier = subst (λ (K : Multigraph). IsPlayFrom K x earlier) (sym graphs)

@@ -6,3 +6,4 @@ pub mod ExplainLemmas
 pub mod SittingLemmas
 pub mod BoardLemmas
 pub mod AnswerLemmas
+pub mod SameLemmas

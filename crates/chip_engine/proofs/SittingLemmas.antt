@@ -21,15 +21,14 @@ use Rattle.chip_report.specs.ReportText.{is_empty, is_closed}
 use Rattle.chip_report.specs.ReportTwo.{IsAnyReportOf, IsNoReportAtAllWithin}
 use Rattle.chip_report.specs.declared.fault.ReportFault.{ReportFault}
 use Rattle.chip_report.specs.declared.fault.ReportFault.TheVariants as report_fault
-use Rattle.chip_command.specs.Reports.{Delivers}
 use Rattle.chip_file.specs.declared.fault.FileFault.TheVariants as file_fault
 use Rattle.chip_command.specs.Faults.{fault_of_report}
 use Rattle.chip_engine.specs.ResumeCommand.{MeansSitting, LeadsToTheEnd, ReportsOn, GivesSitting}
-use Rattle.chip_engine.specs.ResumeCommand.{RefusesReport, RefusesToGoOn, RefusesSitting, ResumeAnswers}
-use Rattle.chip_command.specs.declared.ended.Ended.{Ended}
+use Rattle.chip_engine.specs.ResumeCommand.{RefusesReport, RefusesToGoOn, ResumeRefuses, ResumeWrites, ReportsSomeSitting}
+use Rattle.chip_command.specs.CommandAnswers.{Gives, OrMemory, AnyFault}
+use Rattle.chip_command.specs.declared.answer.Answer.{Answer}
 use Rattle.chip_command.specs.declared.fault.Fault.{Fault}
 use Rattle.chip_command.specs.declared.fault.Fault.TheVariants.{NoMemory}
-use Rattle.chip_command.proofs.InputLemmas.{Keeps-same}
 
 -- a sitting that some report tells is in range
 pub resumed_of_report : (bytes : List ℕ) (r : Resumed) → IsAnyReportOf bytes r → IsResumed r
@@ -86,37 +85,18 @@ refused_report limits text f short (inl none) fault is =
 refused_report limits text f short (inr nothing) fault is =
     inr ((short, nothing.1), is ∙ ap fault_of_report nothing.0)
 
--- a sitting that does not go on, or want of memory
-pub refused_going : (limits : SizeLimits) (graph_text report_text : List ℕ) (limit : ℕ) (G : Multigraph) (earlier : Resumed)
-    → MeansSitting limits graph_text report_text G earlier
-    → (f : Fault) → RefusesToGoOn G earlier limit f ⊎ (f ≡ NoMemory)
-    → (fault : Fault) → fault ≡ f → RefusesSitting limits graph_text report_text limit fault ⊎ (fault ≡ NoMemory)
-refused_going limits graph_text report_text limit G earlier means f (inl why) fault is =
-    inl (inr (inr (G, earlier, means, subst (RefusesToGoOn G earlier limit) (sym is) why)))
-refused_going limits graph_text report_text limit G earlier means f (inr none) fault is = inr (is ∙ none)
+-- a sitting that goes on from the one that the texts mean, or why it does not
+pub gives_sitting : (limits : SizeLimits) (graph_text report_text : List ℕ) (limit : ℕ) (G : Multigraph) (earlier : Resumed)
+    → MeansSitting limits graph_text report_text G earlier → (result : Result Answer Fault)
+    → Gives (ReportsOn G earlier limit) (OrMemory (RefusesToGoOn G earlier limit)) result
+    → Gives (ResumeWrites limits graph_text report_text limit) (ResumeRefuses limits graph_text report_text limit) result
+gives_sitting limits graph_text report_text limit G earlier means (Ok answer) on = (G, earlier, means, on)
+gives_sitting limits graph_text report_text limit G earlier means (Err fault) (inl why) = inl (inr (inr (G, earlier, means, why)))
+gives_sitting limits graph_text report_text limit G earlier means (Err fault) (inr none) = inr none
 
--- inputs that are refused, and nothing is written
-pub refused_resume : (limits : SizeLimits) (graph_text report_text : List ℕ) (limit : ℕ) (known : Option (List ℕ))
-    (result : Result Ended Fault) (P : Fault → Type 0) → IsErrAnd result P
-    → ((fault : Fault) → P fault → RefusesSitting limits graph_text report_text limit fault ⊎ (fault ≡ NoMemory))
-    → ResumeAnswers limits graph_text report_text limit known known result
-refused_resume limits graph_text report_text limit known (Ok ended) P is why = absurd is
-refused_resume limits graph_text report_text limit known (Err fault) P is why = inl (why fault is, Keeps-same known)
-
--- the report went out, or the output failed
-pub delivered_resume : (limits : SizeLimits) (graph_text report_text : List ℕ) (limit : ℕ) (old new : Option (List ℕ))
-    (result : Result Ended Fault) (G : Multigraph) (earlier : Resumed) → MeansSitting limits graph_text report_text G earlier
-    → (text : List ℕ) (status : ℕ) → ReportsOn G earlier limit text status
-    → Delivers old new text (record { status = status; cut = false }) result
-    → ResumeAnswers limits graph_text report_text limit old new result
-delivered_resume limits graph_text report_text limit old new (Ok ended) G earlier means text status reports went = (
-  G,
-  earlier,
-  means,
-  text,
-  subst (λ (e : Ended). ReportsOn G earlier limit text e.status) (sym went.0) reports,
-  went.1,
-  ap (λ (e : Ended). e.cut) went.0,
-)
-delivered_resume limits graph_text report_text limit old new (Err fault) G earlier means text status reports failed =
-    inr (G, earlier, means, text, status, reports, failed.0, failed.1, failed.2)
+-- and one that goes on from whatever sitting
+pub gives_some : (G : Multigraph) (earlier : Resumed) (limit : ℕ) → IsResumed earlier → (result : Result Answer Fault)
+    → Gives (ReportsOn G earlier limit) (OrMemory (RefusesToGoOn G earlier limit)) result
+    → Gives ReportsSomeSitting AnyFault result
+gives_some G earlier limit fits (Ok answer) on = (G, earlier, fits, limit, on)
+gives_some G earlier limit fits (Err fault) why = tt

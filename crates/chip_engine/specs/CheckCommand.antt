@@ -1,17 +1,13 @@
 -- From the bytes of a graph file to the lines that show the graph.
-use Rattle.std.specs.Prelude.{◌≡◌, ◌⊎◌, ℕ, zero, suc, ◌<◌, List, [], ◌++◌, length, false, slice_index, codes, Option}
-use Rattle.std.specs.Prelude.{Result, Ok, Err}
+use Rattle.std.specs.Prelude.{◌≡◌, ℕ, zero, suc, ◌<◌, List, [], ◌++◌, length, slice_index, codes, Option, Result}
 use Rattle.std.specs.Fmt.{decimal}
-use Rattle.std.specs.Io.KnownBytes.{Appends, Keeps}
 use Rattle.chip_graph.specs.Limits.{SizeLimits}
-use Rattle.chip_graph.specs.Multigraph.{Multigraph, IsDistance, degree}
+use Rattle.chip_graph.specs.Multigraph.{Multigraph, IsGraph, IsDistance, degree}
 use Rattle.chip_file.specs.GraphText.{MeansGraph, IsGraphTextFault}
 use Rattle.chip_command.specs.Inputs.{Reads, RefusesText}
-use Rattle.chip_report.specs.Written.{WritesAll}
+use Rattle.chip_command.specs.CommandAnswers.{CommandAnswers, OrMemory}
 use Rattle.chip_command.specs.declared.ended.Ended.{Ended}
 use Rattle.chip_command.specs.declared.fault.Fault.{Fault}
-use Rattle.chip_command.specs.declared.fault.Fault.TheVariants.{Write, NoMemory}
-use Rattle.chip_report.specs.declared.write.WriteFault.{WriteFault}
 
 -- the lines on the graph as a whole
 abbrev pub head_text : Multigraph → List ℕ
@@ -37,12 +33,20 @@ IsShown G text =
     (distances : List ℕ) × ((v : ℕ) → v < G.vertices → IsDistance G v (slice_index distances v))
     × (text ≡ head_text G ++ vertices_text G distances G.vertices)
 
--- what `check` answers by these limits: the lines of the graph; or nothing is written and the file is refused; or the output failed
+-- what `check` writes: the lines of the graph, with status 0
+abbrev pub CheckWrites : SizeLimits → List ℕ → List ℕ → ℕ → Type 0
+CheckWrites limits text lines status =
+    (G : Multigraph) × Reads limits text (MeansGraph limits text G) × IsShown G lines × (status ≡ 0)
+
+-- why it writes nothing: the file is refused, or there is no memory
+abbrev pub CheckRefuses : SizeLimits → List ℕ → Fault → Type 0
+CheckRefuses limits text = OrMemory (RefusesText limits text (IsGraphTextFault limits text))
+
+-- what `check` answers by these limits
 abbrev pub CheckAnswers : SizeLimits → List ℕ → Option (List ℕ) → Option (List ℕ) → Result Ended Fault → Type 0
-CheckAnswers limits text old new (Ok ended) =
-    (G : Multigraph) × (lines : List ℕ) × Reads limits text (MeansGraph limits text G) × IsShown G lines
-    × Appends old new lines × (ended ≡ record { status = 0; cut = false })
-CheckAnswers limits text old new (Err fault) =
-    ((RefusesText limits text (IsGraphTextFault limits text) fault ⊎ (fault ≡ NoMemory)) × Keeps old new)
-    ⊎ ((G : Multigraph) × (lines : List ℕ) × Reads limits text (MeansGraph limits text G) × IsShown G lines
-    × (w : WriteFault) × (fault ≡ Write w) × WritesAll old new lines (Err w))
+CheckAnswers limits text old new result =
+    CommandAnswers (CheckWrites limits text) (CheckRefuses limits text) old new result
+
+-- what it writes of a reader of which nothing is known: the lines of some graph
+abbrev pub ShowsSome : List ℕ → ℕ → Type 0
+ShowsSome lines status = (G : Multigraph) × IsGraph G × IsShown G lines × (status ≡ 0)

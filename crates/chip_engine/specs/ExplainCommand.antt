@@ -1,16 +1,13 @@
 -- From the number of a fault to what a table of faults says of it.
-use Rattle.std.specs.Prelude.{◌≡◌, ◌⊎◌, ◌==◌, ℕ, List, ◌++◌, false, codes, find, Option, Some, None, option_map, map}
-use Rattle.std.specs.Prelude.{Result, Ok, Err}
+use Rattle.std.specs.Prelude.{◌≡◌, ◌==◌, ℕ, List, ◌++◌, codes, find, Option, Some, None, option_map, map, Result}
 use Rattle.std.specs.Borrow.{Bor}
 use Rattle.std.specs.Fmt.{decimal}
-use Rattle.std.specs.Io.KnownBytes.{Appends, Keeps}
 use Rattle.chip_command.specs.declared.table.Explanation.{Explanation}
-use Rattle.chip_report.specs.Written.{WritesAll}
-use Rattle.chip_report.specs.declared.write.WriteFault.{WriteFault}
+use Rattle.chip_command.specs.CommandAnswers.{CommandAnswers}
 use Rattle.chip_engine.specs.Lines.{lines_text}
 use Rattle.chip_command.specs.declared.ended.Ended.{Ended}
 use Rattle.chip_command.specs.declared.fault.Fault.{Fault}
-use Rattle.chip_command.specs.declared.fault.Fault.TheVariants.{Write, NoMemory, Usage}
+use Rattle.chip_command.specs.declared.fault.Fault.TheVariants.{NoMemory, Usage}
 
 -- a fault and what it means, on one line
 abbrev pub line_text : Explanation → List ℕ
@@ -46,10 +43,10 @@ abbrev pub TellsNothing : Option (List ℕ) → Fault → Type 0
 TellsNothing None fault = fault ≡ Usage
 TellsNothing (Some text) fault = fault ≡ NoMemory
 
--- what `explain` answers: all that there is to say; or nothing is written, and why; or the output failed
+-- what `explain` writes: all that there is to say, with status 0
+abbrev pub ExplainWrites : Option (List ℕ) → List ℕ → ℕ → Type 0
+ExplainWrites said text status = (said ≡ Some text) × (status ≡ 0)
+
+-- what `explain` answers
 abbrev pub ExplainAnswers : Option (List ℕ) → Option (List ℕ) → Option (List ℕ) → Result Ended Fault → Type 0
-ExplainAnswers said old new (Ok ended) =
-    (text : List ℕ) × (said ≡ Some text) × Appends old new text × (ended ≡ record { status = 0; cut = false })
-ExplainAnswers said old new (Err fault) =
-    (TellsNothing said fault × Keeps old new)
-    ⊎ ((text : List ℕ) × (said ≡ Some text) × (w : WriteFault) × (fault ≡ Write w) × WritesAll old new text (Err w))
+ExplainAnswers said old new result = CommandAnswers (ExplainWrites said) (TellsNothing said) old new result

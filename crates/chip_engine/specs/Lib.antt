@@ -8,3 +8,4 @@ pub mod SimulateCommand
 pub mod ResumeCommand
 pub mod Sittings
 pub mod Worked
+pub mod SimulatedBytes

@@ -1,24 +1,22 @@
 -- From the bytes of a graph file and a report to those of the report of the sitting that goes on.
-use Rattle.std.specs.Prelude.{◌≡◌, ◌⊎◌, ℕ, ◌+◌, List, true, false, slice_index, Option, Result, Ok, Err}
-use Rattle.std.specs.Io.KnownBytes.{Appends, Keeps}
+use Rattle.std.specs.Prelude.{◌≡◌, ◌⊎◌, ℕ, ◌+◌, List, true, slice_index, Option, Result, Ok, Err}
 use Rattle.chip_graph.specs.Limits.{SizeLimits}
 use Rattle.chip_graph.specs.Multigraph.{Multigraph}
 use Rattle.chip_file.specs.GraphText.{MeansGraph, IsGraphTextFault}
 use Rattle.chip_sequence.specs.Sequence.{position_after, IsFiringSequence, counts, HasEnded}
-use Rattle.chip_sequence.specs.Sittings.{IsPlayFrom, fired_in_all}
+use Rattle.chip_sequence.specs.Sittings.{IsPlayFrom, IsResumed, fired_in_all}
 use Rattle.chip_fire.specs.Resume.{GoesOn, IsResumeFault}
 use Rattle.chip_sequence.specs.declared.resumed.Resumed.{Resumed}
 use Rattle.chip_fire.specs.declared.sitting.ResumeFault.{ResumeFault}
 use Rattle.chip_report.specs.ReportText.{is_closed}
 use Rattle.chip_report.specs.ReportTwo.{report_two_text, IsAnyReportWithin, IsNoReportAtAllWithin}
-use Rattle.chip_report.specs.Written.{WritesAll}
-use Rattle.chip_report.specs.declared.write.WriteFault.{WriteFault}
+use Rattle.chip_command.specs.CommandAnswers.{CommandAnswers, OrMemory}
 use Rattle.chip_command.specs.Faults.{fault_of_resume}
 use Rattle.chip_command.specs.Inputs.{Reads, RefusesText}
 use Rattle.chip_command.specs.Reports.{plain_status}
 use Rattle.chip_command.specs.declared.ended.Ended.{Ended}
 use Rattle.chip_command.specs.declared.fault.Fault.{Fault}
-use Rattle.chip_command.specs.declared.fault.Fault.TheVariants.{NotReport, Write, NoMemory}
+use Rattle.chip_command.specs.declared.fault.Fault.TheVariants.{NotReport}
 
 -- two texts mean this graph, and this sitting to go on from: the first of a play, or one that went on itself
 pub record MeansSitting (limits : SizeLimits) (graph_text report_text : List ℕ) (G : Multigraph) (earlier : Resumed) : Type 0 where
@@ -74,14 +72,22 @@ RefusesSitting limits graph_text report_text limit fault =
     ⊎ ((G : Multigraph) × (earlier : Resumed) × MeansSitting limits graph_text report_text G earlier
     × RefusesToGoOn G earlier limit fault)
 
--- what `resume` answers by these limits: the report of the sitting that goes on from the one that the texts mean; or nothing is written
--- and the inputs are refused; or the output failed
+-- what `resume` writes: the report of the sitting that goes on from the one that the texts mean, and its status
+abbrev pub ResumeWrites : SizeLimits → List ℕ → List ℕ → ℕ → List ℕ → ℕ → Type 0
+ResumeWrites limits graph_text report_text limit text status = (G : Multigraph) × (earlier : Resumed)
+    × MeansSitting limits graph_text report_text G earlier × ReportsOn G earlier limit text status
+
+-- why it writes nothing: the inputs are refused, or there is no memory
+abbrev pub ResumeRefuses : SizeLimits → List ℕ → List ℕ → ℕ → Fault → Type 0
+ResumeRefuses limits graph_text report_text limit = OrMemory (RefusesSitting limits graph_text report_text limit)
+
+-- what `resume` answers by these limits
 abbrev pub ResumeAnswers : SizeLimits → List ℕ → List ℕ → ℕ → Option (List ℕ) → Option (List ℕ) → Result Ended Fault → Type 0
-ResumeAnswers limits graph_text report_text limit old new (Ok ended) =
-    (G : Multigraph) × (earlier : Resumed) × MeansSitting limits graph_text report_text G earlier
-    × (text : List ℕ) × ReportsOn G earlier limit text ended.status × Appends old new text × (ended.cut ≡ false)
-ResumeAnswers limits graph_text report_text limit old new (Err fault) =
-    ((RefusesSitting limits graph_text report_text limit fault ⊎ (fault ≡ NoMemory)) × Keeps old new)
-    ⊎ ((G : Multigraph) × (earlier : Resumed) × MeansSitting limits graph_text report_text G earlier
-    × (text : List ℕ) × (status : ℕ) × ReportsOn G earlier limit text status
-    × (w : WriteFault) × (fault ≡ Write w) × WritesAll old new text (Err w))
+ResumeAnswers limits graph_text report_text limit old new result =
+    CommandAnswers (ResumeWrites limits graph_text report_text limit) (ResumeRefuses limits graph_text report_text limit)
+    old new result
+
+-- what it writes of readers of which nothing is known: the report of a sitting that goes on from some other one
+abbrev pub ReportsSomeSitting : List ℕ → ℕ → Type 0
+ReportsSomeSitting text status = (G : Multigraph) × (earlier : Resumed) × IsResumed earlier × (limit : ℕ)
+    × ReportsOn G earlier limit text status

@@ -1,19 +1,16 @@
 -- From the bytes of a graph file, a chips file and a schedule to the replies of the core, and to the report where the
 -- root closes.
-use Rattle.std.specs.Prelude.{◌≡◌, ◌⊎◌, ℕ, List, [], ◌∷◌, ◌++◌, codes, Bool, false, if◌then◌else◌, Option, Some}
-use Rattle.std.specs.Prelude.{Result, Ok, Err}
+use Rattle.std.specs.Prelude.{◌≡◌, ◌⊎◌, ℕ, List, [], ◌∷◌, ◌++◌, codes, Bool, if◌then◌else◌, Option, Some, Result}
 use Rattle.std.specs.Fmt.{decimal}
 use Rattle.std.specs.Option.{ForSome}
-use Rattle.std.specs.Io.KnownBytes.{Appends, Keeps}
-use Rattle.chip_graph.specs.Limits.{standard}
-use Rattle.chip_graph.specs.ChipGame.{ChipGame}
+use Rattle.chip_graph.specs.ChipGame.{ChipGame, IsGame}
 use Rattle.chip_link.specs.declared.event.Event.{Event}
 use Rattle.chip_link.specs.declared.message.Message.{Message}
 use Rattle.chip_part.specs.declared.reply.Reply.{Reply}
 use Rattle.chip_part.specs.declared.reply.Reply.TheVariants.{Done, Got, Sent, Empty, Full, Sealed, NotNow}
-use Rattle.chip_part.specs.Setting.{Setting, setting_with}
+use Rattle.chip_part.specs.Setting.{Setting, IsSetting, setting_with}
 use Rattle.chip_part.specs.Numbers.{number_of}
-use Rattle.chip_core.specs.Core.{Log, step, log_after}
+use Rattle.chip_core.specs.Core.{Log, IsLegalLog, step, log_after}
 use Rattle.chip_core.specs.Headline.{NoneHaltedBySeal}
 use Rattle.chip_world.specs.declared.world.driving.Drive.{Drive}
 use Rattle.chip_world.specs.declared.world.driving.Drive.TheVariants.{Closed, Unfinished}
@@ -24,15 +21,14 @@ use Rattle.chip_file.specs.ScheduleText.{schedule_of_text, schedule_text_fault}
 use Rattle.chip_sequence.specs.declared.outcome.Outcome.{Outcome}
 use Rattle.chip_sequence.specs.Outcomes.{IsOutcome}
 use Rattle.chip_report.specs.ReportText.{report_text}
-use Rattle.chip_report.specs.Written.{WritesAll}
-use Rattle.chip_report.specs.declared.write.WriteFault.{WriteFault}
+use Rattle.chip_command.specs.CommandAnswers.{CommandAnswers, OrMemory}
 use Rattle.chip_command.specs.Inputs.{Reads, MeansGame, RefusesInputs, RefusesText}
 use Rattle.chip_engine.specs.Board.{board_text}
+use Rattle.chip_engine.specs.declared.options.PlayOptions.{PlayOptions}
 use Rattle.chip_engine.specs.declared.simulate.SimulateOptions.{SimulateOptions}
 use Rattle.chip_command.specs.Reports.{plain_status, Reports}
 use Rattle.chip_command.specs.declared.ended.Ended.{Ended}
 use Rattle.chip_command.specs.declared.fault.Fault.{Fault}
-use Rattle.chip_command.specs.declared.fault.Fault.TheVariants.{Write, NoMemory}
 
 -- a message's place and count
 abbrev pub message_text : Message → List ℕ
@@ -62,6 +58,8 @@ answers_text books g log (x ∷ xs) =
 -- lead to this outcome, so that a play can go on from it; and unless a vertex halted by a seal, it is what `plain`
 -- writes for the game that has all chips that were given from the start, and its status
 pub record EndsClosed (g : Setting) (log : Log) (end : List ℕ) (status : ℕ) : Type 0 where
+  pub is_setting : IsSetting g
+  pub legal : IsLegalLog g log
   pub outcome : Outcome
   pub outcome_is : IsOutcomeOf g log outcome
   pub reportable : IsOutcome outcome
@@ -91,31 +89,36 @@ abbrev pub SimulatesBy : SimulateOptions → ChipGame → List Event → List �
 SimulatesBy options g events text status =
     Simulates (setting_with g options.ring options.fed) options.rounds options.books events text status
 
--- three texts and a limit mean this game and these events for it
-pub record MeansEvents (graph_text chips_text schedule_text : List ℕ) (limit : ℕ) (g : ChipGame)
+-- three texts mean this game by the options, and these events for it
+pub record MeansEvents (graph_text chips_text schedule_text : List ℕ) (options : PlayOptions) (g : ChipGame)
     (events : List Event) : Type 0 where
-  pub game : MeansGame standard graph_text chips_text limit g
-  pub each : Reads standard schedule_text (schedule_of_text g.graph schedule_text ≡ Some events)
+  pub game : MeansGame options.limits graph_text chips_text options.limit g
+  pub each : Reads options.limits schedule_text (schedule_of_text g.graph schedule_text ≡ Some events)
 
 -- why nothing is simulated: the inputs make no game, or the schedule has a fault
-abbrev pub RefusesEvents : List ℕ → List ℕ → List ℕ → ℕ → Fault → Type 0
-RefusesEvents graph_text chips_text schedule_text limit fault =
-    RefusesInputs standard graph_text chips_text limit fault
-    ⊎ ((g : ChipGame) × MeansGame standard graph_text chips_text limit g
-    × RefusesText standard schedule_text (λ f. schedule_text_fault g.graph schedule_text ≡ Some f) fault)
+abbrev pub RefusesEvents : List ℕ → List ℕ → List ℕ → PlayOptions → Fault → Type 0
+RefusesEvents graph_text chips_text schedule_text options fault =
+    RefusesInputs options.limits graph_text chips_text options.limit fault
+    ⊎ ((g : ChipGame) × MeansGame options.limits graph_text chips_text options.limit g
+    × RefusesText options.limits schedule_text (λ f. schedule_text_fault g.graph schedule_text ≡ Some f) fault)
 
--- what `simulate` answers: the text of the simulation; or nothing is written and the inputs are refused; or the output
--- failed
+-- what `simulate` writes: the text of the simulation, and its status
+abbrev pub SimulateWrites : List ℕ → List ℕ → List ℕ → SimulateOptions → List ℕ → ℕ → Type 0
+SimulateWrites graph_text chips_text schedule_text options text status =
+    (g : ChipGame) × (events : List Event) × MeansEvents graph_text chips_text schedule_text options.play g events
+    × SimulatesBy options g events text status
+
+-- why it writes nothing: the inputs are refused, or there is no memory
+abbrev pub SimulateRefuses : List ℕ → List ℕ → List ℕ → SimulateOptions → Fault → Type 0
+SimulateRefuses graph_text chips_text schedule_text options =
+    OrMemory (RefusesEvents graph_text chips_text schedule_text options.play)
+
+-- what `simulate` answers
 abbrev pub SimulateAnswers : List ℕ → List ℕ → List ℕ → SimulateOptions → Option (List ℕ) → Option (List ℕ)
     → Result Ended Fault → Type 0
-SimulateAnswers graph_text chips_text schedule_text options old new (Ok ended) =
-    (g : ChipGame) × (events : List Event) × MeansEvents graph_text chips_text schedule_text options.limit g events
-    × (text : List ℕ) × SimulatesBy options g events text ended.status × Appends old new text × (ended.cut ≡ false)
-SimulateAnswers graph_text chips_text schedule_text options old new (Err fault) =
-    ((RefusesEvents graph_text chips_text schedule_text options.limit fault ⊎ (fault ≡ NoMemory)) × Keeps old new)
-    ⊎ ((g : ChipGame) × (events : List Event) × MeansEvents graph_text chips_text schedule_text options.limit g events
-    × (text : List ℕ) × (status : ℕ) × SimulatesBy options g events text status
-    × (w : WriteFault) × (fault ≡ Write w) × WritesAll old new text (Err w))
+SimulateAnswers graph_text chips_text schedule_text options old new result =
+    CommandAnswers (SimulateWrites graph_text chips_text schedule_text options)
+    (SimulateRefuses graph_text chips_text schedule_text options) old new result
 
 -- the same where what the readers have left may be known
 abbrev pub SimulateReads : Option (List ℕ) → Option (List ℕ) → Option (List ℕ) → SimulateOptions → Option (List ℕ)
@@ -123,3 +126,8 @@ abbrev pub SimulateReads : Option (List ℕ) → Option (List ℕ) → Option (L
 SimulateReads graph chips schedule options old new result = ForSome graph (λ graph_text. ForSome chips
     (λ chips_text. ForSome schedule
     (λ schedule_text. SimulateAnswers graph_text chips_text schedule_text options old new result)))
+
+-- what it writes of readers of which nothing is known: the text of a simulation of some game
+abbrev pub SimulatesSome : List ℕ → ℕ → Type 0
+SimulatesSome text status =
+    (options : SimulateOptions) × (g : ChipGame) × IsGame g × (events : List Event) × SimulatesBy options g events text status

@@ -3,10 +3,12 @@
 ghost use Rattle.std.specs.Prelude.{◌≡◌, ◌++◌, ◌<◌, ℕ, IfOk, codes, string_bytes};
 ghost use Rattle.std.specs.Option.{ForSome};
 ghost use Rattle.chip_graph.specs.Limits.{standard};
-ghost use Rattle.chip_graph.specs.Multigraph.{IsDistance, degree};
-ghost use Rattle.chip_engine.specs.CheckCommand.{CheckAnswers, IsShown, head_text, vertex_text};
+ghost use Rattle.chip_graph.specs.Multigraph.{IsDistance, IsGraph, degree};
+ghost use Rattle.chip_command.specs.CommandAnswers.{AnyFault, CommandAnswers, Gives};
+ghost use Rattle.chip_engine.specs.CheckCommand.{CheckAnswers, CheckRefuses, CheckWrites, ShowsSome};
+ghost use Rattle.chip_engine.specs.CheckCommand.{IsShown, head_text, vertex_text};
 
-use chip_command::{Ended, Fault, Status, conclude};
+use chip_command::{Answer, Ended, Fault, deliver};
 use chip_file::read_graph_within;
 use chip_graph::{Graph, Limits};
 use std::alloc::{AllocError, Global};
@@ -19,30 +21,40 @@ pub fn check_engine<G: Read, W: Write>(
     graph: &mut G,
     output: &mut W,
 ) -> Result<Ended, Fault>
-    ensures { ForSome (G.remaining graph.old)
+    ensures known { ForSome (G.remaining graph.old)
         (λ text. CheckAnswers standard text (W.contents output.old) (W.contents output.new) result) }
+    ensures any { CommandAnswers ShowsSome AnyFault (W.contents output.old) (W.contents output.new) result }
 {
-    check_engine_within(alloc, Limits::standard(), graph, output)
+    check_engine_with(alloc, graph, Limits::standard(), output)
 }
 
 /// Does what `check_engine` does, for a graph within these limits.
-pub fn check_engine_within<G: Read, W: Write>(
+pub fn check_engine_with<G: Read, W: Write>(
     alloc: Global,
-    limits: Limits,
     graph: &mut G,
+    limits: Limits,
     output: &mut W,
 ) -> Result<Ended, Fault>
-    ensures { ForSome (G.remaining graph.old)
+    ensures known { ForSome (G.remaining graph.old)
         (λ text. CheckAnswers limits text (W.contents output.old) (W.contents output.new) result) }
+    ensures any { CommandAnswers ShowsSome AnyFault (W.contents output.old) (W.contents output.new) result }
+{
+    deliver(output, answer(alloc, graph, limits))
+}
+
+/// What `check` has to say of the graph of a file.
+fn answer<G: Read>(alloc: Global, graph: &mut G, limits: Limits) -> Result<Answer, Fault>
+    ensures known { ForSome (G.remaining graph.old) (λ text. Gives (CheckWrites limits text) (CheckRefuses limits text) result) }
+    ensures any { Gives ShowsSome AnyFault result }
 {
     let graph = read_graph_within(alloc, limits, graph)?;
-    let text = show(alloc, &graph)?;
-    conclude(output, text.as_bytes(), Ended::of(Status::Done))
+    Ok(Answer::of_lines(show(alloc, &graph)?))
 }
 
 /// The lines of a graph.
 fn show(alloc: Global, graph: &Graph) -> Result<String, AllocError>
-    ensures { IfOk result (λ text. IsShown graph.now (string_bytes text)) }
+    ensures shown { IfOk result (λ text. IsShown graph.now (string_bytes text)) }
+    ensures graph { IfOk result (λ _. IsGraph graph.now) }
 {
     let mut text = String::new(alloc);
     push_head(&mut text, graph)?;

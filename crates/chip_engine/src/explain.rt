@@ -1,10 +1,11 @@
 //! `explain`: what a fault means, how to read its numbers and what to do, from a table of faults.
 
-ghost use Rattle.std.specs.Prelude.{◌≡◌, ◌++◌, IfOk, MatchResult, option_map, string_bytes};
-ghost use Rattle.chip_engine.specs.ExplainCommand.{ExplainAnswers, TellsNothing, explanation, line_text, row_text};
-ghost use Rattle.chip_engine.specs.ExplainCommand.{row_with, rows_of, table_text};
+ghost use Rattle.std.specs.Prelude.{◌≡◌, ◌++◌, IfOk, option_map, string_bytes};
+ghost use Rattle.chip_command.specs.CommandAnswers.{Gives};
+ghost use Rattle.chip_engine.specs.ExplainCommand.{ExplainAnswers, ExplainWrites, TellsNothing, explanation, line_text};
+ghost use Rattle.chip_engine.specs.ExplainCommand.{row_text, row_with, rows_of, table_text};
 
-use chip_command::{Ended, Explanation, Fault, Status, conclude};
+use chip_command::{Answer, Ended, Explanation, Fault, deliver};
 use std::alloc::{AllocError, Global};
 use std::io::Write;
 
@@ -19,20 +20,18 @@ pub fn explain_engine<W: Write>(
 ) -> Result<Ended, Fault>
     ensures { ExplainAnswers (explanation (rows_of table.now) number) (W.contents output.old) (W.contents output.new) result }
 {
-    let text = tell(alloc, table, number)?;
-    conclude(output, text.as_bytes(), Ended::of(Status::Done))
+    deliver(output, tell(alloc, table, number))
 }
 
 /// What a table says of the fault with this number, or of all its faults.
-fn tell(alloc: Global, table: &[&Explanation], number: Option<u64>) -> Result<String, Fault>
-    ensures { MatchResult result (λ text. explanation (rows_of table.now) number ≡ Some (string_bytes text))
-        (TellsNothing (explanation (rows_of table.now) number)) }
+fn tell(alloc: Global, table: &[&Explanation], number: Option<u64>) -> Result<Answer, Fault>
+    ensures { let said = explanation (rows_of table.now) number in Gives (ExplainWrites said) (TellsNothing said) result }
 {
     let Some(number) = number else {
-        return Ok(list_all(alloc, table)?);
+        return Ok(Answer::of_lines(list_all(alloc, table)?));
     };
     let row = row_of(table, number).ok_or(Fault::Usage)?;
-    Ok(explain(alloc, row)?)
+    Ok(Answer::of_lines(explain(alloc, row)?))
 }
 
 /// The row of a table with this number, where there is one.

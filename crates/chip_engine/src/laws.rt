@@ -1,6 +1,7 @@
 //! Laws of the commands: functions that do nothing, whose contracts are the laws.
 
 ghost use Rattle.chip_engine.specs.Worked.{TriangleGoesOn, RefusalsAreNumbered, LoopIsExplained};
+ghost use Rattle.chip_engine.specs.SimulatedBytes.{SimulatedBytes};
 ghost use Rattle.chip_engine.specs.Sittings.{PlainTellsPlay, SimulateTellsPlay, ResumedPlaysAddUp};
 
 /// A sitting that went on, and the refusals of going on, as the definitions compute them.
@@ -20,4 +21,10 @@ pub fn sittings()
     ensures plain { PlainTellsPlay }
     ensures simulate { SimulateTellsPlay }
     ensures resume { ResumedPlaysAddUp }
+{}
+
+/// A simulation that closed wrote, behind its own lines, the report of the plain player, unless a vertex was sealed: of the
+/// same files, or, where chips were fed, of files that have all these chips at the start.
+pub fn simulated_bytes()
+    ensures { SimulatedBytes }
 {}

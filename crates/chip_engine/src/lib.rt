@@ -4,11 +4,11 @@
 //! (`specs/`). It opens no file and knows no command line. What can go wrong is a `Fault` of `chip_command`.
 #![tactic(auto)]
 
-pub use check::{check_engine, check_engine_within};
+pub use check::{check_engine, check_engine_with};
 pub use explain::explain_engine;
 pub use options::PlayOptions;
 pub use plain::{plain_engine, plain_engine_with};
-pub use replay::replay_engine;
+pub use replay::{replay_engine, replay_engine_with};
 pub use resume::{resume_engine, resume_engine_with};
 pub use simulate::{SimulateOptions, simulate_engine, simulate_engine_with};
 

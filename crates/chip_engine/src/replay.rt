@@ -2,18 +2,22 @@
 
 ghost use Rattle.std.specs.Prelude.{◌≡◌, ◌++◌, IfOk, string_bytes};
 ghost use Rattle.std.specs.Option.{ForSome};
+ghost use Rattle.chip_graph.specs.Limits.{standard};
+ghost use Rattle.chip_command.specs.CommandAnswers.{AnyFault, CommandAnswers, Gives};
 ghost use Rattle.chip_engine.specs.Lines.{lines_text};
-ghost use Rattle.chip_engine.specs.ReplayCommand.{GivesReplay, ReplayAnswers, firing_text};
+ghost use Rattle.chip_engine.specs.ReplayCommand.{ReplayAnswers, ReplayRefuses, ReplayWrites, ReplaysSome, firing_text};
+ghost use Rattle.chip_engine.specs.ReplayCommand.{AreReplayedOf, GivesReplay};
 
-use chip_command::{Ended, Fault, Status, conclude, read_game};
-use chip_file::read_trace;
-use chip_graph::Game;
+use crate::options::PlayOptions;
+use chip_command::{Answer, Ended, Fault, deliver, read_game};
+use chip_file::read_trace_within;
+use chip_graph::{Game, Limits};
 use chip_trace::replay;
 use std::alloc::{AllocError, Global};
 use std::io::{Read, Write};
 
-/// Replays the traces of a file on the game of a graph file, a chips file and a firing limit, and writes a line for
-/// each firing.
+/// Replays the traces of a file on the game of a graph file, a chips file and a firing limit, within the standard limits,
+/// and writes a line for each firing.
 pub fn replay_engine<G: Read, C: Read, T: Read, W: Write>(
     alloc: Global,
     graph: &mut G,
@@ -22,27 +26,77 @@ pub fn replay_engine<G: Read, C: Read, T: Read, W: Write>(
     limit: u64,
     output: &mut W,
 ) -> Result<Ended, Fault>
-    ensures { ForSome (G.remaining graph.old)
+    ensures known { ForSome (G.remaining graph.old)
         (λ graph_text. ForSome (C.remaining chips.old)
         (λ chips_text. ForSome (T.remaining trace.old)
-        (λ trace_text. ReplayAnswers graph_text chips_text trace_text limit
+        (λ trace_text. ReplayAnswers standard graph_text chips_text trace_text limit
         (W.contents output.old) (W.contents output.new) result))) }
+    ensures any { CommandAnswers ReplaysSome AnyFault (W.contents output.old) (W.contents output.new) result }
 {
-    let game = read_game(alloc, graph, chips, limit)?;
-    let lines = replay_traces(alloc, &game, trace)?;
-    conclude(output, lines.as_bytes(), Ended::of(Status::Done))
+    replay_engine_with(
+        alloc,
+        graph,
+        chips,
+        trace,
+        PlayOptions::standard(limit),
+        output,
+    )
+}
+
+/// Does what `replay_engine` does, by these options.
+pub fn replay_engine_with<G: Read, C: Read, T: Read, W: Write>(
+    alloc: Global,
+    graph: &mut G,
+    chips: &mut C,
+    trace: &mut T,
+    options: PlayOptions,
+    output: &mut W,
+) -> Result<Ended, Fault>
+    ensures known { ForSome (G.remaining graph.old)
+        (λ graph_text. ForSome (C.remaining chips.old)
+        (λ chips_text. ForSome (T.remaining trace.old)
+        (λ trace_text. ReplayAnswers options.limits graph_text chips_text trace_text options.limit
+        (W.contents output.old) (W.contents output.new) result))) }
+    ensures any { CommandAnswers ReplaysSome AnyFault (W.contents output.old) (W.contents output.new) result }
+{
+    deliver(output, answer(alloc, graph, chips, trace, options))
+}
+
+/// What `replay` has to say of a game and its traces.
+fn answer<G: Read, C: Read, T: Read>(
+    alloc: Global,
+    graph: &mut G,
+    chips: &mut C,
+    trace: &mut T,
+    options: PlayOptions,
+) -> Result<Answer, Fault>
+    ensures known { ForSome (G.remaining graph.old)
+        (λ graph_text. ForSome (C.remaining chips.old)
+        (λ chips_text. ForSome (T.remaining trace.old)
+        (λ trace_text. Gives (ReplayWrites options.limits graph_text chips_text trace_text options.limit)
+        (ReplayRefuses options.limits graph_text chips_text trace_text options.limit) result))) }
+    ensures any { Gives ReplaysSome AnyFault result }
+{
+    let game = read_game(alloc, options.limits, graph, chips, options.limit)?;
+    let lines = replay_traces(alloc, options.limits, &game, trace)?;
+    Ok(Answer::of_lines(lines))
 }
 
 /// The lines of the firings that the traces of a file have in a game.
-fn replay_traces<T: Read>(alloc: Global, game: &Game, trace: &mut T) -> Result<String, Fault>
-    ensures { ForSome (T.remaining trace.old) (λ trace_text. GivesReplay game.now trace_text result) }
+fn replay_traces<T: Read>(
+    alloc: Global,
+    limits: Limits,
+    game: &Game,
+    trace: &mut T,
+) -> Result<String, Fault>
+    ensures known { ForSome (T.remaining trace.old) (λ trace_text. GivesReplay limits game.now trace_text result) }
+    ensures any { IfOk result (λ lines. AreReplayedOf game.now (string_bytes lines)) }
 {
-    let traces = read_trace(alloc, trace, game.graph())?;
+    let traces = read_trace_within(alloc, limits, trace, game.graph())?;
     let firings = replay(alloc, game, &traces)?;
     // They take more than the firings, and the lines need room.
     drop(traces);
-    let lines = lines_of(alloc, &firings)?;
-    Ok(lines)
+    Ok(lines_of(alloc, &firings)?)
 }
 
 /// The lines of firings.

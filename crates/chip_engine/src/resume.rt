@@ -1,16 +1,15 @@
 //! `resume`: a play goes on from where its report says that it stopped.
 
-ghost use Rattle.std.specs.Prelude.{◌≡◌, ◌⊎◌, IfOk, IfErr};
+ghost use Rattle.std.specs.Prelude.{IfOk};
 ghost use Rattle.std.specs.Option.{ForSome};
 ghost use Rattle.chip_graph.specs.Limits.{standard};
-ghost use Rattle.chip_graph.specs.Multigraph.{IsGraph};
 ghost use Rattle.chip_sequence.specs.Sittings.{IsResumed};
-ghost use Rattle.chip_engine.specs.ResumeCommand.{GivesSitting, RefusesToGoOn, ReportsOn, ResumeAnswers};
-ghost use Rattle.chip_command.specs.Statuses.{number_of_status};
-ghost use Rattle.chip_command.specs.declared.fault.Fault.TheVariants.{NoMemory};
+ghost use Rattle.chip_engine.specs.ResumeCommand.{GivesSitting, RefusesToGoOn, ReportsOn, ReportsSomeSitting};
+ghost use Rattle.chip_engine.specs.ResumeCommand.{ResumeAnswers, ResumeRefuses, ResumeWrites};
+ghost use Rattle.chip_command.specs.CommandAnswers.{AnyFault, CommandAnswers, Gives, OrMemory};
 
 use crate::options::PlayOptions;
-use chip_command::{Answer, Ended, Fault, conclude, status_of};
+use chip_command::{Answer, Ended, Fault, deliver, status_of};
 use chip_file::{read_graph_within, read_whole_within};
 use chip_fire::resume;
 use chip_graph::{Graph, Limits};
@@ -30,16 +29,13 @@ pub fn resume_engine<G: Read, R: Read, W: Write>(
     limit: u64,
     output: &mut W,
 ) -> Result<Ended, Fault>
-    ensures { ForSome (G.remaining graph.old)
+    ensures known { ForSome (G.remaining graph.old)
         (λ graph_text. ForSome (R.remaining report.old)
         (λ report_text. ResumeAnswers standard graph_text report_text limit
         (W.contents output.old) (W.contents output.new) result)) }
+    ensures any { CommandAnswers ReportsSomeSitting AnyFault (W.contents output.old) (W.contents output.new) result }
 {
-    let options = PlayOptions {
-        limits: Limits::standard(),
-        limit,
-    };
-    resume_engine_with(alloc, graph, report, options, output)
+    resume_engine_with(alloc, graph, report, PlayOptions::standard(limit), output)
 }
 
 /// Does what `resume_engine` does, by these options.
@@ -50,15 +46,31 @@ pub fn resume_engine_with<G: Read, R: Read, W: Write>(
     options: PlayOptions,
     output: &mut W,
 ) -> Result<Ended, Fault>
-    ensures { ForSome (G.remaining graph.old)
+    ensures known { ForSome (G.remaining graph.old)
         (λ graph_text. ForSome (R.remaining report.old)
         (λ report_text. ResumeAnswers options.limits graph_text report_text options.limit
         (W.contents output.old) (W.contents output.new) result)) }
+    ensures any { CommandAnswers ReportsSomeSitting AnyFault (W.contents output.old) (W.contents output.new) result }
+{
+    deliver(output, answer(alloc, graph, report, options))
+}
+
+/// What `resume` has to say of a graph and a report.
+fn answer<G: Read, R: Read>(
+    alloc: Global,
+    graph: &mut G,
+    report: &mut R,
+    options: PlayOptions,
+) -> Result<Answer, Fault>
+    ensures known { ForSome (G.remaining graph.old)
+        (λ graph_text. ForSome (R.remaining report.old)
+        (λ report_text. Gives (ResumeWrites options.limits graph_text report_text options.limit)
+        (ResumeRefuses options.limits graph_text report_text options.limit) result)) }
+    ensures any { Gives ReportsSomeSitting AnyFault result }
 {
     let graph = read_graph_within(alloc, options.limits, graph)?;
     let earlier = read_sitting(alloc, options.limits, report)?;
-    let answer = go_on(alloc, graph, &earlier, options.limit)?;
-    conclude(output, &answer.text, Ended::of(answer.status))
+    go_on(alloc, graph, &earlier, options.limit)
 }
 
 /// The sitting that a report of at most so many vertices and bytes tells, of either version.
@@ -73,9 +85,7 @@ fn read_sitting<R: Read>(alloc: Global, limits: Limits, report: &mut R) -> Resul
 /// The report of the sitting that goes on from an earlier one, and the exit status.
 fn go_on(alloc: Global, graph: Graph, earlier: &Resumed, limit: u64) -> Result<Answer, Fault>
     requires { IsResumed earlier.now }
-    ensures ok { IfOk result (λ made. IsGraph graph
-        → ReportsOn graph earlier.now limit made.text.items (number_of_status made.status)) }
-    ensures err { IfErr result (λ fault. RefusesToGoOn graph earlier.now limit fault ⊎ (fault ≡ NoMemory)) }
+    ensures { Gives (ReportsOn graph earlier.now limit) (OrMemory (RefusesToGoOn graph earlier.now limit)) result }
 {
     let resumed = resume(alloc, graph, earlier, limit)?;
     let text = report_two(alloc, &resumed)?;

@@ -1,18 +1,23 @@
 //! `simulate`: the core's replies to a schedule, and the report where the root closes.
 
 ghost use Rattle.std.specs.Prelude.{◌≡◌, ◌++◌, [], false, IfOk, codes, string_bytes};
+ghost use Rattle.std.specs.Option.{ForSome};
+ghost use Rattle.chip_graph.specs.Limits.{standard};
 ghost use Rattle.chip_link.specs.Rings.{IsRing};
 ghost use Rattle.chip_part.specs.Setting.{Setting};
 ghost use Rattle.chip_core.specs.Core.{Log, IsClosed, log_after};
 ghost use Rattle.chip_world.specs.World.{StandsForLog, WhateverLog};
 ghost use Rattle.chip_world.specs.declared.world.driving.Drive.TheVariants.{Closed};
+ghost use Rattle.chip_command.specs.CommandAnswers.{AnyFault, CommandAnswers, Gives};
 ghost use Rattle.chip_command.specs.Statuses.{number_of_status};
-ghost use Rattle.chip_engine.specs.SimulateCommand.{SimulateReads, Simulates, EndsClosed, EndsBy};
+ghost use Rattle.chip_engine.specs.SimulateCommand.{SimulateReads, SimulateRefuses, SimulateWrites, SimulatesSome};
+ghost use Rattle.chip_engine.specs.SimulateCommand.{Simulates, EndsClosed, EndsBy};
 ghost use Rattle.chip_engine.specs.SimulateCommand.{message_text, reply_text, answer_text, answers_text};
 
 use crate::board::push_board;
-use chip_command::{Answer, Ended, Fault, Status, conclude, read_game, status_of};
-use chip_file::read_schedule;
+use crate::options::PlayOptions;
+use chip_command::{Answer, Ended, Fault, Status, deliver, read_game, status_of};
+use chip_file::read_schedule_within;
 use chip_link::{Event, Message, Ring};
 use chip_part::{Reply, Setting};
 use chip_report::report;
@@ -23,8 +28,8 @@ use std::io::{Read, Write};
 /// The options of a simulation.
 #[derive(Clone, Copy)]
 pub struct SimulateOptions {
-    /// How often a vertex may fire at most.
-    pub limit: u64,
+    /// How large the game may be, and how often a vertex may fire.
+    pub play: PlayOptions,
     pub ring: Ring,
     /// How many rounds of turns are made after the schedule at most.
     pub rounds: u64,
@@ -34,9 +39,10 @@ pub struct SimulateOptions {
     pub fed: bool,
 }
 
-/// Runs a schedule on the game of a graph file, a chips file and a firing limit, with rings of so many cells, and then
-/// so many rounds of turns at most; writes a line for each reply of the schedule, and the report where the root closes.
-/// A game that is `fed` gets chips by its schedule too, and closes only after that has noted the end.
+/// Runs a schedule on the game of a graph file, a chips file and a firing limit, within the standard limits, with rings of
+/// so many cells, and then so many rounds of turns at most; writes a line for each reply of the schedule, and the report
+/// where the root closes. A game that is `fed` gets chips by its schedule too, and closes only after that has noted the
+/// end.
 pub fn simulate_engine<G: Read, C: Read, S: Read, W: Write>(
     alloc: Global,
     graph: &mut G,
@@ -49,12 +55,13 @@ pub fn simulate_engine<G: Read, C: Read, S: Read, W: Write>(
     output: &mut W,
 ) -> Result<Ended, Fault>
     requires { IsRing ring }
-    ensures { SimulateReads (G.remaining graph.old) (C.remaining chips.old) (S.remaining schedule.old)
-        (record { limit = limit; ring = ring; rounds = rounds; books = false; fed = fed })
+    ensures known { SimulateReads (G.remaining graph.old) (C.remaining chips.old) (S.remaining schedule.old)
+        (record { play = record { limits = standard; limit = limit }; ring = ring; rounds = rounds; books = false; fed = fed })
         (W.contents output.old) (W.contents output.new) result }
+    ensures any { CommandAnswers SimulatesSome AnyFault (W.contents output.old) (W.contents output.new) result }
 {
     let options = SimulateOptions {
-        limit,
+        play: PlayOptions::standard(limit),
         ring: Ring::of(ring),
         rounds,
         books: false,
@@ -73,14 +80,34 @@ pub fn simulate_engine_with<G: Read, C: Read, S: Read, W: Write>(
     options: SimulateOptions,
     output: &mut W,
 ) -> Result<Ended, Fault>
-    ensures { SimulateReads (G.remaining graph.old) (C.remaining chips.old) (S.remaining schedule.old) options
+    ensures known { SimulateReads (G.remaining graph.old) (C.remaining chips.old) (S.remaining schedule.old) options
         (W.contents output.old) (W.contents output.new) result }
+    ensures any { CommandAnswers SimulatesSome AnyFault (W.contents output.old) (W.contents output.new) result }
 {
-    let game = read_game(alloc, graph, chips, options.limit)?;
-    let events = read_schedule(alloc, schedule, game.graph())?;
+    deliver(output, answer(alloc, graph, chips, schedule, options))
+}
+
+/// What `simulate` has to say of a game and a schedule.
+fn answer<G: Read, C: Read, S: Read>(
+    alloc: Global,
+    graph: &mut G,
+    chips: &mut C,
+    schedule: &mut S,
+    options: SimulateOptions,
+) -> Result<Answer, Fault>
+    ensures known { ForSome (G.remaining graph.old)
+        (λ graph_text. ForSome (C.remaining chips.old)
+        (λ chips_text. ForSome (S.remaining schedule.old)
+        (λ schedule_text. Gives (SimulateWrites graph_text chips_text schedule_text options)
+        (SimulateRefuses graph_text chips_text schedule_text options) result))) }
+    ensures any { Gives SimulatesSome AnyFault result }
+{
+    let PlayOptions { limits, limit } = options.play;
+    let game = read_game(alloc, limits, graph, chips, limit)?;
+    let events = read_schedule_within(alloc, limits, schedule, game.graph())?;
     let setting = Setting::new(game, options.ring, options.fed);
-    let answer = simulate(alloc, setting, events, options.rounds, options.books)?;
-    conclude(output, &answer.text, Ended::of(answer.status))
+    let said = simulate(alloc, setting, events, options.rounds, options.books)?;
+    Ok(said)
 }
 
 /// The lines of a simulation, and the exit status.

@@ -2,7 +2,7 @@
 
 use chip_command::{Ended, Fault};
 use chip_engine::{
-    PlayOptions, check_engine, check_engine_within, plain_engine, plain_engine_with, replay_engine,
+    PlayOptions, check_engine, check_engine_with, plain_engine, plain_engine_with, replay_engine,
     resume_engine, resume_engine_with, simulate_engine,
 };
 use chip_file::{FileFault, read_graph, read_trace};
@@ -357,7 +357,7 @@ fn answers_within(rt: &impl AllocGlobal, vertices: u64) -> Option<(Option<Fault>
     };
     let (mut lines, mut report) = (Vec::new(rt.alloc()), Vec::new(rt.alloc()));
     let graph = &mut TRIANGLE.as_bytes();
-    let checked = check_engine_within(rt.alloc(), options.limits, graph, &mut lines);
+    let checked = check_engine_with(rt.alloc(), graph, options.limits, &mut lines);
     let (graph, earlier) = (&mut TRIANGLE.as_bytes(), &mut STOPPED.as_bytes());
     let resumed = resume_engine_with(rt.alloc(), graph, earlier, options, &mut report);
     Some((checked.err(), resumed.err()))

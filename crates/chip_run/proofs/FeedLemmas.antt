@@ -5,6 +5,7 @@ use Rattle.std.specs.List.{enumerate_from}
 use Rattle.std.proofs.lemmas.List.FromFn.{length-enumerate_from, get_or-enumerate_from}
 use Rattle.std.proofs.lemmas.List.Elements.{filter_more}
 use Rattle.std.specs.Result.{IsErrAnd, MatchResult}
+use Rattle.chip_graph.specs.Limits.{SizeLimits}
 use Rattle.chip_file.specs.declared.fault.FileFault.TheVariants as file_fault
 use Rattle.chip_command.specs.declared.fault.Fault.{Fault}
 use Rattle.chip_command.specs.declared.fault.Fault.TheVariants.{NoMemory}
@@ -27,8 +28,8 @@ feeds_before-more chips v within =
     ∙ ap (λ (feed : ℕ × ℕ). feeds_before chips v ++ cond (has_chips feed) (feed ∷ []) []) here
 
 -- want of memory may be told at any text
-pub feeds_without_memory : {T : Type 0} (text : List ℕ) (vertices : ℕ) (Q : T → Type 0) (result : Result T Fault)
+pub feeds_without_memory : {T : Type 0} (limits : SizeLimits) (text : List ℕ) (vertices : ℕ) (Q : T → Type 0) (result : Result T Fault)
     (P : Fault → Type 0) → IsErrAnd result P → ((f : Fault) → P f → f ≡ NoMemory)
-    → MatchResult result Q (RefusesFeeds text vertices)
-feeds_without_memory text vertices Q (Ok feeds) P is why = absurd is
-feeds_without_memory text vertices Q (Err f) P is why = (file_fault.NoMemory, why f is, inl (inr refl))
+    → MatchResult result Q (RefusesFeeds limits text vertices)
+feeds_without_memory limits text vertices Q (Ok feeds) P is why = absurd is
+feeds_without_memory limits text vertices Q (Err f) P is why = (file_fault.NoMemory, why f is, inl (inr refl))

@@ -10,6 +10,7 @@ use Rattle.std.proofs.lemmas.List.FromFn.{get_or-map-range_with_len, length-map-
 use Rattle.std.proofs.lemmas.Option.{slice_get-get_or}
 use mathlib.Core.Logic.{dite}
 use native.Mathlib.Decide.{dec_lt}
+use Rattle.chip_graph.specs.Limits.{SizeLimits}
 use Rattle.chip_graph.specs.ChipGame.{ChipGame, IsGame}
 use Rattle.chip_graph.specs.More.{HasMore}
 use Rattle.chip_link.specs.Rings.{max_ring}
@@ -48,7 +49,8 @@ use Rattle.chip_run.specs.Replaying.{rows_in, traces_in, all_rows, HasOneEach, A
 use Rattle.chip_run.specs.Laws.{RowsFit, UncutTracesFit, FedRowsFit}
 use Rattle.chip_run.proofs.FitLemmas.{interleaves, unfed_has_one, times_fired, fired_outside}
 use Rattle.chip_run.proofs.FitFedLemmas.{given_once}
-use Rattle.chip_run.proofs.SameLemmas.{one_report, one_whole}
+use Rattle.chip_command.proofs.OneReportLemmas.{one_report}
+use Rattle.chip_run.proofs.SameLemmas.{one_whole}
 
 -- ---- the actors of a log
 
@@ -196,31 +198,31 @@ writes_by shared g feeds plan old new ended unsealed fits (actors, text, plays, 
       },
     )
 
-unfed_writes : (shared : Sharing) (g : ChipGame) (feeds : Option (List (ℕ × ℕ))) (plan : Plan) (old new : Outputs) (ended : Ended)
-    → IsGame g → MeansFed None g.graph.vertices feeds → plan.seal ≡ None
+unfed_writes : (limits : SizeLimits) (shared : Sharing) (g : ChipGame) (feeds : Option (List (ℕ × ℕ))) (plan : Plan) (old new : Outputs) (ended : Ended)
+    → IsGame g → MeansFed limits None g.graph.vertices feeds → plan.seal ≡ None
     → RunAnswersFor shared g feeds plan old new (Ok ended) → WritesOneRun g old new ended.cut
-unfed_writes shared g (Some feeds) plan old new ended game fed unsealed answers = absurd fed
-unfed_writes shared g None plan old new ended game fed unsealed answers =
+unfed_writes limits shared g (Some feeds) plan old new ended game fed unsealed answers = absurd fed
+unfed_writes limits shared g None plan old new ended game fed unsealed answers =
     let (whole, whole_is, wrote) = writes_by shared g None plan old new ended unsealed (unfed_crew_fits shared g plan game) answers in
     subst (λ (h : ChipGame). WritesOneRun h old new ended.cut) whole_is wrote
 
 pub rows_fit : RowsFit
-rows_fit graph_text chips_text limit shared plan old new ended unsealed answers = ⊎_elim (λ refused. absurd refused)
+rows_fit limits graph_text chips_text limit shared plan old new ended unsealed answers = ⊎_elim (λ refused. absurd refused)
     (λ (g, feeds, means, run). (
       g,
       means.game,
-      unfed_writes shared g feeds plan old new ended means.game.game means.fed unsealed
+      unfed_writes limits shared g feeds plan old new ended means.game.game means.fed unsealed
           run,
     )) answers
 
-fed_writes : (shared : Sharing) (graph_text chips_text feed_text : List ℕ) (limit : ℕ) (g : ChipGame) (feeds : Option (List (ℕ × ℕ)))
+fed_writes : (limits : SizeLimits) (shared : Sharing) (graph_text chips_text feed_text : List ℕ) (limit : ℕ) (g : ChipGame) (feeds : Option (List (ℕ × ℕ)))
     (plan : Plan) (old new : Outputs) (ended : Ended)
-    → MeansFedGame graph_text chips_text (Some feed_text) limit g feeds → plan.seal ≡ None
+    → MeansFedGame limits graph_text chips_text (Some feed_text) limit g feeds → plan.seal ≡ None
     → RunAnswersFor shared g feeds plan old new (Ok ended)
-    → (h : ChipGame) × (left : List (ℕ × ℕ)) × MeansFedGame graph_text chips_text (Some feed_text) limit h (Some left)
+    → (h : ChipGame) × (left : List (ℕ × ℕ)) × MeansFedGame limits graph_text chips_text (Some feed_text) limit h (Some left)
     × (AreGivenOnce h left → (whole : ChipGame) × HasMore h left whole × WritesOneRun whole old new ended.cut)
-fed_writes shared graph_text chips_text feed_text limit g None plan old new ended means unsealed answers = absurd means.fed
-fed_writes shared graph_text chips_text feed_text limit g (Some feeds) plan old new ended means unsealed answers = (
+fed_writes limits shared graph_text chips_text feed_text limit g None plan old new ended means unsealed answers = absurd means.fed
+fed_writes limits shared graph_text chips_text feed_text limit g (Some feeds) plan old new ended means unsealed answers = (
   g,
   feeds,
   means,
@@ -229,8 +231,8 @@ fed_writes shared graph_text chips_text feed_text limit g (Some feeds) plan old 
 )
 
 pub fed_rows_fit : FedRowsFit
-fed_rows_fit graph_text chips_text feed_text limit shared plan old new ended unsealed answers = ⊎_elim (λ refused. absurd refused)
-    (λ (g, feeds, means, run). fed_writes shared graph_text chips_text feed_text limit g feeds plan old new ended means unsealed run)
+fed_rows_fit limits graph_text chips_text feed_text limit shared plan old new ended unsealed answers = ⊎_elim (λ refused. absurd refused)
+    (λ (g, feeds, means, run). fed_writes limits shared graph_text chips_text feed_text limit g feeds plan old new ended means unsealed run)
     answers
 
 -- ---- where no row was cut
@@ -244,8 +246,8 @@ all_kept (a ∷ rest) uncut =
     ∙ ap (λ (traces : List (List TraceRow)). rows_of a.did ∷ traces) (all_kept rest parts.1)
 
 pub uncut_traces_fit : UncutTracesFit
-uncut_traces_fit graph_text chips_text limit shared plan old_report new_report old_trace new_trace ended unsealed answers uncut =
-    let (g, means, wrote) = rows_fit graph_text chips_text limit shared plan (record { report = old_report; trace = Some old_trace })
+uncut_traces_fit limits graph_text chips_text limit shared plan old_report new_report old_trace new_trace ended unsealed answers uncut =
+    let (g, means, wrote) = rows_fit limits graph_text chips_text limit shared plan (record { report = old_report; trace = Some old_trace })
     (record { report = new_report; trace = Some new_trace }) ended unsealed answers in (
       g,
       means,

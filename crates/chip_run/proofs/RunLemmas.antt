@@ -1,8 +1,8 @@
 -- Serves RunCommand.antt, Feeding.antt, Recording.antt.
 -- From the parts of the engine to its whole.
-use Rattle.std.proofs.Common.{◌≡◌, ℕ, Bool, false, refl, sym, subst, List, map, Option, Some, None, Result, Ok, Err, inl, inr}
-use Rattle.std.specs.Result.{IsErrAnd, IfErr}
-use Rattle.chip_graph.specs.Limits.{standard}
+use Rattle.std.proofs.Common.{◌≡◌, ℕ, Bool, false, refl, sym, subst, List, map, Option, Some, None, Result, Ok, Err, inl, inr, ⊎_elim}
+use Rattle.std.specs.Result.{IsErrAnd, IfErr, IfOk}
+use Rattle.chip_graph.specs.Limits.{SizeLimits}
 use Rattle.chip_graph.specs.ChipGame.{ChipGame}
 use Rattle.chip_crew.specs.declared.plan.Plan.{Plan}
 use Rattle.chip_crew.specs.declared.plan.Sharing.{Sharing}
@@ -22,7 +22,7 @@ use Rattle.chip_crew.specs.declared.fault.CrewFault.{CrewFault}
 use Rattle.chip_crew.specs.declared.fault.CrewFault.TheVariants as crew
 use Rattle.chip_run.specs.Feeding.{ForText, MeansFed, MeansFedGame, RefusesFedGame}
 use Rattle.chip_run.specs.Recording.{rows_kept, RecordsIfAsked, FailsToRecord}
-use Rattle.chip_run.specs.RunCommand.{RunAnswers, Outputs, KeepsBoth, IsNotPlayed, Plays}
+use Rattle.chip_run.specs.RunCommand.{RunAnswers, Outputs, KeepsBoth, IsNotPlayed, Plays, ReportsSomeRun, WritesReport}
 use Rattle.chip_run.specs.RunCommand.{never_shut, fault_of_crew}
 
 -- what is known of a text is all that follows of it
@@ -42,21 +42,43 @@ keeps_both : (o : Outputs) → KeepsBoth o o
 keeps_both o = record { report = Keeps-same o.report; trace = refl }
 
 -- inputs that are refused, and nothing is written
-pub refused_run : (shared : Sharing) (graph_text chips_text : List ℕ) (feed_text : Option (List ℕ)) (limit : ℕ)
+pub refused_run : (limits : SizeLimits) (shared : Sharing) (graph_text chips_text : List ℕ) (feed_text : Option (List ℕ)) (limit : ℕ)
     (plan : Plan) (known : Outputs) (result : Result Ended Fault) (P : Fault → Type 0) → IsErrAnd result P
-    → ((f : Fault) → P f → RefusesFedGame graph_text chips_text feed_text limit f)
-    → RunAnswers shared graph_text chips_text feed_text limit plan known known result
-refused_run shared graph_text chips_text feed_text limit plan known (Ok ended) P is why = absurd is
-refused_run shared graph_text chips_text feed_text limit plan known (Err f) P is why = inl (why f is, keeps_both known)
+    → ((f : Fault) → P f → RefusesFedGame limits graph_text chips_text feed_text limit f)
+    → RunAnswers limits shared graph_text chips_text feed_text limit plan known known result
+refused_run limits shared graph_text chips_text feed_text limit plan known (Ok ended) P is why = absurd is
+refused_run limits shared graph_text chips_text feed_text limit plan known (Err f) P is why = inl (why f is, keeps_both known)
+
+-- of whatever readers
+pub refused_some : (known : Option (List ℕ)) (result : Result Ended Fault) (P : Fault → Type 0) → IsErrAnd result P
+    → ReportsSomeRun known known result
+refused_some known (Ok ended) P is = absurd is
+refused_some known (Err f) P is = inl (Keeps-same known)
+
+-- what `run` wrote that ended well is the plain player's report
+pub writes_report : (limits : SizeLimits) (shared : Sharing) (graph_text chips_text : List ℕ) (feed_text : Option (List ℕ))
+    (limit : ℕ) (plan : Plan) (old new : Outputs) (result : Result Ended Fault)
+    → RunAnswers limits shared graph_text chips_text feed_text limit plan old new result
+    → IfOk result (WritesReport limits graph_text chips_text feed_text limit old.report new.report)
+writes_report limits shared graph_text chips_text feed_text limit plan old new (Err f) answers = tt
+writes_report limits shared graph_text chips_text feed_text limit plan old new (Ok ended) answers = ⊎_elim (λ refused. absurd refused)
+    (λ (g, feeds, means, run). (g, feeds, means, run.1, run.2.reports, run.4)) answers
+
+pub writes_reports : (limits : SizeLimits) (shared : Sharing) (graph_text chips_text : List ℕ) (feed : Option (Option (List ℕ)))
+    (limit : ℕ) (plan : Plan) (old new : Outputs) (result : Result Ended Fault)
+    → ForText feed (λ feed_text. RunAnswers limits shared graph_text chips_text feed_text limit plan old new result)
+    → ForText feed (λ feed_text. IfOk result (WritesReport limits graph_text chips_text feed_text limit old.report new.report))
+writes_reports limits shared graph_text chips_text feed limit plan old new result = for_text feed _ _
+    (λ feed_text. writes_report limits shared graph_text chips_text feed_text limit plan old new result)
 
 -- ---- where the inputs mean a game
 
-module _ (shared : Sharing) (graph_text chips_text : List ℕ) (feed_text : Option (List ℕ)) (limit : ℕ) (plan : Plan)
-    (g : ChipGame) (feeds : Option (List (ℕ × ℕ))) (means : MeansFedGame graph_text chips_text feed_text limit g feeds) where
+module _ (limits : SizeLimits) (shared : Sharing) (graph_text chips_text : List ℕ) (feed_text : Option (List ℕ)) (limit : ℕ) (plan : Plan)
+    (g : ChipGame) (feeds : Option (List (ℕ × ℕ))) (means : MeansFedGame limits graph_text chips_text feed_text limit g feeds) where
   -- a game that was not played, and nothing is written
   pub unplayed_run : (known : Outputs) (result : Result Ended Fault) (P : Fault → Type 0) → IsErrAnd result P
       → ((f : Fault) → P f → IsNotPlayed shared g feeds plan f)
-      → RunAnswers shared graph_text chips_text feed_text limit plan known known result
+      → RunAnswers limits shared graph_text chips_text feed_text limit plan known known result
   unplayed_run known (Ok ended) P is why = absurd is
   unplayed_run known (Err f) P is why = inr (g, feeds, means, inl (why f is, keeps_both known))
 
@@ -71,7 +93,7 @@ module _ (shared : Sharing) (graph_text chips_text : List ℕ) (feed_text : Opti
     -- a trace that failed, and nothing is written of the report
     pub untraced_run : (status : ℕ) → Plays shared g feeds plan actors text status → (result : Result Ended Fault)
         (P : Fault → Type 0) → IsErrAnd result P → ((f : Fault) → P f → FailsToRecord actors trace new_trace f)
-        → RunAnswers shared graph_text chips_text feed_text limit plan before (record { report = report; trace = new_trace }) result
+        → RunAnswers limits shared graph_text chips_text feed_text limit plan before (record { report = report; trace = new_trace }) result
     untraced_run status plays (Ok ended) P is why = absurd is
     untraced_run status plays (Err f) P is why =
         inr (g, feeds, means, inr (inl (actors, text, status, plays, why f is, Keeps-same report)))
@@ -80,7 +102,7 @@ module _ (shared : Sharing) (graph_text chips_text : List ℕ) (feed_text : Opti
     pub delivered_run : (status : ℕ) → Plays shared g feeds plan actors text status → (cut : Bool)
         → RecordsIfAsked actors trace new_trace cut → (result : Result Ended Fault)
         → Delivers report new_report text (record { status = status; cut = cut }) result
-        → RunAnswers shared graph_text chips_text feed_text limit plan before after result
+        → RunAnswers limits shared graph_text chips_text feed_text limit plan before after result
     delivered_run status plays cut records (Ok ended) went = inr (
       g,
       feeds,
@@ -119,13 +141,13 @@ err_by (Ok value) P f is holds = absurd is
 err_by (Err x) P f is holds = subst P (sym is) holds
 
 -- a game and the feeds that a text has for the vertices of its graph
-pub means_fed : (graph_text chips_text : List ℕ) (feed_text : Option (List ℕ)) (limit : ℕ) (g : ChipGame)
+pub means_fed : (limits : SizeLimits) (graph_text chips_text : List ℕ) (feed_text : Option (List ℕ)) (limit : ℕ) (g : ChipGame)
     (feeds : Option (List (ℕ × ℕ))) (vertices : ℕ) → vertices ≡ g.graph.vertices
-    → MeansGame standard graph_text chips_text limit g → MeansFed feed_text vertices feeds
-    → MeansFedGame graph_text chips_text feed_text limit g feeds
-means_fed graph_text chips_text feed_text limit g feeds vertices same game fed = record {
+    → MeansGame limits graph_text chips_text limit g → MeansFed limits feed_text vertices feeds
+    → MeansFedGame limits graph_text chips_text feed_text limit g feeds
+means_fed limits graph_text chips_text feed_text limit g feeds vertices same game fed = record {
   game = game;
-  fed = subst (λ (n : ℕ). MeansFed feed_text n feeds) same fed;
+  fed = subst (λ (n : ℕ). MeansFed limits feed_text n feeds) same fed;
 }
 
 -- the fault of a crew whose gate may answer false nowhere is that of one whose gate is never shut

@@ -1,80 +1,32 @@
--- Serves Laws.antt: all that is reported of a game is read off the game.
-use Rattle.std.proofs.Common.{◌≡◌, ◌<◌, ℕ, List, length, Option, Some, None, refl, sym, ap, subst, ◌∙◌}
-use Rattle.std.proofs.Common.{slice_index, unwrap_or, ⊎_elim, arith}
-use Rattle.std.proofs.lemmas.List.{same_lists, get_or_default}
-use Rattle.chip_graph.specs.Limits.{SizeLimits, standard}
+-- Serves Laws.antt: what `run` wrote is what `plain` wrote.
+use Rattle.std.proofs.Common.{◌≡◌, ◌<◌, ℕ, List, Option, Some, None, refl, sym, ap, subst, ◌∙◌, unwrap_or, ⊎_elim, inr, arith, Bool, Result, Ok, Err}
+use Rattle.chip_graph.specs.Limits.{SizeLimits}
 use Rattle.chip_graph.specs.Multigraph.{Multigraph, IsGraph}
 use Rattle.chip_graph.specs.ChipGame.{ChipGame, IsGame}
-use Rattle.chip_file.specs.ChipsText.{chips_of_text}
-use Rattle.chip_sequence.specs.Firing.{legal_vertices}
-use Rattle.chip_sequence.specs.Play.{IsPlayed}
-use Rattle.chip_sequence.specs.declared.outcome.Outcome.{Outcome}
-use Rattle.chip_report.specs.ReportText.{report_text}
+use Rattle.chip_net.specs.Tokens.{ActorKnown}
+use Rattle.chip_crew.specs.declared.plan.Plan.{Plan}
+use Rattle.chip_crew.specs.declared.plan.Sharing.{Sharing}
+use Rattle.chip_command.specs.CommandAnswers.{ReportsSome}
 use Rattle.chip_command.specs.Inputs.{MeansGame}
-use Rattle.chip_command.specs.Reports.{Reports, plain_status}
+use Rattle.chip_command.specs.declared.ended.Ended.{Ended}
+use Rattle.chip_command.specs.declared.fault.Fault.{Fault}
+use Rattle.chip_command.specs.OneReport.{PlainWrote}
+use Rattle.chip_command.specs.Reports.{Reports, Delivers}
+use Rattle.chip_command.proofs.OneReportLemmas.{one_report, one_game, same_games, same_numbers}
 use Rattle.chip_command.proofs.SittingLemmas.{report_tells}
 use Rattle.chip_crew.specs.Finished.{IsWhole, StaysWithin}
 use Rattle.chip_run.specs.Feeding.{MeansFed, MeansFedGame, feeds_of}
-use Rattle.chip_run.specs.Laws.{OneReport, SameBytes, SameBytesFed, RunWrote, PlainWrote, RunTellsPlay}
+use Rattle.chip_run.specs.RunCommand.{Plays, ReportsSomeRun}
+use Rattle.chip_run.specs.Laws.{SameBytes, SameBytesFed, RunWrote, RunTellsPlay}
 
--- numbers that are the same at each place
-same_numbers : (xs ys : List ℕ) → length xs ≡ length ys
-    → ((v : ℕ) → v < length xs → slice_index xs v ≡ slice_index ys v) → xs ≡ ys
-same_numbers xs ys each same = same_lists xs ys each
-    (λ k d below. get_or_default xs k d 0 below ∙ same k below
-    ∙ get_or_default ys k 0 d (subst (λ n. k < n) each below))
-
--- ---- one outcome for a game
-
-module _ (g : ChipGame) (one other : Outcome) (p : IsPlayed g one) (q : IsPlayed g other) where
-  same_fired : one.fired.items ≡ other.fired.items
-  same_fired = same_numbers one.fired.items other.fired.items (p.fired_each ∙ sym q.fired_each)
-      (λ v below. p.counted p.ends.0 p.ends.1 v ∙ sym (q.counted p.ends.0 p.ends.1 v))
-
-  same_chips : one.chips.items ≡ other.chips.items
-  same_chips = same_numbers one.chips.items other.chips.items (p.chips_each ∙ sym q.chips_each)
-      (λ v below. p.position p.ends.0 p.ends.1 v ∙ sym (q.position p.ends.0 p.ends.1 v))
-
-  same_over : one.over.items ≡ other.over.items
-  same_over = p.over ∙ ap (λ (xs : List ℕ). legal_vertices g.graph (slice_index xs)) same_chips ∙ sym q.over
-
-  same_sealed : one.sealed.items ≡ other.sealed.items
-  same_sealed = p.sealed ∙ sym q.sealed
-
-  same_report : report_text one ≡ report_text other
-  same_report = rw (same_fired, same_chips, same_over, same_sealed) refl
-
-  same_status : plain_status one ≡ plain_status other
-  same_status = rw (same_over, same_sealed) refl
-
-pub one_report : OneReport
-one_report g one other s t (o, p, one_is, s_is) (o', p', other_is, t_is) =
-    (one_is ∙ same_report g o o' p p' ∙ sym other_is, s_is ∙ same_status g o o' p p' ∙ sym t_is)
-
--- ---- one game for the texts
-
-same_games : (a b : ChipGame) → a.graph ≡ b.graph → a.start ≡ b.start → a.limit ≡ b.limit → a ≡ b
-same_games a b graph start limit = rw (graph, start, limit) refl
-
-one_game : (limits others : SizeLimits) (graph_text chips_text : List ℕ) (limit : ℕ) (a b : ChipGame)
-    → MeansGame limits graph_text chips_text limit a
-    → MeansGame others graph_text chips_text limit b → a ≡ b
-one_game limits others graph_text chips_text limit a b p q =
-    let x = p.named in let y = q.named in
-    let graph : a.graph ≡ b.graph = ap (λ (o : Option Multigraph). unwrap_or o a.graph)
-    (sym x.graph.1.meaning ∙ y.graph.1.meaning) in
-    let start : a.start ≡ b.start = ap (λ (o : Option (List ℕ)). unwrap_or o a.start)
-    (sym x.start.1 ∙ ap (λ (G : Multigraph). chips_of_text G.vertices chips_text) graph ∙ y.start.1) in
-    same_games a b graph start (x.limited ∙ sym y.limited)
-
-one_feed : (text : Option (List ℕ)) (vertices : ℕ) (a b : Option (List (ℕ × ℕ))) → MeansFed text vertices a
-    → MeansFed text vertices b → a ≡ b
-one_feed None vertices None None p q = refl
-one_feed None vertices None (Some feeds) p q = absurd q
-one_feed None vertices (Some feeds) b p q = absurd p
-one_feed (Some text) vertices None b p q = absurd p
-one_feed (Some text) vertices (Some feeds) None p q = absurd q
-one_feed (Some text) vertices (Some feeds) (Some others) (chips, reads, is) (chips', reads', is') =
+one_feed : (limits bounds : SizeLimits) (text : Option (List ℕ)) (vertices : ℕ) (a b : Option (List (ℕ × ℕ))) → MeansFed limits text vertices a
+    → MeansFed bounds text vertices b → a ≡ b
+one_feed limits bounds None vertices None None p q = refl
+one_feed limits bounds None vertices None (Some feeds) p q = absurd q
+one_feed limits bounds None vertices (Some feeds) b p q = absurd p
+one_feed limits bounds (Some text) vertices None b p q = absurd p
+one_feed limits bounds (Some text) vertices (Some feeds) None p q = absurd q
+one_feed limits bounds (Some text) vertices (Some feeds) (Some others) (chips, reads, is) (chips', reads', is') =
     ap Some (is ∙ ap feeds_of (ap (λ (o : Option (List ℕ)). unwrap_or o chips) (sym reads.1 ∙ reads'.1)) ∙ sym is')
 
 pub one_whole : (g : ChipGame) (feeds : Option (List (ℕ × ℕ))) (a b : ChipGame) → IsWhole g feeds a → IsWhole g feeds b
@@ -97,20 +49,43 @@ whole_fits g fits (Some feeds) within whole is =
       low_limit = (let a = fits.low_limit in let b = is.same_limit in omega arith);
     }
 
+-- what a crew plays is the report of some game
+some_report : (shared : Sharing) (g : ChipGame) (feeds : Option (List (ℕ × ℕ))) (plan : Plan) (actors : List ActorKnown)
+    (text : List ℕ) (status : ℕ) → IsGame g → Plays shared g feeds plan actors text status → ReportsSome text status
+some_report shared g feeds plan actors text status game plays =
+    let whole = plays.reports in
+    (whole.0, whole_fits g game feeds plays.finished.opened.can.total whole.0 whole.1, whole.2)
+
+pub delivered_some : (g : ChipGame) → IsGame g → (shared : Sharing) (feeds : Option (List (ℕ × ℕ))) (plan : Plan)
+    (actors : List ActorKnown) (text : List ℕ) (status : ℕ) → Plays shared g feeds plan actors text status
+    → (old new : Option (List ℕ)) (told : List ℕ) (number : ℕ) (cut : Bool) (result : Result Ended Fault) → told ≡ text
+    → number ≡ status → Delivers old new told (record { status = number; cut = cut }) result → ReportsSomeRun old new result
+delivered_some g game shared feeds plan actors text status plays old new told number cut (Ok ended) text_is number_is went =
+    let reports = some_report shared g feeds plan actors text status game plays in (
+      told,
+      subst (λ (e : Ended). ReportsSome told e.status) (sym went.0)
+          (subst (λ (n : ℕ). ReportsSome told n) (sym number_is)
+          (subst (λ (t : List ℕ). ReportsSome t status) (sym text_is) reports)),
+      went.1,
+    )
+delivered_some g game shared feeds plan actors text status plays old new told number cut (Err f) text_is number_is failed =
+    let reports = some_report shared g feeds plan actors text status game plays in
+    inr (told, status, subst (λ (t : List ℕ). ReportsSome t status) (sym text_is) reports, failed.0, failed.1, failed.2)
+
 -- ---- one report for the texts
 
 -- what `run` wrote is the report of the game that has all chips at the start, which is within the limits
 pub run_reports : (graph_text chips_text : List ℕ) (feed_text : Option (List ℕ)) (limit : ℕ) (report : List ℕ) (status : ℕ)
-    → RunWrote graph_text chips_text feed_text limit report status → (g : ChipGame) (feeds : Option (List (ℕ × ℕ)))
-    → MeansFedGame graph_text chips_text feed_text limit g feeds → (whole : ChipGame) → IsWhole g feeds whole
-    → Reports whole report status × IsGame whole
-run_reports graph_text chips_text feed_text limit report status (shared, plan, old, new, ended, ran, s_is) g feeds means whole
-    is_whole =
+    → RunWrote graph_text chips_text feed_text limit report status → (limits : SizeLimits) (g : ChipGame)
+    (feeds : Option (List (ℕ × ℕ))) → MeansFedGame limits graph_text chips_text feed_text limit g feeds → (whole : ChipGame)
+    → IsWhole g feeds whole → Reports whole report status × IsGame whole
+run_reports graph_text chips_text feed_text limit report status (mine, shared, plan, old, new, ended, ran, s_is) limits g feeds
+    means whole is_whole =
     ⊎_elim (λ refused. absurd refused)
     (λ (g', feeds', means', answers). let told = answers.1 in let plays = answers.2 in
-    let game : g' ≡ g = one_game standard standard graph_text chips_text limit g' g means'.game means.game in
-    let fed : feeds' ≡ feeds = one_feed feed_text g.graph.vertices feeds' feeds
-    (subst (λ (k : ChipGame). MeansFed feed_text k.graph.vertices feeds') game means'.fed) means.fed in
+    let game : g' ≡ g = one_game mine limits graph_text chips_text limit g' g means'.game means.game in
+    let fed : feeds' ≡ feeds = one_feed mine limits feed_text g.graph.vertices feeds' feeds
+    (subst (λ (k : ChipGame). MeansFed mine feed_text k.graph.vertices feeds') game means'.fed) means.fed in
     let w = plays.reports.0 in
     let same_whole : w ≡ whole = one_whole g feeds w whole
     (subst (λ (k : ChipGame). IsWhole k feeds w) game
@@ -126,32 +101,32 @@ run_reports graph_text chips_text feed_text limit report status (shared, plan, o
     ran
 
 pub same_bytes_fed : SameBytesFed
-same_bytes_fed graph_text chips_text feed_text limit whole_graph whole_chips (g, feeds, means, whole, mine, whole_means, is_whole)
-    one other s t ran (limits, done, (h, h_means, text, reports, out, cut), t_is) =
+same_bytes_fed graph_text chips_text feed_text limit whole_graph whole_chips (g, feeds, fed_by, means, whole, mine, whole_means, is_whole)
+    one other s t ran (limits, done, (text, (h, h_means, reports), out, cut), t_is) =
     let same_game : h ≡ whole = one_game limits mine whole_graph whole_chips limit h whole h_means whole_means in
     let same = one_report whole one text s done.status
-    (run_reports graph_text chips_text feed_text limit one s ran g feeds means whole is_whole).0
+    (run_reports graph_text chips_text feed_text limit one s ran fed_by g feeds means whole is_whole).0
     (subst (λ (k : ChipGame). Reports k text done.status) same_game reports) in
     (same.0 ∙ sym out, same.1 ∙ sym t_is)
 
 pub run_tells_play : RunTellsPlay
-run_tells_play graph_text chips_text feed_text limit report status ran g feeds means whole is_whole =
-    let of_it = run_reports graph_text chips_text feed_text limit report status ran g feeds means whole is_whole in
+run_tells_play graph_text chips_text feed_text limit report status ran limits g feeds means whole is_whole =
+    let of_it = run_reports graph_text chips_text feed_text limit report status ran limits g feeds means whole is_whole in
     report_tells whole of_it.1 report status of_it.0
 
 -- where nothing is fed, the whole game is the game
-same_bytes_of : (graph_text chips_text : List ℕ) (limit : ℕ) (one other : List ℕ) (s t : ℕ) (g : ChipGame)
-    (feeds : Option (List (ℕ × ℕ))) → MeansFedGame graph_text chips_text None limit g feeds
+same_bytes_of : (limits : SizeLimits) (graph_text chips_text : List ℕ) (limit : ℕ) (one other : List ℕ) (s t : ℕ) (g : ChipGame)
+    (feeds : Option (List (ℕ × ℕ))) → MeansFedGame limits graph_text chips_text None limit g feeds
     → RunWrote graph_text chips_text None limit one s → PlainWrote graph_text chips_text limit other t
     → (one ≡ other) × (s ≡ t)
-same_bytes_of graph_text chips_text limit one other s t g None means ran plain =
+same_bytes_of limits graph_text chips_text limit one other s t g None means ran plain =
     same_bytes_fed graph_text chips_text None limit graph_text chips_text
-    (g, None, means, g, standard, means.game, refl) one other s t ran plain
-same_bytes_of graph_text chips_text limit one other s t g (Some feeds) means ran plain = absurd means.fed
+    (g, None, limits, means, g, limits, means.game, refl) one other s t ran plain
+same_bytes_of limits graph_text chips_text limit one other s t g (Some feeds) means ran plain = absurd means.fed
 
 pub same_bytes : SameBytes
-same_bytes graph_text chips_text limit one other s t (shared, plan, old, new, ended, ran, s_is) plain =
+same_bytes graph_text chips_text limit one other s t (limits, shared, plan, old, new, ended, ran, s_is) plain =
     ⊎_elim (λ refused. absurd refused)
-    (λ (g, feeds, means, answers). same_bytes_of graph_text chips_text limit one other s t g feeds means
-    (shared, plan, old, new, ended, ran, s_is) plain)
+    (λ (g, feeds, means, answers). same_bytes_of limits graph_text chips_text limit one other s t g feeds means
+    (limits, shared, plan, old, new, ended, ran, s_is) plain)
     ran

@@ -1,6 +1,6 @@
 -- The laws of `run`, as the functions of `src/laws.rt` state them.
 use Rattle.std.specs.Prelude.{◌≡◌, ℕ, false, List, [], Option, None, Some, Ok, slice_index}
-use Rattle.chip_graph.specs.Limits.{SizeLimits, standard}
+use Rattle.chip_graph.specs.Limits.{SizeLimits}
 use Rattle.chip_graph.specs.ChipGame.{ChipGame}
 use Rattle.chip_graph.specs.More.{HasMore}
 use Rattle.chip_core.specs.Core.{fired_by}
@@ -8,8 +8,7 @@ use Rattle.chip_core.specs.Positions.{played_game}
 use Rattle.chip_core.specs.Laws.{ForEveryLog}
 use Rattle.chip_trace.specs.Interleaving.{IsInterleaving, firings}
 use Rattle.chip_command.specs.Inputs.{MeansGame}
-use Rattle.chip_command.specs.PlainCommand.{PlainAnswers}
-use Rattle.chip_command.specs.Reports.{Reports}
+use Rattle.chip_command.specs.OneReport.{PlainWrote}
 use Rattle.chip_command.specs.Sitting.{TellsPlayFrom}
 use Rattle.chip_command.specs.declared.ended.Ended.{Ended}
 use Rattle.chip_crew.specs.Finished.{IsWhole}
@@ -19,29 +18,21 @@ use Rattle.chip_run.specs.Feeding.{MeansFedGame}
 use Rattle.chip_run.specs.Replaying.{rows_in, traces_in, times_of, HasOneEach, AreGivenOnce, WritesOneRun, WritesFitting}
 use Rattle.chip_run.specs.RunCommand.{Outputs, RunAnswers}
 
--- a game has one report and one status
-abbrev pub OneReport : Type 0
-OneReport = (g : ChipGame) (one other : List ℕ) (s t : ℕ) → Reports g one s → Reports g other t → (one ≡ other) × (s ≡ t)
-
--- `plain` wrote this report of the game that the texts mean, by whatever limits of its size, and answered this status
-abbrev pub PlainWrote : (graph_text chips_text : List ℕ) → ℕ → List ℕ → ℕ → Type 0
-PlainWrote graph_text chips_text limit report status =
-    (limits : SizeLimits) × (ended : Ended) × PlainAnswers limits graph_text chips_text limit (Some []) (Some report) (Ok ended)
-    × (status ≡ ended.status)
-
--- `run` did, by some plan, however its workers shared the actors, whatever went into a trace
+-- `run` wrote this report of the game that the texts mean, by whatever limits of its size, by some plan, however its
+-- workers shared the actors and whatever went into a trace, and answered this status
 abbrev pub RunWrote : (graph_text chips_text : List ℕ) → Option (List ℕ) → ℕ → List ℕ → ℕ → Type 0
 RunWrote graph_text chips_text feed_text limit report status =
-    (shared : Sharing) × (plan : Plan) × (old new : Option (Option (List ℕ))) × (ended : Ended)
-    × RunAnswers shared graph_text chips_text feed_text limit plan (record { report = Some []; trace = old })
+    (limits : SizeLimits) × (shared : Sharing) × (plan : Plan) × (old new : Option (Option (List ℕ))) × (ended : Ended)
+    × RunAnswers limits shared graph_text chips_text feed_text limit plan (record { report = Some []; trace = old })
     (record { report = Some report; trace = new }) (Ok ended)
     × (status ≡ ended.status)
 
 -- two texts mean the game that has all chips at the start which the others give it at the start or feed it
 abbrev pub MeanTheWhole : (graph_text chips_text : List ℕ) → Option (List ℕ) → ℕ → (whole_graph whole_chips : List ℕ) → Type 0
 MeanTheWhole graph_text chips_text feed_text limit whole_graph whole_chips =
-    (g : ChipGame) × (feeds : Option (List (ℕ × ℕ))) × MeansFedGame graph_text chips_text feed_text limit g feeds
-    × (whole : ChipGame) × (limits : SizeLimits) × MeansGame limits whole_graph whole_chips limit whole
+    (g : ChipGame) × (feeds : Option (List (ℕ × ℕ))) × (limits : SizeLimits)
+    × MeansFedGame limits graph_text chips_text feed_text limit g feeds
+    × (whole : ChipGame) × (others : SizeLimits) × MeansGame others whole_graph whole_chips limit whole
     × IsWhole g feeds whole
 
 -- where `run` and `plain` both wrote a report of the same files, they wrote the same bytes, with the same status
@@ -63,8 +54,8 @@ SameBytesFed =
 abbrev pub RunTellsPlay : Type 0
 RunTellsPlay =
     (graph_text chips_text : List ℕ) (feed_text : Option (List ℕ)) (limit : ℕ) (report : List ℕ) (status : ℕ)
-    → RunWrote graph_text chips_text feed_text limit report status → (g : ChipGame) (feeds : Option (List (ℕ × ℕ)))
-    → MeansFedGame graph_text chips_text feed_text limit g feeds → (whole : ChipGame) → IsWhole g feeds whole
+    → RunWrote graph_text chips_text feed_text limit report status → (limits : SizeLimits) (g : ChipGame)
+    (feeds : Option (List (ℕ × ℕ))) → MeansFedGame limits graph_text chips_text feed_text limit g feeds → (whole : ChipGame) → IsWhole g feeds whole
     → TellsPlayFrom whole.graph (slice_index whole.start) report
 
 -- of each legal log in which no vertex was given chips more than once, the rows in its order are an interleaving of what
@@ -81,27 +72,27 @@ UnfedLogsFit = ForEveryLog (λ g log. g.fed ≡ false → IsInterleaving g.game 
 -- where `run` is not fed, seals nothing and ends well, the rows of its actors fit together, with the counts of the report
 abbrev pub RowsFit : Type 0
 RowsFit =
-    (graph_text chips_text : List ℕ) (limit : ℕ) (shared : Sharing) (plan : Plan) (old new : Outputs) (ended : Ended) → plan.seal ≡ None
-    → RunAnswers shared graph_text chips_text None limit plan old new (Ok ended)
-    → (g : ChipGame) × MeansGame standard graph_text chips_text limit g × WritesOneRun g old new ended.cut
+    (limits : SizeLimits) (graph_text chips_text : List ℕ) (limit : ℕ) (shared : Sharing) (plan : Plan) (old new : Outputs) (ended : Ended) → plan.seal ≡ None
+    → RunAnswers limits shared graph_text chips_text None limit plan old new (Ok ended)
+    → (g : ChipGame) × MeansGame limits graph_text chips_text limit g × WritesOneRun g old new ended.cut
 
 -- and where no trace was cut, so do the rows that it wrote
 abbrev pub UncutTracesFit : Type 0
 UncutTracesFit =
-    (graph_text chips_text : List ℕ) (limit : ℕ) (shared : Sharing) (plan : Plan)
+    (limits : SizeLimits) (graph_text chips_text : List ℕ) (limit : ℕ) (shared : Sharing) (plan : Plan)
     (old_report new_report old_trace new_trace : Option (List ℕ)) (ended : Ended) → plan.seal ≡ None
-    → RunAnswers shared graph_text chips_text None limit plan (record { report = old_report; trace = Some old_trace })
+    → RunAnswers limits shared graph_text chips_text None limit plan (record { report = old_report; trace = Some old_trace })
     (record { report = new_report; trace = Some new_trace }) (Ok ended)
     → ended.cut ≡ false
-    → (g : ChipGame) × MeansGame standard graph_text chips_text limit g
+    → (g : ChipGame) × MeansGame limits graph_text chips_text limit g
     × WritesFitting g old_report new_report old_trace new_trace
 
 -- where `run` is fed, seals nothing and ends well, and no vertex has chips both at the start and by a feed, they fit
 -- together in the game that has all chips at the start
 abbrev pub FedRowsFit : Type 0
 FedRowsFit =
-    (graph_text chips_text feed_text : List ℕ) (limit : ℕ) (shared : Sharing) (plan : Plan) (old new : Outputs) (ended : Ended)
-    → plan.seal ≡ None → RunAnswers shared graph_text chips_text (Some feed_text) limit plan old new (Ok ended)
+    (limits : SizeLimits) (graph_text chips_text feed_text : List ℕ) (limit : ℕ) (shared : Sharing) (plan : Plan) (old new : Outputs) (ended : Ended)
+    → plan.seal ≡ None → RunAnswers limits shared graph_text chips_text (Some feed_text) limit plan old new (Ok ended)
     → (g : ChipGame) × (feeds : List (ℕ × ℕ))
-    × MeansFedGame graph_text chips_text (Some feed_text) limit g (Some feeds)
+    × MeansFedGame limits graph_text chips_text (Some feed_text) limit g (Some feeds)
     × (AreGivenOnce g feeds → (whole : ChipGame) × HasMore g feeds whole × WritesOneRun whole old new ended.cut)

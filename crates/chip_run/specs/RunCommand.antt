@@ -2,6 +2,7 @@
 use Rattle.std.specs.Prelude.{◌≡◌, ◌⊎◌, ℕ, Bool, true, List, Option, None, Result, Ok, Err}
 use Rattle.std.specs.Option.{ForSome}
 use Rattle.std.specs.Io.KnownBytes.{Appends, Keeps}
+use Rattle.chip_graph.specs.Limits.{SizeLimits}
 use Rattle.chip_graph.specs.ChipGame.{ChipGame}
 use Rattle.chip_graph.specs.declared.fault.GameFault.TheVariants.{Total}
 use Rattle.chip_report.specs.Written.{WritesAll}
@@ -13,6 +14,7 @@ use Rattle.chip_crew.specs.declared.plan.Plan.{Plan}
 use Rattle.chip_crew.specs.declared.plan.Sharing.{Sharing}
 use Rattle.chip_crew.specs.declared.fault.CrewFault.{CrewFault}
 use Rattle.chip_crew.specs.declared.fault.CrewFault.TheVariants as crew
+use Rattle.chip_command.specs.CommandAnswers.{ReportsSome}
 use Rattle.chip_command.specs.Reports.{Reports}
 use Rattle.chip_command.specs.declared.ended.Ended.{Ended}
 use Rattle.chip_command.specs.declared.fault.Fault.{Fault}
@@ -88,20 +90,36 @@ RunAnswersFor shared g feeds plan old new (Err f) =
     × (w : WriteFault) × (f ≡ fault.Write w) × WritesAll old.report new.report text (Err w))
 
 -- and where they mean none: nothing went out, and this is why
-abbrev pub IsRefused : List ℕ → List ℕ → Option (List ℕ) → ℕ → Outputs → Outputs → Result Ended Fault → Type 0
-IsRefused graph_text chips_text feed_text limit old new (Ok ended) = ⊥
-IsRefused graph_text chips_text feed_text limit old new (Err f) =
-    RefusesFedGame graph_text chips_text feed_text limit f × KeepsBoth old new
+abbrev pub IsRefused : SizeLimits → List ℕ → List ℕ → Option (List ℕ) → ℕ → Outputs → Outputs → Result Ended Fault → Type 0
+IsRefused limits graph_text chips_text feed_text limit old new (Ok ended) = ⊥
+IsRefused limits graph_text chips_text feed_text limit old new (Err f) =
+    RefusesFedGame limits graph_text chips_text feed_text limit f × KeepsBoth old new
 
 -- what `run` answers
-abbrev pub RunAnswers : Sharing → List ℕ → List ℕ → Option (List ℕ) → ℕ → Plan → Outputs → Outputs → Result Ended Fault → Type 0
-RunAnswers shared graph_text chips_text feed_text limit plan old new result =
-    IsRefused graph_text chips_text feed_text limit old new result
-    ⊎ ((g : ChipGame) × (feeds : Option (List (ℕ × ℕ))) × MeansFedGame graph_text chips_text feed_text limit g feeds
+abbrev pub RunAnswers : SizeLimits → Sharing → List ℕ → List ℕ → Option (List ℕ) → ℕ → Plan → Outputs → Outputs → Result Ended Fault → Type 0
+RunAnswers limits shared graph_text chips_text feed_text limit plan old new result =
+    IsRefused limits graph_text chips_text feed_text limit old new result
+    ⊎ ((g : ChipGame) × (feeds : Option (List (ℕ × ℕ))) × MeansFedGame limits graph_text chips_text feed_text limit g feeds
     × RunAnswersFor shared g feeds plan old new result)
 
 -- the same where what the readers have left may be known
-abbrev pub RunReads : Sharing → Option (List ℕ) → Option (List ℕ) → Option (Option (List ℕ)) → ℕ → Plan → Outputs → Outputs
+abbrev pub RunReads : SizeLimits → Sharing → Option (List ℕ) → Option (List ℕ) → Option (Option (List ℕ)) → ℕ → Plan → Outputs → Outputs
     → Result Ended Fault → Type 0
-RunReads shared graph chips feed limit plan old new result = ForSome graph (λ graph_text. ForSome chips
-    (λ chips_text. ForText feed (λ feed_text. RunAnswers shared graph_text chips_text feed_text limit plan old new result)))
+RunReads limits shared graph chips feed limit plan old new result = ForSome graph (λ graph_text. ForSome chips
+    (λ chips_text. ForText feed (λ feed_text. RunAnswers limits shared graph_text chips_text feed_text limit plan old new result)))
+
+-- what `run` wrote that ended well: the plain player's report of the game of these texts, with all chips that were fed at
+-- the start, and its status
+abbrev pub WritesReport : SizeLimits → List ℕ → List ℕ → Option (List ℕ) → ℕ → Option (List ℕ) → Option (List ℕ) → Ended → Type 0
+WritesReport limits graph_text chips_text feed_text limit old new ended =
+    (g : ChipGame) × (feeds : Option (List (ℕ × ℕ))) × MeansFedGame limits graph_text chips_text feed_text limit g feeds
+    × (text : List ℕ) × ReportsFed g feeds text ended.status × Appends old new text
+
+-- what `run` answers at readers of which nothing is known: the report of some game went out, with its status; or nothing
+-- did; or its output failed
+abbrev pub ReportsSomeRun : Option (List ℕ) → Option (List ℕ) → Result Ended Fault → Type 0
+ReportsSomeRun old new (Ok ended) = (text : List ℕ) × ReportsSome text ended.status × Appends old new text
+ReportsSomeRun old new (Err f) =
+    Keeps old new
+    ⊎ ((text : List ℕ) × (status : ℕ) × ReportsSome text status
+    × (w : WriteFault) × (f ≡ fault.Write w) × WritesAll old new text (Err w))

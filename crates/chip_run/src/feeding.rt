@@ -5,22 +5,24 @@ ghost use Rattle.std.specs.Option.{ForSome};
 ghost use Rattle.chip_run.specs.Feeding.{ForText, MeansFeeds, MeansFed, RefusesFeeds, RefusesFed};
 
 use chip_command::Fault;
-use chip_file::read_chips;
+use chip_file::read_chips_within;
+use chip_graph::Limits;
 use std::alloc::{AllocError, Global};
 use std::io::Read;
 
 /// The feeds of a file for a game with so many vertices, where there is a file.
 pub(crate) fn read_fed<F: Read>(
     alloc: Global,
+    limits: Limits,
     feed: Option<&mut F>,
     vertices: u64,
 ) -> Result<Option<Vec<(u64, u64)>>, Fault>
     ensures { ForText (option_map (λ reader. F.remaining reader.now) feed.entry)
         (λ text. MatchResult result
-        (λ feeds. MeansFed text vertices (option_map (λ fed. fed.items) feeds)) (RefusesFed text vertices)) }
+        (λ feeds. MeansFed limits text vertices (option_map (λ fed. fed.items) feeds)) (RefusesFed limits text vertices)) }
 {
     match feed {
-        Some(reader) => Ok(Some(read_feeds(alloc, reader, vertices)?)),
+        Some(reader) => Ok(Some(read_feeds(alloc, limits, reader, vertices)?)),
         None => Ok(None),
     }
 }
@@ -28,13 +30,14 @@ pub(crate) fn read_fed<F: Read>(
 /// The feeds of a file for a game with so many vertices.
 fn read_feeds<F: Read>(
     alloc: Global,
+    limits: Limits,
     reader: &mut F,
     vertices: u64,
 ) -> Result<Vec<(u64, u64)>, Fault>
     ensures { ForSome (F.remaining reader.old) (λ text. MatchResult result
-        (λ feeds. MeansFeeds text vertices feeds.items) (RefusesFeeds text vertices)) }
+        (λ feeds. MeansFeeds limits text vertices feeds.items) (RefusesFeeds limits text vertices)) }
 {
-    let chips = read_chips(alloc, reader, vertices)?;
+    let chips = read_chips_within(alloc, limits, reader, vertices)?;
     Ok(feeds_of(alloc, &chips)?)
 }
 

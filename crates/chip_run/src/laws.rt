@@ -1,12 +1,7 @@
 //! Laws of `run`: functions that do nothing, whose contracts are the laws.
 
-ghost use Rattle.chip_run.specs.Laws.{OneReport, SameBytes, SameBytesFed, RunTellsPlay, LogsFit, UnfedLogsFit, RowsFit, UncutTracesFit, FedRowsFit};
+ghost use Rattle.chip_run.specs.Laws.{SameBytes, SameBytesFed, RunTellsPlay, LogsFit, UnfedLogsFit, RowsFit, UncutTracesFit, FedRowsFit};
 ghost use Rattle.chip_run.specs.Worked.{RowsOfFirstSteps};
-
-/// A game has one report, however it is played.
-pub fn one_report()
-    ensures { OneReport }
-{}
 
 /// A run on threads that wrote a report wrote the bytes of the plain player, with its status: of the same files, or,
 /// where chips were fed, of files that have all these chips at the start.

@@ -4,7 +4,7 @@
 //! those need not read the running net.
 #![tactic(auto)]
 
-pub use running::{RunOptions, run_engine, run_engine_gated};
+pub use running::{RunOptions, run_engine, run_engine_with};
 
 mod feeding;
 pub mod laws;

@@ -1,17 +1,20 @@
 //! The engine.
 
 ghost use Rattle.std.specs.Prelude.{◌≡◌, ℕ, false, None, option_map, IfOk, IfErr};
+ghost use Rattle.std.specs.Option.{ForSome};
+ghost use Rattle.chip_graph.specs.Limits.{standard};
 ghost use Rattle.chip_report.specs.ReportText.{report_text};
 ghost use Rattle.chip_command.specs.Reports.{status_of_outcome};
 ghost use Rattle.chip_command.specs.Statuses.{number_of_status};
 ghost use Rattle.chip_crew.specs.declared.plan.Sharing.TheVariants.{Queue};
-ghost use Rattle.chip_run.specs.RunCommand.{RunReads, Plays, IsNotPlayed, plan_of};
+ghost use Rattle.chip_run.specs.Feeding.{ForText};
+ghost use Rattle.chip_run.specs.RunCommand.{RunReads, ReportsSomeRun, WritesReport, Plays, IsNotPlayed, plan_of};
 
 use crate::feeding::read_fed;
 use crate::recording::record_if_asked;
 use chip_command::{Answer, Ended, Fault, conclude, read_game};
 use chip_crew::{CrewFault, Finished, Gate, Plan, Sharing, run_with};
-use chip_graph::{Game, GameFault};
+use chip_graph::{Game, GameFault, Limits};
 use chip_net::Actor;
 use std::alloc::{AllocError, Global};
 use std::io::{Read, Write};
@@ -34,6 +37,8 @@ impl Gate for Always {
 /// The options of a run.
 #[derive(Clone, Copy)]
 pub struct RunOptions {
+    /// How large the game may be.
+    pub limits: Limits,
     /// How often a vertex may fire at most.
     pub limit: u64,
     /// It seals nothing.
@@ -41,8 +46,8 @@ pub struct RunOptions {
     pub sharing: Sharing,
 }
 
-/// Plays the game of a graph file, a chips file and a firing limit on so many threads, with such rings, each thread for
-/// so many turns at most. The chips of the file of feeds, where there is one, come while the vertices fire. Where a
+/// Plays the game of a graph file, a chips file and a firing limit, within the standard limits, on so many threads, with
+/// such rings, each thread for so many turns at most. The chips of the file of feeds, where there is one, come while the vertices fire. Where a
 /// trace is asked for, the rows that the actors wrote down are written first, at most so many of each vertex, and then
 /// the report.
 ///
@@ -63,10 +68,16 @@ pub fn run_engine<R: Threads + Wait + Sync, G: Read, C: Read, F: Read, T: Write,
     trace: &mut Option<T>,
     output: &mut W,
 ) -> Result<Ended, Fault>
-    ensures { RunReads Queue (G.remaining graph.old) (C.remaining chips.old)
+    ensures known { RunReads standard Queue (G.remaining graph.old) (C.remaining chips.old)
         (option_map (λ reader. F.remaining reader.now) feed.entry) limit (plan_of ring workers turns trace_rows)
         (record { report = W.contents output.old; trace = option_map T.contents trace.old })
         (record { report = W.contents output.new; trace = option_map T.contents trace.new }) result }
+    ensures report { ForSome (G.remaining graph.old)
+        (λ graph_text. ForSome (C.remaining chips.old)
+        (λ chips_text. ForText (option_map (λ reader. F.remaining reader.now) feed.entry)
+        (λ feed_text. IfOk result (WritesReport standard graph_text chips_text feed_text limit
+        (W.contents output.old) (W.contents output.new))))) }
+    ensures any { ReportsSomeRun (W.contents output.old) (W.contents output.new) result }
 {
     let plan = Plan {
         workers,
@@ -76,18 +87,19 @@ pub fn run_engine<R: Threads + Wait + Sync, G: Read, C: Read, F: Read, T: Write,
         seal: None,
     };
     let options = RunOptions {
+        limits: Limits::standard(),
         limit,
         plan,
         sharing: Sharing::Queue,
     };
-    run_engine_gated(
+    run_engine_with(
         rt, alloc, graph, chips, feed, options, &Always, trace, output,
     )
 }
 
 /// Does what `run_engine` does, by these options; the workers of `run_engine` share one queue. The gate is asked before
 /// each turn and always answers true. It is told of the polls, and changes nothing of the bytes and the status.
-pub fn run_engine_gated<
+pub fn run_engine_with<
     R: Threads + Wait + Sync,
     G: Read,
     C: Read,
@@ -108,15 +120,16 @@ pub fn run_engine_gated<
 ) -> Result<Ended, Fault>
     requires seal { options.plan.seal ≡ None }
     requires gate { (worker turn : ℕ) → K.may_answer gate.now worker turn false → ⊥ }
-    ensures { RunReads options.sharing (G.remaining graph.old) (C.remaining chips.old)
+    ensures known { RunReads options.limits options.sharing (G.remaining graph.old) (C.remaining chips.old)
         (option_map (λ reader. F.remaining reader.now) feed.entry) options.limit options.plan
         (record { report = W.contents output.old; trace = option_map T.contents trace.old })
         (record { report = W.contents output.new; trace = option_map T.contents trace.new }) result }
+    ensures any { ReportsSomeRun (W.contents output.old) (W.contents output.new) result }
 {
     // (the game is not held while the texts go out)
     let played = {
-        let game = read_game(alloc, graph, chips, options.limit)?;
-        let feeds = read_fed(alloc, feed, game.graph().vertices())?;
+        let game = read_game(alloc, options.limits, graph, chips, options.limit)?;
+        let feeds = read_fed(alloc, options.limits, feed, game.graph().vertices())?;
         play(rt, alloc, &game, feeds, options, gate)?
     };
     let cut = record_if_asked(alloc, &played.actors, trace)?;

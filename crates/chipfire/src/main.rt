@@ -8,17 +8,17 @@ ghost use Rattle.std.specs.Prelude.{◌≡◌, None};
 
 use chip_arguments::{
     ArgumentsFault, CheckArguments, FileArgument, GameArguments, PlainArguments, ReplayArguments,
-    Request, ResumeArguments, RunArguments, SimulationArguments, limits, parse,
+    Request, RunArguments, SimulationArguments, limits, parse,
 };
 use chip_command::{Ended, Fault, Status, conclude, explanations};
 use chip_crew::{MAX_TRACE_ROWS, MAX_TURNS, MAX_WORKERS, Plan, Sharing};
 use chip_engine::{
-    PlayOptions, SimulateOptions, check_engine_within, explain_engine, plain_engine,
-    plain_engine_with, replay_engine, resume_engine_with, simulate_engine_with,
+    PlayOptions, SimulateOptions, check_engine_with, explain_engine, plain_engine,
+    plain_engine_with, replay_engine_with, resume_engine_with, simulate_engine_with,
 };
 use chip_graph::{Limits, MAX_LIMIT};
 use chip_link::{MAX_RING, Ring};
-use chip_run::{RunOptions, run_engine_gated};
+use chip_run::{RunOptions, run_engine_with};
 use progress::{ReadProgress, RoundProgress, Teller, TurnProgress};
 use std::fs::{File, Metadata};
 use std::os::fd::AsRawFd;
@@ -106,7 +106,7 @@ fn check<R: Files + AllocGlobal, W: io::Write>(
     output: &mut W,
 ) -> Result<Ended, Fault> {
     let mut graph = open(rt, &asked.graph)?;
-    check_engine_within(rt.alloc(), limits_of(asked.large), &mut graph, output)
+    check_engine_with(rt.alloc(), &mut graph, limits_of(asked.large), output)
 }
 
 /// Plays a game on one thread.
@@ -121,7 +121,7 @@ fn play<R: Files + Clock + Eprint + AllocGlobal, W: io::Write>(
         rt.alloc(),
         &mut ReadProgress::start(&teller, graph),
         &mut ReadProgress::start(&teller, chips),
-        play_options(&asked.game, asked.large),
+        play_options(&asked.game),
         &mut RoundProgress::start(&teller),
         output,
     )
@@ -142,7 +142,7 @@ fn play_on_threads<
         Some(file) => Some(create(rt, file, &[Some(&graph), Some(&chips), feed.as_ref()])?),
         None => None,
     };
-    run_engine_gated(
+    run_engine_with(
         rt,
         rt.alloc(),
         &mut ReadProgress::start(&teller, graph),
@@ -160,6 +160,7 @@ fn options_of(asked: &RunArguments<'_>) -> RunOptions
     ensures { result.plan.seal ≡ None }
 {
     RunOptions {
+        limits: limits_of(asked.game.large),
         limit: asked.game.limit,
         plan: Plan {
             workers: asked.workers,
@@ -186,7 +187,7 @@ fn simulate<R: Files + AllocGlobal, W: io::Write>(
     let (mut graph, mut chips) = open_game(rt, &asked.game)?;
     let mut schedule = open(rt, &asked.schedule)?;
     let options = SimulateOptions {
-        limit: asked.game.limit,
+        play: play_options(&asked.game),
         ring,
         rounds: asked.rounds,
         books: asked.books,
@@ -210,12 +211,12 @@ fn replay<R: Files + AllocGlobal, W: io::Write>(
 ) -> Result<Ended, Fault> {
     let (mut graph, mut chips) = open_game(rt, &asked.game)?;
     let mut trace = open(rt, &asked.trace)?;
-    replay_engine(
+    replay_engine_with(
         rt.alloc(),
         &mut graph,
         &mut chips,
         &mut trace,
-        asked.game.limit,
+        play_options(&asked.game),
         output,
     )
 }
@@ -223,18 +224,18 @@ fn replay<R: Files + AllocGlobal, W: io::Write>(
 /// Goes on with a play.
 fn resume<R: Files + AllocGlobal, W: io::Write>(
     rt: &R,
-    asked: &ResumeArguments<'_>,
+    asked: &GameArguments<'_>,
     output: &mut W,
 ) -> Result<Ended, Fault> {
-    let (mut graph, mut report) = open_game(rt, &asked.game)?;
-    let options = play_options(&asked.game, asked.large);
+    let (mut graph, mut report) = open_game(rt, asked)?;
+    let options = play_options(asked);
     resume_engine_with(rt.alloc(), &mut graph, &mut report, options, output)
 }
 
-/// How a game is played on one thread.
-fn play_options(game: &GameArguments<'_>, large: bool) -> PlayOptions {
+/// How large a game may be, and how often a vertex may fire.
+fn play_options(game: &GameArguments<'_>) -> PlayOptions {
     PlayOptions {
-        limits: limits_of(large),
+        limits: limits_of(game.large),
         limit: game.limit,
     }
 }

@@ -19,8 +19,8 @@ loop-vertex-preserved c =
           so_far.3 c.in_ok-push_vertex.ensures,
     )
 
-pub returns : goal.returns
-returns c =
+pub returns-clause-shown : goal.returns-clause-shown
+returns-clause-shown c =
     let so_far = c.loop-vertex.invariant in
     let n : ℕ = c.loop-vertex.vertex in
     let last : n ≡ c.args.graph.now.vertices = (let v = c.vertices-vertex-end.ensures.value in omega arith) in (

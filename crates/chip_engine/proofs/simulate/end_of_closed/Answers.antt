@@ -5,6 +5,8 @@ use Rattle.chip_engine.proofs.simulate.end_of_closed.Goals as goal
 
 pub returns : goal.returns
 returns c = λ g log stands. record {
+  is_setting = stands.is_setting;
+  legal = stands.legal;
   outcome = c.in-Ok.outcome;
   outcome_is = c.in-Ok.ensures.outcome g log stands;
   reportable = c.in-Ok.ensures.in_range;

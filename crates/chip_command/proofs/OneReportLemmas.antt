@@ -1,0 +1,64 @@
+-- Serves OneReport.antt: all that is reported of a game is read off the game, and texts mean one game.
+use Rattle.std.proofs.Common.{◌≡◌, ◌<◌, ℕ, List, length, Option, refl, sym, ap, subst, ◌∙◌, slice_index, unwrap_or}
+use Rattle.std.proofs.lemmas.List.{same_lists, get_or_default}
+use Rattle.chip_graph.specs.Limits.{SizeLimits}
+use Rattle.chip_graph.specs.Multigraph.{Multigraph}
+use Rattle.chip_graph.specs.ChipGame.{ChipGame}
+use Rattle.chip_file.specs.ChipsText.{chips_of_text}
+use Rattle.chip_sequence.specs.Firing.{legal_vertices}
+use Rattle.chip_sequence.specs.Play.{IsPlayed}
+use Rattle.chip_sequence.specs.declared.outcome.Outcome.{Outcome}
+use Rattle.chip_report.specs.ReportText.{report_text}
+use Rattle.chip_command.specs.Inputs.{MeansGame}
+use Rattle.chip_command.specs.OneReport.{OneReport}
+use Rattle.chip_command.specs.Reports.{plain_status}
+
+-- numbers that are the same at each place
+pub same_numbers : (xs ys : List ℕ) → length xs ≡ length ys
+    → ((v : ℕ) → v < length xs → slice_index xs v ≡ slice_index ys v) → xs ≡ ys
+same_numbers xs ys each same = same_lists xs ys each
+    (λ k d below. get_or_default xs k d 0 below ∙ same k below
+    ∙ get_or_default ys k 0 d (subst (λ n. k < n) each below))
+
+-- ---- one outcome for a game
+
+module _ (g : ChipGame) (one other : Outcome) (p : IsPlayed g one) (q : IsPlayed g other) where
+  same_fired : one.fired.items ≡ other.fired.items
+  same_fired = same_numbers one.fired.items other.fired.items (p.fired_each ∙ sym q.fired_each)
+      (λ v below. p.counted p.ends.0 p.ends.1 v ∙ sym (q.counted p.ends.0 p.ends.1 v))
+
+  same_chips : one.chips.items ≡ other.chips.items
+  same_chips = same_numbers one.chips.items other.chips.items (p.chips_each ∙ sym q.chips_each)
+      (λ v below. p.position p.ends.0 p.ends.1 v ∙ sym (q.position p.ends.0 p.ends.1 v))
+
+  same_over : one.over.items ≡ other.over.items
+  same_over = p.over ∙ ap (λ (xs : List ℕ). legal_vertices g.graph (slice_index xs)) same_chips ∙ sym q.over
+
+  same_sealed : one.sealed.items ≡ other.sealed.items
+  same_sealed = p.sealed ∙ sym q.sealed
+
+  same_report : report_text one ≡ report_text other
+  same_report = rw (same_fired, same_chips, same_over, same_sealed) refl
+
+  same_status : plain_status one ≡ plain_status other
+  same_status = rw (same_over, same_sealed) refl
+
+pub one_report : OneReport
+one_report g one other s t (o, p, one_is, s_is) (o', p', other_is, t_is) =
+    (one_is ∙ same_report g o o' p p' ∙ sym other_is, s_is ∙ same_status g o o' p p' ∙ sym t_is)
+
+-- ---- one game for the texts
+
+pub same_games : (a b : ChipGame) → a.graph ≡ b.graph → a.start ≡ b.start → a.limit ≡ b.limit → a ≡ b
+same_games a b graph start limit = rw (graph, start, limit) refl
+
+pub one_game : (limits others : SizeLimits) (graph_text chips_text : List ℕ) (limit : ℕ) (a b : ChipGame)
+    → MeansGame limits graph_text chips_text limit a
+    → MeansGame others graph_text chips_text limit b → a ≡ b
+one_game limits others graph_text chips_text limit a b p q =
+    let x = p.named in let y = q.named in
+    let graph : a.graph ≡ b.graph = ap (λ (o : Option Multigraph). unwrap_or o a.graph)
+    (sym x.graph.1.meaning ∙ y.graph.1.meaning) in
+    let start : a.start ≡ b.start = ap (λ (o : Option (List ℕ)). unwrap_or o a.start)
+    (sym x.start.1 ∙ ap (λ (G : Multigraph). chips_of_text G.vertices chips_text) graph ∙ y.start.1) in
+    same_games a b graph start (x.limited ∙ sym y.limited)

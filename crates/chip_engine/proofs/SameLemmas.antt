@@ -1,0 +1,89 @@
+-- Serves SimulatedBytes.antt.
+-- The report of a simulation is the one that `plain` writes.
+use Rattle.std.proofs.Common.{◌≡◌, ◌≢◌, ◌<◌, ◌⊎◌, ℕ, zero, suc, ◌++◌, List, [], ◌∷◌, nat_lt, Bool, true, false, cond, Option, Some, None}
+use Rattle.std.proofs.Common.{refl, sym, ap, ◌∙◌, subst, inl, inr, arith}
+use Rattle.std.proofs.lemmas.Bool.{ltb-true, ltb-false}
+use Rattle.chip_graph.proofs.SumLemmas.{by_test}
+use Rattle.chip_graph.specs.ChipGame.{ChipGame}
+use Rattle.chip_graph.specs.Sums.{filter_below}
+use Rattle.chip_report.specs.ReportText.{report_text}
+use Rattle.chip_part.specs.Setting.{Setting, setting_with}
+use Rattle.chip_part.specs.declared.cause.Cause.{Cause}
+use Rattle.chip_part.specs.declared.cause.Cause.TheVariants.{SealedEdge, FiringLimit}
+use Rattle.chip_core.specs.Core.{Log, part_in}
+use Rattle.chip_core.specs.Headline.{NoneHaltedBySeal}
+use Rattle.chip_core.specs.Outcomes.{is_by_seal}
+use Rattle.chip_core.specs.Positions.{played_game}
+use Rattle.chip_core.proofs.NumberLemmas.{unfed_is_the_start}
+use Rattle.chip_world.specs.declared.world.driving.Drive.{Drive}
+use Rattle.chip_world.specs.declared.world.driving.Drive.TheVariants.{Closed, Unfinished}
+use Rattle.chip_command.specs.Inputs.{MeansGame}
+use Rattle.chip_command.specs.Reports.{Reports}
+use Rattle.chip_command.proofs.OneReportLemmas.{one_report, one_game}
+use Rattle.chip_engine.specs.SimulateCommand.{EndsBy, EndsClosed}
+use Rattle.chip_engine.specs.SimulatedBytes.{IsWhatPlainWrites, ClosedAs, StayedOpen, SimulatedBytes}
+use Rattle.chip_engine.specs.declared.simulate.SimulateOptions.{SimulateOptions}
+
+both_nil : {A : Type 0} (xs ys : List A) → xs ++ ys ≡ [] → (xs ≡ []) × (ys ≡ [])
+both_nil [] ys is = (refl, is)
+both_nil (x ∷ xs) ys is = cc
+
+not_one : (b : Bool) (n : ℕ) → cond b (n ∷ []) [] ≡ [] → b ≡ false
+not_one true n is = cc
+not_one false n is = refl
+
+-- where none is picked, each fails the test
+none_picked : (test : ℕ → Bool) (n : ℕ) → filter_below test n ≡ [] → (v : ℕ) → v < n → test v ≡ false
+none_picked test zero none v below = absurd (omega arith)
+none_picked test (suc n) none v below =
+    let parts = both_nil (filter_below test n) (cond (test n) (n ∷ []) []) none in
+    by_test (nat_lt v n) (λ is. none_picked test n parts.0 v (ltb-true v n is))
+    (λ is. let last : v ≡ n = (let past = ltb-false v n is in omega arith) in
+    subst (λ (k : ℕ). test k ≡ false) (sym last) (not_one (test n) n parts.1))
+
+not_by_seal : (h : Option Cause) → is_by_seal h ≡ false → h ≢ Some SealedEdge
+not_by_seal None fails = λ is. cc
+not_by_seal (Some SealedEdge) fails = cc
+not_by_seal (Some FiringLimit) fails = λ is. cc
+
+-- an outcome that names no sealed vertex is of a log in which no seal halted one
+unsealed : (g : Setting) (log : Log) (end : List ℕ) (status : ℕ) (ends : EndsClosed g log end status)
+    → ends.outcome.sealed.items ≡ [] → NoneHaltedBySeal g log
+unsealed g log end status ends none v below = not_by_seal (part_in g log v).halt
+    (none_picked (λ u. is_by_seal (part_in g log u).halt) g.game.graph.vertices (sym ends.outcome_is.sealed ∙ none) v below)
+
+same : (g : Setting) (log : Log) (end : List ℕ) (status : ℕ) (ends : EndsClosed g log end status)
+    → ends.outcome.sealed.items ≡ [] → IsWhatPlainWrites (played_game g log) ends.outcome status
+same g log end status ends none limits graph_text chips_text means report t
+    (others, ended, (text, (h, h_means, reports), out, cut), t_is) =
+    let given : ChipGame = played_game g log in
+    let is : h ≡ given = one_game others limits graph_text chips_text given.limit h given h_means means in
+    let alike = one_report given (report_text ends.outcome) text status ended.status
+    (ends.plays (unsealed g log end status ends none))
+    (subst (λ (k : ChipGame). Reports k text ended.status) is reports) in
+    (alike.0 ∙ sym out, alike.1 ∙ sym t_is)
+
+ends_so : (graph_text chips_text : List ℕ) (options : SimulateOptions) (game : ChipGame)
+    → MeansGame options.play.limits graph_text chips_text options.play.limit game → (log : Log) (drive : Drive)
+    → (out lines end : List ℕ) (status : ℕ) → out ≡ lines ++ end
+    → EndsBy (setting_with game options.ring options.fed) log drive end status
+    → StayedOpen out status ⊎ ClosedAs graph_text chips_text options out status
+ends_so graph_text chips_text options game means log (Unfinished rounds) out lines end status wrote (end_is, status_is) =
+    inl (lines, wrote ∙ ap (λ (t : List ℕ). lines ++ t) end_is, status_is)
+ends_so graph_text chips_text options game means log Closed out lines end status wrote ends =
+    let g : Setting = setting_with game options.ring options.fed in inr (record {
+      game = game;
+      means = means;
+      log = log;
+      legal = ends.legal;
+      lines = lines;
+      outcome = ends.outcome;
+      wrote = wrote ∙ ap (λ (t : List ℕ). lines ++ t) ends.reported;
+      same = same g log end status ends;
+      unfed = λ unfed. (unfed_is_the_start g ends.is_setting.game ends.is_setting.some_ring log ends.legal unfed).0;
+    })
+
+pub simulated_bytes : SimulatedBytes
+simulated_bytes graph_text chips_text schedule_text options out ended (text, (game, events, means, simulates), wrote, cut) =
+    ends_so graph_text chips_text options game means.game simulates.after simulates.drive out _ simulates.end ended.status
+    (wrote ∙ simulates.lines) simulates.ends

@@ -14,3 +14,5 @@ pub mod WorkedOrder
 pub mod OutcomeLemmas
 pub mod ShowingLemmas
 pub mod ReachedLemmas
+pub mod IdleLemmas
+pub mod WorkLemmas

@@ -10,3 +10,4 @@ pub mod Worked
 pub mod Outcomes
 pub mod Words
 pub mod Reached
+pub mod Work

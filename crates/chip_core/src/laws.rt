@@ -17,6 +17,7 @@ ghost use Rattle.chip_core.specs.Replies.{IdleStepsLeave, RunsGoOn};
 ghost use Rattle.chip_core.specs.Words.{OperationsFind, WordsGoOn};
 ghost use Rattle.chip_core.specs.Reached.{ReachedByLegalLogs};
 ghost use Rattle.chip_core.specs.Headline.{CoreTheorem};
+ghost use Rattle.chip_core.specs.Work.{FewSteps, DistancesBound, FewRefusals};
 
 /// Small runs, as the definitions compute them.
 pub fn worked_runs()
@@ -117,6 +118,13 @@ pub fn closed_roots()
 /// halted a vertex it is every player's.
 pub fn outcomes()
     ensures { OutcomesTell }
+{}
+
+/// Few steps of a log count as work, and few claims are refused.
+pub fn few_steps_count()
+    ensures steps { FewSteps }
+    ensures distances { DistancesBound }
+    ensures refusals { FewRefusals }
 {}
 
 /// For every list of actor steps, each edge has delivered a prefix of what was sent on it, each message once and in

@@ -15,4 +15,12 @@ pub mod OutcomeLemmas
 pub mod ShowingLemmas
 pub mod ReachedLemmas
 pub mod IdleLemmas
+pub mod QuietLemmas
+pub mod DueLemmas
+pub mod AskedLemmas
 pub mod WorkLemmas
+pub mod IdleTurnLemmas
+pub mod RoundLemmas
+pub mod ScheduleLemmas
+pub mod StirringLemmas
+pub mod WorkedBackwards

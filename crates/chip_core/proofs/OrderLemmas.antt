@@ -26,20 +26,20 @@ use Rattle.chip_core.proofs.LogLemmas.{part_here, part_else, part_kept, edge_cou
 contains_first : (u : ℕ) (us : List ℕ) → Contains (u ∷ us) u
 contains_first u us = (0, omega arith, refl)
 
-contains_later : (u : ℕ) (us : List ℕ) (v : ℕ) → Contains us v → Contains (u ∷ us) v
+pub contains_later : (u : ℕ) (us : List ℕ) (v : ℕ) → Contains us v → Contains (u ∷ us) v
 contains_later u us v m = Contains-append_right (u ∷ []) us v m
 
-contains_nothing : (v : ℕ) → Contains [] v → ⊥
+pub contains_nothing : (v : ℕ) → Contains [] v → ⊥
 contains_nothing v m = let a = m.1 in absurd (omega arith)
 
-contains_at : (u : ℕ) (us : List ℕ) (v k : ℕ) → k < length (u ∷ us) → get_or (u ∷ us) k v ≡ v → (v ≡ u) ⊎ Contains us v
+contains_at : {X : Type 0} (u : X) (us : List X) (v : X) (k : ℕ) → k < length (u ∷ us) → get_or (u ∷ us) k v ≡ v → (v ≡ u) ⊎ Contains us v
 contains_at u us v zero l is = inl (sym is)
 contains_at u us v (suc k) l is = inr (k, omega arith, is)
 
-contains_cases : (u : ℕ) (us : List ℕ) (v : ℕ) → Contains (u ∷ us) v → (v ≡ u) ⊎ Contains us v
+pub contains_cases : {X : Type 0} (u : X) (us : List X) (v : X) → Contains (u ∷ us) v → (v ≡ u) ⊎ Contains us v
 contains_cases u us v m = contains_at u us v m.0 m.1 m.2
 
-contained : (vs : List ℕ) (v : ℕ) → (Contains vs v) ⊎ (Contains vs v → ⊥)
+pub contained : (vs : List ℕ) (v : ℕ) → (Contains vs v) ⊎ (Contains vs v → ⊥)
 contained [] v = inr (contains_nothing v)
 contained (u ∷ us) v = dite (ℕ_discrete v u)
     (λ e. inl (subst (Contains (u ∷ us)) (sym e) (contains_first u us)))

@@ -1,7 +1,7 @@
 -- Serves Core.antt.
 -- Every read that was made saw the fired word that stands at the end, and the root is closed there.
-use Rattle.std.proofs.Common.{◌≡◌, ◌↔◌, ◌⊎◌, ℕ, zero, suc, ◌<◌, [], ◌∷◌, length, get_or, true, None, Contains, sym, ap}
-use Rattle.std.proofs.Common.{◌∙◌, arith, inl, inr, ⊎_elim, eqb, eqb-true}
+use Rattle.std.proofs.Common.{◌≡◌, ◌↔◌, ℕ, ◌<◌, [], ◌∷◌, true, None, Contains, sym, ap}
+use Rattle.std.proofs.Common.{◌∙◌, arith, ⊎_elim, eqb, eqb-true}
 use Rattle.chip_graph.specs.ChipGame.{IsGame}
 use Rattle.chip_part.specs.Setting.{Setting}
 use Rattle.chip_graph.proofs.SumLemmas.{tested_none}
@@ -12,6 +12,7 @@ use Rattle.chip_core.specs.Core.{Log, Step, Event, Read, unmet_rule, part_of, pa
 use Rattle.chip_core.specs.Core.{IsSettled, IsClosed, outstanding, tail_of, root, all_edges}
 use Rattle.chip_core.specs.Laws.{ReadsTell}
 use Rattle.chip_core.proofs.ClosingLemmas.{still, still_closed}
+use Rattle.chip_core.proofs.OrderLemmas.{contains_cases}
 
 -- the two ways to say that all that the root sent is settled
 pub settled_is : (g : Setting) (log : Log) → (deficit g (root g) (part_in g log (root g)) ≡ 0) ↔ IsSettled g log
@@ -32,12 +33,6 @@ closed_is g log = (
   (λ closed. (closed.0, (settled_is g log).1 closed.1)),
 )
 
--- the latest, or one before it
-did_at : (y : Step) (log : Log) (x : Step) (k : ℕ) → k < length (y ∷ log) → get_or (y ∷ log) k x ≡ x
-    → (y ≡ x) ⊎ Contains log x
-did_at y log x zero l is = inl is
-did_at y log x (suc k) l is = inr (k, omega arith, is)
-
 module _ (g : Setting) (game : IsGame g.game) (some_ring : 0 < g.ring) where
   read_here : (log : Log) (y : Step) (v : ℕ) → IsLegalLog g (y ∷ log) → y.event ≡ Read v
       → (v < g.game.graph.vertices) × IsClosed g log × (y.seen ≡ word_of_part (part_in g log v))
@@ -52,10 +47,10 @@ module _ (g : Setting) (game : IsGame g.game) (some_ring : 0 < g.ring) where
   all_reads [] legal x v made is = let a = made.1 in absurd (omega arith)
   all_reads (y ∷ log) legal x v made is =
       let here : (v < g.game.graph.vertices) × IsClosed g log × (x.seen ≡ word_of_part (part_in g log v)) = ⊎_elim
-      (λ e. (let r = read_here log y v legal (ap (λ (d : Step). d.event) e ∙ is) in
-      (r.0, r.1, sym (ap (λ (d : Step). d.seen) e) ∙ r.2)))
+      (λ e. (let r = read_here log y v legal (ap (λ (d : Step). d.event) (sym e) ∙ is) in
+      (r.0, r.1, ap (λ (d : Step). d.seen) e ∙ r.2)))
       (λ m. all_reads log legal.0 x v m is)
-      (did_at y log x made.0 made.1 made.2) in
+      (contains_cases y log x made) in
       let l = here.0 in
       let same = still g game some_ring log legal.0 here.1 y legal v (λ z. (absurd (omega arith))) in
       (here.0, still_closed g game some_ring log legal.0 here.1 y legal, here.2 ∙ ap word_of_part (sym same))

@@ -11,3 +11,5 @@ pub mod Outcomes
 pub mod Words
 pub mod Reached
 pub mod Work
+pub mod Closing
+pub mod WorkedClosing

@@ -18,6 +18,9 @@ ghost use Rattle.chip_core.specs.Words.{OperationsFind, WordsGoOn};
 ghost use Rattle.chip_core.specs.Reached.{ReachedByLegalLogs};
 ghost use Rattle.chip_core.specs.Headline.{CoreTheorem};
 ghost use Rattle.chip_core.specs.Work.{FewSteps, DistancesBound, FewRefusals};
+ghost use Rattle.chip_core.specs.Closing.{NeverStuck, AskedInVain, IdleRoundsClose};
+ghost use Rattle.chip_core.specs.Closing.{FairSchedulesClose, FairRoundsClose, NothingStirs};
+ghost use Rattle.chip_core.specs.WorkedClosing.{TriangleBounds, OneRefused, ThreeStretches};
 
 /// Small runs, as the definitions compute them.
 pub fn worked_runs()
@@ -112,6 +115,7 @@ pub fn given_chips()
 pub fn closed_roots()
     ensures in_flight { NothingInFlight }
     ensures reads { ReadsTell }
+    ensures stirs { NothingStirs }
 {}
 
 /// The outcome of a log: a firing sequence leads to it, a report takes it, and where the root is closed and no seal
@@ -120,11 +124,31 @@ pub fn outcomes()
     ensures { OutcomesTell }
 {}
 
+/// How many steps a small game may have and has, and a schedule that has to ask three times.
+pub fn worked_closing()
+    ensures bounds { TriangleBounds }
+    ensures refused { OneRefused }
+    ensures stretches { ThreeStretches }
+{}
+
 /// Few steps of a log count as work, and few claims are refused.
 pub fn few_steps_count()
     ensures steps { FewSteps }
     ensures distances { DistancesBound }
     ensures refusals { FewRefusals }
+{}
+
+/// Until the root is closed there is something to do, and where everything was asked for in vain it is closed.
+pub fn never_stuck()
+    ensures advances { NeverStuck }
+    ensures in_vain { AskedInVain }
+    ensures rounds { IdleRoundsClose }
+{}
+
+/// However steps are ordered: where everything is asked for often enough after the end of feeding, the root is closed.
+pub fn fair_schedules()
+    ensures stretches { FairSchedulesClose }
+    ensures rounds { FairRoundsClose }
 {}
 
 /// For every list of actor steps, each edge has delivered a prefix of what was sent on it, each message once and in

@@ -1,0 +1,243 @@
+-- Serves Closing.antt.
+-- What is there to do, and that there always is something until the root is closed.
+use Rattle.std.proofs.Common.{◌≡◌, ◌≢◌, ◌⊎◌, ℕ, zero, suc, ◌+◌, ◌<◌, ◌≤◌, Bool, true, false, not, ◌&&◌, ◌||◌}
+use Rattle.std.proofs.Common.{cond, eqb, ltb, length, Option, Some, None, option_to_list, is_some, refl, sym, ap, ◌∙◌}
+use Rattle.std.proofs.Common.{arith, inl, inr, ⊎_elim, eqb-true, eq-eqb, ne_eqb, ltb-true, lt-ltb, leb-true, true≢false}
+use Rattle.std.proofs.lemmas.Bool.{ltb-false, eqb-false, not-true, and_from, and_parts, not_from_false}
+use mathlib.Core.Logic.{dite}
+use native.Mathlib.Decide.{ℕ_discrete, dec_lt}
+use Rattle.chip_graph.specs.ChipGame.{IsGame}
+use Rattle.chip_graph.proofs.SumLemmas.{cond_yes, cond_no, cond_true, cond_false, by_test, tested_none, tested_term}
+use Rattle.chip_link.specs.Link.{claims_of}
+use Rattle.chip_part.specs.Setting.{Setting}
+use Rattle.chip_part.specs.Counting.{is_got, is_sent}
+use Rattle.chip_part.specs.declared.reply.Reply.TheVariants.{Got, Sent, Empty, Sealed}
+use Rattle.chip_part.specs.declared.cause.Cause.{Cause}
+use Rattle.chip_part.specs.declared.cause.Cause.TheVariants.{SealedEdge, FiringLimit}
+use Rattle.chip_part.specs.Part.{is_running, may_ack, pending_of, unput_count, refusals, is_legal, cause}
+use Rattle.chip_part.specs.Steps.{message_of, saw}
+use Rattle.chip_part.proofs.EdgeLemmas.{tail_graph}
+use Rattle.chip_part.proofs.PartLemmas.{may_le}
+use Rattle.chip_part.proofs.RuleLemmas.{met_rules, running}
+use Rattle.chip_core.specs.Core.{Log, Event, Part, Take, Ack, Fire, Clear, Claim, Put, Halt, Settle, unmet_rule}
+use Rattle.chip_core.specs.Core.{part_in, out_in, into_in, fired_by, sees, IsLegalLog, IsClosed, tail_of, head_of, all_edges}
+use Rattle.chip_core.specs.Core.{graph_edges}
+use Rattle.chip_core.specs.Words.{acting_part}
+use Rattle.chip_core.specs.Work.{counts_as_work, is_refused_claim, is_refusal}
+use Rattle.chip_core.specs.Closing.{HasEnd, is_new_look, Advances, NeverStuck}
+use Rattle.chip_core.proofs.LogLemmas.{part_kept, edge_counts, tail_inside}
+use Rattle.chip_core.proofs.NumberLemmas.{empty_is}
+use Rattle.chip_core.proofs.QuietLemmas.{quiet_closes}
+
+-- the first number that passes a test, or none does
+find : (n : ℕ) (test : ℕ → Bool) → ((k : ℕ) × (k < n) × (test k ≡ true)) ⊎ ((k : ℕ) → k < n → test k ≡ false)
+find zero test = inr (λ k l. absurd (omega arith))
+find (suc n) test = ⊎_elim (λ some. let l = some.1 in inl (some.0, omega arith, some.2))
+    (λ none. by_test (test n) (λ on. inl (n, omega arith, on))
+    (λ off. inr (λ k l. dite (ℕ_discrete k n) (λ same. ap test same ∙ off) (λ other. none k (omega arith)))))
+    (find n test)
+
+pub held_or_none : (h : Option ℕ) → is_some h ≡ false → h ≡ None
+held_or_none None off = refl
+held_or_none (Some c) off = absurd (true≢false off)
+
+some_held : (h : Option ℕ) → is_some h ≡ true → (count : ℕ) × (h ≡ Some count)
+some_held None on = absurd (true≢false (sym on))
+some_held (Some c) on = (c, refl)
+
+module _ (g : Setting) where
+  abbrev pub reply_counts : Log → Event → Bool
+  reply_counts log x = counts_as_work g (acting_part g log x) (saw x (sees g log x))
+
+  abbrev pub is_refused : Log → Event → Bool
+  is_refused log x = is_refusal g (acting_part g log x) (saw x (sees g log x))
+
+  -- the rules of an event are met, and it counts
+  abbrev pub Works : Log → Event → Type 0
+  Works log x = (unmet_rule g x (acting_part g log x) ≡ None) × (reply_counts log x ≡ true)
+
+  module _ (game : IsGame g.game) (some_ring : 0 < g.ring) (log : Log) (legal : IsLegalLog g log) where
+    pub take_works : (e : ℕ) → e < all_edges g → length (into_in g log e).got < length (out_in g log e).link.put
+        → Works log (Take e)
+    take_works e l more = (
+      met_rules g (Take e) (part_in g log (head_of g e)) l,
+      ap is_got (cond_no (sees g log (Take e)) 0 Empty
+          (Got (message_of e (length (into_in g log e).got) (sees g log (Take e))))
+          (λ none. let a = (empty_is g game some_ring log legal e).0 none in absurd (omega arith))),
+    )
+
+    pub put_works : (e : ℕ) → e < all_edges g → is_some (out_in g log e).link.held ≡ true → Works log (Put e)
+    put_works e l some = (met_rules g (Put e) (part_in g log (tail_of g e)) (l, some_held _ some), refl)
+
+    pub settle_works : (e : ℕ) → e < all_edges g → (out_in g log e).settled < (into_in g log e).acked
+        → Works log (Settle e)
+    settle_works e l more = (met_rules g (Settle e) (part_in g log (tail_of g e)) l, lt-ltb 0 _ (omega arith))
+
+    pub ack_works : (e : ℕ) → e < all_edges g → 0 < may_ack g (head_of g e) (part_in g log (head_of g e)) e
+        → Works log (Ack e)
+    ack_works e l some =
+        let a = may_le g (head_of g e) e (part_in g log (head_of g e)) in
+        (met_rules g (Ack e) (part_in g log (head_of g e)) (l, omega arith, some), refl)
+
+    -- nothing is claimed and not put
+    pub none_unput : ((e : ℕ) → e < all_edges g → (out_in g log e).link.held ≡ None) → (v : ℕ)
+        → unput_count g v (part_in g log v) ≡ 0
+    none_unput none v = tested_none (all_edges g) (λ e. eqb (tail_of g e) v)
+        (λ e. length (option_to_list ((part_in g log v).out e).link.held))
+        (λ e l on. ap (λ (p : ℕ). length (option_to_list ((part_in g log p).out e).link.held))
+        (sym (eqb-true (tail_of g e) v on)) ∙ ap (λ (h : Option ℕ). length (option_to_list h)) (none e l))
+
+    module _ (v : ℕ) (vertex : v < g.game.graph.vertices) (runs : (part_in g log v).halt ≡ None) (unput : unput_count g v (part_in g log v) ≡ 0) where
+      -- a legal vertex fires below its limit
+      pub fires_once : pending_of g v (part_in g log v) ≡ 0 → is_legal g v (part_in g log v) ≡ true
+          → fired_by g log v < g.game.limit → Works log (Fire v 1)
+      fires_once none on below =
+          let both = and_parts _ _ on in
+          let other = eqb-false _ _ (not-true _ both.0) in
+          let chips = leb-true _ _ both.1 in (
+            met_rules g (Fire v 1) (part_in g log v)
+                (vertex, other, runs, none, unput, omega arith, omega arith, omega arith),
+            refl,
+          )
+
+      -- and halts at it
+      pub limit_halts : pending_of g v (part_in g log v) ≡ 0 → is_legal g v (part_in g log v) ≡ true
+          → g.game.limit ≤ fired_by g log v → Works log (Halt v)
+      limit_halts none on past =
+          let s : Part = part_in g log v in
+          let kept = (part_kept g game log legal v).within in
+          let full : s.fired ≡ g.game.limit = omega arith in
+          let other = eqb-false _ _ (not-true _ (and_parts _ _ on).0) in
+          let why : (c : Cause) × (cause g v s ≡ Some c) = by_test (not (eqb (refusals g v s) 0))
+          (λ y. (SealedEdge, cond_true _ (Some SealedEdge) _ y))
+          (λ n. (
+            FiringLimit,
+            cond_false _ (Some SealedEdge) _ n
+                ∙ cond_true _ (Some FiringLimit) None (and_from _ _ (and_from _ _ (eq-eqb _ _ none) on) (eq-eqb _ _ full)),
+          )) in
+          (met_rules g (Halt v) s (vertex, other, runs, unput, why), refl)
+
+      -- a vertex of which a claim was refused halts
+      pub refused_halts : (e : ℕ) → e < graph_edges g → tail_of g e ≡ v → ((part_in g log v).out e).link.refused ≡ true
+          → Works log (Halt v)
+      refused_halts e l at on =
+          let s : Part = part_in g log v in
+          let some = tested_term (all_edges g) (λ i. eqb (tail_of g i) v) (λ i. cond (s.out i).link.refused 1 0) e
+          (omega arith) (eq-eqb _ _ at) in
+          let one : ◌≡◌ {A = ℕ} (cond (s.out e).link.refused 1 0) 1 = cond_true (s.out e).link.refused 1 0 on in
+          let why : cause g v s ≡ Some SealedEdge = cond_true _ (Some SealedEdge) _
+          (not_from_false _ (ne_eqb (refusals g v s) 0 (λ z. absurd (omega arith)))) in
+          let other = (game.graph_fits.edges_fit e l).not_from_sink in
+          let tail = tail_graph g e l in
+          (met_rules g (Halt v) s (vertex, (λ z. other (sym tail ∙ at ∙ z)), runs, unput, (SealedEdge, why)), refl)
+
+    -- a claim is taken or refused
+    pub claim_tells : (e : ℕ) → e < graph_edges g → (part_in g log (tail_of g e)).halt ≡ None
+        → (out_in g log e).link.clear ≡ true
+        → (unmet_rule g (Claim e) (acting_part g log (Claim e)) ≡ None)
+        × ((reply_counts log (Claim e) ≡ true) ⊎ (is_refused log (Claim e) ≡ true))
+    claim_tells e l runs clear =
+        let o = out_in g log e in
+        let seen : ℕ = sees g log (Claim e) in
+        let message = message_of e (claims_of o.link) o.pending in (
+          met_rules g (Claim e) (part_in g log (tail_of g e)) (l, runs, clear),
+          dite (ℕ_discrete seen (claims_of o.link))
+              (λ hit. inl (ap is_sent (cond_yes seen (claims_of o.link) (Sent message) Sealed hit)))
+              (λ miss. inr (ap (is_refused_claim (Claim e)) (cond_no seen (claims_of o.link) (Sent message) Sealed miss))),
+        )
+
+    -- a look at a cell that is empty
+    pub look_finds : (e : ℕ) → claims_of (out_in g log e).link ≢ length (into_in g log e).got + g.ring
+        → sees g log (Clear e) ≡ 0
+    look_finds e room = cond_no (claims_of (out_in g log e).link) (length (into_in g log e).got + g.ring) _ 0 room
+
+    -- ---- never stuck
+
+    abbrev Some_advance : Type 0
+    Some_advance = (x : Event) × Advances g log x
+
+    by_work : (x : Event) → Works log x → Some_advance
+    by_work x works = (
+      x,
+      record {
+        may = works.0;
+        tells = ap (λ (b : Bool). b || is_refused log x || is_new_look (acting_part g log x) x (sees g log x)) works.1;
+      },
+    )
+
+    second : (a b c : Bool) → b ≡ true → (a || b || c) ≡ true
+    second true b c on = refl
+    second false b c on = ap (λ (t : Bool). t || c) on
+
+    third : (a b c : Bool) → c ≡ true → (a || b || c) ≡ true
+    third true b c on = refl
+    third false true c on = refl
+    third false false c on = on
+
+    by_sending : (e : ℕ) → e < graph_edges g → ((i : ℕ) → i < all_edges g → (out_in g log i).link.held ≡ None)
+        → (part_in g log (tail_of g e)).halt ≡ None
+        → claims_of (out_in g log e).link ≢ length (into_in g log e).got + g.ring → 0 < (out_in g log e).pending
+        → Some_advance
+    by_sending e l none runs room pends = by_test (out_in g log e).link.refused
+        (λ on. by_work (Halt (tail_of g e))
+        (refused_halts (tail_of g e) (tail_inside g game e l) runs (none_unput none (tail_of g e)) e l refl on))
+        (λ off. by_test (out_in g log e).link.clear
+        (λ clear. let claim = claim_tells e l runs clear in
+        ⊎_elim (λ counts. by_work (Claim e) (claim.0, counts))
+        (λ refused. (Claim e, record { may = claim.0; tells = second _ _ _ refused })) claim.1)
+        (λ noted. (
+          Clear e,
+          record {
+            may = met_rules g (Clear e) (part_in g log (tail_of g e)) (inl (l, runs, off, pends));
+            tells = third (reply_counts log (Clear e)) (is_refused log (Clear e)) _ (and_from _ _ (eq-eqb _ _ (look_finds e room)) (ap not noted));
+          },
+        )))
+
+    pub never_stuck_at : HasEnd g log → (IsClosed g log → ⊥) → (x : Event) × Advances g log x
+    never_stuck_at end not_closed = ⊎_elim
+        (λ t. by_work (Take t.0) (take_works t.0 t.1 (ltb-true _ _ t.2)))
+        (λ no_take. ⊎_elim
+        (λ t. by_work (Put t.0) (put_works t.0 t.1 t.2))
+        (λ no_put. ⊎_elim
+        (λ t. by_work (Settle t.0) (settle_works t.0 t.1 (ltb-true _ _ t.2)))
+        (λ no_settle. ⊎_elim
+        (λ t. by_work (Ack t.0) (ack_works t.0 t.1 (ltb-true _ _ t.2)))
+        (λ no_ack.
+        let none : (e : ℕ) → e < all_edges g → (out_in g log e).link.held ≡ None =
+        (λ e l. held_or_none _ (no_put e l)) in
+        ⊎_elim
+        (λ t. let parts = and_parts _ _ t.2 in let more = and_parts _ _ parts.0 in
+        dite (dec_lt (fired_by g log t.0) g.game.limit)
+        (λ l. by_work (Fire t.0 1)
+        (fires_once t.0 t.1 (running _ more.0) (none_unput none t.0) (eqb-true _ _ more.1) parts.1 l))
+        (λ n. by_work (Halt t.0)
+        (limit_halts t.0 t.1 (running _ more.0) (none_unput none t.0) (eqb-true _ _ more.1) parts.1 (omega arith))))
+        (λ no_fire. ⊎_elim
+        (λ t. let parts = and_parts _ _ t.2 in let more = and_parts _ _ parts.0 in
+        by_sending t.0 t.1 none (running _ more.0) (eqb-false _ _ (not-true _ more.1)) (ltb-true _ _ parts.1))
+        (λ no_send. absurd (not_closed (quiet_closes g game some_ring log legal record {
+          taken = λ e l. (let a = ltb-false _ _ (no_take e l) in
+              let b = (edge_counts g game some_ring log legal e).2 in omega arith);
+          put = none;
+          settled = λ e l. ltb-false _ _ (no_settle e l);
+          acked = λ e l. (let a = ltb-false _ _ (no_ack e l) in omega arith);
+          fired = λ v l runs idle. by_test (is_legal g v (part_in g log v))
+              (λ on. absurd (true≢false (sym (and_from _ _ (and_from _ _ (ap is_running runs) (eq-eqb _ _ idle)) on)
+              ∙ no_fire v l)))
+              (λ off. off);
+          sent = λ e l runs room. dite (ℕ_discrete (out_in g log e).pending 0) (λ z. z)
+              (λ some. absurd (true≢false (sym (and_from _ _ (and_from _ _ (ap is_running runs)
+              (not_from_false _ (ne_eqb _ _ room))) (lt-ltb 0 _ (omega arith))) ∙ no_send e l)));
+        } end)))
+        (find (graph_edges g) (λ e. (is_running (part_in g log (tail_of g e)).halt
+        && not (eqb (claims_of (out_in g log e).link) (length (into_in g log e).got + g.ring)))
+        && ltb 0 (out_in g log e).pending)))
+        (find g.game.graph.vertices (λ v. (is_running (part_in g log v).halt && eqb (pending_of g v (part_in g log v)) 0)
+        && is_legal g v (part_in g log v))))
+        (find (all_edges g) (λ e. ltb 0 (may_ack g (head_of g e) (part_in g log (head_of g e)) e))))
+        (find (all_edges g) (λ e. ltb (out_in g log e).settled (into_in g log e).acked)))
+        (find (all_edges g) (λ e. is_some (out_in g log e).link.held)))
+        (find (all_edges g) (λ e. ltb (length (into_in g log e).got) (length (out_in g log e).link.put)))
+
+pub never_stuck : NeverStuck
+never_stuck g game some_ring log legal = never_stuck_at g game some_ring log legal

@@ -1,0 +1,210 @@
+-- Serves Closing.antt.
+-- Schedules that ask for everything often enough close the root, and afterwards nothing counts.
+use Rattle.std.proofs.Common.{◌≡◌, ◌⊎◌, ℕ, zero, suc, ◌+◌, ◌<◌, ◌≤◌, List, [], ◌∷◌}
+use Rattle.std.proofs.Common.{◌++◌, length, None, refl, sym, ap, ◌∙◌, subst, arith, inl, inr, ⊎_elim, true≢false}
+use Rattle.std.proofs.Common.{append_assoc, append-nil}
+use mathlib.Core.Logic.{dite}
+use native.Mathlib.Decide.{ℕ_discrete}
+use Rattle.chip_graph.specs.ChipGame.{IsGame}
+use Rattle.chip_graph.specs.More.{brought_to}
+use Rattle.chip_graph.proofs.SumLemmas.{cond_no}
+use Rattle.chip_link.specs.Link.{Tail, after_clear, after_claim, after_put}
+use Rattle.chip_sequence.specs.Sequence.{IsWholePlay}
+use Rattle.chip_part.specs.Setting.{Setting}
+use Rattle.chip_part.specs.Kept.{Met}
+use Rattle.chip_part.specs.Steps.{saw, link_after}
+use Rattle.chip_part.proofs.EdgeLemmas.{tail_root}
+use Rattle.chip_part.proofs.PartLemmas.{at_edge, stays_ended}
+use Rattle.chip_part.proofs.RuleLemmas.{rules_met}
+use Rattle.chip_core.specs.Core.{Log, Step, Event, Part, Clear, Claim, Put, Feed, part_of, part_in, out_in}
+use Rattle.chip_core.specs.Core.{sees, IsLegalLog, step, log_after, IsClosed}
+use Rattle.chip_core.specs.Core.{root, all_edges, graph_edges}
+use Rattle.chip_core.specs.Positions.{chips_given, fed_of}
+use Rattle.chip_core.specs.Work.{work_in, steps_at_most}
+use Rattle.chip_core.specs.Work.{fed_so_far, AreFiringBounds}
+use Rattle.chip_core.specs.Closing.{HasEnd, HasStretches, FairSchedulesClose, RootHasPut}
+use Rattle.chip_core.specs.Closing.{HasRounds, FairRoundsClose}
+use Rattle.chip_core.proofs.LogLemmas.{part_here, part_else, link_step}
+use Rattle.chip_core.proofs.GivenLemmas.{recorded_step, started_step}
+use Rattle.chip_core.proofs.ReachingLemmas.{step_legal, run_legal}
+use Rattle.chip_core.proofs.ReplyLemmas.{log_after-append}
+use Rattle.chip_core.proofs.ClosingLemmas.{still_closed, still_run}
+use Rattle.chip_core.proofs.IdleLemmas.{work_grows}
+use Rattle.chip_core.proofs.AskedLemmas.{tells_in, run_grows, by_rule, made, asked_closes}
+use Rattle.chip_core.proofs.RoundLemmas.{round_closes}
+use Rattle.chip_core.proofs.WorkLemmas.{few_steps_at, few_refusals_at}
+
+module _ (g : Setting) (game : IsGame g.game) (some_ring : 0 < g.ring) where
+  -- ---- once the end is noted nothing is fed
+
+  -- what is given, and that it is all
+  record Ends (log after : Log) : Type 0 where
+    end : HasEnd g after
+    fed : fed_so_far g after ≡ fed_so_far g log
+    given : chips_given g after ≡ chips_given g log
+    put : RootHasPut g log → RootHasPut g after
+
+  fed_none : (log : Log) → HasEnd g log → (x : Event) → Met g x (part_in g log (part_of g x)) → fed_of g x ≡ []
+  fed_none log end (Feed e k) may = absurd (true≢false (sym end
+      ∙ ap (λ (p : ℕ). (part_in g log p).ended) (sym (tail_root g e may.0)) ∙ may.2))
+  fed_none log end x may = refl
+
+  put_stays : (log : Log) → HasEnd g log → RootHasPut g log → (x : Event) (seen : ℕ) → Met g x (part_in g log (part_of g x))
+      → (e : ℕ) → graph_edges g ≤ e → e < all_edges g → (link_after x seen e (out_in g log e)).held ≡ None
+  put_stays log end put (Clear i) seen may e past l = at_edge
+      (λ j (t : Tail). graph_edges g ≤ j → j < all_edges g → t.held ≡ None) i (λ j. after_clear seen (out_in g log j).link)
+      (λ j. (out_in g log j).link) (λ past l. put i past l) (λ j past l. put j past l) e past l
+  put_stays log end put (Put i) seen may e past l = at_edge
+      (λ j (t : Tail). graph_edges g ≤ j → j < all_edges g → t.held ≡ None) i (λ j. after_put (out_in g log j).link)
+      (λ j. (out_in g log j).link) (λ past l. refl) (λ j past l. put j past l) e past l
+  put_stays log end put (Claim i) seen may e past l =
+      let own = may.0 in
+      ap (λ (t : Tail). t.held) (cond_no i e (after_claim (out_in g log e).pending seen (out_in g log e).link)
+      (out_in g log e).link (λ z. absurd (omega arith))) ∙ put e past l
+  put_stays log end put (Feed i k) seen may e past l = absurd (true≢false (sym end
+      ∙ ap (λ (p : ℕ). (part_in g log p).ended) (sym (tail_root g i may.0)) ∙ may.2))
+  put_stays log end put _ seen may e past l = put e past l
+
+  -- one step more
+  ends_step : (x : Step) (log : Log) → IsLegalLog g (x ∷ log) → HasEnd g log → Ends log (x ∷ log)
+  ends_step x log legal end =
+      let may = rules_met g x.event (part_in g log (part_of g x.event)) legal.1.0 in
+      let none = fed_none log end x.event may in
+      record {
+        end = dite (ℕ_discrete (part_of g x.event) (root g))
+            (λ same. ap (λ (s : Part). s.ended) (part_here g x log (root g) same)
+            ∙ stays_ended g x.event (part_in g log (root g)).ended end)
+            (λ other. ap (λ (s : Part). s.ended) (part_else g x log (root g) other) ∙ end);
+        fed = recorded_step g game some_ring x log legal ∙ ap (λ (l : List (ℕ × ℕ)). fed_so_far g log ++ l) none
+            ∙ append-nil (fed_so_far g log);
+        given = λ j v. (let a = started_step g game some_ring x log legal v in
+            let b = ap (λ (l : List (ℕ × ℕ)). brought_to l v) none in
+            let same : chips_given g (x ∷ log) v ≡ chips_given g log v = omega arith in same) j;
+        put = λ put e past l. ap (λ (t : Tail). t.held) (link_step g x log e)
+            ∙ put_stays log end put x.event x.seen may e past l;
+      }
+
+  ends_same : (log : Log) → HasEnd g log → Ends log log
+  ends_same log end = record { end = end; fed = refl; given = refl; put = λ put. put }
+
+  ends_then : (a b c : Log) → Ends a b → Ends b c → Ends a c
+  ends_then a b c ab bc = record {
+    end = bc.end;
+    fed = bc.fed ∙ ab.fed;
+    given = bc.given ∙ ab.given;
+    put = λ put. bc.put (ab.put put);
+  }
+
+  ends_run : (xs : List Event) (log : Log) → IsLegalLog g log → HasEnd g log → Ends log (log_after g log xs)
+  ends_run [] log legal end = ends_same log end
+  ends_run (x ∷ xs) log legal end =
+      let one : Ends log (step g log x).0 = by_rule g log x
+      (λ none. subst (Ends log) (sym (made g log x none)) (ends_step (saw x (sees g log x)) log (legal, (none, refl)) end))
+      (λ same. subst (Ends log) (sym same) (ends_same log end)) in
+      ends_then log (step g log x).0 (log_after g (step g log x).0 xs) one
+      (ends_run xs (step g log x).0 (step_legal g log x legal) one.end)
+
+  legal_before : (xs log : Log) → IsLegalLog g (xs ++ log) → IsLegalLog g log
+  legal_before [] log legal = legal
+  legal_before (x ∷ xs) log legal = legal_before xs log legal.0
+
+  ends_longer : (xs log : Log) → IsLegalLog g (xs ++ log) → HasEnd g log → Ends log (xs ++ log)
+  ends_longer [] log legal end = ends_same log end
+  ends_longer (x ∷ xs) log legal end =
+      let rest = ends_longer xs log legal.0 end in
+      ends_then log (xs ++ log) (x ∷ xs ++ log) rest (ends_step x (xs ++ log) legal rest.end)
+
+  -- ---- the bound holds on
+
+  few_after : (log after : Log) → Ends log after → IsLegalLog g after → (fired : ℕ → ℕ) → AreFiringBounds g log fired
+      → work_in g after ≤ steps_at_most g.game (length (fed_so_far g log)) fired
+  few_after log after ends legal fired bounds =
+      let same = ap (λ (l : List (ℕ × ℕ)). steps_at_most g.game (length l) fired) ends.fed in
+      let few = few_steps_at g game some_ring after legal fired record {
+        firings = bounds.firings;
+        whole = subst (λ (x : ℕ → ℕ). IsWholePlay g.game.graph x g.game.limit bounds.firings) (sym ends.given) bounds.whole;
+        enough = bounds.enough;
+      } in
+      omega arith
+
+  -- ---- stretches that ask for everything
+
+  stretches_tell : (n : ℕ) (xs : List Event) (log : Log) → IsLegalLog g log → HasEnd g log → HasStretches g n xs
+      → IsClosed g (log_after g log xs) ⊎ (n + tells_in g log ≤ tells_in g (log_after g log xs))
+  stretches_tell zero xs log legal end has = inr (let a = run_grows g log xs in omega arith)
+  stretches_tell (suc n) xs log legal end (front, stretch, rest, is, asks, more) =
+      let one : Log = log_after g log front in
+      let two : Log = log_after g one stretch in
+      let one_legal = run_legal g log front legal in
+      let two_legal = run_legal g one stretch one_legal in
+      let one_ends = ends_run front log legal end in
+      let two_ends = ends_run stretch one one_legal one_ends.end in
+      let same : log_after g log xs ≡ log_after g two rest = ap (log_after g log) is
+      ∙ log_after-append g log front (stretch ++ rest) ∙ log_after-append g one stretch rest in
+      let told = ap (tells_in g) same in
+      let a = run_grows g log front in let b = run_grows g one stretch in
+      ⊎_elim
+      (λ closed. inl (subst (IsClosed g) (sym same) closed))
+      (λ tells. dite (ℕ_discrete (tells_in g two) (tells_in g one))
+      (λ idle. inl (subst (IsClosed g) (sym same) (still_run g game some_ring two two_legal
+      (asked_closes g game some_ring one one_legal stretch asks idle two_ends.end) rest).0))
+      (λ worked. inr (omega arith)))
+      (stretches_tell n rest two two_legal two_ends.end more)
+
+  schedules_close : (log : Log) → IsLegalLog g log → HasEnd g log → (fired : ℕ → ℕ) → AreFiringBounds g log fired → (n : ℕ)
+      → steps_at_most g.game (length (fed_so_far g log)) fired + graph_edges g < n → (xs : List Event) → HasStretches g n xs
+      → IsClosed g (log_after g log xs)
+  schedules_close log legal end fired all n more xs has = ⊎_elim (λ closed. closed)
+      (λ tells.
+      let after_legal = run_legal g log xs legal in
+      let a = few_after log (log_after g log xs) (ends_run xs log legal end) after_legal fired all in
+      let b = few_refusals_at g game some_ring (log_after g log xs) after_legal in
+      absurd (omega arith))
+      (stretches_tell n xs log legal end has)
+
+  -- ---- rounds of whole turns
+
+  longer_closed : (xs log : Log) → IsLegalLog g (xs ++ log) → IsClosed g log → IsClosed g (xs ++ log)
+  longer_closed [] log legal closed = closed
+  longer_closed (x ∷ xs) log legal closed =
+      still_closed g game some_ring (xs ++ log) legal.0 (longer_closed xs log legal.0 closed) x legal
+
+  rounds_tell : (n : ℕ) (xs before : Log) → IsLegalLog g (xs ++ before) → HasEnd g before → RootHasPut g before
+      → HasRounds g n before xs → IsClosed g (xs ++ before) ⊎ (n + work_in g before ≤ work_in g (xs ++ before))
+  rounds_tell zero xs before legal end put has = inr (let a = work_grows g xs before in omega arith)
+  rounds_tell (suc n) xs before legal end put (front, round, rest, is, has, more) =
+      let one : Log = front ++ before in
+      let two : Log = round ++ one in
+      let same : xs ++ before ≡ rest ++ two = ap (λ (l : Log). l ++ before) is ∙ append_assoc rest (round ++ front) before
+      ∙ ap (λ (l : Log). rest ++ l) (append_assoc round front before) in
+      let all_legal : IsLegalLog g (rest ++ two) = subst (IsLegalLog g) same legal in
+      let two_legal = legal_before rest two all_legal in
+      let one_legal = legal_before round one two_legal in
+      let one_ends = ends_longer front before one_legal end in
+      let two_ends = ends_longer round one two_legal one_ends.end in
+      let two_put = two_ends.put (one_ends.put put) in
+      let worked = ap (work_in g) same in
+      let a = work_grows g front before in let b = work_grows g round one in
+      ⊎_elim
+      (λ closed. inl (subst (IsClosed g) (sym same) closed))
+      (λ tells. dite (ℕ_discrete (work_in g two) (work_in g one))
+      (λ idle. inl (subst (IsClosed g) (sym same) (longer_closed rest two all_legal
+      (round_closes g game some_ring one round has two_legal idle two_put two_ends.end))))
+      (λ some. inr (omega arith)))
+      (rounds_tell n rest two all_legal two_ends.end two_put more)
+
+  rounds_close : (before : Log) → HasEnd g before → RootHasPut g before → (fired : ℕ → ℕ)
+      → AreFiringBounds g before fired → (n : ℕ) → steps_at_most g.game (length (fed_so_far g before)) fired < n → (xs : Log)
+      → IsLegalLog g (xs ++ before) → HasRounds g n before xs → IsClosed g (xs ++ before)
+  rounds_close before end put fired all n more xs legal has = ⊎_elim (λ closed. closed)
+      (λ tells. let a = few_after before (xs ++ before) (ends_longer xs before legal end) legal fired all in
+      absurd (omega arith))
+      (rounds_tell n xs before legal end put has)
+
+pub fair_schedules_close : FairSchedulesClose
+fair_schedules_close g game some_ring log legal end fired all n more xs has =
+    schedules_close g game some_ring log legal end fired all n more xs has
+
+pub fair_rounds_close : FairRoundsClose
+fair_rounds_close g game some_ring before legal end put fired all n more xs all_legal has =
+    rounds_close g game some_ring before end put fired all n more xs all_legal has

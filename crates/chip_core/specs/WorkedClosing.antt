@@ -1,0 +1,43 @@
+-- Worked bounds, and a schedule that asks in the wrong order, as the definitions compute them.
+use Rattle.std.specs.Prelude.{◌≡◌, ◌^◌, List, [], ◌∷◌, ◌++◌, slice_index}
+use Rattle.chip_part.specs.Setting.{Setting, setting_of}
+use Rattle.chip_part.specs.Worked.{small_triangle}
+use Rattle.chip_sequence.specs.Sequence.{counts}
+use Rattle.chip_core.specs.Core.{Event, Take, Ack, Fire, Put, Halt, Settle, log_after, IsClosed}
+use Rattle.chip_core.specs.Work.{work_in, refusals_in, steps_at_most, fires_at_most}
+use Rattle.chip_core.specs.Worked.{whole_schedule, sealed_half_way}
+use Rattle.chip_core.specs.Closing.{AsksForEverything}
+
+-- the triangle with four chips on vertex 0, which is played by 0, 0, 1: three firings; six messages on its edges, each
+-- with five steps; one first message, with three; and three halts at most. The distances from the sink are 1, 1 and 0,
+-- so that no vertex but the sink may fire more than four times: eight firings and sixteen messages. The schedule that
+-- closes it made 25 of these steps
+abbrev pub TriangleBounds : Type 0
+TriangleBounds =
+    let g : Setting = small_triangle (4 ∷ 0 ∷ 0 ∷ []) in
+    (steps_at_most g.game 0 (counts (0 ∷ 0 ∷ 1 ∷ [])) ≡ 39)
+    × (steps_at_most g.game 0 (fires_at_most g.game [] (slice_index (1 ∷ 1 ∷ 0 ∷ []))) ≡ 94)
+    × (work_in g (log_after g [] whole_schedule) ≡ 25)
+
+-- a run in which a claim was refused: nine steps, of which five count
+abbrev pub OneRefused : Type 0
+OneRefused =
+    let g : Setting = small_triangle (4 ∷ 0 ∷ 0 ∷ []) in
+    (work_in g (log_after g [] sealed_half_way) ≡ 5) × (refusals_in g (log_after g [] sealed_half_way) ≡ 1)
+
+-- the sink alone, with five chips: its root edge has the number 0
+abbrev pub sink_alone : Setting
+sink_alone =
+    setting_of (record { graph = record { vertices = 1; sink = 0; edges = [] }; start = 5 ∷ []; limit = 2 ^ 40 }) 1
+
+-- it is asked for everything, each time for the last thing first: the settle finds nothing acknowledged, the
+-- acknowledgement nothing owed, and only the take finds something
+abbrev pub backwards : List Event
+backwards = Settle 0 ∷ Ack 0 ∷ Take 0 ∷ Put 0 ∷ Fire 0 1 ∷ Halt 0 ∷ []
+
+-- so the first two of such stretches leave the root open, and the third closes it
+abbrev pub ThreeStretches : Type 0
+ThreeStretches =
+    AsksForEverything sink_alone backwards
+    × (IsClosed sink_alone (log_after sink_alone [] (backwards ++ backwards)) → ⊥)
+    × IsClosed sink_alone (log_after sink_alone [] (backwards ++ (backwards ++ backwards)))

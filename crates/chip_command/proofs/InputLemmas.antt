@@ -11,9 +11,11 @@ use Rattle.chip_graph.specs.Multigraph.{IsGraph}
 use Rattle.chip_graph.specs.ChipGame.{ChipGame, IsGame}
 use Rattle.chip_graph.specs.Faults.{first_of_faults, fault_unless, fault_of_game}
 use Rattle.chip_graph.specs.declared.fault.GameFault.TheVariants as game_fault
+use Rattle.chip_file.specs.Answer.{Answers, ReadsText}
 use Rattle.chip_file.specs.GraphText.{MeansGraph}
+use Rattle.chip_file.specs.declared.fault.FileFault.{FileFault}
 use Rattle.chip_file.specs.ChipsText.{chips_of_text}
-use Rattle.chip_command.specs.Inputs.{Reads, NamesGame, MeansGame, RefusesInputs, GivesGame}
+use Rattle.chip_command.specs.Inputs.{Reads, NamesGame, MeansGame, GaveNoGame, GivesGame}
 use Rattle.chip_command.specs.declared.fault.Fault.{Fault}
 
 -- what is known where the bytes are known
@@ -21,12 +23,18 @@ pub at_some : {A : Type 0} (P : A → Type 0) (o : Option A) (x : A) → o ≡ S
 at_some P None x is known = cc
 at_some P (Some y) x is known = let same : y ≡ x = cc in subst P same known
 
--- inputs that are refused make no game
-pub refused_game : (limits : SizeLimits) (graph_text chips_text : List ℕ) (limit : ℕ) (result : Result ChipGame Fault) (P : Fault → Type 0)
-    → IsErrAnd result P → ((fault : Fault) → P fault → RefusesInputs limits graph_text chips_text limit fault)
-    → GivesGame limits graph_text chips_text limit result
-refused_game limits graph_text chips_text limit (Ok g) P is why = absurd is
-refused_game limits graph_text chips_text limit (Err fault) P is why = why fault is
+-- what reading answers where the text is known
+pub known : {T : Type 0} {limits : SizeLimits} {M : List ℕ → T → Type 0} {F : List ℕ → FileFault → Type 0}
+    {old new : Option (List ℕ)} {result : Result T FileFault} → ReadsText limits M F old new result
+    → (text : List ℕ) → old ≡ Some text → Answers limits text (M text) (F text) result
+known reads text is = at_some _ _ text is reads.means
+
+-- inputs that are refused give no game
+pub refused_game : (limits : SizeLimits) (graph chips : Option (List ℕ)) (limit : ℕ) (result : Result ChipGame Fault) (P : Fault → Type 0)
+    → IsErrAnd result P → ((fault : Fault) → P fault → GaveNoGame limits graph chips limit fault)
+    → GivesGame limits graph chips limit result
+refused_game limits graph chips limit (Ok g) P is why = absurd is
+refused_game limits graph chips limit (Err fault) P is why = why fault is
 
 -- a test that finds no fault is passed, and what comes after it finds none
 pub passed : {F : Type 0} (test : Bool) (fault : F) (later : Option F)

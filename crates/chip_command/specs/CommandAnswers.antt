@@ -1,10 +1,9 @@
 -- What a command answers, by what it may write and why it may refuse.
-use Rattle.std.specs.Prelude.{◌≡◌, ◌⊎◌, ℕ, ⊤, List, false, Option, Result, Ok, Err}
+use Rattle.std.specs.Prelude.{◌≡◌, ◌⊎◌, ℕ, List, false, Option, Result, Ok, Err}
 use Rattle.std.specs.Io.KnownBytes.{Appends, Keeps}
-use Rattle.chip_graph.specs.ChipGame.{ChipGame, IsGame}
 use Rattle.chip_report.specs.Written.{WritesAll}
 use Rattle.chip_report.specs.declared.write.WriteFault.{WriteFault}
-use Rattle.chip_command.specs.Reports.{Reports, Delivers}
+use Rattle.chip_command.specs.Reports.{Delivers}
 use Rattle.chip_command.specs.Statuses.{number_of_status}
 use Rattle.chip_command.specs.declared.answer.Answer.{Answer}
 use Rattle.chip_command.specs.declared.ended.Ended.{Ended}
@@ -36,11 +35,3 @@ CommandAnswers Writes Refuses old new (Err fault) =
     (Refuses fault × Keeps old new)
     ⊎ ((text : List ℕ) × (status : ℕ) × Writes text status
     × (w : WriteFault) × (fault ≡ Write w) × WritesAll old new text (Err w))
-
--- of readers of which nothing is known: what is written is the report of some game, with its status
-abbrev pub ReportsSome : List ℕ → ℕ → Type 0
-ReportsSome text status = (g : ChipGame) × IsGame g × Reports g text status
-
--- any reason will do
-abbrev pub AnyFault : Fault → Type 0
-AnyFault fault = ⊤

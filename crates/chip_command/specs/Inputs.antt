@@ -1,5 +1,6 @@
 -- The game that the files of a command mean, and why they mean none.
-use Rattle.std.specs.Prelude.{◌≡◌, ◌⊎◌, ℕ, ◌<◌, ◌≤◌, length, List, Some, Result, Ok, Err}
+use Rattle.std.specs.Prelude.{◌≡◌, ◌⊎◌, ℕ, ◌<◌, ◌≤◌, length, List, Option, Some, Result, Ok, Err}
+use Rattle.std.specs.Option.{ForSome}
 use Rattle.chip_graph.specs.Limits.{SizeLimits}
 use Rattle.chip_graph.specs.Multigraph.{Multigraph}
 use Rattle.chip_graph.specs.ChipGame.{ChipGame, IsGame}
@@ -48,7 +49,17 @@ RefusesInputs limits graph_text chips_text limit fault =
     ⊎ ((g : ChipGame) × NamesGame limits graph_text chips_text limit g
     × (f : GameFault) × (fault_of_game g ≡ Some f) × (fault ≡ Game f))
 
+-- two readers and a limit gave this game: where they tell their texts, it is the one that these mean
+pub record GaveGame (limits : SizeLimits) (graph chips : Option (List ℕ)) (limit : ℕ) (g : ChipGame) : Type 0 where
+  pub game : IsGame g
+  pub means : ForSome graph (λ graph_text. ForSome chips (λ chips_text. MeansGame limits graph_text chips_text limit g))
+
+-- they gave none: where they tell their texts, this is why
+abbrev pub GaveNoGame : SizeLimits → Option (List ℕ) → Option (List ℕ) → ℕ → Fault → Type 0
+GaveNoGame limits graph chips limit fault =
+    ForSome graph (λ graph_text. ForSome chips (λ chips_text. RefusesInputs limits graph_text chips_text limit fault))
+
 -- what reading the inputs answers
-abbrev pub GivesGame : SizeLimits → List ℕ → List ℕ → ℕ → Result ChipGame Fault → Type 0
-GivesGame limits graph_text chips_text limit (Ok g) = MeansGame limits graph_text chips_text limit g
-GivesGame limits graph_text chips_text limit (Err fault) = RefusesInputs limits graph_text chips_text limit fault
+abbrev pub GivesGame : SizeLimits → Option (List ℕ) → Option (List ℕ) → ℕ → Result ChipGame Fault → Type 0
+GivesGame limits graph chips limit (Ok g) = GaveGame limits graph chips limit g
+GivesGame limits graph chips limit (Err fault) = GaveNoGame limits graph chips limit fault

@@ -13,5 +13,6 @@ OneReport = (g : ChipGame) (one other : List ℕ) (s t : ℕ) → Reports g one 
 -- `plain` wrote this report of the game that the texts mean, by whatever limits of its size, and answered this status
 abbrev pub PlainWrote : (graph_text chips_text : List ℕ) → ℕ → List ℕ → ℕ → Type 0
 PlainWrote graph_text chips_text limit report status =
-    (limits : SizeLimits) × (ended : Ended) × PlainAnswers limits graph_text chips_text limit (Some []) (Some report) (Ok ended)
+    (limits : SizeLimits) × (ended : Ended) × PlainAnswers limits (Some graph_text) (Some chips_text) limit
+    (Some []) (Some report) (Ok ended)
     × (status ≡ ended.status)

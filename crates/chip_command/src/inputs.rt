@@ -1,8 +1,5 @@
 //! The game that the files of a command mean.
 
-ghost use Rattle.std.specs.Prelude.{IfOk};
-ghost use Rattle.std.specs.Option.{ForSome};
-ghost use Rattle.chip_graph.specs.ChipGame.{IsGame};
 ghost use Rattle.chip_command.specs.Inputs.{GivesGame};
 
 use crate::fault::Fault;
@@ -19,10 +16,7 @@ pub fn read_game<G: Read, C: Read>(
     chips: &mut C,
     limit: u64,
 ) -> Result<Game, Fault>
-    ensures known { ForSome (G.remaining graph.old)
-        (λ graph_text. ForSome (C.remaining chips.old)
-        (λ chips_text. GivesGame limits graph_text chips_text limit result)) }
-    ensures game { IfOk result (λ game. IsGame game) }
+    ensures { GivesGame limits (G.remaining graph.old) (C.remaining chips.old) limit result }
 {
     let graph = read_graph_within(alloc, limits, graph)?;
     let start = read_chips_within(alloc, limits, chips, graph.vertices())?;

@@ -1,7 +1,7 @@
 -- Serves Sittings.antt.
 -- Plays that go on, from text to text.
 use Rattle.std.proofs.Common.{◌≡◌, ℕ, ◌+◌, List, [], ◌∷◌, codes, slice_index, true}
-use Rattle.std.proofs.Common.{sym, ap, ◌∙◌, subst, inl, inr}
+use Rattle.std.proofs.Common.{refl, sym, ap, ◌∙◌, subst, inl, inr}
 use Rattle.std.specs.Prelude.{◌&&◌}
 use Rattle.std.proofs.lemmas.List.{append_cancel_left}
 use Rattle.chip_graph.specs.Limits.{SizeLimits}
@@ -39,13 +39,14 @@ same_start limits graph_text chips_text limit g h one other =
     let a = one.named.start.1 in let b = other.named.start.1 in cc
 
 pub plain_tells_play : PlainTellsPlay
-plain_tells_play limits graph_text chips_text limit report ended (text, (h, means', reports), wrote, cut) g means =
+plain_tells_play limits graph_text chips_text limit report ended (text, (h, gave, reports), wrote, cut) g means =
+    let means' = gave.means graph_text refl chips_text refl in
     subst (λ (start : List ℕ). TellsPlayFrom g.graph (slice_index start) report)
     (same_start limits graph_text chips_text limit h g means' means)
     (subst (λ (G : Multigraph). TellsPlayFrom G (slice_index h.start) report)
     (same_graph limits limits graph_text h.graph g.graph means'.named.graph.1 means.named.graph.1)
     (subst (TellsPlayFrom h.graph (slice_index h.start)) (sym wrote)
-    (report_tells h means'.game text ended.status reports)))
+    (report_tells h gave.game text ended.status reports)))
 
 pub simulate_tells_play : SimulateTellsPlay
 simulate_tells_play g log end report status ends is =
@@ -80,10 +81,10 @@ goes_on : (limits : SizeLimits) (graph_text : List ℕ) (G : Multigraph)
     → (report : List ℕ) → IsResumedTo graph_text before report
     → (r : Resumed) → IsAnyReportOf report r → LeadsToTheEnd G x r
 goes_on limits graph_text G reads x before tells report (others, limit, ended, (text, (H, earlier, means, on), wrote, cut)) r is =
-    let graphs : H ≡ G = same_graph others limits graph_text H G means.graph.1 reads.1 in
+    let graphs : H ≡ G = same_graph others limits graph_text H G (means.means graph_text refl).1 reads.1 in
     let same = read_again report on.resumed on.goes_on.in_range (wrote ∙ on.reported) r is in
     let from : IsPlayFrom H x earlier = subst (λ (K : Multigraph). IsPlayFrom K x earlier) (sym graphs)
-    (tells earlier means.report.1.0) in
+    (tells earlier (means.tells before refl).1.0) in
     let leads : IsPlayFrom H x r = subst (LeadsInAll H x) same (on.adds_up x from).leads in
     let none : LeavesNoneLegal H r.outcome =
     subst (LeavesNone H) same (none_legal _ on.resumed.outcome on.goes_on.played) in

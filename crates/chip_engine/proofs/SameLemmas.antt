@@ -57,7 +57,7 @@ same : (g : Setting) (log : Log) (end : List ℕ) (status : ℕ) (ends : EndsClo
 same g log end status ends none limits graph_text chips_text means report t
     (others, ended, (text, (h, h_means, reports), out, cut), t_is) =
     let given : ChipGame = played_game g log in
-    let is : h ≡ given = one_game others limits graph_text chips_text given.limit h given h_means means in
+    let is : h ≡ given = one_game others limits graph_text chips_text given.limit h given (h_means.means graph_text refl chips_text refl) means in
     let alike = one_report given (report_text ends.outcome) text status ended.status
     (ends.plays (unsealed g log end status ends none))
     (subst (λ (k : ChipGame). Reports k text ended.status) is reports) in
@@ -85,5 +85,5 @@ ends_so graph_text chips_text options game means log Closed out lines end status
 
 pub simulated_bytes : SimulatedBytes
 simulated_bytes graph_text chips_text schedule_text options out ended (text, (game, events, means, simulates), wrote, cut) =
-    ends_so graph_text chips_text options game means.game simulates.after simulates.drive out _ simulates.end ended.status
+    ends_so graph_text chips_text options game (means.game.means graph_text refl chips_text refl) simulates.after simulates.drive out _ simulates.end ended.status
     (wrote ∙ simulates.lines) simulates.ends

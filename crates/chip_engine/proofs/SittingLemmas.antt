@@ -1,8 +1,9 @@
 -- Serves ResumeCommand.antt.
 -- Plays that go on, from the report of one sitting to the report of the next.
-use Rattle.std.proofs.Common.{◌≡◌, ◌⊎◌, ℕ, ◌≤◌, true, false, List, [], ◌∷◌, Contains, length, slice_index}
+use Rattle.std.proofs.Common.{◌≡◌, ◌⊎◌, ℕ, ◌≤◌, true, List, [], ◌∷◌, Contains, length, slice_index}
 use Rattle.std.proofs.Common.{Option, Result, Ok, Err, refl, sym, ap, ◌∙◌, subst, arith, inl, inr}
 use Rattle.std.specs.Prelude.{All}
+use Rattle.std.specs.Option.{ForSome}
 use Rattle.std.specs.Result.{IsErrAnd}
 use Rattle.std.proofs.lemmas.Bool.{and_parts}
 use Rattle.std.proofs.lemmas.List.{length-replicate}
@@ -23,12 +24,11 @@ use Rattle.chip_report.specs.declared.fault.ReportFault.{ReportFault}
 use Rattle.chip_report.specs.declared.fault.ReportFault.TheVariants as report_fault
 use Rattle.chip_file.specs.declared.fault.FileFault.TheVariants as file_fault
 use Rattle.chip_command.specs.Faults.{fault_of_report}
-use Rattle.chip_engine.specs.ResumeCommand.{MeansSitting, LeadsToTheEnd, ReportsOn, GivesSitting}
-use Rattle.chip_engine.specs.ResumeCommand.{RefusesReport, RefusesToGoOn, ResumeRefuses, ResumeWrites, ReportsSomeSitting}
-use Rattle.chip_command.specs.CommandAnswers.{Gives, OrMemory, AnyFault}
+use Rattle.chip_engine.specs.ResumeCommand.{GaveSitting, LeadsToTheEnd, ReportsOn, GivesSitting}
+use Rattle.chip_engine.specs.ResumeCommand.{RefusesReport, RefusesToGoOn, ResumeRefuses, ResumeWrites}
+use Rattle.chip_command.specs.CommandAnswers.{Gives, OrMemory}
 use Rattle.chip_command.specs.declared.answer.Answer.{Answer}
 use Rattle.chip_command.specs.declared.fault.Fault.{Fault}
-use Rattle.chip_command.specs.declared.fault.Fault.TheVariants.{NoMemory}
 
 -- a sitting that some report tells is in range
 pub resumed_of_report : (bytes : List ℕ) (r : Resumed) → IsAnyReportOf bytes r → IsResumed r
@@ -70,11 +70,12 @@ leads_on G good x r leads none =
       };
     }
 
--- a text that is refused tells no sitting
-pub refused_sitting : (limits : SizeLimits) (text : List ℕ) (result : Result Resumed Fault) (P : Fault → Type 0) → IsErrAnd result P
-    → ((fault : Fault) → P fault → RefusesReport limits text fault) → GivesSitting limits text result
-refused_sitting limits text (Ok r) P is why = absurd is
-refused_sitting limits text (Err fault) P is why = why fault is
+-- a reader that is refused gives no sitting
+pub refused_sitting : (limits : SizeLimits) (report : Option (List ℕ)) (result : Result Resumed Fault) (P : Fault → Type 0)
+    → IsErrAnd result P → ((fault : Fault) → P fault → ForSome report (λ text. RefusesReport limits text fault))
+    → GivesSitting limits report result
+refused_sitting limits report (Ok r) P is why = absurd is
+refused_sitting limits report (Err fault) P is why = why fault is
 
 -- bytes that are no report, or want of memory
 pub refused_report : (limits : SizeLimits) (text : List ℕ) (f : ReportFault) → length text ≤ limits.bytes
@@ -85,18 +86,11 @@ refused_report limits text f short (inl none) fault is =
 refused_report limits text f short (inr nothing) fault is =
     inr ((short, nothing.1), is ∙ ap fault_of_report nothing.0)
 
--- a sitting that goes on from the one that the texts mean, or why it does not
-pub gives_sitting : (limits : SizeLimits) (graph_text report_text : List ℕ) (limit : ℕ) (G : Multigraph) (earlier : Resumed)
-    → MeansSitting limits graph_text report_text G earlier → (result : Result Answer Fault)
+-- a sitting that goes on from the one that was given, or why it does not
+pub gives_sitting : (limits : SizeLimits) (graph report : Option (List ℕ)) (limit : ℕ) (G : Multigraph) (earlier : Resumed)
+    → GaveSitting limits graph report G earlier → (result : Result Answer Fault)
     → Gives (ReportsOn G earlier limit) (OrMemory (RefusesToGoOn G earlier limit)) result
-    → Gives (ResumeWrites limits graph_text report_text limit) (ResumeRefuses limits graph_text report_text limit) result
-gives_sitting limits graph_text report_text limit G earlier means (Ok answer) on = (G, earlier, means, on)
-gives_sitting limits graph_text report_text limit G earlier means (Err fault) (inl why) = inl (inr (inr (G, earlier, means, why)))
-gives_sitting limits graph_text report_text limit G earlier means (Err fault) (inr none) = inr none
-
--- and one that goes on from whatever sitting
-pub gives_some : (G : Multigraph) (earlier : Resumed) (limit : ℕ) → IsResumed earlier → (result : Result Answer Fault)
-    → Gives (ReportsOn G earlier limit) (OrMemory (RefusesToGoOn G earlier limit)) result
-    → Gives ReportsSomeSitting AnyFault result
-gives_some G earlier limit fits (Ok answer) on = (G, earlier, fits, limit, on)
-gives_some G earlier limit fits (Err fault) why = tt
+    → Gives (ResumeWrites limits graph report limit) (ResumeRefuses limits graph report limit) result
+gives_sitting limits graph report limit G earlier gave (Ok answer) on = (G, earlier, gave, on)
+gives_sitting limits graph report limit G earlier gave (Err fault) (inl why) = inl (inr (inr (G, earlier, gave, why)))
+gives_sitting limits graph report limit G earlier gave (Err fault) (inr none) = inr none

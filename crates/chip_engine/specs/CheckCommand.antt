@@ -1,5 +1,6 @@
 -- From the bytes of a graph file to the lines that show the graph.
 use Rattle.std.specs.Prelude.{◌≡◌, ℕ, zero, suc, ◌<◌, List, [], ◌++◌, length, slice_index, codes, Option, Result}
+use Rattle.std.specs.Option.{ForSome}
 use Rattle.std.specs.Fmt.{decimal}
 use Rattle.chip_graph.specs.Limits.{SizeLimits}
 use Rattle.chip_graph.specs.Multigraph.{Multigraph, IsGraph, IsDistance, degree}
@@ -33,20 +34,17 @@ IsShown G text =
     (distances : List ℕ) × ((v : ℕ) → v < G.vertices → IsDistance G v (slice_index distances v))
     × (text ≡ head_text G ++ vertices_text G distances G.vertices)
 
--- what `check` writes: the lines of the graph, with status 0
-abbrev pub CheckWrites : SizeLimits → List ℕ → List ℕ → ℕ → Type 0
-CheckWrites limits text lines status =
-    (G : Multigraph) × Reads limits text (MeansGraph limits text G) × IsShown G lines × (status ≡ 0)
+-- what `check` writes: the lines of the graph of its reader, which may tell its text, with status 0
+abbrev pub CheckWrites : SizeLimits → Option (List ℕ) → List ℕ → ℕ → Type 0
+CheckWrites limits graph lines status = (G : Multigraph) × IsGraph G
+    × ForSome graph (λ text. Reads limits text (MeansGraph limits text G)) × IsShown G lines × (status ≡ 0)
 
 -- why it writes nothing: the file is refused, or there is no memory
-abbrev pub CheckRefuses : SizeLimits → List ℕ → Fault → Type 0
-CheckRefuses limits text = OrMemory (RefusesText limits text (IsGraphTextFault limits text))
+abbrev pub CheckRefuses : SizeLimits → Option (List ℕ) → Fault → Type 0
+CheckRefuses limits graph =
+    OrMemory (λ fault. ForSome graph (λ text. RefusesText limits text (IsGraphTextFault limits text) fault))
 
 -- what `check` answers by these limits
-abbrev pub CheckAnswers : SizeLimits → List ℕ → Option (List ℕ) → Option (List ℕ) → Result Ended Fault → Type 0
-CheckAnswers limits text old new result =
-    CommandAnswers (CheckWrites limits text) (CheckRefuses limits text) old new result
-
--- what it writes of a reader of which nothing is known: the lines of some graph
-abbrev pub ShowsSome : List ℕ → ℕ → Type 0
-ShowsSome lines status = (G : Multigraph) × IsGraph G × IsShown G lines × (status ≡ 0)
+abbrev pub CheckAnswers : SizeLimits → Option (List ℕ) → Option (List ℕ) → Option (List ℕ) → Result Ended Fault → Type 0
+CheckAnswers limits graph old new result =
+    CommandAnswers (CheckWrites limits graph) (CheckRefuses limits graph) old new result

@@ -1,7 +1,6 @@
 pub mod Lines
 pub mod Board
 pub mod CheckCommand
-pub mod PlainEngine
 pub mod ExplainCommand
 pub mod ReplayCommand
 pub mod SimulateCommand

@@ -1,5 +1,6 @@
 -- From the bytes of a graph file and a report to those of the report of the sitting that goes on.
 use Rattle.std.specs.Prelude.{◌≡◌, ◌⊎◌, ℕ, ◌+◌, List, true, slice_index, Option, Result, Ok, Err}
+use Rattle.std.specs.Option.{ForSome}
 use Rattle.chip_graph.specs.Limits.{SizeLimits}
 use Rattle.chip_graph.specs.Multigraph.{Multigraph}
 use Rattle.chip_file.specs.GraphText.{MeansGraph, IsGraphTextFault}
@@ -18,10 +19,12 @@ use Rattle.chip_command.specs.declared.ended.Ended.{Ended}
 use Rattle.chip_command.specs.declared.fault.Fault.{Fault}
 use Rattle.chip_command.specs.declared.fault.Fault.TheVariants.{NotReport}
 
--- two texts mean this graph, and this sitting to go on from: the first of a play, or one that went on itself
-pub record MeansSitting (limits : SizeLimits) (graph_text report_text : List ℕ) (G : Multigraph) (earlier : Resumed) : Type 0 where
-  pub graph : Reads limits graph_text (MeansGraph limits graph_text G)
-  pub report : Reads limits report_text (IsAnyReportWithin limits report_text earlier)
+-- two readers gave this graph, and this sitting to go on from: the first of a play, or one that went on itself. Where they
+-- tell their texts, these mean it
+pub record GaveSitting (limits : SizeLimits) (graph report : Option (List ℕ)) (G : Multigraph) (earlier : Resumed) : Type 0 where
+  pub means : ForSome graph (λ text. Reads limits text (MeansGraph limits text G))
+  pub tells : ForSome report (λ text. Reads limits text (IsAnyReportWithin limits text earlier))
+  pub in_range : IsResumed earlier
 
 -- what was fired in all, and the chips that lie there, are those of every sequence from the start x that ends
 pub record EndsThePlay (G : Multigraph) (x : ℕ → ℕ) (r : Resumed) : Type 0 where
@@ -55,39 +58,31 @@ RefusesReport limits text fault =
     RefusesText limits text (λ f. ⊥) fault ⊎ (Reads limits text (IsNoReportAtAllWithin limits text) × (fault ≡ NotReport))
 
 -- what reading a report answers
-abbrev pub GivesSitting : SizeLimits → List ℕ → Result Resumed Fault → Type 0
-GivesSitting limits text (Ok earlier) = Reads limits text (IsAnyReportWithin limits text earlier)
-GivesSitting limits text (Err fault) = RefusesReport limits text fault
+abbrev pub GivesSitting : SizeLimits → Option (List ℕ) → Result Resumed Fault → Type 0
+GivesSitting limits report (Ok earlier) =
+    ForSome report (λ text. Reads limits text (IsAnyReportWithin limits text earlier)) × IsResumed earlier
+GivesSitting limits report (Err fault) = ForSome report (λ text. RefusesReport limits text fault)
 
 -- this is the first reason why a sitting does not go on
 abbrev pub RefusesToGoOn : Multigraph → Resumed → ℕ → Fault → Type 0
 RefusesToGoOn G earlier limit fault =
     (f : ResumeFault) × (fault ≡ fault_of_resume f) × IsResumeFault G earlier limit f
 
--- why nothing is resumed: the first fault of the graph, of the report, or of going on
-abbrev pub RefusesSitting : SizeLimits → List ℕ → List ℕ → ℕ → Fault → Type 0
-RefusesSitting limits graph_text report_text limit fault =
-    RefusesText limits graph_text (IsGraphTextFault limits graph_text) fault
-    ⊎ ((G : Multigraph) × Reads limits graph_text (MeansGraph limits graph_text G) × RefusesReport limits report_text fault)
-    ⊎ ((G : Multigraph) × (earlier : Resumed) × MeansSitting limits graph_text report_text G earlier
-    × RefusesToGoOn G earlier limit fault)
+-- why nothing is resumed: the first fault of the graph, of the report, or of going on; or there is no memory
+abbrev pub ResumeRefuses : SizeLimits → Option (List ℕ) → Option (List ℕ) → ℕ → Fault → Type 0
+ResumeRefuses limits graph report limit = OrMemory (λ fault.
+    ForSome graph (λ text. RefusesText limits text (IsGraphTextFault limits text) fault)
+    ⊎ ((G : Multigraph) × ForSome graph (λ text. Reads limits text (MeansGraph limits text G))
+    × ForSome report (λ text. RefusesReport limits text fault))
+    ⊎ ((G : Multigraph) × (earlier : Resumed) × GaveSitting limits graph report G earlier × RefusesToGoOn G earlier limit fault))
 
--- what `resume` writes: the report of the sitting that goes on from the one that the texts mean, and its status
-abbrev pub ResumeWrites : SizeLimits → List ℕ → List ℕ → ℕ → List ℕ → ℕ → Type 0
-ResumeWrites limits graph_text report_text limit text status = (G : Multigraph) × (earlier : Resumed)
-    × MeansSitting limits graph_text report_text G earlier × ReportsOn G earlier limit text status
-
--- why it writes nothing: the inputs are refused, or there is no memory
-abbrev pub ResumeRefuses : SizeLimits → List ℕ → List ℕ → ℕ → Fault → Type 0
-ResumeRefuses limits graph_text report_text limit = OrMemory (RefusesSitting limits graph_text report_text limit)
+-- what `resume` writes: the report of the sitting that goes on from the one of its inputs, and its status
+abbrev pub ResumeWrites : SizeLimits → Option (List ℕ) → Option (List ℕ) → ℕ → List ℕ → ℕ → Type 0
+ResumeWrites limits graph report limit text status = (G : Multigraph) × (earlier : Resumed)
+    × GaveSitting limits graph report G earlier × ReportsOn G earlier limit text status
 
 -- what `resume` answers by these limits
-abbrev pub ResumeAnswers : SizeLimits → List ℕ → List ℕ → ℕ → Option (List ℕ) → Option (List ℕ) → Result Ended Fault → Type 0
-ResumeAnswers limits graph_text report_text limit old new result =
-    CommandAnswers (ResumeWrites limits graph_text report_text limit) (ResumeRefuses limits graph_text report_text limit)
-    old new result
-
--- what it writes of readers of which nothing is known: the report of a sitting that goes on from some other one
-abbrev pub ReportsSomeSitting : List ℕ → ℕ → Type 0
-ReportsSomeSitting text status = (G : Multigraph) × (earlier : Resumed) × IsResumed earlier × (limit : ℕ)
-    × ReportsOn G earlier limit text status
+abbrev pub ResumeAnswers : SizeLimits → Option (List ℕ) → Option (List ℕ) → ℕ → Option (List ℕ) → Option (List ℕ)
+    → Result Ended Fault → Type 0
+ResumeAnswers limits graph report limit old new result =
+    CommandAnswers (ResumeWrites limits graph report limit) (ResumeRefuses limits graph report limit) old new result

@@ -3,7 +3,7 @@
 use Rattle.std.specs.Prelude.{◌≡◌, ◌⊎◌, ℕ, List, [], ◌∷◌, ◌++◌, codes, Bool, if◌then◌else◌, Option, Some, Result}
 use Rattle.std.specs.Fmt.{decimal}
 use Rattle.std.specs.Option.{ForSome}
-use Rattle.chip_graph.specs.ChipGame.{ChipGame, IsGame}
+use Rattle.chip_graph.specs.ChipGame.{ChipGame}
 use Rattle.chip_link.specs.declared.event.Event.{Event}
 use Rattle.chip_link.specs.declared.message.Message.{Message}
 use Rattle.chip_part.specs.declared.reply.Reply.{Reply}
@@ -22,7 +22,7 @@ use Rattle.chip_sequence.specs.declared.outcome.Outcome.{Outcome}
 use Rattle.chip_sequence.specs.Outcomes.{IsOutcome}
 use Rattle.chip_report.specs.ReportText.{report_text}
 use Rattle.chip_command.specs.CommandAnswers.{CommandAnswers, OrMemory}
-use Rattle.chip_command.specs.Inputs.{Reads, MeansGame, RefusesInputs, RefusesText}
+use Rattle.chip_command.specs.Inputs.{Reads, GaveGame, GaveNoGame, RefusesText}
 use Rattle.chip_engine.specs.Board.{board_text}
 use Rattle.chip_engine.specs.declared.options.PlayOptions.{PlayOptions}
 use Rattle.chip_engine.specs.declared.simulate.SimulateOptions.{SimulateOptions}
@@ -89,45 +89,26 @@ abbrev pub SimulatesBy : SimulateOptions → ChipGame → List Event → List �
 SimulatesBy options g events text status =
     Simulates (setting_with g options.ring options.fed) options.rounds options.books events text status
 
--- three texts mean this game by the options, and these events for it
-pub record MeansEvents (graph_text chips_text schedule_text : List ℕ) (options : PlayOptions) (g : ChipGame)
+-- three readers gave this game by the options, and these events for it: where they tell their texts, these mean them
+pub record GaveEvents (graph chips schedule : Option (List ℕ)) (options : PlayOptions) (g : ChipGame)
     (events : List Event) : Type 0 where
-  pub game : MeansGame options.limits graph_text chips_text options.limit g
-  pub each : Reads options.limits schedule_text (schedule_of_text g.graph schedule_text ≡ Some events)
+  pub game : GaveGame options.limits graph chips options.limit g
+  pub each : ForSome schedule (λ text. Reads options.limits text (schedule_of_text g.graph text ≡ Some events))
 
--- why nothing is simulated: the inputs make no game, or the schedule has a fault
-abbrev pub RefusesEvents : List ℕ → List ℕ → List ℕ → PlayOptions → Fault → Type 0
-RefusesEvents graph_text chips_text schedule_text options fault =
-    RefusesInputs options.limits graph_text chips_text options.limit fault
-    ⊎ ((g : ChipGame) × MeansGame options.limits graph_text chips_text options.limit g
-    × RefusesText options.limits schedule_text (λ f. schedule_text_fault g.graph schedule_text ≡ Some f) fault)
+-- why nothing is simulated: the inputs make no game, or the schedule has a fault, or there is no memory
+abbrev pub SimulateRefuses : (graph chips schedule : Option (List ℕ)) → SimulateOptions → Fault → Type 0
+SimulateRefuses graph chips schedule options = let o = options.play in OrMemory (λ fault.
+    GaveNoGame o.limits graph chips o.limit fault
+    ⊎ ((g : ChipGame) × GaveGame o.limits graph chips o.limit g
+    × ForSome schedule (λ text. RefusesText o.limits text (λ f. schedule_text_fault g.graph text ≡ Some f) fault)))
 
 -- what `simulate` writes: the text of the simulation, and its status
-abbrev pub SimulateWrites : List ℕ → List ℕ → List ℕ → SimulateOptions → List ℕ → ℕ → Type 0
-SimulateWrites graph_text chips_text schedule_text options text status =
-    (g : ChipGame) × (events : List Event) × MeansEvents graph_text chips_text schedule_text options.play g events
-    × SimulatesBy options g events text status
-
--- why it writes nothing: the inputs are refused, or there is no memory
-abbrev pub SimulateRefuses : List ℕ → List ℕ → List ℕ → SimulateOptions → Fault → Type 0
-SimulateRefuses graph_text chips_text schedule_text options =
-    OrMemory (RefusesEvents graph_text chips_text schedule_text options.play)
+abbrev pub SimulateWrites : (graph chips schedule : Option (List ℕ)) → SimulateOptions → List ℕ → ℕ → Type 0
+SimulateWrites graph chips schedule options text status = (g : ChipGame) × (events : List Event)
+    × GaveEvents graph chips schedule options.play g events × SimulatesBy options g events text status
 
 -- what `simulate` answers
-abbrev pub SimulateAnswers : List ℕ → List ℕ → List ℕ → SimulateOptions → Option (List ℕ) → Option (List ℕ)
+abbrev pub SimulateAnswers : (graph chips schedule : Option (List ℕ)) → SimulateOptions → Option (List ℕ) → Option (List ℕ)
     → Result Ended Fault → Type 0
-SimulateAnswers graph_text chips_text schedule_text options old new result =
-    CommandAnswers (SimulateWrites graph_text chips_text schedule_text options)
-    (SimulateRefuses graph_text chips_text schedule_text options) old new result
-
--- the same where what the readers have left may be known
-abbrev pub SimulateReads : Option (List ℕ) → Option (List ℕ) → Option (List ℕ) → SimulateOptions → Option (List ℕ)
-    → Option (List ℕ) → Result Ended Fault → Type 0
-SimulateReads graph chips schedule options old new result = ForSome graph (λ graph_text. ForSome chips
-    (λ chips_text. ForSome schedule
-    (λ schedule_text. SimulateAnswers graph_text chips_text schedule_text options old new result)))
-
--- what it writes of readers of which nothing is known: the text of a simulation of some game
-abbrev pub SimulatesSome : List ℕ → ℕ → Type 0
-SimulatesSome text status =
-    (options : SimulateOptions) × (g : ChipGame) × IsGame g × (events : List Event) × SimulatesBy options g events text status
+SimulateAnswers graph chips schedule options old new result = CommandAnswers
+    (SimulateWrites graph chips schedule options) (SimulateRefuses graph chips schedule options) old new result

@@ -42,5 +42,5 @@ StayedOpen out status = (lines : List ℕ) × (out ≡ lines ++ codes "root open
 abbrev pub SimulatedBytes : Type 0
 SimulatedBytes =
     (graph_text chips_text schedule_text : List ℕ) (options : SimulateOptions) (out : List ℕ) (ended : Ended)
-    → SimulateAnswers graph_text chips_text schedule_text options (Some []) (Some out) (Ok ended)
+    → SimulateAnswers (Some graph_text) (Some chips_text) (Some schedule_text) options (Some []) (Some out) (Ok ended)
     → StayedOpen out ended.status ⊎ ClosedAs graph_text chips_text options out ended.status

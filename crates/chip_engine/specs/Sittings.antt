@@ -19,7 +19,8 @@ use Rattle.chip_command.specs.declared.ended.Ended.{Ended}
 -- `resume` wrote this report, by whatever limits, given the one before it
 abbrev pub IsResumedTo : (graph_text before report : List ℕ) → Type 0
 IsResumedTo graph_text before report =
-    (limits : SizeLimits) × (limit : ℕ) × (ended : Ended) × ResumeAnswers limits graph_text before limit (Some []) (Some report) (Ok ended)
+    (limits : SizeLimits) × (limit : ℕ) × (ended : Ended) × ResumeAnswers limits (Some graph_text) (Some before) limit
+    (Some []) (Some report) (Ok ended)
 
 -- `resume` wrote these reports, given `first` and then each time the one before; the last of all is `last`
 abbrev pub AreResumed : (graph_text first : List ℕ) → List (List ℕ) → (last : List ℕ) → Type 0
@@ -31,7 +32,7 @@ AreResumed graph_text first (report ∷ reports) last =
 abbrev pub PlainTellsPlay : Type 0
 PlainTellsPlay =
     (limits : SizeLimits) (graph_text chips_text : List ℕ) (limit : ℕ) (report : List ℕ) (ended : Ended)
-    → PlainAnswers limits graph_text chips_text limit (Some []) (Some report) (Ok ended)
+    → PlainAnswers limits (Some graph_text) (Some chips_text) limit (Some []) (Some report) (Ok ended)
     → (g : ChipGame) → MeansGame limits graph_text chips_text limit g → TellsPlayFrom g.graph (slice_index g.start) report
 
 -- and so does the report of a simulation that closed, from the chips that were given in it, whatever halted its vertices

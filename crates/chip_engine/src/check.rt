@@ -1,11 +1,10 @@
 //! `check`: a valid graph, shown in lines.
 
 ghost use Rattle.std.specs.Prelude.{◌≡◌, ◌++◌, ◌<◌, ℕ, IfOk, codes, string_bytes};
-ghost use Rattle.std.specs.Option.{ForSome};
 ghost use Rattle.chip_graph.specs.Limits.{standard};
 ghost use Rattle.chip_graph.specs.Multigraph.{IsDistance, IsGraph, degree};
-ghost use Rattle.chip_command.specs.CommandAnswers.{AnyFault, CommandAnswers, Gives};
-ghost use Rattle.chip_engine.specs.CheckCommand.{CheckAnswers, CheckRefuses, CheckWrites, ShowsSome};
+ghost use Rattle.chip_command.specs.CommandAnswers.{Gives};
+ghost use Rattle.chip_engine.specs.CheckCommand.{CheckAnswers, CheckRefuses, CheckWrites};
 ghost use Rattle.chip_engine.specs.CheckCommand.{IsShown, head_text, vertex_text};
 
 use chip_command::{Answer, Ended, Fault, deliver};
@@ -21,9 +20,7 @@ pub fn check_engine<G: Read, W: Write>(
     graph: &mut G,
     output: &mut W,
 ) -> Result<Ended, Fault>
-    ensures known { ForSome (G.remaining graph.old)
-        (λ text. CheckAnswers standard text (W.contents output.old) (W.contents output.new) result) }
-    ensures any { CommandAnswers ShowsSome AnyFault (W.contents output.old) (W.contents output.new) result }
+    ensures { CheckAnswers standard (G.remaining graph.old) (W.contents output.old) (W.contents output.new) result }
 {
     check_engine_with(alloc, graph, Limits::standard(), output)
 }
@@ -35,17 +32,14 @@ pub fn check_engine_with<G: Read, W: Write>(
     limits: Limits,
     output: &mut W,
 ) -> Result<Ended, Fault>
-    ensures known { ForSome (G.remaining graph.old)
-        (λ text. CheckAnswers limits text (W.contents output.old) (W.contents output.new) result) }
-    ensures any { CommandAnswers ShowsSome AnyFault (W.contents output.old) (W.contents output.new) result }
+    ensures { CheckAnswers limits (G.remaining graph.old) (W.contents output.old) (W.contents output.new) result }
 {
     deliver(output, answer(alloc, graph, limits))
 }
 
 /// What `check` has to say of the graph of a file.
 fn answer<G: Read>(alloc: Global, graph: &mut G, limits: Limits) -> Result<Answer, Fault>
-    ensures known { ForSome (G.remaining graph.old) (λ text. Gives (CheckWrites limits text) (CheckRefuses limits text) result) }
-    ensures any { Gives ShowsSome AnyFault result }
+    ensures { Gives (CheckWrites limits (G.remaining graph.old)) (CheckRefuses limits (G.remaining graph.old)) result }
 {
     let graph = read_graph_within(alloc, limits, graph)?;
     Ok(Answer::of_lines(show(alloc, &graph)?))

@@ -1,10 +1,8 @@
 //! `plain`: the report of a game played on one thread.
 
-ghost use Rattle.std.specs.Option.{ForSome};
 ghost use Rattle.chip_graph.specs.Limits.{standard};
-ghost use Rattle.chip_command.specs.CommandAnswers.{AnyFault, CommandAnswers, Gives, ReportsSome};
-ghost use Rattle.chip_command.specs.PlainCommand.{PlainRefuses, PlainWrites};
-ghost use Rattle.chip_engine.specs.PlainEngine.{PlainReads};
+ghost use Rattle.chip_command.specs.CommandAnswers.{Gives};
+ghost use Rattle.chip_command.specs.PlainCommand.{PlainAnswers, PlainRefuses, PlainWrites};
 
 use crate::options::PlayOptions;
 use chip_command::{Answer, Ended, Fault, deliver, read_game};
@@ -22,9 +20,8 @@ pub fn plain_engine<G: Read, C: Read, W: Write>(
     limit: u64,
     output: &mut W,
 ) -> Result<Ended, Fault>
-    ensures known { PlainReads standard (G.remaining graph.old) (C.remaining chips.old) limit
+    ensures { PlainAnswers standard (G.remaining graph.old) (C.remaining chips.old) limit
         (W.contents output.old) (W.contents output.new) result }
-    ensures any { CommandAnswers ReportsSome AnyFault (W.contents output.old) (W.contents output.new) result }
 {
     plain_engine_with(
         alloc,
@@ -46,9 +43,8 @@ pub fn plain_engine_with<G: Read, C: Read, P: Watch, W: Write>(
     watch: &mut P,
     output: &mut W,
 ) -> Result<Ended, Fault>
-    ensures known { PlainReads options.limits (G.remaining graph.old) (C.remaining chips.old) options.limit
+    ensures { PlainAnswers options.limits (G.remaining graph.old) (C.remaining chips.old) options.limit
         (W.contents output.old) (W.contents output.new) result }
-    ensures any { CommandAnswers ReportsSome AnyFault (W.contents output.old) (W.contents output.new) result }
 {
     deliver(output, answer(alloc, graph, chips, options, watch))
 }
@@ -61,10 +57,8 @@ fn answer<G: Read, C: Read, P: Watch>(
     options: PlayOptions,
     watch: &mut P,
 ) -> Result<Answer, Fault>
-    ensures known { ForSome (G.remaining graph.old) (λ graph_text. ForSome (C.remaining chips.old)
-        (λ chips_text. Gives (PlainWrites options.limits graph_text chips_text options.limit)
-        (PlainRefuses options.limits graph_text chips_text options.limit) result)) }
-    ensures any { Gives ReportsSome AnyFault result }
+    ensures { Gives (PlainWrites options.limits (G.remaining graph.old) (C.remaining chips.old) options.limit)
+        (PlainRefuses options.limits (G.remaining graph.old) (C.remaining chips.old) options.limit) result }
 {
     let game = read_game(alloc, options.limits, graph, chips, options.limit)?;
     watch.plays(&game);

@@ -1,12 +1,10 @@
 //! `replay`: the firings of a recorded run, in an order in which all rows fit together.
 
 ghost use Rattle.std.specs.Prelude.{◌≡◌, ◌++◌, IfOk, string_bytes};
-ghost use Rattle.std.specs.Option.{ForSome};
 ghost use Rattle.chip_graph.specs.Limits.{standard};
-ghost use Rattle.chip_command.specs.CommandAnswers.{AnyFault, CommandAnswers, Gives};
+ghost use Rattle.chip_command.specs.CommandAnswers.{Gives};
 ghost use Rattle.chip_engine.specs.Lines.{lines_text};
-ghost use Rattle.chip_engine.specs.ReplayCommand.{ReplayAnswers, ReplayRefuses, ReplayWrites, ReplaysSome, firing_text};
-ghost use Rattle.chip_engine.specs.ReplayCommand.{AreReplayedOf, GivesReplay};
+ghost use Rattle.chip_engine.specs.ReplayCommand.{GivesReplay, ReplayAnswers, ReplayRefuses, ReplayWrites, firing_text};
 
 use crate::options::PlayOptions;
 use chip_command::{Answer, Ended, Fault, deliver, read_game};
@@ -26,12 +24,8 @@ pub fn replay_engine<G: Read, C: Read, T: Read, W: Write>(
     limit: u64,
     output: &mut W,
 ) -> Result<Ended, Fault>
-    ensures known { ForSome (G.remaining graph.old)
-        (λ graph_text. ForSome (C.remaining chips.old)
-        (λ chips_text. ForSome (T.remaining trace.old)
-        (λ trace_text. ReplayAnswers standard graph_text chips_text trace_text limit
-        (W.contents output.old) (W.contents output.new) result))) }
-    ensures any { CommandAnswers ReplaysSome AnyFault (W.contents output.old) (W.contents output.new) result }
+    ensures { ReplayAnswers standard (G.remaining graph.old) (C.remaining chips.old) (T.remaining trace.old) limit
+        (W.contents output.old) (W.contents output.new) result }
 {
     replay_engine_with(
         alloc,
@@ -52,12 +46,8 @@ pub fn replay_engine_with<G: Read, C: Read, T: Read, W: Write>(
     options: PlayOptions,
     output: &mut W,
 ) -> Result<Ended, Fault>
-    ensures known { ForSome (G.remaining graph.old)
-        (λ graph_text. ForSome (C.remaining chips.old)
-        (λ chips_text. ForSome (T.remaining trace.old)
-        (λ trace_text. ReplayAnswers options.limits graph_text chips_text trace_text options.limit
-        (W.contents output.old) (W.contents output.new) result))) }
-    ensures any { CommandAnswers ReplaysSome AnyFault (W.contents output.old) (W.contents output.new) result }
+    ensures { ReplayAnswers options.limits (G.remaining graph.old) (C.remaining chips.old) (T.remaining trace.old)
+        options.limit (W.contents output.old) (W.contents output.new) result }
 {
     deliver(output, answer(alloc, graph, chips, trace, options))
 }
@@ -70,12 +60,9 @@ fn answer<G: Read, C: Read, T: Read>(
     trace: &mut T,
     options: PlayOptions,
 ) -> Result<Answer, Fault>
-    ensures known { ForSome (G.remaining graph.old)
-        (λ graph_text. ForSome (C.remaining chips.old)
-        (λ chips_text. ForSome (T.remaining trace.old)
-        (λ trace_text. Gives (ReplayWrites options.limits graph_text chips_text trace_text options.limit)
-        (ReplayRefuses options.limits graph_text chips_text trace_text options.limit) result))) }
-    ensures any { Gives ReplaysSome AnyFault result }
+    ensures { let graph = G.remaining graph.old in let chips = C.remaining chips.old in let trace = T.remaining trace.old in
+        Gives (ReplayWrites options.limits graph chips trace options.limit)
+        (ReplayRefuses options.limits graph chips trace options.limit) result }
 {
     let game = read_game(alloc, options.limits, graph, chips, options.limit)?;
     let lines = replay_traces(alloc, options.limits, &game, trace)?;
@@ -89,8 +76,7 @@ fn replay_traces<T: Read>(
     game: &Game,
     trace: &mut T,
 ) -> Result<String, Fault>
-    ensures known { ForSome (T.remaining trace.old) (λ trace_text. GivesReplay limits game.now trace_text result) }
-    ensures any { IfOk result (λ lines. AreReplayedOf game.now (string_bytes lines)) }
+    ensures { GivesReplay limits game.now (T.remaining trace.old) result }
 {
     let traces = read_trace_within(alloc, limits, trace, game.graph())?;
     let firings = replay(alloc, game, &traces)?;

@@ -1,12 +1,10 @@
 //! `resume`: a play goes on from where its report says that it stopped.
 
-ghost use Rattle.std.specs.Prelude.{IfOk};
-ghost use Rattle.std.specs.Option.{ForSome};
 ghost use Rattle.chip_graph.specs.Limits.{standard};
 ghost use Rattle.chip_sequence.specs.Sittings.{IsResumed};
-ghost use Rattle.chip_engine.specs.ResumeCommand.{GivesSitting, RefusesToGoOn, ReportsOn, ReportsSomeSitting};
+ghost use Rattle.chip_engine.specs.ResumeCommand.{GivesSitting, RefusesToGoOn, ReportsOn};
 ghost use Rattle.chip_engine.specs.ResumeCommand.{ResumeAnswers, ResumeRefuses, ResumeWrites};
-ghost use Rattle.chip_command.specs.CommandAnswers.{AnyFault, CommandAnswers, Gives, OrMemory};
+ghost use Rattle.chip_command.specs.CommandAnswers.{Gives, OrMemory};
 
 use crate::options::PlayOptions;
 use chip_command::{Answer, Ended, Fault, deliver, status_of};
@@ -29,11 +27,8 @@ pub fn resume_engine<G: Read, R: Read, W: Write>(
     limit: u64,
     output: &mut W,
 ) -> Result<Ended, Fault>
-    ensures known { ForSome (G.remaining graph.old)
-        (λ graph_text. ForSome (R.remaining report.old)
-        (λ report_text. ResumeAnswers standard graph_text report_text limit
-        (W.contents output.old) (W.contents output.new) result)) }
-    ensures any { CommandAnswers ReportsSomeSitting AnyFault (W.contents output.old) (W.contents output.new) result }
+    ensures { ResumeAnswers standard (G.remaining graph.old) (R.remaining report.old) limit
+        (W.contents output.old) (W.contents output.new) result }
 {
     resume_engine_with(alloc, graph, report, PlayOptions::standard(limit), output)
 }
@@ -46,11 +41,8 @@ pub fn resume_engine_with<G: Read, R: Read, W: Write>(
     options: PlayOptions,
     output: &mut W,
 ) -> Result<Ended, Fault>
-    ensures known { ForSome (G.remaining graph.old)
-        (λ graph_text. ForSome (R.remaining report.old)
-        (λ report_text. ResumeAnswers options.limits graph_text report_text options.limit
-        (W.contents output.old) (W.contents output.new) result)) }
-    ensures any { CommandAnswers ReportsSomeSitting AnyFault (W.contents output.old) (W.contents output.new) result }
+    ensures { ResumeAnswers options.limits (G.remaining graph.old) (R.remaining report.old) options.limit
+        (W.contents output.old) (W.contents output.new) result }
 {
     deliver(output, answer(alloc, graph, report, options))
 }
@@ -62,11 +54,8 @@ fn answer<G: Read, R: Read>(
     report: &mut R,
     options: PlayOptions,
 ) -> Result<Answer, Fault>
-    ensures known { ForSome (G.remaining graph.old)
-        (λ graph_text. ForSome (R.remaining report.old)
-        (λ report_text. Gives (ResumeWrites options.limits graph_text report_text options.limit)
-        (ResumeRefuses options.limits graph_text report_text options.limit) result)) }
-    ensures any { Gives ReportsSomeSitting AnyFault result }
+    ensures { Gives (ResumeWrites options.limits (G.remaining graph.old) (R.remaining report.old) options.limit)
+        (ResumeRefuses options.limits (G.remaining graph.old) (R.remaining report.old) options.limit) result }
 {
     let graph = read_graph_within(alloc, options.limits, graph)?;
     let earlier = read_sitting(alloc, options.limits, report)?;
@@ -75,8 +64,7 @@ fn answer<G: Read, R: Read>(
 
 /// The sitting that a report of at most so many vertices and bytes tells, of either version.
 fn read_sitting<R: Read>(alloc: Global, limits: Limits, report: &mut R) -> Result<Resumed, Fault>
-    ensures sitting { ForSome (R.remaining report.old) (λ text. GivesSitting limits text result) }
-    ensures in_range { IfOk result IsResumed }
+    ensures { GivesSitting limits (R.remaining report.old) result }
 {
     let text = read_whole_within(alloc, limits, report)?;
     Ok(read_any_within(alloc, limits, &text)?)

@@ -1,16 +1,15 @@
 //! `simulate`: the core's replies to a schedule, and the report where the root closes.
 
 ghost use Rattle.std.specs.Prelude.{◌≡◌, ◌++◌, [], false, IfOk, codes, string_bytes};
-ghost use Rattle.std.specs.Option.{ForSome};
 ghost use Rattle.chip_graph.specs.Limits.{standard};
 ghost use Rattle.chip_link.specs.Rings.{IsRing};
 ghost use Rattle.chip_part.specs.Setting.{Setting};
 ghost use Rattle.chip_core.specs.Core.{Log, IsClosed, log_after};
 ghost use Rattle.chip_world.specs.World.{StandsForLog, WhateverLog};
 ghost use Rattle.chip_world.specs.declared.world.driving.Drive.TheVariants.{Closed};
-ghost use Rattle.chip_command.specs.CommandAnswers.{AnyFault, CommandAnswers, Gives};
+ghost use Rattle.chip_command.specs.CommandAnswers.{Gives};
 ghost use Rattle.chip_command.specs.Statuses.{number_of_status};
-ghost use Rattle.chip_engine.specs.SimulateCommand.{SimulateReads, SimulateRefuses, SimulateWrites, SimulatesSome};
+ghost use Rattle.chip_engine.specs.SimulateCommand.{SimulateAnswers, SimulateRefuses, SimulateWrites};
 ghost use Rattle.chip_engine.specs.SimulateCommand.{Simulates, EndsClosed, EndsBy};
 ghost use Rattle.chip_engine.specs.SimulateCommand.{message_text, reply_text, answer_text, answers_text};
 
@@ -55,10 +54,9 @@ pub fn simulate_engine<G: Read, C: Read, S: Read, W: Write>(
     output: &mut W,
 ) -> Result<Ended, Fault>
     requires { IsRing ring }
-    ensures known { SimulateReads (G.remaining graph.old) (C.remaining chips.old) (S.remaining schedule.old)
+    ensures { SimulateAnswers (G.remaining graph.old) (C.remaining chips.old) (S.remaining schedule.old)
         (record { play = record { limits = standard; limit = limit }; ring = ring; rounds = rounds; books = false; fed = fed })
         (W.contents output.old) (W.contents output.new) result }
-    ensures any { CommandAnswers SimulatesSome AnyFault (W.contents output.old) (W.contents output.new) result }
 {
     let options = SimulateOptions {
         play: PlayOptions::standard(limit),
@@ -80,9 +78,8 @@ pub fn simulate_engine_with<G: Read, C: Read, S: Read, W: Write>(
     options: SimulateOptions,
     output: &mut W,
 ) -> Result<Ended, Fault>
-    ensures known { SimulateReads (G.remaining graph.old) (C.remaining chips.old) (S.remaining schedule.old) options
+    ensures { SimulateAnswers (G.remaining graph.old) (C.remaining chips.old) (S.remaining schedule.old) options
         (W.contents output.old) (W.contents output.new) result }
-    ensures any { CommandAnswers SimulatesSome AnyFault (W.contents output.old) (W.contents output.new) result }
 {
     deliver(output, answer(alloc, graph, chips, schedule, options))
 }
@@ -95,12 +92,8 @@ fn answer<G: Read, C: Read, S: Read>(
     schedule: &mut S,
     options: SimulateOptions,
 ) -> Result<Answer, Fault>
-    ensures known { ForSome (G.remaining graph.old)
-        (λ graph_text. ForSome (C.remaining chips.old)
-        (λ chips_text. ForSome (S.remaining schedule.old)
-        (λ schedule_text. Gives (SimulateWrites graph_text chips_text schedule_text options)
-        (SimulateRefuses graph_text chips_text schedule_text options) result))) }
-    ensures any { Gives SimulatesSome AnyFault result }
+    ensures { let graph = G.remaining graph.old in let chips = C.remaining chips.old in let schedule = S.remaining schedule.old in
+        Gives (SimulateWrites graph chips schedule options) (SimulateRefuses graph chips schedule options) result }
 {
     let PlayOptions { limits, limit } = options.play;
     let game = read_game(alloc, limits, graph, chips, limit)?;

@@ -6,7 +6,6 @@ use Rattle.chip_graph.specs.ChipGame.{ChipGame, IsGame}
 use Rattle.chip_net.specs.Tokens.{ActorKnown}
 use Rattle.chip_crew.specs.declared.plan.Plan.{Plan}
 use Rattle.chip_crew.specs.declared.plan.Sharing.{Sharing}
-use Rattle.chip_command.specs.CommandAnswers.{ReportsSome}
 use Rattle.chip_command.specs.Inputs.{MeansGame}
 use Rattle.chip_command.specs.declared.ended.Ended.{Ended}
 use Rattle.chip_command.specs.declared.fault.Fault.{Fault}
@@ -16,7 +15,7 @@ use Rattle.chip_command.proofs.OneReportLemmas.{one_report, one_game, same_games
 use Rattle.chip_command.proofs.SittingLemmas.{report_tells}
 use Rattle.chip_crew.specs.Finished.{IsWhole, StaysWithin}
 use Rattle.chip_run.specs.Feeding.{MeansFed, MeansFedGame, feeds_of}
-use Rattle.chip_run.specs.RunCommand.{Plays, ReportsSomeRun}
+use Rattle.chip_run.specs.RunCommand.{Plays, ReportsSome, ReportsSomeRun}
 use Rattle.chip_run.specs.Laws.{SameBytes, SameBytesFed, RunWrote, RunTellsPlay}
 
 one_feed : (limits bounds : SizeLimits) (text : Option (List ℕ)) (vertices : ℕ) (a b : Option (List (ℕ × ℕ))) → MeansFed limits text vertices a
@@ -103,7 +102,7 @@ run_reports graph_text chips_text feed_text limit report status (mine, shared, p
 pub same_bytes_fed : SameBytesFed
 same_bytes_fed graph_text chips_text feed_text limit whole_graph whole_chips (g, feeds, fed_by, means, whole, mine, whole_means, is_whole)
     one other s t ran (limits, done, (text, (h, h_means, reports), out, cut), t_is) =
-    let same_game : h ≡ whole = one_game limits mine whole_graph whole_chips limit h whole h_means whole_means in
+    let same_game : h ≡ whole = one_game limits mine whole_graph whole_chips limit h whole (h_means.means whole_graph refl whole_chips refl) whole_means in
     let same = one_report whole one text s done.status
     (run_reports graph_text chips_text feed_text limit one s ran fed_by g feeds means whole is_whole).0
     (subst (λ (k : ChipGame). Reports k text done.status) same_game reports) in

@@ -3,7 +3,7 @@ use Rattle.std.specs.Prelude.{◌≡◌, ◌⊎◌, ℕ, Bool, true, List, Optio
 use Rattle.std.specs.Option.{ForSome}
 use Rattle.std.specs.Io.KnownBytes.{Appends, Keeps}
 use Rattle.chip_graph.specs.Limits.{SizeLimits}
-use Rattle.chip_graph.specs.ChipGame.{ChipGame}
+use Rattle.chip_graph.specs.ChipGame.{ChipGame, IsGame}
 use Rattle.chip_graph.specs.declared.fault.GameFault.TheVariants.{Total}
 use Rattle.chip_report.specs.Written.{WritesAll}
 use Rattle.chip_report.specs.declared.write.WriteFault.{WriteFault}
@@ -14,7 +14,6 @@ use Rattle.chip_crew.specs.declared.plan.Plan.{Plan}
 use Rattle.chip_crew.specs.declared.plan.Sharing.{Sharing}
 use Rattle.chip_crew.specs.declared.fault.CrewFault.{CrewFault}
 use Rattle.chip_crew.specs.declared.fault.CrewFault.TheVariants as crew
-use Rattle.chip_command.specs.CommandAnswers.{ReportsSome}
 use Rattle.chip_command.specs.Reports.{Reports}
 use Rattle.chip_command.specs.declared.ended.Ended.{Ended}
 use Rattle.chip_command.specs.declared.fault.Fault.{Fault}
@@ -114,6 +113,10 @@ abbrev pub WritesReport : SizeLimits → List ℕ → List ℕ → Option (List 
 WritesReport limits graph_text chips_text feed_text limit old new ended =
     (g : ChipGame) × (feeds : Option (List (ℕ × ℕ))) × MeansFedGame limits graph_text chips_text feed_text limit g feeds
     × (text : List ℕ) × ReportsFed g feeds text ended.status × Appends old new text
+
+-- a text and a status are the report of some game, and its status
+abbrev pub ReportsSome : List ℕ → ℕ → Type 0
+ReportsSome text status = (g : ChipGame) × IsGame g × Reports g text status
 
 -- what `run` answers at readers of which nothing is known: the report of some game went out, with its status; or nothing
 -- did; or its output failed

@@ -1,4 +1,4 @@
 use Rattle.chip_engine.proofs.check.check_engine.Goals as goal
 
-pub returns-clause-known : goal.returns-clause-known
-returns-clause-known g c = rw c.standard.ensures at c.check_engine_with.ensures.known
+pub returns : goal.returns
+returns g c = rw c.standard.ensures at c.check_engine_with.ensures

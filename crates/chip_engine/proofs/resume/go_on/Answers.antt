@@ -1,6 +1,5 @@
-use Rattle.std.proofs.Common.{inl, inr, ap, sym, subst}
+use Rattle.std.proofs.Common.{ap}
 use Rattle.chip_command.specs.Statuses.{number_of_status}
-use Rattle.chip_command.proofs.CommandLemmas.{refused}
 use Rattle.chip_engine.proofs.SittingLemmas.{leads_on, none_legal}
 use Rattle.chip_engine.proofs.resume.go_on.Goals as goal
 

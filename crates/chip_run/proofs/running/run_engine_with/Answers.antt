@@ -17,7 +17,7 @@ returns-in_err-game-clause-known g c = λ graph_text graph_is chips_text chips_i
     refused_run c.args.options.limits c.args.options.sharing graph_text chips_text feed_text c.args.options.limit c.args.options.plan _ c.from_residual.result _
     c.from_residual.ensures.1
     (λ fault is. inl (subst (RefusesInputs c.args.options.limits graph_text chips_text c.args.options.limit) (sym is)
-    (c.in_err-game.ensures.known graph_text graph_is chips_text chips_is))))
+    (c.in_err-game.ensures graph_text graph_is chips_text chips_is))))
 
 pub returns-in_err-feeds-clause-known : goal.returns-in_err-feeds-clause-known
 returns-in_err-feeds-clause-known g c = λ graph_text graph_is chips_text chips_is. for_text _ _ _ (λ feed_text refuses.
@@ -27,7 +27,7 @@ returns-in_err-feeds-clause-known g c = λ graph_text graph_is chips_text chips_
     c.from_residual-in_err-feeds.ensures.1
     (λ fault is. inr (
       c.in_ok-game.game,
-      c.in_ok-game.ensures.known graph_text graph_is chips_text chips_is,
+      c.in_ok-game.ensures.means graph_text graph_is chips_text chips_is,
       subst (RefusesFed c.args.options.limits feed_text c.in_ok-game.game.graph.vertices) (sym is) why,
     ))) c.in_err-feeds.ensures
 
@@ -38,7 +38,7 @@ returns-in_err-played-clause-known g c = λ graph_text graph_is chips_text chips
     let feeds : Option (List (ℕ × ℕ)) = option_map (λ feeds. feeds.items) c.in_ok-feeds.feeds in
     unplayed_run c.args.options.limits c.args.options.sharing graph_text chips_text feed_text c.args.options.limit plan c.in_ok-game.game feeds
     (means_fed c.args.options.limits graph_text chips_text feed_text c.args.options.limit c.in_ok-game.game feeds _ vertices
-    (c.in_ok-game.ensures.known graph_text graph_is chips_text chips_is) fed) _ c.from_residual-in_err-played.result _
+    (c.in_ok-game.ensures.means graph_text graph_is chips_text chips_is) fed) _ c.from_residual-in_err-played.result _
     c.from_residual-in_err-played.ensures.1
     (λ fault is. subst (IsNotPlayed c.args.options.sharing c.in_ok-game.game feeds plan) (sym is) c.in_err-played.ensures.fault))
     c.in_ok-feeds.ensures
@@ -49,7 +49,7 @@ returns-in_err-cut-clause-known g c = λ graph_text graph_is chips_text chips_is
     let feeds : Option (List (ℕ × ℕ)) = option_map (λ feeds. feeds.items) c.in_ok-feeds.feeds in
     untraced_run c.args.options.limits c.args.options.sharing graph_text chips_text feed_text c.args.options.limit c.args.options.plan c.in_ok-game.game feeds
     (means_fed c.args.options.limits graph_text chips_text feed_text c.args.options.limit c.in_ok-game.game feeds _ vertices
-    (c.in_ok-game.ensures.known graph_text graph_is chips_text chips_is) fed) _ (g.W.Write.contents c.args.output.now) _ _
+    (c.in_ok-game.ensures.means graph_text graph_is chips_text chips_is) fed) _ (g.W.Write.contents c.args.output.now) _ _
     c.deref.result.now
     c.in_ok-played.played.answer.text.items (number_of_status c.in_ok-played.played.answer.status)
     (plays_as _ _ _ _ _ _ _ _ _ c.in_ok-played.ensures.played c.deref.ensures.value refl)
@@ -62,7 +62,7 @@ returns-clause-known g c = λ graph_text graph_is chips_text chips_is. for_text 
     let feeds : Option (List (ℕ × ℕ)) = option_map (λ feeds. feeds.items) c.in_ok-feeds.feeds in
     delivered_run c.args.options.limits c.args.options.sharing graph_text chips_text feed_text c.args.options.limit c.args.options.plan c.in_ok-game.game feeds
     (means_fed c.args.options.limits graph_text chips_text feed_text c.args.options.limit c.in_ok-game.game feeds _ vertices
-    (c.in_ok-game.ensures.known graph_text graph_is chips_text chips_is) fed) _ _ _ _ c.deref.result.now
+    (c.in_ok-game.ensures.means graph_text graph_is chips_text chips_is) fed) _ _ _ _ c.deref.result.now
     c.deref-2.result.now (number_of_status c.in_ok-played.played.answer.status)
     (plays_as _ _ _ _ _ _ _ _ _ c.in_ok-played.ensures.played c.deref.ensures.value c.deref-2.ensures.value)
     c.in_ok-cut.cut c.in_ok-cut.ensures c.conclude.result

@@ -1,50 +1,70 @@
 -- Serves Tokens.antt.
 -- What a turn answers.
-use Rattle.std.proofs.Common.{◌≡◌, ℕ, ◌<◌, Bool, true, false, sym, ap, ◌∙◌, subst}
-use Rattle.chip_actor.specs.Actor.{Actor}
+use Rattle.std.proofs.Common.{◌≡◌, ℕ, ◌<◌, Bool, true, false, List, [], ◌∷◌, refl, sym, ap, ◌∙◌, subst, arith}
+use Rattle.atomic_table.specs.Seated.{TableId}
+use Rattle.chip_part.specs.Setting.{Setting}
+use Rattle.chip_actor.specs.Actor.{Actor, StandsFor}
 use Rattle.chip_part.specs.Part.{is_passive}
 use Rattle.chip_part.specs.Kept.{KeepsPart}
 use Rattle.chip_part.specs.Counting.{work_of}
 use Rattle.chip_part.proofs.RestingLemmas.{idle_turn_rests}
 use Rattle.chip_net.specs.declared.actor.Turn.{Turn}
 use Rattle.chip_net.specs.declared.actor.Turn.TheVariants.{Worked, Waiting, Idle}
-use Rattle.chip_net.specs.Tokens.{ActorKnown, part_known, AnswersTurn, MakesTurn, MakesTurnBy}
+use Rattle.chip_net.specs.Views.{History, IsAlone}
+use Rattle.chip_net.specs.Tokens.{NetId, ActorKnown, part_known, known, table_of, me_of, AnswersTurn, MakesTurn, MakesTurnBy}
+use Rattle.chip_net.proofs.RulingLemmas.{Mine}
 
-module _ (own hand after : ActorKnown) (own_is : hand ≡ own) (a : Actor) (work : ℕ)
-    (made : MakesTurnBy hand after a work) where
-  abbrev all_work : ℕ
-  all_work = work_of hand.net.setting (part_known hand) made.steps
-
-  makes : (answer : Turn) → AnswersTurn hand.net.setting hand.vertex all_work (part_known after) answer
+module _ (own after : ActorKnown) (work : ℕ) (made : MakesTurnBy own after work) where
+  makes : (answer : Turn)
+      → AnswersTurn own.net.setting own.vertex (work_of own.net.setting (part_known own) made.steps) (part_known after) answer
       → MakesTurn own after answer
-  makes answer answers = subst
-      (λ (k : ActorKnown). MakesTurn k after answer) own_is record {
-        steps = made.steps;
-        record_is = made.record_is;
-        is_turn = made.is_turn;
-        bounded = made.bounded;
-        answers = answers;
-      }
+  makes answer answers = record {
+    steps = made.steps;
+    record_is = made.record_is;
+    is_turn = made.is_turn;
+    bounded = made.bounded;
+    answers = answers;
+  }
 
   pub worked : 0 < work → MakesTurn own after (Worked work)
   worked some = makes (Worked work) (sym made.work_is, some)
 
-  -- what the actor says of its state is said of the part after the turn
-  passive_is : (b : Bool) → b ≡ is_passive hand.net.setting a.vertex (part_known after)
-      → is_passive hand.net.setting hand.vertex (part_known after) ≡ b
-  passive_is b said = sym (said ∙ ap (λ (v : ℕ). is_passive hand.net.setting v (part_known after)) made.vertex)
+  module _ (none : work ≡ 0) (a : Actor) (vertex : a.vertex ≡ own.vertex)
+      (stands : StandsFor own.net.setting (part_known after) a) where
+    -- what the actor says of its state is said of the part after the turn
+    passive_is : (b : Bool) → b ≡ is_passive own.net.setting a.vertex (part_known after)
+        → is_passive own.net.setting own.vertex (part_known after) ≡ b
+    passive_is b said = sym (said ∙ ap (λ (v : ℕ). is_passive own.net.setting v (part_known after)) vertex)
 
-  pub waiting : work ≡ 0 → false ≡ is_passive hand.net.setting a.vertex (part_known after) → MakesTurn own after Waiting
-  waiting none said = makes Waiting (made.work_is ∙ none, passive_is false said)
+    pub waiting : false ≡ is_passive own.net.setting a.vertex (part_known after) → MakesTurn own after Waiting
+    waiting said = makes Waiting (made.work_is ∙ none, passive_is false said)
 
-  pub idle : work ≡ 0 → true ≡ is_passive hand.net.setting a.vertex (part_known after) → MakesTurn own after Idle
-  idle none said =
-      let kept : KeepsPart hand.net.setting hand.vertex (part_known after) =
-      subst (λ (v : ℕ). KeepsPart hand.net.setting v (part_known after)) made.vertex made.stands.kept in
-      let passive = passive_is true said in
-      makes Idle (
-        made.work_is ∙ none,
-        passive,
-        idle_turn_rests hand.net.setting hand.vertex (part_known hand) made.steps (part_known after) made.is_turn
-            (made.work_is ∙ none) kept passive,
-      )
+    pub idle : true ≡ is_passive own.net.setting a.vertex (part_known after) → MakesTurn own after Idle
+    idle said = makes Idle (
+      made.work_is ∙ none,
+      passive_is true said,
+      idle_turn_rests own.net.setting own.vertex (part_known own) made.steps (part_known after) made.is_turn
+          (made.work_is ∙ none)
+          (subst (λ (v : ℕ). KeepsPart own.net.setting v (part_known after)) vertex stands.kept) (passive_is true said),
+    )
+
+-- ---- an actor with its part
+
+module _ (table : TableId) (g : Setting) (v room : ℕ) (me knew : Mine) (own : ActorKnown)
+    (view_is : known (table_of me.0.parts table) g v room (me_of me.0.parts me knew).0 ≡ own) (net : NetId)
+    (net_is : own.net ≡ net) (some : 0 < net.table.words) where
+  -- it is of a net, so it has its part
+  pub has_part : (table_of me.0.parts table ≡ table) × (me_of me.0.parts me knew ≡ me)
+  has_part = by_parts me.0.parts (ap (λ (k : ActorKnown). k.net.table) view_is ∙ ap (λ (n : NetId). n.table) net_is)
+    where
+      by_parts : (ps : List History) → table_of ps table ≡ net.table → (table_of ps table ≡ table) × (me_of ps me knew ≡ me)
+      by_parts [] none = let z = ap (λ (t : TableId). t.words) none in absurd (omega (arith, z, some))
+      by_parts (x ∷ xs) is = (refl, refl)
+
+  pub own_is : known table g v room me.0 ≡ own
+  own_is = (λ j. known (sym has_part.0 j) g v room (sym has_part.1 j).0) ∙ view_is
+
+pub alone_has_part : (v : ℕ) (table : TableId) (me knew : Mine) → IsAlone v me.0
+    → (table_of me.0.parts table ≡ table) × (me_of me.0.parts me knew ≡ me)
+alone_has_part v table me knew alone =
+    subst (λ (ps : List History). (table_of ps table ≡ table) × (me_of ps me knew ≡ me)) (sym alone) (refl, refl)

@@ -16,17 +16,13 @@ use Rattle.chip_root.proofs.root.RootBooks.TheSendSync as root_state
 use Rattle.chip_net.proofs.reserve.Reserve.TheSendSync as reserve
 use Rattle.chip_net.specs.contracts.root_hand.RootHand as root_hand
 use Rattle.chip_net.specs.contracts.root.Root as root
-use Rattle.chip_net.specs.contracts.hand.Hand as hand
 use Rattle.chip_net.specs.contracts.actor.Owned as owned
 use Rattle.chip_net.specs.contracts.actor.Actor as actor
 use Rattle.chip_net.specs.contracts.stopper.Stopper as stopper
 use Rattle.chip_net.specs.contracts.net.Net as net
 
-pub hand_send : IsSend hand.the_row
-hand_send = search (crosses, sendable, seat.the_send, trace.the_send) depth 60
-
 pub owned_send : IsSend owned.the_row
-owned_send = search (crosses, sendable, hand_send, state.the_send) depth 60
+owned_send = search (crosses, sendable, seat.the_send, trace.the_send, state.the_send) depth 60
 
 pub actor_send : IsSend actor.the_row
 actor_send = search (crosses, sendable, owned_send) depth 60

@@ -1,35 +1,63 @@
 -- Serves Layout.antt.
--- Each word has a number of its own: two words with one number are one word.
-use Rattle.std.proofs.Common.{◌≡◌, ◌≢◌, ℕ, ◌+◌, ◌*◌, ◌<◌, List, length, set, ap, arith, get_or-set_same}
-use Rattle.std.proofs.Common.{get_or-set_other}
-use Rattle.std.proofs.lemmas.Nat.{same_from_place, mul-add-lt}
+-- Each word has a number of its own, which tells the word.
+use Rattle.std.proofs.Common.{◌≡◌, ◌≢◌, ℕ, ◌+◌, ◌-◌, ◌*◌, ◌/◌, ◌%◌, ◌<◌, List, length, set, sym, ap, ◌∙◌, arith}
+use Rattle.std.proofs.Common.{cond, ltb, lt-ltb, le-ltb, get_or-set_same, get_or-set_other, div-add-mod'}
+use Rattle.std.proofs.lemmas.Nat.{mul-add-lt, div-mul-add}
+use Rattle.chip_graph.proofs.SumLemmas.{cond_true, cond_false}
 use Rattle.chip_part.specs.Setting.{Setting}
 use Rattle.chip_part.specs.Edges.{all_edges}
 use Rattle.chip_core.specs.Words.{Word, of_edge, of_acks, of_cell, of_vertex, IsWord}
-use Rattle.chip_net.specs.Layout.{first_fired, index_of, word_count, value_in}
+use Rattle.chip_net.specs.Layout.{first_cell, first_fired, index_of, word_count, value_in}
+
+-- the word with this number
+abbrev word_at : Setting → ℕ → Word
+word_at g n = cond (ltb n (all_edges g)) (of_edge n) (cond (ltb n (first_cell g)) (of_acks (n - all_edges g))
+    (cond (ltb n (first_fired g)) (of_cell ((n - first_cell g) / g.ring) ((n - first_cell g) % g.ring))
+    (of_vertex (n - first_fired g))))
+
+-- the edge or the vertex of a word
+abbrev pub owner_of : Word → ℕ
+owner_of (of_edge e) = e
+owner_of (of_acks e) = e
+owner_of (of_cell e i) = e
+owner_of (of_vertex v) = v
+
+-- and so by the number of the word
+abbrev pub owner_at : Setting → ℕ → ℕ
+owner_at g n = owner_of (word_at g n)
 
 module _ (g : Setting) where
   below : (e i : ℕ) → e < all_edges g → i < g.ring → index_of g (of_cell e i) < first_fired g
   below e i l h = let b : e * g.ring + i < g.ring * all_edges g = mul-add-lt e g.ring i (all_edges g) l h in omega arith
 
+  read_back : (w : Word) → IsWord g w → word_at g (index_of g w) ≡ w
+  read_back (of_edge e) l = cond_true (ltb e (all_edges g)) _ _ (lt-ltb e (all_edges g) l)
+  read_back (of_acks e) l =
+      let n : ℕ = all_edges g + e in
+      cond_false (ltb n (all_edges g)) _ _ (le-ltb n (all_edges g) (omega arith))
+      ∙ cond_true (ltb n (first_cell g)) _ _ (lt-ltb n (first_cell g) (omega arith)) ∙ ap of_acks (omega arith)
+  read_back (of_cell e i) l =
+      let n : ℕ = first_cell g + (e * g.ring + i) in
+      let m : n - first_cell g ≡ e * g.ring + i = omega arith in
+      let edge : (n - first_cell g) / g.ring ≡ e = ap (λ k. k / g.ring) m ∙ div-mul-add e g.ring i l.1 in
+      let cell : (n - first_cell g) % g.ring ≡ i =
+      (let whole : e * g.ring + (n - first_cell g) % g.ring ≡ n - first_cell g =
+      ap (λ k. k * g.ring + (n - first_cell g) % g.ring) (sym edge) ∙ div-add-mod' (n - first_cell g) g.ring in omega arith) in
+      cond_false (ltb n (all_edges g)) _ _ (le-ltb n (all_edges g) (omega arith))
+      ∙ cond_false (ltb n (first_cell g)) _ _ (le-ltb n (first_cell g) (omega arith))
+      ∙ cond_true (ltb n (first_fired g)) _ _ (lt-ltb n (first_fired g) (below e i l.0 l.1))
+      ∙ (λ k. of_cell (edge k) (cell k))
+  read_back (of_vertex v) l =
+      let n : ℕ = first_fired g + v in
+      cond_false (ltb n (all_edges g)) _ _ (le-ltb n (all_edges g) (omega arith))
+      ∙ cond_false (ltb n (first_cell g)) _ _ (le-ltb n (first_cell g) (omega arith))
+      ∙ cond_false (ltb n (first_fired g)) _ _ (le-ltb n (first_fired g) (omega arith)) ∙ ap of_vertex (omega arith)
+
+  pub owner_read : (w : Word) → IsWord g w → (n : ℕ) → n ≡ index_of g w → owner_at g n ≡ owner_of w
+  owner_read w l n is = ap (owner_at g) is ∙ ap owner_of (read_back w l)
+
   one_word : (p q : Word) → IsWord g p → IsWord g q → index_of g p ≡ index_of g q → p ≡ q
-  one_word (of_edge e) (of_edge f) l m is = ap of_edge is
-  one_word (of_edge e) (of_acks f) l m is = absurd (omega arith)
-  one_word (of_edge e) (of_cell f j) l m is = absurd (omega arith)
-  one_word (of_edge e) (of_vertex v) l m is = absurd (omega arith)
-  one_word (of_acks e) (of_edge f) l m is = absurd (omega arith)
-  one_word (of_acks e) (of_acks f) l m is = ap of_acks (omega arith)
-  one_word (of_acks e) (of_cell f j) l m is = absurd (omega arith)
-  one_word (of_acks e) (of_vertex v) l m is = absurd (omega arith)
-  one_word (of_cell e i) (of_edge f) l m is = absurd (omega arith)
-  one_word (of_cell e i) (of_acks f) l m is = absurd (omega arith)
-  one_word (of_cell e i) (of_cell f j) l m is = let same : e * g.ring + i ≡ f * g.ring + j = omega arith in
-      let both = same_from_place e i f j g.ring l.1 m.1 same in λ k. of_cell (both.0 k) (both.1 k)
-  one_word (of_cell e i) (of_vertex v) l m is = let b = below e i l.0 l.1 in absurd (omega arith)
-  one_word (of_vertex v) (of_edge f) l m is = absurd (omega arith)
-  one_word (of_vertex v) (of_acks f) l m is = absurd (omega arith)
-  one_word (of_vertex v) (of_cell f j) l m is = let b = below f j m.0 m.1 in absurd (omega arith)
-  one_word (of_vertex v) (of_vertex w) l m is = ap of_vertex (omega arith)
+  one_word p q l m is = sym (read_back p l) ∙ ap (word_at g) is ∙ read_back q m
 
   pub inside : (q : Word) → IsWord g q → index_of g q < word_count g
   inside (of_edge e) l = omega arith

@@ -1,20 +1,18 @@
 -- Serves Meeting.antt, Rule.antt.
--- A look changes nothing, and one actor more meets the others.
-use Rattle.std.proofs.Common.{◌≡◌, ◌≢◌, ◌⊎◌, ℕ, zero, suc, ◌≤◌, List, [], ◌∷◌, ◌++◌, length, set, get_or, Some}
-use Rattle.std.proofs.Common.{refl, sym, ap, ◌∙◌, subst, arith, length-append, ⊎_elim, inl, inr}
+-- A look changes nothing, a new seat has no part, and actors lend their parts one after another.
+use Rattle.std.proofs.Common.{◌≡◌, ℕ, zero, suc, ◌+◌, ◌<◌, List, [], ◌∷◌, length, set, get_or, Some, refl, sym, ap, ◌∙◌}
+use Rattle.std.proofs.Common.{subst, arith, ⊎_elim}
 use Rattle.std.specs.Prelude.{slice_get}
-use mathlib.Core.Option.{some, some-injective}
+use mathlib.Core.Option.{some}
 use lib.ListN.{get_elem?}
-use Rattle.atomic_table.specs.Seated.{TableId}
-use Rattle.atomic_table.specs.Table.{State, keeps, Allows}
+use Rattle.atomic_table.specs.Table.{State, keeps, Allows, Enters}
+use Rattle.atomic_table.proofs.Lists.{set_again, at_longer, at_snoc}
 use Rattle.chip_part.specs.Setting.{Setting}
-use Rattle.chip_core.specs.Core.{Step}
-use Rattle.chip_core.specs.Histories.{done_by}
-use Rattle.chip_net.specs.Views.{View, find, did_in, steps_or_none, Has, IsAlone, join_views, view_without}
+use Rattle.chip_net.specs.Views.{View, find, no_parts}
 use Rattle.chip_net.specs.Rule.{Kept, Looks}
 use Rattle.chip_net.specs.Tokens.{NetId, ActorKnown}
-use Rattle.chip_net.specs.Meeting.{AreInPlace, Met}
-use Rattle.chip_net.proofs.ViewingLemmas.{joined_here, joined_else, dropped_else}
+use Rattle.chip_net.specs.Meeting.{AreInPlace}
+use Rattle.chip_net.proofs.ViewingLemmas.{none_some}
 use Rattle.chip_net.proofs.RulingLemmas.{Mine}
 
 -- ---- a look
@@ -23,11 +21,6 @@ set_read : (l : List ℕ) (i : ℕ) → set l i (get_or l i 0) ≡ l
 set_read [] i = refl
 set_read (x ∷ xs) zero = refl
 set_read (x ∷ xs) (suc i) = ap (λ (l : List ℕ). x ∷ l) (set_read xs i)
-
-set_found : {A : Type 0} (l : List A) (i : ℕ) (a : A) → get_elem? l i ≡ some a → set l i a ≡ l
-set_found [] i a e = refl
-set_found (x ∷ xs) zero a e = ap (λ y. y ∷ xs) (sym (some-injective x a e))
-set_found (x ∷ xs) (suc i) a e = ap (λ l. x ∷ l) (set_found xs i a e)
 
 pub may_look : (g : Setting) (slots id word : ℕ) (me : Mine)
     → Allows (Kept g) slots id me word (λ n. n) (Looks g me)
@@ -39,7 +32,7 @@ may_look g slots id word me table kept homes at few = (
       (λ i. record {
         words = sym (set_read table.words word) i;
         homes = table.homes;
-        views = sym (set_found table.views id me.0 at) i;
+        views = sym (set_again table.views id me.0 at) i;
       }) kept,
   (
     refl,
@@ -51,71 +44,96 @@ may_look g slots id word me table kept homes at few = (
   ),
 )
 
--- ---- actors in their places
+-- a new seat has no part
+pub may_enter : (g : Setting) (slots : ℕ)
+    → Enters (Kept g) slots 0 (λ n v. ◌≡◌ {A = Mine} (v, []) (no_parts, []))
+may_enter g slots table kept homes few = (
+  no_parts,
+  record {
+    log = kept.log;
+    owner = kept.owner;
+    setting = kept.setting;
+    wide = kept.wide;
+    each_part = λ j u there p did found. ⊎_elim (λ (old : get_elem? table.views j ≡ some u). kept.each_part j u old p did found)
+        (λ (new : no_parts ≡ u). absurd (none_some did (subst (λ (v : View). find p v.parts ≡ Some did) (sym new) found)))
+        (at_snoc table.views no_parts u j there);
+    there = λ p l.
+        let old = kept.there p l in
+        (old.0, at_longer table.views (no_parts ∷ []) (kept.owner p) old.0 old.1, old.2);
+    shown = kept.shown;
+    legal = kept.legal;
+  },
+  refl,
+)
 
-get_last : (xs : List ActorKnown) (a : ActorKnown) → slice_get (xs ++ a ∷ []) (length xs) ≡ Some a
-get_last [] a = refl
-get_last (x ∷ xs) a = get_last xs a
+-- ---- actors one after another, in their places
 
-get_split : (xs : List ActorKnown) (a : ActorKnown) (i : ℕ) (b : ActorKnown) → slice_get (xs ++ a ∷ []) i ≡ Some b
-    → (slice_get xs i ≡ Some b) ⊎ (a ≡ b)
-get_split [] a zero b e = inr (cc)
-get_split [] a (suc i) b e = absurd (cc)
-get_split (x ∷ xs) a zero b e = inl e
-get_split (x ∷ xs) a (suc i) b e = get_split xs a i b e
+abbrev pub itself : ActorKnown → ActorKnown
+itself a = a
 
-pub last_in_place : (net : NetId) (xs : List ActorKnown) (a : ActorKnown) → AreInPlace net (xs ++ a ∷ [])
-    → (a.net ≡ net) × (a.vertex ≡ length xs)
-last_in_place net xs a places = places (length xs) a (get_last xs a)
+-- the first n of these actors by f, and the others by g
+abbrev pub first_as : (f g : ActorKnown → ActorKnown) → ℕ → List ActorKnown → List ActorKnown
+first_as f g n [] = []
+first_as f g zero (x ∷ xs) = g x ∷ first_as f g zero xs
+first_as f g (suc n) (x ∷ xs) = f x ∷ first_as f g n xs
 
--- ---- one actor more
+pub get_here : (xs : List ActorKnown) (n : ℕ) (d : ActorKnown) → n < length xs → slice_get xs n ≡ Some (get_or xs n d)
+get_here [] n d l = absurd (omega arith)
+get_here (x ∷ xs) zero d l = refl
+get_here (x ∷ xs) (suc n) d l = get_here xs n d (omega arith)
 
-module _ (view own inner : View) (xs : List ActorKnown) (k : ℕ) (at : k ≡ length xs) (alone_is : IsAlone k own)
-    (others : (p : ℕ) → length xs ≤ p → find p inner.parts ≡ find p (join_views view own).parts) where
-  -- its part is there again, with all that it did
-  pub there_again : Has k inner × (did_in k inner ≡ did_in k own)
-  there_again =
-      let found : find k inner.parts ≡ Some (did_in k own) = others k (omega arith) ∙ joined_here k view own alone_is in
-      let same : did_in k inner ≡ did_in k own = ap steps_or_none found in
-      (found ∙ ap Some (sym same), same)
+pub one_there : (a b : ActorKnown) → Some a ≡ Some b → a ≡ b
+one_there a b e = cc
 
-  -- and those behind it are as they were
-  pub others_more : (a : ActorKnown) (last : View) → last ≡ view_without k inner → (p : ℕ) → length (xs ++ a ∷ []) ≤ p
-      → find p last.parts ≡ find p view.parts
-  others_more a last is p past =
-      let more = length-append xs (a ∷ []) in
-      let other : k ≢ p = λ e. omega arith in
-      ap (λ (v : View). find p v.parts) is ∙ dropped_else k p inner.parts other ∙ others p (omega arith)
-      ∙ joined_else k p view own alone_is other
+pub get_inside : (xs : List ActorKnown) (n : ℕ) (a : ActorKnown) → slice_get xs n ≡ Some a → n < length xs
+get_inside [] n a e = absurd (cc)
+get_inside (x ∷ xs) zero a e = omega arith
+get_inside (x ∷ xs) (suc n) a e = let l = get_inside xs n a e in omega arith
 
-pub met_more : (g : Setting) (view own : View) (xs : List ActorKnown) (a : ActorKnown) → a.vertex ≡ length xs
-    → IsAlone a.vertex own → did_in a.vertex own ≡ a.did → Met g (join_views view own) xs → Met g view (xs ++ a ∷ [])
-met_more g view own xs a at alone_is did_is met = record {
-  log = met.log;
-  legal = met.legal;
-  agrees = λ p d past found.
-      let more = length-append xs (a ∷ []) in
-      let other : a.vertex ≢ p = λ e. omega arith in
-      met.agrees p d (omega arith) (joined_else a.vertex p view own alone_is other ∙ found);
-  actors_did = λ v b e. ⊎_elim (λ (old : slice_get xs v ≡ Some b). met.actors_did v b old)
-      (λ (same : a ≡ b). subst (λ (c : ActorKnown). c.did ≡ done_by g c.vertex met.log) same
-      (sym did_is ∙ met.agrees a.vertex (did_in a.vertex own) (omega arith) (joined_here a.vertex view own alone_is)))
-      (get_split xs a v b e);
-}
+module _ (f g : ActorKnown → ActorKnown) where
+  pub first_length : (n : ℕ) (xs : List ActorKnown) → length (first_as f g n xs) ≡ length xs
+  first_length n [] = refl
+  first_length zero (x ∷ xs) = ap suc (first_length zero xs)
+  first_length (suc n) (x ∷ xs) = ap suc (first_length n xs)
 
--- ---- a hand that has its seat again
+  -- the next one is not among the first
+  pub next_get : (n : ℕ) (xs : List ActorKnown) (d : ActorKnown) → n < length xs
+      → get_or (first_as f g n xs) n d ≡ g (get_or xs n d)
+  next_get n [] d l = absurd (omega arith)
+  next_get zero (x ∷ xs) d l = refl
+  next_get (suc n) (x ∷ xs) d l = next_get n xs d (omega arith)
 
-pub same_known : (known : ActorKnown) (table : TableId) (setting : Setting) (vertex room : ℕ) (did : List Step)
-    → table ≡ known.net.table → setting ≡ known.net.setting → vertex ≡ known.vertex → room ≡ known.room
-    → did ≡ known.did → record {
-      net = record { table = table; setting = setting };
-      vertex = vertex;
-      room = room;
-      did = did;
-    } ≡ known
-same_known known table setting vertex room did t s v r d = λ i. record {
-  net = record { table = t i; setting = s i };
-  vertex = v i;
-  room = r i;
-  did = d i;
-}
+  -- and then it is
+  pub next_set : (n : ℕ) (xs : List ActorKnown) (d : ActorKnown) → n < length xs
+      → set (first_as f g n xs) n (f (get_or xs n d)) ≡ first_as f g (suc n) xs
+  next_set n [] d l = absurd (omega arith)
+  next_set zero (x ∷ xs) d l = refl
+  next_set (suc n) (x ∷ xs) d l = ap (λ (ys : List ActorKnown). f x ∷ ys) (next_set n xs d (omega arith))
+
+  pub all_as : (xs : List ActorKnown) → first_as f g (length xs) xs ≡ first_as g f 0 xs
+  all_as [] = refl
+  all_as (x ∷ xs) = ap (λ (ys : List ActorKnown). f x ∷ ys) (all_as xs)
+
+pub as_they_are : (f : ActorKnown → ActorKnown) (xs : List ActorKnown) → first_as f itself 0 xs ≡ xs
+as_they_are f [] = refl
+as_they_are f (x ∷ xs) = ap (λ (ys : List ActorKnown). x ∷ ys) (as_they_are f xs)
+
+module _ (net : NetId) (olds : List ActorKnown) (places : AreInPlace net olds) (f g : ActorKnown → ActorKnown) (n : ℕ)
+    (items : List ActorKnown) (items_is : items ≡ first_as f g n olds) (inside : n < length olds) (a : ActorKnown)
+    (a_is : a ≡ get_or items n a) where
+  -- the next actor, as it was
+  abbrev pub next : ActorKnown
+  next = get_or olds n a
+
+  pub next_at : slice_get olds n ≡ Some next
+  next_at = get_here olds n a inside
+
+  pub next_place : (next.net ≡ net) × (next.vertex ≡ n)
+  next_place = places n next next_at
+
+  pub next_is : a ≡ g next
+  next_is = a_is ∙ ap (λ (xs : List ActorKnown). get_or xs n a) items_is ∙ next_get f g n olds a inside
+
+  pub one_more : (b : ActorKnown) → b ≡ f next → set items n b ≡ first_as f g (n + 1) olds
+  one_more b b_is = (λ j. set (items_is j) n (b_is j)) ∙ next_set f g n olds a inside
+      ∙ ap (λ (k : ℕ). first_as f g k olds) (omega arith)

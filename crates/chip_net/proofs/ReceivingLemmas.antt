@@ -12,14 +12,15 @@ use Rattle.chip_core.specs.Core.{Step, Read, unmet_rule}
 use Rattle.chip_core.specs.Words.{of_vertex}
 use Rattle.chip_net.specs.declared.receipt.Receipt.TheInside.{Inside}
 use Rattle.chip_net.specs.contracts.receipt.Receipt.{the_view}
-use Rattle.chip_net.specs.Layout.{index_of}
+use Rattle.chip_net.specs.Layout.{index_of, word_count}
 use Rattle.chip_net.specs.Views.{find, grow_view, did_in, Has, part_of_view}
 use Rattle.chip_net.specs.Rule.{Kept, Stepped, Grows}
 use Rattle.chip_net.specs.Roots.{RootKnown, IsOver}
 use Rattle.chip_net.specs.Finish.{ReadsAt}
 use Rattle.chip_net.proofs.ViewingLemmas.{grown_has}
-use Rattle.chip_net.proofs.RulingLemmas.{Mine}
-use Rattle.chip_net.proofs.RootingLemmas.{root_rule, root_grown, root_stepped, root_record}
+use Rattle.chip_net.proofs.LayingLemmas.{owner_at}
+use Rattle.chip_net.proofs.RulingLemmas.{Mine, event_asked, event_told}
+use Rattle.chip_net.proofs.RootingLemmas.{root_record}
 use Rattle.chip_net.proofs.FinishingLemmas.{fired_word_is}
 
 module _ (i : Inside) (keeps : Has (root i.setting.value) i.seat.me.0 × IsSetting i.setting.value) (v : ℕ)
@@ -31,21 +32,26 @@ module _ (i : Inside) (keeps : Has (root i.setting.value) i.seat.me.0 × IsSetti
   none = met_rules g (Read v) (part_of_view g (root g) i.seat.me.0)
       (inside, over.0, over.1)
 
-  pub read_rule : (key : Setting) → key ≡ g → (slots word : ℕ) → word ≡ index_of g (of_vertex v)
-      → Allows (Kept key) slots i.seat.id i.seat.me word (λ n. n) (Grows key (Read v) i.seat.me)
-  read_rule key same slots word at = root_rule g keeps.1 i.seat.me keeps.0
-      (Read v) refl none key same slots i.seat.id word at
+  pub read_asked : (key : Setting) → key ≡ g → (word : ℕ) → word ≡ index_of g (of_vertex v) → (tid : TableId)
+      → i.seat.table_id ≡ tid → tid.words ≡ word_count g
+      → (i.seat.table_id ≡ tid) × (word < tid.words) × Allows (Kept key) tid.slots i.seat.id i.seat.me word (λ n. n)
+      (Grows key (Read (owner_at key word)) i.seat.me)
+  read_asked key same word at tid table count = event_asked g keeps.1 i.seat.me (Read v) keeps.0 none key same word at
+      Read refl i.seat.table_id tid table count i.seat.id
 
-  module _ (key : Setting) (same : key ≡ g) (seen : ℕ) (after : Mine)
-      (told : Grows key (Read v) i.seat.me seen after) where
+  pub read_told : (key : Setting) → key ≡ g → (word : ℕ) → word ≡ index_of g (of_vertex v) → (seen : ℕ) (after : Mine)
+      → Grows key (Read (owner_at key word)) i.seat.me seen after → Grows g (Read v) i.seat.me seen after
+  read_told key same word at = event_told g keeps.1 i.seat.me (Read v) keeps.0 none key same word at Read refl
+
+  module _ (seen : ℕ) (after : Mine) (told : Grows g (Read v) i.seat.me seen after) where
     abbrev x : Step
     x = saw (Read v) seen
 
     abbrev stepped : Stepped g x i.seat.me.0
-    stepped = root_stepped g keeps.1 i.seat.me keeps.0 (Read v) refl none key same seen after told
+    stepped = told.1
 
-    grew : after.0 ≡ grow_view (root g) x i.seat.me.0
-    grew = root_grown g keeps.1 i.seat.me keeps.0 (Read v) refl none key same seen after told
+    abbrev grew : after.0 ≡ grow_view (root g) x i.seat.me.0
+    grew = told.0
 
     pub still_receipt : Has (root g) after.0 × IsSetting g
     still_receipt = ((grown_has (root g) x i.seat.me.0 after.0 keeps.0 grew).1, keeps.1)

@@ -2,14 +2,14 @@
 -- The root: an event of its own over the net, and a poll of settles.
 use Rattle.std.proofs.Common.{◌≡◌, ◌≢◌, ℕ, suc, ◌+◌, ◌-◌, ◌<◌, ◌≤◌, Bool, true, false, cond, eqb, List, [], ◌∷◌, ◌++◌, Option}
 use Rattle.std.proofs.Common.{Some, None, refl, sym, ap, ◌∙◌}
-use Rattle.std.proofs.Common.{subst, arith, append_assoc}
+use Rattle.std.proofs.Common.{subst, arith, append_assoc, append-nil}
 use Rattle.std.proofs.lemmas.List.{map-append}
 use Rattle.std.proofs.lemmas.Bool.{le-leb}
 use Rattle.atomic_table.specs.Seated.{TableId}
 use Rattle.atomic_table.specs.Table.{Allows}
 use Rattle.chip_graph.proofs.SumLemmas.{cond_yes}
 use Rattle.chip_link.specs.Link.{claims_of, after_clear}
-use Rattle.chip_part.specs.Setting.{Setting, IsSetting}
+use Rattle.chip_part.specs.Setting.{Setting}
 use Rattle.chip_part.specs.declared.act.Act as operation
 use Rattle.chip_part.specs.declared.act.Act.TheVariants as Do
 use Rattle.chip_part.specs.Edges.{root, stopper, root_edge, graph_edges}
@@ -22,7 +22,7 @@ use Rattle.chip_part.proofs.RuleLemmas.{met_rules}
 use Rattle.chip_core.specs.Core.{Step, Event, Take, Ack, Fire, Clear, Claim, Put, Halt, Settle, Seal, Read, Feed, End}
 use Rattle.chip_core.specs.Core.{Part, Out, Reply, opening_part, does, unmet_rule, part_of, part_in, tail_of, reply_of}
 use Rattle.chip_core.specs.Histories.{done_by, part_by}
-use Rattle.chip_core.specs.Words.{IsWord, word_of_event, left_by, word_to_note}
+use Rattle.chip_core.specs.Words.{IsWord, of_acks, word_of_event, left_by, word_to_note}
 use Rattle.chip_core.proofs.ReachingLemmas.{by_history}
 use Rattle.chip_core.proofs.NumberLemmas.{root_fits}
 use Rattle.chip_core.proofs.ShowingLemmas.{word_for}
@@ -37,7 +37,8 @@ use Rattle.chip_net.proofs.LayingLemmas.{inside}
 use Rattle.chip_net.specs.Tokens.{NetId}
 use Rattle.chip_net.proofs.ViewingLemmas.{grown_has, grown_part, find_else, part_push, part_append, ended_by}
 use Rattle.chip_net.proofs.ViewingLemmas.{joined_here, joined_else}
-use Rattle.chip_net.proofs.RulingLemmas.{Mine, word_of, left_over, one_exchange, event_allowed}
+use Rattle.chip_net.proofs.RulingLemmas.{Mine, word_of, left_over, one_exchange, allowed, event_asked, event_told}
+use Rattle.chip_net.proofs.LayingLemmas.{owner_at}
 
 -- the root sends on the root edges
 root_tail : (g : Setting) (v : ℕ) → tail_of g (root_edge g v) ≡ root g
@@ -52,32 +53,6 @@ root_record g x view view' has is = (
   ap (λ (v : View). find (stopper g) v.parts) is
       ∙ find_else (root g) (stopper g) x view.parts (λ z. omega arith),
 )
-
--- ---- an event of the root
-
-module _ (g : Setting) (setting : IsSetting g) (me : Mine) (has : Has (root g) me.0) (x : Event)
-    (mine : part_of g x ≡ root g) (none : unmet_rule g x (part_of_view g (root g) me.0) ≡ None) where
-  has' : Has (part_of g x) me.0
-  has' = subst (λ (p : ℕ). Has p me.0) (sym mine) has
-
-  none' : unmet_rule g x (part_of_view g (part_of g x) me.0) ≡ None
-  none' = subst (λ (p : ℕ). unmet_rule g x (part_of_view g p me.0) ≡ None) (sym mine) none
-
-  pub root_rule : (key : Setting) → key ≡ g → (slots id word : ℕ)
-      → word ≡ index_of g (word_of_event g x (part_of_view g (root g) me.0))
-      → Allows (Kept key) slots id me word (left_by g x (part_of_view g (root g) me.0)) (Grows key x me)
-  root_rule key same slots id word at = subst
-      (λ (p : ℕ). Allows (Kept key) slots id me word (left_by g x (part_of_view g p me.0)) (Grows key x me)) mine
-      (event_allowed g setting me x has' none' key same slots id word (at
-      ∙ ap (λ (p : ℕ). index_of g (word_of_event g x (part_of_view g p me.0))) (sym mine)))
-
-  module _ (key : Setting) (same : key ≡ g) (seen : ℕ) (after : Mine) (told : Grows key x me seen after) where
-    pub root_grown : after.0 ≡ grow_view (root g) (step_of x seen) me.0
-    root_grown = told.0
-        ∙ ap (λ (p : ℕ). grow_view p (step_of x seen) me.0) (ap (λ (h : Setting). part_of h x) same ∙ mine)
-
-    pub root_stepped : Stepped g (step_of x seen) me.0
-    root_stepped = subst (λ (h : Setting). Stepped h (step_of x seen) me.0) same told.1
 
 -- what is noted is noted
 noted_twice : (x : Event) (n : ℕ) → word_to_note x n ≡ word_to_note x (word_to_note x n)
@@ -105,12 +80,12 @@ module _ (i : Inside) (keeps : IsRoot i.setting.value i.seat.me.0 i.state) (x : 
   abbrev s : Part
   s = part_of_view g (root g) i.seat.me.0
 
-  module _ (key : Setting) (same : key ≡ g) (n : ℕ) (after : Mine) (told : Grows key x i.seat.me n after) where
-    stepped : Stepped g (step_of x n) i.seat.me.0
-    stepped = root_stepped g keeps.setting i.seat.me keeps.has x mine none key same n after told
+  module _ (n : ℕ) (after : Mine) (told : Grows g x i.seat.me n after) where
+    abbrev stepped : Stepped g (step_of x n) i.seat.me.0
+    stepped = told.1
 
     grew : after.0 ≡ grow_view (root g) (step_of x n) i.seat.me.0
-    grew = root_grown g keeps.setting i.seat.me keeps.has x mine none key same n after told
+    grew = told.0 ∙ ap (λ (p : ℕ). grow_view p (step_of x n) i.seat.me.0) mine
 
     -- it is the part in that log
     in_log : s ≡ part_in g stepped.log (root g)
@@ -186,10 +161,13 @@ module _ (i : Inside) (keeps : IsRoot i.setting.value i.seat.me.0 i.state) (x : 
 
 -- ---- a settle of a root edge
 
-module _ (i : Inside) (keeps : IsRoot i.setting.value i.seat.me.0 i.state) (v edge : ℕ)
-    (inside : v < i.setting.value.game.graph.vertices) (edge_is : edge ≡ root_edge i.setting.value v) where
+module _ (i : Inside) (keeps : IsRoot i.setting.value i.seat.me.0 i.state) (v : ℕ)
+    (inside : v < i.setting.value.game.graph.vertices) where
+  abbrev edge : ℕ
+  edge = root_edge i.setting.value v
+
   pub settle_mine : part_of i.setting.value (Settle edge) ≡ root i.setting.value
-  settle_mine = ap (tail_of i.setting.value) edge_is ∙ root_tail i.setting.value v
+  settle_mine = root_tail i.setting.value v
 
   pub settle_own : is_of_root i.setting.value (Settle edge) ≡ true
   settle_own = le-leb (graph_edges i.setting.value) edge (omega arith)
@@ -197,6 +175,29 @@ module _ (i : Inside) (keeps : IsRoot i.setting.value i.seat.me.0 i.state) (v ed
   pub settle_due : unmet_rule i.setting.value (Settle edge) (part_of_view i.setting.value (root i.setting.value) i.seat.me.0) ≡ None
   settle_due = met_rules i.setting.value (Settle edge) (part_of_view i.setting.value (root i.setting.value) i.seat.me.0)
       (omega arith)
+
+  has' : Has (part_of i.setting.value (Settle edge)) i.seat.me.0
+  has' = subst (λ (p : ℕ). Has p i.seat.me.0) (sym settle_mine) keeps.has
+
+  none' : unmet_rule i.setting.value (Settle edge)
+      (part_of_view i.setting.value (part_of i.setting.value (Settle edge)) i.seat.me.0) ≡ None
+  none' = met_rules i.setting.value (Settle edge)
+      (part_of_view i.setting.value (part_of i.setting.value (Settle edge)) i.seat.me.0) (omega arith)
+
+  pub settle_asked : (key : Setting) → key ≡ i.setting.value → (word : ℕ) → word ≡ index_of i.setting.value (of_acks edge)
+      → (tid : TableId) → i.seat.table_id ≡ tid → tid.words ≡ word_count i.setting.value
+      → (i.seat.table_id ≡ tid) × (word < tid.words) × Allows (Kept key) tid.slots i.seat.id i.seat.me word (λ n. n)
+      (Grows key (Settle (owner_at key word)) i.seat.me)
+  settle_asked key same word at tid table count =
+      event_asked i.setting.value keeps.setting i.seat.me (Settle edge) has' none' key same word at Settle refl i.seat.table_id
+      tid table count i.seat.id
+
+  pub settle_told : (key : Setting) → key ≡ i.setting.value → (word : ℕ)
+      → word ≡ index_of i.setting.value (of_acks edge) → (seen : ℕ) (after : Mine)
+      → Grows key (Settle (owner_at key word)) i.seat.me seen after
+      → Grows i.setting.value (Settle edge) i.seat.me seen after
+  settle_told key same word at =
+      event_told i.setting.value keeps.setting i.seat.me (Settle edge) has' none' key same word at Settle refl
 
 -- the same of the edge by another name
 pub settles_at : (old new : RootKnown) (e f seen : ℕ) → e ≡ f → MakesEvent old new (Settle e) seen
@@ -284,29 +285,42 @@ module _ (g : Setting) (me : Mine) (x : Event) (act : operation.Act) (due : IsDu
   feeding_word = subst (IsWord g) (sym word_is)
       (word_for g due.setting.game.graph_fits.some_vertex due.setting.some_ring x part due.met)
 
-  pub feeding_room : (word words : ℕ) → word ≡ index_of g (word_of 0 act) → words ≡ word_count g → word < words
-  feeding_room word words at all = let l = inside g (word_of 0 act) feeding_word in omega arith
-
-  pub feeding_rule : (key : Setting) → key ≡ g → (slots id word : ℕ) → word ≡ index_of g (word_of 0 act)
+  -- the rule allows it
+  feeding_rule : (key : Setting) → key ≡ g → (slots id word : ℕ) → word ≡ index_of g (word_of 0 act)
       → Allows (Kept key) slots id me word (left_over act) (Grows key x me)
   feeding_rule key same slots id word at =
-      let left : left_by g x part ≡ left_over act =
-      (λ j n. (over_left x due.feeding n ∙ ap (λ (a : operation.Act). left_over a n) (sym due.needed)) j) in
-      subst (λ (f : ℕ → ℕ). Allows (Kept key) slots id me word f (Grows key x me)) left
-      (root_rule g due.setting me due.has x (feeding_mine g x due.feeding).0 due.met key same slots id word
-      (at ∙ ap (index_of g) word_is))
+      let mine = (feeding_mine g x due.feeding).0 in
+      let left : left_by g x (part_of_view g (part_of g x) me.0) ≡ left_over act =
+      (λ j n. (ap (λ (p : ℕ). left_by g x (part_of_view g p me.0) n) mine
+      ∙ over_left x due.feeding n ∙ ap (λ (a : operation.Act). left_over a n) (sym due.needed)) j) in
+      let at' : index_of g (word_of_event g x (part_of_view g (part_of g x) me.0)) ≡ word =
+      ap (λ (p : ℕ). index_of g (word_of_event g x (part_of_view g p me.0))) mine ∙ ap (index_of g) (sym word_is) ∙ sym at in
+      subst (λ (z : Setting × ℕ × (ℕ → ℕ)). Allows (Kept z.0) slots id me z.1 z.2 (Grows z.0 x me))
+      (λ j. (sym same j, at' j, left j))
+      (allowed g slots id me x (did_in (part_of g x) me.0) (subst (λ (p : ℕ). Has p me.0) (sym mine) due.has)
+      (subst (λ (p : ℕ). unmet_rule g x (part_of_view g p me.0) ≡ None) (sym mine) due.met))
 
-  -- a store tells the same, whatever it found
-  pub store_rule : (key : Setting) → key ≡ g → (slots id word : ℕ) → word ≡ index_of g (word_of 0 act) → (value : ℕ)
-      → ((n : ℕ) → noted_over act n ≡ 0)
-      → Allows (Kept key) slots id me word (left_over act) (λ n. Grows key x me value)
-  store_rule key same slots id word at value zero =
-      let told : Grows key x me ≡ (λ n. Grows key x me value) =
-      (λ j n after. let step : step_of x n ≡ step_of x value =
-      (λ k. saw x ((noted_here n ∙ zero n ∙ sym (noted_here value ∙ zero value)) k)) in
-      ((after.0 ≡ grow_view (part_of key x) (step j) me.0) × Stepped key (step j) me.0 × (after.1 ≡ me.1))) in
-      subst (λ (f : ℕ → Mine → Type 0). Allows (Kept key) slots id me word (left_over act) f) told
-      (feeding_rule key same slots id word at)
+  module _ (key set : Setting) (same : key ≡ g) (set_is : set ≡ g) (table tid : TableId) (table_is : table ≡ tid)
+      (count : tid.words ≡ word_count g) (id word : ℕ) (at : word ≡ index_of set (word_of 0 act)) where
+    here : word ≡ index_of g (word_of 0 act)
+    here = at ∙ ap (λ (h : Setting). index_of h (word_of 0 act)) set_is
+
+    pub feeding_asked : (table ≡ tid) × (word < tid.words)
+        × Allows (Kept key) tid.slots id me word (left_over act) (Grows key x me)
+    feeding_asked =
+        let l = inside g (word_of 0 act) feeding_word in
+        (table_is, omega (arith, here), feeding_rule key same tid.slots id word here)
+
+    -- a store tells the same, whatever it found
+    pub store_asked : (value : ℕ) → ((n : ℕ) → noted_over act n ≡ 0) → (table ≡ tid) × (word < tid.words)
+        × Allows (Kept key) tid.slots id me word (left_over act) (λ n. Grows key x me value)
+    store_asked value zero =
+        let told : Grows key x me ≡ (λ n. Grows key x me value) =
+        (λ j n after. let step : step_of x n ≡ step_of x value =
+        (λ k. saw x ((noted_here n ∙ zero n ∙ sym (noted_here value ∙ zero value)) k)) in
+        ((after.0 ≡ grow_view (part_of key x) (step j) me.0) × Stepped key (step j) me.0 × (after.1 ≡ me.1))) in
+        subst (λ (f : ℕ → Mine → Type 0). (table ≡ tid) × (word < tid.words)
+        × Allows (Kept key) tid.slots id me word (left_over act) f) told feeding_asked
 
 -- ---- a poll
 
@@ -322,6 +336,14 @@ does_more old now after events x seen before made =
       events_are = map-append (λ (z : Step). z.event) before.steps (y ∷ [])
           ∙ ap (λ (es : List Event). es ++ x ∷ []) before.events_are;
     }
+
+-- none yet
+pub does_none : (r : RootKnown) (events : List Event) → events ≡ [] → DoesMore r r events
+does_none r events none = record {
+  steps = [];
+  record_is = λ j. record { net = r.net; did = sym (append-nil r.did) j; stopper_did = r.stopper_did };
+  events_are = sym none;
+}
 
 pub does_net : (old now : RootKnown) (events : List Event) → DoesMore old now events → now.net ≡ old.net
 does_net old now events before = ap (λ (r : RootKnown). r.net) before.record_is

@@ -8,6 +8,7 @@ use mathlib.Core.Option.{some, some-injective}
 use native.Mathlib.Decide.{ℕ_discrete}
 use lib.ListN.{get_elem?}
 use prog.Atomic.{either}
+use Rattle.atomic_table.specs.Seated.{TableId}
 use Rattle.atomic_table.specs.Table.{State, Me, Act, Valid, keeps, carried_after, stepped, Allows}
 use Rattle.atomic_table.proofs.Lists.{at_set, set_else}
 use Rattle.chip_graph.proofs.SumLemmas.{cond_yes, cond_no}
@@ -27,10 +28,10 @@ use Rattle.chip_part.proofs.RuleLemmas.{rules_met}
 use Rattle.chip_part.specs.Steps.{saw}
 use Rattle.chip_core.proofs.ReachingLemmas.{by_history}
 use Rattle.chip_core.proofs.ShowingLemmas.{word_for, word_there, finds, words_go_on}
-use Rattle.chip_net.specs.Layout.{index_of, value_in}
+use Rattle.chip_net.specs.Layout.{index_of, word_count, value_in}
 use Rattle.chip_net.specs.Views.{View, find, grow, grow_view, did_in, Has, part_of_view}
 use Rattle.chip_net.specs.Rule.{Kept, step_of, Grows}
-use Rattle.chip_net.proofs.LayingLemmas.{written_here, written_else}
+use Rattle.chip_net.proofs.LayingLemmas.{written_here, written_else, inside, owner_of, owner_at, owner_read}
 use Rattle.chip_net.proofs.ViewingLemmas.{some_is, set_there, find_here, find_else}
 
 -- a seat's view, and the slots that it holds, of which a net has none
@@ -259,11 +260,31 @@ module _ (g : Setting) (slots id : ℕ) (me : Mine) (v : ℕ) (did : List Step) 
 -- ---- an event of the root or the stopper, as a call of the table makes it
 
 module _ (g : Setting) (setting : IsSetting g) (me : Mine) (x : Event) (has : Has (part_of g x) me.0)
-    (none : unmet_rule g x (part_of_view g (part_of g x) me.0) ≡ None) where
-  pub event_allowed : (key : Setting) → key ≡ g → (slots id word : ℕ)
-      → word ≡ index_of g (word_of_event g x (part_of_view g (part_of g x) me.0))
-      → Allows (Kept key) slots id me word (left_by g x (part_of_view g (part_of g x) me.0)) (Grows key x me)
-  event_allowed key same slots id word at =
-      subst (λ (z : Setting × ℕ). Allows (Kept z.0) slots id me z.1 (left_by g x (part_of_view g (part_of g x) me.0))
-      (Grows z.0 x me)) (λ i. (sym same i, sym at i))
-      (allowed g slots id me x (did_in (part_of g x) me.0) has none)
+    (none : unmet_rule g x (part_of_view g (part_of g x) me.0) ≡ None) (key : Setting) (key_is : key ≡ g) (word : ℕ)
+    (at : word ≡ index_of g (word_of_event g x (part_of_view g (part_of g x) me.0))) (kind : ℕ → Event)
+    (of_kind : kind (owner_of (word_of_event g x (part_of_view g (part_of g x) me.0))) ≡ x) where
+  abbrev q : Word
+  q = word_of_event g x (part_of_view g (part_of g x) me.0)
+
+  there : IsWord g q
+  there = word_for g setting.game.graph_fits.some_vertex setting.some_ring x (part_of_view g (part_of g x) me.0) none
+
+  kind_is : kind (owner_at key word) ≡ x
+  kind_is = ap kind (ap (λ (k : Setting). owner_at k word) key_is ∙ owner_read g q there word at) ∙ of_kind
+
+  pub event_asked : (table tid : TableId) → table ≡ tid → tid.words ≡ word_count g → (id : ℕ)
+      → (table ≡ tid) × (word < tid.words)
+      × Allows (Kept key) tid.slots id me word (left_by g x (part_of_view g (part_of g x) me.0))
+      (Grows key (kind (owner_at key word)) me)
+  event_asked table tid same count id =
+      let l = inside g q there in (
+        same,
+        omega arith,
+        subst (λ (z : Setting × ℕ × Event). Allows (Kept z.0) tid.slots id me z.1
+            (left_by g x (part_of_view g (part_of g x) me.0)) (Grows z.0 z.2 me))
+            (λ i. (sym key_is i, sym at i, sym kind_is i))
+            (allowed g tid.slots id me x (did_in (part_of g x) me.0) has none),
+      )
+
+  pub event_told : (seen : ℕ) (after : Mine) → Grows key (kind (owner_at key word)) me seen after → Grows g x me seen after
+  event_told seen after = subst (λ (z : Setting × Event). Grows z.0 z.1 me seen after) (λ i. (key_is i, kind_is i))

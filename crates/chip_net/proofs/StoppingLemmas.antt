@@ -14,7 +14,7 @@ use Rattle.chip_part.specs.Setting.{Setting, IsSetting}
 use Rattle.chip_part.specs.Edges.{stopper, graph_edges}
 use Rattle.chip_part.proofs.RuleLemmas.{met_rules}
 use Rattle.chip_part.specs.Steps.{saw}
-use Rattle.chip_core.specs.Core.{Step, Seal, Part, opening_part, part_in, out_in, stop_in, does}
+use Rattle.chip_core.specs.Core.{Step, Seal, Part, opening_part, part_in, out_in, stop_in, does, unmet_rule}
 use Rattle.chip_core.specs.Histories.{part_by}
 use Rattle.chip_core.proofs.ReachingLemmas.{by_history}
 use Rattle.chip_core.proofs.LogLemmas.{edge_sound}
@@ -26,7 +26,9 @@ use Rattle.chip_net.specs.Views.{grow_view, did_in, Has, part_of_view, IsAlone}
 use Rattle.chip_net.specs.Rule.{Kept, Stepped, Grows}
 use Rattle.chip_net.specs.Roots.{StopperKnown, Seals}
 use Rattle.chip_net.proofs.ViewingLemmas.{grown_has, grown_part, alone_there, grown_alone}
-use Rattle.chip_net.proofs.RulingLemmas.{Mine, event_allowed}
+use Rattle.chip_net.proofs.RulingLemmas.{Mine, event_asked, event_told}
+use Rattle.chip_net.proofs.LayingLemmas.{owner_at}
+use Rattle.chip_net.specs.Layout.{word_count}
 
 not_some : (o : Option ℕ) → not (is_some o) ≡ is_none o
 not_some None = refl
@@ -49,21 +51,29 @@ module _ (i : Inside) (keeps : IsAlone (stopper i.setting.value) i.seat.me.0 × 
   has : Has (stopper g) i.seat.me.0
   has = alone_there (stopper g) i.seat.me.0 keeps.0
 
-  pub seal_rule : (key : Setting) → key ≡ g → (slots word : ℕ) → word ≡ edge
-      → Allows (Kept key) slots i.seat.id i.seat.me word (λ n. bit_or n (2 ^ 63)) (Grows key (Seal edge) i.seat.me)
-  seal_rule key same slots word at = event_allowed g setting i.seat.me (Seal edge) has
-      (met_rules g (Seal edge) s inside) key same slots i.seat.id word at
+  met : unmet_rule g (Seal edge) s ≡ None
+  met = met_rules g (Seal edge) s inside
 
-  module _ (key : Setting) (same : key ≡ g) (seen : ℕ) (after : Mine)
-      (told : Grows key (Seal edge) i.seat.me seen after) where
+  pub seal_asked : (key : Setting) → key ≡ g → (word : ℕ) → word ≡ edge → (tid : TableId) → i.seat.table_id ≡ tid
+      → tid.words ≡ word_count g
+      → (i.seat.table_id ≡ tid) × (word < tid.words) × Allows (Kept key) tid.slots i.seat.id i.seat.me word
+      (λ n. bit_or n (2 ^ 63)) (Grows key (Seal (owner_at key word)) i.seat.me)
+  seal_asked key same word at tid table count = event_asked g setting i.seat.me (Seal edge) has met key same word at Seal refl
+      i.seat.table_id tid table count i.seat.id
+
+  pub seal_told : (key : Setting) → key ≡ g → (word : ℕ) → word ≡ edge → (seen : ℕ) (after : Mine)
+      → Grows key (Seal (owner_at key word)) i.seat.me seen after → Grows g (Seal edge) i.seat.me seen after
+  seal_told key same word at = event_told g setting i.seat.me (Seal edge) has met key same word at Seal refl
+
+  module _ (seen : ℕ) (after : Mine) (told : Grows g (Seal edge) i.seat.me seen after) where
     abbrev x : Step
     x = saw (Seal edge) seen
 
     abbrev stepped : Stepped g x i.seat.me.0
-    stepped = subst (λ (h : Setting). Stepped h x i.seat.me.0) same told.1
+    stepped = told.1
 
-    grew : after.0 ≡ grow_view (stopper g) x i.seat.me.0
-    grew = told.0 ∙ ap (λ (h : Setting). grow_view (stopper h) x i.seat.me.0) same
+    abbrev grew : after.0 ≡ grow_view (stopper g) x i.seat.me.0
+    grew = told.0
 
     longer : (did_in (stopper g) after.0 ≡ did_in (stopper g) i.seat.me.0 ++ x ∷ []) × Has (stopper g) after.0
     longer = grown_has (stopper g) x i.seat.me.0 after.0 has grew

@@ -1,116 +1,97 @@
 -- Serves Tokens.antt.
--- The net's words as the medium of a turn, and what the turn leaves.
-use Rattle.std.proofs.Common.{◌≡◌, ℕ, ◌<◌, List, [], ◌∷◌, ◌++◌, reverse, sym, ap, ◌∙◌, subst}
+-- A turn over the net's words: it may begin, and what it leaves.
+use Rattle.std.proofs.Common.{◌≡◌, ℕ, List, ◌++◌, reverse, refl, sym, ap, ◌∙◌, subst}
 use Rattle.std.proofs.lemmas.List.{reverse-append, reverse-reverse}
+use Rattle.atomic_table.specs.Seated.{TableId}
 use Rattle.chip_part.specs.Setting.{Setting}
-use Rattle.chip_part.specs.declared.act.Act.{Act}
-use Rattle.chip_part.specs.Acting.{event_of, FitsSeen}
 use Rattle.chip_actor.specs.Actor.{Actor, StandsFor}
-use Rattle.chip_actor.specs.Medium.{Serves, Meets, MakesTurn}
+use Rattle.chip_actor.specs.Medium.{Meets, MakesTurn, IsTurnMade}
 use Rattle.chip_part.specs.Turn.{turn}
-use Rattle.chip_part.specs.Kept.{KeepsPart}
 use Rattle.chip_part.proofs.TurnLemmas.{turns_bounded}
 use Rattle.chip_part.specs.declared.cursor.Cursor.TheVariants as At
-use Rattle.chip_part.specs.Steps.{saw}
-use Rattle.chip_core.specs.Core.{Step, Part, opening_part, does}
-use Rattle.chip_core.specs.Histories.{part_by}
-use Rattle.chip_net.specs.Tokens.{NetId, ActorKnown, part_known, after_these, MakesStep, Holds, MakesTurnBy}
-use Rattle.chip_net.proofs.ViewingLemmas.{part_push}
+use Rattle.chip_core.specs.Core.{Step, Part}
+use Rattle.chip_net.specs.Traces.{TraceState}
+use Rattle.chip_net.specs.Views.{did_in, part_of_view}
+use Rattle.chip_net.specs.Tokens.{TurnSetup, IsOfNet, Holds, IsSeated, IsActor, known, MakesTurnBy}
+use Rattle.chip_net.proofs.RulingLemmas.{Mine}
 
--- the latest step first, with one more
-reverse_more : (x : Step) (ds : List Step) → reverse (x ∷ ds) ≡ reverse ds ++ x ∷ []
-reverse_more x ds = reverse-append (x ∷ []) ds
+module _ (setup now : TurnSetup) (key : Setting) (table : TableId) (me : Mine) (trace : TraceState) (a : Actor)
+    (began : setup ≡ now) (of_net : IsOfNet now.net.setting key now.net.table) (vertex : now.vertex ≡ a.vertex) (table_is : table ≡ now.net.table)
+    (actor : IsActor now.net.setting a me trace) where
+  abbrev g : Setting
+  g = now.net.setting
 
--- an operation of the hand is one of the medium
-pub serves : (first : ActorKnown) (borrow : ℕ) (here : NetId) (name : ℕ) (now after : ActorKnown) (act : Act) (seen : ℕ)
-    → MakesStep now after act seen
-    → Serves (Holds first borrow here name now) (Holds first borrow here name after) act seen
-serves first borrow here name now after act seen makes g v ds s held due =
-    let began : ActorKnown = record { net = first.net; vertex = first.vertex; room = first.room; did = reverse ds } in
-    let made : MakesStep began after act seen = subst (λ (k : ActorKnown). MakesStep k after act seen) held.now_is makes
-    in
-    let part_same : part_known began
-    ≡ s = ap (λ (h : Setting). part_by h (opening_part h) (reverse ds)) (sym held.setting_is)
-    ∙ sym held.part_is in
-    let step : Step = saw (event_of v act) seen in
-    let more : reverse ds ++ saw (event_of first.vertex act) seen ∷ [] ≡ reverse (step ∷ ds) =
-    (λ i. reverse ds ++ saw (event_of (sym held.vertex_is i) act) seen ∷ [])
-    ∙ sym (reverse_more step ds) in
-    record {
-      fits = subst (λ (z : Part × ℕ). FitsSeen z.0 (event_of z.1 act) seen)
-          (λ i. (part_same i, sym held.vertex_is i)) made.fits;
-      held = record {
-        here_is = held.here_is;
-        name_is = held.name_is;
-        setting_is = held.setting_is;
-        vertex_is = held.vertex_is;
-        now_is = made.record_is ∙ ap
-            (λ (d : List Step). record { net = first.net; vertex = first.vertex; room = first.room; did = d }) more;
-        part_is = ap (does g step) held.part_is ∙ sym (part_push g (opening_part g) (reverse ds) step)
-            ∙ ap (part_by g (opening_part g)) (sym (reverse_more step ds));
-      };
-    }
+  abbrev did : List Step
+  did = did_in a.vertex me.0
 
--- as a turn begins
-module _ (first hand : ActorKnown) (first_is : first ≡ hand) (borrow name : ℕ) (borrow_is : borrow ≡ name)
-    (here : NetId) (net_is : hand.net ≡ here) (a : Actor) (vertex : a.vertex ≡ hand.vertex)
-    (stands : StandsFor hand.net.setting (part_known hand) a) where
-  pub begins : Holds first borrow here name hand hand.net.setting a.vertex (reverse hand.did) (part_known hand)
-  begins =
-      let twice : reverse (reverse hand.did) ≡ hand.did = reverse-reverse hand.did in
-      record {
-        here_is = sym net_is ∙ ap (λ (k : ActorKnown). k.net) (sym first_is);
-        name_is = sym borrow_is;
-        setting_is = ap (λ (k : ActorKnown). k.net.setting) (sym first_is);
-        vertex_is = vertex ∙ ap (λ (k : ActorKnown). k.vertex) (sym first_is);
-        now_is = λ i. record {
-          net = (sym first_is i).net;
-          vertex = (sym first_is i).vertex;
-          room = (sym first_is i).room;
-          did = sym twice i;
-        };
-        part_is = ap (part_by hand.net.setting (opening_part hand.net.setting)) (sym twice);
-      }
+  abbrev part : Part
+  part = part_of_view g a.vertex me.0
 
-  pub may_turn : Meets (Holds first borrow here name hand) a (At.Take 0)
-  may_turn = (hand.net.setting, reverse hand.did, part_known hand, begins, stands, tt)
+  same : now ≡ setup
+  same = sym began
 
-  -- and as it is over: it is the same hand
-  pub same_hand : (there : NetId) (other : ℕ) (after : ActorKnown) (b : Actor) (work : ℕ)
-      → MakesTurn (Holds first borrow here name hand) a (Holds first borrow there other after) b work → other ≡ name
-  same_hand there other after b work makes =
-      (makes hand.net.setting (reverse hand.did) (part_known hand) begins stands).2.held.name_is ∙ borrow_is
+  begins : Holds setup now key table me trace g a.vertex (reverse did) part
+  begins = record {
+    same = same;
+    of_net = of_net;
+    table_is = table_is;
+    setting_is = refl;
+    vertex_is = sym vertex;
+    did_is = ap (λ (v : ℕ). did_in v me.0) vertex ∙ sym (reverse-reverse did);
+    part_is = ap (λ (v : ℕ). part_of_view g v me.0) (sym vertex);
+    seated = subst (λ (v : ℕ). IsSeated g v me trace) (sym vertex) actor.0;
+  }
 
-  -- which knows of one turn more
-  pub turned : (there : NetId) (other : ℕ) (after : ActorKnown) (b : Actor) (work : ℕ)
-      → MakesTurn (Holds first borrow here name hand) a (Holds first borrow there other after) b work
-      → MakesTurnBy hand after b work
-  turned there other after b work makes =
-      let made = makes hand.net.setting (reverse hand.did) (part_known hand) begins stands in
-      let more : List Step = made.0 in
-      let over = made.2 in
-      let all : reverse (reverse more ++ reverse hand.did) ≡ hand.did
-      ++ more = reverse-append (reverse more) (reverse hand.did)
-      ∙ (λ i. reverse-reverse hand.did i ++ reverse-reverse more i) in
-      let is : after ≡ after_these hand more = over.held.now_is
-      ∙ (λ i. record { net = (first_is i).net; vertex = (first_is i).vertex; room = (first_is i).room; did = all i })
-      in
-      let part_is : made.1 ≡ part_known after = over.held.part_is
-      ∙ ap (part_by hand.net.setting (opening_part hand.net.setting)) all ∙ ap part_known (sym is) in
-      let is_turn : turn hand.net.setting hand.vertex (part_known hand) more (part_known after) =
-      subst (λ (z : ℕ × Part). turn hand.net.setting z.0 (part_known hand) more z.1)
-      (λ i. (vertex i, part_is i)) over.is_turn in
-      let inside : hand.vertex < hand.net.setting.game.graph.vertices =
-      subst (λ (v : ℕ). v < hand.net.setting.game.graph.vertices) vertex stands.knows.vertex in
-      let kept : KeepsPart hand.net.setting hand.vertex (part_known hand) =
-      subst (λ (v : ℕ). KeepsPart hand.net.setting v (part_known hand)) vertex stands.kept in
-      record {
-        steps = more;
-        record_is = is;
-        is_turn = is_turn;
-        bounded = turns_bounded hand.net.setting hand.vertex inside (part_known hand) kept more
-            (part_known after, is_turn);
-        work_is = over.counted;
-        vertex = over.vertex ∙ vertex;
-        stands = subst (λ (s : Part). StandsFor hand.net.setting s b) part_is over.stands;
-      }
+  pub may_turn : Meets (Holds setup now key table me trace) a (At.Take 0)
+  may_turn = (g, reverse did, part, begins, actor.1, tt)
+
+  module _ (now' : TurnSetup) (key' : Setting) (table' : TableId) (me' : Mine) (trace' : TraceState) (b : Actor) (work : ℕ)
+      (makes : MakesTurn (Holds setup now key table me trace) a (Holds setup now' key' table' me' trace') b work) where
+    abbrev more : List Step
+    more = (makes g (reverse did) part begins actor.1).0
+
+    abbrev then : Part
+    then = (makes g (reverse did) part begins actor.1).1
+
+    abbrev over : IsTurnMade (Holds setup now' key' table' me' trace') g a.vertex (reverse did) part b work more then
+    over = (makes g (reverse did) part begins actor.1).2
+
+    -- it is still set up so
+    pub still : now' ≡ now
+    still = over.held.same ∙ sym same
+
+    at : now'.vertex ≡ b.vertex
+    at = sym over.held.vertex_is ∙ sym over.vertex
+
+    did_is : did_in b.vertex me'.0 ≡ did ++ more
+    did_is = ap (λ (v : ℕ). did_in v me'.0) (sym at) ∙ over.held.did_is
+        ∙ reverse-append (reverse more) (reverse did)
+        ∙ (λ j. reverse-reverse did j ++ reverse-reverse more j)
+
+    part_is : then ≡ part_of_view g b.vertex me'.0
+    part_is = over.held.part_is ∙ (λ j. part_of_view (still j).net.setting (at j) me'.0)
+
+    pub turned : MakesTurnBy (known table g a.vertex now.room me.0) (known table' g b.vertex now'.room me'.0) work
+    turned =
+        let is_turn : turn g a.vertex part more (part_of_view g b.vertex me'.0) =
+        subst (turn g a.vertex part more) part_is over.is_turn in record {
+          steps = more;
+          record_is = λ j. record {
+            net = record {
+              table = (over.held.table_is ∙ ap (λ (n : TurnSetup). n.net.table) still ∙ sym table_is) j;
+              setting = g;
+            };
+            vertex = over.vertex j;
+            room = (still j).room;
+            did = did_is j;
+          };
+          is_turn = is_turn;
+          bounded = turns_bounded g a.vertex actor.1.knows.vertex part actor.1.kept more (part_of_view g b.vertex me'.0, is_turn);
+          work_is = over.counted;
+        }
+
+    pub still_actor : IsActor g b me' trace'
+    still_actor = (
+      subst (λ (z : Setting × ℕ). IsSeated z.0 z.1 me' trace') (λ j. ((still j).net.setting, at j)) over.held.seated,
+      subst (λ (s : Part). StandsFor g s b) part_is over.stands,
+    )

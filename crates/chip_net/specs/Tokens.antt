@@ -1,21 +1,18 @@
 -- What the clauses of a net's calls know of its actors.
 use Rattle.std.specs.Prelude.{◌≡◌, ◌⊎◌, ℕ, ◌<◌, ◌≤◌, true, false, List, [], ◌∷◌, ◌++◌, length, reverse}
-use Rattle.std.specs.Prelude.{Option, Some, None}
+use Rattle.std.specs.Prelude.{None}
 use Rattle.atomic_table.specs.Seated.{TableId}
 use Rattle.atomic_table.specs.Table.{Me}
 use Rattle.chip_part.specs.Setting.{Setting, IsSetting}
-use Rattle.chip_part.specs.declared.act.Act.{Act}
 use Rattle.chip_actor.specs.Actor.{Actor, StandsFor}
-use Rattle.chip_part.specs.Acting.{event_of, FitsSeen}
 use Rattle.chip_part.specs.Part.{is_passive, deficit}
 use Rattle.chip_part.specs.Turn.{turn, most_steps}
 use Rattle.chip_part.specs.Counting.{work_of}
-use Rattle.chip_part.specs.Steps.{saw}
-use Rattle.chip_actor.specs.Medium.{IsDueBy}
 use Rattle.chip_core.specs.Core.{Step, Part, opening_part}
 use Rattle.chip_core.specs.Histories.{part_by}
+use Rattle.chip_net.specs.Layout.{word_count}
 use Rattle.chip_net.specs.Rule.{no_setting}
-use Rattle.chip_net.specs.Views.{View, IsAlone, did_in}
+use Rattle.chip_net.specs.Views.{History, View, IsAlone, did_in, part_of_view}
 use Rattle.chip_net.specs.Traces.{TraceState, Keeps, rows_of}
 use Rattle.chip_net.specs.declared.actor.Turn.{Turn}
 use Rattle.chip_net.specs.declared.actor.Turn.TheVariants.{Worked, Waiting, Idle}
@@ -44,60 +41,83 @@ newcomer net room vertex = record { net = net; vertex = vertex; room = room; did
 abbrev pub after_these : ActorKnown → List Step → ActorKnown
 after_these a steps = record { net = a.net; vertex = a.vertex; room = a.room; did = a.did ++ steps }
 
+-- what an actor knows of a vertex whose seat is at this table and has this view
+abbrev pub known : TableId → Setting → ℕ → ℕ → View → ActorKnown
+known table g v room view = record {
+  net = record { table = table; setting = g };
+  vertex = v;
+  room = room;
+  did = did_in v view;
+}
+
+-- no table of any net
+abbrev pub no_table : TableId
+no_table = record { words = 0; slots = 0; views_name = 0; atom = 0; block = 0; offset = 0; slot_names = [] }
+
 -- an actor of no net
 abbrev pub no_actor : ActorKnown
-no_actor = newcomer (record {
-  table = record {
-    words = 0;
-    slots = 0;
-    views_name = 0;
-    atom = 0;
-    block = 0;
-    offset = 0;
-    slot_names = [];
-  };
-  setting = no_setting;
-}) 0 0
+no_actor = newcomer (record { table = no_table; setting = no_setting }) 0 0
 
--- what an actor knows that has this hand
-abbrev pub known_of : Option ActorKnown → ActorKnown
-known_of None = no_actor
-known_of (Some known) = known
+-- an actor that lent its part is at no table
+abbrev pub seatless : ActorKnown → ActorKnown
+seatless a = record {
+  net = record { table = no_table; setting = a.net.setting };
+  vertex = a.vertex;
+  room = a.room;
+  did = a.did;
+}
 
--- the actor has its hand, and its state stands for the part that it has
-abbrev pub IsActor : Actor → Option ActorKnown → Type 0
-IsActor a None = ⊥
-IsActor a (Some known) = (a.vertex ≡ known.vertex) × StandsFor known.net.setting (part_known known) a
+-- the table at which an actor has its part, by what its seat has
+abbrev pub table_of : List History → TableId → TableId
+table_of [] table = no_table
+table_of (x ∷ xs) table = table
+
+-- what its seat knows, or knew as its part was lent
+abbrev pub me_of : List History → Me (Unit {0}) View → Me (Unit {0}) View → Me (Unit {0}) View
+me_of [] me knew = knew
+me_of (x ∷ xs) me knew = me
 
 -- what a seat knows that has the part of a vertex of this game and no other, with a trace of what the vertex did
-pub record IsHand (g : Setting) (v : ℕ) (me : Me (Unit {0}) View) (trace : TraceState) : Type 0 where
+pub record IsSeated (g : Setting) (v : ℕ) (me : Me (Unit {0}) View) (trace : TraceState) : Type 0 where
   pub setting : IsSetting g
   pub inside : v < g.game.graph.vertices
   pub alone : IsAlone v me.0
   pub slots : me.1 ≡ []
   pub traced : Keeps (rows_of (did_in v me.0)) trace
 
--- one operation was made and saw this
-pub record MakesStep (old new : ActorKnown) (act : Act) (seen : ℕ) : Type 0 where
-  pub record_is : new ≡ after_these old (saw (event_of old.vertex act) seen ∷ [])
-  pub fits : FitsSeen (part_known old) (event_of old.vertex act) seen
-
--- the operation is due for the actor
-abbrev pub IsDueFor : ActorKnown → Act → Type 0
-IsDueFor a act = IsDueBy a.net.setting a.vertex (part_known a) act
+-- and the state of the vertex stands for its part
+abbrev pub IsActor : Setting → Actor → Me (Unit {0}) View → TraceState → Type 0
+IsActor g a me trace = IsSeated g a.vertex me trace × StandsFor g (part_of_view g a.vertex me.0) a
 
 -- ---- the net's words as a medium
 
--- the actor that began its turn as `first`, with its hand lent as `borrow`, has done these steps, the latest first, and
--- this is its part. `here` is the net over which it makes them, `now` what its hand knows, which is lent as `name`
-pub record Holds (first : ActorKnown) (borrow : ℕ) (here : NetId) (name : ℕ) (now : ActorKnown) (g : Setting) (v : ℕ)
-    (ds : List Step) (s : Part) : Type 0 where
-  pub here_is : here ≡ first.net
-  pub name_is : name ≡ borrow
-  pub setting_is : g ≡ first.net.setting
-  pub vertex_is : v ≡ first.vertex
-  pub now_is : now ≡ record { net = first.net; vertex = first.vertex; room = first.room; did = reverse ds }
-  pub part_is : s ≡ part_by g (opening_part g) (reverse ds)
+-- what a turn leaves as it is: the net, the vertex, the room of its trace, and the names by which seat and trace are lent
+pub record TurnSetup : Type 0 where
+  pub net : NetId
+  pub vertex : ℕ
+  pub room : ℕ
+  pub seat : ℕ
+  pub trace : ℕ
+
+abbrev pub no_setup : TurnSetup
+no_setup = record { net = no_actor.net; vertex = 0; room = 0; seat = 0; trace = 0 }
+
+-- these are the words of a net for this setting: the key of the rule is the setting, and there are as many as it needs
+abbrev pub IsOfNet : Setting → Setting → TableId → Type 0
+IsOfNet g key table = (key ≡ g) × (table.words ≡ word_count g)
+
+-- in the turn that was set up so, the vertex has made these steps, the latest first, and this is its part. `now` is how
+-- the medium stands, with a seat at this table and this trace
+pub record Holds (setup now : TurnSetup) (key : Setting) (table : TableId) (me : Me (Unit {0}) View) (trace : TraceState) (g : Setting)
+    (v : ℕ) (ds : List Step) (s : Part) : Type 0 where
+  pub same : now ≡ setup
+  pub of_net : IsOfNet now.net.setting key now.net.table
+  pub table_is : table ≡ now.net.table
+  pub setting_is : g ≡ now.net.setting
+  pub vertex_is : v ≡ now.vertex
+  pub did_is : did_in now.vertex me.0 ≡ reverse ds
+  pub part_is : s ≡ part_of_view now.net.setting now.vertex me.0
+  pub seated : IsSeated now.net.setting now.vertex me trace
 
 -- ---- a turn
 
@@ -117,12 +137,10 @@ pub record MakesTurn (old new : ActorKnown) (answer : Turn) : Type 0 where
   pub answers : AnswersTurn old.net.setting old.vertex (work_of old.net.setting (part_known old) steps)
       (part_known new) answer
 
--- the same of an actor's hand, with how many steps count and the actor's state
-pub record MakesTurnBy (old new : ActorKnown) (a : Actor) (work : ℕ) : Type 0 where
+-- the same, with how many steps count
+pub record MakesTurnBy (old new : ActorKnown) (work : ℕ) : Type 0 where
   pub steps : List Step
   pub record_is : new ≡ after_these old steps
   pub is_turn : turn old.net.setting old.vertex (part_known old) steps (part_known new)
   pub bounded : length steps ≤ most_steps old.net.setting old.vertex
   pub work_is : work_of old.net.setting (part_known old) steps ≡ work
-  pub vertex : a.vertex ≡ old.vertex
-  pub stands : StandsFor old.net.setting (part_known new) a

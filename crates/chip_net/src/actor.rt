@@ -1,19 +1,23 @@
-ghost use Rattle.std.specs.Prelude.{◌≡◌, ℕ, ◌<◌, ◌≤◌, nat_lt, length, take, IfOk};
-ghost use Rattle.std.specs.Vec.{vec_capacity};
+ghost use Rattle.std.specs.Prelude.{◌≡◌, ◌≢◌, ℕ, ◌≤◌, [], nat_lt, length, take, Some, IfOk};
 ghost use Rattle.chip_actor.specs.Actor.{StandsFor};
+ghost use Rattle.chip_part.specs.Part.{opening_part};
 ghost use Rattle.chip_net.specs.Traces.{rows_of};
-ghost use Rattle.chip_net.specs.Tokens.{ActorKnown, part_known, MakesTurn, MakesTurnBy};
-ghost use Rattle.chip_net.specs.Views.{find};
+ghost use Rattle.chip_net.specs.Tokens.{ActorKnown, MakesTurn, MakesTurnBy, IsSeated, IsActor, known, newcomer, seatless};
+ghost use Rattle.chip_net.specs.Tokens.{IsOfNet};
+ghost use Rattle.chip_net.specs.Views.{find, view_without};
 ghost use Rattle.chip_net.specs.Meeting.{AreInPlace, Met};
 
-use crate::hand::Hand;
 use crate::net::Net;
 use crate::net_words::{NetWords, Turning};
-use crate::rule::PartSeat;
+use crate::rule::{Handing, PartSeat};
+use crate::trace::Trace;
 use chip_actor::ActorState;
 use chip_link::TraceRow;
+use chip_part::Setting;
 use std::alloc::{AllocError, Global};
 use std::marker::{Brand, Model, PhantomData};
+use std::mem::replace;
+use std::snapshot::Snapshot;
 
 /// What a turn came to.
 #[derive(Clone, Copy, PartialEq, Eq)]
@@ -27,34 +31,43 @@ pub enum Turn {
     Idle,
 }
 
-/// What an actor owns: the state of its vertex, and its seat at the words.
+/// What an actor owns: the state of its vertex, its seat at the words, and the trace of what it did there.
 #[derive(Drop)]
 pub(crate) struct Owned {
     state: ActorState,
-    // `None` only while actors meet.
-    hand: Option<Hand>,
+    setting: Snapshot<Setting>,
+    // It has no part while the root looks at all parts at once.
+    seat: PartSeat,
+    // What the seat knew when its part was lent.
+    knew: Snapshot<PartSeat>,
+    trace: Trace,
 }
 
 impl Model for Owned {
-    ghost use Rattle.chip_net.specs.Tokens.{ActorKnown, known_of, IsActor};
+    ghost use Rattle.chip_net.specs.Tokens.{ActorKnown, known, table_of, me_of, IsActor};
 
     ghost Value = { ActorKnown };
 
-    ghost view = { λ a. known_of a.hand };
+    ghost view = { λ a. known (table_of a.seat.me.0.parts a.seat.table_id) a.setting.value a.state.vertex a.trace.room
+        (me_of a.seat.me.0.parts a.seat.me a.knew.value.me).0 };
 
-    ghost invariant = { λ a. IsActor a.state a.hand };
+    ghost invariant = { λ a. IsActor a.setting.value a.state (me_of a.seat.me.0.parts a.seat.me a.knew.value.me) a.trace };
 }
 
 impl Owned {
-    /// This state and this hand.
-    pub(crate) fn new(state: ActorState, hand: Hand) -> Owned
-        requires vertex { state.vertex ≡ hand.vertex }
-        requires state { StandsFor hand.net.setting (part_known hand) state }
-        ensures { result ≡ hand }
+    /// For a vertex that has done nothing.
+    pub(crate) fn new(state: ActorState, setting: &Setting, seat: PartSeat, trace: Trace) -> Owned
+        requires seated { IsSeated setting.now state.vertex seat.me trace }
+        requires state { StandsFor setting.now (opening_part setting.now) state }
+        requires none { find state.vertex seat.me.0.parts ≡ Some [] }
+        ensures { result ≡ newcomer (record { table = seat.table_id; setting = setting.now }) trace.room state.vertex }
     {
         Owned {
             state,
-            hand: Some(hand),
+            setting: Snapshot::of(setting),
+            knew: Snapshot::of(&seat),
+            seat,
+            trace,
         }
     }
 
@@ -65,10 +78,15 @@ impl Owned {
         ensures same { (self.new.net ≡ self.old.net) × (self.new.vertex ≡ self.old.vertex)
             × (self.new.room ≡ self.old.room) }
     {
-        let Some(hand) = &mut self.hand else {
-            unreachable!()
+        let mut words = NetWords::<Brand> {
+            setting: net.setting(),
+            words: net.words(),
+            vertex: self.state.vertex(),
+            seat: &mut self.seat,
+            trace: &mut self.trace,
+            of: PhantomData,
         };
-        let work = turn_over(net, &mut self.state, hand);
+        let work = turn_over(&mut self.state, &mut words);
         if work > 0 {
             Turn::Worked(work as u64)
         } else if self.state.passive() {
@@ -76,6 +94,38 @@ impl Owned {
         } else {
             Turn::Waiting
         }
+    }
+
+    /// Its part goes to this seat.
+    fn lend(&mut self, net: &Net, seat: &mut PartSeat)
+        requires net { self.old.net ≡ net.now }
+        requires seat { seat.old.table_id ≡ net.now.table }
+        ensures lent { self.new ≡ seatless self.old }
+        ensures same { seat.new.table_id ≡ seat.old.table_id }
+        ensures part { find self.old.vertex seat.new.me.0.parts ≡ Some self.old.did }
+        ensures others { (p : ℕ) → self.old.vertex ≢ p → find p seat.new.me.0.parts ≡ find p seat.old.me.0.parts }
+    {
+        let own = replace(&mut self.seat, net.empty_seat());
+        self.knew = Snapshot::of(&own);
+        net.take_in(seat, own);
+    }
+
+    /// Its part comes back to a seat of its own.
+    fn take_back<J: Handing>(&mut self, net: &Net, seat: &mut PartSeat)
+        requires vertex { J.part ≡ self.old.vertex }
+        requires net { self.old.net.setting ≡ net.now.setting }
+        requires seat { seat.old.table_id ≡ net.now.table }
+        requires part { find self.old.vertex seat.old.me.0.parts ≡ Some self.old.did }
+        ensures back { self.new ≡ record {
+          net = net.now;
+          vertex = self.old.vertex;
+          room = self.old.room;
+          did = self.old.did;
+        } }
+        ensures same { (seat.new.table_id ≡ seat.old.table_id)
+            × (seat.new.me.0 ≡ view_without self.old.vertex seat.old.me.0) }
+    {
+        self.seat = net.take_out::<J>(seat);
     }
 }
 
@@ -131,68 +181,52 @@ impl Actor {
         ensures cut { result.1 ≡ nat_lt self.now.room (length (rows_of self.now.did)) }
     {
         let owned: &Owned = &self.owned;
-        let Some(hand) = &owned.hand else {
-            unreachable!()
-        };
-        let trace = hand.trace();
-        (trace.rows(), trace.is_cut())
+        (owned.trace.rows(), owned.trace.is_cut())
     }
 }
 
-/// The seats of all these actors come into one, which then looks at the words, and each gets its own back. So all that
-/// they did, and what the seat did, stands in one log. Nothing is taken from memory: an actor is held while the others meet.
+/// A whole turn over the words of the net; how many of its steps count. It is inlined, as is all of a turn: the words
+/// are then nowhere in memory, and a worker reads no address again after each of its operations.
+#[inline(always)]
+fn turn_over<J: Turning>(state: &mut ActorState, words: &mut NetWords<'_, J>) -> usize
+    requires setup { J.setup ≡ record {
+      net = record { table = words.old.words.now.table_id; setting = words.old.setting.now };
+      vertex = words.old.vertex;
+      room = words.old.trace.now.room;
+      seat = words.old.seat.ghost_name;
+      trace = words.old.trace.ghost_name;
+    } }
+    requires vertex { words.old.vertex ≡ state.old.vertex }
+    requires words { IsOfNet words.old.setting.now words.old.words.now.key.value words.old.words.now.table_id }
+    requires table { words.old.seat.now.table_id ≡ words.old.words.now.table_id }
+    requires actor { IsActor words.old.setting.now state.old words.old.seat.now.me words.old.trace.now }
+    ensures seat { words.new.seat.ghost_name ≡ words.old.seat.ghost_name }
+    ensures trace { words.new.trace.ghost_name ≡ words.old.trace.ghost_name }
+    ensures turn { MakesTurnBy (known words.old.seat.now.table_id words.old.setting.now state.old.vertex
+        words.old.trace.now.room words.old.seat.now.me.0) (known words.new.seat.now.table_id words.old.setting.now
+        state.new.vertex words.new.trace.now.room words.new.seat.now.me.0) result }
+    ensures actor { IsActor words.old.setting.now state.new words.new.seat.now.me words.new.trace.now }
+{
+    state.turn(words)
+}
+
+/// The parts of all these actors come to one seat, which then looks at the words, and each gets its own back. So all that
+/// they did, and what the seat did, stands in one log. Nothing is taken from memory.
 pub(crate) fn meet(net: &Net, seat: &mut PartSeat, actors: &mut Vec<Actor>)
     requires seat { seat.old.table_id ≡ net.now.table }
     requires actors { AreInPlace net.now actors.old.items }
     ensures seat { seat.new.table_id ≡ seat.old.table_id }
     ensures others { (p : ℕ) → length actors.old.items ≤ p → find p seat.new.me.0.parts ≡ find p seat.old.me.0.parts }
     ensures actors { actors.new.items ≡ actors.old.items }
-    ensures capacity { vec_capacity actors.new ≡ vec_capacity actors.old }
     ensures met { Met net.now.setting seat.old.me.0 actors.old.items }
 {
-    let Some(mut actor) = actors.pop() else {
-        net.look(seat);
-        return;
-    };
-    let owned: &mut Owned = &mut actor.owned;
-    let Some(hand) = owned.hand.take() else {
-        unreachable!()
-    };
-    let (own, rest) = hand.into_seat();
-    net.take_in(seat, own);
-    meet(net, seat, actors);
-    let own = net.take_out(seat, rest.vertex);
-    owned.hand = Some(rest.with_seat(own));
-    actors.push_reserved(actor);
-}
-
-/// A whole turn over the words of the net; how many of its steps count. It is inlined, as is all of a turn: the words
-/// are then nowhere in memory, and a worker reads no address again after each of its operations.
-#[inline(always)]
-fn turn_over(net: &Net, state: &mut ActorState, hand: &mut Hand) -> usize
-    requires net { hand.old.net ≡ net.now }
-    requires vertex { state.old.vertex ≡ hand.old.vertex }
-    requires state { StandsFor hand.old.net.setting (part_known hand.old) state.old }
-    ensures { MakesTurnBy hand.old hand.new state.new result }
-{
-    let mut words = NetWords::<Brand> {
-        net,
-        hand,
-        of: PhantomData,
-    };
-    turn_with(state, &mut words)
-}
-
-/// A whole turn over these words, which keep the hand that they borrow.
-#[inline(always)]
-fn turn_with<J: Turning>(state: &mut ActorState, words: &mut NetWords<'_, J>) -> usize
-    requires first { J.first ≡ words.old.hand.now }
-    requires borrow { J.borrow ≡ words.old.hand.ghost_name }
-    requires net { words.old.hand.now.net ≡ words.old.net.now }
-    requires vertex { state.old.vertex ≡ words.old.hand.now.vertex }
-    requires state { StandsFor words.old.hand.now.net.setting (part_known words.old.hand.now) state.old }
-    ensures lent { words.new.hand.ghost_name ≡ words.old.hand.ghost_name }
-    ensures turn { MakesTurnBy words.old.hand.now words.new.hand.now state.new result }
-{
-    state.turn(words)
+    for index in 0..actors.len() {
+        let actor = &mut actors[index];
+        actor.owned.lend(net, seat);
+    }
+    net.look(seat);
+    for index in 0..actors.len() {
+        let actor = &mut actors[index];
+        actor.owned.take_back::<Brand>(net, seat);
+    }
 }

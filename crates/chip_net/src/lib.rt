@@ -8,8 +8,6 @@
 #![tactic(auto)]
 
 mod actor;
-mod calls;
-mod hand;
 pub mod laws;
 mod layout;
 mod net;

@@ -1,8 +1,7 @@
-ghost use Rattle.std.specs.Prelude.{◌≡◌, ℕ, [], IfOk};
+ghost use Rattle.std.specs.Prelude.{◌≡◌, ℕ, ◌<◌, [], IfOk};
 
-use crate::calls;
 use crate::open::opening_words;
-use crate::rule::{PartSeat, Words};
+use crate::rule::{HandOn, Handing, PartSeat, SharedWords, TakeIn, WordTable};
 use chip_part::Setting;
 use std::alloc::{AllocError, Global};
 use std::marker::{Brand, Model};
@@ -12,7 +11,7 @@ use std::snapshot::Snapshot;
 #[derive(Drop)]
 pub struct Net {
     setting: Setting,
-    words: Words,
+    table: WordTable,
 }
 
 impl Model for Net {
@@ -23,18 +22,17 @@ impl Model for Net {
 
     ghost Value = { NetId };
 
-    ghost view = { λ a. record { table = a.words.shared.table_id; setting = a.setting } };
+    ghost view = { λ a. record { table = a.table.shared.table_id; setting = a.setting } };
 
-    ghost invariant = { λ a. (a.words.shared.key.value ≡ a.setting)
-        × (a.words.shared.table_id.words ≡ word_count a.setting) × (a.words.shared.table_id.slots ≡ 0)
-        × IsSetting a.setting };
+    ghost invariant = { λ a. (a.table.shared.key.value ≡ a.setting)
+        × (a.table.shared.table_id.words ≡ word_count a.setting) × IsSetting a.setting };
 }
 
 impl Net {
     ghost use Rattle.chip_part.specs.Setting.{IsSetting};
     ghost use Rattle.chip_net.specs.Layout.{word_count};
     ghost use Rattle.chip_net.specs.Rule.{Looked};
-    ghost use Rattle.chip_net.specs.Views.{find, Has, opening_view, view_without, IsAlone, join_views};
+    ghost use Rattle.chip_net.specs.Views.{find, Has, opening_view, view_without, IsAlone, join_views, no_parts};
 
     /// A net for this setting, as it opens, and the seat that has every part.
     pub(crate) fn lay_out(alloc: Global, setting: Setting) -> Result<(Net, PartSeat), AllocError>
@@ -44,8 +42,8 @@ impl Net {
         let opening = opening_words(alloc, &setting)?;
         let _ring = setting.ring();
         let key = Snapshot::of(&setting);
-        let (words, seat) = Words::of_words(alloc, &opening, &key)?;
-        Ok((Net { setting, words }, seat))
+        let (table, seat) = WordTable::of_words(alloc, &opening, &key)?;
+        Ok((Net { setting, table }, seat))
     }
 
     /// What the net was opened for.
@@ -57,25 +55,34 @@ impl Net {
     }
 
     /// The shared words.
-    pub(crate) fn words(&self) -> &Words
-        ensures table { result.now.shared.table_id ≡ self.now.table }
-        ensures key { result.now.shared.key.value ≡ self.now.setting }
+    pub(crate) fn words(&self) -> &SharedWords
+        ensures table { result.now.table_id ≡ self.now.table }
+        ensures key { result.now.key.value ≡ self.now.setting }
         ensures count { self.now.table.words ≡ word_count self.now.setting }
         ensures setting { IsSetting self.now.setting }
     {
-        &self.words
+        &self.table.shared
     }
 
     /// A seat of its own for a part, with all that it did.
-    pub(crate) fn take_out(&self, seat: &mut PartSeat, part: u64) -> PartSeat
+    pub(crate) fn take_out<J: Handing>(&self, seat: &mut PartSeat) -> PartSeat
         requires seat { seat.old.table_id ≡ self.now.table }
-        requires part { Has part seat.old.me.0 }
-        ensures kept { (seat.new.table_id ≡ seat.old.table_id) × (seat.new.me.0 ≡ view_without part seat.old.me.0) }
+        requires part { Has J.part seat.old.me.0 }
+        ensures kept { (seat.new.table_id ≡ seat.old.table_id) × (seat.new.me.0 ≡ view_without J.part seat.old.me.0) }
         ensures given { (result.table_id ≡ seat.old.table_id)
-            × (find part result.me.0.parts ≡ find part seat.old.me.0.parts) }
-        ensures alone { IsAlone part result.me.0 × (result.me.1 ≡ []) }
+            × (find J.part result.me.0.parts ≡ find J.part seat.old.me.0.parts) }
+        ensures alone { IsAlone J.part result.me.0 × (result.me.1 ≡ []) }
     {
-        calls::hand_on::<Brand>(&self.words, seat, part)
+        self.table.shared.split_seat::<HandOn<J>>(seat)
+    }
+
+    /// A seat without parts.
+    pub(crate) fn empty_seat(&self) -> PartSeat
+        ensures empty { result.me ≡ (no_parts, []) }
+        ensures some { 0 < self.now.table.words }
+    {
+        let (_, seat) = self.table.shared.load_new_seat::<Brand>(0);
+        seat
     }
 
     /// A look at the words: what the parts of the seat did stands in one log.
@@ -84,7 +91,7 @@ impl Net {
         ensures same { (seat.new.table_id ≡ seat.old.table_id) × (seat.new.me ≡ seat.old.me) }
         ensures looked { Looked self.now.setting seat.old.me.0 }
     {
-        calls::look::<Brand>(&self.words, seat);
+        let _ = self.table.shared.load::<Brand>(seat, 0);
     }
 
     /// A seat takes in the part of another, which has no other part.
@@ -95,6 +102,6 @@ impl Net {
         ensures same { seat.new.table_id ≡ seat.old.table_id }
         ensures joined { seat.new.me ≡ (join_views seat.old.me.0 other.me.0, seat.old.me.1) }
     {
-        calls::take_in(&self.words, seat, other);
+        self.table.shared.join_seat::<TakeIn>(seat, other);
     }
 }

@@ -11,11 +11,10 @@ ghost use Rattle.chip_net.specs.Tokens.{newcomer};
 ghost use Rattle.chip_net.specs.Roots.{new_root, new_stopper};
 
 use crate::actor::{Actor, Owned};
-use crate::hand::Hand;
 use crate::layout::{cell_word, edge_word, word_count};
 use crate::net::Net;
 use crate::root::Root;
-use crate::rule::PartSeat;
+use crate::rule::{Handing, PartSeat};
 use crate::stopper::Stopper;
 use crate::trace::Trace;
 use chip_actor::ActorState;
@@ -23,6 +22,7 @@ use chip_graph::Game;
 use chip_link::Ring;
 use chip_part::Setting;
 use std::alloc::{AllocError, Global};
+use std::marker::Brand;
 use std::snapshot::Snapshot;
 
 /// Lays out the message of one root edge, where its vertex starts with chips.
@@ -53,7 +53,7 @@ pub(crate) fn opening_words(alloc: Global, setting: &Setting) -> Result<Vec<u64>
 }
 
 /// What the actor of one vertex owns. The seat hands its part on.
-fn one_owned(
+fn one_owned<J: Handing>(
     alloc: Global,
     net: &Net,
     seat: &mut PartSeat,
@@ -61,18 +61,17 @@ fn one_owned(
     vertex: u64,
 ) -> Result<Owned, AllocError>
     requires table { seat.old.table_id ≡ net.now.table }
-    requires vertex { vertex < net.now.setting.game.graph.vertices }
+    requires vertex { (J.part ≡ vertex) × (vertex < net.now.setting.game.graph.vertices) }
     requires part { find vertex seat.old.me.0.parts ≡ Some [] }
     ensures table { seat.new.table_id ≡ seat.old.table_id }
     ensures others { (p : ℕ) → vertex < p → find p seat.new.me.0.parts ≡ find p seat.old.me.0.parts }
     ensures actor { IfOk result (λ a. a ≡ newcomer net.now trace_rows vertex) }
 {
-    let own = net.take_out(seat, vertex);
+    let own = net.take_out::<J>(seat);
     let setting = net.setting();
     let trace = Trace::new(alloc, trace_rows as usize)?;
     let state = ActorState::new(alloc, setting.game(), vertex, setting.ring().cells())?;
-    let hand = Hand::new(Snapshot::of(setting), own, vertex, trace);
-    Ok(Owned::new(state, hand))
+    Ok(Owned::new(state, setting, own, trace))
 }
 
 /// What the actors of all vertices own, ascending.
@@ -94,7 +93,7 @@ fn all_owned(
     let vertices = net.setting().vertices();
     let mut all = Vec::with_capacity(alloc, vertices as usize)?;
     for vertex in 0..vertices {
-        all.push_reserved(one_owned(alloc, net, seat, trace_rows, vertex)?);
+        all.push_reserved(one_owned::<Brand>(alloc, net, seat, trace_rows, vertex)?);
     }
     Ok(all)
 }
@@ -112,7 +111,8 @@ fn boxed(alloc: Global, all: Vec<Owned>) -> Result<Vec<Actor>, AllocError>
 }
 
 /// The stopper, where there is to be one: its part then leaves the seat.
-fn stopper_of(net: &Net, seat: &mut PartSeat, stoppable: bool) -> Option<Stopper>
+fn stopper_of<J: Handing>(net: &Net, seat: &mut PartSeat, stoppable: bool) -> Option<Stopper>
+    requires part { J.part ≡ stopper net.now.setting }
     requires table { seat.old.table_id ≡ net.now.table }
     requires root { find (root net.now.setting) seat.old.me.0.parts ≡ Some [] }
     requires stopper { find (stopper net.now.setting) seat.old.me.0.parts ≡ Some [] }
@@ -124,8 +124,7 @@ fn stopper_of(net: &Net, seat: &mut PartSeat, stoppable: bool) -> Option<Stopper
     if !stoppable {
         return None;
     }
-    let part = net.setting().vertices() + 1;
-    let own = net.take_out(seat, part);
+    let own = net.take_out::<J>(seat);
     Some(Stopper::new(Snapshot::of(net.setting()), own))
 }
 
@@ -147,7 +146,7 @@ fn tokens(
 {
     let owned = all_owned(alloc, net, &mut seat, trace_rows)?;
     let actors = boxed(alloc, owned)?;
-    let stopper = stopper_of(net, &mut seat, stoppable);
+    let stopper = stopper_of::<Brand>(net, &mut seat, stoppable);
     let root = Root::new(alloc, net.setting(), seat)?;
     Ok((root, actors, stopper))
 }
@@ -198,7 +197,13 @@ impl Net {
             (record { net = r.0; root = r.1; actors = r.2; stopper = r.3 })) }
     {
         let setting = Setting::of_copy(alloc, game, Ring::of(ring), false)?;
-        Ok(Net::of(alloc, setting, trace_rows, stoppable)?.into_parts())
+        let Opened {
+            net,
+            root,
+            actors,
+            stopper,
+        } = Net::of(alloc, setting, trace_rows, stoppable)?;
+        Ok((net, root, actors, stopper))
     }
 
     /// The same where the root may feed more chips, until it notes the end of feeding: the net can't close before.
@@ -214,15 +219,12 @@ impl Net {
             (record { net = r.0; root = r.1; actors = r.2; stopper = r.3 })) }
     {
         let setting = Setting::of_copy(alloc, game, Ring::of(ring), true)?;
-        Ok(Net::of(alloc, setting, trace_rows, stoppable)?.into_parts())
-    }
-}
-
-impl Opened {
-    /// The net, the root, the actors and the stopper.
-    fn into_parts(self) -> (Net, Root, Vec<Actor>, Option<Stopper>)
-        ensures { self ≡ record { net = result.0; root = result.1; actors = result.2; stopper = result.3 } }
-    {
-        (self.net, self.root, self.actors, self.stopper)
+        let Opened {
+            net,
+            root,
+            actors,
+            stopper,
+        } = Net::of(alloc, setting, trace_rows, stoppable)?;
+        Ok((net, root, actors, stopper))
     }
 }

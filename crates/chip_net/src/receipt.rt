@@ -5,12 +5,11 @@ ghost use Rattle.chip_net.specs.Finish.{ReadsAt, IsReading, blank_tally};
 ghost use Rattle.chip_net.specs.Meeting.{AreInPlace, Together};
 
 use crate::actor::{Actor, meet};
-use crate::calls;
 use crate::layout::fired_word;
 use crate::net::Net;
 use crate::rule::PartSeat;
 use crate::tally::Tally;
-use chip_link::{Event, FiredWord};
+use chip_link::FiredWord;
 use chip_part::Setting;
 use std::marker::{Brand, Model};
 use std::snapshot::Snapshot;
@@ -77,8 +76,7 @@ impl Receipt {
     {
         let seat = &mut self.seat;
         let word = fired_word(net.setting(), vertex);
-        let event = Event::Read(vertex);
-        calls::load::<Brand>(net.words(), seat, word, event)
+        net.words().load::<Brand>(seat, word)
     }
 
     /// Reads every fired word once, ascending.

@@ -17,7 +17,7 @@ use chip_link::Event;
 use chip_part::{Reply, Setting};
 use chip_sequence::{Outcome, after_from};
 use std::alloc::{AllocError, Global};
-use std::marker::Model;
+use std::marker::{Brand, Model};
 
 /// The root of a net. Contracts see what it has done.
 #[derive(Drop)]
@@ -65,11 +65,11 @@ impl Root {
         let edge = net.setting().root_edge(vertex);
         let hand: &mut RootHand = &mut self.hand;
         hand.may_feed(vertex, edge, count)?;
-        let Reply::Done(place) = hand.make(net, Event::Clear(edge)) else {
+        let Reply::Done(place) = hand.make::<Brand>(net, Event::Clear(edge)) else {
             return Err(FeedFault::Full);
         };
-        hand.make(net, Event::Feed { edge, count });
-        hand.make(net, Event::Put(edge));
+        hand.make::<Brand>(net, Event::Feed { edge, count });
+        hand.make::<Brand>(net, Event::Put(edge));
         Ok(place)
     }
 
@@ -82,7 +82,7 @@ impl Root {
         ensures same { self.new.net ≡ self.old.net }
     {
         let hand: &mut RootHand = &mut self.hand;
-        hand.make(net, Event::End);
+        hand.make::<Brand>(net, Event::End);
         hand.settle_from(net, 1);
         hand.poll_state()
     }

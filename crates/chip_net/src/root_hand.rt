@@ -13,7 +13,6 @@ ghost use Rattle.chip_net.specs.Roots.{new_root, root_part, root_deficit, has_en
 ghost use Rattle.chip_net.specs.Roots.{IsDueForRoot, IsDueInView, MakesEvent, Replies, DoesMore, settles_from};
 ghost use Rattle.chip_net.specs.Roots.{HoldsNothing, AnswersPoll, AllowsFeed, feed_fault};
 
-use crate::calls;
 use crate::layout::{acks_word, cell_word, edge_word, root_acks};
 use crate::net::Net;
 use crate::poll::{FeedFault, RootState};
@@ -26,6 +25,19 @@ use chip_root::RootBooks;
 use std::alloc::{AllocError, Global};
 use std::marker::{Brand, Model};
 use std::snapshot::Snapshot;
+
+/// An event of the root.
+pub(crate) trait Making {
+    ghost use Rattle.chip_core.specs.Core.{Event};
+
+    ghost event: { Event };
+}
+
+impl Making for Brand {
+    ghost use Rattle.chip_core.specs.Core.{End};
+
+    ghost event = { End };
+}
 
 /// The seat of the root, and its state.
 #[derive(Drop)]
@@ -78,17 +90,13 @@ impl RootHand {
         ensures { (seen : ℕ) × MakesEvent self.old self.new (Settle (root_edge self.old.net.setting vertex)) seen }
     {
         let seat = &mut self.seat;
-        let setting = net.setting();
-        let edge = setting.root_edge(vertex);
-        let event = Event::Settle(edge);
-        let seen = calls::load::<Brand>(net.words(), seat, word, event);
+        let seen = net.words().load::<Brand>(seat, word);
         self.state.settle(vertex as usize, seen);
     }
 
-    /// Settles the root edges from the first or the second one on.
+    /// Settles the root edges of the vertices from this one on.
     pub(crate) fn settle_from(&mut self, net: &Net, first: u64)
         requires net { self.old.net ≡ net.now }
-        requires first { first ≤ 1 }
         ensures settles { DoesMore self.old self.new
             (settles_from self.old.net.setting first (self.old.net.setting.game.graph.vertices - first)) }
         ensures holds { HoldsNothing self.old → HoldsNothing self.new }
@@ -102,7 +110,8 @@ impl RootHand {
     }
 
     /// Makes an event by which the root feeds, or ends feeding.
-    pub(crate) fn make(&mut self, net: &Net, event: Event) -> Reply
+    pub(crate) fn make<J: Making>(&mut self, net: &Net, event: Event) -> Reply
+        requires event { J.event ≡ event }
         requires net { self.old.net ≡ net.now }
         requires due { IsDueForRoot self.old event }
         ensures { Replies self.old self.new event result }
@@ -110,7 +119,7 @@ impl RootHand {
         let Ok(act) = self.state.may(&event) else {
             unreachable!()
         };
-        let seen = operate(net, &mut self.seat, &act, event);
+        let seen = operate::<J>(net, &mut self.seat, &act);
         self.state.apply(&event, seen)
     }
 
@@ -184,34 +193,25 @@ fn fault_of(rule: Rule) -> Option<FeedFault>
 }
 
 /// The operation of an event of the root on the shared words; what it found, 0 of a store.
-fn operate(net: &Net, seat: &mut PartSeat, act: &Act, event: Event) -> u64
+fn operate<J: Making>(net: &Net, seat: &mut PartSeat, act: &Act) -> u64
     requires table { seat.old.table_id ≡ net.now.table }
-    requires due { IsDueInView net.now.setting seat.old.me.0 event act.now }
+    requires due { IsDueInView net.now.setting seat.old.me.0 J.event act.now }
     ensures same { seat.new.table_id ≡ seat.old.table_id }
-    ensures told { (n : ℕ) × (result ≡ word_to_note event n) × Grows net.now.setting event seat.old.me n seat.new.me }
+    ensures told { (n : ℕ) × (result ≡ word_to_note J.event n)
+        × Grows net.now.setting J.event seat.old.me n seat.new.me }
 {
     let setting = net.setting();
     let words = net.words();
     match *act {
-        Act::Settle { edge } => {
-            let word = acks_word(setting, edge);
-            calls::load::<Brand>(words, seat, word, event)
-        }
-        Act::Clear { edge, cell } => {
-            let word = cell_word(setting, edge, cell);
-            calls::load::<Brand>(words, seat, word, event)
-        }
+        Act::Settle { edge } => words.load::<Brand>(seat, acks_word(setting, edge)),
+        Act::Clear { edge, cell } => words.load::<Brand>(seat, cell_word(setting, edge, cell)),
         Act::Claim {
             edge,
             expected,
             new,
-        } => {
-            let word = edge_word(setting, edge);
-            calls::exchange::<Brand>(words, seat, word, expected, new, event)
-        }
+        } => words.compare_exchange::<Brand>(seat, edge_word(setting, edge), expected, new),
         Act::Put { edge, cell, value } => {
-            let word = cell_word(setting, edge, cell);
-            calls::store::<Brand>(words, seat, word, value, event);
+            words.store::<Brand>(seat, cell_word(setting, edge, cell), value);
             0
         }
         _ => unreachable!(),

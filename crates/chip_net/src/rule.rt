@@ -1,7 +1,7 @@
 //! The rule of the table, and what a step of it tells.
 
 use crate::views::View;
-use atomic_table::{Join, Play, Seat, Split, Table, TableRule};
+use atomic_table::{Join, Play, Seat, Shared, Split, Table, TableRule};
 use chip_part::Setting;
 use std::alloc::Global;
 use std::marker::{Brand, PhantomData};
@@ -19,40 +19,18 @@ impl TableRule<(), View, Snapshot<Setting>> for NetRule {
     ghost first = { λ key. opening_view key.value };
 }
 
-/// The shared words, under the rule.
-pub(crate) type Words = Table<(), View, Snapshot<Setting>, NetRule, Global>;
+/// The table of all words, under the rule.
+pub(crate) type WordTable = Table<(), View, Snapshot<Setting>, NetRule, Global>;
+
+/// Its words, which change in single atomic steps.
+pub(crate) type SharedWords = Shared<(), View, Snapshot<Setting>, NetRule>;
 
 /// A seat at them, whose view has the parts that its owner may act for.
 pub(crate) type PartSeat = Seat<(), View>;
 
-/// An event, and the net in which it is made.
-pub(crate) trait Making {
-    ghost use Rattle.chip_part.specs.Setting.{Setting};
-    ghost use Rattle.chip_core.specs.Core.{Event};
-
-    ghost setting: { Setting };
-
-    ghost event: { Event };
-}
-
-impl Making for Brand {
-    ghost use Rattle.chip_core.specs.Core.{Put};
-    ghost use Rattle.chip_net.specs.Rule.{no_setting};
-
-    ghost setting = { no_setting };
-
-    ghost event = { Put 0 };
-}
-
-/// The part that acts did the event more.
-pub(crate) struct Grow<J> {
-    of: PhantomData<J>,
-}
-
-impl<J: Making> Play<(), View> for Grow<J> {
-    ghost use Rattle.chip_net.specs.Rule.{Grows};
-
-    ghost then = { λ _. Grows J.setting J.event };
+// What a step tells: the proof of each call picks it.
+impl Play<(), View> for Brand {
+    ghost then = { λ _ _ _ _. Unit {0} };
 }
 
 /// A part that is handed on.
@@ -88,28 +66,4 @@ impl Join<View> for TakeIn {
     ghost both = { join_views };
 
     ghost spent = { no_parts };
-}
-
-/// A net at whose words somebody looks.
-pub(crate) trait Looking {
-    ghost use Rattle.chip_part.specs.Setting.{Setting};
-
-    ghost setting: { Setting };
-}
-
-impl Looking for Brand {
-    ghost use Rattle.chip_net.specs.Rule.{no_setting};
-
-    ghost setting = { no_setting };
-}
-
-/// Nothing changes, and what the parts of the view did stands in one log.
-pub(crate) struct Look<J> {
-    of: PhantomData<J>,
-}
-
-impl<J: Looking> Play<(), View> for Look<J> {
-    ghost use Rattle.chip_net.specs.Rule.{Looks};
-
-    ghost then = { λ _. Looks J.setting };
 }

@@ -3,11 +3,10 @@ ghost use Rattle.chip_part.specs.Edges.{graph_edges, stopper};
 ghost use Rattle.chip_net.specs.Views.{IsAlone, find};
 ghost use Rattle.chip_net.specs.Roots.{StopperKnown, new_stopper, Seals};
 
-use crate::calls;
 use crate::layout::edge_word;
 use crate::net::Net;
 use crate::rule::PartSeat;
-use chip_link::{EdgeWord, Event};
+use chip_link::EdgeWord;
 use chip_part::Setting;
 use std::marker::{Brand, Model};
 use std::snapshot::Snapshot;
@@ -81,14 +80,9 @@ impl Stopper {
             return Err(NoEdge);
         }
         let word = edge_word(setting, edge);
-        let event = Event::Seal(edge);
-        let before = calls::fetch_or::<Brand>(
-            net.words(),
-            &mut self.seat,
-            word,
-            EdgeWord::SEAL,
-            event,
-        );
+        let before = net
+            .words()
+            .fetch_or::<Brand>(&mut self.seat, word, EdgeWord::SEAL);
         let before = EdgeWord::from_word(before);
         Ok(SealedAt {
             count: before.claims,

@@ -5,6 +5,9 @@ use Rattle.chip_net.specs.Views.{find}
 use Rattle.chip_net.specs.Tokens.{newcomer}
 use Rattle.chip_net.proofs.open.all_owned.Given as goal
 
+abbrev pub ghosts-one_owned : goal.ghosts-one_owned
+ghosts-one_owned a = record { part = a.vertex }
+
 abbrev pub invariant-loop-vertex : goal.invariant-loop-vertex
 invariant-loop-vertex l = record {
   table : l.seat.table_id ≡ l.initial.seat.table_id;

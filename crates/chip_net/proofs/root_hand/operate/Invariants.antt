@@ -1,10 +1,11 @@
+use Rattle.chip_net.specs.Rule.{Grows}
 use Rattle.chip_net.proofs.root_hand.operate.Given as goal
 
 abbrev pub ghosts-load : goal.ghosts-load
-ghosts-load a = record { setting = a.table.now.shared.key.value; event = a._event }
+ghosts-load g a = record { then = λ _. Grows a.self.now.key.value g.J.Making.event }
 
-abbrev pub ghosts-exchange : goal.ghosts-exchange
-ghosts-exchange a = record { setting = a.table.now.shared.key.value; event = a._event }
+abbrev pub ghosts-compare_exchange : goal.ghosts-compare_exchange
+ghosts-compare_exchange g a = record { then = λ _. Grows a.self.now.key.value g.J.Making.event }
 
 abbrev pub ghosts-store : goal.ghosts-store
-ghosts-store a = record { setting = a.table.now.shared.key.value; event = a._event }
+ghosts-store g a = record { then = λ _. Grows a.self.now.key.value g.J.Making.event }

@@ -1,26 +1,49 @@
-use Rattle.std.proofs.Common.{◌≡◌, ◌∙◌, sym, ap, subst, arith}
+use Rattle.std.proofs.Common.{◌≡◌, ◌<◌, ◌∙◌, sym, ap, subst, arith}
+use Rattle.chip_actor.specs.Actor.{StandsFor}
+use Rattle.chip_part.specs.Setting.{Setting}
+use Rattle.chip_core.specs.Core.{Part}
 use Rattle.chip_net.specs.declared.actor.Turn.{Turn}
-use Rattle.chip_net.specs.Tokens.{MakesTurn, known_of, part_known}
-use Rattle.chip_net.proofs.AnsweringLemmas.{worked, waiting, idle}
+use Rattle.chip_net.specs.Tokens.{NetId, ActorKnown, MakesTurn, MakesTurnBy, known, part_known}
+use Rattle.chip_net.specs.contracts.actor.Owned.{the_view}
+use Rattle.chip_net.proofs.AnsweringLemmas.{own_is, alone_has_part, worked, waiting, idle}
 use Rattle.chip_net.proofs.actor.Owned.turn.Goals as goal
-use Rattle.chip_net.proofs.actor.Owned.turn.Goals.{then-work-gt0, else-work-gt0+then-passive}
-use Rattle.chip_net.proofs.actor.Owned.turn.Goals.{else-work-gt0+else-passive}
+use Rattle.chip_net.proofs.actor.Owned.turn.Goals.{then-work-gt0, else-work-gt0+then-passive, else-work-gt0+else-passive}
 
 pub returns-clause-turn : goal.returns-clause-turn
 returns-clause-turn c =
-    let own : c.in-Some.hand ≡ c.args.self.now = sym (ap known_of c.in-Some.is) ∙ c.self.view_is in
-    let over = c.turn_over-work.ensures in
+    let i = c.self.inside in
+    let work = c.turn_over-work.result in
     let a = c.turn_over-work.new.state in
-    let after = c.turn_over-work.new.hand in
+    let seat = c.turn_over-work.new.words.seat.now in
+    let trace = c.turn_over-work.new.words.trace.now in
+    let own = c.args.self.now in
+    let after : ActorKnown = the_view record { state = a; setting = i.setting; seat = seat; knew = i.knew; trace = trace } in
+    let here : c.setting.result.now ≡ own.net.setting = c.setting.ensures.value ∙ sym (ap (λ (n : NetId). n.setting) c.requires.net)
+    in
+    let mine : c.setting.result.now ≡ i.setting.value = here ∙ sym (ap (λ (k : ActorKnown). k.net.setting) c.self.view_is) in
+    let count = c.words.ensures.count in
+    let vertex = c.words.ensures.setting.game.graph_fits.some_vertex in
+    let some : 0 < c.args.net.now.table.words = omega (arith, count, vertex) in
+    let part = alone_has_part a.vertex seat.table_id seat.me i.knew.value.me c.turn_over-work.ensures.actor.0.alone in
+    let then : known seat.table_id c.setting.result.now a.vertex trace.room seat.me.0 ≡ after =
+    (λ j. known (sym part.0 j) (mine j) a.vertex trace.room (sym part.1 j).0) in
+    let made : MakesTurnBy own after work = subst (λ (z : ActorKnown × ActorKnown). MakesTurnBy z.0 z.1 work)
+    (λ j. (
+      ((λ k. known i.seat.table_id (mine k) i.state.vertex i.trace.room i.seat.me.0)
+          ∙ own_is i.seat.table_id i.setting.value i.state.vertex i.trace.room i.seat.me i.knew.value.me own c.self.view_is
+          c.args.net.now c.requires.net some) j,
+      then j,
+    )) c.turn_over-work.ensures.turn in
+    let at : a.vertex ≡ own.vertex = ap (λ (k : ActorKnown). k.vertex) made.record_is in
+    let stands : StandsFor own.net.setting (part_known after) a = subst (λ (z : Setting × Part). StandsFor z.0 z.1 a)
+    (λ j. (here j, ap part_known then j)) c.turn_over-work.ensures.actor.1 in
     elim c.if-work-gt0.branch [
-      | then-work-gt0 w ↦ subst (λ (t : Turn). MakesTurn c.args.self.now after t) (sym w.result-is)
-          (worked c.args.self.now c.in-Some.hand after own a c.turn_over-work.result over w.if-work-gt0.true)
-      | else-work-gt0+then-passive w ↦ subst (λ (t : Turn). MakesTurn c.args.self.now after t) (sym w.result-is)
-          (idle c.args.self.now c.in-Some.hand after own a c.turn_over-work.result over (let l = w.if-work-gt0.false
-          in omega arith)
-          (sym w.if-passive.true ∙ w.passive.ensures.part c.in-Some.hand.net.setting (part_known after) over.stands))
-      | else-work-gt0+else-passive w ↦ subst (λ (t : Turn). MakesTurn c.args.self.now after t) (sym w.result-is)
-          (waiting c.args.self.now c.in-Some.hand after own a c.turn_over-work.result over
-          (let l = w.if-work-gt0.false in omega arith)
-          (sym w.if-passive.false ∙ w.passive.ensures.part c.in-Some.hand.net.setting (part_known after) over.stands))
+      | then-work-gt0 w ↦ subst (λ (t : Turn). MakesTurn own after t) (sym w.result-is)
+          (worked own after work made w.if-work-gt0.true)
+      | else-work-gt0+then-passive w ↦ subst (λ (t : Turn). MakesTurn own after t) (sym w.result-is)
+          (idle own after work made (let l = w.if-work-gt0.false in omega arith) a at stands
+          (sym w.if-passive.true ∙ w.passive.ensures.part own.net.setting (part_known after) stands))
+      | else-work-gt0+else-passive w ↦ subst (λ (t : Turn). MakesTurn own after t) (sym w.result-is)
+          (waiting own after work made (let l = w.if-work-gt0.false in omega arith) a at stands
+          (sym w.if-passive.false ∙ w.passive.ensures.part own.net.setting (part_known after) stands))
     ]

@@ -1,4 +1,5 @@
+use Rattle.chip_net.specs.Rule.{Looks}
 use Rattle.chip_net.proofs.net.Net.look.Given as goal
 
-abbrev pub ghosts-look : goal.ghosts-look
-ghosts-look a = record { setting = a.table.now.shared.key.value }
+abbrev pub ghosts-load : goal.ghosts-load
+ghosts-load a = record { then = λ _. Looks a.self.now.key.value }

@@ -1,8 +1,14 @@
+use Rattle.std.proofs.Common.{refl}
 use Rattle.chip_part.specs.declared.act.Act.TheVariants as Do
-use Rattle.chip_net.proofs.TurningLemmas.{serves}
+use Rattle.chip_core.specs.Core.{Clear}
+use Rattle.chip_net.proofs.ActingLemmas.{may_word, may_step, serves, keeps_none}
 use Rattle.chip_net.proofs.net_words.NetWordsMedium.clear.Goals as goal
 
+pub cell_word-cell-requires : goal.cell_word-cell-requires
+cell_word-cell-requires g c = may_word _ _ _ _ _ _ (Do.Clear c.args.edge c.args.cell) c.requires
+
+pub load-requires : goal.load-requires
+load-requires g c = may_step _ _ _ _ _ _ (Do.Clear c.args.edge c.args.cell) c.requires _ c.cell_word-cell.ensures Clear refl _
+
 pub returns : goal.returns
-returns g c = serves g.J.Turning.first g.J.Turning.borrow c.args.self.now.net.now
-    c.args.self.now.hand.ghost_name c.args.self.now.hand.now c.clear.new.self
-    (Do.Clear c.args.edge c.args.cell) c.clear.result c.clear.ensures
+returns g c = serves _ _ _ _ _ _ (Do.Clear c.args.edge c.args.cell) _ c.cell_word-cell.ensures Clear refl c.load.result _ c.load.ensures.2 _ c.load.ensures.0 _ _ refl (keeps_none _)

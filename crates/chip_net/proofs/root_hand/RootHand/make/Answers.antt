@@ -1,5 +1,9 @@
-use Rattle.std.proofs.Common.{◌≡◌, sym, ap, ◌∙◌, subst}
+use Rattle.std.proofs.Common.{◌≡◌, ℕ, sym, ap, ◌∙◌, subst}
+use Rattle.chip_part.specs.Setting.{Setting}
 use Rattle.chip_root.specs.Root.{SomeRoot, RootCanDo, RootMakes}
+use Rattle.chip_core.specs.Core.{Event}
+use Rattle.chip_core.specs.Words.{word_to_note}
+use Rattle.chip_net.specs.Rule.{Grows}
 use Rattle.chip_net.specs.Tokens.{NetId}
 use Rattle.chip_net.specs.Roots.{RootKnown, IsDueForRoot}
 use Rattle.chip_net.specs.contracts.root_hand.RootHand.{the_view}
@@ -7,41 +11,41 @@ use Rattle.chip_net.proofs.RootingLemmas.{feeding_mine, may_make, still_root, re
 use Rattle.chip_net.proofs.root_hand.RootHand.make.Goals as goal
 use Rattle.chip_net.proofs.root_hand.RootHand.make.Goals.{After-operate-seen}
 
-due : (c : After-operate-seen) → IsDueForRoot (the_view c.self.inside) c.args.event
-due c = subst (λ (r : RootKnown). IsDueForRoot r c.args.event) (sym c.self.view_is) c.requires.due
+due : (g : _) (c : After-operate-seen g) → IsDueForRoot (the_view c.self.inside) c.args.event
+due g c = subst (λ (r : RootKnown). IsDueForRoot r c.args.event) (sym c.self.view_is) c.requires.due
 
-here : (c : After-operate-seen) → c.args.net.now.setting ≡ c.self.inside.setting.value
-here c = sym (ap (λ (n : NetId). n.setting) (ap (λ (r : RootKnown). r.net) c.self.view_is ∙ c.requires.net))
+told : (g : _) (c : After-operate-seen g) → (n : ℕ) × (c.operate-seen.result ≡ word_to_note c.args.event n)
+    × Grows c.self.inside.setting.value c.args.event c.self.inside.seat.me n c.operate-seen.new.seat.me
+told g c = subst (λ (z : Setting × Event). (n : ℕ) × (c.operate-seen.result ≡ word_to_note z.1 n)
+    × Grows z.0 z.1 c.self.inside.seat.me n c.operate-seen.new.seat.me)
+    (λ j. (
+      sym (ap (λ (n : NetId). n.setting) (ap (λ (r : RootKnown). r.net) c.self.view_is ∙ c.requires.net)) j,
+      c.requires.event j,
+    )) c.operate-seen.ensures.told
 
 pub apply-requires : goal.apply-requires
-apply-requires c =
-    let d = (goal.at.apply-requires c).After-operate-seen in
-    let g = c.self.inside.setting.value in
-    let mine = feeding_mine g c.args.event (due d).0 in
-    let told = c.operate-seen.ensures.told in
-    subst (λ seen. SomeRoot c.self.inside.state (λ h t. RootCanDo h t c.args.event seen)) (sym told.1)
-    (may_make c.self.inside c.self.invariant c.args.event mine.0 mine.1 (due d).1 c.args.net.now.setting (here d)
-    told.0 c.operate-seen.new.seat.me told.2)
+apply-requires g c =
+    let d = (goal.at.apply-requires g c).After-operate-seen in
+    let mine = feeding_mine c.self.inside.setting.value c.args.event (due g d).0 in
+    subst (λ seen. SomeRoot c.self.inside.state (λ h t. RootCanDo h t c.args.event seen)) (sym (told g d).1)
+    (may_make c.self.inside c.self.invariant c.args.event mine.0 mine.1 (due g d).1 (told g d).0
+    c.operate-seen.new.seat.me (told g d).2)
 
 pub invariant_of-self : goal.invariant_of-self
-invariant_of-self c =
-    let d = (goal.at.invariant_of-self c).After-operate-seen in
-    let g = c.self.inside.setting.value in
-    let mine = feeding_mine g c.args.event (due d).0 in
-    let told = c.operate-seen.ensures.told in
-    still_root c.self.inside c.self.invariant c.args.event mine.0 mine.1 (due d).1 c.args.net.now.setting (here d)
-    told.0 c.operate-seen.new.seat.me told.2 c.apply.new.self c.apply.result
-    (subst (λ seen. RootMakes c.self.inside.state c.apply.new.self c.args.event seen c.apply.result) told.1
+invariant_of-self g c =
+    let d = (goal.at.invariant_of-self g c).After-operate-seen in
+    let mine = feeding_mine c.self.inside.setting.value c.args.event (due g d).0 in
+    still_root c.self.inside c.self.invariant c.args.event mine.0 mine.1 (due g d).1 (told g d).0
+    c.operate-seen.new.seat.me (told g d).2 c.apply.new.self c.apply.result
+    (subst (λ seen. RootMakes c.self.inside.state c.apply.new.self c.args.event seen c.apply.result) (told g d).1
     c.apply.ensures)
 
 pub returns : goal.returns
-returns c =
-    let d = (goal.at.returns c).After-operate-seen in
-    let g = c.self.inside.setting.value in
-    let mine = feeding_mine g c.args.event (due d).0 in
-    let told = c.operate-seen.ensures.told in
-    replies c.self.inside c.self.invariant c.args.event mine.0 mine.1 (due d).1 c.args.net.now.setting (here d)
-    told.0 c.operate-seen.new.seat.me told.2 c.args.self.now c.self.view_is c.operate-seen.new.seat.table_id
+returns g c =
+    let d = (goal.at.returns g c).After-operate-seen in
+    let mine = feeding_mine c.self.inside.setting.value c.args.event (due g d).0 in
+    replies c.self.inside c.self.invariant c.args.event mine.0 mine.1 (due g d).1 (told g d).0
+    c.operate-seen.new.seat.me (told g d).2 c.args.self.now c.self.view_is c.operate-seen.new.seat.table_id
     c.operate-seen.ensures.same c.apply.new.self c.apply.result
-    (subst (λ seen. RootMakes c.self.inside.state c.apply.new.self c.args.event seen c.apply.result) told.1
+    (subst (λ seen. RootMakes c.self.inside.state c.apply.new.self c.args.event seen c.apply.result) (told g d).1
     c.apply.ensures)

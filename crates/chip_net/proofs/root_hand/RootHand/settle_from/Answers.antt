@@ -1,11 +1,22 @@
-use Rattle.std.proofs.Common.{◌≡◌, sym, ap, ◌∙◌, arith}
+use Rattle.std.proofs.Common.{◌≡◌, ◌-◌, sym, ap, ◌∙◌, arith}
 use Rattle.chip_part.specs.Setting.{Setting}
 use Rattle.chip_part.specs.Edges.{root_edge}
 use Rattle.chip_core.specs.Words.{of_acks}
 use Rattle.chip_net.specs.Layout.{index_of}
+use Rattle.chip_net.specs.Roots.{settles_from}
 use Rattle.chip_net.specs.Tokens.{NetId}
-use Rattle.chip_net.proofs.RootingLemmas.{does_net, settles_more, holds_by, held_settle}
+use Rattle.chip_net.proofs.RootingLemmas.{does_none, does_net, settles_more, holds_by, held_settle}
 use Rattle.chip_net.proofs.root_hand.RootHand.settle_from.Goals as goal
+
+pub loop-vertex-init : goal.loop-vertex-init
+loop-vertex-init c = record {
+  from = omega arith;
+  within = omega arith;
+  settles = does_none c.args.self.now _
+      (let none : c.args.first - c.args.first ≡ 0 = omega arith in
+      ap (settles_from c.args.self.now.net.setting c.args.first) none);
+  holds = λ none. none;
+}
 
 pub loop-vertex-preserved : goal.loop-vertex-preserved
 loop-vertex-preserved c =

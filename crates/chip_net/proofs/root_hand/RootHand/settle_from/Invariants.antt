@@ -5,7 +5,7 @@ use Rattle.chip_net.proofs.root_hand.RootHand.settle_from.Given as goal
 abbrev pub invariant-loop-vertex : goal.invariant-loop-vertex
 invariant-loop-vertex l = record {
   from : l.first ≤ l.vertex;
-  within : l.vertex ≤ l.fn.self.net.setting.game.graph.vertices;
+  within : l.vertex - l.first ≤ l.fn.self.net.setting.game.graph.vertices - l.first;
   settles : DoesMore l.fn.self l.self (settles_from l.fn.self.net.setting l.first (l.vertex - l.first));
   holds : HoldsNothing l.fn.self → HoldsNothing l.self;
 }

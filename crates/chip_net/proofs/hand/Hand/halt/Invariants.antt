@@ -1,4 +1,0 @@
-use Rattle.chip_net.proofs.hand.Hand.halt.Given as goal
-
-abbrev pub ghosts-fetch_or : goal.ghosts-fetch_or
-ghosts-fetch_or a = record { setting = a.table.now.shared.key.value; event = a._event }

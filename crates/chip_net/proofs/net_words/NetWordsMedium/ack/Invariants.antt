@@ -1,0 +1,7 @@
+use Rattle.chip_core.specs.Core.{Ack}
+use Rattle.chip_net.specs.Rule.{Grows}
+use Rattle.chip_net.proofs.LayingLemmas.{owner_at}
+use Rattle.chip_net.proofs.net_words.NetWordsMedium.ack.Given as goal
+
+abbrev pub ghosts-fetch_add : goal.ghosts-fetch_add
+ghosts-fetch_add g a = record { then = λ _. Grows a.self.now.key.value (Ack (owner_at a.self.now.key.value a.word)) }

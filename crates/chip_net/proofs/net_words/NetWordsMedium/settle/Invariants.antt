@@ -1,0 +1,7 @@
+use Rattle.chip_core.specs.Core.{Settle}
+use Rattle.chip_net.specs.Rule.{Grows}
+use Rattle.chip_net.proofs.LayingLemmas.{owner_at}
+use Rattle.chip_net.proofs.net_words.NetWordsMedium.settle.Given as goal
+
+abbrev pub ghosts-load : goal.ghosts-load
+ghosts-load g a = record { then = λ _. Grows a.self.now.key.value (Settle (owner_at a.self.now.key.value a.word)) }

@@ -1,0 +1,5 @@
+use Rattle.chip_part.specs.Edges.{stopper}
+use Rattle.chip_net.proofs.open.tokens.Given as goal
+
+abbrev pub ghosts-stopper_of : goal.ghosts-stopper_of
+ghosts-stopper_of a = record { part = stopper a.net.now.setting }

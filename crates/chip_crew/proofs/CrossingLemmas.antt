@@ -1,36 +1,59 @@
 -- Serves no definition, but what the kit asks of values that go to other threads.
--- What the threads of a crew share.
+-- What the threads of a crew share, and what goes to them and back.
 use mir.Syntax.{Lifetime}
 use base.Fml.{Lft}
 use denote.Ref.{NamedLft, ShrRef}
 use denote.RattleType.{RattleType}
 use denote.Param.Send.{IsSend, IsSync, sendable, shr_send}
+use denote.Param.SendFields.{declared_send}
 use Rattle.std.proofs.Crossing.{crosses, frees, send, sync}
-use Rattle.std.proofs.sync.atomic.AtomicBool.TheSendSync as flag
 use Rattle.atomic_table.proofs.shared.Seat.TheSendSync as seat
 use Rattle.crossbeam_queue.proofs.array_queue.Slotted.TheSendSync as queue
-use Rattle.chip_net.proofs.net.Net.TheSendSync as net
 use Rattle.chip_net.proofs.CrossingLemmas.{actor_send, net_crosses}
+use Rattle.chip_crew.proofs.shared.Shared.TheSendSync as sharing
+use Rattle.chip_crew.specs.declared.plan.Gate as gate
 use Rattle.chip_crew.specs.declared.queue.Crew.{Ghosts}
-use Rattle.chip_crew.specs.contracts.worker.Shared as shared
-use Rattle.chip_crew.specs.contracts.lead.LeadTask as lead_task
-use Rattle.chip_crew.specs.contracts.worker.Task as task
+use Rattle.chip_crew.specs.contracts.leader.Leader as leader
+use Rattle.chip_crew.specs.contracts.shared.Shared as shared
+use Rattle.chip_crew.specs.contracts.worker.Share as share
+use Rattle.chip_crew.specs.contracts.worker.Worker as worker
+use Rattle.chip_crew.specs.contracts.worker.WorkerResult as result
 
--- threads may share it where they may share the gate
-pub shared_sync : (ν : NamedLft) (B G : RattleType) (r : Ghosts B.Denot) → IsSync G → IsSync (shared.the_row ν B G r)
-shared_sync ν B G r gate =
-    search (crosses, sendable, net.the_sync, flag.the_sync, actor_send, queue.the_sync, frees, send, sync) depth 60
+-- threads may share what all workers share where they may share the gate
+pub shared_sync : (ν : NamedLft) (B G : RattleType) (r : Ghosts B.Denot) (s : gate.Ghosts G.Denot) → IsSync B → IsSync G
+    → IsSync (shared.the_row ν B G r s)
+shared_sync ν B G r s names asks = search (sharing.the_sync)
 
 -- so a `&` to it may go to a thread
-pub shared_ref_send : (ℓ : Lifetime) (κ : Lft) (ν : NamedLft) (B G : RattleType) (r : Ghosts B.Denot) → IsSync G
-    → IsSend (ShrRef ℓ κ (shared.the_row ν B G r))
-shared_ref_send ℓ κ ν B G r gate = shr_send ℓ κ (shared.the_row ν B G r) (shared_sync ν B G r gate)
+pub shared_ref_send : (ℓ : Lifetime) (κ : Lft) (ν : NamedLft) (B G : RattleType) (r : Ghosts B.Denot) (s : gate.Ghosts G.Denot)
+    → IsSync B → IsSync G → IsSend (ShrRef ℓ κ (shared.the_row ν B G r s))
+shared_ref_send ℓ κ ν B G r s names asks =
+    shr_send ℓ κ (shared.the_row ν B G r s) (shared_sync ν B G r s names asks)
 
--- a worker other than worker 0 may take its whole task
-pub task_send : (ν : NamedLft) (B G : RattleType) (r : Ghosts B.Denot) → IsSync G → IsSend (task.the_row ν B G r)
-task_send ν B G r gate = search (crosses, sendable, net_crosses, seat.the_send, shared_ref_send, frees) depth 60
+-- a share may go to a thread
+pub share_send : (ν : NamedLft) (B : RattleType) (r : Ghosts B.Denot) → IsSend (share.the_row ν B r)
+share_send ν B r = search (crosses, sendable, net_crosses, seat.the_send, queue.the_sync, actor_send, frees, send, sync) depth 60
 
--- and worker 0 its own
-pub lead_task_send : (ν : NamedLft) (B G : RattleType) (r : Ghosts B.Denot) → IsSync G → IsSend (lead_task.the_row ν B G r)
-lead_task_send ν B G r gate =
-    search (crosses, sendable, net_crosses, seat.the_send, shared_ref_send, frees) depth 60
+-- a worker may take its whole task, where its duties may go along
+pub worker_send : (ν : NamedLft) (B G D : RattleType) (r : Ghosts B.Denot) (s : gate.Ghosts G.Denot) → IsSync B → IsSync G
+    → IsSend D → IsSend (worker.the_row ν B G D r s)
+worker_send ν B G D r s names asks duties =
+    let lent = λ (ℓ : Lifetime) (κ : Lft) (μ : NamedLft). shared_ref_send ℓ κ μ B G r s names asks in
+    declared_send (worker.the_type ν B G D r s) (
+      search (crosses, sendable, lent),
+      (search (crosses, sendable), (share_send ν B r, (search (crosses, sendable, duties), tt))),
+    )
+
+-- and hand all of it back
+pub result_send : (ν : NamedLft) (B D : RattleType) (r : Ghosts B.Denot) → IsSend D → IsSend (result.the_row ν B D r)
+result_send ν B D r duties = declared_send (result.the_type ν B D r) (
+  share_send ν B r,
+  (
+    search (crosses, sendable, duties),
+    (search (crosses, sendable), (search (crosses, sendable), tt)),
+  ),
+)
+
+-- so may worker 0's duties
+pub leader_send : (ν : NamedLft) → IsSend (leader.the_row ν)
+leader_send ν = search (crosses, sendable, net_crosses, frees) depth 60

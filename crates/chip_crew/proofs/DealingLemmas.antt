@@ -1,6 +1,6 @@
 -- Serves Dealing.antt, Rounds.antt.
 -- Where the run of a worker begins and ends, and what its turns leave of it.
-use Rattle.std.proofs.Common.{◌^◌, ◌≡◌, ℕ, zero, suc, ◌+◌, ◌%◌, ◌<◌, ◌≤◌, ◌-◌, ◌==◌, max, Bool, true, false, if◌then◌else◌, List, [], ◌∷◌, length}
+use Rattle.std.proofs.Common.{◌^◌, ◌≡◌, ℕ, zero, suc, ◌+◌, ◌*◌, ◌%◌, ◌<◌, ◌≤◌, ◌-◌, ◌==◌, max, Bool, true, false, if◌then◌else◌, List, [], ◌∷◌, length}
 use Rattle.std.proofs.Common.{Option, Some, None, take, length-append, length-take}
 use Rattle.std.proofs.Common.{◌++◌, get_or, set, refl, sym, ap, ◌∙◌, subst, arith, add-one, zero-add, mul-lt-mul_of_pos_right}
 use Rattle.std.proofs.Common.{mul_comm}
@@ -9,13 +9,13 @@ use Rattle.std.proofs.lemmas.Nat.{mul-le}
 use Rattle.std.proofs.Math.Nat.{mod-add-mod, mod-eq_of_lt}
 use Rattle.std.proofs.lemmas.List.{length-set, set-append_left}
 use mathlib.Core.Logic.{dite}
-use native.Mathlib.Decide.{ℕ_discrete}
+use native.Mathlib.Decide.{ℕ_discrete, dec_lt}
 use Rattle.std.proofs.lemmas.Option.{slice_get-get_or}
 use Rattle.chip_graph.specs.Sums.{filter_below}
 use Rattle.chip_graph.specs.Multigraph.{Multigraph, edge_at, edges_out, edges_in}
 use Rattle.chip_net.specs.Tokens.{ActorKnown, MakesTurn}
 use Rattle.chip_net.specs.declared.actor.Turn.{Turn}
-use Rattle.chip_crew.specs.Crew.{CrewId, IsAt, AreFrom}
+use Rattle.chip_crew.specs.Crew.{CrewId, IsOurs, IsAt, AreFrom}
 use Rattle.chip_crew.specs.Dealing.{ends_at, ends_before, IsCut, IsFirstOf, AreOf}
 use Rattle.chip_crew.specs.Rounds.{TurnsThere, TurnsAt, RoundsMade, TurnsInRow}
 use Rattle.chip_crew.proofs.RunLemmas.{from_at, from_set, from_take}
@@ -108,12 +108,41 @@ module _ (G : Multigraph) where
         by_order : (w < v → ⊥) → v ≤ w
         by_order a = omega (arith, a)
 
+    -- so one goes on from there to the first vertex of the next
+    pub cut_next : (worker v w share ends : ℕ) → IsCut G workers worker v
+        → share ≡ (worker + 1) * ends_before G G.vertices → ends ≡ ends_before G w → share ≤ workers * ends
+        → ((u : ℕ) → v ≤ u → u < w → workers * ends_before G u < share) → IsCut G workers (worker + 1) w
+    cut_next worker v w share ends cut is at reached least = record {
+      reached = subst (λ (z : ℕ × ℕ). z.0 ≤ workers * z.1) (λ i. (is i, at i)) reached;
+      least = λ u less. subst (λ (n : ℕ). workers * ends_before G u < n) is (dite (dec_lt u v)
+          (λ before. let below = cut.least u before in
+          let more = mul-le worker (ends_before G G.vertices) (worker + 1) (ends_before G G.vertices) (omega arith)
+          (omega arith) in omega (arith, below, more, is))
+          (λ after. least u (omega (arith, after)) less));
+    }
+
 -- ---- turns
 
 -- an actor that made a turn is still the crew's actor of its vertex
+pub still_ours : (crew : CrewId) (old new : ActorKnown) (answer : Turn) → MakesTurn old new answer → IsOurs crew old
+    → IsOurs crew new
+still_ours crew old new answer makes ours =
+    let same = makes.record_is in
+    record {
+      net_is = ap (λ (a : ActorKnown). a.net) same ∙ ours.net_is;
+      inside = subst (λ (v : ℕ). v < crew.net.setting.game.graph.vertices)
+          (sym (ap (λ (a : ActorKnown). a.vertex) same)) ours.inside;
+      room_is = ap (λ (a : ActorKnown). a.room) same ∙ ours.room_is;
+      turns = suc ours.turns;
+      turned = (old, answer, ours.turned, makes);
+    }
+
 still_at : (crew : CrewId) (v : ℕ) (old new : ActorKnown) (answer : Turn) → MakesTurn old new answer → IsAt crew v old
     → IsAt crew v new
-still_at crew v old new answer makes here = subst (IsAt crew v) (sym makes.record_is) here
+still_at crew v old new answer makes here = (
+  still_ours crew old new answer makes here.0,
+  ap (λ (a : ActorKnown). a.vertex) makes.record_is ∙ here.1,
+)
 
 turned : (crew : CrewId) (from place : ℕ) (old new : List ActorKnown) (next : Option ActorKnown)
     → slice_get old place ≡ next → TurnsThere place next old new → AreFrom crew from old → AreFrom crew from new

@@ -58,6 +58,23 @@ module _ {D : Type 0} (before : ℕ → D → D → Type 0) where
         (whole_round round m old was now end begins some served
         (subst (λ (n : ℕ). BeginsEach before m n was now) whole each) done)
 
+    -- one turn more, where a round is not over, and where it is
+    pub serves_turn : (round k : ℕ) (old was now : D) → Serves before after round k old was → before k was now
+        → ((k + 1) % round ≡ 0 → ⊥) → Serves before after round (k + 1) old now
+    serves_turn round k old was now served begun within =
+        let on : (suc k % round == 0) ≡ false =
+        ne_eqb (suc k % round) 0 (λ over. within (ap (λ (n : ℕ). n % round) (add-one k) ∙ over)) in
+        subst (λ (n : ℕ). Serves before after round n old now) (sym (add-one k))
+        (was, now, served, begun, subst (λ (b : Bool). EndsIf after b now now) (sym on) refl)
+
+    pub serves_end : (round k : ℕ) (old was now end : D) → Serves before after round k old was → before k was now
+        → (k + 1) % round ≡ 0 → after now end → Serves before after round (k + 1) old end
+    serves_end round k old was now end served begun over done =
+        let on : (suc k % round == 0) ≡ true =
+        eq-eqb (suc k % round) 0 (ap (λ (n : ℕ). n % round) (sym (add-one k)) ∙ over) in
+        subst (λ (n : ℕ). Serves before after round n old end) (sym (add-one k))
+        (was, now, served, begun, subst (λ (b : Bool). EndsIf after b now end) (sym on) done)
+
     -- the same, by other names
     pub serves_there : (round other m n : ℕ) (old was now : D) → Serves before after round m old was → other ≡ round
         → n ≡ m → now ≡ was → Serves before after other n old now

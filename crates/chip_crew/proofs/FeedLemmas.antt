@@ -15,7 +15,6 @@ use Rattle.chip_net.specs.declared.poll.RootState.{RootState}
 use Rattle.chip_net.specs.Roots.{RootKnown, root_part, root_after, has_ended, fed_by, all_given, Feeds, LooksInVain}
 use Rattle.chip_net.specs.Roots.{feed_steps, settles_from, IsPolling, Ends}
 use Rattle.chip_net.proofs.ViewingLemmas.{part_append}
-use Rattle.chip_crew.specs.Crew.{Polled}
 use Rattle.chip_crew.proofs.OwningLemmas.{true_or_false}
 use Rattle.chip_crew.specs.Feeding.{Left, pairs, MayFeed, MayFeedLeft, FeedsNext, EndsAfter, FeedsOnce, PollsIf, IsLed}
 
@@ -114,20 +113,6 @@ feed_adds old new v k place feeds =
     let back : root_edge g v - graph_edges g ≡ v = omega arith in
     adds_steps old new (feed_steps g v k place) _ ((v, k) ∷ []) (has_ended old) feeds.record_is refl refl
     (ap (λ (w : ℕ). (w, k) ∷ []) back)
-
--- so many polls feed nothing
-pub polls_add : (k : ℕ) (old now : RootKnown) → Polled k old now → Adds old now [] (has_ended old)
-polls_add zero old now is = subst (λ (r : RootKnown). Adds old r [] (has_ended old)) (sym is)
-    (record { net = refl; stopper = refl; fed = sym (append-nil (fed_by old)); ended_is = refl })
-polls_add (suc k) old now more =
-    let first = polls_add k old more.0 more.1 in
-    let last = poll_adds more.0 now more.0.net.setting.game.graph.vertices more.2 in
-    record {
-      net = last.net ∙ first.net;
-      stopper = last.stopper ∙ first.stopper;
-      fed = last.fed ∙ append-nil (fed_by more.0) ∙ first.fed;
-      ended_is = last.ended_is ∙ first.ended_is;
-    }
 
 -- ---- what may be fed still
 

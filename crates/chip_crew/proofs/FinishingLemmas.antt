@@ -1,6 +1,6 @@
 -- Serves Finished.antt, Feeding.antt, Plans.antt.
 -- What is known of a crew is known of the game that it played.
-use Rattle.std.proofs.Common.{◌≡◌, ◌+◌, ◌<◌, ◌≤◌, ℕ, zero, suc, Bool, true, false, not, if◌then◌else◌, List, [], ◌∷◌}
+use Rattle.std.proofs.Common.{◌≡◌, ◌⊎◌, ⊎_elim, ◌+◌, ◌<◌, ◌≤◌, ℕ, zero, suc, Bool, true, false, not, if◌then◌else◌, List, [], ◌∷◌}
 use Rattle.std.proofs.Common.{All, sum, Option, Some, None, is_some, Result, Ok, Err, IfOk, IfErr}
 use Rattle.std.proofs.Common.{refl, sym, ◌∙◌, ap, subst, arith, ltb, leb, ltb-true, ◌++◌}
 use Rattle.std.proofs.lemmas.Bool.{and_parts, leb-true}
@@ -11,25 +11,29 @@ use Rattle.chip_sequence.specs.declared.outcome.Outcome.{Outcome}
 use Rattle.chip_part.specs.Setting.{Setting, setting_with}
 use Rattle.chip_core.specs.Core.{Step}
 use Rattle.chip_net.specs.Tokens.{NetId}
-use Rattle.chip_net.specs.Roots.{RootKnown, new_root, has_ended, fed_by}
+use Rattle.chip_net.specs.Roots.{RootKnown, new_root, has_ended, fed_by, IsOver}
 use Rattle.chip_crew.specs.Plans.{is_plan, is_count, names_edge, are_feeds, AreWithinTotal, max_workers, max_turns, max_trace_rows}
 use Rattle.chip_link.specs.Rings.{max_ring}
-use Rattle.chip_crew.specs.Sealing.{TakesBack, KnowsSeals}
+use Rattle.std.specs.Option.{option_copied}
+use Rattle.chip_crew.specs.Asked.{Asked, SomeShut, root_of}
+use Rattle.chip_crew.specs.Leading.{HasLed}
+use Rattle.chip_crew.specs.Sealing.{HasBack, TakesBack, KnowsSeals}
 use Rattle.chip_crew.specs.declared.plan.SealAt.{SealAt}
 use Rattle.chip_crew.specs.Crew.{CrewId}
 use Rattle.chip_crew.specs.Feeding.{Left, pairs, IsLed, MayFeed, MayFeedLeft}
-use Rattle.chip_crew.specs.Ending.{EndsWell, EndsLed}
-use Rattle.chip_crew.specs.Finished.{root_of, CanPlay, IsCrewFor, HasFinished, IsWhole, IsFinished, IsClosing, IsStopped}
+use Rattle.chip_crew.specs.Ending.{EndsWell, StaysOpen, EndsLed, StaysUnfinished}
+use Rattle.chip_crew.specs.Finished.{CanPlay, IsCrewFor, HasFinished, IsWhole, IsFinished, IsStopped}
 use Rattle.chip_crew.specs.Finished.{IsFaultOf}
 use Rattle.chip_crew.specs.declared.plan.Sharing.{Sharing}
-use Rattle.chip_crew.specs.Handed.{HasPolled, SomeShut}
-use Rattle.chip_crew.specs.declared.joining.Joined.{Joined}
+use Rattle.chip_crew.specs.declared.leader.Leader.{Leader}
 use Rattle.chip_crew.specs.declared.plan.Plan.{Plan}
 use Rattle.chip_crew.specs.declared.play.Finished.{Finished}
 use Rattle.chip_crew.specs.declared.fault.CrewFault.{CrewFault}
 use Rattle.chip_crew.specs.declared.fault.CrewFault.TheVariants as fault
-use Rattle.chip_crew.proofs.FeedLemmas.{Adds, GoesOn, polls_add, led_goes_on, over_has_fed}
-use Rattle.chip_crew.proofs.SealingLemmas.{back_same, knows_seals}
+use Rattle.chip_crew.proofs.FeedLemmas.{Adds, GoesOn, poll_adds, led_goes_on, over_has_fed}
+use Rattle.chip_crew.proofs.OverLemmas.{over_polled, over_back}
+use Rattle.chip_crew.proofs.LeadingLemmas.{led_by}
+use Rattle.chip_crew.proofs.SealingLemmas.{takes_back, back_same, knows_seals}
 
 -- the root of a net that opens for the plan is the crew's
 pub root_opens : (crew : CrewId) (plan : Plan) (root : RootKnown) (stoppable : Bool)
@@ -86,37 +90,77 @@ plan_workers game feeds plan can =
     (and_parts (is_count max_workers plan.workers) (is_count max_ring plan.ring) counts).0 in
     (ltb-true 0 plan.workers workers.0, leb-true plan.workers max_workers workers.1)
 
+-- and no worker makes too many turns
+pub plan_turns : (game : ChipGame) (feeds : Left) (plan : Plan) → CanPlay game feeds plan → plan.turns ≤ max_turns
+plan_turns game feeds plan can =
+    let ranges = (and_parts _ (names_edge game plan.seal) (and_parts (is_plan game plan) (are_feeds game (pairs feeds))
+    can.within).0).0 in
+    let turns = (and_parts _ (is_count max_turns plan.turns) (and_parts _ (leb plan.trace_rows max_trace_rows) ranges).0).1 in
+    leb-true plan.turns max_turns (and_parts (ltb 0 plan.turns) (leb plan.turns max_turns) turns).1
+
 -- ---- a crew that finished
 
--- worker 0 led the root, which closed in the end: all is fed
-pub ends_fed : (crew : CrewId) (feeds : Left) (seal : Option SealAt) (old : RootKnown) (turns : ℕ) (middle : RootKnown)
-    (round made : ℕ) (back receipt : RootKnown) (o : Outcome) → HasPolled crew feeds old turns middle round made
-    → TakesBack seal made middle back → EndsWell back receipt o → EndsLed crew feeds seal old receipt o
-ends_fed crew feeds seal old turns middle round made back receipt o polled is_back ends =
-    let noted : has_ended middle ≡ true = sym (back_same seal made middle back is_back).2
-    ∙ sym (polls_add ends.polls back ends.root ends.polled).ended_is ∙ ends.closed.1 in
-    record {
-      round = round;
-      is_round = polled.is_round;
-      turns = made;
-      led = middle;
-      is_led = subst (λ (l : Left). IsLed round made feeds old l middle)
-          (over_has_fed polled.left middle polled.may noted) polled.led;
-      back = back;
-      is_back = is_back;
-      ends = ends;
-    }
+module _ (asked : Asked) (round turns : ℕ) (leader : Leader) (back : RootKnown) (has : HasLed asked round turns leader)
+    (lasts : (turns ≡ asked.plan.turns) ⊎ IsOver leader.root) (has_back : HasBack leader.seal leader.root back) where
+  its_led : IsLed round turns asked.feeds (root_of asked.crew asked.plan) (option_copied leader.feeds) leader.root
+  its_led = led_by round turns asked.feeds (root_of asked.crew asked.plan) has.first leader has.begins.root has.begins.feeds
+      has.served
+
+  its_back : TakesBack asked.plan.seal turns leader.root back
+  its_back = takes_back asked.crew asked.plan.seal turns leader.seal leader.root back
+      (Rattle.chip_crew.proofs.LeadingLemmas.sealed_by asked.crew asked.plan.seal round turns has.first leader
+      has.begins.seal has.served) has_back
+
+  -- the root closed in the end: all is fed
+  pub ends_led : (receipt : RootKnown) (o : Outcome) → EndsWell back receipt o
+      → EndsLed asked.crew asked.feeds asked.plan receipt o
+  ends_led receipt o ends =
+      let noted : has_ended leader.root ≡ true =
+      sym (back_same asked.plan.seal turns leader.root back its_back).2
+      ∙ sym (poll_adds back ends.root back.net.setting.game.graph.vertices ends.polled).ended_is ∙ ends.closed.1 in
+      record {
+        round = round;
+        is_round = has.is_round;
+        turns = turns;
+        at_most = has.at_most;
+        led = leader.root;
+        is_led = subst (λ (l : Left). IsLed round turns asked.feeds (root_of asked.crew asked.plan) l leader.root)
+            (over_has_fed (option_copied leader.feeds) leader.root has.can.may noted) its_led;
+        lasts = lasts;
+        back = back;
+        is_back = its_back;
+        ends = ends;
+      }
+
+  -- it did not: all turns are made
+  pub stays_led : (now : RootKnown) (deficit : ℕ) → StaysOpen back now deficit
+      → StaysUnfinished asked.crew asked.feeds asked.plan now deficit
+  stays_led now deficit stays =
+      let all : turns ≡ asked.plan.turns = ⊎_elim (λ (same : turns ≡ asked.plan.turns). same)
+      (λ (over : IsOver leader.root). absurd (stays.not_over (over_polled back now back.net.setting.game.graph.vertices
+      stays.polled (over_back asked.plan.seal turns leader.root back its_back over)))) lasts in
+      record {
+        round = round;
+        is_round = has.is_round;
+        left = option_copied leader.feeds;
+        led = leader.root;
+        is_led = subst (λ (n : ℕ). IsLed round n asked.feeds (root_of asked.crew asked.plan) (option_copied leader.feeds)
+            leader.root) all its_led;
+        back = back;
+        is_back = subst (λ (n : ℕ). TakesBack asked.plan.seal n leader.root back) all its_back;
+        stays = stays;
+      }
 
 module _ (feeds : Left) (plan : Plan) (crew : CrewId) (f : Finished)
-    (finished : HasFinished crew feeds plan.seal (root_of crew plan) f) where
-  abbrev ends : EndsLed crew feeds plan.seal (root_of crew plan) f.receipt f.outcome
+    (finished : HasFinished crew feeds plan f) where
+  abbrev ends : EndsLed crew feeds plan f.receipt f.outcome
   ends = finished.ends
 
   led : GoesOn feeds None (root_of crew plan) ends.led
   led = led_goes_on ends.round ends.turns feeds None (root_of crew plan) ends.led ends.is_led
 
   polled : Adds ends.back ends.ends.root [] (has_ended ends.back)
-  polled = polls_add ends.ends.polls ends.back ends.ends.root ends.ends.polled
+  polled = poll_adds ends.back ends.ends.root ends.back.net.setting.game.graph.vertices ends.ends.polled
 
   same : (ends.back.net ≡ ends.led.net) × (fed_by ends.back ≡ fed_by ends.led) × (has_ended ends.back ≡ has_ended ends.led)
   same = back_same plan.seal ends.turns ends.led ends.back ends.is_back
@@ -155,7 +199,7 @@ whole_by game whole (Some feeds) net fed ring setting is unfed more =
     (λ i. (ap (λ (g : Setting). g.game) setting i, is i)) more
 
 finished_by : (shared : Sharing) (game : ChipGame) (feeds : Left) (plan : Plan) (crew : CrewId) (f : Finished)
-    → IsCrewFor shared game feeds plan crew → HasFinished crew feeds plan.seal (root_of crew plan) f
+    → IsCrewFor shared game feeds plan crew → HasFinished crew feeds plan f
     → IsFinished shared game feeds plan f
 finished_by shared game feeds plan crew f opened finished =
     let ends = finished.ends in
@@ -174,51 +218,23 @@ finished_by shared game feeds plan crew f opened finished =
       played = λ none. finishes.played (unsealed_by feeds plan crew f finished none);
     }
 
-pub finished_for : (shared : Sharing) (game : ChipGame) (feeds : Left) (plan : Plan) (crew : CrewId) (old : RootKnown)
-    (r : Result Finished CrewFault) → IsCrewFor shared game feeds plan crew → old ≡ root_of crew plan
-    → IfOk r (HasFinished crew feeds plan.seal old) → IfOk r (IsFinished shared game feeds plan)
-finished_for shared game feeds plan crew old (Ok f) opened is finished = finished_by shared game feeds plan crew f opened
-    (subst (λ (o : RootKnown). HasFinished crew feeds plan.seal o f) is finished)
-finished_for shared game feeds plan crew old (Err e) opened is finished = tt
-
--- why it did not close is why the crew stopped
-closing_stops : (crew : CrewId) (feeds : Left) (seal : Option SealAt) (old : RootKnown) (turns : ℕ) (joined : Joined) (shut : Type 0)
-    (e : CrewFault) → (joined.passed ≡ false → shut) → IsClosing crew feeds seal old turns joined e → IsStopped crew feeds seal old turns shut e
-closing_stops crew feeds seal old turns joined shut fault.Plan passed why = absurd why
-closing_stops crew feeds seal old turns joined shut fault.Total passed why = absurd why
-closing_stops crew feeds seal old turns joined shut fault.NoMemory passed why = absurd why
-closing_stops crew feeds seal old turns joined shut fault.Spawn passed why = absurd why
-closing_stops crew feeds seal old turns joined shut fault.GateShut passed why = passed why
-closing_stops crew feeds seal old turns joined shut (fault.Doubled v) passed why = absurd why
-closing_stops crew feeds seal old turns joined shut (fault.Lost v) passed why = absurd why
-closing_stops crew feeds seal old turns joined shut (fault.Unfinished deficit root) passed why = why.1
-
-pub closing_stopped : (crew : CrewId) (feeds : Left) (seal : Option SealAt) (old : RootKnown) (turns : ℕ) (joined : Joined) (shut : Type 0)
-    (r : Result Finished CrewFault) → (joined.passed ≡ false → shut) → IfErr r (IsClosing crew feeds seal old turns joined) → IfErr r (IsStopped crew feeds seal old turns shut)
-closing_stopped crew feeds seal old turns joined shut (Ok f) passed why = tt
-closing_stopped crew feeds seal old turns joined shut (Err e) passed why =
-    closing_stops crew feeds seal old turns joined shut e passed why
-
--- ---- a crew that didn't finish
-
 -- why a crew that was opened for the game didn't finish
-stopped_by : (shared : Sharing) (game : ChipGame) (feeds : Left) (plan : Plan) (may_answer : ℕ → ℕ → Bool → Type 0) (crew : CrewId)
-    (e : CrewFault) → IsCrewFor shared game feeds plan crew
-    → IsStopped crew feeds plan.seal (root_of crew plan) plan.turns (SomeShut may_answer plan.workers plan.turns) e
-    → IsFaultOf shared game feeds plan may_answer e
-stopped_by shared game feeds plan may_answer crew fault.Plan opened why = absurd why
-stopped_by shared game feeds plan may_answer crew fault.Total opened why = absurd why
-stopped_by shared game feeds plan may_answer crew fault.NoMemory opened why = opened.can
-stopped_by shared game feeds plan may_answer crew fault.Spawn opened why = opened.can
-stopped_by shared game feeds plan may_answer crew fault.GateShut opened why = (opened.can, why)
-stopped_by shared game feeds plan may_answer crew (fault.Doubled v) opened why = absurd why
-stopped_by shared game feeds plan may_answer crew (fault.Lost v) opened why = absurd why
-stopped_by shared game feeds plan may_answer crew (fault.Unfinished deficit root) opened why = (crew, opened, why)
+stopped_by : (shared : Sharing) (game : ChipGame) (asked : Asked) (e : CrewFault)
+    → IsCrewFor shared game asked.feeds asked.plan asked.crew → IsStopped asked e
+    → IsFaultOf shared game asked.feeds asked.plan asked.may_answer e
+stopped_by shared game asked fault.NoMemory opened why = opened.can
+stopped_by shared game asked fault.Spawn opened why = opened.can
+stopped_by shared game asked fault.GateShut opened why =
+    (opened.can, subst (λ (n : ℕ). SomeShut asked.may_answer n asked.plan.turns) opened.workers why)
+stopped_by shared game asked (fault.Unfinished deficit root) opened why = (asked.crew, opened, why)
+stopped_by shared game asked _ opened why = absurd why
 
-pub stopped_for : (shared : Sharing) (game : ChipGame) (feeds : Left) (plan : Plan) (may_answer : ℕ → ℕ → Bool → Type 0) (crew : CrewId)
-    (old : RootKnown) (r : Result Finished CrewFault) → IsCrewFor shared game feeds plan crew → old ≡ root_of crew plan
-    → IfErr r (IsStopped crew feeds plan.seal old plan.turns (SomeShut may_answer plan.workers plan.turns))
-    → IfErr r (IsFaultOf shared game feeds plan may_answer)
-stopped_for shared game feeds plan may_answer crew old (Ok f) opened is why = tt
-stopped_for shared game feeds plan may_answer crew old (Err e) opened is why = stopped_by shared game feeds plan may_answer crew e opened
-    (subst (λ (o : RootKnown). IsStopped crew feeds plan.seal o plan.turns (SomeShut may_answer plan.workers plan.turns) e) is why)
+-- how a crew that was opened for the game ended
+pub ended_for : (shared : Sharing) (game : ChipGame) (asked : Asked) (r : Result Finished CrewFault)
+    → IsCrewFor shared game asked.feeds asked.plan asked.crew
+    → IfOk r (HasFinished asked.crew asked.feeds asked.plan) → IfErr r (IsStopped asked)
+    → IfOk r (IsFinished shared game asked.feeds asked.plan)
+    × IfErr r (IsFaultOf shared game asked.feeds asked.plan asked.may_answer)
+ended_for shared game asked (Ok f) opened finished why =
+    (finished_by shared game asked.feeds asked.plan asked.crew f opened finished, tt)
+ended_for shared game asked (Err e) opened finished why = (tt, stopped_by shared game asked e opened why)

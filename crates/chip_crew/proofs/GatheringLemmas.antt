@@ -111,16 +111,6 @@ free_place xs i x inside read is = slice_get_read xs (length xs) i x refl inside
 pub free_or_seated : (seats : List (Option ActorKnown)) (v : ℕ) → slice_get seats v ≡ Some None → IsSeated seats v → ⊥
 free_or_seated seats v free seated = absurd (none_some seated.0 (same_some None (Some seated.0) (sym free ∙ seated.1)))
 
--- an actor that comes out of its place stands behind those of the places before
-pub gathered_push : (seats : List (Option ActorKnown)) (actors : List ActorKnown) (y : ActorKnown)
-    → slice_get seats (length actors) ≡ Some (Some y)
-    → ((v : ℕ) (a : ActorKnown) → slice_get actors v ≡ Some a → slice_get seats v ≡ Some (Some a))
-    → (v : ℕ) (a : ActorKnown) → slice_get (actors ++ y ∷ []) v ≡ Some a → slice_get seats v ≡ Some (Some a)
-gathered_push seats actors y here old v a e = ⊎_elim
-    (λ (h : (v ≡ length actors) × (y ≡ a)).
-    ap (slice_get seats) h.0 ∙ here ∙ ap (λ (z : ActorKnown). Some (Some z)) h.1)
-    (λ (h : slice_get actors v ≡ Some a). old v a h) (at_push actors y a v e)
-
 -- ---- which places are taken
 
 -- what is written at a place stands there

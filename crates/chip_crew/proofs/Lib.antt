@@ -3,10 +3,10 @@ pub mod QueueingLemmas
 pub mod GatheringLemmas
 pub mod RunLemmas
 pub mod DealingLemmas
-pub mod HandsLemmas
+pub mod ShareLemmas
 pub mod OwningLemmas
-pub mod PollingLemmas
 pub mod FeedLemmas
+pub mod OverLemmas
 pub mod SealingLemmas
 pub mod BackLemmas
 pub mod CrossingLemmas

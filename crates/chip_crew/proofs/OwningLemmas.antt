@@ -3,21 +3,13 @@
 use Rattle.std.proofs.Common.{◌≡◌, ◌+◌, ◌<◌, ℕ, Bool, true, false, List, length, Some, ◌∙◌, refl, sym, subst, arith}
 use Rattle.std.specs.Prelude.{slice_get}
 use Rattle.chip_net.specs.Tokens.{ActorKnown, newcomer}
-use Rattle.chip_crew.specs.Crew.{CrewId, IsOurs, IsAt, AreFrom}
+use Rattle.chip_crew.specs.Crew.{CrewId, IsAt, AreFrom}
 use Rattle.chip_crew.proofs.GatheringLemmas.{placed, same_some}
 use Rattle.chip_crew.proofs.RunLemmas.{from_each}
 
 -- a test is not both
 pub true_or_false : (b : Bool) → b ≡ true → b ≡ false → ⊥
 true_or_false b is isnt = absurd (cc)
-
-pub still_ours : (crew : CrewId) (old new : ActorKnown) → (new.net ≡ old.net) × (new.vertex ≡ old.vertex)
-    × (new.room ≡ old.room) → IsOurs crew old → IsOurs crew new
-still_ours crew old new same ours = (
-  same.0 ∙ ours.0,
-  subst (λ (v : ℕ). v < crew.net.setting.game.graph.vertices) (sym same.1) ours.1,
-  same.2 ∙ ours.2,
-)
 
 pub ours_by : (crew : CrewId) (n : ℕ) (actors : List ActorKnown) → crew.net.setting.game.graph.vertices ≡ n
     → length actors ≡ n → ((v : ℕ) → v < n → slice_get actors v ≡ Some (newcomer crew.net crew.room v))
@@ -26,4 +18,13 @@ ours_by crew n actors vertices count each = from_each (IsAt crew) 0 actors (λ i
     let inside : i < n = subst (λ (m : ℕ). i < m) count (placed actors i a at) in
     let same = same_some (newcomer crew.net crew.room i) a (sym (each i inside) ∙ at) in
     let here : i ≡ 0 + i = omega arith in
-    subst (IsAt crew (0 + i)) same ((refl, subst (λ (m : ℕ). i < m) (sym vertices) inside, refl), here))
+    subst (IsAt crew (0 + i)) same (
+      record {
+        net_is = refl;
+        inside = subst (λ (m : ℕ). i < m) (sym vertices) inside;
+        room_is = refl;
+        turns = 0;
+        turned = refl;
+      },
+      here,
+    ))

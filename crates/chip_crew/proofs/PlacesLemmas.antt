@@ -187,7 +187,7 @@ module _ (crew : CrewId) where
           ours,
           omega (
             arith,
-            old.once x.vertex ours.1,
+            old.once x.vertex ours.inside,
             actors_cons x.vertex x queued,
             times_here x.vertex,
             sum_least (has_times x.vertex) ledgers pass v at,
@@ -261,10 +261,12 @@ module _ (crew : CrewId) where
   -- ---- what the rule tells
 
   pub all_there : (pass : ℕ) (v : Ledger) → Learns Holds pass v (AreAllThere crew v)
-  all_there pass v queued ledgers old at all u less =
-      let one = one_adds (has_times u) (λ l none. times_none u l.has none) ledgers pass v at
-      (old.workers ∙ sym all) old.spent in
-      omega (arith, old.once u less, one)
+  all_there pass v queued ledgers old at all = (
+    (let one = one_adds has_count (λ l none. ap length none) ledgers pass v at (old.workers ∙ sym all) old.spent in
+        omega (arith, old.count, one)),
+    λ u less. let one = one_adds (has_times u) (λ l none. times_none u l.has none) ledgers pass v at
+        (old.workers ∙ sym all) old.spent in omega (arith, old.once u less, one),
+  )
 
   pub have_room : (pass : ℕ) (v : Ledger) → Learns Holds pass v (HaveRoom crew v)
   have_room pass v queued ledgers old at = omega (arith, old.count, sum_least has_count ledgers pass v at)
@@ -276,8 +278,15 @@ module _ (crew : CrewId) where
 -- who found the queue empty, and speaks for all workers, has each vertex once
 pub once_there : (crew : CrewId) (l : Ledger) → Held 0 (AreAllThere crew l) → l.workers ≡ crew.workers
     → (v : ℕ) → v < crew.net.setting.game.graph.vertices → times v l.has ≡ 1
-once_there crew l ([], empty, there) all v less = omega (arith, there all v less)
+once_there crew l ([], empty, there) all v less = omega (arith, (there all).1 v less)
 once_there crew l (a ∷ rest, empty, there) all v less = absurd (omega (arith, empty))
+
+-- and who has as many as there are has each vertex once
+pub once_whole : (crew : CrewId) (l : Ledger) (queued : List ActorKnown) → AreAllThere crew l queued
+    → l.workers ≡ crew.workers → crew.net.setting.game.graph.vertices ≤ length l.has → (v : ℕ)
+    → v < crew.net.setting.game.graph.vertices → times v l.has ≡ 1
+once_whole crew l [] there all many v less = omega (arith, (there all).1 v less)
+once_whole crew l (a ∷ rest) there all many v less = absurd (let count = (there all).0 in omega (arith, count, many))
 
 -- ---- how it begins
 

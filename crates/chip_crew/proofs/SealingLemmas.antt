@@ -65,12 +65,10 @@ may_seal crew (Some at) turn seal net same has =
     (sym has.1) (sym same, subst (λ (n : NetId). at.edge < graph_edges n.setting) (sym same) has.3)
 
 -- it is the net's
-pub stopper_there : (crew : CrewId) (plan : Option SealAt) (turn : ℕ) (seal : Option (StopperKnown × SealAt)) (net : NetId)
-    → net ≡ crew.net → HasSealed crew plan turn seal → IfSome seal (λ s. s.0.net ≡ net)
-stopper_there crew None turn seal net same has =
-    subst (λ (o : Option (StopperKnown × SealAt)). IfSome o (λ s. s.0.net ≡ net)) (sym has) tt
-stopper_there crew (Some at) turn seal net same has =
-    subst (λ (o : Option (StopperKnown × SealAt)). IfSome o (λ s. s.0.net ≡ net)) (sym has.1) (sym same)
+pub stopper_there : (net other : NetId) (seal : Option (StopperKnown × SealAt)) → net ≡ other
+    → IfSome seal (λ s. (s.0.net ≡ other) × (s.1.edge < graph_edges other.setting)) → IfSome seal (λ s. s.0.net ≡ net)
+stopper_there net other None same has = tt
+stopper_there net other (Some s) same has = has.0 ∙ sym same
 
 -- after one turn more it has sealed what is due
 pub sealed_next : (crew : CrewId) (plan : Option SealAt) (turn : ℕ) (old new : Option (StopperKnown × SealAt))

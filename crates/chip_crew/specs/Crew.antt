@@ -1,9 +1,8 @@
 -- What a crew keeps of its net.
 use Rattle.std.specs.Prelude.{◌≡◌, ℕ, zero, suc, ◌<◌, List, [], ◌∷◌, length, slice_get, Option, Some, ⊤}
-use Rattle.chip_net.specs.Tokens.{NetId, ActorKnown, no_actor}
-use Rattle.chip_net.specs.Roots.{RootKnown, IsPolling}
+use Rattle.chip_net.specs.Tokens.{NetId, ActorKnown, MakesTurn}
+use Rattle.chip_net.specs.declared.actor.Turn.{Turn}
 use Rattle.chip_crew.specs.declared.plan.Sharing.{Sharing}
-use Rattle.chip_crew.specs.declared.plan.Sharing.TheVariants as sharing
 
 -- whose actors these are: the net, how many trace rows each actor has room for, and how many workers share them how
 pub record CrewId : Type 0 where
@@ -12,19 +11,18 @@ pub record CrewId : Type 0 where
   pub workers : ℕ
   pub sharing : Sharing
 
--- the crew of no net
-abbrev pub no_crew : CrewId
-no_crew = record { net = no_actor.net; room = 0; workers = 0; sharing = sharing.Queue }
+-- the actor made so many whole turns since its net opened, one after another
+abbrev pub Turned : ℕ → ActorKnown → Type 0
+Turned zero a = a.did ≡ []
+Turned (suc k) a = (before : ActorKnown) × (answer : Turn) × Turned k before × MakesTurn before a answer
 
--- the net opened this actor
-abbrev pub IsOurs : CrewId → ActorKnown → Type 0
-IsOurs crew a = (a.net ≡ crew.net) × (a.vertex < crew.net.setting.game.graph.vertices) × (a.room ≡ crew.room)
-
--- the root was polled so many times more
-abbrev pub Polled : ℕ → RootKnown → RootKnown → Type 0
-Polled zero old now = now ≡ old
-Polled (suc k) old now =
-    (before : RootKnown) × Polled k old before × IsPolling before now before.net.setting.game.graph.vertices
+-- the net opened this actor, which made whole turns since and nothing else
+pub record IsOurs (crew : CrewId) (a : ActorKnown) : Type 0 where
+  pub net_is : a.net ≡ crew.net
+  pub inside : a.vertex < crew.net.setting.game.graph.vertices
+  pub room_is : a.room ≡ crew.room
+  pub turns : ℕ
+  pub turned : Turned turns a
 
 -- the place of each vertex has its actor, or none yet
 pub record AreSeats (crew : CrewId) (seats : List (Option ActorKnown)) : Type 0 where

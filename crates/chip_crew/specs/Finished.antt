@@ -1,30 +1,24 @@
 -- What a run answers.
-use Rattle.std.specs.Prelude.{◌≡◌, ◌⊎◌, ℕ, ◌+◌, ◌<◌, ⊤, Bool, true, false, if◌then◌else◌, [], sum, Option, Some, None}
+use Rattle.std.specs.Prelude.{◌≡◌, ◌⊎◌, ℕ, ◌+◌, ◌<◌, ⊤, Bool, true, false, sum, Some, None}
 use Rattle.std.specs.Prelude.{is_some}
 use Rattle.chip_graph.specs.Limits.{max_total}
 use Rattle.chip_graph.specs.More.{HasMore, all_brought}
 use Rattle.chip_graph.specs.ChipGame.{ChipGame}
 use Rattle.chip_sequence.specs.Play.{IsPlayed}
 use Rattle.chip_part.specs.Setting.{setting_with}
-use Rattle.chip_net.specs.Roots.{RootKnown, new_root, fed_by}
+use Rattle.chip_net.specs.Roots.{fed_by}
 use Rattle.chip_net.specs.Meeting.{IsRun}
 use Rattle.chip_crew.specs.Plans.{is_fed_plan, AreWithinTotal}
+use Rattle.chip_crew.specs.Asked.{Asked, SomeShut}
 use Rattle.chip_crew.specs.Crew.{CrewId, AreActors}
 use Rattle.chip_crew.specs.Feeding.{Left, pairs}
 use Rattle.chip_crew.specs.Ending.{EndsLed, StaysUnfinished}
 use Rattle.chip_crew.specs.Sealing.{KnowsSeals}
-use Rattle.chip_crew.specs.Handed.{SomeShut}
-use Rattle.chip_crew.specs.declared.joining.Joined.{Joined}
 use Rattle.chip_crew.specs.declared.plan.Plan.{Plan}
 use Rattle.chip_crew.specs.declared.plan.Sharing.{Sharing}
-use Rattle.chip_crew.specs.declared.plan.SealAt.{SealAt}
 use Rattle.chip_crew.specs.declared.play.Finished.{Finished}
 use Rattle.chip_crew.specs.declared.fault.CrewFault.{CrewFault}
 use Rattle.chip_crew.specs.declared.fault.CrewFault.TheVariants as fault
-
--- the root of a crew as its net opens: it holds the stopper's part where nothing is to be sealed
-abbrev pub root_of : CrewId → Plan → RootKnown
-root_of crew plan = new_root crew.net (if is_some plan.seal then None else Some [])
 
 -- with the chips of the start what is fed stays within the total
 abbrev pub StaysWithin : ChipGame → Left → Type 0
@@ -55,10 +49,9 @@ pub record IsCrewFor (shared : Sharing) (game : ChipGame) (feeds : Left) (plan :
   pub workers : crew.workers ≡ plan.workers
   pub sharing : crew.sharing ≡ shared
 
--- the crew's root was led until all was fed, polled until it was closed and then finished, and all its actors are there
-pub record HasFinished (crew : CrewId) (feeds : Left) (seal : Option SealAt) (old : RootKnown) (f : Finished)
-    : Type 0 where
-  pub ends : EndsLed crew feeds seal old f.receipt f.outcome
+-- the crew's root was led until all was fed, polled when it was closed and then finished, and all its actors are there
+pub record HasFinished (crew : CrewId) (feeds : Left) (plan : Plan) (f : Finished) : Type 0 where
+  pub ends : EndsLed crew feeds plan f.receipt f.outcome
   pub actors : AreActors crew f.actors.items
   -- what the root, the stopper and the actors did is one run, of which that is the outcome
   pub run : IsRun f.receipt f.actors.items f.outcome
@@ -74,7 +67,7 @@ IsWhole game (Some feeds) whole = HasMore game feeds whole
 pub record IsFinished (shared : Sharing) (game : ChipGame) (feeds : Left) (plan : Plan) (f : Finished) : Type 0 where
   pub crew : CrewId
   pub opened : IsCrewFor shared game feeds plan crew
-  pub finished : HasFinished crew feeds plan.seal (root_of crew plan) f
+  pub finished : HasFinished crew feeds plan f
   pub sealed : KnowsSeals plan.seal finished.ends.turns f.receipt
   pub fed : fed_by finished.ends.ends.root ≡ pairs feeds
   pub whole : ChipGame
@@ -83,30 +76,14 @@ pub record IsFinished (shared : Sharing) (game : ChipGame) (feeds : Left) (plan 
 
 -- ---- why a crew didn't finish
 
--- why, where its workers have ended: a gate was shut; else the root is open
-abbrev pub IsClosing : CrewId → Left → Option SealAt → RootKnown → ℕ → Joined → CrewFault → Type 0
-IsClosing crew feeds seal old turns joined fault.Plan = ⊥
-IsClosing crew feeds seal old turns joined fault.Total = ⊥
-IsClosing crew feeds seal old turns joined fault.NoMemory = ⊥
-IsClosing crew feeds seal old turns joined fault.Spawn = ⊥
-IsClosing crew feeds seal old turns joined fault.GateShut = joined.passed ≡ false
-IsClosing crew feeds seal old turns joined (fault.Doubled v) = ⊥
-IsClosing crew feeds seal old turns joined (fault.Lost v) = ⊥
-IsClosing crew feeds seal old turns joined (fault.Unfinished deficit root) =
-    (joined.passed ≡ true) × StaysUnfinished crew turns feeds seal old root deficit
-
--- why a crew that was opened didn't finish; `shut` is what is known where a gate was shut. No actor is missing, and none is
--- there twice
-abbrev pub IsStopped : CrewId → Left → Option SealAt → RootKnown → ℕ → Type 0 → CrewFault → Type 0
-IsStopped crew feeds seal old turns shut fault.Plan = ⊥
-IsStopped crew feeds seal old turns shut fault.Total = ⊥
-IsStopped crew feeds seal old turns shut fault.NoMemory = ⊤
-IsStopped crew feeds seal old turns shut fault.Spawn = ⊤
-IsStopped crew feeds seal old turns shut fault.GateShut = shut
-IsStopped crew feeds seal old turns shut (fault.Doubled v) = ⊥
-IsStopped crew feeds seal old turns shut (fault.Lost v) = ⊥
-IsStopped crew feeds seal old turns shut (fault.Unfinished deficit root) =
-    StaysUnfinished crew turns feeds seal old root deficit
+-- why a crew that was opened didn't finish: memory or threads ran out, a gate was shut, or the root is open. No actor is
+-- missing, and none is there twice
+abbrev pub IsStopped : Asked → CrewFault → Type 0
+IsStopped asked fault.NoMemory = ⊤
+IsStopped asked fault.Spawn = ⊤
+IsStopped asked fault.GateShut = SomeShut asked.may_answer asked.crew.workers asked.plan.turns
+IsStopped asked (fault.Unfinished deficit root) = StaysUnfinished asked.crew asked.feeds asked.plan root deficit
+IsStopped asked _ = ⊥
 
 -- plan or feeds are at fault; or their total is; or a crew of this game didn't finish, whose gate may answer so. No actor
 -- is missing, and none is there twice
@@ -120,5 +97,4 @@ IsFaultOf shared game feeds plan may_answer fault.GateShut =
 IsFaultOf shared game feeds plan may_answer (fault.Doubled v) = ⊥
 IsFaultOf shared game feeds plan may_answer (fault.Lost v) = ⊥
 IsFaultOf shared game feeds plan may_answer (fault.Unfinished deficit root) =
-    (crew : CrewId) × IsCrewFor shared game feeds plan crew
-    × StaysUnfinished crew plan.turns feeds plan.seal (root_of crew plan) root deficit
+    (crew : CrewId) × IsCrewFor shared game feeds plan crew × StaysUnfinished crew feeds plan root deficit

@@ -1,18 +1,17 @@
 -- How the actors are gathered.
-use Rattle.std.specs.Prelude.{◌≡◌, ℕ, ◌<◌, ◌≤◌, List, [], length, slice_get, Option, Some, None}
+use Rattle.std.specs.Prelude.{◌≡◌, ℕ, ◌+◌, ◌<◌, ◌≤◌, Bool, ◌&&◌, List, [], length, slice_get, Option, Some, None}
 use Rattle.std.specs.Vec.{vec_capacity}
-use Rattle.crossbeam_queue.specs.Passes.{view}
-use Rattle.crossbeam_queue.specs.declared.array_queue.Doing.{Doing}
-use Rattle.crossbeam_queue.specs.declared.array_queue.Slotted.{Slotted}
+use Rattle.atomic_table.specs.Seated.{TableId}
+use Rattle.crossbeam_queue.specs.Passes.{view, IsPassOf}
 use Rattle.chip_net.specs.Tokens.{ActorKnown}
 use Rattle.chip_crew.specs.Crew.{CrewId, AreSeats, AreFrom}
 use Rattle.chip_crew.specs.Dealing.{IsFirstOf}
-use Rattle.chip_crew.specs.Handed.{IsPassFor}
 use Rattle.chip_crew.specs.Places.{times}
 use Rattle.chip_crew.specs.declared.plan.Sharing.TheVariants as sharing
 use Rattle.chip_crew.specs.declared.queue.Ledger.{Ledger}
 use Rattle.chip_crew.specs.declared.gathering.Gathering.{Gathering}
 use Rattle.chip_crew.specs.declared.gathering.Back.{Back}
+use Rattle.chip_crew.specs.declared.gathering.Collected.{Collected}
 use Rattle.chip_crew.specs.declared.gathering.Back.TheVariants as back
 
 -- the places hold actors of the crew, each at its vertex, and there is room for all of them
@@ -34,11 +33,6 @@ pub record AreSeated (seats : List (Option ActorKnown)) (has : List ℕ) : Type 
 abbrev pub AllSeated : List (Option ActorKnown) → Type 0
 AllSeated seats = (v : ℕ) → v < length seats → IsSeated seats v
 
--- these actors were in the places, in their order
-abbrev pub AreGathered : Gathering → List ActorKnown → Type 0
-AreGathered gathering actors =
-    (v : ℕ) (a : ActorKnown) → slice_get actors v ≡ Some a → slice_get gathering.seats.items v ≡ Some (Some a)
-
 -- the row has the actors of so many workers, one run behind the other, and there is room for all of them
 pub record IsRow (crew : CrewId) (workers : ℕ) (row : List ActorKnown) (room : ℕ) : Type 0 where
   pub up_to : IsFirstOf crew workers (length row)
@@ -51,15 +45,21 @@ pub record IsGatheringFor (crew : CrewId) (workers : ℕ) (ledger : Ledger) (gat
   pub speaks : ledger.workers ≡ workers
   pub seated : AreSeated gathering.seats.items ledger.has
 
-module _ {Q A : Type 0} where
+module _ {B : Type 0} where
   -- what is there once so many workers have handed back what they had
-  abbrev pub AreBack : CrewId → Option (Slotted (Option ActorKnown) (Doing ActorKnown Ledger) Q A) → ℕ → Back → Type 0
-  AreBack crew queue workers (back.Queue pass gathering) = (crew.sharing ≡ sharing.Queue) × IsPassFor queue pass
+  abbrev pub AreBack : CrewId → ℕ → Back B → Type 0
+  AreBack crew workers (back.Queue queue pass gathering) = (crew.sharing ≡ sharing.Queue) × IsPassOf queue.now pass
       × IsGatheringFor crew workers (view pass) gathering
-  AreBack crew queue workers (back.Dealt row) =
-      (crew.sharing ≡ sharing.Dealt) × IsRow crew workers row.items (vec_capacity row)
+  AreBack crew workers (back.Dealt row) = (crew.sharing ≡ sharing.Dealt) × IsRow crew workers row.items (vec_capacity row)
 
--- all actors are there
-abbrev pub AreAllBack : CrewId → Back → Type 0
-AreAllBack crew (back.Queue pass gathering) = IsGathering crew gathering × AllSeated gathering.seats.items
-AreAllBack crew (back.Dealt row) = IsRow crew crew.workers row.items (vec_capacity row)
+  -- through which queue they come, if any
+  abbrev pub queue_for : Back B → Option TableId
+  queue_for (back.Queue queue pass gathering) = Some pass.table_id
+  queue_for (back.Dealt row) = None
+
+  -- what one worker more had was taken back, and whether its gate let it pass is told
+  pub record Collects (crew : CrewId) (passed : Bool) (old new : Collected B) : Type 0 where
+    pub workers : new.workers ≡ old.workers + 1
+    pub are_back : AreBack crew new.workers new.back
+    pub uses : queue_for new.back ≡ queue_for old.back
+    pub passed_is : new.passed ≡ (old.passed && passed)

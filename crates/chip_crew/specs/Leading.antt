@@ -1,31 +1,53 @@
 -- What worker 0 does beside its turns.
-use Rattle.std.specs.Prelude.{◌≡◌, ℕ, ◌<◌, Bool, true, false, IfSome}
+use Rattle.std.specs.Prelude.{◌≡◌, ℕ, ◌<◌, ◌≤◌, Bool, true, false, IfSome}
 use Rattle.std.specs.Option.{option_copied}
 use Rattle.chip_part.specs.Edges.{graph_edges}
 use Rattle.chip_net.specs.Tokens.{NetId}
 use Rattle.chip_net.specs.Roots.{IsPolling, IsOver}
+use Rattle.chip_crew.specs.Asked.{Asked, root_of}
+use Rattle.chip_crew.specs.Dealing.{IsRound}
+use Rattle.chip_crew.specs.Duties.{Serves}
 use Rattle.chip_crew.specs.Feeding.{MayFeedLeft, FeedsOnce}
-use Rattle.chip_crew.specs.Sealing.{SealsBefore}
-use Rattle.chip_crew.specs.declared.lead.Lead.{Lead}
+use Rattle.chip_crew.specs.Sealing.{SealsBefore, HasSealed}
+use Rattle.chip_crew.specs.declared.leader.Leader.{Leader}
 
--- root and stopper are of this net, the root may feed what is left, and what is to be sealed is an edge of the graph
-pub record CanLead (net : NetId) (lead : Lead) : Type 0 where
-  pub net_is : lead.root.net ≡ net
-  pub may : MayFeedLeft lead.root (option_copied lead.feeds)
-  pub seal : IfSome lead.seal (λ s. (s.0.net ≡ net) × (s.1.edge < graph_edges net.setting))
+-- root and stopper are of this net, the root may feed what is left, what is to be sealed is an edge of the graph, and a
+-- root that was found closed is
+pub record CanLead (net : NetId) (leader : Leader) : Type 0 where
+  pub net_is : leader.root.net ≡ net
+  pub may : MayFeedLeft leader.root (option_copied leader.feeds)
+  pub seal : IfSome leader.seal (λ s. (s.0.net ≡ net) × (s.1.edge < graph_edges net.setting))
+  pub closed : leader.is_closed ≡ true → IsOver leader.root
 
 -- the stopper sealed what is due before this turn, and the root fed what it could
-pub record LeadsTurn (turn : ℕ) (old new : Lead) : Type 0 where
+pub record LeadsTurn (turn : ℕ) (old new : Leader) : Type 0 where
   pub seals : SealsBefore turn old.seal new.seal
   pub feeds : FeedsOnce (option_copied old.feeds) (option_copied new.feeds) old.root new.root
 
 -- the root was polled
-pub record LeadsRound (old new : Lead) : Type 0 where
+pub record LeadsRound (old new : Leader) : Type 0 where
   pub polls : IsPolling old.root new.root old.root.net.setting.game.graph.vertices
   pub feeds : new.feeds ≡ old.feeds
   pub seal : new.seal ≡ old.seal
 
 -- the crew is to stop exactly where the root is closed
-abbrev pub Stops : Bool → Lead → Type 0
-Stops true lead = IsOver lead.root
-Stops false lead = IsOver lead.root → ⊥
+abbrev pub Stops : Bool → Leader → Type 0
+Stops true leader = IsOver leader.root
+Stops false leader = IsOver leader.root → ⊥
+
+-- what worker 0 begins with: the root of the crew, what it has to feed, and the stopper, which sealed nothing yet
+pub record IsLeader (asked : Asked) (leader : Leader) : Type 0 where
+  pub root : leader.root ≡ root_of asked.crew asked.plan
+  pub feeds : option_copied leader.feeds ≡ asked.feeds
+  pub seal : HasSealed asked.crew asked.plan.seal 0 leader.seal
+  pub can : CanLead asked.crew.net leader
+
+-- it led in so many turns, of which so many make a round
+pub record HasLed (asked : Asked) (round turns : ℕ) (leader : Leader) : Type 0 where
+  pub first : Leader
+  pub begins : IsLeader asked first
+  pub is_round : IsRound asked.crew round
+  pub some : 0 < round
+  pub at_most : turns ≤ asked.plan.turns
+  pub served : Serves LeadsTurn LeadsRound round turns first leader
+  pub can : CanLead asked.crew.net leader

@@ -1,6 +1,7 @@
 pub mod Plans
 pub mod Crew
 pub mod Dealing
+pub mod Asked
 pub mod Rounds
 pub mod Feeding
 pub mod Sealing
@@ -11,4 +12,5 @@ pub mod Ledger
 pub mod Places
 pub mod Gathering
 pub mod Handed
+pub mod Joining
 pub mod Finished

@@ -24,8 +24,9 @@ pub record AreShared (crew : CrewId) (queued : List ActorKnown) (ledgers : List 
 
 -- who speaks for all workers has the actor of each vertex that is not in the queue
 abbrev pub AreAllThere : CrewId → Ledger → List ActorKnown → Type 0
-AreAllThere crew ledger queued = ledger.workers ≡ crew.workers → (v : ℕ) → v < crew.net.setting.game.graph.vertices
-    → actors_of v queued + times v ledger.has ≡ 1
+AreAllThere crew ledger queued = ledger.workers ≡ crew.workers
+    → (length queued + length ledger.has ≡ crew.net.setting.game.graph.vertices)
+    × ((v : ℕ) → v < crew.net.setting.game.graph.vertices → actors_of v queued + times v ledger.has ≡ 1)
 
 -- the queue and the thread have no more actors than there are
 abbrev pub HaveRoom : CrewId → Ledger → List ActorKnown → Type 0

@@ -1,15 +1,15 @@
 //! How the actors are dealt out to the workers.
 
-ghost use Rattle.std.specs.Prelude.{◌≡◌, ◌+◌, ◌≤◌, ◌<◌, ◌^◌, IfOk, length};
+ghost use Rattle.std.specs.Prelude.{◌≡◌, ◌+◌, ◌*◌, ◌≤◌, ◌<◌, ◌^◌, ℕ, IfOk, None, length};
 ghost use Rattle.chip_graph.specs.Limits.{max_edges};
 ghost use Rattle.chip_crew.specs.declared.plan.Sharing.TheVariants as shares;
 ghost use Rattle.chip_crew.specs.Plans.{max_workers};
-ghost use Rattle.chip_crew.specs.Dealing.{ends_at, ends_before, IsCut};
-ghost use Rattle.chip_crew.specs.Handed.{AreHands};
+ghost use Rattle.chip_crew.specs.Dealing.{ends_at, ends_before};
+ghost use Rattle.chip_crew.specs.Handed.{AreReady};
 ghost use Rattle.chip_crew.specs.Crew.{AreFrom};
 
 use crate::queue::Crew;
-use crate::worker::Hands;
+use crate::worker::Share;
 use chip_graph::Graph;
 use chip_net::Actor;
 use std::alloc::{AllocError, Global};
@@ -36,47 +36,54 @@ fn all_ends(graph: &Graph) -> u64
     ends
 }
 
-/// The first vertex of a worker.
-fn cut(graph: &Graph, workers: u64, worker: u64) -> u64
+/// Goes on from the first vertex of a worker, before which there are so many ends, to that of the next one: these two
+/// numbers.
+fn next_cut(graph: &Graph, workers: u64, share: u64, first: u64, before: u64) -> (u64, u64)
     requires workers { (0 < workers) × (workers ≤ max_workers) }
-    requires worker { worker ≤ workers }
-    ensures { IsCut graph.now workers worker result }
+    requires share { share ≤ workers * ends_before graph.now graph.now.vertices }
+    requires first { (first ≤ graph.now.vertices) × (before ≡ ends_before graph.now first) × (before ≤ first * (2 ^ 24 + 1)) }
+    ensures reached { share ≤ workers * result.1 }
+    ensures least { (u : ℕ) → first ≤ u → u < result.0 → workers * ends_before graph.now u < share }
+    ensures next { (first ≤ result.0) × (result.0 ≤ graph.now.vertices) × (result.1 ≡ ends_before graph.now result.0)
+        × (result.1 ≤ result.0 * (2 ^ 24 + 1)) }
 {
-    let share = worker * all_ends(graph);
-    let mut ends = 0;
-    for vertex in 0..graph.vertices() {
+    let mut ends = before;
+    for vertex in first..graph.vertices() {
         if share <= workers * ends {
-            return vertex;
+            return (vertex, ends);
         }
         ends += ends_at(graph, vertex);
     }
-    graph.vertices()
+    (graph.vertices(), ends)
 }
 
 /// Deals the actors of all vertices out, which are in their order: to each worker a run of consecutive ones. So many
 /// ends of edges are at the vertices before a run as an even deal gives the workers before, or the least number above.
-pub(crate) fn deal<B: Crew>(
+pub(crate) fn deal<'q, B: Crew>(
     alloc: Global,
     graph: &Graph,
     mut actors: Vec<Actor>,
     workers: u64,
-) -> Result<Vec<Hands>, AllocError>
-    requires graph { graph.now ≡ B.crew.net.setting.game.graph }
-    requires workers { (0 < workers) × (workers ≤ max_workers) × (workers ≡ B.crew.workers) }
-    requires actors { AreFrom B.crew 0 actors.items }
-    requires count { length actors.items ≡ B.crew.net.setting.game.graph.vertices }
-    requires sharing { B.crew.sharing ≡ shares.Dealt }
-    ensures count { IfOk result (λ hands. length hands.items ≡ workers) }
-    ensures hands { IfOk result (λ hands. AreHands B.crew B.passes hands.items) }
+) -> Result<Vec<Share<'q, B>>, AllocError>
+    requires graph { graph.now ≡ B.asked.crew.net.setting.game.graph }
+    requires workers { (0 < workers) × (workers ≤ max_workers) × (workers ≡ B.asked.crew.workers) }
+    requires actors { AreFrom B.asked.crew 0 actors.items }
+    requires count { length actors.items ≡ B.asked.crew.net.setting.game.graph.vertices }
+    requires sharing { B.asked.crew.sharing ≡ shares.Dealt }
+    ensures count { IfOk result (λ all. length all.items ≡ workers) }
+    ensures ready { IfOk result (λ all. AreReady B.asked None all.items) }
 {
-    let mut hands = Vec::with_capacity(alloc, workers as usize)?;
+    let all_ends = all_ends(graph);
+    let mut all = Vec::with_capacity(alloc, workers as usize)?;
     let mut first = 0;
+    let mut ends = 0;
     for worker in 0..workers {
-        let next = cut(graph, workers, worker + 1);
+        let (next, before) = next_cut(graph, workers, (worker + 1) * all_ends, first, ends);
         let rest = actors.split_off((next - first) as usize)?;
-        hands.push_reserved(Hands::Dealt(actors));
+        all.push_reserved(Share::Dealt(actors));
         actors = rest;
         first = next;
+        ends = before;
     }
-    Ok(hands)
+    Ok(all)
 }

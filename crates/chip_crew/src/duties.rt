@@ -4,7 +4,7 @@ use crate::plan::Gate;
 use chip_net::Net;
 
 /// Done by a worker beside the turns of its actors, by its own thread.
-pub(crate) trait Duties<G: Gate> {
+pub(crate) trait Duties {
     ghost use Rattle.std.specs.Prelude.{ℕ, Bool};
     ghost use Rattle.chip_net.specs.Tokens.{NetId};
 
@@ -27,7 +27,7 @@ pub(crate) trait Duties<G: Gate> {
         ensures done { before turn self.old self.new };
 
     /// Done after each whole round, of which this was the last turn: whether the crew is to stop.
-    fn end_round(&mut self, net: &Net, gate: &G, turn: u64) -> bool
+    fn end_round<G: Gate>(&mut self, net: &Net, gate: &G, turn: u64) -> bool
         requires { can net.now self.old }
         ensures can { can net.now self.new }
         ensures done { after self.old self.new }
@@ -38,7 +38,7 @@ pub(crate) trait Duties<G: Gate> {
 #[derive(Drop)]
 pub(crate) struct NoDuties;
 
-impl<G: Gate> Duties<G> for NoDuties {
+impl Duties for NoDuties {
     ghost use Rattle.std.specs.Prelude.{◌≡◌, false, ⊤};
 
     ghost can = { λ _ _. ⊤ };
@@ -53,7 +53,7 @@ impl<G: Gate> Duties<G> for NoDuties {
     fn begin_turn(&mut self, _net: &Net, _turn: u64) {}
 
     #[inline(always)]
-    fn end_round(&mut self, _net: &Net, _gate: &G, _turn: u64) -> bool {
+    fn end_round<G: Gate>(&mut self, _net: &Net, _gate: &G, _turn: u64) -> bool {
         false
     }
 }

@@ -1,7 +1,7 @@
 //! What is done with the root once all workers have ended.
 
-ghost use Rattle.std.specs.Prelude.{◌≡◌, ◌-◌, ◌≤◌, MatchResult, IfOk, IfSome};
-ghost use Rattle.chip_crew.specs.Ending.{IsPolledUntil, EndsWell, StaysOpen};
+ghost use Rattle.std.specs.Prelude.{◌≡◌, MatchResult, IfOk, IfSome};
+ghost use Rattle.chip_crew.specs.Ending.{EndsWell, StaysOpen};
 ghost use Rattle.chip_crew.specs.Sealing.{HasBack};
 
 use crate::plan::SealAt;
@@ -20,35 +20,13 @@ pub(crate) fn take_back(net: &Net, root: &mut Root, seal: Option<(Stopper, SealA
     }
 }
 
-/// Polls so many times and once more, or until the root is closed.
-fn poll_until(net: &Net, root: &mut Root, more: u64) -> RootState
-    requires { root.old.net ≡ net.now }
-    ensures net { root.new.net ≡ net.now }
-    ensures until { IsPolledUntil more root.old root.new result }
-{
-    for _ in 0..more {
-        if let RootState::Closed = root.poll(net) {
-            return RootState::Closed;
-        }
-    }
-    root.poll(net)
-}
-
-/// The last poll, and the end. Worker 0 has polled so often, and makes so many turns at most: it has ended before
-/// only where the root is closed, and a closed root stays closed, so that this is one poll. Where messages are open
-/// it tells how many, and hands the root back.
-pub(crate) fn last_poll(
-    net: &Net,
-    mut root: Root,
-    polls: u64,
-    turns: u64,
-) -> Result<(Outcome, Receipt), (u64, Root)>
+/// The last poll, and the end. Where messages are open it tells how many, and hands the root back.
+pub(crate) fn last_poll(net: &Net, mut root: Root) -> Result<(Outcome, Receipt), (u64, Root)>
     requires net { root.net ≡ net.now }
-    requires polls { polls ≤ turns }
-    ensures ends { MatchResult result (λ r. EndsWell root r.1 r.0) (λ r. StaysOpen (turns - polls) root r.1 r.0) }
+    ensures ends { MatchResult result (λ r. EndsWell root r.1 r.0) (λ r. StaysOpen root r.1 r.0) }
     ensures net { IfOk result (λ r. r.1.net ≡ net.now) }
 {
-    let state = poll_until(net, &mut root, turns - polls);
+    let state = root.poll(net);
     match root.finish(net) {
         Ok(ended) => Ok(ended),
         Err(root) => match state {

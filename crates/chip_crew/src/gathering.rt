@@ -1,17 +1,18 @@
 //! How the actors are gathered once all workers have ended.
 
-ghost use Rattle.std.specs.Prelude.{◌≡◌, ◌+◌, ◌<◌, ◌≤◌, [], length, slice_get, slice_set, Some, None, IfOk, IfSome};
-ghost use Rattle.std.specs.Option.{option_copied};
+ghost use Rattle.std.specs.Prelude.{◌≡◌, ◌+◌, ◌<◌, ◌≤◌, ℕ, [], slice_get, slice_set, Some, None, IfOk, IfSome};
 ghost use Rattle.chip_crew.specs.Crew.{IsOurs, AreActors};
-ghost use Rattle.chip_crew.specs.Handed.{Fits, HasMade};
-ghost use Rattle.chip_crew.specs.Gathering.{IsGathering, IsGatheringFor, AreSeated, AllSeated, AreGathered, AreBack, AreAllBack};
+ghost use Rattle.chip_crew.specs.Handed.{HasMade, queue_of};
+ghost use Rattle.chip_crew.specs.Gathering.{IsGathering, IsGatheringFor, AreSeated, AllSeated, AreBack, Collects, queue_for};
 ghost use Rattle.chip_crew.specs.Ledger.{HasJust};
+ghost use Rattle.chip_crew.specs.Plans.{max_workers};
 ghost use Rattle.crossbeam_queue.specs.Passes.{view, IsPassOf};
 
-use crate::queue::{Crew, Hires, Once, Queue, QueuePass};
-use crate::worker::Hands;
+use crate::queue::{Crew, Popped, Queue, QueuePass, SplitLedger, Unique};
+use crate::worker::Share;
 use chip_net::Actor;
 use std::alloc::{AllocError, Global};
+use std::sync::Wait;
 
 /// The places of the actors, one for each vertex. All its memory is taken when it is made.
 #[derive(Drop)]
@@ -21,11 +22,12 @@ pub(crate) struct Gathering {
     actors: Vec<Actor>,
 }
 
-/// What the actors come back to, once the workers have ended.
+/// Where the actors come back to, once the workers have ended.
 #[derive(Drop)]
-pub(crate) enum Back {
+pub(crate) enum Back<'a, B: Crew> {
     /// Their places, where they come through a queue.
     Queue {
+        queue: &'a Queue<B>,
         /// The calling thread's pass of the queue, which joins those of the workers.
         pass: QueuePass,
         /// The places. Those of the actors that the calling thread has are taken.
@@ -35,13 +37,24 @@ pub(crate) enum Back {
     Dealt(Vec<Actor>),
 }
 
+/// What came back from the workers.
+#[derive(Drop)]
+pub(crate) struct Collected<'a, B: Crew> {
+    /// From how many.
+    pub workers: u64,
+    /// Whether no gate of theirs answered false.
+    pub passed: bool,
+    /// Their actors.
+    pub back: Back<'a, B>,
+}
+
 /// A gathering on which there is no actor yet.
 pub(crate) fn new_gathering<B: Crew>(
     alloc: Global,
     vertices: usize,
 ) -> Result<Gathering, AllocError>
-    requires { vertices ≡ B.crew.net.setting.game.graph.vertices }
-    ensures gathering { IfOk result (IsGathering B.crew) }
+    requires { vertices ≡ B.asked.crew.net.setting.game.graph.vertices }
+    ensures gathering { IfOk result (IsGathering B.asked.crew) }
     ensures none { IfOk result (λ gathering. AreSeated gathering.seats.items []) }
 {
     let mut seats = Vec::with_capacity(alloc, vertices)?;
@@ -53,11 +66,11 @@ pub(crate) fn new_gathering<B: Crew>(
 }
 
 /// Puts an actor at its place, which is free.
-pub(crate) fn note<B: Crew>(gathering: &mut Gathering, actor: Actor)
-    requires gathering { IsGathering B.crew gathering.old }
-    requires actor { IsOurs B.crew actor }
+fn note<B: Crew>(gathering: &mut Gathering, actor: Actor)
+    requires gathering { IsGathering B.asked.crew gathering.old }
+    requires actor { IsOurs B.asked.crew actor }
     requires free { slice_get gathering.old.seats.items actor.vertex ≡ Some None }
-    ensures gathering { IsGathering B.crew gathering.new }
+    ensures gathering { IsGathering B.asked.crew gathering.new }
     ensures noted { gathering.new.seats.items ≡ slice_set gathering.old.seats.items actor.vertex (Some actor) }
 {
     let place = actor.vertex() as usize;
@@ -65,11 +78,10 @@ pub(crate) fn note<B: Crew>(gathering: &mut Gathering, actor: Actor)
 }
 
 /// The actors of all vertices, ascending, where each has its place.
-fn gather<B: Crew>(gathering: Gathering) -> Vec<Actor>
-    requires gathering { IsGathering B.crew gathering }
+fn seated<B: Crew>(gathering: Gathering) -> Vec<Actor>
+    requires gathering { IsGathering B.asked.crew gathering }
     requires all { AllSeated gathering.seats.items }
-    ensures actors { AreActors B.crew result.items }
-    ensures gathered { AreGathered gathering result.items }
+    ensures { AreActors B.asked.crew result.items }
 {
     let Gathering {
         mut seats,
@@ -92,63 +104,98 @@ fn join_pass<B: Crew>(
     theirs: QueuePass,
     kept: Option<Actor>,
 )
-    requires pass { IsPassOf queue.now pass.old }
-    requires gathering { IsGatheringFor B.crew (view pass.old).workers (view pass.old) gathering.old }
-    requires theirs { IsPassOf queue.now theirs }
-    requires kept { IfSome kept (IsOurs B.crew) }
+    requires pass { IsPassOf queue.now pass.old × IsPassOf queue.now theirs }
+    requires gathering { IsGatheringFor B.asked.crew (view pass.old).workers (view pass.old) gathering.old }
+    requires kept { IfSome kept (IsOurs B.asked.crew) }
     requires has { HasJust (view theirs) kept }
     ensures pass { IsPassOf queue.now pass.new }
-    ensures gathering { IsGatheringFor B.crew ((view pass.old).workers + 1) (view pass.new) gathering.new }
+    ensures gathering { IsGatheringFor B.asked.crew ((view pass.old).workers + 1) (view pass.new) gathering.new }
 {
-    queue.absorb::<Hires>(pass, theirs);
+    queue.absorb::<SplitLedger>(pass, theirs);
     // It tells that the place of the actor is free.
-    queue.learn_as::<Once<B>>(pass);
+    queue.learn_as::<Unique<B>>(pass);
     if let Some(actor) = kept {
         note::<B>(gathering, actor);
     }
 }
 
-/// Takes back what a worker has. What all lesser workers had is back already.
-pub(crate) fn take_hands<B: Crew>(
-    queue: Option<&Queue<B>>,
-    back: &mut Back,
-    hands: Hands,
-    _worker: u64,
-    _turns: u64,
-)
-    requires worker { _worker < B.crew.workers }
-    requires back { AreBack B.crew (option_copied queue) _worker back.old }
-    requires fits { Fits (option_copied queue) hands }
-    requires hands { HasMade B.crew _worker (B.passes _worker) _turns hands }
-    ensures back { AreBack B.crew (option_copied queue.entry) (_worker + 1) back.new }
-{
-    match hands {
-        Hands::Queue { pass: theirs, kept } => {
-            let Back::Queue { pass, gathering } = back else {
-                unreachable!()
-            };
-            let Some(queue) = queue else { unreachable!() };
-            join_pass(queue, pass, gathering, theirs, kept);
-        }
-        Hands::Dealt(actors) => {
-            let Back::Dealt(row) = back else {
-                unreachable!()
-            };
-            for actor in actors {
-                row.push_reserved(actor);
+impl<'a, B: Crew> Collected<'a, B> {
+    /// Takes back what a worker has. What all lesser workers had is back already.
+    pub fn take(&mut self, share: Share<B>, passed: bool)
+        requires next { (self.old.workers < B.asked.crew.workers) × (B.asked.crew.workers ≤ max_workers) }
+        requires back { AreBack B.asked.crew self.old.workers self.old.back }
+        requires made { (turns : ℕ) × HasMade B.asked self.old.workers turns share }
+        requires uses { queue_of share ≡ queue_for self.old.back }
+        ensures { Collects B.asked.crew passed self.old self.new }
+    {
+        match share {
+            Share::Queue {
+                pass: theirs,
+                kept,
+                ..
+            } => {
+                let Back::Queue {
+                    queue,
+                    pass,
+                    gathering,
+                } = &mut self.back
+                else {
+                    unreachable!()
+                };
+                join_pass(queue, pass, gathering, theirs, kept);
+            }
+            Share::Dealt(actors) => {
+                let Back::Dealt(row) = &mut self.back else {
+                    unreachable!()
+                };
+                for actor in actors {
+                    row.push_reserved(actor);
+                }
             }
         }
+        self.workers += 1;
+        self.passed &= passed;
     }
 }
 
-/// The actors of all vertices, ascending.
-pub(crate) fn all_back<B: Crew>(back: Back) -> Vec<Actor>
-    requires back { AreAllBack B.crew back }
-    requires some { 0 < B.crew.workers }
-    ensures { AreActors B.crew result.items }
+/// Takes all actors that are in the queue. All workers have handed back what they had.
+fn drain<R: Wait, B: Crew>(
+    rt: &R,
+    queue: &Queue<B>,
+    pass: &mut QueuePass,
+    gathering: &mut Gathering,
+)
+    requires pass { IsPassOf queue.now pass.old }
+    requires gathering { IsGatheringFor B.asked.crew B.asked.crew.workers (view pass.old) gathering.old }
+    requires some { 0 < B.asked.crew.workers }
+    ensures gathering { IsGathering B.asked.crew gathering.new }
+    ensures all { AllSeated gathering.new.seats.items }
+{
+    for _ in 0..gathering.seats.len() {
+        let Some(actor) = queue.pop_as::<Popped<B>, R>(rt, pass) else {
+            return;
+        };
+        note::<B>(gathering, actor);
+    }
+    // So many actors are all that there are.
+    queue.learn_as::<Popped<B>>(pass);
+}
+
+/// The actors of all vertices, ascending. All workers have handed back what they had.
+pub(crate) fn gather<R: Wait, B: Crew>(rt: &R, back: Back<B>) -> Vec<Actor>
+    requires back { AreBack B.asked.crew B.asked.crew.workers back }
+    requires some { 0 < B.asked.crew.workers }
+    ensures { AreActors B.asked.crew result.items }
 {
     match back {
-        Back::Queue { gathering, .. } => gather::<B>(gathering),
+        Back::Queue {
+            queue,
+            mut pass,
+            mut gathering,
+        } => {
+            drain(rt, queue, &mut pass, &mut gathering);
+            seated::<B>(gathering)
+        }
         Back::Dealt(row) => row,
     }
 }

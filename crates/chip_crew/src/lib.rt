@@ -3,8 +3,8 @@
 //! The rule of the queue (`queue.rt`) is that every actor in it was opened by this net. A worker takes an actor,
 //! gives it a turn and puts it back (`worker.rt`); where the actors are dealt out (`dealing.rt`) it gives each of its
 //! own a turn, round by round. What it does beside (`duties.rt`) comes before each turn and after each round: worker 0
-//! has the root, which it feeds (`feeding.rt`) and polls, and the stopper (`lead.rt`). Once all have ended there is a
-//! last poll (`ending.rt`), and the actors are gathered (`gathering.rt`).
+//! leads (`leader.rt`), it has the root, which it feeds (`feeding.rt`) and polls, and the stopper. Once all have ended
+//! (`joining.rt`) there is a last poll (`ending.rt`), and the actors are gathered (`gathering.rt`).
 #![tactic(auto)]
 
 mod dealing;
@@ -14,10 +14,11 @@ mod fault;
 mod feeding;
 mod gathering;
 mod joining;
-mod lead;
+mod leader;
 mod plan;
 mod play;
 mod queue;
+mod shared;
 mod worker;
 
 pub use fault::CrewFault;

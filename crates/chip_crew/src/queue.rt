@@ -6,49 +6,17 @@ use crossbeam_queue::{Pass, RuledArrayQueue};
 use std::collections::LinkedList;
 use std::marker::{Brand, PhantomData};
 
-/// Which net's actors a crew shares, the root with which it begins, what it has to feed and to seal, how many turns each
-/// worker makes at most, what is known of a turn of a worker that its gate let pass, and what is known where a gate was
-/// shut. Proofs alone know it.
+/// What a crew was asked to do. Proofs alone know it.
 pub(crate) trait Crew {
-    ghost use Rattle.std.specs.Prelude.{ℕ, Option};
-    ghost use Rattle.chip_crew.specs.Crew.{CrewId};
-    ghost use Rattle.chip_crew.specs.Feeding.{Left};
-    ghost use Rattle.chip_crew.specs.declared.plan.SealAt.{SealAt};
-    ghost use Rattle.chip_net.specs.Roots.{RootKnown};
+    ghost use Rattle.chip_crew.specs.Asked.{Asked};
 
-    ghost crew: { CrewId };
-
-    ghost root: { RootKnown };
-
-    ghost feeds: { Left };
-
-    ghost seal: { Option SealAt };
-
-    ghost turns: { ℕ };
-
-    ghost passes: { ℕ → ℕ → Type 0 };
-
-    ghost shut: { Type 0 };
+    ghost asked: { Asked };
 }
 
 impl Crew for Brand {
-    ghost use Rattle.std.specs.Prelude.{None};
-    ghost use Rattle.chip_crew.specs.Crew.{no_crew};
-    ghost use Rattle.chip_net.specs.Roots.{new_root};
+    ghost use Rattle.chip_crew.specs.Asked.{none_asked};
 
-    ghost crew = { no_crew };
-
-    ghost root = { new_root no_crew.net None };
-
-    ghost feeds = { None };
-
-    ghost seal = { None };
-
-    ghost turns = { 0 };
-
-    ghost passes = { λ _ _. ⊥ };
-
-    ghost shut = { ⊥ };
+    ghost asked = { none_asked };
 }
 
 /// What a thread did at the queue, and what it has. No value of it is made.
@@ -73,57 +41,57 @@ impl<B: Crew> Protocol<Actor, Ledger> for Owned<B> {
     ghost use Rattle.chip_crew.specs.Ledger.{first_ledger};
     ghost use Rattle.chip_crew.specs.Places.{AreShared};
 
-    ghost holds = { AreShared B.crew };
+    ghost holds = { AreShared B.asked.crew };
 
-    ghost first = { first_ledger B.crew };
+    ghost first = { first_ledger B.asked.crew };
 }
 
 /// An actor comes out: it was opened by this net, the thread had none of its vertex, and the ledger has it as taken. Where
 /// none comes, what the thread has is all that there is, if it speaks for all workers.
-pub(crate) struct Takes<B> {
+pub(crate) struct Popped<B> {
     of: PhantomData<B>,
 }
 
-impl<B: Crew> Outcome<Actor, Ledger> for Takes<B> {
+impl<B: Crew> Outcome<Actor, Ledger> for Popped<B> {
     ghost use Rattle.std.specs.Prelude.{◌≡◌};
     ghost use Rattle.chip_crew.specs.Crew.{IsOurs};
     ghost use Rattle.chip_crew.specs.Ledger.{with_taken};
     ghost use Rattle.chip_crew.specs.Places.{times};
 
-    ghost then = { λ old a new. IsOurs B.crew a × (times a.vertex old.has ≡ 0) × (new ≡ with_taken old a) };
+    ghost then = { λ old a new. IsOurs B.asked.crew a × (times a.vertex old.has ≡ 0) × (new ≡ with_taken old a) };
 }
 
-impl<B: Crew> Lesson<Actor, Ledger> for Takes<B> {
+impl<B: Crew> Lesson<Actor, Ledger> for Popped<B> {
     ghost use Rattle.chip_crew.specs.Places.{AreAllThere};
 
-    ghost fact = { AreAllThere B.crew };
+    ghost fact = { AreAllThere B.asked.crew };
 }
 
 /// An actor goes in, the first of those that the thread has: it was opened by this net, and the ledger has it as put. Where
 /// it finds no place, the thread has nothing.
-pub(crate) struct Puts<B> {
+pub(crate) struct Pushed<B> {
     of: PhantomData<B>,
 }
 
-impl<B: Crew> Outcome<Actor, Ledger> for Puts<B> {
+impl<B: Crew> Outcome<Actor, Ledger> for Pushed<B> {
     ghost use Rattle.std.specs.Prelude.{◌≡◌};
     ghost use Rattle.chip_crew.specs.Crew.{IsOurs};
     ghost use Rattle.chip_crew.specs.Ledger.{with_put};
 
-    ghost then = { λ old a new. IsOurs B.crew a × (new ≡ with_put old a) };
+    ghost then = { λ old a new. IsOurs B.asked.crew a × (new ≡ with_put old a) };
 }
 
-impl<B: Crew> Lesson<Actor, Ledger> for Puts<B> {
+impl<B: Crew> Lesson<Actor, Ledger> for Pushed<B> {
     ghost use Rattle.chip_crew.specs.Places.{HaveRoom};
 
-    ghost fact = { HaveRoom B.crew };
+    ghost fact = { HaveRoom B.asked.crew };
 }
 
 /// A worker gets a ledger of its own, and the calling thread speaks for one worker less. When the worker has ended, it
 /// hands its ledger back.
-pub(crate) struct Hires;
+pub(crate) struct SplitLedger;
 
-impl Split<Ledger> for Hires {
+impl Split<Ledger> for SplitLedger {
     ghost use Rattle.chip_crew.specs.Ledger.{new_ledger, with_fewer};
 
     ghost left = { with_fewer };
@@ -131,7 +99,7 @@ impl Split<Ledger> for Hires {
     ghost right = { λ _. new_ledger };
 }
 
-impl Join<Ledger> for Hires {
+impl Join<Ledger> for SplitLedger {
     ghost use Rattle.chip_crew.specs.Ledger.{both_ledgers, no_ledger};
 
     ghost both = { both_ledgers };
@@ -140,14 +108,14 @@ impl Join<Ledger> for Hires {
 }
 
 /// No thread has two actors of one vertex.
-pub(crate) struct Once<B> {
+pub(crate) struct Unique<B> {
     of: PhantomData<B>,
 }
 
-impl<B: Crew> Lesson<Actor, Ledger> for Once<B> {
+impl<B: Crew> Lesson<Actor, Ledger> for Unique<B> {
     ghost use Rattle.chip_crew.specs.Places.{HasOnce};
 
-    ghost fact = { HasOnce B.crew };
+    ghost fact = { HasOnce B.asked.crew };
 }
 
 /// The queue of the actors that no worker has at the moment.

@@ -1,42 +1,28 @@
 //! What each worker does.
 
 ghost use Rattle.std.specs.Prelude.{◌≡◌, ◌+◌, ◌%◌, ◌<◌, ◌≤◌, [], All, IfSome, length};
-ghost use Rattle.std.specs.Option.{option_copied};
 ghost use Rattle.crossbeam_queue.specs.Passes.{view, IsPassOf};
 ghost use Rattle.chip_crew.specs.Crew.{IsOurs};
+ghost use Rattle.chip_crew.specs.Asked.{passes, ShutFor};
 ghost use Rattle.chip_crew.specs.Ledger.{HasJust, IsNext, MakesOneTurn};
 ghost use Rattle.chip_crew.specs.Rounds.{TurnsInRow};
-ghost use Rattle.chip_crew.specs.Duties.{Begins, BeginsEach, Serves};
-ghost use Rattle.chip_crew.specs.Handed.{Fits, HasMade, Heeds, IsHanded, round_of};
+ghost use Rattle.chip_crew.specs.Duties.{Begins, BeginsEach};
+ghost use Rattle.chip_crew.specs.Handed.{HasMade, HasWorked, IsRoundOf, round_of, queue_of};
 
-use crate::duties::{Duties, NoDuties};
+use crate::duties::Duties;
 use crate::plan::Gate;
-use crate::queue::{Crew, Puts, Queue, QueuePass, Takes};
+use crate::queue::{Crew, Popped, Pushed, Queue, QueuePass};
+use crate::shared::Shared;
 use chip_net::{Actor, Net, Turn};
-use std::sync::atomic::AtomicBool;
 use std::sync::atomic::Ordering::SeqCst;
 use std::thread;
 
-/// What all workers share.
+/// A worker's share of the actors.
 #[derive(Drop)]
-pub(crate) struct Shared<'a, B: Crew, G: Gate> {
-    /// The net.
-    pub net: &'a Net,
-    /// The queue of its actors, where they are not dealt out.
-    pub queue: Option<&'a Queue<B>>,
-    /// Whether the workers are told to stop.
-    pub stop: &'a AtomicBool,
-    /// The gate.
-    pub gate: &'a G,
-    /// How many turns each worker makes at most.
-    pub turns: u64,
-}
-
-/// What a worker has of the actors.
-#[derive(Drop)]
-pub(crate) enum Hands {
+pub(crate) enum Share<'a, B: Crew> {
     /// Those that it takes from the queue.
     Queue {
+        queue: &'a Queue<B>,
         /// Its pass of the queue, which has what it took from there and put there.
         pass: QueuePass,
         /// The actor that it couldn't put back.
@@ -46,32 +32,35 @@ pub(crate) enum Hands {
     Dealt(Vec<Actor>),
 }
 
-impl Hands {
+impl<'a, B: Crew> Share<'a, B> {
     /// How many turns make a round: one, or one for each actor that was dealt to the worker.
     pub fn round(&self) -> u64
         ensures { result ≡ round_of self.now }
     {
         match self {
-            Hands::Queue { .. } => 1,
-            Hands::Dealt(actors) => (actors.len() as u64).max(1),
+            Share::Queue { .. } => 1,
+            Share::Dealt(actors) => (actors.len() as u64).max(1),
         }
     }
 }
 
-/// The work of a worker other than worker 0, before it is begun. As one value it goes to the worker's thread.
+/// A worker before it begins. As one value it goes to its thread.
 #[derive(Drop)]
-pub(crate) struct Task<'a, B: Crew, G: Gate> {
+pub(crate) struct Worker<'a, B: Crew, G: Gate, D> {
     pub shared: &'a Shared<'a, B, G>,
-    /// The worker's number.
-    pub worker: u64,
-    pub hands: Hands,
+    /// Its number.
+    pub number: u64,
+    pub share: Share<'a, B>,
+    /// What it does beside the turns of its actors.
+    pub duties: D,
 }
 
 /// What a worker hands back.
 #[derive(Drop)]
-pub(crate) struct Handed {
-    /// The actors that it has, if any.
-    pub hands: Hands,
+pub(crate) struct WorkerResult<'a, B: Crew, D> {
+    /// With the actors that it has, if any.
+    pub share: Share<'a, B>,
+    pub duties: D,
     /// Whether its gate never answered false.
     pub passed: bool,
     /// How many turns it made.
@@ -81,16 +70,16 @@ pub(crate) struct Handed {
 /// The actor that was kept, else one from the queue.
 fn next_actor<B: Crew>(queue: &Queue<B>, pass: &mut QueuePass, kept: Option<Actor>) -> Option<Actor>
     requires pass { IsPassOf queue.now pass.old }
-    requires kept { IfSome kept (IsOurs B.crew) }
+    requires kept { IfSome kept (IsOurs B.asked.crew) }
     requires has { HasJust (view pass.old) kept }
     ensures pass { IsPassOf queue.now pass.new }
-    ensures actor { IfSome result (IsOurs B.crew) }
+    ensures actor { IfSome result (IsOurs B.asked.crew) }
     ensures has { HasJust (view pass.new) result }
     ensures next { IsNext (view pass.old) (view pass.new) kept result }
 {
     match kept {
         Some(actor) => Some(actor),
-        None => queue.try_pop_as::<Takes<B>>(pass),
+        None => queue.try_pop_as::<Popped<B>>(pass),
     }
 }
 
@@ -103,12 +92,12 @@ fn turn_by_queue<B: Crew>(
     pass: &mut QueuePass,
     kept: Option<Actor>,
 ) -> Option<Actor>
-    requires net { net.now ≡ B.crew.net }
+    requires net { net.now ≡ B.asked.crew.net }
     requires pass { IsPassOf queue.now pass.old }
-    requires kept { IfSome kept (IsOurs B.crew) }
+    requires kept { IfSome kept (IsOurs B.asked.crew) }
     requires has { HasJust (view pass.old) kept }
     ensures pass { IsPassOf queue.now pass.new }
-    ensures kept { IfSome result (IsOurs B.crew) }
+    ensures kept { IfSome result (IsOurs B.asked.crew) }
     ensures turn { MakesOneTurn (view pass.old) (view pass.new) kept result }
 {
     let Some(mut actor) = next_actor(queue, pass, kept) else {
@@ -116,7 +105,7 @@ fn turn_by_queue<B: Crew>(
         return None;
     };
     let turn = actor.turn(net);
-    let back = queue.try_push_as::<Puts<B>>(pass, actor);
+    let back = queue.try_push_as::<Pushed<B>>(pass, actor);
     if matches!(turn, Turn::Waiting | Turn::Idle) {
         thread::yield_now();
     }
@@ -126,12 +115,11 @@ fn turn_by_queue<B: Crew>(
 impl<'a, B: Crew, G: Gate> Shared<'a, B, G> {
     /// Begins a turn of a worker, where its gate lets it pass. Else all are told to stop.
     #[inline(always)]
-    fn begin<D: Duties<G>>(&self, worker: u64, turn: u64, duties: &mut D) -> bool
-        requires turn { turn < self.now.turns }
-        requires can { D.can self.now.net.now duties.old }
-        requires gate { Heeds (G.may_answer self.now.gate.now worker) self.now.turns (B.passes worker) B.shut }
-        ensures can { D.can self.now.net.now duties.new }
-        ensures begins { Begins (D.before turn) (B.passes worker turn) B.shut duties.old duties.new result }
+    fn begin<D: Duties>(&self, worker: u64, turn: u64, duties: &mut D) -> bool
+        requires turn { turn < B.asked.plan.turns }
+        requires can { D.can B.asked.crew.net duties.old }
+        ensures can { D.can B.asked.crew.net duties.new }
+        ensures begins { Begins (D.before turn) (passes B.asked worker turn) (ShutFor B.asked worker) duties.old duties.new result }
     {
         if !self.gate.pass(worker, turn) {
             self.stop.store(true, SeqCst);
@@ -144,21 +132,19 @@ impl<'a, B: Crew, G: Gate> Shared<'a, B, G> {
     /// A turn of each of these actors, the first of which has this number, until the gate answers no: how many were made.
     /// It yields where none of them had anything to do.
     #[inline(always)]
-    fn turn_each<D: Duties<G>>(
+    fn turn_each<D: Duties>(
         &self,
         worker: u64,
         first: u64,
         actors: &mut [Actor],
         duties: &mut D,
     ) -> u64
-        requires turns { first + length actors.old ≤ self.now.turns }
-        requires nets { All (λ a. a.net ≡ self.now.net.now) actors.old }
-        requires can { D.can self.now.net.now duties.old }
-        requires gate { Heeds (G.may_answer self.now.gate.now worker) self.now.turns (B.passes worker) B.shut }
-        ensures most { result ≤ length actors.old }
-        ensures shut { result < length actors.old → B.shut }
-        ensures turns { TurnsInRow (B.passes worker) first result actors.old actors.new }
-        ensures can { D.can self.now.net.now duties.new }
+        requires turns { first + length actors.old ≤ B.asked.plan.turns }
+        requires nets { All (λ a. a.net ≡ B.asked.crew.net) actors.old }
+        requires can { D.can B.asked.crew.net duties.old }
+        ensures round { IsRoundOf B.asked worker (length actors.old) result }
+        ensures turns { TurnsInRow (passes B.asked worker) first result actors.old actors.new }
+        ensures can { D.can B.asked.crew.net duties.new }
         ensures done { BeginsEach D.before first result duties.old duties.new }
     {
         // Read once: behind an atomic operation it would be read again.
@@ -180,14 +166,12 @@ impl<'a, B: Crew, G: Gate> Shared<'a, B, G> {
     }
 
     /// The turn of a worker that has no actor, where the gate lets it pass: how many were made.
-    fn turn_idly<D: Duties<G>>(&self, worker: u64, turn: u64, duties: &mut D) -> u64
-        requires turn { turn < self.now.turns }
-        requires can { D.can self.now.net.now duties.old }
-        requires gate { Heeds (G.may_answer self.now.gate.now worker) self.now.turns (B.passes worker) B.shut }
-        ensures most { result ≤ 1 }
-        ensures shut { result < 1 → B.shut }
-        ensures turns { TurnsInRow (B.passes worker) turn result [] [] }
-        ensures can { D.can self.now.net.now duties.new }
+    fn turn_idly<D: Duties>(&self, worker: u64, turn: u64, duties: &mut D) -> u64
+        requires turn { turn < B.asked.plan.turns }
+        requires can { D.can B.asked.crew.net duties.old }
+        ensures round { IsRoundOf B.asked worker 1 result }
+        ensures turns { TurnsInRow (passes B.asked worker) turn result [] [] }
+        ensures can { D.can B.asked.crew.net duties.new }
         ensures done { BeginsEach D.before turn result duties.old duties.new }
     {
         if !self.begin(worker, turn, duties) {
@@ -200,41 +184,33 @@ impl<'a, B: Crew, G: Gate> Shared<'a, B, G> {
     /// The turns of a round of a worker, of which the first has this number: at most so many, and fewer where the gate
     /// answers no. It tells how many were made.
     #[inline(always)]
-    fn round<D: Duties<G>>(
+    fn round<D: Duties>(
         &self,
         worker: u64,
         first: u64,
         most: u64,
-        hands: &mut Hands,
+        share: &mut Share<'a, B>,
         duties: &mut D,
     ) -> u64
-        requires most { (0 < most) × (most ≤ round_of hands.old) × (first + most ≤ self.now.turns) }
-        requires first { first % round_of hands.old ≡ 0 }
-        requires net { self.now.net.now ≡ B.crew.net }
-        requires fits { Fits (option_copied self.now.queue) hands.old }
-        requires made { HasMade B.crew worker (B.passes worker) first hands.old }
-        requires can { D.can self.now.net.now duties.old }
-        requires gate { Heeds (G.may_answer self.now.gate.now worker) self.now.turns (B.passes worker) B.shut }
-        ensures most { result ≤ most }
-        ensures shut { result < most → B.shut }
-        ensures fits { Fits (option_copied self.now.queue) hands.new }
-        ensures made { HasMade B.crew worker (B.passes worker) (first + result) hands.new }
-        ensures round { round_of hands.new ≡ round_of hands.old }
-        ensures can { D.can self.now.net.now duties.new }
+        requires most { (0 < most) × (most ≤ round_of share.old) × (first + most ≤ B.asked.plan.turns) }
+        requires first { first % round_of share.old ≡ 0 }
+        requires made { HasMade B.asked worker first share.old }
+        requires can { D.can B.asked.crew.net duties.old }
+        ensures round { IsRoundOf B.asked worker most result }
+        ensures made { HasMade B.asked worker (first + result) share.new }
+        ensures same { (round_of share.new ≡ round_of share.old) × (queue_of share.new ≡ queue_of share.old) }
+        ensures can { D.can B.asked.crew.net duties.new }
         ensures done { BeginsEach D.before first result duties.old duties.new }
     {
-        match hands {
-            Hands::Queue { pass, kept } => {
-                let Some(queue) = self.queue else {
-                    unreachable!()
-                };
+        match share {
+            Share::Queue { queue, pass, kept } => {
                 if !self.begin(worker, first, duties) {
                     return 0;
                 }
                 *kept = turn_by_queue::<B>(self.net, queue, pass, kept.take());
                 1
             }
-            Hands::Dealt(actors) => {
+            Share::Dealt(actors) => {
                 if actors.is_empty() {
                     return self.turn_idly(worker, first, duties);
                 }
@@ -243,65 +219,47 @@ impl<'a, B: Crew, G: Gate> Shared<'a, B, G> {
             }
         }
     }
+}
 
-    /// The turns of a worker, round by round, until it is told to stop.
-    pub fn work<D: Duties<G>>(&self, worker: u64, mut hands: Hands, duties: &mut D) -> Handed
-        requires fits { Fits (option_copied self.now.queue) hands }
-        requires made { HasMade B.crew worker (B.passes worker) 0 hands }
-        requires net { self.now.net.now ≡ B.crew.net }
-        requires turns { self.now.turns ≡ B.turns }
-        requires can { D.can self.now.net.now duties.old }
-        requires gate { Heeds (G.may_answer self.now.gate.now worker) self.now.turns (B.passes worker) B.shut }
-        ensures handed { IsHanded B.crew worker (B.passes worker) B.turns B.shut result }
-        ensures fits { Fits (option_copied self.now.queue) result.hands }
-        ensures can { D.can self.now.net.now duties.new }
-        ensures served { Serves D.before D.after (round_of hands) result.turns duties.old duties.new }
+impl<'a, B: Crew, G: Gate, D: Duties> Worker<'a, B, G, D> {
+    /// Makes its turns, round by round, until it is told to stop.
+    pub fn work(self) -> WorkerResult<'a, B, D>
+        requires made { HasMade B.asked self.number 0 self.share }
+        requires can { D.can B.asked.crew.net self.duties }
+        ensures { HasWorked B.asked D.can D.before D.after self.entry.number self.entry.share self.entry.duties result }
     {
-        let round = hands.round();
+        let Worker {
+            shared,
+            number,
+            mut share,
+            mut duties,
+        } = self;
+        let round = share.round();
         let mut turns = 0;
         let mut passed = true;
-        while turns < self.turns {
+        while turns < shared.plan.turns {
             // Whoever told it hands back why.
-            if self.stop.load(SeqCst) {
+            if shared.stop.load(SeqCst) {
                 break;
             }
-            let most = round.min(self.turns - turns);
-            let made = self.round(worker, turns, most, &mut hands, duties);
+            let most = round.min(shared.plan.turns - turns);
+            let made = shared.round(number, turns, most, &mut share, &mut duties);
             turns += made;
             if made < round {
                 // The gate answered no, or the plan gives no more turns.
                 passed = made == most;
                 break;
             }
-            if duties.end_round(self.net, self.gate, turns - 1) {
-                self.stop.store(true, SeqCst);
+            if duties.end_round(shared.net, shared.gate, turns - 1) {
+                shared.stop.store(true, SeqCst);
                 break;
             }
         }
-        Handed {
-            hands,
+        WorkerResult {
+            share,
+            duties,
             passed,
             turns,
         }
-    }
-}
-
-impl<'a, B: Crew, G: Gate> Task<'a, B, G> {
-    /// Does the work.
-    pub fn run(self) -> Handed
-        requires fits { Fits (option_copied self.shared.now.queue) self.hands }
-        requires made { HasMade B.crew self.worker (B.passes self.worker) 0 self.hands }
-        requires net { self.shared.now.net.now ≡ B.crew.net }
-        requires turns { self.shared.now.turns ≡ B.turns }
-        requires gate { Heeds (G.may_answer self.shared.now.gate.now self.worker) self.shared.now.turns (B.passes self.worker) B.shut }
-        ensures handed { IsHanded B.crew self.entry.worker (B.passes self.entry.worker) B.turns B.shut result }
-        ensures fits { Fits (option_copied self.entry.shared.now.queue) result.hands }
-    {
-        let Task {
-            shared,
-            worker,
-            hands,
-        } = self;
-        shared.work(worker, hands, &mut NoDuties)
     }
 }

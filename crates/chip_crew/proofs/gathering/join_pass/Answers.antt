@@ -11,24 +11,24 @@ use Rattle.chip_crew.proofs.GatheringLemmas.{free_for, one_seated, same_seated}
 use Rattle.chip_crew.proofs.gathering.join_pass.Goals as goal
 
 pub absorb-requires-clause-rule : goal.absorb-requires-clause-rule
-absorb-requires-clause-rule g c = merges g.B.Crew.crew _ _ _ _
+absorb-requires-clause-rule g c = merges g.B.Crew.asked.crew _ _ _ _
 
 pub learn_as-requires-clause-rule : goal.learn_as-requires-clause-rule
-learn_as-requires-clause-rule g c = has_once g.B.Crew.crew _ _
+learn_as-requires-clause-rule g c = has_once g.B.Crew.asked.crew _ _
 
 pub note-requires-clause-free : goal.note-requires-clause-free
 note-requires-clause-free g c =
     let a = c.in-Some.actor in
     let old = view c.args.pass.now in
     let gathering = c.requires.gathering in
-    let once : (items : List ActorKnown) × HasOnce g.B.Crew.crew (view c.absorb.new.pass) items = search rules in
+    let once : (items : List ActorKnown) × HasOnce g.B.Crew.asked.crew (view c.absorb.new.pass) items = search rules in
     let both : view c.absorb.new.pass ≡ both_ledgers old (view c.args.theirs) = search rules in
-    let ours : IsOurs g.B.Crew.crew a = search rules in
+    let ours : IsOurs g.B.Crew.asked.crew a = search rules in
     let has : (view c.absorb.new.pass).has ≡ old.has ++ a.vertex ∷ [] = ap (λ (l : Ledger). l.has) both
     ∙ ap (λ (vs : List ℕ). old.has ++ vs) (c.requires.has.1 ∙ ap vertex_of c.in-Some.is) in
     free_for c.args.gathering.now.seats.items old.has a.vertex gathering.seated
-    (subst (λ (n : ℕ). a.vertex < n) (sym gathering.gathering_is.seats.count) ours.1)
-    (subst (λ (vs : List ℕ). times a.vertex vs ≤ 1) has (once.1 a.vertex ours.1))
+    (subst (λ (n : ℕ). a.vertex < n) (sym gathering.gathering_is.seats.count) ours.inside)
+    (subst (λ (vs : List ℕ). times a.vertex vs ≤ 1) has (once.1 a.vertex ours.inside))
 
 pub returns-in-Some-clause-gathering : goal.returns-in-Some-clause-gathering
 returns-in-Some-clause-gathering g c =

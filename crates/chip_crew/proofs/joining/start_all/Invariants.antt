@@ -1,17 +1,15 @@
 use Rattle.std.proofs.Common.{◌≡◌, ◌+◌, ◌≤◌, length}
-use Rattle.std.specs.Option.{option_copied}
 use Rattle.std.specs.Vec.{vec_capacity}
 use Rattle.chip_crew.specs.Crew.{EachFrom}
-use Rattle.chip_crew.specs.Handed.{Fits, HasMade}
+use Rattle.chip_crew.specs.Handed.{IsReady}
+use Rattle.chip_crew.specs.Joining.{IsWorker, queue_of_all}
 use Rattle.chip_crew.proofs.joining.start_all.Given as goal
 
-abbrev pub invariant-loop-hands : goal.invariant-loop-hands
-invariant-loop-hands g l = record {
-  hands : EachFrom (λ worker h. HasMade g.B.Crew.crew worker (g.B.Crew.passes worker) 0 h × Fits (option_copied l.shared.queue) h)
-      l.worker l.hands-iterator.rest.items;
-  left : l.worker + length l.hands-iterator.rest.items ≡ g.B.Crew.crew.workers;
-  count : length l.others.items + 1 ≡ l.worker;
-  started : EachFrom (λ worker s. (s.promise.worker ≡ worker) × Fits (option_copied l.shared.queue) s.promise.hands.value) 1
-      l.others.items;
-  room : g.B.Crew.crew.workers ≤ vec_capacity l.others;
+abbrev pub invariant-loop-share : goal.invariant-loop-share
+invariant-loop-share g l = record {
+  shares : EachFrom (IsReady g.B.Crew.asked (queue_of_all l.fn.shares.items)) l.number l.share-iterator.rest.items;
+  left : l.number + length l.share-iterator.rest.items ≡ g.B.Crew.asked.crew.workers;
+  count : length l.others.items + 1 ≡ l.number;
+  started : EachFrom (λ worker h. IsWorker g.B.Crew.asked (queue_of_all l.fn.shares.items) worker h.promise) 1 l.others.items;
+  room : g.B.Crew.asked.crew.workers ≤ vec_capacity l.others;
 }

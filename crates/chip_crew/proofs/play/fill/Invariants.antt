@@ -6,7 +6,7 @@ use Rattle.chip_crew.proofs.play.fill.Given as goal
 abbrev pub invariant-loop-actor : goal.invariant-loop-actor
 invariant-loop-actor g l = record {
   pass : IsPassOf l.queue l.pass;
-  ours : All (IsOurs g.B.Crew.crew) l.actor-iterator.rest.items;
+  ours : All (IsOurs g.B.Crew.asked.crew) l.actor-iterator.rest.items;
   has : (view l.pass).has ≡ map (λ a. a.vertex) l.actor-iterator.rest.items;
   workers : (view l.pass).workers ≡ (view l.fn.pass).workers;
 }

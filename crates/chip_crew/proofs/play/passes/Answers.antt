@@ -1,8 +1,11 @@
-use Rattle.std.proofs.Common.{rules, None, Some, ◌∙◌, refl, sym, ap, subst, arith}
-use Rattle.chip_crew.specs.Handed.{Fits, HasMade, AreReady}
+use Rattle.std.proofs.Common.{◌≡◌, ◌<◌, List, [], ◌∷◌, length, rules, None, Some, ◌∙◌, refl, sym, ap, subst, arith, Option}
+use Rattle.atomic_table.specs.Seated.{TableId}
+use Rattle.chip_crew.specs.Handed.{AreReady, IsReady}
+use Rattle.chip_crew.specs.Asked.{Asked}
+use Rattle.chip_crew.specs.Joining.{queue_of_all}
 use Rattle.chip_crew.specs.declared.queue.Ledger.{Ledger}
-use Rattle.chip_crew.specs.declared.worker.Hands.{Hands}
-use Rattle.chip_crew.specs.declared.worker.Hands.TheVariants as hands
+use Rattle.chip_crew.specs.declared.worker.Share.{Share}
+use Rattle.chip_crew.specs.declared.worker.Share.TheVariants as share
 use Rattle.chip_crew.proofs.PlacesLemmas.{forks}
 use Rattle.chip_crew.proofs.RunLemmas.{from_push}
 use Rattle.chip_crew.proofs.play.passes.Goals as goal
@@ -10,23 +13,49 @@ use Rattle.chip_crew.proofs.play.passes.Goals as goal
 pub another-requires-clause-rule : goal.another-requires-clause-rule
 another-requires-clause-rule g c =
     let left = c.loop.invariant.left in
-    forks g.B.Crew.crew _ _ (omega (arith, left)) c.loop.invariant.has
+    forks g.B.Crew.asked.crew _ _ (omega (arith, left)) c.loop.invariant.has
 
 pub loop-preserved : goal.loop-preserved
 loop-preserved g c =
     let i = c.loop.invariant in
-    let own : Hands = hands.Queue c.another.result None in
     let fewer = c.another.ensures.rule.0 in
+    let same = c.another.ensures.queue in
     let left = i.left in
     let one = ap (λ (l : Ledger). l.workers) fewer in
     record {
-      hands = subst (AreReady g.B.Crew.crew g.B.Crew.passes (Some c.args.queue.now)) (sym c.push_reserved.ensures.items)
-          (from_push (λ worker h. HasMade g.B.Crew.crew worker (g.B.Crew.passes worker) 0 h × Fits (Some c.args.queue.now) h)
-          0 c.loop.hands.items own i.hands
-          ((c.requires.sharing, (c.another.ensures.rule.1, refl), tt), c.another.ensures.queue.1));
+      ready = subst (AreReady g.B.Crew.asked (Some c.another.new.pass.table_id)) (sym c.push_reserved.ensures.items)
+          (from_push (IsReady g.B.Crew.asked (Some c.another.new.pass.table_id)) 0 c.loop.all.items
+          (share.Queue c.args.queue c.another.result None)
+          (subst (λ (t : TableId). AreReady g.B.Crew.asked (Some t) c.loop.all.items) (sym same.0.0) i.ready)
+          (record {
+            made = (c.requires.sharing, same.1, (c.another.ensures.rule.1, refl), tt);
+            uses = ap (λ (t : TableId). Some t) (same.1.0 ∙ sym i.pass.0 ∙ sym same.0.0);
+          }));
       count = search rules;
       room = search rules;
       pass = search rules;
       has = ap (λ (l : Ledger). l.has) fewer ∙ i.has;
       left = omega (arith, left, one);
     }
+
+-- as all of them use one queue the first does
+first_uses : {B : Type 0} (asked : Asked) (queue : Option TableId) (all : List (Share B)) → 0 < length all
+    → AreReady asked queue all → queue_of_all all ≡ queue
+first_uses asked queue [] some ready = absurd (omega (arith, some))
+first_uses asked queue (own ∷ rest) some ready = ready.0.uses
+
+pub returns-clause-shares : goal.returns-clause-shares
+returns-clause-shares g c =
+    let i = c.loop.invariant in
+    let workers = c.requires.workers in
+    let count : length c.loop.all.items ≡ c.args.workers = search rules in
+    let some : 0 < length c.loop.all.items = omega (arith, count, workers.1) in
+    let uses = first_uses g.B.Crew.asked (Some c.loop.pass.table_id) c.loop.all.items some i.ready in (
+      record {
+        some = omega (arith, workers.0, workers.1);
+        few = omega (arith, workers.0, workers.2);
+        count = count ∙ workers.0;
+        ready = subst (λ (q : Option TableId). AreReady g.B.Crew.asked q c.loop.all.items) (sym uses) i.ready;
+      },
+      uses,
+    )

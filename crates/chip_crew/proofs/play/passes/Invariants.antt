@@ -6,9 +6,9 @@ use Rattle.chip_crew.proofs.play.passes.Given as goal
 
 abbrev pub invariant-loop : goal.invariant-loop
 invariant-loop g l = record {
-  hands : AreReady g.B.Crew.crew g.B.Crew.passes (Some l.queue) l.hands.items;
-  count : length l.hands.items ≡ l.counter;
-  room : l.workers ≤ vec_capacity l.hands;
+  ready : AreReady g.B.Crew.asked (Some l.pass.table_id) l.all.items;
+  count : length l.all.items ≡ l.counter;
+  room : l.workers ≤ vec_capacity l.all;
   pass : IsPassOf l.queue l.pass;
   has : (view l.pass).has ≡ [];
   left : (view l.pass).workers + l.counter ≡ l.workers;

@@ -1,9 +1,27 @@
-use Rattle.std.proofs.Common.{◌∷◌, [], ◌∙◌, sym, ap, rules}
+use Rattle.std.proofs.Common.{◌≡◌, ◌∷◌, [], ◌∙◌, Option, IfSome, Result, Ok, Err, MatchResult, sym, ap, subst, rules}
+use Rattle.std.specs.Result.{result_err}
+use Rattle.chip_net.specs.Tokens.{ActorKnown}
 use Rattle.chip_crew.specs.Ledger.{vertex_of}
+use Rattle.chip_crew.specs.Crew.{CrewId, IsOurs}
 use Rattle.chip_crew.proofs.PlacesLemmas.{puts}
-use Rattle.chip_crew.proofs.OwningLemmas.{still_ours}
+use Rattle.chip_crew.proofs.DealingLemmas.{still_ours}
 use Rattle.chip_crew.proofs.worker.turn_by_queue.Goals as goal
 
+-- what is not pushed is the actor still
+back_ours : (crew : CrewId) (a : ActorKnown) (r : Result (Unit {0}) ActorKnown) → IsOurs crew a → (P : Unit {0} → Type 0)
+    (Q : ActorKnown → Type 0) → MatchResult r P (λ x. (x ≡ a) × Q x) → IfSome (result_err r) (IsOurs crew)
+back_ours crew a (Ok done) ours P Q back = tt
+back_ours crew a (Err x) ours P Q back = subst (IsOurs crew) (sym back.0) ours
+
 pub try_push_as-back-requires-clause-rule : goal.try_push_as-back-requires-clause-rule
-try_push_as-back-requires-clause-rule g c = puts g.B.Crew.crew _ _ _ _ [] (search (rules, still_ours))
+try_push_as-back-requires-clause-rule g c =
+    let ours : IsOurs g.B.Crew.asked.crew c.in-Some.actor = search rules in
+    puts g.B.Crew.asked.crew _ _ _ _ [] (still_ours g.B.Crew.asked.crew c.in-Some.actor _ _ c.turn-turn.ensures.turn ours)
     (c.next_actor.ensures.has.1 ∙ ap vertex_of c.in-Some.is ∙ (λ i. sym c.turn-turn.ensures.same.1 i ∷ []))
+
+pub returns-clause-kept : goal.returns-clause-kept
+returns-clause-kept g c =
+    let ours : IsOurs g.B.Crew.asked.crew c.in-Some.actor = search rules in
+    let still = still_ours g.B.Crew.asked.crew c.in-Some.actor _ _ c.turn-turn.ensures.turn ours in
+    subst (λ (o : Option ActorKnown). IfSome o (IsOurs g.B.Crew.asked.crew)) (sym c.err.ensures.value)
+    (back_ours g.B.Crew.asked.crew c.turn-turn.new.self c.try_push_as-back.result still _ _ c.try_push_as-back.ensures.rule)

@@ -1,0 +1,41 @@
+use Rattle.std.proofs.Common.{rules, length, sym, ap, subst, arith}
+use Rattle.std.specs.Vec.{vec_capacity}
+use Rattle.crossbeam_queue.specs.Passes.{view}
+use Rattle.chip_crew.specs.Asked.{passes}
+use Rattle.chip_crew.specs.Gathering.{AreBack}
+use Rattle.chip_crew.specs.Handed.{HasMade}
+use Rattle.chip_crew.proofs.BackLemmas.{GoesBehind, goes_behind, behind_more, behind_fits}
+use Rattle.chip_crew.proofs.QueueingLemmas.{has_kept}
+use Rattle.chip_crew.proofs.gathering.Collected.take.Goals as goal
+
+pub join_pass-requires-clause-has : goal.join_pass-requires-clause-has
+join_pass-requires-clause-has g c =
+    let made = c.requires.made in
+    has_kept (passes g.B.Crew.asked c.args.self.now.workers) made.0 (view c.in-Queue.theirs) c.in-Queue.kept
+    (subst (HasMade g.B.Crew.asked c.args.self.now.workers made.0) c.in-Queue.is made.1).2
+
+pub loop-actor-init : goal.loop-actor-init
+loop-actor-init g c =
+    let row_is = (subst (AreBack g.B.Crew.asked.crew c.args.self.now.workers) c.in-Dealt-back.is c.requires.back).1 in
+    let made = subst (HasMade g.B.Crew.asked c.args.self.now.workers c.requires.made.0) c.in-Dealt.is c.requires.made.1 in
+    record {
+      goes = subst (GoesBehind g.B.Crew.asked.crew c.args.self.now.workers c.in-Dealt-back.row.items)
+          (sym c.into_iter-actor-iterator.ensures.into_iter_gives.0)
+          (goes_behind g.B.Crew.asked.crew c.args.self.now.workers c.in-Dealt-back.row.items
+          (vec_capacity c.in-Dealt-back.row) c.in-Dealt.actors.items row_is made.1);
+      room = row_is.has_room;
+    }
+
+pub push_reserved-requires : goal.push_reserved-requires
+push_reserved-requires g c =
+    let fits = behind_fits g.B.Crew.asked.crew c.args.self.now.workers c.loop-actor.row.items _ c.requires.next.0
+    c.loop-actor.invariant.goes in
+    let one = ap length c.in-Some.ensures.steps.0 in
+    let room = c.loop-actor.invariant.room in omega (arith, fits, one, room)
+
+pub loop-actor-preserved : goal.loop-actor-preserved
+loop-actor-preserved g c = record {
+  goes = behind_more g.B.Crew.asked.crew c.args.self.now.workers c.loop-actor.row.items _ _ _ c.in-Some.actor
+      c.push_reserved.ensures.items c.in-Some.ensures.steps.0 c.loop-actor.invariant.goes;
+  room = search rules;
+}

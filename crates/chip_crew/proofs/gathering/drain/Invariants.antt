@@ -1,0 +1,11 @@
+use Rattle.std.proofs.Common.{◌≤◌, length}
+use Rattle.crossbeam_queue.specs.Passes.{view, IsPassOf}
+use Rattle.chip_crew.specs.Gathering.{IsGatheringFor}
+use Rattle.chip_crew.proofs.gathering.drain.Given as goal
+
+abbrev pub invariant-loop : goal.invariant-loop
+invariant-loop g l = record {
+  pass : IsPassOf l.queue l.pass;
+  gathers : IsGatheringFor g.B.Crew.asked.crew g.B.Crew.asked.crew.workers (view l.pass) l.gathering;
+  many : l.counter ≤ length (view l.pass).has;
+}

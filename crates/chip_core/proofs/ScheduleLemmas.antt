@@ -38,11 +38,11 @@ module _ (g : Setting) (game : IsGame g.game) (some_ring : 0 < g.ring) where
   -- ---- once the end is noted nothing is fed
 
   -- what is given, and that it is all
-  record Ends (log after : Log) : Type 0 where
-    end : HasEnd g after
-    fed : fed_so_far g after ≡ fed_so_far g log
-    given : chips_given g after ≡ chips_given g log
-    put : RootHasPut g log → RootHasPut g after
+  pub record Ends (log after : Log) : Type 0 where
+    pub end : HasEnd g after
+    pub fed : fed_so_far g after ≡ fed_so_far g log
+    pub given : chips_given g after ≡ chips_given g log
+    pub put : RootHasPut g log → RootHasPut g after
 
   fed_none : (log : Log) → HasEnd g log → (x : Event) → Met g x (part_in g log (part_of g x)) → fed_of g x ≡ []
   fed_none log end (Feed e k) may = absurd (true≢false (sym end
@@ -104,11 +104,11 @@ module _ (g : Setting) (game : IsGame g.game) (some_ring : 0 < g.ring) where
       ends_then log (step g log x).0 (log_after g (step g log x).0 xs) one
       (ends_run xs (step g log x).0 (step_legal g log x legal) one.end)
 
-  legal_before : (xs log : Log) → IsLegalLog g (xs ++ log) → IsLegalLog g log
+  pub legal_before : (xs log : Log) → IsLegalLog g (xs ++ log) → IsLegalLog g log
   legal_before [] log legal = legal
   legal_before (x ∷ xs) log legal = legal_before xs log legal.0
 
-  ends_longer : (xs log : Log) → IsLegalLog g (xs ++ log) → HasEnd g log → Ends log (xs ++ log)
+  pub ends_longer : (xs log : Log) → IsLegalLog g (xs ++ log) → HasEnd g log → Ends log (xs ++ log)
   ends_longer [] log legal end = ends_same log end
   ends_longer (x ∷ xs) log legal end =
       let rest = ends_longer xs log legal.0 end in
@@ -116,7 +116,7 @@ module _ (g : Setting) (game : IsGame g.game) (some_ring : 0 < g.ring) where
 
   -- ---- the bound holds on
 
-  few_after : (log after : Log) → Ends log after → IsLegalLog g after → (fired : ℕ → ℕ) → AreFiringBounds g log fired
+  pub few_after : (log after : Log) → Ends log after → IsLegalLog g after → (fired : ℕ → ℕ) → AreFiringBounds g log fired
       → work_in g after ≤ steps_at_most g.game (length (fed_so_far g log)) fired
   few_after log after ends legal fired bounds =
       let same = ap (λ (l : List (ℕ × ℕ)). steps_at_most g.game (length l) fired) ends.fed in

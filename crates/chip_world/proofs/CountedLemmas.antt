@@ -4,7 +4,6 @@ use Rattle.std.proofs.Common.{◌≡◌, ℕ, ◌<◌, get_or, Some, sym, ap, �
 use Rattle.std.specs.List.{Contains}
 use Rattle.chip_part.specs.Setting.{Setting}
 use Rattle.chip_detect.specs.Books.{in_edges}
-use Rattle.chip_detect.specs.Books as books
 use Rattle.chip_actor.specs.Actor.{Actor, StandsFor}
 use Rattle.chip_actor.proofs.StandingLemmas.{books_in}
 use Rattle.chip_core.specs.Core.{Log, Take, part_in, head_of}

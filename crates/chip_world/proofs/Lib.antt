@@ -10,3 +10,5 @@ pub mod RunLemmas
 pub mod DriveLemmas
 pub mod DeterminedLemmas
 pub mod WorkedDrives
+pub mod OwnTurnLemmas
+pub mod ClosesLemmas

@@ -1,9 +1,11 @@
 -- Turns, rounds and drives, by the logs before and after them.
-use Rattle.std.specs.Prelude.{◌≡◌, ℕ, zero, suc, ◌≤◌, List, [], ◌∷◌, ◌++◌, reverse}
+use Rattle.std.specs.Prelude.{◌≡◌, ℕ, zero, suc, ◌<◌, ◌≤◌, length, List, [], ◌∷◌, ◌++◌, reverse}
 use Rattle.chip_part.specs.Setting.{Setting}
 use Rattle.chip_part.specs.Edges.{root_edge}
 use Rattle.chip_part.specs.Turn.{IsTurn}
 use Rattle.chip_core.specs.Core.{Log, Step, Event, Settle, part_in, IsLegalLog, IsClosed, log_after}
+use Rattle.chip_core.specs.Work.{steps_at_most, fed_so_far, AreFiringBounds}
+use Rattle.chip_core.specs.Closing.{HasEnd, RootHasPut}
 use Rattle.chip_world.specs.World.{WorldState, StandsForLog, WhateverLog}
 use Rattle.chip_world.specs.declared.world.driving.Drive.{Drive}
 use Rattle.chip_world.specs.declared.world.driving.Drive.TheVariants.{Closed, Unfinished}
@@ -63,3 +65,10 @@ Leads old new Follows = WhateverLog old (λ g before. (after : Log) × StandsFor
 abbrev pub NoOtherDrive : WorldState → WorldState → ℕ → Drive → Type 0
 NoOtherDrive old new rounds result = WhateverLog old (λ g before. (after : Log) (answer : Drive)
     → IsDrive g rounds before after answer → StandsForLog g after new × (answer ≡ result))
+
+-- once the end is noted and no message of the root is claimed and not put, more rounds than steps can count close the
+-- root
+abbrev pub ClosesBy : WorldState → ℕ → Drive → Type 0
+ClosesBy old rounds result = WhateverLog old (λ g before. HasEnd g before → RootHasPut g before → (fired : ℕ → ℕ)
+    → AreFiringBounds g before fired → steps_at_most g.game (length (fed_so_far g before)) fired < rounds
+    → result ≡ Closed)

@@ -15,7 +15,7 @@ pub enum Drive {
 impl World {
     ghost use Rattle.chip_world.specs.World.{SomeLogWhere};
     ghost use Rattle.chip_world.specs.Rounds.{Leads, IsTurnAfter, AreTurns, AreRootsSettled, IsRound, IsDrive};
-    ghost use Rattle.chip_world.specs.Rounds.{NoOtherDrive};
+    ghost use Rattle.chip_world.specs.Rounds.{NoOtherDrive, ClosesBy};
 
     /// One whole turn of a vertex, over the shared words.
     fn turn(&mut self, vertex: u64)
@@ -56,10 +56,12 @@ impl World {
     }
 
     /// Makes rounds until the root is closed, but no more than `rounds`; in each round every vertex makes one whole
-    /// turn, and then the root settles each of its edges.
+    /// turn, and then the root settles each of its edges. Once the end is noted and the root has put what it claimed,
+    /// more rounds than steps can count close it.
     pub fn drive(&mut self, rounds: u64) -> Drive
         ensures drives { Leads self.old self.new (λ g before after. IsDrive g rounds before after result) }
         ensures no_other { NoOtherDrive self.old self.new rounds result }
+        ensures closes { ClosesBy self.old rounds result }
     {
         for _ in 0..rounds {
             if self.closed() {

@@ -10,9 +10,11 @@ import argparse
 import csv
 import sys
 
-import chipfire
 from chipfire.ledger import Disagreement
-from chipfire.pages import page_text
+from chipfire.machine import TRACE_HEADER, Simulation
+from chipfire.pages import page_text, recorded
+from chipfire.program import simulate
+from chipfire.values import read_rows
 
 POSITIONS_HEADER = ("vertex", "right", "down")
 
@@ -20,30 +22,29 @@ POSITIONS_HEADER = ("vertex", "right", "down")
 def _is_trace(file: str) -> bool:
     """Whether a file of rows begins as a trace does, and not as a schedule."""
     with open(file, encoding="utf-8-sig", errors="replace", newline="") as text:
-        return next(csv.reader(text), None) == list(chipfire.TRACE_HEADER)
+        return next(csv.reader(text), None) == list(TRACE_HEADER)
 
 
 def _positions(file: str) -> dict[int, tuple[float, float]]:
     """The places of a file of rows `vertex,right,down`."""
-    rows = chipfire._read_rows(file, POSITIONS_HEADER)
+    rows = read_rows(file, POSITIONS_HEADER)
     return {int(vertex): (float(right), float(down)) for vertex, right, down in rows}
 
 
-def _simulation(asked: argparse.Namespace) -> chipfire.Simulation:
+def _simulation(asked: argparse.Namespace) -> Simulation:
     game = (asked.graph, asked.chips, asked.events)
     options = {"limit": asked.limit, "ring": asked.ring, "program": asked.program}
     if _is_trace(asked.events):
         if asked.rounds is not None or asked.fed:
             raise ValueError("--rounds and --fed go with a schedule; a trace is a run without them")
-        return chipfire.recorded(*game, **options)
-    return chipfire.simulate(*game, rounds=asked.rounds, fed=asked.fed, books=True, **options)
+        return recorded(*game, **options)
+    return simulate(*game, rounds=asked.rounds, fed=asked.fed, books=True, **options)
 
 
 def _page(asked: argparse.Namespace) -> None:
     positions = None if asked.positions is None else _positions(asked.positions)
     made = page_text(_simulation(asked), title=asked.title, positions=positions, program=asked.program)
-    sys.stdout.reconfigure(encoding="utf-8", newline="\n")
-    sys.stdout.write(made)
+    sys.stdout.buffer.write(made.encode())
 
 
 def _arguments() -> argparse.ArgumentParser:
@@ -72,7 +73,7 @@ def main() -> int:
     asked = _arguments().parse_args()
     try:
         asked.act(asked)
-    except (chipfire.Fault, Disagreement, OSError, ValueError) as error:
+    except (Disagreement, OSError, ValueError) as error:
         print(f"chipfire: {error}", file=sys.stderr)
         return 1
     return 0

@@ -7,8 +7,9 @@ import math
 from collections import deque
 from collections.abc import Hashable, Iterable, Mapping, Sequence
 from dataclasses import dataclass
+from typing import Any
 
-from chipfire import Graph, grid
+from chipfire.graphs import Graph, grid
 
 Point = tuple[float, float]
 
@@ -43,7 +44,7 @@ def columns_of(graph: Graph) -> int | None:
     return next((width for width in widths if sorted(grid(width, squares // width).edges) == rows), None)
 
 
-def places_of(graph: Graph, started: Iterable[int], given: Mapping[Hashable, Point] | None = None) -> Places:
+def places_of(graph: Graph, started: Iterable[int], given: Mapping[Any, Point] | None = None) -> Places:
     """The places of a graph of which the root sends chips to the vertices `started`.
 
     They are those that are given, by names; else those of a grid; else they come from distances along edges.
@@ -60,7 +61,7 @@ def places_of(graph: Graph, started: Iterable[int], given: Mapping[Hashable, Poi
     return _from_distances(graph, sorted(started))
 
 
-def _point(given: Mapping[Hashable, Point], name: Hashable) -> Point:
+def _point(given: Mapping[Any, Point], name: Hashable) -> Point:
     if name not in given:
         raise ValueError(f"vertex {name!r} has no position")
     across, down = given[name]

@@ -13,7 +13,8 @@ import copy
 from collections.abc import Sequence
 from typing import Any, Union
 
-from chipfire import Board, Books, Event, Reply, Report, Setting
+from chipfire.machine import Board, Books, Event, Reply, Setting
+from chipfire.reports import Report
 
 #: One fact that an event changed: "root", "vertices" or "edges", the number there, the fact's name, its new value.
 Change = tuple[str, int, str, Any]

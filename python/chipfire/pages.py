@@ -8,19 +8,20 @@ each event and against the report at the end. The page simulates nothing: it get
 from __future__ import annotations
 
 import html
-import importlib.resources
 import json
 import string
-from collections.abc import Hashable, Iterable, Mapping, Sequence
+from collections.abc import Iterable, Mapping, Sequence
 from dataclasses import replace
 from typing import Any
 
-import chipfire
-from chipfire import Chips, FileName, Graph, Program, Setting, Simulation, TraceRow
+from chipfire.chips import Chips
 from chipfire.layout import Places, Point, places_of
 from chipfire.ledger import Disagreement, Ledger
-from chipfire.sentences import Sentences, counted
+from chipfire.machine import Event, Reply, Setting, Simulation, TraceRow, read_trace
+from chipfire.program import AnyGraph, known_chips, known_graph, replay, simulate
+from chipfire.sentences import Sentences
 from chipfire.spelling import RINGS, spell_rounds, spell_trace
+from chipfire.values import FILE, MAX_LIMIT, FileName, counted, own_text, write
 
 #: What every page says of itself; the places in it are filled for the run.
 _ABOUT = (
@@ -40,7 +41,7 @@ def page(
     file: FileName,
     *,
     title: str = "A run of chipfire",
-    positions: Mapping[Hashable, Point] | None = None,
+    positions: Mapping[Any, Point] | None = None,
     program: FileName | None = None,
 ) -> None:
     """Writes a page on which a run can be watched, event by event.
@@ -51,14 +52,14 @@ def page(
                 by the distances of their vertices, the same graph always alike
     program     the program to ask, if not the one that is found
     """
-    chipfire._write(file, page_text(simulation, title=title, positions=positions, program=program))
+    write(file, page_text(simulation, title=title, positions=positions, program=program))
 
 
 def page_text(
     simulation: Simulation,
     *,
     title: str = "A run of chipfire",
-    positions: Mapping[Hashable, Point] | None = None,
+    positions: Mapping[Any, Point] | None = None,
     program: FileName | None = None,
 ) -> str:
     """The text of the page that `page` writes."""
@@ -66,14 +67,14 @@ def page_text(
     data = _data(told, positions)
     # (in a script of HTML no text may look like a tag)
     text = json.dumps(data, separators=(",", ":")).replace("<", "\\u003c")
-    parts = {name: _web(f"run.{kind}") for name, kind in (("style", "css"), ("script", "js"))}
+    parts = {name: own_text("web", f"run.{kind}") for name, kind in (("style", "css"), ("script", "js"))}
     about = "".join(f"<p>{html.escape(paragraph)}</p>\n" for paragraph in _about(told))
     parts |= {"title": html.escape(title), "about": about, "data": text}
-    return string.Template(_web("run.html")).substitute(parts)
+    return string.Template(own_text("web", "run.html")).substitute(parts)
 
 
 def recorded(
-    graph: Graph | FileName,
+    graph: AnyGraph,
     chips: Chips | FileName,
     trace: Iterable[Sequence[Any]] | FileName,
     *,
@@ -87,16 +88,15 @@ def recorded(
     such events are made up, as early as they can be. Where rows do not fit together, the program refuses them (fault
     70). The ring is that of the run; if it is not told, the least of 1, 2, 4 and so on that plays all rows.
     """
-    asked = Program(program)
-    rows = chipfire.read_trace(trace) if chipfire._is_file(trace) else [TraceRow(*row) for row in trace]
-    asked.replay(graph, chips, rows, limit=limit)
-    known = graph if isinstance(graph, Graph) else Graph.read(graph)
-    start = chipfire.read_chips(chips, known, program=program) if chipfire._is_file(chips) else known.chips(chips)
-    setting = Setting(known, start, chipfire.MAX_LIMIT if limit is None else limit)
+    rows = read_trace(trace) if isinstance(trace, FILE) else [TraceRow(*row) for row in trace]
+    replay(graph, chips, rows, limit=limit, program=program)
+    known = known_graph(graph, program)
+    start = known_chips(known, chips, program)
+    setting = Setting(known, start, MAX_LIMIT if limit is None else limit)
     for cells in RINGS if ring is None else [ring]:
         events = spell_trace(replace(setting, ring=cells), rows)
         if events is not None:
-            told = asked.simulate(known, start, events, limit=limit, ring=cells, books=True)
+            told = simulate(known, start, events, limit=limit, ring=cells, books=True, program=program)
             return replace(told, made_up=_made_up(rows, cells))
     raise ValueError(f"the rows of the trace cannot be played over rings of {cells} cells: which ring had the run?")
 
@@ -112,11 +112,9 @@ def _made_up(rows: Sequence[TraceRow], cells: int) -> str:
 
 def spelled_out(simulation: Simulation, program: FileName | None = None) -> Simulation:
     """A simulation with a reply and a board for each event, and no rounds behind them."""
-    if simulation.setting is None:
-        raise ValueError("this simulation does not know what was asked: take what `simulate` answers")
-    schedule, made_up = simulation.schedule, simulation.made_up
+    setting, schedule, made_up = simulation.game, simulation.schedule, simulation.made_up
     if simulation.rounds:
-        schedule = spell_rounds(simulation.setting, schedule, simulation.replies, simulation.rounds)
+        schedule = spell_rounds(setting, schedule, simulation.replies, simulation.rounds)
         made_up = (
             f"The schedule has {counted(len(simulation.schedule), 'event')}. Those behind it are the rounds of turns "
             "that followed, spelled out without the looks that would find nothing. The program was asked both ways, "
@@ -124,15 +122,16 @@ def spelled_out(simulation: Simulation, program: FileName | None = None) -> Simu
         )
     elif len(simulation.boards) == len(schedule):
         return simulation
-    told = _asked_again(simulation.setting, schedule, program)
+    told = _asked_again(setting, schedule, program)
     if told.report != simulation.report:
         raise Disagreement("the program comes to another end than before")
     return replace(told, made_up=made_up)
 
 
-def _asked_again(setting: Setting, schedule: Sequence[chipfire.Event], program: FileName | None) -> Simulation:
-    options = {"limit": setting.limit, "ring": setting.ring, "fed": setting.fed}
-    return Program(program).simulate(setting.graph, setting.chips, schedule, books=True, **options)
+def _asked_again(setting: Setting, schedule: Sequence[Event], program: FileName | None) -> Simulation:
+    game = setting.graph, setting.chips, schedule
+    options: dict[str, Any] = {"limit": setting.limit, "ring": setting.ring, "fed": setting.fed}
+    return simulate(*game, books=True, program=program, **options)
 
 
 class _Words:
@@ -148,9 +147,9 @@ class _Words:
         return list(self._numbers)
 
 
-def _data(told: Simulation, positions: Mapping[Hashable, Point] | None) -> dict[str, Any]:
+def _data(told: Simulation, positions: Mapping[Any, Point] | None) -> dict[str, Any]:
     """What the page shows: the graph and its places, the opening, and for each event what it changed."""
-    setting, graph = told.setting, told.setting.graph
+    setting, graph = told.game, told.game.graph
     ledger = Ledger(setting)
     started = _started(told)
     words = _Words()
@@ -174,18 +173,18 @@ def _data(told: Simulation, positions: Mapping[Hashable, Point] | None) -> dict[
 
 def _started(told: Simulation) -> list[int]:
     """The vertices that get chips from the root, at the start or later."""
-    first = len(told.setting.graph.edges)
+    first = len(told.game.graph.edges)
     fed = {event.at - first for event, reply in zip(told.schedule, told.replies) if _is_fed(event, reply)}
-    return sorted(fed | {vertex for vertex, count in enumerate(told.setting.chips) if count})
+    return sorted(fed | {vertex for vertex, count in enumerate(told.game.chips) if count})
 
 
-def _is_fed(event: chipfire.Event, reply: chipfire.Reply) -> bool:
+def _is_fed(event: Event, reply: Reply) -> bool:
     return event.kind == "feed" and reply.is_done
 
 
 def _steps(told: Simulation, ledger: Ledger, words: _Words) -> list[dict[str, Any]]:
     """For each event the numbers of its words, and what it changed, held against the books."""
-    sentences = Sentences(told.setting.graph)
+    sentences = Sentences(told.game.graph)
     steps = []
     for event, reply, board in zip(told.schedule, told.replies, told.boards):
         changes = ledger.note(event, reply)
@@ -208,7 +207,3 @@ def _about(told: Simulation) -> list[str]:
     filled = {"events": counted(len(told.schedule), "event"), "end": _OPEN if told.report is None else _CLOSED}
     paragraphs = [string.Template(paragraph).substitute(filled) for paragraph in _ABOUT]
     return [told.made_up, *paragraphs] if told.made_up else paragraphs
-
-
-def _web(name: str) -> str:
-    return importlib.resources.files("chipfire").joinpath("web", name).read_text(encoding="utf-8")

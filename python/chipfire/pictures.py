@@ -1,37 +1,58 @@
-"""Pictures of positions: files, notebooks, NumPy and Matplotlib.
+"""Pictures of chips and of counts: files, notebooks, NumPy and Matplotlib.
 
-The chips are the program's; that pictures show them is not proved. A picture has a square for each vertex, in the order
-of their numbers, so many in a row. A sink that is the last vertex has no square; one that stands elsewhere has one of a
-colour of its own.
+The numbers are the program's; that pictures show them is not proved. A picture has a square for each vertex, where the
+graph has it in its shape, or in the order of the numbers, so many in a row. A sink that is the last vertex has no
+square; one that stands elsewhere has one of a colour of its own, and so has all that lies outside of a region.
 """
 
 from __future__ import annotations
 
+import base64
 import html
+import importlib
 import itertools
+import math
 import os
 import sys
-from collections.abc import Container, Sequence
+from collections.abc import Callable, Hashable, Iterable, Mapping, Sequence
 from dataclasses import dataclass
 from typing import TYPE_CHECKING, Any, Union
 
 from chipfire import rasters
+from chipfire.values import FileName, library, whole
 
 if TYPE_CHECKING:
-    from chipfire import Graph
+    from chipfire.graphs import Graph
+
+
+def _blend(corners: Sequence[str], count: int) -> tuple[str, ...]:
+    """So many colours, from the first of these to the last."""
+    found = []
+    for step in range(count):
+        place, share = divmod(step * (len(corners) - 1), count - 1)
+        low, high = (bytes.fromhex(corners[min(it, len(corners) - 1)][1:]) for it in (place, place + 1))
+        found.append("#" + bytes((a * (count - 1 - share) + b * share) // (count - 1) for a, b in zip(low, high)).hex())
+    return tuple(found)
+
 
 #: Colours of 0, 1, 2 .. chips; the last one is that of all larger numbers. On paper each is darker than the one before
-#: it, but for that of four or more, which no grid has at its end.
-PALETTES = {
+#: it, but for that of four or more, which no grid has at its end. The 255 of "viridis" are for what is spread.
+PALETTES: dict[str, Sequence[str]] = {
     "colours": ("#ffffff", "#f0c83c", "#286ebe", "#14141e", "#ec7050"),
     "greys": ("#ffffff", "#c8c8c8", "#8c8c8c", "#505050", "#000000"),
+    "viridis": _blend(
+        "#440154 #482878 #3e4989 #31688e #26828e #1f9e89 #35b779 #6ece58 #b5de2b #fde725".split(), 255
+    ),
 }
 SINK_COLOUR = "#a5d8c2"
 SCALE = 8
+#: What is more than so many squares wide or high is shown in notebooks as points, at most so many points wide.
+_MOST_SQUARES, _MOST_POINTS = 100, 800
 
 #: The name of a palette, or its colours, each `#rrggbb`.
 Palette = Union[str, Sequence[str]]
 
+_SPREADS: dict[str, Callable[[int], float]] = {"linear": float, "log": math.log1p}
 _SIGNS = "0123456789abcdefghijklmnopqrstuvwxyz"
 
 
@@ -42,74 +63,86 @@ class Picture:
     rows     the squares
     palette  the colours, each `#rrggbb`; the last one is that of the sink
     title    what the picture shows, in words
+    most     what the last colour but that of the sink stands for, where the colours are spread from 0 to there
     """
 
-    rows: tuple[tuple[int, ...], ...]
+    rows: Sequence[Sequence[int]]
     palette: tuple[str, ...]
     title: str = ""
+    most: int | None = None
 
-    def save(self, file: str | os.PathLike[str], scale: int = SCALE) -> None:
-        """Writes the picture with so many points for a square's side: `.svg`, `.png`, `.gif`, or what Pillow knows."""
+    def save(self, file: FileName, scale: int = SCALE) -> None:
+        """Writes the picture with so many points for a square's side: `.svg`, `.png`, or what Pillow knows."""
         if os.fspath(file).lower().endswith(".svg"):
+            text = self.svg(scale)
             with open(file, "w", encoding="utf-8", newline="") as out:
-                out.write(self.svg(scale))
+                out.write(text)
         else:
             rasters.write(file, [self.points(scale)], self.colours())
 
     def points(self, scale: int) -> list[bytes]:
         """The rows of points, with so many for a square's side."""
-        lines = (bytes(number for number in row for _ in range(scale)) for row in self.rows)
-        return [line for line in lines for _ in range(scale)]
+        scale, lines = whole(scale, "the scale", 1), []
+        for row in self.rows:
+            line = bytearray(scale * len(row))
+            for place in range(scale):
+                line[place::scale] = bytes(row)
+            lines += [bytes(line)] * scale
+        return lines
 
     def colours(self) -> list[tuple[int, int, int]]:
         """The palette as numbers of red, green and blue."""
-        return [tuple(bytes.fromhex(colour[1:])) for colour in self.palette]
+        return [(red, green, blue) for red, green, blue in (bytes.fromhex(colour[1:]) for colour in self.palette)]
 
     def svg(self, scale: int = SCALE) -> str:
         """The text of an SVG file, which can be made as large as one likes."""
-        width, height = len(self.rows[0]), len(self.rows)
+        width, height, scale = len(self.rows[0]), len(self.rows), whole(scale, "the scale", 1)
         size = f'viewBox="0 0 {width} {height}" width="{width * scale}" height="{height * scale}"'
-        shapes = (f'<path fill="{colour}" d="{self._runs(number)}"/>' for number, colour in enumerate(self.palette))
+        paths = [""] * len(self.palette)
+        for y, row in enumerate(self.rows):
+            x = 0
+            for number, squares in itertools.groupby(row):
+                length = len(list(squares))
+                paths[number] += f"M{x} {y}h{length}v1h-{length}z"
+                x += length
+        shapes = (f'<path fill="{colour}" d="{path}"/>' for colour, path in zip(self.palette, paths) if path)
         head = f'<svg xmlns="http://www.w3.org/2000/svg" {size} shape-rendering="crispEdges" role="img">'
         return "\n".join([head, f"<title>{html.escape(self.title)}</title>", *shapes, "</svg>\n"])
 
-    def _runs(self, number: int) -> str:
-        """The squares of one colour as the path of an SVG file."""
-        found = ""
-        for y, row in enumerate(self.rows):
-            x = 0
-            for colour, squares in itertools.groupby(row):
-                length = len(list(squares))
-                if colour == number:
-                    found += f"M{x} {y}h{length}v1h-{length}z"
-                x += length
-        return found
-
-    def labels(self) -> list[str]:
-        """What each colour stands for."""
+    def labels(self) -> dict[int, str]:
+        """What the colours stand for, by their numbers; of colours that are spread, the first and the last."""
         most = len(self.palette) - 2
-        return [*map(str, range(most)), f"{most} or more", "the sink"]
+        if self.most is not None:
+            return {0: "0", most: f"{self.most:,}", most + 1: "the sink"}
+        return {**{number: str(number) for number in range(most)}, most: f"{most} or more", most + 1: "the sink"}
 
-    def legend(self, used: Container[int] | None = None) -> str:
+    def legend(self, used: Iterable[int] | None = None) -> str:
         """The colours that are used, or that stand in the picture, and what they mean, as HTML."""
-        used = set(itertools.chain(*self.rows)) if used is None else used
+        used = set(itertools.chain(*self.rows) if used is None else used)
         box = '<span style="display:inline-block;width:1em;height:1em;border:1px solid #555;background:{}"></span> {}'
-        named = zip(self.palette, self.labels())
-        return "&ensp;".join(box.format(*it) for number, it in enumerate(named) if number in used)
+        return "&ensp;".join(box.format(self.palette[at], label) for at, label in self.labels().items() if at in used)
 
     def __str__(self) -> str:
         """The picture as text: the number of each square's colour, and a gap for the sink."""
-        signs = _SIGNS[: len(self.palette) - 1].ljust(len(self.palette))
+        count = len(self.palette) - 1
+        signs = [_SIGNS[it if count <= len(_SIGNS) else it * len(_SIGNS) // count] for it in range(count)] + [" "]
         return "\n".join("".join(signs[number] for number in row) for row in self.rows)
 
     __repr__ = __str__
 
-    def _repr_svg_(self) -> str:
-        return self.svg()
+    def data(self) -> str:
+        """The picture, with a point for a square, as an address that has a PNG file inside."""
+        return f"data:image/png;base64,{base64.b64encode(rasters.png(self.points(1), self.colours())).decode()}"
 
     def _repr_html_(self) -> str:
-        caption = f"{html.escape(self.title)}<br>{self.legend()}"
-        return f"<figure>{self.svg()}<figcaption>{caption}</figcaption></figure>"
+        width = len(self.rows[0])
+        if max(width, len(self.rows)) > _MOST_SQUARES:
+            shown = max(1, min(SCALE, _MOST_POINTS // max(width, len(self.rows))))
+            size = f'width="{min(shown * width, _MOST_POINTS)}" style="image-rendering:pixelated"'
+            drawn = f'<img alt="{html.escape(self.title)}" src="{self.data()}" {size}>'
+        else:
+            drawn = self.svg()
+        return f"<figure>{drawn}<figcaption>{html.escape(self.title)}<br>{self.legend()}</figcaption></figure>"
 
 
 def colours_of(palette: Palette) -> tuple[str, ...]:
@@ -121,125 +154,149 @@ def colours_of(palette: Palette) -> tuple[str, ...]:
     for colour in palette:
         if len(colour) != 7 or colour[0] != "#" or not set(colour[1:].lower()) <= set("0123456789abcdef"):
             raise ValueError(f"a colour is #rrggbb, and not {colour!r}")
-    if not 2 <= len(palette) < len(_SIGNS):
-        raise ValueError(f"a palette has 2 to {len(_SIGNS) - 1} colours, and not {len(palette)}")
+    if not 2 <= len(palette) <= 255:
+        raise ValueError(f"a palette has 2 to 255 colours, and not {len(palette)}")
     return (*palette, SINK_COLOUR)
 
 
-def columns_of(graph: Graph) -> int:
-    """How many columns a grid has; a single line of vertices is a row.
+def in_rows(graph: Graph | None, values: Sequence[int], columns: int | None, empty: int) -> list[Sequence[int]]:
+    """Values of all vertices in rows: so many in each, or in the graph's shape, with what stands where no vertex is.
 
-    Its edges lead to the square beside, above or below, or to the sink, which is the last vertex.
+    A sink behind them all is left out.
     """
-    squares = graph.vertices - 1
-    columns = max((head for tail, head, _ in graph.edges if tail == 0 and head != graph.sink), default=1)
-    columns = squares if columns == 1 else columns
-    inner = [(tail, head) for tail, head, _ in graph.edges if head != graph.sink]
-    beside = all(abs(u - v) == columns or abs(u - v) == 1 and u // columns == v // columns for u, v in inner)
-    if not squares or graph.sink != squares or squares % columns or not beside:
-        raise ValueError("the graph is no grid: say how many columns the picture has")
-    return columns
+    if columns is not None:
+        columns = whole(columns, "the number of columns", 1)
+        is_last = len(values) % columns == 1 if graph is None else graph.sink == len(values) - 1
+        squares = len(values) - is_last
+        if not squares or squares % columns:
+            raise ValueError(f"{squares} squares do not make rows of {columns}")
+        return [values[start : start + columns] for start in range(0, squares, columns)]
+    if graph is None or graph.shape is None:
+        unknown = "the report does not know its graph" if graph is None else "the graph is no grid"
+        raise ValueError(f"{unknown}: say how many columns the picture has")
+    height, width = graph.shape
+    flat = [empty] * (height * width)
+    for square, value in zip(graph.squares, values):
+        flat[square] = value
+    return [flat[start : start + width] for start in range(0, height * width, width)]
+
+
+def placed(graph: Graph, values: Sequence[int], positions: Mapping[Any, tuple[float, float]], empty: int) -> list[list[int]]:
+    """Values of the vertices that have positions, (to the right, down) by names, in rows of squares round them."""
+    found: dict[tuple[int, int], tuple[Hashable, int]] = {}
+    for name, (right, down) in positions.items():
+        square = round(down), round(right)
+        if square in found:
+            raise ValueError(f"vertices {found[square][0]!r} and {name!r} stand on one square: spread the positions")
+        found[square] = name, values[graph.number(name)]
+    if not found:
+        raise ValueError("there are no positions, and so no squares")
+    ys, xs = (range(min(side), max(side) + 1) for side in zip(*found))
+    return [[found.get((y, x), ("", empty))[1] for x in xs] for y in ys]
 
 
 class Drawn:
-    """What a report has besides: pictures of its chips.
+    """What reports and configurations have besides: pictures of their chips, and of how often vertices fired.
 
-    `columns` is how many squares stand in a row. Where the report knows its graph, and it is a grid, that need not be
-    said. `palette` names colours, "colours" or "greys", or has them, each as `#rrggbb`: that of 0 chips, of 1, of 2 and
-    so on; the last one is that of all larger numbers.
+    `columns` is how many squares stand in a row; where the graph has a shape, that need not be said. `positions` has the
+    places of vertices by names instead, (to the right, down), each of which becomes a square. `of` is "chips" or
+    "odometer". `palette` names colours, "colours", "greys" or "viridis", or has them, each as `#rrggbb`. Chips have the
+    colour of 0, of 1, of 2 and so on; the last one is that of all larger numbers. What has a `scale`, "linear" or "log",
+    has the first colour for 0, the last one for the largest number, and is spread between them: so odometers are.
     """
 
-    chips: tuple[int, ...]
-    total: tuple[int, ...]
-    over: tuple[int, ...]
-    sealed: tuple[int, ...]
     graph: Graph | None
 
-    def picture(self, columns: int | None = None, palette: Palette = "colours") -> Picture:
-        """The picture of the chips, a square for each vertex. That it shows them is not proved."""
-        colours = colours_of(palette)
-        sink, most = len(colours) - 1, len(colours) - 2
-        numbers = [min(count, most) for count in self.chips]
+    def _values(self, of: str) -> Sequence[int]:
+        raise NotImplementedError
+
+    def _title(self, of: str) -> str:
+        raise NotImplementedError
+
+    def picture(
+        self,
+        columns: int | None = None,
+        palette: Palette | None = None,
+        *,
+        of: str = "chips",
+        scale: str | None = None,
+        positions: Mapping[Any, tuple[float, float]] | None = None,
+    ) -> Picture:
+        """The picture of the chips, or of how often each vertex fired. That it shows them is not proved."""
+        values = self._values(of)
+        scale = "linear" if scale is None and of == "odometer" else scale
+        colours = colours_of(palette or ("viridis" if scale else "colours"))
+        sink, last = len(colours) - 1, len(colours) - 2
+        numbers, most = [max(min(count, last), 0) for count in values], None
+        if scale:
+            if scale not in _SPREADS:
+                raise ValueError(f"a scale is 'linear' or 'log', and not {scale!r}")
+            spread = _SPREADS[scale]
+            others = [count for vertex, count in enumerate(values) if not self.graph or vertex != self.graph.sink]
+            most = max(others, default=0)
+            numbers = [min(int(last * spread(max(count, 0)) / (spread(most) or 1)), last) for count in values]
         if self.graph is not None:
             numbers[self.graph.sink] = sink
-        return Picture(tuple(map(tuple, self._in_rows(numbers, columns))), colours, self._title())
+        if positions is not None:
+            if self.graph is None:
+                raise ValueError("the report does not know its graph, and so no positions")
+            rows: Sequence[Sequence[int]] = placed(self.graph, numbers, positions, sink)
+        else:
+            rows = in_rows(self.graph, numbers, columns, sink)
+        return Picture(tuple(map(bytes, rows)), colours, self._title(of), most)
 
     def image(
         self,
-        file: str | os.PathLike[str],
+        file: FileName,
         columns: int | None = None,
-        palette: Palette = "colours",
-        scale: int = SCALE,
+        palette: Palette | None = None,
+        scale: int | str = SCALE,
+        *,
+        of: str = "chips",
+        positions: Mapping[Any, tuple[float, float]] | None = None,
+        points: int = SCALE,
     ) -> None:
-        """Writes the picture of the chips, with so many points for a square's side: `.png`, `.svg` or `.gif`.
+        """Writes the picture: `.png`, `.svg`, or with Pillow any other form. That it shows the numbers is not proved.
 
-        Where Pillow is installed it writes the file, in any form that it knows; else the package does. That the file
-        shows the chips is not proved.
+        A square's side has as many points as `scale`, or as `points` where `scale` is "linear" or "log".
         """
-        self.picture(columns, palette).save(file, scale)
+        spread = scale if isinstance(scale, str) else None
+        picture = self.picture(columns, palette, of=of, scale=spread, positions=positions)
+        picture.save(file, points if isinstance(scale, str) else scale)
 
-    def show(self, columns: int | None = None, palette: Palette = "colours") -> None:
+    def show(self, columns: int | None = None, palette: Palette | None = None, *, of: str = "chips") -> None:
         """Shows the picture in a notebook; elsewhere prints it as text, with the number of chips on each square."""
-        picture = self.picture(columns, palette)
+        picture = self.picture(columns, palette, of=of)
         notebook = sys.modules.get("IPython")
         if notebook is not None and notebook.get_ipython() is not None:
             notebook.display.display(picture)
         else:
             print(picture)
 
-    def array(self, columns: int | None = None) -> Any:
-        """The chips as an array of NumPy, by rows of the picture; a sink that is the last vertex is left out."""
-        import numpy
+    def array(self, of: str | int = "chips", columns: int | None = None) -> Any:
+        """The chips, or the "odometer", as an array of NumPy, by rows of the picture; 0 where the sink or none is."""
+        columns = columns if isinstance(of, str) else of
+        values = list(self._values(of if isinstance(of, str) else "chips"))
+        if self.graph is not None:
+            values[self.graph.sink] = 0
+        numpy = library("numpy")
+        if numpy is None:
+            raise ImportError("an array is one of NumPy, which is not installed")
+        return numpy.array(in_rows(self.graph, values, columns, 0), dtype=numpy.int64)
 
-        return numpy.array(self._in_rows(self.chips, columns), dtype=numpy.int64)
-
-    def plot(self, columns: int | None = None, palette: Palette = "colours", axes: Any = None) -> Any:
+    def plot(
+        self, columns: int | None = None, palette: Palette | None = None, axes: Any = None, *, of: str = "chips"
+    ) -> Any:
         """Draws the picture by Matplotlib into axes, or into new ones, which it returns."""
-        from matplotlib import colors, pyplot
-
-        picture = self.picture(columns, palette)
+        colors, pyplot = (importlib.import_module(f"matplotlib.{name}") for name in ("colors", "pyplot"))
+        picture = self.picture(columns, palette, of=of)
         axes = pyplot.subplots()[1] if axes is None else axes
-        axes.imshow(picture.rows, cmap=colors.ListedColormap(picture.palette), vmin=0, vmax=len(picture.palette) - 1)
+        cmap = colors.ListedColormap(picture.palette)
+        axes.imshow([list(row) for row in picture.rows], cmap=cmap, vmin=0, vmax=len(picture.palette) - 1)
         axes.set_title(picture.title)
         axes.set_axis_off()
         return axes
 
-    def _in_rows(self, values: Sequence[int], columns: int | None) -> list[Sequence[int]]:
-        """Values of all vertices in rows, without that of a sink behind them all."""
-        if columns is None:
-            if self.graph is None:
-                raise ValueError("the report does not know its graph: say how many columns the picture has")
-            columns = columns_of(self.graph)
-        if columns < 1:
-            raise ValueError(f"a picture has a column at least, and not {columns}")
-        is_last = len(values) % columns == 1 if self.graph is None else self.graph.sink == len(values) - 1
-        squares = len(values) - is_last
-        if not squares or squares % columns:
-            raise ValueError(f"{squares} squares do not make rows of {columns}")
-        return [values[start : start + columns] for start in range(0, squares, columns)]
-
-    def _title(self) -> str:
-        """What the picture shows, in words."""
-        from chipfire.sentences import counted  # (it stands on this module)
-
-        words = [counted(sum(self.total), "firing")]
-        if self.graph is not None:
-            words.append(f"{counted(self.chips[self.graph.sink], 'chip')} in the sink")
-        if self.over:
-            words.append(f"{counted(len(self.over), 'square')} could fire once more")
-        if self.sealed:
-            words.append(f"{counted(len(self.sealed), 'square')} stopped by a seal")
-        return ", ".join(words)
-
-    def _repr_svg_(self) -> str | None:
-        return self._drawn(Picture._repr_svg_)
-
     def _repr_html_(self) -> str | None:
-        return self._drawn(Picture._repr_html_)
-
-    def _drawn(self, how: Any) -> str | None:
-        """What a notebook shows: the picture where the graph is a grid, and else nothing but the report's text."""
-        try:
-            return how(self.picture())
-        except ValueError:
-            return None
+        """What a notebook shows: the picture where the graph has a shape, and else nothing but the text."""
+        return None if self.graph is None or self.graph.shape is None else self.picture()._repr_html_()

@@ -4,16 +4,13 @@ from __future__ import annotations
 
 from typing import Any
 
-from chipfire import Event, Graph, Reply, RULES
+from chipfire.graphs import Graph
 from chipfire.ledger import Change
+from chipfire.machine import Event, Reply
+from chipfire.values import counted
 
 _ONCE = {1: "once", 2: "twice"}
 _HALTED = {"seal": "halted: a claim of it was refused", "limit": "halted: it has fired as often as the limit allows"}
-
-
-def counted(count: int, word: str) -> str:
-    """So many of something: "1 chip", "4 chips"."""
-    return f"{count:,} {word}" + ("" if count == 1 else "s")
 
 
 class Sentences:
@@ -110,12 +107,11 @@ class Sentences:
     def _of_vertex(self, name: str, value: Any) -> str:
         if name == "parent":
             return "neutral" if value is None else f"engaged by edge {value}, by {self.ends(value)[0]}"
-        return {
-            "chips": lambda: counted(value, "chip"),
-            "fired": lambda: f"{counted(value, 'firing')} so far",
-            "halted": lambda: _HALTED[value],
-            "deficit": lambda: f"waits for {counted(value, 'acknowledgement')}",
-        }[name]()
+        if name == "halted":
+            return _HALTED[str(value)]
+        if name == "deficit":
+            return f"waits for {counted(value, 'acknowledgement')}"
+        return counted(value, "chip") if name == "chips" else f"{counted(value, 'firing')} so far"
 
     @staticmethod
     def _of_edge(name: str, value: Any) -> str:
@@ -125,11 +121,10 @@ class Sentences:
         if name in ("clear", "refused", "sealed"):
             words = {"clear": "seen empty", "refused": "a claim was refused", "sealed": "sealed"}
             return words[name] if value else f"not {words[name]} any more"
-        return {
-            "pending": lambda: f"{counted(value, 'chip')} pending" if value else "nothing pending",
-            "claimed": lambda: f"{counted(value, 'chip')} claimed and not put" if value else "nothing claimed",
-            "owed": lambda: f"{counted(value, 'acknowledgement')} owed",
-        }.get(name, lambda: f"{counted(value, 'message')} {name}")()
+        if name in ("pending", "claimed"):
+            more = "pending" if name == "pending" else "claimed and not put"
+            return f"{counted(value, 'chip')} {more}" if value else f"nothing {name}"
+        return f"{counted(value, 'acknowledgement')} owed" if name == "owed" else f"{counted(value, 'message')} {name}"
 
 
 def _sentence(words: str) -> str:

@@ -11,8 +11,8 @@ from __future__ import annotations
 from collections import deque
 from collections.abc import Iterable, Sequence
 
-from chipfire import Event, Reply, Schedule, Setting, TraceRow
 from chipfire.ledger import HALTS, Ledger
+from chipfire.machine import Event, Reply, Schedule, Setting, TraceRow
 
 #: The sizes of rings that are tried for a trace, which does not tell its own.
 RINGS = (1, 2, 4, 8, 16, 32, 64)
@@ -99,7 +99,7 @@ class Player:
     def _allowed(self, edge: int) -> int:
         """How many acknowledgements may be given on an edge now."""
         head = self.ledger.heads[edge]
-        vertex, owed = self.ledger.vertices[head], self.ledger.edges[edge]["owed"]
+        vertex, owed = self.ledger.vertices[head], int(self.ledger.edges[edge]["owed"])
         if vertex["parent"] != edge:
             return owed
         others = sum(self.ledger.edges[other]["owed"] for other in self.ledger.ins[head]) - owed
@@ -124,7 +124,7 @@ class Player:
         return not any(self.ledger.edges[edge]["claimed"] for edge in self.ledger.outs[vertex])
 
     def firings_left(self, vertex: int) -> int:
-        return self.setting.limit - self.ledger.vertices[vertex]["fired"]
+        return self.setting.limit - int(self.ledger.vertices[vertex]["fired"])
 
     def turn(self, vertex: int) -> None:
         """One turn of a vertex, in the order of docs/CORE.md."""

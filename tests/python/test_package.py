@@ -87,7 +87,7 @@ class Graphs(WithFolder):
         for vertices, edges, names in [(2, [(0,)], ()), (2, [(0, -1)], ()), (2, [], ["a"]), (2, [], ["a", "a"])]:
             with self.assertRaises(ValueError):
                 chipfire.Graph(vertices, 1, edges, names)
-        for chips in [[1, 2], [1, 2, -3], {0: -1}]:
+        for chips in [[1], [1, 2, 3, 4], [1, 2, -3], {0: -1}, -1, [[1, 2, 3]], [[1], [2]]]:
             with self.assertRaises(ValueError):
                 TRIANGLE.chips(chips)
         with self.assertRaises(TypeError):
@@ -233,12 +233,22 @@ class Large(WithFolder):
         report.write(self.file("report.json"))
         self.assertEqual(chipfire.resume(self.file("graph.json"), self.file("report.json"), large=True).total[0], 2)
 
-    def test_without_the_word_it_is_refused(self):
-        report = chipfire.Report((0,) * 5000, (0,) * 5000)
-        calls = [(chipfire.check, ()), (chipfire.plain, ({},)), (chipfire.resume, (report,)), (chipfire.identity, ())]
-        for call, arguments in [*calls, (chipfire.is_recurrent, ({},)), (chipfire.run, ({},))]:
-            with self.subTest(call.__name__):
-                self.assertEqual(self.fault_of(call, self.FAN, *arguments), (1, ()))
+    def test_the_word_is_not_needed(self):
+        self.FAN.write(self.file("graph.json"))
+        for graph in (self.FAN, self.file("graph.json")):
+            self.assertEqual(chipfire.check(graph).edges, 4999)
+            first = chipfire.plain(graph, {0: 5}, limit=1)
+            self.assertEqual(chipfire.resume(graph, first).total[0], 2)
+            self.assertEqual(chipfire.stabilize(graph, {0: 5}), {**dict.fromkeys(range(4999), 0), 0: 1})
+
+    def test_what_the_threads_do_not_take_is_refused_by_its_size(self):
+        for call, arguments in [(chipfire.run, ({},)), (chipfire.simulate, ({}, [])), (chipfire.replay, ({}, []))]:
+            with self.subTest(call.__name__), self.assertRaisesRegex(chipfire.Fault, "5000 vertices, and 4096 at most"):
+                call(self.FAN, *arguments)
+        many = chipfire.Graph(2, 1, [(0, 1)] * 65537)
+        self.assertEqual(chipfire.plain(many, {0: 65538}).fired, (1, 0))
+        with self.assertRaisesRegex(chipfire.Fault, "65537 edges, and 65536 at most"):
+            chipfire.run(many, {})
 
     def test_the_limits_of_a_large_graph(self):
         most = chipfire.MAX_LARGE_VERTICES
@@ -361,7 +371,7 @@ class Refusals(WithFolder):
         fault = self.refused(chipfire.plain, TRIANGLE, self.file("chips.csv", "vertex,chips\n0,4\n0,-1\n"))
         self.assertEqual((fault.number, fault.place), (25, (1,)))
         self.assertEqual(fault.explanation, chipfire.explain(25).strip())
-        self.assertTrue(str(fault).startswith("fault 25 Number 1\n"))
+        self.assertTrue(str(fault).startswith(f"fault 25 Number 1: in {self.file('chips.csv')}\nfault 25"))
 
     def test_files_are_counted_from_the_command(self):
         for files, place in [(("missing", CHIPS_FILE), 1), ((TRIANGLE_FILE, "missing"), 2)]:
@@ -373,8 +383,9 @@ class Refusals(WithFolder):
         self.assertEqual(self.refused(chipfire.check, wrong).number, 20)
         self.assertEqual(self.refused(chipfire.simulate, TRIANGLE, {0: 1}, [("jump", 0)]).number, 28)
         self.assertEqual(self.refused(chipfire.resume, TRIANGLE, wrong).number, 50)
-        self.assertEqual(self.refused(chipfire.plain, TRIANGLE, {0: 1}, limit=2**40 + 1).number, 91)
-        self.assertEqual(self.refused(chipfire.plain, TRIANGLE, {0: 2**40 + 1}).number, 10)
+        for many in (2**40 + 1, 2**64, 2**90):
+            self.assertEqual(self.refused(chipfire.plain, TRIANGLE, {0: many}).number, 10)
+            self.assertEqual(self.refused(chipfire.plain, TRIANGLE, [2**40, many, 0]).number, 10)
 
 
 class Checks(unittest.TestCase):

@@ -5,6 +5,7 @@ and show them too.
 """
 import base64
 import contextlib
+import html
 import io
 import json
 import os
@@ -19,7 +20,7 @@ from unittest import mock
 import browser
 import chipfire
 import play
-from chipfire import pictures, rasters
+from chipfire import rasters
 from test_sandpiles import has
 
 COLOURS = ("#ffffff", "#f0c83c", "#286ebe", "#14141e", "#ec7050")
@@ -65,64 +66,6 @@ def png_points(data):
     rows = [lines[start : start + width + 1] for start in range(0, len(lines), width + 1)]
     assert all(row[0] == 0 for row in rows)
     return [[tuple(table[3 * point : 3 * point + 3]) for point in row[1:]] for row in rows]
-
-
-def unpacked(data, bits):
-    """The points of data as GIF packs them: each new code is a known one and the first point of the code behind it."""
-    clear, held, points, at = 1 << bits, int.from_bytes(data, "little"), [], 0
-    known, size, before = [], bits + 1, None
-    while True:
-        code, at = held >> at & (1 << size) - 1, at + size
-        if code == clear:
-            known, size, before = [(point,) for point in range(clear)] + [None, None], bits + 1, None
-            continue
-        if code == clear + 1:
-            return points
-        if before is not None and len(known) < 4096:
-            known.append((*before, (known[code] if code < len(known) else before)[0]))
-        points += known[code]
-        before = known[code]
-        size = max(size, min(12, len(known).bit_length()))
-
-
-class Gif:
-    """A GIF file: its size, and the points of each picture and how long it is shown."""
-
-    def __init__(self, data):
-        assert data[:6] == b"GIF89a" and data[10] & 0x80
-        self.width, self.height = (int.from_bytes(data[start : start + 2], "little") for start in (6, 8))
-        colours = 2 << (data[10] & 7)
-        self.table = [tuple(data[13 + 3 * it : 16 + 3 * it]) for it in range(colours)]
-        self.pictures, self.delays, self.loops = [], [], False
-        at = 13 + 3 * colours
-        while data[at : at + 1] != b";":
-            at = self._extension(data, at) if data[at : at + 1] == b"!" else self._picture(data, at)
-        assert at == len(data) - 1
-
-    def _extension(self, data, at):
-        body, after = blocks(data, at + 2)
-        if data[at + 1] == 0xF9:
-            self.delays.append(10 * int.from_bytes(body[1:3], "little"))
-        self.loops |= body.startswith(b"NETSCAPE2.0")
-        return after
-
-    def _picture(self, data, at):
-        size = [int.from_bytes(data[start : start + 2], "little") for start in (at + 5, at + 7)]
-        assert data[at : at + 1] == b"," and size == [self.width, self.height] and data[at + 9] == 0
-        body, after = blocks(data, at + 11)
-        points = [self.table[point] for point in unpacked(body, data[at + 10])]
-        assert len(points) == self.width * self.height
-        self.pictures.append([points[start : start + self.width] for start in range(0, len(points), self.width)])
-        return after
-
-
-def blocks(data, at):
-    """The blocks from a place on as one, and the place behind them."""
-    found = b""
-    while data[at]:
-        found += data[at + 1 : at + 1 + data[at]]
-        at += 1 + data[at]
-    return found, at + 1
 
 
 def svg_squares(text):
@@ -180,11 +123,6 @@ class Files(WithFolder):
             wanted = enlarged(coloured(self.position, 7, 35), scale)
             self.assertEqual(png_points(self.bytes_of("a.png")), wanted)
 
-    def test_a_gif_file_of_one_picture_shows_the_chips(self):
-        self.report.image(self.file("a.gif"), scale=3)
-        found = Gif(self.bytes_of("a.gif"))
-        self.assertEqual((found.pictures, found.loops), ([enlarged(coloured(self.position, 7, 35), 3)], False))
-
     def test_an_svg_file_shows_the_chips_and_says_what_it_is(self):
         self.report.image(self.file("a.svg"))
         self.assertEqual(svg_squares(self.text_of("a.svg")), coloured(self.position, 7, 35))
@@ -231,51 +169,52 @@ class Files(WithFolder):
         self.assertIn("the sink", picture.legend())
 
     def test_what_is_refused(self):
-        torus = chipfire.plain(chipfire.torus(3, 3), {})
-        palettes = ("greens", ["white", "black"], ["#000000"], ["#00000g", "#000000"], ["#000000"] * 40)
+        ring = chipfire.plain(chipfire.cycle(9), {})
+        palettes = ("greens", ["white", "black"], ["#000000"], ["#00000g", "#000000"], ["#000000"] * 256)
         wrong = [{"columns": 6}, {"columns": 0}, *({"palette": palette} for palette in palettes)]
-        for report, options in [(torus, {}), (torus, {"columns": 4}), *((self.report, it) for it in wrong)]:
-            with self.subTest(options), self.assertRaises(ValueError):
-                report.image(self.file("a.png"), **options)
-        with self.assertRaises(ValueError):
-            self.report.image(self.file("a.bmp"))
+        wrong += [{"scale": 0}, {"scale": -1}, {"scale": "logarithm"}, {"of": "firings"}, {"positions": {}}]
+        wrong += [{"points": 0, "scale": "log"}, {"positions": {0: (1, 1), 1: (1.2, 0.9)}}]
+        for report, options in [(ring, {}), (ring, {"columns": 4}), *((self.report, it) for it in wrong)]:
+            for name in ("a.png", "a.svg"):
+                with self.subTest(options), self.assertRaises(ValueError):
+                    report.image(self.file(name), **options)
+        for name in ("a.png", "a.svg"):
+            with self.assertRaisesRegex(TypeError, "the scale is no whole number: 2.5"):
+                self.report.image(self.file(name), scale=2.5)
+        for name in ("a.bmp", "a.gif"):
+            with self.assertRaisesRegex(ValueError, f"{name}: without Pillow"):
+                self.report.image(self.file(name))
         self.assertEqual(os.listdir(self.folder), [])
 
-    def test_random_points_come_back_from_a_gif(self):
-        draw = random.Random(17)
-        for colours in (2, 3, 4, 5, 9, 200):
-            table = [(it, 255 - it, 7) for it in range(colours)]
-            for width, height in [(1, 1), (2, 1), (5, 60), (250, 130)]:
-                rows = [bytes(draw.choices(range(colours), k=width)) for _ in range(height)]
-                found = Gif(rasters.gif([rows, rows[::-1]], table, 70))
-                wanted = [[table[point] for point in row] for row in rows]
-                self.assertEqual(found.pictures, [wanted, wanted[::-1]])
-                self.assertEqual((found.delays, found.loops), ([70, 70], True))
 
-    def test_a_long_run_of_one_colour_comes_back_from_a_gif(self):
-        for width in range(1, 40):
-            length = 997 * width
-            found = Gif(rasters.gif([[bytes(length)]], [(1, 2, 3), (4, 5, 6)], 0))
-            self.assertEqual(found.pictures, [[[(1, 2, 3)] * length]])
+class Shapes(WithFolder):
+    def read(self, graph):
+        graph.write(self.file("graph.json"))
+        return chipfire.Graph.read(self.file("graph.json"))
 
+    def test_grids_tell_their_shape(self):
+        for width, height in [(2, 2), (7, 5), (5, 7), (2, 9), (1, 1), (6, 1)]:
+            self.assertEqual(chipfire.grid(width, height).shape, (height, width))
+            self.assertEqual(self.read(chipfire.grid(width, height)).shape, (height, width))
 
-class Columns(unittest.TestCase):
-    def test_grids_tell_their_columns(self):
-        for width, height in [(2, 2), (7, 5), (5, 7), (2, 9)]:
-            self.assertEqual(pictures.columns_of(chipfire.grid(width, height)), width)
+    def test_a_single_column_stands_up(self):
+        report = chipfire.plain(chipfire.grid(1, 4), {0: 9})
+        self.assertEqual([len(row) for row in report.picture().rows], [1, 1, 1, 1])
+        self.assertEqual(chipfire.grid(1, 4).shape, (4, 1))
 
-    def test_a_single_line_is_a_row(self):
+    def test_a_single_line_of_a_file_is_a_row(self):
         for graph in (chipfire.path(6), chipfire.grid(6, 1), chipfire.grid(1, 6)):
-            self.assertEqual(pictures.columns_of(graph), 6)
-        self.assertEqual(pictures.columns_of(chipfire.grid(1, 1)), 1)
+            self.assertEqual(self.read(graph).shape, (1, 6))
+        self.assertEqual(chipfire.path(6).shape, (1, 6))
 
-    def test_what_is_no_grid_tells_none(self):
+    def test_what_is_no_grid_has_none(self):
         round_the_corner = chipfire.Graph(5, 4, [(0, 1), (0, 2), (1, 2), (2, 3), (3, 4)])
         across = chipfire.Graph(5, 4, [(0, 1), (0, 2), (1, 4), (2, 4), (3, 0)])
-        others = (chipfire.torus(3, 3), chipfire.cycle(5), chipfire.complete(4), chipfire.Graph(1, 0, ()))
+        others = (self.read(chipfire.torus(3, 3)), chipfire.cycle(5), chipfire.complete(4), chipfire.Graph(1, 0, ()))
         for graph in (round_the_corner, across, *others):
-            with self.assertRaises(ValueError):
-                pictures.columns_of(graph)
+            self.assertIsNone(graph.shape)
+            with self.assertRaisesRegex(ValueError, "no grid"):
+                chipfire.Report((0,) * graph.vertices, (0,) * graph.vertices, graph=graph).picture()
 
 
 class Notebooks(unittest.TestCase):
@@ -285,7 +224,6 @@ class Notebooks(unittest.TestCase):
         self.position, _ = slowly(self.grid, {5: 30})
 
     def test_a_notebook_gets_the_picture_and_what_it_means(self):
-        self.assertEqual(svg_squares(self.report._repr_svg_()), coloured(self.position, 4, 12))
         said = self.report._repr_html_()
         self.assertEqual(svg_squares(re.search("<svg.*</svg>", said, re.DOTALL)[0]), coloured(self.position, 4, 12))
         shown = {int(label) for label in re.findall(r"</span> (\d)", said)}
@@ -293,7 +231,7 @@ class Notebooks(unittest.TestCase):
 
     def test_a_report_on_another_graph_is_shown_as_its_text(self):
         report = chipfire.plain(chipfire.complete(4), {1: 9})
-        self.assertEqual((report._repr_html_(), report._repr_svg_()), (None, None))
+        self.assertIsNone(report._repr_html_())
 
     def test_elsewhere_the_picture_is_text(self):
         said = io.StringIO()
@@ -309,7 +247,8 @@ class Notebooks(unittest.TestCase):
         with mock.patch.dict("sys.modules", {"IPython": notebook}):
             self.report.show()
         (shown,), _ = notebook.display.display.call_args
-        self.assertEqual(svg_squares(shown._repr_svg_()), coloured(self.position, 4, 12))
+        said = re.search("<svg.*</svg>", shown._repr_html_(), re.DOTALL)[0]
+        self.assertEqual(svg_squares(said), coloured(self.position, 4, 12))
 
 
 class Played(WithFolder):
@@ -348,12 +287,6 @@ class Animations(Played):
         found = [(list(report.chips), list(report.fired)) for report in self.frames.reports]
         self.assertEqual(found, self.plays)
 
-    def test_a_gif_shows_each_position(self):
-        self.frames.save(self.file("play.gif"), scale=2, seconds=0.1)
-        found = Gif(self.bytes_of("play.gif"))
-        self.assertEqual(found.pictures, [enlarged(rows, 2) for rows in self.wanted])
-        self.assertEqual((found.delays, found.loops), ([100] * len(self.wanted), True))
-
     def test_a_page_has_each_position_and_loads_nothing(self):
         self.frames.save(self.file("play.html"))
         page = self.text_of("play.html")
@@ -377,13 +310,14 @@ class Animations(Played):
         wanted[0][0] = rgb(SINK)
         self.assertEqual(svg_squares(found.pictures[1].svg()), wanted)
 
-    def test_a_notebook_gets_the_gif(self):
-        source = re.search('src="(.*)"', self.frames._repr_html_())[1]
-        self.assertEqual(Gif(self.inside(source, "gif")).pictures, [enlarged(rows, 8) for rows in self.wanted])
+    def test_a_notebook_gets_the_page(self):
+        source = re.search('srcdoc="([^"]*)"', self.frames._repr_html_())[1]
+        self.assertEqual(html.unescape(source), self.frames.page())
 
     def test_what_is_refused(self):
-        with self.assertRaises(ValueError):
-            self.frames.save(self.file("play.mp4"))
+        for name in ("play.mp4", "play.gif", "play.png"):
+            with self.assertRaisesRegex(ValueError, f"{name}: without Pillow"):
+                self.frames.save(self.file(name))
         with self.assertRaises(ValueError):
             chipfire.frames(self.grid, self.chips, [])
 
@@ -473,19 +407,16 @@ class ByPillow(Played):
                 points, width = list(picture.convert("RGB").getdata()), picture.width
                 yield [points[start : start + width] for start in range(0, len(points), width)]
 
-    def save_all(self, head):
-        self.frames.save(self.file(f"{head}.gif"))
-        self.frames.reports[-1].image(self.file(f"{head}.png"))
-
     def test_pillow_reads_what_the_package_writes_and_writes_the_same(self):
-        self.save_all("own")
+        self.frames.reports[-1].image(self.file("own.png"))
         mock.patch.stopall()
-        with mock.patch.object(rasters, "png", side_effect=AssertionError), mock.patch.object(rasters, "gif"):
-            self.save_all("pillow")
+        with mock.patch.object(rasters, "png", side_effect=AssertionError):
+            self.frames.reports[-1].image(self.file("pillow.png"))
         wanted = [enlarged(rows, 8) for rows in self.wanted]
-        for head in ("own", "pillow"):
-            self.assertEqual(list(self.points_of(f"{head}.gif")), wanted)
-            self.assertEqual(list(self.points_of(f"{head}.png")), wanted[-1:])
+        for name in ("own.png", "pillow.png"):
+            self.assertEqual(list(self.points_of(name)), wanted[-1:])
+        self.frames.save(self.file("a.gif"), seconds=0.1)
+        self.assertEqual(list(self.points_of("a.gif")), wanted)
 
     def test_pillow_writes_other_forms_too(self):
         mock.patch.stopall()

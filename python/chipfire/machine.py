@@ -1,0 +1,264 @@
+"""The distributed machine: schedules, replies, books and traces, and what a schedule came to.
+
+docs/CORE.md says what each event does, docs/DETECTOR.md what stands in the books, and docs/TRACES.md what a trace is.
+"""
+
+from __future__ import annotations
+
+import functools
+from collections.abc import Iterable, Sequence
+from dataclasses import dataclass, field
+from typing import Any, NamedTuple
+
+from chipfire.graphs import Graph
+from chipfire.reports import Report
+from chipfire.values import MAX_LIMIT, MAX_VERTICES, FileName, read_rows, rows_text, write
+
+SCHEDULE_HEADER = ("event", "at", "count")
+TRACE_HEADER = ("vertex", "kind", "edge", "count")
+
+#: What each rule says that the reply `not-now N` names; docs/CORE.md has the table.
+RULES = {
+    1: "the vertex or edge is there",
+    2: "the vertex is not the sink",
+    3: "the vertex, or the tail of the edge, is not halted",
+    4: "nothing is pending, nor claimed and not put",
+    5: "it fires at least once",
+    6: "its firings stay within the limit",
+    7: "the chips are there",
+    8: "something is pending on the edge",
+    9: "no claim of the edge was refused",
+    10: "nothing is claimed and not put",
+    11: "the next cell of the edge was seen empty",
+    12: "a message is claimed and not put",
+    13: "there is a cause to halt",
+    14: "something is owed on the edge",
+    15: "something may be acknowledged on it now",
+    16: "the root is closed",
+    17: "the end of feeding is not noted",
+    18: "with so many more, no more than 2^40 chips are given in all",
+}
+
+
+class Event(NamedTuple):
+    """A row of a schedule; docs/CORE.md says what each event does."""
+
+    kind: str
+    at: int
+    count: int = 0  # type: ignore[assignment]
+
+
+class Schedule(list[Event]):
+    """A list of events, with a method for each kind of event that puts one more behind it."""
+
+    def _add(self, kind: str, at: int, count: int = 0) -> Schedule:
+        self.append(Event(kind, at, count))
+        return self
+
+    def take(self, edge: int) -> Schedule:
+        """The head of an edge takes the next message, where there is one."""
+        return self._add("take", edge)
+
+    def ack(self, edge: int) -> Schedule:
+        """The head of an edge acknowledges what it may acknowledge there now."""
+        return self._add("ack", edge)
+
+    def fire(self, vertex: int, count: int = 1) -> Schedule:
+        """A vertex fires so many times in a row."""
+        return self._add("fire", vertex, count)
+
+    def clear(self, edge: int) -> Schedule:  # type: ignore[override]
+        """The tail of an edge looks whether the next cell is empty."""
+        return self._add("clear", edge)
+
+    def claim(self, edge: int) -> Schedule:
+        """The tail of an edge claims the next place for all that is pending."""
+        return self._add("claim", edge)
+
+    def put(self, edge: int) -> Schedule:
+        """The tail of an edge puts the message that it claimed into its cell."""
+        return self._add("put", edge)
+
+    def send(self, edge: int) -> Schedule:
+        """What a tail does to send: clear, claim and put."""
+        return self.clear(edge).claim(edge).put(edge)
+
+    def halt(self, vertex: int) -> Schedule:
+        """A vertex halts, where it has a cause."""
+        return self._add("halt", vertex)
+
+    def settle(self, edge: int) -> Schedule:
+        """The tail of an edge, or the root, looks how many of its messages are acknowledged."""
+        return self._add("settle", edge)
+
+    def seal(self, edge: int) -> Schedule:
+        """Nothing is sent on this edge from now on."""
+        return self._add("seal", edge)
+
+    def read(self, vertex: int) -> Schedule:
+        """The root reads how often a vertex fired, once it is closed."""
+        return self._add("read", vertex)
+
+    def feed(self, edge: int, count: int) -> Schedule:
+        """What the root does to feed chips on one of its edges: clear, feed and put."""
+        return self.clear(edge)._add("feed", edge, count).put(edge)
+
+    def end(self) -> Schedule:
+        """The root notes that nothing more is fed; before that it never closes in a simulation that is `fed`."""
+        return self._add("end", 0)
+
+
+class TraceRow(NamedTuple):
+    """A row of a trace file: what one vertex took ("take") or fired ("fire"); docs/TRACES.md."""
+
+    vertex: int
+    kind: str
+    edge: int
+    count: int  # type: ignore[assignment]
+
+
+class Firing(NamedTuple):
+    """So many firings of a vertex in a row."""
+
+    vertex: int
+    count: int  # type: ignore[assignment]
+
+
+def schedule_text(schedule: Iterable[Sequence[Any]]) -> str:
+    return rows_text(SCHEDULE_HEADER, (Event(*event) for event in schedule))
+
+
+def trace_text(trace: Iterable[Sequence[Any]]) -> str:
+    return rows_text(TRACE_HEADER, (TraceRow(*row) for row in trace))
+
+
+def write_schedule(file: FileName, schedule: Iterable[Sequence[Any]]) -> None:
+    """Writes a schedule: a row for each event, which is a tuple of a kind, an edge or a vertex, and perhaps a count."""
+    write(file, schedule_text(schedule))
+
+
+def read_schedule(file: FileName) -> Schedule:
+    """The events of a schedule."""
+    return Schedule(Event(kind, int(at), int(count)) for kind, at, count in read_rows(file, SCHEDULE_HEADER))
+
+
+def write_trace(file: FileName, trace: Iterable[Sequence[Any]]) -> None:
+    """Writes a trace file: a row for each take and each fire."""
+    write(file, trace_text(trace))
+
+
+def read_trace(file: FileName) -> list[TraceRow]:
+    """The rows of a trace file."""
+    rows = read_rows(file, TRACE_HEADER)
+    return [TraceRow(int(vertex), kind, int(edge), int(count)) for vertex, kind, edge, count in rows]
+
+
+@dataclass(frozen=True)
+class Reply:
+    """The reply to one event of a schedule: `kind` is its first word ("done", "got", "sent", "empty", "full", "sealed"
+    or "not-now"), `numbers` are those behind it."""
+
+    kind: str
+    numbers: tuple[int, ...] = ()
+
+    @property
+    def is_done(self) -> bool:
+        """Whether the event happened: each rule of it was met."""
+        return self.kind != "not-now"
+
+    @property
+    def rule(self) -> str | None:
+        """The first rule that was not met, in words."""
+        return None if self.is_done else RULES[self.numbers[0]]
+
+    def __str__(self) -> str:
+        return " ".join([self.kind, *map(str, self.numbers)])
+
+
+@dataclass(frozen=True)
+class Books:
+    """What an engaged vertex has in its books: its parent edge, how many acknowledgements it waits for, and of each
+    edge on which it owes some, how many."""
+
+    parent: int | None
+    deficit: int
+    owed: dict[int, int]
+
+
+@dataclass(frozen=True)
+class Board:
+    """What stands in all books after an event: the root's deficit, and the books of each engaged vertex."""
+
+    root_deficit: int
+    engaged: dict[int, Books]
+
+    @classmethod
+    def parse(cls, lines: Sequence[str]) -> Board:
+        """The board of its lines: that of the root, and one for each engaged vertex."""
+        return cls(int(lines[0].split()[2]), dict(map(_engaged, lines[1:])))
+
+
+@functools.lru_cache(maxsize=MAX_VERTICES)
+def _engaged(line: str) -> tuple[int, Books]:
+    """A vertex and its books, of their line. Most lines of a board are those of the board before it."""
+    words = line.split()
+    owed = (map(int, word.split(":")) for word in words[7:])
+    return int(words[1]), Books(int(words[3]), int(words[5]), {edge: count for edge, count in owed})
+
+
+@dataclass(frozen=True)
+class Setting:
+    """How a game is set up that a schedule plays: the graph, the chips of each vertex at the start, how often each may
+    fire, how many cells the ring of each edge has, and whether the schedule may feed chips."""
+
+    graph: Graph
+    chips: tuple[int, ...]
+    limit: int = MAX_LIMIT
+    ring: int = 1
+    fed: bool = False
+
+
+@dataclass(frozen=True)
+class Simulation:
+    """What a schedule came to: a reply for each event, the report where the root closed, and a board for each reply
+    where the books were asked for.
+
+    That the root is closed says that all is over. `report.closed` says besides that no limit and no seal stopped a
+    vertex. What was asked stands beside it: the schedule, how many rounds were to follow it, and the setting; and in
+    words what of the schedule nobody wrote, if there is such."""
+
+    replies: tuple[Reply, ...]
+    report: Report | None
+    boards: tuple[Board, ...] = ()
+    schedule: tuple[Event, ...] = field(default=(), compare=False, repr=False)
+    rounds: int = field(default=0, compare=False, repr=False)
+    made_up: str = field(default="", compare=False, repr=False)
+    setting: Setting | None = field(default=None, compare=False, repr=False)
+
+    @classmethod
+    def parse(cls, text: str, graph: Graph | None = None) -> Simulation:
+        """The simulation of a text as the program writes it."""
+        lines = text.splitlines()
+        is_closed = "root closed" in lines[-2:]
+        report = Report.parse(lines[-1], graph) if is_closed else None
+        replies: list[Reply] = []
+        boards: list[list[str]] = []
+        for line in lines[: -2 if is_closed else -1]:
+            if line.startswith(" "):
+                boards[-1].append(line)
+            else:
+                kind, *numbers = line.split()
+                replies.append(Reply(kind, tuple(map(int, numbers))))
+                boards.append([])
+        return cls(tuple(replies), report, tuple(Board.parse(board) for board in boards if board))
+
+    @property
+    def root_closed(self) -> bool:
+        return self.report is not None
+
+    @property
+    def game(self) -> Setting:
+        """The setting, where this simulation is one that `simulate` answered."""
+        if self.setting is None:
+            raise ValueError("this simulation does not know what was asked: take what `simulate` answers")
+        return self.setting

@@ -1,0 +1,211 @@
+"""The program chipfire as a process: where it is, how it is asked, and what it refuses.
+
+What Python has and the program is to read goes into files without names. So nothing is left of them, however Python
+ends, and the program ends with it.
+"""
+
+from __future__ import annotations
+
+import ctypes
+import functools
+import os
+import re
+import shutil
+import signal
+import subprocess
+import sys
+import tempfile
+import warnings
+import weakref
+from collections.abc import Iterable, Mapping, Sequence
+from typing import TYPE_CHECKING, Any, Union
+
+from chipfire.values import HERE, MAX_EDGES, MAX_LARGE_EDGES, MAX_LARGE_VERTICES, MAX_VERTICES, FileName, own_text
+
+if TYPE_CHECKING:
+    from chipfire.graphs import Graph
+
+#: Where the package carries the program if it does, and the repository that it lies in if it does.
+_CARRIED = os.path.join(HERE, "program", "chipfire")
+_REPOSITORY = os.path.dirname(os.path.dirname(HERE))
+#: How a line begins that tells of a long play.
+_PROGRESS = "chipfire: progress: "
+#: The commands that take large graphs, and which of the given files a fault of a number can be of.
+_LARGE = ("check", "plain", "resume")
+_OF_GRAPH, _OF_ROWS = (*range(1, 9), 20, 21, 22), (*range(23, 29), 10)
+#: What makes a process end with the one that started it (PR_SET_PDEATHSIG), where the system has that.
+_LIBC = ctypes.CDLL(None) if sys.platform == "linux" else None
+
+
+class ProgramNotFound(FileNotFoundError):
+    """There is no program chipfire where it was looked for, or it cannot be started."""
+
+
+class TraceCut(UserWarning):
+    """Some vertex took and fired more often than its trace has rows; such a trace may fail to replay."""
+
+
+class Fault(ValueError):
+    """The program refused: what it was given, or what it was to do with it.
+
+    number       the number of the fault, as in `fault 24 Row 3`: 24
+    name         its name: "Row"
+    place        the numbers behind the name: (3,)
+    explanation  what `chipfire explain` says of the number; empty where the program does not say
+    status       the exit status: 1, or 3 where a run was not finished
+    words        which file is meant, or what is wrong with the graph, by the names of its vertices
+    """
+
+    def __init__(
+        self, number: int, name: str, place: tuple[int, ...], explanation: str, status: int, words: str = ""
+    ) -> None:
+        super().__init__(number, name, place, explanation, status, words)
+        self.number, self.name, self.place = number, name, place
+        self.explanation, self.status, self.words = explanation, status, words
+
+    def __str__(self) -> str:
+        line = " ".join(["fault", str(self.number), self.name, *map(str, self.place)])
+        line += f": {self.words}" if self.words else ""
+        # (what is explained of a graph is of its file)
+        is_told = self.number <= 8 and self.words
+        return f"{line}\n{self.explanation}" if self.explanation and not is_told else line
+
+
+class Kept:
+    """A file without a name that the program reads. It goes with this object, and with Python at the latest."""
+
+    def __init__(self, parts: Iterable[bytes]) -> None:
+        file = tempfile.TemporaryFile()
+        file.writelines(parts)
+        file.flush()
+        self.number = file.fileno()
+        weakref.finalize(self, file.close)
+
+
+#: What is meant by a file, and the file, by its name or as it is kept here.
+Input = tuple[str, Union[FileName, Kept]]
+
+
+def _repository() -> str:
+    """The repository that the package was installed from, as `build_wheel.py` noted, or else that it may lie in."""
+    noted = os.path.join(HERE, "repository")
+    return own_text("repository") if os.path.isfile(noted) else _REPOSITORY
+
+
+def version() -> str:
+    """The version: it stands in the program's source, or was noted where the package was installed."""
+    source = os.path.join(_REPOSITORY, "crates", "chip_arguments", "src", "help_texts.rt")
+    if os.path.isfile(source):
+        with open(source, encoding="utf-8") as file:
+            return str(re.findall('VERSION: &str = "(.*)"', file.read())[0])
+    return own_text("version") if os.path.isfile(os.path.join(HERE, "version")) else "unknown"
+
+
+def find_program() -> str:
+    """The program's file; the head of the package says where it is looked for."""
+    named = os.environ.get("CHIPFIRE")
+    if named:
+        return named
+    for place in (_CARRIED, os.path.join(_repository(), "target", "chipfire")):
+        if os.access(place, os.X_OK):
+            return place
+    found = shutil.which("chipfire")
+    if found:
+        return found
+    hint = "./chipfire in the repository builds target/chipfire; name it by the environment variable CHIPFIRE"
+    raise ProgramNotFound(2, f"the program is not found ({hint})", "chipfire")
+
+
+def start_program() -> None:
+    """Becomes the program that the package carries, with the words of this process: the command `chipfire` of pip."""
+    os.execv(_CARRIED, [_CARRIED, *sys.argv[1:]])
+
+
+def ask(
+    program: FileName | None,
+    command: str,
+    inputs: Sequence[Input] = (),
+    options: Mapping[str, Any] | None = None,
+    graph: Graph | None = None,
+    begins: str = '{"chips":[',
+) -> str:
+    """Runs a command, and returns what it writes, which `begins` so; a fault is raised.
+
+    `graph` is the one that the question is about, where Python has it. An option that is None or False is left out, and
+    one that is True has no value.
+    """
+    path = find_program() if program is None else os.fspath(program)
+    options = {"large": command in _LARGE and (graph is None or graph.is_large), **(options or {})}
+    given = {name: value for name, value in options.items() if value is not None and value is not False}
+    words = [command, *(f"--feed={_word(file)}" if kind == "feed" else _word(file) for kind, file in inputs)]
+    words += [f"--{name}" if value is True else f"--{name}={value}" for name, value in given.items()]
+    kept = [file.number for _, file in inputs if isinstance(file, Kept)]
+    status, output, errors = _started([path, *words], kept)
+    if status in (1, 3) and errors and errors[-1].startswith("chipfire: fault "):
+        number, name, *place = errors[-1].split()[2:]
+        told = _started([path, "explain", number])
+        explanation = told[1].strip() if told[0] == 0 else ""
+        where = tuple(map(int, place))
+        raise Fault(int(number), name, where, explanation, status, _meant(int(number), where, words, inputs, graph))
+    if status not in (0, 2, 3) or not output.startswith(begins):
+        raise RuntimeError(f"{path} {command} ended with status {status} and no answer of chipfire: {' '.join(errors)}")
+    if "chipfire: trace cut" in errors:
+        warnings.warn("a vertex took and fired more often than its trace has rows", TraceCut, stacklevel=3)
+    return output
+
+
+def _word(file: FileName | Kept) -> str:
+    """A file as an argument that is no option."""
+    name = f"/dev/fd/{file.number}" if isinstance(file, Kept) else os.fspath(file)
+    return f"./{name}" if name.startswith("-") else name
+
+
+def _meant(
+    number: int, place: tuple[int, ...], words: Sequence[str], inputs: Sequence[Input], graph: Graph | None
+) -> str:
+    """Which of the files a fault is about, by its name, or what is wrong with the graph that Python has."""
+    if number <= 8 and graph is not None:
+        most = (MAX_LARGE_VERTICES, MAX_LARGE_EDGES) if words[0] in _LARGE else (MAX_VERTICES, MAX_EDGES)
+        return graph.wrong(*most)
+    if number == 92:
+        return f"{words[place[0]].removeprefix('--feed=')} cannot be opened, or is also written"
+    kinds = {kind: file for kind, file in inputs if not isinstance(file, Kept) or kind in ("schedule", "trace")}
+    if number in (*_OF_GRAPH, *_OF_ROWS):
+        kinds = {kind: file for kind, file in kinds.items() if (kind == "graph") == (number in _OF_GRAPH)}
+    names = [f"the {kind}" if isinstance(file, Kept) else os.fspath(file) for kind, file in kinds.items()]
+    return f"in {' or '.join(names)}" if names and number <= 52 else ""
+
+
+def _started(words: Sequence[str], kept: Sequence[int] = ()) -> tuple[int, str, list[str]]:
+    """Runs the program to its end. Returns its status, its output, and the lines of its errors.
+
+    What it tells meanwhile of its progress goes to `sys.stderr`.
+    """
+    errors: list[str] = []
+    with tempfile.TemporaryFile("w+", encoding="utf-8", newline="") as output:
+        how: dict[str, Any] = {"stdin": subprocess.DEVNULL, "stdout": output, "stderr": subprocess.PIPE}
+        how |= {"encoding": "utf-8", "errors": "replace", "pass_fds": kept}
+        try:
+            running = subprocess.Popen(words, preexec_fn=functools.partial(_bind, os.getpid()), **how)
+        except (FileNotFoundError, PermissionError) as error:
+            raise ProgramNotFound(error.errno, "no program that can be started", words[0]) from None
+        with running:
+            try:
+                for line in running.stderr or ():
+                    if line.startswith(_PROGRESS):
+                        print(line, end="", file=sys.stderr, flush=True)
+                    else:
+                        errors.append(line.rstrip("\n"))
+            except BaseException:
+                running.kill()
+                raise
+        output.seek(0)
+        return running.returncode, output.read(), errors
+
+
+def _bind(parent: int) -> None:
+    """Said in the new process: it ends when this Python does, however that ends."""
+    if _LIBC is not None:
+        _LIBC.prctl(1, signal.SIGKILL)
+        if os.getppid() != parent:
+            os._exit(1)

@@ -1,0 +1,82 @@
+"""What all modules stand on: limits, whole numbers, files and their rows, and libraries that may be there."""
+
+from __future__ import annotations
+
+import csv
+import importlib
+import operator
+import os
+from collections.abc import Iterable, Iterator, Sequence
+from typing import Any, Union
+
+MAX_VERTICES = 4096
+MAX_EDGES = 65_536
+#: The same of a large graph, which `check`, `plain` and `resume` take.
+MAX_LARGE_VERTICES = 2**20
+MAX_LARGE_EDGES = 2**23
+MAX_MULT = 2**20
+#: The most chips of a game, the most firings of a vertex, and the greatest limit.
+MAX_CHIPS = MAX_LIMIT = 2**40
+
+FileName = Union[str, "os.PathLike[str]"]
+#: What the name of a file is, where it was given in place of what stands in the file.
+FILE = (str, os.PathLike)
+
+HERE = os.path.dirname(os.path.realpath(__file__))
+
+
+def whole(value: Any, what: str, least: int | None = 0, most: int | None = None) -> int:
+    """A whole number of a range: an int, what stands for one, as the numbers of NumPy and Sage do, or a float like 4.0.
+
+    `least` and `most` are the ends of the range, None where it has none there.
+    """
+    try:
+        is_like_one = callable(getattr(value, "is_integer", None)) and value.is_integer()
+        number = int(value) if is_like_one else operator.index(value)
+    except TypeError:
+        raise TypeError(f"{what} is no whole number: {value!r}") from None
+    if least is not None and number < least:
+        raise ValueError(f"{what} is below {least}: {number}")
+    if most is not None and number > most:
+        raise ValueError(f"{what} is above {most}: {number}")
+    return number
+
+
+def library(name: str) -> Any:
+    """A module of a library that need not be there, or None where it is not."""
+    try:
+        return importlib.import_module(name)
+    except ImportError:
+        return None
+
+
+def counted(count: int, word: str) -> str:
+    """So many of something: "1 chip", "4 chips"."""
+    return f"{count:,} {word}" + ("" if count == 1 else "s")
+
+
+def own_text(*names: str) -> str:
+    """The text of a file that belongs to the package."""
+    with open(os.path.join(HERE, *names), encoding="utf-8") as file:
+        return file.read()
+
+
+def write(file: FileName, text: str) -> None:
+    with open(file, "w", encoding="utf-8", newline="") as out:
+        out.write(text)
+
+
+def rows_text(header: Sequence[str], rows: Iterable[Sequence[Any]]) -> str:
+    return "".join(",".join(map(str, row)) + "\n" for row in (header, *rows))
+
+
+def read_rows(file: FileName, header: Sequence[str]) -> Iterator[list[str]]:
+    """The rows of a file of rows. What exactly is wrong with a file, the program tells that reads it."""
+    with open(file, encoding="utf-8-sig", newline="") as text:
+        rows = [row for row in csv.reader(text) if row]
+    if not rows or rows[0] != list(header):
+        raise ValueError(f"{os.fspath(file)} does not begin with {','.join(header)}")
+    for index, row in enumerate(rows[1:]):
+        if len(row) != len(header):
+            raise ValueError(f"{os.fspath(file)}: row {index} has not {len(header)} fields")
+        yield row

@@ -1,0 +1,115 @@
+"""How the package is built: its modules, what it hands on, its signatures and its types."""
+import ast
+import inspect
+import os
+import shutil
+import subprocess
+import sys
+import tempfile
+import unittest
+
+import chipfire
+
+PACKAGE = os.path.dirname(chipfire.__file__)
+MODULES = sorted(name[:-3] for name in os.listdir(PACKAGE) if name.endswith(".py"))
+COMMANDS = ("check", "plain", "run", "simulate", "replay", "resume", "explain", "identity")
+
+#: What somebody writes who has his own code checked.
+USE = """
+import chipfire
+
+grid = chipfire.grid(3, 3)
+chips: dict[int, int] = {4: 9}
+report = chipfire.plain(grid, chips, limit=3, large=True)
+left: tuple[int, ...] = report.chips
+sum_: chipfire.Configuration = report.configuration + grid.max_stable() - 2 * chipfire.identity(grid)
+print(sum_[0] + 1, chipfire.Program().resume(grid, report).total, chipfire.machine.Schedule().take(4).fire(0, 2))
+"""
+
+
+def tree_of(module):
+    with open(f"{PACKAGE}/{module}.py", encoding="utf-8") as file:
+        return ast.parse(file.read())
+
+
+def imported(module):
+    """The modules of the package that one imports anywhere, but where types are checked."""
+    tree = tree_of(module)
+    for node in ast.walk(tree):
+        if isinstance(node, ast.If) and ast.unparse(node.test) == "TYPE_CHECKING":
+            node.body = []
+    for node in ast.walk(tree):
+        if isinstance(node, ast.ImportFrom) and node.module == "chipfire":
+            yield from (it.name if it.name in MODULES else "__init__" for it in node.names)
+        elif isinstance(node, ast.ImportFrom) and node.module.startswith("chipfire."):
+            yield node.module.partition(".")[2]
+        elif isinstance(node, ast.Import):
+            yield from ("__init__" for it in node.names if it.name == "chipfire")
+
+
+class Modules(unittest.TestCase):
+    def test_no_import_goes_in_a_circle(self):
+        below = {module: set(imported(module)) for module in MODULES}
+        self.assertNotIn("__init__", set().union(*below.values()))
+        while below:
+            lowest = {module for module, others in below.items() if not others & below.keys()}
+            self.assertTrue(lowest, below)
+            below = {module: others for module, others in below.items() if module not in lowest}
+
+    def test_the_package_itself_only_hands_on(self):
+        kinds = {type(node) for node in tree_of("__init__").body}
+        self.assertLessEqual(kinds, {ast.Expr, ast.ImportFrom, ast.Assign})
+        self.assertEqual([name for name in chipfire.__all__ if not hasattr(chipfire, name)], [])
+
+    def test_what_is_asked_for_is_all_that_an_import_brings(self):
+        asked = [sys.executable, "-c", "import chipfire, sys; print(*sys.modules)"]
+        environment = {**os.environ, "PYTHONPATH": os.path.dirname(PACKAGE)}
+        brought = subprocess.run(asked, env=environment, stdout=subprocess.PIPE, encoding="utf-8", check=True).stdout
+        unwanted = {"numpy", "scipy", "PIL", "matplotlib", "networkx", "pandas", "importlib.metadata"}
+        self.assertEqual(unwanted & {*brought.split()}, set())
+
+
+class Signatures(unittest.TestCase):
+    def test_the_options_of_each_command_are_told(self):
+        told = {name: list(inspect.signature(getattr(chipfire, name)).parameters) for name in COMMANDS}
+        self.assertEqual(told["plain"], ["graph", "chips", "limit", "large", "progress", "program"])
+        self.assertIn("workers", told["run"])
+        for name in COMMANDS:
+            method = getattr(chipfire.Program("/nowhere"), name)
+            self.assertEqual([*inspect.signature(method).parameters, "program"], told[name], name)
+            self.assertEqual(inspect.getdoc(method), inspect.getdoc(getattr(chipfire, name)))
+
+    def test_no_public_function_hides_its_options(self):
+        for name in chipfire.__all__:
+            value = getattr(chipfire, name)
+            if inspect.isfunction(value):
+                kinds = {it.kind for it in inspect.signature(value).parameters.values()}
+                self.assertNotIn(inspect.Parameter.VAR_KEYWORD, kinds, name)
+                self.assertTrue(inspect.getdoc(value), name)
+
+    def test_a_graph_a_report_and_a_large_configuration_are_one_line(self):
+        grid = chipfire.grid(50, 40)
+        report = chipfire.plain(grid, {820: 900})
+        for value in (grid, report, report.configuration, chipfire.frames(grid, {820: 9}), chipfire.plain(grid, {})):
+            self.assertLess(len(repr(value)), 200)
+            self.assertNotIn("\n", repr(value))
+        # (each square has an edge to each side, but two of those of a corner are one)
+        self.assertEqual(repr(grid), "<Graph of 2001 vertices, 7996 edges, sink 2000>")
+        self.assertIn("2001 vertices", repr(report))
+
+
+@unittest.skipUnless(shutil.which("mypy"), "mypy is not here: Debian's package mypy has it")
+class Types(unittest.TestCase):
+    def test_all_types_hold(self):
+        with tempfile.TemporaryDirectory(prefix="chipfire-python-") as folder:
+            with open(f"{folder}/use.py", "w", encoding="utf-8") as file:
+                file.write(USE)
+            words = ["mypy", "--strict", "--no-color-output", f"--cache-dir={folder}", PACKAGE, f"{folder}/use.py"]
+            environment = {**os.environ, "MYPYPATH": os.path.dirname(PACKAGE)}
+            ran = subprocess.run(words, env=environment, cwd=folder, stdout=subprocess.PIPE, encoding="utf-8")
+        self.assertIn("Success", ran.stdout)
+        self.assertTrue(os.path.isfile(f"{PACKAGE}/py.typed"))
+
+
+if __name__ == "__main__":
+    unittest.main()

@@ -33,8 +33,10 @@ def _read(name):
 
 def version():
     """Returns the version of the program and of the package."""
-    place = next(it for it in VERSIONS if os.path.isfile(it))
-    return re.search(VERSIONS[place], _read(place).decode())[1]
+    for place, pattern in VERSIONS.items():
+        if os.path.isfile(place):
+            return re.search(pattern, _read(place).decode())[1]
+    raise SystemExit(f"chipfire is installed from a checkout of its repository: {SOURCE} has its version, and is not there")
 
 
 def _package():
@@ -65,6 +67,7 @@ def wheel_files(tag, carried):
     is_pure = str(tag == PURE).lower()
     files = {
         **{name: _read(name) for name in _package()},
+        "chipfire/version": version().encode(),
         **carried,
         f"{info}/METADATA": _metadata(),
         f"{info}/WHEEL": f"Wheel-Version: 1.0\nGenerator: chipfire\nRoot-Is-Purelib: {is_pure}\nTag: {tag}\n".encode(),

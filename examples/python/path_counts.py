@@ -10,4 +10,5 @@ import chipfire
 for n in range(1, 9):
     middle = n
     report = chipfire.plain(chipfire.path(2 * n + 1), {middle: 2 * n + 1})
-    print(f"{2 * n + 1} chips: {sum(report.fired)} firings, {' '.join(map(str, report.fired[:-1]))}")
+    firings = f"{sum(report.fired)} firing{'s' if n > 1 else ''}"
+    print(f"{2 * n + 1} chips: {firings}, {' '.join(map(str, report.fired[:-1]))}")

@@ -100,7 +100,6 @@ class Configuration(Drawn, Mapping[Hashable, int]):
 
     def order(self) -> int:
         """How many times it is added to itself until that is equivalent to no chips. Nothing of this is proved."""
-        self.graph.require()
         return smith.order_of(smith.reduced(self.graph), dict(enumerate(self.numbers)))
 
     def _values(self, of: str) -> Sequence[int]:

@@ -314,7 +314,7 @@ class Graph:
                 return tuple(found)
         except (OverflowError, TypeError):
             pass
-        return tuple(whole(it, f"the chips of vertex {name!r}", least) for name, it in zip(self.names, rows))
+        return tuple(whole(it, f"the number of chips of vertex {name!r}", least) for name, it in zip(self.names, rows))
 
     def _by_names(self, values: Mapping[Hashable, Any], least: int | None) -> tuple[int, ...]:
         found = [0] * self.vertices
@@ -324,7 +324,7 @@ class Graph:
             if vertex in named:
                 raise ValueError(f"vertex {name!r} is named twice")
             named.add(vertex)
-            found[vertex] = whole(count, f"the chips of vertex {name!r}", least)
+            found[vertex] = whole(count, f"the number of chips of vertex {name!r}", least)
         return tuple(found)
 
     def _by_squares(self, rows: list[list[Any]]) -> list[Any]:

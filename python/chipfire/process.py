@@ -32,6 +32,7 @@ _REPOSITORY = os.path.dirname(os.path.dirname(HERE))
 _PROGRESS = "chipfire: progress: "
 #: The commands that take large graphs, and which of the given files a fault of a number can be of.
 _LARGE = ("check", "plain", "resume")
+_LIMITS = (MAX_VERTICES, MAX_EDGES, 2**24), (MAX_LARGE_VERTICES, MAX_LARGE_EDGES, 2**28)
 _OF_GRAPH, _OF_ROWS = (*range(1, 9), 20, 21, 22), (*range(23, 29), 10)
 #: What makes a process end with the one that started it (PR_SET_PDEATHSIG), where the system has that.
 _LIBC = ctypes.CDLL(None) if sys.platform == "linux" else None
@@ -66,9 +67,10 @@ class Fault(ValueError):
     def __str__(self) -> str:
         line = " ".join(["fault", str(self.number), self.name, *map(str, self.place)])
         line += f": {self.words}" if self.words else ""
-        # (what is explained of a graph is of its file)
-        is_told = self.number <= 8 and self.words
-        return f"{line}\n{self.explanation}" if self.explanation and not is_told else line
+        # (what is explained is of files and of a shell: of limits, of --large and of options that Python calls otherwise)
+        told = re.sub(r"[^.]*--large`[^.]*\.", "", self.explanation)
+        told = re.sub(r"--([a-z-]+)", lambda option: option[1].replace("-", "_"), told)
+        return f"{line}\n{told}" if told and not self.words.endswith(".") else line
 
 
 class Kept:
@@ -164,9 +166,11 @@ def _meant(
     number: int, place: tuple[int, ...], words: Sequence[str], inputs: Sequence[Input], graph: Graph | None
 ) -> str:
     """Which of the files a fault is about, by its name, or what is wrong with the graph that Python has."""
+    vertices, edges, size = _LIMITS[words[0] in _LARGE]
     if number <= 8 and graph is not None:
-        most = (MAX_LARGE_VERTICES, MAX_LARGE_EDGES) if words[0] in _LARGE else (MAX_VERTICES, MAX_EDGES)
-        return graph.wrong(*most)
+        return f"{graph.wrong(vertices, edges)}."
+    if number in (1, 3, 30):
+        return f"{words[0]} takes 1 to {vertices} vertices, up to {edges} edges, and files of up to {size} bytes."
     if number == 92:
         return f"{words[place[0]].removeprefix('--feed=')} cannot be opened, or is also written"
     kinds = {kind: file for kind, file in inputs if not isinstance(file, Kept) or kind in ("schedule", "trace")}

@@ -201,9 +201,7 @@ def invariant_factors(graph: AnyGraph) -> tuple[int, ...]:
     by 50 some four.
     Nothing of this is proved, and the program is not asked.
     """
-    graph = known_graph(graph)
-    graph.require()
-    return tuple(smith.invariant_factors(smith.reduced(graph)))
+    return tuple(smith.invariant_factors(smith.reduced(known_graph(graph))))
 
 
 def order(graph: AnyGraph) -> int:
@@ -213,9 +211,7 @@ def order(graph: AnyGraph) -> int:
     the determinant of the reduced Laplacian, and as exact as the invariant factors, whose product it is.
     Nothing of this is proved, and the program is not asked.
     """
-    graph = known_graph(graph)
-    graph.require()
-    return smith.order(smith.reduced(graph))
+    return smith.order(smith.reduced(known_graph(graph)))
 
 
 @dataclass(frozen=True)

@@ -63,12 +63,20 @@ class Scripts(unittest.TestCase):
         self.assertEqual(colours, [position[side * row : side * row + side] for row in range(side)])
         self.assertEqual(said, f"{file_name}: {side} by {side}, {firings} firings, {position[-1]} chips lost\n")
 
+    def test_a_picture_tells_how_it_is_asked_for(self):
+        for words, said in [([], "usage: picture.py"), (["0", "9", "a.png"], "the width is below 1: 0"),
+                            (["9", "-9", "a.png"], "below 0: -9"), (["9", "9", "a.xyz"], "a.xyz")]:
+            ran = subprocess.run([sys.executable, f"{SCRIPTS}/picture.py", *words], capture_output=True, encoding="utf-8")
+            self.assertEqual((ran.returncode, "Traceback" in ran.stderr), (2, False))
+            self.assertIn(said, ran.stderr)
+        self.assertIn("Drops a heap of chips", script("picture.py", "--help"))
+
     def test_the_path_fires_as_the_theorem_says(self):
         lines = []
         for n in range(1, 9):
             counts = [(n - abs(at)) * (n - abs(at) + 1) // 2 for at in range(-n, n + 1)]
             squares = sum(number * number for number in range(1, n + 1))
-            lines.append(f"{2 * n + 1} chips: {squares} firings, {' '.join(map(str, counts))}")
+            lines.append(f"{2 * n + 1} chips: {squares} firing{'s' * (n > 1)}, {' '.join(map(str, counts))}")
         self.assertEqual(script("path_counts.py").splitlines(), lines)
 
     def test_the_early_acknowledgements_are_refused_as_the_slow_simulation_says(self):

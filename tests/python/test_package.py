@@ -4,13 +4,17 @@ The triangle has edges 0 to 1, 0 to the sink 2, 1 to 0 and 1 to the sink. Its pl
 its schedules in examples/detector/README.md, and examples/ has the files that are compared here.
 """
 import contextlib
+import gc
 import io
 import json
 import os
+import pickle
 import shutil
+import signal
 import subprocess
 import sys
 import tempfile
+import time
 import unittest
 from unittest import mock
 
@@ -188,6 +192,30 @@ class Sittings(WithFolder):
         edges = tuple(reversed(TRIANGLE.edges))
         named = chipfire.plain(chipfire.Graph(3, 2, edges, ["a", "b", "out"]), {"a": 5}, limit=1)
         self.assertEqual(chipfire.resume(TRIANGLE_FILE, named).total, (3, 1, 0))
+
+    def test_a_report_that_no_play_on_the_graph_can_have(self):
+        chipfire.plain(chipfire.grid(4, 3), {5: 200, 0: 9}).write(self.file("report.json"))
+        for graph in (chipfire.grid(3, 4), chipfire.grid(2, 6), chipfire.grid(12, 1), chipfire.path(12)):
+            with self.assertRaisesRegex(ValueError, "another graph"):
+                chipfire.Report.read(self.file("report.json"), graph)
+            with self.assertRaisesRegex(ValueError, "another graph"):
+                chipfire.resume(graph, chipfire.Report.read(self.file("report.json")))
+        # (worked by hand: nobody fired, so only who could fire tells that it is none of this graph)
+        for chips, over, fits in [((2, 0, 0), (), False), ((2, 0, 0), (0,), True), ((1, 1, 9), (), True)]:
+            self.assertEqual(chipfire.Report(chips, (0, 0, 0), over).fits(TRIANGLE), fits)
+        # (0 fired once and 1 has not got its chip: it would have begun with -1)
+        self.assertFalse(chipfire.Report((0, 0, 1), (1, 0, 0)).fits(TRIANGLE))
+        for name in ("first", "second", "third"):
+            chipfire.Report.read(f"{EXAMPLES}/sittings/{name}.json", TRIANGLE)
+        sealed = chipfire.simulate(TRIANGLE, [5, 0, 0], chipfire.Schedule().seal(1), rounds=10).report
+        sealed.write(self.file("report.json"))
+        self.assertEqual(chipfire.Report.read(self.file("report.json"), TRIANGLE), sealed)
+
+    def test_reports_of_two_graphs_are_not_equal(self):
+        wide, high = (chipfire.plain(chipfire.grid(*size), {}) for size in ((4, 3), (3, 4)))
+        self.assertNotEqual(wide, high)
+        self.assertEqual(wide, chipfire.Report((0,) * 13, (0,) * 13))
+        self.assertNotEqual(wide, chipfire.Report((0,) * 13, (0,) * 12 + (1,)))
 
     def test_a_report_whose_lists_do_not_fit(self):
         start = {"graph": TRIANGLE, "chips": (3, 1, 1), "fired": (1, 0, 0), "over": (0,)}
@@ -388,6 +416,179 @@ class Refusals(WithFolder):
             self.assertEqual(self.refused(chipfire.plain, TRIANGLE, [2**40, many, 0]).number, 10)
 
 
+class Mistakes(WithFolder):
+    """Each mistake has one exception, in the words of who made it."""
+
+    def test_a_file_that_is_no_good_is_one_fault_however_the_chips_come(self):
+        bad, none = self.file("bad.json", "{"), self.file("none.json")
+        for name, number, said in [(bad, 20, "in .*bad.json"), (none, 92, "none.json cannot be opened")]:
+            calls = [(chipfire.check, ()), (chipfire.identity, ()), (chipfire.order, ()), (chipfire.resume, (CHIPS_FILE,))]
+            for chips in (CHIPS_FILE, {0: 1}, [1, 0, 0], 1):
+                calls += [(chipfire.plain, (chips,)), (chipfire.is_recurrent, (chips,)), (chipfire.frames, (chips,))]
+                calls += [(chipfire.run, (chips,)), (chipfire.simulate, (chips, [])), (chipfire.replay, (chips, []))]
+            for call, others in calls:
+                with self.subTest(call=call.__name__, chips=others), self.assertRaisesRegex(chipfire.Fault, said) as caught:
+                    call(name, *others)
+                self.assertEqual(caught.exception.number, number)
+
+    def test_the_file_of_rows_is_named(self):
+        wrong = self.file("wrong.csv", "no,header\n")
+        for call, arguments, said in [
+            (chipfire.plain, (TRIANGLE, wrong), f"in {wrong}"),
+            (chipfire.simulate, (TRIANGLE, CHIPS_FILE, wrong), f"in {CHIPS_FILE} or {wrong}"),
+            (chipfire.simulate, (TRIANGLE, {}, wrong), f"in {wrong}"),
+            (chipfire.simulate, (TRIANGLE, {}, [("jump", 0)]), "in the schedule"),
+            (chipfire.replay, (TRIANGLE, {}, [(7, "take", 0, 1)]), "in the trace"),
+            (chipfire.resume, (TRIANGLE, wrong), f"in {wrong}"),
+        ]:
+            with self.subTest(said), self.assertRaises(chipfire.Fault) as caught:
+                call(*arguments)
+            self.assertEqual(caught.exception.words, said)
+        with self.assertRaises(chipfire.Fault) as caught:
+            chipfire.run(TRIANGLE, {}, feed=wrong)
+        self.assertEqual((caught.exception.number, caught.exception.words), (23, f"in {wrong}"))
+
+    def test_vertices_are_called_by_their_names(self):
+        for edges, said in [
+            ([("a", "b"), ("b", "a")], "no walk leads to the sink from 2 of the vertices: 'a', 'b'"),
+            ([("a", "out"), ("b", "b")], "the edge from 'b' to 'b'"), ([("a", "out"), ("out", "b")], "'out' to 'b'"),
+        ]:
+            names = ["a", "b", "out"]
+            graph = chipfire.Graph(3, 2, [tuple(map(names.index, edge)) for edge in edges], names)
+            for call, more in [(chipfire.check, ()), (chipfire.plain, ({},)), (chipfire.run, ({},)), (chipfire.order, ()),
+                               (chipfire.identity, ()), (chipfire.is_recurrent, ({},)), (chipfire.is_stable, ({},)),
+                               (chipfire.simulate, ({}, [])), (chipfire.burning_script, ()),
+                               (lambda it: list(chipfire.recurrents(it)), ()), (chipfire.laplacian, ())]:
+                with self.subTest(said, call=call), self.assertRaisesRegex(ValueError, said):
+                    call(graph, *more)
+
+    def test_no_option_of_a_shell_is_spoken_of(self):
+        report = self.file("report.json", "[]")
+        large = chipfire.Graph(2**20 + 1, 0, [])
+        for call, arguments in [(chipfire.check, (large,)), (chipfire.plain, (TRIANGLE, {0: 2**41})),
+                                (chipfire.resume, (TRIANGLE, report)), (chipfire.check, (self.file("none"),))]:
+            with self.assertRaises(chipfire.Fault) as caught:
+                call(*arguments)
+            self.assertNotIn("--", str(caught.exception))
+        self.assertIn("1048577 vertices, and 1048576 at most", str(self.fault(chipfire.check, large)))
+        few = self.file("few.json", '{"edges":[],"sink":0,"version":1,"vertices":0}')
+        self.assertIn("check takes 1 to 1048576 vertices", str(self.fault(chipfire.check, few)))
+        self.assertIn("run takes 1 to 4096 vertices", str(self.fault(chipfire.run, few, self.file("c", "vertex,chips\n"))))
+
+    def fault(self, call, *arguments):
+        with self.assertRaises(chipfire.Fault) as caught:
+            call(*arguments)
+        return caught.exception
+
+    def test_an_option_out_of_its_range_is_named(self):
+        for name, wrong in [("limit", (-1, 2**40 + 1)), ("ring", (0, 65)), ("workers", (0, 65)), ("turns", (0, 2**40 + 1)),
+                            ("trace_rows", (-1, 2**20 + 1)), ("rounds", (-1, 2**40 + 1))]:
+            call = (lambda **it: chipfire.simulate(TRIANGLE, {}, [], **it)) if name == "rounds" else (
+                lambda **it: chipfire.run(TRIANGLE, {}, **it))
+            for value in wrong:
+                with self.subTest(name), self.assertRaisesRegex(ValueError, f"^{name.replace('_', '.')} is (above|below)"):
+                    call(**{name: value})
+            for value in (1.5, "1"):
+                with self.subTest(name), self.assertRaisesRegex(TypeError, f"^{name.replace('_', '.')} is no whole"):
+                    call(**{name: value})
+        for call in (chipfire.plain, chipfire.resume, chipfire.replay):
+            with self.assertRaisesRegex(ValueError, "^limit is above"):
+                call(TRIANGLE, *({"resume": [chipfire.plain(TRIANGLE, {})], "replay": [{}, []]}.get(call.__name__, [{}])),
+                     limit=2**41)
+
+    def test_what_is_no_graph_at_all(self):
+        for value in (None, 3, {0: [1]}):
+            for call in (chipfire.check, chipfire.order, lambda it: chipfire.plain(it, {}), chipfire.identity):
+                with self.subTest(value), self.assertRaisesRegex(TypeError, "a graph is a chipfire.Graph or the name"):
+                    call(value)
+
+    def test_a_program_that_is_another_one(self):
+        for program in ("/bin/true", "/bin/echo", self.program("exit 7")):
+            for call in (lambda **it: chipfire.plain(TRIANGLE, {}, **it), lambda **it: chipfire.check(TRIANGLE, **it),
+                         lambda **it: chipfire.is_recurrent(TRIANGLE, {}, **it)):
+                with self.subTest(program), self.assertRaisesRegex(RuntimeError, "no answer of chipfire"):
+                    call(program=program)
+
+    def test_families_have_sizes(self):
+        for call, sizes in [(chipfire.grid, (-2, -3)), (chipfire.grid, (0, 3)), (chipfire.grid, (3, 0)), (chipfire.path, (0,)),
+                            (chipfire.cycle, (2,)), (chipfire.torus, (2, 3)), (chipfire.complete, (0,)),
+                            (chipfire.wheel, (3,)), (chipfire.aztec, (0,)), (chipfire.region, ([],)),
+                            (chipfire.region, ([[0, 0]],)), (chipfire.region, ([[1], [1, 1]],))]:
+            with self.subTest(call.__name__, sizes=sizes), self.assertRaises(ValueError):
+                call(*sizes)
+        with self.assertRaisesRegex(ValueError, "no lattice is named 'round'"):
+            chipfire.region([[1]], "round")
+
+    def test_a_graph_is_never_changed(self):
+        with self.assertRaisesRegex(AttributeError, "never changed"):
+            TRIANGLE.sink = 0
+
+
+class Killed(WithFolder):
+    """Whatever becomes of Python, no program goes on and no file is left."""
+
+    PLAY = ("import chipfire, threading\ng = chipfire.grid(9, 9)\n"
+            "play = lambda: chipfire.plain(g, {0: 4}, program='%s')\n%s")
+
+    def begun(self, how):
+        """A Python that plays, and the process of its program, which does not end by itself."""
+        program = self.program(f"echo $$ >{self.file('part')} && mv {self.file('part')} {self.file('pid')}; exec sleep 60")
+        os.mkdir(self.file("temporary"))
+        environment = {**os.environ, "TMPDIR": self.file("temporary")}
+        python = subprocess.Popen([sys.executable, "-c", self.PLAY % (program, how)], env=environment,
+                                  stderr=subprocess.DEVNULL)
+        self.addCleanup(python.wait)
+        self.addCleanup(python.kill)
+        self.wait(lambda: os.path.exists(self.file("pid")))
+        return python, int(text_of(self.file("pid")))
+
+    def wait(self, is_so):
+        for _ in range(500):
+            if is_so():
+                return
+            time.sleep(0.02)
+        self.fail("it took more than ten seconds")
+
+    @staticmethod
+    def is_running(process):
+        try:
+            with open(f"/proc/{process}/stat", encoding="ascii") as file:
+                return file.read().rpartition(")")[2].split()[0] != "Z"
+        except (FileNotFoundError, ProcessLookupError):
+            return False
+
+    @unittest.skipUnless(sys.platform == "linux", "only Linux tells a process that its parent ended")
+    def test_the_program_ends_with_python_and_leaves_no_file(self):
+        for sent in (signal.SIGTERM, signal.SIGKILL, signal.SIGINT):
+            for how in ("play()", "threading.Thread(target=play).start()"):
+                if sent == signal.SIGINT and how != "play()":
+                    continue
+                with self.subTest(sent, how=how):
+                    python, process = self.begun(how)
+                    self.assertTrue(self.is_running(process))
+                    python.send_signal(sent)
+                    self.wait(lambda: not self.is_running(process))
+                    python.wait(10)
+                    self.assertEqual(os.listdir(self.file("temporary")), [])
+                    for name in ("temporary", "pid"):
+                        os.rmdir(self.file(name)) if name == "temporary" else os.remove(self.file(name))
+
+    def test_a_graph_is_written_once_and_goes_with_the_object(self):
+        graph, count = chipfire.grid(4, 4), lambda: len(os.listdir("/dev/fd"))
+        chipfire.is_recurrent(chipfire.path(2), {})
+        before = count()
+        for _ in range(9):
+            chipfire.is_recurrent(graph, graph.max_stable())
+        self.assertEqual(count(), before + 1)
+        with mock.patch.object(chipfire.Graph, "_parts", side_effect=AssertionError):
+            chipfire.plain(graph, {0: 9})
+        copy = pickle.loads(pickle.dumps(graph))
+        self.assertEqual((copy, copy.shape, chipfire.plain(copy, {0: 9}).fired[0]), (graph, (4, 4), 2))
+        del graph, copy
+        gc.collect()
+        self.assertEqual(count(), before)
+
+
 class Checks(unittest.TestCase):
     def test_the_triangle(self):
         self.assertEqual(chipfire.check(TRIANGLE), chipfire.Check(3, 4, 2, (2, 2, 0), (1, 1, 0)))
@@ -425,13 +626,16 @@ class Finding(WithFolder):
         for folder in ("python", source):
             shutil.copytree(f"{ROOT}/{folder}", f"{clone}/{folder}")
         words = [sys.executable, "-m", "pip", "install", "--quiet", "--no-index", "--disable-pip-version-check"]
+        shutil.copytree(f"{ROOT}/python", self.file("alone"))
+        ran = subprocess.run([*words, "--target", self.folder, self.file("alone")], capture_output=True, encoding="utf-8")
+        self.assertIn("chipfire is installed from a checkout of its repository", ran.stderr)
         subprocess.run([*words, "--target", self.folder, f"{clone}/python"], check=True, stderr=subprocess.DEVNULL)
         os.mkdir(f"{clone}/target")
         os.symlink(os.environ["CHIPFIRE"], f"{clone}/target/chipfire")
-        ask = "import chipfire; print(chipfire.__file__, chipfire.plain(chipfire.path(1), [3, 0]).fired)"
+        ask = "import chipfire; print(chipfire.__file__, chipfire.__version__, chipfire.plain(chipfire.path(1), [3]).fired)"
         environment = {"PATH": "", "PYTHONPATH": self.folder, "PYTHONDONTWRITEBYTECODE": "1"}
         ran = subprocess.run([sys.executable, "-c", ask], env=environment, capture_output=True, encoding="utf-8")
-        self.assertEqual(ran.stdout, f"{self.folder}/chipfire/__init__.py (1, 0)\n")
+        self.assertEqual(ran.stdout, f"{self.folder}/chipfire/__init__.py {chipfire.__version__} (1, 0)\n")
         files = [TRIANGLE_FILE, CHIPS_FILE, f"{EXAMPLES}/triangle/trace.csv"]
         words = [sys.executable, "-m", "chipfire", "page", *files]
         ran = subprocess.run(words, env=environment, cwd=self.folder, capture_output=True, encoding="utf-8")

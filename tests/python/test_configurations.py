@@ -1,0 +1,320 @@
+"""Chips as arrays and as configurations, and what is asked of these: against hand, and against model.py beside this."""
+import collections
+import importlib
+import itertools
+import json
+import random
+import tempfile
+import unittest
+
+import chipfire
+import model
+from test_sandpile_words import DIRECTED, random_graph
+from test_sandpiles import CASES, has
+
+GRID = chipfire.grid(3, 2)
+#: On GRID, where each square has one number more than the one before it.
+ROWS = [[0, 1, 2], [3, 4, 5]]
+#: A region of four squares, the sink round it, with squares that are none: numbered by rows.
+TEE = chipfire.region([[1, 1, 1], [0, 1, 0]])
+
+
+def inner(graph, numbers):
+    """Chips by numbers of vertices, but without the sink."""
+    return [count for vertex, count in enumerate(numbers) if vertex != graph.sink]
+
+
+def full(graph, numbers):
+    """Chips without the sink, with a 0 for it."""
+    return [*numbers[: graph.sink], 0, *numbers[graph.sink :]]
+
+
+class Forms(unittest.TestCase):
+    """One and the same chips in all forms."""
+
+    def test_rows_flat_and_by_names_are_the_same(self):
+        wanted = (0, 1, 2, 3, 4, 5, 0)
+        for chips in (ROWS, tuple(map(tuple, ROWS)), list(range(6)), range(6), [*range(6), 0], iter(range(6)),
+                      {v: v for v in range(6)}, chipfire.Configuration(GRID, ROWS), [0.0, 1.0, 2.0, 3, 4, 5],
+                      chipfire.Report((0, 1, 2, 3, 4, 5, 0), (0,) * 7)):
+            self.assertEqual(GRID.chips(chips), wanted)
+        self.assertEqual(GRID.chips([*range(6), 8]), (0, 1, 2, 3, 4, 5, 8))
+
+    def test_one_number_is_that_of_all_but_the_sink(self):
+        self.assertEqual(GRID.chips(4), (4,) * 6 + (0,))
+        self.assertEqual(chipfire.torus(3, 3).chips(2), (0,) + (2,) * 8)
+        self.assertEqual(chipfire.torus(3, 3).chips([1] * 8), (0,) + (1,) * 8)
+
+    def test_the_square_of_a_sink_counts_for_nothing(self):
+        self.assertEqual(chipfire.torus(3, 3).chips([[9, 1, 1], [1, 1, 1], [1, 1, 1]]), (0,) + (1,) * 8)
+
+    def test_a_region_has_its_squares_in_rows(self):
+        self.assertEqual(TEE.chips([[5, 6, 7], [0, 8, 0]]), (5, 6, 7, 8, 0))
+        with self.assertRaisesRegex(ValueError, "a square that is no vertex"):
+            TEE.chips([[5, 6, 7], [1, 8, 0]])
+
+    def test_what_does_not_fit_is_refused(self):
+        for chips in ([[0, 1], [2, 3], [4, 5]], [[0, 1, 2]], [[0, 1, 2], [3, 4]], [[]], range(5), range(8), [], -1, [0, -1] * 3):
+            with self.subTest(chips=chips), self.assertRaises(ValueError):
+                GRID.chips(chips)
+        for chips in (0.5, [0.5] * 6, ["1"] * 6, None, [[0, 1, 2], [3, 4, None]], {0: 0.5}, float("inf"), float("nan")):
+            with self.subTest(chips=chips), self.assertRaises((TypeError, ValueError, OverflowError)):
+                GRID.chips(chips)
+        with self.assertRaisesRegex(ValueError, "shape None"):
+            chipfire.cycle(4).chips([[1, 2], [3, 4]])
+
+    @unittest.skipUnless(has("numpy"), "NumPy is not here")
+    def test_arrays_of_numpy(self):
+        import numpy
+
+        array = numpy.array(ROWS)
+        for chips in (array, array.astype(float), array.astype("int8"), array.ravel(), numpy.append(array.ravel(), 0)):
+            self.assertEqual(GRID.chips(chips), (0, 1, 2, 3, 4, 5, 0))
+        self.assertEqual(GRID.chips(numpy.int64(3)), (3,) * 6 + (0,))
+        mask = numpy.array([[True, True, True], [False, True, False]])
+        self.assertEqual(chipfire.region(mask), TEE)
+        for chips in (array.T, array[:1], numpy.zeros((2, 3, 1)), array + 0.5, -array):
+            with self.assertRaises((TypeError, ValueError)):
+                GRID.chips(chips)
+
+    @unittest.skipUnless(has("numpy"), "NumPy is not here")
+    def test_what_an_array_gives_goes_back_in(self):
+        for graph in (GRID, TEE, chipfire.grid(1, 5), chipfire.torus(4, 3), chipfire.path(3)):
+            report = chipfire.plain(graph, 5)
+            self.assertEqual(report.array().shape, graph.shape)
+            self.assertEqual(chipfire.Configuration(graph, report.array()), report.configuration)
+            self.assertEqual(chipfire.Configuration(graph, report.array("odometer")), report.odometer)
+            self.assertEqual(report.configuration.array().tolist(), report.array().tolist())
+        self.assertEqual(chipfire.Configuration(TEE, [1, 2, 3, 4]).array().tolist(), [[1, 2, 3], [0, 4, 0]])
+        # (the sink of a torus is a square, and has no height)
+        self.assertEqual(chipfire.plain(chipfire.torus(3, 3), 5).array()[0, 0], 0)
+
+
+class Arithmetic(unittest.TestCase):
+    def test_sums_differences_and_multiples(self):
+        one, other = chipfire.Configuration(GRID, ROWS), GRID.max_stable()
+        self.assertEqual((one + other).numbers, (3, 4, 5, 6, 7, 8, 0))
+        self.assertEqual((one - other).numbers, (-3, -2, -1, 0, 1, 2, 0))
+        self.assertEqual((3 * one).numbers, (one * 3).numbers)
+        self.assertEqual((one * -2).numbers, (0, -2, -4, -6, -8, -10, 0))
+        self.assertEqual((-one).numbers, (0, -1, -2, -3, -4, -5, 0))
+        for more in (1, [1] * 6, {v: 1 for v in range(6)}, [[1, 1, 1], [1, 1, 1]]):
+            self.assertEqual(((one + more).numbers, (more + one).numbers), ((1, 2, 3, 4, 5, 6, 0),) * 2)
+            self.assertEqual((more - one).numbers, (1, 0, -1, -2, -3, -4, 0))
+        self.assertEqual((one.degree, len(one), one[5]), (15, 6, 5))
+        with self.assertRaises(TypeError):
+            one * 0.5
+
+    def test_it_is_a_mapping_by_names_without_the_sink(self):
+        graph = chipfire.Graph(3, 1, [(0, 1), (2, 1)], ["a", "out", "b"])
+        found = chipfire.Configuration(graph, {"b": 4, "out": 9})
+        self.assertEqual((dict(found), list(found), found.numbers), ({"a": 0, "b": 4}, ["a", "b"], (0, 0, 4)))
+        self.assertEqual(found, {"b": 4, "a": 0})
+        self.assertNotEqual(found, {"b": 4})
+        self.assertEqual(len({found, chipfire.Configuration(chipfire.Graph(3, 1, graph.edges, graph.names), [0, 4])}), 1)
+        self.assertEqual(repr(found), "{'a': 0, 'b': 4}")
+        for name in ("out", "c"):
+            with self.assertRaises(KeyError):
+                found[name]
+            self.assertNotIn(name, found)
+
+    @unittest.skipUnless(has("numpy"), "NumPy is not here")
+    def test_arrays_are_added_on_both_sides(self):
+        import numpy
+
+        one = chipfire.Configuration(GRID, ROWS)
+        for found in (one + numpy.array(ROWS), numpy.array(ROWS) + one):
+            self.assertEqual(found.numbers, (0, 2, 4, 6, 8, 10, 0))
+
+    def test_what_it_is_asked_is_what_the_functions_answer(self):
+        most = TEE.max_stable()
+        self.assertEqual((most.is_stable(), most.is_recurrent(), most.is_superstable()), (True, True, False))
+        self.assertEqual((2 * most).stabilize().numbers[:4], tuple(model.stabilized(TEE, [6, 6, 6, 6, 0])[0][:4]))
+        self.assertFalse((most + {0: 1}).is_stable() or (most + {0: 1}).is_recurrent())
+        self.assertFalse((-1 * most).is_recurrent() or (-1 * most).is_superstable())
+
+
+class Less(unittest.TestCase):
+    """Chips below 0."""
+
+    def test_representatives_of_directed_graphs(self):
+        draw = random.Random(19)
+        for how, graph in [*DIRECTED.items(), ("a grid", GRID), ("a cycle", chipfire.cycle(4))]:
+            recurrent, superstable = set(map(tuple, chipfire.recurrents(graph))), model.superstables(graph)
+            for _ in range(4):
+                chips = full(graph, [draw.randint(-30, 9) for _ in range(graph.vertices - 1)])
+                with self.subTest(how, chips=chips):
+                    found = chipfire.superstable_representative(graph, chips)
+                    self.assertTrue(model.are_equivalent(graph, chips, found.numbers))
+                    self.assertIn(tuple(inner(graph, found.numbers)), superstable)
+                    found = chipfire.recurrent_representative(graph, chips)
+                    self.assertTrue(model.are_equivalent(graph, chips, found.numbers))
+                    self.assertTrue(found.is_recurrent() and found.is_stable())
+            self.assertEqual(len(recurrent), len({tuple(it) for it in recurrent}))
+
+    def test_they_are_not_played(self):
+        for call in (chipfire.plain, chipfire.stabilize):
+            with self.assertRaisesRegex(ValueError, "vertex 2.* below 0"):
+                call(GRID, [0, 0, -1, 0, 0, 0])
+        with self.assertRaisesRegex(ValueError, "superstable_representative"):
+            (GRID.max_stable() - 4).stabilize()
+
+    def test_much_less_is_as_good(self):
+        far = chipfire.Configuration(chipfire.cycle(3), {1: -(2**30), 2: 5})
+        found = chipfire.superstable_representative(far.graph, far)
+        self.assertTrue(model.are_equivalent(far.graph, far.numbers, found.numbers))
+        # (the cycle of three has three superstable configurations: none, and one chip on either)
+        self.assertIn(tuple(found.values()), {(0, 0), (0, 1), (1, 0)})
+
+
+class All(unittest.TestCase):
+    def test_all_superstable_and_all_recurrent_ones(self):
+        for how, graph in [*DIRECTED.items(), ("a grid", chipfire.grid(2, 2)), ("a tee", TEE), ("K5", chipfire.complete(5))]:
+            with self.subTest(how):
+                found = [tuple(it.values()) for it in chipfire.superstables(graph)]
+                self.assertEqual((set(found), len(found)), (model.superstables(graph), len(set(found))))
+                most = tuple(graph.max_stable().values())
+                wanted = {tuple(map(int.__sub__, most, it)) for it in found}
+                self.assertEqual({tuple(it.values()) for it in chipfire.recurrents(graph)}, wanted)
+                self.assertTrue(all(it.is_recurrent() for it in itertools.islice(chipfire.recurrents(graph), 5)))
+
+    def test_parking_functions_are_counted_by_cayley(self):
+        for n in range(2, 7):
+            self.assertEqual(sum(1 for _ in chipfire.superstables(chipfire.complete(n))), n ** (n - 2))
+
+
+class Groups(unittest.TestCase):
+    def test_the_order_of_an_element(self):
+        draw = random.Random(23)
+        graphs = [*DIRECTED.values(), GRID, TEE, chipfire.cycle(12), chipfire.complete(5), random_graph(draw, 7, 9)]
+        for graph in graphs:
+            for _ in range(5):
+                chips = full(graph, [draw.randint(-3, 5) for _ in range(graph.vertices - 1)])
+                script = model.script_between(graph, chips, [0] * graph.vertices)
+                wanted = 1
+                while any((wanted * times).denominator != 1 for times in script):
+                    wanted += 1
+                    if wanted > 5000:
+                        break
+                if wanted <= 5000:
+                    with self.subTest(chips=chips):
+                        self.assertEqual(chipfire.Configuration(graph, chips).order(), wanted)
+
+    def test_the_order_divides_that_of_the_group(self):
+        grid = chipfire.grid(12, 12)
+        order = chipfire.Configuration(grid, {70: 1}).order()
+        self.assertEqual((chipfire.invariant_factors(grid)[-1] % order, chipfire.identity(grid).order()), (0, 1))
+        self.assertGreater(order, 10**9)
+
+    def test_the_order_is_the_product_of_the_factors(self):
+        for graph in (chipfire.grid(9, 9), chipfire.torus(6, 5), chipfire.aztec(4), chipfire.wheel(9)):
+            product = 1
+            for factor in chipfire.invariant_factors(graph):
+                product *= factor
+            self.assertEqual(chipfire.order(graph), product)
+
+    def test_laplacians(self):
+        for graph in [*DIRECTED.values(), GRID, chipfire.torus(3, 3), random_graph(random.Random(29), 6, 3)]:
+            self.assertEqual(chipfire.laplacian(graph), model.laplacian(graph))
+            self.assertEqual(chipfire.reduced_laplacian(graph), model.reduced(graph))
+
+    @unittest.skipUnless(has("scipy") and has("numpy"), "SciPy is not here")
+    def test_sparse_laplacians_and_orders_by_numpy(self):
+        import numpy
+
+        for graph in [*DIRECTED.values(), GRID, chipfire.grid(1, 1), chipfire.wheel(7), chipfire.Graph(1, 0, [])]:
+            self.assertEqual(chipfire.laplacian(graph, sparse=True).toarray().tolist(), model.laplacian(graph))
+            found = chipfire.reduced_laplacian(graph, sparse=True).toarray()
+            self.assertEqual(found.tolist(), model.reduced(graph))
+            self.assertEqual(chipfire.order(graph), round(numpy.linalg.det(found)))
+
+    @unittest.skipIf(has("scipy"), "SciPy is here")
+    def test_without_scipy_it_says_so(self):
+        with self.assertRaisesRegex(ImportError, "SciPy, which is not installed"):
+            chipfire.laplacian(GRID, sparse=True)
+
+
+class Families(unittest.TestCase):
+    def test_wheels_are_those_of_sage(self):
+        (case,) = (it for it in CASES if it.how == "sandpiles.Wheel(6)")
+        wheel = chipfire.wheel(6)
+        self.assertEqual((wheel.vertices, wheel.sink), (6, 0))
+        self.assertEqual(collections.Counter(wheel.edges), collections.Counter(case.edges))
+
+    def test_grids_are_regions_of_all_squares(self):
+        for width, height in [(1, 1), (1, 4), (4, 1), (2, 2), (2, 5), (5, 2), (3, 3), (4, 6), (7, 3)]:
+            region = chipfire.region([[1] * width] * height)
+            grid = chipfire.grid(width, height)
+            self.assertEqual((grid, grid.shape), (region, (height, width)))
+            self.assertEqual(set(grid.degrees()[:-1]), {4})
+            beside = sum(abs(u - v) == 1 or abs(u - v) == width for u, v, _ in grid.edges if v != grid.sink)
+            self.assertEqual(beside, 2 * (width * (height - 1) + height * (width - 1)))
+
+    def test_regions_of_the_three_lattices(self):
+        # a block of three by three, whose middle is vertex 4: who is beside it, and how many chips each loses
+        block, heads = [[1] * 3] * 3, {}
+        for lattice, beside, lost in [
+            ("square", [1, 3, 5, 7], [2, 1, 2, 1, 0, 1, 2, 1, 2]),
+            ("triangular", [1, 2, 3, 5, 6, 7], [4, 2, 3, 2, 0, 2, 3, 2, 4]),
+            ("hexagonal", [3, 5, 7], [1, 1, 1, 1, 0, 1, 2, 0, 2]),
+        ]:
+            graph = chipfire.region(block, lattice)
+            heads = sorted(head for tail, head, _ in graph.edges if tail == 4)
+            to_sink = {tail: mult for tail, head, mult in graph.edges if head == 9}
+            with self.subTest(lattice):
+                self.assertEqual((heads, [to_sink.get(vertex, 0) for vertex in range(9)]), (beside, lost))
+                self.assertEqual({(u, v) for u, v, _ in graph.edges if v != 9}, {(v, u) for u, v, _ in graph.edges if v != 9})
+
+    def test_aztec_diamonds(self):
+        self.assertEqual(chipfire.aztec(1), chipfire.grid(2, 2))
+        rows = [[0, 1, 1, 0], [1, 1, 1, 1], [1, 1, 1, 1], [0, 1, 1, 0]]
+        self.assertEqual((chipfire.aztec(2), chipfire.aztec(2).shape), (chipfire.region(rows), (4, 4)))
+        self.assertEqual([chipfire.aztec(n).vertices - 1 for n in range(1, 6)], [2 * n * (n + 1) for n in range(1, 6)])
+
+    def test_undirected_edges_go_both_ways(self):
+        graph = chipfire.Graph.undirected([("b", "a"), ("c", "b", 2), ("c", "a")], "c")
+        self.assertEqual((graph.names, graph.sink), (("a", "b", "c"), 2))
+        self.assertEqual(sorted(graph.edges), [(0, 1, 1), (0, 2, 1), (1, 0, 1), (1, 2, 2)])
+        self.assertEqual(chipfire.order(graph), 1 * 1 + 1 * 2 + 1 * 2)
+        mixed = chipfire.Graph.undirected([("x", 1), (1, (0, 0))], "x")
+        self.assertEqual((mixed.names, sorted(mixed.edges)), (("x", 1, (0, 0)), [(1, 0, 1), (1, 2, 1), (2, 1, 1)]))
+
+    def test_several_vertices_are_one_sink(self):
+        square = [(1, 2), (2, 3), (3, 4), (4, 1), (1, 3)]
+        for sinks in ([1, 3], {1, 3}, frozenset([1, 3])):
+            graph = chipfire.Graph.undirected(square, sinks)
+            self.assertEqual((graph.names, graph.sink), ((2, 4, "sink"), 2))
+            self.assertEqual(collections.Counter(graph.edges), {(0, 2, 1): 2, (1, 2, 1): 2})
+        with self.assertRaises(KeyError):
+            chipfire.Graph.undirected(square, [1, 9])
+
+    @unittest.skipUnless(has("networkx"), "NetworkX is not here")
+    def test_several_vertices_of_networkx_are_one_sink(self):
+        networkx = importlib.import_module("networkx")
+        grid = networkx.grid_2d_graph(4, 4)
+        border = [it for it in grid if set(it) & {0, 3}]
+        graph = chipfire.from_networkx(grid, border)
+        self.assertEqual((graph.names[-1], len(graph.names)), ("sink", 5))
+        # (it is the grid of two by two, of which the encyclopedia of sequences has the trees: A007341)
+        self.assertEqual((chipfire.order(graph), graph.degrees()), (192, (4, 4, 4, 4, 0)))
+
+
+class Text(unittest.TestCase):
+    def test_a_graph_file_has_each_edge(self):
+        for graph in (chipfire.grid(4, 3), chipfire.Graph(1, 0, []), chipfire.Graph(2, 1, [(0, 1, 2**20)] * 3), TEE):
+            value = json.loads(graph.text())
+            self.assertEqual([tuple(edge) for edge in value["edges"]], list(graph.edges))
+            self.assertEqual((value["vertices"], value["sink"], value["version"]), (graph.vertices, graph.sink, 1))
+            with tempfile.NamedTemporaryFile() as file:
+                graph.write(file.name)
+                self.assertEqual(chipfire.Graph.read(file.name), graph)
+
+    def test_a_large_one_comes_in_several_parts(self):
+        grid = chipfire.grid(200, 150)
+        rows = [tuple(edge) for edge in json.loads(grid.text())["edges"]]
+        self.assertEqual((len(rows), rows), (4 * 200 * 150 - 4, list(grid.edges)))
+        self.assertEqual(chipfire.check(grid).degrees, (4,) * 30000 + (0,))
+
+
+if __name__ == "__main__":
+    unittest.main()

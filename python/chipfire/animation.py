@@ -11,6 +11,7 @@ import json
 import os
 import string
 from collections.abc import Hashable, Iterable
+from concurrent.futures import ThreadPoolExecutor
 from dataclasses import dataclass, field, replace
 
 from chipfire import rasters
@@ -22,6 +23,8 @@ from chipfire.values import FileName, own_text, whole
 
 #: How many limits there are, where they are not said.
 COUNT = 24
+#: Up to so many vertices plays go on side by side.
+_MOST_AT_ONCE = 200_000
 
 
 @dataclass(frozen=True)
@@ -92,11 +95,19 @@ def frames(
     Proved: the position at each limit, which no order of the firings changes. Not proved: that the pictures show it.
     """
     graph = known_graph(graph, program)
+    known: dict[int, Report] = {}
     if limits is None:
-        most = max(plain(graph, chips, program=program).fired)
+        last = plain(graph, chips, program=program)
+        known, most = {max(last.fired): last}, max(last.fired)
         limits = sorted({most * step // (COUNT - 1) for step in range(COUNT)})
     limits = tuple(limits)
-    return _shown(limits, [plain(graph, chips, limit=limit, program=program) for limit in limits], columns, palette)
+
+    def at(limit: int) -> Report:
+        return known.get(limit) or plain(graph, chips, limit=limit, program=program)
+
+    # (the plays of a graph of a million vertices would take too much memory side by side)
+    with ThreadPoolExecutor(1 if graph.vertices > _MOST_AT_ONCE else os.cpu_count()) as pool:
+        return _shown(limits, list(pool.map(at, limits)), columns, palette)
 
 
 def frames_by_chips(

@@ -50,6 +50,18 @@ def _columns(rows: Iterable[Sequence[Any]]) -> Columns:
     return found
 
 
+def _digits(numpy: Any, numbers: Any, end: bytes) -> Any:
+    """Numbers as rows of bytes, by an array of NumPy: their digits, with zero bytes before them, and an end behind."""
+    width = len(str(numbers.max()))
+    text = numpy.empty((len(numbers), width + len(end)), "u1")
+    text[:, width:] = numpy.frombuffer(end, "u1")
+    for place in reversed(range(width)):
+        left = numbers // 10
+        text[:, place] = (numbers - 10 * left + 48) * ((numbers > 0) | (place == width - 1))
+        numbers = left
+    return text
+
+
 class Graph:
     """A directed multigraph with a sink: the sandpile graph.
 
@@ -182,13 +194,10 @@ class Graph:
         for start in range(0, len(self.columns.tails), _PART):
             part = Columns(*(column[start : start + _PART] for column in self.columns))
             if numpy:
-                fields = [numpy.array(column).astype("S10") for column in part]
-                rows = numpy.full(len(part.tails), b"", "S10,S1,S10,S1,S10,S3")
-                for place, field in enumerate((fields[0], b",", fields[1], b",", fields[2], b"],[")):
-                    rows[f"f{place}"] = field
-                text = rows.tobytes().replace(b"\0", b"")[:-3]
+                fields = [_digits(numpy, numpy.array(column), end) for column, end in zip(part, (b",", b",", b"],["))]
+                text = numpy.hstack(fields).tobytes().translate(None, b"\0")[:-3]
             else:
-                text = "],[".join(map("%d,%d,%d".__mod__, zip(*part))).encode()
+                text = "],[".join([f"{tail},{head},{mult}" for tail, head, mult in zip(*part)]).encode()
             yield (b",[" if start else b"[") + text + b"]"
         yield f'],"sink":{self.sink},"version":1,"vertices":{self.vertices}}}\n'.encode()
 
@@ -364,18 +373,19 @@ def grid(width: int, height: int) -> Graph:
     # (most edges of a large grid come at once, column by column: up, left, right, down, and at a border to the sink)
     quick = range(width, width * (height - 1)) if width > 1 and height > 2 else range(0)
     first, last = range(quick.start), range(quick.stop, sink) if quick else range(sink)
-    tails, heads, mults = _columns(_beside(((it, *divmod(it, width)) for it in first), at, "square", sink))
-    many, ways = len(quick), (-width, -1, 1, width)
-    tail, head = array("i", [0]) * (4 * many), array("i", [0]) * (4 * many)
-    for place, way in enumerate(ways):
-        tail[place::4] = array("i", quick)
-        head[place::4] = array("i", range(quick.start + way, quick.stop + way))
+    before, after = (_columns(_beside(((it, *divmod(it, width)) for it in part), at, "square", sink)) for part in (first, last))
+    many = len(quick)
+    tails, heads = array("i", [0]) * (4 * many), array("i", [0]) * (4 * many)
+    squares = array("i", range(quick.start - width, quick.stop + width)) if quick else array("i")
+    for place, way in enumerate((-width, -1, 1, width)):
+        tails[place::4] = squares[width : width + many]
+        heads[place::4] = squares[width + way : width + way + many]
     if quick:
         step, sinks, end = 4 * width, array("i", [sink]) * (height - 2), 4 * width - 4
-        head[1::step], head[2::step], head[3::step] = head[2::step], head[3::step], sinks
-        head[end + 2 :: step], head[end + 3 :: step] = head[end + 3 :: step], sinks
-    after = _columns(_beside(((it, *divmod(it, width)) for it in last), at, "square", sink))
-    columns = Columns(tails + tail + after[0], heads + head + after[1], mults + array("i", [1]) * (4 * many) + after[2])
+        heads[1::step], heads[2::step], heads[3::step] = heads[2::step], heads[3::step], sinks
+        heads[end + 2 :: step], heads[end + 3 :: step] = heads[end + 3 :: step], sinks
+    middle = Columns(tails, heads, array("i", [1]) * (4 * many))
+    columns = Columns(*(one + two + three for one, two, three in zip(before, middle, after)))
     return Graph(sink + 1, sink, columns, shape=(height, width))
 
 

@@ -175,10 +175,21 @@ def in_rows(graph: Graph | None, values: Sequence[int], columns: int | None, emp
         unknown = "the report does not know its graph" if graph is None else "the graph is no grid"
         raise ValueError(f"{unknown}: say how many columns the picture has")
     height, width = graph.shape
-    flat = [empty] * (height * width)
-    for square, value in zip(graph.squares, values):
-        flat[square] = value
+    flat = values
+    if not isinstance(graph.squares, range):
+        flat = [empty] * (height * width)
+        for square, value in zip(graph.squares, values):
+            flat[square] = value
     return [flat[start : start + width] for start in range(0, height * width, width)]
+
+
+def _least(values: Sequence[int], most: int) -> bytearray:
+    """Each value, but `most` instead of more, and 0 instead of less."""
+    numbers = [most if count > most else count for count in values]
+    try:
+        return bytearray(numbers)
+    except ValueError:
+        return bytearray(max(count, 0) for count in numbers)
 
 
 def placed(graph: Graph, values: Sequence[int], positions: Mapping[Any, tuple[float, float]], empty: int) -> list[list[int]]:
@@ -227,14 +238,15 @@ class Drawn:
         scale = "linear" if scale is None and of == "odometer" else scale
         colours = colours_of(palette or ("viridis" if scale else "colours"))
         sink, last = len(colours) - 1, len(colours) - 2
-        numbers, most = [max(min(count, last), 0) for count in values], None
+        numbers, most = _least(values, last), None
         if scale:
             if scale not in _SPREADS:
                 raise ValueError(f"a scale is 'linear' or 'log', and not {scale!r}")
             spread = _SPREADS[scale]
             others = [count for vertex, count in enumerate(values) if not self.graph or vertex != self.graph.sink]
             most = max(others, default=0)
-            numbers = [min(int(last * spread(max(count, 0)) / (spread(most) or 1)), last) for count in values]
+            top = spread(most) or 1
+            numbers = bytearray(min(int(last * spread(max(count, 0)) / top), last) for count in values)
         if self.graph is not None:
             numbers[self.graph.sink] = sink
         if positions is not None:

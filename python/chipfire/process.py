@@ -35,7 +35,7 @@ _LARGE = ("check", "plain", "resume")
 _LIMITS = (MAX_VERTICES, MAX_EDGES, 2**24), (MAX_LARGE_VERTICES, MAX_LARGE_EDGES, 2**28)
 _OF_GRAPH, _OF_ROWS = (*range(1, 9), 20, 21, 22), (*range(23, 29), 10)
 #: What makes a process end with the one that started it (PR_SET_PDEATHSIG), where the system has that.
-_LIBC = ctypes.CDLL(None) if sys.platform == "linux" else None
+_PRCTL = ctypes.CDLL(None).prctl if sys.platform == "linux" else None
 
 
 class ProgramNotFound(FileNotFoundError):
@@ -209,7 +209,7 @@ def _started(words: Sequence[str], kept: Sequence[int] = ()) -> tuple[int, str, 
 
 def _bind(parent: int) -> None:
     """Said in the new process: it ends when this Python does, however that ends."""
-    if _LIBC is not None:
-        _LIBC.prctl(1, signal.SIGKILL)
+    if _PRCTL is not None:
+        _PRCTL(1, signal.SIGKILL)
         if os.getppid() != parent:
             os._exit(1)

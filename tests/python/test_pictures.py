@@ -8,6 +8,7 @@ import contextlib
 import html
 import io
 import json
+import math
 import os
 import random
 import re
@@ -187,6 +188,81 @@ class Files(WithFolder):
         self.assertEqual(os.listdir(self.folder), [])
 
 
+class Odometers(WithFolder):
+    """How often each vertex fired, in colours that are spread from none to the most."""
+
+    def setUp(self):
+        super().setUp()
+        self.grid = chipfire.grid(7, 5)
+        self.report = chipfire.plain(self.grid, {17: 300})
+        _, fired = slowly(self.grid, {17: 300})
+        self.fired = fired[:35]
+
+    def spread(self, value, how):
+        """What share of the colours lies below that of a value."""
+        return how(value) / how(max(self.fired))
+
+    def test_each_count_has_its_share_of_the_colours(self):
+        palette = ["#%02x0000" % it for it in range(100)]
+        for scale, how in [("linear", float), ("log", lambda it: math.log(1 + it))]:
+            wanted = [int(99 * self.spread(count, how) + 1e-9) for count in self.fired]
+            picture = self.report.picture(of="odometer", palette=palette, scale=scale)
+            shown = [red for row in svg_squares(picture.svg()) for red, _, _ in row]
+            self.assertLessEqual(max(abs(a - b) for a, b in zip(shown, wanted)), 1, scale)
+            self.assertEqual((min(shown), max(shown)), (min(wanted), 99))
+            self.report.image(self.file("a.png"), of="odometer", palette=palette, scale=scale, points=1)
+            points = [red for row in png_points(self.bytes_of("a.png")) for red, _, _ in row]
+            self.assertEqual(points, shown)
+
+    def test_the_usual_colours_are_255_from_dark_to_bright(self):
+        picture = self.report.picture(of="odometer")
+        self.assertEqual((len(picture.palette), picture.palette[0], picture.palette[-2]), (256, "#440154", "#fde725"))
+        bright = [sum(rgb(colour)) for colour in chipfire.PALETTES["viridis"]]
+        self.assertGreater(len(set(chipfire.PALETTES["viridis"])), 250)
+        self.assertLess(max(bright[:64]), min(bright[-64:]))
+        self.assertEqual(picture.title, f"{sum(self.fired):,} firings, at most {max(self.fired):,} of a vertex")
+        self.assertIn(f"</span> {max(self.fired):,}", picture.legend())
+        self.assertEqual(len(str(picture).split()), 5)
+
+    def test_many_chips_in_many_colours(self):
+        heap = chipfire.plain(self.grid, {17: 300}, limit=0)
+        picture = heap.picture(palette="viridis")
+        self.assertEqual(svg_squares(picture.svg())[2][3], rgb(chipfire.PALETTES["viridis"][254]))
+        spread = heap.picture(scale="linear", palette=["#000000", "#888888", "#ffffff"])
+        self.assertEqual({colour for row in svg_squares(spread.svg()) for colour in row}, {(0, 0, 0), (255, 255, 255)})
+        self.assertEqual(chipfire.plain(self.grid, 0).picture(of="odometer").most, 0)
+
+
+class Regions(WithFolder):
+    def test_what_lies_outside_has_the_colour_of_the_sink(self):
+        tee = chipfire.region([[1, 1, 1], [0, 1, 0]])
+        chips = chipfire.Configuration(tee, [[0, 1, 2], [0, 3, 0]])
+        white, yellow, blue, black = map(rgb, COLOURS[:4])
+        wanted = [[white, yellow, blue], [rgb(SINK), black, rgb(SINK)]]
+        chips.image(self.file("a.png"), scale=1)
+        self.assertEqual(png_points(self.bytes_of("a.png")), wanted)
+        self.assertEqual(svg_squares(chips.picture().svg()), wanted)
+        self.assertEqual((str(chips.picture()), chips.picture().title), ("012\n 3 ", "6 chips"))
+        self.assertEqual(svg_squares((chips - 3).picture().svg())[0], [white] * 3)
+        with self.assertRaisesRegex(ValueError, "no odometer"):
+            chips.picture(of="odometer")
+
+    def test_vertices_at_positions(self):
+        graph = chipfire.Graph.undirected([("a", "b"), ("b", "c"), ("c", "out")], "out")
+        chips = chipfire.Configuration(graph, {"a": 1, "b": 2, "c": 3})
+        places = {"a": (0, 0), "b": (1.1, 0), "c": (0.9, 2), "out": (2, 1)}
+        away = rgb(SINK)
+        yellow, blue, black = map(rgb, COLOURS[1:4])
+        wanted = [[yellow, blue, away], [away] * 3, [away, black, away]]
+        self.assertEqual(svg_squares(chips.picture(positions=places).svg()), wanted)
+        chips.image(self.file("a.png"), positions=places, scale=1)
+        self.assertEqual(png_points(self.bytes_of("a.png")), wanted)
+        with self.assertRaisesRegex(ValueError, "vertices 'a' and 'b' stand on one square"):
+            chips.picture(positions={**places, "b": (0.2, 0.3)})
+        with self.assertRaises(KeyError):
+            chips.picture(positions={"d": (0, 0)})
+
+
 class Shapes(WithFolder):
     def read(self, graph):
         graph.write(self.file("graph.json"))
@@ -228,6 +304,18 @@ class Notebooks(unittest.TestCase):
         self.assertEqual(svg_squares(re.search("<svg.*</svg>", said, re.DOTALL)[0]), coloured(self.position, 4, 12))
         shown = {int(label) for label in re.findall(r"</span> (\d)", said)}
         self.assertEqual(shown, set(self.position[:12]))
+
+    def test_a_large_picture_is_one_of_points_and_not_too_wide(self):
+        for width, height, shown in [(101, 3, 707), (1200, 2, 800), (3, 101, 21), (100, 100, None)]:
+            grid = chipfire.grid(width, height)
+            report = chipfire.plain(grid, {0: 2, 1: 1})
+            said = report._repr_html_()
+            self.assertFalse(hasattr(report, "_repr_svg_") or hasattr(report.picture(), "_repr_svg_"))
+            found = re.search('src="data:image/png;base64,([^"]*)" width="(\\d+)"', said)
+            self.assertEqual(("<svg" in said, found is None), (shown is None,) * 2)
+            if found:
+                self.assertEqual(png_points(base64.b64decode(found[1])), coloured([2, 1] + [0] * (width * height), width, width * height))
+                self.assertEqual(int(found[2]), shown)
 
     def test_a_report_on_another_graph_is_shown_as_its_text(self):
         report = chipfire.plain(chipfire.complete(4), {1: 9})
@@ -301,6 +389,20 @@ class Animations(Played):
         head = f"data:image/{kind};base64,"
         self.assertTrue(source.startswith(head))
         return base64.b64decode(source[len(head) :])
+
+    def test_frames_by_chips_that_are_dropped(self):
+        graph, counts = chipfire.grid(5, 5), [0, 3, 40, 41, 160]
+        found = chipfire.frames_by_chips(graph, 12, counts)
+        for count, report, caption in zip(counts, found.reports, found.captions()):
+            position, fired = slowly(graph, {12: count})
+            self.assertEqual((list(report.chips), list(report.total)), (position, fired))
+            lost = f"{position[25]} chip{'s' * (position[25] != 1)} in the sink"
+            self.assertEqual(caption, f"Chips {count}: {sum(fired)} firing{'s' * (sum(fired) != 1)}, {lost}")
+        for wrong in ([3, 2], [-1], []):
+            with self.subTest(wrong), self.assertRaises(ValueError):
+                chipfire.frames_by_chips(graph, 12, wrong)
+        with self.assertRaises(KeyError):
+            chipfire.frames_by_chips(graph, "middle", [1])
 
     def test_limits_palettes_and_columns_that_are_said(self):
         graph = chipfire.torus(3, 3)

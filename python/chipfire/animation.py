@@ -17,7 +17,7 @@ from dataclasses import dataclass, field, replace
 from chipfire import rasters
 from chipfire.chips import Chips
 from chipfire.pictures import SCALE, Palette, Picture
-from chipfire.program import AnyGraph, known_graph, plain
+from chipfire.program import AnyGraph, AnyProgram, known_graph, plain
 from chipfire.reports import Report
 from chipfire.values import FileName, own_text, whole
 
@@ -79,14 +79,8 @@ class Frames:
 
 
 def frames(
-    graph: AnyGraph,
-    chips: Chips | FileName,
-    limits: Iterable[int] | None = None,
-    *,
-    columns: int | None = None,
-    palette: Palette | None = None,
-    large: bool = False,
-    program: FileName | None = None,
+    graph: AnyGraph, chips: Chips, limits: Iterable[int] | None = None, *, columns: int | None = None,
+    palette: Palette | None = None, large: bool = False, program: AnyProgram = None,
 ) -> Frames:
     """The play of these chips as it stands at growing limits: where each vertex may fire so often at most.
 
@@ -111,13 +105,8 @@ def frames(
 
 
 def frames_by_chips(
-    graph: AnyGraph,
-    vertex: Hashable,
-    counts: Iterable[int],
-    *,
-    columns: int | None = None,
-    palette: Palette | None = None,
-    program: FileName | None = None,
+    graph: AnyGraph, vertex: Hashable, counts: Iterable[int], *, columns: int | None = None,
+    palette: Palette | None = None, program: AnyProgram = None,
 ) -> Frames:
     """What becomes of so many chips that are dropped on a vertex, for each of these growing numbers of chips.
 

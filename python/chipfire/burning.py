@@ -72,7 +72,7 @@ def burning(graph: Graph, program: FileName | None) -> tuple[list[int], list[int
     It is one more than the counts of a play that begins with one chip less on each vertex than edges lead into it. (On
     an undirected graph nobody fires in it.)
     """
-    most, entering = most_stable(graph), inner(graph, graph.entering)
+    most, entering = most_stable(graph), inner(graph, graph.entering())
     left, fired = [max(count - 1, 0) for count in entering], [0] * graph.vertices
     if any(count > best for count, best in zip(left, most)):
         left, fired = stabilized(graph, left, program)

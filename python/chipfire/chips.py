@@ -14,7 +14,8 @@ if TYPE_CHECKING:
     from chipfire.graphs import Graph
 
 #: Numbers of vertices: by their names, as a dict or a Series of pandas; as an array of the graph's shape; one for each
-#: vertex, or for each but the sink; one for all; or what a report has. A vertex that is not named has 0.
+#: vertex, or for each but the sink; one for all; what a report has; or where the program is asked the name of a chips
+#: file. A vertex that is not named has 0.
 Chips = Union[int, Sequence[Any], Mapping[Any, int], Any]
 
 

@@ -12,7 +12,7 @@ from typing import Any, NamedTuple
 
 from chipfire.chips import Chips, Configuration
 from chipfire.process import Kept
-from chipfire.values import MAX_EDGES, MAX_MULT, MAX_VERTICES, FileName, library, whole, write
+from chipfire.values import MAX_EDGES, MAX_MULT, MAX_VERTICES, FileName, library, whole
 
 #: Which squares lie beside one of a lattice, as (rows down, columns to the right) by the parity of its row and column.
 _BESIDE: dict[str, Sequence[Sequence[tuple[int, int]]]] = {
@@ -83,13 +83,8 @@ class Graph:
     answers: dict[Any, Any]
 
     def __init__(
-        self,
-        vertices: int,
-        sink: int,
-        edges: Iterable[Sequence[int]],
-        names: Sequence[Hashable] = (),
-        shape: tuple[int, int] | None = None,
-        squares: Sequence[int] | None = None,
+        self, vertices: int, sink: int, edges: Iterable[Sequence[int]], names: Sequence[Hashable] = (),
+        shape: tuple[int, int] | None = None, squares: Sequence[int] | None = None,
     ) -> None:
         known = vars(self)
         known["answers"] = {}  # (what was found out about it)
@@ -111,14 +106,12 @@ class Graph:
         return {name: value for name, value in vars(self).items() if name != "kept"} | {"answers": {}}
 
     def __eq__(self, other: object) -> bool:
-        return isinstance(other, Graph) and self._key == other._key and self.columns == other.columns
+        if not isinstance(other, Graph) or (self.vertices, self.sink) != (other.vertices, other.sink):
+            return False
+        return self.names == other.names and self.columns == other.columns
 
     def __hash__(self) -> int:
-        return hash((self._key[:2], *(column.tobytes() for column in self.columns)))
-
-    @property
-    def _key(self) -> tuple[int, int, Sequence[Hashable]]:
-        return self.vertices, self.sink, self.names
+        return hash((self.vertices, self.sink, *(column.tobytes() for column in self.columns)))
 
     def __repr__(self) -> str:
         sink = repr(self.names[self.sink]) if self.sink < self.vertices else self.sink
@@ -214,22 +207,19 @@ class Graph:
 
     def degrees(self) -> tuple[int, ...]:
         """How many chips each vertex sends away when it fires, by numbers; 0 for the sink."""
-        return self._degrees
+        return self._sums[0]
 
-    @functools.cached_property
-    def _degrees(self) -> tuple[int, ...]:
-        return self._sums(self.columns.tails)
-
-    @functools.cached_property
     def entering(self) -> tuple[int, ...]:
         """How many chips each vertex gets when all fire once, by numbers."""
-        return self._sums(self.columns.heads)
+        return self._sums[1]
 
-    def _sums(self, ends: Iterable[int]) -> tuple[int, ...]:
-        found = [0] * self.vertices
-        for vertex, mult in zip(ends, self.columns.mults):
-            found[vertex] += mult
-        return tuple(found)
+    @functools.cached_property
+    def _sums(self) -> tuple[tuple[int, ...], tuple[int, ...]]:
+        out, into = [0] * self.vertices, [0] * self.vertices
+        for tail, head, mult in zip(*self.columns):
+            out[tail] += mult
+            into[head] += mult
+        return tuple(out), tuple(into)
 
     def outs(self, vertex: int) -> list[int]:
         """The numbers of the edges out of a vertex, ascending."""
@@ -287,7 +277,7 @@ class Graph:
     def max_stable(self) -> Configuration:
         """The maximal stable configuration: each vertex but the sink has one chip less than it needs to fire."""
         self.require()
-        return self.without_sink([degree - 1 for degree in self._degrees])
+        return self.without_sink([degree - 1 for degree in self.degrees()])
 
     def without_sink(self, values: Sequence[int]) -> Configuration:
         """Numbers of all vertices as a configuration: those of all but the sink, by names."""
@@ -437,19 +427,13 @@ def path(length: int) -> Graph:
 
 
 def cycle(length: int) -> Graph:
-    """A cycle of so many vertices, 3 at least, with edges both ways; vertex 0 is the sink.
-
-    Sage: `sandpiles.Cycle(length)`.
-    """
+    """A cycle of so many vertices, 3 at least, with edges both ways; vertex 0 is the sink."""
     length = whole(length, "the length of a cycle", 3)
     return _both_ways(length, 0, ((v, (v + 1) % length) for v in range(length)))
 
 
 def wheel(vertices: int) -> Graph:
-    """A cycle of the vertices from 1 on, 3 at least, each beside the hub 0 too; the hub is the sink.
-
-    Sage: `sandpiles.Wheel(vertices)`.
-    """
+    """A cycle of the vertices from 1 on, 3 at least, each beside the hub 0 too; the hub is the sink."""
     rim = range(1, whole(vertices, "the number of vertices of a wheel", 4))
     return _both_ways(vertices, 0, [*((v, v % len(rim) + 1) for v in rim), *((v, 0) for v in rim)])
 
@@ -464,10 +448,7 @@ def torus(width: int, height: int) -> Graph:
 
 
 def complete(vertices: int) -> Graph:
-    """The complete graph: an edge each way between any two vertices; vertex 0 is the sink.
-
-    Sage: `sandpiles.Complete(vertices)`.
-    """
+    """The complete graph: an edge each way between any two vertices; vertex 0 is the sink."""
     vertices = whole(vertices, "the number of vertices", 1)
     return _both_ways(vertices, 0, ((u, v) for u in range(vertices) for v in range(u)))
 

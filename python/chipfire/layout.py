@@ -32,16 +32,9 @@ class Places:
 
 
 def columns_of(graph: Graph) -> int | None:
-    """How many columns a graph has that is a grid as `chipfire.grid` makes it; None where it is none.
-
-    One row of squares and one column of as many are the same graph, which counts as a row.
-    """
-    squares = graph.vertices - 1
-    if graph.sink != squares:
-        return None
-    widths = (width for width in range(squares, 0, -1) if squares % width == 0)
-    rows = sorted(graph.edges)
-    return next((width for width in widths if sorted(grid(width, squares // width).edges) == rows), None)
+    """How many columns a graph has that is a grid as `chipfire.grid` makes it; None where it is none."""
+    height, width = graph.shape or (0, 0)
+    return width if width and graph.is_like(grid(width, height)) else None
 
 
 def places_of(graph: Graph, started: Iterable[int], given: Mapping[Any, Point] | None = None) -> Places:
@@ -50,24 +43,19 @@ def places_of(graph: Graph, started: Iterable[int], given: Mapping[Any, Point] |
     They are those that are given, by names; else those of a grid; else they come from distances along edges.
     """
     if given is not None:
-        places = [_point(given, name) for name in graph.names]
+        for name in graph.names:
+            if name not in given or not all(map(math.isfinite, given[name])):
+                raise ValueError(f"the position of vertex {name!r} is no point: {given.get(name)!r}")
+        places = [(float(given[name][0]), float(given[name][1])) for name in graph.names]
         return Places(places, _above(places))
     columns = columns_of(graph)
     if columns:
         return _grid_places(columns, (graph.vertices - 1) // columns)
     if graph.vertices > MOST_BY_DISTANCE:
-        places = _in_rows(graph.vertices)
+        columns = math.isqrt(graph.vertices - 1) + 1
+        places = [(float(vertex % columns), float(vertex // columns)) for vertex in range(graph.vertices)]
         return Places(places, _above(places))
     return _from_distances(graph, sorted(started))
-
-
-def _point(given: Mapping[Any, Point], name: Hashable) -> Point:
-    if name not in given:
-        raise ValueError(f"vertex {name!r} has no position")
-    across, down = given[name]
-    if not (math.isfinite(across) and math.isfinite(down)):
-        raise ValueError(f"the position of vertex {name!r} is no point: {given[name]!r}")
-    return float(across), float(down)
 
 
 def _above(places: Sequence[Point]) -> Point:
@@ -83,12 +71,6 @@ def _grid_places(columns: int, rows: int) -> Places:
     squares = [(float(square % columns), float(square // columns)) for square in range(columns * rows)]
     frame = ((-0.8, -0.8), (columns - 0.2, rows - 0.2))
     return Places([*squares, ((columns - 1) / 2, rows - 0.2)], ((columns - 1) / 2, -1.45), frame)
-
-
-def _in_rows(vertices: int) -> list[Point]:
-    """Many vertices, by their numbers in rows."""
-    columns = math.isqrt(vertices - 1) + 1
-    return [(float(vertex % columns), float(vertex // columns)) for vertex in range(vertices)]
 
 
 def _from_distances(graph: Graph, started: Sequence[int]) -> Places:
@@ -113,42 +95,36 @@ def _distances(graph: Graph) -> list[list[int]]:
     for tail, head, _ in graph.edges:
         beside[tail].add(head)
         beside[head].add(tail)
-    return [_spread(beside, vertex) for vertex in range(graph.vertices)]
-
-
-def _spread(beside: Sequence[set[int]], start: int) -> list[int]:
-    found, waiting = {start: 0}, deque([start])
-    while waiting:
-        vertex = waiting.popleft()
-        for other in beside[vertex] - found.keys():
-            found[other] = found[vertex] + 1
-            waiting.append(other)
-    return [found[vertex] for vertex in range(len(beside))]
+    rows = []
+    for start in range(graph.vertices):
+        found, waiting = {start: 0}, deque([start])
+        while waiting:
+            vertex = waiting.popleft()
+            for other in beside[vertex] - found.keys():
+                found[other] = found[vertex] + 1
+                waiting.append(other)
+        rows.append([found[vertex] for vertex in range(graph.vertices)])
+    return rows
 
 
 def _stressed(distances: Sequence[Sequence[int]]) -> list[complex]:
     """Points whose distances come near to those that are wanted, near ones above all: stress majorization.
 
-    It begins on a circle, in the order of numbers, and moves each point to the mean of where the others want it.
+    It begins on a circle, in the order of numbers, and moves each point to the mean of where the others want it, each
+    as much as it is near.
     """
     size = len(distances)
     points = [cmath.rect(size / 6, 2 * math.pi * vertex / size) for vertex in range(size)]
     for _ in range(min(2000, _WORK // size**2 + 1) if size > 1 else 0):
         for vertex, wanted in enumerate(distances):
-            points[vertex] = _wanted(points, vertex, wanted)
+            total, weights = 0j, 0.0
+            for other, distance in enumerate(wanted):
+                if distance:
+                    away, weight = points[vertex] - points[other], 1 / distance**2
+                    total += weight * (points[other] + distance * away / (abs(away) or 1))
+                    weights += weight
+            points[vertex] = total / weights
     return points
-
-
-def _wanted(points: Sequence[complex], vertex: int, distances: Sequence[int]) -> complex:
-    """The mean of where the other points want one, each as much as it is near."""
-    total, weights = 0j, 0.0
-    for other, distance in enumerate(distances):
-        if distance:
-            away = points[vertex] - points[other]
-            weight = 1 / distance**2
-            total += weight * (points[other] + distance * away / (abs(away) or 1))
-            weights += weight
-    return total / weights
 
 
 def _upright(points: Sequence[complex], top: complex, bottom: complex) -> list[Point]:

@@ -18,7 +18,7 @@ from chipfire.chips import Chips
 from chipfire.layout import Places, Point, places_of
 from chipfire.ledger import Disagreement, Ledger
 from chipfire.machine import Event, Reply, Setting, Simulation, TraceRow, read_trace
-from chipfire.program import AnyGraph, known_chips, known_graph, replay, simulate
+from chipfire.program import AnyGraph, AnyProgram, known_chips, known_graph, replay, simulate
 from chipfire.sentences import Sentences
 from chipfire.spelling import RINGS, spell_rounds, spell_trace
 from chipfire.values import FILE, MAX_LIMIT, FileName, counted, own_text, write
@@ -37,12 +37,8 @@ _OPEN = "the program's word at the end that the root is open"
 
 
 def page(
-    simulation: Simulation,
-    file: FileName,
-    *,
-    title: str = "A run of chipfire",
-    positions: Mapping[Any, Point] | None = None,
-    program: FileName | None = None,
+    simulation: Simulation, file: FileName, *, title: str = "A run of chipfire",
+    positions: Mapping[Any, Point] | None = None, program: AnyProgram = None,
 ) -> None:
     """Writes a page on which a run can be watched, event by event.
 
@@ -56,11 +52,8 @@ def page(
 
 
 def page_text(
-    simulation: Simulation,
-    *,
-    title: str = "A run of chipfire",
-    positions: Mapping[Any, Point] | None = None,
-    program: FileName | None = None,
+    simulation: Simulation, *, title: str = "A run of chipfire", positions: Mapping[Any, Point] | None = None,
+    program: AnyProgram = None,
 ) -> str:
     """The text of the page that `page` writes."""
     told = spelled_out(simulation, program)
@@ -74,13 +67,8 @@ def page_text(
 
 
 def recorded(
-    graph: AnyGraph,
-    chips: Chips | FileName,
-    trace: Iterable[Sequence[Any]] | FileName,
-    *,
-    limit: int | None = None,
-    ring: int | None = None,
-    program: FileName | None = None,
+    graph: AnyGraph, chips: Chips, trace: Iterable[Sequence[Any]] | FileName, *, limit: int | None = None,
+    ring: int | None = None, program: AnyProgram = None,
 ) -> Simulation:
     """A recorded run (`run` with `trace`) as a simulation with books: each vertex takes and fires what it wrote down.
 
@@ -110,7 +98,7 @@ def _made_up(rows: Sequence[TraceRow], cells: int) -> str:
     )
 
 
-def spelled_out(simulation: Simulation, program: FileName | None = None) -> Simulation:
+def spelled_out(simulation: Simulation, program: AnyProgram = None) -> Simulation:
     """A simulation with a reply and a board for each event, and no rounds behind them."""
     setting, schedule, made_up = simulation.game, simulation.schedule, simulation.made_up
     if simulation.rounds:
@@ -128,7 +116,7 @@ def spelled_out(simulation: Simulation, program: FileName | None = None) -> Simu
     return replace(told, made_up=made_up)
 
 
-def _asked_again(setting: Setting, schedule: Sequence[Event], program: FileName | None) -> Simulation:
+def _asked_again(setting: Setting, schedule: Sequence[Event], program: AnyProgram) -> Simulation:
     game = setting.graph, setting.chips, schedule
     options: dict[str, Any] = {"limit": setting.limit, "ring": setting.ring, "fed": setting.fed}
     return simulate(*game, books=True, program=program, **options)

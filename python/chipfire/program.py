@@ -23,8 +23,9 @@ if TYPE_CHECKING:
     P = ParamSpec("P")
 T = TypeVar("T")
 
-#: A graph, or the name of its file.
+#: A graph, or the name of its file; the name of a program, or None for the one that is found.
 AnyGraph = Union[Graph, str, "os.PathLike[str]"]
+AnyProgram = Union[FileName, None]
 
 
 @dataclass(frozen=True)
@@ -39,7 +40,7 @@ class Check:
     distances: tuple[int, ...]
 
 
-def known_graph(graph: AnyGraph, program: FileName | None = None) -> Graph:
+def known_graph(graph: AnyGraph, program: AnyProgram = None) -> Graph:
     """A graph, or that of a file. What is wrong with a file, the program says."""
     if isinstance(graph, Graph):
         return graph
@@ -52,7 +53,7 @@ def known_graph(graph: AnyGraph, program: FileName | None = None) -> Graph:
         raise
 
 
-def known_chips(graph: Graph, chips: Chips | FileName, program: FileName | None = None) -> tuple[int, ...]:
+def known_chips(graph: Graph, chips: Chips, program: AnyProgram = None) -> tuple[int, ...]:
     """Chips by the numbers of the vertices, which may come from a file, and else may be below 0."""
     return read_chips(chips, graph, program=program) if isinstance(chips, FILE) else graph.numbers(chips)
 
@@ -60,7 +61,7 @@ def known_chips(graph: Graph, chips: Chips | FileName, program: FileName | None 
 class _Question:
     """What the program is asked about a graph, which may stand in a file."""
 
-    def __init__(self, graph: AnyGraph, program: FileName | None) -> None:
+    def __init__(self, graph: AnyGraph, program: AnyProgram) -> None:
         self.program, self.given = program, graph
         self.own = None if isinstance(graph, FILE) else self.graph
         self.file: Input = ("graph", graph if isinstance(graph, FILE) else self.graph.kept)
@@ -69,7 +70,7 @@ class _Question:
     def graph(self) -> Graph:
         return known_graph(self.given, self.program)
 
-    def chips(self, chips: Chips | FileName, kind: str = "chips") -> Input:
+    def chips(self, chips: Chips, kind: str = "chips") -> Input:
         return kind, chips if isinstance(chips, FILE) else Kept(burning.chips_parts(self.graph.chips(chips)))
 
     def ask(self, command: str, inputs: Sequence[Input], options: dict[str, Any], *begins: str) -> str:
@@ -84,7 +85,7 @@ def _numbers(**options: tuple[int | None, int, int]) -> dict[str, Any]:
     }
 
 
-def check(graph: AnyGraph, *, large: bool = False, program: FileName | None = None) -> Check:
+def check(graph: AnyGraph, *, large: bool = False, program: AnyProgram = None) -> Check:
     """Looks whether a graph is one: each vertex with its degree and its distance to the sink. `large` is not needed."""
     text = _Question(graph, program).ask("check", [], {}, "vertices ")
     lines = [line.split() for line in text.splitlines()]
@@ -94,13 +95,8 @@ def check(graph: AnyGraph, *, large: bool = False, program: FileName | None = No
 
 
 def plain(
-    graph: AnyGraph,
-    chips: Chips | FileName,
-    *,
-    limit: int | None = None,
-    large: bool = False,
-    progress: bool = False,
-    program: FileName | None = None,
+    graph: AnyGraph, chips: Chips, *, limit: int | None = None, large: bool = False, progress: bool = False,
+    program: AnyProgram = None,
 ) -> Report:
     """Stabilizes: plays on one thread until no vertex is legal, or all that are have fired `limit` times.
 
@@ -113,19 +109,9 @@ def plain(
 
 
 def run(
-    graph: AnyGraph,
-    chips: Chips | FileName,
-    *,
-    limit: int | None = None,
-    ring: int | None = None,
-    workers: int | None = None,
-    dealt: bool = False,
-    turns: int | None = None,
-    feed: Chips | FileName | None = None,
-    trace: FileName | None = None,
-    trace_rows: int | None = None,
-    progress: bool = False,
-    program: FileName | None = None,
+    graph: AnyGraph, chips: Chips, *, limit: int | None = None, ring: int | None = None, workers: int | None = None,
+    dealt: bool = False, turns: int | None = None, feed: Chips | None = None, trace: FileName | None = None,
+    trace_rows: int | None = None, progress: bool = False, program: AnyProgram = None,
 ) -> Report:
     """Plays as `plain` does, with an actor for each vertex, on so many threads, by a program that has this command.
 
@@ -145,16 +131,9 @@ def run(
 
 
 def simulate(
-    graph: AnyGraph,
-    chips: Chips | FileName,
-    schedule: Iterable[Sequence[Any]] | FileName,
-    *,
-    limit: int | None = None,
-    ring: int | None = None,
-    rounds: int | None = None,
-    books: bool = False,
-    fed: bool = False,
-    program: FileName | None = None,
+    graph: AnyGraph, chips: Chips, schedule: Iterable[Sequence[Any]] | FileName, *, limit: int | None = None,
+    ring: int | None = None, rounds: int | None = None, books: bool = False, fed: bool = False,
+    program: AnyProgram = None,
 ) -> Simulation:
     """Runs a schedule on the detector: a reply for each event, and the report where the root is closed then, or after
     so many rounds of turns. With `books` there is also what stands in the books after each event; where it is `fed`,
@@ -173,12 +152,8 @@ def simulate(
 
 
 def replay(
-    graph: AnyGraph,
-    chips: Chips | FileName,
-    trace: Iterable[Sequence[Any]] | FileName,
-    *,
-    limit: int | None = None,
-    program: FileName | None = None,
+    graph: AnyGraph, chips: Chips, trace: Iterable[Sequence[Any]] | FileName, *, limit: int | None = None,
+    program: AnyProgram = None,
 ) -> list[Firing]:
     """The firings of a recorded run, in an order in which all that the vertices wrote down fits together."""
     question = _Question(graph, program)
@@ -188,12 +163,8 @@ def replay(
 
 
 def resume(
-    graph: AnyGraph,
-    report: Report | FileName,
-    *,
-    limit: int | None = None,
-    large: bool = False,
-    program: FileName | None = None,
+    graph: AnyGraph, report: Report | FileName, *, limit: int | None = None, large: bool = False,
+    program: AnyProgram = None,
 ) -> Report:
     """Goes on from where a limit or a seal stopped a play; `total` of what comes is what was fired in all.
 
@@ -207,13 +178,13 @@ def resume(
     return found
 
 
-def explain(number: int | None = None, *, program: FileName | None = None) -> str:
+def explain(number: int | None = None, *, program: AnyProgram = None) -> str:
     """What the fault with this number means and what to do; without a number the table of all faults."""
     words: list[Input] = [] if number is None else [("number", str(whole(number, "a fault's number")))]
     return ask(program, "explain", words, begins="fault ")
 
 
-def identity(graph: AnyGraph, *, large: bool = False, program: FileName | None = None) -> Configuration:
+def identity(graph: AnyGraph, *, large: bool = False, program: AnyProgram = None) -> Configuration:
     """The recurrent identity: of the recurrent configurations, the one that adds nothing to any of them.
 
     With `m` the maximal stable configuration it is the stabilization of `2m` less the stabilization of `2m`.
@@ -227,7 +198,7 @@ def write_chips(file: FileName, graph: Graph, chips: Chips) -> None:
     write(file, b"".join(burning.chips_parts(graph.chips(chips))).decode())
 
 
-def read_chips(file: FileName, graph: Graph, *, program: FileName | None = None) -> tuple[int, ...]:
+def read_chips(file: FileName, graph: Graph, *, program: AnyProgram = None) -> tuple[int, ...]:
     """The chips of a chips file, one number for each vertex of the graph. The program reads them, and refuses what is
     wrong with the file."""
     return plain(graph, file, limit=0, program=program).chips
@@ -254,7 +225,7 @@ class Program:
     refuses is raised as a `Fault`. An option that is None is left out, so the program's own value stands.
     """
 
-    def __init__(self, program: FileName | None = None) -> None:
+    def __init__(self, program: AnyProgram = None) -> None:
         """The program of this name, or the one that is found; see the head of the package."""
         self.path = find_program() if program is None else os.fspath(program)
 

@@ -1,11 +1,5 @@
 """The words of sandpiles, over the player: sums, recurrent and superstable, the sandpile group, avalanches.
 
-    import chipfire
-
-    grid = chipfire.grid(3, 3)
-    chipfire.is_recurrent(grid, grid.max_stable())
-    chipfire.invariant_factors(grid)
-
 A graph may be the name of its file, and so may chips. They come in every form that `Graph.chips` takes; where a number
 of the sink is among them, it counts for nothing. Graphs may be large, and `large` need not be said.
 
@@ -21,47 +15,37 @@ from typing import Any
 
 from chipfire import burning, smith
 from chipfire.chips import Chips, Configuration
-from chipfire.graphs import Graph
-from chipfire.program import AnyGraph, known_chips, known_graph
-from chipfire.values import FileName, library
+from chipfire.program import AnyGraph, AnyProgram, known_chips, known_graph
+from chipfire.values import library
 
 
-def _held(graph: AnyGraph, chips: Chips | FileName, program: FileName | None) -> Configuration:
+def _held(graph: AnyGraph, chips: Chips, program: AnyProgram) -> Configuration:
     """Chips as a configuration."""
     known = known_graph(graph, program)
     return Configuration(known, known_chips(known, chips, program))
 
 
-def stabilize(
-    graph: AnyGraph, chips: Chips | FileName, *, large: bool = False, program: FileName | None = None
-) -> Configuration:
+def stabilize(graph: AnyGraph, chips: Chips, *, large: bool = False, program: AnyProgram = None) -> Configuration:
     """The stabilization: what lies there when no vertex can fire any more.
 
     It is `plain(graph, chips).configuration`; `odometer` of that report tells how often each vertex fired.
-    Proved: the chips, which are those of every play to the end, whatever its order. Not proved: that Python passes them
-    on as they come.
+    Proved: the chips, which are those of every play to the end, whatever its order. Not proved: that they are passed on.
     """
     return _held(graph, chips, program).stabilize(program=program)
 
 
 def add(
-    graph: AnyGraph,
-    first: Chips | FileName,
-    second: Chips | FileName,
-    *,
-    large: bool = False,
-    program: FileName | None = None,
+    graph: AnyGraph, first: Chips, second: Chips, *, large: bool = False, program: AnyProgram = None
 ) -> Configuration:
-    """The stable sum: both configurations together, stabilized.
+    """The stable sum: both configurations together, stabilized. The recurrent ones are a group under it.
 
-    Under it the recurrent configurations are a group, the sandpile group.
     Proved: the stabilization. Not proved: that Python adds.
     """
     graph = known_graph(graph, program)
     return (_held(graph, first, program) + _held(graph, second, program)).stabilize(program=program)
 
 
-def is_stable(graph: AnyGraph, chips: Chips | FileName) -> bool:
+def is_stable(graph: AnyGraph, chips: Chips) -> bool:
     """Whether no vertex can fire: each but the sink has fewer chips than edges lead out of it.
 
     Nothing of this is proved: Python compares each number with the vertex's degree.
@@ -69,7 +53,7 @@ def is_stable(graph: AnyGraph, chips: Chips | FileName) -> bool:
     return _held(graph, chips, None).is_stable()
 
 
-def burning_script(graph: AnyGraph, *, large: bool = False, program: FileName | None = None) -> Configuration:
+def burning_script(graph: AnyGraph, *, large: bool = False, program: AnyProgram = None) -> Configuration:
     """The least burning script, by Speer: how often each vertex fires when a recurrent configuration burns.
 
     It is the least of the scripts that fire each vertex at least once and leave no vertex with more chips than before.
@@ -82,19 +66,16 @@ def burning_script(graph: AnyGraph, *, large: bool = False, program: FileName | 
     return Configuration(graph, burning.burning(graph, program)[0])
 
 
-def burning_configuration(graph: AnyGraph, *, large: bool = False, program: FileName | None = None) -> Configuration:
-    """The chips that set a recurrent configuration on fire: those that `burning_script` takes away, each vertex's.
+def burning_configuration(graph: AnyGraph, *, large: bool = False, program: AnyProgram = None) -> Configuration:
+    """The chips that `burning_script` takes away. Added to a recurrent configuration and stabilized, it comes back.
 
-    Whoever adds them to a recurrent configuration and stabilizes gets that configuration back.
     Proved: the chips of the play that `burning_script` tells of. Not proved: that they come to these.
     """
     graph = known_graph(graph, program)
     return Configuration(graph, burning.burning(graph, program)[1])
 
 
-def is_recurrent(
-    graph: AnyGraph, chips: Chips | FileName, *, large: bool = False, program: FileName | None = None
-) -> bool:
+def is_recurrent(graph: AnyGraph, chips: Chips, *, large: bool = False, program: AnyProgram = None) -> bool:
     """Whether a configuration is recurrent: stable, and what each can become by more chips and firings.
 
     The method is the burning test, for directed multigraphs too: a configuration is recurrent exactly where it comes
@@ -105,24 +86,21 @@ def is_recurrent(
 
 
 def recurrent_representative(
-    graph: AnyGraph, chips: Chips | FileName, *, large: bool = False, program: FileName | None = None
+    graph: AnyGraph, chips: Chips, *, large: bool = False, program: AnyProgram = None
 ) -> Configuration:
-    """The one recurrent configuration that is equivalent to this one, whose chips may be below 0.
+    """The one recurrent configuration to which firings, also backward, lead from this one; chips may be below 0.
 
-    Firings, also backward, lead from one to the other. It is found as the stable sum of the configuration and the
-    recurrent identity; where a vertex has less than 0, chips that are equivalent to none are added first.
+    It is the stable sum with the recurrent identity; chips that are equivalent to none are added where some are below 0.
     Proved: the stabilizations that are asked for. Not proved: the sums between them.
     """
     held = _held(graph, chips, program)
     return Configuration(held.graph, burning.recurrent(held.graph, held.numbers, program))
 
 
-def superstable_representative(
-    graph: AnyGraph, chips: Chips | FileName, *, program: FileName | None = None
-) -> Configuration:
-    """The one superstable configuration that is equivalent to this one, whose chips may be below 0: its q-reduced form.
+def superstable_representative(graph: AnyGraph, chips: Chips, *, program: AnyProgram = None) -> Configuration:
+    """The one superstable configuration that is equivalent to this one, the q-reduced one; chips may be below 0.
 
-    It is what the recurrent representative of the maximal stable configuration less this one lacks to the former.
+    With `m` the maximal stable configuration, it is `m` less the recurrent representative of `m` less this one.
     Proved: the stabilizations that are asked for. Not proved: the sums between them.
     """
     held = _held(graph, chips, program)
@@ -130,9 +108,7 @@ def superstable_representative(
     return most - recurrent_representative(held.graph, most - held, program=program)
 
 
-def is_superstable(
-    graph: AnyGraph, chips: Chips | FileName, *, large: bool = False, program: FileName | None = None
-) -> bool:
+def is_superstable(graph: AnyGraph, chips: Chips, *, large: bool = False, program: AnyProgram = None) -> bool:
     """Whether a configuration is superstable: no vertices can fire together, not even several times each.
 
     Together they may fire where none is left with fewer than 0 chips, whether or not one of them could fire alone. On
@@ -143,7 +119,7 @@ def is_superstable(
     return _held(graph, chips, program).is_superstable(program=program)
 
 
-def superstables(graph: AnyGraph, *, program: FileName | None = None) -> Iterator[Configuration]:
+def superstables(graph: AnyGraph, *, program: AnyProgram = None) -> Iterator[Configuration]:
     """All superstable configurations of a small graph, one after the other; `order` says how many there are.
 
     Nothing of this is proved but the burning script, as it says: Python burns each of them itself.
@@ -152,20 +128,18 @@ def superstables(graph: AnyGraph, *, program: FileName | None = None) -> Iterato
     return (Configuration(known, numbers) for numbers in burning.superstables(known, program))
 
 
-def recurrents(graph: AnyGraph, *, program: FileName | None = None) -> Iterator[Configuration]:
+def recurrents(graph: AnyGraph, *, program: AnyProgram = None) -> Iterator[Configuration]:
     """All recurrent configurations of a small graph: what the superstable ones lack to the maximal stable one.
 
     Nothing of this is proved but the burning script, as it says: Python burns each of them itself.
     """
-    known = known_graph(graph, program)
-    most = known.max_stable()
-    return (most - chips for chips in superstables(known, program=program))
+    most = known_graph(graph, program).max_stable()
+    return (most - chips for chips in superstables(most.graph, program=program))
 
 
 def laplacian(graph: AnyGraph, *, sparse: bool = False) -> Any:
-    """The Laplacian: in the row of each vertex what it sends away when it fires, less what it sends to each other.
+    """The Laplacian, rows as lists, or `sparse` by SciPy: what each vertex sends away, less what it sends to each.
 
-    Rows are lists, or with `sparse` those of a matrix of SciPy.
     Nothing of this is proved, and the program is not asked.
     """
     known = known_graph(graph)
@@ -197,18 +171,16 @@ def invariant_factors(graph: AnyGraph) -> tuple[int, ...]:
     """The invariant factors of the sandpile group, above 1 and ascending; each divides the next.
 
     (4, 4) says that the group is that of the pairs of numbers modulo 4. A graph whose group has one element has none.
-    They are those of the reduced Laplacian, found by exact whole numbers: a grid of 40 by 40 takes a second, one of 50
-    by 50 some four.
+    A grid of 40 by 40 takes a second, one of 50 by 50 some four.
     Nothing of this is proved, and the program is not asked.
     """
     return tuple(smith.invariant_factors(smith.reduced(known_graph(graph))))
 
 
 def order(graph: AnyGraph) -> int:
-    """The order of the sandpile group: how many recurrent configurations there are.
+    """The order of the sandpile group: how many recurrent configurations there are, and superstable ones.
 
-    As many are the spanning trees whose edges lead to the sink, each edge counted as often as its multiplicity. It is
-    the determinant of the reduced Laplacian, and as exact as the invariant factors, whose product it is.
+    As many are the spanning trees whose edges lead to the sink, each edge counted as often as its multiplicity.
     Nothing of this is proved, and the program is not asked.
     """
     return smith.order(smith.reduced(known_graph(graph)))
@@ -241,12 +213,7 @@ class Avalanche:
 
 
 def avalanche(
-    graph: AnyGraph,
-    chips: Chips | FileName,
-    vertex: Hashable,
-    *,
-    large: bool = False,
-    program: FileName | None = None,
+    graph: AnyGraph, chips: Chips, vertex: Hashable, *, large: bool = False, program: AnyProgram = None
 ) -> Avalanche:
     """What happens when one chip is dropped on a vertex of a stable configuration.
 
@@ -256,12 +223,7 @@ def avalanche(
 
 
 def avalanches(
-    graph: AnyGraph,
-    chips: Chips | FileName,
-    vertices: Iterable[Hashable],
-    *,
-    large: bool = False,
-    program: FileName | None = None,
+    graph: AnyGraph, chips: Chips, vertices: Iterable[Hashable], *, large: bool = False, program: AnyProgram = None
 ) -> Iterator[Avalanche]:
     """The avalanches of one chip after another: each is dropped on a vertex of what the one before it left.
 
@@ -271,17 +233,16 @@ def avalanches(
     held = _held(graph, chips, program)
     if not held.is_stable():
         raise ValueError("the chips are not stable: stabilize them first")
-    return _dropped(held.graph, held.numbers, vertices, program)
+    return _dropped(held, vertices, program)
 
 
-def _dropped(
-    graph: Graph, numbers: burning.Numbers, vertices: Iterable[Hashable], program: FileName | None
-) -> Iterator[Avalanche]:
+def _dropped(held: Configuration, vertices: Iterable[Hashable], program: AnyProgram) -> Iterator[Avalanche]:
     """The avalanches from a stable configuration on."""
+    graph = held.graph
     for name in vertices:
-        chips = list(numbers)
+        chips = list(held.numbers)
         chips[graph.number(name)] += 1
         left, counts = burning.stabilized(graph, chips, program)
-        numbers = burning.inner(graph, left)
+        held = Configuration(graph, left)
         fired = {graph.names[vertex]: count for vertex, count in enumerate(counts) if count}
-        yield Avalanche(name, fired, Configuration(graph, numbers), left[graph.sink])
+        yield Avalanche(name, fired, held, left[graph.sink])

@@ -3,7 +3,7 @@
 
 pub use chip_sequence::{AfterFault, NotLegal, Outcome, Resumed, after, after_into, enough, fire};
 pub use player::{plain, plain_watched};
-pub use sitting::{ResumeFault, resume};
+pub use sitting::{ResumeFault, resume, resume_watched};
 pub use watch::{Unwatched, Watch};
 
 mod certificate;

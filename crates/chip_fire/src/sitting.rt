@@ -4,7 +4,8 @@ ghost use Rattle.std.specs.Prelude.{◌≡◌, ℕ, ◌<◌, ◌≤◌, IfOk, If
 ghost use Rattle.chip_sequence.specs.Sittings.{IsResumed, IsPlayFrom, fired_in_all, max_prior};
 ghost use Rattle.chip_fire.specs.Resume.{Resumes, IsPriorFault};
 
-use crate::player::plain;
+use crate::player::plain_watched;
+use crate::watch::{Unwatched, Watch};
 use chip_graph::{Game, GameFault, Graph};
 use chip_sequence::{MAX_PRIOR, Resumed};
 use std::alloc::{AllocError, Global};
@@ -72,6 +73,23 @@ pub fn resume(
     ensures goes_on { IfOk result
         (λ resumed. (x : ℕ → ℕ) → IsPlayFrom graph x earlier.now → IsPlayFrom graph x resumed) }
 {
+    resume_watched(alloc, graph, earlier, limit, &mut Unwatched)
+}
+
+/// Plays on as `resume` does, and tells time and again how far the sitting has come. The answer is the same, whoever is
+/// told.
+pub fn resume_watched<W: Watch>(
+    alloc: Global,
+    graph: Graph,
+    earlier: &Resumed,
+    limit: u64,
+    watch: &mut W,
+) -> Result<Resumed, ResumeFault>
+    requires { IsResumed earlier.now }
+    ensures answer { Resumes graph earlier.now limit result }
+    ensures goes_on { IfOk result
+        (λ resumed. (x : ℕ → ℕ) → IsPlayFrom graph x earlier.now → IsPlayFrom graph x resumed) }
+{
     let chips = &earlier.outcome.chips;
     if chips.len() as u64 != graph.vertices() {
         return Err(ResumeFault::Mismatch);
@@ -79,7 +97,8 @@ pub fn resume(
     let start = Vec::from_slice(alloc, chips)?;
     let game = Game::new(graph, start, limit)?;
     let prior = counts_so_far(alloc, earlier)?;
-    let outcome = plain(alloc, &game)?;
+    watch.plays(&game);
+    let outcome = plain_watched(alloc, &game, watch)?;
     Ok(Resumed { outcome, prior })
 }
 

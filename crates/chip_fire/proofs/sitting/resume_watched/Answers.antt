@@ -3,10 +3,10 @@ use Rattle.chip_graph.specs.ChipGame.{ChipGame, IsGame}
 use Rattle.chip_sequence.specs.Play.{IsPlayed}
 use Rattle.chip_fire.specs.Resume.{game_from}
 use Rattle.chip_fire.proofs.ResumeLemmas.{goes_on, still_leads}
-use Rattle.chip_fire.proofs.sitting.resume.Goals as goal
+use Rattle.chip_fire.proofs.sitting.resume_watched.Goals as goal
 
 pub returns-clause-answer : goal.returns-clause-answer
-returns-clause-answer c =
+returns-clause-answer g c =
     let start : c.in_ok-start.start.items ≡ c.args.earlier.now.outcome.chips.items = c.in_ok-start.ensures.items
     ∙ c.deref.ensures.value in
     let is : c.in_ok-game.game ≡ game_from c.args.graph c.args.earlier.now c.args.limit = c.in_ok-game.ensures.0
@@ -18,7 +18,7 @@ returns-clause-answer c =
     c.in_ok-outcome.ensures.in_range
 
 pub returns-clause-goes_on : goal.returns-clause-goes_on
-returns-clause-goes_on c =
+returns-clause-goes_on g c =
     still_leads c.args.graph c.args.earlier.now _ c.args.limit c.requires c.in_ok-prior.ensures.ok.0
     c.in_ok-prior.ensures.ok.1
-    (returns-clause-answer c)
+    (returns-clause-answer g c)

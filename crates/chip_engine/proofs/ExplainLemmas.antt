@@ -12,27 +12,27 @@ use Rattle.chip_engine.specs.ExplainCommand.{line_text, rows_of, row_with}
 use Rattle.chip_engine.proofs.LineLemmas.{lines_text-more}
 
 -- the text so far, and the line of one more row
-pub listed_more : (table : List (Bor Explanation)) (i : ℕ) (none : Bor Explanation) (text text' : List ℕ)
-    → i < length table → text ≡ lines_text line_text (take i (rows_of table))
-    → text' ≡ text ++ line_text (get_or table i none).now
-    → text' ≡ lines_text line_text (take (i + 1) (rows_of table))
-listed_more table i none text text' l so_far line =
+pub listed_more : (what : List ℕ) (table : List (Bor Explanation)) (i : ℕ) (none : Bor Explanation) (text text' : List ℕ)
+    → i < length table → text ≡ lines_text (line_text what) (take i (rows_of table))
+    → text' ≡ text ++ line_text what (get_or table i none).now
+    → text' ≡ lines_text (line_text what) (take (i + 1) (rows_of table))
+listed_more what table i none text text' l so_far line =
     let many : length (rows_of table) ≡ length table = length-map _ _ in
     let here : get_or (rows_of table) i none.now ≡ (get_or table i none).now = get_or-map _ table i none none.now l in
     line
-    ∙ ap (λ (t : List ℕ). t ++ line_text (get_or table i none).now) so_far
-    ∙ ap (λ (row : Explanation). lines_text line_text (take i (rows_of table)) ++ line_text row) (sym here)
-    ∙ sym (lines_text-more line_text (rows_of table) i none.now (omega arith))
+    ∙ ap (λ (t : List ℕ). t ++ line_text what (get_or table i none).now) so_far
+    ∙ ap (λ (row : Explanation). lines_text (line_text what) (take i (rows_of table)) ++ line_text what row) (sym here)
+    ∙ sym (lines_text-more (line_text what) (rows_of table) i none.now (omega arith))
 
 -- the text with all lines, and what closes it
-pub listed_all : (table : List (Bor Explanation)) (i : ℕ) (text text' closing : List ℕ) → length table ≤ i
-    → text ≡ lines_text line_text (take i (rows_of table)) → text' ≡ text ++ closing
-    → text' ≡ lines_text line_text (rows_of table) ++ closing
-listed_all table i text text' closing past so_far closed =
+pub listed_all : (what : List ℕ) (table : List (Bor Explanation)) (i : ℕ) (text text' closing : List ℕ) → length table ≤ i
+    → text ≡ lines_text (line_text what) (take i (rows_of table)) → text' ≡ text ++ closing
+    → text' ≡ lines_text (line_text what) (rows_of table) ++ closing
+listed_all what table i text text' closing past so_far closed =
     let many : length (rows_of table) ≡ length table = length-map _ _ in
     closed
     ∙ ap (λ (t : List ℕ). t ++ closing)
-    (so_far ∙ ap (lines_text line_text) (take_all i (rows_of table) (omega arith)))
+    (so_far ∙ ap (lines_text (line_text what)) (take_all i (rows_of table) (omega arith)))
 
 -- where nothing is found, a row is not the one, nor are those after it
 not_here : (is : Bool) (row : Explanation) (later : Option Explanation) → cond is (Some row) later ≡ None

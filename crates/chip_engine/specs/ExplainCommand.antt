@@ -1,4 +1,4 @@
--- From the number of a fault to what a table of faults says of it.
+-- From a number to what a table of faults or of rules says of it.
 use Rattle.std.specs.Prelude.{◌≡◌, ◌==◌, ℕ, List, ◌++◌, codes, find, Option, Some, None, option_map, map, Result}
 use Rattle.std.specs.Borrow.{Bor}
 use Rattle.std.specs.Fmt.{decimal}
@@ -9,21 +9,21 @@ use Rattle.chip_command.specs.declared.ended.Ended.{Ended}
 use Rattle.chip_command.specs.declared.fault.Fault.{Fault}
 use Rattle.chip_command.specs.declared.fault.Fault.TheVariants.{NoMemory, Usage}
 
--- a fault and what it means, on one line
-abbrev pub line_text : Explanation → List ℕ
-line_text row =
-    codes "fault " ++ decimal row.number ++ codes " " ++ row.name.now ++ row.place.letters.now ++ codes ": "
+-- a fault or a rule and what it means, on one line
+abbrev pub line_text : List ℕ → Explanation → List ℕ
+line_text what row =
+    what ++ codes " " ++ decimal row.number ++ codes " " ++ row.name.now ++ row.place.letters.now ++ codes ": "
     ++ row.meaning.now ++ codes "\n"
 
--- all that is said of one fault: its line, an empty line, how to read its numbers, and what to do
-abbrev pub row_text : Explanation → List ℕ
-row_text row = line_text row ++ codes "\n" ++ row.place.reading.now ++ row.advice.now
+-- all that is said of one: its line, an empty line, how to read its numbers, and what to do
+abbrev pub row_text : List ℕ → Explanation → List ℕ
+row_text what row = line_text what row ++ codes "\n" ++ row.place.reading.now ++ row.advice.now
 
--- a line for each fault of a table, and where more is said
-abbrev pub table_text : List Explanation → List ℕ
-table_text table =
-    lines_text line_text table
-    ++ codes "\n`chipfire explain N` says more of fault N, and docs/FORMATS.md has the files.\n"
+-- a line for each row of a table, and where more is said
+abbrev pub table_text : List ℕ → List Explanation → List ℕ
+table_text what table =
+    lines_text (line_text what) table
+    ++ codes "\n`chipfire explain N` says more of fault N, and `chipfire explain rule N` of rule N.\n"
 
 -- the rows that a table refers to
 abbrev pub rows_of : List (Bor Explanation) → List Explanation
@@ -33,10 +33,10 @@ rows_of table = map (λ row. row.now) table
 abbrev pub row_with : List Explanation → ℕ → Option Explanation
 row_with table number = find (λ row. row.number == number) table
 
--- what a table has to say: of the fault with a number, where a row has it; of all faults where no number is given
-abbrev pub explanation : List Explanation → Option ℕ → Option (List ℕ)
-explanation table (Some number) = option_map row_text (row_with table number)
-explanation table None = Some (table_text table)
+-- what a table has to say: in the row with a number, where there is one; in all rows where no number is given
+abbrev pub explanation : List ℕ → List Explanation → Option ℕ → Option (List ℕ)
+explanation what table (Some number) = option_map (row_text what) (row_with table number)
+explanation what table None = Some (table_text what table)
 
 -- why nothing is told: there is nothing to say, or else want of memory
 abbrev pub TellsNothing : Option (List ℕ) → Fault → Type 0

@@ -1,4 +1,4 @@
-//! `explain`: what a fault means, how to read its numbers and what to do, from a table of faults.
+//! `explain`: what a fault or a rule means, how to read its numbers and what to do, from a table of such.
 
 ghost use Rattle.std.specs.Prelude.{◌≡◌, ◌++◌, IfOk, option_map, string_bytes};
 ghost use Rattle.chip_command.specs.CommandAnswers.{Gives};
@@ -9,29 +9,32 @@ use chip_command::{Answer, Ended, Explanation, Fault, deliver};
 use std::alloc::{AllocError, Global};
 use std::io::Write;
 
-/// Explains the fault of a table with this number, or lists all its faults, a line each, where no number is given.
+/// Explains the row of a table with this number, or lists all its rows, a line each, where no number is given. `what`
+/// says what the rows are of: `fault` or `rule`.
 ///
 /// `Fault::Usage` where no row of the table has the number.
 pub fn explain_engine<W: Write>(
     alloc: Global,
+    what: &str,
     table: &[&Explanation],
     number: Option<u64>,
     output: &mut W,
 ) -> Result<Ended, Fault>
-    ensures { ExplainAnswers (explanation (rows_of table.now) number) (W.contents output.old) (W.contents output.new) result }
+    ensures { ExplainAnswers (explanation what.now (rows_of table.now) number) (W.contents output.old)
+        (W.contents output.new) result }
 {
-    deliver(output, tell(alloc, table, number))
+    deliver(output, tell(alloc, what, table, number))
 }
 
-/// What a table says of the fault with this number, or of all its faults.
-fn tell(alloc: Global, table: &[&Explanation], number: Option<u64>) -> Result<Answer, Fault>
-    ensures { let said = explanation (rows_of table.now) number in Gives (ExplainWrites said) (TellsNothing said) result }
+/// What a table says of the row with this number, or of all its rows.
+fn tell(alloc: Global, what: &str, table: &[&Explanation], number: Option<u64>) -> Result<Answer, Fault>
+    ensures { let said = explanation what.now (rows_of table.now) number in Gives (ExplainWrites said) (TellsNothing said) result }
 {
     let Some(number) = number else {
-        return Ok(Answer::of_lines(list_all(alloc, table)?));
+        return Ok(Answer::of_lines(list_all(alloc, what, table)?));
     };
     let row = row_of(table, number).ok_or(Fault::Usage)?;
-    Ok(Answer::of_lines(explain(alloc, row)?))
+    Ok(Answer::of_lines(explain(alloc, what, row)?))
 }
 
 /// The row of a table with this number, where there is one.
@@ -46,37 +49,37 @@ fn row_of<'a>(table: &[&'a Explanation], number: u64) -> Option<&'a Explanation>
     None
 }
 
-/// All that the table says of one fault.
-fn explain(alloc: Global, row: &Explanation) -> Result<String, AllocError>
-    ensures { IfOk result (λ text. string_bytes text ≡ row_text row.now) }
+/// All that the table says in one row.
+fn explain(alloc: Global, what: &str, row: &Explanation) -> Result<String, AllocError>
+    ensures { IfOk result (λ text. string_bytes text ≡ row_text what.now row.now) }
 {
     let mut text = String::new(alloc);
-    push_line(&mut text, row)?;
+    push_line(&mut text, what, row)?;
     write!(text, "\n{}{}", row.place.reading, row.advice)?;
     Ok(text)
 }
 
-/// A line for each fault of a table, and where more is said.
-fn list_all(alloc: Global, table: &[&Explanation]) -> Result<String, AllocError>
-    ensures { IfOk result (λ text. string_bytes text ≡ table_text (rows_of table.now)) }
+/// A line for each row of a table, and where more is said.
+fn list_all(alloc: Global, what: &str, table: &[&Explanation]) -> Result<String, AllocError>
+    ensures { IfOk result (λ text. string_bytes text ≡ table_text what.now (rows_of table.now)) }
 {
     let mut text = String::new(alloc);
     for row in table {
-        push_line(&mut text, row)?;
+        push_line(&mut text, what, row)?;
     }
     text.push_str(
-        "\n`chipfire explain N` says more of fault N, and docs/FORMATS.md has the files.\n",
+        "\n`chipfire explain N` says more of fault N, and `chipfire explain rule N` of rule N.\n",
     )?;
     Ok(text)
 }
 
-/// Appends a fault and what it means, on one line.
-fn push_line(text: &mut String, row: &Explanation) -> Result<(), AllocError>
-    ensures { IfOk result (λ _. string_bytes text.new ≡ string_bytes text.old ++ line_text row.now) }
+/// Appends a fault or a rule and what it means, on one line.
+fn push_line(text: &mut String, what: &str, row: &Explanation) -> Result<(), AllocError>
+    ensures { IfOk result (λ _. string_bytes text.new ≡ string_bytes text.old ++ line_text what.now row.now) }
 {
     write!(
         text,
-        "fault {} {}{}: {}\n",
+        "{what} {} {}{}: {}\n",
         row.number, row.name, row.place.letters, row.meaning
     )
 }

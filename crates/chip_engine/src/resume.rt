@@ -9,7 +9,7 @@ ghost use Rattle.chip_command.specs.CommandAnswers.{Gives, OrMemory};
 use crate::options::PlayOptions;
 use chip_command::{Answer, Ended, Fault, deliver, status_of};
 use chip_file::{read_graph_within, read_whole_within};
-use chip_fire::resume;
+use chip_fire::{Unwatched, Watch, resume_watched};
 use chip_graph::{Graph, Limits};
 use chip_report::{read_any_within, report_two};
 use chip_sequence::Resumed;
@@ -30,36 +30,46 @@ pub fn resume_engine<G: Read, R: Read, W: Write>(
     ensures { ResumeAnswers standard (G.remaining graph.old) (R.remaining report.old) limit
         (W.contents output.old) (W.contents output.new) result }
 {
-    resume_engine_with(alloc, graph, report, PlayOptions::standard(limit), output)
+    resume_engine_with(
+        alloc,
+        graph,
+        report,
+        PlayOptions::standard(limit),
+        &mut Unwatched,
+        output,
+    )
 }
 
-/// Does what `resume_engine` does, by these options.
-pub fn resume_engine_with<G: Read, R: Read, W: Write>(
+/// Does what `resume_engine` does, by these options, and tells now and then how far the play has come. Its answer and its
+/// bytes are the same, whoever is told.
+pub fn resume_engine_with<G: Read, R: Read, P: Watch, W: Write>(
     alloc: Global,
     graph: &mut G,
     report: &mut R,
     options: PlayOptions,
+    watch: &mut P,
     output: &mut W,
 ) -> Result<Ended, Fault>
     ensures { ResumeAnswers options.limits (G.remaining graph.old) (R.remaining report.old) options.limit
         (W.contents output.old) (W.contents output.new) result }
 {
-    deliver(output, answer(alloc, graph, report, options))
+    deliver(output, answer(alloc, graph, report, options, watch))
 }
 
 /// What `resume` has to say of a graph and a report.
-fn answer<G: Read, R: Read>(
+fn answer<G: Read, R: Read, P: Watch>(
     alloc: Global,
     graph: &mut G,
     report: &mut R,
     options: PlayOptions,
+    watch: &mut P,
 ) -> Result<Answer, Fault>
     ensures { Gives (ResumeWrites options.limits (G.remaining graph.old) (R.remaining report.old) options.limit)
         (ResumeRefuses options.limits (G.remaining graph.old) (R.remaining report.old) options.limit) result }
 {
     let graph = read_graph_within(alloc, options.limits, graph)?;
     let earlier = read_sitting(alloc, options.limits, report)?;
-    go_on(alloc, graph, &earlier, options.limit)
+    go_on(alloc, graph, &earlier, options.limit, watch)
 }
 
 /// The sitting that a report of at most so many vertices and bytes tells, of either version.
@@ -71,12 +81,19 @@ fn read_sitting<R: Read>(alloc: Global, limits: Limits, report: &mut R) -> Resul
 }
 
 /// The report of the sitting that goes on from an earlier one, and the exit status.
-fn go_on(alloc: Global, graph: Graph, earlier: &Resumed, limit: u64) -> Result<Answer, Fault>
+fn go_on<P: Watch>(
+    alloc: Global,
+    graph: Graph,
+    earlier: &Resumed,
+    limit: u64,
+    watch: &mut P,
+) -> Result<Answer, Fault>
     requires { IsResumed earlier.now }
     ensures { Gives (ReportsOn graph earlier.now limit) (OrMemory (RefusesToGoOn graph earlier.now limit)) result }
 {
-    let resumed = resume(alloc, graph, earlier, limit)?;
+    let resumed = resume_watched(alloc, graph, earlier, limit, watch)?;
     let text = report_two(alloc, &resumed)?;
+    watch.writes(text.len() as u64);
     Ok(Answer {
         text,
         status: status_of(&resumed.outcome),

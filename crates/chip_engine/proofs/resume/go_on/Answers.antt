@@ -4,7 +4,7 @@ use Rattle.chip_engine.proofs.SittingLemmas.{leads_on, none_legal}
 use Rattle.chip_engine.proofs.resume.go_on.Goals as goal
 
 pub returns : goal.returns
-returns c = let on = c.in_ok-resumed.ensures.answer in record {
+returns g c = let on = c.in_ok-resumed.ensures.answer in record {
   resumed = c.in_ok-resumed.resumed;
   goes_on = on;
   adds_up = λ x leads. leads_on c.args.graph on.is_game.graph_fits x c.in_ok-resumed.resumed

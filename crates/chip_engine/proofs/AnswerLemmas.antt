@@ -1,39 +1,66 @@
 -- Serves SimulateCommand.antt.
--- The lines of a schedule, as far as a loop over its events has come.
-use Rattle.std.proofs.Common.{◌≡◌, ℕ, Bool, List, [], ◌∷◌, ◌++◌, sym, ap, ◌∙◌, subst}
-use Rattle.std.proofs.Common.{append_assoc, append-nil}
+-- The lines of a schedule, as far as it was run.
+use Rattle.std.proofs.Common.{◌≡◌, ℕ, Bool, true, false, List, [], ◌∷◌, ◌++◌, refl, sym, ap, ◌∙◌, subst, append_assoc, append-nil}
 use Rattle.chip_link.specs.declared.event.Event.{Event}
 use Rattle.chip_part.specs.declared.reply.Reply.{Reply}
 use Rattle.chip_part.specs.Setting.{Setting}
-use Rattle.chip_core.specs.Core.{Log, step, log_after}
+use Rattle.chip_core.specs.Core.{Log, step, log_after, replies_to}
 use Rattle.chip_core.proofs.ReplyLemmas.{log_after-append}
 use Rattle.chip_world.specs.World.{WorldState, StandsForLog, WhateverLog, Steps}
-use Rattle.chip_engine.specs.SimulateCommand.{answer_text, answers_text}
+use Rattle.chip_world.specs.Run.{Runs}
+use Rattle.chip_world.specs.declared.world.running.Record.{Record}
+use Rattle.chip_engine.specs.Board.{board_text}
+use Rattle.chip_engine.specs.Lines.{lines_text}
+use Rattle.chip_engine.specs.SimulateCommand.{reply_text, answer_text, answers_text}
 
-answers_text-push : (books : Bool) (g : Setting) (log : Log) (xs : List Event) (x : Event)
-    → answers_text books g log (xs ++ x ∷ []) ≡ answers_text books g log xs
-    ++ answer_text books g (step g (log_after g log xs) x).0 (step g (log_after g log xs) x).1
-answers_text-push books g log [] x = append-nil (answer_text books g (step g log x).0 (step g log x).1)
-answers_text-push books g log (y ∷ xs) x =
-    let first : List ℕ = answer_text books g (step g log y).0 (step g log y).1 in
-    let now = step g (log_after g (step g log y).0 xs) x in
-    ap (λ (t : List ℕ). first ++ t) (answers_text-push books g (step g log y).0 xs x)
-    ∙ sym (append_assoc first (answers_text books g (step g log y).0 xs) (answer_text books g now.0 now.1))
+answers_text-append : (books : Bool) (g : Setting) (log : Log) (xs ys : List Event)
+    → answers_text books g log (xs ++ ys) ≡ answers_text books g log xs ++ answers_text books g (log_after g log xs) ys
+answers_text-append books g log [] ys = refl
+answers_text-append books g log (x ∷ xs) ys =
+    let first : List ℕ = answer_text books g (step g log x).0 (step g log x).1 in
+    ap (λ (t : List ℕ). first ++ t) (answers_text-append books g (step g log x).0 xs ys)
+    ∙ sym (append_assoc first (answers_text books g (step g log x).0 xs) (answers_text books g (log_after g log (x ∷ xs)) ys))
 
--- one event more, and its answer
-pub one_answer_more : (books : Bool) (g : Setting) (done : List Event) (x : Event) (old new : WorldState)
-    (reply : Reply) (text text' : List ℕ) → StandsForLog g (log_after g [] done) old
-    → text ≡ answers_text books g [] done
-    → Steps old new x reply
-    → WhateverLog new (λ h log. text' ≡ text ++ answer_text books h log reply)
-    → StandsForLog g (log_after g [] (done ++ x ∷ [])) new × (text' ≡ answers_text books g [] (done ++ x ∷ []))
-one_answer_more books g done x old new reply text text' stands text_is steps wrote =
+answers_text-plain : (g : Setting) (log : Log) (xs : List Event)
+    → answers_text false g log xs ≡ lines_text reply_text (replies_to g log xs)
+answers_text-plain g log [] = refl
+answers_text-plain g log (x ∷ xs) =
+    let reply : Reply = (step g log x).1 in
+    ap (λ (t : List ℕ). t ++ answers_text false g (step g log x).0 xs) (append-nil (reply_text reply))
+    ∙ ap (λ (t : List ℕ). reply_text reply ++ t) (answers_text-plain g (step g log x).0 xs)
+
+-- what was run, and the lines of it
+abbrev pub HasRun : Bool → Setting → List Event → WorldState → List ℕ → Type 0
+HasRun books g done w text = StandsForLog g (log_after g [] done) w × (text ≡ answers_text books g [] done)
+
+-- one event more, its answer and the books
+pub one_answer_more : (g : Setting) (done : List Event) (x : Event) (old new : WorldState) (reply : Reply)
+    (text middle text' : List ℕ) → HasRun true g done old text → Steps old new x reply → middle ≡ text ++ reply_text reply
+    → WhateverLog new (λ h log. text' ≡ middle ++ board_text h log) → HasRun true g (done ++ x ∷ []) new text'
+one_answer_more g done x old new reply text middle text' (stands, text_is) steps wrote board =
     let log : Log = log_after g [] done in
     let after : Log = (step g log x).0 in
     let made = steps g log stands in
-    let log_is : log_after g [] (done ++ x ∷ []) ≡ after = log_after-append g [] done (x ∷ []) in (
+    let log_is : log_after g [] (done ++ x ∷ []) ≡ after = log_after-append g [] done (x ∷ []) in
+    let said : reply_text reply ++ board_text g after ≡ answers_text true g log (x ∷ []) =
+    ap (λ (r : Reply). reply_text r ++ board_text g after) made.1 ∙ sym (append-nil (answer_text true g after (step g log x).1)) in (
       subst (λ (l : Log). StandsForLog g l new) (sym log_is) made.0,
-      wrote g after made.0
-          ∙ (λ j. text_is j ++ answer_text books g after (made.1 j))
-          ∙ sym (answers_text-push books g [] done x),
+      board g after made.0
+          ∙ ap (λ (t : List ℕ). t ++ board_text g after) wrote
+          ∙ append_assoc text (reply_text reply) (board_text g after)
+          ∙ (λ j. text_is j ++ said j)
+          ∙ sym (answers_text-append true g [] done (x ∷ [])),
+    )
+
+-- a stretch of events more, and its replies
+pub one_stretch_more : (g : Setting) (done stretch : List Event) (old new : WorldState) (r : Record)
+    (text text' : List ℕ) → HasRun false g done old text → WhateverLog old (λ h log. Runs h log stretch new r)
+    → text' ≡ text ++ lines_text reply_text r.replies.items → HasRun false g (done ++ stretch) new text'
+one_stretch_more g done stretch old new r text text' (stands, text_is) runs wrote =
+    let log : Log = log_after g [] done in
+    let made = runs g log stands in
+    let said : lines_text reply_text r.replies.items ≡ answers_text false g log stretch =
+    ap (lines_text reply_text) made.recorded.replies_are ∙ sym (answers_text-plain g log stretch) in (
+      subst (λ (l : Log). StandsForLog g l new) (sym (log_after-append g [] done stretch)) made.world,
+      wrote ∙ (λ j. text_is j ++ said j) ∙ sym (answers_text-append false g [] done stretch),
     )

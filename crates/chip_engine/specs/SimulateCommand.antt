@@ -15,6 +15,7 @@ use Rattle.chip_core.specs.Headline.{NoneHaltedBySeal}
 use Rattle.chip_world.specs.declared.world.driving.Drive.{Drive}
 use Rattle.chip_world.specs.declared.world.driving.Drive.TheVariants.{Closed, Unfinished}
 use Rattle.chip_world.specs.Rounds.{IsDrive}
+use Rattle.chip_world.specs.World.{WorldState, StandsForLog}
 use Rattle.chip_core.specs.Outcomes.{IsOutcomeOf, ComesTo}
 use Rattle.chip_core.specs.Positions.{firings, chips_given, played_game}
 use Rattle.chip_file.specs.ScheduleText.{schedule_of_text, schedule_text_fault}
@@ -53,6 +54,10 @@ abbrev pub answers_text : Bool → Setting → Log → List Event → List ℕ
 answers_text books g log [] = []
 answers_text books g log (x ∷ xs) =
     answer_text books g (step g log x).0 (step g log x).1 ++ answers_text books g (step g log x).0 xs
+
+-- a world ran through these events from the opening on
+abbrev pub IsRunThrough : Setting → List Event → WorldState → Type 0
+IsRunThrough g events w = StandsForLog g (log_after g [] events) w
 
 -- the end of a closed run: the report of its outcome and the status that `plain` has for it. The firings of the run
 -- lead to this outcome, so that a play can go on from it; and unless a vertex halted by a seal, it is what `plain`

@@ -62,12 +62,12 @@ pub record SaysLoop (row : Explanation) : Type 0 where
 
 -- what a table of this row has to say of fault 6, of fault 7 and of all faults
 pub record IsExplained (row : Explanation) : Type 0 where
-  pub asked : explanation (row ∷ []) (Some 6)
+  pub asked : explanation (codes "fault") (row ∷ []) (Some 6)
       ≡ Some (codes "fault 6 Loop i: edge i is a loop\n\ni is an edge.\nLeave it out.\n")
-  pub unknown : explanation (row ∷ []) (Some 7) ≡ None
-  pub listed : explanation (row ∷ []) None
+  pub unknown : explanation (codes "fault") (row ∷ []) (Some 7) ≡ None
+  pub listed : explanation (codes "fault") (row ∷ []) None
       ≡ Some (codes "fault 6 Loop i: edge i is a loop\n"
-      ++ codes "\n`chipfire explain N` says more of fault N, and docs/FORMATS.md has the files.\n")
+      ++ codes "\n`chipfire explain N` says more of fault N, and `chipfire explain rule N` of rule N.\n")
 
 -- a row, explained
 abbrev pub LoopIsExplained : Type 0

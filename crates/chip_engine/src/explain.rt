@@ -27,7 +27,12 @@ pub fn explain_engine<W: Write>(
 }
 
 /// What a table says of the row with this number, or of all its rows.
-fn tell(alloc: Global, what: &str, table: &[&Explanation], number: Option<u64>) -> Result<Answer, Fault>
+fn tell(
+    alloc: Global,
+    what: &str,
+    table: &[&Explanation],
+    number: Option<u64>,
+) -> Result<Answer, Fault>
     ensures { let said = explanation what.now (rows_of table.now) number in Gives (ExplainWrites said) (TellsNothing said) result }
 {
     let Some(number) = number else {

@@ -1,17 +1,18 @@
 //! `simulate`: the core's replies to a schedule, and the report where the root closes.
 
-ghost use Rattle.std.specs.Prelude.{◌≡◌, ◌++◌, [], false, IfOk, codes, string_bytes};
+ghost use Rattle.std.specs.Prelude.{◌≡◌, ◌++◌, [], true, false, IfOk, codes, string_bytes};
 ghost use Rattle.chip_graph.specs.Limits.{standard};
 ghost use Rattle.chip_link.specs.Rings.{IsRing};
 ghost use Rattle.chip_part.specs.Setting.{Setting};
-ghost use Rattle.chip_core.specs.Core.{Log, IsClosed, log_after};
+ghost use Rattle.chip_core.specs.Core.{Log, IsClosed};
 ghost use Rattle.chip_world.specs.World.{StandsForLog, WhateverLog};
 ghost use Rattle.chip_world.specs.declared.world.driving.Drive.TheVariants.{Closed};
 ghost use Rattle.chip_command.specs.CommandAnswers.{Gives};
 ghost use Rattle.chip_command.specs.Statuses.{number_of_status};
 ghost use Rattle.chip_engine.specs.SimulateCommand.{SimulateAnswers, SimulateRefuses, SimulateWrites};
-ghost use Rattle.chip_engine.specs.SimulateCommand.{Simulates, EndsClosed, EndsBy};
-ghost use Rattle.chip_engine.specs.SimulateCommand.{message_text, reply_text, answer_text, answers_text};
+ghost use Rattle.chip_engine.specs.Lines.{lines_text};
+ghost use Rattle.chip_engine.specs.SimulateCommand.{Simulates, EndsClosed, EndsBy, IsRunThrough};
+ghost use Rattle.chip_engine.specs.SimulateCommand.{message_text, reply_text, answers_text};
 
 use crate::board::push_board;
 use crate::options::PlayOptions;
@@ -23,6 +24,9 @@ use chip_report::report;
 use chip_world::{Drive, World, WorldFault};
 use std::alloc::{AllocError, Global};
 use std::io::{Read, Write};
+
+/// How many events are run at a time.
+const STRETCH: usize = 1 << 16;
 
 /// The options of a simulation.
 #[derive(Clone, Copy)]
@@ -130,7 +134,7 @@ fn run(
     ensures { IfOk result
         (λ made. Simulates world.old.setting rounds books events.now made.text.items (number_of_status made.status)) }
 {
-    let mut text = run_schedule(alloc, world, events, books)?;
+    let mut text = run_schedule(alloc, world, events, books)?.into_bytes();
     let drive = world.drive(rounds);
     let end = end_of(alloc, world, drive)?;
     text.extend_from_slice(&end.text)?;
@@ -146,18 +150,52 @@ fn run_schedule(
     world: &mut World,
     events: &[Event],
     books: bool,
-) -> Result<Vec<u8>, AllocError>
+) -> Result<String, AllocError>
     requires { StandsForLog world.old.setting [] world.old }
-    ensures world { IfOk result
-        (λ _. let g = world.old.setting in StandsForLog g (log_after g [] events.now) world.new) }
-    ensures lines { IfOk result (λ lines. lines.items ≡ answers_text books world.old.setting [] events.now) }
+    ensures world { IfOk result (λ _. IsRunThrough world.old.setting events.now world.new) }
+    ensures lines { IfOk result (λ lines. string_bytes lines ≡ answers_text books world.old.setting [] events.now) }
+{
+    if books {
+        step_by_step(alloc, world, events)
+    } else {
+        stretch_by_stretch(alloc, world, events)
+    }
+}
+
+/// Event by event, the books after each reply.
+fn step_by_step(alloc: Global, world: &mut World, events: &[Event]) -> Result<String, AllocError>
+    requires { StandsForLog world.old.setting [] world.old }
+    ensures world { IfOk result (λ _. IsRunThrough world.old.setting events.now world.new) }
+    ensures lines { IfOk result (λ lines. string_bytes lines ≡ answers_text true world.old.setting [] events.now) }
 {
     let mut lines = String::new(alloc);
     for event in events {
         let reply = world.step(*event);
-        push_answer(&mut lines, reply, world, books)?;
+        push_reply(&mut lines, reply)?;
+        push_board(&mut lines, world)?;
     }
-    Ok(lines.into_bytes())
+    Ok(lines)
+}
+
+/// Many events at a time, whose replies the world keeps: of each such run the core theorem holds.
+fn stretch_by_stretch(
+    alloc: Global,
+    world: &mut World,
+    events: &[Event],
+) -> Result<String, AllocError>
+    requires { StandsForLog world.old.setting [] world.old }
+    ensures world { IfOk result (λ _. IsRunThrough world.old.setting events.now world.new) }
+    ensures lines { IfOk result (λ lines. string_bytes lines ≡ answers_text false world.old.setting [] events.now) }
+{
+    let mut lines = String::new(alloc);
+    let mut left = events;
+    while !left.is_empty() {
+        let (stretch, rest) = left.split_at(left.len().min(STRETCH));
+        let record = world.run(alloc, stretch)?;
+        push_replies(&mut lines, &record.replies)?;
+        left = rest;
+    }
+    Ok(lines)
 }
 
 /// The end of a run whose rounds ended so, and the exit status.
@@ -195,19 +233,13 @@ fn end_of_closed(alloc: Global, world: &World) -> Result<Answer, AllocError>
     })
 }
 
-/// Appends the line of a reply, and the books after it where they are asked for.
-fn push_answer(
-    lines: &mut String,
-    reply: Reply,
-    world: &World,
-    books: bool,
-) -> Result<(), AllocError>
-    ensures { IfOk result (λ _. WhateverLog world.now (λ g log.
-        string_bytes lines.new ≡ string_bytes lines.old ++ answer_text books g log reply)) }
+/// Appends the lines of replies.
+fn push_replies(lines: &mut String, replies: &[Reply]) -> Result<(), AllocError>
+    ensures { IfOk result
+        (λ _. string_bytes lines.new ≡ string_bytes lines.old ++ lines_text reply_text replies.now) }
 {
-    push_reply(lines, reply)?;
-    if books {
-        push_board(lines, world)?;
+    for reply in replies {
+        push_reply(lines, *reply)?;
     }
     Ok(())
 }

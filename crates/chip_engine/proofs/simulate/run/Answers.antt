@@ -1,4 +1,4 @@
-use Rattle.std.proofs.Common.{◌++◌, List, ℕ, ap, ◌∙◌, subst}
+use Rattle.std.proofs.Common.{◌++◌, List, ℕ, Vec, Global, ap, ◌∙◌, subst}
 use Rattle.chip_world.specs.Rounds.{AnswersDrive}
 use Rattle.chip_world.specs.declared.world.driving.Drive.{Drive}
 use Rattle.chip_engine.proofs.simulate.run.Goals as goal
@@ -6,7 +6,7 @@ use Rattle.chip_engine.proofs.simulate.run.Goals as goal
 pub end_of-requires : goal.end_of-requires
 end_of-requires c =
     let g = c.args.world.now.setting in
-    let driven = c.drive-drive.ensures.drives g _ c.in_ok-text.ensures.world in (
+    let driven = c.drive-drive.ensures.drives g _ c.in_ok-run_schedule.ensures.world in (
       g,
       driven.0,
       driven.1,
@@ -16,7 +16,7 @@ end_of-requires c =
 pub returns : goal.returns
 returns c =
     let g = c.args.world.now.setting in
-    let driven = c.drive-drive.ensures.drives g _ c.in_ok-text.ensures.world in
+    let driven = c.drive-drive.ensures.drives g _ c.in_ok-run_schedule.ensures.world in
     record {
       after = driven.0;
       drive = c.drive-drive.result;
@@ -24,7 +24,8 @@ returns c =
       end = c.in_ok-end.end.text.items;
       lines =
           c.in_ok-extend_from_slice.ensures.items
-          ∙ ap (λ (t : List ℕ). c.in_ok-text.text.items ++ t) c.deref.ensures.value
-          ∙ ap (λ (t : List ℕ). t ++ c.in_ok-end.end.text.items) c.in_ok-text.ensures.lines;
+          ∙ ap (λ (t : List ℕ). c.into_bytes-text.result.items ++ t) c.deref.ensures.value
+          ∙ ap (λ (t : List ℕ). t ++ c.in_ok-end.end.text.items)
+          (ap (λ (v : Vec ℕ Global). v.items) c.into_bytes-text.ensures.value ∙ c.in_ok-run_schedule.ensures.lines);
       ends = c.in_ok-end.ensures g driven.0 driven.1;
     }

@@ -104,12 +104,12 @@ module _ (setup now : TurnSetup) (key : Setting) (table : TableId) (me : Mine) (
     fits =
         let log = stepped.log in
         let in_log : part_of_view h w view ≡ part_in h log w =
-        ap (part_by h (opening_part h)) (stepped.agrees w (did_in w view) has) ∙ sym (by_history h log w) in
+        ap (part_by h (opening_part h)) (stepped.has.1 w (did_in w view) has) ∙ sym (by_history h log w) in
         let told : FitsSeen (part_in h log (part_of h x)) x (sees h log x) =
-        fits_seen h held.seated.setting.game held.seated.setting.some_ring log stepped.legal.0 x
-        (subst (λ (n : ℕ). n < h.game.graph.vertices) (sym due'.mine) held.seated.inside) stepped.legal.1.0 in
+        fits_seen h held.seated.setting.game held.seated.setting.some_ring log stepped.legal x
+        (subst (λ (n : ℕ). n < h.game.graph.vertices) (sym due'.mine) held.seated.inside) stepped.has.0.0 in
         subst (λ (z : Part × ℕ). FitsSeen z.0 x z.1)
-        (λ j. ((ap (part_in h log) due'.mine ∙ sym in_log) j, sym stepped.legal.1.1 j)) told
+        (λ j. ((ap (part_in h log) due'.mine ∙ sym in_log) j, sym stepped.has.0.1 j)) told
 
     longer_by : (table' : TableId) → table' ≡ table → (trace' : TraceState) (room' : ℕ) → room' ≡ now.room
         → ((all : List TraceRow) → Keeps all trace → Keeps (all ++ row_of x (word_to_note x seen)) trace')

@@ -95,16 +95,16 @@ module _ (i : Inside) (keeps : IsRoot i.setting.value i.seat.me.0 i.state) where
   abbrev own : Setting
   own = i.setting.value
 
-  part_is : root_part (the_view i) ≡ part_in own keeps.log (root own)
-  part_is = ap (part_by own (opening_part own)) keeps.in_log ∙ sym (by_history own keeps.log (root own))
+  part_is : root_part (the_view i) ≡ part_in own keeps.in_log.log (root own)
+  part_is = ap (part_by own (opening_part own)) keeps.in_log.has ∙ sym (by_history own keeps.in_log.log (root own))
 
-  fed_is : fed_in own (done_by own (root own) keeps.log) ≡ fed_by (the_view i)
-  fed_is = sym (ap (fed_in own) keeps.in_log)
+  fed_is : fed_in own (done_by own (root own) keeps.in_log.log) ≡ fed_by (the_view i)
+  fed_is = sym (ap (fed_in own) keeps.in_log.has)
 
   pub given_is_fed : all_fed own (root_part (the_view i)) ≡ all_given (the_view i)
-  given_is_fed = ap (all_fed own) part_is ∙ fed_sum own keeps.setting keeps.log keeps.legal
+  given_is_fed = ap (all_fed own) part_is ∙ fed_sum own keeps.setting keeps.in_log.log keeps.in_log.legal
       ∙ ap (λ (fed : List (ℕ × ℕ)). sum own.game.start + all_brought fed) fed_is
 
   few : all_given (the_view i) ≤ max_total
   few = subst (λ (fed : List (ℕ × ℕ)). sum own.game.start + all_brought fed ≤ max_total) fed_is
-      (given_few own keeps.setting keeps.log keeps.legal)
+      (given_few own keeps.setting keeps.in_log.log keeps.in_log.legal)

@@ -123,11 +123,11 @@ module _ (old now : RootKnown) (setting : IsSetting old.net.setting) (tally : Ta
 
   -- the reads feed nothing: what was fed is in that log
   recorded : fed_in h (done_by h (root h) out'.log) ≡ fed_by old
-  recorded = ap (fed_in h) (sym out'.agrees.root_did) ∙ reads_feed_none h old.did 0 reading.words
+  recorded = ap (fed_in h) (sym out'.has.0.root_did) ∙ reads_feed_none h old.did 0 reading.words
 
   -- what was given is the start of the game that was played
   root_is : part_in h out'.log (root h) ≡ part_by h (root_part old) (reads_from 0 reading.words)
-  root_is = by_history h out'.log (root h) ∙ ap (part_by h (opening_part h)) (sym out'.agrees.root_did)
+  root_is = by_history h out'.log (root h) ∙ ap (part_by h (opening_part h)) (sym out'.has.0.root_did)
       ∙ part_append h (opening_part h) old.did (reads_from 0 reading.words)
 
   start_is : given ≡ (played_game h out'.log).start
@@ -158,7 +158,7 @@ module _ (old now : RootKnown) (setting : IsSetting old.net.setting) (tally : Ta
       ∙ ap (λ (k : ChipGame). slice_index k.start) same_game
 
   word_at : (v : ℕ) → v < h.game.graph.vertices → get_or reading.words v 0 ≡ word_of_part (part_in h out'.log v)
-  word_at v l = out'.words_are v (let c = reading.count_is in omega arith)
+  word_at v l = out'.has.2 v (let c = reading.count_is in omega arith)
 
   module _ (fired : List ℕ) (fired_is : fired ≡ tally.fired) where
     are_fired : AreFired h out'.log h.game.graph.vertices fired
@@ -210,14 +210,14 @@ module _ (old now : RootKnown) (setting : IsSetting old.net.setting) (tally : Ta
         let same = same_ends h.game.graph setting.game.graph_fits (slice_index game.start)
         (firings out'.log) vs all_come.sequence
         (subst (λ (x : ℕ → ℕ). HasEnded h.game.graph x (firings out'.log)) from
-        (all_ended h setting.game setting.some_ring out'.log out'.legal out'.closed (no_halts over sealed))) ok ended
+        (all_ended h setting.game setting.some_ring out'.log out'.legal out'.has.1 (no_halts over sealed))) ok ended
         in
         ((λ v. all_come.counted v ∙ same.0 v), (λ v. all_come.position v ∙ same.1 v)))
 
     -- the stopper's part stands in the root's view, and did nothing
     unsealed : old.stopper_did ≡ Some [] → o.sealed.items ≡ []
     unsealed none = outcome_is.sealed ∙ picked_none (λ v. is_by_seal (part_in h out'.log v).halt) h.game.graph.vertices
-        (λ v l. never_sealed h out'.log out'.legal (sym (out'.agrees.stopper_did [] none)) v)
+        (λ v l. never_sealed h out'.log out'.legal (sym (out'.has.0.stopper_did [] none)) v)
 
     pub finishes : Finishes old now o
     finishes = subst (λ (r : RootKnown). Finishes old r o) (sym reading.record_is) record {
@@ -234,7 +234,7 @@ module _ (old now : RootKnown) (setting : IsSetting old.net.setting) (tally : Ta
       comes = all_come;
       in_range = in_range h setting.game setting.some_ring out'.log out'.legal o outcome_is;
       played = λ empty. subst (λ (k : ChipGame). IsPlayed k o) same_game
-          (is_played h setting.game setting.some_ring out'.log out'.legal o outcome_is out'.closed (no_seals empty));
+          (is_played h setting.game setting.some_ring out'.log out'.legal o outcome_is out'.has.1 (no_seals empty));
       one_end = one_end;
       unsealed = unsealed;
     }
@@ -271,31 +271,31 @@ module _ (old receipt : RootKnown) (o : Outcome) (actors : List ActorKnown) (fin
   vertices_is = finishes.one_each ∙ ap (λ (n : NetId). n.setting.game.graph.vertices) (sym net_is)
 
   -- the reads are in the log, and each tells the word of its vertex there
-  tells : (v : ℕ) → v < k.game.graph.vertices → (v < k.game.graph.vertices) × IsClosed k met.log
-      × (get_or finishes.words v 0 ≡ word_of_part (part_in k met.log v))
-  tells v l = reads_tell k met.setting.game met.setting.some_ring met.log met.legal (saw (Read v) (get_or finishes.words v 0)) v
-      (done_in_log k (root k) met.log (saw (Read v) (get_or finishes.words v 0))
+  tells : (v : ℕ) → v < k.game.graph.vertices → (v < k.game.graph.vertices) × IsClosed k met.1.log
+      × (get_or finishes.words v 0 ≡ word_of_part (part_in k met.1.log v))
+  tells v l = reads_tell k met.0.game met.0.some_ring met.1.log met.1.legal (saw (Read v) (get_or finishes.words v 0)) v
+      (done_in_log k (root k) met.1.log (saw (Read v) (get_or finishes.words v 0))
       (subst (λ (d : List Step). Contains d (saw (Read v) (get_or finishes.words v 0)))
-      (sym (ap (λ (r : RootKnown). r.did) finishes.record_is) ∙ met.agrees.root_did)
+      (sym (ap (λ (r : RootKnown). r.did) finishes.record_is) ∙ met.1.has.0.root_did)
       (Contains-append_right old.did (reads_from 0 finishes.words) (saw (Read v) (get_or finishes.words v 0))
       (reads_at 0 finishes.words v (omega (arith, vertices_is)) v (omega arith))))) refl
 
   -- in both logs the root is the same
-  root_same : part_in k met.log (root k) ≡ part_in k finishes.read_out.log (root k)
-  root_same = by_history k met.log (root k)
-      ∙ ap (part_by k (opening_part k)) (sym met.agrees.root_did ∙ finishes.read_out.agrees.root_did)
+  root_same : part_in k met.1.log (root k) ≡ part_in k finishes.read_out.log (root k)
+  root_same = by_history k met.1.log (root k)
+      ∙ ap (part_by k (opening_part k)) (sym met.1.has.0.root_did ∙ finishes.read_out.has.0.root_did)
       ∙ sym (by_history k finishes.read_out.log (root k))
 
   pub one_run : IsRun receipt actors o
   one_run = record {
-    log = met.log;
-    legal = met.legal;
-    agrees = met.agrees;
-    actors_did = met.actors_did;
-    closed = (tells 0 (met.setting.game.graph_fits.some_vertex)).1;
-    outcome = outcome_by_words k met.setting met.log met.legal finishes.words vertices_is (λ v l. (tells v l).2) o
+    log = met.1.log;
+    legal = met.1.legal;
+    agrees = met.1.has.0;
+    actors_did = met.1.has.1;
+    closed = (tells 0 (met.0.game.graph_fits.some_vertex)).1;
+    outcome = outcome_by_words k met.0 met.1.log met.1.legal finishes.words vertices_is (λ v l. (tells v l).2) o
         finishes.read (subst (λ (game : ChipGame). IsAfter game o.fired.items o.chips.items)
-        (same_played k met.setting met.log finishes.read_out.log finishes.read_out.legal root_same)
+        (same_played k met.0 met.1.log finishes.read_out.log finishes.read_out.legal root_same)
         (subst (λ (n : NetId). IsAfter (played_game n.setting finishes.read_out.log) o.fired.items o.chips.items)
         (sym net_is) finishes.of_log.chips));
   }

@@ -39,7 +39,7 @@ may_look g slots id word me table kept homes at few = (
     record {
       log = kept.log;
       legal = kept.legal;
-      agrees = λ p did found. (kept.each_part id me.0 at p did found).1;
+      has = λ p did found. (kept.each_part id me.0 at p did found).1;
     },
   ),
 )
@@ -118,22 +118,27 @@ pub as_they_are : (f : ActorKnown → ActorKnown) (xs : List ActorKnown) → fir
 as_they_are f [] = refl
 as_they_are f (x ∷ xs) = ap (λ (ys : List ActorKnown). x ∷ ys) (as_they_are f xs)
 
-module _ (net : NetId) (olds : List ActorKnown) (places : AreInPlace net olds) (f g : ActorKnown → ActorKnown) (n : ℕ)
-    (items : List ActorKnown) (items_is : items ≡ first_as f g n olds) (inside : n < length olds) (a : ActorKnown)
-    (a_is : a ≡ get_or items n a) where
-  -- the next actor, as it was
-  abbrev pub next : ActorKnown
-  next = get_or olds n a
+-- a is the next of these actors: as it was it is g of the old one, and by f of it there is one more among the first
+pub record Next (net : NetId) (olds : List ActorKnown) (f g : ActorKnown → ActorKnown) (n : ℕ) (items : List ActorKnown)
+    (a : ActorKnown) : Type 0 where
+  pub inside : n < length olds
+  pub old : ActorKnown
+  pub at : slice_get olds n ≡ Some old
+  pub place : (old.net ≡ net) × (old.vertex ≡ n)
+  pub is : a ≡ g old
+  pub more : (b : ActorKnown) → b ≡ f old → set items n b ≡ first_as f g (n + 1) olds
 
-  pub next_at : slice_get olds n ≡ Some next
-  next_at = get_here olds n a inside
-
-  pub next_place : (next.net ≡ net) × (next.vertex ≡ n)
-  next_place = places n next next_at
-
-  pub next_is : a ≡ g next
-  next_is = a_is ∙ ap (λ (xs : List ActorKnown). get_or xs n a) items_is ∙ next_get f g n olds a inside
-
-  pub one_more : (b : ActorKnown) → b ≡ f next → set items n b ≡ first_as f g (n + 1) olds
-  one_more b b_is = (λ j. set (items_is j) n (b_is j)) ∙ next_set f g n olds a inside
-      ∙ ap (λ (k : ℕ). first_as f g k olds) (omega arith)
+pub next : (net : NetId) (olds : List ActorKnown) → AreInPlace net olds → (f g : ActorKnown → ActorKnown) (n : ℕ)
+    (items : List ActorKnown) → items ≡ first_as f g n olds → n < length items → (a d : ActorKnown) → a ≡ get_or items n d
+    → Next net olds f g n items a
+next net olds places f g n items items_is inside a d a_is =
+    let all = ap length items_is ∙ first_length f g n olds in
+    let l : n < length olds = omega (arith, all, inside) in record {
+      inside = l;
+      old = get_or olds n d;
+      at = get_here olds n d l;
+      place = places n (get_or olds n d) (get_here olds n d l);
+      is = a_is ∙ ap (λ (xs : List ActorKnown). get_or xs n d) items_is ∙ next_get f g n olds d l;
+      more = λ b b_is. (λ j. set (items_is j) n (b_is j)) ∙ next_set f g n olds d l
+          ∙ ap (λ (k : ℕ). first_as f g k olds) (omega arith);
+    }

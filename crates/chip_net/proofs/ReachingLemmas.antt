@@ -7,6 +7,8 @@ use Rattle.chip_core.specs.Core.{Step, Part, part_in, word_of_part}
 use Rattle.chip_core.specs.Histories.{done_by}
 use Rattle.chip_core.specs.Words.{of_vertex}
 use Rattle.chip_core.specs.Reached.{parts_by}
+use Rattle.chip_core.proofs.GivenLemmas.{never_sealed}
+use Rattle.chip_core.proofs.NumberLemmas.{counts_of_edges}
 use Rattle.chip_core.proofs.LogLemmas.{edge_sound}
 use Rattle.chip_core.proofs.ReachingLemmas.{by_history}
 use Rattle.chip_core.proofs.ReachedLemmas.{reached_by_legal_logs}
@@ -37,7 +39,9 @@ every_moment g s kept =
           record {
             word = (kept.shown.edges e l).word_is;
             cells = (kept.shown.edges e l).ring_is;
+            unsealed = never_sealed g kept.log kept.legal e;
             acks = kept.shown.acks e l;
+            settled = (counts_of_edges g kept.setting.game kept.setting.some_ring kept.log kept.legal e).settled;
             prefix = front _ _ (sound e).prefix;
             sealed = (sound e).sealed_at;
           };

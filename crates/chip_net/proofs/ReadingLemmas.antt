@@ -14,7 +14,7 @@ use Rattle.chip_part.specs.Setting.{Setting, IsSetting}
 use Rattle.chip_part.specs.Edges.{root, stopper}
 use Rattle.chip_part.specs.Part.{deficit, AreGiven}
 use Rattle.chip_part.specs.Steps.{saw}
-use Rattle.chip_core.specs.Core.{Log, Step, Read, Part, opening_part, part_of, part_in, does, word_of_part, IsClosed}
+use Rattle.chip_core.specs.Core.{Log, Step, Read, Part, opening_part, part_of, part_in, does, word_of_part, IsClosed, IsLegalLog}
 use Rattle.chip_core.specs.Histories.{done_by, part_by}
 use Rattle.chip_core.specs.Positions.{fed_of, fed_in}
 use Rattle.chip_core.proofs.ReadLemmas.{reads_tell}
@@ -149,42 +149,47 @@ module _ (old now then : RootKnown) (tally : TallyState) (v seen : ℕ) (setting
   setting' : IsSetting now.net.setting
   setting' = subst (λ (n : NetId). IsSetting n.setting) (sym (reading_net old now tally v reading)) setting
 
-  tells : (y : Step) (u : ℕ) → Contains (x ∷ reads.log) y → y.event ≡ Read u
-      → (u < g.game.graph.vertices) × IsClosed g (x ∷ reads.log) × (y.seen ≡ word_of_part (part_in g (x ∷ reads.log) u))
-  tells y u at is = reads_tell g setting'.game setting'.some_ring (x ∷ reads.log) reads.legal y u at is
+  legal : IsLegalLog g (x ∷ reads.1.log)
+  legal = (reads.1.legal, reads.1.has.0)
+
+  tells : (y : Step) (u : ℕ) → Contains (x ∷ reads.1.log) y → y.event ≡ Read u
+      → (u < g.game.graph.vertices) × IsClosed g (x ∷ reads.1.log) × (y.seen ≡ word_of_part (part_in g (x ∷ reads.1.log) u))
+  tells y u at is = reads_tell g setting'.game setting'.some_ring (x ∷ reads.1.log) legal y u at is
 
   -- an earlier read is in the log
-  earlier : (k : ℕ) → k < length words → Contains (x ∷ reads.log) (read k (get_or words k 0))
-  earlier k l = later x (read k (get_or words k 0)) reads.log
-      (done_in_log g (root g) reads.log (read k (get_or words k 0))
+  earlier : (k : ℕ) → k < length words → Contains (x ∷ reads.1.log) (read k (get_or words k 0))
+  earlier k l = later x (read k (get_or words k 0)) reads.1.log
+      (done_in_log g (root g) reads.1.log (read k (get_or words k 0))
       (subst (λ (d : List Step). Contains d (read k (get_or words k 0)))
-      (sym (ap (λ (r : RootKnown). r.did) reading.record_is) ∙ reads.agrees.root_did)
+      (sym (ap (λ (r : RootKnown). r.did) reading.record_is) ∙ reads.1.has.1.root_did)
       (Contains-append_right old.did (reads_from 0 words) (read k (get_or words k 0))
       (reads_at 0 words k l k (omega arith)))))
 
   words_then : (k : ℕ) → k < length (words ++ seen ∷ [])
-      → get_or (words ++ seen ∷ []) k 0 ≡ word_of_part (part_in g (x ∷ reads.log) k)
+      → get_or (words ++ seen ∷ []) k 0 ≡ word_of_part (part_in g (x ∷ reads.1.log) k)
   words_then k l = dite (dec_lt k (length words))
       (λ m. get_or_append_left words (seen ∷ []) 0 k m ∙ (tells (read k (get_or words k 0)) k (earlier k m) refl).2)
       (λ past.
       let a = length-append words (seen ∷ []) in let c = reading.count_is in
       let last : k ≡ length words = omega arith in let at : k ≡ v = omega arith in
-      get_or_push words seen 0 k (sym last) ∙ (tells x v (here x x reads.log refl) refl).2
-      ∙ ap (λ (u : ℕ). word_of_part (part_in g (x ∷ reads.log) u)) (sym at))
+      get_or_push words seen 0 k (sym last) ∙ (tells x v (here x x reads.1.log refl) refl).2
+      ∙ ap (λ (u : ℕ). word_of_part (part_in g (x ∷ reads.1.log) u)) (sym at))
 
   read_out : IsReadOut then (words ++ seen ∷ [])
-  read_out = subst (λ (r : RootKnown). IsReadOut r (words ++ seen ∷ [])) (sym reads.record_is) record {
-    log = x ∷ reads.log;
-    legal = reads.legal;
-    agrees = record {
-      root_did = ap (λ (d : List Step). d ++ x ∷ []) reads.agrees.root_did
-          ∙ sym (cond_yes (root g) (root g) (done_by g (root g) reads.log ++ x ∷ []) (done_by g (root g) reads.log) refl);
-      stopper_did = λ did e. reads.agrees.stopper_did did e
-          ∙ sym (cond_no (root g) (stopper g) (done_by g (stopper g) reads.log ++ x ∷ [])
-          (done_by g (stopper g) reads.log) (λ z. omega arith));
-    };
-    closed = (tells x v (here x x reads.log refl) refl).1;
-    words_are = words_then;
+  read_out = subst (λ (r : RootKnown). IsReadOut r (words ++ seen ∷ [])) (sym reads.0) record {
+    log = x ∷ reads.1.log;
+    legal = legal;
+    has = (
+      record {
+        root_did = ap (λ (d : List Step). d ++ x ∷ []) reads.1.has.1.root_did
+            ∙ sym (cond_yes (root g) (root g) (done_by g (root g) reads.1.log ++ x ∷ []) (done_by g (root g) reads.1.log) refl);
+        stopper_did = λ did e. reads.1.has.1.stopper_did did e
+            ∙ sym (cond_no (root g) (stopper g) (done_by g (stopper g) reads.1.log ++ x ∷ [])
+            (done_by g (stopper g) reads.1.log) (λ z. omega arith));
+      },
+      (tells x v (here x x reads.1.log refl) refl).1,
+      words_then,
+    );
   }
 
   pub reads_more : IsReading old then (tally_after (fired_in seen) (is_halted_in seen) (is_by_limit_in seen) tally)
@@ -192,7 +197,7 @@ module _ (old now then : RootKnown) (tally : TallyState) (v seen : ℕ) (setting
   reads_more = record {
     words = words ++ seen ∷ [];
     count_is = (let a = length-append words (seen ∷ []) in let c = reading.count_is in omega arith);
-    record_is = reads.record_is ∙ ap (λ (r : RootKnown). root_after r (x ∷ [])) reading.record_is
+    record_is = reads.0 ∙ ap (λ (r : RootKnown). root_after r (x ∷ [])) reading.record_is
         ∙ ap (λ (d : List Step). record { net = old.net; did = d; stopper_did = old.stopper_did })
         (append_assoc old.did (reads_from 0 words) (x ∷ [])
         ∙ ap (λ (l : List Step). old.did ++ l)

@@ -13,9 +13,9 @@ use Rattle.chip_core.specs.Words.{of_vertex}
 use Rattle.chip_net.specs.declared.receipt.Receipt.TheInside.{Inside}
 use Rattle.chip_net.specs.contracts.receipt.Receipt.{the_view}
 use Rattle.chip_net.specs.Layout.{index_of, word_count}
-use Rattle.chip_net.specs.Views.{find, grow_view, did_in, Has, part_of_view}
+use Rattle.chip_net.specs.Views.{grow_view, did_in, Has, part_of_view}
 use Rattle.chip_net.specs.Rule.{Kept, Stepped, Grows}
-use Rattle.chip_net.specs.Roots.{RootKnown, IsOver}
+use Rattle.chip_net.specs.Roots.{RootKnown, known_root, IsOver}
 use Rattle.chip_net.specs.Finish.{ReadsAt}
 use Rattle.chip_net.proofs.ViewingLemmas.{grown_has}
 use Rattle.chip_net.proofs.LayingLemmas.{owner_at}
@@ -57,31 +57,28 @@ module _ (i : Inside) (keeps : Has (root i.setting.value) i.seat.me.0 × IsSetti
     still_receipt = ((grown_has (root g) x i.seat.me.0 after.0 keeps.0 grew).1, keeps.1)
 
     pub reads : (own : RootKnown) → the_view i ≡ own → (table : TableId) → table ≡ i.seat.table_id
-        → ReadsAt own (record {
-          net = record { table = table; setting = g };
-          did = did_in (root g) after.0;
-          stopper_did = find (stopper g) after.0.parts;
-        }) v seen
+        → ReadsAt own (known_root table g after.0) v seen
     reads own view_is table table_is =
         let longer = root_record g x i.seat.me.0 after.0 keeps.0 grew in
         subst (λ (k : RootKnown). ReadsAt k
-        (record {
-          net = record { table = table; setting = g };
-          did = did_in (root g) after.0;
-          stopper_did = find (stopper g) after.0.parts;
-        }) v seen) view_is record {
-          record_is = λ j. record {
+        (known_root table g after.0) v seen) view_is (
+          λ j. record {
             net = record { table = table_is j; setting = g };
             did = longer.0 j;
             stopper_did = longer.1 j;
-          };
-          log = stepped.log;
-          legal = stepped.legal;
-          agrees = record {
-            root_did = stepped.agrees (root g) (did_in (root g) i.seat.me.0) keeps.0;
-            stopper_did = λ did e. stepped.agrees (stopper g) did e;
-          };
-        }
+          },
+          record {
+            log = stepped.log;
+            legal = stepped.legal;
+            has = (
+              stepped.has.0,
+              record {
+                root_did = stepped.has.1 (root g) (did_in (root g) i.seat.me.0) keeps.0;
+                stopper_did = λ did e. stepped.has.1 (stopper g) did e;
+              },
+            );
+          },
+        )
 
     pub word_is : is_fired_word seen ≡ true
-    word_is = fired_word_is g keeps.1 stepped.log stepped.legal.0 v seen stepped.legal.1.1
+    word_is = fired_word_is g keeps.1 stepped.log stepped.legal v seen stepped.has.0.1

@@ -19,7 +19,7 @@ use Rattle.chip_part.specs.Acting.{FitsRoot, is_of_root}
 use Rattle.chip_part.specs.Steps.{link_after, saw}
 use Rattle.chip_part.proofs.EdgeLemmas.{tail_root}
 use Rattle.chip_part.proofs.RuleLemmas.{met_rules}
-use Rattle.chip_core.specs.Core.{Step, Event, Take, Ack, Fire, Clear, Claim, Put, Halt, Settle, Seal, Read, Feed, End}
+use Rattle.chip_core.specs.Core.{Step, Event, Clear, Put, Settle, Feed, End}
 use Rattle.chip_core.specs.Core.{Part, Out, Reply, opening_part, does, unmet_rule, part_of, part_in, tail_of, reply_of}
 use Rattle.chip_core.specs.Histories.{done_by, part_by}
 use Rattle.chip_core.specs.Words.{IsWord, of_acks, word_of_event, left_by, word_to_note}
@@ -31,7 +31,7 @@ use Rattle.chip_net.specs.contracts.root_hand.RootHand.{the_view}
 use Rattle.chip_net.specs.Layout.{index_of, word_count}
 use Rattle.chip_net.specs.Views.{View, find, grow_view, did_in, Has, part_of_view, IsAlone, join_views, steps_or_none}
 use Rattle.chip_net.specs.Rule.{Kept, step_of, Stepped, Grows}
-use Rattle.chip_net.specs.Roots.{RootKnown, root_after, root_part, IsRoot, IsFeeding, IsDueInView, MakesEvent, Replies}
+use Rattle.chip_net.specs.Roots.{RootKnown, known_root, root_after, root_part, IsRoot, IsFeeding, IsDueInView, MakesEvent, Replies}
 use Rattle.chip_net.specs.Roots.{settles_from, DoesMore, HoldsNothing, has_ended, new_root, with_stopper}
 use Rattle.chip_net.proofs.LayingLemmas.{inside}
 use Rattle.chip_net.specs.Tokens.{NetId}
@@ -57,17 +57,7 @@ root_record g x view view' has is = (
 -- what is noted is noted
 noted_twice : (x : Event) (n : ℕ) → word_to_note x n ≡ word_to_note x (word_to_note x n)
 noted_twice (Put e) n = refl
-noted_twice (Take e) n = refl
-noted_twice (Ack e) n = refl
-noted_twice (Fire v k) n = refl
-noted_twice (Clear e) n = refl
-noted_twice (Claim e) n = refl
-noted_twice (Halt v) n = refl
-noted_twice (Settle e) n = refl
-noted_twice (Seal e) n = refl
-noted_twice (Read v) n = refl
-noted_twice (Feed e k) n = refl
-noted_twice End n = refl
+noted_twice x n = refl
 
 -- ---- an event of the root's hand
 
@@ -89,7 +79,7 @@ module _ (i : Inside) (keeps : IsRoot i.setting.value i.seat.me.0 i.state) (x : 
 
     -- it is the part in that log
     in_log : s ≡ part_in g stepped.log (root g)
-    in_log = ap (part_by g (opening_part g)) (stepped.agrees (root g) (did_in (root g) i.seat.me.0) keeps.has)
+    in_log = ap (part_by g (opening_part g)) (stepped.has.1 (root g) (did_in (root g) i.seat.me.0) keeps.has)
         ∙ sym (by_history g stepped.log (root g))
 
     fits : FitsRoot g s x (word_to_note x n)
@@ -97,8 +87,8 @@ module _ (i : Inside) (keeps : IsRoot i.setting.value i.seat.me.0 i.state) (x : 
         let log = stepped.log in
         let none' : unmet_rule g x (part_in g log (root g))
         ≡ None = subst (λ (b : Part). unmet_rule g x b ≡ None) in_log none in
-        subst (λ (z : Part × ℕ). FitsRoot g z.0 x z.1) (λ j. (sym in_log j, sym stepped.legal.1.1 j))
-        (root_fits g keeps.setting.game keeps.setting.some_ring log stepped.legal.0 x own none')
+        subst (λ (z : Part × ℕ). FitsRoot g z.0 x z.1) (λ j. (sym in_log j, sym stepped.has.0.1 j))
+        (root_fits g keeps.setting.game keeps.setting.some_ring log stepped.legal x own none')
 
     pub may_make : SomeRoot i.state (λ h t. RootCanDo h t x (word_to_note x n))
     may_make = (g, s, keeps.stands, (own, none, fits))
@@ -116,27 +106,21 @@ module _ (i : Inside) (keeps : IsRoot i.setting.value i.seat.me.0 i.state) (x : 
             stands = subst (λ (t : Part). RootStandsFor g t state)
                 (sym (grown_part g (root g) y i.seat.me.0 after.0 keeps.has grew))
                 (makes g s keeps.stands (own, none, fits)).0;
-            log = y ∷ stepped.log;
-            legal = stepped.legal;
-            in_log = longer.0
-                ∙ ap (λ (d : List Step). d ++ y ∷ [])
-                (stepped.agrees (root g) (did_in (root g) i.seat.me.0) keeps.has)
-                ∙ sym (cond_yes (part_of g x) (root g) (done_by g (root g) stepped.log ++ y ∷ [])
-                (done_by g (root g) stepped.log) mine);
+            in_log = record {
+              log = y ∷ stepped.log;
+              legal = (stepped.legal, stepped.has.0);
+              has = longer.0
+                  ∙ ap (λ (d : List Step). d ++ y ∷ [])
+                  (stepped.has.1 (root g) (did_in (root g) i.seat.me.0) keeps.has)
+                  ∙ sym (cond_yes (part_of g x) (root g) (done_by g (root g) stepped.log ++ y ∷ [])
+                  (done_by g (root g) stepped.log) mine);
+            };
           }
 
     module _ (old : RootKnown) (view_is : the_view i ≡ old) (table : TableId) (table_is : table ≡ i.seat.table_id) where
-      pub makes_event : MakesEvent old (record {
-        net = record { table = table; setting = g };
-        did = did_in (root g) after.0;
-        stopper_did = find (stopper g) after.0.parts;
-      }) x (word_to_note x n)
+      pub makes_event : MakesEvent old (known_root table g after.0) x (word_to_note x n)
       makes_event = subst (λ (k : RootKnown). MakesEvent k
-          (record {
-            net = record { table = table; setting = g };
-            did = did_in (root g) after.0;
-            stopper_did = find (stopper g) after.0.parts;
-          }) x (word_to_note x n)) view_is record {
+          (known_root table g after.0) x (word_to_note x n)) view_is record {
             record_is = λ j. record {
               net = record { table = table_is j; setting = g };
               did = longer.0 j;
@@ -147,11 +131,7 @@ module _ (i : Inside) (keeps : IsRoot i.setting.value i.seat.me.0 i.state) (x : 
           }
 
       pub replies : (state : Root) (reply : Reply) → RootMakes i.state state x (word_to_note x n) reply
-          → Replies old (record {
-            net = record { table = table; setting = g };
-            did = did_in (root g) after.0;
-            stopper_did = find (stopper g) after.0.parts;
-          }) x reply
+          → Replies old (known_root table g after.0) x reply
       replies state reply makes = record {
         seen = word_to_note x n;
         made = makes_event;
@@ -212,14 +192,7 @@ feeding_mine g (Clear e) past = (tail_root g e past, le-leb (graph_edges g) e pa
 feeding_mine g (Put e) past = (tail_root g e past, le-leb (graph_edges g) e past)
 feeding_mine g (Feed e k) past = (tail_root g e past, refl)
 feeding_mine g End past = (refl, refl)
-feeding_mine g (Take e) z = absurd z
-feeding_mine g (Ack e) z = absurd z
-feeding_mine g (Fire v k) z = absurd z
-feeding_mine g (Claim e) z = absurd z
-feeding_mine g (Halt v) z = absurd z
-feeding_mine g (Settle e) z = absurd z
-feeding_mine g (Seal e) z = absurd z
-feeding_mine g (Read v) z = absurd z
+feeding_mine g x z = absurd z
 
 -- what is noted where such an operation found n
 abbrev pub noted_over : operation.Act → ℕ → ℕ
@@ -232,14 +205,7 @@ noted_is g s (Clear e) past n = refl
 noted_is g s (Put e) past n = refl
 noted_is g s (Feed e k) past n = refl
 noted_is g s End past n = refl
-noted_is g s (Take e) z n = absurd z
-noted_is g s (Ack e) z n = absurd z
-noted_is g s (Fire v k) z n = absurd z
-noted_is g s (Claim e) z n = absurd z
-noted_is g s (Halt v) z n = absurd z
-noted_is g s (Settle e) z n = absurd z
-noted_is g s (Seal e) z n = absurd z
-noted_is g s (Read v) z n = absurd z
+noted_is g s x z n = absurd z
 
 module _ (g : Setting) (me : Mine) (x : Event) (act : operation.Act) (due : IsDueInView g me.0 x act) where
   abbrev part : Part
@@ -254,14 +220,7 @@ module _ (g : Setting) (me : Mine) (x : Event) (act : operation.Act) (due : IsDu
   over_word (Put e) past = refl
   over_word (Feed e k) past = refl
   over_word End past = refl
-  over_word (Take e) z = absurd z
-  over_word (Ack e) z = absurd z
-  over_word (Fire v k) z = absurd z
-  over_word (Claim e) z = absurd z
-  over_word (Halt v) z = absurd z
-  over_word (Settle e) z = absurd z
-  over_word (Seal e) z = absurd z
-  over_word (Read v) z = absurd z
+  over_word x z = absurd z
 
   -- and so is what it leaves there
   over_left : (y : Event) → IsFeeding g y → (n : ℕ) → left_by g y part n ≡ left_over (act_of g y part) n
@@ -269,14 +228,7 @@ module _ (g : Setting) (me : Mine) (x : Event) (act : operation.Act) (due : IsDu
   over_left (Put e) past n = refl
   over_left (Feed e k) past n = one_exchange (claims_of (part.out e).link) (claims_of (part.out e).link + 1) n
   over_left End past n = refl
-  over_left (Take e) z n = absurd z
-  over_left (Ack e) z n = absurd z
-  over_left (Fire v k) z n = absurd z
-  over_left (Claim e) z n = absurd z
-  over_left (Halt v) z n = absurd z
-  over_left (Settle e) z n = absurd z
-  over_left (Seal e) z n = absurd z
-  over_left (Read v) z n = absurd z
+  over_left x z n = absurd z
 
   word_is : word_of 0 act ≡ word_of_event g x part
   word_is = ap (word_of 0) due.needed ∙ over_word x due.feeding
@@ -443,19 +395,13 @@ module _ (i : Inside) (keeps : IsRoot i.setting.value i.seat.me.0 i.state) (view
         has = root_still ∙ keeps.has ∙ ap Some same;
         stands = subst
             (λ (did : List Step). RootStandsFor g (part_by g (opening_part g) did) i.state) same keeps.stands;
-        log = keeps.log;
-        legal = keeps.legal;
-        in_log = sym same ∙ keeps.in_log;
+        in_log = record { log = keeps.in_log.log; legal = keeps.in_log.legal; has = sym same ∙ keeps.in_log.has };
       }
 
   pub has_both : (old : RootKnown) → the_view i ≡ old → (table : TableId) → table ≡ i.seat.table_id
       → (did : List Step) → did ≡ did_in (stopper i.setting.value) view → (after : View)
       → after ≡ join_views i.seat.me.0 view
-      → record {
-        net = record { table = table; setting = i.setting.value };
-        did = did_in (root i.setting.value) after;
-        stopper_did = find (stopper i.setting.value) after.parts;
-      } ≡ with_stopper old did
+      → known_root table i.setting.value after ≡ with_stopper old did
   has_both old view_is table table_is did did_is after after_is =
       let g : Setting = i.setting.value in
       let first : did_in (root g) after ≡ did_in (root g) i.seat.me.0 = ap (did_in (root g)) after_is

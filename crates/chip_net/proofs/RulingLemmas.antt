@@ -18,7 +18,7 @@ use Rattle.chip_part.specs.declared.act.Act as operation
 use Rattle.chip_part.specs.declared.act.Act.TheVariants as Do
 use Rattle.chip_part.specs.Acting.{act_of, event_of}
 use Rattle.chip_actor.specs.Medium.{IsDueBy}
-use Rattle.chip_core.specs.Core.{Log, Step, Event, Take, Ack, Fire, Clear, Claim, Put, Halt, Settle, Seal, Read, Feed}
+use Rattle.chip_core.specs.Core.{Log, Step, Event, Fire, Claim, Halt, Seal, Read, Feed}
 use Rattle.chip_core.specs.Core.{End, Part, opening_part, unmet_rule, part_of, sees, Fits}
 use Rattle.chip_core.specs.Histories.{done_by, part_by}
 use Rattle.chip_core.specs.Words.{Word, of_edge, of_acks, of_cell, of_vertex, IsWord, halt_bits, word_of_event, left_by}
@@ -152,8 +152,8 @@ module _ (g : Setting) (slots id : ℕ) (me : Mine) (x : Event) (did : List Step
           refl,
           record {
             log = log;
-            legal = (kept.legal, (may, found));
-            agrees = λ r d found. (kept.each_part id me.0 at r d found).1;
+            legal = kept.legal;
+            has = ((may, found), λ r d found. (kept.each_part id me.0 at r d found).1);
           },
           refl,
         ),
@@ -211,40 +211,31 @@ module _ (g : Setting) (slots id : ℕ) (me : Mine) (v : ℕ) (did : List Step) 
   by_event : (x : Event) → v < g.game.graph.vertices → part_of g x ≡ v → unmet_rule g x part ≡ None
       → AllowsAct x (act_of g x part)
   unfolding AllowsAct
-  by_event (Take e) l mine none = allowed_for (Take e) mine none
-  by_event (Ack e) l mine none = allowed_for (Ack e) mine none
   by_event (Fire u k) l mine none = subst
       (λ (w : ℕ). Allows (Kept g) slots id me (index_of g (of_vertex w)) (left_over (Do.Fire k)) (Grows g (Fire u k) me))
       mine (allowed_for (Fire u k) mine none)
-  by_event (Clear e) l mine none = allowed_for (Clear e) mine none
   by_event (Claim e) l mine none =
       let was : ℕ = Rattle.chip_link.specs.Link.claims_of (part.out e).link in
       subst (λ (f : ℕ → ℕ). Allows (Kept g) slots id me (index_of g (of_edge e)) f (Grows g (Claim e) me))
       (λ i n. one_exchange was (was + 1) n i) (allowed_for (Claim e) mine none)
-  by_event (Put e) l mine none = allowed_for (Put e) mine none
   by_event (Halt u) l mine none = subst
       (λ (w : ℕ). Allows (Kept g) slots id me (index_of g (of_vertex w)) (left_over (act_of g (Halt u) part))
       (Grows g (Halt u) me)) mine (allowed_for (Halt u) mine none)
-  by_event (Settle e) l mine none = allowed_for (Settle e) mine none
   by_event (Seal e) l mine none = absurd (omega arith)
   by_event (Read u) l mine none = absurd (omega arith)
   by_event (Feed e k) l mine none = absurd (not_fed e k l mine none)
   by_event End l mine none = absurd (omega arith)
+  by_event x l mine none = allowed_for x mine none
 
   word_by_event : IsSetting g → (x : Event) → v < g.game.graph.vertices → part_of g x ≡ v → unmet_rule g x part ≡ None
       → IsWord g (word_of v (act_of g x part))
-  word_by_event setting (Take e) l mine none = word_for g setting.game.graph_fits.some_vertex setting.some_ring (Take e) part none
-  word_by_event setting (Ack e) l mine none = word_for g setting.game.graph_fits.some_vertex setting.some_ring (Ack e) part none
   word_by_event setting (Fire u k) l mine none = l
-  word_by_event setting (Clear e) l mine none = word_for g setting.game.graph_fits.some_vertex setting.some_ring (Clear e) part none
-  word_by_event setting (Claim e) l mine none = word_for g setting.game.graph_fits.some_vertex setting.some_ring (Claim e) part none
-  word_by_event setting (Put e) l mine none = word_for g setting.game.graph_fits.some_vertex setting.some_ring (Put e) part none
   word_by_event setting (Halt u) l mine none = l
-  word_by_event setting (Settle e) l mine none = word_for g setting.game.graph_fits.some_vertex setting.some_ring (Settle e) part none
   word_by_event setting (Seal e) l mine none = absurd (omega arith)
   word_by_event setting (Read u) l mine none = absurd (omega arith)
   word_by_event setting (Feed e k) l mine none = absurd (not_fed e k l mine none)
   word_by_event setting End l mine none = absurd (omega arith)
+  word_by_event setting x l mine none = word_for g setting.game.graph_fits.some_vertex setting.some_ring x part none
 
   pub act_word : IsSetting g → v < g.game.graph.vertices → (act : operation.Act) → IsDueBy g v part act
       → IsWord g (word_of v act)

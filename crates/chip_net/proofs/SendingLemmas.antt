@@ -48,8 +48,17 @@ steps_more : (r : RootKnown) (xs ys : List Step) → root_after (root_after r xs
 steps_more r xs ys = ap (λ (d : List Step). record { net = r.net; did = d; stopper_did = r.stopper_did })
     (append_assoc r.did xs ys)
 
-module _ (r : RootKnown) (vertex e count : ℕ) (inside : vertex < r.net.setting.game.graph.vertices)
-    (edge_is : e ≡ root_edge r.net.setting vertex) (not_ended : has_ended r ≡ false) (free : HoldsNothing r) where
+-- so many chips may be fed to a vertex, whose root edge is e
+pub record MayFeed (r : RootKnown) (vertex e count : ℕ) : Type 0 where
+  pub inside : vertex < r.net.setting.game.graph.vertices
+  pub edge_is : e ≡ root_edge r.net.setting vertex
+  pub free : HoldsNothing r
+  pub some : 1 ≤ count
+  pub not_ended : has_ended r ≡ false
+  pub few : all_given r + count ≤ max_total
+  pub given : all_fed r.net.setting (root_part r) ≡ all_given r
+
+module _ (r : RootKnown) (vertex e count : ℕ) (f : MayFeed r vertex e count) where
   abbrev g : Setting
   g = r.net.setting
 
@@ -68,8 +77,8 @@ module _ (r : RootKnown) (vertex e count : ℕ) (inside : vertex < r.net.setting
     met_rules g (Clear e) s (inr (
       past,
       below,
-      not_ended,
-      ap (λ (i : ℕ). (s.out i).link.held) edge_is ∙ free vertex inside,
+      f.not_ended,
+      ap (λ (i : ℕ). (s.out i).link.held) f.edge_is ∙ f.free vertex f.inside,
     )),
   )
 
@@ -79,109 +88,108 @@ module _ (r : RootKnown) (vertex e count : ℕ) (inside : vertex < r.net.setting
   abbrev s1 : Part
   s1 = does g look s
 
-  module _ (some : 1 ≤ count) (few : all_given r + count ≤ max_total) (given : all_fed g s ≡ all_given r) where
-    same_fed : all_fed g s1 ≡ all_fed g s
-    same_fed = sum_below_ext g.game.graph.vertices (λ v. sum (sent_counts (s1.out (root_edge g v)).link))
-        (λ v. sum (sent_counts (s.out (root_edge g v)).link))
-        (λ v l. ap sum (sent_clear e (root_edge g v) (s.out (root_edge g v))))
+  same_fed : all_fed g s1 ≡ all_fed g s
+  same_fed = sum_below_ext g.game.graph.vertices (λ v. sum (sent_counts (s1.out (root_edge g v)).link))
+      (λ v. sum (sent_counts (s.out (root_edge g v)).link))
+      (λ v l. ap sum (sent_clear e (root_edge g v) (s.out (root_edge g v))))
 
-    feed_met : unmet_rule g (Feed e count) s1 ≡ None
-    feed_met = met_rules g (Feed e count) s1 (
-      past,
-      below,
-      not_ended,
-      omega arith,
-      (let a = same_fed in omega arith),
-      ap (λ (t : Tail). t.clear) (cond_yes e e (after_clear 0 (s.out e).link) (s.out e).link refl),
-    )
+  feed_met : unmet_rule g (Feed e count) s1 ≡ None
+  feed_met = met_rules g (Feed e count) s1 (
+    past,
+    below,
+    f.not_ended,
+    omega arith,
+    (let a = same_fed in omega arith),
+    ap (λ (t : Tail). t.clear) (cond_yes e e (after_clear 0 (s.out e).link) (s.out e).link refl),
+  )
 
-    feed_due : IsDueForRoot (root_after r (look ∷ [])) (Feed e count)
-    feed_due = (past, subst (λ (t : Part). unmet_rule g (Feed e count) t ≡ None) (sym (root_step r look)) feed_met)
+  feed_due : IsDueForRoot (root_after r (look ∷ [])) (Feed e count)
+  feed_due = (past, subst (λ (t : Part). unmet_rule g (Feed e count) t ≡ None) (sym (root_step r look)) feed_met)
 
-    module _ (r1 : RootKnown) (seen1 : ℕ) (made1 : MakesEvent r r1 (Clear e) seen1) (zero : seen1 ≡ 0) where
-      first : r1 ≡ root_after r (look ∷ [])
-      first = made1.record_is ∙ ap (λ (n : ℕ). root_after r (saw (Clear e) n ∷ [])) zero
+  module _ (r1 : RootKnown) (seen1 : ℕ) (made1 : MakesEvent r r1 (Clear e) seen1) (zero : seen1 ≡ 0) where
+    first : r1 ≡ root_after r (look ∷ [])
+    first = made1.record_is ∙ ap (λ (n : ℕ). root_after r (saw (Clear e) n ∷ [])) zero
 
-      pub due2 : IsDueForRoot r1 (Feed e count)
-      due2 = subst (λ (k : RootKnown). IsDueForRoot k (Feed e count)) (sym first) feed_due
+    pub due2 : IsDueForRoot r1 (Feed e count)
+    due2 = subst (λ (k : RootKnown). IsDueForRoot k (Feed e count)) (sym first) feed_due
 
-      module _ (r2 : RootKnown) (seen2 : ℕ) (made2 : MakesEvent r1 r2 (Feed e count) seen2) where
-        abbrev feed : Step
-        feed = saw (Feed e count) seen2
+    module _ (r2 : RootKnown) (seen2 : ℕ) (made2 : MakesEvent r1 r2 (Feed e count) seen2) where
+      abbrev feed : Step
+      feed = saw (Feed e count) seen2
 
-        -- it saw how many were sent before
-        place2 : seen2 ≡ claims_of (s.out e).link
-        place2 = made2.fits ∙ ap (λ (k : RootKnown). claims_of ((root_part k).out e).link) first
-            ∙ ap (λ (t : Part). claims_of (t.out e).link) (root_step r look) ∙ claims_clear e e (s.out e)
+      -- it saw how many were sent before
+      place2 : seen2 ≡ claims_of (s.out e).link
+      place2 = made2.fits ∙ ap (λ (k : RootKnown). claims_of ((root_part k).out e).link) first
+          ∙ ap (λ (t : Part). claims_of (t.out e).link) (root_step r look) ∙ claims_clear e e (s.out e)
 
-        second : r2 ≡ root_after r (look ∷ feed ∷ [])
-        second = made2.record_is ∙ ap (λ (k : RootKnown). root_after k (feed ∷ [])) first
-            ∙ steps_more r (look ∷ []) (feed ∷ [])
+      second : r2 ≡ root_after r (look ∷ feed ∷ [])
+      second = made2.record_is ∙ ap (λ (k : RootKnown). root_after k (feed ∷ [])) first
+          ∙ steps_more r (look ∷ []) (feed ∷ [])
 
-        abbrev s2 : Part
-        s2 = does g feed s1
+      abbrev s2 : Part
+      s2 = does g feed s1
 
-        part2 : root_part (root_after r (look ∷ feed ∷ [])) ≡ s2
-        part2 = part_append g (opening_part g) r.did (look ∷ feed ∷ [])
+      part2 : root_part (root_after r (look ∷ feed ∷ [])) ≡ s2
+      part2 = part_append g (opening_part g) r.did (look ∷ feed ∷ [])
 
-        claimed : (s2.out e).link.held ≡ Some count
-        claimed = ap (λ (t : Tail). t.held)
-            (cond_yes e e (after_claim count seen2 (s1.out e).link) (s1.out e).link refl
-            ∙ cond_yes seen2 (claims_of (s1.out e).link) _ _ (place2 ∙ sym (claims_clear e e (s.out e))))
+      claimed : (s2.out e).link.held ≡ Some count
+      claimed = ap (λ (t : Tail). t.held)
+          (cond_yes e e (after_claim count seen2 (s1.out e).link) (s1.out e).link refl
+          ∙ cond_yes seen2 (claims_of (s1.out e).link) _ _ (place2 ∙ sym (claims_clear e e (s.out e))))
 
-        pub due3 : IsDueForRoot r2 (Put e)
-        due3 = subst (λ (k : RootKnown). IsDueForRoot k (Put e)) (sym second) (
-          past,
-          subst (λ (t : Part). unmet_rule g (Put e) t ≡ None) (sym part2)
-              (met_rules g (Put e) s2 (below, (count, claimed))),
-        )
+      pub due3 : IsDueForRoot r2 (Put e)
+      due3 = subst (λ (k : RootKnown). IsDueForRoot k (Put e)) (sym second) (
+        past,
+        subst (λ (t : Part). unmet_rule g (Put e) t ≡ None) (sym part2)
+            (met_rules g (Put e) s2 (below, (count, claimed))),
+      )
 
-        module _ (r3 : RootKnown) (seen3 : ℕ) (made3 : MakesEvent r2 r3 (Put e) seen3) where
-          abbrev put : Step
-          put = saw (Put e) 0
+      module _ (r3 : RootKnown) (seen3 : ℕ) (made3 : MakesEvent r2 r3 (Put e) seen3) where
+        abbrev put : Step
+        put = saw (Put e) 0
 
-          third : r3 ≡ root_after r (look ∷ feed ∷ put ∷ [])
-          third = made3.record_is
-              ∙ ap (λ (n : ℕ). root_after r2 (saw (Put e) n ∷ [])) made3.noted_is
-              ∙ ap (λ (k : RootKnown). root_after k (put ∷ [])) second
-              ∙ steps_more r (look ∷ feed ∷ []) (put ∷ [])
+        third : r3 ≡ root_after r (look ∷ feed ∷ put ∷ [])
+        third = made3.record_is
+            ∙ ap (λ (n : ℕ). root_after r2 (saw (Put e) n ∷ [])) made3.noted_is
+            ∙ ap (λ (k : RootKnown). root_after k (put ∷ [])) second
+            ∙ steps_more r (look ∷ feed ∷ []) (put ∷ [])
 
-          abbrev s3 : Part
-          s3 = does g put s2
+        abbrev s3 : Part
+        s3 = does g put s2
 
-          holds3 : (v : ℕ) → v < g.game.graph.vertices → (s3.out (root_edge g v)).link.held ≡ None
-          holds3 v l =
-              let i : ℕ = root_edge g v in
-              dite (ℕ_discrete e i)
-              (λ same. ap (λ (t : Tail). t.held) (cond_yes e i (after_put (s2.out i).link) (s2.out i).link same))
-              (λ other. ap (λ (t : Tail). t.held)
-              (cond_no e i (after_put (s2.out i).link) (s2.out i).link other
-              ∙ cond_no e i (after_claim count seen2 (s1.out i).link) (s1.out i).link other
-              ∙ cond_no e i (after_clear 0 (s.out i).link) (s.out i).link other) ∙ free v l)
+        holds3 : (v : ℕ) → v < g.game.graph.vertices → (s3.out (root_edge g v)).link.held ≡ None
+        holds3 v l =
+            let i : ℕ = root_edge g v in
+            dite (ℕ_discrete e i)
+            (λ same. ap (λ (t : Tail). t.held) (cond_yes e i (after_put (s2.out i).link) (s2.out i).link same))
+            (λ other. ap (λ (t : Tail). t.held)
+            (cond_no e i (after_put (s2.out i).link) (s2.out i).link other
+            ∙ cond_no e i (after_claim count seen2 (s1.out i).link) (s1.out i).link other
+            ∙ cond_no e i (after_clear 0 (s.out i).link) (s.out i).link other) ∙ f.free v l)
 
-          pub free3 : HoldsNothing r3
-          free3 = subst HoldsNothing (sym third) (λ v l. ap (λ (t : Part). (t.out (root_edge g v)).link.held)
-              (part_append g (opening_part g) r.did (look ∷ feed ∷ put ∷ [])) ∙ holds3 v l)
+        pub free3 : HoldsNothing r3
+        free3 = subst HoldsNothing (sym third) (λ v l. ap (λ (t : Part). (t.out (root_edge g v)).link.held)
+            (part_append g (opening_part g) r.did (look ∷ feed ∷ put ∷ [])) ∙ holds3 v l)
 
-          pub feeds : (place : ℕ) → place ≡ claims_of (s.out e).link → Feeds r r3 vertex count place
-          feeds place place_is = record {
-            not_ended = not_ended;
-            within = few;
-            place_is = place_is ∙ ap (λ (i : ℕ). claims_of (s.out i).link) edge_is;
-            record_is = third
-                ∙ (λ j. root_after r (saw (Clear (edge_is j)) 0
-                ∷ saw (Feed (edge_is j) count) ((place2 ∙ sym place_is) j)
-                ∷ saw (Put (edge_is j)) 0 ∷ []));
-          }
+        pub feeds : (place : ℕ) → place ≡ claims_of (s.out e).link → Feeds r r3 vertex count place
+        feeds place place_is = record {
+          not_ended = f.not_ended;
+          within = f.few;
+          place_is = place_is ∙ ap (λ (i : ℕ). claims_of (s.out i).link) f.edge_is;
+          record_is = third
+              ∙ (λ j. root_after r (saw (Clear (f.edge_is j)) 0
+              ∷ saw (Feed (f.edge_is j) count) ((place2 ∙ sym place_is) j)
+              ∷ saw (Put (f.edge_is j)) 0 ∷ []));
+        }
 
   module _ (r1 : RootKnown) (seen1 : ℕ) (made1 : MakesEvent r r1 (Clear e) seen1) where
     pub free1 : HoldsNothing r1
-    free1 = holds_by r r1 (Clear e) seen1 (held_clear e seen1) made1 free
+    free1 = holds_by r r1 (Clear e) seen1 (held_clear e seen1) made1 f.free
 
     pub in_vain : seen1 ≢ 0 → LooksInVain r r1 vertex
     in_vain some = record {
       seen = seen1;
       some = some;
       record_is = made1.record_is
-          ∙ ap (λ (i : ℕ). root_after r (saw (Clear i) seen1 ∷ [])) edge_is;
+          ∙ ap (λ (i : ℕ). root_after r (saw (Clear i) seen1 ∷ [])) f.edge_is;
     }

@@ -1,7 +1,7 @@
 -- Serves Views.antt, Rule.antt, Roots.antt.
 -- The stopper: a seal of an edge.
 use Rattle.std.proofs.Common.{◌≡◌, ℕ, ◌<◌, not, [], ◌∷◌, ◌++◌, Option, Some, None, is_some, refl, sym, ap, ◌∙◌, subst}
-use Rattle.std.proofs.Common.{arith, bit_or, ◌^◌}
+use Rattle.std.proofs.Common.{arith, bit_or, ◌^◌, Bool, true, false, cond, eqb, List}
 use Rattle.std.specs.Prelude.{is_none}
 use Rattle.atomic_table.specs.Seated.{TableId}
 use Rattle.atomic_table.specs.Table.{Allows}
@@ -13,19 +13,21 @@ use Rattle.chip_link.proofs.WordLawsLemmas.{read_edge}
 use Rattle.chip_part.specs.Setting.{Setting, IsSetting}
 use Rattle.chip_part.specs.Edges.{stopper, graph_edges}
 use Rattle.chip_part.proofs.RuleLemmas.{met_rules}
-use Rattle.chip_part.specs.Steps.{saw}
-use Rattle.chip_core.specs.Core.{Step, Seal, Part, opening_part, part_in, out_in, stop_in, does, unmet_rule}
+use Rattle.chip_part.specs.Steps.{saw, stop_after}
+use Rattle.chip_core.specs.Core.{Step, Event, Seal, Part, opening_part, part_in, out_in, stop_in, does, unmet_rule}
 use Rattle.chip_core.specs.Histories.{part_by}
 use Rattle.chip_core.proofs.ReachingLemmas.{by_history}
 use Rattle.chip_core.proofs.LogLemmas.{edge_sound}
-use Rattle.chip_core.proofs.NumberLemmas.{claims_most}
+use Rattle.chip_core.proofs.NumberLemmas.{claims_most, seals_stand_law}
 use Rattle.chip_net.specs.declared.stopper.Stopper.TheInside.{Inside}
 use Rattle.chip_net.specs.declared.stopper.SealedAt.{SealedAt}
 use Rattle.chip_net.specs.contracts.stopper.Stopper.{the_view}
 use Rattle.chip_net.specs.Views.{grow_view, did_in, Has, part_of_view, IsAlone}
 use Rattle.chip_net.specs.Rule.{Kept, Stepped, Grows}
 use Rattle.chip_net.specs.Roots.{StopperKnown, Seals}
-use Rattle.chip_net.proofs.ViewingLemmas.{grown_has, grown_part, alone_there, grown_alone}
+use Rattle.chip_net.specs.Tokens.{NetId}
+use Rattle.chip_net.specs.Meeting.{SealsTellAll}
+use Rattle.chip_net.proofs.ViewingLemmas.{part_append, grown_has, grown_part, alone_there, grown_alone}
 use Rattle.chip_net.proofs.RulingLemmas.{Mine, event_asked, event_told}
 use Rattle.chip_net.proofs.LayingLemmas.{owner_at}
 use Rattle.chip_net.specs.Layout.{word_count}
@@ -83,7 +85,7 @@ module _ (i : Inside) (keeps : IsAlone (stopper i.setting.value) i.seat.me.0 × 
 
     -- it is the part in that log
     in_log : s ≡ part_in g stepped.log (stopper g)
-    in_log = ap (part_by g (opening_part g)) (stepped.agrees (stopper g) (did_in (stopper g) i.seat.me.0) has)
+    in_log = ap (part_by g (opening_part g)) (stepped.has.1 (stopper g) (did_in (stopper g) i.seat.me.0) has)
         ∙ sym (by_history g stepped.log (stopper g))
 
     stop_is : stop_in g stepped.log edge ≡ s.stop edge
@@ -93,10 +95,10 @@ module _ (i : Inside) (keeps : IsAlone (stopper i.setting.value) i.seat.me.0 × 
     claims = claims_of (out_in g stepped.log edge).link
 
     word_is : seen ≡ edge_word claims (is_some (s.stop edge))
-    word_is = stepped.legal.1.1 ∙ ap (λ (o : Option ℕ). edge_word claims (is_some o)) stop_is
+    word_is = stepped.has.0.1 ∙ ap (λ (o : Option ℕ). edge_word claims (is_some o)) stop_is
 
     reads : ReadsAs seen claims (is_some (s.stop edge))
-    reads = let few = claims_most g setting.game setting.some_ring stepped.log stepped.legal.0 edge in
+    reads = let few = claims_most g setting.game setting.some_ring stepped.log stepped.legal edge in
         read_edge seen claims (is_some (s.stop edge)) (omega arith) word_is
 
     first_seal : not (is_sealed_in seen) ≡ is_none (s.stop edge)
@@ -106,7 +108,7 @@ module _ (i : Inside) (keeps : IsAlone (stopper i.setting.value) i.seat.me.0 × 
     count_seen = cond_yes edge edge (after_seal seen (s.stop edge)) (s.stop edge) refl
         ∙ first_word claims seen (s.stop edge)
         (subst (IsSealedAt claims) stop_is
-        (edge_sound g setting.game setting.some_ring stepped.log stepped.legal.0 edge).sealed_at) word_is
+        (edge_sound g setting.game setting.some_ring stepped.log stepped.legal edge).sealed_at) word_is
         reads.claims_are
 
     pub seals : (own : StopperKnown) → the_view i ≡ own → (table : TableId) → table ≡ i.seat.table_id
@@ -124,3 +126,29 @@ module _ (i : Inside) (keeps : IsAlone (stopper i.setting.value) i.seat.me.0 × 
           count_is = ap (λ (p : Part). p.stop edge) (grown_part g (stopper g) x i.seat.me.0 after.0 has grew)
               ∙ count_seen ∙ ap Some (sym count);
         }
+
+-- ---- what a seal told stands
+
+seal_stays : (x : Event) (seen e n : ℕ) (stop : Option ℕ) → stop ≡ Some n → stop_after x seen e stop ≡ Some n
+seal_stays (Seal i) seen e n stop is = ap (stop_after (Seal i) seen e) is ∙ by_test (eqb i e)
+  where
+    by_test : (b : Bool) → cond b (after_seal seen (Some n)) (Some n) ≡ Some n
+    by_test true = refl
+    by_test false = refl
+seal_stays x seen e n stop is = is
+
+stays : (g : Setting) (xs : List Step) (s : Part) (e n : ℕ) → s.stop e ≡ Some n → (part_by g s xs).stop e ≡ Some n
+stays g [] s e n is = is
+stays g (x ∷ xs) s e n is = stays g xs (does g x s) e n (seal_stays x.event x.seen e n (s.stop e) is)
+
+pub seals_tell_all : SealsTellAll
+seals_tell_all receipt actors o setting run old new edge answer seals same later did_is =
+    let g : Setting = receipt.net.setting in
+    let first : (part_by g (opening_part g) new.did).stop edge ≡ Some answer.count =
+    subst (λ (n : NetId). (part_by n.setting (opening_part n.setting) new.did).stop edge ≡ Some answer.count) same seals.count_is in
+    let part : part_in g run.log (stopper g) ≡ part_by g (part_by g (opening_part g) new.did) later =
+    by_history g run.log (stopper g)
+    ∙ ap (part_by g (opening_part g)) (sym (run.agrees.stopper_did (new.did ++ later) did_is))
+    ∙ part_append g (opening_part g) new.did later in
+    (seals_stand_law g setting.game setting.some_ring run.log run.legal edge).1 answer.count
+    (ap (λ (p : Part). p.stop edge) part ∙ stays g later (part_by g (opening_part g) new.did) edge answer.count first)

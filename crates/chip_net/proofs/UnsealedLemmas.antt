@@ -10,8 +10,8 @@ use Rattle.chip_part.specs.Setting.{Setting}
 use Rattle.chip_part.specs.declared.cause.Cause.TheVariants.{SealedEdge, FiringLimit}
 use Rattle.chip_part.specs.Part.{refusals, cause, pending_of, is_legal}
 use Rattle.chip_part.specs.Steps.{link_after, halt_after}
-use Rattle.chip_core.specs.Core.{Log, Step, Event, Take, Ack, Fire, Clear, Claim, Put, Halt, Settle, Seal, Read, Feed}
-use Rattle.chip_core.specs.Core.{End, Part, Out, part_of, part_in, out_in, stop_in, opening_part, sees, IsLegalLog}
+use Rattle.chip_core.specs.Core.{Log, Step, Event, Clear, Claim, Put, Halt, Feed}
+use Rattle.chip_core.specs.Core.{Part, Out, part_of, part_in, out_in, stop_in, opening_part, sees, IsLegalLog}
 use Rattle.chip_core.specs.Core.{stopper}
 use Rattle.chip_core.specs.Core.{tail_of, all_edges}
 use Rattle.chip_core.specs.Histories.{done_by, part_by}
@@ -36,18 +36,11 @@ refused_step (Put i) seen e o fine fed = by_test (eqb i e)
     by_test : (b : Bool) → (cond b (after_put o.link) o.link).refused ≡ o.link.refused
     by_test true = refl
     by_test false = refl
-refused_step (Take i) seen e o fine fed = refl
-refused_step (Ack i) seen e o fine fed = refl
-refused_step (Fire v k) seen e o fine fed = refl
-refused_step (Halt v) seen e o fine fed = refl
-refused_step (Settle i) seen e o fine fed = refl
-refused_step (Seal i) seen e o fine fed = refl
-refused_step (Read v) seen e o fine fed = refl
-refused_step End seen e o fine fed = refl
 refused_step (Feed i k) seen e o fine fed = dite (ℕ_discrete i e)
     (λ same. ap (λ (t : Tail). t.refused) (cond_yes i e (after_claim k seen o.link) o.link same
     ∙ cond_yes seen (claims_of o.link) _ _ (fed k (ap (λ (j : ℕ). Feed j k) same))))
     (λ other. ap (λ (t : Tail). t.refused) (cond_no i e (after_claim k seen o.link) o.link other))
+refused_step x seen e o fine fed = refl
 
 -- without a refusal a seal is no cause
 cause_step : (g : Setting) (v : ℕ) (s : Part) → refusals g v s ≡ 0 → is_by_seal (cause g v s) ≡ false
@@ -71,17 +64,7 @@ halt_step g x s none old = by_event x.event refl
   where
     by_event : (e : Event) → x.event ≡ e → is_by_seal (halt_after g e s) ≡ false
     by_event (Halt v) is = cause_step g v s (none v is)
-    by_event (Take i) is = old
-    by_event (Ack i) is = old
-    by_event (Fire v k) is = old
-    by_event (Clear i) is = old
-    by_event (Claim i) is = old
-    by_event (Put i) is = old
-    by_event (Settle i) is = old
-    by_event (Seal i) is = old
-    by_event (Read v) is = old
-    by_event (Feed i k) is = old
-    by_event End is = old
+    by_event e is = old
 
 not_longer : (xs : List Step) (x : Step) → xs ++ x ∷ [] ≡ [] → ⊥
 not_longer [] x is = cc

@@ -1,6 +1,6 @@
 -- Serves Views.antt.
 -- Views as finite maps: what a step and a split change.
-use Rattle.std.proofs.Common.{◌≡◌, ◌≢◌, ℕ, zero, suc, ◌+◌, ◌<◌, true, false, not, eqb, cond, List, [], ◌∷◌, ◌++◌}
+use Rattle.std.proofs.Common.{◌≡◌, ◌≢◌, ℕ, zero, suc, ◌+◌, ◌<◌, true, eqb, cond, List, [], ◌∷◌, ◌++◌}
 use Rattle.std.proofs.Common.{length, length-append, set, Option, Some, None, refl, sym, ap, ◌∙◌, arith}
 use Rattle.std.specs.Prelude.{slice_get}
 use Rattle.std.proofs.lemmas.Option.{slice_get_read, get_or_from_slice_get}
@@ -79,9 +79,6 @@ grown_part g p x v w has is = ap (part_by g (opening_part g)) (grown_has p x v w
 pub ended_by : (g : Setting) (xs : List Step) (s : Part) → s.ended ≡ true → (part_by g s xs).ended ≡ true
 ended_by g [] s on = on
 ended_by g (x ∷ xs) s on = ended_by g xs (does g x s) (stays_ended g x.event s.ended on)
-
-pub unfed_ended : (g : Setting) → g.fed ≡ false → (xs : List Step) → (part_by g (opening_part g) xs).ended ≡ true
-unfed_ended g off xs = ended_by g xs (opening_part g) (ap not off)
 
 -- ---- handing on
 

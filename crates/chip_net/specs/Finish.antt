@@ -12,7 +12,8 @@ use Rattle.chip_sequence.specs.Play.{IsPlayed}
 use Rattle.chip_link.specs.Words.{fired_in, is_halted_in, is_by_limit_in}
 use Rattle.chip_part.specs.Edges.{root, stopper}
 use Rattle.chip_part.specs.Steps.{saw}
-use Rattle.chip_core.specs.Core.{Log, Step, Read, part_in, word_of_part, IsLegalLog, IsClosed}
+use Rattle.chip_core.specs.Core.{Log, Step, Read, Fits, part_in, word_of_part, IsClosed}
+use Rattle.chip_net.specs.Rule.{SomeLog}
 use Rattle.chip_core.specs.Histories.{done_by}
 use Rattle.chip_core.specs.Positions.{firings}
 use Rattle.chip_core.specs.Outcomes.{IsOutcomeOf, ComesTo}
@@ -25,11 +26,9 @@ pub record AgreesWith (r : RootKnown) (log : Log) : Type 0 where
       → did ≡ done_by r.net.setting (stopper r.net.setting) log
 
 -- one read was made, after some legal log with what the root did
-pub record ReadsAt (old new : RootKnown) (v seen : ℕ) : Type 0 where
-  pub record_is : new ≡ root_after old (saw (Read v) seen ∷ [])
-  pub log : Log
-  pub legal : IsLegalLog old.net.setting (saw (Read v) seen ∷ log)
-  pub agrees : AgreesWith old log
+abbrev pub ReadsAt : RootKnown → RootKnown → ℕ → ℕ → Type 0
+ReadsAt old new v seen = (new ≡ root_after old (saw (Read v) seen ∷ []))
+    × SomeLog old.net.setting (λ log. Fits old.net.setting log (saw (Read v) seen) × AgreesWith old log)
 
 -- reads of the vertices from v on, each with the word that it saw
 abbrev pub reads_from : ℕ → List ℕ → List Step
@@ -37,12 +36,9 @@ reads_from v [] = []
 reads_from v (w ∷ ws) = saw (Read v) w ∷ reads_from (suc v) ws
 
 -- some legal log has what the root did, is closed, and has these fired words
-pub record IsReadOut (r : RootKnown) (words : List ℕ) : Type 0 where
-  pub log : Log
-  pub legal : IsLegalLog r.net.setting log
-  pub agrees : AgreesWith r log
-  pub closed : IsClosed r.net.setting log
-  pub words_are : (v : ℕ) → v < length words → slice_index words v ≡ word_of_part (part_in r.net.setting log v)
+abbrev pub IsReadOut : RootKnown → List ℕ → Type 0
+IsReadOut r words = SomeLog r.net.setting (λ log. AgreesWith r log × IsClosed r.net.setting log
+    × ((v : ℕ) → v < length words → slice_index words v ≡ word_of_part (part_in r.net.setting log v)))
 
 -- ---- the tally of the words
 

@@ -1,12 +1,12 @@
 -- What the rule of the table says without a log: the world of a net is reached, as `Reached` of the core tells worlds.
-use Rattle.std.specs.Prelude.{◌≡◌, ℕ, ◌+◌, ◌%◌, ◌<◌, ◌≤◌, List, length, slice_index, Some}
+use Rattle.std.specs.Prelude.{◌≡◌, ℕ, ◌+◌, ◌%◌, ◌<◌, ◌≤◌, List, length, slice_index, Some, None}
 use mathlib.Core.Option.{some}
 use lib.ListN.{get_elem?}
 use Rattle.atomic_table.specs.Table.{State}
 use Rattle.chip_link.specs.Link.{word_of, claims_of, IsSealedAt}
 use Rattle.chip_link.specs.Laws.{IsPrefix}
 use Rattle.chip_part.specs.Setting.{Setting, IsSetting}
-use Rattle.chip_core.specs.Core.{Step, Part, all_edges, out_by, into_by, stop_by, word_of_part}
+use Rattle.chip_core.specs.Core.{Step, Part, graph_edges, all_edges, out_by, into_by, stop_by, word_of_part}
 use Rattle.chip_core.specs.Words.{of_edge, of_acks, of_cell, of_vertex}
 use Rattle.chip_core.specs.Reached.{parts_by, IsReached}
 use Rattle.chip_net.specs.Layout.{value_in}
@@ -21,8 +21,11 @@ pub record EdgeShows (g : Setting) (words : List ℕ) (parts : ℕ → Part) (e 
   -- was put, else 0
   pub cells : (p : ℕ) → length (into_by g parts e).got ≤ p → p < length (into_by g parts e).got + g.ring
       → value_in g words (of_cell e (p % g.ring)) ≡ slice_index (out_by g parts e).link.put p
-  -- the word of acknowledgements is what its head acknowledged
+  -- a root edge is never sealed
+  pub unsealed : graph_edges g ≤ e → stop_by g parts e ≡ None
+  -- the word of acknowledgements is what its head acknowledged, and its tail settled at most that
   pub acks : value_in g words (of_acks e) ≡ (into_by g parts e).acked
+  pub settled : (out_by g parts e).settled ≤ (into_by g parts e).acked
   -- what its head has got is a prefix of what its tail put, each message once and in order: both lists go by places
   pub prefix : IsPrefix (into_by g parts e).got (out_by g parts e).link.put
   -- since its first seal nothing was claimed, so nothing is sent after it

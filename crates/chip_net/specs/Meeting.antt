@@ -1,13 +1,16 @@
 -- What all tokens of a net did, in one log.
-use Rattle.std.specs.Prelude.{◌≡◌, ℕ, ◌≤◌, List, length, slice_get, Some}
+use Rattle.std.specs.Prelude.{◌≡◌, ℕ, ◌≤◌, List, ◌++◌, length, slice_get, Some}
 use Rattle.chip_sequence.specs.declared.outcome.Outcome.{Outcome}
+use Rattle.chip_link.specs.Link.{claims_of}
 use Rattle.chip_part.specs.Setting.{Setting, IsSetting}
-use Rattle.chip_core.specs.Core.{Log, Step, IsLegalLog, IsClosed}
+use Rattle.chip_core.specs.Core.{Log, Step, out_in, IsLegalLog, IsClosed}
 use Rattle.chip_core.specs.Outcomes.{IsOutcomeOf}
 use Rattle.chip_core.specs.Histories.{done_by}
 use Rattle.chip_net.specs.Views.{View, find}
 use Rattle.chip_net.specs.Tokens.{NetId, ActorKnown}
-use Rattle.chip_net.specs.Roots.{RootKnown}
+use Rattle.chip_net.specs.Rule.{SomeLog}
+use Rattle.chip_net.specs.Roots.{RootKnown, StopperKnown, Seals}
+use Rattle.chip_net.specs.declared.stopper.SealedAt.{SealedAt}
 use Rattle.chip_net.specs.Finish.{AgreesWith, Finishes}
 
 -- actors of the first vertices of this net, ascending
@@ -20,12 +23,9 @@ DidTheirs g log actors =
     (v : ℕ) (a : ActorKnown) → slice_get actors v ≡ Some a → a.did ≡ done_by g a.vertex log
 
 -- in one legal log the root did what it did, the stopper, where the root has that part, and each of these actors
-pub record Together (root : RootKnown) (actors : List ActorKnown) : Type 0 where
-  pub setting : IsSetting root.net.setting
-  pub log : Log
-  pub legal : IsLegalLog root.net.setting log
-  pub agrees : AgreesWith root log
-  pub actors_did : DidTheirs root.net.setting log actors
+abbrev pub Together : RootKnown → List ActorKnown → Type 0
+Together root actors = IsSetting root.net.setting
+    × SomeLog root.net.setting (λ log. AgreesWith root log × DidTheirs root.net.setting log actors)
 
 -- some legal closed log has all that the root did, the stopper, where the root has that part, and each of these actors; and
 -- it has this outcome
@@ -38,13 +38,18 @@ pub record IsRun (receipt : RootKnown) (actors : List ActorKnown) (o : Outcome) 
   pub outcome : IsOutcomeOf receipt.net.setting log o
 
 -- in one legal log these actors did what they did, and so did the parts of the view that come behind them
-pub record Met (g : Setting) (view : View) (actors : List ActorKnown) : Type 0 where
-  pub log : Log
-  pub legal : IsLegalLog g log
-  pub agrees : (p : ℕ) (did : List Step) → length actors ≤ p → find p view.parts ≡ Some did → did ≡ done_by g p log
-  pub actors_did : DidTheirs g log actors
+abbrev pub Met : Setting → View → List ActorKnown → Type 0
+Met g view actors = SomeLog g (λ log. DidTheirs g log actors
+    × ((p : ℕ) (did : List Step) → length actors ≤ p → find p view.parts ≡ Some did → did ≡ done_by g p log))
 
 -- where a root finished and then met the actors, all of that is one run with the outcome that it read
 abbrev pub OneRun : Type 0
 OneRun = (old receipt : RootKnown) (o : Outcome) (actors : List ActorKnown) → Finishes old receipt o
     → Together receipt actors → IsRun receipt actors o
+
+-- what a seal answers is the number of all messages that are ever sent on the edge, whatever the stopper did then
+abbrev pub SealsTellAll : Type 0
+SealsTellAll = (receipt : RootKnown) (actors : List ActorKnown) (o : Outcome) → IsSetting receipt.net.setting
+    → (run : IsRun receipt actors o) (old new : StopperKnown) (edge : ℕ) (answer : SealedAt) → Seals old new edge answer
+    → new.net ≡ receipt.net → (later : List Step) → receipt.stopper_did ≡ Some (new.did ++ later)
+    → answer.count ≡ claims_of (out_in receipt.net.setting run.log edge).link

@@ -1,11 +1,12 @@
 -- What the clauses of a net's calls know of its root and its stopper.
 use Rattle.std.specs.Prelude.{◌≡◌, ◌≢◌, ℕ, zero, suc, ◌+◌, ◌-◌, ◌<◌, ◌≤◌, Bool, true, false, List, [], ◌∷◌, ◌++◌, map}
 use Rattle.std.specs.Prelude.{sum, Option, Some, None, is_none, Result, Ok, Err}
+use Rattle.atomic_table.specs.Seated.{TableId}
 use Rattle.chip_graph.specs.Limits.{max_total}
 use Rattle.chip_graph.specs.More.{all_brought}
 use Rattle.chip_link.specs.Link.{claims_of}
 use Rattle.chip_part.specs.Setting.{Setting, IsSetting}
-use Rattle.chip_part.specs.Edges.{root, root_edge, graph_edges}
+use Rattle.chip_part.specs.Edges.{root, stopper, root_edge, graph_edges}
 use Rattle.chip_part.specs.Part.{deficit, all_fed}
 use Rattle.chip_part.specs.declared.act.Act.{Act}
 use Rattle.chip_part.specs.declared.rule.Rule.{Rule}
@@ -14,13 +15,14 @@ use Rattle.chip_part.specs.Acting.{act_of}
 use Rattle.chip_root.specs.Root.{Root, RootStandsFor}
 use Rattle.chip_part.specs.Acting.{FitsRoot}
 use Rattle.chip_part.specs.Steps.{saw}
-use Rattle.chip_core.specs.Core.{Log, Step, Event, Clear, Put, Settle, Seal, Feed, End, Reply, Part, opening_part}
+use Rattle.chip_core.specs.Core.{Step, Event, Clear, Put, Settle, Seal, Feed, End, Reply, Part, opening_part}
 use Rattle.chip_core.specs.Core.{unmet_rule}
-use Rattle.chip_core.specs.Core.{reply_of, IsLegalLog}
+use Rattle.chip_core.specs.Core.{reply_of}
 use Rattle.chip_core.specs.Histories.{done_by, part_by}
 use Rattle.chip_core.specs.Positions.{fed_in}
 use Rattle.chip_core.specs.Words.{word_to_note}
-use Rattle.chip_net.specs.Views.{View, Has, did_in, part_of_view}
+use Rattle.chip_net.specs.Views.{View, find, Has, did_in, part_of_view}
+use Rattle.chip_net.specs.Rule.{SomeLog}
 use Rattle.chip_net.specs.Tokens.{NetId}
 use Rattle.chip_net.specs.declared.poll.FeedFault.{FeedFault}
 use Rattle.chip_net.specs.declared.poll.FeedFault.TheVariants.{Ended, Total, Full}
@@ -33,6 +35,14 @@ pub record RootKnown : Type 0 where
   pub net : NetId
   pub did : List Step
   pub stopper_did : Option (List Step)
+
+-- what the root knows whose seat is at this table and has this view
+abbrev pub known_root : TableId → Setting → View → RootKnown
+known_root table g view = record {
+  net = record { table = table; setting = g };
+  did = did_in (root g) view;
+  stopper_did = find (stopper g) view.parts;
+}
 
 -- the part of the core that it has
 abbrev pub root_part : RootKnown → Part
@@ -81,10 +91,7 @@ pub record IsRoot (g : Setting) (view : View) (state : Root) : Type 0 where
   pub setting : IsSetting g
   pub has : Has (root g) view
   pub stands : RootStandsFor g (part_of_view g (root g) view) state
-  -- the root did this in some legal log
-  pub log : Log
-  pub legal : IsLegalLog g log
-  pub in_log : did_in (root g) view ≡ done_by g (root g) log
+  pub in_log : SomeLog g (λ log. did_in (root g) view ≡ done_by g (root g) log)
 
 -- an event by which the root feeds, or ends feeding
 abbrev pub IsFeeding : Setting → Event → Type 0

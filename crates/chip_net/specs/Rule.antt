@@ -1,12 +1,12 @@
 -- The rule of a net: between any two steps of whatever threads, words and views are what some legal log of the core
 -- leaves.
-use Rattle.std.specs.Prelude.{◌≡◌, ℕ, ◌+◌, ◌<◌, List, [], ◌∷◌, length, Some}
+use Rattle.std.specs.Prelude.{◌≡◌, ℕ, ◌+◌, ◌<◌, List, [], length, Some}
 use mathlib.Core.Option.{some}
 use lib.ListN.{get_elem?}
 use Rattle.atomic_table.specs.Table.{State, Me}
 use Rattle.chip_part.specs.Setting.{Setting, IsSetting, setting_of}
 use Rattle.chip_part.specs.Steps.{saw}
-use Rattle.chip_core.specs.Core.{Log, Step, Event, part_of, IsLegalLog}
+use Rattle.chip_core.specs.Core.{Log, Step, Event, part_of, Fits, IsLegalLog}
 use Rattle.chip_core.specs.Histories.{done_by}
 use Rattle.chip_core.specs.Words.{word_to_note, IsShown}
 use Rattle.chip_net.specs.Layout.{word_count, value_in}
@@ -38,11 +38,15 @@ step_of x n = saw x (word_to_note x n)
 abbrev pub AgreesWithLog : Setting → Log → View → Type 0
 AgreesWithLog g log v = (p : ℕ) (did : List Step) → find p v.parts ≡ Some did → did ≡ done_by g p log
 
--- some legal log in which the parts of the view did what they did goes on with this step
-pub record Stepped (g : Setting) (x : Step) (v : View) : Type 0 where
+-- some legal log has this
+pub record SomeLog (g : Setting) (P : Log → Type 0) : Type 0 where
   pub log : Log
-  pub legal : IsLegalLog g (x ∷ log)
-  pub agrees : AgreesWithLog g log v
+  pub legal : IsLegalLog g log
+  pub has : P log
+
+-- some legal log goes on with this step, and the parts of the view did in it what they did
+abbrev pub Stepped : Setting → Step → View → Type 0
+Stepped g x v = SomeLog g (λ log. Fits g log x × AgreesWithLog g log v)
 
 -- what a step tells: the part that acts did this more, the core makes the event there, and no slot was taken
 abbrev pub Grows : Setting → Event → Me (Unit {0}) View → ℕ → Me (Unit {0}) View → Type 0
@@ -51,10 +55,8 @@ Grows g x before seen after = (after.0 ≡ grow_view (part_of g x) (step_of x se
     × (after.1 ≡ before.1)
 
 -- in some legal log the parts of the view did what they did
-pub record Looked (g : Setting) (v : View) : Type 0 where
-  pub log : Log
-  pub legal : IsLegalLog g log
-  pub agrees : AgreesWithLog g log v
+abbrev pub Looked : Setting → View → Type 0
+Looked g v = SomeLog g (λ log. AgreesWithLog g log v)
 
 -- what a look tells, which changes nothing
 abbrev pub Looks : Setting → Me (Unit {0}) View → ℕ → Me (Unit {0}) View → Type 0

@@ -212,13 +212,13 @@ fn turn_over<J: Turning>(state: &mut ActorState, words: &mut NetWords<'_, J>) ->
 
 /// The parts of all these actors come to one seat, which then looks at the words, and each gets its own back. So all that
 /// they did, and what the seat did, stands in one log. Nothing is taken from memory.
-pub(crate) fn meet(net: &Net, seat: &mut PartSeat, actors: &mut Vec<Actor>)
+pub(crate) fn meet(net: &Net, seat: &mut PartSeat, actors: &mut [Actor])
     requires seat { seat.old.table_id ≡ net.now.table }
-    requires actors { AreInPlace net.now actors.old.items }
+    requires actors { AreInPlace net.now actors.old }
     ensures seat { seat.new.table_id ≡ seat.old.table_id }
-    ensures others { (p : ℕ) → length actors.old.items ≤ p → find p seat.new.me.0.parts ≡ find p seat.old.me.0.parts }
-    ensures actors { actors.new.items ≡ actors.old.items }
-    ensures met { Met net.now.setting seat.old.me.0 actors.old.items }
+    ensures others { (p : ℕ) → length actors.old ≤ p → find p seat.new.me.0.parts ≡ find p seat.old.me.0.parts }
+    ensures actors { actors.new ≡ actors.old }
+    ensures met { Met net.now.setting seat.old.me.0 actors.old }
 {
     for index in 0..actors.len() {
         let actor = &mut actors[index];

@@ -3,7 +3,7 @@
 ghost use Rattle.chip_net.specs.Worked.{TriangleWords, TriangleOpens, PartHandedOn, RowsOfATurn, RootOfTheTriangle};
 ghost use Rattle.chip_net.specs.Worked.{FeedOfTheTriangle};
 ghost use Rattle.chip_net.specs.Laws.{EveryMomentIsReached};
-ghost use Rattle.chip_net.specs.Meeting.{OneRun};
+ghost use Rattle.chip_net.specs.Meeting.{OneRun, SealsTellAll};
 
 /// The small triangle as a net, as the definitions compute it.
 pub fn worked_nets()
@@ -26,4 +26,9 @@ pub fn every_moment()
 /// is that log's.
 pub fn one_run()
     ensures { OneRun }
+{}
+
+/// What a seal answers is the number of all messages that are ever sent on its edge, in the run that a receipt shows.
+pub fn seals_tell_all()
+    ensures { SealsTellAll }
 {}

@@ -22,35 +22,28 @@ pub struct Receipt {
 }
 
 impl Model for Receipt {
-    ghost use Rattle.chip_part.specs.Edges.{root, stopper};
+    ghost use Rattle.chip_part.specs.Edges.{root};
     ghost use Rattle.chip_part.specs.Setting.{IsSetting};
-    ghost use Rattle.chip_net.specs.Views.{find, did_in, Has};
-    ghost use Rattle.chip_net.specs.Roots.{RootKnown};
+    ghost use Rattle.chip_net.specs.Views.{Has};
+    ghost use Rattle.chip_net.specs.Roots.{RootKnown, known_root};
 
     ghost Value = { RootKnown };
 
-    ghost view = { λ a. record {
-      net = record { table = a.seat.table_id; setting = a.setting.value };
-      did = did_in (root a.setting.value) a.seat.me.0;
-      stopper_did = find (stopper a.setting.value) a.seat.me.0.parts;
-    } };
+    ghost view = { λ a. known_root a.seat.table_id a.setting.value a.seat.me.0 };
 
     ghost invariant = { λ a. Has (root a.setting.value) a.seat.me.0 × IsSetting a.setting.value };
 }
 
 impl Receipt {
-    ghost use Rattle.chip_part.specs.Edges.{root, stopper};
+    ghost use Rattle.chip_part.specs.Edges.{root};
     ghost use Rattle.chip_part.specs.Setting.{IsSetting};
-    ghost use Rattle.chip_net.specs.Views.{find, did_in, Has};
+    ghost use Rattle.chip_net.specs.Views.{Has};
+    ghost use Rattle.chip_net.specs.Roots.{known_root};
 
     pub(crate) fn new(seat: PartSeat, setting: Snapshot<Setting>) -> Receipt
         requires has { Has (root setting.value) seat.me.0 }
         requires setting { IsSetting setting.value }
-        ensures { result ≡ record {
-          net = record { table = seat.table_id; setting = setting.value };
-          did = did_in (root setting.value) seat.me.0;
-          stopper_did = find (stopper setting.value) seat.me.0.parts;
-        } }
+        ensures { result ≡ known_root seat.table_id setting.value seat.me.0 }
     {
         Receipt { seat, setting }
     }

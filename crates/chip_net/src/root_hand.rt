@@ -48,17 +48,11 @@ pub(crate) struct RootHand {
 }
 
 impl Model for RootHand {
-    ghost use Rattle.chip_part.specs.Edges.{root, stopper};
-    ghost use Rattle.chip_net.specs.Views.{find, did_in};
-    ghost use Rattle.chip_net.specs.Roots.{RootKnown, IsRoot};
+    ghost use Rattle.chip_net.specs.Roots.{RootKnown, known_root, IsRoot};
 
     ghost Value = { RootKnown };
 
-    ghost view = { λ a. record {
-      net = record { table = a.seat.table_id; setting = a.setting.value };
-      did = did_in (root a.setting.value) a.seat.me.0;
-      stopper_did = find (stopper a.setting.value) a.seat.me.0.parts;
-    } };
+    ghost view = { λ a. known_root a.seat.table_id a.setting.value a.seat.me.0 };
 
     ghost invariant = { λ a. IsRoot a.setting.value a.seat.me.0 a.state };
 }

@@ -11,17 +11,17 @@ ghosts-take_back a = record { part = a.self.now.vertex }
 abbrev pub invariant-loop-index : goal.invariant-loop-index
 invariant-loop-index l = record {
   table : l.seat.table_id ≡ l.initial.seat.table_id;
-  items : l.actors.items ≡ first_as seatless itself l.index l.fn.actors.items;
-  parts : (v : ℕ) (a : ActorKnown) → v < l.index → slice_get l.fn.actors.items v ≡ Some a
+  items : l.actors ≡ first_as seatless itself l.index l.fn.actors;
+  parts : (v : ℕ) (a : ActorKnown) → v < l.index → slice_get l.fn.actors v ≡ Some a
       → find v l.seat.me.0.parts ≡ Some a.did;
-  others : (p : ℕ) → length l.fn.actors.items ≤ p → find p l.seat.me.0.parts ≡ find p l.fn.seat.me.0.parts;
+  others : (p : ℕ) → length l.fn.actors ≤ p → find p l.seat.me.0.parts ≡ find p l.fn.seat.me.0.parts;
 }
 
 abbrev pub invariant-loop-index-2 : goal.invariant-loop-index-2
 invariant-loop-index-2 l = record {
   table : l.seat.table_id ≡ l.fn.seat.table_id;
-  items : l.actors.items ≡ first_as itself seatless l.index l.fn.actors.items;
-  parts : (v : ℕ) (a : ActorKnown) → l.index ≤ v → slice_get l.fn.actors.items v ≡ Some a
+  items : l.actors ≡ first_as itself seatless l.index l.fn.actors;
+  parts : (v : ℕ) (a : ActorKnown) → l.index ≤ v → slice_get l.fn.actors v ≡ Some a
       → find v l.seat.me.0.parts ≡ Some a.did;
-  others : (p : ℕ) → length l.fn.actors.items ≤ p → find p l.seat.me.0.parts ≡ find p l.fn.seat.me.0.parts;
+  others : (p : ℕ) → length l.fn.actors ≤ p → find p l.seat.me.0.parts ≡ find p l.fn.seat.me.0.parts;
 }

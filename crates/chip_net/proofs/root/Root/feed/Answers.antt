@@ -3,73 +3,65 @@ use Rattle.chip_part.specs.Setting.{Setting}
 use Rattle.chip_part.specs.Edges.{root_edge}
 use Rattle.chip_net.specs.Tokens.{NetId}
 use Rattle.chip_net.specs.Roots.{RootKnown, HoldsNothing, Feeds}
-use Rattle.chip_net.proofs.SendingLemmas.{look_due, look_done, due2, due3, free1, free3, feeds}
+use Rattle.chip_net.proofs.SendingLemmas.{MayFeed, look_due, look_done, due2, due3, free1, free3, feeds}
 use Rattle.chip_net.proofs.root.Root.feed.Goals as goal
 use Rattle.chip_net.proofs.root.Root.feed.Goals.{In_ok-may_feed}
 
 view_is : (c : In_ok-may_feed) → c.deref_mut-hand.result.now ≡ c.args.self.now
 view_is c = c.deref_mut-hand.ensures.value ∙ c.self.view_is
 
-holds : (c : In_ok-may_feed) → HoldsNothing c.deref_mut-hand.result.now
-holds c = subst HoldsNothing (sym c.deref_mut-hand.ensures.value) c.self.invariant.0
+may : (c : In_ok-may_feed) → MayFeed c.deref_mut-hand.result.now c.args.vertex c.root_edge-edge.result c.args.count
+may c = record {
+  inside = subst (λ (r : RootKnown). c.args.vertex < r.net.setting.game.graph.vertices) (sym (view_is c)) c.requires.vertex;
+  edge_is = c.root_edge-edge.ensures.value
+      ∙ ap (λ (g : Setting). root_edge g c.args.vertex)
+      (c.setting.ensures.value ∙ sym (ap (λ (n : NetId). n.setting) (ap (λ (r : RootKnown). r.net) (view_is c) ∙ c.requires.net)));
+  free = subst HoldsNothing (sym c.deref_mut-hand.ensures.value) c.self.invariant.0;
+  some = c.requires.count;
+  not_ended = c.in_ok-may_feed.ensures.0;
+  few = c.in_ok-may_feed.ensures.1;
+  given = c.in_ok-may_feed.ensures.2;
+}
 
-below : (c : In_ok-may_feed) → c.args.vertex < c.deref_mut-hand.result.now.net.setting.game.graph.vertices
-below c = subst (λ (r : RootKnown). c.args.vertex < r.net.setting.game.graph.vertices) (sym (view_is c)) c.requires.vertex
-
-edge_is : (c : In_ok-may_feed) → c.root_edge-edge.result ≡ root_edge c.deref_mut-hand.result.now.net.setting c.args.vertex
-edge_is c = c.root_edge-edge.ensures.value
-    ∙ ap (λ (g : Setting). root_edge g c.args.vertex)
-    (c.setting.ensures.value
-    ∙ sym (ap (λ (n : NetId). n.setting) (ap (λ (r : RootKnown). r.net) (view_is c) ∙ c.requires.net)))
+-- the reserve is as long as before
+room : (c : In_ok-may_feed) (n : NetId) → n ≡ c.deref_mut-hand.result.now.net
+    → c.self.inside.reserve.value ≡ n.setting.game.graph.vertices
+room c n same = c.self.invariant.1
+    ∙ ap (λ (r : RootKnown). r.net.setting.game.graph.vertices) (sym c.deref_mut-hand.ensures.value)
+    ∙ ap (λ (m : NetId). m.setting.game.graph.vertices) (sym same)
 
 pub make-requires-clause-due : goal.make-requires-clause-due
-make-requires-clause-due c =
-    let d = (goal.at.make-requires-clause-due c).In_ok-may_feed in
-    look_due c.deref_mut-hand.result.now c.args.vertex c.root_edge-edge.result c.args.count (below d) (edge_is d)
-    c.in_ok-may_feed.ensures.0 (holds d)
+make-requires-clause-due c = look_due _ _ _ _ (may (goal.at.make-requires-clause-due c).In_ok-may_feed)
 
 pub invariant_of-self-in_default : goal.invariant_of-self-in_default
 invariant_of-self-in_default c =
     let d = (goal.at.invariant_of-self-in_default c).In_ok-may_feed in (
-      free1 c.deref_mut-hand.result.now c.args.vertex c.root_edge-edge.result c.args.count (below d) (edge_is d)
-          c.in_ok-may_feed.ensures.0 (holds d) c.make.new.self c.make.ensures.seen c.make.ensures.made,
-      subst (λ (n : NetId). c.self.inside.reserve.value ≡ n.setting.game.graph.vertices)
-          (sym (ap (λ (r : RootKnown). r.net) (c.make.ensures.made.record_is)))
-          (c.self.invariant.1 ∙ ap (λ (r : RootKnown). r.net.setting.game.graph.vertices) (sym c.deref_mut-hand.ensures.value)),
+      free1 _ _ _ _ (may d) c.make.new.self c.make.ensures.seen c.make.ensures.made,
+      room d _ (ap (λ (r : RootKnown). r.net) c.make.ensures.made.record_is),
     )
 
 -- the look saw an empty cell, and its answer is the place
 pub make-requires-2-clause-due : goal.make-requires-2-clause-due
-make-requires-2-clause-due c =
-    let d = (goal.at.make-requires-2-clause-due c).In_ok-may_feed in
-    let looked = look_done _ _ c.in-Done.place (sym c.in-Done.is ∙ c.make.ensures.reply_is) in
-    due2 c.deref_mut-hand.result.now c.args.vertex c.root_edge-edge.result c.args.count (below d) (edge_is d)
-    c.in_ok-may_feed.ensures.0 (holds d) c.requires.count c.in_ok-may_feed.ensures.1
-    c.in_ok-may_feed.ensures.2 c.make.new.self c.make.ensures.seen c.make.ensures.made looked.0
+make-requires-2-clause-due c = due2 _ _ _ _ (may (goal.at.make-requires-2-clause-due c).In_ok-may_feed)
+    c.make.new.self c.make.ensures.seen c.make.ensures.made
+    (look_done _ _ c.in-Done.place (sym c.in-Done.is ∙ c.make.ensures.reply_is)).0
 
 pub make-requires-3-clause-due : goal.make-requires-3-clause-due
-make-requires-3-clause-due c =
-    let d = (goal.at.make-requires-3-clause-due c).In_ok-may_feed in
-    let looked = look_done _ _ c.in-Done.place (sym c.in-Done.is ∙ c.make.ensures.reply_is) in
-    due3 c.deref_mut-hand.result.now c.args.vertex c.root_edge-edge.result c.args.count (below d) (edge_is d)
-    c.in_ok-may_feed.ensures.0 (holds d) c.requires.count c.in_ok-may_feed.ensures.1
-    c.in_ok-may_feed.ensures.2 c.make.new.self c.make.ensures.seen c.make.ensures.made looked.0
+make-requires-3-clause-due c = due3 _ _ _ _ (may (goal.at.make-requires-3-clause-due c).In_ok-may_feed)
+    c.make.new.self c.make.ensures.seen c.make.ensures.made
+    (look_done _ _ c.in-Done.place (sym c.in-Done.is ∙ c.make.ensures.reply_is)).0
     c.make-2.new.self c.make-2.ensures.seen c.make-2.ensures.made
 
 pub invariant_of-self-2 : goal.invariant_of-self-2
 invariant_of-self-2 c =
-    let d = (goal.at.invariant_of-self-2 c).In_ok-may_feed in
-    let looked = look_done _ _ c.in-Done.place (sym c.in-Done.is ∙ c.make.ensures.reply_is) in
-    let net = ap (λ (r : RootKnown). r.net) c.make-3.ensures.made.record_is
-    ∙ ap (λ (r : RootKnown). r.net) c.make-2.ensures.made.record_is
-    ∙ ap (λ (r : RootKnown). r.net) c.make.ensures.made.record_is in (
-      free3 c.deref_mut-hand.result.now c.args.vertex c.root_edge-edge.result c.args.count (below d) (edge_is d)
-          c.in_ok-may_feed.ensures.0 (holds d) c.requires.count c.in_ok-may_feed.ensures.1
-          c.in_ok-may_feed.ensures.2 c.make.new.self c.make.ensures.seen c.make.ensures.made looked.0
+    let d = (goal.at.invariant_of-self-2 c).In_ok-may_feed in (
+      free3 _ _ _ _ (may d) c.make.new.self c.make.ensures.seen c.make.ensures.made
+          (look_done _ _ c.in-Done.place (sym c.in-Done.is ∙ c.make.ensures.reply_is)).0
           c.make-2.new.self c.make-2.ensures.seen c.make-2.ensures.made
           c.make-3.new.self c.make-3.ensures.seen c.make-3.ensures.made,
-      subst (λ (n : NetId). c.self.inside.reserve.value ≡ n.setting.game.graph.vertices) (sym net)
-          (c.self.invariant.1 ∙ ap (λ (r : RootKnown). r.net.setting.game.graph.vertices) (sym c.deref_mut-hand.ensures.value)),
+      room d _ (ap (λ (r : RootKnown). r.net) (c.make-3.ensures.made.record_is)
+          ∙ ap (λ (r : RootKnown). r.net) c.make-2.ensures.made.record_is
+          ∙ ap (λ (r : RootKnown). r.net) c.make.ensures.made.record_is),
     )
 
 pub returns-clause-cases : goal.returns-clause-cases
@@ -77,8 +69,6 @@ returns-clause-cases c =
     let d = (goal.at.returns-clause-cases c).In_ok-may_feed in
     let looked = look_done _ _ c.in-Done.place (sym c.in-Done.is ∙ c.make.ensures.reply_is) in
     subst (λ (r : RootKnown). Feeds r c.make-3.new.self c.args.vertex c.args.count c.in-Done.place) (view_is d)
-    (feeds c.deref_mut-hand.result.now c.args.vertex c.root_edge-edge.result c.args.count (below d) (edge_is d)
-    c.in_ok-may_feed.ensures.0 (holds d) c.requires.count c.in_ok-may_feed.ensures.1
-    c.in_ok-may_feed.ensures.2 c.make.new.self c.make.ensures.seen c.make.ensures.made looked.0
+    (feeds _ _ _ _ (may d) c.make.new.self c.make.ensures.seen c.make.ensures.made looked.0
     c.make-2.new.self c.make-2.ensures.seen c.make-2.ensures.made
     c.make-3.new.self c.make-3.ensures.seen c.make-3.ensures.made c.in-Done.place looked.1)

@@ -16,7 +16,5 @@ invariant_of-result c =
       has = c.requires.part ∙ ap Some (sym none);
       stands = subst (λ (did : List Step). RootStandsFor g (part_by g (opening_part g) did) c.in_ok-new.field-0)
           (sym none) c.in_ok-new.ensures;
-      log = [];
-      legal = tt;
-      in_log = none;
+      in_log = record { log = []; legal = tt; has = none };
     }

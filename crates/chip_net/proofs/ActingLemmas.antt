@@ -1,6 +1,6 @@
 -- Serves Tokens.antt, Rule.antt.
 -- One operation of a turn: it may be made, and the medium holds it then.
-use Rattle.std.proofs.Common.{◌≡◌, ℕ, ◌<◌, List, [], ◌∷◌, ◌++◌, append_assoc, append-nil, sym, ap, ◌∙◌, subst, arith}
+use Rattle.std.proofs.Common.{◌≡◌, ℕ, ◌<◌, List, [], ◌∷◌, ◌++◌, append_assoc, append-nil, sym, ap, ◌∙◌, subst}
 use Rattle.std.proofs.lemmas.List.{reverse-append}
 use Rattle.atomic_table.specs.Seated.{TableId}
 use Rattle.atomic_table.specs.Table.{Allows}
@@ -20,9 +20,9 @@ use Rattle.chip_net.specs.Views.{View, grow_view, did_in, Has, part_of_view}
 use Rattle.chip_net.specs.Rule.{Kept, step_of, Stepped, Grows}
 use Rattle.chip_net.specs.Traces.{TraceState, Keeps, row_of, rows_of}
 use Rattle.chip_net.specs.Tokens.{TurnSetup, Holds}
-use Rattle.chip_net.proofs.LayingLemmas.{owner_of, owner_at, owner_read, inside}
+use Rattle.chip_net.proofs.LayingLemmas.{owner_of, owner_at}
 use Rattle.chip_net.proofs.ViewingLemmas.{grown_has, grown_part, alone_there, grown_alone}
-use Rattle.chip_net.proofs.RulingLemmas.{Mine, word_of, left_over, act_word, act_allowed}
+use Rattle.chip_net.proofs.RulingLemmas.{Mine, word_of, left_over, HasAct, vertex_acts, act_word, act_asked, act_told}
 
 -- the rows of one step more
 pub rows_push : (xs : List Step) (x : Step) → rows_of (xs ++ x ∷ []) ≡ rows_of xs ++ row_of x.event x.seen
@@ -52,43 +52,34 @@ module _ (setup now : TurnSetup) (key : Setting) (table : TableId) (me : Mine) (
   due' = subst (λ (z : Setting × (ℕ × Part)). IsDueBy z.0 z.1.0 z.1.1 act)
       (λ j. (held.setting_is j, (held.vertex_is j, held.part_is j))) due
 
+  abbrev x : Event
+  x = event_of w act
+
+  acts : HasAct x
+  acts = vertex_acts h x (subst (λ (n : ℕ). n < h.game.graph.vertices) (sym due'.mine) held.seated.inside)
+
   -- its word is there
   word_there : IsWord h (word_of w act)
-  word_there = act_word h 0 0 me w (did_in w view) has held.seated.setting held.seated.inside act due'
+  word_there = act_word h held.seated.setting me x w due'.mine has due'.met acts act due'.needed
 
-  module _ (word : ℕ) (at : word ≡ index_of h (word_of w act)) (kind : ℕ → Event)
-      (of_kind : kind (owner_of (word_of w act)) ≡ event_of w act) where
-    kind_is : kind (owner_at key word) ≡ event_of w act
-    kind_is = ap kind (ap (λ (k : Setting). owner_at k word) held.of_net.0
-        ∙ owner_read h (word_of w act) word_there word at) ∙ of_kind
-
-    -- and the rule allows the operation
-    asked : (id : ℕ) → (table ≡ now.net.table) × (word < now.net.table.words)
-        × Allows (Kept key) now.net.table.slots id me word (left_over act) (Grows key (kind (owner_at key word)) me)
-    asked id =
-        let l = inside h (word_of w act) word_there in
-        let count = held.of_net.1 in (
-          held.table_is,
-          omega (arith, at, count),
-          subst (λ (z : Setting × ℕ × Event). Allows (Kept z.0) now.net.table.slots id me z.1 (left_over act) (Grows z.0 z.2 me))
-              (λ j. (sym held.of_net.0 j, sym at j, sym kind_is j))
-              (act_allowed h now.net.table.slots id me w (did_in w view) has held.seated.inside act due'),
-        )
+  -- and the rule allows the operation
+  asked : (word : ℕ) → word ≡ index_of h (word_of w act) → (kind : ℕ → Event) → kind (owner_of (word_of w act)) ≡ x
+      → (id : ℕ) → (table ≡ now.net.table) × (word < now.net.table.words)
+      × Allows (Kept key) now.net.table.slots id me word (left_over act) (Grows key (kind (owner_at key word)) me)
+  asked word at kind of_kind = act_asked h held.seated.setting me x w due'.mine has due'.met acts act due'.needed
+      key held.of_net.0 word at kind of_kind table now.net.table held.table_is held.of_net.1
 
   -- ---- what it told
 
   module _ (word : ℕ) (at : word ≡ index_of h (word_of w act)) (kind : ℕ → Event)
       (of_kind : kind (owner_of (word_of w act)) ≡ event_of w act) (seen : ℕ) (me' : Mine)
       (told : Grows key (kind (owner_at key word)) me seen me') where
-    abbrev x : Event
-    x = event_of w act
-
     abbrev made : Step
     made = step_of x seen
 
     told' : Grows h x me seen me'
-    told' = subst (λ (z : Setting × Event). Grows z.0 z.1 me seen me')
-        (λ j. (held.of_net.0 j, kind_is word at kind of_kind j)) told
+    told' = act_told h held.seated.setting me x w due'.mine has due'.met acts act due'.needed key held.of_net.0 word at kind
+        of_kind seen me' told
 
     after : me'.0 ≡ grow_view w made view
     after = told'.0 ∙ ap (λ (p : ℕ). grow_view p made view) due'.mine

@@ -14,7 +14,7 @@ use Rattle.chip_net.proofs.trace.Trace.TheSendSync as trace
 use Rattle.chip_net.proofs.net.Net.TheSendSync as shared
 use Rattle.chip_root.proofs.root.RootBooks.TheSendSync as root_state
 use Rattle.chip_net.proofs.reserve.Reserve.TheSendSync as reserve
-use Rattle.chip_net.specs.contracts.root_hand.RootHand as root_hand
+use Rattle.chip_net.specs.contracts.root_actor.RootActor as root_actor
 use Rattle.chip_net.specs.contracts.root.Root as root
 use Rattle.chip_net.specs.contracts.actor.Owned as owned
 use Rattle.chip_net.specs.contracts.actor.Actor as actor
@@ -27,11 +27,11 @@ owned_send = search (crosses, sendable, seat.the_send, trace.the_send, state.the
 pub actor_send : IsSend actor.the_row
 actor_send = search (crosses, sendable, owned_send) depth 60
 
-pub root_hand_send : IsSend root_hand.the_row
-root_hand_send = search (crosses, sendable, seat.the_send, root_state.the_send) depth 60
+pub root_actor_send : IsSend root_actor.the_row
+root_actor_send = search (crosses, sendable, seat.the_send, root_state.the_send) depth 60
 
 pub root_send : IsSend root.the_row
-root_send = search (crosses, sendable, root_hand_send, reserve.the_send) depth 60
+root_send = search (crosses, sendable, root_actor_send, reserve.the_send) depth 60
 
 pub stopper_send : IsSend stopper.the_row
 stopper_send = search (crosses, sendable, seat.the_send) depth 60

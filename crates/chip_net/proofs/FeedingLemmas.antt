@@ -21,8 +21,8 @@ use Rattle.chip_core.specs.Positions.{fed_in}
 use Rattle.chip_core.proofs.GivenLemmas.{root_gave, given_within, played_has_more}
 use Rattle.chip_core.proofs.ReachingLemmas.{by_history}
 use Rattle.chip_net.specs.declared.poll.FeedFault.{FeedFault}
-use Rattle.chip_net.specs.declared.root_hand.RootHand.TheInside.{Inside}
-use Rattle.chip_net.specs.contracts.root_hand.RootHand.{the_view}
+use Rattle.chip_net.specs.declared.root_actor.RootActor.TheInside.{Inside}
+use Rattle.chip_net.specs.contracts.root_actor.RootActor.{the_view}
 use Rattle.chip_net.specs.Roots.{RootKnown, root_part, has_ended, fed_by, all_given, IsRoot, feed_fault, AllowsFeed}
 
 -- ---- what the root fed, by a legal log

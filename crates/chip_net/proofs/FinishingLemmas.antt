@@ -34,7 +34,7 @@ use Rattle.chip_core.proofs.GivenLemmas.{given_is, given_start, given_within, pl
 use Rattle.chip_core.proofs.ClosingLemmas.{all_ended}
 use Rattle.chip_core.proofs.OutcomeLemmas.{never_negative, comes, in_range, is_played}
 use Rattle.chip_net.specs.Roots.{RootKnown, root_part, root_after, fed_by}
-use Rattle.chip_net.specs.Finish.{reads_from, IsReadOut, TallyState, is_by_limit_at, is_by_seal_at, AreRead, IsReading}
+use Rattle.chip_net.specs.Finish.{reads_from, IsReadOut, ReadingsState, is_by_limit_at, is_by_seal_at, AreRead, IsReading}
 use Rattle.chip_net.specs.Finish.{IsOneEnd}
 use Rattle.chip_net.specs.Finish.{Finishes}
 use Rattle.chip_net.specs.Meeting.{Together, IsRun}
@@ -109,8 +109,8 @@ module _ (g : Setting) (setting : IsSetting g) (log : Log) (legal : IsLegalLog g
         ∙ (λ i. say.halted v i && not (say.by_limit v i)) ∙ seal_is (part_in g log v).halt);
   }
 
-module _ (old now : RootKnown) (setting : IsSetting old.net.setting) (tally : TallyState)
-    (reading : IsReading old now tally old.net.setting.game.graph.vertices) (given : List ℕ)
+module _ (old now : RootKnown) (setting : IsSetting old.net.setting) (readings : ReadingsState)
+    (reading : IsReading old now readings old.net.setting.game.graph.vertices) (given : List ℕ)
     (are : AreGiven old.net.setting (root_part old) given) where
   abbrev h : Setting
   h = old.net.setting
@@ -160,7 +160,7 @@ module _ (old now : RootKnown) (setting : IsSetting old.net.setting) (tally : Ta
   word_at : (v : ℕ) → v < h.game.graph.vertices → get_or reading.words v 0 ≡ word_of_part (part_in h out'.log v)
   word_at v l = out'.has.2 v (let c = reading.count_is in omega arith)
 
-  module _ (fired : List ℕ) (fired_is : fired ≡ tally.fired) where
+  module _ (fired : List ℕ) (fired_is : fired ≡ readings.fired) where
     are_fired : AreFired h out'.log h.game.graph.vertices fired
     are_fired = fired_by_words h setting out'.log out'.legal reading.words reading.count_is word_at fired
         (fired_is ∙ reading.tallied.fired)
@@ -170,8 +170,8 @@ module _ (old now : RootKnown) (setting : IsSetting old.net.setting) (tally : Ta
         (subst (λ (z : Multigraph × (ℕ → ℕ)). IsBelowZero z.0 z.1 (slice_index fired) v)
         (λ i. (more.same_graph i, sym from i)) low)
 
-  module _ (o : Outcome) (fired_is : o.fired.items ≡ tally.fired) (over_is : o.over.items ≡ tally.over)
-      (sealed_is : o.sealed.items ≡ tally.sealed) (chips : IsAfter game o.fired.items o.chips.items) where
+  module _ (o : Outcome) (fired_is : o.fired.items ≡ readings.fired) (over_is : o.over.items ≡ readings.over)
+      (sealed_is : o.sealed.items ≡ readings.sealed) (chips : IsAfter game o.fired.items o.chips.items) where
     read : AreRead reading.words o.fired.items o.over.items o.sealed.items
     read = record {
       fired = fired_is ∙ reading.tallied.fired;

@@ -20,7 +20,7 @@ use Rattle.chip_core.specs.Positions.{fed_of, fed_in}
 use Rattle.chip_core.proofs.ReadLemmas.{reads_tell}
 use Rattle.chip_net.specs.Tokens.{NetId}
 use Rattle.chip_net.specs.Roots.{RootKnown, root_part, root_deficit, root_after, IsOver}
-use Rattle.chip_net.specs.Finish.{ReadsAt, reads_from, IsReadOut, TallyState, tally_after, is_by_limit_at}
+use Rattle.chip_net.specs.Finish.{ReadsAt, reads_from, IsReadOut, ReadingsState, readings_after, is_by_limit_at}
 use Rattle.chip_net.specs.Finish.{is_by_seal_at, AreRead}
 use Rattle.chip_net.specs.Finish.{IsReading}
 use Rattle.chip_net.proofs.ViewingLemmas.{part_append}
@@ -87,8 +87,8 @@ reads_feed_none g [] v [] = refl
 reads_feed_none g [] v (w ∷ ws) = reads_feed_none g [] (suc v) ws
 reads_feed_none g (x ∷ xs) v ws = ap (λ (l : List (ℕ × ℕ)). fed_of g x.event ++ l) (reads_feed_none g xs v ws)
 
-pub still_over : (old now : RootKnown) (tally : TallyState) (v : ℕ) → IsReading old now tally v → IsOver old → IsOver now
-still_over old now tally v reading over =
+pub still_over : (old now : RootKnown) (readings : ReadingsState) (v : ℕ) → IsReading old now readings v → IsOver old → IsOver now
+still_over old now readings v reading over =
     let g : Setting = old.net.setting in
     let part_is : root_part now ≡ part_by g (root_part old) (reads_from 0 reading.words) = ap root_part reading.record_is
     ∙ part_append g (opening_part g) old.did (reads_from 0 reading.words) in (
@@ -98,12 +98,12 @@ still_over old now tally v reading over =
       ap (λ (s : Part). s.ended) part_is ∙ reads_end g (root_part old) 0 reading.words ∙ over.1,
     )
 
-pub reading_net : (old now : RootKnown) (tally : TallyState) (v : ℕ) → IsReading old now tally v → now.net ≡ old.net
-reading_net old now tally v reading = ap (λ (r : RootKnown). r.net) reading.record_is
+pub reading_net : (old now : RootKnown) (readings : ReadingsState) (v : ℕ) → IsReading old now readings v → now.net ≡ old.net
+reading_net old now readings v reading = ap (λ (r : RootKnown). r.net) reading.record_is
 
--- ---- one word more in the tally
+-- ---- one word more in the readings
 
-module _ (words : List ℕ) (t : TallyState) (is : AreRead words t.fired t.over t.sealed) (w : ℕ) where
+module _ (words : List ℕ) (t : ReadingsState) (is : AreRead words t.fired t.over t.sealed) (w : ℕ) where
   pick_more : (test : List ℕ → ℕ → Bool)
       → ((ws us : List ℕ) (v : ℕ) → get_or ws v 0 ≡ get_or us v 0 → test ws v ≡ test us v) → (b : Bool)
       → test (w ∷ []) 0 ≡ b → (before : List ℕ) → before ≡ filter_below (test words) (length words)
@@ -121,10 +121,10 @@ module _ (words : List ℕ) (t : TallyState) (is : AreRead words t.fired t.over 
       let vertex : length t.fired ≡ length words = ap length is.fired ∙ length-map words fired_in in
       (λ i. (before_is ∙ front) i ++ cond (sym here i) (vertex i ∷ []) []) ∙ sym (ap (filter_below test') count)
 
-  pub tally_more : AreRead (words ++ w ∷ []) (tally_after (fired_in w) (is_halted_in w) (is_by_limit_in w) t).fired
-      (tally_after (fired_in w) (is_halted_in w) (is_by_limit_in w) t).over
-      (tally_after (fired_in w) (is_halted_in w) (is_by_limit_in w) t).sealed
-  tally_more = record {
+  pub readings_more : AreRead (words ++ w ∷ []) (readings_after (fired_in w) (is_halted_in w) (is_by_limit_in w) t).fired
+      (readings_after (fired_in w) (is_halted_in w) (is_by_limit_in w) t).over
+      (readings_after (fired_in w) (is_halted_in w) (is_by_limit_in w) t).sealed
+  readings_more = record {
     fired = ap (λ (l : List ℕ). l ++ fired_in w ∷ []) is.fired ∙ sym (map-append fired_in words (w ∷ []));
     over = pick_more is_by_limit_at (λ ws us v e. ap is_by_limit_in e) (is_by_limit_in w) refl t.over is.over
         (λ ws v e. ap is_by_limit_in e);
@@ -135,8 +135,8 @@ module _ (words : List ℕ) (t : TallyState) (is : AreRead words t.fired t.over 
 
 -- ---- one read more
 
-module _ (old now then : RootKnown) (tally : TallyState) (v seen : ℕ) (setting : IsSetting old.net.setting)
-    (reading : IsReading old now tally v) (reads : ReadsAt now then v seen) where
+module _ (old now then : RootKnown) (readings : ReadingsState) (v seen : ℕ) (setting : IsSetting old.net.setting)
+    (reading : IsReading old now readings v) (reads : ReadsAt now then v seen) where
   abbrev g : Setting
   g = now.net.setting
 
@@ -147,7 +147,7 @@ module _ (old now then : RootKnown) (tally : TallyState) (v seen : ℕ) (setting
   words = reading.words
 
   setting' : IsSetting now.net.setting
-  setting' = subst (λ (n : NetId). IsSetting n.setting) (sym (reading_net old now tally v reading)) setting
+  setting' = subst (λ (n : NetId). IsSetting n.setting) (sym (reading_net old now readings v reading)) setting
 
   legal : IsLegalLog g (x ∷ reads.1.log)
   legal = (reads.1.legal, reads.1.has.0)
@@ -192,7 +192,7 @@ module _ (old now then : RootKnown) (tally : TallyState) (v seen : ℕ) (setting
     );
   }
 
-  pub reads_more : IsReading old then (tally_after (fired_in seen) (is_halted_in seen) (is_by_limit_in seen) tally)
+  pub reads_more : IsReading old then (readings_after (fired_in seen) (is_halted_in seen) (is_by_limit_in seen) readings)
       (v + 1)
   reads_more = record {
     words = words ++ seen ∷ [];
@@ -203,6 +203,6 @@ module _ (old now then : RootKnown) (tally : TallyState) (v seen : ℕ) (setting
         ∙ ap (λ (l : List Step). old.did ++ l)
         (sym (reads_push 0 words seen v (let c = reading.count_is in omega arith))));
     told = λ some. read_out;
-    tallied = tally_more words tally reading.tallied seen;
+    tallied = readings_more words readings reading.tallied seen;
     room_is = (let r = reading.room_is in omega arith);
   }

@@ -8,7 +8,7 @@ use Rattle.std.proofs.lemmas.Bool.{le-leb}
 use Rattle.atomic_table.specs.Seated.{TableId}
 use Rattle.atomic_table.specs.Table.{Allows}
 use Rattle.chip_graph.proofs.SumLemmas.{cond_yes}
-use Rattle.chip_link.specs.Link.{claims_of, after_clear}
+use Rattle.chip_link.specs.Link.{after_clear}
 use Rattle.chip_part.specs.Setting.{Setting}
 use Rattle.chip_part.specs.declared.act.Act as operation
 use Rattle.chip_part.specs.declared.act.Act.TheVariants as Do
@@ -19,25 +19,23 @@ use Rattle.chip_part.specs.Acting.{FitsRoot, is_of_root}
 use Rattle.chip_part.specs.Steps.{link_after, saw}
 use Rattle.chip_part.proofs.EdgeLemmas.{tail_root}
 use Rattle.chip_part.proofs.RuleLemmas.{met_rules}
-use Rattle.chip_core.specs.Core.{Step, Event, Clear, Put, Settle, Feed, End}
+use Rattle.chip_core.specs.Core.{Seal, Read, Step, Event, Clear, Put, Settle, Feed, End}
 use Rattle.chip_core.specs.Core.{Part, Out, Reply, opening_part, does, unmet_rule, part_of, part_in, tail_of, reply_of}
 use Rattle.chip_core.specs.Histories.{done_by, part_by}
-use Rattle.chip_core.specs.Words.{IsWord, of_acks, word_of_event, left_by, word_to_note}
+use Rattle.chip_core.specs.Words.{of_acks, word_to_note}
 use Rattle.chip_core.proofs.ReachingLemmas.{by_history}
 use Rattle.chip_core.proofs.NumberLemmas.{root_fits}
-use Rattle.chip_core.proofs.ShowingLemmas.{word_for}
-use Rattle.chip_net.specs.declared.root_hand.RootHand.TheInside.{Inside}
-use Rattle.chip_net.specs.contracts.root_hand.RootHand.{the_view}
+use Rattle.chip_net.specs.declared.root_actor.RootActor.TheInside.{Inside}
+use Rattle.chip_net.specs.contracts.root_actor.RootActor.{the_view}
 use Rattle.chip_net.specs.Layout.{index_of, word_count}
 use Rattle.chip_net.specs.Views.{View, find, grow_view, did_in, Has, part_of_view, IsAlone, join_views, steps_or_none}
 use Rattle.chip_net.specs.Rule.{Kept, step_of, Stepped, Grows}
 use Rattle.chip_net.specs.Roots.{RootKnown, known_root, root_after, root_part, IsRoot, IsFeeding, IsDueInView, MakesEvent, Replies}
 use Rattle.chip_net.specs.Roots.{settles_from, DoesMore, HoldsNothing, has_ended, new_root, with_stopper}
-use Rattle.chip_net.proofs.LayingLemmas.{inside}
 use Rattle.chip_net.specs.Tokens.{NetId}
 use Rattle.chip_net.proofs.ViewingLemmas.{grown_has, grown_part, find_else, part_push, part_append, ended_by}
 use Rattle.chip_net.proofs.ViewingLemmas.{joined_here, joined_else}
-use Rattle.chip_net.proofs.RulingLemmas.{Mine, word_of, left_over, one_exchange, allowed, event_asked, event_told}
+use Rattle.chip_net.proofs.RulingLemmas.{Mine, word_of, left_over, HasAct, act_asked, event_asked, event_told}
 use Rattle.chip_net.proofs.LayingLemmas.{owner_at}
 
 -- the root sends on the root edges
@@ -59,7 +57,7 @@ noted_twice : (x : Event) (n : ℕ) → word_to_note x n ≡ word_to_note x (wor
 noted_twice (Put e) n = refl
 noted_twice x n = refl
 
--- ---- an event of the root's hand
+-- ---- an event of the root at its seat
 
 module _ (i : Inside) (keeps : IsRoot i.setting.value i.seat.me.0 i.state) (x : Event)
     (mine : part_of i.setting.value x ≡ root i.setting.value) (own : is_of_root i.setting.value x ≡ true)
@@ -194,6 +192,11 @@ feeding_mine g (Feed e k) past = (tail_root g e past, refl)
 feeding_mine g End past = (refl, refl)
 feeding_mine g x z = absurd z
 
+feeding_acts : (g : Setting) (x : Event) → IsFeeding g x → HasAct x
+feeding_acts g (Seal e) z = z
+feeding_acts g (Read v) z = z
+feeding_acts g x z = tt
+
 -- what is noted where such an operation found n
 abbrev pub noted_over : operation.Act → ℕ → ℕ
 noted_over (Do.Put e cell value) n = 0
@@ -214,54 +217,13 @@ module _ (g : Setting) (me : Mine) (x : Event) (act : operation.Act) (due : IsDu
   pub noted_here : (n : ℕ) → word_to_note x n ≡ noted_over act n
   noted_here n = noted_is g part x due.feeding n ∙ ap (λ (a : operation.Act). noted_over a n) (sym due.needed)
 
-  -- the word of the operation is that of the event
-  over_word : (y : Event) → IsFeeding g y → word_of 0 (act_of g y part) ≡ word_of_event g y part
-  over_word (Clear e) past = refl
-  over_word (Put e) past = refl
-  over_word (Feed e k) past = refl
-  over_word End past = refl
-  over_word x z = absurd z
-
-  -- and so is what it leaves there
-  over_left : (y : Event) → IsFeeding g y → (n : ℕ) → left_by g y part n ≡ left_over (act_of g y part) n
-  over_left (Clear e) past n = refl
-  over_left (Put e) past n = refl
-  over_left (Feed e k) past n = one_exchange (claims_of (part.out e).link) (claims_of (part.out e).link + 1) n
-  over_left End past n = refl
-  over_left x z n = absurd z
-
-  word_is : word_of 0 act ≡ word_of_event g x part
-  word_is = ap (word_of 0) due.needed ∙ over_word x due.feeding
-
-  pub feeding_word : IsWord g (word_of 0 act)
-  feeding_word = subst (IsWord g) (sym word_is)
-      (word_for g due.setting.game.graph_fits.some_vertex due.setting.some_ring x part due.met)
-
-  -- the rule allows it
-  feeding_rule : (key : Setting) → key ≡ g → (slots id word : ℕ) → word ≡ index_of g (word_of 0 act)
-      → Allows (Kept key) slots id me word (left_over act) (Grows key x me)
-  feeding_rule key same slots id word at =
-      let mine = (feeding_mine g x due.feeding).0 in
-      let left : left_by g x (part_of_view g (part_of g x) me.0) ≡ left_over act =
-      (λ j n. (ap (λ (p : ℕ). left_by g x (part_of_view g p me.0) n) mine
-      ∙ over_left x due.feeding n ∙ ap (λ (a : operation.Act). left_over a n) (sym due.needed)) j) in
-      let at' : index_of g (word_of_event g x (part_of_view g (part_of g x) me.0)) ≡ word =
-      ap (λ (p : ℕ). index_of g (word_of_event g x (part_of_view g p me.0))) mine ∙ ap (index_of g) (sym word_is) ∙ sym at in
-      subst (λ (z : Setting × ℕ × (ℕ → ℕ)). Allows (Kept z.0) slots id me z.1 z.2 (Grows z.0 x me))
-      (λ j. (sym same j, at' j, left j))
-      (allowed g slots id me x (did_in (part_of g x) me.0) (subst (λ (p : ℕ). Has p me.0) (sym mine) due.has)
-      (subst (λ (p : ℕ). unmet_rule g x (part_of_view g p me.0) ≡ None) (sym mine) due.met))
-
   module _ (key set : Setting) (same : key ≡ g) (set_is : set ≡ g) (table tid : TableId) (table_is : table ≡ tid)
-      (count : tid.words ≡ word_count g) (id word : ℕ) (at : word ≡ index_of set (word_of 0 act)) where
-    here : word ≡ index_of g (word_of 0 act)
-    here = at ∙ ap (λ (h : Setting). index_of h (word_of 0 act)) set_is
-
+      (count : tid.words ≡ word_count g) (id word : ℕ) (at : word ≡ index_of set (word_of (root g) act)) where
     pub feeding_asked : (table ≡ tid) × (word < tid.words)
         × Allows (Kept key) tid.slots id me word (left_over act) (Grows key x me)
-    feeding_asked =
-        let l = inside g (word_of 0 act) feeding_word in
-        (table_is, omega (arith, here), feeding_rule key same tid.slots id word here)
+    feeding_asked = act_asked g due.setting me x (root g) (feeding_mine g x due.feeding).0 due.has due.met
+        (feeding_acts g x due.feeding) act due.needed key same word
+        (at ∙ ap (λ (h : Setting). index_of h (word_of (root g) act)) set_is) (λ _. x) refl table tid table_is count id
 
     -- a store tells the same, whatever it found
     pub store_asked : (value : ℕ) → ((n : ℕ) → noted_over act n ≡ 0) → (table ≡ tid) × (word < tid.words)

@@ -13,18 +13,16 @@ use Rattle.atomic_table.specs.Table.{State, Me, Act, Valid, keeps, carried_after
 use Rattle.atomic_table.proofs.Lists.{at_set, set_else}
 use Rattle.chip_graph.proofs.SumLemmas.{cond_yes, cond_no}
 use Rattle.chip_link.specs.Words.{word_after_exchange}
+use Rattle.chip_link.specs.Link.{claims_of}
 use Rattle.chip_part.specs.Setting.{Setting, IsSetting}
 use Rattle.chip_part.specs.declared.act.Act as operation
 use Rattle.chip_part.specs.declared.act.Act.TheVariants as Do
-use Rattle.chip_part.specs.Acting.{act_of, event_of}
-use Rattle.chip_actor.specs.Medium.{IsDueBy}
-use Rattle.chip_core.specs.Core.{Log, Step, Event, Fire, Claim, Halt, Seal, Read, Feed}
-use Rattle.chip_core.specs.Core.{End, Part, opening_part, unmet_rule, part_of, sees, Fits}
+use Rattle.chip_part.specs.Acting.{act_of}
+use Rattle.chip_core.specs.Core.{Log, Step, Event, Claim, Seal, Read, Feed}
+use Rattle.chip_core.specs.Core.{Part, opening_part, unmet_rule, part_of, sees, Fits}
 use Rattle.chip_core.specs.Histories.{done_by, part_by}
 use Rattle.chip_core.specs.Words.{Word, of_edge, of_acks, of_cell, of_vertex, IsWord, halt_bits, word_of_event, left_by}
 use Rattle.chip_core.specs.Words.{word_to_note, IsShown, IsLeft, acting_part}
-use Rattle.chip_part.proofs.EdgeLemmas.{tail_root}
-use Rattle.chip_part.proofs.RuleLemmas.{rules_met}
 use Rattle.chip_part.specs.Steps.{saw}
 use Rattle.chip_core.proofs.ReachingLemmas.{by_history}
 use Rattle.chip_core.proofs.ShowingLemmas.{word_for, word_there, finds, words_go_on}
@@ -159,7 +157,39 @@ module _ (g : Setting) (slots id : ℕ) (me : Mine) (x : Event) (did : List Step
         ),
       )
 
--- ---- the same by the operation of a vertex
+-- ---- the same as a call of the table makes it
+
+module _ (g : Setting) (setting : IsSetting g) (me : Mine) (x : Event) (has : Has (part_of g x) me.0)
+    (none : unmet_rule g x (part_of_view g (part_of g x) me.0) ≡ None) (key : Setting) (key_is : key ≡ g) (word : ℕ)
+    (at : word ≡ index_of g (word_of_event g x (part_of_view g (part_of g x) me.0))) (kind : ℕ → Event)
+    (of_kind : kind (owner_of (word_of_event g x (part_of_view g (part_of g x) me.0))) ≡ x) where
+  abbrev q : Word
+  q = word_of_event g x (part_of_view g (part_of g x) me.0)
+
+  there : IsWord g q
+  there = word_for g setting.game.graph_fits.some_vertex setting.some_ring x (part_of_view g (part_of g x) me.0) none
+
+  kind_is : kind (owner_at key word) ≡ x
+  kind_is = ap kind (ap (λ (k : Setting). owner_at k word) key_is ∙ owner_read g q there word at) ∙ of_kind
+
+  pub event_asked : (table tid : TableId) → table ≡ tid → tid.words ≡ word_count g → (id : ℕ)
+      → (table ≡ tid) × (word < tid.words)
+      × Allows (Kept key) tid.slots id me word (left_by g x (part_of_view g (part_of g x) me.0))
+      (Grows key (kind (owner_at key word)) me)
+  event_asked table tid same count id =
+      let l = inside g q there in (
+        same,
+        omega arith,
+        subst (λ (z : Setting × ℕ × Event). Allows (Kept z.0) tid.slots id me z.1
+            (left_by g x (part_of_view g (part_of g x) me.0)) (Grows z.0 z.2 me))
+            (λ i. (sym key_is i, sym at i, sym kind_is i))
+            (allowed g tid.slots id me x (did_in (part_of g x) me.0) has none),
+      )
+
+  pub event_told : (seen : ℕ) (after : Mine) → Grows key (kind (owner_at key word)) me seen after → Grows g x me seen after
+  event_told seen after = subst (λ (z : Setting × Event). Grows z.0 z.1 me seen after) (λ i. (key_is i, kind_is i))
+
+-- ---- the same by the operation
 
 -- the word that an operation of the vertex v is on, and what it leaves there where n was found
 abbrev pub word_of : ℕ → operation.Act → Word
@@ -192,90 +222,67 @@ one_exchange expected new n = by_test (n == expected)
     by_test true = refl
     by_test false = refl
 
-module _ (g : Setting) (slots id : ℕ) (me : Mine) (v : ℕ) (did : List Step) (has : find v me.0.parts ≡ Some did) where
+-- an event whose operation has a name of its own
+abbrev pub HasAct : Event → Type 0
+HasAct (Seal e) = ⊥
+HasAct (Read v) = ⊥
+HasAct _ = Unit {0}
+
+pub vertex_acts : (g : Setting) (x : Event) → part_of g x < g.game.graph.vertices → HasAct x
+vertex_acts g (Seal e) l = absurd (omega arith)
+vertex_acts g (Read v) l = absurd (omega arith)
+vertex_acts g x l = tt
+
+-- it is on the word of the event, and leaves there what the event does
+over_word : (g : Setting) (s : Part) (x : Event) → HasAct x → word_of (part_of g x) (act_of g x s) ≡ word_of_event g x s
+over_word g s (Seal e) z = absurd z
+over_word g s (Read v) z = absurd z
+over_word g s x z = refl
+
+over_left : (g : Setting) (s : Part) (x : Event) → HasAct x → (n : ℕ) → left_by g x s n ≡ left_over (act_of g x s) n
+over_left g s (Seal e) z n = absurd z
+over_left g s (Read v) z n = absurd z
+over_left g s (Claim e) z n = one_exchange (claims_of (s.out e).link) (claims_of (s.out e).link + 1) n
+over_left g s (Feed e k) z n = one_exchange (claims_of (s.out e).link) (claims_of (s.out e).link + 1) n
+over_left g s x z n = refl
+
+module _ (g : Setting) (setting : IsSetting g) (me : Mine) (x : Event) (v : ℕ) (mine : part_of g x ≡ v) (has : Has v me.0)
+    (none : unmet_rule g x (part_of_view g v me.0) ≡ None) (acts : HasAct x) (act : operation.Act)
+    (act_is : act ≡ act_of g x (part_of_view g v me.0)) where
   abbrev part : Part
-  part = part_by g (opening_part g) did
+  part = part_of_view g (part_of g x) me.0
 
-  AllowsAct : Event → operation.Act → Type 0
-  AllowsAct x act = Allows (Kept g) slots id me (index_of g (word_of v act)) (left_over act) (Grows g x me)
+  none' : unmet_rule g x part ≡ None
+  none' = subst (λ (p : ℕ). unmet_rule g x (part_of_view g p me.0) ≡ None) (sym mine) none
 
-  allowed_for : (x : Event) → part_of g x ≡ v → unmet_rule g x part ≡ None
-      → Allows (Kept g) slots id me (index_of g (word_of_event g x part)) (left_by g x part) (Grows g x me)
-  allowed_for x mine none = allowed g slots id me x did (subst (λ (p : ℕ). find p me.0.parts ≡ Some did) (sym mine) has)
-      none
+  act_by : act ≡ act_of g x part
+  act_by = act_is ∙ ap (λ (p : ℕ). act_of g x (part_of_view g p me.0)) (sym mine)
 
-  -- no vertex feeds
-  not_fed : (e k : ℕ) → v < g.game.graph.vertices → part_of g (Feed e k) ≡ v → unmet_rule g (Feed e k) part ≡ None → ⊥
-  not_fed e k l mine none = let at = tail_root g e (rules_met g (Feed e k) part none).0 in absurd (omega arith)
+  word_is : word_of v act ≡ word_of_event g x part
+  word_is = (λ j. word_of (sym mine j) (act_by j)) ∙ over_word g part x acts
 
-  by_event : (x : Event) → v < g.game.graph.vertices → part_of g x ≡ v → unmet_rule g x part ≡ None
-      → AllowsAct x (act_of g x part)
-  unfolding AllowsAct
-  by_event (Fire u k) l mine none = subst
-      (λ (w : ℕ). Allows (Kept g) slots id me (index_of g (of_vertex w)) (left_over (Do.Fire k)) (Grows g (Fire u k) me))
-      mine (allowed_for (Fire u k) mine none)
-  by_event (Claim e) l mine none =
-      let was : ℕ = Rattle.chip_link.specs.Link.claims_of (part.out e).link in
-      subst (λ (f : ℕ → ℕ). Allows (Kept g) slots id me (index_of g (of_edge e)) f (Grows g (Claim e) me))
-      (λ i n. one_exchange was (was + 1) n i) (allowed_for (Claim e) mine none)
-  by_event (Halt u) l mine none = subst
-      (λ (w : ℕ). Allows (Kept g) slots id me (index_of g (of_vertex w)) (left_over (act_of g (Halt u) part))
-      (Grows g (Halt u) me)) mine (allowed_for (Halt u) mine none)
-  by_event (Seal e) l mine none = absurd (omega arith)
-  by_event (Read u) l mine none = absurd (omega arith)
-  by_event (Feed e k) l mine none = absurd (not_fed e k l mine none)
-  by_event End l mine none = absurd (omega arith)
-  by_event x l mine none = allowed_for x mine none
+  left_is : left_by g x part ≡ left_over act
+  left_is = λ j n. (over_left g part x acts n ∙ ap (λ (a : operation.Act). left_over a n) (sym act_by)) j
 
-  word_by_event : IsSetting g → (x : Event) → v < g.game.graph.vertices → part_of g x ≡ v → unmet_rule g x part ≡ None
-      → IsWord g (word_of v (act_of g x part))
-  word_by_event setting (Fire u k) l mine none = l
-  word_by_event setting (Halt u) l mine none = l
-  word_by_event setting (Seal e) l mine none = absurd (omega arith)
-  word_by_event setting (Read u) l mine none = absurd (omega arith)
-  word_by_event setting (Feed e k) l mine none = absurd (not_fed e k l mine none)
-  word_by_event setting End l mine none = absurd (omega arith)
-  word_by_event setting x l mine none = word_for g setting.game.graph_fits.some_vertex setting.some_ring x part none
+  pub act_word : IsWord g (word_of v act)
+  act_word = subst (IsWord g) (sym word_is)
+      (word_for g setting.game.graph_fits.some_vertex setting.some_ring x part none')
 
-  pub act_word : IsSetting g → v < g.game.graph.vertices → (act : operation.Act) → IsDueBy g v part act
-      → IsWord g (word_of v act)
-  act_word setting l act due = subst (λ (b : operation.Act). IsWord g (word_of v b)) (sym due.needed)
-      (word_by_event setting (event_of v act) l due.mine due.met)
+  module _ (key : Setting) (key_is : key ≡ g) (word : ℕ) (at : word ≡ index_of g (word_of v act)) (kind : ℕ → Event)
+      (of_kind : kind (owner_of (word_of v act)) ≡ x) where
+    at' : word ≡ index_of g (word_of_event g x part)
+    at' = at ∙ ap (index_of g) word_is
 
-  pub act_allowed : v < g.game.graph.vertices → (act : operation.Act) → IsDueBy g v part act
-      → Allows (Kept g) slots id me (index_of g (word_of v act)) (left_over act) (Grows g (event_of v act) me)
-  unfolding AllowsAct
-  act_allowed l act due = subst (AllowsAct (event_of v act)) (sym due.needed)
-      (by_event (event_of v act) l due.mine due.met)
+    of_kind' : kind (owner_of (word_of_event g x part)) ≡ x
+    of_kind' = ap (λ (w : Word). kind (owner_of w)) (sym word_is) ∙ of_kind
 
--- ---- an event of the root or the stopper, as a call of the table makes it
+    pub act_asked : (table tid : TableId) → table ≡ tid → tid.words ≡ word_count g → (id : ℕ)
+        → (table ≡ tid) × (word < tid.words)
+        × Allows (Kept key) tid.slots id me word (left_over act) (Grows key (kind (owner_at key word)) me)
+    act_asked table tid same count id = subst (λ (f : ℕ → ℕ). (table ≡ tid) × (word < tid.words)
+        × Allows (Kept key) tid.slots id me word f (Grows key (kind (owner_at key word)) me)) left_is
+        (event_asked g setting me x (subst (λ (p : ℕ). Has p me.0) (sym mine) has) none' key key_is word at' kind of_kind'
+        table tid same count id)
 
-module _ (g : Setting) (setting : IsSetting g) (me : Mine) (x : Event) (has : Has (part_of g x) me.0)
-    (none : unmet_rule g x (part_of_view g (part_of g x) me.0) ≡ None) (key : Setting) (key_is : key ≡ g) (word : ℕ)
-    (at : word ≡ index_of g (word_of_event g x (part_of_view g (part_of g x) me.0))) (kind : ℕ → Event)
-    (of_kind : kind (owner_of (word_of_event g x (part_of_view g (part_of g x) me.0))) ≡ x) where
-  abbrev q : Word
-  q = word_of_event g x (part_of_view g (part_of g x) me.0)
-
-  there : IsWord g q
-  there = word_for g setting.game.graph_fits.some_vertex setting.some_ring x (part_of_view g (part_of g x) me.0) none
-
-  kind_is : kind (owner_at key word) ≡ x
-  kind_is = ap kind (ap (λ (k : Setting). owner_at k word) key_is ∙ owner_read g q there word at) ∙ of_kind
-
-  pub event_asked : (table tid : TableId) → table ≡ tid → tid.words ≡ word_count g → (id : ℕ)
-      → (table ≡ tid) × (word < tid.words)
-      × Allows (Kept key) tid.slots id me word (left_by g x (part_of_view g (part_of g x) me.0))
-      (Grows key (kind (owner_at key word)) me)
-  event_asked table tid same count id =
-      let l = inside g q there in (
-        same,
-        omega arith,
-        subst (λ (z : Setting × ℕ × Event). Allows (Kept z.0) tid.slots id me z.1
-            (left_by g x (part_of_view g (part_of g x) me.0)) (Grows z.0 z.2 me))
-            (λ i. (sym key_is i, sym at i, sym kind_is i))
-            (allowed g tid.slots id me x (did_in (part_of g x) me.0) has none),
-      )
-
-  pub event_told : (seen : ℕ) (after : Mine) → Grows key (kind (owner_at key word)) me seen after → Grows g x me seen after
-  event_told seen after = subst (λ (z : Setting × Event). Grows z.0 z.1 me seen after) (λ i. (key_is i, kind_is i))
+    pub act_told : (seen : ℕ) (after : Mine) → Grows key (kind (owner_at key word)) me seen after → Grows g x me seen after
+    act_told = event_told g setting me x (subst (λ (p : ℕ). Has p me.0) (sym mine) has) none' key key_is word at' kind of_kind'

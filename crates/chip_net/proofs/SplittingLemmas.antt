@@ -1,5 +1,5 @@
 -- Serves Views.antt.
--- A part that is handed on stands in the new view alone, and one that is taken back in the view that took it.
+-- A part that is taken out stands in the new view alone, and one that is taken back in the view that took it.
 use Rattle.std.proofs.Common.{◌≡◌, ◌≢◌, ◌⊎◌, ℕ, zero, suc, eqb, List, [], ◌∷◌, ◌++◌, length, set, Option, Some, refl}
 use Rattle.std.proofs.Common.{sym, ap, ◌∙◌, subst, ⊎_elim, inl, inr}
 use mathlib.Core.Logic.{dite}
@@ -27,9 +27,9 @@ at_end (x ∷ xs) a b zero e = inl e
 at_end (x ∷ xs) a b (suc j) e = ⊎_elim inl (λ (w : (j ≡ length xs) × (a ≡ b)). inr (ap suc w.0, w.1))
     (at_end xs a b j e)
 
-pub hands_on : (g : Setting) (id p : ℕ) (v : View) (did : List Step) → find p v.parts ≡ Some did
+pub takes_out : (g : Setting) (id p : ℕ) (v : View) (did : List Step) → find p v.parts ≡ Some did
     → Splits (Kept g) id v (view_without p v) (view_of_one p v)
-hands_on g id p v did has s kept at = record {
+takes_out g id p v did has s kept at = record {
   log = kept.log;
   owner = λ q. cond (eqb q p) (length (set s.views id (view_without p v))) (kept.owner q);
   setting = kept.setting;

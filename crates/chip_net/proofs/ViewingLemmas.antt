@@ -80,7 +80,7 @@ pub ended_by : (g : Setting) (xs : List Step) (s : Part) → s.ended ≡ true �
 ended_by g [] s on = on
 ended_by g (x ∷ xs) s on = ended_by g xs (does g x s) (stays_ended g x.event s.ended on)
 
--- ---- handing on
+-- ---- taking out
 
 pub dropped_here : (p : ℕ) (ys : List History) → find p (drop_part p ys) ≡ None
 dropped_here p [] = refl
@@ -97,7 +97,7 @@ dropped_else p q (y ∷ ys) ne = dite (ℕ_discrete y.part p)
     (λ other. ap (find q) (cond_no y.part p (drop_part p ys) (y ∷ drop_part p ys) other)
     ∙ ap (cond (eqb y.part q) (Some y.did)) (dropped_else p q ys ne))
 
--- what the new view finds is the part that was handed on
+-- what the new view finds is the part that was taken out
 pub only_finds : (p q : ℕ) (found : Option (List Step)) (d : List Step) → find q (one_part p found) ≡ Some d
     → (p ≡ q) × (found ≡ Some d)
 only_finds p q None d e = absurd (none_some d e)
@@ -124,8 +124,8 @@ alone_by p v did is =
 pub did_alone : (p : ℕ) (v : View) (did : List Step) → v.parts ≡ record { part = p; did = did } ∷ [] → did ≡ did_in p v
 did_alone p v did is = sym (ap steps_or_none (ap (find p) is ∙ cond_yes p p (Some did) None refl))
 
-pub handed_alone : (p : ℕ) (v : View) (did : List Step) → find p v.parts ≡ Some did → IsAlone p (view_of_one p v)
-handed_alone p v did has = alone_by p (view_of_one p v) did (ap (one_part p) has)
+pub taken_alone : (p : ℕ) (v : View) (did : List Step) → find p v.parts ≡ Some did → IsAlone p (view_of_one p v)
+taken_alone p v did has = alone_by p (view_of_one p v) did (ap (one_part p) has)
 
 pub grown_alone : (p : ℕ) (x : Step) (v w : View) → IsAlone p v → w ≡ grow_view p x v → IsAlone p w
 grown_alone p x v w alone is = alone_by p w (did_in p v ++ x ∷ []) (ap (λ (u : View). u.parts) is

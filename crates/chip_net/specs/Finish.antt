@@ -40,22 +40,22 @@ abbrev pub IsReadOut : RootKnown → List ℕ → Type 0
 IsReadOut r words = SomeLog r.net.setting (λ log. AgreesWith r log × IsClosed r.net.setting log
     × ((v : ℕ) → v < length words → slice_index words v ≡ word_of_part (part_in r.net.setting log v)))
 
--- ---- the tally of the words
+-- ---- the readings of the words
 
 -- the counts, the vertices that halted by the limit and by a seal, and for how many more vertices there is room
-pub record TallyState : Type 0 where
+pub record ReadingsState : Type 0 where
   pub fired : List ℕ
   pub over : List ℕ
   pub sealed : List ℕ
   pub room : ℕ
 
--- a tally of no vertex
-abbrev pub blank_tally : ℕ → TallyState
-blank_tally room = record { fired = []; over = []; sealed = []; room = room }
+-- a readings of no vertex
+abbrev pub no_readings : ℕ → ReadingsState
+no_readings room = record { fired = []; over = []; sealed = []; room = room }
 
 -- after one vertex more
-abbrev pub tally_after : ℕ → Bool → Bool → TallyState → TallyState
-tally_after fired halted by_limit t = record {
+abbrev pub readings_after : ℕ → Bool → Bool → ReadingsState → ReadingsState
+readings_after fired halted by_limit t = record {
   fired = t.fired ++ fired ∷ [];
   over = t.over ++ (if by_limit then length t.fired ∷ [] else []);
   sealed = t.sealed ++ (if halted && not by_limit then length t.fired ∷ [] else []);
@@ -76,14 +76,14 @@ pub record AreRead (words counted limited stopped : List ℕ) : Type 0 where
   pub over : limited ≡ filter_below (is_by_limit_at words) (length words)
   pub sealed : stopped ≡ filter_below (is_by_seal_at words) (length words)
 
--- so many reads were made, and this is their tally
-pub record IsReading (old now : RootKnown) (tally : TallyState) (count : ℕ) : Type 0 where
+-- so many reads were made, and this is their readings
+pub record IsReading (old now : RootKnown) (readings : ReadingsState) (count : ℕ) : Type 0 where
   pub words : List ℕ
   pub count_is : length words ≡ count
   pub record_is : now ≡ root_after old (reads_from 0 words)
   pub told : 0 < length words → IsReadOut now words
-  pub tallied : AreRead words tally.fired tally.over tally.sealed
-  pub room_is : tally.room ≡ old.net.setting.game.graph.vertices - count
+  pub tallied : AreRead words readings.fired readings.over readings.sealed
+  pub room_is : readings.room ≡ old.net.setting.game.graph.vertices - count
 
 -- ---- the end
 

@@ -84,7 +84,7 @@ with_stopper r steps = record { net = r.net; did = r.did; stopper_did = Some ste
 abbrev pub root_after : RootKnown → List Step → RootKnown
 root_after r steps = record { net = r.net; did = r.did ++ steps; stopper_did = r.stopper_did }
 
--- ---- the root's hand
+-- ---- the root at its seat
 
 -- the view of the root of this game, with what the root keeps of it
 pub record IsRoot (g : Setting) (view : View) (state : Root) : Type 0 where

@@ -35,7 +35,7 @@ Has p v = find p v.parts ≡ Some (did_in p v)
 abbrev pub part_of_view : Setting → ℕ → View → Part
 part_of_view g p v = part_by g (opening_part g) (did_in p v)
 
--- what is left where the part p is handed on
+-- what is left where the part p is taken out
 abbrev pub drop_part : ℕ → List History → List History
 drop_part p [] = []
 drop_part p (y ∷ ys) = if y.part == p then drop_part p ys else y ∷ drop_part p ys
@@ -43,7 +43,7 @@ drop_part p (y ∷ ys) = if y.part == p then drop_part p ys else y ∷ drop_part
 abbrev pub view_without : ℕ → View → View
 view_without p v = record { parts = drop_part p v.parts }
 
--- what is handed on
+-- what is taken out
 abbrev pub one_part : ℕ → Option (List Step) → List History
 one_part p None = []
 one_part p (Some did) = record { part = p; did = did } ∷ []

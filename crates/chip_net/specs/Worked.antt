@@ -12,7 +12,7 @@ use Rattle.chip_net.specs.Views.{View, find, grow_view, view_without, view_of_on
 use Rattle.chip_net.specs.Opening.{first_value}
 use Rattle.chip_net.specs.Traces.{rows_of}
 use Rattle.chip_net.specs.Roots.{root_settles, settles_from, feed_steps}
-use Rattle.chip_net.specs.Finish.{reads_from, blank_tally, tally_after}
+use Rattle.chip_net.specs.Finish.{reads_from, no_readings, readings_after}
 
 -- four chips on vertex 0, and rings of two cells
 abbrev pub two_cells : Setting
@@ -32,12 +32,12 @@ TriangleOpens =
     × (first_value two_cells 7 (of_cell 4 1) ≡ 0)
     × (first_value two_cells 7 (of_edge 5) ≡ 0) × (first_value two_cells 7 (of_vertex 0) ≡ 0)
 
--- a view of two parts: one of them acts, is handed on, and comes back
+-- a view of two parts: one of them acts, is taken out, and comes back
 abbrev pub two_parts : View
 two_parts = record { parts = record { part = 1; did = [] } ∷ record { part = 0; did = saw (Take 4) 4 ∷ [] } ∷ [] }
 
-abbrev pub PartHandedOn : Type 0
-PartHandedOn =
+abbrev pub PartTakenOut : Type 0
+PartTakenOut =
     (find 0 (grow_view 0 (saw (Fire 0 2) 0) two_parts).parts ≡ Some (saw (Take 4) 4 ∷ saw (Fire 0 2) 0 ∷ []))
     × (find 1 (grow_view 0 (saw (Fire 0 2) 0) two_parts).parts ≡ Some [])
     × (find 0 (view_without 0 two_parts).parts ≡ None) × (find 1 (view_without 0 two_parts).parts ≡ Some [])
@@ -59,7 +59,7 @@ abbrev pub RootOfTheTriangle : Type 0
 RootOfTheTriangle =
     (root_settles two_cells 3 ≡ Settle 4 ∷ Settle 5 ∷ Settle 6 ∷ [])
     × (reads_from 0 (2 ∷ 1 ∷ []) ≡ saw (Read 0) 2 ∷ saw (Read 1) 1 ∷ [])
-    × (tally_after 0 true false (tally_after 1 true true (tally_after 2 false false (blank_tally 3)))
+    × (readings_after 0 true false (readings_after 1 true true (readings_after 2 false false (no_readings 3)))
     ≡ record { fired = 2 ∷ 1 ∷ 0 ∷ []; over = 1 ∷ []; sealed = 2 ∷ []; room = 0 })
 
 -- three chips for vertex 1, whose root edge is 5, with what the root's list has of them, and the settles of an end

@@ -9,7 +9,7 @@ ghost use Rattle.chip_net.specs.Meeting.{AreInPlace, Met};
 
 use crate::net::Net;
 use crate::net_words::{NetWords, Turning};
-use crate::rule::{Handing, PartSeat};
+use crate::rule::{OnePart, PartSeat};
 use crate::trace::Trace;
 use chip_actor::ActorState;
 use chip_link::TraceRow;
@@ -111,7 +111,7 @@ impl Owned {
     }
 
     /// Its part comes back to a seat of its own.
-    fn take_back<J: Handing>(&mut self, net: &Net, seat: &mut PartSeat)
+    fn take_back<J: OnePart>(&mut self, net: &Net, seat: &mut PartSeat)
         requires vertex { J.part ≡ self.old.vertex }
         requires net { self.old.net.setting ≡ net.now.setting }
         requires seat { seat.old.table_id ≡ net.now.table }

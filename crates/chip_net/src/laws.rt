@@ -1,6 +1,6 @@
 //! What holds of a net at every moment, and worked words and records, as the contracts of functions that do nothing.
 
-ghost use Rattle.chip_net.specs.Worked.{TriangleWords, TriangleOpens, PartHandedOn, RowsOfATurn, RootOfTheTriangle};
+ghost use Rattle.chip_net.specs.Worked.{TriangleWords, TriangleOpens, PartTakenOut, RowsOfATurn, RootOfTheTriangle};
 ghost use Rattle.chip_net.specs.Worked.{FeedOfTheTriangle};
 ghost use Rattle.chip_net.specs.Laws.{EveryMomentIsReached};
 ghost use Rattle.chip_net.specs.Meeting.{OneRun, SealsTellAll};
@@ -9,7 +9,7 @@ ghost use Rattle.chip_net.specs.Meeting.{OneRun, SealsTellAll};
 pub fn worked_nets()
     ensures words { TriangleWords }
     ensures opening { TriangleOpens }
-    ensures handed_on { PartHandedOn }
+    ensures taken_out { PartTakenOut }
     ensures rows { RowsOfATurn }
     ensures root { RootOfTheTriangle }
     ensures feed { FeedOfTheTriangle }

@@ -14,13 +14,13 @@ mod net;
 mod net_words;
 mod open;
 mod poll;
+mod readings;
 mod receipt;
 mod reserve;
 mod root;
-mod root_hand;
+mod root_actor;
 mod rule;
 mod stopper;
-mod tally;
 mod trace;
 mod views;
 

@@ -1,7 +1,7 @@
 ghost use Rattle.std.specs.Prelude.{◌≡◌, ℕ, ◌<◌, [], IfOk};
 
 use crate::open::opening_words;
-use crate::rule::{HandOn, Handing, PartSeat, SharedWords, TakeIn, WordTable};
+use crate::rule::{OnePart, PartSeat, SharedWords, TakeIn, TakeOut, WordTable};
 use chip_part::Setting;
 use std::alloc::{AllocError, Global};
 use std::marker::{Brand, Model};
@@ -65,7 +65,7 @@ impl Net {
     }
 
     /// A seat of its own for a part, with all that it did.
-    pub(crate) fn take_out<J: Handing>(&self, seat: &mut PartSeat) -> PartSeat
+    pub(crate) fn take_out<J: OnePart>(&self, seat: &mut PartSeat) -> PartSeat
         requires seat { seat.old.table_id ≡ self.now.table }
         requires part { Has J.part seat.old.me.0 }
         ensures kept { (seat.new.table_id ≡ seat.old.table_id) × (seat.new.me.0 ≡ view_without J.part seat.old.me.0) }
@@ -73,7 +73,7 @@ impl Net {
             × (find J.part result.me.0.parts ≡ find J.part seat.old.me.0.parts) }
         ensures alone { IsAlone J.part result.me.0 × (result.me.1 ≡ []) }
     {
-        self.table.shared.split_seat::<HandOn<J>>(seat)
+        self.table.shared.split_seat::<TakeOut<J>>(seat)
     }
 
     /// A seat without parts.

@@ -14,7 +14,7 @@ use crate::actor::{Actor, Owned};
 use crate::layout::{cell_word, edge_word, word_count};
 use crate::net::Net;
 use crate::root::Root;
-use crate::rule::{Handing, PartSeat};
+use crate::rule::{OnePart, PartSeat};
 use crate::stopper::Stopper;
 use crate::trace::Trace;
 use chip_actor::ActorState;
@@ -52,8 +52,8 @@ pub(crate) fn opening_words(alloc: Global, setting: &Setting) -> Result<Vec<u64>
     Ok(words)
 }
 
-/// What the actor of one vertex owns. The seat hands its part on.
-fn one_owned<J: Handing>(
+/// What the actor of one vertex owns. Its part leaves the seat.
+fn one_owned<J: OnePart>(
     alloc: Global,
     net: &Net,
     seat: &mut PartSeat,
@@ -111,7 +111,7 @@ fn boxed(alloc: Global, all: Vec<Owned>) -> Result<Vec<Actor>, AllocError>
 }
 
 /// The stopper, where there is to be one: its part then leaves the seat.
-fn stopper_of<J: Handing>(net: &Net, seat: &mut PartSeat, stoppable: bool) -> Option<Stopper>
+fn stopper_of<J: OnePart>(net: &Net, seat: &mut PartSeat, stoppable: bool) -> Option<Stopper>
     requires part { J.part ≡ stopper net.now.setting }
     requires table { seat.old.table_id ≡ net.now.table }
     requires root { find (root net.now.setting) seat.old.me.0.parts ≡ Some [] }

@@ -1,14 +1,14 @@
 ghost use Rattle.std.specs.Prelude.{◌≡◌, ◌<◌, true, length};
 ghost use Rattle.chip_link.specs.Words.{is_fired_word};
 ghost use Rattle.chip_net.specs.Roots.{IsOver};
-ghost use Rattle.chip_net.specs.Finish.{ReadsAt, IsReading, blank_tally};
+ghost use Rattle.chip_net.specs.Finish.{ReadsAt, IsReading, no_readings};
 ghost use Rattle.chip_net.specs.Meeting.{AreInPlace, Together};
 
 use crate::actor::{Actor, meet};
 use crate::layout::fired_word;
 use crate::net::Net;
+use crate::readings::Readings;
 use crate::rule::PartSeat;
-use crate::tally::Tally;
 use chip_link::FiredWord;
 use chip_part::Setting;
 use std::marker::{Brand, Model};
@@ -73,16 +73,16 @@ impl Receipt {
     }
 
     /// Reads every fired word once, ascending.
-    pub(crate) fn read_all(&mut self, net: &Net, mut tally: Tally) -> Tally
+    pub(crate) fn read_all(&mut self, net: &Net, mut readings: Readings) -> Readings
         requires net { self.old.net ≡ net.now }
         requires over { IsOver self.old }
-        requires tally { tally ≡ blank_tally self.old.net.setting.game.graph.vertices }
+        requires readings { readings ≡ no_readings self.old.net.setting.game.graph.vertices }
         ensures { IsReading self.old self.new result self.old.net.setting.game.graph.vertices }
     {
         for vertex in 0..net.setting().vertices() {
             let word = FiredWord::from_word(self.read(net, vertex));
-            tally.note(word.unwrap());
+            readings.note(word.unwrap());
         }
-        tally
+        readings
     }
 }

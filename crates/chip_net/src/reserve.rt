@@ -1,6 +1,6 @@
 ghost use Rattle.std.specs.Prelude.{◌≡◌, IfOk};
 
-use crate::tally::Tally;
+use crate::readings::Readings;
 use std::alloc::{AllocError, Global};
 use std::marker::Model;
 
@@ -9,18 +9,18 @@ use std::marker::Model;
 #[derive(Drop)]
 pub(crate) struct Reserve {
     pub(crate) chips: Vec<u64>,
-    pub(crate) tally: Tally,
+    pub(crate) readings: Readings,
 }
 
 impl Model for Reserve {
     ghost use Rattle.std.specs.Prelude.{◌≡◌, ℕ, length};
-    ghost use Rattle.chip_net.specs.Finish.{blank_tally};
+    ghost use Rattle.chip_net.specs.Finish.{no_readings};
 
     ghost Value = { ℕ };
 
     ghost view = { λ a. length a.chips.items };
 
-    ghost invariant = { λ a. a.tally ≡ blank_tally (length a.chips.items) };
+    ghost invariant = { λ a. a.readings ≡ no_readings (length a.chips.items) };
 }
 
 impl Reserve {
@@ -30,7 +30,7 @@ impl Reserve {
     {
         Ok(Reserve {
             chips: vec![in alloc; 0; vertices]?,
-            tally: Tally::new(alloc, vertices)?,
+            readings: Readings::new(alloc, vertices)?,
         })
     }
 }

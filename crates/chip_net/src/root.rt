@@ -7,12 +7,12 @@ ghost use Rattle.chip_net.specs.Finish.{Finishes};
 
 use crate::net::Net;
 use crate::poll::{FeedFault, RootState};
+use crate::readings::Readings;
 use crate::receipt::Receipt;
 use crate::reserve::Reserve;
-use crate::root_hand::RootHand;
+use crate::root_actor::RootActor;
 use crate::rule::PartSeat;
 use crate::stopper::Stopper;
-use crate::tally::Tally;
 use chip_link::Event;
 use chip_part::{Reply, Setting};
 use chip_sequence::{Outcome, after_from};
@@ -22,7 +22,7 @@ use std::marker::{Brand, Model};
 /// The root of a net. Contracts see what it has done.
 #[derive(Drop)]
 pub struct Root {
-    hand: Box<RootHand>,
+    actor: Box<RootActor>,
     reserve: Box<Reserve>,
 }
 
@@ -32,10 +32,10 @@ impl Model for Root {
 
     ghost Value = { RootKnown };
 
-    ghost view = { λ a. a.hand.value };
+    ghost view = { λ a. a.actor.value };
 
-    ghost invariant = { λ a. HoldsNothing a.hand.value
-        × (a.reserve.value ≡ a.hand.value.net.setting.game.graph.vertices) };
+    ghost invariant = { λ a. HoldsNothing a.actor.value
+        × (a.reserve.value ≡ a.actor.value.net.setting.game.graph.vertices) };
 }
 
 impl Root {
@@ -47,7 +47,7 @@ impl Root {
     {
         Ok(Root {
             reserve: Box::new(alloc, Reserve::new(alloc, setting.vertices() as usize)?)?,
-            hand: Box::new(alloc, RootHand::new(alloc, setting, seat)?)?,
+            actor: Box::new(alloc, RootActor::new(alloc, setting, seat)?)?,
         })
     }
 
@@ -63,13 +63,13 @@ impl Root {
         ensures same { self.new.net ≡ self.old.net }
     {
         let edge = net.setting().root_edge(vertex);
-        let hand: &mut RootHand = &mut self.hand;
-        hand.may_feed(vertex, edge, count)?;
-        let Reply::Done(place) = hand.make::<Brand>(net, Event::Clear(edge)) else {
+        let actor: &mut RootActor = &mut self.actor;
+        actor.may_feed(vertex, edge, count)?;
+        let Reply::Done(place) = actor.make::<Brand>(net, Event::Clear(edge)) else {
             return Err(FeedFault::Full);
         };
-        hand.make::<Brand>(net, Event::Feed { edge, count });
-        hand.make::<Brand>(net, Event::Put(edge));
+        actor.make::<Brand>(net, Event::Feed { edge, count });
+        actor.make::<Brand>(net, Event::Put(edge));
         Ok(place)
     }
 
@@ -81,10 +81,10 @@ impl Root {
         ensures ends { Ends self.old self.new result }
         ensures same { self.new.net ≡ self.old.net }
     {
-        let hand: &mut RootHand = &mut self.hand;
-        hand.make::<Brand>(net, Event::End);
-        hand.settle_from(net, 1);
-        hand.poll_state()
+        let actor: &mut RootActor = &mut self.actor;
+        actor.make::<Brand>(net, Event::End);
+        actor.settle_from(net, 1);
+        actor.poll_state()
     }
 
     /// Settles each root edge once, and tells whether the game is over then.
@@ -94,9 +94,9 @@ impl Root {
         ensures polls { Polls self.old self.new result }
         ensures same { self.new.net ≡ self.old.net }
     {
-        let hand: &mut RootHand = &mut self.hand;
-        hand.settle_from(net, 0);
-        hand.poll_state()
+        let actor: &mut RootActor = &mut self.actor;
+        actor.settle_from(net, 0);
+        actor.poll_state()
     }
 
     /// Takes back the stopper. From then on nothing is sealed, and what it sealed is among what the root knows.
@@ -105,8 +105,8 @@ impl Root {
         requires stopper { stopper.net ≡ net.now }
         ensures { self.new ≡ with_stopper self.old stopper.did }
     {
-        let hand: &mut RootHand = &mut self.hand;
-        hand.take_back(net, stopper);
+        let actor: &mut RootActor = &mut self.actor;
+        actor.take_back(net, stopper);
     }
 
     /// Once the game is over, reads how often each vertex fired and whether it halted, and tells how the game ended,
@@ -117,29 +117,32 @@ impl Root {
         ensures { MatchResult result (λ r. IsOver self × Finishes self r.1 r.0)
             (λ r. (r ≡ self) × (IsOver self → ⊥)) }
     {
-        if !self.hand.is_closed() {
+        if !self.actor.is_closed() {
             return Err(self);
         }
-        let Root { hand, reserve } = self;
-        Ok(read_outcome(net, Box::into_inner(hand), Box::into_inner(reserve)))
+        let Root { actor, reserve } = self;
+        Ok(read_outcome(net, Box::into_inner(actor), Box::into_inner(reserve)))
     }
 }
 
 /// The end of a game that is over: the reads, and what is made of them.
-fn read_outcome(net: &Net, hand: RootHand, reserve: Reserve) -> (Outcome, Receipt)
-    requires net { hand.net ≡ net.now }
-    requires over { IsOver hand }
-    requires reserve { reserve ≡ hand.net.setting.game.graph.vertices }
-    ensures { Finishes hand result.1 result.0 }
+fn read_outcome(net: &Net, actor: RootActor, reserve: Reserve) -> (Outcome, Receipt)
+    requires net { actor.net ≡ net.now }
+    requires over { IsOver actor }
+    requires reserve { reserve ≡ actor.net.setting.game.graph.vertices }
+    ensures { Finishes actor result.1 result.0 }
 {
-    let Reserve { mut chips, tally } = reserve;
-    let (state, mut receipt) = hand.into_receipt();
-    let Tally {
+    let Reserve {
+        mut chips,
+        readings,
+    } = reserve;
+    let (state, mut receipt) = actor.into_receipt();
+    let Readings {
         fired,
         over,
         sealed,
         ..
-    } = receipt.read_all(net, tally);
+    } = receipt.read_all(net, readings);
     let graph = net.setting().game().graph();
     match after_from(graph, state.given(), &fired, &mut chips) {
         Ok(()) => {}

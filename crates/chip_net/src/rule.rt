@@ -33,23 +33,23 @@ impl Play<(), View> for Brand {
     ghost then = { λ _ _ _ _. Unit {0} };
 }
 
-/// A part that is handed on.
-pub(crate) trait Handing {
+/// A part that goes to a seat of its own.
+pub(crate) trait OnePart {
     ghost use Rattle.std.specs.Prelude.{ℕ};
 
     ghost part: { ℕ };
 }
 
-impl Handing for Brand {
+impl OnePart for Brand {
     ghost part = { 0 };
 }
 
 /// The part goes to a seat of its own.
-pub(crate) struct HandOn<J> {
+pub(crate) struct TakeOut<J> {
     of: PhantomData<J>,
 }
 
-impl<J: Handing> Split<View> for HandOn<J> {
+impl<J: OnePart> Split<View> for TakeOut<J> {
     ghost use Rattle.chip_net.specs.Views.{view_without, view_of_one};
 
     ghost left = { view_without J.part };

@@ -10,40 +10,40 @@ use Rattle.chip_part.specs.Setting.{Setting}
 use Rattle.chip_part.specs.Part.{AreGiven}
 use Rattle.chip_net.specs.Tokens.{NetId}
 use Rattle.chip_net.specs.Roots.{RootKnown, root_part}
-use Rattle.chip_net.specs.Finish.{TallyState, IsReading}
+use Rattle.chip_net.specs.Finish.{ReadingsState, IsReading}
 use Rattle.chip_net.proofs.FinishingLemmas.{few, game, none_negative, finishes}
 use Rattle.chip_net.proofs.root.read_outcome.Goals as goal
 use Rattle.chip_net.proofs.root.read_outcome.Goals.{After-deref_mut}
 
 -- the receipt begins as the root
 reading : (c : After-deref_mut)
-    → IsReading c.args.hand c.read_all.new.self c.read_all.result c.args.hand.net.setting.game.graph.vertices
+    → IsReading c.args.actor c.read_all.new.self c.read_all.result c.args.actor.net.setting.game.graph.vertices
 reading c = subst (λ (r : RootKnown). IsReading r c.read_all.new.self c.read_all.result r.net.setting.game.graph.vertices)
     c.into_receipt-state.ensures.receipt c.read_all.ensures
 
 fired_is : (c : After-deref_mut) → c.fired.inside.fired.items ≡ c.read_all.result.fired
-fired_is c = ap (λ (t : TallyState). t.fired) c.fired.view_is
+fired_is c = ap (λ (t : ReadingsState). t.fired) c.fired.view_is
 
-are : (c : After-deref_mut) → AreGiven c.args.hand.net.setting (root_part c.args.hand) c.given.result.now
-are c = c.given.ensures c.args.hand.net.setting (root_part c.args.hand) c.into_receipt-state.ensures.state
+are : (c : After-deref_mut) → AreGiven c.args.actor.net.setting (root_part c.args.actor) c.given.result.now
+are c = c.given.ensures c.args.actor.net.setting (root_part c.args.actor) c.into_receipt-state.ensures.state
 
 -- the game that was played
 abbrev played : After-deref_mut → ChipGame
-played c = game c.args.hand c.read_all.new.self c.into_receipt-state.ensures.setting c.read_all.result (reading c)
+played c = game c.args.actor c.read_all.new.self c.into_receipt-state.ensures.setting c.read_all.result (reading c)
     c.given.result.now (are c)
 
 game_is : (c : After-deref_mut)
-    → game_from c.graph-graph.result.now c.given.result.now c.args.hand.net.setting.game.limit ≡ played c
+    → game_from c.graph-graph.result.now c.given.result.now c.args.actor.net.setting.game.limit ≡ played c
 game_is c =
-    let graph : c.graph-graph.result.now ≡ c.args.hand.net.setting.game.graph = c.graph-graph.ensures.value
+    let graph : c.graph-graph.result.now ≡ c.args.actor.net.setting.game.graph = c.graph-graph.ensures.value
     ∙ ap (λ (k : ChipGame). k.graph) (c.game.ensures.value ∙ ap (λ (g : Setting). g.game) (c.setting.ensures.value
     ∙ ap (λ (n : NetId). n.setting) (sym c.requires.net))) in
-    λ j. game_from (graph j) c.given.result.now c.args.hand.net.setting.game.limit
+    λ j. game_from (graph j) c.given.result.now c.args.actor.net.setting.game.limit
 
 pub after_from-requires-clause-few_chips : goal.after_from-requires-clause-few_chips
 after_from-requires-clause-few_chips c =
     let d = (goal.at.after_from-requires-clause-few_chips c).After-deref_mut in
-    few c.args.hand c.read_all.new.self c.into_receipt-state.ensures.setting c.read_all.result (reading d)
+    few c.args.actor c.read_all.new.self c.into_receipt-state.ensures.setting c.read_all.result (reading d)
     c.given.result.now (are d)
 
 pub unreachable-requires : goal.unreachable-requires
@@ -52,9 +52,9 @@ unreachable-requires c =
     no_fault (played d) c.fired.inside.fired.items c.in-Err.field-0
     (subst (λ (k : ChipGame). IsNegative k c.fired.inside.fired.items c.in-Err.field-0) (game_is d)
     (subst (λ (xs : List ℕ). IsNegative (game_from c.graph-graph.result.now c.given.result.now
-    c.args.hand.net.setting.game.limit) xs c.in-Err.field-0) c.deref.ensures.value
-    (c.in-Err.ensures.cases c.args.hand.net.setting.game.limit)))
-    (none_negative c.args.hand c.read_all.new.self c.into_receipt-state.ensures.setting c.read_all.result (reading d)
+    c.args.actor.net.setting.game.limit) xs c.in-Err.field-0) c.deref.ensures.value
+    (c.in-Err.ensures.cases c.args.actor.net.setting.game.limit)))
+    (none_negative c.args.actor c.read_all.new.self c.into_receipt-state.ensures.setting c.read_all.result (reading d)
     c.given.result.now (are d) c.fired.inside.fired.items (fired_is d))
 
 pub returns : goal.returns
@@ -69,12 +69,12 @@ returns c =
     let into : IsAfter (played d) c.fired.inside.fired.items c.after_from.new.into =
     subst (λ (k : ChipGame). IsAfter k c.fired.inside.fired.items c.after_from.new.into) (game_is d)
     (subst (λ (xs : List ℕ). IsAfter (game_from c.graph-graph.result.now c.given.result.now
-    c.args.hand.net.setting.game.limit) xs c.after_from.new.into) c.deref.ensures.value
-    (c.in-Ok.ensures.cases c.args.hand.net.setting.game.limit)) in
+    c.args.actor.net.setting.game.limit) xs c.after_from.new.into) c.deref.ensures.value
+    (c.in-Ok.ensures.cases c.args.actor.net.setting.game.limit)) in
     let chips : IsAfter (played d) c.fired.inside.fired.items o.chips.items =
     subst (IsAfter (played d) c.fired.inside.fired.items)
     (sym (with_items_is c.reserve.inside.chips c.after_from.new.into (c.after_from.auto.into ∙ c.deref_mut.ensures.len)))
     into in
-    finishes c.args.hand c.read_all.new.self c.into_receipt-state.ensures.setting c.read_all.result (reading d)
-    c.given.result.now (are d) o (fired_is d) (ap (λ (t : TallyState). t.over) c.fired.view_is)
-    (ap (λ (t : TallyState). t.sealed) c.fired.view_is) chips
+    finishes c.args.actor c.read_all.new.self c.into_receipt-state.ensures.setting c.read_all.result (reading d)
+    c.given.result.now (are d) o (fired_is d) (ap (λ (t : ReadingsState). t.over) c.fired.view_is)
+    (ap (λ (t : ReadingsState). t.sealed) c.fired.view_is) chips

@@ -4,12 +4,12 @@ use Rattle.chip_link.specs.declared.words.FiredWord.{FiredWord}
 use Rattle.chip_link.specs.Words.{fired_in, is_halted_in, is_by_limit_in}
 use Rattle.chip_part.specs.Setting.{IsSetting}
 use Rattle.chip_net.specs.Tokens.{NetId}
-use Rattle.chip_net.specs.Finish.{TallyState, tally_after, IsReading}
+use Rattle.chip_net.specs.Finish.{ReadingsState, readings_after, IsReading}
 use Rattle.chip_net.proofs.ReadingLemmas.{still_over, reads_more}
 use Rattle.chip_net.proofs.receipt.Receipt.read_all.Goals as goal
 
 pub read-requires-clause-over : goal.read-requires-clause-over
-read-requires-clause-over c = still_over c.args.self.now c.loop-vertex.self c.loop-vertex.tally
+read-requires-clause-over c = still_over c.args.self.now c.loop-vertex.self c.loop-vertex.readings
     c.loop-vertex.vertex c.loop-vertex.invariant c.requires.over
 
 pub loop-vertex-preserved : goal.loop-vertex-preserved
@@ -24,8 +24,8 @@ loop-vertex-preserved c =
     let by_limit : c.unwrap.result.by_limit ≡ is_by_limit_in c.read.result =
     subst (λ (o : Option FiredWord). IfSome o (λ w. w.by_limit ≡ is_by_limit_in c.read.result)) some
     c.from_word-word.ensures.by_limit in
-    let t : TallyState = c.loop-vertex.tally in
-    subst (λ (u : TallyState). IsReading c.args.self.now c.read.new.self u (c.loop-vertex.vertex + 1))
-    (sym (c.note.ensures ∙ (λ i. tally_after (fired i) (halted i) (by_limit i) t)))
+    let t : ReadingsState = c.loop-vertex.readings in
+    subst (λ (u : ReadingsState). IsReading c.args.self.now c.read.new.self u (c.loop-vertex.vertex + 1))
+    (sym (c.note.ensures ∙ (λ i. readings_after (fired i) (halted i) (by_limit i) t)))
     (reads_more c.args.self.now c.loop-vertex.self c.read.new.self t c.loop-vertex.vertex c.read.result
     (subst (λ (n : NetId). IsSetting n.setting) (sym c.requires.net) c.setting.ensures.setting) c.loop-vertex.invariant c.read.ensures.reads)

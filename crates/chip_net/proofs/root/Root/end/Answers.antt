@@ -7,25 +7,25 @@ use Rattle.chip_net.proofs.root.Root.end.Goals as goal
 
 pub invariant_of-self : goal.invariant_of-self
 invariant_of-self c =
-    let net : c.settle_from.new.self.net ≡ c.deref_mut-hand.result.now.net =
+    let net : c.settle_from.new.self.net ≡ c.deref_mut-actor.result.now.net =
     ap (λ (r : RootKnown). r.net) c.settle_from.ensures.settles.record_is
     ∙ ap (λ (r : RootKnown). r.net) c.make.ensures.made.record_is in (
-      c.settle_from.ensures.holds (holds_by c.deref_mut-hand.result.now c.make.new.self End c.make.ensures.seen
-          (held_end c.make.ensures.seen) c.make.ensures.made (subst HoldsNothing (sym c.deref_mut-hand.ensures.value) c.self.invariant.0)),
+      c.settle_from.ensures.holds (holds_by c.deref_mut-actor.result.now c.make.new.self End c.make.ensures.seen
+          (held_end c.make.ensures.seen) c.make.ensures.made (subst HoldsNothing (sym c.deref_mut-actor.ensures.value) c.self.invariant.0)),
       subst (λ (n : NetId). c.self.inside.reserve.value ≡ n.setting.game.graph.vertices) (sym net)
-          (c.self.invariant.1 ∙ ap (λ (r : RootKnown). r.net.setting.game.graph.vertices) (sym c.deref_mut-hand.ensures.value)),
+          (c.self.invariant.1 ∙ ap (λ (r : RootKnown). r.net.setting.game.graph.vertices) (sym c.deref_mut-actor.ensures.value)),
     )
 
 pub returns-clause-ends : goal.returns-clause-ends
 returns-clause-ends c =
-    let hand = c.deref_mut-hand.result.now in
+    let actor = c.deref_mut-actor.result.now in
     let made = c.make.ensures.made in
     let net = ap (λ (r : RootKnown). r.net) made.record_is in
     let rest = subst (λ (n : NetId). DoesMore c.make.new.self c.settle_from.new.self
     (settles_from n.setting 1 (n.setting.game.graph.vertices - 1))) net c.settle_from.ensures.settles in
-    subst (λ (r : RootKnown). Ends r c.settle_from.new.self c.poll_state.result) (c.deref_mut-hand.ensures.value ∙ c.self.view_is) record {
-      ending = does_after hand c.make.new.self c.settle_from.new.self End c.make.ensures.seen _ made rest;
+    subst (λ (r : RootKnown). Ends r c.settle_from.new.self c.poll_state.result) (c.deref_mut-actor.ensures.value ∙ c.self.view_is) record {
+      ending = does_after actor c.make.new.self c.settle_from.new.self End c.make.ensures.seen _ made rest;
       ended = stays_over c.make.new.self c.settle_from.new.self _ c.settle_from.ensures.settles
-          (over_by_end hand c.make.new.self c.make.ensures.seen made);
+          (over_by_end actor c.make.new.self c.make.ensures.seen made);
       answers = c.poll_state.ensures;
     }

@@ -7,16 +7,16 @@ use Rattle.chip_net.proofs.SendingLemmas.{MayFeed, look_due, look_done, due2, du
 use Rattle.chip_net.proofs.root.Root.feed.Goals as goal
 use Rattle.chip_net.proofs.root.Root.feed.Goals.{In_ok-may_feed}
 
-view_is : (c : In_ok-may_feed) → c.deref_mut-hand.result.now ≡ c.args.self.now
-view_is c = c.deref_mut-hand.ensures.value ∙ c.self.view_is
+view_is : (c : In_ok-may_feed) → c.deref_mut-actor.result.now ≡ c.args.self.now
+view_is c = c.deref_mut-actor.ensures.value ∙ c.self.view_is
 
-may : (c : In_ok-may_feed) → MayFeed c.deref_mut-hand.result.now c.args.vertex c.root_edge-edge.result c.args.count
+may : (c : In_ok-may_feed) → MayFeed c.deref_mut-actor.result.now c.args.vertex c.root_edge-edge.result c.args.count
 may c = record {
   inside = subst (λ (r : RootKnown). c.args.vertex < r.net.setting.game.graph.vertices) (sym (view_is c)) c.requires.vertex;
   edge_is = c.root_edge-edge.ensures.value
       ∙ ap (λ (g : Setting). root_edge g c.args.vertex)
       (c.setting.ensures.value ∙ sym (ap (λ (n : NetId). n.setting) (ap (λ (r : RootKnown). r.net) (view_is c) ∙ c.requires.net)));
-  free = subst HoldsNothing (sym c.deref_mut-hand.ensures.value) c.self.invariant.0;
+  free = subst HoldsNothing (sym c.deref_mut-actor.ensures.value) c.self.invariant.0;
   some = c.requires.count;
   not_ended = c.in_ok-may_feed.ensures.0;
   few = c.in_ok-may_feed.ensures.1;
@@ -24,10 +24,10 @@ may c = record {
 }
 
 -- the reserve is as long as before
-room : (c : In_ok-may_feed) (n : NetId) → n ≡ c.deref_mut-hand.result.now.net
+room : (c : In_ok-may_feed) (n : NetId) → n ≡ c.deref_mut-actor.result.now.net
     → c.self.inside.reserve.value ≡ n.setting.game.graph.vertices
 room c n same = c.self.invariant.1
-    ∙ ap (λ (r : RootKnown). r.net.setting.game.graph.vertices) (sym c.deref_mut-hand.ensures.value)
+    ∙ ap (λ (r : RootKnown). r.net.setting.game.graph.vertices) (sym c.deref_mut-actor.ensures.value)
     ∙ ap (λ (m : NetId). m.setting.game.graph.vertices) (sym same)
 
 pub make-requires-clause-due : goal.make-requires-clause-due

@@ -7,10 +7,10 @@ use Rattle.chip_net.proofs.root.Root.new.Goals as goal
 
 pub invariant_of-result : goal.invariant_of-result
 invariant_of-result c =
-    let hand = c.in_ok-new-4.ensures.ok ∙ c.in_ok-new-3.ensures in (
-      subst HoldsNothing (sym hand) (holds_first
+    let actor = c.in_ok-new-4.ensures.ok ∙ c.in_ok-new-3.ensures in (
+      subst HoldsNothing (sym actor) (holds_first
           (record { table = c.args.seat.table_id; setting = c.args.setting.now })
           (find (stopper c.args.setting.now) c.args.seat.me.0.parts)),
       c.in_ok-new-2.ensures.ok ∙ c.in_ok-new.ensures ∙ c.vertices.ensures.value
-          ∙ ap (λ (r : RootKnown). r.net.setting.game.graph.vertices) (sym hand),
+          ∙ ap (λ (r : RootKnown). r.net.setting.game.graph.vertices) (sym actor),
     )

@@ -1,5 +1,5 @@
 use Rattle.chip_net.specs.Rule.{Grows}
-use Rattle.chip_net.proofs.root_hand.operate.Given as goal
+use Rattle.chip_net.proofs.root_actor.operate.Given as goal
 
 abbrev pub ghosts-load : goal.ghosts-load
 ghosts-load g a = record { then = λ _. Grows a.self.now.key.value g.J.Making.event }

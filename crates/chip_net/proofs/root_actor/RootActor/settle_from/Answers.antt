@@ -6,7 +6,7 @@ use Rattle.chip_net.specs.Layout.{index_of}
 use Rattle.chip_net.specs.Roots.{settles_from}
 use Rattle.chip_net.specs.Tokens.{NetId}
 use Rattle.chip_net.proofs.RootingLemmas.{does_none, does_net, settles_more, holds_by, held_settle}
-use Rattle.chip_net.proofs.root_hand.RootHand.settle_from.Goals as goal
+use Rattle.chip_net.proofs.root_actor.RootActor.settle_from.Goals as goal
 
 pub loop-vertex-init : goal.loop-vertex-init
 loop-vertex-init c = record {

@@ -6,8 +6,8 @@ use Rattle.chip_net.specs.Roots.{RootKnown, IsRoot}
 use Rattle.chip_net.proofs.ViewingLemmas.{alone_by, did_alone}
 use Rattle.chip_net.proofs.RulingLemmas.{Mine}
 use Rattle.chip_net.proofs.RootingLemmas.{takes_back, has_both}
-use Rattle.chip_net.proofs.root_hand.RootHand.take_back.Goals as goal
-use Rattle.chip_net.proofs.root_hand.RootHand.take_back.Goals.{After-into_seat}
+use Rattle.chip_net.proofs.root_actor.RootActor.take_back.Goals as goal
+use Rattle.chip_net.proofs.root_actor.RootActor.take_back.Goals.{After-into_seat}
 
 -- the stopper is of the root's net
 here : (c : After-into_seat) → c.args.stopper.net.setting ≡ c.self.inside.setting.value

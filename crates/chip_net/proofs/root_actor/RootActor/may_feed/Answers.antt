@@ -4,10 +4,10 @@ use Rattle.chip_part.specs.declared.act.Act.{Act}
 use Rattle.chip_part.specs.declared.rule.Rule.{Rule}
 use Rattle.chip_part.specs.Edges.{root_edge}
 use Rattle.chip_net.specs.Roots.{RootKnown, root_part, AllowsFeed}
-use Rattle.chip_net.specs.contracts.root_hand.RootHand.{the_view}
+use Rattle.chip_net.specs.contracts.root_actor.RootActor.{the_view}
 use Rattle.chip_net.proofs.FeedingLemmas.{feed_answer, answer_some, answer_none, allows_feed, given_is_fed}
-use Rattle.chip_net.proofs.root_hand.RootHand.may_feed.Goals as goal
-use Rattle.chip_net.proofs.root_hand.RootHand.may_feed.Goals.{After-may}
+use Rattle.chip_net.proofs.root_actor.RootActor.may_feed.Goals as goal
+use Rattle.chip_net.proofs.root_actor.RootActor.may_feed.Goals.{After-may}
 
 allowed : (c : After-may) → AllowsFeed c.args.self.now c.args.count (feed_answer c.may.result)
 allowed c =

@@ -11,8 +11,8 @@ use Rattle.chip_net.specs.Tokens.{NetId}
 use Rattle.chip_net.specs.Roots.{RootKnown}
 use Rattle.chip_net.proofs.RootingLemmas.{settle_mine, settle_own, settle_due, settle_asked, settle_told}
 use Rattle.chip_net.proofs.RootingLemmas.{may_make, still_root, makes_event, settles_at}
-use Rattle.chip_net.proofs.root_hand.RootHand.settle.Goals as goal
-use Rattle.chip_net.proofs.root_hand.RootHand.settle.Goals.{After-words, After-load-seen}
+use Rattle.chip_net.proofs.root_actor.RootActor.settle.Goals as goal
+use Rattle.chip_net.proofs.root_actor.RootActor.settle.Goals.{After-words, After-load-seen}
 
 -- the root's net is this one
 here : (c : After-words) → c.args.net.now.setting ≡ c.self.inside.setting.value

@@ -1,6 +1,6 @@
 use Rattle.std.proofs.Common.{◌-◌, ◌≤◌}
 use Rattle.chip_net.specs.Roots.{DoesMore, settles_from, HoldsNothing}
-use Rattle.chip_net.proofs.root_hand.RootHand.settle_from.Given as goal
+use Rattle.chip_net.proofs.root_actor.RootActor.settle_from.Given as goal
 
 abbrev pub invariant-loop-vertex : goal.invariant-loop-vertex
 invariant-loop-vertex l = record {

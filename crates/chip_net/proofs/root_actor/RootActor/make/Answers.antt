@@ -6,10 +6,10 @@ use Rattle.chip_core.specs.Words.{word_to_note}
 use Rattle.chip_net.specs.Rule.{Grows}
 use Rattle.chip_net.specs.Tokens.{NetId}
 use Rattle.chip_net.specs.Roots.{RootKnown, IsDueForRoot}
-use Rattle.chip_net.specs.contracts.root_hand.RootHand.{the_view}
+use Rattle.chip_net.specs.contracts.root_actor.RootActor.{the_view}
 use Rattle.chip_net.proofs.RootingLemmas.{feeding_mine, may_make, still_root, replies}
-use Rattle.chip_net.proofs.root_hand.RootHand.make.Goals as goal
-use Rattle.chip_net.proofs.root_hand.RootHand.make.Goals.{After-operate-seen}
+use Rattle.chip_net.proofs.root_actor.RootActor.make.Goals as goal
+use Rattle.chip_net.proofs.root_actor.RootActor.make.Goals.{After-operate-seen}
 
 due : (g : _) (c : After-operate-seen g) → IsDueForRoot (the_view c.self.inside) c.args.event
 due g c = subst (λ (r : RootKnown). IsDueForRoot r c.args.event) (sym c.self.view_is) c.requires.due

@@ -41,13 +41,13 @@ impl Making for Brand {
 
 /// The seat of the root, and its state.
 #[derive(Drop)]
-pub(crate) struct RootHand {
+pub(crate) struct RootActor {
     seat: PartSeat,
     setting: Snapshot<Setting>,
     state: RootBooks,
 }
 
-impl Model for RootHand {
+impl Model for RootActor {
     ghost use Rattle.chip_net.specs.Roots.{RootKnown, known_root, IsRoot};
 
     ghost Value = { RootKnown };
@@ -57,19 +57,19 @@ impl Model for RootHand {
     ghost invariant = { λ a. IsRoot a.setting.value a.seat.me.0 a.state };
 }
 
-impl RootHand {
+impl RootActor {
     /// For a root that has done nothing.
     pub(crate) fn new(
         alloc: Global,
         setting: &Setting,
         seat: PartSeat,
-    ) -> Result<RootHand, AllocError>
+    ) -> Result<RootActor, AllocError>
         requires setting { IsSetting setting.now }
         requires part { find (root setting.now) seat.me.0.parts ≡ Some [] }
         ensures { IfOk result (λ r. r ≡ new_root (record { table = seat.table_id; setting = setting.now })
             (find (stopper setting.now) seat.me.0.parts)) }
     {
-        Ok(RootHand {
+        Ok(RootActor {
             seat,
             setting: Snapshot::of(setting),
             state: RootBooks::new(alloc, setting)?,
@@ -166,7 +166,7 @@ impl RootHand {
         ensures receipt { result.1 ≡ self }
         ensures setting { IsSetting self.net.setting }
     {
-        let RootHand {
+        let RootActor {
             seat,
             setting,
             state,

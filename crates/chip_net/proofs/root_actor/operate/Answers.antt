@@ -3,7 +3,7 @@ use Rattle.atomic_table.specs.Seated.{TableId}
 use Rattle.chip_part.specs.declared.act.Act.TheVariants as Do
 use Rattle.chip_net.specs.Roots.{IsDueInView}
 use Rattle.chip_net.proofs.RootingLemmas.{feeding_asked, store_asked}
-use Rattle.chip_net.proofs.root_hand.operate.Goals as goal
+use Rattle.chip_net.proofs.root_actor.operate.Goals as goal
 
 pub load-requires : goal.load-requires
 load-requires g c = feeding_asked c.args.net.now.setting c.args.seat.now.me g.J.Making.event

@@ -1,5 +1,5 @@
 ghost use Rattle.std.specs.Prelude.{◌≡◌, ◌<◌, IfOk};
-ghost use Rattle.chip_net.specs.Finish.{blank_tally, tally_after};
+ghost use Rattle.chip_net.specs.Finish.{no_readings, readings_after};
 
 use chip_link::FiredWord;
 use std::alloc::{AllocError, Global};
@@ -7,19 +7,19 @@ use std::marker::Model;
 
 /// What the fired words tell, of one vertex after another. All memory is taken at the beginning.
 #[derive(Drop)]
-pub(crate) struct Tally {
+pub(crate) struct Readings {
     pub(crate) fired: Vec<u64>,
     pub(crate) over: Vec<u64>,
     pub(crate) sealed: Vec<u64>,
     room: usize,
 }
 
-impl Model for Tally {
+impl Model for Readings {
     ghost use Rattle.std.specs.Prelude.{◌+◌, ◌≤◌, length};
     ghost use Rattle.std.specs.Vec.{vec_capacity};
-    ghost use Rattle.chip_net.specs.Finish.{TallyState};
+    ghost use Rattle.chip_net.specs.Finish.{ReadingsState};
 
-    ghost Value = { TallyState };
+    ghost Value = { ReadingsState };
 
     ghost view = { λ a. record { fired = a.fired.items; over = a.over.items; sealed = a.sealed.items; room = a.room } };
 
@@ -28,12 +28,12 @@ impl Model for Tally {
         × (length a.sealed.items + a.room ≤ vec_capacity a.sealed) };
 }
 
-impl Tally {
-    /// A tally of no vertex, with room for so many.
-    pub(crate) fn new(alloc: Global, room: usize) -> Result<Tally, AllocError>
-        ensures { IfOk result (λ tally. tally ≡ blank_tally room) }
+impl Readings {
+    /// A readings of no vertex, with room for so many.
+    pub(crate) fn new(alloc: Global, room: usize) -> Result<Readings, AllocError>
+        ensures { IfOk result (λ readings. readings ≡ no_readings room) }
     {
-        Ok(Tally {
+        Ok(Readings {
             fired: Vec::with_capacity(alloc, room)?,
             over: Vec::with_capacity(alloc, room)?,
             sealed: Vec::with_capacity(alloc, room)?,
@@ -44,7 +44,7 @@ impl Tally {
     /// One vertex more.
     pub(crate) fn note(&mut self, word: FiredWord)
         requires { 0 < self.old.room }
-        ensures { self.new ≡ tally_after word.fired word.halted word.by_limit self.old }
+        ensures { self.new ≡ readings_after word.fired word.halted word.by_limit self.old }
     {
         let vertex = self.fired.len() as u64;
         self.fired.push_reserved(word.fired);

@@ -5,7 +5,7 @@ use Rattle.chip_core.specs.Core.{Step, opening_part}
 use Rattle.chip_core.specs.Histories.{part_by}
 use Rattle.chip_net.specs.Views.{steps_or_none}
 use Rattle.chip_net.specs.Roots.{IsRoot}
-use Rattle.chip_net.proofs.root_hand.RootHand.new.Goals as goal
+use Rattle.chip_net.proofs.root_actor.RootActor.new.Goals as goal
 
 pub invariant_of-result : goal.invariant_of-result
 invariant_of-result c =

@@ -1,12 +1,13 @@
 ghost use Rattle.std.specs.Prelude.{◌≡◌, ◌<◌, ◌≤◌, IfOk, length, slice_index};
 ghost use Rattle.chip_sequence.specs.Firing.{legal_vertices};
-ghost use Rattle.chip_fire.specs.Rounds.{IsBegun, IsAtRest, GoesRound, firings_left};
+ghost use Rattle.chip_fire.specs.Rounds.{IsBegun, IsAtRest};
 ghost use Rattle.chip_fire.specs.Player.{PlaysOut};
 
-use crate::rounds::{STRETCH, round};
+use crate::rounds::rounds;
 use crate::start::start;
 use crate::watch::{Unwatched, Watch};
 use chip_graph::{Game, Graph};
+use chip_guess::tuning::STRETCH;
 use chip_sequence::Outcome;
 use std::alloc::{AllocError, Global};
 
@@ -47,47 +48,8 @@ fn play<W: Watch>(game: &Game, chips: &mut [u64], fired: &mut [u64], watch: &mut
     ensures begun { IsBegun game.now chips.new fired.new }
     ensures ended { IsAtRest game.now.graph game.now.limit chips.new fired.new }
 {
-    let most = STRETCH / game.graph().vertices().max(1) + 1;
-    'stretches: while play_stretch(game, most, chips, fired, watch) {}
-}
-
-/// Makes so many rounds, or until none fires a vertex, and tells how far the play has come; whether
-/// each of them fired some.
-fn play_stretch<W: Watch>(
-    game: &Game,
-    most: u64,
-    chips: &mut [u64],
-    fired: &mut [u64],
-    watch: &mut W,
-) -> bool
-    requires begun { IsBegun game.now chips.old fired.old }
-    requires some { 0 < most }
-    ensures { GoesRound game.now fired.old chips.new fired.new result }
-{
-    let made = rounds(game, most, chips, fired);
-    watch.rounds(made, game, chips, fired);
-    made == most
-}
-
-/// Makes so many rounds, or until none fires a vertex; how many did.
-// A round is so short that a play takes a seventh longer where this is a call.
-#[inline(always)]
-fn rounds(game: &Game, most: u64, chips: &mut [u64], fired: &mut [u64]) -> u64
-    requires begun { IsBegun game.now chips.old fired.old }
-    requires some { 0 < most }
-    ensures begun { IsBegun game.now chips.new fired.new }
-    ensures at_most { result ≤ most }
-    ensures some_fired { result ≡ most
-        → firings_left game.now.graph game.now.limit fired.new < firings_left game.now.graph game.now.limit fired.old }
-    ensures none_fired { result < most → IsAtRest game.now.graph game.now.limit chips.new fired.new }
-{
-    let mut turns = 0u64;
-    for made in 0..most {
-        if !round(game, chips, fired, &mut turns) {
-            return made;
-        }
-    }
-    most
+    let mut looks = 0u64;
+    'stretches: while rounds(game, STRETCH, &mut looks, chips, fired, watch) {}
 }
 
 /// The vertices that are legal, ascending.

@@ -3,14 +3,84 @@
 ghost use Rattle.std.specs.Prelude.{◌≡◌, ℕ, ◌<◌, ◌≤◌, ◌/◌, slice_index};
 ghost use Rattle.std.specs.Bool.{OnTrue, OnFalse};
 ghost use Rattle.chip_sequence.specs.Firing.{IsLegal};
-ghost use Rattle.chip_fire.specs.Rounds.{IsBegun, IsInRange, StaysOnTheWay, GoesRound, firings_left, IsSwept};
+ghost use Rattle.chip_fire.specs.Rounds.{IsBegun, IsInRange, IsAtRest, StaysOnTheWay, GoesRound, firings_left, IsSwept};
 
+use crate::watch::Watch;
 use chip_graph::{Game, Graph};
+use chip_guess::tuning::STRETCH;
 use chip_sequence::fire_batch;
 
-/// About how much is looked at between two times that it is told how far a play has come, which takes
-/// some milliseconds.
-pub(crate) const STRETCH: u64 = 1 << 20;
+/// Makes rounds until none fires a vertex or so many looks are made; whether none fires one. The looks are added to
+/// `looks`, up to 2^64 - 1.
+pub(crate) fn ends_within<W: Watch>(
+    game: &Game,
+    most: u64,
+    looks: &mut u64,
+    chips: &mut [u64],
+    fired: &mut [u64],
+    watch: &mut W,
+) -> bool
+    requires { IsBegun game.now chips.old fired.old }
+    ensures { IsBegun game.now chips.new fired.new }
+{
+    let end = looks.saturating_add(most);
+    'stretches: while *looks < end {
+        let part = (end - *looks).min(STRETCH);
+        if !rounds(game, part, looks, chips, fired, watch) {
+            return true;
+        }
+    }
+    false
+}
+
+/// Makes rounds until none fires a vertex or so many looks are made, one round at least, and tells how far the play has
+/// come; whether each fired a vertex. The looks are added to `looks`, up to 2^64 - 1: one at each vertex in each round,
+/// and for each vertex that fires as many as vertices have edges out in the mean.
+#[inline(always)]
+pub(crate) fn rounds<W: Watch>(
+    game: &Game,
+    most: u64,
+    looks: &mut u64,
+    chips: &mut [u64],
+    fired: &mut [u64],
+    watch: &mut W,
+) -> bool
+    requires { IsBegun game.now chips.old fired.old }
+    ensures { GoesRound game.now fired.old chips.new fired.new result }
+{
+    let graph = game.graph();
+    let vertices = graph.vertices().max(1);
+    let edges = graph.edges().len() as u64;
+    let most = (most / (vertices + edges)).saturating_add(1);
+    let mut turns = 0u64;
+    let made = repeat(game, most, chips, fired, &mut turns);
+    watch.rounds(made, game, chips, fired);
+    let at_vertices = made.saturating_add(1).saturating_mul(vertices);
+    let at_edges = turns.saturating_mul(edges / vertices);
+    *looks = looks.saturating_add(at_vertices).saturating_add(at_edges);
+    made == most
+}
+
+/// Makes so many rounds, or until none fires a vertex; in how many one did. How many did in all is added to `turns`, up
+/// to 2^64 - 1.
+// A round is so short that a play takes a seventh longer where this is a call.
+#[inline(always)]
+fn repeat(game: &Game, most: u64, chips: &mut [u64], fired: &mut [u64], turns: &mut u64) -> u64
+    requires begun { IsBegun game.now chips.old fired.old }
+    requires some { 0 < most }
+    ensures begun { IsBegun game.now chips.new fired.new }
+    ensures at_most { result ≤ most }
+    ensures some_fired { result ≡ most
+        → firings_left game.now.graph game.now.limit fired.new < firings_left game.now.graph game.now.limit fired.old }
+    ensures none_fired { result < most → IsAtRest game.now.graph game.now.limit chips.new fired.new }
+{
+    for made in 0..most {
+        if !round(game, chips, fired, turns) {
+            return made;
+        }
+    }
+    most
+}
 
 /// Lets each vertex fire as often as it may, first those with even numbers and then those with odd
 /// ones; whether any did. How many did is added to `turns`, up to 2^64 - 1.
@@ -43,13 +113,15 @@ fn sweep(
 {
     let sink = graph.sink();
     let mut any = false;
+    let mut count = 0u64;
     for step in 0..(graph.vertices() + 1 - first) / 2 {
         let vertex = first + 2 * step;
         if vertex != sink && turn(graph, limit, vertex, chips, fired) {
             any = true;
-            *turns = turns.saturating_add(1);
+            count = count.wrapping_add(1);
         }
     }
+    *turns = turns.saturating_add(count);
     any
 }
 

@@ -1,24 +1,17 @@
 ghost use Rattle.std.specs.Prelude.{◌≡◌, length, slice_index};
 ghost use Rattle.chip_fire.specs.Rounds.{IsBegun, IsInRange};
 
-use crate::rounds::{STRETCH, round};
+use crate::rounds::ends_within;
 use crate::watch::Watch;
 use chip_graph::{Game, Graph};
-
-/// How often each vertex and each edge out is looked at before the work is judged.
-const FIRST_LOOKS: u64 = 16;
-
-/// How often the work doubles at most.
-const DOUBLINGS: u64 = 40;
-
-/// How many looks at each vertex and each edge out are so few that no counts are searched, which takes
-/// about as many.
-const FEW_LOOKS: u64 = 480;
+use chip_guess::tuning::{DOUBLINGS, FEW_LOOKS, FIRST_LOOKS};
 
 /// Plays for as long as this takes it soon to an end: each time with twice the work, while that halves
-/// the chips that wait to move or the limit leaves little to do. Whether the play has ended.
+/// the chips that wait to move or the limit leaves little to do. Whether the play has ended. The looks are added to
+/// `looks`, which are none before.
 pub(crate) fn ends_soon<W: Watch>(
     game: &Game,
+    looks: &mut u64,
     chips: &mut [u64],
     fired: &mut [u64],
     watch: &mut W,
@@ -30,18 +23,16 @@ pub(crate) fn ends_soon<W: Watch>(
     let limit = game.limit();
     let few = looks_at_all(graph).saturating_mul(FEW_LOOKS);
     let mut work = looks_at_all(graph).saturating_mul(FIRST_LOOKS);
-    let mut done = 0u64;
     let mut waited = u64::MAX;
     'doublings: for _ in 0..DOUBLINGS {
         let waits = waiting_chips(graph, limit, chips, fired);
-        if waits > waited / 2 && !leaves_little(limit, fired, done, few) {
+        if waits > waited / 2 && !leaves_little(limit, fired, *looks, few) {
             return false;
         }
         waited = waits;
-        if ends_by(game, work, chips, fired, watch) {
+        if ends_within(game, work, looks, chips, fired, watch) {
             return true;
         }
-        done = done.saturating_add(work);
         work = work.saturating_mul(2);
     }
     false
@@ -82,53 +73,4 @@ fn waiting_chips(graph: &Graph, limit: u64, chips: &[u64], fired: &[u64]) -> u64
         }
     }
     waits
-}
-
-/// Makes rounds until none fires a vertex or so much work is done, in vertices and edges looked at, and
-/// tells time and again how far the play has come; whether none fires one.
-pub(crate) fn ends_by<W: Watch>(
-    game: &Game,
-    work: u64,
-    chips: &mut [u64],
-    fired: &mut [u64],
-    watch: &mut W,
-) -> bool
-    requires { IsBegun game.now chips.old fired.old }
-    ensures { IsBegun game.now chips.new fired.new }
-{
-    let mut left = work;
-    'stretches: for _ in 0..work.div_ceil(STRETCH) {
-        let mut made = 0;
-        let ends = ends_within(game, left.min(STRETCH), chips, fired, &mut made);
-        watch.rounds(made, game, chips, fired);
-        if ends {
-            return true;
-        }
-        left = left.saturating_sub(STRETCH);
-    }
-    false
-}
-
-/// Makes rounds until none fires a vertex or so much work is done; whether none fires one. In how many
-/// one fired is added to `made`, up to 2^64 - 1.
-fn ends_within(game: &Game, work: u64, chips: &mut [u64], fired: &mut [u64], made: &mut u64) -> bool
-    requires { IsBegun game.now chips.old fired.old }
-    ensures { IsBegun game.now chips.new fired.new }
-{
-    let graph = game.graph();
-    let vertices = graph.vertices().max(1);
-    let mean_degree = graph.edges().len() as u64 / vertices;
-    let mut turns = 0u64;
-    let mut looked = 0u64;
-    'rounds: for _ in 0..work / vertices {
-        if !round(game, chips, fired, &mut turns) {
-            return true;
-        }
-        *made = made.saturating_add(1);
-        looked = looked.saturating_add(vertices);
-        if looked.saturating_add(turns.saturating_mul(mean_degree)) > work {
-            return false;
-        }
-    }
-    false
 }

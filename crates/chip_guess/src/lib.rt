@@ -1,17 +1,22 @@
 //! Guesses how often each vertex of a chip-firing game fires before the game ends.
 //!
 //! Nothing is promised of a guess but its range: whoever uses one has a test that tells whether every
-//! play reaches it, and a wrong guess costs time alone. So the numbers here wrap or stay within their
-//! bounds where a proof would have to rule out what does not happen.
+//! play reaches it, and a wrong guess costs time alone. So counts are solved for in floating point, and whole
+//! numbers wrap where a proof would have to rule out what does not happen.
+//!
+//! The counts of the end solve an obstacle problem for the Laplacian of the graph. A multigrid method
+//! solves one near to it, in which each vertex is left with a target height, and a burning test lowers
+//! what it found.
 #![tactic(auto)]
 
+pub use hierarchy::Hierarchy;
 pub use search::{GuessedCounts, Search};
 
+mod burning;
 mod cycle;
-mod learn;
+mod fit;
+pub mod hierarchy;
 mod level;
-mod merge;
-mod number;
 pub mod search;
-mod settle;
-mod target;
+mod solver;
+pub mod tuning;

@@ -7,14 +7,11 @@ loop-vertex-preserved c =
     let so_far = c.loop-vertex.invariant in
     let pushed = c.in_ok-push.ensures.items in
     let least = c.min.ensures in
-    let low : c.min.result ≤ slice_index c.args.most.now c.loop-vertex.vertex = omega arith in
-    let low' : c.min.result ≤ slice_index c.args.most.now (length c.loop-vertex.counts.items) =
-    subst (λ (n : ℕ). c.min.result ≤ slice_index c.args.most.now n) (sym so_far.counts_each) low in
     record {
       counts_each = ap length pushed ∙ length_more c.loop-vertex.counts.items c.min.result
           ∙ ap (λ (n : ℕ). n + 1) so_far.counts_each;
       order_each = ap length c.in_ok-push-2.ensures.items ∙ length_more c.loop-vertex.order.items _
           ∙ ap (λ (n : ℕ). n + 1) so_far.order_each;
-      within = λ v. subst (λ (l : List ℕ). slice_index l v ≤ slice_index c.args.most.now v) (sym pushed)
-          (within_more c.loop-vertex.counts.items c.min.result (slice_index c.args.most.now) so_far.within low' v);
+      within = λ v. subst (λ (l : List ℕ). slice_index l v ≤ c.args.limit) (sym pushed)
+          (within_more c.loop-vertex.counts.items c.min.result (λ w. c.args.limit) so_far.within (omega arith) v);
     }

@@ -1,6 +1,6 @@
 use Rattle.std.proofs.Common.{◌+◌, ◌≤◌}
 use Rattle.chip_fire.specs.Rounds.{IsBegun, firings_left}
-use Rattle.chip_fire.proofs.player.rounds.Given as goal
+use Rattle.chip_fire.proofs.rounds.repeat.Given as goal
 
 abbrev pub invariant-loop-made : goal.invariant-loop-made
 invariant-loop-made l = record {

@@ -1,0 +1,144 @@
+use crate::cycle::{LineSearch, Problem, Unknown, v_cycle};
+use crate::hierarchy::Hierarchy;
+use crate::tuning::{CYCLES_TO_HALVE, MOST_CYCLES, TOLERANCE};
+use chip_graph::Game;
+use std::alloc::{AllocError, Global};
+use std::mem;
+use std::num::{nearest_i64_to_f64, nearest_u64_to_f64};
+
+/// How many chips each vertex is to keep, from few to many.
+#[derive(Clone, Copy)]
+pub(crate) enum TargetHeight {
+    /// As many as lie on a vertex of a grid in the end in the mean, 17/8, and at other degrees as many in proportion.
+    Stationary,
+    /// Half way from there to the next one.
+    Middle,
+    /// One less than its degree.
+    Full,
+    /// Half a firing above that, so that firings rounded down are still earned.
+    Margin,
+}
+
+impl TargetHeight {
+    /// What a vertex of this degree keeps.
+    pub(crate) fn of(self, degree: i64) -> f64 {
+        let degree = nearest_i64_to_f64(degree);
+        let full = degree - 1.0;
+        let stationary = ((9.0 * degree - 2.0) / 16.0).min(full);
+        match self {
+            TargetHeight::Stationary => stationary,
+            TargetHeight::Middle => (stationary + full) / 2.0,
+            TargetHeight::Full => full,
+            TargetHeight::Margin => full + degree / 2.0,
+        }
+    }
+}
+
+/// What counts are sought: those with which a game ends, or goes on at its limit, from the counts on to which it has
+/// come.
+#[derive(Clone, Copy)]
+pub(crate) struct Target<'a> {
+    pub(crate) game: &'a Game,
+    /// How often each vertex has fired.
+    pub(crate) fired: &'a [u64],
+}
+
+/// How far something has come that is made step by step.
+#[derive(Clone, Copy)]
+pub(crate) enum Progress {
+    /// It goes on.
+    Going,
+    /// It came to its end.
+    Converged,
+    /// It will not come to its end soon.
+    Diverged,
+}
+
+/// V-cycles that bring counts near to those that leave each vertex its target height.
+#[derive(Drop)]
+pub(crate) struct Solver<'a> {
+    /// The problem of the counts, and those of its corrections.
+    problems: Vec<Problem<'a>>,
+    search: LineSearch,
+    /// The residual that may be left.
+    tolerance: f64,
+    /// How many cycles were made.
+    cycles: u64,
+    /// The residual when it was last compared.
+    norm: f64,
+}
+
+impl<'a> Solver<'a> {
+    /// Begins with these counts, to leave these heights.
+    pub(crate) fn new(
+        alloc: Global,
+        hierarchy: &'a Hierarchy,
+        target: Target<'_>,
+        heights: &[f64],
+        counts: Vec<f64>,
+    ) -> Result<Solver<'a>, AllocError> {
+        let mut finest = Problem::new(alloc, &hierarchy.finest, counts)?;
+        let mut degrees = 0.0;
+        let high = nearest_u64_to_f64(target.game.limit());
+        let given = target.game.start().iter().zip(target.fired).zip(heights);
+        let rows = hierarchy.finest.rows.iter().zip(&mut finest.unknowns);
+        for ((row, unknown), ((chips, fired), height)) in rows.zip(given) {
+            if row.degree > 0 {
+                degrees += nearest_i64_to_f64(row.degree);
+                *unknown = Unknown {
+                    rhs: nearest_u64_to_f64(*chips) - *height,
+                    low: nearest_u64_to_f64(*fired),
+                    high,
+                };
+            }
+        }
+        let mut problems = Vec::new(alloc);
+        problems.push(finest)?;
+        for level in &hierarchy.coarser {
+            let counts = vec![in alloc; 0.0; level.rows.len()]?;
+            problems.push(Problem::new(alloc, level, counts)?)?;
+        }
+        Ok(Solver {
+            problems,
+            search: hierarchy.kind.line_search(),
+            tolerance: TOLERANCE * degrees,
+            cycles: 0,
+            norm: f64::INFINITY,
+        })
+    }
+
+    /// Makes a cycle where more than little is left. It diverges where some cycles do not halve what is left, or
+    /// where many do not do.
+    pub(crate) fn step(&mut self) -> Progress {
+        let Some(finest) = self.problems.first() else {
+            return Progress::Diverged;
+        };
+        let norm = finest.residual_norm();
+        if norm <= self.tolerance {
+            return Progress::Converged;
+        }
+        if self.cycles % CYCLES_TO_HALVE == 0 {
+            let is_halved = norm <= self.norm / 2.0;
+            if !is_halved || self.cycles >= MOST_CYCLES {
+                return Progress::Diverged;
+            }
+            self.norm = norm;
+        }
+        self.cycles = self.cycles.saturating_add(1);
+        v_cycle(&mut self.problems, self.search);
+        if self.search == LineSearch::Mass {
+            if let Some(finest) = self.problems.first_mut() {
+                finest.rescale();
+            }
+        }
+        Progress::Going
+    }
+
+    /// Takes the counts out.
+    pub(crate) fn take_counts(&mut self, alloc: Global) -> Vec<f64> {
+        match self.problems.first_mut() {
+            Some(finest) => mem::replace(&mut finest.counts, Vec::new(alloc)),
+            None => Vec::new(alloc),
+        }
+    }
+}

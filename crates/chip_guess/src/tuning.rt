@@ -1,0 +1,71 @@
+//! The numbers that were tuned, those of the player too. A look is one at a vertex or an edge. The games are those of
+//! `bench/run` and `bench/large`.
+
+/// How many looks at each vertex and edge a play makes before it is judged whether it ends soon. Doubled each time.
+pub const FIRST_LOOKS: u64 = 16;
+
+/// How often that work doubles at most: more than it takes to play any game.
+pub const DOUBLINGS: u64 = 40;
+
+/// How many looks at each vertex and edge are so few that no counts are searched, which takes about as many: grid-six
+/// and random-graph with limits.
+pub const FEW_LOOKS: u64 = 480;
+
+/// How many looks at each vertex and edge a search may be ahead of the play: about what reading the graph takes.
+pub const AHEAD: u64 = 160;
+
+/// Which part of the looks that the rest of the play would take a search may also be ahead, one by this number:
+/// random-graph with limits.
+pub const LEAD: u64 = 4;
+
+/// How many looks at each vertex and edge the search and the play make in each of their turns.
+pub const TURN: u64 = 16;
+
+/// How many looks lie about between two times that it is told how far a play has come: some milliseconds.
+pub const STRETCH: u64 = 1 << 20;
+
+/// How many levels there are at most: each has at most half as many vertices as the one before.
+pub const MOST_LEVELS: u32 = 64;
+
+/// How many times as much a link counts from a vertex that is in no aggregate yet: grids.
+pub const FREE_WEIGHT: i64 = 4;
+
+/// After how many cycles the residual is compared, which has to be halved then: games with limits.
+pub const CYCLES_TO_HALVE: u64 = 8;
+
+/// How many cycles there are at most.
+pub const MOST_CYCLES: u64 = 64;
+
+/// Which part of all degrees the residuals may come to in the end.
+pub const TOLERANCE: f64 = 0.0009765625;
+
+/// In how many steps in a row no vertex may burn, which leaves nearly everything as it was: star.
+pub const STALLED_STEPS: u64 = 16;
+
+/// How many vertices a graph has on which it pays to fit heights, and to go on from counts that passed: peak-255 has
+/// more, and grid-peak fewer.
+pub const GREAT: usize = 1 << 14;
+
+/// How many steps are made before it is asked whether to fit heights: peak-511.
+pub const STEPS_BEFORE_FIT: u64 = 16;
+
+/// How many steps are made between walls at most: four-511.
+pub const STEPS_OF_FIT: u64 = 32;
+
+/// At how many edges' distance from each other walls stand, by their distances from the sink: four-511.
+pub const WALL_SPACING: u64 = 64;
+
+/// In each fit the distances of the walls leave another one of these rests, so that what stood still in one lies between
+/// walls in the next. Four fits do best on four-511.
+pub const WALL_OFFSETS: [u64; 4] = [0, 32, 16, 48];
+
+/// About how many vertices are in a patch: on four-511 true means of so many are off by up to 40 firings, and those of
+/// 4,096 by up to 400.
+pub const PATCH: usize = 256;
+
+/// How many firings each vertex of a patch has to lose in the mean in a later fit. Less may come of rounding down.
+pub const CLEAR_LOSS: f64 = 8.0;
+
+/// How often more each vertex fires once counts have passed, each next time twice as often: four-511 is raised three
+/// times.
+pub const FIRST_RAISE: i64 = 16;

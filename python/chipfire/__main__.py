@@ -16,19 +16,11 @@ from chipfire.pages import page_text, recorded
 from chipfire.program import simulate
 from chipfire.values import read_rows
 
-POSITIONS_HEADER = ("vertex", "right", "down")
-
 
 def _is_trace(file: str) -> bool:
     """Whether a file of rows begins as a trace does, and not as a schedule."""
     with open(file, encoding="utf-8-sig", errors="replace", newline="") as text:
         return next(csv.reader(text), None) == list(TRACE_HEADER)
-
-
-def _positions(file: str) -> dict[int, tuple[float, float]]:
-    """The places of a file of rows `vertex,right,down`."""
-    rows = read_rows(file, POSITIONS_HEADER)
-    return {int(vertex): (float(right), float(down)) for vertex, right, down in rows}
 
 
 def _simulation(asked: argparse.Namespace) -> Simulation:
@@ -42,7 +34,10 @@ def _simulation(asked: argparse.Namespace) -> Simulation:
 
 
 def _page(asked: argparse.Namespace) -> None:
-    positions = None if asked.positions is None else _positions(asked.positions)
+    positions = None
+    if asked.positions is not None:
+        rows = read_rows(asked.positions, ("vertex", "right", "down"))
+        positions = {int(vertex): (float(right), float(down)) for vertex, right, down in rows}
     made = page_text(_simulation(asked), title=asked.title, positions=positions, program=asked.program)
     sys.stdout.buffer.write(made.encode())
 

@@ -15,23 +15,14 @@ from dataclasses import replace
 from typing import Any
 
 from chipfire.chips import Chips
-from chipfire.layout import Places, Point, places_of
+from chipfire.layout import Point, places_of
 from chipfire.ledger import Disagreement, Ledger
-from chipfire.machine import Event, Reply, Setting, Simulation, TraceRow, read_trace
+from chipfire.machine import Event, Setting, Simulation, TraceRow, read_trace
 from chipfire.program import AnyGraph, AnyProgram, known_chips, known_graph, replay, simulate
 from chipfire.sentences import Sentences
 from chipfire.spelling import RINGS, spell_rounds, spell_trace
 from chipfire.values import FILE, MAX_LIMIT, FileName, counted, own_text, write
 
-#: What every page says of itself; the places in it are filled for the run.
-_ABOUT = (
-    "Each reply, and the books of the detector (the deficits, who is engaged by which edge, what is owed), are the "
-    "answers of the program chipfire. What it answers is proved; its README says what exactly.",
-    "Chips, firings and what lies on the edges are added up from these replies by the Python package of chipfire. It "
-    "held them against the books behind each of the $events, and against $end. This adding up, the drawing and this "
-    "page are tested and not proved.",
-    "What stands before the first event is the opening: the root has put the chips of the start on its edges.",
-)
 _CLOSED = "the program's report at the end: chips, firings and halts"
 _OPEN = "the program's word at the end that the root is open"
 
@@ -61,8 +52,8 @@ def page_text(
     # (in a script of HTML no text may look like a tag)
     text = json.dumps(data, separators=(",", ":")).replace("<", "\\u003c")
     parts = {name: own_text("web", f"run.{kind}") for name, kind in (("style", "css"), ("script", "js"))}
-    about = "".join(f"<p>{html.escape(paragraph)}</p>\n" for paragraph in _about(told))
-    parts |= {"title": html.escape(title), "about": about, "data": text}
+    parts |= {"title": html.escape(title), "data": text, "end": _OPEN if told.report is None else _CLOSED}
+    parts |= {"events": counted(len(told.schedule), "event"), "made_up": f"<p>{html.escape(told.made_up)}</p>"}
     return string.Template(own_text("web", "run.html")).substitute(parts)
 
 
@@ -110,29 +101,11 @@ def spelled_out(simulation: Simulation, program: AnyProgram = None) -> Simulatio
         )
     elif len(simulation.boards) == len(schedule):
         return simulation
-    told = _asked_again(setting, schedule, program)
+    options: dict[str, Any] = {"limit": setting.limit, "ring": setting.ring, "fed": setting.fed}
+    told = simulate(setting.graph, setting.chips, schedule, books=True, program=program, **options)
     if told.report != simulation.report:
         raise Disagreement("the program comes to another end than before")
     return replace(told, made_up=made_up)
-
-
-def _asked_again(setting: Setting, schedule: Sequence[Event], program: AnyProgram) -> Simulation:
-    game = setting.graph, setting.chips, schedule
-    options: dict[str, Any] = {"limit": setting.limit, "ring": setting.ring, "fed": setting.fed}
-    return simulate(*game, books=True, program=program, **options)
-
-
-class _Words:
-    """Texts by numbers, each kept once."""
-
-    def __init__(self) -> None:
-        self._numbers: dict[str, int] = {}
-
-    def number(self, text: str) -> int:
-        return self._numbers.setdefault(text, len(self._numbers))
-
-    def texts(self) -> list[str]:
-        return list(self._numbers)
 
 
 def _data(told: Simulation, positions: Mapping[Any, Point] | None) -> dict[str, Any]:
@@ -140,7 +113,7 @@ def _data(told: Simulation, positions: Mapping[Any, Point] | None) -> dict[str, 
     setting, graph = told.game, told.game.graph
     ledger = Ledger(setting)
     started = _started(told)
-    words = _Words()
+    words: dict[str, int] = {}
     opening = ledger.state()
     steps = _steps(told, ledger, words)
     ledger.close(told.report)
@@ -151,47 +124,36 @@ def _data(told: Simulation, positions: Mapping[Any, Point] | None) -> dict[str, 
         "edges": [*graph.edges, *((None, vertex, 1) for vertex in range(graph.vertices))],
         "graphEdges": len(graph.edges),
         "rootEdges": [graph.root_edge(vertex) for vertex in started],
-        "places": _places(places_of(graph, started, positions)),
+        "places": vars(places_of(graph, started, positions)),
         "start": opening,
         "opening": f"The root has put the chips of the start on its edges: {chips} in all.",
         "steps": steps,
-        "words": words.texts(),
+        "words": list(words),
     }
 
 
 def _started(told: Simulation) -> list[int]:
     """The vertices that get chips from the root, at the start or later."""
-    first = len(told.game.graph.edges)
-    fed = {event.at - first for event, reply in zip(told.schedule, told.replies) if _is_fed(event, reply)}
+    events = zip(told.schedule, told.replies)
+    fed = {event.at - len(told.game.graph.edges) for event, reply in events if event.kind == "feed" and reply.is_done}
     return sorted(fed | {vertex for vertex, count in enumerate(told.game.chips) if count})
 
 
-def _is_fed(event: Event, reply: Reply) -> bool:
-    return event.kind == "feed" and reply.is_done
-
-
-def _steps(told: Simulation, ledger: Ledger, words: _Words) -> list[dict[str, Any]]:
+def _steps(told: Simulation, ledger: Ledger, words: dict[str, int]) -> list[dict[str, Any]]:
     """For each event the numbers of its words, and what it changed, held against the books."""
     sentences = Sentences(told.game.graph)
     steps = []
+
+    def number(text: str) -> int:
+        return words.setdefault(text, len(words))
+
     for event, reply, board in zip(told.schedule, told.replies, told.boards):
         changes = ledger.note(event, reply)
         ledger.compare(board)
         steps.append({
-            "event": words.number(sentences.event(event)),
-            "reply": words.number(sentences.reply(event, reply)),
+            "event": number(sentences.event(event)),
+            "reply": number(sentences.reply(event, reply)),
             "done": reply.is_done,
-            "changes": [[*change, words.number(sentences.change(change))] for change in changes],
+            "changes": [[*change, number(sentences.change(change))] for change in changes],
         })
     return steps
-
-
-def _places(places: Places) -> dict[str, Any]:
-    return {"vertices": places.vertices, "root": places.root, "frame": places.frame}
-
-
-def _about(told: Simulation) -> list[str]:
-    """What the page says of what is proved, and of where its events come from."""
-    filled = {"events": counted(len(told.schedule), "event"), "end": _OPEN if told.report is None else _CLOSED}
-    paragraphs = [string.Template(paragraph).substitute(filled) for paragraph in _ABOUT]
-    return [told.made_up, *paragraphs] if told.made_up else paragraphs

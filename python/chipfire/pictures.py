@@ -51,6 +51,8 @@ _MOST_SQUARES, _MOST_POINTS = 100, 800
 
 #: The name of a palette, or its colours, each `#rrggbb`.
 Palette = Union[str, Sequence[str]]
+#: Where vertices stand, by their names: (to the right, down).
+Positions = Mapping[Any, tuple[float, float]]
 
 _SPREADS: dict[str, Callable[[int], float]] = {"linear": float, "log": math.log1p}
 _SIGNS = "0123456789abcdefghijklmnopqrstuvwxyz"
@@ -192,7 +194,7 @@ def _least(values: Sequence[int], most: int) -> bytearray:
         return bytearray(max(count, 0) for count in numbers)
 
 
-def placed(graph: Graph, values: Sequence[int], positions: Mapping[Any, tuple[float, float]], empty: int) -> list[list[int]]:
+def placed(graph: Graph, values: Sequence[int], positions: Positions, empty: int) -> list[list[int]]:
     """Values of the vertices that have positions, (to the right, down) by names, in rows of squares round them."""
     found: dict[tuple[int, int], tuple[Hashable, int]] = {}
     for name, (right, down) in positions.items():
@@ -225,13 +227,8 @@ class Drawn:
         raise NotImplementedError
 
     def picture(
-        self,
-        columns: int | None = None,
-        palette: Palette | None = None,
-        *,
-        of: str = "chips",
-        scale: str | None = None,
-        positions: Mapping[Any, tuple[float, float]] | None = None,
+        self, columns: int | None = None, palette: Palette | None = None, *, of: str = "chips",
+        scale: str | None = None, positions: Positions | None = None,
     ) -> Picture:
         """The picture of the chips, or of how often each vertex fired. That it shows them is not proved."""
         values = self._values(of)
@@ -258,15 +255,8 @@ class Drawn:
         return Picture(tuple(map(bytes, rows)), colours, self._title(of), most)
 
     def image(
-        self,
-        file: FileName,
-        columns: int | None = None,
-        palette: Palette | None = None,
-        scale: int | str = SCALE,
-        *,
-        of: str = "chips",
-        positions: Mapping[Any, tuple[float, float]] | None = None,
-        points: int = SCALE,
+        self, file: FileName, columns: int | None = None, palette: Palette | None = None, scale: int | str = SCALE, *,
+        of: str = "chips", positions: Positions | None = None, points: int = SCALE,
     ) -> None:
         """Writes the picture: `.png`, `.svg`, or with Pillow any other form. That it shows the numbers is not proved.
 

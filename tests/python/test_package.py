@@ -527,7 +527,9 @@ class Mistakes(WithFolder):
 class Killed(WithFolder):
     """Whatever becomes of Python, no program goes on and no file is left."""
 
-    PLAY = ("import chipfire, threading\ng = chipfire.grid(9, 9)\n"
+    # (a shell that starts the tests beside others has them ignore SIGINT)
+    PLAY = ("import chipfire, signal, threading\nsignal.signal(signal.SIGINT, signal.default_int_handler)\n"
+            "g = chipfire.grid(9, 9)\n"
             "play = lambda: chipfire.plain(g, {0: 4}, program='%s')\n%s")
 
     def begun(self, how):

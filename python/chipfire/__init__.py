@@ -34,6 +34,9 @@ Who comes from sandpiles finds the usual words under these names:
 Reports and configurations are drawn by `image` and `show`, plays by `frames`. The words of the distributed machine
 (schedules, replies, books, traces) are told of in `chipfire.machine`.
 
+Wherever a graph, chips, a schedule, a trace or a report is wanted, the name of its file does too. `Graph.chips` tells in
+which forms chips come, and `Report.picture` what can be drawn.
+
 A vertex has a number from 0 on, and where a graph comes from elsewhere also a name. Sequences and arrays go by numbers,
 dicts and Series of pandas by names. Numbers of chips and firings go up to 2^40. A graph has up to 1,048,576 vertices
 and 8,388,608 edges; for `run`, `simulate` and `replay` up to 4,096 and 65,536. The argument `large` does nothing: what
@@ -42,6 +45,7 @@ is large is seen by itself.
 
 from chipfire import machine as machine
 from chipfire.animation import Frames, frames, frames_by_chips
+from chipfire.burning import CHIPS_HEADER
 from chipfire.chips import Chips, Configuration
 from chipfire.graphs import (
     Graph, aztec, complete, cycle, from_networkx, from_sage, grid, path, region, torus, wheel,

@@ -16,12 +16,13 @@ if TYPE_CHECKING:
     from chipfire.graphs import Graph
 
 Numbers = Sequence[int]
+CHIPS_HEADER = ("vertex", "chips")
 
 
 def chips_parts(chips: Numbers) -> list[bytes]:
     """The text of a chips file. (What are too many chips anyway has a number that the program reads.)"""
     rows = (f"{vertex},{min(count, MAX_CHIPS + 1)}\n" for vertex, count in enumerate(chips) if count)
-    return ["".join(["vertex,chips\n", *rows]).encode()]
+    return ["".join([",".join(CHIPS_HEADER), "\n", *rows]).encode()]
 
 
 def stabilized(graph: Graph, chips: Numbers, program: FileName | None = None) -> tuple[list[int], list[int]]:
@@ -104,26 +105,6 @@ def recurrent(graph: Graph, chips: Numbers, program: FileName | None = None) -> 
         times = max(-count // more + 1 for count, more in zip(chips, lift) if more)
         chips = [count + times * more for count, more in zip(chips, lift)]
     return inner(graph, stabilized(graph, chips, program)[0])
-
-
-def is_stable(graph: Graph, chips: Numbers) -> bool:
-    return all(count <= most for count, most in zip(inner(graph, chips), most_stable(graph)))
-
-
-def is_recurrent(graph: Graph, chips: Numbers, program: FileName | None = None) -> bool:
-    """Whether chips come back when those of the burning configuration are added, and the sum is stabilized."""
-    held = inner(graph, chips)
-    if min(held) < 0:
-        return False
-    more = list(map(int.__add__, held, burning(graph, program)[1]))
-    return inner(graph, stabilized(graph, more, program)[0]) == held
-
-
-def is_superstable(graph: Graph, chips: Numbers, program: FileName | None = None) -> bool:
-    """Whether what chips lack to the most stable ones is recurrent, and they are stable."""
-    held = inner(graph, chips)
-    lacking = list(map(int.__sub__, most_stable(graph), held))
-    return min(held) >= 0 <= min(lacking) and is_recurrent(graph, lacking, program)
 
 
 def superstables(graph: Graph, program: FileName | None = None) -> Iterator[tuple[int, ...]]:

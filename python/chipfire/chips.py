@@ -89,15 +89,19 @@ class Configuration(Drawn, Mapping[Hashable, int]):
 
     def is_stable(self) -> bool:
         """Whether no vertex can fire: `chipfire.is_stable`."""
-        return burning.is_stable(self.graph, self.numbers)
+        return all(map(operator.le, self.numbers, burning.most_stable(self.graph)))
 
     def is_recurrent(self, *, program: FileName | None = None) -> bool:
         """Whether it is recurrent: `chipfire.is_recurrent`."""
-        return burning.is_recurrent(self.graph, self.numbers, program)
+        if min(self.numbers) < 0:
+            return False
+        burning_one: Configuration = self + burning.burning(self.graph, program)[1]
+        return burning_one.stabilize(program=program) == self
 
     def is_superstable(self, *, program: FileName | None = None) -> bool:
         """Whether it is superstable: `chipfire.is_superstable`."""
-        return burning.is_superstable(self.graph, self.numbers, program)
+        lacking = self.graph.max_stable() - self
+        return min(self.numbers) >= 0 <= min(lacking.numbers) and lacking.is_recurrent(program=program)
 
     def order(self) -> int:
         """How many times it is added to itself until that is equivalent to no chips. Nothing of this is proved."""

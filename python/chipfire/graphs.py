@@ -294,7 +294,10 @@ class Graph:
 
     def numbers(self, values: Any, least: int | None = None) -> tuple[int, ...]:
         """The same, of `least` or more where that is said."""
-        values = getattr(values, "chips", values) if hasattr(values, "fired") else values
+        if hasattr(values, "fired") and hasattr(values, "chips"):
+            if values.graph is not None and not values.graph.is_like(self):
+                raise ValueError("the report is one of another graph")
+            values = values.chips
         if hasattr(values, "items"):
             return self._by_names(values, least)
         values = values.tolist() if hasattr(values, "tolist") else values

@@ -111,18 +111,19 @@ class Picture:
         head = f'<svg xmlns="http://www.w3.org/2000/svg" {size} shape-rendering="crispEdges" role="img">'
         return "\n".join([head, f"<title>{html.escape(self.title)}</title>", *shapes, "</svg>\n"])
 
-    def labels(self) -> dict[int, str]:
-        """What the colours stand for, by their numbers; of colours that are spread, the first and the last."""
+    def labels(self) -> list[str]:
+        """What each colour stands for; of colours that are spread, the first and the last."""
         most = len(self.palette) - 2
         if self.most is not None:
-            return {0: "0", most: f"{self.most:,}", most + 1: "the sink"}
-        return {**{number: str(number) for number in range(most)}, most: f"{most} or more", most + 1: "the sink"}
+            return ["0", *[""] * (most - 1), f"{self.most:,}", "the sink"]
+        return [*map(str, range(most)), f"{most} or more", "the sink"]
 
     def legend(self, used: Iterable[int] | None = None) -> str:
         """The colours that are used, or that stand in the picture, and what they mean, as HTML."""
         used = set(itertools.chain(*self.rows) if used is None else used)
         box = '<span style="display:inline-block;width:1em;height:1em;border:1px solid #555;background:{}"></span> {}'
-        return "&ensp;".join(box.format(self.palette[at], label) for at, label in self.labels().items() if at in used)
+        named = enumerate(zip(self.palette, self.labels()))
+        return "&ensp;".join(box.format(*it) for at, it in named if at in used and it[1])
 
     def __str__(self) -> str:
         """The picture as text: the number of each square's colour, and a gap for the sink."""

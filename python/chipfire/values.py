@@ -57,7 +57,7 @@ def counted(count: int, word: str) -> str:
 
 def own_text(*names: str) -> str:
     """The text of a file that belongs to the package."""
-    with open(os.path.join(HERE, *names), encoding="utf-8") as file:
+    with open(os.path.join(HERE, *names), encoding="utf-8", errors="surrogateescape") as file:
         return file.read()
 
 

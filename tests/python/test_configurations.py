@@ -60,6 +60,8 @@ class Forms(unittest.TestCase):
         for chips in (0.5, [0.5] * 6, ["1"] * 6, None, [[0, 1, 2], [3, 4, None]], {0: 0.5}, float("inf"), float("nan")):
             with self.subTest(chips=chips), self.assertRaises((TypeError, ValueError, OverflowError)):
                 GRID.chips(chips)
+        with self.assertRaisesRegex(ValueError, "report is one of another graph"):
+            chipfire.plain(chipfire.grid(2, 3), chipfire.plain(GRID, 4))
         with self.assertRaisesRegex(ValueError, "shape None"):
             chipfire.cycle(4).chips([[1, 2], [3, 4]])
 

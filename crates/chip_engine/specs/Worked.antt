@@ -60,7 +60,7 @@ pub record SaysLoop (row : Explanation) : Type 0 where
   pub meaning : row.meaning.now ≡ codes "edge i is a loop"
   pub advice : row.advice.now ≡ codes "Leave it out.\n"
 
--- what a table of this row has to say of fault 6, of fault 7 and of all faults
+-- what a table of faults with this row alone has to say of fault 6, of fault 7 and of all faults
 pub record IsExplained (row : Explanation) : Type 0 where
   pub asked : explanation (codes "fault") (row ∷ []) (Some 6)
       ≡ Some (codes "fault 6 Loop i: edge i is a loop\n\ni is an edge.\nLeave it out.\n")

@@ -327,7 +327,8 @@ static READ: Explanation = Explanation {
     place: Place::NOWHERE,
     meaning: "a file could be opened and not read",
     advice: "\
-That is so of a folder. Else the system refused a read: try again, or copy the file.
+That is so of a folder, and of - where standard input is closed. Else the system refused
+a read: try again, or copy the file.
 ",
 };
 
@@ -553,6 +554,7 @@ static OPEN: Explanation = Explanation {
     advice: "\
 There is no such file, or it may not be read. Names go from the folder in which the
 program was started. The file of `--trace` may be none of the inputs, which it would empty.
+Only one of the inputs may be -, which is standard input.
 ",
 };
 

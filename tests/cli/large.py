@@ -5,7 +5,8 @@ squares, and the largest that there are, of 1,048,576 vertices and 8,388,608 edg
     tests/cli/large.py [--program FILE] [--games N] [--anew]
 
 FILE is the program that ./chipfire built, if not said. N random games are played, 200 if not said; tests/cli/run plays
-12. What must come of them is known from player.c, which shares nothing with the program and is built by `cc`. It takes
+12. Each is played on one thread and on two, and of one-way games the trace is replayed. What must come of them is known
+from player.c, which shares nothing with the program and is built by `cc`. It takes
 half a minute for the heap, so the digest of its report stands here; --anew has it found once more. The answers of the
 largest games are known by arithmetic. The last line is `N passed, N failed`, and the status is 0 only if nothing failed.
 """
@@ -43,6 +44,12 @@ EMPTY = hashlib.sha256(b"").hexdigest()
 LIMITED = f"{ROOT}/tests/hostile/limited.py"
 # How many MiB the heap is given: too few to read it, enough to play it, and enough to search its counts too.
 MEMORIES = [8, 12, 16, 32, 48]
+# By two threads, each of which keeps vertices of its own.
+THREADS = "run graph.json chips.csv --large --dealt --workers 2"
+# How many rows of each vertex a trace of a one-way game has at most, in which few edges lead to one vertex.
+ROWS = 256
+# How many MiB a trace is given that wants more.
+TRACE_MEMORY = 512
 
 
 def graph_text(edges, sink, vertices):
@@ -201,6 +208,20 @@ def sittings(player, room, game, whole):
     yield arguments, room.faults_of(arguments, report(end["chips"], fired, prior=before))
 
 
+def traced(room, whole):
+    """A play on threads with its trace, by which each vertex fires as often as the report says: arguments and faults."""
+    arguments = f"{THREADS} --trace trace.csv --trace-rows {ROWS}"
+    yield arguments, room.faults_of(arguments, whole)
+    arguments = "replay graph.json chips.csv trace.csv --large"
+    written, errors, status = room.ran(arguments)
+    fired = [0] * len(json.loads(whole)["fired"])
+    for line in written.splitlines():
+        _, vertex, times = line.split(" ")
+        fired[int(vertex)] += int(times)
+    is_well = (errors, status, fired) == ("", 0, json.loads(whole)["fired"])
+    yield arguments, [] if is_well else [f"status {status}, standard error {errors!r}, or other firings"]
+
+
 def looked_at(room, game):
     """What `check` writes of a graph: arguments and faults."""
     yield "check graph.json --large", room.faults_of("check graph.json --large", game.shown())
@@ -214,11 +235,15 @@ def refused(room, arguments, fault):
 
 def play_random(program, player, number):
     """A random game and what else is asked of it: arguments and faults."""
-    game = RandomGame(random.Random(f"large {number}"), KINDS[number % len(KINDS)])
+    kind = KINDS[number % len(KINDS)]
+    game = RandomGame(random.Random(f"large {number}"), kind)
     with tempfile.TemporaryDirectory(prefix="chipfire-large-") as folder:
         room = Room(program, folder, game)
         whole = played(player, room)
         yield "plain --large graph.json chips.csv", room.faults_of("plain --large graph.json chips.csv", whole)
+        yield THREADS, room.faults_of(THREADS, whole)
+        if kind == "one_way":
+            yield from traced(room, whole)
         turn = number // len(KINDS) % 3
         if turn == 0:
             yield from sittings(player, room, game, whole)
@@ -256,6 +281,18 @@ def play_heap_in_little_memory(program):
     yield "an answer of each kind", [] if got >= set(answers.values()) else [f"there were {got}"]
 
 
+def trace_in_little_memory(program):
+    """A trace of the heap that wants more memory than there is, which is 90 and leaves its file empty: arguments and
+    faults."""
+    arguments, wanted = f"{THREADS} --trace trace.csv --trace-rows 1048576", ("", "chipfire: fault 90 NoMemory\n", 1)
+    with tempfile.TemporaryDirectory(prefix="chipfire-large-") as folder:
+        room = Room(program, folder, Heap())
+        room.write("trace.csv", "an old text")
+        got = room.ran(arguments, [sys.executable, LIMITED, f"AS={TRACE_MEMORY << 20}"])
+        left = room.read("trace.csv")
+    yield arguments, [] if (got, left) == (wanted, "") else [f"the answer is {got}, and the trace {left[:80]!r}"]
+
+
 def play_widest(program):
     """As many vertices and edges as there may be, each edge to the sink: arguments and faults."""
     fan = Fan(VERTICES, EDGES)
@@ -289,6 +326,7 @@ def play_large(program, games=FEW_GAMES, is_anew=False):
         runs = {f"large {number}": play_random(program, player, number) for number in range(games)}
         runs |= {"large heap": play_heap(program, player, is_anew)}
         runs |= {"large heap, little memory": play_heap_in_little_memory(program)}
+        runs |= {"large heap, a trace": trace_in_little_memory(program)}
         runs |= {"largest fan": play_widest(program), "largest walk": play_longest(program)}
         for place, found in runs.items():
             for arguments, faults in found:

@@ -35,7 +35,7 @@ class Command:
     usage: str
     operands: tuple[tuple[str, str], ...]
     options: tuple[Option, ...]
-    #: The names of the commands, of the program itself alone.
+    #: The names of the commands, of the program itself alone, without `help`, which says what --help does.
     commands: tuple[str, ...]
     #: The paragraphs behind the options.
     notes: tuple[str, ...]
@@ -64,7 +64,7 @@ def read_help(name, text):
         usage=next(it for it in blocks if it.startswith("Usage: ")).removeprefix("Usage: "),
         operands=tuple((it["name"], it["text"]) for it in rows(blocks, "Arguments", OPERAND)),
         options=tuple(Option(**it) for it in rows(blocks, "Options", OPTION)),
-        commands=tuple(it["name"] for it in rows(blocks, "Commands", COMMAND)),
+        commands=tuple(it["name"] for it in rows(blocks, "Commands", COMMAND) if it["name"] != "help"),
         notes=tuple(it for it in blocks[1:] if not it.startswith(titles)),
     )
 

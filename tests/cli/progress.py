@@ -20,24 +20,37 @@ FIRST, PAUSE = 7, 1.3
 READ = b"chipfire: progress: reading, %d bytes\n"
 ROUNDS = re.compile(rb"chipfire: progress: ([0-9]+) rounds, ([0-9]+) firings\n")
 TURNS = re.compile(rb"chipfire: progress: ([0-9]+) turns of worker 0, the root's deficit is ([0-9]+)\n")
-LINES = {"plain": ROUNDS, "run": TURNS}
+LINES = {"plain": ROUNDS, "resume": ROUNDS, "run": TURNS}
+# What a command plays beside the graph.
+STARTS = {"plain": "chips.csv", "resume": "report.json", "run": "chips.csv"}
 # What a command is at where it makes no rounds or turns.
+ON_ONE_THREAD = re.compile(
+    rb"chipfire: progress: (reading, [0-9]+ bytes|read [0-9]+ vertices, [0-9]+ edges|guessing, [0-9]+ steps"
+    rb"|writing [0-9]+ bytes)\n"
+)
 OTHERWISE = {
-    "plain": re.compile(
-        rb"chipfire: progress: (reading, [0-9]+ bytes|read [0-9]+ vertices, [0-9]+ edges|guessing, [0-9]+ steps"
-        rb"|writing [0-9]+ bytes)\n"
-    ),
+    "plain": ON_ONE_THREAD,
+    "resume": ON_ONE_THREAD,
     "run": re.compile(rb"chipfire: progress: reading, [0-9]+ bytes\n"),
 }
 
 
 def write_uphill(folder, length):
-    """Writes the game of a chain with so many vertices before its sink, 64 chips on the first."""
+    """Writes the game of a chain with so many vertices before its sink, 64 chips on the first, and a report of no play."""
     edges = [[v, v + 1, 1] for v in range(length)] + [[v, v - 1, 2] for v in range(1, length)]
     with open(f"{folder}/graph.json", "w", encoding="utf-8") as file:
         json.dump({"edges": edges, "sink": length, "version": 1, "vertices": length + 1}, file)
     with open(f"{folder}/chips.csv", "w", encoding="utf-8") as file:
         file.write("vertex,chips\n0,64\n")
+    with open(f"{folder}/report.json", "w", encoding="utf-8") as file:
+        chips, none = [64] + [0] * length, [0] * (length + 1)
+        said = {"chips": chips, "closed": True, "fired": none, "over": [], "sealed": [], "version": 1}
+        file.write(json.dumps(said, separators=(",", ":")) + "\n")
+
+
+def words_of(program, command, *options):
+    """The words that play such a game."""
+    return [program, command, "graph.json", STARTS[command], *options]
 
 
 def line_of(process, until):
@@ -68,7 +81,7 @@ def told(program, *words):
     with tempfile.TemporaryDirectory(prefix="chipfire-progress-") as room, tempfile.TemporaryFile() as out:
         write_uphill(room, ENDLESS)
         begun = time.monotonic()
-        words = [program, words[0], "graph.json", "chips.csv", *words[1:], "--progress"]
+        words = words_of(program, *words, "--progress")
         process = subprocess.Popen(words, stdout=out, stderr=subprocess.PIPE, bufsize=0, cwd=room)
         with process:
             lines = [line_of(process, begun + SECONDS) for _ in range(2)]
@@ -84,7 +97,7 @@ def same(program, *words):
     with tempfile.TemporaryDirectory(prefix="chipfire-progress-") as room:
         write_uphill(room, LONG)
         how = {"stdout": subprocess.PIPE, "stderr": subprocess.PIPE, "cwd": room, "timeout": SECONDS}
-        words = [program, words[0], "graph.json", "chips.csv", *words[1:]]
+        words = words_of(program, *words)
         quiet = subprocess.run(words, **how)
         begun = time.monotonic()
         ran = subprocess.run([*words, "--progress"], **how)
@@ -103,7 +116,7 @@ def read_slowly(program, name, *words):
         with open(f"{room}/{name}", "rb") as file:
             text = file.read()
         how = {"stdout": subprocess.PIPE, "stderr": subprocess.PIPE, "cwd": room}
-        words = [program, words[0], "graph.json", "chips.csv", *words[1:]]
+        words = words_of(program, *words)
         quiet = subprocess.run(words, timeout=SECONDS, **how)
         os.remove(f"{room}/{name}")
         os.mkfifo(f"{room}/{name}")
@@ -127,11 +140,14 @@ def play_long(program):
     yield "progress.py", "plain tells of chips that it reads", read_slowly(program, "chips.csv", "plain")
     yield "progress.py", "run tells of a graph that it reads", read_slowly(program, "graph.json", "run")
     yield "progress.py", "run tells of chips that it reads", read_slowly(program, "chips.csv", "run")
+    yield "progress.py", "resume tells of a report that it reads", read_slowly(program, "report.json", "resume")
     yield "progress.py", "plain tells how it goes on", told(program, "plain")
+    yield "progress.py", "resume tells how it goes on", told(program, "resume")
     yield "progress.py", "run tells how it goes on", told(program, "run")
     yield "progress.py", "run tells how it goes on, one worker", told(program, "run", "--workers", "1")
     yield "progress.py", "run tells how it goes on, dealt out", told(program, "run", "--dealt")
     yield "progress.py", "a long play answers the same", same(program, "plain")
+    yield "progress.py", "a long sitting answers the same", same(program, "resume")
     yield "progress.py", "a play stopped by its limit answers the same", same(program, "plain", "--limit", "200000000")
     turns = ["--workers", "1", "--turns", "3000000"]
     yield "progress.py", "a fault stands behind what was told", same(program, "run", *turns)

@@ -193,7 +193,7 @@ def small_spaces(machine, worked):
 
 def small_stacks(machine):
     """What reads no file does with the least stack, too."""
-    for words in (["--help"], ["run", "--help"], ["explain"], ["explain", "21"]):
+    for words in (["--help"], ["run", "--help"], ["explain"], ["explain", "21"], ["explain", "rule", "11"]):
 
         def faults(words=words):
             ran = machine.run_under(f"STACK={LEAST_STACK * KIB}", words)

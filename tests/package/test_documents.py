@@ -15,7 +15,7 @@ FISH = "share/fish/vendor_completions.d/chipfire.fish"
 def helps():
     """Returns the help of the program, by the name "", and that of each command by the command's."""
     whole = made.run(made.PROGRAM, "--help").stdout
-    names = re.findall(r"^  ([a-z]+)  ", whole.partition("Commands:")[2].partition("Options:")[0], re.MULTILINE)
+    names = re.findall(r"^  (?!help )([a-z]+)  ", whole.partition("Commands:")[2].partition("Options:")[0], re.MULTILINE)
     return {"": whole, **{name: made.run(made.PROGRAM, name, "--help").stdout for name in names}}
 
 
@@ -74,7 +74,7 @@ class Manual(unittest.TestCase):
     def test_it_says_all_that_the_help_says(self):
         page = spaced(self.page())
         for text in helps().values():
-            for line in re.findall(r"^ +\S.*?  +(\S.*)$", text, re.MULTILINE):
+            for line in re.findall(r"^ +(?!help )\S.*?  +(\S.*)$", text, re.MULTILINE):
                 self.assertIn(spaced(line), page)
             for block in text.split("\n\n"):
                 if not block.startswith(("Usage: ", "Options:", "Arguments:", "Commands:")):

@@ -2,8 +2,8 @@
 
 use crate::commands::{
     BOOKS, CHIPS, CommandRow, DEALT, FAULT_NUMBER, FED, FEED, GRAPH, LARGE, LIMIT, Operand,
-    OperandRow, OptionRow, OptionValue, PROGRESS, REPORT, RING, ROUNDS, SCHEDULE, TRACE,
-    TRACE_FILE, TRACE_ROWS, TURNS, WORKERS, commands,
+    OperandRow, OptionRow, OptionValue, PROGRESS, REPORT, RING, ROUNDS, RULE_NUMBER, SCHEDULE,
+    TRACE, TRACE_FILE, TRACE_ROWS, TURNS, WORKERS, commands,
 };
 use crate::fault::ArgumentsFault;
 use crate::help_texts as texts;
@@ -48,9 +48,9 @@ pub struct CheckArguments<'a> {
     pub large: bool,
 }
 
-/// A play on one thread that the arguments ask for.
+/// A play on one thread that the arguments ask for, from its beginning or from a report.
 #[derive(Clone, Copy)]
-pub struct PlainArguments<'a> {
+pub struct PlayArguments<'a> {
     pub game: GameArguments<'a>,
     pub progress: bool,
 }
@@ -99,26 +99,43 @@ pub enum Request<'a> {
     /// The help or the version, to be printed.
     Help(String),
     Check(CheckArguments<'a>),
-    Plain(PlainArguments<'a>),
+    Plain(PlayArguments<'a>),
     Simulate(SimulationArguments<'a>),
     Run(RunArguments<'a>),
     Replay(ReplayArguments<'a>),
     /// Its start is a report.
-    Resume(GameArguments<'a>),
+    Resume(PlayArguments<'a>),
     /// The number of a fault, if one is named.
     Explain(Option<u64>),
+    /// The number of a rule, if one is named.
+    ExplainRule(Option<u64>),
+}
+
+impl Request<'_> {
+    /// Whether it asks for lines on how it goes on.
+    pub fn has_progress(&self) -> bool {
+        match self {
+            Request::Plain(asked) => asked.progress,
+            Request::Run(asked) => asked.progress,
+            Request::Resume(asked) => asked.progress,
+            _ => false,
+        }
+    }
 }
 
 /// Reads the arguments, the program's own name first.
 pub fn parse<'a>(alloc: Global, arguments: &'a [String]) -> Result<Request<'a>, ArgumentsFault> {
     match program(alloc)?.try_get_matches_from(arguments) {
-        Ok(matches) => request_of(&matches, arguments).ok_or(ArgumentsFault::Usage),
+        Ok(matches) => match request_of(&matches, arguments) {
+            Some(request) => Ok(request),
+            None => Err(ArgumentsFault::Usage(String::new(alloc))),
+        },
         Err(error) => match error.kind() {
             ErrorKind::DisplayHelp | ErrorKind::DisplayVersion => {
                 Ok(Request::Help(error.to_string(alloc)?))
             }
             ErrorKind::OutOfMemory => Err(ArgumentsFault::NoMemory),
-            _ => Err(ArgumentsFault::Usage),
+            _ => Err(ArgumentsFault::Usage(error.to_string(alloc)?)),
         },
     }
 }
@@ -132,18 +149,15 @@ fn request_of<'a>(matches: &ArgMatches<'a>, arguments: &[String]) -> Option<Requ
             graph: found.file(GRAPH.name)?,
             large: matches.get_flag(LARGE.name),
         })),
-        "plain" => Some(Request::Plain(PlainArguments {
-            game: found.game(CHIPS)?,
-            progress: matches.get_flag(PROGRESS.name),
-        })),
+        "plain" => Some(Request::Plain(found.play(CHIPS)?)),
         "simulate" => Some(Request::Simulate(found.simulation()?)),
         "run" => Some(Request::Run(found.play_on_threads()?)),
         "replay" => Some(Request::Replay(ReplayArguments {
             game: found.game(CHIPS)?,
             trace: found.file(TRACE_FILE.name)?,
         })),
-        "resume" => Some(Request::Resume(found.game(REPORT)?)),
-        "explain" => Some(Request::Explain(matches.get_one::<u64>(FAULT_NUMBER.name))),
+        "resume" => Some(Request::Resume(found.play(REPORT)?)),
+        "explain" => found.explanation(),
         _ => None,
     }
 }
@@ -156,6 +170,25 @@ struct Found<'m, 'a> {
 }
 
 impl<'m, 'a> Found<'m, 'a> {
+    /// The play on one thread that is asked for, which starts with what this operand names.
+    fn play(&self, start: &OperandRow) -> Option<PlayArguments<'a>> {
+        Some(PlayArguments {
+            game: self.game(start)?,
+            progress: self.matches.get_flag(PROGRESS.name),
+        })
+    }
+
+    /// The explanation that is asked for: of a fault, or behind the word `rule` of a rule.
+    fn explanation(&self) -> Option<Request<'a>> {
+        let rule = self.matches.get_one::<u64>(RULE_NUMBER.name);
+        match self.matches.get_str(FAULT_NUMBER.name) {
+            None => Some(Request::Explain(None)),
+            Some("rule") => Some(Request::ExplainRule(rule)),
+            Some(number) if rule.is_none() => Some(Request::Explain(Some(number.parse().ok()?))),
+            Some(_) => None,
+        }
+    }
+
     /// The simulation that is asked for.
     fn simulation(&self) -> Option<SimulationArguments<'a>> {
         Some(SimulationArguments {
@@ -241,7 +274,6 @@ fn program<'a>(alloc: Global) -> Result<Command<'a>, AllocError> {
         .about("A chip-firing machine that is proved right")
         .version(texts::VERSION)
         .after_help(texts::PROGRAM)
-        .disable_help_subcommand(true)
         .subcommand_required(true)
         .subcommands(commands)
 }
@@ -286,6 +318,7 @@ fn argument_of_operand<'a>(alloc: Global, row: &OperandRow) -> Arg<'a> {
     let argument = Arg::new(alloc, row.name).help(row.help);
     match row.is {
         Operand::File => argument.required(true),
+        Operand::Word => argument,
         Operand::Number => argument.value_parser(ValueParser::Unsigned(0, u64::MAX)),
     }
 }

@@ -27,6 +27,8 @@ pub struct OperandRow {
 pub enum Operand {
     /// A file, which has to be named.
     File,
+    /// A word, which may be left out.
+    Word,
     /// A number, which may be left out.
     Number,
 }
@@ -85,7 +87,13 @@ pub const REPORT: &OperandRow = &OperandRow {
 
 pub const FAULT_NUMBER: &OperandRow = &OperandRow {
     name: "NUMBER",
-    help: "The number of a fault, as in `fault 21 Shape`",
+    help: "The number of a fault, as in `fault 21 Shape`, or the word `rule`",
+    is: Operand::Word,
+};
+
+pub const RULE_NUMBER: &OperandRow = &OperandRow {
+    name: "RULE",
+    help: "Behind the word `rule`: the number of a rule, as in `not-now 11`",
     is: Operand::Number,
 };
 
@@ -238,14 +246,14 @@ const RESUME: &CommandRow = &CommandRow {
     about: "Goes on from where a report says that a play stopped, and writes the report of this sitting",
     after_help: texts::RESUME,
     operands: &[GRAPH, REPORT],
-    options: &[LIMIT, LARGE],
+    options: &[LIMIT, LARGE, PROGRESS],
 };
 
 const EXPLAIN: &CommandRow = &CommandRow {
     name: "explain",
-    about: "Explains the fault with a number, or lists all faults",
+    about: "Explains the fault or the rule with a number, or lists all of them",
     after_help: texts::EXPLAIN,
-    operands: &[FAULT_NUMBER],
+    operands: &[FAULT_NUMBER, RULE_NUMBER],
     options: &[],
 };
 

@@ -6,9 +6,9 @@ use thiserror::Error;
 /// Why arguments ask for nothing.
 #[derive(Debug, Drop, Error)]
 pub enum ArgumentsFault {
-    /// They are not as the help says.
+    /// They are not as the help says; what the command-line library says of them, where it does.
     #[error("the arguments are not as `--help` says")]
-    Usage,
+    Usage(String),
     /// There is no memory for them.
     #[error("there is no memory for the arguments")]
     NoMemory,

@@ -7,8 +7,10 @@ pub const PROGRAM: &str = "\
 Exit status: 0 done, or closed with no vertex halted; 1 a fault, which is one line on
 standard error; 2 closed with some vertex halted; 3 the root is open.
 
-`chipfire explain N` says what fault N means and what to do; `chipfire COMMAND --help`
-has the options, the statuses and an example of a command.
+`chipfire explain N` says what fault N means and what to do; `chipfire help COMMAND` has
+the options, the statuses and an example of a command.
+
+For one of its files a command takes -, which is standard input.
 
 A graph has at most 4096 vertices and 65536 edges, and a file 16777216 bytes. --large lifts
 the limits of every command: to 1048576, 8388608 and 268435456.
@@ -85,6 +87,8 @@ report names under \"over\"; 1 a fault, which `chipfire explain N` explains.
 Example: chipfire resume graph.json report.json --limit 1000 >next.json";
 
 pub const EXPLAIN: &str = "\
-Exit status: 0 done; 1 a fault: 91 where no fault has this number.
+The answer `not-now N` of `simulate` names a rule: `chipfire explain rule N` explains it.
+
+Exit status: 0 done; 1 a fault: 91 where no fault and no rule has this number.
 
 Example: chipfire explain 21";

@@ -5,7 +5,7 @@
 #![tactic(auto)]
 
 pub use arguments::{
-    CheckArguments, FileArgument, GameArguments, PlainArguments, ReplayArguments, Request,
+    CheckArguments, FileArgument, GameArguments, PlayArguments, ReplayArguments, Request,
     RunArguments, SimulationArguments, parse,
 };
 pub use fault::ArgumentsFault;

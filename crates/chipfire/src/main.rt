@@ -7,10 +7,10 @@
 ghost use Rattle.std.specs.Prelude.{◌≡◌, None};
 
 use chip_arguments::{
-    ArgumentsFault, CheckArguments, FileArgument, GameArguments, PlainArguments, ReplayArguments,
-    Request, RunArguments, SimulationArguments, limits, parse,
+    ArgumentsFault, CheckArguments, GameArguments, PlayArguments, ReplayArguments, Request,
+    RunArguments, SimulationArguments, limits, parse,
 };
-use chip_command::{Ended, Fault, Status, conclude, explanations};
+use chip_command::{Ended, Fault, Status, conclude, explanations, rules};
 use chip_crew::{MAX_TRACE_ROWS, MAX_TURNS, MAX_WORKERS, Plan, Sharing};
 use chip_engine::{
     PlayOptions, SimulateOptions, check_engine_with, explain_engine, plain_engine,
@@ -19,17 +19,20 @@ use chip_engine::{
 use chip_graph::{Limits, MAX_LIMIT};
 use chip_link::{MAX_RING, Ring};
 use chip_run::{RunOptions, run_engine_with};
-use progress::{ReadProgress, RoundProgress, Teller, TurnProgress};
-use std::fs::{File, Metadata};
-use std::os::fd::AsRawFd;
-use std::os::unix::fs::MetadataExt;
+use console::{Console, Reader};
+use progress::{RoundProgress, TurnProgress};
+use std::fs::File;
+use std::io::{Input, IsTerminal};
 use std::process::ExitCode;
 use std::rt::{Clock, Env, Files};
 use std::sync::Wait;
 use std::thread::Threads;
-use std::{env, fs, io};
+use std::{env, io};
+use terminal::tell_more;
 
+mod console;
 mod progress;
+mod terminal;
 
 // What the arguments may ask for is what the engines take.
 const _: () = prove!(limits::MAX_LIMIT == MAX_LIMIT);
@@ -49,7 +52,9 @@ const TRIANGLE: &str =
 const FOUR_CHIPS: &str = "vertex,chips\n0,4\n";
 
 fn main(rt: HostRuntime) -> ExitCode {
-    match run(&rt) {
+    // What the command-line library says of the arguments, or the name of the file that was opened or read last.
+    let mut about = String::new(rt.alloc());
+    match run(&rt, &mut about) {
         Ok(ended) => {
             if ended.cut {
                 let _ = eprintln!(&rt; "chipfire: trace cut");
@@ -59,15 +64,27 @@ fn main(rt: HostRuntime) -> ExitCode {
         Err(fault) => {
             // Where even this cannot be written, the status still tells.
             let _ = eprintln!(&rt; "chipfire: {fault}");
+            if rt.stderr().is_terminal() {
+                let _ = tell_more(&rt, &fault, &about);
+            }
             ExitCode::from(fault.status().number())
         }
     }
 }
 
-/// Does what the program's arguments ask for.
-fn run<R: Env + Files<File = File> + Print + Eprint + Clock + AllocGlobal + Threads + Wait + Sync>(
-    rt: &R,
-) -> Result<Ended, Fault> {
+/// Does what the program's arguments ask for. Of a fault it tells what it is about, where there is memory for that.
+fn run<
+    R: Env
+        + Files<File = File>
+        + Input
+        + Print
+        + Eprint
+        + Clock
+        + AllocGlobal
+        + Threads
+        + Wait
+        + Sync,
+>(rt: &R, about: &mut String) -> Result<Ended, Fault> {
     let arguments: Vec<String> = env::args(rt)
         .map_err(fault_of_arguments)?
         .collect(rt.alloc())?;
@@ -77,79 +94,103 @@ fn run<R: Env + Files<File = File> + Print + Eprint + Clock + AllocGlobal + Thre
         return plain_engine(rt.alloc(), &mut graph, &mut chips, MAX_LIMIT, &mut output);
     }
     match parse(rt.alloc(), &arguments) {
-        Ok(request) => serve(rt, &request, &mut output),
-        Err(fault) => Err(fault_of(fault)),
+        Ok(request) => {
+            let console = Console::start(rt, request.has_progress());
+            let ended = serve(&console, &request, &mut output);
+            if let Some(place) = console.last_argument() {
+                if let Some(argument) = arguments.get(place) {
+                    let _ = about.push_str(argument.as_str());
+                }
+            }
+            ended
+        }
+        Err(ArgumentsFault::Usage(said)) => {
+            *about = said;
+            Err(Fault::Usage)
+        }
+        Err(ArgumentsFault::NoMemory) => Err(Fault::NoMemory),
     }
 }
 
 /// Does what is asked for.
 fn serve<
-    R: Files<File = File> + Clock + Eprint + AllocGlobal + Threads + Wait + Sync,
+    R: Files<File = File> + Input + Clock + Eprint + AllocGlobal + Threads + Wait + Sync,
     W: io::Write,
->(rt: &R, request: &Request<'_>, output: &mut W) -> Result<Ended, Fault> {
+>(console: &Console<'_, R>, request: &Request<'_>, output: &mut W) -> Result<Ended, Fault> {
+    let alloc = console.rt.alloc();
     match request {
         Request::Help(text) => conclude(output, text.as_bytes(), Ended::of(Status::Done)),
-        Request::Check(asked) => check(rt, asked, output),
-        Request::Plain(asked) => play(rt, asked, output),
-        Request::Simulate(asked) => simulate(rt, asked, output),
-        Request::Run(asked) => play_on_threads(rt, asked, output),
-        Request::Replay(asked) => replay(rt, asked, output),
-        Request::Resume(asked) => resume(rt, asked, output),
-        Request::Explain(number) => explain_engine(rt.alloc(), &explanations(), *number, output),
+        Request::Check(asked) => check(console, asked, output),
+        Request::Plain(asked) => play(console, asked, output),
+        Request::Simulate(asked) => simulate(console, asked, output),
+        Request::Run(asked) => play_on_threads(console, asked, output),
+        Request::Replay(asked) => replay(console, asked, output),
+        Request::Resume(asked) => resume(console, asked, output),
+        Request::Explain(number) => explain_engine(
+            alloc,
+            "fault",
+            &explanations(),
+            *number,
+            output,
+        ),
+        Request::ExplainRule(number) => explain_engine(alloc, "rule", &rules(), *number, output),
     }
 }
 
 /// Looks whether a graph is one.
-fn check<R: Files + AllocGlobal, W: io::Write>(
-    rt: &R,
+fn check<R: Files<File = File> + Input + Clock + Eprint + AllocGlobal, W: io::Write>(
+    console: &Console<'_, R>,
     asked: &CheckArguments<'_>,
     output: &mut W,
 ) -> Result<Ended, Fault> {
-    let mut graph = open(rt, &asked.graph)?;
-    check_engine_with(rt.alloc(), &mut graph, limits_of(asked.large), output)
+    let mut graph = console.open(&asked.graph)?;
+    check_engine_with(
+        console.rt.alloc(),
+        &mut graph,
+        limits_of(asked.large),
+        output,
+    )
 }
 
 /// Plays a game on one thread.
-fn play<R: Files + Clock + Eprint + AllocGlobal, W: io::Write>(
-    rt: &R,
-    asked: &PlainArguments<'_>,
+fn play<R: Files<File = File> + Input + Clock + Eprint + AllocGlobal, W: io::Write>(
+    console: &Console<'_, R>,
+    asked: &PlayArguments<'_>,
     output: &mut W,
 ) -> Result<Ended, Fault> {
-    let teller = Teller::start(rt, asked.progress);
-    let (graph, chips) = open_game(rt, &asked.game)?;
+    let (mut graph, mut chips) = open_game(console, &asked.game)?;
     plain_engine_with(
-        rt.alloc(),
-        &mut ReadProgress::start(&teller, graph),
-        &mut ReadProgress::start(&teller, chips),
+        console.rt.alloc(),
+        &mut graph,
+        &mut chips,
         play_options(&asked.game),
-        &mut RoundProgress::start(&teller),
+        &mut RoundProgress::start(console),
         output,
     )
 }
 
 /// Plays a game on threads.
 fn play_on_threads<
-    R: Files<File = File> + Clock + Eprint + AllocGlobal + Threads + Wait + Sync,
+    R: Files<File = File> + Input + Clock + Eprint + AllocGlobal + Threads + Wait + Sync,
     W: io::Write,
->(rt: &R, asked: &RunArguments<'_>, output: &mut W) -> Result<Ended, Fault> {
-    let teller = Teller::start(rt, asked.progress);
-    let (graph, chips) = open_game(rt, &asked.game)?;
-    let feed = match &asked.feed {
-        Some(file) => Some(open(rt, file)?),
+>(console: &Console<'_, R>, asked: &RunArguments<'_>, output: &mut W) -> Result<Ended, Fault> {
+    let (mut graph, mut chips) = open_game(console, &asked.game)?;
+    let mut feed = match &asked.feed {
+        Some(file) => Some(console.open(file)?),
         None => None,
     };
     let mut trace = match &asked.trace {
-        Some(file) => Some(create(rt, file, &[Some(&graph), Some(&chips), feed.as_ref()])?),
+        Some(file) => Some(console.create(file, &graph, &chips, feed.as_ref())?),
         None => None,
     };
     run_engine_with(
-        rt,
-        rt.alloc(),
-        &mut ReadProgress::start(&teller, graph),
-        &mut ReadProgress::start(&teller, chips),
-        feed.map(|file| ReadProgress::start(&teller, file)).as_mut(),
+        console.rt,
+        console.rt.alloc(),
+        &mut graph,
+        &mut chips,
+        feed.as_mut(),
         options_of(asked),
-        &TurnProgress::start(&teller),
+        &TurnProgress::start(console),
         &mut trace,
         output,
     )
@@ -178,14 +219,14 @@ fn options_of(asked: &RunArguments<'_>) -> RunOptions
 }
 
 /// Runs a schedule.
-fn simulate<R: Files + AllocGlobal, W: io::Write>(
-    rt: &R,
+fn simulate<R: Files<File = File> + Input + Clock + Eprint + AllocGlobal, W: io::Write>(
+    console: &Console<'_, R>,
     asked: &SimulationArguments<'_>,
     output: &mut W,
 ) -> Result<Ended, Fault> {
     let ring = Ring::new(asked.ring).ok_or(Fault::Usage)?;
-    let (mut graph, mut chips) = open_game(rt, &asked.game)?;
-    let mut schedule = open(rt, &asked.schedule)?;
+    let (mut graph, mut chips) = open_game(console, &asked.game)?;
+    let mut schedule = console.open(&asked.schedule)?;
     let options = SimulateOptions {
         play: play_options(&asked.game),
         ring,
@@ -194,7 +235,7 @@ fn simulate<R: Files + AllocGlobal, W: io::Write>(
         fed: asked.fed,
     };
     simulate_engine_with(
-        rt.alloc(),
+        console.rt.alloc(),
         &mut graph,
         &mut chips,
         &mut schedule,
@@ -204,15 +245,15 @@ fn simulate<R: Files + AllocGlobal, W: io::Write>(
 }
 
 /// Replays a recorded run.
-fn replay<R: Files + AllocGlobal, W: io::Write>(
-    rt: &R,
+fn replay<R: Files<File = File> + Input + Clock + Eprint + AllocGlobal, W: io::Write>(
+    console: &Console<'_, R>,
     asked: &ReplayArguments<'_>,
     output: &mut W,
 ) -> Result<Ended, Fault> {
-    let (mut graph, mut chips) = open_game(rt, &asked.game)?;
-    let mut trace = open(rt, &asked.trace)?;
+    let (mut graph, mut chips) = open_game(console, &asked.game)?;
+    let mut trace = console.open(&asked.trace)?;
     replay_engine_with(
-        rt.alloc(),
+        console.rt.alloc(),
         &mut graph,
         &mut chips,
         &mut trace,
@@ -222,14 +263,20 @@ fn replay<R: Files + AllocGlobal, W: io::Write>(
 }
 
 /// Goes on with a play.
-fn resume<R: Files + AllocGlobal, W: io::Write>(
-    rt: &R,
-    asked: &GameArguments<'_>,
+fn resume<R: Files<File = File> + Input + Clock + Eprint + AllocGlobal, W: io::Write>(
+    console: &Console<'_, R>,
+    asked: &PlayArguments<'_>,
     output: &mut W,
 ) -> Result<Ended, Fault> {
-    let (mut graph, mut report) = open_game(rt, asked)?;
-    let options = play_options(asked);
-    resume_engine_with(rt.alloc(), &mut graph, &mut report, options, output)
+    let (mut graph, mut report) = open_game(console, &asked.game)?;
+    resume_engine_with(
+        console.rt.alloc(),
+        &mut graph,
+        &mut report,
+        play_options(&asked.game),
+        &mut RoundProgress::start(console),
+        output,
+    )
 }
 
 /// How large a game may be, and how often a vertex may fire.
@@ -250,47 +297,11 @@ fn limits_of(large: bool) -> Limits {
 }
 
 /// Opens the graph of a game, and then what the game starts with.
-fn open_game<R: Files>(rt: &R, game: &GameArguments<'_>) -> Result<(R::File, R::File), Fault> {
-    Ok((open(rt, &game.graph)?, open(rt, &game.start)?))
-}
-
-/// Opens the file that an argument names. Nothing is allocated for it, so where the system wants memory the file could
-/// not be opened.
-fn open<R: Files>(rt: &R, file: &FileArgument<'_>) -> Result<R::File, Fault> {
-    fs::open(rt, file.path).map_err(|_| Fault::Open(file.number))
-}
-
-/// Makes the file that an argument names anew, unless it is one of these inputs.
-fn create<R: Files<File = File>>(
-    rt: &R,
-    file: &FileArgument<'_>,
-    inputs: &[Option<&File>],
-) -> Result<File, Fault> {
-    let fault = Fault::Open(file.number);
-    if let Ok(old) = fs::metadata(rt, file.path) {
-        for input in inputs {
-            if let Some(open) = input {
-                if is_file(open, &old) {
-                    return Err(fault);
-                }
-            }
-        }
-    }
-    let made = fs::create(rt, file.path).map_err(|_| fault)?;
-    // A file may get the number of a standard stream that is closed, and then a fault's line would go into it. A copy
-    // has none of the first three numbers.
-    if made.as_raw_fd() > 2 {
-        return Ok(made);
-    }
-    made.try_clone().map_err(|_| fault)
-}
-
-/// Whether an open file is the one that was found so.
-fn is_file(open: &File, found: &Metadata) -> bool {
-    match open.metadata() {
-        Ok(now) => now.dev() == found.dev() && now.ino() == found.ino(),
-        Err(_) => false,
-    }
+fn open_game<'a, R: Files<File = File> + Input + Clock + Eprint>(
+    console: &'a Console<'_, R>,
+    game: &GameArguments<'_>,
+) -> Result<(Reader<'a, R>, Reader<'a, R>), Fault> {
+    Ok((console.open(&game.graph)?, console.open(&game.start)?))
 }
 
 /// Why there are no arguments: there is no memory for them, or one is no UTF-8.
@@ -299,14 +310,5 @@ fn fault_of_arguments(error: io::Error) -> Fault {
     match error.kind() {
         io::ErrorKind::OutOfMemory => Fault::NoMemory,
         _ => Fault::Usage,
-    }
-}
-
-/// The fault of arguments that are refused.
-#[cold]
-fn fault_of(fault: ArgumentsFault) -> Fault {
-    match fault {
-        ArgumentsFault::Usage => Fault::Usage,
-        ArgumentsFault::NoMemory => Fault::NoMemory,
     }
 }

@@ -1,0 +1,196 @@
+//! What a command reads, and the lines that it writes on standard error while it goes on.
+
+use chip_arguments::FileArgument;
+use chip_command::Fault;
+use std::fs::{File, Metadata};
+use std::io::{Input, Read};
+use std::os::fd::AsRawFd;
+use std::os::unix::fs::MetadataExt;
+use std::rt::{Clock, Files};
+use std::sync::atomic::Ordering::SeqCst;
+use std::sync::atomic::{AtomicBool, AtomicU64};
+use std::time::Instant;
+use std::{fs, io};
+
+/// The name of standard input.
+const STANDARD_INPUT: &str = "-";
+
+/// How many milliseconds lie between two lines of progress at least, and before the first.
+const PAUSE: u64 = 1000;
+
+/// When lines of progress are written.
+#[derive(Drop)]
+struct Pace {
+    start: Instant,
+    /// When the last line was, in milliseconds from the start.
+    last: AtomicU64,
+}
+
+impl Pace {
+    /// From now on, where lines are asked for and the clock can be read.
+    fn start(clock: &impl Clock, asked: bool) -> Option<Pace> {
+        if !asked {
+            return None;
+        }
+        Some(Pace {
+            start: Instant::now(clock).ok()?,
+            last: AtomicU64::new(0),
+        })
+    }
+
+    /// Whether a line is to be written now. Of threads that ask at one time it is one that writes.
+    fn is_due(&self, clock: &impl Clock) -> bool {
+        let Ok(passed) = self.start.elapsed(clock) else {
+            return false;
+        };
+        let now = u64::try_from(passed.as_millis()).unwrap_or(u64::MAX);
+        let last = self.last.load(SeqCst);
+        now.saturating_sub(last) >= PAUSE
+            && self
+                .last
+                .compare_exchange(last, now, SeqCst, SeqCst)
+                .is_ok()
+    }
+}
+
+/// What a command reads, and when it writes lines of progress.
+#[derive(Drop)]
+pub struct Console<'a, R: Clock + Eprint> {
+    pub rt: &'a R,
+    pace: Option<Pace>,
+    /// The number of the argument whose file was opened or read last, 0 where there is none.
+    last: AtomicU64,
+    /// Whether standard input is read.
+    has_standard: AtomicBool,
+}
+
+impl<'a, R: Clock + Eprint> Console<'a, R> {
+    /// From now on, with lines of progress where they are asked for.
+    pub fn start(rt: &'a R, has_progress: bool) -> Console<'a, R> {
+        Console {
+            rt,
+            pace: Pace::start(rt, has_progress),
+            last: AtomicU64::new(0),
+            has_standard: AtomicBool::new(false),
+        }
+    }
+
+    /// Whether a line of progress is to be written now.
+    pub fn is_due(&self) -> bool {
+        match &self.pace {
+            Some(pace) => pace.is_due(self.rt),
+            None => false,
+        }
+    }
+
+    /// Which of the process's arguments names what was opened or read last, if one does.
+    pub fn last_argument(&self) -> Option<usize> {
+        match self.last.load(SeqCst) {
+            0 => None,
+            number => Some((number as usize).saturating_add(1)),
+        }
+    }
+}
+
+impl<R: Files<File = File> + Input + Clock + Eprint> Console<'_, R> {
+    /// Opens the file that an argument names, or takes standard input, which is taken once. Nothing is allocated for it, so
+    /// where the system wants memory the file could not be opened.
+    pub fn open(&self, file: &FileArgument<'_>) -> Result<Reader<'_, R>, Fault> {
+        self.last.store(file.number, SeqCst);
+        let source = if file.path != STANDARD_INPUT {
+            let opened = fs::open(self.rt, file.path).and_then(above_streams);
+            Source::File(opened.map_err(|_| Fault::Open(file.number))?)
+        } else if self.has_standard.swap(true, SeqCst) {
+            return Err(Fault::Open(file.number));
+        } else {
+            Source::Standard(self.rt.reader())
+        };
+        Ok(Reader {
+            console: self,
+            argument: file.number,
+            source,
+            bytes: 0,
+        })
+    }
+
+    /// Makes the file that an argument names anew, unless it is one of these inputs.
+    pub fn create(
+        &self,
+        file: &FileArgument<'_>,
+        graph: &Reader<'_, R>,
+        chips: &Reader<'_, R>,
+        feed: Option<&Reader<'_, R>>,
+    ) -> Result<File, Fault> {
+        self.last.store(file.number, SeqCst);
+        let fault = Fault::Open(file.number);
+        if let Ok(old) = fs::metadata(self.rt, file.path) {
+            let is_feed = match feed {
+                Some(feed) => feed.is_file(&old),
+                None => false,
+            };
+            if is_feed || graph.is_file(&old) || chips.is_file(&old) {
+                return Err(fault);
+            }
+        }
+        fs::create(self.rt, file.path)
+            .and_then(above_streams)
+            .map_err(|_| fault)
+    }
+}
+
+/// A file may get the number of a standard stream that is closed, and then be read in its place, or get a fault's line. A
+/// copy has none of the first three numbers.
+fn above_streams(file: File) -> io::Result<File> {
+    if file.as_raw_fd() > 2 {
+        return Ok(file);
+    }
+    file.try_clone()
+}
+
+/// Where bytes are read from.
+#[derive(Drop)]
+enum Source<S: Drop> {
+    File(File),
+    Standard(S),
+}
+
+/// What a command reads. Its console knows when it is read, and tells how many bytes of it were.
+#[derive(Drop)]
+pub struct Reader<'a, R: Input + Clock + Eprint> {
+    console: &'a Console<'a, R>,
+    /// The number of the argument that names it.
+    argument: u64,
+    source: Source<R::Reader>,
+    /// How many bytes were read, up to 2^64 - 1.
+    bytes: u64,
+}
+
+impl<R: Files<File = File> + Input + Clock + Eprint> Reader<'_, R> {
+    /// Whether it is the file that was found so.
+    fn is_file(&self, found: &Metadata) -> bool {
+        let now = match &self.source {
+            Source::File(file) => file.metadata(),
+            Source::Standard(_) => fs::metadata(self.console.rt, "/dev/stdin"),
+        };
+        match now {
+            Ok(now) => now.dev() == found.dev() && now.ino() == found.ino(),
+            Err(_) => false,
+        }
+    }
+}
+
+impl<R: Input + Clock + Eprint> Read for Reader<'_, R> {
+    fn read(&mut self, buf: &mut [u8]) -> io::Result<usize> {
+        self.console.last.store(self.argument, SeqCst);
+        let count = match &mut self.source {
+            Source::File(file) => file.read(buf)?,
+            Source::Standard(stream) => stream.read(buf)?,
+        };
+        self.bytes = self.bytes.saturating_add(count as u64);
+        if self.console.is_due() {
+            let bytes = self.bytes;
+            let _ = eprintln!(self.console.rt; "chipfire: progress: reading, {bytes} bytes");
+        }
+        Ok(count)
+    }
+}

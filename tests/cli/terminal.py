@@ -1,0 +1,123 @@
+"""What a person at a terminal is told of a fault, tried in a pseudo-terminal: below the line of the fault stand the file and
+the row, or what is wrong with the arguments. Where standard error is no terminal there is that line alone. And standard
+input where it is closed, and where it is the file of a trace.
+"""
+import os
+import pty
+import subprocess
+import tempfile
+
+SECONDS = 60
+FILES = {
+    "graph.json": '{"edges":[[0,1,1],[0,2,1],[1,0,1],[1,2,1]],"sink":2,"version":1,"vertices":3}',
+    "far.json": '{"edges":[],"sink":1,"version":1,"vertices":2}',
+    "chips.csv": "vertex,chips\n0,4\n",
+    "none.csv": "vertex,chips\n",
+    "words.csv": "vertex,chips\n0,4\n1,some\n",
+    "early.csv": "event,at,count\ntake,4,0\nwait,0,0\n",
+    "trace.csv": "vertex,kind,edge,count\n0,fire,0,1\n",
+    "report.json": '{"chips":[4],"closed":true,"fired":[0],"over":[],"sealed":[],"version":1}\n',
+}
+NUMBER = "fault 25 Number i: a field of row i is no number"
+# For each command the fault, and what is told below it, without the line that names `explain`.
+TOLD = {
+    "plain graph.json words.csv": ("25 Number 1", ["in words.csv: row 1, which is line 3 where no line is empty", NUMBER]),
+    "plain words.csv chips.csv": ("20 NotJson", ["in words.csv", "fault 20 NotJson: the graph file is no JSON"]),
+    "check far.json": ("8 Unreached 0", ["in far.json", "fault 8 Unreached v: no walk leads from vertex v to the sink"]),
+    "plain graph.json far.csv": ("92 Open 2", ["in far.csv", "fault 92 Open n: the file that argument n names could not be opened"]),
+    "plain - chips.csv": ("20 NotJson", ["in -", "fault 20 NotJson: the graph file is no JSON"]),
+    "run graph.json none.csv --feed words.csv":
+        ("25 Number 1", ["in words.csv: row 1, which is line 3 where no line is empty", NUMBER]),
+    "run graph.json none.csv --trace chips.csv --feed chips.csv":
+        ("92 Open 4", ["in chips.csv", "fault 92 Open n: the file that argument n names could not be opened"]),
+    "run graph.json chips.csv --workers 1 --turns 1":
+        ("61 Unfinished 1", ["fault 61 Unfinished n: the threads made all their turns before the game was over"]),
+    "simulate graph.json chips.csv early.csv":
+        ("28 Kind 1", ["in early.csv: row 1, which is line 3 where no line is empty", "fault 28 Kind i: row i is of no kind that there is"]),
+    "replay graph.json none.csv trace.csv":
+        ("70 Stuck 0 0", ["in trace.csv", "fault 70 Stuck v i: the rows of a trace fit together in no order"]),
+    "resume graph.json report.json":
+        ("52 Mismatch", ["in report.json", "fault 52 Mismatch: the report has another number of vertices than the graph"]),
+    "explain 12": ("91 Usage", ["fault 91 Usage: the arguments are no command"]),
+}
+# Commands that are none, and the words that have to stand below the fault.
+WRONG = {
+    "run graph.json chips.csv --wrokers 3": ["--wrokers", "--workers"],
+    "plain graph.json chips.csv --limit 1e3": ["1e3", "--limit"],
+    "plain graph.json": ["CHIPS", "Usage: ", "plain"],
+    "expalin 21": ["expalin", "explain"],
+}
+
+
+def run(program, words, is_terminal, **how):
+    """The status of a run, and what it wrote on standard output and on standard error, which may be a terminal."""
+    with tempfile.TemporaryDirectory(prefix="chipfire-terminal-") as room:
+        for name, text in FILES.items():
+            with open(f"{room}/{name}", "w", encoding="utf-8") as file:
+                file.write(text)
+        ours, theirs = pty.openpty() if is_terminal else os.pipe()
+        how = {"stdin": subprocess.DEVNULL, "stdout": subprocess.PIPE, "stderr": theirs, "cwd": room, **how}
+        ran = subprocess.run([program, *words.split()], timeout=SECONDS, encoding="utf-8", **how)
+        os.close(theirs)
+        told = b""
+        try:
+            while some := os.read(ours, 4096):
+                told += some
+        except OSError:  # (so ends what a terminal gave whose other side is closed)
+            pass
+        os.close(ours)
+        with open(f"{room}/chips.csv", encoding="utf-8") as file:
+            kept = file.read() == FILES["chips.csv"]
+    return ran.returncode, ran.stdout, told.decode().replace("\r\n", "\n"), kept
+
+
+def told_of(program, words):
+    """What is told wrongly of a fault that is known."""
+    fault, more = TOLD[words]
+    line = f"chipfire: fault {fault}\n"
+    number = fault.split()[0]
+    below = "".join(f"  {it}\n" for it in [*more, f"`chipfire explain {number}` says more."])
+    status = 3 if number == "61" else 1
+    wanted = (status, "", line + below, True), (status, "", line, True)
+    got = run(program, words, True), run(program, words, False)
+    return [] if got == wanted else [f"expected {wanted}, got {got}"]
+
+
+def told_of_wrong(program, words):
+    """What is told wrongly of arguments that are no command."""
+    status, out, told, _ = run(program, words, True)
+    line, _, below = told.partition("\n")
+    alone = run(program, words, False)
+    missing = [it for it in WRONG[words] if it not in below]
+    is_well = (status, out, line) == (1, "", "chipfire: fault 91 Usage") and alone == (1, "", line + "\n", True)
+    return [] if is_well and not missing else [f"{missing} is missing, or the rest is wrong: {told!r}, {alone}"]
+
+
+def without_input(program, words):
+    """What is wrong where standard input is closed: nothing is read in its place, though a file gets its number."""
+    got = run(program, words, False, stdin=None, preexec_fn=lambda: os.close(0))
+    wanted = 1, "", "chipfire: fault 29 Read\n", True
+    return [] if got == wanted else [f"expected {wanted}, got {got}"]
+
+
+def traced_into_input(program):
+    """What is wrong where the file of a trace is standard input, which it would empty."""
+    got = run(program, "run graph.json - --trace chips.csv", False, shell=False, stdin=None, preexec_fn=take_chips)
+    wanted = 1, "", "chipfire: fault 92 Open 4\n", True
+    return [] if got == wanted else [f"expected {wanted}, got {got}"]
+
+
+def take_chips():
+    """Has standard input be the chips, in the process that is about to be the program."""
+    os.dup2(os.open("chips.csv", os.O_RDONLY), 0)
+
+
+def play_terminals(program):
+    """Yields of each run its place, its name and what was not as it must be."""
+    for words in TOLD:
+        yield "terminal.py", f"chipfire {words}", told_of(program, words)
+    for words in WRONG:
+        yield "terminal.py", f"chipfire {words}", told_of_wrong(program, words)
+    for words in ("check -", "plain graph.json -", "run graph.json none.csv --feed -"):
+        yield "terminal.py", f"standard input is closed: chipfire {words}", without_input(program, words)
+    yield "terminal.py", "a trace into standard input", traced_into_input(program)

@@ -39,8 +39,7 @@ which forms chips come, and `Report.picture` what can be drawn.
 
 A vertex has a number from 0 on, and where a graph comes from elsewhere also a name. Sequences and arrays go by numbers,
 dicts and Series of pandas by names. Numbers of chips and firings go up to 2^40. A graph has up to 1,048,576 vertices
-and 8,388,608 edges; for `run`, `simulate` and `replay` up to 4,096 and 65,536. The argument `large` does nothing: what
-is large is seen by itself.
+and 8,388,608 edges. The argument `large` does nothing: what is large is seen by itself.
 """
 
 from chipfire import machine as machine

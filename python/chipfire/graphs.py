@@ -124,7 +124,7 @@ class Graph:
 
     @property
     def is_large(self) -> bool:
-        """Whether there are more than 4,096 vertices or 65,536 edges, which not all commands take."""
+        """Whether there are more than 4,096 vertices or 65,536 edges, which the program takes with `--large`."""
         return self.vertices > MAX_VERTICES or len(self.columns.tails) > MAX_EDGES
 
     @functools.cached_property

@@ -20,7 +20,7 @@ import weakref
 from collections.abc import Iterable, Mapping, Sequence
 from typing import TYPE_CHECKING, Any, Union
 
-from chipfire.values import HERE, MAX_EDGES, MAX_LARGE_EDGES, MAX_LARGE_VERTICES, MAX_VERTICES, FileName, own_text
+from chipfire.values import HERE, MAX_LARGE_EDGES, MAX_LARGE_VERTICES, FileName, own_text
 
 if TYPE_CHECKING:
     from chipfire.graphs import Graph
@@ -30,9 +30,7 @@ _CARRIED = os.path.join(HERE, "program", "chipfire")
 _REPOSITORY = os.path.dirname(os.path.dirname(HERE))
 #: How a line begins that tells of a long play.
 _PROGRESS = "chipfire: progress: "
-#: The commands that take large graphs, and which of the given files a fault of a number can be of.
-_LARGE = ("check", "plain", "resume")
-_LIMITS = (MAX_VERTICES, MAX_EDGES, 2**24), (MAX_LARGE_VERTICES, MAX_LARGE_EDGES, 2**28)
+#: Which of the given files a fault of a number can be of.
 _OF_GRAPH, _OF_ROWS = (*range(1, 9), 20, 21, 22), (*range(23, 29), 10)
 #: What makes a process end with the one that started it (PR_SET_PDEATHSIG), where the system has that.
 _PRCTL = ctypes.CDLL(None).prctl if sys.platform == "linux" else None
@@ -137,7 +135,7 @@ def ask(
     one that is True has no value.
     """
     path = find_program() if program is None else os.fspath(program)
-    options = {"large": command in _LARGE and (graph is None or graph.is_large), **(options or {})}
+    options = {"large": graph is None or graph.is_large, **(options or {})}
     given = {name: value for name, value in options.items() if value is not None and value is not False}
     words = [command, *(f"--feed={_word(file)}" if kind == "feed" else _word(file) for kind, file in inputs)]
     words += [f"--{name}" if value is True else f"--{name}={value}" for name, value in given.items()]
@@ -166,7 +164,7 @@ def _meant(
     number: int, place: tuple[int, ...], words: Sequence[str], inputs: Sequence[Input], graph: Graph | None
 ) -> str:
     """Which of the files a fault is about, by its name, or what is wrong with the graph that Python has."""
-    vertices, edges, size = _LIMITS[words[0] in _LARGE]
+    vertices, edges, size = MAX_LARGE_VERTICES, MAX_LARGE_EDGES, 2**28
     if number <= 8 and graph is not None:
         return f"{graph.wrong(vertices, edges)}."
     if number in (1, 3, 30):

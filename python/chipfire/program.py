@@ -119,8 +119,7 @@ def run(
     graphs are then played quicker, by as many threads as there are processors. The report is the same.
     `feed` are chips that the vertices get while they play; the report is that of a game which has all of them from
     the start. `trace` names a file that is written: what each vertex took and fired, up to `trace_rows` rows each.
-    Where that was not enough for a vertex, the warning `TraceCut` says so. `progress` is as in `plain`. A graph has at
-    most 4,096 vertices and 65,536 edges.
+    Where that was not enough for a vertex, the warning `TraceCut` says so. `progress` is as in `plain`.
     """
     question = _Question(graph, program)
     options = _numbers(limit=(limit, 0, MAX_LIMIT), ring=(ring, 1, 64), workers=(workers, 1, 64))

@@ -11,7 +11,7 @@ from typing import Any, Union
 
 MAX_VERTICES = 4096
 MAX_EDGES = 65_536
-#: The same of a large graph, which `check`, `plain` and `resume` take.
+#: The same of a large graph.
 MAX_LARGE_VERTICES = 2**20
 MAX_LARGE_EDGES = 2**23
 MAX_MULT = 2**20

@@ -269,14 +269,13 @@ class Large(WithFolder):
             self.assertEqual(chipfire.resume(graph, first).total[0], 2)
             self.assertEqual(chipfire.stabilize(graph, {0: 5}), {**dict.fromkeys(range(4999), 0), 0: 1})
 
-    def test_what_the_threads_do_not_take_is_refused_by_its_size(self):
-        for call, arguments in [(chipfire.run, ({},)), (chipfire.simulate, ({}, [])), (chipfire.replay, ({}, []))]:
-            with self.subTest(call.__name__), self.assertRaisesRegex(chipfire.Fault, "5000 vertices, and 4096 at most"):
-                call(self.FAN, *arguments)
+    def test_the_machine_takes_large_graphs_too(self):
+        self.assertEqual(chipfire.run(self.FAN, {0: 5}).fired[0], 2)
+        self.assertEqual(chipfire.simulate(self.FAN, {0: 5}, [], rounds=3).report.fired[0], 2)
+        self.assertEqual(list(chipfire.replay(self.FAN, {}, [])), [])
         many = chipfire.Graph(2, 1, [(0, 1)] * 65537)
-        self.assertEqual(chipfire.plain(many, {0: 65538}).fired, (1, 0))
-        with self.assertRaisesRegex(chipfire.Fault, "65537 edges, and 65536 at most"):
-            chipfire.run(many, {})
+        for play in (chipfire.plain, chipfire.run):
+            self.assertEqual(play(many, {0: 65538}).fired, (1, 0))
 
     def test_the_limits_of_a_large_graph(self):
         most = chipfire.MAX_LARGE_VERTICES
@@ -473,7 +472,7 @@ class Mistakes(WithFolder):
         self.assertIn("1048577 vertices, and 1048576 at most", str(self.fault(chipfire.check, large)))
         few = self.file("few.json", '{"edges":[],"sink":0,"version":1,"vertices":0}')
         self.assertIn("check takes 1 to 1048576 vertices", str(self.fault(chipfire.check, few)))
-        self.assertIn("run takes 1 to 4096 vertices", str(self.fault(chipfire.run, few, self.file("c", "vertex,chips\n"))))
+        self.assertIn("run takes 1 to 1048576 vertices", str(self.fault(chipfire.run, few, self.file("c", "vertex,chips\n"))))
 
     def fault(self, call, *arguments):
         with self.assertRaises(chipfire.Fault) as caught:

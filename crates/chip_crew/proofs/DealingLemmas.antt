@@ -15,10 +15,11 @@ use Rattle.chip_graph.specs.Sums.{filter_below}
 use Rattle.chip_graph.specs.Multigraph.{Multigraph, edge_at, edges_out, edges_in}
 use Rattle.chip_net.specs.Tokens.{ActorKnown, MakesTurn}
 use Rattle.chip_net.specs.declared.actor.Turn.{Turn}
-use Rattle.chip_crew.specs.Crew.{CrewId, IsOurs, IsAt, AreFrom}
+use Rattle.chip_crew.specs.Crew.{CrewId, Turned, IsOurs, IsAt, AreFrom, turns_of, all_turns}
 use Rattle.chip_crew.specs.Dealing.{ends_at, ends_before, IsCut, IsFirstOf, AreOf}
 use Rattle.chip_crew.specs.Rounds.{TurnsThere, TurnsAt, RoundsMade, TurnsInRow}
-use Rattle.chip_crew.proofs.RunLemmas.{from_at, from_set, from_take}
+use Rattle.chip_crew.proofs.TurnLemmas.{turn_counts}
+use Rattle.chip_crew.proofs.RunLemmas.{from_at, from_set, from_take, sum_at}
 
 -- at most so many are picked
 one_at_most : (b : Bool) (n : ℕ) → length (if b then n ∷ [] else []) ≤ 1
@@ -133,8 +134,7 @@ still_ours crew old new answer makes ours =
       inside = subst (λ (v : ℕ). v < crew.net.setting.game.graph.vertices)
           (sym (ap (λ (a : ActorKnown). a.vertex) same)) ours.inside;
       room_is = ap (λ (a : ActorKnown). a.room) same ∙ ours.room_is;
-      turns = suc ours.turns;
-      turned = (old, answer, ours.turned, makes);
+      turned = subst (λ (n : ℕ). Turned n new) (sym (turn_counts old new answer makes)) (old, answer, ours.turned, makes);
     }
 
 still_at : (crew : CrewId) (v : ℕ) (old new : ActorKnown) (answer : Turn) → MakesTurn old new answer → IsAt crew v old
@@ -171,6 +171,22 @@ still_of crew worker place old new turns are =
           (sym (as_many place old new turns)) are.is_next;
       each = turned crew are.from place old new (slice_get old place) refl turns are.each;
     }
+
+-- in so many turns no more turns are made
+turns_there : (place : ℕ) (next : Option ActorKnown) (old new : List ActorKnown) → slice_get old place ≡ next
+    → TurnsThere place next old new → all_turns new ≤ all_turns old + 1
+turns_there place None old new at same = let all = ap all_turns same in omega (arith, all)
+turns_there place (Some next) old new at turns =
+    let all = ap all_turns turns.3 in let both = sum_at turns_of old place next turns.0 at in
+    let one = turn_counts next turns.0 turns.1 turns.2 in omega (arith, all, both, one)
+
+pub rounds_turns : (passes : ℕ → Type 0) (k : ℕ) (first now : List ActorKnown) → RoundsMade passes k first now
+    → all_turns now ≤ all_turns first + k
+rounds_turns passes zero first now same = let all = ap all_turns same in omega (arith, all)
+rounds_turns passes (suc k) first now made =
+    let old = rounds_turns passes k first made.0 made.1 in
+    let one = turns_there (k % max 1 (length made.0)) (slice_get made.0 (k % max 1 (length made.0))) made.0 now refl made.3 in
+    omega (arith, old, one)
 
 -- ---- turns in a row
 

@@ -75,12 +75,6 @@ module _ {D : Type 0} (before : ℕ → D → D → Type 0) where
         subst (λ (n : ℕ). Serves before after round n old end) (sym (add-one k))
         (was, now, served, begun, subst (λ (b : Bool). EndsIf after b now end) (sym on) done)
 
-    -- the same, by other names
-    pub serves_there : (round other m n : ℕ) (old was now : D) → Serves before after round m old was → other ≡ round
-        → n ≡ m → now ≡ was → Serves before after other n old now
-    serves_there round other m n old was now served same count is =
-        subst (λ (z : ℕ × ℕ × D). Serves before after z.0 z.1 old z.2) (λ i. (sym same i, sym count i, sym is i)) served
-
 -- with a whole round more there are whole rounds
 pub round_over : (round m k : ℕ) → k ≡ round → m % round ≡ 0 → (m + k) % round ≡ 0
 round_over round m k whole begins =

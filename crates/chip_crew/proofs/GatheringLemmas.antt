@@ -34,7 +34,7 @@ module _ {X : Type 0} where
       (λ (h : slice_get xs j ≡ Some b). inr h) (at_set xs i j a b e)
 
   -- what stands at j after a push
-  at_push : (xs : List X) (y b : X) (j : ℕ) → slice_get (xs ++ y ∷ []) j ≡ Some b
+  pub at_push : (xs : List X) (y b : X) (j : ℕ) → slice_get (xs ++ y ∷ []) j ≡ Some b
       → ((j ≡ length xs) × (y ≡ b)) ⊎ (slice_get xs j ≡ Some b)
   at_push [] y b zero e = inl (refl, same_some y b e)
   at_push [] y b (suc j) e = absurd (none_some b e)

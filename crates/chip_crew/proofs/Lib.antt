@@ -1,4 +1,5 @@
 pub mod PlacesLemmas
+pub mod TurnLemmas
 pub mod QueueingLemmas
 pub mod GatheringLemmas
 pub mod RunLemmas

@@ -1,9 +1,10 @@
 -- Serves Crew.antt.
 -- The actors of a net that opens are the crew's, and stay so.
-use Rattle.std.proofs.Common.{◌≡◌, ◌+◌, ◌<◌, ℕ, Bool, true, false, List, length, Some, ◌∙◌, refl, sym, subst, arith}
+use Rattle.std.proofs.lemmas.List.Sums.{sum_by-cons}
+use Rattle.std.proofs.Common.{◌≡◌, ◌+◌, ◌<◌, ℕ, Bool, true, false, List, length, Some, ◌∙◌, refl, sym, subst, arith, suc, [], ◌∷◌, ap}
 use Rattle.std.specs.Prelude.{slice_get}
-use Rattle.chip_net.specs.Tokens.{ActorKnown, newcomer}
-use Rattle.chip_crew.specs.Crew.{CrewId, IsAt, AreFrom}
+use Rattle.chip_net.specs.Tokens.{ActorKnown, newcomer, NetId}
+use Rattle.chip_crew.specs.Crew.{CrewId, IsAt, AreFrom, turns_of, all_turns}
 use Rattle.chip_crew.proofs.GatheringLemmas.{placed, same_some}
 use Rattle.chip_crew.proofs.RunLemmas.{from_each}
 
@@ -23,8 +24,19 @@ ours_by crew n actors vertices count each = from_each (IsAt crew) 0 actors (λ i
         net_is = refl;
         inside = subst (λ (m : ℕ). i < m) (sym vertices) inside;
         room_is = refl;
-        turns = 0;
         turned = refl;
       },
       here,
     ))
+
+-- none of them made a turn yet
+each_new : (actors : List ActorKnown) → ((v : ℕ) (a : ActorKnown) → slice_get actors v ≡ Some a → turns_of a ≡ 0)
+    → all_turns actors ≡ 0
+each_new [] each = refl
+each_new (a ∷ rest) each =
+    omega (arith, sum_by-cons turns_of a rest, each 0 a refl, each_new rest (λ v b at. each (suc v) b at))
+
+pub new_turns : (net : NetId) (room : ℕ) (actors : List ActorKnown)
+    → ((v : ℕ) → v < length actors → slice_get actors v ≡ Some (newcomer net room v)) → all_turns actors ≡ 0
+new_turns net room actors each = each_new actors (λ v a at.
+    ap turns_of (sym (same_some (newcomer net room v) a (sym (each v (placed actors v a at)) ∙ at))))

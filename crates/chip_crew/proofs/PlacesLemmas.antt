@@ -11,10 +11,10 @@ use Rattle.crossbeam_queue.proofs.Lists.{at_set}
 use Rattle.crossbeam_queue.specs.Fifo.{Pushes, Pops, Forks, Merges, Learns, Held}
 use Rattle.chip_net.specs.Tokens.{ActorKnown}
 use Rattle.chip_crew.specs.declared.queue.Ledger.{Ledger}
-use Rattle.chip_crew.specs.Crew.{CrewId, IsOurs, AreFrom}
+use Rattle.chip_crew.specs.Crew.{CrewId, IsOurs, AreFrom, turns_of}
 use Rattle.chip_crew.specs.Ledger.{numbers_from, first_ledger, new_ledger, with_fewer, both_ledgers, no_ledger, with_taken}
-use Rattle.chip_crew.specs.Ledger.{with_put}
-use Rattle.chip_crew.specs.Places.{times, actors_of, AreShared, AreAllThere, HaveRoom, HasOnce}
+use Rattle.chip_crew.specs.Ledger.{with_put, got_turns, gave_turns}
+use Rattle.chip_crew.specs.Places.{times, actors_of, HasNothing, AreShared, AreAllThere, HaveRoom, HasOnce}
 
 -- ---- sums over all ledgers
 
@@ -43,9 +43,9 @@ abbrev workers_of : Ledger → ℕ
 workers_of l = l.workers
 
 abbrev IsSpent : Ledger → Type 0
-IsSpent l = l.workers ≡ 0 → l.has ≡ []
+IsSpent l = l.workers ≡ 0 → HasNothing l
 
-module _ (f : Ledger → ℕ) (nothing : (l : Ledger) → l.has ≡ [] → f l ≡ 0) where
+module _ (f : Ledger → ℕ) (nothing : (l : Ledger) → HasNothing l → f l ≡ 0) where
   -- who speaks for no worker adds nothing
   none_adds : (ls : List Ledger) → sum_by workers_of ls ≡ 0 → All IsSpent ls → sum_by f ls ≡ 0
   none_adds [] none spent = refl
@@ -151,8 +151,16 @@ module _ (crew : CrewId) where
                 ap length left,
               );
           workers = omega (arith, old.workers, sum_set workers_of ledgers pass v w at);
+          turns = omega (
+            arith,
+            old.turns,
+            sum_by_push turns_of queued x,
+            sum_by_push turns_of v.put x,
+            sum_set got_turns ledgers pass v w at,
+            sum_set gave_turns ledgers pass v w at,
+          );
           spent = All-set IsSpent ledgers pass w
-              (λ none. absurd (let empty = all_at IsSpent ledgers pass v old.spent at none in
+              (λ none. absurd (let empty = (all_at IsSpent ledgers pass v old.spent at none).0 in
               let lengths = ap length (sym first ∙ empty) in omega (arith, lengths))) old.spent;
         },
         (ours, refl),
@@ -181,6 +189,14 @@ module _ (crew : CrewId) where
             sum_set has_count ledgers pass v w at,
           );
           workers = omega (arith, old.workers, sum_set workers_of ledgers pass v w at);
+          turns = omega (
+            arith,
+            old.turns,
+            sum_by-cons turns_of x queued,
+            sum_by_push turns_of v.taken x,
+            sum_set got_turns ledgers pass v w at,
+            sum_set gave_turns ledgers pass v w at,
+          );
           spent = All-set IsSpent ledgers pass w (λ none. absurd (omega (arith, none, speaks))) old.spent;
         },
         (
@@ -197,7 +213,7 @@ module _ (crew : CrewId) where
       )
 
   -- a worker gets a ledger
-  pub forks : (pass : ℕ) (v : Ledger) → 0 < v.workers → v.has ≡ [] → Forks Holds pass v (with_fewer v) new_ledger
+  pub forks : (pass : ℕ) (v : Ledger) → 0 < v.workers → HasNothing v → Forks Holds pass v (with_fewer v) new_ledger
   forks pass v speaks empty queued ledgers old at =
       let w : Ledger = with_fewer v in
       let now = set ledgers pass w in
@@ -217,8 +233,16 @@ module _ (crew : CrewId) where
           sum_set workers_of ledgers pass v w at,
           speaks,
         );
+        turns = omega (
+          arith,
+          old.turns,
+          sum_by_push got_turns now new_ledger,
+          sum_by_push gave_turns now new_ledger,
+          sum_set got_turns ledgers pass v w at,
+          sum_set gave_turns ledgers pass v w at,
+        );
         spent = All-push IsSpent now new_ledger (All-set IsSpent ledgers pass w (λ none. empty) old.spent)
-            (λ none. refl);
+            (λ none. (refl, refl, refl));
       }
 
   -- and hands it back
@@ -231,8 +255,11 @@ module _ (crew : CrewId) where
       (λ (h : (other ≢ pass) × (get_elem? ledgers other ≡ some u)). h.1) (at_set ledgers pass other w u there) in
       let both : IsSpent w = λ none.
       let one = all_at IsSpent ledgers pass v old.spent at (omega (arith, none)) in
-      let two = all_at IsSpent ledgers other u old.spent was (omega (arith, none)) in
-      (λ i. one i ++ two i) in
+      let two = all_at IsSpent ledgers other u old.spent was (omega (arith, none)) in (
+        (λ i. one.0 i ++ two.0 i),
+        omega (arith, one.1, two.1, sum_by-append turns_of v.taken u.taken),
+        omega (arith, one.2, two.2, sum_by-append turns_of v.put u.put),
+      ) in
       record {
         ours = old.ours;
         once = λ a less. omega (
@@ -255,16 +282,30 @@ module _ (crew : CrewId) where
           sum_set workers_of ledgers pass v w at,
           sum_set workers_of now other u no_ledger there,
         );
-        spent = All-set IsSpent now other no_ledger (λ none. refl) (All-set IsSpent ledgers pass w both old.spent);
+        turns = omega (
+          arith,
+          old.turns,
+          sum_set got_turns ledgers pass v w at,
+          sum_set got_turns now other u no_ledger there,
+          sum_by-append turns_of v.taken u.taken,
+          sum_set gave_turns ledgers pass v w at,
+          sum_set gave_turns now other u no_ledger there,
+          sum_by-append turns_of v.put u.put,
+        );
+        spent = All-set IsSpent now other no_ledger (λ none. (refl, refl, refl))
+            (All-set IsSpent ledgers pass w both old.spent);
       }
 
   -- ---- what the rule tells
 
   pub all_there : (pass : ℕ) (v : Ledger) → Learns Holds pass v (AreAllThere crew v)
   all_there pass v queued ledgers old at all = (
-    (let one = one_adds has_count (λ l none. ap length none) ledgers pass v at (old.workers ∙ sym all) old.spent in
+    (let one = one_adds has_count (λ l none. ap length none.0) ledgers pass v at (old.workers ∙ sym all) old.spent in
         omega (arith, old.count, one)),
-    λ u less. let one = one_adds (has_times u) (λ l none. times_none u l.has none) ledgers pass v at
+    (let got = one_adds got_turns (λ l none. none.1) ledgers pass v at (old.workers ∙ sym all) old.spent in
+        let gave = one_adds gave_turns (λ l none. none.2) ledgers pass v at (old.workers ∙ sym all) old.spent in
+        omega (arith, old.turns, got, gave)),
+    λ u less. let one = one_adds (has_times u) (λ l none. times_none u l.has none.0) ledgers pass v at
         (old.workers ∙ sym all) old.spent in omega (arith, old.once u less, one),
   )
 
@@ -278,15 +319,23 @@ module _ (crew : CrewId) where
 -- who found the queue empty, and speaks for all workers, has each vertex once
 pub once_there : (crew : CrewId) (l : Ledger) → Held 0 (AreAllThere crew l) → l.workers ≡ crew.workers
     → (v : ℕ) → v < crew.net.setting.game.graph.vertices → times v l.has ≡ 1
-once_there crew l ([], empty, there) all v less = omega (arith, (there all).1 v less)
+once_there crew l ([], empty, there) all v less = omega (arith, (there all).2 v less)
 once_there crew l (a ∷ rest, empty, there) all v less = absurd (omega (arith, empty))
 
--- and who has as many as there are has each vertex once
-pub once_whole : (crew : CrewId) (l : Ledger) (queued : List ActorKnown) → AreAllThere crew l queued
-    → l.workers ≡ crew.workers → crew.net.setting.game.graph.vertices ≤ length l.has → (v : ℕ)
-    → v < crew.net.setting.game.graph.vertices → times v l.has ≡ 1
-once_whole crew l [] there all many v less = omega (arith, (there all).1 v less)
-once_whole crew l (a ∷ rest) there all many v less = absurd (let count = (there all).0 in omega (arith, count, many))
+-- what came out has as many turns as what went in
+pub got_gave : (crew : CrewId) (l : Ledger) → Held 0 (AreAllThere crew l) → l.workers ≡ crew.workers
+    → got_turns l ≡ gave_turns l
+got_gave crew l ([], empty, there) all = let turns = (there all).1 in omega (arith, turns)
+got_gave crew l (a ∷ rest, empty, there) all = absurd (omega (arith, empty))
+
+-- who has as many as there are found the queue empty
+pub held_none : (crew : CrewId) (l : Ledger) (queued : List ActorKnown) → AreAllThere crew l queued
+    → l.workers ≡ crew.workers → crew.net.setting.game.graph.vertices ≤ length l.has → Held 0 (AreAllThere crew l)
+held_none crew l queued there all many = (
+  queued,
+  (let count = (there all).0 in omega (arith, count, many)),
+  there,
+)
 
 -- ---- how it begins
 
@@ -333,6 +382,7 @@ begins crew speaks =
       );
       count = omega (arith, sum_by-cons (λ (l : Ledger). length l.has) one [], numbers_length 0 n);
       workers = omega (arith, sum_by-cons workers_of one []);
+      turns = omega (arith, sum_by-cons got_turns one [], sum_by-cons gave_turns one []);
       spent = All-cons IsSpent one [] (λ none. absurd (omega (arith, none, speaks))) (All-nil IsSpent);
     }
 

@@ -1,6 +1,7 @@
 -- Serves Crew.antt.
 -- Lists whose elements fit numbers that grow by one.
-use Rattle.std.proofs.Common.{◌≡◌, ℕ, zero, suc, ◌+◌, List, [], ◌∷◌, ◌++◌, length, take, drop, set, All, Some}
+use Rattle.std.proofs.lemmas.List.Sums.{sum_by-cons}
+use Rattle.std.proofs.Common.{◌≡◌, ℕ, zero, suc, ◌+◌, List, [], ◌∷◌, ◌++◌, length, take, drop, set, All, Some, sum_by, ap}
 use Rattle.std.proofs.Common.{refl, sym, ◌∙◌, subst, arith, add-one}
 use Rattle.std.specs.Prelude.{slice_get}
 use Rattle.chip_net.specs.Tokens.{ActorKnown}
@@ -53,6 +54,21 @@ module _ {X : Type 0} (P : ℕ → X → Type 0) where
   from_all Q each n [] all k d less = absurd (omega (arith, less))
   from_all Q each n (x ∷ xs) all zero d less = each n x all.0
   from_all Q each n (x ∷ xs) all (suc k) d less = from_all Q each (suc n) xs all.1 k d (omega (arith, less))
+
+module _ {X : Type 0} (f : X → ℕ) where
+  -- a sum where one is written for another
+  pub sum_at : (xs : List X) (i : ℕ) (x w : X) → slice_get xs i ≡ Some x → sum_by f (set xs i w) + f x ≡ sum_by f xs + f w
+  sum_at [] i x w at = absurd (none_some x at)
+  sum_at (y ∷ ys) zero x w at =
+      omega (arith, sum_by-cons f w ys, sum_by-cons f y ys, ap f (same_some y x at))
+  sum_at (y ∷ ys) (suc i) x w at =
+      omega (arith, sum_by-cons f y (set ys i w), sum_by-cons f y ys, sum_at ys i x w at)
+
+  -- and where a list is cut
+  pub sum_cut : (k : ℕ) (xs : List X) → sum_by f (take k xs) + sum_by f (drop k xs) ≡ sum_by f xs
+  sum_cut zero xs = omega arith
+  sum_cut (suc k) [] = omega arith
+  sum_cut (suc k) (x ∷ xs) = omega (arith, sum_by-cons f x (take k xs), sum_by-cons f x xs, sum_cut k xs)
 
 -- actors of consecutive vertices are the crew's
 pub ours_from : (crew : CrewId) (from : ℕ) (actors : List ActorKnown) → AreFrom crew from actors

@@ -7,7 +7,7 @@ use Rattle.std.proofs.lemmas.List.Elements.{All-take}
 use Rattle.std.specs.Global.{Vec}
 use Rattle.chip_net.specs.Tokens.{NetId, ActorKnown}
 use Rattle.chip_crew.specs.Asked.{Asked, passes, ShutFor}
-use Rattle.chip_crew.specs.Crew.{IsAt}
+use Rattle.chip_crew.specs.Crew.{IsAt, all_turns}
 use Rattle.chip_crew.specs.Dealing.{IsRoundBy, IsRound, IsFirstOf, AreOf}
 use Rattle.chip_crew.specs.Rounds.{RoundsMade, TurnsInRow}
 use Rattle.chip_crew.specs.Duties.{Serves}
@@ -22,7 +22,7 @@ use Rattle.chip_crew.proofs.DealingLemmas.{cut_first, row_many, row_first, row_o
 -- what a worker has made with actors of its own
 abbrev HasDealt : Asked → ℕ → ℕ → List ActorKnown → Type 0
 HasDealt asked worker turns actors = (asked.crew.sharing ≡ sharing.Dealt) × AreOf asked.crew worker actors
-    × ((first : List ActorKnown) × RoundsMade (passes asked worker) turns first actors)
+    × ((first : List ActorKnown) × (all_turns first ≡ 0) × RoundsMade (passes asked worker) turns first actors)
 
 module _ {B : Type 0} (asked : Asked) (worker : ℕ) where
   -- the first of the actors that were dealt out are the net's
@@ -46,7 +46,7 @@ module _ {B : Type 0} (asked : Asked) (worker : ℕ) where
       let within = subst (λ (x : Share B). k ≤ round_of x) is few in (
         was.0,
         row_of (passes asked worker) m asked.crew worker k old.items now row was.1,
-        (was.2.0, round_more (passes asked worker) m k was.2.0 old.items now was.2.1 begin within row),
+        (was.2.0, was.2.1, round_more (passes asked worker) m k was.2.0 old.items now was.2.2 begin within row),
       )
 
   -- the same, where only the first of them made turns

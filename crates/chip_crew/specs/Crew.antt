@@ -1,5 +1,8 @@
 -- What a crew keeps of its net.
-use Rattle.std.specs.Prelude.{◌≡◌, ℕ, zero, suc, ◌<◌, List, [], ◌∷◌, length, slice_get, Option, Some, ⊤}
+use Rattle.std.specs.Prelude.{◌≡◌, ℕ, zero, suc, ◌<◌, List, [], ◌∷◌, length, slice_get, Option, Some, ⊤, ◌==◌, Bool, false, count_by, sum_by}
+use Rattle.chip_part.specs.Setting.{Setting}
+use Rattle.chip_part.specs.Edges.{root_edge}
+use Rattle.chip_core.specs.Core.{Event, Take}
 use Rattle.chip_net.specs.Tokens.{NetId, ActorKnown, MakesTurn}
 use Rattle.chip_net.specs.declared.actor.Turn.{Turn}
 use Rattle.chip_crew.specs.declared.plan.Sharing.{Sharing}
@@ -16,13 +19,25 @@ abbrev pub Turned : ℕ → ActorKnown → Type 0
 Turned zero a = a.did ≡ []
 Turned (suc k) a = (before : ActorKnown) × (answer : Turn) × Turned k before × MakesTurn before a answer
 
+-- a take from the root edge of a vertex
+abbrev pub is_root_take : Setting → ℕ → Event → Bool
+is_root_take g v (Take e) = e == root_edge g v
+is_root_take g v _ = false
+
+-- how many turns an actor made: in each it takes once from its root edge
+abbrev pub turns_of : ActorKnown → ℕ
+turns_of a = count_by (λ x. is_root_take a.net.setting a.vertex x.event) a.did
+
+-- and all of these together
+abbrev pub all_turns : List ActorKnown → ℕ
+all_turns actors = sum_by turns_of actors
+
 -- the net opened this actor, which made whole turns since and nothing else
 pub record IsOurs (crew : CrewId) (a : ActorKnown) : Type 0 where
   pub net_is : a.net ≡ crew.net
   pub inside : a.vertex < crew.net.setting.game.graph.vertices
   pub room_is : a.room ≡ crew.room
-  pub turns : ℕ
-  pub turned : Turned turns a
+  pub turned : Turned (turns_of a) a
 
 -- the place of each vertex has its actor, or none yet
 pub record AreSeats (crew : CrewId) (seats : List (Option ActorKnown)) : Type 0 where

@@ -1,5 +1,5 @@
 -- What a run answers.
-use Rattle.std.specs.Prelude.{◌≡◌, ◌⊎◌, ℕ, ◌+◌, ◌<◌, ⊤, Bool, true, false, sum, Some, None}
+use Rattle.std.specs.Prelude.{◌≡◌, ◌⊎◌, ℕ, ◌+◌, ◌<◌, ⊤, Bool, true, false, sum, Some, None, ◌*◌, ◌≤◌}
 use Rattle.std.specs.Prelude.{is_some}
 use Rattle.chip_graph.specs.Limits.{max_total}
 use Rattle.chip_graph.specs.More.{HasMore, all_brought}
@@ -10,7 +10,7 @@ use Rattle.chip_net.specs.Roots.{fed_by}
 use Rattle.chip_net.specs.Meeting.{IsRun}
 use Rattle.chip_crew.specs.Plans.{is_fed_plan, AreWithinTotal}
 use Rattle.chip_crew.specs.Asked.{Asked, SomeShut}
-use Rattle.chip_crew.specs.Crew.{CrewId, AreActors}
+use Rattle.chip_crew.specs.Crew.{CrewId, AreActors, all_turns}
 use Rattle.chip_crew.specs.Feeding.{Left, pairs}
 use Rattle.chip_crew.specs.Ending.{EndsLed, StaysUnfinished}
 use Rattle.chip_crew.specs.Sealing.{KnowsSeals}
@@ -53,6 +53,8 @@ pub record IsCrewFor (shared : Sharing) (game : ChipGame) (feeds : Left) (plan :
 pub record HasFinished (crew : CrewId) (feeds : Left) (plan : Plan) (f : Finished) : Type 0 where
   pub ends : EndsLed crew feeds plan f.receipt f.outcome
   pub actors : AreActors crew f.actors.items
+  -- all workers together made no more turns than they may
+  pub turns : all_turns f.actors.items ≤ crew.workers * plan.turns
   -- what the root, the stopper and the actors did is one run, of which that is the outcome
   pub run : IsRun f.receipt f.actors.items f.outcome
 

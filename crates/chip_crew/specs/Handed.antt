@@ -3,7 +3,7 @@ use Rattle.std.specs.Prelude.{◌≡◌, ℕ, ◌<◌, ◌≤◌, max, false, Li
 use Rattle.atomic_table.specs.Seated.{TableId}
 use Rattle.crossbeam_queue.specs.Passes.{view, IsPassOf}
 use Rattle.chip_net.specs.Tokens.{NetId, ActorKnown}
-use Rattle.chip_crew.specs.Crew.{IsOurs, EachFrom}
+use Rattle.chip_crew.specs.Crew.{IsOurs, EachFrom, all_turns}
 use Rattle.chip_crew.specs.Asked.{Asked, passes, ShutFor}
 use Rattle.chip_crew.specs.Dealing.{AreOf}
 use Rattle.chip_crew.specs.Duties.{Serves}
@@ -27,7 +27,7 @@ module _ {B : Type 0} where
       × IsPassOf queue.now pass × TurnsMade (passes asked worker) turns (view pass) kept × IfSome kept (IsOurs asked.crew)
   HasMade asked worker turns (share.Dealt actors) = (asked.crew.sharing ≡ sharing.Dealt)
       × AreOf asked.crew worker actors.items
-      × ((first : List ActorKnown) × RoundsMade (passes asked worker) turns first actors.items)
+      × ((first : List ActorKnown) × (all_turns first ≡ 0) × RoundsMade (passes asked worker) turns first actors.items)
 
   -- how many turns make a round of a worker
   abbrev pub round_of : Share B → ℕ

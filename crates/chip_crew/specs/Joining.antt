@@ -3,7 +3,7 @@ use Rattle.std.specs.Prelude.{◌≡◌, ℕ, ◌<◌, ◌≤◌, false, List, [
 use Rattle.atomic_table.specs.Seated.{TableId}
 use Rattle.chip_net.specs.Tokens.{ActorKnown}
 use Rattle.chip_crew.specs.Asked.{Asked, SomeShut}
-use Rattle.chip_crew.specs.Crew.{AreFrom}
+use Rattle.chip_crew.specs.Crew.{AreFrom, all_turns}
 use Rattle.chip_crew.specs.Handed.{queue_of, AreReady, IsReady}
 use Rattle.chip_crew.specs.Gathering.{AreBack}
 use Rattle.chip_crew.specs.Leading.{IsLeader, HasLed}
@@ -18,6 +18,7 @@ pub record AreOpened (asked : Asked) (leader : Leader) (actors : List ActorKnown
   pub leads : IsLeader asked leader
   pub each : AreFrom asked.crew 0 actors
   pub count : length actors ≡ asked.crew.net.setting.game.graph.vertices
+  pub no_turns : all_turns actors ≡ 0
   pub some : 0 < asked.crew.net.setting.game.graph.vertices
   pub workers_are : asked.plan.workers ≡ asked.crew.workers
   pub some_workers : 0 < asked.crew.workers
@@ -45,5 +46,5 @@ module _ {B : Type 0} where
   -- all workers have ended: worker 0 led the root, and all that they had is back
   pub record HasJoined (asked : Asked) (j : Joined B) : Type 0 where
     pub led : HasLed asked j.round j.turns j.leader
-    pub are_back : AreBack asked.crew asked.crew.workers j.collected.back
+    pub are_back : AreBack asked asked.crew.workers j.collected.back
     pub passed : j.collected.passed ≡ false → SomeShut asked.may_answer asked.crew.workers asked.plan.turns

@@ -2,7 +2,7 @@
 use Rattle.std.specs.Prelude.{◌≡◌, ℕ, zero, suc, ◌+◌, ◌-◌, List, [], ◌∷◌, ◌++◌, drop, Option, Some, None}
 use Rattle.chip_net.specs.Tokens.{ActorKnown, MakesTurn}
 use Rattle.chip_net.specs.declared.actor.Turn.{Turn}
-use Rattle.chip_crew.specs.Crew.{CrewId}
+use Rattle.chip_crew.specs.Crew.{CrewId, turns_of, all_turns}
 use Rattle.chip_crew.specs.declared.queue.Ledger.{Ledger}
 
 -- so many numbers, from this one on
@@ -52,6 +52,18 @@ with_taken old a = record {
 -- this actor was put, the first of those that the thread had
 abbrev pub with_put : Ledger → ActorKnown → Ledger
 with_put old a = record { workers = old.workers; has = drop 1 old.has; taken = old.taken; put = old.put ++ a ∷ [] }
+
+-- the turns of the actors that the thread took from the queue, as they were then, and of those that it put there
+abbrev pub got_turns : Ledger → ℕ
+got_turns l = all_turns l.taken
+
+abbrev pub gave_turns : Ledger → ℕ
+gave_turns l = all_turns l.put
+
+-- the turns of this actor, where there is one
+abbrev pub kept_turns : Option ActorKnown → ℕ
+kept_turns None = 0
+kept_turns (Some a) = turns_of a
 
 -- the vertex of this actor, where there is one
 abbrev pub vertex_of : Option ActorKnown → List ℕ

@@ -6,7 +6,7 @@ ghost use Rattle.chip_crew.specs.declared.plan.Sharing.TheVariants as shares;
 ghost use Rattle.chip_crew.specs.Plans.{max_workers};
 ghost use Rattle.chip_crew.specs.Dealing.{ends_at, ends_before};
 ghost use Rattle.chip_crew.specs.Handed.{AreReady};
-ghost use Rattle.chip_crew.specs.Crew.{AreFrom};
+ghost use Rattle.chip_crew.specs.Crew.{AreFrom, all_turns};
 
 use crate::queue::Crew;
 use crate::worker::Share;
@@ -69,6 +69,7 @@ pub(crate) fn deal<'q, B: Crew>(
     requires workers { (0 < workers) × (workers ≤ max_workers) × (workers ≡ B.asked.crew.workers) }
     requires actors { AreFrom B.asked.crew 0 actors.items }
     requires count { length actors.items ≡ B.asked.crew.net.setting.game.graph.vertices }
+    requires no_turns { all_turns actors.items ≡ 0 }
     requires sharing { B.asked.crew.sharing ≡ shares.Dealt }
     ensures count { IfOk result (λ all. length all.items ≡ workers) }
     ensures ready { IfOk result (λ all. AreReady B.asked None all.items) }

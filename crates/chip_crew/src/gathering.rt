@@ -1,10 +1,10 @@
 //! How the actors are gathered once all workers have ended.
 
-ghost use Rattle.std.specs.Prelude.{◌≡◌, ◌+◌, ◌<◌, ◌≤◌, ℕ, [], slice_get, slice_set, Some, None, IfOk, IfSome};
-ghost use Rattle.chip_crew.specs.Crew.{IsOurs, AreActors};
+ghost use Rattle.std.specs.Prelude.{◌≡◌, ◌+◌, ◌<◌, ◌≤◌, ℕ, [], slice_get, slice_set, Some, None, IfOk, IfSome, ◌*◌};
+ghost use Rattle.chip_crew.specs.Crew.{IsOurs, AreActors, all_turns};
 ghost use Rattle.chip_crew.specs.Handed.{HasMade, queue_of};
-ghost use Rattle.chip_crew.specs.Gathering.{IsGathering, IsGatheringFor, AreSeated, AllSeated, AreBack, Collects, queue_for};
-ghost use Rattle.chip_crew.specs.Ledger.{HasJust};
+ghost use Rattle.chip_crew.specs.Gathering.{IsGathering, IsGatheringFor, AreSeated, AllSeated, AreBack, Collects, queue_for, seat_turns};
+ghost use Rattle.chip_crew.specs.Ledger.{HasJust, got_turns, gave_turns, kept_turns};
 ghost use Rattle.chip_crew.specs.Plans.{max_workers};
 ghost use Rattle.crossbeam_queue.specs.Passes.{view, IsPassOf};
 
@@ -55,7 +55,7 @@ pub(crate) fn new_gathering<B: Crew>(
 ) -> Result<Gathering, AllocError>
     requires { vertices ≡ B.asked.crew.net.setting.game.graph.vertices }
     ensures gathering { IfOk result (IsGathering B.asked.crew) }
-    ensures none { IfOk result (λ gathering. AreSeated gathering.seats.items []) }
+    ensures none { IfOk result (λ gathering. AreSeated gathering.seats.items [] × (seat_turns gathering.seats.items ≡ 0)) }
 {
     let mut seats = Vec::with_capacity(alloc, vertices)?;
     for _ in 0..vertices {
@@ -81,7 +81,8 @@ fn note<B: Crew>(gathering: &mut Gathering, actor: Actor)
 fn seated<B: Crew>(gathering: Gathering) -> Vec<Actor>
     requires gathering { IsGathering B.asked.crew gathering }
     requires all { AllSeated gathering.seats.items }
-    ensures { AreActors B.asked.crew result.items }
+    ensures actors { AreActors B.asked.crew result.items }
+    ensures turns { all_turns result.items ≤ seat_turns gathering.seats.items }
 {
     let Gathering {
         mut seats,
@@ -105,11 +106,12 @@ fn join_pass<B: Crew>(
     kept: Option<Actor>,
 )
     requires pass { IsPassOf queue.now pass.old × IsPassOf queue.now theirs }
-    requires gathering { IsGatheringFor B.asked.crew (view pass.old).workers (view pass.old) gathering.old }
+    requires gathering { IsGatheringFor B.asked (view pass.old).workers (view pass.old) gathering.old }
     requires kept { IfSome kept (IsOurs B.asked.crew) }
     requires has { HasJust (view theirs) kept }
+    requires turns { gave_turns (view theirs) + kept_turns kept ≤ got_turns (view theirs) + B.asked.plan.turns }
     ensures pass { IsPassOf queue.now pass.new }
-    ensures gathering { IsGatheringFor B.asked.crew ((view pass.old).workers + 1) (view pass.new) gathering.new }
+    ensures gathering { IsGatheringFor B.asked ((view pass.old).workers + 1) (view pass.new) gathering.new }
 {
     queue.absorb::<SplitLedger>(pass, theirs);
     // It tells that the place of the actor is free.
@@ -123,10 +125,10 @@ impl<'a, B: Crew> Collected<'a, B> {
     /// Takes back what a worker has. What all lesser workers had is back already.
     pub fn take(&mut self, share: Share<B>, passed: bool)
         requires next { (self.old.workers < B.asked.crew.workers) × (B.asked.crew.workers ≤ max_workers) }
-        requires back { AreBack B.asked.crew self.old.workers self.old.back }
-        requires made { (turns : ℕ) × HasMade B.asked self.old.workers turns share }
+        requires back { AreBack B.asked self.old.workers self.old.back }
+        requires made { (turns : ℕ) × (turns ≤ B.asked.plan.turns) × HasMade B.asked self.old.workers turns share }
         requires uses { queue_of share ≡ queue_for self.old.back }
-        ensures { Collects B.asked.crew passed self.old self.new }
+        ensures { Collects B.asked passed self.old self.new }
     {
         match share {
             Share::Queue {
@@ -166,10 +168,11 @@ fn drain<R: Wait, B: Crew>(
     gathering: &mut Gathering,
 )
     requires pass { IsPassOf queue.now pass.old }
-    requires gathering { IsGatheringFor B.asked.crew B.asked.crew.workers (view pass.old) gathering.old }
+    requires gathering { IsGatheringFor B.asked B.asked.crew.workers (view pass.old) gathering.old }
     requires some { 0 < B.asked.crew.workers }
     ensures gathering { IsGathering B.asked.crew gathering.new }
     ensures all { AllSeated gathering.new.seats.items }
+    ensures turns { seat_turns gathering.new.seats.items ≤ B.asked.crew.workers * B.asked.plan.turns }
 {
     for _ in 0..gathering.seats.len() {
         let Some(actor) = queue.pop_as::<Popped<B>, R>(rt, pass) else {
@@ -183,9 +186,10 @@ fn drain<R: Wait, B: Crew>(
 
 /// The actors of all vertices, ascending. All workers have handed back what they had.
 pub(crate) fn gather<R: Wait, B: Crew>(rt: &R, back: Back<B>) -> Vec<Actor>
-    requires back { AreBack B.asked.crew B.asked.crew.workers back }
+    requires back { AreBack B.asked B.asked.crew.workers back }
     requires some { 0 < B.asked.crew.workers }
-    ensures { AreActors B.asked.crew result.items }
+    ensures actors { AreActors B.asked.crew result.items }
+    ensures turns { all_turns result.items ≤ B.asked.crew.workers * B.asked.plan.turns }
 {
     match back {
         Back::Queue {

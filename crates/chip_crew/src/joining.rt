@@ -132,7 +132,7 @@ pub(crate) fn join_all<'s, 'q, R: Threads, B: Crew>(
     requires leader { IsWorker B.asked (queue_for collected.back) 0 leader.promise × IsLeader B.asked leader.promise.duties.value }
     requires count { length others.items + 1 ≡ B.asked.crew.workers }
     requires others { EachFrom (λ worker h. IsWorker B.asked (queue_for collected.back) worker h.promise) 1 others.items }
-    requires none_yet { (collected.workers ≡ 0) × (collected.passed ≡ true) × AreBack B.asked.crew 0 collected.back }
+    requires none_yet { (collected.workers ≡ 0) × (collected.passed ≡ true) × AreBack B.asked 0 collected.back }
     requires few { B.asked.crew.workers ≤ max_workers }
     ensures { HasJoined B.asked result }
 {

@@ -1,14 +1,16 @@
 //! A game played by a crew, from its opening to its end.
 
+ghost use Rattle.chip_crew.specs.Places.{HasNothing};
+ghost use Rattle.chip_crew.specs.Ledger.{got_turns, gave_turns};
 ghost use Rattle.std.specs.Prelude.{◌≡◌, ◌<◌, ◌≤◌, true, false, [], All, map, length, Some, None, IfOk, IfErr};
 ghost use Rattle.std.specs.Option.{option_copied, option_zip};
 ghost use Rattle.crossbeam_queue.specs.Passes.{view, IsPassOf, ruled_capacity};
 ghost use Rattle.chip_crew.specs.declared.plan.Sharing.TheVariants as shares;
 ghost use Rattle.chip_crew.specs.Asked.{IsAsked};
-ghost use Rattle.chip_crew.specs.Crew.{IsOurs};
+ghost use Rattle.chip_crew.specs.Crew.{IsOurs, all_turns};
 ghost use Rattle.chip_crew.specs.Leading.{IsLeader};
 ghost use Rattle.chip_crew.specs.Plans.{max_workers};
-ghost use Rattle.chip_crew.specs.Gathering.{IsGathering, AreSeated, AreBack, queue_for};
+ghost use Rattle.chip_crew.specs.Gathering.{IsGathering, AreSeated, AreBack, queue_for, seat_turns};
 ghost use Rattle.chip_crew.specs.Joining.{AreOpened, AreShares, HasJoined, queue_of_all};
 ghost use Rattle.chip_crew.specs.Finished.{HasFinished, IsFinished, IsStopped, IsFaultOf};
 
@@ -49,8 +51,9 @@ fn fill<R: Wait, B: Crew>(rt: &R, queue: &Queue<B>, pass: &mut QueuePass, actors
     requires room { ruled_capacity queue.now ≡ B.asked.crew.net.setting.game.graph.vertices }
     requires actors { All (IsOurs B.asked.crew) actors.items }
     requires has { (view pass.old).has ≡ map (λ a. a.vertex) actors.items }
+    requires turns { (got_turns (view pass.old) ≡ 0) × (gave_turns (view pass.old) ≡ 0) × (all_turns actors.items ≡ 0) }
     ensures pass { IsPassOf queue.now pass.new }
-    ensures has { ((view pass.new).has ≡ []) × ((view pass.new).workers ≡ (view pass.old).workers) }
+    ensures has { HasNothing (view pass.new) × ((view pass.new).workers ≡ (view pass.old).workers) }
 {
     for actor in actors {
         let Ok(()) = queue.push_as::<Pushed<B>, R>(rt, pass, actor) else {
@@ -70,10 +73,10 @@ fn passes<'q, B: Crew>(
     requires sharing { B.asked.crew.sharing ≡ shares.Queue }
     requires workers { (workers ≡ B.asked.crew.workers) × (0 < workers) × (workers ≤ max_workers) }
     requires pass { IsPassOf queue.now pass }
-    requires has { ((view pass).has ≡ []) × ((view pass).workers ≡ workers) }
-    requires gathering { IsGathering B.asked.crew gathering × AreSeated gathering.seats.items [] }
+    requires has { HasNothing (view pass) × ((view pass).workers ≡ workers) }
+    requires gathering { IsGathering B.asked.crew gathering × AreSeated gathering.seats.items [] × (seat_turns gathering.seats.items ≡ 0) }
     ensures shares { IfOk result (λ r. AreShares B.asked r.0.items × (queue_of_all r.0.items ≡ queue_for r.1)) }
-    ensures back { IfOk result (λ r. AreBack B.asked.crew 0 r.1) }
+    ensures back { IfOk result (λ r. AreBack B.asked 0 r.1) }
 {
     let mut all = Vec::with_capacity(alloc, workers as usize)?;
     for _ in 0..workers {
@@ -141,7 +144,7 @@ fn work_all<'a, R: Threads + Wait, B: Crew + Send + Sync, G: Gate + Sync>(
     requires leader { IsLeader B.asked leader }
     requires shares { AreShares B.asked own.items }
     requires uses { queue_of_all own.items ≡ queue_for back }
-    requires back { AreBack B.asked.crew 0 back }
+    requires back { AreBack B.asked 0 back }
     ensures finished { IfOk result (HasFinished B.asked.crew B.asked.feeds B.asked.plan) }
     ensures stopped { IfErr result (IsStopped B.asked) }
 {
@@ -150,7 +153,7 @@ fn work_all<'a, R: Threads + Wait, B: Crew + Send + Sync, G: Gate + Sync>(
         rt,
         |scope| -> Result<Finished, CrewFault>
             requires { IsLeader B.asked leader × AreShares B.asked own.items × (queue_of_all own.items ≡ queue_for back)
-                × AreBack B.asked.crew 0 back }
+                × AreBack B.asked 0 back }
             ensures { IfOk result (HasFinished B.asked.crew B.asked.feeds B.asked.plan) × IfErr result (IsStopped B.asked) }
         {
             let (leader, others) = start_all(scope, alloc, shared, leader, own)?;

@@ -1,11 +1,11 @@
 use Rattle.std.proofs.Common.{rules, ◌≡◌, ◌+◌, ◌-◌, ◌*◌, ℕ, None, List, length, length-drop, drop, refl, sym, ap, subst, arith}
 use Rattle.chip_graph.specs.Multigraph.{Multigraph}
 use Rattle.chip_net.specs.Tokens.{ActorKnown}
-use Rattle.chip_crew.specs.Crew.{IsAt, AreFrom}
+use Rattle.chip_crew.specs.Crew.{IsAt, AreFrom, turns_of, all_turns}
 use Rattle.chip_crew.specs.Dealing.{IsCut}
 use Rattle.chip_crew.specs.Handed.{AreReady, IsReady}
 use Rattle.chip_crew.specs.declared.worker.Share.TheVariants as share
-use Rattle.chip_crew.proofs.RunLemmas.{from_push, from_drop}
+use Rattle.chip_crew.proofs.RunLemmas.{from_push, from_drop, sum_cut}
 use Rattle.chip_crew.proofs.DealingLemmas.{Follows, follows, are_of, cut_next}
 use Rattle.chip_crew.proofs.dealing.deal.Goals as goal
 
@@ -26,6 +26,10 @@ loop-worker-preserved g c =
     let step : Follows g.B.Crew.asked.crew c.loop-worker.worker first next (length actors) =
     follows g.B.Crew.asked.crew G c.args.workers c.loop-worker.worker first next (length actors)
     c.requires.graph c.requires.workers.2 (search rules) i.first_is i.whole cut in
+    let none : (all_turns c.split_off.new.self.items ≡ 0) × (all_turns c.in_ok-rest.rest.items ≡ 0) =
+    (let both = sum_cut turns_of (next - first) actors in let own = ap all_turns c.in_ok-rest.ensures.items in
+    let left = ap all_turns c.in_ok-rest.ensures.tail in let old = i.no_turns in
+    (omega (arith, both, own, left, old), omega (arith, both, own, left, old))) in
     let end : first + (next - first) ≡ next = (let behind = step.behind in omega (arith, behind)) in
     let place : c.loop-worker.worker ≡ 0 + length c.loop-worker.all.items = (let count = i.count in omega (arith, count)) in
     record {
@@ -35,6 +39,7 @@ loop-worker-preserved g c =
       actors = subst (AreFrom g.B.Crew.asked.crew next) (sym c.in_ok-rest.ensures.tail)
           (subst (λ (n : ℕ). AreFrom g.B.Crew.asked.crew n (drop (next - first) actors)) end
           (from_drop (IsAt g.B.Crew.asked.crew) first (next - first) actors i.actors));
+      no_turns = none.1;
       whole = (let some = step.some in let behind = step.behind in let whole = i.whole in
           let left = length-drop (next - first) actors in
           subst (λ (xs : List ActorKnown). next + length xs ≡ g.B.Crew.asked.crew.net.setting.game.graph.vertices)
@@ -46,7 +51,7 @@ loop-worker-preserved g c =
               c.requires.sharing,
               are_of g.B.Crew.asked.crew c.loop-worker.worker first next actors c.split_off.new.self.items i.first_is step
                   i.actors c.in_ok-rest.ensures.items,
-              (c.split_off.new.self.items, refl),
+              (c.split_off.new.self.items, none.0, refl),
             );
             uses = refl;
           })));

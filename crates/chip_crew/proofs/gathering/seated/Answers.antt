@@ -1,7 +1,10 @@
-use Rattle.std.proofs.Common.{◌≡◌, ◌∙◌, sym, subst, List, Some, rules, arith}
+use Rattle.chip_crew.proofs.RunLemmas.{sum_at}
+use Rattle.std.proofs.lemmas.List.Sums.{sum_by_push}
+use Rattle.chip_crew.specs.Ledger.{kept_turns}
+use Rattle.std.proofs.Common.{◌≡◌, ◌∙◌, sym, subst, List, Some, rules, arith, ap}
 use Rattle.std.specs.Prelude.{slice_get}
 use Rattle.chip_net.specs.Tokens.{ActorKnown}
-use Rattle.chip_crew.specs.Crew.{AreInOrder}
+use Rattle.chip_crew.specs.Crew.{AreInOrder, turns_of, all_turns}
 use Rattle.chip_crew.proofs.GatheringLemmas.{seats_left, order_push, at_place, free_place, free_or_seated, elsewhere}
 use Rattle.chip_crew.proofs.gathering.seated.Goals as goal
 
@@ -20,6 +23,11 @@ loop-vertex-preserved g c =
       order = subst (λ (xs : List ActorKnown). AreInOrder g.B.Crew.asked.crew xs) (sym c.push_reserved.ensures.items)
           (order_push g.B.Crew.asked.crew c.loop-vertex.actors.items c.in-Some.actor seated.0 (seated.1
           ∙ sym i.count) i.order);
+      turns = (let set = sum_at kept_turns c.loop-vertex.seats.items c.loop-vertex.vertex (Some c.in-Some.actor)
+          c.take.new.self there in let none = ap kept_turns c.take.ensures.after in
+          let all = ap all_turns c.push_reserved.ensures.items in
+          let more = sum_by_push turns_of c.loop-vertex.actors.items c.in-Some.actor in let old = i.turns in
+          omega (arith, set, none, all, more, old));
       left = λ v from. elsewhere c.loop-vertex.seats.items c.loop-vertex.vertex v c.take.new.self (omega (arith, from))
           ∙ i.left v (omega (arith, from));
     }

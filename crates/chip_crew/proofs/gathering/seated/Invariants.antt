@@ -1,7 +1,8 @@
-use Rattle.std.proofs.Common.{◌≡◌, ◌≤◌, ℕ, length}
+use Rattle.chip_crew.specs.Gathering.{seat_turns}
+use Rattle.std.proofs.Common.{◌≡◌, ◌≤◌, ℕ, length, ◌+◌}
 use Rattle.std.specs.Prelude.{slice_get}
 use Rattle.std.specs.Vec.{vec_capacity}
-use Rattle.chip_crew.specs.Crew.{AreSeats, AreInOrder}
+use Rattle.chip_crew.specs.Crew.{AreSeats, AreInOrder, all_turns}
 use Rattle.chip_crew.proofs.gathering.seated.Given as goal
 
 abbrev pub invariant-loop-vertex : goal.invariant-loop-vertex
@@ -11,4 +12,5 @@ invariant-loop-vertex g l = record {
   count : length l.actors.items ≡ l.vertex;
   order : AreInOrder g.B.Crew.asked.crew l.actors.items;
   left : (v : ℕ) → l.vertex ≤ v → slice_get l.seats.items v ≡ slice_get l.fn.gathering.seats.items v;
+  turns : all_turns l.actors.items + seat_turns l.seats.items ≡ seat_turns l.fn.gathering.seats.items;
 }

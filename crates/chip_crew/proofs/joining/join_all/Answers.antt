@@ -25,6 +25,7 @@ shut_some asked worker true passed new is before here less nay =
 pub take-requires-clause-made : goal.take-requires-clause-made
 take-requires-clause-made g c = (
   c.join-share.result.turns,
+  c.join-share.ensures.is_handed.at_most,
   subst (λ (w : ℕ). HasMade g.B.Crew.asked w c.join-share.result.turns c.join-share.result.share)
       (c.requires.leader.0.number_is ∙ sym c.requires.none_yet.0) c.join-share.ensures.is_handed.made,
 )
@@ -57,6 +58,7 @@ take-requires-in-loop-started-clause-made g c =
     let first = (subst (EachFrom (λ worker h. IsWorker g.B.Crew.asked (queue_for c.loop-started.collected.back) worker
     h.promise) c.loop-started.collected.workers) c.in-Some.ensures.steps.0 c.loop-started.invariant.workers).0 in (
       c.join-share-in-loop-started.result.turns,
+      c.join-share-in-loop-started.ensures.is_handed.at_most,
       subst (λ (w : ℕ). HasMade g.B.Crew.asked w c.join-share-in-loop-started.result.turns
           c.join-share-in-loop-started.result.share) first.number_is c.join-share-in-loop-started.ensures.is_handed.made,
     )

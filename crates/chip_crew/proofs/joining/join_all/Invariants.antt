@@ -7,7 +7,7 @@ use Rattle.chip_crew.proofs.joining.join_all.Given as goal
 
 abbrev pub invariant-loop-started : goal.invariant-loop-started
 invariant-loop-started g l = record {
-  are_back : AreBack g.B.Crew.asked.crew l.collected.workers l.collected.back;
+  are_back : AreBack g.B.Crew.asked l.collected.workers l.collected.back;
   passed : l.collected.passed ≡ false
       → SomeShut g.B.Crew.asked.may_answer g.B.Crew.asked.crew.workers g.B.Crew.asked.plan.turns;
   workers : EachFrom (λ worker h. IsWorker g.B.Crew.asked (queue_for l.collected.back) worker h.promise)

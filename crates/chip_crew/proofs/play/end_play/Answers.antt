@@ -1,9 +1,9 @@
-use Rattle.std.proofs.Common.{◌∙◌, List, sym, subst}
+use Rattle.std.proofs.Common.{◌∙◌, List, sym, subst, ◌≤◌, ◌*◌}
 use Rattle.chip_net.specs.Tokens.{ActorKnown}
 use Rattle.chip_net.specs.Roots.{RootKnown}
 use Rattle.chip_net.proofs.FinishingLemmas.{one_run}
 use Rattle.chip_net.specs.Meeting.{IsRun}
-use Rattle.chip_crew.specs.Crew.{AreActors}
+use Rattle.chip_crew.specs.Crew.{AreActors, all_turns}
 use Rattle.chip_crew.specs.Ending.{EndsLed}
 use Rattle.chip_crew.proofs.FinishingLemmas.{ends_led, stays_led}
 use Rattle.chip_crew.proofs.SealingLemmas.{stopper_there}
@@ -11,7 +11,7 @@ use Rattle.chip_crew.proofs.play.end_play.Goals as goal
 
 pub meet-requires-clause-actors : goal.meet-requires-clause-actors
 meet-requires-clause-actors g c v a at =
-    let ours = c.gather-actors.ensures.order v a at in (ours.0.net_is ∙ sym c.shared.invariant.net_is, ours.1)
+    let ours = c.gather-actors.ensures.actors.order v a at in (ours.0.net_is ∙ sym c.shared.invariant.net_is, ours.1)
 
 pub returns-in-Ok-clause-finished : goal.returns-in-Ok-clause-finished
 returns-in-Ok-clause-finished g c =
@@ -22,7 +22,9 @@ returns-in-Ok-clause-finished g c =
           c.in-Ok.outcome) (sym same.0)
           (ends_led g.B.Crew.asked c.args.joined.round c.go_on.result c.go_on.new.self c.take_back.new.root
           c.go_on.ensures.led c.go_on.ensures.lasts c.take_back.ensures.back c.in-Ok.receipt c.in-Ok.outcome ends);
-      actors = subst (AreActors g.B.Crew.asked.crew) (sym same.1) c.gather-actors.ensures;
+      actors = subst (AreActors g.B.Crew.asked.crew) (sym same.1) c.gather-actors.ensures.actors;
+      turns = subst (λ (xs : List ActorKnown). all_turns xs ≤ g.B.Crew.asked.crew.workers * g.B.Crew.asked.plan.turns)
+          (sym same.1) c.gather-actors.ensures.turns;
       run = subst (λ (z : RootKnown × List ActorKnown). IsRun z.0 z.1 c.in-Ok.outcome)
           (λ i. (sym same.0 i, sym same.1 i))
           (one_run ends.root c.in-Ok.receipt c.in-Ok.outcome c.gather-actors.result.items ends.finishes

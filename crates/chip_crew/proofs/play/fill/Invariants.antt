@@ -1,6 +1,7 @@
+use Rattle.chip_crew.specs.Ledger.{got_turns, gave_turns}
 use Rattle.std.proofs.Common.{◌≡◌, All, map}
 use Rattle.crossbeam_queue.specs.Passes.{view, IsPassOf}
-use Rattle.chip_crew.specs.Crew.{IsOurs}
+use Rattle.chip_crew.specs.Crew.{IsOurs, all_turns}
 use Rattle.chip_crew.proofs.play.fill.Given as goal
 
 abbrev pub invariant-loop-actor : goal.invariant-loop-actor
@@ -8,5 +9,8 @@ invariant-loop-actor g l = record {
   pass : IsPassOf l.queue l.pass;
   ours : All (IsOurs g.B.Crew.asked.crew) l.actor-iterator.rest.items;
   has : (view l.pass).has ≡ map (λ a. a.vertex) l.actor-iterator.rest.items;
+  got : got_turns (view l.pass) ≡ 0;
+  gave : gave_turns (view l.pass) ≡ 0;
+  left : all_turns l.actor-iterator.rest.items ≡ 0;
   workers : (view l.pass).workers ≡ (view l.fn.pass).workers;
 }

@@ -1,3 +1,4 @@
+use Rattle.chip_crew.specs.Places.{HasNothing}
 use Rattle.std.proofs.Common.{◌≡◌, ◌<◌, List, [], ◌∷◌, length, rules, None, Some, ◌∙◌, refl, sym, ap, subst, arith, Option}
 use Rattle.atomic_table.specs.Seated.{TableId}
 use Rattle.chip_crew.specs.Handed.{AreReady, IsReady}
@@ -34,7 +35,7 @@ loop-preserved g c =
       count = search rules;
       room = search rules;
       pass = search rules;
-      has = ap (λ (l : Ledger). l.has) fewer ∙ i.has;
+      has = subst HasNothing (sym fewer) i.has;
       left = omega (arith, left, one);
     }
 

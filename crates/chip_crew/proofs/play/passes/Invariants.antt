@@ -1,4 +1,5 @@
-use Rattle.std.proofs.Common.{◌≡◌, ◌≤◌, ◌+◌, [], Some, length}
+use Rattle.chip_crew.specs.Places.{HasNothing}
+use Rattle.std.proofs.Common.{◌≡◌, ◌≤◌, ◌+◌, Some, length}
 use Rattle.std.specs.Vec.{vec_capacity}
 use Rattle.crossbeam_queue.specs.Passes.{view, IsPassOf}
 use Rattle.chip_crew.specs.Handed.{AreReady}
@@ -10,6 +11,6 @@ invariant-loop g l = record {
   count : length l.all.items ≡ l.counter;
   room : l.workers ≤ vec_capacity l.all;
   pass : IsPassOf l.queue l.pass;
-  has : (view l.pass).has ≡ [];
+  has : HasNothing (view l.pass);
   left : (view l.pass).workers + l.counter ≡ l.workers;
 }

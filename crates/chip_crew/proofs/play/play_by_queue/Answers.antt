@@ -1,7 +1,7 @@
 use Rattle.std.proofs.Common.{◌≡◌, ◌∙◌, sym, ap, rules}
 use Rattle.crossbeam_queue.specs.Passes.{view}
 use Rattle.chip_crew.specs.declared.queue.Ledger.{Ledger}
-use Rattle.chip_crew.specs.Ledger.{numbers_from, first_ledger}
+use Rattle.chip_crew.specs.Ledger.{numbers_from, first_ledger, got_turns, gave_turns}
 use Rattle.chip_crew.proofs.PlacesLemmas.{begins, numbers_are}
 use Rattle.chip_crew.proofs.RunLemmas.{ours_from}
 use Rattle.chip_crew.proofs.play.play_by_queue.Goals as goal
@@ -18,3 +18,8 @@ fill-requires-clause-has g c =
     let first : view c.in_ok-queue.pass ≡ first_ledger g.B.Crew.asked.crew = search rules in
     ap (λ (l : Ledger). l.has) first ∙ ap (numbers_from 0) (sym c.requires.opened.count)
     ∙ numbers_are g.B.Crew.asked.crew 0 c.args.actors.items c.requires.opened.each
+
+pub fill-requires-clause-turns : goal.fill-requires-clause-turns
+fill-requires-clause-turns g c =
+    let first : view c.in_ok-queue.pass ≡ first_ledger g.B.Crew.asked.crew = search rules in
+    (ap got_turns first, ap gave_turns first, c.requires.opened.no_turns)

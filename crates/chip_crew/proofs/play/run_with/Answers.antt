@@ -1,4 +1,4 @@
-use Rattle.std.proofs.Common.{◌≡◌, ◌∙◌, refl, sym, ap, rules, false, List, ℕ, Option, Some, None, Bor}
+use Rattle.std.proofs.Common.{◌≡◌, ◌∙◌, refl, sym, ap, rules, false, List, ℕ, Option, Some, None, Bor, ◌<◌, subst}
 use Rattle.std.specs.Prelude.{is_some}
 use Rattle.std.specs.Option.{option_copied, option_zip}
 use Rattle.chip_part.specs.Setting.{Setting, setting_with}
@@ -6,7 +6,7 @@ use Rattle.chip_net.specs.Roots.{RootKnown}
 use Rattle.chip_crew.specs.Asked.{Asked, asked_of}
 use Rattle.chip_crew.specs.Finished.{IsCrewFor}
 use Rattle.chip_crew.specs.Sealing.{HasSealed}
-use Rattle.chip_crew.proofs.OwningLemmas.{ours_by, true_or_false}
+use Rattle.chip_crew.proofs.OwningLemmas.{ours_by, new_turns, true_or_false}
 use Rattle.chip_crew.proofs.FinishingLemmas.{root_opens, may_begin, plan_names_edge, plan_workers, plan_turns, ended_for}
 use Rattle.chip_crew.proofs.SealingLemmas.{none_sealed, may_seal}
 use Rattle.chip_crew.proofs.play.run_with.Goals as goal
@@ -59,6 +59,8 @@ play_on-requires-clause-opened g c κs within =
           (ap (λ (s : Setting). s.game.graph.vertices) c.in_ok-opened.ensures.setting) c.in_ok-opened.ensures.count
           c.in_ok-opened.ensures.actors;
       count = search rules;
+      no_turns = new_turns c.in_ok-opened.opened.net c.args.plan.trace_rows opened.actors.items (λ v less.
+          c.in_ok-opened.ensures.actors v (subst (λ (n : ℕ). v < n) c.in_ok-opened.ensures.count less));
       some = search rules;
       workers_are = refl;
       some_workers = workers.0;

@@ -8,9 +8,9 @@ use native.Mathlib.Decide.{ℕ_discrete}
 use Rattle.chip_graph.specs.ChipGame.{IsGame}
 use Rattle.chip_graph.specs.Sums.{sum_below}
 use Rattle.chip_graph.specs.Multigraph.{edge_at, IsDistance}
-use Rattle.chip_sequence.specs.Bound.{greatest_degree, firing_bound}
+use Rattle.chip_sequence.specs.Bound.{greatest_degree, firing_bound, IsGreatestDistance}
 use Rattle.chip_sequence.proofs.EndLemmas.{least_action, continued}
-use Rattle.chip_sequence.proofs.BoundLemmas.{bound_law}
+use Rattle.chip_sequence.proofs.BoundLemmas.{bound_law, below_top}
 use Rattle.chip_graph.proofs.SumLemmas.{cond_yes, cond_no, cond_true, cond_false, by_test, sum_below_le, sum_below_ext}
 use Rattle.chip_graph.proofs.SumLemmas.{sum_below_add, sum_below_split, sum_below_move, sum_below_scale}
 use Rattle.chip_link.specs.Link.{Tail, claims_of, after_clear, after_claim, after_put, after_take}
@@ -29,11 +29,13 @@ use Rattle.chip_part.proofs.RuleLemmas.{rules_met}
 use Rattle.chip_core.specs.Core.{Log, Step, Event, Take, Ack, Fire, Clear, Claim, Put, Halt, Settle, Seal, Read, Feed}
 use Rattle.chip_core.specs.Core.{End, Part, part_of, part_in, out_in, into_in, sees, IsLegalLog, tail_of, head_of}
 use Rattle.chip_core.specs.Core.{root, root_edge, all_edges, graph_edges, fired_by}
-use Rattle.chip_core.specs.Positions.{chips_given, firings, fed_of}
+use Rattle.chip_core.specs.Positions.{chips_given, played_game, firings, fed_of}
 use Rattle.chip_core.specs.Work.{counts_as_work, is_refused_claim, is_refusal, work_in, refusals_in, starters}
 use Rattle.chip_core.specs.Work.{steps_at_most, fires_at_most}
 use Rattle.chip_core.specs.Work.{AreFiringBounds, FewSteps, DistancesBound, FewRefusals}
 use Rattle.chip_core.proofs.PositionLemmas.{counts_are, is_sequence, is_within}
+use Rattle.chip_core.proofs.NumberLemmas.{few_root_claims}
+use Rattle.std.proofs.Common.{min, sum}
 use Rattle.chip_core.proofs.LogLemmas.{part_here, part_else, out_kept, edge_sound, edge_counts, link_step}
 use Rattle.chip_core.proofs.LogLemmas.{settled_step, got_step, acked_step, tail_inside}
 use Rattle.chip_core.proofs.GivenLemmas.{feed_sees, recorded, recorded_step, given_sum, played_has_more}
@@ -364,6 +366,19 @@ module _ (g : Setting) where
         let f = length-append (recorded g game some_ring log) (fed_of g x.event) in
         omega arith
 
+    -- each of them has a chip
+    pub feeds_fit : (log : Log) → IsLegalLog g log
+        → starters g.game + length (recorded g game some_ring log) ≤ sum (played_game g log).start
+    feeds_fit log legal =
+        let n : ℕ = g.game.graph.vertices in
+        let a = root_claims_are log legal in
+        let b = sum_below_le n (root_claims log) (chips_given g log) (λ v l.
+        let at : root_edge g v - graph_edges g ≡ v = omega arith in
+        let c = few_root_claims g game some_ring log legal (root_edge g v) (omega arith) in
+        let d = ap (chips_given g log) at in omega arith) in
+        let f = given_sum g game some_ring log in
+        omega arith
+
     -- ---- the bound
 
     ones : (n : ℕ) → sum_below n (λ v. 1) ≡ n
@@ -477,6 +492,24 @@ module _ (g : Setting) where
         omega arith
 
     -- ---- by whole plays, and by distances
+
+    -- where no vertex is further from the sink, one number for all
+    pub distance_bounds : (log : Log) → IsLegalLog g log → (distance : ℕ) → IsGreatestDistance g.game.graph distance
+        → AreFiringBounds g log (λ v. min g.game.limit
+        (firing_bound (sum (played_game g log).start) (greatest_degree g.game.graph) distance))
+    distance_bounds log legal distance is =
+        let play = continued g.game.graph (chips_given g log) g.game.limit [] tt (λ v. omega arith) in
+        record {
+          firings = play.0;
+          whole = play.1;
+          enough = λ v l.
+              let a = below_top g.game.graph game.graph_fits (chips_given g log) distance is.greatest play.0
+              play.1.sequence v in
+              let b = play.1.within v in
+              let d = given_sum g game some_ring log in
+              let h = ap (λ (n : ℕ). firing_bound n (greatest_degree g.game.graph) distance) d in
+              omega arith;
+        }
 
     pub few_steps_at : (log : Log) → IsLegalLog g log → (fired : ℕ → ℕ) → AreFiringBounds g log fired
         → work_in g log ≤ steps_at_most g.game (length (recorded g game some_ring log)) fired

@@ -12,3 +12,4 @@ pub mod DeterminedLemmas
 pub mod WorkedDrives
 pub mod OwnTurnLemmas
 pub mod ClosesLemmas
+pub mod EnoughLemmas

@@ -5,4 +5,5 @@ pub mod TurnWords
 pub mod Lanes
 pub mod Run
 pub mod Rounds
+pub mod Enough
 pub mod Worked

@@ -6,10 +6,16 @@ use Rattle.chip_part.specs.Steps.{saw}
 use Rattle.chip_core.specs.Core.{Take, Ack, Settle}
 use Rattle.chip_world.specs.declared.world.driving.Drive.TheVariants.{Closed, Unfinished}
 use Rattle.chip_world.specs.Rounds.{root_settles, IsDrive}
+use Rattle.chip_world.specs.Enough.{rounds_to_close}
 
 -- the root edges of the triangle come after its four edges
 abbrev pub TriangleRootEdges : Type 0
 TriangleRootEdges = root_settles (small_triangle (4 ∷ 0 ∷ 0 ∷ [])) 3 ≡ Settle 4 ∷ Settle 5 ∷ Settle 6 ∷ []
+
+-- the triangle with four chips surely closes in 116 rounds: no vertex is further than 1 from the sink, so that none fires
+-- more than four times: (3 + 5 * 4) * 4 + 5 * 4 + 3 + 1
+abbrev pub TriangleRounds : Type 0
+TriangleRounds = rounds_to_close (small_triangle (4 ∷ 0 ∷ 0 ∷ [])).game 1 ≡ 116
 
 -- the sink alone, with five chips
 abbrev pub sink_alone : Setting

@@ -16,6 +16,7 @@ impl World {
     ghost use Rattle.chip_world.specs.World.{SomeLogWhere};
     ghost use Rattle.chip_world.specs.Rounds.{Leads, IsTurnAfter, AreTurns, AreRootsSettled, IsRound, IsDrive};
     ghost use Rattle.chip_world.specs.Rounds.{NoOtherDrive, ClosesBy};
+    ghost use Rattle.chip_world.specs.Enough.{ClosesIn};
 
     /// One whole turn of a vertex, over the shared words.
     fn turn(&mut self, vertex: u64)
@@ -62,6 +63,7 @@ impl World {
         ensures drives { Leads self.old self.new (λ g before after. IsDrive g rounds before after result) }
         ensures no_other { NoOtherDrive self.old self.new rounds result }
         ensures closes { ClosesBy self.old rounds result }
+        ensures closes_in { ClosesIn self.old rounds result }
     {
         for _ in 0..rounds {
             if self.closed() {

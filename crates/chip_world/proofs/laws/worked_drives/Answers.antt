@@ -5,6 +5,9 @@ use Rattle.chip_world.proofs.laws.worked_drives.Goals as goal
 pub returns-clause-triangle_root_edges : goal.returns-clause-triangle_root_edges
 returns-clause-triangle_root_edges c = refl
 
+pub returns-clause-triangle_rounds : goal.returns-clause-triangle_rounds
+returns-clause-triangle_rounds c = refl
+
 pub returns-clause-one_round_closes : goal.returns-clause-one_round_closes
 returns-clause-one_round_closes c = one_round_closes
 

@@ -3,6 +3,7 @@ use Rattle.chip_world.specs.Rounds.{AreRounds, IsDrive}
 use Rattle.chip_world.specs.declared.world.driving.Drive.TheVariants.{Closed, Unfinished}
 use Rattle.chip_world.proofs.ClosesLemmas.{drive_closes}
 use Rattle.chip_world.proofs.DeterminedLemmas.{no_other}
+use Rattle.chip_world.proofs.EnoughLemmas.{closes_in}
 use Rattle.chip_world.proofs.world.World.drive.Goals as goal
 
 pub loop-preserved : goal.loop-preserved
@@ -67,3 +68,7 @@ returns-else-closed-2-clause-closes c = λ g before stands end put fired bounds 
     let is = returns-else-closed-2-clause-drives c g before stands in
     drive_closes g stands.is_setting.game stands.is_setting.some_ring before is.0 stands.legal end put fired bounds
     c.args.rounds enough (Unfinished c.args.rounds) is.2
+
+pub returns-else-closed-2-clause-closes_in : goal.returns-else-closed-2-clause-closes_in
+returns-else-closed-2-clause-closes_in c = closes_in c.args.self.now c.args.rounds (Unfinished c.args.rounds)
+    (returns-else-closed-2-clause-closes c)

@@ -1,0 +1,43 @@
+-- Serves Enough.antt.
+-- The rounds that surely close a game are more than its steps that count.
+use Rattle.std.proofs.Common.{◌≡◌, ℕ, zero, suc, ◌+◌, ◌*◌, ◌<◌, ◌≤◌, length, sum, min, arith, add-mul, suc-mul}
+use Rattle.chip_graph.specs.ChipGame.{IsGame}
+use Rattle.chip_graph.specs.Sums.{sum_below}
+use Rattle.chip_sequence.specs.Bound.{greatest_degree, firing_bound}
+use Rattle.chip_part.specs.Setting.{Setting}
+use Rattle.chip_core.specs.Core.{Log, IsLegalLog}
+use Rattle.chip_core.specs.Positions.{played_game}
+use Rattle.chip_core.specs.Work.{steps_at_most, fed_so_far}
+use Rattle.chip_core.proofs.WorkLemmas.{feeds_fit, distance_bounds}
+use Rattle.chip_world.specs.World.{WorldState}
+use Rattle.chip_world.specs.Rounds.{ClosesBy}
+use Rattle.chip_world.specs.Enough.{rounds_to_close, ClosesIn}
+use Rattle.chip_world.specs.declared.world.driving.Drive.{Drive}
+
+alike : (n c : ℕ) → sum_below n (λ v. c) ≡ n * c
+alike zero c = Rattle.std.proofs.Common.sym (Rattle.std.proofs.Common.zero-mul c)
+alike (suc n) c = let a = alike n c in let b = suc-mul n c in omega arith
+
+-- a common factor of the firings and five times the messages
+factor : (n m c k : ℕ) → m * c ≡ k → n * c + 5 * k ≡ (n + 5 * m) * c
+factor n m c k is = let a = add-mul n (5 * m) c in let b : (5 * m) * c ≡ 5 * (m * c) = Rattle.std.proofs.Common.mul_assoc 5 m c in omega arith
+
+more_than_steps : (g : Setting) → IsGame g.game → 0 < g.ring → (log : Log) → IsLegalLog g log → (distance : ℕ)
+    → steps_at_most g.game (length (fed_so_far g log)) (λ v. min g.game.limit
+    (firing_bound (sum (played_game g log).start) (greatest_degree g.game.graph) distance))
+    < rounds_to_close (played_game g log) distance
+more_than_steps g game some_ring log legal distance =
+    let c : ℕ = min g.game.limit (firing_bound (sum (played_game g log).start) (greatest_degree g.game.graph) distance) in
+    let n : ℕ = g.game.graph.vertices in
+    let m : ℕ = length g.game.graph.edges in
+    let a = alike n c in let b = alike m c in
+    let f = factor n m c (m * c) Rattle.std.proofs.Common.refl in
+    let h = feeds_fit g game some_ring log legal in
+    omega arith
+
+-- so a drive that closes by more rounds than steps closes in so many
+pub closes_in : (old : WorldState) (rounds : ℕ) (result : Drive) → ClosesBy old rounds result → ClosesIn old rounds result
+closes_in old rounds result by g log stands end put distance is enough =
+    let few = more_than_steps g stands.is_setting.game stands.is_setting.some_ring log stands.legal distance in
+    by g log stands end put _
+    (distance_bounds g stands.is_setting.game stands.is_setting.some_ring log stands.legal distance is) (omega arith)

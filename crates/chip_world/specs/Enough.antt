@@ -1,0 +1,25 @@
+-- How many rounds surely close a game.
+use Rattle.std.specs.Prelude.{◌≡◌, ℕ, ◌+◌, ◌*◌, ◌≤◌, length, sum, min}
+use Rattle.chip_graph.specs.ChipGame.{ChipGame}
+use Rattle.chip_sequence.specs.Bound.{greatest_degree, firing_bound, IsGreatestDistance}
+use Rattle.chip_core.specs.Positions.{played_game}
+use Rattle.chip_core.specs.Closing.{HasEnd, RootHasPut}
+use Rattle.chip_world.specs.World.{WorldState, WhateverLog}
+use Rattle.chip_world.specs.declared.world.driving.Drive.{Drive}
+use Rattle.chip_world.specs.declared.world.driving.Drive.TheVariants.{Closed}
+
+-- one more than the steps that can count, where no vertex is further than so from the sink: each vertex fires no more
+-- often than the limit and the firing bound allow, each firing makes one message an edge, with five steps, and so does
+-- each chip that the root sends; each vertex may halt
+abbrev pub rounds_to_close : ChipGame → ℕ → ℕ
+rounds_to_close game distance =
+    (game.graph.vertices + 5 * length game.graph.edges)
+    * min game.limit (firing_bound (sum game.start) (greatest_degree game.graph) distance)
+    + 5 * sum game.start + game.graph.vertices + 1
+
+-- once the end is noted and no message of the root is claimed and not put, so many rounds of the game with all that was
+-- given close the root
+abbrev pub ClosesIn : WorldState → ℕ → Drive → Type 0
+ClosesIn old rounds result = WhateverLog old (λ g before. HasEnd g before → RootHasPut g before → (distance : ℕ)
+    → IsGreatestDistance g.game.graph distance → rounds_to_close (played_game g before) distance ≤ rounds
+    → result ≡ Closed)

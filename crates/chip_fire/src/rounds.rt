@@ -21,7 +21,8 @@ pub(crate) fn ends_within<W: Watch>(
     watch: &mut W,
 ) -> bool
     requires { IsBegun game.now chips.old fired.old }
-    ensures { IsBegun game.now chips.new fired.new }
+    ensures begun { IsBegun game.now chips.new fired.new }
+    ensures more { looks.old ≤ looks.new }
 {
     let end = looks.saturating_add(most);
     'stretches: while *looks < end {
@@ -46,7 +47,8 @@ pub(crate) fn rounds<W: Watch>(
     watch: &mut W,
 ) -> bool
     requires { IsBegun game.now chips.old fired.old }
-    ensures { GoesRound game.now fired.old chips.new fired.new result }
+    ensures round { GoesRound game.now fired.old chips.new fired.new result }
+    ensures more { looks.old ≤ looks.new }
 {
     let graph = game.graph();
     let vertices = graph.vertices().max(1);

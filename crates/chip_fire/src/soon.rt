@@ -1,4 +1,4 @@
-ghost use Rattle.std.specs.Prelude.{◌≡◌, length, slice_index};
+ghost use Rattle.std.specs.Prelude.{◌≡◌, ◌+◌, ◌≤◌, length, slice_index};
 ghost use Rattle.chip_fire.specs.Rounds.{IsBegun, IsInRange};
 
 use crate::rounds::ends_within;
@@ -39,7 +39,9 @@ pub(crate) fn ends_soon<W: Watch>(
 }
 
 /// The work of looking at each vertex and each edge out once.
-pub(crate) fn looks_at_all(graph: &Graph) -> u64 {
+pub(crate) fn looks_at_all(graph: &Graph) -> u64
+    ensures { result ≤ graph.now.vertices + length graph.now.edges }
+{
     graph.vertices().saturating_add(graph.edges().len() as u64)
 }
 

@@ -1,5 +1,5 @@
-ghost use Rattle.std.specs.Prelude.{◌≡◌, length, IfOk, IfSome};
-ghost use Rattle.chip_fire.specs.Rounds.{IsBegun};
+ghost use Rattle.std.specs.Prelude.{◌≡◌, ◌+◌, ◌*◌, ◌≤◌, length, IfOk, IfSome};
+ghost use Rattle.chip_fire.specs.Rounds.{IsBegun, IsShort};
 
 use crate::certificate::certify;
 use crate::rounds::ends_within;
@@ -27,14 +27,15 @@ pub(crate) fn start<W: Watch>(
     if ends_soon(game, &mut looks, &mut chips, &mut fired, watch) {
         return Ok((chips, fired));
     }
-    Ok(by_turns(alloc, game, chips, fired, watch))
+    Ok(by_turns(alloc, game, looks, chips, fired, watch))
 }
 
-/// The chips and counts at which a play goes on once counts were searched: those found, or those to which
-/// the play has come meanwhile.
+/// The chips and counts at which a play goes on that has made so many looks, once counts were searched: those found, or
+/// those to which the play has come meanwhile.
 fn by_turns<W: Watch>(
     alloc: Global,
     game: &Game,
+    looks: u64,
     mut chips: Vec<u64>,
     mut fired: Vec<u64>,
     watch: &mut W,
@@ -45,69 +46,96 @@ fn by_turns<W: Watch>(
     let Ok(before) = Vec::from_slice(alloc, &fired) else {
         return (chips, fired);
     };
-    match search_counts(alloc, game, &before, &mut chips, &mut fired, watch) {
+    let mut played = looks;
+    let mut searched = 0u64;
+    let found = search_counts(
+        alloc,
+        game,
+        &before,
+        &mut played,
+        &mut searched,
+        &mut chips,
+        &mut fired,
+        watch,
+    );
+    watch.searched(game, played, searched);
+    match found {
         Some(guess) => jump(alloc, game, guess, chips, fired),
         None => (chips, fired),
     }
 }
 
-/// Searches counts for the play from those of `before` on, while the play goes on: each has its turns, so that a search
-/// that takes long costs little more than the play. Once it is known about how often all vertices fire, the
-/// search may be ahead by a part of what the play would take. `None` where the play has ended first, or where memory
-/// ran out, which ends the search alone.
+/// Searches counts for the play from those of `before` on, while the play goes on: each has its turns. Once it is known
+/// about how often all vertices fire, the search may be ahead by a part of what the play would take, as far as that is
+/// no more than what was played. `None` where the play has ended first, or where memory ran out, which ends the search
+/// alone.
 fn search_counts<W: Watch>(
     alloc: Global,
     game: &Game,
     before: &[u64],
+    played: &mut u64,
+    searched: &mut u64,
     chips: &mut [u64],
     fired: &mut [u64],
     watch: &mut W,
 ) -> Option<GuessedCounts>
     requires begun { IsBegun game.now chips.old fired.old }
     requires before_each { length before.now ≡ game.now.graph.vertices }
+    requires unsearched { searched.old ≡ 0 }
     ensures begun { IsBegun game.now chips.new fired.new }
+    ensures short { IsShort game.now played.new searched.new }
     ensures counts_each { IfSome result (λ guess. length guess.counts.items ≡ game.now.graph.vertices) }
     ensures order_each { IfSome result (λ guess. length guess.order.items ≡ game.now.graph.vertices) }
 {
     let graph = game.graph();
-    let hierarchy = Hierarchy::new(alloc, graph).ok()?;
+    let all = looks_at_all(graph);
+    let ahead = all.saturating_mul(AHEAD);
+    let hierarchy = Hierarchy::new(alloc, graph, searched, ahead)?;
     let mut search = Search::new(alloc, &hierarchy, game, before).ok()?;
-    let begun = firings_of(fired);
-    let turn = looks_at_all(graph).saturating_mul(TURN);
-    let ahead = looks_at_all(graph).saturating_mul(AHEAD);
-    let mut played = 0u64;
-    let mut searched = 0u64;
+    let (begun, made) = (*played, firings_of(fired));
     'turns: for _ in 0..u64::MAX {
-        let firings = firings_of(fired).saturating_sub(begun);
-        let lead = looks_of(search.firings(), played, firings) / LEAD;
-        let due = ahead.saturating_add(played).saturating_add(lead);
-        if go_on(alloc, &mut search, due.saturating_sub(searched), watch).ok()? {
+        let firings = firings_of(fired).saturating_sub(made);
+        let looks = played.saturating_sub(begun);
+        let lead = looks_of(search.firings(), looks, firings) / LEAD;
+        let due = due_of(ahead, *played, lead).max(*searched);
+        if go_on(alloc, &mut search, searched, due, watch).ok()? {
             break;
         }
-        searched = searched.max(due);
-        if ends_within(game, turn, &mut played, chips, fired, watch) {
+        if ends_within(game, all.saturating_mul(TURN), played, chips, fired, watch) {
             return None;
         }
     }
     search.found(alloc, before, game.limit()).ok()
 }
 
-/// Goes on with a search for so much work, and tells time and again how far it has come; whether it is over.
+/// How many looks are due to a search that may be ahead of the play, and may have a lead up to what was played.
+fn due_of(ahead: u64, played: u64, lead: u64) -> u64
+    ensures { result ≤ ahead + 2 * played }
+{
+    ahead
+        .saturating_add(played)
+        .saturating_add(lead.min(played))
+}
+
+/// Goes on with a search up to so many looks, and tells time and again how far it has come; whether it is over.
 fn go_on<W: Watch>(
     alloc: Global,
     search: &mut Search<'_>,
-    work: u64,
+    looks: &mut u64,
+    most: u64,
     watch: &mut W,
-) -> Result<bool, AllocError> {
-    let mut left = work;
-    'parts: for _ in 0..work {
-        let part = left.min(STRETCH);
-        if search.go_on(alloc, part)? {
+) -> Result<bool, AllocError>
+    requires { looks.old ≤ most }
+    ensures { looks.new ≤ most }
+{
+    let mut part = *looks;
+    'parts: for _ in 0..u64::MAX {
+        part = part.saturating_add(STRETCH).min(most);
+        if search.go_on(alloc, looks, part)? {
             return Ok(true);
         }
         watch.searches(search.steps());
-        left = left.saturating_sub(part);
-        if left == 0 {
+        if part == most {
             break;
         }
     }

@@ -1,6 +1,6 @@
 //! Who is told how a play goes on.
 
-ghost use Rattle.chip_fire.specs.Rounds.{IsBegun};
+ghost use Rattle.chip_fire.specs.Rounds.{IsBegun, IsShort};
 
 use chip_graph::Game;
 
@@ -11,6 +11,12 @@ pub trait Watch {
 
     /// Told how many steps a search for counts has made so far, in which no vertex fires.
     fn searches(&mut self, _steps: u64) {}
+
+    /// Told once a search for counts is over how many looks at a vertex or an edge it made, the making of what it stands
+    /// on too, and how many the rounds until then made.
+    fn searched(&mut self, _game: &Game, _played: u64, _searched: u64)
+        requires { IsShort _game.now _played _searched }
+    {}
 
     /// Told after so many more rounds, in each of which some vertex fired, the chips that each vertex has then and how
     /// often it has fired.

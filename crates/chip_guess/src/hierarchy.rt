@@ -1,7 +1,9 @@
+ghost use Rattle.std.specs.Prelude.{◌≤◌};
+
 use crate::cycle::LineSearch;
 use crate::level::{Level, Link, NO_AGGREGATE, narrow};
 use crate::solver::TargetHeight;
-use crate::tuning::{FREE_WEIGHT, MOST_LEVELS};
+use crate::tuning::{FREE_WEIGHT, LOOKS_OF_PHASE, MOST_LEVELS};
 use chip_graph::Graph;
 use std::alloc::{AllocError, Global};
 
@@ -64,18 +66,26 @@ struct Aggregates {
 }
 
 impl Hierarchy {
-    /// The hierarchy of a graph.
-    pub fn new(alloc: Global, graph: &Graph) -> Result<Hierarchy, AllocError> {
-        let mut finest = Level::ins(alloc, graph)?;
-        let outs = Level::outs(alloc, graph)?;
-        let kind = kind_of(alloc, &finest, &outs)?;
+    /// The hierarchy of a graph; `None` where memory runs out, or so many looks in all are too few. Its looks at a vertex
+    /// or a link are added to `looks`.
+    pub fn new(alloc: Global, graph: &Graph, looks: &mut u64, most: u64) -> Option<Hierarchy>
+        requires { looks.old ≤ most }
+        ensures { looks.new ≤ most }
+    {
+        let size = graph.vertices().saturating_add(graph.edges().len() as u64);
+        if !spend(looks, size.saturating_mul(LOOKS_OF_PHASE), most) {
+            return None;
+        }
+        let mut finest = Level::ins(alloc, graph).ok()?;
+        let outs = Level::outs(alloc, graph).ok()?;
+        let kind = kind_of(alloc, &finest, &outs).ok()?;
         let outs = if kind == Kind::Symmetric {
             None
         } else {
             Some(outs)
         };
-        let coarser = coarsen(alloc, &mut finest)?;
-        Ok(Hierarchy {
+        let coarser = coarsen(alloc, &mut finest, looks, most).ok()?;
+        Some(Hierarchy {
             kind,
             finest,
             coarser,
@@ -137,15 +147,40 @@ fn are_zero(numbers: &[i64], links: &[Link]) -> bool {
     links.iter().all(|link| numbers.get(link.vertex as usize).copied() == Some(0))
 }
 
-/// The levels that are coarser than this one.
-fn coarsen(alloc: Global, finest: &mut Level) -> Result<Vec<Level>, AllocError> {
+/// Adds looks to others, unless these are more than `most` then; whether it did.
+pub(crate) fn spend(looks: &mut u64, more: u64, most: u64) -> bool
+    requires { looks.old ≤ most }
+    ensures { looks.new ≤ most }
+{
+    let all = looks.saturating_add(more);
+    if all > most {
+        return false;
+    }
+    *looks = all;
+    true
+}
+
+/// The levels that are coarser than this one, as many as so many looks allow. A level is looked at four times: once for
+/// its aggregates, once for their members, and twice for their links.
+fn coarsen(
+    alloc: Global,
+    finest: &mut Level,
+    looks: &mut u64,
+    most: u64,
+) -> Result<Vec<Level>, AllocError>
+    requires { looks.old ≤ most }
+    ensures { looks.new ≤ most }
+{
     let mut coarser = Vec::new(alloc);
     let mut next = next_level(alloc, finest)?;
-    for _ in 0..MOST_LEVELS {
+    'levels: for _ in 0..MOST_LEVELS {
         let Some(mut level) = next else {
             break;
         };
-        next = next_level(alloc, &mut level)?;
+        next = None;
+        if spend(looks, level.size().saturating_mul(4), most) {
+            next = next_level(alloc, &mut level)?;
+        }
         coarser.push(level)?;
     }
     Ok(coarser)

@@ -2,9 +2,11 @@ ghost use Rattle.std.specs.Prelude.{◌≡◌, ◌≤◌, ℕ, length, slice_ind
 
 use crate::burning::{Burning, Passed};
 use crate::fit::fit_heights;
-use crate::hierarchy::{Hierarchy, Kind};
+use crate::hierarchy::{Hierarchy, Kind, spend};
 use crate::solver::{Progress, Solver, Target};
-use crate::tuning::{FIRST_RAISE, GREAT, STEPS_BEFORE_FIT, STEPS_OF_FIT, WALL_OFFSETS};
+use crate::tuning::{
+    FIRST_RAISE, GREAT, LOOKS_OF_PHASE, STEPS_BEFORE_FIT, STEPS_OF_FIT, WALL_OFFSETS,
+};
 use chip_graph::Game;
 use std::alloc::{AllocError, Global};
 use std::mem;
@@ -54,6 +56,8 @@ pub struct Search<'a> {
     firings: u64,
     /// How many steps were made.
     steps: u64,
+    /// How often one phase ended and the next one began.
+    phases: u64,
 }
 
 /// Counts, and an order of the vertices that may show that every play reaches them.
@@ -92,24 +96,35 @@ impl<'a> Search<'a> {
             raise: FIRST_RAISE,
             firings: 0,
             steps: 0,
+            phases: 0,
         };
         search.stage = search.try_heights(alloc)?;
         Ok(search)
     }
 
-    /// Goes on for about as long as a play takes to look at so many vertices and edges; whether the search
-    /// is over.
-    pub fn go_on(&mut self, alloc: Global, work: u64) -> Result<bool, AllocError> {
-        let mut done = 0u64;
-        for _ in 0..work {
-            if done >= work || self.is_over() {
-                break;
+    /// Makes steps until the search is over or so many looks in all may be too few for the next one; whether it is over.
+    /// Its looks at a vertex or a link are added to `looks`.
+    pub fn go_on(&mut self, alloc: Global, looks: &mut u64, most: u64) -> Result<bool, AllocError>
+        requires { looks.old ≤ most }
+        ensures { looks.new ≤ most }
+    {
+        'steps: for _ in 0..u64::MAX {
+            if matches!(&self.stage, Stage::Found(_) | Stage::GivenUp) {
+                return Ok(true);
             }
-            done = done.saturating_add(self.work_of_step());
+            let phase = self.looks_of_phase();
+            let rest = most.saturating_sub(phase).max(*looks);
+            if !spend(looks, self.looks_of_step(), rest) {
+                return Ok(false);
+            }
             self.steps = self.steps.saturating_add(1);
+            let phases = self.phases;
             self.step(alloc)?;
+            if self.phases != phases {
+                spend(looks, phase, most);
+            }
         }
-        Ok(self.is_over())
+        Ok(false)
     }
 
     /// The counts that were found, up to this limit; those of the start where none were.
@@ -140,18 +155,23 @@ impl<'a> Search<'a> {
         self.firings
     }
 
-    /// Whether it has come to its end.
-    fn is_over(&self) -> bool {
-        matches!(&self.stage, Stage::Found(_) | Stage::GivenUp)
+    /// What a step looks at at most: a cycle goes over each level five times, and over its vertices thrice more, and
+    /// twice over the finest one; a step of burning goes over the graph once, and over its vertices once more.
+    fn looks_of_step(&self) -> u64 {
+        let finest = &self.hierarchy.finest;
+        match &self.stage {
+            Stage::Solving(_) => self
+                .hierarchy
+                .size()
+                .saturating_mul(6)
+                .saturating_add(finest.size().saturating_mul(2)),
+            _ => finest.size().saturating_add(finest.rows.len() as u64),
+        }
     }
 
-    /// What a step costs, in looks of a play: a cycle goes over each level five times, and its looks are
-    /// dearer; counts are burnt in two passes.
-    fn work_of_step(&self) -> u64 {
-        match &self.stage {
-            Stage::Solving(_) => self.hierarchy.size().saturating_mul(6),
-            _ => self.hierarchy.finest.size().saturating_mul(2),
-        }
+    /// What is looked at at most where one phase ends and the next one begins.
+    fn looks_of_phase(&self) -> u64 {
+        self.hierarchy.finest.size().saturating_mul(LOOKS_OF_PHASE)
     }
 
     /// Makes a step.
@@ -185,6 +205,7 @@ impl<'a> Search<'a> {
 
     /// Begins to solve for the target heights.
     fn begin_to_solve(&mut self, alloc: Global) -> Result<Stage<'a>, AllocError> {
+        self.phases = self.phases.wrapping_add(1);
         let counts = mem::replace(&mut self.counts, Vec::new(alloc));
         let solver = Solver::new(alloc, self.hierarchy, self.target, &self.heights, counts)?;
         Ok(Stage::Solving(solver))
@@ -198,6 +219,7 @@ impl<'a> Search<'a> {
             Progress::Diverged => return Ok(Stage::GivenUp),
             Progress::Converged => {}
         }
+        self.phases = self.phases.wrapping_add(1);
         self.counts = solver.take_counts(alloc);
         drop(solver);
         let mut burning = Burning::new(alloc, self.hierarchy);
@@ -246,6 +268,7 @@ impl<'a> Search<'a> {
             Progress::Going if self.may_fit && burning.steps >= STEPS_BEFORE_FIT => {
                 match WALL_OFFSETS.get(self.fits) {
                     Some(offset) if burning.is_far() => {
+                        self.phases = self.phases.wrapping_add(1);
                         burning.begin(self.target, &self.counts)?;
                         burning.pin(self.target.game.graph(), *offset);
                         return Ok(Stage::Fitting(burning));
@@ -261,6 +284,7 @@ impl<'a> Search<'a> {
     /// Keeps the counts that passed, and goes on from greater ones where they may be too low.
     fn pass(&mut self, alloc: Global, burning: Burning<'a>) -> Result<Stage<'a>, AllocError> {
         let mut burning = burning;
+        self.phases = self.phases.wrapping_add(1);
         let passed = burning.passed(alloc)?;
         let is_same = sum_of(&passed) == sum_of(&self.passed);
         self.may_fit = false;

@@ -24,6 +24,10 @@ pub const TURN: u64 = 16;
 /// How many looks lie about between two times that it is told how far a play has come: some milliseconds.
 pub const STRETCH: u64 = 1 << 20;
 
+/// How many looks at each vertex and link at most are made where a search begins, and where it goes from one phase to
+/// the next: solving, burning, fitting.
+pub const LOOKS_OF_PHASE: u64 = 16;
+
 /// How many levels there are at most: each has at most half as many vertices as the one before.
 pub const MOST_LEVELS: u32 = 64;
 

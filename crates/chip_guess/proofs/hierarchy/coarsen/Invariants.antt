@@ -1,0 +1,5 @@
+use Rattle.std.proofs.Common.{◌≤◌}
+use Rattle.chip_guess.proofs.hierarchy.coarsen.Given as goal
+
+abbrev pub invariant-levels : goal.invariant-levels
+invariant-levels l = l.looks ≤ l.most

@@ -1,0 +1,5 @@
+use Rattle.std.proofs.Common.{◌≤◌}
+use Rattle.chip_guess.proofs.search.Search.go_on.Given as goal
+
+abbrev pub invariant-steps : goal.invariant-steps
+invariant-steps l = l.looks ≤ l.most

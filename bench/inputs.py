@@ -122,6 +122,18 @@ def random_graph(draw, vertices=VERTICES):
     return vertices, sink, edges, {v: chips[v] for v in range(sink)}
 
 
+def in_vain(_):
+    """Two vertices that pass 2^20 chips to each other and lose one of them each time: no test of a guess is passed, since
+    one vertex gets more than it sends by an edge from a third one, which never fires."""
+    edges = [(0, 1, MULT), (1, 0, MULT - 1), (1, 3, 1), (2, 0, 2), (2, 3, 1)]
+    return 4, 3, edges, {0: 2 * MULT - 2}
+
+
+def grid_four(_):
+    """The same grid, 4 chips everywhere: the density jumps in its middle, so the first guess is too high."""
+    return grid(SIDE, {v: 4 for v in range(SIDE * SIDE)})
+
+
 def chain(_):
     """A chain of one-way edges, numbered from the sink, with all chips at its head."""
     return VERTICES, 0, [(v, v - 1, 1) for v in range(1, VERTICES)], {VERTICES - 1: 2**40}
@@ -143,6 +155,7 @@ GAMES = [
     grid_peak,
     grid_great,
     grid_six,
+    grid_four,
     grid_critical,
     grid_corner,
     torus,
@@ -153,6 +166,7 @@ GAMES = [
     random_graph,
     chain,
     uphill,
+    in_vain,
     largest,
 ]
 

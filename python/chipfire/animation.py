@@ -17,7 +17,7 @@ from dataclasses import dataclass, field, replace
 from chipfire import rasters
 from chipfire.chips import Chips
 from chipfire.pictures import SCALE, Palette, Picture
-from chipfire.program import AnyGraph, AnyProgram, known_graph, plain
+from chipfire.program import AnyGraph, AnyProgram, known_chips, known_graph, plain
 from chipfire.reports import Report
 from chipfire.values import FileName, own_text, whole
 
@@ -88,8 +88,8 @@ def frames(
     `columns` and `palette` are those of `Report.image`. Each limit is a play of its own.
     Proved: the position at each limit, which no order of the firings changes. Not proved: that the pictures show it.
     """
-    graph = known_graph(graph, program)
-    known: dict[int, Report] = {}
+    graph, known = known_graph(graph, program), dict[int, Report]()
+    chips = known_chips(graph, chips, program)
     if limits is None:
         last = plain(graph, chips, program=program)
         known, most = {max(last.fired): last}, max(last.fired)

@@ -21,7 +21,9 @@ CHIPS_HEADER = ("vertex", "chips")
 
 def chips_parts(chips: Numbers) -> list[bytes]:
     """The text of a chips file. (What are too many chips anyway has a number that the program reads.)"""
-    rows = (f"{vertex},{min(count, MAX_CHIPS + 1)}\n" for vertex, count in enumerate(chips) if count)
+    if max(chips, default=0) > MAX_CHIPS:
+        chips = [min(count, MAX_CHIPS + 1) for count in chips]
+    rows = [f"{vertex},{count}\n" for vertex, count in enumerate(chips) if count]
     return ["".join([",".join(CHIPS_HEADER), "\n", *rows]).encode()]
 
 

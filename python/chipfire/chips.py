@@ -100,8 +100,7 @@ class Configuration(Drawn, Mapping[Hashable, int]):
 
     def is_superstable(self, *, program: FileName | None = None) -> bool:
         """Whether it is superstable: `chipfire.is_superstable`."""
-        lacking = self.graph.max_stable() - self
-        return min(self.numbers) >= 0 <= min(lacking.numbers) and lacking.is_recurrent(program=program)
+        return (self.graph.max_stable() - self).is_recurrent(program=program)
 
     def order(self) -> int:
         """How many times it is added to itself until that is equivalent to no chips. Nothing of this is proved."""

@@ -298,7 +298,9 @@ class Graph:
             if values.graph is not None and not values.graph.is_like(self):
                 raise ValueError("the report is one of another graph")
             values = values.chips
-        if hasattr(values, "items"):
+        if isinstance(values, Configuration) and values.graph is self:
+            values = values.numbers
+        elif hasattr(values, "items"):
             return self._by_names(values, least)
         values = values.tolist() if hasattr(values, "tolist") else values
         if not isinstance(values, Iterable):

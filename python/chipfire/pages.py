@@ -68,9 +68,9 @@ def recorded(
     70). The ring is that of the run; if it is not told, the least of 1, 2, 4 and so on that plays all rows.
     """
     rows = read_trace(trace) if isinstance(trace, FILE) else [TraceRow(*row) for row in trace]
-    replay(graph, chips, rows, limit=limit, program=program)
     known = known_graph(graph, program)
     start = known_chips(known, chips, program)
+    replay(known, start, rows, limit=limit, program=program)
     setting = Setting(known, start, MAX_LIMIT if limit is None else limit)
     for cells in RINGS if ring is None else [ring]:
         events = spell_trace(replace(setting, ring=cells), rows)

@@ -287,6 +287,9 @@ class Drawn:
             raise ImportError("an array is one of NumPy, which is not installed")
         return numpy.array(in_rows(self.graph, values, columns, 0), dtype=numpy.int64)
 
+    def __array__(self, dtype: Any = None, copy: bool | None = None) -> Any:
+        return self.array().astype(dtype or "int64")
+
     def plot(
         self, columns: int | None = None, palette: Palette | None = None, axes: Any = None, *, of: str = "chips"
     ) -> Any:

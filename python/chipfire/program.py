@@ -141,6 +141,7 @@ def simulate(
     options = _numbers(limit=(limit, 0, MAX_LIMIT), ring=(ring, 1, 64), rounds=(rounds, 0, 2**40))
     if not isinstance(schedule, FILE):
         schedule = Schedule(Event(*event) for event in schedule)
+    chips = chips if isinstance(chips, FILE) else question.graph.chips(chips)
     file: Input = ("schedule", schedule if isinstance(schedule, FILE) else Kept([schedule_text(schedule).encode()]))
     text = question.ask("simulate", [question.chips(chips), file], {**options, "books": books, "fed": fed}, "")
     given: dict[str, Any] = {name: options[name] for name in ("limit", "ring") if options[name] is not None}
@@ -167,7 +168,8 @@ def resume(
 ) -> Report:
     """Goes on from where a limit or a seal stopped a play; `total` of what comes is what was fired in all.
 
-    `large` is not needed. A report that knows its graph, or cannot be one of this graph, is refused on another.
+    A report of another graph is refused, where it knows its own or cannot be one of this; `prior` is not checked. `large`
+    is not needed.
     """
     question, own = _Question(graph, program), None if isinstance(report, FILE) else report
     file: Input = ("report", report if isinstance(report, FILE) else Kept([report.text().encode()]))

@@ -40,6 +40,12 @@ class Forms(unittest.TestCase):
             self.assertEqual(GRID.chips(chips), wanted)
         self.assertEqual(GRID.chips([*range(6), 8]), (0, 1, 2, 3, 4, 5, 8))
 
+    def test_numbers_that_come_one_by_one_are_taken_once(self):
+        self.assertEqual(chipfire.plain(GRID, iter(range(6))).fired, chipfire.plain(GRID, ROWS).fired)
+        self.assertEqual(chipfire.simulate(GRID, iter(range(6)), [], rounds=9).game.chips, (0, 1, 2, 3, 4, 5, 0))
+        self.assertEqual(len(chipfire.frames(GRID, iter(range(6)), [0, 1])), 2)
+        self.assertEqual(chipfire.add(GRID, iter(range(6)), iter([0] * 6)), chipfire.stabilize(GRID, ROWS))
+
     def test_one_number_is_that_of_all_but_the_sink(self):
         self.assertEqual(GRID.chips(4), (4,) * 6 + (0,))
         self.assertEqual(chipfire.torus(3, 3).chips(2), (0,) + (2,) * 8)
@@ -81,12 +87,16 @@ class Forms(unittest.TestCase):
 
     @unittest.skipUnless(has("numpy"), "NumPy is not here")
     def test_what_an_array_gives_goes_back_in(self):
+        numpy = importlib.import_module("numpy")
         for graph in (GRID, TEE, chipfire.grid(1, 5), chipfire.torus(4, 3), chipfire.path(3)):
             report = chipfire.plain(graph, 5)
             self.assertEqual(report.array().shape, graph.shape)
             self.assertEqual(chipfire.Configuration(graph, report.array()), report.configuration)
             self.assertEqual(chipfire.Configuration(graph, report.array("odometer")), report.odometer)
             self.assertEqual(report.configuration.array().tolist(), report.array().tolist())
+            for given in (report, report.configuration):
+                self.assertEqual(numpy.asarray(given).tolist(), report.array().tolist())
+                self.assertEqual(numpy.asarray(given, dtype=float).dtype, float)
         self.assertEqual(chipfire.Configuration(TEE, [1, 2, 3, 4]).array().tolist(), [[1, 2, 3], [0, 4, 0]])
         # (the sink of a torus is a square, and has no height)
         self.assertEqual(chipfire.plain(chipfire.torus(3, 3), 5).array()[0, 0], 0)

@@ -583,11 +583,12 @@ class Killed(WithFolder):
         self.assertEqual(count(), before + 1)
         with mock.patch.object(chipfire.Graph, "_parts", side_effect=AssertionError):
             chipfire.plain(graph, {0: 9})
-        copy = pickle.loads(pickle.dumps(graph))
-        self.assertEqual((copy, copy.shape, chipfire.plain(copy, {0: 9}).fired[0]), (graph, (4, 4), 2))
-        del graph, copy
+        kept = pickle.dumps(graph)
+        del graph
         gc.collect()
         self.assertEqual(count(), before)
+        copy = pickle.loads(kept)
+        self.assertEqual((copy, copy.shape, chipfire.plain(copy, {0: 9}).fired[0]), (chipfire.grid(4, 4), (4, 4), 2))
 
 
 class Checks(unittest.TestCase):

@@ -1,10 +1,12 @@
 //! Crews on small games: how many workers share them and how, gates that hold them, seals, traces and feeds.
 
+ghost use Rattle.std.specs.Prelude.{◌<◌, ◌≤◌};
+
 mod gates;
 
 use crate::games::{Edges, Ends, FOUR_CHIPS, LIMIT, TRIANGLE, adds_up, expect_outcome, game_of};
 use chip_crew::{CrewFault, Finished, Plan, SealAt, Sharing, run, run_fed, run_with};
-use chip_graph::Game;
+use chip_graph::{Edge, Game, Graph, Limits};
 use chip_link::TraceRow;
 use gates::{Keeper, Rule};
 use std::process::Abort;
@@ -745,4 +747,35 @@ fn traces(rt: HostRuntime) {
     expect_trace(&rt, &ended, 0, &[take(4, 4), fire(2)], true);
     expect_trace(&rt, &ended, 1, &[take(0, 2), fire(1)], false);
     expect_trace(&rt, &ended, 2, &[take(1, 2), take(3, 1)], false);
+}
+
+/// A chain of so many vertices without chips. The last one is the sink.
+fn chain(rt: &(impl AllocGlobal + Abort), vertices: u64) -> Game
+    requires { (0 < vertices) × (vertices ≤ 1000000) }
+{
+    let mut edges = Vec::new(rt.alloc());
+    for tail in 0..vertices - 1 {
+        let head = tail + 1;
+        let edge = Edge {
+            tail,
+            head,
+            mult: 1,
+        };
+        edges.push(edge).expect(rt, "memory");
+    }
+    let limits = Limits::large();
+    let graph = Graph::within(rt.alloc(), limits, vertices, vertices - 1, edges).expect(rt, "a graph");
+    let start = vec![in rt.alloc(); 0; vertices as usize].expect(rt, "memory");
+    Game::new(graph, start, LIMIT).expect(rt, "a game")
+}
+
+/// All of many actors meet once they have played, however small the stack is.
+#[test]
+fn many_actors_meet(rt: HostRuntime) {
+    let game = chain(&rt, 200_000);
+    let gate = Keeper::new(&Rule::Always);
+    let Ok(finished) = run(&rt, rt.alloc(), &game, ONE, &gate) else {
+        panic!(&rt; "the crew does not finish");
+    };
+    assert!(&rt; finished.actors.len() == 200_000);
 }

@@ -36,7 +36,7 @@ def version():
     for place, pattern in VERSIONS.items():
         if os.path.isfile(place):
             return re.search(pattern, _read(place).decode())[1]
-    raise SystemExit(f"chipfire is installed from a checkout of its repository: {SOURCE} has its version, and is not there")
+    raise SystemExit(f"chipfire is installed from a checkout of its repository: {SOURCE}, with its version, is missing")
 
 
 def _package():

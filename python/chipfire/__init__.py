@@ -34,8 +34,8 @@ Who comes from sandpiles finds the usual words under these names:
 Reports and configurations are drawn by `image` and `show`, plays by `frames`. The words of the distributed machine
 (schedules, replies, books, traces) are told of in `chipfire.machine`.
 
-Wherever a graph, chips, a schedule, a trace or a report is wanted, the name of its file does too. `Graph.chips` tells in
-which forms chips come, and `Report.picture` what can be drawn.
+Wherever a graph, chips, a schedule, a trace or a report is wanted, the name of its file does too. `Graph.chips` tells
+in which forms chips come, and `Report.picture` what can be drawn.
 
 A vertex has a number from 0 on, and where a graph comes from elsewhere also a name. Sequences and arrays go by numbers,
 dicts and Series of pandas by names. Numbers of chips and firings go up to 2^40. A graph has up to 1,048,576 vertices
@@ -73,9 +73,9 @@ __version__ = version()
 
 __all__ = [
     # graphs, chips and pictures
-    "Chips", "Configuration", "Frames", "Graph", "PALETTES", "Picture", "Report", "aztec", "complete", "cycle", "frames",
-    "frames_by_chips", "from_networkx", "from_sage", "grid", "path", "read_chips", "region", "torus", "wheel",
-    "write_chips",
+    "Chips", "Configuration", "Frames", "Graph", "PALETTES", "Picture", "Report", "aztec", "complete", "cycle",
+    "frames", "frames_by_chips", "from_networkx", "from_sage", "grid", "path", "read_chips", "region", "torus",
+    "wheel", "write_chips",
     # the words of sandpiles
     "Avalanche", "add", "avalanche", "avalanches", "burning_configuration", "burning_script", "identity",
     "invariant_factors", "is_recurrent", "is_stable", "is_superstable", "laplacian", "order",

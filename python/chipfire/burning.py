@@ -94,7 +94,7 @@ def identity(graph: Graph, program: FileName | None) -> list[int]:
 
 @_once
 def _lift(graph: Graph, program: FileName | None) -> list[int]:
-    """Chips that are equivalent to none, one on each vertex at least: as many as edges lead out, less what they become."""
+    """Chips that are equivalent to none, 1 on each vertex at least: one for each edge out, less what these become."""
     degrees = inner(graph, graph.degrees())
     return inner(graph, list(map(int.__sub__, degrees, stabilized(graph, degrees, program)[0])))
 
@@ -112,8 +112,8 @@ def recurrent(graph: Graph, chips: Numbers, program: FileName | None = None) -> 
 def superstables(graph: Graph, program: FileName | None = None) -> Iterator[tuple[int, ...]]:
     """All superstable chips. What is left of them when one is taken away is one of them, too.
 
-    Each is tried by burning, here in Python: as long as a vertex has less than nothing, it gives a firing of the burning
-    script back. Chips are superstable where all are given back.
+    Each is tried by burning, here in Python: as long as a vertex has less than nothing, it gives a firing of the
+    burning script back. Chips are superstable where all are given back.
     """
     script, fuel = burning(graph, program)
     degrees, times = graph.degrees(), sum(script)

@@ -53,7 +53,8 @@ class Configuration(Drawn, Mapping[Hashable, int]):
         return hash(frozenset(self.items()))
 
     def __repr__(self) -> str:
-        return repr(dict(self)) if len(self) <= 20 else f"<Configuration of {len(self)} vertices: {self._title('chips')}>"
+        said = f"<Configuration of {len(self)} vertices: {self._title('chips')}>"
+        return repr(dict(self)) if len(self) <= 20 else said
 
     def _with(self, action: Callable[[int, int], int], other: Chips) -> Configuration:
         return Configuration(self.graph, list(map(action, self.numbers, self.graph.numbers(other))))

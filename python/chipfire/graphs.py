@@ -335,7 +335,7 @@ class Graph:
         """What stands in rows of the graph's shape, by numbers of vertices; the sink's square counts for nothing."""
         if self.shape is None or {*map(len, rows)} != {self.shape[1]} or len(rows) != self.shape[0]:
             widths = " or ".join(map(str, sorted({*map(len, rows)})))
-            raise ValueError(f"the chips stand in {len(rows)} rows of {widths}, and the graph has the shape {self.shape}")
+            raise ValueError(f"the chips stand in {len(rows)} rows of {widths}, and the graph has shape {self.shape}")
         flat = list(itertools.chain(*rows))
         found = [0] * self.vertices
         for vertex, square in enumerate(self.squares):
@@ -368,7 +368,8 @@ def grid(width: int, height: int) -> Graph:
     # (most edges of a large grid come at once, column by column: up, left, right, down, and at a border to the sink)
     quick = range(width, width * (height - 1)) if width > 1 and height > 2 else range(0)
     first, last = range(quick.start), range(quick.stop, sink) if quick else range(sink)
-    before, after = (_columns(_beside(((it, *divmod(it, width)) for it in part), at, "square", sink)) for part in (first, last))
+    ends = [[(it, *divmod(it, width)) for it in part] for part in (first, last)]
+    before, after = (_columns(_beside(part, at, "square", sink)) for part in ends)
     many = len(quick)
     tails, heads = array("i", [0]) * (4 * many), array("i", [0]) * (4 * many)
     squares = array("i", range(quick.start - width, quick.stop + width)) if quick else array("i")
@@ -418,7 +419,7 @@ def region(mask: Iterable[Iterable[Any]], lattice: str = "square") -> Graph:
 
 
 def aztec(size: int) -> Graph:
-    """The Aztec diamond: the squares that lie in |x| + |y| <= size + 1 with all four corners, 2 * size in a row at most."""
+    """The Aztec diamond: the squares whose corners all lie in |x| + |y| <= size + 1, at most 2 * size in a row."""
     size = whole(size, "the size of a diamond", 1)
     off = [abs(2 * place + 1 - 2 * size) for place in range(2 * size)]
     return region([[row + column <= 2 * size for column in off] for row in off])

@@ -212,11 +212,11 @@ def placed(graph: Graph, values: Sequence[int], positions: Positions, empty: int
 class Drawn:
     """What reports and configurations have besides: pictures of their chips, and of how often vertices fired.
 
-    `columns` is how many squares stand in a row; where the graph has a shape, that need not be said. `positions` has the
-    places of vertices by names instead, (to the right, down), each of which becomes a square. `of` is "chips" or
+    `columns` is how many squares stand in a row; where the graph has a shape, that need not be said. `positions` has
+    the places of vertices by names instead, (to the right, down), each of which becomes a square. `of` is "chips" or
     "odometer". `palette` names colours, "colours", "greys" or "viridis", or has them, each as `#rrggbb`. Chips have the
-    colour of 0, of 1, of 2 and so on; the last one is that of all larger numbers. What has a `scale`, "linear" or "log",
-    has the first colour for 0, the last one for the largest number, and is spread between them: so odometers are.
+    colour of 0, of 1, of 2 and so on; the last one is that of all larger numbers. What has a `scale`, "linear" or
+    "log", has the first colour for 0, the last one for the largest number, and is spread between: so odometers are.
     """
 
     graph: Graph | None

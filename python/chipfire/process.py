@@ -65,7 +65,7 @@ class Fault(ValueError):
     def __str__(self) -> str:
         line = " ".join(["fault", str(self.number), self.name, *map(str, self.place)])
         line += f": {self.words}" if self.words else ""
-        # (what is explained is of files and of a shell: of limits, of --large and of options that Python calls otherwise)
+        # (what is explained is of files and of a shell: of --large, and of options that Python calls otherwise)
         told = re.sub(r"[^.]*--large`[^.]*\.", "", self.explanation)
         told = re.sub(r"--([a-z-]+)", lambda option: option[1].replace("-", "_"), told)
         return f"{line}\n{told}" if told and not self.words.endswith(".") else line

@@ -168,8 +168,8 @@ def resume(
 ) -> Report:
     """Goes on from where a limit or a seal stopped a play; `total` of what comes is what was fired in all.
 
-    A report of another graph is refused, where it knows its own or cannot be one of this; `prior` is not checked. `large`
-    is not needed.
+    A report of another graph is refused, where it knows its own or cannot be one of this; `prior` is not checked.
+    `large` is not needed.
     """
     question, own = _Question(graph, program), None if isinstance(report, FILE) else report
     file: Input = ("report", report if isinstance(report, FILE) else Kept([report.text().encode()]))

@@ -37,7 +37,7 @@ def write(file: FileName, frames: Sequence[Rows], colours: Colours, milliseconds
         with open(file, "wb") as out:
             out.write(png(frames[0], colours))
     else:
-        raise ValueError(f"{os.fspath(file)}: without Pillow there are .png and .svg of one picture, and .html of several")
+        raise ValueError(f"{os.fspath(file)}: without Pillow there are .png and .svg of one picture, .html of several")
 
 
 def png(rows: Rows, colours: Colours) -> bytes:

@@ -29,7 +29,7 @@ def stabilize(graph: AnyGraph, chips: Chips, *, large: bool = False, program: An
     """The stabilization: what lies there when no vertex can fire any more.
 
     It is `plain(graph, chips).configuration`; `odometer` of that report tells how often each vertex fired.
-    Proved: the chips, which are those of every play to the end, whatever its order. Not proved: that they are passed on.
+    Proved: the chips, which are those of every play to the end, in any order. Not proved: that they are passed on.
     """
     return _held(graph, chips, program).stabilize(program=program)
 
@@ -90,7 +90,7 @@ def recurrent_representative(
 ) -> Configuration:
     """The one recurrent configuration to which firings, also backward, lead from this one; chips may be below 0.
 
-    It is the stable sum with the recurrent identity; chips that are equivalent to none are added where some are below 0.
+    It is the stable sum with the recurrent identity; where some are below 0, chips that are equivalent to none come in.
     Proved: the stabilizations that are asked for. Not proved: the sums between them.
     """
     held = _held(graph, chips, program)

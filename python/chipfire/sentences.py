@@ -40,7 +40,8 @@ class Sentences:
     def event(self, event: Event) -> str:
         """What is asked for."""
         kind, at, count = event
-        words = {"at": str(at), "times": {1: "once", 2: "twice"}.get(count) or counted(count, "time"), **_numbers(count)}
+        times = {1: "once", 2: "twice"}.get(count) or counted(count, "time")
+        words = {"at": str(at), "times": times, **_numbers(count)}
         if kind in ("fire", "halt", "read"):
             words["vertex"] = self.vertex(at)
         elif kind != "end":

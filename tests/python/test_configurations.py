@@ -60,7 +60,8 @@ class Forms(unittest.TestCase):
             TEE.chips([[5, 6, 7], [1, 8, 0]])
 
     def test_what_does_not_fit_is_refused(self):
-        for chips in ([[0, 1], [2, 3], [4, 5]], [[0, 1, 2]], [[0, 1, 2], [3, 4]], [[]], range(5), range(8), [], -1, [0, -1] * 3):
+        turned, short = [[0, 1], [2, 3], [4, 5]], [[0, 1, 2], [3, 4]]
+        for chips in (turned, [[0, 1, 2]], short, [[]], range(5), range(8), [], -1, [0, -1] * 3):
             with self.subTest(chips=chips), self.assertRaises(ValueError):
                 GRID.chips(chips)
         for chips in (0.5, [0.5] * 6, ["1"] * 6, None, [[0, 1, 2], [3, 4, None]], {0: 0.5}, float("inf"), float("nan")):
@@ -123,7 +124,8 @@ class Arithmetic(unittest.TestCase):
         self.assertEqual((dict(found), list(found), found.numbers), ({"a": 0, "b": 4}, ["a", "b"], (0, 0, 4)))
         self.assertEqual(found, {"b": 4, "a": 0})
         self.assertNotEqual(found, {"b": 4})
-        self.assertEqual(len({found, chipfire.Configuration(chipfire.Graph(3, 1, graph.edges, graph.names), [0, 4])}), 1)
+        same = chipfire.Graph(3, 1, graph.edges, graph.names)
+        self.assertEqual(len({found, chipfire.Configuration(same, [0, 4])}), 1)
         self.assertEqual(repr(found), "{'a': 0, 'b': 4}")
         for name in ("out", "c"):
             with self.assertRaises(KeyError):
@@ -181,7 +183,8 @@ class Less(unittest.TestCase):
 
 class All(unittest.TestCase):
     def test_all_superstable_and_all_recurrent_ones(self):
-        for how, graph in [*DIRECTED.items(), ("a grid", chipfire.grid(2, 2)), ("a tee", TEE), ("K5", chipfire.complete(5))]:
+        others = [("a grid", chipfire.grid(2, 2)), ("a tee", TEE), ("K5", chipfire.complete(5))]
+        for how, graph in [*DIRECTED.items(), *others]:
             with self.subTest(how):
                 found = [tuple(it.values()) for it in chipfire.superstables(graph)]
                 self.assertEqual((set(found), len(found)), (model.superstables(graph), len(set(found))))
@@ -275,7 +278,8 @@ class Families(unittest.TestCase):
             to_sink = {tail: mult for tail, head, mult in graph.edges if head == 9}
             with self.subTest(lattice):
                 self.assertEqual((heads, [to_sink.get(vertex, 0) for vertex in range(9)]), (beside, lost))
-                self.assertEqual({(u, v) for u, v, _ in graph.edges if v != 9}, {(v, u) for u, v, _ in graph.edges if v != 9})
+                pairs = {(u, v) for u, v, _ in graph.edges if v != 9}
+                self.assertEqual(pairs, {(v, u) for u, v in pairs})
 
     def test_aztec_diamonds(self):
         self.assertEqual(chipfire.aztec(1), chipfire.grid(2, 2))

@@ -68,7 +68,8 @@ class Scripts(unittest.TestCase):
     def test_a_picture_tells_how_it_is_asked_for(self):
         for words, said in [([], "usage: picture.py"), (["0", "9", "a.png"], "the width is below 1: 0"),
                             (["9", "-9", "a.png"], "below 0: -9"), (["9", "9", "a.xyz"], ".xyz")]:
-            ran = subprocess.run([sys.executable, f"{SCRIPTS}/picture.py", *words], capture_output=True, encoding="utf-8")
+            words = [sys.executable, f"{SCRIPTS}/picture.py", *words]
+            ran = subprocess.run(words, capture_output=True, encoding="utf-8")
             self.assertEqual((ran.returncode, "Traceback" in ran.stderr), (2, False))
             self.assertIn(said, ran.stderr)
         self.assertIn("Drops a heap of chips", script("picture.py", "--help"))

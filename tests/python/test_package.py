@@ -421,14 +421,16 @@ class Mistakes(WithFolder):
     def test_a_file_that_is_no_good_is_one_fault_however_the_chips_come(self):
         bad, none = self.file("bad.json", "{"), self.file("none.json")
         for name, number, said in [(bad, 20, "in .*bad.json"), (none, 92, "none.json cannot be opened")]:
-            calls = [(chipfire.check, ()), (chipfire.identity, ()), (chipfire.order, ()), (chipfire.resume, (CHIPS_FILE,))]
+            calls = [(chipfire.check, ()), (chipfire.identity, ()), (chipfire.order, ())]
+            calls += [(chipfire.resume, (CHIPS_FILE,))]
             for chips in (CHIPS_FILE, {0: 1}, [1, 0, 0], 1):
                 calls += [(chipfire.plain, (chips,)), (chipfire.is_recurrent, (chips,)), (chipfire.frames, (chips,))]
                 calls += [(chipfire.run, (chips,)), (chipfire.simulate, (chips, [])), (chipfire.replay, (chips, []))]
             for call, others in calls:
-                with self.subTest(call=call.__name__, chips=others), self.assertRaisesRegex(chipfire.Fault, said) as caught:
-                    call(name, *others)
-                self.assertEqual(caught.exception.number, number)
+                with self.subTest(call=call.__name__, chips=others):
+                    fault = self.fault(call, name, *others)
+                    self.assertRegex(str(fault), said)
+                    self.assertEqual(fault.number, number)
 
     def test_the_file_of_rows_is_named(self):
         wrong = self.file("wrong.csv", "no,header\n")
@@ -454,10 +456,12 @@ class Mistakes(WithFolder):
         ]:
             names = ["a", "b", "out"]
             graph = chipfire.Graph(3, 2, [tuple(map(names.index, edge)) for edge in edges], names)
-            for call, more in [(chipfire.check, ()), (chipfire.plain, ({},)), (chipfire.run, ({},)), (chipfire.order, ()),
-                               (chipfire.identity, ()), (chipfire.is_recurrent, ({},)), (chipfire.is_stable, ({},)),
-                               (chipfire.simulate, ({}, [])), (chipfire.burning_script, ()),
-                               (lambda it: list(chipfire.recurrents(it)), ()), (chipfire.laplacian, ())]:
+            for call, more in [
+                (chipfire.check, ()), (chipfire.plain, ({},)), (chipfire.run, ({},)), (chipfire.order, ()),
+                (chipfire.identity, ()), (chipfire.is_recurrent, ({},)), (chipfire.is_stable, ({},)),
+                (chipfire.simulate, ({}, [])), (chipfire.burning_script, ()), (chipfire.laplacian, ()),
+                (lambda it: list(chipfire.recurrents(it)), ()),
+            ]:
                 with self.subTest(said, call=call), self.assertRaisesRegex(ValueError, said):
                     call(graph, *more)
 
@@ -472,7 +476,8 @@ class Mistakes(WithFolder):
         self.assertIn("1048577 vertices, and 1048576 at most", str(self.fault(chipfire.check, large)))
         few = self.file("few.json", '{"edges":[],"sink":0,"version":1,"vertices":0}')
         self.assertIn("check takes 1 to 1048576 vertices", str(self.fault(chipfire.check, few)))
-        self.assertIn("run takes 1 to 1048576 vertices", str(self.fault(chipfire.run, few, self.file("c", "vertex,chips\n"))))
+        no_chips = self.file("chips.csv", "vertex,chips\n")
+        self.assertIn("run takes 1 to 1048576 vertices", str(self.fault(chipfire.run, few, no_chips)))
 
     def fault(self, call, *arguments):
         with self.assertRaises(chipfire.Fault) as caught:
@@ -480,20 +485,20 @@ class Mistakes(WithFolder):
         return caught.exception
 
     def test_an_option_out_of_its_range_is_named(self):
-        for name, wrong in [("limit", (-1, 2**40 + 1)), ("ring", (0, 65)), ("workers", (0, 65)), ("turns", (0, 2**40 + 1)),
-                            ("trace_rows", (-1, 2**20 + 1)), ("rounds", (-1, 2**40 + 1))]:
-            call = (lambda **it: chipfire.simulate(TRIANGLE, {}, [], **it)) if name == "rounds" else (
-                lambda **it: chipfire.run(TRIANGLE, {}, **it))
-            for value in wrong:
-                with self.subTest(name), self.assertRaisesRegex(ValueError, f"^{name.replace('_', '.')} is (above|below)"):
-                    call(**{name: value})
-            for value in (1.5, "1"):
-                with self.subTest(name), self.assertRaisesRegex(TypeError, f"^{name.replace('_', '.')} is no whole"):
-                    call(**{name: value})
-        for call in (chipfire.plain, chipfire.resume, chipfire.replay):
+        ranges = {
+            "limit": (-1, 2**40 + 1), "ring": (0, 65), "workers": (0, 65), "turns": (0, 2**40 + 1),
+            "trace_rows": (-1, 2**20 + 1), "rounds": (-1, 2**40 + 1),
+        }
+        for name, wrong in ranges.items():
+            call, others = (chipfire.simulate, [[]]) if name == "rounds" else (chipfire.run, [])
+            refused = [(value, ValueError, "(above|below)") for value in wrong]
+            for value, refusal, said in [*refused, (1.5, TypeError, "no whole"), ("1", TypeError, "no whole")]:
+                with self.subTest(name), self.assertRaisesRegex(refusal, f"^{name.replace('_', '.')} is {said}"):
+                    call(TRIANGLE, {}, *others, **{name: value})
+        report = chipfire.plain(TRIANGLE, {})
+        for call, others in [(chipfire.plain, [{}]), (chipfire.resume, [report]), (chipfire.replay, [{}, []])]:
             with self.assertRaisesRegex(ValueError, "^limit is above"):
-                call(TRIANGLE, *({"resume": [chipfire.plain(TRIANGLE, {})], "replay": [{}, []]}.get(call.__name__, [{}])),
-                     limit=2**41)
+                call(TRIANGLE, *others, limit=2**41)
 
     def test_what_is_no_graph_at_all(self):
         for value in (None, 3, {0: [1]}):
@@ -509,10 +514,12 @@ class Mistakes(WithFolder):
                     call(program=program)
 
     def test_families_have_sizes(self):
-        for call, sizes in [(chipfire.grid, (-2, -3)), (chipfire.grid, (0, 3)), (chipfire.grid, (3, 0)), (chipfire.path, (0,)),
-                            (chipfire.cycle, (2,)), (chipfire.torus, (2, 3)), (chipfire.complete, (0,)),
-                            (chipfire.wheel, (3,)), (chipfire.aztec, (0,)), (chipfire.region, ([],)),
-                            (chipfire.region, ([[0, 0]],)), (chipfire.region, ([[1], [1, 1]],))]:
+        for call, sizes in [
+            (chipfire.grid, (-2, -3)), (chipfire.grid, (0, 3)), (chipfire.grid, (3, 0)), (chipfire.path, (0,)),
+            (chipfire.cycle, (2,)), (chipfire.torus, (2, 3)), (chipfire.complete, (0,)), (chipfire.wheel, (3,)),
+            (chipfire.aztec, (0,)), (chipfire.region, ([],)), (chipfire.region, ([[0, 0]],)),
+            (chipfire.region, ([[1], [1, 1]],)),
+        ]:
             with self.subTest(call.__name__, sizes=sizes), self.assertRaises(ValueError):
                 call(*sizes)
         with self.assertRaisesRegex(ValueError, "no lattice is named 'round'"):
@@ -533,7 +540,8 @@ class Killed(WithFolder):
 
     def begun(self, how):
         """A Python that plays, and the process of its program, which does not end by itself."""
-        program = self.program(f"echo $$ >{self.file('part')} && mv {self.file('part')} {self.file('pid')}; exec sleep 60")
+        part, whole = self.file("part"), self.file("pid")
+        program = self.program(f"echo $$ >{part} && mv {part} {whole}; exec sleep 60")
         os.mkdir(self.file("temporary"))
         environment = {**os.environ, "TMPDIR": self.file("temporary")}
         python = subprocess.Popen([sys.executable, "-c", self.PLAY % (program, how)], env=environment,
@@ -577,6 +585,7 @@ class Killed(WithFolder):
     def test_a_graph_is_written_once_and_goes_with_the_object(self):
         graph, count = chipfire.grid(4, 4), lambda: len(os.listdir("/dev/fd"))
         chipfire.is_recurrent(chipfire.path(2), {})
+        gc.collect()
         before = count()
         for _ in range(9):
             chipfire.is_recurrent(graph, graph.max_stable())
@@ -629,12 +638,13 @@ class Finding(WithFolder):
             shutil.copytree(f"{ROOT}/{folder}", f"{clone}/{folder}")
         words = [sys.executable, "-m", "pip", "install", "--quiet", "--no-index", "--disable-pip-version-check"]
         shutil.copytree(f"{ROOT}/python", self.file("alone"))
-        ran = subprocess.run([*words, "--target", self.folder, self.file("alone")], capture_output=True, encoding="utf-8")
+        copied = [*words, "--target", self.folder, self.file("alone")]
+        ran = subprocess.run(copied, capture_output=True, encoding="utf-8")
         self.assertIn("chipfire is installed from a checkout of its repository", ran.stderr)
         subprocess.run([*words, "--target", self.folder, f"{clone}/python"], check=True, stderr=subprocess.DEVNULL)
         os.mkdir(f"{clone}/target")
         os.symlink(os.environ["CHIPFIRE"], f"{clone}/target/chipfire")
-        ask = "import chipfire; print(chipfire.__file__, chipfire.__version__, chipfire.plain(chipfire.path(1), [3]).fired)"
+        ask = "import chipfire as it; print(it.__file__, it.__version__, it.plain(it.path(1), [3]).fired)"
         environment = {"PATH": "", "PYTHONPATH": self.folder, "PYTHONDONTWRITEBYTECODE": "1"}
         ran = subprocess.run([sys.executable, "-c", ask], env=environment, capture_output=True, encoding="utf-8")
         self.assertEqual(ran.stdout, f"{self.folder}/chipfire/__init__.py {chipfire.__version__} (1, 0)\n")

@@ -314,7 +314,9 @@ class Notebooks(unittest.TestCase):
             found = re.search('src="data:image/png;base64,([^"]*)" width="(\\d+)"', said)
             self.assertEqual(("<svg" in said, found is None), (shown is None,) * 2)
             if found:
-                self.assertEqual(png_points(base64.b64decode(found[1])), coloured([2, 1] + [0] * (width * height), width, width * height))
+                squares = width * height
+                wanted = coloured([2, 1] + [0] * squares, width, squares)
+                self.assertEqual(png_points(base64.b64decode(found[1])), wanted)
                 self.assertEqual(int(found[2]), shown)
 
     def test_a_report_on_another_graph_is_shown_as_its_text(self):

@@ -42,20 +42,23 @@ dicts and Series of pandas by names. Numbers of chips and firings go up to 2^40.
 and 8,388,608 edges. The argument `large` does nothing: what is large is seen by itself.
 """
 
-from chipfire import machine as machine
+from chipfire import machine
 from chipfire.animation import Frames, frames, frames_by_chips
-from chipfire.burning import CHIPS_HEADER
+from chipfire.burning import CHIPS_HEADER as CHIPS_HEADER
 from chipfire.chips import Chips, Configuration
 from chipfire.graphs import (
     Graph, aztec, complete, cycle, from_networkx, from_sage, grid, path, region, torus, wheel,
 )
 from chipfire.machine import (
-    RULES, SCHEDULE_HEADER, TRACE_HEADER, Board, Books, Event, Firing, Reply, Schedule, Setting, Simulation, TraceRow,
-    read_schedule, read_trace, write_schedule, write_trace,
+    RULES as RULES, SCHEDULE_HEADER as SCHEDULE_HEADER, TRACE_HEADER as TRACE_HEADER, Board as Board, Books as Books,
+    Event as Event, Firing as Firing, Reply as Reply, Schedule as Schedule, Setting as Setting,
+    Simulation as Simulation, TraceRow as TraceRow, read_schedule as read_schedule, read_trace as read_trace,
+    write_schedule as write_schedule, write_trace as write_trace,
 )
 from chipfire.pages import page, recorded
 from chipfire.pictures import PALETTES, Picture
-from chipfire.process import Fault, ProgramNotFound, TraceCut, find_program, start_program, version
+from chipfire.process import Fault, ProgramNotFound, TraceCut, version
+from chipfire.process import find_program as find_program, start_program as start_program
 from chipfire.program import (
     Check, Program, check, explain, identity, plain, read_chips, replay, resume, run, simulate, write_chips,
 )
@@ -66,7 +69,9 @@ from chipfire.sandpiles import (
     superstable_representative, superstables,
 )
 from chipfire.values import (
-    MAX_CHIPS, MAX_EDGES, MAX_LARGE_EDGES, MAX_LARGE_VERTICES, MAX_LIMIT, MAX_MULT, MAX_VERTICES, FileName,
+    MAX_CHIPS as MAX_CHIPS, MAX_EDGES as MAX_EDGES, MAX_LARGE_EDGES as MAX_LARGE_EDGES,
+    MAX_LARGE_VERTICES as MAX_LARGE_VERTICES, MAX_LIMIT as MAX_LIMIT, MAX_MULT as MAX_MULT,
+    MAX_VERTICES as MAX_VERTICES, FileName as FileName,
 )
 
 __version__ = version()
@@ -83,7 +88,6 @@ __all__ = [
     "superstables",
     # the program
     "Check", "Fault", "Program", "ProgramNotFound", "check", "explain", "plain", "resume",
-    # the machine
-    "Board", "Books", "Event", "Firing", "Reply", "Schedule", "Setting", "Simulation", "TraceCut", "TraceRow", "page",
-    "read_schedule", "read_trace", "recorded", "replay", "run", "simulate", "write_schedule", "write_trace",
+    # the machine; its words are in chipfire.machine, and here too
+    "TraceCut", "machine", "page", "recorded", "replay", "run", "simulate",
 ]

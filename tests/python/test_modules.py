@@ -2,6 +2,7 @@
 import ast
 import inspect
 import os
+import pydoc
 import shutil
 import subprocess
 import sys
@@ -24,6 +25,7 @@ report = chipfire.plain(grid, chips, limit=3, large=True)
 left: tuple[int, ...] = report.chips
 sum_: chipfire.Configuration = report.configuration + grid.max_stable() - 2 * chipfire.identity(grid)
 print(sum_[0] + 1, chipfire.Program().resume(grid, report).total, chipfire.machine.Schedule().take(4).fire(0, 2))
+print(chipfire.Schedule().take(4), chipfire.MAX_CHIPS, chipfire.find_program(), chipfire.CHIPS_HEADER, chipfire.RULES)
 """
 
 
@@ -60,6 +62,13 @@ class Modules(unittest.TestCase):
         kinds = {type(node) for node in tree_of("__init__").body}
         self.assertLessEqual(kinds, {ast.Expr, ast.ImportFrom, ast.Assign})
         self.assertEqual([name for name in chipfire.__all__ if not hasattr(chipfire, name)], [])
+
+    def test_the_words_of_the_machine_are_in_its_module_and_reachable(self):
+        told = pydoc.plain(pydoc.render_doc(chipfire))
+        self.assertIn("class Configuration", told)
+        for name in ("Board", "Books", "Event", "Schedule", "Setting", "Simulation", "TraceRow", "write_trace"):
+            self.assertIs(getattr(chipfire, name), getattr(chipfire.machine, name))
+            self.assertNotIn(f"class {name}", told)
 
     def test_what_is_asked_for_is_all_that_an_import_brings(self):
         asked = [sys.executable, "-c", "import chipfire, sys; print(*sys.modules)"]

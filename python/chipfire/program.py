@@ -48,7 +48,7 @@ def known_graph(graph: AnyGraph, program: AnyProgram = None) -> Graph:
         raise TypeError(f"a graph is a chipfire.Graph or the name of a file, and not of {type(graph).__name__}")
     try:
         return Graph.read(graph)
-    except (OSError, ValueError):
+    except (OSError, RecursionError, TypeError, ValueError):
         check(graph, program=program)
         raise
 

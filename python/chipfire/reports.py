@@ -90,8 +90,11 @@ class Report(Drawn):
         value = json.loads(text)
         if not isinstance(value, dict) or value.get("version") not in (1, 2):
             raise ValueError("the text is no report")
-        lists = {key: tuple(value[key]) for key in ("chips", "fired", "over", "sealed", "prior") if key in value}
-        return cls(**lists, graph=graph)
+        try:
+            lists = {key: tuple(value[key]) for key in ("chips", "fired", "over", "sealed", "prior") if key in value}
+            return cls(**lists, graph=graph)
+        except TypeError:
+            raise ValueError("the text is no report") from None
 
     @classmethod
     def read(cls, file: FileName, graph: Graph | None = None) -> Report:

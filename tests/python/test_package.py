@@ -432,6 +432,28 @@ class Mistakes(WithFolder):
                     self.assertRegex(str(fault), said)
                     self.assertEqual(fault.number, number)
 
+    def test_a_graph_file_of_another_shape_is_one_fault_too(self):
+        whole = {"edges": [[0, 1, 1]], "sink": 1, "version": 1, "vertices": 2}
+        wrong = [{"edges": 5}, {"edges": [3]}, {"edges": [[0, 1, "1"]]}, {"vertices": "2"}, {"sink": None}]
+        texts = [json.dumps({**whole, **it}) for it in [*wrong, {"version": 2}]]
+        texts += ["[" * 5000, '{"edges":[]}', "\udcff"]
+        for text in texts:
+            with open(self.file("graph.json"), "w", encoding="utf-8", errors="surrogateescape") as file:
+                file.write(text)
+            with self.subTest(text[:50]):
+                faults = [self.fault(chipfire.plain, file.name, chips) for chips in (CHIPS_FILE, {0: 1})]
+                numbers = {fault.number for fault in faults}
+                self.assertEqual(len(numbers), 1)
+                self.assertLessEqual(numbers, {20, 21, 22})
+
+    def test_what_is_no_report(self):
+        for text in (
+            '{"version":1}', '{"version":3}', "[]", "{", '{"chips":1,"fired":[],"over":[],"sealed":[],"version":1}',
+            '{"chips":[1],"fired":[0],"over":["a"],"sealed":[],"version":1}',
+        ):
+            with self.subTest(text), self.assertRaises(ValueError):
+                chipfire.Report.read(self.file("report.json", text))
+
     def test_the_file_of_rows_is_named(self):
         wrong = self.file("wrong.csv", "no,header\n")
         for call, arguments, said in [

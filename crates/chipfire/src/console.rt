@@ -103,7 +103,7 @@ impl<R: Files<File = File> + Input + Clock + Eprint> Console<'_, R> {
         } else if self.has_standard.swap(true, SeqCst) {
             return Err(Fault::Open(file.number));
         } else {
-            Source::Standard(self.rt.reader())
+            Source::Standard
         };
         Ok(Reader {
             console: self,
@@ -149,9 +149,9 @@ fn above_streams(file: File) -> io::Result<File> {
 
 /// Where bytes are read from.
 #[derive(Drop)]
-enum Source<S: Drop> {
+enum Source {
     File(File),
-    Standard(S),
+    Standard,
 }
 
 /// What a command reads. Its console knows when it is read, and tells how many bytes of it were.
@@ -160,7 +160,7 @@ pub struct Reader<'a, R: Input + Clock + Eprint> {
     console: &'a Console<'a, R>,
     /// The number of the argument that names it.
     argument: u64,
-    source: Source<R::Reader>,
+    source: Source,
     /// How many bytes were read, up to 2^64 - 1.
     bytes: u64,
 }
@@ -170,7 +170,7 @@ impl<R: Files<File = File> + Input + Clock + Eprint> Reader<'_, R> {
     fn is_file(&self, found: &Metadata) -> bool {
         let now = match &self.source {
             Source::File(file) => file.metadata(),
-            Source::Standard(_) => fs::metadata(self.console.rt, "/dev/stdin"),
+            Source::Standard => fs::metadata(self.console.rt, "/dev/stdin"),
         };
         match now {
             Ok(now) => now.dev() == found.dev() && now.ino() == found.ino(),
@@ -184,7 +184,7 @@ impl<R: Input + Clock + Eprint> Read for Reader<'_, R> {
         self.console.last.store(self.argument, SeqCst);
         let count = match &mut self.source {
             Source::File(file) => file.read(buf)?,
-            Source::Standard(stream) => stream.read(buf)?,
+            Source::Standard => self.console.rt.reader().read(buf)?,
         };
         self.bytes = self.bytes.saturating_add(count as u64);
         if self.console.is_due() {

@@ -1,6 +1,7 @@
 //! The plain player of chip-firing games, and going on with a play that was stopped.
 #![tactic(auto)]
 
+pub use chip_guess::Search;
 pub use chip_sequence::{AfterFault, NotLegal, Outcome, Resumed, after, after_into, enough, fire};
 pub use player::{plain, plain_watched};
 pub use sitting::{ResumeFault, resume, resume_watched};

@@ -134,7 +134,7 @@ fn go_on<W: Watch>(
         if search.go_on(alloc, looks, part)? {
             return Ok(true);
         }
-        watch.searches(search.steps());
+        watch.searches(search);
         if part == most {
             break;
         }

@@ -3,14 +3,15 @@
 ghost use Rattle.chip_fire.specs.Rounds.{IsBegun, IsShort};
 
 use chip_graph::Game;
+use chip_guess::Search;
 
 /// Told how a play goes on. It returns, and what it does changes nothing of the play.
 pub trait Watch {
     /// Told once the game is read, before it is played.
     fn plays(&mut self, _game: &Game) {}
 
-    /// Told how many steps a search for counts has made so far, in which no vertex fires.
-    fn searches(&mut self, _steps: u64) {}
+    /// Told of a search for counts, in which no vertex fires, while it goes on.
+    fn searches(&mut self, _search: &Search<'_>) {}
 
     /// Told once a search for counts is over how many looks at a vertex or an edge it made, the making of what it stands
     /// on too, and how many the rounds until then made.

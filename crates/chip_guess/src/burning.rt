@@ -300,6 +300,17 @@ impl<'a> Burning<'a> {
         self.begin_steps();
     }
 
+    /// The chips of the firings that unburnt vertices lose next, up to 2^64 - 1.
+    pub(crate) fn unburnt_chips(&self) -> u64 {
+        let mut chips = 0u64;
+        for (own, row) in self.vertices.iter().zip(&self.hierarchy.finest.rows) {
+            if own.is_unburnt() {
+                chips = chips.saturating_add(row.degree.unsigned_abs());
+            }
+        }
+        chips
+    }
+
     /// Whether more than a quarter of those that unfired last did not burn.
     pub(crate) fn is_far(&self) -> bool {
         self.unburnt > self.unfired / 4

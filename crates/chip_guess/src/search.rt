@@ -149,6 +149,16 @@ impl<'a> Search<'a> {
         self.steps
     }
 
+    /// About how many chips have still to move until the counts are those sought, up to 2^64 - 1: those above or below
+    /// the target heights, or those of the firings that are taken back next. It looks at the whole graph.
+    pub fn chips_to_move(&self) -> u64 {
+        match &self.stage {
+            Stage::Solving(solver) => solver.residual(),
+            Stage::Fitting(burning) | Stage::Burning(burning) => burning.unburnt_chips(),
+            Stage::Found(_) | Stage::GivenUp => 0,
+        }
+    }
+
     /// About how often all vertices fire from the start of the search on, up to 2^64 - 1; 0 while nothing is known
     /// of it.
     pub fn firings(&self) -> u64 {

@@ -4,7 +4,7 @@ use crate::tuning::{CYCLES_TO_HALVE, MOST_CYCLES, TOLERANCE};
 use chip_graph::Game;
 use std::alloc::{AllocError, Global};
 use std::mem;
-use std::num::{nearest_i64_to_f64, nearest_u64_to_f64};
+use std::num::{nearest_i64_to_f64, nearest_u64_to_f64, saturating_f64_to_u64};
 
 /// How many chips each vertex is to keep, from few to many.
 #[derive(Clone, Copy)]
@@ -132,6 +132,14 @@ impl<'a> Solver<'a> {
             }
         }
         Progress::Going
+    }
+
+    /// How many chips are above or below their heights, up to 2^64 - 1.
+    pub(crate) fn residual(&self) -> u64 {
+        match self.problems.first() {
+            Some(finest) => saturating_f64_to_u64(finest.residual_norm()),
+            None => 0,
+        }
     }
 
     /// Takes the counts out.

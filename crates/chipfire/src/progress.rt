@@ -5,7 +5,7 @@
 
 use crate::console::Console;
 use chip_crew::Gate;
-use chip_fire::Watch;
+use chip_fire::{Search, Watch};
 use chip_graph::Game;
 use std::rt::Clock;
 
@@ -34,9 +34,13 @@ impl<R: Clock + Eprint> Watch for RoundProgress<'_, R> {
         }
     }
 
-    fn searches(&mut self, steps: u64) {
+    fn searches(&mut self, search: &Search<'_>) {
         if self.console.is_due() {
-            let _ = eprintln!(self.console.rt; "chipfire: progress: guessing, {steps} steps");
+            let steps = search.steps();
+            let chips = search.chips_to_move();
+            let _ = eprintln!(self.console.rt;
+                "chipfire: progress: guessing, {steps} steps, {chips} chips have still to move"
+            );
         }
     }
 

@@ -763,8 +763,9 @@ fn chain(rt: &(impl AllocGlobal + Abort), vertices: u64) -> Game
         };
         edges.push(edge).expect(rt, "memory");
     }
+    let sink = vertices - 1;
     let limits = Limits::large();
-    let graph = Graph::within(rt.alloc(), limits, vertices, vertices - 1, edges).expect(rt, "a graph");
+    let graph = Graph::within(rt.alloc(), limits, vertices, sink, edges).expect(rt, "a graph");
     let start = vec![in rt.alloc(); 0; vertices as usize].expect(rt, "memory");
     Game::new(graph, start, LIMIT).expect(rt, "a game")
 }

@@ -6,7 +6,7 @@ use chip_engine::{
     resume_engine, resume_engine_with, simulate_engine,
 };
 use chip_file::{FileFault, read_graph, read_trace};
-use chip_fire::{ResumeFault, Watch};
+use chip_fire::{ResumeFault, Unwatched, Watch};
 use chip_graph::{Game, GameFault, GraphFault, Limits};
 use chip_link::{Ring, TraceRow};
 use chip_report::WriteFault;
@@ -359,7 +359,8 @@ fn answers_within(rt: &impl AllocGlobal, vertices: u64) -> Option<(Option<Fault>
     let graph = &mut TRIANGLE.as_bytes();
     let checked = check_engine_with(rt.alloc(), graph, options.limits, &mut lines);
     let (graph, earlier) = (&mut TRIANGLE.as_bytes(), &mut STOPPED.as_bytes());
-    let resumed = resume_engine_with(rt.alloc(), graph, earlier, options, &mut report);
+    let watch = &mut Unwatched;
+    let resumed = resume_engine_with(rt.alloc(), graph, earlier, options, watch, &mut report);
     Some((checked.err(), resumed.err()))
 }
 

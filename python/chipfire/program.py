@@ -182,7 +182,7 @@ def resume(
 def explain(number: int | None = None, *, program: AnyProgram = None) -> str:
     """What the fault with this number means and what to do; without a number the table of all faults."""
     words: list[Input] = [] if number is None else [("number", str(whole(number, "a fault's number")))]
-    return ask(program, "explain", words, begins="fault ")
+    return ask(program, "explain", words, {"large": None}, begins="fault ")
 
 
 def identity(graph: AnyGraph, *, large: bool = False, program: AnyProgram = None) -> Configuration:

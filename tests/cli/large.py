@@ -5,10 +5,10 @@ squares, and the largest that there are, of 1,048,576 vertices and 8,388,608 edg
     tests/cli/large.py [--program FILE] [--games N] [--anew]
 
 FILE is the program that ./chipfire built, if not said. N random games are played, 200 if not said; tests/cli/run plays
-12. Each is played on one thread and on two, and of one-way games the trace is replayed. What must come of them is known
-from player.c, which shares nothing with the program and is built by `cc`. It takes
-half a minute for the heap, so the digest of its report stands here; --anew has it found once more. The answers of the
-largest games are known by arithmetic. The last line is `N passed, N failed`, and the status is 0 only if nothing failed.
+12. Each is played on one thread and on two. On one-way graphs a game of few chips is played too, and its trace replayed.
+What must come of them is known from player.c, which shares nothing with the program and is built by `cc`. It takes half a
+minute for the heap, so the digest of its report stands here; --anew has it found once more. The answers of the largest
+games are known by arithmetic. The last line is `N passed, N failed`, and the status is 0 only if nothing failed.
 """
 import argparse
 import hashlib
@@ -21,7 +21,7 @@ import sys
 import tempfile
 
 sys.dont_write_bytecode = True
-from largest import Fan, Room, report
+from largest import Fan, Room, report, rows_of
 
 HERE = os.path.dirname(os.path.realpath(__file__))
 ROOT = os.path.dirname(os.path.dirname(HERE))
@@ -46,7 +46,7 @@ LIMITED = f"{ROOT}/tests/hostile/limited.py"
 MEMORIES = [8, 12, 16, 32, 48]
 # By two threads, each of which keeps vertices of its own.
 THREADS = "run graph.json chips.csv --large --dealt --workers 2"
-# How many rows of each vertex a trace of a one-way game has at most, in which few edges lead to one vertex.
+# How many rows of each vertex are recorded.
 ROWS = 256
 # How many MiB a trace is given that wants more.
 TRACE_MEMORY = 512
@@ -208,8 +208,12 @@ def sittings(player, room, game, whole):
     yield arguments, room.faults_of(arguments, report(end["chips"], fired, prior=before))
 
 
-def traced(room, whole):
-    """A play on threads with its trace, by which each vertex fires as often as the report says: arguments and faults."""
+def traced(player, room, game):
+    """A play of few chips on threads with its trace, by which each vertex fires as often as the report says: arguments and
+    faults. On a one-way graph each chip comes by a vertex at most once, so a vertex has at most two rows for each."""
+    chips = [(game.below(game.vertices), ROWS // 8) for _ in range(4)]
+    room.write("chips.csv", rows_of(("vertex", "chips"), sorted(dict(chips).items())))
+    whole = played(player, room)
     arguments = f"{THREADS} --trace trace.csv --trace-rows {ROWS}"
     yield arguments, room.faults_of(arguments, whole)
     arguments = "replay graph.json chips.csv trace.csv --large"
@@ -242,8 +246,6 @@ def play_random(program, player, number):
         whole = played(player, room)
         yield "plain --large graph.json chips.csv", room.faults_of("plain --large graph.json chips.csv", whole)
         yield THREADS, room.faults_of(THREADS, whole)
-        if kind == "one_way":
-            yield from traced(room, whole)
         turn = number // len(KINDS) % 3
         if turn == 0:
             yield from sittings(player, room, game, whole)
@@ -252,6 +254,8 @@ def play_random(program, player, number):
         else:
             is_long = os.path.getsize(f"{folder}/graph.json") > MOST_BYTES
             yield from refused(room, "plain graph.json chips.csv", "30 TooLong" if is_long else "1 Vertices")
+        if kind == "one_way":
+            yield from traced(player, room, game)
 
 
 def play_heap(program, player, is_anew):

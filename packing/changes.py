@@ -1,4 +1,4 @@
-"""CHANGELOG.md: the day of a version, and what it changes."""
+"""CHANGELOG.md: the day of the version, what it changes, and what has changed since."""
 import calendar
 import re
 import time
@@ -8,12 +8,15 @@ from packing.repository import Refused, content
 
 
 def entry():
-    """Returns the first entry: its day, as YYYY-MM-DD, and its points. It has to be that of the version."""
-    text = content("CHANGELOG.md").decode()
-    fit = re.match(r"# chipfire (\S+), (\d{4}-\d\d-\d\d)\n(.*?)(?=^# |\Z)", text, re.MULTILINE | re.DOTALL)
-    if fit is None or fit[1] != version():
+    """Returns the day of the version, as YYYY-MM-DD, and the points of its entry, behind those that came after it.
+
+    Its entry has to be the first, or the second behind one of what came after it."""
+    name = re.escape(version())
+    pattern = rf"(?:# chipfire, after {name}\n(.*?))?^# chipfire {name}, (\d{{4}}-\d\d-\d\d)\n(.*?)(?=^# |\Z)"
+    fit = re.match(pattern, content("CHANGELOG.md").decode(), re.MULTILINE | re.DOTALL)
+    if fit is None:
         raise Refused(f"CHANGELOG.md does not begin with version {version()} and its day")
-    points = re.split(r"^- ", fit[3], flags=re.MULTILINE)[1:]
+    points = re.split(r"^- ", f"{fit[1] or ''}{fit[3]}", flags=re.MULTILINE)[1:]
     return fit[2], [" ".join(it.split()) for it in points]
 
 

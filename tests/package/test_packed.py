@@ -108,7 +108,7 @@ class NotMade(unittest.TestCase):
         top = made.checkout()
         for name in ("crates/chip_arguments/src/help_texts.rt", "CHANGELOG.md"):
             text = made.read(f"{top}/{name}").decode()
-            made.write(f"{top}/{name}", text.replace(made.version(), "77.0", 1).encode())
+            made.write(f"{top}/{name}", text.replace(made.version(), "77.0").encode())
         made.build(top)
         self.refuses(top, f"the program says that it has version {made.version()}, and its sources say 77.0")
 
@@ -127,12 +127,15 @@ class OneVersion(unittest.TestCase):
             self.assertIn(f"\nVersion: {version}\n", wheel.read(f"chipfire-{version}.dist-info/METADATA").decode())
         shown = made.run("dpkg-deb", "-f", made.path_of(".deb"), "Version")
         self.assertEqual(shown.stdout, f"{version}\n")
-        self.assertTrue(made.read(f"{made.ROOT}/CHANGELOG.md").startswith(f"# chipfire {version}, ".encode()))
+        name = re.escape(version)
+        changes = made.read(f"{made.ROOT}/CHANGELOG.md").decode()
+        self.assertRegex(changes, rf"(?s)\A(# chipfire, after {name}\n.*?\n)?# chipfire {name}, ")
 
     def test_it_stands_in_one_place(self):
-        """Beside the source that the program has it from, only the changes and the tests of its answer name it."""
+        """Beside the source that the program has it from, only the changes, the tests of its answer and a release name it."""
         version = re.compile(rb"(?<![\w.])%b(?![\w.])" % re.escape(made.version().encode()))
-        having = {name for name in made.repository_files() if version.search(made.read(f"{made.ROOT}/{name}"))}
+        files = [it for it in made.repository_files() if not it.startswith("release/")]
+        having = {name for name in files if version.search(made.read(f"{made.ROOT}/{name}"))}
         places = {"crates/chip_arguments/src/help_texts.rt", "CHANGELOG.md", "tests/cli/cases/explain.cases"}
         self.assertEqual(having, places)
 

@@ -9,14 +9,19 @@ from packing.proved import version
 from packing.repository import Refused
 
 
-def top():
-    """Returns the name of the one folder in it."""
-    return f"chipfire-{version()}"
+def top(of=None):
+    """Returns the name of the one folder in the archive of a version: of this one if none is said."""
+    return f"chipfire-{of or version()}"
+
+
+def name_of(of):
+    """Returns the name of the archive of a version."""
+    return f"{top(of)}-x86_64-linux.tar.xz"
 
 
 def name(build):
     """Returns the archive's name."""
-    return f"{top()}-x86_64-linux.tar.xz"
+    return name_of(build.stated.version)
 
 
 def files(build):
@@ -24,9 +29,9 @@ def files(build):
     return {f"{top()}/{place}": file for place, file in contents.files(build).items()}
 
 
-def places():
-    """Returns the names of the program and of PROVED in it."""
-    return f"{top()}/{contents.PROGRAM}", f"{top()}/{contents.PROVED}"
+def places(of=None):
+    """Returns the names of the program and of PROVED in the archive of a version: of this one if none is said."""
+    return f"{top(of)}/{contents.PROGRAM}", f"{top(of)}/{contents.PROVED}"
 
 
 def documents(found):

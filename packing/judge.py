@@ -67,11 +67,11 @@ def documents_of(program):
         return contents.documents(path)
 
 
-def unpacked(form, path):
-    """Returns the files of a package of this form, and the documents among them."""
+def unpacked(form, path, part):
+    """Returns the files of a package of this form, and what `part` answers of them."""
     try:
         found = form.read(path)
-        return found, form.documents(found)
+        return found, part(found)
     except KeyError as missing:
         raise Refused(f"there is no {missing.args[0]} in it") from None
     except BROKEN as error:
@@ -82,7 +82,7 @@ def judge_package(form, path, here):
     """Returns what is stated in a package of this form, where all its files are those of these sources.
 
     Its program is started for its documents only where it is the one that was built here."""
-    found, documents = unpacked(form, path)
+    found, documents = unpacked(form, path, form.documents)
     of_program, of_proved = form.places()
     for name in (of_program, of_proved):
         if name not in found:

@@ -61,6 +61,11 @@ def commit():
     return f"{head}, changed" if changed else head
 
 
+def is_committed():
+    """Returns whether the sources are those of the commit that is checked out."""
+    return commit() == git("rev-parse", "HEAD")
+
+
 def has_other_sources(name):
     """Returns whether the repository has this commit, and other sources in it than those that are checked out."""
     is_known = re.fullmatch("[0-9a-f]{40,64}", name) and git("cat-file", "-e", f"{name}^{{commit}}") is not None

@@ -176,11 +176,17 @@ class Work:
         self.planned += self.cost[name]
 
     def minutes_left(self, running, places):
-        """Returns how many minutes are left, by the costs and by how quick this machine has been."""
+        """Returns how many minutes are left, by the costs and by how quick this machine has been, if anything is proved."""
         open_ones = [*self.left, *running]
         work = sum(self.cost[it] for it in open_ones) / places
         longest = max((self.chain[it] for it in open_ones), default=0)
-        return max(work, longest) * self.spent / self.planned / 60
+        return max(work, longest) * (self.spent / self.planned if self.planned else 1) / 60
+
+
+def minutes(name):
+    """Returns how many minutes it takes to prove a crate and all that it stands on, by the costs."""
+    direct = libraries()
+    return Work([*below(name, direct), name], direct).minutes_left([], lanes())
 
 
 def prove_all(names, direct, neighbour):

@@ -1,0 +1,138 @@
+"""release/, which ./package --release makes: a clone answers by the program in it at once, and the gate compares it."""
+import functools
+import os
+import resource
+import shutil
+import unittest
+
+import made
+
+
+@functools.cache
+def released():
+    """Returns a checkout that carries a release of its sources, and has nothing built; no test changes it."""
+    top = made.checkout()
+    made.build(top)
+    answer = made.package(top, "--release")
+    if answer.returncode != 0:
+        raise AssertionError(answer.stderr)
+    shutil.rmtree(f"{top}/target")
+    made.commit(top)
+    return top
+
+
+def clone():
+    """Returns a clone of it."""
+    top = made.room()
+    made.run("git", "clone", "-q", released(), top, check=True)
+    return top
+
+
+def archive_of(top):
+    return f"{top}/release/chipfire-{made.version()}-x86_64-linux.tar.xz"
+
+
+def seconds():
+    """Returns how many seconds of processors the commands took so far."""
+    used = resource.getrusage(resource.RUSAGE_CHILDREN)
+    return used.ru_utime + used.ru_stime
+
+
+def change(path):
+    """Changes the byte in the middle of a file."""
+    data = made.read(path)
+    half = len(data) // 2
+    made.write(path, data[:half] + bytes([data[half] ^ 1]) + data[half + 1:])
+
+
+class Carried(unittest.TestCase):
+    def test_it_is_the_archive_and_PROVED(self):
+        top = released()
+        self.assertEqual(sorted(os.listdir(f"{top}/release")), ["PROVED", os.path.basename(archive_of(top))])
+        checked = made.package(top, "--check", archive_of(top))
+        self.assertIn(made.read(f"{top}/release/PROVED").decode(), checked.stdout)
+
+    def test_it_names_the_commit_before_it(self):
+        before = made.run("git", "rev-parse", "HEAD~1", cwd=released(), check=True).stdout
+        self.assertIn(f"\ncommit {before}", made.read(f"{released()}/release/PROVED").decode())
+
+    def test_a_clone_answers_within_a_second_and_keeps_the_program(self):
+        top = clone()
+        triangle, begun = f"{top}/examples/triangle", seconds()
+        asked = made.run(f"{top}/chipfire", "check", f"{triangle}/graph.json")
+        self.assertLess(seconds() - begun, 1)
+        self.assertEqual((asked.returncode, asked.stdout.splitlines()[0]), (0, "vertices 3"))
+        self.assertRegex(asked.stderr, r"\Achipfire: the program comes from release/: .*\n\Z")
+        self.assertTrue(made.read(f"{top}/target/chipfire") == made.read(made.PROGRAM))
+        self.assertEqual(made.run(f"{top}/chipfire", "check", f"{triangle}/graph.json").stderr, "")
+
+    def test_it_is_not_made_of_sources_that_are_not_committed(self):
+        top = clone()
+        with open(f"{top}/crates/chip_graph/src/lib.rt", "a", encoding="utf-8") as file:
+            file.write("// one line more\n")
+        made.build(top)
+        answer = made.package(top, "--release")
+        self.assertEqual((answer.returncode, answer.stdout), (1, ""))
+        self.assertIn("package: release: the sources are not those of a commit", answer.stderr)
+
+
+class Compared(unittest.TestCase):
+    def compare(self, top, program=made.PROGRAM, kit=made.KIT):
+        """Compares a program that a kit built with the one that a checkout carries, as the gate does."""
+        return made.run(f"{top}/tools/release.py", "--compare", program, kit)
+
+    def goes_on(self, answer, line):
+        self.assertEqual((answer.returncode, answer.stderr), (0, ""))
+        self.assertRegex(answer.stdout, rf"\A{line}\n\Z")
+
+    def fails(self, answer, line):
+        self.assertEqual((answer.returncode, answer.stdout), (1, ""))
+        self.assertRegex(answer.stderr, rf"\Achipfire: the program in release/ is refused: {line}\n\Z")
+
+    def another_program(self):
+        path = f"{made.room()}/chipfire"
+        made.write(path, made.read(made.PROGRAM) + b"\0")
+        return path
+
+    def test_the_same(self):
+        self.goes_on(self.compare(released()), "The program in release/ is the one that was built here, byte for byte.")
+
+    def test_another_program_of_the_same_kit(self):
+        self.fails(self.compare(released(), self.another_program()), "it is not the program that the same kit built .*")
+
+    def test_another_kit(self):
+        for program, built in ((made.PROGRAM, "the same program"), (self.another_program(), "another program")):
+            answer = self.compare(released(), program, "another kit")
+            self.goes_on(answer, f"{made.KIT} built the program in release/, and another kit built {built} here.")
+
+    def test_other_sources(self):
+        top = clone()
+        with open(f"{top}/crates/chip_graph/src/lib.rt", "a", encoding="utf-8") as file:
+            file.write("// one line more\n")
+        answer = self.compare(top, self.another_program())
+        self.goes_on(answer, "release/ was built from other sources than these, at commit [0-9a-f]{12}.")
+
+    def test_a_byte_changed(self):
+        for sources in ("the same", "others"):
+            top = clone()
+            if sources == "others":
+                os.remove(f"{top}/crates/chip_graph/src/lib.rt")
+            change(archive_of(top))
+            self.fails(self.compare(top), "it cannot be unpacked: .*")
+
+    def test_another_statement(self):
+        top = clone()
+        text = made.read(f"{top}/release/PROVED").decode()
+        made.write(f"{top}/release/PROVED", text.replace("commit ", "commit 0", 1).encode())
+        self.fails(self.compare(top), "it is not the one that PROVED states")
+
+    def test_a_part_is_missing(self):
+        for name in os.listdir(f"{released()}/release"):
+            top = clone()
+            os.remove(f"{top}/release/{name}")
+            self.fails(self.compare(top), ".*No such file or directory.*")
+
+    def test_none(self):
+        top = clone()
+        shutil.rmtree(f"{top}/release")
+        self.goes_on(self.compare(top), "There is no release/ to compare with.")

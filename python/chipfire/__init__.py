@@ -11,8 +11,8 @@
 The package stands on the standard library alone. `pip install ./python` installs it, and a copy of its folder works
 too. The answers are the program's, whose contracts are proved; nothing of the package is. The program is found in this
 order: the `program` that a call or a `Program` names, the environment variable CHIPFIRE, the program that an installed
-package carries, `target/chipfire` of the repository that the package lies in or was installed from, and `chipfire` on
-the PATH.
+package carries, `target/chipfire` of the repository that the package lies in or was installed from, the program in the
+`release` there, where `./chipfire` would take it, and `chipfire` on the PATH.
 
 Who comes from sandpiles finds the usual words under these names:
 

@@ -101,6 +101,18 @@ def version() -> str:
     return own_text("version") if os.path.isfile(os.path.join(HERE, "version")) else "unknown"
 
 
+@functools.cache
+def _released(repository: str) -> str | None:
+    """What starts the program in the release of a repository: target/chipfire, once `./chipfire` there has taken it, or
+    that itself, where nothing can be kept. None where the program is not taken; standard error says why, or whence it is."""
+    starter, taken = (os.path.join(repository, name) for name in ("chipfire", os.path.join("target", "chipfire")))
+    if not os.path.isfile(os.path.join(repository, "release", "PROVED")) or not os.access(starter, os.X_OK):
+        return None
+    if subprocess.run([starter, "--take"], stdin=subprocess.DEVNULL, stdout=subprocess.DEVNULL).returncode != 0:
+        return None
+    return taken if os.access(taken, os.X_OK) else starter
+
+
 def find_program() -> str:
     """The program's file; the head of the package says where it is looked for."""
     named = os.environ.get("CHIPFIRE")
@@ -109,7 +121,7 @@ def find_program() -> str:
     for place in (_CARRIED, os.path.join(_repository(), "target", "chipfire")):
         if os.access(place, os.X_OK):
             return place
-    found = shutil.which("chipfire")
+    found = _released(_repository()) or shutil.which("chipfire")
     if found:
         return found
     hint = "./chipfire in the repository builds target/chipfire; name it by the environment variable CHIPFIRE"

@@ -3,6 +3,7 @@ import functools
 import os
 import resource
 import shutil
+import sys
 import unittest
 
 import made
@@ -74,6 +75,41 @@ class Carried(unittest.TestCase):
         answer = made.package(top, "--release")
         self.assertEqual((answer.returncode, answer.stdout), (1, ""))
         self.assertIn("package: release: the sources are not those of a commit", answer.stderr)
+
+
+class Python(unittest.TestCase):
+    ASK = "import chipfire; print(chipfire.find_program(), chipfire.plain(chipfire.path(1), [3]).fired)"
+
+    def asks(self, top, *python):
+        """Asks the package that lies in a checkout, by a command that is Python."""
+        return made.run(*python, "-c", self.ASK, PYTHONPATH=f"{top}/python", TMPDIR="/tmp")
+
+    def test_it_finds_the_program_in_a_clone(self):
+        top = clone()
+        asked = self.asks(top, sys.executable)
+        self.assertEqual(asked.stdout, f"{top}/target/chipfire (1, 0)\n")
+        self.assertEqual(asked.stderr.count("the program comes from release/"), 1)
+        self.assertEqual(self.asks(top, sys.executable).stderr, "")
+
+    def test_it_finds_it_in_a_clone_that_cannot_be_written(self):
+        made.need("python3", "setpriv")
+        top = clone()
+        made.run("chmod", "-R", "a-w", top, check=True)
+        # (root could write it all the same)
+        guest = ["setpriv", "--reuid=65534", "--regid=65534", "--clear-groups"] if os.geteuid() == 0 else []
+        for folder in (made.rooms(), top):
+            os.chmod(folder, 0o755)
+        asked = self.asks(top, *guest, "python3")
+        made.run("chmod", "-R", "u+w", top, check=True)
+        self.assertEqual(asked.stdout, f"{top}/chipfire (1, 0)\n")
+        self.assertFalse(os.path.exists(f"{top}/target"))
+
+    def test_it_finds_none_where_the_sources_are_others(self):
+        top = clone()
+        os.remove(f"{top}/crates/chip_graph/src/lib.rt")
+        asked = self.asks(top, sys.executable)
+        self.assertIn("the program in release/ is not taken: it was built from other sources than these", asked.stderr)
+        self.assertIn("ProgramNotFound", asked.stderr)
 
 
 class Compared(unittest.TestCase):

@@ -68,6 +68,7 @@ from chipfire.sandpiles import (
     is_stable, is_superstable, laplacian, order, recurrent_representative, recurrents, reduced_laplacian, stabilize,
     superstable_representative, superstables,
 )
+from chipfire.schedules import explore, judge, random_schedule, shiviz, shrink
 from chipfire.values import (
     MAX_CHIPS as MAX_CHIPS, MAX_EDGES as MAX_EDGES, MAX_LARGE_EDGES as MAX_LARGE_EDGES,
     MAX_LARGE_VERTICES as MAX_LARGE_VERTICES, MAX_LIMIT as MAX_LIMIT, MAX_MULT as MAX_MULT,
@@ -90,4 +91,6 @@ __all__ = [
     "Check", "Fault", "Program", "ProgramNotFound", "check", "explain", "plain", "resume",
     # the machine; its words are in chipfire.machine, and here too
     "TraceCut", "machine", "page", "recorded", "replay", "run", "simulate",
+    # schedules, on a model that is not proved
+    "explore", "judge", "random_schedule", "shiviz", "shrink",
 ]

@@ -1,13 +1,13 @@
 """Random schedules with the books of the detector behind each reply.
 
 The games are small and drawn at random, and so are the events, those of a turn more often than others. What must come
-is known from examples/simulate.py, which shares nothing with the program: each reply, and the board behind it.
+is known from chipfire.model, which shares nothing with the program: each reply, and the board behind it.
 """
 import json
 import random
 import tempfile
 
-from chains import NO_LIMIT, Chain, module_of, status_of
+from chains import MODEL, NO_LIMIT, Chain, module_of, status_of
 
 KINDS = ["take", "ack", "fire", "clear", "claim", "put", "settle"] * 20 + ["halt", "seal", "read"]
 EVENTS = 400
@@ -47,7 +47,7 @@ class Schedule(Chain):
 
 def play_boards(program, examples, games):
     """Runs so many random schedules, and returns for each its place, name and faults."""
-    simulate = module_of(examples, "simulate")
+    simulate = module_of(f"{examples}/{MODEL}", "model")
     for game in range(games):
         with tempfile.TemporaryDirectory(prefix="chipfire-board-") as room:
             schedule = Schedule(program, room, random.Random(f"board {game}"), None, simulate)

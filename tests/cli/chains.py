@@ -2,7 +2,7 @@
 
 The games are small and drawn at random. The first sitting ends by a random limit, or by a random edge that is sealed;
 each further one goes on from the report that the program wrote, with a random limit, and the last one without a limit.
-What must come is known from examples/play.py and examples/simulate.py, which share nothing with the program: the report
+What must come is known from examples/play.py and chipfire.model, which share nothing with the program: the report
 of each sitting, and that all sittings together are a play that is never stopped.
 """
 import importlib.util
@@ -13,6 +13,8 @@ import tempfile
 
 NO_LIMIT = 2**40
 ROUNDS = 100_000
+#: The folder of chipfire.model, from examples/.
+MODEL = "../python/chipfire"
 SECONDS = 60
 
 
@@ -105,7 +107,7 @@ class Chain:
 
 
 def module_of(path, name):
-    """A script of examples/, to call what it has."""
+    """A script, to call what it has."""
     spec = importlib.util.spec_from_file_location(name, f"{path}/{name}.py")
     module = importlib.util.module_from_spec(spec)
     spec.loader.exec_module(module)
@@ -114,7 +116,7 @@ def module_of(path, name):
 
 def play_chains(program, examples, games):
     """Plays so many chains, and returns for each its place, name and faults."""
-    play, simulate = (module_of(examples, name) for name in ("play", "simulate"))
+    play, simulate = module_of(examples, "play"), module_of(f"{examples}/{MODEL}", "model")
     for game in range(games):
         with tempfile.TemporaryDirectory(prefix="chipfire-chain-") as room:
             chain = Chain(program, room, random.Random(game), play, simulate)

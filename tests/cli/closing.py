@@ -2,8 +2,8 @@
 
 A stretch of a schedule asks for everything: of each edge a take, an acknowledgement, a settle and a put, of each vertex
 a firing and a halt, and of each edge of the graph a look and later a claim. After random events come stretches in random
-order with more random events among them, until examples/simulate.py finds the root closed. There have to be no more of
-them than steps that can count, by the counts of examples/play.py, and the program has to answer the same.
+order with more random events among them, until chipfire.model finds the root closed. There have to be no more of them
+than steps that can count, by the counts of examples/play.py, and the program has to answer the same.
 
 On a chain with one chip at its far end, each stretch asks in the order that serves the chip worst: settles and
 acknowledgements first, then puts, claims, firings, and takes last. One takes the chip to the far end. Along each edge it
@@ -20,7 +20,7 @@ import subprocess
 import tempfile
 
 from boards import OPEN, Schedule
-from chains import NO_LIMIT, SECONDS, module_of, status_of
+from chains import MODEL, NO_LIMIT, SECONDS, module_of, status_of
 
 LENGTH = 10
 MOST_ROUNDS = 2**40
@@ -83,7 +83,7 @@ class Asking(Schedule):
 
 def play_closing(program, examples, games):
     """Plays so many random games to their end by stretches, and returns for each its place, name and faults."""
-    play, simulate = (module_of(examples, name) for name in ("play", "simulate"))
+    play, simulate = module_of(examples, "play"), module_of(f"{examples}/{MODEL}", "model")
     for game in range(games):
         with tempfile.TemporaryDirectory(prefix="chipfire-closing-") as room:
             asking = Asking(program, room, random.Random(f"closing {game}"), play, simulate)

@@ -1,14 +1,14 @@
 """Random schedules that feed: the root gives chips to the vertices while they fire, and notes the end or not.
 
 The games are small and drawn at random, and so are the events, those of a turn and of a feed more often than others.
-What must come is known from examples/simulate.py, which shares nothing with the program: each reply, and the report. Of
+What must come is known from chipfire.model, which shares nothing with the program: each reply, and the report. Of
 a play that closes and that no seal stopped, examples/play.py says besides what one sitting makes of all chips together.
 """
 import json
 import random
 import tempfile
 
-from chains import NO_LIMIT, Chain, module_of, status_of
+from chains import MODEL, NO_LIMIT, Chain, module_of, status_of
 
 KINDS = ["take", "ack", "fire", "clear", "claim", "put", "settle"] * 10 + ["feed"] * 30 + ["halt", "read"]
 EVENTS = 120
@@ -76,7 +76,7 @@ class Feed(Chain):
 
 def play_feeds(program, examples, games):
     """Runs so many random schedules that feed, and returns for each its place, name and faults."""
-    play, simulate = (module_of(examples, name) for name in ("play", "simulate"))
+    play, simulate = module_of(examples, "play"), module_of(f"{examples}/{MODEL}", "model")
     for game in range(games):
         with tempfile.TemporaryDirectory(prefix="chipfire-feed-") as room:
             feed = Feed(program, room, random.Random(f"feed {game}"), play, simulate)

@@ -1,7 +1,7 @@
 """What chipfire must answer to files with whatever bytes: the answer, or the first fault.
 
 It shares nothing with the program. JSON is read by Python's own reader, rows by the automaton of `Rows`, and the games
-are played by examples/simulate.py and by `play` below, which fires a vertex as often as it can at a time.
+are played by chipfire.model and by `play` below, which fires a vertex as often as it can at a time.
 """
 import dataclasses
 import json
@@ -62,7 +62,7 @@ class Answer:
 
 
 class Model:
-    """The program, made of the scripts play and simulate of examples/."""
+    """The program, made of examples/play.py and of chipfire.model."""
 
     def __init__(self, play, simulate):
         self.play, self.simulate_script = play, simulate

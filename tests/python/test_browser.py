@@ -1,7 +1,7 @@
 """Pages of runs in a browser: what is shown after each event is what the program's books say, and the plain rules.
 
 The books are the lines of `simulate --books`, taken from the program here and not from the package; chips, cells and
-the rest come from `examples/simulate.py`. Where no Chromium is installed these tests are skipped. Where the environment
+the rest come from `chipfire.model`. Where no Chromium is installed these tests are skipped. Where the environment
 variable CHIPFIRE_PICTURES names a folder, pictures of the pages are left there to look at.
 """
 import os
@@ -78,11 +78,10 @@ def books_shown(shown, graph):
 
 def vertices_by_plain_rules(core):
     """The rows of the table of vertices."""
-    numbers = {id(edge): number for number, edge in enumerate(core.edges)}
     halts = {None: "", "sealed": "seal", "over": "limit"}
     return {
         str(number): [
-            str(it.chips), str(it.fired), "" if it.parent is None else f"edge {numbers[id(it.parent)]}",
+            str(it.chips), str(it.fired), "" if it.parent is None else f"edge {it.parent}",
             str(core.deficit(core.outs(number))), halts[it.halt],
         ]
         for number, it in enumerate(core.vertices)

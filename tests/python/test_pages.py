@@ -1,7 +1,7 @@
 """Pages of runs: what stands where after each event, how rounds and traces are spelled out, and the text of a page.
 
-What stands where is held against `examples/simulate.py`, which shares nothing with the package or the program, on the
-schedules of examples/detector and on random ones.
+What stands where is held against `chipfire.model`, which shares nothing with the rest of the package or the program,
+on the schedules of examples/detector and on random ones.
 """
 import dataclasses
 import html
@@ -14,10 +14,8 @@ import sys
 import tempfile
 import unittest
 
-import simulate as plain_rules
-
 import chipfire
-from chipfire import layout, ledger, sentences, spelling
+from chipfire import layout, ledger, model as plain_rules, sentences, spelling
 
 HERE = os.path.dirname(os.path.realpath(__file__))
 ROOT = os.path.dirname(os.path.dirname(HERE))
@@ -50,7 +48,6 @@ def core_of(setting):
 
 def state_by_plain_rules(core):
     """What stands where by the plain rules, in the words of the ledger."""
-    numbers = {id(edge): number for number, edge in enumerate(core.edges)}
     root = {
         "deficit": core.deficit(core.edges[core.graph_edges:]), "ended": core.ended, "closed": core.is_closed()
     }
@@ -58,7 +55,7 @@ def state_by_plain_rules(core):
     vertices = [
         {
             "chips": it.chips, "fired": it.fired, "halted": halts[it.halt], "deficit": core.deficit(core.outs(number)),
-            "parent": None if it.parent is None else numbers[id(it.parent)],
+            "parent": it.parent,
         }
         for number, it in enumerate(core.vertices)
     ]

@@ -1,0 +1,436 @@
+#!/usr/bin/env python3
+"""The machine and its detector the plain way: what `chipfire simulate` must answer, and a thing to change and to try.
+
+    python3 python/chipfire/model.py GRAPH CHIPS SCHEDULE [--limit F] [--ring R] [--rounds N] [--books] [--fed]
+
+It shares nothing with chipfire: every message stands in a row of its edge for good, and what was put, delivered,
+acknowledged and settled are numbers beside it. It expects files that are right, and checks nothing. It is not proved.
+
+A `Core` is one game. `step` makes an event, `enabled` lists those that would do something now, and `left` says what is
+still to do. The rule of the detector is in `may_ack` and `is_closed`; `chipfire.detectors` has classes with other
+rules.
+"""
+
+from __future__ import annotations
+
+import argparse
+import copy
+import csv
+import json
+from collections.abc import Callable, Iterable, Iterator, Mapping, Sequence
+from typing import Any, Union
+
+RULES = {
+    "NoSuch": 1, "Sink": 2, "Halted": 3, "Pending": 4, "Zero": 5, "Limit": 6, "NotLegal": 7, "NothingPending": 8,
+    "Refused": 9, "Unput": 10, "NotCleared": 11, "NotClaimed": 12, "NoCause": 13, "NothingOwed": 14, "Engaged": 15,
+    "NotClosed": 16, "Ended": 17, "TooMuch": 18,
+}
+
+#: A kind of event, the edge or vertex that it is at, and a count.
+Event = tuple[str, int, int]
+#: The name of a rule, and whether it is met.
+Rule = tuple[str, Callable[[], bool]]
+
+
+class Edge:
+    """An edge with the chips of all its messages; those of the root have -1 as their tail."""
+
+    def __init__(self, number: int, tail: int, head: int, mult: int) -> None:
+        self.number, self.tail, self.head, self.mult = number, tail, head, mult
+        self.sent: tuple[int, ...] = ()
+        self.put = self.delivered = self.acked = self.settled = self.pending = 0
+        self.clear = self.refused = self.sealed = False
+
+
+class Vertex:
+    """A vertex: its chips and firings, why it halted, and the number of the edge that engaged it."""
+
+    def __init__(self) -> None:
+        self.chips = self.fired = 0
+        self.halt: Union[str, None] = None
+        self.parent: Union[int, None] = None
+
+
+class Core:
+    """A game, with the detector of Dijkstra and Scholten."""
+
+    #: What a detector of another kind keeps, as a value that does not change.
+    own: Any = ()
+
+    def __init__(
+        self, graph: Mapping[str, Any], chips: Sequence[int], limit: int = 2**40, ring: int = 1, fed: bool = False
+    ) -> None:
+        self.sink: int = graph["sink"]
+        self.limit, self.ring, self.ended = limit, ring, not fed
+        self.vertices = [Vertex() for _ in range(graph["vertices"])]
+        rows = [*graph["edges"], *((-1, vertex, 0) for vertex in range(graph["vertices"]))]
+        self.edges = [Edge(number, *row) for number, row in enumerate(rows)]
+        self.graph_edges = len(graph["edges"])
+        for vertex, e in enumerate(self.edges[self.graph_edges :]):
+            if chips[vertex]:
+                e.sent, e.put = (chips[vertex],), 1
+                self.on_send(e)
+
+    def copied(self) -> Core:
+        """The same game once more, which goes its own way."""
+        other = copy.copy(self)
+        other.edges, other.vertices = [copy.copy(e) for e in self.edges], [copy.copy(v) for v in self.vertices]
+        return other
+
+    def state(self) -> tuple[Any, ...]:
+        """All that there is, as a value that can be compared."""
+        parts = [*self.edges, *self.vertices]
+        return (*(tuple(vars(part).values()) for part in parts), self.ended, self.own)
+
+    def ins(self, v: int) -> list[Edge]:
+        return [e for e in self.edges if e.head == v]
+
+    def outs(self, v: int) -> list[Edge]:
+        return [e for e in self.edges if e.tail == v]
+
+    def degree(self, v: int) -> int:
+        return sum(e.mult for e in self.outs(v))
+
+    def is_legal(self, v: int) -> bool:
+        return v != self.sink and self.vertices[v].chips >= self.degree(v)
+
+    def is_pending(self, v: int) -> bool:
+        return any(e.pending for e in self.outs(v))
+
+    def has_unput(self, v: int) -> bool:
+        return any(e.put < len(e.sent) for e in self.outs(v))
+
+    def is_passive(self, v: int) -> bool:
+        """Whether a vertex has nothing to do until another message comes."""
+        done = self.vertices[v].halt is not None or not (self.is_pending(v) or self.is_legal(v))
+        return done and not self.has_unput(v)
+
+    def deficit(self, edges: Iterable[Edge]) -> int:
+        return sum(len(e.sent) - e.settled for e in edges)
+
+    def others_owed(self, e: Edge) -> int:
+        """What the head of an edge owes on all others."""
+        return sum(it.delivered - it.acked for it in self.ins(e.head) if it is not e)
+
+    # The rule of the detector.
+
+    def on_send(self, e: Edge) -> None:
+        """What the detector does when a message is sent: nothing, since the messages of an edge are counted anyway."""
+
+    def on_take(self, e: Edge) -> None:
+        """What it does when a message is taken: a neutral vertex is engaged by the edge."""
+        if self.vertices[e.head].parent is None:
+            self.vertices[e.head].parent = e.number
+
+    def may_let_go(self, e: Edge) -> bool:
+        """Whether a vertex may acknowledge the message that engaged it, which came on this edge."""
+        return self.is_passive(e.head) and self.deficit(self.outs(e.head)) == 0 and self.others_owed(e) == 0
+
+    def may_ack(self, e: Edge) -> int:
+        """How many messages of an edge may be acknowledged now."""
+        owed = e.delivered - e.acked
+        is_free = self.vertices[e.head].parent != e.number or self.may_let_go(e)
+        return owed if is_free else max(owed - 1, 0)
+
+    def is_closed(self) -> bool:
+        """Whether the root says that all is over."""
+        return self.ended and self.deficit(self.edges[self.graph_edges :]) == 0
+
+    def own_events(self) -> Iterator[Event]:
+        """The events of a detector of another kind that would do something now."""
+        return iter(())
+
+    # What may happen, and what is left.
+
+    def enabled(self) -> list[Event]:
+        """The events that would do something now; nothing is sealed or fed by itself."""
+        found: list[Event] = [] if self.ended else [("end", 0, 0)]
+        for e in self.edges:
+            runs = e.tail >= 0 and self.vertices[e.tail].halt is None
+            may = {
+                "take": e.delivered < e.put,
+                "ack": self.may_ack(e) > 0,
+                "settle": e.settled < e.acked,
+                "clear": runs and e.pending and not (e.clear or e.refused) and len(e.sent) - e.delivered < self.ring,
+                "claim": runs and e.clear,
+                "put": e.put < len(e.sent),
+            }
+            found += [(kind, e.number, 0) for kind, it in may.items() if it]
+        for v, vertex in enumerate(self.vertices):
+            if v == self.sink or vertex.halt is not None or self.has_unput(v):
+                continue
+            if not self.is_pending(v):
+                most = min(vertex.chips // self.degree(v), self.limit - vertex.fired)
+                found += [("fire", v, count) for count in range(1, most + 1)]
+            if self.cause(v):
+                found.append(("halt", v, 0))
+        return [*found, *self.own_events()]
+
+    def left(self) -> list[str]:
+        """What is still to do, in words; none of it where the game is over."""
+        found = []
+        for e in self.edges:
+            count = len(e.sent) - e.delivered
+            if count:
+                found.append(f"edge {e.number} has {count} message" + "s" * (count > 1))
+            if e.pending and self.vertices[e.tail].halt is None:
+                found.append(f"edge {e.number} has {e.pending} chip" + "s" * (e.pending > 1) + " pending")
+        for v, vertex in enumerate(self.vertices):
+            if vertex.halt is None and self.is_legal(v) and vertex.fired < self.limit:
+                found.append(f"vertex {v} can fire")
+        return found
+
+    def cause(self, v: int) -> Union[str, None]:
+        """What makes a vertex halt."""
+        if any(e.refused for e in self.outs(v)):
+            return "sealed"
+        if not self.is_pending(v) and self.is_legal(v) and self.vertices[v].fired == self.limit:
+            return "over"
+        return None
+
+    def first_unmet(self, *rules: Rule) -> Union[str, None]:
+        for name, is_met in rules:
+            if not is_met():
+                return f"not-now {RULES[name]}"
+        return None
+
+    def is_there(self, at: int, bound: int) -> Rule:
+        return ("NoSuch", lambda: at < bound)
+
+    def running(self, at: int, is_edge: bool) -> Rule:
+        return ("Halted", lambda: self.vertices[self.edges[at].tail if is_edge else at].halt is None)
+
+    def step(self, kind: str, at: int, count: int = 0) -> str:
+        """Makes an event where its rules are met, and returns the reply, as a line."""
+        made: str = getattr(self, kind)(at, count) if kind in ("fire", "feed") else getattr(self, kind)(at)
+        return made
+
+    def take(self, at: int) -> str:
+        if unmet := self.first_unmet(self.is_there(at, len(self.edges))):
+            return unmet
+        e = self.edges[at]
+        if e.delivered == e.put:
+            return "empty"
+        place, count = e.delivered, e.sent[e.delivered]
+        e.delivered += 1
+        self.vertices[e.head].chips += count
+        self.on_take(e)
+        return f"got {place} {count}"
+
+    def ack(self, at: int) -> str:
+        unmet = self.first_unmet(
+            self.is_there(at, len(self.edges)),
+            ("NothingOwed", lambda: self.edges[at].delivered > self.edges[at].acked),
+            ("Engaged", lambda: self.may_ack(self.edges[at]) > 0),
+        )
+        if unmet:
+            return unmet
+        e, many = self.edges[at], self.may_ack(self.edges[at])
+        e.acked += many
+        if self.vertices[e.head].parent == e.number and e.acked == e.delivered:
+            self.vertices[e.head].parent = None
+        return f"done {many}"
+
+    def fire(self, at: int, count: int) -> str:
+        unmet = self.first_unmet(
+            self.is_there(at, len(self.vertices)),
+            ("Sink", lambda: at != self.sink),
+            self.running(at, False),
+            ("Pending", lambda: not self.is_pending(at) and not self.has_unput(at)),
+            ("Zero", lambda: count >= 1),
+            ("Limit", lambda: self.vertices[at].fired + count <= self.limit),
+            ("NotLegal", lambda: self.vertices[at].chips >= count * self.degree(at)),
+        )
+        if unmet:
+            return unmet
+        vertex = self.vertices[at]
+        vertex.chips -= count * self.degree(at)
+        vertex.fired += count
+        for e in self.outs(at):
+            e.pending = count * e.mult
+        return f"done {vertex.fired}"
+
+    def clear(self, at: int) -> str:
+        of_graph = [
+            self.running(at, True),
+            ("Refused", lambda: not self.edges[at].refused),
+            ("NothingPending", lambda: self.edges[at].pending > 0),
+        ]
+        of_root = [
+            ("Ended", lambda: not self.ended),
+            ("Unput", lambda: self.edges[at].put == len(self.edges[at].sent)),
+        ]
+        unmet = self.first_unmet(
+            self.is_there(at, len(self.edges)), *(of_graph if at < self.graph_edges else of_root)
+        )
+        if unmet:
+            return unmet
+        e = self.edges[at]
+        e.clear = len(e.sent) - e.delivered < self.ring
+        return f"done {len(e.sent)}" if e.clear else "full"
+
+    def claim(self, at: int) -> str:
+        unmet = self.first_unmet(
+            self.is_there(at, self.graph_edges), self.running(at, True), ("NotCleared", lambda: self.edges[at].clear)
+        )
+        if unmet:
+            return unmet
+        e = self.edges[at]
+        e.clear = False
+        if e.sealed:
+            e.refused = True
+            return "sealed"
+        e.sent, e.pending = (*e.sent, e.pending), 0
+        self.on_send(e)
+        return f"sent {len(e.sent) - 1} {e.sent[-1]}"
+
+    def put(self, at: int) -> str:
+        unmet = self.first_unmet(
+            self.is_there(at, len(self.edges)),
+            ("NotClaimed", lambda: self.edges[at].put < len(self.edges[at].sent)),
+        )
+        if unmet:
+            return unmet
+        self.edges[at].put += 1
+        return f"done {self.edges[at].sent[-1]}"
+
+    def halt(self, at: int) -> str:
+        unmet = self.first_unmet(
+            self.is_there(at, len(self.vertices)),
+            ("Sink", lambda: at != self.sink),
+            self.running(at, False),
+            ("Unput", lambda: not self.has_unput(at)),
+            ("NoCause", lambda: self.cause(at) is not None),
+        )
+        if unmet:
+            return unmet
+        self.vertices[at].halt = self.cause(at)
+        return f"done {1 if self.vertices[at].halt == 'over' else 0}"
+
+    def settle(self, at: int) -> str:
+        if unmet := self.first_unmet(self.is_there(at, len(self.edges))):
+            return unmet
+        e = self.edges[at]
+        more, e.settled = e.acked - e.settled, e.acked
+        return f"done {more}"
+
+    def seal(self, at: int) -> str:
+        if unmet := self.first_unmet(self.is_there(at, self.graph_edges)):
+            return unmet
+        self.edges[at].sealed = True
+        return f"done {len(self.edges[at].sent)}"
+
+    def read(self, at: int) -> str:
+        unmet = self.first_unmet(self.is_there(at, len(self.vertices)), ("NotClosed", self.is_closed))
+        return unmet or f"done {self.vertices[at].fired}"
+
+    def feed(self, at: int, count: int) -> str:
+        unmet = self.first_unmet(
+            ("NoSuch", lambda: self.graph_edges <= at < len(self.edges)),
+            ("Ended", lambda: not self.ended),
+            ("Zero", lambda: count >= 1),
+            ("TooMuch", lambda: sum(sum(e.sent) for e in self.edges[self.graph_edges :]) + count <= 2**40),
+            ("NotCleared", lambda: self.edges[at].clear),
+        )
+        if unmet:
+            return unmet
+        e = self.edges[at]
+        e.clear, e.sent = False, (*e.sent, count)
+        self.on_send(e)
+        return f"sent {len(e.sent) - 1} {count}"
+
+    def end(self, _at: int) -> str:
+        self.ended = True
+        return self.settle(self.graph_edges)
+
+    def turn(self, v: int) -> None:
+        """One turn of a vertex, as docs/CORE.md tells it."""
+        vertex = self.vertices[v]
+        ins, outs = [e.number for e in self.ins(v)], [e.number for e in self.outs(v)]
+        for e in ins:
+            self.take(e)
+        for e in outs:
+            self.settle(e)
+        idle = not self.is_pending(v) and not self.has_unput(v)
+        if vertex.halt is None and idle and self.is_legal(v) and vertex.fired < self.limit:
+            self.fire(v, min(vertex.chips // self.degree(v), self.limit - vertex.fired))
+        if vertex.halt is None:
+            for e in outs:
+                if self.edges[e].put < len(self.edges[e].sent):
+                    self.put(e)
+            if any(self.edges[e].refused for e in outs):
+                self.halt(v)
+            for e in outs:
+                if vertex.halt is None and self.edges[e].pending and self.clear(e) != "full":
+                    if self.claim(e) == "sealed":
+                        self.halt(v)
+                    else:
+                        self.put(e)
+        if vertex.halt is None and self.cause(v) == "over":
+            self.halt(v)
+        for e in ins:
+            if self.may_ack(self.edges[e]):
+                self.ack(e)
+        if vertex.parent is not None and self.may_ack(self.edges[vertex.parent]):
+            self.ack(vertex.parent)
+
+    def drive(self, rounds: int) -> None:
+        for _ in range(rounds):
+            if self.is_closed():
+                return
+            for v in range(len(self.vertices)):
+                self.turn(v)
+            for e in range(self.graph_edges, len(self.edges)):
+                self.settle(e)
+
+    def board(self) -> str:
+        """The books: the root's deficit, and of each engaged vertex its parent, its deficit and what it owes."""
+        lines = [f"  root deficit {self.deficit(self.edges[self.graph_edges :])}"]
+        for v, vertex in enumerate(self.vertices):
+            if vertex.parent is not None:
+                owed = [(e.number, e.delivered - e.acked) for e in self.ins(v)]
+                owes = "".join(f" {edge}:{count}" for edge, count in owed if count)
+                lines.append(f"  vertex {v} parent {vertex.parent} deficit {self.deficit(self.outs(v))} owes{owes}")
+        return "\n".join(lines)
+
+    def report(self) -> str:
+        fired = [v.fired for v in self.vertices]
+        start = [sum(e.sent) for e in self.edges[self.graph_edges :]]
+        chips = [given - self.degree(v) * fired[v] for v, given in enumerate(start)]
+        for e in self.edges[: self.graph_edges]:
+            chips[e.head] += e.mult * fired[e.tail]
+        over, sealed = ([v for v, it in enumerate(self.vertices) if it.halt == why] for why in ("over", "sealed"))
+        said = {"chips": chips, "closed": not over + sealed, "fired": fired, "over": over, "sealed": sealed, "version": 1}
+        return json.dumps(said, separators=(",", ":"))
+
+
+def rows(file_name: str) -> list[dict[str, str]]:
+    with open(file_name, encoding="utf-8", newline="") as file:
+        return list(csv.DictReader(file))
+
+
+def main() -> None:
+    words = argparse.ArgumentParser(description="What chipfire simulate must answer.")
+    for name in ("graph", "chips", "schedule"):
+        words.add_argument(name)
+    for name, least in (("limit", 2**40), ("ring", 1), ("rounds", 0)):
+        words.add_argument(f"--{name}", type=int, default=least)
+    words.add_argument("--books", action="store_true", help="what stands in the books behind each reply")
+    words.add_argument("--fed", action="store_true", help="the root may feed chips until the end is noted")
+    asked = words.parse_args()
+    with open(asked.graph, encoding="utf-8") as file:
+        graph = json.load(file)
+    chips = [0] * graph["vertices"]
+    for row in rows(asked.chips):
+        chips[int(row["vertex"])] = int(row["chips"])
+    core = Core(graph, chips, asked.limit, asked.ring, asked.fed)
+    for row in rows(asked.schedule):
+        print(core.step(row["event"], int(row["at"]), int(row["count"])))
+        if asked.books:
+            print(core.board())
+    core.drive(asked.rounds)
+    print(f"root closed\n{core.report()}" if core.is_closed() else "root open")
+
+
+if __name__ == "__main__":
+    main()

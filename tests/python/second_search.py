@@ -1,0 +1,104 @@
+"""All schedules of a small game a second time, for the tests of `chipfire.explore`: depth first, over plain tuples.
+
+It shares nothing with the package. A state is a tuple of eight: of each vertex its chips, firings and parent, and of
+each edge, those of the root last, what is pending, all messages, and how many are taken, acknowledged and settled.
+A send is one step, and an edge holds one message. A rule says when a passive or busy vertex may acknowledge the message
+that engaged it: `rule(is_passive, deficit, owed_elsewhere)`.
+"""
+
+RULES = {
+    "right": lambda passive, deficit, others: passive and not deficit and not others,
+    "at-once": lambda passive, deficit, others: True,
+    "without-passive": lambda passive, deficit, others: not deficit and not others,
+    "without-deficit": lambda passive, deficit, others: passive and not others,
+    "any-order": lambda passive, deficit, others: passive and not deficit,
+}
+
+
+class Game:
+    """A graph with its sink, and the chips at the start."""
+
+    def __init__(self, vertices, sink, edges, chips):
+        self.sink = sink
+        self.tails = [edge[0] for edge in edges] + [None] * vertices
+        self.heads = [edge[1] for edge in edges] + list(range(vertices))
+        self.mults = [edge[2] if len(edge) > 2 else 1 for edge in edges] + [0] * vertices
+        self.all = range(len(self.tails))
+        self.degrees = [sum(self.mults[it] for it in self.all if self.tails[it] == at) for at in range(vertices)]
+        sent = ((),) * len(edges) + tuple((count,) if count else () for count in chips)
+        zeros = (0,) * len(self.tails)
+        self.start = ((0,) * vertices, (0,) * vertices, (None,) * vertices, zeros, sent, zeros, zeros, zeros)
+
+    def is_over(self, state):
+        """Whether no message is under way, nothing is pending, and no vertex can fire."""
+        chips, _, _, pending, sent, taken, _, _ = state
+        idle = not any(pending) and all(len(sent[it]) == taken[it] for it in self.all)
+        return idle and not any(self.can_fire(chips, at) for at in range(len(chips)))
+
+    def is_closed(self, state):
+        return all(len(state[4][it]) == state[7][it] for it in self.all if self.tails[it] is None)
+
+    def can_fire(self, chips, at):
+        return at != self.sink and chips[at] >= self.degrees[at]
+
+    def after(self, state, rule, only_once):
+        """The states after one step more."""
+        chips, fired, parents, pending, sent, taken, acked, settled = state
+        for it in self.all:
+            head = self.heads[it]
+            if len(sent[it]) > taken[it]:
+                more, engaged = with_at(chips, head, chips[head] + sent[it][taken[it]]), parents
+                if parents[head] is None:
+                    engaged = with_at(parents, head, it)
+                got = with_at(taken, it, taken[it] + 1)
+                yield more, fired, engaged, pending, sent, got, acked, settled
+            if pending[it] and len(sent[it]) == taken[it]:
+                put = with_at(sent, it, (*sent[it], pending[it]))
+                yield chips, fired, parents, with_at(pending, it, 0), put, taken, acked, settled
+            if acked[it] > settled[it]:
+                yield chips, fired, parents, pending, sent, taken, acked, with_at(settled, it, acked[it])
+            count = self.may_acknowledge(state, it, rule)
+            if count:
+                seen = with_at(acked, it, acked[it] + count)
+                is_free = parents[head] == it and seen[it] == taken[it]
+                engaged = with_at(parents, head, None) if is_free else parents
+                yield chips, fired, engaged, pending, sent, taken, seen, settled
+        for at in range(len(chips)):
+            outs = [it for it in self.all if self.tails[it] == at]
+            if self.can_fire(chips, at) and not any(pending[it] for it in outs):
+                for count in range(1, 2 if only_once else chips[at] // self.degrees[at] + 1):
+                    less = with_at(chips, at, chips[at] - count * self.degrees[at])
+                    due = tuple(count * self.mults[it] if it in outs else pending[it] for it in self.all)
+                    yield (less, with_at(fired, at, fired[at] + count), parents, due, *state[4:])
+
+    def may_acknowledge(self, state, it, rule):
+        chips, _, parents, pending, sent, taken, acked, settled = state
+        head, owed = self.heads[it], taken[it] - acked[it]
+        if not owed or parents[head] != it:
+            return owed
+        outs = [edge for edge in self.all if self.tails[edge] == head]
+        others = sum(taken[edge] - acked[edge] for edge in self.all if self.heads[edge] == head and edge != it)
+        deficit = sum(len(sent[edge]) - settled[edge] for edge in outs)
+        is_passive = not self.can_fire(chips, head) and not any(pending[edge] for edge in outs)
+        return owed if rule(is_passive, deficit, others) else owed - 1
+
+
+def with_at(values, at, value):
+    return (*values[:at], value, *values[at + 1 :])
+
+
+def searched(game, rule, only_once=False):
+    """How many states all schedules reach, and the least steps to one where the root is closed too early, or None.
+
+    Behind a state in which the root is closed too early it goes on like behind any other.
+    """
+    least, waiting, early = {game.start: 0}, [game.start], []
+    while waiting:
+        state = waiting.pop()
+        if game.is_closed(state) and not game.is_over(state):
+            early.append(state)
+        for reached in game.after(state, rule, only_once):
+            if least.get(reached, least[state] + 2) > least[state] + 1:
+                least[reached] = least[state] + 1
+                waiting.append(reached)
+    return len(least), min((least[state] for state in early), default=None)

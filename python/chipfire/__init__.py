@@ -74,6 +74,7 @@ from chipfire.values import (
     MAX_LARGE_VERTICES as MAX_LARGE_VERTICES, MAX_LIMIT as MAX_LIMIT, MAX_MULT as MAX_MULT,
     MAX_VERTICES as MAX_VERTICES, FileName as FileName,
 )
+from chipfire.wrong import wrong_page
 
 __version__ = version()
 
@@ -92,5 +93,5 @@ __all__ = [
     # the machine; its words are in chipfire.machine, and here too
     "TraceCut", "machine", "page", "recorded", "replay", "run", "simulate",
     # schedules, on a model that is not proved
-    "explore", "judge", "random_schedule", "shiviz", "shrink",
+    "explore", "judge", "random_schedule", "shiviz", "shrink", "wrong_page",
 ]

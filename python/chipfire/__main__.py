@@ -2,6 +2,7 @@
 
     python -m chipfire page GRAPH CHIPS SCHEDULE >run.html
     python -m chipfire page GRAPH CHIPS TRACE >run.html
+    python -m chipfire wrong NAME [GRAPH CHIPS] >wrong.html
 """
 
 from __future__ import annotations
@@ -10,11 +11,14 @@ import argparse
 import csv
 import sys
 
+from chipfire.detectors import DETECTORS
+from chipfire.layout import Point
 from chipfire.ledger import Disagreement
-from chipfire.machine import TRACE_HEADER, Simulation
+from chipfire.machine import TRACE_HEADER, Setting, Simulation
 from chipfire.pages import page_text, recorded
-from chipfire.program import simulate
+from chipfire.program import known_chips, known_graph, simulate
 from chipfire.values import read_rows
+from chipfire.wrong import wrong_page_text
 
 
 def _is_trace(file: str) -> bool:
@@ -33,13 +37,30 @@ def _simulation(asked: argparse.Namespace) -> Simulation:
     return simulate(*game, rounds=asked.rounds, fed=asked.fed, books=True, **options)
 
 
-def _page(asked: argparse.Namespace) -> None:
-    positions = None
-    if asked.positions is not None:
-        rows = read_rows(asked.positions, ("vertex", "right", "down"))
-        positions = {int(vertex): (float(right), float(down)) for vertex, right, down in rows}
-    made = page_text(_simulation(asked), title=asked.title, positions=positions, program=asked.program)
-    sys.stdout.buffer.write(made.encode())
+def _positions(asked: argparse.Namespace) -> dict[int, Point] | None:
+    if asked.positions is None:
+        return None
+    rows = read_rows(asked.positions, ("vertex", "right", "down"))
+    return {int(vertex): (float(right), float(down)) for vertex, right, down in rows}
+
+
+def _page(asked: argparse.Namespace) -> str:
+    return page_text(
+        _simulation(asked), title=asked.title or "A run of chipfire", positions=_positions(asked), program=asked.program
+    )
+
+
+def _wrong(asked: argparse.Namespace) -> str:
+    setting = None
+    if asked.game:
+        if len(asked.game) != 2:
+            raise ValueError("another game is GRAPH and CHIPS, two files")
+        graph, chips = asked.game
+        known = known_graph(graph, asked.program)
+        setting = Setting(known, known_chips(known, chips, asked.program))
+    return wrong_page_text(
+        asked.name, setting, title=asked.title, positions=_positions(asked), program=asked.program
+    )
 
 
 def _arguments() -> argparse.ArgumentParser:
@@ -57,17 +78,27 @@ def _arguments() -> argparse.ArgumentParser:
     page.add_argument("--ring", type=int, metavar="R", help="how many cells the ring of an edge has")
     page.add_argument("--rounds", type=int, metavar="N", help="how many rounds of turns follow a schedule at most")
     page.add_argument("--fed", action="store_true", help="the schedule may feed chips")
-    page.add_argument("--title", default="A run of chipfire", metavar="TEXT", help="what stands above the page")
-    page.add_argument("--positions", metavar="FILE", help="where the vertices stand: rows vertex,right,down")
-    page.add_argument("--program", metavar="FILE", help="the program chipfire, if not the one that is found")
-    page.set_defaults(act=_page)
+    page.set_defaults(make=_page)
+    wrong = commands.add_parser(
+        "wrong",
+        help="a page of HTML on which a wrong detector says too early that all is over",
+        description="Writes a page of the shortest schedule on which a wrong detector says too early that all is over, "
+        f"beside the right one. NAME is one of {', '.join(DETECTORS)}; where none is wrong, that is told.",
+    )
+    wrong.add_argument("name", metavar="NAME", help="the detector")
+    wrong.add_argument("game", metavar="GRAPH CHIPS", nargs="*", help="another game than that of the detector")
+    wrong.set_defaults(make=_wrong)
+    for command in (page, wrong):
+        command.add_argument("--title", metavar="TEXT", help="what stands above the page")
+        command.add_argument("--positions", metavar="FILE", help="where the vertices stand: rows vertex,right,down")
+        command.add_argument("--program", metavar="FILE", help="the program chipfire, if not the one that is found")
     return parser
 
 
 def main() -> int:
     asked = _arguments().parse_args()
     try:
-        asked.act(asked)
+        sys.stdout.buffer.write(asked.make(asked).encode())
     except (Disagreement, OSError, ValueError) as error:
         print(f"chipfire: {error}", file=sys.stderr)
         return 1

@@ -215,3 +215,10 @@ DETECTORS = {
     "safra-colourless": Known(SafraColourless, "a token that adds up what was sent and taken, without colours", _FOUR),
     "credit": Known(Credit, "credit that the root gives out and gets back", _FOUR),
 }
+
+
+def known_detector(name: str) -> Known:
+    """The detector of a name."""
+    if name not in DETECTORS:
+        raise ValueError(f"there is no detector {name!r}, but {', '.join(DETECTORS)}")
+    return DETECTORS[name]

@@ -74,7 +74,16 @@ class Ledger:
             if count:
                 self.edges[self.setting.graph.root_edge(vertex)].update(cells=[(0, count)], sent=1)
                 self.root["deficit"] += 1
-        self.root["closed"] = self.root["ended"] and self.root["deficit"] == 0
+        self.root["closed"] = self.is_closed()
+
+    def is_closed(self) -> bool:
+        """Whether the root is closed."""
+        return bool(self.root["ended"] and self.root["deficit"] == 0)
+
+    def is_legal(self, vertex: int) -> bool:
+        """Whether a vertex has the chips to fire."""
+        chips: int = self.vertices[vertex]["chips"]
+        return vertex != self.setting.graph.sink and chips >= self.degrees[vertex]
 
     def state(self) -> State:
         """All facts, as they stand now."""
@@ -85,8 +94,7 @@ class Ledger:
         self._changes = []
         if reply.is_done:
             getattr(self, f"_{event.kind}")(event, reply)
-            is_closed = self.root["ended"] and self.root["deficit"] == 0
-            self._set("root", 0, closed=is_closed)
+            self._set("root", 0, closed=self.is_closed())
         return self._changes
 
     def _set(self, kind: str, index: int, **facts: Any) -> None:

@@ -5,8 +5,11 @@ docs/CORE.md says what each event does, docs/DETECTOR.md what stands in the book
 
 from __future__ import annotations
 
+import csv
 import functools
-from collections.abc import Iterable, Sequence
+import io
+import os
+from collections.abc import Iterable, Mapping, Sequence
 from dataclasses import dataclass, field
 from typing import Any, NamedTuple
 
@@ -15,6 +18,7 @@ from chipfire.reports import Report
 from chipfire.values import MAX_LIMIT, MAX_VERTICES, FileName, read_rows, rows_text, write
 
 SCHEDULE_HEADER = ("event", "at", "count")
+NOTED_HEADER = (*SCHEDULE_HEADER, "note")
 TRACE_HEADER = ("vertex", "kind", "edge", "count")
 
 #: What each rule says that the reply `not-now N` names; docs/CORE.md has the table.
@@ -38,6 +42,27 @@ RULES = {
     17: "the end of feeding is not noted",
     18: "with so many more, no more than 2^40 chips are given in all",
 }
+#: What it is called and what is so where it is not met; `chipfire explain rule` has the same words.
+UNMET = {
+    1: ("NoSuch", "there is no such vertex or edge"),
+    2: ("Sink", "the vertex is the sink"),
+    3: ("Halted", "the vertex is halted; for an edge, its tail is"),
+    4: ("Pending", "the vertex has not yet sent what its last firings made"),
+    5: ("Zero", "the vertex is to fire no times"),
+    6: ("Limit", "the vertex would fire more often than the limit allows"),
+    7: ("NotLegal", "the vertex has not the chips for so many firings"),
+    8: ("NothingPending", "nothing is pending on the edge"),
+    9: ("Refused", "a claim of the edge was refused, since the edge is sealed"),
+    10: ("Unput", "a message is claimed and not put"),
+    11: ("NotCleared", "the next cell of the edge was not seen empty"),
+    12: ("NotClaimed", "no message is claimed on the edge and not put"),
+    13: ("NoCause", "the vertex has no cause to halt"),
+    14: ("NothingOwed", "no acknowledgement is owed on the edge"),
+    15: ("Engaged", "the message that engaged the vertex may not be acknowledged yet"),
+    16: ("NotClosed", "the root is not closed"),
+    17: ("Ended", "the end of feeding is noted"),
+    18: ("TooMuch", "with so many chips more, more than 1099511627776 were given in all"),
+}
 
 
 class Event(NamedTuple):
@@ -49,7 +74,18 @@ class Event(NamedTuple):
 
 
 class Schedule(list[Event]):
-    """A list of events, with a method for each kind of event that puts one more behind it."""
+    """A list of events, with a method for each kind of event that puts one more behind it. A note that is put to an
+    event is for those who read the schedule or its page; the program never sees it."""
+
+    def __init__(self, events: Iterable[Event] = ()) -> None:
+        super().__init__(events)
+        #: The notes, by the index of their event.
+        self.notes: dict[int, str] = dict(getattr(events, "notes", {}))
+
+    def note(self, text: str) -> Schedule:
+        """Puts a note to the last event."""
+        self.notes[len(self) - 1] = text
+        return self
 
     def _add(self, kind: str, at: int, count: int = 0) -> Schedule:
         self.append(Event(kind, at, count))
@@ -133,13 +169,37 @@ def trace_text(trace: Iterable[Sequence[Any]]) -> str:
 
 
 def write_schedule(file: FileName, schedule: Iterable[Sequence[Any]]) -> None:
-    """Writes a schedule: a row for each event, which is a tuple of a kind, an edge or a vertex, and perhaps a count."""
-    write(file, schedule_text(schedule))
+    """Writes a schedule: a row for each event, which is a tuple of a kind, an edge or a vertex, and perhaps a count.
+
+    Where there are notes they are a fourth column, which the program does not read, but this package and its page.
+    """
+    notes = getattr(schedule, "notes", {})
+    if not notes:
+        write(file, schedule_text(schedule))
+        return
+    text = io.StringIO()
+    rows = csv.writer(text, lineterminator="\n")
+    rows.writerow(NOTED_HEADER)
+    rows.writerows((*Event(*event), notes.get(index, "")) for index, event in enumerate(schedule))
+    write(file, text.getvalue())
+
+
+def has_notes(file: FileName) -> bool:
+    """Whether a file is there and begins as a schedule with notes does."""
+    if not os.path.isfile(file):
+        return False
+    with open(file, encoding="utf-8-sig", errors="replace", newline="") as text:
+        return next(csv.reader(text), None) == list(NOTED_HEADER)
 
 
 def read_schedule(file: FileName) -> Schedule:
-    """The events of a schedule."""
-    return Schedule(Event(kind, int(at), int(count)) for kind, at, count in read_rows(file, SCHEDULE_HEADER))
+    """The events of a schedule, with their notes."""
+    schedule = Schedule()
+    for kind, at, count, *notes in read_rows(file, NOTED_HEADER if has_notes(file) else SCHEDULE_HEADER):
+        schedule.append(Event(kind, int(at), int(count)))
+        if any(notes):
+            schedule.note(notes[0])
+    return schedule
 
 
 def write_trace(file: FileName, trace: Iterable[Sequence[Any]]) -> None:
@@ -170,6 +230,16 @@ class Reply:
     def rule(self) -> str | None:
         """The first rule that was not met, in words."""
         return None if self.is_done else RULES[self.numbers[0]]
+
+    @property
+    def name(self) -> str | None:
+        """What that rule is called: "Engaged" of `not-now 15`."""
+        return None if self.is_done else UNMET[self.numbers[0]][0]
+
+    @property
+    def why(self) -> str | None:
+        """What is so, since the rule is not met."""
+        return None if self.is_done else UNMET[self.numbers[0]][1]
 
     def __str__(self) -> str:
         return " ".join([self.kind, *map(str, self.numbers)])
@@ -224,13 +294,14 @@ class Simulation:
     where the books were asked for.
 
     That the root is closed says that all is over. `report.closed` says besides that no limit and no seal stopped a
-    vertex. What was asked stands beside it: the schedule, how many rounds were to follow it, and the setting; and in
-    words what of the schedule nobody wrote, if there is such."""
+    vertex. What was asked stands beside it: the schedule with its notes, how many rounds were to follow it, and the
+    setting; and in words what of the schedule nobody wrote, if there is such."""
 
     replies: tuple[Reply, ...]
     report: Report | None
     boards: tuple[Board, ...] = ()
     schedule: tuple[Event, ...] = field(default=(), compare=False, repr=False)
+    notes: Mapping[int, str] = field(default_factory=dict, compare=False, repr=False)
     rounds: int = field(default=0, compare=False, repr=False)
     made_up: str = field(default="", compare=False, repr=False)
     setting: Setting | None = field(default=None, compare=False, repr=False)

@@ -400,8 +400,8 @@ class Core:
         for e in self.edges[: self.graph_edges]:
             chips[e.head] += e.mult * fired[e.tail]
         over, sealed = ([v for v, it in enumerate(self.vertices) if it.halt == why] for why in ("over", "sealed"))
-        said = {"chips": chips, "closed": not over + sealed, "fired": fired, "over": over, "sealed": sealed, "version": 1}
-        return json.dumps(said, separators=(",", ":"))
+        said = {"chips": chips, "closed": not over + sealed, "fired": fired, "over": over, "sealed": sealed}
+        return json.dumps({**said, "version": 1}, separators=(",", ":"))
 
 
 def rows(file_name: str) -> list[dict[str, str]]:

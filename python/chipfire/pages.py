@@ -10,22 +10,18 @@ from __future__ import annotations
 import html
 import json
 import string
-from collections.abc import Iterable, Mapping, Sequence
+from collections.abc import Iterable, Iterator, Mapping, Sequence
 from dataclasses import replace
 from typing import Any
 
 from chipfire.chips import Chips
 from chipfire.layout import Point, places_of
 from chipfire.ledger import Disagreement, Ledger
-from chipfire.machine import Event, Setting, Simulation, TraceRow, read_trace
+from chipfire.machine import Event, Reply, Setting, Simulation, TraceRow, read_trace
 from chipfire.program import AnyGraph, AnyProgram, known_chips, known_graph, replay, simulate
 from chipfire.sentences import Sentences
 from chipfire.spelling import RINGS, spell_rounds, spell_trace
 from chipfire.values import FILE, MAX_LIMIT, FileName, counted, own_text, write
-
-_CLOSED = "the program's report at the end: chips, firings and halts"
-_OPEN = "the program's word at the end that the root is open"
-
 
 def page(
     simulation: Simulation, file: FileName, *, title: str = "A run of chipfire",
@@ -33,8 +29,8 @@ def page(
 ) -> None:
     """Writes a page on which a run can be watched, event by event.
 
-    simulation  what `simulate` or `recorded` answered; where it has no books, or rounds of turns followed its schedule,
-                the program is asked once more, with books and with the events of the rounds spelled out
+    simulation  what `simulate` or `recorded` answered; the program is asked once more, with books, and with the events
+                of the rounds spelled out where rounds of turns followed the schedule
     positions   where the vertices stand, by names: (to the right, down); else a grid is drawn as one, and other graphs
                 by the distances of their vertices, the same graph always alike
     program     the program to ask, if not the one that is found
@@ -48,13 +44,47 @@ def page_text(
 ) -> str:
     """The text of the page that `page` writes."""
     told = spelled_out(simulation, program)
-    data = _data(told, positions)
+    ledger = Ledger(told.game)
+    data = page_data(told, positions)
+    words = Words(told.game)
+    steps = [words.step(ledger, *row) for row in compared(told, ledger)]
+    ledger.close(told.report)
+    for index, note in told.notes.items():
+        steps[index]["note"] = note
+    parts = {"events": counted(len(steps), "event"), "made_up": f"<p>{html.escape(told.made_up)}</p>"}
+    parts["end"] = "program's word at the end that the root is open"
+    if told.report is not None:
+        parts["end"] = "program's report at the end: chips, firings and halts"
+    data |= {"steps": steps, "words": list(words.numbers), "end": {"text": _end(told, ledger), "isWrong": False}}
+    return filled(title, data, "run-proved.html", parts)
+
+
+#: The drawing of a run.
+_DRAWING = (
+    '<svg id="drawing" role="img" aria-label="The graph after this event; the tables say the same in words"></svg>'
+)
+
+
+def filled(
+    title: str, data: Mapping[str, Any], proved: str, parts: Mapping[str, str], drawings: str = _DRAWING
+) -> str:
+    """The page of a run, with what it says about proofs from a file of the folder web, and its parts."""
     # (in a script of HTML no text may look like a tag)
     text = json.dumps(data, separators=(",", ":")).replace("<", "\\u003c")
-    parts = {name: own_text("web", f"run.{kind}") for name, kind in (("style", "css"), ("script", "js"))}
-    parts |= {"title": html.escape(title), "data": text, "end": _OPEN if told.report is None else _CLOSED}
-    parts |= {"events": counted(len(told.schedule), "event"), "made_up": f"<p>{html.escape(told.made_up)}</p>"}
-    return string.Template(own_text("web", "run.html")).substitute(parts)
+    held = {"title": html.escape(title), "data": text, "drawings": drawings}
+    held |= {name: own_text("web", f"run.{kind}") for name, kind in (("style", "css"), ("script", "js"))}
+    held["proved"] = string.Template(own_text("web", proved)).substitute(parts)
+    return string.Template(own_text("web", "run.html")).substitute(held)
+
+
+def _end(told: Simulation, ledger: Ledger) -> str:
+    """The last word of a run."""
+    if told.report is not None:
+        stopped = " A limit or a seal stopped a vertex." if not told.report.closed else ""
+        return f"The root is closed: all is over.{stopped}"
+    if not ledger.root["ended"]:
+        return "The root is open: it has not noted the end of feeding."
+    return f"The root is open: it waits for {counted(ledger.root['deficit'], 'acknowledgement')}."
 
 
 def recorded(
@@ -90,7 +120,11 @@ def _made_up(rows: Sequence[TraceRow], cells: int) -> str:
 
 
 def spelled_out(simulation: Simulation, program: AnyProgram = None) -> Simulation:
-    """A simulation with a reply and a board for each event, and no rounds behind them."""
+    """What the program answers to a simulation now: a reply and a board for each event, and no rounds behind them.
+
+    It is asked in any case, so that a page tells answers of the program and nothing else. Where the simulation was told
+    others, that is a Disagreement.
+    """
     setting, schedule, made_up = simulation.game, simulation.schedule, simulation.made_up
     if simulation.rounds:
         schedule = spell_rounds(setting, schedule, simulation.replies, simulation.rounds)
@@ -99,24 +133,27 @@ def spelled_out(simulation: Simulation, program: AnyProgram = None) -> Simulatio
             "that followed, spelled out without the looks that would find nothing. The program was asked both ways, "
             "and came to the same end."
         )
-    elif len(simulation.boards) == len(schedule):
-        return simulation
-    options: dict[str, Any] = {"limit": setting.limit, "ring": setting.ring, "fed": setting.fed}
-    told = simulate(setting.graph, setting.chips, schedule, books=True, program=program, **options)
+    told = asked(setting, schedule, program)
     if told.report != simulation.report:
         raise Disagreement("the program comes to another end than before")
-    return replace(told, made_up=made_up)
+    for index, (reply, before) in enumerate(zip(told.replies, simulation.replies)):
+        if reply != before:
+            raise Disagreement(f"event {index}: the program replies {reply}, and not {before}")
+    if told.boards[: len(simulation.boards)] != simulation.boards:
+        raise Disagreement("the program has other books than the simulation")
+    return replace(told, made_up=made_up, notes=simulation.notes)
 
 
-def _data(told: Simulation, positions: Mapping[Any, Point] | None) -> dict[str, Any]:
-    """What the page shows: the graph and its places, the opening, and for each event what it changed."""
+def asked(setting: Setting, schedule: Iterable[Sequence[Any]], program: AnyProgram = None) -> Simulation:
+    """What the program answers to a schedule, with its books."""
+    options: dict[str, Any] = {"limit": setting.limit, "ring": setting.ring, "fed": setting.fed}
+    return simulate(setting.graph, setting.chips, schedule, books=True, program=program, **options)
+
+
+def page_data(told: Simulation, positions: Mapping[Any, Point] | None) -> dict[str, Any]:
+    """What the page shows but for the events: the graph and its places, and the opening."""
     setting, graph = told.game, told.game.graph
-    ledger = Ledger(setting)
     started = _started(told)
-    words: dict[str, int] = {}
-    opening = ledger.state()
-    steps = _steps(told, ledger, words)
-    ledger.close(told.report)
     chips = counted(sum(setting.chips), "chip")
     return {
         "names": [str(name) for name in graph.names],
@@ -125,10 +162,8 @@ def _data(told: Simulation, positions: Mapping[Any, Point] | None) -> dict[str, 
         "graphEdges": len(graph.edges),
         "rootEdges": [graph.root_edge(vertex) for vertex in started],
         "places": vars(places_of(graph, started, positions)),
-        "start": opening,
+        "start": Ledger(setting).state(),
         "opening": f"The root has put the chips of the start on its edges: {chips} in all.",
-        "steps": steps,
-        "words": list(words),
     }
 
 
@@ -139,21 +174,34 @@ def _started(told: Simulation) -> list[int]:
     return sorted(fed | {vertex for vertex, count in enumerate(told.game.chips) if count})
 
 
-def _steps(told: Simulation, ledger: Ledger, words: dict[str, int]) -> list[dict[str, Any]]:
-    """For each event the numbers of its words, and what it changed, held against the books."""
-    sentences = Sentences(told.game.graph)
-    steps = []
-
-    def number(text: str) -> int:
-        return words.setdefault(text, len(words))
-
+def compared(told: Simulation, ledger: Ledger) -> Iterator[tuple[Event, Reply]]:
+    """The events with their replies; behind each the ledger is held against the books."""
     for event, reply, board in zip(told.schedule, told.replies, told.boards):
-        changes = ledger.note(event, reply)
+        yield event, reply
         ledger.compare(board)
-        steps.append({
-            "event": number(sentences.event(event)),
-            "reply": number(sentences.reply(event, reply)),
-            "done": reply.is_done,
-            "changes": [[*change, number(sentences.change(change))] for change in changes],
-        })
-    return steps
+
+
+class Words:
+    """The sentences of a page, each once, by numbers."""
+
+    def __init__(self, setting: Setting) -> None:
+        self.sentences = Sentences(setting.graph)
+        self.numbers: dict[str, int] = {}
+
+    def number(self, text: str) -> int:
+        return self.numbers.setdefault(text, len(self.numbers))
+
+    def step(self, ledger: Ledger, event: Event, reply: Reply) -> dict[str, Any]:
+        """Notes an event, and returns the numbers of its words and what it changed."""
+        says = self.sentences
+        step: dict[str, Any] = {"kind": event.kind, "at": event.at, "done": reply.is_done}
+        step["event"] = self.number(says.event(event, reply))
+        step["reply"] = self.number(says.reply(event, reply, ledger))
+        question = says.ask(event)
+        if question is not None:
+            is_vain = reply.kind in ("empty", "full") or event.kind == "settle" and reply.numbers == (0,)
+            step |= {"ask": self.number(question), "yes": reply.is_done and not is_vain}
+        if event.kind == "put" and reply.is_done:
+            step["send"] = self.number(says.send(event, reply.numbers[0]))
+        changes = ledger.note(event, reply)
+        return {**step, "changes": [[*change, self.number(says.change(change))] for change in changes]}

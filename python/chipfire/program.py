@@ -12,7 +12,9 @@ from typing import TYPE_CHECKING, Any, TypeVar, Union
 from chipfire import burning
 from chipfire.chips import Chips, Configuration
 from chipfire.graphs import Graph
-from chipfire.machine import Event, Firing, Schedule, Setting, Simulation, read_schedule, schedule_text, trace_text
+from chipfire.machine import (
+    Event, Firing, Schedule, Setting, Simulation, has_notes, read_schedule, schedule_text, trace_text,
+)
 from chipfire.process import Input, Kept, ask, find_program
 from chipfire.reports import Report
 from chipfire.values import FILE, MAX_LIMIT, FileName, whole, write
@@ -136,11 +138,15 @@ def simulate(
 ) -> Simulation:
     """Runs a schedule on the detector: a reply for each event, and the report where the root is closed then, or after
     so many rounds of turns. With `books` there is also what stands in the books after each event; where it is `fed`,
-    the schedule may give the vertices more chips, on the edges that come from the root."""
+    the schedule may give the vertices more chips, on the edges that come from the root. The program never sees the
+    notes of a schedule."""
     question = _Question(graph, program)
     options = _numbers(limit=(limit, 0, MAX_LIMIT), ring=(ring, 1, 64), rounds=(rounds, 0, 2**40))
     if not isinstance(schedule, FILE):
-        schedule = Schedule(Event(*event) for event in schedule)
+        notes, schedule = getattr(schedule, "notes", {}), Schedule(Event(*event) for event in schedule)
+        schedule.notes = notes
+    elif has_notes(schedule):
+        schedule = read_schedule(schedule)
     chips = chips if isinstance(chips, FILE) else question.graph.chips(chips)
     file: Input = ("schedule", schedule if isinstance(schedule, FILE) else Kept([schedule_text(schedule).encode()]))
     text = question.ask("simulate", [question.chips(chips), file], {**options, "books": books, "fed": fed}, "")
@@ -148,7 +154,7 @@ def simulate(
     setting = Setting(question.graph, known_chips(question.graph, chips, program), fed=fed, **given)
     told = Simulation.parse(text, question.graph)
     events = read_schedule(schedule) if isinstance(schedule, FILE) else schedule
-    return replace(told, schedule=tuple(events), rounds=options["rounds"] or 0, setting=setting)
+    return replace(told, schedule=tuple(events), notes=events.notes, rounds=options["rounds"] or 0, setting=setting)
 
 
 def replay(

@@ -16,7 +16,7 @@ from collections.abc import Callable, Iterable, Iterator, Sequence
 from dataclasses import dataclass
 from typing import Any, Union
 
-from chipfire.detectors import DETECTORS
+from chipfire.detectors import known_detector
 from chipfire.machine import Event, Schedule, Setting
 from chipfire.model import Core
 from chipfire.values import FILE, FileName, counted
@@ -26,15 +26,15 @@ Detector = Union[str, type[Core]]
 #: The header of a log, and what its last row may name: the root, with the reply `closed` or `open`.
 LOG_HEADER = ("event", "at", "count", "reply")
 CLAIM = "root"
+#: The events of the machine; a detector of another kind has more.
+EVENTS = ("take", "ack", "fire", "clear", "claim", "put", "halt", "settle", "seal", "read", "feed", "end")
 #: What a tail does to send, as one step.
 _SEND = ("clear", "claim", "put")
 
 
 def opened(setting: Setting, detector: Detector = "right") -> Core:
     """A game at its start, on the model."""
-    if isinstance(detector, str) and detector not in DETECTORS:
-        raise ValueError(f"there is no detector {detector!r}, but {', '.join(DETECTORS)}")
-    make = DETECTORS[detector].make if isinstance(detector, str) else detector
+    make = known_detector(detector).make if isinstance(detector, str) else detector
     graph = {"vertices": setting.graph.vertices, "sink": setting.graph.sink, "edges": setting.graph.edges}
     return make(graph, setting.chips, setting.limit, setting.ring, setting.fed)
 
@@ -202,15 +202,12 @@ def judge(setting: Setting, log: Iterable[Sequence[Any]] | FileName) -> Judged:
         raise ValueError(f"the last row claims that the root is {claim!r}, which is neither closed nor open")
     core = opened(setting)
     # (events that the model does not know are answered as the log has it)
-    right = [core.step(kind, at, count) if kind in _KINDS else told for kind, at, count, told in rows]
+    right = [core.step(kind, at, count) if kind in EVENTS else told for kind, at, count, told in rows]
     row = next((index for index, reply in enumerate(right) if reply != rows[index][3]), None)
     left = tuple(core.left())
     is_true = claim is None or (not left if claim == "closed" else not core.is_closed())
     replies = ("", "") if row is None else (rows[row][3], right[row])
     return Judged(row, *replies, claim, is_true, left)
-
-
-_KINDS = ("take", "ack", "fire", "clear", "claim", "put", "halt", "settle", "seal", "read", "feed", "end")
 
 
 def _log_rows(log: Iterable[Sequence[Any]] | FileName) -> Iterable[Sequence[Any]]:
@@ -264,5 +261,5 @@ def _host(core: Core, kind: str, at: int) -> str:
         return str(core.edges[at].head)
     if kind in ("clear", "claim", "put", "settle") and core.edges[at].tail >= 0:
         return str(core.edges[at].tail)
-    is_of_vertex = kind in ("fire", "halt") or kind not in _KINDS and at < len(core.vertices)
+    is_of_vertex = kind in ("fire", "halt") or kind not in EVENTS and at < len(core.vertices)
     return str(at) if is_of_vertex else "root"

@@ -6,7 +6,7 @@ import json
 from typing import Any
 
 from chipfire.graphs import Graph
-from chipfire.ledger import HALTS, Change
+from chipfire.ledger import HALTS, Change, Ledger
 from chipfire.machine import Event, Reply
 from chipfire.values import counted, own_text
 
@@ -28,7 +28,9 @@ class Sentences:
     def vertex(self, vertex: int) -> str:
         """What a vertex is called."""
         name = self.graph.names[vertex]
-        return f"the sink {name}" if vertex == self.graph.sink else f"vertex {name}"
+        if vertex == self.graph.sink:
+            return "the sink" if name == "sink" else f"the sink {name}"
+        return f"vertex {name}"
 
     def ends(self, edge: int) -> tuple[str, str]:
         """Who sends on an edge, and who takes."""
@@ -37,26 +39,59 @@ class Sentences:
         tail, head, _ = self.graph.edges[edge]
         return self.vertex(tail), self.vertex(head)
 
-    def event(self, event: Event) -> str:
-        """What is asked for."""
+    def event(self, event: Event, reply: Reply | None = None) -> str:
+        """What happens, or what is tried where the reply says that it was refused or found nothing."""
+        is_vain = reply is not None and reply.kind in ("not-now", "empty")
+        return self._said(self.words["tries" if is_vain else "events"][event.kind], event) + "."
+
+    def ask(self, event: Event) -> str | None:
+        """What can be asked about an event before its reply is known; None where there is nothing to ask."""
+        asked = self.words["asks"].get(event.kind)
+        return asked and self._said(asked, event)
+
+    def send(self, event: Event, chips: int) -> str:
+        """What a put is, together with the clear and the claim before it."""
+        return self._said(self.words["send"]["put"], event._replace(count=chips)) + "."
+
+    def _said(self, words: str, event: Event) -> str:
+        """Words with what they say of an event, and a capital letter."""
         kind, at, count = event
         times = {1: "once", 2: "twice"}.get(count) or counted(count, "time")
-        words = {"at": str(at), "times": times, **_numbers(count)}
+        facts = {"at": str(at), "times": times, **_numbers(count)}
         if kind in ("fire", "halt", "read"):
-            words["vertex"] = self.vertex(at)
+            facts["vertex"] = self.vertex(at)
         elif kind != "end":
-            words["tail"], words["head"] = self.ends(at)
-        said = self.words["events"][kind].format(**words)
-        return f"{said[0].upper()}{said[1:]}."
+            facts["tail"], facts["head"] = self.ends(at)
+        said = words.format(**facts)
+        return f"{said[0].upper()}{said[1:]}"
 
-    def reply(self, event: Event, reply: Reply) -> str:
-        """What the program replied to an event."""
+    def reply(self, event: Event, reply: Reply, ledger: Ledger | None = None) -> str:
+        """What the reply to an event was; with what stands where, also why exactly it was refused."""
         kind = event.kind if reply.kind == "done" else reply.kind
         last = reply.numbers[-1] if reply.numbers else 0
-        words = {"number": str(last), "rule": str(reply.rule), "place": str([*reply.numbers, 0][0]), **_numbers(last)}
+        why = self._why_engaged(event.at, ledger) if ledger is not None and reply.name == "Engaged" else ""
+        place = str([*reply.numbers, 0][0])
+        words = {"number": str(last), "why": why or str(reply.why), "place": place, **_numbers(last)}
         if event.kind in ("settle", "end"):
             words["acknowledgements"] = counted(last, "new acknowledgement")
         return self.words["replies"][f"halt {HALTS[last]}" if kind == "halt" else kind].format(**words)
+
+    def _why_engaged(self, edge: int, ledger: Ledger) -> str:
+        """What a vertex has still to do, or to wait for, before it may acknowledge the message that engaged it."""
+        vertex, waits = ledger.heads[edge], self.words["waits"]
+        facts, outs = ledger.vertices[vertex], {out: ledger.edges[out] for out in ledger.outs[vertex]}
+        pending = sum(its["pending"] for its in outs.values()) if facts["halted"] is None else 0
+        can_fire = facts["halted"] is None and not pending and ledger.is_legal(vertex)
+        heads = dict.fromkeys(self.ends(out)[1] for out, its in outs.items() if its["sent"] > its["settled"])
+        found = [waits["chips"]] if can_fire else []
+        found += [waits["pending"].format(**_numbers(pending))] if pending else []
+        found += [waits["claimed"]] if any(its["claimed"] for its in outs.values()) else []
+        if facts["deficit"]:
+            found.append(waits["deficit"].format(heads=" and ".join(heads), **_numbers(facts["deficit"])))
+        for other in ledger.ins[vertex]:
+            owed = ledger.edges[other]["owed"]
+            found += [waits["owed"].format(at=other, **_numbers(owed))] if owed and other != edge else []
+        return "; ".join(found)
 
     def change(self, change: Change) -> str:
         """What one fact has become."""

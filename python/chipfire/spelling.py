@@ -22,7 +22,7 @@ class Player:
     """Makes events whose rules are met, and writes them down."""
 
     def __init__(self, setting: Setting) -> None:
-        self.setting, self.sink = setting, setting.graph.sink
+        self.setting = setting
         self.ledger = Ledger(setting)
         self.events = Schedule()
 
@@ -80,7 +80,7 @@ class Player:
         outs = [self.ledger.edges[edge] for edge in self.ledger.outs[vertex]]
         if any(edge["refused"] for edge in outs):
             self._do("halt", vertex, 0, HALTS.index("seal"))
-        elif self.is_idle(vertex) and self.is_legal(vertex) and self.firings_left(vertex) == 0:
+        elif self.is_idle(vertex) and self.ledger.is_legal(vertex) and self.firings_left(vertex) == 0:
             self._do("halt", vertex, 0, HALTS.index("limit"))
 
     def acknowledge(self, vertex: int) -> None:
@@ -111,16 +111,13 @@ class Player:
         outs = (self.ledger.edges[edge] for edge in self.ledger.outs[vertex])
         return not any(edge["pending"] or edge["claimed"] for edge in outs)
 
-    def is_legal(self, vertex: int) -> bool:
-        return vertex != self.sink and self.ledger.vertices[vertex]["chips"] >= self.ledger.degrees[vertex]
-
     def is_running(self, vertex: int) -> bool:
         return self.ledger.vertices[vertex]["halted"] is None
 
     def is_passive(self, vertex: int) -> bool:
         """Whether a vertex has nothing to do, unless another message comes."""
         if self.is_running(vertex):
-            return self.is_idle(vertex) and not self.is_legal(vertex)
+            return self.is_idle(vertex) and not self.ledger.is_legal(vertex)
         return not any(self.ledger.edges[edge]["claimed"] for edge in self.ledger.outs[vertex])
 
     def firings_left(self, vertex: int) -> int:
@@ -132,7 +129,7 @@ class Player:
             if self.ledger.edges[edge]["cells"]:
                 self.take(edge)
         self.settle(self.ledger.outs[vertex])
-        if self.is_running(vertex) and self.is_idle(vertex) and self.is_legal(vertex):
+        if self.is_running(vertex) and self.is_idle(vertex) and self.ledger.is_legal(vertex):
             chips = self.ledger.vertices[vertex]["chips"]
             count = min(chips // self.ledger.degrees[vertex], self.firings_left(vertex))
             if count:

@@ -12,7 +12,7 @@ import tempfile
 
 NAMES = ("chromium", "chromium-browser", "google-chrome", "google-chrome-stable")
 KEYS = {"ArrowLeft": 37, "ArrowRight": 39, "ArrowUp": 38, "ArrowDown": 40, "Home": 36, "End": 35, "PageDown": 34,
-        "PageUp": 33, " ": 32, "Tab": 9}
+        "PageUp": 33, " ": 32, "Tab": 9, "[": 219, "]": 221, "?": 191, "p": 80, "s": 83, "d": 68, "y": 89, "n": 78}
 
 
 def found():

@@ -32,6 +32,7 @@ SHOWN = """(() => {
         messages: drawn(".message text").map((node) => node.textContent).sort(),
         claimed: drawn(".claimed").length,
         pending: drawn(".pending").length,
+        unseen: drawn(".answer text").map((node) => node.textContent.replace(/\D+/, "")),
         rootNode: document.getElementById("root-node").textContent,
         event: document.getElementById("event").textContent,
         reply: document.getElementById("reply").textContent,
@@ -40,6 +41,23 @@ SHOWN = """(() => {
     };
 })()"""
 COUNTER = "document.getElementById('counter').textContent"
+EVENT = "document.getElementById('event').textContent"
+REPLY = "document.getElementById('reply').textContent"
+PLAY = "document.getElementById('play').textContent"
+END = "(({hidden, className, textContent}) => [hidden, className, textContent])(document.getElementById('end'))"
+SCORE = "document.getElementById('score').textContent"
+#: The labels, boxes and vertices of the drawing that lie on each other by more than a hair.
+OVERLAPS = """(() => {
+    const all = [...document.querySelectorAll("#drawing :is(.tag, .name, .number, .message, .claimed, .pending, .body)")];
+    const boxes = all.map((it) => [it.textContent || it.tagName, it.getBoundingClientRect()]);
+    const found = [];
+    boxes.forEach(([one, a], i) => boxes.slice(0, i).forEach(([other, b]) => {
+        const across = Math.min(a.right, b.right) - Math.max(a.left, b.left);
+        const down = Math.min(a.bottom, b.bottom) - Math.max(a.top, b.top);
+        if (across > 3 && down > 3) found.push(`${one} on ${other}`);
+    }));
+    return found;
+})()"""
 AT = "Number(document.getElementById('slider').value)"
 
 
@@ -96,6 +114,7 @@ def edge_by_plain_rules(edge):
     flags = ["yes" if flag else "" for flag in (edge.clear, edge.sealed, edge.refused)]
     cells = "; ".join(f"{place}: {edge.sent[place]}" for place in range(edge.delivered, edge.put))
     counts = [len(edge.sent), edge.delivered, some(edge.delivered - edge.acked), edge.acked, edge.settled]
+    counts.append(some(edge.acked - edge.settled))
     return [some(edge.pending), some(sum(edge.sent[edge.put:])), cells, *map(str, counts), *flags]
 
 
@@ -150,6 +169,8 @@ class InBrowser(unittest.TestCase):
         self.assertEqual(shown["messages"], sorted(messages))
         self.assertEqual(shown["claimed"], sum(edge.put < len(edge.sent) for edge in core.edges))
         self.assertEqual(shown["pending"], sum(edge.pending > 0 for edge in core.edges))
+        unseen = [str(edge.acked - edge.settled) for edge in core.edges if edge.acked > edge.settled]
+        self.assertEqual(shown["unseen"], unseen)
 
 
 class EachEvent(InBrowser):
@@ -214,8 +235,10 @@ class Controls(InBrowser):
 
     def test_keys(self):
         self.open(detector("deficit"))
-        for key, step in [("ArrowRight", 1), ("PageDown", 11), ("PageUp", 1), ("ArrowLeft", 0), ("ArrowLeft", 0),
-                          ("End", 32), ("ArrowRight", 32), ("Home", 0)]:
+        # The tree changes with the takes 1, 10, 13 and 25, with the acknowledgements 11, 26, 29 and 31, and at the end.
+        for key, step in [("ArrowRight", 1), ("PageDown", 2), ("PageUp", 1), ("ArrowLeft", 0), ("ArrowLeft", 0),
+                          ("End", 32), ("ArrowRight", 32), ("[", 31), ("[", 29), ("Home", 0), ("]", 1), ("]", 10),
+                          ("]", 11), ("]", 13), ("]", 25), ("]", 26), ("[", 25)]:
             self.browser.press(key)
             self.at(step)
 
@@ -271,6 +294,47 @@ class Controls(InBrowser):
         self.browser.wait(f"{AT} === 32")
         self.assertEqual(self.browser.value("document.getElementById('play').textContent"), "Play")
 
+    def test_space_plays_wherever_the_focus_is(self):
+        self.open(detector("deficit"))
+        for name in ("slider", "forward", "events", "predict"):
+            self.browser.value(f"goTo(0); document.getElementById('{name}').focus()")
+            self.browser.press(" ")
+            self.assertEqual(self.browser.value(f"{PLAY} + {AT} + scrollY"), "Pause00", name)
+            self.browser.press(" ")
+            self.assertEqual(self.browser.value(PLAY), "Play", name)
+
+    def test_the_keys_are_listed(self):
+        self.open(detector("deficit"))
+        for _ in range(2):
+            self.browser.press("?")
+            self.assertTrue(self.browser.value("document.getElementById('keys').open"))
+            self.browser.press("ArrowRight")
+            self.at(0)
+            self.browser.press("?")
+            self.assertFalse(self.browser.value("document.getElementById('keys').open"))
+        said = self.browser.value("[...document.querySelectorAll('#keys th')].map((it) => it.textContent).join(' ')")
+        for key in ("page down", "space bar", "[ and ]", "p", "y, n", "s", "d", "?"):
+            self.assertIn(key, said)
+
+    def test_whole_sends(self):
+        # 32 events with four sends of three, of which the first ends with event 5.
+        self.open(detector("deficit"))
+        self.browser.press("s")
+        for step in (1, 2, 5, 8, 9):
+            self.browser.press("ArrowRight")
+            self.at(step)
+            if step == 5:
+                self.assertEqual(self.browser.value(EVENT), "5. Vertex 0 sends 2 chips to vertex 1 (edge 0).")
+                changed = self.browser.value("[...document.querySelectorAll('#changes li')].map((it) => it.textContent)")
+                self.assertIn("edge 0: 1 message sent", changed)
+                self.assertIn("edge 0: 2 chips at place 0 in its cells", changed)
+        self.browser.press("ArrowLeft")
+        self.at(8)
+        self.assertEqual(self.browser.value("stops.length"), 32 - 4 * 2 + 1)
+        self.browser.press("s")
+        self.browser.press("ArrowLeft")
+        self.at(7)
+
     def test_an_address_with_an_event(self):
         self.open(detector("deficit"))
         self.browser.go(f"file://{self.folder}/run.html#7")
@@ -280,14 +344,14 @@ class Controls(InBrowser):
 class Screens(InBrowser):
     """The page on a projector and a phone, and by those who tell colours apart poorly."""
 
-    SIZES = {"projector": ((1024, 768), False), "wide": ((1920, 1080), False), "phone": ((390, 844), True)}
+    SIZES = {"projector": ((1024, 768), False), "wide": ((1920, 1080), False), "phone": ((375, 812), True)}
 
     def test_nothing_sticks_out(self):
         for name in DETECTOR:
             for screen, (size, is_phone) in self.SIZES.items():
                 with self.subTest(name, screen=screen):
                     self.open(detector(name), size, is_phone)
-                    self.browser.press("PageDown")
+                    self.browser.value("goTo(11)")
                     width = self.browser.value("document.documentElement.scrollWidth")
                     self.assertLessEqual(width, size[0])
                     bottom = self.browser.value("document.getElementById('drawing').getBoundingClientRect().bottom")
@@ -313,12 +377,13 @@ class Screens(InBrowser):
         self.open(detector("deficit"))
         self.browser.press("ArrowRight")
         reached = []
-        for _ in range(9):
+        for _ in range(15):
             self.browser.press("Tab")
             reached.append(self.browser.value("document.activeElement.id"))
         self.assertEqual(
             [name for name in reached if name],
-            ["first", "back", "play", "forward", "last", "pace", "slider", "events"],
+            ["first", "back", "play", "forward", "last", "pace", "slider", "predict", "coarse", "view", "tree-back",
+             "tree-on", "help", "events"],
         )
 
     def test_colours_differ_in_light_alone(self):
@@ -331,6 +396,189 @@ class Screens(InBrowser):
         paper, engaged, changed, ink = map(luminance, names)
         for lighter, darker in [(paper, engaged), (paper, changed), (changed, engaged), (paper, ink)]:
             self.assertGreaterEqual((lighter + 0.05) / (darker + 0.05), 3)
+
+
+class Lessons(InBrowser):
+    """What a class does with a page."""
+
+    def test_predicting(self):
+        self.open(detector("deficit"))
+        self.browser.press("p")
+        self.browser.press("ArrowRight")
+        self.assertEqual(self.browser.value(EVENT), "1. Is there a message from the root that vertex 0 can take (edge 4)?")
+        self.assertEqual(self.browser.value(f"{REPLY} + {AT}"), "0")
+        self.browser.press("y")
+        self.assertEqual(self.browser.value(f"{REPLY} + {AT}"), "Right. Got the message with place 0: 4 chips.1")
+        self.assertEqual(self.browser.value(SCORE), "1 of 1 predicted right")
+        self.browser.value("goTo(8)")
+        self.assertFalse(self.browser.value("document.getElementById('event-9') !== null"))
+        self.browser.press("PageDown")
+        self.assertEqual(self.browser.value(EVENT), "9. May vertex 0 acknowledge to the root (edge 4)?")
+        self.picture("predict")
+        self.browser.click("#yes")
+        said = ("No, it is no. Refused, by rule 15: it still waits for 2 acknowledgements (from vertex 1 and the sink 2). "
+                "Nothing was done.")
+        self.assertEqual(self.browser.value(REPLY), said)
+        self.assertEqual(self.browser.value(SCORE), "1 of 2 predicted right")
+        # Whoever asks once more goes on without an answer; a second answer to the same event counts no more.
+        self.browser.press("ArrowRight")
+        self.browser.press("ArrowRight")
+        self.assertEqual(self.browser.value(f"{SCORE} + {AT}"), "1 of 2 predicted right10")
+        self.browser.value("goTo(8)")
+        self.browser.press("ArrowRight")
+        self.browser.press("n")
+        self.assertEqual(self.browser.value(SCORE), "1 of 2 predicted right")
+        self.browser.press("p")
+        self.browser.wait("document.getElementById('event-10') !== null")
+        self.assertTrue(self.browser.value("document.getElementById('score').hidden"))
+        self.assertEqual(self.browser.complaints(), [])
+
+    def test_playing_stops_at_a_question(self):
+        self.open(detector("deficit"))
+        self.browser.value("document.getElementById('pace').value = '40'")
+        self.browser.press("p")
+        self.browser.press(" ")
+        self.browser.wait("asked === 1 && playing === null")
+
+    def test_the_end_is_said_in_large_letters(self):
+        for name, said in [("deficit", "The root is closed: all is over."),
+                           ("left-open", "The root is open: it waits for 1 acknowledgement.")]:
+            self.open(detector(name))
+            self.assertEqual(self.browser.value(END)[0], True)
+            self.browser.press("End")
+            self.assertEqual(self.browser.value(END), [False, "", said])
+            size = "parseFloat(getComputedStyle(document.getElementById('{}')).fontSize)"
+            self.assertGreater(self.browser.value(size.format("end")), 1.3 * self.browser.value(size.format("event")))
+
+    def test_the_pages_of_wrong_detectors(self):
+        steps = {"at-once": 3, "without-passive": 3, "without-deficit": 10, "one-edge": 3}
+        left = {"at-once": "vertex 0 can still fire", "without-passive": "vertex 0 can still fire",
+                "without-deficit": "edge 0 has 1 message and edge 1 has 1 message", "one-edge": "edge 5 has 1 message"}
+        for name, count in steps.items():
+            for size, is_phone in ((1024, 768), False), ((375, 812), True):
+                with self.subTest(name, size=size):
+                    self.browser.resize(*size, is_phone=is_phone)
+                    chipfire.wrong_page(name, f"{self.folder}/wrong.html")
+                    self.browser.go(f"file://{self.folder}/wrong.html")
+                    for _ in range(count):
+                        self.assertEqual(self.browser.value(END)[0], True)
+                        self.browser.press("ArrowRight")
+                    self.assertEqual(self.browser.value(END), [False, "wrong", f"The root is closed; {left[name]}."])
+                    red = "getComputedStyle(document.getElementById('end')).color"
+                    self.assertEqual(self.browser.value(red), "rgb(176, 0, 32)")
+                    nodes = "[...document.querySelectorAll('#root-node, #root-beside')].map((it) => it.textContent)"
+                    right = "rootclosed" if name == "nobody" else "rootopenwaits for 1"
+                    wrong = "rootclosed" + ("waits for 1" if name == "one-edge" else "")
+                    self.assertEqual(self.browser.value(nodes), [wrong, right])
+                    self.assertLessEqual(self.browser.value("document.documentElement.scrollWidth"), size[0])
+                    self.picture(f"wrong-{name}-{size[0]}")
+                    self.assertEqual(self.browser.complaints(), [])
+
+    def test_the_first_other_reply_is_marked(self):
+        chipfire.wrong_page("without-deficit", f"{self.folder}/wrong.html")
+        self.browser.go(f"file://{self.folder}/wrong.html")
+        marked = []
+        for step in range(1, 11):
+            self.browser.press("ArrowRight")
+            if self.browser.value("document.getElementById('reply-beside').className") == "differs":
+                marked.append((step, self.browser.value("document.getElementById('reply-beside').textContent")))
+        self.assertEqual(marked, [(9, "Refused, by rule 15: it still waits for 2 acknowledgements (from vertex 1 and the "
+                                      "sink 2). Nothing was done.")])
+
+    def test_the_space_time_diagram(self):
+        told = self.open(detector("deficit"))
+        self.browser.press("d")
+        for step in (0, 14, 32):
+            self.browser.value(f"goTo({step})")
+            hidden = "['drawing', 'diagram'].map((name) => getComputedStyle(document.getElementById(name)).display)"
+            self.assertEqual(self.browser.value(hidden), ["none", "block"])
+            self.picture(f"diagram-{step}")
+        # All messages, acknowledgements and spells of engagement, found once more from the replies.
+        story = self.browser.value("story")
+        core, messages, answers, bands, engaged = core_of(told.setting), [[4, 0, 1]], [], [], {}
+        cells, given = {4: [messages[0]]}, {}
+        for step, event in enumerate(told.schedule, 1):
+            before = [vertex.parent for vertex in core.vertices]
+            reply = core.step(*event)
+            if event.kind == "put":
+                messages.append([event.at, step, None])
+                cells.setdefault(event.at, []).append(messages[-1])
+            elif event.kind == "take" and reply.startswith("got"):
+                cells[event.at].pop(0)[2] = step
+            elif event.kind == "ack" and reply.startswith("done"):
+                answers.append([event.at, step, None])
+                given.setdefault(event.at, []).append(answers[-1])
+            elif event.kind == "settle":
+                for answer in given.pop(event.at, []):
+                    answer[2] = step
+            for vertex, was in enumerate(before):
+                now = core.vertices[vertex].parent
+                if was is None and now is not None:
+                    engaged[vertex] = [vertex, step, None]
+                    bands.append(engaged[vertex])
+                elif was is not None and now is None:
+                    engaged[vertex][2] = step
+        for kind, key, wanted in [("messages", "edge", messages), ("answers", "edge", answers), ("bands", "vertex", bands)]:
+            self.assertEqual([[it[key], it["from"], it.get("to")] for it in story[kind]], wanted)
+        self.browser.value("goTo(31)")
+        self.browser.value("document.querySelector('[data-step=\"29\"]').dispatchEvent(new Event('click', {bubbles: true}))")
+        self.assertEqual(self.browser.value(AT), 29)
+        self.assertEqual(self.browser.complaints(), [])
+
+    def test_a_vertex_can_be_dragged(self):
+        self.open(detector("deficit"))
+        place = "(() => {{ const box = document.querySelector('{}').getBoundingClientRect(); " \
+                "return [box.x + box.width / 2, box.y + box.height / 2]; }})()".format('[data-vertex="1"] .body')
+        x, y = self.browser.value(place)
+        for kind, right in [("mousePressed", 0), ("mouseMoved", 40), ("mouseMoved", 80), ("mouseReleased", 80)]:
+            self.browser.ask("Input.dispatchMouseEvent", type=kind, x=x + right, y=y - right, button="left", clickCount=1)
+        before = chipfire.layout.places_of(chipfire.Graph.read(f"{EXAMPLES}/triangle/graph.json"), [0]).vertices
+        rows = self.browser.value("document.getElementById('positions').textContent").splitlines()
+        self.assertEqual(rows[0], "vertex,right,down")
+        places = [tuple(map(float, row.split(",")[1:])) for row in rows[1:]]
+        self.assertGreater(places[1][0], before[1][0] + 0.2)
+        self.assertLess(places[1][1], before[1][1] - 0.2)
+        for vertex in (0, 2):
+            self.assertAlmostEqual(places[vertex][0], before[vertex][0], places=2)
+        self.browser.press("ArrowRight")
+        self.assertEqual(self.browser.value(AT), 1)
+        self.picture("dragged")
+        self.assertEqual(self.browser.complaints(), [])
+
+    def test_notes_are_shown_at_their_event(self):
+        graph, chips, _ = DETECTOR["deficit"]
+        events = chipfire.Schedule().take(4).note("Four chips come.").fire(0, 2)
+        self.open(chipfire.simulate(f"{EXAMPLES}/{graph}", f"{EXAMPLES}/{chips}", events))
+        self.browser.press("ArrowRight")
+        self.assertEqual(self.browser.value("document.getElementById('note').textContent"), "Four chips come.")
+        self.assertIn("Four chips come.", self.browser.value("document.getElementById('event-1').textContent"))
+        self.browser.press("ArrowRight")
+        self.assertEqual(self.browser.value("document.getElementById('note').textContent"), "")
+
+    def test_no_label_lies_on_another(self):
+        names = chipfire.Graph(4, 3, [(0, 1), (0, 2), (1, 2), (2, 0), (1, 3), (2, 3)], ["Ann", "Bob", "Cy", "sink"])
+        runs = {name: detector(name) for name in DETECTOR}
+        runs["cycle"] = chipfire.simulate(chipfire.cycle(6), {2: 3, 4: 2}, [], rounds=100)
+        runs["names"] = chipfire.simulate(names, {"Ann": 6, "Bob": 3}, [], rounds=100)
+        for name, simulation in runs.items():
+            told = self.open(simulation, size=(1280, 900))
+            for step in range(len(told.schedule) + 1):
+                self.browser.value(f"goTo({step})")
+                self.assertEqual(self.browser.value(OVERLAPS), [], (name, step))
+
+    def test_the_edges_of_the_root_lead_round_vertices(self):
+        # On a path whose vertices stand below each other the root's edge to the last would lead through all others.
+        graph = chipfire.Graph(4, 3, ((0, 1), (1, 2), (2, 3)))
+        told = chipfire.simulate(graph, {2: 1}, [])
+        chipfire.page(told, f"{self.folder}/run.html", positions={vertex: (0, vertex) for vertex in range(4)})
+        self.browser.go(f"file://{self.folder}/run.html")
+        near = """(() => {
+            const line = document.querySelector(".edge.of-root .line");
+            const middles = [0, 1].map((vertex) => placeOf(vertex));
+            const points = [...Array(50).keys()].map((i) => line.getPointAtLength(line.getTotalLength() * i / 49));
+            return Math.min(...points.flatMap((a) => middles.map((b) => Math.hypot(a.x - b.x, a.y - b.y)))) / radius;
+        })()"""
+        self.assertGreater(self.browser.value(near), 1.2)
 
 
 def luminance(colour):

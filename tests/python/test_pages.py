@@ -15,7 +15,7 @@ import tempfile
 import unittest
 
 import chipfire
-from chipfire import layout, ledger, model as plain_rules, sentences, spelling
+from chipfire import layout, ledger, model as plain_rules, sentences, spelling, wrong
 
 HERE = os.path.dirname(os.path.realpath(__file__))
 ROOT = os.path.dirname(os.path.dirname(HERE))
@@ -185,8 +185,12 @@ class Disagreements(unittest.TestCase):
         self.simulation = detector("deficit", books=True)
 
     def refused(self, what, **changed):
+        told = dataclasses.replace(self.simulation, **changed)
+        book = ledger.Ledger(told.setting)
         with self.assertRaisesRegex(ledger.Disagreement, what):
-            chipfire.pages.page_text(dataclasses.replace(self.simulation, **changed))
+            for event, reply in chipfire.pages.compared(told, book):
+                book.note(event, reply)
+            book.close(told.report)
 
     def with_board(self, index, **changed):
         boards = list(self.simulation.boards)
@@ -211,6 +215,17 @@ class Disagreements(unittest.TestCase):
         self.refused("sent on edge 0", replies=self.with_reply(3, "sent", 0, 3))
         self.refused("place of the message on edge 0", replies=self.with_reply(3, "sent", 1, 2))
         self.refused("put on edge 0", replies=self.with_reply(4, "done", 1))
+
+    def test_a_page_tells_no_answers_but_the_programs(self):
+        # What a hasty detector would answer is no answer of the program, whoever says so.
+        early = chipfire.Simulation.parse("got 0 4\ndone 1\ndone 1\nroot open\n")
+        game = chipfire.Setting(TRIANGLE, (4, 0, 0))
+        events = tuple(chipfire.Event(kind, 4) for kind in ("take", "ack", "settle"))
+        with self.assertRaisesRegex(ledger.Disagreement, "event 1: the program replies not-now 15, and not done 1"):
+            chipfire.pages.page_text(dataclasses.replace(early, setting=game, schedule=events))
+        for changed in ({"boards": self.with_board(3, root_deficit=2)}, {"report": None}):
+            with self.assertRaises(ledger.Disagreement):
+                chipfire.pages.page_text(dataclasses.replace(self.simulation, **changed))
 
     def test_a_report_that_is_another(self):
         report = self.simulation.report
@@ -322,7 +337,7 @@ class Words(unittest.TestCase):
             ("halt", chipfire.Reply("done", (1,)), "Done: it fired as often as the limit allows."),
             ("settle", chipfire.Reply("done", (1,)), "Done: 1 new acknowledgement seen."),
             ("fire", chipfire.Reply("not-now", (7,)),
-             "Not now, by rule 7: it is not so that the chips are there. Nothing was done."),
+             "Refused, by rule 7: the vertex has not the chips for so many firings. Nothing was done."),
         ]
         for kind, reply, words in said:
             self.assertEqual(self.words.reply(chipfire.Event(kind, 0), reply), words)
@@ -447,7 +462,117 @@ class Pages(unittest.TestCase):
     def test_every_page_says_what_is_proved_and_what_is_not(self):
         text = chipfire.pages.page_text(detector("deficit"))
         for words in ("What it answers is proved", "tested and not proved", "each of the 32 events"):
-            self.assertIn(words, text)
+            self.assertIn(words, " ".join(text.split()))
+
+    def test_a_refusal_says_why(self):
+        data = data_of(chipfire.pages.page_text(detector("deficit")))
+        refused = [step for step in data["steps"] if not step["done"]]
+        said = [f"{data['words'][step['event']]} {data['words'][step['reply']]}" for step in refused]
+        wait = "Refused, by rule 15: it still waits for"
+        self.assertEqual(said, [
+            f"Vertex 0 tries to acknowledge to the root (edge 4). {wait} 2 acknowledgements (from vertex 1 and the sink 2). "
+            "Nothing was done.",
+            f"Vertex 0 tries to acknowledge to the root (edge 4). {wait} 1 acknowledgement (from vertex 1). "
+            "Nothing was done.",
+            f"Vertex 1 tries to acknowledge to vertex 0 (edge 0). {wait} 2 acknowledgements (from vertex 0 and the sink 2). "
+            "Nothing was done.",
+        ])
+        game = (chipfire.Graph(2, 1, ((0, 1), (0, 1))), {0: 2})
+        events = chipfire.Schedule().take(2).ack(2).fire(0).ack(2).clear(0).claim(0).ack(2).put(0).send(1)
+        data = data_of(chipfire.pages.page_text(chipfire.simulate(*game, events.take(0).take(1).ack(0))))
+        said = [data["words"][step["reply"]].split(": ")[1] for step in data["steps"] if not step["done"]]
+        self.assertEqual(said, [
+            "it can still fire. Nothing was done.",
+            "it still has 2 chips to send. Nothing was done.",
+            "it still has 1 chip to send; it has a message that is claimed and not put; it still waits for "
+            "1 acknowledgement (from the sink 1). Nothing was done.",
+            "it still owes 1 acknowledgement on edge 1. Nothing was done.",
+        ])
+
+    def test_questions_of_events_and_their_answers(self):
+        data = data_of(chipfire.pages.page_text(detector("deficit")))
+        asked = [(data["words"][step["ask"]], step["yes"]) for step in data["steps"] if "ask" in step]
+        self.assertEqual(asked[0], ("Is there a message from the root that vertex 0 can take (edge 4)?", True))
+        self.assertIn(("May vertex 0 acknowledge to the root (edge 4)?", False), asked)
+        self.assertEqual(asked[-1], ("Does the root see a new acknowledgement of vertex 0 (edge 4)?", True))
+        kinds = {step["kind"] for step in data["steps"] if "ask" not in step}
+        self.assertEqual(kinds, {"claim", "put"})
+
+    def test_the_end_is_said(self):
+        said = {name: data_of(chipfire.pages.page_text(detector(name)))["end"]["text"] for name in DETECTOR}
+        self.assertEqual(said["deficit"], "The root is closed: all is over.")
+        stopped = "A limit or a seal stopped a vertex."
+        self.assertEqual(said["sealed-half-way"], f"The root is closed: all is over. {stopped}")
+        self.assertEqual(said["left-open"], "The root is open: it waits for 1 acknowledgement.")
+        told = chipfire.simulate(TRIANGLE, {}, [], fed=True)
+        end = data_of(chipfire.pages.page_text(told))["end"]
+        self.assertEqual(end, {"text": "The root is open: it has not noted the end of feeding.", "isWrong": False})
+
+
+class Notes(unittest.TestCase):
+    """Notes stand in a fourth column, which the program never sees."""
+
+    def test_a_schedule_with_notes(self):
+        events = chipfire.Schedule().take(4).note("four, at once").fire(0, 2).ack(4).note('why "not"?')
+        with tempfile.TemporaryDirectory(prefix="chipfire-python-") as folder:
+            chipfire.write_schedule(f"{folder}/noted.csv", events)
+            with open(f"{folder}/noted.csv", encoding="utf-8") as file:
+                self.assertEqual(file.read(), 'event,at,count,note\ntake,4,0,"four, at once"\nfire,0,2,\n'
+                                              'ack,4,0,"why ""not""?"\n')
+            read = chipfire.read_schedule(f"{folder}/noted.csv")
+            self.assertEqual((list(read), read.notes), (list(events), {0: "four, at once", 2: 'why "not"?'}))
+            told = chipfire.simulate(TRIANGLE, {0: 4}, f"{folder}/noted.csv")
+        self.assertEqual((told.notes, told.replies), (read.notes, chipfire.simulate(TRIANGLE, {0: 4}, events).replies))
+        steps = data_of(chipfire.pages.page_text(told))["steps"]
+        self.assertEqual([step.get("note") for step in steps], ["four, at once", None, 'why "not"?'])
+
+    def test_what_is_no_schedule_is_the_programs_fault(self):
+        with tempfile.NamedTemporaryFile("w", suffix=".csv") as file:
+            file.write("event,at,count,notes\ntake,4,0,\n")
+            file.flush()
+            with self.assertRaises(chipfire.Fault) as caught:
+                chipfire.simulate(TRIANGLE, {0: 4}, file.name)
+        self.assertEqual(caught.exception.number, 23)
+
+
+class WrongDetectors(unittest.TestCase):
+    """Pages of detectors that close too early, beside the right one."""
+
+    def test_the_page_of_each(self):
+        for name, left in [("at-once", "vertex 0 can still fire"), ("without-passive", "vertex 0 can still fire"),
+                           ("without-deficit", "edge 0 has 1 message and edge 1 has 1 message"),
+                           ("one-edge", "edge 5 has 1 message")]:
+            with self.subTest(name):
+                text = wrong.wrong_page_text(name)
+                data = data_of(text)
+                self.assertEqual(data["end"], {"text": f"The root is closed; {left}.", "isWrong": True})
+                self.assertEqual(len(data["steps"]), len(data["beside"]["steps"]))
+                closed = [change[3] for step in data["steps"] for change in step["changes"] if change[2] == "closed"]
+                self.assertEqual(closed, [True])
+                page = " ".join(text.split())
+                self.assertIn("This is a <strong>wrong detector</strong>", page)
+                self.assertIn("Neither the model nor this search is proved", page)
+
+    def test_the_right_one_beside_is_the_program(self):
+        data = data_of(wrong.wrong_page_text("at-once"))
+        said = [[data["words"][step["reply"]] for step in steps] for steps in (data["steps"], data["beside"]["steps"])]
+        self.assertEqual(said[0], ["Got the message with place 0: 4 chips.", "Done: 1 message acknowledged.",
+                                   "Done: 1 new acknowledgement seen."])
+        self.assertEqual(said[1], ["Got the message with place 0: 4 chips.",
+                                   "Refused, by rule 15: it can still fire. Nothing was done.",
+                                   "Done: 0 new acknowledgements seen."])
+        with self.assertRaises(chipfire.ProgramNotFound):
+            wrong.wrong_page_text("at-once", program="/nowhere")
+
+    def test_what_is_not_wrong_has_no_page(self):
+        for name, said in [("right", "in no schedule of this game, which has 1,405 states"),
+                           ("hasty", "no detector 'hasty'"), ("any-order", "in no schedule"),
+                           ("safra-colourless", "events of its own")]:
+            with self.assertRaisesRegex(ValueError, said):
+                wrong.wrong_page_text(name)
+        # (the sink alone, with no chips: there is nothing to get wrong)
+        with self.assertRaisesRegex(ValueError, "which has 1 state$"):
+            wrong.wrong_page_text("at-once", chipfire.Setting(chipfire.Graph(1, 0, ()), (0,)))
 
 
 class CommandLine(unittest.TestCase):
@@ -474,6 +599,20 @@ class CommandLine(unittest.TestCase):
             places.flush()
             ran = self.ask("page", *files, "--positions", places.name)
         self.assertEqual(data_of(ran.stdout)["places"]["vertices"], [[0, 0], [2, 0], [1, 1.5]])
+
+    def test_a_page_of_a_wrong_detector(self):
+        ran = self.ask("wrong", "without-deficit")
+        self.assertEqual((ran.returncode, ran.stderr), (0, ""))
+        self.assertEqual(ran.stdout, wrong.wrong_page_text("without-deficit"))
+        game = [f"{EXAMPLES}/detector/two-edges.json", f"{EXAMPLES}/detector/two-chips.csv"]
+        ran = self.ask("wrong", "without-deficit", *game, "--title", "Two edges")
+        self.assertEqual(data_of(ran.stdout)["sink"], 1)
+        self.assertIn("<h1>Two edges</h1>", ran.stdout)
+        for words, said in [(["any-order"], "in no schedule of this game, which has 1,697 states"),
+                            (["at-once", "graph.json"], "GRAPH and CHIPS")]:
+            ran = self.ask("wrong", *words)
+            self.assertEqual((ran.returncode, ran.stdout), (1, ""))
+            self.assertIn(said, ran.stderr)
 
     def test_what_is_wrong_is_one_line(self):
         files = [f"{EXAMPLES}/triangle/{name}" for name in ("graph.json", "chips.csv")]

@@ -3,66 +3,91 @@
 // new values, and the page puts them in their places.
 
 const run = JSON.parse(document.getElementById("run").textContent);
-const state = run.start;
 const SVG = "http://www.w3.org/2000/svg";
+const last = run.steps.length;
+const byId = (name) => document.getElementById(name);
 let at = 0;
 let playing = null;
-let changed = new Map();
-// The parts of the game that the page does not show as they are: at first all of them.
-let stale = new Set(Object.entries(run.start).flatMap(([kind, parts]) => parts.map((_, index) => `${kind} ${index}`)));
 
-// --- The state, forward and back
+// --- A game: what stands where, forward and back
 
-// What each fact was before a step, so that the step can be taken back.
-const before = run.steps.map((step) => {
-    return step.changes.map(([kind, index, name, value]) => {
-        const facts = state[kind][index];
-        const old = facts[name];
+class Game {
+    constructor(start, steps) {
+        this.state = start;
+        this.steps = steps;
+        this.at = steps.length;
+        this.changed = new Map();
+        // The parts of the game that the page does not show as they are: at first all of them.
+        this.stale = new Set(Object.entries(start).flatMap(([kind, parts]) => parts.map((_, i) => `${kind} ${i}`)));
+        // What each fact was before a step, so that the step can be taken back.
+        this.before = steps.map((step) => step.changes.map(([kind, index, name, value]) => {
+            const facts = this.state[kind][index];
+            const old = facts[name];
+            facts[name] = value;
+            return old;
+        }));
+        this.goTo(0);
+    }
+
+    goTo(wanted) {
+        while (this.at < wanted) {
+            for (const [kind, index, name, value] of this.steps[this.at].changes) this.put(kind, index, name, value);
+            this.at++;
+        }
+        while (this.at > wanted) {
+            this.at--;
+            const changes = this.steps[this.at].changes;
+            for (let i = changes.length - 1; i >= 0; i--) {
+                const [kind, index, name] = changes[i];
+                this.put(kind, index, name, this.before[this.at][i]);
+            }
+        }
+    }
+
+    put(kind, index, name, value) {
+        const facts = this.state[kind][index];
+        this.stale.add(`${kind} ${index}`);
+        // (an edge is drawn by whether it engaged its head)
+        if (name === "parent") for (const edge of [facts.parent, value]) this.stale.add(`edges ${edge}`);
         facts[name] = value;
-        return old;
-    });
-});
-for (let step = run.steps.length - 1; step >= 0; step--) takeBack(step);
+    }
 
-function apply(step) {
-    for (const [kind, index, name, value] of run.steps[step].changes) put(kind, index, name, value);
-}
+    // Marks what changed since a state before, and returns the parts of the game that have to be shown anew.
+    mark(from) {
+        const marked = [...this.changed.keys()];
+        this.changed = new Map();
+        for (let step = from; step < this.at; step++) {
+            this.steps[step].changes.forEach(([kind, index, name], i) => {
+                const key = `${kind} ${index}`;
+                if (!this.changed.has(key)) this.changed.set(key, new Map());
+                if (!this.changed.get(key).has(name)) this.changed.get(key).set(name, this.before[step][i]);
+            });
+        }
+        const parts = new Set([...this.stale, ...marked, ...this.changed.keys()]);
+        this.stale = new Set();
+        return [...parts].map((part) => part.split(" ")).map(([kind, index]) => [kind, Number(index)]);
+    }
 
-function takeBack(step) {
-    const changes = run.steps[step].changes;
-    for (let i = changes.length - 1; i >= 0; i--) {
-        const [kind, index, name] = changes[i];
-        put(kind, index, name, before[step][i]);
+    hasChanged(kind, index) {
+        return this.changed.has(`${kind} ${index}`);
     }
 }
 
-function put(kind, index, name, value) {
-    const facts = state[kind][index];
-    stale.add(`${kind} ${index}`);
-    // (an edge is drawn by whether it engaged its head)
-    if (name === "parent") for (const edge of [facts.parent, value]) stale.add(`edges ${edge}`);
-    facts[name] = value;
-}
-
-// Goes to the state after so many events.
-function goTo(step) {
-    const wanted = Math.max(0, Math.min(step, run.steps.length));
-    while (at < wanted) apply(at++);
-    while (at > wanted) takeBack(--at);
-    show();
-}
+// (the page of a wrong detector has the right one beside it, on the same events)
+const game = new Game(structuredClone(run.start), run.steps);
+const beside = run.beside && new Game(structuredClone(run.start), run.beside.steps);
 
 // --- Making elements
 
 function element(name, attributes = {}, ...children) {
-    const made = document.createElement(name);
-    for (const [key, value] of Object.entries(attributes)) made.setAttribute(key, value);
-    made.append(...children);
-    return made;
+    return filled(document.createElement(name), attributes, children);
 }
 
 function shape(name, attributes = {}, ...children) {
-    const made = document.createElementNS(SVG, name);
+    return filled(document.createElementNS(SVG, name), attributes, children);
+}
+
+function filled(made, attributes, children) {
     for (const [key, value] of Object.entries(attributes)) made.setAttribute(key, value);
     made.append(...children);
     return made;
@@ -82,9 +107,9 @@ const size = isRoomy
     : { chips: 24, name: 14, box: 16, note: 13, root: 24 };
 const scale = (isRoomy ? 230 : 112) / nearest([...run.places.vertices, run.places.root]);
 const point = ([x, y]) => ({ x: x * scale, y: y * scale });
-const rootPoint = point(run.places.root);
 const frame = run.places.frame && run.places.frame.map(point);
 const isFramed = (vertex) => frame !== null && vertex === run.sink;
+const placeOf = (vertex) => point(vertex === null ? run.places.root : run.places.vertices[vertex]);
 
 // The least distance of two places: neighbours in the order from left to right suffice where many stand in rows.
 function nearest(places) {
@@ -110,12 +135,6 @@ function onFrame(from) {
     return across < down ? { x, y: from.y } : { x: from.x, y };
 }
 
-function endsOf(edge) {
-    const [tail, head] = run.edges[edge];
-    const from = tail === null ? rootPoint : point(run.places.vertices[tail]);
-    return { from, to: isFramed(head) ? onFrame(from) : point(run.places.vertices[head]), isOnFrame: isFramed(head) };
-}
-
 // How much each edge is bent to its right, in steps, so that edges between the same two do not lie on each other.
 function bends() {
     const among = new Map();
@@ -137,26 +156,45 @@ function bends() {
     return found;
 }
 
-// The way of an edge: its path, and the points near its tail, in its middle and near its head.
+// The way of an edge: its path, its arrow, and its points, at 0 near the tail and at 1 near the head.
 function wayOf(edge, bend) {
-    const { from, to, isOnFrame } = endsOf(edge);
+    const [tail, head] = run.edges[edge];
+    const from = placeOf(tail);
+    const to = isFramed(head) ? onFrame(from) : placeOf(head);
     const length = Math.hypot(to.x - from.x, to.y - from.y) || 1;
     const along = { x: (to.x - from.x) / length, y: (to.y - from.y) / length };
     const off = 2 * bend * Math.min(0.15 * length, 1.2 * radius);
     const control = { x: (from.x + to.x) / 2 - along.y * off, y: (from.y + to.y) / 2 + along.x * off };
     const start = towards(from, control, radius);
-    const end = towards(to, control, isOnFrame ? 2 : radius + 3);
+    const end = towards(to, control, isFramed(head) ? 2 : radius + 3);
     const on = (t) => ({
         x: (1 - t) ** 2 * start.x + 2 * t * (1 - t) * control.x + t ** 2 * end.x,
         y: (1 - t) ** 2 * start.y + 2 * t * (1 - t) * control.y + t ** 2 * end.y,
     });
     const path = `M${start.x} ${start.y} Q${control.x} ${control.y} ${end.x} ${end.y}`;
-    return { path, arrow: arrowAt(end, control), middle: on(isRoomy ? 0.5 : 0.47), head: on(isRoomy ? 0.8 : 0.84) };
+    return { path, arrow: arrowAt(end, control), on, side: { x: along.y, y: -along.x } };
+}
+
+// The way of an edge that is bent as little as it has to be so that it leads round the vertices between its ends.
+function wayRound(edge, bend) {
+    const ends = run.edges[edge];
+    const isOfRoot = ends[0] === null;
+    if (!isRoomy && !isOfRoot) return wayOf(edge, bend);
+    const all = [...run.names.keys()];
+    const others = all.filter((it) => !ends.includes(it) && !isFramed(it)).map(placeOf);
+    if (!isOfRoot) others.push(placeOf(null));
+    const crossed = (way) => {
+        const points = [0.1, 0.2, 0.3, 0.4, 0.5, 0.6, 0.7, 0.8, 0.9].map(way.on);
+        const isNear = (it) => others.some((other) => Math.hypot(it.x - other.x, it.y - other.y) < 1.35 * radius);
+        return points.filter(isNear);
+    };
+    const ways = [0, 1, -1, 2, -2, 3, -3, 4, -4].map((more) => wayOf(edge, bend + more));
+    return ways.reduce((best, way) => (crossed(way).length < crossed(best).length ? way : best));
 }
 
 // The point of an arrow that comes from somewhere.
-function arrowAt(end, from) {
-    const back = towards(end, from, 12);
+function arrowAt(end, from, long = 12) {
+    const back = towards(end, from, long);
     const side = { x: (end.y - back.y) * 0.45, y: (back.x - end.x) * 0.45 };
     return `M${end.x} ${end.y} L${back.x + side.x} ${back.y + side.y} L${back.x - side.x} ${back.y - side.y} z`;
 }
@@ -166,157 +204,434 @@ function towards(from, to, distance) {
     return { x: from.x + ((to.x - from.x) / length) * distance, y: from.y + ((to.y - from.y) / length) * distance };
 }
 
-// --- The drawing: made once, then changed
+// --- Room for labels: boxes that are taken, each with its middle, width and height
 
-const edgeDrawn = new Map();
-const vertexDrawn = [];
-const rootDrawn = {};
+const overlap = (a, b) => {
+    const across = (a.width + b.width) / 2 - Math.abs(a.x - b.x);
+    const down = (a.height + b.height) / 2 - Math.abs(a.y - b.y);
+    return across > 0 && down > 0 ? across * down : 0;
+};
 
-function draw() {
-    const drawing = document.getElementById("drawing");
-    if (frame) vertexDrawn[run.sink] = drawFrame(drawing);
-    const bent = bends();
-    for (const edge of shownEdges) drawEdge(drawing, edge, wayOf(edge, bent.get(edge)));
-    const marks = shape("g");
-    for (const drawn of edgeDrawn.values()) marks.append(drawn.marks);
-    drawRoot(drawing);
-    run.names.forEach((_, vertex) => {
-        if (!isFramed(vertex)) vertexDrawn[vertex] = drawVertex(drawing, vertex);
-    });
-    drawing.append(marks);
-    const { x, y, width, height } = drawing.getBBox();
-    drawing.setAttribute("viewBox", [x - radius, y - radius, width + 2 * radius, height + 2 * radius].join(" "));
+// Takes the first of some places for a box that has no other box on it, or else that with the least.
+function roomFor(box, places, taken) {
+    let best = null;
+    for (const place of places) {
+        const found = { ...box, ...place };
+        const over = taken.reduce((sum, other) => sum + overlap(found, other), 0);
+        if (best === null || over < best.over) best = { found, over };
+        if (over === 0) break;
+    }
+    taken.push(best.found);
+    return best.found;
 }
 
-function drawEdge(drawing, edge, way) {
-    const lines = ["halo", "line"].map((name) => shape("path", { d: way.path, class: name }));
-    const group = shape("g", {}, ...lines, shape("path", { d: way.arrow, class: "arrow" }));
-    drawing.append(group);
-    edgeDrawn.set(edge, { group, way, marks: shape("g") });
+// The places for a box beside an edge, and at last on it, near some of its points.
+function besideEdge(way, points, box) {
+    const off = (Math.abs(way.side.x) * box.width + Math.abs(way.side.y) * box.height) / 2 + 6;
+    const away = [off, -off, off + 14, -off - 14, off + 30, -off - 30, 0];
+    return away.flatMap((by) => points.map(way.on).map(({ x, y }) => ({ x: x + way.side.x * by, y: y + way.side.y * by })));
 }
 
-function drawRoot(drawing) {
-    const { x, y } = rootPoint;
-    const width = 2 * radius + size.root;
-    const box = { x: x - width / 2, y: y - radius, width, height: 2 * radius, rx: 8 };
-    rootDrawn.state = word("", x, y + radius * 0.4, size.root, "inside");
-    rootDrawn.deficit = word("", x, y - radius - size.root * 0.8, size.root, "deficit");
-    const bodies = ["halo", "body"].map((name) => shape("rect", { ...box, class: name }));
-    const title = word("root", x, y - radius * 0.4, size.root, "inside");
-    rootDrawn.group = shape("g", { id: "root-node" }, ...bodies, title, rootDrawn.state, rootDrawn.deficit);
-    drawing.append(rootDrawn.group);
+// The room that a line takes, as small boxes.
+function alongEdge(way) {
+    return [...Array(25).keys()].map((i) => ({ ...way.on(i / 24), width: 7, height: 7 }));
 }
 
-function drawVertex(drawing, vertex) {
-    const { x, y } = point(run.places.vertices[vertex]);
-    const isSink = vertex === run.sink;
-    const square = { x: x - radius, y: y - radius, width: 2 * radius, height: 2 * radius, rx: 3 };
-    const circle = { cx: x, cy: y, r: radius };
-    const bodies = ["halo", "body"].map((name) =>
-        isSink ? shape("rect", { ...square, class: name }) : shape("circle", { ...circle, class: name }),
-    );
-    const chips = word("", x, y - radius * 0.2, size.chips, "chips inside");
-    const deficit = word("", x, y + radius * 0.5, size.note, "inside");
-    const title = isRoomy ? vertexTitle(vertex) : run.names[vertex];
-    // (a sink has nothing below it)
-    const name = isSink
-        ? word(title, x, y + radius + size.name, size.name, "name below")
-        : word(title, x - radius * 0.75, y - radius, size.name, "name");
-    const halt = word("", x, y + radius + size.note * 0.8, size.note, "halt");
-    const group = shape("g", {}, ...bodies, chips, deficit, name, halt);
-    drawing.append(group);
-    return { group, chips, deficit, halt };
+// --- The drawing of a game: made once, and again where a vertex is dragged, then changed
+
+const vertexTitle = (vertex) =>
+    vertex === run.sink && run.names[vertex] === "sink" ? "sink" : `${vertex === run.sink ? "sink" : "vertex"} ${run.names[vertex]}`;
+const textWidth = (text, size) => size * (0.4 + 0.58 * String(text).length);
+
+class Drawing {
+    constructor(game, drawing) {
+        this.game = game;
+        this.drawing = drawing;
+        this.draw();
+    }
+
+    draw() {
+        this.edges = new Map();
+        this.vertices = [];
+        this.fixed = [];
+        this.drawing.replaceChildren();
+        if (frame) this.vertices[run.sink] = this.drawFrame();
+        const bent = bends();
+        for (const edge of shownEdges) this.drawEdge(edge, wayRound(edge, bent.get(edge)));
+        this.drawRoot();
+        run.names.forEach((_, vertex) => {
+            if (!isFramed(vertex)) this.vertices[vertex] = this.drawVertex(vertex);
+        });
+        if (isRoomy) this.numberEdges();
+        this.marks = shape("g");
+        for (const { marks } of this.edges.values()) this.marks.append(marks);
+        this.drawing.append(this.marks);
+        const { x, y, width, height } = this.drawing.getBBox();
+        const edge = 1.4 * radius;
+        this.drawing.setAttribute("viewBox", [x - edge, y - edge, width + 2 * edge, height + 2 * edge].join(" "));
+    }
+
+    drawEdge(edge, way) {
+        const lines = ["halo", "line"].map((name) => shape("path", { d: way.path, class: name }));
+        const group = shape("g", {}, ...lines, shape("path", { d: way.arrow, class: "arrow" }));
+        this.drawing.append(group);
+        this.edges.set(edge, { group, way, marks: shape("g") });
+    }
+
+    drawRoot() {
+        const { x, y } = placeOf(null);
+        const width = 2 * radius + size.root;
+        const box = { x: x - width / 2, y: y - radius, width, height: 2 * radius, rx: 8 };
+        const state = word("", x, y + radius * 0.4, size.root, "inside");
+        const deficit = word("", x, y - radius - size.root * 0.8, size.root, "deficit");
+        const bodies = ["halo", "body"].map((name) => shape("rect", { ...box, class: name }));
+        const title = word("root", x, y - radius * 0.4, size.root, "inside");
+        const id = this.game === game ? "root-node" : "root-beside";
+        const group = shape("g", { id, "data-vertex": "root" }, ...bodies, title, state, deficit);
+        this.drawing.append(group);
+        this.fixed.push({ x, y: y - size.root / 2, width: width + 8, height: 2 * radius + size.root * 1.6 });
+        this.root = { group, state, deficit };
+    }
+
+    drawVertex(vertex) {
+        const { x, y } = placeOf(vertex);
+        const isSink = vertex === run.sink;
+        const square = { x: x - radius, y: y - radius, width: 2 * radius, height: 2 * radius, rx: 3 };
+        const circle = { cx: x, cy: y, r: radius };
+        const bodies = ["halo", "body"].map((name) =>
+            isSink ? shape("rect", { ...square, class: name }) : shape("circle", { ...circle, class: name }),
+        );
+        const chips = word("", x, y - radius * 0.2, size.chips, "chips inside");
+        const deficit = word("", x, y + radius * 0.5, size.note, "inside");
+        const halt = word("", x, y + radius + size.note * 0.8, size.note, "halt");
+        this.fixed.push({ x, y, width: 2 * radius + 6, height: 2 * radius + 6 });
+        const name = this.nameOf(vertex, x, y);
+        const group = shape("g", { "data-vertex": vertex }, ...bodies, chips, deficit, name, halt);
+        this.drawing.append(group);
+        return { group, chips, deficit, halt };
+    }
+
+    // The name of a vertex, on a side of it where no edge leads past.
+    nameOf(vertex, x, y) {
+        const title = isRoomy ? vertexTitle(vertex) : String(run.names[vertex]);
+        if (!isRoomy) return word(title, x - radius * 0.75, y - radius, size.name, "name");
+        const box = { width: textWidth(title, size.name), height: size.name * 1.3 };
+        const off = radius + size.name * 0.9;
+        const beside = radius + box.width / 2 + 6;
+        const sides = [
+            [0, off], [-beside, 0], [beside, 0], [0, -off], [-beside, off], [beside, off], [-beside, -off], [beside, -off],
+        ];
+        const taken = [...this.fixed, ...[...this.edges.values()].flatMap(({ way }) => alongEdge(way))];
+        const found = roomFor(box, sides.map(([right, down]) => ({ x: x + right, y: y + down })), taken);
+        this.fixed.push(found);
+        return word(title, found.x, found.y, size.name, "name beside");
+    }
+
+    // A grid's sink: the frame round the squares, with its chips beside it.
+    drawFrame() {
+        const [upper, lower] = frame;
+        const box = { x: upper.x, y: upper.y, width: lower.x - upper.x, height: lower.y - upper.y, rx: 10 };
+        const y = lower.y + size.chips;
+        const middle = (upper.x + lower.x) / 2;
+        const chips = word("", middle, y, size.chips, "chips inside");
+        const group = shape("g", {}, shape("rect", { ...box, class: "halo" }), shape("rect", { ...box, class: "body" }));
+        group.append(word(vertexTitle(run.sink), middle - 2 * radius, y, size.root, "name"), chips);
+        this.drawing.append(group);
+        // (a sink sends nothing and never halts, so there is nothing to wait for)
+        return { group, chips, deficit: null, halt: null };
+    }
+
+    numberEdges() {
+        const ways = [...this.edges.values()].map(({ way }) => way);
+        const lines = ways.flatMap(alongEdge);
+        const middles = ways.map((way) => ({ ...way.on(0.5), width: 2.2 * size.box, height: 1.6 * size.box }));
+        for (const [edge, { group, way }] of this.edges) {
+            const text = `edge ${edge}`;
+            const box = { width: textWidth(text, size.note * 0.85), height: size.note };
+            const places = besideEdge(way, [0.36, 0.42, 0.58, 0.28, 0.64], box);
+            const { x, y } = roomFor(box, places, [...middles, ...lines, ...this.fixed]);
+            this.fixed.push({ ...box, x, y });
+            group.append(word(text, x, y, size.note * 0.85, "number"));
+        }
+    }
+
+    // --- Showing one state
+
+    show(from) {
+        const parts = this.game.mark(from);
+        for (const [kind, index] of parts) {
+            if (kind === "root") this.showRoot();
+            else if (kind === "vertices") this.showVertex(index);
+            else if (this.edges.has(index)) this.showEdge(index);
+        }
+        if (isRoomy) this.showMarks();
+        return parts;
+    }
+
+    showVertex(vertex) {
+        const { group, chips, deficit, halt } = this.vertices[vertex];
+        const facts = this.game.state.vertices[vertex];
+        const names = ["vertex"];
+        if (isFramed(vertex)) names.push("frame");
+        if (facts.parent !== null) names.push("engaged");
+        if (facts.halted !== null) names.push("halted");
+        if (this.game.hasChanged("vertices", vertex)) names.push("changed");
+        group.setAttribute("class", names.join(" "));
+        chips.textContent = facts.chips.toLocaleString("en");
+        chips.setAttribute("font-size", Math.min(size.chips, (2.9 * radius) / chips.textContent.length));
+        const waits = isRoomy ? `waits ${facts.deficit}` : `?${facts.deficit}`;
+        if (deficit) deficit.textContent = facts.deficit ? waits : "";
+        if (halt) halt.textContent = facts.halted === null ? "" : "halted";
+    }
+
+    showRoot() {
+        const facts = this.game.state.root[0];
+        const names = ["vertex", facts.closed ? "closed" : "open"];
+        if (this.game.hasChanged("root", 0)) names.push("changed");
+        this.root.group.setAttribute("class", names.join(" "));
+        this.root.state.textContent = facts.closed ? "closed" : "open";
+        this.root.deficit.textContent = facts.deficit ? `waits for ${facts.deficit}` : "";
+    }
+
+    showEdge(edge) {
+        const { group, way, marks } = this.edges.get(edge);
+        const facts = this.game.state.edges[edge];
+        const names = ["edge"];
+        if (edge >= run.graphEdges) names.push("of-root");
+        if (this.game.state.vertices[run.edges[edge][1]].parent === edge) names.push("parent");
+        if (facts.sealed) names.push("sealed");
+        if (this.game.hasChanged("edges", edge)) names.push("changed");
+        group.setAttribute("class", names.join(" "));
+        if (!isRoomy) marks.replaceChildren(...this.boxesOf(facts, way, []), ...this.tagsOf(facts, way, []));
+    }
+
+    // The marks of all edges: first the boxes on them, then what finds room beside.
+    showMarks() {
+        const taken = [...this.fixed];
+        const facts = this.game.state.edges;
+        const made = new Map([...this.edges].map(([edge, { way }]) => [edge, this.boxesOf(facts[edge], way, taken)]));
+        for (const [edge, { way, marks }] of this.edges) {
+            marks.replaceChildren(...made.get(edge), ...this.tagsOf(facts[edge], way, taken));
+        }
+    }
+
+    // The boxes in the middle of an edge, one beside the other.
+    boxesOf(facts, way, taken) {
+        const boxes = facts.cells.map(([place, chips]) => ["message", chips.toLocaleString("en"), place]);
+        if (facts.claimed) boxes.push(["claimed", facts.claimed.toLocaleString("en"), facts.sent - 1]);
+        if (facts.pending) boxes.push(["pending", `+${facts.pending.toLocaleString("en")}`, null]);
+        if (!boxes.length) return [];
+        const widths = boxes.map(([, text]) => size.box * (0.75 + 0.65 * text.length));
+        const all = { width: widths.reduce((sum, width) => sum + width + 3, -3), height: 1.4 * size.box };
+        const middles = isRoomy ? [0.5, 0.56, 0.44, 0.62, 0.38] : [0.47];
+        const room = roomFor(all, middles.map(way.on), taken);
+        let x = room.x - all.width / 2;
+        return boxes.map(([name, text, place], index) => {
+            const middle = x + widths[index] / 2;
+            x += widths[index] + 3;
+            const numbered = isRoomy && boxes.length > 1 && place !== null ? `place ${place}` : null;
+            return boxOf(name, text, numbered, middle, room.y, widths[index]);
+        });
+    }
+
+    // What stands beside an edge: what is owed at its head, the acknowledgements given and not seen, and its seal.
+    tagsOf(facts, way, taken) {
+        const unseen = facts.acknowledged - facts.settled;
+        const tags = [];
+        if (facts.owed) tags.push([isRoomy ? `owes ${facts.owed}` : `!${facts.owed}`, [0.8, 0.74, 0.86, 0.68], "owes"]);
+        if (unseen) tags.push([isRoomy ? `◁ ack ${unseen}` : `◁${unseen}`, [0.22, 0.28, 0.16, 0.34], "answer"]);
+        if (facts.sealed) tags.push([facts.refused ? "sealed, refused" : "sealed", [0.6, 0.5, 0.4], "seal"]);
+        return tags.map(([text, points, name]) => {
+            const box = { width: textWidth(text, size.note), height: size.note * 1.3 };
+            const places = isRoomy ? besideEdge(way, points, box) : [way.on(points[0])];
+            return tag(text, roomFor(box, places, taken), name);
+        });
+    }
 }
 
-// A grid's sink: the frame round the squares, with its chips beside it.
-function drawFrame(drawing) {
-    const [upper, lower] = frame;
-    const box = { x: upper.x, y: upper.y, width: lower.x - upper.x, height: lower.y - upper.y, rx: 10 };
-    const y = lower.y + size.chips;
-    const middle = (upper.x + lower.x) / 2;
-    const chips = word("", middle, y, size.chips, "chips inside");
-    const group = shape("g", {}, shape("rect", { ...box, class: "halo" }), shape("rect", { ...box, class: "body" }));
-    group.append(word(vertexTitle(run.sink), middle - 2 * radius, y, size.root, "name"), chips);
-    drawing.append(group);
-    // (a sink sends nothing and never halts, so there is nothing to wait for)
-    return { group, chips, deficit: null, halt: null };
-}
-
-// --- Showing one state in the drawing
-
-function showVertex(vertex) {
-    const { group, chips, deficit, halt } = vertexDrawn[vertex];
-    const facts = state.vertices[vertex];
-    const names = ["vertex"];
-    if (isFramed(vertex)) names.push("frame");
-    if (facts.parent !== null) names.push("engaged");
-    if (facts.halted !== null) names.push("halted");
-    if (hasChanged("vertices", vertex)) names.push("changed");
-    group.setAttribute("class", names.join(" "));
-    chips.textContent = facts.chips.toLocaleString("en");
-    chips.setAttribute("font-size", Math.min(size.chips, (2.9 * radius) / chips.textContent.length));
-    if (deficit) deficit.textContent = facts.deficit ? (isRoomy ? `waits ${facts.deficit}` : `?${facts.deficit}`) : "";
-    if (halt) halt.textContent = facts.halted === null ? "" : "halted";
-}
-
-const vertexTitle = (vertex) => `${vertex === run.sink ? "sink" : "vertex"} ${run.names[vertex]}`;
-
-function showRoot() {
-    const facts = state.root[0];
-    const names = ["vertex", facts.closed ? "closed" : "open"];
-    if (hasChanged("root", 0)) names.push("changed");
-    rootDrawn.group.setAttribute("class", names.join(" "));
-    rootDrawn.state.textContent = facts.closed ? "closed" : "open";
-    rootDrawn.deficit.textContent = facts.deficit ? `waits for ${facts.deficit}` : "";
-}
-
-function showEdge(edge) {
-    const { group, way, marks } = edgeDrawn.get(edge);
-    const facts = state.edges[edge];
-    const names = ["edge"];
-    if (edge >= run.graphEdges) names.push("of-root");
-    if (state.vertices[run.edges[edge][1]].parent === edge) names.push("parent");
-    if (facts.sealed) names.push("sealed");
-    if (hasChanged("edges", edge)) names.push("changed");
-    group.setAttribute("class", names.join(" "));
-    marks.replaceChildren(...marksOf(edge, facts, way));
-}
-
-// The boxes in the middle of an edge, one beside the other, and what stands round them.
-function marksOf(edge, facts, way) {
-    const boxes = facts.cells.map(([place, chips]) => ["message", chips.toLocaleString("en"), place]);
-    if (facts.claimed) boxes.push(["claimed", facts.claimed.toLocaleString("en"), facts.sent - 1]);
-    if (facts.pending) boxes.push(["pending", `+${facts.pending.toLocaleString("en")}`, null]);
-    const widths = boxes.map(([, text]) => size.box * (0.75 + 0.65 * text.length));
-    let x = way.middle.x - widths.reduce((sum, width) => sum + width + 3, -3) / 2;
-    const made = boxes.map(([name, text, place], index) => {
-        const middle = x + widths[index] / 2;
-        x += widths[index] + 3;
-        return boxOf(name, text, place, middle, way.middle.y, widths[index]);
-    });
-    const under = { x: way.middle.x, y: way.middle.y + size.box * 1.3 };
-    if (isRoomy) made.push(word(`edge ${edge}`, under.x, way.middle.y - size.box * 1.35, size.note * 0.85, "number"));
-    if (facts.owed) made.push(tag(isRoomy ? `owes ${facts.owed}` : `!${facts.owed}`, way.head));
-    if (facts.sealed) made.push(tag(facts.refused ? "sealed, refused" : "sealed", under));
-    return made;
-}
-
-function boxOf(name, text, place, x, y, width) {
+function boxOf(name, text, below, x, y, width) {
     const height = size.box * 1.35;
     const box = shape("rect", { x: x - width / 2, y: y - height / 2, width, height, rx: 3 });
     const group = shape("g", { class: name }, box, word(text, x, y, size.box));
-    if (isRoomy && place !== null) {
-        const below = shape("g", {}, word(`place ${place}`, x, y + size.box * 1.15, size.note * 0.85, "number"));
-        return shape("g", {}, group, below);
-    }
-    return group;
+    if (below === null) return group;
+    return shape("g", {}, group, word(below, x, y + size.box * 1.15, size.note * 0.8, "number"));
 }
 
-function tag(text, { x, y }) {
-    const width = size.note * (0.3 + 0.6 * text.length);
-    const height = size.note * 1.25;
+function tag(text, { x, y, width, height }, name) {
     const box = shape("rect", { x: x - width / 2, y: y - height / 2, width, height, rx: 3 });
-    return shape("g", { class: "tag" }, box, word(text, x, y, size.note));
+    return shape("g", { class: `tag ${name}` }, box, word(text, x, y, size.note));
+}
+
+const drawings = [new Drawing(game, byId("drawing"))];
+if (beside) drawings.push(new Drawing(beside, byId("drawing-beside")));
+
+// --- Dragging: a vertex goes where it is put, in both drawings, and the page says what to write into --positions
+
+let dragged = null;
+
+function onDrag(drawing) {
+    drawing.addEventListener("pointerdown", (press) => {
+        const group = press.target.closest("[data-vertex]");
+        if (!group) return;
+        const name = group.dataset.vertex;
+        dragged = name === "root" ? null : Number(name);
+        drawing.setPointerCapture(press.pointerId);
+        drawing.onpointermove = (move) => {
+            const { x, y } = new DOMPoint(move.clientX, move.clientY).matrixTransform(drawing.getScreenCTM().inverse());
+            const place = [x / scale, y / scale];
+            if (dragged === null) run.places.root = place;
+            else run.places.vertices[dragged] = place;
+            drawAnew();
+        };
+    });
+    for (const end of ["pointerup", "pointercancel"]) {
+        drawing.addEventListener(end, () => {
+            drawing.onpointermove = null;
+        });
+    }
+}
+
+function drawAnew() {
+    for (const it of drawings) {
+        it.draw();
+        it.game.stale = new Set(
+            [["root", 1], ["vertices", run.names.length], ["edges", run.edges.length]].flatMap(([kind, count]) =>
+                [...Array(count).keys()].map((index) => `${kind} ${index}`)));
+        it.show(stopBefore(at));
+    }
+    const rows = run.names.map((name, vertex) => {
+        const place = run.places.vertices[vertex].map((it) => it.toFixed(2));
+        return [name, ...place].join(",");
+    });
+    byId("positions").textContent = ["vertex,right,down", ...rows].join("\n");
+    byId("dragged").hidden = false;
+}
+
+// --- The stops: all events, or with whole sends those at which no send is under way
+
+let stops = [];
+let isCoarse = false;
+const FOLLOWS = { claim: "clear", feed: "clear", put: "claim" };
+
+function isInSend(step) {
+    const [here, next] = [run.steps[step - 1], run.steps[step]];
+    const isNext = here && next && here.done && next.done && here.at === next.at;
+    return isNext && (FOLLOWS[next.kind] === here.kind || (next.kind === "put" && here.kind === "feed"));
+}
+
+function makeStops() {
+    stops = [...Array(last + 1).keys()].filter((step) => !isCoarse || !isInSend(step));
+}
+
+// The number of the first stop at a state or behind it.
+function stopOf(step) {
+    let [low, high] = [0, stops.length - 1];
+    while (low < high) {
+        const middle = (low + high) >> 1;
+        if (stops[middle] < step) low = middle + 1;
+        else high = middle;
+    }
+    return low;
+}
+
+const stopBefore = (step) => (step === 0 ? 0 : stops[stopOf(step) - 1]);
+
+function eventWords(step) {
+    const { event, send } = run.steps[step - 1];
+    return run.words[step - stopBefore(step) > 1 && send !== undefined ? send : event];
+}
+
+// --- The space-time diagram: a column for each part, time goes down
+
+const SPACE = { column: 120, row: 30, head: 40, above: 13, below: 5 };
+const ofStep = run.steps.map(({ kind, at: place }) => {
+    if (kind === "fire" || kind === "halt") return place;
+    if (kind === "take" || kind === "ack") return run.edges[place]?.[1] ?? null;
+    if (kind === "read" || kind === "end") return null;
+    return run.edges[place]?.[0] ?? null;
+});
+const story = tellStory();
+
+// Which messages and acknowledgements went from which event to which, and from when to when each vertex was engaged.
+function tellStory() {
+    const told = { messages: [], answers: [], bands: [] };
+    const messages = run.edges.map((_, edge) =>
+        run.start.edges[edge].cells.map(([, chips]) => ({ edge, from: 0, chips })));
+    const answers = run.edges.map(() => []);
+    const engaged = new Map();
+    for (const found of messages) told.messages.push(...found);
+    run.steps.forEach(({ kind, at: edge, done, changes }, index) => {
+        const step = index + 1;
+        if (!done) return;
+        if (kind === "put") {
+            const chips = changes.find(([, , name]) => name === "cells")[3].at(-1)[1];
+            messages[edge].push({ edge, from: step, chips });
+            told.messages.push(messages[edge].at(-1));
+        } else if (kind === "take" && changes.length) {
+            messages[edge].shift().to = step;
+        } else if (kind === "ack") {
+            answers[edge].push({ edge, from: step });
+            told.answers.push(answers[edge].at(-1));
+        } else if (kind === "settle" || kind === "end") {
+            const seen = kind === "end" ? run.graphEdges : edge;
+            for (const answer of answers[seen].splice(0)) answer.to = step;
+        }
+        for (const [part, vertex, name, value] of changes) {
+            if (part !== "vertices" || name !== "parent") continue;
+            if (value === null) engaged.get(vertex).to = step;
+            else engaged.set(vertex, { vertex, from: step });
+            if (value !== null) told.bands.push(engaged.get(vertex));
+        }
+    });
+    return told;
+}
+
+function showDiagram() {
+    const diagram = byId("diagram");
+    if (byId("picture").dataset.view !== "diagram") return;
+    const now = stopOf(at);
+    const first = Math.max(0, now - SPACE.above);
+    const end = Math.min(stops.length - 1, isPredicting ? now : Math.max(now + SPACE.below, first + SPACE.above + SPACE.below));
+    const columns = [null, ...run.names.keys()];
+    const x = (part) => SPACE.column * (columns.indexOf(part) + 0.5);
+    const row = (step) => SPACE.head + SPACE.row * (stopOf(step) - first + 0.7);
+    const bottom = row(stops[end]) + SPACE.row * 0.6;
+    const isSeen = ({ from, to }) => stopOf(from) <= end && (to === undefined || stopOf(to) >= first);
+    const until = ({ to }) => (to === undefined || stopOf(to) > end ? bottom : row(to));
+    const later = (step) => (step > at ? " later" : "");
+    const bands = story.bands.filter(isSeen).map((it) => shape("rect", {
+        x: x(it.vertex) - 11, y: Math.max(row(it.from), SPACE.head), width: 22, class: `band${later(it.from)}`,
+        height: Math.max(0, until(it) - Math.max(row(it.from), SPACE.head)),
+    }));
+    const lines = columns.map(x).map((x) => shape("line", { x1: x, y1: SPACE.head, x2: x, y2: bottom, class: "life" }));
+    const titleOf = (part) => (part === null ? "root" : vertexTitle(part));
+    const heads = columns.map((part) => word(titleOf(part), x(part), SPACE.head / 2, 16, "name beside"));
+    const arrows = [["answers", "answer-way", 1, 0], ["messages", "way", 0, 1]].flatMap(([kind, name, from, to]) =>
+        story[kind].filter(isSeen).map((it) => {
+            const ends = run.edges[it.edge];
+            const start = { x: x(ends[from]), y: Math.max(row(it.from), SPACE.head) };
+            const arrived = it.to !== undefined && stopOf(it.to) <= end;
+            const stop = { x: x(ends[to]), y: until(it) };
+            const stub = arrived ? stop : towards(start, { x: stop.x, y: Math.max(stop.y, start.y + 1) }, 30);
+            const middle = { x: (start.x + stub.x) / 2, y: (start.y + stub.y) / 2 - 8 };
+            const text = kind === "messages" ? [word(it.chips, middle.x, middle.y, 13, "number")] : [];
+            const line = shape("line", { x1: start.x, y1: start.y, x2: stub.x, y2: stub.y, class: "line" });
+            const way = shape("path", { d: arrowAt(stub, start, 11), class: "arrow" });
+            return shape("g", { class: name + later(it.to ?? it.from) }, line, way, ...text);
+        }));
+    const dots = stops.slice(Math.max(first, 1), end + 1).map((step) => {
+        const { kind, done, note } = run.steps[step - 1];
+        const centre = { x: x(ofStep[step - 1]), y: row(step) };
+        const said = done ? (kind === "fire" || kind === "halt" || kind === "seal" ? kind : "") : `${kind}: refused`;
+        const dot = shape("circle", { cx: centre.x, cy: centre.y, r: 5 });
+        const label = word(said, centre.x + 12, centre.y, 13, "said");
+        const title = shape("title", {}, `${step}. ${eventWords(step)}${note ? ` ${note}` : ""}`);
+        return shape("g", { class: `dot${done ? "" : " refused"}${later(step)}`, "data-step": step }, title, dot, label);
+    });
+    const width = SPACE.column * columns.length;
+    const bar = shape("line", { x1: 0, y1: row(at), x2: width, y2: row(at), class: "now" });
+    diagram.replaceChildren(...bands, ...lines, bar, ...arrows, ...dots, ...heads);
+    diagram.setAttribute("viewBox", `0 0 ${width} ${bottom + 6}`);
 }
 
 // --- The tables: the same in words
@@ -346,12 +661,16 @@ const COLUMNS = {
         ["owed", some("owed")],
         ["acknowledged", number("acknowledged")],
         ["settled", number("settled")],
+        ["unseen", (facts) => (facts.acknowledged - facts.settled || "").toLocaleString("en")],
         ["seen empty", flag("clear"), "clear"],
         ["sealed", flag("sealed")],
         ["claim refused", flag("refused"), "refused"],
     ],
 };
-const vertexName = (vertex) => (vertex === run.sink ? `${run.names[vertex]} (sink)` : run.names[vertex]);
+const vertexName = (vertex) => {
+    const name = run.names[vertex];
+    return vertex === run.sink && name !== "sink" ? `${name} (sink)` : name;
+};
 const edgeName = (edge) => {
     const [tail, head, mult] = run.edges[edge];
     const ends = `${tail === null ? "root" : vertexName(tail)} to ${vertexName(head)}`;
@@ -373,123 +692,173 @@ function makeTable(kind, indices) {
         cellsDrawn[kind].set(index, cells);
         return element("tr", { id: `${kind}-${index}` }, ...heads, ...cells);
     });
-    document.getElementById(kind).append(element("thead", {}, head), element("tbody", {}, ...rows));
+    byId(kind).append(element("thead", {}, head), element("tbody", {}, ...rows));
 }
 
 function showRow(kind, index) {
-    const facts = state[kind][index];
+    const facts = game.state[kind][index];
+    const changes = game.changed.get(`${kind} ${index}`);
     cellsDrawn[kind].get(index)?.forEach((cell, column) => {
         const [title, textOf, fact = title] = COLUMNS[kind][column];
-        const was = changed.get(`${kind} ${index}`)?.get(fact);
+        const was = changes?.has(fact) ? textOf({ ...facts, [fact]: changes.get(fact) }) : undefined;
         cell.className = was === undefined ? "" : "changed";
         cell.replaceChildren(textOf(facts));
-        if (was !== undefined) cell.append(element("small", {}, `was ${textOf({ ...facts, [fact]: was }) || "–"}`));
+        if (was !== undefined) cell.append(element("small", {}, `was ${was || "–"}`));
     });
+}
+
+// --- Predicting: the reply is asked for before it is shown
+
+let isPredicting = false;
+let asked = null;
+let verdict = "";
+const answered = new Map();
+
+// The event that comes next, where there is something to predict of it.
+function nextQuestion() {
+    const step = stops[stopOf(at) + 1];
+    return isPredicting && step === at + 1 && run.steps[at].ask !== undefined ? step : null;
+}
+
+function answer(says) {
+    if (asked === null) return;
+    const { yes } = run.steps[asked - 1];
+    if (!answered.has(asked)) answered.set(asked, says === yes);
+    verdict = says === yes ? "Right. " : `No, it is ${yes ? "yes" : "no"}. `;
+    const step = asked;
+    asked = null;
+    goTo(step);
+}
+
+function showQuestion() {
+    byId("answers").hidden = asked === null;
+    byId("score").hidden = !isPredicting;
+    const right = [...answered.values()].filter(Boolean).length;
+    byId("score").textContent = `${right} of ${answered.size} predicted right`;
 }
 
 // --- Showing one state
 
-function hasChanged(kind, index) {
-    return changed.has(`${kind} ${index}`);
+// Goes to the state after so many events.
+function goTo(step) {
+    at = Math.max(0, Math.min(step, last));
+    game.goTo(at);
+    beside?.goTo(at);
+    show();
+    verdict = "";
 }
 
-// What the event that led here changed: for each part of the game the facts, with their values before.
-function changesAt(step) {
-    const found = new Map();
-    if (step === 0) return found;
-    run.steps[step - 1].changes.forEach(([kind, index, name], i) => {
-        const key = `${kind} ${index}`;
-        if (!found.has(key)) found.set(key, new Map());
-        if (!found.get(key).has(name)) found.get(key).set(name, before[step - 1][i]);
-    });
-    return found;
-}
-
-// Shows what is stale, and what was or is marked as changed.
 function show() {
-    const marked = [...changed.keys()];
-    changed = changesAt(at);
-    for (const part of new Set([...stale, ...marked, ...changed.keys()])) {
-        const [kind, index] = part.split(" ");
-        showPart(kind, Number(index));
-    }
-    stale = new Set();
-    showWords();
+    const from = stopBefore(at);
+    const parts = drawings.map((it) => it.show(from))[0];
+    for (const [kind, index] of parts) showRow(kind, index);
+    showWords(from);
+    fit();
+    showDiagram();
+    showQuestion();
     showControls();
 }
 
-function showPart(kind, index) {
-    if (kind === "root") showRoot();
-    else if (kind === "vertices") showVertex(index);
-    else if (edgeDrawn.has(index)) showEdge(index);
-    else return;
-    showRow(kind, index);
+// What is drawn ends with the screen, also where the words above it are long.
+function fit() {
+    const top = byId(byId("picture").dataset.view === "diagram" ? "diagram" : "drawing").getBoundingClientRect().top;
+    const room = window.innerHeight - top - window.scrollY - 8;
+    document.documentElement.style.setProperty("--room", `${Math.round(room)}px`);
 }
 
-function showWords() {
+function showWords(from) {
     const step = run.steps[at - 1];
-    document.getElementById("event").textContent = step ? `${at}. ${run.words[step.event]}` : "Before the first event.";
-    document.getElementById("reply").textContent = step ? run.words[step.reply] : run.opening;
-    const words = step ? step.changes.map((change) => element("li", {}, run.words[change[4]])) : [];
-    document.getElementById("changes").replaceChildren(...(words.length ? words : [element("li", {}, "nothing")]));
+    byId("event").textContent = step ? `${at}. ${eventWords(at)}` : "Before the first event.";
+    byId("reply").textContent = step ? verdict + run.words[step.reply] : run.opening;
+    if (asked !== null) {
+        byId("event").textContent = `${asked}. ${run.words[run.steps[asked - 1].ask]}`;
+        byId("reply").textContent = "";
+    }
+    byId("note").textContent = (asked === null && step?.note) || "";
+    showEnd();
+    if (beside) showBeside();
+    const words = run.steps.slice(from, at).flatMap(({ changes }) => changes.map((change) => run.words[change[4]]));
+    byId("changes").replaceChildren(...(words.length ? words : ["nothing"]).map((text) => element("li", {}, text)));
+}
+
+// The last word, in large letters: red where the root is closed and something is left.
+function showEnd() {
+    const isEnd = at === last && asked === null;
+    byId("end").hidden = !isEnd;
+    byId("end").className = run.end.isWrong ? "wrong" : "";
+    byId("end").textContent = isEnd ? run.end.text : "";
+}
+
+// What the right detector answers to the same event, and whether another than the wrong one has answered so far.
+function showBeside() {
+    const step = at > 0 && asked === null ? run.beside.steps[at - 1] : null;
+    byId("reply-beside").textContent = step ? run.words[step.reply] : "";
+    const differs = run.steps.findIndex(({ reply }, index) => reply !== run.beside.steps[index].reply);
+    byId("reply-beside").className = step && differs === at - 1 ? "differs" : "";
 }
 
 function showControls() {
-    const last = run.steps.length;
-    const slider = document.getElementById("slider");
+    const slider = byId("slider");
     slider.value = at;
     slider.setAttribute("aria-valuetext", `event ${at} of ${last}`);
-    document.getElementById("counter").textContent = `event ${at} of ${last}`;
-    for (const name of ["first", "back"]) document.getElementById(name).disabled = at === 0;
-    for (const name of ["forward", "last"]) document.getElementById(name).disabled = at === last;
-    document.getElementById("play").textContent = playing === null ? "Play" : "Pause";
+    byId("counter").textContent = `event ${at} of ${last}`;
+    for (const name of ["first", "back"]) byId(name).disabled = at === 0;
+    for (const name of ["forward", "last"]) byId(name).disabled = at === last;
+    byId("play").textContent = playing === null ? "Play" : "Pause";
+    byId("predict").setAttribute("aria-pressed", isPredicting);
+    byId("coarse").setAttribute("aria-pressed", isCoarse);
+    byId("view").setAttribute("aria-pressed", byId("picture").dataset.view === "diagram");
     selectEvent();
     history.replaceState(null, "", `#${at}`);
 }
 
 // --- The list of events: all rows are equally high, and only those that can be seen are there
 
-const list = document.getElementById("events");
-const rows = document.getElementById("rows");
+const list = byId("events");
+const rows = byId("rows");
 const rowHeight = () => {
     const style = getComputedStyle(rows);
     return parseFloat(style.getPropertyValue("--row")) * parseFloat(style.fontSize);
 };
+// (who predicts does not see what comes)
+const rowCount = () => (isPredicting ? stopOf(at) + 1 : stops.length);
 
-function eventRow(step) {
-    const counts = { "aria-setsize": run.steps.length + 1, "aria-posinset": step + 1 };
+function eventRow(row) {
+    const step = stops[row];
+    const counts = { "aria-setsize": rowCount(), "aria-posinset": row + 1 };
     const made = element("li", { role: "option", id: `event-${step}`, ...counts });
     if (step === 0) {
         made.append("The start");
     } else {
-        const { event, done } = run.steps[step - 1];
-        made.append(`${step}. ${run.words[event]}${done ? "" : " Not now."}`);
+        const { done, note } = run.steps[step - 1];
+        made.append(`${step}. ${eventWords(step)}${done ? "" : " Refused."}`);
+        if (note) made.append(element("small", {}, ` ${note}`));
         if (!done) made.className = "refused";
     }
-    if (step === at) made.setAttribute("aria-selected", "true");
+    if (row === stopOf(at)) made.setAttribute("aria-selected", "true");
     return made;
 }
 
 function showEvents() {
     const height = rowHeight();
-    const all = run.steps.length + 1;
+    const all = rowCount();
     const first = Math.max(0, Math.floor(list.scrollTop / height) - 2);
     const end = Math.min(all, first + Math.ceil(list.clientHeight / height) + 5);
     rows.style.paddingTop = `${first * height}px`;
     rows.style.paddingBottom = `${(all - end) * height}px`;
-    rows.replaceChildren(...Array.from({ length: end - first }, (_, i) => eventRow(first + i)));
+    rows.replaceChildren(...Array.from({ length: Math.max(0, end - first) }, (_, i) => eventRow(first + i)));
 }
 
 // Shows the rows round the event that the page is at.
 function selectEvent() {
     const height = rowHeight();
-    const top = at * height;
+    const top = stopOf(at) * height;
     // (the list has its full height before it is scrolled)
-    rows.style.paddingBottom = `${(run.steps.length + 1) * height}px`;
+    rows.style.paddingBottom = `${rowCount() * height}px`;
     const isSeen = top >= list.scrollTop && top + height <= list.scrollTop + list.clientHeight;
     if (!isSeen) list.scrollTop = top - list.clientHeight / 3;
     showEvents();
-    list.setAttribute("aria-activedescendant", `event-${at}`);
+    list.setAttribute("aria-activedescendant", `event-${stops[stopOf(at)]}`);
 }
 
 // --- Playing, keys and buttons
@@ -501,34 +870,89 @@ function pause() {
 }
 
 function play() {
-    if (at === run.steps.length) goTo(0);
+    if (at === last) goTo(0);
     playing = setInterval(() => {
-        goTo(at + 1);
-        if (at === run.steps.length) pause();
-    }, Number(document.getElementById("pace").value));
+        forward();
+        if (at === last || asked !== null) pause();
+    }, Number(byId("pace").value));
     showControls();
 }
 
 function leap(step) {
     if (playing !== null) pause();
+    asked = null;
     goTo(step);
 }
 
-const PAGE = 10;
+// One stop on; who predicts is asked first, and goes on without an answer if asked once more.
+function forward() {
+    const question = asked === null ? nextQuestion() : null;
+    asked = question;
+    if (question !== null) show();
+    else goTo(stops[Math.min(stopOf(at) + 1, stops.length - 1)]);
+}
+
+function stepOn() {
+    if (playing !== null) pause();
+    forward();
+}
+
+// The next state, or the one before, that an event led to which changed the tree or closed the root.
+function treeChange(way) {
+    const isOne = ({ changes }) => changes.some(([, , name]) => name === "parent" || name === "closed");
+    for (let step = at + way; step > 0 && step <= last; step += way) if (isOne(run.steps[step - 1])) return step;
+    return way > 0 ? last : 0;
+}
+
+function toggle(what) {
+    if (what === "predict") {
+        isPredicting = !isPredicting;
+        asked = null;
+    } else if (what === "coarse") {
+        isCoarse = !isCoarse;
+        makeStops();
+        at = stops[stopOf(at)];
+    } else {
+        const picture = byId("picture");
+        picture.dataset.view = picture.dataset.view === "diagram" ? "graph" : "diagram";
+    }
+    goTo(at);
+}
+
+function help() {
+    const keys = byId("keys");
+    if (keys.open) keys.close();
+    else keys.showModal();
+}
+
+const BACK = () => leap(asked === null ? stopBefore(at) : at);
 const KEYS = {
-    ArrowRight: () => leap(at + 1),
-    ArrowLeft: () => leap(at - 1),
-    PageDown: () => leap(at + PAGE),
-    PageUp: () => leap(at - PAGE),
+    ArrowRight: stepOn,
+    ArrowLeft: BACK,
+    PageDown: stepOn,
+    PageUp: BACK,
     Home: () => leap(0),
-    End: () => leap(run.steps.length),
+    End: () => leap(last),
     " ": () => (playing === null ? play() : pause()),
+    "]": () => leap(treeChange(1)),
+    "[": () => leap(treeChange(-1)),
+    p: () => toggle("predict"),
+    s: () => toggle("coarse"),
+    d: () => toggle("view"),
+    y: () => answer(true),
+    n: () => answer(false),
+    "?": help,
 };
 const LIST_KEYS = { ArrowDown: KEYS.ArrowRight, ArrowUp: KEYS.ArrowLeft };
+const BUTTONS = {
+    first: "Home", back: "ArrowLeft", forward: "ArrowRight", last: "End", play: " ", predict: "p", coarse: "s", view: "d",
+    "tree-back": "[", "tree-on": "]", help: "?", yes: "y", no: "n",
+};
 
 function onKey(press) {
-    if (press.altKey || press.ctrlKey || press.metaKey || press.target.closest("input, select")) return;
-    if (press.key === " " && press.target.closest("button")) return;
+    if (press.altKey || press.ctrlKey || press.metaKey || (byId("keys").open && press.key !== "?")) return;
+    // (the slider has its own keys, but for the space bar, which plays wherever the focus is)
+    if (press.key !== " " && press.target.closest("input, select, textarea")) return;
     const isInList = press.target.id === "events";
     const action = KEYS[press.key] ?? (isInList ? LIST_KEYS[press.key] : undefined);
     if (action) {
@@ -538,12 +962,15 @@ function onKey(press) {
 }
 
 function listen() {
-    const keys = { first: "Home", back: "ArrowLeft", forward: "ArrowRight", last: "End", play: " " };
-    for (const [name, key] of Object.entries(keys)) document.getElementById(name).addEventListener("click", KEYS[key]);
-    const slider = document.getElementById("slider");
-    slider.max = run.steps.length;
+    for (const [name, key] of Object.entries(BUTTONS)) byId(name).addEventListener("click", () => KEYS[key]());
+    // (a button that has the focus would be pressed by the space bar as it is let go)
+    document.addEventListener("keyup", (press) => {
+        if (press.key === " " && press.target.closest("main, header")) press.preventDefault();
+    });
+    const slider = byId("slider");
+    slider.max = last;
     slider.addEventListener("input", () => leap(Number(slider.value)));
-    document.getElementById("pace").addEventListener("change", () => {
+    byId("pace").addEventListener("change", () => {
         if (playing !== null) {
             clearInterval(playing);
             play();
@@ -551,15 +978,21 @@ function listen() {
     });
     list.addEventListener("scroll", showEvents);
     window.addEventListener("resize", showEvents);
+    window.addEventListener("resize", fit);
     list.addEventListener("click", (click) => {
         const row = click.target.closest("li");
         if (row) leap(Number(row.id.slice("event-".length)));
     });
+    byId("diagram").addEventListener("click", (click) => {
+        const dot = click.target.closest("[data-step]");
+        if (dot) leap(Number(dot.dataset.step));
+    });
+    for (const it of drawings) onDrag(it.drawing);
     document.addEventListener("keydown", onKey);
     window.addEventListener("hashchange", () => leap(Number(location.hash.slice(1)) || 0));
 }
 
-draw();
+makeStops();
 makeTable("root", [0]);
 makeTable("vertices", run.names.map((_, vertex) => vertex));
 makeTable("edges", shownEdges);

@@ -1,0 +1,77 @@
+"""A page for a wrong detector: the shortest schedule on which it closes too early, beside the right one."""
+
+from __future__ import annotations
+
+from collections.abc import Mapping
+from typing import Any
+
+from chipfire.detectors import known_detector
+from chipfire.layout import Point
+from chipfire.ledger import Ledger
+from chipfire.machine import Reply, Setting, Simulation
+from chipfire.model import Core
+from chipfire.pages import Words, asked, compared, filled, page_data
+from chipfire.program import AnyProgram
+from chipfire.schedules import EVENTS, explore, opened
+from chipfire.values import FileName, counted, write
+
+#: The two drawings, and what stands above each.
+_BESIDE = """<div id="two">
+<p>The wrong detector: {says}</p>
+<p>The right detector: <span id="reply-beside"></span></p>
+<svg id="drawing" role="img" aria-label="The graph after this event, with the wrong detector"></svg>
+<svg id="drawing-beside" role="img" aria-label="The graph after this event, with the right detector"></svg>
+</div>"""
+
+
+class _Ledger(Ledger):
+    """What stands where in a game of a model, whose root may close by a rule of its own."""
+
+    def __init__(self, setting: Setting, core: Core) -> None:
+        self.core = core
+        super().__init__(setting)
+
+    def is_closed(self) -> bool:
+        return self.core.is_closed()
+
+
+def wrong_page(
+    name: str, file: FileName, setting: Setting | None = None, *, title: str | None = None,
+    positions: Mapping[Any, Point] | None = None, program: AnyProgram = None,
+) -> None:
+    """Writes a page of the shortest schedule after which a wrong detector says too early that all is over.
+
+    name     one of `chipfire.detectors.DETECTORS`
+    setting  the game to search, if not the one that stands there
+    """
+    write(file, wrong_page_text(name, setting, title=title, positions=positions, program=program))
+
+
+def wrong_page_text(
+    name: str, setting: Setting | None = None, *, title: str | None = None,
+    positions: Mapping[Any, Point] | None = None, program: AnyProgram = None,
+) -> str:
+    """The text of the page that `wrong_page` writes."""
+    setting = setting or known_detector(name).game
+    found = explore(setting, name)
+    if found.schedule is None:
+        states = counted(found.states, "state")
+        raise ValueError(f"{name} closes the root too early in no schedule of this game, which has {states}")
+    if any(event.kind not in EVENTS for event in found.schedule):
+        raise ValueError(f"{name} has events of its own, which no page shows; chipfire.explore tells the schedule")
+    right = asked(setting, found.schedule, program)
+    words, core, ledger = Words(setting), opened(setting, name), Ledger(setting)
+    held, steps = _Ledger(setting, core), []
+    for event in found.schedule:
+        kind, *numbers = core.step(*event).split()
+        steps.append(words.step(held, event, Reply(kind, tuple(map(int, numbers)))))
+    beside = [words.step(ledger, *row) for row in compared(right, ledger)]
+    ledger.close(right.report)
+    left = " and ".join(it.replace(" can ", " can still ") for it in found.left)
+    data = page_data(right, positions)
+    data |= {"steps": steps, "beside": {"steps": beside}, "words": list(words.numbers)}
+    data["end"] = {"text": f"The root is closed; {left}.", "isWrong": True}
+    known = known_detector(name)
+    parts = {"says": known.says, "kind": known.make.__name__, "states": counted(found.states, "state")}
+    drawings = _BESIDE.format(says=known.says)
+    return filled(title or f"A wrong detector: {name}", data, "run-wrong.html", parts, drawings)

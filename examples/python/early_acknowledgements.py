@@ -37,7 +37,7 @@ def main():
     chipfire.write_schedule(f"{folder}/schedule.csv", events)
     simulation = chipfire.simulate(chain, {0: 1}, events)
     for event, reply in zip(events, simulation.replies):
-        why = "" if reply.is_done else f"   because it is not so that {reply.rule}"
+        why = "" if reply.is_done else f"   because {reply.why}"
         print(f"{event.kind},{event.at},{event.count}: {reply}{why}")
     print("the root is", "closed" if simulation.root_closed else "open")
 

@@ -6,12 +6,14 @@
     report = chipfire.plain(grid, {190: 1000})
     print(report.chips, report.fired)
 
-`page` writes a page on which a run of the distributed machine is watched in a browser, event by event.
+`page` writes a page on which a run of the distributed machine is watched in a browser, event by event, and `wrong_page`
+one on which a wrong detector fails.
 
 The package stands on the standard library alone. `pip install ./python` installs it, and a copy of its folder works
-too. The answers are the program's, whose contracts are proved; nothing of the package is. The program is found in this
-order: the `program` that a call or a `Program` names, the environment variable CHIPFIRE, the program that an installed
-package carries, `target/chipfire` of the repository that the package lies in or was installed from, the program in the
+too. The answers are the program's, whose contracts are proved; nothing of the package is. What `explore`, `judge` and
+`random_schedule` say is computed in Python, on the small model of `chipfire.model`. The program is found in this order:
+the `program` that a call or a `Program` names, the environment variable CHIPFIRE, the program that an installed package
+carries, `target/chipfire` of the repository that the package lies in or was installed from, the program in the
 `release` there, where `./chipfire` would take it, and `chipfire` on the PATH.
 
 Who comes from sandpiles finds the usual words under these names:

@@ -17,7 +17,10 @@ COMMANDS = ("check", "plain", "run", "simulate", "replay", "resume", "explain", 
 
 #: What somebody writes who has his own code checked.
 USE = """
+from typing import Optional
+
 import chipfire
+import chipfire.model
 
 grid = chipfire.grid(3, 3)
 chips: dict[int, int] = {4: 9}
@@ -25,6 +28,12 @@ report = chipfire.plain(grid, chips, limit=3, large=True)
 left: tuple[int, ...] = report.chips
 sum_: chipfire.Configuration = report.configuration + grid.max_stable() - 2 * chipfire.identity(grid)
 print(sum_[0] + 1, chipfire.Program().resume(grid, report).total, chipfire.machine.Schedule().take(4).fire(0, 2))
+setting = chipfire.Setting(grid, (4,) * grid.vertices)
+found: Optional[chipfire.Schedule] = chipfire.explore(setting, "at-once", most=10_000).schedule
+class Own(chipfire.model.Core):
+    def is_closed(self) -> bool:
+        return super().is_closed()
+print(chipfire.random_schedule(setting, 1, Own).note("last"), chipfire.judge(setting, []).is_true, found)
 print(chipfire.Schedule().take(4), chipfire.MAX_CHIPS, chipfire.find_program(), chipfire.CHIPS_HEADER, chipfire.RULES)
 """
 

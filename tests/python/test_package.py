@@ -319,6 +319,14 @@ class Detector(WithFolder):
         self.assertEqual((took.kind, took.numbers, took.is_done, took.rule), ("got", (0, 4), True, None))
         self.assertEqual((str(early), early.is_done), ("not-now 15", False))
         self.assertEqual(early.rule, "something may be acknowledged on it now")
+        self.assertEqual((took.name, took.why, early.name), (None, None, "Engaged"))
+        self.assertEqual(early.why, "the message that engaged the vertex may not be acknowledged yet")
+
+    def test_the_names_of_rules_are_those_of_the_program(self):
+        told = subprocess.run([os.environ["CHIPFIRE"], "explain", "rule"], capture_output=True, encoding="utf-8").stdout
+        named = {int(number): (name, why) for number, name, why in re.findall(r"(?m)^rule (\d+) (\w+): (.*)$", told)}
+        self.assertEqual(chipfire.machine.UNMET, named)
+        self.assertEqual(chipfire.machine.UNMET.keys(), chipfire.RULES.keys())
 
     def test_the_books_of_the_small_run(self):
         game = [f"{EXAMPLES}/detector/{name}" for name in ("small-run.json", "two-chips.csv", "small-run.csv")]

@@ -30,6 +30,7 @@ DETECTOR = {
     "left-open": ("triangle/graph.json", "triangle/chips.csv", {}),
     "small-run": ("detector/small-run.json", "detector/two-chips.csv", {}),
     "fed-twice": ("triangle/graph.json", "triangle/no-chips.csv", {"fed": True, "rounds": 10}),
+    "engaged-twice": ("detector/engaged-twice.json", "detector/two-chips.csv", {}),
 }
 
 

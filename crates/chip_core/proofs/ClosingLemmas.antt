@@ -1,11 +1,11 @@
 -- Serves Core.antt.
 -- Where the root is closed nothing changes any more, everything is delivered, and chips and counts are those of every
 -- end.
-use Rattle.std.proofs.Common.{◌≡◌, ◌≢◌, ◌⊎◌, ℕ, ◌+◌, ◌-◌, ◌<◌, ◌≤◌, Bool, true, false, cond, eqb, List, [], ◌∷◌, length, sum}
-use Rattle.std.proofs.Common.{get_or, option_to_list, Option, Some, None, refl, sym, ap, ◌∙◌, subst, arith, inl, inr}
+use Rattle.std.proofs.Common.{◌≡◌, ◌≢◌, ◌⊎◌, ℕ, ◌+◌, ◌-◌, ◌<◌, Bool, true, cond, eqb, List, [], ◌∷◌, length, sum}
+use Rattle.std.proofs.Common.{Option, Some, None, refl, sym, ap, ◌∙◌, subst, arith, inl, inr}
 use Rattle.std.proofs.Common.{⊎_elim, ne_eqb, le-leb, true≢false}
 use Rattle.std.proofs.lemmas.Bool.{and_from, not_from_false}
-use Rattle.std.proofs.lemmas.List.{get_or_past, drop_all}
+use Rattle.std.proofs.lemmas.List.{drop_all}
 use mathlib.Core.Logic.{dite}
 use native.Mathlib.Decide.{ℕ_discrete, dec_lt}
 use Rattle.chip_graph.specs.Sums.{filter_below}
@@ -27,10 +27,10 @@ use Rattle.chip_part.specs.Part.{is_legal}
 use Rattle.chip_part.specs.Steps.{saw}
 use Rattle.chip_part.specs.Kept.{IsNeutral}
 use Rattle.chip_part.proofs.RuleLemmas.{rules_met}
-use Rattle.chip_part.proofs.PartLemmas.{at_edge, idle_take, passive_parts, no_fire, no_pending, no_halt}
+use Rattle.chip_part.proofs.PartLemmas.{at_edge, passive_parts}
 use Rattle.chip_part.proofs.PartLemmas.{out_zero, none_halt}
 use Rattle.chip_part.proofs.EdgeLemmas.{tail_root}
-use Rattle.chip_core.specs.Core.{Log, Step, Event, Take, Ack, Fire, Clear, Claim, Put, Halt, Settle, Seal, Read, Feed}
+use Rattle.chip_core.specs.Core.{Log, Step, Event, Take, Ack, Settle, Seal, Read}
 use Rattle.chip_core.specs.Core.{End, Rule, Part, unmet_rule, part_of, does, part_in, out_in, into_in, sees}
 use Rattle.chip_core.specs.Core.{is_by_limit}
 use Rattle.chip_core.specs.Core.{IsLegalLog, answer, step, log_after, IsClosed, outstanding, tail_of, head_of, root}
@@ -41,6 +41,7 @@ use Rattle.chip_core.specs.Headline.{NoneHalted, NoneHaltedBySeal}
 use Rattle.chip_core.specs.Laws.{NothingInFlight}
 use Rattle.chip_core.proofs.LogLemmas.{part_here, part_else, part_kept, tail_inside, tail_cases}
 use Rattle.chip_core.proofs.OrderLemmas.{all_neutral, all_counts}
+use Rattle.chip_core.proofs.RestLemmas.{AtRest, rested}
 use Rattle.chip_core.proofs.PositionLemmas.{counts_are, leads_to, is_sequence, is_within}
 use Rattle.chip_core.proofs.ReachingLemmas.{step_legal}
 
@@ -56,10 +57,12 @@ module _ (g : Setting) (game : IsGame g.game) (some_ring : 0 < g.ring) where
 
     -- ---- no later event changes a part, but the stopper's
 
-    -- the root feeds no more
-    not_open : (e : ℕ) → graph_edges g ≤ e → (part_in g log (tail_of g e)).ended ≡ false → ⊥
-    not_open e past going =
-        true≢false (sym closed.0 ∙ ap (λ (p : ℕ). (part_in g log p).ended) (sym (tail_root g e past)) ∙ going)
+    at_rest : AtRest g log
+    at_rest = record {
+      passive = λ v l. (resting v l).passive;
+      taken = λ e l. (let c = all_counts g game some_ring log legal closed.1 e l in let c2 = c.2 in let c3 = c.3 in omega arith);
+      end = closed.0;
+    }
 
     -- a settle of nothing new leaves the part
     settled_still : (s : Part) (e seen : ℕ) → (s.out e).settled + (seen - (s.out e).settled) ≡ (s.out e).settled
@@ -79,42 +82,11 @@ module _ (g : Setting) (game : IsGame g.game) (some_ring : 0 < g.ring) where
     still_step : (ev : Event) (seen : ℕ) → IsLegalLog g (saw ev seen ∷ log)
         → part_of g ev ≢ stopper g → does g (saw ev seen) (part_in g log (part_of g ev))
         ≡ part_in g log (part_of g ev)
-    still_step (Take e) seen next ne =
-        let l = rules_met g (Take e) (part_in g log (head_of g e)) next.1.0 in
-        let c = all_counts g game some_ring log legal closed.1 e l in
-        let is : seen ≡ get_or (out_in g log e).link.put (length (into_in g log e).got) 0 = next.1.1 in
-        let c2 = c.2 in
-        idle_take g e seen (part_in g log (head_of g e)) (is
-        ∙ get_or_past (out_in g log e).link.put (length (into_in g log e).got) 0 (omega arith))
+    still_step (Take e) seen next ne = rested g game some_ring log legal at_rest (Take e) seen next
     still_step (Ack e) seen next ne =
         let may = rules_met g (Ack e) (part_in g log (head_of g e)) next.1.0 in
         let c = all_counts g game some_ring log legal closed.1 e may.0 in
         let c1 = c.1 in let some = may.1 in absurd (omega arith)
-    still_step (Fire v k) seen next ne =
-        let may = rules_met g (Fire v k) (part_in g log v) next.1.0 in
-        absurd (no_fire g v (part_in g log v) (part_kept g game log legal v).outs (resting v may.0) v k refl may)
-    still_step (Clear e) seen next ne = absurd (⊎_elim
-        (λ v. let l = v.0 in
-        no_pending g (tail_of g e) (part_in g log (tail_of g e)) (part_kept g game log legal (tail_of g e)).outs
-        (resting (tail_of g e) (tail_inside g game e v.0)) e refl (omega arith) v.1 v.3)
-        (λ r. not_open e r.0 r.2)
-        (rules_met g (Clear e) (part_in g log (tail_of g e)) next.1.0))
-    still_step (Feed e k) seen next ne = let may = rules_met g (Feed e k) (part_in g log (tail_of g e)) next.1.0 in
-        absurd (not_open e may.0 may.2)
-    still_step (Claim e) seen next ne =
-        let may = rules_met g (Claim e) (part_in g log (tail_of g e)) next.1.0 in let l = may.0 in
-        let outs = (part_kept g game log legal (tail_of g e)).outs in
-        absurd (no_pending g (tail_of g e) (part_in g log (tail_of g e)) outs
-        (resting (tail_of g e) (tail_inside g game e may.0)) e refl (omega arith) may.1
-        ((outs e refl).clear_pends may.0 may.2))
-    still_step (Put e) seen next ne =
-        let may = rules_met g (Put e) (part_in g log (tail_of g e)) next.1.0 in
-        let none = (all_counts g game some_ring log legal closed.1 e may.0).3 in
-        let some = ap (λ (h : Option ℕ). length (option_to_list h)) may.1.1 in
-        absurd (omega arith)
-    still_step (Halt v) seen next ne =
-        let may = rules_met g (Halt v) (part_in g log v) next.1.0 in
-        absurd (no_halt g v (part_in g log v) (part_kept g game log legal v).outs (resting v may.0) v refl may)
     still_step (Settle e) seen next ne =
         let s : Part = part_in g log (tail_of g e) in
         let l = rules_met g (Settle e) s next.1.0 in
@@ -135,6 +107,7 @@ module _ (g : Setting) (game : IsGame g.game) (some_ring : 0 < g.ring) where
         settled_still s e seen (omega arith) true (sym closed.0)
     still_step (Seal e) seen next ne = absurd (ne refl)
     still_step (Read v) seen next ne = refl
+    still_step ev seen next ne = absurd (rested g game some_ring log legal at_rest ev seen next)
 
     pub still : (x : Step) → IsLegalLog g (x ∷ log) → (p : ℕ) → p ≢ stopper g → part_in g (x ∷ log) p ≡ part_in g log p
     still x next p ne = dite (ℕ_discrete (part_of g x.event) p)

@@ -150,7 +150,7 @@ module _ (g : Setting) where
     first_or_later P e es here later i (suc k, l, is) = later i (k, omega arith, is)
 
     -- an operation of each of these edges was made
-    each_made : (x : ℕ → Event) (es : List ℕ) (s : Part) (ds : List Step) (t : Part)
+    pub each_made : (x : ℕ → Event) (es : List ℕ) (s : Part) (ds : List Step) (t : Part)
         → each_phase (λ e. one_step g v (x e)) es s ds t → (e : ℕ) → Contains es e
         → (seen : ℕ) × Contains ds (saw (x e) seen)
     each_made x [] s ds t ph e at = let a = at.1 in absurd (omega arith)

@@ -24,3 +24,7 @@ pub mod RoundLemmas
 pub mod ScheduleLemmas
 pub mod StirringLemmas
 pub mod WorkedBackwards
+pub mod TurnEndLemmas
+pub mod RestLemmas
+pub mod SoonLemmas
+pub mod WorkedRest

@@ -1,8 +1,8 @@
 -- Serves Core.antt.
 -- The parts and the edges in a legal log: what every one of them keeps, whatever was done.
-use Rattle.std.proofs.Common.{◌≡◌, ◌≢◌, ◌⊎◌, ℕ, ◌+◌, ◌-◌, ◌<◌, ◌≤◌, false, cond, eqb, List, [], ◌∷◌, length, Option}
-use Rattle.std.proofs.Common.{Some, None, option_to_list, refl, sym, ap, ◌∙◌, subst, arith, inl, inr, ⊎_elim, lt-ltb}
-use Rattle.std.proofs.Common.{le-ltb, pos_of_ne-zero}
+use Rattle.std.proofs.Common.{◌≡◌, ◌≢◌, ◌⊎◌, ℕ, ◌+◌, ◌-◌, ◌<◌, ◌≤◌, Bool, true, false, cond, eqb, List, [], ◌∷◌, ◌++◌}
+use Rattle.std.proofs.Common.{length, append_assoc, Option, Some, None, option_to_list, refl, sym, ap, ◌∙◌, subst}
+use Rattle.std.proofs.Common.{arith, inl, inr, ⊎_elim, lt-ltb, le-ltb, pos_of_ne-zero}
 use mathlib.Core.Logic.{dite}
 use native.Mathlib.Decide.{ℕ_discrete, dec_lt}
 use Rattle.chip_graph.specs.ChipGame.{IsGame}
@@ -24,7 +24,16 @@ use Rattle.chip_core.specs.Core.{Log, Step, Event, Take, Ack, Clear, Claim, Put,
 use Rattle.chip_core.specs.Core.{End, Part, Out, Into, part_of, does, part_in, out_in, into_in, stop_in, sees}
 use Rattle.chip_core.specs.Core.{IsLegalLog, tail_of, head_of, root, root_edge, stopper, all_edges, graph_edges}
 
+pub in_pieces : (front round back xs before : Log) → xs ≡ back ++ (round ++ front)
+    → xs ++ before ≡ back ++ (round ++ (front ++ before))
+in_pieces front round back xs before is = ap (λ (l : Log). l ++ before) is ∙ append_assoc back (round ++ front) before
+    ∙ ap (λ (l : Log). back ++ l) (append_assoc round front before)
+
 module _ (g : Setting) where
+  pub legal_before : (xs log : Log) → IsLegalLog g (xs ++ log) → IsLegalLog g log
+  legal_before [] log legal = legal
+  legal_before (x ∷ xs) log legal = legal_before xs log legal.0
+
   -- ---- the part that acts, and the others
 
   pub part_here : (x : Step) (log : Log) (p : ℕ) → part_of g x.event ≡ p
@@ -99,6 +108,28 @@ module _ (g : Setting) where
   pub stop_step : (x : Step) (log : Log) (e : ℕ) → stop_in g (x ∷ log) e ≡ stop_after x.event x.seen e (stop_in g log e)
   stop_step x log e = field_step (λ (s : Part). s.stop e) (λ (s : Part). stop_after x.event x.seen e (s.stop e)) x log
       (stopper g) (λ s. refl) (stop_idle x.event x.seen e (stop_in g log e))
+
+  -- the end is noted for good
+  pub end_stays : (x : Step) (log : Log) → (part_in g log (root g)).ended ≡ true
+      → (part_in g (x ∷ log) (root g)).ended ≡ true
+  end_stays x log end = dite (ℕ_discrete (part_of g x.event) (root g))
+      (λ same. ap (λ (s : Part). s.ended) (part_here x log (root g) same)
+      ∙ part_lemmas.stays_ended g x.event (part_in g log (root g)).ended end)
+      (λ other. ap (λ (s : Part). s.ended) (part_else x log (root g) other) ∙ end)
+
+  -- what is acknowledged and settled is never taken back
+  no_less : (b : Bool) (n k : ℕ) → n ≤ cond b (n + k) n
+  no_less true n k = omega arith
+  no_less false n k = omega arith
+
+  pub acked_grows : (x : Event) (s : Part) (e : ℕ) (i : Into) → i.acked ≤ acked_after g x s e i
+  acked_grows (Ack j) s e i = no_less (eqb j e) i.acked (may_ack g (head_of g j) s j)
+  acked_grows _ s e i = omega arith
+
+  pub settled_grows : (x : Event) (seen e : ℕ) (o : Out) → o.settled ≤ settled_after g x seen e o
+  settled_grows (Settle j) seen e o = no_less (eqb j e) o.settled (seen - o.settled)
+  settled_grows End seen e o = no_less (eqb (root_edge g 0) e) o.settled (seen - o.settled)
+  settled_grows _ seen e o = omega arith
 
   -- ---- whose an edge is
 

@@ -75,11 +75,11 @@ without_contains u h (v ∷ vs) ne m = dite (ℕ_discrete v h)
 
 -- ---- parents
 
-cases_parent : (o : Option ℕ) → (o ≡ None) ⊎ ((q : ℕ) × (o ≡ Some q))
+pub cases_parent : (o : Option ℕ) → (o ≡ None) ⊎ ((q : ℕ) × (o ≡ Some q))
 cases_parent None = inl refl
 cases_parent (Some q) = inr (q, refl)
 
-none_some : (q : ℕ) (o : Option ℕ) → o ≡ None → o ≡ Some q → ⊥
+pub none_some : (q : ℕ) (o : Option ℕ) → o ≡ None → o ≡ Some q → ⊥
 none_some q o a b = absurd (cc)
 
 module _ (g : Setting) (game : IsGame g.game) (some_ring : 0 < g.ring) where

@@ -46,6 +46,24 @@ module _ (g : Setting) where
     pub sent : (e : ℕ) → e < graph_edges g → (part_in g log (tail_of g e)).halt ≡ None
         → claims_of (out_in g log e).link ≢ length (into_in g log e).got + g.ring → (out_in g log e).pending ≡ 0
 
+  module _ (log : Log) where
+    -- the parent edge of a member of a tree comes from an earlier one, or from the root
+    first_parent : (v : ℕ) (vs : List ℕ) → IsTree g log (v ∷ vs) → (h q : ℕ) → h ≡ v → (part_in g log h).parent ≡ Some q
+        → (tail_of g q ≡ root g) ⊎ Contains vs (tail_of g q)
+    first_parent v vs tree h q here is =
+        let p = tree.2.1 in
+        let mine : (part_in g log h).parent ≡ Some tree.2.0 = ap (λ (u : ℕ). (part_in g log u).parent) here ∙ p.parent in
+        let same : tree.2.0 ≡ q = cc in
+        subst (λ (i : ℕ). (tail_of g i ≡ root g) ⊎ Contains vs (tail_of g i)) same p.from_earlier
+
+    pub parent_below : (v : ℕ) (vs : List ℕ) → IsTree g log (v ∷ vs) → (h q : ℕ) → Contains (v ∷ vs) h
+        → (part_in g log h).parent ≡ Some q → (tail_of g q ≡ root g) ⊎ Contains vs (tail_of g q)
+    parent_below v [] tree h q m is = ⊎_elim (λ here. first_parent v [] tree h q here is)
+        (λ later. absurd (contains_nothing h later)) (contains_cases v [] h m)
+    parent_below v (u ∷ us) tree h q m is = ⊎_elim (λ here. first_parent v (u ∷ us) tree h q here is)
+        (λ later. ⊎_elim (λ r. inl r) (λ c. inr (contains_later u us (tail_of g q) c))
+        (parent_below u us tree.0 h q later is)) (contains_cases v (u ∷ us) h m)
+
   module _ (game : IsGame g.game) (some_ring : 0 < g.ring) (log : Log) (legal : IsLegalLog g log) (quiet : Quiet log) where
     -- what is outstanding on an edge, its head owes
     owes_it : (e : ℕ) → e < all_edges g → outstanding (out_in g log e) ≤ owed (into_in g log e)
@@ -57,23 +75,6 @@ module _ (g : Setting) where
     by_tail : {A : Type 0} (field : Out → A) (e v : ℕ) → tail_of g e ≡ v
         → field ((part_in g log v).out e) ≡ field (out_in g log e)
     by_tail field e v at = ap (λ (p : ℕ). field ((part_in g log p).out e)) (sym at)
-
-    -- the parent edge of a member of a tree comes from an earlier one, or from the root
-    first_parent : (v : ℕ) (vs : List ℕ) → IsTree g log (v ∷ vs) → (h q : ℕ) → h ≡ v → (part_in g log h).parent ≡ Some q
-        → (tail_of g q ≡ root g) ⊎ Contains vs (tail_of g q)
-    first_parent v vs tree h q here is =
-        let p = tree.2.1 in
-        let mine : (part_in g log h).parent ≡ Some tree.2.0 = ap (λ (u : ℕ). (part_in g log u).parent) here ∙ p.parent in
-        let same : tree.2.0 ≡ q = cc in
-        subst (λ (i : ℕ). (tail_of g i ≡ root g) ⊎ Contains vs (tail_of g i)) same p.from_earlier
-
-    parent_below : (v : ℕ) (vs : List ℕ) → IsTree g log (v ∷ vs) → (h q : ℕ) → Contains (v ∷ vs) h
-        → (part_in g log h).parent ≡ Some q → (tail_of g q ≡ root g) ⊎ Contains vs (tail_of g q)
-    parent_below v [] tree h q m is = ⊎_elim (λ here. first_parent v [] tree h q here is)
-        (λ later. absurd (contains_nothing h later)) (contains_cases v [] h m)
-    parent_below v (u ∷ us) tree h q m is = ⊎_elim (λ here. first_parent v (u ∷ us) tree h q here is)
-        (λ later. ⊎_elim (λ r. inl r) (λ c. inr (contains_later u us (tail_of g q) c))
-        (parent_below u us tree.0 h q later is)) (contains_cases v (u ∷ us) h m)
 
     -- the latest vertex of a detection order: what it sent is acknowledged and settled, so it would be done
     module _ (v : ℕ) (vs : List ℕ) (order : IsDetectionOrder g log (v ∷ vs)) where
@@ -87,7 +88,7 @@ module _ (g : Setting) where
       no_child : (i : ℕ) → i < all_edges g → tail_of g i ≡ v → (part_in g log (head_of g i)).parent ≡ Some i → ⊥
       no_child i l at is = ⊎_elim
           (λ m. ⊎_elim (λ r. absurd (let a = inside in omega arith)) (λ c. order.tree.1 (subst (Contains vs) at c))
-          (parent_below v vs order.tree (head_of g i) i m is))
+          (parent_below log v vs order.tree (head_of g i) i m is))
           (λ out. some_none i (part_in g log (head_of g i)).parent is
           (order.others (head_of g i) (head_inside g game i l) out).no_parent)
           (contained (v ∷ vs) (head_of g i))

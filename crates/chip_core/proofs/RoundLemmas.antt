@@ -2,7 +2,7 @@
 -- Where every vertex made a whole turn and the root settled all its edges, and nothing counted, the root is closed.
 use Rattle.std.proofs.Common.{◌≡◌, ℕ, ◌+◌, ◌<◌, ◌≤◌, false, cond, List, [], ◌∷◌, ◌++◌}
 use Rattle.std.proofs.Common.{length, None, is_some, Contains, refl, sym, ap, ◌∙◌, subst, arith, ⊎_elim}
-use Rattle.std.proofs.Common.{eq-eqb, lt-ltb, true≢false, append_assoc}
+use Rattle.std.proofs.Common.{eq-eqb, lt-ltb, true≢false}
 use Rattle.std.proofs.lemmas.Bool.{and_from}
 use Rattle.std.proofs.lemmas.List.Elements.{Contains-append_left, Contains-append_right, Contains-push_cases}
 use mathlib.Core.Logic.{dite}
@@ -23,7 +23,7 @@ use Rattle.chip_core.specs.Histories.{done_by, part_by}
 use Rattle.chip_core.specs.Work.{counts_as_work, work_in}
 use Rattle.chip_core.specs.Words.{acting_part}
 use Rattle.chip_core.specs.Closing.{HasEnd, RootHasPut, HasTurn, HasRound, IdleRoundsClose}
-use Rattle.chip_core.proofs.LogLemmas.{part_here, part_else, edge_counts, head_inside, tail_inside}
+use Rattle.chip_core.proofs.LogLemmas.{part_here, part_else, edge_counts, head_inside, tail_inside, in_pieces}
 use Rattle.chip_core.proofs.OrderLemmas.{contains_cases}
 use Rattle.chip_core.proofs.IdleLemmas.{bare, Alike, counts_here, idle_alike, one_more, work_grows, idle_stretch}
 use Rattle.chip_core.proofs.QuietLemmas.{Quiet, quiet_closes}
@@ -33,7 +33,7 @@ use Rattle.chip_core.proofs.IdleTurnLemmas.{part-append, work-append, makes_turn
 module _ (g : Setting) where
   -- ---- the steps of one vertex
 
-  part_own : (v : ℕ) (mid base : Log) → part_in g (mid ++ base) v ≡ part_by g (part_in g base v) (done_by g v mid)
+  pub part_own : (v : ℕ) (mid base : Log) → part_in g (mid ++ base) v ≡ part_by g (part_in g base v) (done_by g v mid)
   part_own v [] base = refl
   part_own v (x ∷ mid) base = dite (ℕ_discrete (part_of g x.event) v)
       (λ same. part_here g x (mid ++ base) v same ∙ ap (does g x) (part_own v mid base)
@@ -64,7 +64,7 @@ module _ (g : Setting) where
       let c = work_own v mid base in
       omega arith)
 
-  own_in : (v : ℕ) (mid : Log) (x : Step) → Contains (done_by g v mid) x → Contains mid x
+  pub own_in : (v : ℕ) (mid : Log) (x : Step) → Contains (done_by g v mid) x → Contains mid x
   own_in v [] x has = let a = has.1 in absurd (omega arith)
   own_in v (y ∷ mid) x has = dite (ℕ_discrete (part_of g y.event) v)
       (λ same. ⊎_elim (λ m. Contains-append_right (y ∷ []) mid x (own_in v mid x m)) (λ is. (0, omega arith, is))
@@ -135,8 +135,7 @@ module _ (g : Setting) where
       ds = done_by g v its.middle
 
       all_is : after ≡ its.late ++ (its.middle ++ base)
-      all_is = ap (λ (l : Log). l ++ before) its.all_are ∙ append_assoc its.late (its.middle ++ its.early) before
-          ∙ ap (λ (l : Log). its.late ++ l) (append_assoc its.middle its.early before)
+      all_is = in_pieces its.early its.middle its.late xs before its.all_are
 
       idle : (work_of g s ds ≡ 0) × (work_in g (its.late ++ (its.middle ++ base)) ≡ work_in g (its.middle ++ base))
       idle =

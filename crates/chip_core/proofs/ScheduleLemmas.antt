@@ -2,7 +2,7 @@
 -- Schedules that ask for everything often enough close the root, and afterwards nothing counts.
 use Rattle.std.proofs.Common.{◌≡◌, ◌⊎◌, ℕ, zero, suc, ◌+◌, ◌<◌, ◌≤◌, List, [], ◌∷◌}
 use Rattle.std.proofs.Common.{◌++◌, length, None, refl, sym, ap, ◌∙◌, subst, arith, inl, inr, ⊎_elim, true≢false}
-use Rattle.std.proofs.Common.{append_assoc, append-nil}
+use Rattle.std.proofs.Common.{append-nil}
 use mathlib.Core.Logic.{dite}
 use native.Mathlib.Decide.{ℕ_discrete}
 use Rattle.chip_graph.specs.ChipGame.{IsGame}
@@ -14,17 +14,17 @@ use Rattle.chip_part.specs.Setting.{Setting}
 use Rattle.chip_part.specs.Kept.{Met}
 use Rattle.chip_part.specs.Steps.{saw, link_after}
 use Rattle.chip_part.proofs.EdgeLemmas.{tail_root}
-use Rattle.chip_part.proofs.PartLemmas.{at_edge, stays_ended}
+use Rattle.chip_part.proofs.PartLemmas.{at_edge}
 use Rattle.chip_part.proofs.RuleLemmas.{rules_met}
-use Rattle.chip_core.specs.Core.{Log, Step, Event, Part, Clear, Claim, Put, Feed, part_of, part_in, out_in}
+use Rattle.chip_core.specs.Core.{Log, Step, Event, Clear, Claim, Put, Feed, part_of, part_in, out_in}
 use Rattle.chip_core.specs.Core.{sees, IsLegalLog, step, log_after, IsClosed}
-use Rattle.chip_core.specs.Core.{root, all_edges, graph_edges}
+use Rattle.chip_core.specs.Core.{all_edges, graph_edges}
 use Rattle.chip_core.specs.Positions.{chips_given, fed_of}
 use Rattle.chip_core.specs.Work.{work_in, steps_at_most}
 use Rattle.chip_core.specs.Work.{fed_so_far, AreFiringBounds}
 use Rattle.chip_core.specs.Closing.{HasEnd, HasStretches, FairSchedulesClose, RootHasPut}
 use Rattle.chip_core.specs.Closing.{HasRounds, FairRoundsClose}
-use Rattle.chip_core.proofs.LogLemmas.{part_here, part_else, link_step}
+use Rattle.chip_core.proofs.LogLemmas.{link_step, legal_before, in_pieces, end_stays}
 use Rattle.chip_core.proofs.GivenLemmas.{recorded_step, started_step}
 use Rattle.chip_core.proofs.ReachingLemmas.{step_legal, run_legal}
 use Rattle.chip_core.proofs.ReplyLemmas.{log_after-append}
@@ -71,10 +71,7 @@ module _ (g : Setting) (game : IsGame g.game) (some_ring : 0 < g.ring) where
       let may = rules_met g x.event (part_in g log (part_of g x.event)) legal.1.0 in
       let none = fed_none log end x.event may in
       record {
-        end = dite (ℕ_discrete (part_of g x.event) (root g))
-            (λ same. ap (λ (s : Part). s.ended) (part_here g x log (root g) same)
-            ∙ stays_ended g x.event (part_in g log (root g)).ended end)
-            (λ other. ap (λ (s : Part). s.ended) (part_else g x log (root g) other) ∙ end);
+        end = end_stays g x log end;
         fed = recorded_step g game some_ring x log legal ∙ ap (λ (l : List (ℕ × ℕ)). fed_so_far g log ++ l) none
             ∙ append-nil (fed_so_far g log);
         given = λ j v. (let a = started_step g game some_ring x log legal v in
@@ -103,10 +100,6 @@ module _ (g : Setting) (game : IsGame g.game) (some_ring : 0 < g.ring) where
       (λ same. subst (Ends log) (sym same) (ends_same log end)) in
       ends_then log (step g log x).0 (log_after g (step g log x).0 xs) one
       (ends_run xs (step g log x).0 (step_legal g log x legal) one.end)
-
-  pub legal_before : (xs log : Log) → IsLegalLog g (xs ++ log) → IsLegalLog g log
-  legal_before [] log legal = legal
-  legal_before (x ∷ xs) log legal = legal_before xs log legal.0
 
   pub ends_longer : (xs log : Log) → IsLegalLog g (xs ++ log) → HasEnd g log → Ends log (xs ++ log)
   ends_longer [] log legal end = ends_same log end
@@ -175,11 +168,10 @@ module _ (g : Setting) (game : IsGame g.game) (some_ring : 0 < g.ring) where
   rounds_tell (suc n) xs before legal end put (front, round, rest, is, has, more) =
       let one : Log = front ++ before in
       let two : Log = round ++ one in
-      let same : xs ++ before ≡ rest ++ two = ap (λ (l : Log). l ++ before) is ∙ append_assoc rest (round ++ front) before
-      ∙ ap (λ (l : Log). rest ++ l) (append_assoc round front before) in
+      let same = in_pieces front round rest xs before is in
       let all_legal : IsLegalLog g (rest ++ two) = subst (IsLegalLog g) same legal in
-      let two_legal = legal_before rest two all_legal in
-      let one_legal = legal_before round one two_legal in
+      let two_legal = legal_before g rest two all_legal in
+      let one_legal = legal_before g round one two_legal in
       let one_ends = ends_longer front before one_legal end in
       let two_ends = ends_longer round one two_legal one_ends.end in
       let two_put = two_ends.put (one_ends.put put) in

@@ -37,7 +37,7 @@ use Rattle.chip_core.proofs.PositionLemmas.{counts_are, is_sequence, is_within}
 use Rattle.chip_core.proofs.NumberLemmas.{few_root_claims}
 use Rattle.std.proofs.Common.{min, sum}
 use Rattle.chip_core.proofs.LogLemmas.{part_here, part_else, out_kept, edge_sound, edge_counts, link_step}
-use Rattle.chip_core.proofs.LogLemmas.{settled_step, got_step, acked_step, tail_inside}
+use Rattle.chip_core.proofs.LogLemmas.{settled_step, got_step, acked_step, tail_inside, acked_grows, settled_grows}
 use Rattle.chip_core.proofs.GivenLemmas.{feed_sees, recorded, recorded_step, given_sum, played_has_more}
 use Rattle.chip_core.proofs.IdleLemmas.{counts_here}
 
@@ -115,17 +115,11 @@ module _ (g : Setting) where
         (λ j. after_take seen (into_in g log j).got) (λ j. (into_in g log j).got) (took_more seen (into_in g log i).got)
         (λ j. omega arith) e in omega arith
     edge_more log legal (Ack i) seen may e =
-        let a = at_edge (λ j (n : ℕ). (into_in g log j).acked ≤ n) i
-        (λ j. (into_in g log j).acked + may_ack g (head_of g i) (part_in g log (head_of g e)) i)
-        (λ j. (into_in g log j).acked) (omega arith) (λ j. omega arith) e in omega arith
+        let a = acked_grows g (Ack i) (part_in g log (head_of g e)) e (into_in g log e) in omega arith
     edge_more log legal (Settle i) seen may e =
-        let a = at_edge (λ j (n : ℕ). (out_in g log j).settled ≤ n) i
-        (λ j. (out_in g log j).settled + (seen - (out_in g log j).settled)) (λ j. (out_in g log j).settled)
-        (omega arith) (λ j. omega arith) e in omega arith
+        let a = settled_grows g (Settle i) seen e (out_in g log e) in omega arith
     edge_more log legal End seen may e =
-        let a = at_edge (λ j (n : ℕ). (out_in g log j).settled ≤ n) (root_edge g 0)
-        (λ j. (out_in g log j).settled + (seen - (out_in g log j).settled)) (λ j. (out_in g log j).settled)
-        (omega arith) (λ j. omega arith) e in omega arith
+        let a = settled_grows g End seen e (out_in g log e) in omega arith
     edge_more log legal (Clear i) seen may e =
         let a = at_edge (λ j (t : Tail). (length (out_in g log j).link.put ≡ length t.put)
         × (claims_of (out_in g log j).link ≡ claims_of t)) i (λ j. after_clear seen (out_in g log j).link)

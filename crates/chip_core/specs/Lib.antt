@@ -13,3 +13,5 @@ pub mod Reached
 pub mod Work
 pub mod Closing
 pub mod WorkedClosing
+pub mod Soon
+pub mod WorkedSoon

@@ -20,7 +20,9 @@ ghost use Rattle.chip_core.specs.Headline.{CoreTheorem};
 ghost use Rattle.chip_core.specs.Work.{FewSteps, DistancesBound, FewRefusals};
 ghost use Rattle.chip_core.specs.Closing.{NeverStuck, AskedInVain, IdleRoundsClose};
 ghost use Rattle.chip_core.specs.Closing.{FairSchedulesClose, FairRoundsClose, NothingStirs};
+ghost use Rattle.chip_core.specs.Soon.{DepthCloses, DepthClosesLater, DepthIsCounted};
 ghost use Rattle.chip_core.specs.WorkedClosing.{TriangleBounds, OneRefused, ThreeStretches};
+ghost use Rattle.chip_core.specs.WorkedSoon.{ChainCloses, StarCloses, PairCloses};
 
 /// Small runs, as the definitions compute them.
 pub fn worked_runs()
@@ -131,6 +133,13 @@ pub fn worked_closing()
     ensures stretches { ThreeStretches }
 {}
 
+/// The last rounds of small games, whose trees are three and two deep.
+pub fn worked_ends()
+    ensures chain { ChainCloses }
+    ensures star { StarCloses }
+    ensures pair { PairCloses }
+{}
+
 /// Few steps of a log count as work, and few claims are refused.
 pub fn few_steps_count()
     ensures steps { FewSteps }
@@ -149,6 +158,14 @@ pub fn never_stuck()
 pub fn fair_schedules()
     ensures stretches { FairSchedulesClose }
     ensures rounds { FairRoundsClose }
+{}
+
+/// Where nothing is left but to acknowledge, as many rounds close the root as the tree of engaged vertices is deep, and
+/// one more.
+pub fn soon_after_the_end()
+    ensures depth { DepthCloses }
+    ensures later { DepthClosesLater }
+    ensures counted { DepthIsCounted }
 {}
 
 /// For every list of actor steps, each edge has delivered a prefix of what was sent on it, each message once and in

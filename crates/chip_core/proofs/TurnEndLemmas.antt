@@ -1,0 +1,186 @@
+-- Serves Turn.antt, Part.antt.
+-- What any whole turn leaves: nothing may be acknowledged, and each edge out of the vertex was settled.
+use Rattle.std.proofs.Common.{◌≡◌, ◌⊎◌, ℕ, ◌+◌, ◌-◌, ◌<◌, Bool, true, false, not, ◌&&◌, eqb, List, [], ◌∷◌}
+use Rattle.std.proofs.Common.{Option, Some, None, Contains, refl, sym, ap, ◌∙◌, subst, arith, inl, inr, ⊎_elim}
+use Rattle.std.proofs.Common.{eqb-true, true≢false, pos_of_ne-zero}
+use Rattle.std.proofs.lemmas.Bool.{and_parts, eqb-false, not-true}
+use Rattle.std.proofs.lemmas.List.Elements.{Contains-append_left, Contains-append_right}
+use mathlib.Core.Logic.{dite}
+use native.Mathlib.Decide.{ℕ_discrete}
+use Rattle.chip_graph.proofs.SumLemmas.{cond_yes, cond_no, cond_true, cond_false, by_test}
+use Rattle.chip_detect.specs.Acknowledging.{is_parent, is_done}
+use Rattle.chip_part.specs.Setting.{Setting}
+use Rattle.chip_part.specs.Edges.{head_of, tail_of}
+use Rattle.chip_part.specs.Part.{Part, owed, may_ack, all_owed, deficit, is_passive}
+use Rattle.chip_part.specs.Rules.{Ack, Settle}
+use Rattle.chip_part.specs.Steps.{Step, does, saw}
+use Rattle.chip_part.specs.Turn.{nothing, either_phase, each_phase, one_step, ins_of, outs_of, acknowledging}
+use Rattle.chip_part.specs.Turn.{acknowledging_parent, turn}
+use Rattle.chip_part.proofs.PartLemmas.{may_le}
+use Rattle.chip_part.proofs.PickedLemmas.{among_new_ins, among_new_outs}
+use Rattle.chip_core.proofs.OrderLemmas.{contains_cases}
+use Rattle.chip_core.proofs.IdleTurnLemmas.{each_made}
+
+parent_of : (e : ℕ) (p : Option ℕ) → is_parent e p ≡ true → p ≡ Some e
+parent_of e None on = absurd (true≢false (sym on))
+parent_of e (Some p) on = ap Some (eqb-true p e on)
+
+pub same_edge : (e i : ℕ) (p : Option ℕ) → p ≡ Some e → p ≡ Some i → e ≡ i
+same_edge e i p here there = cc
+
+module _ (g : Setting) where
+  -- nothing is owed on this edge, or it is the parent edge, with one message
+  abbrev pub Little : Part → ℕ → Type 0
+  Little s e = (owed (s.into e) ≡ 0) ⊎ ((s.parent ≡ Some e) × (owed (s.into e) ≡ 1))
+
+  abbrev keeps : ℕ → Part → ℕ → Bool
+  keeps h s e = is_parent e s.parent
+      && not (is_done (owed (s.into e)) (all_owed g h s) (deficit g h s) (is_passive g h s))
+
+  -- all of what is owed may be acknowledged, or the edge is the parent edge and all but one
+  all_but_one : (h e : ℕ) (s : Part) → (may_ack g h s e ≡ owed (s.into e))
+      ⊎ ((s.parent ≡ Some e) × (may_ack g h s e ≡ owed (s.into e) - 1))
+  all_but_one h e s = by_test (keeps h s e)
+      (λ on. inr (parent_of e s.parent (and_parts _ _ on).0, cond_true (keeps h s e) _ _ on))
+      (λ off. inl (cond_false (keeps h s e) _ _ off))
+
+  pub idle_little : (h e : ℕ) (s : Part) → may_ack g h s e ≡ 0 → Little s e
+  idle_little h e s none = ⊎_elim (λ all. inl (omega arith))
+      (λ few. dite (ℕ_discrete (owed (s.into e)) 0) (λ z. inl z) (λ some. let a = few.1 in inr (few.0, omega arith)))
+      (all_but_one h e s)
+
+  module _ (s : Part) (e seen : ℕ) (some : 0 < may_ack g (head_of g e) s e) where
+    abbrev pub acked : Part
+    acked = does g (saw (Ack e) seen) s
+
+    owed_less : owed (acked.into e) ≡ owed (s.into e) - may_ack g (head_of g e) s e
+    owed_less = let a = cond_yes e e ((s.into e).acked + may_ack g (head_of g e) s e) (s.into e).acked refl in omega arith
+
+    -- where the parent is there still, it was
+    pub was_parent : (i : ℕ) → acked.parent ≡ Some i → s.parent ≡ Some i
+    was_parent i is = by_test (is_parent e s.parent && eqb (may_ack g (head_of g e) s e) (owed (s.into e)))
+        (λ y. absurd (none_some (sym (cond_true _ None s.parent y) ∙ is)))
+        (λ n. sym (cond_false _ None s.parent n) ∙ is)
+      where
+        none_some : ◌≡◌ {A = Option ℕ} None (Some i) → ⊥
+        none_some q = absurd (cc)
+
+    here_little : Little acked e
+    here_little = ⊎_elim (λ all. let a = owed_less in inl (omega arith))
+        (λ few. dite (ℕ_discrete (may_ack g (head_of g e) s e) (owed (s.into e)))
+        (λ all. let a = owed_less in inl (omega arith))
+        (λ less. let a = owed_less in let b = few.1 in
+        inr (
+          by_test (is_parent e s.parent && eqb (may_ack g (head_of g e) s e) (owed (s.into e)))
+              (λ y. absurd (less (eqb-true _ _ (and_parts _ _ y).1)))
+              (λ n. cond_false _ None s.parent n ∙ few.0),
+          omega arith,
+        )))
+        (all_but_one (head_of g e) e s)
+
+    stays_little : (i : ℕ) → Little s i → Little acked i
+    stays_little i little = dite (ℕ_discrete e i)
+        (λ same. subst (Little acked) same here_little)
+        (λ other.
+        let a = cond_no e i ((s.into i).acked + may_ack g (head_of g e) s e) (s.into i).acked other in
+        ⊎_elim (λ z. inl (omega arith))
+        (λ one. let b = one.1 in
+        inr (
+          by_test (is_parent e s.parent && eqb (may_ack g (head_of g e) s e) (owed (s.into e)))
+              (λ y. absurd (other (same_edge e i s.parent (parent_of e s.parent (and_parts _ _ y).0) one.0)))
+              (λ n. cond_false _ None s.parent n ∙ one.0),
+          omega arith,
+        )) little)
+
+  module _ (v : ℕ) where
+    -- ---- the acknowledgements of a turn
+
+    -- one of an edge, made or not
+    abbrev Acked : ℕ → Part → Part → Type 0
+    Acked e s t = ((t ≡ s) × (may_ack g (head_of g e) s e ≡ 0))
+        ⊎ ((0 < may_ack g (head_of g e) s e) × ((seen : ℕ) × (t ≡ does g (saw (Ack e) seen) s)))
+
+    acked_or_not : (e : ℕ) (s : Part) (ds : List Step) (t : Part) → acknowledging g v e s ds t → Acked e s t
+    acked_or_not e s ds t = either (not (eqb (may_ack g (head_of g e) s e) 0)) refl
+      where
+        either : (b : Bool) → not (eqb (may_ack g (head_of g e) s e) 0) ≡ b
+            → either_phase b (one_step g v (Ack e)) nothing s ds t → Acked e s t
+        either true on (seen, rest, is, (empty, same)) =
+            inr (pos_of_ne-zero (eqb-false _ _ (not-true _ on)), (seen, same))
+        either false off (empty, same) = inl (same, eqb-true _ _ (flip (eqb (may_ack g (head_of g e) s e) 0) off))
+          where
+            flip : (b : Bool) → not b ≡ false → b ≡ true
+            flip true z = refl
+            flip false z = absurd (true≢false z)
+
+    after_one : (e : ℕ) (s t : Part) → Acked e s t → ((i : ℕ) → Little s i → Little t i) × Little t e
+    after_one e s t acked = ⊎_elim
+        (λ idle. (
+          λ i little. subst (λ (p : Part). Little p i) (sym idle.0) little,
+          subst (λ (p : Part). Little p e) (sym idle.0) (idle_little (head_of g e) e s idle.1),
+        ))
+        (λ made. (
+          λ i little. subst (λ (p : Part). Little p i) (sym made.1.1) (stays_little s e made.1.0 made.0 i little),
+          subst (λ (p : Part). Little p e) (sym made.1.1) (here_little s e made.1.0 made.0),
+        )) acked
+
+    after_all : (es : List ℕ) (s : Part) (ds : List Step) (t : Part) → each_phase (acknowledging g v) es s ds t
+        → ((i : ℕ) → Little s i → Little t i) × ((i : ℕ) → Contains es i → Little t i)
+    after_all [] s ds t (empty, same) = (
+      λ i little. subst (λ (p : Part). Little p i) (sym same) little,
+      λ i at. (let l = at.1 in absurd (omega arith)),
+    )
+    after_all (e ∷ es) s ds t (front, m, back, is, first, rest) =
+        let one = after_one e s m (acked_or_not e s front m first) in
+        let more = after_all es m back t rest in (
+          λ i little. more.0 i (one.0 i little),
+          λ i at. ⊎_elim (λ same. more.0 i (subst (Little m) (sym same) one.1)) (λ later. more.1 i later) (contains_cases e es i at),
+        )
+
+    -- and the last one, on the parent edge
+    after_last : (p : Option ℕ) (s : Part) (ds : List Step) (t : Part) → s.parent ≡ p → acknowledging_parent g v p s ds t
+        → (e : ℕ) → head_of g e ≡ v → Little s e → may_ack g v t e ≡ 0
+    after_last None s ds t none (empty, same) e at little = ⊎_elim
+        (λ z. let a = may_le g v e s in let b = ap (λ (p : Part). may_ack g v p e) same in omega arith)
+        (λ one. absurd (some_none (one.0) none)) little
+      where
+        some_none : s.parent ≡ Some e → s.parent ≡ None → ⊥
+        some_none is z = absurd (cc)
+    after_last (Some q) s ds t parent phase e at little =
+        let acked = acked_or_not q s ds t phase in
+        ⊎_elim
+        (λ z. let a = may_le g v e t in omega arith)
+        (λ one. ⊎_elim
+        (λ idle.
+        let q_is : q ≡ e = same_edge q e s.parent parent (sym (ap (λ (p : Part). p.parent) idle.0) ∙ one.0) in
+        ap (λ (p : Part). may_ack g v p e) idle.0
+        ∙ subst (λ (u : ℕ). may_ack g u s e ≡ 0) at (subst (λ (i : ℕ). may_ack g (head_of g i) s i ≡ 0) q_is idle.1))
+        (λ made.
+        let was = was_parent s q made.1.0 made.0 e (sym (ap (λ (p : Part). p.parent) made.1.1) ∙ one.0) in
+        let q_is : q ≡ e = same_edge q e s.parent parent was in
+        let a : owed (t.into q) ≡ owed (s.into q) - may_ack g (head_of g q) s q =
+        ap (λ (p : Part). owed (p.into q)) made.1.1 ∙ owed_less s q made.1.0 made.0 in
+        let b = ap (λ (i : ℕ). owed (t.into i)) q_is in
+        let c = ap (λ (i : ℕ). owed (s.into i)) q_is in
+        let some = made.0 in let d = one.1 in
+        absurd (⊎_elim (λ z. omega arith) (λ y. let f = y.1 in omega arith) little))
+        acked)
+        ((after_one q s t acked).0 e little)
+
+    pub nothing_left : (s : Part) (ds : List Step) (after : Part) → turn g v s ds after → v < g.game.graph.vertices
+        → (e : ℕ) → head_of g e ≡ v → may_ack g v after e ≡ 0
+    nothing_left s ds after
+        (_, _, _, _, _, (_, _, _, _, _, (_, _, _, _, _, (_, _, _, _, _, (_, _, _, _, _, (_, _, _, _, _, (f, m, r, is, all, last)))))))
+        vertex e at =
+        after_last m.parent m r after refl last e at ((after_all (ins_of g v) _ f m all).1 e (among_new_ins g v vertex e at))
+
+    pub settles_all : (s : Part) (ds : List Step) (after : Part) → turn g v s ds after → v < g.game.graph.vertices
+        → (e : ℕ) → tail_of g e ≡ v → (seen : ℕ) × Contains ds (saw (Settle e) seen)
+    settles_all s ds after (f1, s1, r1, e1, p1, (f2, s2, r2, e2, p2, rest)) vertex e at =
+        let found = each_made g v (λ i. Settle i) (outs_of g v) s1 f2 s2 p2 e (among_new_outs g v vertex e at) in (
+          found.0,
+          subst (λ (l : List Step). Contains l (saw (Settle e) found.0)) (sym e1)
+              (Contains-append_right f1 r1 (saw (Settle e) found.0)
+              (subst (λ (l : List Step). Contains l (saw (Settle e) found.0)) (sym e2)
+              (Contains-append_left f2 r2 (saw (Settle e) found.0) found.1))),
+        )

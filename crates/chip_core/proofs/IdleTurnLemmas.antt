@@ -10,11 +10,13 @@ use Rattle.chip_part.specs.Part.{Part, is_running, refusals, may_ack}
 use Rattle.chip_part.specs.Edges.{head_of}
 use Rattle.chip_part.specs.Rules.{Event, Take, Ack, Fire, Clear, Claim, Put, Halt, Settle}
 use Rattle.chip_part.specs.Steps.{Step, does, saw}
-use Rattle.chip_part.specs.Turn.{Phase, nothing, either_phase, where_phase, and_then, each_phase, one_step, seeing, ins_of}
-use Rattle.chip_part.specs.Turn.{outs_of, may_fire, batch_of, firing, putting, sending, sending_all, after_clear_phase}
-use Rattle.chip_part.specs.Turn.{after_claim_phase, is_at_limit, acknowledging, acknowledging_parent}
-use Rattle.chip_part.specs.Turn.{last_acknowledgement, turn}
+use Rattle.chip_part.specs.Turn.{Phase, nothing, either_phase, each_phase, one_step, seeing, ins_of}
+use Rattle.chip_part.specs.Turn.{outs_of, may_fire, batch_of, putting, sending, sending_all, after_clear_phase}
+use Rattle.chip_part.specs.Turn.{after_claim_phase, is_at_limit, acknowledging_parent}
+use Rattle.chip_part.specs.Turn.{turn}
 use Rattle.chip_core.specs.Histories.{part_by}
+use Rattle.chip_core.proofs.PhaseLemmas.{Spreads, of_takes, of_settles, of_firing, of_puts, of_sending_all, of_limit}
+use Rattle.chip_core.proofs.PhaseLemmas.{of_acks, of_turn}
 use Rattle.chip_core.specs.Work.{counts_as_work}
 use Rattle.chip_core.proofs.IdleLemmas.{bare, idle_does}
 
@@ -70,77 +72,29 @@ module _ (g : Setting) where
   abbrev Makes : Phase → Type 0
   Makes p = (s : Part) (ds : List Step) (t : Part) → p s ds t → t ≡ part_by g s ds
 
-  makes_nothing : Makes nothing
-  makes_nothing s ds t (none, same) = same ∙ sym (ap (part_by g s) none)
-
-  makes_either : (b : Bool) (p q : Phase) → Makes p → Makes q → Makes (either_phase b p q)
-  makes_either true p q some other = some
-  makes_either false p q some other = other
-
-  makes_then : (p q : Phase) → Makes p → Makes q → Makes (and_then p q)
-  makes_then p q first next s ds t (front, m, back, is, here, rest) =
-      next m back t rest ∙ ap (λ (u : Part). part_by g u back) (first s front m here)
-      ∙ sym (ap (part_by g s) is ∙ part-append front back s)
-
-  makes_each : (p : ℕ → Phase) → ((e : ℕ) → Makes (p e)) → (es : List ℕ) → Makes (each_phase p es)
-  makes_each p each [] = makes_nothing
-  makes_each p each (e ∷ es) = makes_then (p e) (each_phase p es) (each e) (makes_each p each es)
-
   module _ (v : ℕ) where
-    makes_seeing : (x : Event) (next : ℕ → Part → Phase) → ((seen : ℕ) (s : Part) → Makes (next seen s))
-        → Makes (seeing g v x next)
-    makes_seeing x next all s ds t (seen, rest, is, last) =
-        all seen s (does g (saw x seen) s) rest t last ∙ sym (ap (part_by g s) is)
-
-    makes_step : (x : Event) → Makes (one_step g v x)
-    makes_step x = makes_seeing x (λ seen before. nothing) (λ seen s. makes_nothing)
-
-    makes_takes : (es : List ℕ) → Makes (each_phase (λ e. one_step g v (Take e)) es)
-    makes_takes es = makes_each (λ e. one_step g v (Take e)) (λ e. makes_step (Take e)) es
-
-    makes_settles : (es : List ℕ) → Makes (each_phase (λ e. one_step g v (Settle e)) es)
-    makes_settles es = makes_each (λ e. one_step g v (Settle e)) (λ e. makes_step (Settle e)) es
-
-    makes_firing : Makes (firing g v)
-    makes_firing s = makes_either (may_fire g v s) (one_step g v (Fire v (batch_of g v s))) nothing
-        (makes_step (Fire v (batch_of g v s))) makes_nothing s
-
-    makes_putting : (e : ℕ) → Makes (putting g v e)
-    makes_putting e s = makes_either (is_some (s.out e).link.held) (one_step g v (Put e)) nothing
-        (makes_step (Put e)) makes_nothing s
-
-    makes_claim : (e seen : ℕ) (before : Part) → Makes (after_claim_phase g v e seen before)
-    makes_claim e seen before = makes_either _ (one_step g v (Put e)) (one_step g v (Halt v)) (makes_step (Put e))
-        (makes_step (Halt v))
-
-    makes_clear : (e seen : ℕ) (before : Part) → Makes (after_clear_phase g v e seen before)
-    makes_clear e seen before = makes_either (eqb seen 0) (seeing g v (Claim e) (after_claim_phase g v e)) nothing
-        (makes_seeing (Claim e) (after_claim_phase g v e) (makes_claim e)) makes_nothing
-
-    makes_sending : (e : ℕ) → Makes (sending g v e)
-    makes_sending e s = makes_either (is_running s.halt && not (eqb (s.out e).pending 0))
-        (seeing g v (Clear e) (after_clear_phase g v e)) nothing
-        (makes_seeing (Clear e) (after_clear_phase g v e) (makes_clear e)) makes_nothing s
-
-    makes_sending_all : Makes (sending_all g v)
-    makes_sending_all s = makes_either (is_running s.halt)
-        (either_phase (eqb (refusals g v s) 0) (each_phase (sending g v) (outs_of g v)) (one_step g v (Halt v))) nothing
-        (makes_either (eqb (refusals g v s) 0) (each_phase (sending g v) (outs_of g v)) (one_step g v (Halt v))
-        (makes_each (sending g v) makes_sending (outs_of g v)) (makes_step (Halt v))) makes_nothing s
-
-    makes_limit : Makes (where_phase (is_at_limit g v) (one_step g v (Halt v)))
-    makes_limit s = makes_either (is_at_limit g v s) (one_step g v (Halt v)) nothing (makes_step (Halt v)) makes_nothing s
-
-    makes_acking : (e : ℕ) → Makes (acknowledging g v e)
-    makes_acking e s = makes_either (not (eqb (may_ack g (head_of g e) s e) 0)) (one_step g v (Ack e)) nothing
-        (makes_step (Ack e)) makes_nothing s
-
     makes_parent : (p : Option ℕ) → Makes (acknowledging_parent g v p)
-    makes_parent None = makes_nothing
-    makes_parent (Some e) = makes_acking e
+    makes_parent None s ds t (none, same) = same ∙ sym (ap (part_by g s) none)
+    makes_parent (Some e) s ds t phase = by (not (eqb (may_ack g (head_of g e) s e) 0)) phase
+      where
+        by : (b : Bool) → either_phase b (one_step g v (Ack e)) nothing s ds t → t ≡ part_by g s ds
+        by true (seen, rest, is, (none, same)) = same ∙ sym (ap (part_by g s) (is ∙ ap (λ (l : List Step). saw (Ack e) seen ∷ l) none))
+        by false (none, same) = same ∙ sym (ap (part_by g s) none)
 
-    makes_last : Makes (last_acknowledgement g v)
-    makes_last s = makes_parent s.parent s
+    makes : Spreads g v Makes
+    makes = record {
+      none = λ s ds t (none, same). same ∙ sym (ap (part_by g s) none);
+      chosen = λ p all s ds t. all s s ds t;
+      both = λ p q first next s ds t (front, m, back, is, here, rest). next m back t rest
+          ∙ ap (λ (u : Part). part_by g u back) (first s front m here) ∙ sym (ap (part_by g s) is ∙ part-append front back s);
+      event = λ x by next all s ds t (seen, rest, is, last). all seen s (does g (saw x seen) s) rest t last
+          ∙ sym (ap (part_by g s) is);
+      last = λ s. makes_parent s.parent s;
+    }
+
+    -- a turn leaves the part that its operations make
+    pub makes_turn : Makes (turn g v)
+    makes_turn = of_turn g v Makes makes
 
     -- ---- what its phases tell where no step counts
 
@@ -257,62 +211,17 @@ module _ (g : Setting) where
               (Contains-append_right front back (saw (Clear i) z.0) z.2),
         )) (more i at)) j here
 
-    -- ---- the whole turn, from its last phase to its first
+    -- ---- the whole turn
 
-    abbrev from_acks : Phase
-    from_acks = and_then (each_phase (acknowledging g v) (ins_of g v)) (last_acknowledgement g v)
-
-    abbrev from_limit : Phase
-    from_limit = and_then (where_phase (is_at_limit g v) (one_step g v (Halt v))) from_acks
-
-    abbrev from_sending : Phase
-    from_sending = and_then (sending_all g v) from_limit
-
-    abbrev from_putting : Phase
-    from_putting = and_then (each_phase (putting g v) (outs_of g v)) from_sending
-
-    abbrev from_firing : Phase
-    from_firing = and_then (firing g v) from_putting
-
-    abbrev from_settling : Phase
-    from_settling = and_then (each_phase (λ e. one_step g v (Settle e)) (outs_of g v)) from_firing
-
-    makes_acks : Makes from_acks
-    makes_acks = makes_then (each_phase (acknowledging g v) (ins_of g v)) (last_acknowledgement g v)
-        (makes_each (acknowledging g v) makes_acking (ins_of g v)) makes_last
-
-    makes_from_limit : Makes from_limit
-    makes_from_limit = makes_then (where_phase (is_at_limit g v) (one_step g v (Halt v))) from_acks makes_limit makes_acks
-
-    makes_from_sending : Makes from_sending
-    makes_from_sending = makes_then (sending_all g v) from_limit makes_sending_all makes_from_limit
-
-    makes_from_putting : Makes from_putting
-    makes_from_putting = makes_then (each_phase (putting g v) (outs_of g v)) from_sending
-        (makes_each (putting g v) makes_putting (outs_of g v)) makes_from_sending
-
-    makes_from_firing : Makes from_firing
-    makes_from_firing = makes_then (firing g v) from_putting makes_firing makes_from_putting
-
-    makes_from_settling : Makes from_settling
-    makes_from_settling = makes_then (each_phase (λ e. one_step g v (Settle e)) (outs_of g v)) from_firing
-        (makes_settles (outs_of g v)) makes_from_firing
-
-    -- a turn leaves the part that its operations make
-    pub makes_turn : Makes (turn g v)
-    makes_turn = makes_then (each_phase (λ e. one_step g v (Take e)) (ins_of g v)) from_settling
-        (makes_takes (ins_of g v)) makes_from_settling
-
-    -- behind the first of two phases
-    behind : (p q : Phase) → Makes p → Makes q → (s : Part) (front : List Step) (m : Part) (back : List Step) (t : Part)
-        (ds : List Step) → ds ≡ front ++ back → p s front m → q m back t → work_of g s ds ≡ 0
-        → (work_of g m back ≡ 0) × (bare t ≡ bare m)
-    behind p q first next s front m back t ds is here rest none =
+    -- the first of two phases
+    passed : (p : Phase) → Makes p → (s : Part) (front : List Step) (m : Part) (back ds : List Step) → ds ≡ front ++ back
+        → p s front m → work_of g s ds ≡ 0 → (work_of g m back ≡ 0) × (bare m ≡ bare s)
+    passed p first s front m back ds is here none =
         let mine : m ≡ part_by g s front = first s front m here in
         let all = ap (work_of g s) is ∙ work-append front back s in
         let same = ap (λ (u : Part). work_of g u back) mine in
-        let idle : work_of g m back ≡ 0 = omega arith in
-        (idle, ap bare (next m back t rest) ∙ idle_part back m idle)
+        let idle : work_of g s front ≡ 0 = omega arith in
+        (omega arith, ap bare mine ∙ idle_part front s idle)
 
     -- what a turn of which no step counts tells: what it asked for, and that the vertex has nothing to do
     pub record Rested (ds : List Step) (after : Part) : Type 0 where
@@ -360,19 +269,14 @@ module _ (g : Setting) where
         let a1 = ap sure_in e1 ∙ sure_append f1 r1 in let a2 = ap sure_in e2 ∙ sure_append f2 r2 in
         let a3 = ap sure_in e3 ∙ sure_append f3 r3 in let a4 = ap sure_in e4 ∙ sure_append f4 r4 in
         let a5 = ap sure_in e5 ∙ sure_append f5 r5 in let a6 = ap sure_in e6 ∙ sure_append f6 r6 in
-        let q6 : from_limit s5 r5 after = (f6, s6, r6, e6, p6, p7) in
-        let q5 : from_sending s4 r4 after = (f5, s5, r5, e5, p5, q6) in
-        let q4 : from_putting s3 r3 after = (f4, s4, r4, e4, p4, q5) in
-        let q3 : from_firing s2 r2 after = (f3, s3, r3, e3, p3, q4) in
-        let q2 : from_settling s1 r1 after = (f2, s2, r2, e2, p2, q3) in
-        let b1 = behind (each_phase (λ e. one_step g v (Take e)) (ins_of g v)) from_settling (makes_takes (ins_of g v))
-        makes_from_settling s f1 s1 r1 after ds e1 p1 q2 none in
-        let b2 = behind (each_phase (λ e. one_step g v (Settle e)) (outs_of g v)) from_firing (makes_settles (outs_of g v))
-        makes_from_firing s1 f2 s2 r2 after r1 e2 p2 q3 b1.0 in
-        let b3 = behind (firing g v) from_putting makes_firing makes_from_putting s2 f3 s3 r3 after r2 e3 p3 q4 b2.0 in
-        let b4 = behind (each_phase (putting g v) (outs_of g v)) from_sending
-        (makes_each (putting g v) makes_putting (outs_of g v)) makes_from_sending s3 f4 s4 r4 after r3 e4 p4 q5 b3.0 in
-        let b5 = behind (sending_all g v) from_limit makes_sending_all makes_from_limit s4 f5 s5 r5 after r4 e5 p5 q6 b4.0 in
+        let b1 = passed _ (of_takes g v Makes makes) s f1 s1 r1 ds e1 p1 none in
+        let b2 = passed _ (of_settles g v Makes makes) s1 f2 s2 r2 r1 e2 p2 b1.0 in
+        let b3 = passed _ (of_firing g v Makes makes) s2 f3 s3 r3 r2 e3 p3 b2.0 in
+        let b4 = passed _ (of_puts g v Makes makes) s3 f4 s4 r4 r3 e4 p4 b3.0 in
+        let b5 = passed _ (of_sending_all g v Makes makes) s4 f5 s5 r5 r4 e5 p5 b4.0 in
+        let b6 = passed _ (of_limit g v Makes makes) s5 f6 s6 r6 r5 e6 p6 b5.0 in
+        let at6 : bare after ≡ bare s6 = ap bare (of_acks g v Makes makes s6 r6 after p7) ∙ idle_part r6 s6 b6.0 in
+        let at5 = at6 ∙ b6.1 in let at4 = at5 ∙ b5.1 in let at3 = at4 ∙ b4.1 in let at2 = at3 ∙ b3.1 in
         record {
           takes = λ e at. (let found = each_made (λ i. Take i) (ins_of g v) s f1 s1 p1 e at in
               (found.0, within f1 r1 ds e1 (saw (Take e) found.0) found.1));
@@ -381,11 +285,11 @@ module _ (g : Setting) where
             later f1 r1 ds e1 (saw (Settle e) found.0)
                 (within f2 r2 r1 e2 (saw (Settle e) found.0) found.1),
           ));
-          fires = ap (may_fire g v) b2.1
+          fires = ap (may_fire g v) at2
               ∙ (not_chosen (may_fire g v s2) (Fire v (batch_of g v s2)) s2 f3 s3 p3 (omega arith) (omega arith)).0;
-          puts = λ e at. ap (λ (p : Part). is_some (p.out e).link.held) b3.1
+          puts = λ e at. ap (λ (p : Part). is_some (p.out e).link.held) at3
               ∙ (none_put (outs_of g v) s3 f4 s4 p4 (omega arith)).1 e at;
-          sends = λ runs e at. ⊎_elim (λ z. inl (ap (λ (p : Part). (p.out e).pending) b4.1 ∙ z))
+          sends = λ runs e at. ⊎_elim (λ z. inl (ap (λ (p : Part). (p.out e).pending) at4 ∙ z))
               (λ z. inr (
                 z.0,
                 z.1,
@@ -393,7 +297,7 @@ module _ (g : Setting) where
                     (later f3 r3 r2 e3 (saw (Clear e) z.0) (later f4 r4 r3 e4 (saw (Clear e) z.0)
                     (within f5 r5 r4 e5 (saw (Clear e) z.0) z.2)))),
               ))
-              (sends_of s4 f5 s5 p5 (omega arith) (sym (ap (λ (p : Part). is_running p.halt) b4.1) ∙ runs) e at);
-          limit = ap (is_at_limit g v) b5.1
+              (sends_of s4 f5 s5 p5 (omega arith) (sym (ap (λ (p : Part). is_running p.halt) at4) ∙ runs) e at);
+          limit = ap (is_at_limit g v) at5
               ∙ (not_chosen (is_at_limit g v s5) (Halt v) s5 f6 s6 p6 (omega arith) (omega arith)).0;
         }

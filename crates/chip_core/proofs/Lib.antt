@@ -19,6 +19,7 @@ pub mod QuietLemmas
 pub mod DueLemmas
 pub mod AskedLemmas
 pub mod WorkLemmas
+pub mod PhaseLemmas
 pub mod IdleTurnLemmas
 pub mod RoundLemmas
 pub mod ScheduleLemmas

@@ -1,16 +1,13 @@
 -- Serves Core.antt, Detection.antt.
 -- Where the end is noted and nobody has anything to do, the root is closed.
-use Rattle.std.proofs.Common.{◌≡◌, ◌≢◌, ◌⊎◌, ℕ, ◌+◌, ◌-◌, ◌<◌, ◌≤◌, Bool, true, false, not, ◌&&◌, ◌||◌, eqb, List, [], ◌∷◌}
+use Rattle.std.proofs.Common.{◌≡◌, ◌≢◌, ◌⊎◌, ℕ, ◌+◌, ◌<◌, ◌≤◌, true, false, not, ◌&&◌, ◌||◌, eqb, List, [], ◌∷◌}
 use Rattle.std.proofs.Common.{length, Option, Some, None, option_to_list, Contains, refl, sym, ap, ◌∙◌, subst, arith}
-use Rattle.std.proofs.Common.{cond, inl, inr, ⊎_elim, eqb-true, eq-eqb, pos_of_ne-zero}
-use mathlib.Core.Logic.{dite}
-use native.Mathlib.Decide.{ℕ_discrete}
+use Rattle.std.proofs.Common.{inl, inr, ⊎_elim, eqb-true, eq-eqb}
 use Rattle.std.proofs.lemmas.Bool.{and_from}
 use Rattle.chip_graph.specs.ChipGame.{IsGame}
-use Rattle.chip_graph.proofs.SumLemmas.{tested_none, by_test, cond_false}
+use Rattle.chip_graph.proofs.SumLemmas.{tested_none}
 use Rattle.chip_link.specs.Link.{claims_of}
 use Rattle.chip_link.proofs.SoundsLemmas.{none_held}
-use Rattle.chip_detect.specs.Acknowledging.{is_parent}
 use Rattle.chip_part.specs.Setting.{Setting}
 use Rattle.chip_part.specs.declared.cause.Cause.{Cause}
 use Rattle.chip_part.specs.Part.{Part, is_running, owed, may_ack, deficit, pending_of, unput_count}
@@ -22,17 +19,8 @@ use Rattle.chip_core.specs.Core.{tail_of, head_of, root, all_edges, graph_edges}
 use Rattle.chip_core.specs.Detection.{IsTree, IsDetectionOrder}
 use Rattle.chip_core.specs.Closing.{HasEnd}
 use Rattle.chip_core.proofs.LogLemmas.{part_kept, head_inside}
-use Rattle.chip_core.proofs.OrderLemmas.{detection_order, contains_cases, contains_later, contains_nothing, contained}
-
--- nothing may be acknowledged of what is owed: it is the parent edge
-kept_back : (e : ℕ) (parent : Option ℕ) (b : Bool) (n : ℕ) → cond (is_parent e parent && b) (n - 1) n ≡ 0 → 0 < n
-    → parent ≡ Some e
-kept_back e None b n none some = absurd (omega arith)
-kept_back e (Some p) b n none some = by_test (eqb p e) (λ on. ap Some (eqb-true p e on))
-    (λ off. absurd (let a = cond_false (eqb p e && b) (n - 1) n (ap (λ (t : Bool). t && b) off) in omega arith))
-
-some_none : {A : Type 0} (a : A) (o : Option A) → o ≡ Some a → o ≡ None → ⊥
-some_none a o is none = absurd (cc)
+use Rattle.chip_core.proofs.OrderLemmas.{detection_order, contains_cases, contains_later, contains_nothing, contained, none_some}
+use Rattle.chip_core.proofs.TurnEndLemmas.{idle_little}
 
 module _ (g : Setting) where
   -- nobody has anything to do after this log
@@ -89,16 +77,15 @@ module _ (g : Setting) where
       no_child i l at is = ⊎_elim
           (λ m. ⊎_elim (λ r. absurd (let a = inside in omega arith)) (λ c. order.tree.1 (subst (Contains vs) at c))
           (parent_below log v vs order.tree (head_of g i) i m is))
-          (λ out. some_none i (part_in g log (head_of g i)).parent is
-          (order.others (head_of g i) (head_inside g game i l) out).no_parent)
+          (λ out. none_some i (part_in g log (head_of g i)).parent
+          (order.others (head_of g i) (head_inside g game i l) out).no_parent is)
           (contained (v ∷ vs) (head_of g i))
 
       none_out : (i : ℕ) → i < all_edges g → tail_of g i ≡ v → outstanding (out_in g log i) ≡ 0
-      none_out i l at = dite (ℕ_discrete (owed (into_in g log i)) 0)
+      none_out i l at = ⊎_elim
           (λ none. let a = owes_it i l in omega arith)
-          (λ some. absurd (no_child i l at
-          (kept_back i (part_in g log (head_of g i)).parent _ (owed (into_in g log i)) (quiet.acked i l)
-          (pos_of_ne-zero some))))
+          (λ one. absurd (no_child i l at one.0))
+          (idle_little g (head_of g i) i (part_in g log (head_of g i)) (quiet.acked i l))
 
       no_deficit : deficit g v s ≡ 0
       no_deficit = tested_none (all_edges g) (λ i. eqb (tail_of g i) v) (λ i. outstanding (s.out i))
@@ -131,7 +118,7 @@ module _ (g : Setting) where
               ∙ and_from _ _ (eq-eqb _ _ (no_pending is)) (ap not (quiet.fired v inside is (no_pending is)))
 
       none_latest : ⊥
-      none_latest = ⊎_elim (λ none. some_none order.tree.2.0 s.parent order.tree.2.1.parent none)
+      none_latest = ⊎_elim (λ none. none_some order.tree.2.0 s.parent none order.tree.2.1.parent)
           (λ more. absurd (let a = no_deficit in omega arith))
           (rests g v s (part_kept g game log legal v) passive
           (λ i l at. subst (λ (u : ℕ). may_ack g u (part_in g log u) i ≡ 0) at (quiet.acked i l)))

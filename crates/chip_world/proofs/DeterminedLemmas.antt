@@ -1,18 +1,21 @@
 -- Serves Rounds.antt.
 -- A turn, a round and a drive follow from the log before them.
-use Rattle.std.proofs.Common.{◌≡◌, ℕ, zero, suc, ◌<◌, ◌≤◌, Bool, true, false, List, [], ◌∷◌, ◌++◌, reverse, Option}
+use Rattle.std.proofs.Common.{◌≡◌, ℕ, zero, suc, ◌<◌, ◌≤◌, Bool, true, false, not, eqb, List, [], ◌∷◌, ◌++◌, reverse, Option}
 use Rattle.std.proofs.Common.{Some, None, refl, sym, ap, ◌∙◌, subst, arith, append_assoc}
 use Rattle.std.proofs.lemmas.Grind.{reverse_onto}
 use mathlib.Core.Logic.{dite}
 use native.Mathlib.Decide.{ℕ_discrete, dec_lt}
 use Rattle.chip_part.specs.Setting.{Setting}
-use Rattle.chip_part.specs.Part.{Part, is_running}
-use Rattle.chip_part.specs.Rules.{Event, Take, Ack, Fire, Clear, Claim, Put, Halt, Settle}
-use Rattle.chip_part.specs.Turn.{Phase, nothing, either_phase, where_phase, and_then, each_phase, ins_of, outs_of}
-use Rattle.chip_part.specs.Turn.{seeing, one_step, may_fire, batch_of, firing, after_claim_phase, after_clear_phase}
-use Rattle.chip_part.specs.Turn.{sending, putting, sending_all, is_at_limit, acknowledging, acknowledging_parent}
-use Rattle.chip_part.specs.Turn.{last_acknowledgement, turn}
+use Rattle.chip_part.specs.Part.{Part, may_ack}
+use Rattle.chip_part.specs.Edges.{head_of}
+use Rattle.chip_part.specs.Rules.{Event, Ack}
+use Rattle.chip_part.specs.Turn.{Phase, nothing, either_phase, and_then}
+use Rattle.chip_part.specs.Turn.{seeing, one_step}
+use Rattle.chip_part.specs.Turn.{acknowledging_parent}
+use Rattle.chip_part.specs.Turn.{turn}
 use Rattle.chip_part.specs.Steps.{saw}
+use Rattle.chip_core.proofs.PhaseLemmas.{of_turn}
+use Rattle.chip_core.proofs.LogLemmas.{legal_before}
 use Rattle.chip_core.specs.Core.{Log, Step, does, part_in, Fits, IsLegalLog, log_after}
 use Rattle.chip_world.specs.declared.world.driving.Drive.{Drive}
 use Rattle.chip_world.specs.declared.world.driving.Drive.TheVariants.{Closed, Unfinished}
@@ -39,18 +42,13 @@ module _ (g : Setting) where
   back_follows log [] ys all = all
   back_follows log (x ∷ xs) ys (fits, all) = back_follows (x ∷ log) xs ys all
 
-  -- what was before in a legal log is legal
-  before_legal : (xs log : List Step) → IsLegalLog g (xs ++ log) → IsLegalLog g log
-  before_legal [] log legal = legal
-  before_legal (x ∷ xs) log (legal, fits) = before_legal xs log legal
-
   follows : (log : Log) (xs : List Step) → IsLegalLog g (reverse xs ++ log) → Follow log xs
   follows log [] legal = tt
   follows log (x ∷ xs) legal =
       let moved : reverse (x ∷ xs) ++ log ≡ reverse xs ++ (x ∷ log) = ap (λ (l : Log). l ++ log) (reverse_onto xs x [])
       ∙ append_assoc (reverse xs) (x ∷ []) log in
       let all : IsLegalLog g (reverse xs ++ (x ∷ log)) = subst (IsLegalLog g) moved legal in
-      ((before_legal (reverse xs) (x ∷ log) all).1, follows (x ∷ log) xs all)
+      ((legal_before g (reverse xs) (x ∷ log) all).1, follows (x ∷ log) xs all)
 
   -- from one part, after one log, such a phase goes in one way alone
   abbrev Determined : Phase → Type 0
@@ -59,13 +57,6 @@ module _ (g : Setting) where
 
   by_nothing : Determined nothing
   by_nothing log s ds ds' t t' f f' (none, same) (none', same') = (none ∙ sym none', same ∙ sym same')
-
-  by_either : (b : Bool) (p q : Phase) → Determined p → Determined q → Determined (either_phase b p q)
-  by_either true p q one other = one
-  by_either false p q one other = other
-
-  by_where : (test : Part → Bool) (p : Phase) → Determined p → Determined (where_phase test p)
-  by_where test p one log s = by_either (test s) p nothing one by_nothing log s
 
   by_then : (p q : Phase) → Determined p → Determined q → Determined (and_then p q)
   by_then p q one other log s ds ds' t t' f f' (front, m, back, is, here, rest) (front', m', back', is', here', rest') =
@@ -77,10 +68,6 @@ module _ (g : Setting) where
       (subst (λ (xs : List Step). Follow (made log xs) back') (sym a.0) (back_follows log front' back' all')) rest
       (subst (λ (n : Part). q n back' t') (sym a.1) rest') in
       (is ∙ ap (λ (xs : List Step). xs ++ back) a.0 ∙ ap (λ (ys : List Step). front' ++ ys) b.0 ∙ sym is', b.1)
-
-  by_each : (p : ℕ → Phase) → ((e : ℕ) → Determined (p e)) → (es : List ℕ) → Determined (each_phase p es)
-  by_each p one [] = by_nothing
-  by_each p one (e ∷ es) = by_then (p e) (each_phase p es) (one e) (by_each p one es)
 
   module _ (v : ℕ) where
     by_seeing : (x : Event) (next : ℕ → Part → Phase) → ((seen : ℕ) (s : Part) → Determined (next seen s))
@@ -98,54 +85,22 @@ module _ (g : Setting) where
           b.1,
         )
 
-    by_step : (x : Event) → Determined (one_step g v x)
-    by_step x = by_seeing x (λ seen before. nothing) (λ seen before. by_nothing)
-
-    by_claim : (e seen : ℕ) (before : Part) → Determined (after_claim_phase g v e seen before)
-    by_claim e seen before = by_either _ (one_step g v (Put e)) (one_step g v (Halt v)) (by_step (Put e))
-        (by_step (Halt v))
-
-    by_clear : (e seen : ℕ) (before : Part) → Determined (after_clear_phase g v e seen before)
-    by_clear e seen before = by_either _ (seeing g v (Claim e) (after_claim_phase g v e)) nothing
-        (by_seeing (Claim e) (after_claim_phase g v e) (by_claim e)) by_nothing
-
-    by_sending : (e : ℕ) → Determined (sending g v e)
-    by_sending e = by_where _ (seeing g v (Clear e) (after_clear_phase g v e))
-        (by_seeing (Clear e) (after_clear_phase g v e) (by_clear e))
-
-    by_putting : (e : ℕ) → Determined (putting g v e)
-    by_putting e = by_where _ (one_step g v (Put e)) (by_step (Put e))
-
-    by_firing : Determined (firing g v)
-    by_firing log s = by_where (may_fire g v) (one_step g v (Fire v (batch_of g v s)))
-        (by_step (Fire v (batch_of g v s))) log s
-
-    by_sending_all : Determined (sending_all g v)
-    by_sending_all log s =
-        by_either (is_running s.halt) (either_phase _ (each_phase (sending g v) (outs_of g v)) (one_step g v (Halt v)))
-        nothing
-        (by_either _ (each_phase (sending g v) (outs_of g v)) (one_step g v (Halt v))
-        (by_each (sending g v) by_sending (outs_of g v)) (by_step (Halt v))) by_nothing log s
-
-    by_acknowledging : (e : ℕ) → Determined (acknowledging g v e)
-    by_acknowledging e = by_where _ (one_step g v (Ack e)) (by_step (Ack e))
-
     by_parent : (parent : Option ℕ) → Determined (acknowledging_parent g v parent)
-    by_parent None = by_nothing
-    by_parent (Some e) = by_acknowledging e
-
-    by_last : Determined (last_acknowledgement g v)
-    by_last log s = by_parent s.parent log s
+    by_parent None log s = by_nothing log s
+    by_parent (Some e) log s = either (not (eqb (may_ack g (head_of g e) s e) 0)) log s
+      where
+        either : (b : Bool) → Determined (either_phase b (one_step g v (Ack e)) nothing)
+        either true = by_seeing (Ack e) (λ seen before. nothing) (λ seen before. by_nothing)
+        either false = by_nothing
 
     by_turn : Determined (turn g v)
-    by_turn =
-        by_then _ _ (by_each (λ e. one_step g v (Take e)) (λ e. by_step (Take e)) (ins_of g v))
-        (by_then _ _ (by_each (λ e. one_step g v (Settle e)) (λ e. by_step (Settle e)) (outs_of g v))
-        (by_then _ _ by_firing
-        (by_then _ _ (by_each (putting g v) by_putting (outs_of g v))
-        (by_then _ _ by_sending_all
-        (by_then _ _ (by_where (is_at_limit g v) (one_step g v (Halt v)) (by_step (Halt v)))
-        (by_then _ _ (by_each (acknowledging g v) by_acknowledging (ins_of g v)) by_last))))))
+    by_turn = of_turn g v Determined record {
+      none = by_nothing;
+      chosen = λ p all log s. all s log s;
+      both = by_then;
+      event = λ x mine next more. by_seeing x next more;
+      last = λ log s. by_parent s.parent log s;
+    }
 
     turn_determined : (before after after' : Log) → IsTurnAfter g v before after → IsTurnAfter g v before after'
         → after ≡ after'

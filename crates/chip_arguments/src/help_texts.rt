@@ -59,6 +59,11 @@ pub const SIMULATE: &str = "\
 With --fed the schedule may feed chips while the game runs: clear, feed and put on the
 edges that come from the root, and then end, before which the root never closes.
 
+In a round each vertex has a turn, and then the root looks at its edges. 2^40 rounds close
+every game whose vertices, firings and five times its messages make less than 2^40, and
+seldom one needs so many. No number closes one that is fed and not ended, or in which the
+root has claimed a message and not put it.
+
 Without --large a graph has at most 4096 vertices and 65536 edges, and each file 16777216
 bytes.
 

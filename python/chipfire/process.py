@@ -187,7 +187,7 @@ def _meant(
     if number in (*_OF_GRAPH, *_OF_ROWS):
         kinds = {kind: file for kind, file in kinds.items() if (kind == "graph") == (number in _OF_GRAPH)}
     names = [f"the {kind}" if isinstance(file, Kept) else os.fspath(file) for kind, file in kinds.items()]
-    return f"in {' or '.join(names)}" if names and number <= 52 else ""
+    return f"in {' or '.join(names)}" if names and number <= 53 else ""
 
 
 def _started(words: Sequence[str], kept: Sequence[int] = ()) -> tuple[int, str, list[str]]:

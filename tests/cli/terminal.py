@@ -17,6 +17,7 @@ FILES = {
     "early.csv": "event,at,count\ntake,4,0\nwait,0,0\n",
     "trace.csv": "vertex,kind,edge,count\n0,fire,0,1\n",
     "report.json": '{"chips":[4],"closed":true,"fired":[0],"over":[],"sealed":[],"version":1}\n',
+    "played.json": '{"chips":[2,1,1],"closed":true,"fired":[1,0,0],"over":[],"sealed":[],"version":1}\n',
 }
 NUMBER = "fault 25 Number i: a field of row i is no number"
 # For each command the fault, and what is told below it, without the line that names `explain`.
@@ -38,6 +39,8 @@ TOLD = {
         ("70 Stuck 0 0", ["in trace.csv", "fault 70 Stuck v i: the rows of a trace fit together in no order"]),
     "resume graph.json report.json":
         ("52 Mismatch", ["in report.json", "fault 52 Mismatch: the report has another number of vertices than the graph"]),
+    "verify graph.json chips.csv played.json":
+        ("53 Differs 0", ["in played.json", "fault 53 Differs v: the report is not that of this game, and v is the least vertex where it differs"]),
     "explain 12": ("91 Usage", ["fault 91 Usage: the arguments are no command"]),
 }
 # Commands that are none, and the words that have to stand below the fault.

@@ -82,6 +82,8 @@ class Model:
             chips = read_chips(files[1], graph, limits)
             if command == "run" and len(files) > 2:
                 chips = with_feeds(chips, read_chips(files[2], graph))
+            if command == "verify":
+                return verified(graph, chips, files[2], limit, limits)
             if command in ("plain", "run"):
                 return report_answer(graph, chips, limit)
             if command == "simulate":
@@ -389,7 +391,7 @@ REPORT = re.compile(
 
 
 def read_report(text, limits):
-    """The chips and firings of a report, and what was fired before."""
+    """The chips and firings of a report, what was fired before, and the lists of halted vertices."""
     found = REPORT.fullmatch(whole(text, limits))
     if not found:
         raise Fault("50 NotReport")
@@ -407,7 +409,7 @@ def read_report(text, limits):
     )
     if not is_report:
         raise Fault("50 NotReport")
-    return chips, fired, prior if is_two else [0] * len(chips)
+    return chips, fired, prior if is_two else [0] * len(chips), (over, sealed)
 
 
 def listed(text):
@@ -415,7 +417,7 @@ def listed(text):
 
 
 def resumed(graph, text, limit, limits):
-    chips, fired, prior = read_report(text, limits)
+    chips, fired, prior, _ = read_report(text, limits)
     if len(chips) != graph["vertices"]:
         raise Fault("52 Mismatch")
     if sum(chips) > MAX_CHIPS:
@@ -425,6 +427,19 @@ def resumed(graph, text, limit, limits):
         if count > MAX_PRIOR:
             raise Fault(f"51 Prior {v}")
     return report_answer(graph, chips, limit, before)
+
+
+def verified(graph, chips, text, limit, limits):
+    """That a report is the one of this game, or the least vertex where it differs."""
+    told, fired, prior, halted = read_report(text, limits)
+    if len(told) != graph["vertices"]:
+        raise Fault("52 Mismatch")
+    counts, over = play(graph, chips, limit)
+    for v in range(len(chips)):
+        said = prior[v] + fired[v], told[v], *(v in them for them in halted)
+        if said != (counts[v], chips[v], v in over, False):
+            raise Fault(f"53 Differs {v}")
+    return Answer(b"verified\n")
 
 
 class Replay:

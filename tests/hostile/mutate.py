@@ -2,7 +2,7 @@
 import json
 
 EVENTS = ["take", "ack", "fire", "clear", "claim", "put", "halt", "settle", "seal", "read", "feed", "end"]
-COMMANDS = ["check", "plain", "simulate", "run", "replay", "resume"]
+COMMANDS = ["check", "plain", "simulate", "run", "replay", "resume", "verify"]
 NUMBERS = [
     b"0", b"1", b"2", b"3", b"00", b"01", b"-0", b"-1", b"+1", b"1.0", b"1.5", b"1e0", b"1e400", b"4096", b"4097",
     b"65536", b"1048576", b"1048577", b"1099511627776", b"1099511627777", b"1152921504606846976",
@@ -99,8 +99,8 @@ def report_text(graph, chips, draw):
     return json.dumps(said, separators=(",", ":"), sort_keys=True) + "\n"
 
 
-def random_files(command, draw, replay):
-    """The files of a command, as bytes; `run` may have a third one, of feeds."""
+def random_files(command, draw, replay, played):
+    """The files of a command, as bytes; `run` may have a third one, of feeds. `played` tells the report of a game."""
     graph = random_graph(draw)
     chips = chips_of(graph, draw)
     texts = [json.dumps(graph, separators=draw.choice([(",", ":"), (", ", ": ")]))]
@@ -112,6 +112,9 @@ def random_files(command, draw, replay):
         texts.append(schedule_text(graph, draw))
     elif command == "replay":
         texts.append(trace_text(graph, chips, draw, replay))
+    elif command == "verify":
+        told = played(graph, chips) if draw.random() < 0.5 else None
+        texts.append(told or report_text(graph, chips, draw))
     elif command == "run" and draw.random() < 0.6:
         texts.append(chips_text(chips_of(graph, draw), draw))
     return [text.encode() for text in texts]

@@ -14,6 +14,7 @@ NAMES = {
     "run": ["graph.json", "chips.csv", "feed.csv"],
     "replay": ["graph.json", "chips.csv", "trace.csv"],
     "resume": ["graph.json", "report.json"],
+    "verify": ["graph.json", "chips.csv", "report.json"],
 }
 
 
@@ -22,7 +23,7 @@ def options_of(command, draw):
     options = {}
     if command != "check" and draw.random() < 0.5:
         options["limit"] = draw.choice([0, 1, 2, 5, 1 << 40])
-    if command in ("check", "plain", "resume"):
+    if command in ("check", "plain", "resume", "verify"):
         options.update(large=draw.random() < 0.5)
     if command == "simulate":
         options.update(ring=draw.choice([1, 1, 2, 3, 64]), rounds=draw.choice([0, 1, 3, 50]))
@@ -48,6 +49,11 @@ def placed(command, paths, draw):
     return [*paths[:at], "--feed", paths[2], *paths[at:2]]
 
 
+def played(graph, chips):
+    """The report of a game, as a text, played to its end by the model."""
+    return model.report_answer(graph, list(chips), model.MAX_CHIPS).out.decode()
+
+
 def judged(reference, draw):
     """A command at random, its files, mutated, its options, and the answer that must come.
 
@@ -55,7 +61,7 @@ def judged(reference, draw):
     """
     while True:
         command = draw.choice(mutate.COMMANDS)
-        files = mutate.mutated(mutate.random_files(command, draw, model.Replay), draw)
+        files = mutate.mutated(mutate.random_files(command, draw, model.Replay, played), draw)
         options = options_of(command, draw)
         with contextlib.suppress(model.Unjudged):
             return command, files, options, reference.answer(command, files, **options)

@@ -147,6 +147,8 @@ def worked_runs(examples):
         run("first sitting", "plain triangle/graph.json sittings/chips.csv --limit 1", "sittings/first.json", status=2),
         run("last sitting", "resume triangle/graph.json sittings/second.json", "sittings/third.json"),
         run("large last sitting", "resume --large triangle/graph.json sittings/second.json", "sittings/third.json"),
+        run("verified", f"verify {triangle} triangle/report.json", out=b"verified\n"),
+        run("not verified", f"verify {triangle} sittings/third.json", fault="53 Differs 0", status=1),
         run(
             "sealed half way",
             f"simulate {triangle} detector/sealed-half-way.csv --rounds 10",

@@ -93,6 +93,13 @@ pub struct ReplayArguments<'a> {
     pub trace: FileArgument<'a>,
 }
 
+/// A report to verify that the arguments name.
+#[derive(Clone, Copy)]
+pub struct VerifyArguments<'a> {
+    pub play: PlayArguments<'a>,
+    pub report: FileArgument<'a>,
+}
+
 /// What the arguments ask for.
 #[derive(Drop)]
 pub enum Request<'a> {
@@ -105,6 +112,7 @@ pub enum Request<'a> {
     Replay(ReplayArguments<'a>),
     /// Its start is a report.
     Resume(PlayArguments<'a>),
+    Verify(VerifyArguments<'a>),
     /// The number of a fault, if one is named.
     Explain(Option<u64>),
     /// The number of a rule, if one is named.
@@ -118,6 +126,7 @@ impl Request<'_> {
             Request::Plain(asked) => asked.progress,
             Request::Run(asked) => asked.progress,
             Request::Resume(asked) => asked.progress,
+            Request::Verify(asked) => asked.play.progress,
             _ => false,
         }
     }
@@ -157,6 +166,10 @@ fn request_of<'a>(matches: &ArgMatches<'a>, arguments: &[String]) -> Option<Requ
             trace: found.file(TRACE_FILE.name)?,
         })),
         "resume" => Some(Request::Resume(found.play(REPORT)?)),
+        "verify" => Some(Request::Verify(VerifyArguments {
+            play: found.play(CHIPS)?,
+            report: found.file(REPORT.name)?,
+        })),
         "explain" => found.explanation(),
         _ => None,
     }

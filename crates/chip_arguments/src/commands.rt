@@ -81,7 +81,7 @@ pub const TRACE_FILE: &OperandRow = &OperandRow {
 
 pub const REPORT: &OperandRow = &OperandRow {
     name: "REPORT",
-    help: "The report of the play so far, of version 1 or 2",
+    help: "The report of the play, of version 1 or 2",
     is: Operand::File,
 };
 
@@ -249,6 +249,14 @@ const RESUME: &CommandRow = &CommandRow {
     options: &[LIMIT, LARGE, PROGRESS],
 };
 
+const VERIFY: &CommandRow = &CommandRow {
+    name: "verify",
+    about: "Tells whether a report is that of a game: its counts, chips and halted vertices",
+    after_help: texts::VERIFY,
+    operands: &[GRAPH, CHIPS, REPORT],
+    options: &[LIMIT, LARGE, PROGRESS],
+};
+
 const EXPLAIN: &CommandRow = &CommandRow {
     name: "explain",
     about: "Explains the fault or the rule with a number, or lists all of them",
@@ -258,6 +266,6 @@ const EXPLAIN: &CommandRow = &CommandRow {
 };
 
 /// The commands, in the order in which the help lists them.
-pub fn commands() -> [&'static CommandRow; 7] {
-    [CHECK, PLAIN, RUN, SIMULATE, REPLAY, RESUME, EXPLAIN]
+pub fn commands() -> [&'static CommandRow; 8] {
+    [CHECK, PLAIN, RUN, SIMULATE, REPLAY, RESUME, VERIFY, EXPLAIN]
 }

@@ -91,6 +91,19 @@ report names under \"over\"; 1 a fault, which `chipfire explain N` explains.
 
 Example: chipfire resume graph.json report.json --limit 1000 >next.json";
 
+pub const VERIFY: &str = "\
+A report is verified if every play of this game within this limit fires each vertex as often
+in all, and leaves the same chips and the same vertices halted by the limit. A sitting that
+was stopped, or sittings in which a vertex fired more often, may be right and have fault 53.
+
+Without --large a graph has at most 4096 vertices and 65536 edges, and each file 16777216
+bytes. A report of more vertices needs the option, too.
+
+Exit status: 0 the report is that of the game; 1 a fault, which `chipfire explain N`
+explains: 53 where it is not.
+
+Example: chipfire verify graph.json chips.csv report.json";
+
 pub const EXPLAIN: &str = "\
 The answer `not-now N` of `simulate` names a rule: `chipfire explain rule N` explains it.
 

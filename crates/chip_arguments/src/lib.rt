@@ -6,7 +6,7 @@
 
 pub use arguments::{
     CheckArguments, FileArgument, GameArguments, PlayArguments, ReplayArguments, Request,
-    RunArguments, SimulationArguments, parse,
+    RunArguments, SimulationArguments, VerifyArguments, parse,
 };
 pub use fault::ArgumentsFault;
 

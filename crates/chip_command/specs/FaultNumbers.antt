@@ -65,6 +65,7 @@ number_of (fault.File f) = number_of_file_fault f
 number_of (fault.Game f) = number_of_game_fault f
 number_of fault.NotReport = 50
 number_of (fault.Resume f) = number_of_resume_fault f
+number_of (fault.Differs vertex) = 53
 number_of fault.Plan = 60
 number_of (fault.Unfinished deficit) = 61
 number_of fault.GateShut = 62
@@ -106,6 +107,7 @@ location_of_resume_fault _ = Nowhere
 abbrev pub location_of : Fault → Location
 location_of (fault.File f) = location_of_file_fault f
 location_of (fault.Resume f) = location_of_resume_fault f
+location_of (fault.Differs vertex) = At vertex
 location_of (fault.Unfinished deficit) = At deficit
 location_of (fault.Lost vertex) = At vertex
 location_of (fault.Doubled vertex) = At vertex

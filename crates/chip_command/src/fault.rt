@@ -29,6 +29,8 @@ pub enum Fault {
     NotReport,
     /// The play that a report tells does not go on.
     Resume(ResumeFault),
+    /// A report tells another end of a game, and this is the least vertex where it does.
+    Differs(u64),
     /// A number of the plan for a crew is out of its range.
     Plan,
     /// All turns of a crew were made, and so many of the root's messages are not acknowledged.
@@ -339,6 +341,7 @@ impl Fault {
             Fault::Game(fault) => number_of_game(fault),
             Fault::NotReport => 50,
             Fault::Resume(fault) => number_of_resume(fault),
+            Fault::Differs(_) => 53,
             Fault::Plan => 60,
             Fault::Unfinished(_) => 61,
             Fault::GateShut => 62,
@@ -360,6 +363,7 @@ impl Fault {
         match self {
             Fault::File(fault) => location_of_file(fault),
             Fault::Resume(fault) => location_of_resume(fault),
+            Fault::Differs(vertex) => Location::At(*vertex),
             Fault::Unfinished(deficit) => Location::At(*deficit),
             Fault::Lost(vertex) => Location::At(*vertex),
             Fault::Doubled(vertex) => Location::At(*vertex),

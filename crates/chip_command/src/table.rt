@@ -445,6 +445,19 @@ so name the graph file that the earlier command had.
 ",
 };
 
+static DIFFERS: Explanation = Explanation {
+    number: 53,
+    name: "Differs",
+    place: Place::VERTEX,
+    meaning: "the report is not that of this game, and v is the least vertex where it differs",
+    advice: "\
+The game fires v more or less often in all, leaves it other chips, or halts it where the
+report does not. See that graph, chips and --limit are those of the report. The report of a
+sitting that was stopped, or of several with limits of their own, may be right and differ:
+`chipfire verify` plays without a stop, by one limit.
+",
+};
+
 static PLAN: Explanation = Explanation {
     number: 60,
     name: "Plan",
@@ -571,7 +584,7 @@ not be written, and nothing of the report was.
 };
 
 /// All rows, by their numbers.
-pub fn explanations() -> [&'static Explanation; 42] {
+pub fn explanations() -> [&'static Explanation; 43] {
     [
         &VERTICES,
         &SINK,
@@ -604,6 +617,7 @@ pub fn explanations() -> [&'static Explanation; 42] {
         &NOT_REPORT,
         &PRIOR,
         &MISMATCH,
+        &DIFFERS,
         &PLAN,
         &UNFINISHED,
         &GATE_SHUT,

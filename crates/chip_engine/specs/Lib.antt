@@ -5,6 +5,7 @@ pub mod ExplainCommand
 pub mod ReplayCommand
 pub mod SimulateCommand
 pub mod ResumeCommand
+pub mod VerifyCommand
 pub mod Sittings
 pub mod Worked
 pub mod SimulatedBytes

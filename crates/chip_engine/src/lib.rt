@@ -11,6 +11,7 @@ pub use plain::{plain_engine, plain_engine_with};
 pub use replay::{replay_engine, replay_engine_with};
 pub use resume::{resume_engine, resume_engine_with};
 pub use simulate::{SimulateOptions, simulate_engine, simulate_engine_with};
+pub use verify::{verify_engine, verify_engine_with};
 
 mod board;
 mod check;
@@ -21,3 +22,4 @@ mod plain;
 mod replay;
 mod resume;
 mod simulate;
+mod verify;

@@ -73,7 +73,11 @@ fn answer<G: Read, R: Read, P: Watch>(
 }
 
 /// The sitting that a report of at most so many vertices and bytes tells, of either version.
-fn read_sitting<R: Read>(alloc: Global, limits: Limits, report: &mut R) -> Result<Resumed, Fault>
+pub(crate) fn read_sitting<R: Read>(
+    alloc: Global,
+    limits: Limits,
+    report: &mut R,
+) -> Result<Resumed, Fault>
     ensures { GivesSitting limits (R.remaining report.old) result }
 {
     let text = read_whole_within(alloc, limits, report)?;

@@ -3,7 +3,7 @@
 use chip_command::{Ended, Fault};
 use chip_engine::{
     PlayOptions, check_engine, check_engine_with, plain_engine, plain_engine_with, replay_engine,
-    resume_engine, resume_engine_with, simulate_engine,
+    resume_engine, resume_engine_with, simulate_engine, verify_engine,
 };
 use chip_file::{FileFault, read_graph, read_trace};
 use chip_fire::{ResumeFault, Unwatched, Watch};
@@ -382,6 +382,33 @@ fn goes_on_with_the_triangle(rt: HostRuntime) {
     let limit = Err(Fault::Resume(ResumeFault::Limit));
     assert!(rt; resumed(&rt, STOPPED, NO_LIMIT + 1, "") == limit);
     assert!(rt; resumed(&rt, "", NO_LIMIT, "") == Err(Fault::NotReport));
+}
+
+/// What `verify` answers for a report of the triangle with five chips on vertex 0, by this limit.
+fn verified(rt: &(impl AllocGlobal + Abort), report: &str, limit: u64) -> Result<Ended, Fault> {
+    let mut output = Vec::new(rt.alloc());
+    let ended = verify_engine(
+        rt.alloc(),
+        &mut TRIANGLE.as_bytes(),
+        &mut "vertex,chips\n0,5\n".as_bytes(),
+        &mut report.as_bytes(),
+        limit,
+        &mut output,
+    );
+    let text = if ended.is_ok() { "verified\n" } else { "" };
+    assert!(rt; output.as_slice() == text.as_bytes(), "{report}");
+    ended
+}
+
+#[test]
+fn verifies_the_triangle(rt: HostRuntime) {
+    assert!(rt; verified(&rt, STOPPED, 2) == closed(0));
+    assert!(rt; verified(&rt, WENT_ON, NO_LIMIT) == closed(0));
+    assert!(rt; verified(&rt, STOPPED, NO_LIMIT) == Err(Fault::Differs(0)));
+    assert!(rt; verified(&rt, PLAYED, NO_LIMIT) == Err(Fault::Differs(0)));
+    let mismatch = Err(Fault::Resume(ResumeFault::Mismatch));
+    assert!(rt; verified(&rt, OF_TWO, NO_LIMIT) == mismatch);
+    assert!(rt; verified(&rt, "", NO_LIMIT) == Err(Fault::NotReport));
 }
 
 /// Where the graph is refused nothing of the report is read.

@@ -25,6 +25,7 @@ const LINES: &[&(Fault, &str)] = &[
     &(Fault::NotReport, "fault 50 NotReport"),
     &(Fault::Resume(ResumeFault::Prior(3)), "fault 51 Prior 3"),
     &(Fault::Resume(ResumeFault::Mismatch), "fault 52 Mismatch"),
+    &(Fault::Differs(7), "fault 53 Differs 7"),
     &(Fault::Resume(ResumeFault::Total), "fault 10 Total"),
     &(Fault::Resume(ResumeFault::Limit), "fault 11 Limit"),
     &(Fault::Plan, "fault 60 Plan"),

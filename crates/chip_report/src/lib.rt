@@ -6,6 +6,7 @@
 
 pub use fault::ReportFault;
 pub use read::{read_any, read_any_within, read_report, read_report_within};
+pub use reportable::is_in;
 pub use sink::{LastWrite, Sink};
 pub use text::{is_closed, report, report_two};
 pub use write::{WriteFault, write_all_of, write_all_to};

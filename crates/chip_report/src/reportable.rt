@@ -76,7 +76,7 @@ fn are_apart(over: &[u64], sealed: &[u64]) -> bool
 }
 
 /// Whether a vertex stands in an ascending list.
-fn is_in(list: &[u64], vertex: u64) -> bool
+pub fn is_in(list: &[u64], vertex: u64) -> bool
     requires { IsStrictlyIncreasing list.now }
     ensures { (result ≡ true) ↔ Contains list.now vertex }
 {

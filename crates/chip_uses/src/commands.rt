@@ -8,7 +8,9 @@ ghost use Rattle.chip_command.specs.Inputs.{MeansGame};
 ghost use Rattle.chip_command.specs.Reports.{Reports};
 
 use chip_command::{Ended, Fault};
-use chip_engine::{check_engine, plain_engine, replay_engine, resume_engine, simulate_engine};
+use chip_engine::{
+    check_engine, plain_engine, replay_engine, resume_engine, simulate_engine, verify_engine,
+};
 use chip_run::run_engine;
 use std::alloc::Global;
 use std::io::Write;
@@ -31,6 +33,14 @@ pub fn run_all<W: Write>(
     plain_engine(alloc, &mut &graph[..], &mut &chips[..], limit, output)?;
     resume_engine(alloc, &mut &graph[..], &mut &report[..], limit, output)?;
     let (mut graph_again, mut chips_again, mut events) = (graph, chips, schedule);
+    verify_engine(
+        alloc,
+        &mut &graph[..],
+        &mut &chips[..],
+        &mut &report[..],
+        limit,
+        output,
+    )?;
     simulate_engine(
         alloc,
         &mut graph_again,

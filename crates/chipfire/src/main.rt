@@ -8,13 +8,14 @@ ghost use Rattle.std.specs.Prelude.{◌≡◌, None};
 
 use chip_arguments::{
     ArgumentsFault, CheckArguments, GameArguments, PlayArguments, ReplayArguments, Request,
-    RunArguments, SimulationArguments, limits, parse,
+    RunArguments, SimulationArguments, VerifyArguments, limits, parse,
 };
 use chip_command::{Ended, Fault, Status, conclude, explanations, rules};
 use chip_crew::{MAX_TRACE_ROWS, MAX_TURNS, MAX_WORKERS, Plan, Sharing};
 use chip_engine::{
     PlayOptions, SimulateOptions, check_engine_with, explain_engine, plain_engine,
     plain_engine_with, replay_engine_with, resume_engine_with, simulate_engine_with,
+    verify_engine_with,
 };
 use chip_graph::{Limits, MAX_LIMIT};
 use chip_link::{MAX_RING, Ring};
@@ -126,6 +127,7 @@ fn serve<
         Request::Run(asked) => play_on_threads(console, asked, output),
         Request::Replay(asked) => replay(console, asked, output),
         Request::Resume(asked) => resume(console, asked, output),
+        Request::Verify(asked) => verify(console, asked, output),
         Request::Explain(number) => explain_engine(
             alloc,
             "fault",
@@ -274,6 +276,26 @@ fn resume<R: Files<File = File> + Input + Clock + Eprint + AllocGlobal, W: io::W
         &mut graph,
         &mut report,
         play_options(&asked.game),
+        &mut RoundProgress::start(console),
+        output,
+    )
+}
+
+/// Tells whether a report is that of a game.
+fn verify<R: Files<File = File> + Input + Clock + Eprint + AllocGlobal, W: io::Write>(
+    console: &Console<'_, R>,
+    asked: &VerifyArguments<'_>,
+    output: &mut W,
+) -> Result<Ended, Fault> {
+    let game = &asked.play.game;
+    let (mut graph, mut chips) = open_game(console, game)?;
+    let mut report = console.open(&asked.report)?;
+    verify_engine_with(
+        console.rt.alloc(),
+        &mut graph,
+        &mut chips,
+        &mut report,
+        play_options(game),
         &mut RoundProgress::start(console),
         output,
     )

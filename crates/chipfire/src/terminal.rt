@@ -37,7 +37,7 @@ pub fn tell_more<R: Eprint>(rt: &R, fault: &Fault, about: &str) -> io::Result<()
 fn is_about_a_file(fault: &Fault) -> bool {
     match fault {
         Fault::File(_) | Fault::Game(_) | Fault::NotReport | Fault::Resume(_) => true,
-        Fault::Stuck { .. } | Fault::Open(_) => true,
+        Fault::Differs(_) | Fault::Stuck { .. } | Fault::Open(_) => true,
         _ => false,
     }
 }

@@ -1,0 +1,157 @@
+//! `verify`: whether a report is that of a game.
+
+ghost use Rattle.std.specs.Prelude.{◌≡◌, ◌↔◌, ℕ, ◌<◌, true, Contains, MatchOption, length, slice_index};
+ghost use Rattle.std.specs.List.Sorted.{IsStrictlyIncreasing};
+ghost use Rattle.chip_graph.specs.Limits.{standard};
+ghost use Rattle.chip_sequence.specs.Outcomes.{IsOutcome};
+ghost use Rattle.chip_sequence.specs.Sittings.{IsResumed, fired_in_all};
+ghost use Rattle.chip_command.specs.CommandAnswers.{Gives, OrMemory};
+ghost use Rattle.chip_engine.specs.VerifyCommand.{AgreesAt, IsDifference, RefusesToVerify, Verifies};
+ghost use Rattle.chip_engine.specs.VerifyCommand.{VerifyAnswers, VerifyRefuses, VerifyWrites};
+
+use crate::options::PlayOptions;
+use crate::resume::read_sitting;
+use chip_command::{Answer, Ended, Fault, deliver, read_game};
+use chip_fire::{ResumeFault, Unwatched, Watch, plain_watched};
+use chip_graph::Game;
+use chip_report::is_in;
+use chip_sequence::{Outcome, Resumed};
+use std::alloc::Global;
+use std::io::{Read, Write};
+
+/// Tells whether a report is that of the game of a graph file, a chips file and a firing limit, within the standard
+/// limits: whether it has the counts, in all sittings, the chips and the halted vertices with which `plain` ends.
+pub fn verify_engine<G: Read, C: Read, R: Read, W: Write>(
+    alloc: Global,
+    graph: &mut G,
+    chips: &mut C,
+    report: &mut R,
+    limit: u64,
+    output: &mut W,
+) -> Result<Ended, Fault>
+    ensures { VerifyAnswers standard (G.remaining graph.old) (C.remaining chips.old) (R.remaining report.old) limit
+        (W.contents output.old) (W.contents output.new) result }
+{
+    verify_engine_with(
+        alloc,
+        graph,
+        chips,
+        report,
+        PlayOptions::standard(limit),
+        &mut Unwatched,
+        output,
+    )
+}
+
+/// Does what `verify_engine` does, by these options, and tells now and then how far the play has come. Its answer is the
+/// same, whoever is told.
+pub fn verify_engine_with<G: Read, C: Read, R: Read, P: Watch, W: Write>(
+    alloc: Global,
+    graph: &mut G,
+    chips: &mut C,
+    report: &mut R,
+    options: PlayOptions,
+    watch: &mut P,
+    output: &mut W,
+) -> Result<Ended, Fault>
+    ensures { VerifyAnswers options.limits (G.remaining graph.old) (C.remaining chips.old) (R.remaining report.old)
+        options.limit (W.contents output.old) (W.contents output.new) result }
+{
+    deliver(output, answer(alloc, graph, chips, report, options, watch))
+}
+
+/// What `verify` has to say of a game and a report.
+fn answer<G: Read, C: Read, R: Read, P: Watch>(
+    alloc: Global,
+    graph: &mut G,
+    chips: &mut C,
+    report: &mut R,
+    options: PlayOptions,
+    watch: &mut P,
+) -> Result<Answer, Fault>
+    ensures { let graph = G.remaining graph.old in let chips = C.remaining chips.old in let report = R.remaining report.old in
+        Gives (VerifyWrites options.limits graph chips report options.limit)
+        (VerifyRefuses options.limits graph chips report options.limit) result }
+{
+    let game = read_game(alloc, options.limits, graph, chips, options.limit)?;
+    let told = read_sitting(alloc, options.limits, report)?;
+    verify(alloc, &game, &told, watch)
+}
+
+/// That a sitting tells the outcome of the game, or why it does not.
+fn verify<P: Watch>(
+    alloc: Global,
+    game: &Game,
+    told: &Resumed,
+    watch: &mut P,
+) -> Result<Answer, Fault>
+    requires { IsResumed told.now }
+    ensures { Gives (Verifies game.now told.now) (OrMemory (RefusesToVerify game.now told.now)) result }
+{
+    if told.outcome.fired.len() as u64 != game.graph().vertices() {
+        return Err(Fault::Resume(ResumeFault::Mismatch));
+    }
+    watch.plays(game);
+    let outcome = plain_watched(alloc, game, watch)?;
+    match first_difference(told, &outcome) {
+        Some(vertex) => Err(Fault::Differs(vertex)),
+        None => Ok(Answer::of_lines(String::from_str(alloc, "verified\n")?)),
+    }
+}
+
+/// The least vertex of which a sitting and an outcome do not tell the same.
+fn first_difference(told: &Resumed, outcome: &Outcome) -> Option<u64>
+    requires in_range { IsResumed told.now }
+    requires is_outcome { IsOutcome outcome.now }
+    requires as_many { length told.now.outcome.fired.items ≡ length outcome.now.fired.items }
+    ensures { MatchOption result ((v : ℕ) → v < length outcome.now.fired.items → AgreesAt told.now outcome.now v)
+        (IsDifference told.now outcome.now) }
+{
+    for vertex in 0..outcome.fired.len() as u64 {
+        if !agrees_at(told, outcome, vertex) {
+            return Some(vertex);
+        }
+    }
+    None
+}
+
+/// Whether a sitting and an outcome tell the same of a vertex.
+fn agrees_at(told: &Resumed, outcome: &Outcome, vertex: u64) -> bool
+    requires in_range { IsResumed told.now }
+    requires is_outcome { IsOutcome outcome.now }
+    requires as_many { length told.now.outcome.fired.items ≡ length outcome.now.fired.items }
+    requires is_vertex { vertex < length outcome.now.fired.items }
+    ensures { (result ≡ true) ↔ AgreesAt told.now outcome.now vertex }
+{
+    let last = &told.outcome;
+    if !has_numbers(told, outcome, vertex) {
+        return false;
+    }
+    if !stands_alike(&last.over, &outcome.over, vertex) {
+        return false;
+    }
+    stands_alike(&last.sealed, &outcome.sealed, vertex)
+}
+
+/// Whether a vertex has fired as often in all sittings as in an outcome, and has as many chips.
+fn has_numbers(told: &Resumed, outcome: &Outcome, vertex: u64) -> bool
+    requires in_range { IsResumed told.now }
+    requires is_outcome { IsOutcome outcome.now }
+    requires as_many { length told.now.outcome.fired.items ≡ length outcome.now.fired.items }
+    requires is_vertex { vertex < length outcome.now.fired.items }
+    ensures { (result ≡ true) ↔ ((fired_in_all told.now vertex ≡ slice_index outcome.now.fired.items vertex)
+        × (slice_index told.now.outcome.chips.items vertex ≡ slice_index outcome.now.chips.items vertex)) }
+{
+    let v = vertex as usize;
+    let fired = told.prior[v] + told.outcome.fired[v];
+    fired == outcome.fired[v] && told.outcome.chips[v] == outcome.chips[v]
+}
+
+/// Whether a vertex stands in both of two ascending lists or in none.
+fn stands_alike(one: &[u64], other: &[u64], vertex: u64) -> bool
+    requires one_ascends { IsStrictlyIncreasing one.now }
+    requires other_ascends { IsStrictlyIncreasing other.now }
+    ensures { (result ≡ true) ↔ (Contains one.now vertex ↔ Contains other.now vertex) }
+{
+    is_in(one, vertex) == is_in(other, vertex)
+}

@@ -1,0 +1,87 @@
+"""Reports of random games, true ones and others, and what `verify` says of them.
+
+The games are small and drawn at random, with a limit or without. What must come is known from examples/play.py: its
+report is verified, also where some of its firings are told as those of earlier sittings, and of any other report the
+least vertex is told at which it has another count, other chips, or another place in a list of halted vertices.
+"""
+import json
+import random
+import subprocess
+import tempfile
+
+import chains
+
+NO_LIMIT = 2**40
+SECONDS = 60
+
+
+def report_of(told):
+    """A report as a text, of version 2 where it has firings of earlier sittings."""
+    said = {**told, "closed": not told["over"] + told["sealed"], "version": 2 if "prior" in told else 1}
+    return json.dumps(said, separators=(",", ":"), sort_keys=True) + "\n"
+
+
+def told_of(told, v):
+    """What a report tells of a vertex."""
+    fired = told["fired"][v] + told.get("prior", [0] * len(told["fired"]))[v]
+    return fired, told["chips"][v], v in told["over"], v in told["sealed"]
+
+
+def others(draw, truth, another):
+    """Reports that are like a true one, and the report of another play."""
+    size = len(truth["fired"])
+    v, u = draw.randrange(size), draw.randrange(size)
+    less, more, moved, over, sealed = ({name: list(them) for name, them in truth.items()} for _ in range(5))
+    less["fired"][v] -= min(1, less["fired"][v])
+    more["fired"][v] += 1
+    moved["chips"][v] += 1
+    moved["chips"][u] -= min(1, moved["chips"][u])
+    over["over"] = sorted({*over["over"]} ^ {v})
+    sealed["sealed"] = [v]
+    sealed["over"] = [it for it in sealed["over"] if it != v]
+    all_more = {**truth, "fired": [it + 1 for it in truth["fired"]]}
+    drawn = {**truth, "fired": [draw.randint(0, 9) for _ in range(size)]}
+    greatest = {**truth, "fired": [NO_LIMIT] * size}
+    before = [draw.randint(0, it) for it in truth["fired"]]
+    split = {**truth, "prior": before, "fired": [a - b for a, b in zip(truth["fired"], before)]}
+    return [truth, split, less, more, moved, over, sealed, all_more, drawn, greatest, another]
+
+
+def wrong_verdicts(program, room, draw, play):
+    """What is wrong with the verdicts on the reports of one game."""
+    graph, chips = chains.random_game(draw)
+    limit = draw.choice([NO_LIMIT, draw.randint(0, 6)])
+    another_limit = draw.choice([NO_LIMIT, draw.randint(0, 6)])
+
+    def played(start, most):
+        left = list(start)
+        fired = play.play(graph, left, most, draw)
+        return {key: it for key, it in json.loads(play.report(graph, left, fired)).items() if key not in ("closed", "version")}
+
+    with open(f"{room}/graph.json", "w", encoding="utf-8") as file:
+        json.dump(graph, file)
+    with open(f"{room}/chips.csv", "w", encoding="utf-8") as file:
+        file.write("vertex,chips\n" + "".join(f"{v},{count}\n" for v, count in enumerate(chips)))
+    truth = played(chips, limit)
+    another = draw.choice([played(chips, another_limit), played([it + 1 for it in chips], limit)])
+    found = []
+    for told in others(draw, truth, another):
+        with open(f"{room}/report.json", "w", encoding="utf-8") as file:
+            file.write(report_of(told))
+        differs = next((v for v in range(len(chips)) if told_of(told, v) != told_of(truth, v)), None)
+        words = [program, "verify", "graph.json", "chips.csv", "report.json"]
+        words += [] if limit == NO_LIMIT else ["--limit", str(limit)]
+        ran = subprocess.run(words, stdout=subprocess.PIPE, stderr=subprocess.PIPE, cwd=room, timeout=SECONDS)
+        wanted = (0, b"verified\n", b"") if differs is None else (1, b"", b"chipfire: fault 53 Differs %d\n" % differs)
+        came = ran.returncode, ran.stdout, ran.stderr
+        if came != wanted:
+            found.append(f"{graph} with {chips}, limit {limit}: of {told} expected {wanted}, got {came}")
+    return found
+
+
+def verify_reports(program, examples, games):
+    """Verifies the reports of so many games, and yields for each its place, name and what was wrong."""
+    play = chains.module_of(examples, "play")
+    for game in range(games):
+        with tempfile.TemporaryDirectory(prefix="chipfire-verdicts-") as room:
+            yield "verdicts.py", f"reports of game {game}", wrong_verdicts(program, room, random.Random(game), play)

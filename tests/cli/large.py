@@ -5,10 +5,11 @@ squares, and the largest that there are, of 1,048,576 vertices and 8,388,608 edg
     tests/cli/large.py [--program FILE] [--games N] [--anew]
 
 FILE is the program that ./chipfire built, if not said. N random games are played, 200 if not said; tests/cli/run plays
-12. Each is played on one thread and on two. On one-way graphs a game of few chips is played too, and its trace replayed.
-What must come of them is known from player.c, which shares nothing with the program and is built by `cc`. It takes half a
-minute for the heap, so the digest of its report stands here; --anew has it found once more. The answers of the largest
-games are known by arithmetic. The last line is `N passed, N failed`, and the status is 0 only if nothing failed.
+12. Each is played on one thread and, but for chains, on two. On one-way graphs a game of few chips is played too, and
+its trace replayed. What must come of them is known from player.c, which shares nothing with the program and is built by
+`cc`. It takes half a minute for the heap, so the digest of its report stands here; --anew has it found once more. The
+answers of the largest games are known by arithmetic. The last line is `N passed, N failed`, and the status is 0 only if
+nothing failed.
 """
 import argparse
 import hashlib
@@ -245,7 +246,9 @@ def play_random(program, player, number):
         room = Room(program, folder, game)
         whole = played(player, room)
         yield "plain --large graph.json chips.csv", room.faults_of("plain --large graph.json chips.csv", whole)
-        yield THREADS, room.faults_of(THREADS, whole)
+        # (heaps sink along a chain by so many rounds of turns that the others tell as much in less time)
+        if kind != "chain":
+            yield THREADS, room.faults_of(THREADS, whole)
         turn = number // len(KINDS) % 3
         if turn == 0:
             yield from sittings(player, room, game, whole)

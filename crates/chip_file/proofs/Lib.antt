@@ -1,5 +1,6 @@
 mod NumberLemmas
 mod KeptLemmas
+mod VertexRowLemmas
 mod ChipsLemmas
 mod RowLemmas
 mod RecordLemmas

@@ -20,7 +20,8 @@ use Rattle.chip_file.specs.Answer.{Answers, Gives, IsOfMachine, ReadsWhole, Take
 use Rattle.chip_file.specs.Source.{ReadsSource, Tells, bytes_left, last_of_whole, last_read, reads}
 use Rattle.chip_file.specs.Rows.{Row, records_of, has_header, rows_under_header, first_row_fault, records_fault}
 use Rattle.chip_file.specs.Rows.{by_index}
-use Rattle.chip_file.specs.ChipsText.{chips_text_fault, chips_row_fault, chips_of_rows, chips_named, vertex_in}
+use Rattle.chip_file.specs.ChipsText.{chips_text_fault, chips_of_rows}
+use Rattle.chip_file.specs.VertexRows.{new_row_fault, number_named, vertex_in}
 use Rattle.chip_file.specs.ScheduleText.{schedule_text_fault, event_fault, event_kinds, may_be_at}
 use Rattle.chip_file.specs.ScheduleText as schedule
 use Rattle.chip_file.specs.GraphText.{IsGraphTextFault}
@@ -89,15 +90,14 @@ records_of_text header row_fault records each =
 pub chips_of_text_alone : (vertices : ℕ) (text : List ℕ) → IsOfText (chips_text_fault vertices text)
 chips_of_text_alone vertices text =
     first_of_text _ _
-    (records_of_text _ (chips_row_fault vertices) (records_of text) (λ before row.
-    four_of_text (length row == 2) (is_some (number_at 0 row) && is_some (number_at 1 row))
-    (nat_lt (vertex_in row) vertices)
-    (not (is_some (chips_named before (vertex_in row))))
-    (fault.Row (length before)) (fault.Number (length before)) (fault.Vertex (length before))
-    (fault.Repeated (length before))
-    refl refl refl refl))
-    (unless_of_text (nat_le (sum (chips_of_rows vertices (rows_under_header (records_of text)))) max_total) fault.Total
-    refl)
+    (records_of_text _ (new_row_fault vertices) (records_of text) (λ before row.
+    first_of_text _ _
+    (first_of_text _ _ (unless_of_text (length row == 2) (fault.Row (length before)) refl)
+    (first_of_text _ _
+    (unless_of_text (is_some (number_at 0 row) && is_some (number_at 1 row)) (fault.Number (length before)) refl)
+    (unless_of_text (nat_lt (vertex_in row) vertices) (fault.Vertex (length before)) refl)))
+    (unless_of_text (not (is_some (number_named before (vertex_in row)))) (fault.Repeated (length before)) refl)))
+    (unless_of_text (nat_le (sum (chips_of_rows vertices text)) max_total) fault.Total refl)
 
 pub schedule_of_text_alone : (G : Multigraph) (text : List ℕ) → IsOfText (schedule_text_fault G text)
 schedule_of_text_alone G text =

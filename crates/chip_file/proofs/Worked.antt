@@ -1,4 +1,4 @@
--- Serves GraphText.antt, ChipsText.antt, ScheduleText.antt.
+-- Serves GraphText.antt, ChipsText.antt, DropsText.antt, GuessText.antt, ScheduleText.antt.
 -- Worked texts, computed on the definitions.
 use Rattle.std.proofs.Common.{◌≡◌, ℕ, List, [], ◌∷◌, take, codes, None, Some, refl}
 use Rattle.std.specs.Str.{is_utf8, chars}
@@ -13,6 +13,8 @@ use Rattle.chip_file.specs.declared.fault.FileFault.TheVariants as fault
 use Rattle.chip_json.specs.GraphFile.{json_of}
 use Rattle.chip_file.specs.GraphText.{file_of_text, graph_of_text}
 use Rattle.chip_file.specs.ChipsText.{chips_of_text, chips_text_fault}
+use Rattle.chip_file.specs.DropsText.{drops_of_text, drops_text_fault}
+use Rattle.chip_file.specs.GuessText.{guess_of_text, guess_text_fault}
 use Rattle.chip_file.specs.ScheduleText.{schedule_of_text, schedule_text_fault}
 use Rattle.chip_file.specs.TraceText.{traces_of_text, trace_text_fault}
 
@@ -83,6 +85,60 @@ one_field_short = refl
 one_chip_too_many : chips_text_fault 2 (codes "vertex,chips\n0,1099511627776\n1,1\n") ≡ Some fault.Total
 unfolding csv_on_literals field_at
 one_chip_too_many = refl
+
+-- drops in the order of the file, two of them on one vertex, and more chips than a game holds
+dropped_twice : drops_of_text 3 (codes "vertex,chips\n2,1\n0,1099511627777\n2,0\n")
+    ≡ Some ((2, 1) ∷ (0, 1099511627777) ∷ (2, 0) ∷ [])
+unfolding csv_on_literals field_at
+dropped_twice = refl
+
+no_drops : drops_of_text 3 (codes "vertex,chips") ≡ Some []
+unfolding csv_on_literals field_at
+no_drops = refl
+
+-- the refusals of drops: each before those after it
+drops_of_a_guess : drops_text_fault 3 (codes "vertex,fired\n0,1\n") ≡ Some fault.Header
+unfolding csv_on_literals field_at
+drops_of_a_guess = refl
+
+drop_of_three_fields : drops_text_fault 3 (codes "vertex,chips\n0,1\nx,1,1\n") ≡ Some (fault.Row 1)
+unfolding csv_on_literals field_at
+drop_of_three_fields = refl
+
+drop_of_no_number : drops_text_fault 3 (codes "vertex,chips\n3,x\n") ≡ Some (fault.Number 0)
+unfolding csv_on_literals field_at
+drop_of_no_number = refl
+
+drop_on_no_vertex : drops_text_fault 3 (codes "vertex,chips\n0,1\n0,1\n3,1\n") ≡ Some (fault.Vertex 2)
+unfolding csv_on_literals field_at
+drop_on_no_vertex = refl
+
+-- a guess: vertex 1 is not named, and a count may be the greatest number of 64 bits
+largest_count : guess_of_text 3 (codes "vertex,fired\n2,18446744073709551615\n0,2\n")
+    ≡ Some (2 ∷ 0 ∷ 18446744073709551615 ∷ [])
+unfolding csv_on_literals field_at
+largest_count = refl
+
+-- the refusals of a guess: each before those after it
+guess_of_chips : guess_text_fault 3 (codes "vertex,chips\n0,1\n") ≡ Some fault.Header
+unfolding csv_on_literals field_at
+guess_of_chips = refl
+
+count_missing : guess_text_fault 3 (codes "vertex,fired\n0\n") ≡ Some (fault.Row 0)
+unfolding csv_on_literals field_at
+count_missing = refl
+
+count_too_large : guess_text_fault 3 (codes "vertex,fired\n3,18446744073709551616\n") ≡ Some (fault.Number 0)
+unfolding csv_on_literals field_at
+count_too_large = refl
+
+count_of_no_vertex : guess_text_fault 3 (codes "vertex,fired\n3,1\n3,1\n") ≡ Some (fault.Vertex 0)
+unfolding csv_on_literals field_at
+count_of_no_vertex = refl
+
+counted_twice : guess_text_fault 3 (codes "vertex,fired\n1,0\n0,1\n1,0\n") ≡ Some (fault.Repeated 2)
+unfolding csv_on_literals field_at
+counted_twice = refl
 
 -- the schedule of sealed half way, on the triangle
 sealed_half_way : schedule_of_text triangle_graph

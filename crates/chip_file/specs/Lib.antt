@@ -8,7 +8,10 @@ pub mod Numbers
 pub mod Rows
 pub mod Source
 pub mod Standing
+pub mod VertexRows
 pub mod ChipsText
+pub mod DropsText
+pub mod GuessText
 pub mod Kinds
 pub mod TraceText
 pub mod ScheduleText

@@ -1,15 +1,17 @@
-//! Readers of the files that chipfire takes: graphs as JSON; chips, schedules and traces as rows of CSV.
+//! Readers of the files that chipfire takes: graphs as JSON; chips, drops, guesses, schedules and traces as rows of CSV.
 //!
 //! `read_source` takes the whole of an input, and a function from bytes then answers what they mean, or the first thing
 //! wrong with them. What a text means is a definition: of a graph over the value that `serde_json` reads
-//! (`specs/GraphText.antt`), of chips, schedules and traces over the records that `csv` gives
-//! (`specs/ChipsText.antt`, `specs/ScheduleText.antt`, `specs/TraceText.antt`). Contracts speak of readers that tell
-//! their bytes, as a slice does. `docs/FORMATS.md` shows the files.
+//! (`specs/GraphText.antt`), of rows over the records that `csv` gives (`specs/ChipsText.antt`, `specs/DropsText.antt`,
+//! `specs/GuessText.antt`, `specs/ScheduleText.antt`, `specs/TraceText.antt`). Contracts speak of readers that tell their
+//! bytes, as a slice does. `docs/FORMATS.md` shows the files.
 #![tactic(auto)]
 
 pub use chips::{chips_of_source, chips_of_text, read_chips_within};
+pub use drops::drops_of_text;
 pub use fault::FileFault;
 pub use graph::{graph_of_source, graph_of_text, read_graph_within};
+pub use guess::guess_of_text;
 pub use schedule::{read_schedule_within, schedule_of_source, schedule_of_text};
 pub use source::{LastRead, Source};
 pub use standard::{read_chips, read_graph, read_schedule, read_trace, read_whole};
@@ -17,12 +19,15 @@ pub use trace::{read_trace_within, trace_of_source, trace_of_text};
 pub use whole::{read_source, read_whole_within};
 
 mod chips;
+mod drops;
 mod fault;
 mod graph;
+mod guess;
 mod number;
 mod rows;
 mod schedule;
 mod source;
 mod standard;
 mod trace;
+mod vertex_rows;
 mod whole;

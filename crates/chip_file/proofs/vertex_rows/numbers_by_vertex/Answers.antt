@@ -1,21 +1,20 @@
 use Rattle.csv.specs.Records.{fields_of}
-use Rattle.std.proofs.Common.{rules, inr, sym, ◌∙◌, [], ap, length, ◌≡◌, ◌++◌, ◌∷◌}
+use Rattle.std.proofs.Common.{rules, inr, sym, ◌∙◌, [], ap, length, map, ◌≡◌, ◌++◌, ◌∷◌}
 use Rattle.std.proofs.lemmas.List.{length-set}
 use Rattle.std.proofs.lemmas.Result.{err_from_is_err_and}
-use Rattle.chip_file.specs.ChipsText.{chips_header, chips_row_fault}
 use Rattle.chip_file.specs.Rows.{records_of}
+use Rattle.chip_file.specs.VertexRows.{new_row_fault}
 use Rattle.chip_file.proofs.RecordLemmas.{HasRead-none, HasRead-more, HasRead-fails, HasRead-all, header_fails}
 use Rattle.chip_file.proofs.RecordLemmas.{index_fits}
-use Rattle.chip_file.proofs.ChipsLemmas.{HaveNoted-none, HaveNoted-more, HaveNoted-all, table_fault, records_fail}
-use Rattle.chip_file.proofs.ChipsLemmas.{header_fails_chips, written_back}
-use Rattle.chip_file.proofs.chips.chips_by_vertex.Goals as goal
+use Rattle.chip_file.proofs.VertexRowLemmas.{HaveNoted-none, HaveNoted-more, HaveNoted-all, table_fault}
+use Rattle.chip_file.proofs.VertexRowLemmas.{written_back}
+use Rattle.chip_file.proofs.vertex_rows.numbers_by_vertex.Goals as goal
 
 pub returns-in_err-read_header : goal.returns-in_err-read_header
 returns-in_err-read_header c =
     let p = err_from_is_err_and c.from_residual-in_err-read_header.result c.from_residual-in_err-read_header.ensures.1 in
-    rw (p.1, p.2) (header_fails_chips c.args.vertices (records_of c.args.text.now) _
-    (header_fails chips_header (chips_row_fault c.args.vertices)
-    (records_of c.args.text.now) _ _ c.in_ok-records.ensures.rows c.in_err-read_header.ensures.err))
+    rw (p.1, p.2) (header_fails (map (λ name. name.now) c.args.header.now) (new_row_fault c.args.vertices)
+    (records_of c.args.text.now) _ _ c.in_ok-records.ensures.rows c.in_err-read_header.ensures.err)
 
 pub loop-named-init : goal.loop-named-init
 loop-named-init c =
@@ -38,8 +37,8 @@ returns-in_err-note_row c =
     let bad = rw c.deref_mut.ensures.value at c.in_err-note_row.ensures.err in
     let same = table_fault c.args.vertices inv.read.0 _ _ (fields_of c.read_record.new.row) inv.read.2 inv.read.1.counted
     in
-    rw (p.1, p.2) (inr (records_fail c.args.vertices (records_of c.args.text.now) _
-    (HasRead-fails chips_header _ _ _ _ _ _ _ _ inv.read.1 takes inv.headed (sym same ∙ bad))))
+    rw (p.1, p.2) (inr (HasRead-fails (map (λ name. name.now) c.args.header.now) _ _ _ _ _ _ _ _ inv.read.1 takes
+    inv.headed (sym same ∙ bad)))
 
 pub overflow_add-index : goal.overflow_add-index
 overflow_add-index c =
@@ -72,5 +71,6 @@ pub returns : goal.returns
 returns c =
     let inv = c.loop-named.invariant in
     let takes = rw c.if-branch.false at c.in_ok-read_record.ensures.1 in
-    HaveNoted-all c.args.vertices (records_of c.args.text.now) inv.read.0 _ inv.read.2
-    (HasRead-all chips_header _ _ _ _ _ inv.read.1 takes inv.headed)
+    let names = map (λ name. name.now) c.args.header.now in
+    HaveNoted-all names c.args.vertices c.args.text.now inv.read.0 _ inv.read.2
+    (HasRead-all names _ _ _ _ _ inv.read.1 takes inv.headed)

@@ -76,19 +76,25 @@ impl Hierarchy {
         if !spend(looks, size.saturating_mul(LOOKS_OF_PHASE), most) {
             return None;
         }
-        let mut finest = Level::ins(alloc, graph).ok()?;
-        let outs = Level::outs(alloc, graph).ok()?;
-        let kind = kind_of(alloc, &finest, &outs).ok()?;
+        let mut hierarchy = Hierarchy::flat(alloc, graph).ok()?;
+        hierarchy.coarser = coarsen(alloc, &mut hierarchy.finest, looks, most).ok()?;
+        Some(hierarchy)
+    }
+
+    /// The graph alone, with no aggregates.
+    pub(crate) fn flat(alloc: Global, graph: &Graph) -> Result<Hierarchy, AllocError> {
+        let finest = Level::ins(alloc, graph)?;
+        let outs = Level::outs(alloc, graph)?;
+        let kind = kind_of(alloc, &finest, &outs)?;
         let outs = if kind == Kind::Symmetric {
             None
         } else {
             Some(outs)
         };
-        let coarser = coarsen(alloc, &mut finest, looks, most).ok()?;
-        Some(Hierarchy {
+        Ok(Hierarchy {
             kind,
             finest,
-            coarser,
+            coarser: Vec::new(alloc),
             outs,
         })
     }

@@ -9,12 +9,14 @@
 //! what it found.
 #![tactic(auto)]
 
+pub use given::lower_counts;
 pub use hierarchy::Hierarchy;
 pub use search::{GuessedCounts, Search};
 
 mod burning;
 mod cycle;
 mod fit;
+mod given;
 pub mod hierarchy;
 mod level;
 pub mod search;

@@ -328,7 +328,7 @@ fn sum_of(passed: &[Passed]) -> i64 {
 }
 
 /// The sums of these counts and of what vertices had fired, up to a limit.
-fn up_to(
+pub(crate) fn up_to(
     alloc: Global,
     passed: &[Passed],
     fired: &[u64],

@@ -6,5 +6,6 @@ pub use Rattle.chip_sequence.specs.Play
 pub use Rattle.chip_sequence.specs.Outcomes
 pub use Rattle.chip_sequence.specs.Sittings
 pub mod Rounds
+pub mod Given
 pub mod Player
 pub mod Resume

@@ -3,14 +3,15 @@
 
 pub use chip_guess::Search;
 pub use chip_sequence::{AfterFault, NotLegal, Outcome, Resumed, after, after_into, enough, fire};
-pub use player::{plain, plain_watched};
+pub use player::{plain, plain_given, plain_watched};
 pub use sitting::{ResumeFault, resume, resume_watched};
-pub use watch::{Unwatched, Watch};
+pub use watch::{GivenUse, Unwatched, Watch};
 
 mod certificate;
+mod given;
 pub mod player;
 mod rounds;
 pub mod sitting;
 mod soon;
 mod start;
-mod watch;
+pub mod watch;

@@ -31,7 +31,20 @@ pub fn plain_watched<W: Watch>(
 ) -> Result<Outcome, AllocError>
     ensures { IfOk result (PlaysOut game.now) }
 {
-    let (mut chips, mut fired) = start(alloc, game, watch)?;
+    plain_given(alloc, game, &[], watch)
+}
+
+/// Plays a game as `plain_watched` does, and begins at the given counts of its vertices, or below them, as far as it is
+/// certain that every play reaches these: a count that is not given is 0. The outcome is the same, whatever is given.
+pub fn plain_given<W: Watch>(
+    alloc: Global,
+    game: &Game,
+    given: &[u64],
+    watch: &mut W,
+) -> Result<Outcome, AllocError>
+    ensures { IfOk result (PlaysOut game.now) }
+{
+    let (mut chips, mut fired) = start(alloc, game, given, watch)?;
     play(game, &mut chips, &mut fired, watch);
     let over = legal_vertices(alloc, game.graph(), &chips)?;
     Ok(Outcome {

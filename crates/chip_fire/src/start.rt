@@ -2,6 +2,7 @@ ghost use Rattle.std.specs.Prelude.{◌≡◌, ◌+◌, ◌*◌, ◌≤◌, leng
 ghost use Rattle.chip_fire.specs.Rounds.{IsBegun, IsShort};
 
 use crate::certificate::certify;
+use crate::given::use_given;
 use crate::rounds::ends_within;
 use crate::soon::{ends_soon, firings_of, looks_at_all};
 use crate::watch::Watch;
@@ -10,24 +11,35 @@ use chip_guess::tuning::{AHEAD, LEAD, STRETCH, TURN};
 use chip_guess::{GuessedCounts, Hierarchy, Search};
 use std::alloc::{AllocError, Global};
 
-/// The chips of each vertex and how often it has fired, with which a play begins: after some rounds,
-/// and where these have not ended it, at counts that are guessed and certified, if there are some.
+/// The chips of each vertex and how often it has fired, with which a play begins: at those of the given counts that are
+/// certified, if there are some, after some rounds, and where these have not ended it, at counts that are guessed and
+/// certified, if there are some.
 ///
 /// The memory of these two lists is all that it needs: where there is no more, no counts are searched.
 pub(crate) fn start<W: Watch>(
     alloc: Global,
     game: &Game,
+    given: &[u64],
     watch: &mut W,
 ) -> Result<(Vec<u64>, Vec<u64>), AllocError>
     ensures { IfOk result (λ begun. IsBegun game.now begun.0.items begun.1.items) }
 {
-    let mut chips = Vec::from_slice(alloc, game.start())?;
-    let mut fired = vec![in alloc; 0; game.graph().vertices() as usize]?;
+    let (chips, fired) = at_start(alloc, game)?;
+    let (mut chips, mut fired) = use_given(alloc, game, given, chips, fired, watch);
     let mut looks = 0u64;
     if ends_soon(game, &mut looks, &mut chips, &mut fired, watch) {
         return Ok((chips, fired));
     }
     Ok(by_turns(alloc, game, looks, chips, fired, watch))
+}
+
+/// The chips of each vertex at the start of a game, where none has fired.
+fn at_start(alloc: Global, game: &Game) -> Result<(Vec<u64>, Vec<u64>), AllocError>
+    ensures { IfOk result (λ begun. IsBegun game.now begun.0.items begun.1.items) }
+{
+    let chips = Vec::from_slice(alloc, game.start())?;
+    let fired = vec![in alloc; 0; game.graph().vertices() as usize]?;
+    Ok((chips, fired))
 }
 
 /// The chips and counts at which a play goes on that has made so many looks, once counts were searched: those found, or
@@ -155,7 +167,7 @@ fn looks_of(firings: u64, looks: u64, fired: u64) -> u64 {
 /// The guessed counts and their position, where they are certified; else those given, as where memory runs out.
 ///
 /// Where the play has come to more firings of a vertex than were guessed, these count.
-fn jump(
+pub(crate) fn jump(
     alloc: Global,
     game: &Game,
     guess: GuessedCounts,

@@ -1,14 +1,34 @@
 //! Who is told how a play goes on.
 
+ghost use Rattle.chip_fire.specs.Given.{IsUse};
 ghost use Rattle.chip_fire.specs.Rounds.{IsBegun, IsShort};
 
 use chip_graph::Game;
 use chip_guess::Search;
 
+/// What becomes of counts that are given to a play.
+#[derive(Clone, Copy, Debug, PartialEq, Eq)]
+pub enum GivenUse {
+    /// They are certified as they stand, and nothing is left to play.
+    Certified,
+    /// They are certified as they stand, and the play goes on from them.
+    PlayedOn,
+    /// They were lowered until they were certified, and the play goes on from there.
+    Lowered,
+    /// They are left out: the play begins at the start.
+    Dropped,
+}
+
 /// Told how a play goes on. It returns, and what it does changes nothing of the play.
 pub trait Watch {
     /// Told once the game is read, before it is played.
     fn plays(&mut self, _game: &Game) {}
+
+    /// Told once what became of counts that were given, with the chips and counts at which the play begins.
+    fn used(&mut self, _game: &Game, _given: &[u64], _chips: &[u64], _fired: &[u64], _use: GivenUse)
+        requires begun { IsBegun _game.now _chips.now _fired.now }
+        requires used { IsUse _game.now _given.now _chips.now _fired.now _use }
+    {}
 
     /// Told of a search for counts, in which no vertex fires, while it goes on.
     fn searches(&mut self, _search: &Search<'_>) {}

@@ -4,7 +4,7 @@ use Rattle.chip_graph.specs.Multigraph.{Multigraph}
 use Rattle.chip_sequence.specs.Firing.{legal_vertices}
 use Rattle.chip_fire.specs.Rounds.{IsBegun}
 use Rattle.chip_fire.proofs.PlayLemmas.{game_played, plays_out}
-use Rattle.chip_fire.proofs.player.plain_watched.Goals as goal
+use Rattle.chip_fire.proofs.player.plain_given.Goals as goal
 
 pub returns : goal.returns
 returns g c =

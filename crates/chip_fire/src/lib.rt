@@ -3,7 +3,7 @@
 
 pub use chip_guess::Search;
 pub use chip_sequence::{AfterFault, NotLegal, Outcome, Resumed, after, after_into, enough, fire};
-pub use player::{plain, plain_given, plain_watched};
+pub use player::{outcome_at_rest, plain, plain_given, plain_watched, play_on};
 pub use sitting::{ResumeFault, resume, resume_watched};
 pub use watch::{GivenUse, Unwatched, Watch};
 

@@ -3,8 +3,9 @@ ghost use Rattle.chip_sequence.specs.Firing.{legal_vertices};
 ghost use Rattle.chip_fire.specs.Rounds.{IsBegun, IsAtRest};
 ghost use Rattle.chip_fire.specs.Player.{PlaysOut};
 
+use crate::given::use_given;
 use crate::rounds::rounds;
-use crate::start::start;
+use crate::start::{advance, start};
 use crate::watch::{Unwatched, Watch};
 use chip_graph::{Game, Graph};
 use chip_guess::tuning::STRETCH;
@@ -13,7 +14,7 @@ use std::alloc::{AllocError, Global};
 
 /// Plays a game to its end within the limit, on one thread.
 ///
-/// It begins where `start` says. Then each vertex in turn fires as often in a row as its chips and the
+/// It begins as `advance` says. Then each vertex in turn fires as often in a row as its chips and the
 /// limit allow, round after round until none fires. The way is this function's own: the outcome is
 /// that of every order.
 pub fn plain(alloc: Global, game: &Game) -> Result<Outcome, AllocError>
@@ -44,8 +45,40 @@ pub fn plain_given<W: Watch>(
 ) -> Result<Outcome, AllocError>
     ensures { IfOk result (PlaysOut game.now) }
 {
-    let (mut chips, mut fired) = start(alloc, game, given, watch)?;
+    let (chips, fired) = start(alloc, game)?;
+    let (chips, fired) = use_given(alloc, game, given, chips, fired, watch);
+    let (chips, fired) = play_on(alloc, game, chips, fired, watch);
+    outcome_at_rest(alloc, game, chips, fired)
+}
+
+/// Goes on with a play of a game, from these chips and counts to its end within the limit: the chips and counts there.
+pub fn play_on<W: Watch>(
+    alloc: Global,
+    game: &Game,
+    chips: Vec<u64>,
+    fired: Vec<u64>,
+    watch: &mut W,
+) -> (Vec<u64>, Vec<u64>)
+    requires { IsBegun game.now chips.items fired.items }
+    ensures begun { IsBegun game.now result.0.items result.1.items }
+    ensures ended { IsAtRest game.now.graph game.now.limit result.0.items result.1.items }
+{
+    let (mut chips, mut fired) = advance(alloc, game, chips, fired, watch);
     play(game, &mut chips, &mut fired, watch);
+    (chips, fired)
+}
+
+/// The outcome of a play that has come to these chips and counts, where no vertex may fire within the limit.
+pub fn outcome_at_rest(
+    alloc: Global,
+    game: &Game,
+    chips: Vec<u64>,
+    fired: Vec<u64>,
+) -> Result<Outcome, AllocError>
+    requires begun { IsBegun game.now chips.items fired.items }
+    requires ended { IsAtRest game.now.graph game.now.limit chips.items fired.items }
+    ensures { IfOk result (PlaysOut game.now) }
+{
     let over = legal_vertices(alloc, game.graph(), &chips)?;
     Ok(Outcome {
         fired,

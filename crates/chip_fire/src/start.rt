@@ -2,7 +2,6 @@ ghost use Rattle.std.specs.Prelude.{◌≡◌, ◌+◌, ◌*◌, ◌≤◌, leng
 ghost use Rattle.chip_fire.specs.Rounds.{IsBegun, IsShort};
 
 use crate::certificate::certify;
-use crate::given::use_given;
 use crate::rounds::ends_within;
 use crate::soon::{ends_soon, firings_of, looks_at_all};
 use crate::watch::Watch;
@@ -11,35 +10,33 @@ use chip_guess::tuning::{AHEAD, LEAD, STRETCH, TURN};
 use chip_guess::{GuessedCounts, Hierarchy, Search};
 use std::alloc::{AllocError, Global};
 
-/// The chips of each vertex and how often it has fired, with which a play begins: at those of the given counts that are
-/// certified, if there are some, after some rounds, and where these have not ended it, at counts that are guessed and
-/// certified, if there are some.
-///
-/// The memory of these two lists is all that it needs: where there is no more, no counts are searched.
-pub(crate) fn start<W: Watch>(
-    alloc: Global,
-    game: &Game,
-    given: &[u64],
-    watch: &mut W,
-) -> Result<(Vec<u64>, Vec<u64>), AllocError>
-    ensures { IfOk result (λ begun. IsBegun game.now begun.0.items begun.1.items) }
-{
-    let (chips, fired) = at_start(alloc, game)?;
-    let (mut chips, mut fired) = use_given(alloc, game, given, chips, fired, watch);
-    let mut looks = 0u64;
-    if ends_soon(game, &mut looks, &mut chips, &mut fired, watch) {
-        return Ok((chips, fired));
-    }
-    Ok(by_turns(alloc, game, looks, chips, fired, watch))
-}
-
-/// The chips of each vertex at the start of a game, where none has fired.
-fn at_start(alloc: Global, game: &Game) -> Result<(Vec<u64>, Vec<u64>), AllocError>
+/// The chips of each vertex and how often it has fired, with which a play begins. The memory of these two lists is all
+/// that a play needs.
+pub(crate) fn start(alloc: Global, game: &Game) -> Result<(Vec<u64>, Vec<u64>), AllocError>
     ensures { IfOk result (λ begun. IsBegun game.now begun.0.items begun.1.items) }
 {
     let chips = Vec::from_slice(alloc, game.start())?;
     let fired = vec![in alloc; 0; game.graph().vertices() as usize]?;
     Ok((chips, fired))
+}
+
+/// The chips and counts to which a play comes from these by some rounds, and where these have not ended it, at counts
+/// that are guessed and certified, if there are some. Where there is no memory, no counts are searched.
+pub(crate) fn advance<W: Watch>(
+    alloc: Global,
+    game: &Game,
+    mut chips: Vec<u64>,
+    mut fired: Vec<u64>,
+    watch: &mut W,
+) -> (Vec<u64>, Vec<u64>)
+    requires { IsBegun game.now chips.items fired.items }
+    ensures { IsBegun game.now result.0.items result.1.items }
+{
+    let mut looks = 0u64;
+    if ends_soon(game, &mut looks, &mut chips, &mut fired, watch) {
+        return (chips, fired);
+    }
+    by_turns(alloc, game, looks, chips, fired, watch)
 }
 
 /// The chips and counts at which a play goes on that has made so many looks, once counts were searched: those found, or

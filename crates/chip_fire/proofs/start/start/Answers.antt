@@ -1,7 +1,7 @@
 use Rattle.std.proofs.Common.{ℕ, replicate, ap, ◌∙◌}
 use Rattle.chip_graph.specs.Multigraph.{Multigraph}
 use Rattle.chip_fire.proofs.PlayLemmas.{begun_none}
-use Rattle.chip_fire.proofs.start.at_start.Goals as goal
+use Rattle.chip_fire.proofs.start.start.Goals as goal
 
 pub returns : goal.returns
 returns c =

@@ -5,7 +5,7 @@ ghost use Rattle.std.specs.Prelude.{◌<◌};
 use crate::writers::Faulty;
 use chip_graph::{Edge, Game, Graph};
 use chip_link::TraceRow;
-use chip_trace::{ReplayFault, TraceFault, replay, write_trace};
+use chip_trace::{Left, ReplayFault, Replayed, TraceFault, replay, write_trace};
 use std::io::Write;
 use std::process::Abort;
 
@@ -44,7 +44,7 @@ fn replayed(
     rt: &(impl AllocGlobal + Abort),
     limit: u64,
     traces: &[&[TraceRow]],
-) -> Result<Vec<(u64, u64)>, ReplayFault> {
+) -> Result<Replayed, ReplayFault> {
     let mut copies = Vec::new(rt.alloc());
     for rows in traces {
         copies
@@ -76,8 +76,8 @@ const SINK: &[TraceRow] = &[
 
 /// Vertex 0 fires twice, and then vertex 1.
 fn is_replayed(rt: &(impl AllocGlobal + Abort), traces: &[&[TraceRow]]) {
-    let fired = replayed(rt, 1 << 40, traces).expect(rt, "a replay");
-    assert!(rt; fired.as_slice() == [(0, 2), (1, 1)].as_slice());
+    let told = replayed(rt, 1 << 40, traces).expect(rt, "a replay");
+    assert!(rt; told.firings.as_slice() == [(0, 2), (1, 1)].as_slice());
 }
 
 #[test]
@@ -85,6 +85,54 @@ fn replays_the_triangle(rt: HostRuntime) {
     is_replayed(&rt, &[FIRST, SECOND, SINK]);
     // messages that nobody takes are allowed
     is_replayed(&rt, &[&[take(4, 4), fire(2)], SECOND, &[]]);
+}
+
+/// What a replay within this limit says to be left.
+fn leaves(rt: &(impl AllocGlobal + Abort), limit: u64, traces: &[&[TraceRow]], left: &[Left]) {
+    let told = replayed(rt, limit, traces).expect(rt, "a replay");
+    assert!(rt; told.left.as_slice() == left, "{:?}", told.left);
+}
+
+/// So many messages of an edge.
+const fn messages(edge: u64, count: u64) -> Left {
+    Left::Messages { edge, count }
+}
+
+/// Vertex 0 fires once with its four chips, and again.
+const ONCE: &[TraceRow] = &[
+    TraceRow::Take { edge: 4, count: 4 },
+    TraceRow::Fire { k: 1 },
+];
+
+const TWICE: &[TraceRow] = &[
+    TraceRow::Take { edge: 4, count: 4 },
+    TraceRow::Fire { k: 1 },
+    TraceRow::Fire { k: 1 },
+];
+
+#[test]
+fn tells_what_is_left(rt: HostRuntime) {
+    leaves(&rt, 1 << 40, &[FIRST, SECOND, SINK], &[]);
+    leaves(&rt, 1 << 40, &[&[], &[], &[]], &[messages(4, 1)]);
+    // two of its four chips are enough for one firing more
+    let can_fire = [messages(1, 1), Left::CanFire { vertex: 0 }];
+    leaves(&rt, 2, &[ONCE, &[take(0, 1)], &[]], &can_fire);
+    let at_limit = [messages(1, 1), Left::AtLimit { vertex: 0 }];
+    leaves(&rt, 1, &[ONCE, &[take(0, 1)], &[]], &at_limit);
+    // vertex 1 took the two chips that it needs in two messages, and the sink one message of two
+    let second = [messages(1, 1), Left::CanFire { vertex: 1 }];
+    leaves(
+        &rt,
+        2,
+        &[TWICE, &[take(0, 1), take(0, 1)], &[take(1, 1)]],
+        &second,
+    );
+    leaves(
+        &rt,
+        2,
+        &[TWICE, &[], &[]],
+        &[messages(0, 2), messages(1, 2)],
+    );
 }
 
 fn is_stuck(
@@ -166,7 +214,9 @@ fn replays_ones(
     firings: usize,
 ) -> Vec<(u64, u64)> {
     assert!(rt; traces.len() as u64 == game.graph().vertices());
-    let fired = replay(rt.alloc(), game, traces).expect(rt, "a replay");
+    let fired = replay(rt.alloc(), game, traces)
+        .expect(rt, "a replay")
+        .firings;
     assert!(rt; fired.len() == firings);
     assert!(rt; fired.iter().all(|firing| firing.1 == 1));
     fired

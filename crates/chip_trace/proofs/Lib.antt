@@ -7,6 +7,7 @@ pub mod LookLemmas
 pub mod LeftLemmas
 pub mod ReplayLemmas
 pub mod VerdictLemmas
+pub mod RemainingLemmas
 pub mod StuckLemmas
 pub mod TextLemmas
 mod Worked

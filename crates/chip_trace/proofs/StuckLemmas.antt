@@ -1,5 +1,5 @@
 -- Serves Kept.antt, Progress.antt, Interleaving.antt.
--- What follows once no next row is met: an interleaving, or a vertex to blame.
+-- What follows once no next row is met: an interleaving and what it leaves, or a vertex to blame.
 use Rattle.std.proofs.Common.{◌≡◌, ℕ, ◌<◌, ◌≤◌, List, [], ◌++◌, length, drop, sym, ap, ◌∙◌, arith, inl, inr}
 use Rattle.std.specs.Prelude.{slice_get, Some, None, ◌⊎◌}
 use mathlib.Core.Logic.{dite}
@@ -13,10 +13,13 @@ use Rattle.chip_trace.specs.Progress.{is_wrong, next_row, HasWrongRow, HasUnused
 use Rattle.chip_trace.specs.Progress.{IsGreatestProgress, IsStuck}
 use Rattle.chip_trace.specs.Runner.{RunnerState}
 use Rattle.chip_trace.specs.declared.progress.ReplayProgress.{ReplayProgress}
-use Rattle.chip_trace.specs.Replay.{AreFirings}
+use Rattle.chip_trace.specs.declared.replaying.Replayed.{Replayed}
+use Rattle.chip_trace.specs.Left.{left_after}
+use Rattle.chip_trace.specs.Replay.{IsReplayed}
 use Rattle.chip_trace.specs.Kept.{runner_at, rows_used, row_after, IsReached, IsKept, IsSettled, IsWrongAt, IsUnusedAt}
-use Rattle.chip_trace.specs.Kept.{NoneBelow, IsToBlame}
+use Rattle.chip_trace.specs.Kept.{NoneBelow, IsToBlame, kept_left}
 use Rattle.chip_trace.proofs.GreatestLemmas.{settled_is_greatest, none_whole}
+use Rattle.chip_trace.proofs.RemainingLemmas.{left_is}
 
 module _ (g : ChipGame) (traces : List (List TraceRow)) (p : ReplayProgress) (kept : IsKept g traces p)
     (each : length traces ≡ g.graph.vertices) where
@@ -79,18 +82,19 @@ module _ (g : ChipGame) (traces : List (List TraceRow)) (p : ReplayProgress) (ke
   unused_there : (v : ℕ) → HasUnusedRow traces xs v → IsUnusedAt traces p v
   unused_there v some = let e = same_length v in omega arith
 
-  -- all rows are used
-  pub whole : IsToBlame g traces p None → AreFirings g traces p.firings.items
-  whole none = (
-    xs,
-    record {
-      whole = λ v. was.rows v ∙ take_all (runner_at p v).used (trace_of traces v)
-          (dite (dec_lt (runner_at p v).used (length (trace_of traces v)))
-          (λ some. absurd (none v (unused_is_vertex v some) some)) (λ all. omega arith));
-      met = was.met;
-    },
-    was.fired,
-  )
+  module _ (none : IsToBlame g traces p None) where
+    all_used : (v : ℕ) → rows_used traces p v ≡ trace_of traces v
+    all_used v = take_all (runner_at p v).used (trace_of traces v)
+        (dite (dec_lt (runner_at p v).used (length (trace_of traces v)))
+        (λ some. absurd (none v (unused_is_vertex v some) some)) (λ all. omega arith))
+
+    -- all rows are used, and this is what they leave
+    pub whole : (replayed : Replayed) → replayed.firings.items ≡ p.firings.items
+        → replayed.left.items ≡ kept_left g p → IsReplayed g traces replayed
+    whole replayed firings left = record {
+      firings = (xs, record { whole = λ v. was.rows v ∙ all_used v; met = was.met }, firings ∙ was.fired);
+      left = left ∙ left_is g traces p kept ∙ (λ i. left_after g (λ v. all_used v i));
+    }
 
   module _ (settled : IsSettled g traces p) where
     greatest : IsGreatestProgress g traces xs

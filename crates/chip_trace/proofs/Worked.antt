@@ -1,11 +1,13 @@
--- Serves Interleaving.antt, Progress.antt.
--- Worked rows: the run of the triangle from four chips, whole, cut, and with a take of another count.
+-- Serves Interleaving.antt, Progress.antt, Left.antt.
+-- Worked rows: the run of the triangle from four chips, whole, cut, and with a take of another count; and what is left.
 use Rattle.std.specs.Prelude.{◌≡◌, true, false, List, [], ◌∷◌, refl}
 use Rattle.chip_link.specs.declared.trace.TraceRow.TheVariants.{Take, Fire}
 use Rattle.chip_graph.specs.ChipGame.{ChipGame}
 use Rattle.chip_graph.specs.Limits.{max_limit}
 use Rattle.chip_trace.specs.Interleaving.{Placed, AreMet, firings, rows_of, is_met}
 use Rattle.chip_trace.specs.Progress.{is_wrong}
+use Rattle.chip_trace.specs.Left.{left_after}
+use Rattle.chip_trace.specs.declared.remaining.Left.TheVariants.{Messages, CanFire, AtLimit}
 
 -- the triangle with four chips on vertex 0; its root edges are 4, 5 and 6
 abbrev triangle : ChipGame
@@ -45,3 +47,23 @@ no_message_is_not_met = refl
 
 no_message_waits : is_wrong triangle (rows_of []) 1 (Take 0 2) ≡ false
 no_message_waits = refl
+
+-- the whole run leaves nothing
+whole_leaves_nothing : left_after triangle (rows_of run) ≡ []
+whole_leaves_nothing = refl
+
+-- before the first row, the start of vertex 0 is left on its root edge
+no_row_leaves_the_start : left_after triangle (rows_of []) ≡ Messages 4 1 ∷ []
+no_row_leaves_the_start = refl
+
+-- vertex 0 takes its start and fires once: a message is left on each edge out of it, and it can fire again
+abbrev first_rows : List Placed
+first_rows = record { vertex = 0; row = Take 4 4 } ∷ record { vertex = 0; row = Fire 1 } ∷ []
+
+first_rows_leave : left_after triangle (rows_of first_rows) ≡ Messages 0 1 ∷ Messages 1 1 ∷ CanFire 0 ∷ []
+first_rows_leave = refl
+
+-- with a limit of one firing it is at its limit
+first_rows_leave_at_limit : left_after (record triangle { limit = 1 }) (rows_of first_rows)
+    ≡ Messages 0 1 ∷ Messages 1 1 ∷ AtLimit 0 ∷ []
+first_rows_leave_at_limit = refl

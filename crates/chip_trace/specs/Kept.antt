@@ -1,9 +1,11 @@
 -- What a replay keeps on its way.
 use Rattle.std.specs.Prelude.{◌≡◌, ℕ, ◌+◌, ◌-◌, ◌*◌, ◌^◌, ◌<◌, ◌≤◌, true, false, List, [], ◌∷◌, ◌++◌, length, sum, take}
-use Rattle.std.specs.Prelude.{slice_get, slice_set, slice_index, slice_index_or, Option, Some, None, ◌⊎◌}
+use Rattle.std.specs.Prelude.{◌==◌, ◌&&◌, not, nat_lt, nat_le, map, slice_get, slice_set, slice_index, slice_index_or}
+use Rattle.std.specs.Prelude.{Option, Some, None, ◌⊎◌}
 use Rattle.chip_link.specs.declared.trace.TraceRow.{TraceRow}
 use Rattle.chip_link.specs.declared.trace.TraceRow.TheVariants.{Take, Fire}
-use Rattle.chip_graph.specs.Sums.{sum_below}
+use Rattle.chip_graph.specs.Sums.{sum_below, filter_below}
+use Rattle.chip_graph.specs.Multigraph.{degree}
 use Rattle.chip_graph.specs.ChipGame.{ChipGame}
 use Rattle.chip_trace.specs.declared.progress.ReplayProgress.{ReplayProgress}
 use Rattle.chip_trace.specs.declared.look.Finding.{Finding}
@@ -11,11 +13,42 @@ use Rattle.chip_trace.specs.declared.look.Finding.TheVariants as finding
 use Rattle.chip_trace.specs.Agenda.{AgendaState}
 use Rattle.chip_trace.specs.Interleaving.{takes_of, goes_into, is_met, Placed, rows_of, AreMet, trace_of, firings}
 use Rattle.chip_trace.specs.Progress.{is_wrong, IsLeast}
+use Rattle.chip_trace.specs.Left.{messages_left, chips_held, legal_left, left_of}
+use Rattle.chip_trace.specs.declared.remaining.Left.{Left}
+use Rattle.chip_trace.specs.declared.remaining.Left.TheVariants.{Messages}
 use Rattle.chip_trace.specs.Runner.{RunnerState, at_start, runner_of}
 
 -- how far v has come
 abbrev pub runner_at : ReplayProgress → ℕ → RunnerState
 runner_at p v = slice_index_or p.runners.items v at_start
+
+-- the firings of each vertex, by what is kept
+abbrev pub kept_fires : ReplayProgress → ℕ → List ℕ
+kept_fires p v = (runner_at p v).fires
+
+-- the chips that each vertex took, by what is kept
+abbrev pub kept_chips : ReplayProgress → ℕ → ℕ
+kept_chips p v = (runner_at p v).chips
+
+-- how many messages of each edge were taken, by what is kept
+abbrev pub kept_taken : ReplayProgress → ℕ → ℕ
+kept_taken p e = slice_index p.taken.items e
+
+-- what is left of the edges below n, by what is kept
+abbrev pub kept_edges : ChipGame → ReplayProgress → ℕ → List Left
+kept_edges g p n =
+    map (λ e. Messages e (messages_left g (kept_fires p) (kept_taken p) e))
+    (filter_below (λ e. nat_lt 0 (messages_left g (kept_fires p) (kept_taken p) e)) n)
+
+-- what is left of the vertices below n, by what is kept
+abbrev pub kept_vertices : ChipGame → ReplayProgress → ℕ → List Left
+kept_vertices g p n =
+    map (legal_left g (kept_fires p)) (filter_below (λ v. not (v == g.graph.sink)
+    && nat_le (degree g.graph v) (chips_held g (kept_fires p) (kept_chips p) v)) n)
+
+-- what is left, by what is kept
+abbrev pub kept_left : ChipGame → ReplayProgress → List Left
+kept_left g p = left_of g (kept_fires p) (kept_chips p) (kept_taken p)
 
 -- the rows that v has used
 abbrev pub rows_used : List (List TraceRow) → ReplayProgress → ℕ → List TraceRow

@@ -1,5 +1,6 @@
 pub mod Interleaving
 pub mod Progress
+pub mod Left
 pub mod Runner
 pub mod Agenda
 pub mod Kept

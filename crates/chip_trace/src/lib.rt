@@ -1,18 +1,20 @@
 //! Recorded runs: what each vertex wrote down of its own run, replayed and written as text.
 //!
 //! A trace is the list of rows of one vertex. `replay` tells whether the traces of all vertices fit together in some
-//! order (`specs/Interleaving.antt`), and where they are stuck if they do not (`specs/Progress.antt`);
-//! `write_trace` writes them (`specs/TraceText.antt`).
+//! order (`specs/Interleaving.antt`) and what is left then (`specs/Left.antt`), and where they are stuck if they do not
+//! (`specs/Progress.antt`); `write_trace` writes them (`specs/TraceText.antt`).
 #![tactic(auto)]
 
 pub use fault::{ReplayFault, TraceFault};
-pub use replaying::replay;
+pub use remaining::Left;
+pub use replaying::{Replayed, replay};
 pub use writing::write_trace;
 
 mod agenda;
 mod fault;
 mod look;
 mod progress;
+mod remaining;
 mod replaying;
 mod runner;
 mod verdict;

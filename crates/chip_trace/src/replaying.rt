@@ -2,16 +2,26 @@
 
 ghost use Rattle.std.specs.Prelude.{◌≡◌, ◌+◌, ◌^◌, ◌<◌, ℕ, length, map, IfOk, MatchOption, MatchResult};
 ghost use Rattle.chip_trace.specs.Kept.{runner_at, IsKept, UsesRow, FitsRow, MayUse, IsSettled, GoesOn};
-ghost use Rattle.chip_trace.specs.Replay.{AreFirings, IsReplayFault};
+ghost use Rattle.chip_trace.specs.Replay.{IsReplayed, IsReplayFault};
 
 use crate::agenda::Agenda;
 use crate::fault::ReplayFault;
 use crate::look::{Finding, look_at};
 use crate::progress::ReplayProgress;
+use crate::remaining::{Left, all_left};
 use crate::verdict::vertex_to_blame;
 use chip_graph::Game;
 use chip_link::TraceRow;
 use std::alloc::{AllocError, Global};
+
+/// A replay that used all rows.
+#[derive(Drop)]
+pub struct Replayed {
+    /// The firings of one interleaving, each with its vertex, in its order.
+    pub firings: Vec<(u64, u64)>,
+    /// What is left of the game then: first of edges, and then of vertices, both ascending.
+    pub left: Vec<Left>,
+}
 
 /// Notes that a vertex has used a row that is met, and wakes those that waited for it.
 fn use_met(
@@ -128,17 +138,12 @@ fn settle(
     }
 }
 
-/// The firings of one interleaving of recorded runs, each with its vertex, in its order; in time linear in rows and
-/// edges.
+/// The firings of one interleaving of recorded runs, and what is left after it; in time linear in rows and edges.
 ///
 /// `traces` has the rows of each vertex.
-pub fn replay(
-    alloc: Global,
-    game: &Game,
-    traces: &[Vec<TraceRow>],
-) -> Result<Vec<(u64, u64)>, ReplayFault>
+pub fn replay(alloc: Global, game: &Game, traces: &[Vec<TraceRow>]) -> Result<Replayed, ReplayFault>
     requires { length traces.now ≡ game.now.graph.vertices }
-    ensures { MatchResult result (λ fired. AreFirings game.now (map (λ t. t.items) traces.now) fired.items)
+    ensures { MatchResult result (IsReplayed game.now (map (λ t. t.items) traces.now))
         (IsReplayFault game.now (map (λ t. t.items) traces.now)) }
 {
     let mut progress = ReplayProgress::new(alloc, game)?;
@@ -149,6 +154,12 @@ pub fn replay(
             vertex,
             row: progress.used_rows(vertex) as u64,
         }),
-        None => Ok(progress.firings),
+        None => {
+            let left = all_left(alloc, game, &progress)?;
+            Ok(Replayed {
+                firings: progress.firings,
+                left,
+            })
+        }
     }
 }

@@ -23,8 +23,8 @@ impl Model for Runner {
 }
 
 impl Runner {
-    ghost use Rattle.std.specs.Prelude.{◌≡◌, ◌+◌, ◌*◌, ◌^◌, ◌<◌, ◌≤◌, ◌++◌, ◌∷◌, [], ◌&&◌, nat_lt, nat_le, sum};
-    ghost use Rattle.std.specs.Prelude.{slice_get, IfOk, true};
+    ghost use Rattle.std.specs.Prelude.{◌≡◌, ◌+◌, ◌-◌, ◌*◌, ◌^◌, ◌<◌, ◌≤◌, ◌++◌, ◌∷◌, [], ◌&&◌, nat_lt, nat_le};
+    ghost use Rattle.std.specs.Prelude.{sum, length, slice_get, IfOk, true};
     ghost use Rattle.chip_trace.specs.Runner.{at_start};
 
     /// A vertex that has used no row.
@@ -51,6 +51,28 @@ impl Runner {
         ensures { result ≡ slice_get self.now.fires i }
     {
         self.fires.get(i).copied()
+    }
+
+    /// How many firings it has made, each of one or more at once.
+    pub(crate) fn firings(&self) -> usize
+        ensures { result ≡ length self.now.fires }
+    {
+        self.fires.len()
+    }
+
+    /// How often it has fired.
+    pub(crate) fn fired(&self) -> u64
+        ensures { result ≡ sum self.now.fires }
+    {
+        self.fired
+    }
+
+    /// The chips that it holds, if each firing sent so many.
+    pub(crate) fn held(&self, degree: u64) -> u128
+        ensures { result ≡ self.now.chips - sum self.now.fires * degree }
+    {
+        self.chips
+            .saturating_sub(u128::from(self.fired) * u128::from(degree))
     }
 
     /// Whether with `k` more its firings stay within the limit, and it took the chips for them, so many each.

@@ -1,4 +1,4 @@
-use Rattle.std.proofs.Common.{◌≡◌, ℕ, List, map, sym, ◌∙◌, subst}
+use Rattle.std.proofs.Common.{◌≡◌, ℕ, List, map, refl, sym, ◌∙◌, subst}
 use Rattle.chip_link.specs.declared.trace.TraceRow.{TraceRow}
 use Rattle.std.proofs.lemmas.List.{length-map}
 use Rattle.chip_trace.specs.Progress.{IsStuck}
@@ -21,7 +21,7 @@ returns-in-Some c =
     (length-map c.args.traces.now (λ t. t.items)
     ∙ c.requires) c.in_ok-settle.ensures.settled c.in-Some.vertex c.in-Some.ensures)
 
-pub returns-in-None : goal.returns-in-None
-returns-in-None c =
+pub returns-in_ok-left-in-None : goal.returns-in_ok-left-in-None
+returns-in_ok-left-in-None c =
     whole c.args.game.now (map (λ t. t.items) c.args.traces.now) c.settle.new.progress c.in_ok-settle.ensures.kept
-    (length-map c.args.traces.now (λ t. t.items) ∙ c.requires) c.in-None.ensures
+    (length-map c.args.traces.now (λ t. t.items) ∙ c.requires) c.in-None.ensures _ refl c.in_ok-left-in-None.ensures

@@ -1,0 +1,11 @@
+use Rattle.std.proofs.Common.{◌≡◌, ◌++◌}
+use Rattle.chip_graph.specs.Edges.{all_edges}
+use Rattle.chip_trace.specs.Kept.{kept_edges, kept_vertices}
+use Rattle.chip_trace.proofs.remaining.all_left.Given as goal
+
+abbrev pub invariant-loop-edge : goal.invariant-loop-edge
+invariant-loop-edge l = l.left.items ≡ kept_edges l.game l.progress l.edge
+
+abbrev pub invariant-loop-vertex : goal.invariant-loop-vertex
+invariant-loop-vertex l =
+    l.left.items ≡ kept_edges l.game l.progress (all_edges l.game.graph) ++ kept_vertices l.game l.progress l.vertex

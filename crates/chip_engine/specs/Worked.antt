@@ -1,8 +1,11 @@
 -- Worked rows, as the definitions compute them.
-use Rattle.std.specs.Prelude.{◌≡◌, ℕ, List, [], ◌∷◌, ◌++◌, codes, slice_index, Some, None}
+use Rattle.std.specs.Prelude.{◌≡◌, ℕ, List, [], ◌∷◌, ◌++◌, codes, slice_index, Some, None, true, false}
 use Rattle.chip_sequence.specs.Firing.{legal_vertices}
 use Rattle.chip_sequence.specs.Sequence.{position_after, counts}
 use Rattle.chip_graph.specs.Worked.{triangle}
+use Rattle.chip_graph.specs.ChipGame.{ChipGame}
+use Rattle.chip_link.specs.declared.trace.TraceRow.{TraceRow}
+use Rattle.chip_link.specs.declared.trace.TraceRow.TheVariants.{Take, Fire}
 use Rattle.chip_sequence.specs.Worked.{chips_on, on_each}
 use Rattle.chip_sequence.specs.Sittings.{fired_in_all}
 use Rattle.chip_sequence.specs.declared.resumed.Resumed.{Resumed}
@@ -12,6 +15,9 @@ use Rattle.chip_command.specs.declared.table.Explanation.{Explanation}
 use Rattle.chip_command.specs.Faults.{fault_of_resume}
 use Rattle.chip_command.specs.FaultNumbers.{number_of, location_of}
 use Rattle.chip_command.specs.Reports.{plain_status}
+use Rattle.chip_command.specs.Statuses.{number_of_status}
+use Rattle.chip_engine.specs.Lines.{lines_text}
+use Rattle.chip_engine.specs.ReplayCommand.{left_text, status_of_left, told_left}
 use Rattle.chip_engine.specs.ExplainCommand.{explanation}
 use Rattle.chip_command.specs.declared.fault.Fault.TheVariants.{NotReport}
 use Rattle.chip_command.specs.declared.fault.Location.TheVariants.{Nowhere, At}
@@ -72,3 +78,20 @@ pub record IsExplained (row : Explanation) : Type 0 where
 -- a row, explained
 abbrev pub LoopIsExplained : Type 0
 LoopIsExplained = (row : Explanation) → SaysLoop row → IsExplained row
+
+-- the triangle with four chips on vertex 0, and a limit
+abbrev pub triangle_within : ℕ → ChipGame
+triangle_within limit = record { graph = triangle; start = 4 ∷ 0 ∷ 0 ∷ []; limit = limit }
+
+-- vertex 0 takes its chips and fires once, and vertex 1 takes the one that it gets; the sink takes nothing
+abbrev pub begun : List (List TraceRow)
+begun = (Take 4 4 ∷ Fire 1 ∷ []) ∷ (Take 0 1 ∷ []) ∷ [] ∷ []
+
+-- what is told to be left of these rows with a limit of two firings and of one, its status, and what is told unasked
+pub record TriangleLeaves : Type 0 where
+  pub can_fire : lines_text left_text (told_left true (triangle_within 2) begun)
+      ≡ codes "left: edge 1 has 1 messages\nleft: vertex 0 can fire\n"
+  pub at_limit : lines_text left_text (told_left true (triangle_within 1) begun)
+      ≡ codes "left: edge 1 has 1 messages\nleft: vertex 0 is at its limit\n"
+  pub status : number_of_status (status_of_left (told_left true (triangle_within 1) begun)) ≡ 2
+  pub unasked : told_left false (triangle_within 1) begun ≡ []

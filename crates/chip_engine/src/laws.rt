@@ -1,6 +1,6 @@
 //! Laws of the commands: functions that do nothing, whose contracts are the laws.
 
-ghost use Rattle.chip_engine.specs.Worked.{TriangleGoesOn, RefusalsAreNumbered, LoopIsExplained};
+ghost use Rattle.chip_engine.specs.Worked.{TriangleGoesOn, TriangleLeaves, RefusalsAreNumbered, LoopIsExplained};
 ghost use Rattle.chip_engine.specs.SimulatedBytes.{SimulatedBytes};
 ghost use Rattle.chip_engine.specs.Sittings.{PlainTellsPlay, SimulateTellsPlay, ResumedPlaysAddUp};
 
@@ -13,6 +13,11 @@ pub fn worked_sitting()
 /// A table of one row, as the definitions read it.
 pub fn worked_row()
     ensures { LoopIsExplained }
+{}
+
+/// A replay that is not over, as the definitions tell what it leaves.
+pub fn worked_replay()
+    ensures { TriangleLeaves }
 {}
 
 /// The reports of a play in several sittings add up, however many there are and whatever stopped each: `plain` or

@@ -8,7 +8,7 @@ pub use check::{check_engine, check_engine_with};
 pub use explain::explain_engine;
 pub use options::PlayOptions;
 pub use plain::{plain_engine, plain_engine_with};
-pub use replay::{replay_engine, replay_engine_with};
+pub use replay::{ReplayOptions, replay_engine, replay_engine_with};
 pub use resume::{resume_engine, resume_engine_with};
 pub use simulate::{SimulateOptions, simulate_engine, simulate_engine_with};
 pub use verify::{verify_engine, verify_engine_with};

@@ -1,18 +1,28 @@
-//! `replay`: the firings of a recorded run, in an order in which all rows fit together.
+//! `replay`: the firings of a recorded run, in an order in which all rows fit together, and what is left.
 
-ghost use Rattle.std.specs.Prelude.{◌≡◌, ◌++◌, IfOk, string_bytes};
+ghost use Rattle.std.specs.Prelude.{◌≡◌, ◌++◌, false, IfOk, string_bytes, if◌then◌else◌, []};
 ghost use Rattle.chip_graph.specs.Limits.{standard};
-ghost use Rattle.chip_command.specs.CommandAnswers.{Gives};
+ghost use Rattle.chip_command.specs.CommandAnswers.{Gives, OrMemory};
 ghost use Rattle.chip_engine.specs.Lines.{lines_text};
-ghost use Rattle.chip_engine.specs.ReplayCommand.{GivesReplay, ReplayAnswers, ReplayRefuses, ReplayWrites, firing_text};
+ghost use Rattle.chip_engine.specs.ReplayCommand.{ReplayAnswers, ReplayRefuses, ReplayWrites, GaveNoReplay};
+ghost use Rattle.chip_engine.specs.ReplayCommand.{TellsReplay, firing_text, left_text, status_of_left};
 
 use crate::options::PlayOptions;
-use chip_command::{Answer, Ended, Fault, deliver, read_game};
+use chip_command::{Answer, Ended, Fault, Status, deliver, read_game};
 use chip_file::read_trace_within;
-use chip_graph::{Game, Limits};
-use chip_trace::replay;
+use chip_graph::Game;
+use chip_trace::{Left, Replayed, replay};
 use std::alloc::{AllocError, Global};
 use std::io::{Read, Write};
+
+/// The options of a replay.
+#[derive(Clone, Copy)]
+pub struct ReplayOptions {
+    /// How large the game may be, and how often a vertex may fire.
+    pub play: PlayOptions,
+    /// Whether what is left when all rows are used is told too.
+    pub complete: bool,
+}
 
 /// Replays the traces of a file on the game of a graph file, a chips file and a firing limit, within the standard limits,
 /// and writes a line for each firing.
@@ -24,30 +34,29 @@ pub fn replay_engine<G: Read, C: Read, T: Read, W: Write>(
     limit: u64,
     output: &mut W,
 ) -> Result<Ended, Fault>
-    ensures { ReplayAnswers standard (G.remaining graph.old) (C.remaining chips.old) (T.remaining trace.old) limit
+    ensures { ReplayAnswers (G.remaining graph.old) (C.remaining chips.old) (T.remaining trace.old)
+        (record { play = record { limits = standard; limit = limit }; complete = false })
         (W.contents output.old) (W.contents output.new) result }
 {
-    replay_engine_with(
-        alloc,
-        graph,
-        chips,
-        trace,
-        PlayOptions::standard(limit),
-        output,
-    )
+    let options = ReplayOptions {
+        play: PlayOptions::standard(limit),
+        complete: false,
+    };
+    replay_engine_with(alloc, graph, chips, trace, options, output)
 }
 
-/// Does what `replay_engine` does, by these options.
+/// Does what `replay_engine` does, by these options. If it is asked for, the lines of what is left follow those of the
+/// firings, first of edges and then of vertices, both ascending; the status is 2 if there is one.
 pub fn replay_engine_with<G: Read, C: Read, T: Read, W: Write>(
     alloc: Global,
     graph: &mut G,
     chips: &mut C,
     trace: &mut T,
-    options: PlayOptions,
+    options: ReplayOptions,
     output: &mut W,
 ) -> Result<Ended, Fault>
-    ensures { ReplayAnswers options.limits (G.remaining graph.old) (C.remaining chips.old) (T.remaining trace.old)
-        options.limit (W.contents output.old) (W.contents output.new) result }
+    ensures { ReplayAnswers (G.remaining graph.old) (C.remaining chips.old) (T.remaining trace.old) options
+        (W.contents output.old) (W.contents output.new) result }
 {
     deliver(output, answer(alloc, graph, chips, trace, options))
 }
@@ -58,31 +67,50 @@ fn answer<G: Read, C: Read, T: Read>(
     graph: &mut G,
     chips: &mut C,
     trace: &mut T,
-    options: PlayOptions,
+    options: ReplayOptions,
 ) -> Result<Answer, Fault>
     ensures { let graph = G.remaining graph.old in let chips = C.remaining chips.old in let trace = T.remaining trace.old in
-        Gives (ReplayWrites options.limits graph chips trace options.limit)
-        (ReplayRefuses options.limits graph chips trace options.limit) result }
+        Gives (ReplayWrites graph chips trace options) (ReplayRefuses graph chips trace options) result }
 {
-    let game = read_game(alloc, options.limits, graph, chips, options.limit)?;
-    let lines = replay_traces(alloc, options.limits, &game, trace)?;
-    Ok(Answer::of_lines(lines))
+    let play = options.play;
+    let game = read_game(alloc, play.limits, graph, chips, play.limit)?;
+    replay_traces(alloc, options, &game, trace)
 }
 
-/// The lines of the firings that the traces of a file have in a game.
+/// What `replay` has to say of the traces of a file, in a game.
 fn replay_traces<T: Read>(
     alloc: Global,
-    limits: Limits,
+    options: ReplayOptions,
     game: &Game,
     trace: &mut T,
-) -> Result<String, Fault>
-    ensures { GivesReplay limits game.now (T.remaining trace.old) result }
+) -> Result<Answer, Fault>
+    ensures { Gives (TellsReplay options game.now (T.remaining trace.old))
+        (OrMemory (GaveNoReplay options.play.limits game.now (T.remaining trace.old))) result }
 {
-    let traces = read_trace_within(alloc, limits, trace, game.graph())?;
-    let firings = replay(alloc, game, &traces)?;
+    let traces = read_trace_within(alloc, options.play.limits, trace, game.graph())?;
+    let replayed = replay(alloc, game, &traces)?;
     // They take more than the firings, and the lines need room.
     drop(traces);
-    Ok(lines_of(alloc, &firings)?)
+    Ok(tell(alloc, &replayed, options.complete)?)
+}
+
+/// The lines of a replay and its status, with what is left if it is asked for.
+fn tell(alloc: Global, replayed: &Replayed, complete: bool) -> Result<Answer, AllocError>
+    ensures text { IfOk result (λ answer. answer.text.items
+        ≡ lines_text firing_text replayed.now.firings.items
+        ++ lines_text left_text (if complete then replayed.now.left.items else [])) }
+    ensures status { IfOk result (λ answer. answer.status
+        ≡ status_of_left (if complete then replayed.now.left.items else [])) }
+{
+    let mut lines = lines_of(alloc, &replayed.firings)?;
+    if !complete {
+        return Ok(Answer::of_lines(lines));
+    }
+    push_all_left(&mut lines, &replayed.left)?;
+    Ok(Answer {
+        text: lines.into_bytes(),
+        status: status_of_left(&replayed.left),
+    })
 }
 
 /// The lines of firings.
@@ -101,4 +129,36 @@ fn push_firing(lines: &mut String, vertex: u64, count: u64) -> Result<(), AllocE
     ensures { IfOk result (λ _. string_bytes lines.new ≡ string_bytes lines.old ++ firing_text (vertex, count)) }
 {
     write!(lines, "fire {vertex} {count}\n")
+}
+
+/// Appends the lines of what is left.
+fn push_all_left(lines: &mut String, left: &[Left]) -> Result<(), AllocError>
+    ensures { IfOk result (λ _. string_bytes lines.new ≡ string_bytes lines.old ++ lines_text left_text left.now) }
+{
+    for one in left {
+        push_left(lines, *one)?;
+    }
+    Ok(())
+}
+
+/// Appends the line of something that is left.
+fn push_left(lines: &mut String, left: Left) -> Result<(), AllocError>
+    ensures { IfOk result (λ _. string_bytes lines.new ≡ string_bytes lines.old ++ left_text left) }
+{
+    match left {
+        Left::Messages { edge, count } => write!(lines, "left: edge {edge} has {count} messages\n"),
+        Left::CanFire { vertex } => write!(lines, "left: vertex {vertex} can fire\n"),
+        Left::AtLimit { vertex } => write!(lines, "left: vertex {vertex} is at its limit\n"),
+    }
+}
+
+/// How a replay ended of which this is left.
+fn status_of_left(left: &[Left]) -> Status
+    ensures { result ≡ status_of_left left.now }
+{
+    if left.is_empty() {
+        Status::Done
+    } else {
+        Status::Halted
+    }
 }

@@ -2,8 +2,9 @@
 
 use chip_command::{Ended, Fault};
 use chip_engine::{
-    PlayOptions, check_engine, check_engine_with, plain_engine, plain_engine_with, replay_engine,
-    resume_engine, resume_engine_with, simulate_engine, verify_engine,
+    PlayOptions, ReplayOptions, check_engine, check_engine_with, plain_engine, plain_engine_with,
+    replay_engine, replay_engine_with, resume_engine, resume_engine_with, simulate_engine,
+    verify_engine,
 };
 use chip_file::{FileFault, read_graph, read_trace};
 use chip_fire::{ResumeFault, Unwatched, Watch};
@@ -172,6 +173,68 @@ fn replays_the_triangle(rt: HostRuntime) {
     assert!(rt; replayed(&rt, "", NO_LIMIT, "") == Err(Fault::File(FileFault::Header)));
     let no_kind = "vertex,kind,edge,count\n0,taken,4,4\n";
     assert!(rt; replayed(&rt, no_kind, NO_LIMIT, "") == Err(Fault::File(FileFault::Kind(0))));
+}
+
+/// Vertex 0 fires once, and vertex 1 takes what it sent there.
+const BEGUN: &str = "vertex,kind,edge,count\n0,take,4,4\n0,fire,0,1\n1,take,0,1\n";
+
+/// A trace with its limit, and the text and the status of a replay that tells what is left.
+struct Replayed {
+    trace: &'static str,
+    limit: u64,
+    lines: &'static str,
+    status: u8,
+}
+
+const REPLAYED: &[&Replayed] = &[
+    &Replayed {
+        trace: RUN,
+        limit: NO_LIMIT,
+        lines: "fire 0 2\nfire 1 1\n",
+        status: 0,
+    },
+    &Replayed {
+        trace: BEGUN,
+        limit: 2,
+        lines: "fire 0 1\nleft: edge 1 has 1 messages\nleft: vertex 0 can fire\n",
+        status: 2,
+    },
+    &Replayed {
+        trace: BEGUN,
+        limit: 1,
+        lines: "fire 0 1\nleft: edge 1 has 1 messages\nleft: vertex 0 is at its limit\n",
+        status: 2,
+    },
+];
+
+/// A replay of the triangle tells what is left.
+fn replays(rt: &(impl AllocGlobal + Abort), replayed: &Replayed) {
+    let mut output = Vec::new(rt.alloc());
+    let options = ReplayOptions {
+        play: PlayOptions::standard(replayed.limit),
+        complete: true,
+    };
+    let ended = replay_engine_with(
+        rt.alloc(),
+        &mut TRIANGLE.as_bytes(),
+        &mut "vertex,chips\n0,4\n".as_bytes(),
+        &mut replayed.trace.as_bytes(),
+        options,
+        &mut output,
+    );
+    assert!(rt; ended == closed(replayed.status), "{}", replayed.trace);
+    assert!(rt;
+        output.as_slice() == replayed.lines.as_bytes(),
+        "{}",
+        replayed.trace
+    );
+}
+
+#[test]
+fn tells_what_is_left_of_the_triangle(rt: HostRuntime) {
+    for replayed in REPLAYED {
+        replays(&rt, replayed);
+    }
 }
 
 /// Edge 1 is sealed before vertex 0 sends on it.

@@ -1,7 +1,7 @@
 //! The arguments of the program, and what they ask for.
 
 use crate::commands::{
-    BOOKS, CHIPS, CommandRow, DEALT, FAULT_NUMBER, FED, FEED, GRAPH, LARGE, LIMIT, Operand,
+    BOOKS, CHIPS, CommandRow, DEALT, FAULT_NUMBER, FED, FEED, GRAPH, GUESS, LARGE, LIMIT, Operand,
     OperandRow, OptionRow, OptionValue, PROGRESS, REPORT, RING, ROUNDS, RULE_NUMBER, SCHEDULE,
     TRACE, TRACE_FILE, TRACE_ROWS, TURNS, WORKERS, commands,
 };
@@ -55,6 +55,13 @@ pub struct PlayArguments<'a> {
     pub progress: bool,
 }
 
+/// A play on one thread that the arguments ask for, with the guess that it begins with.
+#[derive(Clone, Copy)]
+pub struct PlainArguments<'a> {
+    pub play: PlayArguments<'a>,
+    pub guess: Option<FileArgument<'a>>,
+}
+
 /// A simulation that the arguments ask for.
 #[derive(Clone, Copy)]
 pub struct SimulationArguments<'a> {
@@ -106,7 +113,7 @@ pub enum Request<'a> {
     /// The help or the version, to be printed.
     Help(String),
     Check(CheckArguments<'a>),
-    Plain(PlayArguments<'a>),
+    Plain(PlainArguments<'a>),
     Simulate(SimulationArguments<'a>),
     Run(RunArguments<'a>),
     Replay(ReplayArguments<'a>),
@@ -123,7 +130,7 @@ impl Request<'_> {
     /// Whether it asks for lines on how it goes on.
     pub fn has_progress(&self) -> bool {
         match self {
-            Request::Plain(asked) => asked.progress,
+            Request::Plain(asked) => asked.play.progress,
             Request::Run(asked) => asked.progress,
             Request::Resume(asked) => asked.progress,
             Request::Verify(asked) => asked.play.progress,
@@ -158,7 +165,10 @@ fn request_of<'a>(matches: &ArgMatches<'a>, arguments: &[String]) -> Option<Requ
             graph: found.file(GRAPH.name)?,
             large: matches.get_flag(LARGE.name),
         })),
-        "plain" => Some(Request::Plain(found.play(CHIPS)?)),
+        "plain" => Some(Request::Plain(PlainArguments {
+            play: found.play(CHIPS)?,
+            guess: found.file(GUESS.name),
+        })),
         "simulate" => Some(Request::Simulate(found.simulation()?)),
         "run" => Some(Request::Run(found.play_on_threads()?)),
         "replay" => Some(Request::Replay(ReplayArguments {

@@ -113,6 +113,12 @@ pub const LARGE: &OptionRow = &OptionRow {
     takes: OptionValue::Nothing,
 };
 
+pub const GUESS: &OptionRow = &OptionRow {
+    name: "guess",
+    help: "Begins with the counts of this file: rows vertex,fired, or a report",
+    takes: OptionValue::File,
+};
+
 pub const RING: &OptionRow = &OptionRow {
     name: "ring",
     help: "How many cells the ring of an edge has, 1 to 64 [default: 1]",
@@ -212,7 +218,7 @@ const PLAIN: &CommandRow = &CommandRow {
     about: "Plays a game on one thread and writes its report",
     after_help: texts::PLAIN,
     operands: &[GRAPH, CHIPS],
-    options: &[LIMIT, LARGE, PROGRESS],
+    options: &[LIMIT, LARGE, GUESS, PROGRESS],
 };
 
 const RUN: &CommandRow = &CommandRow {

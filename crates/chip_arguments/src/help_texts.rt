@@ -26,6 +26,11 @@ Exit status: 0 the graph is one; 1 a fault, which `chipfire explain N` explains.
 Example: chipfire check graph.json";
 
 pub const PLAIN: &str = "\
+With --guess the play begins with counts from elsewhere, right or wrong: the report is the
+same. Good ones make it come sooner, since a test certifies them; the play mends the others.
+A vertex that is not named has 0, and of a report only the counts are looked at. The test can
+fail for true counts on graphs in which some vertex has a greater in-degree than out-degree.
+
 Without --large a graph has at most 4096 vertices and 65536 edges, and each file 16777216
 bytes.
 

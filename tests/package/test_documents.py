@@ -42,7 +42,8 @@ class Helps(unittest.TestCase):
                   "--trace-rows", "--turns", "--workers", "-h"]
         self.assertEqual(words("run"), wanted)
         self.assertEqual(words(""), ["--help", "--version", "-V", "-h"])
-        self.assertEqual(commands(), ["check", "plain", "run", "simulate", "replay", "resume", "verify", "explain"])
+        self.assertEqual(commands(), [
+            "check", "plain", "avalanches", "run", "simulate", "replay", "resume", "verify", "explain"])
 
 
 class Manual(unittest.TestCase):

@@ -1,9 +1,9 @@
 //! The arguments of the program, and what they ask for.
 
 use crate::commands::{
-    BOOKS, CHIPS, CommandRow, DEALT, FAULT_NUMBER, FED, FEED, GRAPH, GUESS, LARGE, LIMIT, Operand,
-    OperandRow, OptionRow, OptionValue, PROGRESS, REPORT, RING, ROUNDS, RULE_NUMBER, SCHEDULE,
-    TRACE, TRACE_FILE, TRACE_ROWS, TURNS, WORKERS, commands,
+    BOOKS, CHIPS, CommandRow, DEALT, DROPS, FAULT_NUMBER, FED, FEED, GRAPH, GUESS, LARGE, LIMIT,
+    Operand, OperandRow, OptionRow, OptionValue, PROGRESS, REPORT, RING, ROUNDS, RULE_NUMBER,
+    SCHEDULE, TRACE, TRACE_FILE, TRACE_ROWS, TURNS, WORKERS, WRITTEN_REPORT, commands,
 };
 use crate::fault::ArgumentsFault;
 use crate::help_texts as texts;
@@ -62,6 +62,15 @@ pub struct PlainArguments<'a> {
     pub guess: Option<FileArgument<'a>>,
 }
 
+/// Drops of chips, one after another, that the arguments ask for.
+#[derive(Clone, Copy)]
+pub struct AvalancheArguments<'a> {
+    pub play: PlayArguments<'a>,
+    pub drops: FileArgument<'a>,
+    /// The file into which the report goes.
+    pub report: Option<FileArgument<'a>>,
+}
+
 /// A simulation that the arguments ask for.
 #[derive(Clone, Copy)]
 pub struct SimulationArguments<'a> {
@@ -114,6 +123,7 @@ pub enum Request<'a> {
     Help(String),
     Check(CheckArguments<'a>),
     Plain(PlainArguments<'a>),
+    Avalanches(AvalancheArguments<'a>),
     Simulate(SimulationArguments<'a>),
     Run(RunArguments<'a>),
     Replay(ReplayArguments<'a>),
@@ -131,6 +141,7 @@ impl Request<'_> {
     pub fn has_progress(&self) -> bool {
         match self {
             Request::Plain(asked) => asked.play.progress,
+            Request::Avalanches(asked) => asked.play.progress,
             Request::Run(asked) => asked.progress,
             Request::Resume(asked) => asked.progress,
             Request::Verify(asked) => asked.play.progress,
@@ -168,6 +179,11 @@ fn request_of<'a>(matches: &ArgMatches<'a>, arguments: &[String]) -> Option<Requ
         "plain" => Some(Request::Plain(PlainArguments {
             play: found.play(CHIPS)?,
             guess: found.file(GUESS.name),
+        })),
+        "avalanches" => Some(Request::Avalanches(AvalancheArguments {
+            play: found.play(CHIPS)?,
+            drops: found.file(DROPS.name)?,
+            report: found.file(WRITTEN_REPORT.name),
         })),
         "simulate" => Some(Request::Simulate(found.simulation()?)),
         "run" => Some(Request::Run(found.play_on_threads()?)),

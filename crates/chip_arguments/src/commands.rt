@@ -67,6 +67,12 @@ pub const CHIPS: &OperandRow = &OperandRow {
     is: Operand::File,
 };
 
+pub const DROPS: &OperandRow = &OperandRow {
+    name: "DROPS",
+    help: "The chips that are dropped, one row after another",
+    is: Operand::File,
+};
+
 pub const SCHEDULE: &OperandRow = &OperandRow {
     name: "SCHEDULE",
     help: "What happens, one event after another, as rows",
@@ -116,6 +122,12 @@ pub const LARGE: &OptionRow = &OptionRow {
 pub const GUESS: &OptionRow = &OptionRow {
     name: "guess",
     help: "Begins with the counts of this file: rows vertex,fired, or a report",
+    takes: OptionValue::File,
+};
+
+pub const WRITTEN_REPORT: &OptionRow = &OptionRow {
+    name: "report",
+    help: "Writes the report of the start and all drops together into this file, after the rows",
     takes: OptionValue::File,
 };
 
@@ -221,6 +233,14 @@ const PLAIN: &CommandRow = &CommandRow {
     options: &[LIMIT, LARGE, GUESS, PROGRESS],
 };
 
+const AVALANCHES: &CommandRow = &CommandRow {
+    name: "avalanches",
+    about: "Drops chips one after another, and writes the size of each avalanche",
+    after_help: texts::AVALANCHES,
+    operands: &[GRAPH, CHIPS, DROPS],
+    options: &[LARGE, WRITTEN_REPORT, PROGRESS],
+};
+
 const RUN: &CommandRow = &CommandRow {
     name: "run",
     about: "Plays a game on threads and writes its report, which is that of plain",
@@ -272,6 +292,8 @@ const EXPLAIN: &CommandRow = &CommandRow {
 };
 
 /// The commands, in the order in which the help lists them.
-pub fn commands() -> [&'static CommandRow; 8] {
-    [CHECK, PLAIN, RUN, SIMULATE, REPLAY, RESUME, VERIFY, EXPLAIN]
+pub fn commands() -> [&'static CommandRow; 9] {
+    [
+        CHECK, PLAIN, AVALANCHES, RUN, SIMULATE, REPLAY, RESUME, VERIFY, EXPLAIN,
+    ]
 }

@@ -39,6 +39,23 @@ report names under \"over\"; 1 a fault, which `chipfire explain N` explains.
 
 Example: chipfire plain graph.json chips.csv --limit 1000 >report.json";
 
+pub const AVALANCHES: &str = "\
+The game of GRAPH and CHIPS is played to its end. Then each row of DROPS, vertex,chips, is
+added and played to its end before the next. A vertex may be named as often as one likes.
+The rows that are written name the vertex and its chips, how often all vertices fired, how
+many different ones did, and how many chips came to the sink by firings.
+
+Each vertex fires 2^40 times at most in all. A drop that this stops has no row, and no drop
+follows it.
+
+Without --large a graph has at most 4096 vertices and 65536 edges, and each file 16777216
+bytes.
+
+Exit status: 0 all drops were played; 2 some vertex was stopped after 2^40 firings; 1 a
+fault, which `chipfire explain N` explains.
+
+Example: chipfire avalanches graph.json chips.csv drops.csv >avalanches.csv";
+
 pub const RUN: &str = "\
 The report is the same to the byte for every number of threads, every ring, and with or
 without --dealt: they change how long it takes and nothing else. Small games are quickest on

@@ -5,8 +5,8 @@
 #![tactic(auto)]
 
 pub use arguments::{
-    CheckArguments, FileArgument, GameArguments, PlainArguments, PlayArguments, ReplayArguments,
-    Request, RunArguments, SimulationArguments, VerifyArguments, parse,
+    AvalancheArguments, CheckArguments, FileArgument, GameArguments, PlainArguments, PlayArguments,
+    ReplayArguments, Request, RunArguments, SimulationArguments, VerifyArguments, parse,
 };
 pub use fault::ArgumentsFault;
 

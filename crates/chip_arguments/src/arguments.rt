@@ -1,9 +1,9 @@
 //! The arguments of the program, and what they ask for.
 
 use crate::commands::{
-    BOOKS, CHIPS, CommandRow, DEALT, DROPS, FAULT_NUMBER, FED, FEED, GRAPH, GUESS, LARGE, LIMIT,
-    Operand, OperandRow, OptionRow, OptionValue, PROGRESS, REPORT, RING, ROUNDS, RULE_NUMBER,
-    SCHEDULE, TRACE, TRACE_FILE, TRACE_ROWS, TURNS, WORKERS, WRITTEN_REPORT, commands,
+    BOOKS, CHIPS, COMPLETE, CommandRow, DEALT, DROPS, FAULT_NUMBER, FED, FEED, GRAPH, GUESS, LARGE,
+    LIMIT, Operand, OperandRow, OptionRow, OptionValue, PROGRESS, REPORT, RING, ROUNDS,
+    RULE_NUMBER, SCHEDULE, TRACE, TRACE_FILE, TRACE_ROWS, TURNS, WORKERS, WRITTEN_REPORT, commands,
 };
 use crate::fault::ArgumentsFault;
 use crate::help_texts as texts;
@@ -107,6 +107,8 @@ pub struct RunArguments<'a> {
 pub struct ReplayArguments<'a> {
     pub game: GameArguments<'a>,
     pub trace: FileArgument<'a>,
+    /// Whether it is asked what is left when all rows are used.
+    pub complete: bool,
 }
 
 /// A report to verify that the arguments name.
@@ -190,6 +192,7 @@ fn request_of<'a>(matches: &ArgMatches<'a>, arguments: &[String]) -> Option<Requ
         "replay" => Some(Request::Replay(ReplayArguments {
             game: found.game(CHIPS)?,
             trace: found.file(TRACE_FILE.name)?,
+            complete: matches.get_flag(COMPLETE.name),
         })),
         "resume" => Some(Request::Resume(found.play(REPORT)?)),
         "verify" => Some(Request::Verify(VerifyArguments {

@@ -131,6 +131,12 @@ pub const WRITTEN_REPORT: &OptionRow = &OptionRow {
     takes: OptionValue::File,
 };
 
+pub const COMPLETE: &OptionRow = &OptionRow {
+    name: "complete",
+    help: "Tells what is left when all rows are used",
+    takes: OptionValue::Nothing,
+};
+
 pub const RING: &OptionRow = &OptionRow {
     name: "ring",
     help: "How many cells the ring of an edge has, 1 to 64 [default: 1]",
@@ -264,7 +270,7 @@ const REPLAY: &CommandRow = &CommandRow {
     about: "Replays a recorded run and writes its firings, in an order in which they fit together",
     after_help: texts::REPLAY,
     operands: &[GRAPH, CHIPS, TRACE_FILE],
-    options: &[LIMIT, LARGE],
+    options: &[LIMIT, LARGE, COMPLETE],
 };
 
 const RESUME: &CommandRow = &CommandRow {

@@ -96,11 +96,14 @@ explains.
 Example: chipfire simulate graph.json chips.csv schedule.csv --rounds 10";
 
 pub const REPLAY: &str = "\
+With --complete each edge on which messages are left and each vertex that can fire has a
+line after the firings, and so has a vertex with enough chips that has fired F times.
+
 Without --large a graph has at most 4096 vertices and 65536 edges, and each file 16777216
 bytes.
 
-Exit status: 0 the rows fit together; 1 a fault, which `chipfire explain N` explains: 70
-where they do not.
+Exit status: 0 the rows fit together; 2 with --complete they do, and something is left; 1 a
+fault, which `chipfire explain N` explains: 70 where they do not fit.
 
 Example: chipfire replay graph.json chips.csv trace.csv";
 

@@ -3,10 +3,10 @@
 ghost use Rattle.chip_file.specs.Source.{IsFresh};
 
 use chip_file::{
-    FileFault, LastRead, Source, chips_of_source, chips_of_text, graph_of_source, graph_of_text,
-    read_chips, read_chips_within, read_graph, read_graph_within, read_schedule_within,
-    read_source, read_trace_within, read_whole, read_whole_within, schedule_of_source,
-    schedule_of_text, trace_of_source, trace_of_text,
+    FileFault, LastRead, Source, chips_of_source, chips_of_text, drops_of_text, graph_of_source,
+    graph_of_text, guess_of_text, read_chips, read_chips_within, read_graph, read_graph_within,
+    read_schedule_within, read_source, read_trace_within, read_whole, read_whole_within,
+    schedule_of_source, schedule_of_text, trace_of_source, trace_of_text,
 };
 use chip_graph::{Edge, Graph, GraphFault, Limits};
 use std::alloc::{AllocError, Global};
@@ -310,6 +310,56 @@ fn names_the_first_fault_of_chips(rt: HostRuntime) {
 fn chips_that_are_no_text(rt: HostRuntime) {
     let found = chips_of(rt.alloc(), &[0xff, b',']).err();
     assert!(rt; found == Some(FileFault::Header));
+}
+
+/// Drops on three vertices, in the order of the file.
+#[test]
+fn reads_drops(rt: HostRuntime) {
+    let text = "\u{feff}vertex,chips\n2,1\n\n0,18446744073709551615\r\n\"2\",0";
+    let read = drops_of_text(rt.alloc(), text.as_bytes(), 3).expect(&rt, text);
+    assert!(rt; read.as_slice() == [(2, 1), (0, u64::MAX), (2, 0)].as_slice());
+}
+
+/// Texts that are no drops on three vertices, each with the first thing wrong with it.
+const WRONG_DROPS: &[&(&str, FileFault)] = &[
+    &("", FileFault::Header),
+    &("vertex,fired\n", FileFault::Header),
+    &("vertex,chips\n0,1\n0,1,1\n3,1\n", FileFault::Row(1)),
+    &("vertex,chips\n3,\n", FileFault::Number(0)),
+    &("vertex,chips\n0,1\n0,1\n3,1\n", FileFault::Vertex(2)),
+];
+
+#[test]
+fn names_the_first_fault_of_drops(rt: HostRuntime) {
+    for (text, fault) in WRONG_DROPS {
+        let found = drops_of_text(rt.alloc(), text.as_bytes(), 3).err();
+        assert!(rt; found.as_ref() == Some(fault), "{text}: {found:?}");
+    }
+}
+
+#[test]
+fn reads_a_guess(rt: HostRuntime) {
+    let text = "vertex,fired\r\n2,18446744073709551615\n0,02";
+    let read = guess_of_text(rt.alloc(), text.as_bytes(), 3).expect(&rt, text);
+    assert!(rt; read.as_slice() == [2, 0, u64::MAX].as_slice());
+}
+
+/// Texts that are no guess for three vertices, each with the first thing wrong with it.
+const WRONG_GUESSES: &[&(&str, FileFault)] = &[
+    &("", FileFault::Header),
+    &("vertex,chips\n", FileFault::Header),
+    &("vertex,fired\n0\n3,1\n", FileFault::Row(0)),
+    &("vertex,fired\n3,-1\n", FileFault::Number(0)),
+    &("vertex,fired\n3,1\n", FileFault::Vertex(0)),
+    &("vertex,fired\n1,0\n1,0\n3,1\n", FileFault::Repeated(1)),
+];
+
+#[test]
+fn names_the_first_fault_of_a_guess(rt: HostRuntime) {
+    for (text, fault) in WRONG_GUESSES {
+        let found = guess_of_text(rt.alloc(), text.as_bytes(), 3).err();
+        assert!(rt; found.as_ref() == Some(fault), "{text}: {found:?}");
+    }
 }
 
 #[test]

@@ -196,8 +196,8 @@ static TOTAL: Explanation = Explanation {
     place: Place::NOWHERE,
     meaning: "there are more than 1099511627776 chips in all",
     advice: "\
-That is 2^40. The chips of all vertices together count, those on the sink among them, and
-those of the file of `--feed`.
+That is 2^40. The chips of all vertices together count, those on the sink among them, those
+of the file of `--feed`, and those of all drops.
 ",
 };
 
@@ -256,7 +256,8 @@ static HEADER: Explanation = Explanation {
     meaning: "a file of rows does not begin with its header",
     advice: "\
 The first line of each file is, without spaces,
-    vertex,chips               of a chips file
+    vertex,chips               of a chips file, and of drops
+    vertex,fired               of a guess
     event,at,count             of a schedule
     vertex,kind,edge,count     of a trace
 An empty file has none. Files in another order are refused so too: `--help` behind the
@@ -270,8 +271,8 @@ static ROW: Explanation = Explanation {
     place: Place::ROW,
     meaning: "row i has not as many fields as the header",
     advice: "\
-A row of a chips file has two fields, one of a schedule three, one of a trace four, with
-commas between them and none at the end.
+A row of chips, of drops and of a guess has two fields, one of a schedule three, one of a
+trace four, with commas between them and none at the end.
 ",
 };
 
@@ -305,8 +306,8 @@ static REPEATED: Explanation = Explanation {
     place: Place::ROW,
     meaning: "row i names a vertex that an earlier row named",
     advice: "\
-A chips file has one row for a vertex: add the chips of its rows up. A vertex that no row
-names has none.
+A chips file has one row for a vertex: add the chips of its rows up. So has a guess. A
+vertex that no row names has none.
 ",
 };
 
@@ -566,8 +567,8 @@ static OPEN: Explanation = Explanation {
     meaning: "the file that argument n names could not be opened",
     advice: "\
 There is no such file, or it may not be read. Names go from the folder in which the
-program was started. The file of `--trace` may be none of the inputs, which it would empty.
-Only one of the inputs may be -, which is standard input.
+program was started. The file of `--trace` or of `--report` may be none of the inputs, which
+it would empty. Only one of the inputs may be -, which is standard input.
 ",
 };
 
